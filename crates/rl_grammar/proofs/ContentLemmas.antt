@@ -1,0 +1,253 @@
+-- What the decoders put together is what any reading holds.
+use Rattle.std.proofs.Common.{◌≡◌, ℕ, ◌<◌, ◌||◌, Bool, true, false, not, cond, ltb, List, [], ◌∷◌, ◌++◌, length, Some, None, refl, sym, ap, subst, ◌∙◌, inl, inr, arith, append_assoc, append-nil, replicate}
+use Rattle.std.specs.Prelude.{encode_utf8, encode_utf8_all, Result, Ok, Err, IfOk}
+use Rattle.std.specs.Char.{len_utf8}
+use Rattle.std.specs.List.{AllByRecursion}
+use Rattle.std.specs.Str.{chars, IsUtf8}
+use Rattle.std.proofs.Math.Utf8.{scalar, scalars}
+use Rattle.std.proofs.lemmas.Bool.{and_from, and_parts, lt-ltb, ltb-true}
+use Rattle.std.proofs.lemmas.Str.{chars-encodes, encodes-append, encodes-chars, encode_ascii, length-encode, scalars-chars}
+use Rattle.rl_tokens.specs.declared.kind.Kind.{Kind}
+use Rattle.rl_tokens.specs.declared.kind.Kind.TheVariants.{Str, ByteStr, CStr, Byte as ByteKind, Char, Int, Float, Bool as BoolKind}
+use Rattle.rl_tokens.specs.Quoted.{QuotedUnit, Letter, Plain, CrLf, Named, Hex, Unicode, Continuation, LowerN, LowerR, LowerT, Backslash, Apostrophe, Quote, Zero, letter_value, unit_text, unit_value, hex_value, unicode_value, held, holds_characters, is_string, is_single, is_plain, has_unicode, IsUnit, texts, values, opener, raw_opener, Cooked, Raw}
+use Rattle.rl_tokens.specs.Reading.{Contents, Characters, quoted_contents, ReadsQuoted}
+use Rattle.rl_grammar.specs.declared.quoted.Form.{Form}
+use Rattle.rl_grammar.specs.declared.quoted.Form.TheVariants.{Raw as RawForm}
+use Rattle.rl_grammar.specs.declared.units.Piece.{Piece}
+use Rattle.rl_grammar.specs.declared.units.Piece.TheVariants.{Character, Byte, Nothing}
+use Rattle.rl_grammar.specs.UnitAt.{piece_value, IsPieceOf, found, unit_at}
+use Rattle.rl_grammar.specs.Rows.{BeginsRow}
+use Rattle.rl_grammar.specs.Forms.{told, front_at, PartsAre}
+use Rattle.rl_grammar.specs.Decoded.{piece_bytes, in_bytes, Decodes, HoldsBytes}
+use Rattle.rl_grammar.proofs.UnitLemmas.{some_pair, unit_nil}
+use Rattle.rl_grammar.proofs.RowLemmas.{row_step, row_once}
+use Rattle.rl_grammar.proofs.FormLemmas.{Formed, formed, parts_formed, formed_once, not_both, single_unit, string_parts, cooked_row_of_body}
+
+-- ---- values as bytes
+
+in_bytes_append : (kind : Kind) (v w : List ℕ) → in_bytes kind (v ++ w) ≡ in_bytes kind v ++ in_bytes kind w
+in_bytes_append kind v w = go (holds_characters kind)
+  where
+    go : (b : Bool) → cond b (encode_utf8_all (v ++ w)) (v ++ w) ≡ cond b (encode_utf8_all v) v ++ cond b (encode_utf8_all w) w
+    go true = encodes-append v w
+    go false = refl
+
+-- characters count as their UTF-8 bytes in every kind
+held_in_bytes : (kind : Kind) (cs : List ℕ) → in_bytes kind (held kind cs) ≡ encode_utf8_all cs
+held_in_bytes kind cs = go (holds_characters kind)
+  where
+    go : (b : Bool) → cond b (encode_utf8_all (cond b cs (encode_utf8_all cs))) (cond b cs (encode_utf8_all cs)) ≡ encode_utf8_all cs
+    go true = refl
+    go false = refl
+
+-- a character of ASCII is one byte
+pub ascii_byte : (c : ℕ) → c < 128 → encode_utf8_all (c ∷ []) ≡ c ∷ []
+ascii_byte c small = append-nil (encode_utf8 c) ∙ encode_ascii c small
+
+byte_in_bytes : (kind : Kind) (n : ℕ) → IsPieceOf kind (Byte n) → in_bytes kind (n ∷ []) ≡ n ∷ []
+byte_in_bytes kind n h = go (holds_characters kind) h
+  where
+    go : (b : Bool) → (not b || ltb n 128) ≡ true → cond b (encode_utf8_all (n ∷ [])) (n ∷ []) ≡ n ∷ []
+    go true e = ascii_byte n (ltb-true n 128 e)
+    go false e = refl
+
+nothing_in_bytes : (kind : Kind) → in_bytes kind [] ≡ []
+nothing_in_bytes kind = go (holds_characters kind)
+  where
+    go : (b : Bool) → cond b (encode_utf8_all []) [] ≡ []
+    go true = refl
+    go false = refl
+
+piece_in_bytes : (kind : Kind) (p : Piece) → IsPieceOf kind p → in_bytes kind (piece_value kind p) ≡ piece_bytes p
+piece_in_bytes kind (Character c) h = held_in_bytes kind (c ∷ []) ∙ append-nil (encode_utf8 c)
+piece_in_bytes kind (Byte n) h = byte_in_bytes kind n h
+piece_in_bytes kind Nothing h = nothing_in_bytes kind
+
+-- ---- the decoder's loop
+
+pub decode_step : (kind : Kind) (a v b after bytes more : List ℕ) (piece : Piece) → BeginsRow kind a v b → bytes ≡ in_bytes kind v → Some (piece_value kind piece, after) ≡ unit_at kind b → IsPieceOf kind piece → more ≡ bytes ++ piece_bytes piece → (w : List ℕ) × BeginsRow kind a w after × (more ≡ in_bytes kind w)
+decode_step kind a v b after bytes more piece row so_far unit fits grown = (
+  v ++ piece_value kind piece,
+  row_step kind a v b (piece_value kind piece, after) row (sym unit),
+  grown ∙ ap (λ z. z ++ piece_bytes piece) so_far ∙ ap (λ z. in_bytes kind v ++ z) (sym (piece_in_bytes kind piece fits)) ∙ sym (in_bytes_append kind v (piece_value kind piece)),
+)
+
+-- ---- what strings hold
+
+-- the bytes of a text's value are those of any reading of it
+same_bytes : (t : List ℕ) (kind : Kind) (w y bytes : List ℕ) → Formed t kind w y → bytes ≡ in_bytes kind w → HoldsBytes t bytes
+same_bytes t kind w y bytes r e k v x s p =
+    let same = formed_once t kind k w p.value y x r (formed t k v x p) in
+    e ∙ ap (λ l. in_bytes l w) same.0 ∙ ap (in_bytes k) same.1
+
+-- a raw string holds its body as it stands
+pub raw_bytes : (t : List ℕ) (form : Form) (kind : Kind) (w body y : List ℕ) → form ≡ RawForm → IsUtf8 body → PartsAre form kind t w (chars body) y → HoldsBytes t body
+raw_bytes t form kind w body y raw u p =
+    let r : PartsAre RawForm kind t w (chars body) y = subst (λ f. PartsAre f kind t w (chars body) y) raw p in
+    let bytes : body ≡ in_bytes kind w = sym (encodes-chars body u) ∙ ap encode_utf8_all r.1 ∙ sym (held_in_bytes kind r.0.inside) ∙ ap (in_bytes kind) (sym r.0.value_is) in
+    same_bytes t kind w y body (parts_formed RawForm kind t w (chars body) y r) bytes
+
+-- a cooked string holds what its body decodes to
+pub cooked_bytes : (t : List ℕ) (form : Form) (kind : Kind) (w body y bytes : List ℕ) → (form ≡ RawForm → ⊥) → PartsAre form kind t w body y → Decodes kind body bytes → HoldsBytes t bytes
+cooked_bytes t form kind w body y bytes not_raw p d k v x s r =
+    let formed_p = parts_formed form kind t w body y p in
+    let same = formed_once t kind k w r.value y x formed_p (formed t k v x r) in
+    let string : is_string kind ≡ true = ap is_string same.0 ∙ s in
+    let row = cooked_row_of_body kind t w body y (string_parts form kind t w body y string not_raw p) in
+    let value = row_once kind body d.value d.rest w [] d.row row d.stuck (unit_nil kind) in
+    same_bytes t kind w y bytes formed_p (d.bytes_are ∙ ap (in_bytes kind) value.0) k v x s r
+
+-- what a call made of these bytes holds
+pub ok_holds : {X E : Type 0} (items : X → List ℕ) (r : Result X E) (t bytes : List ℕ) → HoldsBytes t bytes → IfOk r (λ v. items v ≡ bytes) → IfOk r (λ v. HoldsBytes t (items v))
+ok_holds items (Ok v) t bytes h e = subst (HoldsBytes t) (sym e) h
+ok_holds items (Err a) t bytes h e = tt
+
+pub ok_decodes : {X E : Type 0} (items : X → List ℕ) (r : Result X E) (t : List ℕ) (form : Form) (kind : Kind) (w body y : List ℕ) → (form ≡ RawForm → ⊥) → PartsAre form kind t w body y → IfOk r (λ v. Decodes kind body (items v)) → IfOk r (λ v. HoldsBytes t (items v))
+ok_decodes items (Ok v) t form kind w body y not_raw p d = cooked_bytes t form kind w body y (items v) not_raw p d
+ok_decodes items (Err a) t form kind w body y not_raw p d = tt
+
+-- ---- the characters of a string
+
+scalars_parts : (a b : List ℕ) → scalars (a ++ b) ≡ true → (scalars a ≡ true) × (scalars b ≡ true)
+scalars_parts [] b h = (refl, h)
+scalars_parts (c ∷ a) b h =
+    let first = and_parts (scalar c) (scalars (a ++ b)) h in
+    let more = scalars_parts a b first.1 in
+    (and_from (scalar c) (scalars a) first.0 more.0, more.1)
+
+scalars_join : (a b : List ℕ) → scalars a ≡ true → scalars b ≡ true → scalars (a ++ b) ≡ true
+scalars_join [] b h k = k
+scalars_join (c ∷ a) b h k =
+    let first = and_parts (scalar c) (scalars a) h in
+    and_from (scalar c) (scalars (a ++ b)) first.0 (scalars_join a b first.1 k)
+
+ascii_scalar : (n : ℕ) → n < 128 → scalar n ≡ true
+ascii_scalar n h =
+    let low : ltb n 55296 ≡ true = lt-ltb n 55296 (omega arith) in
+    rw low refl
+
+one_scalar : (n : ℕ) → scalar n ≡ true → scalars (n ∷ []) ≡ true
+one_scalar n h = and_from (scalar n) true h refl
+
+letter_scalar : (l : Letter) → scalar (letter_value l) ≡ true
+letter_scalar LowerN = refl
+letter_scalar LowerR = refl
+letter_scalar LowerT = refl
+letter_scalar Backslash = refl
+letter_scalar Apostrophe = refl
+letter_scalar Quote = refl
+letter_scalar Zero = refl
+
+unit_scalars : (u : QuotedUnit) → IsUnit Str u → scalars (unit_text u) ≡ true → scalars (unit_value Str u) ≡ true
+unit_scalars (Plain c) allowed h = h
+unit_scalars CrLf allowed h = refl
+unit_scalars (Named l) allowed h = one_scalar (letter_value l) (letter_scalar l)
+unit_scalars (Hex high low) allowed h = one_scalar (hex_value high low) (ascii_scalar (hex_value high low) (ltb-true (hex_value high low) 128 allowed.2))
+unit_scalars (Unicode first more) allowed h = one_scalar (unicode_value first more) allowed.4
+unit_scalars (Continuation c run) allowed h = refl
+
+row_scalars : (us : List QuotedUnit) → AllByRecursion (IsUnit Str) us → scalars (texts us) ≡ true → scalars (values Str us) ≡ true
+row_scalars [] each h = refl
+row_scalars (u ∷ us) each h =
+    let parts = scalars_parts (unit_text u) (texts us) h in
+    scalars_join (unit_value Str u) (values Str us) (unit_scalars u each.0 parts.0) (row_scalars us each.1 parts.1)
+
+-- what stands behind the opener, up to what follows it
+inside_scalars : (t front inside after : List ℕ) → t ≡ front ++ (inside ++ after) → scalars t ≡ true → scalars inside ≡ true
+inside_scalars t front inside after e h = (scalars_parts inside after (scalars_parts front (inside ++ after) (ap scalars (sym e) ∙ h)).1).0
+
+cooked_scalars : (t v x : List ℕ) → Cooked Str t v x → scalars t ≡ true → scalars v ≡ true
+cooked_scalars t v x c h = ap scalars c.value_is ∙ row_scalars c.units c.each (inside_scalars t (opener Str) (texts c.units) _ c.text_is h)
+
+raw_scalars : (t v x : List ℕ) → Raw Str t v x → scalars t ≡ true → scalars v ≡ true
+raw_scalars t v x r h =
+    let hashes = replicate r.hashes 35 in
+    let after = 34 ∷ (hashes ++ x) in
+    let opened = inside_scalars t (raw_opener Str ++ hashes) (34 ∷ r.inside) after (r.text_is ∙ sym (append_assoc (raw_opener Str) hashes (34 ∷ (r.inside ++ after)))) h in
+    ap scalars r.value_is ∙ opened
+
+value_scalars : (t : List ℕ) (v : Contents) (x : List ℕ) (r : ReadsQuoted t Str v x) → scalars t ≡ true → scalars r.value ≡ true
+value_scalars t v x r h =
+    elim r.form [
+      | inl c ↦ cooked_scalars t r.value x c h
+      | inr o ↦ elim o [
+        | inl w ↦ raw_scalars t r.value x w h
+        | inr s ↦ let single : false ≡ true = s.single in absurd (cc)
+      ]
+    ]
+
+-- the bytes of a string's value are a text, whose characters are the value
+pub str_bytes : (t bytes : List ℕ) (v : Contents) (x : List ℕ) → IsUtf8 t → HoldsBytes (chars t) bytes → ReadsQuoted (chars t) Str v x → IsUtf8 bytes × (v ≡ Characters (chars bytes))
+str_bytes t bytes v x u held_are r =
+    let whole = value_scalars (chars t) v x r (scalars-chars t u) in
+    let are : bytes ≡ encode_utf8_all r.value = held_are Str v x refl r in
+    ((r.value, (whole, sym are)), r.contents_is ∙ ap Characters (sym (chars-encodes r.value whole) ∙ ap chars (sym are)))
+
+-- ---- characters and bytes
+
+-- a plain character of these kinds is one number, and so is an escape by its number
+one_plain : (kind : Kind) (c : ℕ) → is_single kind ≡ true → is_plain kind c ≡ true → (n : ℕ) × (held kind (c ∷ []) ≡ n ∷ [])
+one_plain Char c s h = (c, refl)
+one_plain ByteKind c s h = (c, ascii_byte c (ltb-true c 128 (and_parts (ltb c 128) _ h).0))
+one_plain Str c s h = absurd (cc)
+one_plain ByteStr c s h = absurd (cc)
+one_plain CStr c s h = absurd (cc)
+one_plain Int c s h = absurd (cc)
+one_plain Float c s h = absurd (cc)
+one_plain BoolKind c s h = absurd (cc)
+
+one_unicode : (kind : Kind) (c : ℕ) → is_single kind ≡ true → has_unicode kind ≡ true → (n : ℕ) × (held kind (c ∷ []) ≡ n ∷ [])
+one_unicode Char c s h = (c, refl)
+one_unicode ByteKind c s h = absurd (cc)
+one_unicode Str c s h = absurd (cc)
+one_unicode ByteStr c s h = absurd (cc)
+one_unicode CStr c s h = absurd (cc)
+one_unicode Int c s h = absurd (cc)
+one_unicode Float c s h = absurd (cc)
+one_unicode BoolKind c s h = absurd (cc)
+
+one_value : (kind : Kind) (u : QuotedUnit) → is_single kind ≡ true → IsUnit kind u → (n : ℕ) × (unit_value kind u ≡ n ∷ [])
+one_value kind (Plain c) s h = one_plain kind c s h
+one_value kind CrLf s h = absurd (not_both kind h s)
+one_value kind (Named l) s h = (letter_value l, refl)
+one_value kind (Hex high low) s h = (hex_value high low, refl)
+one_value kind (Unicode first more) s h = one_unicode kind (unicode_value first more) s h.0
+one_value kind (Continuation c run) s h = absurd (not_both kind h.0 s)
+
+-- what a unit behind the opener is to any reading
+pub record OnlyPiece (kind : Kind) (value : List ℕ) (v : Contents) : Type 0 where
+  pub contents_are : v ≡ quoted_contents kind value
+  pub number : ℕ
+  pub one : value ≡ number ∷ []
+
+pub only_piece : (t : List ℕ) (form : Form) (k : Kind) (inside : List ℕ) (kind : Kind) (q : List ℕ × List ℕ) (v : Contents) (x : List ℕ) → is_single kind ≡ true → front_at t ≡ told form k inside → unit_at kind inside ≡ Some q → ReadsQuoted t kind v x → OnlyPiece kind q.0 v
+only_piece t form k inside kind q v x s front unit r =
+    let a = single_unit t form k inside kind r.value x s front (formed t kind v x r) in
+    let same = some_pair (r.value, 39 ∷ x) q (sym a.0 ∙ unit) in
+    let one = one_value kind a.1.unit s a.1.is_unit in
+    record {
+      contents_are = r.contents_is ∙ ap (quoted_contents kind) same.0;
+      number = one.0;
+      one = sym same.0 ∙ a.1.value_is ∙ one.1;
+    }
+
+pub unit_stands : (t : List ℕ) (form : Form) (k : Kind) (inside : List ℕ) (kind : Kind) (v : Contents) (x : List ℕ) → is_single kind ≡ true → front_at t ≡ told form k inside → ReadsQuoted t kind v x → unit_at kind inside ≡ None → ⊥
+unit_stands t form k inside kind v x s front r none =
+    let a = single_unit t form k inside kind r.value x s front (formed t kind v x r) in
+    let e : None ≡ found r.value (39 ∷ x) = sym none ∙ a.0 in
+    absurd (cc)
+
+two_or_more : (a b : Bool) → ◌≡◌ {A = ℕ} (cond a 2 (cond b 3 4)) 1 → ⊥
+two_or_more true b e = absurd (cc)
+two_or_more false true e = absurd (cc)
+two_or_more false false e = absurd (cc)
+
+-- a character of one byte is of ASCII
+pub one_byte : (c n : ℕ) → encode_utf8_all (c ∷ []) ≡ n ∷ [] → c < 128
+one_byte c n e =
+    let long : len_utf8 c ≡ 1 = sym (length-encode c) ∙ ap length (sym (append-nil (encode_utf8 c)) ∙ e) in
+    go (ltb c 128) refl long
+  where
+    go : (b : Bool) → ltb c 128 ≡ b → len_utf8 c ≡ 1 → c < 128
+    go true is long = ltb-true c 128 is
+    go false is long = absurd (two_or_more (ltb c 2048) (ltb c 65536) (rw is at long))

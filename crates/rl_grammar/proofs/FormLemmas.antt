@@ -1,0 +1,321 @@
+-- Which form and kind a text's front tells, and the one reading of a quoted literal.
+use Rattle.std.proofs.Common.{◌≡◌, ◌≢◌, ℕ, true, eqb, List, [], ◌∷◌, ◌++◌, Option, Some, None, refl, sym, ap, subst, ◌∙◌, inl, inr, append_assoc, append-nil}
+use denote.Ref.{Bor}
+use Rattle.std.specs.Prelude.{IfSome, IfNone}
+use Rattle.std.specs.Str.{chars}
+use Rattle.std.proofs.lemmas.Bool.{cases_Bool, eqb-true}
+use Rattle.std.proofs.lemmas.List.{append_cancel_left, append_cancel_right}
+use Rattle.rl_tokens.specs.declared.kind.Kind.{Kind}
+use Rattle.rl_tokens.specs.declared.kind.Kind.TheVariants.{Str, ByteStr, CStr, Byte, Char, Int, Float, Bool as BoolKind}
+use Rattle.rl_tokens.specs.Quoted.{Cooked, Single, is_string, is_single, opener, raw_opener, texts, unit_text}
+use Rattle.rl_tokens.specs.Reading.{Contents, ReadsQuoted, quoted_contents}
+use Rattle.rl_grammar.specs.declared.quoted.Form.{Form}
+use Rattle.rl_grammar.specs.declared.quoted.Form.TheVariants.{Cooked as CookedForm, Raw as RawForm, Single as SingleForm}
+use Rattle.rl_grammar.specs.UnitAt.{found, unit_at}
+use Rattle.rl_grammar.specs.Rows.{BeginsRow, RowEnds}
+use Rattle.rl_grammar.specs.Forms.{has_form, form_opener, told, string_front_at, byte_front_at, front_at, PartsAre, HasNoParts}
+use Rattle.rl_grammar.specs.Shapes.{HasNoQuoted}
+use Rattle.rl_grammar.proofs.UnitLemmas.{some_pair, unit_sound, unit_complete, unit_quote}
+use Rattle.rl_grammar.proofs.RowLemmas.{ends_before, row_ends_on, row_ends_off, row_once}
+use Rattle.rl_grammar.proofs.RawLemmas.{raw_once}
+
+-- what the readers of a form answer: a body and a suffix
+abbrev Cut : Type 0
+Cut = Option (Bor (List ℕ) × Bor (List ℕ))
+
+-- ---- the front
+
+-- what a front tells is so
+pub record Tells (t : List ℕ) (p : Form × Kind × List ℕ) : Type 0 where
+  pub has : has_form p.0 p.1 ≡ true
+  pub text_is : t ≡ form_opener p.0 p.1 ++ p.2
+
+string_tells : (kind : Kind) (pre t : List ℕ) (p : Form × Kind × List ℕ) → is_string kind ≡ true → opener kind ≡ pre ++ (34 ∷ []) → raw_opener kind ≡ pre ++ (114 ∷ []) → string_front_at kind t ≡ Some p → Tells (pre ++ t) p
+string_tells kind pre [] p s o r h = absurd (cc)
+string_tells kind pre (c ∷ cs) p s o r h =
+    let behind : (q : ℕ) → eqb c q ≡ true → pre ++ (c ∷ cs) ≡ (pre ++ (q ∷ [])) ++ cs = λ q e. ap (λ z. pre ++ (z ∷ cs)) (eqb-true c q e) ∙ sym (append_assoc pre (q ∷ []) cs) in
+    elim (cases_Bool (eqb c 34)) [
+      | inl a ↦
+          let same : (CookedForm, kind, cs) ≡ p = let e = rw a at h in cc in
+          subst (Tells (pre ++ (c ∷ cs))) same (record { has = s; text_is = behind 34 a ∙ ap (λ z. z ++ cs) (sym o) })
+      | inr a ↦
+          let h1 = rw a at h in
+          elim (cases_Bool (eqb c 114)) [
+            | inl b ↦
+                let same : (RawForm, kind, cs) ≡ p = let e = rw b at h1 in cc in
+                subst (Tells (pre ++ (c ∷ cs))) same (record { has = s; text_is = behind 114 b ∙ ap (λ z. z ++ cs) (sym r) })
+            | inr b ↦ let h2 = rw b at h1 in absurd (cc)
+          ]
+    ]
+
+byte_tells : (t : List ℕ) (p : Form × Kind × List ℕ) → byte_front_at t ≡ Some p → Tells (98 ∷ t) p
+byte_tells [] p h = absurd (cc)
+byte_tells (c ∷ cs) p h =
+    elim (cases_Bool (eqb c 39)) [
+      | inl a ↦
+          let same : (SingleForm, Byte, cs) ≡ p = let e = rw a at h in cc in
+          subst (Tells (98 ∷ c ∷ cs)) same (record { has = refl; text_is = ap (λ z. 98 ∷ z ∷ cs) (eqb-true c 39 a) })
+      | inr a ↦ string_tells ByteStr (98 ∷ []) (c ∷ cs) p refl refl refl (rw a at h)
+    ]
+
+pub front_sound : (t : List ℕ) (p : Form × Kind × List ℕ) → front_at t ≡ Some p → Tells t p
+unfolding front_at
+front_sound [] p h = absurd (cc)
+front_sound (c ∷ cs) p h =
+    elim (cases_Bool (eqb c 39)) [
+      | inl a ↦
+          let same : (SingleForm, Char, cs) ≡ p = let e = rw a at h in cc in
+          subst (Tells (c ∷ cs)) same (record { has = refl; text_is = ap (λ z. z ∷ cs) (eqb-true c 39 a) })
+      | inr a ↦
+          let h1 = rw a at h in
+          elim (cases_Bool (eqb c 98)) [
+            | inl b ↦ subst (λ z. Tells (z ∷ cs) p) (sym (eqb-true c 98 b)) (byte_tells cs p (rw b at h1))
+            | inr b ↦
+                let h2 = rw b at h1 in
+                elim (cases_Bool (eqb c 99)) [
+                  | inl d ↦ subst (λ z. Tells (z ∷ cs) p) (sym (eqb-true c 99 d)) (string_tells CStr (99 ∷ []) cs p refl refl refl (rw d at h2))
+                  | inr d ↦ string_tells Str [] (c ∷ cs) p refl refl refl (rw d at h2)
+                ]
+          ]
+    ]
+
+pub front_complete : (form : Form) (kind : Kind) (r : List ℕ) → has_form form kind ≡ true → front_at (form_opener form kind ++ r) ≡ told form kind r
+unfolding front_at
+front_complete CookedForm Str r h = refl
+front_complete CookedForm ByteStr r h = refl
+front_complete CookedForm CStr r h = refl
+front_complete RawForm Str r h = refl
+front_complete RawForm ByteStr r h = refl
+front_complete RawForm CStr r h = refl
+front_complete SingleForm Byte r h = refl
+front_complete SingleForm Char r h = refl
+front_complete CookedForm Byte r h = absurd (cc)
+front_complete CookedForm Char r h = absurd (cc)
+front_complete CookedForm Int r h = absurd (cc)
+front_complete CookedForm Float r h = absurd (cc)
+front_complete CookedForm BoolKind r h = absurd (cc)
+front_complete RawForm Byte r h = absurd (cc)
+front_complete RawForm Char r h = absurd (cc)
+front_complete RawForm Int r h = absurd (cc)
+front_complete RawForm Float r h = absurd (cc)
+front_complete RawForm BoolKind r h = absurd (cc)
+front_complete SingleForm Str r h = absurd (cc)
+front_complete SingleForm ByteStr r h = absurd (cc)
+front_complete SingleForm CStr r h = absurd (cc)
+front_complete SingleForm Int r h = absurd (cc)
+front_complete SingleForm Float r h = absurd (cc)
+front_complete SingleForm BoolKind r h = absurd (cc)
+
+-- ---- cooked strings
+
+-- the units of a cooked string are a row that goes as far as units go
+cooked_row : (kind : Kind) (t v x : List ℕ) (c : Cooked kind t v x) → BeginsRow kind (texts c.units ++ (34 ∷ x)) v (34 ∷ x)
+cooked_row kind t v x c = record { units = c.units; each = c.each; ends = row_ends_on c.units (34 ∷ x) refl c.ends; text_is = refl; value_is = c.value_is }
+
+cooked_row_of : (kind : Kind) (a v x : List ℕ) → Cooked kind (opener kind ++ a) v x → BeginsRow kind a v (34 ∷ x)
+cooked_row_of kind a v x c =
+    let same : a ≡ texts c.units ++ (34 ∷ x) = append_cancel_left (opener kind) a (texts c.units ++ (34 ∷ x)) c.text_is in
+    subst (λ z. BeginsRow kind z v (34 ∷ x)) (sym same) (cooked_row kind (opener kind ++ a) v x c)
+
+cooked_once : (kind : Kind) (a v x w y : List ℕ) → Cooked kind (opener kind ++ a) v x → Cooked kind (opener kind ++ a) w y → (v ≡ w) × (x ≡ y)
+cooked_once kind a v x w y c d =
+    let same = row_once kind a v (34 ∷ x) w (34 ∷ y) (cooked_row_of kind a v x c) (cooked_row_of kind a w y d) (unit_quote kind x c.string) (unit_quote kind y c.string) in
+    (same.0, let e = same.1 in cc)
+
+-- the body and the suffix round the quote where units end
+pub cooked_found : (kind : Kind) (a v rest : List ℕ) (r : Cut) → is_string kind ≡ true → BeginsRow kind a v rest → IfSome r (λ p. a ≡ chars p.0.now ++ rest) → IfSome r (λ p. rest ≡ 34 ∷ chars p.1.now) → IfSome r (λ p. (w : List ℕ) × PartsAre CookedForm kind (opener kind ++ a) w (chars p.0.now) (chars p.1.now))
+cooked_found kind a v rest None s row cut quote = tt
+cooked_found kind a v rest (Some p) s row cut quote =
+    let us = row.units in (
+      v,
+      (
+        record {
+          units = us;
+          string = s;
+          each = row.each;
+          ends = row_ends_off us (34 ∷ chars p.1.now) refl (subst (RowEnds us) quote row.ends);
+          text_is = ap (λ z. opener kind ++ z) (row.text_is ∙ ap (λ z. texts us ++ z) quote);
+          value_is = row.value_is;
+        },
+        append_cancel_right (chars p.0.now) (texts us) rest (sym cut ∙ row.text_is),
+      ),
+    )
+
+pub cooked_none : (kind : Kind) (a v rest : List ℕ) (r : Cut) → BeginsRow kind a v rest → unit_at kind rest ≡ None → IfNone r ((x : List ℕ) → rest ≢ 34 ∷ x) → IfNone r (HasNoParts CookedForm kind (opener kind ++ a))
+cooked_none kind a v rest (Some p) row stuck h = tt
+cooked_none kind a v rest None row stuck h = λ w b x p. h x (row_once kind a v rest w (34 ∷ x) row (cooked_row_of kind a w x p.0) stuck (unit_quote kind x p.0.string)).1
+
+-- ---- characters and bytes
+
+single_at : (kind : Kind) (a v x : List ℕ) → Single kind (opener kind ++ a) v x → unit_at kind a ≡ Some (v, 39 ∷ x)
+single_at kind a v x s =
+    let same : a ≡ unit_text s.unit ++ (39 ∷ x) = append_cancel_left (opener kind) a (unit_text s.unit ++ (39 ∷ x)) s.text_is in
+    ap (unit_at kind) same ∙ unit_complete kind s.unit (39 ∷ x) s.is_unit (ends_before s.unit (39 ∷ x) refl) ∙ ap (λ z. Some (z, 39 ∷ x)) (sym s.value_is)
+
+single_once : (kind : Kind) (a v x w y : List ℕ) → Single kind (opener kind ++ a) v x → Single kind (opener kind ++ a) w y → (v ≡ w) × (x ≡ y)
+single_once kind a v x w y s q =
+    let same = some_pair (v, 39 ∷ x) (w, 39 ∷ y) (sym (single_at kind a v x s) ∙ single_at kind a w y q) in
+    (same.0, let e : 39 ∷ x ≡ 39 ∷ y = same.1 in cc)
+
+-- the body and the suffix round the quote behind the unit
+pub single_found : (kind : Kind) (a : List ℕ) (q : List ℕ × List ℕ) (r : Cut) → is_single kind ≡ true → unit_at kind a ≡ Some q → IfSome r (λ p. a ≡ chars p.0.now ++ q.1) → IfSome r (λ p. q.1 ≡ 39 ∷ chars p.1.now) → IfSome r (λ p. (w : List ℕ) × PartsAre SingleForm kind (opener kind ++ a) w (chars p.0.now) (chars p.1.now))
+single_found kind a q None s h cut quote = tt
+single_found kind a q (Some p) s h cut quote =
+    let begun = unit_sound kind a q h in
+    let u = begun.unit in (
+      q.0,
+      (
+        record {
+          unit = u;
+          single = s;
+          is_unit = begun.allowed;
+          text_is = ap (λ z. opener kind ++ z) (begun.text_is ∙ ap (λ z. unit_text u ++ z) quote);
+          value_is = begun.value_is;
+        },
+        append_cancel_right (chars p.0.now) (unit_text u) q.1 (sym cut ∙ begun.text_is),
+      ),
+    )
+
+pub single_none : (kind : Kind) (a : List ℕ) (q : List ℕ × List ℕ) (r : Cut) → unit_at kind a ≡ Some q → IfNone r ((x : List ℕ) → q.1 ≢ 39 ∷ x) → IfNone r (HasNoParts SingleForm kind (opener kind ++ a))
+single_none kind a q (Some p) h ne = tt
+single_none kind a q None h ne = λ v b x p. ne x (some_pair q (v, 39 ∷ x) (sym h ∙ single_at kind a v x p.0)).1
+
+pub single_stuck : (kind : Kind) (a : List ℕ) → unit_at kind a ≡ None → HasNoParts SingleForm kind (opener kind ++ a)
+single_stuck kind a h v b x p = let e : None ≡ found v (39 ∷ x) = sym h ∙ single_at kind a v x p.0 in absurd (cc)
+
+-- ---- one reading
+
+pub parts_once : (form : Form) (kind : Kind) (a v b x w d y : List ℕ) → PartsAre form kind (form_opener form kind ++ a) v b x → PartsAre form kind (form_opener form kind ++ a) w d y → (v ≡ w) × (x ≡ y)
+parts_once CookedForm kind a v b x w d y p q = cooked_once kind a v x w y p.0 q.0
+parts_once RawForm kind a v b x w d y p q = raw_once kind a v x w y p.0 q.0
+parts_once SingleForm kind a v b x w d y p q = single_once kind a v x w y p.0 q.0
+
+pub parts_read : (form : Form) (kind : Kind) (t v b x : List ℕ) → PartsAre form kind t v b x → ReadsQuoted t kind (quoted_contents kind v) x
+parts_read CookedForm kind t v b x p = record { value = v; form = inl p.0; contents_is = refl }
+parts_read RawForm kind t v b x p = record { value = v; form = inr (inl p.0); contents_is = refl }
+parts_read SingleForm kind t v b x p = record { value = v; form = inr (inr p.0); contents_is = refl }
+
+-- a reading, by its form
+pub record Formed (t : List ℕ) (kind : Kind) (value suffix : List ℕ) : Type 0 where
+  pub form : Form
+  pub inside : List ℕ
+  pub body : List ℕ
+  pub has : has_form form kind ≡ true
+  pub text_is : t ≡ form_opener form kind ++ inside
+  pub parts : PartsAre form kind t value body suffix
+
+pub parts_formed : (form : Form) (k : Kind) (t v b x : List ℕ) → PartsAre form k t v b x → Formed t k v x
+parts_formed CookedForm k t v b x p = record { form = CookedForm; inside = _; body = b; has = p.0.string; text_is = p.0.text_is; parts = p }
+parts_formed RawForm k t v b x p = record { form = RawForm; inside = _; body = b; has = p.0.string; text_is = p.0.text_is; parts = p }
+parts_formed SingleForm k t v b x p = record { form = SingleForm; inside = _; body = b; has = p.0.single; text_is = p.0.text_is; parts = p }
+
+pub formed : (t : List ℕ) (k : Kind) (v : Contents) (x : List ℕ) (r : ReadsQuoted t k v x) → Formed t k r.value x
+formed t k v x r =
+    elim r.form [
+      | inl a ↦ parts_formed CookedForm k t r.value (texts a.units) x (a, refl)
+      | inr b ↦ elim b [
+        | inl a ↦ parts_formed RawForm k t r.value a.inside x (a, refl)
+        | inr a ↦ parts_formed SingleForm k t r.value (unit_text a.unit) x (a, refl)
+      ]
+    ]
+
+-- the front tells the reading's form and kind
+formed_front : (t : List ℕ) (k : Kind) (v x : List ℕ) (r : Formed t k v x) → front_at t ≡ told r.form k r.inside
+formed_front t k v x r = ap front_at r.text_is ∙ front_complete r.form k r.inside r.has
+
+told_same : (f g : Form) (k l : Kind) (a b : List ℕ) → told f k a ≡ told g l b → (f ≡ g) × (k ≡ l) × (a ≡ b)
+told_same f g k l a b e =
+    let Triple : Type 0 = Form × Kind × List ℕ in
+    let p : Triple = (f, k, a) in
+    let q : Triple = (g, l, b) in
+    let same : p ≡ q = cc in
+    (ap (λ z. z.0) same, ap (λ z. z.1) same, ap (λ z. z.2) same)
+
+-- what a reading is where the front is known
+pub record AtFront (form : Form) (kind : Kind) (inside : List ℕ) (k : Kind) (v x : List ℕ) : Type 0 where
+  pub kind_is : kind ≡ k
+  pub body : List ℕ
+  pub parts : PartsAre form kind (form_opener form kind ++ inside) v body x
+
+pub at_front : (t : List ℕ) (form : Form) (kind : Kind) (inside : List ℕ) (k : Kind) (v x : List ℕ) → front_at t ≡ told form kind inside → Formed t k v x → AtFront form kind inside k v x
+at_front t form kind inside k v x h r =
+    let same = told_same form r.form kind k inside r.inside (sym h ∙ formed_front t k v x r) in
+    let tells = front_sound t (form, kind, inside) h in
+    let Parts : Form → Kind → List ℕ → Type 0 = λ f l z. PartsAre f l z v r.body x in
+    record {
+      kind_is = same.1;
+      body = r.body;
+      parts = subst (Parts form kind) tells.text_is (subst (λ f. Parts f kind t) (sym same.0) (subst (λ l. Parts r.form l t) (sym same.1) r.parts));
+    }
+
+pub formed_once : (t : List ℕ) (k l : Kind) (v w x y : List ℕ) → Formed t k v x → Formed t l w y → (k ≡ l) × (v ≡ w) × (x ≡ y)
+formed_once t k l v w x y r s =
+    let front = formed_front t k v x r in
+    let a = at_front t r.form k r.inside k v x front r in
+    let b = at_front t r.form k r.inside l w y front s in
+    let same = parts_once r.form k r.inside v a.body x w b.body y a.parts b.parts in
+    (b.kind_is, same.0, same.1)
+
+-- a text has one reading as a quoted literal at most
+pub quoted_once : (t : List ℕ) (k l : Kind) (v w : Contents) (x y : List ℕ) → ReadsQuoted t k v x → ReadsQuoted t l w y → (k ≡ l) × (v ≡ w) × (x ≡ y)
+quoted_once t k l v w x y p q =
+    let same = formed_once t k l p.value q.value x y (formed t k v x p) (formed t l w y q) in
+    (same.0, p.contents_is ∙ ap (λ z. quoted_contents z p.value) same.0 ∙ ap (quoted_contents l) same.1 ∙ sym q.contents_is, same.2)
+
+-- ---- the steps of the reader
+
+pub no_front : (t : List ℕ) → front_at t ≡ None → HasNoQuoted t
+no_front t h k v x p =
+    let r = formed t k v x p in
+    let e : None ≡ told r.form k r.inside = sym h ∙ formed_front t k p.value x r in
+    absurd (cc)
+
+pub no_parts : (t : List ℕ) (form : Form) (kind : Kind) (inside : List ℕ) → front_at t ≡ told form kind inside → HasNoParts form kind (form_opener form kind ++ inside) → HasNoQuoted t
+no_parts t form kind inside h none k v x p =
+    let a = at_front t form kind inside k p.value x h (formed t k v x p) in
+    none p.value a.body x a.parts
+
+pub parts_at_front : (t : List ℕ) (form : Form) (kind : Kind) (inside v b x : List ℕ) → front_at t ≡ told form kind inside → PartsAre form kind (form_opener form kind ++ inside) v b x → PartsAre form kind t v b x
+parts_at_front t form kind inside v b x h p = subst (λ z. PartsAre form kind z v b x) (sym (front_sound t (form, kind, inside) h).text_is) p
+
+-- ---- where the kind is that of a character or a byte
+
+pub not_both : (kind : Kind) → is_string kind ≡ true → is_single kind ≡ true → ⊥
+not_both Str s h = absurd (cc)
+not_both ByteStr s h = absurd (cc)
+not_both CStr s h = absurd (cc)
+not_both Byte s h = absurd (cc)
+not_both Char s h = absurd (cc)
+not_both Int s h = absurd (cc)
+not_both Float s h = absurd (cc)
+not_both BoolKind s h = absurd (cc)
+
+single_here : (form : Form) (kind : Kind) (a v b x : List ℕ) → is_single kind ≡ true → PartsAre form kind (form_opener form kind ++ a) v b x → Single kind (opener kind ++ a) v x
+single_here CookedForm kind a v b x h p = absurd (not_both kind p.0.string h)
+single_here RawForm kind a v b x h p = absurd (not_both kind p.0.string h)
+single_here SingleForm kind a v b x h p = p.0
+
+-- the unit behind the opener is the one of any reading
+pub single_unit : (t : List ℕ) (form : Form) (k : Kind) (inside : List ℕ) (kind : Kind) (v x : List ℕ) → is_single kind ≡ true → front_at t ≡ told form k inside → Formed t kind v x → (unit_at kind inside ≡ Some (v, 39 ∷ x)) × Single kind (opener kind ++ inside) v x
+single_unit t form k inside kind v x h front r =
+    let a = at_front t form k inside kind v x front r in
+    let parts = subst (λ l. PartsAre form l (form_opener form l ++ inside) v a.body x) a.kind_is a.parts in
+    let s = single_here form kind inside v a.body x h parts in
+    (single_at kind inside v x s, s)
+
+-- no reading of a string is of the single form
+pub string_parts : (form : Form) (kind : Kind) (t v b x : List ℕ) → is_string kind ≡ true → (form ≡ RawForm → ⊥) → PartsAre form kind t v b x → PartsAre CookedForm kind t v b x
+string_parts CookedForm kind t v b x h not p = p
+string_parts RawForm kind t v b x h not p = absurd (not refl)
+string_parts SingleForm kind t v b x h not p = absurd (not_both kind h p.0.single)
+
+pub cooked_row_of_body : (kind : Kind) (t v b x : List ℕ) → PartsAre CookedForm kind t v b x → BeginsRow kind b v []
+cooked_row_of_body kind t v b x p =
+    let c = p.0 in
+    record {
+      units = c.units;
+      each = c.each;
+      ends = row_ends_on c.units [] refl c.ends;
+      text_is = p.1 ∙ sym (append-nil (texts c.units));
+      value_is = c.value_is;
+    }

@@ -1,0 +1,170 @@
+-- Raw strings: their hashes, their last quote, and their one reading.
+use Rattle.std.proofs.Common.{◌≡◌, ◌≢◌, ℕ, zero, suc, Bool, true, false, not, eqb, List, [], ◌∷◌, ◌++◌, replicate, refl, sym, ap, subst, ◌∙◌, inl, inr}
+use Rattle.std.specs.List.{list_all}
+use Rattle.std.specs.Str.{chars, IsUtf8}
+use Rattle.std.proofs.lemmas.Bool.{both_ways, cases_Bool, eqb-true, and_parts}
+use Rattle.std.proofs.lemmas.List.{append_cancel_left, append_cancel_right}
+use Rattle.std.proofs.lemmas.List.Folds.{list_all-append}
+use Rattle.rl_tokens.specs.declared.kind.Kind.{Kind}
+use Rattle.rl_tokens.specs.declared.kind.Kind.TheVariants.{Str, ByteStr, CStr, Byte, Char, Int, Float, Bool as BoolKind}
+use Rattle.rl_tokens.specs.Texts.{IsBehind}
+use Rattle.rl_tokens.specs.Quoted.{held, is_string, may_hold, raw_opener, Raw}
+use Rattle.rl_grammar.specs.declared.quoted.Form.TheVariants.{Raw as RawForm}
+use Rattle.rl_grammar.specs.Forms.{PartsAre, HasNoParts, after_hashes}
+use Rattle.rl_grammar.proofs.CutLemmas.{behind_chars}
+
+abbrev no_quote : ℕ → Bool
+no_quote c = not (eqb c 34)
+
+-- each kind but C strings holds all
+all_true : (cs : List ℕ) → list_all (λ c. true) cs ≡ true
+all_true [] = refl
+all_true (c ∷ cs) = all_true cs
+
+pub others_hold : (kind : Kind) → kind ≢ CStr → (cs : List ℕ) → list_all (may_hold kind) cs ≡ true
+others_hold CStr h cs = absurd (h refl)
+others_hold Str h cs = all_true cs
+others_hold ByteStr h cs = all_true cs
+others_hold Byte h cs = all_true cs
+others_hold Char h cs = all_true cs
+others_hold Int h cs = all_true cs
+others_hold Float h cs = all_true cs
+others_hold BoolKind h cs = all_true cs
+
+-- ---- the last quote of a text
+
+quote_inside : (p b q : List ℕ) → list_all no_quote p ≡ true → p ≡ b ++ (34 ∷ q) → ⊥
+quote_inside p b q h e =
+    let r = and_parts (list_all no_quote b) (list_all no_quote (34 ∷ q)) (sym (list_all-append no_quote b (34 ∷ q)) ∙ ap (list_all no_quote) (sym e) ∙ h) in
+    let f : false ≡ true = r.1 in
+    absurd (cc)
+
+last_same : (a b p q : List ℕ) → list_all no_quote p ≡ true → list_all no_quote q ≡ true → a ++ (34 ∷ p) ≡ b ++ (34 ∷ q) → (a ≡ b) × (p ≡ q)
+last_same [] [] p q hp hq e = (refl, cc)
+last_same [] (c ∷ b) p q hp hq e = absurd (quote_inside p b q hp (let e = e in cc))
+last_same (c ∷ a) [] p q hp hq e = absurd (quote_inside q a p hq (let e = e in cc))
+last_same (c ∷ a) (d ∷ b) p q hp hq e =
+    let head : c ≡ d = cc in
+    let tail : a ++ (34 ∷ p) ≡ b ++ (34 ∷ q) = cc in
+    let r = last_same a b p q hp hq tail in
+    (let e = r.0 in cc, r.1)
+
+hashes_no_quote : (n : ℕ) (x : List ℕ) → list_all no_quote (replicate n 35 ++ x) ≡ list_all no_quote x
+hashes_no_quote zero x = refl
+hashes_no_quote (suc n) x = hashes_no_quote n x
+
+-- ---- the hashes at the front
+
+pub hashes_sound : (t : List ℕ) → (n : ℕ) × (t ≡ replicate n 35 ++ after_hashes t)
+unfolding after_hashes
+hashes_sound [] = (0, refl)
+hashes_sound (c ∷ cs) =
+    let more = hashes_sound cs in
+    elim (cases_Bool (eqb c 35)) [
+      | inl a ↦ rw a (suc more.0, ap (λ z. z ∷ cs) (eqb-true c 35 a) ∙ ap (λ z. 35 ∷ z) more.1)
+      | inr a ↦ rw a (0, refl)
+    ]
+
+pub hashes_complete : (n : ℕ) (y : List ℕ) → after_hashes (replicate n 35 ++ (34 ∷ y)) ≡ 34 ∷ y
+unfolding after_hashes
+hashes_complete zero y = refl
+hashes_complete (suc n) y = hashes_complete n y
+
+-- what follows the first quote of a raw string
+abbrev inner : ℕ → List ℕ → List ℕ → List ℕ
+inner n inside suffix = inside ++ (34 ∷ (replicate n 35 ++ suffix))
+
+-- the hashes and the first quote of a raw string are those at its front
+raw_front : (kind : Kind) (t v x hashes : List ℕ) (r : Raw kind (raw_opener kind ++ t) v x) → t ≡ hashes ++ after_hashes t → (hashes ≡ replicate r.hashes 35) × (after_hashes t ≡ 34 ∷ inner r.hashes r.inside x)
+raw_front kind t v x hashes r e =
+    let n = r.hashes in
+    let y = inner n r.inside x in
+    let text : t ≡ replicate n 35 ++ (34 ∷ y) = append_cancel_left (raw_opener kind) t (replicate n 35 ++ (34 ∷ y)) r.text_is in
+    let rest : after_hashes t ≡ 34 ∷ y = ap after_hashes text ∙ hashes_complete n y in
+    (append_cancel_right hashes (replicate n 35) (34 ∷ y) (ap (λ z. hashes ++ z) (sym rest) ∙ sym e ∙ text), rest)
+
+-- what follows the first quote, cut at its last
+raw_inner : (n : ℕ) (inside x body after : List ℕ) → list_all no_quote x ≡ true → list_all no_quote after ≡ true → body ++ (34 ∷ after) ≡ inner n inside x → (body ≡ inside) × (after ≡ replicate n 35 ++ x)
+raw_inner n inside x body after hx ha e = last_same body inside after (replicate n 35 ++ x) ha (hashes_no_quote n x ∙ hx) e
+
+pub raw_once : (kind : Kind) (t v x w y : List ℕ) → Raw kind (raw_opener kind ++ t) v x → Raw kind (raw_opener kind ++ t) w y → (v ≡ w) × (x ≡ y)
+raw_once kind t v x w y r s =
+    let front = hashes_sound t in
+    let a = raw_front kind t v x (replicate front.0 35) r front.1 in
+    let b = raw_front kind t w y (replicate front.0 35) s front.1 in
+    let both : 34 ∷ inner r.hashes r.inside x ≡ 34 ∷ inner s.hashes s.inside y = sym a.1 ∙ b.1 in
+    let insides : inner r.hashes r.inside x ≡ inner s.hashes s.inside y = cc in
+    let parts = raw_inner s.hashes s.inside y r.inside (replicate r.hashes 35 ++ x) s.no_quote (hashes_no_quote r.hashes x ∙ r.no_quote) insides in (
+      r.value_is ∙ ap (held kind) parts.0 ∙ sym s.value_is,
+      append_cancel_left (replicate s.hashes 35) x y (ap (λ z. z ++ x) (sym b.0 ∙ a.0) ∙ parts.1),
+    )
+
+-- ---- the steps of the reader
+
+-- what follows the hashes is behind the text
+pub hashes_behind : (bs ys : List ℕ) → IsUtf8 bs → IsUtf8 ys → chars ys ≡ after_hashes (chars bs) → IsBehind bs ys
+hashes_behind bs ys u w e =
+    let front = hashes_sound (chars bs) in
+    behind_chars bs ys (replicate front.0 35) u w (front.1 ∙ ap (λ z. replicate front.0 35 ++ z) (sym e))
+
+-- no quote stands behind the hashes
+pub raw_unopened : (kind : Kind) (t rest : List ℕ) → rest ≡ after_hashes t → ((y : List ℕ) → rest ≢ 34 ∷ y) → HasNoParts RawForm kind (raw_opener kind ++ t)
+raw_unopened kind t rest e h v b x p =
+    let front = hashes_sound t in
+    h _ (e ∙ (raw_front kind t v x (replicate front.0 35) p.0 front.1).1)
+
+-- `hashes` stand at the front of `t`, and `rest` behind them
+
+module _ (kind : Kind) (t hashes rest : List ℕ) (rest_is : rest ≡ after_hashes t) (text_is : t ≡ hashes ++ rest) where
+  opens : (v x : List ℕ) (r : Raw kind (raw_opener kind ++ t) v x) → (hashes ≡ replicate r.hashes 35) × (rest ≡ 34 ∷ inner r.hashes r.inside x)
+  opens v x r =
+      let f = raw_front kind t v x hashes r (text_is ∙ ap (λ z. hashes ++ z) rest_is) in
+      (f.0, rest_is ∙ f.1)
+
+  -- no second quote stands
+  pub raw_unclosed : (inside : List ℕ) → rest ≡ 34 ∷ inside → list_all no_quote inside ≡ true → HasNoParts RawForm kind (raw_opener kind ++ t)
+  raw_unclosed inside e h v b x p =
+      let both : 34 ∷ inside ≡ 34 ∷ inner p.0.hashes p.0.inside x = sym e ∙ (opens v x p.0).1 in
+      quote_inside inside p.0.inside (replicate p.0.hashes 35 ++ x) h (let both = both in cc)
+
+  -- the last quote cuts the text behind the first one into a body and what comes after
+  module _ (inside body after : List ℕ) (inside_is : rest ≡ 34 ∷ inside) (last_is : inside ≡ body ++ (34 ∷ after)) (none_after : list_all no_quote after ≡ true) where
+    closes : (v x : List ℕ) (r : Raw kind (raw_opener kind ++ t) v x) → (body ≡ r.inside) × (after ≡ hashes ++ x)
+    closes v x r =
+        let f = opens v x r in
+        let both : 34 ∷ inside ≡ 34 ∷ inner r.hashes r.inside x = sym inside_is ∙ f.1 in
+        let parts = raw_inner r.hashes r.inside x body after r.no_quote none_after (sym last_is ∙ (let both = both in cc)) in
+        (parts.0, parts.1 ∙ ap (λ z. z ++ x) (sym f.0))
+
+    pub raw_other_hashes : ((x : List ℕ) → after ≢ hashes ++ x) → HasNoParts RawForm kind (raw_opener kind ++ t)
+    raw_other_hashes h v b x p = h x (closes v x p.0).1
+
+    pub raw_not_held : list_all (may_hold kind) body ≡ false → HasNoParts RawForm kind (raw_opener kind ++ t)
+    raw_not_held h v b x p =
+        let each : list_all (may_hold kind) body ≡ true = subst (λ z. list_all (may_hold kind) z ≡ true) (sym (closes v x p.0).0) p.0.each in
+        both_ways (list_all (may_hold kind) body) h each
+
+    pub raw_found : (suffix : List ℕ) → is_string kind ≡ true → after ≡ hashes ++ suffix → list_all (may_hold kind) body ≡ true → (v : List ℕ) × PartsAre RawForm kind (raw_opener kind ++ t) v body suffix
+    raw_found suffix string e held_all =
+        let front = hashes_sound t in
+        let n = front.0 in
+        let hashes_are : hashes ≡ replicate n 35 = append_cancel_right hashes (replicate n 35) rest (sym text_is ∙ front.1 ∙ ap (λ z. replicate n 35 ++ z) (sym rest_is)) in
+        let none : list_all no_quote suffix ≡ true = (and_parts (list_all no_quote hashes) (list_all no_quote suffix) (sym (list_all-append no_quote hashes suffix) ∙ ap (list_all no_quote) (sym e) ∙ none_after)).1 in
+        let whole : t ≡ replicate n 35 ++ (34 ∷ inner n body suffix) =
+        text_is
+        ∙ ap (λ z. hashes ++ z) (inside_is ∙ ap (λ z. 34 ∷ z) (last_is ∙ ap (λ z. body ++ (34 ∷ z)) e))
+        ∙ ap (λ z. z ++ (34 ∷ (body ++ (34 ∷ (z ++ suffix))))) hashes_are in (
+          held kind body,
+          (
+            record {
+              hashes = n;
+              inside = body;
+              string = string;
+              each = held_all;
+              no_quote = none;
+              text_is = ap (λ z. raw_opener kind ++ z) whole;
+              value_is = refl;
+            },
+            refl,
+          ),
+        )

@@ -1,0 +1,158 @@
+-- The escapes of the lenient reading are strict, line breaks apart.
+use Rattle.std.proofs.Common.{◌≡◌, ℕ, zero, suc, ◌<◌, ◌≤◌, ◌||◌, ◌&&◌, true, false, not, cond, eqb, List, [], ◌∷◌, ◌++◌, length, map, replicate, refl, sym, ap, subst, ◌∙◌, inl, inr, arith}
+use Rattle.std.proofs.lemmas.Bool.{and_from, and_parts, cases_Bool, eqb-true, le-leb, lt-ltb, ltb-true, not_from_false}
+use Rattle.std.proofs.Math.Utf8.{scalar}
+use Rattle.std.specs.Char.{digit_value, is_ascii_hexdigit, IsScalar}
+use Rattle.std.specs.List.{list_all, flat_map}
+use Rattle.std.specs.Prelude.{nat_lt, nat_le}
+use Rattle.rl_tokens.specs.declared.kind.Kind.{Kind}
+use Rattle.rl_tokens.specs.declared.kind.Kind.TheVariants.{Str, ByteStr, CStr, Byte, Char, Int, Float, Bool as BoolKind}
+use Rattle.rl_tokens.specs.Texts.{is_underscore}
+use Rattle.rl_tokens.specs.Quoted.{Letter, Named, Hex, Unicode, LowerN, LowerR, LowerT, Backslash, Apostrophe, Quote, Zero, letter_value, unit_text, place_value, without_underscores, unicode_value, hex_value, is_hex_digit, may_hold, IsUnit}
+use Rattle.rl_tokens.specs.Strict.{StrictUnit, Itself, QuoteEscape, PlainEscape, AsciiEscape, ByteEscape, UnicodeEscape, LineBreak, spaced_digit, strict_text, number_of, is_octal, is_unicode_escape, is_strict_unit, HasUnits}
+use Rattle.rl_tokens.proofs.Basics.{hex_is_sixteen}
+use Rattle.rl_tokens.proofs.StrictQuoted.{hex_first, same_number, bare_digits, digits_count}
+
+-- a strict unit with this text, an escape and no line break
+pub record Escape (k : Kind) (text : List ℕ) : Type 0 where
+  pub unit : StrictUnit
+  pub is_unit : is_strict_unit k unit ≡ true
+  pub no_break : (blanks : List ℕ) → unit ≡ LineBreak blanks → ⊥
+  pub text_is : text ≡ strict_text unit
+
+-- the kind is a quoted one
+abbrev pub IsQuotedKind : Kind → Type 0
+IsQuotedKind k = HasUnits k (Itself 0 ∷ [])
+
+-- ---- letters
+
+-- every kind has the letters but `0`
+escape_letter : (k : Kind) (letter : ℕ) → eqb letter 48 ≡ false → is_strict_unit Str (PlainEscape letter) ≡ true → is_strict_unit k (PlainEscape letter) ≡ true
+escape_letter CStr letter n h = and_from _ _ h (not_from_false _ n)
+escape_letter _ letter n h = h
+
+-- all kinds but C strings have `0`
+zero_letter : (k : Kind) → may_hold k 0 ≡ true → is_strict_unit k (PlainEscape 48) ≡ true
+zero_letter CStr h = absurd (cc)
+zero_letter _ h = refl
+
+-- an escape of one letter
+plain_escape : (k : Kind) (c : ℕ) → is_strict_unit k (PlainEscape c) ≡ true → Escape k (92 ∷ c ∷ [])
+plain_escape k c h = record { unit = PlainEscape c; is_unit = h; no_break = λ b e. absurd (cc); text_is = refl }
+
+-- an escaped quote
+quote_escape : (k : Kind) (c : ℕ) → is_strict_unit k (QuoteEscape c) ≡ true → Escape k (92 ∷ c ∷ [])
+quote_escape k c h = record { unit = QuoteEscape c; is_unit = h; no_break = λ b e. absurd (cc); text_is = refl }
+
+-- the escapes of a backslash and one letter
+pub named_escape : (k : Kind) (l : Letter) → may_hold k (letter_value l) ≡ true → Escape k (unit_text (Named l))
+named_escape k LowerN h = plain_escape k 110 (escape_letter k 110 refl refl)
+named_escape k LowerR h = plain_escape k 114 (escape_letter k 114 refl refl)
+named_escape k LowerT h = plain_escape k 116 (escape_letter k 116 refl refl)
+named_escape k Backslash h = plain_escape k 92 (escape_letter k 92 refl refl)
+named_escape k Zero h = plain_escape k 48 (zero_letter k h)
+named_escape k Apostrophe h = quote_escape k 39 refl
+named_escape k Quote h = quote_escape k 34 refl
+
+-- ---- numbers
+
+-- a digit of base 16 in the strict spelling
+hex_digit_back : (c : ℕ) → is_hex_digit c ≡ true → is_ascii_hexdigit c ≡ true
+hex_digit_back c h = hex_is_sixteen c ∙ h
+
+-- a number below 128 has an octal digit first
+small_high : (high low : ℕ) → nat_lt (hex_value high low) 128 ≡ true → is_octal high ≡ true
+small_high high low h = let e : hex_value high low < 128 = ltb-true (hex_value high low) 128 h in lt-ltb (digit_value high) 8 (omega arith)
+
+-- an escape of a character of ASCII
+ascii_escape : (k : Kind) (high low : ℕ) → is_hex_digit low ≡ true → nat_lt (hex_value high low) 128 ≡ true → ((is_octal high && is_ascii_hexdigit low) ≡ true → is_strict_unit k (AsciiEscape high low) ≡ true) → Escape k (unit_text (Hex high low))
+ascii_escape k high low l s allowed = record { unit = AsciiEscape high low; is_unit = allowed (and_from _ _ (small_high high low s) (hex_digit_back low l)); no_break = λ b e. absurd (cc); text_is = refl }
+
+-- an escape of a byte
+byte_escape : (k : Kind) (high low : ℕ) → is_strict_unit k (ByteEscape high low) ≡ true → Escape k (unit_text (Hex high low))
+byte_escape k high low h = record { unit = ByteEscape high low; is_unit = h; no_break = λ b e. absurd (cc); text_is = refl }
+
+-- the escapes by two digits
+pub hex_escape : (k : Kind) (high low : ℕ) → IsQuotedKind k → IsUnit k (Hex high low) → Escape k (unit_text (Hex high low))
+hex_escape Str high low q u = ascii_escape Str high low u.1 u.2 (λ h. h)
+hex_escape Char high low q u = ascii_escape Char high low u.1 u.2 (λ h. h)
+hex_escape ByteStr high low q u = byte_escape ByteStr high low (and_from _ _ (hex_digit_back high u.0) (hex_digit_back low u.1))
+hex_escape Byte high low q u = byte_escape Byte high low (and_from _ _ (hex_digit_back high u.0) (hex_digit_back low u.1))
+hex_escape CStr high low q u = byte_escape CStr high low (and_from _ _ (and_from _ _ (hex_digit_back high u.0) (hex_digit_back low u.1)) (and_parts (not (eqb (hex_value high low) 0)) true u.2).0)
+hex_escape Int high low q u = absurd q
+hex_escape Float high low q u = absurd q
+hex_escape BoolKind high low q u = absurd q
+
+-- ---- digits, each with how many underscores follow it
+
+-- the digits of a text behind one digit and n underscores
+abbrev group : ℕ → ℕ → List ℕ → List (ℕ × ℕ)
+group first n [] = (first, n) ∷ []
+group first n (c ∷ cs) = cond (eqb c 95) (group first (suc n) cs) ((first, n) ∷ group c 0 cs)
+
+-- one more underscore
+underscore_more : (n : ℕ) (cs : List ℕ) → replicate (suc n) 95 ++ cs ≡ replicate n 95 ++ (95 ∷ cs)
+underscore_more zero cs = refl
+underscore_more (suc n) cs = ap (λ z. 95 ∷ z) (underscore_more n cs)
+
+-- grouped digits spell the text
+group_text : (first n : ℕ) (cs : List ℕ) → flat_map spaced_digit (group first n cs) ≡ first ∷ (replicate n 95 ++ cs)
+group_text first n [] = refl
+group_text first n (c ∷ cs) =
+    elim (cases_Bool (eqb c 95)) [
+      | inl a ↦ ap (λ b. flat_map spaced_digit (cond b (group first (suc n) cs) ((first, n) ∷ group c 0 cs))) a ∙ group_text first (suc n) cs
+          ∙ ap (λ z. first ∷ z) (underscore_more n cs ∙ ap (λ z. replicate n 95 ++ (z ∷ cs)) (sym (eqb-true c 95 a)))
+      | inr a ↦ ap (λ b. flat_map spaced_digit (cond b (group first (suc n) cs) ((first, n) ∷ group c 0 cs))) a
+          ∙ ap (λ z. first ∷ (replicate n 95 ++ z)) (group_text c 0 cs)
+    ]
+
+-- they are digits of base 16
+group_hex : (first n : ℕ) (cs : List ℕ) → is_hex_digit first ≡ true → list_all (λ c. is_underscore c || is_hex_digit c) cs ≡ true → list_all hex_first (group first n cs) ≡ true
+group_hex first n [] h each = and_from _ _ (hex_digit_back first h) refl
+group_hex first n (c ∷ cs) h each =
+    let p = and_parts (is_underscore c || is_hex_digit c) (list_all (λ c. is_underscore c || is_hex_digit c) cs) each in
+    elim (cases_Bool (eqb c 95)) [
+      | inl a ↦ ap (λ b. list_all hex_first (cond b (group first (suc n) cs) ((first, n) ∷ group c 0 cs))) a ∙ group_hex first (suc n) cs h p.1
+      | inr a ↦ ap (λ b. list_all hex_first (cond b (group first (suc n) cs) ((first, n) ∷ group c 0 cs))) a
+          ∙ and_from _ _ (hex_digit_back first h) (group_hex c 0 cs (ap (λ b. b || is_hex_digit c) (sym a) ∙ p.0) p.1)
+    ]
+
+-- at least one stands there
+group_some : (first n : ℕ) (cs : List ℕ) → nat_le 1 (length (group first n cs)) ≡ true
+group_some first n [] = refl
+group_some first n (c ∷ cs) =
+    elim (cases_Bool (eqb c 95)) [
+      | inl a ↦ ap (λ b. nat_le 1 (length (cond b (group first (suc n) cs) ((first, n) ∷ group c 0 cs)))) a ∙ group_some first (suc n) cs
+      | inr a ↦ ap (λ b. nat_le 1 (length (cond b (group first (suc n) cs) ((first, n) ∷ group c 0 cs)))) a ∙ le-leb 1 _ (omega arith)
+    ]
+
+-- they spell the number
+unicode_number : (first : ℕ) (more : List ℕ) → list_all hex_first (group first 0 more) ≡ true → number_of 16 (map (λ d. d.0) (group first 0 more)) ≡ unicode_value first more
+unicode_number first more h = same_number (map (λ d. d.0) (group first 0 more)) ∙ ap (place_value 16) (sym (bare_digits (group first 0 more) h) ∙ ap without_underscores (group_text first 0 more))
+
+-- what the lenient reading allows, the strict grammar does
+unicode_allowed : (first : ℕ) (more : List ℕ) → is_hex_digit first ≡ true → list_all (λ c. is_underscore c || is_hex_digit c) more ≡ true → length (without_underscores (first ∷ more)) ≤ 6 → IsScalar (unicode_value first more) → is_unicode_escape (group first 0 more) ≡ true
+unicode_allowed first more h each few s =
+    let hexes = group_hex first 0 more h each in
+    let same = unicode_number first more hexes in
+    let long : length (group first 0 more) ≡ length (without_underscores (first ∷ more)) = sym (digits_count (group first 0 more)) ∙ ap length (sym (bare_digits (group first 0 more) hexes) ∙ ap without_underscores (group_text first 0 more)) in
+    let Few : ℕ → Type 0 = λ n. n ≤ 6 in
+    and_from _ _ (and_from _ _ (and_from _ _ (group_some first 0 more) (le-leb _ 6 (subst Few (sym long) few))) hexes)
+    (and_from (scalar (number_of 16 (map (λ d. d.0) (group first 0 more)))) true (subst IsScalar (sym same) s) refl)
+
+-- an escape by grouped digits
+spaced_escape : (k : Kind) (first : ℕ) (more : List ℕ) → is_strict_unit k (UnicodeEscape (group first 0 more)) ≡ true → Escape k (unit_text (Unicode first more))
+spaced_escape k first more h = record { unit = UnicodeEscape (group first 0 more); is_unit = h; no_break = λ b e. absurd (cc); text_is = ap (λ z. 92 ∷ 117 ∷ 123 ∷ (z ++ (125 ∷ []))) (sym (group_text first 0 more)) }
+
+-- the escapes by one to six digits
+pub unicode_escape : (k : Kind) (first : ℕ) (more : List ℕ) → IsQuotedKind k → IsUnit k (Unicode first more) → Escape k (unit_text (Unicode first more))
+unicode_escape Str first more q u = spaced_escape Str first more (unicode_allowed first more u.1 u.2 u.3 u.4)
+unicode_escape Char first more q u = spaced_escape Char first more (unicode_allowed first more u.1 u.2 u.3 u.4)
+unicode_escape CStr first more q u =
+    let number = unicode_number first more (group_hex first 0 more u.1 u.2) in
+    spaced_escape CStr first more (and_from _ _ (unicode_allowed first more u.1 u.2 u.3 u.4) (ap (λ n. not (eqb n 0)) number ∙ u.5))
+unicode_escape ByteStr first more q u = absurd (let h = u.0 in (cc))
+unicode_escape Byte first more q u = absurd (let h = u.0 in (cc))
+unicode_escape Int first more q u = absurd q
+unicode_escape Float first more q u = absurd q
+unicode_escape BoolKind first more q u = absurd q

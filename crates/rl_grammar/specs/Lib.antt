@@ -1,0 +1,10 @@
+pub mod NumberAt
+pub mod NumberShapes
+pub mod UnitAt
+pub mod Rows
+pub mod Forms
+pub mod Shapes
+pub mod Decoded
+pub mod WholeShapes
+pub mod StrictAt
+pub mod StrictShapes

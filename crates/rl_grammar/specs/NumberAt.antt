@@ -1,0 +1,133 @@
+-- Reading numbers, one part after another.
+use Rattle.std.specs.Prelude.{ℕ, ◌+◌, ◌*◌, ◌==◌, ◌||◌, ◌&&◌, not, Bool, true, false, List, [], ◌∷◌, Option, Some, None, nat_lt, nat_le, if◌then◌else◌}
+use Rattle.std.specs.Char.{digit_value, is_ascii_digit}
+use Rattle.std.specs.List.{list_any}
+use Rattle.rl_tokens.specs.Texts.{passes, is_underscore, xid_ok}
+use Rattle.rl_tokens.specs.Quoted.{place_value, without_underscores}
+use Rattle.rl_tokens.specs.Numbers.{Sign, NoSign, Minus, limit, is_exponent_letter}
+
+-- the characters at the front that pass the test, and what follows them
+unfoldable pub run : (ℕ → Bool) → List ℕ → List ℕ
+run test [] = []
+run test (c ∷ cs) = if test c then (c ∷ run test cs) else []
+
+unfoldable pub after_run : (ℕ → Bool) → List ℕ → List ℕ
+after_run test [] = []
+after_run test (c ∷ cs) = if test c then after_run test cs else (c ∷ cs)
+
+abbrev pub has_value : ℕ → ℕ → Bool
+has_value radix c = nat_lt (digit_value c) radix
+
+abbrev pub is_part : ℕ → ℕ → Bool
+is_part radix c = has_value radix c || is_underscore c
+
+-- a number, if it is within the limit
+abbrev pub capped : ℕ → Option ℕ
+capped n = if nat_le n limit then Some n else None
+
+abbrev pub append_digit : ℕ → Option ℕ → ℕ → Option ℕ
+append_digit radix None d = None
+append_digit radix (Some v) d = capped (v * radix + d)
+
+-- digits and underscores from here on: whether there was a digit, the number within the limit, and what follows
+unfoldable pub row_from : ℕ → Bool → Option ℕ → List ℕ → Bool × Option ℕ × List ℕ
+row_from radix some m [] = (some, m, [])
+row_from radix some m (c ∷ cs) =
+    if c == 95 then row_from radix some m cs
+    else (if nat_lt (digit_value c) radix then row_from radix true (append_digit radix m (digit_value c)) cs
+    else (some, m, c ∷ cs))
+
+-- the same by what stands there
+abbrev pub digits_at : ℕ → List ℕ → List ℕ
+digits_at radix t = run (is_part radix) t
+
+abbrev pub has_digit_at : ℕ → List ℕ → Bool
+has_digit_at radix t = list_any (has_value radix) (digits_at radix t)
+
+abbrev pub magnitude_at : ℕ → List ℕ → ℕ
+magnitude_at radix t = place_value radix (without_underscores (digits_at radix t))
+
+abbrev pub after_digits : ℕ → List ℕ → List ℕ
+after_digits radix t = after_run (is_part radix) t
+
+-- nothing, or an identifier that doesn't begin with `_`
+abbrev pub is_suffix : List ℕ → Bool
+is_suffix [] = true
+is_suffix (c ∷ cs) = not (is_underscore c) && xid_ok (c ∷ cs)
+
+-- the suffix makes a decimal integer an exponent
+unfoldable pub is_exponent_suffix : List ℕ → Bool
+is_exponent_suffix [] = false
+is_exponent_suffix (c ∷ cs) = is_exponent_letter c && (has_digit_at 10 cs && is_suffix (after_digits 10 cs))
+
+abbrev pub after_minus : List ℕ → List ℕ
+after_minus [] = []
+after_minus (c ∷ cs) = if c == 45 then cs else (c ∷ cs)
+
+abbrev pub sign_at : List ℕ → Sign
+sign_at [] = NoSign
+sign_at (c ∷ cs) = if c == 45 then Minus else NoSign
+
+-- the base that a letter behind a zero names
+abbrev pub radix_of : ℕ → ℕ
+radix_of c = if c == 98 then 2 else (if c == 111 then 8 else (if c == 120 then 16 else 10))
+
+-- the base, and what stands behind its prefix
+unfoldable pub radix_at : List ℕ → ℕ × List ℕ
+radix_at [] = (10, [])
+radix_at (z ∷ []) = (10, z ∷ [])
+radix_at (z ∷ c ∷ cs) = if z == 48 && not (radix_of c == 10) then (radix_of c, cs) else (10, z ∷ c ∷ cs)
+
+-- what base ten asks besides: a digit in front, and no exponent behind
+abbrev pub may_begin : ℕ → List ℕ → Bool
+may_begin radix t = not (radix == 10) || passes is_ascii_digit t
+
+abbrev pub may_end : ℕ → List ℕ → Bool
+may_end radix x = is_suffix x && (not (radix == 10) || not (is_exponent_suffix x))
+
+-- the magnitude and the suffix of an integer behind sign and prefix
+unfoldable pub based_at : ℕ → List ℕ → Option (ℕ × List ℕ)
+based_at radix t =
+    if may_begin radix t && (has_digit_at radix t && may_end radix (after_digits radix t))
+    then Some (magnitude_at radix t, after_digits radix t) else None
+
+abbrev pub with_sign : Sign → Option (ℕ × List ℕ) → Option (Sign × ℕ × List ℕ)
+with_sign sign None = None
+with_sign sign (Some p) = Some (sign, p.0, p.1)
+
+-- the sign, magnitude and suffix of an integer
+unfoldable pub int_at : List ℕ → Option (Sign × ℕ × List ℕ)
+int_at t = with_sign (sign_at t) (based_at (radix_at (after_minus t)).0 (radix_at (after_minus t)).1)
+
+-- the same, the magnitude within the limit
+abbrev pub capped_based : Option (ℕ × List ℕ) → Option (Option ℕ × List ℕ)
+capped_based None = None
+capped_based (Some p) = Some (capped p.0, p.1)
+
+abbrev pub capped_int : Option (Sign × ℕ × List ℕ) → Option (Option ℕ × List ℕ)
+capped_int None = None
+capped_int (Some p) = Some (capped p.1, p.2)
+
+-- what follows a dot and its digits, or the text
+abbrev pub after_fraction : List ℕ → List ℕ
+after_fraction [] = []
+after_fraction (c ∷ cs) = if c == 46 then after_digits 10 cs else (c ∷ cs)
+
+abbrev pub after_power_sign : List ℕ → List ℕ
+after_power_sign [] = []
+after_power_sign (c ∷ cs) = if c == 43 || c == 45 then cs else (c ∷ cs)
+
+-- the digits of a power, behind its letter
+unfoldable pub power_at : List ℕ → List ℕ
+power_at t = after_power_sign (after_run is_underscore t)
+
+-- what follows an exponent, or the text
+unfoldable pub after_exponent : List ℕ → List ℕ
+after_exponent [] = []
+after_exponent (c ∷ cs) = if is_exponent_letter c && has_digit_at 10 (power_at cs) then after_digits 10 (power_at cs) else (c ∷ cs)
+
+-- the suffix of a float
+unfoldable pub float_at : List ℕ → Option (List ℕ)
+float_at t =
+    if passes is_ascii_digit (after_minus t) && is_suffix (after_exponent (after_fraction (after_digits 10 (after_minus t))))
+    then Some (after_exponent (after_fraction (after_digits 10 (after_minus t)))) else None

@@ -1,0 +1,87 @@
+-- Reading strict texts, one part after another.
+use Rattle.std.specs.Prelude.{ℕ, ◌==◌, ◌||◌, ◌&&◌, not, Bool, true, false, List, [], ◌∷◌, Option, Some, None, option_map, length, drop, nat_lt, if◌then◌else◌}
+use Rattle.std.specs.Char.{is_ascii_digit}
+use Rattle.std.specs.List.{list_all}
+use Rattle.rl_tokens.specs.declared.kind.Kind.{Kind}
+use Rattle.rl_tokens.specs.declared.kind.Kind.TheVariants.{Str, ByteStr, CStr}
+use Rattle.rl_tokens.specs.Texts.{passes, begins, is_underscore, is_start, is_continue}
+use Rattle.rl_tokens.specs.Quoted.{is_string}
+use Rattle.rl_tokens.specs.Strict.{Itself, is_strict_unit, is_dropped_blank}
+use Rattle.rl_grammar.specs.NumberAt.{after_run, has_digit_at, after_digits, after_power_sign, radix_at}
+use Rattle.rl_grammar.specs.UnitAt.{unit_at}
+
+-- some character stands there
+abbrev pub is_some_text : List ℕ → Bool
+is_some_text t = passes (λ c. true) t
+
+-- nothing, or a word
+unfoldable pub is_strict_suffix : List ℕ → Bool
+is_strict_suffix [] = true
+is_strict_suffix (c ∷ cs) = (if c == 95 then is_some_text cs else is_start c) && list_all is_continue cs
+
+-- the same, and it doesn't begin with `_`
+abbrev pub is_number_suffix : List ℕ → Bool
+is_number_suffix x = not (passes is_underscore x) && is_strict_suffix x
+
+abbrev pub is_power_letter : ℕ → Bool
+is_power_letter c = c == 101 || c == 69
+
+-- behind the letter of an exponent: a sign perhaps, a row with a digit, and a suffix
+unfoldable pub ends_power : List ℕ → Bool
+ends_power t = has_digit_at 10 (after_power_sign t) && is_number_suffix (after_digits 10 (after_power_sign t))
+
+-- behind digits: an exponent and a suffix, or a suffix alone
+unfoldable pub ends_digits : List ℕ → Bool
+ends_digits [] = is_number_suffix []
+ends_digits (c ∷ cs) = if is_power_letter c then ends_power cs else is_number_suffix (c ∷ cs)
+
+-- behind a dot: nothing, or digits and what ends them
+unfoldable pub ends_dot : List ℕ → Bool
+ends_dot t = not (is_some_text t) || (passes is_ascii_digit t && ends_digits (after_digits 10 t))
+
+-- behind the whole part
+abbrev pub ends_whole : List ℕ → Bool
+ends_whole [] = true
+ends_whole (c ∷ cs) = if c == 46 then ends_dot cs else ends_digits (c ∷ cs)
+
+-- a number of base ten
+unfoldable pub is_decimal : List ℕ → Bool
+is_decimal t = passes is_ascii_digit t && ends_whole (after_digits 10 t)
+
+-- an integer of another base, behind its prefix
+unfoldable pub is_based : ℕ → List ℕ → Bool
+is_based radix t = has_digit_at radix t && (not (passes is_power_letter (after_digits radix t)) && is_number_suffix (after_digits radix t))
+
+unfoldable pub is_strict_number : List ℕ → Bool
+is_strict_number t = if (radix_at t).0 == 10 then is_decimal (radix_at t).1 else is_based (radix_at t).0 (radix_at t).1
+
+-- what is left behind a line break's backslash, or behind another escape
+abbrev pub escape_rest : Kind → List ℕ → Option (List ℕ)
+escape_rest kind [] = None
+escape_rest kind (c ∷ cs) =
+    if c == 10 then (if is_string kind then Some (after_run is_dropped_blank cs) else None)
+    else (if c == 13 then None else option_map (λ p. p.1) (unit_at kind (92 ∷ c ∷ cs)))
+
+-- what is left behind the unit at the front
+unfoldable pub unit_rest : Kind → List ℕ → Option (List ℕ)
+unit_rest kind [] = None
+unit_rest kind (c ∷ cs) = if c == 92 then escape_rest kind cs else (if is_strict_unit kind (Itself c) then Some cs else None)
+
+-- a quote, and a suffix
+abbrev pub ends_quoted : ℕ → List ℕ → Bool
+ends_quoted quote [] = false
+ends_quoted quote (c ∷ cs) = c == quote && is_strict_suffix cs
+
+-- which characters stand in a raw form
+abbrev pub is_raw_character : Kind → ℕ → Bool
+is_raw_character Str c = not (c == 13)
+is_raw_character ByteStr c = nat_lt c 128 && not (c == 13)
+is_raw_character CStr c = not (c == 0) && not (c == 13)
+is_raw_character _ c = false
+
+-- characters up to the first quote with these hashes behind it, and a suffix
+unfoldable pub ends_raw : Kind → List ℕ → List ℕ → Bool
+ends_raw kind hashes [] = false
+ends_raw kind hashes (c ∷ cs) =
+    if c == 34 && begins hashes cs then is_strict_suffix (drop (length hashes) cs)
+    else is_raw_character kind c && ends_raw kind hashes cs

@@ -1,0 +1,53 @@
+-- What the calls on strict texts say.
+use Rattle.std.specs.Prelude.{◌≡◌, ◌≢◌, ◌⊎◌, ℕ, ◌<◌, not, ◌==◌, List, ◌∷◌, ◌++◌, replicate, IsTrue}
+use Rattle.std.specs.List.{list_all, flat_map}
+use Rattle.rl_tokens.specs.declared.kind.Kind.{Kind}
+use Rattle.rl_tokens.specs.Reading.{Contents}
+use Rattle.rl_tokens.specs.Strict.{StrictUnit, strict_text, is_strict_unit, BlanksEnd, HasUnits, ends, IsRawInside, IsStrictSuffix, StrictInt, StrictFloat, Strict}
+use Rattle.rl_grammar.specs.declared.quoted.Form.{Form}
+use Rattle.rl_grammar.specs.declared.quoted.Form.TheVariants.{Cooked as CookedForm, Raw as RawForm, Single as SingleForm}
+
+-- The text is a strict token, of some kind, with some contents and suffix.
+pub record IsToken (text : List ℕ) : Type 0 where
+  pub kind : Kind
+  pub contents : Contents
+  pub suffix : List ℕ
+  pub strict : Strict text kind contents suffix
+
+-- a strict number
+abbrev pub IsStrictNumber : List ℕ → Type 0
+IsStrictNumber text = (contents : Contents) × (suffix : List ℕ) × (StrictInt text contents suffix ⊎ StrictFloat text contents suffix)
+
+-- what stands behind the opener of a strict form with escapes: units, the quote, and a suffix
+pub record ClosesUnits (kind : Kind) (text : List ℕ) : Type 0 where
+  pub units : List StrictUnit
+  pub suffix : List ℕ
+  pub count : HasUnits kind units
+  pub each : IsTrue (list_all (is_strict_unit kind) units)
+  pub blanks_end : BlanksEnd units
+  pub is_suffix : IsStrictSuffix suffix
+  pub text_is : text ≡ flat_map strict_text units ++ (ends kind ++ suffix)
+
+-- what stands behind the hashes and the quote of a strict raw form
+pub record ClosesInside (kind : Kind) (hashes text : List ℕ) : Type 0 where
+  pub inside : List ℕ
+  pub suffix : List ℕ
+  pub allowed : IsRawInside kind inside
+  pub no_carriage_return : IsTrue (list_all (λ c. not (c == 13)) inside)
+  pub first_close : (front rest : List ℕ) → inside ≢ front ++ (34 ∷ (hashes ++ rest))
+  pub is_suffix : IsStrictSuffix suffix
+  pub text_is : text ≡ inside ++ (34 ∷ (hashes ++ suffix))
+
+-- what stands behind the opener of a strict raw form: hashes, a quote, and what ends it
+pub record ClosesRaw (kind : Kind) (text : List ℕ) : Type 0 where
+  pub hashes : ℕ
+  pub few : hashes < 256
+  pub rest : List ℕ
+  pub closes : ClosesInside kind (replicate hashes 35) rest
+  pub text_is : text ≡ replicate hashes 35 ++ (34 ∷ rest)
+
+-- what stands behind the opener of a strict form
+abbrev pub Closes : Form → Kind → List ℕ → Type 0
+Closes CookedForm kind text = ClosesUnits kind text
+Closes SingleForm kind text = ClosesUnits kind text
+Closes RawForm kind text = ClosesRaw kind text

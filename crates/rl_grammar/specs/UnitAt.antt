@@ -1,0 +1,88 @@
+-- The unit at the front of a text between quotes, as a plain program on characters.
+use Rattle.std.specs.Prelude.{ℕ, ◌+◌, ◌*◌, ◌==◌, ◌||◌, ◌&&◌, Bool, not, List, [], ◌∷◌, Option, Some, None, option_and_then, nat_lt, if◌then◌else◌, IsTrue, ⊤}
+use Rattle.std.specs.Char.{digit_value}
+use Rattle.std.proofs.Math.Utf8.{scalar}
+use Rattle.rl_tokens.specs.declared.kind.Kind.{Kind}
+use Rattle.rl_tokens.specs.Quoted.{held, holds_characters, is_blank, is_line_end, is_string, is_plain, may_hold, may_be_hex, has_unicode}
+use Rattle.rl_grammar.specs.declared.units.Piece.{Piece}
+use Rattle.rl_grammar.specs.declared.units.Piece.TheVariants.{Character, Byte, Nothing}
+
+-- what a piece is in a literal of the kind
+abbrev pub piece_value : Kind → Piece → List ℕ
+piece_value kind (Character c) = held kind (c ∷ [])
+piece_value kind (Byte b) = b ∷ []
+piece_value kind Nothing = []
+
+-- where characters are held, a byte is one of ASCII
+abbrev pub IsPieceOf : Kind → Piece → Type 0
+IsPieceOf kind (Byte b) = IsTrue (not (holds_characters kind) || nat_lt b 128)
+IsPieceOf kind _ = ⊤
+
+infixl 10 ◌>>=◌
+abbrev pub ◌>>=◌ : {A B : Type 0} → Option A → (A → Option B) → Option B
+o >>= f = option_and_then f o
+
+-- a number and the text behind it, where the number is allowed
+abbrev pub number_if : Bool → ℕ → List ℕ → Option (ℕ × List ℕ)
+number_if allowed n rest = if allowed then Some (n, rest) else None
+
+-- what a unit stands for, and the text behind it
+abbrev pub found : List ℕ → List ℕ → Option (List ℕ × List ℕ)
+found value rest = Some (value, rest)
+
+-- what a backslash and one letter stand for
+abbrev pub named_of : ℕ → Option ℕ
+named_of c = if c == 110 then Some 10 else (if c == 114 then Some 13 else (if c == 116 then Some 9 else (if c == 92 then Some 92 else (if c == 39 then Some 39 else (if c == 34 then Some 34 else (if c == 48 then Some 0 else None))))))
+
+abbrev pub named_at : Kind → ℕ → List ℕ → Option (List ℕ × List ℕ)
+named_at kind c rest = named_of c >>= λ n. if may_hold kind n then found (n ∷ []) rest else None
+
+-- a digit of base 16 at the front
+abbrev pub digit_at : List ℕ → Option (ℕ × List ℕ)
+digit_at [] = None
+digit_at (c ∷ cs) = if nat_lt (digit_value c) 16 then Some (digit_value c, cs) else None
+
+-- the two digits of \x
+unfoldable pub hex_at : Kind → List ℕ → Option (ℕ × List ℕ)
+hex_at kind t = do
+  high ← digit_at t
+  low ← digit_at high.1
+  number_if (may_be_hex kind (high.0 * 16 + low.0)) (high.0 * 16 + low.0) low.1
+
+-- the digits and underscores up to the closing brace, behind n digits that spell v
+unfoldable pub digits_at : ℕ → ℕ → List ℕ → Option (ℕ × List ℕ)
+digits_at v n [] = None
+digits_at v n (c ∷ cs) = if c == 125 then number_if (scalar v) v cs else (if c == 95 then digits_at v n cs else (if nat_lt (digit_value c) 16 && nat_lt n 6 then digits_at (v * 16 + digit_value c) (n + 1) cs else None))
+
+-- an opening brace at the front
+abbrev pub brace_at : List ℕ → Option (List ℕ)
+brace_at [] = None
+brace_at (c ∷ cs) = if c == 123 then Some cs else None
+
+-- what follows \u
+unfoldable pub unicode_at : Kind → List ℕ → Option (ℕ × List ℕ)
+unicode_at kind t = do
+  inside ← brace_at t
+  first ← digit_at inside
+  whole ← digits_at first.0 1 first.1
+  number_if (has_unicode kind && may_hold kind whole.0) whole.0 whole.1
+
+-- what is left behind the blanks at the front
+unfoldable pub after_blanks : List ℕ → List ℕ
+after_blanks [] = []
+after_blanks (c ∷ cs) = if is_blank c then after_blanks cs else (c ∷ cs)
+
+-- what stands behind a backslash
+unfoldable pub escape_at : Kind → List ℕ → Option (List ℕ × List ℕ)
+escape_at kind [] = None
+escape_at kind (c ∷ cs) = if c == 120 then (hex_at kind cs >>= λ p. found (p.0 ∷ []) p.1) else (if c == 117 then (unicode_at kind cs >>= λ p. found (held kind (p.0 ∷ [])) p.1) else (if is_line_end c then (if is_string kind then found [] (after_blanks cs) else None) else named_at kind c cs))
+
+-- the LF of a line end of two characters
+abbrev pub line_feed_at : Kind → List ℕ → Option (List ℕ × List ℕ)
+line_feed_at kind [] = None
+line_feed_at kind (c ∷ cs) = if is_string kind && c == 10 then found (10 ∷ []) cs else None
+
+-- the unit at the front: what it stands for in a literal of the kind, and the text behind it
+unfoldable pub unit_at : Kind → List ℕ → Option (List ℕ × List ℕ)
+unit_at kind [] = None
+unit_at kind (c ∷ cs) = if c == 92 then escape_at kind cs else (if is_plain kind c then found (held kind (c ∷ [])) cs else (if c == 13 then line_feed_at kind cs else None))

@@ -1,0 +1,196 @@
+//! What quoted literals stand for.
+
+ghost use Rattle.std.specs.Prelude.{◌≡◌, ◌⊎◌, ◌++◌, [], ◌∷◌, ℕ, List, IsTrue, OnOk, IfOk, IfErr, string_bytes};
+ghost use Rattle.std.specs.Str.{chars};
+ghost use Rattle.rl_tokens.specs.declared.kind.Kind.{Kind as AnyKind};
+ghost use Rattle.rl_tokens.specs.Errors.{memory_at, nowhere};
+ghost use Rattle.rl_tokens.specs.Quoted.{is_string, is_single};
+ghost use Rattle.rl_tokens.specs.Reading.{Contents, Characters, Bytes, quoted_contents, ReadsQuoted, ReadsAs, HasContents};
+ghost use Rattle.rl_grammar.specs.UnitAt.{piece_value, IsPieceOf};
+ghost use Rattle.rl_grammar.specs.Decoded.{ContentsAre, ReadsAsQuoted, piece_bytes, Decodes, HoldsBytes};
+
+use crate::quoted::{Form, front, quoted_parts};
+use crate::units::{Piece, unit};
+use rl_tokens::{Error, ErrorKind, Kind, Span};
+use std::alloc::{AllocError, Allocator};
+
+/// Want of memory, told of no place in a text.
+fn out_of_memory() -> Error
+    ensures { result ≡ memory_at nowhere }
+{
+    Error {
+        span: Span::call_site(),
+        kind: ErrorKind::Memory,
+    }
+}
+
+/// Puts a piece at the end, a character as its UTF-8 bytes.
+fn push_piece<A: Allocator>(bytes: &mut Vec<u8, A>, piece: Piece) -> Result<(), AllocError>
+    ensures { OnOk result (bytes.new.items ≡ bytes.old.items ++ piece_bytes piece) }
+{
+    match piece {
+        Piece::Character(c) => bytes.extend_from_slice(c.encode_utf8(&mut [0; 4]).as_bytes()),
+        Piece::Byte(b) => Ok(bytes.push(b)?),
+        Piece::Nothing => Ok(()),
+    }
+}
+
+/// The bytes of the units at the front of a text, in one allocation: they are never more than the text's own.
+fn decode<A: Allocator>(alloc: A, kind: Kind, text: &str) -> Result<Vec<u8, A>, AllocError>
+    ensures { IfOk result (λ bytes. Decodes kind (chars text.now) bytes.items) }
+{
+    let mut bytes = Vec::with_capacity(alloc, text.len())?;
+    let mut rest = text;
+    while let Some((piece, after)) = unit(kind, rest) {
+        push_piece(&mut bytes, piece)?;
+        rest = after;
+    }
+    Ok(bytes)
+}
+
+/// The bytes that a string literal holds, those of its characters in UTF-8.
+fn held_bytes<A: Allocator>(alloc: A, text: &str) -> Result<Vec<u8, A>, AllocError>
+    requires { (kind : AnyKind) × ReadsAsQuoted kind (chars text.now) }
+    ensures { IfOk result (λ bytes. HoldsBytes (chars text.now) bytes.items) }
+{
+    let Some((form, parts)) = quoted_parts(text) else {
+        unreachable!()
+    };
+    match form {
+        // A raw string holds its body as it stands.
+        Form::Raw => Vec::from_slice(alloc, parts.body.as_bytes()),
+        _ => decode(alloc, parts.kind, parts.body),
+    }
+}
+
+/// The text that a string literal stands for. The text has to read as `Str`, as its shape tells.
+///
+/// # Errors
+///
+/// `Memory` where memory is refused, told at `Span::call_site`.
+pub fn str_of<A: Allocator>(alloc: A, text: &str) -> Result<String<A>, Error>
+    requires { ReadsAs Kind.Str (chars text.now) }
+    ensures value { IfOk result (λ s. ContentsAre Kind.Str (chars text.now) (Characters (chars (string_bytes s)))) }
+    ensures reads { IfOk result (λ s. HasContents Kind.Str (chars text.now) (Characters (chars (string_bytes s)))) }
+    ensures memory { IfErr result (λ e. e ≡ memory_at nowhere) }
+{
+    match held_bytes(alloc, text) {
+        // SAFETY: the bytes are those of characters in UTF-8, which is proved.
+        Ok(bytes) => Ok(unsafe { String::from_utf8_unchecked(bytes) }),
+        Err(_) => Err(out_of_memory()),
+    }
+}
+
+/// The bytes that a byte string or a C string literal stands for, with no zero added at the end. The text has to
+/// read as `ByteStr` or `CStr`, as its shape tells.
+///
+/// # Errors
+///
+/// `Memory` where memory is refused, told at `Span::call_site`.
+pub fn bytes_of<A: Allocator>(alloc: A, text: &str) -> Result<Vec<u8, A>, Error>
+    requires { ReadsAs Kind.ByteStr (chars text.now) ⊎ ReadsAs Kind.CStr (chars text.now) }
+    ensures byte_string { IfOk result (λ bytes. ContentsAre Kind.ByteStr (chars text.now) (Bytes bytes.items)) }
+    ensures c_string { IfOk result (λ bytes. ContentsAre Kind.CStr (chars text.now) (Bytes bytes.items)) }
+    ensures reads { IfOk result (λ bytes. HasContents Kind.ByteStr (chars text.now) (Bytes bytes.items)
+        ⊎ HasContents Kind.CStr (chars text.now) (Bytes bytes.items)) }
+    ensures memory { IfErr result (λ e. e ≡ memory_at nowhere) }
+{
+    match held_bytes(alloc, text) {
+        Ok(bytes) => Ok(bytes),
+        Err(_) => Err(out_of_memory()),
+    }
+}
+
+/// What the one unit of a character or a byte literal stands for.
+fn single_piece(kind: Kind, text: &str) -> Piece
+    requires single { IsTrue (is_single kind) }
+    requires reads { ReadsAsQuoted kind (chars text.now) }
+    ensures value { (v : Contents) (x : List ℕ) → ReadsQuoted (chars text.now) kind v x
+        → v ≡ quoted_contents kind (piece_value kind result) }
+    ensures one { (n : ℕ) × (piece_value kind result ≡ n ∷ []) }
+{
+    let Some((_, _, inside)) = front(text) else {
+        unreachable!()
+    };
+    let Some((piece, _)) = unit(kind, inside) else {
+        unreachable!()
+    };
+    piece
+}
+
+/// The byte that a byte literal stands for. The text has to read as `Byte`, as its shape tells.
+pub fn byte_of(text: &str) -> u8
+    requires { ReadsAs Kind.Byte (chars text.now) }
+    ensures value { ContentsAre Kind.Byte (chars text.now) (Bytes (result ∷ [])) }
+    ensures reads { HasContents Kind.Byte (chars text.now) (Bytes (result ∷ [])) }
+{
+    match single_piece(Kind::Byte, text) {
+        Piece::Byte(b) => b,
+        Piece::Character(c) => c as u8,
+        Piece::Nothing => unreachable!(),
+    }
+}
+
+/// The character that a character literal stands for. The text has to read as `Char`, as its shape tells.
+pub fn char_of(text: &str) -> char
+    requires { ReadsAs Kind.Char (chars text.now) }
+    ensures value { ContentsAre Kind.Char (chars text.now) (Characters (result ∷ [])) }
+    ensures reads { HasContents Kind.Char (chars text.now) (Characters (result ∷ [])) }
+{
+    match single_piece(Kind::Char, text) {
+        Piece::Character(c) => c,
+        Piece::Byte(b) => b as char,
+        Piece::Nothing => unreachable!(),
+    }
+}
+
+#[cfg(test)]
+mod tests {
+    use super::*;
+    use crate::quoted::quoted_shape;
+
+    fn holds_text<A: Allocator>(alloc: A, text: &str, value: &str) -> Result<bool, Error> {
+        let Some(parts) = quoted_shape(text) else {
+            return Ok(false);
+        };
+        match parts.kind {
+            Kind::Str => Ok(str_of(alloc, text)?.as_str() == value),
+            _ => Ok(false),
+        }
+    }
+
+    fn holds_bytes<A: Allocator>(alloc: A, text: &str, value: &[u8]) -> Result<bool, Error> {
+        let Some(parts) = quoted_shape(text) else {
+            return Ok(false);
+        };
+        match parts.kind {
+            Kind::ByteStr => Ok(bytes_of(alloc, text)?.as_slice() == value),
+            Kind::CStr => Ok(bytes_of(alloc, text)?.as_slice() == value),
+            _ => Ok(false),
+        }
+    }
+
+    fn single(text: &str) -> Option<u32> {
+        match quoted_shape(text)?.kind {
+            Kind::Byte => Some(byte_of(text) as u32),
+            Kind::Char => Some(char_of(text) as u32),
+            _ => None,
+        }
+    }
+
+    #[test]
+    fn contents(rt: HostRuntime) -> Result<(), Error> {
+        let cooked = "\"a\\x41\\u{1_F600_}\\\n \t b\\0é\r\n\"u8";
+        assert!(&rt; holds_text(rt.alloc(), cooked, "aA\u{1F600}b\0é\n")?);
+        assert!(&rt; holds_text(rt.alloc(), "r#\"a\\n\"é\"#", "a\\n\"é")?);
+        assert!(&rt; holds_bytes(rt.alloc(), "b\"\\xFF\\'é\"", b"\xFF'\xC3\xA9")?);
+        assert!(&rt; holds_bytes(rt.alloc(), "c\"\\u{e9}\\x80\\t\"", b"\xC3\xA9\x80\t")?);
+        assert!(&rt; holds_bytes(rt.alloc(), "br\"\\xFF\"", b"\\xFF")?);
+        assert!(&rt; single("b'\\xFF'") == Some(255));
+        assert!(&rt; single("b'a'x") == Some(97));
+        assert!(&rt; single("'é'") == Some(0xE9));
+        assert!(&rt; single("'\\u{1F600}'") == Some(0x1F600));
+        assert!(&rt; single("'\\n'") == Some(10));
+        Ok(())
+    }
+}

@@ -1,0 +1,177 @@
+//! The digits of numbers.
+
+ghost use Rattle.std.specs.Prelude.{◌≡◌, ◌++◌, List, IfErr, IfOk, OnOk, encode_utf8_all, string_bytes, ℕ, [], ◌∷◌};
+ghost use Rattle.std.specs.Fmt.{decimal};
+ghost use Rattle.std.specs.Str.{chars};
+ghost use Rattle.rl_tokens.specs.Errors.{memory_at, nowhere};
+ghost use Rattle.rl_tokens.specs.Numbers.{float_digits, sign_text};
+ghost use Rattle.rl_tokens.specs.declared.kind.Kind.TheVariants.{Float, Int};
+ghost use Rattle.rl_grammar.specs.NumberAt.{sign_at};
+ghost use Rattle.rl_grammar.specs.NumberShapes.{AreDigits, IsNumber, IsWithin};
+
+use crate::floats::float_shape;
+use crate::integers::read_integer;
+use crate::rows::is_negative;
+use rl_tokens::{Error, ErrorKind, Kind, Span};
+use std::alloc::{AllocError, Allocator};
+use std::fmt::Write;
+
+/// A minus, and the digits of the greatest magnitude.
+const INTEGER_DIGITS: usize = 40;
+
+/// The digits of a number in base ten.
+///
+/// Of an integer they are its magnitude in base ten, behind a minus where the text begins with one. Of a float they are
+/// all that stands before its suffix, without underscores and pluses and with `E` as `e`.
+///
+/// The text has to be a number of the kind: an integer within 128 bits, or a float, whether or not an integer stands
+/// there too. The one error is want of memory, told at the span of no text.
+pub fn digits_of<A: Allocator>(alloc: A, kind: Kind, text: &str) -> Result<String<A>, Error>
+    requires reads { IsNumber kind (chars text.now) }
+    ensures value { IfOk result (λ s. AreDigits kind (chars text.now) (chars (string_bytes s))) }
+    ensures memory { IfErr result (λ e. e ≡ memory_at nowhere) }
+{
+    let digits = match kind {
+        Kind::Int => integer_digits(alloc, text),
+        _ => float_digits(alloc, text),
+    };
+    match digits {
+        Ok(digits) => Ok(digits),
+        Err(_) => Err(Error {
+            span: Span::call_site(),
+            kind: ErrorKind::Memory,
+        }),
+    }
+}
+
+/// The magnitude of an integer literal.
+fn magnitude_of(text: &str) -> u128
+    requires { IsNumber Int (chars text.now) }
+    ensures { (x : List ℕ) × IsWithin (chars text.now) result x }
+{
+    let Some(integer) = read_integer(text) else {
+        unreachable!()
+    };
+    let Some(magnitude) = integer.magnitude else {
+        unreachable!()
+    };
+    magnitude
+}
+
+/// Writes a minus where the text begins with one.
+fn push_sign<A: Allocator>(digits: &mut String<A>, text: &str) -> Result<(), AllocError>
+    ensures { OnOk result
+        (string_bytes digits.new ≡ string_bytes digits.old ++ sign_text (sign_at (chars text.now))) }
+{
+    if is_negative(text) {
+        digits.push('-')
+    } else {
+        Ok(())
+    }
+}
+
+/// Writes a number in base ten.
+fn push_decimal<A: Allocator>(digits: &mut String<A>, number: u128) -> Result<(), AllocError>
+    ensures { OnOk result (string_bytes digits.new ≡ string_bytes digits.old ++ decimal number) }
+{
+    match write!(digits, "{number}") {
+        Ok(()) => Ok(()),
+        Err(_) => Err(AllocError),
+    }
+}
+
+/// The digits of an integer literal in base ten, with its sign.
+fn integer_digits<A: Allocator>(alloc: A, text: &str) -> Result<String<A>, AllocError>
+    requires { IsNumber Int (chars text.now) }
+    ensures { IfOk result (λ s. AreDigits Int (chars text.now) (chars (string_bytes s))) }
+{
+    let magnitude = magnitude_of(text);
+    let mut digits = String::with_capacity(alloc, INTEGER_DIGITS)?;
+    push_sign(&mut digits, text)?;
+    push_decimal(&mut digits, magnitude)?;
+    Ok(digits)
+}
+
+/// Writes a character of a numeral, if it belongs to the digits.
+fn push_plain<A: Allocator>(digits: &mut String<A>, c: char) -> Result<(), AllocError>
+    ensures { OnOk result
+        (string_bytes digits.new ≡ string_bytes digits.old ++ encode_utf8_all (float_digits (c ∷ []))) }
+{
+    match c {
+        '_' | '+' => Ok(()),
+        'E' => digits.push('e'),
+        _ => digits.push(c),
+    }
+}
+
+/// A numeral without its underscores and pluses, and with a small `e`.
+fn plain_numeral<A: Allocator>(alloc: A, numeral: &str) -> Result<String<A>, AllocError>
+    ensures { IfOk result (λ s. chars (string_bytes s) ≡ float_digits (chars numeral.now)) }
+{
+    let mut digits = String::with_capacity(alloc, numeral.len())?;
+    for c in numeral.chars() {
+        push_plain(&mut digits, c)?;
+    }
+    Ok(digits)
+}
+
+/// The digits of a float literal.
+fn float_digits<A: Allocator>(alloc: A, text: &str) -> Result<String<A>, AllocError>
+    requires { IsNumber Float (chars text.now) }
+    ensures { IfOk result (λ s. AreDigits Float (chars text.now) (chars (string_bytes s))) }
+{
+    let Some(parts) = float_shape(text) else {
+        unreachable!()
+    };
+    plain_numeral(alloc, parts.body)
+}
+
+#[cfg(test)]
+mod tests {
+    use super::*;
+    use crate::integers::int_shape;
+    use std::test::Fail;
+
+    /// Whether these are the digits of the integer that the text is.
+    fn integer_as<A: Allocator>(alloc: A, text: &str, wanted: &str) -> Result<bool, Error> {
+        match int_shape(text) {
+            Some(Some(_)) => Ok(digits_of(alloc, Kind::Int, text)?.as_str() == wanted),
+            _ => Ok(false),
+        }
+    }
+
+    /// Whether these are the digits of the float that the text is.
+    fn float_as<A: Allocator>(alloc: A, text: &str, wanted: &str) -> Result<bool, Error> {
+        match float_shape(text) {
+            Some(_) => Ok(digits_of(alloc, Kind::Float, text)?.as_str() == wanted),
+            None => Ok(false),
+        }
+    }
+
+    #[test]
+    fn of_integers(rt: HostRuntime) -> Result<(), Fail> {
+        let alloc = rt.alloc();
+        assert!(&rt; integer_as(alloc, "0xFF_u8", "255")?);
+        assert!(&rt; integer_as(alloc, "-0x1F", "-31")?);
+        assert!(&rt; integer_as(alloc, "-0", "-0")?);
+        assert!(&rt; integer_as(alloc, "007", "7")?);
+        assert!(&rt; integer_as(alloc, "1f64", "1")?);
+        let last = "-340282366920938463463374607431768211455";
+        assert!(&rt; integer_as(alloc, last, last)?);
+        Ok(())
+    }
+
+    #[test]
+    fn of_floats(rt: HostRuntime) -> Result<(), Fail> {
+        let alloc = rt.alloc();
+        assert!(&rt; float_as(alloc, "1_0.5E+1_0", "10.5e10")?);
+        assert!(&rt; float_as(alloc, "1__e__+__3", "1e3")?);
+        assert!(&rt; float_as(alloc, "1E_5x", "1e5")?);
+        assert!(&rt; float_as(alloc, "1.0_e", "1.0")?);
+        assert!(&rt; float_as(alloc, "1.", "1.")?);
+        assert!(&rt; float_as(alloc, "007", "007")?);
+        assert!(&rt; float_as(alloc, "1f64", "1")?);
+        assert!(&rt; float_as(alloc, "0x1F", "0")?);
+        Ok(())
+    }
+}

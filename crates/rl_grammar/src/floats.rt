@@ -1,0 +1,162 @@
+//! Floats: a whole part, perhaps a fraction and an exponent, and a suffix.
+
+ghost use Rattle.std.specs.Prelude.{◌≡◌, ◌++◌, IfNone, IfSome, option_map};
+ghost use Rattle.std.specs.Str.{chars};
+ghost use Rattle.rl_tokens.specs.declared.kind.Kind.TheVariants.{Float};
+ghost use Rattle.rl_tokens.specs.Texts.{IsBehind, is_underscore};
+ghost use Rattle.rl_tokens.specs.Numbers.{FloatReads};
+ghost use Rattle.rl_grammar.specs.NumberAt.{after_exponent, after_fraction, after_run, float_at, power_at};
+ghost use Rattle.rl_grammar.specs.NumberShapes.{HasNoFloat, HasOneFloat};
+
+use crate::parts::Parts;
+use crate::rows::{after_minus, begins_digit, cut_suffix, is_suffix, read_row};
+use rl_tokens::Kind;
+use rl_tokens::text::split_char;
+
+/// What follows a dot and its digits, or the text.
+#[tactic(auto, using(rl_tokens::proofs::BehindLemmas::behind_step, rl_tokens::proofs::BehindLemmas::behind_self))]
+fn after_fraction(text: &str) -> &str
+    ensures value { chars result.now ≡ after_fraction (chars text.now) }
+    ensures behind { IsBehind text.now result.now }
+{
+    match split_char(text) {
+        Some(('.', digits)) => read_row(digits, 10).rest,
+        _ => text,
+    }
+}
+
+/// What follows the underscores.
+#[tactic(auto, using(rl_tokens::proofs::BehindLemmas::behind_step, rl_tokens::proofs::BehindLemmas::behind_self), unfolding(crate::specs::NumberAt::after_run))]
+fn after_underscores(text: &str) -> &str
+    ensures value { chars result.now ≡ after_run is_underscore (chars text.now) }
+    ensures behind { IsBehind text.now result.now }
+{
+    let mut rest = text;
+    while let Some(('_', after)) = split_char(rest) {
+        rest = after;
+    }
+    rest
+}
+
+/// The digits of a power, behind its letter.
+#[tactic(auto, using(rl_tokens::proofs::BehindLemmas::behind_step, rl_tokens::proofs::BehindLemmas::behind_self), unfolding(crate::specs::NumberAt::power_at))]
+fn power_digits(text: &str) -> &str
+    ensures value { chars result.now ≡ power_at (chars text.now) }
+    ensures behind { IsBehind text.now result.now }
+{
+    let signed = after_underscores(text);
+    match split_char(signed) {
+        Some(('+' | '-', digits)) => digits,
+        _ => signed,
+    }
+}
+
+/// What follows an exponent, or the text.
+#[tactic(auto, using(rl_tokens::proofs::BehindLemmas::behind_step, rl_tokens::proofs::BehindLemmas::behind_self), unfolding(crate::specs::NumberAt::after_exponent))]
+fn after_exponent(text: &str) -> &str
+    ensures value { chars result.now ≡ after_exponent (chars text.now) }
+    ensures behind { IsBehind text.now result.now }
+{
+    if let Some(('e' | 'E', power)) = split_char(text) {
+        let row = read_row(power_digits(power), 10);
+        if row.has_digit {
+            return row.rest;
+        }
+    }
+    text
+}
+
+/// The suffix of the float that the text is.
+#[tactic(auto, using(rl_tokens::proofs::BehindLemmas::behind_step, rl_tokens::proofs::BehindLemmas::behind_self), unfolding(crate::specs::NumberAt::float_at))]
+fn float_suffix(text: &str) -> Option<&str>
+    ensures value { option_map (λ x. chars x.now) result ≡ float_at (chars text.now) }
+    ensures behind { IfSome result (λ x. IsBehind text.now x.now) }
+{
+    let whole = after_minus(text);
+    if !begins_digit(whole) {
+        return None;
+    }
+    let suffix = after_exponent(after_fraction(read_row(whole, 10).rest));
+    if is_suffix(suffix) {
+        Some(suffix)
+    } else {
+        None
+    }
+}
+
+/// The parts of a float literal, whether or not an integer stands there too.
+///
+/// The body is all that stands before the suffix, the sign included. Both are slices of the text.
+pub fn float_shape(text: &str) -> Option<Parts<'_>>
+    ensures none { IfNone result (HasNoFloat (chars text.now)) }
+    ensures reads { IfSome result
+        (λ p. FloatReads (chars text.now) (chars p.body.now) (chars p.suffix.now)) }
+    ensures kind { IfSome result (λ p. p.kind ≡ Float) }
+    ensures cut { IfSome result (λ p. text.now ≡ p.body.now ++ p.suffix.now) }
+    ensures behind { IfSome result (λ p. IsBehind text.now p.suffix.now) }
+    ensures once { HasOneFloat (chars text.now) }
+{
+    let suffix = float_suffix(text)?;
+    Some(cut_suffix(Kind::Float, text, suffix))
+}
+
+#[cfg(test)]
+mod tests {
+    use super::*;
+
+    fn reads_as(text: &str, body: &str, suffix: &str) -> bool {
+        match float_shape(text) {
+            Some(parts) => {
+                parts.kind == Kind::Float && parts.body == body && parts.suffix == suffix
+            }
+            None => false,
+        }
+    }
+
+    #[test]
+    fn fractions_and_exponents(rt: HostRuntime) {
+        for text in ["1e5", "1_0.5E+1_0", "1.", "1.e5", "1._5"] {
+            assert!(&rt; reads_as(text, text, ""));
+        }
+        for text in [
+            "1__e__+__3",
+            "-1e_-_5",
+            "340282366920938463463374607431768211456.0",
+        ] {
+            assert!(&rt; reads_as(text, text, ""));
+        }
+    }
+
+    #[test]
+    fn suffixes(rt: HostRuntime) {
+        assert!(&rt; reads_as("1e5e6", "1e5", "e6"));
+        assert!(&rt; reads_as("1.0e10f64", "1.0e10", "f64"));
+        assert!(&rt; reads_as("1E_5x", "1E_5", "x"));
+        assert!(&rt; reads_as("1.0_e", "1.0_", "e"));
+    }
+
+    #[test]
+    fn what_other_bases_leave(rt: HostRuntime) {
+        assert!(&rt; reads_as("0b12", "0", "b12"));
+        assert!(&rt; reads_as("0x", "0", "x"));
+        assert!(&rt; reads_as("0o8", "0", "o8"));
+        assert!(&rt; reads_as("0b", "0", "b"));
+    }
+
+    #[test]
+    fn integers_are_floats_too(rt: HostRuntime) {
+        assert!(&rt; reads_as("1f64", "1", "f64"));
+        assert!(&rt; reads_as("0x1F", "0", "x1F"));
+        assert!(&rt; reads_as("007", "007", ""));
+    }
+
+    #[test]
+    fn no_floats(rt: HostRuntime) {
+        for text in ["", "abc", "-true", "1e+", "1.0e+", "1..2"] {
+            assert!(&rt; float_shape(text).is_none());
+        }
+        for text in ["1-3", "1e5.0", "0x1.0", "1.2.3", "--1.0"] {
+            assert!(&rt; float_shape(text).is_none());
+        }
+    }
+}

@@ -1,0 +1,24 @@
+//! The grammars of Rust's literals: whether a text is one, of which kind, its parts and what it stands for.
+#![tactic(auto)]
+
+mod contents;
+mod cuts;
+mod digits;
+mod floats;
+mod integers;
+mod numbers;
+mod parts;
+mod quoted;
+mod reading;
+mod rows;
+pub mod strict;
+mod units;
+
+pub use crate::contents::{byte_of, bytes_of, char_of, str_of};
+pub use crate::digits::digits_of;
+pub use crate::floats::float_shape;
+pub use crate::integers::int_shape;
+pub use crate::numbers::shape_negative;
+pub use crate::parts::Parts;
+pub use crate::reading::shape;
+pub use rl_tokens::Kind;

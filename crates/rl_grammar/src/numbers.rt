@@ -1,0 +1,87 @@
+//! Numbers of either kind, an integer before a float.
+
+ghost use Rattle.std.specs.Prelude.{◌≡◌, ◌++◌, ◌∷◌, ◌⊎◌, IfNone, IfSome};
+ghost use Rattle.std.specs.Str.{chars};
+ghost use Rattle.rl_tokens.specs.declared.kind.Kind.TheVariants.{Float, Int};
+ghost use Rattle.rl_tokens.specs.Reading.{Contents, Reads};
+ghost use Rattle.rl_grammar.specs.NumberShapes.{HasNoNumber, HasNoReading, ReadsNumber};
+
+use crate::floats::float_shape;
+use crate::integers::int_shape;
+use crate::parts::Parts;
+use crate::rows::is_negative;
+
+/// The parts of a number: of an integer within 128 bits, or of a float where no integer of any magnitude stands.
+pub(crate) fn number_shape(text: &str) -> Option<Parts<'_>>
+    ensures none { IfNone result (HasNoNumber (chars text.now)) }
+    ensures reads { IfSome result
+        (λ p. (v : Contents) × ReadsNumber (chars text.now) p.kind v (chars p.suffix.now)) }
+    ensures cut { IfSome result (λ p. text.now ≡ p.body.now ++ p.suffix.now) }
+{
+    match int_shape(text) {
+        Some(parts) => parts,
+        None => float_shape(text),
+    }
+}
+
+/// The parts of the number that a minus and the text make.
+///
+/// `Some` exactly where the text with a minus before it reads as a literal; it is then an integer or a float. Body and
+/// suffix are slices of the text, without the minus.
+pub fn shape_negative(text: &str) -> Option<Parts<'_>>
+    ensures none { IfNone result (HasNoReading (45 ∷ chars text.now)) }
+    ensures reads { IfSome result
+        (λ p. (v : Contents) × Reads (45 ∷ chars text.now) p.kind v (chars p.suffix.now)) }
+    ensures number { IfSome result (λ p. (p.kind ≡ Int) ⊎ (p.kind ≡ Float)) }
+    ensures cut { IfSome result (λ p. text.now ≡ p.body.now ++ p.suffix.now) }
+{
+    if is_negative(text) {
+        return None;
+    }
+    number_shape(text)
+}
+
+#[cfg(test)]
+mod tests {
+    use super::*;
+    use rl_tokens::Kind;
+
+    #[test]
+    fn numbers_behind_a_minus(rt: HostRuntime) {
+        let integer = shape_negative("1u8");
+        let parts = Parts {
+            kind: Kind::Int,
+            body: "1",
+            suffix: "u8",
+        };
+        assert!(&rt; integer == Some(parts));
+        let float = shape_negative("1.5");
+        let parts = Parts {
+            kind: Kind::Float,
+            body: "1.5",
+            suffix: "",
+        };
+        assert!(&rt; float == Some(parts));
+        for text in [
+            "",
+            "-1",
+            "\"a\"",
+            "true",
+            "340282366920938463463374607431768211456",
+        ] {
+            assert!(&rt; shape_negative(text).is_none());
+        }
+    }
+
+    #[test]
+    fn integers_come_first(rt: HostRuntime) {
+        let parts = Parts {
+            kind: Kind::Int,
+            body: "1",
+            suffix: "f64",
+        };
+        assert!(&rt; number_shape("1f64") == Some(parts));
+        assert!(&rt; number_shape("340282366920938463463374607431768211456").is_none());
+        assert!(&rt; number_shape("-").is_none());
+    }
+}

@@ -1,0 +1,12 @@
+use rl_tokens::Kind;
+
+/// A literal's kind and the two parts of its text that vary, as slices of it.
+///
+/// Of a quoted literal the body is what stands between its quotes. Of a number it is all that stands before the
+/// suffix, sign and prefix included, and of a truth value the whole text.
+#[derive(Clone, Copy, PartialEq, Eq, Debug)]
+pub struct Parts<'t> {
+    pub kind: Kind,
+    pub body: &'t str,
+    pub suffix: &'t str,
+}

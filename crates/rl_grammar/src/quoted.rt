@@ -1,0 +1,208 @@
+//! Whether a text is a quoted literal, and the parts of one.
+
+ghost use Rattle.std.specs.Prelude.{◌≡◌, ◌≢◌, ◌==◌, ◌∷◌, ◌++◌, ◌≤◌, ℕ, List, None, length, option_map, not, IfSome, IfNone, IsTrue};
+ghost use Rattle.std.specs.List.{list_all};
+ghost use Rattle.std.specs.Str.{chars};
+ghost use Rattle.rl_tokens.specs.Texts.{IsBehind};
+ghost use Rattle.rl_tokens.specs.Quoted.{is_string, is_single, may_hold};
+ghost use Rattle.rl_tokens.specs.Reading.{Contents, ReadsQuoted};
+ghost use Rattle.rl_grammar.specs.UnitAt.{unit_at};
+ghost use Rattle.rl_grammar.specs.Rows.{BeginsRow};
+ghost use Rattle.rl_grammar.specs.Forms.{has_form, form_opener, string_front_at, byte_front_at, front_at, PartsAre, HasNoParts, after_hashes};
+ghost use Rattle.rl_grammar.specs.Shapes.{IsQuotedCut, HasNoQuoted};
+
+use crate::cuts::{before, behind_prefix, has_nul, split_last_quote};
+use crate::parts::Parts;
+use crate::units::unit;
+use rl_tokens::Kind;
+use rl_tokens::text::split_char;
+
+/// The forms of quoted literals: with escapes between `"`, as the text stands, and one unit between `'`.
+#[derive(Clone, Copy)]
+pub(crate) enum Form {
+    Cooked,
+    Raw,
+    Single,
+}
+
+/// What a `"` or an `r` at the front tells of a string of the kind.
+fn string_front(kind: Kind, text: &str) -> Option<(Form, Kind, &str)>
+    ensures { option_map (λ p. (p.0, p.1, chars p.2.now)) result ≡ string_front_at kind (chars text.now) }
+{
+    let (first, rest) = split_char(text)?;
+    match first {
+        '"' => Some((Form::Cooked, kind, rest)),
+        'r' => Some((Form::Raw, kind, rest)),
+        _ => None,
+    }
+}
+
+/// What the text behind a `b` tells.
+fn byte_front(text: &str) -> Option<(Form, Kind, &str)>
+    ensures { option_map (λ p. (p.0, p.1, chars p.2.now)) result ≡ byte_front_at (chars text.now) }
+{
+    match split_char(text) {
+        Some(('\'', rest)) => Some((Form::Single, Kind::Byte, rest)),
+        _ => string_front(Kind::ByteStr, text),
+    }
+}
+
+/// What a text's front tells: the one form and the one kind that the text can have, and the text behind the opener.
+#[tactic(auto, unfolding(crate::specs::Forms::front_at))]
+pub(crate) fn front(text: &str) -> Option<(Form, Kind, &str)>
+    ensures { option_map (λ p. (p.0, p.1, chars p.2.now)) result ≡ front_at (chars text.now) }
+{
+    let (first, rest) = split_char(text)?;
+    match first {
+        '\'' => Some((Form::Single, Kind::Char, rest)),
+        'b' => byte_front(rest),
+        'c' => string_front(Kind::CStr, rest),
+        _ => string_front(Kind::Str, text),
+    }
+}
+
+/// The text behind the units at its front, as far as they go.
+fn skip_units(kind: Kind, text: &str) -> &str
+    ensures row { (v : List ℕ) × BeginsRow kind (chars text.now) v (chars result.now) }
+    ensures stuck { unit_at kind (chars result.now) ≡ None }
+{
+    let mut rest = text;
+    while let Some((_, after)) = unit(kind, rest) {
+        rest = after;
+    }
+    rest
+}
+
+/// The text behind the hashes at its front.
+#[tactic(auto, unfolding(crate::specs::Forms::after_hashes))]
+pub(crate) fn skip_hashes(text: &str) -> &str
+    ensures { chars result.now ≡ after_hashes (chars text.now) }
+{
+    let mut rest = text;
+    while let Some(('#', after)) = split_char(rest) {
+        rest = after;
+    }
+    rest
+}
+
+/// The text in front of a rest that begins with the quote, and the text behind that quote.
+fn cut_at_quote<'t>(quote: char, text: &'t str, rest: &'t str) -> Option<(&'t str, &'t str)>
+    requires { IsBehind text.now rest.now }
+    ensures before { IfSome result (λ p. chars text.now ≡ chars p.0.now ++ chars rest.now) }
+    ensures quote { IfSome result (λ p. chars rest.now ≡ quote ∷ chars p.1.now) }
+    ensures none { IfNone result ((x : List ℕ) → chars rest.now ≢ quote ∷ x) }
+{
+    let (next, after) = split_char(rest)?;
+    if next == quote {
+        Some((before(text, rest), after))
+    } else {
+        None
+    }
+}
+
+/// The body and the suffix of a cooked string, from the text behind its opener.
+fn cooked_parts(kind: Kind, text: &str) -> Option<(&str, &str)>
+    requires { IsTrue (is_string kind) }
+    ensures some { IfSome result (λ p. (v : List ℕ)
+        × PartsAre Form.Cooked kind (form_opener Form.Cooked kind ++ chars text.now) v (chars p.0.now) (chars p.1.now)) }
+    ensures none { IfNone result (HasNoParts Form.Cooked kind (form_opener Form.Cooked kind ++ chars text.now)) }
+{
+    cut_at_quote('"', text, skip_units(kind, text))
+}
+
+/// The body and the suffix of a raw string, from its hashes on.
+fn raw_parts(kind: Kind, text: &str) -> Option<(&str, &str)>
+    requires { IsTrue (is_string kind) }
+    ensures some { IfSome result (λ p. (v : List ℕ)
+        × PartsAre Form.Raw kind (form_opener Form.Raw kind ++ chars text.now) v (chars p.0.now) (chars p.1.now)) }
+    ensures none { IfNone result (HasNoParts Form.Raw kind (form_opener Form.Raw kind ++ chars text.now)) }
+{
+    let (hashes, inside) = cut_at_quote('"', text, skip_hashes(text))?;
+    let (body, after) = split_last_quote(inside)?;
+    let suffix = behind_prefix(hashes, after)?;
+    if holds_all(kind, body) {
+        Some((body, suffix))
+    } else {
+        None
+    }
+}
+
+/// Whether the kind holds each character of the text.
+fn holds_all(kind: Kind, text: &str) -> bool
+    ensures { result ≡ list_all (may_hold kind) (chars text.now) }
+{
+    !matches!(kind, Kind::CStr) || !has_nul(text)
+}
+
+/// The body and the suffix of a character or a byte, from the text behind its opener.
+fn single_parts(kind: Kind, text: &str) -> Option<(&str, &str)>
+    requires { IsTrue (is_single kind) }
+    ensures some { IfSome result (λ p. (v : List ℕ)
+        × PartsAre Form.Single kind (form_opener Form.Single kind ++ chars text.now) v (chars p.0.now) (chars p.1.now)) }
+    ensures none { IfNone result (HasNoParts Form.Single kind (form_opener Form.Single kind ++ chars text.now)) }
+{
+    let (_, rest) = unit(kind, text)?;
+    cut_at_quote('\'', text, rest)
+}
+
+/// The body and the suffix of a literal of the form, from the text behind its opener.
+fn parts_inside(form: Form, kind: Kind, text: &str) -> Option<(&str, &str)>
+    requires { IsTrue (has_form form kind) }
+    ensures some { IfSome result (λ p. (v : List ℕ)
+        × PartsAre form kind (form_opener form kind ++ chars text.now) v (chars p.0.now) (chars p.1.now)) }
+    ensures none { IfNone result (HasNoParts form kind (form_opener form kind ++ chars text.now)) }
+{
+    match form {
+        Form::Cooked => cooked_parts(kind, text),
+        Form::Raw => raw_parts(kind, text),
+        Form::Single => single_parts(kind, text),
+    }
+}
+
+/// The form and the parts of a quoted literal: `None` where the text is none.
+pub(crate) fn quoted_parts(text: &str) -> Option<(Form, Parts<'_>)>
+    ensures some { IfSome result (λ p. (v : List ℕ)
+        × PartsAre p.0 p.1.kind (chars text.now) v (chars p.1.body.now) (chars p.1.suffix.now)) }
+    ensures none { IfNone result (HasNoQuoted (chars text.now)) }
+{
+    let (form, kind, inside) = front(text)?;
+    let (body, suffix) = parts_inside(form, kind, inside)?;
+    Some((form, Parts { kind, body, suffix }))
+}
+
+/// The parts of a quoted literal: `None` where the text is none.
+pub(crate) fn quoted_shape(text: &str) -> Option<Parts<'_>>
+    ensures reads { IfSome result (λ p. (v : Contents) × ReadsQuoted (chars text.now) p.kind v (chars p.suffix.now)) }
+    ensures cut { IfSome result (λ p. IsQuotedCut p.kind text.now p.body.now p.suffix.now) }
+    ensures behind { IfSome result (λ p. IsBehind text.now p.suffix.now) }
+    ensures none { IfNone result (HasNoQuoted (chars text.now)) }
+{
+    let quoted = quoted_parts(text)?;
+    Some(quoted.1)
+}
+
+#[cfg(test)]
+mod tests {
+    use super::*;
+
+    fn is(text: &str, kind: Kind, body: &str, suffix: &str) -> bool {
+        quoted_shape(text) == Some(Parts { kind, body, suffix })
+    }
+
+    #[test]
+    fn shapes(rt: HostRuntime) {
+        assert!(&rt; is("br##\"x\"##", Kind::ByteStr, "x", ""));
+        assert!(&rt; is("'\\u{1F600}'x", Kind::Char, "\\u{1F600}", "x"));
+        assert!(&rt; is("'''", Kind::Char, "'", ""));
+        assert!(&rt; is("b'''", Kind::Byte, "'", ""));
+        assert!(&rt; quoted_shape("c\"\\0\"").is_none());
+        assert!(&rt; is("\"a\\\n  b\"", Kind::Str, "a\\\n  b", ""));
+        assert!(&rt; is("\"a\"\r\n", Kind::Str, "a", "\r\n"));
+        assert!(&rt; is("\"a\r\nb\"", Kind::Str, "a\r\nb", ""));
+        assert!(&rt; quoted_shape("\"a\rb\"").is_none());
+        assert!(&rt; is("r#\"a\"b\"#tail", Kind::Str, "a\"b", "tail"));
+        assert!(&rt; is("r\"a\"b\"", Kind::Str, "a\"b", ""));
+        assert!(&rt; quoted_shape("r\"").is_none());
+        assert!(&rt; quoted_shape("r#\"a\"").is_none());
+    }
+}

@@ -1,0 +1,100 @@
+//! The one reading of a text: its kind and its parts.
+
+ghost use Rattle.std.specs.Prelude.{◌≡◌, ◌≢◌, Bool, IfNone, IfSome};
+ghost use Rattle.std.specs.Str.{chars};
+ghost use Rattle.rl_tokens.specs.declared.kind.Kind.TheVariants.{Bool as BoolKind};
+ghost use Rattle.rl_tokens.specs.Texts.{IsBehind};
+ghost use Rattle.rl_tokens.specs.Reading.{Contents, Reads, ReadsBool, truth_text};
+ghost use Rattle.rl_grammar.specs.NumberShapes.{HasNoReading};
+ghost use Rattle.rl_grammar.specs.WholeShapes.{HasNoTruth, IsCut};
+
+use crate::numbers::number_shape;
+use crate::parts::Parts;
+use crate::quoted::quoted_shape;
+use rl_tokens::Kind;
+
+/// The truth value that the text is.
+pub(crate) fn truth_of(text: &str) -> Option<bool>
+    ensures some { IfSome result (λ b. chars text.now ≡ truth_text b) }
+    ensures none { IfNone result ((b : Bool) → chars text.now ≢ truth_text b) }
+{
+    match text {
+        "true" => Some(true),
+        "false" => Some(false),
+        _ => None,
+    }
+}
+
+/// The parts of a truth value.
+fn truth_shape(text: &str) -> Option<Parts<'_>>
+    ensures none { IfNone result (HasNoTruth (chars text.now)) }
+    ensures reads { IfSome result (λ p. (v : Contents) × ReadsBool (chars text.now) v (chars p.suffix.now)) }
+    ensures kind { IfSome result (λ p. p.kind ≡ BoolKind) }
+    ensures cut { IfSome result (λ p. IsCut BoolKind text.now p.body.now p.suffix.now) }
+    ensures behind { IfSome result (λ p. IsBehind text.now p.suffix.now) }
+{
+    truth_of(text)?;
+    Some(Parts {
+        kind: Kind::Bool,
+        body: text,
+        suffix: &text[text.len()..],
+    })
+}
+
+/// The kind of a literal and its parts: `None` where the text is no literal, or an integer past 128 bits.
+///
+/// Of a quoted literal the body is what stands between its quotes, of a number all that stands before its suffix, sign
+/// and prefix included, and of a truth value the whole text. Body and suffix are slices of the text.
+pub fn shape(text: &str) -> Option<Parts<'_>>
+    ensures none { IfNone result (HasNoReading (chars text.now)) }
+    ensures reads { IfSome result
+        (λ p. (v : Contents) × Reads (chars text.now) p.kind v (chars p.suffix.now)) }
+    ensures cut { IfSome result (λ p. IsCut p.kind text.now p.body.now p.suffix.now) }
+    ensures behind { IfSome result (λ p. IsBehind text.now p.suffix.now) }
+{
+    if let Some(parts) = quoted_shape(text) {
+        return Some(parts);
+    }
+    if let Some(parts) = number_shape(text) {
+        return Some(parts);
+    }
+    truth_shape(text)
+}
+
+#[cfg(test)]
+mod tests {
+    use super::*;
+
+    fn reads_as(text: &str, kind: Kind, body: &str, suffix: &str) -> bool {
+        shape(text) == Some(Parts { kind, body, suffix })
+    }
+
+    #[test]
+    fn one_of_each_kind(rt: HostRuntime) {
+        assert!(&rt; reads_as("\"a\\x41\\n\"q", Kind::Str, "a\\x41\\n", "q"));
+        assert!(&rt; reads_as("r#\"a\"b\"#tail", Kind::Str, "a\"b", "tail"));
+        assert!(&rt; reads_as("br\"\\x41\"", Kind::ByteStr, "\\x41", ""));
+        assert!(&rt; reads_as("c\"a\"", Kind::CStr, "a", ""));
+        assert!(&rt; reads_as("b'f'", Kind::Byte, "f", ""));
+        assert!(&rt; reads_as("'''", Kind::Char, "'", ""));
+        assert!(&rt; reads_as("0xFF_u8", Kind::Int, "0xFF_", "u8"));
+        assert!(&rt; reads_as("-1.0e10f64", Kind::Float, "-1.0e10", "f64"));
+        assert!(&rt; reads_as("true", Kind::Bool, "true", ""));
+        assert!(&rt; reads_as("false", Kind::Bool, "false", ""));
+    }
+
+    #[test]
+    fn no_literals(rt: HostRuntime) {
+        for text in ["", "(/*ERROR*/)", "True", "true ", "-true", "r", "b", "abc"] {
+            assert!(&rt; shape(text).is_none());
+        }
+        for text in [
+            "'ab'",
+            "\"",
+            "c\"\\0\"",
+            "340282366920938463463374607431768211456",
+        ] {
+            assert!(&rt; shape(text).is_none());
+        }
+    }
+}

@@ -1,0 +1,129 @@
+//! Rows of digits and underscores, and what may stand before and behind them.
+
+ghost use Rattle.std.specs.Prelude.{◌≡◌, ◌++◌, ◌<◌, ◌≤◌, Bool, None, Option, Some, false, if◌then◌else◌, ℕ};
+ghost use Rattle.std.specs.Char.{is_ascii_digit};
+ghost use Rattle.std.specs.Str.{chars};
+ghost use Rattle.rl_tokens.specs.Texts.{IsBehind, passes};
+ghost use Rattle.rl_tokens.specs.Numbers.{Minus, NoSign};
+ghost use Rattle.rl_grammar.specs.NumberAt.{after_digits, after_minus, append_digit, capped, has_digit_at, is_exponent_suffix, is_suffix, magnitude_at, row_from, sign_at};
+
+use crate::parts::Parts;
+use rl_tokens::Kind;
+use rl_tokens::ident::xid_ok;
+use rl_tokens::text::split_char;
+
+/// A row of digits and underscores, read.
+#[derive(Clone, Copy)]
+pub(crate) struct Row<'t> {
+    pub has_digit: bool,
+    /// What the digits spell, if 128 bits hold it.
+    pub magnitude: Option<u128>,
+    pub rest: &'t str,
+}
+
+/// A magnitude with one more digit, if 128 bits hold it.
+fn append_digit(magnitude: Option<u128>, radix: u32, digit: u32) -> Option<u128>
+    requires { (2 ≤ radix) × (digit < radix) }
+    ensures { result ≡ append_digit radix magnitude digit }
+{
+    magnitude?
+        .checked_mul(u128::from(radix))?
+        .checked_add(u128::from(digit))
+}
+
+/// The digits and underscores at the front of the text.
+#[tactic(auto, using(rl_tokens::proofs::BehindLemmas::behind_step, rl_tokens::proofs::BehindLemmas::behind_self), unfolding(crate::specs::NumberAt::row_from))]
+pub(crate) fn read_row(text: &str, radix: u32) -> Row<'_>
+    requires { (2 ≤ radix) × (radix ≤ 36) }
+    ensures value { (result.has_digit, result.magnitude, chars result.rest.now)
+        ≡ row_from radix false (Some 0) (chars text.now) }
+    ensures has_digit { result.has_digit ≡ has_digit_at radix (chars text.now) }
+    ensures magnitude { result.magnitude ≡ capped (magnitude_at radix (chars text.now)) }
+    ensures rest { chars result.rest.now ≡ after_digits radix (chars text.now) }
+    ensures behind { IsBehind text.now result.rest.now }
+{
+    let mut has_digit = false;
+    let mut magnitude = Some(0_u128);
+    let mut rest = text;
+    while let Some((c, after)) = split_char(rest) {
+        if c != '_' {
+            match c.to_digit(radix) {
+                Some(digit) => {
+                    has_digit = true;
+                    magnitude = append_digit(magnitude, radix, digit);
+                }
+                None => break,
+            }
+        }
+        rest = after;
+    }
+    Row {
+        has_digit,
+        magnitude,
+        rest,
+    }
+}
+
+/// Whether the text may be the suffix of a number.
+pub(crate) fn is_suffix(text: &str) -> bool
+    ensures { result ≡ is_suffix (chars text.now) }
+{
+    match split_char(text) {
+        Some((first, _)) => first != '_' && xid_ok(text),
+        None => true,
+    }
+}
+
+/// Whether the suffix makes a decimal integer an exponent.
+#[tactic(auto, unfolding(crate::specs::NumberAt::is_exponent_suffix))]
+pub(crate) fn is_exponent_suffix(text: &str) -> bool
+    ensures { result ≡ is_exponent_suffix (chars text.now) }
+{
+    match split_char(text) {
+        Some(('e' | 'E', rest)) => {
+            let power = read_row(rest, 10);
+            power.has_digit && is_suffix(power.rest)
+        }
+        _ => false,
+    }
+}
+
+/// Whether the text begins with a minus.
+pub(crate) fn is_negative(text: &str) -> bool
+    ensures { sign_at (chars text.now) ≡ (if result then Minus else NoSign) }
+{
+    matches!(split_char(text), Some(('-', _)))
+}
+
+/// What follows a minus, or the text.
+pub(crate) fn after_minus(text: &str) -> &str
+    ensures value { chars result.now ≡ after_minus (chars text.now) }
+    ensures behind { IsBehind text.now result.now }
+{
+    match split_char(text) {
+        Some(('-', rest)) => rest,
+        _ => text,
+    }
+}
+
+/// Whether the text begins with a decimal digit.
+pub(crate) fn begins_digit(text: &str) -> bool
+    ensures { result ≡ passes is_ascii_digit (chars text.now) }
+{
+    match split_char(text) {
+        Some((first, _)) => first.is_ascii_digit(),
+        None => false,
+    }
+}
+
+/// The parts of a number that ends with this suffix.
+pub(crate) fn cut_suffix<'t>(kind: Kind, text: &'t str, suffix: &'t str) -> Parts<'t>
+    requires { IsBehind text.now suffix.now }
+    ensures kind { result.kind ≡ kind }
+    ensures suffix { result.suffix.now ≡ suffix.now }
+    ensures cut { text.now ≡ result.body.now ++ suffix.now }
+    ensures chars { chars text.now ≡ chars result.body.now ++ chars suffix.now }
+{
+    let body = &text[..text.len() - suffix.len()];
+    Parts { kind, body, suffix }
+}

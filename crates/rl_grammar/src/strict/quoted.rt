@@ -1,0 +1,121 @@
+//! How strict quoted literals end.
+
+ghost use Rattle.std.specs.Prelude.{◌≡◌, ◌≢◌, ◌∷◌, ◌↔◌, ◌==◌, ◌&&◌, ◌++◌, IfNone, IfSome, IsFalse, IsTrue, List, None, ℕ};
+ghost use Rattle.std.specs.Str.{chars};
+ghost use Rattle.rl_tokens.specs.Texts.{begins};
+ghost use Rattle.rl_tokens.specs.Quoted.{is_single, is_string};
+ghost use Rattle.rl_grammar.specs.StrictAt.{ends_quoted, ends_raw, is_raw_character, unit_rest};
+ghost use Rattle.rl_grammar.specs.StrictShapes.{ClosesRaw, ClosesUnits};
+
+use crate::cuts::{before, behind_prefix};
+use crate::quoted::skip_hashes;
+use crate::strict::units::skip_unit;
+use crate::strict::words::is_suffix;
+use rl_tokens::Kind;
+use rl_tokens::text::split_char;
+
+/// Whether the text is a quote and a suffix.
+fn ends_quoted(quote: char, text: &str) -> bool
+    ensures { result ≡ ends_quoted quote (chars text.now) }
+{
+    match split_char(text) {
+        Some((next, suffix)) => next == quote && is_suffix(suffix),
+        None => false,
+    }
+}
+
+/// The text behind the units at its front, as far as they go.
+fn skip_units(kind: Kind, text: &str) -> &str
+    requires { IsTrue (is_string kind) }
+    ensures same { ClosesUnits kind (chars result.now) ↔ ClosesUnits kind (chars text.now) }
+    ensures stuck { unit_rest kind (chars result.now) ≡ None }
+{
+    let mut rest = text;
+    while let Some(after) = skip_unit(kind, rest) {
+        rest = after;
+    }
+    rest
+}
+
+/// Whether units, a quote and a suffix follow.
+pub(crate) fn closes_string(kind: Kind, text: &str) -> bool
+    requires { IsTrue (is_string kind) }
+    ensures { IsTrue result ↔ ClosesUnits kind (chars text.now) }
+{
+    ends_quoted('"', skip_units(kind, text))
+}
+
+/// Whether one unit, a quote and a suffix follow.
+pub(crate) fn closes_one(kind: Kind, text: &str) -> bool
+    requires { IsTrue (is_single kind) }
+    ensures { IsTrue result ↔ ClosesUnits kind (chars text.now) }
+{
+    match skip_unit(kind, text) {
+        Some(rest) => ends_quoted('\'', rest),
+        None => false,
+    }
+}
+
+/// Whether a raw string of the kind may hold the character.
+fn is_raw_character(kind: Kind, c: char) -> bool
+    ensures { result ≡ is_raw_character kind c }
+{
+    match kind {
+        Kind::Str => c != '\r',
+        Kind::ByteStr => c.is_ascii() && c != '\r',
+        Kind::CStr => c != '\0' && c != '\r',
+        _ => false,
+    }
+}
+
+/// The text behind the closer that begins with the character, if the hashes follow it.
+fn behind_closer<'t>(hashes: &str, c: char, after: &'t str) -> Option<&'t str>
+    ensures some { IfSome result (λ r. (c ≡ 34) × (chars after.now ≡ chars hashes.now ++ chars r.now)) }
+    ensures none { IfNone result (IsFalse (c == 34 && begins (chars hashes.now) (chars after.now))) }
+{
+    if c == '"' {
+        behind_prefix(hashes, after)
+    } else {
+        None
+    }
+}
+
+/// Whether the contents of a raw string, the first quote with its hashes behind it, and a suffix follow.
+#[tactic(auto, unfolding(crate::specs::StrictAt::ends_raw))]
+fn ends_raw(kind: Kind, hashes: &str, text: &str) -> bool
+    ensures { result ≡ ends_raw kind (chars hashes.now) (chars text.now) }
+{
+    let mut rest = text;
+    while let Some((c, after)) = split_char(rest) {
+        if let Some(suffix) = behind_closer(hashes, c, after) {
+            return is_suffix(suffix);
+        }
+        if !is_raw_character(kind, c) {
+            return false;
+        }
+        rest = after;
+    }
+    false
+}
+
+/// The text behind the quote at its front.
+fn behind_quote(text: &str) -> Option<&str>
+    ensures some { IfSome result (λ r. chars text.now ≡ 34 ∷ chars r.now) }
+    ensures none { IfNone result ((x : List ℕ) → chars text.now ≢ 34 ∷ x) }
+{
+    let (next, rest) = split_char(text)?;
+    if next == '"' { Some(rest) } else { None }
+}
+
+/// Whether hashes, a quote and what ends a raw string follow.
+pub(crate) fn closes_raw(kind: Kind, text: &str) -> bool
+    requires { IsTrue (is_string kind) }
+    ensures { IsTrue result ↔ ClosesRaw kind (chars text.now) }
+{
+    let rest = skip_hashes(text);
+    let hashes = before(text, rest);
+    match behind_quote(rest) {
+        Some(inside) => hashes.len() < 256 && ends_raw(kind, hashes, inside),
+        None => false,
+    }
+}

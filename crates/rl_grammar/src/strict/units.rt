@@ -1,0 +1,87 @@
+//! The units that stand between the quotes of a strict literal.
+
+ghost use Rattle.std.specs.Prelude.{◌≡◌, ◌<◌, ◌≤◌, ◌∷◌, IfSome, length, option_map};
+ghost use Rattle.std.specs.Str.{chars};
+ghost use Rattle.rl_tokens.specs.Quoted.{is_string};
+ghost use Rattle.rl_tokens.specs.Strict.{Itself, is_dropped_blank, is_strict_unit};
+ghost use Rattle.rl_grammar.specs.NumberAt.{after_run};
+ghost use Rattle.rl_grammar.specs.StrictAt.{escape_rest, unit_rest};
+
+use crate::units::unit;
+use rl_tokens::Kind;
+use rl_tokens::text::split_char;
+
+/// Whether the kind is one of the three kinds of strings.
+fn is_string(kind: Kind) -> bool
+    ensures { result ≡ is_string kind }
+{
+    matches!(kind, Kind::Str | Kind::ByteStr | Kind::CStr)
+}
+
+/// Whether the kind takes the character as it is.
+fn is_bare(kind: Kind, c: char) -> bool
+    ensures { result ≡ is_strict_unit kind (Itself c) }
+{
+    match kind {
+        Kind::Char => !matches!(c, '\'' | '\\' | '\n' | '\r' | '\t'),
+        Kind::Byte => c.is_ascii() && !matches!(c, '\'' | '\\' | '\n' | '\r' | '\t'),
+        Kind::Str => !matches!(c, '"' | '\\' | '\r'),
+        Kind::ByteStr => c.is_ascii() && !matches!(c, '"' | '\\' | '\r'),
+        Kind::CStr => !matches!(c, '"' | '\\' | '\r' | '\0'),
+        Kind::Int | Kind::Float | Kind::Bool => false,
+    }
+}
+
+/// The text behind the spaces, TABs and LFs.
+#[tactic(auto, unfolding(crate::specs::NumberAt::after_run))]
+fn skip_blanks(text: &str) -> &str
+    ensures value { chars result.now ≡ after_run is_dropped_blank (chars text.now) }
+    ensures shorter { length result.now ≤ length text.now }
+{
+    let mut rest = text;
+    while let Some((' ' | '\t' | '\n', after)) = split_char(rest) {
+        rest = after;
+    }
+    rest
+}
+
+/// The text behind an escape, whose backslash stands before the second text.
+///
+/// But for line breaks the lenient escapes are the strict ones.
+fn skip_escape<'t>(kind: Kind, text: &'t str, behind: &'t str) -> Option<&'t str>
+    requires backslash { chars text.now ≡ 92 ∷ chars behind.now }
+    requires shorter { length behind.now < length text.now }
+    ensures value { option_map (λ r. chars r.now) result ≡ escape_rest kind (chars behind.now) }
+    ensures shorter { IfSome result (λ r. length r.now < length text.now) }
+{
+    match split_char(behind)? {
+        ('\n', blanks) => {
+            if is_string(kind) {
+                Some(skip_blanks(blanks))
+            } else {
+                None
+            }
+        }
+        ('\r', _) => None,
+        _ => {
+            let (_, rest) = unit(kind, text)?;
+            Some(rest)
+        }
+    }
+}
+
+/// The text behind the unit at the front: `None` where no unit of the kind stands there.
+#[tactic(auto, unfolding(crate::specs::StrictAt::unit_rest))]
+pub(crate) fn skip_unit(kind: Kind, text: &str) -> Option<&str>
+    ensures value { option_map (λ r. chars r.now) result ≡ unit_rest kind (chars text.now) }
+    ensures shorter { IfSome result (λ r. length r.now < length text.now) }
+{
+    let (first, behind) = split_char(text)?;
+    if first == '\\' {
+        skip_escape(kind, text, behind)
+    } else if is_bare(kind, first) {
+        Some(behind)
+    } else {
+        None
+    }
+}

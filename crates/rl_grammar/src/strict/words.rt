@@ -1,0 +1,57 @@
+//! Suffixes of the strict grammar.
+
+ghost use Rattle.std.specs.Prelude.{◌≡◌};
+ghost use Rattle.std.specs.List.{list_all};
+ghost use Rattle.std.specs.Str.{chars};
+ghost use Rattle.rl_tokens.specs.Texts.{is_continue, is_start, is_white};
+ghost use Rattle.rl_grammar.specs.StrictAt.{is_number_suffix, is_some_text, is_strict_suffix};
+
+use rl_tokens::text::split_char;
+
+/// Whether the character is white space.
+fn is_white(c: char) -> bool
+    ensures { result ≡ is_white c }
+{
+    c.is_whitespace() || matches!(c, '\u{200e}' | '\u{200f}')
+}
+
+/// Whether the character may begin an identifier token.
+fn is_start(c: char) -> bool
+    ensures { result ≡ is_start c }
+{
+    (c == '_' || unicode_ident::is_xid_start(c)) && !is_white(c)
+}
+
+/// Whether each character may go on with an identifier token.
+fn all_continue(text: &str) -> bool
+    ensures { result ≡ list_all is_continue (chars text.now) }
+{
+    text.chars()
+        .all(|c| unicode_ident::is_xid_continue(c) && !is_white(c))
+}
+
+/// Whether the text is not empty.
+fn is_some_text(text: &str) -> bool
+    ensures { result ≡ is_some_text (chars text.now) }
+{
+    split_char(text).is_some()
+}
+
+/// Whether the text may be the suffix of a quoted literal: nothing, or a word.
+#[tactic(auto, unfolding(crate::specs::StrictAt::is_strict_suffix))]
+pub(crate) fn is_suffix(text: &str) -> bool
+    ensures { result ≡ is_strict_suffix (chars text.now) }
+{
+    match split_char(text) {
+        Some(('_', rest)) => is_some_text(rest) && all_continue(rest),
+        Some((first, rest)) => is_start(first) && all_continue(rest),
+        None => true,
+    }
+}
+
+/// Whether the text may be the suffix of a number: a suffix that doesn't begin with `_`.
+pub(crate) fn is_number_suffix(text: &str) -> bool
+    ensures { result ≡ is_number_suffix (chars text.now) }
+{
+    !matches!(split_char(text), Some(('_', _))) && is_suffix(text)
+}

@@ -1,0 +1,225 @@
+//! The units that stand between the quotes of a literal: characters and escapes.
+
+ghost use Rattle.std.specs.Prelude.{◌≡◌, ◌<◌, ◌≤◌, length, option_map, IfSome, IsTrue};
+ghost use Rattle.std.specs.Str.{chars};
+ghost use Rattle.rl_tokens.specs.Quoted.{holds_characters, is_string, is_plain, may_hold, may_be_hex, has_unicode};
+ghost use Rattle.rl_grammar.specs.UnitAt.{piece_value, IsPieceOf, named_of, named_at, digit_at, hex_at, digits_at, unicode_at, after_blanks, escape_at, line_feed_at, unit_at};
+
+use rl_tokens::Kind;
+use rl_tokens::text::split_char;
+
+/// What a unit stands for. A character counts as its UTF-8 bytes where the kind holds bytes.
+#[derive(Clone, Copy)]
+pub(crate) enum Piece {
+    Character(char),
+    Byte(u8),
+    Nothing,
+}
+
+/// Whether the kind holds characters rather than bytes.
+fn holds_characters(kind: Kind) -> bool
+    ensures { result ≡ holds_characters kind }
+{
+    matches!(kind, Kind::Str | Kind::Char)
+}
+
+/// Whether the kind is one of the three kinds of strings.
+fn is_string(kind: Kind) -> bool
+    ensures { result ≡ is_string kind }
+{
+    matches!(kind, Kind::Str | Kind::ByteStr | Kind::CStr)
+}
+
+/// Whether the kind takes the character as it is.
+fn is_plain(kind: Kind, c: char) -> bool
+    ensures { result ≡ is_plain kind c }
+{
+    match kind {
+        Kind::Str | Kind::ByteStr => !matches!(c, '"' | '\\' | '\r'),
+        Kind::CStr => !matches!(c, '"' | '\\' | '\r' | '\0'),
+        Kind::Char => c != '\\',
+        Kind::Byte => c.is_ascii() && c != '\\',
+        Kind::Int | Kind::Float | Kind::Bool => false,
+    }
+}
+
+/// Whether the kind holds the number: a C string holds no zero.
+fn may_hold(kind: Kind, code: u32) -> bool
+    ensures { result ≡ may_hold kind code }
+{
+    !matches!(kind, Kind::CStr) || code != 0
+}
+
+/// Whether the kind has an escape `\xHH` of the number.
+fn may_be_hex(kind: Kind, code: u32) -> bool
+    ensures { result ≡ may_be_hex kind code }
+{
+    may_hold(kind, code) && (!holds_characters(kind) || code < 128)
+}
+
+/// Whether the kind has escapes `\u{..}`.
+fn has_unicode(kind: Kind) -> bool
+    ensures { result ≡ has_unicode kind }
+{
+    !matches!(kind, Kind::ByteStr | Kind::Byte)
+}
+
+/// What a backslash and this letter stand for.
+fn named_value(letter: char) -> Option<u8>
+    ensures value { result ≡ named_of letter }
+    ensures ascii { IfSome result (λ n. n < 128) }
+{
+    match letter {
+        'n' => Some(b'\n'),
+        'r' => Some(b'\r'),
+        't' => Some(b'\t'),
+        '\\' => Some(b'\\'),
+        '\'' => Some(b'\''),
+        '"' => Some(b'"'),
+        '0' => Some(0),
+        _ => None,
+    }
+}
+
+/// A hexadecimal digit at the front, and the text behind it.
+fn digit(text: &str) -> Option<(u32, &str)>
+    ensures value { option_map (λ p. (p.0, chars p.1.now)) result ≡ digit_at (chars text.now) }
+    ensures shorter { IfSome result (λ p. (p.0 < 16) × (length p.1.now < length text.now)) }
+{
+    let (first, rest) = split_char(text)?;
+    Some((first.to_digit(16)?, rest))
+}
+
+/// The number of the two digits of `\x`, and the text behind them.
+#[tactic(auto, unfolding(crate::specs::UnitAt::hex_at))]
+fn hex_escape(kind: Kind, text: &str) -> Option<(u8, &str)>
+    ensures value { option_map (λ p. (p.0, chars p.1.now)) result ≡ hex_at kind (chars text.now) }
+    ensures ascii { IfSome result (λ p. IsTrue (holds_characters kind) → p.0 < 128) }
+    ensures shorter { IfSome result (λ p. length p.1.now < length text.now) }
+{
+    let (high, rest) = digit(text)?;
+    let (low, rest) = digit(rest)?;
+    let code = high * 16 + low;
+    if may_be_hex(kind, code) {
+        Some((code as u8, rest))
+    } else {
+        None
+    }
+}
+
+/// What follows the first digit of `\u{`: the character of all the digits, and the text behind the brace.
+#[tactic(auto, unfolding(crate::specs::UnitAt::digits_at))]
+fn more_digits(text: &str, first: u32) -> Option<(char, &str)>
+    requires { first < 16 }
+    ensures value { option_map (λ p. (p.0, chars p.1.now)) result ≡ digits_at first 1 (chars text.now) }
+    ensures shorter { IfSome result (λ p. length p.1.now < length text.now) }
+{
+    let mut value = first;
+    let mut digits = 1_u32;
+    let mut rest = text;
+    loop {
+        let (next, after) = split_char(rest)?;
+        rest = after;
+        if next == '}' {
+            return Some((char::from_u32(value)?, rest));
+        }
+        if next != '_' {
+            let digit = next.to_digit(16)?;
+            if digits == 6 {
+                return None;
+            }
+            value = value * 16 + digit;
+            digits += 1;
+        }
+    }
+}
+
+/// The character of `\u{..}` from its brace on, and the text behind it.
+#[tactic(auto, unfolding(crate::specs::UnitAt::unicode_at))]
+fn unicode_escape(kind: Kind, text: &str) -> Option<(char, &str)>
+    ensures value { option_map (λ p. (p.0, chars p.1.now)) result ≡ unicode_at kind (chars text.now) }
+    ensures shorter { IfSome result (λ p. length p.1.now < length text.now) }
+{
+    let (brace, inside) = split_char(text)?;
+    if brace != '{' {
+        return None;
+    }
+    let (first, rest) = digit(inside)?;
+    let (c, rest) = more_digits(rest, first)?;
+    if has_unicode(kind) && may_hold(kind, c as u32) {
+        Some((c, rest))
+    } else {
+        None
+    }
+}
+
+/// The text behind the spaces, TABs, LFs and CRs.
+#[tactic(auto, unfolding(crate::specs::UnitAt::after_blanks))]
+fn skip_blanks(text: &str) -> &str
+    ensures value { chars result.now ≡ after_blanks (chars text.now) }
+    ensures shorter { length result.now ≤ length text.now }
+{
+    let mut rest = text;
+    while let Some((' ' | '\t' | '\n' | '\r', after)) = split_char(rest) {
+        rest = after;
+    }
+    rest
+}
+
+/// What the escape stands for whose backslash stands before the text, and the text behind it.
+#[tactic(auto, unfolding(crate::specs::UnitAt::escape_at))]
+fn escape(kind: Kind, text: &str) -> Option<(Piece, &str)>
+    ensures value { option_map (λ p. (piece_value kind p.0, chars p.1.now)) result ≡ escape_at kind (chars text.now) }
+    ensures piece { IfSome result (λ p. IsPieceOf kind p.0) }
+    ensures shorter { IfSome result (λ p. length p.1.now < length text.now) }
+{
+    let (letter, rest) = split_char(text)?;
+    match letter {
+        'x' => {
+            let (code, rest) = hex_escape(kind, rest)?;
+            Some((Piece::Byte(code), rest))
+        }
+        'u' => {
+            let (c, rest) = unicode_escape(kind, rest)?;
+            Some((Piece::Character(c), rest))
+        }
+        '\n' | '\r' => {
+            if is_string(kind) {
+                Some((Piece::Nothing, skip_blanks(rest)))
+            } else {
+                None
+            }
+        }
+        _ => {
+            let code = named_value(letter)?;
+            if may_hold(kind, code as u32) {
+                Some((Piece::Byte(code), rest))
+            } else {
+                None
+            }
+        }
+    }
+}
+
+/// What the unit at the front stands for, and the text behind it: `None` where no unit of the kind stands there.
+#[tactic(auto, unfolding(crate::specs::UnitAt::unit_at))]
+pub(crate) fn unit(kind: Kind, text: &str) -> Option<(Piece, &str)>
+    ensures value { option_map (λ p. (piece_value kind p.0, chars p.1.now)) result ≡ unit_at kind (chars text.now) }
+    ensures piece { IfSome result (λ p. IsPieceOf kind p.0) }
+    ensures shorter { IfSome result (λ p. length p.1.now < length text.now) }
+{
+    let (first, rest) = split_char(text)?;
+    match first {
+        '\\' => escape(kind, rest),
+        c if is_plain(kind, c) => Some((Piece::Character(c), rest)),
+        '\r' => {
+            let (next, rest) = split_char(rest)?;
+            if is_string(kind) && next == '\n' {
+                Some((Piece::Byte(b'\n'), rest))
+            } else {
+                None
+            }
+        }
+        _ => None,
+    }
+}

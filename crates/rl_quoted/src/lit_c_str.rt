@@ -1,0 +1,101 @@
+ghost use Rattle.std.specs.Prelude.{◌≡◌, IfOk, IfErr};
+ghost use Rattle.std.specs.Str.{chars};
+ghost use Rattle.rl_tokens.specs.declared.kind.Kind.TheVariants.{CStr};
+ghost use Rattle.rl_tokens.specs.Errors.{memory_at};
+ghost use Rattle.rl_tokens.specs.Reading.{Bytes, HasContents, HasSuffix, ReadsAs};
+ghost use Rattle.rl_tokens.specs.Agreeing.{IsWrittenForm};
+
+use crate::place::suffix_place;
+use rl_grammar::{Kind, bytes_of};
+use rl_tokens::{CString, Error, Literal, Span};
+use std::alloc::{Allocator, Global};
+use std::marker::Model;
+
+/// A C string literal: `c"text"`, `cr"text"`.
+#[derive(Drop)]
+pub struct LitCStr<A: Allocator = Global> {
+    token: Literal<A>,
+    suffix_at: usize,
+}
+
+/// The token's text reads as a C string.
+impl<A: Allocator> Model for LitCStr<A> {
+    ghost use Rattle.rl_tokens.specs.declared.kind.Kind.TheVariants.{CStr};
+    ghost use Rattle.rl_tokens.specs.Tokens.{Token};
+    ghost use Rattle.rl_quoted.specs.Places.{ReadsUpTo};
+
+    ghost Value = { Token };
+
+    ghost view = { λ l. l.token };
+
+    ghost invariant = { λ l. ReadsUpTo CStr l.token.text l.suffix_at };
+}
+
+impl<A: Allocator> LitCStr<A> {
+    /// The literal that the bytes are written as, with no suffix, at this span, where want of memory is told too.
+    pub fn new<C: Allocator>(alloc: A, value: &CString<C>, span: Span) -> Result<LitCStr<A>, Error>
+        ensures text { IfOk result (λ l. IsWrittenForm CStr value.now (chars l.text)) }
+        ensures span { IfOk result (λ l. l.span ≡ span) }
+        ensures memory { IfErr result (λ e. e ≡ memory_at span) }
+    {
+        match Literal::c_string(alloc, value) {
+            Ok(mut token) => {
+                token.set_span(span);
+                Ok(LitCStr::of_token(token))
+            }
+            Err(_) => Err(Error::memory(span)),
+        }
+    }
+
+    /// The literal of this token, whose text reads as a C string.
+    pub fn of_token(token: Literal<A>) -> LitCStr<A>
+        requires { ReadsAs CStr (chars token.text) }
+        ensures { result ≡ token }
+    {
+        let suffix_at = suffix_place(Kind::CStr, token.text());
+        LitCStr { token, suffix_at }
+    }
+
+    /// The bytes that the literal stands for, none of which is zero. Want of memory is told at the span.
+    pub fn value<B: Allocator>(&self, alloc: B) -> Result<CString<B>, Error>
+        ensures value { IfOk result (λ v. HasContents CStr (chars self.now.text) (Bytes v)) }
+        ensures memory { IfErr result (λ e. e ≡ memory_at self.now.span) }
+    {
+        match bytes_of(alloc, self.token.text()) {
+            Ok(bytes) => match CString::new(bytes) {
+                Ok(value) => Ok(value),
+                Err(_) => unreachable!(),
+            },
+            Err(_) => Err(Error::memory(self.token.span())),
+        }
+    }
+
+    /// What stands behind the closing quote.
+    pub fn suffix(&self) -> &str
+        ensures { HasSuffix CStr (chars self.now.text) (chars result.now) }
+    {
+        &self.token.text()[self.suffix_at..]
+    }
+
+    /// Where the literal stands.
+    pub fn span(&self) -> Span
+        ensures { result ≡ self.now.span }
+    {
+        self.token.span()
+    }
+
+    /// Puts the literal elsewhere.
+    pub fn set_span(&mut self, span: Span)
+        ensures { self.new ≡ record self.old { span = span } }
+    {
+        self.token.set_span(span);
+    }
+
+    /// The token, with text and span as held. Want of memory is told at the span.
+    pub fn token<B: Allocator>(&self, alloc: B) -> Result<Literal<B>, Error>
+        ensures ok { IfOk result (λ l. l ≡ self.now) }
+        ensures memory { IfErr result (λ e. e ≡ memory_at self.now.span) }
+    {
+        Literal::from_text(alloc, self.token.text(), self.token.span())
+    }
+}

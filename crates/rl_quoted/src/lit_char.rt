@@ -1,0 +1,94 @@
+ghost use Rattle.std.specs.Prelude.{◌≡◌, ◌∷◌, [], IfOk, IfErr};
+ghost use Rattle.std.specs.Str.{chars};
+ghost use Rattle.rl_tokens.specs.declared.kind.Kind.TheVariants.{Char};
+ghost use Rattle.rl_tokens.specs.Errors.{memory_at};
+ghost use Rattle.rl_tokens.specs.Reading.{Characters, HasContents, HasSuffix, ReadsAs};
+ghost use Rattle.rl_tokens.specs.Agreeing.{IsWrittenForm};
+
+use crate::place::suffix_place;
+use rl_grammar::{Kind, char_of};
+use rl_tokens::{Error, Literal, Span};
+use std::alloc::{Allocator, Global};
+use std::marker::Model;
+
+/// A character literal: `'a'`.
+#[derive(Drop)]
+pub struct LitChar<A: Allocator = Global> {
+    token: Literal<A>,
+    suffix_at: usize,
+}
+
+/// The token's text reads as a character.
+impl<A: Allocator> Model for LitChar<A> {
+    ghost use Rattle.rl_tokens.specs.declared.kind.Kind.TheVariants.{Char};
+    ghost use Rattle.rl_tokens.specs.Tokens.{Token};
+    ghost use Rattle.rl_quoted.specs.Places.{ReadsUpTo};
+
+    ghost Value = { Token };
+
+    ghost view = { λ l. l.token };
+
+    ghost invariant = { λ l. ReadsUpTo Char l.token.text l.suffix_at };
+}
+
+impl<A: Allocator> LitChar<A> {
+    /// The literal that the character is written as, with no suffix, at this span, where want of memory is told too.
+    pub fn new(alloc: A, value: char, span: Span) -> Result<LitChar<A>, Error>
+        ensures text { IfOk result (λ l. IsWrittenForm Char (value ∷ []) (chars l.text)) }
+        ensures span { IfOk result (λ l. l.span ≡ span) }
+        ensures memory { IfErr result (λ e. e ≡ memory_at span) }
+    {
+        match Literal::character(alloc, value) {
+            Ok(mut token) => {
+                token.set_span(span);
+                Ok(LitChar::of_token(token))
+            }
+            Err(_) => Err(Error::memory(span)),
+        }
+    }
+
+    /// The literal of this token, whose text reads as a character.
+    pub fn of_token(token: Literal<A>) -> LitChar<A>
+        requires { ReadsAs Char (chars token.text) }
+        ensures { result ≡ token }
+    {
+        let suffix_at = suffix_place(Kind::Char, token.text());
+        LitChar { token, suffix_at }
+    }
+
+    /// The character that the literal stands for.
+    pub fn value(&self) -> char
+        ensures { HasContents Char (chars self.now.text) (Characters (result ∷ [])) }
+    {
+        char_of(self.token.text())
+    }
+
+    /// What stands behind the closing quote.
+    pub fn suffix(&self) -> &str
+        ensures { HasSuffix Char (chars self.now.text) (chars result.now) }
+    {
+        &self.token.text()[self.suffix_at..]
+    }
+
+    /// Where the literal stands.
+    pub fn span(&self) -> Span
+        ensures { result ≡ self.now.span }
+    {
+        self.token.span()
+    }
+
+    /// Puts the literal elsewhere.
+    pub fn set_span(&mut self, span: Span)
+        ensures { self.new ≡ record self.old { span = span } }
+    {
+        self.token.set_span(span);
+    }
+
+    /// The token, with text and span as held. Want of memory is told at the span.
+    pub fn token<B: Allocator>(&self, alloc: B) -> Result<Literal<B>, Error>
+        ensures ok { IfOk result (λ l. l ≡ self.now) }
+        ensures memory { IfErr result (λ e. e ≡ memory_at self.now.span) }
+    {
+        Literal::from_text(alloc, self.token.text(), self.token.span())
+    }
+}

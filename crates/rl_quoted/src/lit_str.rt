@@ -1,0 +1,98 @@
+ghost use Rattle.std.specs.Prelude.{◌≡◌, IfOk, IfErr, string_bytes};
+ghost use Rattle.std.specs.Str.{chars};
+ghost use Rattle.rl_tokens.specs.declared.kind.Kind.TheVariants.{Str};
+ghost use Rattle.rl_tokens.specs.Errors.{memory_at};
+ghost use Rattle.rl_tokens.specs.Reading.{Characters, HasContents, HasSuffix, ReadsAs};
+ghost use Rattle.rl_tokens.specs.Agreeing.{IsWrittenForm};
+
+use crate::place::suffix_place;
+use rl_grammar::{Kind, str_of};
+use rl_tokens::{Error, Literal, Span};
+use std::alloc::{Allocator, Global};
+use std::marker::Model;
+
+/// A string literal: `"text"`, `r"text"`.
+#[derive(Drop)]
+pub struct LitStr<A: Allocator = Global> {
+    token: Literal<A>,
+    suffix_at: usize,
+}
+
+/// The token's text reads as a string.
+impl<A: Allocator> Model for LitStr<A> {
+    ghost use Rattle.rl_tokens.specs.declared.kind.Kind.TheVariants.{Str};
+    ghost use Rattle.rl_tokens.specs.Tokens.{Token};
+    ghost use Rattle.rl_quoted.specs.Places.{ReadsUpTo};
+
+    ghost Value = { Token };
+
+    ghost view = { λ l. l.token };
+
+    ghost invariant = { λ l. ReadsUpTo Str l.token.text l.suffix_at };
+}
+
+impl<A: Allocator> LitStr<A> {
+    /// The literal that the text is written as, with no suffix, at this span, where want of memory is told too.
+    pub fn new(alloc: A, value: &str, span: Span) -> Result<LitStr<A>, Error>
+        ensures text { IfOk result (λ l. IsWrittenForm Str (chars value.now) (chars l.text)) }
+        ensures span { IfOk result (λ l. l.span ≡ span) }
+        ensures memory { IfErr result (λ e. e ≡ memory_at span) }
+    {
+        match Literal::string(alloc, value) {
+            Ok(mut token) => {
+                token.set_span(span);
+                Ok(LitStr::of_token(token))
+            }
+            Err(_) => Err(Error::memory(span)),
+        }
+    }
+
+    /// The literal of this token, whose text reads as a string.
+    pub fn of_token(token: Literal<A>) -> LitStr<A>
+        requires { ReadsAs Str (chars token.text) }
+        ensures { result ≡ token }
+    {
+        let suffix_at = suffix_place(Kind::Str, token.text());
+        LitStr { token, suffix_at }
+    }
+
+    /// The text that the literal stands for. Want of memory is told at the span.
+    pub fn value<B: Allocator>(&self, alloc: B) -> Result<String<B>, Error>
+        ensures value { IfOk result (λ v. HasContents Str (chars self.now.text) (Characters (chars (string_bytes v)))) }
+        ensures memory { IfErr result (λ e. e ≡ memory_at self.now.span) }
+    {
+        match str_of(alloc, self.token.text()) {
+            Ok(value) => Ok(value),
+            Err(_) => Err(Error::memory(self.token.span())),
+        }
+    }
+
+    /// What stands behind the closing quote.
+    pub fn suffix(&self) -> &str
+        ensures { HasSuffix Str (chars self.now.text) (chars result.now) }
+    {
+        &self.token.text()[self.suffix_at..]
+    }
+
+    /// Where the literal stands.
+    pub fn span(&self) -> Span
+        ensures { result ≡ self.now.span }
+    {
+        self.token.span()
+    }
+
+    /// Puts the literal elsewhere.
+    pub fn set_span(&mut self, span: Span)
+        ensures { self.new ≡ record self.old { span = span } }
+    {
+        self.token.set_span(span);
+    }
+
+    /// The token, with text and span as held. Want of memory is told at the span.
+    pub fn token<B: Allocator>(&self, alloc: B) -> Result<Literal<B>, Error>
+        ensures ok { IfOk result (λ l. l ≡ self.now) }
+        ensures memory { IfErr result (λ e. e ≡ memory_at self.now.span) }
+    {
+        Literal::from_text(alloc, self.token.text(), self.token.span())
+    }
+}

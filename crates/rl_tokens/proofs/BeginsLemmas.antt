@@ -1,0 +1,37 @@
+-- What a text begins with, by its bytes and by its characters.
+use Rattle.std.proofs.Common.{◌≡◌, ℕ, ◌<◌, ◌≤◌, ◌⊎◌, inl, inr, true, ◌&&◌, ◌==◌, List, [], ◌∷◌, ◌++◌, refl, sym, ◌∙◌, ap, arith}
+use Rattle.std.proofs.lemmas.Bool.Decides.{nat_tests}
+use Rattle.std.specs.Prelude.{nat_lt, nat_eq}
+use Rattle.std.specs.List.{list_all, starts_with}
+use Rattle.std.specs.Str.{chars, encode_utf8_all, IsUtf8}
+use Rattle.std.proofs.lemmas.Str.{encodes-chars}
+use Rattle.rl_tokens.specs.Texts.{begins}
+use Rattle.rl_tokens.proofs.CommentBytes.{cases128, low_front, encode_is_high, not_equal}
+use Rattle.rl_tokens.proofs.LexemeRows.{both_true}
+
+begins_one : (k : ℕ) (p : List ℕ) (c : ℕ) (cs : List ℕ) → k < 128 → begins p (encode_utf8_all cs) ≡ begins p cs → (c < 128) ⊎ (128 ≤ c) → begins (k ∷ p) (encode_utf8_all (c ∷ cs)) ≡ begins (k ∷ p) (c ∷ cs)
+begins_one k p c cs l more (inl low) = ap (begins (k ∷ p)) (low_front c cs low) ∙ ap (λ b. c == k && b) more
+begins_one k p c cs l more (inr high) =
+    let (h, hs, same, is, _) = encode_is_high c high in
+    ap (λ x. begins (k ∷ p) (x ++ encode_utf8_all cs)) same
+    ∙ ap (λ b. b && begins p (hs ++ encode_utf8_all cs)) (not_equal h k l is)
+    ∙ ap (λ b. b && begins p cs) (sym (not_equal c k l high))
+
+begins_encoded : (p cs : List ℕ) → list_all (λ k. nat_lt k 128) p ≡ true → begins p (encode_utf8_all cs) ≡ begins p cs
+begins_encoded [] cs low = refl
+begins_encoded (k ∷ p) [] low = refl
+begins_encoded (k ∷ p) (c ∷ cs) low =
+    let h : (nat_lt k 128 ≡ true) × (list_all (λ k. nat_lt k 128) p ≡ true) = both_true (nat_lt k 128) (list_all (λ k. nat_lt k 128) p) low in
+    begins_one k p c cs (let q : nat_lt k 128 ≡ true = h.0 in grind (arith, nat_tests)) (begins_encoded p cs h.1) (cases128 c)
+
+-- an ASCII word begins the bytes where it begins the characters
+pub begins_bytes : (p t : List ℕ) → IsUtf8 t → list_all (λ k. nat_lt k 128) p ≡ true → begins p t ≡ begins p (chars t)
+begins_bytes p t is low = ap (begins p) (sym (encodes-chars t is)) ∙ begins_encoded p (chars t) low
+
+pub starts_begins : (p t : List ℕ) → starts_with nat_eq t p ≡ begins p t
+starts_begins [] t = refl
+starts_begins (k ∷ p) [] = refl
+starts_begins (k ∷ p) (c ∷ t) = ap (λ b. nat_eq k c && b) (starts_begins p t) ∙ ap (λ b. b && begins p t) (equal_swap k c)
+  where
+    equal_swap : (k c : ℕ) → nat_eq k c ≡ (c == k)
+    equal_swap k c = grind (arith, nat_tests)

@@ -1,0 +1,36 @@
+-- Where no zero is found, there is none.
+use Rattle.std.proofs.Common.{◌≡◌, ℕ, ◌+◌, ◌&&◌, Bool, true, false, not, cond, List, [], ◌∷◌, Some, None, refl, sym, ◌∙◌}
+use Rattle.std.specs.List.{position_from, position}
+use Rattle.std.proofs.lemmas.Iterator.Adapters.{position_from-zero}
+use Rattle.std.proofs.lemmas.Bool.{both_ways}
+use Rattle.rl_tokens.specs.CStrings.{is_zero, has_no_zero}
+
+-- a search from any place on
+none_from : (i : ℕ) (xs : List ℕ) → position_from is_zero i xs ≡ None → has_no_zero xs ≡ true
+none_from i [] h = refl
+none_from i (x ∷ xs) h = go (is_zero x) h (λ k. none_from (i + 1) xs k)
+  where
+    go : (b : Bool) → cond b (Some i) (position_from is_zero (i + 1) xs) ≡ None → (position_from is_zero (i + 1) xs ≡ None → has_no_zero xs ≡ true) → (not b && has_no_zero xs) ≡ true
+    go true h next = absurd (cc)
+    go false h next = next h
+
+-- the search that the code makes
+pub none_is_zero : (xs : List ℕ) → position is_zero xs ≡ None → has_no_zero xs ≡ true
+none_is_zero xs h = none_from 0 xs (sym (position_from-zero is_zero xs) ∙ h)
+
+found_from : (i : ℕ) (xs : List ℕ) → has_no_zero xs ≡ true → position_from is_zero i xs ≡ None
+found_from i [] h = refl
+found_from i (x ∷ xs) h = go (is_zero x) h (λ k. found_from (i + 1) xs k)
+  where
+    go : (b : Bool) → (not b && has_no_zero xs) ≡ true → (has_no_zero xs ≡ true → position_from is_zero (i + 1) xs ≡ None) → cond b (Some i) (position_from is_zero (i + 1) xs) ≡ None
+    go true h next = absurd (both_ways false refl h)
+    go false h next = next h
+
+-- where one is found, there is one
+pub zero_is_found : (xs : List ℕ) (place : ℕ) → has_no_zero xs ≡ true → position is_zero xs ≡ Some place → ⊥
+zero_is_found xs place h e =
+    let none : None ≡ Some place = sym (found_from 0 xs h) ∙ sym (position_from-zero is_zero xs) ∙ e in
+    some_is_none place none
+  where
+    some_is_none : (place : ℕ) → None ≡ Some place → ⊥
+    some_is_none place e = absurd (cc)

@@ -1,0 +1,190 @@
+-- Where comments end, told by the bytes of a text.
+use Rattle.std.proofs.Common.{◌≡◌, ℕ, suc, zero, ◌+◌, ◌<◌, ◌≤◌, ◌≢◌, ◌⊎◌, inl, inr, Bool, true, false, ◌&&◌, ◌==◌, cond, List, [], ◌∷◌, ◌++◌, length, length-append, drop, get_or, Option, Some, None, refl, sym, ◌∙◌, ap, subst, arith, append_assoc}
+use Rattle.std.proofs.lemmas.Bool.Decides.{nat_tests}
+use Rattle.std.specs.List.{AllByRecursion}
+use Rattle.std.specs.Char.{encode_utf8}
+use Rattle.std.specs.Str.{chars, encode_utf8_all, IsUtf8}
+use Rattle.std.specs.Option.{option_map}
+use Rattle.std.proofs.lemmas.Str.{encode_ascii, length-encode, len_utf8_bounds, inside_one, encodes-chars, chars_from_encodes, IsUtf8-nil, IsUtf8-drop, IsCharBoundary-after_ascii}
+use Rattle.std.proofs.Math.Seq.{drop-append-add}
+use Rattle.rl_tokens.specs.Texts.{IsBehind}
+use Rattle.rl_tokens.specs.SkippedAt.{after_block, after_line}
+use Rattle.rl_tokens.proofs.Comments.{closed, after_block-step, block_goes_on, both, false_unless}
+
+abbrev pub AllHigh : List ℕ → Type 0
+AllHigh xs = AllByRecursion (λ b. 128 ≤ b) xs
+
+all_high : (xs : List ℕ) → ((k : ℕ) → k < length xs → 128 ≤ get_or xs k 0) → AllHigh xs
+all_high [] h = tt
+all_high (x ∷ xs) h = (h 0 (omega arith), all_high xs (λ k l. h (suc k) (omega arith)))
+
+nil_behind : (xs : List ℕ) → xs ≡ xs ++ []
+nil_behind [] = refl
+nil_behind (x ∷ xs) = ap (λ t. x ∷ t) (nil_behind xs)
+
+encode_high : (c : ℕ) → 128 ≤ c → AllHigh (encode_utf8 c)
+encode_high c high = all_high (encode_utf8 c) (λ k l. not_low c k l high)
+  where
+    at_least : (n : ℕ) → (n < 128 → ⊥) → 128 ≤ n
+    at_least n h = omega (arith, h)
+
+    not_low : (c k : ℕ) → k < length (encode_utf8 c) → 128 ≤ c → 128 ≤ get_or (encode_utf8 c) k 0
+    not_low c k l high = at_least (get_or (encode_utf8 c) k 0) (λ low. let e : c ≡ get_or (encode_utf8 c) k 0 = inside_one c [] (encode_utf8 c) k (nil_behind (encode_utf8 c)) l low in absurd (omega arith))
+
+high_head : (xs : List ℕ) → 0 < length xs → AllHigh xs → (h : ℕ) × (hs : List ℕ) × (xs ≡ h ∷ hs) × (128 ≤ h) × AllHigh hs
+high_head [] l is = absurd (omega arith)
+high_head (x ∷ xs) l (is, more) = (x, xs, refl, is, more)
+
+-- A character past ASCII has some bytes, all past ASCII.
+pub encode_is_high : (c : ℕ) → 128 ≤ c → (h : ℕ) × (hs : List ℕ) × (encode_utf8 c ≡ h ∷ hs) × (128 ≤ h) × AllHigh hs
+encode_is_high c high = high_head (encode_utf8 c) (omega (arith, length-encode c, len_utf8_bounds c)) (encode_high c high)
+
+pub cases128 : (c : ℕ) → (c < 128) ⊎ (128 ≤ c)
+cases128 c = grind arith
+
+pub low_front : (c : ℕ) (cs : List ℕ) → c < 128 → encode_utf8_all (c ∷ cs) ≡ c ∷ encode_utf8_all cs
+low_front c cs low = ap (λ x. x ++ encode_utf8_all cs) (encode_ascii c low)
+
+-- Blocks.
+after_block-nil : (d x : ℕ) → after_block d (x ∷ []) ≡ None
+after_block-nil d x = refl
+
+block_past_high : (d x : ℕ) (s : List ℕ) → 128 ≤ x → after_block d (x ∷ s) ≡ after_block d s
+block_past_high d x [] high = refl
+block_past_high d x (e ∷ s) high = block_goes_on d x e s (false_unless (x == 42 && e == 47) (λ h. let q : (x ≡ 42) × (e ≡ 47) = both x 42 e 47 h in omega arith)) (false_unless (x == 47 && e == 42) (λ h. let q : (x ≡ 47) × (e ≡ 42) = both x 47 e 42 h in omega arith))
+
+block_before_high : (d c e : ℕ) (s : List ℕ) → 128 ≤ e → after_block d (c ∷ e ∷ s) ≡ after_block d (e ∷ s)
+block_before_high d c e s high = block_goes_on d c e s (false_unless (c == 42 && e == 47) (λ h. let q : (c ≡ 42) × (e ≡ 47) = both c 42 e 47 h in omega arith)) (false_unless (c == 47 && e == 42) (λ h. let q : (c ≡ 47) × (e ≡ 42) = both c 47 e 42 h in omega arith))
+
+block_past_all : (d : ℕ) (xs s : List ℕ) → AllHigh xs → after_block d (xs ++ s) ≡ after_block d s
+block_past_all d [] s is = refl
+block_past_all d (x ∷ xs) s (is, more) = block_past_high d x (xs ++ s) is ∙ block_past_all d xs s more
+
+abbrev pub Same : Option (List ℕ) → Option (List ℕ) → Type 0
+Same bytes cs = bytes ≡ option_map encode_utf8_all cs
+
+block_low : (d c e : ℕ) (cs : List ℕ) → ((d : ℕ) → Same (after_block d (encode_utf8_all cs)) (after_block d cs)) → Same (after_block d (e ∷ encode_utf8_all cs)) (after_block d (e ∷ cs)) → Same (after_block d (c ∷ e ∷ encode_utf8_all cs)) (after_block d (c ∷ e ∷ cs))
+block_low d c e cs more one =
+    after_block-step d c e (encode_utf8_all cs)
+    ∙ same_cond (c == 42 && e == 47) (c == 47 && e == 42) _ _ _ _ _ _ (same_closed d cs more) (more (suc d)) one
+    ∙ ap (option_map encode_utf8_all) (sym (after_block-step d c e cs))
+  where
+    same_closed : (d : ℕ) (cs : List ℕ) → ((d : ℕ) → Same (after_block d (encode_utf8_all cs)) (after_block d cs)) → Same (closed d (encode_utf8_all cs)) (closed d cs)
+    same_closed zero cs more = refl
+    same_closed (suc d) cs more = more d
+
+    same_cond : (a b : Bool) (x y z : Option (List ℕ)) (x' y' z' : Option (List ℕ)) → Same x x' → Same y y' → Same z z' → Same (cond a x (cond b y z)) (cond a x' (cond b y' z'))
+    same_cond true b x y z x' y' z' p q r = p
+    same_cond false true x y z x' y' z' p q r = q
+    same_cond false false x y z x' y' z' p q r = r
+
+block_two : (d c e : ℕ) (cs : List ℕ) → ((d : ℕ) → Same (after_block d (encode_utf8_all cs)) (after_block d cs)) → Same (after_block d (encode_utf8_all (e ∷ cs))) (after_block d (e ∷ cs)) → (c < 128) ⊎ (128 ≤ c) → (e < 128) ⊎ (128 ≤ e) → Same (after_block d (encode_utf8_all (c ∷ e ∷ cs))) (after_block d (c ∷ e ∷ cs))
+block_two d c e cs more one (inr high) _ =
+    block_past_all d (encode_utf8 c) (encode_utf8_all (e ∷ cs)) (encode_high c high) ∙ one ∙ ap (option_map encode_utf8_all) (sym (block_past_high d c (e ∷ cs) high))
+block_two d c e cs more one (inl low) (inl low') =
+    ap (after_block d) (low_front c (e ∷ cs) low ∙ ap (λ x. c ∷ x) (low_front e cs low'))
+    ∙ block_low d c e cs more (ap (after_block d) (sym (low_front e cs low')) ∙ one)
+block_two d c e cs more one (inl low) (inr high) =
+    let (h, hs, same, is, _) = encode_is_high e high in
+    let g : encode_utf8_all (e ∷ cs) ≡ h ∷ (hs ++ encode_utf8_all cs) = ap (λ x. x ++ encode_utf8_all cs) same in
+    ap (after_block d) (low_front c (e ∷ cs) low ∙ ap (λ x. c ∷ x) g)
+    ∙ block_before_high d c h (hs ++ encode_utf8_all cs) is
+    ∙ ap (after_block d) (sym g) ∙ one
+    ∙ ap (option_map encode_utf8_all) (sym (block_before_high d c e cs high))
+
+block_one : (d c : ℕ) → (c < 128) ⊎ (128 ≤ c) → Same (after_block d (encode_utf8_all (c ∷ []))) None
+block_one d c (inl low) = ap (after_block d) (low_front c [] low)
+block_one d c (inr high) = block_past_all d (encode_utf8 c) [] (encode_high c high)
+
+pub after_block-encodes : (d : ℕ) (cs : List ℕ) → Same (after_block d (encode_utf8_all cs)) (after_block d cs)
+after_block-encodes d [] = refl
+after_block-encodes d (c ∷ []) = block_one d c (cases128 c)
+after_block-encodes d (c ∷ e ∷ cs) = block_two d c e cs (λ n. after_block-encodes n cs) (after_block-encodes d (e ∷ cs)) (cases128 c) (cases128 e)
+
+-- Lines.
+line_past_all : (xs s : List ℕ) → AllHigh xs → after_line (xs ++ s) ≡ after_line s
+line_past_all [] s is = refl
+line_past_all (x ∷ xs) s (is, more) = ap (λ b. cond b (xs ++ s) (after_line (xs ++ s))) (false_unless (x == 10) (λ h. let q : x ≡ 10 = grind (arith, nat_tests) in omega arith)) ∙ line_past_all xs s more
+
+line_one : (c : ℕ) (cs : List ℕ) → (c < 128) ⊎ (128 ≤ c) → after_line (encode_utf8_all cs) ≡ encode_utf8_all (after_line cs) → after_line (encode_utf8_all (c ∷ cs)) ≡ encode_utf8_all (after_line (c ∷ cs))
+line_one c cs (inl low) more =
+    ap after_line (low_front c cs low) ∙ same_cond (c == 10) more
+  where
+    same_cond : (b : Bool) → after_line (encode_utf8_all cs) ≡ encode_utf8_all (after_line cs) → cond b (encode_utf8_all cs) (after_line (encode_utf8_all cs)) ≡ encode_utf8_all (cond b cs (after_line cs))
+    same_cond true h = refl
+    same_cond false h = h
+line_one c cs (inr high) more =
+    line_past_all (encode_utf8 c) (encode_utf8_all cs) (encode_high c high) ∙ more
+    ∙ ap encode_utf8_all (sym (line_past_all (c ∷ []) cs (high, tt)))
+
+pub after_line-encodes : (cs : List ℕ) → after_line (encode_utf8_all cs) ≡ encode_utf8_all (after_line cs)
+after_line-encodes [] = refl
+after_line-encodes (c ∷ cs) = line_one c cs (cases128 c) (after_line-encodes cs)
+
+-- What the bytes give, the characters give.
+same_chars : (m : Option (List ℕ)) (rest : List ℕ) → IsUtf8 rest → Some rest ≡ option_map encode_utf8_all m → Some (chars rest) ≡ m
+same_chars None rest is e = absurd (cc)
+same_chars (Some cs) rest is e = ap Some (sym (chars_from_encodes cs rest is (some_inner (encode_utf8_all cs) rest (sym e))))
+  where
+    some_inner : (x y : List ℕ) → Some x ≡ Some y → x ≡ y
+    some_inner x y e = cc
+
+same_none : (m : Option (List ℕ)) → None ≡ option_map encode_utf8_all m → None ≡ m
+same_none None e = refl
+same_none (Some cs) e = absurd (cc)
+
+block_bytes : (t : List ℕ) → IsUtf8 t → after_block 0 t ≡ option_map encode_utf8_all (after_block 0 (chars t))
+block_bytes t is = ap (after_block 0) (sym (encodes-chars t is)) ∙ after_block-encodes 0 (chars t)
+
+pub block_of_bytes : (t rest : List ℕ) → IsUtf8 t → IsUtf8 rest → after_block 0 t ≡ Some rest → Some (chars rest) ≡ after_block 0 (chars t)
+block_of_bytes t rest is is_rest e = same_chars (after_block 0 (chars t)) rest is_rest (sym e ∙ block_bytes t is)
+
+pub no_block_of_bytes : (t : List ℕ) → IsUtf8 t → after_block 0 t ≡ None → None ≡ after_block 0 (chars t)
+no_block_of_bytes t is e = same_none (after_block 0 (chars t)) (sym e ∙ block_bytes t is)
+
+pub line_of_bytes : (t rest : List ℕ) → IsUtf8 t → IsUtf8 rest → after_line t ≡ rest → chars rest ≡ after_line (chars t)
+line_of_bytes t rest is is_rest e =
+    sym (chars_from_encodes (after_line (chars t)) rest is_rest
+    (sym (after_line-encodes (chars t)) ∙ ap after_line (encodes-chars t is) ∙ e))
+
+-- A line ends at its first LF.
+pub after_line-cut : (xs ys : List ℕ) → ((k : ℕ) → k < length xs → get_or xs k 0 ≢ 10) → after_line (xs ++ 10 ∷ ys) ≡ ys
+after_line-cut [] ys none = refl
+after_line-cut (x ∷ xs) ys none =
+    ap (λ b. cond b (xs ++ 10 ∷ ys) (after_line (xs ++ 10 ∷ ys))) (false_unless (x == 10) (λ h. let q : x ≡ 10 = grind (arith, nat_tests) in none 0 (omega arith) q))
+    ∙ after_line-cut xs ys (λ k l. none (suc k) (omega arith))
+
+pub after_line-none : (xs : List ℕ) → ((k : ℕ) → k < length xs → get_or xs k 0 ≢ 10) → after_line xs ≡ []
+after_line-none [] none = refl
+after_line-none (x ∷ xs) none =
+    ap (λ b. cond b xs (after_line xs)) (false_unless (x == 10) (λ h. let q : x ≡ 10 = grind (arith, nat_tests) in none 0 (omega arith) q))
+    ∙ after_line-none xs (λ k l. none (suc k) (omega arith))
+
+-- What stands behind an ASCII character is a text.
+pub utf8_behind : (t x y : List ℕ) (c : ℕ) → IsUtf8 t → c < 128 → t ≡ x ++ (c ∷ y) → IsUtf8 y
+utf8_behind t x y c is low e =
+    let at : get_or t (length x) 0 ≡ c = ap (λ z. get_or z (length x) 0) e ∙ get_or_seam x (c ∷ y) in
+    let inside : length x < length t = omega (arith, ap length e, length-append x (c ∷ y)) in
+    let P : List ℕ → Type 0 = λ z. IsUtf8 z in
+    subst P (ap (drop (length x + 1)) e ∙ drop_past x c y) (IsUtf8-drop t (length x + 1) is (IsCharBoundary-after_ascii t (length x) is inside (omega arith)))
+  where
+    get_or_seam : (x z : List ℕ) → get_or (x ++ z) (length x) 0 ≡ get_or z 0 0
+    get_or_seam [] z = refl
+    get_or_seam (a ∷ x) z = get_or_seam x z
+
+    drop_past : (x : List ℕ) (c : ℕ) (y : List ℕ) → drop (length x + 1) (x ++ (c ∷ y)) ≡ y
+    drop_past x c y = drop-append-add x (c ∷ y) 1
+
+pub line_cut : (t x y : List ℕ) → IsUtf8 t → (t ≡ x ++ (10 ∷ y)) × ((k : ℕ) → k < length x → get_or x k 0 ≢ 10) → (chars y ≡ after_line (chars t)) × IsBehind t y
+line_cut t x y is (e, none) =
+    let is_y : IsUtf8 y = utf8_behind t x y 10 is (omega arith) e in (
+      line_of_bytes t y is is_y (ap after_line e ∙ after_line-cut x y none),
+      record { front = x ++ (10 ∷ []); text_is = e ∙ sym (append_assoc x (10 ∷ []) y); is_text = is_y },
+    )
+
+pub line_open : (t : List ℕ) → IsUtf8 t → ((k : ℕ) → k < length t → get_or t k 0 ≢ 10) → (chars [] ≡ after_line (chars t)) × IsBehind t []
+line_open t is none = (line_of_bytes t [] is IsUtf8-nil (after_line-none t none), record { front = t; text_is = nil_behind t; is_text = IsUtf8-nil })
+
+-- A byte or a character past ASCII is no ASCII character.
+pub not_equal : (c k : ℕ) → k < 128 → 128 ≤ c → (c == k) ≡ false
+not_equal c k l h = false_unless (c == k) (λ e. let q : c ≡ k = grind (arith, nat_tests) in omega arith)

@@ -1,0 +1,279 @@
+-- Where a fault stands no token goes on, and it is one fault.
+use Rattle.std.proofs.Common.{◌≡◌, ◌≢◌, ℕ, Bool, true, false, not, ◌&&◌, ◌||◌, ◌==◌, cond, List, [], ◌∷◌, ◌++◌, length, slice_index, Option, Some, None, refl, sym, ◌∙◌, ap, subst, lit<}
+use Rattle.std.proofs.lemmas.Option.{none-some}
+use Rattle.std.specs.Prelude.{codes, nat_lt, if◌then◌else◌}
+use Rattle.rl_tokens.specs.declared.lex_error.LexKind.{LexKind}
+use Rattle.rl_tokens.specs.declared.lex_error.LexKind.TheVariants.{DocComment, UnclosedComment, UnclosedQuote, Lifetime, RawIdentifier, StrayCharacter, UnmatchedClose, UnclosedGroup, TooDeep, Memory}
+use Rattle.rl_tokens.specs.Texts.{is_start, is_among, passes, begins}
+use Rattle.rl_tokens.specs.Lexemes.{Lexeme, lexeme_text, IsLexeme, Form, form_of, DelimiterForm, MarkForm, delimiters, after_run, is_hash}
+use Rattle.rl_tokens.specs.LexemeAt.{lexeme_at, SlashHead}
+use Rattle.rl_tokens.specs.Lexing.{OpenGroup, is_opener, is_closer, closes, popped, behind_form, begins_doc_comment, begins_quote, begins_lifetime, begins_raw_identifier, BeginsNoLexeme, FaultAt}
+use Rattle.rl_tokens.specs.Nests.{fault_kind}
+use Rattle.rl_tokens.proofs.Comments.{false_unless, same_Some}
+use Rattle.rl_tokens.proofs.Pieces.{is_equal}
+use Rattle.rl_tokens.proofs.LexemeRows.{both_true, not_true, not_among}
+use Rattle.rl_tokens.proofs.LexemeFronts.{lexeme_at-past, start_ascii, front_delimiter, class47, at_class, among}
+use Rattle.rl_tokens.proofs.LexemeFound.{lexeme_at-found}
+use Rattle.rl_tokens.proofs.CutLaws.{IsStuck}
+
+-- a lexeme at the front is what `lexeme_at` finds
+found_form : (l : Lexeme) (after r : List ℕ) → IsLexeme l after → r ≡ lexeme_text l ++ after → lexeme_at r ≡ Some (form_of l, after)
+found_form l after r is same = ap lexeme_at same ∙ lexeme_at-past l after is
+
+stuck_unless : (groups : List OpenGroup) (r : List ℕ) → lexeme_at r ≡ None → IsStuck groups r
+stuck_unless groups r none l after at is same = absurd (none-some (form_of l, after) (sym none ∙ found_form l after r is same))
+
+stuck_without : (groups : List OpenGroup) (r : List ℕ) → BeginsNoLexeme r → IsStuck groups r
+stuck_without groups r none l after at is same = absurd (none after (lexeme_text l, (l, is, refl), same))
+
+no_lexeme_at : (r : List ℕ) → BeginsNoLexeme r → lexeme_at r ≡ None
+no_lexeme_at r none = go (lexeme_at r) refl
+  where
+    go : (o : Option (Form × List ℕ)) → lexeme_at r ≡ o → o ≡ None
+    go None h = refl
+    go (Some p) h =
+        let (l, is, same, form) = lexeme_at-found r p h in
+        absurd (none p.1 (lexeme_text l, (l, is, refl), same))
+
+-- comments
+abbrev SlashAndMark : List ℕ → Type 0
+SlashAndMark r = (t : List ℕ) × (r ≡ 47 ∷ t) × (passes (λ d. d == 47 || d == 42) t ≡ true)
+
+slash_none : (r : List ℕ) → SlashAndMark r → lexeme_at r ≡ None
+slash_none r (t, same, h) = ap lexeme_at same ∙ at_class 47 t SlashHead class47 ∙ ap (λ b. cond b None (Some (MarkForm 47, t))) h
+
+slash_and : (c d : ℕ) (t : List ℕ) → ((c == 47) ≡ true) × ((d == 47 || d == 42) ≡ true) → SlashAndMark (c ∷ d ∷ t)
+slash_and c d t (a, b) = (d ∷ t, ap (λ x. x ∷ d ∷ t) (is_equal c 47 a), b)
+
+doc_slash : (r : List ℕ) → begins_doc_comment r ≡ true → SlashAndMark r
+doc_slash [] h = absurd (cc)
+doc_slash (c ∷ []) h = absurd (one (c == 47) h)
+  where
+    one : (a : Bool) → (((a && false) && not (a && false)) || (a && false) || ((a && false) && not ((a && false) || (a && false))) || (a && false)) ≡ true → ⊥
+    one true h = absurd (cc)
+    one false h = absurd (cc)
+doc_slash (c ∷ d ∷ t) h =
+    slash_and c d t (two (c == 47) (d == 47) (d == 42) (begins (codes "/") t) (begins (codes "//") t) (begins (codes "!") t) (begins (codes "*") t) (begins (codes "*/") t) (begins (codes "**") t) h)
+  where
+    two : (a p q x y z u v w : Bool) → (((a && (p && x)) && not (a && (p && y))) || (a && (p && z)) || ((a && (q && u)) && not ((a && (q && v)) || (a && (q && w)))) || (a && (q && z))) ≡ true → (a ≡ true) × ((p || q) ≡ true)
+    two false p q x y z u v w h = absurd (cc)
+    two true true q x y z u v w h = (refl, refl)
+    two true false true x y z u v w h = (refl, refl)
+    two true false false x y z u v w h = absurd (cc)
+
+block_slash : (r : List ℕ) → begins (codes "/*") r ≡ true → SlashAndMark r
+block_slash [] h = absurd (cc)
+block_slash (c ∷ []) h = absurd (one (c == 47) h)
+  where
+    one : (a : Bool) → (a && false) ≡ true → ⊥
+    one true h = absurd (cc)
+    one false h = absurd (cc)
+block_slash (c ∷ d ∷ t) h = slash_and c d t (two (c == 47) (d == 47) (d == 42) h)
+  where
+    two : (a p q : Bool) → (a && (q && true)) ≡ true → (a ≡ true) × ((p || q) ≡ true)
+    two false p q h = absurd (cc)
+    two true true q h = (refl, refl)
+    two true false true h = (refl, refl)
+    two true false false h = absurd (cc)
+
+-- delimiters
+delimiter_stuck : (groups : List OpenGroup) (c : ℕ) (t : List ℕ) → is_among delimiters c ≡ true → ((at : ℕ) → behind_form groups (DelimiterForm c) at ≡ None) → IsStuck groups (c ∷ t)
+delimiter_stuck groups c t is none l after at is_l same =
+    let p : ◌≡◌ {A = Option (Form × List ℕ)} (Some (form_of l, after)) (Some (DelimiterForm c, t)) = sym (found_form l after (c ∷ t) is_l same) ∙ front_delimiter c t is in
+    let form : form_of l ≡ DelimiterForm c = ap (λ (q : Form × List ℕ). q.0) (same_Some (form_of l, after) (DelimiterForm c, t) p) in
+    ap (λ f. behind_form groups f at) form ∙ none at
+
+closer_among : (c : ℕ) → is_closer c ≡ true → (is_among delimiters c ≡ true) × (is_opener c ≡ false)
+closer_among c h = (among (codes ")]}") (is_among delimiters) c refl h, not_true (is_opener c) (among (codes ")]}") (λ k. not (is_opener k)) c refl h))
+
+opener_among : (c : ℕ) → is_opener c ≡ true → is_among delimiters c ≡ true
+opener_among c h = among (codes "([{") (is_among delimiters) c refl h
+
+first_passes : (test : ℕ → Bool) (r : List ℕ) → passes test r ≡ true → (c : ℕ) × (t : List ℕ) × (r ≡ c ∷ t) × (test c ≡ true)
+first_passes test [] h = absurd (cc)
+first_passes test (c ∷ t) h = (c, t, refl, h)
+
+close_stuck : (groups : List OpenGroup) (r : List ℕ) → passes (λ c. is_closer c && not (closes groups c)) r ≡ true → IsStuck groups r
+close_stuck groups r h =
+    let (c, t, same, is) = first_passes (λ c. is_closer c && not (closes groups c)) r h in
+    let k : (is_closer c ≡ true) × (not (closes groups c) ≡ true) = both_true (is_closer c) (not (closes groups c)) is in
+    let m = closer_among c k.0 in
+    subst (λ (x : List ℕ). IsStuck groups x) (sym same)
+    (delimiter_stuck groups c t m.0 (λ at.
+    ap (λ b. if b then (if nat_lt (length groups) 128 then Some (record { opener = c; at = at } ∷ groups) else None) else (if closes groups c then Some (popped groups) else None)) m.1
+    ∙ ap (λ b. if b then Some (popped groups) else None) (not_true (closes groups c) k.1)))
+
+deep_stuck : (groups : List OpenGroup) (r : List ℕ) → passes is_opener r ≡ true → length groups ≡ 128 → IsStuck groups r
+deep_stuck groups r h n =
+    let (c, t, same, is) = first_passes is_opener r h in
+    subst (λ (x : List ℕ). IsStuck groups x) (sym same)
+    (delimiter_stuck groups c t (opener_among c is) (λ at.
+    ap (λ b. if b then (if nat_lt (length groups) 128 then Some (record { opener = c; at = at } ∷ groups) else None) else (if closes groups c then Some (popped groups) else None)) is
+    ∙ ap (λ m. if nat_lt m 128 then Some (record { opener = c; at = at } ∷ groups) else None) n))
+
+pub nothing_stuck : (groups : List OpenGroup) (r : List ℕ) → r ≡ [] → IsStuck groups r
+nothing_stuck groups r nil = stuck_unless groups r (ap lexeme_at nil)
+
+-- no token goes on at a fault
+pub fault_stuck : (k : LexKind) (groups : List OpenGroup) (r : List ℕ) → FaultAt k groups r → IsStuck groups r
+fault_stuck DocComment groups r h = stuck_unless groups r (slash_none r (doc_slash r h))
+fault_stuck UnclosedComment groups r (h, other) = stuck_unless groups r (slash_none r (block_slash r h))
+fault_stuck UnclosedQuote groups r (none, h) = stuck_without groups r none
+fault_stuck Lifetime groups r (none, h) = stuck_without groups r none
+fault_stuck RawIdentifier groups r (none, h) = stuck_without groups r none
+fault_stuck StrayCharacter groups r (some, none, h) = stuck_without groups r none
+fault_stuck UnmatchedClose groups r h = close_stuck groups r h
+fault_stuck UnclosedGroup groups r (nil, some) = nothing_stuck groups r nil
+fault_stuck TooDeep groups r (h, n) = deep_stuck groups r h n
+fault_stuck Memory groups r h = absurd h
+
+-- The kind of a fault is told by the rest.
+abbrev kind_by_form : Form → LexKind
+kind_by_form (DelimiterForm c) = if is_opener c then TooDeep else UnmatchedClose
+kind_by_form _ = StrayCharacter
+
+abbrev pub kind_at : Option (Form × List ℕ) → List ℕ → LexKind
+kind_at None [] = UnclosedGroup
+kind_at None (c ∷ t) = fault_kind (c ∷ t)
+kind_at (Some p) r = kind_by_form p.0
+
+no_lexeme_kind : (r : List ℕ) (k : LexKind) → lexeme_at r ≡ None → r ≢ [] → fault_kind r ≡ k → k ≡ kind_at (lexeme_at r) r
+no_lexeme_kind [] k none some e = absurd (some refl)
+no_lexeme_kind (c ∷ t) k none some e = sym (ap (λ o. kind_at o (c ∷ t)) none ∙ e)
+
+slash_some : (r : List ℕ) → SlashAndMark r → r ≢ []
+slash_some r (t, same, h) nil = let q : 47 ∷ t ≡ [] = sym same ∙ nil in absurd (cc)
+
+passes_some : (test : List ℕ → Bool) (r : List ℕ) → test [] ≡ false → test r ≡ true → r ≢ []
+passes_some test r fails h nil = let q : true ≡ false = sym h ∙ ap test nil ∙ fails in absurd (cc)
+
+-- no quote, lifetime or raw identifier begins with a slash
+no_slash : (test : List ℕ → Bool) (r : List ℕ) → ((d : ℕ) (u : List ℕ) → test (47 ∷ d ∷ u) ≡ false) → test r ≡ true → SlashAndMark r → ⊥
+no_slash test r fails h ([], same, is) = absurd (cc)
+no_slash test r fails h (d ∷ u, same, is) = let q : true ≡ false = sym h ∙ ap test same ∙ fails d u in absurd (cc)
+
+not_comment : (test : List ℕ → Bool) (r : List ℕ) → ((d : ℕ) (u : List ℕ) → test (47 ∷ d ∷ u) ≡ false) → test r ≡ true → (begins_doc_comment r ≡ false) × (begins (codes "/*") r ≡ false)
+not_comment test r fails h = (
+  false_unless (begins_doc_comment r) (λ doc. no_slash test r fails h (doc_slash r doc)),
+  false_unless (begins (codes "/*") r) (λ block. no_slash test r fails h (block_slash r block)),
+)
+
+abbrev Choice : Bool → Bool → Bool → Bool → Bool → LexKind
+Choice doc block quote life raw = if doc then DocComment else (if block then UnclosedComment else (if quote then UnclosedQuote else (if life then Lifetime else (if raw then RawIdentifier else StrayCharacter))))
+
+chosen_kind : (r : List ℕ) (doc block quote life raw : Bool) → begins_doc_comment r ≡ doc → begins (codes "/*") r ≡ block → begins_quote r ≡ quote → begins_lifetime r ≡ life → begins_raw_identifier r ≡ raw → fault_kind r ≡ Choice doc block quote life raw
+chosen_kind r doc block quote life raw a b c d e =
+    ap (λ x. Choice x (begins (codes "/*") r) (begins_quote r) (begins_lifetime r) (begins_raw_identifier r)) a
+    ∙ ap (λ x. Choice doc x (begins_quote r) (begins_lifetime r) (begins_raw_identifier r)) b
+    ∙ ap (λ x. Choice doc block x (begins_lifetime r) (begins_raw_identifier r)) c
+    ∙ ap (λ x. Choice doc block quote x (begins_raw_identifier r)) d
+    ∙ ap (λ x. Choice doc block quote life x) e
+
+life_split : (r : List ℕ) → begins_lifetime r ≡ true → (d : ℕ) × (u : List ℕ) × (r ≡ 39 ∷ d ∷ u) × (is_start d ≡ true)
+life_split [] h = absurd (cc)
+life_split (c ∷ cs) h =
+    let k : ((c == 39) ≡ true) × (passes is_start cs ≡ true) = both_true (c == 39) (passes is_start cs) h in
+    let (d, u, same, is) = first_passes is_start cs k.1 in
+    (d, u, ap (λ x. x ∷ cs) (is_equal c 39 k.0) ∙ ap (λ x. 39 ∷ x) same, is)
+
+life_no_quote : (r : List ℕ) → begins_lifetime r ≡ true → begins_quote r ≡ false
+life_no_quote r h =
+    let (d, u, same, is) = life_split r h in
+    ap begins_quote same ∙ ap (λ b. not b) is
+
+raw_split : (r : List ℕ) → begins_raw_identifier r ≡ true → (d : ℕ) × (u : List ℕ) × (r ≡ 114 ∷ 35 ∷ d ∷ u) × (is_start d ≡ true)
+raw_split [] h = absurd (cc)
+raw_split (c ∷ []) h = absurd (cc)
+raw_split (c ∷ e ∷ cs) h =
+    let k : ((c == 114 && e == 35) ≡ true) × (passes is_start cs ≡ true) = both_true (c == 114 && e == 35) (passes is_start cs) h in
+    let m : ((c == 114) ≡ true) × ((e == 35) ≡ true) = both_true (c == 114) (e == 35) k.0 in
+    let (d, u, same, is) = first_passes is_start cs k.1 in
+    (d, u, ap (λ x. x ∷ e ∷ cs) (is_equal c 114 m.0) ∙ ap (λ x. 114 ∷ x ∷ cs) (is_equal e 35 m.1) ∙ ap (λ x. 114 ∷ 35 ∷ x) same, is)
+
+raw_no_quote : (r : List ℕ) → begins_raw_identifier r ≡ true → begins_quote r ≡ false
+raw_no_quote r h =
+    let (d, u, same, is) = raw_split r h in
+    let hash : (d == 35) ≡ false = not_among d 35 is_start is (start_ascii 35 (lit< tt)) in
+    let quote : (d == 34) ≡ false = not_among d 34 is_start is (start_ascii 34 (lit< tt)) in
+    ap begins_quote same
+    ∙ ap (λ b. (slice_index (cond b (after_run is_hash u) (d ∷ u)) 0 == 34) || false || false || false) hash
+    ∙ ap (λ b. b || false || false || false) quote
+
+raw_no_life : (r : List ℕ) → begins_raw_identifier r ≡ true → begins_lifetime r ≡ false
+raw_no_life r h = let (d, u, same, is) = raw_split r h in ap begins_lifetime same
+
+quote_kind : (r : List ℕ) → BeginsNoLexeme r → begins_quote r ≡ true → UnclosedQuote ≡ kind_at (lexeme_at r) r
+quote_kind r none h =
+    let k = not_comment begins_quote r (λ d u. refl) h in
+    no_lexeme_kind r UnclosedQuote (no_lexeme_at r none) (passes_some begins_quote r refl h)
+    (chosen_kind r false false true (begins_lifetime r) (begins_raw_identifier r) k.0 k.1 h refl refl)
+
+life_kind : (r : List ℕ) → BeginsNoLexeme r → begins_lifetime r ≡ true → Lifetime ≡ kind_at (lexeme_at r) r
+life_kind r none h =
+    let k = not_comment begins_lifetime r (λ d u. refl) h in
+    no_lexeme_kind r Lifetime (no_lexeme_at r none) (passes_some begins_lifetime r refl h)
+    (chosen_kind r false false false true (begins_raw_identifier r) k.0 k.1 (life_no_quote r h) h refl)
+
+raw_kind : (r : List ℕ) → BeginsNoLexeme r → begins_raw_identifier r ≡ true → RawIdentifier ≡ kind_at (lexeme_at r) r
+raw_kind r none h =
+    let k = not_comment begins_raw_identifier r (λ d u. raw_at_slash d u) h in
+    no_lexeme_kind r RawIdentifier (no_lexeme_at r none) (passes_some begins_raw_identifier r refl h)
+    (chosen_kind r false false false false true k.0 k.1 (raw_no_quote r h) (raw_no_life r h) h)
+  where
+    raw_at_slash : (d : ℕ) (u : List ℕ) → begins_raw_identifier (47 ∷ d ∷ u) ≡ false
+    raw_at_slash d u = refl
+
+or_false : (a b : Bool) → (a || b) ≡ false → (a ≡ false) × (b ≡ false)
+or_false true b h = absurd (cc)
+or_false false b h = (refl, h)
+
+stray_kind : (r : List ℕ) → r ≢ [] → BeginsNoLexeme r → (begins_doc_comment r || begins (codes "/*") r || begins_quote r || begins_lifetime r || begins_raw_identifier r) ≡ false → StrayCharacter ≡ kind_at (lexeme_at r) r
+stray_kind r some none h =
+    let e = or_false _ _ h in
+    let d = or_false _ _ e.0 in
+    let c = or_false _ _ d.0 in
+    let b = or_false _ _ c.0 in
+    no_lexeme_kind r StrayCharacter (no_lexeme_at r none) some (chosen_kind r false false false false false b.0 b.1 c.1 d.1 e.1)
+
+delimiter_kind : (k : LexKind) (c : ℕ) (t r : List ℕ) → r ≡ c ∷ t → is_among delimiters c ≡ true → kind_by_form (DelimiterForm c) ≡ k → k ≡ kind_at (lexeme_at r) r
+delimiter_kind k c t r same is e = sym (ap (λ o. kind_at o r) (ap lexeme_at same ∙ front_delimiter c t is) ∙ e)
+
+close_kind : (groups : List OpenGroup) (r : List ℕ) → passes (λ c. is_closer c && not (closes groups c)) r ≡ true → UnmatchedClose ≡ kind_at (lexeme_at r) r
+close_kind groups r h =
+    let (c, t, same, is) = first_passes (λ c. is_closer c && not (closes groups c)) r h in
+    let m = closer_among c (both_true (is_closer c) (not (closes groups c)) is).0 in
+    delimiter_kind UnmatchedClose c t r same m.0 (ap (λ b. if b then TooDeep else UnmatchedClose) m.1)
+
+deep_kind : (r : List ℕ) → passes is_opener r ≡ true → TooDeep ≡ kind_at (lexeme_at r) r
+deep_kind r h =
+    let (c, t, same, is) = first_passes is_opener r h in
+    delimiter_kind TooDeep c t r same (opener_among c is) (ap (λ b. if b then TooDeep else UnmatchedClose) is)
+
+pub fault_kind_at : (k : LexKind) (groups : List OpenGroup) (r : List ℕ) → FaultAt k groups r → k ≡ kind_at (lexeme_at r) r
+fault_kind_at DocComment groups r h =
+    no_lexeme_kind r DocComment (slash_none r (doc_slash r h)) (slash_some r (doc_slash r h))
+    (chosen_kind r true (begins (codes "/*") r) (begins_quote r) (begins_lifetime r) (begins_raw_identifier r) h refl refl refl refl)
+fault_kind_at UnclosedComment groups r (h, other) =
+    no_lexeme_kind r UnclosedComment (slash_none r (block_slash r h)) (slash_some r (block_slash r h))
+    (chosen_kind r false true (begins_quote r) (begins_lifetime r) (begins_raw_identifier r) other h refl refl refl)
+fault_kind_at UnclosedQuote groups r (none, h) = quote_kind r none h
+fault_kind_at Lifetime groups r (none, h) = life_kind r none h
+fault_kind_at RawIdentifier groups r (none, h) = raw_kind r none h
+fault_kind_at StrayCharacter groups r (some, none, h) = stray_kind r some none h
+fault_kind_at UnmatchedClose groups r h = close_kind groups r h
+fault_kind_at UnclosedGroup groups r (nil, some) = sym (ap (λ x. kind_at (lexeme_at x) x) nil)
+fault_kind_at TooDeep groups r (h, n) = deep_kind r h
+fault_kind_at Memory groups r h = absurd h
+
+-- nothing is wrong where nothing is left and no group is open
+pub no_fault : (k : LexKind) → FaultAt k [] [] → ⊥
+no_fault DocComment h = absurd (cc)
+no_fault UnclosedComment (h, _) = absurd (cc)
+no_fault UnclosedQuote (_, h) = absurd (cc)
+no_fault Lifetime (_, h) = absurd (cc)
+no_fault RawIdentifier (_, h) = absurd (cc)
+no_fault StrayCharacter (some, _, _) = some refl
+no_fault UnmatchedClose h = absurd (cc)
+no_fault UnclosedGroup (_, some) = some refl
+no_fault TooDeep (h, _) = absurd (cc)
+no_fault Memory h = h

@@ -1,0 +1,179 @@
+-- The groups that are open, and what was read with them, as trees and groups come and go.
+use Rattle.std.proofs.Common.{◌≡◌, ◌≢◌, ℕ, suc, ◌+◌, ◌-◌, ◌<◌, true, false, ◌==◌, List, [], ◌∷◌, ◌++◌, length, map, reverse, Some, refl, sym, ◌∙◌, ap, arith, append_assoc}
+use Rattle.std.proofs.lemmas.List.{map-append, reverse-append, length-reverse}
+use Rattle.rl_tokens.specs.declared.span.Span.{Span}
+use Rattle.rl_tokens.specs.declared.nest.OpenNest.{OpenNest}
+use Rattle.rl_tokens.specs.declared.nest.Nest.{Nest}
+use Rattle.rl_tokens.specs.declared.token.TokenTree.{TokenTree}
+use Rattle.rl_tokens.specs.declared.token.TokenTree.TheVariants as tree
+use Rattle.rl_tokens.specs.declared.token.Group.{Group}
+use Rattle.rl_tokens.specs.declared.token.Delimiter.{Delimiter}
+use Rattle.rl_tokens.specs.declared.token.Delimiter.TheVariants.{Parenthesis, Brace, Bracket}
+use Rattle.rl_tokens.specs.declared.lex_error.LexKind.TheVariants.{UnclosedGroup}
+use Rattle.rl_tokens.specs.Trees.{Tree, FlatToken, Opening, Closing, FlatPunct, opener_span, closer_span, trees_of, delimiter_of, stream_of, group_span, tree_view, stream_view, flat, flat_trees}
+use Rattle.rl_tokens.specs.Lexing.{closer_of, closes, popped, innermost, behind_form, flat_form}
+use Rattle.rl_tokens.specs.Nests.{opener_of, closer_char, group_of, groups_of, flat_open, flat_nest, TakesToken, TakesTree, OpensGroup, ClosesGroup, EndsInGroup}
+use Rattle.rl_tokens.specs.Puncts.{Mark}
+use Rattle.rl_tokens.specs.Lexemes.{Form, MarkForm}
+use Rattle.rl_tokens.proofs.TreeLemmas.{tree_view-group, tree_view-punct}
+
+pub flat_trees-append : (xs ys : List Tree) → flat_trees (xs ++ ys) ≡ flat_trees xs ++ flat_trees ys
+flat_trees-append [] ys = refl
+flat_trees-append (x ∷ xs) ys = ap (λ z. flat x ++ z) (flat_trees-append xs ys) ∙ sym (append_assoc (flat x) (flat_trees xs) (flat_trees ys))
+
+nil_behind : {X : Type 0} (xs : List X) → xs ++ [] ≡ xs
+nil_behind [] = refl
+nil_behind (x ∷ xs) = ap (λ t. x ∷ t) (nil_behind xs)
+
+pub takes_tree : {A : Type 0} (old new : Nest A) (tree : TokenTree A) → new.opened ≡ old.opened → new.file ≡ old.file → trees_of new.trees ≡ trees_of old.trees ++ tree ∷ [] → TakesTree old new tree
+takes_tree old new tree o f t = record {
+  opened_same = o;
+  file_same = f;
+  trees =
+      ap (λ ts. flat_trees (map tree_view ts)) t
+      ∙ ap flat_trees (map-append tree_view (trees_of old.trees) (tree ∷ []))
+      ∙ flat_trees-append (stream_view old.trees) (tree_view tree ∷ [])
+      ∙ ap (λ z. flat_trees (stream_view old.trees) ++ z) (nil_behind (flat (tree_view tree)));
+}
+
+pub groups-push : {A : Type 0} (xs : List (OpenNest A)) (o : OpenNest A) → reverse (map group_of (xs ++ o ∷ [])) ≡ group_of o ∷ reverse (map group_of xs)
+groups-push xs o = ap reverse (map-append group_of xs (o ∷ [])) ∙ reverse-append (map group_of xs) (group_of o ∷ [])
+
+pub groups_length : {A : Type 0} (xs : List (OpenNest A)) → length (reverse (map group_of xs)) ≡ length xs
+groups_length xs = length-reverse (map group_of xs) ∙ length_map xs
+  where
+    length_map : {A : Type 0} (xs : List (OpenNest A)) → length (map group_of xs) ≡ length xs
+    length_map [] = refl
+    length_map (x ∷ xs) = ap suc (length_map xs)
+
+pub flat_open-push : {A : Type 0} (file : ℕ) (xs : List (OpenNest A)) (o : OpenNest A) → flat_open file (xs ++ o ∷ []) ≡ flat_open file xs ++ (flat_trees (stream_view o.before) ++ (Opening o.delimiter (record { file = file; lo = o.at; hi = o.at + 1 }) ∷ []))
+flat_open-push file [] o = refl
+flat_open-push file (x ∷ xs) o =
+    let f = flat_trees (stream_view x.before) in
+    let p = Opening x.delimiter (record { file = file; lo = x.at; hi = x.at + 1 }) in
+    ap (λ z. f ++ (p ∷ z)) (flat_open-push file xs o)
+    ∙ sym (append_assoc f (p ∷ flat_open file xs) (flat_trees (stream_view o.before) ++ (Opening o.delimiter (record { file = file; lo = o.at; hi = o.at + 1 }) ∷ [])))
+
+regroup : (a b c d : List FlatToken) → (a ++ (b ++ c)) ++ d ≡ (a ++ b) ++ (c ++ d)
+regroup a b c d = simp append_assoc
+
+-- a group was opened
+pub opens_group : {A : Type 0} (old new : Nest A) (o : OpenNest A) → new.opened.items ≡ old.opened.items ++ o ∷ [] → o.before ≡ old.trees → trees_of new.trees ≡ [] → new.file ≡ old.file → length old.opened.items < 128 → OpensGroup old new o.delimiter o.at
+opens_group old new o pushed before empty file shallow =
+    let xs = old.opened.items in
+    let opening = Opening o.delimiter (record { file = old.file; lo = o.at; hi = o.at + 1 }) ∷ [] in
+    record {
+      shallow = omega (arith, groups_length xs);
+      groups = ap (λ os. reverse (map group_of os)) pushed ∙ groups-push xs o;
+      file_same = file;
+      flat =
+          ap (λ f. flat_open f new.opened.items ++ flat_trees (stream_view new.trees)) file
+          ∙ ap (λ os. flat_open old.file os ++ flat_trees (stream_view new.trees)) pushed
+          ∙ ap (λ ts. flat_open old.file (xs ++ o ∷ []) ++ flat_trees (map tree_view ts)) empty
+          ∙ nil_behind (flat_open old.file (xs ++ o ∷ []))
+          ∙ flat_open-push old.file xs o
+          ∙ ap (λ s. flat_open old.file xs ++ (flat_trees (stream_view s) ++ opening)) before
+          ∙ sym (append_assoc (flat_open old.file xs) (flat_trees (stream_view old.trees)) opening);
+    }
+
+flat-group : {A : Type 0} (g : Group A) → flat (tree_view (tree.Group g)) ≡ Opening (delimiter_of g) (opener_span (group_span g)) ∷ (flat_trees (stream_view (stream_of g)) ++ (Closing (delimiter_of g) (closer_span (group_span g)) ∷ []))
+flat-group g = ap flat (tree_view-group g)
+
+-- the flat group that ends here
+flat_closed : {A : Type 0} (g : Group A) (d : Delimiter) (file at lo hi : ℕ) (inside : List FlatToken) → delimiter_of g ≡ d → group_span g ≡ record { file = file; lo = at; hi = hi } → flat_trees (stream_view (stream_of g)) ≡ inside → hi ≡ lo + 1 → flat (tree_view (tree.Group g)) ≡ Opening d (record { file = file; lo = at; hi = at + 1 }) ∷ (inside ++ (Closing d (record { file = file; lo = lo; hi = hi }) ∷ []))
+flat_closed g d file at lo hi inside d_is span_is inside_is one =
+    let low : hi - 1 ≡ lo = omega arith in
+    flat-group g
+    ∙ ap (λ x. Opening x (opener_span (group_span g)) ∷ (flat_trees (stream_view (stream_of g)) ++ (Closing x (closer_span (group_span g)) ∷ []))) d_is
+    ∙ ap (λ s. Opening d (opener_span s) ∷ (flat_trees (stream_view (stream_of g)) ++ (Closing d (closer_span s) ∷ []))) span_is
+    ∙ ap (λ x. Opening d (record { file = file; lo = at; hi = at + 1 }) ∷ (x ++ (Closing d (record { file = file; lo = hi - 1; hi = hi }) ∷ []))) inside_is
+    ∙ ap (λ n. Opening d (record { file = file; lo = at; hi = at + 1 }) ∷ (inside ++ (Closing d (record { file = file; lo = n; hi = hi }) ∷ []))) low
+
+same_closer : (d : Delimiter) → (closer_of (opener_of d) == closer_char d) ≡ true
+same_closer Parenthesis = refl
+same_closer Brace = refl
+same_closer Bracket = refl
+
+other_closer : (d e : Delimiter) → d ≢ e → (closer_of (opener_of d) == closer_char e) ≡ false
+other_closer Parenthesis Parenthesis h = absurd (h refl)
+other_closer Parenthesis Brace h = refl
+other_closer Parenthesis Bracket h = refl
+other_closer Brace Parenthesis h = refl
+other_closer Brace Brace h = absurd (h refl)
+other_closer Brace Bracket h = refl
+other_closer Bracket Parenthesis h = refl
+other_closer Bracket Brace h = refl
+other_closer Bracket Bracket h = absurd (h refl)
+
+-- a group was closed: it is the last tree of the level around it
+pub closes_group : {A : Type 0} (old between new : Nest A) (o : OpenNest A) (g : Group A) (d : Delimiter) (lo hi : ℕ) → old.opened.items ≡ between.opened.items ++ o ∷ [] → o.before ≡ between.trees → between.file ≡ old.file → o.delimiter ≡ d → delimiter_of g ≡ d → stream_of g ≡ old.trees → group_span g ≡ record { file = old.file; lo = o.at; hi = hi } → hi ≡ lo + 1 → TakesTree between new (tree.Group g) → ClosesGroup old new d lo hi
+closes_group old between new o g d lo hi popped_is before file d_is g_delimiter g_stream g_span one takes =
+    let xs = between.opened.items in
+    let groups_are : groups_of old ≡ group_of o ∷ reverse (map group_of xs) = ap (λ os. reverse (map group_of os)) popped_is ∙ groups-push xs o in
+    let inside = flat_trees (stream_view old.trees) in
+    let front = flat_open old.file xs in
+    let opening : FlatToken = Opening d (record { file = old.file; lo = o.at; hi = o.at + 1 }) in
+    let closing : FlatToken = Closing d (record { file = old.file; lo = lo; hi = hi }) in
+    let closed : flat (tree_view (tree.Group g)) ≡ opening ∷ (inside ++ (closing ∷ [])) =
+    flat_closed g d old.file o.at lo hi inside g_delimiter g_span (ap (λ s. flat_trees (stream_view s)) g_stream) one in
+    let new_file : new.file ≡ old.file = takes.file_same ∙ file in
+    let new_flat : flat_nest new ≡ front ++ (flat_trees (stream_view between.trees) ++ (opening ∷ (inside ++ (closing ∷ [])))) =
+    ap (λ f. flat_open f new.opened.items ++ flat_trees (stream_view new.trees)) new_file
+    ∙ ap (λ os. flat_open old.file os.items ++ flat_trees (stream_view new.trees)) takes.opened_same
+    ∙ ap (λ z. front ++ z) (takes.trees ∙ ap (λ z. flat_trees (stream_view between.trees) ++ z) closed) in
+    let old_flat : flat_nest old ≡ (front ++ (flat_trees (stream_view between.trees) ++ (opening ∷ []))) ++ inside =
+    ap (λ os. flat_open old.file os ++ inside) popped_is
+    ∙ ap (λ z. z ++ inside) (flat_open-push old.file xs o)
+    ∙ ap (λ s. (front ++ (flat_trees (stream_view s) ++ (Opening o.delimiter (record { file = old.file; lo = o.at; hi = o.at + 1 }) ∷ []))) ++ inside) before
+    ∙ ap (λ x. (front ++ (flat_trees (stream_view between.trees) ++ (Opening x (record { file = old.file; lo = o.at; hi = o.at + 1 }) ∷ []))) ++ inside) d_is in
+    record {
+      closes_it = ap (λ gs. closes gs (closer_char d)) groups_are ∙ ap (λ x. closer_of (opener_of x) == closer_char d) d_is ∙ same_closer d;
+      groups = ap (λ os. reverse (map group_of os.items)) takes.opened_same ∙ sym (ap popped groups_are);
+      file_same = new_file;
+      flat = new_flat ∙ regroup_closed front (flat_trees (stream_view between.trees)) inside opening closing ∙ ap (λ z. z ++ (closing ∷ [])) (sym old_flat);
+    }
+  where
+    regroup_closed : (a b i : List FlatToken) (o c : FlatToken) → a ++ (b ++ (o ∷ (i ++ (c ∷ [])))) ≡ ((a ++ (b ++ (o ∷ []))) ++ i) ++ (c ∷ [])
+    regroup_closed a b i o c = simp append_assoc
+
+-- the closer isn't that of the innermost open group
+pub wrong_closer : {A : Type 0} (old : Nest A) (xs : List (OpenNest A)) (o : OpenNest A) (d : Delimiter) → old.opened.items ≡ xs ++ o ∷ [] → o.delimiter ≢ d → closes (groups_of old) (closer_char d) ≡ false
+wrong_closer old xs o d popped_is other =
+    ap (λ os. closes (reverse (map group_of os)) (closer_char d)) popped_is
+    ∙ ap (λ gs. closes gs (closer_char d)) (groups-push xs o)
+    ∙ other_closer o.delimiter d other
+
+pub no_group : {A : Type 0} (old : Nest A) (d : Delimiter) → old.opened.items ≡ [] → closes (groups_of old) (closer_char d) ≡ false
+no_group old d none = ap (λ os. closes (reverse (map group_of os)) (closer_char d)) none
+
+-- the text ends in a group
+pub ends_in_group : {A : Type 0} (old : Nest A) (xs : List (OpenNest A)) (o : OpenNest A) → old.opened.items ≡ xs ++ o ∷ [] → EndsInGroup (groups_of old) (record { kind = UnclosedGroup; at = o.at })
+ends_in_group old xs o popped_is =
+    let groups_are : groups_of old ≡ group_of o ∷ reverse (map group_of xs) = ap (λ os. reverse (map group_of os)) popped_is ∙ groups-push xs o in
+    record {
+      kind = refl;
+      some_open = λ none. let q : group_of o ∷ reverse (map group_of xs) ≡ [] = sym groups_are ∙ none in absurd (cc);
+      place = λ at. ap (λ gs. innermost gs at) (sym groups_are);
+    }
+
+-- a token without trees inside was read
+pub takes_leaf : {A : Type 0} (old new : Nest A) (t : TokenTree A) (f : FlatToken) → flat (tree_view t) ≡ f ∷ [] → TakesTree old new t → (groups_of new ≡ groups_of old) × (flat_nest new ≡ flat_nest old ++ f ∷ []) × (new.file ≡ old.file)
+takes_leaf old new t f is takes = (
+  ap (λ os. reverse (map group_of os.items)) takes.opened_same,
+  ap (λ k. flat_open k new.opened.items ++ flat_trees (stream_view new.trees)) takes.file_same
+      ∙ ap (λ os. flat_open old.file os.items ++ flat_trees (stream_view new.trees)) takes.opened_same
+      ∙ ap (λ z. flat_open old.file old.opened.items ++ z) (takes.trees ∙ ap (λ z. flat_trees (stream_view old.trees) ++ z) is)
+      ∙ sym (append_assoc (flat_open old.file old.opened.items) (flat_trees (stream_view old.trees)) (f ∷ [])),
+  takes.file_same,
+)
+
+pub takes_mark : {A : Type 0} (old new : Nest A) (p : Mark) (form : Form) (c : ℕ) (text : List ℕ) (lo hi : ℕ) → form ≡ MarkForm c → p ≡ record { ch = c; span = record { file = old.file; lo = lo; hi = hi } } → TakesTree old new (tree.Punct p) → TakesToken old new form text lo hi
+takes_mark {A} old new p form c text lo hi form_is p_is takes =
+    let (groups, flat_new, file) = takes_leaf old new (tree.Punct p) (FlatPunct p) (ap flat (tree_view-punct A p)) takes in
+    let span : Span = record { file = old.file; lo = lo; hi = hi } in
+    let token : flat_form form text span ≡ FlatPunct p = ap (λ f. flat_form f text span) form_is ∙ ap FlatPunct (sym p_is) in
+    record {
+      groups = ap (λ f. behind_form (groups_of old) f lo) form_is ∙ ap Some (sym groups);
+      flat = flat_new ∙ ap (λ f. flat_nest old ++ f ∷ []) (sym token);
+      file = file;
+    }

@@ -1,0 +1,45 @@
+-- Views of trees and streams.
+use Rattle.std.proofs.Common.{◌≡◌, List, [], ◌∷◌, map, refl, sym, ◌∙◌, ap}
+use Rattle.rl_tokens.specs.declared.span.Span.{Span}
+use Rattle.rl_tokens.specs.declared.token.TokenTree.{fold-roll-TokenTree}
+use Rattle.rl_tokens.specs.declared.token.TokenTree.TheOpen as layer
+use Rattle.rl_tokens.specs.declared.token.TokenTree.TheVariants as tree
+use Rattle.rl_tokens.specs.declared.token.Group.{Group, fold_out-Group}
+use Rattle.rl_tokens.specs.declared.token.TokenStream.{TokenStream, fold-TokenStream, fold_out-TokenStream}
+use Rattle.rl_tokens.specs.Puncts.{Mark}
+use Rattle.rl_tokens.specs.Trees.{Tree, GroupTree, PunctTree, MoreTrees, GroupParts, delimiter_of, stream_of, group_span, inside_of, tree_step, group_step, stream_step, tree_view, stream_view, respanned, all_respanned}
+
+abbrev stream_fold : {A : Type 0} → TokenStream A → List Tree
+stream_fold {A} = fold-TokenStream A Tree GroupParts (List Tree) tree_step group_step stream_step
+
+stream_fold-view : {A : Type 0} (s : TokenStream A) → stream_fold s ≡ stream_view s
+stream_fold-view {A} s = fold_out-TokenStream A Tree GroupParts (List Tree) tree_step group_step stream_step s
+
+-- a group's tree, by its parts
+pub tree_view-group : {A : Type 0} (g : Group A) → tree_view (tree.Group g) ≡ GroupTree (delimiter_of g) (inside_of (stream_view (stream_of g))) (group_span g)
+tree_view-group {A} g =
+    ap tree_view (sym (tree.rolls-Group g))
+    ∙ fold-roll-TokenTree A Tree GroupParts (List Tree) tree_step group_step stream_step (layer.Group g)
+    ∙ ap (λ (p : GroupParts). GroupTree p.delimiter (inside_of p.inside) p.span) (fold_out-Group A Tree GroupParts (List Tree) tree_step group_step stream_step g)
+    ∙ ap (λ (ts : List Tree). GroupTree (delimiter_of g) (inside_of ts) (group_span g)) (stream_fold-view (stream_of g))
+
+pub tree_view-punct : (A : Type 0) (p : Mark) → tree_view {A = A} (tree.Punct p) ≡ PunctTree p
+tree_view-punct A p = ap tree_view (sym (tree.rolls-Punct p)) ∙ fold-roll-TokenTree A Tree GroupParts (List Tree) tree_step group_step stream_step (layer.Punct p)
+
+pub respanned-inside : (span : Span) (ts : List Tree) → all_respanned span (inside_of ts) ≡ inside_of (map (respanned span) ts)
+respanned-inside span [] = refl
+respanned-inside span (t ∷ ts) = ap (MoreTrees (respanned span t)) (respanned-inside span ts)
+
+-- a group with every span another, by its parts
+pub respanned_group : {A : Type 0} (span : Span) (g h : Group A) → delimiter_of h ≡ delimiter_of g → group_span h ≡ span → stream_view (stream_of h) ≡ map (respanned span) (stream_view (stream_of g)) → tree_view (tree.Group h) ≡ respanned span (tree_view (tree.Group g))
+respanned_group span g h d s i =
+    let e = respanned-inside span (stream_view (stream_of g)) in
+    let a = tree_view-group g in
+    let b = tree_view-group h in
+    let k : respanned span (tree_view (tree.Group g)) ≡ respanned span (GroupTree (delimiter_of g) (inside_of (stream_view (stream_of g))) (group_span g)) = ap (respanned span) a in
+    b
+    ∙ ap (λ x. GroupTree x (inside_of (stream_view (stream_of h))) (group_span h)) d
+    ∙ ap (λ x. GroupTree (delimiter_of g) (inside_of x) (group_span h)) i
+    ∙ ap (λ x. GroupTree (delimiter_of g) (inside_of (map (respanned span) (stream_view (stream_of g)))) x) s
+    ∙ ap (λ x. GroupTree (delimiter_of g) x span) (sym e)
+    ∙ sym k

@@ -1,0 +1,12 @@
+-- The rest is behind the text, step by step.
+use Rattle.rl_tokens.proofs.BehindLemmas.{behind_step}
+use Rattle.rl_tokens.proofs.lexeme.number.after_exponent.Goals as goal
+
+pub returns-then-is_ascii_digit-clause-behind : goal.returns-then-is_ascii_digit-clause-behind
+returns-then-is_ascii_digit-clause-behind c =
+    let t = c.args.text.now in
+    let signed = c.in-Some-e-default.behind.now in
+    let digits = c.after_sign-digits.result.now in
+    behind_step t digits c.after_row-then-is_ascii_digit.result.now
+    (behind_step t signed digits c.in-Some-e-default.ensures.behind c.after_sign-digits.ensures.behind)
+    c.after_row-then-is_ascii_digit.ensures.behind

@@ -1,0 +1,9 @@
+use Rattle.std.proofs.Common.{refl, ◌∙◌, ap, arith}
+use Rattle.rl_tokens.specs.Trees.{trees_of}
+use Rattle.rl_tokens.proofs.NestLemmas.{opens_group}
+use Rattle.rl_tokens.proofs.nest.Nest.open_group.Goals as goal
+
+pub returns-clause-ok : goal.returns-clause-ok
+returns-clause-ok g c =
+    opens_group c.args.self.now _ (record { delimiter = c.args.delimiter; at = c.args.at; before = c.replace-before.result })
+    c.in_default.ensures.items c.replace-before.ensures.value (ap trees_of c.replace-before.ensures.after ∙ c.new-2.ensures) refl (omega arith)

@@ -1,0 +1,231 @@
+-- The lexemes of a text, each a tree with its spelling, and as long as what follows it allows. A character is its code.
+use Rattle.std.specs.Prelude.{◌≡◌, ℕ, ◌⊎◌, Bool, true, false, not, ◌&&◌, ◌||◌, ◌==◌, List, [], ◌∷◌, ◌++◌, IsTrue, ⊤, slice_index, replicate, drop, cond, if◌then◌else◌}
+use Rattle.std.proofs.Common.{suc, zero}
+use Rattle.std.specs.Char.{is_ascii_digit}
+use Rattle.std.specs.List.{list_all}
+use Rattle.rl_tokens.specs.Texts.{is_white, is_start, is_continue, is_underscore, is_among, passes}
+
+-- what a row of digits in a decimal holds
+abbrev pub is_numeral_part : ℕ → Bool
+is_numeral_part c = is_ascii_digit c || is_underscore c
+
+abbrev pub is_hash : ℕ → Bool
+is_hash c = c == 35
+
+-- behind a zero: x, o or b
+abbrev pub is_base_letter : ℕ → Bool
+is_base_letter c = c == 120 || c == 111 || c == 98
+
+abbrev pub delimiters : List ℕ
+delimiters = 40 ∷ 41 ∷ 91 ∷ 93 ∷ 123 ∷ 125 ∷ []
+
+-- ~ ! @ # $ % ^ & * - = + | ; : , < . > ?, without the slash
+abbrev pub marks : List ℕ
+marks = 126 ∷ 33 ∷ 64 ∷ 35 ∷ 36 ∷ 37 ∷ 94 ∷ 38 ∷ 42 ∷ 45 ∷ 61 ∷ 43 ∷ 124 ∷ 59 ∷ 58 ∷ 44 ∷ 60 ∷ 46 ∷ 62 ∷ 63 ∷ []
+
+-- What follows the longest row of such characters.
+abbrev pub after_run : (ℕ → Bool) → List ℕ → List ℕ
+after_run test [] = []
+after_run test (c ∷ t) = cond (test c) (after_run test t) (c ∷ t)
+
+-- Hashes, perhaps none, and a quote.
+abbrev pub begins_hashed_quote : List ℕ → Bool
+begins_hashed_quote t = slice_index (after_run is_hash t) 0 == 34
+
+-- The text begins like a literal with a prefix, or like a raw identifier.
+abbrev pub begins_otherwise : List ℕ → Bool
+begins_otherwise [] = false
+begins_otherwise (c ∷ t) =
+    (c == 98 && (slice_index t 0 == 34 || (slice_index t 0 == 39 || (slice_index t 0 == 114 && begins_hashed_quote (drop 1 t)))))
+    || ((c == 99 && (slice_index t 0 == 34 || (slice_index t 0 == 114 && begins_hashed_quote (drop 1 t))))
+    || (c == 114 && (begins_hashed_quote t || (slice_index t 0 == 35 && passes is_start (drop 1 t)))))
+
+-- n hashes begin the text.
+abbrev pub begins_hashes : ℕ → List ℕ → Bool
+begins_hashes zero t = true
+begins_hashes (suc n) [] = false
+begins_hashes (suc n) (c ∷ t) = c == 35 && begins_hashes n t
+
+-- What follows a sign, where one begins the text.
+abbrev pub after_sign : List ℕ → List ℕ
+after_sign [] = []
+after_sign (c ∷ t) = cond (c == 43 || c == 45) t (c ∷ t)
+
+-- An exponent begins the text: `e` or `E`, perhaps a sign, underscores and a digit.
+abbrev pub begins_exponent : List ℕ → Bool
+begins_exponent [] = false
+begins_exponent (c ∷ t) = (c == 101 || c == 69) && passes is_ascii_digit (after_run is_underscore (after_sign t))
+
+-- A dot part begins the text: a dot, and behind it neither a dot nor an identifier.
+abbrev pub begins_dot : List ℕ → Bool
+begins_dot [] = false
+begins_dot (c ∷ t) = c == 46 && not (passes (λ d. d == 46 || is_start d) t)
+
+-- What stands before the quote, or before the `r`: nothing, `b` or `c`.
+pub data LiteralPrefix : Type 0 where
+  NoPrefix : LiteralPrefix
+  BytePrefix : LiteralPrefix
+  CPrefix : LiteralPrefix
+
+abbrev pub prefix_text : LiteralPrefix → List ℕ
+prefix_text NoPrefix = []
+prefix_text BytePrefix = 98 ∷ []
+prefix_text CPrefix = 99 ∷ []
+
+-- A part of a quoted body: a character on its own, or a backslash and any character.
+pub data BodyPart : Type 0 where
+  PlainPart : (c : ℕ) → BodyPart
+  EscapedPart : (c : ℕ) → BodyPart
+
+abbrev pub body_text : List BodyPart → List ℕ
+body_text [] = []
+body_text (PlainPart c ∷ parts) = c ∷ body_text parts
+body_text (EscapedPart c ∷ parts) = 92 ∷ c ∷ body_text parts
+
+abbrev pub IsBody : List BodyPart → Type 0
+IsBody [] = ⊤
+IsBody (PlainPart c ∷ parts) = IsTrue (not (c == 34 || c == 92)) × IsBody parts
+IsBody (EscapedPart c ∷ parts) = IsBody parts
+
+-- Between the quotes of a character: one character, or a backslash, any character, and more.
+pub data Within : Type 0 where
+  OneCharacter : (c : ℕ) → Within
+  EscapedCharacter : (c : ℕ) (more : List ℕ) → Within
+
+abbrev pub within_text : Within → List ℕ
+within_text (OneCharacter c) = c ∷ []
+within_text (EscapedCharacter c more) = 92 ∷ c ∷ more
+
+abbrev pub IsWithin : Within → Type 0
+IsWithin (OneCharacter c) = IsTrue (not (c == 92))
+IsWithin (EscapedCharacter c more) = IsTrue (list_all (λ d. not (d == 39 || d == 10)) more)
+
+-- The dot part of a decimal, where there is one.
+pub data LexedFraction : Type 0 where
+  NoLexedFraction : LexedFraction
+  LexedDot : (digits : List ℕ) → LexedFraction
+
+abbrev pub lexed_fraction_text : LexedFraction → List ℕ
+lexed_fraction_text NoLexedFraction = []
+lexed_fraction_text (LexedDot digits) = 46 ∷ digits
+
+pub data LexedSign : Type 0 where
+  NoLexedSign : LexedSign
+  LexedPlus : LexedSign
+  LexedMinus : LexedSign
+
+abbrev pub lexed_sign_text : LexedSign → List ℕ
+lexed_sign_text NoLexedSign = []
+lexed_sign_text LexedPlus = 43 ∷ []
+lexed_sign_text LexedMinus = 45 ∷ []
+
+-- The exponent of a decimal, where there is one: a letter, perhaps a sign, underscores, a digit and what follows it.
+pub data LexedExponent : Type 0 where
+  NoLexedExponent : LexedExponent
+  LexedPower : (letter : ℕ) (sign : LexedSign) (underscores digit : ℕ) (more : List ℕ) → LexedExponent
+
+abbrev pub lexed_exponent_text : LexedExponent → List ℕ
+lexed_exponent_text NoLexedExponent = []
+lexed_exponent_text (LexedPower letter sign n d more) = letter ∷ lexed_sign_text sign ++ (replicate n 95 ++ d ∷ more)
+
+pub data Lexeme : Type 0 where
+  -- a string with escapes
+  QuotedLexeme : (p : LiteralPrefix) (parts : List BodyPart) (suffix : List ℕ) → Lexeme
+  RawLexeme : (p : LiteralPrefix) (hashes : ℕ) (body suffix : List ℕ) → Lexeme
+  -- a character or a byte
+  CharacterLexeme : (is_byte : Bool) (inside : Within) (suffix : List ℕ) → Lexeme
+  -- `0x`, `0o` or `0b`, and what goes on with it, a suffix too
+  BasedLexeme : (letter : ℕ) (digits : List ℕ) → Lexeme
+  DecimalLexeme : (digit : ℕ) (more : List ℕ) (fraction : LexedFraction) (exponent : LexedExponent) (suffix : List ℕ) → Lexeme
+  IdentifierLexeme : (first : ℕ) (more : List ℕ) → Lexeme
+  DelimiterLexeme : (c : ℕ) → Lexeme
+  MarkLexeme : (c : ℕ) → Lexeme
+
+abbrev pub lexeme_text : Lexeme → List ℕ
+lexeme_text (QuotedLexeme p parts suffix) = prefix_text p ++ 34 ∷ body_text parts ++ 34 ∷ suffix
+lexeme_text (RawLexeme p n body suffix) = prefix_text p ++ 114 ∷ replicate n 35 ++ 34 ∷ body ++ 34 ∷ replicate n 35 ++ suffix
+lexeme_text (CharacterLexeme is_byte inside suffix) = (if is_byte then 98 ∷ [] else []) ++ 39 ∷ within_text inside ++ 39 ∷ suffix
+lexeme_text (BasedLexeme letter digits) = 48 ∷ letter ∷ digits
+lexeme_text (DecimalLexeme d more fraction exponent suffix) = d ∷ more ++ (lexed_fraction_text fraction ++ (lexed_exponent_text exponent ++ suffix))
+lexeme_text (IdentifierLexeme c more) = c ∷ more
+lexeme_text (DelimiterLexeme c) = c ∷ []
+lexeme_text (MarkLexeme c) = c ∷ []
+
+-- A row of such characters, as long as what follows allows.
+pub record IsRow (test : ℕ → Bool) (row after : List ℕ) : Type 0 where
+  pub each : IsTrue (list_all test row)
+  pub ends : passes test after ≡ false
+
+-- An identifier run, or nothing where none follows.
+abbrev pub IsLexedSuffix : List ℕ → List ℕ → Type 0
+IsLexedSuffix [] after = passes is_start after ≡ false
+IsLexedSuffix (c ∷ more) after = IsTrue (is_start c) × IsRow is_continue more after
+
+-- No quote in the body has n hashes behind it.
+abbrev pub IsRawBody : ℕ → List ℕ → Type 0
+IsRawBody n [] = ⊤
+IsRawBody n (c ∷ body) = ((c == 34 && begins_hashes n body) ≡ false) × IsRawBody n body
+
+abbrev pub IsLexedFraction : LexedFraction → List ℕ → Type 0
+IsLexedFraction NoLexedFraction after = begins_dot after ≡ false
+IsLexedFraction (LexedDot digits) after = IsTrue (begins_dot (46 ∷ digits ++ after)) × IsRow is_numeral_part digits after
+
+abbrev pub IsLexedExponent : LexedExponent → List ℕ → Type 0
+IsLexedExponent NoLexedExponent after = begins_exponent after ≡ false
+IsLexedExponent (LexedPower letter sign n d more) after = IsTrue (letter == 101 || letter == 69) × IsTrue (is_ascii_digit d) × IsRow is_numeral_part more after
+
+-- The lexeme is well made, and as long as the text after it allows.
+abbrev pub IsLexeme : Lexeme → List ℕ → Type 0
+IsLexeme (QuotedLexeme p parts suffix) after = IsBody parts × IsLexedSuffix suffix after
+IsLexeme (RawLexeme p n body suffix) after = IsRawBody n body × IsLexedSuffix suffix after
+IsLexeme (CharacterLexeme is_byte inside suffix) after = IsWithin inside × IsLexedSuffix suffix after
+IsLexeme (BasedLexeme letter digits) after = IsTrue (is_base_letter letter) × IsRow is_continue digits after
+IsLexeme (DecimalLexeme d more fraction exponent suffix) after =
+    IsTrue (is_ascii_digit d)
+    × ((d == 48 && passes is_base_letter (more ++ (lexed_fraction_text fraction ++ (lexed_exponent_text exponent ++ (suffix ++ after))))) ≡ false)
+    × IsRow is_numeral_part more (lexed_fraction_text fraction ++ (lexed_exponent_text exponent ++ (suffix ++ after)))
+    × IsLexedFraction fraction (lexed_exponent_text exponent ++ (suffix ++ after))
+    × IsLexedExponent exponent (suffix ++ after)
+    × IsLexedSuffix suffix after
+IsLexeme (IdentifierLexeme c more) after = IsTrue (is_start c) × IsRow is_continue more after × (begins_otherwise (c ∷ more ++ after) ≡ false)
+IsLexeme (DelimiterLexeme c) after = IsTrue (is_among delimiters c)
+IsLexeme (MarkLexeme c) after = IsTrue (is_among marks c) ⊎ ((c ≡ 47) × (passes (λ d. d == 47 || d == 42) after ≡ false))
+
+-- w is a lexeme with after behind it.
+abbrev pub LexemeWith : List ℕ → List ℕ → Type 0
+LexemeWith w after = (l : Lexeme) × IsLexeme l after × (w ≡ lexeme_text l)
+
+-- At most one front of a text is a lexeme with the rest.
+abbrev pub OneFront : Type 0
+OneFront = (t v w x y : List ℕ) → t ≡ v ++ x → t ≡ w ++ y → LexemeWith v x → LexemeWith w y → (v ≡ w) × (x ≡ y)
+
+-- What a lexeme is to a parser: a literal, an identifier, one of the six delimiters, or another mark.
+pub data Form : Type 0 where
+  LiteralForm : Form
+  IdentifierForm : Form
+  DelimiterForm : (c : ℕ) → Form
+  MarkForm : (c : ℕ) → Form
+
+abbrev pub form_of : Lexeme → Form
+form_of (IdentifierLexeme first more) = IdentifierForm
+form_of (DelimiterLexeme c) = DelimiterForm c
+form_of (MarkLexeme c) = MarkForm c
+form_of _ = LiteralForm
+
+-- A lexeme stands at the front of the text, and the rest behind it.
+abbrev pub LexemeBefore : List ℕ → List ℕ → Type 0
+LexemeBefore t after = (w : List ℕ) × LexemeWith w after × (t ≡ w ++ after)
+
+-- The text is empty, or begins with white space or a slash.
+abbrev pub BeginsGap : List ℕ → Type 0
+BeginsGap [] = ⊤
+BeginsGap (c ∷ t) = IsTrue (is_white c || c == 47)
+
+-- What is told by its own characters: all but the marks.
+abbrev pub KeepsItsEnd : Lexeme → Type 0
+KeepsItsEnd (MarkLexeme c) = ⊥
+KeepsItsEnd _ = ⊤
+
+-- A lexeme but a mark stays one before a gap and at the end.
+abbrev pub StaysBeforeGap : Type 0
+StaysBeforeGap = (l : Lexeme) (after gap : List ℕ) → KeepsItsEnd l → IsLexeme l after → BeginsGap gap → IsLexeme l gap

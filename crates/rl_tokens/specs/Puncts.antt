@@ -1,0 +1,14 @@
+-- Punctuation.
+use Rattle.std.specs.Prelude.{ℕ, Bool, ◌||◌, ◌==◌}
+use Rattle.rl_tokens.specs.declared.span.Span.{Span}
+use Rattle.rl_tokens.specs.Texts.{is_among}
+use Rattle.rl_tokens.specs.Lexemes.{marks}
+
+-- which characters are punctuation: the marks, and the slash
+abbrev pub is_punct : ℕ → Bool
+is_punct c = is_among marks c || c == 47
+
+-- A punctuation token: its character, and where it stands.
+pub record Mark : Type 0 where
+  pub ch : ℕ
+  pub span : Span

@@ -1,0 +1,269 @@
+-- The literal tokens of the Rust Reference, in the profile of this project. Nothing of the lenient
+-- grammar's tables is used here.
+use Rattle.std.specs.Prelude.{◌≡◌, ◌≢◌, ◌⊎◌, ℕ, suc, ◌+◌, ◌*◌, ◌^◌, ◌<◌, Bool, false, not, ◌&&◌, ◌||◌, ◌==◌, nat_lt, nat_le, List, [], ◌∷◌, ◌++◌, length, filter, map, replicate, IsTrue, IsFalse, ⊤, encode_utf8_all, codes, if◌then◌else◌}
+use Rattle.std.specs.Char.{is_ascii_digit, is_ascii_hexdigit, digit_value}
+use Rattle.std.specs.Str.{all_scalars}
+use Rattle.std.specs.Fmt.{digits_onto}
+use Rattle.std.specs.List.{list_all, list_any, flat_map}
+use Rattle.rl_tokens.specs.declared.kind.Kind.{Kind}
+use Rattle.rl_tokens.specs.declared.kind.Kind.TheVariants.{Str, ByteStr, CStr, Byte, Char, Int, Float, Bool as BoolKind}
+use Rattle.rl_tokens.specs.Texts.{IsWord, passes, begins}
+use Rattle.rl_tokens.specs.Reading.{Contents, Characters, Bytes, Digits, Truth}
+
+abbrev pub IsStrictSuffix : List ℕ → Type 0
+IsStrictSuffix x = (x ≡ []) ⊎ IsWord x
+
+-- What stands between quotes, item by item.
+pub data StrictUnit : Type 0 where
+  Itself : (c : ℕ) → StrictUnit
+  -- \' and \"
+  QuoteEscape : (c : ℕ) → StrictUnit
+  -- \n \r \t \\ \0, by the letter
+  PlainEscape : (c : ℕ) → StrictUnit
+  -- \x and an octal digit and a hexadecimal digit
+  AsciiEscape : (high low : ℕ) → StrictUnit
+  -- \x and two hexadecimal digits
+  ByteEscape : (high low : ℕ) → StrictUnit
+  -- \u{..}: digits, each with how many underscores follow it
+  UnicodeEscape : (digits : List (ℕ × ℕ)) → StrictUnit
+  -- a backslash, LF, and the blanks that are dropped with it
+  LineBreak : (blanks : List ℕ) → StrictUnit
+
+abbrev pub spaced_digit : ℕ × ℕ → List ℕ
+spaced_digit d = d.0 ∷ replicate d.1 95
+
+abbrev pub strict_text : StrictUnit → List ℕ
+strict_text (Itself c) = c ∷ []
+strict_text (QuoteEscape c) = 92 ∷ c ∷ []
+strict_text (PlainEscape c) = 92 ∷ c ∷ []
+strict_text (AsciiEscape high low) = 92 ∷ 120 ∷ high ∷ low ∷ []
+strict_text (ByteEscape high low) = 92 ∷ 120 ∷ high ∷ low ∷ []
+strict_text (UnicodeEscape digits) = 92 ∷ 117 ∷ 123 ∷ [] ++ flat_map spaced_digit digits ++ 125 ∷ []
+strict_text (LineBreak blanks) = 92 ∷ 10 ∷ blanks
+
+-- the number that digits stand for, the first of them the highest
+abbrev pub number_of : ℕ → List ℕ → ℕ
+number_of base [] = 0
+number_of base (d ∷ ds) = digit_value d * base ^ length ds + number_of base ds
+
+abbrev pub spaced_value : List (ℕ × ℕ) → ℕ
+spaced_value digits = number_of 16 (map (λ d. d.0) digits)
+
+-- the letters of the plain escapes, and what they stand for
+abbrev pub plain_escapes : List (ℕ × ℕ)
+plain_escapes = (110, 10) ∷ (114, 13) ∷ (116, 9) ∷ (92, 92) ∷ (48, 0) ∷ []
+
+abbrev pub plain_value_in : List (ℕ × ℕ) → ℕ → List ℕ
+plain_value_in [] c = []
+plain_value_in (e ∷ es) c = if e.0 == c then e.1 ∷ [] else plain_value_in es c
+
+-- A unit's contents as characters (Str, Char, and what a C string spells as characters) or as bytes.
+abbrev pub strict_contents : (List ℕ → List ℕ) → StrictUnit → List ℕ
+strict_contents as_kind (Itself c) = as_kind (c ∷ [])
+strict_contents as_kind (QuoteEscape c) = c ∷ []
+strict_contents as_kind (PlainEscape c) = plain_value_in plain_escapes c
+strict_contents as_kind (AsciiEscape high low) = number_of 16 (high ∷ low ∷ []) ∷ []
+strict_contents as_kind (ByteEscape high low) = number_of 16 (high ∷ low ∷ []) ∷ []
+strict_contents as_kind (UnicodeEscape digits) = as_kind (spaced_value digits ∷ [])
+strict_contents as_kind (LineBreak blanks) = []
+
+abbrev pub is_plain_letter : ℕ → Bool
+is_plain_letter c = list_any (λ e. e.0 == c) plain_escapes
+
+abbrev pub is_octal : ℕ → Bool
+is_octal c = nat_lt (digit_value c) 8
+
+abbrev pub is_dropped_blank : ℕ → Bool
+is_dropped_blank c = c == 32 || c == 9 || c == 10
+
+abbrev pub is_unicode_escape : List (ℕ × ℕ) → Bool
+is_unicode_escape digits =
+    nat_le 1 (length digits) && nat_le (length digits) 6
+    && list_all (λ d. is_ascii_hexdigit d.0) digits && all_scalars (spaced_value digits ∷ [])
+
+-- what a single character or byte may not be by itself
+abbrev pub is_bare_character : ℕ → Bool
+is_bare_character c = not (c == 39 || c == 92 || c == 10 || c == 13 || c == 9)
+
+abbrev pub is_bare_in_string : ℕ → Bool
+is_bare_in_string c = not (c == 34 || c == 92 || c == 13)
+
+abbrev pub is_strict_unit : Kind → StrictUnit → Bool
+is_strict_unit Char (Itself c) = is_bare_character c
+is_strict_unit Str (Itself c) = is_bare_in_string c
+is_strict_unit Byte (Itself c) = nat_lt c 128 && is_bare_character c
+is_strict_unit ByteStr (Itself c) = nat_lt c 128 && is_bare_in_string c
+is_strict_unit CStr (Itself c) = is_bare_in_string c && not (c == 0)
+is_strict_unit _ (Itself c) = false
+is_strict_unit k (QuoteEscape c) = c == 39 || c == 34
+is_strict_unit CStr (PlainEscape c) = is_plain_letter c && not (c == 48)
+is_strict_unit _ (PlainEscape c) = is_plain_letter c
+is_strict_unit Char (AsciiEscape high low) = is_octal high && is_ascii_hexdigit low
+is_strict_unit Str (AsciiEscape high low) = is_octal high && is_ascii_hexdigit low
+is_strict_unit _ (AsciiEscape high low) = false
+is_strict_unit Byte (ByteEscape high low) = is_ascii_hexdigit high && is_ascii_hexdigit low
+is_strict_unit ByteStr (ByteEscape high low) = is_ascii_hexdigit high && is_ascii_hexdigit low
+is_strict_unit CStr (ByteEscape high low) = is_ascii_hexdigit high && is_ascii_hexdigit low && not (number_of 16 (high ∷ low ∷ []) == 0)
+is_strict_unit _ (ByteEscape high low) = false
+is_strict_unit Char (UnicodeEscape digits) = is_unicode_escape digits
+is_strict_unit Str (UnicodeEscape digits) = is_unicode_escape digits
+is_strict_unit CStr (UnicodeEscape digits) = is_unicode_escape digits && not (spaced_value digits == 0)
+is_strict_unit _ (UnicodeEscape digits) = false
+is_strict_unit Str (LineBreak blanks) = list_all is_dropped_blank blanks
+is_strict_unit ByteStr (LineBreak blanks) = list_all is_dropped_blank blanks
+is_strict_unit CStr (LineBreak blanks) = list_all is_dropped_blank blanks
+is_strict_unit _ (LineBreak blanks) = false
+
+-- The blanks that a line break drops go as far as blanks go.
+abbrev pub BlanksEnd : List StrictUnit → Type 0
+BlanksEnd [] = ⊤
+BlanksEnd (LineBreak blanks ∷ us) = IsFalse (passes is_dropped_blank (flat_map strict_text us)) × BlanksEnd us
+BlanksEnd (_ ∷ us) = BlanksEnd us
+
+-- How a kind opens, how it ends, and how it takes characters in.
+abbrev pub opens : Kind → List ℕ
+opens Str = codes "\""
+opens ByteStr = codes "b\""
+opens CStr = codes "c\""
+opens Byte = codes "b'"
+opens Char = codes "'"
+opens _ = []
+
+abbrev pub ends : Kind → List ℕ
+ends Byte = codes "'"
+ends Char = codes "'"
+ends _ = codes "\""
+
+abbrev pub taken_in : Kind → List ℕ → List ℕ
+taken_in CStr cs = encode_utf8_all cs
+taken_in _ cs = cs
+
+abbrev pub held_by : Kind → List ℕ → Contents
+held_by Str v = Characters v
+held_by Char v = Characters v
+held_by _ v = Bytes v
+
+-- one unit for a character or a byte, any number for a string; none for numbers and truth values
+abbrev pub HasUnits : Kind → List StrictUnit → Type 0
+HasUnits Str us = ⊤
+HasUnits ByteStr us = ⊤
+HasUnits CStr us = ⊤
+HasUnits Byte us = length us ≡ 1
+HasUnits Char us = length us ≡ 1
+HasUnits _ us = ⊥
+
+pub record StrictCooked (t : List ℕ) (k : Kind) (v : Contents) (x : List ℕ) : Type 0 where
+  pub units : List StrictUnit
+  pub count : HasUnits k units
+  pub each : IsTrue (list_all (is_strict_unit k) units)
+  pub blanks_end : BlanksEnd units
+  pub suffix : IsStrictSuffix x
+  pub text : t ≡ opens k ++ flat_map strict_text units ++ ends k ++ x
+  pub contents : v ≡ held_by k (flat_map (strict_contents (taken_in k)) units)
+
+abbrev pub opens_raw : Kind → List ℕ
+opens_raw Str = codes "r"
+opens_raw ByteStr = codes "br"
+opens_raw CStr = codes "cr"
+opens_raw _ = []
+
+abbrev pub IsRawInside : Kind → List ℕ → Type 0
+IsRawInside Str cs = ⊤
+IsRawInside ByteStr cs = IsTrue (list_all (λ c. nat_lt c 128) cs)
+IsRawInside CStr cs = IsTrue (list_all (λ c. not (c == 0)) cs)
+IsRawInside _ cs = ⊥
+
+pub record StrictRaw (t : List ℕ) (k : Kind) (v : Contents) (x : List ℕ) : Type 0 where
+  pub hashes : ℕ
+  pub inside : List ℕ
+  pub few : hashes < 256
+  pub allowed : IsRawInside k inside
+  pub no_carriage_return : IsTrue (list_all (λ c. not (c == 13)) inside)
+  pub first_close : (front rest : List ℕ) → inside ≢ front ++ 34 ∷ replicate hashes 35 ++ rest
+  pub suffix : IsStrictSuffix x
+  pub text : t ≡ opens_raw k ++ replicate hashes 35 ++ 34 ∷ inside ++ 34 ∷ replicate hashes 35 ++ x
+  pub contents : v ≡ held_by k (taken_in k inside)
+
+abbrev pub is_row : (ℕ → Bool) → ℕ → Bool
+is_row digit c = digit c || c == 95
+
+abbrev pub bare : List ℕ → List ℕ
+bare cs = filter (λ c. not (c == 95)) cs
+
+-- D: a digit, and digits and underscores
+abbrev pub IsDigits : List ℕ → Type 0
+IsDigits d = IsTrue (passes is_ascii_digit d) × IsTrue (list_all (is_row is_ascii_digit) d)
+
+-- a decimal form doesn't begin as another base does
+abbrev pub IsDecimalText : List ℕ → Type 0
+IsDecimalText t = IsFalse (begins (codes "0b") t || begins (codes "0o") t || begins (codes "0x") t)
+
+abbrev pub IsNumberSuffix : List ℕ → Type 0
+IsNumberSuffix x = IsStrictSuffix x × IsFalse (passes (λ c. c == 95) x)
+
+-- the digits of the bases with a prefix
+abbrev pub BasedPrefix : List ℕ → ℕ → Type 0
+BasedPrefix p base = ((p ≡ codes "0b") × (base ≡ 2)) ⊎ (((p ≡ codes "0o") × (base ≡ 8)) ⊎ ((p ≡ codes "0x") × (base ≡ 16)))
+
+-- The base-ten text of a number of any size. std's `decimal` writes the last 64 digits alone.
+unfoldable pub dec : ℕ → List ℕ
+dec n = digits_onto (suc n) 10 false n []
+
+pub record StrictInt (t : List ℕ) (v : Contents) (x : List ℕ) : Type 0 where
+  pub prefix : List ℕ
+  pub base : ℕ
+  pub row : List ℕ
+  pub is_front : ((prefix ≡ []) × (base ≡ 10) × IsDigits row × IsDecimalText t) ⊎ BasedPrefix prefix base
+  pub each : IsTrue (list_all (is_row (λ c. nat_lt (digit_value c) base)) row)
+  pub some : IsTrue (list_any (λ c. nat_lt (digit_value c) base) row)
+  pub suffix : IsNumberSuffix x
+  pub no_exponent : IsFalse (passes (λ c. c == 101 || c == 69) x)
+  pub no_digit : base ≡ 16 → IsFalse (passes is_ascii_hexdigit x)
+  pub text : t ≡ prefix ++ row ++ x
+  pub contents : v ≡ Digits (dec (number_of base (bare row)))
+
+pub record IsStrictExponent (e : List ℕ) : Type 0 where
+  pub letter : ℕ
+  pub sign : List ℕ
+  pub row : List ℕ
+  pub is_letter : IsTrue (letter == 101 || letter == 69)
+  pub is_sign : (sign ≡ []) ⊎ ((sign ≡ 43 ∷ []) ⊎ (sign ≡ 45 ∷ []))
+  pub each : IsTrue (list_all (is_row is_ascii_digit) row)
+  pub some : IsTrue (list_any is_ascii_digit row)
+  pub text : e ≡ letter ∷ sign ++ row
+
+-- `D.` alone
+abbrev pub IsDotAlone : List ℕ → List ℕ → Type 0
+IsDotAlone numeral x = (d : List ℕ) × IsDigits d × (numeral ≡ d ++ 46 ∷ []) × (x ≡ [])
+
+-- `D.D` with a suffix that doesn't begin as an exponent does
+abbrev pub IsPointed : List ℕ → List ℕ → Type 0
+IsPointed numeral x =
+    (d f : List ℕ) × IsDigits d × IsDigits f × (numeral ≡ d ++ 46 ∷ f) × IsFalse (passes (λ c. c == 101 || c == 69) x)
+
+-- `D` or `D.D`, and an exponent
+abbrev pub IsScientific : List ℕ → List ℕ → Type 0
+IsScientific numeral x =
+    (d e : List ℕ) × IsDigits d × IsStrictExponent e
+    × ((numeral ≡ d ++ e) ⊎ ((f : List ℕ) × IsDigits f × (numeral ≡ d ++ 46 ∷ f ++ e)))
+
+pub record StrictFloat (t : List ℕ) (v : Contents) (x : List ℕ) : Type 0 where
+  pub numeral : List ℕ
+  pub form : IsDotAlone numeral x ⊎ (IsPointed numeral x ⊎ IsScientific numeral x)
+  pub no_prefix : IsDecimalText t
+  pub suffix : IsNumberSuffix x
+  pub text : t ≡ numeral ++ x
+  pub contents : v ≡ Digits (map (λ c. if c == 69 then 101 else c) (filter (λ c. not (c == 95 || c == 43)) numeral))
+
+pub record StrictBool (t : List ℕ) (v : Contents) (x : List ℕ) : Type 0 where
+  pub truth : Bool
+  pub text : t ≡ (if truth then codes "true" else codes "false")
+  pub contents : v ≡ Truth truth
+  pub suffix : x ≡ []
+
+-- A strict text holds no CR, and ident characters of its suffix aren't white.
+abbrev pub Strict : List ℕ → Kind → Contents → List ℕ → Type 0
+Strict t Int v x = StrictInt t v x
+Strict t Float v x = StrictFloat t v x
+Strict t BoolKind v x = StrictBool t v x
+Strict t k v x = StrictCooked t k v x ⊎ StrictRaw t k v x

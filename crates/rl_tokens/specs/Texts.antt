@@ -1,0 +1,51 @@
+-- Texts: lists of characters, each character its code. The characters of identifiers, and white space.
+use Rattle.std.specs.Prelude.{◌≡◌, ◌≢◌, ℕ, Bool, true, false, not, ◌&&◌, ◌||◌, ◌==◌, List, [], ◌∷◌, ◌++◌, IsTrue}
+use Rattle.std.specs.Char.{is_whitespace}
+use Rattle.std.specs.Str.{IsUtf8}
+use Rattle.std.specs.List.{list_all, list_any}
+use Rattle.unicode_ident.specs.Ident.{is_xid_start, is_xid_continue}
+
+-- white space: Unicode's White_Space, and the two direction marks
+abbrev pub is_white : ℕ → Bool
+is_white c = is_whitespace c || c == 0x200e || c == 0x200f
+
+-- what may begin an identifier token, and what may go on with it
+abbrev pub is_start : ℕ → Bool
+is_start c = (c == 95 || is_xid_start c) && not (is_white c)
+
+abbrev pub is_continue : ℕ → Bool
+is_continue c = is_xid_continue c && not (is_white c)
+
+-- a suffix of the lenient reading, if it isn't empty: `_` alone counts, and white characters aren't asked about
+abbrev pub xid_ok : List ℕ → Bool
+xid_ok [] = false
+xid_ok (c ∷ cs) = (c == 95 || is_xid_start c) && list_all is_xid_continue cs
+
+-- a strict suffix, if it isn't empty
+pub record IsWord (x : List ℕ) : Type 0 where
+  pub identifier : IsTrue (xid_ok x)
+  pub not_underscore : x ≢ 95 ∷ []
+  pub no_white : IsTrue (list_all (λ c. not (is_white c)) x)
+
+-- the text begins with a character that passes the test
+abbrev pub passes : (ℕ → Bool) → List ℕ → Bool
+passes test [] = false
+passes test (c ∷ cs) = test c
+
+abbrev pub is_among : List ℕ → ℕ → Bool
+is_among codes c = list_any (λ k. c == k) codes
+
+-- the text begins with these characters
+abbrev pub begins : List ℕ → List ℕ → Bool
+begins [] t = true
+begins (p ∷ ps) [] = false
+begins (p ∷ ps) (c ∷ cs) = c == p && begins ps cs
+
+abbrev pub is_underscore : ℕ → Bool
+is_underscore c = c == 95
+
+-- The rest is the text without its front, and is a text. Both are bytes.
+pub record IsBehind (text rest : List ℕ) : Type 0 where
+  pub front : List ℕ
+  pub text_is : text ≡ front ++ rest
+  pub is_text : IsUtf8 rest

@@ -1,0 +1,125 @@
+-- What contracts see of token trees: their parts, a tree as plain data, and a tree written flat.
+use Rattle.std.specs.Prelude.{◌+◌, ◌-◌, List, [], ◌∷◌, ◌++◌, map}
+use Rattle.rl_tokens.specs.declared.span.Span.{Span}
+use Rattle.rl_tokens.specs.declared.token.Delimiter.{Delimiter}
+use Rattle.rl_tokens.specs.declared.token.TokenTree.{TokenTree, fold-TokenTree, out-TokenTree}
+use Rattle.rl_tokens.specs.declared.token.TokenTree.TheOpen.{TokenTree-F, Group-F, TokenStream-F}
+use Rattle.rl_tokens.specs.declared.token.Group.{Group, out-Group}
+use Rattle.rl_tokens.specs.declared.token.TokenStream.{TokenStream, out-TokenStream}
+use Rattle.rl_tokens.specs.Tokens.{Token}
+use Rattle.rl_tokens.specs.Puncts.{Mark}
+
+-- the trees of a stream
+abbrev pub trees_of : {A : Type 0} → TokenStream A → List (TokenTree A)
+trees_of {A} s = (out-TokenStream A s).trees.items
+
+-- the parts of a group
+abbrev pub delimiter_of : {A : Type 0} → Group A → Delimiter
+delimiter_of {A} g = (out-Group A g).delimiter
+
+abbrev pub stream_of : {A : Type 0} → Group A → TokenStream A
+stream_of {A} g = (out-Group A g).stream
+
+abbrev pub group_span : {A : Type 0} → Group A → Span
+group_span {A} g = (out-Group A g).span
+
+-- where a tree stands
+abbrev pub span_in : {A : Type 0} → TokenTree-F A (TokenTree A) (Group A) (TokenStream A) → Span
+span_in (TokenTree-F.Group g) = group_span g
+span_in (TokenTree-F.Ident i) = i.span
+span_in (TokenTree-F.Punct p) = p.span
+span_in (TokenTree-F.Literal l) = l.span
+
+abbrev pub span_of : {A : Type 0} → TokenTree A → Span
+span_of {A} t = span_in (out-TokenTree A t)
+
+-- A tree as plain data: a token, or a group with the trees inside.
+mutual
+  pub data Tree : Type 0 where
+    GroupTree : (delimiter : Delimiter) (inside : Trees) (span : Span) → Tree
+    IdentTree : (token : Token) → Tree
+    PunctTree : (mark : Mark) → Tree
+    LiteralTree : (token : Token) → Tree
+
+  pub data Trees : Type 0 where
+    NoTrees : Trees
+    MoreTrees : (first : Tree) (rest : Trees) → Trees
+
+-- the trees inside a group
+abbrev pub inside_of : List Tree → Trees
+inside_of [] = NoTrees
+inside_of (t ∷ ts) = MoreTrees t (inside_of ts)
+
+-- A group before it is a tree.
+pub record GroupParts : Type 0 where
+  pub delimiter : Delimiter
+  pub inside : List Tree
+  pub span : Span
+
+-- one level, with each part already seen as data
+abbrev pub tree_step : {A : Type 0} → TokenTree-F A Tree GroupParts (List Tree) → Tree
+tree_step (TokenTree-F.Group g) = GroupTree g.delimiter (inside_of g.inside) g.span
+tree_step (TokenTree-F.Ident i) = IdentTree i
+tree_step (TokenTree-F.Punct p) = PunctTree p
+tree_step (TokenTree-F.Literal l) = LiteralTree l
+
+abbrev pub group_step : {A : Type 0} → Group-F A Tree GroupParts (List Tree) → GroupParts
+group_step g = record { delimiter = g.delimiter; inside = g.stream; span = g.span }
+
+abbrev pub stream_step : {A : Type 0} → TokenStream-F A Tree GroupParts (List Tree) → List Tree
+stream_step s = s.trees.items
+
+-- a tree, and the trees of a stream, as data
+abbrev pub tree_view : {A : Type 0} → TokenTree A → Tree
+tree_view {A} = fold-TokenTree A Tree GroupParts (List Tree) tree_step group_step stream_step
+
+abbrev pub stream_view : {A : Type 0} → TokenStream A → List Tree
+stream_view s = map tree_view (trees_of s)
+
+-- the tree elsewhere: its own span is another, and what is inside a group stays
+abbrev pub moved : Span → Tree → Tree
+moved span (GroupTree d inside _) = GroupTree d inside span
+moved span (IdentTree i) = IdentTree (record i { span = span })
+moved span (PunctTree p) = PunctTree (record p { span = span })
+moved span (LiteralTree l) = LiteralTree (record l { span = span })
+
+-- every span is another, also inside groups
+abbrev mutual
+  pub respanned : Span → Tree → Tree
+  respanned span (GroupTree d inside _) = GroupTree d (all_respanned span inside) span
+  respanned span (IdentTree i) = IdentTree (record i { span = span })
+  respanned span (PunctTree p) = PunctTree (record p { span = span })
+  respanned span (LiteralTree l) = LiteralTree (record l { span = span })
+
+  pub all_respanned : Span → Trees → Trees
+  all_respanned span NoTrees = NoTrees
+  all_respanned span (MoreTrees t ts) = MoreTrees (respanned span t) (all_respanned span ts)
+
+-- A tree written flat: each token, and of each group its opener and its closer.
+pub data FlatToken : Type 0 where
+  Opening : (delimiter : Delimiter) (span : Span) → FlatToken
+  Closing : (delimiter : Delimiter) (span : Span) → FlatToken
+  FlatIdent : (token : Token) → FlatToken
+  FlatPunct : (mark : Mark) → FlatToken
+  FlatLiteral : (token : Token) → FlatToken
+
+-- the first byte of a group, and its last
+abbrev pub opener_span : Span → Span
+opener_span s = record { file = s.file; lo = s.lo; hi = s.lo + 1 }
+
+abbrev pub closer_span : Span → Span
+closer_span s = record { file = s.file; lo = s.hi - 1; hi = s.hi }
+
+abbrev mutual
+  pub flat : Tree → List FlatToken
+  flat (GroupTree d inside span) = Opening d (opener_span span) ∷ (flat_inside inside ++ (Closing d (closer_span span) ∷ []))
+  flat (IdentTree i) = FlatIdent i ∷ []
+  flat (PunctTree p) = FlatPunct p ∷ []
+  flat (LiteralTree l) = FlatLiteral l ∷ []
+
+  pub flat_inside : Trees → List FlatToken
+  flat_inside NoTrees = []
+  flat_inside (MoreTrees t ts) = flat t ++ flat_inside ts
+
+abbrev pub flat_trees : List Tree → List FlatToken
+flat_trees ts = flat_inside (inside_of ts)

@@ -1,0 +1,39 @@
+-- How values are written as literals.
+use Rattle.std.specs.Prelude.{ℕ, ◌+◌, ◌/◌, ◌%◌, Bool, true, false, ◌&&◌, ◌||◌, ◌==◌, nat_lt, List, [], ◌∷◌, ◌++◌, map, if◌then◌else◌}
+use Rattle.rl_tokens.specs.declared.kind.Kind.{Kind}
+use Rattle.rl_tokens.specs.declared.kind.Kind.TheVariants.{Byte, Char}
+use Rattle.rl_tokens.specs.Quoted.{QuotedUnit, Plain, Named, Hex, Zero, LowerT, LowerN, LowerR, Backslash, Quote, Apostrophe, holds_characters, opener, texts}
+
+-- a digit of base 16, in upper case
+abbrev pub upper_digit : ℕ → ℕ
+upper_digit n = if nat_lt n 10 then 48 + n else 55 + n
+
+abbrev pub closer : Kind → ℕ
+closer Byte = 39
+closer Char = 39
+closer _ = 34
+
+-- the quote that the kind escapes
+abbrev pub own_quote : Kind → QuotedUnit
+own_quote Byte = Named Apostrophe
+own_quote Char = Named Apostrophe
+own_quote _ = Named Quote
+
+-- what is written as a number: control characters, and past ASCII what is a byte
+abbrev pub is_written_as_number : Kind → ℕ → Bool
+is_written_as_number kind c = nat_lt c 32 || c == 127 || (nat_lt 127 c && (if holds_characters kind then false else true))
+
+-- the unit that a character or a byte is written as
+unfoldable pub writing : Kind → ℕ → QuotedUnit
+writing kind c =
+    if c == 0 then Named Zero else
+    (if c == 9 then Named LowerT else
+    (if c == 10 then Named LowerN else
+    (if c == 13 then Named LowerR else
+    (if c == 92 then Named Backslash else
+    (if c == closer kind then own_quote kind else
+    (if is_written_as_number kind c then Hex (upper_digit (c / 16)) (upper_digit (c % 16)) else Plain c))))))
+
+-- the literal of a value: its characters or bytes, each as it is written, between quotes
+abbrev pub written : Kind → List ℕ → List ℕ
+written kind value = opener kind ++ (texts (map (writing kind) value) ++ (closer kind ∷ []))

@@ -1,0 +1,90 @@
+//! Identifiers.
+
+ghost use Rattle.std.specs.Prelude.{◌≡◌, IsTrue, IfOk, IfErr};
+ghost use Rattle.std.specs.Str.{chars};
+ghost use Rattle.unicode_ident.specs.Ident.{is_xid_start, is_xid_continue};
+ghost use Rattle.std.specs.List.{list_all};
+ghost use Rattle.rl_tokens.specs.Texts.{xid_ok};
+ghost use Rattle.rl_tokens.specs.Errors.{memory_at};
+
+use crate::error::Error;
+use crate::span::Span;
+use crate::text::split_char;
+use std::alloc::{Allocator, Global};
+use std::marker::Model;
+
+/// Whether the text is an identifier: its first character is `_` or has Unicode's property XID_Start, and all others
+/// have XID_Continue. The empty text is none, and `_` alone is one.
+pub fn xid_ok(text: &str) -> bool
+    ensures { result ≡ xid_ok (chars text.now) }
+{
+    match split_char(text) {
+        Some((first, rest)) => {
+            (first == '_' || unicode_ident::is_xid_start(first)) && all_continue(rest)
+        }
+        None => false,
+    }
+}
+
+/// Whether each character may go on with an identifier.
+fn all_continue(text: &str) -> bool
+    ensures { result ≡ list_all is_xid_continue (chars text.now) }
+{
+    text.chars().all(|c| unicode_ident::is_xid_continue(c))
+}
+
+/// An identifier token, and where it stands.
+#[derive(Drop)]
+pub struct Ident<A: Allocator = Global> {
+    text: String<A>,
+    span: Span,
+}
+
+impl<A: Allocator> Model for Ident<A> {
+    ghost use Rattle.std.specs.Prelude.{string_bytes, IsTrue};
+    ghost use Rattle.std.specs.Str.{chars};
+    ghost use Rattle.rl_tokens.specs.Texts.{xid_ok};
+    ghost use Rattle.rl_tokens.specs.Tokens.{Token};
+
+    ghost Value = { Token };
+
+    ghost view = { λ ident. record { text = string_bytes ident.text; span = ident.span } };
+
+    ghost invariant = { λ ident. IsTrue (xid_ok (chars (string_bytes ident.text))) };
+}
+
+impl<A: Allocator> Ident<A> {
+    /// The token with this text, which is an identifier, and this span. Want of memory is told at the span.
+    pub fn new(alloc: A, text: &str, span: Span) -> Result<Ident<A>, Error>
+        requires { IsTrue (xid_ok (chars text.now)) }
+        ensures ok { IfOk result (λ i. i ≡ record { text = text.now; span = span }) }
+        ensures memory { IfErr result (λ e. e ≡ memory_at span) }
+    {
+        match String::from_str(alloc, text) {
+            Ok(text) => Ok(Ident { text, span }),
+            Err(_) => Err(Error::memory(span)),
+        }
+    }
+
+    /// The text.
+    pub fn text(&self) -> &str
+        ensures text { result.now ≡ self.now.text }
+        ensures identifier { IsTrue (xid_ok (chars result.now)) }
+    {
+        self.text.as_str()
+    }
+
+    /// Where the token stands.
+    pub fn span(&self) -> Span
+        ensures { result ≡ self.now.span }
+    {
+        self.span
+    }
+
+    /// Puts the token elsewhere.
+    pub fn set_span(&mut self, span: Span)
+        ensures { self.new ≡ record self.old { span = span } }
+    {
+        self.span = span;
+    }
+}

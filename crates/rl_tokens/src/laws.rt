@@ -1,0 +1,43 @@
+//! Laws of the definitions: each function does nothing, and its contract is the law.
+
+ghost use Rattle.std.specs.Prelude.{List, ℕ, ◌≡◌, ◌∷◌, [], IsTrue};
+ghost use Rattle.rl_tokens.specs.declared.kind.Kind.{Kind};
+ghost use Rattle.rl_tokens.specs.Reading.{Contents, Digits, Reads, quoted_contents};
+ghost use Rattle.rl_tokens.specs.Strict.{Strict, held_by};
+ghost use Rattle.rl_tokens.specs.Written.{written};
+ghost use Rattle.rl_tokens.specs.Agreeing.{IsWithinLimit, is_number, IsValue};
+
+/// A text has one reading at most: one kind, one value, one suffix.
+pub fn one_reading()
+    ensures { (t : List ℕ) (k l : Kind) (v w : Contents) (x y : List ℕ)
+        → Reads t k v x → Reads t l w y → (k ≡ l) × (v ≡ w) × (x ≡ y) }
+{}
+
+/// A text is strict in one way at most.
+pub fn one_strict()
+    ensures { (t : List ℕ) (k l : Kind) (v w : Contents) (x y : List ℕ)
+        → Strict t k v x → Strict t l w y → (k ≡ l) × (v ≡ w) × (x ≡ y) }
+{}
+
+/// A strict text, an integer within the limit, reads as the same kind, value and suffix.
+pub fn strict_reads()
+    ensures { (t : List ℕ) (k : Kind) (v : Contents) (x : List ℕ)
+        → Strict t k v x → IsWithinLimit k t → Reads t k v x }
+{}
+
+/// A strict number, an integer within the limit, reads behind a minus as that number with `-` before its digits.
+pub fn strict_minus()
+    ensures { (t : List ℕ) (k : Kind) (ds x : List ℕ)
+        → IsTrue (is_number k) → Strict t k (Digits ds) x → IsWithinLimit k t
+        → Reads (45 ∷ t) k (Digits (45 ∷ ds)) x }
+{}
+
+/// What a value is written as is strict, has that value, and no suffix.
+pub fn written_strict()
+    ensures { (k : Kind) (v : List ℕ) → IsValue k v → Strict (written k v) k (held_by k v) [] }
+{}
+
+/// What a value is written as reads as that value, with no suffix.
+pub fn written_reads()
+    ensures { (k : Kind) (v : List ℕ) → IsValue k v → Reads (written k v) k (quoted_contents k v) [] }
+{}

@@ -1,0 +1,68 @@
+ghost use Rattle.std.specs.Prelude.{◌≡◌, Some};
+ghost use Rattle.rl_tokens.specs.LexErrors.{lex_message};
+
+use std::fmt;
+
+/// Why a text was not cut into trees, and where.
+#[derive(Clone, Copy, PartialEq, Eq, Debug)]
+pub struct LexError {
+    /// What the fault is.
+    pub kind: LexKind,
+    /// The byte where it stands.
+    pub at: usize,
+}
+
+/// What the lexer refuses, each told at the byte that its line names.
+#[derive(Clone, Copy, PartialEq, Eq, Debug)]
+pub enum LexKind {
+    /// A doc comment, closed or not: its first slash.
+    DocComment,
+    /// A block comment that isn't closed: its first slash.
+    UnclosedComment,
+    /// A quoted or raw literal that isn't closed: its first byte.
+    UnclosedQuote,
+    /// A lifetime: its apostrophe.
+    Lifetime,
+    /// A raw identifier: its `r`.
+    RawIdentifier,
+    /// A character that begins no token: the character.
+    StrayCharacter,
+    /// A closer that isn't that of the innermost open group: the closer.
+    UnmatchedClose,
+    /// A group that the text ends in: the innermost opener.
+    UnclosedGroup,
+    /// An opener where 128 groups are open: the opener.
+    TooDeep,
+    /// Memory was wanted and refused: the first byte of the token.
+    Memory,
+}
+
+impl LexError {
+    /// This fault at this byte.
+    pub(crate) fn new(kind: LexKind, at: usize) -> LexError
+        ensures { result ≡ record { kind = kind; at = at } }
+    {
+        LexError { kind, at }
+    }
+}
+
+impl fmt::Display for LexKind {
+    ghost output = { λ kind. Some (lex_message kind) };
+
+    fn fmt<W: fmt::Write>(&self, f: &mut fmt::Formatter<W>) -> fmt::Result {
+        match self {
+            LexKind::DocComment => write!(f, "doc comment is not carried"),
+            LexKind::UnclosedComment => write!(f, "unclosed block comment"),
+            LexKind::UnclosedQuote => write!(f, "unclosed quote"),
+            LexKind::Lifetime => write!(f, "lifetime is not carried"),
+            LexKind::RawIdentifier => write!(f, "raw identifier is not carried"),
+            LexKind::StrayCharacter => write!(f, "stray character"),
+            LexKind::UnmatchedClose => write!(f, "unmatched closing delimiter"),
+            LexKind::UnclosedGroup => write!(f, "unclosed group"),
+            LexKind::TooDeep => write!(f, "groups nested too deep"),
+            LexKind::Memory => write!(f, "out of memory"),
+        }
+    }
+}
+
+impl std::error::Error for LexKind {}

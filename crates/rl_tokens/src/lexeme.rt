@@ -1,0 +1,161 @@
+//! The lexeme at the front of a text: the literal, identifier or mark that the text begins with.
+#![tactic(auto, using(crate::proofs::BehindLemmas::behind_step))]
+
+mod number;
+mod quoted;
+mod rows;
+
+ghost use Rattle.std.specs.Prelude.{◌≡◌, ◌<◌, ◌&&◌, ◌==◌, List, ℕ, length, slice_index, drop, option_map, IfSome, IfNone};
+ghost use Rattle.std.specs.Str.{chars};
+ghost use Rattle.rl_tokens.specs.Texts.{is_among, is_start, passes, IsBehind};
+ghost use Rattle.rl_tokens.specs.Lexemes.{delimiters, LexemeBefore};
+ghost use Rattle.rl_tokens.specs.LexemeAt.{
+  form_view,
+  start_class,
+  other_class,
+  by_class,
+  after_digit,
+  lexeme_at,
+  FormBefore,
+};
+
+use crate::front::{begins_with, is_start, without_first};
+use crate::punct::Punct;
+use crate::text::split_char;
+use number::{after_decimal, is_base_letter};
+pub(crate) use quoted::begins_hashed_quote;
+use quoted::{after_character, after_quoted, after_raw_literal};
+use rows::{Row, after_row};
+
+/// What a lexeme is to the lexer.
+#[derive(Clone, Copy)]
+pub(crate) enum Form {
+    /// A literal of any kind.
+    Literal,
+    /// An identifier.
+    Identifier,
+    /// One of the six delimiters.
+    Delimiter(char),
+    /// Any other mark.
+    Mark(char),
+}
+
+/// The form of the lexeme that the text begins with, and the rest behind it. `None` where there is no such lexeme.
+pub(crate) fn first_lexeme(text: &str) -> Option<(Form, &str)>
+    ensures found { IfSome result (λ p. FormBefore (chars text.now) (form_view p.0) (chars p.1.now)) }
+    ensures none { IfNone result ((after : List ℕ) → LexemeBefore (chars text.now) after → ⊥) }
+    ensures behind { IfSome result (λ p. IsBehind text.now p.1.now) }
+    ensures shorter { IfSome result (λ p. length p.1.now < length text.now) }
+{
+    lexeme_at(text)
+}
+
+// The same, as the first characters tell it.
+fn lexeme_at(text: &str) -> Option<(Form, &str)>
+    ensures rest { option_map (λ p. (form_view p.0, chars p.1.now)) result ≡ lexeme_at (chars text.now) }
+    ensures behind { IfSome result (λ p. IsBehind text.now p.1.now) }
+    ensures shorter { IfSome result (λ p. length p.1.now < length text.now) }
+{
+    let (c, behind) = split_char(text)?;
+    if is_start(c) {
+        after_start(c, behind)
+    } else {
+        after_other(c, behind)
+    }
+}
+
+// By an identifier's start, and what stands behind it.
+fn after_start(c: char, text: &str) -> Option<(Form, &str)>
+    ensures rest { option_map (λ p. (form_view p.0, chars p.1.now)) result
+        ≡ by_class (start_class c) c (chars text.now) }
+    ensures behind { IfSome result (λ p. IsBehind text.now p.1.now) }
+{
+    if c == 'b' {
+        if begins_with(text, '"') {
+            return Some((Form::Literal, after_quoted(without_first(text))?));
+        }
+        if begins_with(text, '\'') {
+            return Some((Form::Literal, after_character(without_first(text))?));
+        }
+        if begins_with(text, 'r') && begins_hashed_quote(without_first(text)) {
+            return Some((Form::Literal, after_raw_literal(without_first(text))?));
+        }
+    } else if c == 'c' {
+        if begins_with(text, '"') {
+            return Some((Form::Literal, after_quoted(without_first(text))?));
+        }
+        if begins_with(text, 'r') && begins_hashed_quote(without_first(text)) {
+            return Some((Form::Literal, after_raw_literal(without_first(text))?));
+        }
+    } else if c == 'r' {
+        if begins_hashed_quote(text) {
+            return Some((Form::Literal, after_raw_literal(text)?));
+        }
+        if begins_marked_identifier(text) {
+            return None;
+        }
+    }
+    Some((Form::Identifier, after_row(Row::Continue, text)))
+}
+
+// By a character that begins no identifier, and what stands behind it.
+fn after_other(c: char, text: &str) -> Option<(Form, &str)>
+    ensures rest { option_map (λ p. (form_view p.0, chars p.1.now)) result
+        ≡ by_class (other_class c) c (chars text.now) }
+    ensures behind { IfSome result (λ p. IsBehind text.now p.1.now) }
+{
+    if is_delimiter(c) {
+        return Some((Form::Delimiter(c), text));
+    }
+    if c == '/' {
+        return match split_char(text) {
+            Some(('/' | '*', _)) => None,
+            _ => Some((Form::Mark(c), text)),
+        };
+    }
+    if Punct::is_char(c) {
+        return Some((Form::Mark(c), text));
+    }
+    if c.is_ascii_digit() {
+        return Some((Form::Literal, after_digit(c, text)));
+    }
+    match c {
+        '"' => Some((Form::Literal, after_quoted(text)?)),
+        '\'' => Some((Form::Literal, after_character(text)?)),
+        _ => None,
+    }
+}
+
+// What follows the number behind whose first digit the text stands.
+fn after_digit(c: char, text: &str) -> &str
+    ensures rest { chars result.now ≡ after_digit c (chars text.now) }
+    ensures behind { IsBehind text.now result.now }
+{
+    if c == '0' {
+        if let Some((letter, behind)) = split_char(text) {
+            if is_base_letter(letter) {
+                return after_row(Row::Continue, behind);
+            }
+        }
+    }
+    after_decimal(text)
+}
+
+/// Whether a hash and an identifier's start begin the text.
+pub(crate) fn begins_marked_identifier(text: &str) -> bool
+    ensures { result ≡ (slice_index (chars text.now) 0 == 35 && passes is_start (drop 1 (chars text.now))) }
+{
+    match split_char(text) {
+        Some(('#', behind)) => match split_char(behind) {
+            Some((next, _)) => is_start(next),
+            None => false,
+        },
+        _ => false,
+    }
+}
+
+fn is_delimiter(c: char) -> bool
+    ensures { result ≡ is_among delimiters c }
+{
+    matches!(c, '(' | ')' | '[' | ']' | '{' | '}')
+}

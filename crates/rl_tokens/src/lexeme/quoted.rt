@@ -1,0 +1,126 @@
+//! Quoted, raw and single-character literals.
+#![tactic(auto, using(crate::proofs::BehindLemmas::behind_step))]
+
+ghost use Rattle.std.specs.Prelude.{◌≡◌, option_map, IfSome};
+ghost use Rattle.std.specs.Str.{chars};
+ghost use Rattle.rl_tokens.specs.Texts.{IsBehind};
+ghost use Rattle.rl_tokens.specs.Lexemes.{begins_hashed_quote};
+ghost use Rattle.rl_tokens.specs.LexemeAt.{
+  after_quote,
+  after_raw,
+  after_apostrophe,
+  after_single,
+  quoted_at,
+  raw_at,
+  single_at,
+};
+
+use super::rows::{after_suffix, split_hashes, strip_hashes};
+use crate::front::{begins_with, without_first};
+use crate::text::split_char;
+
+/// What follows the literal behind whose opening `"` the text stands.
+pub(crate) fn after_quoted(text: &str) -> Option<&str>
+    ensures rest { option_map (λ rest. chars rest.now) result ≡ quoted_at (chars text.now) }
+    ensures behind { IfSome result (λ rest. IsBehind text.now rest.now) }
+{
+    let rest = after_quote(text)?;
+    Some(after_suffix(rest))
+}
+
+/// What follows the character literal behind whose opening `'` the text stands.
+pub(crate) fn after_character(text: &str) -> Option<&str>
+    ensures rest { option_map (λ rest. chars rest.now) result ≡ single_at (chars text.now) }
+    ensures behind { IfSome result (λ rest. IsBehind text.now rest.now) }
+{
+    let rest = after_single(text)?;
+    Some(after_suffix(rest))
+}
+
+/// What follows the raw literal behind whose `r` the text stands.
+pub(crate) fn after_raw_literal(text: &str) -> Option<&str>
+    ensures rest { option_map (λ rest. chars rest.now) result ≡ raw_at (chars text.now) }
+    ensures behind { IfSome result (λ rest. IsBehind text.now rest.now) }
+{
+    let (count, opener) = split_hashes(text);
+    let rest = after_raw(count, without_first(opener))?;
+    Some(after_suffix(rest))
+}
+
+/// Whether hashes, perhaps none, and a `"` begin the text.
+pub(crate) fn begins_hashed_quote(text: &str) -> bool
+    ensures { result ≡ begins_hashed_quote (chars text.now) }
+{
+    let (_, opener) = split_hashes(text);
+    begins_with(opener, '"')
+}
+
+// What follows the `"` that ends a body.
+fn after_quote(text: &str) -> Option<&str>
+    ensures rest { option_map (λ rest. chars rest.now) result ≡ after_quote (chars text.now) }
+    ensures behind { IfSome result (λ rest. IsBehind text.now rest.now) }
+{
+    let mut rest = text;
+    while let Some((c, behind)) = split_char(rest) {
+        if c == '"' {
+            return Some(behind);
+        }
+        rest = behind;
+        if c == '\\' {
+            let (_, more) = split_char(behind)?;
+            rest = more;
+        }
+    }
+    None
+}
+
+// What follows the `"` and the hashes, so many, that end a raw body.
+fn after_raw(count: usize, text: &str) -> Option<&str>
+    ensures rest { option_map (λ rest. chars rest.now) result ≡ after_raw count (chars text.now) }
+    ensures behind { IfSome result (λ rest. IsBehind text.now rest.now) }
+{
+    let mut rest = text;
+    while let Some((c, behind)) = split_char(rest) {
+        if c == '"' {
+            if let Some(end) = strip_hashes(behind, count) {
+                return Some(end);
+            }
+        }
+        rest = behind;
+    }
+    None
+}
+
+// What follows the `'` that ends a character, by what stands behind the opening one.
+fn after_single(text: &str) -> Option<&str>
+    ensures rest { option_map (λ rest. chars rest.now) result ≡ after_single (chars text.now) }
+    ensures behind { IfSome result (λ rest. IsBehind text.now rest.now) }
+{
+    let (c, behind) = split_char(text)?;
+    let (second, more) = split_char(behind)?;
+    if c == '\\' {
+        after_apostrophe(more)
+    } else if second == '\'' {
+        Some(more)
+    } else {
+        None
+    }
+}
+
+// What follows the `'` that ends an escaped character, by what stands behind the escaped one.
+fn after_apostrophe(text: &str) -> Option<&str>
+    ensures rest { option_map (λ rest. chars rest.now) result ≡ after_apostrophe (chars text.now) }
+    ensures behind { IfSome result (λ rest. IsBehind text.now rest.now) }
+{
+    let mut rest = text;
+    while let Some((c, behind)) = split_char(rest) {
+        if c == '\'' {
+            return Some(behind);
+        }
+        if c == '\n' {
+            return None;
+        }
+        rest = behind;
+    }
+    None
+}

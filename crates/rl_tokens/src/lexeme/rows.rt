@@ -1,0 +1,96 @@
+//! Rows of characters that pass one test, and suffixes.
+#![tactic(auto, using(crate::proofs::BehindLemmas::behind_step))]
+
+ghost use Rattle.std.specs.Prelude.{◌≡◌, length, MatchOption, IfSome, drop, true, false};
+ghost use Rattle.std.specs.Str.{chars};
+ghost use Rattle.rl_tokens.specs.Texts.{IsBehind};
+ghost use Rattle.rl_tokens.specs.Lexemes.{after_run, is_hash, begins_hashes};
+ghost use Rattle.rl_tokens.specs.LexemeAt.{row_test, after_suffix, hashes};
+
+use crate::front::{is_continue, is_start};
+use crate::text::split_char;
+
+/// A kind of row, by what it holds.
+#[derive(Clone, Copy)]
+pub(crate) enum Row {
+    /// What goes on with an identifier.
+    Continue,
+    /// Digits and underscores.
+    Numeral,
+    /// Underscores.
+    Underscores,
+}
+
+// Whether a row of this kind holds the character.
+fn holds(row: Row, c: char) -> bool
+    ensures { result ≡ row_test row c }
+{
+    match row {
+        Row::Continue => is_continue(c),
+        Row::Numeral => c.is_ascii_digit() || c == '_',
+        Row::Underscores => c == '_',
+    }
+}
+
+/// What follows the longest row of this kind, perhaps an empty one.
+pub(crate) fn after_row(row: Row, text: &str) -> &str
+    ensures rest { chars result.now ≡ after_run (row_test row) (chars text.now) }
+    ensures behind { IsBehind text.now result.now }
+{
+    let mut rest = text;
+    while let Some((c, behind)) = split_char(rest) {
+        if !holds(row, c) {
+            break;
+        }
+        rest = behind;
+    }
+    rest
+}
+
+/// What follows the suffix of a literal, perhaps an empty one.
+pub(crate) fn after_suffix(text: &str) -> &str
+    ensures rest { chars result.now ≡ after_suffix (chars text.now) }
+    ensures behind { IsBehind text.now result.now }
+{
+    match split_char(text) {
+        Some((c, behind)) if is_start(c) => after_row(Row::Continue, behind),
+        _ => text,
+    }
+}
+
+/// The number of hashes at the front, and what follows them.
+pub(crate) fn split_hashes(text: &str) -> (usize, &str)
+    ensures count { result.0 ≡ hashes (chars text.now) }
+    ensures rest { chars result.1.now ≡ after_run is_hash (chars text.now) }
+    ensures behind { IsBehind text.now result.1.now }
+{
+    let mut count: usize = 0;
+    let mut rest = text;
+    while let Some((c, behind)) = split_char(rest) {
+        if c != '#' {
+            break;
+        }
+        count += 1;
+        rest = behind;
+    }
+    (count, rest)
+}
+
+/// What follows so many hashes, where they stand.
+pub(crate) fn strip_hashes(text: &str, count: usize) -> Option<&str>
+    ensures rest { MatchOption result (begins_hashes count (chars text.now) ≡ false)
+        (λ rest. chars rest.now ≡ drop count (chars text.now)) }
+    ensures stands { IfSome result (λ rest. begins_hashes count (chars text.now) ≡ true) }
+    ensures behind { IfSome result (λ rest. IsBehind text.now rest.now) }
+{
+    let mut rest = text;
+    let mut left = count;
+    while left > 0 {
+        match split_char(rest) {
+            Some(('#', behind)) => rest = behind,
+            _ => return None,
+        }
+        left -= 1;
+    }
+    Some(rest)
+}

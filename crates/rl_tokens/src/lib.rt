@@ -1,0 +1,34 @@
+//! The tokens of Rust's literals: spans, literal tokens and how values are written, and the definitions that
+//! the contracts of every crate above cite (`specs/`).
+#![tactic(auto)]
+
+mod c_string;
+mod error;
+mod front;
+pub mod ident;
+mod kept;
+mod kind;
+pub mod laws;
+mod lex_error;
+mod lexeme;
+mod lexer;
+mod literal;
+mod nest;
+mod punct;
+mod span;
+pub mod text;
+mod token;
+pub mod whitespace;
+mod writer;
+
+pub use crate::c_string::{CString, NulError};
+pub use crate::error::{Error, ErrorKind};
+pub use crate::ident::Ident;
+pub use crate::kept::Kept;
+pub use crate::kind::Kind;
+pub use crate::lex_error::{LexError, LexKind};
+pub use crate::lexer::lex;
+pub use crate::literal::Literal;
+pub use crate::punct::Punct;
+pub use crate::span::Span;
+pub use crate::token::{Delimiter, Group, TokenStream, TokenTree};

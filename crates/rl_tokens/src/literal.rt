@@ -1,0 +1,77 @@
+ghost use Rattle.std.specs.Prelude.{◌≡◌, IfOk, IfErr, Some, string_bytes};
+ghost use Rattle.rl_tokens.specs.Errors.{memory_at, nowhere};
+
+use crate::error::Error;
+use crate::span::Span;
+use std::alloc::{Allocator, Global};
+use std::fmt;
+use std::marker::Model;
+
+/// A literal token: any text, and where it stands. Whether the text reads as a literal is told by `rl_grammar`.
+#[derive(Drop)]
+pub struct Literal<A: Allocator = Global> {
+    text: String<A>,
+    span: Span,
+}
+
+impl<A: Allocator> Model for Literal<A> {
+    ghost use Rattle.std.specs.Prelude.{string_bytes};
+    ghost use Rattle.rl_tokens.specs.Tokens.{Token};
+
+    ghost Value = { Token };
+
+    ghost view = { λ literal. record { text = string_bytes literal.text; span = literal.span } };
+}
+
+impl<A: Allocator> Literal<A> {
+    /// The token with this text and span. Want of memory is told at the span.
+    pub fn from_text(alloc: A, text: &str, span: Span) -> Result<Literal<A>, Error>
+        ensures ok { IfOk result (λ l. l ≡ record { text = text.now; span = span }) }
+        ensures memory { IfErr result (λ e. e ≡ memory_at span) }
+    {
+        match String::from_str(alloc, text) {
+            Ok(text) => Ok(Literal { text, span }),
+            Err(_) => Err(Error::memory(span)),
+        }
+    }
+
+    /// The token with this text, at no place.
+    pub(crate) fn from_string(text: String<A>) -> Literal<A>
+        ensures { result ≡ record { text = string_bytes text; span = nowhere } }
+    {
+        Literal {
+            text,
+            span: Span::call_site(),
+        }
+    }
+
+    /// The text.
+    pub fn text(&self) -> &str
+        ensures { result.now ≡ self.now.text }
+    {
+        self.text.as_str()
+    }
+
+    /// Where the token stands.
+    pub fn span(&self) -> Span
+        ensures { result ≡ self.now.span }
+    {
+        self.span
+    }
+
+    /// Puts the token elsewhere.
+    pub fn set_span(&mut self, span: Span)
+        ensures { self.new ≡ record self.old { span = span } }
+    {
+        self.span = span;
+    }
+}
+
+/// The text.
+impl<A: Allocator> fmt::Display for Literal<A> {
+    ghost output = { λ literal. Some literal.text };
+
+    fn fmt<W: fmt::Write>(&self, f: &mut fmt::Formatter<W>) -> fmt::Result {
+        f.write_str(self.text.as_str())
+    }
+}

@@ -1,0 +1,193 @@
+//! The trees of a text as they grow.
+
+ghost use Rattle.std.specs.Prelude.{◌≡◌, ◌≤◌, ◌+◌, [], vec_len, OnOk, IfErr, IfOk};
+ghost use Rattle.rl_tokens.specs.Texts.{is_among};
+ghost use Rattle.rl_tokens.specs.Lexemes.{delimiters};
+ghost use Rattle.rl_tokens.specs.LexemeAt.{form_view};
+ghost use Rattle.rl_tokens.specs.Lexing.{is_opener, delimiter_for};
+
+use crate::ident::Ident;
+use crate::lex_error::{LexError, LexKind};
+use crate::lexeme::Form;
+use crate::literal::Literal;
+use crate::punct::Punct;
+use crate::span::Span;
+use crate::token::{Delimiter, Group, TokenStream, TokenTree};
+use std::alloc::Allocator;
+use std::mem;
+
+/// How many groups may be open at once.
+const MAX_OPEN: usize = 128;
+
+/// A group whose closer wasn't read yet.
+#[derive(Drop)]
+pub(crate) struct OpenNest<A: Allocator> {
+    delimiter: Delimiter,
+    // the byte of its opener
+    at: usize,
+    // the trees before the group
+    before: TokenStream<A>,
+}
+
+/// The trees that were read so far of one text, and the groups that are open.
+#[derive(Drop)]
+pub(crate) struct Nest<A: Allocator> {
+    alloc: A,
+    file: u32,
+    // the outermost first
+    opened: Vec<OpenNest<A>, A>,
+    // the trees of the innermost open group
+    trees: TokenStream<A>,
+    ghost shallow: { vec_len opened ≤ 128 },
+}
+
+impl<A: Allocator + Copy> Nest<A> {
+    ghost use Rattle.rl_tokens.specs.Trees.{stream_view, flat_trees};
+    ghost use Rattle.rl_tokens.specs.Nests.{
+      groups_of,
+      flat_nest,
+      IsFitting,
+      TakesToken,
+      TakesTree,
+      OpensGroup,
+      ClosesGroup,
+      RefusesForm,
+      RefusesOpener,
+      RefusesCloser,
+      EndsInGroup,
+    };
+
+    /// Nothing was read yet.
+    pub(crate) fn new(alloc: A, file: u32) -> Nest<A>
+        ensures groups { groups_of result ≡ [] }
+        ensures flat { flat_nest result ≡ [] }
+        ensures file { result.file ≡ file }
+    {
+        Nest {
+            alloc,
+            file,
+            opened: Vec::new(alloc),
+            trees: TokenStream::new(alloc),
+        }
+    }
+
+    /// Reads one token more, of this form and text, which stands from the byte `lo` to the byte `hi`. A refusal is
+    /// told at `lo`.
+    pub(crate) fn add(
+        &mut self,
+        form: Form,
+        text: &str,
+        lo: usize,
+        hi: usize,
+    ) -> Result<(), LexError>
+        requires { IsFitting (form_view form) text.now lo hi }
+        ensures ok { OnOk result (TakesToken self.old self.new (form_view form) text.now lo hi) }
+        ensures at { IfErr result (λ e. e.at ≡ lo) }
+        ensures kind { IfErr result (λ e. RefusesForm (groups_of self.old) (form_view form) e.kind) }
+    {
+        let span = Span::new(self.file, lo, hi);
+        match form {
+            Form::Literal => match Literal::from_text(self.alloc, text, span) {
+                Ok(literal) => self.append(TokenTree::Literal(literal), lo),
+                Err(_) => Err(LexError::new(LexKind::Memory, lo)),
+            },
+            Form::Identifier => match Ident::new(self.alloc, text, span) {
+                Ok(ident) => self.append(TokenTree::Ident(ident), lo),
+                Err(_) => Err(LexError::new(LexKind::Memory, lo)),
+            },
+            Form::Mark(c) => self.append(TokenTree::Punct(Punct::new(c, span)), lo),
+            Form::Delimiter(c) => {
+                if is_opener(c) {
+                    self.open_group(delimiter_for(c), lo)
+                } else {
+                    self.close_group(delimiter_for(c), lo, hi)
+                }
+            }
+        }
+    }
+
+    /// All trees. A group that is open is told at its opener, the innermost of several.
+    pub(crate) fn finish(self) -> Result<TokenStream<A>, LexError>
+        ensures none_open { IfOk result (λ trees. groups_of self ≡ []) }
+        ensures flat { IfOk result (λ trees. flat_trees (stream_view trees) ≡ flat_nest self) }
+        ensures err { IfErr result (EndsInGroup (groups_of self)) }
+    {
+        let Nest {
+            mut opened,
+            trees,
+            ..
+        } = self;
+        match opened.pop() {
+            Some(innermost) => Err(LexError::new(LexKind::UnclosedGroup, innermost.at)),
+            None => Ok(trees),
+        }
+    }
+
+    // Puts a tree behind the others of its level. Want of memory is told at the byte.
+    fn append(&mut self, tree: TokenTree<A>, at: usize) -> Result<(), LexError>
+        ensures ok { OnOk result (TakesTree self.old self.new tree) }
+        ensures err { IfErr result (λ e. e ≡ record { kind = LexKind.Memory; at = at }) }
+    {
+        if let Err(_refused) = self.trees.append(tree) {
+            return Err(LexError::new(LexKind::Memory, at));
+        }
+        Ok(())
+    }
+
+    // The trees that follow stand in a new group, whose opener is at the byte.
+    fn open_group(&mut self, delimiter: Delimiter, at: usize) -> Result<(), LexError>
+        ensures ok { OnOk result (OpensGroup self.old self.new delimiter at) }
+        ensures at { IfErr result (λ e. e.at ≡ at) }
+        ensures kind { IfErr result (λ e. RefusesOpener (groups_of self.old) e.kind) }
+    {
+        if self.opened.len() >= MAX_OPEN {
+            return Err(LexError::new(LexKind::TooDeep, at));
+        }
+        let before = mem::replace(&mut self.trees, TokenStream::new(self.alloc));
+        let opened = OpenNest {
+            delimiter,
+            at,
+            before,
+        };
+        if let Err(_refused) = self.opened.push(opened) {
+            return Err(LexError::new(LexKind::Memory, at));
+        }
+        Ok(())
+    }
+
+    // The innermost group ends with this closer: it is the next tree of the level around it.
+    fn close_group(&mut self, delimiter: Delimiter, lo: usize, hi: usize) -> Result<(), LexError>
+        requires { hi ≡ lo + 1 }
+        ensures ok { OnOk result (ClosesGroup self.old self.new delimiter lo hi) }
+        ensures at { IfErr result (λ e. e.at ≡ lo) }
+        ensures kind { IfErr result (λ e. RefusesCloser (groups_of self.old) delimiter e.kind) }
+    {
+        let Some(open) = self.opened.pop() else {
+            return Err(LexError::new(LexKind::UnmatchedClose, lo));
+        };
+        if open.delimiter != delimiter {
+            return Err(LexError::new(LexKind::UnmatchedClose, lo));
+        }
+        let inside = mem::replace(&mut self.trees, open.before);
+        let span = Span::new(self.file, open.at, hi);
+        self.append(TokenTree::Group(Group::new(delimiter, inside, span)), lo)
+    }
+}
+
+// Whether a delimiter opens a group.
+fn is_opener(c: char) -> bool
+    ensures { result ≡ is_opener c }
+{
+    matches!(c, '(' | '[' | '{')
+}
+
+// Which delimiter the opener or closer belongs to.
+fn delimiter_for(c: char) -> Delimiter
+    ensures { result ≡ delimiter_for c }
+{
+    match c {
+        '(' | ')' => Delimiter::Parenthesis,
+        '[' | ']' => Delimiter::Bracket,
+        _ => Delimiter::Brace,
+    }
+}

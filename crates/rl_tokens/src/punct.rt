@@ -1,0 +1,86 @@
+//! Punctuation tokens.
+
+ghost use Rattle.std.specs.Prelude.{◌≡◌, IsTrue};
+ghost use Rattle.rl_tokens.specs.Puncts.{is_punct};
+
+use crate::span::Span;
+use std::marker::Model;
+
+/// One character of punctuation, and where it stands.
+#[derive(Drop)]
+pub struct Punct {
+    ch: char,
+    span: Span,
+}
+
+impl Model for Punct {
+    ghost use Rattle.std.specs.Prelude.{IsTrue};
+    ghost use Rattle.rl_tokens.specs.Puncts.{Mark, is_punct};
+
+    ghost Value = { Mark };
+
+    ghost view = { λ punct. record { ch = punct.ch; span = punct.span } };
+
+    ghost invariant = { λ punct. IsTrue (is_punct punct.ch) };
+}
+
+impl Punct {
+    /// The token of this character, which is punctuation ([`Punct::is_char`] tells), with this span.
+    pub fn new(ch: char, span: Span) -> Punct
+        requires { IsTrue (is_punct ch) }
+        ensures { result ≡ record { ch = ch; span = span } }
+    {
+        Punct { ch, span }
+    }
+
+    /// Whether the character is one of ``~ ! @ # $ % ^ & * - = + | ; : , < . > / ?``.
+    pub fn is_char(ch: char) -> bool
+        ensures { result ≡ is_punct ch }
+    {
+        matches!(
+            ch,
+            '~' | '!'
+                | '@'
+                | '#'
+                | '$'
+                | '%'
+                | '^'
+                | '&'
+                | '*'
+                | '-'
+                | '='
+                | '+'
+                | '|'
+                | ';'
+                | ':'
+                | ','
+                | '<'
+                | '.'
+                | '>'
+                | '/'
+                | '?'
+        )
+    }
+
+    /// The character.
+    pub fn as_char(&self) -> char
+        ensures ch { result ≡ self.now.ch }
+        ensures punct { IsTrue (is_punct result) }
+    {
+        self.ch
+    }
+
+    /// Where the token stands.
+    pub fn span(&self) -> Span
+        ensures { result ≡ self.now.span }
+    {
+        self.span
+    }
+
+    /// Puts the token elsewhere.
+    pub fn set_span(&mut self, span: Span)
+        ensures { self.new ≡ record self.old { span = span } }
+    {
+        self.span = span;
+    }
+}

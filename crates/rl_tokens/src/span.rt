@@ -1,0 +1,69 @@
+ghost use Rattle.std.specs.Prelude.{◌≡◌, ◌≢◌, ◌↔◌, min, max, IsSome, IfSome};
+
+/// Where a token stands: a file, and the bytes of its text from `lo` up to `hi`.
+#[derive(Clone, Copy, PartialEq, Eq, Debug)]
+pub struct Span {
+    /// The file, by a number of the caller's choice.
+    pub file: u32,
+    /// The place of the first byte.
+    pub lo: usize,
+    /// The place behind the last byte.
+    pub hi: usize,
+}
+
+impl Span {
+    /// The span of what stands in no text.
+    pub fn call_site() -> Span
+        ensures { result ≡ record { file = 0; lo = 0; hi = 0 } }
+    {
+        Span {
+            file: 0,
+            lo: 0,
+            hi: 0,
+        }
+    }
+
+    /// The bytes from `lo` up to `hi` of a file.
+    pub fn new(file: u32, lo: usize, hi: usize) -> Span
+        ensures { result ≡ record { file = file; lo = lo; hi = hi } }
+    {
+        Span { file, lo, hi }
+    }
+
+    /// The file.
+    pub fn file(self) -> u32
+        ensures { result ≡ self.file }
+    {
+        self.file
+    }
+
+    /// The place of the first byte.
+    pub fn lo(self) -> usize
+        ensures { result ≡ self.lo }
+    {
+        self.lo
+    }
+
+    /// The place behind the last byte.
+    pub fn hi(self) -> usize
+        ensures { result ≡ self.hi }
+    {
+        self.hi
+    }
+
+    /// From the first of both to the last of both, where they stand in one file.
+    pub fn join(self, other: Span) -> Option<Span>
+        ensures one_file { IsSome result ↔ (self.file ≡ other.file) }
+        ensures range { IfSome result
+            (λ s. s ≡ record { file = self.file; lo = min self.lo other.lo; hi = max self.hi other.hi }) }
+    {
+        if self.file != other.file {
+            return None;
+        }
+        Some(Span {
+            file: self.file,
+            lo: self.lo.min(other.lo),
+            hi: self.hi.max(other.hi),
+        })
+    }
+}

@@ -1,0 +1,202 @@
+//! Token trees: what a text is cut into.
+
+ghost use Rattle.std.specs.Prelude.{◌≡◌, ◌++◌, ◌∷◌, [], map, OnOk, OnErr, IfErr};
+
+use crate::error::Error;
+use crate::ident::Ident;
+use crate::kept::Kept;
+use crate::literal::Literal;
+use crate::punct::Punct;
+use crate::span::Span;
+use std::alloc::{Allocator, Global};
+
+/// How a group is delimited.
+#[derive(Clone, Copy, PartialEq, Eq, Debug)]
+pub enum Delimiter {
+    /// `( .. )`
+    Parenthesis,
+    /// `{ .. }`
+    Brace,
+    /// `[ .. ]`
+    Bracket,
+}
+
+/// One token, or a group with all that is inside.
+#[derive(Drop)]
+#[cycle(tree)]
+pub enum TokenTree<A: Allocator = Global> {
+    /// Trees between an opener and its closer.
+    Group(Group<A>),
+    /// An identifier.
+    Ident(Ident<A>),
+    /// One character of punctuation.
+    Punct(Punct),
+    /// A literal.
+    Literal(Literal<A>),
+}
+
+/// Trees between an opener and its closer.
+#[derive(Drop)]
+#[cycle(tree)]
+pub struct Group<A: Allocator = Global> {
+    delimiter: Delimiter,
+    stream: TokenStream<A>,
+    span: Span,
+}
+
+/// A sequence of trees.
+#[derive(Drop)]
+#[cycle(tree)]
+pub struct TokenStream<A: Allocator = Global> {
+    trees: Vec<TokenTree<A>, A>,
+}
+
+impl<A: Allocator> TokenTree<A> {
+    ghost use Rattle.rl_tokens.specs.Trees.{span_of, tree_view, moved, respanned};
+
+    /// Where the tree stands: a group from its opener to its closer.
+    pub fn span(&self) -> Span
+        ensures { result ≡ span_of self.now }
+    {
+        match self {
+            TokenTree::Group(group) => group.span(),
+            TokenTree::Ident(ident) => ident.span(),
+            TokenTree::Punct(punct) => punct.span(),
+            TokenTree::Literal(literal) => literal.span(),
+        }
+    }
+
+    /// Puts the tree elsewhere; what is inside a group stays.
+    pub fn set_span(&mut self, span: Span)
+        ensures { tree_view self.new ≡ moved span (tree_view self.old) }
+    {
+        match self {
+            TokenTree::Group(group) => group.set_span(span),
+            TokenTree::Ident(ident) => ident.set_span(span),
+            TokenTree::Punct(punct) => punct.set_span(span),
+            TokenTree::Literal(literal) => literal.set_span(span),
+        }
+    }
+
+    // Gives the tree this span, and with a group all that is inside.
+    #[cycle(respan)]
+    #[tactic(auto, using(crate::proofs::TreeLemmas::respanned_group))]
+    fn respan(&mut self, span: Span)
+        ensures { tree_view self.new ≡ respanned span (tree_view self.old) }
+    {
+        match self {
+            TokenTree::Group(group) => group.respan(span),
+            TokenTree::Ident(ident) => ident.set_span(span),
+            TokenTree::Punct(punct) => punct.set_span(span),
+            TokenTree::Literal(literal) => literal.set_span(span),
+        }
+    }
+}
+
+impl<A: Allocator> Group<A> {
+    ghost use Rattle.rl_tokens.specs.Trees.{delimiter_of, stream_of, group_span, stream_view, respanned};
+
+    /// The group of these trees.
+    pub fn new(delimiter: Delimiter, stream: TokenStream<A>, span: Span) -> Group<A>
+        ensures delimiter { delimiter_of result ≡ delimiter }
+        ensures stream { stream_of result ≡ stream }
+        ensures span { group_span result ≡ span }
+    {
+        Group {
+            delimiter,
+            stream,
+            span,
+        }
+    }
+
+    /// How the group is delimited.
+    pub fn delimiter(&self) -> Delimiter
+        ensures { result ≡ delimiter_of self.now }
+    {
+        self.delimiter
+    }
+
+    /// The trees inside.
+    pub fn stream(&self) -> &TokenStream<A>
+        ensures { result.now ≡ stream_of self.now }
+    {
+        &self.stream
+    }
+
+    /// Where the group stands, from its opener to its closer.
+    pub fn span(&self) -> Span
+        ensures { result ≡ group_span self.now }
+    {
+        self.span
+    }
+
+    /// Puts the group elsewhere; the trees inside stay.
+    pub fn set_span(&mut self, span: Span)
+        ensures delimiter { delimiter_of self.new ≡ delimiter_of self.old }
+        ensures stream { stream_of self.new ≡ stream_of self.old }
+        ensures span { group_span self.new ≡ span }
+    {
+        self.span = span;
+    }
+
+    // Gives the group this span, and all that is inside.
+    #[cycle(respan)]
+    fn respan(&mut self, span: Span)
+        ensures delimiter { delimiter_of self.new ≡ delimiter_of self.old }
+        ensures inside { stream_view (stream_of self.new)
+            ≡ map (respanned span) (stream_view (stream_of self.old)) }
+        ensures span { group_span self.new ≡ span }
+    {
+        self.span = span;
+        self.stream.respan(span);
+    }
+}
+
+impl<A: Allocator> TokenStream<A> {
+    ghost use Rattle.rl_tokens.specs.Errors.{memory_at};
+    ghost use Rattle.rl_tokens.specs.Trees.{trees_of, span_of, stream_view, respanned};
+
+    /// No trees. The stream takes its memory from the allocator.
+    pub fn new(alloc: A) -> TokenStream<A>
+        ensures { trees_of result ≡ [] }
+    {
+        TokenStream {
+            trees: Vec::new(alloc),
+        }
+    }
+
+    /// Puts the tree last. Where memory is wanted and refused, the stream stays, and the tree is handed back; the
+    /// error is told at the tree's span.
+    pub fn append(&mut self, tree: TokenTree<A>) -> Result<(), Kept<TokenTree<A>>>
+        ensures ok { OnOk result (trees_of self.new ≡ trees_of self.old ++ tree ∷ []) }
+        ensures unchanged { OnErr result (trees_of self.new ≡ trees_of self.old) }
+        ensures kept { IfErr result (λ kept. kept.value ≡ tree) }
+        ensures memory { IfErr result (λ kept. kept.error ≡ memory_at (span_of tree)) }
+    {
+        match self.trees.push(tree) {
+            Ok(()) => Ok(()),
+            Err(failed) => {
+                let value = failed.value;
+                let error = Error::memory(value.span());
+                Err(Kept { value, error })
+            }
+        }
+    }
+
+    /// The trees, in their order.
+    pub fn trees(&self) -> &[TokenTree<A>]
+        ensures { result.now ≡ trees_of self.now }
+    {
+        self.trees.as_slice()
+    }
+
+    /// Gives every tree this span, also inside groups.
+    #[cycle(respan)]
+    pub fn respan(&mut self, span: Span)
+        ensures { stream_view self.new ≡ map (respanned span) (stream_view self.old) }
+    {
+        for at in 0..self.trees.len() {
+            self.trees[at].respan(span);
+        }
+    }
+}

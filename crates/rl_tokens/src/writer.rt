@@ -1,0 +1,196 @@
+//! How values are written as literals.
+
+ghost use Rattle.std.specs.Prelude.{◌≡◌, ◌⊎◌, ◌<◌, ◌/◌, ◌%◌, ◌++◌, ◌∷◌, [], IsTrue, OnOk, IfOk, IfErr, MatchResult, string_bytes, encode_utf8_all};
+ghost use Rattle.std.specs.Str.{chars};
+ghost use Rattle.rl_tokens.specs.Quoted.{holds_characters, opener, unit_text};
+ghost use Rattle.rl_tokens.specs.Written.{closer, upper_digit, is_written_as_number, writing};
+ghost use Rattle.rl_tokens.specs.Agreeing.{AreBytesOf, IsWrittenForm};
+ghost use Rattle.rl_tokens.specs.Errors.{memory_at, nowhere};
+
+use crate::c_string::CString;
+use crate::error::Error;
+use crate::kind::Kind;
+use crate::literal::Literal;
+use crate::span::Span;
+use std::alloc::{AllocError, Allocator};
+
+/// The quote that ends a literal of the kind.
+fn closer(kind: Kind) -> char
+    ensures value { result ≡ closer kind }
+    ensures ascii { result < 128 }
+{
+    match kind {
+        Kind::Byte | Kind::Char => '\'',
+        _ => '"',
+    }
+}
+
+/// What stands before the characters of a literal of the kind.
+fn opener(kind: Kind) -> &'static str
+    ensures { result.now ≡ opener kind }
+{
+    match kind {
+        Kind::Str => "\"",
+        Kind::ByteStr => "b\"",
+        Kind::CStr => "c\"",
+        Kind::Byte => "b'",
+        Kind::Char => "'",
+        _ => "",
+    }
+}
+
+/// Whether a literal of the kind holds characters, not bytes.
+fn holds_characters(kind: Kind) -> bool
+    ensures { result ≡ holds_characters kind }
+{
+    matches!(kind, Kind::Str | Kind::Char)
+}
+
+/// Whether a character is written by its number.
+fn is_written_as_number(kind: Kind, c: char) -> bool
+    ensures { result ≡ is_written_as_number kind c }
+{
+    c < ' ' || c == '\u{7f}' || ('\u{7f}' < c && !holds_characters(kind))
+}
+
+/// A hexadecimal digit in upper case.
+fn upper_digit(digit: u32) -> char
+    requires { digit < 16 }
+    ensures value { result ≡ upper_digit digit }
+    ensures ascii { result < 128 }
+{
+    let code = digit as u8;
+    if code < 10 {
+        (b'0' + code) as char
+    } else {
+        (b'A' + (code - 10)) as char
+    }
+}
+
+/// Writes `\x` and two digits.
+fn push_number<A: Allocator>(out: &mut String<A>, code: u32) -> Result<(), AllocError>
+    requires { code < 256 }
+    ensures { OnOk result (string_bytes out.new
+        ≡ string_bytes out.old ++ 92 ∷ 120 ∷ upper_digit (code / 16) ∷ upper_digit (code % 16) ∷ []) }
+{
+    out.push_str("\\x")?;
+    out.push(upper_digit(code / 16))?;
+    out.push(upper_digit(code % 16))
+}
+
+/// Writes a character or a byte as it stands in a literal of the kind.
+#[tactic(auto, unfolding(crate::specs::Written::writing))]
+fn push_written<A: Allocator>(out: &mut String<A>, kind: Kind, c: char) -> Result<(), AllocError>
+    requires { IsTrue (holds_characters kind) ⊎ (c < 256) }
+    ensures { OnOk result (string_bytes out.new
+        ≡ string_bytes out.old ++ encode_utf8_all (unit_text (writing kind c))) }
+{
+    match c {
+        '\0' => out.push_str("\\0"),
+        '\t' => out.push_str("\\t"),
+        '\n' => out.push_str("\\n"),
+        '\r' => out.push_str("\\r"),
+        '\\' => out.push_str("\\\\"),
+        _ if c == closer(kind) => {
+            out.push('\\')?;
+            out.push(c)
+        }
+        _ if is_written_as_number(kind, c) => push_number(out, c as u32),
+        _ => out.push(c),
+    }
+}
+
+/// The text of the literal that holds these characters.
+fn text_of_characters<A: Allocator>(alloc: A, value: &str) -> Result<String<A>, AllocError>
+    ensures { IfOk result (λ s. IsWrittenForm Kind.Str (chars value.now) (chars (string_bytes s))) }
+{
+    let mut text = String::from_str(alloc, opener(Kind::Str))?;
+    for c in value.chars() {
+        push_written(&mut text, Kind::Str, c)?;
+    }
+    text.push(closer(Kind::Str))?;
+    Ok(text)
+}
+
+/// The text of a literal that holds bytes.
+fn text_of_bytes<A: Allocator>(alloc: A, kind: Kind, value: &[u8]) -> Result<String<A>, AllocError>
+    requires { AreBytesOf kind value.now }
+    ensures { IfOk result (λ s. IsWrittenForm kind value.now (chars (string_bytes s))) }
+{
+    let mut text = String::from_str(alloc, opener(kind))?;
+    for byte in value {
+        push_written(&mut text, kind, char::from(*byte))?;
+    }
+    text.push(closer(kind))?;
+    Ok(text)
+}
+
+/// The text of a literal that holds one character.
+fn text_of_character<A: Allocator>(alloc: A, value: char) -> Result<String<A>, AllocError>
+    ensures { IfOk result (λ s. IsWrittenForm Kind.Char (value ∷ []) (chars (string_bytes s))) }
+{
+    let mut text = String::from_str(alloc, opener(Kind::Char))?;
+    push_written(&mut text, Kind::Char, value)?;
+    text.push(closer(Kind::Char))?;
+    Ok(text)
+}
+
+/// The token of a written text, at no place.
+fn token<A: Allocator>(text: Result<String<A>, AllocError>) -> Result<Literal<A>, Error>
+    ensures value { MatchResult text
+        (λ s. result ≡ Ok (record { text = string_bytes s; span = nowhere }))
+        (λ _. result ≡ Err (memory_at nowhere)) }
+{
+    match text {
+        Ok(text) => Ok(Literal::from_string(text)),
+        Err(_) => Err(Error::memory(Span::call_site())),
+    }
+}
+
+/// The literals that values are written as, at no place (`Span::call_site`), where want of memory is told too.
+impl<A: Allocator> Literal<A> {
+    /// The string literal that stands for the text.
+    pub fn string(alloc: A, value: &str) -> Result<Literal<A>, Error>
+        ensures text { IfOk result (λ l. IsWrittenForm Kind.Str (chars value.now) (chars l.text)) }
+        ensures span { IfOk result (λ l. l.span ≡ nowhere) }
+        ensures memory { IfErr result (λ e. e ≡ memory_at nowhere) }
+    {
+        token(text_of_characters(alloc, value))
+    }
+
+    /// The byte string literal that stands for the bytes.
+    pub fn byte_string(alloc: A, value: &[u8]) -> Result<Literal<A>, Error>
+        ensures text { IfOk result (λ l. IsWrittenForm Kind.ByteStr value.now (chars l.text)) }
+        ensures span { IfOk result (λ l. l.span ≡ nowhere) }
+        ensures memory { IfErr result (λ e. e ≡ memory_at nowhere) }
+    {
+        token(text_of_bytes(alloc, Kind::ByteStr, value))
+    }
+
+    /// The C string literal that stands for the bytes.
+    pub fn c_string<B: Allocator>(alloc: A, value: &CString<B>) -> Result<Literal<A>, Error>
+        ensures text { IfOk result (λ l. IsWrittenForm Kind.CStr value.now (chars l.text)) }
+        ensures span { IfOk result (λ l. l.span ≡ nowhere) }
+        ensures memory { IfErr result (λ e. e ≡ memory_at nowhere) }
+    {
+        token(text_of_bytes(alloc, Kind::CStr, value.as_bytes()))
+    }
+
+    /// The byte literal that stands for the byte.
+    pub fn byte_character(alloc: A, value: u8) -> Result<Literal<A>, Error>
+        ensures text { IfOk result (λ l. IsWrittenForm Kind.Byte (value ∷ []) (chars l.text)) }
+        ensures span { IfOk result (λ l. l.span ≡ nowhere) }
+        ensures memory { IfErr result (λ e. e ≡ memory_at nowhere) }
+    {
+        token(text_of_bytes(alloc, Kind::Byte, &[value]))
+    }
+
+    /// The character literal that stands for the character.
+    pub fn character(alloc: A, value: char) -> Result<Literal<A>, Error>
+        ensures text { IfOk result (λ l. IsWrittenForm Kind.Char (value ∷ []) (chars l.text)) }
+        ensures span { IfOk result (λ l. l.span ≡ nowhere) }
+        ensures memory { IfErr result (λ e. e ≡ memory_at nowhere) }
+    {
+        token(text_of_character(alloc, value))
+    }
+}

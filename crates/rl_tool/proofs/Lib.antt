@@ -1,0 +1,4 @@
+pub mod StreamLemmas
+pub mod LineLemmas
+pub mod PrintLemmas
+pub mod RunLemmas

@@ -1,0 +1,4 @@
+pub mod Streams
+pub mod Lines
+pub mod Runs
+pub mod Faults

@@ -1,0 +1,51 @@
+ghost use Rattle.std.specs.Prelude.{◌≡◌, Some};
+ghost use Rattle.rl_tool.specs.Faults.{fault_line, status_of};
+
+use rl_tokens::Error;
+use std::fmt;
+
+/// Why a run ended without printing.
+#[derive(Debug, Drop)]
+pub enum Fault {
+    /// A call of the reader failed, or its turns brought no end.
+    Read,
+    /// A call of the writer failed, or took no byte.
+    Write,
+    /// The input isn't UTF-8.
+    NotText,
+    /// Memory was wanted outside a literal, and refused.
+    Memory,
+    /// A literal was refused.
+    Literal(Error),
+}
+
+impl Fault {
+    /// The status that the program ends with: 2 where reading or writing failed, else 1.
+    pub fn status(&self) -> u8
+        ensures { result ≡ status_of self.now }
+    {
+        match self {
+            Fault::Read | Fault::Write => 2,
+            _ => 1,
+        }
+    }
+}
+
+/// The line that the program tells the fault by, with the places of a refused literal in bytes.
+impl fmt::Display for Fault {
+    ghost output = { λ fault. Some (fault_line fault) };
+
+    fn fmt<W: fmt::Write>(&self, f: &mut fmt::Formatter<W>) -> fmt::Result {
+        match self {
+            Fault::Read => write!(f, "error: read failed"),
+            Fault::Write => write!(f, "error: write failed"),
+            Fault::NotText => write!(f, "error: input is not UTF-8"),
+            Fault::Memory => write!(f, "error: out of memory"),
+            Fault::Literal(error) => {
+                let lo = error.span.lo;
+                let hi = error.span.hi;
+                write!(f, "error at {lo}..{hi}: {error}")
+            }
+        }
+    }
+}

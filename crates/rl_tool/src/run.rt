@@ -1,0 +1,86 @@
+//! A run of the program, over any reader and writer.
+
+ghost use Rattle.std.specs.Prelude.{◌≡◌, IfErr, IfOk, IfSome, OnOk, string_bytes};
+ghost use Rattle.std.specs.Str.{chars, IsUtf8};
+ghost use Rattle.rl_tool.specs.Lines.{IsLineOf};
+ghost use Rattle.rl_tool.specs.Runs.{Prints, IsFaultOf, IsRefusalOf};
+
+use crate::command::Command;
+use crate::fault::Fault;
+use crate::print::push_literal;
+use crate::streams::{read_whole, write_whole};
+use rl_tokens::{Literal, Span};
+use rust_literals::Lit;
+use std::alloc::Allocator;
+use std::io::{Read, Write};
+
+/// The text of the bytes.
+fn text_of(bytes: &[u8]) -> Result<&str, Fault>
+    ensures text { IfOk result (λ text. text.now ≡ bytes.now) }
+    ensures utf8 { OnOk result (IsUtf8 bytes.now) }
+    ensures refusal { IfErr result (IsRefusalOf bytes.now) }
+{
+    match std::str::from_utf8(bytes) {
+        Ok(text) => Ok(text),
+        Err(_) => Err(Fault::NotText),
+    }
+}
+
+/// The line of the whole text as one literal.
+fn literal_line<A: Allocator + Copy>(alloc: A, text: &str) -> Result<String<A>, Fault>
+    ensures line { IfOk result (λ line. IsLineOf (chars text.now) (chars (string_bytes line))) }
+    ensures refusal { IfErr result (IsRefusalOf text.now) }
+{
+    let span = Span::new(0, 0, text.len());
+    let Ok(token) = Literal::from_text(alloc, text, span) else {
+        return Err(Fault::Memory);
+    };
+    let literal = match Lit::new(alloc, token) {
+        Ok(literal) => literal,
+        Err(kept) => return Err(Fault::Literal(kept.error)),
+    };
+    let mut line = String::new(alloc);
+    push_literal(alloc, &mut line, &literal)?;
+    Ok(line)
+}
+
+/// All lines of the input.
+fn lines_of<A: Allocator + Copy>(
+    alloc: A,
+    command: Command,
+    bytes: &[u8],
+) -> Result<String<A>, Fault>
+    ensures utf8 { OnOk result (IsUtf8 bytes.now) }
+    ensures line { IfOk result (λ line. IsLineOf (chars bytes.now) (chars (string_bytes line))) }
+    ensures refusal { IfErr result (IsRefusalOf bytes.now) }
+{
+    let text = text_of(bytes)?;
+    match command {
+        Command::Text => literal_line(alloc, text),
+    }
+}
+
+/// Reads the whole input, and writes the lines of its literals.
+///
+/// All lines are made before the first is written, so a refusal writes nothing; a write that fails leaves a beginning
+/// of the lines' bytes written. `NotText` comes exactly where the input was read whole and isn't UTF-8. `Literal` has the
+/// refusal of `Lit::new`, and `Memory` is told of every other growth that was refused. `Read` and `Write` come where a
+/// call of the reader or the writer failed, or where 4,294,967,295 turns of reading brought no end.
+pub fn run<A: Allocator + Copy, R: Read, W: Write>(
+    alloc: A,
+    command: Command,
+    input: &mut R,
+    out: &mut W,
+) -> Result<(), Fault>
+    ensures printed { OnOk result (IfSome (R.remaining input.old)
+        (λ bytes. Prints bytes (W.contents out.old) (W.contents out.new))) }
+    ensures fault { IfErr result
+        (IsFaultOf (R.remaining input.old) (W.contents out.old) (W.contents out.new)) }
+{
+    let bytes = read_whole(alloc, input)?;
+    let lines = match lines_of(alloc, command, bytes.as_slice()) {
+        Ok(lines) => lines,
+        Err(fault) => return Err(fault),
+    };
+    write_whole(out, lines.as_bytes())
+}

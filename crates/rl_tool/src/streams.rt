@@ -1,0 +1,49 @@
+//! Reading a whole input, and writing whole lines.
+
+ghost use Rattle.std.specs.Prelude.{◌≡◌, ◌⊎◌, OnOk, IfOk, IfErr, IfSome};
+ghost use Rattle.std.specs.Io.KnownBytes.{Appends};
+ghost use Rattle.rl_tool.specs.Streams.{AppendsBeginning};
+
+use crate::fault::Fault;
+use std::alloc::Allocator;
+use std::io::{Read, Write};
+
+/// How many bytes a turn of reading asks for.
+const TURN: usize = 8192;
+
+/// All bytes of the input, read in at most 4,294,967,295 turns. An error of any kind counts as a failed call.
+pub fn read_whole<A: Allocator, R: Read>(alloc: A, input: &mut R) -> Result<Vec<u8, A>, Fault>
+    ensures bytes { IfOk result (λ bytes. IfSome (R.remaining input.old) (λ all. bytes.items ≡ all)) }
+    ensures faults { IfErr result (λ fault. (fault ≡ Fault.Read) ⊎ (fault ≡ Fault.Memory)) }
+{
+    let mut bytes = Vec::new(alloc);
+    let mut turn = [0_u8; TURN];
+    for _ in 0..u32::MAX {
+        match input.read(&mut turn) {
+            Ok(0) => return Ok(bytes),
+            Ok(count) => {
+                if bytes.extend_from_slice(&turn[..count]).is_err() {
+                    return Err(Fault::Memory);
+                }
+            }
+            Err(_) => return Err(Fault::Read),
+        }
+    }
+    Err(Fault::Read)
+}
+
+/// Writes all bytes. A write that takes none counts as failed.
+pub fn write_whole<W: Write>(out: &mut W, bytes: &[u8]) -> Result<(), Fault>
+    ensures all { OnOk result (Appends (W.contents out.old) (W.contents out.new) bytes.now) }
+    ensures beginning { IfErr result (λ fault. (fault ≡ Fault.Write)
+        × AppendsBeginning (W.contents out.old) (W.contents out.new) bytes.now) }
+{
+    let mut rest = bytes;
+    while !rest.is_empty() {
+        match out.write(rest) {
+            Ok(count) if count > 0 => rest = &rest[count..],
+            _ => return Err(Fault::Write),
+        }
+    }
+    Ok(())
+}

@@ -1,0 +1,97 @@
+use super::prints;
+use std::test::Fail;
+
+/// Bases, signs, underscores, suffixes.
+#[test]
+fn integers(rt: HostRuntime) -> Result<(), Fail> {
+    prints(
+        &rt,
+        rt.alloc(),
+        concat!(
+            "0xFF_u8␟Int 255 u8␞",
+            "-0x1F␟Int -31 -␞",
+            "-0␟Int -0 -␞",
+            "007␟Int 7 -␞",
+            "--1␟Verbatim \"--1\" -␞",
+            "1␟Int 1 -␞",
+            "1u16␟Int 1 u16␞",
+            "0x_F␟Int 15 -␞",
+            "0o17␟Int 15 -␞",
+            "0xe5␟Int 229 -␞",
+            "1_␟Int 1 -␞",
+            "0_x1␟Int 0 x1␞",
+            "0b1e3␟Int 1 e3␞",
+            "0X1F␟Int 0 X1F␞",
+            "1f64␟Int 1 f64␞",
+            "1e␟Int 1 e␞",
+            "1ee5␟Int 1 ee5␞",
+            "1e5·␟Int 1 e5·␞",
+            "1_000u8␟Int 1000 u8␞",
+            "0b1_␟Int 1 -␞",
+            "0o7_u8␟Int 7 u8␞",
+            "-1_i8␟Int -1 i8␞",
+            "1é␟Int 1 é␞",
+            "1_é␟Int 1 é␞",
+            "0xAfg␟Int 175 g␞",
+            "0x␟Float 0 x␞",
+            "0b␟Float 0 b␞",
+            "0o␟Float 0 o␞",
+            "-0x␟Float -0 x␞",
+            "0xg␟Float 0 xg␞",
+            "0b2␟Float 0 b2␞",
+            "0o8␟Float 0 o8␞",
+            "0b_␟Float 0 b_␞",
+            "1x1␟Int 1 x1␞",
+            "0_0␟Int 0 -␞",
+            "00x1␟Int 0 x1␞",
+            "1\u{200e}␟Verbatim \"1\u{200e}\" -␞",
+        ),
+    )
+}
+
+/// Dots, exponents, suffixes.
+#[test]
+fn floats(rt: HostRuntime) -> Result<(), Fail> {
+    prints(
+        &rt,
+        rt.alloc(),
+        concat!(
+            "1.0e10f64␟Float 1.0e10 f64␞",
+            "1_0.5E+1_0␟Float 10.5e10 -␞",
+            "1.␟Float 1. -␞",
+            "1.e5␟Float 1.e5 -␞",
+            "1__e__+__3␟Float 1e3 -␞",
+            "1E_5x␟Float 1e5 x␞",
+            "1.0_e␟Float 1.0 e␞",
+            "1._5␟Float 1.5 -␞",
+            "1.2.3␟Verbatim \"1.2.3\" -␞",
+            "1.0e+␟Verbatim \"1.0e+\" -␞",
+            "1e+␟Verbatim \"1e+\" -␞",
+            "1e-␟Verbatim \"1e-\" -␞",
+            "1..2␟Verbatim \"1..2\" -␞",
+            "1-3␟Verbatim \"1-3\" -␞",
+            "1e5␟Float 1e5 -␞",
+            "1e5e6␟Float 1e5 e6␞",
+            "1e5.0␟Verbatim \"1e5.0\" -␞",
+            "0b12␟Float 0 b12␞",
+            "0x1.0␟Verbatim \"0x1.0\" -␞",
+            "-1.5␟Float -1.5 -␞",
+            "1e_␟Int 1 e_␞",
+            "1e_5␟Float 1e5 -␞",
+            "1e_+5␟Float 1e5 -␞",
+            "1e+_5␟Float 1e5 -␞",
+            "1e+-5␟Verbatim \"1e+-5\" -␞",
+            "1e--5␟Verbatim \"1e--5\" -␞",
+            "1e5_␟Float 1e5 -␞",
+            "1e_a␟Int 1 e_a␞",
+            "1.0e1_x␟Float 1.0e1 x␞",
+            "1.a␟Float 1. a␞",
+            "1.é␟Float 1. é␞",
+            "1._␟Float 1. -␞",
+            "1.0f32␟Float 1.0 f32␞",
+            "1f␟Int 1 f␞",
+            "1e1e1␟Float 1e1 e1␞",
+            "1e\u{ff11}␟Int 1 e\u{ff11}␞",
+        ),
+    )
+}

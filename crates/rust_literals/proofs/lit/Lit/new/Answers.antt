@@ -1,0 +1,9 @@
+use Rattle.std.specs.Str.{chars}
+use Rattle.rl_tokens.proofs.Agreeing.{strict_reads, strict_minus}
+use Rattle.rust_literals.proofs.lit.Lit.new.Goals as goal
+
+pub returns-clause-strict : goal.returns-clause-strict
+returns-clause-strict g c = strict_reads (chars c.args.token.text)
+
+pub returns-clause-strict_behind_minus : goal.returns-clause-strict_behind_minus
+returns-clause-strict_behind_minus g c = strict_minus (chars c.args.token.text)

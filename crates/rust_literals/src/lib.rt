@@ -1,0 +1,13 @@
+//! Rust's literals: the type `Lit`, its nine variants, and the literal types.
+#![tactic(auto)]
+
+mod lit;
+mod lit_bool;
+mod lit_float;
+mod lit_int;
+
+pub use crate::lit::Lit;
+pub use crate::lit_bool::LitBool;
+pub use crate::lit_float::LitFloat;
+pub use crate::lit_int::LitInt;
+pub use rl_quoted::{LitByte, LitByteStr, LitCStr, LitChar, LitStr};

@@ -1,0 +1,244 @@
+ghost use Rattle.std.specs.Prelude.{◌≡◌, [], IfOk, IfErr};
+ghost use Rattle.std.specs.Str.{chars};
+ghost use Rattle.rl_tokens.specs.declared.kind.Kind.TheVariants.{Bool as BoolKind};
+ghost use Rattle.rl_tokens.specs.Errors.{memory_at};
+ghost use Rattle.rl_tokens.specs.Reading.{Reads, ReadsAs, Truth};
+
+use crate::lit_bool::LitBool;
+use crate::lit_float::LitFloat;
+use crate::lit_int::LitInt;
+use rl_grammar::{Kind, shape};
+use rl_quoted::{LitByte, LitByteStr, LitCStr, LitChar, LitStr};
+use rl_tokens::{Kept, Literal, Span};
+use std::alloc::{Allocator, Global};
+
+/// A literal of Rust.
+#[derive(Drop)]
+pub enum Lit<A: Allocator = Global> {
+    /// A string: `"foo"`, `r"foo"`.
+    Str(LitStr<A>),
+    /// A byte string: `b"foo"`, `br"foo"`.
+    ByteStr(LitByteStr<A>),
+    /// A C string: `c"foo"`, `cr"foo"`.
+    CStr(LitCStr<A>),
+    /// A byte: `b'f'`.
+    Byte(LitByte<A>),
+    /// A character: `'a'`.
+    Char(LitChar<A>),
+    /// An integer: `1`, `1u16`. So is `1f64`, with the suffix `f64`.
+    Int(LitInt<A>),
+    /// A float: `1.0e10f64`. A text is one only where it has no integer reading of any magnitude, so `1f64` is none. The
+    /// size of a float isn't judged.
+    Float(LitFloat<A>),
+    /// A truth value: `true`, `false`.
+    Bool(LitBool),
+    /// A token with any other text; so is an integer past 128 bits.
+    Verbatim(Literal<A>),
+}
+
+/// The truth value that the text is.
+fn truth_value(text: &str) -> bool
+    requires { ReadsAs BoolKind (chars text.now) }
+    ensures { Reads (chars text.now) BoolKind (Truth result) [] }
+{
+    match text {
+        "true" => true,
+        _ => false,
+    }
+}
+
+impl<A: Allocator + Copy> Lit<A> {
+    ghost use Rattle.rust_literals.specs.Literals.{IsReadFrom, ReadsAsNumber, KeepsStrict, KeepsStrictBehindMinus};
+
+    /// The literal that the token's text reads as; `Verbatim` exactly where it has no reading. The token stays as it is,
+    /// text and span.
+    ///
+    /// The one error is want of memory for the digits of a number, told at the token's span; the token is handed back.
+    ///
+    /// A strict text, an integer within 128 bits, is read with the kind, contents and suffix that it has there
+    /// (`strict`), and a strict number behind a minus too.
+    pub fn new(alloc: A, token: Literal<A>) -> Result<Lit<A>, Kept<Literal<A>>>
+        ensures reads { IfOk result (IsReadFrom token) }
+        ensures kept { IfErr result (λ k. k.value ≡ token) }
+        ensures memory { IfErr result (λ k. k.error ≡ memory_at token.span) }
+        ensures numbers_alone { IfErr result (λ k. ReadsAsNumber (chars token.text)) }
+        ensures strict { KeepsStrict (chars token.text) }
+        ensures strict_behind_minus { KeepsStrictBehindMinus (chars token.text) }
+    {
+        Lit::read(alloc, token)
+    }
+
+    /// The same, by the kind that the text has.
+    fn read(alloc: A, token: Literal<A>) -> Result<Lit<A>, Kept<Literal<A>>>
+        ensures reads { IfOk result (IsReadFrom token) }
+        ensures kept { IfErr result (λ k. k.value ≡ token) }
+        ensures memory { IfErr result (λ k. k.error ≡ memory_at token.span) }
+        ensures numbers_alone { IfErr result (λ k. ReadsAsNumber (chars token.text)) }
+    {
+        let Some(parts) = shape(token.text()) else {
+            return Ok(Lit::Verbatim(token));
+        };
+        match parts.kind {
+            Kind::Str => Ok(Lit::Str(LitStr::of_token(token))),
+            Kind::ByteStr => Ok(Lit::ByteStr(LitByteStr::of_token(token))),
+            Kind::CStr => Ok(Lit::CStr(LitCStr::of_token(token))),
+            Kind::Byte => Ok(Lit::Byte(LitByte::of_token(token))),
+            Kind::Char => Ok(Lit::Char(LitChar::of_token(token))),
+            Kind::Int => match LitInt::from_token(alloc, token) {
+                Ok(literal) => Ok(Lit::Int(literal)),
+                Err(kept) => Err(kept),
+            },
+            Kind::Float => match LitFloat::from_token(alloc, token) {
+                Ok(literal) => Ok(Lit::Float(literal)),
+                Err(kept) => Err(kept),
+            },
+            Kind::Bool => {
+                let value = truth_value(token.text());
+                Ok(Lit::Bool(LitBool::new(value, token.span())))
+            }
+        }
+    }
+}
+
+impl<A: Allocator> Lit<A> {
+    ghost use Rattle.rust_literals.specs.Literals.{HasLitSuffix, span_of, moved_to};
+
+    /// What stands behind the literal proper: empty for a truth value and for `Verbatim`.
+    pub fn suffix(&self) -> &str
+        ensures { HasLitSuffix self.now (chars result.now) }
+    {
+        match self {
+            Lit::Str(literal) => literal.suffix(),
+            Lit::ByteStr(literal) => literal.suffix(),
+            Lit::CStr(literal) => literal.suffix(),
+            Lit::Byte(literal) => literal.suffix(),
+            Lit::Char(literal) => literal.suffix(),
+            Lit::Int(literal) => literal.suffix(),
+            Lit::Float(literal) => literal.suffix(),
+            Lit::Bool(_) => "",
+            Lit::Verbatim(_) => "",
+        }
+    }
+
+    /// Where the literal stands.
+    pub fn span(&self) -> Span
+        ensures { result ≡ span_of self.now }
+    {
+        match self {
+            Lit::Str(literal) => literal.span(),
+            Lit::ByteStr(literal) => literal.span(),
+            Lit::CStr(literal) => literal.span(),
+            Lit::Byte(literal) => literal.span(),
+            Lit::Char(literal) => literal.span(),
+            Lit::Int(literal) => literal.span(),
+            Lit::Float(literal) => literal.span(),
+            Lit::Bool(literal) => literal.span(),
+            Lit::Verbatim(token) => token.span(),
+        }
+    }
+
+    /// Puts the literal elsewhere.
+    pub fn set_span(&mut self, span: Span)
+        ensures { self.new ≡ moved_to self.old span }
+    {
+        match self {
+            Lit::Str(literal) => literal.set_span(span),
+            Lit::ByteStr(literal) => literal.set_span(span),
+            Lit::CStr(literal) => literal.set_span(span),
+            Lit::Byte(literal) => literal.set_span(span),
+            Lit::Char(literal) => literal.set_span(span),
+            Lit::Int(literal) => literal.set_span(span),
+            Lit::Float(literal) => literal.set_span(span),
+            Lit::Bool(literal) => literal.set_span(span),
+            Lit::Verbatim(token) => token.set_span(span),
+        }
+    }
+}
+
+impl<A: Allocator> From<LitStr<A>> for Lit<A> {
+    ghost use Rattle.std.specs.Prelude.{◌≡◌};
+    ghost use Rattle.rust_literals.specs.declared.lit.Lit.TheVariants.{Str};
+
+    ghost from_gives = { λ literal lit. lit ≡ Str literal };
+
+    fn from(literal: LitStr<A>) -> Lit<A> {
+        Lit::Str(literal)
+    }
+}
+
+impl<A: Allocator> From<LitByteStr<A>> for Lit<A> {
+    ghost use Rattle.std.specs.Prelude.{◌≡◌};
+    ghost use Rattle.rust_literals.specs.declared.lit.Lit.TheVariants.{ByteStr};
+
+    ghost from_gives = { λ literal lit. lit ≡ ByteStr literal };
+
+    fn from(literal: LitByteStr<A>) -> Lit<A> {
+        Lit::ByteStr(literal)
+    }
+}
+
+impl<A: Allocator> From<LitCStr<A>> for Lit<A> {
+    ghost use Rattle.std.specs.Prelude.{◌≡◌};
+    ghost use Rattle.rust_literals.specs.declared.lit.Lit.TheVariants.{CStr};
+
+    ghost from_gives = { λ literal lit. lit ≡ CStr literal };
+
+    fn from(literal: LitCStr<A>) -> Lit<A> {
+        Lit::CStr(literal)
+    }
+}
+
+impl<A: Allocator> From<LitByte<A>> for Lit<A> {
+    ghost use Rattle.std.specs.Prelude.{◌≡◌};
+    ghost use Rattle.rust_literals.specs.declared.lit.Lit.TheVariants.{Byte};
+
+    ghost from_gives = { λ literal lit. lit ≡ Byte literal };
+
+    fn from(literal: LitByte<A>) -> Lit<A> {
+        Lit::Byte(literal)
+    }
+}
+
+impl<A: Allocator> From<LitChar<A>> for Lit<A> {
+    ghost use Rattle.std.specs.Prelude.{◌≡◌};
+    ghost use Rattle.rust_literals.specs.declared.lit.Lit.TheVariants.{Char};
+
+    ghost from_gives = { λ literal lit. lit ≡ Char literal };
+
+    fn from(literal: LitChar<A>) -> Lit<A> {
+        Lit::Char(literal)
+    }
+}
+
+impl<A: Allocator> From<LitInt<A>> for Lit<A> {
+    ghost use Rattle.std.specs.Prelude.{◌≡◌};
+    ghost use Rattle.rust_literals.specs.declared.lit.Lit.TheVariants.{Int};
+
+    ghost from_gives = { λ literal lit. lit ≡ Int literal };
+
+    fn from(literal: LitInt<A>) -> Lit<A> {
+        Lit::Int(literal)
+    }
+}
+
+impl<A: Allocator> From<LitFloat<A>> for Lit<A> {
+    ghost use Rattle.std.specs.Prelude.{◌≡◌};
+    ghost use Rattle.rust_literals.specs.declared.lit.Lit.TheVariants.{Float};
+
+    ghost from_gives = { λ literal lit. lit ≡ Float literal };
+
+    fn from(literal: LitFloat<A>) -> Lit<A> {
+        Lit::Float(literal)
+    }
+}
+
+impl<A: Allocator> From<LitBool> for Lit<A> {
+    ghost use Rattle.std.specs.Prelude.{◌≡◌};
+    ghost use Rattle.rust_literals.specs.declared.lit.Lit.TheVariants.{Bool};
+
+    ghost from_gives = { λ literal lit. lit ≡ Bool literal };
+
+    fn from(literal: LitBool) -> Lit<A> {
+        Lit::Bool(literal)
+    }
+}
