@@ -21,3 +21,4 @@ pub mod StrictUnitLemmas
 pub mod StrictRowLemmas
 pub mod StrictRawLemmas
 pub mod StrictLemmas
+pub mod FrontLemmas

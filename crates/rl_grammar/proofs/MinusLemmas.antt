@@ -139,7 +139,7 @@ no_quoted : (t x : List ℕ) (k : Kind) (c : Contents) → ReadsQuoted (45 ∷ t
 no_quoted t x k c r = both_ways true (quoted_front (45 ∷ t) x k c r) refl
 
 -- nor a truth value
-no_truth : (t x : List ℕ) (c : Contents) → ReadsBool (45 ∷ t) c x → ⊥
+pub no_truth : (t x : List ℕ) (c : Contents) → ReadsBool (45 ∷ t) c x → ⊥
 no_truth t x c r = both_ways true (ap (passes is_minus) r.text_is ∙ truth_front r.truth) refl
 
 -- behind a minus only numbers stand

@@ -8,3 +8,4 @@ pub mod Decoded
 pub mod WholeShapes
 pub mod StrictAt
 pub mod StrictShapes
+pub mod FrontTokens

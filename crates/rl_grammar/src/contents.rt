@@ -15,7 +15,7 @@ use rl_tokens::{Error, ErrorKind, Kind, Span};
 use std::alloc::{AllocError, Allocator};
 
 /// Want of memory, told of no place in a text.
-fn out_of_memory() -> Error
+fn out_of_memory<A: Allocator>() -> Error<A>
     ensures { result ≡ memory_at nowhere }
 {
     Error {
@@ -68,7 +68,7 @@ fn held_bytes<A: Allocator>(alloc: A, text: &str) -> Result<Vec<u8, A>, AllocErr
 /// # Errors
 ///
 /// `Memory` where memory is refused, told at `Span::call_site`.
-pub fn str_of<A: Allocator>(alloc: A, text: &str) -> Result<String<A>, Error>
+pub fn str_of<A: Allocator>(alloc: A, text: &str) -> Result<String<A>, Error<A>>
     requires { ReadsAs Kind.Str (chars text.now) }
     ensures value { IfOk result (λ s. ContentsAre Kind.Str (chars text.now) (Characters (chars (string_bytes s)))) }
     ensures reads { IfOk result (λ s. HasContents Kind.Str (chars text.now) (Characters (chars (string_bytes s)))) }
@@ -87,7 +87,7 @@ pub fn str_of<A: Allocator>(alloc: A, text: &str) -> Result<String<A>, Error>
 /// # Errors
 ///
 /// `Memory` where memory is refused, told at `Span::call_site`.
-pub fn bytes_of<A: Allocator>(alloc: A, text: &str) -> Result<Vec<u8, A>, Error>
+pub fn bytes_of<A: Allocator>(alloc: A, text: &str) -> Result<Vec<u8, A>, Error<A>>
     requires { ReadsAs Kind.ByteStr (chars text.now) ⊎ ReadsAs Kind.CStr (chars text.now) }
     ensures byte_string { IfOk result (λ bytes. ContentsAre Kind.ByteStr (chars text.now) (Bytes bytes.items)) }
     ensures c_string { IfOk result (λ bytes. ContentsAre Kind.CStr (chars text.now) (Bytes bytes.items)) }
@@ -149,7 +149,7 @@ mod tests {
     use super::*;
     use crate::quoted::quoted_shape;
 
-    fn holds_text<A: Allocator>(alloc: A, text: &str, value: &str) -> Result<bool, Error> {
+    fn holds_text<A: Allocator>(alloc: A, text: &str, value: &str) -> Result<bool, Error<A>> {
         let Some(parts) = quoted_shape(text) else {
             return Ok(false);
         };
@@ -159,7 +159,7 @@ mod tests {
         }
     }
 
-    fn holds_bytes<A: Allocator>(alloc: A, text: &str, value: &[u8]) -> Result<bool, Error> {
+    fn holds_bytes<A: Allocator>(alloc: A, text: &str, value: &[u8]) -> Result<bool, Error<A>> {
         let Some(parts) = quoted_shape(text) else {
             return Ok(false);
         };

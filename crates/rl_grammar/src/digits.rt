@@ -26,7 +26,7 @@ const INTEGER_DIGITS: usize = 40;
 ///
 /// The text has to be a number of the kind: an integer within 128 bits, or a float, whether or not an integer stands
 /// there too. The one error is want of memory, told at the span of no text.
-pub fn digits_of<A: Allocator>(alloc: A, kind: Kind, text: &str) -> Result<String<A>, Error>
+pub fn digits_of<A: Allocator>(alloc: A, kind: Kind, text: &str) -> Result<String<A>, Error<A>>
     requires reads { IsNumber kind (chars text.now) }
     ensures value { IfOk result (λ s. AreDigits kind (chars text.now) (chars (string_bytes s))) }
     ensures memory { IfErr result (λ e. e ≡ memory_at nowhere) }
@@ -133,7 +133,7 @@ mod tests {
     use std::test::Fail;
 
     /// Whether these are the digits of the integer that the text is.
-    fn integer_as<A: Allocator>(alloc: A, text: &str, wanted: &str) -> Result<bool, Error> {
+    fn integer_as<A: Allocator>(alloc: A, text: &str, wanted: &str) -> Result<bool, Error<A>> {
         match int_shape(text) {
             Some(Some(_)) => Ok(digits_of(alloc, Kind::Int, text)?.as_str() == wanted),
             _ => Ok(false),
@@ -141,7 +141,7 @@ mod tests {
     }
 
     /// Whether these are the digits of the float that the text is.
-    fn float_as<A: Allocator>(alloc: A, text: &str, wanted: &str) -> Result<bool, Error> {
+    fn float_as<A: Allocator>(alloc: A, text: &str, wanted: &str) -> Result<bool, Error<A>> {
         match float_shape(text) {
             Some(_) => Ok(digits_of(alloc, Kind::Float, text)?.as_str() == wanted),
             None => Ok(false),

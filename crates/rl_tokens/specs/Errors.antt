@@ -1,19 +1,26 @@
 -- What refusals say.
-use Rattle.std.specs.Prelude.{ℕ, List, codes}
+use Rattle.std.specs.Prelude.{ℕ, List, ◌++◌, codes, string_bytes}
 use Rattle.rl_tokens.specs.declared.span.Span.{Span}
 use Rattle.rl_tokens.specs.declared.error.ErrorKind.{ErrorKind}
-use Rattle.rl_tokens.specs.declared.error.ErrorKind.TheVariants.{NotInteger, TooLarge, NotFloat, Memory}
+use Rattle.rl_tokens.specs.declared.error.ErrorKind.TheVariants.{Expected, EndOfInput, Unexpected, Lex, Suffix, NotInteger, TooLarge, NotFloat, Number, Memory}
 use Rattle.rl_tokens.specs.declared.error.Error.{Error}
+use Rattle.rl_tokens.specs.LexErrors.{lex_message}
 
 -- the text of a refusal
-abbrev pub message_of : ErrorKind → List ℕ
+abbrev pub message_of : {A : Type 0} → ErrorKind A → List ℕ
+message_of (Expected word) = codes "expected " ++ word.now
+message_of (EndOfInput word) = codes "unexpected end of input, expected " ++ word.now
+message_of Unexpected = codes "unexpected token"
+message_of (Lex kind) = lex_message kind
+message_of (Suffix suffix) = codes "unexpected suffix `" ++ string_bytes suffix ++ codes "` on string literal"
 message_of NotInteger = codes "not an integer literal"
 message_of TooLarge = codes "integer literal past 128 bits"
 message_of NotFloat = codes "not a float literal"
+message_of (Number words) = string_bytes words
 message_of Memory = codes "out of memory"
 
 -- want of memory, told at a span
-abbrev pub memory_at : Span → Error
+abbrev pub memory_at : {A : Type 0} → Span → Error A
 memory_at at = record { span = at; kind = Memory }
 
 -- the span of what stands in no text

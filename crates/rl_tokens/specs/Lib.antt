@@ -15,5 +15,7 @@ pub mod Puncts
 pub mod LexemeAt
 pub mod Trees
 pub mod LexErrors
+pub mod Buffers
+pub mod Fronts
 pub mod Lexing
 pub mod Nests

@@ -1,36 +1,54 @@
-ghost use Rattle.std.specs.Prelude.{◌≡◌, Some};
+//! Refusals: what was refused, and where.
+
+ghost use Rattle.std.specs.Prelude.{◌≡◌, Some, string_bytes};
 ghost use Rattle.rl_tokens.specs.Errors.{message_of};
 
+use crate::lex_error::LexKind;
 use crate::span::Span;
+use std::alloc::{Allocator, Global};
 use std::fmt;
 
 /// What was refused, and where.
-#[derive(PartialEq, Eq, Debug, Drop)]
-pub struct Error {
+#[derive(Drop)]
+#[derive_where(PartialEq, Eq, Debug)]
+pub struct Error<A: Allocator = Global> {
     /// Where the fault is told.
     pub span: Span,
     /// What the fault is.
-    pub kind: ErrorKind,
+    pub kind: ErrorKind<A>,
 }
 
 /// What can be refused.
-#[derive(PartialEq, Eq, Debug, Drop)]
-pub enum ErrorKind {
+#[derive(Drop)]
+#[derive_where(PartialEq, Eq, Debug)]
+pub enum ErrorKind<A: Allocator = Global> {
+    /// Another token stands where this was expected.
+    Expected(&'static str),
+    /// The trees end where this was expected.
+    EndOfInput(&'static str),
+    /// A token is left over.
+    Unexpected,
+    /// A text couldn't be cut into tokens.
+    Lex(LexKind),
+    /// A string has this suffix where it may have none.
+    Suffix(String<A>),
     /// The text has no integer reading.
     NotInteger,
     /// The text is an integer whose magnitude passes 128 bits.
     TooLarge,
     /// The text has no float reading.
     NotFloat,
+    /// A number type refused the digits, in these words of its own.
+    Number(String<A>),
     /// Memory was wanted and refused.
     Memory,
 }
 
-impl Error {
+impl<A: Allocator> Error<A> {
     ghost use Rattle.rl_tokens.specs.Errors.{memory_at};
 
     /// Want of memory, told at a span.
-    pub fn memory(span: Span) -> Error
+    pub fn memory(span: Span) -> Error<A>
         ensures { result ≡ memory_at span }
     {
         Error {
@@ -40,20 +58,26 @@ impl Error {
     }
 }
 
-impl fmt::Display for ErrorKind {
+impl<A: Allocator> fmt::Display for ErrorKind<A> {
     ghost output = { λ kind. Some (message_of kind) };
 
     fn fmt<W: fmt::Write>(&self, f: &mut fmt::Formatter<W>) -> fmt::Result {
         match self {
+            ErrorKind::Expected(word) => write!(f, "expected {word}"),
+            ErrorKind::EndOfInput(word) => write!(f, "unexpected end of input, expected {word}"),
+            ErrorKind::Unexpected => write!(f, "unexpected token"),
+            ErrorKind::Lex(kind) => write!(f, "{kind}"),
+            ErrorKind::Suffix(suffix) => write!(f, "unexpected suffix `{suffix}` on string literal"),
             ErrorKind::NotInteger => write!(f, "not an integer literal"),
             ErrorKind::TooLarge => write!(f, "integer literal past 128 bits"),
             ErrorKind::NotFloat => write!(f, "not a float literal"),
+            ErrorKind::Number(words) => write!(f, "{words}"),
             ErrorKind::Memory => write!(f, "out of memory"),
         }
     }
 }
 
-impl fmt::Display for Error {
+impl<A: Allocator> fmt::Display for Error<A> {
     ghost output = { λ error. Some (message_of error.kind) };
 
     fn fmt<W: fmt::Write>(&self, f: &mut fmt::Formatter<W>) -> fmt::Result {
@@ -62,6 +86,6 @@ impl fmt::Display for Error {
     }
 }
 
-impl std::error::Error for ErrorKind {}
+impl<A: Allocator> std::error::Error for ErrorKind<A> {}
 
-impl std::error::Error for Error {}
+impl<A: Allocator> std::error::Error for Error<A> {}

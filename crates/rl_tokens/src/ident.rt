@@ -55,7 +55,7 @@ impl<A: Allocator> Model for Ident<A> {
 
 impl<A: Allocator> Ident<A> {
     /// The token with this text, which is an identifier, and this span. Want of memory is told at the span.
-    pub fn new(alloc: A, text: &str, span: Span) -> Result<Ident<A>, Error>
+    pub fn new(alloc: A, text: &str, span: Span) -> Result<Ident<A>, Error<A>>
         requires { IsTrue (xid_ok (chars text.now)) }
         ensures ok { IfOk result (λ i. i ≡ record { text = text.now; span = span }) }
         ensures memory { IfErr result (λ e. e ≡ memory_at span) }

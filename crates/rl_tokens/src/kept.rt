@@ -1,21 +1,23 @@
 use crate::error::Error;
+use std::alloc::{Allocator, Global};
 
 /// A value that a refused call hands back as it was, and why the call was refused.
-#[derive(Debug, Drop)]
-pub struct Kept<T> {
+#[derive(Drop)]
+#[derive_where(Debug; T)]
+pub struct Kept<T, A: Allocator = Global> {
     /// What the call was given.
     pub value: T,
     /// Why it was refused.
-    pub error: Error,
+    pub error: Error<A>,
 }
 
 /// The reason alone; the value is dropped.
-impl<T: Drop> From<Kept<T>> for Error {
+impl<T: Drop, A: Allocator> From<Kept<T, A>> for Error<A> {
     ghost use Rattle.std.specs.Prelude.{◌≡◌};
 
     ghost from_gives = { λ kept error. error ≡ kept.error };
 
-    fn from(kept: Kept<T>) -> Error {
+    fn from(kept: Kept<T, A>) -> Error<A> {
         kept.error
     }
 }

@@ -2,6 +2,7 @@
 //! the contracts of every crate above cite (`specs/`).
 #![tactic(auto)]
 
+mod buffer;
 mod c_string;
 mod error;
 mod front;
@@ -14,6 +15,7 @@ mod lexeme;
 mod lexer;
 mod literal;
 mod nest;
+mod parse;
 mod punct;
 mod span;
 pub mod text;
@@ -21,6 +23,7 @@ mod token;
 pub mod whitespace;
 mod writer;
 
+pub use crate::buffer::ParseBuffer;
 pub use crate::c_string::{CString, NulError};
 pub use crate::error::{Error, ErrorKind};
 pub use crate::ident::Ident;
@@ -29,6 +32,7 @@ pub use crate::kind::Kind;
 pub use crate::lex_error::{LexError, LexKind};
 pub use crate::lexer::lex;
 pub use crate::literal::Literal;
+pub use crate::parse::{ByParse, Parse, Parser, ToTokens, Token};
 pub use crate::punct::Punct;
 pub use crate::span::Span;
 pub use crate::token::{Delimiter, Group, TokenStream, TokenTree};

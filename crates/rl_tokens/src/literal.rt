@@ -1,9 +1,9 @@
-ghost use Rattle.std.specs.Prelude.{◌≡◌, IfOk, IfErr, Some, string_bytes};
+ghost use Rattle.std.specs.Prelude.{◌≡◌, ◌∷◌, IfOk, IfErr, Some, string_bytes};
 ghost use Rattle.rl_tokens.specs.Errors.{memory_at, nowhere};
 
 use crate::error::Error;
 use crate::span::Span;
-use std::alloc::{Allocator, Global};
+use std::alloc::{AllocError, Allocator, Global};
 use std::fmt;
 use std::marker::Model;
 
@@ -25,7 +25,7 @@ impl<A: Allocator> Model for Literal<A> {
 
 impl<A: Allocator> Literal<A> {
     /// The token with this text and span. Want of memory is told at the span.
-    pub fn from_text(alloc: A, text: &str, span: Span) -> Result<Literal<A>, Error>
+    pub fn from_text(alloc: A, text: &str, span: Span) -> Result<Literal<A>, Error<A>>
         ensures ok { IfOk result (λ l. l ≡ record { text = text.now; span = span }) }
         ensures memory { IfErr result (λ e. e ≡ memory_at span) }
     {
@@ -59,12 +59,41 @@ impl<A: Allocator> Literal<A> {
         self.span
     }
 
+    /// The token once more, with its memory from this allocator. Want of memory is told at its span.
+    pub fn clone<B: Allocator>(&self, alloc: B) -> Result<Literal<B>, Error<B>>
+        ensures ok { IfOk result (λ l. l ≡ self.now) }
+        ensures memory { IfErr result (λ e. e ≡ memory_at self.now.span) }
+    {
+        Literal::from_text(alloc, self.text(), self.span)
+    }
+
+    /// The token with a minus before its text, at this span. Want of memory is told there.
+    pub fn behind_minus<B: Allocator>(&self, alloc: B, span: Span) -> Result<Literal<B>, Error<B>>
+        ensures ok { IfOk result (λ l. l ≡ record { text = 45 ∷ self.now.text; span = span }) }
+        ensures memory { IfErr result (λ e. e ≡ memory_at span) }
+    {
+        match text_behind_minus(alloc, self.text()) {
+            Ok(text) => Ok(Literal { text, span }),
+            Err(_) => Err(Error::memory(span)),
+        }
+    }
+
     /// Puts the token elsewhere.
     pub fn set_span(&mut self, span: Span)
         ensures { self.new ≡ record self.old { span = span } }
     {
         self.span = span;
     }
+}
+
+/// A minus, and the text.
+fn text_behind_minus<A: Allocator>(alloc: A, text: &str) -> Result<String<A>, AllocError>
+    ensures { IfOk result (λ s. string_bytes s ≡ 45 ∷ text.now) }
+{
+    let mut joined = String::with_capacity(alloc, text.len() + 1)?;
+    joined.push('-')?;
+    joined.push_str(text)?;
+    Ok(joined)
 }
 
 /// The text.

@@ -167,7 +167,7 @@ impl<A: Allocator> TokenStream<A> {
 
     /// Puts the tree last. Where memory is wanted and refused, the stream stays, and the tree is handed back; the
     /// error is told at the tree's span.
-    pub fn append(&mut self, tree: TokenTree<A>) -> Result<(), Kept<TokenTree<A>>>
+    pub fn append(&mut self, tree: TokenTree<A>) -> Result<(), Kept<TokenTree<A>, A>>
         ensures ok { OnOk result (trees_of self.new ≡ trees_of self.old ++ tree ∷ []) }
         ensures unchanged { OnErr result (trees_of self.new ≡ trees_of self.old) }
         ensures kept { IfErr result (λ kept. kept.value ≡ tree) }

@@ -136,7 +136,7 @@ fn text_of_character<A: Allocator>(alloc: A, value: char) -> Result<String<A>, A
 }
 
 /// The token of a written text, at no place.
-fn token<A: Allocator>(text: Result<String<A>, AllocError>) -> Result<Literal<A>, Error>
+fn token<A: Allocator>(text: Result<String<A>, AllocError>) -> Result<Literal<A>, Error<A>>
     ensures value { MatchResult text
         (λ s. result ≡ Ok (record { text = string_bytes s; span = nowhere }))
         (λ _. result ≡ Err (memory_at nowhere)) }
@@ -150,7 +150,7 @@ fn token<A: Allocator>(text: Result<String<A>, AllocError>) -> Result<Literal<A>
 /// The literals that values are written as, at no place (`Span::call_site`), where want of memory is told too.
 impl<A: Allocator> Literal<A> {
     /// The string literal that stands for the text.
-    pub fn string(alloc: A, value: &str) -> Result<Literal<A>, Error>
+    pub fn string(alloc: A, value: &str) -> Result<Literal<A>, Error<A>>
         ensures text { IfOk result (λ l. IsWrittenForm Kind.Str (chars value.now) (chars l.text)) }
         ensures span { IfOk result (λ l. l.span ≡ nowhere) }
         ensures memory { IfErr result (λ e. e ≡ memory_at nowhere) }
@@ -159,7 +159,7 @@ impl<A: Allocator> Literal<A> {
     }
 
     /// The byte string literal that stands for the bytes.
-    pub fn byte_string(alloc: A, value: &[u8]) -> Result<Literal<A>, Error>
+    pub fn byte_string(alloc: A, value: &[u8]) -> Result<Literal<A>, Error<A>>
         ensures text { IfOk result (λ l. IsWrittenForm Kind.ByteStr value.now (chars l.text)) }
         ensures span { IfOk result (λ l. l.span ≡ nowhere) }
         ensures memory { IfErr result (λ e. e ≡ memory_at nowhere) }
@@ -168,7 +168,7 @@ impl<A: Allocator> Literal<A> {
     }
 
     /// The C string literal that stands for the bytes.
-    pub fn c_string<B: Allocator>(alloc: A, value: &CString<B>) -> Result<Literal<A>, Error>
+    pub fn c_string<B: Allocator>(alloc: A, value: &CString<B>) -> Result<Literal<A>, Error<A>>
         ensures text { IfOk result (λ l. IsWrittenForm Kind.CStr value.now (chars l.text)) }
         ensures span { IfOk result (λ l. l.span ≡ nowhere) }
         ensures memory { IfErr result (λ e. e ≡ memory_at nowhere) }
@@ -177,7 +177,7 @@ impl<A: Allocator> Literal<A> {
     }
 
     /// The byte literal that stands for the byte.
-    pub fn byte_character(alloc: A, value: u8) -> Result<Literal<A>, Error>
+    pub fn byte_character(alloc: A, value: u8) -> Result<Literal<A>, Error<A>>
         ensures text { IfOk result (λ l. IsWrittenForm Kind.Byte (value ∷ []) (chars l.text)) }
         ensures span { IfOk result (λ l. l.span ≡ nowhere) }
         ensures memory { IfErr result (λ e. e ≡ memory_at nowhere) }
@@ -186,7 +186,7 @@ impl<A: Allocator> Literal<A> {
     }
 
     /// The character literal that stands for the character.
-    pub fn character(alloc: A, value: char) -> Result<Literal<A>, Error>
+    pub fn character(alloc: A, value: char) -> Result<Literal<A>, Error<A>>
         ensures text { IfOk result (λ l. IsWrittenForm Kind.Char (value ∷ []) (chars l.text)) }
         ensures span { IfOk result (λ l. l.span ≡ nowhere) }
         ensures memory { IfErr result (λ e. e ≡ memory_at nowhere) }

@@ -1,0 +1,72 @@
+-- At most one literal begins the trees.
+use Rattle.std.proofs.Common.{◌≡◌, ℕ, Bool, true, false, List, [], ◌∷◌, ◌++◌, refl, sym, ◌∙◌, ap, subst}
+use Rattle.std.specs.Prelude.{IsFalse, codes}
+use Rattle.std.specs.Str.{chars}
+use Rattle.rl_tokens.specs.declared.kind.Kind.{Kind}
+use Rattle.rl_tokens.specs.declared.kind.Kind.TheVariants.{Bool as BoolKind}
+use Rattle.rl_tokens.specs.Tokens.{Token}
+use Rattle.rl_tokens.specs.Puncts.{Mark}
+use Rattle.rl_tokens.specs.Trees.{Tree, GroupTree, IdentTree, PunctTree, LiteralTree}
+use Rattle.rl_tokens.specs.Reading.{Contents, Truth, Reads, ReadsAs, truth_text}
+use Rattle.rl_tokens.specs.Buffers.{begins_literal, IsRest}
+use Rattle.rl_tokens.specs.Fronts.{joined, HasReading, IsFront, HasNoFront, IsFrontOf, HasFrontOf}
+use Rattle.rl_tokens.proofs.OneReading.{one_reading}
+use Rattle.rl_grammar.proofs.MinusLemmas.{no_truth}
+use Rattle.rl_grammar.specs.FrontTokens.{HasNoWord, HasNoMinus}
+
+-- a literal token, a word or a minus and its number: else nothing begins the trees
+pub no_front : (trees : List Tree) → IsFalse (begins_literal trees) → HasNoWord trees → HasNoMinus trees → HasNoFront trees
+no_front [] l w m token rest h = h
+no_front (LiteralTree x ∷ trees) l w m token rest h = absurd (cc)
+no_front (IdentTree x ∷ trees) l w m token rest (b, e, r) = w x trees refl b
+no_front (PunctTree p ∷ []) l w m token rest h = h
+no_front (PunctTree p ∷ LiteralTree x ∷ trees) l w m token rest (c, r, e, s) = m p x trees refl c r
+no_front (PunctTree p ∷ IdentTree x ∷ trees) l w m token rest h = h
+no_front (PunctTree p ∷ PunctTree x ∷ trees) l w m token rest h = h
+no_front (PunctTree p ∷ GroupTree d inside at ∷ trees) l w m token rest h = h
+no_front (GroupTree d inside at ∷ trees) l w m token rest h = h
+
+-- at most one literal begins the trees
+pub one_front : (trees : List Tree) (a b : Token) (r s : List Tree) → IsFront trees a r → IsFront trees b s → (a ≡ b) × (r ≡ s)
+one_front [] a b r s h k = absurd h
+one_front (LiteralTree x ∷ trees) a b r s (e, f) (g, h) = (e ∙ sym g, f ∙ sym h)
+one_front (IdentTree x ∷ trees) a b r s (_, e, f) (_, g, h) = (e ∙ sym g, f ∙ sym h)
+one_front (PunctTree p ∷ []) a b r s h k = absurd h
+one_front (PunctTree p ∷ LiteralTree x ∷ trees) a b r s (_, _, e, f) (_, _, g, h) = (e ∙ sym g, f ∙ sym h)
+one_front (PunctTree p ∷ IdentTree x ∷ trees) a b r s h k = absurd h
+one_front (PunctTree p ∷ PunctTree x ∷ trees) a b r s h k = absurd h
+one_front (PunctTree p ∷ GroupTree d inside at ∷ trees) a b r s h k = absurd h
+one_front (GroupTree d inside at ∷ trees) a b r s h k = absurd h
+
+-- a text reads as one kind
+pub one_kind : (t : List ℕ) (k l : Kind) → ReadsAs k t → ReadsAs l t → k ≡ l
+one_kind t k l (v, x, r) (w, y, s) = (one_reading t k l v w x y r s).0
+
+-- what one literal at the front reads as, each does
+pub same_front : (k : Kind) (trees : List Tree) (token : Token) (rest : List Tree) → IsFront trees token rest → HasFrontOf k trees → ReadsAs k (chars token.text)
+same_front k trees token rest h (other, left, of) =
+    subst (λ (x : Token). ReadsAs k (chars x.text)) ((one_front trees other token left rest of.front h).0) of.reads
+
+-- trees behind one tree, behind two, and behind none
+pub rest_one : (before left : List Tree) (t : Tree) → before ≡ t ∷ left → IsRest before left
+rest_one before left t e = record { taken = t ∷ []; are = e }
+
+pub rest_two : (before left : List Tree) (t u : Tree) → before ≡ t ∷ (u ∷ left) → IsRest before left
+rest_two before left t u e = record { taken = t ∷ (u ∷ []); are = e }
+
+pub rest_none : (before left : List Tree) → left ≡ before → IsRest before left
+rest_none before left e = record { taken = []; are = sym e }
+
+-- a word that is a truth value reads as it
+pub truth_reads : (t : List ℕ) (b : Bool) → t ≡ truth_text b → ReadsAs BoolKind t
+truth_reads t b e = (Truth b, [], record { truth = b; text_is = e; suffix_is = refl; contents_is = refl })
+
+-- behind a minus no truth value stands
+pub no_negative_truth : (t : List ℕ) → ReadsAs BoolKind (45 ∷ t) → ⊥
+no_negative_truth t (v, x, r) = no_truth t x v r
+
+-- the characters of a text with a minus before it
+pub minus_chars : (bs : List ℕ) → chars (45 ∷ bs) ≡ 45 ∷ chars bs
+unfolding chars
+minus_chars [] = refl
+minus_chars (b ∷ bs) = refl

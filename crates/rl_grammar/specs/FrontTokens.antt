@@ -1,0 +1,26 @@
+-- The token of a literal at the front of trees.
+use Rattle.std.specs.Prelude.{◌≡◌, List, ◌∷◌}
+use Rattle.std.specs.Str.{chars}
+use Rattle.rl_tokens.specs.declared.kind.Kind.TheVariants.{Bool as BoolKind}
+use Rattle.rl_tokens.specs.Puncts.{Mark}
+use Rattle.rl_tokens.specs.Trees.{Tree, IdentTree, PunctTree, LiteralTree}
+use Rattle.rl_tokens.specs.Reading.{ReadsAs}
+use Rattle.rl_tokens.specs.Tokens.{Token}
+use Rattle.rl_tokens.specs.Fronts.{joined, HasReading}
+use Rattle.rl_grammar.specs.declared.front.Front.{Front}
+use Rattle.rl_grammar.specs.declared.front.Front.TheVariants.{Token as TokenFront, Word, Negative}
+
+-- a literal token or a word as it stands, a minus and its number joined
+abbrev pub token_of : {A : Type 0} → Front A → Token
+token_of (TokenFront l) = l.now
+token_of (Word i) = i.now
+token_of (Negative m l) = joined m.now l.now
+
+-- the trees don't begin with the word `true` or `false`
+abbrev pub HasNoWord : List Tree → Type 0
+HasNoWord trees = (i : Token) (rest : List Tree) → trees ≡ IdentTree i ∷ rest → ReadsAs BoolKind (chars i.text) → ⊥
+
+-- the trees don't begin with a minus and a literal token that read together
+abbrev pub HasNoMinus : List Tree → Type 0
+HasNoMinus trees =
+    (m : Mark) (l : Token) (rest : List Tree) → trees ≡ PunctTree m ∷ LiteralTree l ∷ rest → m.ch ≡ 45 → HasReading (45 ∷ chars l.text) → ⊥

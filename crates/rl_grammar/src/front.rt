@@ -1,0 +1,227 @@
+//! The literal that begins a buffer's trees.
+
+ghost use Rattle.std.specs.Prelude.{◌≡◌, [], ◌∷◌, IsTrue, ◌↔◌, IfOk, IfErr, IfSome, IfNone};
+ghost use Rattle.std.specs.Str.{chars};
+ghost use Rattle.rl_tokens.specs.declared.kind.Kind.TheVariants.{Bool as BoolKind};
+ghost use Rattle.rl_tokens.specs.Errors.{memory_at};
+ghost use Rattle.rl_tokens.specs.Trees.{IdentTree, PunctTree, LiteralTree};
+ghost use Rattle.rl_tokens.specs.Reading.{Reads, ReadsAs, Truth};
+ghost use Rattle.rl_tokens.specs.Buffers.{trees_in, scope_of, IsRest};
+ghost use Rattle.rl_tokens.specs.Fronts.{
+  IsFront,
+  HasNoFront,
+  HasFront,
+  HasFrontOf,
+  HasReading,
+  RunsAs,
+  joined_span,
+};
+ghost use Rattle.rl_grammar.specs.NumberShapes.{HasNoReading};
+ghost use Rattle.rl_grammar.specs.FrontTokens.{HasNoWord, HasNoMinus};
+
+use crate::numbers::shape_negative;
+use crate::reading::{shape, truth_of};
+use rl_tokens::{Error, Ident, Kind, Literal, ParseBuffer, Punct, Span};
+use std::alloc::Allocator;
+
+/// A literal at the front of trees, as the tokens that it is made of.
+#[derive(Drop)]
+pub enum Front<'a, A: Allocator> {
+    /// A literal token, with any text.
+    Token(&'a Literal<A>),
+    /// The word `true` or `false`.
+    Word(&'a Ident<A>),
+    /// A minus and a literal token that read together.
+    Negative(&'a Punct, &'a Literal<A>),
+}
+
+/// Takes the word `true` or `false`; else the buffer stays.
+fn take_word<'a, A: Allocator>(input: &mut ParseBuffer<'a, A>) -> Option<&'a Ident<A>>
+    ensures taken { IfSome result
+        (λ i. (trees_in input.old ≡ IdentTree i.now ∷ trees_in input.new)
+        × ReadsAs BoolKind (chars i.now.text)) }
+    ensures none { IfNone result (HasNoWord (trees_in input.old)) }
+    ensures left { IfNone result (trees_in input.new ≡ trees_in input.old) }
+    ensures scope { scope_of input.new ≡ scope_of input.old }
+{
+    let mut ahead = input.fork();
+    let word = ahead.ident()?;
+    truth_of(word.text())?;
+    *input = ahead;
+    Some(word)
+}
+
+/// Takes a minus and a literal token that read together; else the buffer stays.
+fn take_negative<'a, A: Allocator>(
+    input: &mut ParseBuffer<'a, A>,
+) -> Option<(&'a Punct, &'a Literal<A>)>
+    ensures taken { IfSome result
+        (λ p. (trees_in input.old ≡ PunctTree p.0.now ∷ LiteralTree p.1.now ∷ trees_in input.new)
+        × (p.0.now.ch ≡ 45) × HasReading (45 ∷ chars p.1.now.text)) }
+    ensures none { IfNone result (HasNoMinus (trees_in input.old)) }
+    ensures left { IfNone result (trees_in input.new ≡ trees_in input.old) }
+    ensures scope { scope_of input.new ≡ scope_of input.old }
+{
+    let mut ahead = input.fork();
+    let minus = ahead.punct()?;
+    if minus.as_char() != '-' {
+        return None;
+    }
+    let number = ahead.literal()?;
+    shape_negative(number.text())?;
+    *input = ahead;
+    Some((minus, number))
+}
+
+/// The kind that the text reads as.
+fn kind_of(text: &str) -> Option<Kind>
+    ensures some { IfSome result (λ k. ReadsAs k (chars text.now)) }
+    ensures none { IfNone result (HasNoReading (chars text.now)) }
+{
+    let parts = shape(text)?;
+    Some(parts.kind)
+}
+
+/// The kind that a minus and the text read as.
+fn negative_kind(text: &str) -> Option<Kind>
+    ensures some { IfSome result (λ k. ReadsAs k (45 ∷ chars text.now)) }
+    ensures none { IfNone result (HasNoReading (45 ∷ chars text.now)) }
+{
+    let parts = shape_negative(text)?;
+    Some(parts.kind)
+}
+
+/// From a minus to its number, where both stand in one file, else the minus alone.
+fn joined_span(minus: Span, number: Span) -> Span
+    ensures { result ≡ joined_span minus number }
+{
+    match minus.join(number) {
+        Some(span) => span,
+        None => minus,
+    }
+}
+
+impl<'a, A: Allocator> Front<'a, A> {
+    ghost use Rattle.rl_grammar.specs.FrontTokens.{token_of};
+
+    /// Takes the literal that stands next: a literal token with any text, the word `true` or `false`, or a minus and a
+    /// literal token that read together. Where none does, the buffer stays.
+    pub fn take(input: &mut ParseBuffer<'a, A>) -> Option<Front<'a, A>>
+        ensures taken { IfSome result
+            (λ f. IsFront (trees_in input.old) (token_of f) (trees_in input.new)) }
+        ensures none { IfNone result (HasNoFront (trees_in input.old)) }
+        ensures left { IfNone result (trees_in input.new ≡ trees_in input.old) }
+        ensures rest { IsRest (trees_in input.old) (trees_in input.new) }
+        ensures scope { scope_of input.new ≡ scope_of input.old }
+    {
+        if let Some(token) = input.literal() {
+            return Some(Front::Token(token));
+        }
+        if let Some(word) = take_word(input) {
+            return Some(Front::Word(word));
+        }
+        let (minus, number) = take_negative(input)?;
+        Some(Front::Negative(minus, number))
+    }
+
+    /// The kind that the literal reads as; none where it has no reading.
+    pub fn kind(&self) -> Option<Kind>
+        ensures some { IfSome result (λ k. ReadsAs k (chars (token_of self.now).text)) }
+        ensures none { IfNone result (HasNoReading (chars (token_of self.now).text)) }
+    {
+        match self {
+            Front::Token(token) => kind_of(token.text()),
+            Front::Word(word) => kind_of(word.text()),
+            Front::Negative(_, number) => negative_kind(number.text()),
+        }
+    }
+
+    /// Whether the literal reads as this kind.
+    pub fn is_of(&self, kind: Kind) -> bool
+        ensures { IsTrue result ↔ ReadsAs kind (chars (token_of self.now).text) }
+    {
+        match self.kind() {
+            Some(found) => found == kind,
+            None => false,
+        }
+    }
+
+    /// The truth value that the literal is, where it is one.
+    pub fn truth(&self) -> Option<bool>
+        ensures some { IfSome result
+            (λ b. Reads (chars (token_of self.now).text) BoolKind (Truth b) []) }
+        ensures none { IfNone result (ReadsAs BoolKind (chars (token_of self.now).text) → ⊥) }
+    {
+        match self {
+            Front::Token(token) => truth_of(token.text()),
+            Front::Word(word) => truth_of(word.text()),
+            Front::Negative(_, _) => None,
+        }
+    }
+
+    /// Where the literal stands: from a minus to its number, where both stand in one file, else the minus alone.
+    pub fn span(&self) -> Span
+        ensures { result ≡ (token_of self.now).span }
+    {
+        match self {
+            Front::Token(token) => token.span(),
+            Front::Word(word) => word.span(),
+            Front::Negative(minus, number) => joined_span(minus.span(), number.span()),
+        }
+    }
+
+    /// The literal as one token. Want of memory is told at its span.
+    pub fn token<B: Allocator>(&self, alloc: B) -> Result<Literal<B>, Error<B>>
+        ensures ok { IfOk result (λ l. l ≡ token_of self.now) }
+        ensures memory { IfErr result (λ e. e ≡ memory_at (token_of self.now).span) }
+    {
+        match self {
+            Front::Token(token) => Literal::clone(token, alloc),
+            Front::Word(word) => Literal::from_text(alloc, word.text(), word.span()),
+            Front::Negative(_, number) => number.behind_minus(alloc, self.span()),
+        }
+    }
+}
+
+/// Whether a literal of this kind stands next. The buffer stays, and no memory is taken.
+pub fn next_is<A: Allocator>(input: &ParseBuffer<'_, A>, kind: Kind) -> bool
+    ensures { IsTrue result ↔ HasFrontOf kind (trees_in input.now) }
+{
+    let mut ahead = input.fork();
+    match Front::take(&mut ahead) {
+        Some(front) => front.is_of(kind),
+        None => false,
+    }
+}
+
+/// Takes the literal of this kind that stands next, as a token.
+///
+/// It is refused with the word: where a literal of another kind stands, the buffer moves past it; where none does, it
+/// stays. Want of memory is told where the literal stands, and the buffer stays.
+pub fn take_kind<A: Allocator>(
+    alloc: A,
+    input: &mut ParseBuffer<'_, A>,
+    kind: Kind,
+    word: &'static str,
+) -> Result<Literal<A>, Error<A>>
+    ensures runs { RunsAs kind word.now (trees_in input.old) (scope_of input.old) result (trees_in input.new) }
+    ensures rest { IsRest (trees_in input.old) (trees_in input.new) }
+    ensures scope { scope_of input.new ≡ scope_of input.old }
+{
+    let mut ahead = input.fork();
+    let Some(front) = Front::take(&mut ahead) else {
+        return Err(input.error(word));
+    };
+    if !front.is_of(kind) {
+        let error = input.error(word);
+        *input = ahead;
+        return Err(error);
+    }
+    match front.token(alloc) {
+        Ok(token) => {
+            *input = ahead;
+            Ok(token)
+        }
+        Err(_) => Err(Error::memory(input.span())),
+    }
+}

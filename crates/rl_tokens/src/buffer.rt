@@ -1,0 +1,173 @@
+//! A buffer of trees that parsers go over.
+
+ghost use Rattle.std.specs.Prelude.{◌≡◌, ◌∷◌, [], map, IsTrue, IsFalse, ◌↔◌, IfSome, IfNone};
+
+use crate::error::{Error, ErrorKind};
+use crate::ident::Ident;
+use crate::literal::Literal;
+use crate::punct::Punct;
+use crate::span::Span;
+use crate::token::{Group, TokenTree};
+use std::alloc::{Allocator, Global};
+
+/// Trees that are lent, and a scope: the span at which their end is told. Parsers take trees from the front; the
+/// trees themselves stay with their owner.
+#[derive(Drop)]
+pub struct ParseBuffer<'a, A: Allocator = Global> {
+    trees: &'a [TokenTree<A>],
+    scope: Span,
+}
+
+impl<'a, A: Allocator> ParseBuffer<'a, A> {
+    ghost use Rattle.rl_tokens.specs.Trees.{
+      GroupTree,
+      IdentTree,
+      PunctTree,
+      LiteralTree,
+      delimiter_of,
+      stream_of,
+      group_span,
+      stream_view,
+      inside_of,
+      tree_view,
+    };
+    ghost use Rattle.rl_tokens.specs.Buffers.{
+      trees_in,
+      scope_of,
+      first_span,
+      begins_literal,
+      begins_ident,
+      begins_punct,
+      begins_group,
+      IsRefusal,
+    };
+
+    /// The buffer of these trees.
+    pub fn new(trees: &'a [TokenTree<A>], scope: Span) -> ParseBuffer<'a, A>
+        ensures trees { trees_in result ≡ map tree_view trees.now }
+        ensures scope { scope_of result ≡ scope }
+    {
+        ParseBuffer { trees, scope }
+    }
+
+    /// Whether no tree is left.
+    pub fn is_empty(&self) -> bool
+        ensures { IsTrue result ↔ (trees_in self.now ≡ []) }
+    {
+        self.trees.is_empty()
+    }
+
+    /// Where the next tree stands; at the end, the scope.
+    pub fn span(&self) -> Span
+        ensures { result ≡ first_span (trees_in self.now) (scope_of self.now) }
+    {
+        match self.trees.first() {
+            Some(tree) => tree.span(),
+            None => self.scope,
+        }
+    }
+
+    /// A buffer of the same trees and scope.
+    pub fn fork(&self) -> ParseBuffer<'a, A>
+        ensures trees { trees_in result ≡ trees_in self.now }
+        ensures scope { scope_of result ≡ scope_of self.now }
+    {
+        ParseBuffer {
+            trees: self.trees,
+            scope: self.scope,
+        }
+    }
+
+    /// The trees that are left.
+    pub fn rest(&self) -> &'a [TokenTree<A>]
+        ensures { map tree_view result.now ≡ trees_in self.now }
+    {
+        self.trees
+    }
+
+    /// Takes the next tree where it is a literal; else the buffer stays.
+    pub fn literal(&mut self) -> Option<&'a Literal<A>>
+        ensures taken { IfSome result
+            (λ x. trees_in self.old ≡ LiteralTree x.now ∷ trees_in self.new) }
+        ensures left { IfNone result (trees_in self.new ≡ trees_in self.old) }
+        ensures other { IfNone result (IsFalse (begins_literal (trees_in self.old))) }
+        ensures scope { scope_of self.new ≡ scope_of self.old }
+    {
+        let (first, rest) = self.trees.split_first()?;
+        match first {
+            TokenTree::Literal(literal) => {
+                self.trees = rest;
+                Some(literal)
+            }
+            _ => None,
+        }
+    }
+
+    /// Takes the next tree where it is an identifier; else the buffer stays.
+    pub fn ident(&mut self) -> Option<&'a Ident<A>>
+        ensures taken { IfSome result
+            (λ x. trees_in self.old ≡ IdentTree x.now ∷ trees_in self.new) }
+        ensures left { IfNone result (trees_in self.new ≡ trees_in self.old) }
+        ensures other { IfNone result (IsFalse (begins_ident (trees_in self.old))) }
+        ensures scope { scope_of self.new ≡ scope_of self.old }
+    {
+        let (first, rest) = self.trees.split_first()?;
+        match first {
+            TokenTree::Ident(ident) => {
+                self.trees = rest;
+                Some(ident)
+            }
+            _ => None,
+        }
+    }
+
+    /// Takes the next tree where it is a character of punctuation; else the buffer stays.
+    pub fn punct(&mut self) -> Option<&'a Punct>
+        ensures taken { IfSome result
+            (λ x. trees_in self.old ≡ PunctTree x.now ∷ trees_in self.new) }
+        ensures left { IfNone result (trees_in self.new ≡ trees_in self.old) }
+        ensures other { IfNone result (IsFalse (begins_punct (trees_in self.old))) }
+        ensures scope { scope_of self.new ≡ scope_of self.old }
+    {
+        let (first, rest) = self.trees.split_first()?;
+        match first {
+            TokenTree::Punct(punct) => {
+                self.trees = rest;
+                Some(punct)
+            }
+            _ => None,
+        }
+    }
+
+    /// Takes the next tree where it is a group; else the buffer stays.
+    pub fn group(&mut self) -> Option<&'a Group<A>>
+        ensures taken { IfSome result
+            (λ x. trees_in self.old ≡ GroupTree (delimiter_of x.now) (inside_of (stream_view (stream_of x.now))) (group_span x.now) ∷ trees_in self.new) }
+        ensures left { IfNone result (trees_in self.new ≡ trees_in self.old) }
+        ensures other { IfNone result (IsFalse (begins_group (trees_in self.old))) }
+        ensures scope { scope_of self.new ≡ scope_of self.old }
+    {
+        let (first, rest) = self.trees.split_first()?;
+        match first {
+            TokenTree::Group(group) => {
+                self.trees = rest;
+                Some(group)
+            }
+            _ => None,
+        }
+    }
+
+    /// The refusal of what stands next, where this word was expected: `Expected` at the next tree's span, at the end
+    /// `EndOfInput` at the scope.
+    pub fn error(&self, word: &'static str) -> Error<A>
+        ensures { IsRefusal (trees_in self.now) (scope_of self.now) word.now result }
+    {
+        let span = self.span();
+        let kind = if self.trees.is_empty() {
+            ErrorKind::EndOfInput(word)
+        } else {
+            ErrorKind::Expected(word)
+        };
+        Error { span, kind }
+    }
+}

@@ -1,0 +1,113 @@
+//! What can be parsed from a buffer, peeked at, and appended to a stream.
+
+ghost use Rattle.std.specs.Prelude.{◌≡◌, List, ℕ, Result, ◌↔◌, ◌++◌, map, IsTrue, OnOk, OnErr, IfErr};
+ghost use Rattle.rl_tokens.specs.declared.span.Span.{Span};
+ghost use Rattle.rl_tokens.specs.declared.error.Error.{Error};
+ghost use Rattle.rl_tokens.specs.Trees.{Tree, stream_view};
+ghost use Rattle.rl_tokens.specs.Buffers.{trees_in, scope_of, IsRest};
+
+use crate::buffer::ParseBuffer;
+use crate::error::Error;
+use crate::token::TokenStream;
+use std::alloc::Allocator;
+use std::marker::PhantomData;
+
+/// A type whose values are parsed from the front of a buffer.
+///
+/// The member `runs` says what an implementation means: it relates the trees before and the scope to the answer and the
+/// trees after.
+pub trait Parse<A: Allocator>: Sized {
+    ghost runs: { List Tree → Span → Result Self (Error A) → List Tree → Type 0 };
+
+    /// Parses a value, and leaves the buffer where the implementation says. The trees after are a rest of those before,
+    /// and the scope stays.
+    fn parse(alloc: A, input: &mut ParseBuffer<'_, A>) -> Result<Self, Error<A>>
+        ensures runs { runs (trees_in input.old) (scope_of input.old) result (trees_in input.new) }
+        ensures rest { IsRest (trees_in input.old) (trees_in input.new) }
+        ensures scope { scope_of input.new ≡ scope_of input.old };
+}
+
+/// A value that parses, once. The member `runs` says what it means, as that of [`Parse`].
+pub trait Parser<A: Allocator>: Sized {
+    /// What is parsed.
+    type Output;
+
+    ghost runs: { Self → List Tree → Span → Result Self.Output (Error A) → List Tree → Type 0 };
+
+    /// Parses a value, and leaves the buffer where the implementation says. The trees after are a rest of those before,
+    /// and the scope stays.
+    fn parse(self, alloc: A, input: &mut ParseBuffer<'_, A>) -> Result<Self::Output, Error<A>>
+        ensures runs { runs self (trees_in input.old) (scope_of input.old) result (trees_in input.new) }
+        ensures rest { IsRest (trees_in input.old) (trees_in input.new) }
+        ensures scope { scope_of input.new ≡ scope_of input.old };
+}
+
+/// The parser that calls `T::parse`.
+#[derive(Drop)]
+pub struct ByParse<T> {
+    parsed: PhantomData<T>,
+}
+
+impl<T> ByParse<T> {
+    /// The parser that calls `T::parse`.
+    pub fn new() -> ByParse<T> {
+        ByParse {
+            parsed: PhantomData,
+        }
+    }
+}
+
+impl<A: Allocator, T: Parse<A>> Parser<A> for ByParse<T> {
+    type Output = T;
+
+    ghost runs = { λ parser. T.runs };
+
+    fn parse(self, alloc: A, input: &mut ParseBuffer<'_, A>) -> Result<T, Error<A>> {
+        T::parse(alloc, input)
+    }
+}
+
+/// A type that can be seen to stand next, without parsing it.
+///
+/// The member `peeks` says before which trees `peek` is true, and `shown` what `display` answers.
+pub trait Token {
+    ghost peeks: { List Tree → Type 0 };
+
+    ghost shown: { List ℕ };
+
+    /// Whether it stands next. The buffer stays, and no memory is taken.
+    fn peek<A: Allocator>(input: &ParseBuffer<'_, A>) -> bool
+        ensures { IsTrue result ↔ peeks (trees_in input.now) };
+
+    /// What it is called in messages.
+    fn display() -> &'static str
+        ensures { result.now ≡ shown };
+}
+
+/// A value that is appended to a stream as tokens. The member `appends` says as which trees.
+pub trait ToTokens {
+    ghost appends: { Self → List Tree };
+
+    /// Appends the trees. Where memory is refused the stream stays.
+    fn to_tokens<A: Allocator>(&self, alloc: A, tokens: &mut TokenStream<A>) -> Result<(), Error<A>>
+        ensures ok { OnOk result (stream_view tokens.new ≡ stream_view tokens.old ++ appends self.now) }
+        ensures unchanged { OnErr result (stream_view tokens.new ≡ stream_view tokens.old) };
+}
+
+impl<'a, A: Allocator> ParseBuffer<'a, A> {
+    /// Parses a value of a type that says how.
+    pub fn parse<T: Parse<A>>(&mut self, alloc: A) -> Result<T, Error<A>>
+        ensures runs { T.runs (trees_in self.old) (scope_of self.old) result (trees_in self.new) }
+        ensures rest { IsRest (trees_in self.old) (trees_in self.new) }
+        ensures scope { scope_of self.new ≡ scope_of self.old }
+    {
+        T::parse(alloc, self)
+    }
+
+    /// Whether such a token stands next. The buffer stays, and no memory is taken.
+    pub fn peek<T: Token>(&self) -> bool
+        ensures { IsTrue result ↔ T.peeks (trees_in self.now) }
+    {
+        T::peek(self)
+    }
+}
