@@ -6,8 +6,8 @@ ghost use Rattle.rl_tokens.specs.Reading.{Bytes, HasContents, HasSuffix, ReadsAs
 ghost use Rattle.rl_tokens.specs.Agreeing.{IsWrittenForm};
 
 use crate::place::suffix_place;
-use rl_grammar::{Kind, byte_of};
-use rl_tokens::{Error, Literal, Span};
+use rl_grammar::{Kind, byte_of, next_is, take_kind};
+use rl_tokens::{Error, Literal, Parse, ParseBuffer, Span, Token};
 use std::alloc::{Allocator, Global};
 use std::marker::Model;
 
@@ -33,7 +33,7 @@ impl<A: Allocator> Model for LitByte<A> {
 
 impl<A: Allocator> LitByte<A> {
     /// The literal that the byte is written as, with no suffix, at this span, where want of memory is told too.
-    pub fn new(alloc: A, value: u8, span: Span) -> Result<LitByte<A>, Error>
+    pub fn new(alloc: A, value: u8, span: Span) -> Result<LitByte<A>, Error<A>>
         ensures text { IfOk result (λ l. IsWrittenForm Byte (value ∷ []) (chars l.text)) }
         ensures span { IfOk result (λ l. l.span ≡ span) }
         ensures memory { IfErr result (λ e. e ≡ memory_at span) }
@@ -85,10 +85,43 @@ impl<A: Allocator> LitByte<A> {
     }
 
     /// The token, with text and span as held. Want of memory is told at the span.
-    pub fn token<B: Allocator>(&self, alloc: B) -> Result<Literal<B>, Error>
+    pub fn token<B: Allocator>(&self, alloc: B) -> Result<Literal<B>, Error<B>>
         ensures ok { IfOk result (λ l. l ≡ self.now) }
         ensures memory { IfErr result (λ e. e ≡ memory_at self.now.span) }
     {
         Literal::from_text(alloc, self.token.text(), self.token.span())
+    }
+}
+
+/// Takes the byte literal that stands next. It is refused as [`take_kind`] says.
+impl<A: Allocator> Parse<A> for LitByte<A> {
+    ghost use Rattle.std.specs.Prelude.{codes};
+    ghost use Rattle.rl_tokens.specs.declared.kind.Kind.TheVariants.{Byte};
+    ghost use Rattle.rl_tokens.specs.Fronts.{RunsAs};
+
+    ghost runs = { RunsAs Byte (codes "byte literal") };
+
+    fn parse(alloc: A, input: &mut ParseBuffer<'_, A>) -> Result<LitByte<A>, Error<A>> {
+        let token = take_kind(alloc, input, Kind::Byte, "byte literal")?;
+        Ok(LitByte::of_token(token))
+    }
+}
+
+/// True exactly where the parser succeeds, if memory is found.
+impl<A: Allocator> Token for LitByte<A> {
+    ghost use Rattle.std.specs.Prelude.{codes};
+    ghost use Rattle.rl_tokens.specs.declared.kind.Kind.TheVariants.{Byte};
+    ghost use Rattle.rl_tokens.specs.Fronts.{HasFrontOf};
+
+    ghost peeks = { HasFrontOf Byte };
+
+    ghost shown = { codes "byte literal" };
+
+    fn peek<B: Allocator>(input: &ParseBuffer<'_, B>) -> bool {
+        next_is(input, Kind::Byte)
+    }
+
+    fn display() -> &'static str {
+        "byte literal"
     }
 }

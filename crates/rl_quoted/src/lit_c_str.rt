@@ -6,8 +6,8 @@ ghost use Rattle.rl_tokens.specs.Reading.{Bytes, HasContents, HasSuffix, ReadsAs
 ghost use Rattle.rl_tokens.specs.Agreeing.{IsWrittenForm};
 
 use crate::place::suffix_place;
-use rl_grammar::{Kind, bytes_of};
-use rl_tokens::{CString, Error, Literal, Span};
+use rl_grammar::{Kind, bytes_of, next_is, take_kind};
+use rl_tokens::{CString, Error, Literal, Parse, ParseBuffer, Span, Token};
 use std::alloc::{Allocator, Global};
 use std::marker::Model;
 
@@ -33,7 +33,7 @@ impl<A: Allocator> Model for LitCStr<A> {
 
 impl<A: Allocator> LitCStr<A> {
     /// The literal that the bytes are written as, with no suffix, at this span, where want of memory is told too.
-    pub fn new<C: Allocator>(alloc: A, value: &CString<C>, span: Span) -> Result<LitCStr<A>, Error>
+    pub fn new<C: Allocator>(alloc: A, value: &CString<C>, span: Span) -> Result<LitCStr<A>, Error<A>>
         ensures text { IfOk result (λ l. IsWrittenForm CStr value.now (chars l.text)) }
         ensures span { IfOk result (λ l. l.span ≡ span) }
         ensures memory { IfErr result (λ e. e ≡ memory_at span) }
@@ -57,7 +57,7 @@ impl<A: Allocator> LitCStr<A> {
     }
 
     /// The bytes that the literal stands for, none of which is zero. Want of memory is told at the span.
-    pub fn value<B: Allocator>(&self, alloc: B) -> Result<CString<B>, Error>
+    pub fn value<B: Allocator>(&self, alloc: B) -> Result<CString<B>, Error<B>>
         ensures value { IfOk result (λ v. HasContents CStr (chars self.now.text) (Bytes v)) }
         ensures memory { IfErr result (λ e. e ≡ memory_at self.now.span) }
     {
@@ -92,10 +92,43 @@ impl<A: Allocator> LitCStr<A> {
     }
 
     /// The token, with text and span as held. Want of memory is told at the span.
-    pub fn token<B: Allocator>(&self, alloc: B) -> Result<Literal<B>, Error>
+    pub fn token<B: Allocator>(&self, alloc: B) -> Result<Literal<B>, Error<B>>
         ensures ok { IfOk result (λ l. l ≡ self.now) }
         ensures memory { IfErr result (λ e. e ≡ memory_at self.now.span) }
     {
         Literal::from_text(alloc, self.token.text(), self.token.span())
+    }
+}
+
+/// Takes the C string literal that stands next. It is refused as [`take_kind`] says.
+impl<A: Allocator> Parse<A> for LitCStr<A> {
+    ghost use Rattle.std.specs.Prelude.{codes};
+    ghost use Rattle.rl_tokens.specs.declared.kind.Kind.TheVariants.{CStr};
+    ghost use Rattle.rl_tokens.specs.Fronts.{RunsAs};
+
+    ghost runs = { RunsAs CStr (codes "C string literal") };
+
+    fn parse(alloc: A, input: &mut ParseBuffer<'_, A>) -> Result<LitCStr<A>, Error<A>> {
+        let token = take_kind(alloc, input, Kind::CStr, "C string literal")?;
+        Ok(LitCStr::of_token(token))
+    }
+}
+
+/// True exactly where the parser succeeds, if memory is found.
+impl<A: Allocator> Token for LitCStr<A> {
+    ghost use Rattle.std.specs.Prelude.{codes};
+    ghost use Rattle.rl_tokens.specs.declared.kind.Kind.TheVariants.{CStr};
+    ghost use Rattle.rl_tokens.specs.Fronts.{HasFrontOf};
+
+    ghost peeks = { HasFrontOf CStr };
+
+    ghost shown = { codes "C-string literal" };
+
+    fn peek<B: Allocator>(input: &ParseBuffer<'_, B>) -> bool {
+        next_is(input, Kind::CStr)
+    }
+
+    fn display() -> &'static str {
+        "C-string literal"
     }
 }

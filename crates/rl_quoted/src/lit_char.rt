@@ -6,8 +6,8 @@ ghost use Rattle.rl_tokens.specs.Reading.{Characters, HasContents, HasSuffix, Re
 ghost use Rattle.rl_tokens.specs.Agreeing.{IsWrittenForm};
 
 use crate::place::suffix_place;
-use rl_grammar::{Kind, char_of};
-use rl_tokens::{Error, Literal, Span};
+use rl_grammar::{Kind, char_of, next_is, take_kind};
+use rl_tokens::{Error, Literal, Parse, ParseBuffer, Span, Token};
 use std::alloc::{Allocator, Global};
 use std::marker::Model;
 
@@ -33,7 +33,7 @@ impl<A: Allocator> Model for LitChar<A> {
 
 impl<A: Allocator> LitChar<A> {
     /// The literal that the character is written as, with no suffix, at this span, where want of memory is told too.
-    pub fn new(alloc: A, value: char, span: Span) -> Result<LitChar<A>, Error>
+    pub fn new(alloc: A, value: char, span: Span) -> Result<LitChar<A>, Error<A>>
         ensures text { IfOk result (λ l. IsWrittenForm Char (value ∷ []) (chars l.text)) }
         ensures span { IfOk result (λ l. l.span ≡ span) }
         ensures memory { IfErr result (λ e. e ≡ memory_at span) }
@@ -85,10 +85,43 @@ impl<A: Allocator> LitChar<A> {
     }
 
     /// The token, with text and span as held. Want of memory is told at the span.
-    pub fn token<B: Allocator>(&self, alloc: B) -> Result<Literal<B>, Error>
+    pub fn token<B: Allocator>(&self, alloc: B) -> Result<Literal<B>, Error<B>>
         ensures ok { IfOk result (λ l. l ≡ self.now) }
         ensures memory { IfErr result (λ e. e ≡ memory_at self.now.span) }
     {
         Literal::from_text(alloc, self.token.text(), self.token.span())
+    }
+}
+
+/// Takes the character literal that stands next. It is refused as [`take_kind`] says.
+impl<A: Allocator> Parse<A> for LitChar<A> {
+    ghost use Rattle.std.specs.Prelude.{codes};
+    ghost use Rattle.rl_tokens.specs.declared.kind.Kind.TheVariants.{Char};
+    ghost use Rattle.rl_tokens.specs.Fronts.{RunsAs};
+
+    ghost runs = { RunsAs Char (codes "character literal") };
+
+    fn parse(alloc: A, input: &mut ParseBuffer<'_, A>) -> Result<LitChar<A>, Error<A>> {
+        let token = take_kind(alloc, input, Kind::Char, "character literal")?;
+        Ok(LitChar::of_token(token))
+    }
+}
+
+/// True exactly where the parser succeeds, if memory is found.
+impl<A: Allocator> Token for LitChar<A> {
+    ghost use Rattle.std.specs.Prelude.{codes};
+    ghost use Rattle.rl_tokens.specs.declared.kind.Kind.TheVariants.{Char};
+    ghost use Rattle.rl_tokens.specs.Fronts.{HasFrontOf};
+
+    ghost peeks = { HasFrontOf Char };
+
+    ghost shown = { codes "character literal" };
+
+    fn peek<B: Allocator>(input: &ParseBuffer<'_, B>) -> bool {
+        next_is(input, Kind::Char)
+    }
+
+    fn display() -> &'static str {
+        "character literal"
     }
 }

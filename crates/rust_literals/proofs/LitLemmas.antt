@@ -6,7 +6,7 @@ use Rattle.rl_tokens.specs.declared.kind.Kind.TheVariants.{Int, Float, Bool as B
 use Rattle.rl_tokens.specs.declared.span.Span.{Span}
 use Rattle.rl_tokens.specs.declared.error.Error.{Error}
 use Rattle.rl_tokens.specs.declared.error.ErrorKind.{ErrorKind}
-use Rattle.rl_tokens.specs.declared.error.ErrorKind.TheVariants.{NotInteger, TooLarge, NotFloat, Memory}
+use Rattle.rl_tokens.specs.declared.error.ErrorKind.TheVariants.{Expected, EndOfInput, Unexpected, Lex, Suffix, NotInteger, TooLarge, NotFloat, Number, Memory}
 use Rattle.rl_tokens.specs.Errors.{memory_at}
 use Rattle.rl_tokens.specs.Reading.{Truth, Reads, ReadsAs, HasSuffix, truth_text}
 use Rattle.rl_tokens.proofs.OneNumber.{int_once}
@@ -17,7 +17,7 @@ use Rattle.rust_literals.specs.Refusals.{IsRefusedAsInteger, IsRefusedAsFloat}
 pub reads_as : (t x : List ℕ) (k kind : Kind) → HasSuffix k t x → k ≡ kind → ReadsAs kind t
 reads_as t x k kind r e = (r.0, x, subst (λ z. Reads t z r.0 x) e r.1)
 
-refused_int : (t : List ℕ) (at span : Span) (kind : ErrorKind) → ReadsAs Int t → at ≡ span → IsRefusedAsInteger t kind → let e : Error = record { span = at; kind = kind } in e ≡ memory_at span
+refused_int : {A : Type 0} (t : List ℕ) (at span : Span) (kind : ErrorKind A) → ReadsAs Int t → at ≡ span → IsRefusedAsInteger t kind → let e : Error A = record { span = at; kind = kind } in e ≡ memory_at span
 refused_int t at span NotInteger r s h = absurd (h r.2.sign r.2.magnitude r.1 r.2.reads)
 refused_int t at span TooLarge r s h =
     let one = int_once t r.1 h.suffix r.2.sign h.sign r.2.magnitude h.magnitude r.2.reads h.reads in
@@ -26,20 +26,32 @@ refused_int t at span TooLarge r s h =
     let same = one.1 in
     absurd (omega arith)
 refused_int t at span NotFloat r s h = absurd h
+refused_int t at span (Expected w) r s h = absurd h
+refused_int t at span (EndOfInput w) r s h = absurd h
+refused_int t at span Unexpected r s h = absurd h
+refused_int t at span (Lex k) r s h = absurd h
+refused_int t at span (Suffix x) r s h = absurd h
+refused_int t at span (Number w) r s h = absurd h
 refused_int t at span Memory r s h = ap memory_at s
 
 -- of an integer within the limit, want of memory
-pub int_memory : (t : List ℕ) (e : Error) (span : Span) → ReadsAs Int t → (e.span ≡ span) × IsRefusedAsInteger t e.kind → e ≡ memory_at span
+pub int_memory : {A : Type 0} (t : List ℕ) (e : Error A) (span : Span) → ReadsAs Int t → (e.span ≡ span) × IsRefusedAsInteger t e.kind → e ≡ memory_at span
 int_memory t e span r h = refused_int t e.span span e.kind r h.0 h.1
 
-refused_float : (t : List ℕ) (at span : Span) (kind : ErrorKind) → ReadsAs Float t → at ≡ span → IsRefusedAsFloat t kind → let e : Error = record { span = at; kind = kind } in e ≡ memory_at span
+refused_float : {A : Type 0} (t : List ℕ) (at span : Span) (kind : ErrorKind A) → ReadsAs Float t → at ≡ span → IsRefusedAsFloat t kind → let e : Error A = record { span = at; kind = kind } in e ≡ memory_at span
 refused_float t at span NotFloat r s h = absurd (h r.2.numeral r.1 r.2.reads)
 refused_float t at span NotInteger r s h = absurd h
+refused_float t at span (Expected w) r s h = absurd h
+refused_float t at span (EndOfInput w) r s h = absurd h
+refused_float t at span Unexpected r s h = absurd h
+refused_float t at span (Lex k) r s h = absurd h
+refused_float t at span (Suffix x) r s h = absurd h
+refused_float t at span (Number w) r s h = absurd h
 refused_float t at span TooLarge r s h = absurd h
 refused_float t at span Memory r s h = ap memory_at s
 
 -- of a float, want of memory
-pub float_memory : (t : List ℕ) (e : Error) (span : Span) → ReadsAs Float t → (e.span ≡ span) × IsRefusedAsFloat t e.kind → e ≡ memory_at span
+pub float_memory : {A : Type 0} (t : List ℕ) (e : Error A) (span : Span) → ReadsAs Float t → (e.span ≡ span) × IsRefusedAsFloat t e.kind → e ≡ memory_at span
 float_memory t e span r h = refused_float t e.span span e.kind r h.0 h.1
 
 -- a truth value by the word that it is

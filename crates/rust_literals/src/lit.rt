@@ -7,9 +7,9 @@ ghost use Rattle.rl_tokens.specs.Reading.{Reads, ReadsAs, Truth};
 use crate::lit_bool::LitBool;
 use crate::lit_float::LitFloat;
 use crate::lit_int::LitInt;
-use rl_grammar::{Kind, shape};
+use rl_grammar::{Front, Kind, shape};
 use rl_quoted::{LitByte, LitByteStr, LitCStr, LitChar, LitStr};
-use rl_tokens::{Kept, Literal, Span};
+use rl_tokens::{Error, Kept, Literal, Parse, ParseBuffer, Span, Token};
 use std::alloc::{Allocator, Global};
 
 /// A literal of Rust.
@@ -57,7 +57,7 @@ impl<A: Allocator + Copy> Lit<A> {
     ///
     /// A strict text, an integer within 128 bits, is read with the kind, contents and suffix that it has there
     /// (`strict`), and a strict number behind a minus too.
-    pub fn new(alloc: A, token: Literal<A>) -> Result<Lit<A>, Kept<Literal<A>>>
+    pub fn new(alloc: A, token: Literal<A>) -> Result<Lit<A>, Kept<Literal<A>, A>>
         ensures reads { IfOk result (IsReadFrom token) }
         ensures kept { IfErr result (λ k. k.value ≡ token) }
         ensures memory { IfErr result (λ k. k.error ≡ memory_at token.span) }
@@ -69,7 +69,7 @@ impl<A: Allocator + Copy> Lit<A> {
     }
 
     /// The same, by the kind that the text has.
-    fn read(alloc: A, token: Literal<A>) -> Result<Lit<A>, Kept<Literal<A>>>
+    fn read(alloc: A, token: Literal<A>) -> Result<Lit<A>, Kept<Literal<A>, A>>
         ensures reads { IfOk result (IsReadFrom token) }
         ensures kept { IfErr result (λ k. k.value ≡ token) }
         ensures memory { IfErr result (λ k. k.error ≡ memory_at token.span) }
@@ -152,6 +152,50 @@ impl<A: Allocator> Lit<A> {
             Lit::Bool(literal) => literal.set_span(span),
             Lit::Verbatim(token) => token.set_span(span),
         }
+    }
+}
+
+/// Takes the literal that stands next, of any kind, `Verbatim` too: a literal token, the word `true` or `false`, or a
+/// minus and a literal token that read together. Else it is refused with the word `literal`; a refusal leaves the
+/// buffer.
+impl<A: Allocator + Copy> Parse<A> for Lit<A> {
+    ghost use Rattle.rust_literals.specs.Parsing.{RunsLit};
+
+    ghost runs = { RunsLit };
+
+    fn parse(alloc: A, input: &mut ParseBuffer<'_, A>) -> Result<Lit<A>, Error<A>> {
+        let mut ahead = input.fork();
+        let Some(front) = Front::take(&mut ahead) else {
+            return Err(input.error("literal"));
+        };
+        let Ok(token) = front.token(alloc) else {
+            return Err(Error::memory(input.span()));
+        };
+        match Lit::new(alloc, token) {
+            Ok(literal) => {
+                *input = ahead;
+                Ok(literal)
+            }
+            Err(_) => Err(Error::memory(input.span())),
+        }
+    }
+}
+
+/// True exactly where the parser succeeds, if memory is found.
+impl<A: Allocator> Token for Lit<A> {
+    ghost use Rattle.std.specs.Prelude.{codes};
+    ghost use Rattle.rl_tokens.specs.Fronts.{HasFront};
+
+    ghost peeks = { HasFront };
+
+    ghost shown = { codes "literal" };
+
+    fn peek<B: Allocator>(input: &ParseBuffer<'_, B>) -> bool {
+        Front::take(&mut input.fork()).is_some()
+    }
+
+    fn display() -> &'static str {
+        "literal"
     }
 }
 

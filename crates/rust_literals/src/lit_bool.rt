@@ -2,7 +2,8 @@ ghost use Rattle.std.specs.Prelude.{◌≡◌, IfOk, IfErr};
 ghost use Rattle.rl_tokens.specs.Errors.{memory_at};
 ghost use Rattle.rl_tokens.specs.Reading.{truth_text};
 
-use rl_tokens::{Error, Ident, Span};
+use rl_grammar::{Front, Kind, next_is};
+use rl_tokens::{Error, Ident, Parse, ParseBuffer, Span, Token};
 use std::alloc::Allocator;
 
 /// A truth value: `true` or `false`.
@@ -51,11 +52,52 @@ impl LitBool {
     }
 
     /// The word `true` or `false`, at the span. Want of memory is told there.
-    pub fn token<A: Allocator>(&self, alloc: A) -> Result<Ident<A>, Error>
+    pub fn token<A: Allocator>(&self, alloc: A) -> Result<Ident<A>, Error<A>>
         ensures ok { IfOk result
             (λ i. i ≡ record { text = truth_text self.now.value; span = self.now.span }) }
         ensures memory { IfErr result (λ e. e ≡ memory_at self.now.span) }
     {
         Ident::new(alloc, word(self.value), self.span)
+    }
+}
+
+/// Takes the truth value that stands next, a word or a token. It is refused as `rl_grammar::take_kind` says, and takes
+/// no memory.
+impl<A: Allocator> Parse<A> for LitBool {
+    ghost use Rattle.rust_literals.specs.Parsing.{RunsTruth};
+
+    ghost runs = { RunsTruth };
+
+    fn parse(_alloc: A, input: &mut ParseBuffer<'_, A>) -> Result<LitBool, Error<A>> {
+        let mut ahead = input.fork();
+        let Some(front) = Front::take(&mut ahead) else {
+            return Err(input.error("boolean literal"));
+        };
+        let Some(value) = front.truth() else {
+            let error = input.error("boolean literal");
+            *input = ahead;
+            return Err(error);
+        };
+        *input = ahead;
+        Ok(LitBool::new(value, front.span()))
+    }
+}
+
+/// True exactly where the parser succeeds.
+impl Token for LitBool {
+    ghost use Rattle.std.specs.Prelude.{codes};
+    ghost use Rattle.rl_tokens.specs.declared.kind.Kind.TheVariants.{Bool as BoolKind};
+    ghost use Rattle.rl_tokens.specs.Fronts.{HasFrontOf};
+
+    ghost peeks = { HasFrontOf BoolKind };
+
+    ghost shown = { codes "boolean literal" };
+
+    fn peek<B: Allocator>(input: &ParseBuffer<'_, B>) -> bool {
+        next_is(input, Kind::Bool)
+    }
+
+    fn display() -> &'static str {
+        "boolean literal"
     }
 }

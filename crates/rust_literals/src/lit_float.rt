@@ -7,9 +7,9 @@ ghost use Rattle.rl_grammar.specs.NumberShapes.{IsNumber};
 ghost use Rattle.rust_literals.specs.Held.{IsFloatUpTo};
 ghost use Rattle.rust_literals.specs.Refusals.{IsRefusedAsFloat};
 
-use rl_grammar::{Kind, digits_of, float_shape};
+use rl_grammar::{Kind, digits_of, float_shape, next_is, take_kind};
 use rl_tokens::text::place_of;
-use rl_tokens::{Error, ErrorKind, Kept, Literal, Span};
+use rl_tokens::{Error, ErrorKind, Kept, Literal, Parse, ParseBuffer, Span, Token};
 use std::alloc::{Allocator, Global};
 use std::fmt;
 use std::marker::Model;
@@ -38,7 +38,7 @@ impl<A: Allocator> Model for LitFloat<A> {
 }
 
 /// The place of a float's suffix, or why the text is refused.
-fn suffix_place(text: &str) -> Result<usize, ErrorKind>
+fn suffix_place<A: Allocator>(text: &str) -> Result<usize, ErrorKind<A>>
     ensures ok { IfOk result (IsFloatUpTo text.now) }
     ensures err { IfErr result (IsRefusedAsFloat (chars text.now)) }
 {
@@ -53,7 +53,7 @@ impl<A: Allocator + Copy> LitFloat<A> {
     ///
     /// `NotFloat` where the text has no float reading, whether or not it has an integer one, and `Memory`, both at the
     /// span.
-    pub fn new(alloc: A, repr: &str, span: Span) -> Result<LitFloat<A>, Error>
+    pub fn new(alloc: A, repr: &str, span: Span) -> Result<LitFloat<A>, Error<A>>
         ensures ok { IfOk result (λ l. l ≡ record { text = repr.now; span = span }) }
         ensures reads { OnOk result (IsNumber Float (chars repr.now)) }
         ensures err { IfErr result (λ e. (e.span ≡ span) × IsRefusedAsFloat (chars repr.now) e.kind) }
@@ -69,7 +69,7 @@ impl<A: Allocator + Copy> LitFloat<A> {
     }
 
     /// The literal of this token. A refused one is handed back as it was; the errors are those of `new`, at its span.
-    pub fn from_token(alloc: A, token: Literal<A>) -> Result<LitFloat<A>, Kept<Literal<A>>>
+    pub fn from_token(alloc: A, token: Literal<A>) -> Result<LitFloat<A>, Kept<Literal<A>, A>>
         ensures ok { IfOk result (λ l. l ≡ token) }
         ensures reads { OnOk result (IsNumber Float (chars token.text)) }
         ensures kept { IfErr result (λ k. k.value ≡ token) }
@@ -131,7 +131,7 @@ impl<A: Allocator> LitFloat<A> {
     }
 
     /// The token, with text and span as held. Want of memory is told at the span.
-    pub fn token<B: Allocator>(&self, alloc: B) -> Result<Literal<B>, Error>
+    pub fn token<B: Allocator>(&self, alloc: B) -> Result<Literal<B>, Error<B>>
         ensures ok { IfOk result (λ l. l ≡ self.now) }
         ensures memory { IfErr result (λ e. e ≡ memory_at self.now.span) }
     {
@@ -145,5 +145,51 @@ impl<A: Allocator> fmt::Display for LitFloat<A> {
 
     fn fmt<W: fmt::Write>(&self, f: &mut fmt::Formatter<W>) -> fmt::Result {
         f.write_str(self.token.text())
+    }
+}
+
+/// Takes the floating point literal that stands next. It is refused as `rl_grammar::take_kind` says.
+impl<A: Allocator + Copy> Parse<A> for LitFloat<A> {
+    ghost use Rattle.std.specs.Prelude.{codes};
+    ghost use Rattle.rl_tokens.specs.declared.kind.Kind.TheVariants.{Float};
+    ghost use Rattle.rl_tokens.specs.Fronts.{RunsAs};
+
+    ghost runs = { RunsAs Float (codes "floating point literal") };
+
+    fn parse(alloc: A, input: &mut ParseBuffer<'_, A>) -> Result<LitFloat<A>, Error<A>> {
+        let mut ahead = input.fork();
+        let token = match take_kind(alloc, &mut ahead, Kind::Float, "floating point literal") {
+            Ok(token) => token,
+            Err(error) => {
+                *input = ahead;
+                return Err(error);
+            }
+        };
+        match LitFloat::from_token(alloc, token) {
+            Ok(literal) => {
+                *input = ahead;
+                Ok(literal)
+            }
+            Err(_) => Err(Error::memory(input.span())),
+        }
+    }
+}
+
+/// True exactly where the parser succeeds, if memory is found.
+impl<A: Allocator> Token for LitFloat<A> {
+    ghost use Rattle.std.specs.Prelude.{codes};
+    ghost use Rattle.rl_tokens.specs.declared.kind.Kind.TheVariants.{Float};
+    ghost use Rattle.rl_tokens.specs.Fronts.{HasFrontOf};
+
+    ghost peeks = { HasFrontOf Float };
+
+    ghost shown = { codes "floating point literal" };
+
+    fn peek<B: Allocator>(input: &ParseBuffer<'_, B>) -> bool {
+        next_is(input, Kind::Float)
+    }
+
+    fn display() -> &'static str {
+        "floating point literal"
     }
 }

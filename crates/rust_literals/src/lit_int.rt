@@ -7,9 +7,9 @@ ghost use Rattle.rl_grammar.specs.NumberShapes.{IsNumber};
 ghost use Rattle.rust_literals.specs.Held.{IsIntegerUpTo};
 ghost use Rattle.rust_literals.specs.Refusals.{IsRefusedAsInteger};
 
-use rl_grammar::{Kind, digits_of, int_shape};
+use rl_grammar::{Kind, digits_of, int_shape, next_is, take_kind};
 use rl_tokens::text::place_of;
-use rl_tokens::{Error, ErrorKind, Kept, Literal, Span};
+use rl_tokens::{Error, ErrorKind, Kept, Literal, Parse, ParseBuffer, Span, Token};
 use std::alloc::{Allocator, Global};
 use std::fmt;
 use std::marker::Model;
@@ -35,7 +35,7 @@ impl<A: Allocator> Model for LitInt<A> {
 }
 
 /// The place of an integer's suffix, or why the text is refused.
-fn suffix_place(text: &str) -> Result<usize, ErrorKind>
+fn suffix_place<A: Allocator>(text: &str) -> Result<usize, ErrorKind<A>>
     ensures ok { IfOk result (IsIntegerUpTo text.now) }
     ensures err { IfErr result (IsRefusedAsInteger (chars text.now)) }
 {
@@ -51,7 +51,7 @@ impl<A: Allocator + Copy> LitInt<A> {
     ///
     /// `NotInteger` where the text has no integer reading, `TooLarge` where it has one past 128 bits, and `Memory`, all
     /// at the span.
-    pub fn new(alloc: A, repr: &str, span: Span) -> Result<LitInt<A>, Error>
+    pub fn new(alloc: A, repr: &str, span: Span) -> Result<LitInt<A>, Error<A>>
         ensures ok { IfOk result (λ l. l ≡ record { text = repr.now; span = span }) }
         ensures reads { OnOk result (IsNumber Int (chars repr.now)) }
         ensures err { IfErr result (λ e. (e.span ≡ span) × IsRefusedAsInteger (chars repr.now) e.kind) }
@@ -67,7 +67,7 @@ impl<A: Allocator + Copy> LitInt<A> {
     }
 
     /// The literal of this token. A refused one is handed back as it was; the errors are those of `new`, at its span.
-    pub fn from_token(alloc: A, token: Literal<A>) -> Result<LitInt<A>, Kept<Literal<A>>>
+    pub fn from_token(alloc: A, token: Literal<A>) -> Result<LitInt<A>, Kept<Literal<A>, A>>
         ensures ok { IfOk result (λ l. l ≡ token) }
         ensures reads { OnOk result (IsNumber Int (chars token.text)) }
         ensures kept { IfErr result (λ k. k.value ≡ token) }
@@ -128,7 +128,7 @@ impl<A: Allocator> LitInt<A> {
     }
 
     /// The token, with text and span as held. Want of memory is told at the span.
-    pub fn token<B: Allocator>(&self, alloc: B) -> Result<Literal<B>, Error>
+    pub fn token<B: Allocator>(&self, alloc: B) -> Result<Literal<B>, Error<B>>
         ensures ok { IfOk result (λ l. l ≡ self.now) }
         ensures memory { IfErr result (λ e. e ≡ memory_at self.now.span) }
     {
@@ -142,5 +142,51 @@ impl<A: Allocator> fmt::Display for LitInt<A> {
 
     fn fmt<W: fmt::Write>(&self, f: &mut fmt::Formatter<W>) -> fmt::Result {
         f.write_str(self.token.text())
+    }
+}
+
+/// Takes the integer literal that stands next. It is refused as `rl_grammar::take_kind` says.
+impl<A: Allocator + Copy> Parse<A> for LitInt<A> {
+    ghost use Rattle.std.specs.Prelude.{codes};
+    ghost use Rattle.rl_tokens.specs.declared.kind.Kind.TheVariants.{Int};
+    ghost use Rattle.rl_tokens.specs.Fronts.{RunsAs};
+
+    ghost runs = { RunsAs Int (codes "integer literal") };
+
+    fn parse(alloc: A, input: &mut ParseBuffer<'_, A>) -> Result<LitInt<A>, Error<A>> {
+        let mut ahead = input.fork();
+        let token = match take_kind(alloc, &mut ahead, Kind::Int, "integer literal") {
+            Ok(token) => token,
+            Err(error) => {
+                *input = ahead;
+                return Err(error);
+            }
+        };
+        match LitInt::from_token(alloc, token) {
+            Ok(literal) => {
+                *input = ahead;
+                Ok(literal)
+            }
+            Err(_) => Err(Error::memory(input.span())),
+        }
+    }
+}
+
+/// True exactly where the parser succeeds, if memory is found.
+impl<A: Allocator> Token for LitInt<A> {
+    ghost use Rattle.std.specs.Prelude.{codes};
+    ghost use Rattle.rl_tokens.specs.declared.kind.Kind.TheVariants.{Int};
+    ghost use Rattle.rl_tokens.specs.Fronts.{HasFrontOf};
+
+    ghost peeks = { HasFrontOf Int };
+
+    ghost shown = { codes "integer literal" };
+
+    fn peek<B: Allocator>(input: &ParseBuffer<'_, B>) -> bool {
+        next_is(input, Kind::Int)
+    }
+
+    fn display() -> &'static str {
+        "integer literal"
     }
 }
