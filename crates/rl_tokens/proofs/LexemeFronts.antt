@@ -42,7 +42,7 @@ among (k ∷ codes) test c all is = go (c == k) refl is (among codes test c (bot
 pub low_among : (codes : List ℕ) (c : ℕ) → list_all (λ k. nat_lt k 128) codes ≡ true → is_among codes c ≡ true → c < 128
 low_among codes c all is = let q : nat_lt c 128 ≡ true = among codes (λ k. nat_lt k 128) c all is in grind (arith, nat_tests)
 
-not_start_among : (codes : List ℕ) (c : ℕ) → list_all (λ k. nat_lt k 128) codes ≡ true → list_all (λ k. not (ascii_start k)) codes ≡ true → is_among codes c ≡ true → is_start c ≡ false
+pub not_start_among : (codes : List ℕ) (c : ℕ) → list_all (λ k. nat_lt k 128) codes ≡ true → list_all (λ k. not (ascii_start k)) codes ≡ true → is_among codes c ≡ true → is_start c ≡ false
 not_start_among codes c low all is = start_ascii c (low_among codes c low is) ∙ not_true (ascii_start c) (among codes (λ k. not (ascii_start k)) c all is)
 
 pub at_class : (c : ℕ) (t : List ℕ) (k : HeadClass) → head_class c ≡ k → lexeme_at (c ∷ t) ≡ by_class k c t

@@ -17,3 +17,4 @@ pub mod Trees
 pub mod LexErrors
 pub mod Lexing
 pub mod Nests
+pub mod Printed
