@@ -161,12 +161,15 @@ digit_no_start d is h =
     let k : (d == 95 || is_ascii_alphabetic d) ≡ true = (both_true (d == 95 || is_ascii_alphabetic d) (not (is_white d)) h).0 in
     grind (arith, nat_tests)
 
+pub digit_not_start : (d : ℕ) → is_ascii_digit d ≡ true → is_start d ≡ false
+digit_not_start d is = start_ascii d (digit_low d is) ∙ false_unless (ascii_start d) (digit_no_start d is)
+
 not_digit_among : (codes : List ℕ) (d : ℕ) → list_all (λ k. not (is_ascii_digit k)) codes ≡ true → is_ascii_digit d ≡ true → is_among codes d ≡ false
 not_digit_among codes d all is = false_unless (is_among codes d) (λ h. let k : is_ascii_digit d ≡ false = not_true (is_ascii_digit d) (among codes (λ k. not (is_ascii_digit k)) d all h) in absurd (cc))
 
 class_digit : (d : ℕ) → is_ascii_digit d ≡ true → head_class d ≡ DigitHead
 class_digit d is =
-    class_other d (start_ascii d (digit_low d is) ∙ false_unless (ascii_start d) (digit_no_start d is))
+    class_other d (digit_not_start d is)
     ∙ ap (λ b. cond b DelimiterHead (behind_delimiter d)) (not_digit_among delimiters d refl is)
     ∙ ap (λ b. cond b SlashHead (behind_slash d)) (not_among d 47 is_ascii_digit is refl)
     ∙ ap (λ b. cond (b || d == 47) MarkHead (behind_punct d)) (not_digit_among marks d refl is)

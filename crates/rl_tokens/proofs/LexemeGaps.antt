@@ -100,7 +100,7 @@ sign_row (c ∷ m) t is h =
     let k : is_continue c ≡ true = (both_true (is_continue c) (list_all is_continue m) is).0 in
     no_sign c (m ++ t) (not_among c 43 is_continue k (continue_ascii 43 (lit< tt))) (not_among c 45 is_continue k (continue_ascii 45 (lit< tt)))
 
-and_more : (b x y : Bool) → (x ≡ false → y ≡ false) → (b && x) ≡ false → (b && y) ≡ false
+pub and_more : (b x y : Bool) → (x ≡ false → y ≡ false) → (b && x) ≡ false → (b && y) ≡ false
 and_more true x y f h = f h
 and_more false x y f h = refl
 

@@ -8,6 +8,7 @@ use Rattle.unicode_ident.specs.Ident.{is_xid_start, is_xid_continue}
 use Rattle.rl_tokens.specs.Texts.{is_white, is_start, is_continue, is_among, passes, IsWord}
 use Rattle.rl_tokens.specs.Lexemes.{is_numeral_part, is_base_letter, begins_dot, begins_exponent, after_sign, after_run, IsRow, IsLexedSuffix, IsLexeme, BeginsGap}
 use Rattle.rl_tokens.specs.Strict.{IsStrictSuffix}
+use Rattle.rl_tokens.proofs.Basics.{word_continues}
 use Rattle.rl_tokens.proofs.LexemeRows.{both_true, not_true, not_among}
 use Rattle.rl_tokens.proofs.LexemeFronts.{start_ascii, among, low_among, not_start_among}
 use Rattle.rl_tokens.proofs.LexemeGaps.{and_false, digit_solid, continue_ascii}
@@ -73,6 +74,11 @@ pub ends_fails : (test : ℕ → Bool) (after : List ℕ) → Clear test → End
 ends_fails test [] clear is = refl
 ends_fails test (c ∷ t) clear is = clear c is
 
+-- What fails at the front of a text fails where such a text follows.
+pub front_fails : (test : ℕ → Bool) (s after : List ℕ) → Clear test → EndsLiteral after → passes test s ≡ false → passes test (s ++ after) ≡ false
+front_fails test [] after clear ends h = ends_fails test after clear ends
+front_fails test (c ∷ s) after clear ends h = h
+
 -- Gaps.
 pub gap_ends : (t : List ℕ) → BeginsGap t → EndsLiteral t
 gap_ends [] is = tt
@@ -91,15 +97,20 @@ all_both f g (c ∷ cs) a b =
     let q = both_true (g c) (list_all g cs) b in
     and_from (f c && g c) (list_all (λ c. f c && g c) cs) (and_from (f c) (g c) p.0 q.0) (all_both f g cs p.1 q.1)
 
+pub suffix_starts : (c : ℕ) (cs : List ℕ) → IsStrictSuffix (c ∷ cs) → is_start c ≡ true
+suffix_starts c cs (inl e) = absurd (cc)
+suffix_starts c cs (inr w) =
+    and_from (c == 95 || is_xid_start c) (not (is_white c)) (both_true (c == 95 || is_xid_start c) (list_all is_xid_continue cs) w.identifier).0
+    (both_true (not (is_white c)) (list_all (λ c. not (is_white c)) cs) w.no_white).0
+
+pub suffix_continues : (x : List ℕ) → IsStrictSuffix x → list_all is_continue x ≡ true
+suffix_continues x (inl e) = ap (list_all is_continue) e
+suffix_continues x (inr w) = all_both is_xid_continue (λ c. not (is_white c)) x (word_continues x w.identifier) w.no_white
+
 pub strict_suffix_lexed : (x after : List ℕ) → IsStrictSuffix x → EndsLiteral after → IsLexedSuffix x after
 strict_suffix_lexed [] after is ends = ends_fails is_start after clear_start ends
-strict_suffix_lexed (c ∷ cs) after (inl e) ends = absurd (cc)
-strict_suffix_lexed (c ∷ cs) after (inr w) ends =
-    let p = both_true (c == 95 || is_xid_start c) (list_all is_xid_continue cs) w.identifier in
-    let q = both_true (not (is_white c)) (list_all (λ c. not (is_white c)) cs) w.no_white in (
-      and_from (c == 95 || is_xid_start c) (not (is_white c)) p.0 q.0,
-      record { each = all_both is_xid_continue (λ c. not (is_white c)) cs p.1 q.1; ends = ends_fails is_continue after clear_continue ends },
-    )
+strict_suffix_lexed (c ∷ cs) after is ends =
+    (suffix_starts c cs is, record { each = (both_true (is_continue c) (list_all is_continue cs) (suffix_continues (c ∷ cs) is)).1; ends = ends_fails is_continue after clear_continue ends })
 
 -- The words.
 letter_continues : (c : ℕ) → c < 128 → ((is_ascii_alphanumeric c || (c == 95)) && not (is_white c)) ≡ true → is_continue c ≡ true
