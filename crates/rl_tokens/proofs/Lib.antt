@@ -39,3 +39,4 @@ pub mod LiteralEnds
 pub mod StrictQuotedLexemes
 pub mod StrictNumberLexemes
 pub mod PrintedLaws
+pub mod PrintedAnswers
