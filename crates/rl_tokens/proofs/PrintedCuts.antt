@@ -1,6 +1,6 @@
 -- A text of gaps and items is cut where they meet.
-use Rattle.std.proofs.Common.{◌≡◌, ℕ, ◌+◌, ◌⊎◌, inl, inr, Bool, true, false, not, ◌&&◌, ◌||◌, ◌==◌, cond, List, [], ◌∷◌, ◌++◌, map, length, Option, Some, None, refl, sym, ◌∙◌, ap, subst, arith, append_assoc, append-nil, lit<}
-use Rattle.std.specs.Prelude.{IsTrue, ⊤}
+use Rattle.std.proofs.Common.{◌≡◌, ℕ, ◌+◌, inl, inr, Bool, true, false, not, ◌&&◌, ◌||◌, ◌==◌, cond, List, [], ◌∷◌, ◌++◌, map, length, Some, None, refl, sym, ◌∙◌, ap, subst, arith, append-nil, lit<}
+use Rattle.std.specs.Prelude.{⊤}
 use Rattle.std.specs.Option.{option_and_then}
 use Rattle.std.specs.Str.{encode_utf8_all}
 use Rattle.std.specs.List.{AllByRecursion, list_all}
@@ -8,13 +8,12 @@ use Rattle.std.specs.Char.{is_ascii_digit}
 use Rattle.std.proofs.lemmas.Option.{none-some}
 use Rattle.std.proofs.lemmas.Str.{encode_ascii}
 use Rattle.unicode_ident.specs.Ident.{is_xid_start}
-use Rattle.rl_tokens.specs.Texts.{is_white, is_start, is_among, passes}
-use Rattle.rl_tokens.specs.Trivia.{Piece, White, Line, Block, BeginsTrivia, IsTrivia, Skipped}
-use Rattle.rl_tokens.specs.Puncts.{is_punct}
-use Rattle.rl_tokens.specs.Lexemes.{delimiters, marks, Lexeme, IdentifierLexeme, MarkLexeme, lexeme_text, IsLexeme, LiteralForm, IdentifierForm, MarkForm, Form, form_of}
-use Rattle.rl_tokens.specs.LexemeAt.{HeadClass, DelimiterHead, MarkHead, SlashHead, DigitHead, QuoteHead, ApostropheHead, StrayHead, head_class, lexeme_at}
-use Rattle.rl_tokens.specs.Trees.{Tree, PunctTree, LiteralTree, IdentTree, flat, flat_trees}
-use Rattle.rl_tokens.specs.Lexing.{Cut, byte_len, end_of, Cuts, OpenGroup, behind_form, open_groups, flat_form, flat_cut, Lexes}
+use Rattle.rl_tokens.specs.Texts.{is_white, is_among}
+use Rattle.rl_tokens.specs.Trivia.{White, Line, Block, BeginsTrivia, IsTrivia}
+use Rattle.rl_tokens.specs.Lexemes.{delimiters, marks, Lexeme, IdentifierLexeme, MarkLexeme, lexeme_text, IsLexeme, LiteralForm, form_of}
+use Rattle.rl_tokens.specs.LexemeAt.{DelimiterHead, MarkHead, SlashHead, DigitHead, QuoteHead, ApostropheHead, StrayHead, head_class, lexeme_at}
+use Rattle.rl_tokens.specs.Trees.{Tree, PunctTree, LiteralTree, flat, flat_trees}
+use Rattle.rl_tokens.specs.Lexing.{Cut, byte_len, Cuts, OpenGroup, behind_form, open_groups, flat_form, flat_cut, Lexes}
 use Rattle.rl_tokens.specs.Printed.{Item, WordItem, LiteralItem, MinusItem, item_text, Entry, printed_text, token_at, item_trees, printed_trees}
 use Rattle.rl_tokens.proofs.Comments.{false_unless}
 use Rattle.rl_tokens.proofs.Pieces.{stops-from_none}
@@ -49,7 +48,7 @@ lexeme_stops : (l : Lexeme) (after : List ℕ) → IsLexeme l after → BeginsTr
 lexeme_stops l after is trivia = none-some (form_of l, after) (sym (trivia_none (lexeme_text l ++ after) trivia) ∙ lexeme_at-past l after is)
 
 -- The text that stands at this byte is cut into these trees, and no group is opened.
-pub record CutInto (file at : ℕ) (t : List ℕ) (trees : List Tree) : Type 0 where
+record CutInto (file at : ℕ) (t : List ℕ) (trees : List Tree) : Type 0 where
   pub cuts : List Cut
   pub are_cuts : Cuts at t cuts []
   pub none_open : (groups : List OpenGroup) → open_groups groups cuts ≡ Some groups
@@ -94,7 +93,7 @@ minus_len = ap (λ z. length (z ++ [])) (encode_ascii 45 (lit< tt))
 minus_flat : (file at : ℕ) → flat (PunctTree (record { ch = 45; span = record { file = file; lo = at; hi = at + 1 } })) ≡ flat_cut file (record { lexeme = MarkLexeme 45; at = at }) ∷ []
 minus_flat file at = ap (λ n. flat (PunctTree (record { ch = 45; span = record { file = file; lo = at; hi = at + n } }))) (sym minus_len)
 
--- The text of a literal that is one lexeme before each text of the family.
+-- Below a family says what may follow a literal. The text of a literal that is one lexeme before each such text:
 pub record LexedBefore (ends : List ℕ → Type 0) (text : List ℕ) : Type 0 where
   pub lexeme : Lexeme
   pub is_lexeme : (after : List ℕ) → ends after → IsLexeme lexeme after
@@ -106,6 +105,7 @@ abbrev pub word_lexeme : Bool → Lexeme
 word_lexeme true = IdentifierLexeme 116 (114 ∷ 117 ∷ 101 ∷ [])
 word_lexeme false = IdentifierLexeme 102 (97 ∷ 108 ∷ 115 ∷ 101 ∷ [])
 
+-- an item whose literal, or word, is one lexeme before each text of the family
 abbrev pub LexedItem : (List ℕ → Type 0) → Item → Type 0
 LexedItem ends (WordItem truth) = (after : List ℕ) → ends after → IsLexeme (word_lexeme truth) after
 LexedItem ends (LiteralItem text) = LexedBefore ends text

@@ -1,6 +1,6 @@
 -- Printed lists are cut into their items.
-use Rattle.std.proofs.Common.{◌≡◌, ◌≢◌, ℕ, ◌+◌, ◌⊎◌, inl, inr, ◌||◌, ◌==◌, true, List, [], ◌∷◌, ◌++◌, drop, refl, sym, ◌∙◌, ap, subst, append_assoc, append-nil}
-use Rattle.std.specs.Prelude.{IsTrue, ⊤, codes}
+use Rattle.std.proofs.Common.{◌≡◌, ◌≢◌, ℕ, inl, inr, ◌||◌, ◌==◌, true, List, [], ◌∷◌, ◌++◌, drop, refl, sym, ◌∙◌, ap, subst, append_assoc, append-nil}
+use Rattle.std.specs.Prelude.{codes}
 use Rattle.std.specs.List.{AllByRecursion}
 use Rattle.std.proofs.lemmas.Bool.{or_right}
 use Rattle.rl_tokens.specs.declared.kind.Kind.{Kind}
@@ -59,7 +59,7 @@ follow_each ends [] last follow ends_last = tt
 follow_each ends (e ∷ []) last follow ends_last = (ends_last, tt)
 follow_each ends (e ∷ d ∷ es) last (here, follow) ends_last = (here (printed_text es last), follow_each ends (d ∷ es) last follow ends_last)
 
--- Each strict item is a lexeme before what may follow it.
+-- A strict item is one lexeme before what may follow it.
 strict_lexed : (kind : Kind) (text suffix : List ℕ) (contents : Contents) → kind ≢ BoolKind → Strict text kind contents suffix → LexedBefore EndsLiteral text
 strict_lexed Int text suffix contents other strict = int_lexed text suffix contents strict
 strict_lexed Float text suffix contents other strict = float_lexed text suffix contents strict
@@ -94,6 +94,7 @@ item_follows e (gap, is) (inr begins) rest = go e.gap gap
     go [] is = text_ends (item_text e.item) rest begins
     go (c ∷ g) is = gap_ends (c ∷ g ++ (item_text e.item ++ rest)) (filled_gap (c ∷ g) (item_text e.item ++ rest) is (λ h. cc))
 
+-- A print of strict items is cut into them.
 pub printed_lexes : PrintedLexes
 printed_lexes t entries last file printed =
     entries_lex EndsLiteral file t entries last printed.text
@@ -122,6 +123,7 @@ item_stays (WordItem truth) is = λ after begins. word_ends truth after (gap_end
 item_stays (LiteralItem text) is = cut_stays text is
 item_stays (MinusItem text) is = cut_stays text is
 
+-- A print of items that were cut from any text is cut into them.
 pub reprinted_lexes : ReprintedLexes
 reprinted_lexes t entries last file printed =
     entries_lex BeginsGap file t entries last printed.text

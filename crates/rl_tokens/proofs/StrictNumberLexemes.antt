@@ -1,17 +1,17 @@
 -- A strict number is one lexeme before what may follow a literal.
-use Rattle.std.proofs.Common.{◌≡◌, ℕ, ◌<◌, ◌≤◌, ◌⊎◌, inl, inr, zero, suc, Bool, true, false, not, ◌&&◌, ◌||◌, ◌==◌, ltb, List, [], ◌∷◌, ◌++◌, replicate, refl, sym, ◌∙◌, ap, subst, arith, append_assoc, append-nil, lit<}
-use Rattle.std.specs.Prelude.{IsTrue, ⊤, nat_lt, codes}
+use Rattle.std.proofs.Common.{◌≡◌, ℕ, ◌<◌, ◌≤◌, ◌⊎◌, inl, inr, suc, Bool, true, false, not, ◌&&◌, ◌||◌, ◌==◌, List, [], ◌∷◌, ◌++◌, replicate, refl, sym, ◌∙◌, ap, subst, arith, append_assoc, append-nil, lit<}
+use Rattle.std.specs.Prelude.{nat_lt}
 use Rattle.std.specs.List.{list_all, list_any}
 use Rattle.std.specs.Char.{digit_value, is_ascii_digit, is_ascii_hexdigit, is_ascii_alphanumeric}
-use Rattle.std.proofs.lemmas.Bool.{and_parts, and_from, or_from, or_cases, or_parts, eqb-true, ltb-true, lt-ltb, agree_below_at}
+use Rattle.std.proofs.lemmas.Bool.{and_parts, and_from, or_from, or_cases, eqb-true, ltb-true, lt-ltb, agree_below_at}
 use Rattle.std.proofs.lemmas.Bool.Decides.{nat_tests}
 use Rattle.std.proofs.lemmas.List.Folds.{list_all-append}
 use Rattle.rl_tokens.specs.Texts.{is_white, is_start, is_continue, passes, begins}
 use Rattle.rl_tokens.specs.Numbers.{is_digit_part, Decimal}
-use Rattle.rl_tokens.specs.Lexemes.{is_numeral_part, is_base_letter, begins_dot, begins_exponent, after_sign, after_run, LexedFraction, NoLexedFraction, LexedDot, lexed_fraction_text, LexedSign, NoLexedSign, LexedPlus, LexedMinus, lexed_sign_text, LexedExponent, NoLexedExponent, LexedPower, lexed_exponent_text, IsRow, IsLexedFraction, IsLexedExponent, IsLexeme, BasedLexeme, DecimalLexeme}
+use Rattle.rl_tokens.specs.Lexemes.{is_numeral_part, is_base_letter, begins_dot, begins_exponent, after_sign, after_run, LexedFraction, NoLexedFraction, LexedDot, lexed_fraction_text, LexedSign, NoLexedSign, LexedPlus, LexedMinus, lexed_sign_text, LexedExponent, NoLexedExponent, LexedPower, lexed_exponent_text, IsLexedFraction, IsLexedExponent, BasedLexeme, DecimalLexeme}
 use Rattle.rl_tokens.specs.Reading.{Contents}
 use Rattle.rl_tokens.specs.Strict.{is_row, IsDigits, IsDecimalText, IsStrictSuffix, IsNumberSuffix, StrictInt, StrictFloat, IsStrictExponent}
-use Rattle.rl_tokens.proofs.Basics.{apart, all_weaker, passes_same, digit_is_ten, hex_is_sixteen}
+use Rattle.rl_tokens.proofs.Basics.{all_weaker, passes_same, digit_is_ten, hex_is_sixteen}
 use Rattle.rl_tokens.proofs.StrictNumbers.{suffix_of_strict, suffix_no_part}
 use Rattle.rl_tokens.proofs.LexemeRows.{not_among}
 use Rattle.rl_tokens.proofs.LexemeFronts.{start_ascii, digit_not_start, decimal_text}
@@ -34,7 +34,7 @@ abbrev ExponentFacts : LexedExponent → List ℕ → Type 0
 ExponentFacts NoLexedExponent x = passes is_letter x ≡ false
 ExponentFacts (LexedPower letter sign n d more) x = (is_letter letter ≡ true) × (is_ascii_digit d ≡ true) × (list_all is_numeral_part more ≡ true) × (passes is_numeral_part x ≡ false)
 
-pub record DecimalFacts (t : List ℕ) : Type 0 where
+record DecimalFacts (t : List ℕ) : Type 0 where
   pub digit : ℕ
   pub more : List ℕ
   pub fraction : LexedFraction
@@ -110,7 +110,7 @@ decimal_lexed t s =
     }
 
 -- Rows of digits, suffixes, exponents.
-pub record DigitRow (row : List ℕ) : Type 0 where
+record DigitRow (row : List ℕ) : Type 0 where
   pub digit : ℕ
   pub more : List ℕ
   pub text : row ≡ digit ∷ more
@@ -136,7 +136,7 @@ letter_fails test c lower upper h =
     ]
 
 -- a row with a digit: underscores, the digit, and more
-pub record PowerRow (row : List ℕ) : Type 0 where
+record PowerRow (row : List ℕ) : Type 0 where
   pub underscores : ℕ
   pub digit : ℕ
   pub more : List ℕ
@@ -157,7 +157,7 @@ power_row (c ∷ row) each some =
         let e : (c == 95) ≡ true = ap (λ b. b || c == 95) (sym digit) ∙ here in
         record { underscores = suc r.underscores; digit = r.digit; more = r.more; text = ap (λ z. z ∷ row) (eqb-true c 95 e) ∙ ap (λ z. 95 ∷ z) r.text; is_digit = r.is_digit; each = r.each }
 
-pub record PowerFacts (e : List ℕ) : Type 0 where
+record PowerFacts (e : List ℕ) : Type 0 where
   pub letter : ℕ
   pub sign : LexedSign
   pub row : List ℕ

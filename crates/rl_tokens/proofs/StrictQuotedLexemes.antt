@@ -1,6 +1,6 @@
 -- A strict quoted literal is one lexeme before what may follow a literal.
-use Rattle.std.proofs.Common.{◌≡◌, ◌≢◌, ℕ, ◌+◌, ◌⊎◌, inl, inr, zero, suc, Bool, true, false, not, ◌&&◌, ◌||◌, ◌==◌, List, [], ◌∷◌, ◌++◌, length, replicate, refl, sym, ◌∙◌, ap, subst, arith, append_assoc, append-nil}
-use Rattle.std.specs.Prelude.{IsTrue, nat_lt, nat_le, if◌then◌else◌}
+use Rattle.std.proofs.Common.{◌≡◌, ◌≢◌, ℕ, ◌⊎◌, inl, inr, zero, suc, Bool, true, false, not, ◌&&◌, ◌||◌, ◌==◌, List, [], ◌∷◌, ◌++◌, length, replicate, refl, sym, ◌∙◌, ap, subst, append-nil}
+use Rattle.std.specs.Prelude.{nat_lt, nat_le, if◌then◌else◌}
 use Rattle.std.specs.List.{list_all, flat_map}
 use Rattle.std.specs.Char.{is_ascii_hexdigit}
 use Rattle.std.specs.Str.{all_scalars}
@@ -10,7 +10,7 @@ use Rattle.rl_tokens.specs.declared.kind.Kind.{Kind}
 use Rattle.rl_tokens.specs.declared.kind.Kind.TheVariants.{Str, ByteStr, CStr, Byte, Char, Int, Float, Bool as BoolKind}
 use Rattle.rl_tokens.specs.Lexemes.{LiteralPrefix, NoPrefix, BytePrefix, CPrefix, prefix_text, BodyPart, PlainPart, EscapedPart, body_text, IsBody, Within, OneCharacter, EscapedCharacter, within_text, IsWithin, begins_hashes, IsRawBody, QuotedLexeme, RawLexeme, CharacterLexeme}
 use Rattle.rl_tokens.specs.Reading.{Contents}
-use Rattle.rl_tokens.specs.Strict.{StrictUnit, Itself, QuoteEscape, PlainEscape, AsciiEscape, ByteEscape, UnicodeEscape, LineBreak, spaced_digit, spaced_value, strict_text, number_of, is_octal, is_dropped_blank, is_unicode_escape, is_bare_character, is_bare_in_string, is_strict_unit, opens, ends, HasUnits, StrictCooked, StrictRaw, opens_raw, IsStrictSuffix}
+use Rattle.rl_tokens.specs.Strict.{StrictUnit, Itself, QuoteEscape, PlainEscape, AsciiEscape, ByteEscape, UnicodeEscape, LineBreak, spaced_digit, spaced_value, strict_text, number_of, is_octal, is_dropped_blank, is_unicode_escape, is_bare_character, is_bare_in_string, is_strict_unit, opens, ends, HasUnits, StrictCooked, StrictRaw}
 use Rattle.rl_tokens.proofs.Comments.{false_unless}
 use Rattle.rl_tokens.proofs.Pieces.{is_equal}
 use Rattle.rl_tokens.proofs.Basics.{apart, all_weaker, hex_is_sixteen}
@@ -26,7 +26,7 @@ free_from : (test : ℕ → Bool) (a b : ℕ) → test a ≡ false → test b �
 free_from test a b at_a at_b c h = not_from_false (c == a || c == b) (or_from (c == a) (c == b) (apart test c a h at_a) (apart test c b h at_b))
 
 -- no escape holds either
-pub record Outside (a b : ℕ) : Type 0 where
+record Outside (a b : ℕ) : Type 0 where
   pub hex_a : is_ascii_hexdigit a ≡ false
   pub hex_b : is_ascii_hexdigit b ≡ false
   pub underscore : free a b 95 ≡ true
@@ -40,7 +40,7 @@ apostrophe_outside : Outside 39 10
 apostrophe_outside = record { hex_a = refl; hex_b = refl; underscore = refl; open_brace = refl; close_brace = refl }
 
 -- A unit that is a backslash, a character, and more.
-pub record Escape (a b : ℕ) (s : StrictUnit) : Type 0 where
+record Escape (a b : ℕ) (s : StrictUnit) : Type 0 where
   pub first : ℕ
   pub more : List ℕ
   pub text : strict_text s ≡ 92 ∷ first ∷ more
@@ -134,7 +134,7 @@ one_or_escape a b k (UnicodeEscape ds) o line h = inr (unicode_of a b k ds o h)
 one_or_escape a b k (LineBreak blanks) o line h = inr (record { first = 10; more = blanks; text = refl; each = line blanks h })
 
 -- Strings: what of a kind the parts of its body need.
-pub record StringKind (k : Kind) : Type 0 where
+record StringKind (k : Kind) : Type 0 where
   pub bare : (c : ℕ) → is_strict_unit k (Itself c) ≡ true → free 34 92 c ≡ true
   pub line : (blanks : List ℕ) → is_strict_unit k (LineBreak blanks) ≡ true → list_all (free 34 92) blanks ≡ true
   pub before : LiteralPrefix
@@ -168,7 +168,7 @@ plain_body (c ∷ cs) more all is =
     (p.0, plain_body cs more p.1 is)
 
 -- the parts of a body that spell these units
-pub record Spelled (us : List StrictUnit) : Type 0 where
+record Spelled (us : List StrictUnit) : Type 0 where
   pub parts : List BodyPart
   pub text : body_text parts ≡ flat_map strict_text us
   pub is_body : IsBody parts
@@ -210,8 +210,8 @@ string_lexed k t x v f s =
           ∙ sym (quoted_text f.before (body_text r.parts) x);
     }
 
--- Characters and bytes.
-pub record SingleKind (k : Kind) : Type 0 where
+-- Characters and bytes: what of a kind its one unit needs.
+record SingleKind (k : Kind) : Type 0 where
   pub bare : (c : ℕ) → is_strict_unit k (Itself c) ≡ true → not (c == 92) ≡ true
   pub line : (blanks : List ℕ) → is_strict_unit k (LineBreak blanks) ≡ true → list_all (free 39 10) blanks ≡ true
   pub is_byte : Bool
@@ -225,7 +225,8 @@ character_kind = record { bare = bare_not_backslash; line = λ blanks h. absurd 
 byte_kind : SingleKind Byte
 byte_kind = record { bare = λ c h. bare_not_backslash c (and_parts (nat_lt c 128) (is_bare_character c) h).1; line = λ blanks h. absurd (cc); is_byte = true; opens_is = refl; ends_is = refl; one = λ us h. h }
 
-pub record Between (s : StrictUnit) : Type 0 where
+-- what stands between the quotes
+record Between (s : StrictUnit) : Type 0 where
   pub inside : Within
   pub text : strict_text s ≡ within_text inside
   pub is_within : IsWithin inside

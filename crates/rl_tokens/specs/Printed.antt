@@ -51,6 +51,7 @@ printed_trees file at [] = []
 printed_trees file at (e ∷ es) =
     item_trees file (at + byte_len e.gap) e.item ++ printed_trees file (at + byte_len e.gap + byte_len (item_text e.item)) es
 
+-- the text is a strict literal of the kind
 abbrev pub IsStrictAs : Kind → List ℕ → Type 0
 IsStrictAs kind t = (contents : Contents) × (suffix : List ℕ) × Strict t kind contents suffix
 
@@ -58,7 +59,7 @@ IsStrictAs kind t = (contents : Contents) × (suffix : List ℕ) × Strict t kin
 abbrev pub IsRead : List ℕ → Type 0
 IsRead t = (kind : Kind) × ReadsAs kind t
 
--- A strict text, or a minus and a strict number; and it reads. Both words do.
+-- A strict text, or a minus and a strict number; and it reads. Both words are strict and read.
 abbrev pub IsStrictItem : Item → Type 0
 IsStrictItem (WordItem truth) = ⊤
 IsStrictItem (LiteralItem text) = (kind : Kind) × (kind ≢ BoolKind) × IsStrictAs kind text × IsRead text
@@ -97,6 +98,6 @@ pub record Reprinted (t : List ℕ) (entries : List Entry) (last : List ℕ) : T
   pub last_gap : IsTrivia last
   pub text : t ≡ printed_text entries last
 
--- Such a text is cut into the trees of its items and no others.
+-- So is such a text.
 abbrev pub ReprintedLexes : Type 0
 ReprintedLexes = (t : List ℕ) (entries : List Entry) (last : List ℕ) (file : ℕ) → Reprinted t entries last → Lexes t file (printed_trees file 0 entries)
