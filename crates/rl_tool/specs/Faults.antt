@@ -11,7 +11,8 @@ fault_line Read = codes "error: read failed"
 fault_line Write = codes "error: write failed"
 fault_line NotText = codes "error: input is not UTF-8"
 fault_line Memory = codes "error: out of memory"
-fault_line (Literal e) = codes "error at " ++ decimal e.span.lo ++ codes ".." ++ decimal e.span.hi ++ codes ": " ++ message_of e.kind
+fault_line (Literal e) =
+    codes "error at " ++ (decimal e.span.lo ++ (codes ".." ++ (decimal e.span.hi ++ (codes ": " ++ message_of e.kind))))
 
 -- the status of a fault
 abbrev pub status_of : {A : Type 0} → Fault A → ℕ
