@@ -1,6 +1,9 @@
 //! Reads a literal and prints its kind, what it stands for, and its suffix.
 #![tactic(auto)]
 
+ghost use Rattle.std.specs.Prelude.{◌≡◌};
+ghost use Rattle.std.specs.Process.{exit_status};
+
 mod command;
 mod fault;
 mod line;
@@ -26,7 +29,9 @@ fn asked_for(rt: &(impl Env + Alloc)) -> Option<Command> {
 }
 
 /// Tells why the program failed.
-fn tell(rt: &impl Eprint, status: u8, line: impl std::fmt::Display + Drop) -> ExitCode {
+fn tell(rt: &impl Eprint, status: u8, line: impl std::fmt::Display + Drop) -> ExitCode
+    ensures { exit_status result ≡ status }
+{
     let _ = rt.eprintln(line);
     ExitCode::from(status)
 }
