@@ -42,7 +42,7 @@ among (k ∷ codes) test c all is = go (c == k) refl is (among codes test c (bot
 pub low_among : (codes : List ℕ) (c : ℕ) → list_all (λ k. nat_lt k 128) codes ≡ true → is_among codes c ≡ true → c < 128
 low_among codes c all is = let q : nat_lt c 128 ≡ true = among codes (λ k. nat_lt k 128) c all is in grind (arith, nat_tests)
 
-not_start_among : (codes : List ℕ) (c : ℕ) → list_all (λ k. nat_lt k 128) codes ≡ true → list_all (λ k. not (ascii_start k)) codes ≡ true → is_among codes c ≡ true → is_start c ≡ false
+pub not_start_among : (codes : List ℕ) (c : ℕ) → list_all (λ k. nat_lt k 128) codes ≡ true → list_all (λ k. not (ascii_start k)) codes ≡ true → is_among codes c ≡ true → is_start c ≡ false
 not_start_among codes c low all is = start_ascii c (low_among codes c low is) ∙ not_true (ascii_start c) (among codes (λ k. not (ascii_start k)) c all is)
 
 pub at_class : (c : ℕ) (t : List ℕ) (k : HeadClass) → head_class c ≡ k → lexeme_at (c ∷ t) ≡ by_class k c t
@@ -161,12 +161,15 @@ digit_no_start d is h =
     let k : (d == 95 || is_ascii_alphabetic d) ≡ true = (both_true (d == 95 || is_ascii_alphabetic d) (not (is_white d)) h).0 in
     grind (arith, nat_tests)
 
+pub digit_not_start : (d : ℕ) → is_ascii_digit d ≡ true → is_start d ≡ false
+digit_not_start d is = start_ascii d (digit_low d is) ∙ false_unless (ascii_start d) (digit_no_start d is)
+
 not_digit_among : (codes : List ℕ) (d : ℕ) → list_all (λ k. not (is_ascii_digit k)) codes ≡ true → is_ascii_digit d ≡ true → is_among codes d ≡ false
 not_digit_among codes d all is = false_unless (is_among codes d) (λ h. let k : is_ascii_digit d ≡ false = not_true (is_ascii_digit d) (among codes (λ k. not (is_ascii_digit k)) d all h) in absurd (cc))
 
 class_digit : (d : ℕ) → is_ascii_digit d ≡ true → head_class d ≡ DigitHead
 class_digit d is =
-    class_other d (start_ascii d (digit_low d is) ∙ false_unless (ascii_start d) (digit_no_start d is))
+    class_other d (digit_not_start d is)
     ∙ ap (λ b. cond b DelimiterHead (behind_delimiter d)) (not_digit_among delimiters d refl is)
     ∙ ap (λ b. cond b SlashHead (behind_slash d)) (not_among d 47 is_ascii_digit is refl)
     ∙ ap (λ b. cond (b || d == 47) MarkHead (behind_punct d)) (not_digit_among marks d refl is)

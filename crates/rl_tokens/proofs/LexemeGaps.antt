@@ -14,7 +14,7 @@ use Rattle.rl_tokens.proofs.LexemeRows.{both_true, not_true, not_among}
 use Rattle.rl_tokens.proofs.LexemeFronts.{start_ascii}
 
 -- Tests that no gap passes: each fails at white characters and at the slash.
-abbrev Solid : (ℕ → Bool) → Type 0
+abbrev pub Solid : (ℕ → Bool) → Type 0
 Solid test = (c : ℕ) → (is_white c || c == 47) ≡ true → test c ≡ false
 
 solid_from : (test : ℕ → Bool) → test 47 ≡ false → ((c : ℕ) → is_white c ≡ true → test c ≡ false) → Solid test
@@ -24,7 +24,7 @@ solid_from test at_slash at_white c h = go (is_white c) refl h
     go true w h = at_white c w
     go false w h = subst (λ (x : ℕ). test x ≡ false) (sym (is_equal c 47 h)) at_slash
 
-and_false : (a : Bool) → (a && false) ≡ false
+pub and_false : (a : Bool) → (a && false) ≡ false
 and_false true = refl
 and_false false = refl
 
@@ -44,7 +44,7 @@ code_solid k w l = solid_from (λ c. c == k) l (λ c h. not_among c k is_white h
 or_solid : (f g : ℕ → Bool) → Solid f → Solid g → Solid (λ c. f c || g c)
 or_solid f g a b c h = ap (λ x. x || g c) (a c h) ∙ b c h
 
-digit_solid : Solid is_ascii_digit
+pub digit_solid : Solid is_ascii_digit
 digit_solid = solid_from is_ascii_digit refl (λ c w. false_unless (is_ascii_digit c) (λ h. white_digit c h w))
   where
     white_digit : (c : ℕ) → is_ascii_digit c ≡ true → is_white c ≡ true → ⊥
@@ -84,7 +84,7 @@ run_gap u test (c ∷ s) after gap su st is h = go (u c) h (run_gap u test s aft
     go true h more = more h
     go false h more = h
 
-continue_ascii : (k : ℕ) → k < 128 → is_continue k ≡ ((is_ascii_alphanumeric k || (k == 95)) && not (is_white k))
+pub continue_ascii : (k : ℕ) → k < 128 → is_continue k ≡ ((is_ascii_alphanumeric k || (k == 95)) && not (is_white k))
 continue_ascii k l = ap (λ b. b && not (is_white k)) (is_xid_continue-ascii k l)
 
 no_sign : (c : ℕ) (t : List ℕ) → (c == 43) ≡ false → (c == 45) ≡ false → after_sign (c ∷ t) ≡ c ∷ t
@@ -100,7 +100,7 @@ sign_row (c ∷ m) t is h =
     let k : is_continue c ≡ true = (both_true (is_continue c) (list_all is_continue m) is).0 in
     no_sign c (m ++ t) (not_among c 43 is_continue k (continue_ascii 43 (lit< tt))) (not_among c 45 is_continue k (continue_ascii 45 (lit< tt)))
 
-and_more : (b x y : Bool) → (x ≡ false → y ≡ false) → (b && x) ≡ false → (b && y) ≡ false
+pub and_more : (b x y : Bool) → (x ≡ false → y ≡ false) → (b && x) ≡ false → (b && y) ≡ false
 and_more true x y f h = f h
 and_more false x y f h = refl
 

@@ -34,3 +34,9 @@ pub mod FaultLaws
 pub mod LexLaws
 pub mod TruthLemmas
 pub mod CStringContents
+pub mod PrintedCuts
+pub mod LiteralEnds
+pub mod StrictQuotedLexemes
+pub mod StrictNumberLexemes
+pub mod PrintedLaws
+pub mod PrintedAnswers

@@ -44,7 +44,7 @@ no_part b (c ∷ cs) (inr w, u) f =
     digit Decimal n f = low_digit 10 c (omega arith) n
     digit Hexadecimal n f = f
 
-suffix_of_strict : (x : List ℕ) → IsNumberSuffix x → IsSuffix x
+pub suffix_of_strict : (x : List ℕ) → IsNumberSuffix x → IsSuffix x
 suffix_of_strict x (inl e, u) = (inl e, u)
 suffix_of_strict x (inr w, u) = (inr w.identifier, u)
 

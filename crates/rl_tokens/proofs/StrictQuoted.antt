@@ -33,7 +33,7 @@ pub record Stands (k : Kind) (s : StrictUnit) : Type 0 where
 ascii_alone : (c : ℕ) → nat_lt c 128 ≡ true → encode_utf8_all (c ∷ []) ≡ c ∷ []
 ascii_alone c h = ap (λ z. z ++ []) (encode_ascii c (ltb-true c 128 h))
 
-bare_not_backslash : (c : ℕ) → is_bare_character c ≡ true → not (eqb c 92) ≡ true
+pub bare_not_backslash : (c : ℕ) → is_bare_character c ≡ true → not (eqb c 92) ≡ true
 bare_not_backslash c h = not_from_false (eqb c 92) (apart is_bare_character c 92 h refl)
 
 itself : (k : Kind) (c : ℕ) → is_strict_unit k (Itself c) ≡ true → Stands k (Itself c)
@@ -113,7 +113,7 @@ ascii_value high low h l =
     let b : digit_value low < 16 = ltb-true (digit_value low) 16 (hex_digit low l) in
     lt-ltb (hex_value high low) 128 (omega arith)
 
-octal_hex : (c : ℕ) → is_octal c ≡ true → is_hex_digit c ≡ true
+pub octal_hex : (c : ℕ) → is_octal c ≡ true → is_hex_digit c ≡ true
 octal_hex c h = let a : digit_value c < 8 = ltb-true (digit_value c) 8 h in lt-ltb (digit_value c) 16 (omega arith)
 
 ascii_escape : (k : Kind) (high low : ℕ) → is_strict_unit k (AsciiEscape high low) ≡ true → Stands k (AsciiEscape high low)
@@ -350,7 +350,7 @@ cooked_reads k t x v s string o e =
       s.contents ∙ ap (held_by k) (sym r.value_is),
     )
 
-one_unit : (us : List StrictUnit) → length us ≡ 1 → (u : StrictUnit) × (us ≡ u ∷ [])
+pub one_unit : (us : List StrictUnit) → length us ≡ 1 → (u : StrictUnit) × (us ≡ u ∷ [])
 one_unit [] h = absurd (omega arith)
 one_unit (u ∷ []) h = (u, refl)
 one_unit (u ∷ w ∷ us) h = absurd (omega arith)

@@ -19,3 +19,4 @@ pub mod Buffers
 pub mod Fronts
 pub mod Lexing
 pub mod Nests
+pub mod Printed

@@ -6,6 +6,7 @@ ghost use Rattle.rl_tokens.specs.Reading.{Contents, Digits, Reads, quoted_conten
 ghost use Rattle.rl_tokens.specs.Strict.{Strict, held_by};
 ghost use Rattle.rl_tokens.specs.Written.{written};
 ghost use Rattle.rl_tokens.specs.Agreeing.{IsWithinLimit, is_number, IsValue};
+ghost use Rattle.rl_tokens.specs.Printed.{PrintedLexes, ReprintedLexes};
 
 /// A text has one reading at most: one kind, one value, one suffix.
 pub fn one_reading()
@@ -40,4 +41,14 @@ pub fn written_strict()
 /// What a value is written as reads as that value, with no suffix.
 pub fn written_reads()
     ensures { (k : Kind) (v : List ℕ) → IsValue k v → Reads (written k v) k (quoted_contents k v) [] }
+{}
+
+/// A printed list of strict literals is cut into exactly its items.
+pub fn printed_lexes()
+    ensures { PrintedLexes }
+{}
+
+/// A printed list of literals, as they were cut from any text, is cut into exactly its items.
+pub fn reprinted_lexes()
+    ensures { ReprintedLexes }
 {}

@@ -1,6 +1,6 @@
 //! The lexer.
 
-ghost use Rattle.std.specs.Prelude.{◌≡◌, nat_lt, IfOk, IfErr, IsTrue};
+ghost use Rattle.std.specs.Prelude.{List, ℕ, ◌≡◌, nat_lt, IfOk, IfErr, IsTrue};
 ghost use Rattle.std.specs.Str.{chars};
 ghost use Rattle.std.specs.List.{list_all};
 ghost use Rattle.rl_tokens.specs.Texts.{begins};
@@ -17,6 +17,7 @@ ghost use Rattle.rl_tokens.specs.Lexing.{
   OneFault,
   NeverBoth,
 };
+ghost use Rattle.rl_tokens.specs.Printed.{Entry, Printed, Reprinted, printed_trees};
 ghost use Rattle.rl_tokens.specs.Trees.{stream_view};
 
 use crate::front::is_start;
@@ -42,6 +43,12 @@ pub fn lex<A: Allocator + Copy>(alloc: A, text: &str, file: u32) -> Result<Token
     ensures one_list { OneList }
     ensures one_fault { OneFault }
     ensures never_both { NeverBoth }
+    // A print of strict literals is cut into exactly its items, or memory was refused.
+    ensures printed { (entries : List Entry) (last : List ℕ) → Printed (chars text.now) entries last
+        → IfOk result (λ trees. stream_view trees ≡ printed_trees file 0 entries) × IfErr result (λ e. e.kind ≡ LexKind.Memory) }
+    // So is one of literals that were cut from any text, where no gap between two items is empty.
+    ensures reprinted { (entries : List Entry) (last : List ℕ) → Reprinted (chars text.now) entries last
+        → IfOk result (λ trees. stream_view trees ≡ printed_trees file 0 entries) × IfErr result (λ e. e.kind ≡ LexKind.Memory) }
 {
     let mut nest = Nest::new(alloc, file);
     let mut rest = skip(text);

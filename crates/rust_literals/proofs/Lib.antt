@@ -1,2 +1,4 @@
 pub mod HeldLemmas
 pub mod LitLemmas
+pub mod LeadsLemmas
+pub mod ReadLemmas

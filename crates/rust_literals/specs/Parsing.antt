@@ -1,11 +1,12 @@
 -- What the parsers of this crate do, and which literals the trees of a text are.
-use Rattle.std.specs.Prelude.{◌≡◌, ◌≢◌, ◌⊎◌, ℕ, List, [], ◌∷◌, codes, Result, Ok, Err}
+use Rattle.std.specs.Prelude.{◌≡◌, ◌≢◌, ◌⊎◌, ℕ, List, [], ◌∷◌, codes, Result, Ok, Err, Vec}
 use Rattle.std.specs.Str.{chars}
 use Rattle.rl_tokens.specs.declared.span.Span.{Span}
 use Rattle.rl_tokens.specs.declared.kind.Kind.TheVariants.{Bool as BoolKind}
 use Rattle.rl_tokens.specs.declared.lex_error.LexKind.{LexKind}
+use Rattle.rl_tokens.specs.declared.lex_error.LexKind.TheVariants.{Memory as LexMemory}
 use Rattle.rl_tokens.specs.declared.error.Error.{Error}
-use Rattle.rl_tokens.specs.declared.error.ErrorKind.TheVariants.{Lex}
+use Rattle.rl_tokens.specs.declared.error.ErrorKind.TheVariants.{Lex, Memory}
 use Rattle.rl_tokens.specs.Errors.{memory_at, nowhere}
 use Rattle.rl_tokens.specs.Tokens.{Token}
 use Rattle.rl_tokens.specs.Trees.{Tree}
@@ -73,6 +74,11 @@ pub record AreRead {A : Type 0} (text : List ℕ) (file : ℕ) (list : List (Lit
   pub lexes : Lexes text file trees
   pub leads : Leads trees list []
 
+-- the lexer's refusal as one of this crate
+abbrev pub lex_refusal : {A : Type 0} → LexKind → Span → Error A
+lex_refusal LexMemory span = memory_at span
+lex_refusal kind span = record { span = span; kind = Lex kind }
+
 -- The text's first fault, told at its place.
 pub record IsLexRefusal {A : Type 0} (text : List ℕ) (file : ℕ) (e : Error A) : Type 0 where
   pub kind : LexKind
@@ -95,3 +101,8 @@ pub record LexesShort {A : Type 0} (text : List ℕ) (file : ℕ) (e : Error A) 
 -- what `read_all` refuses of a text of this length
 abbrev pub RefusesText : {A : Type 0} → List ℕ → ℕ → ℕ → Error A → Type 0
 RefusesText text file end e = IsLexRefusal text file e ⊎ (RefusesTrees text file end e ⊎ LexesShort text file e)
+
+-- the answer is this list, or memory was refused
+abbrev pub IsOrMemory : {A B : Type 0} → List (Lit A) → Result (Vec (Lit A) B) (Error A) → Type 0
+IsOrMemory list (Ok found) = found.items ≡ list
+IsOrMemory list (Err e) = e.kind ≡ Memory

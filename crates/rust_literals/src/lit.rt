@@ -191,7 +191,11 @@ impl<A: Allocator> Token for Lit<A> {
     ghost shown = { codes "literal" };
 
     fn peek<B: Allocator>(input: &ParseBuffer<'_, B>) -> bool {
-        Front::take(&mut input.fork()).is_some()
+        let mut ahead = input.fork();
+        match Front::take(&mut ahead) {
+            Some(_) => true,
+            None => false,
+        }
     }
 
     fn display() -> &'static str {

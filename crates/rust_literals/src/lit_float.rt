@@ -157,20 +157,14 @@ impl<A: Allocator + Copy> Parse<A> for LitFloat<A> {
     ghost runs = { RunsAs Float (codes "floating point literal") };
 
     fn parse(alloc: A, input: &mut ParseBuffer<'_, A>) -> Result<LitFloat<A>, Error<A>> {
-        let mut ahead = input.fork();
-        let token = match take_kind(alloc, &mut ahead, Kind::Float, "floating point literal") {
-            Ok(token) => token,
-            Err(error) => {
-                *input = ahead;
-                return Err(error);
-            }
-        };
+        let before = input.fork();
+        let token = take_kind(alloc, input, Kind::Float, "floating point literal")?;
         match LitFloat::from_token(alloc, token) {
-            Ok(literal) => {
-                *input = ahead;
-                Ok(literal)
+            Ok(literal) => Ok(literal),
+            Err(_) => {
+                *input = before;
+                Err(Error::memory(input.span()))
             }
-            Err(_) => Err(Error::memory(input.span())),
         }
     }
 }

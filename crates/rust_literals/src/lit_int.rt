@@ -154,20 +154,14 @@ impl<A: Allocator + Copy> Parse<A> for LitInt<A> {
     ghost runs = { RunsAs Int (codes "integer literal") };
 
     fn parse(alloc: A, input: &mut ParseBuffer<'_, A>) -> Result<LitInt<A>, Error<A>> {
-        let mut ahead = input.fork();
-        let token = match take_kind(alloc, &mut ahead, Kind::Int, "integer literal") {
-            Ok(token) => token,
-            Err(error) => {
-                *input = ahead;
-                return Err(error);
-            }
-        };
+        let before = input.fork();
+        let token = take_kind(alloc, input, Kind::Int, "integer literal")?;
         match LitInt::from_token(alloc, token) {
-            Ok(literal) => {
-                *input = ahead;
-                Ok(literal)
+            Ok(literal) => Ok(literal),
+            Err(_) => {
+                *input = before;
+                Err(Error::memory(input.span()))
             }
-            Err(_) => Err(Error::memory(input.span())),
         }
     }
 }

@@ -9,6 +9,7 @@ use Rattle.rl_tokens.proofs.Rests.{behind_length}
 use Rattle.rl_tokens.proofs.LexLoop.{token_at, token_fits, has_none, has_more}
 use Rattle.rl_tokens.proofs.LexEnds.{empty_text, some_text, all_done, ends_open, refused_token, no_lexeme_here}
 use Rattle.rl_tokens.proofs.LexLaws.{one_list, one_fault, never_both}
+use Rattle.rl_tokens.proofs.PrintedAnswers.{printed_answer, reprinted_answer, printed_refusal, reprinted_refusal, no_trees}
 use Rattle.rl_tokens.proofs.lexer.lex.Goals as goal
 
 pub loop-form-init : goal.loop-form-init
@@ -86,3 +87,21 @@ returns-else-is_empty-clause-one_fault g c = one_fault
 
 pub returns-else-is_empty-clause-never_both : goal.returns-else-is_empty-clause-never_both
 returns-else-is_empty-clause-never_both g c = never_both
+
+pub returns-in_err-add-clause-printed : goal.returns-in_err-add-clause-printed
+returns-in_err-add-clause-printed g c = printed_answer c.args.text.now c.args.file c.from_residual.result (no_trees _ _ c.from_residual.result c.from_residual.ensures.1) (returns-in_err-add-clause-refused g c)
+
+pub returns-in_err-add-clause-reprinted : goal.returns-in_err-add-clause-reprinted
+returns-in_err-add-clause-reprinted g c = reprinted_answer c.args.text.now c.args.file c.from_residual.result (no_trees _ _ c.from_residual.result c.from_residual.ensures.1) (returns-in_err-add-clause-refused g c)
+
+pub returns-then-is_empty-clause-printed : goal.returns-then-is_empty-clause-printed
+returns-then-is_empty-clause-printed g c = printed_answer c.args.text.now c.args.file c.finish.result (returns-then-is_empty-clause-trees g c) (returns-then-is_empty-clause-refused g c)
+
+pub returns-then-is_empty-clause-reprinted : goal.returns-then-is_empty-clause-reprinted
+returns-then-is_empty-clause-reprinted g c = reprinted_answer c.args.text.now c.args.file c.finish.result (returns-then-is_empty-clause-trees g c) (returns-then-is_empty-clause-refused g c)
+
+pub returns-else-is_empty-clause-printed : goal.returns-else-is_empty-clause-printed
+returns-else-is_empty-clause-printed g c = printed_refusal c.args.text.now c.args.file c.new.result (returns-else-is_empty-clause-refused g c)
+
+pub returns-else-is_empty-clause-reprinted : goal.returns-else-is_empty-clause-reprinted
+returns-else-is_empty-clause-reprinted g c = reprinted_refusal c.args.text.now c.args.file c.new.result (returns-else-is_empty-clause-refused g c)

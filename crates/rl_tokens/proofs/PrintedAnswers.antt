@@ -1,0 +1,60 @@
+-- The lexer answers a print with the trees of its items, or refuses memory.
+use Rattle.std.proofs.Common.{◌≡◌, ℕ, List, Result, Ok, Err, refl}
+use Rattle.std.specs.Str.{chars}
+use Rattle.std.specs.Result.{IfOk, IfErr}
+use Rattle.std.specs.Prelude.{IsErrAnd, ⊤}
+use Rattle.rl_tokens.specs.declared.token.TokenStream.{TokenStream}
+use Rattle.rl_tokens.specs.declared.lex_error.LexKind.{LexKind}
+use Rattle.rl_tokens.specs.declared.lex_error.LexKind.TheVariants.{DocComment, UnclosedComment, UnclosedQuote, Lifetime, RawIdentifier, StrayCharacter, UnmatchedClose, UnclosedGroup, TooDeep, Memory}
+use Rattle.rl_tokens.specs.declared.lex_error.LexError.{LexError}
+use Rattle.rl_tokens.specs.Trees.{Tree, stream_view}
+use Rattle.rl_tokens.specs.Lexing.{Lexes, Fault, Refuses}
+use Rattle.rl_tokens.specs.Printed.{Entry, Printed, Reprinted, printed_trees}
+use Rattle.rl_tokens.proofs.LexLaws.{one_list, never_both}
+use Rattle.rl_tokens.proofs.PrintedLaws.{printed_lexes, reprinted_lexes}
+
+-- a refusal without a fault is one of memory
+refuses_memory : (t : List ℕ) (kind : LexKind) (at : ℕ) → (Fault t kind at → ⊥) → Refuses t kind at → kind ≡ Memory
+refuses_memory t Memory at none h = refl
+refuses_memory t DocComment at none h = absurd (none h)
+refuses_memory t UnclosedComment at none h = absurd (none h)
+refuses_memory t UnclosedQuote at none h = absurd (none h)
+refuses_memory t Lifetime at none h = absurd (none h)
+refuses_memory t RawIdentifier at none h = absurd (none h)
+refuses_memory t StrayCharacter at none h = absurd (none h)
+refuses_memory t UnmatchedClose at none h = absurd (none h)
+refuses_memory t UnclosedGroup at none h = absurd (none h)
+refuses_memory t TooDeep at none h = absurd (none h)
+
+-- where the text lexes, each refusal is one of memory
+only_memory : (t : List ℕ) (file : ℕ) (trees : List Tree) (e : LexError) → Lexes t file trees → Refuses t e.kind e.at → e.kind ≡ Memory
+only_memory t file trees e lexes refused = refuses_memory t e.kind e.at (λ f. never_both t file trees e.kind e.at lexes f) refused
+
+-- These trees, or a refusal of memory.
+abbrev pub Answers : {A : Type 0} → Result (TokenStream A) LexError → List Tree → Type 0
+Answers r trees = IfOk r (λ s. stream_view s ≡ trees) × IfErr r (λ e. e.kind ≡ Memory)
+
+answers_trees : {A : Type 0} (t : List ℕ) (file : ℕ) (r : Result (TokenStream A) LexError) (trees : List Tree) → Lexes t file trees → IfOk r (λ s. Lexes t file (stream_view s)) → IfErr r (λ e. Refuses t e.kind e.at) → Answers r trees
+answers_trees t file (Ok s) trees lexes found refused = (one_list t file (stream_view s) trees found lexes, tt)
+answers_trees t file (Err e) trees lexes found refused = (tt, only_memory t file trees e lexes refused)
+
+-- An error holds no trees.
+pub no_trees : {T E : Type 0} (P : T → Type 0) (Q : E → Type 0) (r : Result T E) → IsErrAnd r Q → IfOk r P
+no_trees P Q (Ok x) is = absurd is
+no_trees P Q (Err e) is = tt
+
+-- The answer to a print.
+pub printed_answer : {A : Type 0} (text : List ℕ) (file : ℕ) (r : Result (TokenStream A) LexError) → IfOk r (λ s. Lexes (chars text) file (stream_view s)) → IfErr r (λ e. Refuses (chars text) e.kind e.at) → (entries : List Entry) (last : List ℕ) → Printed (chars text) entries last → Answers r (printed_trees file 0 entries)
+printed_answer text file r found refused entries last printed = answers_trees (chars text) file r (printed_trees file 0 entries) (printed_lexes (chars text) entries last file printed) found refused
+
+-- The answer to a print of what was cut from any text.
+pub reprinted_answer : {A : Type 0} (text : List ℕ) (file : ℕ) (r : Result (TokenStream A) LexError) → IfOk r (λ s. Lexes (chars text) file (stream_view s)) → IfErr r (λ e. Refuses (chars text) e.kind e.at) → (entries : List Entry) (last : List ℕ) → Reprinted (chars text) entries last → Answers r (printed_trees file 0 entries)
+reprinted_answer text file r found refused entries last reprinted = answers_trees (chars text) file r (printed_trees file 0 entries) (reprinted_lexes (chars text) entries last file reprinted) found refused
+
+-- An error, as the answer to a print.
+pub printed_refusal : (text : List ℕ) (file : ℕ) (e : LexError) → Refuses (chars text) e.kind e.at → (entries : List Entry) (last : List ℕ) → Printed (chars text) entries last → ⊤ × (e.kind ≡ Memory)
+printed_refusal text file e refused entries last printed = (tt, only_memory (chars text) file (printed_trees file 0 entries) e (printed_lexes (chars text) entries last file printed) refused)
+
+-- An error, as the answer to a print of what was cut from any text.
+pub reprinted_refusal : (text : List ℕ) (file : ℕ) (e : LexError) → Refuses (chars text) e.kind e.at → (entries : List Entry) (last : List ℕ) → Reprinted (chars text) entries last → ⊤ × (e.kind ≡ Memory)
+reprinted_refusal text file e refused entries last reprinted = (tt, only_memory (chars text) file (printed_trees file 0 entries) e (reprinted_lexes (chars text) entries last file reprinted) refused)

@@ -1,0 +1,70 @@
+-- What a text is read as, from the lexer's answer and what its trees are read as.
+use Rattle.std.proofs.Common.{◌≡◌, ◌≢◌, ◌⊎◌, inl, inr, ℕ, ◌<◌, List, [], ◌∷◌, ◌++◌, length, refl, sym, ◌∙◌, ap, subst}
+use Rattle.std.specs.Prelude.{Result, Ok, Err, IfOk, IfErr, Vec}
+use Rattle.rl_tokens.specs.declared.span.Span.{Span}
+use Rattle.rl_tokens.specs.declared.error.Error.{Error}
+use Rattle.rl_tokens.specs.declared.error.ErrorKind.TheVariants.{Memory as MemoryError}
+use Rattle.rl_tokens.specs.declared.lex_error.LexKind.{LexKind}
+use Rattle.rl_tokens.specs.declared.lex_error.LexKind.TheVariants.{DocComment, UnclosedComment, UnclosedQuote, Lifetime, RawIdentifier, StrayCharacter, UnmatchedClose, UnclosedGroup, TooDeep, Memory}
+use Rattle.rl_tokens.specs.Trees.{Tree}
+use Rattle.rl_tokens.specs.Lexing.{Lexes, Fault, Refuses, OneList, NeverBoth}
+use Rattle.rust_literals.specs.declared.lit.Lit.{Lit}
+use Rattle.rust_literals.specs.Parsing.{Leads, Stops, RunsShort, AreRead, RefusesText, IsOrMemory, lex_refusal}
+use Rattle.rust_literals.proofs.LeadsLemmas.{one_list_of, never_stops}
+
+abbrev at_span : ℕ → ℕ → Span
+at_span file at = record { file = file; lo = at; hi = at }
+
+-- the lexer's refusal is one of the text
+pub lex_refuses : {A : Type 0} (text : List ℕ) (file end : ℕ) (kind : LexKind) (at : ℕ) (e : Error A) → e ≡ lex_refusal kind (at_span file at) → Refuses text kind at → RefusesText text file end e
+lex_refuses text file end DocComment at e is r = inl (record { kind = DocComment; at = at; fault = r; error = is })
+lex_refuses text file end UnclosedComment at e is r = inl (record { kind = UnclosedComment; at = at; fault = r; error = is })
+lex_refuses text file end UnclosedQuote at e is r = inl (record { kind = UnclosedQuote; at = at; fault = r; error = is })
+lex_refuses text file end Lifetime at e is r = inl (record { kind = Lifetime; at = at; fault = r; error = is })
+lex_refuses text file end RawIdentifier at e is r = inl (record { kind = RawIdentifier; at = at; fault = r; error = is })
+lex_refuses text file end StrayCharacter at e is r = inl (record { kind = StrayCharacter; at = at; fault = r; error = is })
+lex_refuses text file end UnmatchedClose at e is r = inl (record { kind = UnmatchedClose; at = at; fault = r; error = is })
+lex_refuses text file end UnclosedGroup at e is r = inl (record { kind = UnclosedGroup; at = at; fault = r; error = is })
+lex_refuses text file end TooDeep at e is r = inl (record { kind = TooDeep; at = at; fault = r; error = is })
+lex_refuses text file end Memory at e is r = inr (inr (record { at = at; left = r; error = is }))
+
+-- a text that has trees is refused for want of memory alone
+pub lex_memory : {A : Type 0} (text : List ℕ) (file : ℕ) (trees : List Tree) (kind : LexKind) (at : ℕ) (e : Error A) → NeverBoth → Lexes text file trees → e ≡ lex_refusal kind (at_span file at) → Refuses text kind at → e.kind ≡ MemoryError
+lex_memory text file trees DocComment at e never lexes is r = absurd (never text file trees DocComment at lexes r)
+lex_memory text file trees UnclosedComment at e never lexes is r = absurd (never text file trees UnclosedComment at lexes r)
+lex_memory text file trees UnclosedQuote at e never lexes is r = absurd (never text file trees UnclosedQuote at lexes r)
+lex_memory text file trees Lifetime at e never lexes is r = absurd (never text file trees Lifetime at lexes r)
+lex_memory text file trees RawIdentifier at e never lexes is r = absurd (never text file trees RawIdentifier at lexes r)
+lex_memory text file trees StrayCharacter at e never lexes is r = absurd (never text file trees StrayCharacter at lexes r)
+lex_memory text file trees UnmatchedClose at e never lexes is r = absurd (never text file trees UnmatchedClose at lexes r)
+lex_memory text file trees UnclosedGroup at e never lexes is r = absurd (never text file trees UnclosedGroup at lexes r)
+lex_memory text file trees TooDeep at e never lexes is r = absurd (never text file trees TooDeep at lexes r)
+lex_memory text file trees Memory at e never lexes is r = ap (λ x. x.kind) is
+
+-- what the trees are read as, the text is
+pub text_read : {A B : Type 0} (text : List ℕ) (file : ℕ) (trees seen : List Tree) (r : Result (Vec (Lit A) B) (Error A)) → Lexes text file seen → trees ≡ seen → IfOk r (λ l. Leads trees l.items []) → IfOk r (λ l. AreRead text file l.items)
+text_read text file trees seen (Ok l) lexes e h = record { trees = trees; lexes = subst (λ (t : List Tree). Lexes text file t) (sym e) lexes; leads = h }
+text_read text file trees seen (Err x) lexes e h = tt
+
+-- what is refused of the trees, is refused of the text
+pub text_refused : {A B : Type 0} (text : List ℕ) (file end : ℕ) (trees seen : List Tree) (scope : Span) (r : Result (Vec (Lit A) B) (Error A)) → Lexes text file seen → trees ≡ seen → scope ≡ at_span file end → IfErr r (λ e. Stops trees scope e ⊎ RunsShort trees scope e) → IfErr r (RefusesText text file end)
+text_refused text file end trees seen scope (Ok l) lexes e s h = tt
+text_refused text file end trees seen scope (Err x) lexes e s h =
+    inr (inl (record {
+      trees = trees;
+      lexes = subst (λ (t : List Tree). Lexes text file t) (sym e) lexes;
+      refused = subst (λ (k : Span). Stops trees k x ⊎ RunsShort trees k x) s h;
+    }))
+
+short_memory : {A : Type 0} (trees : List Tree) (scope : Span) (e : Error A) → RunsShort trees scope e → e.kind ≡ MemoryError
+short_memory trees scope e h = elim h.memory [ inl m ↦ ap (λ x. x.kind) m.1 | inr m ↦ ap (λ x. x.kind) m ]
+
+-- a text that reads as a list is read as this list, or memory was refused
+pub text_exactly : {A B : Type 0} (text : List ℕ) (file : ℕ) (trees seen : List Tree) (scope : Span) (r : Result (Vec (Lit A) B) (Error A)) → OneList → Lexes text file seen → trees ≡ seen → IfOk r (λ l. Leads trees l.items []) → IfErr r (λ e. Stops trees scope e ⊎ RunsShort trees scope e) → (list : List (Lit A)) → AreRead text file list → IsOrMemory list r
+text_exactly text file trees seen scope (Ok l) one lexes e h k list a =
+    let same : a.trees ≡ trees = one text file a.trees seen a.lexes lexes ∙ sym e in
+    one_list_of trees l.items list h (subst (λ (t : List Tree). Leads t list []) same a.leads)
+text_exactly text file trees seen scope (Err x) one lexes e h (inl s) list a =
+    let same : a.trees ≡ trees = one text file a.trees seen a.lexes lexes ∙ sym e in
+    absurd (never_stops trees list s.list s.rest (subst (λ (t : List Tree). Leads t list []) same a.leads) s.leads s.some s.none)
+text_exactly text file trees seen scope (Err x) one lexes e h (inr s) list a = short_memory trees scope x s

@@ -1,0 +1,72 @@
+//! The literals of a text.
+
+ghost use Rattle.std.specs.Prelude.{◌≡◌, ◌⊎◌, List, [], length, IfOk, IfErr};
+ghost use Rattle.std.specs.Str.{chars};
+ghost use Rattle.rl_tokens.specs.Buffers.{trees_in, scope_of};
+ghost use Rattle.rust_literals.specs.declared.lit.Lit.{Lit};
+ghost use Rattle.rust_literals.specs.Parsing.{Leads, Stops, RunsShort, AreRead, RefusesText, IsOrMemory, lex_refusal};
+
+use crate::lit::Lit;
+use rl_tokens::{Error, ErrorKind, LexError, LexKind, ParseBuffer, Span, lex};
+use std::alloc::{Allocator, Global};
+
+/// The literals that the trees are, one after another, up to their end.
+fn read_trees<A: Allocator + Copy>(
+    alloc: A,
+    input: &mut ParseBuffer<'_, A>,
+) -> Result<Vec<Lit<A>, A>, Error<A>>
+    ensures read { IfOk result (λ list. Leads (trees_in input.old) list.items []) }
+    ensures refused { IfErr result
+        (λ e. Stops (trees_in input.old) (scope_of input.old) e
+        ⊎ RunsShort (trees_in input.old) (scope_of input.old) e) }
+{
+    let mut list = Vec::new(alloc);
+    while !input.is_empty() {
+        let literal = input.parse::<Lit<A>>(alloc)?;
+        if list.push(literal).is_err() {
+            return Err(Error::memory(Span::call_site()));
+        }
+    }
+    Ok(list)
+}
+
+/// Why a text isn't cut, as a refusal: the fault at its byte; want of memory there too.
+fn refusal_of<A: Allocator>(fault: LexError, file: u32) -> Error<A>
+    ensures { result ≡ lex_refusal fault.kind (record { file = file; lo = fault.at; hi = fault.at }) }
+{
+    let span = Span::new(file, fault.at, fault.at);
+    match fault.kind {
+        LexKind::Memory => Error::memory(span),
+        kind => Error {
+            span,
+            kind: ErrorKind::Lex(kind),
+        },
+    }
+}
+
+/// The literals of a text, which is nothing but literals, white space and plain comments. Each is what [`Lit::parse`]
+/// takes from the trees of the text, `Verbatim` too; its span is the file and the bytes of its text, of a number
+/// behind a minus from the minus to its last byte.
+///
+/// The first refusal is the answer: the lexer's fault as `Lex`, with the span of no bytes at its place; or `Expected` at
+/// the first tree that no literal begins. Want of memory is told where it was met.
+pub fn read_all<A: Allocator + Copy>(
+    alloc: A,
+    text: &str,
+    file: u32,
+) -> Result<Vec<Lit<A>, A>, Error<A>>
+    // The text is cut into the trees of these literals, and nothing is left of it.
+    ensures read { IfOk result (λ list. AreRead (chars text.now) file list.items) }
+    // Else the text's first fault; or, of its trees, the first that begins no literal; or memory was refused.
+    ensures refused { IfErr result (RefusesText (chars text.now) file (length text.now)) }
+    // What a text reads as is the answer, or memory was refused.
+    ensures exactly { (list : List (Lit A)) → AreRead (chars text.now) file list
+        → IsOrMemory list result }
+{
+    let stream = match lex(alloc, text, file) {
+        Ok(stream) => stream,
+        Err(fault) => return Err(refusal_of(fault, file)),
+    };
+    let end = Span::new(file, text.len(), text.len());
+    read_trees(alloc, &mut ParseBuffer::new(stream.trees(), end))
+}
