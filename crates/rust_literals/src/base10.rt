@@ -1,23 +1,13 @@
-//! Number types that are made from a literal's digits.
+//! Number types that are made from a literal's digits: their faults.
 
-ghost use Rattle.std.specs.Prelude.{Ok, IfOk, IfErr};
-ghost use Rattle.rust_literals.specs.Base10.{
-  AreIntegerDigits,
-  AreFloatDigits,
-  IsMadeOf,
-  IsRefusedBy,
-  IsTold,
-};
+ghost use Rattle.rust_literals.specs.Base10.{IsTold};
 
-use crate::lit_float::LitFloat;
-use crate::lit_int::LitInt;
 use rl_tokens::{Error, ErrorKind, Span};
 use std::alloc::Allocator;
 use std::fmt::Display;
-use std::str::FromStr;
 
 /// A number type's fault in its own words, told at a span; want of memory for the words is told there too.
-fn told<F: Display, B: Allocator>(alloc: B, fault: &F, span: Span) -> Error<B>
+pub(crate) fn told<F: Display, B: Allocator>(alloc: B, fault: &F, span: Span) -> Error<B>
     ensures { IsTold (F.output fault.now) span result }
 {
     match format!(in alloc; "{fault}") {
@@ -26,41 +16,5 @@ fn told<F: Display, B: Allocator>(alloc: B, fault: &F, span: Span) -> Error<B>
             kind: ErrorKind::Number(words),
         },
         Err(_) => Error::memory(span),
-    }
-}
-
-impl<A: Allocator> LitInt<A> {
-    /// The number that the type makes of the digits, by its own `from_str`.
-    ///
-    /// Its fault is told at the span, as `Number` in the fault's own words; want of memory for these is told there too.
-    pub fn base10_parse<N: FromStr, B: Allocator>(&self, alloc: B) -> Result<N, Error<B>>
-    where
-        N::Err: Display + Drop,
-        ensures ok { IfOk result (IsMadeOf N.from_str_gives (AreIntegerDigits self.now.text)) }
-        ensures refused { IfErr result
-            (IsRefusedBy N.from_str_gives N.Err.output (AreIntegerDigits self.now.text) self.now.span) }
-    {
-        match N::from_str(self.base10_digits()) {
-            Ok(number) => Ok(number),
-            Err(fault) => Err(told(alloc, &fault, self.span())),
-        }
-    }
-}
-
-impl<A: Allocator> LitFloat<A> {
-    /// The number that the type makes of the digits, by its own `from_str`.
-    ///
-    /// Its fault is told at the span, as `Number` in the fault's own words; want of memory for these is told there too.
-    pub fn base10_parse<N: FromStr, B: Allocator>(&self, alloc: B) -> Result<N, Error<B>>
-    where
-        N::Err: Display + Drop,
-        ensures ok { IfOk result (IsMadeOf N.from_str_gives (AreFloatDigits self.now.text)) }
-        ensures refused { IfErr result
-            (IsRefusedBy N.from_str_gives N.Err.output (AreFloatDigits self.now.text) self.now.span) }
-    {
-        match N::from_str(self.base10_digits()) {
-            Ok(number) => Ok(number),
-            Err(fault) => Err(told(alloc, &fault, self.span())),
-        }
     }
 }

@@ -20,8 +20,7 @@ use std::fmt;
 use std::hash::{Hash, Hasher};
 
 impl<A: Allocator> Lit<A> {
-    /// The literal once more, with its memory from this allocator. Want of memory is told at the span; a truth value
-    /// takes none.
+    /// The literal once more, with its memory from this allocator. Want of memory is told at the span.
     pub fn clone<B: Allocator + Copy>(&self, alloc: B) -> Result<Lit<B>, Error<B>>
         ensures ok { IfOk result (λ l. l ≡ copied self.now) }
         ensures memory { IfErr result (λ e. e ≡ memory_at (span_of self.now)) }
