@@ -60,10 +60,7 @@ fn refusals_inside(rt: HostRuntime) -> Result<(), Fail> {
         ("\"1 2\"x", "unexpected token"),
         ("\"1\"x", "unexpected suffix `x` on string literal"),
         ("\"\\\"\"", "unclosed quote"),
-        (
-            "\"\"",
-            "unexpected end of input, expected integer literal",
-        ),
+        ("\"\"", "unexpected end of input, expected integer literal"),
         ("\"/* x\"", "unclosed block comment"),
         ("\"\\\"\"x", "unclosed quote"),
         ("\"true\"x", "expected integer literal"),
@@ -71,7 +68,11 @@ fn refusals_inside(rt: HostRuntime) -> Result<(), Fail> {
     ] {
         let error = refused_inside(alloc, text)?;
         assert_eq!(&rt; error.span, HERE, "of {text:?}");
-        assert_eq!(&rt; format!(in alloc; "{error}")?.as_str(), message, "of {text:?}");
+        assert_eq!(&rt;
+            format!(in alloc; "{error}")?.as_str(),
+            message,
+            "of {text:?}"
+        );
     }
     Ok(())
 }
@@ -291,7 +292,9 @@ fn equal_by_kind(rt: HostRuntime) -> Result<(), Fail> {
     let integer = Lit::Int(LitInt::new(rt.alloc(), "1f64", HERE)?);
     let float = Lit::Float(LitFloat::new(rt.alloc(), "1f64", HERE)?);
     assert!(&rt; integer != float);
-    assert!(&rt; Lit::<Global>::Bool(LitBool::new(true, HERE)) == Lit::Bool(LitBool::new(true, THERE)));
+    assert!(&rt;
+        Lit::<Global>::Bool(LitBool::new(true, HERE)) == Lit::Bool(LitBool::new(true, THERE))
+    );
     Ok(())
 }
 
@@ -299,7 +302,10 @@ fn equal_by_kind(rt: HostRuntime) -> Result<(), Fail> {
 fn keys_of_a_map(rt: HostRuntime) -> Result<(), Fail> {
     let alloc = rt.alloc();
     let mut map = HashMap::new(alloc);
-    for (at, text) in ["0xF", "15", "\"15\"", "'1'", "true", "0xF", "--"].into_iter().enumerate() {
+    for (at, text) in ["0xF", "15", "\"15\"", "'1'", "true", "0xF", "--"]
+        .into_iter()
+        .enumerate()
+    {
         let literal = literal_of(alloc, text, Span::new(0, at, at))?;
         let before = map.insert(literal, at)?;
         assert_eq!(&rt; before, if at == 5 { Some(0) } else { None });
