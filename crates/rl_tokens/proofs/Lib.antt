@@ -40,3 +40,4 @@ pub mod StrictQuotedLexemes
 pub mod StrictNumberLexemes
 pub mod PrintedLaws
 pub mod PrintedAnswers
+pub mod TreeRests

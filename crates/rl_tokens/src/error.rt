@@ -66,11 +66,8 @@ impl<A: Allocator> fmt::Display for ErrorKind<A> {
             ErrorKind::Expected(word) => write!(f, "expected {word}"),
             ErrorKind::EndOfInput(word) => write!(f, "unexpected end of input, expected {word}"),
             ErrorKind::Unexpected => write!(f, "unexpected token"),
-            ErrorKind::Lex(kind) => write!(f, "{kind}"),
-            ErrorKind::Suffix(suffix) => write!(
-                f,
-                "unexpected suffix `{suffix}` on string literal"
-            ),
+            ErrorKind::Lex(fault) => write!(f, "{fault}"),
+            ErrorKind::Suffix(suffix) => write!(f, "unexpected suffix `{suffix}` on string literal"),
             ErrorKind::NotInteger => write!(f, "not an integer literal"),
             ErrorKind::TooLarge => write!(f, "integer literal past 128 bits"),
             ErrorKind::NotFloat => write!(f, "not a float literal"),

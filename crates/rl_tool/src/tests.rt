@@ -10,7 +10,9 @@ mod calls;
 mod escapes;
 mod inside;
 mod limit;
+mod lists;
 mod numbers;
+mod parsers;
 mod program;
 mod quoted;
 
