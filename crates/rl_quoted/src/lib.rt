@@ -1,6 +1,7 @@
 //! The quoted literals: strings, byte strings, C strings, bytes and characters.
 #![tactic(auto)]
 
+mod inside;
 mod lit_byte;
 mod lit_byte_str;
 mod lit_c_str;

@@ -1,14 +1,25 @@
-ghost use Rattle.std.specs.Prelude.{◌≡◌, IfOk, IfErr};
+ghost use Rattle.std.specs.Prelude.{◌≡◌, IfOk, IfErr, ◌==◌, ◌++◌, ◌∷◌, [], OnOk, OnErr, Some, codes};
+ghost use Rattle.std.specs.Cmp.{partial_equiv_from_equiv, on_equiv};
+ghost use Rattle.std.specs.Cmp.Lexicographic.{pointwise, nat_list_eq_equiv};
+ghost use Rattle.std.specs.Cmp.Rules.{hashing};
+ghost use Rattle.std.specs.Hash as fed;
+ghost use Rattle.std.specs.Ordering.{on};
+ghost use Rattle.std.proofs.Common.{rules};
 ghost use Rattle.std.specs.Str.{chars};
 ghost use Rattle.rl_tokens.specs.declared.kind.Kind.TheVariants.{CStr};
 ghost use Rattle.rl_tokens.specs.Errors.{memory_at};
 ghost use Rattle.rl_tokens.specs.Reading.{Bytes, HasContents, HasSuffix, ReadsAs};
 ghost use Rattle.rl_tokens.specs.Agreeing.{IsWrittenForm};
+ghost use Rattle.rl_tokens.specs.Trees.{LiteralTree, stream_view};
 
 use crate::place::suffix_place;
 use rl_grammar::{Kind, bytes_of, next_is, take_kind};
-use rl_tokens::{CString, Error, Literal, Parse, ParseBuffer, Span, Token};
+use rl_tokens::{
+    CString, Error, Literal, Parse, ParseBuffer, Span, ToTokens, Token, TokenStream, append_literal,
+};
 use std::alloc::{Allocator, Global};
+use std::fmt;
+use std::hash::{Hash, Hasher};
 use std::marker::Model;
 
 /// A C string literal: `c"text"`, `cr"text"`.
@@ -33,7 +44,11 @@ impl<A: Allocator> Model for LitCStr<A> {
 
 impl<A: Allocator> LitCStr<A> {
     /// The literal that the bytes are written as, with no suffix, at this span, where want of memory is told too.
-    pub fn new<C: Allocator>(alloc: A, value: &CString<C>, span: Span) -> Result<LitCStr<A>, Error<A>>
+    pub fn new<C: Allocator>(
+        alloc: A,
+        value: &CString<C>,
+        span: Span,
+    ) -> Result<LitCStr<A>, Error<A>>
         ensures text { IfOk result (λ l. IsWrittenForm CStr value.now (chars l.text)) }
         ensures span { IfOk result (λ l. l.span ≡ span) }
         ensures memory { IfErr result (λ e. e ≡ memory_at span) }
@@ -98,6 +113,17 @@ impl<A: Allocator> LitCStr<A> {
     {
         Literal::from_text(alloc, self.token.text(), self.token.span())
     }
+
+    /// The literal once more, with its memory from this allocator. Want of memory is told at the span.
+    pub fn clone<B: Allocator>(&self, alloc: B) -> Result<LitCStr<B>, Error<B>>
+        ensures ok { IfOk result (λ l. l ≡ self.now) }
+        ensures memory { IfErr result (λ e. e ≡ memory_at self.now.span) }
+    {
+        Ok(LitCStr {
+            token: self.token.clone(alloc)?,
+            suffix_at: self.suffix_at,
+        })
+    }
 }
 
 /// Takes the C string literal that stands next. It is refused as [`take_kind`] says.
@@ -130,5 +156,55 @@ impl<A: Allocator> Token for LitCStr<A> {
 
     fn display() -> &'static str {
         "C-string literal"
+    }
+}
+
+/// Equal where the texts are; spans are ignored.
+impl<A: Allocator> PartialEq for LitCStr<A> {
+    ghost eq = { on (λ l. l.text) (pointwise ◌==◌) };
+
+    ghost laws = { partial_equiv_from_equiv (on_equiv (λ l. l.text) nat_list_eq_equiv) };
+
+    fn eq(&self, other: &Self) -> bool {
+        self.token.text() == other.token.text()
+    }
+}
+
+impl<A: Allocator> Eq for LitCStr<A> {
+    ghost laws = { on_equiv (λ l. l.text) nat_list_eq_equiv };
+}
+
+/// By the text alone.
+impl<A: Allocator> Hash for LitCStr<A> {
+    ghost hash_input = { λ l. fed.str l.text };
+
+    ghost respects_eq = { Prim.search (hashing, rules) };
+
+    fn hash<H: Hasher>(&self, state: &mut H) {
+        self.token.text().hash(state);
+    }
+}
+
+/// The token's text between the name and braces.
+impl<A: Allocator> fmt::Debug for LitCStr<A> {
+    ghost debug_output = { λ l. Some (codes "LitCStr { token: " ++ l.text ++ codes " }") };
+
+    fn fmt<W: fmt::Write>(&self, f: &mut fmt::Formatter<W>) -> fmt::Result {
+        let text = self.token.text();
+        write!(f, "LitCStr {{ token: {text} }}")
+    }
+}
+
+/// The token as it stands.
+impl<A: Allocator> ToTokens for LitCStr<A> {
+    ghost appends = { λ l. LiteralTree l ∷ [] };
+
+    fn to_tokens<B: Allocator>(&self, alloc: B, tokens: &mut TokenStream<B>) -> Result<(), Error<B>>
+        ensures ok { OnOk result
+            (stream_view tokens.new ≡ stream_view tokens.old ++ LiteralTree self.now ∷ []) }
+        ensures unchanged { OnErr result (stream_view tokens.new ≡ stream_view tokens.old) }
+        ensures memory { IfErr result (λ e. e ≡ memory_at self.now.span) }
+    {
+        append_literal(alloc, &self.token, tokens)
     }
 }

@@ -1,14 +1,25 @@
-ghost use Rattle.std.specs.Prelude.{◌≡◌, IfOk, IfErr, string_bytes};
+ghost use Rattle.std.specs.Prelude.{◌≡◌, IfOk, IfErr, string_bytes, ◌==◌, ◌++◌, ◌∷◌, [], OnOk, OnErr, Some, codes};
+ghost use Rattle.std.specs.Cmp.{partial_equiv_from_equiv, on_equiv};
+ghost use Rattle.std.specs.Cmp.Lexicographic.{pointwise, nat_list_eq_equiv};
+ghost use Rattle.std.specs.Cmp.Rules.{hashing};
+ghost use Rattle.std.specs.Hash as fed;
+ghost use Rattle.std.specs.Ordering.{on};
+ghost use Rattle.std.proofs.Common.{rules};
 ghost use Rattle.std.specs.Str.{chars};
 ghost use Rattle.rl_tokens.specs.declared.kind.Kind.TheVariants.{Str};
 ghost use Rattle.rl_tokens.specs.Errors.{memory_at};
 ghost use Rattle.rl_tokens.specs.Reading.{Characters, HasContents, HasSuffix, ReadsAs};
 ghost use Rattle.rl_tokens.specs.Agreeing.{IsWrittenForm};
+ghost use Rattle.rl_tokens.specs.Trees.{LiteralTree, stream_view};
 
 use crate::place::suffix_place;
 use rl_grammar::{Kind, next_is, str_of, take_kind};
-use rl_tokens::{Error, Literal, Parse, ParseBuffer, Span, Token};
+use rl_tokens::{
+    Error, Literal, Parse, ParseBuffer, Span, ToTokens, Token, TokenStream, append_literal,
+};
 use std::alloc::{Allocator, Global};
+use std::fmt;
+use std::hash::{Hash, Hasher};
 use std::marker::Model;
 
 /// A string literal: `"text"`, `r"text"`.
@@ -95,6 +106,17 @@ impl<A: Allocator> LitStr<A> {
     {
         Literal::from_text(alloc, self.token.text(), self.token.span())
     }
+
+    /// The literal once more, with its memory from this allocator. Want of memory is told at the span.
+    pub fn clone<B: Allocator>(&self, alloc: B) -> Result<LitStr<B>, Error<B>>
+        ensures ok { IfOk result (λ l. l ≡ self.now) }
+        ensures memory { IfErr result (λ e. e ≡ memory_at self.now.span) }
+    {
+        Ok(LitStr {
+            token: self.token.clone(alloc)?,
+            suffix_at: self.suffix_at,
+        })
+    }
 }
 
 /// Takes the string literal that stands next. It is refused as [`take_kind`] says.
@@ -127,5 +149,55 @@ impl<A: Allocator> Token for LitStr<A> {
 
     fn display() -> &'static str {
         "string literal"
+    }
+}
+
+/// Equal where the texts are; spans are ignored.
+impl<A: Allocator> PartialEq for LitStr<A> {
+    ghost eq = { on (λ l. l.text) (pointwise ◌==◌) };
+
+    ghost laws = { partial_equiv_from_equiv (on_equiv (λ l. l.text) nat_list_eq_equiv) };
+
+    fn eq(&self, other: &Self) -> bool {
+        self.token.text() == other.token.text()
+    }
+}
+
+impl<A: Allocator> Eq for LitStr<A> {
+    ghost laws = { on_equiv (λ l. l.text) nat_list_eq_equiv };
+}
+
+/// By the text alone.
+impl<A: Allocator> Hash for LitStr<A> {
+    ghost hash_input = { λ l. fed.str l.text };
+
+    ghost respects_eq = { Prim.search (hashing, rules) };
+
+    fn hash<H: Hasher>(&self, state: &mut H) {
+        self.token.text().hash(state);
+    }
+}
+
+/// The token's text between the name and braces.
+impl<A: Allocator> fmt::Debug for LitStr<A> {
+    ghost debug_output = { λ l. Some (codes "LitStr { token: " ++ l.text ++ codes " }") };
+
+    fn fmt<W: fmt::Write>(&self, f: &mut fmt::Formatter<W>) -> fmt::Result {
+        let text = self.token.text();
+        write!(f, "LitStr {{ token: {text} }}")
+    }
+}
+
+/// The token as it stands.
+impl<A: Allocator> ToTokens for LitStr<A> {
+    ghost appends = { λ l. LiteralTree l ∷ [] };
+
+    fn to_tokens<B: Allocator>(&self, alloc: B, tokens: &mut TokenStream<B>) -> Result<(), Error<B>>
+        ensures ok { OnOk result
+            (stream_view tokens.new ≡ stream_view tokens.old ++ LiteralTree self.now ∷ []) }
+        ensures unchanged { OnErr result (stream_view tokens.new ≡ stream_view tokens.old) }
+        ensures memory { IfErr result (λ e. e ≡ memory_at self.now.span) }
+    {
+        append_literal(alloc, &self.token, tokens)
     }
 }

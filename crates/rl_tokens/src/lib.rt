@@ -2,6 +2,7 @@
 //! the contracts of every crate above cite (`specs/`).
 #![tactic(auto)]
 
+mod appending;
 mod buffer;
 mod c_string;
 mod error;
@@ -23,6 +24,7 @@ mod token;
 pub mod whitespace;
 mod writer;
 
+pub use crate::appending::{append_ident, append_literal};
 pub use crate::buffer::ParseBuffer;
 pub use crate::c_string::{CString, NulError};
 pub use crate::error::{Error, ErrorKind};

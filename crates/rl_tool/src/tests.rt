@@ -8,6 +8,7 @@ use std::test::Fail;
 
 mod calls;
 mod escapes;
+mod inside;
 mod limit;
 mod lists;
 mod numbers;

@@ -2,3 +2,5 @@ pub mod Held
 pub mod Refusals
 pub mod Literals
 pub mod Parsing
+pub mod Base10
+pub mod Copies

@@ -4,6 +4,8 @@ ghost use Rattle.rl_tokens.specs.declared.kind.Kind.TheVariants.{Bool as BoolKin
 ghost use Rattle.rl_tokens.specs.Errors.{memory_at};
 ghost use Rattle.rl_tokens.specs.Reading.{Reads, ReadsAs, Truth};
 
+mod copies;
+
 use crate::lit_bool::LitBool;
 use crate::lit_float::LitFloat;
 use crate::lit_int::LitInt;

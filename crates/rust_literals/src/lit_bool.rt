@@ -2,12 +2,14 @@ ghost use Rattle.std.specs.Prelude.{◌≡◌, IfOk, IfErr};
 ghost use Rattle.rl_tokens.specs.Errors.{memory_at};
 ghost use Rattle.rl_tokens.specs.Reading.{truth_text};
 
+mod copies;
+
 use rl_grammar::{Front, Kind, next_is};
 use rl_tokens::{Error, Ident, Parse, ParseBuffer, Span, Token};
 use std::alloc::Allocator;
 
 /// A truth value: `true` or `false`.
-#[derive(Debug, Drop)]
+#[derive(Drop)]
 pub struct LitBool {
     /// The truth value.
     pub value: bool,
@@ -16,7 +18,7 @@ pub struct LitBool {
 }
 
 /// The word of a truth value.
-fn word(value: bool) -> &'static str
+pub(crate) fn word(value: bool) -> &'static str
     ensures { result.now ≡ truth_text value }
 {
     if value { "true" } else { "false" }

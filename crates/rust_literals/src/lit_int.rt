@@ -7,6 +7,9 @@ ghost use Rattle.rl_grammar.specs.NumberShapes.{IsNumber};
 ghost use Rattle.rust_literals.specs.Held.{IsIntegerUpTo};
 ghost use Rattle.rust_literals.specs.Refusals.{IsRefusedAsInteger};
 
+mod base10;
+mod copies;
+
 use rl_grammar::{Kind, digits_of, int_shape, next_is, take_kind};
 use rl_tokens::text::place_of;
 use rl_tokens::{Error, ErrorKind, Kept, Literal, Parse, ParseBuffer, Span, Token};

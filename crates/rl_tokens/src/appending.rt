@@ -1,0 +1,48 @@
+//! Tokens that are appended to a stream as copies.
+
+ghost use Rattle.std.specs.Prelude.{◌≡◌, ◌++◌, ◌∷◌, [], OnOk, OnErr, IfErr};
+ghost use Rattle.rl_tokens.specs.Errors.{memory_at};
+ghost use Rattle.rl_tokens.specs.Trees.{IdentTree, LiteralTree, stream_view};
+
+use crate::error::Error;
+use crate::ident::Ident;
+use crate::kept::Kept;
+use crate::literal::Literal;
+use crate::token::{TokenStream, TokenTree};
+use std::alloc::Allocator;
+
+/// Puts a copy of the literal token last. Where memory is wanted and refused, the stream stays, and that is told at the
+/// token's span.
+pub fn append_literal<A: Allocator, B: Allocator>(
+    alloc: B,
+    token: &Literal<A>,
+    tokens: &mut TokenStream<B>,
+) -> Result<(), Error<B>>
+    ensures ok { OnOk result
+        (stream_view tokens.new ≡ stream_view tokens.old ++ LiteralTree token.now ∷ []) }
+    ensures unchanged { OnErr result (stream_view tokens.new ≡ stream_view tokens.old) }
+    ensures memory { IfErr result (λ e. e ≡ memory_at token.now.span) }
+{
+    let copy = token.clone(alloc)?;
+    match tokens.append(TokenTree::Literal(copy)) {
+        Ok(()) => Ok(()),
+        Err(Kept { error, .. }) => Err(error),
+    }
+}
+
+/// Puts the identifier last. Where memory is wanted and refused, the stream stays, and that is told at the identifier's
+/// span.
+pub fn append_ident<A: Allocator>(
+    ident: Ident<A>,
+    tokens: &mut TokenStream<A>,
+) -> Result<(), Error<A>>
+    ensures ok { OnOk result
+        (stream_view tokens.new ≡ stream_view tokens.old ++ IdentTree ident ∷ []) }
+    ensures unchanged { OnErr result (stream_view tokens.new ≡ stream_view tokens.old) }
+    ensures memory { IfErr result (λ e. e ≡ memory_at ident.span) }
+{
+    match tokens.append(TokenTree::Ident(ident)) {
+        Ok(()) => Ok(()),
+        Err(Kept { error, .. }) => Err(error),
+    }
+}

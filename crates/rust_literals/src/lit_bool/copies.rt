@@ -1,0 +1,80 @@
+//! Copies of truth values, their equality and hash, and how they are printed.
+
+ghost use Rattle.std.specs.Prelude.{◌≡◌, ◌++◌, ◌∷◌, [], Ok, IfErr, OnOk, OnErr, Some, codes};
+ghost use Rattle.std.specs.Cmp.{partial_equiv_from_equiv, on_equiv, bool_eq_equiv};
+ghost use Rattle.std.specs.Cmp.Rules.{hashing};
+ghost use Rattle.std.specs.Hash as fed;
+ghost use Rattle.std.specs.Ordering.{on};
+ghost use Rattle.std.specs.Bool.{beq};
+ghost use Rattle.std.proofs.Common.{rules};
+ghost use Rattle.rl_tokens.specs.Errors.{memory_at};
+ghost use Rattle.rl_tokens.specs.Reading.{truth_text};
+ghost use Rattle.rl_tokens.specs.Trees.{IdentTree, stream_view};
+
+use crate::lit_bool::{LitBool, word};
+use rl_tokens::{Error, ToTokens, TokenStream, append_ident};
+use std::alloc::Allocator;
+use std::fmt;
+use std::hash::{Hash, Hasher};
+
+impl LitBool {
+    /// The truth value once more. It takes no memory, so this is never refused.
+    pub fn clone<B: Allocator>(&self, _alloc: B) -> Result<LitBool, Error<B>>
+        ensures { result ≡ Ok self.now }
+    {
+        Ok(LitBool {
+            value: self.value,
+            span: self.span,
+        })
+    }
+}
+
+/// Equal where the truth values are; spans are ignored.
+impl PartialEq for LitBool {
+    ghost eq = { on (λ l. l.value) beq };
+
+    ghost laws = { partial_equiv_from_equiv (on_equiv (λ l. l.value) bool_eq_equiv) };
+
+    fn eq(&self, other: &Self) -> bool {
+        self.value == other.value
+    }
+}
+
+impl Eq for LitBool {
+    ghost laws = { on_equiv (λ l. l.value) bool_eq_equiv };
+}
+
+/// By the truth value alone.
+impl Hash for LitBool {
+    ghost hash_input = { λ l. fed.bool l.value };
+
+    ghost respects_eq = { Prim.search (hashing, rules) };
+
+    fn hash<H: Hasher>(&self, state: &mut H) {
+        self.value.hash(state);
+    }
+}
+
+/// The truth value between the name and braces.
+impl fmt::Debug for LitBool {
+    ghost debug_output = { λ l. Some (codes "LitBool { value: " ++ truth_text l.value ++ codes " }") };
+
+    fn fmt<W: fmt::Write>(&self, f: &mut fmt::Formatter<W>) -> fmt::Result {
+        let word = word(self.value);
+        write!(f, "LitBool {{ value: {word} }}")
+    }
+}
+
+/// The word, as an identifier.
+impl ToTokens for LitBool {
+    ghost appends = { λ l. IdentTree (record { text = truth_text l.value; span = l.span }) ∷ [] };
+
+    fn to_tokens<B: Allocator>(&self, alloc: B, tokens: &mut TokenStream<B>) -> Result<(), Error<B>>
+        ensures ok { OnOk result
+            (stream_view tokens.new ≡ stream_view tokens.old ++ IdentTree (record { text = truth_text self.now.value; span = self.now.span }) ∷ []) }
+        ensures unchanged { OnErr result (stream_view tokens.new ≡ stream_view tokens.old) }
+        ensures memory { IfErr result (λ e. e ≡ memory_at self.now.span) }
+    {
+        append_ident(self.token(alloc)?, tokens)
+    }
+}
