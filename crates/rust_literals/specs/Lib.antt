@@ -2,3 +2,4 @@ pub mod Held
 pub mod Refusals
 pub mod Literals
 pub mod Parsing
+pub mod ReadBack
