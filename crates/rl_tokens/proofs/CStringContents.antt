@@ -1,12 +1,12 @@
 -- What a C string stands for holds no zero.
-use Rattle.std.proofs.Common.{◌≡◌, ℕ, ◌+◌, ◌/◌, ◌%◌, ◌<◌, ◌≤◌, ◌&&◌, ◌||◌, Bool, true, false, not, cond, eqb, ltb, List, [], ◌∷◌, ◌++◌, refl, sym, ap, subst, ◌∙◌, ◌⊎◌, inl, inr, arith, append-nil}
+use Rattle.std.proofs.Common.{◌≡◌, ℕ, ◌+◌, ◌/◌, ◌%◌, ◌≤◌, true, false, not, eqb, ltb, List, [], ◌∷◌, ◌++◌, refl, ap, ◌∙◌, inl, inr, arith}
 use Rattle.std.specs.Prelude.{encode_utf8, encode_utf8_all}
-use Rattle.std.specs.List.{list_all, flat_map, AllByRecursion}
+use Rattle.std.specs.List.{list_all, AllByRecursion}
 use Rattle.std.proofs.lemmas.List.Folds.{list_all-append}
-use Rattle.std.proofs.lemmas.Bool.{and_parts, and_from, cases_Bool, not-true, not_from_false, ne_eqb, or_parts, ltb-false}
+use Rattle.std.proofs.lemmas.Bool.{and_parts, and_from, cases_Bool, not-true, not_from_false, ne_eqb, or_parts}
 use Rattle.rl_tokens.specs.declared.kind.Kind.TheVariants.{CStr}
-use Rattle.rl_tokens.specs.Quoted.{QuotedUnit, Plain, CrLf, Named, Hex, Unicode, Continuation, letter_value, unit_value, hex_value, unicode_value, may_hold, has_unicode, is_plain, IsUnit, values, Cooked, Raw, Single}
-use Rattle.rl_tokens.specs.Reading.{Contents, Bytes, Reads, quoted_contents}
+use Rattle.rl_tokens.specs.Quoted.{QuotedUnit, Plain, CrLf, Named, Hex, Unicode, Continuation, letter_value, unit_value, hex_value, unicode_value, may_hold, is_plain, IsUnit, values}
+use Rattle.rl_tokens.specs.Reading.{Bytes, Reads}
 use Rattle.rl_tokens.specs.CStrings.{is_zero, has_no_zero}
 
 more_than_zero : (n k : ℕ) → 1 ≤ k → eqb (k + n) 0 ≡ false

@@ -1,5 +1,5 @@
 -- The tokens among the trees of a text are as they were cut.
-use Rattle.std.proofs.Common.{◌≡◌, ℕ, Bool, true, false, ◌&&◌, List, [], ◌∷◌, ◌++◌, map, inl, inr, refl, sym, ◌∙◌, ap, subst}
+use Rattle.std.proofs.Common.{◌≡◌, ℕ, Bool, true, false, List, [], ◌∷◌, ◌++◌, map, inl, inr, refl, sym, ◌∙◌, ap, subst}
 use Rattle.std.specs.Prelude.{⊤, if◌then◌else◌}
 use Rattle.std.specs.List.{AllByRecursion}
 use Rattle.std.specs.Str.{chars, encode_utf8_all}
@@ -9,8 +9,8 @@ use Rattle.std.proofs.lemmas.Str.{chars-encodes}
 use Rattle.rl_tokens.specs.declared.span.Span.{Span}
 use Rattle.rl_tokens.specs.Tokens.{Token}
 use Rattle.rl_tokens.specs.Trivia.{Skipped}
-use Rattle.rl_tokens.specs.Trees.{Tree, GroupTree, IdentTree, PunctTree, LiteralTree, FlatToken, Opening, Closing, FlatIdent, FlatPunct, FlatLiteral, flat, flat_trees}
-use Rattle.rl_tokens.specs.Lexemes.{Lexeme, lexeme_text, IsLexeme, Form, LiteralForm, IdentifierForm, DelimiterForm, MarkForm, form_of}
+use Rattle.rl_tokens.specs.Trees.{Tree, GroupTree, IdentTree, PunctTree, LiteralTree, FlatToken, Opening, Closing, FlatIdent, FlatLiteral, flat, flat_trees}
+use Rattle.rl_tokens.specs.Lexemes.{lexeme_text, IsLexeme, Form, LiteralForm, IdentifierForm, DelimiterForm, MarkForm, form_of}
 use Rattle.rl_tokens.specs.Lexing.{Cut, end_of, Cuts, is_opener, delimiter_for, flat_form, flat_cut, Lexes}
 use Rattle.rl_tokens.specs.Printed.{IsCutLiteral}
 

@@ -11,7 +11,7 @@ use Rattle.rl_tokens.specs.declared.error.Error.{Error}
 use Rattle.rl_tokens.specs.declared.error.ErrorKind.TheVariants.{Memory}
 use Rattle.rl_tokens.specs.Tokens.{Token}
 use Rattle.rl_tokens.specs.Trivia.{IsTrivia}
-use Rattle.rl_tokens.specs.Reading.{Truth, ReadsAs, truth_text}
+use Rattle.rl_tokens.specs.Reading.{ReadsAs, truth_text}
 use Rattle.rl_tokens.specs.Lexing.{byte_len}
 use Rattle.rl_tokens.specs.Printed.{Item, WordItem, LiteralItem, MinusItem, item_text, Entry, printed_text, token_at, printed_trees, IsRead, IsStrictItem, Printed}
 use Rattle.rl_tokens.proofs.CutTrees.{scalars_parts}

@@ -1,4 +1,4 @@
-use Rattle.std.proofs.Common.{◌≡◌, length, map, sym, ◌∙◌, ap}
+use Rattle.std.proofs.Common.{length, map, ◌∙◌, ap}
 use Rattle.std.specs.Str.{chars}
 use Rattle.rl_tokens.specs.Trees.{tree_view, stream_view}
 use Rattle.rl_tokens.specs.Buffers.{trees_in, scope_of}
