@@ -72,10 +72,10 @@ impl<A: Allocator> Literal<A> {
         ensures ok { IfOk result (λ l. l ≡ record { text = 45 ∷ self.now.text; span = span }) }
         ensures memory { IfErr result (λ e. e ≡ memory_at span) }
     {
-        match text_behind_minus(alloc, self.text()) {
-            Ok(text) => Ok(Literal { text, span }),
-            Err(_) => Err(Error::memory(span)),
-        }
+        let Ok(text) = text_behind_minus(alloc, self.text()) else {
+            return Err(Error::memory(span));
+        };
+        Ok(Literal { text, span })
     }
 
     /// Puts the token elsewhere.

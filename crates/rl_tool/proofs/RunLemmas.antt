@@ -14,10 +14,11 @@ use Rattle.rl_tokens.proofs.OneNumber.{float_once}
 use Rattle.rust_literals.specs.declared.lit.Lit.{Lit}
 use Rattle.rust_literals.specs.declared.lit.Lit.TheVariants.{Str as StrLit, ByteStr as ByteStrLit, CStr as CStrLit, Byte as ByteLit, Char as CharLit, Int as IntLit, Float as FloatLit, Bool as BoolLit, Verbatim}
 use Rattle.rust_literals.specs.Literals.{IsReadFrom}
+use Rattle.rl_tool.specs.declared.command.Command.{Command}
 use Rattle.rl_tool.specs.declared.fault.Fault.{Fault}
 use Rattle.rl_tool.specs.declared.fault.Fault.TheVariants.{Read, Write, NotText, Memory, Literal}
 use Rattle.rl_tool.specs.Streams.{AppendsBeginning}
-use Rattle.rl_tool.specs.Lines.{literal_line, verbatim_line, IsLineOf, PrintsKind, PrintsFloat, PrintsLit}
+use Rattle.rl_tool.specs.Lines.{literal_line, verbatim_line, IsLineOf, Shows, PrintsKind, PrintsFloat, PrintsLit}
 use Rattle.rl_tool.specs.Runs.{Prints, PrintsBeginning, IsRefusalOf, IsFaultOf}
 
 -- the token's characters, where the literal keeps the token
@@ -56,23 +57,23 @@ known P None bytes e p = tt
 known P (Some all) bytes e p = subst P e p
 
 -- a refused input writes nothing
-pub refusal_fault : (input old : Option (List ℕ)) (bytes : List ℕ) (fault : Fault) → IfSome input (λ all. bytes ≡ all) → IsRefusalOf bytes fault → IsFaultOf input old old fault
-refusal_fault input old bytes NotText e r = (Keeps-refl old, known (λ b. IsUtf8 b → ⊥) input bytes e r)
-refusal_fault input old bytes Memory e r = Keeps-refl old
-refusal_fault input old bytes (Literal error) e r = (Keeps-refl old, known (λ b. IsRefusalOf b (Literal error)) input bytes e r)
-refusal_fault input old bytes Read e r = absurd r
-refusal_fault input old bytes Write e r = absurd r
+pub refusal_fault : {A : Type 0} (command : Command) (input old : Option (List ℕ)) (bytes : List ℕ) (fault : Fault A) → IfSome input (λ all. bytes ≡ all) → IsRefusalOf command bytes fault → IsFaultOf command input old old fault
+refusal_fault command input old bytes NotText e r = (Keeps-refl old, known (λ b. IsUtf8 b → ⊥) input bytes e r)
+refusal_fault command input old bytes Memory e r = Keeps-refl old
+refusal_fault command input old bytes (Literal error) e r = (Keeps-refl old, known (λ b. IsRefusalOf command b (Literal error)) input bytes e r)
+refusal_fault command input old bytes Read e r = absurd r
+refusal_fault command input old bytes Write e r = absurd r
 
 -- all of the line was written
-pub prints_known : (input old new : Option (List ℕ)) (bytes line : List ℕ) → IfSome input (λ all. bytes ≡ all) → IsUtf8 bytes → IsLineOf (chars bytes) (chars line) → IsUtf8 line → Appends old new line → IfSome input (λ b. Prints b old new)
-prints_known input old new bytes line e u l w a =
-    known (λ b. Prints b old new) input bytes e (u, (chars line, l, subst (λ z. Appends old new z) (sym (encodes-chars line w)) a))
+pub prints_known : (command : Command) (input old new : Option (List ℕ)) (bytes line : List ℕ) → IfSome input (λ all. bytes ≡ all) → IsUtf8 bytes → Shows command (chars bytes) (chars line) → IsUtf8 line → Appends old new line → IfSome input (λ b. Prints command b old new)
+prints_known command input old new bytes line e u l w a =
+    known (λ b. Prints command b old new) input bytes e (u, (chars line, l, subst (λ z. Appends old new z) (sym (encodes-chars line w)) a))
 
-write_fault : (input old new : Option (List ℕ)) (bytes line : List ℕ) (fault : Fault) → IfSome input (λ all. bytes ≡ all) → IsUtf8 bytes → IsLineOf (chars bytes) (chars line) → IsUtf8 line → fault ≡ Write → AppendsBeginning old new line → IsFaultOf input old new fault
-write_fault input old new bytes line fault e u l w f a =
-    let write : IsFaultOf input old new Write = known (λ b. PrintsBeginning b old new) input bytes e (u, (chars line, l, subst (λ z. AppendsBeginning old new z) (sym (encodes-chars line w)) a)) in
-    subst (IsFaultOf input old new) (sym f) write
+write_fault : {A : Type 0} (command : Command) (input old new : Option (List ℕ)) (bytes line : List ℕ) (fault : Fault A) → IfSome input (λ all. bytes ≡ all) → IsUtf8 bytes → Shows command (chars bytes) (chars line) → IsUtf8 line → fault ≡ Write → AppendsBeginning old new line → IsFaultOf command input old new fault
+write_fault {A = A} command input old new bytes line fault e u l w f a =
+    let write : IsFaultOf {A = A} command input old new Write = known (λ b. PrintsBeginning command b old new) input bytes e (u, (chars line, l, subst (λ z. AppendsBeginning old new z) (sym (encodes-chars line w)) a)) in
+    subst (IsFaultOf command input old new) (sym f) write
 
 -- a beginning of the line was written
-pub begins_known : (input old new : Option (List ℕ)) (bytes line : List ℕ) → IfSome input (λ all. bytes ≡ all) → IsUtf8 bytes → IsLineOf (chars bytes) (chars line) → IsUtf8 line → (fault : Fault) → (fault ≡ Write) × AppendsBeginning old new line → IsFaultOf input old new fault
-begins_known input old new bytes line e u l w fault h = write_fault input old new bytes line fault e u l w h.0 h.1
+pub begins_known : {A : Type 0} (command : Command) (input old new : Option (List ℕ)) (bytes line : List ℕ) → IfSome input (λ all. bytes ≡ all) → IsUtf8 bytes → Shows command (chars bytes) (chars line) → IsUtf8 line → (fault : Fault A) → (fault ≡ Write) × AppendsBeginning old new line → IsFaultOf command input old new fault
+begins_known command input old new bytes line e u l w fault h = write_fault command input old new bytes line fault e u l w h.0 h.1

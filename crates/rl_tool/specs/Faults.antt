@@ -6,15 +6,16 @@ use Rattle.rl_tool.specs.declared.fault.Fault.{Fault}
 use Rattle.rl_tool.specs.declared.fault.Fault.TheVariants.{Read, Write, NotText, Memory, Literal}
 
 -- the line of a fault
-abbrev pub fault_line : Fault → List ℕ
+abbrev pub fault_line : {A : Type 0} → Fault A → List ℕ
 fault_line Read = codes "error: read failed"
 fault_line Write = codes "error: write failed"
 fault_line NotText = codes "error: input is not UTF-8"
 fault_line Memory = codes "error: out of memory"
-fault_line (Literal e) = codes "error at " ++ decimal e.span.lo ++ codes ".." ++ decimal e.span.hi ++ codes ": " ++ message_of e.kind
+fault_line (Literal e) =
+    codes "error at " ++ (decimal e.span.lo ++ (codes ".." ++ (decimal e.span.hi ++ (codes ": " ++ message_of e.kind))))
 
 -- the status of a fault
-abbrev pub status_of : Fault → ℕ
+abbrev pub status_of : {A : Type 0} → Fault A → ℕ
 status_of Read = 2
 status_of Write = 2
 status_of _ = 1

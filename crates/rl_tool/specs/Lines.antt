@@ -4,10 +4,16 @@ use Rattle.rl_tokens.specs.declared.kind.Kind.{Kind}
 use Rattle.rl_tokens.specs.declared.kind.Kind.TheVariants.{Str, ByteStr, CStr, Byte, Char, Int, Float, Bool}
 use Rattle.std.specs.Str.{chars}
 use Rattle.rl_tokens.specs.Texts.{xid_ok}
+use Rattle.rl_tokens.specs.Tokens.{Token}
+use Rattle.rl_tokens.specs.Trees.{Tree}
+use Rattle.rl_tokens.specs.Lexing.{Lexes}
+use Rattle.rl_tokens.specs.Fronts.{IsFront}
 use Rattle.rl_tokens.specs.Numbers.{FloatReads, float_digits}
 use Rattle.rl_tokens.specs.Reading.{Contents, Characters, Bytes, Digits, Truth, truth_text, Reads}
 use Rattle.rl_tokens.specs.Written.{written}
 use Rattle.rl_grammar.specs.NumberShapes.{HasNoReading}
+use Rattle.rl_tool.specs.declared.command.Command.{Command}
+use Rattle.rl_tool.specs.declared.command.Command.TheVariants.{Text, Read}
 use Rattle.rust_literals.specs.declared.lit.Lit.{Lit}
 use Rattle.rust_literals.specs.declared.lit.Lit.TheVariants.{Str as StrLit, ByteStr as ByteStrLit, CStr as CStrLit, Byte as ByteLit, Char as CharLit, Int as IntLit, Float as FloatLit, Bool as BoolLit, Verbatim}
 
@@ -52,6 +58,29 @@ IsLineOf text shown =
     ((kind : Kind) × (contents : Contents) × (suffix : List ℕ) × Reads text kind contents suffix × (shown ≡ literal_line kind contents suffix))
     ⊎ (HasNoReading text × (shown ≡ verbatim_line text))
 
+-- The lines of tokens, one after another: each is that of the token's text.
+abbrev pub AreLinesOf : List Token → List ℕ → Type 0
+AreLinesOf [] shown = shown ≡ []
+AreLinesOf (t ∷ ts) shown = (first rest : List ℕ) × IsLineOf (chars t.text) first × AreLinesOf ts rest × (shown ≡ first ++ rest)
+
+-- Literals begin the trees one after another, as these tokens, up to the trees' end.
+abbrev pub UseUp : List Tree → List Token → Type 0
+UseUp trees [] = trees ≡ []
+UseUp trees (t ∷ ts) = (rest : List Tree) × IsFront trees t rest × UseUp rest ts
+
+-- The text is cut into the trees of literals, and these are their lines.
+pub record AreLinesOfText (text shown : List ℕ) : Type 0 where
+  pub trees : List Tree
+  pub tokens : List Token
+  pub lexes : Lexes text 0 trees
+  pub used : UseUp trees tokens
+  pub lines : AreLinesOf tokens shown
+
+-- what a command prints of a text
+abbrev pub Shows : Command → List ℕ → List ℕ → Type 0
+Shows Text text shown = IsLineOf text shown
+Shows Read text shown = AreLinesOfText text shown
+
 -- ---- a literal that is printed behind what was printed before
 
 -- the line of a text's reading of the kind
@@ -75,3 +104,8 @@ PrintsLit (IntLit l) old new = PrintsKind Int (chars l.text) old new
 PrintsLit (FloatLit l) old new = PrintsFloat (chars l.text) old new
 PrintsLit (BoolLit l) old new = new ≡ old ++ literal_line Bool (Truth l.value) []
 PrintsLit (Verbatim l) old new = new ≡ old ++ verbatim_line (chars l.text)
+
+-- the lines of literals, one after another
+abbrev pub PrintsList : {A : Type 0} → List (Lit A) → List ℕ → List ℕ → Type 0
+PrintsList [] old new = new ≡ old
+PrintsList (l ∷ ls) old new = (between : List ℕ) × PrintsLit l old between × PrintsList ls between new

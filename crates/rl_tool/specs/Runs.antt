@@ -2,35 +2,44 @@
 use Rattle.std.specs.Prelude.{◌≡◌, ℕ, List, length, Option, IfSome, ⊤, encode_utf8_all}
 use Rattle.std.specs.Str.{chars, IsUtf8}
 use Rattle.std.specs.Io.KnownBytes.{Appends, Keeps}
+use Rattle.rl_tokens.specs.declared.error.Error.{Error}
 use Rattle.rl_tokens.specs.Errors.{memory_at}
 use Rattle.rust_literals.specs.Literals.{ReadsAsNumber}
+use Rattle.rust_literals.specs.Parsing.{RefusesText}
+use Rattle.rl_tool.specs.declared.command.Command.{Command}
+use Rattle.rl_tool.specs.declared.command.Command.TheVariants.{Text, Read as ReadCommand}
 use Rattle.rl_tool.specs.declared.fault.Fault.{Fault}
 use Rattle.rl_tool.specs.declared.fault.Fault.TheVariants.{Read, Write, NotText, Memory, Literal}
-use Rattle.rl_tool.specs.Lines.{IsLineOf}
+use Rattle.rl_tool.specs.Lines.{Shows}
 use Rattle.rl_tool.specs.Streams.{AppendsBeginning}
 
--- the bytes are a text, and its line is what was written
-abbrev pub Prints : List ℕ → Option (List ℕ) → Option (List ℕ) → Type 0
-Prints bytes old new = IsUtf8 bytes × ((line : List ℕ) × IsLineOf (chars bytes) line × Appends old new (encode_utf8_all line))
+-- the bytes are a text, and its lines are what was written
+abbrev pub Prints : Command → List ℕ → Option (List ℕ) → Option (List ℕ) → Type 0
+Prints command bytes old new = IsUtf8 bytes × ((lines : List ℕ) × Shows command (chars bytes) lines × Appends old new (encode_utf8_all lines))
 
--- the bytes are a text, and a beginning of its line is what was written
-abbrev pub PrintsBeginning : List ℕ → Option (List ℕ) → Option (List ℕ) → Type 0
-PrintsBeginning bytes old new = IsUtf8 bytes × ((line : List ℕ) × IsLineOf (chars bytes) line × AppendsBeginning old new (encode_utf8_all line))
+-- the bytes are a text, and a beginning of its lines is what was written
+abbrev pub PrintsBeginning : Command → List ℕ → Option (List ℕ) → Option (List ℕ) → Type 0
+PrintsBeginning command bytes old new =
+    IsUtf8 bytes × ((lines : List ℕ) × Shows command (chars bytes) lines × AppendsBeginning old new (encode_utf8_all lines))
 
--- why the whole input was refused: it is no text, or memory was refused, for a number's digits or elsewhere
-abbrev pub IsRefusalOf : List ℕ → Fault → Type 0
-IsRefusalOf bytes NotText = IsUtf8 bytes → ⊥
-IsRefusalOf bytes (Literal error) =
-    IsUtf8 bytes × (error ≡ memory_at (record { file = 0; lo = 0; hi = length bytes })) × ReadsAsNumber (chars bytes)
-IsRefusalOf bytes Memory = ⊤
-IsRefusalOf bytes Read = ⊥
-IsRefusalOf bytes Write = ⊥
+-- what the call that reads the literals refuses of a text: want of memory for a number's digits, or as `read_all` does
+abbrev pub RefusesLiterals : {A : Type 0} → Command → List ℕ → Error A → Type 0
+RefusesLiterals Text bytes error = (error ≡ memory_at (record { file = 0; lo = 0; hi = length bytes })) × ReadsAsNumber (chars bytes)
+RefusesLiterals ReadCommand bytes error = RefusesText (chars bytes) 0 (length bytes) error
+
+-- why the whole input was refused: it is no text, its literals were refused, or memory was, elsewhere
+abbrev pub IsRefusalOf : {A : Type 0} → Command → List ℕ → Fault A → Type 0
+IsRefusalOf command bytes NotText = IsUtf8 bytes → ⊥
+IsRefusalOf command bytes (Literal error) = IsUtf8 bytes × RefusesLiterals command bytes error
+IsRefusalOf command bytes Memory = ⊤
+IsRefusalOf command bytes Read = ⊥
+IsRefusalOf command bytes Write = ⊥
 
 -- why a run failed, and what it wrote: nothing, but where a write failed
-abbrev pub IsFaultOf : Option (List ℕ) → Option (List ℕ) → Option (List ℕ) → Fault → Type 0
-IsFaultOf input old new Read = Keeps old new
-IsFaultOf input old new Write = IfSome input (λ bytes. PrintsBeginning bytes old new)
-IsFaultOf input old new NotText = Keeps old new × IfSome input (λ bytes. IsUtf8 bytes → ⊥)
-IsFaultOf input old new Memory = Keeps old new
-IsFaultOf input old new (Literal error) =
-    Keeps old new × IfSome input (λ bytes. IsRefusalOf bytes (Literal error))
+abbrev pub IsFaultOf : {A : Type 0} → Command → Option (List ℕ) → Option (List ℕ) → Option (List ℕ) → Fault A → Type 0
+IsFaultOf command input old new Read = Keeps old new
+IsFaultOf command input old new Write = IfSome input (λ bytes. PrintsBeginning command bytes old new)
+IsFaultOf command input old new NotText = Keeps old new × IfSome input (λ bytes. IsUtf8 bytes → ⊥)
+IsFaultOf command input old new Memory = Keeps old new
+IsFaultOf command input old new (Literal error) =
+    Keeps old new × IfSome input (λ bytes. IsRefusalOf command bytes (Literal error))

@@ -3,18 +3,23 @@
 pub enum Command {
     /// Reads the whole input as one literal.
     Text,
+    /// Reads the input as literals, with white space and comments between them.
+    Read,
 }
 
 impl Command {
-    ghost use Rattle.std.specs.Prelude.{◌≡◌, ◌≢◌, IfSome, IfNone, codes};
+    ghost use Rattle.std.specs.Prelude.{◌≡◌, ◌≢◌, IfSome, IfNone};
+    ghost use Rattle.rl_tool.specs.declared.command.Command.{Command};
+    ghost use Rattle.rl_tool.specs.Commands.{name_of};
 
     /// The command of this name.
     pub fn from_name(name: &str) -> Option<Command>
-        ensures known { IfSome result (λ _. name.now ≡ codes "text") }
-        ensures unknown { IfNone result (name.now ≢ codes "text") }
+        ensures known { IfSome result (λ command. name.now ≡ name_of command) }
+        ensures unknown { IfNone result ((command : Command) → name.now ≢ name_of command) }
     {
         match name {
             "text" => Some(Command::Text),
+            "read" => Some(Command::Read),
             _ => None,
         }
     }

@@ -2,11 +2,13 @@ ghost use Rattle.std.specs.Prelude.{◌≡◌, Some};
 ghost use Rattle.rl_tool.specs.Faults.{fault_line, status_of};
 
 use rl_tokens::Error;
+use std::alloc::{Allocator, Global};
 use std::fmt;
 
 /// Why a run ended without printing.
-#[derive(Debug, Drop)]
-pub enum Fault {
+#[derive(Drop)]
+#[derive_where(Debug)]
+pub enum Fault<A: Allocator = Global> {
     /// A call of the reader failed, or its turns brought no end.
     Read,
     /// A call of the writer failed, or took no byte.
@@ -16,10 +18,10 @@ pub enum Fault {
     /// Memory was wanted outside a literal, and refused.
     Memory,
     /// A literal was refused.
-    Literal(Error),
+    Literal(Error<A>),
 }
 
-impl Fault {
+impl<A: Allocator> Fault<A> {
     /// The status that the program ends with: 2 where reading or writing failed, else 1.
     pub fn status(&self) -> u8
         ensures { result ≡ status_of self.now }
@@ -32,7 +34,7 @@ impl Fault {
 }
 
 /// The line that the program tells the fault by, with the places of a refused literal in bytes.
-impl fmt::Display for Fault {
+impl<A: Allocator> fmt::Display for Fault<A> {
     ghost output = { λ fault. Some (fault_line fault) };
 
     fn fmt<W: fmt::Write>(&self, f: &mut fmt::Formatter<W>) -> fmt::Result {

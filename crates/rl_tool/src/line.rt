@@ -13,7 +13,7 @@ use rl_tokens::ident::xid_ok;
 use std::alloc::Allocator;
 
 /// Writes a piece at the end.
-fn push<A: Allocator>(out: &mut String<A>, piece: &str) -> Result<(), Fault>
+fn push<A: Allocator>(out: &mut String<A>, piece: &str) -> Result<(), Fault<A>>
     ensures piece { OnOk result
         (chars (string_bytes out.new) ≡ chars (string_bytes out.old) ++ chars piece.now) }
     ensures fault { IfErr result (λ fault. fault ≡ Memory) }
@@ -25,7 +25,7 @@ fn push<A: Allocator>(out: &mut String<A>, piece: &str) -> Result<(), Fault>
 }
 
 /// Writes a text as a string literal.
-fn push_quoted<A: Allocator + Copy>(alloc: A, out: &mut String<A>, text: &str) -> Result<(), Fault>
+fn push_quoted<A: Allocator + Copy>(alloc: A, out: &mut String<A>, text: &str) -> Result<(), Fault<A>>
     ensures quoted { OnOk result
         (chars (string_bytes out.new) ≡ chars (string_bytes out.old) ++ written Str (chars text.now)) }
     ensures fault { IfErr result (λ fault. fault ≡ Memory) }
@@ -41,7 +41,7 @@ fn push_suffix<A: Allocator + Copy>(
     alloc: A,
     out: &mut String<A>,
     suffix: &str,
-) -> Result<(), Fault>
+) -> Result<(), Fault<A>>
     ensures suffix { OnOk result
         (chars (string_bytes out.new) ≡ chars (string_bytes out.old) ++ suffix_word (chars suffix.now)) }
     ensures fault { IfErr result (λ fault. fault ≡ Memory) }
@@ -62,7 +62,7 @@ pub fn push_line<A: Allocator + Copy>(
     word: &str,
     shown: &str,
     suffix: &str,
-) -> Result<(), Fault>
+) -> Result<(), Fault<A>>
     ensures line { OnOk result (chars (string_bytes out.new)
         ≡ chars (string_bytes out.old) ++ line (chars word.now) (chars shown.now) (chars suffix.now)) }
     ensures fault { IfErr result (λ fault. fault ≡ Memory) }

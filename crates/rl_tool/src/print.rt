@@ -38,7 +38,7 @@ fn push_kind<A: Allocator + Copy>(
     kind: Kind,
     shown: &str,
     suffix: &str,
-) -> Result<(), Fault>
+) -> Result<(), Fault<A>>
     ensures line { OnOk result (chars (string_bytes out.new)
         ≡ chars (string_bytes out.old) ++ line (kind_word kind) (chars shown.now) (chars suffix.now)) }
     ensures fault { IfErr result (λ fault. fault ≡ Memory) }
@@ -51,7 +51,7 @@ fn push_string<A: Allocator + Copy>(
     alloc: A,
     out: &mut String<A>,
     literal: &LitStr<A>,
-) -> Result<(), Fault>
+) -> Result<(), Fault<A>>
     ensures line { OnOk result (PrintsKind Str (chars literal.now.text)
         (chars (string_bytes out.old)) (chars (string_bytes out.new))) }
     ensures fault { IfErr result (λ fault. fault ≡ Memory) }
@@ -70,7 +70,7 @@ fn push_byte_string<A: Allocator + Copy>(
     alloc: A,
     out: &mut String<A>,
     literal: &LitByteStr<A>,
-) -> Result<(), Fault>
+) -> Result<(), Fault<A>>
     ensures line { OnOk result (PrintsKind ByteStr (chars literal.now.text)
         (chars (string_bytes out.old)) (chars (string_bytes out.new))) }
     ensures fault { IfErr result (λ fault. fault ≡ Memory) }
@@ -89,7 +89,7 @@ fn push_c_string<A: Allocator + Copy>(
     alloc: A,
     out: &mut String<A>,
     literal: &LitCStr<A>,
-) -> Result<(), Fault>
+) -> Result<(), Fault<A>>
     ensures line { OnOk result (PrintsKind CStr (chars literal.now.text)
         (chars (string_bytes out.old)) (chars (string_bytes out.new))) }
     ensures fault { IfErr result (λ fault. fault ≡ Memory) }
@@ -108,7 +108,7 @@ fn push_byte<A: Allocator + Copy>(
     alloc: A,
     out: &mut String<A>,
     literal: &LitByte<A>,
-) -> Result<(), Fault>
+) -> Result<(), Fault<A>>
     ensures line { OnOk result (PrintsKind Byte (chars literal.now.text)
         (chars (string_bytes out.old)) (chars (string_bytes out.new))) }
     ensures fault { IfErr result (λ fault. fault ≡ Memory) }
@@ -124,7 +124,7 @@ fn push_character<A: Allocator + Copy>(
     alloc: A,
     out: &mut String<A>,
     literal: &LitChar<A>,
-) -> Result<(), Fault>
+) -> Result<(), Fault<A>>
     ensures line { OnOk result (PrintsKind Char (chars literal.now.text)
         (chars (string_bytes out.old)) (chars (string_bytes out.new))) }
     ensures fault { IfErr result (λ fault. fault ≡ Memory) }
@@ -140,7 +140,7 @@ fn push_integer<A: Allocator + Copy>(
     alloc: A,
     out: &mut String<A>,
     literal: &LitInt<A>,
-) -> Result<(), Fault>
+) -> Result<(), Fault<A>>
     ensures line { OnOk result (PrintsKind Int (chars literal.now.text)
         (chars (string_bytes out.old)) (chars (string_bytes out.new))) }
     ensures fault { IfErr result (λ fault. fault ≡ Memory) }
@@ -159,7 +159,7 @@ fn push_float<A: Allocator + Copy>(
     alloc: A,
     out: &mut String<A>,
     literal: &LitFloat<A>,
-) -> Result<(), Fault>
+) -> Result<(), Fault<A>>
     ensures line { OnOk result (PrintsFloat (chars literal.now.text)
         (chars (string_bytes out.old)) (chars (string_bytes out.new))) }
     ensures fault { IfErr result (λ fault. fault ≡ Memory) }
@@ -185,7 +185,7 @@ fn push_truth<A: Allocator + Copy>(
     alloc: A,
     out: &mut String<A>,
     literal: &LitBool,
-) -> Result<(), Fault>
+) -> Result<(), Fault<A>>
     ensures line { OnOk result (chars (string_bytes out.new)
         ≡ chars (string_bytes out.old) ++ literal_line Bool (Truth literal.now.value) []) }
     ensures fault { IfErr result (λ fault. fault ≡ Memory) }
@@ -198,7 +198,7 @@ fn push_verbatim<A: Allocator + Copy>(
     alloc: A,
     out: &mut String<A>,
     token: &Literal<A>,
-) -> Result<(), Fault>
+) -> Result<(), Fault<A>>
     ensures line { OnOk result (chars (string_bytes out.new)
         ≡ chars (string_bytes out.old) ++ verbatim_line (chars token.now.text)) }
     ensures fault { IfErr result (λ fault. fault ≡ Memory) }
@@ -214,7 +214,7 @@ pub fn push_literal<A: Allocator + Copy>(
     alloc: A,
     out: &mut String<A>,
     literal: &Lit<A>,
-) -> Result<(), Fault>
+) -> Result<(), Fault<A>>
     ensures line { OnOk result
         (PrintsLit literal.now (chars (string_bytes out.old)) (chars (string_bytes out.new))) }
     ensures fault { IfErr result (λ fault. fault ≡ Memory) }

@@ -2,7 +2,9 @@
 
 ghost use Rattle.std.specs.Prelude.{◌≡◌, IfErr, IfOk, IfSome, OnOk, string_bytes};
 ghost use Rattle.std.specs.Str.{chars, IsUtf8};
-ghost use Rattle.rl_tool.specs.Lines.{IsLineOf};
+ghost use Rattle.rl_tool.specs.declared.command.Command.TheVariants.{Text, Read};
+ghost use Rattle.rl_tool.specs.declared.fault.Fault.TheVariants.{NotText, Memory};
+ghost use Rattle.rl_tool.specs.Lines.{Shows, PrintsList};
 ghost use Rattle.rl_tool.specs.Runs.{Prints, IsFaultOf, IsRefusalOf};
 
 use crate::command::Command;
@@ -10,15 +12,15 @@ use crate::fault::Fault;
 use crate::print::push_literal;
 use crate::streams::{read_whole, write_whole};
 use rl_tokens::{Literal, Span};
-use rust_literals::Lit;
+use rust_literals::{Lit, read_all};
 use std::alloc::Allocator;
 use std::io::{Read, Write};
 
 /// The text of the bytes.
-fn text_of(bytes: &[u8]) -> Result<&str, Fault>
+fn text_of<A: Allocator>(bytes: &[u8]) -> Result<&str, Fault<A>>
     ensures text { IfOk result (λ text. text.now ≡ bytes.now) }
     ensures utf8 { OnOk result (IsUtf8 bytes.now) }
-    ensures refusal { IfErr result (IsRefusalOf bytes.now) }
+    ensures refusal { IfErr result (λ fault. (fault ≡ NotText) × (IsUtf8 bytes.now → ⊥)) }
 {
     match std::str::from_utf8(bytes) {
         Ok(text) => Ok(text),
@@ -27,9 +29,9 @@ fn text_of(bytes: &[u8]) -> Result<&str, Fault>
 }
 
 /// The line of the whole text as one literal.
-fn literal_line<A: Allocator + Copy>(alloc: A, text: &str) -> Result<String<A>, Fault>
-    ensures line { IfOk result (λ line. IsLineOf (chars text.now) (chars (string_bytes line))) }
-    ensures refusal { IfErr result (IsRefusalOf text.now) }
+fn literal_line<A: Allocator + Copy>(alloc: A, text: &str) -> Result<String<A>, Fault<A>>
+    ensures line { IfOk result (λ line. Shows Text (chars text.now) (chars (string_bytes line))) }
+    ensures refusal { IfErr result (IsRefusalOf Text text.now) }
 {
     let span = Span::new(0, 0, text.len());
     let Ok(token) = Literal::from_text(alloc, text, span) else {
@@ -44,19 +46,51 @@ fn literal_line<A: Allocator + Copy>(alloc: A, text: &str) -> Result<String<A>, 
     Ok(line)
 }
 
+/// Writes the lines of the literals at the end.
+fn push_literals<A: Allocator + Copy>(
+    alloc: A,
+    out: &mut String<A>,
+    literals: &[Lit<A>],
+) -> Result<(), Fault<A>>
+    ensures lines { OnOk result
+        (PrintsList literals.now (chars (string_bytes out.old)) (chars (string_bytes out.new))) }
+    ensures fault { IfErr result (λ fault. fault ≡ Memory) }
+{
+    for literal in literals {
+        push_literal(alloc, out, literal)?;
+    }
+    Ok(())
+}
+
+/// The lines of the text's literals.
+fn literal_lines<A: Allocator + Copy>(alloc: A, text: &str) -> Result<String<A>, Fault<A>>
+    ensures lines { IfOk result (λ lines. Shows Read (chars text.now) (chars (string_bytes lines))) }
+    ensures refusal { IfErr result (IsRefusalOf Read text.now) }
+{
+    let literals = match read_all(alloc, text, 0) {
+        Ok(literals) => literals,
+        Err(error) => return Err(Fault::Literal(error)),
+    };
+    let mut lines = String::new(alloc);
+    push_literals(alloc, &mut lines, literals.as_slice())?;
+    Ok(lines)
+}
+
 /// All lines of the input.
 fn lines_of<A: Allocator + Copy>(
     alloc: A,
     command: Command,
     bytes: &[u8],
-) -> Result<String<A>, Fault>
+) -> Result<String<A>, Fault<A>>
     ensures utf8 { OnOk result (IsUtf8 bytes.now) }
-    ensures line { IfOk result (λ line. IsLineOf (chars bytes.now) (chars (string_bytes line))) }
-    ensures refusal { IfErr result (IsRefusalOf bytes.now) }
+    ensures lines { IfOk result
+        (λ lines. Shows command (chars bytes.now) (chars (string_bytes lines))) }
+    ensures refusal { IfErr result (IsRefusalOf command bytes.now) }
 {
     let text = text_of(bytes)?;
     match command {
         Command::Text => literal_line(alloc, text),
+        Command::Read => literal_lines(alloc, text),
     }
 }
 
@@ -64,18 +98,18 @@ fn lines_of<A: Allocator + Copy>(
 ///
 /// All lines are made before the first is written, so a refusal writes nothing; a write that fails leaves a beginning
 /// of the lines' bytes written. `NotText` comes exactly where the input was read whole and isn't UTF-8. `Literal` has the
-/// refusal of `Lit::new`, and `Memory` is told of every other growth that was refused. `Read` and `Write` come where a
+/// refusal of `Lit::new` or `read_all`, and `Memory` is told of every other growth that was refused. `Read` and `Write` come where a
 /// call of the reader or the writer failed, or where 4,294,967,295 turns of reading brought no end.
 pub fn run<A: Allocator + Copy, R: Read, W: Write>(
     alloc: A,
     command: Command,
     input: &mut R,
     out: &mut W,
-) -> Result<(), Fault>
+) -> Result<(), Fault<A>>
     ensures printed { OnOk result (IfSome (R.remaining input.old)
-        (λ bytes. Prints bytes (W.contents out.old) (W.contents out.new))) }
+        (λ bytes. Prints command bytes (W.contents out.old) (W.contents out.new))) }
     ensures fault { IfErr result
-        (IsFaultOf (R.remaining input.old) (W.contents out.old) (W.contents out.new)) }
+        (IsFaultOf command (R.remaining input.old) (W.contents out.old) (W.contents out.new)) }
 {
     let bytes = read_whole(alloc, input)?;
     let lines = match lines_of(alloc, command, bytes.as_slice()) {

@@ -3,6 +3,7 @@
 ghost use Rattle.std.specs.Prelude.{◌≡◌, ◌⊎◌, OnOk, IfOk, IfErr, IfSome};
 ghost use Rattle.std.specs.Io.KnownBytes.{Appends};
 ghost use Rattle.rl_tool.specs.Streams.{AppendsBeginning};
+ghost use Rattle.rl_tool.specs.declared.fault.Fault.TheVariants.{Read, Write, Memory};
 
 use crate::fault::Fault;
 use std::alloc::Allocator;
@@ -12,9 +13,9 @@ use std::io::{Read, Write};
 const TURN: usize = 8192;
 
 /// All bytes of the input, read in at most 4,294,967,295 turns. An error of any kind counts as a failed call.
-pub fn read_whole<A: Allocator, R: Read>(alloc: A, input: &mut R) -> Result<Vec<u8, A>, Fault>
+pub fn read_whole<A: Allocator, R: Read>(alloc: A, input: &mut R) -> Result<Vec<u8, A>, Fault<A>>
     ensures bytes { IfOk result (λ bytes. IfSome (R.remaining input.old) (λ all. bytes.items ≡ all)) }
-    ensures faults { IfErr result (λ fault. (fault ≡ Fault.Read) ⊎ (fault ≡ Fault.Memory)) }
+    ensures faults { IfErr result (λ fault. (fault ≡ Read) ⊎ (fault ≡ Memory)) }
 {
     let mut bytes = Vec::new(alloc);
     let mut turn = [0_u8; TURN];
@@ -33,9 +34,9 @@ pub fn read_whole<A: Allocator, R: Read>(alloc: A, input: &mut R) -> Result<Vec<
 }
 
 /// Writes all bytes. A write that takes none counts as failed.
-pub fn write_whole<W: Write>(out: &mut W, bytes: &[u8]) -> Result<(), Fault>
+pub fn write_whole<A: Allocator, W: Write>(out: &mut W, bytes: &[u8]) -> Result<(), Fault<A>>
     ensures all { OnOk result (Appends (W.contents out.old) (W.contents out.new) bytes.now) }
-    ensures beginning { IfErr result (λ fault. (fault ≡ Fault.Write)
+    ensures beginning { IfErr result (λ fault. (fault ≡ Write)
         × AppendsBeginning (W.contents out.old) (W.contents out.new) bytes.now) }
 {
     let mut rest = bytes;
