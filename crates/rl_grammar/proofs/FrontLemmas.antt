@@ -8,7 +8,7 @@ use Rattle.rl_tokens.specs.Tokens.{Token}
 use Rattle.rl_tokens.specs.Puncts.{Mark}
 use Rattle.rl_tokens.specs.Trees.{Tree, GroupTree, IdentTree, PunctTree, LiteralTree}
 use Rattle.rl_tokens.specs.Reading.{Contents, Truth, Reads, ReadsAs, truth_text}
-use Rattle.rl_tokens.specs.Buffers.{begins_literal, IsRest}
+use Rattle.rl_tokens.specs.Buffers.{begins_literal}
 use Rattle.rl_tokens.specs.Fronts.{joined, HasReading, IsFront, HasNoFront, IsFrontOf, HasFrontOf}
 use Rattle.rl_tokens.proofs.OneReading.{one_reading}
 use Rattle.rl_grammar.proofs.MinusLemmas.{no_truth}
@@ -46,16 +46,6 @@ one_kind t k l (v, x, r) (w, y, s) = (one_reading t k l v w x y r s).0
 pub same_front : (k : Kind) (trees : List Tree) (token : Token) (rest : List Tree) → IsFront trees token rest → HasFrontOf k trees → ReadsAs k (chars token.text)
 same_front k trees token rest h (other, left, of) =
     subst (λ (x : Token). ReadsAs k (chars x.text)) ((one_front trees other token left rest of.front h).0) of.reads
-
--- trees behind one tree, behind two, and behind none
-pub rest_one : (before left : List Tree) (t : Tree) → before ≡ t ∷ left → IsRest before left
-rest_one before left t e = record { taken = t ∷ []; are = e }
-
-pub rest_two : (before left : List Tree) (t u : Tree) → before ≡ t ∷ (u ∷ left) → IsRest before left
-rest_two before left t u e = record { taken = t ∷ (u ∷ []); are = e }
-
-pub rest_none : (before left : List Tree) → left ≡ before → IsRest before left
-rest_none before left e = record { taken = []; are = sym e }
 
 -- a word that is a truth value reads as it
 pub truth_reads : (t : List ℕ) (b : Bool) → t ≡ truth_text b → ReadsAs BoolKind t

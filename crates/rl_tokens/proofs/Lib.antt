@@ -41,3 +41,4 @@ pub mod StrictQuotedLexemes
 pub mod StrictNumberLexemes
 pub mod PrintedLaws
 pub mod PrintedAnswers
+pub mod TreeRests

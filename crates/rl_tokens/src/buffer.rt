@@ -40,6 +40,7 @@ impl<'a, A: Allocator> ParseBuffer<'a, A> {
       begins_punct,
       begins_group,
       IsRefusal,
+      IsRest,
     };
 
     /// The buffer of these trees.
@@ -91,6 +92,7 @@ impl<'a, A: Allocator> ParseBuffer<'a, A> {
             (λ x. trees_in self.old ≡ LiteralTree x.now ∷ trees_in self.new) }
         ensures left { IfNone result (trees_in self.new ≡ trees_in self.old) }
         ensures other { IfNone result (IsFalse (begins_literal (trees_in self.old))) }
+        ensures rest { IsRest (trees_in self.old) (trees_in self.new) }
         ensures scope { scope_of self.new ≡ scope_of self.old }
     {
         let (first, rest) = self.trees.split_first()?;
@@ -109,6 +111,7 @@ impl<'a, A: Allocator> ParseBuffer<'a, A> {
             (λ x. trees_in self.old ≡ IdentTree x.now ∷ trees_in self.new) }
         ensures left { IfNone result (trees_in self.new ≡ trees_in self.old) }
         ensures other { IfNone result (IsFalse (begins_ident (trees_in self.old))) }
+        ensures rest { IsRest (trees_in self.old) (trees_in self.new) }
         ensures scope { scope_of self.new ≡ scope_of self.old }
     {
         let (first, rest) = self.trees.split_first()?;
@@ -127,6 +130,7 @@ impl<'a, A: Allocator> ParseBuffer<'a, A> {
             (λ x. trees_in self.old ≡ PunctTree x.now ∷ trees_in self.new) }
         ensures left { IfNone result (trees_in self.new ≡ trees_in self.old) }
         ensures other { IfNone result (IsFalse (begins_punct (trees_in self.old))) }
+        ensures rest { IsRest (trees_in self.old) (trees_in self.new) }
         ensures scope { scope_of self.new ≡ scope_of self.old }
     {
         let (first, rest) = self.trees.split_first()?;
@@ -145,6 +149,7 @@ impl<'a, A: Allocator> ParseBuffer<'a, A> {
             (λ x. trees_in self.old ≡ GroupTree (delimiter_of x.now) (inside_of (stream_view (stream_of x.now))) (group_span x.now) ∷ trees_in self.new) }
         ensures left { IfNone result (trees_in self.new ≡ trees_in self.old) }
         ensures other { IfNone result (IsFalse (begins_group (trees_in self.old))) }
+        ensures rest { IsRest (trees_in self.old) (trees_in self.new) }
         ensures scope { scope_of self.new ≡ scope_of self.old }
     {
         let (first, rest) = self.trees.split_first()?;

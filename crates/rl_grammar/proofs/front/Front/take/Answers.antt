@@ -1,5 +1,5 @@
 use Rattle.std.proofs.Common.{sym, ◌∙◌}
-use Rattle.rl_grammar.proofs.FrontLemmas.{rest_one, rest_two}
+use Rattle.rl_tokens.proofs.TreeRests.{rest_one, rest_two}
 use Rattle.rl_grammar.proofs.front.Front.take.Goals as goal
 
 pub returns-in-Some-clause-rest : goal.returns-in-Some-clause-rest

@@ -1,4 +1,4 @@
-use Rattle.rl_grammar.proofs.FrontLemmas.{rest_none}
+use Rattle.rl_tokens.proofs.TreeRests.{rest_none}
 use Rattle.rust_literals.proofs.lit_float.LitFloatParse.parse.Goals as goal
 
 pub returns-clause-rest : goal.returns-clause-rest

@@ -1,0 +1,10 @@
+use Rattle.std.proofs.Common.{rules}
+use Rattle.rl_tokens.specs.Trees.{tree_view}
+use Rattle.rl_tokens.proofs.TreeRests.{rest_one, rest_self}
+use Rattle.rl_tokens.proofs.buffer.ParseBuffer.literal.Goals as goal
+
+pub returns-in-Literal-clause-rest : goal.returns-in-Literal-clause-rest
+returns-in-Literal-clause-rest g c = rest_one _ _ (tree_view c.in_ok-first.first.now) (search rules)
+
+pub returns-in_default-clause-rest : goal.returns-in_default-clause-rest
+returns-in_default-clause-rest g c = rest_self _
