@@ -66,7 +66,7 @@ impl<A: Allocator> fmt::Display for ErrorKind<A> {
             ErrorKind::Expected(word) => write!(f, "expected {word}"),
             ErrorKind::EndOfInput(word) => write!(f, "unexpected end of input, expected {word}"),
             ErrorKind::Unexpected => write!(f, "unexpected token"),
-            ErrorKind::Lex(kind) => write!(f, "{kind}"),
+            ErrorKind::Lex(fault) => write!(f, "{fault}"),
             ErrorKind::Suffix(suffix) => write!(f, "unexpected suffix `{suffix}` on string literal"),
             ErrorKind::NotInteger => write!(f, "not an integer literal"),
             ErrorKind::TooLarge => write!(f, "integer literal past 128 bits"),

@@ -147,7 +147,7 @@ impl<A: Allocator> Group<A> {
             ≡ map (respanned span) (stream_view (stream_of self.old)) }
         ensures span { group_span self.new ≡ span }
     {
-        self.span = span;
+        self.set_span(span);
         self.stream.respan(span);
     }
 }

@@ -9,7 +9,9 @@ use std::test::Fail;
 mod calls;
 mod escapes;
 mod limit;
+mod lists;
 mod numbers;
+mod parsers;
 mod program;
 mod quoted;
 

@@ -7,7 +7,8 @@ use std::test::Fail;
 #[test]
 fn commands(rt: HostRuntime) {
     assert_eq!(&rt; Command::from_name("text"), Some(Command::Text));
-    for name in ["read", "", "Text", "text ", "attr"] {
+    assert_eq!(&rt; Command::from_name("read"), Some(Command::Read));
+    for name in ["", "Text", "text ", "Read", "attr"] {
         assert_eq!(&rt; Command::from_name(name), None, "of {name:?}");
     }
 }
@@ -33,7 +34,7 @@ fn inputs_that_are_no_text(rt: HostRuntime) -> Result<(), Fail> {
 fn faults(rt: HostRuntime) -> Result<(), Fail> {
     let span = Span::new(0, 2, 5);
     let kind = ErrorKind::TooLarge;
-    for (fault, line, status) in [
+    let faults: [(Fault, &str, u8); 5] = [
         (Fault::Read, "error: read failed", 2),
         (Fault::Write, "error: write failed", 2),
         (Fault::NotText, "error: input is not UTF-8", 1),
@@ -43,7 +44,8 @@ fn faults(rt: HostRuntime) -> Result<(), Fail> {
             "error at 2..5: integer literal past 128 bits",
             1,
         ),
-    ] {
+    ];
+    for (fault, line, status) in faults {
         assert_eq!(&rt; fault.status(), status);
         assert_eq!(&rt; format!(in rt.alloc(); "{fault}")?.as_str(), line);
     }
