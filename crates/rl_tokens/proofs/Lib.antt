@@ -29,6 +29,7 @@ pub mod CutLemmas
 pub mod LexLoop
 pub mod LexEnds
 pub mod FlatTrees
+pub mod CutTrees
 pub mod CutLaws
 pub mod FaultLaws
 pub mod LexLaws

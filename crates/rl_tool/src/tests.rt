@@ -15,6 +15,7 @@ mod numbers;
 mod parsers;
 mod program;
 mod quoted;
+mod read_back;
 
 /// What a run prints of the text as one literal.
 fn line_of(alloc: Global, text: &str) -> Result<String, Fail> {

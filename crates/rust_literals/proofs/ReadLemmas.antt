@@ -1,5 +1,5 @@
 -- What a text is read as, from the lexer's answer and what its trees are read as.
-use Rattle.std.proofs.Common.{◌≡◌, ◌≢◌, ◌⊎◌, inl, inr, ℕ, ◌<◌, List, [], ◌∷◌, ◌++◌, length, refl, sym, ◌∙◌, ap, subst}
+use Rattle.std.proofs.Common.{◌≡◌, ◌⊎◌, inl, inr, ℕ, List, [], sym, ◌∙◌, ap, subst}
 use Rattle.std.specs.Prelude.{Result, Ok, Err, IfOk, IfErr, Vec}
 use Rattle.rl_tokens.specs.declared.span.Span.{Span}
 use Rattle.rl_tokens.specs.declared.error.Error.{Error}
@@ -7,7 +7,7 @@ use Rattle.rl_tokens.specs.declared.error.ErrorKind.TheVariants.{Memory as Memor
 use Rattle.rl_tokens.specs.declared.lex_error.LexKind.{LexKind}
 use Rattle.rl_tokens.specs.declared.lex_error.LexKind.TheVariants.{DocComment, UnclosedComment, UnclosedQuote, Lifetime, RawIdentifier, StrayCharacter, UnmatchedClose, UnclosedGroup, TooDeep, Memory}
 use Rattle.rl_tokens.specs.Trees.{Tree}
-use Rattle.rl_tokens.specs.Lexing.{Lexes, Fault, Refuses, OneList, NeverBoth}
+use Rattle.rl_tokens.specs.Lexing.{Lexes, Refuses, OneList, NeverBoth}
 use Rattle.rust_literals.specs.declared.lit.Lit.{Lit}
 use Rattle.rust_literals.specs.Parsing.{Leads, Stops, RunsShort, AreRead, RefusesText, IsOrMemory, lex_refusal}
 use Rattle.rust_literals.proofs.LeadsLemmas.{one_list_of, never_stops}

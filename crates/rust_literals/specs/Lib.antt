@@ -4,3 +4,4 @@ pub mod Literals
 pub mod Parsing
 pub mod Base10
 pub mod Copies
+pub mod ReadBack

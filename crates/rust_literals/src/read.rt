@@ -1,10 +1,12 @@
 //! The literals of a text.
 
-ghost use Rattle.std.specs.Prelude.{◌≡◌, ◌⊎◌, List, [], length, IfOk, IfErr};
+ghost use Rattle.std.specs.Prelude.{◌≡◌, ◌⊎◌, ℕ, List, [], length, IfOk, IfErr};
 ghost use Rattle.std.specs.Str.{chars};
 ghost use Rattle.rl_tokens.specs.Buffers.{trees_in, scope_of};
+ghost use Rattle.rl_tokens.specs.Printed.{Entry, Printed};
 ghost use Rattle.rust_literals.specs.declared.lit.Lit.{Lit};
 ghost use Rattle.rust_literals.specs.Parsing.{Leads, Stops, RunsShort, AreRead, RefusesText, IsOrMemory, lex_refusal};
+ghost use Rattle.rust_literals.specs.ReadBack.{HoldsOrMemory, AreItems, Spaced, lits_of, Again, AreMoved};
 
 use crate::lit::Lit;
 use rl_tokens::{Error, ErrorKind, LexError, LexKind, ParseBuffer, Span, lex};
@@ -62,6 +64,12 @@ pub fn read_all<A: Allocator + Copy>(
     // What a text reads as is the answer, or memory was refused.
     ensures exactly { (list : List (Lit A)) → AreRead (chars text.now) file list
         → IsOrMemory list result }
+    // A print of strict literals reads as its items, each at its range, or memory was refused.
+    ensures printed { (entries : List Entry) (last : List ℕ) → Printed (chars text.now) entries last
+        → HoldsOrMemory (AreItems file 0 entries) result }
+    // The texts of literals that were read once, strict or not, read as the same, whatever trivia stands between them.
+    ensures again { (spaced : List (Spaced A)) (last : List ℕ) → Again (chars text.now) spaced last
+        → HoldsOrMemory (AreMoved (lits_of spaced)) result }
 {
     let stream = match lex(alloc, text, file) {
         Ok(stream) => stream,

@@ -1,8 +1,10 @@
-use Rattle.std.proofs.Common.{◌≡◌, length, map, sym, ◌∙◌, ap}
+use Rattle.std.proofs.Common.{length, map, ◌∙◌, ap}
 use Rattle.std.specs.Str.{chars}
 use Rattle.rl_tokens.specs.Trees.{tree_view, stream_view}
 use Rattle.rl_tokens.specs.Buffers.{trees_in, scope_of}
 use Rattle.rust_literals.proofs.ReadLemmas.{lex_refuses, lex_memory, text_read, text_refused, text_exactly}
+use Rattle.rust_literals.proofs.PrintedLemmas.{printed_read, printed_refusal}
+use Rattle.rust_literals.proofs.AgainLemmas.{again_read, again_refusal}
 use Rattle.rust_literals.proofs.read.read_all.Goals as goal
 
 pub returns-in-Err-clause-refused : goal.returns-in-Err-clause-refused
@@ -23,3 +25,15 @@ returns-clause-refused g c =
 pub returns-clause-exactly : goal.returns-clause-exactly
 returns-clause-exactly g c =
     text_exactly (chars c.args.text.now) c.args.file (trees_in c.new.result) (stream_view c.in-Ok.stream) (scope_of c.new.result) c.read_trees.result c.lex.ensures.one_list c.in-Ok.ensures.trees (c.new.ensures.trees ∙ ap (map tree_view) c.trees.ensures) c.read_trees.ensures.read c.read_trees.ensures.refused
+
+pub returns-in-Err-clause-printed : goal.returns-in-Err-clause-printed
+returns-in-Err-clause-printed g c = printed_refusal c.args.text.now c.args.file c.refusal_of.result c.utf8.text (returns-in-Err-clause-exactly g c)
+
+pub returns-clause-printed : goal.returns-clause-printed
+returns-clause-printed g c = printed_read c.args.text.now c.args.file c.read_trees.result c.utf8.text (returns-clause-exactly g c)
+
+pub returns-in-Err-clause-again : goal.returns-in-Err-clause-again
+returns-in-Err-clause-again g c = again_refusal c.args.text.now c.args.file c.refusal_of.result (returns-in-Err-clause-exactly g c)
+
+pub returns-clause-again : goal.returns-clause-again
+returns-clause-again g c = again_read c.args.text.now c.args.file c.read_trees.result (returns-clause-exactly g c)

@@ -1,5 +1,5 @@
 use Rattle.std.proofs.Common.{rules, ◌≡◌, ◌∷◌, [], ◌++◌, sym, ◌∙◌, subst}
-use Rattle.rl_tokens.specs.Buffers.{trees_in, scope_of}
+use Rattle.rl_tokens.specs.Buffers.{trees_in}
 use Rattle.rust_literals.specs.Parsing.{Leads}
 use Rattle.rust_literals.proofs.LeadsLemmas.{lit_shorter, leads_step}
 use Rattle.rust_literals.proofs.read.read_trees.Goals as goal

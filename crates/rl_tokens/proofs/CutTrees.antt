@@ -1,0 +1,91 @@
+-- The tokens among the trees of a text are as they were cut.
+use Rattle.std.proofs.Common.{◌≡◌, ℕ, Bool, true, false, List, [], ◌∷◌, ◌++◌, map, inl, inr, refl, sym, ◌∙◌, ap, subst}
+use Rattle.std.specs.Prelude.{⊤, if◌then◌else◌}
+use Rattle.std.specs.List.{AllByRecursion}
+use Rattle.std.specs.Str.{chars, encode_utf8_all}
+use Rattle.std.proofs.Math.Utf8.{scalar, scalars}
+use Rattle.std.proofs.lemmas.Bool.{and_parts, and_from}
+use Rattle.std.proofs.lemmas.Str.{chars-encodes}
+use Rattle.rl_tokens.specs.declared.span.Span.{Span}
+use Rattle.rl_tokens.specs.Tokens.{Token}
+use Rattle.rl_tokens.specs.Trivia.{Skipped}
+use Rattle.rl_tokens.specs.Trees.{Tree, GroupTree, IdentTree, PunctTree, LiteralTree, FlatToken, Opening, Closing, FlatIdent, FlatLiteral, flat, flat_trees}
+use Rattle.rl_tokens.specs.Lexemes.{lexeme_text, IsLexeme, Form, LiteralForm, IdentifierForm, DelimiterForm, MarkForm, form_of}
+use Rattle.rl_tokens.specs.Lexing.{Cut, end_of, Cuts, is_opener, delimiter_for, flat_form, flat_cut, Lexes}
+use Rattle.rl_tokens.specs.Printed.{IsCutLiteral}
+
+-- The parts of a text are characters too.
+pub scalars_parts : (a b : List ℕ) → scalars (a ++ b) ≡ true → (scalars a ≡ true) × (scalars b ≡ true)
+scalars_parts [] b h = (refl, h)
+scalars_parts (c ∷ a) b h =
+    let first = and_parts (scalar c) (scalars (a ++ b)) h in
+    let more = scalars_parts a b first.1 in
+    (and_from (scalar c) (scalars a) first.0 more.0, more.1)
+
+-- The token's bytes are those of the text, and its characters are the text.
+pub record IsTokenOf (text : List ℕ) (token : Token) : Type 0 where
+  pub bytes : token.text ≡ encode_utf8_all text
+  pub characters : chars token.text ≡ text
+
+-- a literal's token has the text of a literal that was cut, an identifier's some text
+abbrev pub IsCutToken : Token → Type 0
+IsCutToken token = (text : List ℕ) × IsCutLiteral text × IsTokenOf text token
+
+abbrev pub IsCutIdent : Token → Type 0
+IsCutIdent token = (text : List ℕ) × IsTokenOf text token
+
+abbrev pub IsCutTree : Tree → Type 0
+IsCutTree (LiteralTree token) = IsCutToken token
+IsCutTree (IdentTree token) = IsCutIdent token
+IsCutTree _ = ⊤
+
+abbrev IsCutFlat : FlatToken → Type 0
+IsCutFlat (FlatLiteral token) = IsCutToken token
+IsCutFlat (FlatIdent token) = IsCutIdent token
+IsCutFlat _ = ⊤
+
+flat_is_cut : (file : ℕ) (w : Cut) (after : List ℕ) → IsLexeme w.lexeme after → scalars (lexeme_text w.lexeme) ≡ true → IsCutFlat (flat_cut file w)
+flat_is_cut file w after is scalar = go (form_of w.lexeme) refl
+  where
+    bytes : List ℕ
+    bytes = encode_utf8_all (lexeme_text w.lexeme)
+
+    span : Span
+    span = record { file = file; lo = w.at; hi = end_of w }
+
+    delimiter : (b : Bool) (c : ℕ) → IsCutFlat (if b then Opening (delimiter_for c) span else Closing (delimiter_for c) span)
+    delimiter true c = tt
+    delimiter false c = tt
+
+    go : (f : Form) → form_of w.lexeme ≡ f → IsCutFlat (flat_form f bytes span)
+    go LiteralForm form = (lexeme_text w.lexeme, (w.lexeme, after, is, form, refl), record { bytes = refl; characters = chars-encodes (lexeme_text w.lexeme) scalar })
+    go IdentifierForm form = (lexeme_text w.lexeme, record { bytes = refl; characters = chars-encodes (lexeme_text w.lexeme) scalar })
+    go (DelimiterForm c) form = delimiter (is_opener c) c
+    go (MarkForm c) form = tt
+
+-- what follows trivia is a part of the text
+skipped_scalars : (t r : List ℕ) → Skipped t r → scalars t ≡ true → scalars r ≡ true
+skipped_scalars t r (inl s) h = (scalars_parts s.front r (ap scalars (sym s.text) ∙ h)).1
+skipped_scalars t r (inr s) h = ap scalars s.nothing
+
+cuts_are_cut : (file at : ℕ) (t : List ℕ) (ws : List Cut) (r : List ℕ) → Cuts at t ws r → scalars t ≡ true → AllByRecursion IsCutFlat (map (flat_cut file) ws)
+cuts_are_cut file at t [] r cut h = tt
+cuts_are_cut file at t (w ∷ ws) r (after, skipped, is, place, more) h =
+    let both = scalars_parts (lexeme_text w.lexeme) after (skipped_scalars t (lexeme_text w.lexeme ++ after) skipped h) in
+    (flat_is_cut file w after is both.0, cuts_are_cut file (end_of w) after ws r more both.1)
+
+all_behind : (P : FlatToken → Type 0) (xs ys : List FlatToken) → AllByRecursion P (xs ++ ys) → AllByRecursion P ys
+all_behind P [] ys h = h
+all_behind P (x ∷ xs) ys (p, h) = all_behind P xs ys h
+
+trees_are_cut : (trees : List Tree) → AllByRecursion IsCutFlat (flat_trees trees) → AllByRecursion IsCutTree trees
+trees_are_cut [] h = tt
+trees_are_cut (LiteralTree l ∷ trees) (p, h) = (p, trees_are_cut trees h)
+trees_are_cut (IdentTree i ∷ trees) (p, h) = (p, trees_are_cut trees h)
+trees_are_cut (PunctTree m ∷ trees) (p, h) = (tt, trees_are_cut trees h)
+trees_are_cut (GroupTree d inside span ∷ trees) h = (tt, trees_are_cut trees (all_behind IsCutFlat (flat (GroupTree d inside span)) (flat_trees trees) h))
+
+-- Of the trees of a text, each literal has the text of one that was cut.
+pub lexed_trees : (t : List ℕ) (file : ℕ) (trees : List Tree) → scalars t ≡ true → Lexes t file trees → AllByRecursion IsCutTree trees
+lexed_trees t file trees h lexes =
+    trees_are_cut trees (subst (λ (fs : List FlatToken). AllByRecursion IsCutFlat fs) lexes.flat_is (cuts_are_cut file 0 t lexes.cuts [] lexes.are_cuts h))

@@ -1,0 +1,100 @@
+-- A print of strict literals is read as the readings of its items.
+use Rattle.std.proofs.Common.{◌≡◌, ℕ, ◌+◌, true, List, [], ◌∷◌, ◌++◌, Some, refl, sym, ◌∙◌, ap, subst}
+use Rattle.std.specs.Prelude.{Result, Ok, Err, Vec}
+use Rattle.std.specs.List.{AllByRecursion}
+use Rattle.std.specs.Str.{chars, encode_utf8_all, IsUtf8}
+use Rattle.std.proofs.Math.Utf8.{scalars}
+use Rattle.std.proofs.lemmas.Str.{chars-encodes, scalars-chars}
+use Rattle.rl_tokens.specs.declared.kind.Kind.{Kind}
+use Rattle.rl_tokens.specs.declared.kind.Kind.TheVariants.{Str as StrKind, ByteStr as ByteStrKind, CStr as CStrKind, Byte as ByteKind, Char as CharKind, Int as IntKind, Float as FloatKind, Bool as BoolKind}
+use Rattle.rl_tokens.specs.declared.error.Error.{Error}
+use Rattle.rl_tokens.specs.declared.error.ErrorKind.TheVariants.{Memory}
+use Rattle.rl_tokens.specs.Tokens.{Token}
+use Rattle.rl_tokens.specs.Trivia.{IsTrivia}
+use Rattle.rl_tokens.specs.Reading.{ReadsAs, truth_text}
+use Rattle.rl_tokens.specs.Lexing.{byte_len}
+use Rattle.rl_tokens.specs.Printed.{Item, WordItem, LiteralItem, MinusItem, item_text, Entry, printed_text, token_at, printed_trees, IsRead, IsStrictItem, Printed}
+use Rattle.rl_tokens.proofs.CutTrees.{scalars_parts}
+use Rattle.rl_tokens.proofs.PrintedLaws.{printed_lexes}
+use Rattle.rl_grammar.proofs.FrontLemmas.{truth_reads}
+use Rattle.rust_literals.specs.declared.lit.Lit.{Lit}
+use Rattle.rust_literals.specs.declared.lit.Lit.TheVariants.{Str, ByteStr, CStr, Byte, Char, Int, Float, Bool}
+use Rattle.rust_literals.specs.Literals.{IsReadFrom}
+use Rattle.rust_literals.specs.Parsing.{AreRead, IsOrMemory}
+use Rattle.rust_literals.specs.ReadBack.{HoldsOrMemory, kind_of, IsItemRead, AreItems}
+use Rattle.rust_literals.proofs.ItemFronts.{IsFrontItem, AreReadAt, items_lead}
+
+-- A token whose text reads has a literal, of the kind that it reads as.
+abbrev ReadLit : Type 0 → Token → Kind → Type 0
+ReadLit A token kind = (lit : Lit A) × IsReadFrom token lit × (kind_of lit ≡ Some kind)
+
+read_lit : (A : Type 0) (token : Token) (kind : Kind) → ReadsAs kind (chars token.text) → ReadLit A token kind
+read_lit A token StrKind r = (Str token, (refl, r), refl)
+read_lit A token ByteStrKind r = (ByteStr token, (refl, r), refl)
+read_lit A token CStrKind r = (CStr token, (refl, r), refl)
+read_lit A token ByteKind r = (Byte token, (refl, r), refl)
+read_lit A token CharKind r = (Char token, (refl, r), refl)
+read_lit A token IntKind r = (Int token, (refl, r), refl)
+read_lit A token FloatKind r = (Float token, (refl, r), refl)
+read_lit A token BoolKind (v, x, r) =
+    (Bool (record { value = r.truth; span = token.span }), (refl, record { truth = r.truth; text_is = r.text_is; suffix_is = refl; contents_is = refl }), refl)
+
+-- A strict item reads, behind a minus too.
+item_reads : (item : Item) → IsStrictItem item → IsRead (item_text item)
+item_reads (WordItem truth) is = (BoolKind, truth_reads (truth_text truth) truth refl)
+item_reads (LiteralItem text) (kind, other, strict, reads) = reads
+item_reads (MinusItem text) (kind, number, strict, reads) = reads
+
+front_item : (item : Item) → IsStrictItem item → scalars (item_text item) ≡ true → IsFrontItem item
+front_item (WordItem truth) is h = tt
+front_item (LiteralItem text) is h = tt
+front_item (MinusItem text) (kind, number, strict, reads) h = (reads, chars-encodes text (scalars_parts (45 ∷ []) text h).1)
+
+abbrev ItemLit : Type 0 → (file at : ℕ) → Item → Type 0
+ItemLit A file at item = (lit : Lit A) × IsItemRead file at item lit
+
+item_lit : (A : Type 0) (file at : ℕ) (item : Item) → IsStrictItem item → scalars (item_text item) ≡ true → ItemLit A file at item
+item_lit A file at item is h =
+    let same : chars (encode_utf8_all (item_text item)) ≡ item_text item = chars-encodes (item_text item) h in
+    let (kind, reads) = item_reads item is in
+    let (lit, read, kind_is) = read_lit A (token_at file at (item_text item)) kind (subst (λ (x : List ℕ). ReadsAs kind x) (sym same) reads) in
+    (lit, record { read = read; characters = same; kind = (kind, kind_is, reads) })
+
+-- all items in turn
+abbrev ItemLits : Type 0 → (file at : ℕ) → List Entry → Type 0
+ItemLits A file at entries = (lits : List (Lit A)) × AreItems file at entries lits × AllByRecursion (λ (e : Entry). IsFrontItem e.item) entries
+
+item_lits : (A : Type 0) (file at : ℕ) (entries : List Entry) (last : List ℕ) → AllByRecursion (λ (e : Entry). IsTrivia e.gap × IsStrictItem e.item) entries → scalars (printed_text entries last) ≡ true → ItemLits A file at entries
+item_lits A file at [] last each h = ([], refl, tt)
+item_lits A file at (e ∷ es) last ((gap, is), each) h =
+    let behind_gap = (scalars_parts e.gap (item_text e.item ++ printed_text es last) h).1 in
+    let both = scalars_parts (item_text e.item) (printed_text es last) behind_gap in
+    let n = at + byte_len e.gap in
+    let (lit, read) = item_lit A file n e.item is both.0 in
+    let (lits, are, fronts) = item_lits A file (n + byte_len (item_text e.item)) es last each both.1 in
+    (lit ∷ lits, (read, are), (front_item e.item is both.0, fronts))
+
+items_read_at : {A : Type 0} (file at : ℕ) (entries : List Entry) (lits : List (Lit A)) → AreItems file at entries lits → AreReadAt file at entries lits
+items_read_at file at [] lits are = are
+items_read_at file at (e ∷ es) [] are = are
+items_read_at file at (e ∷ es) (l ∷ ls) (read, are) = (read.read, items_read_at file (at + byte_len e.gap + byte_len (item_text e.item)) es ls are)
+
+-- A list of literals holds, and is the answer or memory was refused.
+pub holds_exactly : {A B : Type 0} (holds : List (Lit A) → Type 0) (list : List (Lit A)) (r : Result (Vec (Lit A) B) (Error A)) → holds list → IsOrMemory list r → HoldsOrMemory holds r
+holds_exactly holds list (Ok found) h same = subst holds (sym same) h
+holds_exactly holds list (Err e) h same = same
+
+-- The answer to a print.
+pub printed_read : {A B : Type 0} (text : List ℕ) (file : ℕ) (r : Result (Vec (Lit A) B) (Error A)) → IsUtf8 text → ((list : List (Lit A)) → AreRead (chars text) file list → IsOrMemory list r) → (entries : List Entry) (last : List ℕ) → Printed (chars text) entries last → HoldsOrMemory (AreItems file 0 entries) r
+printed_read {A} text file r utf8 exactly entries last printed =
+    let (lits, are, fronts) = item_lits A file 0 entries last printed.items (ap scalars (sym printed.text) ∙ scalars-chars text utf8) in
+    let read : AreRead (chars text) file lits = record {
+      trees = printed_trees file 0 entries;
+      lexes = printed_lexes (chars text) entries last file printed;
+      leads = items_lead file 0 entries lits fronts (items_read_at file 0 entries lits are);
+    } in
+    holds_exactly (AreItems file 0 entries) lits r are (exactly lits read)
+
+-- A refusal, as the answer to a print.
+pub printed_refusal : {A : Type 0} (text : List ℕ) (file : ℕ) (e : Error A) → IsUtf8 text → ((list : List (Lit A)) → AreRead (chars text) file list → e.kind ≡ Memory) → (entries : List Entry) (last : List ℕ) → Printed (chars text) entries last → e.kind ≡ Memory
+printed_refusal {A} text file e = printed_read {A = A} {B = A} text file (Err e)
