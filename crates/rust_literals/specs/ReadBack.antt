@@ -33,8 +33,8 @@ kind_of (Float l) = Some FloatKind
 kind_of (Bool l) = Some BoolKind
 kind_of (Verbatim l) = None
 
--- The literal is the reading of the item that begins at this byte: it has the item's text and range, the characters
--- that its text is in are the item's, and it is of the kind that these read as.
+-- The literal is the reading of the item that begins at this byte: it has the item's text and range, its bytes spell the
+-- characters of the item, and it is of the kind that these read as.
 pub record IsItemRead {A : Type 0} (file at : ℕ) (item : Item) (lit : Lit A) : Type 0 where
   pub read : IsReadFrom (token_at file at (item_text item)) lit
   pub characters : chars (encode_utf8_all (item_text item)) ≡ item_text item
