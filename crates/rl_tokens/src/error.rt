@@ -67,7 +67,10 @@ impl<A: Allocator> fmt::Display for ErrorKind<A> {
             ErrorKind::EndOfInput(word) => write!(f, "unexpected end of input, expected {word}"),
             ErrorKind::Unexpected => write!(f, "unexpected token"),
             ErrorKind::Lex(fault) => write!(f, "{fault}"),
-            ErrorKind::Suffix(suffix) => write!(f, "unexpected suffix `{suffix}` on string literal"),
+            ErrorKind::Suffix(suffix) => write!(
+                f,
+                "unexpected suffix `{suffix}` on string literal"
+            ),
             ErrorKind::NotInteger => write!(f, "not an integer literal"),
             ErrorKind::TooLarge => write!(f, "integer literal past 128 bits"),
             ErrorKind::NotFloat => write!(f, "not a float literal"),

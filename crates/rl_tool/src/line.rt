@@ -25,7 +25,11 @@ fn push<A: Allocator>(out: &mut String<A>, piece: &str) -> Result<(), Fault<A>>
 }
 
 /// Writes a text as a string literal.
-fn push_quoted<A: Allocator + Copy>(alloc: A, out: &mut String<A>, text: &str) -> Result<(), Fault<A>>
+fn push_quoted<A: Allocator + Copy>(
+    alloc: A,
+    out: &mut String<A>,
+    text: &str,
+) -> Result<(), Fault<A>>
     ensures quoted { OnOk result
         (chars (string_bytes out.new) ≡ chars (string_bytes out.old) ++ written Str (chars text.now)) }
     ensures fault { IfErr result (λ fault. fault ≡ Memory) }

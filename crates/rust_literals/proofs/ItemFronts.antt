@@ -69,8 +69,7 @@ items_lead file at [] (l ∷ ls) fronts are = absurd (cc)
 items_lead file at (e ∷ es) [] fronts are = absurd are
 items_lead file at (e ∷ es) (l ∷ ls) (front, fronts) (read, are) =
     let n = at + byte_len e.gap in
-    let rest = printed_trees file (n + byte_len (item_text e.item)) es in
-    (
+    let rest = printed_trees file (n + byte_len (item_text e.item)) es in (
       rest,
       record { token = token_at file n (item_text e.item); front = item_front file n e.item rest front; read = read },
       items_lead file (n + byte_len (item_text e.item)) es ls fronts are,

@@ -21,16 +21,17 @@ fn parsed<T: Parse<Global> + Drop>(alloc: Global, text: &str) -> Result<String, 
         Ok(_) => Ok(format!(in alloc; "ok, next {}..{}", next.lo, next.hi)?),
         Err(error) => Ok(format!(in alloc;
             "{}..{} {error}, next {}..{}",
-            error.span.lo,
-            error.span.hi,
-            next.lo,
-            next.hi
+            error.span.lo, error.span.hi, next.lo, next.hi
         )?),
     }
 }
 
 /// Compares what a parser does on each text of a table with what stands beside it.
-fn parses<T: Parse<Global> + Drop>(rt: &impl Abort, alloc: Global, table: &str) -> Result<(), Fail> {
+fn parses<T: Parse<Global> + Drop>(
+    rt: &impl Abort,
+    alloc: Global,
+    table: &str,
+) -> Result<(), Fail> {
     for row in table.split('␞') {
         if let Some((text, wanted)) = row.split_once('␟') {
             let done = parsed::<T>(alloc, text)?;
@@ -207,11 +208,20 @@ fn buffers(rt: HostRuntime) -> Result<(), Fail> {
     assert!(&rt; input.literal().is_none() && input.group().is_none());
     assert_eq!(&rt; input.ident().map(|ident: &Ident| ident.text()), Some("a"));
     let fork = input.fork();
-    assert_eq!(&rt; input.literal().map(|token: &Literal| token.text()), Some("1"));
+    assert_eq!(&rt;
+        input.literal().map(|token: &Literal| token.text()),
+        Some("1")
+    );
     assert_eq!(&rt; (fork.span(), fork.rest().len()), (Span::new(0, 2, 3), 3));
-    assert_eq!(&rt; input.group().map(|group| group.stream().trees().len()), Some(1));
+    assert_eq!(&rt;
+        input.group().map(|group| group.stream().trees().len()),
+        Some(1)
+    );
     assert!(&rt; input.ident().is_none() && input.punct().is_some());
-    assert_eq!(&rt; (input.is_empty(), input.span()), (true, Span::new(0, 9, 9)));
+    assert_eq!(&rt;
+        (input.is_empty(), input.span()),
+        (true, Span::new(0, 9, 9))
+    );
     Ok(())
 }
 

@@ -76,13 +76,7 @@ const TIGHT: [&str; 14] = [
 ];
 
 /// Compares what both texts read as, the gap between them, with what each reads as by itself.
-fn pair(
-    rt: &impl Abort,
-    alloc: Global,
-    first: &str,
-    gap: &str,
-    second: &str,
-) -> Result<(), Fail> {
+fn pair(rt: &impl Abort, alloc: Global, first: &str, gap: &str, second: &str) -> Result<(), Fail> {
     let mut whole = String::from_str(alloc, first)?;
     whole.push_str(gap)?;
     let at = whole.len();

@@ -8,6 +8,7 @@ use Rattle.rl_grammar.proofs.front.next_is.Goals as goal
 pub returns-in-Some : goal.returns-in-Some
 returns-in-Some g c =
     let f : IsFront (trees_in c.args.input.now) (token_of c.in-Some.front) (trees_in c.take.new.input) =
-    subst (λ ts. IsFront ts (token_of c.in-Some.front) (trees_in c.take.new.input)) c.fork-ahead.ensures.trees c.in-Some.ensures.taken in
-    ( (λ h. (token_of c.in-Some.front, trees_in c.take.new.input, record { front = f; reads = c.is_of.ensures.0 h })),
-      (λ h. c.is_of.ensures.1 (same_front c.args.kind (trees_in c.args.input.now) (token_of c.in-Some.front) (trees_in c.take.new.input) f h)) )
+    subst (λ ts. IsFront ts (token_of c.in-Some.front) (trees_in c.take.new.input)) c.fork-ahead.ensures.trees c.in-Some.ensures.taken in (
+      (λ h. (token_of c.in-Some.front, trees_in c.take.new.input, record { front = f; reads = c.is_of.ensures.0 h })),
+      (λ h. c.is_of.ensures.1 (same_front c.args.kind (trees_in c.args.input.now) (token_of c.in-Some.front) (trees_in c.take.new.input) f h)),
+    )
