@@ -1,12 +1,17 @@
 //! Literals as lines: kind, contents as they are written, and suffix.
 
+ghost use Rattle.std.specs.Prelude.{◌≡◌};
+ghost use Rattle.rl_bulk.specs.Words.{word_of};
+
 use rl_tokens::ident::xid_ok;
 use rl_tokens::{Error, Literal};
 use rust_literals::Lit;
 use std::alloc::{AllocError, Global};
 
 /// A kind's word.
-fn word(literal: &Lit) -> &'static str {
+fn word(literal: &Lit) -> &'static str
+    ensures { result.now ≡ word_of literal.now }
+{
     match literal {
         Lit::Str(_) => "Str",
         Lit::ByteStr(_) => "ByteStr",
