@@ -11,6 +11,7 @@ use Rattle.rl_tokens.specs.declared.kind.Kind.{Kind}
 use Rattle.rl_tokens.specs.declared.kind.Kind.TheVariants.{Str, ByteStr, CStr, Byte as ByteKind, Char, Int, Float, Bool as BoolKind}
 use Rattle.rl_tokens.specs.Quoted.{QuotedUnit, Letter, Plain, CrLf, Named, Hex, Unicode, Continuation, LowerN, LowerR, LowerT, Backslash, Apostrophe, Quote, Zero, letter_value, unit_text, unit_value, hex_value, unicode_value, held, holds_characters, is_string, is_single, is_plain, has_unicode, IsUnit, texts, values, opener, raw_opener, Cooked, Raw}
 use Rattle.rl_tokens.specs.Reading.{Contents, Characters, quoted_contents, ReadsQuoted}
+use Rattle.rl_tokens.proofs.CutTrees.{scalars_parts}
 use Rattle.rl_grammar.specs.declared.quoted.Form.{Form}
 use Rattle.rl_grammar.specs.declared.quoted.Form.TheVariants.{Raw as RawForm}
 use Rattle.rl_grammar.specs.declared.units.Piece.{Piece}
@@ -107,13 +108,6 @@ ok_decodes items (Ok v) t form kind w body y not_raw p d = cooked_bytes t form k
 ok_decodes items (Err a) t form kind w body y not_raw p d = tt
 
 -- ---- the characters of a string
-
-scalars_parts : (a b : List ℕ) → scalars (a ++ b) ≡ true → (scalars a ≡ true) × (scalars b ≡ true)
-scalars_parts [] b h = (refl, h)
-scalars_parts (c ∷ a) b h =
-    let first = and_parts (scalar c) (scalars (a ++ b)) h in
-    let more = scalars_parts a b first.1 in
-    (and_from (scalar c) (scalars a) first.0 more.0, more.1)
 
 scalars_join : (a b : List ℕ) → scalars a ≡ true → scalars b ≡ true → scalars (a ++ b) ≡ true
 scalars_join [] b h k = k
