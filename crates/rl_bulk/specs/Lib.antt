@@ -1,1 +1,3 @@
-pub mod Words
+pub mod Digits
+pub mod Asked
+pub mod Answers

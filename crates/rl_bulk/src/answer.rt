@@ -1,105 +1,153 @@
 //! The answer to a line of input: a command, a space, and a text's bytes as pairs of hexadecimal digits.
 
-use crate::line::push_literal;
+ghost use Rattle.std.specs.Prelude.{◌≡◌, ◌++◌, ◌==◌, ℕ, List, [], IfOk, codes, string_bytes};
+ghost use Rattle.std.specs.List.{before_first, after_first};
+ghost use Rattle.std.specs.Str.{chars};
+ghost use Rattle.rl_lines.specs.Lines.{IsLineOf, PrintsList};
+ghost use Rattle.rl_bulk.specs.Digits.{bytes_of};
+ghost use Rattle.rl_bulk.specs.Answers.{
+  IsIntegerAnswer,
+  IsFloatAnswer,
+  IsSkipAnswer,
+  IsReadAnswer,
+  refusal_lines,
+  Answers,
+  AnswersBytes,
+  IsAnswerOf,
+};
+
+use crate::command::Command;
+use crate::digits::decoded;
+use rl_lines::{line_of, lines_of};
 use rl_tokens::{Error, ErrorKind, Literal, Span, whitespace};
 use rust_literals::{Lit, LitFloat, LitInt, read_all};
 use std::alloc::{AllocError, Global};
 
-/// The value of a digit of lower case.
-fn digit(byte: u8) -> Option<u8> {
-    match byte {
-        b'0'..=b'9' => Some(byte - b'0'),
-        b'a'..=b'f' => Some(byte - b'a' + 10),
-        _ => None,
-    }
-}
-
-/// The bytes that the digits stand for, up to the first pair that stands for none.
-fn decoded(alloc: Global, digits: &[u8]) -> Result<Vec<u8>, AllocError> {
-    let mut bytes = Vec::new(alloc);
-    for pair in digits.chunks(2) {
-        let [high, low] = pair else { break };
-        let (Some(high), Some(low)) = (digit(*high), digit(*low)) else {
-            break;
-        };
-        bytes.push((high << 4) | low)?;
-    }
-    Ok(bytes)
-}
-
-/// The line of a literal.
-fn literal_answer(alloc: Global, literal: &Lit) -> Result<String, AllocError> {
-    let mut out = String::new(alloc);
-    push_literal(alloc, &mut out, literal)?;
-    Ok(out)
-}
-
 /// The line of the text as one literal.
-fn text_answer(alloc: Global, text: &str) -> Result<String, AllocError> {
+fn text_answer(alloc: Global, text: &str) -> Result<String, AllocError>
+    ensures { IfOk result (λ out. IsLineOf (chars text.now) (chars (string_bytes out))) }
+{
     let span = Span::new(0, 0, text.len());
-    let token = Literal::from_text(alloc, text, span).map_err(|_| AllocError)?;
-    let literal = Lit::new(alloc, token).map_err(|_| AllocError)?;
-    literal_answer(alloc, &literal)
-}
-
-/// The line of a text that is no number of the kind.
-fn refusal_answer(alloc: Global, error: Error) -> Result<String, AllocError> {
-    match error.kind {
-        ErrorKind::NotInteger | ErrorKind::NotFloat => format!(in alloc; "None\n"),
-        ErrorKind::TooLarge => format!(in alloc; "TooLarge\n"),
-        _ => Err(AllocError),
-    }
+    let Ok(token) = Literal::from_text(alloc, text, span) else {
+        return Err(AllocError);
+    };
+    let Ok(literal) = Lit::new(alloc, token) else {
+        return Err(AllocError);
+    };
+    line_of(alloc, &literal)
 }
 
 /// The line of the text as an integer.
-fn integer_answer(alloc: Global, text: &str) -> Result<String, AllocError> {
+fn integer_answer(alloc: Global, text: &str) -> Result<String, AllocError>
+    ensures { IfOk result (λ out. IsIntegerAnswer (chars text.now) (string_bytes out)) }
+{
     match LitInt::new(alloc, text, Span::call_site()) {
-        Ok(literal) => literal_answer(alloc, &Lit::Int(literal)),
-        Err(error) => refusal_answer(alloc, error),
+        Ok(literal) => line_of(alloc, &Lit::Int(literal)),
+        Err(error) => match error.kind {
+            ErrorKind::NotInteger => String::from_str(alloc, "None\n"),
+            ErrorKind::TooLarge => String::from_str(alloc, "TooLarge\n"),
+            _ => Err(AllocError),
+        },
     }
 }
 
 /// The line of the text as a float.
-fn float_answer(alloc: Global, text: &str) -> Result<String, AllocError> {
+fn float_answer(alloc: Global, text: &str) -> Result<String, AllocError>
+    ensures { IfOk result (λ out. IsFloatAnswer (chars text.now) (string_bytes out)) }
+{
     match LitFloat::new(alloc, text, Span::call_site()) {
-        Ok(literal) => literal_answer(alloc, &Lit::Float(literal)),
-        Err(error) => refusal_answer(alloc, error),
+        Ok(literal) => line_of(alloc, &Lit::Float(literal)),
+        Err(error) => match error.kind {
+            ErrorKind::NotFloat => String::from_str(alloc, "None\n"),
+            _ => Err(AllocError),
+        },
     }
 }
 
-/// The lines of the text's literals, or of its refusal, and a line with a point.
-fn read_answer(alloc: Global, text: &str) -> Result<String, AllocError> {
-    let mut out = String::new(alloc);
+/// How many bytes stand behind white space and comments.
+#[tactic(auto, using(rl_tokens::proofs::LexEnds::char_len))]
+fn skip_answer(alloc: Global, text: &str) -> Result<String, AllocError>
+    ensures { IfOk result (λ out. IsSkipAnswer (chars text.now) (string_bytes out)) }
+{
+    format!(in alloc; "{}\n", whitespace::skip(text).len())
+}
+
+/// The line of a refusal, and one with a point.
+fn refusal_answer(alloc: Global, error: &Error) -> Result<String, AllocError>
+    ensures { IfOk result (λ out. string_bytes out ≡ refusal_lines error.now) }
+{
+    let (lo, hi) = (error.span.lo, error.span.hi);
+    format!(in alloc; "error at {lo}..{hi}: {error}\n.\n")
+}
+
+/// The lines of literals, and one with a point.
+fn list_answer(alloc: Global, literals: &[Lit]) -> Result<String, AllocError>
+    ensures { IfOk result (λ out. (lines : List ℕ) × PrintsList literals.now [] lines
+        × (chars (string_bytes out) ≡ lines ++ codes ".\n")) }
+{
+    let mut lines = lines_of(alloc, literals)?;
+    lines.push_str(".\n")?;
+    Ok(lines)
+}
+
+/// The lines of the text's literals, or of its refusal, and one with a point.
+fn read_answer(alloc: Global, text: &str) -> Result<String, AllocError>
+    ensures { IfOk result (λ out. IsReadAnswer Global text.now (string_bytes out)) }
+{
     match read_all(alloc, text, 0) {
-        Ok(literals) => {
-            for literal in literals.as_slice() {
-                push_literal(alloc, &mut out, literal)?;
-            }
-        }
-        Err(error) => {
-            let (lo, hi) = (error.span.lo, error.span.hi);
-            writeln!(out, "error at {lo}..{hi}: {error}")?;
-        }
+        Ok(literals) => list_answer(alloc, literals.as_slice()),
+        Err(error) => refusal_answer(alloc, &error),
     }
-    out.push_str(".\n")?;
-    Ok(out)
+}
+
+/// What a command answers to a text.
+fn text_asked(alloc: Global, command: Command, text: &str) -> Result<String, AllocError>
+    ensures { IfOk result (λ out. Answers Global command text.now (string_bytes out)) }
+{
+    match command {
+        Command::Text => text_answer(alloc, text),
+        Command::Int => integer_answer(alloc, text),
+        Command::Float => float_answer(alloc, text),
+        Command::Skip => skip_answer(alloc, text),
+        Command::Read => read_answer(alloc, text),
+    }
+}
+
+/// What a command answers to the text that digits stand for.
+fn digits_answer(alloc: Global, command: Command, digits: &str) -> Result<String, AllocError>
+    ensures { IfOk result
+        (λ out. AnswersBytes Global command (bytes_of digits.now) (string_bytes out)) }
+{
+    let Some(bytes) = decoded(alloc, digits.as_bytes())? else {
+        return String::from_str(alloc, "error: input is not hexadecimal\n");
+    };
+    match std::str::from_utf8(bytes.as_slice()) {
+        Ok(text) => text_asked(alloc, command, text),
+        Err(_) => String::from_str(alloc, "error: input is not UTF-8\n"),
+    }
+}
+
+/// What stands before the first space of a line, and what behind it.
+fn parts_of(line: &str) -> (&str, &str)
+    ensures before { result.0.now ≡ before_first (λ b. b == 32) line.now }
+    ensures behind { result.1.now ≡ after_first (λ b. b == 32) line.now }
+{
+    match line.split_once(' ') {
+        Some((word, rest)) => (word, rest),
+        None => (line, ""),
+    }
 }
 
 /// What is printed for a line of input. Under `text` a literal's line; under `int` and `float` such a line, `None` where
 /// the text is no such number, or `TooLarge`; under `skip` how many bytes stand behind white space and comments; under
-/// `read` lines up to one with a point.
-pub fn answer(alloc: Global, line: &str) -> Result<String, AllocError> {
-    let (command, digits) = line.split_once(' ').unwrap_or((line, ""));
-    let bytes = decoded(alloc, digits.as_bytes())?;
-    let Ok(text) = std::str::from_utf8(bytes.as_slice()) else {
-        return format!(in alloc; "error: input is not UTF-8\n");
-    };
-    match command {
-        "text" => text_answer(alloc, text),
-        "int" => integer_answer(alloc, text),
-        "float" => float_answer(alloc, text),
-        "skip" => format!(in alloc; "{}\n", whitespace::skip(text).len()),
-        "read" => read_answer(alloc, text),
-        _ => format!(in alloc; "error: no command\n"),
+/// `read` lines up to one with a point. Another command, digits that aren't hexadecimal or come in no pairs, and bytes
+/// that aren't UTF-8 are each answered by a line of their own.
+pub fn answer(alloc: Global, line: &str) -> Result<String, AllocError>
+    ensures { IfOk result (λ out. IsAnswerOf Global line.now (string_bytes out)) }
+{
+    let (name, digits) = parts_of(line);
+    match Command::from_name(name) {
+        Some(command) => digits_answer(alloc, command, digits),
+        None => String::from_str(alloc, "error: no command\n"),
     }
 }

@@ -2,7 +2,8 @@
 #![tactic(auto)]
 
 mod answer;
-mod line;
+mod command;
+mod digits;
 
 use std::io;
 use std::io::{BufRead, BufReader, BufWriter, Write};

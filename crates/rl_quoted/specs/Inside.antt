@@ -5,11 +5,10 @@ use Rattle.std.specs.Str.{chars}
 use Rattle.rl_tokens.specs.declared.span.Span.{Span}
 use Rattle.rl_tokens.specs.declared.kind.Kind.TheVariants.{Str}
 use Rattle.rl_tokens.specs.declared.lex_error.LexKind.{LexKind}
-use Rattle.rl_tokens.specs.declared.lex_error.LexKind.TheVariants.{Memory as LexMemory}
 use Rattle.rl_tokens.specs.declared.error.ErrorKind.{ErrorKind}
-use Rattle.rl_tokens.specs.declared.error.ErrorKind.TheVariants.{Lex, Unexpected, Suffix}
+use Rattle.rl_tokens.specs.declared.error.ErrorKind.TheVariants.{Unexpected, Suffix}
 use Rattle.rl_tokens.specs.declared.error.Error.{Error}
-use Rattle.rl_tokens.specs.Errors.{memory_at}
+use Rattle.rl_tokens.specs.Errors.{memory_at, lex_refusal}
 use Rattle.rl_tokens.specs.Tokens.{Token}
 use Rattle.rl_tokens.specs.Trees.{Tree, respanned}
 use Rattle.rl_tokens.specs.Reading.{Characters, HasContents, HasSuffix}
@@ -33,11 +32,6 @@ pub record RunsInside {R : Type 0} (runs : List Tree → Span → R → List Tre
 pub record IsParsedInside {T E : Type 0} (runs : List Tree → Span → Result T E → List Tree → Type 0) (token : Token) (value : T) : Type 0 where
   pub ran : RunsInside runs token (Ok value) []
   pub no_suffix : HasSuffix Str (chars token.text) []
-
--- the lexer's refusal, told at a span; its want of memory is `Memory`
-abbrev pub lex_refusal : {A : Type 0} → LexKind → Span → Error A
-lex_refusal LexMemory at = memory_at at
-lex_refusal kind at = record { span = at; kind = Lex kind }
 
 -- The text that the string stands for can't be cut: the refusal is its first fault, or want of memory, at the literal.
 pub record IsUncut {A : Type 0} (token : Token) (e : Error A) : Type 0 where

@@ -13,27 +13,11 @@ ghost use Rattle.rl_quoted.specs.Inside.{
   IsParsedInside,
   RunsInside,
   RefusesInside,
-  lex_refusal,
 };
 
 use crate::lit_str::LitStr;
-use rl_tokens::{
-    ByParse, Error, ErrorKind, LexKind, Parse, ParseBuffer, Parser, Span, TokenStream, lex,
-};
+use rl_tokens::{ByParse, Error, ErrorKind, Parse, ParseBuffer, Parser, TokenStream, lex};
 use std::alloc::Allocator;
-
-/// The lexer's refusal, told at a span.
-fn lex_refusal<B: Allocator>(kind: LexKind, span: Span) -> Error<B>
-    ensures { result ≡ lex_refusal kind span }
-{
-    match kind {
-        LexKind::Memory => Error::memory(span),
-        kind => Error {
-            span,
-            kind: ErrorKind::Lex(kind),
-        },
-    }
-}
 
 impl<A: Allocator> LitStr<A> {
     /// The trees of the text that the literal stands for, each at the literal's span.
@@ -48,7 +32,7 @@ impl<A: Allocator> LitStr<A> {
                 stream.respan(span);
                 Ok(stream)
             }
-            Err(fault) => Err(lex_refusal(fault.kind, span)),
+            Err(fault) => Err(Error::of_lexer(fault.kind, span)),
         }
     }
 

@@ -20,7 +20,8 @@ use Rattle.rl_tokens.specs.Nests.{groups_of, flat_nest, EndsInGroup, ClosesWrong
 use Rattle.rl_tokens.proofs.Rests.{behind_length}
 use Rattle.rl_tokens.proofs.LexLoop.{HasCut}
 
-char_len : (t : List ℕ) → IsUtf8 t → byte_len (chars t) ≡ length t
+-- a text's characters take its bytes
+pub char_len : (t : List ℕ) → IsUtf8 t → byte_len (chars t) ≡ length t
 char_len t is = ap length (encodes-chars t is)
 
 -- the place of the rest

@@ -1,6 +1,8 @@
 -- What refusals say.
 use Rattle.std.specs.Prelude.{ℕ, List, ◌++◌, codes, string_bytes}
 use Rattle.rl_tokens.specs.declared.span.Span.{Span}
+use Rattle.rl_tokens.specs.declared.lex_error.LexKind.{LexKind}
+use Rattle.rl_tokens.specs.declared.lex_error.LexKind.TheVariants.{Memory as LexMemory}
 use Rattle.rl_tokens.specs.declared.error.ErrorKind.{ErrorKind}
 use Rattle.rl_tokens.specs.declared.error.ErrorKind.TheVariants.{Expected, EndOfInput, Unexpected, Lex, Suffix, NotInteger, TooLarge, NotFloat, Number, Memory}
 use Rattle.rl_tokens.specs.declared.error.Error.{Error}
@@ -22,6 +24,11 @@ message_of Memory = codes "out of memory"
 -- want of memory, told at a span
 abbrev pub memory_at : {A : Type 0} → Span → Error A
 memory_at at = record { span = at; kind = Memory }
+
+-- the lexer's refusal, told at a span; its want of memory is `Memory`
+abbrev pub lex_refusal : {A : Type 0} → LexKind → Span → Error A
+lex_refusal LexMemory at = memory_at at
+lex_refusal kind at = record { span = at; kind = Lex kind }
 
 -- the span of what stands in no text
 abbrev pub nowhere : Span

@@ -45,7 +45,7 @@ pub enum ErrorKind<A: Allocator = Global> {
 }
 
 impl<A: Allocator> Error<A> {
-    ghost use Rattle.rl_tokens.specs.Errors.{memory_at};
+    ghost use Rattle.rl_tokens.specs.Errors.{memory_at, lex_refusal};
 
     /// Want of memory, told at a span.
     pub fn memory(span: Span) -> Error<A>
@@ -54,6 +54,19 @@ impl<A: Allocator> Error<A> {
         Error {
             span,
             kind: ErrorKind::Memory,
+        }
+    }
+
+    /// The lexer's refusal, told at a span: as `Lex`, but its want of memory as `Memory`.
+    pub fn of_lexer(kind: LexKind, span: Span) -> Error<A>
+        ensures { result ≡ lex_refusal kind span }
+    {
+        match kind {
+            LexKind::Memory => Error::memory(span),
+            kind => Error {
+                span,
+                kind: ErrorKind::Lex(kind),
+            },
         }
     }
 }

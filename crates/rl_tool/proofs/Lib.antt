@@ -1,5 +1,2 @@
 pub mod StreamLemmas
-pub mod LineLemmas
-pub mod PrintLemmas
 pub mod RunLemmas
-pub mod ListLemmas

@@ -1,55 +1,15 @@
--- A whole text's line, and what a run does with it.
-use Rattle.std.proofs.Common.{◌≡◌, ℕ, List, [], ◌++◌, Option, Some, None, sym, ap, subst, ◌∙◌, inl, inr}
+-- What a run does with its lines.
+use Rattle.std.proofs.Common.{◌≡◌, ℕ, List, Option, Some, None, sym, subst}
 use Rattle.std.specs.Prelude.{IfSome}
 use Rattle.std.specs.Str.{chars, IsUtf8}
 use Rattle.std.specs.Io.KnownBytes.{Appends}
 use Rattle.std.proofs.KnownBytes.{Keeps-refl}
 use Rattle.std.proofs.lemmas.Str.{encodes-chars}
-use Rattle.rl_tokens.specs.Tokens.{Token}
-use Rattle.rl_tokens.specs.declared.kind.Kind.{Kind}
-use Rattle.rl_tokens.specs.declared.kind.Kind.TheVariants.{Str, ByteStr, CStr, Byte, Char, Int, Float, Bool}
-use Rattle.rl_tokens.specs.Numbers.{float_digits}
-use Rattle.rl_tokens.specs.Reading.{Digits, Truth, Reads, ReadsAs}
-use Rattle.rl_tokens.proofs.OneNumber.{float_once}
-use Rattle.rust_literals.specs.declared.lit.Lit.{Lit}
-use Rattle.rust_literals.specs.declared.lit.Lit.TheVariants.{Str as StrLit, ByteStr as ByteStrLit, CStr as CStrLit, Byte as ByteLit, Char as CharLit, Int as IntLit, Float as FloatLit, Bool as BoolLit, Verbatim}
-use Rattle.rust_literals.specs.Literals.{IsReadFrom}
 use Rattle.rl_tool.specs.declared.command.Command.{Command}
 use Rattle.rl_tool.specs.declared.fault.Fault.{Fault}
 use Rattle.rl_tool.specs.declared.fault.Fault.TheVariants.{Read, Write, NotText, Memory, Literal}
 use Rattle.rl_tool.specs.Streams.{AppendsBeginning}
-use Rattle.rl_tool.specs.Lines.{literal_line, verbatim_line, IsLineOf, Shows, PrintsKind, PrintsFloat, PrintsLit}
-use Rattle.rl_tool.specs.Runs.{Prints, PrintsBeginning, IsRefusalOf, IsFaultOf}
-
--- the token's characters, where the literal keeps the token
-same_text : (l token : Token) (t : List ℕ) → l ≡ token → token.text ≡ t → chars l.text ≡ chars t
-same_text l token t e k = ap chars (ap (λ z. z.text) e ∙ k)
-
-kind_line : (kind : Kind) (l token : Token) (t old new : List ℕ) → l ≡ token → token.text ≡ t → PrintsKind kind (chars l.text) old new → old ≡ [] → IsLineOf (chars t) new
-kind_line kind l token t old new e k p o =
-    inl (kind, p.0, p.1, subst (λ z. Reads z kind p.0 p.1) (same_text l token t e k) p.2, p.3 ∙ ap (λ z. z ++ literal_line kind p.0 p.1) o)
-
-float_line : (l token : Token) (t old new : List ℕ) → l ≡ token → token.text ≡ t → ReadsAs Float (chars token.text) → PrintsFloat (chars l.text) old new → old ≡ [] → IsLineOf (chars t) new
-float_line l token t old new e k r p o =
-    let same : chars l.text ≡ chars token.text = ap (λ z. chars z.text) e in
-    let one = float_once (chars l.text) p.0 r.2.numeral p.1 r.1 p.2 (rw same r.2.reads) in
-    let digits : Digits (float_digits p.0) ≡ r.0 = ap (λ z. Digits (float_digits z)) one.0 ∙ sym r.2.contents_is in
-    inl (Float, r.0, r.1, subst (λ z. Reads z Float r.0 r.1) (ap chars k) r.2, p.3 ∙ ap (λ z. z ++ literal_line Float (Digits (float_digits p.0)) p.1) o ∙ ap (λ z. literal_line Float z p.1) digits ∙ ap (λ z. literal_line Float r.0 z) one.1)
-
--- a literal that was read from a token prints the line of the token's text
-pub line_of_text : {A : Type 0} (token : Token) (literal : Lit A) (t old new : List ℕ) → IsReadFrom token literal → token.text ≡ t → PrintsLit literal old new → old ≡ [] → IsLineOf (chars t) new
-line_of_text token (StrLit l) t old new r k p o = kind_line Str l token t old new r.0 k p o
-line_of_text token (ByteStrLit l) t old new r k p o = kind_line ByteStr l token t old new r.0 k p o
-line_of_text token (CStrLit l) t old new r k p o = kind_line CStr l token t old new r.0 k p o
-line_of_text token (ByteLit l) t old new r k p o = kind_line Byte l token t old new r.0 k p o
-line_of_text token (CharLit l) t old new r k p o = kind_line Char l token t old new r.0 k p o
-line_of_text token (IntLit l) t old new r k p o = kind_line Int l token t old new r.0 k p o
-line_of_text token (FloatLit l) t old new r k p o = float_line l token t old new r.0 k r.1 p o
-line_of_text token (BoolLit l) t old new r k p o =
-    inl (Bool, Truth l.value, [], subst (λ z. Reads z Bool (Truth l.value) []) (ap chars k) r.1, p ∙ ap (λ z. z ++ literal_line Bool (Truth l.value) []) o)
-line_of_text token (Verbatim l) t old new r k p o =
-    let same : chars l.text ≡ chars t = same_text l token t r.0 k in
-    inr (rw (ap chars (sym k)) r.1, p ∙ ap (λ z. z ++ verbatim_line (chars l.text)) o ∙ ap verbatim_line same)
+use Rattle.rl_tool.specs.Runs.{Shows, Prints, PrintsBeginning, IsRefusalOf, IsFaultOf}
 
 -- a fact of the bytes that were read is one of the known bytes
 known : (P : List ℕ → Type 0) (input : Option (List ℕ)) (bytes : List ℕ) → IfSome input (λ all. bytes ≡ all) → P bytes → IfSome input P

@@ -10,8 +10,13 @@ use Rattle.rl_tool.specs.declared.command.Command.{Command}
 use Rattle.rl_tool.specs.declared.command.Command.TheVariants.{Text, Read as ReadCommand}
 use Rattle.rl_tool.specs.declared.fault.Fault.{Fault}
 use Rattle.rl_tool.specs.declared.fault.Fault.TheVariants.{Read, Write, NotText, Memory, Literal}
-use Rattle.rl_tool.specs.Lines.{Shows}
+use Rattle.rl_lines.specs.Lines.{IsLineOf, AreLinesOfText}
 use Rattle.rl_tool.specs.Streams.{AppendsBeginning}
+
+-- what a command prints of a text
+abbrev pub Shows : Command → List ℕ → List ℕ → Type 0
+Shows Text text shown = IsLineOf text shown
+Shows ReadCommand text shown = AreLinesOfText text shown
 
 -- the bytes are a text, and its lines are what was written
 abbrev pub Prints : Command → List ℕ → Option (List ℕ) → Option (List ℕ) → Type 0

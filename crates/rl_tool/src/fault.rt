@@ -2,7 +2,7 @@ ghost use Rattle.std.specs.Prelude.{◌≡◌, Some};
 ghost use Rattle.rl_tool.specs.Faults.{fault_line, status_of};
 
 use rl_tokens::Error;
-use std::alloc::{Allocator, Global};
+use std::alloc::{AllocError, Allocator, Global};
 use std::fmt;
 
 /// Why a run ended without printing.
@@ -30,6 +30,18 @@ impl<A: Allocator> Fault<A> {
             Fault::Read | Fault::Write => 2,
             _ => 1,
         }
+    }
+}
+
+/// Memory that was refused.
+impl<A: Allocator> From<AllocError> for Fault<A> {
+    ghost use Rattle.std.specs.Prelude.{◌≡◌};
+    ghost use Rattle.rl_tool.specs.declared.fault.Fault.TheVariants.{Memory};
+
+    ghost from_gives = { λ refused fault. fault ≡ Memory };
+
+    fn from(_: AllocError) -> Fault<A> {
+        Fault::Memory
     }
 }
 

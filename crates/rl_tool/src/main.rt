@@ -6,8 +6,6 @@ ghost use Rattle.std.specs.Process.{exit_status};
 
 mod command;
 mod fault;
-mod line;
-mod print;
 mod run;
 mod streams;
 #[cfg(test)]

@@ -3,14 +3,13 @@
 ghost use Rattle.std.specs.Prelude.{◌≡◌, IfErr, IfOk, IfSome, OnOk, string_bytes};
 ghost use Rattle.std.specs.Str.{chars, IsUtf8};
 ghost use Rattle.rl_tool.specs.declared.command.Command.TheVariants.{Text, Read};
-ghost use Rattle.rl_tool.specs.declared.fault.Fault.TheVariants.{NotText, Memory};
-ghost use Rattle.rl_tool.specs.Lines.{Shows, PrintsList};
-ghost use Rattle.rl_tool.specs.Runs.{Prints, IsFaultOf, IsRefusalOf};
+ghost use Rattle.rl_tool.specs.declared.fault.Fault.TheVariants.{NotText};
+ghost use Rattle.rl_tool.specs.Runs.{Shows, Prints, IsFaultOf, IsRefusalOf};
 
 use crate::command::Command;
 use crate::fault::Fault;
-use crate::print::push_literal;
 use crate::streams::{read_whole, write_whole};
+use rl_lines::{line_of, lines_of};
 use rl_tokens::{Literal, Span};
 use rust_literals::{Lit, read_all};
 use std::alloc::Allocator;
@@ -41,25 +40,8 @@ fn literal_line<A: Allocator + Copy>(alloc: A, text: &str) -> Result<String<A>, 
         Ok(literal) => literal,
         Err(kept) => return Err(Fault::Literal(kept.error)),
     };
-    let mut line = String::new(alloc);
-    push_literal(alloc, &mut line, &literal)?;
+    let line = line_of(alloc, &literal)?;
     Ok(line)
-}
-
-/// Writes the lines of the literals at the end.
-fn push_literals<A: Allocator + Copy>(
-    alloc: A,
-    out: &mut String<A>,
-    literals: &[Lit<A>],
-) -> Result<(), Fault<A>>
-    ensures lines { OnOk result
-        (PrintsList literals.now (chars (string_bytes out.old)) (chars (string_bytes out.new))) }
-    ensures fault { IfErr result (λ fault. fault ≡ Memory) }
-{
-    for literal in literals {
-        push_literal(alloc, out, literal)?;
-    }
-    Ok(())
 }
 
 /// The lines of the text's literals.
@@ -71,13 +53,12 @@ fn literal_lines<A: Allocator + Copy>(alloc: A, text: &str) -> Result<String<A>,
         Ok(literals) => literals,
         Err(error) => return Err(Fault::Literal(error)),
     };
-    let mut lines = String::new(alloc);
-    push_literals(alloc, &mut lines, literals.as_slice())?;
+    let lines = lines_of(alloc, literals.as_slice())?;
     Ok(lines)
 }
 
 /// All lines of the input.
-fn lines_of<A: Allocator + Copy>(
+fn lines_of_input<A: Allocator + Copy>(
     alloc: A,
     command: Command,
     bytes: &[u8],
@@ -112,7 +93,7 @@ pub fn run<A: Allocator + Copy, R: Read, W: Write>(
         (IsFaultOf command (R.remaining input.old) (W.contents out.old) (W.contents out.new)) }
 {
     let bytes = read_whole(alloc, input)?;
-    let lines = match lines_of(alloc, command, bytes.as_slice()) {
+    let lines = match lines_of_input(alloc, command, bytes.as_slice()) {
         Ok(lines) => lines,
         Err(fault) => return Err(fault),
     };

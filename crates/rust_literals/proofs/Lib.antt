@@ -5,3 +5,5 @@ pub mod ReadLemmas
 pub mod ItemFronts
 pub mod PrintedLemmas
 pub mod AgainLemmas
+pub mod PeekLemmas
+pub mod EqualLemmas

@@ -5,3 +5,4 @@ pub mod Parsing
 pub mod Base10
 pub mod Copies
 pub mod ReadBack
+pub mod Peeking

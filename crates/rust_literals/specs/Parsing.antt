@@ -4,7 +4,6 @@ use Rattle.std.specs.Str.{chars}
 use Rattle.rl_tokens.specs.declared.span.Span.{Span}
 use Rattle.rl_tokens.specs.declared.kind.Kind.TheVariants.{Bool as BoolKind}
 use Rattle.rl_tokens.specs.declared.lex_error.LexKind.{LexKind}
-use Rattle.rl_tokens.specs.declared.lex_error.LexKind.TheVariants.{Memory as LexMemory}
 use Rattle.rl_tokens.specs.declared.error.Error.{Error}
 use Rattle.rl_tokens.specs.declared.error.ErrorKind.TheVariants.{Lex, Memory}
 use Rattle.rl_tokens.specs.Errors.{memory_at, nowhere}
@@ -73,11 +72,6 @@ pub record AreRead {A : Type 0} (text : List ℕ) (file : ℕ) (list : List (Lit
   pub trees : List Tree
   pub lexes : Lexes text file trees
   pub leads : Leads trees list []
-
--- the lexer's refusal as one of this crate
-abbrev pub lex_refusal : {A : Type 0} → LexKind → Span → Error A
-lex_refusal LexMemory span = memory_at span
-lex_refusal kind span = record { span = span; kind = Lex kind }
 
 -- The text's first fault, told at its place.
 pub record IsLexRefusal {A : Type 0} (text : List ℕ) (file : ℕ) (e : Error A) : Type 0 where

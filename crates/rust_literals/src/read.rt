@@ -2,14 +2,15 @@
 
 ghost use Rattle.std.specs.Prelude.{◌≡◌, ◌⊎◌, ℕ, List, [], length, IfOk, IfErr};
 ghost use Rattle.std.specs.Str.{chars};
+ghost use Rattle.rl_tokens.specs.Errors.{lex_refusal};
 ghost use Rattle.rl_tokens.specs.Buffers.{trees_in, scope_of};
 ghost use Rattle.rl_tokens.specs.Printed.{Entry, Printed};
 ghost use Rattle.rust_literals.specs.declared.lit.Lit.{Lit};
-ghost use Rattle.rust_literals.specs.Parsing.{Leads, Stops, RunsShort, AreRead, RefusesText, IsOrMemory, lex_refusal};
+ghost use Rattle.rust_literals.specs.Parsing.{Leads, Stops, RunsShort, AreRead, RefusesText, IsOrMemory};
 ghost use Rattle.rust_literals.specs.ReadBack.{HoldsOrMemory, AreItems, Spaced, lits_of, Again, AreMoved};
 
 use crate::lit::Lit;
-use rl_tokens::{Error, ErrorKind, LexError, LexKind, ParseBuffer, Span, lex};
+use rl_tokens::{Error, LexError, ParseBuffer, Span, lex};
 use std::alloc::{Allocator, Global};
 
 /// The literals that the trees are, one after another, up to their end.
@@ -36,14 +37,7 @@ fn read_trees<A: Allocator + Copy>(
 fn refusal_of<A: Allocator>(fault: LexError, file: u32) -> Error<A>
     ensures { result ≡ lex_refusal fault.kind (record { file = file; lo = fault.at; hi = fault.at }) }
 {
-    let span = Span::new(file, fault.at, fault.at);
-    match fault.kind {
-        LexKind::Memory => Error::memory(span),
-        kind => Error {
-            span,
-            kind: ErrorKind::Lex(kind),
-        },
-    }
+    Error::of_lexer(fault.kind, Span::new(file, fault.at, fault.at))
 }
 
 /// The literals of a text, which is nothing but literals, white space and plain comments. Each is what [`Lit::parse`]

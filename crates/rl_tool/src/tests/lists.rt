@@ -1,8 +1,8 @@
 //! Lists of literals, and where each stands.
 
 use super::Command;
-use crate::print::push_literal;
 use crate::run::run;
+use rl_lines::line_of;
 use rust_literals::{Lit, read_all};
 use std::alloc::Global;
 use std::process::Abort;
@@ -17,7 +17,7 @@ pub fn read_of(alloc: Global, text: &str) -> Result<String, Fail> {
                 let span = literal.span();
                 let place = format!(in alloc; "{}..{} ", span.lo, span.hi)?;
                 out.push_str(place.as_str())?;
-                push_literal(alloc, &mut out, literal)?;
+                out.push_str(line_of(alloc, literal)?.as_str())?;
             }
         }
         Err(error) => {

@@ -1,15 +1,14 @@
 //! Copies of literals, their equality and hash, and how they are printed.
 
-ghost use Rattle.std.specs.Prelude.{◌≡◌, ◌==◌, ◌++◌, ◌∷◌, [], IfOk, IfErr, OnOk, OnErr};
-ghost use Rattle.std.specs.Cmp.{partial_equiv_from_equiv, and_equiv, on_equiv, nat_eq_equiv};
-ghost use Rattle.std.specs.Cmp.Lexicographic.{pointwise, nat_list_eq_equiv};
+ghost use Rattle.std.specs.Prelude.{◌≡◌, ◌++◌, ◌∷◌, [], IfOk, IfErr, OnOk, OnErr};
+ghost use Rattle.std.specs.Cmp.{partial_equiv_from_equiv};
 ghost use Rattle.std.specs.Cmp.Rules.{hashing};
 ghost use Rattle.std.specs.Hash as fed;
-ghost use Rattle.std.specs.Ordering.{on, eq_of_both};
 ghost use Rattle.std.proofs.Common.{rules};
 ghost use Rattle.rl_tokens.specs.Errors.{memory_at};
 ghost use Rattle.rl_tokens.specs.Trees.{stream_view};
-ghost use Rattle.rust_literals.specs.Copies.{copied, variant_of, text_of, tree_of};
+ghost use Rattle.rust_literals.specs.Copies.{copied, variant_of, text_of, is_equal, tree_of};
+ghost use Rattle.rust_literals.proofs.EqualLemmas.{is_equal_equiv};
 ghost use Rattle.rust_literals.specs.Literals.{span_of};
 
 use crate::lit::Lit;
@@ -59,9 +58,9 @@ impl<A: Allocator> Lit<A> {
 /// Equal where the kinds and the texts are: `0xF` isn't `15`, and `1f64` as an integer isn't `1f64` as a float. Spans
 /// are ignored.
 impl<A: Allocator> PartialEq for Lit<A> {
-    ghost eq = { eq_of_both (on variant_of ◌==◌) (on text_of (pointwise ◌==◌)) };
+    ghost eq = { is_equal };
 
-    ghost laws = { partial_equiv_from_equiv (and_equiv (on_equiv variant_of nat_eq_equiv) (on_equiv text_of nat_list_eq_equiv)) };
+    ghost laws = { partial_equiv_from_equiv is_equal_equiv };
 
     fn eq(&self, other: &Self) -> bool {
         match (self, other) {
@@ -80,7 +79,7 @@ impl<A: Allocator> PartialEq for Lit<A> {
 }
 
 impl<A: Allocator> Eq for Lit<A> {
-    ghost laws = { and_equiv (on_equiv variant_of nat_eq_equiv) (on_equiv text_of nat_list_eq_equiv) };
+    ghost laws = { is_equal_equiv };
 }
 
 /// By the kind and the text.

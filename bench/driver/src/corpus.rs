@@ -1,0 +1,203 @@
+//! The texts: made from a fixed seed, about as many bytes as asked.
+
+/// What the texts are.
+#[derive(Clone, Copy, PartialEq, Eq)]
+pub enum Form {
+    /// Many, each a literal.
+    Literals,
+    /// One, a list of literals.
+    List,
+    /// One, of one piece over and over.
+    Hostile,
+}
+
+/// Texts behind one another, and the place where each ends.
+pub struct Corpus {
+    pub name: &'static str,
+    pub bytes: Vec<u8>,
+    pub ends: Vec<usize>,
+}
+
+/// Every corpus.
+pub const ALL: [(&str, Form); 20] = [
+    ("mixed literals", Form::Literals),
+    ("short strings", Form::Literals),
+    ("plain strings of 4 KB", Form::Literals),
+    ("strings of escapes", Form::Literals),
+    ("decimal integers", Form::Literals),
+    ("hexadecimal integers", Form::Literals),
+    ("long integers", Form::Literals),
+    ("floats", Form::Literals),
+    ("list with comments", Form::List),
+    ("comments alone", Form::List),
+    ("list of short integers", Form::List),
+    ("/", Form::Hostile),
+    ("\"", Form::Hostile),
+    ("#", Form::Hostile),
+    ("0", Form::Hostile),
+    ("_", Form::Hostile),
+    ("/*", Form::Hostile),
+    ("r#", Form::Hostile),
+    ("'", Form::Hostile),
+    ("(", Form::Hostile),
+];
+
+impl Corpus {
+    fn push(&mut self, text: &str) {
+        self.bytes.extend_from_slice(text.as_bytes());
+        self.ends.push(self.bytes.len());
+    }
+
+    /// The texts, in their order.
+    pub fn texts(&self) -> impl Iterator<Item = &str> {
+        let starts = std::iter::once(0).chain(self.ends.iter().copied());
+        starts
+            .zip(&self.ends)
+            .filter_map(|(lo, hi)| std::str::from_utf8(self.bytes.get(lo..*hi)?).ok())
+    }
+}
+
+/// Numbers by Marsaglia's xorshift.
+struct Numbers(u64);
+
+impl Numbers {
+    fn next(&mut self) -> u64 {
+        self.0 ^= self.0 << 13;
+        self.0 ^= self.0 >> 7;
+        self.0 ^= self.0 << 17;
+        self.0
+    }
+
+    fn below(&mut self, end: u64) -> u64 {
+        self.next() % end
+    }
+
+    fn one_of(&mut self, words: &[&'static str]) -> &'static str {
+        words[self.below(words.len() as u64) as usize]
+    }
+
+    fn letters(&mut self, count: u64) -> String {
+        (0..count)
+            .map(|_| char::from(b'a' + self.below(26) as u8))
+            .collect()
+    }
+
+    fn escapes(&mut self, count: u64) -> String {
+        let words = [
+            "\\n",
+            "\\t",
+            "\\\\",
+            "\\\"",
+            "\\x41",
+            "\\u{e9}",
+            "\\u{1F600}",
+            "\\0",
+        ];
+        (0..count).map(|_| self.one_of(&words)).collect()
+    }
+
+    fn decimal(&mut self) -> String {
+        let shift = self.below(64);
+        let digits = self.next() >> shift;
+        let suffix = self.one_of(&["", "", "", "u64", "i128", "_u128"]);
+        format!("{digits}{suffix}")
+    }
+
+    fn hexadecimal(&mut self) -> String {
+        let shift = self.below(64);
+        format!("0x{:X}", self.next() >> shift)
+    }
+
+    /// 30 to 38 digits, some behind underscores.
+    fn long(&mut self) -> String {
+        let groups = 10 + self.below(3);
+        (0..groups)
+            .map(|_| format!("{:03}{}", 100 + self.below(900), self.one_of(&["", "_"])))
+            .collect()
+    }
+
+    fn float(&mut self) -> String {
+        let (whole, part) = (self.below(100_000), self.below(1_000_000_000));
+        let exponent = self.one_of(&["", "", "e5", "E+12", "e-7"]);
+        let suffix = self.one_of(&["", "", "f32", "_f64"]);
+        format!("{whole}.{part}{exponent}{suffix}")
+    }
+
+    fn mixed(&mut self) -> String {
+        match self.below(12) {
+            0..=2 => format!("\"{} {}\"", self.letters(8), self.escapes(1)),
+            3 => format!("r#\"{}\\{}\"#", self.letters(6), self.letters(4)),
+            4 => format!("b\"{}\\x7F\"", self.letters(6)),
+            5 => format!("b'{}'", self.letters(1)),
+            6 => format!("'{}'", self.one_of(&["a", "é", "\\n", "\\u{1F600}"])),
+            7 | 8 => self.decimal(),
+            9 => self.hexadecimal(),
+            10 => self.float(),
+            _ => self.one_of(&["true", "false"]).to_string(),
+        }
+    }
+
+    fn comment(&mut self) -> String {
+        let words = 1 + self.below(6);
+        let inside: String = (0..words)
+            .map(|_| format!(" {}", self.letters(7)))
+            .collect();
+        match self.below(3) {
+            0 => format!("//{inside}\n"),
+            1 => format!("/*{inside} */ "),
+            _ => format!("/*{inside} /* nested */ */\n"),
+        }
+    }
+
+    /// A text of the corpus, or a piece of the one text that it is.
+    fn piece(&mut self, name: &str) -> String {
+        match name {
+            "mixed literals" => self.mixed(),
+            "short strings" => {
+                let count = self.below(16);
+                format!("\"{}\"", self.letters(count))
+            }
+            "plain strings of 4 KB" => format!("\"{}\"", self.letters(4094)),
+            "strings of escapes" => format!("\"{}\"", self.escapes(64)),
+            "decimal integers" => self.decimal(),
+            "hexadecimal integers" => self.hexadecimal(),
+            "long integers" => self.long(),
+            "floats" => self.float(),
+            "list with comments" => {
+                let sign = self.one_of(&["", "", "", "-"]);
+                let literal = match sign {
+                    "" => self.mixed(),
+                    _ => self.decimal(),
+                };
+                format!("{sign}{literal} {}", self.comment())
+            }
+            "comments alone" => self.comment(),
+            _ => format!("{} ", self.below(1000)),
+        }
+    }
+}
+
+/// The texts of this name and form, of about this many bytes.
+pub fn make(name: &'static str, form: Form, size: usize) -> Corpus {
+    let (bytes, ends) = (Vec::new(), Vec::new());
+    let mut corpus = Corpus { name, bytes, ends };
+    let mut numbers = Numbers(0x9E37_79B9_7F4A_7C15);
+    match form {
+        Form::Hostile => corpus.push(&name.repeat(size / name.len())),
+        Form::Literals => {
+            while corpus.bytes.len() < size {
+                corpus.push(&numbers.piece(name));
+            }
+        }
+        Form::List => {
+            let mut list = String::new();
+            while list.len() < size {
+                list.push_str(&numbers.piece(name));
+            }
+            // One literal more, so that a list of none isn't taken for a refusal.
+            list.push('1');
+            corpus.push(&list);
+        }
+    }
+    corpus
+}

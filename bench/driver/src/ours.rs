@@ -1,0 +1,53 @@
+//! The exports of crates/rl_bench.
+
+use crate::corpus::Corpus;
+
+/// A slice of bytes and its length, a slice of places and its length, and the place of the sum.
+type Export = unsafe extern "C" fn(*const u8, usize, *const usize, usize, &mut u64) -> bool;
+
+extern "C" {
+    fn rl_bench_shape(bytes: *const u8, len: usize, ends: *const usize, count: usize) -> u64;
+    fn rl_bench_value(b: *const u8, n: usize, e: *const usize, m: usize, sum: &mut u64) -> bool;
+    fn rl_bench_literal(b: *const u8, n: usize, e: *const usize, m: usize, sum: &mut u64) -> bool;
+    fn rl_bench_lex(b: *const u8, n: usize, e: *const usize, m: usize, sum: &mut u64) -> bool;
+    fn rl_bench_read(b: *const u8, n: usize, e: *const usize, m: usize, sum: &mut u64) -> bool;
+}
+
+fn call(export: Export, corpus: &Corpus) -> u64 {
+    let (bytes, ends) = (&corpus.bytes, &corpus.ends);
+    let mut sum = 0;
+    // SAFETY: the pointers are those of two slices with their lengths, which outlive the call, and are only read.
+    let done = unsafe {
+        export(
+            bytes.as_ptr(),
+            bytes.len(),
+            ends.as_ptr(),
+            ends.len(),
+            &mut sum,
+        )
+    };
+    assert!(done, "memory was refused");
+    sum
+}
+
+pub fn shape(corpus: &Corpus) -> u64 {
+    let (bytes, ends) = (&corpus.bytes, &corpus.ends);
+    // SAFETY: as in `call`.
+    unsafe { rl_bench_shape(bytes.as_ptr(), bytes.len(), ends.as_ptr(), ends.len()) }
+}
+
+pub fn value(corpus: &Corpus) -> u64 {
+    call(rl_bench_value, corpus)
+}
+
+pub fn literal(corpus: &Corpus) -> u64 {
+    call(rl_bench_literal, corpus)
+}
+
+pub fn lex(corpus: &Corpus) -> u64 {
+    call(rl_bench_lex, corpus)
+}
+
+pub fn read(corpus: &Corpus) -> u64 {
+    call(rl_bench_read, corpus)
+}

@@ -1,0 +1,77 @@
+//! What runs on a corpus.
+
+use crate::corpus::{Corpus, Form};
+use crate::{others, ours};
+
+/// What is summed: works of one sum answer the same.
+#[derive(Clone, Copy, PartialEq, Eq)]
+pub enum Sum {
+    Shapes,
+    Values,
+    Trees,
+    Literals,
+}
+
+/// One piece of work.
+pub struct Work {
+    pub name: &'static str,
+    pub ours: bool,
+    pub sum: Sum,
+    pub run: fn(&Corpus) -> u64,
+}
+
+const fn ours(name: &'static str, sum: Sum, run: fn(&Corpus) -> u64) -> Work {
+    let ours = true;
+    Work {
+        name,
+        ours,
+        sum,
+        run,
+    }
+}
+
+const fn other(name: &'static str, sum: Sum, run: fn(&Corpus) -> u64) -> Work {
+    let ours = false;
+    Work {
+        name,
+        ours,
+        sum,
+        run,
+    }
+}
+
+/// The works of texts that are a literal each.
+const OF_LITERALS: &[Work] = &[
+    ours("shape", Sum::Shapes, ours::shape),
+    ours("value", Sum::Values, ours::value),
+    ours("literal", Sum::Values, ours::literal),
+    other("litrs", Sum::Values, others::litrs_value),
+    #[cfg(feature = "oracle")]
+    other("syn", Sum::Values, others::syn::value),
+];
+
+/// The works of a text that is a list.
+const OF_LISTS: &[Work] = &[
+    ours("lex", Sum::Trees, ours::lex),
+    other("proc-macro2", Sum::Trees, others::proc_macro2_lex),
+    ours("read", Sum::Literals, ours::read),
+    #[cfg(feature = "oracle")]
+    other("proc-macro2 and syn", Sum::Literals, others::syn::read),
+];
+
+/// The works of a text that is hostile.
+const OF_HOSTILE: &[Work] = &[
+    ours("shape", Sum::Shapes, ours::shape),
+    ours("literal", Sum::Values, ours::literal),
+    ours("lex", Sum::Trees, ours::lex),
+    ours("read", Sum::Literals, ours::read),
+];
+
+/// The works of a corpus of this form.
+pub fn of(form: Form) -> &'static [Work] {
+    match form {
+        Form::Literals => OF_LITERALS,
+        Form::List => OF_LISTS,
+        Form::Hostile => OF_HOSTILE,
+    }
+}

@@ -1,0 +1,7 @@
+-- The contents and the suffix are those of the shape's reading.
+use Rattle.std.proofs.Common.{inl}
+use Rattle.std.specs.Str.{chars}
+use Rattle.rl_bench.proofs.values.ByValueWeigh.weigh.Goals as goal
+
+pub returns : goal.returns
+returns c = inl (c.in-Some.parts.kind, c.value_weight.ensures (chars c.args.text.now) c.in_ok-size.ensures c.in-Some.ensures.reads)

@@ -1,0 +1,75 @@
+-- What a text weighs.
+use Rattle.std.specs.Prelude.{◌≡◌, ◌≢◌, ◌⊎◌, ℕ, List, length}
+use Rattle.std.specs.Str.{chars}
+use Rattle.rl_tokens.specs.declared.kind.Kind.{Kind}
+use Rattle.rl_tokens.specs.declared.kind.Kind.TheVariants.{Str, ByteStr, CStr, Byte, Char, Int, Float, Bool}
+use Rattle.rl_tokens.specs.declared.lex_error.LexKind.{LexKind}
+use Rattle.rl_tokens.specs.declared.error.Error.{Error}
+use Rattle.rl_tokens.specs.declared.error.ErrorKind.TheVariants.{Memory}
+use Rattle.rl_tokens.specs.Reading.{Contents, Characters, Bytes, Digits, Truth, Reads, HasContents, HasSuffix}
+use Rattle.rl_tokens.specs.Lexing.{byte_len, Lexes, Fault}
+use Rattle.rl_tokens.specs.Trees.{Tree}
+use Rattle.rl_grammar.specs.NumberShapes.{HasNoReading}
+use Rattle.rl_grammar.specs.WholeShapes.{IsCut}
+use Rattle.rust_literals.specs.declared.lit.Lit.{Lit}
+use Rattle.rust_literals.specs.Parsing.{AreRead, RefusesText}
+use Rattle.rl_bench.specs.Sums.{added}
+
+-- a kind's number
+abbrev pub number_of : Kind → ℕ
+number_of Str = 1
+number_of ByteStr = 2
+number_of CStr = 3
+number_of Byte = 4
+number_of Char = 5
+number_of Int = 6
+number_of Float = 7
+number_of Bool = 8
+
+-- a kind's number and two lengths, modulo 2 to the 64th
+abbrev pub weight_of : Kind → ℕ → ℕ → ℕ
+weight_of kind first second = added (added (number_of kind) first) second
+
+-- The text reads as a literal, of this weight by its kind and the lengths of its body and suffix in bytes.
+pub record IsShapeWeight (text : List ℕ) (weight : ℕ) : Type 0 where
+  pub kind : Kind
+  pub contents : Contents
+  pub body : List ℕ
+  pub suffix : List ℕ
+  pub reads : Reads (chars text) kind contents (chars suffix)
+  pub cut : IsCut kind text body suffix
+  pub weight_is : weight ≡ weight_of kind (length body) (length suffix)
+
+-- the weight of a text by its shape; a text that is no literal weighs nothing
+abbrev pub HasShapeWeight : List ℕ → ℕ → Type 0
+HasShapeWeight text weight = IsShapeWeight text weight ⊎ (HasNoReading (chars text) × (weight ≡ 0))
+
+-- how long contents are in bytes, characters and digits in UTF-8; a truth value has no length
+abbrev pub size : Contents → ℕ
+size (Characters cs) = byte_len cs
+size (Bytes bs) = length bs
+size (Digits ds) = byte_len ds
+size (Truth b) = 0
+
+-- The characters read as this kind of literal, of this weight by its kind and the lengths of its contents and suffix.
+pub record IsValueWeight (kind : Kind) (text : List ℕ) (weight : ℕ) : Type 0 where
+  pub contents : Contents
+  pub suffix : List ℕ
+  pub holds : HasContents kind text contents
+  pub ends : HasSuffix kind text suffix
+  pub weight_is : weight ≡ weight_of kind (size contents) (byte_len suffix)
+
+-- the weight of a text by its value; a text that is no literal weighs nothing
+abbrev pub HasValueWeight : List ℕ → ℕ → Type 0
+HasValueWeight text weight = ((kind : Kind) × IsValueWeight kind (chars text) weight) ⊎ (HasNoReading (chars text) × (weight ≡ 0))
+
+-- a text is cut into this many trees, groups as one; or it has a fault, and none
+abbrev pub HasTreeCount : List ℕ → ℕ → Type 0
+HasTreeCount text count =
+    ((trees : List Tree) × Lexes (chars text) 0 trees × (count ≡ length trees)) ⊎ ((kind : LexKind) × (at : ℕ) × Fault (chars text) kind at × (count ≡ 0))
+
+-- a text is read as this many literals; or it is refused, for another reason than memory, and none
+abbrev pub HasLiteralCount : (A : Type 0) → List ℕ → ℕ → Type 0
+HasLiteralCount A text count =
+    ((list : List (Lit A)) × AreRead (chars text) 0 list × (count ≡ length list))
+    ⊎ ((e : Error A) × RefusesText (chars text) 0 (length text) e × (e.kind ≢ Memory) × (count ≡ 0))

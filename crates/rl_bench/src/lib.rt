@@ -1,0 +1,136 @@
+//! Sums over many texts, to be called and timed by a program in another language. A static library.
+//!
+//! Each export takes a corpus: all texts behind one another, and the place where each ends. A text begins where the one
+//! before ended. What stands between places that are out of order or past the end, or is no UTF-8, is skipped.
+#![tactic(auto)]
+
+ghost use Rattle.std.specs.Prelude.{◌≡◌, IsTrue, IsFalse};
+ghost use Rattle.rl_bench.specs.Sums.{IsSum};
+ghost use Rattle.std.specs.declared.alloc.Global.{Global};
+ghost use Rattle.rl_bench.specs.Weights.{HasShapeWeight, HasValueWeight, HasTreeCount, HasLiteralCount};
+
+mod lists;
+mod literals;
+mod sums;
+mod values;
+mod weights;
+
+use crate::lists::{ByList, ByTrees};
+use crate::literals::ByLiteral;
+use crate::sums::sum;
+use crate::values::ByValue;
+use crate::weights::ByShape;
+use std::alloc::{AllocError, Global};
+
+/// The sum of the shapes of the texts: of each literal its kind's number, and the lengths of body and suffix in bytes.
+#[unsafe(no_mangle)]
+pub extern "C" fn rl_bench_shape(alloc: Global, corpus: &[u8], ends: &[usize]) -> u64
+    ensures { IsSum HasShapeWeight corpus.now ends.now result }
+{
+    match sum::<ByShape>(alloc, corpus, ends) {
+        Ok(total) => total,
+        Err(never) => match never {},
+    }
+}
+
+/// Puts into `total` the sum of the values of the texts: of each literal its kind's number, and the lengths of contents
+/// and suffix in bytes. False where memory was refused; `total` stays then.
+#[unsafe(no_mangle)]
+pub extern "C" fn rl_bench_value(
+    alloc: Global,
+    corpus: &[u8],
+    ends: &[usize],
+    total: &mut u64,
+) -> bool
+    ensures sum { IsTrue result → IsSum HasValueWeight corpus.now ends.now total.new }
+    ensures refused { IsFalse result → total.new ≡ total.old }
+{
+    put(sum::<ByValue>(alloc, corpus, ends), total)
+}
+
+/// The same, by way of `Lit::new`, the values, and the digits that it keeps.
+#[unsafe(no_mangle)]
+pub extern "C" fn rl_bench_literal(
+    alloc: Global,
+    corpus: &[u8],
+    ends: &[usize],
+    total: &mut u64,
+) -> bool
+    ensures sum { IsTrue result → IsSum HasValueWeight corpus.now ends.now total.new }
+    ensures refused { IsFalse result → total.new ≡ total.old }
+{
+    put(sum::<ByLiteral>(alloc, corpus, ends), total)
+}
+
+/// Puts into `total` how many trees the texts are cut into, a group counted as one; a text that has a fault counts as
+/// none. False where memory was refused; `total` stays then.
+#[unsafe(no_mangle)]
+pub extern "C" fn rl_bench_lex(
+    alloc: Global,
+    corpus: &[u8],
+    ends: &[usize],
+    total: &mut u64,
+) -> bool
+    ensures sum { IsTrue result → IsSum HasTreeCount corpus.now ends.now total.new }
+    ensures refused { IsFalse result → total.new ≡ total.old }
+{
+    put(sum::<ByTrees>(alloc, corpus, ends), total)
+}
+
+/// Puts into `total` how many literals the texts are read as; a text that is refused counts as none. False where memory
+/// was refused; `total` stays then.
+#[unsafe(no_mangle)]
+pub extern "C" fn rl_bench_read(
+    alloc: Global,
+    corpus: &[u8],
+    ends: &[usize],
+    total: &mut u64,
+) -> bool
+    ensures sum { IsTrue result → IsSum (HasLiteralCount Global) corpus.now ends.now total.new }
+    ensures refused { IsFalse result → total.new ≡ total.old }
+{
+    put(sum::<ByList>(alloc, corpus, ends), total)
+}
+
+/// Puts a sum into its place, where there is one.
+fn put(sum: Result<u64, AllocError>, total: &mut u64) -> bool
+    ensures sum { IsTrue result → sum ≡ Ok total.new }
+    ensures refused { IsFalse result → total.new ≡ total.old }
+{
+    match sum {
+        Ok(found) => {
+            *total = found;
+            true
+        }
+        Err(_) => false,
+    }
+}
+
+#[cfg(test)]
+mod tests {
+    use super::*;
+
+    // A text past UTF-8, places out of order, and one past the end, among the texts.
+    const CORPUS: &[u8] = b"\"ab\"q0xFF_u8nope1 'a' [2]\xFFtrue";
+
+    const ENDS: &[usize] = &[5, 12, 16, 25, 26, 30, 3, 40];
+
+    #[test]
+    fn sums(rt: HostRuntime) {
+        let alloc = rt.alloc();
+        // 1 + 2 + 1, 6 + 5 + 2, 8 + 4
+        assert_eq!(&rt; rl_bench_shape(alloc, CORPUS, ENDS), 29);
+        let mut total = 0;
+        // 1 + 2 + 1, 6 + 3 + 2, 8
+        assert!(&rt; rl_bench_value(alloc, CORPUS, ENDS, &mut total));
+        assert_eq!(&rt; total, 23);
+        assert!(&rt; rl_bench_literal(alloc, CORPUS, ENDS, &mut total));
+        assert_eq!(&rt; total, 23);
+        // 1, 1, 1, 3, 1
+        assert!(&rt; rl_bench_lex(alloc, CORPUS, ENDS, &mut total));
+        assert_eq!(&rt; total, 7);
+        // 1, 1, none, none, 1
+        assert!(&rt; rl_bench_read(alloc, CORPUS, ENDS, &mut total));
+        assert_eq!(&rt; total, 3);
+    }
+}

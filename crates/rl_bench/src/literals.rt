@@ -1,0 +1,100 @@
+//! What literals weigh by way of `Lit`.
+
+ghost use Rattle.std.specs.Prelude.{IfOk};
+ghost use Rattle.std.specs.Str.{chars};
+ghost use Rattle.rl_tokens.specs.declared.kind.Kind.TheVariants.{Str, ByteStr, CStr};
+ghost use Rattle.rl_bench.specs.Weights.{IsValueWeight};
+ghost use Rattle.rl_bench.specs.Sizes.{HasLitWeight};
+
+use crate::sums::Weigh;
+use crate::values::value_weight;
+use crate::weights::{text_size, weight};
+use rl_grammar::Kind;
+use rl_tokens::{Literal, Span};
+use rust_literals::{Lit, LitByteStr, LitCStr, LitStr};
+use std::alloc::{AllocError, Global};
+
+/// The weight of a literal by its kind, value or digits, and suffix.
+fn literal_weight(alloc: Global, literal: &Lit) -> Result<u64, AllocError>
+    ensures { IfOk result (HasLitWeight literal.now) }
+{
+    match literal {
+        Lit::Str(literal) => string_weight(alloc, literal),
+        Lit::ByteStr(literal) => byte_string_weight(alloc, literal),
+        Lit::CStr(literal) => c_string_weight(alloc, literal),
+        // A byte is one byte, whichever it is.
+        Lit::Byte(literal) => Ok(value_weight(Kind::Byte, 1, literal.suffix())),
+        Lit::Char(literal) => {
+            let size = literal.value().len_utf8();
+            Ok(value_weight(Kind::Char, size, literal.suffix()))
+        }
+        Lit::Int(literal) => {
+            let size = text_size(literal.base10_digits());
+            Ok(value_weight(Kind::Int, size, literal.suffix()))
+        }
+        Lit::Float(literal) => {
+            let size = text_size(literal.base10_digits());
+            Ok(value_weight(Kind::Float, size, literal.suffix()))
+        }
+        Lit::Bool(_) => Ok(weight(Kind::Bool, 0, 0)),
+        Lit::Verbatim(_) => Ok(0),
+    }
+}
+
+/// The weight of a string.
+fn string_weight(alloc: Global, literal: &LitStr) -> Result<u64, AllocError>
+    ensures { IfOk result (IsValueWeight Str (chars literal.now.text)) }
+{
+    match literal.value(alloc) {
+        Ok(value) => {
+            let size = text_size(value.as_str());
+            Ok(value_weight(Kind::Str, size, literal.suffix()))
+        }
+        Err(_) => Err(AllocError),
+    }
+}
+
+/// The weight of a byte string.
+fn byte_string_weight(alloc: Global, literal: &LitByteStr) -> Result<u64, AllocError>
+    ensures { IfOk result (IsValueWeight ByteStr (chars literal.now.text)) }
+{
+    match literal.value(alloc) {
+        Ok(value) => Ok(value_weight(Kind::ByteStr, value.len(), literal.suffix())),
+        Err(_) => Err(AllocError),
+    }
+}
+
+/// The weight of a C string.
+fn c_string_weight(alloc: Global, literal: &LitCStr) -> Result<u64, AllocError>
+    ensures { IfOk result (IsValueWeight CStr (chars literal.now.text)) }
+{
+    match literal.value(alloc) {
+        Ok(value) => {
+            let size = value.as_bytes().len();
+            Ok(value_weight(Kind::CStr, size, literal.suffix()))
+        }
+        Err(_) => Err(AllocError),
+    }
+}
+
+/// By kind, value or digits, and suffix, by way of `Lit::new`.
+pub(crate) struct ByLiteral;
+
+impl Weigh for ByLiteral {
+    ghost use Rattle.rl_bench.specs.Weights.{HasValueWeight};
+
+    type Refusal = AllocError;
+
+    ghost weighs = { HasValueWeight };
+
+    fn weigh(alloc: Global, text: &str) -> Result<u64, AllocError> {
+        let span = Span::new(0, 0, text.len());
+        let Ok(token) = Literal::from_text(alloc, text, span) else {
+            return Err(AllocError);
+        };
+        match Lit::new(alloc, token) {
+            Ok(literal) => literal_weight(alloc, &literal),
+            Err(_) => Err(AllocError),
+        }
+    }
+}

@@ -1,0 +1,61 @@
+-- What is printed for a line of input. Lines and what is printed are lists of bytes, texts lists of characters.
+use Rattle.std.specs.Prelude.{◌≡◌, ◌≢◌, ◌⊎◌, ℕ, ◌==◌, List, [], ◌++◌, length, Option, Some, None, codes}
+use Rattle.std.specs.List.{before_first, after_first}
+use Rattle.std.specs.Str.{chars, IsUtf8}
+use Rattle.std.specs.Fmt.{decimal}
+use Rattle.rl_tokens.specs.declared.kind.Kind.TheVariants.{Int as IntKind}
+use Rattle.rl_tokens.specs.declared.error.Error.{Error}
+use Rattle.rl_tokens.specs.Errors.{message_of}
+use Rattle.rl_tokens.specs.Trivia.{Skipped}
+use Rattle.rl_tokens.specs.Lexing.{byte_len}
+use Rattle.rl_tokens.specs.Reading.{HasNoInteger}
+use Rattle.rl_grammar.specs.NumberShapes.{IsPast, HasNoFloat}
+use Rattle.rust_literals.specs.Parsing.{RefusesText}
+use Rattle.rl_lines.specs.Lines.{IsLineOf, AreLinesOfText, PrintsKind, PrintsFloat}
+use Rattle.rl_bulk.specs.declared.command.Command.{Command}
+use Rattle.rl_bulk.specs.declared.command.Command.TheVariants.{Text, Int, Float, Skip, Read}
+use Rattle.rl_bulk.specs.Asked.{name_of}
+use Rattle.rl_bulk.specs.Digits.{bytes_of}
+
+-- the line of the text as an integer, or why it is none
+abbrev pub IsIntegerAnswer : List ℕ → List ℕ → Type 0
+IsIntegerAnswer text out =
+    PrintsKind IntKind text [] (chars out) ⊎ (HasNoInteger text × (out ≡ codes "None\n")) ⊎ (IsPast text × (out ≡ codes "TooLarge\n"))
+
+-- the line of the text as a float, or that it is none
+abbrev pub IsFloatAnswer : List ℕ → List ℕ → Type 0
+IsFloatAnswer text out = PrintsFloat text [] (chars out) ⊎ (HasNoFloat text × (out ≡ codes "None\n"))
+
+-- how many bytes stand behind white space and comments
+abbrev pub IsSkipAnswer : List ℕ → List ℕ → Type 0
+IsSkipAnswer text out = (rest : List ℕ) × Skipped text rest × (out ≡ decimal (byte_len rest) ++ codes "\n")
+
+-- the line of a refusal, with its place, and one with a point
+abbrev pub refusal_lines : {A : Type 0} → Error A → List ℕ
+refusal_lines e = codes "error at " ++ (decimal e.span.lo ++ (codes ".." ++ (decimal e.span.hi ++ (codes ": " ++ (message_of e.kind ++ codes "\n.\n")))))
+
+-- the lines of the literals that the bytes' text is, and one with a point, or those of its refusal
+abbrev pub IsReadAnswer : Type 0 → List ℕ → List ℕ → Type 0
+IsReadAnswer A bytes out =
+    ((lines : List ℕ) × AreLinesOfText (chars bytes) lines × (chars out ≡ lines ++ codes ".\n"))
+    ⊎ ((e : Error A) × RefusesText (chars bytes) 0 (length bytes) e × (out ≡ refusal_lines e))
+
+-- what a command answers to the bytes of a text
+abbrev pub Answers : Type 0 → Command → List ℕ → List ℕ → Type 0
+Answers A Text bytes out = IsLineOf (chars bytes) (chars out)
+Answers A Int bytes out = IsIntegerAnswer (chars bytes) out
+Answers A Float bytes out = IsFloatAnswer (chars bytes) out
+Answers A Skip bytes out = IsSkipAnswer (chars bytes) out
+Answers A Read bytes out = IsReadAnswer A bytes out
+
+-- the answer to bytes, where the digits stand for some: they may be no text
+abbrev pub AnswersBytes : Type 0 → Command → Option (List ℕ) → List ℕ → Type 0
+AnswersBytes A command None out = out ≡ codes "error: input is not hexadecimal\n"
+AnswersBytes A command (Some bytes) out =
+    (IsUtf8 bytes × Answers A command bytes out) ⊎ ((IsUtf8 bytes → ⊥) × (out ≡ codes "error: input is not UTF-8\n"))
+
+-- the answer to a line: to the digits behind its first space, by the command before it
+abbrev pub IsAnswerOf : Type 0 → List ℕ → List ℕ → Type 0
+IsAnswerOf A line out =
+    ((command : Command) × (before_first (λ b. b == 32) line ≡ name_of command) × AnswersBytes A command (bytes_of (after_first (λ b. b == 32) line)) out)
+    ⊎ (((command : Command) → before_first (λ b. b == 32) line ≢ name_of command) × (out ≡ codes "error: no command\n"))

@@ -1,0 +1,12 @@
+-- What a line of input can ask for.
+use Rattle.std.specs.Prelude.{ℕ, List, codes}
+use Rattle.rl_bulk.specs.declared.command.Command.{Command}
+use Rattle.rl_bulk.specs.declared.command.Command.TheVariants.{Text, Int, Float, Skip, Read}
+
+-- the word that asks for a command
+abbrev pub name_of : Command → List ℕ
+name_of Text = codes "text"
+name_of Int = codes "int"
+name_of Float = codes "float"
+name_of Skip = codes "skip"
+name_of Read = codes "read"

@@ -1,0 +1,19 @@
+-- Bytes as pairs of hexadecimal digits.
+use Rattle.std.specs.Prelude.{ℕ, ◌&&◌, List, [], ◌∷◌, ◌++◌, Option, Some, None, Vec, if◌then◌else◌}
+use Rattle.rl_tokens.specs.Quoted.{is_hex_digit, hex_value}
+
+-- these bytes before those, where there are some
+abbrev pub with_front : List ℕ → Option (List ℕ) → Option (List ℕ)
+with_front front (Some bytes) = Some (front ++ bytes)
+with_front front None = None
+
+-- the bytes that the pairs stand for; none where something else stands
+abbrev pub bytes_of : List ℕ → Option (List ℕ)
+bytes_of [] = Some []
+bytes_of (high ∷ []) = None
+bytes_of (high ∷ low ∷ rest) = if is_hex_digit high && is_hex_digit low then with_front (hex_value high low ∷ []) (bytes_of rest) else None
+
+-- the bytes of an answer that may have none
+abbrev pub held : {A : Type 0} → Option (Vec ℕ A) → Option (List ℕ)
+held (Some v) = Some v.items
+held None = None

@@ -1,0 +1,35 @@
+/// What a line of input asks for.
+#[derive(Clone, Copy, PartialEq, Eq)]
+pub enum Command {
+    /// The text as one literal.
+    Text,
+    /// The text as an integer.
+    Int,
+    /// The text as a float.
+    Float,
+    /// How much stands behind white space and comments.
+    Skip,
+    /// The text as literals, with white space and comments between them.
+    Read,
+}
+
+impl Command {
+    ghost use Rattle.std.specs.Prelude.{◌≡◌, ◌≢◌, IfSome, IfNone};
+    ghost use Rattle.rl_bulk.specs.declared.command.Command.{Command};
+    ghost use Rattle.rl_bulk.specs.Asked.{name_of};
+
+    /// The command of this name.
+    pub fn from_name(name: &str) -> Option<Command>
+        ensures known { IfSome result (λ command. name.now ≡ name_of command) }
+        ensures unknown { IfNone result ((command : Command) → name.now ≢ name_of command) }
+    {
+        match name {
+            "text" => Some(Command::Text),
+            "int" => Some(Command::Int),
+            "float" => Some(Command::Float),
+            "skip" => Some(Command::Skip),
+            "read" => Some(Command::Read),
+            _ => None,
+        }
+    }
+}

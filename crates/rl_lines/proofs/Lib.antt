@@ -1,0 +1,4 @@
+pub mod LineLemmas
+pub mod PrintLemmas
+pub mod TextLemmas
+pub mod ListLemmas

@@ -1,0 +1,51 @@
+-- Pieces of a line, by their characters.
+use Rattle.std.proofs.Common.{◌≡◌, ℕ, true, false, eqb, List, [], ◌∷◌, ◌++◌, length, refl, sym, ap, ◌∙◌, append_assoc, arith}
+use Rattle.std.specs.Prelude.{encode_utf8_all}
+use Rattle.std.specs.Str.{chars, IsUtf8}
+use Rattle.std.proofs.lemmas.Bool.{eqb-true, both_ways}
+use Rattle.std.proofs.lemmas.Str.{chars-append, encodes-chars}
+use Rattle.rl_tokens.specs.declared.kind.Kind.TheVariants.{Str}
+use Rattle.rl_tokens.specs.Texts.{xid_ok}
+use Rattle.rl_tokens.specs.Written.{written}
+use Rattle.rl_lines.specs.Lines.{line, suffix_word}
+
+-- a piece at the end
+pub pushed : (old new piece : List ℕ) → IsUtf8 old → new ≡ old ++ piece → chars new ≡ chars old ++ chars piece
+pushed old new piece u e = ap chars e ∙ chars-append old piece u
+
+-- no suffix
+pub empty_suffix : (s : List ℕ) → eqb (length s) 0 ≡ true → suffix_word (chars s) ≡ chars (45 ∷ [])
+unfolding chars
+empty_suffix [] h = refl
+empty_suffix (c ∷ s) h = absurd (let e = eqb-true (length (c ∷ s)) 0 h in omega arith)
+
+some_word : (cs : List ℕ) → (cs ≡ [] → ⊥) → xid_ok cs ≡ false → suffix_word cs ≡ written Str cs
+some_word [] some h = absurd (some refl)
+some_word (c ∷ cs) some h = rw h refl
+
+-- a suffix that is no identifier
+pub quoted_suffix : (s : List ℕ) → IsUtf8 s → eqb (length s) 0 ≡ false → xid_ok (chars s) ≡ false → suffix_word (chars s) ≡ written Str (chars s)
+quoted_suffix s u n h = some_word (chars s) (λ e. absurd (nothing e)) h
+  where
+    nothing : chars s ≡ [] → ⊥
+    nothing e = let t : s ≡ [] = sym (encodes-chars s u) ∙ ap encode_utf8_all e in both_ways (eqb (length s) 0) n (ap (λ z. eqb (length z) 0) t)
+
+space : chars (32 ∷ []) ≡ 32 ∷ []
+unfolding chars
+space = refl
+
+line_feed : chars (10 ∷ []) ≡ 10 ∷ []
+unfolding chars
+line_feed = refl
+
+-- the six pieces of a line
+pub line_joined : (a b d e f g h word shown suffix : List ℕ) → b ≡ a ++ word → d ≡ b ++ chars (32 ∷ []) → e ≡ d ++ shown → f ≡ e ++ chars (32 ∷ []) → g ≡ f ++ suffix_word suffix → h ≡ g ++ chars (10 ∷ []) → h ≡ a ++ line word shown suffix
+line_joined a b d e f g h word shown suffix p q r s t u =
+    let s1 = 32 ∷ [] in
+    let tail = suffix_word suffix ++ (10 ∷ []) in
+    let last : h ≡ (f ++ suffix_word suffix) ++ (10 ∷ []) = u ∙ ap (λ z. g ++ z) line_feed ∙ ap (λ z. z ++ (10 ∷ [])) t in
+    let five : h ≡ f ++ tail = last ∙ append_assoc f (suffix_word suffix) (10 ∷ []) in
+    let four : h ≡ e ++ (32 ∷ tail) = five ∙ ap (λ z. z ++ tail) (s ∙ ap (λ z. e ++ z) space) ∙ append_assoc e s1 tail in
+    let three : h ≡ d ++ (shown ++ (32 ∷ tail)) = four ∙ ap (λ z. z ++ (32 ∷ tail)) r ∙ append_assoc d shown (32 ∷ tail) in
+    let two : h ≡ b ++ (32 ∷ (shown ++ (32 ∷ tail))) = three ∙ ap (λ z. z ++ (shown ++ (32 ∷ tail))) (q ∙ ap (λ z. b ++ z) space) ∙ append_assoc b s1 (shown ++ (32 ∷ tail)) in
+    two ∙ ap (λ z. z ++ (32 ∷ (shown ++ (32 ∷ tail)))) p ∙ append_assoc a word (32 ∷ (shown ++ (32 ∷ tail)))

@@ -1,0 +1,7 @@
+use Rattle.std.proofs.Common.{rules}
+use Rattle.std.proofs.lemmas.Str.{IsUtf8-string_bytes}
+use Rattle.rl_lines.proofs.LineLemmas.{pushed}
+use Rattle.rl_lines.proofs.line.push.Goals as goal
+
+pub returns : goal.returns
+returns g c = pushed _ _ _ (IsUtf8-string_bytes c.args.out.now) (search rules)

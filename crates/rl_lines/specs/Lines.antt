@@ -1,0 +1,104 @@
+-- What the program prints: a line for a literal. Texts and lines are lists of characters; 32 is a space, 10 LF.
+use Rattle.std.specs.Prelude.{◌≡◌, ◌⊎◌, ℕ, List, [], ◌∷◌, ◌++◌, codes, if◌then◌else◌}
+use Rattle.rl_tokens.specs.declared.kind.Kind.{Kind}
+use Rattle.rl_tokens.specs.declared.kind.Kind.TheVariants.{Str, ByteStr, CStr, Byte, Char, Int, Float, Bool}
+use Rattle.std.specs.Str.{chars}
+use Rattle.rl_tokens.specs.Texts.{xid_ok}
+use Rattle.rl_tokens.specs.Tokens.{Token}
+use Rattle.rl_tokens.specs.Trees.{Tree}
+use Rattle.rl_tokens.specs.Lexing.{Lexes}
+use Rattle.rl_tokens.specs.Fronts.{IsFront}
+use Rattle.rl_tokens.specs.Numbers.{FloatReads, float_digits}
+use Rattle.rl_tokens.specs.Reading.{Contents, Characters, Bytes, Digits, Truth, truth_text, Reads}
+use Rattle.rl_tokens.specs.Written.{written}
+use Rattle.rl_grammar.specs.NumberShapes.{HasNoReading}
+use Rattle.rust_literals.specs.declared.lit.Lit.{Lit}
+use Rattle.rust_literals.specs.declared.lit.Lit.TheVariants.{Str as StrLit, ByteStr as ByteStrLit, CStr as CStrLit, Byte as ByteLit, Char as CharLit, Int as IntLit, Float as FloatLit, Bool as BoolLit, Verbatim}
+
+-- a kind's word
+abbrev pub kind_word : Kind → List ℕ
+kind_word Str = codes "Str"
+kind_word ByteStr = codes "ByteStr"
+kind_word CStr = codes "CStr"
+kind_word Byte = codes "Byte"
+kind_word Char = codes "Char"
+kind_word Int = codes "Int"
+kind_word Float = codes "Float"
+kind_word Bool = codes "Bool"
+
+-- what a literal stands for: as a literal, a number by its digits, a truth value by its word
+abbrev pub payload : Kind → Contents → List ℕ
+payload kind (Characters cs) = written kind cs
+payload kind (Bytes bs) = written kind bs
+payload kind (Digits ds) = ds
+payload kind (Truth b) = truth_text b
+
+-- a suffix: `-` for none, itself where it is an identifier, else as a string literal
+abbrev pub suffix_word : List ℕ → List ℕ
+suffix_word [] = codes "-"
+suffix_word (c ∷ cs) = if xid_ok (c ∷ cs) then (c ∷ cs) else written Str (c ∷ cs)
+
+-- a word, a payload and a suffix, with a space between, and LF
+abbrev pub line : List ℕ → List ℕ → List ℕ → List ℕ
+line word shown suffix = word ++ (32 ∷ (shown ++ (32 ∷ (suffix_word suffix ++ (10 ∷ [])))))
+
+-- the line of a literal of this kind, contents and suffix
+abbrev pub literal_line : Kind → Contents → List ℕ → List ℕ
+literal_line kind contents suffix = line (kind_word kind) (payload kind contents) suffix
+
+-- the line of a text that is no literal: the text as a string literal
+abbrev pub verbatim_line : List ℕ → List ℕ
+verbatim_line text = line (codes "Verbatim") (written Str text) []
+
+-- The line is that of the text's one reading, or the text has none.
+abbrev pub IsLineOf : List ℕ → List ℕ → Type 0
+IsLineOf text shown =
+    ((kind : Kind) × (contents : Contents) × (suffix : List ℕ) × Reads text kind contents suffix × (shown ≡ literal_line kind contents suffix))
+    ⊎ (HasNoReading text × (shown ≡ verbatim_line text))
+
+-- The lines of tokens, one after another: each is that of the token's text.
+abbrev pub AreLinesOf : List Token → List ℕ → Type 0
+AreLinesOf [] shown = shown ≡ []
+AreLinesOf (t ∷ ts) shown = (first rest : List ℕ) × IsLineOf (chars t.text) first × AreLinesOf ts rest × (shown ≡ first ++ rest)
+
+-- Literals begin the trees one after another, as these tokens, up to the trees' end.
+abbrev pub UseUp : List Tree → List Token → Type 0
+UseUp trees [] = trees ≡ []
+UseUp trees (t ∷ ts) = (rest : List Tree) × IsFront trees t rest × UseUp rest ts
+
+-- The text is cut into the trees of literals, and these are their lines.
+pub record AreLinesOfText (text shown : List ℕ) : Type 0 where
+  pub trees : List Tree
+  pub tokens : List Token
+  pub lexes : Lexes text 0 trees
+  pub used : UseUp trees tokens
+  pub lines : AreLinesOf tokens shown
+
+-- ---- a literal that is printed behind what was printed before
+
+-- the line of a text's reading of the kind
+abbrev pub PrintsKind : Kind → List ℕ → List ℕ → List ℕ → Type 0
+PrintsKind kind text old new =
+    (contents : Contents) × (suffix : List ℕ) × Reads text kind contents suffix × (new ≡ old ++ literal_line kind contents suffix)
+
+-- the line of a text's reading as a float, by the float rule alone
+abbrev pub PrintsFloat : List ℕ → List ℕ → List ℕ → Type 0
+PrintsFloat text old new =
+    (numeral : List ℕ) × (suffix : List ℕ) × FloatReads text numeral suffix × (new ≡ old ++ literal_line Float (Digits (float_digits numeral)) suffix)
+
+-- a literal's line
+abbrev pub PrintsLit : {A : Type 0} → Lit A → List ℕ → List ℕ → Type 0
+PrintsLit (StrLit l) old new = PrintsKind Str (chars l.text) old new
+PrintsLit (ByteStrLit l) old new = PrintsKind ByteStr (chars l.text) old new
+PrintsLit (CStrLit l) old new = PrintsKind CStr (chars l.text) old new
+PrintsLit (ByteLit l) old new = PrintsKind Byte (chars l.text) old new
+PrintsLit (CharLit l) old new = PrintsKind Char (chars l.text) old new
+PrintsLit (IntLit l) old new = PrintsKind Int (chars l.text) old new
+PrintsLit (FloatLit l) old new = PrintsFloat (chars l.text) old new
+PrintsLit (BoolLit l) old new = new ≡ old ++ literal_line Bool (Truth l.value) []
+PrintsLit (Verbatim l) old new = new ≡ old ++ verbatim_line (chars l.text)
+
+-- the lines of literals, one after another
+abbrev pub PrintsList : {A : Type 0} → List (Lit A) → List ℕ → List ℕ → Type 0
+PrintsList [] old new = new ≡ old
+PrintsList (l ∷ ls) old new = (between : List ℕ) × PrintsLit l old between × PrintsList ls between new

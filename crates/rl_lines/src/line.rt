@@ -1,0 +1,72 @@
+//! The line that a literal is printed as.
+
+ghost use Rattle.std.specs.Prelude.{◌≡◌, ◌++◌, OnOk, codes, string_bytes};
+ghost use Rattle.std.specs.Str.{chars};
+ghost use Rattle.rl_tokens.specs.declared.kind.Kind.TheVariants.{Str};
+ghost use Rattle.rl_tokens.specs.Written.{written};
+ghost use Rattle.rl_lines.specs.Lines.{line, suffix_word};
+
+use rl_tokens::Literal;
+use rl_tokens::ident::xid_ok;
+use std::alloc::{AllocError, Allocator};
+
+/// Writes a piece at the end.
+fn push<A: Allocator>(out: &mut String<A>, piece: &str) -> Result<(), AllocError>
+    ensures { OnOk result
+        (chars (string_bytes out.new) ≡ chars (string_bytes out.old) ++ chars piece.now) }
+{
+    out.push_str(piece)?;
+    Ok(())
+}
+
+/// Writes a text as a string literal.
+fn push_quoted<A: Allocator + Copy>(
+    alloc: A,
+    out: &mut String<A>,
+    text: &str,
+) -> Result<(), AllocError>
+    ensures { OnOk result
+        (chars (string_bytes out.new) ≡ chars (string_bytes out.old) ++ written Str (chars text.now)) }
+{
+    match Literal::string(alloc, text) {
+        Ok(literal) => push(out, literal.text()),
+        Err(_) => Err(AllocError),
+    }
+}
+
+/// Writes a suffix.
+fn push_suffix<A: Allocator + Copy>(
+    alloc: A,
+    out: &mut String<A>,
+    suffix: &str,
+) -> Result<(), AllocError>
+    ensures { OnOk result
+        (chars (string_bytes out.new) ≡ chars (string_bytes out.old) ++ suffix_word (chars suffix.now)) }
+{
+    if suffix.is_empty() {
+        push(out, "-")
+    } else if xid_ok(suffix) {
+        push(out, suffix)
+    } else {
+        push_quoted(alloc, out, suffix)
+    }
+}
+
+/// Writes a line: a word, a payload and a suffix.
+pub fn push_line<A: Allocator + Copy>(
+    alloc: A,
+    out: &mut String<A>,
+    word: &str,
+    shown: &str,
+    suffix: &str,
+) -> Result<(), AllocError>
+    ensures { OnOk result (chars (string_bytes out.new)
+        ≡ chars (string_bytes out.old) ++ line (chars word.now) (chars shown.now) (chars suffix.now)) }
+{
+    push(out, word)?;
+    push(out, " ")?;
+    push(out, shown)?;
+    push(out, " ")?;
+    push_suffix(alloc, out, suffix)?;
+    push(out, "\n")
+}

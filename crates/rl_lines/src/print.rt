@@ -1,0 +1,256 @@
+//! Literals as lines.
+
+ghost use Rattle.std.specs.Prelude.{◌≡◌, ◌++◌, [], OnOk, IfOk, string_bytes};
+ghost use Rattle.std.specs.Str.{chars};
+ghost use Rattle.rl_tokens.specs.declared.kind.Kind.TheVariants.{Str, ByteStr, CStr, Byte, Char, Int, Bool};
+ghost use Rattle.rl_tokens.specs.Reading.{Truth, truth_text};
+ghost use Rattle.rl_lines.specs.Lines.{line, kind_word, literal_line, verbatim_line, PrintsKind, PrintsFloat, PrintsLit, PrintsList};
+
+use crate::line::push_line;
+use rl_tokens::{Kind, Literal};
+use rust_literals::{
+    Lit, LitBool, LitByte, LitByteStr, LitCStr, LitChar, LitFloat, LitInt, LitStr,
+};
+use std::alloc::{AllocError, Allocator};
+
+/// A kind's word.
+fn word(kind: Kind) -> &'static str
+    ensures { result.now ≡ kind_word kind }
+{
+    match kind {
+        Kind::Str => "Str",
+        Kind::ByteStr => "ByteStr",
+        Kind::CStr => "CStr",
+        Kind::Byte => "Byte",
+        Kind::Char => "Char",
+        Kind::Int => "Int",
+        Kind::Float => "Float",
+        Kind::Bool => "Bool",
+    }
+}
+
+/// Writes the line of a literal of the kind.
+fn push_kind<A: Allocator + Copy>(
+    alloc: A,
+    out: &mut String<A>,
+    kind: Kind,
+    shown: &str,
+    suffix: &str,
+) -> Result<(), AllocError>
+    ensures { OnOk result (chars (string_bytes out.new)
+        ≡ chars (string_bytes out.old) ++ line (kind_word kind) (chars shown.now) (chars suffix.now)) }
+{
+    push_line(alloc, out, word(kind), shown, suffix)
+}
+
+/// Writes the line of a string.
+fn push_string<A: Allocator + Copy>(
+    alloc: A,
+    out: &mut String<A>,
+    literal: &LitStr<A>,
+) -> Result<(), AllocError>
+    ensures { OnOk result (PrintsKind Str (chars literal.now.text)
+        (chars (string_bytes out.old)) (chars (string_bytes out.new))) }
+{
+    let Ok(value) = literal.value(alloc) else {
+        return Err(AllocError);
+    };
+    let Ok(shown) = Literal::string(alloc, value.as_str()) else {
+        return Err(AllocError);
+    };
+    push_kind(alloc, out, Kind::Str, shown.text(), literal.suffix())
+}
+
+/// Writes the line of a byte string.
+fn push_byte_string<A: Allocator + Copy>(
+    alloc: A,
+    out: &mut String<A>,
+    literal: &LitByteStr<A>,
+) -> Result<(), AllocError>
+    ensures { OnOk result (PrintsKind ByteStr (chars literal.now.text)
+        (chars (string_bytes out.old)) (chars (string_bytes out.new))) }
+{
+    let Ok(value) = literal.value(alloc) else {
+        return Err(AllocError);
+    };
+    let Ok(shown) = Literal::byte_string(alloc, value.as_slice()) else {
+        return Err(AllocError);
+    };
+    push_kind(alloc, out, Kind::ByteStr, shown.text(), literal.suffix())
+}
+
+/// Writes the line of a C string.
+fn push_c_string<A: Allocator + Copy>(
+    alloc: A,
+    out: &mut String<A>,
+    literal: &LitCStr<A>,
+) -> Result<(), AllocError>
+    ensures { OnOk result (PrintsKind CStr (chars literal.now.text)
+        (chars (string_bytes out.old)) (chars (string_bytes out.new))) }
+{
+    let Ok(value) = literal.value(alloc) else {
+        return Err(AllocError);
+    };
+    let Ok(shown) = Literal::c_string(alloc, &value) else {
+        return Err(AllocError);
+    };
+    push_kind(alloc, out, Kind::CStr, shown.text(), literal.suffix())
+}
+
+/// Writes the line of a byte.
+fn push_byte<A: Allocator + Copy>(
+    alloc: A,
+    out: &mut String<A>,
+    literal: &LitByte<A>,
+) -> Result<(), AllocError>
+    ensures { OnOk result (PrintsKind Byte (chars literal.now.text)
+        (chars (string_bytes out.old)) (chars (string_bytes out.new))) }
+{
+    let Ok(shown) = Literal::byte_character(alloc, literal.value()) else {
+        return Err(AllocError);
+    };
+    push_kind(alloc, out, Kind::Byte, shown.text(), literal.suffix())
+}
+
+/// Writes the line of a character.
+fn push_character<A: Allocator + Copy>(
+    alloc: A,
+    out: &mut String<A>,
+    literal: &LitChar<A>,
+) -> Result<(), AllocError>
+    ensures { OnOk result (PrintsKind Char (chars literal.now.text)
+        (chars (string_bytes out.old)) (chars (string_bytes out.new))) }
+{
+    let Ok(shown) = Literal::character(alloc, literal.value()) else {
+        return Err(AllocError);
+    };
+    push_kind(alloc, out, Kind::Char, shown.text(), literal.suffix())
+}
+
+/// Writes the line of an integer.
+fn push_integer<A: Allocator + Copy>(
+    alloc: A,
+    out: &mut String<A>,
+    literal: &LitInt<A>,
+) -> Result<(), AllocError>
+    ensures { OnOk result (PrintsKind Int (chars literal.now.text)
+        (chars (string_bytes out.old)) (chars (string_bytes out.new))) }
+{
+    push_kind(
+        alloc,
+        out,
+        Kind::Int,
+        literal.base10_digits(),
+        literal.suffix(),
+    )
+}
+
+/// Writes the line of a float.
+fn push_float<A: Allocator + Copy>(
+    alloc: A,
+    out: &mut String<A>,
+    literal: &LitFloat<A>,
+) -> Result<(), AllocError>
+    ensures { OnOk result (PrintsFloat (chars literal.now.text)
+        (chars (string_bytes out.old)) (chars (string_bytes out.new))) }
+{
+    push_kind(
+        alloc,
+        out,
+        Kind::Float,
+        literal.base10_digits(),
+        literal.suffix(),
+    )
+}
+
+/// The word of a truth value.
+fn truth_word(value: bool) -> &'static str
+    ensures { result.now ≡ truth_text value }
+{
+    if value { "true" } else { "false" }
+}
+
+/// Writes the line of a truth value.
+fn push_truth<A: Allocator + Copy>(
+    alloc: A,
+    out: &mut String<A>,
+    literal: &LitBool,
+) -> Result<(), AllocError>
+    ensures { OnOk result (chars (string_bytes out.new)
+        ≡ chars (string_bytes out.old) ++ literal_line Bool (Truth literal.now.value) []) }
+{
+    push_kind(alloc, out, Kind::Bool, truth_word(literal.value()), "")
+}
+
+/// Writes the line of a text that is no literal.
+fn push_verbatim<A: Allocator + Copy>(
+    alloc: A,
+    out: &mut String<A>,
+    token: &Literal<A>,
+) -> Result<(), AllocError>
+    ensures { OnOk result (chars (string_bytes out.new)
+        ≡ chars (string_bytes out.old) ++ verbatim_line (chars token.now.text)) }
+{
+    let Ok(shown) = Literal::string(alloc, token.text()) else {
+        return Err(AllocError);
+    };
+    push_line(alloc, out, "Verbatim", shown.text(), "")
+}
+
+/// Writes a literal's line at the end.
+fn push_literal<A: Allocator + Copy>(
+    alloc: A,
+    out: &mut String<A>,
+    literal: &Lit<A>,
+) -> Result<(), AllocError>
+    ensures { OnOk result
+        (PrintsLit literal.now (chars (string_bytes out.old)) (chars (string_bytes out.new))) }
+{
+    match literal {
+        Lit::Str(literal) => push_string(alloc, out, literal),
+        Lit::ByteStr(literal) => push_byte_string(alloc, out, literal),
+        Lit::CStr(literal) => push_c_string(alloc, out, literal),
+        Lit::Byte(literal) => push_byte(alloc, out, literal),
+        Lit::Char(literal) => push_character(alloc, out, literal),
+        Lit::Int(literal) => push_integer(alloc, out, literal),
+        Lit::Float(literal) => push_float(alloc, out, literal),
+        Lit::Bool(literal) => push_truth(alloc, out, literal),
+        Lit::Verbatim(token) => push_verbatim(alloc, out, token),
+    }
+}
+
+/// Writes the lines of the literals at the end.
+fn push_literals<A: Allocator + Copy>(
+    alloc: A,
+    out: &mut String<A>,
+    literals: &[Lit<A>],
+) -> Result<(), AllocError>
+    ensures { OnOk result
+        (PrintsList literals.now (chars (string_bytes out.old)) (chars (string_bytes out.new))) }
+{
+    for literal in literals {
+        push_literal(alloc, out, literal)?;
+    }
+    Ok(())
+}
+
+/// The line of a literal: its kind, its contents as they are written, and its suffix, with LF behind it.
+pub fn line_of<A: Allocator + Copy>(alloc: A, literal: &Lit<A>) -> Result<String<A>, AllocError>
+    ensures { IfOk result (λ line. PrintsLit literal.now [] (chars (string_bytes line))) }
+{
+    let mut line = String::new(alloc);
+    push_literal(alloc, &mut line, literal)?;
+    Ok(line)
+}
+
+/// The lines of literals, one after another.
+pub fn lines_of<A: Allocator + Copy>(
+    alloc: A,
+    literals: &[Lit<A>],
+) -> Result<String<A>, AllocError>
+    ensures { IfOk result (λ lines. PrintsList literals.now [] (chars (string_bytes lines))) }
+{
+    let mut lines = String::new(alloc);
+    push_literals(alloc, &mut lines, literals)?;
+    Ok(lines)
+}

@@ -1,9 +1,0 @@
-use Rattle.std.proofs.Common.{◌∙◌, sym}
-use Rattle.rl_tool.proofs.LineLemmas.{empty_suffix, quoted_suffix}
-use Rattle.rl_tool.proofs.line.push_suffix.Goals as goal
-
-pub returns-then-is_empty-clause-suffix : goal.returns-then-is_empty-clause-suffix
-returns-then-is_empty-clause-suffix g c = rw (empty_suffix c.args.suffix.now (sym c.is_empty.ensures ∙ c.if-is_empty.true)) c.push.ensures.piece
-
-pub returns-else-xid_ok-clause-suffix : goal.returns-else-xid_ok-clause-suffix
-returns-else-xid_ok-clause-suffix g c = rw (quoted_suffix c.args.suffix.now c.utf8.suffix (sym c.is_empty.ensures ∙ c.if-is_empty.false) (sym c.xid_ok.ensures ∙ c.if-xid_ok.false)) c.push_quoted.ensures.quoted

@@ -1,0 +1,4 @@
+pub mod ItemLemmas
+pub mod LintLemmas
+pub mod RewriteLemmas
+pub mod CountLemmas

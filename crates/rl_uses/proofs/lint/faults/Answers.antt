@@ -1,0 +1,20 @@
+use Rattle.std.proofs.Common.{◌≡◌, ◌+◌, ◌∷◌, [], ◌++◌, take, arith}
+use Rattle.std.proofs.lemmas.Grind.{common_steps}
+use Rattle.rust_literals.specs.Literals.{span_of}
+use Rattle.rl_uses.proofs.LintLemmas.{faults_same, faults_more}
+use Rattle.rl_uses.proofs.lint.faults.Goals.{then-branch+else-is_err, else-branch}
+use Rattle.rl_uses.proofs.lint.faults.Goals as goal
+
+pub loop-literal-preserved : goal.loop-literal-preserved
+loop-literal-preserved g c =
+    let literals = c.args.literals.now in
+    let i = c.loop-literal.literal-index in
+    let l = c.literal-item.result in
+    let grown : take (i + 1) literals ≡ take i literals ++ (l ∷ []) = grind (arith, common_steps) in
+    elim c.if-branch.branch [
+      | then-branch+else-is_err w ↦
+          let more : c.if-branch.spans.items ≡ c.loop-literal.spans.items ++ (span_of l ∷ []) = grind (arith, common_steps) in
+          rw (grown, more) (faults_more (take i literals) l c.loop-literal.spans.items c.loop-literal.invariant (rw w.if-branch.true at c.in_ok-is_fault.ensures.tells))
+      | else-branch w ↦
+          rw (grown, w.spans-is) (faults_same (take i literals) l c.loop-literal.spans.items c.loop-literal.invariant (rw w.if-branch.false at c.in_ok-is_fault.ensures.tells))
+    ]

@@ -1,0 +1,114 @@
+-- What the parsers of items and lists do.
+use Rattle.std.specs.Prelude.{◌≡◌, ◌≢◌, ◌⊎◌, List, [], ◌∷◌, codes, Result, Ok, Err}
+use Rattle.rl_tokens.specs.declared.span.Span.{Span}
+use Rattle.rl_tokens.specs.declared.kind.Kind.TheVariants.{Str as StrKind, Int as IntKind}
+use Rattle.rl_tokens.specs.declared.token.Delimiter.TheVariants.{Bracket}
+use Rattle.rl_tokens.specs.declared.error.Error.{Error}
+use Rattle.rl_tokens.specs.Errors.{memory_at}
+use Rattle.rl_tokens.specs.Trees.{Tree, Trees, GroupTree, inside_of}
+use Rattle.rl_tokens.specs.Buffers.{first_span, IsRefusal}
+use Rattle.rl_tokens.specs.Fronts.{IsFrontOf, HasFrontOf}
+use Rattle.rl_uses.specs.declared.list.Item.{Item}
+use Rattle.rl_uses.specs.declared.list.Item.TheVariants.{Int, Str}
+use Rattle.rl_uses.specs.declared.list.ItemList.{ItemList}
+use Rattle.rl_uses.specs.Marks.{IsBehindMark, HasNoMark}
+
+-- the item begins the trees, and the rest stands behind it
+abbrev pub IsItem : {A : Type 0} → List Tree → Item A → List Tree → Type 0
+IsItem trees (Int literal) rest = IsFrontOf IntKind trees literal rest
+IsItem trees (Str literal) rest = IsFrontOf StrKind trees literal rest
+
+-- Neither an integer nor a string begins the trees: this is told there, with the words of both.
+pub record MissesItem {A : Type 0} (trees : List Tree) (scope : Span) (e : Error A) : Type 0 where
+  pub no_integer : HasFrontOf IntKind trees → ⊥
+  pub no_string : HasFrontOf StrKind trees → ⊥
+  pub refusal : IsRefusal trees scope (codes "integer literal or string literal") e
+
+-- An integer or a string begins the trees, and memory was refused for it.
+pub record ItemShort {A : Type 0} (trees : List Tree) (scope : Span) (e : Error A) : Type 0 where
+  pub some : HasFrontOf IntKind trees ⊎ HasFrontOf StrKind trees
+  pub error : e ≡ memory_at (first_span trees scope)
+
+-- No item is taken.
+pub record RefusesItem {A : Type 0} (trees : List Tree) (scope : Span) (e : Error A) : Type 0 where
+  pub why : MissesItem trees scope e ⊎ ItemShort trees scope e
+
+-- what the parser of items does; a refusal leaves the trees
+abbrev pub RunsItem : {A : Type 0} → List Tree → Span → Result (Item A) (Error A) → List Tree → Type 0
+RunsItem trees scope (Ok item) rest = IsItem trees item rest
+RunsItem trees scope (Err e) rest = RefusesItem trees scope e × (rest ≡ trees)
+
+-- The item begins the trees, and behind it stands a comma and the rest, or nothing.
+pub record IsListed {A : Type 0} (trees : List Tree) (item : Item A) (rest : List Tree) : Type 0 where
+  pub behind : List Tree
+  pub is : IsItem trees item behind
+  pub comma : IsBehindMark 44 behind rest ⊎ ((behind ≡ []) × (rest ≡ []))
+
+-- An item begins the trees, and something stands behind it that is no comma.
+pub record MissesComma {A : Type 0} (trees : List Tree) (scope : Span) (e : Error A) : Type 0 where
+  pub item : Item A
+  pub behind : List Tree
+  pub is : IsItem trees item behind
+  pub some : behind ≢ []
+  pub none : HasNoMark 44 behind
+  pub refusal : IsRefusal behind scope (codes "`,`") e
+
+-- No item with a comma or the end behind it begins the trees.
+pub record RefusesListed {A : Type 0} (trees : List Tree) (scope : Span) (e : Error A) : Type 0 where
+  pub why : RefusesItem trees scope e ⊎ MissesComma trees scope e
+
+-- these items begin the trees one after another, each as listed, and the rest stands behind them
+abbrev pub Lists : {A : Type 0} → List Tree → List (Item A) → List Tree → Type 0
+Lists trees [] rest = trees ≡ rest
+Lists trees (x ∷ xs) rest = (after : List Tree) × IsListed trees x after × Lists after xs rest
+
+-- Items lead to trees that begin with none.
+pub record StopsAt {A : Type 0} (trees : List Tree) (scope : Span) (e : Error A) : Type 0 where
+  pub items : List (Item A)
+  pub rest : List Tree
+  pub lists : Lists trees items rest
+  pub some : rest ≢ []
+  pub refused : RefusesListed rest scope e
+
+-- Items lead to one for which no place was found: this is told at it.
+pub record RunsOut {A : Type 0} (trees : List Tree) (scope : Span) (e : Error A) : Type 0 where
+  pub items : List (Item A)
+  pub rest : List Tree
+  pub lists : Lists trees items rest
+  pub item : Item A
+  pub behind : List Tree
+  pub listed : IsListed rest item behind
+  pub error : e ≡ memory_at (first_span rest scope)
+
+-- The trees aren't items with commas between them.
+pub record RefusesItems {A : Type 0} (trees : List Tree) (scope : Span) (e : Error A) : Type 0 where
+  pub why : StopsAt trees scope e ⊎ RunsOut trees scope e
+
+-- no group in square brackets begins the trees
+abbrev pub HasNoList : List Tree → Type 0
+HasNoList trees = (inside : Trees) (span : Span) (rest : List Tree) → trees ≡ GroupTree Bracket inside span ∷ rest → ⊥
+
+-- A group in square brackets begins the trees, and the items are what is inside.
+pub record IsList {A : Type 0} (trees : List Tree) (items : List (Item A)) (rest : List Tree) : Type 0 where
+  pub inside : List Tree
+  pub span : Span
+  pub group : trees ≡ GroupTree Bracket (inside_of inside) span ∷ rest
+  pub lists : Lists inside items []
+
+-- No group in square brackets begins the trees.
+pub record MissesList {A : Type 0} (trees : List Tree) (scope : Span) (e : Error A) : Type 0 where
+  pub none : HasNoList trees
+  pub refusal : IsRefusal trees scope (codes "square brackets") e
+
+-- A group in square brackets begins the trees, and what is inside is refused; its end would be told at the group.
+pub record RefusesInside {A : Type 0} (trees : List Tree) (e : Error A) : Type 0 where
+  pub inside : List Tree
+  pub span : Span
+  pub behind : List Tree
+  pub group : trees ≡ GroupTree Bracket (inside_of inside) span ∷ behind
+  pub refused : RefusesItems inside span e
+
+-- what the parser of lists does; a refusal leaves the trees
+abbrev pub RunsList : {A : Type 0} → List Tree → Span → Result (ItemList A) (Error A) → List Tree → Type 0
+RunsList trees scope (Ok list) rest = IsList trees list.items.items rest
+RunsList trees scope (Err e) rest = (MissesList trees scope e ⊎ RefusesInside trees e) × (rest ≡ trees)

@@ -1,0 +1,92 @@
+//! Attributes: a name that is set to a string.
+
+ghost use Rattle.std.specs.Prelude.{◌≡◌, IfOk, IfErr};
+ghost use Rattle.rl_tokens.specs.Buffers.{trees_in, scope_of, IsRest};
+ghost use Rattle.rl_uses.specs.Attributes.{IsValue, RefusesValue, IsAttribute, RefusesAttribute, RunsAttribute};
+ghost use Rattle.rl_uses.specs.Whole.{ParsesAll, RefusesAll};
+
+use crate::mark::take_mark;
+use crate::whole::parse_all;
+use rl_quoted::LitStr;
+use rl_tokens::{Error, Ident, Parse, ParseBuffer};
+use std::alloc::{Allocator, Global};
+
+/// An attribute: `name = "value"`.
+#[derive(Drop)]
+pub struct Attribute<A: Allocator = Global> {
+    /// What is set.
+    pub name: Ident<A>,
+    /// What it is set to.
+    pub value: LitStr<A>,
+}
+
+/// Takes the character `=` and a string literal. A refusal may leave the buffer behind what was taken.
+#[tactic(auto, using(rl_tokens::proofs::TreeRests::rest_step))]
+fn parse_value<A: Allocator>(
+    alloc: A,
+    input: &mut ParseBuffer<'_, A>,
+) -> Result<LitStr<A>, Error<A>>
+    ensures ok { IfOk result (λ v. IsValue (trees_in input.old) v (trees_in input.new)) }
+    ensures refused { IfErr result (RefusesValue (trees_in input.old) (scope_of input.old)) }
+    ensures rest { IsRest (trees_in input.old) (trees_in input.new) }
+    ensures scope { scope_of input.new ≡ scope_of input.old }
+{
+    take_mark(input, '=', "`=`")?;
+    let value = input.parse::<LitStr<A>>(alloc)?;
+    Ok(value)
+}
+
+/// Takes an attribute. A refusal may leave the buffer behind what was taken.
+#[tactic(auto, using(rl_tokens::proofs::TreeRests::rest_step))]
+fn parse_attribute<A: Allocator + Copy>(
+    alloc: A,
+    input: &mut ParseBuffer<'_, A>,
+) -> Result<Attribute<A>, Error<A>>
+    ensures ok { IfOk result (λ a. IsAttribute (trees_in input.old) a.name a.value (trees_in input.new)) }
+    ensures refused { IfErr result (RefusesAttribute (trees_in input.old) (scope_of input.old)) }
+    ensures rest { IsRest (trees_in input.old) (trees_in input.new) }
+    ensures scope { scope_of input.new ≡ scope_of input.old }
+{
+    let Some(name) = input.ident() else {
+        return Err(input.error("identifier"));
+    };
+    let name = Ident::new(alloc, name.text(), name.span())?;
+    let value = parse_value(alloc, input)?;
+    Ok(Attribute { name, value })
+}
+
+/// Takes an identifier, the character `=` and a string literal. The first of these that doesn't stand there is refused by
+/// its word: `identifier`, `` `=` `` or `string literal`. Want of memory is told where the token stands. A refusal leaves
+/// the buffer.
+impl<A: Allocator + Copy> Parse<A> for Attribute<A> {
+    ghost use Rattle.rl_uses.specs.Attributes.{RunsAttribute};
+
+    ghost runs = { RunsAttribute };
+
+    #[tactic(auto, using(rl_tokens::proofs::TreeRests::rest_none))]
+    fn parse(alloc: A, input: &mut ParseBuffer<'_, A>) -> Result<Attribute<A>, Error<A>> {
+        let before = input.fork();
+        match parse_attribute(alloc, input) {
+            Ok(attribute) => Ok(attribute),
+            Err(error) => {
+                *input = before;
+                Err(error)
+            }
+        }
+    }
+}
+
+/// The attribute that all of a text is. It is refused as [`parse_all`] says, by the parser of attributes.
+pub fn read_attribute<A: Allocator + Copy>(
+    alloc: A,
+    text: &str,
+    file: u32,
+) -> Result<Attribute<A>, Error<A>>
+    ensures read { IfOk result (ParsesAll RunsAttribute text.now file) }
+    ensures refused { IfErr result (RefusesAll RunsAttribute text.now file) }
+{
+    parse_all::<Attribute<A>, A>(alloc, text, file)
+}
+
+#[cfg(test)]
+mod tests;

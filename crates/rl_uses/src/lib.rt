@@ -1,0 +1,20 @@
+//! Small callers of the libraries, as a user writes them, each with its contract: an attribute, a number as a setting, a
+//! list of literals, a linter, a formatter, and how often each literal stands in a text.
+#![tactic(auto)]
+
+mod attribute;
+mod count;
+mod lint;
+mod list;
+mod mark;
+mod rewrite;
+mod setting;
+mod whole;
+
+pub use crate::attribute::{Attribute, read_attribute};
+pub use crate::count::{Counts, count_literals};
+pub use crate::lint::control_strings;
+pub use crate::list::{Item, ItemList};
+pub use crate::rewrite::{format, rewritten};
+pub use crate::setting::read_number;
+pub use crate::whole::parse_all;

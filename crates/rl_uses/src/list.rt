@@ -1,0 +1,141 @@
+//! Lists of integers and strings.
+
+ghost use Rattle.std.specs.Prelude.{◌≡◌, ◌∷◌, [], ◌<◌, length, OnOk, OnErr, IfOk, IfErr, codes};
+ghost use Rattle.rl_tokens.specs.declared.token.Delimiter.TheVariants.{Bracket};
+ghost use Rattle.rl_tokens.specs.Trees.{GroupTree, inside_of, stream_of, stream_view, group_span};
+ghost use Rattle.rl_tokens.specs.Buffers.{trees_in, scope_of, IsRest, IsRefusal};
+ghost use Rattle.rl_uses.specs.Lists.{IsListed, RefusesListed, Lists, RefusesItems, HasNoList};
+
+use crate::mark::take_mark;
+use rl_quoted::LitStr;
+use rl_tokens::{Delimiter, Error, Group, Parse, ParseBuffer};
+use rust_literals::LitInt;
+use std::alloc::{Allocator, Global};
+
+/// What stands in a list.
+#[derive(Drop)]
+pub enum Item<A: Allocator = Global> {
+    /// An integer.
+    Int(LitInt<A>),
+    /// A string.
+    Str(LitStr<A>),
+}
+
+/// Takes the integer or string literal that stands next. Another token is refused with the words of both; a refusal
+/// leaves the buffer.
+impl<A: Allocator + Copy> Parse<A> for Item<A> {
+    ghost use Rattle.rl_uses.specs.Lists.{RunsItem};
+
+    ghost runs = { RunsItem };
+
+    fn parse(alloc: A, input: &mut ParseBuffer<'_, A>) -> Result<Item<A>, Error<A>> {
+        if input.peek::<LitInt<A>>() {
+            let literal = input.parse::<LitInt<A>>(alloc)?;
+            return Ok(Item::Int(literal));
+        }
+        if input.peek::<LitStr<A>>() {
+            let literal = input.parse::<LitStr<A>>(alloc)?;
+            return Ok(Item::Str(literal));
+        }
+        Err(input.error("integer literal or string literal"))
+    }
+}
+
+/// A list in square brackets: `[1, "two", -3]`. A comma may stand behind the last item too.
+#[derive(Drop)]
+pub struct ItemList<A: Allocator = Global> {
+    /// The items, in their order.
+    pub items: Vec<Item<A>, A>,
+}
+
+/// Takes an item, and the comma behind it where anything stands there.
+#[tactic(auto, using(crate::proofs::ItemLemmas::item_shorter))]
+fn parse_listed<A: Allocator + Copy>(
+    alloc: A,
+    input: &mut ParseBuffer<'_, A>,
+) -> Result<Item<A>, Error<A>>
+    ensures ok { IfOk result (λ x. IsListed (trees_in input.old) x (trees_in input.new)) }
+    ensures refused { IfErr result (RefusesListed (trees_in input.old) (scope_of input.old)) }
+    ensures shorter { OnOk result (length (trees_in input.new) < length (trees_in input.old)) }
+    ensures scope { scope_of input.new ≡ scope_of input.old }
+{
+    let item = input.parse::<Item<A>>(alloc)?;
+    if input.is_empty() {
+        return Ok(item);
+    }
+    take_mark(input, ',', "`,`")?;
+    Ok(item)
+}
+
+/// Takes items up to the end.
+fn parse_items<A: Allocator + Copy>(
+    alloc: A,
+    input: &mut ParseBuffer<'_, A>,
+) -> Result<Vec<Item<A>, A>, Error<A>>
+    ensures ok { IfOk result (λ items. Lists (trees_in input.old) items.items []) }
+    ensures refused { IfErr result (RefusesItems (trees_in input.old) (scope_of input.old)) }
+{
+    let mut items = Vec::new(alloc);
+    while !input.is_empty() {
+        let place = input.span();
+        let item = parse_listed(alloc, input)?;
+        if items.push(item).is_err() {
+            return Err(Error::memory(place));
+        }
+    }
+    Ok(items)
+}
+
+/// Takes a group in square brackets. Where none stands next, it is refused, and the buffer stays.
+fn take_brackets<'a, A: Allocator>(input: &mut ParseBuffer<'a, A>) -> Result<&'a Group<A>, Error<A>>
+    ensures taken { IfOk result
+        (λ g. trees_in input.old ≡ GroupTree Bracket (inside_of (stream_view (stream_of g.now))) (group_span g.now) ∷ trees_in input.new) }
+    ensures none { OnErr result (HasNoList (trees_in input.old)) }
+    ensures refused { IfErr result
+        (IsRefusal (trees_in input.old) (scope_of input.old) (codes "square brackets")) }
+    ensures left { OnErr result (trees_in input.new ≡ trees_in input.old) }
+    ensures rest { IsRest (trees_in input.old) (trees_in input.new) }
+    ensures scope { scope_of input.new ≡ scope_of input.old }
+{
+    let mut ahead = input.fork();
+    match ahead.group() {
+        Some(group) if group.delimiter() == Delimiter::Bracket => {
+            *input = ahead;
+            Ok(group)
+        }
+        _ => Err(input.error("square brackets")),
+    }
+}
+
+/// The trees inside a group, whose end is told at the group.
+fn inside<'a, A: Allocator>(group: &'a Group<A>) -> ParseBuffer<'a, A>
+    ensures trees { trees_in result ≡ stream_view (stream_of group.now) }
+    ensures scope { scope_of result ≡ group_span group.now }
+{
+    ParseBuffer::new(group.stream().trees(), group.span())
+}
+
+/// Takes a group in square brackets, of items with commas between them. Refused is, at its place, what is no such group
+/// (`square brackets`), what is no item (`integer literal or string literal`), and what stands behind an item and is no
+/// comma (`` `,` ``). A refusal leaves the buffer.
+impl<A: Allocator + Copy> Parse<A> for ItemList<A> {
+    ghost use Rattle.rl_uses.specs.Lists.{RunsList};
+
+    ghost runs = { RunsList };
+
+    #[tactic(auto, using(rl_tokens::proofs::TreeRests::rest_none))]
+    fn parse(alloc: A, input: &mut ParseBuffer<'_, A>) -> Result<ItemList<A>, Error<A>> {
+        let before = input.fork();
+        let group = take_brackets(input)?;
+        match parse_items(alloc, &mut inside(group)) {
+            Ok(items) => Ok(ItemList { items }),
+            Err(error) => {
+                *input = before;
+                Err(error)
+            }
+        }
+    }
+}
+
+#[cfg(test)]
+mod tests;

@@ -1,0 +1,187 @@
+//! A formatter: quoted literals are written anew from their values.
+
+ghost use Rattle.std.specs.Prelude.{◌≡◌, ◌≢◌, ◌⊎◌, ◌++◌, ◌∷◌, [], List, length, OnOk, IfOk, IfErr, MatchBool, string_bytes};
+ghost use Rattle.std.specs.Str.{chars};
+ghost use Rattle.rl_tokens.specs.declared.kind.Kind.TheVariants.{Str as StrKind, ByteStr as ByteStrKind, CStr as CStrKind, Byte as ByteKind, Char as CharKind};
+ghost use Rattle.rl_tokens.specs.declared.error.ErrorKind.TheVariants.{Memory};
+ghost use Rattle.rl_tokens.specs.Errors.{memory_at};
+ghost use Rattle.rust_literals.specs.declared.lit.Lit.{Lit};
+ghost use Rattle.rust_literals.specs.Parsing.{AreRead, RefusesText};
+ghost use Rattle.rust_literals.specs.Literals.{span_of};
+ghost use Rattle.rust_literals.specs.Copies.{text_of};
+ghost use Rattle.rl_uses.specs.Rewrites.{IsQuotedRewrite, IsRewrite, PrintsLine, AreLines};
+
+#[cfg(test)]
+mod tests;
+
+use rl_tokens::{Error, Literal};
+use rust_literals::{Lit, LitByte, LitByteStr, LitCStr, LitChar, LitStr, read_all};
+use std::alloc::Allocator;
+
+/// Whether the suffix is empty.
+fn is_bare(suffix: &str) -> bool
+    ensures { MatchBool result (chars suffix.now ≡ []) (chars suffix.now ≢ []) }
+{
+    suffix.is_empty()
+}
+
+/// The string, written anew where it has no suffix.
+fn string_rewritten<A: Allocator + Copy>(
+    alloc: A,
+    literal: &LitStr<A>,
+) -> Result<LitStr<A>, Error<A>>
+    ensures rewritten { IfOk result (IsQuotedRewrite StrKind literal.now) }
+    ensures memory { IfErr result (λ e. e ≡ memory_at literal.now.span) }
+{
+    if !is_bare(literal.suffix()) {
+        return literal.clone(alloc);
+    }
+    let value = literal.value(alloc)?;
+    LitStr::new(alloc, value.as_str(), literal.span())
+}
+
+/// The byte string, written anew where it has no suffix.
+fn byte_string_rewritten<A: Allocator + Copy>(
+    alloc: A,
+    literal: &LitByteStr<A>,
+) -> Result<LitByteStr<A>, Error<A>>
+    ensures rewritten { IfOk result (IsQuotedRewrite ByteStrKind literal.now) }
+    ensures memory { IfErr result (λ e. e ≡ memory_at literal.now.span) }
+{
+    if !is_bare(literal.suffix()) {
+        return literal.clone(alloc);
+    }
+    let value = literal.value(alloc)?;
+    LitByteStr::new(alloc, value.as_slice(), literal.span())
+}
+
+/// The C string, written anew where it has no suffix.
+fn c_string_rewritten<A: Allocator + Copy>(
+    alloc: A,
+    literal: &LitCStr<A>,
+) -> Result<LitCStr<A>, Error<A>>
+    ensures rewritten { IfOk result (IsQuotedRewrite CStrKind literal.now) }
+    ensures memory { IfErr result (λ e. e ≡ memory_at literal.now.span) }
+{
+    if !is_bare(literal.suffix()) {
+        return literal.clone(alloc);
+    }
+    let value = literal.value(alloc)?;
+    LitCStr::new(alloc, &value, literal.span())
+}
+
+/// The byte, written anew where it has no suffix.
+fn byte_rewritten<A: Allocator + Copy>(
+    alloc: A,
+    literal: &LitByte<A>,
+) -> Result<LitByte<A>, Error<A>>
+    ensures rewritten { IfOk result (IsQuotedRewrite ByteKind literal.now) }
+    ensures memory { IfErr result (λ e. e ≡ memory_at literal.now.span) }
+{
+    if !is_bare(literal.suffix()) {
+        return literal.clone(alloc);
+    }
+    LitByte::new(alloc, literal.value(), literal.span())
+}
+
+/// The character, written anew where it has no suffix.
+fn character_rewritten<A: Allocator + Copy>(
+    alloc: A,
+    literal: &LitChar<A>,
+) -> Result<LitChar<A>, Error<A>>
+    ensures rewritten { IfOk result (IsQuotedRewrite CharKind literal.now) }
+    ensures memory { IfErr result (λ e. e ≡ memory_at literal.now.span) }
+{
+    if !is_bare(literal.suffix()) {
+        return literal.clone(alloc);
+    }
+    LitChar::new(alloc, literal.value(), literal.span())
+}
+
+/// The literal as strict text: a string, byte string, C string, byte or character with no suffix is written anew from
+/// its value, as its struct's `new` writes it; any other literal is copied as it stands. The span stays.
+///
+/// The one error is want of memory, told at the literal's span.
+pub fn rewritten<A: Allocator + Copy>(alloc: A, literal: &Lit<A>) -> Result<Lit<A>, Error<A>>
+    ensures rewritten { IfOk result (IsRewrite literal.now) }
+    ensures memory { IfErr result (λ e. e ≡ memory_at (span_of literal.now)) }
+{
+    Ok(match literal {
+        Lit::Str(literal) => Lit::Str(string_rewritten(alloc, literal)?),
+        Lit::ByteStr(literal) => Lit::ByteStr(byte_string_rewritten(alloc, literal)?),
+        Lit::CStr(literal) => Lit::CStr(c_string_rewritten(alloc, literal)?),
+        Lit::Byte(literal) => Lit::Byte(byte_rewritten(alloc, literal)?),
+        Lit::Char(literal) => Lit::Char(character_rewritten(alloc, literal)?),
+        Lit::Int(literal) => Lit::Int(literal.clone(alloc)?),
+        Lit::Float(literal) => Lit::Float(literal.clone(alloc)?),
+        Lit::Bool(literal) => Lit::Bool(literal.clone(alloc)?),
+        Lit::Verbatim(token) => Lit::Verbatim(token.clone(alloc)?),
+    })
+}
+
+/// The literal's token; of a truth value its word as one.
+fn token_of<A: Allocator + Copy>(alloc: A, literal: &Lit<A>) -> Result<Literal<A>, Error<A>>
+    ensures text { IfOk result (λ token. token.text ≡ text_of literal.now) }
+    ensures memory { IfErr result (λ e. e ≡ memory_at (span_of literal.now)) }
+{
+    match literal {
+        Lit::Str(literal) => literal.token(alloc),
+        Lit::ByteStr(literal) => literal.token(alloc),
+        Lit::CStr(literal) => literal.token(alloc),
+        Lit::Byte(literal) => literal.token(alloc),
+        Lit::Char(literal) => literal.token(alloc),
+        Lit::Int(literal) => literal.token(alloc),
+        Lit::Float(literal) => literal.token(alloc),
+        Lit::Bool(literal) if literal.value() => Literal::from_text(alloc, "true", literal.span()),
+        Lit::Bool(literal) => Literal::from_text(alloc, "false", literal.span()),
+        Lit::Verbatim(token) => token.clone(alloc),
+    }
+}
+
+/// Writes the literal's rewriting and LF at the end.
+fn push_line<A: Allocator + Copy>(
+    alloc: A,
+    out: &mut String<A>,
+    literal: &Lit<A>,
+) -> Result<(), Error<A>>
+    ensures line { OnOk result
+        (PrintsLine literal.now (string_bytes out.old) (string_bytes out.new)) }
+    ensures memory { IfErr result (λ e. e ≡ memory_at (span_of literal.now)) }
+{
+    let anew = rewritten(alloc, literal)?;
+    let Ok(token) = token_of(alloc, &anew) else {
+        return Err(Error::memory(literal.span()));
+    };
+    if out.push_str(token.text()).is_err() || out.push('\n').is_err() {
+        return Err(Error::memory(literal.span()));
+    }
+    Ok(())
+}
+
+/// Writes the literals' lines.
+fn lines<A: Allocator + Copy>(alloc: A, literals: &[Lit<A>]) -> Result<String<A>, Error<A>>
+    ensures lines { IfOk result (λ printed. AreLines literals.now (string_bytes printed)) }
+    ensures memory { IfErr result (λ e. e.kind ≡ Memory) }
+{
+    let mut out = String::new(alloc);
+    for literal in literals {
+        push_line(alloc, &mut out, literal)?;
+    }
+    Ok(out)
+}
+
+/// The literals of the text as [`rewritten`] makes them, one on each line.
+///
+/// The text is nothing but literals, white space and plain comments; what [`read_all`] refuses of it is refused with the
+/// same error. Want of memory is told as `Memory`.
+pub fn format<A: Allocator + Copy>(alloc: A, text: &str, file: u32) -> Result<String<A>, Error<A>>
+    // The text reads as literals, and the lines are their rewritings, each with LF behind it.
+    ensures printed { IfOk result (λ printed. (list : List (Lit A))
+        × AreRead (chars text.now) file list × AreLines list (string_bytes printed)) }
+    // What `read_all` refuses of the text, or memory was refused.
+    ensures refused { IfErr result
+        (λ e. RefusesText (chars text.now) file (length text.now) e ⊎ (e.kind ≡ Memory)) }
+{
+    let literals = read_all(alloc, text, file)?;
+    lines(alloc, literals.as_slice())
+}

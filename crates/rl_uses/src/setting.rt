@@ -1,0 +1,32 @@
+//! A number that is set by a text, as in a configuration.
+
+ghost use Rattle.std.specs.Prelude.{IfOk, IfErr};
+ghost use Rattle.rl_uses.specs.Settings.{IsSetTo, RefusesSetting};
+
+use crate::whole::parse_all;
+use rl_tokens::Error;
+use rust_literals::LitInt;
+use std::alloc::Allocator;
+use std::fmt::Display;
+use std::str::FromStr;
+
+/// The number that a text sets: one integer literal, or a minus and one, with white space and comments around it.
+///
+/// A text that isn't one integer literal is refused as by [`parse_all`], with the word `integer literal`. Digits that the
+/// type refuses are `Number`, in the type's own words, at the literal's bytes of the file; want of memory for these words
+/// is told there too.
+pub fn read_number<N: FromStr, A: Allocator + Copy>(
+    alloc: A,
+    text: &str,
+    file: u32,
+) -> Result<N, Error<A>>
+where
+    N::Err: Display + Drop,
+    ensures read { IfOk result (IsSetTo N.from_str_gives text.now file) }
+    ensures refused { IfErr result (RefusesSetting N.from_str_gives N.Err.output text.now file) }
+{
+    parse_all::<LitInt<A>, A>(alloc, text, file)?.base10_parse(alloc)
+}
+
+#[cfg(test)]
+mod tests;

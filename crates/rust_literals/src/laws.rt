@@ -1,0 +1,18 @@
+//! Laws of the definitions: each function does nothing, and its contract is the law.
+
+ghost use Rattle.std.specs.Prelude.{List, ℕ};
+ghost use Rattle.rl_tokens.specs.declared.kind.Kind.{Kind};
+ghost use Rattle.rl_tokens.specs.declared.kind.Kind.TheVariants.{Bool as BoolKind};
+ghost use Rattle.rl_tokens.specs.Fronts.{HasFront, HasFrontOf, RunsAs};
+ghost use Rattle.rust_literals.specs.Parsing.{RunsLit, RunsTruth};
+ghost use Rattle.rust_literals.specs.Peeking.{PeekTells};
+
+use std::alloc::Allocator;
+
+/// A peek of the nine types is true exactly where the type's parser answers a literal, if memory is found; elsewhere the
+/// parser refuses without memory.
+pub fn peeks_tell<A: Allocator>()
+    ensures literal { PeekTells (RunsLit {A = A}) HasFront }
+    ensures truth { PeekTells (RunsTruth {A = A}) (HasFrontOf BoolKind) }
+    ensures typed { (kind : Kind) (word : List ℕ) → PeekTells (RunsAs {A = A} kind word) (HasFrontOf kind) }
+{}
