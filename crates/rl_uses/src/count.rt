@@ -1,10 +1,10 @@
 //! A map from literals to how often they stand in a text.
 
-ghost use Rattle.std.specs.Prelude.{◌≡◌, ◌⊎◌, List, length, IfOk, IfErr};
+ghost use Rattle.std.specs.Prelude.{List, IfOk, IfErr};
 ghost use Rattle.std.specs.Str.{chars};
-ghost use Rattle.rl_tokens.specs.declared.error.ErrorKind.TheVariants.{Memory};
 ghost use Rattle.rust_literals.specs.declared.lit.Lit.{Lit};
-ghost use Rattle.rust_literals.specs.Parsing.{AreRead, RefusesText};
+ghost use Rattle.rust_literals.specs.Parsing.{AreRead};
+ghost use Rattle.rl_uses.specs.Shortage.{IsShortOf, RefusesLiterals};
 ghost use Rattle.rl_uses.specs.Counts.{AreCounts};
 
 #[cfg(test)]
@@ -22,7 +22,7 @@ pub type Counts<A> = HashMap<Lit<A>, usize, BuildHasherDefault<FoldHasher>, A>;
 /// How often each of the literals stands among them.
 fn tally<A: Allocator + Copy>(alloc: A, literals: Vec<Lit<A>, A>) -> Result<Counts<A>, Error<A>>
     ensures counts { IfOk result (AreCounts literals.items) }
-    ensures memory { IfErr result (λ e. e.kind ≡ Memory) }
+    ensures memory { IfErr result (IsShortOf literals.items) }
 {
     let mut counts = HashMap::new(alloc);
     for literal in literals {
@@ -38,7 +38,7 @@ fn tally<A: Allocator + Copy>(alloc: A, literals: Vec<Lit<A>, A>) -> Result<Coun
 /// How often each literal stands in the text. Literals are equal where their kinds and texts are, as `==` says.
 ///
 /// The text is nothing but literals, white space and plain comments; what [`read_all`] refuses of it is refused with the
-/// same error. Want of memory is told as `Memory`.
+/// same error. Want of memory behind that is told at the literal that it was refused for.
 pub fn count_literals<A: Allocator + Copy>(
     alloc: A,
     text: &str,
@@ -47,9 +47,8 @@ pub fn count_literals<A: Allocator + Copy>(
     // The text reads as literals. The map holds under each how often it stands there, and nothing else.
     ensures counts { IfOk result (λ counts. (list : List (Lit A))
         × AreRead (chars text.now) file list × AreCounts list counts) }
-    // What `read_all` refuses of the text, or memory was refused.
-    ensures refused { IfErr result
-        (λ e. RefusesText (chars text.now) file (length text.now) e ⊎ (e.kind ≡ Memory)) }
+    // What `read_all` refuses of the text, or memory was refused for one of its literals, which the error is told at.
+    ensures refused { IfErr result (RefusesLiterals text.now file) }
 {
     tally(alloc, read_all(alloc, text, file)?)
 }

@@ -1,14 +1,14 @@
 //! A linter: strings whose value has control characters.
 
-ghost use Rattle.std.specs.Prelude.{◌≡◌, ◌⊎◌, List, length, IfOk, IfErr};
+ghost use Rattle.std.specs.Prelude.{◌≡◌, List, IfOk, IfErr};
 ghost use Rattle.std.specs.Char.{is_control};
 ghost use Rattle.std.specs.List.{list_any};
 ghost use Rattle.std.specs.Str.{chars};
-ghost use Rattle.rl_tokens.specs.declared.error.ErrorKind.TheVariants.{Memory};
 ghost use Rattle.rl_tokens.specs.Errors.{memory_at};
 ghost use Rattle.rust_literals.specs.declared.lit.Lit.{Lit};
-ghost use Rattle.rust_literals.specs.Parsing.{AreRead, RefusesText};
+ghost use Rattle.rust_literals.specs.Parsing.{AreRead};
 ghost use Rattle.rust_literals.specs.Literals.{span_of};
+ghost use Rattle.rl_uses.specs.Shortage.{IsShortOf, RefusesLiterals};
 ghost use Rattle.rl_uses.specs.Lints.{TellsControl, TellsFault, AreFaults};
 
 #[cfg(test)]
@@ -48,7 +48,7 @@ fn is_fault<A: Allocator + Copy>(alloc: A, literal: &Lit<A>) -> Result<bool, Err
 /// The spans of the literals that are strings with control characters.
 fn faults<A: Allocator + Copy>(alloc: A, literals: &[Lit<A>]) -> Result<Vec<Span, A>, Error<A>>
     ensures found { IfOk result (λ spans. AreFaults literals.now spans.items) }
-    ensures memory { IfErr result (λ e. e.kind ≡ Memory) }
+    ensures memory { IfErr result (IsShortOf literals.now) }
 {
     let mut spans = Vec::new(alloc);
     for literal in literals {
@@ -65,7 +65,7 @@ fn faults<A: Allocator + Copy>(alloc: A, literals: &[Lit<A>]) -> Result<Vec<Span
 /// order: each span is the file and the bytes of the literal.
 ///
 /// The text is nothing but literals, white space and plain comments; what [`read_all`] refuses of it is refused with the
-/// same error. Want of memory is told as `Memory`.
+/// same error. Want of memory behind that is told at the literal that it was refused for.
 pub fn control_strings<A: Allocator + Copy>(
     alloc: A,
     text: &str,
@@ -74,9 +74,8 @@ pub fn control_strings<A: Allocator + Copy>(
     // The text reads as literals, and these are the spans of the strings with control characters among them.
     ensures found { IfOk result (λ spans. (list : List (Lit A))
         × AreRead (chars text.now) file list × AreFaults list spans.items) }
-    // What `read_all` refuses of the text, or memory was refused.
-    ensures refused { IfErr result
-        (λ e. RefusesText (chars text.now) file (length text.now) e ⊎ (e.kind ≡ Memory)) }
+    // What `read_all` refuses of the text, or memory was refused for one of its literals, which the error is told at.
+    ensures refused { IfErr result (RefusesLiterals text.now file) }
 {
     let literals = read_all(alloc, text, file)?;
     faults(alloc, literals.as_slice())

@@ -1,14 +1,14 @@
 //! A formatter: quoted literals are written anew from their values.
 
-ghost use Rattle.std.specs.Prelude.{◌≡◌, ◌≢◌, ◌⊎◌, ◌++◌, ◌∷◌, [], List, length, OnOk, IfOk, IfErr, MatchBool, string_bytes};
+ghost use Rattle.std.specs.Prelude.{◌≡◌, ◌≢◌, ◌++◌, ◌∷◌, [], List, OnOk, IfOk, IfErr, MatchBool, string_bytes};
 ghost use Rattle.std.specs.Str.{chars};
 ghost use Rattle.rl_tokens.specs.declared.kind.Kind.TheVariants.{Str as StrKind, ByteStr as ByteStrKind, CStr as CStrKind, Byte as ByteKind, Char as CharKind};
-ghost use Rattle.rl_tokens.specs.declared.error.ErrorKind.TheVariants.{Memory};
 ghost use Rattle.rl_tokens.specs.Errors.{memory_at};
 ghost use Rattle.rust_literals.specs.declared.lit.Lit.{Lit};
-ghost use Rattle.rust_literals.specs.Parsing.{AreRead, RefusesText};
+ghost use Rattle.rust_literals.specs.Parsing.{AreRead};
 ghost use Rattle.rust_literals.specs.Literals.{span_of};
 ghost use Rattle.rust_literals.specs.Copies.{text_of};
+ghost use Rattle.rl_uses.specs.Shortage.{IsShortOf, RefusesLiterals};
 ghost use Rattle.rl_uses.specs.Rewrites.{IsQuotedRewrite, IsRewrite, PrintsLine, AreLines};
 
 #[cfg(test)]
@@ -161,7 +161,7 @@ fn push_line<A: Allocator + Copy>(
 /// Writes the literals' lines.
 fn lines<A: Allocator + Copy>(alloc: A, literals: &[Lit<A>]) -> Result<String<A>, Error<A>>
     ensures lines { IfOk result (λ printed. AreLines literals.now (string_bytes printed)) }
-    ensures memory { IfErr result (λ e. e.kind ≡ Memory) }
+    ensures memory { IfErr result (IsShortOf literals.now) }
 {
     let mut out = String::new(alloc);
     for literal in literals {
@@ -173,14 +173,13 @@ fn lines<A: Allocator + Copy>(alloc: A, literals: &[Lit<A>]) -> Result<String<A>
 /// The literals of the text as [`rewritten`] makes them, one on each line.
 ///
 /// The text is nothing but literals, white space and plain comments; what [`read_all`] refuses of it is refused with the
-/// same error. Want of memory is told as `Memory`.
+/// same error. Want of memory behind that is told at the literal that it was refused for.
 pub fn format<A: Allocator + Copy>(alloc: A, text: &str, file: u32) -> Result<String<A>, Error<A>>
     // The text reads as literals, and the lines are their rewritings, each with LF behind it.
     ensures printed { IfOk result (λ printed. (list : List (Lit A))
         × AreRead (chars text.now) file list × AreLines list (string_bytes printed)) }
-    // What `read_all` refuses of the text, or memory was refused.
-    ensures refused { IfErr result
-        (λ e. RefusesText (chars text.now) file (length text.now) e ⊎ (e.kind ≡ Memory)) }
+    // What `read_all` refuses of the text, or memory was refused for one of its literals, which the error is told at.
+    ensures refused { IfErr result (RefusesLiterals text.now file) }
 {
     let literals = read_all(alloc, text, file)?;
     lines(alloc, literals.as_slice())

@@ -6,4 +6,3 @@ pub mod ItemFronts
 pub mod PrintedLemmas
 pub mod AgainLemmas
 pub mod PeekLemmas
-pub mod EqualLemmas

@@ -1,7 +1,8 @@
 -- Copies of literals, what makes them equal, and the trees that they are appended as.
 use Rattle.std.specs.Prelude.{ℕ, ◌==◌, Bool, List}
 use Rattle.std.specs.Ordering.{on, eq_of_both}
-use Rattle.std.specs.Cmp.Lexicographic.{pointwise}
+use Rattle.std.specs.Cmp.{IsEquivalence, and_equiv, on_equiv, nat_eq_equiv}
+use Rattle.std.specs.Cmp.Lexicographic.{pointwise, nat_list_eq_equiv}
 use Rattle.rl_tokens.specs.Reading.{truth_text}
 use Rattle.rl_tokens.specs.Trees.{Tree, IdentTree, LiteralTree}
 use Rattle.rust_literals.specs.declared.lit.Lit.{Lit}
@@ -46,6 +47,10 @@ text_of (Verbatim l) = l.text
 -- whether two are equal: by kind and text
 abbrev pub is_equal : {A : Type 0} → Lit A → Lit A → Bool
 is_equal = eq_of_both (on variant_of ◌==◌) (on text_of (pointwise ◌==◌))
+
+-- this is an equivalence
+pub is_equal_equiv : {A : Type 0} → IsEquivalence (is_equal {A = A})
+is_equal_equiv {A} = and_equiv (on_equiv variant_of nat_eq_equiv) (on_equiv text_of nat_list_eq_equiv)
 
 -- the one tree that it is appended as: of a truth value its word, else its token
 abbrev pub tree_of : {A : Type 0} → Lit A → Tree

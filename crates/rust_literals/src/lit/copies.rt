@@ -7,8 +7,14 @@ ghost use Rattle.std.specs.Hash as fed;
 ghost use Rattle.std.proofs.Common.{rules};
 ghost use Rattle.rl_tokens.specs.Errors.{memory_at};
 ghost use Rattle.rl_tokens.specs.Trees.{stream_view};
-ghost use Rattle.rust_literals.specs.Copies.{copied, variant_of, text_of, is_equal, tree_of};
-ghost use Rattle.rust_literals.proofs.EqualLemmas.{is_equal_equiv};
+ghost use Rattle.rust_literals.specs.Copies.{
+  copied,
+  variant_of,
+  text_of,
+  is_equal,
+  is_equal_equiv,
+  tree_of,
+};
 ghost use Rattle.rust_literals.specs.Literals.{span_of};
 
 use crate::lit::Lit;

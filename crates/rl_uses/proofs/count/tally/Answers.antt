@@ -4,8 +4,7 @@ use Rattle.std.proofs.lemmas.Iterator.Adapters.{YieldsList-from_vec}
 use Rattle.std.proofs.lemmas.Iterator.Consumers.{YieldsList-turn, YieldsList-end}
 use Rattle.std.proofs.lemmas.List.{map-id}
 use Rattle.std.proofs.lemmas.List.Sums.{count_by-le-length}
-use Rattle.rust_literals.specs.Copies.{is_equal}
-use Rattle.rust_literals.proofs.EqualLemmas.{is_equal_equiv}
+use Rattle.rust_literals.specs.Copies.{is_equal, is_equal_equiv}
 use Rattle.rl_uses.specs.Counts.{times, AreCounts}
 use Rattle.rl_uses.proofs.CountLemmas.{some_times_value, times_more, firsts_none, firsts_more}
 use Rattle.rl_uses.proofs.count.tally.Goals as goal
