@@ -65,7 +65,6 @@ fn float_answer(alloc: Global, text: &str) -> Result<String, AllocError>
 }
 
 /// How many bytes stand behind white space and comments.
-#[tactic(auto, using(rl_tokens::proofs::LexEnds::char_len))]
 fn skip_answer(alloc: Global, text: &str) -> Result<String, AllocError>
     ensures { IfOk result (λ out. IsSkipAnswer (chars text.now) (string_bytes out)) }
 {

@@ -2,3 +2,4 @@ pub mod ItemLemmas
 pub mod LintLemmas
 pub mod RewriteLemmas
 pub mod CountLemmas
+pub mod ShortageLemmas

@@ -1,4 +1,4 @@
-use Rattle.std.proofs.Common.{◌≡◌, ◌<◌, ◌≤◌, length, unwrap_or, sym, ap, subst, ◌∙◌, arith}
+use Rattle.std.proofs.Common.{◌≡◌, ◌<◌, ◌≤◌, length, unwrap_or, sym, ap, subst, ◌∙◌, arith, rules}
 use Rattle.std.proofs.lemmas.Grind.{common_steps}
 use Rattle.std.proofs.lemmas.Iterator.Adapters.{YieldsList-from_vec}
 use Rattle.std.proofs.lemmas.Iterator.Consumers.{YieldsList-turn, YieldsList-end}
@@ -43,3 +43,11 @@ returns-clause-counts g c =
     let ys = c.loop-literal.yielded in
     let end = YieldsList-end (YieldsList-from_vec c.args.literals.items into.0 (into.1 ∙ c.args.literals.ok.0)) ys c.loop-literal.literal-iterator c.loop-literal.yielded_by c.next.result c.next.new.self c.in-None.is c.next.ensures.steps in
     subst (λ list. AreCounts list c.loop-literal.counts) (sym (map-id ys) ∙ end.0) c.loop-literal.invariant
+
+pub returns-in_default-clause-memory : goal.returns-in_default-clause-memory
+returns-in_default-clause-memory g c =
+    let into = c.into_iter-literal-iterator.ensures.into_iter_gives in
+    let y = c.in-Some.literal in
+    let ys = c.loop-literal.yielded in
+    let turn = YieldsList-turn (YieldsList-from_vec c.args.literals.items into.0 (into.1 ∙ c.args.literals.ok.0)) ys c.loop-literal.literal-iterator c.loop-literal.yielded_by c.next.result c.next.new.self y c.in-Some.is c.next.ensures.steps in
+    (length ys, y, turn.0, sym turn.1, search rules)

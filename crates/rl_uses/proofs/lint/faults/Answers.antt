@@ -2,6 +2,7 @@ use Rattle.std.proofs.Common.{◌≡◌, ◌+◌, ◌∷◌, [], ◌++◌, take,
 use Rattle.std.proofs.lemmas.Grind.{common_steps}
 use Rattle.rust_literals.specs.Literals.{span_of}
 use Rattle.rl_uses.proofs.LintLemmas.{faults_same, faults_more}
+use Rattle.rl_uses.proofs.ShortageLemmas.{short_at}
 use Rattle.rl_uses.proofs.lint.faults.Goals.{then-branch+else-is_err, else-branch}
 use Rattle.rl_uses.proofs.lint.faults.Goals as goal
 
@@ -18,3 +19,7 @@ loop-literal-preserved g c =
       | else-branch w ↦
           rw (grown, w.spans-is) (faults_same (take i literals) l c.loop-literal.spans.items c.loop-literal.invariant (rw w.if-branch.false at c.in_ok-is_fault.ensures.tells))
     ]
+
+pub returns-in_err-is_fault-clause-memory : goal.returns-in_err-is_fault-clause-memory
+returns-in_err-is_fault-clause-memory g c =
+    short_at c.args.literals.now c.loop-literal.literal-index c.literal-item.result c.from_residual.result c.in_err-is_fault.field-0.0 c.loop-literal-test.true c.literal-item.is c.in_err-is_fault.ensures.memory c.from_residual.ensures.1
