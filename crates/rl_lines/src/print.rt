@@ -244,10 +244,7 @@ pub fn line_of<A: Allocator + Copy>(alloc: A, literal: &Lit<A>) -> Result<String
 }
 
 /// The lines of literals, one after another.
-pub fn lines_of<A: Allocator + Copy>(
-    alloc: A,
-    literals: &[Lit<A>],
-) -> Result<String<A>, AllocError>
+pub fn lines_of<A: Allocator + Copy>(alloc: A, literals: &[Lit<A>]) -> Result<String<A>, AllocError>
     ensures { IfOk result (λ lines. PrintsList literals.now [] (chars (string_bytes lines))) }
 {
     let mut lines = String::new(alloc);
