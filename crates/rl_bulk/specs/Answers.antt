@@ -5,12 +5,12 @@ use Rattle.std.specs.Str.{chars, IsUtf8}
 use Rattle.std.specs.Fmt.{decimal}
 use Rattle.rl_tokens.specs.declared.kind.Kind.TheVariants.{Int as IntKind}
 use Rattle.rl_tokens.specs.declared.error.Error.{Error}
-use Rattle.rl_tokens.specs.Errors.{message_of}
 use Rattle.rl_tokens.specs.Trivia.{Skipped}
 use Rattle.rl_tokens.specs.Lexing.{byte_len}
 use Rattle.rl_tokens.specs.Reading.{HasNoInteger}
 use Rattle.rl_grammar.specs.NumberShapes.{IsPast, HasNoFloat}
 use Rattle.rust_literals.specs.Parsing.{RefusesText}
+use Rattle.rl_lines.specs.Refusals.{refusal_line}
 use Rattle.rl_lines.specs.Lines.{IsLineOf, AreLinesOfText, PrintsKind, PrintsFloat}
 use Rattle.rl_bulk.specs.declared.command.Command.{Command}
 use Rattle.rl_bulk.specs.declared.command.Command.TheVariants.{Text, Int, Float, Skip, Read}
@@ -30,9 +30,9 @@ IsFloatAnswer text out = PrintsFloat text [] (chars out) ⊎ (HasNoFloat text ×
 abbrev pub IsSkipAnswer : List ℕ → List ℕ → Type 0
 IsSkipAnswer text out = (rest : List ℕ) × Skipped text rest × (out ≡ decimal (byte_len rest) ++ codes "\n")
 
--- the line of a refusal, with its place, and one with a point
+-- the line of a refusal, and one with a point
 abbrev pub refusal_lines : {A : Type 0} → Error A → List ℕ
-refusal_lines e = codes "error at " ++ (decimal e.span.lo ++ (codes ".." ++ (decimal e.span.hi ++ (codes ": " ++ (message_of e.kind ++ codes "\n.\n")))))
+refusal_lines e = refusal_line e ++ codes "\n.\n"
 
 -- the lines of the literals that the bytes' text is, and one with a point, or those of its refusal
 abbrev pub IsReadAnswer : Type 0 → List ℕ → List ℕ → Type 0

@@ -18,7 +18,7 @@ ghost use Rattle.rl_bulk.specs.Answers.{
 
 use crate::command::Command;
 use crate::digits::decoded;
-use rl_lines::{line_of, lines_of};
+use rl_lines::{Refusal, line_of, lines_of};
 use rl_tokens::{Error, ErrorKind, Literal, Span, whitespace};
 use rust_literals::{Lit, LitFloat, LitInt, read_all};
 use std::alloc::{AllocError, Global};
@@ -75,8 +75,7 @@ fn skip_answer(alloc: Global, text: &str) -> Result<String, AllocError>
 fn refusal_answer(alloc: Global, error: &Error) -> Result<String, AllocError>
     ensures { IfOk result (λ out. string_bytes out ≡ refusal_lines error.now) }
 {
-    let (lo, hi) = (error.span.lo, error.span.hi);
-    format!(in alloc; "error at {lo}..{hi}: {error}\n.\n")
+    format!(in alloc; "{}\n.\n", Refusal(error))
 }
 
 /// The lines of literals, and one with a point.

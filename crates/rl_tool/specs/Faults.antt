@@ -1,7 +1,6 @@
 -- How the program tells why it failed.
-use Rattle.std.specs.Prelude.{ℕ, List, ◌++◌, codes}
-use Rattle.std.specs.Fmt.{decimal}
-use Rattle.rl_tokens.specs.Errors.{message_of}
+use Rattle.std.specs.Prelude.{ℕ, List, codes}
+use Rattle.rl_lines.specs.Refusals.{refusal_line}
 use Rattle.rl_tool.specs.declared.fault.Fault.{Fault}
 use Rattle.rl_tool.specs.declared.fault.Fault.TheVariants.{Read, Write, NotText, Memory, Literal}
 
@@ -11,8 +10,7 @@ fault_line Read = codes "error: read failed"
 fault_line Write = codes "error: write failed"
 fault_line NotText = codes "error: input is not UTF-8"
 fault_line Memory = codes "error: out of memory"
-fault_line (Literal e) =
-    codes "error at " ++ (decimal e.span.lo ++ (codes ".." ++ (decimal e.span.hi ++ (codes ": " ++ message_of e.kind))))
+fault_line (Literal e) = refusal_line e
 
 -- the status of a fault
 abbrev pub status_of : {A : Type 0} → Fault A → ℕ

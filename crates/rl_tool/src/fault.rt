@@ -1,6 +1,7 @@
 ghost use Rattle.std.specs.Prelude.{◌≡◌, Some};
 ghost use Rattle.rl_tool.specs.Faults.{fault_line, status_of};
 
+use rl_lines::Refusal;
 use rl_tokens::Error;
 use std::alloc::{AllocError, Allocator, Global};
 use std::fmt;
@@ -55,11 +56,7 @@ impl<A: Allocator> fmt::Display for Fault<A> {
             Fault::Write => write!(f, "error: write failed"),
             Fault::NotText => write!(f, "error: input is not UTF-8"),
             Fault::Memory => write!(f, "error: out of memory"),
-            Fault::Literal(error) => {
-                let lo = error.span.lo;
-                let hi = error.span.hi;
-                write!(f, "error at {lo}..{hi}: {error}")
-            }
+            Fault::Literal(error) => write!(f, "{}", Refusal(error)),
         }
     }
 }

@@ -1,0 +1,9 @@
+-- How a refusal is told.
+use Rattle.std.specs.Prelude.{ℕ, List, ◌++◌, codes}
+use Rattle.std.specs.Fmt.{decimal}
+use Rattle.rl_tokens.specs.declared.error.Error.{Error}
+use Rattle.rl_tokens.specs.Errors.{message_of}
+
+-- its place in bytes, and its message
+abbrev pub refusal_line : {A : Type 0} → Error A → List ℕ
+refusal_line e = codes "error at " ++ (decimal e.span.lo ++ (codes ".." ++ (decimal e.span.hi ++ (codes ": " ++ message_of e.kind))))

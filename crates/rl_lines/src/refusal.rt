@@ -1,0 +1,23 @@
+//! The line of a refusal.
+
+use rl_tokens::Error;
+use std::alloc::{Allocator, Global};
+use std::fmt;
+
+/// A refusal that is lent, to be displayed as the programs tell it: its place in bytes, and its message.
+#[derive(Drop)]
+pub struct Refusal<'a, A: Allocator = Global>(pub &'a Error<A>);
+
+impl<A: Allocator> fmt::Display for Refusal<'_, A> {
+    ghost use Rattle.std.specs.Prelude.{Some};
+    ghost use Rattle.rl_lines.specs.Refusals.{refusal_line};
+
+    ghost output = { λ refusal. Some (refusal_line refusal.0.now) };
+
+    fn fmt<W: fmt::Write>(&self, f: &mut fmt::Formatter<W>) -> fmt::Result {
+        let error = self.0;
+        let lo = error.span.lo;
+        let hi = error.span.hi;
+        write!(f, "error at {lo}..{hi}: {error}")
+    }
+}
