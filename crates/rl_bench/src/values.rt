@@ -1,6 +1,6 @@
 //! What literals weigh by their values.
 
-ghost use Rattle.std.specs.Prelude.{◌≡◌, ℕ, List, IfOk};
+ghost use Rattle.std.specs.Prelude.{ℕ, List, IfOk};
 ghost use Rattle.std.specs.Str.{chars};
 ghost use Rattle.rl_tokens.specs.Reading.{ReadsAs, HasSuffix};
 ghost use Rattle.rl_bench.specs.Sizes.{HasSize};

@@ -1,6 +1,6 @@
 //! What kinds and parts weigh.
 
-ghost use Rattle.std.specs.Prelude.{◌≡◌, ℕ, List};
+ghost use Rattle.std.specs.Prelude.{◌≡◌};
 ghost use Rattle.std.specs.Str.{chars};
 ghost use Rattle.rl_tokens.specs.Lexing.{byte_len};
 ghost use Rattle.rl_bench.specs.Weights.{number_of, weight_of};

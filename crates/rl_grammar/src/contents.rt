@@ -4,9 +4,9 @@ ghost use Rattle.std.specs.Prelude.{◌≡◌, ◌⊎◌, ◌++◌, [], ◌∷�
 ghost use Rattle.std.specs.Str.{chars};
 ghost use Rattle.rl_tokens.specs.declared.kind.Kind.{Kind as AnyKind};
 ghost use Rattle.rl_tokens.specs.Errors.{memory_at, nowhere};
-ghost use Rattle.rl_tokens.specs.Quoted.{is_string, is_single};
+ghost use Rattle.rl_tokens.specs.Quoted.{is_single};
 ghost use Rattle.rl_tokens.specs.Reading.{Contents, Characters, Bytes, quoted_contents, ReadsQuoted, ReadsAs, HasContents};
-ghost use Rattle.rl_grammar.specs.UnitAt.{piece_value, IsPieceOf};
+ghost use Rattle.rl_grammar.specs.UnitAt.{piece_value};
 ghost use Rattle.rl_grammar.specs.Decoded.{ContentsAre, ReadsAsQuoted, piece_bytes, Decodes, HoldsBytes};
 
 use crate::quoted::{Form, front, quoted_parts};

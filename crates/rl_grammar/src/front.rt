@@ -10,7 +10,6 @@ ghost use Rattle.rl_tokens.specs.Buffers.{trees_in, scope_of, IsRest};
 ghost use Rattle.rl_tokens.specs.Fronts.{
   IsFront,
   HasNoFront,
-  HasFront,
   HasFrontOf,
   HasReading,
   RunsAs,

@@ -1,6 +1,6 @@
 //! Whether a text is a quoted literal, and the parts of one.
 
-ghost use Rattle.std.specs.Prelude.{◌≡◌, ◌≢◌, ◌==◌, ◌∷◌, ◌++◌, ◌≤◌, ℕ, List, None, length, option_map, not, IfSome, IfNone, IsTrue};
+ghost use Rattle.std.specs.Prelude.{◌≡◌, ◌≢◌, ◌==◌, ◌∷◌, ◌++◌, ℕ, List, None, option_map, IfSome, IfNone, IsTrue};
 ghost use Rattle.std.specs.List.{list_all};
 ghost use Rattle.std.specs.Str.{chars};
 ghost use Rattle.rl_tokens.specs.Texts.{IsBehind};

@@ -3,7 +3,7 @@
 ghost use Rattle.std.specs.Prelude.{◌≡◌, ◌<◌, ◌≤◌, length, option_map, IfSome, IsTrue};
 ghost use Rattle.std.specs.Str.{chars};
 ghost use Rattle.rl_tokens.specs.Quoted.{holds_characters, is_string, is_plain, may_hold, may_be_hex, has_unicode};
-ghost use Rattle.rl_grammar.specs.UnitAt.{piece_value, IsPieceOf, named_of, named_at, digit_at, hex_at, digits_at, unicode_at, after_blanks, escape_at, line_feed_at, unit_at};
+ghost use Rattle.rl_grammar.specs.UnitAt.{piece_value, IsPieceOf, named_of, digit_at, hex_at, digits_at, unicode_at, after_blanks, escape_at, unit_at};
 
 use rl_tokens::Kind;
 use rl_tokens::text::split_char;

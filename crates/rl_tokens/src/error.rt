@@ -1,6 +1,6 @@
 //! Refusals: what was refused, and where.
 
-ghost use Rattle.std.specs.Prelude.{◌≡◌, Some, string_bytes};
+ghost use Rattle.std.specs.Prelude.{◌≡◌, Some};
 ghost use Rattle.rl_tokens.specs.Errors.{message_of};
 
 use crate::lex_error::LexKind;

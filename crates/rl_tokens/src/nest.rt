@@ -1,8 +1,6 @@
 //! The trees of a text as they grow.
 
 ghost use Rattle.std.specs.Prelude.{◌≡◌, ◌≤◌, ◌+◌, [], vec_len, OnOk, IfErr, IfOk};
-ghost use Rattle.rl_tokens.specs.Texts.{is_among};
-ghost use Rattle.rl_tokens.specs.Lexemes.{delimiters};
 ghost use Rattle.rl_tokens.specs.LexemeAt.{form_view};
 ghost use Rattle.rl_tokens.specs.Lexing.{is_opener, delimiter_for};
 

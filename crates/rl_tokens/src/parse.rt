@@ -1,6 +1,6 @@
 //! What can be parsed from a buffer, peeked at, and appended to a stream.
 
-ghost use Rattle.std.specs.Prelude.{◌≡◌, List, ℕ, Result, ◌↔◌, ◌++◌, map, IsTrue, OnOk, OnErr, IfErr};
+ghost use Rattle.std.specs.Prelude.{◌≡◌, List, ℕ, Result, ◌↔◌, ◌++◌, IsTrue, OnOk, OnErr};
 ghost use Rattle.rl_tokens.specs.declared.span.Span.{Span};
 ghost use Rattle.rl_tokens.specs.declared.error.Error.{Error};
 ghost use Rattle.rl_tokens.specs.Trees.{Tree, stream_view};

@@ -1,4 +1,4 @@
-ghost use Rattle.std.specs.Prelude.{◌≡◌, ◌≢◌, ◌↔◌, min, max, IsSome, IfSome};
+ghost use Rattle.std.specs.Prelude.{◌≡◌, ◌↔◌, min, max, IsSome, IfSome};
 
 /// Where a token stands: a file, and the bytes of its text from `lo` up to `hi`.
 #[derive(Clone, Copy, PartialEq, Eq, Debug)]

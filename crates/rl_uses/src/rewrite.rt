@@ -1,6 +1,6 @@
 //! A formatter: quoted literals are written anew from their values.
 
-ghost use Rattle.std.specs.Prelude.{◌≡◌, ◌≢◌, ◌++◌, ◌∷◌, [], List, OnOk, IfOk, IfErr, MatchBool, string_bytes};
+ghost use Rattle.std.specs.Prelude.{◌≡◌, ◌≢◌, [], List, OnOk, IfOk, IfErr, MatchBool, string_bytes};
 ghost use Rattle.std.specs.Str.{chars};
 ghost use Rattle.rl_tokens.specs.declared.kind.Kind.TheVariants.{Str as StrKind, ByteStr as ByteStrKind, CStr as CStrKind, Byte as ByteKind, Char as CharKind};
 ghost use Rattle.rl_tokens.specs.Errors.{memory_at};

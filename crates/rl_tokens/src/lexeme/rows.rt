@@ -1,7 +1,7 @@
 //! Rows of characters that pass one test, and suffixes.
 #![tactic(auto, using(crate::proofs::BehindLemmas::behind_step))]
 
-ghost use Rattle.std.specs.Prelude.{◌≡◌, length, MatchOption, IfSome, drop, true, false};
+ghost use Rattle.std.specs.Prelude.{◌≡◌, MatchOption, IfSome, drop, true, false};
 ghost use Rattle.std.specs.Str.{chars};
 ghost use Rattle.rl_tokens.specs.Texts.{IsBehind};
 ghost use Rattle.rl_tokens.specs.Lexemes.{after_run, is_hash, begins_hashes};
