@@ -12,11 +12,11 @@ abbrev pub IsShortOf : {A B : Type 0} → List (Lit A) → Error B → Type 0
 IsShortOf list e = Any (λ literal. e ≡ memory_at (span_of literal)) list
 
 -- The text reads as literals, and memory was refused for one of them.
-pub record RunsShort {A : Type 0} (text : List ℕ) (file : ℕ) (e : Error A) : Type 0 where
+pub record FallsShort {A : Type 0} (text : List ℕ) (file : ℕ) (e : Error A) : Type 0 where
   pub list : List (Lit A)
   pub read : AreRead (chars text) file list
   pub short : IsShortOf list e
 
 -- the refusal of `read_all`, or want of memory behind it
 abbrev pub RefusesLiterals : {A : Type 0} → List ℕ → ℕ → Error A → Type 0
-RefusesLiterals text file e = RefusesText (chars text) file (length text) e ⊎ RunsShort text file e
+RefusesLiterals text file e = RefusesText (chars text) file (length text) e ⊎ FallsShort text file e
