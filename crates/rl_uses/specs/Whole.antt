@@ -3,13 +3,12 @@
 use Rattle.std.specs.Prelude.{◌≡◌, ◌≢◌, ◌⊎◌, ℕ, List, [], length, Result, Ok, Err}
 use Rattle.std.specs.Str.{chars}
 use Rattle.rl_tokens.specs.declared.span.Span.{Span}
-use Rattle.rl_tokens.specs.declared.lex_error.LexKind.{LexKind}
 use Rattle.rl_tokens.specs.declared.error.ErrorKind.TheVariants.{Unexpected}
 use Rattle.rl_tokens.specs.declared.error.Error.{Error}
-use Rattle.rl_tokens.specs.Errors.{lex_refusal}
 use Rattle.rl_tokens.specs.Trees.{Tree}
-use Rattle.rl_tokens.specs.Lexing.{Lexes, Refuses}
+use Rattle.rl_tokens.specs.Lexing.{Lexes}
 use Rattle.rl_tokens.specs.Buffers.{first_span}
+use Rattle.rust_literals.specs.Parsing.{IsUncutText}
 
 -- the span of no bytes at a place
 abbrev pub place_at : ℕ → ℕ → Span
@@ -33,13 +32,6 @@ pub record ParsesAll {T E : Type 0} (runs : List Tree → Span → Result T E �
   pub lexes : Lexes (chars text) file trees
   pub ran : runs trees (place_at file (length text)) (Ok value) []
 
--- The text can't be cut: the refusal is its first fault, or want of memory, at its place.
-pub record IsUncut {A : Type 0} (text : List ℕ) (file : ℕ) (e : Error A) : Type 0 where
-  pub kind : LexKind
-  pub at : ℕ
-  pub refused : Refuses (chars text) kind at
-  pub error : e ≡ lex_refusal kind (place_at file at)
-
 -- The text is cut into trees, and these aren't one value.
 pub record RefusesCut {T A : Type 0} (runs : List Tree → Span → Result T (Error A) → List Tree → Type 0) (text : List ℕ) (file : ℕ) (e : Error A) : Type 0 where
   pub trees : List Tree
@@ -48,4 +40,4 @@ pub record RefusesCut {T A : Type 0} (runs : List Tree → Span → Result T (Er
 
 -- why a text isn't parsed
 abbrev pub RefusesAll : {T A : Type 0} → (List Tree → Span → Result T (Error A) → List Tree → Type 0) → List ℕ → ℕ → Error A → Type 0
-RefusesAll runs text file e = IsUncut text file e ⊎ RefusesCut runs text file e
+RefusesAll runs text file e = IsUncutText (chars text) file e ⊎ RefusesCut runs text file e

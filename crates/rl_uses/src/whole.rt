@@ -4,7 +4,8 @@ ghost use Rattle.std.specs.Prelude.{[], IfOk, IfErr, Ok};
 ghost use Rattle.std.specs.Str.{chars};
 ghost use Rattle.rl_tokens.specs.Lexing.{Lexes};
 ghost use Rattle.rl_tokens.specs.Trees.{stream_view};
-ghost use Rattle.rl_uses.specs.Whole.{IsUncut, RefusesTrees, ParsesAll, RefusesAll};
+ghost use Rattle.rust_literals.specs.Parsing.{IsUncutText};
+ghost use Rattle.rl_uses.specs.Whole.{RefusesTrees, ParsesAll, RefusesAll};
 
 use rl_tokens::{Error, ErrorKind, Parse, ParseBuffer, Span, TokenStream, lex};
 use std::alloc::Allocator;
@@ -16,7 +17,7 @@ fn trees_of_text<A: Allocator + Copy>(
     file: u32,
 ) -> Result<TokenStream<A>, Error<A>>
     ensures ok { IfOk result (λ s. Lexes (chars text.now) file (stream_view s)) }
-    ensures refused { IfErr result (IsUncut text.now file) }
+    ensures refused { IfErr result (IsUncutText (chars text.now) file) }
 {
     match lex(alloc, text, file) {
         Ok(stream) => Ok(stream),

@@ -16,19 +16,6 @@ use Rattle.rust_literals.proofs.LeadsLemmas.{one_list_of, never_stops}
 abbrev at_span : ℕ → ℕ → Span
 at_span file at = record { file = file; lo = at; hi = at }
 
--- the lexer's refusal is one of the text
-pub lex_refuses : {A : Type 0} (text : List ℕ) (file end : ℕ) (kind : LexKind) (at : ℕ) (e : Error A) → e ≡ lex_refusal kind (at_span file at) → Refuses text kind at → RefusesText text file end e
-lex_refuses text file end DocComment at e is r = inl (record { kind = DocComment; at = at; fault = r; error = is })
-lex_refuses text file end UnclosedComment at e is r = inl (record { kind = UnclosedComment; at = at; fault = r; error = is })
-lex_refuses text file end UnclosedQuote at e is r = inl (record { kind = UnclosedQuote; at = at; fault = r; error = is })
-lex_refuses text file end Lifetime at e is r = inl (record { kind = Lifetime; at = at; fault = r; error = is })
-lex_refuses text file end RawIdentifier at e is r = inl (record { kind = RawIdentifier; at = at; fault = r; error = is })
-lex_refuses text file end StrayCharacter at e is r = inl (record { kind = StrayCharacter; at = at; fault = r; error = is })
-lex_refuses text file end UnmatchedClose at e is r = inl (record { kind = UnmatchedClose; at = at; fault = r; error = is })
-lex_refuses text file end UnclosedGroup at e is r = inl (record { kind = UnclosedGroup; at = at; fault = r; error = is })
-lex_refuses text file end TooDeep at e is r = inl (record { kind = TooDeep; at = at; fault = r; error = is })
-lex_refuses text file end Memory at e is r = inr (inr (record { at = at; left = r; error = is }))
-
 -- a text that has trees is refused for want of memory alone
 pub lex_memory : {A : Type 0} (text : List ℕ) (file : ℕ) (trees : List Tree) (kind : LexKind) (at : ℕ) (e : Error A) → NeverBoth → Lexes text file trees → e ≡ lex_refusal kind (at_span file at) → Refuses text kind at → e.kind ≡ MemoryError
 lex_memory text file trees DocComment at e never lexes is r = absurd (never text file trees DocComment at lexes r)
@@ -51,11 +38,11 @@ text_read text file trees seen (Err x) lexes e h = tt
 pub text_refused : {A B : Type 0} (text : List ℕ) (file end : ℕ) (trees seen : List Tree) (scope : Span) (r : Result (Vec (Lit A) B) (Error A)) → Lexes text file seen → trees ≡ seen → scope ≡ at_span file end → IfErr r (λ e. Stops trees scope e ⊎ RunsShort trees scope e) → IfErr r (RefusesText text file end)
 text_refused text file end trees seen scope (Ok l) lexes e s h = tt
 text_refused text file end trees seen scope (Err x) lexes e s h =
-    inr (inl (record {
+    inr (record {
       trees = trees;
       lexes = subst (λ (t : List Tree). Lexes text file t) (sym e) lexes;
       refused = subst (λ (k : Span). Stops trees k x ⊎ RunsShort trees k x) s h;
-    }))
+    })
 
 short_memory : {A : Type 0} (trees : List Tree) (scope : Span) (e : Error A) → RunsShort trees scope e → e.kind ≡ MemoryError
 short_memory trees scope e h = elim h.memory [ inl m ↦ ap (λ x. x.kind) m.1 | inr m ↦ ap (λ x. x.kind) m ]

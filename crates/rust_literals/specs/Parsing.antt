@@ -5,12 +5,12 @@ use Rattle.rl_tokens.specs.declared.span.Span.{Span}
 use Rattle.rl_tokens.specs.declared.kind.Kind.TheVariants.{Bool as BoolKind}
 use Rattle.rl_tokens.specs.declared.lex_error.LexKind.{LexKind}
 use Rattle.rl_tokens.specs.declared.error.Error.{Error}
-use Rattle.rl_tokens.specs.declared.error.ErrorKind.TheVariants.{Lex, Memory}
-use Rattle.rl_tokens.specs.Errors.{memory_at, nowhere}
+use Rattle.rl_tokens.specs.declared.error.ErrorKind.TheVariants.{Memory}
+use Rattle.rl_tokens.specs.Errors.{memory_at, lex_refusal, nowhere}
 use Rattle.rl_tokens.specs.Tokens.{Token}
 use Rattle.rl_tokens.specs.Trees.{Tree}
 use Rattle.rl_tokens.specs.Reading.{Reads, Truth}
-use Rattle.rl_tokens.specs.Lexing.{Lexes, Fault, LeavesRestAt}
+use Rattle.rl_tokens.specs.Lexing.{Lexes, Refuses}
 use Rattle.rl_tokens.specs.Buffers.{first_span, IsRefusal}
 use Rattle.rl_tokens.specs.Fronts.{IsFront, HasFront, HasNoFront, PassesOther, WantsMemory}
 use Rattle.rust_literals.specs.declared.lit.Lit.{Lit}
@@ -73,12 +73,12 @@ pub record AreRead {A : Type 0} (text : List ℕ) (file : ℕ) (list : List (Lit
   pub lexes : Lexes text file trees
   pub leads : Leads trees list []
 
--- The text's first fault, told at its place.
-pub record IsLexRefusal {A : Type 0} (text : List ℕ) (file : ℕ) (e : Error A) : Type 0 where
+-- The text can't be cut: its first fault, or want of memory for the token there, told at its place.
+pub record IsUncutText {A : Type 0} (text : List ℕ) (file : ℕ) (e : Error A) : Type 0 where
   pub kind : LexKind
   pub at : ℕ
-  pub fault : Fault text kind at
-  pub error : e ≡ record { span = record { file = file; lo = at; hi = at }; kind = Lex kind }
+  pub refused : Refuses text kind at
+  pub error : e ≡ lex_refusal kind (record { file = file; lo = at; hi = at })
 
 -- The text is cut into trees, and this is refused of them.
 pub record RefusesTrees {A : Type 0} (text : List ℕ) (file end : ℕ) (e : Error A) : Type 0 where
@@ -86,15 +86,9 @@ pub record RefusesTrees {A : Type 0} (text : List ℕ) (file end : ℕ) (e : Err
   pub lexes : Lexes text file trees
   pub refused : Stops trees (record { file = file; lo = end; hi = end }) e ⊎ RunsShort trees (record { file = file; lo = end; hi = end }) e
 
--- Memory was refused for the token at this place.
-pub record LexesShort {A : Type 0} (text : List ℕ) (file : ℕ) (e : Error A) : Type 0 where
-  pub at : ℕ
-  pub left : LeavesRestAt text at
-  pub error : e ≡ memory_at (record { file = file; lo = at; hi = at })
-
 -- what `read_all` refuses of a text of this length
 abbrev pub RefusesText : {A : Type 0} → List ℕ → ℕ → ℕ → Error A → Type 0
-RefusesText text file end e = IsLexRefusal text file e ⊎ (RefusesTrees text file end e ⊎ LexesShort text file e)
+RefusesText text file end e = IsUncutText text file e ⊎ RefusesTrees text file end e
 
 -- the answer is this list, or memory was refused
 abbrev pub IsOrMemory : {A B : Type 0} → List (Lit A) → Result (Vec (Lit A) B) (Error A) → Type 0

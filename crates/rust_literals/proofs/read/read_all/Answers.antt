@@ -1,14 +1,19 @@
-use Rattle.std.proofs.Common.{length, map, ◌∙◌, ap}
+use Rattle.std.proofs.Common.{inl, length, map, ◌∙◌, ap}
 use Rattle.std.specs.Str.{chars}
 use Rattle.rl_tokens.specs.Trees.{tree_view, stream_view}
 use Rattle.rl_tokens.specs.Buffers.{trees_in, scope_of}
-use Rattle.rust_literals.proofs.ReadLemmas.{lex_refuses, lex_memory, text_read, text_refused, text_exactly}
+use Rattle.rust_literals.proofs.ReadLemmas.{lex_memory, text_read, text_refused, text_exactly}
 use Rattle.rust_literals.proofs.PrintedLemmas.{printed_read, printed_refusal}
 use Rattle.rust_literals.proofs.AgainLemmas.{again_read, again_refusal}
 use Rattle.rust_literals.proofs.read.read_all.Goals as goal
 
 pub returns-in-Err-clause-refused : goal.returns-in-Err-clause-refused
-returns-in-Err-clause-refused g c = lex_refuses _ _ _ c.in-Err.fault.kind c.in-Err.fault.at c.refusal_of.result c.refusal_of.ensures c.in-Err.ensures.refused
+returns-in-Err-clause-refused g c = inl (record {
+  kind = c.in-Err.fault.kind;
+  at = c.in-Err.fault.at;
+  refused = c.in-Err.ensures.refused;
+  error = c.refusal_of.ensures;
+})
 
 pub returns-in-Err-clause-exactly : goal.returns-in-Err-clause-exactly
 returns-in-Err-clause-exactly g c list a =
