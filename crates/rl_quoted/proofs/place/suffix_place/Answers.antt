@@ -1,5 +1,5 @@
-use Rattle.rl_quoted.proofs.PlaceLemmas.{reads_up_to}
+use Rattle.rl_quoted.proofs.PlaceLemmas.{one_place}
 use Rattle.rl_quoted.proofs.place.suffix_place.Goals as goal
 
 pub returns : goal.returns
-returns c = reads_up_to c.args.kind c.in-Some.parts.kind c.args.text.now c.in-Some.parts.suffix.now c.place_of.result c.requires c.in-Some.ensures.reads c.place_of.ensures.boundary c.place_of.ensures.rest
+returns c = one_place c.args.kind c.in-Some.field-0-0 c.args.text.now c.in-Some.at c.requires c.in-Some.ensures.reads
