@@ -13,7 +13,7 @@ one_digit : (n : ℕ) → n < 10 ^ 1 → (n / 10 == 0) ≡ true
 one_digit n h = grind (arith, nat_tests)
 
 -- more room changes nothing
-room : (k j n : ℕ) (acc : List ℕ) → n < 10 ^ suc k → n < 10 ^ suc j → digits_onto (suc k) 10 false n acc ≡ digits_onto (suc j) 10 false n acc
+pub room : (k j n : ℕ) (acc : List ℕ) → n < 10 ^ suc k → n < 10 ^ suc j → digits_onto (suc k) 10 false n acc ≡ digits_onto (suc j) 10 false n acc
 room zero j n acc h l =
     let now : List ℕ = digit_glyph false (n % 10) ∷ acc in
     ap (λ b. cond b now now) (one_digit n h) ∙ sym (ap (λ b. cond b now (digits_onto j 10 false (n / 10) now)) (one_digit n h))

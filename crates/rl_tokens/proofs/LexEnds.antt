@@ -13,7 +13,9 @@ use Rattle.rl_tokens.specs.declared.lex_error.LexKind.TheVariants.{DocComment, U
 use Rattle.rl_tokens.specs.declared.lex_error.LexError.{LexError}
 use Rattle.rl_tokens.specs.Texts.{begins}
 use Rattle.rl_tokens.specs.Lexemes.{Lexeme, QuotedLexeme, RawLexeme, CharacterLexeme, BasedLexeme, DecimalLexeme, IdentifierLexeme, DelimiterLexeme, MarkLexeme, lexeme_text, Form, form_of}
-use Rattle.rl_tokens.specs.LexemeAt.{FormBefore}
+use Rattle.rl_tokens.specs.LexemeAt.{form_view}
+use Rattle.rl_tokens.specs.declared.cursor.Lexeme.{Lexeme as Lent}
+use Rattle.rl_tokens.specs.Cursors.{Cutting, TakesNext}
 use Rattle.rl_tokens.specs.Trees.{Tree, stream_view, flat_trees}
 use Rattle.rl_tokens.specs.Lexing.{byte_len, OpenGroup, Cuts, fault_place, begins_doc_comment, begins_quote, begins_lifetime, begins_raw_identifier, BeginsNoLexeme, FaultAt, Fault, LeavesRestAt, Refuses, Lexes}
 use Rattle.rl_tokens.specs.Nests.{groups_of, flat_nest, EndsInGroup, ClosesWrong, OpensTooDeep, RefusesForm, fault_kind}
@@ -98,10 +100,10 @@ refused_lexeme text rest after file nest l TooDeep at is has place same h =
 refused_lexeme text rest after file nest l Memory at is has place same h = leaves_here text rest file nest at is has.behind.is_text has place
 refused_lexeme text rest after file nest l _ at is has place same h = absurd h
 
-pub refused_token : {A : Type 0} (text rest behind : List ℕ) (file : ℕ) (nest : Nest A) (form : Form) (e : LexError) (lo : ℕ) → IsUtf8 text → HasCut text rest file nest → lo + length rest ≡ length text → FormBefore (chars rest) form (chars behind) → e.at ≡ lo → RefusesForm (groups_of nest) form e.kind → Refuses (chars text) e.kind e.at
-refused_token text rest behind file nest form e lo is has place front at_is h =
-    refused_lexeme text rest (chars behind) file nest front.lexeme e.kind e.at is has (omega (arith, place, at_is)) front.text_is
-    (subst (λ (f : Form). RefusesForm (groups_of nest) f e.kind) (sym front.form_is) h)
+pub refused_token : {A : Type 0} (text : List ℕ) (from to : Cutting) (file : ℕ) (nest : Nest A) (l : Lent) (e : LexError) → IsUtf8 text → from.text ≡ text → HasCut text from.rest file nest → TakesNext from l to → e.at ≡ l.lo → RefusesForm (groups_of nest) (form_view l.form) e.kind → Refuses (chars text) e.kind e.at
+refused_token text from to file nest l e is same has next at_is h =
+    refused_lexeme text from.rest next.after file nest next.cut.lexeme e.kind e.at is has (omega (arith, next.place, ap length same, at_is)) next.begins
+    (subst (λ (f : Form). RefusesForm (groups_of nest) f e.kind) (sym next.is_cut.form_is) h)
 
 -- no lexeme begins the rest
 or_none : (a b : Bool) → a ≡ false → b ≡ false → (a || b) ≡ false

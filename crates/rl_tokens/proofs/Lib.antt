@@ -16,6 +16,7 @@ pub mod OneNumber
 pub mod OneReading
 pub mod WritingLemmas
 pub mod WrittenForms
+pub mod AsciiLemmas
 pub mod LexemeSteps
 pub mod LexemeRows
 pub mod LexemeFronts
@@ -26,6 +27,7 @@ pub mod TreeLemmas
 pub mod BeginsLemmas
 pub mod NestLemmas
 pub mod CutLemmas
+pub mod CursorLemmas
 pub mod LexLoop
 pub mod LexEnds
 pub mod FlatTrees

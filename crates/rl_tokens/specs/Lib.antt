@@ -18,5 +18,6 @@ pub mod LexErrors
 pub mod Buffers
 pub mod Fronts
 pub mod Lexing
+pub mod Cursors
 pub mod Nests
 pub mod Printed

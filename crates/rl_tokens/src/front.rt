@@ -13,18 +13,28 @@ pub(crate) fn is_white(c: char) -> bool
     c.is_whitespace() || c == '\u{200e}' || c == '\u{200f}'
 }
 
-/// Whether a character begins an identifier.
+/// Whether a character begins an identifier. Of ASCII no table is asked.
+#[tactic(auto, using(crate::proofs::AsciiLemmas::ascii_start))]
 pub(crate) fn is_start(c: char) -> bool
     ensures { result ≡ is_start c }
 {
-    (c == '_' || unicode_ident::is_xid_start(c)) && !is_white(c)
+    if c.is_ascii() {
+        c == '_' || c.is_ascii_alphabetic()
+    } else {
+        unicode_ident::is_xid_start(c) && !is_white(c)
+    }
 }
 
-/// Whether an identifier goes on with a character.
+/// Whether an identifier goes on with a character. Of ASCII no table is asked.
+#[tactic(auto, using(crate::proofs::AsciiLemmas::ascii_continue))]
 pub(crate) fn is_continue(c: char) -> bool
     ensures { result ≡ is_continue c }
 {
-    unicode_ident::is_xid_continue(c) && !is_white(c)
+    if c.is_ascii() {
+        c.is_ascii_alphanumeric() || c == '_'
+    } else {
+        unicode_ident::is_xid_continue(c) && !is_white(c)
+    }
 }
 
 /// Whether the text begins with a character, which isn't NUL.

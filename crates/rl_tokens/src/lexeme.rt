@@ -27,9 +27,9 @@ pub(crate) use quoted::begins_hashed_quote;
 use quoted::{after_character, after_quoted, after_raw_literal};
 use rows::{Row, after_row};
 
-/// What a lexeme is to the lexer.
+/// What a token is to a parser.
 #[derive(Clone, Copy)]
-pub(crate) enum Form {
+pub enum Form {
     /// A literal of any kind.
     Literal,
     /// An identifier.

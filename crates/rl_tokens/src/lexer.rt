@@ -20,13 +20,13 @@ ghost use Rattle.rl_tokens.specs.Lexing.{
 ghost use Rattle.rl_tokens.specs.Printed.{Entry, Printed, Reprinted, printed_trees};
 ghost use Rattle.rl_tokens.specs.Trees.{stream_view};
 
+use crate::cursor::Tokens;
 use crate::front::is_start;
 use crate::lex_error::{LexError, LexKind};
-use crate::lexeme::{begins_hashed_quote, begins_marked_identifier, first_lexeme};
+use crate::lexeme::{begins_hashed_quote, begins_marked_identifier};
 use crate::nest::Nest;
 use crate::text::split_char;
 use crate::token::TokenStream;
-use crate::whitespace::skip;
 use std::alloc::Allocator;
 
 /// Cuts a text into token trees. Each span is the file and the bytes of its text; a group's runs from its opener to
@@ -51,14 +51,11 @@ pub fn lex<A: Allocator + Copy>(alloc: A, text: &str, file: u32) -> Result<Token
         → IfOk result (λ trees. stream_view trees ≡ printed_trees file 0 entries) × IfErr result (λ e. e.kind ≡ LexKind.Memory) }
 {
     let mut nest = Nest::new(alloc, file);
-    let mut rest = skip(text);
-    while let Some((form, behind)) = first_lexeme(rest) {
-        let lo = text.len() - rest.len();
-        let hi = text.len() - behind.len();
-        let token = &rest[..rest.len() - behind.len()];
-        nest.add(form, token, lo, hi)?;
-        rest = skip(behind);
+    let mut tokens = Tokens::new(text);
+    while let Some(token) = tokens.next() {
+        nest.add(token.form, token.text, token.lo, token.hi)?;
     }
+    let rest = tokens.rest();
     if rest.is_empty() {
         nest.finish()
     } else {

@@ -35,6 +35,17 @@ impl<A: Allocator> Literal<A> {
         }
     }
 
+    /// The token of a minus and this text, with this span. Want of memory is told at the span.
+    pub fn negative(alloc: A, text: &str, span: Span) -> Result<Literal<A>, Error<A>>
+        ensures ok { IfOk result (λ l. l ≡ record { text = 45 ∷ text.now; span = span }) }
+        ensures memory { IfErr result (λ e. e ≡ memory_at span) }
+    {
+        let Ok(text) = text_behind_minus(alloc, text) else {
+            return Err(Error::memory(span));
+        };
+        Ok(Literal { text, span })
+    }
+
     /// The token with this text, at no place.
     pub(crate) fn from_string(text: String<A>) -> Literal<A>
         ensures { result ≡ record { text = string_bytes text; span = nowhere } }
@@ -72,10 +83,7 @@ impl<A: Allocator> Literal<A> {
         ensures ok { IfOk result (λ l. l ≡ record { text = 45 ∷ self.now.text; span = span }) }
         ensures memory { IfErr result (λ e. e ≡ memory_at span) }
     {
-        let Ok(text) = text_behind_minus(alloc, self.text()) else {
-            return Err(Error::memory(span));
-        };
-        Ok(Literal { text, span })
+        Literal::negative(alloc, self.text(), span)
     }
 
     /// Puts the token elsewhere.

@@ -1,64 +1,60 @@
 -- Each turn goes one token further; at the end all is cut, or the first fault stands here.
-use Rattle.std.proofs.Common.{◌≡◌, ◌-◌, [], length, sym, ◌∙◌, ap, arith}
+use Rattle.std.proofs.Common.{◌≡◌, ◌-◌, List, ℕ, [], length, sym, ◌∙◌, ap, subst}
 use Rattle.std.proofs.lemmas.Result.{IfErr-weaker, err_from_is_err_and}
 use Rattle.rl_tokens.specs.declared.lex_error.LexError.{LexError}
+use Rattle.rl_tokens.specs.Cursors.{Cutting}
 use Rattle.rl_tokens.specs.Nests.{groups_of, EndsInGroup}
-use Rattle.rl_tokens.specs.LexemeAt.{form_view}
-use Rattle.rl_tokens.proofs.BehindLemmas.{cut_boundary}
-use Rattle.rl_tokens.proofs.Rests.{behind_length}
-use Rattle.rl_tokens.proofs.LexLoop.{token_at, token_fits, has_none, has_more}
+use Rattle.rl_tokens.specs.Lexing.{BeginsNoLexeme}
+use Rattle.std.specs.Str.{chars}
+use Rattle.rl_tokens.proofs.LexLoop.{token_fits, HasCut, has_none, has_more}
 use Rattle.rl_tokens.proofs.LexEnds.{empty_text, some_text, all_done, ends_open, refused_token, no_lexeme_here}
 use Rattle.rl_tokens.proofs.LexLaws.{one_list, one_fault, never_both}
 use Rattle.rl_tokens.proofs.PrintedAnswers.{printed_answer, reprinted_answer, printed_refusal, reprinted_refusal, no_trees}
 use Rattle.rl_tokens.proofs.lexer.lex.Goals as goal
 
-pub loop-form-init : goal.loop-form-init
-loop-form-init g c =
-    has_none c.args.text.now c.skip-rest.result.now c.args.file c.new-nest.result
-    c.skip-rest.ensures.skipped c.skip-rest.ensures.again c.skip-rest.ensures.behind c.new-nest.ensures.groups c.new-nest.ensures.flat c.new-nest.ensures.file
-
-pub range-token-requires-clause-end_boundary : goal.range-token-requires-clause-end_boundary
-range-token-requires-clause-end_boundary g c = cut_boundary c.loop-form.rest.now c.in-Some.behind.now c.in-Some.ensures.behind
+pub loop-token-init : goal.loop-token-init
+loop-token-init g c = record {
+  has = has_none c.args.text.now c.new-tokens.result.rest c.args.file c.new-nest.result c.new-tokens.ensures.skipped c.new-tokens.ensures.behind.behind c.new-nest.ensures.groups c.new-nest.ensures.flat c.new-nest.ensures.file;
+  same = c.new-tokens.ensures.text;
+}
 
 pub add-requires : goal.add-requires
-add-requires g c =
-    token_fits (token_at c.args.text.now c.loop-form.rest.now c.in-Some.behind.now c.range-token.result.now (form_view c.in-Some.form)
-    c.loop-form.invariant.behind c.in-Some.ensures.behind c.in-Some.ensures.found c.range-token.utf8 c.range-token.ensures.value)
+add-requires g c = token_fits c.in-Some.ensures.next
+
+pub loop-token-preserved : goal.loop-token-preserved
+loop-token-preserved g c = record {
+  has = has_more c.args.text.now c.loop-token.tokens c.next.new.self c.args.file c.loop-token.nest c.add.new.self c.in-Some.token c.loop-token.invariant.same c.loop-token.invariant.has c.in-Some.ensures.next c.in_ok-add.ensures.ok;
+  same = c.in-Some.ensures.next.same ∙ c.loop-token.invariant.same;
+}
 
 pub returns-in_err-add-clause-refused : goal.returns-in_err-add-clause-refused
 returns-in_err-add-clause-refused g c =
     let p = err_from_is_err_and c.from_residual.result c.from_residual.ensures.1 in
     rw (p.1, p.2)
-    (refused_token c.args.text.now c.loop-form.rest.now c.in-Some.behind.now c.args.file c.loop-form.nest (form_view c.in-Some.form) c.in_err-add.field-0.0
-    (length c.args.text.now - length c.loop-form.rest.now) c.utf8.text c.loop-form.invariant
-    (omega (arith, behind_length c.args.text.now c.loop-form.rest.now c.loop-form.invariant.behind))
-    c.in-Some.ensures.found c.in_err-add.ensures.at c.in_err-add.ensures.kind)
-
-pub loop-form-preserved : goal.loop-form-preserved
-loop-form-preserved g c =
-    has_more c.args.text.now c.loop-form.rest.now c.in-Some.behind.now c.range-token.result.now c.skip-rest-in-Some.result.now c.args.file c.loop-form.nest c.add.new.self (form_view c.in-Some.form)
-    (length c.args.text.now - length c.loop-form.rest.now) (length c.args.text.now - length c.in-Some.behind.now)
-    c.utf8.text c.loop-form.invariant
-    (token_at c.args.text.now c.loop-form.rest.now c.in-Some.behind.now c.range-token.result.now (form_view c.in-Some.form)
-    c.loop-form.invariant.behind c.in-Some.ensures.behind c.in-Some.ensures.found c.range-token.utf8 c.range-token.ensures.value)
-    c.in_ok-add.ensures.ok c.in-Some.ensures.behind c.skip-rest-in-Some.ensures.skipped c.skip-rest-in-Some.ensures.again c.skip-rest-in-Some.ensures.behind
+    (refused_token c.args.text.now c.loop-token.tokens c.next.new.self c.args.file c.loop-token.nest c.in-Some.token c.in_err-add.field-0.0
+    c.utf8.text c.loop-token.invariant.same c.loop-token.invariant.has c.in-Some.ensures.next c.in_err-add.ensures.at c.in_err-add.ensures.kind)
 
 pub returns-then-is_empty-clause-trees : goal.returns-then-is_empty-clause-trees
 returns-then-is_empty-clause-trees g c =
-    let empty : c.loop-form.rest.now ≡ [] = empty_text c.loop-form.rest.now (sym c.is_empty.ensures ∙ c.if-is_empty.true) in
-    all_done c.args.text.now c.loop-form.rest.now c.args.file c.loop-form.nest c.finish.result c.loop-form.invariant empty c.finish.ensures.none_open c.finish.ensures.flat
+    let left : c.rest-rest.result.now ≡ c.loop-token.tokens.rest = c.rest-rest.ensures ∙ ap (λ (t : Cutting). t.rest) c.in_default.ensures.stays in
+    let empty : c.loop-token.tokens.rest ≡ [] = sym left ∙ empty_text c.rest-rest.result.now (sym c.is_empty.ensures ∙ c.if-is_empty.true) in
+    all_done c.args.text.now c.loop-token.tokens.rest c.args.file c.loop-token.nest c.finish.result c.loop-token.invariant.has empty c.finish.ensures.none_open c.finish.ensures.flat
 
 pub returns-then-is_empty-clause-refused : goal.returns-then-is_empty-clause-refused
 returns-then-is_empty-clause-refused g c =
-    let empty : c.loop-form.rest.now ≡ [] = empty_text c.loop-form.rest.now (sym c.is_empty.ensures ∙ c.if-is_empty.true) in
-    IfErr-weaker c.finish.result (EndsInGroup (groups_of c.loop-form.nest)) _ (λ e h. ends_open c.args.text.now c.loop-form.rest.now c.args.file c.loop-form.nest e c.utf8.text c.loop-form.invariant empty h) c.finish.ensures.err
+    let left : c.rest-rest.result.now ≡ c.loop-token.tokens.rest = c.rest-rest.ensures ∙ ap (λ (t : Cutting). t.rest) c.in_default.ensures.stays in
+    let empty : c.loop-token.tokens.rest ≡ [] = sym left ∙ empty_text c.rest-rest.result.now (sym c.is_empty.ensures ∙ c.if-is_empty.true) in
+    IfErr-weaker c.finish.result (EndsInGroup (groups_of c.loop-token.nest)) _ (λ e h. ends_open c.args.text.now c.loop-token.tokens.rest c.args.file c.loop-token.nest e c.utf8.text c.loop-token.invariant.has empty h) c.finish.ensures.err
 
 pub returns-else-is_empty-clause-refused : goal.returns-else-is_empty-clause-refused
 returns-else-is_empty-clause-refused g c =
     let T = c.args.text.now in
-    let R = c.loop-form.rest.now in
-    no_lexeme_here T R c.args.file c.loop-form.nest c.new.result c.utf8.text c.loop-form.invariant
-    (some_text R (sym c.is_empty.ensures ∙ c.if-is_empty.false)) c.in_default.ensures.none
+    let R = c.rest-rest.result.now in
+    let left : c.loop-token.tokens.rest ≡ R = sym (c.rest-rest.ensures ∙ ap (λ (t : Cutting). t.rest) c.in_default.ensures.stays) in
+    no_lexeme_here T R c.args.file c.loop-token.nest c.new.result c.utf8.text
+    (subst (λ (r : List ℕ). HasCut T r c.args.file c.loop-token.nest) left c.loop-token.invariant.has)
+    (some_text R (sym c.is_empty.ensures ∙ c.if-is_empty.false))
+    (subst (λ (r : List ℕ). BeginsNoLexeme (chars r)) left c.in_default.ensures.none)
     (c.new.ensures ∙ ap (λ k. let e : LexError = record { kind = k; at = length T - length R } in e) c.fault_kind.ensures)
 
 pub returns-in_err-add-clause-one_list : goal.returns-in_err-add-clause-one_list

@@ -1,9 +1,12 @@
-use Rattle.std.proofs.Common.{length}
+use Rattle.std.proofs.Common.{◌≡◌, length}
 use Rattle.rl_tokens.proofs.LexLoop.{HasCut}
 use Rattle.rl_tokens.proofs.lexer.lex.Given as goal
 
-abbrev pub invariant-loop-form : goal.invariant-loop-form
-invariant-loop-form g l = HasCut l.text l.rest l.file l.nest
+abbrev pub invariant-loop-token : goal.invariant-loop-token
+invariant-loop-token g l = record {
+  has : HasCut l.text l.tokens.rest l.file l.nest;
+  same : l.tokens.text ≡ l.text;
+}
 
-abbrev pub decreases-loop-form : goal.decreases-loop-form
-decreases-loop-form g l = length l.rest
+abbrev pub decreases-loop-token : goal.decreases-loop-token
+decreases-loop-token g l = length l.tokens.rest

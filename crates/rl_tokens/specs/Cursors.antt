@@ -1,0 +1,37 @@
+-- What contracts see of a text that is cut token by token.
+use Rattle.std.specs.Prelude.{◌≡◌, ℕ, ◌+◌, List, [], ◌∷◌, ◌++◌, length, encode_utf8_all}
+use Rattle.std.specs.Str.{chars, IsUtf8}
+use Rattle.rl_tokens.specs.Texts.{IsBehind}
+use Rattle.rl_tokens.specs.Lexemes.{lexeme_text, IsLexeme, form_of}
+use Rattle.rl_tokens.specs.LexemeAt.{form_view}
+use Rattle.rl_tokens.specs.Lexing.{Cut, end_of, Cuts}
+use Rattle.rl_tokens.specs.declared.cursor.Lexeme.{Lexeme}
+
+-- The text, and what is left of it. Both are bytes.
+pub record Cutting : Type 0 where
+  pub text : List ℕ
+  pub rest : List ℕ
+
+pub record IsCutting (text rest : List ℕ) : Type 0 where
+  pub is_text : IsUtf8 text
+  pub behind : IsBehind text rest
+
+-- The form, the text and the place that are lent are those of the cut.
+pub record IsCut (l : Lexeme) (w : Cut) : Type 0 where
+  pub form_is : form_of w.lexeme ≡ form_view l.form
+  pub bytes_are : encode_utf8_all (lexeme_text w.lexeme) ≡ l.text.now
+  pub chars_are : lexeme_text w.lexeme ≡ chars l.text.now
+  pub lo_is : w.at ≡ l.lo
+  pub hi_is : end_of w ≡ l.hi
+
+-- The token begins what is left, and whatever was cut of the text before, it is cut next.
+pub record TakesNext (old : Cutting) (l : Lexeme) (new : Cutting) : Type 0 where
+  pub cut : Cut
+  pub is_cut : IsCut l cut
+  pub after : List ℕ
+  pub begins : chars old.rest ≡ lexeme_text cut.lexeme ++ after
+  pub is_lexeme : IsLexeme cut.lexeme after
+  pub place : l.lo + length old.rest ≡ length old.text
+  pub goes_on : (done : List Cut) → Cuts 0 (chars old.text) done (chars old.rest) → Cuts 0 (chars old.text) (done ++ cut ∷ []) (chars new.rest)
+  pub same : new.text ≡ old.text
+  pub behind : IsBehind old.rest new.rest

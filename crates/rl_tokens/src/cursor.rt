@@ -1,0 +1,105 @@
+//! A text cut into tokens, one at a time.
+
+ghost use Rattle.std.specs.Prelude.{◌≡◌, ◌<◌, length, IfSome, IfNone};
+ghost use Rattle.std.specs.Str.{chars};
+ghost use Rattle.rl_tokens.specs.Trivia.{Skipped};
+ghost use Rattle.rl_tokens.specs.Lexing.{BeginsNoLexeme};
+
+use crate::lexeme::{Form, first_lexeme};
+use crate::whitespace::skip;
+use std::marker::Model;
+
+/// A token of a text, lent from it.
+#[derive(Clone, Copy)]
+pub struct Lexeme<'t> {
+    /// What it is to a parser.
+    pub form: Form,
+    /// Its text, a slice of the whole.
+    pub text: &'t str,
+    /// The place of its first byte in the whole.
+    pub lo: usize,
+    /// The place behind its last byte.
+    pub hi: usize,
+}
+
+/// A text that is cut into tokens as they are asked for. White space and plain comments between them are dropped. No
+/// memory is taken.
+#[derive(Drop)]
+pub struct Tokens<'t> {
+    text: &'t str,
+    // what is left, behind white space and comments
+    rest: &'t str,
+}
+
+impl<'t> Model for Tokens<'t> {
+    ghost use Rattle.rl_tokens.specs.Cursors.{Cutting, IsCutting};
+
+    ghost Value = { Cutting };
+
+    ghost view = { λ t. record { text = t.text.now; rest = t.rest.now } };
+
+    ghost invariant = { λ t. IsCutting t.text.now t.rest.now };
+}
+
+impl<'t> Tokens<'t> {
+    ghost use Rattle.rl_tokens.specs.Cursors.{IsCutting, TakesNext};
+
+    /// The tokens of a text, from its front.
+    pub fn new(text: &'t str) -> Tokens<'t>
+        ensures text { result.text ≡ text.now }
+        ensures skipped { Skipped (chars text.now) (chars result.rest) }
+        ensures behind { IsCutting text.now result.rest }
+    {
+        Tokens {
+            text,
+            rest: skip(text),
+        }
+    }
+
+    /// Cuts off the token that begins what is left. `None` where no token begins it, at its end too; it stays then.
+    #[inline(always)]
+    pub fn next(&mut self) -> Option<Lexeme<'t>>
+        // The token is the next cut of the text.
+        ensures next { IfSome result (λ l. TakesNext self.old l self.new) }
+        ensures shorter { IfSome result (λ l. length self.new.rest < length self.old.rest) }
+        ensures none { IfNone result (BeginsNoLexeme (chars self.old.rest)) }
+        ensures stays { IfNone result (self.new ≡ self.old) }
+    {
+        let (form, behind) = first_lexeme(self.rest)?;
+        let lo = self.text.len() - self.rest.len();
+        let hi = self.text.len() - behind.len();
+        let text = &self.rest[..self.rest.len() - behind.len()];
+        self.rest = skip(behind);
+        Some(Lexeme { form, text, lo, hi })
+    }
+
+    /// What is left of the text, behind white space and comments.
+    pub fn rest(&self) -> &'t str
+        ensures { result.now ≡ self.now.rest }
+    {
+        self.rest
+    }
+}
+
+#[cfg(test)]
+mod tests {
+    use super::*;
+
+    // Whether the next token has this text, at these bytes.
+    fn takes(tokens: &mut Tokens<'_>, text: &str, lo: usize, hi: usize) -> bool {
+        match tokens.next() {
+            Some(token) => token.text == text && token.lo == lo && token.hi == hi,
+            None => false,
+        }
+    }
+
+    #[test]
+    fn cuts_and_stops(rt: HostRuntime) {
+        let mut tokens = Tokens::new(" 0xF/* a */-'b' `x");
+        assert!(&rt; takes(&mut tokens, "0xF", 1, 4));
+        assert!(&rt; takes(&mut tokens, "-", 11, 12));
+        assert!(&rt; takes(&mut tokens, "'b'", 12, 15));
+        assert!(&rt; tokens.next().is_none());
+        assert_eq!(&rt; tokens.rest(), "`x");
+    }
+}
