@@ -2,7 +2,7 @@
 use Rattle.std.proofs.Common.{◌≡◌, ℕ, ◌<◌, ◌||◌, Bool, true, false, not, cond, ltb, List, [], ◌∷◌, ◌++◌, length, Some, None, refl, sym, ap, subst, ◌∙◌, inl, inr, arith, append_assoc, append-nil, replicate}
 use Rattle.std.specs.Prelude.{encode_utf8, encode_utf8_all, Result, Ok, Err, IfOk}
 use Rattle.std.specs.Char.{len_utf8}
-use Rattle.std.specs.List.{AllByRecursion}
+use Rattle.std.specs.List.{AllByRecursion, list_all}
 use Rattle.std.specs.Str.{chars, IsUtf8}
 use Rattle.std.proofs.Math.Utf8.{scalar, scalars}
 use Rattle.std.proofs.lemmas.Bool.{and_from, and_parts, lt-ltb, ltb-true}
@@ -13,20 +13,20 @@ use Rattle.rl_tokens.specs.Quoted.{QuotedUnit, Letter, Plain, CrLf, Named, Hex, 
 use Rattle.rl_tokens.specs.Reading.{Contents, Characters, quoted_contents, ReadsQuoted}
 use Rattle.rl_tokens.proofs.CutTrees.{scalars_parts}
 use Rattle.rl_grammar.specs.declared.quoted.Form.{Form}
-use Rattle.rl_grammar.specs.declared.quoted.Form.TheVariants.{Raw as RawForm}
+use Rattle.rl_grammar.specs.declared.quoted.Form.TheVariants.{Cooked as CookedForm, Raw as RawForm, Single as SingleForm}
 use Rattle.rl_grammar.specs.declared.units.Piece.{Piece}
 use Rattle.rl_grammar.specs.declared.units.Piece.TheVariants.{Character, Byte, Nothing}
 use Rattle.rl_grammar.specs.UnitAt.{piece_value, IsPieceOf, found, unit_at}
 use Rattle.rl_grammar.specs.Rows.{BeginsRow}
-use Rattle.rl_grammar.specs.Forms.{told, front_at, PartsAre}
+use Rattle.rl_grammar.specs.Forms.{told, front_at, PartsAre, is_plain_body}
 use Rattle.rl_grammar.specs.Decoded.{piece_bytes, in_bytes, Decodes, HoldsBytes}
 use Rattle.rl_grammar.proofs.UnitLemmas.{some_pair, unit_nil}
-use Rattle.rl_grammar.proofs.RowLemmas.{row_step, row_once}
+use Rattle.rl_grammar.proofs.RowLemmas.{row_start, row_step, row_run, row_once}
 use Rattle.rl_grammar.proofs.FormLemmas.{Formed, formed, parts_formed, formed_once, not_both, single_unit, string_parts, cooked_row_of_body}
 
 -- ---- values as bytes
 
-in_bytes_append : (kind : Kind) (v w : List ℕ) → in_bytes kind (v ++ w) ≡ in_bytes kind v ++ in_bytes kind w
+pub in_bytes_append : (kind : Kind) (v w : List ℕ) → in_bytes kind (v ++ w) ≡ in_bytes kind v ++ in_bytes kind w
 in_bytes_append kind v w = go (holds_characters kind)
   where
     go : (b : Bool) → cond b (encode_utf8_all (v ++ w)) (v ++ w) ≡ cond b (encode_utf8_all v) v ++ cond b (encode_utf8_all w) w
@@ -34,7 +34,7 @@ in_bytes_append kind v w = go (holds_characters kind)
     go false = refl
 
 -- characters count as their UTF-8 bytes in every kind
-held_in_bytes : (kind : Kind) (cs : List ℕ) → in_bytes kind (held kind cs) ≡ encode_utf8_all cs
+pub held_in_bytes : (kind : Kind) (cs : List ℕ) → in_bytes kind (held kind cs) ≡ encode_utf8_all cs
 held_in_bytes kind cs = go (holds_characters kind)
   where
     go : (b : Bool) → cond b (encode_utf8_all (cond b cs (encode_utf8_all cs))) (cond b cs (encode_utf8_all cs)) ≡ encode_utf8_all cs
@@ -45,14 +45,14 @@ held_in_bytes kind cs = go (holds_characters kind)
 pub ascii_byte : (c : ℕ) → c < 128 → encode_utf8_all (c ∷ []) ≡ c ∷ []
 ascii_byte c small = append-nil (encode_utf8 c) ∙ encode_ascii c small
 
-byte_in_bytes : (kind : Kind) (n : ℕ) → IsPieceOf kind (Byte n) → in_bytes kind (n ∷ []) ≡ n ∷ []
+pub byte_in_bytes : (kind : Kind) (n : ℕ) → IsPieceOf kind (Byte n) → in_bytes kind (n ∷ []) ≡ n ∷ []
 byte_in_bytes kind n h = go (holds_characters kind) h
   where
     go : (b : Bool) → (not b || ltb n 128) ≡ true → cond b (encode_utf8_all (n ∷ [])) (n ∷ []) ≡ n ∷ []
     go true e = ascii_byte n (ltb-true n 128 e)
     go false e = refl
 
-nothing_in_bytes : (kind : Kind) → in_bytes kind [] ≡ []
+pub nothing_in_bytes : (kind : Kind) → in_bytes kind [] ≡ []
 nothing_in_bytes kind = go (holds_characters kind)
   where
     go : (b : Bool) → cond b (encode_utf8_all []) [] ≡ []
@@ -73,6 +73,14 @@ decode_step kind a v b after bytes more piece row so_far unit fits grown = (
   grown ∙ ap (λ z. z ++ piece_bytes piece) so_far ∙ ap (λ z. in_bytes kind v ++ z) (sym (piece_in_bytes kind piece fits)) ∙ sym (in_bytes_append kind v (piece_value kind piece)),
 )
 
+-- a run of plain characters is as many bytes of the text
+pub decode_run : (kind : Kind) (a v b after bytes more run : List ℕ) → BeginsRow kind a v b → bytes ≡ in_bytes kind v → b ≡ chars run ++ after → list_all (is_plain kind) (chars run) ≡ true → IsUtf8 run → more ≡ bytes ++ run → (w : List ℕ) × BeginsRow kind a w after × (more ≡ in_bytes kind w)
+decode_run kind a v b after bytes more run row so_far cut plain text grown = (
+  v ++ held kind (chars run),
+  row_run kind a v (chars run) after plain (subst (BeginsRow kind a v) cut row),
+  grown ∙ ap (λ z. z ++ run) so_far ∙ ap (λ z. in_bytes kind v ++ z) (sym (held_in_bytes kind (chars run) ∙ encodes-chars run text)) ∙ sym (in_bytes_append kind v (held kind (chars run))),
+)
+
 -- ---- what strings hold
 
 -- the bytes of a text's value are those of any reading of it
@@ -88,6 +96,22 @@ raw_bytes t form kind w body y raw u p =
     let bytes : body ≡ in_bytes kind w = sym (encodes-chars body u) ∙ ap encode_utf8_all r.1 ∙ sym (held_in_bytes kind r.0.inside) ∙ ap (in_bytes kind) (sym r.0.value_is) in
     same_bytes t kind w y body (parts_formed RawForm kind t w (chars body) y r) bytes
 
+-- a string of plain characters does too
+pub plain_bytes : (t : List ℕ) (form : Form) (kind : Kind) (w body y : List ℕ) → is_plain_body form kind (chars body) ≡ true → IsUtf8 body → PartsAre form kind t w (chars body) y → HoldsBytes t body
+plain_bytes t RawForm kind w body y h u p = raw_bytes t RawForm kind w body y refl u p
+plain_bytes t SingleForm kind w body y h u p = absurd (cc)
+plain_bytes t CookedForm kind w body y h u p =
+    let cs = chars body in
+    let start = subst (BeginsRow kind cs []) (sym (append-nil cs)) (row_start kind cs) in
+    let value : w ≡ held kind cs = (row_once kind cs w [] (held kind cs) [] (cooked_row_of_body kind t w cs y p) (row_run kind cs [] cs [] h start) (unit_nil kind) (unit_nil kind)).0 in
+    let bytes : body ≡ in_bytes kind w = sym (encodes-chars body u) ∙ sym (held_in_bytes kind cs) ∙ ap (in_bytes kind) (sym value) in
+    same_bytes t kind w y body (parts_formed CookedForm kind t w cs y p) bytes
+
+pub not_raw : (form : Form) (kind : Kind) (body : List ℕ) → is_plain_body form kind body ≡ false → form ≡ RawForm → ⊥
+not_raw RawForm kind body h e = absurd (cc)
+not_raw CookedForm kind body h e = absurd (cc)
+not_raw SingleForm kind body h e = absurd (cc)
+
 -- a cooked string holds what its body decodes to
 pub cooked_bytes : (t : List ℕ) (form : Form) (kind : Kind) (w body y bytes : List ℕ) → (form ≡ RawForm → ⊥) → PartsAre form kind t w body y → Decodes kind body bytes → HoldsBytes t bytes
 cooked_bytes t form kind w body y bytes not_raw p d k v x s r =
@@ -97,6 +121,10 @@ cooked_bytes t form kind w body y bytes not_raw p d k v x s r =
     let row = cooked_row_of_body kind t w body y (string_parts form kind t w body y string not_raw p) in
     let value = row_once kind body d.value d.rest w [] d.row row d.stuck (unit_nil kind) in
     same_bytes t kind w y bytes formed_p (d.bytes_are ∙ ap (in_bytes kind) value.0) k v x s r
+
+-- a text that reads as a string has the parts of one
+pub string_kind : (t : List ℕ) (form : Form) (kind : Kind) (w body y : List ℕ) (k : Kind) (v : Contents) (x : List ℕ) → PartsAre form kind t w body y → is_string k ≡ true → ReadsQuoted t k v x → is_string kind ≡ true
+string_kind t form kind w body y k v x p s r = ap is_string (formed_once t kind k w r.value y x (parts_formed form kind t w body y p) (formed t k v x r)).0 ∙ s
 
 -- what a call made of these bytes holds
 pub ok_holds : {X E : Type 0} (items : X → List ℕ) (r : Result X E) (t bytes : List ℕ) → HoldsBytes t bytes → IfOk r (λ v. items v ≡ bytes) → IfOk r (λ v. HoldsBytes t (items v))

@@ -27,7 +27,7 @@ pub within_or_past : (n m : ℕ) → (n ≤ m) ⊎ (m < n)
 within_or_past n m = grind arith
 
 -- one more digit of a capped number is the capped number of one more digit
-append_capped : (r v d : ℕ) → 1 ≤ r → append_digit r (capped v) d ≡ capped (v * r + d)
+pub append_capped : (r v d : ℕ) → 1 ≤ r → append_digit r (capped v) d ≡ capped (v * r + d)
 append_capped r v d h = elim (within_or_past v limit) [
   | inl k ↦ ap (λ o. append_digit r o d) (capped_within v k)
   | inr k ↦ ap (λ o. append_digit r o d) (capped_past v k) ∙ sym (capped_past (v * r + d) (mul_grows v r d k h))
@@ -139,6 +139,21 @@ zero_times q p = omega arith
 -- the row from its start
 pub row_start : (r : ℕ) (t : List ℕ) → 1 ≤ r → r ≤ 36 → row_from r false (Some 0) t ≡ (has_digit_at r t, capped (magnitude_at r t), after_digits r t)
 row_start r t h k = row_is r false 0 t h k ∙ ap (λ n. (has_digit_at r t, capped n, after_digits r t)) (zero_times (r ^ length (without_underscores (digits_at r t))) (magnitude_at r t))
+
+-- how far a row goes doesn't hang on a magnitude
+row_without : (r : ℕ) (some : Bool) (m : Option ℕ) (t : List ℕ) → row_from r some None t ≡ ((row_from r some m t).0, None, (row_from r some m t).2)
+unfolding row_from
+row_without r some m [] = refl
+row_without r some m (c ∷ cs) = go (c == 95) (nat_lt (digit_value c) r) (row_without r some m cs) (row_without r true (append_digit r m (digit_value c)) cs)
+  where
+    go : (u g : Bool) → row_from r some None cs ≡ ((row_from r some m cs).0, None, (row_from r some m cs).2) → row_from r true None cs ≡ ((row_from r true (append_digit r m (digit_value c)) cs).0, None, (row_from r true (append_digit r m (digit_value c)) cs).2) → cond u (row_from r some None cs) (cond g (row_from r true None cs) (some, None, c ∷ cs)) ≡ ((cond u (row_from r some m cs) (cond g (row_from r true (append_digit r m (digit_value c)) cs) (some, m, c ∷ cs))).0, None, (cond u (row_from r some m cs) (cond g (row_from r true (append_digit r m (digit_value c)) cs) (some, m, c ∷ cs))).2)
+    go true g marked digit = marked
+    go false true marked digit = digit
+    go false false marked digit = refl
+
+-- the row from its start, without its magnitude
+pub row_skipped : (r : ℕ) (t : List ℕ) → 1 ≤ r → r ≤ 36 → row_from r false None t ≡ (has_digit_at r t, None, after_digits r t)
+row_skipped r t h k = row_without r false (Some 0) t ∙ ap (λ p. (p.0, None, p.2)) (row_start r t h k)
 
 -- one turn of the loop, at a digit
 pub row_digit : (r : ℕ) (some : Bool) (m n : Option ℕ) (t : List ℕ) (c : ℕ) (cs : List ℕ) (d : ℕ) → t ≡ c ∷ cs → c ≢ 95 → digit_value c < r → d ≡ digit_value c → n ≡ append_digit r m d → row_from r true n cs ≡ row_from r some m t

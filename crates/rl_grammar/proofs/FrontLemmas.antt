@@ -1,15 +1,14 @@
 -- At most one literal begins the trees.
-use Rattle.std.proofs.Common.{◌≡◌, ℕ, Bool, true, false, List, [], ◌∷◌, ◌++◌, refl, sym, ◌∙◌, ap, subst}
-use Rattle.std.specs.Prelude.{IsFalse, codes}
+use Rattle.std.proofs.Common.{◌≡◌, ℕ, Bool, List, [], ◌∷◌, refl, sym, ◌∙◌, subst}
+use Rattle.std.specs.Prelude.{IsFalse}
 use Rattle.std.specs.Str.{chars}
 use Rattle.rl_tokens.specs.declared.kind.Kind.{Kind}
 use Rattle.rl_tokens.specs.declared.kind.Kind.TheVariants.{Bool as BoolKind}
 use Rattle.rl_tokens.specs.Tokens.{Token}
-use Rattle.rl_tokens.specs.Puncts.{Mark}
 use Rattle.rl_tokens.specs.Trees.{Tree, GroupTree, IdentTree, PunctTree, LiteralTree}
-use Rattle.rl_tokens.specs.Reading.{Contents, Truth, Reads, ReadsAs, truth_text}
+use Rattle.rl_tokens.specs.Reading.{Truth, ReadsAs, truth_text}
 use Rattle.rl_tokens.specs.Buffers.{begins_literal}
-use Rattle.rl_tokens.specs.Fronts.{joined, HasReading, IsFront, HasNoFront, IsFrontOf, HasFrontOf}
+use Rattle.rl_tokens.specs.Fronts.{IsFront, HasNoFront, HasFrontOf}
 use Rattle.rl_tokens.proofs.OneReading.{one_reading}
 use Rattle.rl_grammar.proofs.MinusLemmas.{no_truth}
 use Rattle.rl_grammar.specs.FrontTokens.{HasNoWord, HasNoMinus}

@@ -1,4 +1,8 @@
 pub mod DigitRowLemmas
+pub mod HeadLemmas
+pub mod PlainNumberLemmas
+pub mod RowBytes
+pub mod TallyLemmas
 pub mod RunLemmas
 pub mod IntegerLemmas
 pub mod FloatLemmas
@@ -22,3 +26,6 @@ pub mod StrictRowLemmas
 pub mod StrictRawLemmas
 pub mod StrictLemmas
 pub mod FrontLemmas
+pub mod LaneLemmas
+pub mod PlainLemmas
+pub mod BodyLemmas

@@ -1,10 +1,12 @@
 -- A row of units, one unit at a time.
-use Rattle.std.proofs.Common.{◌≡◌, ℕ, false, List, [], ◌∷◌, ◌++◌, None, refl, sym, ap, subst, ◌∙◌, append_assoc, append-nil, Some}
-use Rattle.std.specs.List.{AllByRecursion}
+use Rattle.std.proofs.Common.{◌≡◌, ℕ, Bool, true, false, cond, List, [], ◌∷◌, ◌++◌, None, refl, sym, ap, subst, ◌∙◌, append_assoc, append-nil, Some}
+use Rattle.std.specs.Prelude.{encode_utf8, encode_utf8_all}
+use Rattle.std.specs.List.{AllByRecursion, list_all}
+use Rattle.std.proofs.lemmas.Bool.{and_parts}
 use Rattle.std.proofs.lemmas.List.Concat.{flat_map-append}
 use Rattle.rl_tokens.specs.declared.kind.Kind.{Kind}
 use Rattle.rl_tokens.specs.Texts.{passes}
-use Rattle.rl_tokens.specs.Quoted.{QuotedUnit, Plain, CrLf, Named, Hex, Unicode, Continuation, unit_text, unit_value, is_blank, IsUnit, EndsBefore, ContinuationsEnd, texts, values}
+use Rattle.rl_tokens.specs.Quoted.{QuotedUnit, Plain, CrLf, Named, Hex, Unicode, Continuation, unit_text, unit_value, is_blank, held, holds_characters, is_plain, IsUnit, EndsBefore, ContinuationsEnd, texts, values}
 use Rattle.rl_grammar.specs.UnitAt.{found, unit_at}
 use Rattle.rl_grammar.specs.Rows.{RowEnds, BeginsRow}
 use Rattle.rl_grammar.proofs.UnitLemmas.{some_pair, unit_sound, unit_complete}
@@ -83,6 +85,47 @@ row_step kind a v b p row h =
       text_is = row.text_is ∙ ap (λ z. texts us ++ z) begun.text_is ∙ sym (texts_more us u p.1);
       value_is = ap (λ z. z ++ p.0) row.value_is ∙ ap (λ z. values kind us ++ z) begun.value_is ∙ sym (values_more kind us u);
     }
+
+-- ---- a run of plain characters
+
+held_nil : (kind : Kind) → held kind [] ≡ []
+held_nil kind = go (holds_characters kind)
+  where
+    go : (b : Bool) → cond b [] (encode_utf8_all []) ≡ []
+    go true = refl
+    go false = refl
+
+held_more : (kind : Kind) (c : ℕ) (cs : List ℕ) → held kind (c ∷ []) ++ held kind cs ≡ held kind (c ∷ cs)
+held_more kind c cs = go (holds_characters kind)
+  where
+    go : (b : Bool) → cond b (c ∷ []) (encode_utf8_all (c ∷ [])) ++ cond b cs (encode_utf8_all cs) ≡ cond b (c ∷ cs) (encode_utf8_all (c ∷ cs))
+    go true = refl
+    go false = ap (λ z. z ++ encode_utf8_all cs) (append-nil (encode_utf8 c))
+
+-- each of its characters is a unit
+pub row_run : (kind : Kind) (a v run b : List ℕ) → list_all (is_plain kind) run ≡ true → BeginsRow kind a v (run ++ b) → BeginsRow kind a (v ++ held kind run) b
+row_run kind a v [] b plain row = subst (λ w. BeginsRow kind a w b) (sym (ap (λ z. v ++ z) (held_nil kind) ∙ append-nil v)) row
+row_run kind a v (c ∷ run) b plain row =
+    let parts = and_parts (is_plain kind c) (list_all (is_plain kind) run) plain in
+    let one = row_step kind a v (c ∷ (run ++ b)) (held kind (c ∷ []), run ++ b) row (unit_complete kind (Plain c) (run ++ b) parts.0 tt) in
+    let value = append_assoc v (held kind (c ∷ [])) (held kind run) ∙ ap (λ z. v ++ z) (held_more kind c run) in
+    subst (λ w. BeginsRow kind a w b) value (row_run kind a (v ++ held kind (c ∷ [])) run b parts.1 one)
+
+-- a run before a row
+pub row_behind : (kind : Kind) (run b v r : List ℕ) → list_all (is_plain kind) run ≡ true → BeginsRow kind b v r → (w : List ℕ) × BeginsRow kind (run ++ b) w r
+row_behind kind [] b v r plain row = (v, row)
+row_behind kind (c ∷ run) b v r plain row =
+    let parts = and_parts (is_plain kind c) (list_all (is_plain kind) run) plain in
+    let (w, more) = row_behind kind run b v r parts.1 row in (
+      held kind (c ∷ []) ++ w,
+      record {
+        units = Plain c ∷ more.units;
+        each = (parts.0, more.each);
+        ends = (tt, more.ends);
+        text_is = ap (λ z. c ∷ z) more.text_is;
+        value_is = ap (λ z. held kind (c ∷ []) ++ z) more.value_is;
+      },
+    )
 
 -- ---- a row that goes as far as units go is the only one
 

@@ -431,7 +431,7 @@ unit_sound kind (c ∷ cs) p h =
     ]
 
 -- no kind takes a backslash as it is
-backslash_not_plain : (kind : Kind) → is_plain kind 92 ≡ false
+pub backslash_not_plain : (kind : Kind) → is_plain kind 92 ≡ false
 backslash_not_plain Str = refl
 backslash_not_plain ByteStr = refl
 backslash_not_plain CStr = refl

@@ -1,8 +1,9 @@
 -- The forms of quoted literals: which one a text's front tells, and their parts.
-use Rattle.std.specs.Prelude.{◌≡◌, ℕ, ◌==◌, Bool, List, [], ◌∷◌, Option, Some, None, if◌then◌else◌}
+use Rattle.std.specs.Prelude.{◌≡◌, ℕ, ◌==◌, Bool, true, false, List, [], ◌∷◌, Option, Some, None, if◌then◌else◌}
+use Rattle.std.specs.List.{list_all}
 use Rattle.rl_tokens.specs.declared.kind.Kind.{Kind}
 use Rattle.rl_tokens.specs.declared.kind.Kind.TheVariants.{Str, ByteStr, CStr, Byte, Char}
-use Rattle.rl_tokens.specs.Quoted.{Cooked, Raw, Single, is_string, is_single, opener, raw_opener, texts, unit_text}
+use Rattle.rl_tokens.specs.Quoted.{Cooked, Raw, Single, is_string, is_single, is_plain, opener, raw_opener, texts, unit_text}
 use Rattle.rl_grammar.specs.declared.quoted.Form.{Form}
 use Rattle.rl_grammar.specs.declared.quoted.Form.TheVariants.{Cooked as CookedForm, Raw as RawForm, Single as SingleForm}
 
@@ -43,6 +44,12 @@ abbrev pub PartsAre : Form → Kind → List ℕ → List ℕ → List ℕ → L
 PartsAre CookedForm kind text value body suffix = (c : Cooked kind text value suffix) × (body ≡ texts c.units)
 PartsAre RawForm kind text value body suffix = (r : Raw kind text value suffix) × (body ≡ r.inside)
 PartsAre SingleForm kind text value body suffix = (s : Single kind text value suffix) × (body ≡ unit_text s.unit)
+
+-- the body is taken as it stands: of a raw string, and of a cooked one with neither escapes nor line ends of two characters
+abbrev pub is_plain_body : Form → Kind → List ℕ → Bool
+is_plain_body RawForm kind body = true
+is_plain_body CookedForm kind body = list_all (is_plain kind) body
+is_plain_body SingleForm kind body = false
 
 abbrev pub HasNoParts : Form → Kind → List ℕ → Type 0
 HasNoParts form kind text = (v body suffix : List ℕ) → PartsAre form kind text v body suffix → ⊥

@@ -9,3 +9,4 @@ pub mod WholeShapes
 pub mod StrictAt
 pub mod StrictShapes
 pub mod FrontTokens
+pub mod PlainAt

@@ -1,5 +1,5 @@
 -- Reading numbers, one part after another.
-use Rattle.std.specs.Prelude.{ℕ, ◌+◌, ◌*◌, ◌==◌, ◌||◌, ◌&&◌, not, Bool, true, false, List, [], ◌∷◌, Option, Some, None, nat_lt, nat_le, if◌then◌else◌}
+use Rattle.std.specs.Prelude.{◌≡◌, IsTrue, ℕ, ◌+◌, ◌*◌, ◌==◌, ◌||◌, ◌&&◌, not, Bool, true, false, List, [], ◌∷◌, Option, Some, None, nat_lt, nat_le, if◌then◌else◌}
 use Rattle.std.specs.Char.{digit_value, is_ascii_digit}
 use Rattle.std.specs.List.{list_any}
 use Rattle.rl_tokens.specs.Texts.{passes, is_underscore, xid_ok}
@@ -108,6 +108,19 @@ abbrev pub capped_int : Option (Sign × ℕ × List ℕ) → Option (Option ℕ 
 capped_int None = None
 capped_int (Some p) = Some (capped p.1, p.2)
 
+-- What stands behind the sign begins with a digit, has this base, and behind its prefix this row: whether there is a
+-- digit, the number within the limit, and what follows.
+pub record IsHead (unsigned : List ℕ) (radix : ℕ) (some : Bool) (magnitude : Option ℕ) (rest : List ℕ) : Type 0 where
+  pub first : IsTrue (passes is_ascii_digit unsigned)
+  pub base : radix ≡ (radix_at unsigned).0
+  pub has_digit : some ≡ has_digit_at (radix_at unsigned).0 (radix_at unsigned).1
+  pub within : magnitude ≡ capped (magnitude_at (radix_at unsigned).0 (radix_at unsigned).1)
+  pub rest_is : rest ≡ after_digits (radix_at unsigned).0 (radix_at unsigned).1
+
+-- the magnitude and the suffix of an integer with such a row
+abbrev pub ended_at : ℕ → Bool → Option ℕ → List ℕ → Option (Option ℕ × List ℕ)
+ended_at radix some m x = if some && may_end radix x then Some (m, x) else None
+
 -- what follows a dot and its digits, or the text
 abbrev pub after_fraction : List ℕ → List ℕ
 after_fraction [] = []
@@ -125,6 +138,10 @@ power_at t = after_power_sign (after_run is_underscore t)
 unfoldable pub after_exponent : List ℕ → List ℕ
 after_exponent [] = []
 after_exponent (c ∷ cs) = if is_exponent_letter c && has_digit_at 10 (power_at cs) then after_digits 10 (power_at cs) else (c ∷ cs)
+
+-- the suffix of a float, by what follows its whole part
+abbrev pub float_tail_at : List ℕ → Option (List ℕ)
+float_tail_at t = if is_suffix (after_exponent (after_fraction t)) then Some (after_exponent (after_fraction t)) else None
 
 -- the suffix of a float
 unfoldable pub float_at : List ℕ → Option (List ℕ)

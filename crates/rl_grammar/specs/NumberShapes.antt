@@ -1,5 +1,5 @@
 -- What the calls on numbers say.
-use Rattle.std.specs.Prelude.{◌≡◌, ℕ, ◌<◌, ◌≤◌, List}
+use Rattle.std.specs.Prelude.{◌≡◌, ℕ, ◌<◌, ◌≤◌, List, ◌++◌}
 use Rattle.rl_tokens.specs.declared.kind.Kind.{Kind}
 use Rattle.rl_tokens.specs.declared.kind.Kind.TheVariants.{Int, Float}
 use Rattle.rl_tokens.specs.Numbers.{Sign, IntReads, limit, FloatReads, float_digits}
@@ -55,3 +55,9 @@ abbrev pub AreDigits : Kind → List ℕ → List ℕ → Type 0
 AreDigits Int text digits = (contents : Contents) (suffix : List ℕ) → ReadsInt text contents suffix → contents ≡ Digits digits
 AreDigits Float text digits = (numeral suffix : List ℕ) → FloatReads text numeral suffix → digits ≡ float_digits numeral
 AreDigits _ text digits = ⊥
+
+-- an integer of this magnitude stands there, within the limit, and the body is all before its suffix
+pub record IsCutInteger (text : List ℕ) (magnitude : ℕ) (body : List ℕ) : Type 0 where
+  pub suffix : List ℕ
+  pub within : IsWithin text magnitude suffix
+  pub cut : text ≡ body ++ suffix

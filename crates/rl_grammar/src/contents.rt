@@ -1,15 +1,17 @@
 //! What quoted literals stand for.
 
-ghost use Rattle.std.specs.Prelude.{◌≡◌, ◌⊎◌, ◌++◌, [], ◌∷◌, ℕ, List, IsTrue, OnOk, IfOk, IfErr, string_bytes};
+ghost use Rattle.std.specs.Prelude.{◌≡◌, ◌⊎◌, ◌↔◌, ◌++◌, [], ◌∷◌, ℕ, List, IsTrue, OnOk, IfOk, IfErr, string_bytes};
 ghost use Rattle.std.specs.Str.{chars};
 ghost use Rattle.rl_tokens.specs.declared.kind.Kind.{Kind as AnyKind};
 ghost use Rattle.rl_tokens.specs.Errors.{memory_at, nowhere};
-ghost use Rattle.rl_tokens.specs.Quoted.{is_single};
+ghost use Rattle.rl_tokens.specs.Quoted.{is_single, is_string};
 ghost use Rattle.rl_tokens.specs.Reading.{Contents, Characters, Bytes, quoted_contents, ReadsQuoted, ReadsAs, HasContents};
 ghost use Rattle.rl_grammar.specs.UnitAt.{piece_value};
 ghost use Rattle.rl_grammar.specs.Decoded.{ContentsAre, ReadsAsQuoted, piece_bytes, Decodes, HoldsBytes};
+ghost use Rattle.rl_grammar.specs.WholeShapes.{IsPlain};
 
-use crate::quoted::{Form, front, quoted_parts};
+use crate::quoted::{front, quoted_parts};
+use crate::runs::split_plain;
 use crate::units::{Piece, unit};
 use rl_tokens::{Error, ErrorKind, Kind, Span};
 use std::alloc::{AllocError, Allocator};
@@ -35,31 +37,59 @@ fn push_piece<A: Allocator>(bytes: &mut Vec<u8, A>, piece: Piece) -> Result<(), 
     }
 }
 
-/// The bytes of the units at the front of a text, in one allocation: they are never more than the text's own.
+/// Puts a run of characters at the end. It is often empty, between escapes.
+fn push_run<A: Allocator>(bytes: &mut Vec<u8, A>, run: &str) -> Result<(), AllocError>
+    ensures { OnOk result (bytes.new.items ≡ bytes.old.items ++ run.now) }
+{
+    if run.is_empty() {
+        return Ok(());
+    }
+    bytes.extend_from_slice(run.as_bytes())
+}
+
+/// The bytes of the units at the front of a text, in one allocation: they are never more than the text's own. A run of
+/// plain characters is copied at once.
 fn decode<A: Allocator>(alloc: A, kind: Kind, text: &str) -> Result<Vec<u8, A>, AllocError>
+    requires { IsTrue (is_string kind) }
     ensures { IfOk result (λ bytes. Decodes kind (chars text.now) bytes.items) }
 {
     let mut bytes = Vec::with_capacity(alloc, text.len())?;
     let mut rest = text;
-    while let Some((piece, after)) = unit(kind, rest) {
+    loop {
+        let (run, behind) = split_plain(kind, rest);
+        push_run(&mut bytes, run)?;
+        let Some((piece, after)) = unit(kind, behind) else {
+            return Ok(bytes);
+        };
         push_piece(&mut bytes, piece)?;
         rest = after;
     }
-    Ok(bytes)
 }
 
 /// The bytes that a string literal holds, those of its characters in UTF-8.
 fn held_bytes<A: Allocator>(alloc: A, text: &str) -> Result<Vec<u8, A>, AllocError>
-    requires { (kind : AnyKind) × ReadsAsQuoted kind (chars text.now) }
+    requires { (kind : AnyKind) × IsTrue (is_string kind) × ReadsAsQuoted kind (chars text.now) }
     ensures { IfOk result (λ bytes. HoldsBytes (chars text.now) bytes.items) }
 {
-    let Some((form, parts)) = quoted_parts(text) else {
+    let Some((_, parts, plain)) = quoted_parts(text) else {
         unreachable!()
     };
-    match form {
-        // A raw string holds its body as it stands.
-        Form::Raw => Vec::from_slice(alloc, parts.body.as_bytes()),
-        _ => decode(alloc, parts.kind, parts.body),
+    if plain {
+        Vec::from_slice(alloc, parts.body.as_bytes())
+    } else {
+        decode(alloc, parts.kind, parts.body)
+    }
+}
+
+/// Whether the text reads as a string of the kind whose contents are its body, byte for byte: it is raw, or has neither
+/// an escape nor a line end of two characters.
+pub(crate) fn string_is_plain(kind: Kind, text: &str) -> bool
+    requires { IsTrue (is_string kind) }
+    ensures { IsTrue result ↔ IsPlain kind text.now }
+{
+    match quoted_parts(text) {
+        Some((_, parts, plain)) => plain && parts.kind == kind,
+        None => false,
     }
 }
 

@@ -1,17 +1,23 @@
 //! The digits of numbers.
 
-ghost use Rattle.std.specs.Prelude.{◌≡◌, ◌++◌, List, IfErr, IfOk, OnOk, encode_utf8_all, string_bytes, ℕ, [], ◌∷◌};
+ghost use Rattle.std.specs.Prelude.{◌≡◌, ◌↔◌, ◌++◌, List, IfErr, IfNone, IfOk, IfSome, IsTrue, OnOk, encode_utf8_all, string_bytes, ℕ, [], ◌∷◌};
+ghost use Rattle.std.specs.Char.{is_ascii_digit};
 ghost use Rattle.std.specs.Fmt.{decimal};
+ghost use Rattle.std.specs.List.{list_all};
 ghost use Rattle.std.specs.Str.{chars};
 ghost use Rattle.rl_tokens.specs.Errors.{memory_at, nowhere};
 ghost use Rattle.rl_tokens.specs.Numbers.{float_digits, sign_text};
 ghost use Rattle.rl_tokens.specs.declared.kind.Kind.TheVariants.{Float, Int};
 ghost use Rattle.rl_grammar.specs.NumberAt.{sign_at};
-ghost use Rattle.rl_grammar.specs.NumberShapes.{AreDigits, IsNumber, IsWithin};
+ghost use Rattle.rl_grammar.specs.NumberShapes.{AreDigits, IsCutInteger, IsNumber};
+ghost use Rattle.rl_grammar.specs.WholeShapes.{IsPlain};
+ghost use Rattle.rl_grammar.specs.PlainAt.{is_kept, is_plain_digits, is_plain_float, is_plain_integer};
 
 use crate::floats::float_shape;
 use crate::integers::read_integer;
-use crate::rows::is_negative;
+use crate::rows::{after_minus, cut_suffix, is_negative};
+use crate::strict::words::is_some_text;
+use rl_tokens::text::split_char;
 use rl_tokens::{Error, ErrorKind, Kind, Span};
 use std::alloc::{AllocError, Allocator};
 use std::fmt::Write;
@@ -44,18 +50,88 @@ pub fn digits_of<A: Allocator>(alloc: A, kind: Kind, text: &str) -> Result<Strin
     }
 }
 
-/// The magnitude of an integer literal.
-fn magnitude_of(text: &str) -> u128
-    requires { IsNumber Int (chars text.now) }
-    ensures { (x : List ℕ) × IsWithin (chars text.now) result x }
+/// Whether the text reads as an integer within 128 bits whose digits are its body, byte for byte.
+pub(crate) fn integer_is_plain(text: &str) -> bool
+    ensures { IsTrue result ↔ IsPlain Int text.now }
 {
-    let Some(integer) = read_integer(text) else {
-        unreachable!()
-    };
-    let Some(magnitude) = integer.magnitude else {
-        unreachable!()
-    };
-    magnitude
+    match cut_integer(text) {
+        Some((_, body)) => is_plain_integer(body),
+        None => false,
+    }
+}
+
+/// Whether the text reads as a float, whether or not an integer stands there too, whose digits are its body, byte for
+/// byte.
+pub(crate) fn float_is_plain(text: &str) -> bool
+    ensures { IsTrue result ↔ IsPlain Float text.now }
+{
+    match float_shape(text) {
+        Some(parts) => is_plain_float(parts.body),
+        None => false,
+    }
+}
+
+/// The magnitude of an integer within 128 bits, and all that stands before its suffix.
+fn cut_integer(text: &str) -> Option<(u128, &str)>
+    ensures none { IfNone result (IsNumber Int (chars text.now) → ⊥) }
+    ensures some { IfSome result (λ p. IsCutInteger (chars text.now) p.0 (chars p.1.now)) }
+{
+    let integer = read_integer(text)?;
+    let magnitude = integer.magnitude?;
+    let parts = cut_suffix(Kind::Int, text, integer.suffix);
+    Some((magnitude, parts.body))
+}
+
+/// Whether all bytes are decimal digits.
+fn are_digits(bytes: &[u8]) -> bool
+    ensures { result ≡ list_all is_ascii_digit bytes.now }
+{
+    bytes.iter().all(|byte| byte.is_ascii_digit())
+}
+
+/// Whether all characters are decimal digits.
+fn all_digits(text: &str) -> bool
+    ensures { result ≡ list_all is_ascii_digit (chars text.now) }
+{
+    are_digits(text.as_bytes())
+}
+
+/// Whether the text is digits in base ten, with no needless zero in front.
+fn is_plain_digits(text: &str) -> bool
+    ensures { result ≡ is_plain_digits (chars text.now) }
+{
+    match split_char(text) {
+        Some((first, rest)) => all_digits(text) && (first != '0' || !is_some_text(rest)),
+        None => false,
+    }
+}
+
+/// The same, perhaps behind a minus.
+fn is_plain_integer(body: &str) -> bool
+    ensures { result ≡ is_plain_integer (chars body.now) }
+{
+    is_plain_digits(after_minus(body))
+}
+
+/// Whether a float's digits keep the byte as it is.
+fn is_kept(byte: u8) -> bool
+    ensures { result ≡ is_kept byte }
+{
+    !matches!(byte, b'_' | b'+' | b'E')
+}
+
+/// Whether a float's digits keep each byte of its numeral.
+fn keeps_all(numeral: &[u8]) -> bool
+    ensures { result ≡ list_all is_kept numeral.now }
+{
+    numeral.iter().all(|byte| is_kept(*byte))
+}
+
+/// Whether a float's digits are its numeral as it stands.
+fn is_plain_float(numeral: &str) -> bool
+    ensures { result ≡ is_plain_float (chars numeral.now) }
+{
+    keeps_all(numeral.as_bytes())
 }
 
 /// Writes a minus where the text begins with one.
@@ -85,7 +161,12 @@ fn integer_digits<A: Allocator>(alloc: A, text: &str) -> Result<String<A>, Alloc
     requires { IsNumber Int (chars text.now) }
     ensures { IfOk result (λ s. AreDigits Int (chars text.now) (chars (string_bytes s))) }
 {
-    let magnitude = magnitude_of(text);
+    let Some((magnitude, body)) = cut_integer(text) else {
+        unreachable!()
+    };
+    if is_plain_integer(body) {
+        return String::from_str(alloc, body);
+    }
     let mut digits = String::with_capacity(alloc, INTEGER_DIGITS)?;
     push_sign(&mut digits, text)?;
     push_decimal(&mut digits, magnitude)?;
@@ -123,6 +204,9 @@ fn float_digits<A: Allocator>(alloc: A, text: &str) -> Result<String<A>, AllocEr
     let Some(parts) = float_shape(text) else {
         unreachable!()
     };
+    if is_plain_float(parts.body) {
+        return String::from_str(alloc, parts.body);
+    }
     plain_numeral(alloc, parts.body)
 }
 

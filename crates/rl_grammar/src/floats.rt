@@ -5,11 +5,12 @@ ghost use Rattle.std.specs.Str.{chars};
 ghost use Rattle.rl_tokens.specs.declared.kind.Kind.TheVariants.{Float};
 ghost use Rattle.rl_tokens.specs.Texts.{IsBehind, is_underscore};
 ghost use Rattle.rl_tokens.specs.Numbers.{FloatReads};
-ghost use Rattle.rl_grammar.specs.NumberAt.{after_exponent, after_fraction, after_run, float_at, power_at};
+ghost use Rattle.rl_grammar.specs.NumberAt.{after_exponent, after_fraction, after_minus, after_run, float_at, float_tail_at, IsHead, power_at};
 ghost use Rattle.rl_grammar.specs.NumberShapes.{HasNoFloat, HasOneFloat};
 
+use crate::integers::Head;
 use crate::parts::Parts;
-use crate::rows::{after_minus, begins_digit, cut_suffix, is_suffix, read_row};
+use crate::rows::{after_minus, begins_digit, cut_suffix, is_suffix, skip_row};
 use rl_tokens::Kind;
 use rl_tokens::text::split_char;
 
@@ -20,7 +21,7 @@ fn after_fraction(text: &str) -> &str
     ensures behind { IsBehind text.now result.now }
 {
     match split_char(text) {
-        Some(('.', digits)) => read_row(digits, 10).rest,
+        Some(('.', digits)) => skip_row(digits).rest,
         _ => text,
     }
 }
@@ -58,12 +59,26 @@ fn after_exponent(text: &str) -> &str
     ensures behind { IsBehind text.now result.now }
 {
     if let Some(('e' | 'E', power)) = split_char(text) {
-        let row = read_row(power_digits(power), 10);
+        let row = skip_row(power_digits(power));
         if row.has_digit {
             return row.rest;
         }
     }
     text
+}
+
+/// The suffix of the float whose whole part this follows.
+#[tactic(auto, using(rl_tokens::proofs::BehindLemmas::behind_step, rl_tokens::proofs::BehindLemmas::behind_self))]
+fn tail_suffix(text: &str) -> Option<&str>
+    ensures value { option_map (λ x. chars x.now) result ≡ float_tail_at (chars text.now) }
+    ensures behind { IfSome result (λ x. IsBehind text.now x.now) }
+{
+    let suffix = after_exponent(after_fraction(text));
+    if is_suffix(suffix) {
+        Some(suffix)
+    } else {
+        None
+    }
 }
 
 /// The suffix of the float that the text is.
@@ -76,12 +91,37 @@ fn float_suffix(text: &str) -> Option<&str>
     if !begins_digit(whole) {
         return None;
     }
-    let suffix = after_exponent(after_fraction(read_row(whole, 10).rest));
-    if is_suffix(suffix) {
-        Some(suffix)
+    tail_suffix(skip_row(whole).rest)
+}
+
+/// The suffix of the float that begins so: behind another base's prefix the whole part is its zero.
+fn head_suffix<'t>(text: &'t str, head: Head<'t>) -> Option<&'t str>
+    requires head { IsHead (after_minus (chars text.now)) head.radix
+        head.row.has_digit head.row.magnitude (chars head.row.rest.now) }
+    requires behind { IsBehind text.now head.row.rest.now }
+    ensures value { option_map (λ x. chars x.now) result ≡ float_at (chars text.now) }
+    ensures behind { IfSome result (λ x. IsBehind text.now x.now) }
+{
+    if head.radix == 10 {
+        tail_suffix(head.row.rest)
     } else {
-        None
+        float_suffix(text)
     }
+}
+
+/// The parts of the float literal that begins so, as `float_shape` tells them.
+pub(crate) fn float_behind<'t>(text: &'t str, head: Head<'t>) -> Option<Parts<'t>>
+    requires head { IsHead (after_minus (chars text.now)) head.radix
+        head.row.has_digit head.row.magnitude (chars head.row.rest.now) }
+    requires behind { IsBehind text.now head.row.rest.now }
+    ensures none { IfNone result (HasNoFloat (chars text.now)) }
+    ensures reads { IfSome result
+        (λ p. FloatReads (chars text.now) (chars p.body.now) (chars p.suffix.now)) }
+    ensures kind { IfSome result (λ p. p.kind ≡ Float) }
+    ensures cut { IfSome result (λ p. text.now ≡ p.body.now ++ p.suffix.now) }
+{
+    let tail = head_suffix(text, head)?;
+    Some(cut_suffix(Kind::Float, text, tail))
 }
 
 /// The parts of a float literal, whether or not an integer stands there too.

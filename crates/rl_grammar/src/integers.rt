@@ -1,15 +1,18 @@
 //! Integers: their base, their magnitude up to 128 bits, and their suffix.
 
-ghost use Rattle.std.specs.Prelude.{◌≡◌, ◌++◌, ◌≤◌, IfNone, IfSome, List, Option, option_map, ℕ};
+ghost use Rattle.std.specs.Prelude.{◌≡◌, ◌++◌, ◌≤◌, false, IsTrue, IfNone, IfSome, List, Option, option_map, ℕ};
+ghost use Rattle.std.specs.Char.{is_ascii_digit};
 ghost use Rattle.std.specs.Str.{chars};
 ghost use Rattle.rl_tokens.specs.declared.kind.Kind.TheVariants.{Int};
-ghost use Rattle.rl_tokens.specs.Texts.{IsBehind};
+ghost use Rattle.rl_tokens.specs.Texts.{IsBehind, passes};
 ghost use Rattle.rl_tokens.specs.Reading.{Contents, HasNoInteger, ReadsInt};
-ghost use Rattle.rl_grammar.specs.NumberAt.{based_at, capped_based, capped_int, int_at, radix_at};
+ghost use Rattle.rl_grammar.specs.NumberAt.{after_minus, capped_int, ended_at, int_at, IsHead, radix_at};
 ghost use Rattle.rl_grammar.specs.NumberShapes.{HasOneInteger, IsPast};
 
 use crate::parts::Parts;
-use crate::rows::{after_minus, begins_digit, cut_suffix, is_exponent_suffix, is_suffix, read_row};
+use crate::rows::{
+    Row, after_minus, begins_digit, cut_suffix, is_exponent_suffix, is_suffix, read_row,
+};
 use rl_tokens::Kind;
 use rl_tokens::text::split_char;
 
@@ -31,6 +34,43 @@ pub(crate) fn split_radix(text: &str) -> (u32, &str)
     (10, text)
 }
 
+/// What a number begins with: its base, and the row of digits behind sign and prefix.
+#[derive(Clone, Copy)]
+pub(crate) struct Head<'t> {
+    pub radix: u32,
+    pub row: Row<'t>,
+}
+
+/// What a number begins with, by what stands behind its sign.
+#[tactic(auto, using(rl_tokens::proofs::BehindLemmas::behind_step))]
+fn head_of(unsigned: &str) -> Head<'_>
+    requires { IsTrue (passes is_ascii_digit (chars unsigned.now)) }
+    ensures head { IsHead (chars unsigned.now) result.radix
+        result.row.has_digit result.row.magnitude (chars result.row.rest.now) }
+    ensures behind { IsBehind unsigned.now result.row.rest.now }
+{
+    let (radix, digits) = split_radix(unsigned);
+    let row = read_row(digits, radix);
+    Head { radix, row }
+}
+
+/// What a number begins with; `None` where no digit stands behind the sign. That test is written into the callers.
+#[inline(always)]
+#[tactic(auto, using(rl_tokens::proofs::BehindLemmas::behind_step))]
+pub(crate) fn read_head(text: &str) -> Option<Head<'_>>
+    ensures none { IfNone result (passes is_ascii_digit (after_minus (chars text.now)) ≡ false) }
+    ensures head { IfSome result (λ h. IsHead (after_minus (chars text.now)) h.radix
+        h.row.has_digit h.row.magnitude (chars h.row.rest.now)) }
+    ensures behind { IfSome result (λ h. IsBehind text.now h.row.rest.now) }
+{
+    let unsigned = after_minus(text);
+    if begins_digit(unsigned) {
+        Some(head_of(unsigned))
+    } else {
+        None
+    }
+}
+
 /// An integer, read.
 #[derive(Clone, Copy)]
 pub(crate) struct Integer<'t> {
@@ -39,25 +79,20 @@ pub(crate) struct Integer<'t> {
     pub suffix: &'t str,
 }
 
-/// The integer of a base that the text is, behind sign and prefix.
-#[tactic(auto, using(rl_tokens::proofs::BehindLemmas::behind_step, rl_tokens::proofs::BehindLemmas::behind_self), unfolding(crate::specs::NumberAt::based_at))]
-fn read_based(text: &str, radix: u32) -> Option<Integer<'_>>
-    requires { (2 ≤ radix) × (radix ≤ 16) }
+/// The integer that begins so, if what follows its row may be its suffix.
+fn integer_of(head: Head<'_>) -> Option<Integer<'_>>
     ensures value { option_map {U = Option ℕ × List ℕ} (λ i. (i.magnitude, chars i.suffix.now)) result
-        ≡ capped_based (based_at radix (chars text.now)) }
-    ensures behind { IfSome result (λ i. IsBehind text.now i.suffix.now) }
+        ≡ ended_at head.entry.radix head.entry.row.has_digit head.entry.row.magnitude (chars head.entry.row.rest.now) }
+    ensures suffix { IfSome result (λ i. i.suffix.now ≡ head.entry.row.rest.now) }
 {
-    if radix == 10 && !begins_digit(text) {
-        return None;
-    }
-    let row = read_row(text, radix);
-    let is_integer = row.has_digit
-        && is_suffix(row.rest)
-        && (radix != 10 || !is_exponent_suffix(row.rest));
+    let suffix = head.row.rest;
+    let is_integer = head.row.has_digit
+        && is_suffix(suffix)
+        && (head.radix != 10 || !is_exponent_suffix(suffix));
     if is_integer {
         Some(Integer {
-            magnitude: row.magnitude,
-            suffix: row.rest,
+            magnitude: head.row.magnitude,
+            suffix,
         })
     } else {
         None
@@ -65,14 +100,35 @@ fn read_based(text: &str, radix: u32) -> Option<Integer<'_>>
 }
 
 /// The integer that the text is.
-#[tactic(auto, using(rl_tokens::proofs::BehindLemmas::behind_step, rl_tokens::proofs::BehindLemmas::behind_self), unfolding(crate::specs::NumberAt::int_at))]
 pub(crate) fn read_integer(text: &str) -> Option<Integer<'_>>
     ensures value { option_map {U = Option ℕ × List ℕ} (λ i. (i.magnitude, chars i.suffix.now)) result
         ≡ capped_int (int_at (chars text.now)) }
     ensures behind { IfSome result (λ i. IsBehind text.now i.suffix.now) }
 {
-    let (radix, digits) = split_radix(after_minus(text));
-    read_based(digits, radix)
+    match read_head(text) {
+        Some(head) => integer_of(head),
+        None => None,
+    }
+}
+
+/// The parts of the integer literal that begins so, as `int_shape` tells them.
+pub(crate) fn integer_shape<'t>(text: &'t str, head: Head<'t>) -> Option<Option<Parts<'t>>>
+    requires head { IsHead (after_minus (chars text.now)) head.radix
+        head.row.has_digit head.row.magnitude (chars head.row.rest.now) }
+    requires behind { IsBehind text.now head.row.rest.now }
+    ensures none { IfNone result (HasNoInteger (chars text.now)) }
+    ensures past { IfSome result (λ o. IfNone o (IsPast (chars text.now))) }
+    ensures reads { IfSome result (λ o. IfSome o
+        (λ p. (v : Contents) × ReadsInt (chars text.now) v (chars p.suffix.now))) }
+    ensures kind { IfSome result (λ o. IfSome o (λ p. p.kind ≡ Int)) }
+    ensures cut { IfSome result (λ o. IfSome o (λ p. text.now ≡ p.body.now ++ p.suffix.now)) }
+    ensures behind { IfSome result (λ o. IfSome o (λ p. IsBehind text.now p.suffix.now)) }
+{
+    let integer = integer_of(head)?;
+    match integer.magnitude {
+        Some(_) => Some(Some(cut_suffix(Kind::Int, text, integer.suffix))),
+        None => Some(None),
+    }
 }
 
 /// The parts of an integer literal: `None` where the text is none, `Some(None)` where its magnitude is past 128 bits.
@@ -88,11 +144,8 @@ pub fn int_shape(text: &str) -> Option<Option<Parts<'_>>>
     ensures behind { IfSome result (λ o. IfSome o (λ p. IsBehind text.now p.suffix.now)) }
     ensures once { HasOneInteger (chars text.now) }
 {
-    let integer = read_integer(text)?;
-    match integer.magnitude {
-        Some(_) => Some(Some(cut_suffix(Kind::Int, text, integer.suffix))),
-        None => Some(None),
-    }
+    let head = read_head(text)?;
+    integer_shape(text, head)
 }
 
 #[cfg(test)]

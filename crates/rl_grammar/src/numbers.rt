@@ -6,21 +6,23 @@ ghost use Rattle.rl_tokens.specs.declared.kind.Kind.TheVariants.{Float, Int};
 ghost use Rattle.rl_tokens.specs.Reading.{Contents, Reads};
 ghost use Rattle.rl_grammar.specs.NumberShapes.{HasNoNumber, HasNoReading, ReadsNumber};
 
-use crate::floats::float_shape;
-use crate::integers::int_shape;
+use crate::floats::float_behind;
+use crate::integers::{integer_shape, read_head};
 use crate::parts::Parts;
 use crate::rows::is_negative;
 
 /// The parts of a number: of an integer within 128 bits, or of a float where no integer of any magnitude stands.
+#[inline(always)]
 pub(crate) fn number_shape(text: &str) -> Option<Parts<'_>>
     ensures none { IfNone result (HasNoNumber (chars text.now)) }
     ensures reads { IfSome result
         (λ p. (v : Contents) × ReadsNumber (chars text.now) p.kind v (chars p.suffix.now)) }
     ensures cut { IfSome result (λ p. text.now ≡ p.body.now ++ p.suffix.now) }
 {
-    match int_shape(text) {
+    let head = read_head(text)?;
+    match integer_shape(text, head) {
         Some(parts) => parts,
-        None => float_shape(text),
+        None => float_behind(text, head),
     }
 }
 

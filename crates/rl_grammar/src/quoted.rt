@@ -8,11 +8,12 @@ ghost use Rattle.rl_tokens.specs.Quoted.{is_string, is_single, may_hold};
 ghost use Rattle.rl_tokens.specs.Reading.{Contents, ReadsQuoted};
 ghost use Rattle.rl_grammar.specs.UnitAt.{unit_at};
 ghost use Rattle.rl_grammar.specs.Rows.{BeginsRow};
-ghost use Rattle.rl_grammar.specs.Forms.{has_form, form_opener, string_front_at, byte_front_at, front_at, PartsAre, HasNoParts, after_hashes};
+ghost use Rattle.rl_grammar.specs.Forms.{has_form, form_opener, string_front_at, byte_front_at, front_at, PartsAre, HasNoParts, is_plain_body, after_hashes};
 ghost use Rattle.rl_grammar.specs.Shapes.{IsQuotedCut, HasNoQuoted};
 
 use crate::cuts::{before, behind_prefix, has_nul, split_last_quote};
 use crate::parts::Parts;
+use crate::runs::split_plain;
 use crate::units::unit;
 use rl_tokens::Kind;
 use rl_tokens::text::split_char;
@@ -63,12 +64,14 @@ pub(crate) fn front(text: &str) -> Option<(Form, Kind, &str)>
 
 /// The text behind the units at its front, as far as they go.
 fn skip_units(kind: Kind, text: &str) -> &str
+    requires { IsTrue (is_string kind) }
     ensures row { (v : List ℕ) × BeginsRow kind (chars text.now) v (chars result.now) }
     ensures stuck { unit_at kind (chars result.now) ≡ None }
 {
     let mut rest = text;
     while let Some((_, after)) = unit(kind, rest) {
-        rest = after;
+        let (_, behind) = split_plain(kind, after);
+        rest = behind;
     }
     rest
 }
@@ -100,28 +103,35 @@ fn cut_at_quote<'t>(quote: char, text: &'t str, rest: &'t str) -> Option<(&'t st
     }
 }
 
-/// The body and the suffix of a cooked string, from the text behind its opener.
-fn cooked_parts(kind: Kind, text: &str) -> Option<(&str, &str)>
+/// The body and the suffix of a cooked string, from the text behind its opener, and whether the body stands for itself.
+fn cooked_parts(kind: Kind, text: &str) -> Option<(&str, &str, bool)>
     requires { IsTrue (is_string kind) }
     ensures some { IfSome result (λ p. (v : List ℕ)
         × PartsAre Form.Cooked kind (form_opener Form.Cooked kind ++ chars text.now) v (chars p.0.now) (chars p.1.now)) }
+    ensures plain { IfSome result (λ p. p.2 ≡ is_plain_body Form.Cooked kind (chars p.0.now)) }
     ensures none { IfNone result (HasNoParts Form.Cooked kind (form_opener Form.Cooked kind ++ chars text.now)) }
 {
-    cut_at_quote('"', text, skip_units(kind, text))
+    let (_, behind) = split_plain(kind, text);
+    if let Some((body, suffix)) = cut_at_quote('"', text, behind) {
+        return Some((body, suffix, true));
+    }
+    let (body, suffix) = cut_at_quote('"', text, skip_units(kind, behind))?;
+    Some((body, suffix, false))
 }
 
 /// The body and the suffix of a raw string, from its hashes on.
-fn raw_parts(kind: Kind, text: &str) -> Option<(&str, &str)>
+fn raw_parts(kind: Kind, text: &str) -> Option<(&str, &str, bool)>
     requires { IsTrue (is_string kind) }
     ensures some { IfSome result (λ p. (v : List ℕ)
         × PartsAre Form.Raw kind (form_opener Form.Raw kind ++ chars text.now) v (chars p.0.now) (chars p.1.now)) }
+    ensures plain { IfSome result (λ p. p.2 ≡ is_plain_body Form.Raw kind (chars p.0.now)) }
     ensures none { IfNone result (HasNoParts Form.Raw kind (form_opener Form.Raw kind ++ chars text.now)) }
 {
     let (hashes, inside) = cut_at_quote('"', text, skip_hashes(text))?;
     let (body, after) = split_last_quote(inside)?;
     let suffix = behind_prefix(hashes, after)?;
     if holds_all(kind, body) {
-        Some((body, suffix))
+        Some((body, suffix, true))
     } else {
         None
     }
@@ -135,21 +145,24 @@ fn holds_all(kind: Kind, text: &str) -> bool
 }
 
 /// The body and the suffix of a character or a byte, from the text behind its opener.
-fn single_parts(kind: Kind, text: &str) -> Option<(&str, &str)>
+fn single_parts(kind: Kind, text: &str) -> Option<(&str, &str, bool)>
     requires { IsTrue (is_single kind) }
     ensures some { IfSome result (λ p. (v : List ℕ)
         × PartsAre Form.Single kind (form_opener Form.Single kind ++ chars text.now) v (chars p.0.now) (chars p.1.now)) }
+    ensures plain { IfSome result (λ p. p.2 ≡ is_plain_body Form.Single kind (chars p.0.now)) }
     ensures none { IfNone result (HasNoParts Form.Single kind (form_opener Form.Single kind ++ chars text.now)) }
 {
     let (_, rest) = unit(kind, text)?;
-    cut_at_quote('\'', text, rest)
+    let (body, suffix) = cut_at_quote('\'', text, rest)?;
+    Some((body, suffix, false))
 }
 
 /// The body and the suffix of a literal of the form, from the text behind its opener.
-fn parts_inside(form: Form, kind: Kind, text: &str) -> Option<(&str, &str)>
+fn parts_inside(form: Form, kind: Kind, text: &str) -> Option<(&str, &str, bool)>
     requires { IsTrue (has_form form kind) }
     ensures some { IfSome result (λ p. (v : List ℕ)
         × PartsAre form kind (form_opener form kind ++ chars text.now) v (chars p.0.now) (chars p.1.now)) }
+    ensures plain { IfSome result (λ p. p.2 ≡ is_plain_body form kind (chars p.0.now)) }
     ensures none { IfNone result (HasNoParts form kind (form_opener form kind ++ chars text.now)) }
 {
     match form {
@@ -159,15 +172,16 @@ fn parts_inside(form: Form, kind: Kind, text: &str) -> Option<(&str, &str)>
     }
 }
 
-/// The form and the parts of a quoted literal: `None` where the text is none.
-pub(crate) fn quoted_parts(text: &str) -> Option<(Form, Parts<'_>)>
+/// The form and the parts of a quoted literal, and whether its body stands for itself: `None` where the text is none.
+pub(crate) fn quoted_parts(text: &str) -> Option<(Form, Parts<'_>, bool)>
     ensures some { IfSome result (λ p. (v : List ℕ)
         × PartsAre p.0 p.1.kind (chars text.now) v (chars p.1.body.now) (chars p.1.suffix.now)) }
+    ensures plain { IfSome result (λ p. p.2 ≡ is_plain_body p.0 p.1.kind (chars p.1.body.now)) }
     ensures none { IfNone result (HasNoQuoted (chars text.now)) }
 {
     let (form, kind, inside) = front(text)?;
-    let (body, suffix) = parts_inside(form, kind, inside)?;
-    Some((form, Parts { kind, body, suffix }))
+    let (body, suffix, plain) = parts_inside(form, kind, inside)?;
+    Some((form, Parts { kind, body, suffix }, plain))
 }
 
 /// The parts of a quoted literal: `None` where the text is none.

@@ -3,10 +3,10 @@
 ghost use Rattle.std.specs.Prelude.{◌≡◌, ◌≢◌, Bool, IfNone, IfSome};
 ghost use Rattle.std.specs.Str.{chars};
 ghost use Rattle.rl_tokens.specs.declared.kind.Kind.TheVariants.{Bool as BoolKind};
-ghost use Rattle.rl_tokens.specs.Texts.{IsBehind};
+ghost use Rattle.rl_tokens.specs.Texts.{IsBehind, passes};
 ghost use Rattle.rl_tokens.specs.Reading.{Contents, Reads, ReadsBool, truth_text};
 ghost use Rattle.rl_grammar.specs.NumberShapes.{HasNoReading};
-ghost use Rattle.rl_grammar.specs.WholeShapes.{HasNoTruth, IsCut};
+ghost use Rattle.rl_grammar.specs.WholeShapes.{HasNoTruth, IsCut, is_number_front};
 
 use crate::numbers::number_shape;
 use crate::parts::Parts;
@@ -41,6 +41,21 @@ fn truth_shape(text: &str) -> Option<Parts<'_>>
     })
 }
 
+/// Whether the first byte is a minus or a decimal digit.
+fn is_number_front(bytes: &[u8]) -> bool
+    ensures { result ≡ passes is_number_front bytes.now }
+{
+    !bytes.is_empty() && (bytes[0] == b'-' || bytes[0].is_ascii_digit())
+}
+
+/// Whether the text begins as numbers do, and no other literals.
+#[inline(always)]
+fn begins_number(text: &str) -> bool
+    ensures { result ≡ passes is_number_front (chars text.now) }
+{
+    is_number_front(text.as_bytes())
+}
+
 /// The kind of a literal and its parts: `None` where the text is no literal, or an integer past 128 bits.
 ///
 /// Of a quoted literal the body is what stands between its quotes, of a number all that stands before its suffix, sign
@@ -52,10 +67,10 @@ pub fn shape(text: &str) -> Option<Parts<'_>>
     ensures cut { IfSome result (λ p. IsCut p.kind text.now p.body.now p.suffix.now) }
     ensures behind { IfSome result (λ p. IsBehind text.now p.suffix.now) }
 {
-    if let Some(parts) = quoted_shape(text) {
-        return Some(parts);
+    if begins_number(text) {
+        return number_shape(text);
     }
-    if let Some(parts) = number_shape(text) {
+    if let Some(parts) = quoted_shape(text) {
         return Some(parts);
     }
     truth_shape(text)

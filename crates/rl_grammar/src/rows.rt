@@ -1,13 +1,14 @@
 //! Rows of digits and underscores, and what may stand before and behind them.
 
 ghost use Rattle.std.specs.Prelude.{◌≡◌, ◌++◌, ◌<◌, ◌≤◌, None, Option, Some, false, if◌then◌else◌};
-ghost use Rattle.std.specs.Char.{is_ascii_digit};
+ghost use Rattle.std.specs.Char.{digit_value, is_ascii_digit};
 ghost use Rattle.std.specs.Str.{chars};
 ghost use Rattle.rl_tokens.specs.Texts.{IsBehind, passes};
 ghost use Rattle.rl_tokens.specs.Numbers.{Minus, NoSign};
 ghost use Rattle.rl_grammar.specs.NumberAt.{after_digits, after_minus, append_digit, capped, has_digit_at, is_exponent_suffix, is_suffix, magnitude_at, row_from, sign_at};
 
 use crate::parts::Parts;
+use crate::tally::Tally;
 use rl_tokens::Kind;
 use rl_tokens::ident::xid_ok;
 use rl_tokens::text::split_char;
@@ -21,19 +22,34 @@ pub(crate) struct Row<'t> {
     pub rest: &'t str,
 }
 
-/// A magnitude with one more digit, if 128 bits hold it.
-fn append_digit(magnitude: Option<u128>, radix: u32, digit: u32) -> Option<u128>
-    requires { (2 ≤ radix) × (digit < radix) }
-    ensures { result ≡ append_digit radix magnitude digit }
+/// A row of digits and underscores, passed over.
+#[derive(Clone, Copy)]
+pub(crate) struct Skipped<'t> {
+    pub has_digit: bool,
+    pub rest: &'t str,
+}
+
+/// What a digit or a letter stands for in the bases up to 36, and 36 for any other byte.
+fn digit_value(byte: u8) -> u32
+    ensures { result ≡ digit_value byte }
 {
-    magnitude?
-        .checked_mul(u128::from(radix))?
-        .checked_add(u128::from(digit))
+    let digit = byte.wrapping_sub(b'0');
+    if digit < 10 {
+        return u32::from(digit);
+    }
+    match byte {
+        b'a'..=b'z' => u32::from(byte - b'a' + 10),
+        b'A'..=b'Z' => u32::from(byte - b'A' + 10),
+        _ => 36,
+    }
 }
 
 /// The digits and underscores at the front of the text.
-#[tactic(auto, using(rl_tokens::proofs::BehindLemmas::behind_step, rl_tokens::proofs::BehindLemmas::behind_self), unfolding(crate::specs::NumberAt::row_from))]
-pub(crate) fn read_row(text: &str, radix: u32) -> Row<'_>
+///
+/// It is written into its callers, so that a base that is known there costs no multiplication in full.
+#[inline(always)]
+#[tactic(auto, using(rl_tokens::proofs::Rests::behind_drop))]
+fn read_row_in(text: &str, radix: u32) -> Row<'_>
     requires { (2 ≤ radix) × (radix ≤ 36) }
     ensures value { (result.has_digit, result.magnitude, chars result.rest.now)
         ≡ row_from radix false (Some 0) (chars text.now) }
@@ -42,25 +58,64 @@ pub(crate) fn read_row(text: &str, radix: u32) -> Row<'_>
     ensures rest { chars result.rest.now ≡ after_digits radix (chars text.now) }
     ensures behind { IsBehind text.now result.rest.now }
 {
+    let bytes = text.as_bytes();
     let mut has_digit = false;
-    let mut magnitude = Some(0_u128);
-    let mut rest = text;
-    while let Some((c, after)) = split_char(rest) {
-        if c != '_' {
-            match c.to_digit(radix) {
-                Some(digit) => {
-                    has_digit = true;
-                    magnitude = append_digit(magnitude, radix, digit);
-                }
-                None => break,
-            }
+    let mut tally = Tally::new();
+    let mut at = 0;
+    while at < bytes.len() {
+        let byte = bytes[at];
+        let digit = digit_value(byte);
+        if digit < radix {
+            has_digit = true;
+            tally = tally.append_digit(radix, digit);
+        } else if byte != b'_' {
+            break;
         }
-        rest = after;
+        at += 1;
     }
     Row {
         has_digit,
-        magnitude,
-        rest,
+        magnitude: tally.magnitude(),
+        rest: &text[at..],
+    }
+}
+
+/// The digits and underscores at the front of the text. Base ten has a loop of its own.
+pub(crate) fn read_row(text: &str, radix: u32) -> Row<'_>
+    requires { (2 ≤ radix) × (radix ≤ 36) }
+    ensures has_digit { result.has_digit ≡ has_digit_at radix (chars text.now) }
+    ensures magnitude { result.magnitude ≡ capped (magnitude_at radix (chars text.now)) }
+    ensures rest { chars result.rest.now ≡ after_digits radix (chars text.now) }
+    ensures behind { IsBehind text.now result.rest.now }
+{
+    if radix == 10 {
+        read_row_in(text, 10)
+    } else {
+        read_row_in(text, radix)
+    }
+}
+
+/// The decimal digits and underscores at the front of the text, with no magnitude.
+pub(crate) fn skip_row(text: &str) -> Skipped<'_>
+    ensures has_digit { result.has_digit ≡ has_digit_at 10 (chars text.now) }
+    ensures rest { chars result.rest.now ≡ after_digits 10 (chars text.now) }
+    ensures behind { IsBehind text.now result.rest.now }
+{
+    let bytes = text.as_bytes();
+    let mut has_digit = false;
+    let mut at = 0;
+    while at < bytes.len() {
+        let byte = bytes[at];
+        if byte.is_ascii_digit() {
+            has_digit = true;
+        } else if byte != b'_' {
+            break;
+        }
+        at += 1;
+    }
+    Skipped {
+        has_digit,
+        rest: &text[at..],
     }
 }
 
@@ -81,7 +136,7 @@ pub(crate) fn is_exponent_suffix(text: &str) -> bool
 {
     match split_char(text) {
         Some(('e' | 'E', rest)) => {
-            let power = read_row(rest, 10);
+            let power = skip_row(rest);
             power.has_digit && is_suffix(power.rest)
         }
         _ => false,

@@ -8,7 +8,7 @@ ghost use Rattle.rl_grammar.specs.StrictShapes.{Closes, IsToken};
 mod numbers;
 mod quoted;
 mod units;
-mod words;
+pub(crate) mod words;
 
 use crate::quoted::{Form, front};
 use crate::reading::truth_of;

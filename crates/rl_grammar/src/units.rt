@@ -31,7 +31,7 @@ fn is_string(kind: Kind) -> bool
 }
 
 /// Whether the kind takes the character as it is.
-fn is_plain(kind: Kind, c: char) -> bool
+pub(crate) fn is_plain(kind: Kind, c: char) -> bool
     ensures { result ≡ is_plain kind c }
 {
     match kind {

@@ -7,7 +7,7 @@ ghost use Rattle.rl_grammar.specs.NumberAt.{after_power_sign};
 ghost use Rattle.rl_grammar.specs.StrictAt.{ends_digits, ends_dot, ends_power, ends_whole, is_based, is_decimal, is_power_letter, is_strict_number};
 
 use crate::integers::split_radix;
-use crate::rows::{begins_digit, read_row};
+use crate::rows::{begins_digit, read_row, skip_row};
 use crate::strict::words::is_number_suffix;
 use rl_tokens::text::split_char;
 
@@ -26,7 +26,7 @@ fn after_sign(text: &str) -> &str
 fn ends_power(text: &str) -> bool
     ensures { result ≡ ends_power (chars text.now) }
 {
-    let row = read_row(after_sign(text), 10);
+    let row = skip_row(after_sign(text));
     row.has_digit && is_number_suffix(row.rest)
 }
 
@@ -47,7 +47,7 @@ fn ends_dot(text: &str) -> bool
     ensures { result ≡ ends_dot (chars text.now) }
 {
     match split_char(text) {
-        Some(_) => begins_digit(text) && ends_digits(read_row(text, 10).rest),
+        Some(_) => begins_digit(text) && ends_digits(skip_row(text).rest),
         None => true,
     }
 }
@@ -57,7 +57,7 @@ fn ends_dot(text: &str) -> bool
 fn is_decimal(text: &str) -> bool
     ensures { result ≡ is_decimal (chars text.now) }
 {
-    begins_digit(text) && ends_whole(read_row(text, 10).rest)
+    begins_digit(text) && ends_whole(skip_row(text).rest)
 }
 
 /// Whether the text behind the whole part ends a number.

@@ -31,7 +31,7 @@ fn all_continue(text: &str) -> bool
 }
 
 /// Whether the text is not empty.
-fn is_some_text(text: &str) -> bool
+pub(crate) fn is_some_text(text: &str) -> bool
     ensures { result ≡ is_some_text (chars text.now) }
 {
     split_char(text).is_some()

@@ -1,5 +1,10 @@
-use Rattle.rl_tokens.proofs.BehindLemmas.{behind_step, some_behind}
+use Rattle.std.proofs.Common.{◌∙◌}
+use Rattle.std.specs.Str.{chars}
+use Rattle.rl_grammar.proofs.HeadLemmas.{no_head_int, head_int}
 use Rattle.rl_grammar.proofs.integers.read_integer.Goals as goal
 
-pub returns-clause-behind : goal.returns-clause-behind
-returns-clause-behind c = some_behind (λ i. i.suffix.now) _ _ c.read_based.result (behind_step _ _ _ c.after_minus.ensures.behind c.split_radix-radix.ensures.behind) c.read_based.ensures.behind
+pub returns-in-None-clause-value : goal.returns-in-None-clause-value
+returns-in-None-clause-value c = no_head_int (chars c.args.text.now) c.in-None.ensures.none
+
+pub returns-in-Some-clause-value : goal.returns-in-Some-clause-value
+returns-in-Some-clause-value c = c.integer_of.ensures.value ∙ head_int (chars c.args.text.now) _ _ _ _ c.in-Some.ensures.head

@@ -1,4 +1,4 @@
-use Rattle.std.proofs.Common.{sym, rules}
+use Rattle.std.proofs.Common.{Some, None, sym, rules}
 use Rattle.std.specs.Str.{IsUtf8}
 use Rattle.rl_tokens.proofs.BehindLemmas.{if_none}
 use Rattle.rl_grammar.proofs.UnitLemmas.{unit_sound}
@@ -14,8 +14,10 @@ cut_at_quote-requires c =
     let u : IsUtf8 c.in_ok-rest.rest.now = search rules in
     behind_chars _ _ _ c.utf8.text u (unit_sound _ _ _ (sym c.in_ok-rest.ensures.value)).text_is
 
-pub returns-clause-some : goal.returns-clause-some
-returns-clause-some c = single_found _ _ _ _ c.requires (sym c.in_ok-rest.ensures.value) c.cut_at_quote.ensures.before c.cut_at_quote.ensures.quote
+pub returns-in_err-body-clause-none : goal.returns-in_err-body-clause-none
+returns-in_err-body-clause-none c = if_none _ (single_none _ _ _ None (sym c.in_ok-rest.ensures.value) c.in_err-body.ensures.none)
 
-pub returns-clause-none : goal.returns-clause-none
-returns-clause-none c = single_none _ _ _ _ (sym c.in_ok-rest.ensures.value) c.cut_at_quote.ensures.none
+pub returns-clause-some : goal.returns-clause-some
+returns-clause-some c =
+    let found = c.in_ok-body.ensures in
+    single_found _ _ _ (Some (c.in_ok-body.body, c.in_ok-body.suffix)) c.requires (sym c.in_ok-rest.ensures.value) found.before found.quote

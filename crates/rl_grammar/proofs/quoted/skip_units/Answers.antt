@@ -1,8 +1,12 @@
-use Rattle.std.proofs.Common.{sym, rules}
-use Rattle.rl_grammar.proofs.RowLemmas.{row_step}
+use Rattle.std.proofs.Common.{subst, sym, rules}
+use Rattle.std.specs.Str.{chars}
+use Rattle.rl_grammar.specs.Rows.{BeginsRow}
+use Rattle.rl_grammar.proofs.RowLemmas.{row_step, row_run}
 use Rattle.rl_grammar.proofs.quoted.skip_units.Goals as goal
 
 pub loop-after-preserved : goal.loop-after-preserved
 loop-after-preserved c =
-    let row = c.loop-after.invariant.row in
-    record { utf8 = search rules; row = (_, row_step _ _ row.0 _ _ row.1 (sym c.in-Some.ensures.value)) }
+    let cut = c.split_plain.ensures in
+    let (v, row) = c.loop-after.invariant.row in
+    let unit = row_step _ _ v _ _ row (sym c.in-Some.ensures.value) in
+    record { utf8 = search rules; row = (_, row_run _ _ _ _ _ cut.plain (subst (BeginsRow c.args.kind (chars c.args.text.now) _) cut.cut unit)) }

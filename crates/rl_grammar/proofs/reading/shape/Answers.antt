@@ -1,7 +1,13 @@
+use Rattle.std.proofs.Common.{sym}
 use Rattle.std.specs.Str.{chars}
 use Rattle.rl_grammar.proofs.OptionLemmas.{none_then}
-use Rattle.rl_grammar.proofs.ReadingLemmas.{no_reading}
+use Rattle.rl_grammar.proofs.ReadingLemmas.{no_reading, no_front_number, only_number}
 use Rattle.rl_grammar.proofs.reading.shape.Goals as goal
 
+pub returns-then-begins_number-clause-none : goal.returns-then-begins_number-clause-none
+returns-then-begins_number-clause-none c = none_then c.number_shape.result (only_number (chars c.args.text.now) (sym c.if-begins_number.ensures)) c.number_shape.ensures.none
+
 pub returns-clause-none : goal.returns-clause-none
-returns-clause-none c = none_then c.truth_shape.result (no_reading (chars c.args.text.now) c.in_default.ensures.none c.in_default-number_shape.ensures.none) c.truth_shape.ensures.none
+returns-clause-none c =
+    let t = chars c.args.text.now in
+    none_then c.truth_shape.result (no_reading t c.in_default.ensures.none (no_front_number t (sym c.if-begins_number.ensures))) c.truth_shape.ensures.none

@@ -1,5 +1,4 @@
-use Rattle.std.proofs.Common.{rules, ◌≡◌, ap, sym, subst}
-use Rattle.std.specs.Bool.{IsTrue}
+use Rattle.std.proofs.Common.{rules, ◌≡◌, subst}
 use Rattle.std.specs.Str.{chars}
 use Rattle.rl_tokens.specs.Reading.{ReadsAs}
 use Rattle.rl_grammar.specs.FrontTokens.{token_of}

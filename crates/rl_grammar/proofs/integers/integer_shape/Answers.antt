@@ -1,0 +1,16 @@
+use Rattle.std.proofs.Common.{ap, ◌∙◌}
+use Rattle.std.specs.Str.{chars}
+use Rattle.rl_tokens.proofs.BehindLemmas.{if_none}
+use Rattle.rl_grammar.proofs.HeadLemmas.{head_int}
+use Rattle.rl_grammar.proofs.IntegerLemmas.{no_int, is_past_at, is_within_at, within_reads}
+use Rattle.rl_grammar.proofs.integers.integer_shape.Goals as goal
+
+pub returns-in_err-integer-clause-none : goal.returns-in_err-integer-clause-none
+returns-in_err-integer-clause-none c = if_none _ (no_int _ (c.in_err-integer.ensures.value ∙ head_int (chars c.args.text.now) _ _ _ _ c.requires.head))
+
+pub returns-in-Some-clause-reads : goal.returns-in-Some-clause-reads
+returns-in-Some-clause-reads c =
+    within_reads _ _ _ (is_within_at (chars c.args.text.now) _ _ _ _ (c.in_ok-integer.ensures.value ∙ head_int (chars c.args.text.now) _ _ _ _ c.requires.head) c.in-Some.is (ap chars c.cut_suffix.ensures.suffix))
+
+pub returns-in-None-clause-past : goal.returns-in-None-clause-past
+returns-in-None-clause-past c = is_past_at (chars c.args.text.now) _ _ (c.in_ok-integer.ensures.value ∙ head_int (chars c.args.text.now) _ _ _ _ c.requires.head) c.in-None.is

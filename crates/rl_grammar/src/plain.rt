@@ -1,0 +1,89 @@
+//! Whether a literal's body is what it stands for.
+
+ghost use Rattle.std.specs.Prelude.{◌↔◌, IsTrue};
+ghost use Rattle.rl_grammar.specs.WholeShapes.{IsPlain};
+
+use crate::contents::string_is_plain;
+use crate::digits::{float_is_plain, integer_is_plain};
+use rl_tokens::Kind;
+
+/// Whether the text reads as the kind, and its body is what it stands for, byte for byte: a string's contents, or a
+/// number's digits in base ten.
+///
+/// A string is plain where it is raw, or has neither an escape nor a line end of two characters; an integer within 128
+/// bits where it is in base ten, with no underscore and no needless zero; a float, by the rule of floats alone, where
+/// it has no underscore, no plus and no `E`. Nothing else is: neither a text of another kind, nor a character, a byte
+/// or a truth value.
+pub fn is_plain(kind: Kind, text: &str) -> bool
+    ensures { IsTrue result ↔ IsPlain kind text.now }
+{
+    match kind {
+        Kind::Str | Kind::ByteStr | Kind::CStr => string_is_plain(kind, text),
+        Kind::Int => integer_is_plain(text),
+        Kind::Float => float_is_plain(text),
+        Kind::Byte | Kind::Char | Kind::Bool => false,
+    }
+}
+
+#[cfg(test)]
+mod tests {
+    use super::*;
+
+    #[test]
+    fn strings(rt: HostRuntime) {
+        for text in ["\"a é \0\"q", "r#\"a\\n\"#", "\"\""] {
+            assert!(&rt; is_plain(Kind::Str, text));
+        }
+        assert!(&rt; is_plain(Kind::ByteStr, "br\"\r\n\""));
+        assert!(&rt; is_plain(Kind::CStr, "c\"a\""));
+        for text in [
+            "\"a\\n\"",
+            "\"sixteen and more \\x41\"",
+            "\"\r\n\"",
+            "b\"a\"",
+        ] {
+            assert!(&rt; !is_plain(Kind::Str, text));
+        }
+        assert!(&rt; !is_plain(Kind::ByteStr, "b\"\r\n\""));
+        assert!(&rt; !is_plain(Kind::CStr, "c\"\\\n\""));
+    }
+
+    #[test]
+    fn integers(rt: HostRuntime) {
+        for text in [
+            "0",
+            "-0",
+            "12",
+            "-340282366920938463463374607431768211455",
+            "1u8",
+            "1f64",
+        ] {
+            assert!(&rt; is_plain(Kind::Int, text));
+        }
+        for text in [
+            "", "-", "a", "007", "00", "1_0", "1_u8", "0x1F", "-0b1", "1.5", "1e5",
+        ] {
+            assert!(&rt; !is_plain(Kind::Int, text));
+        }
+        assert!(&rt; !is_plain(Kind::Int, "340282366920938463463374607431768211456"));
+    }
+
+    #[test]
+    fn floats(rt: HostRuntime) {
+        for text in ["1.5", "-1.", "1e5", "1.0e-10f64", "007", "0x1F"] {
+            assert!(&rt; is_plain(Kind::Float, text));
+        }
+        for text in ["1E5", "1e+5", "1_0.5", "1.0_f32", "abc", "1e+"] {
+            assert!(&rt; !is_plain(Kind::Float, text));
+        }
+    }
+
+    #[test]
+    fn nothing_else(rt: HostRuntime) {
+        assert!(&rt; !is_plain(Kind::Str, "12"));
+        assert!(&rt; !is_plain(Kind::Int, "\"12\""));
+        assert!(&rt; !is_plain(Kind::Char, "'a'"));
+        assert!(&rt; !is_plain(Kind::Byte, "b'a'"));
+        assert!(&rt; !is_plain(Kind::Bool, "true"));
+    }
+}
