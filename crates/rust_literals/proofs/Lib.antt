@@ -6,3 +6,4 @@ pub mod ItemFronts
 pub mod PrintedLemmas
 pub mod AgainLemmas
 pub mod PeekLemmas
+pub mod FlatLemmas

@@ -1,42 +1,20 @@
 -- A text's reading by its kind, and what a refusal for it can be.
-use Rattle.std.proofs.Common.{◌≡◌, ◌≢◌, ℕ, Bool, true, false, List, [], refl, ap, subst, arith}
+use Rattle.std.proofs.Common.{◌≡◌, ◌≢◌, ℕ, Bool, true, false, List, [], refl, ap, subst}
 use Rattle.std.specs.Str.{chars}
 use Rattle.rl_tokens.specs.declared.kind.Kind.{Kind}
-use Rattle.rl_tokens.specs.declared.kind.Kind.TheVariants.{Int, Float, Bool as BoolKind}
+use Rattle.rl_tokens.specs.declared.kind.Kind.TheVariants.{Float, Bool as BoolKind}
 use Rattle.rl_tokens.specs.declared.span.Span.{Span}
 use Rattle.rl_tokens.specs.declared.error.Error.{Error}
 use Rattle.rl_tokens.specs.declared.error.ErrorKind.{ErrorKind}
 use Rattle.rl_tokens.specs.declared.error.ErrorKind.TheVariants.{Expected, EndOfInput, Unexpected, Lex, Suffix, NotInteger, TooLarge, NotFloat, Number, Memory}
 use Rattle.rl_tokens.specs.Errors.{memory_at}
 use Rattle.rl_tokens.specs.Reading.{Truth, Reads, ReadsAs, HasSuffix, truth_text}
-use Rattle.rl_tokens.proofs.OneNumber.{int_once}
 use Rattle.rl_grammar.proofs.ReadingLemmas.{truth_chars}
-use Rattle.rust_literals.specs.Refusals.{IsRefusedAsInteger, IsRefusedAsFloat}
+use Rattle.rust_literals.specs.Refusals.{IsRefusedAsFloat}
 
 -- the reading that was found, by its kind
 pub reads_as : (t x : List ℕ) (k kind : Kind) → HasSuffix k t x → k ≡ kind → ReadsAs kind t
 reads_as t x k kind r e = (r.0, x, subst (λ z. Reads t z r.0 x) e r.1)
-
-refused_int : {A : Type 0} (t : List ℕ) (at span : Span) (kind : ErrorKind A) → ReadsAs Int t → at ≡ span → IsRefusedAsInteger t kind → let e : Error A = record { span = at; kind = kind } in e ≡ memory_at span
-refused_int t at span NotInteger r s h = absurd (h r.2.sign r.2.magnitude r.1 r.2.reads)
-refused_int t at span TooLarge r s h =
-    let one = int_once t r.1 h.suffix r.2.sign h.sign r.2.magnitude h.magnitude r.2.reads h.reads in
-    let small = r.2.within in
-    let large = h.past in
-    let same = one.1 in
-    absurd (omega arith)
-refused_int t at span NotFloat r s h = absurd h
-refused_int t at span (Expected w) r s h = absurd h
-refused_int t at span (EndOfInput w) r s h = absurd h
-refused_int t at span Unexpected r s h = absurd h
-refused_int t at span (Lex k) r s h = absurd h
-refused_int t at span (Suffix x) r s h = absurd h
-refused_int t at span (Number w) r s h = absurd h
-refused_int t at span Memory r s h = ap memory_at s
-
--- of an integer within the limit, want of memory
-pub int_memory : {A : Type 0} (t : List ℕ) (e : Error A) (span : Span) → ReadsAs Int t → (e.span ≡ span) × IsRefusedAsInteger t e.kind → e ≡ memory_at span
-int_memory t e span r h = refused_int t e.span span e.kind r h.0 h.1
 
 refused_float : {A : Type 0} (t : List ℕ) (at span : Span) (kind : ErrorKind A) → ReadsAs Float t → at ≡ span → IsRefusedAsFloat t kind → let e : Error A = record { span = at; kind = kind } in e ≡ memory_at span
 refused_float t at span NotFloat r s h = absurd (h r.2.numeral r.1 r.2.reads)

@@ -6,3 +6,4 @@ pub mod Base10
 pub mod Copies
 pub mod ReadBack
 pub mod Peeking
+pub mod Flat

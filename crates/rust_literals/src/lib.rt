@@ -2,6 +2,7 @@
 #![tactic(auto)]
 
 mod base10;
+mod flat;
 pub mod laws;
 mod lit;
 mod lit_bool;

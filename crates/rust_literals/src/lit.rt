@@ -9,8 +9,8 @@ mod copies;
 use crate::lit_bool::LitBool;
 use crate::lit_float::LitFloat;
 use crate::lit_int::LitInt;
-use rl_grammar::{Front, Kind, shape};
-use rl_quoted::{LitByte, LitByteStr, LitCStr, LitChar, LitStr};
+use rl_grammar::{Front, Kind};
+use rl_quoted::{LitByte, LitByteStr, LitCStr, LitChar, LitStr, kind_and_place};
 use rl_tokens::{Error, Kept, Literal, Parse, ParseBuffer, Span, Token};
 use std::alloc::{Allocator, Global};
 
@@ -77,16 +77,16 @@ impl<A: Allocator + Copy> Lit<A> {
         ensures memory { IfErr result (λ k. k.error ≡ memory_at token.span) }
         ensures numbers_alone { IfErr result (λ k. ReadsAsNumber (chars token.text)) }
     {
-        let Some(parts) = shape(token.text()) else {
+        let Some((kind, suffix_at)) = kind_and_place(token.text()) else {
             return Ok(Lit::Verbatim(token));
         };
-        match parts.kind {
-            Kind::Str => Ok(Lit::Str(LitStr::of_token(token))),
-            Kind::ByteStr => Ok(Lit::ByteStr(LitByteStr::of_token(token))),
-            Kind::CStr => Ok(Lit::CStr(LitCStr::of_token(token))),
-            Kind::Byte => Ok(Lit::Byte(LitByte::of_token(token))),
-            Kind::Char => Ok(Lit::Char(LitChar::of_token(token))),
-            Kind::Int => match LitInt::from_token(alloc, token) {
+        match kind {
+            Kind::Str => Ok(Lit::Str(LitStr::of_parts(token, suffix_at))),
+            Kind::ByteStr => Ok(Lit::ByteStr(LitByteStr::of_parts(token, suffix_at))),
+            Kind::CStr => Ok(Lit::CStr(LitCStr::of_parts(token, suffix_at))),
+            Kind::Byte => Ok(Lit::Byte(LitByte::of_parts(token, suffix_at))),
+            Kind::Char => Ok(Lit::Char(LitChar::of_parts(token, suffix_at))),
+            Kind::Int => match LitInt::of_integer(alloc, token, suffix_at) {
                 Ok(literal) => Ok(Lit::Int(literal)),
                 Err(kept) => Err(kept),
             },

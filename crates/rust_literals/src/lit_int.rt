@@ -77,16 +77,34 @@ impl<A: Allocator + Copy> LitInt<A> {
         ensures err { IfErr result
             (λ k. (k.error.span ≡ token.span) × IsRefusedAsInteger (chars token.text) k.error.kind) }
     {
-        let span = token.span();
-        let suffix_at = match suffix_place(token.text()) {
-            Ok(place) => place,
+        match suffix_place(token.text()) {
+            Ok(suffix_at) => LitInt::of_integer(alloc, token, suffix_at),
             Err(kind) => {
-                return Err(Kept {
+                let error = Error {
+                    span: token.span(),
+                    kind,
+                };
+                Err(Kept {
                     value: token,
-                    error: Error { span, kind },
-                });
+                    error,
+                })
             }
-        };
+        }
+    }
+
+    /// The literal of this token, which is an integer whose suffix begins at the place. Want of memory is told at the
+    /// token's span; the token is handed back.
+    pub(crate) fn of_integer(
+        alloc: A,
+        token: Literal<A>,
+        suffix_at: usize,
+    ) -> Result<LitInt<A>, Kept<Literal<A>, A>>
+        requires { IsIntegerUpTo token.text suffix_at }
+        ensures ok { IfOk result (λ l. l ≡ token) }
+        ensures kept { IfErr result (λ k. k.value ≡ token) }
+        ensures memory { IfErr result (λ k. k.error ≡ memory_at token.span) }
+    {
+        let span = token.span();
         match digits_of(alloc, Kind::Int, token.text()) {
             Ok(digits) => Ok(LitInt {
                 token,

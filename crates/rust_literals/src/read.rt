@@ -9,6 +9,7 @@ ghost use Rattle.rust_literals.specs.declared.lit.Lit.{Lit};
 ghost use Rattle.rust_literals.specs.Parsing.{Leads, Stops, RunsShort, AreRead, RefusesText, IsOrMemory};
 ghost use Rattle.rust_literals.specs.ReadBack.{HoldsOrMemory, AreItems, Spaced, lits_of, Again, AreMoved};
 
+use crate::flat::read_flat;
 use crate::lit::Lit;
 use rl_tokens::{Error, LexError, ParseBuffer, Span, lex};
 use std::alloc::{Allocator, Global};
@@ -65,6 +66,9 @@ pub fn read_all<A: Allocator + Copy>(
     ensures again { (spaced : List (Spaced A)) (last : List ℕ) → Again (chars text.now) spaced last
         → HoldsOrMemory (AreMoved (lits_of spaced)) result }
 {
+    if let Some(literals) = read_flat(alloc, text, file) {
+        return Ok(literals);
+    }
     let stream = match lex(alloc, text, file) {
         Ok(stream) => stream,
         Err(fault) => return Err(refusal_of(fault, file)),

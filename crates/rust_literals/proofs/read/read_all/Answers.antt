@@ -1,11 +1,21 @@
-use Rattle.std.proofs.Common.{inl, length, map, ◌∙◌, ap}
+use Rattle.std.proofs.Common.{inl, length, map, Ok, ◌∙◌, ap}
 use Rattle.std.specs.Str.{chars}
 use Rattle.rl_tokens.specs.Trees.{tree_view, stream_view}
 use Rattle.rl_tokens.specs.Buffers.{trees_in, scope_of}
 use Rattle.rust_literals.proofs.ReadLemmas.{lex_memory, text_read, text_refused, text_exactly}
 use Rattle.rust_literals.proofs.PrintedLemmas.{printed_read, printed_refusal}
 use Rattle.rust_literals.proofs.AgainLemmas.{again_read, again_refusal}
+use Rattle.rust_literals.proofs.FlatLemmas.{one_read}
 use Rattle.rust_literals.proofs.read.read_all.Goals as goal
+
+pub returns-in-Some-clause-exactly : goal.returns-in-Some-clause-exactly
+returns-in-Some-clause-exactly g c list a = one_read (chars c.args.text.now) c.args.file c.in-Some.literals.items list c.in-Some.ensures a
+
+pub returns-in-Some-clause-printed : goal.returns-in-Some-clause-printed
+returns-in-Some-clause-printed g c = printed_read c.args.text.now c.args.file (Ok c.in-Some.literals) c.utf8.text (returns-in-Some-clause-exactly g c)
+
+pub returns-in-Some-clause-again : goal.returns-in-Some-clause-again
+returns-in-Some-clause-again g c = again_read c.args.text.now c.args.file (Ok c.in-Some.literals) (returns-in-Some-clause-exactly g c)
 
 pub returns-in-Err-clause-refused : goal.returns-in-Err-clause-refused
 returns-in-Err-clause-refused g c = inl (record {

@@ -1,0 +1,174 @@
+-- A literal more of a text without groups, and all of them.
+use Rattle.std.proofs.Common.{arith, true, ◌≡◌, ℕ, ◌==◌, List, [], ◌∷◌, ◌++◌, Option, Some, None, refl, sym, ◌∙◌, ap, subst, append_assoc}
+use Rattle.std.proofs.lemmas.List.{map-append}
+use Rattle.std.proofs.lemmas.Bool.Decides.{nat_tests}
+use Rattle.std.specs.Prelude.{min, max, Bool, IfSome, if◌then◌else◌}
+use Rattle.std.specs.Str.{chars}
+use Rattle.rl_tokens.specs.declared.span.Span.{Span}
+use Rattle.rl_tokens.specs.declared.cursor.Lexeme.{Lexeme as Lent}
+use Rattle.rl_tokens.specs.declared.kind.Kind.TheVariants.{Str as StrKind, ByteStr as ByteStrKind, CStr as CStrKind, Byte as ByteKind, Char as CharKind, Int as IntKind, Float as FloatKind, Bool as BoolKind}
+use Rattle.rl_tokens.specs.Lexemes.{Form, LiteralForm, IdentifierForm, MarkForm}
+use Rattle.rl_tokens.specs.LexemeAt.{form_view}
+use Rattle.rl_tokens.specs.Tokens.{Token}
+use Rattle.rl_tokens.specs.Puncts.{Mark}
+use Rattle.rl_tokens.specs.Reading.{Reads, Truth}
+use Rattle.rl_tokens.specs.Trees.{Tree, IdentTree, PunctTree, LiteralTree, flat_trees}
+use Rattle.rl_tokens.specs.Lexing.{Cuts, behind_form, flat_form, flat_cut}
+use Rattle.rl_tokens.specs.Cursors.{Cutting, TakesNext}
+use Rattle.rl_tokens.specs.Fronts.{HasReading, joined, joined_span}
+use Rattle.rl_tokens.proofs.CutLemmas.{open_more}
+use Rattle.rl_tokens.proofs.CursorLemmas.{flat_lent}
+use Rattle.rl_tokens.proofs.NestLemmas.{flat_trees-append}
+use Rattle.rl_grammar.proofs.FrontLemmas.{minus_chars}
+use Rattle.rust_literals.specs.declared.lit.Lit.{Lit}
+use Rattle.rust_literals.specs.declared.lit.Lit.TheVariants.{Str, ByteStr, CStr, Byte, Char, Int, Float, Bool as BoolLit, Verbatim}
+use Rattle.rust_literals.specs.Literals.{IsReadFrom}
+use Rattle.rust_literals.specs.Parsing.{Leads, AreRead}
+use Rattle.rust_literals.specs.Flat.{CutsInto, ReadsNext, AreReadUpTo}
+use Rattle.rl_tokens.proofs.LexLaws.{one_list}
+use Rattle.rust_literals.proofs.LeadsLemmas.{leads_step, one_list_of}
+
+-- where a token stands
+abbrev pub span_at : ℕ → Lent → Span
+span_at file l = record { file = file; lo = l.lo; hi = l.hi }
+
+abbrev token_at : ℕ → Lent → Token
+token_at file l = record { text = l.text.now; span = span_at file l }
+
+-- one tree more, which is no group
+tree_more : (file : ℕ) (old new : Cutting) (l : Lent) (form : Form) (tree : Tree) (done : List Tree) → TakesNext old l new → form_view l.form ≡ form → behind_form [] form l.lo ≡ Some [] → flat_trees (tree ∷ []) ≡ flat_form form l.text.now (span_at file l) ∷ [] → CutsInto (chars old.text) file done (chars old.rest) → CutsInto (chars old.text) file (done ++ tree ∷ []) (chars new.rest)
+tree_more file old new l form tree done t form_is none flat_is c =
+    let w = t.cut in record {
+      cuts = c.cuts ++ w ∷ [];
+      are_cuts = t.goes_on c.cuts c.are_cuts;
+      none_open =
+          open_more [] c.cuts w [] c.none_open
+          ∙ ap (λ f. behind_form [] f w.at) (t.is_cut.form_is ∙ form_is)
+          ∙ ap (λ n. behind_form [] form n) t.is_cut.lo_is
+          ∙ none;
+      flat_is =
+          map-append (flat_cut file) c.cuts (w ∷ [])
+          ∙ ap (λ z. z ++ flat_cut file w ∷ []) c.flat_is
+          ∙ ap (λ z. flat_trees done ++ z ∷ []) (flat_lent file l w t.is_cut ∙ ap (λ f. flat_form f l.text.now (span_at file l)) form_is)
+          ∙ ap (λ z. flat_trees done ++ z) (sym flat_is)
+          ∙ sym (flat_trees-append done (tree ∷ []));
+    }
+
+-- a literal token
+pub literal_next : {A : Type 0} (file : ℕ) (old new : Cutting) (l : Lent) (lit : Lit A) → TakesNext old l new → form_view l.form ≡ LiteralForm → IsReadFrom (token_at file l) lit → ReadsNext file old lit new
+literal_next file old new l lit t form_is read =
+    let tree : Tree = LiteralTree (token_at file l) in record {
+      trees = tree ∷ [];
+      cuts = λ done c. tree_more file old new l LiteralForm tree done t form_is refl refl c;
+      front = λ behind. record { token = token_at file l; front = (refl, refl); read = read };
+      same = t.same;
+    }
+
+-- the word of a truth value
+pub truth_next : {A : Type 0} (file : ℕ) (old new : Cutting) (l : Lent) (lit : Lit A) (b : Bool) → TakesNext old l new → form_view l.form ≡ IdentifierForm → Reads (chars l.text.now) BoolKind (Truth b) [] → lit ≡ BoolLit (record { value = b; span = span_at file l }) → ReadsNext file old lit new
+truth_next {A} file old new l lit b t form_is reads lit_is =
+    let tree : Tree = IdentTree (token_at file l) in
+    let word : Lit A = BoolLit (record { value = b; span = span_at file l }) in
+    let read : IsReadFrom (token_at file l) word = (refl, reads) in record {
+      trees = tree ∷ [];
+      cuts = λ done c. tree_more file old new l IdentifierForm tree done t form_is refl refl c;
+      front = λ behind. record { token = token_at file l; front = ((Truth b, [], reads), refl, refl); read = subst (λ (x : Lit A). IsReadFrom (token_at file l) x) (sym lit_is) read };
+      same = t.same;
+    }
+
+-- a minus and a literal token
+pub negative_next : {A : Type 0} (file : ℕ) (old between new : Cutting) (m l : Lent) (lit : Lit A) (span : Span) → TakesNext old m between → TakesNext between l new → form_view m.form ≡ MarkForm 45 → form_view l.form ≡ LiteralForm → span ≡ joined_span (span_at file m) (span_at file l) → HasReading (45 ∷ chars l.text.now) → IsReadFrom (record { text = 45 ∷ l.text.now; span = span }) lit → ReadsNext file old lit new
+negative_next file old between new m l lit span t u m_is l_is span_is together read =
+    let mark : Mark = record { ch = 45; span = span_at file m } in
+    let minus : Tree = PunctTree mark in
+    let number : Tree = LiteralTree (token_at file l) in
+    let Into : List ℕ → List Tree → Type 0 = λ text trees. CutsInto (chars text) file trees (chars new.rest) in
+    let From : List ℕ → List Tree → Type 0 = λ text trees. CutsInto (chars text) file trees (chars between.rest) in
+    record {
+      trees = minus ∷ number ∷ [];
+      cuts = λ done c.
+          let first : From old.text (done ++ minus ∷ []) = tree_more file old between m (MarkForm 45) minus done t m_is refl refl c in
+          let second : Into between.text ((done ++ minus ∷ []) ++ number ∷ []) = tree_more file between new l LiteralForm number (done ++ minus ∷ []) u l_is refl refl (subst (λ (x : List ℕ). From x (done ++ minus ∷ [])) (sym t.same) first) in
+          subst (λ (trees : List Tree). Into old.text trees) (append_assoc done (minus ∷ []) (number ∷ [])) (subst (λ (x : List ℕ). Into x ((done ++ minus ∷ []) ++ number ∷ [])) t.same second);
+      front = λ behind. record {
+        token = joined mark (token_at file l);
+        front = (refl, together, refl, refl);
+        read = subst (λ (s : Span). IsReadFrom (record { text = 45 ∷ l.text.now; span = s }) lit) span_is read;
+      };
+      same = u.same ∙ t.same;
+    }
+
+same_file : (file : ℕ) (m l : Lent) (span : Span) → span ≡ record { file = file; lo = min m.lo l.lo; hi = max m.hi l.hi } → span ≡ joined_span (span_at file m) (span_at file l)
+same_file file m l span e = e ∙ sym (ap (λ b. if b then record { file = file; lo = min m.lo l.lo; hi = max m.hi l.hi } else span_at file m) (same file))
+  where
+    same : (n : ℕ) → (n == n) ≡ true
+    same n = grind (arith, nat_tests)
+
+-- the span that was joined
+pub joined_at : (file : ℕ) (m l : Lent) (a b span : Span) → a ≡ span_at file m → b ≡ span_at file l → span ≡ record { file = a.file; lo = min a.lo b.lo; hi = max a.hi b.hi } → span ≡ record { file = file; lo = min m.lo l.lo; hi = max m.hi l.hi }
+joined_at file m l a b span p q e =
+    let both : Span → Span → Span = λ x y. record { file = x.file; lo = min x.lo y.lo; hi = max x.hi y.hi } in
+    e ∙ ap (λ x. both x b) p ∙ ap (λ y. both (span_at file m) y) q
+
+pub read_negative : {A : Type 0} (file : ℕ) (old between new : Cutting) (m l : Lent) (span : Span) (r : Option (Lit A)) → TakesNext old m between → TakesNext between l new → form_view m.form ≡ MarkForm 45 → form_view l.form ≡ LiteralForm → span ≡ record { file = file; lo = min m.lo l.lo; hi = max m.hi l.hi } → IfSome r (λ lit. HasReading (45 ∷ chars l.text.now)) → IfSome r (IsReadFrom (record { text = 45 ∷ l.text.now; span = span })) → IfSome r (λ lit. ReadsNext file old lit new)
+read_negative file old between new m l span None t u m_is l_is span_is together read = tt
+read_negative file old between new m l span (Some lit) t u m_is l_is span_is together read =
+    negative_next file old between new m l lit span t u m_is l_is (same_file file m l span span_is) together read
+
+-- nothing is read yet
+pub read_none : {A : Type 0} (text : List ℕ) (file : ℕ) (rest : List ℕ) → Cuts 0 text [] rest → AreReadUpTo {A = A} text file [] rest
+read_none text file rest skips = record {
+  trees = [];
+  cuts = record { cuts = []; are_cuts = skips; none_open = refl; flat_is = refl };
+  leads = λ behind. refl;
+}
+
+-- one literal more
+pub read_more : {A : Type 0} (text : List ℕ) (file : ℕ) (old new : Cutting) (list : List (Lit A)) (lit : Lit A) → old.text ≡ text → AreReadUpTo (chars text) file list (chars old.rest) → ReadsNext file old lit new → AreReadUpTo (chars text) file (list ++ lit ∷ []) (chars new.rest)
+read_more text file old new list lit same read next =
+    let Goes : List ℕ → Type 0 = λ t. (done : List Tree) → CutsInto (chars t) file done (chars old.rest) → CutsInto (chars t) file (done ++ next.trees) (chars new.rest) in
+    let goes : Goes text = subst Goes same next.cuts in record {
+      trees = read.trees ++ next.trees;
+      cuts = goes read.trees read.cuts;
+      leads = λ behind.
+          subst (λ (ts : List Tree). Leads ts (list ++ lit ∷ []) behind) (sym (append_assoc read.trees next.trees behind))
+          (leads_step (read.trees ++ (next.trees ++ behind)) list (next.trees ++ behind) lit behind (read.leads (next.trees ++ behind)) (next.front behind));
+    }
+
+-- all is read
+pub read_whole : {A : Type 0} (text : List ℕ) (file : ℕ) (list : List (Lit A)) (rest : List ℕ) → rest ≡ [] → AreReadUpTo text file list rest → AreRead text file list
+read_whole text file list rest ends read = record {
+  trees = read.trees ++ [];
+  lexes = record {
+    cuts = read.cuts.cuts;
+    are_cuts = subst (λ (r : List ℕ). Cuts 0 text read.cuts.cuts r) ends read.cuts.are_cuts;
+    none_open = read.cuts.none_open;
+    flat_is = read.cuts.flat_is ∙ ap flat_trees (sym (nil_behind read.trees));
+  };
+  leads = read.leads [];
+}
+  where
+    nil_behind : (ts : List Tree) → ts ++ [] ≡ ts
+    nil_behind [] = refl
+    nil_behind (t ∷ ts) = ap (λ z. t ∷ z) (nil_behind ts)
+
+-- a text is read as one list
+pub one_read : {A : Type 0} (text : List ℕ) (file : ℕ) (found list : List (Lit A)) → AreRead text file found → AreRead text file list → found ≡ list
+one_read text file found list r q =
+    let same : q.trees ≡ r.trees = one_list text file q.trees r.trees q.lexes r.lexes in
+    one_list_of r.trees found list r.leads (subst (λ (t : List Tree). Leads t list []) same q.leads)
+
+-- what is read as a literal of a kind has a reading
+pub has_reading : {A : Type 0} (token : Token) (lit : Lit A) → IsReadFrom token lit → ((l : Token) → lit ≡ Verbatim l → ⊥) → HasReading (chars token.text)
+has_reading token (Str l) (e, r) other = (StrKind, r)
+has_reading token (ByteStr l) (e, r) other = (ByteStrKind, r)
+has_reading token (CStr l) (e, r) other = (CStrKind, r)
+has_reading token (Byte l) (e, r) other = (ByteKind, r)
+has_reading token (Char l) (e, r) other = (CharKind, r)
+has_reading token (Int l) (e, r) other = (IntKind, r)
+has_reading token (Float l) (e, r) other = (FloatKind, r)
+has_reading token (BoolLit l) (e, r) other = (BoolKind, (Truth l.value, [], r))
+has_reading token (Verbatim l) (e, n) other = absurd (other l refl)
+
+pub has_reading_behind : {A : Type 0} (bytes : List ℕ) (span : Span) (lit : Lit A) → IsReadFrom (record { text = 45 ∷ bytes; span = span }) lit → ((l : Token) → lit ≡ Verbatim l → ⊥) → HasReading (45 ∷ chars bytes)
+has_reading_behind bytes span lit read other = subst HasReading (minus_chars bytes) (has_reading (record { text = 45 ∷ bytes; span = span }) lit read other)

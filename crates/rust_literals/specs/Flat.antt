@@ -1,0 +1,28 @@
+-- What is read of a text without groups, as its tokens are cut.
+use Rattle.std.specs.Prelude.{◌≡◌, ℕ, List, [], ◌++◌, map, Some}
+use Rattle.std.specs.Str.{chars}
+use Rattle.rl_tokens.specs.Trees.{Tree, flat_trees}
+use Rattle.rl_tokens.specs.Lexing.{Cut, Cuts, open_groups, flat_cut}
+use Rattle.rl_tokens.specs.Cursors.{Cutting}
+use Rattle.rust_literals.specs.declared.lit.Lit.{Lit}
+use Rattle.rust_literals.specs.Parsing.{IsLitFront, Leads}
+
+-- The text is cut into these trees up to the rest, where no group is open.
+pub record CutsInto (text : List ℕ) (file : ℕ) (trees : List Tree) (rest : List ℕ) : Type 0 where
+  pub cuts : List Cut
+  pub are_cuts : Cuts 0 text cuts rest
+  pub none_open : open_groups [] cuts ≡ Some []
+  pub flat_is : map (flat_cut file) cuts ≡ flat_trees trees
+
+-- The trees that are cut off make the literal, whatever stands behind them.
+pub record ReadsNext {A : Type 0} (file : ℕ) (old : Cutting) (lit : Lit A) (new : Cutting) : Type 0 where
+  pub trees : List Tree
+  pub cuts : (done : List Tree) → CutsInto (chars old.text) file done (chars old.rest) → CutsInto (chars old.text) file (done ++ trees) (chars new.rest)
+  pub front : (behind : List Tree) → IsLitFront (trees ++ behind) lit behind
+  pub same : new.text ≡ old.text
+
+-- The text up to the rest is these literals, whatever trees stand behind.
+pub record AreReadUpTo {A : Type 0} (text : List ℕ) (file : ℕ) (list : List (Lit A)) (rest : List ℕ) : Type 0 where
+  pub trees : List Tree
+  pub cuts : CutsInto text file trees rest
+  pub leads : (behind : List Tree) → Leads (trees ++ behind) list behind
