@@ -1,6 +1,6 @@
 -- What the decoders put together is what any reading holds.
 use Rattle.std.proofs.Common.{◌≡◌, ℕ, ◌<◌, ◌||◌, Bool, true, false, not, cond, ltb, List, [], ◌∷◌, ◌++◌, length, Some, None, refl, sym, ap, subst, ◌∙◌, inl, inr, arith, append_assoc, append-nil, replicate}
-use Rattle.std.specs.Prelude.{encode_utf8, encode_utf8_all, Result, Ok, Err, IfOk}
+use Rattle.std.specs.Prelude.{encode_utf8, encode_utf8_all}
 use Rattle.std.specs.Char.{len_utf8}
 use Rattle.std.specs.List.{AllByRecursion, list_all}
 use Rattle.std.specs.Str.{chars, IsUtf8}
@@ -125,15 +125,6 @@ cooked_bytes t form kind w body y bytes not_raw p d k v x s r =
 -- a text that reads as a string has the parts of one
 pub string_kind : (t : List ℕ) (form : Form) (kind : Kind) (w body y : List ℕ) (k : Kind) (v : Contents) (x : List ℕ) → PartsAre form kind t w body y → is_string k ≡ true → ReadsQuoted t k v x → is_string kind ≡ true
 string_kind t form kind w body y k v x p s r = ap is_string (formed_once t kind k w r.value y x (parts_formed form kind t w body y p) (formed t k v x r)).0 ∙ s
-
--- what a call made of these bytes holds
-pub ok_holds : {X E : Type 0} (items : X → List ℕ) (r : Result X E) (t bytes : List ℕ) → HoldsBytes t bytes → IfOk r (λ v. items v ≡ bytes) → IfOk r (λ v. HoldsBytes t (items v))
-ok_holds items (Ok v) t bytes h e = subst (HoldsBytes t) (sym e) h
-ok_holds items (Err a) t bytes h e = tt
-
-pub ok_decodes : {X E : Type 0} (items : X → List ℕ) (r : Result X E) (t : List ℕ) (form : Form) (kind : Kind) (w body y : List ℕ) → (form ≡ RawForm → ⊥) → PartsAre form kind t w body y → IfOk r (λ v. Decodes kind body (items v)) → IfOk r (λ v. HoldsBytes t (items v))
-ok_decodes items (Ok v) t form kind w body y not_raw p d = cooked_bytes t form kind w body y (items v) not_raw p d
-ok_decodes items (Err a) t form kind w body y not_raw p d = tt
 
 -- ---- the characters of a string
 

@@ -26,6 +26,8 @@ pub mod StrictRowLemmas
 pub mod StrictRawLemmas
 pub mod StrictLemmas
 pub mod FrontLemmas
-pub mod LaneLemmas
 pub mod PlainLemmas
 pub mod BodyLemmas
+pub mod AsciiLemmas
+pub mod PlaceLemmas
+pub mod BodyContents

@@ -1,21 +1,14 @@
--- Runs of plain characters, told by the bytes of a text.
-use Rattle.std.proofs.Common.{◌≡◌, ℕ, suc, ◌+◌, ◌<◌, ◌≤◌, ◌⊎◌, inl, inr, ◌&&◌, Bool, true, false, cond, List, [], ◌∷◌, ◌++◌, length, take, drop, get_or, refl, sym, ap, subst, ◌∙◌, arith, append_assoc}
-use Rattle.std.proofs.lemmas.Bool.{and_from, and_parts, both_ways, cond-false, and_right}
-use Rattle.std.proofs.lemmas.List.Sums.{prefix_len-le-length, prefix_len_stops}
-use Rattle.std.proofs.lemmas.List.{take-append-drop, append_cancel_right}
-use Rattle.std.proofs.lemmas.Str.{IsCharBoundary-before_ascii, IsCharBoundary-end, encodes-chars, chars-append, IsUtf8-take, IsUtf8-drop}
+-- Runs of plain characters.
+use Rattle.std.proofs.Common.{◌≡◌, ℕ, ◌+◌, ◌&&◌, Bool, true, false, cond, List, [], ◌∷◌, ◌++◌, refl, sym, ap, ap₂, ◌∙◌, arith, append_assoc}
+use Rattle.std.proofs.lemmas.Bool.{and_right}
+use Rattle.std.proofs.lemmas.List.{append_cancel_right}
 use Rattle.std.specs.List.{list_all, prefix_len}
-use Rattle.std.specs.Char.{encode_utf8}
-use Rattle.std.specs.Str.{chars, encode_utf8_all, IsUtf8, IsCharBoundary}
 use Rattle.rl_tokens.specs.declared.kind.Kind.{Kind}
 use Rattle.rl_tokens.specs.declared.kind.Kind.TheVariants.{Str, ByteStr, CStr, Byte, Char, Int, Float, Bool as BoolKind}
 use Rattle.rl_tokens.specs.Texts.{passes}
 use Rattle.rl_tokens.specs.Quoted.{is_string, is_plain}
-use Rattle.rl_tokens.proofs.CommentBytes.{not_equal, cases128, low_front, encode_is_high}
-
--- the test passes all that is past ASCII
-abbrev pub PassesHigh : (ℕ → Bool) → Type 0
-PassesHigh q = (b : ℕ) → 128 ≤ b → q b ≡ true
+use Rattle.rl_tokens.proofs.CommentBytes.{not_equal}
+use Rattle.rl_tokens.proofs.ScanLemmas.{PassesHigh}
 
 -- a string of any kind takes what is past ASCII as it is
 pub plain_high : (kind : Kind) → is_string kind ≡ true → PassesHigh (is_plain kind)
@@ -28,90 +21,11 @@ plain_high Int h b high = absurd (cc)
 plain_high Float h b high = absurd (cc)
 plain_high BoolKind h b high = absurd (cc)
 
--- ---- the front that passes
+-- ---- two tests that agree
 
-pub none_passes : (q : ℕ → Bool) (bs : List ℕ) (b : ℕ) → get_or bs 0 0 ≡ b → q b ≡ false → 0 ≡ prefix_len q bs
-none_passes q [] b is fails = refl
-none_passes q (x ∷ bs) b is fails = sym (cond-false _ _ _ (ap q is ∙ fails))
-
-take_next : (n b : ℕ) (bs : List ℕ) → take (1 + n) (b ∷ bs) ≡ b ∷ take n bs
-take_next n b bs = let e : 1 + n ≡ suc n = omega arith in ap (λ k. take k (b ∷ bs)) e
-
-drop_next : (n b : ℕ) (bs : List ℕ) → drop (1 + n) (b ∷ bs) ≡ drop n bs
-drop_next n b bs = let e : 1 + n ≡ suc n = omega arith in ap (λ k. drop k (b ∷ bs)) e
-
-prefix_passes : (q : ℕ → Bool) (bs : List ℕ) → list_all q (take (prefix_len q bs) bs) ≡ true
-prefix_passes q [] = refl
-prefix_passes q (b ∷ bs) = go (q b) refl (prefix_passes q bs)
-  where
-    go : (t : Bool) → q b ≡ t → list_all q (take (prefix_len q bs) bs) ≡ true → list_all q (take (cond t (1 + prefix_len q bs) 0) (b ∷ bs)) ≡ true
-    go true e more = ap (list_all q) (take_next (prefix_len q bs) b bs) ∙ and_from (q b) (list_all q (take (prefix_len q bs) bs)) e more
-    go false e more = refl
-
-prefix_ends : (q : ℕ → Bool) (bs : List ℕ) → passes q (drop (prefix_len q bs) bs) ≡ false
-prefix_ends q [] = refl
-prefix_ends q (b ∷ bs) = go (q b) refl (prefix_ends q bs)
-  where
-    go : (t : Bool) → q b ≡ t → passes q (drop (prefix_len q bs) bs) ≡ false → passes q (drop (cond t (1 + prefix_len q bs) 0) (b ∷ bs)) ≡ false
-    go true e more = ap (passes q) (drop_next (prefix_len q bs) b bs) ∙ more
-    go false e more = e
-
-later_pass : (q : ℕ → Bool) (xs ys : List ℕ) → list_all q (xs ++ ys) ≡ true → list_all q ys ≡ true
-later_pass q [] ys h = h
-later_pass q (x ∷ xs) ys h = later_pass q xs ys (and_parts (q x) (list_all q (xs ++ ys)) h).1
-
--- ---- from bytes to characters
-
-module _ (q : ℕ → Bool) (high : PassesHigh q) where
-  all_encoded : (cs : List ℕ) → list_all q (encode_utf8_all cs) ≡ true → list_all q cs ≡ true
-  all_encoded [] h = refl
-  all_encoded (c ∷ cs) h = and_from (q c) (list_all q cs) (first (cases128 c)) (all_encoded cs (later_pass q (encode_utf8 c) (encode_utf8_all cs) h))
-    where
-      first : (c < 128) ⊎ (128 ≤ c) → q c ≡ true
-      first (inl low) = (and_parts (q c) (list_all q (encode_utf8_all cs)) (ap (list_all q) (sym (low_front c cs low)) ∙ h)).0
-      first (inr past) = high c past
-
-  head_encoded : (cs : List ℕ) → passes q (encode_utf8_all cs) ≡ false → passes q cs ≡ false
-  head_encoded [] h = refl
-  head_encoded (c ∷ cs) h = go (cases128 c)
-    where
-      go : (c < 128) ⊎ (128 ≤ c) → q c ≡ false
-      go (inl low) = ap (passes q) (sym (low_front c cs low)) ∙ h
-      go (inr past) =
-          let (b, bs, same, is, _) = encode_is_high c past in
-          absurd (both_ways (q b) (ap (λ x. passes q (x ++ encode_utf8_all cs)) (sym same) ∙ h) (high b is))
-
-  -- the bytes of a run end where a character does
-  pub run_boundary : (bs : List ℕ) → IsCharBoundary bs (prefix_len q bs)
-  run_boundary bs =
-      let n = prefix_len q bs in
-      elim (at_end n) [
-        | inl whole ↦ subst (IsCharBoundary bs) (sym whole) (IsCharBoundary-end bs)
-        | inr inside ↦ IsCharBoundary-before_ascii bs n inside (low (get_or bs n 0) (prefix_len_stops q bs 0 inside))
-      ]
-    where
-      at_end : (n : ℕ) → (prefix_len q bs ≡ length bs) ⊎ (prefix_len q bs < length bs)
-      at_end n = grind (arith, prefix_len-le-length q bs)
-
-      low : (b : ℕ) → q b ≡ false → b < 128
-      low b fails = elim (cases128 b) [ inl is ↦ is | inr past ↦ absurd (both_ways (q b) fails (high b past)) ]
-
-  -- the characters in front of it pass
-  pub run_plain : (bs : List ℕ) → IsUtf8 bs → list_all q (chars (take (prefix_len q bs) bs)) ≡ true
-  run_plain bs u =
-      let front = take (prefix_len q bs) bs in
-      all_encoded (chars front) (ap (list_all q) (encodes-chars front (IsUtf8-take bs (prefix_len q bs) u (run_boundary bs))) ∙ prefix_passes q bs)
-
-  -- and the one behind it doesn't
-  pub run_stop : (bs : List ℕ) → IsUtf8 bs → passes q (chars (drop (prefix_len q bs) bs)) ≡ false
-  run_stop bs u =
-      let rest = drop (prefix_len q bs) bs in
-      head_encoded (chars rest) (ap (passes q) (encodes-chars rest (IsUtf8-drop bs (prefix_len q bs) u (run_boundary bs))) ∙ prefix_ends q bs)
-
-  pub run_cut : (bs : List ℕ) → IsUtf8 bs → chars bs ≡ chars (take (prefix_len q bs) bs) ++ chars (drop (prefix_len q bs) bs)
-  run_cut bs u =
-      let n = prefix_len q bs in
-      ap chars (sym (take-append-drop n bs)) ∙ chars-append (take n bs) (drop n bs) (IsUtf8-take bs n u (run_boundary bs))
+pub same_prefix : (p q : ℕ → Bool) (xs : List ℕ) → ((c : ℕ) → p c ≡ q c) → prefix_len p xs ≡ prefix_len q xs
+same_prefix p q [] same = refl
+same_prefix p q (x ∷ xs) same = ap₂ (λ b n. cond b (1 + n) 0) (same x) (same_prefix p q xs same)
 
 -- ---- a body that is one run
 

@@ -11,7 +11,7 @@ use Rattle.rl_tokens.specs.declared.kind.Kind.{Kind}
 use Rattle.rl_tokens.specs.declared.kind.Kind.TheVariants.{Str, ByteStr, CStr, Byte, Char, Int, Float, Bool as BoolKind}
 use Rattle.rl_tokens.specs.Texts.{passes, is_underscore}
 use Rattle.rl_tokens.specs.Quoted.{QuotedUnit, Letter, Plain, CrLf, Named, Hex, Unicode, Continuation, LowerN, LowerR, LowerT, Backslash, Apostrophe, Quote, Zero, letter_value, letter_text, unit_text, unit_value, unicode_value, without_underscores, place_value, held, hex_value, is_hex_digit, is_blank, is_line_end, is_string, is_plain, may_hold, may_be_hex, has_unicode, IsUnit, EndsBefore}
-use Rattle.rl_grammar.specs.UnitAt.{found, number_if, named_of, named_at, digit_at, hex_at, digits_at, brace_at, unicode_at, after_blanks, escape_at, line_feed_at, unit_at}
+use Rattle.rl_grammar.specs.UnitAt.{found, number_if, named_of, named_in, named_at, digit_at, hex_at, digits_at, brace_at, unicode_at, after_blanks, escape_at, line_feed_at, unit_at}
 
 -- which way a test went
 chosen : {A : Type 0} (b : Bool) (x y z : A) → cond b x y ≡ z → ((b ≡ true) × (x ≡ z)) ⊎ ((b ≡ false) × (y ≡ z))
@@ -325,18 +325,31 @@ pub record Begins (kind : Kind) (t v r : List ℕ) : Type 0 where
   pub text_is : t ≡ unit_text unit ++ r
   pub value_is : v ≡ unit_value kind unit
 
+-- a kind holds all that a letter stands for but 0
+pub holds_more : (kind : Kind) (n : ℕ) → eqb n 0 ≡ false → may_hold kind n ≡ true
+holds_more Str n h = refl
+holds_more ByteStr n h = refl
+holds_more CStr n h = rw h refl
+holds_more Byte n h = refl
+holds_more Char n h = refl
+holds_more Int n h = refl
+holds_more Float n h = refl
+holds_more BoolKind n h = refl
+
 named_sound : (kind : Kind) (c : ℕ) (cs : List ℕ) (p : List ℕ × List ℕ) → named_at kind c cs ≡ Some p → Begins kind (92 ∷ c ∷ cs) p.0 p.1
 named_sound kind c cs p h =
-    let o = bind_some (named_of c) _ p h in
-    let a = allowed_some (may_hold kind o.0) (o.0 ∷ [], cs) p o.2 in
+    let i = bind_some (named_in kind c) _ p h in
+    let o = bind_some (named_of c) _ i.0 i.1 in
+    let a = allowed_some (may_hold kind o.0) o.0 i.0 o.2 in
     let at = letter_sound c o.0 o.1 in
-    let fields = some_pair (o.0 ∷ [], cs) p a.1 in
+    let same : o.0 ≡ i.0 = let e = a.1 in cc in
+    let fields = some_pair (i.0 ∷ [], cs) p i.2 in
     record {
       unit = Named at.0;
       allowed = subst (λ x. may_hold kind x ≡ true) at.2 a.0;
       ends = tt;
       text_is = ap (λ x. 92 ∷ x ∷ cs) at.1 ∙ ap (λ x. 92 ∷ letter_text at.0 ∷ x) fields.1;
-      value_is = sym fields.0 ∙ ap (λ w. w ∷ []) at.2;
+      value_is = sym fields.0 ∙ ap (λ w. w ∷ []) (sym same ∙ at.2);
     }
 
 continuation_sound : (kind : Kind) (c : ℕ) (cs : List ℕ) (p : List ℕ × List ℕ) → is_line_end c ≡ true → cond (is_string kind) (found [] (after_blanks cs)) None ≡ Some p → Begins kind (92 ∷ c ∷ cs) p.0 p.1

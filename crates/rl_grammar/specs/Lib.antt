@@ -10,3 +10,4 @@ pub mod StrictAt
 pub mod StrictShapes
 pub mod FrontTokens
 pub mod PlainAt
+pub mod Bodies

@@ -34,8 +34,12 @@ found value rest = Some (value, rest)
 abbrev pub named_of : ℕ → Option ℕ
 named_of c = if c == 110 then Some 10 else (if c == 114 then Some 13 else (if c == 116 then Some 9 else (if c == 92 then Some 92 else (if c == 39 then Some 39 else (if c == 34 then Some 34 else (if c == 48 then Some 0 else None))))))
 
+-- and where the kind holds it
+abbrev pub named_in : Kind → ℕ → Option ℕ
+named_in kind c = named_of c >>= λ n. if may_hold kind n then Some n else None
+
 abbrev pub named_at : Kind → ℕ → List ℕ → Option (List ℕ × List ℕ)
-named_at kind c rest = named_of c >>= λ n. if may_hold kind n then found (n ∷ []) rest else None
+named_at kind c rest = named_in kind c >>= λ n. found (n ∷ []) rest
 
 -- a digit of base 16 at the front
 abbrev pub digit_at : List ℕ → Option (ℕ × List ℕ)

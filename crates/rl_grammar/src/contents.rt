@@ -1,12 +1,13 @@
 //! What quoted literals stand for.
 
 ghost use Rattle.std.specs.Prelude.{◌≡◌, ◌⊎◌, ◌↔◌, ◌++◌, [], ◌∷◌, ℕ, List, IsTrue, OnOk, IfOk, IfErr, string_bytes};
-ghost use Rattle.std.specs.Str.{chars};
+ghost use Rattle.std.specs.Str.{chars, IsUtf8};
 ghost use Rattle.rl_tokens.specs.declared.kind.Kind.{Kind as AnyKind};
 ghost use Rattle.rl_tokens.specs.Errors.{memory_at, nowhere};
 ghost use Rattle.rl_tokens.specs.Quoted.{is_single, is_string};
 ghost use Rattle.rl_tokens.specs.Reading.{Contents, Characters, Bytes, quoted_contents, ReadsQuoted, ReadsAs, HasContents};
 ghost use Rattle.rl_grammar.specs.UnitAt.{piece_value};
+ghost use Rattle.rl_grammar.specs.Bodies.{HasBody};
 ghost use Rattle.rl_grammar.specs.Decoded.{ContentsAre, ReadsAsQuoted, piece_bytes, Decodes, HoldsBytes};
 ghost use Rattle.rl_grammar.specs.WholeShapes.{IsPlain};
 
@@ -26,12 +27,24 @@ fn out_of_memory<A: Allocator>() -> Error<A>
     }
 }
 
+/// Puts the few bytes at the end, each by itself.
+#[inline(always)]
+fn push_each<A: Allocator>(bytes: &mut Vec<u8, A>, few: &[u8]) -> Result<(), AllocError>
+    ensures { OnOk result (bytes.new.items ≡ bytes.old.items ++ few.now) }
+{
+    for byte in few {
+        bytes.push(*byte)?;
+    }
+    Ok(())
+}
+
 /// Puts a piece at the end, a character as its UTF-8 bytes.
+#[inline(always)]
 fn push_piece<A: Allocator>(bytes: &mut Vec<u8, A>, piece: Piece) -> Result<(), AllocError>
     ensures { OnOk result (bytes.new.items ≡ bytes.old.items ++ piece_bytes piece) }
 {
     match piece {
-        Piece::Character(c) => bytes.extend_from_slice(c.encode_utf8(&mut [0; 4]).as_bytes()),
+        Piece::Character(c) => push_each(bytes, c.encode_utf8(&mut [0; 4]).as_bytes()),
         Piece::Byte(b) => Ok(bytes.push(b)?),
         Piece::Nothing => Ok(()),
     }
@@ -66,6 +79,23 @@ fn decode<A: Allocator>(alloc: A, kind: Kind, text: &str) -> Result<Vec<u8, A>, 
     }
 }
 
+/// The bytes that the body of a string stands for, those of characters in UTF-8: the body itself where it is plain.
+fn body_bytes<A: Allocator>(
+    alloc: A,
+    kind: Kind,
+    body: &str,
+    plain: bool,
+) -> Result<Vec<u8, A>, AllocError>
+    requires { (text : List ℕ) × HasBody kind text body.now plain }
+    ensures { IfOk result (λ bytes. (text : List ℕ) → HasBody kind text body.now plain → HoldsBytes text bytes.items) }
+{
+    if plain {
+        Vec::from_slice(alloc, body.as_bytes())
+    } else {
+        decode(alloc, kind, body)
+    }
+}
+
 /// The bytes that a string literal holds, those of its characters in UTF-8.
 fn held_bytes<A: Allocator>(alloc: A, text: &str) -> Result<Vec<u8, A>, AllocError>
     requires { (kind : AnyKind) × IsTrue (is_string kind) × ReadsAsQuoted kind (chars text.now) }
@@ -74,11 +104,7 @@ fn held_bytes<A: Allocator>(alloc: A, text: &str) -> Result<Vec<u8, A>, AllocErr
     let Some((_, parts, plain)) = quoted_parts(text) else {
         unreachable!()
     };
-    if plain {
-        Vec::from_slice(alloc, parts.body.as_bytes())
-    } else {
-        decode(alloc, parts.kind, parts.body)
-    }
+    body_bytes(alloc, parts.kind, parts.body, plain)
 }
 
 /// Whether the text reads as a string of the kind whose contents are its body, byte for byte: it is raw, or has neither
@@ -127,6 +153,47 @@ pub fn bytes_of<A: Allocator>(alloc: A, text: &str) -> Result<Vec<u8, A>, Error<
 {
     match held_bytes(alloc, text) {
         Ok(bytes) => Ok(bytes),
+        Err(_) => Err(out_of_memory()),
+    }
+}
+
+/// The text that a string literal with this body stands for, as [`body_of`](crate::body_of) tells it.
+///
+/// # Errors
+///
+/// `Memory` where memory is refused, told at `Span::call_site`.
+pub fn str_of_body<A: Allocator>(alloc: A, body: &str, plain: bool) -> Result<String<A>, Error<A>>
+    requires { (text : List ℕ) × HasBody Kind.Str (chars text) body.now plain × IsUtf8 text }
+    ensures value { IfOk result (λ s. (text : List ℕ) → HasBody Kind.Str (chars text) body.now plain → IsUtf8 text
+        → HasContents Kind.Str (chars text) (Characters (chars (string_bytes s)))) }
+    ensures memory { IfErr result (λ e. e ≡ memory_at nowhere) }
+{
+    match body_bytes(alloc, Kind::Str, body, plain) {
+        // SAFETY: the bytes are those of characters in UTF-8, which is proved.
+        Ok(value) => Ok(unsafe { String::from_utf8_unchecked(value) }),
+        Err(_) => Err(out_of_memory()),
+    }
+}
+
+/// The bytes that a byte string or a C string literal with this body stands for, with no zero added at the end.
+///
+/// # Errors
+///
+/// `Memory` where memory is refused, told at `Span::call_site`.
+pub fn bytes_of_body<A: Allocator>(
+    alloc: A,
+    kind: Kind,
+    body: &str,
+    plain: bool,
+) -> Result<Vec<u8, A>, Error<A>>
+    requires kind { kind ≡ Kind.ByteStr ⊎ kind ≡ Kind.CStr }
+    requires body { (text : List ℕ) × HasBody kind text body.now plain }
+    ensures value { IfOk result (λ bytes. (text : List ℕ) → HasBody kind text body.now plain
+        → HasContents kind text (Bytes bytes.items)) }
+    ensures memory { IfErr result (λ e. e ≡ memory_at nowhere) }
+{
+    match body_bytes(alloc, kind, body, plain) {
+        Ok(value) => Ok(value),
         Err(_) => Err(out_of_memory()),
     }
 }

@@ -1,6 +1,7 @@
 //! The grammars of Rust's literals: whether a text is one, of which kind, its parts and what it stands for.
 #![tactic(auto)]
 
+mod bodies;
 mod contents;
 mod cuts;
 mod digits;
@@ -18,7 +19,8 @@ pub mod strict;
 mod tally;
 mod units;
 
-pub use crate::contents::{byte_of, bytes_of, char_of, str_of};
+pub use crate::bodies::{Body, body_of};
+pub use crate::contents::{byte_of, bytes_of, bytes_of_body, char_of, str_of, str_of_body};
 pub use crate::digits::digits_of;
 pub use crate::floats::float_shape;
 pub use crate::front::{Front, next_is, take_kind};

@@ -1,12 +1,13 @@
 //! The units that stand between the quotes of a literal: characters and escapes.
 
-ghost use Rattle.std.specs.Prelude.{◌≡◌, ◌<◌, ◌≤◌, length, option_map, IfSome, IsTrue};
+ghost use Rattle.std.specs.Prelude.{◌≡◌, ◌==◌, ◌<◌, ◌≤◌, length, option_map, IfSome, IsTrue, IsFalse};
 ghost use Rattle.std.specs.Str.{chars};
+ghost use Rattle.rl_tokens.specs.Texts.{passes};
 ghost use Rattle.rl_tokens.specs.Quoted.{holds_characters, is_string, is_plain, may_hold, may_be_hex, has_unicode};
-ghost use Rattle.rl_grammar.specs.UnitAt.{piece_value, IsPieceOf, named_of, digit_at, hex_at, digits_at, unicode_at, after_blanks, escape_at, unit_at};
+ghost use Rattle.rl_grammar.specs.UnitAt.{piece_value, IsPieceOf, named_in, digit_at, hex_at, digits_at, unicode_at, after_blanks, escape_at, unit_at};
 
 use rl_tokens::Kind;
-use rl_tokens::text::split_char;
+use rl_tokens::text::{split_ascii, split_char};
 
 /// What a unit stands for. A character counts as its UTF-8 bytes where the kind holds bytes.
 #[derive(Clone, Copy)]
@@ -65,33 +66,38 @@ fn has_unicode(kind: Kind) -> bool
 }
 
 /// What a backslash and this letter stand for.
-fn named_value(letter: char) -> Option<u8>
-    ensures value { result ≡ named_of letter }
+#[tactic(auto, using(crate::proofs::UnitLemmas::holds_more))]
+#[inline(always)]
+fn named_value(kind: Kind, letter: u8) -> Option<u8>
+    ensures value { result ≡ named_in kind letter }
     ensures ascii { IfSome result (λ n. n < 128) }
 {
     match letter {
-        'n' => Some(b'\n'),
-        'r' => Some(b'\r'),
-        't' => Some(b'\t'),
-        '\\' => Some(b'\\'),
-        '\'' => Some(b'\''),
-        '"' => Some(b'"'),
-        '0' => Some(0),
+        b'n' => Some(b'\n'),
+        b'r' => Some(b'\r'),
+        b't' => Some(b'\t'),
+        b'\\' => Some(b'\\'),
+        b'\'' => Some(b'\''),
+        b'"' => Some(b'"'),
+        b'0' if may_hold(kind, 0) => Some(0),
         _ => None,
     }
 }
 
 /// A hexadecimal digit at the front, and the text behind it.
+#[tactic(auto, using(crate::proofs::AsciiLemmas::no_digit))]
+#[inline(always)]
 fn digit(text: &str) -> Option<(u32, &str)>
     ensures value { option_map (λ p. (p.0, chars p.1.now)) result ≡ digit_at (chars text.now) }
     ensures shorter { IfSome result (λ p. (p.0 < 16) × (length p.1.now < length text.now)) }
 {
-    let (first, rest) = split_char(text)?;
-    Some((first.to_digit(16)?, rest))
+    let (first, rest) = split_ascii(text)?;
+    Some(((first as char).to_digit(16)?, rest))
 }
 
 /// The number of the two digits of `\x`, and the text behind them.
 #[tactic(auto, unfolding(crate::specs::UnitAt::hex_at))]
+#[inline(always)]
 fn hex_escape(kind: Kind, text: &str) -> Option<(u8, &str)>
     ensures value { option_map (λ p. (p.0, chars p.1.now)) result ≡ hex_at kind (chars text.now) }
     ensures ascii { IfSome result (λ p. IsTrue (holds_characters kind) → p.0 < 128) }
@@ -108,7 +114,8 @@ fn hex_escape(kind: Kind, text: &str) -> Option<(u8, &str)>
 }
 
 /// What follows the first digit of `\u{`: the character of all the digits, and the text behind the brace.
-#[tactic(auto, unfolding(crate::specs::UnitAt::digits_at))]
+#[tactic(auto, unfolding(crate::specs::UnitAt::digits_at), using(crate::proofs::AsciiLemmas::no_digits))]
+#[inline(always)]
 fn more_digits(text: &str, first: u32) -> Option<(char, &str)>
     requires { first < 16 }
     ensures value { option_map (λ p. (p.0, chars p.1.now)) result ≡ digits_at first 1 (chars text.now) }
@@ -118,30 +125,31 @@ fn more_digits(text: &str, first: u32) -> Option<(char, &str)>
     let mut digits = 1_u32;
     let mut rest = text;
     loop {
-        let (next, after) = split_char(rest)?;
+        let (next, after) = split_ascii(rest)?;
         rest = after;
-        if next == '}' {
-            return Some((char::from_u32(value)?, rest));
-        }
-        if next != '_' {
-            let digit = next.to_digit(16)?;
+        if let Some(digit) = (next as char).to_digit(16) {
             if digits == 6 {
                 return None;
             }
             value = value * 16 + digit;
             digits += 1;
+        } else if next == b'}' {
+            return Some((char::from_u32(value)?, rest));
+        } else if next != b'_' {
+            return None;
         }
     }
 }
 
 /// The character of `\u{..}` from its brace on, and the text behind it.
-#[tactic(auto, unfolding(crate::specs::UnitAt::unicode_at))]
+#[tactic(auto, unfolding(crate::specs::UnitAt::unicode_at), using(crate::proofs::AsciiLemmas::no_brace))]
+#[inline(always)]
 fn unicode_escape(kind: Kind, text: &str) -> Option<(char, &str)>
     ensures value { option_map (λ p. (p.0, chars p.1.now)) result ≡ unicode_at kind (chars text.now) }
     ensures shorter { IfSome result (λ p. length p.1.now < length text.now) }
 {
-    let (brace, inside) = split_char(text)?;
-    if brace != '{' {
+    let (brace, inside) = split_ascii(text)?;
+    if brace != b'{' {
         return None;
     }
     let (first, rest) = digit(inside)?;
@@ -167,23 +175,24 @@ fn skip_blanks(text: &str) -> &str
 }
 
 /// What the escape stands for whose backslash stands before the text, and the text behind it.
-#[tactic(auto, unfolding(crate::specs::UnitAt::escape_at))]
+#[tactic(auto, unfolding(crate::specs::UnitAt::escape_at), using(crate::proofs::AsciiLemmas::no_escape))]
+#[inline(always)]
 fn escape(kind: Kind, text: &str) -> Option<(Piece, &str)>
     ensures value { option_map (λ p. (piece_value kind p.0, chars p.1.now)) result ≡ escape_at kind (chars text.now) }
     ensures piece { IfSome result (λ p. IsPieceOf kind p.0) }
     ensures shorter { IfSome result (λ p. length p.1.now < length text.now) }
 {
-    let (letter, rest) = split_char(text)?;
+    let (letter, rest) = split_ascii(text)?;
     match letter {
-        'x' => {
+        b'x' => {
             let (code, rest) = hex_escape(kind, rest)?;
             Some((Piece::Byte(code), rest))
         }
-        'u' => {
+        b'u' => {
             let (c, rest) = unicode_escape(kind, rest)?;
             Some((Piece::Character(c), rest))
         }
-        '\n' | '\r' => {
+        b'\n' | b'\r' => {
             if is_string(kind) {
                 Some((Piece::Nothing, skip_blanks(rest)))
             } else {
@@ -191,26 +200,23 @@ fn escape(kind: Kind, text: &str) -> Option<(Piece, &str)>
             }
         }
         _ => {
-            let code = named_value(letter)?;
-            if may_hold(kind, code as u32) {
-                Some((Piece::Byte(code), rest))
-            } else {
-                None
-            }
+            let code = named_value(kind, letter)?;
+            Some((Piece::Byte(code), rest))
         }
     }
 }
 
-/// What the unit at the front stands for, and the text behind it: `None` where no unit of the kind stands there.
+/// What a character at the front stands for that is no backslash, or the two of a line end, and the text behind.
 #[tactic(auto, unfolding(crate::specs::UnitAt::unit_at))]
-pub(crate) fn unit(kind: Kind, text: &str) -> Option<(Piece, &str)>
+#[inline(always)]
+fn character(kind: Kind, text: &str) -> Option<(Piece, &str)>
+    requires { IsFalse (passes (λ c. c == 92) (chars text.now)) }
     ensures value { option_map (λ p. (piece_value kind p.0, chars p.1.now)) result ≡ unit_at kind (chars text.now) }
     ensures piece { IfSome result (λ p. IsPieceOf kind p.0) }
     ensures shorter { IfSome result (λ p. length p.1.now < length text.now) }
 {
     let (first, rest) = split_char(text)?;
     match first {
-        '\\' => escape(kind, rest),
         c if is_plain(kind, c) => Some((Piece::Character(c), rest)),
         '\r' => {
             let (next, rest) = split_char(rest)?;
@@ -221,5 +227,19 @@ pub(crate) fn unit(kind: Kind, text: &str) -> Option<(Piece, &str)>
             }
         }
         _ => None,
+    }
+}
+
+/// What the unit at the front stands for, and the text behind it: `None` where no unit of the kind stands there.
+#[tactic(auto, unfolding(crate::specs::UnitAt::unit_at), using(crate::proofs::AsciiLemmas::no_backslash))]
+#[inline(always)]
+pub(crate) fn unit(kind: Kind, text: &str) -> Option<(Piece, &str)>
+    ensures value { option_map (λ p. (piece_value kind p.0, chars p.1.now)) result ≡ unit_at kind (chars text.now) }
+    ensures piece { IfSome result (λ p. IsPieceOf kind p.0) }
+    ensures shorter { IfSome result (λ p. length p.1.now < length text.now) }
+{
+    match split_ascii(text) {
+        Some((b'\\', rest)) => escape(kind, rest),
+        _ => character(kind, text),
     }
 }

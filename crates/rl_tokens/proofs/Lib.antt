@@ -44,3 +44,5 @@ pub mod StrictNumberLexemes
 pub mod PrintedLaws
 pub mod PrintedAnswers
 pub mod TreeRests
+pub mod LaneLemmas
+pub mod ScanLemmas

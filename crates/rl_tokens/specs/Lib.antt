@@ -21,3 +21,4 @@ pub mod Lexing
 pub mod Cursors
 pub mod Nests
 pub mod Printed
+pub mod Scanning

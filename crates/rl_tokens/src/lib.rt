@@ -19,6 +19,7 @@ mod literal;
 mod nest;
 mod parse;
 mod punct;
+pub mod scan;
 mod span;
 pub mod text;
 mod token;

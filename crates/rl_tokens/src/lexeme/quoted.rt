@@ -17,6 +17,7 @@ ghost use Rattle.rl_tokens.specs.LexemeAt.{
 
 use super::rows::{after_suffix, split_hashes, strip_hashes};
 use crate::front::{begins_with, without_first};
+use crate::scan::{Marks, next_mark};
 use crate::text::split_char;
 
 /// What follows the literal behind whose opening `"` the text stands.
@@ -56,35 +57,32 @@ pub(crate) fn begins_hashed_quote(text: &str) -> bool
 }
 
 // What follows the `"` that ends a body.
+#[inline(never)]
 fn after_quote(text: &str) -> Option<&str>
     ensures rest { option_map (λ rest. chars rest.now) result ≡ after_quote (chars text.now) }
     ensures behind { IfSome result (λ rest. IsBehind text.now rest.now) }
 {
     let mut rest = text;
-    while let Some((c, behind)) = split_char(rest) {
-        if c == '"' {
+    while let Some((mark, behind)) = next_mark(Marks::two(b'"', b'\\'), rest) {
+        if mark == b'"' {
             return Some(behind);
         }
-        rest = behind;
-        if c == '\\' {
-            let (_, more) = split_char(behind)?;
-            rest = more;
-        }
+        let (_, more) = split_char(behind)?;
+        rest = more;
     }
     None
 }
 
 // What follows the `"` and the hashes, so many, that end a raw body.
+#[inline(never)]
 fn after_raw(count: usize, text: &str) -> Option<&str>
     ensures rest { option_map (λ rest. chars rest.now) result ≡ after_raw count (chars text.now) }
     ensures behind { IfSome result (λ rest. IsBehind text.now rest.now) }
 {
     let mut rest = text;
-    while let Some((c, behind)) = split_char(rest) {
-        if c == '"' {
-            if let Some(end) = strip_hashes(behind, count) {
-                return Some(end);
-            }
+    while let Some((_, behind)) = next_mark(Marks::two(b'"', b'"'), rest) {
+        if let Some(end) = strip_hashes(behind, count) {
+            return Some(end);
         }
         rest = behind;
     }

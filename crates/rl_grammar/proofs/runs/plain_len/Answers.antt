@@ -1,7 +1,7 @@
 use Rattle.std.proofs.Common.{arith}
 use Rattle.rl_tokens.specs.Quoted.{is_plain}
 use Rattle.rl_grammar.proofs.UnitLemmas.{backslash_not_plain}
-use Rattle.rl_grammar.proofs.PlainLemmas.{none_passes}
+use Rattle.rl_tokens.proofs.ScanLemmas.{none_passes}
 use Rattle.rl_grammar.proofs.runs.plain_len.Goals as goal
 
 pub returns-then-bytes-eq92 : goal.returns-then-bytes-eq92

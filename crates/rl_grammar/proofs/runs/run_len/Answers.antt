@@ -1,16 +1,7 @@
-use Rattle.std.proofs.Common.{sym, ap, ◌∙◌, arith}
-use lib.Count.{count_trailing_zeros}
+use Rattle.std.proofs.Common.{◌∙◌}
 use Rattle.rl_tokens.specs.Quoted.{is_plain}
-use Rattle.rl_grammar.proofs.LaneLemmas.{run_through, run_stops}
+use Rattle.rl_grammar.proofs.PlainLemmas.{same_prefix}
 use Rattle.rl_grammar.proofs.runs.run_len.Goals as goal
 
-pub returns-then-found-ne0 : goal.returns-then-found-ne0
-returns-then-found-ne0 c =
-    let found = c.stops-found in
-    let run = run_stops _ (is_plain c.args.kind) c.fourth_stop-fourth.ensures c.args.bytes.now c.loop-at.at 16 (omega arith) (omega arith) (omega (arith, found.ensures)) ∙ ap (count_trailing_zeros 64) (sym found.ensures) in
-    omega (arith, run, c.loop-at.invariant.run)
-
-pub loop-at-preserved : goal.loop-at-preserved
-loop-at-preserved c =
-    let run = run_through _ (is_plain c.args.kind) c.fourth_stop-fourth.ensures c.args.bytes.now c.loop-at.at 16 (omega arith) (omega (arith, c.stops-found.ensures)) in
-    record { run = omega (arith, run, c.loop-at.invariant.run); in_range = omega arith }
+pub returns : goal.returns
+returns c = c.len_before.ensures ∙ same_prefix _ (is_plain c.args.kind) c.args.bytes.now c.ends_of_runs.ensures

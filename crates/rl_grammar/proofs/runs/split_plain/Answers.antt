@@ -3,7 +3,8 @@ use Rattle.std.specs.Str.{chars, IsCharBoundary}
 use Rattle.std.specs.List.{list_all, prefix_len}
 use Rattle.rl_tokens.specs.Texts.{passes}
 use Rattle.rl_tokens.specs.Quoted.{is_plain}
-use Rattle.rl_grammar.proofs.PlainLemmas.{plain_high, run_boundary, run_cut, run_plain, run_stop}
+use Rattle.rl_tokens.proofs.ScanLemmas.{run_boundary, run_cut, run_plain, run_stop}
+use Rattle.rl_grammar.proofs.PlainLemmas.{plain_high}
 use Rattle.rl_grammar.proofs.runs.split_plain.Goals as goal
 
 pub split_at-requires : goal.split_at-requires

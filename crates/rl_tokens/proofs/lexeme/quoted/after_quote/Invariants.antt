@@ -4,11 +4,11 @@ use Rattle.rl_tokens.specs.LexemeAt.{after_quote}
 use Rattle.rl_tokens.specs.Texts.{IsBehind}
 use Rattle.rl_tokens.proofs.lexeme.quoted.after_quote.Given as goal
 
-abbrev pub invariant-loop-c : goal.invariant-loop-c
-invariant-loop-c l = record {
+abbrev pub invariant-loop-mark : goal.invariant-loop-mark
+invariant-loop-mark l = record {
   behind : IsBehind l.text l.rest;
   same : after_quote (chars l.rest) ≡ after_quote (chars l.text);
 }
 
-abbrev pub decreases-loop-c : goal.decreases-loop-c
-decreases-loop-c l = length l.rest
+abbrev pub decreases-loop-mark : goal.decreases-loop-mark
+decreases-loop-mark l = length l.rest

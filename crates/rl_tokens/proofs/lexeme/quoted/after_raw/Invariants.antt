@@ -4,11 +4,11 @@ use Rattle.rl_tokens.specs.LexemeAt.{after_raw}
 use Rattle.rl_tokens.specs.Texts.{IsBehind}
 use Rattle.rl_tokens.proofs.lexeme.quoted.after_raw.Given as goal
 
-abbrev pub invariant-loop-c : goal.invariant-loop-c
-invariant-loop-c l = record {
+abbrev pub invariant-loop-behind : goal.invariant-loop-behind
+invariant-loop-behind l = record {
   behind : IsBehind l.text l.rest;
   same : after_raw l.count (chars l.rest) ≡ after_raw l.count (chars l.text);
 }
 
-abbrev pub decreases-loop-c : goal.decreases-loop-c
-decreases-loop-c l = length l.rest
+abbrev pub decreases-loop-behind : goal.decreases-loop-behind
+decreases-loop-behind l = length l.rest

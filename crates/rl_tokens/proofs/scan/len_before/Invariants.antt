@@ -1,11 +1,11 @@
 use Rattle.std.proofs.Common.{◌≡◌, ◌+◌, ◌-◌, ◌≤◌, length, drop}
 use Rattle.std.specs.List.{prefix_len}
-use Rattle.rl_tokens.specs.Quoted.{is_plain}
-use Rattle.rl_grammar.proofs.runs.plain_end_slowly.Given as goal
+use Rattle.rl_tokens.specs.Scanning.{is_other}
+use Rattle.rl_tokens.proofs.scan.len_before.Given as goal
 
 abbrev pub invariant-loop-at : goal.invariant-loop-at
 invariant-loop-at l = record {
-  run : l.from + prefix_len (is_plain l.kind) (drop l.from l.bytes) ≡ l.at + prefix_len (is_plain l.kind) (drop l.at l.bytes);
+  run : prefix_len (is_other l.marks) l.bytes ≡ l.at + prefix_len (is_other l.marks) (drop l.at l.bytes);
   in_range : l.at ≤ length l.bytes;
 }
 

@@ -1,0 +1,64 @@
+-- What the body of a string stands for.
+use Rattle.std.proofs.Common.{◌≡◌, ◌-◌, take, drop, ◌⊎◌, inl, inr, ℕ, Bool, true, false, List, refl, sym, ap, subst, ◌∙◌}
+use Rattle.std.proofs.lemmas.Bool.{both_ways}
+use Rattle.std.specs.Prelude.{Result, Ok, Err, IfOk}
+use Rattle.std.specs.Str.{chars, IsUtf8}
+use Rattle.rl_tokens.specs.declared.kind.Kind.{Kind}
+use Rattle.rl_tokens.specs.declared.kind.Kind.TheVariants.{Str, ByteStr, CStr, Byte, Char, Int, Float, Bool as BoolKind}
+use Rattle.rl_tokens.specs.Reading.{Characters, Bytes, ReadsQuoted, HasContents, quoted_contents}
+use Rattle.rl_grammar.specs.Bodies.{HasBody, IsBodyAt}
+use Rattle.rl_grammar.specs.declared.bodies.Body.{Body}
+use Rattle.rl_grammar.specs.Forms.{PartsAre}
+use Rattle.std.proofs.lemmas.Str.{IsUtf8-between, IsUtf8-drop}
+use Rattle.rl_grammar.specs.Decoded.{Decodes, HoldsBytes}
+use Rattle.rl_grammar.proofs.ContentLemmas.{plain_bytes, not_raw, cooked_bytes, str_bytes}
+use Rattle.rl_grammar.proofs.FormLemmas.{formed, formed_once, parts_formed, parts_read}
+
+pub ok_plain : {X E : Type 0} (items : X → List ℕ) (r : Result X E) (kind : Kind) (body bytes : List ℕ) (plain : Bool) → plain ≡ true → IsUtf8 body → body ≡ bytes → IfOk r (λ v. items v ≡ bytes) → IfOk r (λ v. (t : List ℕ) → HasBody kind t body plain → HoldsBytes t (items v))
+ok_plain items (Ok v) kind body bytes plain is u same e = λ t has. subst (HoldsBytes t) (same ∙ sym e) (plain_bytes t has.form kind has.value body has.suffix (sym has.plain_is ∙ is) u has.parts)
+ok_plain items (Err a) kind body bytes plain is u same e = tt
+
+pub ok_decoded : {X E : Type 0} (items : X → List ℕ) (r : Result X E) (kind : Kind) (body : List ℕ) (plain : Bool) → plain ≡ false → IfOk r (λ v. Decodes kind (chars body) (items v)) → IfOk r (λ v. (t : List ℕ) → HasBody kind t body plain → HoldsBytes t (items v))
+ok_decoded items (Ok v) kind body plain other d = λ t has. cooked_bytes t has.form kind has.value (chars body) has.suffix (items v) (not_raw has.form kind (chars body) (sym has.plain_is ∙ other)) has.parts d
+ok_decoded items (Err a) kind body plain other d = tt
+
+pub ok_of_text : {X E : Type 0} (items : X → List ℕ) (r : Result X E) (kind : Kind) (body t : List ℕ) (plain : Bool) → HasBody kind t body plain → IfOk r (λ v. (t : List ℕ) → HasBody kind t body plain → HoldsBytes t (items v)) → IfOk r (λ v. HoldsBytes t (items v))
+ok_of_text items (Ok v) kind body t plain has held = held t has
+ok_of_text items (Err a) kind body t plain has held = tt
+
+body_reads : (kind : Kind) (t body : List ℕ) (plain : Bool) (has : HasBody kind t body plain) → ReadsQuoted t kind (quoted_contents kind has.value) has.suffix
+body_reads kind t body plain has = parts_read has.form kind t has.value (chars body) has.suffix has.parts
+
+-- what a string holds is a text, its contents
+pub str_of_has : (t body bytes : List ℕ) (plain : Bool) → HasBody Str (chars t) body plain → IsUtf8 t → HoldsBytes (chars t) bytes → IsUtf8 bytes × HasContents Str (chars t) (Characters (chars bytes))
+str_of_has t body bytes plain has u held =
+    let r = body_reads Str (chars t) body plain has in
+    let s = str_bytes t bytes (quoted_contents Str has.value) has.suffix u held r in
+    (s.0, (has.suffix, subst (λ v. ReadsQuoted (chars t) Str v has.suffix) s.1 r))
+
+abbrev is_bytes : Kind → Bool
+is_bytes ByteStr = true
+is_bytes CStr = true
+is_bytes _ = false
+
+other_kind : (kind : Kind) → (kind ≡ ByteStr) ⊎ (kind ≡ CStr) → is_bytes kind ≡ false → ⊥
+other_kind kind (inl e) h = both_ways (is_bytes kind) h (ap is_bytes e)
+other_kind kind (inr e) h = both_ways (is_bytes kind) h (ap is_bytes e)
+
+pub bytes_of_has : (kind : Kind) (t body bytes : List ℕ) (plain : Bool) → (kind ≡ ByteStr) ⊎ (kind ≡ CStr) → HasBody kind t body plain → HoldsBytes t bytes → HasContents kind t (Bytes bytes)
+bytes_of_has ByteStr t body bytes plain which has held =
+    let r = body_reads ByteStr t body plain has in
+    (has.suffix, subst (λ v. ReadsQuoted t ByteStr v has.suffix) (r.contents_is ∙ ap Bytes (sym (held ByteStr (quoted_contents ByteStr has.value) has.suffix refl r))) r)
+bytes_of_has CStr t body bytes plain which has held =
+    let r = body_reads CStr t body plain has in
+    (has.suffix, subst (λ v. ReadsQuoted t CStr v has.suffix) (r.contents_is ∙ ap Bytes (sym (held CStr (quoted_contents CStr has.value) has.suffix refl r))) r)
+bytes_of_has Str t body bytes plain which has held = absurd (other_kind Str which refl)
+bytes_of_has Byte t body bytes plain which has held = absurd (other_kind Byte which refl)
+bytes_of_has Char t body bytes plain which has held = absurd (other_kind Char which refl)
+bytes_of_has Int t body bytes plain which has held = absurd (other_kind Int which refl)
+bytes_of_has Float t body bytes plain which has held = absurd (other_kind Float which refl)
+bytes_of_has BoolKind t body bytes plain which has held = absurd (other_kind BoolKind which refl)
+
+-- a plain body is the contents of a string
+pub plain_contents : (t body : List ℕ) (plain : Bool) → plain ≡ true → HasBody Str (chars t) body plain → IsUtf8 t → IsUtf8 body → HasContents Str (chars t) (Characters (chars body))
+plain_contents t body plain is has ut ub = (str_of_has t body body plain has ut (plain_bytes (chars t) has.form Str has.value body has.suffix (sym has.plain_is ∙ is) ub has.parts)).1

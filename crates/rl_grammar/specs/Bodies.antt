@@ -1,0 +1,33 @@
+-- The bodies of string literals, and where they stand.
+use Rattle.std.specs.Prelude.{◌≡◌, ◌-◌, ◌≤◌, ℕ, Bool, List, take, drop, IsTrue}
+use Rattle.std.specs.Str.{chars, IsCharBoundary}
+use Rattle.rl_tokens.specs.declared.kind.Kind.{Kind}
+use Rattle.rl_tokens.specs.declared.kind.Kind.TheVariants.{Str}
+use Rattle.rl_tokens.specs.Quoted.{is_string}
+use Rattle.rl_tokens.specs.Reading.{HasSuffix}
+use Rattle.rl_grammar.specs.declared.quoted.Form.{Form}
+use Rattle.rl_grammar.specs.declared.bodies.Body.{Body}
+use Rattle.rl_grammar.specs.Forms.{PartsAre, is_plain_body}
+
+-- The body, in bytes, stands between the quotes of the string, and it is told whether the body stands for itself.
+pub record HasBody (kind : Kind) (text body : List ℕ) (plain : Bool) : Type 0 where
+  pub string : IsTrue (is_string kind)
+  pub form : Form
+  pub value : List ℕ
+  pub suffix : List ℕ
+  pub parts : PartsAre form kind text value (chars body) suffix
+  pub plain_is : plain ≡ is_plain_body form kind (chars body)
+
+-- The parts of the string, whose text is told by its bytes, stand at these places.
+pub record IsBodyAt (kind : Kind) (text : List ℕ) (body : Body) : Type 0 where
+  pub has : HasBody kind (chars text) (take (body.end - body.at) (drop body.at text)) body.plain
+  pub suffix : HasSuffix kind (chars text) (chars (drop body.suffix_at text))
+  pub ordered : body.at ≤ body.end
+  pub begins : IsCharBoundary text body.at
+  pub ends : IsCharBoundary text body.end
+  pub behind : IsCharBoundary text body.suffix_at
+
+-- how many letters stand before a string of the kind
+abbrev pub letters : Kind → ℕ
+letters Str = 0
+letters _ = 1

@@ -1,0 +1,125 @@
+//! Where bytes stand, looked for sixteen at a time.
+
+ghost use Rattle.std.specs.Prelude.{◌≡◌, ◌+◌, ◌<◌, ◌≤◌, ◌++◌, length, drop, map, IfSome, IfNone, IsTrue, IsFalse};
+ghost use Rattle.std.specs.List.{list_all, prefix_len};
+ghost use Rattle.std.specs.Simd.Lanes.{chunk, mask_l};
+ghost use Rattle.std.specs.Str.{chars};
+ghost use Rattle.rl_tokens.specs.Texts.{passes, IsBehind};
+ghost use Rattle.rl_tokens.specs.Scanning.{is_one_of, is_other, AreAscii, IsNextMark};
+
+use crate::text::split_ascii;
+use std::simd::prelude::*;
+
+/// The bytes that are looked for; where they are fewer than four, one of them stands twice.
+#[derive(Clone, Copy)]
+pub struct Marks {
+    pub first: u8,
+    pub second: u8,
+    pub third: u8,
+    pub fourth: u8,
+}
+
+impl Marks {
+    /// Two marks.
+    #[inline(always)]
+    pub fn two(first: u8, second: u8) -> Marks
+        ensures { result ≡ record { first = first; second = second; third = second; fourth = second } }
+    {
+        Marks {
+            first,
+            second,
+            third: second,
+            fourth: second,
+        }
+    }
+}
+
+/// A bit for each of the N bytes from a place on, set where the byte is a mark.
+fn marked<const N: usize>(marks: Marks, bytes: &[u8], at: usize) -> u64
+    requires { (N ≤ 64) × (at + N ≤ length bytes.now) }
+    ensures { result ≡ mask_l (map (is_one_of marks) (chunk at N bytes.now)) }
+{
+    let lanes = Simd::<u8, N>::from_slice(&bytes[at..]);
+    let first = lanes.simd_eq(Simd::splat(marks.first));
+    let second = lanes.simd_eq(Simd::splat(marks.second));
+    let third = lanes.simd_eq(Simd::splat(marks.third));
+    let fourth = lanes.simd_eq(Simd::splat(marks.fourth));
+    (first | second | third | fourth).to_bitmask()
+}
+
+/// Whether the byte is a mark.
+fn is_mark(marks: Marks, byte: u8) -> bool
+    ensures { result ≡ is_one_of marks byte }
+{
+    byte == marks.first || byte == marks.second || byte == marks.third || byte == marks.fourth
+}
+
+/// The place of the first mark from a place on, found byte by byte.
+fn mark_slowly(marks: Marks, bytes: &[u8], from: usize) -> usize
+    requires { from ≤ length bytes.now }
+    ensures { result ≡ from + prefix_len (is_other marks) (drop from bytes.now) }
+{
+    let mut at = from;
+    while at < bytes.len() && !is_mark(marks, bytes[at]) {
+        at += 1;
+    }
+    at
+}
+
+/// The same for the last bytes, fewer than sixteen.
+fn mark_shortly(marks: Marks, bytes: &[u8], from: usize) -> usize
+    requires { from ≤ length bytes.now }
+    ensures { result ≡ from + prefix_len (is_other marks) (drop from bytes.now) }
+{
+    if bytes.len() - from < 8 {
+        return mark_slowly(marks, bytes, from);
+    }
+    let found = marked::<8>(marks, bytes, from);
+    if found != 0 {
+        return from + found.trailing_zeros() as usize;
+    }
+    mark_slowly(marks, bytes, from + 8)
+}
+
+/// How many bytes stand in front of the first mark; all where there is none. It is inlined for the marks that its caller
+/// names.
+#[inline(always)]
+pub fn len_before(marks: Marks, bytes: &[u8]) -> usize
+    ensures { result ≡ prefix_len (is_other marks) bytes.now }
+{
+    let mut at = 0;
+    while bytes.len() - at >= 16 {
+        let found = marked::<16>(marks, bytes, at);
+        if found != 0 {
+            return at + found.trailing_zeros() as usize;
+        }
+        at += 16;
+    }
+    mark_shortly(marks, bytes, at)
+}
+
+/// The characters in front of the first mark, and the text from it on.
+#[inline(always)]
+pub fn split_before(marks: Marks, text: &str) -> (&str, &str)
+    requires { AreAscii marks }
+    ensures cut { chars text.now ≡ chars result.0.now ++ chars result.1.now }
+    ensures others { IsTrue (list_all (is_other marks) (chars result.0.now)) }
+    ensures stops { IsFalse (passes (is_other marks) (chars result.1.now)) }
+    ensures behind { IsBehind text.now result.1.now }
+    ensures shorter { length result.1.now ≤ length text.now }
+{
+    text.split_at(len_before(marks, text.as_bytes()))
+}
+
+/// The first mark in the text, and what stands behind it: `None` where there is none.
+#[inline(always)]
+pub fn next_mark(marks: Marks, text: &str) -> Option<(u8, &str)>
+    requires { AreAscii marks }
+    ensures some { IfSome result (λ p. IsNextMark marks (chars text.now) p.0 (chars p.1.now)) }
+    ensures none { IfNone result (IsTrue (list_all (is_other marks) (chars text.now))) }
+    ensures behind { IfSome result (λ p. IsBehind text.now p.1.now) }
+    ensures shorter { IfSome result (λ p. length p.1.now < length text.now) }
+{
+    let (_, from) = split_before(marks, text);
+    split_ascii(from)
+}
