@@ -40,7 +40,7 @@ suffix_text t body u s = IsUtf8-drop t body.suffix_at u s.behind
 pub quoted_cut : (kind : Kind) (t : List ℕ) (body : Body) → IsUtf8 t → IsQuotedAt kind t body → IsQuotedCut kind t (body_in t body) (suffix_in t body)
 quoted_cut kind t body u q = parts_cut q.form kind t q.value (body_in t body) (suffix_in t body) u (body_text t body u q.stands) (suffix_text t body u q.stands) q.parts
 
-quoted_reads : (kind : Kind) (t : List ℕ) (body : Body) (q : IsQuotedAt kind t body) → ReadsQuoted (chars t) kind (quoted_contents kind q.value) (chars (suffix_in t body))
+pub quoted_reads : (kind : Kind) (t : List ℕ) (body : Body) (q : IsQuotedAt kind t body) → ReadsQuoted (chars t) kind (quoted_contents kind q.value) (chars (suffix_in t body))
 quoted_reads kind t body q = parts_read q.form kind (chars t) q.value (chars (body_in t body)) (chars (suffix_in t body)) q.parts
 
 abbrev pub Whether : Bool → Kind → List ℕ → Type 0
