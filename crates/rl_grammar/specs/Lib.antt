@@ -1,5 +1,6 @@
 pub mod NumberAt
 pub mod NumberShapes
+pub mod NumbersRead
 pub mod UnitAt
 pub mod Rows
 pub mod Forms
@@ -11,3 +12,4 @@ pub mod StrictShapes
 pub mod FrontTokens
 pub mod PlainAt
 pub mod Bodies
+pub mod Founds
