@@ -28,6 +28,7 @@ pub mod BeginsLemmas
 pub mod NestLemmas
 pub mod CutLemmas
 pub mod CursorLemmas
+pub mod Faults
 pub mod LexLoop
 pub mod LexEnds
 pub mod FlatTrees

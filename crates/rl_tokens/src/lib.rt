@@ -7,6 +7,7 @@ mod buffer;
 mod c_string;
 mod cursor;
 mod error;
+mod fault;
 mod front;
 pub mod ident;
 mod kept;
