@@ -1,25 +1,20 @@
 -- How the lexer's loop ends: all is cut, or the first fault stands here.
 use Rattle.std.proofs.Common.{◌≡◌, ℕ, ◌+◌, ◌⊎◌, inl, inr, List, [], ◌++◌, length, Some, Result, Ok, Err, refl, sym, ◌∙◌, ap, subst, arith}
-use Rattle.std.proofs.lemmas.Str.{encodes-chars, chars-nil}
+use Rattle.std.proofs.lemmas.Str.{chars-nil}
 use Rattle.std.specs.Result.{IfOk}
-use Rattle.std.proofs.lemmas.Bool.Decides.{nat_tests}
-use Rattle.std.proofs.lemmas.List.{nil_from_length}
 use Rattle.rl_tokens.specs.declared.token.TokenStream.{TokenStream}
-use Rattle.std.specs.Prelude.{codes, if◌then◌else◌}
-use Rattle.std.specs.Str.{chars, IsUtf8, encode_utf8_all}
+use Rattle.std.specs.Str.{chars, IsUtf8}
 use Rattle.rl_tokens.specs.declared.nest.Nest.{Nest}
 use Rattle.rl_tokens.specs.declared.lex_error.LexKind.{LexKind}
-use Rattle.rl_tokens.specs.declared.lex_error.LexKind.TheVariants.{DocComment, UnclosedComment, UnclosedQuote, Lifetime, RawIdentifier, StrayCharacter, UnmatchedClose, UnclosedGroup, TooDeep, Memory}
+use Rattle.rl_tokens.specs.declared.lex_error.LexKind.TheVariants.{UnmatchedClose, UnclosedGroup, TooDeep, Memory}
 use Rattle.rl_tokens.specs.declared.lex_error.LexError.{LexError}
-use Rattle.rl_tokens.specs.Texts.{begins}
 use Rattle.rl_tokens.specs.Lexemes.{LexemeBefore, Lexeme, QuotedLexeme, RawLexeme, CharacterLexeme, BasedLexeme, DecimalLexeme, IdentifierLexeme, DelimiterLexeme, MarkLexeme, lexeme_text, Form, form_of}
 use Rattle.rl_tokens.specs.LexemeAt.{form_view}
 use Rattle.rl_tokens.specs.declared.cursor.Lexeme.{Lexeme as Lent}
 use Rattle.rl_tokens.specs.Cursors.{Cutting, TakesNext, BeginsLexeme, IsFirstFault}
 use Rattle.rl_tokens.specs.Trees.{Tree, stream_view, flat_trees}
-use Rattle.rl_tokens.specs.Lexing.{byte_len, OpenGroup, Cuts, fault_place, begins_doc_comment, begins_quote, begins_lifetime, begins_raw_identifier, BeginsNoLexeme, FaultAt, Fault, LeavesRestAt, Refuses, Lexes}
-use Rattle.rl_tokens.specs.Nests.{groups_of, flat_nest, EndsInGroup, ClosesWrong, OpensTooDeep, RefusesForm, fault_kind}
-use Rattle.rl_tokens.proofs.Rests.{behind_length}
+use Rattle.rl_tokens.specs.Lexing.{OpenGroup, Cuts, fault_place, BeginsNoLexeme, FaultAt, Fault, LeavesRestAt, Refuses, Lexes}
+use Rattle.rl_tokens.specs.Nests.{groups_of, flat_nest, EndsInGroup, ClosesWrong, OpensTooDeep, RefusesForm}
 use Rattle.rl_tokens.proofs.LexLoop.{HasCut}
 use Rattle.rl_tokens.proofs.Faults.{rest_place, fault_refuses}
 

@@ -1,10 +1,10 @@
 -- What contracts see of a text that is cut token by token.
-use Rattle.std.specs.Prelude.{◌≡◌, ℕ, ◌+◌, List, [], ◌∷◌, ◌++◌, length, encode_utf8_all, Some}
+use Rattle.std.specs.Prelude.{◌≡◌, ℕ, ◌+◌, List, [], ◌∷◌, ◌++◌, length, encode_utf8_all, Option, Some, MatchOption}
 use Rattle.std.specs.Str.{chars, IsUtf8}
 use Rattle.rl_tokens.specs.Texts.{IsBehind}
 use Rattle.rl_tokens.specs.Lexemes.{lexeme_text, IsLexeme, LexemeBefore, form_of}
 use Rattle.rl_tokens.specs.LexemeAt.{form_view}
-use Rattle.rl_tokens.specs.Lexing.{Cut, end_of, Cuts, OpenGroup, open_groups, Fault}
+use Rattle.rl_tokens.specs.Lexing.{Cut, end_of, Cuts, OpenGroup, open_groups, Fault, BeginsNoLexeme}
 use Rattle.rl_tokens.specs.declared.cursor.Lexeme.{Lexeme}
 use Rattle.rl_tokens.specs.declared.lex_error.LexKind.{LexKind}
 
@@ -46,3 +46,7 @@ BeginsLexeme t = (after : List ℕ) × LexemeBefore t after
 abbrev pub IsFirstFault : Cutting → LexKind → ℕ → Type 0
 IsFirstFault t kind at =
     (cuts : List Cut) (groups : List OpenGroup) → Cuts 0 (chars t.text) cuts (chars t.rest) → open_groups [] cuts ≡ Some groups → Fault (chars t.text) kind at
+
+-- What the cursor gives: the next token, or nothing where none begins what is left, and then it stays.
+abbrev pub GivesNext : Cutting → Option Lexeme → Cutting → Type 0
+GivesNext old token new = MatchOption token (BeginsNoLexeme (chars old.rest) × (new ≡ old)) (λ l. TakesNext old l new)

@@ -110,9 +110,27 @@ impl<'t> Tokens<'t> {
     }
 }
 
+/// The tokens up to the first place where none begins; [`Tokens::fault`] then tells why.
+impl<'t> Iterator for Tokens<'t> {
+    ghost use Rattle.std.specs.Iterator.{at_most};
+    ghost use Rattle.rl_tokens.specs.Cursors.{GivesNext};
+
+    type Item = Lexeme<'t>;
+
+    ghost next_gives = { GivesNext };
+
+    ghost remaining = { λ t. at_most (length t.rest) };
+
+    #[inline(always)]
+    fn next(&mut self) -> Option<Lexeme<'t>> {
+        Tokens::next(self)
+    }
+}
+
 #[cfg(test)]
 mod tests {
     use super::*;
+    use crate::lex_error::LexKind;
 
     // Whether the next token has this text, at these bytes.
     fn takes(tokens: &mut Tokens<'_>, text: &str, lo: usize, hi: usize) -> bool {
@@ -130,5 +148,31 @@ mod tests {
         assert!(&rt; takes(&mut tokens, "'b'", 12, 15));
         assert!(&rt; tokens.next().is_none());
         assert_eq!(&rt; tokens.rest(), "`x");
+    }
+
+    // texts, and the kind and the place of the fault behind their tokens
+    const FAULTS: [(&str, LexKind, usize); 6] = [
+        ("1 /// a", LexKind::DocComment, 2),
+        ("(/* /* */", LexKind::UnclosedComment, 1),
+        ("] \"a", LexKind::UnclosedQuote, 2),
+        ("'b", LexKind::Lifetime, 0),
+        ("\u{e9} r#c", LexKind::RawIdentifier, 3),
+        ("x/**/`", LexKind::StrayCharacter, 5),
+    ];
+
+    #[test]
+    fn tells_faults(rt: HostRuntime) {
+        for (text, kind, at) in FAULTS {
+            let mut tokens = Tokens::new(text);
+            for _ in &mut tokens {}
+            assert_eq!(&rt; tokens.fault(), Some(LexError { kind, at }));
+        }
+    }
+
+    #[test]
+    fn goes_on(rt: HostRuntime) {
+        assert!(&rt; Tokens::new("1 `").fault().is_none());
+        assert!(&rt; Tokens::new(" /* a */ ").fault().is_none());
+        assert_eq!(&rt; Tokens::new("[1.5, x]").count(), 5);
     }
 }

@@ -1,5 +1,4 @@
 -- No lexeme begins what is left, so the fault is told.
-use Rattle.std.proofs.Common.{sym}
 use Rattle.std.specs.Str.{chars}
 use Rattle.rl_tokens.specs.Lexing.{BeginsNoLexeme}
 use Rattle.rl_tokens.proofs.Faults.{stops_here, none_some}
