@@ -22,6 +22,7 @@ pub mod LexemeRows
 pub mod LexemeFronts
 pub mod LexemeFound
 pub mod LexemeGaps
+pub mod NumberEnds
 pub mod LexemeAnswers
 pub mod TreeLemmas
 pub mod BeginsLemmas
