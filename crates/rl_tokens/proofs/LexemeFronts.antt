@@ -167,7 +167,7 @@ digit_not_start d is = start_ascii d (digit_low d is) ∙ false_unless (ascii_st
 not_digit_among : (codes : List ℕ) (d : ℕ) → list_all (λ k. not (is_ascii_digit k)) codes ≡ true → is_ascii_digit d ≡ true → is_among codes d ≡ false
 not_digit_among codes d all is = false_unless (is_among codes d) (λ h. let k : is_ascii_digit d ≡ false = not_true (is_ascii_digit d) (among codes (λ k. not (is_ascii_digit k)) d all h) in absurd (cc))
 
-class_digit : (d : ℕ) → is_ascii_digit d ≡ true → head_class d ≡ DigitHead
+pub class_digit : (d : ℕ) → is_ascii_digit d ≡ true → head_class d ≡ DigitHead
 class_digit d is =
     class_other d (digit_not_start d is)
     ∙ ap (λ b. cond b DelimiterHead (behind_delimiter d)) (not_digit_among delimiters d refl is)

@@ -22,12 +22,14 @@ pub mod LexemeRows
 pub mod LexemeFronts
 pub mod LexemeFound
 pub mod LexemeGaps
+pub mod NumberEnds
 pub mod LexemeAnswers
 pub mod TreeLemmas
 pub mod BeginsLemmas
 pub mod NestLemmas
 pub mod CutLemmas
 pub mod CursorLemmas
+pub mod Faults
 pub mod LexLoop
 pub mod LexEnds
 pub mod FlatTrees

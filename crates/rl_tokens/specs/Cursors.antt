@@ -1,11 +1,12 @@
 -- What contracts see of a text that is cut token by token.
-use Rattle.std.specs.Prelude.{◌≡◌, ℕ, ◌+◌, List, [], ◌∷◌, ◌++◌, length, encode_utf8_all}
+use Rattle.std.specs.Prelude.{◌≡◌, ℕ, ◌+◌, List, [], ◌∷◌, ◌++◌, length, encode_utf8_all, Option, Some, MatchOption}
 use Rattle.std.specs.Str.{chars, IsUtf8}
 use Rattle.rl_tokens.specs.Texts.{IsBehind}
-use Rattle.rl_tokens.specs.Lexemes.{lexeme_text, IsLexeme, form_of}
+use Rattle.rl_tokens.specs.Lexemes.{lexeme_text, IsLexeme, LexemeBefore, form_of}
 use Rattle.rl_tokens.specs.LexemeAt.{form_view}
-use Rattle.rl_tokens.specs.Lexing.{Cut, end_of, Cuts}
+use Rattle.rl_tokens.specs.Lexing.{Cut, end_of, Cuts, OpenGroup, open_groups, Fault, BeginsNoLexeme}
 use Rattle.rl_tokens.specs.declared.cursor.Lexeme.{Lexeme}
+use Rattle.rl_tokens.specs.declared.lex_error.LexKind.{LexKind}
 
 -- The text, and what is left of it. Both are bytes.
 pub record Cutting : Type 0 where
@@ -35,3 +36,17 @@ pub record TakesNext (old : Cutting) (l : Lexeme) (new : Cutting) : Type 0 where
   pub goes_on : (done : List Cut) → Cuts 0 (chars old.text) done (chars old.rest) → Cuts 0 (chars old.text) (done ++ cut ∷ []) (chars new.rest)
   pub same : new.text ≡ old.text
   pub behind : IsBehind old.rest new.rest
+
+-- A token begins the text.
+abbrev pub BeginsLexeme : List ℕ → Type 0
+BeginsLexeme t = (after : List ℕ) × LexemeBefore t after
+
+-- Where the text was cut into tokens whose groups open and close as they must, and this is left of it, its first fault is
+-- of this kind and stands at this byte.
+abbrev pub IsFirstFault : Cutting → LexKind → ℕ → Type 0
+IsFirstFault t kind at =
+    (cuts : List Cut) (groups : List OpenGroup) → Cuts 0 (chars t.text) cuts (chars t.rest) → open_groups [] cuts ≡ Some groups → Fault (chars t.text) kind at
+
+-- What the cursor gives: the next token, or nothing where none begins what is left, and then it stays.
+abbrev pub GivesNext : Cutting → Option Lexeme → Cutting → Type 0
+GivesNext old token new = MatchOption token (BeginsNoLexeme (chars old.rest) × (new ≡ old)) (λ l. TakesNext old l new)

@@ -1,10 +1,12 @@
 //! A text cut into tokens, one at a time.
 
-ghost use Rattle.std.specs.Prelude.{◌≡◌, ◌<◌, length, IfSome, IfNone};
+ghost use Rattle.std.specs.Prelude.{◌≡◌, ◌<◌, ◌+◌, ◌⊎◌, List, [], length, IfSome, IfNone};
 ghost use Rattle.std.specs.Str.{chars};
 ghost use Rattle.rl_tokens.specs.Trivia.{Skipped};
-ghost use Rattle.rl_tokens.specs.Lexing.{BeginsNoLexeme};
+ghost use Rattle.rl_tokens.specs.Lexing.{BeginsNoLexeme, OpenGroup, FaultAt};
 
+use crate::fault::fault_kind;
+use crate::lex_error::LexError;
 use crate::lexeme::{Form, first_lexeme};
 use crate::whitespace::skip;
 use std::marker::Model;
@@ -42,7 +44,7 @@ impl<'t> Model for Tokens<'t> {
 }
 
 impl<'t> Tokens<'t> {
-    ghost use Rattle.rl_tokens.specs.Cursors.{IsCutting, TakesNext};
+    ghost use Rattle.rl_tokens.specs.Cursors.{IsCutting, TakesNext, BeginsLexeme, IsFirstFault};
 
     /// The tokens of a text, from its front.
     pub fn new(text: &'t str) -> Tokens<'t>
@@ -73,6 +75,33 @@ impl<'t> Tokens<'t> {
         Some(Lexeme { form, text, lo, hi })
     }
 
+    /// Why no token begins what is left: the lexer's fault, and the byte where it stands in the whole text. `None` at the
+    /// end of the text, and where a token begins what is left. Groups aren't counted here, so the kind is the first six of
+    /// [`LexKind`](crate::LexKind)'s alone.
+    ///
+    /// ```
+    /// let mut tokens = Tokens::new("1 /* open");
+    /// assert!(tokens.fault().is_none());
+    /// assert!(tokens.next().is_some() && tokens.next().is_none());
+    /// assert_eq!(tokens.fault(), Some(LexError { kind: LexKind::UnclosedComment, at: 2 }));
+    /// ```
+    pub fn fault(&self) -> Option<LexError>
+        // It is a fault of what is left, whatever groups are open, and stands where that begins.
+        ensures fault { IfSome result (λ e. (groups : List OpenGroup) → FaultAt e.kind groups (chars self.now.rest)) }
+        ensures place { IfSome result (λ e. e.at + length self.now.rest ≡ length self.now.text) }
+        // It is the first fault of the text, however that was cut up to here.
+        ensures first { IfSome result (λ e. IsFirstFault self.now e.kind e.at) }
+        ensures stopped { IfSome result (λ e. BeginsNoLexeme (chars self.now.rest)) }
+        // Else the text ends here, or a token begins what is left.
+        ensures none { IfNone result ((self.now.rest ≡ []) ⊎ BeginsLexeme (chars self.now.rest)) }
+    {
+        if self.rest.is_empty() || first_lexeme(self.rest).is_some() {
+            return None;
+        }
+        let kind = fault_kind(self.rest);
+        Some(LexError::new(kind, self.text.len() - self.rest.len()))
+    }
+
     /// What is left of the text, behind white space and comments.
     pub fn rest(&self) -> &'t str
         ensures { result.now ≡ self.now.rest }
@@ -81,9 +110,27 @@ impl<'t> Tokens<'t> {
     }
 }
 
+/// The tokens up to the first place where none begins; [`Tokens::fault`] then tells why.
+impl<'t> Iterator for Tokens<'t> {
+    ghost use Rattle.std.specs.Iterator.{at_most};
+    ghost use Rattle.rl_tokens.specs.Cursors.{GivesNext};
+
+    type Item = Lexeme<'t>;
+
+    ghost next_gives = { GivesNext };
+
+    ghost remaining = { λ t. at_most (length t.rest) };
+
+    #[inline(always)]
+    fn next(&mut self) -> Option<Lexeme<'t>> {
+        Tokens::next(self)
+    }
+}
+
 #[cfg(test)]
 mod tests {
     use super::*;
+    use crate::lex_error::LexKind;
 
     // Whether the next token has this text, at these bytes.
     fn takes(tokens: &mut Tokens<'_>, text: &str, lo: usize, hi: usize) -> bool {
@@ -101,5 +148,31 @@ mod tests {
         assert!(&rt; takes(&mut tokens, "'b'", 12, 15));
         assert!(&rt; tokens.next().is_none());
         assert_eq!(&rt; tokens.rest(), "`x");
+    }
+
+    // texts, and the kind and the place of the fault behind their tokens
+    const FAULTS: [(&str, LexKind, usize); 6] = [
+        ("1 /// a", LexKind::DocComment, 2),
+        ("(/* /* */", LexKind::UnclosedComment, 1),
+        ("] \"a", LexKind::UnclosedQuote, 2),
+        ("'b", LexKind::Lifetime, 0),
+        ("\u{e9} r#c", LexKind::RawIdentifier, 3),
+        ("x/**/`", LexKind::StrayCharacter, 5),
+    ];
+
+    #[test]
+    fn tells_faults(rt: HostRuntime) {
+        for (text, kind, at) in FAULTS {
+            let mut tokens = Tokens::new(text);
+            for _ in &mut tokens {}
+            assert_eq!(&rt; tokens.fault(), Some(LexError { kind, at }));
+        }
+    }
+
+    #[test]
+    fn goes_on(rt: HostRuntime) {
+        assert!(&rt; Tokens::new("1 `").fault().is_none());
+        assert!(&rt; Tokens::new(" /* a */ ").fault().is_none());
+        assert_eq!(&rt; Tokens::new("[1.5, x]").count(), 5);
     }
 }

@@ -22,7 +22,7 @@ ghost use Rattle.rl_tokens.specs.LexemeAt.{
 use crate::characters::is_start;
 use crate::front::{begins_with, without_first};
 use crate::punct::Punct;
-use crate::text::split_char;
+use crate::text::{split_ascii, split_char};
 use number::{after_decimal, is_base_letter};
 pub(crate) use quoted::begins_hashed_quote;
 use quoted::{after_character, after_quoted, after_raw_literal};
@@ -42,6 +42,7 @@ pub enum Form {
 }
 
 /// The form of the lexeme that the text begins with, and the rest behind it. `None` where there is no such lexeme.
+#[inline(always)]
 pub(crate) fn first_lexeme(text: &str) -> Option<(Form, &str)>
     ensures found { IfSome result (λ p. FormBefore (chars text.now) (form_view p.0) (chars p.1.now)) }
     ensures none { IfNone result ((after : List ℕ) → LexemeBefore (chars text.now) after → ⊥) }
@@ -51,8 +52,26 @@ pub(crate) fn first_lexeme(text: &str) -> Option<(Form, &str)>
     lexeme_at(text)
 }
 
-// The same, as the first characters tell it.
+// The same, as the first characters tell it. A digit is told by its byte, before all else.
+#[inline(always)]
+#[tactic(auto, using(crate::proofs::BehindLemmas::behind_step, crate::proofs::NumberEnds::digit_first))]
 fn lexeme_at(text: &str) -> Option<(Form, &str)>
+    ensures rest { option_map (λ p. (form_view p.0, chars p.1.now)) result ≡ lexeme_at (chars text.now) }
+    ensures behind { IfSome result (λ p. IsBehind text.now p.1.now) }
+    ensures shorter { IfSome result (λ p. length p.1.now < length text.now) }
+{
+    if let Some((byte, behind)) = split_ascii(text) {
+        let c = byte as char;
+        if c.is_ascii_digit() {
+            return Some((Form::Literal, after_digit(c, behind)));
+        }
+    }
+    by_character(text)
+}
+
+// The same, by the first character and what stands behind it.
+#[inline(never)]
+fn by_character(text: &str) -> Option<(Form, &str)>
     ensures rest { option_map (λ p. (form_view p.0, chars p.1.now)) result ≡ lexeme_at (chars text.now) }
     ensures behind { IfSome result (λ p. IsBehind text.now p.1.now) }
     ensures shorter { IfSome result (λ p. length p.1.now < length text.now) }
@@ -128,6 +147,7 @@ fn after_other(c: char, text: &str) -> Option<(Form, &str)>
 }
 
 // What follows the number behind whose first digit the text stands.
+#[inline(always)]
 fn after_digit(c: char, text: &str) -> &str
     ensures rest { chars result.now ≡ after_digit c (chars text.now) }
     ensures behind { IsBehind text.now result.now }

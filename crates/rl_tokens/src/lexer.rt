@@ -1,31 +1,15 @@
 //! The lexer.
 
-ghost use Rattle.std.specs.Prelude.{List, ℕ, ◌≡◌, nat_lt, IfOk, IfErr, IsTrue};
+ghost use Rattle.std.specs.Prelude.{List, ℕ, ◌≡◌, IfOk, IfErr};
 ghost use Rattle.std.specs.Str.{chars};
-ghost use Rattle.std.specs.List.{list_all};
-ghost use Rattle.rl_tokens.specs.Texts.{begins};
-ghost use Rattle.rl_tokens.specs.Nests.{fault_kind};
-ghost use Rattle.rl_tokens.specs.Lexing.{
-  begins_doc_comment,
-  begins_quote,
-  begins_raw,
-  begins_lifetime,
-  begins_raw_identifier,
-  Lexes,
-  Refuses,
-  OneList,
-  OneFault,
-  NeverBoth,
-};
+ghost use Rattle.rl_tokens.specs.declared.lex_error.LexKind.{LexKind};
+ghost use Rattle.rl_tokens.specs.Lexing.{Lexes, Refuses, OneList, OneFault, NeverBoth};
 ghost use Rattle.rl_tokens.specs.Printed.{Entry, Printed, Reprinted, printed_trees};
 ghost use Rattle.rl_tokens.specs.Trees.{stream_view};
 
-use crate::characters::is_start;
 use crate::cursor::Tokens;
-use crate::lex_error::{LexError, LexKind};
-use crate::lexeme::{begins_hashed_quote, begins_marked_identifier};
+use crate::lex_error::LexError;
 use crate::nest::Nest;
-use crate::text::split_char;
 use crate::token::TokenStream;
 use std::alloc::Allocator;
 
@@ -55,96 +39,9 @@ pub fn lex<A: Allocator + Copy>(alloc: A, text: &str, file: u32) -> Result<Token
     while let Some(token) = tokens.next() {
         nest.add(token.form, token.text, token.lo, token.hi)?;
     }
-    let rest = tokens.rest();
-    if rest.is_empty() {
-        nest.finish()
-    } else {
-        Err(LexError::new(fault_kind(rest), text.len() - rest.len()))
-    }
-}
-
-// Why no lexeme begins the text.
-fn fault_kind(rest: &str) -> LexKind
-    ensures { result ≡ fault_kind (chars rest.now) }
-{
-    if begins_doc_comment(rest) {
-        LexKind::DocComment
-    } else if begins(rest, "/*") {
-        LexKind::UnclosedComment
-    } else if begins_quote(rest) {
-        LexKind::UnclosedQuote
-    } else if begins_lifetime(rest) {
-        LexKind::Lifetime
-    } else if begins_raw_identifier(rest) {
-        LexKind::RawIdentifier
-    } else {
-        LexKind::StrayCharacter
-    }
-}
-
-// Whether the text begins with these characters, which are ASCII.
-fn begins(text: &str, word: &str) -> bool
-    requires { IsTrue (list_all (λ c. nat_lt c 128) word.now) }
-    ensures { result ≡ begins word.now (chars text.now) }
-{
-    text.starts_with(word)
-}
-
-fn begins_doc_comment(text: &str) -> bool
-    ensures { result ≡ begins_doc_comment (chars text.now) }
-{
-    (begins(text, "///") && !begins(text, "////"))
-        || begins(text, "//!")
-        || (begins(text, "/**") && !(begins(text, "/**/") || begins(text, "/***")))
-        || begins(text, "/*!")
-}
-
-// Whether a quoted or raw opener begins the text, a byte's opener, or an apostrophe that begins no lifetime.
-fn begins_quote(text: &str) -> bool
-    ensures { result ≡ begins_quote (chars text.now) }
-{
-    begins(text, "\"")
-        || begins(text, "b\"")
-        || begins(text, "c\"")
-        || begins_raw(text)
-        || begins(text, "b'")
-        || (begins(text, "'") && !begins_lifetime(text))
-}
-
-// Whether the opener of a raw literal begins the text.
-fn begins_raw(text: &str) -> bool
-    ensures { result ≡ begins_raw (chars text.now) }
-{
-    match split_char(text) {
-        Some(('r', behind)) => begins_hashed_quote(behind),
-        Some(('b' | 'c', behind)) => match split_char(behind) {
-            Some(('r', hashes)) => begins_hashed_quote(hashes),
-            _ => false,
-        },
-        _ => false,
-    }
-}
-
-// Whether an apostrophe and an identifier's start begin the text.
-fn begins_lifetime(text: &str) -> bool
-    ensures { result ≡ begins_lifetime (chars text.now) }
-{
-    match split_char(text) {
-        Some(('\'', behind)) => match split_char(behind) {
-            Some((c, _)) => is_start(c),
-            None => false,
-        },
-        _ => false,
-    }
-}
-
-// Whether `r#` and an identifier's start begin the text.
-fn begins_raw_identifier(text: &str) -> bool
-    ensures { result ≡ begins_raw_identifier (chars text.now) }
-{
-    match split_char(text) {
-        Some(('r', behind)) => begins_marked_identifier(behind),
-        _ => false,
+    match tokens.fault() {
+        Some(fault) => Err(fault),
+        None => nest.finish(),
     }
 }
 

@@ -8,6 +8,7 @@ mod c_string;
 pub mod characters;
 mod cursor;
 mod error;
+mod fault;
 mod front;
 pub mod ident;
 mod kept;

@@ -1,23 +1,48 @@
 //! Numbers.
 #![tactic(auto, using(crate::proofs::BehindLemmas::behind_step))]
 
-ghost use Rattle.std.specs.Prelude.{◌≡◌};
+ghost use Rattle.std.specs.Prelude.{◌≡◌, ◌==◌, ◌||◌, not, IsTrue};
 ghost use Rattle.std.specs.Str.{chars};
-ghost use Rattle.rl_tokens.specs.Texts.{IsBehind};
+ghost use Rattle.rl_tokens.specs.Texts.{is_start, passes, IsBehind};
 ghost use Rattle.rl_tokens.specs.Lexemes.{is_base_letter, after_sign, begins_dot};
-ghost use Rattle.rl_tokens.specs.LexemeAt.{after_fraction, after_exponent, after_decimal};
+ghost use Rattle.rl_tokens.specs.LexemeAt.{after_fraction, after_exponent, after_decimal, after_suffix};
 
 use super::rows::{Row, after_row, after_suffix};
 use crate::characters::is_start;
 use crate::front::without_first;
-use crate::text::split_char;
+use crate::text::{split_ascii, split_char};
 
 /// What follows the decimal behind whose first digit the text stands.
+#[inline(always)]
 pub(crate) fn after_decimal(text: &str) -> &str
     ensures rest { chars result.now ≡ after_decimal (chars text.now) }
     ensures behind { IsBehind text.now result.now }
 {
-    after_suffix(after_exponent(after_fraction(after_row(Row::Numeral, text))))
+    let rest = after_row(Row::Numeral, text);
+    if ends_number(rest) {
+        return rest;
+    }
+    after_parts(rest)
+}
+
+// Whether the text begins with a character of ASCII that goes on with no number.
+#[inline(always)]
+fn ends_number(text: &str) -> bool
+    ensures { IsTrue result → IsTrue (passes (λ c. not (c == 46 || is_start c)) (chars text.now)) }
+{
+    match split_ascii(text) {
+        Some((byte, _)) => !(byte == b'.' || is_start(byte as char)),
+        None => false,
+    }
+}
+
+// What follows the dot part, the exponent and the suffix, where these stand.
+#[inline(never)]
+fn after_parts(text: &str) -> &str
+    ensures rest { chars result.now ≡ after_suffix (after_exponent (after_fraction (chars text.now))) }
+    ensures behind { IsBehind text.now result.now }
+{
+    after_suffix(after_exponent(after_fraction(text)))
 }
 
 /// Whether the character tells a base behind a zero.

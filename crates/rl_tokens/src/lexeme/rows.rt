@@ -8,7 +8,7 @@ ghost use Rattle.rl_tokens.specs.Lexemes.{after_run, is_hash, begins_hashes};
 ghost use Rattle.rl_tokens.specs.LexemeAt.{row_test, after_suffix, hashes};
 
 use crate::characters::{is_continue, is_start};
-use crate::text::split_char;
+use crate::text::{split_ascii, split_char};
 
 /// A kind of row, by what it holds.
 #[derive(Clone, Copy)]
@@ -32,8 +32,26 @@ fn holds(row: Row, c: char) -> bool
     }
 }
 
-/// What follows the longest row of this kind, perhaps an empty one.
+/// What follows the longest row of this kind, perhaps an empty one. It is inlined for the kind that its caller names,
+/// and goes by bytes up to the first character past ASCII.
+#[inline(always)]
 pub(crate) fn after_row(row: Row, text: &str) -> &str
+    ensures rest { chars result.now ≡ after_run (row_test row) (chars text.now) }
+    ensures behind { IsBehind text.now result.now }
+{
+    let mut rest = text;
+    while let Some((byte, behind)) = split_ascii(rest) {
+        if !holds(row, byte as char) {
+            return rest;
+        }
+        rest = behind;
+    }
+    after_wide_row(row, rest)
+}
+
+// The same, character by character.
+#[inline(never)]
+fn after_wide_row(row: Row, text: &str) -> &str
     ensures rest { chars result.now ≡ after_run (row_test row) (chars text.now) }
     ensures behind { IsBehind text.now result.now }
 {
@@ -48,7 +66,20 @@ pub(crate) fn after_row(row: Row, text: &str) -> &str
 }
 
 /// What follows the suffix of a literal, perhaps an empty one.
+#[inline(always)]
 pub(crate) fn after_suffix(text: &str) -> &str
+    ensures rest { chars result.now ≡ after_suffix (chars text.now) }
+    ensures behind { IsBehind text.now result.now }
+{
+    match split_ascii(text) {
+        Some((byte, _)) if !is_start(byte as char) => text,
+        _ => after_some_suffix(text),
+    }
+}
+
+// The same, where one may stand.
+#[inline(never)]
+fn after_some_suffix(text: &str) -> &str
     ensures rest { chars result.now ≡ after_suffix (chars text.now) }
     ensures behind { IsBehind text.now result.now }
 {

@@ -1,5 +1,6 @@
 use super::*;
 use crate::error::Error;
+use crate::lex_error::LexKind;
 use crate::literal::Literal;
 use crate::span::Span;
 use crate::token::{Delimiter, Group, TokenTree};

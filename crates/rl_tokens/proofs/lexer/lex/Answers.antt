@@ -1,13 +1,9 @@
 -- Each turn goes one token further; at the end all is cut, or the first fault stands here.
-use Rattle.std.proofs.Common.{◌≡◌, ◌-◌, List, ℕ, [], length, sym, ◌∙◌, ap, subst}
+use Rattle.std.proofs.Common.{◌≡◌, [], ◌∙◌}
 use Rattle.std.proofs.lemmas.Result.{IfErr-weaker, err_from_is_err_and}
-use Rattle.rl_tokens.specs.declared.lex_error.LexError.{LexError}
-use Rattle.rl_tokens.specs.Cursors.{Cutting}
 use Rattle.rl_tokens.specs.Nests.{groups_of, EndsInGroup}
-use Rattle.rl_tokens.specs.Lexing.{BeginsNoLexeme}
-use Rattle.std.specs.Str.{chars}
-use Rattle.rl_tokens.proofs.LexLoop.{token_fits, HasCut, has_none, has_more}
-use Rattle.rl_tokens.proofs.LexEnds.{empty_text, some_text, all_done, ends_open, refused_token, no_lexeme_here}
+use Rattle.rl_tokens.proofs.LexLoop.{token_fits, has_none, has_more}
+use Rattle.rl_tokens.proofs.LexEnds.{all_done, ends_open, refused_token, fault_told, told_end}
 use Rattle.rl_tokens.proofs.LexLaws.{one_list, one_fault, never_both}
 use Rattle.rl_tokens.proofs.PrintedAnswers.{printed_answer, reprinted_answer, printed_refusal, reprinted_refusal, no_trees}
 use Rattle.rl_tokens.proofs.lexer.lex.Goals as goal
@@ -34,28 +30,19 @@ returns-in_err-add-clause-refused g c =
     (refused_token c.args.text.now c.loop-token.tokens c.next.new.self c.args.file c.loop-token.nest c.in-Some.token c.in_err-add.field-0.0
     c.utf8.text c.loop-token.invariant.same c.loop-token.invariant.has c.in-Some.ensures.next c.in_err-add.ensures.at c.in_err-add.ensures.kind)
 
-pub returns-then-is_empty-clause-trees : goal.returns-then-is_empty-clause-trees
-returns-then-is_empty-clause-trees g c =
-    let left : c.rest-rest.result.now ≡ c.loop-token.tokens.rest = c.rest-rest.ensures ∙ ap (λ (t : Cutting). t.rest) c.in_default.ensures.stays in
-    let empty : c.loop-token.tokens.rest ≡ [] = sym left ∙ empty_text c.rest-rest.result.now (sym c.is_empty.ensures ∙ c.if-is_empty.true) in
+pub returns-in-None-clause-trees : goal.returns-in-None-clause-trees
+returns-in-None-clause-trees g c =
+    let empty : c.loop-token.tokens.rest ≡ [] = told_end c.loop-token.tokens c.next.new.self c.in_default.ensures.stays c.in_default.ensures.none c.in-None.ensures.none in
     all_done c.args.text.now c.loop-token.tokens.rest c.args.file c.loop-token.nest c.finish.result c.loop-token.invariant.has empty c.finish.ensures.none_open c.finish.ensures.flat
 
-pub returns-then-is_empty-clause-refused : goal.returns-then-is_empty-clause-refused
-returns-then-is_empty-clause-refused g c =
-    let left : c.rest-rest.result.now ≡ c.loop-token.tokens.rest = c.rest-rest.ensures ∙ ap (λ (t : Cutting). t.rest) c.in_default.ensures.stays in
-    let empty : c.loop-token.tokens.rest ≡ [] = sym left ∙ empty_text c.rest-rest.result.now (sym c.is_empty.ensures ∙ c.if-is_empty.true) in
+pub returns-in-None-clause-refused : goal.returns-in-None-clause-refused
+returns-in-None-clause-refused g c =
+    let empty : c.loop-token.tokens.rest ≡ [] = told_end c.loop-token.tokens c.next.new.self c.in_default.ensures.stays c.in_default.ensures.none c.in-None.ensures.none in
     IfErr-weaker c.finish.result (EndsInGroup (groups_of c.loop-token.nest)) _ (λ e h. ends_open c.args.text.now c.loop-token.tokens.rest c.args.file c.loop-token.nest e c.utf8.text c.loop-token.invariant.has empty h) c.finish.ensures.err
 
-pub returns-else-is_empty-clause-refused : goal.returns-else-is_empty-clause-refused
-returns-else-is_empty-clause-refused g c =
-    let T = c.args.text.now in
-    let R = c.rest-rest.result.now in
-    let left : c.loop-token.tokens.rest ≡ R = sym (c.rest-rest.ensures ∙ ap (λ (t : Cutting). t.rest) c.in_default.ensures.stays) in
-    no_lexeme_here T R c.args.file c.loop-token.nest c.new.result c.utf8.text
-    (subst (λ (r : List ℕ). HasCut T r c.args.file c.loop-token.nest) left c.loop-token.invariant.has)
-    (some_text R (sym c.is_empty.ensures ∙ c.if-is_empty.false))
-    (subst (λ (r : List ℕ). BeginsNoLexeme (chars r)) left c.in_default.ensures.none)
-    (c.new.ensures ∙ ap (λ k. let e : LexError = record { kind = k; at = length T - length R } in e) c.fault_kind.ensures)
+pub returns-in-Some-fault-clause-refused : goal.returns-in-Some-fault-clause-refused
+returns-in-Some-fault-clause-refused g c =
+    fault_told c.args.text.now c.loop-token.tokens c.next.new.self c.args.file c.loop-token.nest c.in-Some-fault.fault c.loop-token.invariant.same c.in_default.ensures.stays c.loop-token.invariant.has c.in-Some-fault.ensures.first
 
 pub returns-in_err-add-clause-one_list : goal.returns-in_err-add-clause-one_list
 returns-in_err-add-clause-one_list g c = one_list
@@ -66,23 +53,23 @@ returns-in_err-add-clause-one_fault g c = one_fault
 pub returns-in_err-add-clause-never_both : goal.returns-in_err-add-clause-never_both
 returns-in_err-add-clause-never_both g c = never_both
 
-pub returns-then-is_empty-clause-one_list : goal.returns-then-is_empty-clause-one_list
-returns-then-is_empty-clause-one_list g c = one_list
+pub returns-in-None-clause-one_list : goal.returns-in-None-clause-one_list
+returns-in-None-clause-one_list g c = one_list
 
-pub returns-then-is_empty-clause-one_fault : goal.returns-then-is_empty-clause-one_fault
-returns-then-is_empty-clause-one_fault g c = one_fault
+pub returns-in-None-clause-one_fault : goal.returns-in-None-clause-one_fault
+returns-in-None-clause-one_fault g c = one_fault
 
-pub returns-then-is_empty-clause-never_both : goal.returns-then-is_empty-clause-never_both
-returns-then-is_empty-clause-never_both g c = never_both
+pub returns-in-None-clause-never_both : goal.returns-in-None-clause-never_both
+returns-in-None-clause-never_both g c = never_both
 
-pub returns-else-is_empty-clause-one_list : goal.returns-else-is_empty-clause-one_list
-returns-else-is_empty-clause-one_list g c = one_list
+pub returns-in-Some-fault-clause-one_list : goal.returns-in-Some-fault-clause-one_list
+returns-in-Some-fault-clause-one_list g c = one_list
 
-pub returns-else-is_empty-clause-one_fault : goal.returns-else-is_empty-clause-one_fault
-returns-else-is_empty-clause-one_fault g c = one_fault
+pub returns-in-Some-fault-clause-one_fault : goal.returns-in-Some-fault-clause-one_fault
+returns-in-Some-fault-clause-one_fault g c = one_fault
 
-pub returns-else-is_empty-clause-never_both : goal.returns-else-is_empty-clause-never_both
-returns-else-is_empty-clause-never_both g c = never_both
+pub returns-in-Some-fault-clause-never_both : goal.returns-in-Some-fault-clause-never_both
+returns-in-Some-fault-clause-never_both g c = never_both
 
 pub returns-in_err-add-clause-printed : goal.returns-in_err-add-clause-printed
 returns-in_err-add-clause-printed g c = printed_answer c.args.text.now c.args.file c.from_residual.result (no_trees _ _ c.from_residual.result c.from_residual.ensures.1) (returns-in_err-add-clause-refused g c)
@@ -90,14 +77,14 @@ returns-in_err-add-clause-printed g c = printed_answer c.args.text.now c.args.fi
 pub returns-in_err-add-clause-reprinted : goal.returns-in_err-add-clause-reprinted
 returns-in_err-add-clause-reprinted g c = reprinted_answer c.args.text.now c.args.file c.from_residual.result (no_trees _ _ c.from_residual.result c.from_residual.ensures.1) (returns-in_err-add-clause-refused g c)
 
-pub returns-then-is_empty-clause-printed : goal.returns-then-is_empty-clause-printed
-returns-then-is_empty-clause-printed g c = printed_answer c.args.text.now c.args.file c.finish.result (returns-then-is_empty-clause-trees g c) (returns-then-is_empty-clause-refused g c)
+pub returns-in-None-clause-printed : goal.returns-in-None-clause-printed
+returns-in-None-clause-printed g c = printed_answer c.args.text.now c.args.file c.finish.result (returns-in-None-clause-trees g c) (returns-in-None-clause-refused g c)
 
-pub returns-then-is_empty-clause-reprinted : goal.returns-then-is_empty-clause-reprinted
-returns-then-is_empty-clause-reprinted g c = reprinted_answer c.args.text.now c.args.file c.finish.result (returns-then-is_empty-clause-trees g c) (returns-then-is_empty-clause-refused g c)
+pub returns-in-None-clause-reprinted : goal.returns-in-None-clause-reprinted
+returns-in-None-clause-reprinted g c = reprinted_answer c.args.text.now c.args.file c.finish.result (returns-in-None-clause-trees g c) (returns-in-None-clause-refused g c)
 
-pub returns-else-is_empty-clause-printed : goal.returns-else-is_empty-clause-printed
-returns-else-is_empty-clause-printed g c = printed_refusal c.args.text.now c.args.file c.new.result (returns-else-is_empty-clause-refused g c)
+pub returns-in-Some-fault-clause-printed : goal.returns-in-Some-fault-clause-printed
+returns-in-Some-fault-clause-printed g c = printed_refusal c.args.text.now c.args.file _ (returns-in-Some-fault-clause-refused g c)
 
-pub returns-else-is_empty-clause-reprinted : goal.returns-else-is_empty-clause-reprinted
-returns-else-is_empty-clause-reprinted g c = reprinted_refusal c.args.text.now c.args.file c.new.result (returns-else-is_empty-clause-refused g c)
+pub returns-in-Some-fault-clause-reprinted : goal.returns-in-Some-fault-clause-reprinted
+returns-in-Some-fault-clause-reprinted g c = reprinted_refusal c.args.text.now c.args.file _ (returns-in-Some-fault-clause-refused g c)

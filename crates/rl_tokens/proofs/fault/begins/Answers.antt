@@ -2,7 +2,7 @@
 use Rattle.std.proofs.Common.{◌∙◌}
 use Rattle.std.proofs.lemmas.Str.Pattern.{starts_text}
 use Rattle.rl_tokens.proofs.BeginsLemmas.{begins_bytes, starts_begins}
-use Rattle.rl_tokens.proofs.lexer.begins.Goals as goal
+use Rattle.rl_tokens.proofs.fault.begins.Goals as goal
 
 pub returns : goal.returns
 returns c =

@@ -1,0 +1,12 @@
+-- The rest is behind the text, step by step.
+use Rattle.rl_tokens.proofs.BehindLemmas.{behind_step}
+use Rattle.rl_tokens.proofs.lexeme.number.after_parts.Goals as goal
+
+pub returns-clause-behind : goal.returns-clause-behind
+returns-clause-behind c =
+    let t = c.args.text.now in
+    let fraction = c.after_fraction.result.now in
+    let exponent = c.after_exponent.result.now in
+    behind_step t exponent c.after_suffix.result.now
+    (behind_step t fraction exponent c.after_fraction.ensures.behind c.after_exponent.ensures.behind)
+    c.after_suffix.ensures.behind
