@@ -10,7 +10,6 @@ use Rattle.rl_tokens.specs.Reading.{Contents, Bytes, Reads, ReadsAs, ReadsQuoted
 use Rattle.rl_tokens.proofs.OneReading.{one_reading}
 use Rattle.rl_tokens.proofs.CStringContents.{c_string_no_zero}
 use Rattle.rl_grammar.specs.declared.bodies.Body.{Body}
-use Rattle.rl_grammar.specs.declared.quoted.Form.{Form}
 use Rattle.rl_grammar.specs.Bodies.{HasBody, IsBodyAt}
 use Rattle.rl_grammar.specs.Forms.{PartsAre}
 use Rattle.rl_grammar.specs.WholeShapes.{IsPlain}

@@ -15,9 +15,9 @@ pub record ReadsUpTo (kind : Kind) (text : List ℕ) (at : ℕ) : Type 0 where
   pub boundary : IsCharBoundary text at
 
 -- The text, in bytes, is a literal of the kind whose parts stand at these places; the body is told of strings alone.
-pub record StandsAt (kind : Kind) (text : List ℕ) (body : Body) : Type 0 where
-  pub suffix : ReadsUpTo kind text body.suffix_at
-  pub body : is_string kind ≡ true → IsBodyAt kind text body
+pub record StandsAt (kind : Kind) (text : List ℕ) (places : Body) : Type 0 where
+  pub suffix : ReadsUpTo kind text places.suffix_at
+  pub body : is_string kind ≡ true → IsBodyAt kind text places
 
 -- the text is what some value is written as
 abbrev pub IsWritten : Kind → List ℕ → Type 0

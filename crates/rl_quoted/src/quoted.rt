@@ -7,7 +7,7 @@ ghost use Rattle.std.specs.Cmp.Rules.{hashing};
 ghost use Rattle.std.specs.Hash as fed;
 ghost use Rattle.std.specs.Ordering.{on};
 ghost use Rattle.std.proofs.Common.{rules};
-ghost use Rattle.std.specs.Str.{chars};
+ghost use Rattle.std.specs.Str.{chars, IsUtf8};
 ghost use Rattle.rl_tokens.specs.declared.kind.Kind.{Kind};
 ghost use Rattle.rl_tokens.specs.Errors.{memory_at};
 ghost use Rattle.rl_tokens.specs.Reading.{HasSuffix, ReadsAs};
@@ -92,6 +92,7 @@ impl<K: QuotedKind, A: Allocator> Quoted<K, A> {
     pub(crate) fn body(&self) -> (&str, bool)
         requires { IsTrue (is_string K.KIND) }
         ensures stands { HasBody K.KIND (chars self.now.text) result.0.now result.1 }
+        ensures text { IsUtf8 self.now.text }
         ensures plain { IsTrue result.1 ↔ IsPlain K.KIND self.now.text }
     {
         let parts = self.parts;

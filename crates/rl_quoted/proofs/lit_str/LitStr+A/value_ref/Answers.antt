@@ -5,6 +5,5 @@ use Rattle.rl_quoted.proofs.lit_str.LitStr+A.value_ref.Goals as goal
 
 pub returns-then-plain-clause-some : goal.returns-then-plain-clause-some
 returns-then-plain-clause-some g c =
-    let text : IsUtf8 c.args.self.now.text = search rules in
-    let body : IsUtf8 c.body.result.0.now = search rules in
-    plain_contents _ _ _ c.if-plain.true c.body.ensures.stands text body
+    let body : IsUtf8 c.body-plain.result.0.now = search rules in
+    plain_contents _ _ _ c.if-plain.true c.body-plain.ensures.stands c.body-plain.ensures.text body
