@@ -31,3 +31,4 @@ pub mod BodyLemmas
 pub mod AsciiLemmas
 pub mod PlaceLemmas
 pub mod BodyContents
+pub mod FoundLemmas

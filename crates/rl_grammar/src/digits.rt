@@ -107,7 +107,7 @@ fn is_plain_digits(text: &str) -> bool
 }
 
 /// The same, perhaps behind a minus.
-fn is_plain_integer(body: &str) -> bool
+pub(crate) fn is_plain_integer(body: &str) -> bool
     ensures { result ≡ is_plain_integer (chars body.now) }
 {
     is_plain_digits(after_minus(body))
@@ -128,7 +128,7 @@ fn keeps_all(numeral: &[u8]) -> bool
 }
 
 /// Whether a float's digits are its numeral as it stands.
-fn is_plain_float(numeral: &str) -> bool
+pub(crate) fn is_plain_float(numeral: &str) -> bool
     ensures { result ≡ is_plain_float (chars numeral.now) }
 {
     keeps_all(numeral.as_bytes())
