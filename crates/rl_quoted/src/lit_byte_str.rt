@@ -31,7 +31,7 @@ impl<A: Allocator> LitByteStr<A> {
         ensures memory { IfErr result (λ e. e ≡ memory_at span) }
     {
         match Literal::byte_string(alloc, value) {
-            Ok(token) => Ok(Quoted::written(token, span)),
+            Ok(token) => Ok(Quoted::written(token, value, span)),
             Err(_) => Err(Error::memory(span)),
         }
     }

@@ -35,7 +35,7 @@ impl<A: Allocator> LitCStr<A> {
         ensures memory { IfErr result (λ e. e ≡ memory_at span) }
     {
         match Literal::c_string(alloc, value) {
-            Ok(token) => Ok(Quoted::written(token, span)),
+            Ok(token) => Ok(Quoted::written(token, value.as_bytes(), span)),
             Err(_) => Err(Error::memory(span)),
         }
     }

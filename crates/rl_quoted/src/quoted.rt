@@ -14,13 +14,14 @@ ghost use Rattle.rl_tokens.specs.Reading.{HasSuffix, ReadsAs};
 ghost use Rattle.rl_tokens.specs.Trees.{LiteralTree, stream_view};
 ghost use Rattle.rl_tokens.specs.Quoted.{is_string};
 ghost use Rattle.rl_grammar.specs.Bodies.{HasBody};
+ghost use Rattle.rl_grammar.specs.Founds.{IsFound, is_quoted};
 ghost use Rattle.rl_grammar.specs.WholeShapes.{IsPlain};
-ghost use Rattle.rl_quoted.specs.Places.{IsWritten, StandsAt};
+ghost use Rattle.rl_quoted.specs.Places.{IsWrittenAs, StandsAt};
 ghost use Rattle.rl_quoted.specs.Words.{kind_name};
 
-use crate::place::places_of;
 use crate::words::{name_of, shown_as, word_of};
-use rl_grammar::{Body, Kind, next_is, take_kind};
+use crate::written::written_body;
+use rl_grammar::{Body, Found, Kind, find, next_is, take_kind};
 use rl_tokens::{
     Error, Literal, Parse, ParseBuffer, Span, ToTokens, Token, TokenStream, append_literal,
 };
@@ -41,7 +42,7 @@ pub trait QuotedKind {
 #[derive(Drop)]
 pub struct Quoted<K: QuotedKind, A: Allocator = Global> {
     pub(crate) token: Literal<A>,
-    parts: Body,
+    body: Body,
     of: PhantomData<K>,
 }
 
@@ -54,7 +55,7 @@ impl<K: QuotedKind, A: Allocator> Model for Quoted<K, A> {
 
     ghost view = { λ l. l.token };
 
-    ghost invariant = { λ l. StandsAt K.KIND l.token.text l.parts };
+    ghost invariant = { λ l. StandsAt K.KIND l.token.text l.body };
 }
 
 impl<K: QuotedKind, A: Allocator> Quoted<K, A> {
@@ -63,29 +64,38 @@ impl<K: QuotedKind, A: Allocator> Quoted<K, A> {
         requires { ReadsAs K.KIND (chars token.text) }
         ensures { result ≡ token }
     {
-        let parts = places_of(K::KIND, token.text());
-        Quoted::of_parts(token, parts)
+        match find(token.text()) {
+            Some(found) => Quoted::of_found(token, found),
+            None => unreachable!(),
+        }
     }
 
-    /// The literal of this token, whose text reads as the kind with its parts at these places.
-    pub fn of_parts(token: Literal<A>, parts: Body) -> Quoted<K, A>
-        requires { StandsAt K.KIND token.text parts }
+    /// The literal of this token, in whose text [`find`] found this literal of the kind.
+    pub fn of_found(token: Literal<A>, found: Found) -> Quoted<K, A>
+        requires found { IsFound token.text found }
+        requires kind { found.kind ≡ K.KIND }
         ensures { result ≡ token }
     {
         Quoted {
             token,
-            parts,
+            body: found.body,
             of: PhantomData,
         }
     }
 
-    /// The literal of this token, which the writer wrote, at this span.
-    pub(crate) fn written(mut token: Literal<A>, span: Span) -> Quoted<K, A>
-        requires { IsWritten K.KIND (chars token.text) }
+    /// The literal of this token, which the writer wrote of the value with these bytes, at this span.
+    pub(crate) fn written(mut token: Literal<A>, value: &[u8], span: Span) -> Quoted<K, A>
+        requires quoted { IsTrue (is_quoted K.KIND) }
+        requires written { IsWrittenAs K.KIND value.now (chars token.text) }
         ensures { result ≡ record token { span = span } }
     {
         token.set_span(span);
-        Quoted::of_token(token)
+        let body = written_body(K::KIND, token.text(), value);
+        Quoted {
+            token,
+            body,
+            of: PhantomData,
+        }
     }
 
     /// What stands between the quotes of a string, and whether that is its contents, byte for byte.
@@ -95,15 +105,15 @@ impl<K: QuotedKind, A: Allocator> Quoted<K, A> {
         ensures text { IsUtf8 self.now.text }
         ensures plain { IsTrue result.1 ↔ IsPlain K.KIND self.now.text }
     {
-        let parts = self.parts;
-        (&self.token.text()[parts.at..parts.end], parts.plain)
+        let body = self.body;
+        (&self.token.text()[body.at..body.end], body.plain)
     }
 
     /// What stands behind the closing quote.
     pub fn suffix(&self) -> &str
         ensures { HasSuffix K.KIND (chars self.now.text) (chars result.now) }
     {
-        &self.token.text()[self.parts.suffix_at..]
+        &self.token.text()[self.body.suffix_at..]
     }
 
     /// Where the literal stands.
@@ -134,7 +144,11 @@ impl<K: QuotedKind, A: Allocator> Quoted<K, A> {
         ensures memory { IfErr result (λ e. e ≡ memory_at self.now.span) }
     {
         match self.token.clone(alloc) {
-            Ok(token) => Ok(Quoted::of_parts(token, self.parts)),
+            Ok(token) => Ok(Quoted {
+                token,
+                body: self.body,
+                of: PhantomData,
+            }),
             Err(error) => Err(error),
         }
     }
