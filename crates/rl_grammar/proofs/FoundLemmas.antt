@@ -40,10 +40,10 @@ suffix_text t body u s = IsUtf8-drop t body.suffix_at u s.behind
 pub quoted_cut : (kind : Kind) (t : List ℕ) (body : Body) → IsUtf8 t → IsQuotedAt kind t body → IsQuotedCut kind t (body_in t body) (suffix_in t body)
 quoted_cut kind t body u q = parts_cut q.form kind t q.value (body_in t body) (suffix_in t body) u (body_text t body u q.stands) (suffix_text t body u q.stands) q.parts
 
-quoted_reads : (kind : Kind) (t : List ℕ) (body : Body) (q : IsQuotedAt kind t body) → ReadsQuoted (chars t) kind (quoted_contents kind q.value) (chars (suffix_in t body))
+pub quoted_reads : (kind : Kind) (t : List ℕ) (body : Body) (q : IsQuotedAt kind t body) → ReadsQuoted (chars t) kind (quoted_contents kind q.value) (chars (suffix_in t body))
 quoted_reads kind t body q = parts_read q.form kind (chars t) q.value (chars (body_in t body)) (chars (suffix_in t body)) q.parts
 
-abbrev Whether : Bool → Kind → List ℕ → Type 0
+abbrev pub Whether : Bool → Kind → List ℕ → Type 0
 Whether b k t = (b ≡ true → IsPlain k t) × (IsPlain k t → b ≡ true)
 
 string_plain : (kind : Kind) (t : List ℕ) (body : Body) → is_string kind ≡ true → IsUtf8 t → IsQuotedAt kind t body → Whether body.plain kind t
@@ -76,7 +76,7 @@ no_form kind t body s o q = elim (form_quoted q.form kind (chars t) q.value (cha
   | inr e ↦ both_ways (is_single kind) o e
 ]
 
-abbrev Of : Kind → Body → ℕ → Found
+abbrev pub Of : Kind → Body → ℕ → Found
 Of kind body magnitude = record { kind = kind; body = body; magnitude = magnitude }
 
 pub quoted_found : (t : List ℕ) (kind : Kind) (body : Body) → IsUtf8 t → IsQuotedAt kind t body → IsFound t (Of kind body 0)
@@ -91,7 +91,7 @@ quoted_found t BoolKind body u q = absurd (no_form BoolKind t body refl refl q)
 
 -- ---- numbers
 
-abbrev NumberBody : ℕ → Bool → Body
+abbrev pub NumberBody : ℕ → Bool → Body
 NumberBody n plain = record { at = 0; end = n; suffix_at = n; plain = plain }
 
 -- where the parts of a number stand

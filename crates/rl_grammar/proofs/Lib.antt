@@ -32,3 +32,5 @@ pub mod AsciiLemmas
 pub mod PlaceLemmas
 pub mod BodyContents
 pub mod FoundLemmas
+pub mod MinusFoundLemmas
+pub mod NumberFoundLemmas

@@ -1,6 +1,6 @@
 //! What reading a text finds, told by places in it: nothing has to be read again to take a literal apart.
 
-ghost use Rattle.std.specs.Prelude.{◌≡◌, ◌≢◌, ◌++◌, ◌-◌, ◌<◌, ◌≤◌, ℕ, List, IfNone, IfSome, length};
+ghost use Rattle.std.specs.Prelude.{◌≡◌, ◌≢◌, ◌∷◌, ◌⊎◌, ◌-◌, ◌≤◌, ℕ, List, IfNone, IfSome, length};
 ghost use Rattle.std.specs.Str.{chars};
 ghost use Rattle.rl_tokens.specs.declared.kind.Kind.TheVariants.{Float, Int};
 ghost use Rattle.rl_tokens.specs.Numbers.{FloatReads};
@@ -17,7 +17,7 @@ use crate::floats::float_suffix;
 use crate::integers::read_integer;
 use crate::quoted::quoted_parts;
 use crate::reading::{begins_number, truth_of};
-use crate::rows::cut_suffix;
+use crate::rows::{cut_suffix, is_negative};
 use rl_tokens::Kind;
 
 /// What reading a text finds: the kind of the literal and where its parts stand.
@@ -114,11 +114,38 @@ pub fn find_float(text: &str) -> Option<Found>
 fn find_number(text: &str) -> Option<Found>
     ensures none { IfNone result (HasNoNumber (chars text.now)) }
     ensures found { IfSome result (IsFound text.now) }
+    ensures number { IfSome result (λ f. (f.kind ≡ Int) ⊎ (f.kind ≡ Float)) }
 {
     match find_int(text) {
         Some(found) => found,
         None => find_float(text),
     }
+}
+
+/// What reading a minus and the text finds; its places count in the text with the minus.
+///
+/// `Some` exactly where the text with a minus before it reads as a literal; it is then an integer or a float.
+pub fn find_negative(text: &str) -> Option<Found>
+    ensures none { IfNone result (HasNoReading (45 ∷ chars text.now)) }
+    ensures found { IfSome result (IsFound (45 ∷ text.now)) }
+    ensures number { IfSome result (λ f. (f.kind ≡ Int) ⊎ (f.kind ≡ Float)) }
+{
+    if is_negative(text) {
+        return None;
+    }
+    let found = find_number(text)?;
+    let end = found.body.suffix_at + 1;
+    let body = Body {
+        at: 0,
+        end,
+        suffix_at: end,
+        plain: found.body.plain,
+    };
+    Some(Found {
+        kind: found.kind,
+        body,
+        magnitude: found.magnitude,
+    })
 }
 
 /// What reading the text as a quoted literal finds.

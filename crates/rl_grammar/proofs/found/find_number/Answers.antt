@@ -1,3 +1,4 @@
+use Rattle.std.proofs.Common.{inl, inr}
 use Rattle.std.specs.Str.{chars}
 use Rattle.std.proofs.lemmas.Option.{IfSome_then}
 use Rattle.rl_grammar.proofs.FoundLemmas.{float_alone}
@@ -13,3 +14,9 @@ returns-in-None-clause-none c = none_then c.find_float.result (no_number (chars 
 
 pub returns-in-None-clause-found : goal.returns-in-None-clause-found
 returns-in-None-clause-found c = IfSome_then c.find_float.result c.find_float.ensures.found (λ f h. float_alone _ _ c.in-None.ensures.none h)
+
+pub returns-in-Some-clause-number : goal.returns-in-Some-clause-number
+returns-in-Some-clause-number c = IfSome_then c.in-Some.found c.in-Some.ensures.kind (λ f e. inl e)
+
+pub returns-in-None-clause-number : goal.returns-in-None-clause-number
+returns-in-None-clause-number c = IfSome_then c.find_float.result c.find_float.ensures.found (λ f h. inr h.kind)
