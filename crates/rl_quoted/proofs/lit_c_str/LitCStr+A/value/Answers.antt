@@ -10,4 +10,4 @@ unreachable-requires g c =
     zero_is_found c.in-Ok.bytes.items _ (no_zero_of t c.in-Ok.bytes.items held) c.in-Err-new.ensures.first
 
 pub returns-in-Ok-new-clause-value : goal.returns-in-Ok-new-clause-value
-returns-in-Ok-new-clause-value g c = ?
+returns-in-Ok-new-clause-value g c = rw c.in-Ok-new.ensures.ok (c.in-Ok.ensures.value _ c.body-plain.ensures.stands)

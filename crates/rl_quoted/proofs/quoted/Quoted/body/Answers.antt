@@ -1,17 +1,16 @@
-use Rattle.std.proofs.Common.{◌≡◌, sym, subst, rules}
-use Rattle.std.specs.Str.{IsUtf8}
-use Rattle.rl_grammar.specs.Bodies.{IsBodyAt}
-use Rattle.rl_grammar.specs.WholeShapes.{IsPlain}
-use Rattle.rl_quoted.proofs.PlaceLemmas.{told_plain, plain_told}
+use Rattle.std.proofs.Common.{◌≡◌, sym, subst, ◌∙◌, ap, rules}
+use Rattle.std.specs.Str.{chars}
+use Rattle.rl_grammar.specs.Bodies.{HasBody}
+use Rattle.rl_grammar.specs.Founds.{body_in}
+use Rattle.rl_quoted.proofs.PlaceLemmas.{has_body}
 use Rattle.rl_quoted.proofs.quoted.Quoted.body.Goals as goal
 
-pub returns-clause-plain : goal.returns-clause-plain
-returns-clause-plain g c =
+pub returns-clause-stands : goal.returns-clause-stands
+returns-clause-stands g c =
     let kind = g.K.QuotedKind.KIND in
-    let at : IsBodyAt kind c.self.inside.token.text c.self.inside.parts = c.self.invariant.body c.requires in
-    let utf8 : IsUtf8 c.self.inside.token.text = rw (← c.text.ensures) c.text.utf8 in
-    let same : c.self.inside.token.text ≡ c.args.self.now.text = search rules in
-    (
-      (λ e. subst (IsPlain kind) same (told_plain kind _ _ utf8 at e)),
-      (λ p. plain_told kind _ _ utf8 at (subst (IsPlain kind) (sym same) p)),
-    )
+    let t = c.self.inside.token.text in
+    let body = c.self.inside.body in
+    let same : c.range.result.now ≡ body_in t body = c.range.ensures.value ∙ ap (λ z. body_in z body) c.text.ensures in
+    let text : t ≡ c.args.self.now.text = search rules in
+    let has = has_body kind t body c.requires c.self.invariant in
+    subst (λ z. HasBody kind (chars z) c.range.result.now body.plain) text (subst (λ z. HasBody kind (chars t) z body.plain) (sym same) has)
