@@ -1,14 +1,17 @@
 //! How strict quoted literals end.
 
-ghost use Rattle.std.specs.Prelude.{◌≡◌, ◌≢◌, ◌∷◌, ◌↔◌, ◌==◌, ◌&&◌, ◌++◌, IfNone, IfSome, IsFalse, IsTrue, List, None, ℕ};
+ghost use Rattle.std.specs.Prelude.{◌≡◌, ◌≢◌, ◌≤◌, ◌∷◌, ◌↔◌, ◌==◌, ◌&&◌, ◌++◌, IfNone, IfSome, IsFalse, IsTrue, List, None, length, ℕ};
+ghost use Rattle.std.specs.List.{list_all};
 ghost use Rattle.std.specs.Str.{chars};
 ghost use Rattle.rl_tokens.specs.Texts.{begins};
 ghost use Rattle.rl_tokens.specs.Quoted.{is_single, is_string};
+ghost use Rattle.rl_tokens.specs.Strict.{Itself, is_strict_unit};
 ghost use Rattle.rl_grammar.specs.StrictAt.{ends_quoted, ends_raw, is_raw_character, unit_rest};
 ghost use Rattle.rl_grammar.specs.StrictShapes.{ClosesRaw, ClosesUnits};
 
 use crate::cuts::{before, behind_prefix};
 use crate::quoted::skip_hashes;
+use crate::runs::split_plain;
 use crate::strict::units::skip_unit;
 use crate::strict::words::is_suffix;
 use rl_tokens::Kind;
@@ -24,15 +27,30 @@ fn ends_quoted(quote: char, text: &str) -> bool
     }
 }
 
+/// The text behind characters at its front that a string of the kind takes as they are. Of a byte string, which takes
+/// none past ASCII, they are told one by one.
+#[inline(always)]
+fn skip_bare(kind: Kind, text: &str) -> &str
+    requires { IsTrue (is_string kind) }
+    ensures run { (run : List ℕ) × (chars text.now ≡ run ++ chars result.now)
+        × IsTrue (list_all (λ c. is_strict_unit kind (Itself c)) run) }
+    ensures shorter { length result.now ≤ length text.now }
+{
+    match kind {
+        Kind::ByteStr => text,
+        _ => split_plain(kind, text).1,
+    }
+}
+
 /// The text behind the units at its front, as far as they go.
 fn skip_units(kind: Kind, text: &str) -> &str
     requires { IsTrue (is_string kind) }
     ensures same { ClosesUnits kind (chars result.now) ↔ ClosesUnits kind (chars text.now) }
     ensures stuck { unit_rest kind (chars result.now) ≡ None }
 {
-    let mut rest = text;
+    let mut rest = skip_bare(kind, text);
     while let Some(after) = skip_unit(kind, rest) {
-        rest = after;
+        rest = skip_bare(kind, after);
     }
     rest
 }

@@ -1,6 +1,6 @@
 use Rattle.std.proofs.Common.{rules, ◌<◌, ◌||◌, ◌==◌, sym, ◌∙◌, ap}
 use Rattle.rl_tokens.proofs.AsciiLemmas.{ascii_continue}
-use Rattle.rl_tokens.proofs.front.is_continue.Goals as goal
+use Rattle.rl_tokens.proofs.characters.is_continue.Goals as goal
 
 pub returns-else-is_ascii_alphanumeric : goal.returns-else-is_ascii_alphanumeric
 returns-else-is_ascii_alphanumeric c =

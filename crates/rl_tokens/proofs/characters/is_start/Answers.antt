@@ -3,7 +3,7 @@ use Rattle.std.specs.Char.{is_ascii_alphabetic}
 use Rattle.rl_tokens.proofs.Pieces.{is_equal}
 use Rattle.rl_tokens.proofs.Comments.{false_unless}
 use Rattle.rl_tokens.proofs.AsciiLemmas.{ascii_start}
-use Rattle.rl_tokens.proofs.front.is_start.Goals as goal
+use Rattle.rl_tokens.proofs.characters.is_start.Goals as goal
 
 pub returns-else-c-eq95 : goal.returns-else-c-eq95
 returns-else-c-eq95 c =
