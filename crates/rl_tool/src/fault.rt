@@ -41,8 +41,8 @@ impl<A: Allocator> From<AllocError> for Fault<A> {
 
     ghost from_gives = { λ refused fault. fault ≡ Memory };
 
-    fn from(_: AllocError) -> Fault<A> {
-        Fault::Memory
+    fn from(_: AllocError) -> Self {
+        Self::Memory
     }
 }
 
