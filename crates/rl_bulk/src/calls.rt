@@ -6,8 +6,10 @@ mod lists;
 mod literals;
 mod messages;
 mod parsers;
+mod shapes;
 mod tell;
 mod tokens;
+mod trees;
 mod uses;
 
 use std::alloc::{AllocError, Global};
@@ -30,6 +32,9 @@ pub(crate) fn told(
         return Ok(true);
     }
     if of_several(alloc, name, text, out)? || of_uses(alloc, name, text, out)? {
+        return Ok(true);
+    }
+    if of_grammar(alloc, name, text, out)? || of_trees(alloc, name, text, out)? {
         return Ok(true);
     }
     match parsers::kind_of(name) {
@@ -121,6 +126,34 @@ fn of_uses(alloc: Global, name: &str, text: &str, out: &mut String) -> Result<bo
         "anew" => uses::anew(alloc, text, out)?,
         "counts" => uses::counts(alloc, text, out)?,
         "settings" => uses::settings(alloc, text, out)?,
+        _ => return Ok(false),
+    }
+    Ok(true)
+}
+
+/// Calls of the grammars.
+fn of_grammar(alloc: Global, name: &str, text: &str, out: &mut String) -> Result<bool, AllocError> {
+    match name {
+        "shape" => shapes::shaped(text, out)?,
+        "int_shape" => shapes::integer(text, out)?,
+        "float_shape" => shapes::float(text, out)?,
+        "shape_negative" => shapes::negative(text, out)?,
+        "strict" => shapes::strict(text, out)?,
+        "skipped" => shapes::skipped(text, out)?,
+        "contents" => shapes::contents(alloc, text, out)?,
+        "plain" => shapes::plain(text, out)?,
+        _ => return Ok(false),
+    }
+    Ok(true)
+}
+
+/// Calls of the lexer, and of literals as they are displayed.
+fn of_trees(alloc: Global, name: &str, text: &str, out: &mut String) -> Result<bool, AllocError> {
+    match name {
+        "lex" => trees::cut(alloc, text, out)?,
+        "lent" => trees::lent(text, out)?,
+        "built" => trees::built(alloc, out)?,
+        "shown" => literals::shown(alloc, text, out)?,
         _ => return Ok(false),
     }
     Ok(true)

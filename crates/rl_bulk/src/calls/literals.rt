@@ -160,3 +160,13 @@ pub(crate) fn map(alloc: Global, text: &str, out: &mut String) -> Result<(), All
     }
     write!(out, "{}\n", map.len())
 }
+
+/// The text's number or token as it is displayed.
+pub(crate) fn shown(alloc: Global, text: &str, out: &mut String) -> Result<(), AllocError> {
+    match literal_of(alloc, text, HERE)? {
+        Lit::Int(literal) => write!(out, "{literal}\n"),
+        Lit::Float(literal) => write!(out, "{literal}\n"),
+        Lit::Verbatim(token) => write!(out, "{token}\n"),
+        _ => out.push_str("another literal\n"),
+    }
+}
