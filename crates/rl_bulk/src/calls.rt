@@ -1,6 +1,7 @@
 //! Calls of the libraries by name, each on a text or on bytes. What each answers is told, to be compared with stored
 //! lines; no clause speaks of it.
 
+mod bytes;
 mod inside;
 mod lists;
 mod literals;
@@ -14,147 +15,110 @@ mod uses;
 
 use std::alloc::{AllocError, Global};
 
-/// Tells what a call of this name answers to the bytes. False where there is no such call, or the bytes are no text and
-/// the call takes one.
+/// A call, by what it calls.
+#[derive(Drop)]
+enum Call {
+    Bytes(bytes::Call),
+    Token(tokens::Call),
+    Literal(literals::Call),
+    List(lists::Call),
+    Inside(inside::Call),
+    Message(messages::Call),
+    Other(Other),
+}
+
+/// Further calls.
+#[derive(Drop)]
+enum Other {
+    Parser(parsers::Call),
+    Shape(shapes::Call),
+    Tree(trees::Call),
+    Use(uses::Call),
+}
+
+/// The call of this name.
+fn call_of(name: &str) -> Option<Call> {
+    if let Some(call) = bytes::call_of(name) {
+        return Some(Call::Bytes(call));
+    }
+    if let Some(call) = tokens::call_of(name) {
+        return Some(Call::Token(call));
+    }
+    if let Some(call) = literals::call_of(name) {
+        return Some(Call::Literal(call));
+    }
+    if let Some(call) = lists::call_of(name) {
+        return Some(Call::List(call));
+    }
+    if let Some(call) = inside::call_of(name) {
+        return Some(Call::Inside(call));
+    }
+    if let Some(call) = messages::call_of(name) {
+        return Some(Call::Message(call));
+    }
+    other_of(name).map(|call| Call::Other(call))
+}
+
+/// The further call of this name.
+fn other_of(name: &str) -> Option<Other> {
+    if let Some(call) = parsers::call_of(name) {
+        return Some(Other::Parser(call));
+    }
+    if let Some(call) = shapes::call_of(name) {
+        return Some(Other::Shape(call));
+    }
+    if let Some(call) = trees::call_of(name) {
+        return Some(Other::Tree(call));
+    }
+    if let Some(call) = uses::call_of(name) {
+        return Some(Other::Use(call));
+    }
+    None
+}
+
+/// Tells what a call answers to a text.
+fn told_of_text(alloc: Global, call: Call, text: &str, out: &mut String) -> Result<(), AllocError> {
+    match call {
+        Call::Bytes(call) => bytes::told(alloc, call, text.as_bytes(), out),
+        Call::Token(call) => tokens::told(alloc, call, text, out),
+        Call::Literal(call) => literals::told(alloc, call, text, out),
+        Call::List(call) => lists::told(alloc, call, text, out),
+        Call::Inside(call) => inside::told(alloc, call, text, out),
+        Call::Message(call) => messages::told(alloc, call, text, out),
+        Call::Other(call) => told_of_other(alloc, call, text, out),
+    }
+}
+
+/// Tells what a further call answers to a text.
+fn told_of_other(
+    alloc: Global,
+    call: Other,
+    text: &str,
+    out: &mut String,
+) -> Result<(), AllocError> {
+    match call {
+        Other::Parser(call) => parsers::told(alloc, call, text, out),
+        Other::Shape(call) => shapes::told(alloc, call, text, out),
+        Other::Tree(call) => trees::told(alloc, call, text, out),
+        Other::Use(call) => uses::told(alloc, call, text, out),
+    }
+}
+
+/// Tells what a call of this name answers to the bytes; of a call that takes a text, that they are none. False where
+/// there is no such call.
 pub(crate) fn told(
     alloc: Global,
     name: &str,
     bytes: &[u8],
     out: &mut String,
 ) -> Result<bool, AllocError> {
-    if of_bytes(alloc, name, bytes, out)? {
-        return Ok(true);
-    }
-    let Ok(text) = std::str::from_utf8(bytes) else {
+    let Some(call) = call_of(name) else {
         return Ok(false);
     };
-    if of_nothing(alloc, name, out)? || of_one(alloc, name, text, out)? {
-        return Ok(true);
-    }
-    if of_several(alloc, name, text, out)? || of_uses(alloc, name, text, out)? {
-        return Ok(true);
-    }
-    if of_grammar(alloc, name, text, out)? || of_trees(alloc, name, text, out)? {
-        return Ok(true);
-    }
-    match parsers::kind_of(name) {
-        Some(kind) => {
-            parsers::parsed(alloc, kind, text, out)?;
-            Ok(true)
-        }
-        None => Ok(false),
-    }
-}
-
-/// Calls that take bytes.
-fn of_bytes(alloc: Global, name: &str, bytes: &[u8], out: &mut String) -> Result<bool, AllocError> {
-    match name {
-        "bytes" => tokens::each_byte(alloc, bytes, out)?,
-        "byte_string" => tokens::byte_string(alloc, bytes, out)?,
-        "c_string" => tokens::c_string(alloc, bytes, out)?,
-        _ => return Ok(false),
-    }
-    Ok(true)
-}
-
-/// Calls that take nothing.
-fn of_nothing(alloc: Global, name: &str, out: &mut String) -> Result<bool, AllocError> {
-    match name {
-        "spans" => tokens::spans(out)?,
-        "truth" => literals::truth(alloc, out)?,
-        "two_files" => parsers::two_files(alloc, out)?,
-        "lex_kinds" => messages::lex_kinds(out)?,
-        "kinds" => messages::kinds(alloc, out)?,
-        _ => return Ok(false),
-    }
-    Ok(true)
-}
-
-/// Calls that take a text as one word, token or literal.
-fn of_one(alloc: Global, name: &str, text: &str, out: &mut String) -> Result<bool, AllocError> {
-    match name {
-        "word" => tokens::word(alloc, text, out)?,
-        "token" => tokens::token(alloc, text, out)?,
-        "string" => tokens::string(alloc, text, out)?,
-        "characters" => tokens::characters(alloc, text, out)?,
-        "literal" => literals::literal(alloc, text, out)?,
-        "integer" => literals::integer(alloc, text, out)?,
-        "real" => literals::float(alloc, text, out)?,
-        "kept" => literals::kept(alloc, text, out)?,
-        _ => return Ok(false),
-    }
-    Ok(true)
-}
-
-/// Calls that take several literals, and what is inside one.
-fn of_several(alloc: Global, name: &str, text: &str, out: &mut String) -> Result<bool, AllocError> {
-    match name {
-        "equal" => literals::equal(alloc, text, out)?,
-        "across" => literals::across(alloc, text, out)?,
-        "map" => literals::map(alloc, text, out)?,
-        "places" => lists::places(alloc, text, out)?,
-        "texts" => lists::texts(alloc, text, out)?,
-        "pairs" => lists::pairs(alloc, text, out)?,
-        "turns" => parsers::turns(alloc, text, out)?,
-        "takers" => parsers::takers(alloc, text, out)?,
-        _ => return of_inside(alloc, name, text, out),
-    }
-    Ok(true)
-}
-
-/// Calls of what is inside a literal.
-fn of_inside(alloc: Global, name: &str, text: &str, out: &mut String) -> Result<bool, AllocError> {
-    match name {
-        "inside" => inside::inside(alloc, text, out)?,
-        "group" => inside::group(alloc, text, out)?,
-        "numbers" => inside::numbers(alloc, text, out)?,
-        "float_byte" => inside::float_byte(alloc, text, out)?,
-        _ => return Ok(false),
-    }
-    Ok(true)
-}
-
-/// Calls of the small callers.
-fn of_uses(alloc: Global, name: &str, text: &str, out: &mut String) -> Result<bool, AllocError> {
-    match name {
-        "attribute" => uses::attribute(alloc, text, out)?,
-        "attributes" => uses::attributes(alloc, text, out)?,
-        "list" => uses::list(alloc, text, out)?,
-        "refused_list" => uses::refused_list(alloc, text, out)?,
-        "lint" => uses::lint(alloc, text, out)?,
-        "format" => uses::formatted(alloc, text, out)?,
-        "anew" => uses::anew(alloc, text, out)?,
-        "counts" => uses::counts(alloc, text, out)?,
-        "settings" => uses::settings(alloc, text, out)?,
-        _ => return Ok(false),
-    }
-    Ok(true)
-}
-
-/// Calls of the grammars.
-fn of_grammar(alloc: Global, name: &str, text: &str, out: &mut String) -> Result<bool, AllocError> {
-    match name {
-        "shape" => shapes::shaped(text, out)?,
-        "int_shape" => shapes::integer(text, out)?,
-        "float_shape" => shapes::float(text, out)?,
-        "shape_negative" => shapes::negative(text, out)?,
-        "strict" => shapes::strict(text, out)?,
-        "skipped" => shapes::skipped(text, out)?,
-        "contents" => shapes::contents(alloc, text, out)?,
-        "plain" => shapes::plain(text, out)?,
-        _ => return Ok(false),
-    }
-    Ok(true)
-}
-
-/// Calls of the lexer, and of literals as they are displayed.
-fn of_trees(alloc: Global, name: &str, text: &str, out: &mut String) -> Result<bool, AllocError> {
-    match name {
-        "lex" => trees::cut(alloc, text, out)?,
-        "lent" => trees::lent(text, out)?,
-        "built" => trees::built(alloc, out)?,
-        "shown" => literals::shown(alloc, text, out)?,
-        _ => return Ok(false),
+    match (call, std::str::from_utf8(bytes)) {
+        (Call::Bytes(call), _) => bytes::told(alloc, call, bytes, out)?,
+        (call, Ok(text)) => told_of_text(alloc, call, text, out)?,
+        (_, Err(_)) => out.push_str("no text\n")?,
     }
     Ok(true)
 }

@@ -7,6 +7,41 @@ use std::alloc::{AllocError, Allocator, Global};
 use std::fmt::{Display, Write};
 use std::str::FromStr;
 
+/// Calls of what is inside a literal, on a text.
+#[derive(Drop)]
+pub(crate) enum Call {
+    Inside,
+    Group,
+    Numbers,
+    FloatByte,
+}
+
+/// The call of this name.
+pub(crate) fn call_of(name: &str) -> Option<Call> {
+    match name {
+        "inside" => Some(Call::Inside),
+        "group" => Some(Call::Group),
+        "numbers" => Some(Call::Numbers),
+        "float_byte" => Some(Call::FloatByte),
+        _ => None,
+    }
+}
+
+/// Tells what a call answers.
+pub(crate) fn told(
+    alloc: Global,
+    call: Call,
+    text: &str,
+    out: &mut String,
+) -> Result<(), AllocError> {
+    match call {
+        Call::Inside => inside(alloc, text, out),
+        Call::Group => group(alloc, text, out),
+        Call::Numbers => numbers(alloc, text, out),
+        Call::FloatByte => float_byte(alloc, text, out),
+    }
+}
+
 /// The string literal that the text is.
 fn string_of(alloc: Global, text: &str) -> Result<Option<LitStr>, AllocError> {
     match literal_of(alloc, text, HERE)? {
@@ -16,7 +51,7 @@ fn string_of(alloc: Global, text: &str) -> Result<Option<LitStr>, AllocError> {
 }
 
 /// The integer inside a string, or why there is none.
-pub(crate) fn inside(alloc: Global, text: &str, out: &mut String) -> Result<(), AllocError> {
+fn inside(alloc: Global, text: &str, out: &mut String) -> Result<(), AllocError> {
     let Some(string) = string_of(alloc, text)? else {
         return out.push_str("no string\n");
     };
@@ -53,7 +88,7 @@ impl<A: Allocator> Parser<A> for SpansOfGroup {
 }
 
 /// The spans of the trees inside a string, by a user's own parser.
-pub(crate) fn group(alloc: Global, text: &str, out: &mut String) -> Result<(), AllocError> {
+fn group(alloc: Global, text: &str, out: &mut String) -> Result<(), AllocError> {
     let Some(string) = string_of(alloc, text)? else {
         return out.push_str("no string\n");
     };
@@ -87,7 +122,7 @@ where
 }
 
 /// The numbers of every size that the text makes.
-pub(crate) fn numbers(alloc: Global, text: &str, out: &mut String) -> Result<(), AllocError> {
+fn numbers(alloc: Global, text: &str, out: &mut String) -> Result<(), AllocError> {
     let Ok(literal) = LitInt::new(alloc, text, HERE) else {
         return out.push_str("no integer\n");
     };
@@ -108,7 +143,7 @@ pub(crate) fn numbers(alloc: Global, text: &str, out: &mut String) -> Result<(),
 }
 
 /// The byte that the text makes as a float.
-pub(crate) fn float_byte(alloc: Global, text: &str, out: &mut String) -> Result<(), AllocError> {
+fn float_byte(alloc: Global, text: &str, out: &mut String) -> Result<(), AllocError> {
     let Ok(literal) = LitFloat::new(alloc, text, HERE) else {
         return out.push_str("no float\n");
     };

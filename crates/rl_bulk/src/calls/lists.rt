@@ -7,8 +7,40 @@ use rust_literals::read_all;
 use std::alloc::{AllocError, Global};
 use std::fmt::Write;
 
+/// Calls of lists, on a text.
+#[derive(Drop)]
+pub(crate) enum Call {
+    Places,
+    Texts,
+    Pairs,
+}
+
+/// The call of this name.
+pub(crate) fn call_of(name: &str) -> Option<Call> {
+    match name {
+        "places" => Some(Call::Places),
+        "texts" => Some(Call::Texts),
+        "pairs" => Some(Call::Pairs),
+        _ => None,
+    }
+}
+
+/// Tells what a call answers.
+pub(crate) fn told(
+    alloc: Global,
+    call: Call,
+    text: &str,
+    out: &mut String,
+) -> Result<(), AllocError> {
+    match call {
+        Call::Places => places(alloc, text, out),
+        Call::Texts => texts(alloc, text, out),
+        Call::Pairs => pairs(alloc, text, out),
+    }
+}
+
 /// Each literal's bytes and line, or the refusal and its bytes.
-pub(crate) fn places(alloc: Global, text: &str, out: &mut String) -> Result<(), AllocError> {
+fn places(alloc: Global, text: &str, out: &mut String) -> Result<(), AllocError> {
     match read_all(alloc, text, 0) {
         Ok(literals) => {
             for literal in &literals {
@@ -26,7 +58,7 @@ pub(crate) fn places(alloc: Global, text: &str, out: &mut String) -> Result<(), 
 }
 
 /// Each literal as it is printed to programmers, or the refusal.
-pub(crate) fn texts(alloc: Global, text: &str, out: &mut String) -> Result<(), AllocError> {
+fn texts(alloc: Global, text: &str, out: &mut String) -> Result<(), AllocError> {
     match read_all(alloc, text, 7) {
         Ok(literals) => {
             for literal in &literals {
@@ -57,7 +89,7 @@ fn agrees(alloc: Global, first: &str, gap: &str, second: &str) -> Result<bool, A
 /// How many of the texts read behind each of the others and a gap as they do by themselves; and those that don't.
 ///
 /// A U+001E parts the gap, the texts in front and those behind; a U+001F parts texts.
-pub(crate) fn pairs(alloc: Global, rows: &str, out: &mut String) -> Result<(), AllocError> {
+fn pairs(alloc: Global, rows: &str, out: &mut String) -> Result<(), AllocError> {
     let (gap, texts) = rows.split_once('\u{1e}').unwrap_or(("", rows));
     let (fronts, backs) = texts.split_once('\u{1e}').unwrap_or((texts, ""));
     let mut agreed = 0_u64;

@@ -8,8 +8,58 @@ use std::collections::HashMap;
 use std::fmt::Write;
 use std::hash::{DefaultHasher, Hash, Hasher};
 
+/// Calls of literals, on a text.
+#[derive(Drop)]
+pub(crate) enum Call {
+    Literal,
+    Integer,
+    Real,
+    Kept,
+    Truth,
+    Equal,
+    Across,
+    Map,
+    Shown,
+}
+
+/// The call of this name.
+pub(crate) fn call_of(name: &str) -> Option<Call> {
+    match name {
+        "literal" => Some(Call::Literal),
+        "integer" => Some(Call::Integer),
+        "real" => Some(Call::Real),
+        "kept" => Some(Call::Kept),
+        "truth" => Some(Call::Truth),
+        "equal" => Some(Call::Equal),
+        "across" => Some(Call::Across),
+        "map" => Some(Call::Map),
+        "shown" => Some(Call::Shown),
+        _ => None,
+    }
+}
+
+/// Tells what a call answers.
+pub(crate) fn told(
+    alloc: Global,
+    call: Call,
+    text: &str,
+    out: &mut String,
+) -> Result<(), AllocError> {
+    match call {
+        Call::Literal => literal(alloc, text, out),
+        Call::Integer => integer(alloc, text, out),
+        Call::Real => float(alloc, text, out),
+        Call::Kept => kept(alloc, text, out),
+        Call::Truth => truth(alloc, out),
+        Call::Equal => equal(alloc, text, out),
+        Call::Across => across(alloc, text, out),
+        Call::Map => map(alloc, text, out),
+        Call::Shown => shown(alloc, text, out),
+    }
+}
+
 /// The literal that the text reads as, its copy, its trees, what is parsed of them, and its suffix; then it is moved.
-pub(crate) fn literal(alloc: Global, text: &str, out: &mut String) -> Result<(), AllocError> {
+fn literal(alloc: Global, text: &str, out: &mut String) -> Result<(), AllocError> {
     let mut literal = literal_of(alloc, text, HERE)?;
     tell(alloc, &literal, out)?;
     copied(alloc, &literal, out)?;
@@ -42,7 +92,7 @@ fn appended(alloc: Global, literal: &Lit, out: &mut String) -> Result<(), AllocE
 }
 
 /// The text as an integer: its digits, and itself moved, as text and as a token.
-pub(crate) fn integer(alloc: Global, text: &str, out: &mut String) -> Result<(), AllocError> {
+fn integer(alloc: Global, text: &str, out: &mut String) -> Result<(), AllocError> {
     match LitInt::new(alloc, text, HERE) {
         Ok(mut literal) => {
             let digits = literal.base10_digits();
@@ -56,7 +106,7 @@ pub(crate) fn integer(alloc: Global, text: &str, out: &mut String) -> Result<(),
 }
 
 /// The text as a float, in the same way.
-pub(crate) fn float(alloc: Global, text: &str, out: &mut String) -> Result<(), AllocError> {
+fn float(alloc: Global, text: &str, out: &mut String) -> Result<(), AllocError> {
     match LitFloat::new(alloc, text, HERE) {
         Ok(mut literal) => {
             let digits = literal.base10_digits();
@@ -78,7 +128,7 @@ fn tell_token(token: Result<Literal, Error>, out: &mut String) -> Result<(), All
 }
 
 /// The text as a token that is made an integer, or handed back, and the same of a float.
-pub(crate) fn kept(alloc: Global, text: &str, out: &mut String) -> Result<(), AllocError> {
+fn kept(alloc: Global, text: &str, out: &mut String) -> Result<(), AllocError> {
     let Ok(token) = Literal::from_text(alloc, text, HERE) else {
         return Err(AllocError);
     };
@@ -103,7 +153,7 @@ fn handed_back(kept: Kept<Literal>, out: &mut String) -> Result<Literal, AllocEr
 }
 
 /// Both truth values: made, moved, and as a token.
-pub(crate) fn truth(alloc: Global, out: &mut String) -> Result<(), AllocError> {
+fn truth(alloc: Global, out: &mut String) -> Result<(), AllocError> {
     for value in [false, true] {
         let mut literal = LitBool::new(value, HERE);
         let held = literal.value();
@@ -125,7 +175,7 @@ fn hash_of(literal: &Lit) -> u64 {
 }
 
 /// Whether two literals, a LF between their texts, are equal, and hash alike, at two spans.
-pub(crate) fn equal(alloc: Global, text: &str, out: &mut String) -> Result<(), AllocError> {
+fn equal(alloc: Global, text: &str, out: &mut String) -> Result<(), AllocError> {
     let (first, second) = text.split_once('\n').unwrap_or((text, text));
     let first = literal_of(alloc, first, HERE)?;
     let second = literal_of(alloc, second, THERE)?;
@@ -135,7 +185,7 @@ pub(crate) fn equal(alloc: Global, text: &str, out: &mut String) -> Result<(), A
 }
 
 /// Whether the text as an integer equals it as a float.
-pub(crate) fn across(alloc: Global, text: &str, out: &mut String) -> Result<(), AllocError> {
+fn across(alloc: Global, text: &str, out: &mut String) -> Result<(), AllocError> {
     match (
         LitInt::new(alloc, text, HERE),
         LitFloat::new(alloc, text, HERE),
@@ -149,7 +199,7 @@ pub(crate) fn across(alloc: Global, text: &str, out: &mut String) -> Result<(), 
 }
 
 /// Puts the literals of the text, which LF part, into a map, and tells of each which one stood there before.
-pub(crate) fn map(alloc: Global, text: &str, out: &mut String) -> Result<(), AllocError> {
+fn map(alloc: Global, text: &str, out: &mut String) -> Result<(), AllocError> {
     let mut map = HashMap::new(alloc);
     for (at, text) in text.split('\n').enumerate() {
         let literal = literal_of(alloc, text, Span::new(0, at, at))?;
@@ -162,7 +212,7 @@ pub(crate) fn map(alloc: Global, text: &str, out: &mut String) -> Result<(), All
 }
 
 /// The text's number or token as it is displayed.
-pub(crate) fn shown(alloc: Global, text: &str, out: &mut String) -> Result<(), AllocError> {
+fn shown(alloc: Global, text: &str, out: &mut String) -> Result<(), AllocError> {
     match literal_of(alloc, text, HERE)? {
         Lit::Int(literal) => write!(out, "{literal}\n"),
         Lit::Float(literal) => write!(out, "{literal}\n"),

@@ -5,8 +5,37 @@ use rl_tokens::{Error, ErrorKind, LexError, LexKind};
 use std::alloc::{AllocError, Global};
 use std::fmt::Write;
 
+/// Calls of messages.
+#[derive(Drop)]
+pub(crate) enum Call {
+    LexKinds,
+    Kinds,
+}
+
+/// The call of this name.
+pub(crate) fn call_of(name: &str) -> Option<Call> {
+    match name {
+        "lex_kinds" => Some(Call::LexKinds),
+        "kinds" => Some(Call::Kinds),
+        _ => None,
+    }
+}
+
+/// Tells what a call answers.
+pub(crate) fn told(
+    alloc: Global,
+    call: Call,
+    _text: &str,
+    out: &mut String,
+) -> Result<(), AllocError> {
+    match call {
+        Call::LexKinds => lex_kinds(out),
+        Call::Kinds => kinds(alloc, out),
+    }
+}
+
 /// Every kind of the lexer's refusals: as it is printed to programmers, and its message.
-pub(crate) fn lex_kinds(out: &mut String) -> Result<(), AllocError> {
+fn lex_kinds(out: &mut String) -> Result<(), AllocError> {
     for kind in [
         LexKind::UnclosedComment,
         LexKind::DocComment,
@@ -26,7 +55,7 @@ pub(crate) fn lex_kinds(out: &mut String) -> Result<(), AllocError> {
 }
 
 /// Every kind of refusal: as it is printed to programmers, and its message.
-pub(crate) fn kinds(alloc: Global, out: &mut String) -> Result<(), AllocError> {
+fn kinds(alloc: Global, out: &mut String) -> Result<(), AllocError> {
     for kind in [
         ErrorKind::Expected("a word"),
         ErrorKind::EndOfInput("a word"),

@@ -10,7 +10,17 @@ use rust_literals::{
 use std::alloc::{AllocError, Allocator, Global};
 use std::fmt::Write;
 
+/// Calls of parsers, on a text: a type's peek and parser, and calls of a buffer.
+#[derive(Drop)]
+pub(crate) enum Call {
+    As(Kind),
+    Turns,
+    Takers,
+    TwoFiles,
+}
+
 /// A type that a row names.
+#[derive(Drop)]
 pub(crate) enum Kind {
     Any,
     Str,
@@ -24,8 +34,33 @@ pub(crate) enum Kind {
     Sign,
 }
 
+/// The call of this name.
+pub(crate) fn call_of(name: &str) -> Option<Call> {
+    match name {
+        "turns" => Some(Call::Turns),
+        "takers" => Some(Call::Takers),
+        "two_files" => Some(Call::TwoFiles),
+        _ => kind_of(name).map(|kind| Call::As(kind)),
+    }
+}
+
+/// Tells what a call answers.
+pub(crate) fn told(
+    alloc: Global,
+    call: Call,
+    text: &str,
+    out: &mut String,
+) -> Result<(), AllocError> {
+    match call {
+        Call::As(kind) => parsed(alloc, kind, text, out),
+        Call::Turns => turns(alloc, text, out),
+        Call::Takers => takers(alloc, text, out),
+        Call::TwoFiles => two_files(alloc, out),
+    }
+}
+
 /// The type of this name.
-pub(crate) fn kind_of(name: &str) -> Option<Kind> {
+fn kind_of(name: &str) -> Option<Kind> {
     match name {
         "Lit" => Some(Kind::Any),
         "LitStr" => Some(Kind::Str),
@@ -42,12 +77,7 @@ pub(crate) fn kind_of(name: &str) -> Option<Kind> {
 }
 
 /// What a type's peek and its parser do on a text.
-pub(crate) fn parsed(
-    alloc: Global,
-    kind: Kind,
-    text: &str,
-    out: &mut String,
-) -> Result<(), AllocError> {
+fn parsed(alloc: Global, kind: Kind, text: &str, out: &mut String) -> Result<(), AllocError> {
     match kind {
         Kind::Any => parsed_as::<Lit>(alloc, text, out),
         Kind::Str => parsed_as::<LitStr>(alloc, text, out),
@@ -120,7 +150,7 @@ impl Token for Sign {
 }
 
 /// Literals and signs in turn, up to the end or a refusal.
-pub(crate) fn turns(alloc: Global, text: &str, out: &mut String) -> Result<(), AllocError> {
+fn turns(alloc: Global, text: &str, out: &mut String) -> Result<(), AllocError> {
     let Ok(stream) = lex(alloc, text, 0) else {
         return out.push_str("no trees\n");
     };
@@ -142,7 +172,7 @@ pub(crate) fn turns(alloc: Global, text: &str, out: &mut String) -> Result<(), A
 }
 
 /// A minus and a number of two files, as one literal.
-pub(crate) fn two_files(alloc: Global, out: &mut String) -> Result<(), AllocError> {
+fn two_files(alloc: Global, out: &mut String) -> Result<(), AllocError> {
     let mut stream = TokenStream::new(alloc);
     if Punct::is_char('-') {
         let minus = Punct::new('-', Span::new(0, 3, 4));
@@ -205,7 +235,7 @@ fn tell_taken(input: &mut ParseBuffer<'_>, out: &mut String) -> Result<(), Alloc
 }
 
 /// What the four takers of a buffer take, tree by tree, to the end and once more.
-pub(crate) fn takers(alloc: Global, text: &str, out: &mut String) -> Result<(), AllocError> {
+fn takers(alloc: Global, text: &str, out: &mut String) -> Result<(), AllocError> {
     let Ok(stream) = lex(alloc, text, 0) else {
         return out.push_str("no trees\n");
     };

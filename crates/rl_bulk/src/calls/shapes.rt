@@ -9,6 +9,53 @@ use rl_tokens::whitespace;
 use std::alloc::{AllocError, Global};
 use std::fmt::Write;
 
+/// Calls of the grammars, on a text.
+#[derive(Drop)]
+pub(crate) enum Call {
+    Shape,
+    Integer,
+    Float,
+    Negative,
+    Strict,
+    Skipped,
+    Contents,
+    Plain,
+}
+
+/// The call of this name.
+pub(crate) fn call_of(name: &str) -> Option<Call> {
+    match name {
+        "shape" => Some(Call::Shape),
+        "int_shape" => Some(Call::Integer),
+        "float_shape" => Some(Call::Float),
+        "shape_negative" => Some(Call::Negative),
+        "strict" => Some(Call::Strict),
+        "skipped" => Some(Call::Skipped),
+        "contents" => Some(Call::Contents),
+        "plain" => Some(Call::Plain),
+        _ => None,
+    }
+}
+
+/// Tells what a call answers.
+pub(crate) fn told(
+    alloc: Global,
+    call: Call,
+    text: &str,
+    out: &mut String,
+) -> Result<(), AllocError> {
+    match call {
+        Call::Shape => shaped(text, out),
+        Call::Integer => integer(text, out),
+        Call::Float => float(text, out),
+        Call::Negative => negative(text, out),
+        Call::Strict => strict(text, out),
+        Call::Skipped => skipped(text, out),
+        Call::Contents => contents(alloc, text, out),
+        Call::Plain => plain(text, out),
+    }
+}
+
 /// Tells a kind, and body and suffix with a point between, or that there is none.
 fn tell_parts(parts: Option<Parts<'_>>, out: &mut String) -> Result<(), AllocError> {
     match parts {
@@ -21,12 +68,12 @@ fn tell_parts(parts: Option<Parts<'_>>, out: &mut String) -> Result<(), AllocErr
 }
 
 /// The text's shape.
-pub(crate) fn shaped(text: &str, out: &mut String) -> Result<(), AllocError> {
+fn shaped(text: &str, out: &mut String) -> Result<(), AllocError> {
     tell_parts(shape(text), out)
 }
 
 /// The text's shape as an integer of any magnitude.
-pub(crate) fn integer(text: &str, out: &mut String) -> Result<(), AllocError> {
+fn integer(text: &str, out: &mut String) -> Result<(), AllocError> {
     match int_shape(text) {
         Some(Some(parts)) => tell_parts(Some(parts), out),
         Some(None) => out.push_str("past\n"),
@@ -35,27 +82,27 @@ pub(crate) fn integer(text: &str, out: &mut String) -> Result<(), AllocError> {
 }
 
 /// The text's shape as a float.
-pub(crate) fn float(text: &str, out: &mut String) -> Result<(), AllocError> {
+fn float(text: &str, out: &mut String) -> Result<(), AllocError> {
     tell_parts(float_shape(text), out)
 }
 
 /// The shape of a minus and the text.
-pub(crate) fn negative(text: &str, out: &mut String) -> Result<(), AllocError> {
+fn negative(text: &str, out: &mut String) -> Result<(), AllocError> {
     tell_parts(shape_negative(text), out)
 }
 
 /// Whether the text is a strict token.
-pub(crate) fn strict(text: &str, out: &mut String) -> Result<(), AllocError> {
+fn strict(text: &str, out: &mut String) -> Result<(), AllocError> {
     write!(out, "{}\n", is_token(text))
 }
 
 /// What stands behind white space and comments.
-pub(crate) fn skipped(text: &str, out: &mut String) -> Result<(), AllocError> {
+fn skipped(text: &str, out: &mut String) -> Result<(), AllocError> {
     write!(out, "{}\n", whitespace::skip(text))
 }
 
 /// The text's contents, by the decoder of its kind.
-pub(crate) fn contents(alloc: Global, text: &str, out: &mut String) -> Result<(), AllocError> {
+fn contents(alloc: Global, text: &str, out: &mut String) -> Result<(), AllocError> {
     let Some(parts) = shape(text) else {
         return out.push_str("None\n");
     };
@@ -93,7 +140,7 @@ fn kind_of(name: &str) -> Kind {
 }
 
 /// Whether the contents of a text, behind a kind's name and a LF, stand in it as they are.
-pub(crate) fn plain(text: &str, out: &mut String) -> Result<(), AllocError> {
+fn plain(text: &str, out: &mut String) -> Result<(), AllocError> {
     let (name, text) = text.split_once('\n').unwrap_or(("", text));
     write!(out, "{}\n", is_plain(kind_of(name), text))
 }

@@ -84,6 +84,20 @@ pub(crate) fn tell_answer(
     }
 }
 
+/// Tells a token that was written.
+pub(crate) fn tell_written(
+    written: Result<Literal, Error>,
+    out: &mut String,
+) -> Result<(), AllocError> {
+    match written {
+        Ok(token) => {
+            let at = At(token.span());
+            write!(out, "{token} {at}\n")
+        }
+        Err(error) => tell_error(&error, out),
+    }
+}
+
 /// The literal that the text reads as.
 pub(crate) fn literal_of(alloc: Global, text: &str, span: Span) -> Result<Lit, AllocError> {
     let Ok(token) = Literal::from_text(alloc, text, span) else {

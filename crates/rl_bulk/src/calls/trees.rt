@@ -5,6 +5,38 @@ use rl_tokens::{Delimiter, Group, Literal, Span, TokenStream, TokenTree, Tokens,
 use std::alloc::{AllocError, Global};
 use std::fmt::Write;
 
+/// Calls of the lexer, on a text.
+#[derive(Drop)]
+pub(crate) enum Call {
+    Lex,
+    Lent,
+    Built,
+}
+
+/// The call of this name.
+pub(crate) fn call_of(name: &str) -> Option<Call> {
+    match name {
+        "lex" => Some(Call::Lex),
+        "lent" => Some(Call::Lent),
+        "built" => Some(Call::Built),
+        _ => None,
+    }
+}
+
+/// Tells what a call answers.
+pub(crate) fn told(
+    alloc: Global,
+    call: Call,
+    text: &str,
+    out: &mut String,
+) -> Result<(), AllocError> {
+    match call {
+        Call::Lex => cut(alloc, text, out),
+        Call::Lent => lent(text, out),
+        Call::Built => built(alloc, out),
+    }
+}
+
 /// Tells each tree with its bytes: a group as its delimiter, with the trees inside between angle brackets.
 fn tell_all(trees: &[TokenTree], out: &mut String) -> Result<(), AllocError> {
     for tree in trees {
@@ -34,7 +66,7 @@ fn tell_all(trees: &[TokenTree], out: &mut String) -> Result<(), AllocError> {
 }
 
 /// The trees of a text, or the fault and its byte.
-pub(crate) fn cut(alloc: Global, text: &str, out: &mut String) -> Result<(), AllocError> {
+fn cut(alloc: Global, text: &str, out: &mut String) -> Result<(), AllocError> {
     match lex(alloc, text, 7) {
         Ok(stream) => {
             tell_all(stream.trees(), out)?;
@@ -49,7 +81,7 @@ pub(crate) fn cut(alloc: Global, text: &str, out: &mut String) -> Result<(), All
 }
 
 /// The tokens of a text as they are lent, and what is left of it.
-pub(crate) fn lent(text: &str, out: &mut String) -> Result<(), AllocError> {
+fn lent(text: &str, out: &mut String) -> Result<(), AllocError> {
     let mut tokens = Tokens::new(text);
     for _ in 0..text.len() {
         let Some(token) = tokens.next() else {
@@ -64,7 +96,7 @@ pub(crate) fn lent(text: &str, out: &mut String) -> Result<(), AllocError> {
 }
 
 /// A stream that is built of a group and a literal, and set to another span.
-pub(crate) fn built(alloc: Global, out: &mut String) -> Result<(), AllocError> {
+fn built(alloc: Global, out: &mut String) -> Result<(), AllocError> {
     let mut inside = TokenStream::new(alloc);
     let Ok(first) = Literal::from_text(alloc, "1", HERE) else {
         return Err(AllocError);

@@ -10,11 +10,61 @@ use rust_literals::read_all;
 use std::alloc::{AllocError, Global};
 use std::fmt::{Display, Write};
 
+/// Calls of the small callers, on a text.
+#[derive(Drop)]
+pub(crate) enum Call {
+    Attribute,
+    Attributes,
+    List,
+    RefusedList,
+    Lint,
+    Format,
+    Anew,
+    Counts,
+    Settings,
+}
+
+/// The call of this name.
+pub(crate) fn call_of(name: &str) -> Option<Call> {
+    match name {
+        "attribute" => Some(Call::Attribute),
+        "attributes" => Some(Call::Attributes),
+        "list" => Some(Call::List),
+        "refused_list" => Some(Call::RefusedList),
+        "lint" => Some(Call::Lint),
+        "format" => Some(Call::Format),
+        "anew" => Some(Call::Anew),
+        "counts" => Some(Call::Counts),
+        "settings" => Some(Call::Settings),
+        _ => None,
+    }
+}
+
+/// Tells what a call answers.
+pub(crate) fn told(
+    alloc: Global,
+    call: Call,
+    text: &str,
+    out: &mut String,
+) -> Result<(), AllocError> {
+    match call {
+        Call::Attribute => attribute(alloc, text, out),
+        Call::Attributes => attributes(alloc, text, out),
+        Call::List => list(alloc, text, out),
+        Call::RefusedList => refused_list(alloc, text, out),
+        Call::Lint => lint(alloc, text, out),
+        Call::Format => formatted(alloc, text, out),
+        Call::Anew => anew(alloc, text, out),
+        Call::Counts => counts(alloc, text, out),
+        Call::Settings => settings(alloc, text, out),
+    }
+}
+
 /// The file that spans name.
 const FILE: u32 = 7;
 
 /// An attribute's name and value, or why there is none.
-pub(crate) fn attribute(alloc: Global, text: &str, out: &mut String) -> Result<(), AllocError> {
+fn attribute(alloc: Global, text: &str, out: &mut String) -> Result<(), AllocError> {
     match read_attribute(alloc, text, FILE) {
         Ok(attribute) => tell_attribute(alloc, &attribute, out),
         Err(error) => tell_error(&error, out),
@@ -36,7 +86,7 @@ fn tell_attribute(
 }
 
 /// Two attributes, one behind the other, and where the buffer stands behind each.
-pub(crate) fn attributes(alloc: Global, text: &str, out: &mut String) -> Result<(), AllocError> {
+fn attributes(alloc: Global, text: &str, out: &mut String) -> Result<(), AllocError> {
     let Ok(stream) = lex(alloc, text, FILE) else {
         return out.push_str("no trees\n");
     };
@@ -52,7 +102,7 @@ pub(crate) fn attributes(alloc: Global, text: &str, out: &mut String) -> Result<
 }
 
 /// The items of a list, or why there is none.
-pub(crate) fn list(alloc: Global, text: &str, out: &mut String) -> Result<(), AllocError> {
+fn list(alloc: Global, text: &str, out: &mut String) -> Result<(), AllocError> {
     match parse_all::<ItemList, Global>(alloc, text, FILE) {
         Ok(list) => {
             for item in &list.items {
@@ -68,7 +118,7 @@ pub(crate) fn list(alloc: Global, text: &str, out: &mut String) -> Result<(), Al
 }
 
 /// Why a list and why an item are refused, and where the buffer stands then.
-pub(crate) fn refused_list(alloc: Global, text: &str, out: &mut String) -> Result<(), AllocError> {
+fn refused_list(alloc: Global, text: &str, out: &mut String) -> Result<(), AllocError> {
     let Ok(stream) = lex(alloc, text, FILE) else {
         return out.push_str("no trees\n");
     };
@@ -85,7 +135,7 @@ pub(crate) fn refused_list(alloc: Global, text: &str, out: &mut String) -> Resul
 }
 
 /// The spans of the strings with control characters.
-pub(crate) fn lint(alloc: Global, text: &str, out: &mut String) -> Result<(), AllocError> {
+fn lint(alloc: Global, text: &str, out: &mut String) -> Result<(), AllocError> {
     match control_strings(alloc, text, FILE) {
         Ok(spans) => {
             for span in &spans {
@@ -98,7 +148,7 @@ pub(crate) fn lint(alloc: Global, text: &str, out: &mut String) -> Result<(), Al
 }
 
 /// The literals' lines as the formatter writes them.
-pub(crate) fn formatted(alloc: Global, text: &str, out: &mut String) -> Result<(), AllocError> {
+fn formatted(alloc: Global, text: &str, out: &mut String) -> Result<(), AllocError> {
     match format(alloc, text, FILE) {
         Ok(lines) => out.push_str(lines.as_str()),
         Err(error) => tell_error(&error, out),
@@ -106,7 +156,7 @@ pub(crate) fn formatted(alloc: Global, text: &str, out: &mut String) -> Result<(
 }
 
 /// A literal written anew, and whether it equals what it was.
-pub(crate) fn anew(alloc: Global, text: &str, out: &mut String) -> Result<(), AllocError> {
+fn anew(alloc: Global, text: &str, out: &mut String) -> Result<(), AllocError> {
     let literal = literal_of(alloc, text, Span::new(3, 5, 9))?;
     match rewritten(alloc, &literal) {
         Ok(anew) => write!(out, "{anew:?} {} {}\n", At(anew.span()), anew == literal),
@@ -115,7 +165,7 @@ pub(crate) fn anew(alloc: Global, text: &str, out: &mut String) -> Result<(), Al
 }
 
 /// Of each literal of a text, the first that equals it, and how often it stands there; and how many there are.
-pub(crate) fn counts(alloc: Global, text: &str, out: &mut String) -> Result<(), AllocError> {
+fn counts(alloc: Global, text: &str, out: &mut String) -> Result<(), AllocError> {
     let counts = match count_literals(alloc, text, FILE) {
         Ok(counts) => counts,
         Err(error) => return tell_error(&error, out),
@@ -143,7 +193,7 @@ fn tell_number<N: Display + Drop>(
 }
 
 /// The text as a port, and as an offset.
-pub(crate) fn settings(alloc: Global, text: &str, out: &mut String) -> Result<(), AllocError> {
+fn settings(alloc: Global, text: &str, out: &mut String) -> Result<(), AllocError> {
     tell_number(read_number::<u16, Global>(alloc, text, FILE), out)?;
     tell_number(read_number::<i64, Global>(alloc, text, FILE), out)
 }
