@@ -125,8 +125,8 @@ fn digits_answer(alloc: Global, command: Command, digits: &str) -> Result<String
     }
 }
 
-/// What stands before the first space of a line, and what behind it.
-fn parts_of(line: &str) -> (&str, &str)
+/// What stands before the first space of a line, and what behind it; all of a line with none stands before it.
+pub fn parts_of(line: &str) -> (&str, &str)
     ensures before { result.0.now ≡ before_first (λ b. b == 32) line.now }
     ensures behind { result.1.now ≡ after_first (λ b. b == 32) line.now }
 {

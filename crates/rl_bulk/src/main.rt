@@ -1,9 +1,12 @@
-//! Reads many texts, one a line, and prints of each what `rl_tool` prints. For development: comparing at scale.
+//! Reads many texts, one a line, and prints of each what `rl_tool` prints, or what a call of the libraries answers. For
+//! development: comparing at scale, and the stored rows that stand for tests.
 #![tactic(auto)]
 
 mod answer;
+mod calls;
 mod command;
 mod digits;
+mod line;
 
 use std::io;
 use std::io::{BufRead, BufReader, BufWriter, Write};
@@ -11,8 +14,8 @@ use std::io::{BufRead, BufReader, BufWriter, Write};
 fn main(rt: HostRuntime) -> io::Result<()> {
     let alloc = rt.alloc();
     let mut out = BufWriter::new(alloc, io::writer(&rt))?;
-    for line in BufReader::new(alloc, rt.reader())?.lines(alloc) {
-        let answer = answer::answer(alloc, line?.as_str())?;
+    for line in BufReader::new(alloc, rt.reader())?.split(alloc, b'\n') {
+        let answer = line::told(alloc, line?.as_slice())?;
         out.write_all(answer.as_bytes())?;
     }
     out.flush()

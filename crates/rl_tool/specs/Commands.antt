@@ -1,5 +1,5 @@
--- The program's commands.
-use Rattle.std.specs.Prelude.{ℕ, List, codes}
+-- The program's commands, and how they are asked for.
+use Rattle.std.specs.Prelude.{◌≡◌, ℕ, List, [], ◌∷◌, codes, String, string_bytes}
 use Rattle.rl_tool.specs.declared.command.Command.{Command}
 use Rattle.rl_tool.specs.declared.command.Command.TheVariants.{Text, Read}
 
@@ -7,3 +7,10 @@ use Rattle.rl_tool.specs.declared.command.Command.TheVariants.{Text, Read}
 abbrev pub name_of : Command → List ℕ
 name_of Text = codes "text"
 name_of Read = codes "read"
+
+-- The arguments are a program's own name and a command's.
+abbrev pub AskFor : {A : Type 0} → List (String A) → Command → Type 0
+AskFor [] command = ⊥
+AskFor (program ∷ []) command = ⊥
+AskFor (program ∷ name ∷ []) command = string_bytes name ≡ name_of command
+AskFor (program ∷ name ∷ other ∷ others) command = ⊥

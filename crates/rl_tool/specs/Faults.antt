@@ -13,7 +13,7 @@ fault_line Memory = codes "error: out of memory"
 fault_line (Literal e) = refusal_line e
 
 -- the status of a fault
-abbrev pub status_of : {A : Type 0} → Fault A → ℕ
-status_of Read = 2
-status_of Write = 2
-status_of _ = 1
+abbrev pub fault_status : {A : Type 0} → Fault A → ℕ
+fault_status Read = 2
+fault_status Write = 2
+fault_status _ = 1

@@ -2,3 +2,4 @@ pub mod Streams
 pub mod Runs
 pub mod Faults
 pub mod Commands
+pub mod Endings

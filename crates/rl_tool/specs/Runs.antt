@@ -4,8 +4,10 @@ use Rattle.std.specs.Str.{chars, IsUtf8}
 use Rattle.std.specs.Io.KnownBytes.{Appends, Keeps}
 use Rattle.rl_tokens.specs.declared.error.Error.{Error}
 use Rattle.rl_tokens.specs.Errors.{memory_at}
+use Rattle.rl_tokens.specs.Tokens.{Token}
 use Rattle.rust_literals.specs.Literals.{ReadsAsNumber}
-use Rattle.rust_literals.specs.Parsing.{RefusesText}
+use Rattle.rust_literals.specs.declared.lit.Lit.{Lit}
+use Rattle.rust_literals.specs.Parsing.{AreRead, RefusesText}
 use Rattle.rl_tool.specs.declared.command.Command.{Command}
 use Rattle.rl_tool.specs.declared.command.Command.TheVariants.{Text, Read as ReadCommand}
 use Rattle.rl_tool.specs.declared.fault.Fault.{Fault}
@@ -27,16 +29,31 @@ abbrev pub PrintsBeginning : Command → List ℕ → Option (List ℕ) → Opti
 PrintsBeginning command bytes old new =
     IsUtf8 bytes × ((lines : List ℕ) × Shows command (chars bytes) lines × AppendsBeginning old new (encode_utf8_all lines))
 
+-- the bytes of a whole input as one token
+abbrev pub whole_token : List ℕ → Token
+whole_token bytes = record { text = bytes; span = record { file = 0; lo = 0; hi = length bytes } }
+
+-- the fault is a literal's, and this is its error
+abbrev pub TellsLiteral : {A : Type 0} → (Error A → Type 0) → Fault A → Type 0
+TellsLiteral refuses (Literal error) = refuses error
+TellsLiteral refuses _ = ⊥
+
 -- what the call that reads the literals refuses of a text: want of memory for a number's digits, or as `read_all` does
 abbrev pub RefusesLiterals : {A : Type 0} → Command → List ℕ → Error A → Type 0
-RefusesLiterals Text bytes error = (error ≡ memory_at (record { file = 0; lo = 0; hi = length bytes })) × ReadsAsNumber (chars bytes)
+RefusesLiterals Text bytes error = (error ≡ memory_at (whole_token bytes).span) × ReadsAsNumber (chars bytes)
 RefusesLiterals ReadCommand bytes error = RefusesText (chars bytes) 0 (length bytes) error
+
+-- where memory may be wanted that is no literal's: under `text` for the token or its line, under `read` for the lines alone,
+-- behind literals that were read
+abbrev pub MayWantMemory : Type 0 → Command → List ℕ → Type 0
+MayWantMemory A Text bytes = ⊤
+MayWantMemory A ReadCommand bytes = (list : List (Lit A)) × AreRead (chars bytes) 0 list
 
 -- why the whole input was refused: it is no text, its literals were refused, or memory was, elsewhere
 abbrev pub IsRefusalOf : {A : Type 0} → Command → List ℕ → Fault A → Type 0
 IsRefusalOf command bytes NotText = IsUtf8 bytes → ⊥
 IsRefusalOf command bytes (Literal error) = IsUtf8 bytes × RefusesLiterals command bytes error
-IsRefusalOf command bytes Memory = ⊤
+IsRefusalOf {A} command bytes Memory = MayWantMemory A command bytes
 IsRefusalOf command bytes Read = ⊥
 IsRefusalOf command bytes Write = ⊥
 

@@ -1,3 +1,5 @@
+use std::alloc::Allocator;
+
 /// What the program does with its input.
 #[derive(Clone, Copy, PartialEq, Eq, Debug)]
 pub enum Command {
@@ -10,7 +12,7 @@ pub enum Command {
 impl Command {
     ghost use Rattle.std.specs.Prelude.{◌≡◌, ◌≢◌, IfSome, IfNone};
     ghost use Rattle.rl_tool.specs.declared.command.Command.{Command};
-    ghost use Rattle.rl_tool.specs.Commands.{name_of};
+    ghost use Rattle.rl_tool.specs.Commands.{name_of, AskFor};
 
     /// The command of this name.
     pub fn from_name(name: &str) -> Option<Command>
@@ -20,6 +22,18 @@ impl Command {
         match name {
             "text" => Some(Command::Text),
             "read" => Some(Command::Read),
+            _ => None,
+        }
+    }
+
+    /// The command that the program's arguments ask for: behind the program's own name stands the command's, and
+    /// nothing else.
+    pub fn asked_by<A: Allocator>(args: &[String<A>]) -> Option<Command>
+        ensures asked { IfSome result (AskFor args.now) }
+        ensures unasked { IfNone result ((command : Command) → AskFor args.now command → ⊥) }
+    {
+        match args {
+            [_, name] => Command::from_name(name.as_str()),
             _ => None,
         }
     }

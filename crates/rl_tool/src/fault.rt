@@ -1,5 +1,5 @@
 ghost use Rattle.std.specs.Prelude.{◌≡◌, Some};
-ghost use Rattle.rl_tool.specs.Faults.{fault_line, status_of};
+ghost use Rattle.rl_tool.specs.Faults.{fault_line, fault_status};
 
 use rl_lines::Refusal;
 use rl_tokens::Error;
@@ -25,7 +25,7 @@ pub enum Fault<A: Allocator = Global> {
 impl<A: Allocator> Fault<A> {
     /// The status that the program ends with: 2 where reading or writing failed, else 1.
     pub fn status(&self) -> u8
-        ensures { result ≡ status_of self.now }
+        ensures { result ≡ fault_status self.now }
     {
         match self {
             Fault::Read | Fault::Write => 2,
@@ -41,8 +41,8 @@ impl<A: Allocator> From<AllocError> for Fault<A> {
 
     ghost from_gives = { λ refused fault. fault ≡ Memory };
 
-    fn from(_: AllocError) -> Fault<A> {
-        Fault::Memory
+    fn from(_: AllocError) -> Self {
+        Self::Memory
     }
 }
 

@@ -3,43 +3,46 @@
 
 ghost use Rattle.std.specs.Prelude.{◌≡◌};
 ghost use Rattle.std.specs.Process.{exit_status};
+ghost use Rattle.rl_tool.specs.Endings.{status_of};
 
 mod command;
+mod ending;
 mod fault;
 mod run;
 mod streams;
 #[cfg(test)]
 mod tests;
 
-use command::Command;
+use ending::{Ending, call};
 use std::env;
 use std::process::ExitCode;
-use std::rt::Env;
 
-/// The command that the one argument names.
-fn asked_for(rt: &(impl Env + Alloc)) -> Option<Command> {
-    let mut args = env::args(rt).ok()?.skip(1);
-    let name = args.next()?;
-    if args.next().is_some() {
-        return None;
+/// The program's arguments, its own name the first; none where they can't be had.
+fn arguments(rt: &HostRuntime) -> Vec<String> {
+    match env::args(rt) {
+        Ok(args) => args.collect(rt.alloc()).unwrap_or(Vec::new(rt.alloc())),
+        Err(_) => Vec::new(rt.alloc()),
     }
-    Command::from_name(name.as_str())
 }
 
-/// Tells why the program failed.
-fn tell(rt: &impl Eprint, status: u8, line: impl std::fmt::Display + Drop) -> ExitCode
-    ensures { exit_status result ≡ status }
+/// Tells why the program failed, where it did, and ends it.
+fn tell(rt: &impl Eprint, ending: Ending) -> ExitCode
+    ensures { exit_status result ≡ status_of ending }
 {
-    let _ = rt.eprintln(line);
+    let status = ending.status();
+    if status != 0 {
+        let _ = rt.eprintln(ending);
+    }
     ExitCode::from(status)
 }
 
 fn main(rt: HostRuntime) -> ExitCode {
-    let Some(command) = asked_for(&rt) else {
-        return tell(&rt, 2, "usage: rl_tool text|read");
-    };
-    match run::run(rt.alloc(), command, &mut rt.stdin(), &mut rt.stdout()) {
-        Ok(()) => ExitCode::SUCCESS,
-        Err(fault) => tell(&rt, fault.status(), fault),
-    }
+    let args = arguments(&rt);
+    let ending = call(
+        rt.alloc(),
+        args.as_slice(),
+        &mut rt.stdin(),
+        &mut rt.stdout(),
+    );
+    tell(&rt, ending)
 }

@@ -1,10 +1,13 @@
 //! A run of the program, over any reader and writer.
 
-ghost use Rattle.std.specs.Prelude.{◌≡◌, IfErr, IfOk, IfSome, OnOk, string_bytes};
+ghost use Rattle.std.specs.Prelude.{◌≡◌, length, IfErr, IfOk, IfSome, OnOk, string_bytes};
 ghost use Rattle.std.specs.Str.{chars, IsUtf8};
 ghost use Rattle.rl_tool.specs.declared.command.Command.TheVariants.{Text, Read};
-ghost use Rattle.rl_tool.specs.declared.fault.Fault.TheVariants.{NotText};
-ghost use Rattle.rl_tool.specs.Runs.{Shows, Prints, IsFaultOf, IsRefusalOf};
+ghost use Rattle.rl_tokens.specs.Errors.{memory_at};
+ghost use Rattle.rust_literals.specs.Literals.{IsReadFrom, ReadsAsNumber};
+ghost use Rattle.rust_literals.specs.Parsing.{AreRead, RefusesText};
+ghost use Rattle.rl_tool.specs.declared.fault.Fault.TheVariants.{NotText, Memory};
+ghost use Rattle.rl_tool.specs.Runs.{whole_token, Shows, Prints, TellsLiteral, IsFaultOf, IsRefusalOf};
 
 use crate::command::Command;
 use crate::fault::Fault;
@@ -27,19 +30,49 @@ fn text_of<A: Allocator>(bytes: &[u8]) -> Result<&str, Fault<A>>
     }
 }
 
+/// The whole text as one token.
+fn token_of<A: Allocator + Copy>(alloc: A, text: &str) -> Result<Literal<A>, Fault<A>>
+    ensures token { IfOk result (λ token. token ≡ whole_token text.now) }
+    ensures memory { IfErr result (λ fault. fault ≡ Memory) }
+{
+    let span = Span::new(0, 0, text.len());
+    match Literal::from_text(alloc, text, span) {
+        Ok(token) => Ok(token),
+        Err(_) => Err(Fault::Memory),
+    }
+}
+
+/// The literal that a token is. Want of memory is the literal's.
+fn literal_of<A: Allocator + Copy>(alloc: A, token: Literal<A>) -> Result<Lit<A>, Fault<A>>
+    ensures reads { IfOk result (IsReadFrom token) }
+    ensures refusal { IfErr result
+        (TellsLiteral (λ e. (e ≡ memory_at token.span) × ReadsAsNumber (chars token.text))) }
+{
+    match Lit::new(alloc, token) {
+        Ok(literal) => Ok(literal),
+        Err(kept) => Err(Fault::Literal(kept.error)),
+    }
+}
+
+/// The literals that a text is. Want of memory is the literals'.
+fn literals_of<A: Allocator + Copy>(alloc: A, text: &str) -> Result<Vec<Lit<A>, A>, Fault<A>>
+    ensures read { IfOk result (λ list. AreRead (chars text.now) 0 list.items) }
+    ensures refusal { IfErr result
+        (TellsLiteral (RefusesText (chars text.now) 0 (length text.now))) }
+{
+    match read_all(alloc, text, 0) {
+        Ok(literals) => Ok(literals),
+        Err(error) => Err(Fault::Literal(error)),
+    }
+}
+
 /// The line of the whole text as one literal.
 fn literal_line<A: Allocator + Copy>(alloc: A, text: &str) -> Result<String<A>, Fault<A>>
     ensures line { IfOk result (λ line. Shows Text (chars text.now) (chars (string_bytes line))) }
     ensures refusal { IfErr result (IsRefusalOf Text text.now) }
 {
-    let span = Span::new(0, 0, text.len());
-    let Ok(token) = Literal::from_text(alloc, text, span) else {
-        return Err(Fault::Memory);
-    };
-    let literal = match Lit::new(alloc, token) {
-        Ok(literal) => literal,
-        Err(kept) => return Err(Fault::Literal(kept.error)),
-    };
+    let token = token_of(alloc, text)?;
+    let literal = literal_of(alloc, token)?;
     let line = line_of(alloc, &literal)?;
     Ok(line)
 }
@@ -49,10 +82,7 @@ fn literal_lines<A: Allocator + Copy>(alloc: A, text: &str) -> Result<String<A>,
     ensures lines { IfOk result (λ lines. Shows Read (chars text.now) (chars (string_bytes lines))) }
     ensures refusal { IfErr result (IsRefusalOf Read text.now) }
 {
-    let literals = match read_all(alloc, text, 0) {
-        Ok(literals) => literals,
-        Err(error) => return Err(Fault::Literal(error)),
-    };
+    let literals = literals_of(alloc, text)?;
     let lines = lines_of(alloc, literals.as_slice())?;
     Ok(lines)
 }

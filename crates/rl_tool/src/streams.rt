@@ -12,6 +12,11 @@ use std::io::{Read, Write};
 /// How many bytes a turn of reading asks for.
 const TURN: usize = 8192;
 
+/// How many turns of reading there are at most.
+const TURNS: u32 = u32::MAX;
+
+const _: () = prove!(TURNS == 4_294_967_295);
+
 /// All bytes of the input, read in at most 4,294,967,295 turns. An error of any kind counts as a failed call.
 pub fn read_whole<A: Allocator, R: Read>(alloc: A, input: &mut R) -> Result<Vec<u8, A>, Fault<A>>
     ensures bytes { IfOk result (λ bytes. IfSome (R.remaining input.old) (λ all. bytes.items ≡ all)) }
@@ -19,7 +24,7 @@ pub fn read_whole<A: Allocator, R: Read>(alloc: A, input: &mut R) -> Result<Vec<
 {
     let mut bytes = Vec::new(alloc);
     let mut turn = [0_u8; TURN];
-    for _ in 0..u32::MAX {
+    for _ in 0..TURNS {
         match input.read(&mut turn) {
             Ok(0) => return Ok(bytes),
             Ok(count) => {

@@ -87,6 +87,3 @@ pub fn read_attribute<A: Allocator + Copy>(
 {
     parse_all::<Attribute<A>, A>(alloc, text, file)
 }
-
-#[cfg(test)]
-mod tests;

@@ -7,9 +7,6 @@ ghost use Rattle.rust_literals.specs.Parsing.{AreRead};
 ghost use Rattle.rl_uses.specs.Shortage.{IsShortOf, RefusesLiterals};
 ghost use Rattle.rl_uses.specs.Counts.{AreCounts};
 
-#[cfg(test)]
-mod tests;
-
 use rl_tokens::Error;
 use rust_literals::{Lit, read_all};
 use std::alloc::Allocator;

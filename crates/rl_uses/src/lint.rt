@@ -11,9 +11,6 @@ ghost use Rattle.rust_literals.specs.Literals.{span_of};
 ghost use Rattle.rl_uses.specs.Shortage.{IsShortOf, RefusesLiterals};
 ghost use Rattle.rl_uses.specs.Lints.{TellsControl, TellsFault, AreFaults};
 
-#[cfg(test)]
-mod tests;
-
 use rl_tokens::{Error, Span};
 use rust_literals::{Lit, LitStr, read_all};
 use std::alloc::Allocator;

@@ -136,6 +136,3 @@ impl<A: Allocator + Copy> Parse<A> for ItemList<A> {
         }
     }
 }
-
-#[cfg(test)]
-mod tests;

@@ -11,9 +11,6 @@ ghost use Rattle.rust_literals.specs.Copies.{text_of};
 ghost use Rattle.rl_uses.specs.Shortage.{IsShortOf, RefusesLiterals};
 ghost use Rattle.rl_uses.specs.Rewrites.{IsQuotedRewrite, IsRewrite, PrintsLine, AreLines};
 
-#[cfg(test)]
-mod tests;
-
 use rl_tokens::{Error, Literal};
 use rust_literals::{Lit, LitByte, LitByteStr, LitCStr, LitChar, LitStr, read_all};
 use std::alloc::Allocator;

@@ -27,6 +27,3 @@ where
 {
     parse_all::<LitInt<A>, A>(alloc, text, file)?.base10_parse(alloc)
 }
-
-#[cfg(test)]
-mod tests;
