@@ -31,3 +31,6 @@ pub mod BodyLemmas
 pub mod AsciiLemmas
 pub mod PlaceLemmas
 pub mod BodyContents
+pub mod FoundLemmas
+pub mod MinusFoundLemmas
+pub mod NumberFoundLemmas

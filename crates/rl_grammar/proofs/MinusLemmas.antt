@@ -19,7 +19,7 @@ pub int_on : (t : List ℕ) (s : Sign) (m : ℕ) (x : List ℕ) → sign_at t �
 int_on t s m x e h = minus_int t x m (subst (λ (k : Sign). IntReads t k m x) (sym (int_sign t s m x h) ∙ e) h)
 
 -- a float is told by what follows its minus
-float_at-minus : (t : List ℕ) → sign_at t ≡ NoSign → float_at (45 ∷ t) ≡ float_at t
+pub float_at-minus : (t : List ℕ) → sign_at t ≡ NoSign → float_at (45 ∷ t) ≡ float_at t
 unfolding float_at
 float_at-minus [] h = refl
 float_at-minus (c ∷ cs) h = go (c == 45) refl h

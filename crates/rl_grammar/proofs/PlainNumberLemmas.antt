@@ -249,7 +249,7 @@ integer_plain t b m ut ub w p =
       reads = record { sign = r.sign; magnitude = m; reads = r.reads; within = r.within; contents_is = ap Digits (plain_body (chars t) (chars b) w.suffix r.sign m r.reads r.within w.cut p) };
     }
 
-plain_integer : (t b : List ℕ) (m : ℕ) → IsUtf8 t → IsUtf8 b → IsCutInteger (chars t) m (chars b) → IsPlain Int t → is_plain_integer (chars b) ≡ true
+pub plain_integer : (t b : List ℕ) (m : ℕ) → IsUtf8 t → IsUtf8 b → IsCutInteger (chars t) m (chars b) → IsPlain Int t → is_plain_integer (chars b) ≡ true
 plain_integer t b m ut ub w p =
     let r = p.reads in
     let o = int_once (chars t) w.suffix p.suffix w.within.sign r.sign m r.magnitude w.within.reads r.reads in
@@ -306,7 +306,7 @@ float_plain t b x ut ub r p = record {
   reads = (r, same_digits (chars b) p);
 }
 
-plain_float : (t b x : List ℕ) → FloatReads (chars t) (chars b) x → IsPlain Float t → is_plain_float (chars b) ≡ true
+pub plain_float : (t b x : List ℕ) → FloatReads (chars t) (chars b) x → IsPlain Float t → is_plain_float (chars b) ≡ true
 plain_float t b x r p =
     let o = float_once (chars t) (chars b) (chars p.body) x p.suffix r p.reads.0 in
     ap is_plain_float (o.0 ∙ sym p.reads.1) ∙ digits_kept (chars p.body)

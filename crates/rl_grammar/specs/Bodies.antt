@@ -2,7 +2,7 @@
 use Rattle.std.specs.Prelude.{◌≡◌, ◌-◌, ◌≤◌, ℕ, Bool, List, take, drop, IsTrue}
 use Rattle.std.specs.Str.{chars, IsCharBoundary}
 use Rattle.rl_tokens.specs.declared.kind.Kind.{Kind}
-use Rattle.rl_tokens.specs.declared.kind.Kind.TheVariants.{Str}
+use Rattle.rl_tokens.specs.declared.kind.Kind.TheVariants.{Str, Char}
 use Rattle.rl_tokens.specs.Quoted.{is_string}
 use Rattle.rl_tokens.specs.Reading.{HasSuffix}
 use Rattle.rl_grammar.specs.declared.quoted.Form.{Form}
@@ -27,7 +27,8 @@ pub record IsBodyAt (kind : Kind) (text : List ℕ) (body : Body) : Type 0 where
   pub ends : IsCharBoundary text body.end
   pub behind : IsCharBoundary text body.suffix_at
 
--- how many letters stand before a string of the kind
+-- how many letters stand before a quoted literal of the kind
 abbrev pub letters : Kind → ℕ
 letters Str = 0
+letters Char = 0
 letters _ = 1

@@ -11,3 +11,4 @@ pub mod StrictShapes
 pub mod FrontTokens
 pub mod PlainAt
 pub mod Bodies
+pub mod Founds

@@ -1,15 +1,18 @@
-//! Where the body of a string literal stands.
+//! Where the body of a quoted literal stands.
 
-ghost use Rattle.std.specs.Prelude.{◌≡◌, IsTrue};
+ghost use Rattle.std.specs.Prelude.{◌≡◌, ℕ, List, IsTrue};
 ghost use Rattle.std.specs.Str.{chars};
 ghost use Rattle.rl_tokens.specs.Quoted.{is_string};
+ghost use Rattle.rl_grammar.specs.declared.quoted.Form.{Form};
 ghost use Rattle.rl_grammar.specs.Bodies.{IsBodyAt, letters};
 ghost use Rattle.rl_grammar.specs.Decoded.{ReadsAsQuoted};
+ghost use Rattle.rl_grammar.specs.Forms.{PartsAre, is_plain_body};
+ghost use Rattle.rl_grammar.specs.Founds.{IsQuotedAt};
 
 use crate::quoted::quoted_parts;
 use rl_tokens::Kind;
 
-/// Where the parts of a string literal stand in its text, in bytes, and whether its contents are the body, byte for byte.
+/// Where the parts of a literal stand in its text, in bytes, and whether the body is what it stands for, byte for byte.
 #[derive(Clone, Copy)]
 pub struct Body {
     pub at: usize,
@@ -18,13 +21,38 @@ pub struct Body {
     pub plain: bool,
 }
 
-/// How many letters stand before a string of the kind that has no hashes.
+/// How many letters stand before a literal of the quoted kind that has no hashes.
 fn letters(kind: Kind) -> usize
     ensures { result ≡ letters kind }
 {
     match kind {
-        Kind::Str => 0,
+        Kind::Str | Kind::Char => 0,
         _ => 1,
+    }
+}
+
+/// The places of the parts of a quoted literal, which were found. As much stands in front of its body as behind it, but
+/// for the letters.
+pub(crate) fn quoted_body<'t>(
+    kind: Kind,
+    text: &'t str,
+    body: &'t str,
+    suffix: &'t str,
+    plain: bool,
+) -> Body
+    requires { (form : Form) × (v : List ℕ)
+        × PartsAre form kind (chars text.now) v (chars body.now) (chars suffix.now)
+        × (plain ≡ is_plain_body form kind (chars body.now)) }
+    ensures { IsQuotedAt kind text.now result }
+{
+    let suffix_at = text.len() - suffix.len();
+    let closer = (suffix_at - body.len() - letters(kind)) / 2;
+    let end = suffix_at - closer;
+    Body {
+        at: end - body.len(),
+        end,
+        suffix_at,
+        plain,
     }
 }
 
@@ -37,14 +65,5 @@ pub fn body_of(kind: Kind, text: &str) -> Body
     let Some((_, parts, plain)) = quoted_parts(text) else {
         unreachable!()
     };
-    let suffix_at = text.len() - parts.suffix.len();
-    // A raw string has as many hashes in front of its body as behind it.
-    let closer = (suffix_at - parts.body.len() - letters(kind)) / 2;
-    let end = suffix_at - closer;
-    Body {
-        at: end - parts.body.len(),
-        end,
-        suffix_at,
-        plain,
-    }
+    quoted_body(kind, text, parts.body, parts.suffix, plain)
 }

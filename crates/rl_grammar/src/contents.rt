@@ -18,7 +18,7 @@ use rl_tokens::{Error, ErrorKind, Kind, Span};
 use std::alloc::{AllocError, Allocator};
 
 /// Want of memory, told of no place in a text.
-fn out_of_memory<A: Allocator>() -> Error<A>
+pub(crate) fn out_of_memory<A: Allocator>() -> Error<A>
     ensures { result ≡ memory_at nowhere }
 {
     Error {

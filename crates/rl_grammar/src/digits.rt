@@ -9,16 +9,19 @@ ghost use Rattle.rl_tokens.specs.Errors.{memory_at, nowhere};
 ghost use Rattle.rl_tokens.specs.Numbers.{float_digits, sign_text};
 ghost use Rattle.rl_tokens.specs.declared.kind.Kind.TheVariants.{Float, Int};
 ghost use Rattle.rl_grammar.specs.NumberAt.{sign_at};
+ghost use Rattle.rl_grammar.specs.Founds.{IsFoundNumber};
 ghost use Rattle.rl_grammar.specs.NumberShapes.{AreDigits, IsCutInteger, IsNumber};
 ghost use Rattle.rl_grammar.specs.WholeShapes.{IsPlain};
 ghost use Rattle.rl_grammar.specs.PlainAt.{is_kept, is_plain_digits, is_plain_float, is_plain_integer};
 
+use crate::contents::out_of_memory;
 use crate::floats::float_shape;
+use crate::found::Found;
 use crate::integers::read_integer;
 use crate::rows::{after_minus, cut_suffix, is_negative};
 use crate::strict::words::is_some_text;
 use rl_tokens::text::split_char;
-use rl_tokens::{Error, ErrorKind, Kind, Span};
+use rl_tokens::{Error, Kind};
 use std::alloc::{AllocError, Allocator};
 use std::fmt::Write;
 
@@ -43,11 +46,59 @@ pub fn digits_of<A: Allocator>(alloc: A, kind: Kind, text: &str) -> Result<Strin
     };
     match digits {
         Ok(digits) => Ok(digits),
-        Err(_) => Err(Error {
-            span: Span::call_site(),
-            kind: ErrorKind::Memory,
-        }),
+        Err(_) => Err(out_of_memory()),
     }
+}
+
+/// The digits of a number that was found in the text, in base ten, as [`digits_of`] tells them. Nothing is read again:
+/// a plain body is copied, and an integer's magnitude is written.
+///
+/// # Errors
+///
+/// `Memory` where memory is refused, told at `Span::call_site`.
+pub fn digits_of_found<A: Allocator>(
+    alloc: A,
+    text: &str,
+    found: Found,
+) -> Result<String<A>, Error<A>>
+    requires { IsFoundNumber text.now found }
+    ensures value { IfOk result (λ s. AreDigits found.kind (chars text.now) (chars (string_bytes s))) }
+    ensures memory { IfErr result (λ e. e ≡ memory_at nowhere) }
+{
+    match found_digits(alloc, text, found) {
+        Ok(digits) => Ok(digits),
+        Err(_) => Err(out_of_memory()),
+    }
+}
+
+/// The digits of a number that was found in the text.
+fn found_digits<A: Allocator>(alloc: A, text: &str, found: Found) -> Result<String<A>, AllocError>
+    requires { IsFoundNumber text.now found }
+    ensures { IfOk result (λ s. AreDigits found.kind (chars text.now) (chars (string_bytes s))) }
+{
+    let body = &text[found.body.at..found.body.end];
+    if found.body.plain {
+        return String::from_str(alloc, body);
+    }
+    match found.kind {
+        Kind::Int => signed_decimal(alloc, text, found.magnitude),
+        _ => plain_numeral(alloc, body),
+    }
+}
+
+/// A magnitude in base ten, behind a minus where the text begins with one.
+fn signed_decimal<A: Allocator>(
+    alloc: A,
+    text: &str,
+    magnitude: u128,
+) -> Result<String<A>, AllocError>
+    ensures { IfOk result
+        (λ s. string_bytes s ≡ sign_text (sign_at (chars text.now)) ++ decimal magnitude) }
+{
+    let mut digits = String::with_capacity(alloc, INTEGER_DIGITS)?;
+    push_sign(&mut digits, text)?;
+    push_decimal(&mut digits, magnitude)?;
+    Ok(digits)
 }
 
 /// Whether the text reads as an integer within 128 bits whose digits are its body, byte for byte.
@@ -107,7 +158,7 @@ fn is_plain_digits(text: &str) -> bool
 }
 
 /// The same, perhaps behind a minus.
-fn is_plain_integer(body: &str) -> bool
+pub(crate) fn is_plain_integer(body: &str) -> bool
     ensures { result ≡ is_plain_integer (chars body.now) }
 {
     is_plain_digits(after_minus(body))
@@ -128,7 +179,7 @@ fn keeps_all(numeral: &[u8]) -> bool
 }
 
 /// Whether a float's digits are its numeral as it stands.
-fn is_plain_float(numeral: &str) -> bool
+pub(crate) fn is_plain_float(numeral: &str) -> bool
     ensures { result ≡ is_plain_float (chars numeral.now) }
 {
     keeps_all(numeral.as_bytes())

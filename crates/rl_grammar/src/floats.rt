@@ -83,7 +83,7 @@ fn tail_suffix(text: &str) -> Option<&str>
 
 /// The suffix of the float that the text is.
 #[tactic(auto, using(rl_tokens::proofs::BehindLemmas::behind_step, rl_tokens::proofs::BehindLemmas::behind_self), unfolding(crate::specs::NumberAt::float_at))]
-fn float_suffix(text: &str) -> Option<&str>
+pub(crate) fn float_suffix(text: &str) -> Option<&str>
     ensures value { option_map (λ x. chars x.now) result ≡ float_at (chars text.now) }
     ensures behind { IfSome result (λ x. IsBehind text.now x.now) }
 {

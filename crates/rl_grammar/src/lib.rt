@@ -6,6 +6,7 @@ mod contents;
 mod cuts;
 mod digits;
 mod floats;
+mod found;
 mod front;
 mod integers;
 mod numbers;
@@ -21,8 +22,9 @@ mod units;
 
 pub use crate::bodies::{Body, body_of};
 pub use crate::contents::{byte_of, bytes_of, bytes_of_body, char_of, str_of, str_of_body};
-pub use crate::digits::digits_of;
+pub use crate::digits::{digits_of, digits_of_found};
 pub use crate::floats::float_shape;
+pub use crate::found::{Found, find, find_float, find_int, find_negative};
 pub use crate::front::{Front, next_is, take_kind};
 pub use crate::integers::int_shape;
 pub use crate::numbers::shape_negative;

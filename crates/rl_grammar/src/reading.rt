@@ -50,7 +50,7 @@ fn is_number_front(bytes: &[u8]) -> bool
 
 /// Whether the text begins as numbers do, and no other literals.
 #[inline(always)]
-fn begins_number(text: &str) -> bool
+pub(crate) fn begins_number(text: &str) -> bool
     ensures { result ≡ passes is_number_front (chars text.now) }
 {
     is_number_front(text.as_bytes())

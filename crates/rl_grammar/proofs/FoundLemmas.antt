@@ -1,0 +1,192 @@
+-- What reading a text finds, from its parts.
+use Rattle.std.proofs.Common.{◌≡◌, ◌≢◌, ℕ, ◌-◌, ◌<◌, ◌≤◌, ◌⊎◌, inl, inr, Bool, true, false, List, [], ◌∷◌, ◌++◌, length, take, drop, refl, sym, ap, ap₂, subst, ◌∙◌, arith, length-append}
+use Rattle.std.proofs.Math.Seq.{drop-append_seam, take-append_seam}
+use Rattle.std.proofs.lemmas.Bool.{both_ways, or_right}
+use Rattle.std.proofs.lemmas.List.{append_cancel_right}
+use Rattle.std.proofs.lemmas.Str.{IsCharBoundary-start, IsCharBoundary-end, IsUtf8-between, IsUtf8-drop, chars-append, chars-nil}
+use Rattle.std.specs.Str.{chars, IsUtf8, IsCharBoundary}
+use Rattle.rl_tokens.specs.declared.kind.Kind.{Kind}
+use Rattle.rl_tokens.specs.declared.kind.Kind.TheVariants.{Str, ByteStr, CStr, Byte, Char, Int, Float, Bool as BoolKind}
+use Rattle.rl_tokens.specs.Texts.{IsBehind}
+use Rattle.rl_tokens.specs.Numbers.{FloatReads, float_digits}
+use Rattle.rl_tokens.specs.Quoted.{is_string, is_single}
+use Rattle.rl_tokens.specs.Reading.{Contents, Digits, Truth, HasNoInteger, HasSuffix, ReadsInt, ReadsQuoted, quoted_contents, truth_text}
+use Rattle.rl_tokens.proofs.BehindLemmas.{cut_boundary, cut_drop}
+use Rattle.rl_grammar.specs.declared.quoted.Form.{Form}
+use Rattle.rl_grammar.specs.declared.quoted.Form.TheVariants.{Cooked as CookedForm, Raw as RawForm, Single as SingleForm}
+use Rattle.rl_grammar.specs.declared.bodies.Body.{Body}
+use Rattle.rl_grammar.specs.declared.found.Found.{Found}
+use Rattle.rl_grammar.specs.Forms.{PartsAre, is_plain_body}
+use Rattle.rl_grammar.specs.Founds.{IsFound, IsFoundFloat, IsQuotedAt, StandsIn, body_in, suffix_in, is_quoted}
+use Rattle.rl_grammar.specs.NumberShapes.{IsWithin, IsCutInteger}
+use Rattle.rl_grammar.specs.PlainAt.{is_plain_integer, is_plain_float}
+use Rattle.rl_grammar.specs.Shapes.{IsQuotedCut}
+use Rattle.rl_grammar.specs.WholeShapes.{IsCut, IsPlain}
+use Rattle.rl_grammar.proofs.BodyLemmas.{plain_parts, parts_plain}
+use Rattle.rl_grammar.proofs.FormLemmas.{not_both, parts_read}
+use Rattle.rl_grammar.proofs.IntegerLemmas.{within_reads}
+use Rattle.rl_grammar.proofs.PlainNumberLemmas.{whether_integer, whether_float}
+use Rattle.rl_grammar.proofs.ShapeLemmas.{parts_cut}
+
+-- ---- quoted literals
+
+-- the parts are texts
+pub body_text : (t : List ℕ) (body : Body) → IsUtf8 t → StandsIn t body → IsUtf8 (body_in t body)
+body_text t body u s = IsUtf8-between t body.at body.end u s.ordered s.begins s.ends
+
+pub suffix_text : (t : List ℕ) (body : Body) → IsUtf8 t → StandsIn t body → IsUtf8 (suffix_in t body)
+suffix_text t body u s = IsUtf8-drop t body.suffix_at u s.behind
+
+pub quoted_cut : (kind : Kind) (t : List ℕ) (body : Body) → IsUtf8 t → IsQuotedAt kind t body → IsQuotedCut kind t (body_in t body) (suffix_in t body)
+quoted_cut kind t body u q = parts_cut q.form kind t q.value (body_in t body) (suffix_in t body) u (body_text t body u q.stands) (suffix_text t body u q.stands) q.parts
+
+pub quoted_reads : (kind : Kind) (t : List ℕ) (body : Body) (q : IsQuotedAt kind t body) → ReadsQuoted (chars t) kind (quoted_contents kind q.value) (chars (suffix_in t body))
+quoted_reads kind t body q = parts_read q.form kind (chars t) q.value (chars (body_in t body)) (chars (suffix_in t body)) q.parts
+
+abbrev pub Whether : Bool → Kind → List ℕ → Type 0
+Whether b k t = (b ≡ true → IsPlain k t) × (IsPlain k t → b ≡ true)
+
+string_plain : (kind : Kind) (t : List ℕ) (body : Body) → is_string kind ≡ true → IsUtf8 t → IsQuotedAt kind t body → Whether body.plain kind t
+string_plain kind t body s u q =
+    let ub = body_text t body u q.stands in
+    let ux = suffix_text t body u q.stands in (
+      (λ e. plain_parts q.form kind t q.value (body_in t body) (suffix_in t body) s (sym q.plain_is ∙ e) u ub ux q.parts),
+      (λ p. q.plain_is ∙ (parts_plain q.form kind kind t q.value (body_in t body) (suffix_in t body) s u ub ux q.parts p).1),
+    )
+
+-- a character's or a byte's body isn't taken as it stands
+single_form : (form : Form) (kind : Kind) (t v b x : List ℕ) → is_single kind ≡ true → PartsAre form kind t v b x → is_plain_body form kind b ≡ false
+single_form CookedForm kind t v b x s p = absurd (not_both kind p.0.string s)
+single_form RawForm kind t v b x s p = absurd (not_both kind p.0.string s)
+single_form SingleForm kind t v b x s p = refl
+
+single_plain : (kind : Kind) (t : List ℕ) (body : Body) → is_single kind ≡ true → (IsPlain kind t → ⊥) → IsQuotedAt kind t body → Whether body.plain kind t
+single_plain kind t body s none q =
+    let other = q.plain_is ∙ single_form q.form kind (chars t) q.value (chars (body_in t body)) (chars (suffix_in t body)) s q.parts in
+    ((λ e. absurd (both_ways body.plain other e)), (λ p. absurd (none p)))
+
+form_quoted : (form : Form) (kind : Kind) (t v b x : List ℕ) → PartsAre form kind t v b x → (is_string kind ≡ true) ⊎ (is_single kind ≡ true)
+form_quoted CookedForm kind t v b x p = inl p.0.string
+form_quoted RawForm kind t v b x p = inl p.0.string
+form_quoted SingleForm kind t v b x p = inr p.0.single
+
+no_form : (kind : Kind) (t : List ℕ) (body : Body) → is_string kind ≡ false → is_single kind ≡ false → IsQuotedAt kind t body → ⊥
+no_form kind t body s o q = elim (form_quoted q.form kind (chars t) q.value (chars (body_in t body)) (chars (suffix_in t body)) q.parts) [
+  | inl e ↦ both_ways (is_string kind) s e
+  | inr e ↦ both_ways (is_single kind) o e
+]
+
+abbrev pub Of : Kind → Body → ℕ → Found
+Of kind body magnitude = record { kind = kind; body = body; magnitude = magnitude }
+
+pub quoted_found : (t : List ℕ) (kind : Kind) (body : Body) → IsUtf8 t → IsQuotedAt kind t body → IsFound t (Of kind body 0)
+quoted_found t Str body u q = record { reads = (_, quoted_reads Str t body q); cut = quoted_cut Str t body u q; stands = q.stands; plain = string_plain Str t body refl u q; quoted = λ h. q; integer = λ e. absurd (cc); no_magnitude = λ n. refl }
+quoted_found t ByteStr body u q = record { reads = (_, quoted_reads ByteStr t body q); cut = quoted_cut ByteStr t body u q; stands = q.stands; plain = string_plain ByteStr t body refl u q; quoted = λ h. q; integer = λ e. absurd (cc); no_magnitude = λ n. refl }
+quoted_found t CStr body u q = record { reads = (_, quoted_reads CStr t body q); cut = quoted_cut CStr t body u q; stands = q.stands; plain = string_plain CStr t body refl u q; quoted = λ h. q; integer = λ e. absurd (cc); no_magnitude = λ n. refl }
+quoted_found t Byte body u q = record { reads = (_, quoted_reads Byte t body q); cut = quoted_cut Byte t body u q; stands = q.stands; plain = single_plain Byte t body refl (λ p. p.reads) q; quoted = λ h. q; integer = λ e. absurd (cc); no_magnitude = λ n. refl }
+quoted_found t Char body u q = record { reads = (_, quoted_reads Char t body q); cut = quoted_cut Char t body u q; stands = q.stands; plain = single_plain Char t body refl (λ p. p.reads) q; quoted = λ h. q; integer = λ e. absurd (cc); no_magnitude = λ n. refl }
+quoted_found t Int body u q = absurd (no_form Int t body refl refl q)
+quoted_found t Float body u q = absurd (no_form Float t body refl refl q)
+quoted_found t BoolKind body u q = absurd (no_form BoolKind t body refl refl q)
+
+-- ---- numbers
+
+abbrev pub NumberBody : ℕ → Bool → Body
+NumberBody n plain = record { at = 0; end = n; suffix_at = n; plain = plain }
+
+-- where the parts of a number stand
+record Cut (t b x : List ℕ) (n : ℕ) : Type 0 where
+  pub body_is : take (n - 0) (drop 0 t) ≡ b
+  pub suffix_is : drop n t ≡ x
+  pub boundary : IsCharBoundary t n
+  pub chars_cut : chars t ≡ chars b ++ chars x
+
+number_cut : (t b x : List ℕ) (n : ℕ) → IsUtf8 b → IsBehind t x → t ≡ b ++ x → n ≡ length t - length x → Cut t b x n
+number_cut t b x n ub behind e n_is =
+    let long : n - 0 ≡ length b = omega (arith, n_is, ap length e, length-append b x) in
+    record {
+      body_is = ap (λ k. take k (drop 0 t)) long ∙ ap (λ z. take (length b) (drop 0 z)) e ∙ take-append_seam b x;
+      suffix_is = ap (λ k. drop k t) n_is ∙ cut_drop t x behind;
+      boundary = subst (λ k. IsCharBoundary t k) (sym n_is) (cut_boundary t x behind);
+      chars_cut = ap chars e ∙ chars-append b x ub;
+    }
+
+number_stands : (t : List ℕ) (n : ℕ) (plain : Bool) → IsUtf8 t → IsCharBoundary t n → StandsIn t (NumberBody n plain)
+number_stands t n plain u h = record { ordered = omega arith; begins = IsCharBoundary-start t u; ends = h; behind = h }
+
+integer_body : (t b x : List ℕ) (m n : ℕ) (plain : Bool) → IsUtf8 t → IsUtf8 b → IsWithin (chars t) m (chars x) → IsBehind t x → t ≡ b ++ x → n ≡ length t - length x → plain ≡ is_plain_integer (chars b) → IsFound t (Of Int (NumberBody n plain) m)
+integer_body t b x m n plain ut ub within behind e n_is plain_is =
+    let c = number_cut t b x n ub behind e n_is in
+    let at : IsWithin (chars t) m (chars (drop n t)) = subst (λ z. IsWithin (chars t) m (chars z)) (sym c.suffix_is) within in
+    let cut : IsCutInteger (chars t) m (chars b) = record { suffix = chars x; within = within; cut = c.chars_cut } in
+    record {
+      reads = within_reads (chars t) (chars (drop n t)) m at;
+      cut = e ∙ sym (ap₂ (λ y z. y ++ z) c.body_is c.suffix_is);
+      stands = number_stands t n plain ut c.boundary;
+      plain = whether_integer t b m plain ut ub cut plain_is;
+      quoted = λ h. absurd (cc);
+      integer = λ h. at;
+      no_magnitude = λ h. absurd (h refl);
+    }
+
+pub integer_found : (t b x : List ℕ) (m n : ℕ) (plain : Bool) (body : Body) → body ≡ NumberBody n plain → IsUtf8 t → IsUtf8 b → IsWithin (chars t) m (chars x) → IsBehind t x → t ≡ b ++ x → n ≡ length t - length x → plain ≡ is_plain_integer (chars b) → IsFound t (Of Int body m)
+integer_found t b x m n plain body body_is ut ub within behind e n_is plain_is = subst (λ z. IsFound t (Of Int z m)) (sym body_is) (integer_body t b x m n plain ut ub within behind e n_is plain_is)
+
+float_body : (t b x numeral : List ℕ) (n : ℕ) (plain : Bool) → IsUtf8 t → IsUtf8 b → FloatReads (chars t) numeral (chars x) → IsBehind t x → t ≡ b ++ x → n ≡ length t - length x → plain ≡ is_plain_float (chars b) → IsFoundFloat t (Of Float (NumberBody n plain) 0)
+float_body t b x numeral n plain ut ub reads behind e n_is plain_is =
+    let c = number_cut t b x n ub behind e n_is in
+    let same : numeral ≡ chars b = append_cancel_right numeral (chars b) (chars x) (sym reads.text_is ∙ c.chars_cut) in
+    let r : FloatReads (chars t) (chars b) (chars x) = subst (λ z. FloatReads (chars t) z (chars x)) same reads in
+    record {
+      kind = refl;
+      reads = subst (λ z. FloatReads (chars t) (chars z) (chars (drop n t))) (sym c.body_is) (subst (λ z. FloatReads (chars t) (chars b) (chars z)) (sym c.suffix_is) r);
+      cut = e ∙ sym (ap₂ (λ y z. y ++ z) c.body_is c.suffix_is);
+      stands = number_stands t n plain ut c.boundary;
+      plain = whether_float t b (chars x) plain ut ub r plain_is;
+      no_magnitude = refl;
+    }
+
+pub float_found : (t b x numeral : List ℕ) (n : ℕ) (plain : Bool) (body : Body) → body ≡ NumberBody n plain → IsUtf8 t → IsUtf8 b → FloatReads (chars t) numeral (chars x) → IsBehind t x → t ≡ b ++ x → n ≡ length t - length x → plain ≡ is_plain_float (chars b) → IsFoundFloat t (Of Float body 0)
+float_found t b x numeral n plain body body_is ut ub reads behind e n_is plain_is = subst (λ z. IsFoundFloat t (Of Float z 0)) (sym body_is) (float_body t b x numeral n plain ut ub reads behind e n_is plain_is)
+
+-- a float is found where no integer stands
+pub float_alone : (t : List ℕ) (f : Found) → HasNoInteger (chars t) → IsFoundFloat t f → IsFound t f
+float_alone t f none h =
+    let back = sym h.kind in
+    record {
+      reads = subst (λ k. HasSuffix k (chars t) (chars (suffix_in t f.body))) back (Digits (float_digits (chars (body_in t f.body))), record { numeral = chars (body_in t f.body); reads = h.reads; no_integer = none; contents_is = refl });
+      cut = subst (λ k. IsCut k t (body_in t f.body) (suffix_in t f.body)) back h.cut;
+      stands = h.stands;
+      plain = subst (λ k. Whether f.body.plain k t) back h.plain;
+      quoted = λ q. absurd (both_ways (is_quoted f.kind) (ap is_quoted h.kind) q);
+      integer = λ e. absurd (cc);
+      no_magnitude = λ n. h.no_magnitude;
+    }
+
+-- ---- truth values
+
+pub truth_found : (t : List ℕ) (b : Bool) → IsUtf8 t → chars t ≡ truth_text b → IsFound t (Of BoolKind (NumberBody (length t) false) 0)
+truth_found t b u e =
+    let nothing : drop (length t) t ≡ [] = drop_all t in
+    record {
+      reads = (Truth b, record { truth = b; text_is = e; suffix_is = ap chars nothing ∙ chars-nil; contents_is = refl });
+      cut = (take_all t, nothing);
+      stands = number_stands t (length t) false u (IsCharBoundary-end t);
+      plain = ((λ h. absurd (cc)), (λ p. absurd p.reads));
+      quoted = λ h. absurd (cc);
+      integer = λ h. absurd (cc);
+      no_magnitude = λ h. refl;
+    }
+  where
+    drop_all : (xs : List ℕ) → drop (length xs) xs ≡ []
+    drop_all [] = refl
+    drop_all (y ∷ xs) = drop_all xs
+
+    take_whole : (xs : List ℕ) → take (length xs) xs ≡ xs
+    take_whole [] = refl
+    take_whole (y ∷ xs) = ap (λ z. y ∷ z) (take_whole xs)
+
+    take_all : (xs : List ℕ) → take (length xs - 0) (drop 0 xs) ≡ xs
+    take_all xs =
+        let n : length xs - 0 ≡ length xs = omega arith in
+        ap (λ k. take k (drop 0 xs)) n ∙ take_whole xs

@@ -1,0 +1,197 @@
+//! What reading a text finds, told by places in it: nothing has to be read again to take a literal apart.
+
+ghost use Rattle.std.specs.Prelude.{◌≡◌, ◌≢◌, ◌∷◌, ◌⊎◌, ◌-◌, ◌≤◌, ℕ, List, IfNone, IfSome, length};
+ghost use Rattle.std.specs.Str.{chars};
+ghost use Rattle.rl_tokens.specs.declared.kind.Kind.TheVariants.{Float, Int};
+ghost use Rattle.rl_tokens.specs.Numbers.{FloatReads};
+ghost use Rattle.rl_tokens.specs.Reading.{HasNoInteger};
+ghost use Rattle.rl_tokens.specs.Texts.{IsBehind};
+ghost use Rattle.rl_grammar.specs.Founds.{IsFound, IsFoundFloat};
+ghost use Rattle.rl_grammar.specs.NumberShapes.{HasNoFloat, HasNoNumber, HasNoReading, HasOneFloat, HasOneInteger, IsPast, IsWithin};
+ghost use Rattle.rl_grammar.specs.Shapes.{HasNoQuoted};
+ghost use Rattle.rl_grammar.specs.WholeShapes.{HasNoTruth};
+
+use crate::bodies::{Body, quoted_body};
+use crate::digits::{is_plain_float, is_plain_integer};
+use crate::floats::float_suffix;
+use crate::integers::read_integer;
+use crate::quoted::quoted_parts;
+use crate::reading::{begins_number, truth_of};
+use crate::rows::{cut_suffix, is_negative};
+use rl_tokens::Kind;
+
+/// What reading a text finds: the kind of the literal and where its parts stand.
+///
+/// Of a quoted literal the body is what stands between its quotes, of a number all that stands before its suffix, sign
+/// and prefix included, and of a truth value the whole text. Nothing is lent: the text is cut at the places again.
+#[derive(Clone, Copy)]
+pub struct Found {
+    pub kind: Kind,
+    /// Where body and suffix stand, and whether the body is what the literal stands for, as
+    /// [`is_plain`](crate::is_plain) tells.
+    pub body: Body,
+    /// What the digits of an integer spell; 0 for any other kind.
+    pub magnitude: u128,
+}
+
+/// Where the parts of a number stand that ends with this suffix.
+fn number_body(text: &str, suffix: &str, plain: bool) -> Body
+    requires { length suffix.now ≤ length text.now }
+    ensures { result ≡ record {
+      at = 0;
+      end = length text.now - length suffix.now;
+      suffix_at = length text.now - length suffix.now;
+      plain = plain;
+    } }
+{
+    let end = text.len() - suffix.len();
+    Body {
+        at: 0,
+        end,
+        suffix_at: end,
+        plain,
+    }
+}
+
+/// The integer of this magnitude and suffix.
+fn integer_found<'t>(text: &'t str, suffix: &'t str, magnitude: u128) -> Found
+    requires within { IsWithin (chars text.now) magnitude (chars suffix.now) }
+    requires behind { IsBehind text.now suffix.now }
+    ensures found { IsFound text.now result }
+    ensures kind { result.kind ≡ Int }
+{
+    let parts = cut_suffix(Kind::Int, text, suffix);
+    let plain = is_plain_integer(parts.body);
+    Found {
+        kind: Kind::Int,
+        body: number_body(text, suffix, plain),
+        magnitude,
+    }
+}
+
+/// The float of this suffix.
+fn float_found<'t>(text: &'t str, suffix: &'t str) -> Found
+    requires reads { (numeral : List ℕ) × FloatReads (chars text.now) numeral (chars suffix.now) }
+    requires behind { IsBehind text.now suffix.now }
+    ensures { IsFoundFloat text.now result }
+{
+    let parts = cut_suffix(Kind::Float, text, suffix);
+    let plain = is_plain_float(parts.body);
+    Found {
+        kind: Kind::Float,
+        body: number_body(text, suffix, plain),
+        magnitude: 0,
+    }
+}
+
+/// What reading the text as an integer finds: `None` where it is none, `Some(None)` where its magnitude is past 128
+/// bits.
+pub fn find_int(text: &str) -> Option<Option<Found>>
+    ensures none { IfNone result (HasNoInteger (chars text.now)) }
+    ensures past { IfSome result (λ o. IfNone o (IsPast (chars text.now))) }
+    ensures found { IfSome result (λ o. IfSome o (IsFound text.now)) }
+    ensures kind { IfSome result (λ o. IfSome o (λ f. f.kind ≡ Int)) }
+    ensures once { HasOneInteger (chars text.now) }
+{
+    let integer = read_integer(text)?;
+    match integer.magnitude {
+        Some(magnitude) => Some(Some(integer_found(text, integer.suffix, magnitude))),
+        None => Some(None),
+    }
+}
+
+/// What reading the text as a float finds, whether or not an integer stands there too: `None` where it is none.
+pub fn find_float(text: &str) -> Option<Found>
+    ensures none { IfNone result (HasNoFloat (chars text.now)) }
+    ensures found { IfSome result (IsFoundFloat text.now) }
+    ensures once { HasOneFloat (chars text.now) }
+{
+    let suffix = float_suffix(text)?;
+    Some(float_found(text, suffix))
+}
+
+/// What reading the text as a number finds, an integer before a float.
+fn find_number(text: &str) -> Option<Found>
+    ensures none { IfNone result (HasNoNumber (chars text.now)) }
+    ensures found { IfSome result (IsFound text.now) }
+    ensures number { IfSome result (λ f. (f.kind ≡ Int) ⊎ (f.kind ≡ Float)) }
+{
+    match find_int(text) {
+        Some(found) => found,
+        None => find_float(text),
+    }
+}
+
+/// What reading a minus and the text finds; its places count in the text with the minus.
+///
+/// `Some` exactly where the text with a minus before it reads as a literal; it is then an integer or a float.
+pub fn find_negative(text: &str) -> Option<Found>
+    ensures none { IfNone result (HasNoReading (45 ∷ chars text.now)) }
+    ensures found { IfSome result (IsFound (45 ∷ text.now)) }
+    ensures number { IfSome result (λ f. (f.kind ≡ Int) ⊎ (f.kind ≡ Float)) }
+{
+    if is_negative(text) {
+        return None;
+    }
+    let found = find_number(text)?;
+    let end = found.body.suffix_at + 1;
+    let body = Body {
+        at: 0,
+        end,
+        suffix_at: end,
+        plain: found.body.plain,
+    };
+    Some(Found {
+        kind: found.kind,
+        body,
+        magnitude: found.magnitude,
+    })
+}
+
+/// What reading the text as a quoted literal finds.
+fn find_quoted(text: &str) -> Option<Found>
+    ensures none { IfNone result (HasNoQuoted (chars text.now)) }
+    ensures found { IfSome result (IsFound text.now) }
+{
+    let (_, parts, plain) = quoted_parts(text)?;
+    Some(Found {
+        kind: parts.kind,
+        body: quoted_body(parts.kind, text, parts.body, parts.suffix, plain),
+        magnitude: 0,
+    })
+}
+
+/// What reading the text as a truth value finds.
+fn find_truth(text: &str) -> Option<Found>
+    ensures none { IfNone result (HasNoTruth (chars text.now)) }
+    ensures found { IfSome result (IsFound text.now) }
+{
+    truth_of(text)?;
+    let body = Body {
+        at: 0,
+        end: text.len(),
+        suffix_at: text.len(),
+        plain: false,
+    };
+    Some(Found {
+        kind: Kind::Bool,
+        body,
+        magnitude: 0,
+    })
+}
+
+/// What reading the text finds: `None` where it is no literal, or an integer past 128 bits.
+///
+/// It is the reading of [`shape`](crate::shape), with all that was learned on the way.
+pub fn find(text: &str) -> Option<Found>
+    ensures none { IfNone result (HasNoReading (chars text.now)) }
+    ensures found { IfSome result (IsFound text.now) }
+{
+    if begins_number(text) {
+        return find_number(text);
+    }
+    if let Some(found) = find_quoted(text) {
+        return Some(found);
+    }
+    find_truth(text)
+}
