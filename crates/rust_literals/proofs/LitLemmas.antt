@@ -1,5 +1,6 @@
 -- Literals by their kind and token.
-use Rattle.std.proofs.Common.{◌≡◌, ◌≢◌, ℕ, ◌==◌, Bool as Truths, true, false, List, [], Option, Some, None, refl, sym, ◌∙◌, ap, subst}
+use Rattle.std.proofs.Common.{◌≡◌, ℕ, ◌==◌, Bool as Truths, true, false, List, [], ◌∷◌, Option, Some, None, refl, sym, ◌∙◌, ap, subst}
+use Rattle.std.specs.Cmp.Lexicographic.{pointwise}
 use Rattle.std.specs.Str.{chars, IsUtf8}
 use Rattle.rl_tokens.specs.declared.kind.Kind.{Kind}
 use Rattle.rl_tokens.specs.declared.kind.Kind.TheVariants.{Str as StrKind, ByteStr as ByteStrKind, CStr as CStrKind, Byte as ByteKind, Char as CharKind, Int as IntKind, Float as FloatKind, Bool as BoolKind}
@@ -10,11 +11,14 @@ use Rattle.rl_tokens.specs.Trees.{Tree, LiteralTree}
 use Rattle.rl_tokens.specs.Reading.{Truth, Reads, ReadsAs, HasSuffix, truth_text}
 use Rattle.rl_tokens.specs.Fronts.{HasReading}
 use Rattle.rl_tokens.proofs.OneReading.{one_reading}
+use Rattle.rl_grammar.specs.declared.found.Found.{Found}
+use Rattle.rl_grammar.specs.Founds.{IsFound, suffix_in}
+use Rattle.rl_grammar.specs.WholeShapes.{IsPlain}
 use Rattle.rl_grammar.proofs.ReadingLemmas.{truth_chars, truth_bytes}
 use Rattle.rl_grammar.proofs.FrontLemmas.{minus_chars}
 use Rattle.rust_literals.specs.declared.lit.Lit.{Lit}
 use Rattle.rust_literals.specs.declared.lit.Lit.TheVariants.{Str, ByteStr, CStr, Byte, Char, Int, Float, Bool, Verbatim}
-use Rattle.rust_literals.specs.Literals.{kind_of, token_of, IsReadAs, IsReadFrom}
+use Rattle.rust_literals.specs.Literals.{kind_of, token_of, IsReadAs, IsReadFrom, ReadsPlain}
 use Rattle.rust_literals.specs.Copies.{tree_of}
 
 -- ---- a literal is told by its kind and token
@@ -100,16 +104,19 @@ read_truth token b span e s =
     (is, (Truth b, [], truth_reads token.text b e))
 
 -- and this is what was read
-pub truth_read : {A : Type 0} (token : Token) (b : Truths) (span : Span) → (record { text = truth_text b; span = span } ≡ token) × ReadsAs BoolKind (chars token.text) → (span ≡ token.span) × Reads (chars token.text) BoolKind (Truth b) []
+pub truth_read : (token : Token) (b : Truths) (span : Span) → (record { text = truth_text b; span = span } ≡ token) × ReadsAs BoolKind (chars token.text) → (span ≡ token.span) × Reads (chars token.text) BoolKind (Truth b) []
 truth_read token b span (is, r) = (ap (λ (t : Token). t.span) is, truth_reads token.text b (ap (λ (t : Token). t.text) (sym is)))
 
--- a truth value that isn't the word `true`
-not_true : (t : List ℕ) (b : Truths) → chars t ≡ truth_text b → (chars t ≡ truth_text true → ⊥) → chars t ≡ truth_text false
-not_true t true e h = absurd (h e)
-not_true t false e h = e
+-- the value of a text that is one of the words, by comparing it with the first
+word_value : (b : Truths) → pointwise ◌==◌ (truth_text b) (truth_text true) ≡ b
+word_value true = refl
+word_value false = refl
 
-pub false_word : (t : List ℕ) → IsUtf8 t → ReadsAs BoolKind (chars t) → t ≢ truth_text true → t ≡ truth_text false
-false_word t u r h = truth_bytes t false u (not_true t r.2.truth r.2.text_is (λ e. h (truth_bytes t true u e)))
+pub read_word : (token : Token) (seen : List ℕ) (value : Truths) (span : Span) → IsUtf8 seen → seen ≡ token.text → ReadsAs BoolKind (chars token.text) → value ≡ pointwise ◌==◌ seen (truth_text true) → span ≡ token.span → (record { text = truth_text value; span = span } ≡ token) × ReadsAs BoolKind (chars token.text)
+read_word token seen value span utf8 same (v, x, r) tested there =
+    let word : seen ≡ truth_text r.truth = truth_bytes seen r.truth utf8 (ap chars same ∙ r.text_is) in
+    let value_is : value ≡ r.truth = tested ∙ ap (λ z. pointwise ◌==◌ z (truth_text true)) word ∙ word_value r.truth in
+    read_truth token value span (sym same ∙ word ∙ ap truth_text (sym value_is)) there
 
 -- ---- by the kind
 
@@ -135,3 +142,10 @@ literal_tree (Int l) other = refl
 literal_tree (Float l) other = refl
 literal_tree (Bool l) other = absurd (other l refl)
 literal_tree (Verbatim l) other = refl
+
+-- ---- a literal by what was found
+
+pub found_lent : (kind : Kind) (text : List ℕ) (found : Found) → IsFound text found → found.kind ≡ kind → (IsPlain kind text → ⊥) → ReadsPlain text → ⊥
+found_lent kind text found h e never (k, (v, x, r), plain) =
+    let one = one_reading (chars text) k found.kind v h.reads.0 x (chars (suffix_in text found.body)) r h.reads.1 in
+    never (subst (λ z. IsPlain z text) (one.0 ∙ e) plain)

@@ -5,7 +5,6 @@ use Rattle.rl_tokens.specs.declared.kind.Kind.{Kind}
 use Rattle.rl_tokens.specs.declared.kind.Kind.TheVariants.{Int, Float, Bool}
 use Rattle.rl_tokens.specs.Numbers.{FloatReads, float_digits}
 use Rattle.rl_tokens.specs.Reading.{Digits, ReadsInt, HasSuffix}
-use Rattle.rl_grammar.specs.NumberShapes.{IsNumber}
 
 -- The digits of a text, which is a number of the kind. A float is one by the float rule alone, whether or not an integer
 -- stands there too.
@@ -18,12 +17,6 @@ HasDigits _ text digits = ⊥
 abbrev pub HasOwnSuffix : Kind → List ℕ → List ℕ → Type 0
 HasOwnSuffix Float text x = (numeral : List ℕ) × FloatReads text numeral x
 HasOwnSuffix kind text x = HasSuffix kind text x
-
--- The text, in bytes, is a number of the kind whose suffix begins at this place.
-pub record IsNumberUpTo (kind : Kind) (text : List ℕ) (at : ℕ) : Type 0 where
-  pub number : IsNumber kind (chars text)
-  pub suffix : HasOwnSuffix kind (chars text) (chars (drop at text))
-  pub boundary : IsCharBoundary text at
 
 -- the digits: a text of their own, or else all that stands before the suffix
 abbrev pub digits_in : Option (List ℕ) → List ℕ → ℕ → List ℕ

@@ -55,9 +55,9 @@ IsReadFrom token lit = (token_of lit ≡ token) × IsReadAs (kind_of lit) (chars
 abbrev pub ReadsAsNumber : List ℕ → Type 0
 ReadsAsNumber text = ReadsAs IntKind text ⊎ ReadsAs FloatKind text
 
--- the text, in bytes, is a number whose body is its digits
-abbrev pub IsPlainNumber : List ℕ → Type 0
-IsPlainNumber text = IsPlain IntKind text ⊎ IsPlain FloatKind text
+-- the text, in bytes, reads as a kind by which it is plain: its body is what it stands for
+abbrev pub ReadsPlain : List ℕ → Type 0
+ReadsPlain text = (kind : Kind) × ReadsAs kind (chars text) × IsPlain kind text
 
 -- the suffix of a text, which is of this kind; of a truth value, and of what has no reading, there is none
 abbrev pub IsSuffixAs : Option Kind → List ℕ → List ℕ → Type 0

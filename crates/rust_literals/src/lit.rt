@@ -1,8 +1,8 @@
 ghost use Rattle.std.specs.Prelude.{◌≡◌, IfOk, IfErr, Some};
 ghost use Rattle.std.specs.Str.{chars};
 ghost use Rattle.rl_tokens.specs.Errors.{memory_at};
-ghost use Rattle.rl_tokens.specs.declared.kind.Kind.TheVariants.{Bool as BoolKind};
-ghost use Rattle.rl_tokens.specs.Reading.{HasSuffix, ReadsAs, truth_text};
+ghost use Rattle.rl_tokens.specs.Reading.{HasSuffix};
+ghost use Rattle.rl_grammar.specs.Founds.{IsFound};
 ghost use Rattle.rust_literals.specs.Held.{HasOwnSuffix};
 
 mod copies;
@@ -11,9 +11,9 @@ use crate::lit_bool::{LitBool, word};
 use crate::lit_float::LitFloat;
 use crate::lit_int::LitInt;
 use crate::number::{Number, NumberKind};
-use rl_grammar::{Front, Kind};
+use rl_grammar::{Found, Front, Kind, find};
 use rl_quoted::{
-    LitByte, LitByteStr, LitCStr, LitChar, LitStr, Quoted, QuotedKind, kind_and_place,
+    LitByte, LitByteStr, LitCStr, LitChar, LitStr, Quoted, QuotedKind,
 };
 use rl_tokens::{Error, Kept, Literal, Parse, ParseBuffer, Span, Token};
 use std::alloc::{Allocator, Global};
@@ -40,17 +40,6 @@ pub enum Lit<A: Allocator = Global> {
     Bool(LitBool),
     /// A token with any other text; so is an integer past 128 bits.
     Verbatim(Literal<A>),
-}
-
-/// The truth value that the text is.
-fn truth_value(text: &str) -> bool
-    requires { ReadsAs BoolKind (chars text.now) }
-    ensures { text.now ≡ truth_text result }
-{
-    match text {
-        "true" => true,
-        _ => false,
-    }
 }
 
 /// What literals of every kind have. The kind is none for `Verbatim`.
@@ -99,8 +88,8 @@ impl<'a> View<'a> {
 impl<A: Allocator + Copy> Lit<A> {
     ghost use Rattle.rust_literals.specs.Literals.{
       IsReadFrom,
-      IsPlainNumber,
       ReadsAsNumber,
+      ReadsPlain,
       KeepsStrict,
       KeepsStrictBehindMinus,
     };
@@ -120,40 +109,46 @@ impl<A: Allocator + Copy> Lit<A> {
         ensures kept { IfErr result (λ k. k.value ≡ token) }
         ensures memory { IfErr result (λ k. k.error ≡ memory_at token.span) }
         ensures numbers_alone { IfErr result (λ k. ReadsAsNumber (chars token.text)) }
-        ensures lent { IfErr result (λ k. IsPlainNumber token.text → ⊥) }
+        ensures lent { IfErr result (λ k. ReadsPlain token.text → ⊥) }
         ensures strict { KeepsStrict (chars token.text) }
         ensures strict_behind_minus { KeepsStrictBehindMinus (chars token.text) }
     {
-        Lit::read(alloc, token)
+        match find(token.text()) {
+            Some(found) => Lit::of_found(alloc, token, found),
+            None => Ok(Lit::Verbatim(token)),
+        }
     }
 
-    /// The same, by the kind that the text has.
-    fn read(alloc: A, token: Literal<A>) -> Result<Lit<A>, Kept<Literal<A>, A>>
+    /// The literal of this token, in whose text this was found.
+    pub(crate) fn of_found(
+        alloc: A,
+        token: Literal<A>,
+        found: Found,
+    ) -> Result<Lit<A>, Kept<Literal<A>, A>>
+        requires { IsFound token.text found }
         ensures reads { IfOk result (IsReadFrom token) }
         ensures kept { IfErr result (λ k. k.value ≡ token) }
         ensures memory { IfErr result (λ k. k.error ≡ memory_at token.span) }
         ensures numbers_alone { IfErr result (λ k. ReadsAsNumber (chars token.text)) }
-        ensures lent { IfErr result (λ k. IsPlainNumber token.text → ⊥) }
+        ensures lent { IfErr result (λ k. ReadsPlain token.text → ⊥) }
     {
-        let Some((kind, suffix_at)) = kind_and_place(token.text()) else {
-            return Ok(Lit::Verbatim(token));
-        };
-        match kind {
+        let suffix_at = found.body.suffix_at;
+        match found.kind {
             Kind::Str => Ok(Lit::Str(LitStr::of_parts(token, suffix_at))),
             Kind::ByteStr => Ok(Lit::ByteStr(LitByteStr::of_parts(token, suffix_at))),
             Kind::CStr => Ok(Lit::CStr(LitCStr::of_parts(token, suffix_at))),
             Kind::Byte => Ok(Lit::Byte(LitByte::of_parts(token, suffix_at))),
             Kind::Char => Ok(Lit::Char(LitChar::of_parts(token, suffix_at))),
-            Kind::Int => match LitInt::of_parts(alloc, token, suffix_at) {
+            Kind::Int => match LitInt::of_found(alloc, token, found) {
                 Ok(literal) => Ok(Lit::Int(literal)),
                 Err(kept) => Err(kept),
             },
-            Kind::Float => match LitFloat::of_parts(alloc, token, suffix_at) {
+            Kind::Float => match LitFloat::of_found(alloc, token, found) {
                 Ok(literal) => Ok(Lit::Float(literal)),
                 Err(kept) => Err(kept),
             },
             Kind::Bool => {
-                let value = truth_value(token.text());
+                let value = token.text() == "true";
                 Ok(Lit::Bool(LitBool::new(value, token.span())))
             }
         }

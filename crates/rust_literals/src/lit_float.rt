@@ -1,15 +1,14 @@
 //! Float literals.
 
-ghost use Rattle.std.specs.Prelude.{IfOk, IfErr};
+ghost use Rattle.std.specs.Prelude.{◌≡◌, IfOk, IfErr};
 ghost use Rattle.std.specs.Str.{chars};
 ghost use Rattle.rl_tokens.specs.declared.kind.Kind.TheVariants.{Float};
-ghost use Rattle.rust_literals.specs.Held.{IsNumberUpTo};
+ghost use Rattle.rl_grammar.specs.Founds.{IsFoundNumber};
 ghost use Rattle.rust_literals.specs.Refusals.{IsNoNumber};
 
 use crate::number::{Number, NumberKind};
-use rl_grammar::{Kind, float_shape};
+use rl_grammar::{Found, Kind, find_float};
 use rl_tokens::ErrorKind;
-use rl_tokens::text::place_of;
 use std::alloc::{Allocator, Global};
 
 /// Floats.
@@ -26,12 +25,13 @@ impl NumberKind for FloatKind {
 
     const KIND: Kind = Kind::Float;
 
-    fn suffix_place<A: Allocator>(text: &str) -> Result<usize, ErrorKind<A>>
-        ensures ok { IfOk result (IsNumberUpTo Float text.now) }
+    fn find<A: Allocator>(text: &str) -> Result<Found, ErrorKind<A>>
+        ensures found { IfOk result (IsFoundNumber text.now) }
+        ensures kind { IfOk result (λ f. f.kind ≡ Float) }
         ensures err { IfErr result (IsNoNumber Float (chars text.now)) }
     {
-        match float_shape(text) {
-            Some(parts) => Ok(place_of(text, parts.suffix)),
+        match find_float(text) {
+            Some(found) => Ok(found),
             None => Err(ErrorKind::NotFloat),
         }
     }

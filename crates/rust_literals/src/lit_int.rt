@@ -1,15 +1,14 @@
 //! Integer literals.
 
-ghost use Rattle.std.specs.Prelude.{IfOk, IfErr};
+ghost use Rattle.std.specs.Prelude.{◌≡◌, IfOk, IfErr};
 ghost use Rattle.std.specs.Str.{chars};
 ghost use Rattle.rl_tokens.specs.declared.kind.Kind.TheVariants.{Int};
-ghost use Rattle.rust_literals.specs.Held.{IsNumberUpTo};
+ghost use Rattle.rl_grammar.specs.Founds.{IsFoundNumber};
 ghost use Rattle.rust_literals.specs.Refusals.{IsNoNumber};
 
 use crate::number::{Number, NumberKind};
-use rl_grammar::{Kind, int_shape};
+use rl_grammar::{Found, Kind, find_int};
 use rl_tokens::ErrorKind;
-use rl_tokens::text::place_of;
 use std::alloc::{Allocator, Global};
 
 /// Integers.
@@ -23,12 +22,13 @@ impl NumberKind for IntKind {
 
     const KIND: Kind = Kind::Int;
 
-    fn suffix_place<A: Allocator>(text: &str) -> Result<usize, ErrorKind<A>>
-        ensures ok { IfOk result (IsNumberUpTo Int text.now) }
+    fn find<A: Allocator>(text: &str) -> Result<Found, ErrorKind<A>>
+        ensures found { IfOk result (IsFoundNumber text.now) }
+        ensures kind { IfOk result (λ f. f.kind ≡ Int) }
         ensures err { IfErr result (IsNoNumber Int (chars text.now)) }
     {
-        match int_shape(text) {
-            Some(Some(parts)) => Ok(place_of(text, parts.suffix)),
+        match find_int(text) {
+            Some(Some(found)) => Ok(found),
             Some(None) => Err(ErrorKind::TooLarge),
             None => Err(ErrorKind::NotInteger),
         }

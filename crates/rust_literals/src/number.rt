@@ -1,21 +1,22 @@
 //! What integers and floats have in common: a token, its digits, and the place of its suffix.
 
-ghost use Rattle.std.specs.Prelude.{◌≡◌, ◌≢◌, OnOk, IfOk, IfErr, Some, option_map, string_bytes};
+ghost use Rattle.std.specs.Prelude.{◌≡◌, OnOk, IfOk, IfErr, Some, option_map, string_bytes};
 ghost use Rattle.std.specs.Str.{chars};
 ghost use Rattle.rl_tokens.specs.declared.kind.Kind.{Kind};
 ghost use Rattle.rl_tokens.specs.Errors.{memory_at};
+ghost use Rattle.rl_grammar.specs.Founds.{IsFoundNumber};
 ghost use Rattle.rl_grammar.specs.NumberShapes.{IsNumber};
 ghost use Rattle.rl_grammar.specs.WholeShapes.{IsPlain};
-ghost use Rattle.rust_literals.specs.Held.{HasDigits, HasOwnSuffix, IsNumberUpTo};
+ghost use Rattle.rust_literals.specs.Held.{HasDigits, HasOwnSuffix, HoldsNumber, digits_in};
 ghost use Rattle.rust_literals.specs.Refusals.{IsNoNumber, IsRefusedAs};
 
 mod base10;
 mod copies;
 
-use rl_grammar::{Kind, digits_of, is_plain, next_is, take_kind};
+use rl_grammar::{Found, Kind, digits_of_found, next_is, take_kind};
 use rl_quoted::{shown_as, word_of};
 use rl_tokens::{Error, ErrorKind, Kept, Literal, Parse, ParseBuffer, Span, Token};
-use std::alloc::{AllocError, Allocator, Global};
+use std::alloc::{Allocator, Global};
 use std::fmt;
 use std::marker::{Model, PhantomData};
 
@@ -26,10 +27,32 @@ pub trait NumberKind {
     /// The kind that its texts are of.
     const KIND: Kind;
 
-    /// The byte place where the suffix of the number begins; or why the text is no number of the kind.
-    fn suffix_place<A: Allocator>(text: &str) -> Result<usize, ErrorKind<A>>
-        ensures ok { IfOk result (IsNumberUpTo Self.KIND text.now) }
+    /// What reading the text as a number of the kind finds; or why it is none.
+    fn find<A: Allocator>(text: &str) -> Result<Found, ErrorKind<A>>
+        ensures found { IfOk result (IsFoundNumber text.now) }
+        ensures kind { IfOk result (λ f. f.kind ≡ Self.KIND) }
         ensures err { IfErr result (IsNoNumber Self.KIND (chars text.now)) };
+}
+
+/// The digits of a number that was found in the text, where they aren't its body.
+fn own_digits<A: Allocator>(
+    alloc: A,
+    text: &str,
+    found: Found,
+) -> Result<Option<String<A>>, Error<A>>
+    requires { IsFoundNumber text.now found }
+    ensures held { IfOk result (λ d. HoldsNumber found.kind text.now
+        (digits_in (option_map string_bytes d) text.now found.body.suffix_at) found.body.suffix_at) }
+    ensures lent { IfErr result (λ e. IsPlain found.kind text.now → ⊥) }
+    ensures number { IsNumber found.kind (chars text.now) }
+{
+    if found.body.plain {
+        return Ok(None);
+    }
+    match digits_of_found(alloc, text, found) {
+        Ok(digits) => Ok(Some(digits)),
+        Err(error) => Err(error),
+    }
 }
 
 /// A number of a kind. Programs name it as [`LitInt`](crate::LitInt) or [`LitFloat`](crate::LitFloat).
@@ -70,15 +93,15 @@ impl<K: NumberKind, A: Allocator + Copy> Number<K, A> {
         ensures reads { OnOk result (IsNumber K.KIND (chars repr.now)) }
         ensures err { IfErr result (λ e. (e.span ≡ span) × IsRefusedAs K.KIND (chars repr.now) e.kind) }
     {
-        let suffix_at = match K::suffix_place(repr) {
-            Ok(place) => place,
+        let found = match K::find(repr) {
+            Ok(found) => found,
             Err(kind) => return Err(Error { span, kind }),
         };
         let token = match Literal::from_text(alloc, repr, span) {
             Ok(token) => token,
             Err(error) => return Err(error),
         };
-        match Number::of_parts(alloc, token, suffix_at) {
+        match Number::of_found(alloc, token, found) {
             Ok(literal) => Ok(literal),
             Err(Kept { error, .. }) => Err(error),
         }
@@ -97,8 +120,8 @@ impl<K: NumberKind, A: Allocator + Copy> Number<K, A> {
             (λ k. (k.error.span ≡ token.span) × IsRefusedAs K.KIND (chars token.text) k.error.kind) }
         ensures lent { IfErr result (λ k. IsPlain K.KIND token.text → ⊥) }
     {
-        match K::suffix_place(token.text()) {
-            Ok(suffix_at) => Number::of_parts(alloc, token, suffix_at),
+        match K::find(token.text()) {
+            Ok(found) => Number::of_found(alloc, token, found),
             Err(kind) => {
                 let error = Error {
                     span: token.span(),
@@ -112,32 +135,26 @@ impl<K: NumberKind, A: Allocator + Copy> Number<K, A> {
         }
     }
 
-    /// The literal of this token, which is a number of the kind whose suffix begins at the place. Want of memory for
-    /// digits that aren't the body is told at the token's span; the token is handed back.
-    pub(crate) fn of_parts(
+    /// The literal of this token, in whose text this number of the kind was found. Want of memory for digits that aren't
+    /// the body is told at the token's span; the token is handed back.
+    pub(crate) fn of_found(
         alloc: A,
         token: Literal<A>,
-        suffix_at: usize,
+        found: Found,
     ) -> Result<Number<K, A>, Kept<Literal<A>, A>>
-        requires { IsNumberUpTo K.KIND token.text suffix_at }
+        requires found { IsFoundNumber token.text found }
+        requires kind { found.kind ≡ K.KIND }
         ensures ok { IfOk result (λ l. l ≡ token) }
         ensures kept { IfErr result (λ k. k.value ≡ token) }
         ensures memory { IfErr result (λ k. k.error ≡ memory_at token.span) }
         ensures lent { IfErr result (λ k. IsPlain K.KIND token.text → ⊥) }
+        ensures number { IsNumber K.KIND (chars token.text) }
     {
-        if is_plain(K::KIND, token.text()) {
-            return Ok(Number {
-                token,
-                digits: None,
-                suffix_at,
-                of: PhantomData,
-            });
-        }
-        match digits_of(alloc, K::KIND, token.text()) {
+        match own_digits(alloc, token.text(), found) {
             Ok(digits) => Ok(Number {
                 token,
-                digits: Some(digits),
-                suffix_at,
+                digits,
+                suffix_at: found.body.suffix_at,
                 of: PhantomData,
             }),
             Err(_) => {

@@ -1,5 +1,3 @@
-use Rattle.std.specs.Str.{chars}
-use Rattle.rust_literals.specs.Refusals.{IsNoNumber}
 use Rattle.rust_literals.proofs.HeldLemmas.{no_number_plain}
 use Rattle.rust_literals.proofs.number.Number.from_token.Goals as goal
 
