@@ -81,7 +81,7 @@ row_shrinks kind (u ∷ us) each = join_shrinks kind (unit_text u) (texts us) (u
 
 -- ---- strings
 
-cooked_shortens : (kind : Kind) (t w b x : List ℕ) → list_all (is_plain kind) (chars b) ≡ false → IsUtf8 b → PartsAre CookedForm kind t w (chars b) x → length (in_bytes kind w) < length b
+pub cooked_shortens : (kind : Kind) (t w b x : List ℕ) → list_all (is_plain kind) (chars b) ≡ false → IsUtf8 b → PartsAre CookedForm kind t w (chars b) x → length (in_bytes kind w) < length b
 cooked_shortens kind t w b x other ub p =
     let us = p.0.units in
     let row = row_shrinks kind us p.0.each in
@@ -91,7 +91,7 @@ cooked_shortens kind t w b x other ub p =
     ]
 
 -- where the body of a string isn't plain, it is cooked
-cooked_other : (form : Form) (kind : Kind) (t w b x : List ℕ) → is_string kind ≡ true → is_plain_body form kind b ≡ false → PartsAre form kind t w b x → PartsAre CookedForm kind t w b x × (list_all (is_plain kind) b ≡ false)
+pub cooked_other : (form : Form) (kind : Kind) (t w b x : List ℕ) → is_string kind ≡ true → is_plain_body form kind b ≡ false → PartsAre form kind t w b x → PartsAre CookedForm kind t w b x × (list_all (is_plain kind) b ≡ false)
 cooked_other CookedForm kind t w b x s other p = (p, other)
 cooked_other RawForm kind t w b x s other p = absurd (cc)
 cooked_other SingleForm kind t w b x s other p = absurd (not_both kind s p.0.single)
@@ -139,7 +139,7 @@ abbrev is_quote : ℕ → Bool
 is_quote c = c == 34
 
 -- no string is opened in both ways
-openers_differ : (kind : Kind) (a b : List ℕ) → is_string kind ≡ true → opener kind ++ a ≡ raw_opener kind ++ b → ⊥
+pub openers_differ : (kind : Kind) (a b : List ℕ) → is_string kind ≡ true → opener kind ++ a ≡ raw_opener kind ++ b → ⊥
 openers_differ Str a b s e = let h : true ≡ false = ap (passes is_quote) e in absurd (cc)
 openers_differ ByteStr a b s e = let h : true ≡ false = ap (λ l. passes is_quote (drop 1 l)) e in absurd (cc)
 openers_differ CStr a b s e = let h : true ≡ false = ap (λ l. passes is_quote (drop 1 l)) e in absurd (cc)

@@ -1,9 +1,9 @@
 -- Which form and kind a text's front tells, and the one reading of a quoted literal.
-use Rattle.std.proofs.Common.{◌≡◌, ◌≢◌, ℕ, true, eqb, List, [], ◌∷◌, ◌++◌, Option, Some, None, refl, sym, ap, subst, ◌∙◌, inl, inr, append_assoc, append-nil}
+use Rattle.std.proofs.Common.{◌≡◌, ◌≢◌, ℕ, true, false, eqb, List, [], ◌∷◌, ◌++◌, Option, Some, None, refl, sym, ap, subst, ◌∙◌, inl, inr, append_assoc, append-nil}
 use denote.Ref.{Bor}
 use Rattle.std.specs.Prelude.{IfSome, IfNone}
 use Rattle.std.specs.Str.{chars}
-use Rattle.std.proofs.lemmas.Bool.{cases_Bool, eqb-true}
+use Rattle.std.proofs.lemmas.Bool.{both_ways, cases_Bool, eqb-true}
 use Rattle.std.proofs.lemmas.List.{append_cancel_left, append_cancel_right}
 use Rattle.rl_tokens.specs.declared.kind.Kind.{Kind}
 use Rattle.rl_tokens.specs.declared.kind.Kind.TheVariants.{Str, ByteStr, CStr, Byte, Char, Int, Float, Bool as BoolKind}
@@ -13,7 +13,7 @@ use Rattle.rl_grammar.specs.declared.quoted.Form.{Form}
 use Rattle.rl_grammar.specs.declared.quoted.Form.TheVariants.{Cooked as CookedForm, Raw as RawForm, Single as SingleForm}
 use Rattle.rl_grammar.specs.UnitAt.{found, unit_at}
 use Rattle.rl_grammar.specs.Rows.{BeginsRow, RowEnds}
-use Rattle.rl_grammar.specs.Forms.{has_form, form_opener, told, string_front_at, byte_front_at, front_at, PartsAre, HasNoParts}
+use Rattle.rl_grammar.specs.Forms.{has_form, form_opener, told, string_front_at, byte_front_at, front_at, PartsAre, HasNoParts, is_plain_body}
 use Rattle.rl_grammar.specs.Shapes.{HasNoQuoted}
 use Rattle.rl_grammar.proofs.UnitLemmas.{some_pair, unit_sound, unit_complete, unit_quote}
 use Rattle.rl_grammar.proofs.RowLemmas.{ends_before, row_ends_on, row_ends_off, row_once}
@@ -218,6 +218,18 @@ formed t k v x r =
         | inr a ↦ parts_formed SingleForm k t r.value (unit_text a.unit) x (a, refl)
       ]
     ]
+
+-- a form, by its body
+pub record HasParts (kind : Kind) (t value body suffix : List ℕ) : Type 0 where
+  pub form : Form
+  pub parts : PartsAre form kind t value body suffix
+  pub single : is_single kind ≡ true → (b : List ℕ) → is_plain_body form kind b ≡ false
+
+pub cooked_has : (kind : Kind) (t v x : List ℕ) (c : Cooked kind t v x) → is_single kind ≡ false → HasParts kind t v (texts c.units) x
+cooked_has kind t v x c other = record { form = CookedForm; parts = (c, refl); single = λ s b. absurd (both_ways (is_single kind) other s) }
+
+pub single_has : (kind : Kind) (t v x : List ℕ) (s : Single kind t v x) → HasParts kind t v (unit_text s.unit) x
+single_has kind t v x s = record { form = SingleForm; parts = (s, refl); single = λ h b. refl }
 
 -- the front tells the reading's form and kind
 formed_front : (t : List ℕ) (k : Kind) (v x : List ℕ) (r : Formed t k v x) → front_at t ≡ told r.form k r.inside

@@ -1,34 +1,42 @@
--- Readings, and the places of their suffixes.
-use Rattle.std.proofs.Common.{◌≡◌, ℕ, true, List, drop, length, sym, ap, subst, ◌∙◌}
-use Rattle.std.proofs.Math.Seq.{drop-length}
-use Rattle.std.specs.Str.{chars, IsCharBoundary}
-use Rattle.std.proofs.lemmas.Str.{chars-nil, IsCharBoundary-end}
+-- The places of parts, as reading finds them, and what stands there.
+use Rattle.std.proofs.Common.{◌≡◌, ◌⊎◌, inl, inr, ℕ, Bool, true, List, refl, sym, subst, ◌∙◌}
+use Rattle.std.proofs.lemmas.Bool.{or_left}
+use Rattle.std.specs.Str.{chars, IsUtf8}
 use Rattle.rl_tokens.specs.declared.kind.Kind.{Kind}
-use Rattle.rl_tokens.specs.declared.kind.Kind.TheVariants.{CStr}
+use Rattle.rl_tokens.specs.declared.kind.Kind.TheVariants.{ByteStr, CStr}
 use Rattle.rl_tokens.specs.CStrings.{has_no_zero}
-use Rattle.rl_tokens.specs.Reading.{Bytes, Reads, ReadsAs, HasSuffix, quoted_contents}
+use Rattle.rl_tokens.specs.Quoted.{is_string, is_single}
+use Rattle.rl_tokens.specs.Reading.{Bytes, ReadsAs, HasContents}
 use Rattle.rl_tokens.proofs.OneReading.{one_reading}
 use Rattle.rl_tokens.proofs.CStringContents.{c_string_no_zero}
-use Rattle.rl_grammar.specs.Decoded.{ContentsAre}
-use Rattle.rl_quoted.specs.Places.{IsWritten, ReadsUpTo}
+use Rattle.rl_grammar.specs.declared.bodies.Body.{Body}
+use Rattle.rl_grammar.specs.declared.found.Found.{Found}
+use Rattle.rl_grammar.specs.Bodies.{HasBody}
+use Rattle.rl_grammar.specs.Founds.{IsFound, IsQuotedAt, body_in, is_quoted}
+use Rattle.rl_grammar.proofs.BodyContents.{bytes_of_has}
+use Rattle.rl_grammar.proofs.ContentLemmas.{plain_bytes}
+use Rattle.rl_quoted.specs.Places.{StandsAt}
 
--- what is written has no suffix
-pub written_up_to : (k : Kind) (text : List ℕ) → IsWritten k (chars text) → ReadsUpTo k text (length text)
-written_up_to k text w =
-    let v = quoted_contents k w.0 in
-    record { value = v; reads = subst (λ x. Reads (chars text) k v x) (sym (ap chars (drop-length text) ∙ chars-nil)) w.1.reads; boundary = IsCharBoundary-end text }
+-- what is found is of the kind that the text reads as
+pub found_kind : (kind : Kind) (t : List ℕ) (found : Found) → ReadsAs kind (chars t) → IsFound t found → found.kind ≡ kind
+found_kind kind t found r f = (one_reading (chars t) found.kind kind f.reads.0 r.0 _ r.1 f.reads.1 r.2).0
 
--- a reading by the place of its suffix
-pub reads_up_to : (k : Kind) (text suffix : List ℕ) (at : ℕ) → HasSuffix k (chars text) (chars suffix) → IsCharBoundary text at → drop at text ≡ suffix → ReadsUpTo k text at
-reads_up_to k text suffix at s b e =
-    record { value = s.0; reads = subst (λ x. Reads (chars text) k s.0 x) (ap chars (sym e)) s.1; boundary = b }
+-- what is found stands at its places
+pub stands_at : (kind : Kind) (t : List ℕ) (found : Found) → found.kind ≡ kind → IsFound t found → StandsAt kind t found.body
+stands_at kind t found same f =
+    subst (λ k. StandsAt k t found.body) same (record { reads = f.reads; stands = f.stands; plain = f.plain; quoted = f.quoted })
 
--- the place of any reading is that of the kind that the text reads as
-pub one_place : (kind k : Kind) (text : List ℕ) (at : ℕ) → ReadsAs kind (chars text) → ReadsUpTo k text at → ReadsUpTo kind text at
-one_place kind k text at r u =
-    let one = one_reading (chars text) kind k r.0 u.value r.1 (chars (drop at text)) r.2 u.reads in
-    record { value = r.0; reads = subst (λ x. Reads (chars text) kind r.0 x) one.2 r.2; boundary = u.boundary }
+-- the body of a string, which is a quoted literal
+pub has_body : (kind : Kind) (t : List ℕ) (body : Body) → is_string kind ≡ true → StandsAt kind t body → HasBody kind (chars t) (body_in t body) body.plain
+has_body kind t body s at =
+    let q = at.quoted (or_left (is_string kind) (is_single kind) s) in
+    record { string = s; form = q.form; value = q.value; suffix = _; parts = q.parts; plain_is = q.plain_is }
 
 -- the bytes of a C string hold no zero
-pub no_zero_of : (text bytes : List ℕ) → ReadsAs CStr text → ContentsAre CStr text (Bytes bytes) → has_no_zero bytes ≡ true
-no_zero_of text bytes r c = c_string_no_zero text bytes r.1 (subst (λ v. Reads text CStr v r.1) (c r.0 r.1 r.2) r.2)
+pub no_zero_of : (text bytes : List ℕ) → HasContents CStr text (Bytes bytes) → has_no_zero bytes ≡ true
+no_zero_of text bytes r = c_string_no_zero text bytes r.0 r.1
+
+-- a plain body is the contents of what holds bytes
+pub plain_contents_bytes : (kind : Kind) (t body : List ℕ) (plain : Bool) → (kind ≡ ByteStr) ⊎ (kind ≡ CStr) → plain ≡ true → HasBody kind (chars t) body plain → IsUtf8 body → HasContents kind (chars t) (Bytes body)
+plain_contents_bytes kind t body plain which is has u =
+    bytes_of_has kind (chars t) body body plain which has (plain_bytes (chars t) has.form kind has.value body has.suffix (sym has.plain_is ∙ is) u has.parts)

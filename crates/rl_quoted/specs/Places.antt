@@ -1,16 +1,23 @@
--- What the quoted structs hold beside their token: the place where the suffix begins.
-use Rattle.std.specs.Prelude.{ℕ, List, drop}
-use Rattle.std.specs.Str.{chars, IsCharBoundary}
+-- What the quoted structs hold beside their token: the places of its parts.
+use Rattle.std.specs.Prelude.{◌≡◌, ◌↔◌, ℕ, List, IsTrue}
+use Rattle.std.specs.Str.{chars}
 use Rattle.rl_tokens.specs.declared.kind.Kind.{Kind}
-use Rattle.rl_tokens.specs.Reading.{Contents, Reads}
+use Rattle.rl_tokens.specs.Reading.{HasSuffix}
 use Rattle.rl_tokens.specs.Agreeing.{IsWrittenForm}
+use Rattle.rl_grammar.specs.declared.bodies.Body.{Body}
+use Rattle.rl_grammar.specs.Decoded.{in_bytes}
+use Rattle.rl_grammar.specs.Founds.{IsQuotedAt, StandsIn, is_quoted, suffix_in}
+use Rattle.rl_grammar.specs.WholeShapes.{IsPlain}
 
--- The text, in bytes, is a literal of the kind whose suffix begins at this place.
-pub record ReadsUpTo (kind : Kind) (text : List ℕ) (at : ℕ) : Type 0 where
-  pub value : Contents
-  pub reads : Reads (chars text) kind value (chars (drop at text))
-  pub boundary : IsCharBoundary text at
+-- The text, in bytes, is a literal of the kind whose parts stand at these places, and it is told whether it is plain.
+pub record StandsAt (kind : Kind) (text : List ℕ) (body : Body) : Type 0 where
+  pub reads : HasSuffix kind (chars text) (chars (suffix_in text body))
+  pub stands : StandsIn text body
+  pub plain : IsTrue body.plain ↔ IsPlain kind text
+  pub quoted : IsTrue (is_quoted kind) → IsQuotedAt kind text body
 
--- the text is what some value is written as
-abbrev pub IsWritten : Kind → List ℕ → Type 0
-IsWritten kind text = (value : List ℕ) × IsWrittenForm kind value text
+-- The text is what the value with these bytes, those of characters in UTF-8, is written as.
+pub record IsWrittenAs (kind : Kind) (bytes text : List ℕ) : Type 0 where
+  pub value : List ℕ
+  pub written : IsWrittenForm kind value text
+  pub bytes_are : bytes ≡ in_bytes kind value

@@ -7,15 +7,14 @@ mod lit_byte_str;
 mod lit_c_str;
 mod lit_char;
 mod lit_str;
-mod place;
 mod quoted;
 mod words;
+mod written;
 
 pub use crate::lit_byte::{ByteKind, LitByte};
 pub use crate::lit_byte_str::{ByteStrKind, LitByteStr};
 pub use crate::lit_c_str::{CStrKind, LitCStr};
 pub use crate::lit_char::{CharKind, LitChar};
 pub use crate::lit_str::{LitStr, StrKind};
-pub use crate::place::kind_and_place;
 pub use crate::quoted::{Quoted, QuotedKind};
 pub use crate::words::{name_of, shown_as, word_of};

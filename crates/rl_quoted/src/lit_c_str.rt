@@ -1,12 +1,13 @@
-ghost use Rattle.std.specs.Prelude.{◌≡◌, IfOk, IfErr};
+ghost use Rattle.std.specs.Prelude.{◌≡◌, IfOk, IfErr, IfSome, OnSome, IfNone};
 ghost use Rattle.std.specs.Str.{chars};
 ghost use Rattle.rl_tokens.specs.declared.kind.Kind.TheVariants.{CStr};
 ghost use Rattle.rl_tokens.specs.Errors.{memory_at};
 ghost use Rattle.rl_tokens.specs.Reading.{Bytes, HasContents};
 ghost use Rattle.rl_tokens.specs.Agreeing.{IsWrittenForm};
+ghost use Rattle.rl_grammar.specs.WholeShapes.{IsPlain};
 
 use crate::quoted::{Quoted, QuotedKind};
-use rl_grammar::{Kind, bytes_of};
+use rl_grammar::{Kind, bytes_of_body};
 use rl_tokens::{CString, Error, Literal, Span};
 use std::alloc::{Allocator, Global};
 
@@ -34,7 +35,7 @@ impl<A: Allocator> LitCStr<A> {
         ensures memory { IfErr result (λ e. e ≡ memory_at span) }
     {
         match Literal::c_string(alloc, value) {
-            Ok(token) => Ok(Quoted::written(token, span)),
+            Ok(token) => Ok(Quoted::written(token, value.as_bytes(), span)),
             Err(_) => Err(Error::memory(span)),
         }
     }
@@ -44,12 +45,24 @@ impl<A: Allocator> LitCStr<A> {
         ensures value { IfOk result (λ v. HasContents CStr (chars self.now.text) (Bytes v)) }
         ensures memory { IfErr result (λ e. e ≡ memory_at self.now.span) }
     {
-        match bytes_of(alloc, self.token.text()) {
+        let (body, plain) = self.body();
+        match bytes_of_body(alloc, Kind::CStr, body, plain) {
             Ok(bytes) => match CString::new(bytes) {
                 Ok(value) => Ok(value),
                 Err(_) => unreachable!(),
             },
             Err(_) => Err(Error::memory(self.token.span())),
         }
+    }
+
+    /// The bytes that the literal stands for, lent: `None` where they aren't what stands between the quotes, that is
+    /// where an escape or a line end of two characters stands there, and the string isn't raw.
+    pub fn value_ref(&self) -> Option<&[u8]>
+        ensures some { IfSome result (λ v. HasContents CStr (chars self.now.text) (Bytes v.now)) }
+        ensures plain { OnSome result (IsPlain CStr self.now.text) }
+        ensures none { IfNone result (IsPlain CStr self.now.text → ⊥) }
+    {
+        let (body, plain) = self.body();
+        if plain { Some(body.as_bytes()) } else { None }
     }
 }

@@ -30,7 +30,11 @@ impl<A: Allocator> LitChar<A> {
         ensures memory { IfErr result (λ e. e ≡ memory_at span) }
     {
         match Literal::character(alloc, value) {
-            Ok(token) => Ok(Quoted::written(token, span)),
+            Ok(token) => Ok(Quoted::written(
+                token,
+                value.encode_utf8(&mut [0; 4]).as_bytes(),
+                span,
+            )),
             Err(_) => Err(Error::memory(span)),
         }
     }

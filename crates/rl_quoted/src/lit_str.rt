@@ -1,12 +1,13 @@
-ghost use Rattle.std.specs.Prelude.{◌≡◌, IfOk, IfErr, string_bytes};
+ghost use Rattle.std.specs.Prelude.{◌≡◌, IfOk, IfErr, IfSome, OnSome, IfNone, string_bytes};
 ghost use Rattle.std.specs.Str.{chars};
 ghost use Rattle.rl_tokens.specs.declared.kind.Kind.TheVariants.{Str};
 ghost use Rattle.rl_tokens.specs.Errors.{memory_at};
 ghost use Rattle.rl_tokens.specs.Reading.{Characters, HasContents};
 ghost use Rattle.rl_tokens.specs.Agreeing.{IsWrittenForm};
+ghost use Rattle.rl_grammar.specs.WholeShapes.{IsPlain};
 
 use crate::quoted::{Quoted, QuotedKind};
-use rl_grammar::{Kind, str_of};
+use rl_grammar::{Kind, str_of_body};
 use rl_tokens::{Error, Literal, Span};
 use std::alloc::{Allocator, Global};
 
@@ -30,7 +31,7 @@ impl<A: Allocator> LitStr<A> {
         ensures memory { IfErr result (λ e. e ≡ memory_at span) }
     {
         match Literal::string(alloc, value) {
-            Ok(token) => Ok(Quoted::written(token, span)),
+            Ok(token) => Ok(Quoted::written(token, value.as_bytes(), span)),
             Err(_) => Err(Error::memory(span)),
         }
     }
@@ -40,9 +41,21 @@ impl<A: Allocator> LitStr<A> {
         ensures value { IfOk result (λ v. HasContents Str (chars self.now.text) (Characters (chars (string_bytes v)))) }
         ensures memory { IfErr result (λ e. e ≡ memory_at self.now.span) }
     {
-        match str_of(alloc, self.token.text()) {
+        let (body, plain) = self.body();
+        match str_of_body(alloc, body, plain) {
             Ok(value) => Ok(value),
             Err(_) => Err(Error::memory(self.token.span())),
         }
+    }
+
+    /// The text that the literal stands for, lent: `None` where it isn't what stands between the quotes, byte for byte,
+    /// that is where an escape or a line end of two characters stands there, and the string isn't raw.
+    pub fn value_ref(&self) -> Option<&str>
+        ensures some { IfSome result (λ v. HasContents Str (chars self.now.text) (Characters (chars v.now))) }
+        ensures plain { OnSome result (IsPlain Str self.now.text) }
+        ensures none { IfNone result (IsPlain Str self.now.text → ⊥) }
+    {
+        let (body, plain) = self.body();
+        if plain { Some(body) } else { None }
     }
 }

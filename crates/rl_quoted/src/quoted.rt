@@ -1,23 +1,27 @@
-//! What the five have in common: a token, its kind, and the place of its suffix.
+//! What the five have in common: a token, its kind, and the places of its parts.
 
-ghost use Rattle.std.specs.Prelude.{◌≡◌, IfOk, IfErr, ◌==◌, ◌++◌, ◌∷◌, [], OnOk, OnErr, Some, codes};
+ghost use Rattle.std.specs.Prelude.{◌≡◌, ◌↔◌, IsTrue, IfOk, IfErr, ◌==◌, ◌++◌, ◌∷◌, [], OnOk, OnErr, Some, codes};
 ghost use Rattle.std.specs.Cmp.{partial_equiv_from_equiv, on_equiv};
 ghost use Rattle.std.specs.Cmp.Lexicographic.{pointwise, nat_list_eq_equiv};
 ghost use Rattle.std.specs.Cmp.Rules.{hashing};
 ghost use Rattle.std.specs.Hash as fed;
 ghost use Rattle.std.specs.Ordering.{on};
 ghost use Rattle.std.proofs.Common.{rules};
-ghost use Rattle.std.specs.Str.{chars};
+ghost use Rattle.std.specs.Str.{chars, IsUtf8};
 ghost use Rattle.rl_tokens.specs.declared.kind.Kind.{Kind};
 ghost use Rattle.rl_tokens.specs.Errors.{memory_at};
 ghost use Rattle.rl_tokens.specs.Reading.{HasSuffix, ReadsAs};
 ghost use Rattle.rl_tokens.specs.Trees.{LiteralTree, stream_view};
-ghost use Rattle.rl_quoted.specs.Places.{IsWritten, ReadsUpTo};
+ghost use Rattle.rl_tokens.specs.Quoted.{is_string};
+ghost use Rattle.rl_grammar.specs.Bodies.{HasBody};
+ghost use Rattle.rl_grammar.specs.Founds.{IsFound, is_quoted};
+ghost use Rattle.rl_grammar.specs.WholeShapes.{IsPlain};
+ghost use Rattle.rl_quoted.specs.Places.{IsWrittenAs, StandsAt};
 ghost use Rattle.rl_quoted.specs.Words.{kind_name};
 
-use crate::place::suffix_place;
 use crate::words::{name_of, shown_as, word_of};
-use rl_grammar::{Kind, next_is, take_kind};
+use crate::written::written_body;
+use rl_grammar::{Body, Found, Kind, find, next_is, take_kind};
 use rl_tokens::{
     Error, Literal, Parse, ParseBuffer, Span, ToTokens, Token, TokenStream, append_literal,
 };
@@ -38,20 +42,20 @@ pub trait QuotedKind {
 #[derive(Drop)]
 pub struct Quoted<K: QuotedKind, A: Allocator = Global> {
     pub(crate) token: Literal<A>,
-    suffix_at: usize,
+    body: Body,
     of: PhantomData<K>,
 }
 
-/// The token's text reads as the kind.
+/// The token's text reads as the kind, and its parts stand at the places that are kept.
 impl<K: QuotedKind, A: Allocator> Model for Quoted<K, A> {
     ghost use Rattle.rl_tokens.specs.Tokens.{Token};
-    ghost use Rattle.rl_quoted.specs.Places.{ReadsUpTo};
+    ghost use Rattle.rl_quoted.specs.Places.{StandsAt};
 
     ghost Value = { Token };
 
     ghost view = { λ l. l.token };
 
-    ghost invariant = { λ l. ReadsUpTo K.KIND l.token.text l.suffix_at };
+    ghost invariant = { λ l. StandsAt K.KIND l.token.text l.body };
 }
 
 impl<K: QuotedKind, A: Allocator> Quoted<K, A> {
@@ -60,37 +64,56 @@ impl<K: QuotedKind, A: Allocator> Quoted<K, A> {
         requires { ReadsAs K.KIND (chars token.text) }
         ensures { result ≡ token }
     {
-        let suffix_at = suffix_place(K::KIND, token.text());
-        Quoted::of_parts(token, suffix_at)
+        match find(token.text()) {
+            Some(found) => Quoted::of_found(token, found),
+            None => unreachable!(),
+        }
     }
 
-    /// The literal of this token, whose text reads as the kind with a suffix that begins at this place.
-    pub fn of_parts(token: Literal<A>, suffix_at: usize) -> Quoted<K, A>
-        requires { ReadsUpTo K.KIND token.text suffix_at }
+    /// The literal of this token, in whose text [`find`] found this literal of the kind.
+    pub fn of_found(token: Literal<A>, found: Found) -> Quoted<K, A>
+        requires found { IsFound token.text found }
+        requires kind { found.kind ≡ K.KIND }
         ensures { result ≡ token }
     {
         Quoted {
             token,
-            suffix_at,
+            body: found.body,
             of: PhantomData,
         }
     }
 
-    /// The literal of this token, which the writer wrote, at this span.
-    pub(crate) fn written(mut token: Literal<A>, span: Span) -> Quoted<K, A>
-        requires { IsWritten K.KIND (chars token.text) }
+    /// The literal of this token, which the writer wrote of the value with these bytes, at this span.
+    pub(crate) fn written(mut token: Literal<A>, value: &[u8], span: Span) -> Quoted<K, A>
+        requires quoted { IsTrue (is_quoted K.KIND) }
+        requires written { IsWrittenAs K.KIND value.now (chars token.text) }
         ensures { result ≡ record token { span = span } }
     {
         token.set_span(span);
-        let suffix_at = token.text().len();
-        Quoted::of_parts(token, suffix_at)
+        let body = written_body(K::KIND, token.text(), value);
+        Quoted {
+            token,
+            body,
+            of: PhantomData,
+        }
+    }
+
+    /// What stands between the quotes of a string, and whether that is its contents, byte for byte.
+    pub(crate) fn body(&self) -> (&str, bool)
+        requires { IsTrue (is_string K.KIND) }
+        ensures stands { HasBody K.KIND (chars self.now.text) result.0.now result.1 }
+        ensures text { IsUtf8 self.now.text }
+        ensures plain { IsTrue result.1 ↔ IsPlain K.KIND self.now.text }
+    {
+        let body = self.body;
+        (&self.token.text()[body.at..body.end], body.plain)
     }
 
     /// What stands behind the closing quote.
     pub fn suffix(&self) -> &str
         ensures { HasSuffix K.KIND (chars self.now.text) (chars result.now) }
     {
-        &self.token.text()[self.suffix_at..]
+        &self.token.text()[self.body.suffix_at..]
     }
 
     /// The token's text.
@@ -128,7 +151,11 @@ impl<K: QuotedKind, A: Allocator> Quoted<K, A> {
         ensures memory { IfErr result (λ e. e ≡ memory_at self.now.span) }
     {
         match self.token.clone(alloc) {
-            Ok(token) => Ok(Quoted::of_parts(token, self.suffix_at)),
+            Ok(token) => Ok(Quoted {
+                token,
+                body: self.body,
+                of: PhantomData,
+            }),
             Err(error) => Err(error),
         }
     }
@@ -190,6 +217,15 @@ impl<K: QuotedKind, A: Allocator> Hash for Quoted<K, A> {
 
     fn hash<H: Hasher>(&self, state: &mut H) {
         self.token.text().hash(state);
+    }
+}
+
+/// The token's text.
+impl<K: QuotedKind, A: Allocator> fmt::Display for Quoted<K, A> {
+    ghost output = { λ l. Some l.text };
+
+    fn fmt<W: fmt::Write>(&self, f: &mut fmt::Formatter<W>) -> fmt::Result {
+        f.write_str(self.token.text())
     }
 }
 

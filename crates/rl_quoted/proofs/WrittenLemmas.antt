@@ -1,0 +1,220 @@
+-- Where the parts stand of a literal that the writer wrote.
+use Rattle.std.proofs.Common.{◌≡◌, ◌-◌, ◌+◌, ◌<◌, ◌≤◌, ◌⊎◌, inl, inr, ℕ, Bool, true, false, List, [], ◌∷◌, ◌++◌, length, take, drop, refl, sym, ap, subst, ◌∙◌, arith, append_assoc, length-append}
+use Rattle.std.proofs.Math.Seq.{drop-append_seam, take-append_seam, drop-length}
+use Rattle.std.proofs.Math.Utf8.{scalars}
+use Rattle.std.proofs.lemmas.Bool.{both_ways}
+use Rattle.std.specs.Prelude.{◌↔◌, encode_utf8_all, IsTrue}
+use Rattle.std.specs.Str.{chars, IsUtf8, IsCharBoundary}
+use Rattle.std.proofs.lemmas.Str.{IsCharBoundary-at_seam, IsCharBoundary-end, IsUtf8-append, chars-encodes, chars-nil, encodes-append, encodes-chars, scalars-chars, length-encode, len_utf8_ascii}
+use Rattle.rl_tokens.specs.declared.kind.Kind.{Kind}
+use Rattle.rl_tokens.specs.declared.kind.Kind.TheVariants.{Str, ByteStr, CStr, Byte, Char, Int, Float, Bool as BoolKind}
+use Rattle.rl_tokens.specs.Quoted.{Cooked, Single, is_string, is_single, opener, texts, unit_text}
+use Rattle.rl_tokens.specs.Reading.{Contents, Reads, ReadsQuoted, quoted_contents}
+use Rattle.rl_tokens.specs.Agreeing.{IsWrittenForm}
+use Rattle.rl_tokens.proofs.CutTrees.{scalars_parts}
+use Rattle.rl_grammar.specs.declared.bodies.Body.{Body}
+use Rattle.rl_grammar.specs.Decoded.{in_bytes}
+use Rattle.rl_grammar.specs.Founds.{IsQuotedAt, StandsIn, body_in, suffix_in, is_quoted}
+use Rattle.rl_grammar.specs.Forms.{PartsAre, is_plain_body}
+use Rattle.rl_grammar.proofs.BodyLemmas.{openers_differ, cooked_other, cooked_shortens}
+use Rattle.rl_grammar.proofs.ContentLemmas.{plain_bytes}
+use Rattle.rl_grammar.proofs.FormLemmas.{HasParts, cooked_has, single_has}
+use Rattle.rl_grammar.proofs.FoundLemmas.{body_text, suffix_text, quoted_found}
+use Rattle.rl_quoted.specs.Places.{IsWrittenAs, StandsAt}
+use Rattle.rl_quoted.proofs.PlaceLemmas.{stands_at}
+
+-- ---- by characters
+
+quoted_reading : (kind : Kind) (t : List ℕ) (v : Contents) (x : List ℕ) → is_quoted kind ≡ true → Reads t kind v x → ReadsQuoted t kind v x
+quoted_reading Str t v x q r = r
+quoted_reading ByteStr t v x q r = r
+quoted_reading CStr t v x q r = r
+quoted_reading Byte t v x q r = r
+quoted_reading Char t v x q r = r
+quoted_reading Int t v x q r = absurd (cc)
+quoted_reading Float t v x q r = absurd (cc)
+quoted_reading BoolKind t v x q r = absurd (cc)
+
+one_value : (kind : Kind) (v w : List ℕ) → quoted_contents kind v ≡ quoted_contents kind w → v ≡ w
+one_value Str v w e = cc
+one_value ByteStr v w e = cc
+one_value CStr v w e = cc
+one_value Byte v w e = cc
+one_value Char v w e = cc
+one_value Int v w e = cc
+one_value Float v w e = cc
+one_value BoolKind v w e = cc
+
+-- What is written: its opener, what stands inside, and a closing quote.
+record Enclosed (kind : Kind) (t value : List ℕ) : Type 0 where
+  pub inside : List ℕ
+  pub quote : ℕ
+  pub ascii : quote < 128
+  pub text_is : t ≡ opener kind ++ (inside ++ (quote ∷ []))
+  pub reads : ReadsQuoted t kind (quoted_contents kind value) []
+  pub value_is : reads.value ≡ value
+  pub has : HasParts kind t value inside []
+
+not_single : (kind : Kind) → is_string kind ≡ true → is_single kind ≡ false
+not_single Str s = refl
+not_single ByteStr s = refl
+not_single CStr s = refl
+not_single Byte s = absurd (cc)
+not_single Char s = absurd (cc)
+not_single Int s = refl
+not_single Float s = refl
+not_single BoolKind s = refl
+
+of_cooked : (kind : Kind) (t v : List ℕ) → Cooked kind t v [] → Enclosed kind t v
+of_cooked kind t v c = record {
+  inside = texts c.units;
+  quote = 34;
+  ascii = omega arith;
+  text_is = c.text_is;
+  reads = record { value = v; form = inl c; contents_is = refl };
+  value_is = refl;
+  has = cooked_has kind t v [] c (not_single kind c.string);
+}
+
+of_single : (kind : Kind) (t v : List ℕ) → Single kind t v [] → Enclosed kind t v
+of_single kind t v s = record {
+  inside = unit_text s.unit;
+  quote = 39;
+  ascii = omega arith;
+  text_is = s.text_is;
+  reads = record { value = v; form = inr (inr s); contents_is = refl };
+  value_is = refl;
+  has = single_has kind t v [] s;
+}
+
+enclosed : (kind : Kind) (t v : List ℕ) → is_quoted kind ≡ true → IsWrittenForm kind v t → Enclosed kind t v
+enclosed kind t v q w =
+    let r = quoted_reading kind t (quoted_contents kind v) [] q w.reads in
+    let same : v ≡ r.value = one_value kind v r.value r.contents_is in
+    elim r.form [
+      | inl c ↦ of_cooked kind t v (subst (λ z. Cooked kind t z []) (sym same) c)
+      | inr other ↦ elim other [
+        | inl raw ↦ absurd (openers_differ kind _ _ raw.string (sym w.text_is ∙ raw.text_is))
+        | inr s ↦ of_single kind t v (subst (λ z. Single kind t z []) (sym same) s)
+      ]
+    ]
+
+-- ---- by bytes
+
+opener_long : (kind : Kind) → length (encode_utf8_all (opener kind)) ≡ length (opener kind)
+unfolding lib.Utf8.encode
+opener_long Str = refl
+opener_long ByteStr = refl
+opener_long CStr = refl
+opener_long Byte = refl
+opener_long Char = refl
+opener_long Int = refl
+opener_long Float = refl
+opener_long BoolKind = refl
+
+one_long : (c : ℕ) → c < 128 → length (encode_utf8_all (c ∷ [])) ≡ 1
+one_long c h = omega (arith, length-append {A = ℕ}, length-encode c, len_utf8_ascii c h)
+
+-- The places at the ends of what is written.
+record AtEnds (kind : Kind) (t : List ℕ) (body : Body) : Type 0 where
+  pub at : body.at ≡ length (opener kind)
+  pub end_at : body.end ≡ length t - 1
+  pub suffix_at : body.suffix_at ≡ length t
+
+record Between (t inside : List ℕ) (body : Body) : Type 0 where
+  pub body_is : chars (body_in t body) ≡ inside
+  pub suffix_is : chars (suffix_in t body) ≡ []
+  pub stands : StandsIn t body
+
+-- What is written, in bytes, is at least its opener and its quote.
+record Lengths (kind : Kind) (t : List ℕ) : Type 0 where
+  pub front : List ℕ
+  pub body : List ℕ
+  pub back : List ℕ
+  pub whole : t ≡ front ++ (body ++ back)
+  pub front_long : length front ≡ length (opener kind)
+  pub back_long : length back ≡ 1
+
+abbrev lengths : (kind : Kind) (t v : List ℕ) (e : Enclosed kind (chars t) v) → IsUtf8 t → Lengths kind t
+lengths kind t v e u =
+    let quote = e.quote ∷ [] in
+    record {
+      front = encode_utf8_all (opener kind);
+      body = encode_utf8_all e.inside;
+      back = encode_utf8_all quote;
+      whole = sym (encodes-chars t u) ∙ ap encode_utf8_all e.text_is ∙ encodes-append (opener kind) (e.inside ++ quote) ∙ ap (λ z. encode_utf8_all (opener kind) ++ z) (encodes-append e.inside quote);
+      front_long = opener_long kind;
+      back_long = one_long e.quote e.ascii;
+    }
+
+between : (kind : Kind) (t v : List ℕ) (e : Enclosed kind (chars t) v) (body : Body) → IsUtf8 t → AtEnds kind t body → Between t e.inside body
+between kind t v e body u ends =
+    let l = lengths kind t v e u in
+    let quote = e.quote ∷ [] in
+    let all : scalars (opener kind ++ (e.inside ++ quote)) ≡ true = subst (λ z. scalars z ≡ true) e.text_is (scalars-chars t u) in
+    let inner = scalars_parts e.inside quote (scalars_parts (opener kind) (e.inside ++ quote) all).1 in
+    let u_body : IsUtf8 l.body = (e.inside, (inner.0, refl)) in
+    let u_back : IsUtf8 l.back = (quote, (inner.1, refl)) in
+    let total : length t ≡ length l.front + (length l.body + length l.back) = omega (arith, ap length l.whole, length-append l.front (l.body ++ l.back), length-append l.body l.back) in
+    let at : body.at ≡ length l.front = omega (arith, ends.at, l.front_long) in
+    let end_at : body.end ≡ length (l.front ++ l.body) = omega (arith, ends.end_at, total, l.back_long, length-append l.front l.body) in
+    let long : body.end - body.at ≡ length l.body = omega (arith, at, end_at, length-append l.front l.body) in
+    let from_body : drop body.at t ≡ l.body ++ l.back = ap (λ z. drop body.at z) l.whole ∙ ap (λ n. drop n (l.front ++ (l.body ++ l.back))) at ∙ drop-append_seam l.front (l.body ++ l.back) in
+    let inside : body_in t body ≡ l.body = ap (λ z. take (body.end - body.at) z) from_body ∙ ap (λ n. take n (l.body ++ l.back)) long ∙ take-append_seam l.body l.back in
+    let behind : suffix_in t body ≡ [] = ap (λ n. drop n t) ends.suffix_at ∙ drop-length t in
+    record {
+      body_is = ap chars inside ∙ chars-encodes e.inside inner.0;
+      suffix_is = ap chars behind ∙ chars-nil;
+      stands = record {
+        ordered = omega (arith, at, end_at, length-append l.front l.body);
+        begins = subst (IsCharBoundary t) (sym at) (IsCharBoundary-at_seam t l.front (l.body ++ l.back) l.whole (IsUtf8-append l.body l.back u_body u_back));
+        ends = subst (IsCharBoundary t) (sym end_at) (IsCharBoundary-at_seam t (l.front ++ l.body) l.back (l.whole ∙ sym (append_assoc l.front l.body l.back)) u_back);
+        behind = subst (IsCharBoundary t) (sym ends.suffix_at) (IsCharBoundary-end t);
+      };
+    }
+
+-- ---- what is told
+
+-- the opener and the quote are within what is written
+pub written_long : (kind : Kind) (t bytes : List ℕ) → IsUtf8 t → is_quoted kind ≡ true → IsWrittenAs kind bytes (chars t) → length (opener kind) + 1 ≤ length t
+written_long kind t bytes u q w =
+    let l = lengths kind t w.value (enclosed kind (chars t) w.value q w.written) u in
+    omega (arith, ap length l.whole, length-append l.front (l.body ++ l.back), length-append l.body l.back, l.front_long, l.back_long)
+
+-- the body is whole where it is the value
+abbrev Whole : Kind → Bool → List ℕ → List ℕ → Type 0
+Whole kind plain body bytes = IsTrue plain ↔ (IsTrue (is_string kind) × (body ≡ bytes))
+
+same_bools : (p q : Bool) → (p ≡ true → q ≡ true) → (q ≡ true → p ≡ true) → p ≡ q
+same_bools true q f g = sym (f refl)
+same_bools false true f g = g refl
+same_bools false false f g = refl
+
+not_false : (z : Bool) → (z ≡ false → ⊥) → z ≡ true
+not_false true n = refl
+not_false false n = absurd (n refl)
+
+single_of : (kind : Kind) → is_quoted kind ≡ true → is_string kind ≡ false → is_single kind ≡ true
+single_of kind q s = cc
+
+-- the places of what the value with these bytes is written as
+pub written_at : (kind : Kind) (t bytes : List ℕ) (body : Body) → IsUtf8 t → is_quoted kind ≡ true → IsWrittenAs kind bytes (chars t) → body.at ≡ length (opener kind) → body.end ≡ length t - 1 → body.suffix_at ≡ length t → Whole kind body.plain (body_in t body) bytes → StandsAt kind t body
+written_at kind t bytes body u q w at end_at suffix_at whole =
+    let e = enclosed kind (chars t) w.value q w.written in
+    let b = between kind t w.value e body u (record { at = at; end_at = end_at; suffix_at = suffix_at }) in
+    let f = e.has in
+    let inside = body_in t body in
+    let behind = suffix_in t body in
+    let parts : PartsAre f.form kind (chars t) w.value (chars inside) (chars behind) =
+    subst (λ z. PartsAre f.form kind (chars t) w.value z (chars behind)) (sym b.body_is) (subst (λ z. PartsAre f.form kind (chars t) w.value e.inside z) (sym b.suffix_is) f.parts) in
+    let told : body.plain ≡ is_plain_body f.form kind (chars inside) = go e parts (body_text t body u b.stands) (is_string kind) refl in
+    let quoted : IsQuotedAt kind t body = record { form = f.form; value = w.value; parts = parts; plain_is = told; stands = b.stands } in
+    stands_at kind t _ refl (quoted_found t kind body u quoted)
+  where
+    go : (e : Enclosed kind (chars t) w.value) → PartsAre e.has.form kind (chars t) w.value (chars (body_in t body)) (chars (suffix_in t body)) → IsUtf8 (body_in t body) → (s : Bool) → is_string kind ≡ s → body.plain ≡ is_plain_body e.has.form kind (chars (body_in t body))
+    go e p ub true s = same_bools _ _
+        (λ h. not_false _ (λ other. let (cooked, fails) = cooked_other e.has.form kind (chars t) w.value _ _ s other p in omega (arith, cooked_shortens kind (chars t) w.value _ _ fails ub cooked, ap length ((whole.0 h).1 ∙ w.bytes_are))))
+        (λ h. whole.1 (s, plain_bytes (chars t) e.has.form kind w.value _ _ h ub p kind _ _ s e.reads ∙ ap (in_bytes kind) e.value_is ∙ sym w.bytes_are))
+    go e p ub false s = same_bools _ _
+        (λ h. absurd (both_ways (is_string kind) s (whole.0 h).0))
+        (λ h. absurd (both_ways (is_plain_body e.has.form kind (chars (body_in t body))) (e.has.single (single_of kind q s) _) h))

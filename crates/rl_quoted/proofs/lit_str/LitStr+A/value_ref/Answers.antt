@@ -1,0 +1,9 @@
+use Rattle.std.proofs.Common.{rules}
+use Rattle.std.specs.Str.{IsUtf8}
+use Rattle.rl_grammar.proofs.BodyContents.{plain_contents}
+use Rattle.rl_quoted.proofs.lit_str.LitStr+A.value_ref.Goals as goal
+
+pub returns-then-plain-clause-some : goal.returns-then-plain-clause-some
+returns-then-plain-clause-some g c =
+    let body : IsUtf8 c.body-plain.result.0.now = search rules in
+    plain_contents _ _ _ c.if-plain.true c.body-plain.ensures.stands c.body-plain.ensures.text body

@@ -1,5 +1,0 @@
-use Rattle.rl_quoted.proofs.PlaceLemmas.{one_place}
-use Rattle.rl_quoted.proofs.place.suffix_place.Goals as goal
-
-pub returns : goal.returns
-returns c = one_place c.args.kind c.in-Some.field-0-0 c.args.text.now c.in-Some.at c.requires c.in-Some.ensures.reads

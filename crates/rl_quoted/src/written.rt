@@ -1,0 +1,48 @@
+//! Where the parts stand of a literal that the writer wrote.
+
+ghost use Rattle.std.specs.Prelude.{◌≡◌, ◌↔◌, IsTrue, length};
+ghost use Rattle.std.specs.Str.{chars};
+ghost use Rattle.rl_tokens.specs.Quoted.{is_string, opener};
+ghost use Rattle.rl_grammar.specs.Founds.{is_quoted};
+ghost use Rattle.rl_quoted.specs.Places.{IsWrittenAs, StandsAt};
+
+use rl_grammar::{Body, Kind};
+
+/// How many bytes stand before what is written of a value of the quoted kind.
+fn opener_length(kind: Kind) -> usize
+    requires { IsTrue (is_quoted kind) }
+    ensures { result ≡ length (opener kind) }
+{
+    match kind {
+        Kind::Str | Kind::Char => 1,
+        _ => 2,
+    }
+}
+
+/// Whether the body of a string is all of the value.
+fn is_whole(kind: Kind, body: &[u8], value: &[u8]) -> bool
+    ensures { IsTrue result ↔ (IsTrue (is_string kind) × (body.now ≡ value.now)) }
+{
+    match kind {
+        Kind::Str | Kind::ByteStr | Kind::CStr => body == value,
+        _ => false,
+    }
+}
+
+/// The places of the parts of a text that the value with these bytes is written as: no suffix stands behind the closing
+/// quote, and the body is the value where nothing had to be escaped.
+pub(crate) fn written_body(kind: Kind, text: &str, value: &[u8]) -> Body
+    requires quoted { IsTrue (is_quoted kind) }
+    requires written { IsWrittenAs kind value.now (chars text.now) }
+    ensures { StandsAt kind text.now result }
+{
+    let bytes = text.as_bytes();
+    let at = opener_length(kind);
+    let end = bytes.len() - 1;
+    Body {
+        at,
+        end,
+        suffix_at: bytes.len(),
+        plain: is_whole(kind, &bytes[at..end], value),
+    }
+}
