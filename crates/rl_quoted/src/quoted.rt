@@ -115,6 +115,13 @@ impl<K: QuotedKind, A: Allocator> Quoted<K, A> {
         &self.token.text()[self.body.suffix_at..]
     }
 
+    /// The token's text.
+    pub fn text(&self) -> &str
+        ensures { result.now ≡ self.now.text }
+    {
+        self.token.text()
+    }
+
     /// Where the literal stands.
     pub fn span(&self) -> Span
         ensures { result ≡ self.now.span }

@@ -1,60 +1,42 @@
 -- The texts of literals that were read once read as the same, whatever stands between them.
-use Rattle.std.proofs.Common.{◌≡◌, ◌≢◌, ℕ, ◌+◌, Bool as Truths, List, [], ◌∷◌, ◌++◌, drop, refl, sym, ◌∙◌, ap, subst}
+use Rattle.std.proofs.Common.{◌≡◌, ◌≢◌, ℕ, ◌+◌, List, [], ◌∷◌, ◌++◌, drop, refl, sym, ◌∙◌, ap, subst}
 use Rattle.std.specs.Prelude.{Result, Err, Vec}
 use Rattle.std.specs.List.{AllByRecursion}
 use Rattle.std.specs.Str.{chars, encode_utf8_all}
 use Rattle.std.proofs.lemmas.Str.{scalars-chars}
-use Rattle.rl_tokens.specs.declared.kind.Kind.TheVariants.{Str as StrKind, ByteStr as ByteStrKind, CStr as CStrKind, Byte as ByteKind, Char as CharKind, Int as IntKind, Float as FloatKind, Bool as BoolKind}
 use Rattle.rl_tokens.specs.declared.error.Error.{Error}
 use Rattle.rl_tokens.specs.declared.error.ErrorKind.TheVariants.{Memory}
 use Rattle.rl_tokens.specs.Tokens.{Token}
 use Rattle.rl_tokens.specs.Trivia.{IsTrivia}
 use Rattle.rl_tokens.specs.Trees.{Tree, GroupTree, IdentTree, PunctTree, LiteralTree}
-use Rattle.rl_tokens.specs.Reading.{Truth, Reads, ReadsAs, truth_text}
 use Rattle.rl_tokens.specs.Fronts.{HasReading, IsFront}
 use Rattle.rl_tokens.specs.Lexing.{byte_len}
 use Rattle.rl_tokens.specs.Printed.{Item, WordItem, LiteralItem, MinusItem, item_text, Entry, printed_text, token_at, printed_trees, IsCutItem, Reprinted}
 use Rattle.rl_tokens.proofs.CutTrees.{IsCutTree, lexed_trees}
 use Rattle.rl_tokens.proofs.PrintedLaws.{reprinted_lexes}
-use Rattle.rl_grammar.specs.NumberShapes.{HasNoReading}
 use Rattle.rl_grammar.proofs.FrontLemmas.{minus_chars}
 use Rattle.rust_literals.specs.declared.lit.Lit.{Lit}
-use Rattle.rust_literals.specs.declared.lit.Lit.TheVariants.{Str, ByteStr, CStr, Byte, Char, Int, Float, Bool, Verbatim}
-use Rattle.rust_literals.specs.Literals.{IsReadFrom, moved_to}
+use Rattle.rust_literals.specs.Literals.{kind_of, token_of, IsReadAs, IsReadFrom, IsMovedTo}
 use Rattle.rust_literals.specs.Parsing.{IsLitFront, Leads, AreRead, IsOrMemory}
 use Rattle.rust_literals.specs.ReadBack.{HoldsOrMemory, lit_text, Spaced, spaced_text, lits_of, Again, AreMoved}
-use Rattle.rust_literals.proofs.ItemFronts.{IsFrontItem, minus_bytes, AreReadAt, items_lead}
+use Rattle.rust_literals.proofs.LitLemmas.{SpellsWords, read_lit}
+use Rattle.rust_literals.proofs.ItemFronts.{IsFrontItem, minus_bytes, AreReadAt, items_lead, spells_words}
 use Rattle.rust_literals.proofs.PrintedLemmas.{holds_exactly}
 
--- A literal at another place is that of the token there, which has the same text.
-same_token : (l token other : Token) → l ≡ token → other.text ≡ token.text → record { text = l.text; span = other.span } ≡ other
-same_token l token other is same = ap (λ x. let t : Token = record { text = x; span = other.span } in t) (ap (λ (t : Token). t.text) is ∙ sym same)
-
-moved_read : {A : Type 0} (token other : Token) (lit : Lit A) → other.text ≡ token.text → IsReadFrom token lit → IsReadFrom other (moved_to lit other.span)
-moved_read token other (Str l) same (is, r) = (same_token l token other is same, subst (λ (x : List ℕ). ReadsAs StrKind (chars x)) (sym same) r)
-moved_read token other (ByteStr l) same (is, r) = (same_token l token other is same, subst (λ (x : List ℕ). ReadsAs ByteStrKind (chars x)) (sym same) r)
-moved_read token other (CStr l) same (is, r) = (same_token l token other is same, subst (λ (x : List ℕ). ReadsAs CStrKind (chars x)) (sym same) r)
-moved_read token other (Byte l) same (is, r) = (same_token l token other is same, subst (λ (x : List ℕ). ReadsAs ByteKind (chars x)) (sym same) r)
-moved_read token other (Char l) same (is, r) = (same_token l token other is same, subst (λ (x : List ℕ). ReadsAs CharKind (chars x)) (sym same) r)
-moved_read token other (Int l) same (is, r) = (same_token l token other is same, subst (λ (x : List ℕ). ReadsAs IntKind (chars x)) (sym same) r)
-moved_read token other (Float l) same (is, r) = (same_token l token other is same, subst (λ (x : List ℕ). ReadsAs FloatKind (chars x)) (sym same) r)
-moved_read token other (Bool l) same (is, r) = (refl, subst (λ (x : List ℕ). Reads (chars x) BoolKind (Truth l.value) []) (sym same) r)
-moved_read token other (Verbatim l) same (is, r) = (same_token l token other is same, subst (λ (x : List ℕ). HasNoReading (chars x)) (sym same) r)
-
 -- What a literal is printed as is the text of its token.
-word_is : (b c : Truths) → Truth b ≡ Truth c → truth_text b ≡ truth_text c
-word_is b c e = let same : b ≡ c = cc in ap truth_text same
-
 lit_text_is : {A : Type 0} (token : Token) (lit : Lit A) → IsReadFrom token lit → lit_text lit ≡ chars token.text
-lit_text_is token (Str l) (is, r) = ap (λ (t : Token). chars t.text) is
-lit_text_is token (ByteStr l) (is, r) = ap (λ (t : Token). chars t.text) is
-lit_text_is token (CStr l) (is, r) = ap (λ (t : Token). chars t.text) is
-lit_text_is token (Byte l) (is, r) = ap (λ (t : Token). chars t.text) is
-lit_text_is token (Char l) (is, r) = ap (λ (t : Token). chars t.text) is
-lit_text_is token (Int l) (is, r) = ap (λ (t : Token). chars t.text) is
-lit_text_is token (Float l) (is, r) = ap (λ (t : Token). chars t.text) is
-lit_text_is token (Bool l) (is, r) = word_is l.value r.truth r.contents_is ∙ sym r.text_is
-lit_text_is token (Verbatim l) (is, r) = ap (λ (t : Token). chars t.text) is
+lit_text_is token lit (is, r) = ap (λ (t : Token). chars t.text) is
+
+-- A token at another place, which has the same text, is the same literal.
+abbrev MovedLit : {A : Type 0} → Token → Lit A → Type 0
+MovedLit {A} other lit = (moved : Lit A) × IsReadFrom other moved × IsMovedTo lit other.span moved
+
+moved_lit : {A : Type 0} (token other : Token) (lit : Lit A) → SpellsWords other.text → other.text ≡ token.text → IsReadFrom token lit → MovedLit other lit
+moved_lit {A} token other lit words same (is, r) =
+    let (moved, read, kind_is) = read_lit A other (kind_of lit) words (subst (λ (x : List ℕ). IsReadAs (kind_of lit) (chars x)) (sym same) r) in
+    let text_is : other.text ≡ (token_of lit).text = same ∙ ap (λ (t : Token). t.text) (sym is) in
+    let there : other ≡ record (token_of lit) { span = other.span } = ap (λ (x : List ℕ). let t : Token = record { text = x; span = other.span } in t) text_is in
+    (moved, read, record { kind = kind_is; token = read.0 ∙ there })
 
 -- The literal is that of an item, as it was cut.
 record IsCutLit {A : Type 0} (lit : Lit A) : Type 0 where
@@ -64,7 +46,7 @@ record IsCutLit {A : Type 0} (lit : Lit A) : Type 0 where
   pub token : Token
   pub read : IsReadFrom token lit
   pub bytes : token.text ≡ encode_utf8_all (item_text item)
-  pub text : lit_text lit ≡ item_text item
+  pub characters : chars token.text ≡ item_text item
 
 abbrev FrontCut : {A : Type 0} → Lit A → List Tree → Type 0
 FrontCut lit rest = IsCutLit lit × AllByRecursion IsCutTree rest
@@ -72,9 +54,6 @@ FrontCut lit rest = IsCutLit lit × AllByRecursion IsCutTree rest
 front_cut : {A : Type 0} (trees : List Tree) (lit : Lit A) (rest : List Tree) → AllByRecursion IsCutTree trees → IsLitFront trees lit rest → FrontCut lit rest
 front_cut trees lit rest cut h = go trees cut h.front
   where
-    printed : lit_text lit ≡ chars h.token.text
-    printed = lit_text_is h.token lit h.read
-
     go : (trees : List Tree) → AllByRecursion IsCutTree trees → IsFront trees h.token rest → FrontCut lit rest
     go [] cut f = absurd f
     go (LiteralTree x ∷ trees) ((text, is, of), cut) (e, f) = (
@@ -85,7 +64,7 @@ front_cut trees lit rest cut h = go trees cut h.front
         token = h.token;
         read = h.read;
         bytes = ap (λ (t : Token). t.text) e ∙ of.bytes;
-        text = printed ∙ ap (λ (t : Token). chars t.text) e ∙ of.characters;
+        characters = ap (λ (t : Token). chars t.text) e ∙ of.characters;
       },
       subst (λ (ts : List Tree). AllByRecursion IsCutTree ts) (sym f) cut,
     )
@@ -97,7 +76,7 @@ front_cut trees lit rest cut h = go trees cut h.front
         token = h.token;
         read = h.read;
         bytes = ap (λ (t : Token). t.text) e ∙ of.bytes ∙ ap encode_utf8_all (sym of.characters ∙ r.text_is);
-        text = printed ∙ ap (λ (t : Token). chars t.text) e ∙ r.text_is;
+        characters = ap (λ (t : Token). chars t.text) e ∙ r.text_is;
       },
       subst (λ (ts : List Tree). AllByRecursion IsCutTree ts) (sym f) cut,
     )
@@ -110,7 +89,7 @@ front_cut trees lit rest cut h = go trees cut h.front
         token = h.token;
         read = h.read;
         bytes = ap (λ (t : Token). t.text) e ∙ ap (λ b. 45 ∷ b) of.bytes ∙ sym (minus_bytes text);
-        text = printed ∙ ap (λ (t : Token). chars t.text) e ∙ minus_chars x.text ∙ ap (λ t. 45 ∷ t) of.characters;
+        characters = ap (λ (t : Token). chars t.text) e ∙ minus_chars x.text ∙ ap (λ t. 45 ∷ t) of.characters;
       },
       subst (λ (ts : List Tree). AllByRecursion IsCutTree ts) (sym f) cut,
     )
@@ -154,7 +133,7 @@ items_text : {A : Type 0} (spaced : List (Spaced A)) (cuts : AllByRecursion IsCu
 unfolding entries_of
 items_text [] cuts last = refl
 items_text (s ∷ ss) (c, cuts) last =
-    ap (λ t. s.gap ++ (lit_text s.lit ++ t)) (items_text ss cuts last) ∙ ap (λ t. s.gap ++ (t ++ printed_text (entries_of ss cuts) last)) c.text
+    ap (λ t. s.gap ++ (lit_text s.lit ++ t)) (items_text ss cuts last) ∙ ap (λ t. s.gap ++ (t ++ printed_text (entries_of ss cuts) last)) (lit_text_is c.token s.lit c.read ∙ c.characters)
 
 abbrev MovedLits : {A : Type 0} → (file at : ℕ) → List Entry → List (Lit A) → Type 0
 MovedLits {A} file at entries list = (lits : List (Lit A)) × AreReadAt file at entries lits × AreMoved list lits
@@ -164,8 +143,9 @@ unfolding entries_of
 items_moved file at [] cuts = ([], refl, refl)
 items_moved file at (s ∷ ss) (c, cuts) =
     let token = token_at file (at + byte_len s.gap) (item_text c.item) in
+    let (lit, read, there) = moved_lit c.token token s.lit (spells_words (item_text c.item) (sym (ap chars c.bytes) ∙ c.characters)) (sym c.bytes) c.read in
     let (lits, are, moved) = items_moved file (at + byte_len s.gap + byte_len (item_text c.item)) ss cuts in
-    (moved_to s.lit token.span ∷ lits, (moved_read c.token token s.lit (sym c.bytes) c.read, are), ((token.span, refl), moved))
+    (lit ∷ lits, (read, are), ((token.span, there), moved))
 
 -- The answer to the texts of literals that were read once.
 pub again_read : {A B : Type 0} (text : List ℕ) (file : ℕ) (r : Result (Vec (Lit A) B) (Error A)) → ((list : List (Lit A)) → AreRead (chars text) file list → IsOrMemory list r) → (spaced : List (Spaced A)) (last : List ℕ) → Again (chars text) spaced last → HoldsOrMemory (AreMoved (lits_of spaced)) r

@@ -6,12 +6,11 @@ use Rattle.std.specs.Prelude.{min, max, Bool, IfSome, if◌then◌else◌}
 use Rattle.std.specs.Str.{chars}
 use Rattle.rl_tokens.specs.declared.span.Span.{Span}
 use Rattle.rl_tokens.specs.declared.cursor.Lexeme.{Lexeme as Lent}
-use Rattle.rl_tokens.specs.declared.kind.Kind.TheVariants.{Str as StrKind, ByteStr as ByteStrKind, CStr as CStrKind, Byte as ByteKind, Char as CharKind, Int as IntKind, Float as FloatKind, Bool as BoolKind}
 use Rattle.rl_tokens.specs.Lexemes.{Form, LiteralForm, IdentifierForm, MarkForm}
 use Rattle.rl_tokens.specs.LexemeAt.{form_view}
 use Rattle.rl_tokens.specs.Tokens.{Token}
 use Rattle.rl_tokens.specs.Puncts.{Mark}
-use Rattle.rl_tokens.specs.Reading.{Reads, Truth}
+use Rattle.rl_tokens.specs.Reading.{truth_text}
 use Rattle.rl_tokens.specs.Trees.{Tree, IdentTree, PunctTree, LiteralTree, flat_trees}
 use Rattle.rl_tokens.specs.Lexing.{Cuts, behind_form, flat_form, flat_cut}
 use Rattle.rl_tokens.specs.Cursors.{Cutting, TakesNext}
@@ -19,13 +18,13 @@ use Rattle.rl_tokens.specs.Fronts.{HasReading, joined, joined_span}
 use Rattle.rl_tokens.proofs.CutLemmas.{open_more}
 use Rattle.rl_tokens.proofs.CursorLemmas.{flat_lent}
 use Rattle.rl_tokens.proofs.NestLemmas.{flat_trees-append}
-use Rattle.rl_grammar.proofs.FrontLemmas.{minus_chars}
 use Rattle.rust_literals.specs.declared.lit.Lit.{Lit}
-use Rattle.rust_literals.specs.declared.lit.Lit.TheVariants.{Str, ByteStr, CStr, Byte, Char, Int, Float, Bool as BoolLit, Verbatim}
+use Rattle.rust_literals.specs.declared.lit.Lit.TheVariants.{Bool as BoolLit}
 use Rattle.rust_literals.specs.Literals.{IsReadFrom}
 use Rattle.rust_literals.specs.Parsing.{Leads, AreRead}
 use Rattle.rust_literals.specs.Flat.{CutsInto, ReadsNext, AreReadUpTo}
 use Rattle.rl_tokens.proofs.LexLaws.{one_list}
+use Rattle.rust_literals.proofs.LitLemmas.{read_truth}
 use Rattle.rust_literals.proofs.LeadsLemmas.{leads_step, one_list_of}
 
 -- where a token stands
@@ -65,14 +64,14 @@ literal_next file old new l lit t form_is read =
     }
 
 -- the word of a truth value
-pub truth_next : {A : Type 0} (file : ℕ) (old new : Cutting) (l : Lent) (lit : Lit A) (b : Bool) → TakesNext old l new → form_view l.form ≡ IdentifierForm → Reads (chars l.text.now) BoolKind (Truth b) [] → lit ≡ BoolLit (record { value = b; span = span_at file l }) → ReadsNext file old lit new
-truth_next {A} file old new l lit b t form_is reads lit_is =
+pub truth_next : {A : Type 0} (file : ℕ) (old new : Cutting) (l : Lent) (lit : Lit A) (b : Bool) → TakesNext old l new → form_view l.form ≡ IdentifierForm → l.text.now ≡ truth_text b → lit ≡ BoolLit (record { value = b; span = span_at file l }) → ReadsNext file old lit new
+truth_next {A} file old new l lit b t form_is word_is lit_is =
     let tree : Tree = IdentTree (token_at file l) in
     let word : Lit A = BoolLit (record { value = b; span = span_at file l }) in
-    let read : IsReadFrom (token_at file l) word = (refl, reads) in record {
+    let read : IsReadFrom (token_at file l) word = read_truth (token_at file l) b (span_at file l) word_is refl in record {
       trees = tree ∷ [];
       cuts = λ done c. tree_more file old new l IdentifierForm tree done t form_is refl refl c;
-      front = λ behind. record { token = token_at file l; front = ((Truth b, [], reads), refl, refl); read = subst (λ (x : Lit A). IsReadFrom (token_at file l) x) (sym lit_is) read };
+      front = λ behind. record { token = token_at file l; front = (read.1, refl, refl); read = subst (λ (x : Lit A). IsReadFrom (token_at file l) x) (sym lit_is) read };
       same = t.same;
     }
 
@@ -157,18 +156,3 @@ pub one_read : {A : Type 0} (text : List ℕ) (file : ℕ) (found list : List (L
 one_read text file found list r q =
     let same : q.trees ≡ r.trees = one_list text file q.trees r.trees q.lexes r.lexes in
     one_list_of r.trees found list r.leads (subst (λ (t : List Tree). Leads t list []) same q.leads)
-
--- what is read as a literal of a kind has a reading
-pub has_reading : {A : Type 0} (token : Token) (lit : Lit A) → IsReadFrom token lit → ((l : Token) → lit ≡ Verbatim l → ⊥) → HasReading (chars token.text)
-has_reading token (Str l) (e, r) other = (StrKind, r)
-has_reading token (ByteStr l) (e, r) other = (ByteStrKind, r)
-has_reading token (CStr l) (e, r) other = (CStrKind, r)
-has_reading token (Byte l) (e, r) other = (ByteKind, r)
-has_reading token (Char l) (e, r) other = (CharKind, r)
-has_reading token (Int l) (e, r) other = (IntKind, r)
-has_reading token (Float l) (e, r) other = (FloatKind, r)
-has_reading token (BoolLit l) (e, r) other = (BoolKind, (Truth l.value, [], r))
-has_reading token (Verbatim l) (e, n) other = absurd (other l refl)
-
-pub has_reading_behind : {A : Type 0} (bytes : List ℕ) (span : Span) (lit : Lit A) → IsReadFrom (record { text = 45 ∷ bytes; span = span }) lit → ((l : Token) → lit ≡ Verbatim l → ⊥) → HasReading (45 ∷ chars bytes)
-has_reading_behind bytes span lit read other = subst HasReading (minus_chars bytes) (has_reading (record { text = 45 ∷ bytes; span = span }) lit read other)

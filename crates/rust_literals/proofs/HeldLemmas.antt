@@ -1,13 +1,161 @@
--- What a number struct holds, from the place of its suffix and its digits.
-use Rattle.std.proofs.Common.{◌≡◌, ℕ, List, subst}
-use Rattle.std.specs.Str.{chars}
-use Rattle.rl_tokens.specs.declared.kind.Kind.TheVariants.{Float}
-use Rattle.rl_grammar.specs.NumberShapes.{AreDigits}
-use Rattle.rust_literals.specs.Held.{IsFloatUpTo, HoldsFloat}
+-- What a number struct holds.
+use Rattle.std.proofs.Common.{◌≡◌, ◌≢◌, ◌≤◌, ◌<◌, ◌⊎◌, inl, inr, ℕ, List, ◌++◌, take, drop, Bool as Truths, true, false, IsTrue, arith, refl, sym, ap, subst, ◌∙◌}
+use Rattle.std.specs.Prelude.{◌↔◌}
+use Rattle.std.specs.Str.{chars, IsUtf8}
+use Rattle.std.proofs.lemmas.List.{take-append-drop, append_cancel_right}
+use Rattle.rl_tokens.specs.declared.kind.Kind.{Kind}
+use Rattle.rl_tokens.specs.declared.kind.Kind.TheVariants.{Str, ByteStr, CStr, Byte, Char, Int, Float, Bool}
+use Rattle.rl_tokens.specs.declared.error.ErrorKind.{ErrorKind}
+use Rattle.rl_tokens.specs.declared.error.ErrorKind.TheVariants.{Expected, EndOfInput, Unexpected, Lex, Suffix, NotInteger, TooLarge, NotFloat, Number, Memory}
+use Rattle.rl_tokens.specs.declared.error.Error.{Error}
+use Rattle.rl_tokens.specs.declared.span.Span.{Span}
+use Rattle.rl_tokens.specs.Errors.{memory_at}
+use Rattle.rl_tokens.specs.Reading.{Digits, Reads, HasSuffix}
+use Rattle.rl_tokens.proofs.OneNumber.{int_once}
+use Rattle.rl_grammar.specs.declared.found.Found.{Found}
+use Rattle.rl_grammar.specs.Founds.{IsFound, IsFoundFloat, IsFoundNumber, body_in, suffix_in}
+use Rattle.rl_grammar.specs.NumberShapes.{AreDigits, IsNumber}
+use Rattle.rl_grammar.specs.WholeShapes.{IsCut, IsPlain}
+use Rattle.rl_grammar.proofs.NumberFoundLemmas.{number_integer, number_float, number_stands, plain_digits}
+use Rattle.rust_literals.specs.Held.{HasDigits, HasOwnSuffix, HoldsNumber}
+use Rattle.rust_literals.specs.Refusals.{IsNoNumber, IsRefusedAs}
 
--- a float's digits are those of the numeral before that place
-pub holds_float : (text seen read digits : List ℕ) (at : ℕ) → seen ≡ text → read ≡ text → IsFloatUpTo seen at → AreDigits Float (chars read) (chars digits) → HoldsFloat text digits at
-holds_float text seen read digits at e f p d =
-    let q : IsFloatUpTo text at = subst (λ z. IsFloatUpTo z at) e p in
-    let r : AreDigits Float (chars text) (chars digits) = subst (λ z. AreDigits Float (chars z) (chars digits)) f d in
-    record { numeral = q.numeral; reads = q.reads; digits_are = r q.numeral _ q.reads; boundary = q.boundary }
+-- a number that was found, by its kind: an integer, or a float by the rule of floats
+abbrev IsOfKind : Kind → List ℕ → Found → Type 0
+IsOfKind Int text found = IsFound text found
+IsOfKind Float text found = IsFoundFloat text found
+IsOfKind _ text found = ⊥
+
+no_integer : (k : Kind) → k ≡ Float → k ≢ Int
+no_integer k e i = absurd (cc)
+
+not_both : (k : Kind) → k ≢ Int → k ≢ Float → (text : List ℕ) (found : Found) → found.kind ≡ k → IsFoundNumber text found → ⊥
+not_both k i f text found e (inl (h, inl g)) = i (sym e ∙ g)
+not_both k i f text found e (inl (h, inr g)) = f (sym e ∙ g)
+not_both k i f text found e (inr h) = f (sym e ∙ h.kind)
+
+of_kind : (kind : Kind) (text : List ℕ) (found : Found) → IsUtf8 text → found.kind ≡ kind → IsFoundNumber text found → IsOfKind kind text found
+of_kind Int text found utf8 e h = number_integer text found e h
+of_kind Float text found utf8 e h = number_float text found utf8 (no_integer found.kind e) h
+of_kind Str text found utf8 e h = not_both Str (λ x. cc) (λ x. cc) text found e h
+of_kind ByteStr text found utf8 e h = not_both ByteStr (λ x. cc) (λ x. cc) text found e h
+of_kind CStr text found utf8 e h = not_both CStr (λ x. cc) (λ x. cc) text found e h
+of_kind Byte text found utf8 e h = not_both Byte (λ x. cc) (λ x. cc) text found e h
+of_kind Char text found utf8 e h = not_both Char (λ x. cc) (λ x. cc) text found e h
+of_kind Bool text found utf8 e h = not_both Bool (λ x. cc) (λ x. cc) text found e h
+
+-- its suffix, and the digits that are told of it
+found_suffix : (kind : Kind) (text : List ℕ) (found : Found) → found.kind ≡ kind → IsOfKind kind text found → HasOwnSuffix kind (chars text) (chars (suffix_in text found.body))
+found_suffix Int text found e h = subst (λ k. HasSuffix k (chars text) (chars (suffix_in text found.body))) e h.reads
+found_suffix Float text found e h = (chars (body_in text found.body), h.reads)
+found_suffix Str text found e h = absurd h
+found_suffix ByteStr text found e h = absurd h
+found_suffix CStr text found e h = absurd h
+found_suffix Byte text found e h = absurd h
+found_suffix Char text found e h = absurd h
+found_suffix Bool text found e h = absurd h
+
+found_digits : (kind : Kind) (text digits : List ℕ) (found : Found) → found.kind ≡ kind → IsOfKind kind text found → AreDigits kind (chars text) digits → HasDigits kind (chars text) digits
+found_digits Int text digits found e h d =
+    let x = chars (suffix_in text found.body) in
+    let (v, r) : HasSuffix Int (chars text) x = subst (λ k. HasSuffix k (chars text) x) e h.reads in
+    (x, subst (λ z. Reads (chars text) Int z x) (d v x r) r)
+found_digits Float text digits found e h d =
+    let n = chars (body_in text found.body) in
+    let x = chars (suffix_in text found.body) in
+    (n, x, h.reads, d n x h.reads)
+found_digits Str text digits found e h d = absurd h
+found_digits ByteStr text digits found e h d = absurd h
+found_digits CStr text digits found e h d = absurd h
+found_digits Byte text digits found e h d = absurd h
+found_digits Char text digits found e h d = absurd h
+found_digits Bool text digits found e h d = absurd h
+
+-- what is held of a number that was found
+pub holds_number : (kind : Kind) (text digits : List ℕ) (found : Found) → IsUtf8 text → IsFoundNumber text found → found.kind ≡ kind → AreDigits found.kind (chars text) (chars digits) → HoldsNumber kind text digits found.body.suffix_at
+holds_number kind text digits found utf8 h e d =
+    let of = of_kind kind text found utf8 e h in record {
+      digits_are = found_digits kind text (chars digits) found e of (subst (λ k. AreDigits k (chars text) (chars digits)) e d);
+      suffix = found_suffix kind text found e of;
+      boundary = (number_stands text found h).behind;
+    }
+
+-- a body is all that stands before the suffix
+body_cut : (kind : Kind) (text : List ℕ) (found : Found) → found.kind ≡ kind → IsOfKind kind text found → text ≡ body_in text found.body ++ suffix_in text found.body
+body_cut Int text found e h = subst (λ k. IsCut k text (body_in text found.body) (suffix_in text found.body)) e h.cut
+body_cut Float text found e h = h.cut
+body_cut Str text found e h = absurd h
+body_cut ByteStr text found e h = absurd h
+body_cut CStr text found e h = absurd h
+body_cut Byte text found e h = absurd h
+body_cut Char text found e h = absurd h
+body_cut Bool text found e h = absurd h
+
+body_is : (text : List ℕ) (found : Found) → text ≡ body_in text found.body ++ suffix_in text found.body → body_in text found.body ≡ take found.body.suffix_at text
+body_is text found cut = append_cancel_right (body_in text found.body) (take found.body.suffix_at text) (suffix_in text found.body) (sym cut ∙ sym (take-append-drop found.body.suffix_at text))
+
+-- it is the digits where the number is plain
+pub holds_lent : (kind : Kind) (text : List ℕ) (found : Found) → IsUtf8 text → IsFoundNumber text found → found.kind ≡ kind → found.body.plain ≡ true → HoldsNumber kind text (take found.body.suffix_at text) found.body.suffix_at
+holds_lent kind text found utf8 h e plain =
+    let body = body_is text found (body_cut kind text found e (of_kind kind text found utf8 e h)) in
+    subst (λ z. HoldsNumber kind text z found.body.suffix_at) body
+    (holds_number kind text (body_in text found.body) found utf8 h e (plain_digits text found utf8 plain h))
+
+-- it isn't where the number is told not to be plain
+pub not_plain : (kind : Kind) (text : List ℕ) (found : Found) → IsFoundNumber text found → found.kind ≡ kind → found.body.plain ≡ false → IsPlain kind text → ⊥
+not_plain kind text found (inl (h, n)) e off p = let on : found.body.plain ≡ true = h.plain.1 (subst (λ k. IsPlain k text) (sym e) p) in absurd (cc)
+not_plain kind text found (inr h) e off p =
+    let on : found.body.plain ≡ true = h.plain.1 (subst (λ k. IsPlain k text) (sym e ∙ h.kind) p) in absurd (cc)
+
+-- what was found is a number of the kind
+pub found_number : (kind : Kind) (text : List ℕ) (found : Found) → IsUtf8 text → IsFoundNumber text found → found.kind ≡ kind → IsNumber kind (chars text)
+found_number kind text found utf8 h e = go kind e (of_kind kind text found utf8 e h)
+  where
+    go : (kind : Kind) → found.kind ≡ kind → IsOfKind kind text found → IsNumber kind (chars text)
+    go Int e h = let s = found_suffix Int text found e h in (s.0, chars (suffix_in text found.body), s.1)
+    go Float e h = (chars (body_in text found.body), chars (suffix_in text found.body), h.reads)
+    go Str e h = absurd h
+    go ByteStr e h = absurd h
+    go CStr e h = absurd h
+    go Byte e h = absurd h
+    go Char e h = absurd h
+    go Bool e h = absurd h
+
+-- want of memory, as a refusal
+pub wants_memory : {A : Type 0} (kind : Kind) (text : List ℕ) (e : Error A) (span : Span) → e ≡ memory_at span → IsNumber kind text → (e.span ≡ span) × IsRefusedAs kind text e.kind
+wants_memory {A} kind text e span is number =
+    let P : Error A → Type 0 = λ x. (x.span ≡ span) × IsRefusedAs kind text x.kind in subst P (sym is) (refl, number)
+
+-- what is plain is no text that is refused
+pub no_number_plain : {A : Type 0} (kind : Kind) (text : List ℕ) (reason : ErrorKind A) → IsNoNumber kind (chars text) reason → IsPlain kind text → ⊥
+no_number_plain Int text NotInteger none p = none p.reads.sign p.reads.magnitude p.suffix p.reads.reads
+no_number_plain Int text TooLarge past p =
+    let r = p.reads in
+    let one = int_once (chars text) past.suffix p.suffix past.sign r.sign past.magnitude r.magnitude past.reads r.reads in
+    let above = past.past in
+    let within = r.within in
+    absurd (omega (arith, one.1))
+no_number_plain Int text (Expected w) none p = absurd none
+no_number_plain Int text (EndOfInput w) none p = absurd none
+no_number_plain Int text Unexpected none p = absurd none
+no_number_plain Int text (Lex l) none p = absurd none
+no_number_plain Int text (Suffix x) none p = absurd none
+no_number_plain Int text NotFloat none p = absurd none
+no_number_plain Int text (Number w) none p = absurd none
+no_number_plain Int text Memory none p = absurd none
+no_number_plain Float text (Expected w) none p = absurd none
+no_number_plain Float text (EndOfInput w) none p = absurd none
+no_number_plain Float text Unexpected none p = absurd none
+no_number_plain Float text (Lex l) none p = absurd none
+no_number_plain Float text (Suffix x) none p = absurd none
+no_number_plain Float text NotInteger none p = absurd none
+no_number_plain Float text TooLarge none p = absurd none
+no_number_plain Float text NotFloat none p = none (chars p.body) p.suffix p.reads.0
+no_number_plain Float text (Number w) none p = absurd none
+no_number_plain Float text Memory none p = absurd none
+no_number_plain Str text reason none p = absurd none
+no_number_plain ByteStr text reason none p = absurd none
+no_number_plain CStr text reason none p = absurd none
+no_number_plain Byte text reason none p = absurd none
+no_number_plain Char text reason none p = absurd none
+no_number_plain Bool text reason none p = absurd none

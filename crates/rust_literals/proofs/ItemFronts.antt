@@ -15,9 +15,20 @@ use Rattle.rl_tokens.specs.Lexing.{byte_len}
 use Rattle.rl_tokens.specs.Printed.{Item, WordItem, LiteralItem, MinusItem, item_text, Entry, token_at, item_trees, printed_trees}
 use Rattle.rl_tokens.proofs.CommentBytes.{low_front}
 use Rattle.rl_grammar.proofs.FrontLemmas.{truth_reads}
+use Rattle.rust_literals.proofs.LitLemmas.{SpellsWords}
 use Rattle.rust_literals.specs.declared.lit.Lit.{Lit}
 use Rattle.rust_literals.specs.Literals.{IsReadFrom}
 use Rattle.rust_literals.specs.Parsing.{Leads}
+
+-- the bytes of the words are their characters
+word_bytes : (b : Bool) → encode_utf8_all (truth_text b) ≡ truth_text b
+unfolding lib.Utf8.encode
+word_bytes true = refl
+word_bytes false = refl
+
+-- so the bytes of characters spell them
+pub spells_words : (text : List ℕ) → chars (encode_utf8_all text) ≡ text → SpellsWords (encode_utf8_all text)
+spells_words text same b e = ap encode_utf8_all (sym same ∙ e) ∙ word_bytes b
 
 -- a minus and a text read together
 abbrev pub IsFrontItem : Item → Type 0

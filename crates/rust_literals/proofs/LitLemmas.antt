@@ -1,45 +1,151 @@
--- A text's reading by its kind, and what a refusal for it can be.
-use Rattle.std.proofs.Common.{◌≡◌, ◌≢◌, ℕ, Bool, true, false, List, [], refl, ap, subst}
-use Rattle.std.specs.Str.{chars}
+-- Literals by their kind and token.
+use Rattle.std.proofs.Common.{◌≡◌, ℕ, ◌==◌, Bool as Truths, true, false, List, [], ◌∷◌, Option, Some, None, refl, sym, ◌∙◌, ap, subst}
+use Rattle.std.specs.Cmp.Lexicographic.{pointwise}
+use Rattle.std.specs.Str.{chars, IsUtf8}
 use Rattle.rl_tokens.specs.declared.kind.Kind.{Kind}
-use Rattle.rl_tokens.specs.declared.kind.Kind.TheVariants.{Float, Bool as BoolKind}
+use Rattle.rl_tokens.specs.declared.kind.Kind.TheVariants.{Str as StrKind, ByteStr as ByteStrKind, CStr as CStrKind, Byte as ByteKind, Char as CharKind, Int as IntKind, Float as FloatKind, Bool as BoolKind}
 use Rattle.rl_tokens.specs.declared.span.Span.{Span}
-use Rattle.rl_tokens.specs.declared.error.Error.{Error}
-use Rattle.rl_tokens.specs.declared.error.ErrorKind.{ErrorKind}
-use Rattle.rl_tokens.specs.declared.error.ErrorKind.TheVariants.{Expected, EndOfInput, Unexpected, Lex, Suffix, NotInteger, TooLarge, NotFloat, Number, Memory}
-use Rattle.rl_tokens.specs.Errors.{memory_at}
+use Rattle.rl_tokens.specs.Tokens.{Token}
+use Rattle.rl_tokens.specs.Texts.{passes}
+use Rattle.rl_tokens.specs.Trees.{Tree, LiteralTree}
 use Rattle.rl_tokens.specs.Reading.{Truth, Reads, ReadsAs, HasSuffix, truth_text}
-use Rattle.rl_grammar.proofs.ReadingLemmas.{truth_chars}
-use Rattle.rust_literals.specs.Refusals.{IsRefusedAsFloat}
+use Rattle.rl_tokens.specs.Fronts.{HasReading}
+use Rattle.rl_tokens.proofs.OneReading.{one_reading}
+use Rattle.rl_grammar.specs.declared.found.Found.{Found}
+use Rattle.rl_grammar.specs.Founds.{IsFound, suffix_in}
+use Rattle.rl_grammar.specs.WholeShapes.{IsPlain}
+use Rattle.rl_grammar.proofs.ReadingLemmas.{truth_chars, truth_bytes}
+use Rattle.rl_grammar.proofs.FrontLemmas.{minus_chars}
+use Rattle.rust_literals.specs.declared.lit.Lit.{Lit}
+use Rattle.rust_literals.specs.declared.lit.Lit.TheVariants.{Str, ByteStr, CStr, Byte, Char, Int, Float, Bool, Verbatim}
+use Rattle.rust_literals.specs.Literals.{kind_of, token_of, IsReadAs, IsReadFrom, ReadsPlain}
+use Rattle.rust_literals.specs.Copies.{tree_of}
+
+-- ---- a literal is told by its kind and token
+
+-- the truth value of a word
+is_true_word : List ℕ → Truths
+is_true_word text = passes (λ c. c == 116) text
+
+word_tells : (b : Truths) → b ≡ is_true_word (truth_text b)
+unfolding is_true_word
+word_tells true = refl
+word_tells false = refl
+
+lit_of : {A : Type 0} → Option Kind → Token → Lit A
+lit_of (Some StrKind) token = Str token
+lit_of (Some ByteStrKind) token = ByteStr token
+lit_of (Some CStrKind) token = CStr token
+lit_of (Some ByteKind) token = Byte token
+lit_of (Some CharKind) token = Char token
+lit_of (Some IntKind) token = Int token
+lit_of (Some FloatKind) token = Float token
+lit_of (Some BoolKind) token = Bool (record { value = is_true_word token.text; span = token.span })
+lit_of None token = Verbatim token
+
+lit_is : {A : Type 0} (lit : Lit A) → lit ≡ lit_of (kind_of lit) (token_of lit)
+unfolding lit_of
+lit_is (Str l) = refl
+lit_is (ByteStr l) = refl
+lit_is (CStr l) = refl
+lit_is (Byte l) = refl
+lit_is (Char l) = refl
+lit_is (Int l) = refl
+lit_is (Float l) = refl
+lit_is (Bool l) = ap (λ b. Bool (record { value = b; span = l.span })) (word_tells l.value)
+lit_is (Verbatim l) = refl
+
+pub same_lit : {A : Type 0} (a b : Lit A) → kind_of a ≡ kind_of b → token_of a ≡ token_of b → a ≡ b
+same_lit a b k t = lit_is a ∙ ap (λ o. lit_of o (token_of a)) k ∙ ap (λ x. lit_of (kind_of b) x) t ∙ sym (lit_is b)
+
+-- ---- the readings of a token
+
+-- a text is read as one kind, or none
+pub one_kind : (text : List ℕ) (k l : Option Kind) → IsReadAs k text → IsReadAs l text → k ≡ l
+one_kind text None None n m = refl
+one_kind text None (Some l) n (w, y, s) = absurd (n l w y s)
+one_kind text (Some k) None (v, x, r) m = absurd (m k v x r)
+one_kind text (Some k) (Some l) (v, x, r) (w, y, s) = ap Some (one_reading text k l v w x y r s).0
+
+-- a token is one literal
+pub one_lit : {A : Type 0} (token : Token) (a b : Lit A) → IsReadFrom token a → IsReadFrom token b → a ≡ b
+one_lit token a b (e, h) (f, k) = same_lit a b (one_kind (chars token.text) (kind_of a) (kind_of b) h k) (e ∙ sym f)
+
+-- A word's characters are its bytes: of a text where that holds, there is a literal.
+abbrev pub SpellsWords : List ℕ → Type 0
+SpellsWords text = (b : Truths) → chars text ≡ truth_text b → text ≡ truth_text b
+
+abbrev pub ReadLit : Type 0 → Token → Option Kind → Type 0
+ReadLit A token kind = (lit : Lit A) × IsReadFrom token lit × (kind_of lit ≡ kind)
+
+pub read_lit : (A : Type 0) (token : Token) (kind : Option Kind) → SpellsWords token.text → IsReadAs kind (chars token.text) → ReadLit A token kind
+read_lit A token (Some StrKind) w r = (Str token, (refl, r), refl)
+read_lit A token (Some ByteStrKind) w r = (ByteStr token, (refl, r), refl)
+read_lit A token (Some CStrKind) w r = (CStr token, (refl, r), refl)
+read_lit A token (Some ByteKind) w r = (Byte token, (refl, r), refl)
+read_lit A token (Some CharKind) w r = (Char token, (refl, r), refl)
+read_lit A token (Some IntKind) w r = (Int token, (refl, r), refl)
+read_lit A token (Some FloatKind) w r = (Float token, (refl, r), refl)
+read_lit A token (Some BoolKind) w (v, x, r) =
+    let is : record { text = truth_text r.truth; span = token.span } ≡ token = ap (λ z. let t : Token = record { text = z; span = token.span } in t) (sym (w r.truth r.text_is)) in
+    (Bool (record { value = r.truth; span = token.span }), (is, (v, x, r)), refl)
+read_lit A token None w n = (Verbatim token, (refl, n), refl)
+
+-- ---- truth values
+
+-- a truth value by the word that it is
+pub truth_reads : (t : List ℕ) (b : Truths) → t ≡ truth_text b → Reads (chars t) BoolKind (Truth b) []
+truth_reads t b e = record { truth = b; text_is = truth_chars t b e; suffix_is = refl; contents_is = refl }
+
+-- so it reads from a token
+pub read_truth : (token : Token) (b : Truths) (span : Span) → token.text ≡ truth_text b → span ≡ token.span → (record { text = truth_text b; span = span } ≡ token) × ReadsAs BoolKind (chars token.text)
+read_truth token b span e s =
+    let is : record { text = truth_text b; span = span } ≡ token = ap (λ z. let t : Token = record { text = z; span = span } in t) (sym e) ∙ ap (λ z. let t : Token = record { text = token.text; span = z } in t) s in
+    (is, (Truth b, [], truth_reads token.text b e))
+
+-- and this is what was read
+pub truth_read : (token : Token) (b : Truths) (span : Span) → (record { text = truth_text b; span = span } ≡ token) × ReadsAs BoolKind (chars token.text) → (span ≡ token.span) × Reads (chars token.text) BoolKind (Truth b) []
+truth_read token b span (is, r) = (ap (λ (t : Token). t.span) is, truth_reads token.text b (ap (λ (t : Token). t.text) (sym is)))
+
+-- the value of a text that is one of the words, by comparing it with the first
+word_value : (b : Truths) → pointwise ◌==◌ (truth_text b) (truth_text true) ≡ b
+word_value true = refl
+word_value false = refl
+
+pub read_word : (token : Token) (seen : List ℕ) (value : Truths) (span : Span) → IsUtf8 seen → seen ≡ token.text → ReadsAs BoolKind (chars token.text) → value ≡ pointwise ◌==◌ seen (truth_text true) → span ≡ token.span → (record { text = truth_text value; span = span } ≡ token) × ReadsAs BoolKind (chars token.text)
+read_word token seen value span utf8 same (v, x, r) tested there =
+    let word : seen ≡ truth_text r.truth = truth_bytes seen r.truth utf8 (ap chars same ∙ r.text_is) in
+    let value_is : value ≡ r.truth = tested ∙ ap (λ z. pointwise ◌==◌ z (truth_text true)) word ∙ word_value r.truth in
+    read_truth token value span (sym same ∙ word ∙ ap truth_text (sym value_is)) there
+
+-- ---- by the kind
 
 -- the reading that was found, by its kind
 pub reads_as : (t x : List ℕ) (k kind : Kind) → HasSuffix k t x → k ≡ kind → ReadsAs kind t
 reads_as t x k kind r e = (r.0, x, subst (λ z. Reads t z r.0 x) e r.1)
 
-refused_float : {A : Type 0} (t : List ℕ) (at span : Span) (kind : ErrorKind A) → ReadsAs Float t → at ≡ span → IsRefusedAsFloat t kind → let e : Error A = record { span = at; kind = kind } in e ≡ memory_at span
-refused_float t at span NotFloat r s h = absurd (h r.2.numeral r.1 r.2.reads)
-refused_float t at span NotInteger r s h = absurd h
-refused_float t at span (Expected w) r s h = absurd h
-refused_float t at span (EndOfInput w) r s h = absurd h
-refused_float t at span Unexpected r s h = absurd h
-refused_float t at span (Lex k) r s h = absurd h
-refused_float t at span (Suffix x) r s h = absurd h
-refused_float t at span (Number w) r s h = absurd h
-refused_float t at span TooLarge r s h = absurd h
-refused_float t at span Memory r s h = ap memory_at s
+-- what is read as a literal of a kind has a reading
+pub has_reading : {A : Type 0} (token : Token) (lit : Lit A) (kind : Kind) → IsReadFrom token lit → kind_of lit ≡ Some kind → HasReading (chars token.text)
+has_reading token lit kind (e, r) k = (kind, subst (λ (o : Option Kind). IsReadAs o (chars token.text)) k r)
 
--- of a float, want of memory
-pub float_memory : {A : Type 0} (t : List ℕ) (e : Error A) (span : Span) → ReadsAs Float t → (e.span ≡ span) × IsRefusedAsFloat t e.kind → e ≡ memory_at span
-float_memory t e span r h = refused_float t e.span span e.kind r h.0 h.1
+pub has_reading_behind : {A : Type 0} (bytes : List ℕ) (span : Span) (lit : Lit A) (kind : Kind) → IsReadFrom (record { text = 45 ∷ bytes; span = span }) lit → kind_of lit ≡ Some kind → HasReading (45 ∷ chars bytes)
+has_reading_behind bytes span lit kind read k = subst HasReading (minus_chars bytes) (has_reading (record { text = 45 ∷ bytes; span = span }) lit kind read k)
 
--- a truth value by the word that it is
-pub truth_reads : (t : List ℕ) (b : Bool) → t ≡ truth_text b → Reads (chars t) BoolKind (Truth b) []
-truth_reads t b e = record { truth = b; text_is = truth_chars t b e; suffix_is = refl; contents_is = refl }
+-- what is no truth value is appended as a literal
+pub literal_tree : {A : Type 0} (lit : Lit A) → ((l : _) → lit ≡ Bool l → ⊥) → tree_of lit ≡ LiteralTree (token_of lit)
+literal_tree (Str l) other = refl
+literal_tree (ByteStr l) other = refl
+literal_tree (CStr l) other = refl
+literal_tree (Byte l) other = refl
+literal_tree (Char l) other = refl
+literal_tree (Int l) other = refl
+literal_tree (Float l) other = refl
+literal_tree (Bool l) other = absurd (other l refl)
+literal_tree (Verbatim l) other = refl
 
-not_true : (t : List ℕ) (b : Bool) → chars t ≡ truth_text b → (chars t ≡ truth_text true → ⊥) → chars t ≡ truth_text false
-not_true t true e h = absurd (h e)
-not_true t false e h = e
+-- ---- a literal by what was found
 
--- a truth value that isn't the word `true`
-pub false_reads : (t : List ℕ) → ReadsAs BoolKind (chars t) → (chars t ≢ truth_text true) → Reads (chars t) BoolKind (Truth false) []
-false_reads t r h = record { truth = false; text_is = not_true t r.2.truth r.2.text_is h; suffix_is = refl; contents_is = refl }
+pub found_lent : (kind : Kind) (text : List ℕ) (found : Found) → IsFound text found → found.kind ≡ kind → (IsPlain kind text → ⊥) → ReadsPlain text → ⊥
+found_lent kind text found h e never (k, (v, x, r), plain) =
+    let one = one_reading (chars text) k found.kind v h.reads.0 x (chars (suffix_in text found.body)) r h.reads.1 in
+    never (subst (λ z. IsPlain z text) (one.0 ∙ e) plain)

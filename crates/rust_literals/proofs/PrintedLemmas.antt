@@ -6,10 +6,9 @@ use Rattle.std.specs.Str.{chars, encode_utf8_all, IsUtf8}
 use Rattle.std.proofs.Math.Utf8.{scalars}
 use Rattle.std.proofs.lemmas.Str.{chars-encodes, scalars-chars}
 use Rattle.rl_tokens.specs.declared.kind.Kind.{Kind}
-use Rattle.rl_tokens.specs.declared.kind.Kind.TheVariants.{Str as StrKind, ByteStr as ByteStrKind, CStr as CStrKind, Byte as ByteKind, Char as CharKind, Int as IntKind, Float as FloatKind, Bool as BoolKind}
+use Rattle.rl_tokens.specs.declared.kind.Kind.TheVariants.{Bool as BoolKind}
 use Rattle.rl_tokens.specs.declared.error.Error.{Error}
 use Rattle.rl_tokens.specs.declared.error.ErrorKind.TheVariants.{Memory}
-use Rattle.rl_tokens.specs.Tokens.{Token}
 use Rattle.rl_tokens.specs.Trivia.{IsTrivia}
 use Rattle.rl_tokens.specs.Reading.{ReadsAs, truth_text}
 use Rattle.rl_tokens.specs.Lexing.{byte_len}
@@ -18,26 +17,10 @@ use Rattle.rl_tokens.proofs.CutTrees.{scalars_parts}
 use Rattle.rl_tokens.proofs.PrintedLaws.{printed_lexes}
 use Rattle.rl_grammar.proofs.FrontLemmas.{truth_reads}
 use Rattle.rust_literals.specs.declared.lit.Lit.{Lit}
-use Rattle.rust_literals.specs.declared.lit.Lit.TheVariants.{Str, ByteStr, CStr, Byte, Char, Int, Float, Bool}
-use Rattle.rust_literals.specs.Literals.{IsReadFrom}
 use Rattle.rust_literals.specs.Parsing.{AreRead, IsOrMemory}
-use Rattle.rust_literals.specs.ReadBack.{HoldsOrMemory, kind_of, IsItemRead, AreItems}
-use Rattle.rust_literals.proofs.ItemFronts.{IsFrontItem, AreReadAt, items_lead}
-
--- A token whose text reads has a literal, of the kind that it reads as.
-abbrev ReadLit : Type 0 → Token → Kind → Type 0
-ReadLit A token kind = (lit : Lit A) × IsReadFrom token lit × (kind_of lit ≡ Some kind)
-
-read_lit : (A : Type 0) (token : Token) (kind : Kind) → ReadsAs kind (chars token.text) → ReadLit A token kind
-read_lit A token StrKind r = (Str token, (refl, r), refl)
-read_lit A token ByteStrKind r = (ByteStr token, (refl, r), refl)
-read_lit A token CStrKind r = (CStr token, (refl, r), refl)
-read_lit A token ByteKind r = (Byte token, (refl, r), refl)
-read_lit A token CharKind r = (Char token, (refl, r), refl)
-read_lit A token IntKind r = (Int token, (refl, r), refl)
-read_lit A token FloatKind r = (Float token, (refl, r), refl)
-read_lit A token BoolKind (v, x, r) =
-    (Bool (record { value = r.truth; span = token.span }), (refl, record { truth = r.truth; text_is = r.text_is; suffix_is = refl; contents_is = refl }), refl)
+use Rattle.rust_literals.specs.ReadBack.{HoldsOrMemory, IsItemRead, AreItems}
+use Rattle.rust_literals.proofs.LitLemmas.{read_lit}
+use Rattle.rust_literals.proofs.ItemFronts.{IsFrontItem, AreReadAt, items_lead, spells_words}
 
 -- A strict item reads, behind a minus too.
 item_reads : (item : Item) → IsStrictItem item → IsRead (item_text item)
@@ -57,7 +40,7 @@ item_lit : (A : Type 0) (file at : ℕ) (item : Item) → IsStrictItem item → 
 item_lit A file at item is h =
     let same : chars (encode_utf8_all (item_text item)) ≡ item_text item = chars-encodes (item_text item) h in
     let (kind, reads) = item_reads item is in
-    let (lit, read, kind_is) = read_lit A (token_at file at (item_text item)) kind (subst (λ (x : List ℕ). ReadsAs kind x) (sym same) reads) in
+    let (lit, read, kind_is) = read_lit A (token_at file at (item_text item)) (Some kind) (spells_words (item_text item) same) (subst (λ (x : List ℕ). ReadsAs kind x) (sym same) reads) in
     (lit, record { read = read; characters = same; kind = (kind, kind_is, reads) })
 
 -- all items in turn

@@ -5,27 +5,18 @@ use Rattle.rl_tokens.specs.declared.span.Span.{Span}
 use Rattle.rl_tokens.specs.declared.error.ErrorKind.{ErrorKind}
 use Rattle.rl_tokens.specs.declared.error.ErrorKind.TheVariants.{Number, Memory}
 use Rattle.rl_tokens.specs.declared.error.Error.{Error}
-use Rattle.rl_tokens.specs.Reading.{Digits, ReadsInt}
-use Rattle.rl_tokens.specs.Numbers.{FloatReads, float_digits}
+use Rattle.rl_tokens.specs.declared.kind.Kind.{Kind}
+use Rattle.rust_literals.specs.Held.{HasDigits}
 
--- These are the digits, in bytes, of the integer that the text is.
-pub record AreIntegerDigits (text digits : List ℕ) : Type 0 where
-  pub suffix : List ℕ
-  pub reads : ReadsInt (chars text) (Digits (chars digits)) suffix
-  pub is_text : IsUtf8 digits
-
--- These are the digits, in bytes, of the float that stands in the text.
-pub record AreFloatDigits (text digits : List ℕ) : Type 0 where
-  pub numeral : List ℕ
-  pub suffix : List ℕ
-  pub reads : FloatReads (chars text) numeral suffix
-  pub digits_are : chars digits ≡ float_digits numeral
+-- These are the digits, in bytes, of the number of the kind that the text is.
+pub record AreBase10Digits (kind : Kind) (text digits : List ℕ) : Type 0 where
+  pub digits_are : HasDigits kind (chars text) (chars digits)
   pub is_text : IsUtf8 digits
 
 -- The number is what its type may make of the digits.
-pub record IsMadeOf {N E : Type 0} (gives : List ℕ → Result N E → Type 0) (AreDigits : List ℕ → Type 0) (number : N) : Type 0 where
+pub record IsMadeOf {N E : Type 0} (gives : List ℕ → Result N E → Type 0) (AreOf : List ℕ → Type 0) (number : N) : Type 0 where
   pub digits : List ℕ
-  pub are : AreDigits digits
+  pub are : AreOf digits
   pub made : gives digits (Ok number)
 
 -- a fault in its own words, where it has any that are stated; or want of memory for them
@@ -40,9 +31,9 @@ pub record IsTold {A : Type 0} (words : Option (List ℕ)) (span : Span) (e : Er
   pub kind_is : IsInWords words e.kind
 
 -- The number type refuses the digits, and its fault is told at the span.
-pub record IsRefusedBy {N E A : Type 0} (gives : List ℕ → Result N E → Type 0) (output : E → Option (List ℕ)) (AreDigits : List ℕ → Type 0) (span : Span) (e : Error A) : Type 0 where
+pub record IsRefusedBy {N E A : Type 0} (gives : List ℕ → Result N E → Type 0) (output : E → Option (List ℕ)) (AreOf : List ℕ → Type 0) (span : Span) (e : Error A) : Type 0 where
   pub digits : List ℕ
-  pub are : AreDigits digits
+  pub are : AreOf digits
   pub fault : E
   pub refused : gives digits (Err fault)
   pub told : IsTold (output fault) span e

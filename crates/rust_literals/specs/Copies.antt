@@ -1,48 +1,39 @@
 -- Copies of literals, what makes them equal, and the trees that they are appended as.
-use Rattle.std.specs.Prelude.{ℕ, ◌==◌, Bool, List}
+use Rattle.std.specs.Prelude.{◌≡◌, ℕ, ◌==◌, ◌++◌, Bool, List, Option, Some, None, codes}
 use Rattle.std.specs.Ordering.{on, eq_of_both}
 use Rattle.std.specs.Cmp.{IsEquivalence, and_equiv, on_equiv, nat_eq_equiv}
 use Rattle.std.specs.Cmp.Lexicographic.{pointwise, nat_list_eq_equiv}
-use Rattle.rl_tokens.specs.Reading.{truth_text}
+use Rattle.rl_tokens.specs.declared.kind.Kind.{Kind}
+use Rattle.rl_tokens.specs.declared.kind.Kind.TheVariants.{Str, ByteStr, CStr, Byte, Char, Int, Float, Bool as BoolKind}
+use Rattle.rl_tokens.specs.Tokens.{Token}
 use Rattle.rl_tokens.specs.Trees.{Tree, IdentTree, LiteralTree}
+use Rattle.rl_quoted.specs.Words.{kind_name}
 use Rattle.rust_literals.specs.declared.lit.Lit.{Lit}
-use Rattle.rust_literals.specs.declared.lit.Lit.TheVariants.{Str, ByteStr, CStr, Byte, Char, Int, Float, Bool as BoolLit, Verbatim}
+use Rattle.rust_literals.specs.Literals.{kind_of, token_of}
 
 -- the same literal, with its memory from another allocator
-abbrev pub copied : {A B : Type 0} → Lit A → Lit B
-copied (Str l) = Str l
-copied (ByteStr l) = ByteStr l
-copied (CStr l) = CStr l
-copied (Byte l) = Byte l
-copied (Char l) = Char l
-copied (Int l) = Int l
-copied (Float l) = Float l
-copied (BoolLit l) = BoolLit l
-copied (Verbatim l) = Verbatim l
+pub record IsCopyOf {A B : Type 0} (lit : Lit A) (copy : Lit B) : Type 0 where
+  pub kind : kind_of copy ≡ kind_of lit
+  pub token : token_of copy ≡ token_of lit
 
--- which variant it is, by its place among them
+-- a kind's place among the kinds; none comes last
+abbrev pub place_of : Option Kind → ℕ
+place_of (Some Str) = 0
+place_of (Some ByteStr) = 1
+place_of (Some CStr) = 2
+place_of (Some Byte) = 3
+place_of (Some Char) = 4
+place_of (Some Int) = 5
+place_of (Some Float) = 6
+place_of (Some BoolKind) = 7
+place_of None = 8
+
 abbrev pub variant_of : {A : Type 0} → Lit A → ℕ
-variant_of (Str l) = 0
-variant_of (ByteStr l) = 1
-variant_of (CStr l) = 2
-variant_of (Byte l) = 3
-variant_of (Char l) = 4
-variant_of (Int l) = 5
-variant_of (Float l) = 6
-variant_of (BoolLit l) = 7
-variant_of (Verbatim l) = 8
+variant_of lit = place_of (kind_of lit)
 
 -- its text; of a truth value the word
 abbrev pub text_of : {A : Type 0} → Lit A → List ℕ
-text_of (Str l) = l.text
-text_of (ByteStr l) = l.text
-text_of (CStr l) = l.text
-text_of (Byte l) = l.text
-text_of (Char l) = l.text
-text_of (Int l) = l.text
-text_of (Float l) = l.text
-text_of (BoolLit l) = truth_text l.value
-text_of (Verbatim l) = l.text
+text_of lit = (token_of lit).text
 
 -- whether two are equal: by kind and text
 abbrev pub is_equal : {A : Type 0} → Lit A → Lit A → Bool
@@ -52,14 +43,17 @@ is_equal = eq_of_both (on variant_of ◌==◌) (on text_of (pointwise ◌==◌))
 pub is_equal_equiv : {A : Type 0} → IsEquivalence (is_equal {A = A})
 is_equal_equiv {A} = and_equiv (on_equiv variant_of nat_eq_equiv) (on_equiv text_of nat_list_eq_equiv)
 
--- the one tree that it is appended as: of a truth value its word, else its token
+-- a token as a tree: of a truth value a word, else a literal
+abbrev pub tree_as : Option Kind → Token → Tree
+tree_as (Some BoolKind) token = IdentTree token
+tree_as _ token = LiteralTree token
+
+-- the one tree that it is appended as
 abbrev pub tree_of : {A : Type 0} → Lit A → Tree
-tree_of (Str l) = LiteralTree l
-tree_of (ByteStr l) = LiteralTree l
-tree_of (CStr l) = LiteralTree l
-tree_of (Byte l) = LiteralTree l
-tree_of (Char l) = LiteralTree l
-tree_of (Int l) = LiteralTree l
-tree_of (Float l) = LiteralTree l
-tree_of (BoolLit l) = IdentTree (record { text = truth_text l.value; span = l.span })
-tree_of (Verbatim l) = LiteralTree l
+tree_of lit = tree_as (kind_of lit) (token_of lit)
+
+-- how it is printed for whom it debugs: its text between the struct's name and braces
+abbrev pub debug_text : Option Kind → List ℕ → List ℕ
+debug_text (Some BoolKind) text = codes "LitBool { value: " ++ text ++ codes " }"
+debug_text (Some kind) text = kind_name kind ++ codes " { token: " ++ text ++ codes " }"
+debug_text None text = codes "Verbatim { token: " ++ text ++ codes " }"

@@ -1,69 +1,78 @@
 -- What a literal is to a text: the text's one reading, or none.
-use Rattle.std.specs.Prelude.{◌≡◌, ◌⊎◌, ℕ, List, [], ◌∷◌, IsTrue}
+use Rattle.std.specs.Prelude.{◌≡◌, ◌⊎◌, ℕ, List, [], ◌∷◌, Option, Some, None, IsTrue}
 use Rattle.std.specs.Str.{chars}
 use Rattle.rl_tokens.specs.Tokens.{Token}
 use Rattle.rl_tokens.specs.declared.kind.Kind.TheVariants.{Str as StrKind, ByteStr as ByteStrKind, CStr as CStrKind, Byte as ByteKind, Char as CharKind, Int as IntKind, Float as FloatKind, Bool as BoolKind}
-use Rattle.rl_tokens.specs.Numbers.{FloatReads}
 use Rattle.rl_tokens.specs.declared.kind.Kind.{Kind}
-use Rattle.rl_tokens.specs.Reading.{Contents, Digits, Reads, ReadsAs, HasSuffix, Truth}
+use Rattle.rl_tokens.specs.Reading.{Contents, Digits, Reads, ReadsAs, truth_text}
 use Rattle.rl_tokens.specs.Strict.{Strict}
 use Rattle.rl_tokens.specs.Agreeing.{IsWithinLimit, is_number}
 use Rattle.rl_tokens.specs.declared.span.Span.{Span}
 use Rattle.rl_grammar.specs.NumberShapes.{HasNoReading}
+use Rattle.rl_grammar.specs.WholeShapes.{IsPlain}
+use Rattle.rust_literals.specs.Held.{HasOwnSuffix}
 use Rattle.rust_literals.specs.declared.lit.Lit.{Lit}
 use Rattle.rust_literals.specs.declared.lit.Lit.TheVariants.{Str, ByteStr, CStr, Byte, Char, Int, Float, Bool, Verbatim}
 
+-- the kind that a literal is of; `Verbatim` is of none
+abbrev pub kind_of : {A : Type 0} → Lit A → Option Kind
+kind_of (Str l) = Some StrKind
+kind_of (ByteStr l) = Some ByteStrKind
+kind_of (CStr l) = Some CStrKind
+kind_of (Byte l) = Some ByteKind
+kind_of (Char l) = Some CharKind
+kind_of (Int l) = Some IntKind
+kind_of (Float l) = Some FloatKind
+kind_of (Bool l) = Some BoolKind
+kind_of (Verbatim l) = None
+
+-- its token, text and span; of a truth value the word, where it stands
+abbrev pub token_of : {A : Type 0} → Lit A → Token
+token_of (Str l) = l
+token_of (ByteStr l) = l
+token_of (CStr l) = l
+token_of (Byte l) = l
+token_of (Char l) = l
+token_of (Int l) = l
+token_of (Float l) = l
+token_of (Bool l) = record { text = truth_text l.value; span = l.span }
+token_of (Verbatim l) = l
+
+-- where the literal stands
+abbrev pub span_of : {A : Type 0} → Lit A → Span
+span_of lit = (token_of lit).span
+
+-- the text reads as this kind; for none, it has no reading
+abbrev pub IsReadAs : Option Kind → List ℕ → Type 0
+IsReadAs (Some kind) text = ReadsAs kind text
+IsReadAs None text = HasNoReading text
+
 -- The literal keeps the token, whose text reads as the literal's kind; `Verbatim` where the text has no reading.
 abbrev pub IsReadFrom : {A : Type 0} → Token → Lit A → Type 0
-IsReadFrom token (Str l) = (l ≡ token) × ReadsAs StrKind (chars token.text)
-IsReadFrom token (ByteStr l) = (l ≡ token) × ReadsAs ByteStrKind (chars token.text)
-IsReadFrom token (CStr l) = (l ≡ token) × ReadsAs CStrKind (chars token.text)
-IsReadFrom token (Byte l) = (l ≡ token) × ReadsAs ByteKind (chars token.text)
-IsReadFrom token (Char l) = (l ≡ token) × ReadsAs CharKind (chars token.text)
-IsReadFrom token (Int l) = (l ≡ token) × ReadsAs IntKind (chars token.text)
-IsReadFrom token (Float l) = (l ≡ token) × ReadsAs FloatKind (chars token.text)
-IsReadFrom token (Bool l) = (l.span ≡ token.span) × Reads (chars token.text) BoolKind (Truth l.value) []
-IsReadFrom token (Verbatim l) = (l ≡ token) × HasNoReading (chars token.text)
+IsReadFrom token lit = (token_of lit ≡ token) × IsReadAs (kind_of lit) (chars token.text)
 
 -- the text reads as a number
 abbrev pub ReadsAsNumber : List ℕ → Type 0
 ReadsAsNumber text = ReadsAs IntKind text ⊎ ReadsAs FloatKind text
 
--- the literal's suffix; a float has one by the float rule alone
+-- the text, in bytes, reads as a kind by which it is plain: its body is what it stands for
+abbrev pub ReadsPlain : List ℕ → Type 0
+ReadsPlain text = (kind : Kind) × ReadsAs kind (chars text) × IsPlain kind text
+
+-- the suffix of a text, which is of this kind; of a truth value, and of what has no reading, there is none
+abbrev pub IsSuffixAs : Option Kind → List ℕ → List ℕ → Type 0
+IsSuffixAs (Some BoolKind) text x = x ≡ []
+IsSuffixAs (Some kind) text x = HasOwnSuffix kind text x
+IsSuffixAs None text x = x ≡ []
+
+-- the literal's suffix
 abbrev pub HasLitSuffix : {A : Type 0} → Lit A → List ℕ → Type 0
-HasLitSuffix (Str l) x = HasSuffix StrKind (chars l.text) x
-HasLitSuffix (ByteStr l) x = HasSuffix ByteStrKind (chars l.text) x
-HasLitSuffix (CStr l) x = HasSuffix CStrKind (chars l.text) x
-HasLitSuffix (Byte l) x = HasSuffix ByteKind (chars l.text) x
-HasLitSuffix (Char l) x = HasSuffix CharKind (chars l.text) x
-HasLitSuffix (Int l) x = HasSuffix IntKind (chars l.text) x
-HasLitSuffix (Float l) x = (numeral : List ℕ) × FloatReads (chars l.text) numeral x
-HasLitSuffix (Bool l) x = x ≡ []
-HasLitSuffix (Verbatim l) x = x ≡ []
+HasLitSuffix lit x = IsSuffixAs (kind_of lit) (chars (token_of lit).text) x
 
--- where the literal stands
-abbrev pub span_of : {A : Type 0} → Lit A → Span
-span_of (Str l) = l.span
-span_of (ByteStr l) = l.span
-span_of (CStr l) = l.span
-span_of (Byte l) = l.span
-span_of (Char l) = l.span
-span_of (Int l) = l.span
-span_of (Float l) = l.span
-span_of (Bool l) = l.span
-span_of (Verbatim l) = l.span
-
--- the literal with another span
-abbrev pub moved_to : {A : Type 0} → Lit A → Span → Lit A
-moved_to (Str l) span = Str (record l { span = span })
-moved_to (ByteStr l) span = ByteStr (record l { span = span })
-moved_to (CStr l) span = CStr (record l { span = span })
-moved_to (Byte l) span = Byte (record l { span = span })
-moved_to (Char l) span = Char (record l { span = span })
-moved_to (Int l) span = Int (record l { span = span })
-moved_to (Float l) span = Float (record l { span = span })
-moved_to (Bool l) span = Bool (record l { span = span })
-moved_to (Verbatim l) span = Verbatim (record l { span = span })
+-- the same literal at this span, perhaps with its memory from another allocator
+pub record IsMovedTo {A B : Type 0} (lit : Lit A) (span : Span) (moved : Lit B) : Type 0 where
+  pub kind : kind_of moved ≡ kind_of lit
+  pub token : token_of moved ≡ record (token_of lit) { span = span }
 
 -- strict as whatever, an integer within the limit, the text reads as the same
 abbrev pub KeepsStrict : List ℕ → Type 0

@@ -1,37 +1,23 @@
 -- What a printed list of literals reads as, and what the texts of literals that were read once read as again.
-use Rattle.std.specs.Prelude.{◌≡◌, ◌≢◌, ℕ, ◌+◌, List, [], ◌∷◌, ◌++◌, map, drop, Option, Some, None, Result, Ok, Err, Vec}
+use Rattle.std.specs.Prelude.{◌≡◌, ◌≢◌, ℕ, ◌+◌, List, [], ◌∷◌, ◌++◌, map, drop, Some, Result, Ok, Err, Vec}
 use Rattle.std.specs.Str.{chars, encode_utf8_all, IsUtf8}
 use Rattle.std.specs.List.{AllByRecursion}
 use Rattle.rl_tokens.specs.declared.span.Span.{Span}
 use Rattle.rl_tokens.specs.declared.kind.Kind.{Kind}
-use Rattle.rl_tokens.specs.declared.kind.Kind.TheVariants.{Str as StrKind, ByteStr as ByteStrKind, CStr as CStrKind, Byte as ByteKind, Char as CharKind, Int as IntKind, Float as FloatKind, Bool as BoolKind}
 use Rattle.rl_tokens.specs.declared.error.Error.{Error}
 use Rattle.rl_tokens.specs.declared.error.ErrorKind.TheVariants.{Memory}
 use Rattle.rl_tokens.specs.Trivia.{IsTrivia}
-use Rattle.rl_tokens.specs.Reading.{ReadsAs, truth_text}
+use Rattle.rl_tokens.specs.Reading.{ReadsAs}
 use Rattle.rl_tokens.specs.Lexing.{byte_len}
 use Rattle.rl_tokens.specs.Printed.{Item, item_text, Entry, token_at}
 use Rattle.rust_literals.specs.declared.lit.Lit.{Lit}
-use Rattle.rust_literals.specs.declared.lit.Lit.TheVariants.{Str, ByteStr, CStr, Byte, Char, Int, Float, Bool, Verbatim}
-use Rattle.rust_literals.specs.Literals.{IsReadFrom, moved_to}
+use Rattle.rust_literals.specs.Literals.{kind_of, token_of, IsReadFrom, IsMovedTo}
 use Rattle.rust_literals.specs.Parsing.{AreRead}
 
 -- the answer is a list of which this holds, or memory was refused
 abbrev pub HoldsOrMemory : {A B : Type 0} → (List (Lit A) → Type 0) → Result (Vec (Lit A) B) (Error A) → Type 0
 HoldsOrMemory holds (Ok found) = holds found.items
 HoldsOrMemory holds (Err e) = e.kind ≡ Memory
-
--- the kind that a literal is of; `Verbatim` is of none
-abbrev pub kind_of : {A : Type 0} → Lit A → Option Kind
-kind_of (Str l) = Some StrKind
-kind_of (ByteStr l) = Some ByteStrKind
-kind_of (CStr l) = Some CStrKind
-kind_of (Byte l) = Some ByteKind
-kind_of (Char l) = Some CharKind
-kind_of (Int l) = Some IntKind
-kind_of (Float l) = Some FloatKind
-kind_of (Bool l) = Some BoolKind
-kind_of (Verbatim l) = None
 
 -- The literal is the reading of the item that begins at this byte: it has the item's text and range, its bytes spell the
 -- characters of the item, and it is of the kind that these read as.
@@ -47,17 +33,9 @@ AreItems file at (e ∷ es) [] = ⊥
 AreItems file at (e ∷ es) (l ∷ ls) =
     IsItemRead file (at + byte_len e.gap) e.item l × AreItems file (at + byte_len e.gap + byte_len (item_text e.item)) es ls
 
--- the text of a literal's token; of a truth value its word
+-- the characters of a literal's text
 abbrev pub lit_text : {A : Type 0} → Lit A → List ℕ
-lit_text (Str l) = chars l.text
-lit_text (ByteStr l) = chars l.text
-lit_text (CStr l) = chars l.text
-lit_text (Byte l) = chars l.text
-lit_text (Char l) = chars l.text
-lit_text (Int l) = chars l.text
-lit_text (Float l) = chars l.text
-lit_text (Bool l) = truth_text l.value
-lit_text (Verbatim l) = chars l.text
+lit_text lit = chars (token_of lit).text
 
 -- A literal, and the gap before it.
 pub record Spaced (A : Type 0) : Type 0 where
@@ -88,4 +66,4 @@ pub record Again {A : Type 0} (t : List ℕ) (spaced : List (Spaced A)) (last : 
 abbrev pub AreMoved : {A : Type 0} → List (Lit A) → List (Lit A) → Type 0
 AreMoved [] found = found ≡ []
 AreMoved (l ∷ ls) [] = ⊥
-AreMoved (l ∷ ls) (m ∷ ms) = ((span : Span) × (m ≡ moved_to l span)) × AreMoved ls ms
+AreMoved (l ∷ ls) (m ∷ ms) = ((span : Span) × IsMovedTo l span m) × AreMoved ls ms

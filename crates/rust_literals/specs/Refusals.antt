@@ -2,19 +2,19 @@
 use Rattle.std.specs.Prelude.{ℕ, List}
 use Rattle.rl_tokens.specs.declared.error.ErrorKind.{ErrorKind}
 use Rattle.rl_tokens.specs.declared.error.ErrorKind.TheVariants.{NotInteger, TooLarge, NotFloat, Memory}
+use Rattle.rl_tokens.specs.declared.kind.Kind.{Kind}
 use Rattle.rl_tokens.specs.declared.kind.Kind.TheVariants.{Int, Float}
 use Rattle.rl_tokens.specs.Reading.{HasNoInteger}
 use Rattle.rl_grammar.specs.NumberShapes.{IsPast, IsNumber, HasNoFloat}
 
--- no integer stands there, one past 128 bits does, or memory was refused for one within
-abbrev pub IsRefusedAsInteger : {A : Type 0} → List ℕ → ErrorKind A → Type 0
-IsRefusedAsInteger text NotInteger = HasNoInteger text
-IsRefusedAsInteger text TooLarge = IsPast text
-IsRefusedAsInteger text Memory = IsNumber Int text
-IsRefusedAsInteger text _ = ⊥
+-- why the text is no number of the kind: no integer stands there, or one past 128 bits does; no float stands there
+abbrev pub IsNoNumber : {A : Type 0} → Kind → List ℕ → ErrorKind A → Type 0
+IsNoNumber Int text NotInteger = HasNoInteger text
+IsNoNumber Int text TooLarge = IsPast text
+IsNoNumber Float text NotFloat = HasNoFloat text
+IsNoNumber _ text _ = ⊥
 
--- no float stands there, or memory was refused for one
-abbrev pub IsRefusedAsFloat : {A : Type 0} → List ℕ → ErrorKind A → Type 0
-IsRefusedAsFloat text NotFloat = HasNoFloat text
-IsRefusedAsFloat text Memory = IsNumber Float text
-IsRefusedAsFloat text _ = ⊥
+-- it is none of the kind, or memory was refused for one
+abbrev pub IsRefusedAs : {A : Type 0} → Kind → List ℕ → ErrorKind A → Type 0
+IsRefusedAs kind text Memory = IsNumber kind text
+IsRefusedAs kind text reason = IsNoNumber kind text reason

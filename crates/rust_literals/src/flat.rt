@@ -1,9 +1,8 @@
 //! The literals of a text without groups, read as its tokens are cut.
 
-ghost use Rattle.std.specs.Prelude.{◌≡◌, ◌<◌, ◌∷◌, [], length, IfSome};
+ghost use Rattle.std.specs.Prelude.{◌≡◌, ◌<◌, ◌∷◌, length, IfSome};
 ghost use Rattle.std.specs.Str.{chars};
-ghost use Rattle.rl_tokens.specs.declared.kind.Kind.TheVariants.{Bool as BoolKind};
-ghost use Rattle.rl_tokens.specs.Reading.{Reads, Truth};
+ghost use Rattle.rl_tokens.specs.Reading.{truth_text};
 ghost use Rattle.rl_tokens.specs.Fronts.{HasReading};
 ghost use Rattle.rust_literals.specs.Literals.{IsReadFrom};
 ghost use Rattle.rust_literals.specs.Parsing.{AreRead};
@@ -24,7 +23,7 @@ fn literal_of<A: Allocator + Copy>(alloc: A, text: &str, span: Span) -> Option<L
 
 /// The truth value that a word is.
 fn truth_of(text: &str) -> Option<bool>
-    ensures { IfSome result (λ b. Reads (chars text.now) BoolKind (Truth b) []) }
+    ensures { IfSome result (λ b. text.now ≡ truth_text b) }
 {
     match text {
         "true" => Some(true),
@@ -39,10 +38,9 @@ fn negative_of<A: Allocator + Copy>(alloc: A, text: &str, span: Span) -> Option<
     ensures together { IfSome result (λ lit. HasReading (45 ∷ chars text.now)) }
 {
     let token = Literal::negative(alloc, text, span).ok()?;
-    match Lit::new(alloc, token).ok()? {
-        Lit::Verbatim(_) => None,
-        literal => Some(literal),
-    }
+    let literal = Lit::new(alloc, token).ok()?;
+    literal.kind()?;
+    Some(literal)
 }
 
 /// Takes the literal that the next tokens are. `None` where they are none, and where memory is refused.

@@ -1,9 +1,11 @@
 //! Laws of the definitions: each function does nothing, and its contract is the law.
 
-ghost use Rattle.std.specs.Prelude.{List, ℕ};
+ghost use Rattle.std.specs.Prelude.{◌≡◌, List, ℕ};
 ghost use Rattle.rl_tokens.specs.declared.kind.Kind.{Kind};
 ghost use Rattle.rl_tokens.specs.declared.kind.Kind.TheVariants.{Bool as BoolKind};
 ghost use Rattle.rl_tokens.specs.Fronts.{HasFront, HasFrontOf, RunsAs};
+ghost use Rattle.rust_literals.specs.declared.lit.Lit.{Lit};
+ghost use Rattle.rust_literals.specs.Literals.{kind_of, token_of};
 ghost use Rattle.rust_literals.specs.Parsing.{RunsLit, RunsTruth};
 ghost use Rattle.rust_literals.specs.Peeking.{PeekTells};
 
@@ -15,4 +17,9 @@ pub fn peeks_tell<A: Allocator>()
     ensures literal { PeekTells (RunsLit {A = A}) HasFront }
     ensures truth { PeekTells (RunsTruth {A = A}) (HasFrontOf BoolKind) }
     ensures typed { (kind : Kind) (word : List ℕ) → PeekTells (RunsAs {A = A} kind word) (HasFrontOf kind) }
+{}
+
+/// A literal is told by its kind and its token: a copy, and a literal at another place, is told by them whole.
+pub fn kind_and_token_tell<A: Allocator>()
+    ensures { (a b : Lit A) → kind_of a ≡ kind_of b → token_of a ≡ token_of b → a ≡ b }
 {}

@@ -1,16 +1,20 @@
-ghost use Rattle.std.specs.Prelude.{◌≡◌, [], IfOk, IfErr};
+ghost use Rattle.std.specs.Prelude.{◌≡◌, IfOk, IfErr, Some};
 ghost use Rattle.std.specs.Str.{chars};
-ghost use Rattle.rl_tokens.specs.declared.kind.Kind.TheVariants.{Bool as BoolKind};
 ghost use Rattle.rl_tokens.specs.Errors.{memory_at};
-ghost use Rattle.rl_tokens.specs.Reading.{Reads, ReadsAs, Truth};
+ghost use Rattle.rl_tokens.specs.Reading.{HasSuffix};
+ghost use Rattle.rl_grammar.specs.Founds.{IsFound};
+ghost use Rattle.rust_literals.specs.Held.{HasOwnSuffix};
 
 mod copies;
 
-use crate::lit_bool::LitBool;
+use crate::lit_bool::{LitBool, word};
 use crate::lit_float::LitFloat;
 use crate::lit_int::LitInt;
-use rl_grammar::{Front, Kind};
-use rl_quoted::{LitByte, LitByteStr, LitCStr, LitChar, LitStr, kind_and_place};
+use crate::number::{Number, NumberKind};
+use rl_grammar::{Found, Front, Kind, find};
+use rl_quoted::{
+    LitByte, LitByteStr, LitCStr, LitChar, LitStr, Quoted, QuotedKind,
+};
 use rl_tokens::{Error, Kept, Literal, Parse, ParseBuffer, Span, Token};
 use std::alloc::{Allocator, Global};
 
@@ -38,64 +42,113 @@ pub enum Lit<A: Allocator = Global> {
     Verbatim(Literal<A>),
 }
 
-/// The truth value that the text is.
-fn truth_value(text: &str) -> bool
-    requires { ReadsAs BoolKind (chars text.now) }
-    ensures { Reads (chars text.now) BoolKind (Truth result) [] }
-{
-    match text {
-        "true" => true,
-        _ => false,
+/// What literals of every kind have. The kind is none for `Verbatim`.
+#[derive(Clone, Copy)]
+struct View<'a> {
+    kind: Option<Kind>,
+    text: &'a str,
+    suffix: &'a str,
+    span: Span,
+}
+
+impl<'a> View<'a> {
+    /// Of a quoted literal.
+    #[inline(always)]
+    fn of_quoted<K: QuotedKind, A: Allocator>(literal: &'a Quoted<K, A>) -> View<'a>
+        ensures kind { result.kind ≡ Some K.KIND }
+        ensures text { result.text.now ≡ literal.now.text }
+        ensures suffix { HasSuffix K.KIND (chars literal.now.text) (chars result.suffix.now) }
+        ensures span { result.span ≡ literal.now.span }
+    {
+        View {
+            kind: Some(K::KIND),
+            text: literal.text(),
+            suffix: literal.suffix(),
+            span: literal.span(),
+        }
+    }
+
+    /// Of a number.
+    #[inline(always)]
+    fn of_number<K: NumberKind, A: Allocator>(literal: &'a Number<K, A>) -> View<'a>
+        ensures kind { result.kind ≡ Some K.KIND }
+        ensures text { result.text.now ≡ literal.now.text }
+        ensures suffix { HasOwnSuffix K.KIND (chars literal.now.text) (chars result.suffix.now) }
+        ensures span { result.span ≡ literal.now.span }
+    {
+        View {
+            kind: Some(K::KIND),
+            text: literal.text(),
+            suffix: literal.suffix(),
+            span: literal.span(),
+        }
     }
 }
 
 impl<A: Allocator + Copy> Lit<A> {
-    ghost use Rattle.rust_literals.specs.Literals.{IsReadFrom, ReadsAsNumber, KeepsStrict, KeepsStrictBehindMinus};
+    ghost use Rattle.rust_literals.specs.Literals.{
+      IsReadFrom,
+      ReadsAsNumber,
+      ReadsPlain,
+      KeepsStrict,
+      KeepsStrictBehindMinus,
+    };
 
     /// The literal that the token's text reads as; `Verbatim` exactly where it has no reading. The token stays as it is,
     /// text and span.
     ///
-    /// The one error is want of memory for the digits of a number, told at the token's span; the token is handed back.
-    ///
     /// A strict text, an integer within 128 bits, is read with the kind, contents and suffix that it has there
     /// (`strict`), and a strict number behind a minus too.
+    ///
+    /// # Errors
+    ///
+    /// `Memory` alone, at the token's span, where there is none for the digits of a number whose body isn't its digits;
+    /// the token is handed back. Other texts take no memory.
     pub fn new(alloc: A, token: Literal<A>) -> Result<Lit<A>, Kept<Literal<A>, A>>
         ensures reads { IfOk result (IsReadFrom token) }
         ensures kept { IfErr result (λ k. k.value ≡ token) }
         ensures memory { IfErr result (λ k. k.error ≡ memory_at token.span) }
         ensures numbers_alone { IfErr result (λ k. ReadsAsNumber (chars token.text)) }
+        ensures lent { IfErr result (λ k. ReadsPlain token.text → ⊥) }
         ensures strict { KeepsStrict (chars token.text) }
         ensures strict_behind_minus { KeepsStrictBehindMinus (chars token.text) }
     {
-        Lit::read(alloc, token)
+        match find(token.text()) {
+            Some(found) => Lit::of_found(alloc, token, found),
+            None => Ok(Lit::Verbatim(token)),
+        }
     }
 
-    /// The same, by the kind that the text has.
-    fn read(alloc: A, token: Literal<A>) -> Result<Lit<A>, Kept<Literal<A>, A>>
+    /// The literal of this token, in whose text this was found.
+    pub(crate) fn of_found(
+        alloc: A,
+        token: Literal<A>,
+        found: Found,
+    ) -> Result<Lit<A>, Kept<Literal<A>, A>>
+        requires { IsFound token.text found }
         ensures reads { IfOk result (IsReadFrom token) }
         ensures kept { IfErr result (λ k. k.value ≡ token) }
         ensures memory { IfErr result (λ k. k.error ≡ memory_at token.span) }
         ensures numbers_alone { IfErr result (λ k. ReadsAsNumber (chars token.text)) }
+        ensures lent { IfErr result (λ k. ReadsPlain token.text → ⊥) }
     {
-        let Some((kind, suffix_at)) = kind_and_place(token.text()) else {
-            return Ok(Lit::Verbatim(token));
-        };
-        match kind {
+        let suffix_at = found.body.suffix_at;
+        match found.kind {
             Kind::Str => Ok(Lit::Str(LitStr::of_parts(token, suffix_at))),
             Kind::ByteStr => Ok(Lit::ByteStr(LitByteStr::of_parts(token, suffix_at))),
             Kind::CStr => Ok(Lit::CStr(LitCStr::of_parts(token, suffix_at))),
             Kind::Byte => Ok(Lit::Byte(LitByte::of_parts(token, suffix_at))),
             Kind::Char => Ok(Lit::Char(LitChar::of_parts(token, suffix_at))),
-            Kind::Int => match LitInt::of_integer(alloc, token, suffix_at) {
+            Kind::Int => match LitInt::of_found(alloc, token, found) {
                 Ok(literal) => Ok(Lit::Int(literal)),
                 Err(kept) => Err(kept),
             },
-            Kind::Float => match LitFloat::from_token(alloc, token) {
+            Kind::Float => match LitFloat::of_found(alloc, token, found) {
                 Ok(literal) => Ok(Lit::Float(literal)),
                 Err(kept) => Err(kept),
             },
             Kind::Bool => {
-                let value = truth_value(token.text());
+                let value = token.text() == "true";
                 Ok(Lit::Bool(LitBool::new(value, token.span())))
             }
         }
@@ -103,45 +156,76 @@ impl<A: Allocator + Copy> Lit<A> {
 }
 
 impl<A: Allocator> Lit<A> {
-    ghost use Rattle.rust_literals.specs.Literals.{HasLitSuffix, span_of, moved_to};
+    ghost use Rattle.rust_literals.specs.Literals.{
+      HasLitSuffix,
+      IsMovedTo,
+      kind_of,
+      span_of,
+      token_of,
+    };
+
+    /// The literal's parts, whatever its variant.
+    #[inline(always)]
+    fn view(&self) -> View<'_>
+        ensures kind { result.kind ≡ kind_of self.now }
+        ensures text { result.text.now ≡ (token_of self.now).text }
+        ensures suffix { HasLitSuffix self.now (chars result.suffix.now) }
+        ensures span { result.span ≡ span_of self.now }
+    {
+        match self {
+            Lit::Str(literal) => View::of_quoted(literal),
+            Lit::ByteStr(literal) => View::of_quoted(literal),
+            Lit::CStr(literal) => View::of_quoted(literal),
+            Lit::Byte(literal) => View::of_quoted(literal),
+            Lit::Char(literal) => View::of_quoted(literal),
+            Lit::Int(literal) => View::of_number(literal),
+            Lit::Float(literal) => View::of_number(literal),
+            Lit::Bool(literal) => View {
+                kind: Some(Kind::Bool),
+                text: word(literal.value),
+                suffix: "",
+                span: literal.span,
+            },
+            Lit::Verbatim(token) => View {
+                kind: None,
+                text: token.text(),
+                suffix: "",
+                span: token.span(),
+            },
+        }
+    }
+
+    /// The kind that the literal is of; none for `Verbatim`.
+    pub fn kind(&self) -> Option<Kind>
+        ensures { result ≡ kind_of self.now }
+    {
+        self.view().kind
+    }
+
+    /// The token's text; of a truth value its word.
+    pub fn text(&self) -> &str
+        ensures { result.now ≡ (token_of self.now).text }
+    {
+        self.view().text
+    }
 
     /// What stands behind the literal proper: empty for a truth value and for `Verbatim`.
     pub fn suffix(&self) -> &str
         ensures { HasLitSuffix self.now (chars result.now) }
     {
-        match self {
-            Lit::Str(literal) => literal.suffix(),
-            Lit::ByteStr(literal) => literal.suffix(),
-            Lit::CStr(literal) => literal.suffix(),
-            Lit::Byte(literal) => literal.suffix(),
-            Lit::Char(literal) => literal.suffix(),
-            Lit::Int(literal) => literal.suffix(),
-            Lit::Float(literal) => literal.suffix(),
-            Lit::Bool(_) => "",
-            Lit::Verbatim(_) => "",
-        }
+        self.view().suffix
     }
 
     /// Where the literal stands.
     pub fn span(&self) -> Span
         ensures { result ≡ span_of self.now }
     {
-        match self {
-            Lit::Str(literal) => literal.span(),
-            Lit::ByteStr(literal) => literal.span(),
-            Lit::CStr(literal) => literal.span(),
-            Lit::Byte(literal) => literal.span(),
-            Lit::Char(literal) => literal.span(),
-            Lit::Int(literal) => literal.span(),
-            Lit::Float(literal) => literal.span(),
-            Lit::Bool(literal) => literal.span(),
-            Lit::Verbatim(token) => token.span(),
-        }
+        self.view().span
     }
 
     /// Puts the literal elsewhere.
     pub fn set_span(&mut self, span: Span)
-        ensures { self.new ≡ moved_to self.old span }
+        ensures { IsMovedTo self.old span self.new }
     {
         match self {
             Lit::Str(literal) => literal.set_span(span),

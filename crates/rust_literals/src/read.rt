@@ -45,8 +45,11 @@ fn refusal_of<A: Allocator>(fault: LexError, file: u32) -> Error<A>
 /// takes from the trees of the text, `Verbatim` too; its span is the file and the bytes of its text, of a number
 /// behind a minus from the minus to its last byte.
 ///
+/// # Errors
+///
 /// The first refusal is the answer: the lexer's fault as `Lex`, with the span of no bytes at its place; or `Expected` at
-/// the first tree that no literal begins. Want of memory is told where it was met.
+/// the first tree that no literal begins. `Memory` is told where it was met, in the text or at a literal; and where the
+/// list itself can't grow, which is at no place of the text, at `Span::call_site`.
 pub fn read_all<A: Allocator + Copy>(
     alloc: A,
     text: &str,

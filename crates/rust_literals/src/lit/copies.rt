@@ -1,25 +1,27 @@
 //! Copies of literals, their equality and hash, and how they are printed.
 
-ghost use Rattle.std.specs.Prelude.{◌≡◌, ◌++◌, ◌∷◌, [], IfOk, IfErr, OnOk, OnErr};
+ghost use Rattle.std.specs.Prelude.{◌≡◌, ◌++◌, ◌∷◌, [], IfOk, IfErr, OnOk, OnErr, Some};
 ghost use Rattle.std.specs.Cmp.{partial_equiv_from_equiv};
 ghost use Rattle.std.specs.Cmp.Rules.{hashing};
 ghost use Rattle.std.specs.Hash as fed;
 ghost use Rattle.std.proofs.Common.{rules};
 ghost use Rattle.rl_tokens.specs.Errors.{memory_at};
-ghost use Rattle.rl_tokens.specs.Trees.{stream_view};
+ghost use Rattle.rl_tokens.specs.Trees.{LiteralTree, stream_view};
 ghost use Rattle.rust_literals.specs.Copies.{
-  copied,
+  IsCopyOf,
   variant_of,
   text_of,
   is_equal,
   is_equal_equiv,
+  debug_text,
   tree_of,
 };
-ghost use Rattle.rust_literals.specs.Literals.{span_of};
+ghost use Rattle.rust_literals.specs.Literals.{kind_of, span_of};
 
 use crate::lit::Lit;
-use crate::lit_bool::word;
-use rl_tokens::{Error, ToTokens, TokenStream, append_literal};
+use rl_grammar::Kind;
+use rl_quoted::name_of;
+use rl_tokens::{Error, Kept, Literal, Span, ToTokens, TokenStream, TokenTree};
 use std::alloc::Allocator;
 use std::fmt;
 use std::hash::{Hash, Hasher};
@@ -27,7 +29,7 @@ use std::hash::{Hash, Hasher};
 impl<A: Allocator> Lit<A> {
     /// The literal once more, with its memory from this allocator. Want of memory is told at the span.
     pub fn clone<B: Allocator + Copy>(&self, alloc: B) -> Result<Lit<B>, Error<B>>
-        ensures ok { IfOk result (λ l. l ≡ copied self.now) }
+        ensures ok { IfOk result (IsCopyOf self.now) }
         ensures memory { IfErr result (λ e. e ≡ memory_at (span_of self.now)) }
     {
         Ok(match self {
@@ -47,16 +49,9 @@ impl<A: Allocator> Lit<A> {
     fn variant(&self) -> u8
         ensures { result ≡ variant_of self.now }
     {
-        match self {
-            Lit::Str(_) => 0,
-            Lit::ByteStr(_) => 1,
-            Lit::CStr(_) => 2,
-            Lit::Byte(_) => 3,
-            Lit::Char(_) => 4,
-            Lit::Int(_) => 5,
-            Lit::Float(_) => 6,
-            Lit::Bool(_) => 7,
-            Lit::Verbatim(_) => 8,
+        match self.kind() {
+            Some(kind) => kind as u8,
+            None => 8,
         }
     }
 }
@@ -69,18 +64,7 @@ impl<A: Allocator> PartialEq for Lit<A> {
     ghost laws = { partial_equiv_from_equiv is_equal_equiv };
 
     fn eq(&self, other: &Self) -> bool {
-        match (self, other) {
-            (Lit::Str(one), Lit::Str(other)) => one == other,
-            (Lit::ByteStr(one), Lit::ByteStr(other)) => one == other,
-            (Lit::CStr(one), Lit::CStr(other)) => one == other,
-            (Lit::Byte(one), Lit::Byte(other)) => one == other,
-            (Lit::Char(one), Lit::Char(other)) => one == other,
-            (Lit::Int(one), Lit::Int(other)) => one == other,
-            (Lit::Float(one), Lit::Float(other)) => one == other,
-            (Lit::Bool(one), Lit::Bool(other)) => one == other,
-            (Lit::Verbatim(one), Lit::Verbatim(other)) => one.text() == other.text(),
-            _ => false,
-        }
+        self.variant() == other.variant() && self.text() == other.text()
     }
 }
 
@@ -96,34 +80,53 @@ impl<A: Allocator> Hash for Lit<A> {
 
     fn hash<H: Hasher>(&self, state: &mut H) {
         state.write_u8(self.variant());
-        match self {
-            Lit::Str(literal) => literal.hash(state),
-            Lit::ByteStr(literal) => literal.hash(state),
-            Lit::CStr(literal) => literal.hash(state),
-            Lit::Byte(literal) => literal.hash(state),
-            Lit::Char(literal) => literal.hash(state),
-            Lit::Int(literal) => literal.hash(state),
-            Lit::Float(literal) => literal.hash(state),
-            Lit::Bool(literal) => word(literal.value).hash(state),
-            Lit::Verbatim(token) => token.text().hash(state),
-        }
+        self.text().hash(state);
+    }
+}
+
+/// The literal's text.
+impl<A: Allocator> fmt::Display for Lit<A> {
+    ghost output = { λ l. Some (text_of l) };
+
+    fn fmt<W: fmt::Write>(&self, f: &mut fmt::Formatter<W>) -> fmt::Result {
+        f.write_str(self.text())
     }
 }
 
 /// What the literal's own type prints; of `Verbatim` the token's text between the name and braces.
 impl<A: Allocator> fmt::Debug for Lit<A> {
+    ghost debug_output = { λ l. Some (debug_text (kind_of l) (text_of l)) };
+
     fn fmt<W: fmt::Write>(&self, f: &mut fmt::Formatter<W>) -> fmt::Result {
-        match self {
-            Lit::Str(literal) => write!(f, "{literal:?}"),
-            Lit::ByteStr(literal) => write!(f, "{literal:?}"),
-            Lit::CStr(literal) => write!(f, "{literal:?}"),
-            Lit::Byte(literal) => write!(f, "{literal:?}"),
-            Lit::Char(literal) => write!(f, "{literal:?}"),
-            Lit::Int(literal) => write!(f, "{literal:?}"),
-            Lit::Float(literal) => write!(f, "{literal:?}"),
-            Lit::Bool(literal) => write!(f, "{literal:?}"),
-            Lit::Verbatim(token) => write!(f, "Verbatim {{ token: {token} }}"),
+        let text = self.text();
+        match self.kind() {
+            Some(Kind::Bool) => write!(f, "LitBool {{ value: {text} }}"),
+            Some(kind) => {
+                let name = name_of(kind);
+                write!(f, "{name} {{ token: {text} }}")
+            }
+            None => write!(f, "Verbatim {{ token: {text} }}"),
         }
+    }
+}
+
+/// Puts a literal token with this text and span last. Where memory is wanted and refused, the stream stays, and that is
+/// told at the span.
+fn append_text<A: Allocator>(
+    alloc: A,
+    text: &str,
+    span: Span,
+    tokens: &mut TokenStream<A>,
+) -> Result<(), Error<A>>
+    ensures ok { OnOk result (stream_view tokens.new
+        ≡ stream_view tokens.old ++ LiteralTree (record { text = text.now; span = span }) ∷ []) }
+    ensures unchanged { OnErr result (stream_view tokens.new ≡ stream_view tokens.old) }
+    ensures memory { IfErr result (λ e. e ≡ memory_at span) }
+{
+    let token = Literal::from_text(alloc, text, span)?;
+    match tokens.append(TokenTree::Literal(token)) {
+        Ok(()) => Ok(()),
+        Err(Kept { error, .. }) => Err(error),
     }
 }
 
@@ -138,15 +141,8 @@ impl<A: Allocator> ToTokens for Lit<A> {
         ensures memory { IfErr result (λ e. e ≡ memory_at (span_of self.now)) }
     {
         match self {
-            Lit::Str(literal) => literal.to_tokens(alloc, tokens),
-            Lit::ByteStr(literal) => literal.to_tokens(alloc, tokens),
-            Lit::CStr(literal) => literal.to_tokens(alloc, tokens),
-            Lit::Byte(literal) => literal.to_tokens(alloc, tokens),
-            Lit::Char(literal) => literal.to_tokens(alloc, tokens),
-            Lit::Int(literal) => literal.to_tokens(alloc, tokens),
-            Lit::Float(literal) => literal.to_tokens(alloc, tokens),
             Lit::Bool(literal) => literal.to_tokens(alloc, tokens),
-            Lit::Verbatim(token) => append_literal(alloc, token, tokens),
+            _ => append_text(alloc, self.text(), self.span(), tokens),
         }
     }
 }

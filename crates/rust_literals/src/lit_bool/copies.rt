@@ -55,6 +55,15 @@ impl Hash for LitBool {
     }
 }
 
+/// The word.
+impl fmt::Display for LitBool {
+    ghost output = { λ l. Some (truth_text l.value) };
+
+    fn fmt<W: fmt::Write>(&self, f: &mut fmt::Formatter<W>) -> fmt::Result {
+        f.write_str(word(self.value))
+    }
+}
+
 /// The truth value between the name and braces.
 impl fmt::Debug for LitBool {
     ghost debug_output = { λ l. Some (codes "LitBool { value: " ++ truth_text l.value ++ codes " }") };

@@ -1,6 +1,6 @@
-//! Copies of float literals, their equality and hash, and how they are printed.
+//! Copies of numbers, their equality and hash, and how they are printed.
 
-ghost use Rattle.std.specs.Prelude.{◌≡◌, ◌==◌, ◌++◌, ◌∷◌, [], IfOk, IfErr, OnOk, OnErr, Some, codes};
+ghost use Rattle.std.specs.Prelude.{◌≡◌, ◌==◌, ◌++◌, ◌∷◌, [], IfOk, IfErr, OnOk, OnErr, Some, codes, option_map, string_bytes};
 ghost use Rattle.std.specs.Cmp.{partial_equiv_from_equiv, on_equiv};
 ghost use Rattle.std.specs.Cmp.Lexicographic.{pointwise, nat_list_eq_equiv};
 ghost use Rattle.std.specs.Cmp.Rules.{hashing};
@@ -9,33 +9,57 @@ ghost use Rattle.std.specs.Ordering.{on};
 ghost use Rattle.std.proofs.Common.{rules};
 ghost use Rattle.rl_tokens.specs.Errors.{memory_at};
 ghost use Rattle.rl_tokens.specs.Trees.{LiteralTree, stream_view};
+ghost use Rattle.rl_quoted.specs.Words.{kind_name};
 
-use crate::lit_float::LitFloat;
+use crate::number::{Number, NumberKind};
+use rl_quoted::name_of;
 use rl_tokens::{Error, ToTokens, TokenStream, append_literal};
-use std::alloc::Allocator;
+use std::alloc::{AllocError, Allocator};
 use std::fmt;
 use std::hash::{Hash, Hasher};
+use std::marker::PhantomData;
 
-impl<A: Allocator> LitFloat<A> {
-    /// The literal once more, with its memory from this allocator. Want of memory is told at the span.
-    pub fn clone<B: Allocator + Copy>(&self, alloc: B) -> Result<LitFloat<B>, Error<B>>
+/// The text once more, where there is one.
+fn copy_of<A: Allocator, B: Allocator>(
+    alloc: B,
+    text: &Option<String<A>>,
+) -> Result<Option<String<B>>, AllocError>
+    ensures { IfOk result (λ copy. option_map string_bytes copy ≡ option_map string_bytes text.now) }
+{
+    match text {
+        Some(text) => match String::from_str(alloc, text.as_str()) {
+            Ok(copy) => Ok(Some(copy)),
+            Err(_) => Err(AllocError),
+        },
+        None => Ok(None),
+    }
+}
+
+impl<K: NumberKind, A: Allocator> Number<K, A> {
+    /// The literal once more, with its memory from this allocator: for the token, and for the digits where they aren't
+    /// lent from it. Want of memory is told at the span.
+    pub fn clone<B: Allocator + Copy>(&self, alloc: B) -> Result<Number<K, B>, Error<B>>
         ensures ok { IfOk result (λ l. l ≡ self.now) }
         ensures memory { IfErr result (λ e. e ≡ memory_at self.now.span) }
     {
-        let token = self.token.clone(alloc)?;
-        match String::from_str(alloc, self.digits.as_str()) {
-            Ok(digits) => Ok(LitFloat {
+        let token = match self.token.clone(alloc) {
+            Ok(token) => token,
+            Err(error) => return Err(error),
+        };
+        match copy_of(alloc, &self.digits) {
+            Ok(digits) => Ok(Number {
                 token,
                 digits,
                 suffix_at: self.suffix_at,
+                of: PhantomData,
             }),
             Err(_) => Err(Error::memory(self.token.span())),
         }
     }
 }
 
-/// Equal where the texts are: `1.0` isn't `1.00`. Spans are ignored.
-impl<A: Allocator> PartialEq for LitFloat<A> {
+/// Equal where the texts are: `0xF` isn't `15`, and `1.0` isn't `1.00`. Spans are ignored.
+impl<K: NumberKind, A: Allocator> PartialEq for Number<K, A> {
     ghost eq = { on (λ l. l.text) (pointwise ◌==◌) };
 
     ghost laws = { partial_equiv_from_equiv (on_equiv (λ l. l.text) nat_list_eq_equiv) };
@@ -45,12 +69,12 @@ impl<A: Allocator> PartialEq for LitFloat<A> {
     }
 }
 
-impl<A: Allocator> Eq for LitFloat<A> {
+impl<K: NumberKind, A: Allocator> Eq for Number<K, A> {
     ghost laws = { on_equiv (λ l. l.text) nat_list_eq_equiv };
 }
 
 /// By the text alone.
-impl<A: Allocator> Hash for LitFloat<A> {
+impl<K: NumberKind, A: Allocator> Hash for Number<K, A> {
     ghost hash_input = { λ l. fed.str l.text };
 
     ghost respects_eq = { Prim.search (hashing, rules) };
@@ -61,17 +85,18 @@ impl<A: Allocator> Hash for LitFloat<A> {
 }
 
 /// The token's text between the name and braces.
-impl<A: Allocator> fmt::Debug for LitFloat<A> {
-    ghost debug_output = { λ l. Some (codes "LitFloat { token: " ++ l.text ++ codes " }") };
+impl<K: NumberKind, A: Allocator> fmt::Debug for Number<K, A> {
+    ghost debug_output = { λ l. Some (kind_name K.KIND ++ codes " { token: " ++ l.text ++ codes " }") };
 
     fn fmt<W: fmt::Write>(&self, f: &mut fmt::Formatter<W>) -> fmt::Result {
+        let name = name_of(K::KIND);
         let text = self.token.text();
-        write!(f, "LitFloat {{ token: {text} }}")
+        write!(f, "{name} {{ token: {text} }}")
     }
 }
 
 /// The token as it stands.
-impl<A: Allocator> ToTokens for LitFloat<A> {
+impl<K: NumberKind, A: Allocator> ToTokens for Number<K, A> {
     ghost appends = { λ l. LiteralTree l ∷ [] };
 
     fn to_tokens<B: Allocator>(&self, alloc: B, tokens: &mut TokenStream<B>) -> Result<(), Error<B>>

@@ -1,0 +1,44 @@
+//! Number types that are made from the digits of a number.
+
+ghost use Rattle.std.specs.Prelude.{IfOk, IfErr};
+ghost use Rattle.rust_literals.specs.Base10.{AreBase10Digits, IsMadeOf, IsRefusedBy, IsTold};
+
+use crate::number::{Number, NumberKind};
+use rl_tokens::{Error, ErrorKind, Span};
+use std::alloc::Allocator;
+use std::fmt::Display;
+use std::str::FromStr;
+
+/// A number type's fault in its own words, told at a span; want of memory for the words is told there too.
+fn told<F: Display, B: Allocator>(alloc: B, fault: &F, span: Span) -> Error<B>
+    ensures { IsTold (F.output fault.now) span result }
+{
+    match format!(in alloc; "{fault}") {
+        Ok(words) => Error {
+            span,
+            kind: ErrorKind::Number(words),
+        },
+        Err(_) => Error::memory(span),
+    }
+}
+
+impl<K: NumberKind, A: Allocator> Number<K, A> {
+    /// The number that the type makes of the digits, by its own `from_str`.
+    ///
+    /// # Errors
+    ///
+    /// The type's fault is told at the span, as `Number` in the fault's own words; want of memory for these is told there
+    /// too, and so is a fault that can't be put into words.
+    pub fn base10_parse<N: FromStr, B: Allocator>(&self, alloc: B) -> Result<N, Error<B>>
+    where
+        N::Err: Display + Drop,
+        ensures ok { IfOk result (IsMadeOf N.from_str_gives (AreBase10Digits K.KIND self.now.text)) }
+        ensures refused { IfErr result
+            (IsRefusedBy N.from_str_gives N.Err.output (AreBase10Digits K.KIND self.now.text) self.now.span) }
+    {
+        match N::from_str(self.base10_digits()) {
+            Ok(number) => Ok(number),
+            Err(fault) => Err(told(alloc, &fault, self.span())),
+        }
+    }
+}
