@@ -1,124 +1,121 @@
-//! Calls that make or take tokens.
+//! Calls of `rl_tokens`.
 
-use crate::tell::{Tell, tell_trees};
+use crate::page::Page;
+use crate::tell::{Rest, Tell};
 use crate::trial::{HERE, Scant, Trial};
-use rl_tokens::{Literal, Parse, ParseBuffer, Span, TokenStream, TokenTree, lex};
-use rust_literals::{Lit, LitInt, LitStr, read_all};
-use std::alloc::{AllocError, Global};
+use rl_tokens::{
+    CString, Ident, Literal, Parse, ParseBuffer, TokenTree, ident, lex,
+};
 
-/// A token that is made before a call.
-fn token<'a>(trial: Trial<'a>, text: &str) -> Result<Literal<Scant<'a>>, AllocError> {
-    match Literal::from_text(trial.scant, text, HERE) {
-        Ok(token) => Ok(token),
-        Err(_) => Err(AllocError),
+/// What is told where the values for a call can't be made of the text.
+pub const UNFIT: &str = "unfit text";
+
+/// `Literal::byte_string` and `Literal::c_string` of the text's bytes, and the other calls of `Literal`.
+pub fn literal_call(call: &str, trial: Trial<'_>, text: &str, page: &mut Page) {
+    match call {
+        "from_text" => {
+            trial.begins();
+            trial.ends(&Literal::from_text(trial.scant, text, HERE), page);
+        }
+        "string" => {
+            trial.begins();
+            trial.ends(&Literal::string(trial.scant, text), page);
+        }
+        "byte_string" => {
+            trial.begins();
+            trial.ends(&Literal::byte_string(trial.scant, text.as_bytes()), page);
+        }
+        "c_string" => c_string(trial, text, page),
+        "byte_character" | "character" => character(call, trial, text, page),
+        "negative" => {
+            trial.begins();
+            trial.ends(&Literal::negative(trial.scant, text, HERE), page);
+        }
+        _ => copied(call, trial, text, page),
     }
 }
 
-/// Trees that are made before a call.
-fn trees_of<'a>(trial: Trial<'a>, text: &str) -> Result<TokenStream<Scant<'a>>, AllocError> {
-    match lex(trial.scant, text, 7) {
-        Ok(stream) => Ok(stream),
-        Err(_) => Err(AllocError),
-    }
+/// A C string of the text's bytes.
+pub fn c_string_of(trial: Trial<'_>, text: &str) -> Option<CString> {
+    let bytes = Vec::from_slice(trial.alloc, text.as_bytes()).ok()?;
+    CString::new(bytes).ok()
 }
 
-/// `Literal::from_text`.
-pub fn from_text(trial: Trial<'_>, text: &str, out: &mut String) -> Result<(), AllocError> {
+/// `Literal::c_string`.
+fn c_string(trial: Trial<'_>, text: &str, page: &mut Page) {
+    let Some(value) = c_string_of(trial, text) else {
+        return page.put(UNFIT);
+    };
     trial.begins();
-    let answer = Literal::from_text(trial.scant, text, HERE);
-    trial.ends();
-    answer.tell(out)
+    trial.ends(&Literal::c_string(trial.scant, &value), page);
 }
 
-/// `Literal::string`.
-pub fn string(trial: Trial<'_>, text: &str, out: &mut String) -> Result<(), AllocError> {
+/// `Literal::character` of the text's character, or `Literal::byte_character` of its byte.
+fn character(call: &str, trial: Trial<'_>, text: &str, page: &mut Page) {
+    let (Some(c), Some(byte)) = (text.chars().next(), text.as_bytes().first()) else {
+        return page.put(UNFIT);
+    };
     trial.begins();
-    let answer = Literal::string(trial.scant, text);
-    trial.ends();
-    answer.tell(out)
-}
-
-/// Whether two streams hold the same trees, by what is told of them.
-fn tell_same(
-    alloc: Global,
-    trees: &[TokenTree<Scant<'_>>],
-    others: &[TokenTree<Scant<'_>>],
-    out: &mut String,
-) -> Result<(), AllocError> {
-    let mut told = String::new(alloc);
-    tell_trees(trees, &mut told)?;
-    let mut wanted = String::new(alloc);
-    tell_trees(others, &mut wanted)?;
-    if told == wanted {
-        out.push_str("; same")
+    if call == "character" {
+        trial.ends(&Literal::character(trial.scant, c), page);
     } else {
-        out.push_str("; now ")?;
-        out.push_str(told.as_str())
+        trial.ends(&Literal::byte_character(trial.scant, *byte), page);
     }
+}
+
+/// `Literal::clone` and `Literal::behind_minus`.
+fn copied(call: &str, trial: Trial<'_>, text: &str, page: &mut Page) {
+    let (Some(token), Some(other)) = (trial.token(text), trial.token(text)) else {
+        return page.put(UNFIT);
+    };
+    trial.begins();
+    match call {
+        "clone" => trial.ends(&token.clone(trial.scant), page),
+        "behind_minus" => trial.ends(&token.behind_minus(trial.scant, HERE), page),
+        _ => page.put("no such call"),
+    }
+    trial.leaves(&token, &other, page);
+}
+
+/// `Ident::new`.
+pub fn word(trial: Trial<'_>, text: &str, page: &mut Page) {
+    if !ident::xid_ok(text) {
+        return page.put(UNFIT);
+    }
+    trial.begins();
+    trial.ends(&Ident::new(trial.scant, text, HERE), page);
 }
 
 /// `TokenStream::append` of a literal behind the trees of the text.
-pub fn append(trial: Trial<'_>, text: &str, out: &mut String) -> Result<(), AllocError> {
-    let mut stream = trees_of(trial, text)?;
-    let other = trees_of(trial, text)?;
-    let tree = TokenTree::Literal(token(trial, "last")?);
+pub fn append(trial: Trial<'_>, text: &str, page: &mut Page) {
+    let (Some(mut stream), Some(other)) = (trial.trees(text), trial.trees(text)) else {
+        return page.put(UNFIT);
+    };
+    let Some(last) = trial.token("last") else {
+        return page.put(UNFIT);
+    };
     trial.begins();
-    let answer = stream.append(tree);
-    trial.ends();
-    answer.tell(out)?;
-    tell_same(trial.alloc, stream.trees(), other.trees(), out)
+    trial.ends(&stream.append(TokenTree::Literal(last)), page);
+    trial.leaves(&stream, &other, page);
 }
 
-/// A parser over the trees of the text.
+/// `lex`, in the file 7.
+pub fn cut(trial: Trial<'_>, text: &str, page: &mut Page) {
+    trial.begins();
+    trial.ends(&lex(trial.scant, text, 7), page);
+}
+
+/// The parser of a type over the trees of the text.
 pub fn parsed<'a, T: Parse<Scant<'a>> + Tell + Drop>(
     trial: Trial<'a>,
     text: &str,
-    out: &mut String,
-) -> Result<(), AllocError> {
-    let stream = trees_of(trial, text)?;
-    let other = trees_of(trial, text)?;
+    page: &mut Page,
+) {
+    let (Some(stream), Some(other)) = (trial.trees(text), trial.trees(text)) else {
+        return page.put(UNFIT);
+    };
     let mut input = ParseBuffer::new(stream.trees(), HERE);
     trial.begins();
-    let answer = input.parse::<T>(trial.scant);
-    trial.ends();
-    answer.tell(out)?;
-    tell_same(trial.alloc, input.rest(), other.trees(), out)
-}
-
-/// `read_all`.
-pub fn read(trial: Trial<'_>, text: &str, out: &mut String) -> Result<(), AllocError> {
-    trial.begins();
-    let answer = read_all(trial.scant, text, 7);
-    trial.ends();
-    answer.tell(out)
-}
-
-/// The literal that the text reads as, made before a call.
-fn literal<'a>(trial: Trial<'a>, text: &str) -> Result<Lit<Scant<'a>>, AllocError> {
-    match Lit::new(trial.scant, token(trial, text)?) {
-        Ok(literal) => Ok(literal),
-        Err(_) => Err(AllocError),
-    }
-}
-
-/// `LitStr::parse` of a `Lit`.
-pub fn inside(trial: Trial<'_>, text: &str, out: &mut String) -> Result<(), AllocError> {
-    let Lit::Str(literal) = literal(trial, text)? else {
-        return out.push_str("no string");
-    };
-    trial.begins();
-    let answer = literal.parse::<Lit<Scant<'_>>, Scant<'_>>(trial.scant);
-    trial.ends();
-    answer.tell(out)
-}
-
-/// `LitInt::base10_parse` as an `i8`.
-pub fn base10(trial: Trial<'_>, text: &str, out: &mut String) -> Result<(), AllocError> {
-    let Lit::Int(literal) = literal(trial, text)? else {
-        return out.push_str("no integer");
-    };
-    trial.begins();
-    let answer = literal.base10_parse::<i8, Scant<'_>>(trial.scant);
-    trial.ends();
-    answer.tell(out)
+    trial.ends(&input.parse::<T>(trial.scant), page);
+    trial.leaves(&Rest(input.rest()), &Rest(other.trees()), page);
 }
