@@ -1,0 +1,49 @@
+//! Tries the libraries where they are refused something. For development.
+//!
+//! A line of input begins with `cut`, `long` or a type's name. Behind a type's name stand a call of it and a text: the
+//! requests for memory of the call are refused, each in turn. Behind `cut` stands a text that is cut at each place. Behind
+//! `long` stand the parts of a long text.
+#![tactic(auto)]
+
+mod grammar;
+mod held;
+mod hostile;
+mod made;
+mod page;
+mod rows;
+mod tell;
+mod tokens;
+mod trial;
+
+use crate::page::Page;
+use crate::rows::Row;
+use std::alloc::{AllocError, Global};
+use std::io;
+use std::io::{BufRead, BufReader, BufWriter, Write};
+
+/// What is printed for a line of input.
+fn answer(alloc: Global, line: &str) -> Result<String, AllocError> {
+    let mut page = Page::new(alloc);
+    page.put(line);
+    page.put("\n");
+    let (of, rest) = line.split_once(' ').unwrap_or((line, ""));
+    match of {
+        "cut" => hostile::cuts(alloc, rest, &mut page),
+        "long" => hostile::long(alloc, rest, &mut page),
+        _ => {
+            let (call, text) = rest.split_once(' ').unwrap_or((rest, ""));
+            rows::answer(alloc, Row { of, call, text }, &mut page);
+        }
+    }
+    page.finished()
+}
+
+fn main(rt: HostRuntime) -> io::Result<()> {
+    let alloc = rt.alloc();
+    let mut out = BufWriter::new(alloc, io::writer(&rt))?;
+    for line in BufReader::new(alloc, rt.reader())?.lines(alloc) {
+        let answer = answer(alloc, line?.as_str())?;
+        out.write_all(answer.as_bytes())?;
+    }
+    out.flush()
+}

@@ -1,0 +1,76 @@
+//! A text that is put together piece by piece.
+
+use std::alloc::{AllocError, Global};
+use std::fmt::{Debug, Display};
+
+/// A text that notes where memory for it was wanted and refused, so that the pieces can be put one after another.
+#[derive(Drop)]
+pub struct Page {
+    alloc: Global,
+    text: String,
+    is_short: bool,
+}
+
+impl Page {
+    /// No text.
+    pub fn new(alloc: Global) -> Page {
+        Page {
+            alloc,
+            text: String::new(alloc),
+            is_short: false,
+        }
+    }
+
+    /// No text, with the same memory.
+    pub fn another(&self) -> Page {
+        Page::new(self.alloc)
+    }
+
+    /// Puts the text last.
+    pub fn put(&mut self, text: &str) {
+        if self.text.push_str(text).is_err() {
+            self.is_short = true;
+        }
+    }
+
+    /// Puts the character last.
+    pub fn put_char(&mut self, c: char) {
+        if self.text.push(c).is_err() {
+            self.is_short = true;
+        }
+    }
+
+    /// Puts the number last.
+    pub fn put_number(&mut self, number: usize) {
+        if write!(self.text, "{number}").is_err() {
+            self.is_short = true;
+        }
+    }
+
+    /// Puts the value last, as it is shown to developers.
+    pub fn put_debug<T: Debug>(&mut self, value: &T) {
+        if write!(self.text, "{value:?}").is_err() {
+            self.is_short = true;
+        }
+    }
+
+    /// Puts the value last, as it is shown to users.
+    pub fn put_shown<T: Display>(&mut self, value: &T) {
+        if write!(self.text, "{value}").is_err() {
+            self.is_short = true;
+        }
+    }
+
+    /// What stands there so far.
+    pub fn text(&self) -> &str {
+        self.text.as_str()
+    }
+
+    /// The whole text, if memory for it was there.
+    pub fn finished(self) -> Result<String, AllocError> {
+        if self.is_short {
+            return Err(AllocError);
+        }
+        Ok(self.text)
+    }
+}

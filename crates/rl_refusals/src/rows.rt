@@ -1,0 +1,114 @@
+//! Calls whose requests for memory are refused: whose call it is, the call's name, and a text, with a space between.
+
+use crate::page::Page;
+use crate::trial::Trial;
+use crate::{grammar, made, tokens};
+use rl_refusing::Refusing;
+use std::alloc::Global;
+use std::cell::Cell;
+
+/// A call, and the text that it is tried on.
+#[derive(Clone, Copy)]
+pub struct Row<'t> {
+    /// Whose call it is.
+    pub of: &'t str,
+    /// The call's name.
+    pub call: &'t str,
+    /// The text.
+    pub text: &'t str,
+}
+
+/// Runs a call that is no struct's.
+fn run_free(row: Row<'_>, trial: Trial<'_>, page: &mut Page) {
+    match row.call {
+        "append" => tokens::append(trial, row.text, page),
+        "lex" => tokens::cut(trial, row.text, page),
+        "read_all" => grammar::read(trial, row.text, page),
+        "str_of" => grammar::text_of(trial, row.text, page),
+        "bytes_of" => grammar::contents_of(trial, row.text, page),
+        "digits_of" => grammar::numeral_of(trial, row.text, page),
+        _ => page.put("no such call"),
+    }
+}
+
+/// Runs a call of a number, of a truth value, of a literal of any kind, or of a token.
+fn run_number(row: Row<'_>, trial: Trial<'_>, page: &mut Page) {
+    match row.of {
+        "LitInt" => made::integer_call(row.call, trial, row.text, page),
+        "LitFloat" => made::float_call(row.call, trial, row.text, page),
+        "LitBool" => made::truth_call(row.call, trial, row.text, page),
+        "Lit" => made::lit_call(row.call, trial, row.text, page),
+        "Literal" => tokens::literal_call(row.call, trial, row.text, page),
+        "Ident" => tokens::word(trial, row.text, page),
+        _ => run_free(row, trial, page),
+    }
+}
+
+/// Runs the call once, and puts last what came of it.
+fn run(row: Row<'_>, trial: Trial<'_>, page: &mut Page) {
+    match row.of {
+        "LitStr" => made::string_call(row.call, trial, row.text, page),
+        "LitByteStr" => made::byte_string_call(row.call, trial, row.text, page),
+        "LitCStr" => made::c_string_call(row.call, trial, row.text, page),
+        "LitByte" => made::byte_call(row.call, trial, row.text, page),
+        "LitChar" => made::character_call(row.call, trial, row.text, page),
+        _ => run_number(row, trial, page),
+    }
+}
+
+/// What came of the call while these requests were refused, and how many came.
+fn tried(alloc: Global, row: Row<'_>, first: u64, last: u64) -> (Page, u64) {
+    let refusing = Refusing::new(alloc);
+    let asked = Cell::new(0);
+    let mut page = Page::new(alloc);
+    let trial = Trial {
+        alloc,
+        scant: &refusing,
+        first,
+        last,
+        asked: &asked,
+    };
+    run(row, trial, &mut page);
+    if refusing.held() > 0 {
+        page.put("; kept memory");
+    }
+    (page, asked.get())
+}
+
+/// Whether it is told that memory is wanted, and that all is left as it was.
+fn is_refusal(told: &str) -> bool {
+    told.starts_with("out of memory") && !told.contains("; now") && !told.contains("; kept")
+}
+
+/// Puts last what is printed of a refused call, where the call with ample memory told the other text; but not again.
+fn judge(told: &str, ample: &str, page: &mut Page) {
+    let (word, shown) = if told == ample {
+        ("  refused: ", "the same answer")
+    } else if is_refusal(told) {
+        ("  refused: ", told)
+    } else {
+        ("  OTHER: ", told)
+    };
+    let mut line = page.another();
+    line.put(word);
+    line.put(shown);
+    line.put("\n");
+    if !page.text().contains(line.text()) {
+        page.put(line.text());
+    }
+}
+
+/// What is printed for a row: what came of the call with ample memory, and then with each request refused in turn, alone and
+/// with all behind it, each answer once.
+pub fn answer(alloc: Global, row: Row<'_>, page: &mut Page) {
+    let (ample, asked) = tried(alloc, row, 1, 0);
+    page.put("  ample: ");
+    page.put(ample.text());
+    page.put("\n");
+    for n in 1..=asked.max(1) {
+        let (alone, _) = tried(alloc, row, n, n);
+        judge(alone.text(), ample.text(), page);
+        let (on, _) = tried(alloc, row, n, u64::MAX);
+        judge(on.text(), ample.text(), page);
+    }
+}
