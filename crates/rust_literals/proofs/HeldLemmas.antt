@@ -1,6 +1,5 @@
 -- What a number struct holds.
-use Rattle.std.proofs.Common.{◌≡◌, ◌≢◌, ◌≤◌, ◌<◌, ◌⊎◌, inl, inr, ℕ, List, ◌++◌, take, drop, Bool as Truths, true, false, IsTrue, arith, refl, sym, ap, subst, ◌∙◌}
-use Rattle.std.specs.Prelude.{◌↔◌}
+use Rattle.std.proofs.Common.{◌≡◌, ◌≢◌, inl, inr, ℕ, List, ◌++◌, take, true, false, arith, refl, sym, subst, ◌∙◌}
 use Rattle.std.specs.Str.{chars, IsUtf8}
 use Rattle.std.proofs.lemmas.List.{take-append-drop, append_cancel_right}
 use Rattle.rl_tokens.specs.declared.kind.Kind.{Kind}
@@ -10,7 +9,7 @@ use Rattle.rl_tokens.specs.declared.error.ErrorKind.TheVariants.{Expected, EndOf
 use Rattle.rl_tokens.specs.declared.error.Error.{Error}
 use Rattle.rl_tokens.specs.declared.span.Span.{Span}
 use Rattle.rl_tokens.specs.Errors.{memory_at}
-use Rattle.rl_tokens.specs.Reading.{Digits, Reads, HasSuffix}
+use Rattle.rl_tokens.specs.Reading.{Reads, HasSuffix}
 use Rattle.rl_tokens.proofs.OneNumber.{int_once}
 use Rattle.rl_grammar.specs.declared.found.Found.{Found}
 use Rattle.rl_grammar.specs.Founds.{IsFound, IsFoundFloat, IsFoundNumber, body_in, suffix_in}

@@ -7,7 +7,7 @@ use Rattle.rl_tokens.specs.declared.kind.Kind.TheVariants.{Str as StrKind, ByteS
 use Rattle.rl_tokens.specs.declared.span.Span.{Span}
 use Rattle.rl_tokens.specs.Tokens.{Token}
 use Rattle.rl_tokens.specs.Texts.{passes}
-use Rattle.rl_tokens.specs.Trees.{Tree, LiteralTree}
+use Rattle.rl_tokens.specs.Trees.{LiteralTree}
 use Rattle.rl_tokens.specs.Reading.{Truth, Reads, ReadsAs, HasSuffix, truth_text}
 use Rattle.rl_tokens.specs.Fronts.{HasReading}
 use Rattle.rl_tokens.proofs.OneReading.{one_reading}
@@ -124,12 +124,10 @@ read_word token seen value span utf8 same (v, x, r) tested there =
 pub reads_as : (t x : List ℕ) (k kind : Kind) → HasSuffix k t x → k ≡ kind → ReadsAs kind t
 reads_as t x k kind r e = (r.0, x, subst (λ z. Reads t z r.0 x) e r.1)
 
--- what is read as a literal of a kind has a reading
-pub has_reading : {A : Type 0} (token : Token) (lit : Lit A) (kind : Kind) → IsReadFrom token lit → kind_of lit ≡ Some kind → HasReading (chars token.text)
-has_reading token lit kind (e, r) k = (kind, subst (λ (o : Option Kind). IsReadAs o (chars token.text)) k r)
-
-pub has_reading_behind : {A : Type 0} (bytes : List ℕ) (span : Span) (lit : Lit A) (kind : Kind) → IsReadFrom (record { text = 45 ∷ bytes; span = span }) lit → kind_of lit ≡ Some kind → HasReading (45 ∷ chars bytes)
-has_reading_behind bytes span lit kind read k = subst HasReading (minus_chars bytes) (has_reading (record { text = 45 ∷ bytes; span = span }) lit kind read k)
+-- what was found behind a minus has a reading there
+pub found_behind : (bytes : List ℕ) (found : Found) → IsFound (45 ∷ bytes) found → HasReading (45 ∷ chars bytes)
+found_behind bytes found h =
+    subst HasReading (minus_chars bytes) (found.kind, (h.reads.0, chars (suffix_in (45 ∷ bytes) found.body), h.reads.1))
 
 -- what is no truth value is appended as a literal
 pub literal_tree : {A : Type 0} (lit : Lit A) → ((l : _) → lit ≡ Bool l → ⊥) → tree_of lit ≡ LiteralTree (token_of lit)

@@ -2,7 +2,7 @@
 use Rattle.std.specs.Prelude.{◌≡◌, ℕ, List, Option, Some, None, take, drop}
 use Rattle.std.specs.Str.{chars, IsCharBoundary}
 use Rattle.rl_tokens.specs.declared.kind.Kind.{Kind}
-use Rattle.rl_tokens.specs.declared.kind.Kind.TheVariants.{Int, Float, Bool}
+use Rattle.rl_tokens.specs.declared.kind.Kind.TheVariants.{Int, Float}
 use Rattle.rl_tokens.specs.Numbers.{FloatReads, float_digits}
 use Rattle.rl_tokens.specs.Reading.{Digits, ReadsInt, HasSuffix}
 

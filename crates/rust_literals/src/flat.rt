@@ -10,6 +10,7 @@ ghost use Rattle.rust_literals.specs.Flat.{ReadsNext};
 
 use crate::lit::Lit;
 use crate::lit_bool::LitBool;
+use rl_grammar::find_negative;
 use rl_tokens::{Form, Literal, Span, Tokens};
 use std::alloc::{Allocator, Global};
 
@@ -37,10 +38,14 @@ fn negative_of<A: Allocator + Copy>(alloc: A, text: &str, span: Span) -> Option<
     ensures read { IfSome result (IsReadFrom (record { text = 45 ∷ text.now; span = span })) }
     ensures together { IfSome result (λ lit. HasReading (45 ∷ chars text.now)) }
 {
-    let token = Literal::negative(alloc, text, span).ok()?;
-    let literal = Lit::new(alloc, token).ok()?;
-    literal.kind()?;
-    Some(literal)
+    let found = find_negative(text)?;
+    let Ok(token) = Literal::negative(alloc, text, span) else {
+        return None;
+    };
+    match Lit::of_found(alloc, token, found) {
+        Ok(literal) => Some(literal),
+        Err(_) => None,
+    }
 }
 
 /// Takes the literal that the next tokens are. `None` where they are none, and where memory is refused.

@@ -12,9 +12,7 @@ use crate::lit_float::LitFloat;
 use crate::lit_int::LitInt;
 use crate::number::{Number, NumberKind};
 use rl_grammar::{Found, Front, Kind, find};
-use rl_quoted::{
-    LitByte, LitByteStr, LitCStr, LitChar, LitStr, Quoted, QuotedKind,
-};
+use rl_quoted::{LitByte, LitByteStr, LitCStr, LitChar, LitStr, Quoted, QuotedKind};
 use rl_tokens::{Error, Kept, Literal, Parse, ParseBuffer, Span, Token};
 use std::alloc::{Allocator, Global};
 
@@ -132,13 +130,12 @@ impl<A: Allocator + Copy> Lit<A> {
         ensures numbers_alone { IfErr result (λ k. ReadsAsNumber (chars token.text)) }
         ensures lent { IfErr result (λ k. ReadsPlain token.text → ⊥) }
     {
-        let suffix_at = found.body.suffix_at;
         match found.kind {
-            Kind::Str => Ok(Lit::Str(LitStr::of_parts(token, suffix_at))),
-            Kind::ByteStr => Ok(Lit::ByteStr(LitByteStr::of_parts(token, suffix_at))),
-            Kind::CStr => Ok(Lit::CStr(LitCStr::of_parts(token, suffix_at))),
-            Kind::Byte => Ok(Lit::Byte(LitByte::of_parts(token, suffix_at))),
-            Kind::Char => Ok(Lit::Char(LitChar::of_parts(token, suffix_at))),
+            Kind::Str => Ok(Lit::Str(LitStr::of_found(token, found))),
+            Kind::ByteStr => Ok(Lit::ByteStr(LitByteStr::of_found(token, found))),
+            Kind::CStr => Ok(Lit::CStr(LitCStr::of_found(token, found))),
+            Kind::Byte => Ok(Lit::Byte(LitByte::of_found(token, found))),
+            Kind::Char => Ok(Lit::Char(LitChar::of_found(token, found))),
             Kind::Int => match LitInt::of_found(alloc, token, found) {
                 Ok(literal) => Ok(Lit::Int(literal)),
                 Err(kept) => Err(kept),

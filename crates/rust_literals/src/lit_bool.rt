@@ -50,7 +50,7 @@ impl LitBool {
     pub fn set_span(&mut self, span: Span)
         ensures { self.new ≡ record self.old { span = span } }
     {
-        self.span = span;
+        *self = LitBool::new(self.value, span);
     }
 
     /// The word `true` or `false`, at the span. Want of memory is told there.

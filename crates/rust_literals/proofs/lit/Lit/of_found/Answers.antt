@@ -1,4 +1,4 @@
-use Rattle.std.proofs.Common.{◌≡◌, ap, ◌∙◌}
+use Rattle.std.proofs.Common.{ap, ◌∙◌}
 use Rattle.std.specs.Str.{chars}
 use Rattle.rl_tokens.specs.declared.kind.Kind.TheVariants.{Int, Float, Bool as BoolKind}
 use Rattle.rl_grammar.specs.Founds.{suffix_in}

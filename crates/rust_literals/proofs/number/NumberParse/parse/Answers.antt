@@ -1,4 +1,4 @@
-use Rattle.std.proofs.Common.{◌≡◌, ap, subst, ◌∙◌}
+use Rattle.std.proofs.Common.{◌≡◌, ap, ◌∙◌}
 use Rattle.rl_tokens.proofs.TreeRests.{rest_none}
 use Rattle.rl_quoted.specs.Words.{kind_word}
 use Rattle.rust_literals.proofs.number.NumberParse.parse.Goals as goal
