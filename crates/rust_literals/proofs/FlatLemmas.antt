@@ -1,6 +1,6 @@
 -- A literal more of a text without groups, and all of them.
-use Rattle.std.proofs.Common.{arith, true, ◌≡◌, ℕ, ◌==◌, List, [], ◌∷◌, ◌++◌, Option, Some, None, refl, sym, ◌∙◌, ap, subst, append_assoc}
-use Rattle.std.proofs.lemmas.List.{map-append}
+use Rattle.std.proofs.Common.{arith, true, ◌≡◌, ℕ, ◌==◌, List, [], ◌∷◌, ◌++◌, length, Option, Some, None, refl, sym, ◌∙◌, ap, subst, append_assoc}
+use Rattle.std.proofs.lemmas.List.{map-append, nil_from_length}
 use Rattle.std.proofs.lemmas.Bool.Decides.{nat_tests}
 use Rattle.std.specs.Prelude.{min, max, Bool, IfSome, if◌then◌else◌}
 use Rattle.std.specs.Str.{chars}
@@ -26,6 +26,10 @@ use Rattle.rust_literals.specs.Flat.{CutsInto, ReadsNext, AreReadUpTo}
 use Rattle.rl_tokens.proofs.LexLaws.{one_list}
 use Rattle.rust_literals.proofs.LitLemmas.{read_truth}
 use Rattle.rust_literals.proofs.LeadsLemmas.{leads_step, one_list_of}
+
+-- a text of no length
+pub empty_text : (t : List ℕ) → (length t == 0) ≡ true → t ≡ []
+empty_text t h = nil_from_length t (let q : length t ≡ 0 = grind (arith, nat_tests) in q)
 
 -- where a token stands
 abbrev pub span_at : ℕ → Lent → Span

@@ -1,9 +1,8 @@
 use Rattle.std.proofs.Common.{rules, ◌≡◌, ◌∷◌, [], ◌++◌, sym, ◌∙◌, ap, subst}
 use Rattle.std.specs.Str.{chars}
 use Rattle.std.proofs.lemmas.Str.{chars-nil}
-use Rattle.rl_tokens.proofs.LexEnds.{empty_text}
 use Rattle.rust_literals.specs.Flat.{AreReadUpTo}
-use Rattle.rust_literals.proofs.FlatLemmas.{read_more, read_whole}
+use Rattle.rust_literals.proofs.FlatLemmas.{empty_text, read_more, read_whole}
 use Rattle.rust_literals.proofs.flat.read_flat.Goals as goal
 
 pub loop-tokens-preserved : goal.loop-tokens-preserved
