@@ -5,11 +5,12 @@ use Rattle.rl_tokens.specs.Tokens.{Token}
 use Rattle.rl_tokens.specs.declared.kind.Kind.{Kind}
 use Rattle.rl_tokens.specs.declared.kind.Kind.TheVariants.{Str, ByteStr, CStr, Byte, Char, Int, Float, Bool}
 use Rattle.rl_tokens.specs.Numbers.{float_digits}
-use Rattle.rl_tokens.specs.Reading.{Digits, Truth, Reads, ReadsAs}
+use Rattle.rl_tokens.specs.Reading.{Digits, Truth, Reads, ReadsAs, truth_text}
 use Rattle.rl_tokens.proofs.OneNumber.{float_once}
 use Rattle.rust_literals.specs.declared.lit.Lit.{Lit}
 use Rattle.rust_literals.specs.declared.lit.Lit.TheVariants.{Str as StrLit, ByteStr as ByteStrLit, CStr as CStrLit, Byte as ByteLit, Char as CharLit, Int as IntLit, Float as FloatLit, Bool as BoolLit, Verbatim}
 use Rattle.rust_literals.specs.Literals.{IsReadFrom}
+use Rattle.rust_literals.proofs.LitLemmas.{truth_reads}
 use Rattle.rl_lines.specs.Lines.{literal_line, verbatim_line, IsLineOf, PrintsKind, PrintsFloat, PrintsLit}
 
 -- the token's characters, where the literal keeps the token
@@ -37,7 +38,8 @@ line_of_text token (CharLit l) t old new r k p o = kind_line Char l token t old 
 line_of_text token (IntLit l) t old new r k p o = kind_line Int l token t old new r.0 k p o
 line_of_text token (FloatLit l) t old new r k p o = float_line l token t old new r.0 k r.1 p o
 line_of_text token (BoolLit l) t old new r k p o =
-    inl (Bool, Truth l.value, [], subst (λ z. Reads z Bool (Truth l.value) []) (ap chars k) r.1, p ∙ ap (λ z. z ++ literal_line Bool (Truth l.value) []) o)
+    let word : token.text ≡ truth_text l.value = sym (ap (λ z. z.text) r.0) in
+    inl (Bool, Truth l.value, [], subst (λ z. Reads z Bool (Truth l.value) []) (ap chars k) (truth_reads token.text l.value word), p ∙ ap (λ z. z ++ literal_line Bool (Truth l.value) []) o)
 line_of_text token (Verbatim l) t old new r k p o =
     let same : chars l.text ≡ chars t = same_text l token t r.0 k in
     inr (rw (ap chars (sym k)) r.1, p ∙ ap (λ z. z ++ verbatim_line (chars l.text)) o ∙ ap verbatim_line same)

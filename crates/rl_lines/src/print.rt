@@ -3,7 +3,7 @@
 ghost use Rattle.std.specs.Prelude.{◌≡◌, ◌++◌, [], OnOk, IfOk, string_bytes};
 ghost use Rattle.std.specs.Str.{chars};
 ghost use Rattle.rl_tokens.specs.declared.kind.Kind.TheVariants.{Str, ByteStr, CStr, Byte, Char, Int, Bool};
-ghost use Rattle.rl_tokens.specs.Reading.{Truth, truth_text};
+ghost use Rattle.rl_tokens.specs.Reading.{Bytes, Characters, Truth, truth_text};
 ghost use Rattle.rl_lines.specs.Lines.{line, kind_word, literal_line, verbatim_line, PrintsKind, PrintsFloat, PrintsLit, PrintsList};
 
 use crate::line::push_line;
@@ -43,7 +43,23 @@ fn push_kind<A: Allocator + Copy>(
     push_line(alloc, out, word(kind), shown, suffix)
 }
 
-/// Writes the line of a string.
+/// Writes the line of a string that stands for this text.
+fn push_text<A: Allocator + Copy>(
+    alloc: A,
+    out: &mut String<A>,
+    value: &str,
+    suffix: &str,
+) -> Result<(), AllocError>
+    ensures { OnOk result (chars (string_bytes out.new) ≡ chars (string_bytes out.old)
+        ++ literal_line Str (Characters (chars value.now)) (chars suffix.now)) }
+{
+    let Ok(shown) = Literal::string(alloc, value) else {
+        return Err(AllocError);
+    };
+    push_kind(alloc, out, Kind::Str, shown.text(), suffix)
+}
+
+/// Writes the line of a string. Its value is copied only where it isn't what stands between the quotes.
 fn push_string<A: Allocator + Copy>(
     alloc: A,
     out: &mut String<A>,
@@ -52,16 +68,32 @@ fn push_string<A: Allocator + Copy>(
     ensures { OnOk result (PrintsKind Str (chars literal.now.text)
         (chars (string_bytes out.old)) (chars (string_bytes out.new))) }
 {
+    if let Some(value) = literal.value_ref() {
+        return push_text(alloc, out, value, literal.suffix());
+    }
     let Ok(value) = literal.value(alloc) else {
         return Err(AllocError);
     };
-    let Ok(shown) = Literal::string(alloc, value.as_str()) else {
-        return Err(AllocError);
-    };
-    push_kind(alloc, out, Kind::Str, shown.text(), literal.suffix())
+    push_text(alloc, out, value.as_str(), literal.suffix())
 }
 
-/// Writes the line of a byte string.
+/// Writes the line of a byte string that stands for these bytes.
+fn push_bytes<A: Allocator + Copy>(
+    alloc: A,
+    out: &mut String<A>,
+    value: &[u8],
+    suffix: &str,
+) -> Result<(), AllocError>
+    ensures { OnOk result (chars (string_bytes out.new) ≡ chars (string_bytes out.old)
+        ++ literal_line ByteStr (Bytes value.now) (chars suffix.now)) }
+{
+    let Ok(shown) = Literal::byte_string(alloc, value) else {
+        return Err(AllocError);
+    };
+    push_kind(alloc, out, Kind::ByteStr, shown.text(), suffix)
+}
+
+/// Writes the line of a byte string. Its value is copied only where it isn't what stands between the quotes.
 fn push_byte_string<A: Allocator + Copy>(
     alloc: A,
     out: &mut String<A>,
@@ -70,13 +102,13 @@ fn push_byte_string<A: Allocator + Copy>(
     ensures { OnOk result (PrintsKind ByteStr (chars literal.now.text)
         (chars (string_bytes out.old)) (chars (string_bytes out.new))) }
 {
+    if let Some(value) = literal.value_ref() {
+        return push_bytes(alloc, out, value, literal.suffix());
+    }
     let Ok(value) = literal.value(alloc) else {
         return Err(AllocError);
     };
-    let Ok(shown) = Literal::byte_string(alloc, value.as_slice()) else {
-        return Err(AllocError);
-    };
-    push_kind(alloc, out, Kind::ByteStr, shown.text(), literal.suffix())
+    push_bytes(alloc, out, value.as_slice(), literal.suffix())
 }
 
 /// Writes the line of a C string.
