@@ -1,5 +1,5 @@
 -- Runs of plain characters.
-use Rattle.std.proofs.Common.{◌≡◌, ℕ, ◌+◌, ◌&&◌, Bool, true, false, cond, List, [], ◌∷◌, ◌++◌, refl, sym, ap, ap₂, ◌∙◌, arith, append_assoc}
+use Rattle.std.proofs.Common.{◌≡◌, ℕ, ◌+◌, ◌&&◌, ◌||◌, ◌==◌, Bool, true, false, not, cond, List, [], ◌∷◌, ◌++◌, refl, sym, ap, ap₂, ◌∙◌, arith, append_assoc}
 use Rattle.std.proofs.lemmas.Bool.{and_right}
 use Rattle.std.proofs.lemmas.List.{append_cancel_right}
 use Rattle.std.specs.List.{list_all, prefix_len}
@@ -7,6 +7,9 @@ use Rattle.rl_tokens.specs.declared.kind.Kind.{Kind}
 use Rattle.rl_tokens.specs.declared.kind.Kind.TheVariants.{Str, ByteStr, CStr, Byte, Char, Int, Float, Bool as BoolKind}
 use Rattle.rl_tokens.specs.Texts.{passes}
 use Rattle.rl_tokens.specs.Quoted.{is_string, is_plain}
+use Rattle.rl_tokens.specs.declared.scan.Marks.{Marks}
+use Rattle.rl_tokens.specs.Scanning.{IsNextMark, is_one_of, is_other}
+use Rattle.rl_grammar.specs.PlainAt.{is_kept, is_plain_float}
 use Rattle.rl_tokens.proofs.CommentBytes.{not_equal}
 use Rattle.rl_tokens.proofs.ScanLemmas.{PassesHigh}
 
@@ -32,6 +35,31 @@ same_prefix p q (x ∷ xs) same = ap₂ (λ b n. cond b (1 + n) 0) (same x) (sam
 stops_all : (q : ℕ → Bool) (xs : List ℕ) (c : ℕ) (more : List ℕ) → q c ≡ false → list_all q (xs ++ (c ∷ more)) ≡ false
 stops_all q [] c more h = ap (λ b. b && list_all q more) h
 stops_all q (x ∷ xs) c more h = and_right (q x) (list_all q (xs ++ (c ∷ more))) (stops_all q xs c more h)
+
+-- ---- a numeral that is kept
+
+abbrev changed : Marks
+changed = record { first = 95; second = 43; third = 69; fourth = 69 }
+
+twice : (a z : Bool) → not (a || z || z) ≡ not (a || z)
+twice true true = refl
+twice true false = refl
+twice false true = refl
+twice false false = refl
+
+all_same : (xs : List ℕ) → list_all (is_other changed) xs ≡ list_all is_kept xs
+all_same [] = refl
+all_same (x ∷ xs) = ap₂ (λ a b. a && b) (twice (x == 95 || x == 43) (x == 69)) (all_same xs)
+
+pub changed_none : (t : List ℕ) → list_all (is_other changed) t ≡ true → true ≡ is_plain_float t
+changed_none t h = sym (sym (all_same t) ∙ h)
+
+marked_stops : (b : Bool) → b ≡ true → not b ≡ false
+marked_stops b h = ap not h
+
+pub changed_some : (t : List ℕ) (mark : ℕ) (rest : List ℕ) → IsNextMark changed t mark rest → false ≡ is_plain_float t
+changed_some t mark rest n =
+    sym (sym (all_same t) ∙ ap (list_all (is_other changed)) n.text_is ∙ stops_all (is_other changed) n.front mark rest (marked_stops (is_one_of changed mark) n.is_mark))
 
 -- it is where what ends the body ends the run
 pub one_run : (q : ℕ → Bool) (body run rest : List ℕ) → body ++ rest ≡ run ++ rest → list_all q run ≡ true → true ≡ list_all q body

@@ -10,12 +10,13 @@ ghost use Rattle.rl_tokens.specs.Numbers.{float_digits, sign_text};
 ghost use Rattle.rl_grammar.specs.NumberAt.{sign_at};
 ghost use Rattle.rl_grammar.specs.Founds.{IsFoundNumber};
 ghost use Rattle.rl_grammar.specs.NumberShapes.{AreDigits, IsNumber};
-ghost use Rattle.rl_grammar.specs.PlainAt.{is_kept, is_plain_digits, is_plain_float, is_plain_integer};
+ghost use Rattle.rl_grammar.specs.PlainAt.{is_plain_digits, is_plain_float, is_plain_integer};
 
 use crate::contents::out_of_memory;
 use crate::found::{Found, find_float, find_int};
 use crate::rows::{after_minus, is_negative};
 use crate::strict::words::is_some_text;
+use rl_tokens::scan::{Marks, next_mark};
 use rl_tokens::text::split_char;
 use rl_tokens::{Error, Kind};
 use std::alloc::{AllocError, Allocator};
@@ -23,6 +24,14 @@ use std::fmt::Write;
 
 /// A minus, and the digits of the greatest magnitude.
 const INTEGER_DIGITS: usize = 40;
+
+/// The bytes of a float's numeral that its digits don't keep as they are.
+const CHANGED: Marks = Marks {
+    first: b'_',
+    second: b'+',
+    third: b'E',
+    fourth: b'E',
+};
 
 /// The digits of a number in base ten.
 ///
@@ -144,25 +153,14 @@ pub(crate) fn is_plain_integer(body: &str) -> bool
     is_plain_digits(after_minus(body))
 }
 
-/// Whether a float's digits keep the byte as it is.
-fn is_kept(byte: u8) -> bool
-    ensures { result ≡ is_kept byte }
-{
-    !matches!(byte, b'_' | b'+' | b'E')
-}
-
-/// Whether a float's digits keep each byte of its numeral.
-fn keeps_all(numeral: &[u8]) -> bool
-    ensures { result ≡ list_all is_kept numeral.now }
-{
-    numeral.iter().all(|byte| is_kept(*byte))
-}
-
 /// Whether a float's digits are its numeral as it stands.
 pub(crate) fn is_plain_float(numeral: &str) -> bool
     ensures { result ≡ is_plain_float (chars numeral.now) }
 {
-    keeps_all(numeral.as_bytes())
+    match next_mark(CHANGED, numeral) {
+        Some(_) => false,
+        None => true,
+    }
 }
 
 /// Writes a minus where the text begins with one.
@@ -177,11 +175,15 @@ fn push_sign<A: Allocator>(digits: &mut String<A>, text: &str) -> Result<(), All
     }
 }
 
-/// Writes a number in base ten.
+/// Writes a number in base ten. One that 64 bits hold is divided in them.
 fn push_decimal<A: Allocator>(digits: &mut String<A>, number: u128) -> Result<(), AllocError>
     ensures { OnOk result (string_bytes digits.new ≡ string_bytes digits.old ++ decimal number) }
 {
-    match write!(digits, "{number}") {
+    let written = match u64::try_from(number) {
+        Ok(small) => write!(digits, "{small}"),
+        Err(_) => write!(digits, "{number}"),
+    };
+    match written {
         Ok(()) => Ok(()),
         Err(_) => Err(AllocError),
     }

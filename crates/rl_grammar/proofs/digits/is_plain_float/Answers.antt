@@ -1,8 +1,9 @@
-use Rattle.std.proofs.Common.{ap, ◌∙◌}
-use Rattle.std.specs.List.{list_all}
-use Rattle.rl_grammar.specs.PlainAt.{is_kept}
-use Rattle.rl_grammar.proofs.RowBytes.{kept_same}
+use Rattle.std.specs.Str.{chars}
+use Rattle.rl_grammar.proofs.PlainLemmas.{changed_none, changed_some}
 use Rattle.rl_grammar.proofs.digits.is_plain_float.Goals as goal
 
-pub returns : goal.returns
-returns c = c.keeps_all.ensures ∙ ap (list_all is_kept) c.as_bytes.ensures.value ∙ kept_same c.args.numeral.now c.utf8.numeral
+pub returns-in-Some : goal.returns-in-Some
+returns-in-Some c = changed_some (chars c.args.numeral.now) _ _ c.in-Some.ensures.some
+
+pub returns-in-None : goal.returns-in-None
+returns-in-None c = changed_none (chars c.args.numeral.now) c.in-None.ensures.none
