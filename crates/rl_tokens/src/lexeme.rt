@@ -13,6 +13,7 @@ ghost use Rattle.rl_tokens.specs.LexemeAt.{
   form_view,
   start_class,
   other_class,
+  head_class,
   by_class,
   after_digit,
   lexeme_at,
@@ -22,7 +23,7 @@ ghost use Rattle.rl_tokens.specs.LexemeAt.{
 use crate::front::{begins_with, is_start, without_first};
 use crate::punct::Punct;
 use crate::text::{split_ascii, split_char};
-use number::{after_decimal, is_base_letter};
+use number::{after_decimal, after_digits, ends_number, is_base_letter};
 pub(crate) use quoted::begins_hashed_quote;
 use quoted::{after_character, after_quoted, after_raw_literal};
 use rows::{Row, after_row};
@@ -68,18 +69,42 @@ fn lexeme_at(text: &str) -> Option<(Form, &str)>
     by_character(text)
 }
 
-// The same, by the first character and what stands behind it.
+// The same, where it is no number. A quote is told by its byte too.
 #[inline(never)]
 fn by_character(text: &str) -> Option<(Form, &str)>
     ensures rest { option_map (λ p. (form_view p.0, chars p.1.now)) result ≡ lexeme_at (chars text.now) }
     ensures behind { IfSome result (λ p. IsBehind text.now p.1.now) }
     ensures shorter { IfSome result (λ p. length p.1.now < length text.now) }
 {
+    match split_ascii(text) {
+        Some((b'"', behind)) => Some((Form::Literal, after_quoted(behind)?)),
+        Some((byte, behind)) => by_first(byte as char, behind),
+        None => by_wide_character(text),
+    }
+}
+
+// The same, where the first character is perhaps past ASCII.
+#[inline(never)]
+fn by_wide_character(text: &str) -> Option<(Form, &str)>
+    ensures rest { option_map (λ p. (form_view p.0, chars p.1.now)) result ≡ lexeme_at (chars text.now) }
+    ensures behind { IfSome result (λ p. IsBehind text.now p.1.now) }
+    ensures shorter { IfSome result (λ p. length p.1.now < length text.now) }
+{
     let (c, behind) = split_char(text)?;
+    by_first(c, behind)
+}
+
+// By the first character, and what stands behind it.
+#[inline(always)]
+fn by_first(c: char, text: &str) -> Option<(Form, &str)>
+    ensures rest { option_map (λ p. (form_view p.0, chars p.1.now)) result
+        ≡ by_class (head_class c) c (chars text.now) }
+    ensures behind { IfSome result (λ p. IsBehind text.now p.1.now) }
+{
     if is_start(c) {
-        after_start(c, behind)
+        after_start(c, text)
     } else {
-        after_other(c, behind)
+        after_other(c, text)
     }
 }
 
@@ -145,9 +170,22 @@ fn after_other(c: char, text: &str) -> Option<(Form, &str)>
     }
 }
 
-// What follows the number behind whose first digit the text stands.
+// What follows the number behind whose first digit the text stands. Most end behind a row of digits.
 #[inline(always)]
 fn after_digit(c: char, text: &str) -> &str
+    ensures rest { chars result.now ≡ after_digit c (chars text.now) }
+    ensures behind { IsBehind text.now result.now }
+{
+    let rest = after_digits(text);
+    if ends_number(rest) {
+        return rest;
+    }
+    after_long_digit(c, text)
+}
+
+// The same for any number.
+#[inline(never)]
+fn after_long_digit(c: char, text: &str) -> &str
     ensures rest { chars result.now ≡ after_digit c (chars text.now) }
     ensures behind { IsBehind text.now result.now }
 {
