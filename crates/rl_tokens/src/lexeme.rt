@@ -23,7 +23,7 @@ ghost use Rattle.rl_tokens.specs.LexemeAt.{
 use crate::front::{begins_with, is_start, without_first};
 use crate::punct::Punct;
 use crate::text::{split_ascii, split_char};
-use number::{after_decimal, after_digits, ends_number, is_base_letter};
+use number::{after_decimal, after_digits, ends_number};
 pub(crate) use quoted::begins_hashed_quote;
 use quoted::{after_character, after_quoted, after_raw_literal};
 use rows::{Row, after_row};
@@ -54,16 +54,14 @@ pub(crate) fn first_lexeme(text: &str) -> Option<(Form, &str)>
 
 // The same, as the first characters tell it. A digit is told by its byte, before all else.
 #[inline(always)]
-#[tactic(auto, using(crate::proofs::BehindLemmas::behind_step, crate::proofs::NumberEnds::digit_first))]
 fn lexeme_at(text: &str) -> Option<(Form, &str)>
     ensures rest { option_map (λ p. (form_view p.0, chars p.1.now)) result ≡ lexeme_at (chars text.now) }
     ensures behind { IfSome result (λ p. IsBehind text.now p.1.now) }
     ensures shorter { IfSome result (λ p. length p.1.now < length text.now) }
 {
     if let Some((byte, behind)) = split_ascii(text) {
-        let c = byte as char;
-        if c.is_ascii_digit() {
-            return Some((Form::Literal, after_digit(c, behind)));
+        if (byte as char).is_ascii_digit() {
+            return Some((Form::Literal, after_digit(behind)));
         }
     }
     by_character(text)
@@ -161,7 +159,7 @@ fn after_other(c: char, text: &str) -> Option<(Form, &str)>
         return Some((Form::Mark(c), text));
     }
     if c.is_ascii_digit() {
-        return Some((Form::Literal, after_digit(c, text)));
+        return Some((Form::Literal, after_digit(text)));
     }
     match c {
         '"' => Some((Form::Literal, after_quoted(text)?)),
@@ -170,33 +168,18 @@ fn after_other(c: char, text: &str) -> Option<(Form, &str)>
     }
 }
 
-// What follows the number behind whose first digit the text stands. Most end behind a row of digits.
+// What follows the number behind whose first digit the text stands, whichever that is: the letter of a base, and the row
+// behind it, are where a suffix would stand. Most numbers end behind a row of digits.
 #[inline(always)]
-fn after_digit(c: char, text: &str) -> &str
-    ensures rest { chars result.now ≡ after_digit c (chars text.now) }
+fn after_digit(text: &str) -> &str
+    ensures rest { (digit : ℕ) → chars result.now ≡ after_digit digit (chars text.now) }
     ensures behind { IsBehind text.now result.now }
 {
     let rest = after_digits(text);
     if ends_number(rest) {
         return rest;
     }
-    after_long_digit(c, text)
-}
-
-// The same for any number.
-#[inline(never)]
-fn after_long_digit(c: char, text: &str) -> &str
-    ensures rest { chars result.now ≡ after_digit c (chars text.now) }
-    ensures behind { IsBehind text.now result.now }
-{
-    if c == '0' {
-        if let Some((letter, behind)) = split_char(text) {
-            if is_base_letter(letter) {
-                return after_row(Row::Continue, behind);
-            }
-        }
-    }
-    after_decimal(text)
+    after_decimal(rest)
 }
 
 /// Whether a hash and an identifier's start begin the text.

@@ -5,14 +5,15 @@ ghost use Rattle.std.specs.Prelude.{◌≡◌, ◌<◌, ◌==◌, ◌||◌, not,
 ghost use Rattle.std.specs.Char.{is_ascii_digit};
 ghost use Rattle.std.specs.Str.{chars};
 ghost use Rattle.rl_tokens.specs.Texts.{is_start, passes, IsBehind};
-ghost use Rattle.rl_tokens.specs.Lexemes.{is_base_letter, after_run, after_sign, begins_dot};
+ghost use Rattle.rl_tokens.specs.Lexemes.{after_run, after_sign, begins_dot};
 ghost use Rattle.rl_tokens.specs.LexemeAt.{after_fraction, after_exponent, after_decimal};
 
 use super::rows::{Row, after_row, after_suffix};
 use crate::front::{is_start, without_first};
 use crate::text::{split_ascii, split_char};
 
-/// What follows the decimal behind whose first digit the text stands.
+/// What follows the decimal behind some of whose digits the text stands.
+#[inline(never)]
 pub(crate) fn after_decimal(text: &str) -> &str
     ensures rest { chars result.now ≡ after_decimal (chars text.now) }
     ensures behind { IsBehind text.now result.now }
@@ -57,13 +58,6 @@ pub(crate) fn ends_number(text: &str) -> bool
         Some((byte, _)) => !(byte == b'.' || is_start(byte as char)),
         None => false,
     }
-}
-
-/// Whether the character tells a base behind a zero.
-pub(crate) fn is_base_letter(c: char) -> bool
-    ensures { result ≡ is_base_letter c }
-{
-    c == 'x' || c == 'o' || c == 'b'
 }
 
 // What follows the dot part, where there is one.
