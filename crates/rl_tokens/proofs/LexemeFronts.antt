@@ -58,7 +58,7 @@ behind_slash c = cond (is_punct c) MarkHead (behind_punct c)
 abbrev behind_delimiter : ℕ → HeadClass
 behind_delimiter c = cond (c == 47) SlashHead (behind_slash c)
 
-class34 : head_class 34 ≡ QuoteHead
+pub class34 : head_class 34 ≡ QuoteHead
 class34 = class_other 34 (start_ascii 34 (lit< tt))
 
 class39 : head_class 39 ≡ ApostropheHead

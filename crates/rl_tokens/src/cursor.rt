@@ -25,7 +25,20 @@ pub struct Lexeme<'t> {
 }
 
 /// A text that is cut into tokens as they are asked for. White space and plain comments between them are dropped. No
-/// memory is taken.
+/// memory is taken, and a delimiter is a token like any other: whether groups are closed is for the caller, or [`lex`].
+///
+/// ```
+/// let mut tokens = Tokens::new("x = -0xF; // less sixteen, and one more");
+/// let mut literals = 0;
+/// for token in &mut tokens {
+///     if matches!(token.form, Form::Literal) {
+///         literals += 1; // at token.lo..token.hi, as token.text
+///     }
+/// }
+/// assert!(literals == 1 && tokens.fault().is_none());
+/// ```
+///
+/// [`lex`]: crate::lex
 #[derive(Drop)]
 pub struct Tokens<'t> {
     text: &'t str,

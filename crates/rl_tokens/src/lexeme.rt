@@ -13,6 +13,7 @@ ghost use Rattle.rl_tokens.specs.LexemeAt.{
   form_view,
   start_class,
   other_class,
+  head_class,
   by_class,
   after_digit,
   lexeme_at,
@@ -23,7 +24,7 @@ use crate::characters::is_start;
 use crate::front::{begins_with, without_first};
 use crate::punct::Punct;
 use crate::text::{split_ascii, split_char};
-use number::{after_decimal, is_base_letter};
+use number::{after_decimal, after_digits, ends_number};
 pub(crate) use quoted::begins_hashed_quote;
 use quoted::{after_character, after_quoted, after_raw_literal};
 use rows::{Row, after_row};
@@ -54,33 +55,55 @@ pub(crate) fn first_lexeme(text: &str) -> Option<(Form, &str)>
 
 // The same, as the first characters tell it. A digit is told by its byte, before all else.
 #[inline(always)]
-#[tactic(auto, using(crate::proofs::BehindLemmas::behind_step, crate::proofs::NumberEnds::digit_first))]
 fn lexeme_at(text: &str) -> Option<(Form, &str)>
     ensures rest { option_map (λ p. (form_view p.0, chars p.1.now)) result ≡ lexeme_at (chars text.now) }
     ensures behind { IfSome result (λ p. IsBehind text.now p.1.now) }
     ensures shorter { IfSome result (λ p. length p.1.now < length text.now) }
 {
     if let Some((byte, behind)) = split_ascii(text) {
-        let c = byte as char;
-        if c.is_ascii_digit() {
-            return Some((Form::Literal, after_digit(c, behind)));
+        if (byte as char).is_ascii_digit() {
+            return Some((Form::Literal, after_digit(behind)));
         }
     }
     by_character(text)
 }
 
-// The same, by the first character and what stands behind it.
+// The same, where it is no number. A quote is told by its byte too.
 #[inline(never)]
 fn by_character(text: &str) -> Option<(Form, &str)>
     ensures rest { option_map (λ p. (form_view p.0, chars p.1.now)) result ≡ lexeme_at (chars text.now) }
     ensures behind { IfSome result (λ p. IsBehind text.now p.1.now) }
     ensures shorter { IfSome result (λ p. length p.1.now < length text.now) }
 {
+    match split_ascii(text) {
+        Some((b'"', behind)) => Some((Form::Literal, after_quoted(behind)?)),
+        Some((byte, behind)) => by_first(byte as char, behind),
+        None => by_wide_character(text),
+    }
+}
+
+// The same, where the first character is perhaps past ASCII.
+#[inline(never)]
+fn by_wide_character(text: &str) -> Option<(Form, &str)>
+    ensures rest { option_map (λ p. (form_view p.0, chars p.1.now)) result ≡ lexeme_at (chars text.now) }
+    ensures behind { IfSome result (λ p. IsBehind text.now p.1.now) }
+    ensures shorter { IfSome result (λ p. length p.1.now < length text.now) }
+{
     let (c, behind) = split_char(text)?;
+    by_first(c, behind)
+}
+
+// By the first character, and what stands behind it.
+#[inline(always)]
+fn by_first(c: char, text: &str) -> Option<(Form, &str)>
+    ensures rest { option_map (λ p. (form_view p.0, chars p.1.now)) result
+        ≡ by_class (head_class c) c (chars text.now) }
+    ensures behind { IfSome result (λ p. IsBehind text.now p.1.now) }
+{
     if is_start(c) {
-        after_start(c, behind)
+        after_start(c, text)
     } else {
-        after_other(c, behind)
+        after_other(c, text)
     }
 }
 
@@ -137,7 +160,7 @@ fn after_other(c: char, text: &str) -> Option<(Form, &str)>
         return Some((Form::Mark(c), text));
     }
     if c.is_ascii_digit() {
-        return Some((Form::Literal, after_digit(c, text)));
+        return Some((Form::Literal, after_digit(text)));
     }
     match c {
         '"' => Some((Form::Literal, after_quoted(text)?)),
@@ -146,20 +169,18 @@ fn after_other(c: char, text: &str) -> Option<(Form, &str)>
     }
 }
 
-// What follows the number behind whose first digit the text stands.
+// What follows the number behind whose first digit the text stands, whichever that is: the letter of a base, and the row
+// behind it, are where a suffix would stand. Most numbers end behind a row of digits.
 #[inline(always)]
-fn after_digit(c: char, text: &str) -> &str
-    ensures rest { chars result.now ≡ after_digit c (chars text.now) }
+fn after_digit(text: &str) -> &str
+    ensures rest { (digit : ℕ) → chars result.now ≡ after_digit digit (chars text.now) }
     ensures behind { IsBehind text.now result.now }
 {
-    if c == '0' {
-        if let Some((letter, behind)) = split_char(text) {
-            if is_base_letter(letter) {
-                return after_row(Row::Continue, behind);
-            }
-        }
+    let rest = after_digits(text);
+    if ends_number(rest) {
+        return rest;
     }
-    after_decimal(text)
+    after_decimal(rest)
 }
 
 /// Whether a hash and an identifier's start begin the text.

@@ -1,55 +1,64 @@
 //! Numbers.
 #![tactic(auto, using(crate::proofs::BehindLemmas::behind_step))]
 
-ghost use Rattle.std.specs.Prelude.{◌≡◌, ◌==◌, ◌||◌, not, IsTrue};
+ghost use Rattle.std.specs.Prelude.{◌≡◌, ◌<◌, ◌==◌, ◌||◌, not, length, IsTrue, IfSome, IfNone};
+ghost use Rattle.std.specs.Char.{is_ascii_digit};
 ghost use Rattle.std.specs.Str.{chars};
 ghost use Rattle.rl_tokens.specs.Texts.{is_start, passes, IsBehind};
-ghost use Rattle.rl_tokens.specs.Lexemes.{is_base_letter, after_sign, begins_dot};
-ghost use Rattle.rl_tokens.specs.LexemeAt.{after_fraction, after_exponent, after_decimal, after_suffix};
+ghost use Rattle.rl_tokens.specs.Lexemes.{after_run, after_sign, begins_dot};
+ghost use Rattle.rl_tokens.specs.LexemeAt.{after_fraction, after_exponent, after_decimal};
 
 use super::rows::{Row, after_row, after_suffix};
 use crate::characters::is_start;
 use crate::front::without_first;
 use crate::text::{split_ascii, split_char};
 
-/// What follows the decimal behind whose first digit the text stands.
-#[inline(always)]
+/// What follows the decimal behind some of whose digits the text stands.
+#[inline(never)]
 pub(crate) fn after_decimal(text: &str) -> &str
     ensures rest { chars result.now ≡ after_decimal (chars text.now) }
     ensures behind { IsBehind text.now result.now }
 {
-    let rest = after_row(Row::Numeral, text);
-    if ends_number(rest) {
-        return rest;
-    }
-    after_parts(rest)
+    after_suffix(after_exponent(after_fraction(after_row(Row::Numeral, text))))
 }
 
-// Whether the text begins with a character of ASCII that goes on with no number.
+/// What follows the longest row of digits, perhaps an empty one.
 #[inline(always)]
-fn ends_number(text: &str) -> bool
+pub(crate) fn after_digits(text: &str) -> &str
+    ensures rest { chars result.now ≡ after_run is_ascii_digit (chars text.now) }
+    ensures behind { IsBehind text.now result.now }
+{
+    let mut rest = text;
+    while let Some(behind) = without_digit(rest) {
+        rest = behind;
+    }
+    rest
+}
+
+// The text behind its first character, where that is a digit.
+#[inline(always)]
+#[tactic(auto, using(crate::proofs::BehindLemmas::behind_step, crate::proofs::NumberEnds::no_digit))]
+fn without_digit(text: &str) -> Option<&str>
+    ensures some { IfSome result (λ rest. after_run is_ascii_digit (chars text.now) ≡ after_run is_ascii_digit (chars rest.now)) }
+    ensures none { IfNone result (after_run is_ascii_digit (chars text.now) ≡ chars text.now) }
+    ensures behind { IfSome result (λ rest. IsBehind text.now rest.now) }
+    ensures shorter { IfSome result (λ rest. length rest.now < length text.now) }
+{
+    match split_ascii(text) {
+        Some((byte, behind)) if (byte as char).is_ascii_digit() => Some(behind),
+        _ => None,
+    }
+}
+
+/// Whether the text begins with a character of ASCII that goes on with no number.
+#[inline(always)]
+pub(crate) fn ends_number(text: &str) -> bool
     ensures { IsTrue result → IsTrue (passes (λ c. not (c == 46 || is_start c)) (chars text.now)) }
 {
     match split_ascii(text) {
         Some((byte, _)) => !(byte == b'.' || is_start(byte as char)),
         None => false,
     }
-}
-
-// What follows the dot part, the exponent and the suffix, where these stand.
-#[inline(never)]
-fn after_parts(text: &str) -> &str
-    ensures rest { chars result.now ≡ after_suffix (after_exponent (after_fraction (chars text.now))) }
-    ensures behind { IsBehind text.now result.now }
-{
-    after_suffix(after_exponent(after_fraction(text)))
-}
-
-/// Whether the character tells a base behind a zero.
-pub(crate) fn is_base_letter(c: char) -> bool
-    ensures { result ≡ is_base_letter c }
-{
-    c == 'x' || c == 'o' || c == 'b'
 }
 
 // What follows the dot part, where there is one.

@@ -1,9 +1,13 @@
-use Rattle.std.proofs.Common.{sym, ◌∙◌, ap}
-use Rattle.std.specs.Str.{chars}
-use Rattle.rl_tokens.specs.LexemeAt.{after_suffix, after_exponent, after_fraction}
-use Rattle.rl_tokens.proofs.NumberEnds.{number_ends}
+-- The rest is behind the text, step by step.
+use Rattle.rl_tokens.proofs.BehindLemmas.{behind_step}
 use Rattle.rl_tokens.proofs.lexeme.number.after_decimal.Goals as goal
 
-pub returns-then-ends_number-clause-rest : goal.returns-then-ends_number-clause-rest
-returns-then-ends_number-clause-rest c =
-    sym (number_ends (chars c.after_row-rest.result.now) (c.ends_number.ensures c.if-ends_number.true)) ∙ ap (λ s. after_suffix (after_exponent (after_fraction s))) c.after_row-rest.ensures.rest
+pub returns-clause-behind : goal.returns-clause-behind
+returns-clause-behind c =
+    let t = c.args.text.now in
+    let whole = c.after_row.result.now in
+    let fraction = c.after_fraction.result.now in
+    let exponent = c.after_exponent.result.now in
+    behind_step t exponent c.after_suffix.result.now
+    (behind_step t fraction exponent (behind_step t whole fraction c.after_row.ensures.behind c.after_fraction.ensures.behind) c.after_exponent.ensures.behind)
+    c.after_suffix.ensures.behind
