@@ -8,7 +8,9 @@ use crate::tell::Tell;
 use crate::tokens::{UNFIT, c_string_of};
 use crate::trial::{HERE, Scant, Trial};
 use rl_tokens::{Error, Literal, ParseBuffer, Parser};
-use rust_literals::{Lit, LitBool, LitByte, LitByteStr, LitCStr, LitChar, LitFloat, LitInt, LitStr};
+use rust_literals::{
+    Lit, LitBool, LitByte, LitByteStr, LitCStr, LitChar, LitFloat, LitInt, LitStr,
+};
 
 /// A parser of a copy of the literal token that stands next. Where memory for it is refused it says so at that token, and
 /// has moved past it.
@@ -41,7 +43,8 @@ pub fn string_call(name: &str, trial: Trial<'_>, text: &str, page: &mut Page) {
     if !is_of_value(name) {
         return call_of_struct::<LitStr<Scant<'_>>>(name, trial, text, page);
     }
-    let (Some(literal), Some(other)) = (made::<LitStr<Scant<'_>>>(trial, text), made(trial, text)) else {
+    let (Some(literal), Some(other)) = (made::<LitStr<Scant<'_>>>(trial, text), made(trial, text))
+    else {
         return page.put(UNFIT);
     };
     trial.begins();

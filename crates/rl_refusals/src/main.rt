@@ -19,7 +19,7 @@ use crate::page::Page;
 use crate::rows::Row;
 use std::alloc::{AllocError, Global};
 use std::io;
-use std::io::{BufRead, BufReader, BufWriter, Write};
+use std::io::Write;
 
 /// What is printed for a line of input.
 fn answer(alloc: Global, line: &str) -> Result<String, AllocError> {
@@ -40,10 +40,11 @@ fn answer(alloc: Global, line: &str) -> Result<String, AllocError> {
 
 fn main(rt: HostRuntime) -> io::Result<()> {
     let alloc = rt.alloc();
-    let mut out = BufWriter::new(alloc, io::writer(&rt))?;
-    for line in BufReader::new(alloc, rt.reader())?.lines(alloc) {
-        let answer = answer(alloc, line?.as_str())?;
+    let input = io::read_to_string(alloc, rt.stdin())?;
+    let mut out = rt.stdout();
+    for line in input.as_str().lines() {
+        let answer = answer(alloc, line)?;
         out.write_all(answer.as_bytes())?;
     }
-    out.flush()
+    Ok(())
 }

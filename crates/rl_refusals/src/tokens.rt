@@ -3,9 +3,7 @@
 use crate::page::Page;
 use crate::tell::{Rest, Tell};
 use crate::trial::{HERE, Scant, Trial};
-use rl_tokens::{
-    CString, Ident, Literal, Parse, ParseBuffer, TokenTree, ident, lex,
-};
+use rl_tokens::{CString, Ident, Literal, Parse, ParseBuffer, TokenTree, ident, lex};
 
 /// What is told where the values for a call can't be made of the text.
 pub const UNFIT: &str = "unfit text";
