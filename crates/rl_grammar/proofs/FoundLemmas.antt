@@ -10,7 +10,7 @@ use Rattle.rl_tokens.specs.declared.kind.Kind.TheVariants.{Str, ByteStr, CStr, B
 use Rattle.rl_tokens.specs.Texts.{IsBehind}
 use Rattle.rl_tokens.specs.Numbers.{FloatReads, float_digits}
 use Rattle.rl_tokens.specs.Quoted.{is_string, is_single}
-use Rattle.rl_tokens.specs.Reading.{Contents, Digits, Truth, HasNoInteger, HasSuffix, ReadsInt, ReadsQuoted, quoted_contents, truth_text}
+use Rattle.rl_tokens.specs.Reading.{Contents, Digits, Truth, HasNoInteger, HasSuffix, ReadsAs, ReadsInt, ReadsQuoted, quoted_contents, truth_text}
 use Rattle.rl_tokens.proofs.BehindLemmas.{cut_boundary, cut_drop}
 use Rattle.rl_grammar.specs.declared.quoted.Form.{Form}
 use Rattle.rl_grammar.specs.declared.quoted.Form.TheVariants.{Cooked as CookedForm, Raw as RawForm, Single as SingleForm}
@@ -88,6 +88,10 @@ quoted_found t Char body u q = record { reads = (_, quoted_reads Char t body q);
 quoted_found t Int body u q = absurd (no_form Int t body refl refl q)
 quoted_found t Float body u q = absurd (no_form Float t body refl refl q)
 quoted_found t BoolKind body u q = absurd (no_form BoolKind t body refl refl q)
+
+-- what is found is a reading of its kind
+pub found_reads : (t : List ℕ) (f : Found) → IsFound t f → ReadsAs f.kind (chars t)
+found_reads t f h = (h.reads.0, chars (suffix_in t f.body), h.reads.1)
 
 -- ---- numbers
 

@@ -1,21 +1,22 @@
 -- The digits of a number that was found.
-use Rattle.std.proofs.Common.{◌≡◌, ◌≢◌, ℕ, ◌⊎◌, inl, inr, Bool, true, List, ◌++◌, refl, sym, ap, subst, ◌∙◌}
+use Rattle.std.proofs.Common.{◌≡◌, ◌≢◌, ℕ, ◌⊎◌, inl, inr, Bool, true, false, List, ◌++◌, refl, sym, ap, subst, ◌∙◌}
 use Rattle.std.proofs.lemmas.List.{append_cancel_right}
 use Rattle.std.proofs.lemmas.Str.{chars-append}
 use Rattle.std.specs.Str.{chars, IsUtf8}
 use Rattle.std.specs.Fmt.{decimal}
 use Rattle.rl_tokens.specs.declared.kind.Kind.{Kind}
-use Rattle.rl_tokens.specs.declared.kind.Kind.TheVariants.{Int, Float}
+use Rattle.rl_tokens.specs.declared.kind.Kind.TheVariants.{Str, ByteStr, CStr, Byte, Char, Int, Float, Bool as BoolKind}
 use Rattle.rl_tokens.specs.Numbers.{FloatReads, float_digits, sign_text}
-use Rattle.rl_tokens.specs.Reading.{HasSuffix}
+use Rattle.rl_tokens.specs.Reading.{HasSuffix, HasNoInteger}
 use Rattle.rl_grammar.specs.declared.found.Found.{Found}
 use Rattle.rl_grammar.specs.Founds.{IsFound, IsFoundFloat, IsFoundNumber, StandsIn, body_in, suffix_in}
 use Rattle.rl_grammar.specs.NumberAt.{sign_at}
-use Rattle.rl_grammar.specs.NumberShapes.{AreDigits, IsWithin, IsCutInteger}
+use Rattle.rl_grammar.specs.NumberShapes.{AreDigits, HasNoFloat, IsCutInteger, IsNumber, IsPast, IsWithin}
 use Rattle.rl_grammar.specs.WholeShapes.{IsCut, IsPlain}
 use Rattle.rl_grammar.proofs.DigitLemmas.{int_contents, same_numeral}
 use Rattle.rl_grammar.proofs.FoundLemmas.{body_text, Whether}
-use Rattle.rl_grammar.proofs.PlainNumberLemmas.{plain_integer, plain_float, plain_contents, plain_numeral}
+use Rattle.rl_grammar.proofs.NumberLemmas.{past_number}
+use Rattle.rl_grammar.proofs.PlainNumberLemmas.{no_plain_float, plain_integer, plain_float, plain_contents, plain_numeral}
 
 -- ---- which number was found
 
@@ -86,3 +87,37 @@ pub numeral_digits : (t bs : List ℕ) (f : Found) → IsUtf8 t → f.kind ≢ I
 numeral_digits t bs f u n h is =
     let r = number_float t f u n h in
     subst (λ k. AreDigits k (chars t) (chars bs)) (sym r.kind) (λ m x g. same_numeral (chars t) (chars (body_in t f.body)) (chars (suffix_in t f.body)) (chars bs) m x r.reads is g)
+
+-- ---- what isn't found is no number
+
+int_number : (k : Kind) (t : List ℕ) → IsNumber k t → k ≡ Int → IsNumber Int t
+int_number k t h e = subst (λ j. IsNumber j t) e h
+
+pub not_past : (k : Kind) (t : List ℕ) → IsNumber k t → k ≡ Int → IsPast t → ⊥
+not_past k t h e p = let (v, x, r) = int_number k t h e in past_number t p Int v x r
+
+pub not_none : (k : Kind) (t : List ℕ) → IsNumber k t → k ≡ Int → HasNoInteger t → ⊥
+not_none k t h e n = let (v, x, r) = int_number k t h e in n r.sign r.magnitude x r.reads
+
+pub is_float : (k : Kind) (t : List ℕ) → IsNumber k t → k ≢ Int → IsNumber Float t
+is_float Int t h n = absurd (n refl)
+is_float Float t h n = h
+is_float Str t h n = absurd h
+is_float ByteStr t h n = absurd h
+is_float CStr t h n = absurd h
+is_float Byte t h n = absurd h
+is_float Char t h n = absurd h
+is_float BoolKind t h n = absurd h
+
+pub past_not_plain : (t : List ℕ) → IsPast (chars t) → Whether false Int t
+past_not_plain t p = ((λ e. absurd (cc)), (λ q. absurd (past_number (chars t) p Int _ q.suffix q.reads)))
+
+pub none_not_plain : (t : List ℕ) → HasNoInteger (chars t) → Whether false Int t
+none_not_plain t n = ((λ e. absurd (cc)), (λ q. absurd (n q.reads.sign q.reads.magnitude q.suffix q.reads.reads)))
+
+pub float_not_plain : (t : List ℕ) → HasNoFloat (chars t) → Whether false Float t
+float_not_plain t n = no_plain_float t n
+
+-- what is found tells
+pub plain_of : (k : Kind) (t : List ℕ) (f : Found) → f.kind ≡ k → IsFound t f → Whether f.body.plain k t
+plain_of k t f e h = subst (λ j. Whether f.body.plain j t) e h.plain

@@ -1,6 +1,6 @@
 -- Strict raw forms: hashes, contents up to the first closer, and the suffix behind it.
-use Rattle.std.proofs.Common.{◌≡◌, ◌≢◌, ℕ, zero, suc, ◌<◌, ◌≤◌, ◌⊎◌, ◌&&◌, Bool, true, false, not, ◌==◌, cond, List, [], ◌∷◌, ◌++◌, length, drop, replicate, refl, sym, ap, subst, ◌∙◌, inl, inr, arith, nat_lt}
-use Rattle.std.proofs.lemmas.Bool.{and_from, and_parts, both_ways, cases_Bool, eqb-true, false_from_ne_true}
+use Rattle.std.proofs.Common.{◌≡◌, ◌≢◌, ℕ, zero, suc, ◌<◌, ◌≤◌, ◌⊎◌, ◌&&◌, ◌||◌, Bool, true, false, not, ◌==◌, cond, List, [], ◌∷◌, ◌++◌, length, drop, replicate, refl, sym, ap, subst, ◌∙◌, inl, inr, arith, nat_lt}
+use Rattle.std.proofs.lemmas.Bool.{and_from, and_parts, both_ways, cases_Bool, eqb-true, false_from_ne_true, not-true}
 use Rattle.std.proofs.lemmas.List.{append_cancel_right, length-replicate}
 use Rattle.std.proofs.lemmas.Str.{encodes-chars}
 use Rattle.std.proofs.Math.Seq.{drop-append_seam}
@@ -12,9 +12,11 @@ use Rattle.rl_tokens.specs.declared.kind.Kind.TheVariants.{Str, ByteStr, CStr, B
 use Rattle.rl_tokens.specs.Texts.{begins}
 use Rattle.rl_tokens.specs.Quoted.{is_string}
 use Rattle.rl_tokens.specs.Strict.{IsRawInside, IsStrictSuffix}
+use Rattle.rl_tokens.specs.declared.scan.Marks.{Marks}
+use Rattle.rl_tokens.specs.Scanning.{is_other}
 use Rattle.rl_tokens.proofs.StrictNumbers.{begins_front}
 use Rattle.rl_grammar.specs.Forms.{after_hashes}
-use Rattle.rl_grammar.specs.StrictAt.{ends_raw, is_raw_character, is_strict_suffix}
+use Rattle.rl_grammar.specs.StrictAt.{ends_raw, is_inside, is_raw_character, is_strict_suffix}
 use Rattle.rl_grammar.specs.StrictShapes.{ClosesInside, ClosesRaw}
 use Rattle.rl_grammar.proofs.IntegerLemmas.{begins_is}
 use Rattle.rl_grammar.proofs.RawLemmas.{hashes_sound, hashes_complete}
@@ -71,6 +73,52 @@ begins_more (k ∷ p) (c ∷ cs) b h =
 raw_on : (k : Kind) (hashes : List ℕ) (c : ℕ) (cs : List ℕ) → (c == 34 && begins hashes cs) ≡ false → ends_raw k hashes (c ∷ cs) ≡ (is_raw_character k c && ends_raw k hashes cs)
 unfolding ends_raw
 raw_on k hashes c cs h = ap (λ b. cond b (is_strict_suffix (drop (length hashes) cs)) (is_raw_character k c && ends_raw k hashes cs)) h
+
+-- the loop goes past a run at once
+pub raw_run : (k : Kind) (hashes run rest : List ℕ) → list_all (is_inside k) run ≡ true → ends_raw k hashes (run ++ rest) ≡ ends_raw k hashes rest
+raw_run k hashes [] rest each = refl
+raw_run k hashes (c ∷ cs) rest each =
+    let b = and_parts (is_inside k c) (list_all (is_inside k) cs) each in
+    let p = and_parts (not (c == 34)) (is_raw_character k c) b.0 in
+    raw_on k hashes c (cs ++ rest) (ap (λ z. z && begins hashes (cs ++ rest)) (not-true (c == 34) p.0))
+    ∙ ap (λ z. z && ends_raw k hashes (cs ++ rest)) p.1
+    ∙ raw_run k hashes cs rest b.1
+
+pub raw_past : (k : Kind) (hashes t x run : List ℕ) (s : Bool) → t ≡ run ++ x → list_all (is_inside k) run ≡ true → ends_raw k hashes t ≡ s → ends_raw k hashes x ≡ s
+raw_past k hashes t x run s e each same = sym (raw_run k hashes run x each) ∙ ap (ends_raw k hashes) (sym e) ∙ same
+
+-- one turn at a character that closes nothing
+pub turn_on : (k : Kind) (hashes t cs : List ℕ) (c : ℕ) (r s : Bool) → t ≡ c ∷ cs → (c == 34 && begins hashes cs) ≡ false → r ≡ is_raw_character k c → r ≡ true → ends_raw k hashes t ≡ s → ends_raw k hashes cs ≡ s
+turn_on k hashes t cs c true s e stays is raw same =
+    ap (λ z. z && ends_raw k hashes cs) is ∙ sym (raw_on k hashes c cs stays) ∙ ap (ends_raw k hashes) (sym e) ∙ same
+turn_on k hashes t cs c false s e stays is raw same = absurd (cc)
+
+-- what stops at these marks stands inside
+str_inside : (a b : Bool) → not (a || b || b || b) ≡ true → (not a && not b) ≡ true
+str_inside true b h = absurd (cc)
+str_inside false true h = absurd (cc)
+str_inside false false h = refl
+
+c_inside : (a b z : Bool) → not (a || b || z || z) ≡ true → (not a && (not z && not b)) ≡ true
+c_inside true b z h = absurd (cc)
+c_inside false true z h = absurd (cc)
+c_inside false false true h = absurd (cc)
+c_inside false false false h = refl
+
+pub str_run : (m : Marks) (run : List ℕ) → m ≡ record { first = 34; second = 13; third = 13; fourth = 13 } → list_all (is_other m) run ≡ true → list_all (is_inside Str) run ≡ true
+str_run m run e each = go run (ap (λ n. list_all (is_other n) run) (sym e) ∙ each)
+  where
+    go : (cs : List ℕ) → list_all (is_other (record { first = 34; second = 13; third = 13; fourth = 13 })) cs ≡ true → list_all (is_inside Str) cs ≡ true
+    go [] h = refl
+    go (c ∷ cs) h =
+        let b = and_parts (not (c == 34 || c == 13 || c == 13 || c == 13)) (list_all (is_other (record { first = 34; second = 13; third = 13; fourth = 13 })) cs) h in
+        and_from (is_inside Str c) (list_all (is_inside Str) cs) (str_inside (c == 34) (c == 13) b.0) (go cs b.1)
+
+pub c_run : (cs : List ℕ) → list_all (is_other (record { first = 34; second = 13; third = 0; fourth = 0 })) cs ≡ true → list_all (is_inside CStr) cs ≡ true
+c_run [] h = refl
+c_run (c ∷ cs) h =
+    let b = and_parts (not (c == 34 || c == 13 || c == 0 || c == 0)) (list_all (is_other (record { first = 34; second = 13; third = 0; fourth = 0 })) cs) h in
+    and_from (is_inside CStr c) (list_all (is_inside CStr) cs) (c_inside (c == 34) (c == 13) (c == 0) b.0) (c_run cs b.1)
 
 -- and at the closer
 raw_close : (k : Kind) (hashes x : List ℕ) → ends_raw k hashes (34 ∷ (hashes ++ x)) ≡ is_strict_suffix x

@@ -1,14 +1,15 @@
 -- Strict units up to a quote, and the suffix behind it.
-use Rattle.std.proofs.Common.{◌≡◌, ℕ, Bool, true, false, ◌==◌, List, [], ◌∷◌, ◌++◌, length, Some, None, refl, sym, ap, subst, ◌∙◌, arith, append_assoc, append-nil}
+use Rattle.std.proofs.Common.{◌≡◌, ℕ, Bool, true, false, not, cond, ◌&&◌, ◌||◌, ◌==◌, List, [], ◌∷◌, ◌++◌, length, Some, None, refl, sym, ap, subst, ◌∙◌, arith, append_assoc, append-nil}
 use Rattle.std.proofs.lemmas.Bool.{and_from, and_parts, both_ways, eqb-true}
 use Rattle.std.specs.List.{list_all, flat_map}
 use Rattle.std.specs.Prelude.{◌↔◌, IsTrue}
+use Rattle.rl_tokens.proofs.Basics.{apart}
 use Rattle.rl_tokens.specs.declared.kind.Kind.{Kind}
 use Rattle.rl_tokens.specs.declared.kind.Kind.TheVariants.{Str, ByteStr, CStr, Byte, Char, Int, Float, Bool as BoolKind}
 use Rattle.rl_tokens.specs.Texts.{passes}
-use Rattle.rl_tokens.specs.Quoted.{is_single, is_string}
+use Rattle.rl_tokens.specs.Quoted.{is_plain, is_single, is_string}
 use Rattle.rl_tokens.specs.Strict.{StrictUnit, Itself, QuoteEscape, PlainEscape, AsciiEscape, ByteEscape, UnicodeEscape, LineBreak, strict_text, is_dropped_blank, is_strict_unit, BlanksEnd, HasUnits, ends, IsStrictSuffix}
-use Rattle.rl_grammar.specs.StrictAt.{ends_quoted, is_strict_suffix, unit_rest}
+use Rattle.rl_grammar.specs.StrictAt.{ends_quoted, escape_rest, is_strict_suffix, unit_rest}
 use Rattle.rl_grammar.specs.StrictShapes.{ClosesUnits}
 use Rattle.rl_grammar.proofs.StrictBackLemmas.{IsQuotedKind}
 use Rattle.rl_grammar.proofs.StrictUnitLemmas.{MayEnd, StrictFront, unit_rest_sound, unit_rest_complete}
@@ -202,6 +203,58 @@ units_step k t r s h e same = (
   λ c. same.0 (row_up k t r h (unit_rest_sound k t r (quoted_string k h) e) c),
   λ c. let d = same.1 c in row_down k t r d.suffix d.units h e d.each d.blanks_end d.is_suffix (string_text k t d.suffix d.units h d.text_is),
 )
+
+-- ---- runs of characters that stand for themselves
+
+abbrev pub is_bare : Kind → ℕ → Bool
+is_bare k c = is_strict_unit k (Itself c)
+
+bare_backslash : (k : Kind) → is_string k ≡ true → is_bare k 92 ≡ false
+bare_backslash Str h = refl
+bare_backslash ByteStr h = refl
+bare_backslash CStr h = refl
+bare_backslash Byte h = absurd (cc)
+bare_backslash Char h = absurd (cc)
+bare_backslash Int h = absurd (cc)
+bare_backslash Float h = absurd (cc)
+bare_backslash BoolKind h = absurd (cc)
+
+bare_unit : (k : Kind) (c : ℕ) (cs : List ℕ) → is_string k ≡ true → is_bare k c ≡ true → unit_rest k (c ∷ cs) ≡ Some cs
+unfolding unit_rest
+bare_unit k c cs s h =
+    ap (λ z. cond z (escape_rest k cs) (cond (is_bare k c) (Some cs) None)) (apart (is_bare k) c 92 h (bare_backslash k s))
+    ∙ ap (λ z. cond z (Some cs) None) h
+
+-- the loop goes past a run at once
+pub units_run : (k : Kind) (run rest s : List ℕ) → is_string k ≡ true → list_all (is_bare k) run ≡ true → (ClosesUnits k (run ++ rest) ↔ ClosesUnits k s) → ClosesUnits k rest ↔ ClosesUnits k s
+units_run k [] rest s h each same = same
+units_run k (c ∷ cs) rest s h each same =
+    let b = and_parts (is_bare k c) (list_all (is_bare k) cs) each in
+    units_run k cs rest s h b.1 (units_step k (c ∷ (cs ++ rest)) (cs ++ rest) s h (bare_unit k c (cs ++ rest) h b.0) same)
+
+pub units_past : (k : Kind) (t x s : List ℕ) (run : List ℕ) → is_string k ≡ true → t ≡ run ++ x → list_all (is_bare k) run ≡ true → (ClosesUnits k t ↔ ClosesUnits k s) → ClosesUnits k x ↔ ClosesUnits k s
+units_past k t x s run h e each same = units_run k run x s h each (subst (λ z. ClosesUnits k z ↔ ClosesUnits k s) e same)
+
+not_either : (a b : Bool) → not (a || b) ≡ (not a && not b)
+not_either true b = refl
+not_either false b = refl
+
+-- but for byte strings what the lenient reading takes as it is, the strict one does
+bare_plain : (k : Kind) (c : ℕ) → is_string k ≡ true → (k ≡ ByteStr → ⊥) → is_plain k c ≡ is_bare k c
+bare_plain Str c h n = refl
+bare_plain ByteStr c h n = absurd (n refl)
+bare_plain CStr c h n = not_either (c == 34 || c == 92 || c == 13) (c == 0)
+bare_plain Byte c h n = absurd (cc)
+bare_plain Char c h n = absurd (cc)
+bare_plain Int c h n = absurd (cc)
+bare_plain Float c h n = absurd (cc)
+bare_plain BoolKind c h n = absurd (cc)
+
+pub bare_run : (k : Kind) (run : List ℕ) → is_string k ≡ true → (k ≡ ByteStr → ⊥) → list_all (is_plain k) run ≡ true → list_all (is_bare k) run ≡ true
+bare_run k [] h n each = refl
+bare_run k (c ∷ cs) h n each =
+    let b = and_parts (is_plain k c) (list_all (is_plain k) cs) each in
+    and_from (is_bare k c) (list_all (is_bare k) cs) (sym (bare_plain k c h n) ∙ b.0) (bare_run k cs h n b.1)
 
 -- where no unit stands, the end stands
 stuck_down : (k : Kind) (t x : List ℕ) (us : List StrictUnit) → is_string k ≡ true → unit_rest k t ≡ None → list_all (is_strict_unit k) us ≡ true → BlanksEnd us → IsStrictSuffix x → t ≡ flat_map strict_text us ++ (34 ∷ x) → ends_quoted 34 t ≡ true

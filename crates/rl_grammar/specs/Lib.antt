@@ -1,5 +1,6 @@
 pub mod NumberAt
 pub mod NumberShapes
+pub mod NumbersRead
 pub mod UnitAt
 pub mod Rows
 pub mod Forms

@@ -79,6 +79,10 @@ is_raw_character ByteStr c = nat_lt c 128 && not (c == 13)
 is_raw_character CStr c = not (c == 0) && not (c == 13)
 is_raw_character _ c = false
 
+-- and which of them close none
+abbrev pub is_inside : Kind → ℕ → Bool
+is_inside kind c = not (c == 34) && is_raw_character kind c
+
 -- characters up to the first quote with these hashes behind it, and a suffix
 unfoldable pub ends_raw : Kind → List ℕ → List ℕ → Bool
 ends_raw kind hashes [] = false

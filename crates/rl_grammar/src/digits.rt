@@ -1,24 +1,20 @@
 //! The digits of numbers.
 
-ghost use Rattle.std.specs.Prelude.{◌≡◌, ◌↔◌, ◌++◌, List, IfErr, IfNone, IfOk, IfSome, IsTrue, OnOk, encode_utf8_all, string_bytes, ℕ, [], ◌∷◌};
+ghost use Rattle.std.specs.Prelude.{◌≡◌, ◌++◌, IfErr, IfOk, OnOk, encode_utf8_all, string_bytes, [], ◌∷◌};
 ghost use Rattle.std.specs.Char.{is_ascii_digit};
 ghost use Rattle.std.specs.Fmt.{decimal};
 ghost use Rattle.std.specs.List.{list_all};
 ghost use Rattle.std.specs.Str.{chars};
 ghost use Rattle.rl_tokens.specs.Errors.{memory_at, nowhere};
 ghost use Rattle.rl_tokens.specs.Numbers.{float_digits, sign_text};
-ghost use Rattle.rl_tokens.specs.declared.kind.Kind.TheVariants.{Float, Int};
 ghost use Rattle.rl_grammar.specs.NumberAt.{sign_at};
 ghost use Rattle.rl_grammar.specs.Founds.{IsFoundNumber};
-ghost use Rattle.rl_grammar.specs.NumberShapes.{AreDigits, IsCutInteger, IsNumber};
-ghost use Rattle.rl_grammar.specs.WholeShapes.{IsPlain};
+ghost use Rattle.rl_grammar.specs.NumberShapes.{AreDigits, IsNumber};
 ghost use Rattle.rl_grammar.specs.PlainAt.{is_kept, is_plain_digits, is_plain_float, is_plain_integer};
 
 use crate::contents::out_of_memory;
-use crate::floats::float_shape;
-use crate::found::Found;
-use crate::integers::read_integer;
-use crate::rows::{after_minus, cut_suffix, is_negative};
+use crate::found::{Found, find_float, find_int};
+use crate::rows::{after_minus, is_negative};
 use crate::strict::words::is_some_text;
 use rl_tokens::text::split_char;
 use rl_tokens::{Error, Kind};
@@ -40,13 +36,29 @@ pub fn digits_of<A: Allocator>(alloc: A, kind: Kind, text: &str) -> Result<Strin
     ensures value { IfOk result (λ s. AreDigits kind (chars text.now) (chars (string_bytes s))) }
     ensures memory { IfErr result (λ e. e ≡ memory_at nowhere) }
 {
-    let digits = match kind {
-        Kind::Int => integer_digits(alloc, text),
-        _ => float_digits(alloc, text),
-    };
-    match digits {
-        Ok(digits) => Ok(digits),
-        Err(_) => Err(out_of_memory()),
+    digits_of_found(alloc, text, found_number(kind, text))
+}
+
+/// What reading the text finds, which is a number of the kind.
+fn found_number(kind: Kind, text: &str) -> Found
+    requires { IsNumber kind (chars text.now) }
+    ensures found { IsFoundNumber text.now result }
+    ensures kind { result.kind ≡ kind }
+{
+    match kind {
+        Kind::Int => {
+            let Some(integer) = find_int(text) else {
+                unreachable!()
+            };
+            let Some(found) = integer else { unreachable!() };
+            found
+        }
+        _ => {
+            let Some(found) = find_float(text) else {
+                unreachable!()
+            };
+            found
+        }
     }
 }
 
@@ -99,38 +111,6 @@ fn signed_decimal<A: Allocator>(
     push_sign(&mut digits, text)?;
     push_decimal(&mut digits, magnitude)?;
     Ok(digits)
-}
-
-/// Whether the text reads as an integer within 128 bits whose digits are its body, byte for byte.
-pub(crate) fn integer_is_plain(text: &str) -> bool
-    ensures { IsTrue result ↔ IsPlain Int text.now }
-{
-    match cut_integer(text) {
-        Some((_, body)) => is_plain_integer(body),
-        None => false,
-    }
-}
-
-/// Whether the text reads as a float, whether or not an integer stands there too, whose digits are its body, byte for
-/// byte.
-pub(crate) fn float_is_plain(text: &str) -> bool
-    ensures { IsTrue result ↔ IsPlain Float text.now }
-{
-    match float_shape(text) {
-        Some(parts) => is_plain_float(parts.body),
-        None => false,
-    }
-}
-
-/// The magnitude of an integer within 128 bits, and all that stands before its suffix.
-fn cut_integer(text: &str) -> Option<(u128, &str)>
-    ensures none { IfNone result (IsNumber Int (chars text.now) → ⊥) }
-    ensures some { IfSome result (λ p. IsCutInteger (chars text.now) p.0 (chars p.1.now)) }
-{
-    let integer = read_integer(text)?;
-    let magnitude = integer.magnitude?;
-    let parts = cut_suffix(Kind::Int, text, integer.suffix);
-    Some((magnitude, parts.body))
 }
 
 /// Whether all bytes are decimal digits.
@@ -207,23 +187,6 @@ fn push_decimal<A: Allocator>(digits: &mut String<A>, number: u128) -> Result<()
     }
 }
 
-/// The digits of an integer literal in base ten, with its sign.
-fn integer_digits<A: Allocator>(alloc: A, text: &str) -> Result<String<A>, AllocError>
-    requires { IsNumber Int (chars text.now) }
-    ensures { IfOk result (λ s. AreDigits Int (chars text.now) (chars (string_bytes s))) }
-{
-    let Some((magnitude, body)) = cut_integer(text) else {
-        unreachable!()
-    };
-    if is_plain_integer(body) {
-        return String::from_str(alloc, body);
-    }
-    let mut digits = String::with_capacity(alloc, INTEGER_DIGITS)?;
-    push_sign(&mut digits, text)?;
-    push_decimal(&mut digits, magnitude)?;
-    Ok(digits)
-}
-
 /// Writes a character of a numeral, if it belongs to the digits.
 fn push_plain<A: Allocator>(digits: &mut String<A>, c: char) -> Result<(), AllocError>
     ensures { OnOk result
@@ -247,23 +210,10 @@ fn plain_numeral<A: Allocator>(alloc: A, numeral: &str) -> Result<String<A>, All
     Ok(digits)
 }
 
-/// The digits of a float literal.
-fn float_digits<A: Allocator>(alloc: A, text: &str) -> Result<String<A>, AllocError>
-    requires { IsNumber Float (chars text.now) }
-    ensures { IfOk result (λ s. AreDigits Float (chars text.now) (chars (string_bytes s))) }
-{
-    let Some(parts) = float_shape(text) else {
-        unreachable!()
-    };
-    if is_plain_float(parts.body) {
-        return String::from_str(alloc, parts.body);
-    }
-    plain_numeral(alloc, parts.body)
-}
-
 #[cfg(test)]
 mod tests {
     use super::*;
+    use crate::floats::float_shape;
     use crate::integers::int_shape;
     use std::test::Fail;
 

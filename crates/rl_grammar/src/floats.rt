@@ -95,7 +95,7 @@ pub(crate) fn float_suffix(text: &str) -> Option<&str>
 }
 
 /// The suffix of the float that begins so: behind another base's prefix the whole part is its zero.
-fn head_suffix<'t>(text: &'t str, head: Head<'t>) -> Option<&'t str>
+pub(crate) fn head_suffix<'t>(text: &'t str, head: Head<'t>) -> Option<&'t str>
     requires head { IsHead (after_minus (chars text.now)) head.radix
         head.row.has_digit head.row.magnitude (chars head.row.rest.now) }
     requires behind { IsBehind text.now head.row.rest.now }
@@ -107,21 +107,6 @@ fn head_suffix<'t>(text: &'t str, head: Head<'t>) -> Option<&'t str>
     } else {
         float_suffix(text)
     }
-}
-
-/// The parts of the float literal that begins so, as `float_shape` tells them.
-pub(crate) fn float_behind<'t>(text: &'t str, head: Head<'t>) -> Option<Parts<'t>>
-    requires head { IsHead (after_minus (chars text.now)) head.radix
-        head.row.has_digit head.row.magnitude (chars head.row.rest.now) }
-    requires behind { IsBehind text.now head.row.rest.now }
-    ensures none { IfNone result (HasNoFloat (chars text.now)) }
-    ensures reads { IfSome result
-        (λ p. FloatReads (chars text.now) (chars p.body.now) (chars p.suffix.now)) }
-    ensures kind { IfSome result (λ p. p.kind ≡ Float) }
-    ensures cut { IfSome result (λ p. text.now ≡ p.body.now ++ p.suffix.now) }
-{
-    let tail = head_suffix(text, head)?;
-    Some(cut_suffix(Kind::Float, text, tail))
 }
 
 /// The parts of a float literal, whether or not an integer stands there too.

@@ -15,6 +15,7 @@ use crate::bodies::{Body, quoted_body};
 use crate::digits::{is_plain_float, is_plain_integer};
 use crate::floats::float_suffix;
 use crate::integers::read_integer;
+use crate::numbers::{Number, read_number};
 use crate::quoted::quoted_parts;
 use crate::reading::{begins_number, truth_of};
 use crate::rows::{cut_suffix, is_negative};
@@ -111,14 +112,15 @@ pub fn find_float(text: &str) -> Option<Found>
 }
 
 /// What reading the text as a number finds, an integer before a float.
+#[inline(always)]
 fn find_number(text: &str) -> Option<Found>
     ensures none { IfNone result (HasNoNumber (chars text.now)) }
     ensures found { IfSome result (IsFound text.now) }
     ensures number { IfSome result (λ f. (f.kind ≡ Int) ⊎ (f.kind ≡ Float)) }
 {
-    match find_int(text) {
-        Some(found) => found,
-        None => find_float(text),
+    match read_number(text)? {
+        Number::Integer(magnitude, suffix) => Some(integer_found(text, suffix, magnitude)),
+        Number::Float(suffix) => Some(float_found(text, suffix)),
     }
 }
 

@@ -15,11 +15,13 @@ ghost use Rattle.rl_tokens.specs.Fronts.{
   RunsAs,
   joined_span,
 };
+ghost use Rattle.rl_grammar.specs.Founds.{IsFound};
 ghost use Rattle.rl_grammar.specs.NumberShapes.{HasNoReading};
 ghost use Rattle.rl_grammar.specs.FrontTokens.{HasNoWord, HasNoMinus};
 
+use crate::found::{Found, find, find_negative};
 use crate::numbers::shape_negative;
-use crate::reading::{shape, truth_of};
+use crate::reading::truth_of;
 use rl_tokens::{Error, Ident, Kind, Literal, ParseBuffer, Punct, Span};
 use std::alloc::Allocator;
 
@@ -72,24 +74,6 @@ fn take_negative<'a, A: Allocator>(
     Some((minus, number))
 }
 
-/// The kind that the text reads as.
-fn kind_of(text: &str) -> Option<Kind>
-    ensures some { IfSome result (λ k. ReadsAs k (chars text.now)) }
-    ensures none { IfNone result (HasNoReading (chars text.now)) }
-{
-    let parts = shape(text)?;
-    Some(parts.kind)
-}
-
-/// The kind that a minus and the text read as.
-fn negative_kind(text: &str) -> Option<Kind>
-    ensures some { IfSome result (λ k. ReadsAs k (45 ∷ chars text.now)) }
-    ensures none { IfNone result (HasNoReading (45 ∷ chars text.now)) }
-{
-    let parts = shape_negative(text)?;
-    Some(parts.kind)
-}
-
 /// From a minus to its number, where both stand in one file, else the minus alone.
 fn joined_span(minus: Span, number: Span) -> Span
     ensures { result ≡ joined_span minus number }
@@ -123,16 +107,26 @@ impl<'a, A: Allocator> Front<'a, A> {
         Some(Front::Negative(minus, number))
     }
 
+    /// What reading the literal finds; the places count in its token's text, a minus included. None where it has no
+    /// reading.
+    pub fn find(&self) -> Option<Found>
+        ensures none { IfNone result (HasNoReading (chars (token_of self.now).text)) }
+        ensures found { IfSome result (IsFound (token_of self.now).text) }
+    {
+        match self {
+            Front::Token(token) => find(token.text()),
+            Front::Word(word) => find(word.text()),
+            Front::Negative(_, number) => find_negative(number.text()),
+        }
+    }
+
     /// The kind that the literal reads as; none where it has no reading.
     pub fn kind(&self) -> Option<Kind>
         ensures some { IfSome result (λ k. ReadsAs k (chars (token_of self.now).text)) }
         ensures none { IfNone result (HasNoReading (chars (token_of self.now).text)) }
     {
-        match self {
-            Front::Token(token) => kind_of(token.text()),
-            Front::Word(word) => kind_of(word.text()),
-            Front::Negative(_, number) => negative_kind(number.text()),
-        }
+        let found = self.find()?;
+        Some(found.kind)
     }
 
     /// Whether the literal reads as this kind.

@@ -80,7 +80,8 @@ pub(crate) struct Integer<'t> {
 }
 
 /// The integer that begins so, if what follows its row may be its suffix.
-fn integer_of(head: Head<'_>) -> Option<Integer<'_>>
+#[inline(always)]
+pub(crate) fn integer_of(head: Head<'_>) -> Option<Integer<'_>>
     ensures value { option_map {U = Option ℕ × List ℕ} (λ i. (i.magnitude, chars i.suffix.now)) result
         ≡ ended_at head.entry.radix head.entry.row.has_digit head.entry.row.magnitude (chars head.entry.row.rest.now) }
     ensures suffix { IfSome result (λ i. i.suffix.now ≡ head.entry.row.rest.now) }
@@ -111,26 +112,6 @@ pub(crate) fn read_integer(text: &str) -> Option<Integer<'_>>
     }
 }
 
-/// The parts of the integer literal that begins so, as `int_shape` tells them.
-pub(crate) fn integer_shape<'t>(text: &'t str, head: Head<'t>) -> Option<Option<Parts<'t>>>
-    requires head { IsHead (after_minus (chars text.now)) head.radix
-        head.row.has_digit head.row.magnitude (chars head.row.rest.now) }
-    requires behind { IsBehind text.now head.row.rest.now }
-    ensures none { IfNone result (HasNoInteger (chars text.now)) }
-    ensures past { IfSome result (λ o. IfNone o (IsPast (chars text.now))) }
-    ensures reads { IfSome result (λ o. IfSome o
-        (λ p. (v : Contents) × ReadsInt (chars text.now) v (chars p.suffix.now))) }
-    ensures kind { IfSome result (λ o. IfSome o (λ p. p.kind ≡ Int)) }
-    ensures cut { IfSome result (λ o. IfSome o (λ p. text.now ≡ p.body.now ++ p.suffix.now)) }
-    ensures behind { IfSome result (λ o. IfSome o (λ p. IsBehind text.now p.suffix.now)) }
-{
-    let integer = integer_of(head)?;
-    match integer.magnitude {
-        Some(_) => Some(Some(cut_suffix(Kind::Int, text, integer.suffix))),
-        None => Some(None),
-    }
-}
-
 /// The parts of an integer literal: `None` where the text is none, `Some(None)` where its magnitude is past 128 bits.
 ///
 /// The body is all that stands before the suffix, sign and prefix included. Both are slices of the text.
@@ -144,8 +125,11 @@ pub fn int_shape(text: &str) -> Option<Option<Parts<'_>>>
     ensures behind { IfSome result (λ o. IfSome o (λ p. IsBehind text.now p.suffix.now)) }
     ensures once { HasOneInteger (chars text.now) }
 {
-    let head = read_head(text)?;
-    integer_shape(text, head)
+    let integer = read_integer(text)?;
+    match integer.magnitude {
+        Some(_) => Some(Some(cut_suffix(Kind::Int, text, integer.suffix))),
+        None => Some(None),
+    }
 }
 
 #[cfg(test)]

@@ -5,13 +5,35 @@ ghost use Rattle.std.specs.Str.{chars};
 ghost use Rattle.rl_tokens.specs.declared.kind.Kind.TheVariants.{Float, Int};
 ghost use Rattle.rl_tokens.specs.Reading.{Contents, Reads};
 ghost use Rattle.rl_grammar.specs.NumberShapes.{HasNoNumber, HasNoReading, ReadsNumber};
+ghost use Rattle.rl_grammar.specs.NumbersRead.{IsNumberOf};
 
-use crate::floats::float_behind;
-use crate::integers::{integer_shape, read_head};
+use crate::floats::head_suffix;
+use crate::integers::{integer_of, read_head};
 use crate::parts::Parts;
-use crate::rows::is_negative;
+use crate::rows::{cut_suffix, is_negative};
+use rl_tokens::Kind;
 
-/// The parts of a number: of an integer within 128 bits, or of a float where no integer of any magnitude stands.
+/// A number, read: an integer within 128 bits, or a float where no integer of any magnitude stands.
+#[derive(Clone, Copy)]
+pub(crate) enum Number<'t> {
+    Integer(u128, &'t str),
+    Float(&'t str),
+}
+
+/// The number that the text is.
+#[inline(always)]
+pub(crate) fn read_number(text: &str) -> Option<Number<'_>>
+    ensures none { IfNone result (HasNoNumber (chars text.now)) }
+    ensures reads { IfSome result (IsNumberOf text.now) }
+{
+    let head = read_head(text)?;
+    match integer_of(head) {
+        Some(integer) => Some(Number::Integer(integer.magnitude?, integer.suffix)),
+        None => Some(Number::Float(head_suffix(text, head)?)),
+    }
+}
+
+/// The parts of the number that the text is.
 #[inline(always)]
 pub(crate) fn number_shape(text: &str) -> Option<Parts<'_>>
     ensures none { IfNone result (HasNoNumber (chars text.now)) }
@@ -19,10 +41,9 @@ pub(crate) fn number_shape(text: &str) -> Option<Parts<'_>>
         (λ p. (v : Contents) × ReadsNumber (chars text.now) p.kind v (chars p.suffix.now)) }
     ensures cut { IfSome result (λ p. text.now ≡ p.body.now ++ p.suffix.now) }
 {
-    let head = read_head(text)?;
-    match integer_shape(text, head) {
-        Some(parts) => parts,
-        None => float_behind(text, head),
+    match read_number(text)? {
+        Number::Integer(_, suffix) => Some(cut_suffix(Kind::Int, text, suffix)),
+        Number::Float(suffix) => Some(cut_suffix(Kind::Float, text, suffix)),
     }
 }
 

@@ -1,10 +1,11 @@
 //! Whether a literal's body is what it stands for.
 
 ghost use Rattle.std.specs.Prelude.{◌↔◌, IsTrue};
+ghost use Rattle.rl_tokens.specs.declared.kind.Kind.TheVariants.{Float, Int};
 ghost use Rattle.rl_grammar.specs.WholeShapes.{IsPlain};
 
 use crate::contents::string_is_plain;
-use crate::digits::{float_is_plain, integer_is_plain};
+use crate::found::{find_float, find_int};
 use rl_tokens::Kind;
 
 /// Whether the text reads as the kind, and its body is what it stands for, byte for byte: a string's contents, or a
@@ -22,6 +23,30 @@ pub fn is_plain(kind: Kind, text: &str) -> bool
         Kind::Int => integer_is_plain(text),
         Kind::Float => float_is_plain(text),
         Kind::Byte | Kind::Char | Kind::Bool => false,
+    }
+}
+
+/// Whether the text reads as an integer within 128 bits whose digits are its body, byte for byte.
+fn integer_is_plain(text: &str) -> bool
+    ensures { IsTrue result ↔ IsPlain Int text.now }
+{
+    let Some(integer) = find_int(text) else {
+        return false;
+    };
+    match integer {
+        Some(found) => found.body.plain,
+        None => false,
+    }
+}
+
+/// Whether the text reads as a float, whether or not an integer stands there too, whose digits are its body, byte for
+/// byte.
+fn float_is_plain(text: &str) -> bool
+    ensures { IsTrue result ↔ IsPlain Float text.now }
+{
+    match find_float(text) {
+        Some(found) => found.body.plain,
+        None => false,
     }
 }
 

@@ -3,7 +3,7 @@
 ghost use Rattle.std.specs.Prelude.{◌≡◌, ◌==◌, ◌<◌, ◌≤◌, length, option_map, IfSome, IsTrue, IsFalse};
 ghost use Rattle.std.specs.Str.{chars};
 ghost use Rattle.rl_tokens.specs.Texts.{passes};
-ghost use Rattle.rl_tokens.specs.Quoted.{holds_characters, is_string, is_plain, may_hold, may_be_hex, has_unicode};
+ghost use Rattle.rl_tokens.specs.Quoted.{holds_characters, is_plain, may_hold, may_be_hex, has_unicode};
 ghost use Rattle.rl_grammar.specs.UnitAt.{piece_value, IsPieceOf, named_in, digit_at, hex_at, digits_at, unicode_at, after_blanks, escape_at, unit_at};
 
 use rl_tokens::Kind;
@@ -15,20 +15,6 @@ pub(crate) enum Piece {
     Character(char),
     Byte(u8),
     Nothing,
-}
-
-/// Whether the kind holds characters rather than bytes.
-fn holds_characters(kind: Kind) -> bool
-    ensures { result ≡ holds_characters kind }
-{
-    matches!(kind, Kind::Str | Kind::Char)
-}
-
-/// Whether the kind is one of the three kinds of strings.
-fn is_string(kind: Kind) -> bool
-    ensures { result ≡ is_string kind }
-{
-    matches!(kind, Kind::Str | Kind::ByteStr | Kind::CStr)
 }
 
 /// Whether the kind takes the character as it is.
@@ -55,7 +41,7 @@ fn may_hold(kind: Kind, code: u32) -> bool
 fn may_be_hex(kind: Kind, code: u32) -> bool
     ensures { result ≡ may_be_hex kind code }
 {
-    may_hold(kind, code) && (!holds_characters(kind) || code < 128)
+    may_hold(kind, code) && (!kind.holds_characters() || code < 128)
 }
 
 /// Whether the kind has escapes `\u{..}`.
@@ -193,7 +179,7 @@ fn escape(kind: Kind, text: &str) -> Option<(Piece, &str)>
             Some((Piece::Character(c), rest))
         }
         b'\n' | b'\r' => {
-            if is_string(kind) {
+            if kind.is_string() {
                 Some((Piece::Nothing, skip_blanks(rest)))
             } else {
                 None
@@ -220,7 +206,7 @@ fn character(kind: Kind, text: &str) -> Option<(Piece, &str)>
         c if is_plain(kind, c) => Some((Piece::Character(c), rest)),
         '\r' => {
             let (next, rest) = split_char(rest)?;
-            if is_string(kind) && next == '\n' {
+            if kind.is_string() && next == '\n' {
                 Some((Piece::Byte(b'\n'), rest))
             } else {
                 None

@@ -2,6 +2,7 @@ pub mod Texts
 pub mod Quoted
 pub mod Numbers
 pub mod Reading
+pub mod Words
 pub mod Written
 pub mod Strict
 pub mod Agreeing

@@ -83,7 +83,7 @@ impl<'a, A: Allocator> ParseBuffer<'a, A> {
     pub fn rest(&self) -> &'a [TokenTree<A>]
         ensures { map tree_view result.now ≡ trees_in self.now }
     {
-        self.trees
+        &self.trees[..]
     }
 
     /// Takes the next tree where it is a literal; else the buffer stays.

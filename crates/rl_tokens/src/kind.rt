@@ -1,3 +1,9 @@
+//! The kinds of literals, and what they are called.
+
+ghost use Rattle.std.specs.Prelude.{◌≡◌};
+ghost use Rattle.rl_tokens.specs.Quoted.{holds_characters, is_string};
+ghost use Rattle.rl_tokens.specs.Words.{kind_name, kind_shown, kind_word};
+
 /// What a literal is.
 #[derive(Clone, Copy, PartialEq, Eq, Debug)]
 pub enum Kind {
@@ -17,4 +23,62 @@ pub enum Kind {
     Float,
     /// `true` and `false`.
     Bool,
+}
+
+impl Kind {
+    /// Whether it is one of the three kinds of strings.
+    pub fn is_string(self) -> bool
+        ensures { result ≡ is_string self }
+    {
+        matches!(self, Kind::Str | Kind::ByteStr | Kind::CStr)
+    }
+
+    /// Whether its literals hold characters, as strings and characters do; the other quoted kinds hold bytes.
+    pub fn holds_characters(self) -> bool
+        ensures { result ≡ holds_characters self }
+    {
+        matches!(self, Kind::Str | Kind::Char)
+    }
+
+    /// What refusals call a literal of the kind.
+    pub fn word(self) -> &'static str
+        ensures { result.now ≡ kind_word self }
+    {
+        match self {
+            Kind::Str => "string literal",
+            Kind::ByteStr => "byte string literal",
+            Kind::CStr => "C string literal",
+            Kind::Byte => "byte literal",
+            Kind::Char => "character literal",
+            Kind::Int => "integer literal",
+            Kind::Float => "floating point literal",
+            Kind::Bool => "boolean literal",
+        }
+    }
+
+    /// What the `display` of its tokens calls it.
+    pub fn shown(self) -> &'static str
+        ensures { result.now ≡ kind_shown self }
+    {
+        match self {
+            Kind::CStr => "C-string literal",
+            _ => self.word(),
+        }
+    }
+
+    /// What its struct is called.
+    pub fn struct_name(self) -> &'static str
+        ensures { result.now ≡ kind_name self }
+    {
+        match self {
+            Kind::Str => "LitStr",
+            Kind::ByteStr => "LitByteStr",
+            Kind::CStr => "LitCStr",
+            Kind::Byte => "LitByte",
+            Kind::Char => "LitChar",
+            Kind::Int => "LitInt",
+            Kind::Float => "LitFloat",
+            Kind::Bool => "LitBool",
+        }
+    }
 }

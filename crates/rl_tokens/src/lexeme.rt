@@ -19,7 +19,8 @@ ghost use Rattle.rl_tokens.specs.LexemeAt.{
   FormBefore,
 };
 
-use crate::front::{begins_with, is_start, without_first};
+use crate::characters::is_start;
+use crate::front::{begins_with, without_first};
 use crate::punct::Punct;
 use crate::text::split_char;
 use number::{after_decimal, is_base_letter};

@@ -20,8 +20,8 @@ ghost use Rattle.rl_tokens.specs.Lexing.{
 ghost use Rattle.rl_tokens.specs.Printed.{Entry, Printed, Reprinted, printed_trees};
 ghost use Rattle.rl_tokens.specs.Trees.{stream_view};
 
+use crate::characters::is_start;
 use crate::cursor::Tokens;
-use crate::front::is_start;
 use crate::lex_error::{LexError, LexKind};
 use crate::lexeme::{begins_hashed_quote, begins_marked_identifier};
 use crate::nest::Nest;

@@ -5,6 +5,7 @@
 mod appending;
 mod buffer;
 mod c_string;
+pub mod characters;
 mod cursor;
 mod error;
 mod front;

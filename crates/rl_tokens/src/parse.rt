@@ -1,8 +1,9 @@
 //! What can be parsed from a buffer, peeked at, and appended to a stream.
 
-ghost use Rattle.std.specs.Prelude.{◌≡◌, List, ℕ, Result, ◌↔◌, ◌++◌, IsTrue, OnOk, OnErr};
+ghost use Rattle.std.specs.Prelude.{◌≡◌, List, ℕ, Result, ◌↔◌, ◌++◌, IsTrue, IfErr, OnOk, OnErr};
 ghost use Rattle.rl_tokens.specs.declared.span.Span.{Span};
 ghost use Rattle.rl_tokens.specs.declared.error.Error.{Error};
+ghost use Rattle.rl_tokens.specs.declared.error.ErrorKind.TheVariants.{Memory};
 ghost use Rattle.rl_tokens.specs.Trees.{Tree, stream_view};
 ghost use Rattle.rl_tokens.specs.Buffers.{trees_in, scope_of, IsRest};
 
@@ -88,10 +89,15 @@ pub trait Token {
 pub trait ToTokens {
     ghost appends: { Self → List Tree };
 
-    /// Appends the trees. Where memory is refused the stream stays.
+    /// Appends the trees.
+    ///
+    /// # Errors
+    ///
+    /// `Memory` where memory is refused; the stream stays.
     fn to_tokens<A: Allocator>(&self, alloc: A, tokens: &mut TokenStream<A>) -> Result<(), Error<A>>
         ensures ok { OnOk result (stream_view tokens.new ≡ stream_view tokens.old ++ appends self.now) }
-        ensures unchanged { OnErr result (stream_view tokens.new ≡ stream_view tokens.old) };
+        ensures unchanged { OnErr result (stream_view tokens.new ≡ stream_view tokens.old) }
+        ensures memory { IfErr result (λ e. e.kind ≡ Memory) };
 }
 
 impl<'a, A: Allocator> ParseBuffer<'a, A> {

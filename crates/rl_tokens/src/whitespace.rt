@@ -6,7 +6,8 @@ ghost use Rattle.rl_tokens.specs.Texts.{IsBehind};
 ghost use Rattle.rl_tokens.specs.Trivia.{is_plain_line, is_plain_block, Skipped, OneRest};
 ghost use Rattle.rl_tokens.specs.SkippedAt.{after_line, after_block, after_comment, after_piece};
 
-use crate::front::{begins_with, is_white};
+use crate::characters::is_white;
+use crate::front::begins_with;
 use crate::text::split_char;
 
 /// The rest of the text after its leading white space and plain comments.

@@ -39,18 +39,11 @@ fn opener(kind: Kind) -> &'static str
     }
 }
 
-/// Whether a literal of the kind holds characters, not bytes.
-fn holds_characters(kind: Kind) -> bool
-    ensures { result ≡ holds_characters kind }
-{
-    matches!(kind, Kind::Str | Kind::Char)
-}
-
 /// Whether a character is written by its number.
 fn is_written_as_number(kind: Kind, c: char) -> bool
     ensures { result ≡ is_written_as_number kind c }
 {
-    c < ' ' || c == '\u{7f}' || ('\u{7f}' < c && !holds_characters(kind))
+    c < ' ' || c == '\u{7f}' || ('\u{7f}' < c && !kind.holds_characters())
 }
 
 /// A hexadecimal digit in upper case.

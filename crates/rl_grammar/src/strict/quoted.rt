@@ -1,18 +1,30 @@
 //! How strict quoted literals end.
 
-ghost use Rattle.std.specs.Prelude.{◌≡◌, ◌≢◌, ◌∷◌, ◌↔◌, ◌==◌, ◌&&◌, ◌++◌, IfNone, IfSome, IsFalse, IsTrue, List, None, ℕ};
+ghost use Rattle.std.specs.Prelude.{◌≡◌, ◌≢◌, ◌≤◌, ◌∷◌, ◌↔◌, ◌==◌, ◌&&◌, ◌++◌, IfNone, IfSome, IsFalse, IsTrue, List, None, length, ℕ};
+ghost use Rattle.std.specs.List.{list_all};
 ghost use Rattle.std.specs.Str.{chars};
 ghost use Rattle.rl_tokens.specs.Texts.{begins};
 ghost use Rattle.rl_tokens.specs.Quoted.{is_single, is_string};
-ghost use Rattle.rl_grammar.specs.StrictAt.{ends_quoted, ends_raw, is_raw_character, unit_rest};
+ghost use Rattle.rl_tokens.specs.Strict.{Itself, is_strict_unit};
+ghost use Rattle.rl_grammar.specs.StrictAt.{ends_quoted, ends_raw, is_inside, is_raw_character, unit_rest};
 ghost use Rattle.rl_grammar.specs.StrictShapes.{ClosesRaw, ClosesUnits};
 
 use crate::cuts::{before, behind_prefix};
 use crate::quoted::skip_hashes;
+use crate::runs::split_plain;
 use crate::strict::units::skip_unit;
 use crate::strict::words::is_suffix;
 use rl_tokens::Kind;
+use rl_tokens::scan::{Marks, split_before};
 use rl_tokens::text::split_char;
+
+/// What may close a raw C string, and what it doesn't hold.
+const INSIDE_C_STRING: Marks = Marks {
+    first: b'"',
+    second: b'\r',
+    third: 0,
+    fourth: 0,
+};
 
 /// Whether the text is a quote and a suffix.
 fn ends_quoted(quote: char, text: &str) -> bool
@@ -24,15 +36,30 @@ fn ends_quoted(quote: char, text: &str) -> bool
     }
 }
 
+/// The text behind characters at its front that a string of the kind takes as they are. Of a byte string, which takes
+/// none past ASCII, they are told one by one.
+#[inline(always)]
+fn skip_bare(kind: Kind, text: &str) -> &str
+    requires { IsTrue (is_string kind) }
+    ensures run { (run : List ℕ) × (chars text.now ≡ run ++ chars result.now)
+        × IsTrue (list_all (λ c. is_strict_unit kind (Itself c)) run) }
+    ensures shorter { length result.now ≤ length text.now }
+{
+    match kind {
+        Kind::ByteStr => text,
+        _ => split_plain(kind, text).1,
+    }
+}
+
 /// The text behind the units at its front, as far as they go.
 fn skip_units(kind: Kind, text: &str) -> &str
     requires { IsTrue (is_string kind) }
     ensures same { ClosesUnits kind (chars result.now) ↔ ClosesUnits kind (chars text.now) }
     ensures stuck { unit_rest kind (chars result.now) ≡ None }
 {
-    let mut rest = text;
+    let mut rest = skip_bare(kind, text);
     while let Some(after) = skip_unit(kind, rest) {
-        rest = after;
+        rest = skip_bare(kind, after);
     }
     rest
 }
@@ -80,12 +107,27 @@ fn behind_closer<'t>(hashes: &str, c: char, after: &'t str) -> Option<&'t str>
     }
 }
 
+/// The text behind characters at its front that a raw string of the kind holds and that close none. Of a byte string,
+/// which holds none past ASCII, they are told one by one.
+#[inline(always)]
+fn skip_inside(kind: Kind, text: &str) -> &str
+    ensures run { (run : List ℕ) × (chars text.now ≡ run ++ chars result.now)
+        × IsTrue (list_all (is_inside kind) run) }
+    ensures shorter { length result.now ≤ length text.now }
+{
+    match kind {
+        Kind::Str => split_before(Marks::two(b'"', b'\r'), text).1,
+        Kind::CStr => split_before(INSIDE_C_STRING, text).1,
+        _ => text,
+    }
+}
+
 /// Whether the contents of a raw string, the first quote with its hashes behind it, and a suffix follow.
 #[tactic(auto, unfolding(crate::specs::StrictAt::ends_raw))]
 fn ends_raw(kind: Kind, hashes: &str, text: &str) -> bool
     ensures { result ≡ ends_raw kind (chars hashes.now) (chars text.now) }
 {
-    let mut rest = text;
+    let mut rest = skip_inside(kind, text);
     while let Some((c, after)) = split_char(rest) {
         if let Some(suffix) = behind_closer(hashes, c, after) {
             return is_suffix(suffix);
@@ -93,7 +135,7 @@ fn ends_raw(kind: Kind, hashes: &str, text: &str) -> bool
         if !is_raw_character(kind, c) {
             return false;
         }
-        rest = after;
+        rest = skip_inside(kind, after);
     }
     false
 }

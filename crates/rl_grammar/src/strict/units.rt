@@ -2,7 +2,6 @@
 
 ghost use Rattle.std.specs.Prelude.{◌≡◌, ◌<◌, ◌≤◌, ◌∷◌, IfSome, length, option_map};
 ghost use Rattle.std.specs.Str.{chars};
-ghost use Rattle.rl_tokens.specs.Quoted.{is_string};
 ghost use Rattle.rl_tokens.specs.Strict.{Itself, is_dropped_blank, is_strict_unit};
 ghost use Rattle.rl_grammar.specs.NumberAt.{after_run};
 ghost use Rattle.rl_grammar.specs.StrictAt.{escape_rest, unit_rest};
@@ -10,13 +9,6 @@ ghost use Rattle.rl_grammar.specs.StrictAt.{escape_rest, unit_rest};
 use crate::units::unit;
 use rl_tokens::Kind;
 use rl_tokens::text::split_char;
-
-/// Whether the kind is one of the three kinds of strings.
-fn is_string(kind: Kind) -> bool
-    ensures { result ≡ is_string kind }
-{
-    matches!(kind, Kind::Str | Kind::ByteStr | Kind::CStr)
-}
 
 /// Whether the kind takes the character as it is.
 fn is_bare(kind: Kind, c: char) -> bool
@@ -56,7 +48,7 @@ fn skip_escape<'t>(kind: Kind, text: &'t str, behind: &'t str) -> Option<&'t str
 {
     match split_char(behind)? {
         ('\n', blanks) => {
-            if is_string(kind) {
+            if kind.is_string() {
                 Some(skip_blanks(blanks))
             } else {
                 None

@@ -3,31 +3,17 @@
 ghost use Rattle.std.specs.Prelude.{◌≡◌};
 ghost use Rattle.std.specs.List.{list_all};
 ghost use Rattle.std.specs.Str.{chars};
-ghost use Rattle.rl_tokens.specs.Texts.{is_continue, is_start, is_white};
+ghost use Rattle.rl_tokens.specs.Texts.{is_continue};
 ghost use Rattle.rl_grammar.specs.StrictAt.{is_number_suffix, is_some_text, is_strict_suffix};
 
+use rl_tokens::characters::{is_continue, is_start};
 use rl_tokens::text::split_char;
-
-/// Whether the character is white space.
-fn is_white(c: char) -> bool
-    ensures { result ≡ is_white c }
-{
-    c.is_whitespace() || matches!(c, '\u{200e}' | '\u{200f}')
-}
-
-/// Whether the character may begin an identifier token.
-fn is_start(c: char) -> bool
-    ensures { result ≡ is_start c }
-{
-    (c == '_' || unicode_ident::is_xid_start(c)) && !is_white(c)
-}
 
 /// Whether each character may go on with an identifier token.
 fn all_continue(text: &str) -> bool
     ensures { result ≡ list_all is_continue (chars text.now) }
 {
-    text.chars()
-        .all(|c| unicode_ident::is_xid_continue(c) && !is_white(c))
+    text.chars().all(|c| is_continue(c))
 }
 
 /// Whether the text is not empty.

@@ -8,7 +8,8 @@ ghost use Rattle.rl_tokens.specs.Lexemes.{is_base_letter, after_sign, begins_dot
 ghost use Rattle.rl_tokens.specs.LexemeAt.{after_fraction, after_exponent, after_decimal};
 
 use super::rows::{Row, after_row, after_suffix};
-use crate::front::{is_start, without_first};
+use crate::characters::is_start;
+use crate::front::without_first;
 use crate::text::split_char;
 
 /// What follows the decimal behind whose first digit the text stands.

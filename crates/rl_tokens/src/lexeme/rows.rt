@@ -7,7 +7,7 @@ ghost use Rattle.rl_tokens.specs.Texts.{IsBehind};
 ghost use Rattle.rl_tokens.specs.Lexemes.{after_run, is_hash, begins_hashes};
 ghost use Rattle.rl_tokens.specs.LexemeAt.{row_test, after_suffix, hashes};
 
-use crate::front::{is_continue, is_start};
+use crate::characters::{is_continue, is_start};
 use crate::text::split_char;
 
 /// A kind of row, by what it holds.

@@ -1,15 +1,25 @@
+use Rattle.std.proofs.Common.{ap}
 use Rattle.std.specs.Str.{chars}
 use Rattle.rl_tokens.proofs.BehindLemmas.{if_none}
-use Rattle.rl_grammar.proofs.HeadLemmas.{no_head_int}
-use Rattle.rl_grammar.proofs.IntegerLemmas.{no_int}
+use Rattle.rl_grammar.proofs.IntegerLemmas.{no_int, is_past_at, is_within_at, within_reads}
 use Rattle.rl_tokens.proofs.OneNumber.{int_once}
 use Rattle.rl_grammar.proofs.integers.int_shape.Goals as goal
 
-pub returns-in_err-head-clause-none : goal.returns-in_err-head-clause-none
-returns-in_err-head-clause-none c = if_none _ (no_int _ (no_head_int (chars c.args.text.now) c.in_err-head.ensures.none))
+pub returns-in_err-integer-clause-none : goal.returns-in_err-integer-clause-none
+returns-in_err-integer-clause-none c = if_none _ (no_int _ c.in_err-integer.ensures.value)
 
-pub returns-in_err-head-clause-once : goal.returns-in_err-head-clause-once
-returns-in_err-head-clause-once c = int_once (chars c.args.text.now)
+pub returns-in_err-integer-clause-once : goal.returns-in_err-integer-clause-once
+returns-in_err-integer-clause-once c = int_once (chars c.args.text.now)
 
-pub returns-clause-once : goal.returns-clause-once
-returns-clause-once c = int_once (chars c.args.text.now)
+pub returns-in-Some-clause-reads : goal.returns-in-Some-clause-reads
+returns-in-Some-clause-reads c =
+    within_reads _ _ _ (is_within_at (chars c.args.text.now) _ _ _ _ c.in_ok-integer.ensures.value c.in-Some.is (ap chars c.cut_suffix.ensures.suffix))
+
+pub returns-in-Some-clause-once : goal.returns-in-Some-clause-once
+returns-in-Some-clause-once c = int_once (chars c.args.text.now)
+
+pub returns-in-None-clause-past : goal.returns-in-None-clause-past
+returns-in-None-clause-past c = is_past_at (chars c.args.text.now) _ _ c.in_ok-integer.ensures.value c.in-None.is
+
+pub returns-in-None-clause-once : goal.returns-in-None-clause-once
+returns-in-None-clause-once c = int_once (chars c.args.text.now)
