@@ -1,5 +1,5 @@
 -- The places of parts, as reading finds them, and what stands there.
-use Rattle.std.proofs.Common.{◌≡◌, ◌⊎◌, inl, inr, ℕ, Bool, true, List, refl, sym, subst, ◌∙◌}
+use Rattle.std.proofs.Common.{◌≡◌, ◌⊎◌, ℕ, Bool, true, List, sym, subst, ◌∙◌}
 use Rattle.std.proofs.lemmas.Bool.{or_left}
 use Rattle.std.specs.Str.{chars, IsUtf8}
 use Rattle.rl_tokens.specs.declared.kind.Kind.{Kind}
@@ -12,7 +12,7 @@ use Rattle.rl_tokens.proofs.CStringContents.{c_string_no_zero}
 use Rattle.rl_grammar.specs.declared.bodies.Body.{Body}
 use Rattle.rl_grammar.specs.declared.found.Found.{Found}
 use Rattle.rl_grammar.specs.Bodies.{HasBody}
-use Rattle.rl_grammar.specs.Founds.{IsFound, IsQuotedAt, body_in, is_quoted}
+use Rattle.rl_grammar.specs.Founds.{IsFound, body_in}
 use Rattle.rl_grammar.proofs.BodyContents.{bytes_of_has}
 use Rattle.rl_grammar.proofs.ContentLemmas.{plain_bytes}
 use Rattle.rl_quoted.specs.Places.{StandsAt}

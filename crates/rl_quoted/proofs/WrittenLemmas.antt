@@ -1,5 +1,5 @@
 -- Where the parts stand of a literal that the writer wrote.
-use Rattle.std.proofs.Common.{◌≡◌, ◌-◌, ◌+◌, ◌<◌, ◌≤◌, ◌⊎◌, inl, inr, ℕ, Bool, true, false, List, [], ◌∷◌, ◌++◌, length, take, drop, refl, sym, ap, subst, ◌∙◌, arith, append_assoc, length-append}
+use Rattle.std.proofs.Common.{◌≡◌, ◌-◌, ◌+◌, ◌<◌, ◌≤◌, inl, inr, ℕ, Bool, true, false, List, [], ◌∷◌, ◌++◌, length, take, drop, refl, sym, ap, subst, ◌∙◌, arith, append_assoc, length-append}
 use Rattle.std.proofs.Math.Seq.{drop-append_seam, take-append_seam, drop-length}
 use Rattle.std.proofs.Math.Utf8.{scalars}
 use Rattle.std.proofs.lemmas.Bool.{both_ways}
@@ -19,7 +19,7 @@ use Rattle.rl_grammar.specs.Forms.{PartsAre, is_plain_body}
 use Rattle.rl_grammar.proofs.BodyLemmas.{openers_differ, cooked_other, cooked_shortens}
 use Rattle.rl_grammar.proofs.ContentLemmas.{plain_bytes}
 use Rattle.rl_grammar.proofs.FormLemmas.{HasParts, cooked_has, single_has}
-use Rattle.rl_grammar.proofs.FoundLemmas.{body_text, suffix_text, quoted_found}
+use Rattle.rl_grammar.proofs.FoundLemmas.{body_text, quoted_found}
 use Rattle.rl_quoted.specs.Places.{IsWrittenAs, StandsAt}
 use Rattle.rl_quoted.proofs.PlaceLemmas.{stands_at}
 

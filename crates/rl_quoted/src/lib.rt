@@ -8,7 +8,6 @@ mod lit_c_str;
 mod lit_char;
 mod lit_str;
 mod quoted;
-mod words;
 mod written;
 
 pub use crate::lit_byte::{ByteKind, LitByte};
@@ -17,4 +16,3 @@ pub use crate::lit_c_str::{CStrKind, LitCStr};
 pub use crate::lit_char::{CharKind, LitChar};
 pub use crate::lit_str::{LitStr, StrKind};
 pub use crate::quoted::{Quoted, QuotedKind};
-pub use crate::words::{name_of, shown_as, word_of};

@@ -17,9 +17,8 @@ ghost use Rattle.rl_grammar.specs.Bodies.{HasBody};
 ghost use Rattle.rl_grammar.specs.Founds.{IsFound, is_quoted};
 ghost use Rattle.rl_grammar.specs.WholeShapes.{IsPlain};
 ghost use Rattle.rl_quoted.specs.Places.{IsWrittenAs, StandsAt};
-ghost use Rattle.rl_quoted.specs.Words.{kind_name};
+ghost use Rattle.rl_tokens.specs.Words.{kind_name};
 
-use crate::words::{name_of, shown_as, word_of};
 use crate::written::written_body;
 use rl_grammar::{Body, Found, Kind, find, next_is, take_kind};
 use rl_tokens::{
@@ -164,12 +163,12 @@ impl<K: QuotedKind, A: Allocator> Quoted<K, A> {
 /// Takes the literal of the kind that stands next. It is refused as [`take_kind`] says.
 impl<K: QuotedKind, A: Allocator> Parse<A> for Quoted<K, A> {
     ghost use Rattle.rl_tokens.specs.Fronts.{RunsAs};
-    ghost use Rattle.rl_quoted.specs.Words.{kind_word};
+    ghost use Rattle.rl_tokens.specs.Words.{kind_word};
 
     ghost runs = { RunsAs K.KIND (kind_word K.KIND) };
 
     fn parse(alloc: A, input: &mut ParseBuffer<'_, A>) -> Result<Quoted<K, A>, Error<A>> {
-        match take_kind(alloc, input, K::KIND, word_of(K::KIND)) {
+        match take_kind(alloc, input, K::KIND, K::KIND.word()) {
             Ok(token) => Ok(Quoted::of_token(token)),
             Err(error) => Err(error),
         }
@@ -179,7 +178,7 @@ impl<K: QuotedKind, A: Allocator> Parse<A> for Quoted<K, A> {
 /// True exactly where the parser succeeds, if memory is found.
 impl<K: QuotedKind, A: Allocator> Token for Quoted<K, A> {
     ghost use Rattle.rl_tokens.specs.Fronts.{HasFrontOf};
-    ghost use Rattle.rl_quoted.specs.Words.{kind_shown};
+    ghost use Rattle.rl_tokens.specs.Words.{kind_shown};
 
     ghost peeks = { HasFrontOf K.KIND };
 
@@ -190,7 +189,7 @@ impl<K: QuotedKind, A: Allocator> Token for Quoted<K, A> {
     }
 
     fn display() -> &'static str {
-        shown_as(K::KIND)
+        K::KIND.shown()
     }
 }
 
@@ -234,7 +233,7 @@ impl<K: QuotedKind, A: Allocator> fmt::Debug for Quoted<K, A> {
     ghost debug_output = { λ l. Some (kind_name K.KIND ++ codes " { token: " ++ l.text ++ codes " }") };
 
     fn fmt<W: fmt::Write>(&self, f: &mut fmt::Formatter<W>) -> fmt::Result {
-        let name = name_of(K::KIND);
+        let name = K::KIND.struct_name();
         let text = self.token.text();
         write!(f, "{name} {{ token: {text} }}")
     }

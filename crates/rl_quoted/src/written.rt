@@ -23,10 +23,7 @@ fn opener_length(kind: Kind) -> usize
 fn is_whole(kind: Kind, body: &[u8], value: &[u8]) -> bool
     ensures { IsTrue result ↔ (IsTrue (is_string kind) × (body.now ≡ value.now)) }
 {
-    match kind {
-        Kind::Str | Kind::ByteStr | Kind::CStr => body == value,
-        _ => false,
-    }
+    kind.is_string() && body == value
 }
 
 /// The places of the parts of a text that the value with these bytes is written as: no suffix stands behind the closing
