@@ -14,7 +14,6 @@ mod base10;
 mod copies;
 
 use rl_grammar::{Found, Kind, digits_of_found, next_is, take_kind};
-use rl_quoted::{shown_as, word_of};
 use rl_tokens::{Error, ErrorKind, Kept, Literal, Parse, ParseBuffer, Span, Token};
 use std::alloc::{Allocator, Global};
 use std::fmt;
@@ -106,7 +105,9 @@ impl<K: NumberKind, A: Allocator + Copy> Number<K, A> {
             Err(Kept { error, .. }) => Err(error),
         }
     }
+}
 
+impl<K: NumberKind, A: Allocator> Number<K, A> {
     /// The literal of this token. A refused one is handed back as it was.
     ///
     /// # Errors
@@ -166,9 +167,7 @@ impl<K: NumberKind, A: Allocator + Copy> Number<K, A> {
             }
         }
     }
-}
 
-impl<K: NumberKind, A: Allocator> Number<K, A> {
     /// The digits in base ten. Of an integer its magnitude without leading zeros, behind a minus where the text begins
     /// with one; of a float what stands before the suffix, without underscores and pluses, and with `E` as `e`.
     ///
@@ -231,13 +230,13 @@ impl<K: NumberKind, A: Allocator> fmt::Display for Number<K, A> {
 /// Takes the number of the kind that stands next. It is refused as [`take_kind`] says.
 impl<K: NumberKind, A: Allocator + Copy> Parse<A> for Number<K, A> {
     ghost use Rattle.rl_tokens.specs.Fronts.{RunsAs};
-    ghost use Rattle.rl_quoted.specs.Words.{kind_word};
+    ghost use Rattle.rl_tokens.specs.Words.{kind_word};
 
     ghost runs = { RunsAs K.KIND (kind_word K.KIND) };
 
     fn parse(alloc: A, input: &mut ParseBuffer<'_, A>) -> Result<Number<K, A>, Error<A>> {
         let before = input.fork();
-        let token = match take_kind(alloc, input, K::KIND, word_of(K::KIND)) {
+        let token = match take_kind(alloc, input, K::KIND, K::KIND.word()) {
             Ok(token) => token,
             Err(error) => return Err(error),
         };
@@ -254,7 +253,7 @@ impl<K: NumberKind, A: Allocator + Copy> Parse<A> for Number<K, A> {
 /// True exactly where the parser succeeds, if memory is found.
 impl<K: NumberKind, A: Allocator> Token for Number<K, A> {
     ghost use Rattle.rl_tokens.specs.Fronts.{HasFrontOf};
-    ghost use Rattle.rl_quoted.specs.Words.{kind_shown};
+    ghost use Rattle.rl_tokens.specs.Words.{kind_shown};
 
     ghost peeks = { HasFrontOf K.KIND };
 
@@ -265,6 +264,6 @@ impl<K: NumberKind, A: Allocator> Token for Number<K, A> {
     }
 
     fn display() -> &'static str {
-        shown_as(K::KIND)
+        K::KIND.shown()
     }
 }

@@ -20,7 +20,6 @@ ghost use Rattle.rust_literals.specs.Literals.{kind_of, span_of};
 
 use crate::lit::Lit;
 use rl_grammar::Kind;
-use rl_quoted::name_of;
 use rl_tokens::{Error, Kept, Literal, Span, ToTokens, TokenStream, TokenTree};
 use std::alloc::Allocator;
 use std::fmt;
@@ -102,7 +101,7 @@ impl<A: Allocator> fmt::Debug for Lit<A> {
         match self.kind() {
             Some(Kind::Bool) => write!(f, "LitBool {{ value: {text} }}"),
             Some(kind) => {
-                let name = name_of(kind);
+                let name = kind.struct_name();
                 write!(f, "{name} {{ token: {text} }}")
             }
             None => write!(f, "Verbatim {{ token: {text} }}"),

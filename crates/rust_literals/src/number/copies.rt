@@ -9,10 +9,9 @@ ghost use Rattle.std.specs.Ordering.{on};
 ghost use Rattle.std.proofs.Common.{rules};
 ghost use Rattle.rl_tokens.specs.Errors.{memory_at};
 ghost use Rattle.rl_tokens.specs.Trees.{LiteralTree, stream_view};
-ghost use Rattle.rl_quoted.specs.Words.{kind_name};
+ghost use Rattle.rl_tokens.specs.Words.{kind_name};
 
 use crate::number::{Number, NumberKind};
-use rl_quoted::name_of;
 use rl_tokens::{Error, ToTokens, TokenStream, append_literal};
 use std::alloc::{AllocError, Allocator};
 use std::fmt;
@@ -89,7 +88,7 @@ impl<K: NumberKind, A: Allocator> fmt::Debug for Number<K, A> {
     ghost debug_output = { λ l. Some (kind_name K.KIND ++ codes " { token: " ++ l.text ++ codes " }") };
 
     fn fmt<W: fmt::Write>(&self, f: &mut fmt::Formatter<W>) -> fmt::Result {
-        let name = name_of(K::KIND);
+        let name = K::KIND.struct_name();
         let text = self.token.text();
         write!(f, "{name} {{ token: {text} }}")
     }
