@@ -83,7 +83,7 @@ impl<'a> View<'a> {
     }
 }
 
-impl<A: Allocator + Copy> Lit<A> {
+impl<A: Allocator> Lit<A> {
     ghost use Rattle.rust_literals.specs.Literals.{
       IsReadFrom,
       ReadsAsNumber,

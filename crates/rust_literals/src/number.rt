@@ -105,7 +105,9 @@ impl<K: NumberKind, A: Allocator + Copy> Number<K, A> {
             Err(Kept { error, .. }) => Err(error),
         }
     }
+}
 
+impl<K: NumberKind, A: Allocator> Number<K, A> {
     /// The literal of this token. A refused one is handed back as it was.
     ///
     /// # Errors
@@ -165,9 +167,7 @@ impl<K: NumberKind, A: Allocator + Copy> Number<K, A> {
             }
         }
     }
-}
 
-impl<K: NumberKind, A: Allocator> Number<K, A> {
     /// The digits in base ten. Of an integer its magnitude without leading zeros, behind a minus where the text begins
     /// with one; of a float what stands before the suffix, without underscores and pluses, and with `E` as `e`.
     ///
