@@ -80,10 +80,23 @@ fn cut(alloc: Global, text: &str, out: &mut String) -> Result<(), AllocError> {
     }
 }
 
-/// The tokens of a text as they are lent, and what is left of it.
+/// Tells why the tokens stopped, where they did.
+fn tell_stop(tokens: &Tokens<'_>, out: &mut String) -> Result<(), AllocError> {
+    match tokens.fault() {
+        Some(fault) => {
+            let kind = fault.kind;
+            let at = fault.at;
+            write!(out, "{kind:?} {at}; ")
+        }
+        None => Ok(()),
+    }
+}
+
+/// The tokens of a text as they are lent, why they stopped, and what is left of it.
 fn lent(text: &str, out: &mut String) -> Result<(), AllocError> {
     let mut tokens = Tokens::new(text);
     for _ in 0..text.len() {
+        tell_stop(&tokens, out)?;
         let Some(token) = tokens.next() else {
             return write!(out, "{}\n", tokens.rest());
         };
