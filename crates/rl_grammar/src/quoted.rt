@@ -194,29 +194,3 @@ pub(crate) fn quoted_shape(text: &str) -> Option<Parts<'_>>
     let quoted = quoted_parts(text)?;
     Some(quoted.1)
 }
-
-#[cfg(test)]
-mod tests {
-    use super::*;
-
-    fn is(text: &str, kind: Kind, body: &str, suffix: &str) -> bool {
-        quoted_shape(text) == Some(Parts { kind, body, suffix })
-    }
-
-    #[test]
-    fn shapes(rt: HostRuntime) {
-        assert!(&rt; is("br##\"x\"##", Kind::ByteStr, "x", ""));
-        assert!(&rt; is("'\\u{1F600}'x", Kind::Char, "\\u{1F600}", "x"));
-        assert!(&rt; is("'''", Kind::Char, "'", ""));
-        assert!(&rt; is("b'''", Kind::Byte, "'", ""));
-        assert!(&rt; quoted_shape("c\"\\0\"").is_none());
-        assert!(&rt; is("\"a\\\n  b\"", Kind::Str, "a\\\n  b", ""));
-        assert!(&rt; is("\"a\"\r\n", Kind::Str, "a", "\r\n"));
-        assert!(&rt; is("\"a\r\nb\"", Kind::Str, "a\r\nb", ""));
-        assert!(&rt; quoted_shape("\"a\rb\"").is_none());
-        assert!(&rt; is("r#\"a\"b\"#tail", Kind::Str, "a\"b", "tail"));
-        assert!(&rt; is("r\"a\"b\"", Kind::Str, "a\"b", ""));
-        assert!(&rt; quoted_shape("r\"").is_none());
-        assert!(&rt; quoted_shape("r#\"a\"").is_none());
-    }
-}

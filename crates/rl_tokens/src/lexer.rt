@@ -44,6 +44,3 @@ pub fn lex<A: Allocator + Copy>(alloc: A, text: &str, file: u32) -> Result<Token
         None => nest.finish(),
     }
 }
-
-#[cfg(test)]
-mod tests;

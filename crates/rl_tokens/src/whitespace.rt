@@ -127,32 +127,3 @@ fn byte_at(bytes: &[u8], at: usize) -> u8
 {
     if at < bytes.len() { bytes[at] } else { 0 }
 }
-
-#[cfg(test)]
-mod tests {
-    use super::*;
-
-    // texts, and what is left of each
-    const SKIPPED: [(&str, &str); 13] = [
-        ("/* a /* b */ */x", "x"),
-        ("/**//***/y", "y"),
-        ("/// x", "/// x"),
-        ("//// x\ny", "y"),
-        ("/*/", "/*/"),
-        ("//", ""),
-        ("// x", ""),
-        ("\u{a0}\u{200e}z", "z"),
-        (" \t\r\n\u{2028}", ""),
-        ("//! x", "//! x"),
-        ("/** x */", "/** x */"),
-        ("/*! x */", "/*! x */"),
-        (" // a\n/* /* */ b", "/* /* */ b"),
-    ];
-
-    #[test]
-    fn skips(rt: HostRuntime) {
-        for (text, rest) in SKIPPED {
-            assert_eq!(rt; skip(text), rest);
-        }
-    }
-}
