@@ -1,5 +1,8 @@
 //! Calls of the program over texts in memory: statuses, what is written, and what is told.
 
+mod failing;
+mod refused;
+
 use crate::command::Command;
 use crate::ending::{Ending, call};
 use crate::fault::Fault;
