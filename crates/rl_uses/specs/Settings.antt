@@ -7,7 +7,7 @@ use Rattle.rl_tokens.specs.Tokens.{Token}
 use Rattle.rl_tokens.specs.Trees.{Tree}
 use Rattle.rl_tokens.specs.Lexing.{Lexes}
 use Rattle.rl_tokens.specs.Fronts.{IsFrontOf, RunsAs}
-use Rattle.rust_literals.specs.Base10.{AreIntegerDigits, IsMadeOf, IsRefusedBy}
+use Rattle.rust_literals.specs.Base10.{AreBase10Digits, IsMadeOf, IsRefusedBy}
 use Rattle.rl_uses.specs.Whole.{RefusesAll}
 
 -- The text is cut into the trees of one integer literal, and nothing else.
@@ -20,13 +20,13 @@ pub record IsOneInt (text : List ℕ) (file : ℕ) (literal : Token) : Type 0 wh
 pub record IsSetTo {N E : Type 0} (gives : List ℕ → Result N E → Type 0) (text : List ℕ) (file : ℕ) (number : N) : Type 0 where
   pub literal : Token
   pub one : IsOneInt text file literal
-  pub made : IsMadeOf gives (AreIntegerDigits literal.text) number
+  pub made : IsMadeOf gives (AreBase10Digits Int literal.text) number
 
 -- The text is one integer literal, and the number type refuses its digits: this is told at the literal.
 pub record RefusesDigits {N E A : Type 0} (gives : List ℕ → Result N E → Type 0) (output : E → Option (List ℕ)) (text : List ℕ) (file : ℕ) (e : Error A) : Type 0 where
   pub literal : Token
   pub one : IsOneInt text file literal
-  pub refused : IsRefusedBy gives output (AreIntegerDigits literal.text) literal.span e
+  pub refused : IsRefusedBy gives output (AreBase10Digits Int literal.text) literal.span e
 
 -- the text isn't one integer literal, or the number type refuses it
 abbrev pub RefusesSetting : {N E A : Type 0} → (List ℕ → Result N E → Type 0) → (E → Option (List ℕ)) → List ℕ → ℕ → Error A → Type 0

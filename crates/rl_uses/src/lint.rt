@@ -27,6 +27,9 @@ fn has_control<A: Allocator + Copy>(alloc: A, string: &LitStr<A>) -> Result<bool
     ensures tells { IfOk result (TellsControl string.now) }
     ensures memory { IfErr result (λ e. e ≡ memory_at string.now.span) }
 {
+    if let Some(value) = string.value_ref() {
+        return Ok(holds_control(value));
+    }
     let value = string.value(alloc)?;
     Ok(holds_control(value.as_str()))
 }

@@ -7,11 +7,10 @@ ghost use Rattle.rl_tokens.specs.Errors.{memory_at};
 ghost use Rattle.rust_literals.specs.declared.lit.Lit.{Lit};
 ghost use Rattle.rust_literals.specs.Parsing.{AreRead};
 ghost use Rattle.rust_literals.specs.Literals.{span_of};
-ghost use Rattle.rust_literals.specs.Copies.{text_of};
 ghost use Rattle.rl_uses.specs.Shortage.{IsShortOf, RefusesLiterals};
 ghost use Rattle.rl_uses.specs.Rewrites.{IsQuotedRewrite, IsRewrite, PrintsLine, AreLines};
 
-use rl_tokens::{Error, Literal};
+use rl_tokens::Error;
 use rust_literals::{Lit, LitByte, LitByteStr, LitCStr, LitChar, LitStr, read_all};
 use std::alloc::Allocator;
 
@@ -116,25 +115,6 @@ pub fn rewritten<A: Allocator + Copy>(alloc: A, literal: &Lit<A>) -> Result<Lit<
     })
 }
 
-/// The literal's token; of a truth value its word as one.
-fn token_of<A: Allocator + Copy>(alloc: A, literal: &Lit<A>) -> Result<Literal<A>, Error<A>>
-    ensures text { IfOk result (λ token. token.text ≡ text_of literal.now) }
-    ensures memory { IfErr result (λ e. e ≡ memory_at (span_of literal.now)) }
-{
-    match literal {
-        Lit::Str(literal) => literal.token(alloc),
-        Lit::ByteStr(literal) => literal.token(alloc),
-        Lit::CStr(literal) => literal.token(alloc),
-        Lit::Byte(literal) => literal.token(alloc),
-        Lit::Char(literal) => literal.token(alloc),
-        Lit::Int(literal) => literal.token(alloc),
-        Lit::Float(literal) => literal.token(alloc),
-        Lit::Bool(literal) if literal.value() => Literal::from_text(alloc, "true", literal.span()),
-        Lit::Bool(literal) => Literal::from_text(alloc, "false", literal.span()),
-        Lit::Verbatim(token) => token.clone(alloc),
-    }
-}
-
 /// Writes the literal's rewriting and LF at the end.
 fn push_line<A: Allocator + Copy>(
     alloc: A,
@@ -146,10 +126,7 @@ fn push_line<A: Allocator + Copy>(
     ensures memory { IfErr result (λ e. e ≡ memory_at (span_of literal.now)) }
 {
     let anew = rewritten(alloc, literal)?;
-    let Ok(token) = token_of(alloc, &anew) else {
-        return Err(Error::memory(literal.span()));
-    };
-    if out.push_str(token.text()).is_err() || out.push('\n').is_err() {
+    if out.push_str(anew.text()).is_err() || out.push('\n').is_err() {
         return Err(Error::memory(literal.span()));
     }
     Ok(())
