@@ -9,6 +9,7 @@ extern "C" {
     fn rl_bench_shape(bytes: *const u8, len: usize, ends: *const usize, count: usize) -> u64;
     fn rl_bench_value(b: *const u8, n: usize, e: *const usize, m: usize, sum: &mut u64) -> bool;
     fn rl_bench_literal(b: *const u8, n: usize, e: *const usize, m: usize, sum: &mut u64) -> bool;
+    fn rl_bench_lent(b: *const u8, n: usize, e: *const usize, m: usize, sum: &mut u64) -> bool;
     fn rl_bench_lex(b: *const u8, n: usize, e: *const usize, m: usize, sum: &mut u64) -> bool;
     fn rl_bench_read(b: *const u8, n: usize, e: *const usize, m: usize, sum: &mut u64) -> bool;
 }
@@ -42,6 +43,10 @@ pub fn value(corpus: &Corpus) -> u64 {
 
 pub fn literal(corpus: &Corpus) -> u64 {
     call(rl_bench_literal, corpus)
+}
+
+pub fn lent(corpus: &Corpus) -> u64 {
+    call(rl_bench_lent, corpus)
 }
 
 pub fn lex(corpus: &Corpus) -> u64 {

@@ -45,6 +45,7 @@ const OF_LITERALS: &[Work] = &[
     ours("shape", Sum::Shapes, ours::shape),
     ours("value", Sum::Values, ours::value),
     ours("literal", Sum::Values, ours::literal),
+    ours("lent", Sum::Values, ours::lent),
     other("litrs", Sum::Values, others::litrs_value),
     #[cfg(feature = "oracle")]
     other("syn", Sum::Values, others::syn::value),

@@ -1,18 +1,17 @@
 -- Lengths and weights.
-use Rattle.std.proofs.Common.{◌≡◌, ◌∙◌, ℕ, List, [], ap, sym, subst, inl, inr, refl, Result, Ok, Err, IfOk}
-use Rattle.std.specs.Str.{chars}
-use Rattle.rl_tokens.specs.Tokens.{Token}
+use Rattle.std.proofs.Common.{◌≡◌, ◌∙◌, ℕ, List, [], Bool, Option, Some, None, ap, sym, subst, inl, inr, refl, Result, Ok, Err, IfOk}
+use Rattle.std.specs.Str.{chars, IsUtf8}
 use Rattle.rl_tokens.specs.Lexing.{byte_len}
 use Rattle.rl_tokens.specs.declared.kind.Kind.{Kind}
 use Rattle.rl_tokens.specs.declared.kind.Kind.TheVariants.{Str as StrKind, ByteStr as ByteStrKind, CStr as CStrKind, Byte as ByteKind, Char as CharKind, Int as IntKind, Float as FloatKind, Bool as BoolKind}
 use Rattle.rl_tokens.specs.Numbers.{FloatReads, float_digits}
-use Rattle.rl_tokens.specs.Reading.{Digits, Truth, ReadsAs, HasSuffix}
+use Rattle.rl_tokens.specs.Reading.{Characters, Digits, ReadsAs, HasContents, HasSuffix}
+use Rattle.rl_grammar.specs.Bodies.{HasBody}
 use Rattle.rl_grammar.specs.NumberShapes.{AreDigits}
 use Rattle.rust_literals.specs.declared.lit.Lit.{Lit}
-use Rattle.rust_literals.specs.declared.lit.Lit.TheVariants.{Str, ByteStr, CStr, Byte, Char, Int, Float, Bool, Verbatim}
-use Rattle.rust_literals.specs.Literals.{IsReadFrom}
+use Rattle.rust_literals.specs.Literals.{kind_of, IsReadAs}
 use Rattle.rl_bench.specs.Weights.{size, IsValueWeight, HasValueWeight}
-use Rattle.rl_bench.specs.Sizes.{HasSize, HasLitWeight}
+use Rattle.rl_bench.specs.Sizes.{HasSize, WeighsAs, HasLitWeight, IsLitOf}
 
 -- a number's digits are its contents
 pub digits_size : (kind : Kind) (text ds : List ℕ) (n : ℕ) → ReadsAs kind text → AreDigits kind text ds → n ≡ byte_len ds → HasSize kind text n
@@ -25,6 +24,13 @@ digits_size ByteKind text ds n reads are e = absurd are
 digits_size CharKind text ds n reads are e = absurd are
 digits_size BoolKind text ds n reads are e = absurd are
 
+-- what a string's body stands for is its contents
+pub string_size : (kind : Kind) (text body value : List ℕ) (plain : Bool) (n : ℕ) → kind ≡ StrKind → IsUtf8 text → HasBody kind (chars text) body plain → ((t : List ℕ) → HasBody StrKind (chars t) body plain → IsUtf8 t → HasContents StrKind (chars t) (Characters (chars value))) → n ≡ byte_len (chars value) → HasSize kind (chars text) n
+string_size kind text body value plain n is u has reads e =
+    let P : Kind → Type 0 = λ k. HasBody k (chars text) body plain in
+    let Q : Kind → Type 0 = λ k. HasSize k (chars text) n in
+    subst Q (sym is) (Characters (chars value), reads text (subst P is has) u, e)
+
 -- a float's digits are its contents, where no integer stands
 pub float_size : (text numeral x ds : List ℕ) (n : ℕ) → ReadsAs FloatKind text → FloatReads text numeral x → ds ≡ float_digits numeral → n ≡ byte_len ds → HasSize FloatKind text n
 float_size text numeral x ds n (v, y, r) reads digits e =
@@ -35,25 +41,16 @@ pub float_suffix : (text numeral x : List ℕ) → ReadsAs FloatKind text → Fl
 float_suffix text numeral x (v, y, r) reads =
     (Digits (float_digits numeral), record { numeral = numeral; reads = reads; no_integer = r.no_integer; contents_is = refl })
 
--- the weight of the literal that a token reads as is the text's
-pub read_weight : {A : Type 0} (token : Token) (lit : Lit A) (w : ℕ) → IsReadFrom token lit → HasLitWeight lit w → HasValueWeight token.text w
-read_weight token (Str l) w (e, reads) h = let P : Token → Type 0 = λ t. IsValueWeight StrKind (chars t.text) w in inl (StrKind, subst P e h)
-read_weight token (ByteStr l) w (e, reads) h = let P : Token → Type 0 = λ t. IsValueWeight ByteStrKind (chars t.text) w in inl (ByteStrKind, subst P e h)
-read_weight token (CStr l) w (e, reads) h = let P : Token → Type 0 = λ t. IsValueWeight CStrKind (chars t.text) w in inl (CStrKind, subst P e h)
-read_weight token (Byte l) w (e, reads) h = let P : Token → Type 0 = λ t. IsValueWeight ByteKind (chars t.text) w in inl (ByteKind, subst P e h)
-read_weight token (Char l) w (e, reads) h = let P : Token → Type 0 = λ t. IsValueWeight CharKind (chars t.text) w in inl (CharKind, subst P e h)
-read_weight token (Int l) w (e, reads) h = let P : Token → Type 0 = λ t. IsValueWeight IntKind (chars t.text) w in inl (IntKind, subst P e h)
-read_weight token (Float l) w (e, reads) h =
-    let P : Token → Type 0 = λ t. ReadsAs FloatKind (chars t.text) → IsValueWeight FloatKind (chars t.text) w in inl (FloatKind, subst P e h reads)
-read_weight token (Bool l) w (span, reads) e =
-    inl (BoolKind, record { contents = Truth l.value; suffix = []; holds = ([], reads); ends = (Truth l.value, reads); weight_is = e })
-read_weight token (Verbatim l) w (e, none) zero = inr (none, zero)
+-- what is read as a kind, or as none, weighs what its text does
+read_weight : (kind : Option Kind) (text : List ℕ) (w : ℕ) → IsReadAs kind (chars text) → WeighsAs kind (chars text) w → HasValueWeight text w
+read_weight (Some kind) text w reads h = inl (kind, h reads)
+read_weight None text w none zero = inr (none, zero)
 
--- so it is where there may be none
-pub read_weights : {A E : Type 0} (token : Token) (text : List ℕ) (lit : Lit A) (r : Result ℕ E) → token.text ≡ text → IsReadFrom token lit → IfOk r (HasLitWeight lit) → IfOk r (HasValueWeight text)
-read_weights token text lit (Ok w) e reads h = let P : List ℕ → Type 0 = λ t. HasValueWeight t w in subst P e (read_weight token lit w reads h)
-read_weights token text lit (Err x) e reads h = tt
+-- the weight of the literal that a text reads as is the text's, where there is one
+pub read_weights : {A E : Type 0} (text : List ℕ) (lit : Lit A) (r : Result ℕ E) → IsLitOf text lit → IfOk r (HasLitWeight lit) → IfOk r (HasValueWeight text)
+read_weights text lit (Ok w) (e, reads) h = let P : List ℕ → Type 0 = λ t. WeighsAs (kind_of lit) (chars t) w in read_weight (kind_of lit) text w reads (subst P e h)
+read_weights text lit (Err x) is h = tt
 
--- a float weighs what its text does, where that is a float
-pub float_weight : {A : Type 0} (lit : Lit A) (l : Token) (w : ℕ) → lit ≡ Float l → (ReadsAs FloatKind (chars l.text) → IsValueWeight FloatKind (chars l.text) w) → HasLitWeight lit w
-float_weight lit l w e h = let P : Lit _ → Type 0 = λ v. HasLitWeight v w in subst P (sym e) h
+-- a literal weighs what its text does, by its kind
+pub lit_weight : {A : Type 0} (lit same : Lit A) (w : ℕ) → lit ≡ same → HasLitWeight same w → HasLitWeight lit w
+lit_weight lit same w e h = let P : Lit _ → Type 0 = λ v. HasLitWeight v w in subst P (sym e) h

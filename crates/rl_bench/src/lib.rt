@@ -9,12 +9,14 @@ ghost use Rattle.rl_bench.specs.Sums.{IsSum};
 ghost use Rattle.std.specs.declared.alloc.Global.{Global};
 ghost use Rattle.rl_bench.specs.Weights.{HasShapeWeight, HasValueWeight, HasTreeCount, HasLiteralCount};
 
+mod lent;
 mod lists;
 mod literals;
 mod sums;
 mod values;
 mod weights;
 
+use crate::lent::ByLent;
 use crate::lists::{ByList, ByTrees};
 use crate::literals::ByLiteral;
 use crate::sums::sum;
@@ -48,7 +50,7 @@ pub extern "C" fn rl_bench_value(
     put(sum::<ByValue>(alloc, corpus, ends), total)
 }
 
-/// The same, by way of `Lit::new`, the values, and the digits that it keeps.
+/// The same, by way of `Lit::new`, the values, and the digits that it lends.
 #[unsafe(no_mangle)]
 pub extern "C" fn rl_bench_literal(
     alloc: Global,
@@ -60,6 +62,20 @@ pub extern "C" fn rl_bench_literal(
     ensures refused { IsFalse result → total.new ≡ total.old }
 {
     put(sum::<ByLiteral>(alloc, corpus, ends), total)
+}
+
+/// The same, by way of `Lit::new`, and each value lent where the literal lends it.
+#[unsafe(no_mangle)]
+pub extern "C" fn rl_bench_lent(
+    alloc: Global,
+    corpus: &[u8],
+    ends: &[usize],
+    total: &mut u64,
+) -> bool
+    ensures sum { IsTrue result → IsSum HasValueWeight corpus.now ends.now total.new }
+    ensures refused { IsFalse result → total.new ≡ total.old }
+{
+    put(sum::<ByLent>(alloc, corpus, ends), total)
 }
 
 /// Puts into `total` how many trees the texts are cut into, a group counted as one; a text that has a fault counts as
@@ -125,6 +141,8 @@ mod tests {
         assert!(&rt; rl_bench_value(alloc, CORPUS, ENDS, &mut total));
         assert_eq!(&rt; total, 23);
         assert!(&rt; rl_bench_literal(alloc, CORPUS, ENDS, &mut total));
+        assert_eq!(&rt; total, 23);
+        assert!(&rt; rl_bench_lent(alloc, CORPUS, ENDS, &mut total));
         assert_eq!(&rt; total, 23);
         // 1, 1, 1, 3, 1
         assert!(&rt; rl_bench_lex(alloc, CORPUS, ENDS, &mut total));

@@ -4,7 +4,7 @@ ghost use Rattle.std.specs.Prelude.{IfOk};
 ghost use Rattle.std.specs.Str.{chars};
 ghost use Rattle.rl_tokens.specs.declared.kind.Kind.TheVariants.{Str, ByteStr, CStr};
 ghost use Rattle.rl_bench.specs.Weights.{IsValueWeight};
-ghost use Rattle.rl_bench.specs.Sizes.{HasLitWeight};
+ghost use Rattle.rl_bench.specs.Sizes.{HasLitWeight, IsLitOf};
 
 use crate::sums::Weigh;
 use crate::values::value_weight;
@@ -15,7 +15,7 @@ use rust_literals::{Lit, LitByteStr, LitCStr, LitStr};
 use std::alloc::{AllocError, Global};
 
 /// The weight of a literal by its kind, value or digits, and suffix.
-fn literal_weight(alloc: Global, literal: &Lit) -> Result<u64, AllocError>
+pub(crate) fn literal_weight(alloc: Global, literal: &Lit) -> Result<u64, AllocError>
     ensures { IfOk result (HasLitWeight literal.now) }
 {
     match literal {
@@ -42,7 +42,7 @@ fn literal_weight(alloc: Global, literal: &Lit) -> Result<u64, AllocError>
 }
 
 /// The weight of a string.
-fn string_weight(alloc: Global, literal: &LitStr) -> Result<u64, AllocError>
+pub(crate) fn string_weight(alloc: Global, literal: &LitStr) -> Result<u64, AllocError>
     ensures { IfOk result (IsValueWeight Str (chars literal.now.text)) }
 {
     match literal.value(alloc) {
@@ -55,7 +55,7 @@ fn string_weight(alloc: Global, literal: &LitStr) -> Result<u64, AllocError>
 }
 
 /// The weight of a byte string.
-fn byte_string_weight(alloc: Global, literal: &LitByteStr) -> Result<u64, AllocError>
+pub(crate) fn byte_string_weight(alloc: Global, literal: &LitByteStr) -> Result<u64, AllocError>
     ensures { IfOk result (IsValueWeight ByteStr (chars literal.now.text)) }
 {
     match literal.value(alloc) {
@@ -65,7 +65,7 @@ fn byte_string_weight(alloc: Global, literal: &LitByteStr) -> Result<u64, AllocE
 }
 
 /// The weight of a C string.
-fn c_string_weight(alloc: Global, literal: &LitCStr) -> Result<u64, AllocError>
+pub(crate) fn c_string_weight(alloc: Global, literal: &LitCStr) -> Result<u64, AllocError>
     ensures { IfOk result (IsValueWeight CStr (chars literal.now.text)) }
 {
     match literal.value(alloc) {
@@ -73,6 +73,20 @@ fn c_string_weight(alloc: Global, literal: &LitCStr) -> Result<u64, AllocError>
             let size = value.as_bytes().len();
             Ok(value_weight(Kind::CStr, size, literal.suffix()))
         }
+        Err(_) => Err(AllocError),
+    }
+}
+
+/// The literal that the text reads as.
+pub(crate) fn literal_of(alloc: Global, text: &str) -> Result<Lit, AllocError>
+    ensures { IfOk result (IsLitOf text.now) }
+{
+    let span = Span::new(0, 0, text.len());
+    let Ok(token) = Literal::from_text(alloc, text, span) else {
+        return Err(AllocError);
+    };
+    match Lit::new(alloc, token) {
+        Ok(literal) => Ok(literal),
         Err(_) => Err(AllocError),
     }
 }
@@ -88,13 +102,7 @@ impl Weigh for ByLiteral {
     ghost weighs = { HasValueWeight };
 
     fn weigh(alloc: Global, text: &str) -> Result<u64, AllocError> {
-        let span = Span::new(0, 0, text.len());
-        let Ok(token) = Literal::from_text(alloc, text, span) else {
-            return Err(AllocError);
-        };
-        match Lit::new(alloc, token) {
-            Ok(literal) => literal_weight(alloc, &literal),
-            Err(_) => Err(AllocError),
-        }
+        let literal = literal_of(alloc, text)?;
+        literal_weight(alloc, &literal)
     }
 }

@@ -1,34 +1,57 @@
 //! What literals weigh by their values.
 
-ghost use Rattle.std.specs.Prelude.{ℕ, List, IfOk};
+ghost use Rattle.std.specs.Prelude.{ℕ, List, IfOk, IsTrue};
 ghost use Rattle.std.specs.Str.{chars};
-ghost use Rattle.rl_tokens.specs.Reading.{ReadsAs, HasSuffix};
+ghost use Rattle.rl_tokens.specs.Quoted.{is_string};
+ghost use Rattle.rl_tokens.specs.Reading.{HasSuffix};
+ghost use Rattle.rl_grammar.specs.Bodies.{HasBody};
+ghost use Rattle.rl_grammar.specs.Founds.{IsFound};
 ghost use Rattle.rl_bench.specs.Sizes.{HasSize};
 ghost use Rattle.rl_bench.specs.Weights.{IsValueWeight};
 
 use crate::sums::Weigh;
 use crate::weights::{text_size, weight};
-use rl_grammar::{Kind, bytes_of, char_of, digits_of, shape, str_of};
+use rl_grammar::{Found, Kind, bytes_of_body, char_of, digits_of_found, find, str_of_body};
 use std::alloc::{AllocError, Global};
 
-/// The length of the contents that the text has as a literal of this kind.
-fn contents_size(alloc: Global, kind: Kind, text: &str) -> Result<usize, AllocError>
-    requires { ReadsAs kind (chars text.now) }
-    ensures { IfOk result (HasSize kind (chars text.now)) }
+/// What stands between the quotes of the string that was found in the text.
+fn body_in(text: &str, found: Found) -> &str
+    requires string { IsTrue (is_string found.kind) }
+    requires found { IsFound text.now found }
+    ensures { HasBody found.kind (chars text.now) result.now found.body.plain }
 {
-    match kind {
-        Kind::Str => match str_of(alloc, text) {
+    &text[found.body.at..found.body.end]
+}
+
+/// What stands behind the literal proper that was found in the text.
+fn suffix_in(text: &str, found: Found) -> &str
+    requires { IsFound text.now found }
+    ensures { HasSuffix found.kind (chars text.now) (chars result.now) }
+{
+    &text[found.body.suffix_at..]
+}
+
+/// The length of the contents of the literal that was found in the text.
+fn contents_size(alloc: Global, text: &str, found: Found) -> Result<usize, AllocError>
+    requires { IsFound text.now found }
+    ensures { IfOk result (HasSize found.kind (chars text.now)) }
+{
+    let plain = found.body.plain;
+    match found.kind {
+        Kind::Str => match str_of_body(alloc, body_in(text, found), plain) {
             Ok(value) => Ok(text_size(value.as_str())),
             Err(_) => Err(AllocError),
         },
-        Kind::ByteStr | Kind::CStr => match bytes_of(alloc, text) {
-            Ok(value) => Ok(value.len()),
-            Err(_) => Err(AllocError),
-        },
+        Kind::ByteStr | Kind::CStr => {
+            match bytes_of_body(alloc, found.kind, body_in(text, found), plain) {
+                Ok(value) => Ok(value.len()),
+                Err(_) => Err(AllocError),
+            }
+        }
         // A byte is one byte, whichever it is.
         Kind::Byte => Ok(1),
         Kind::Char => Ok(char_of(text).len_utf8()),
-        Kind::Int | Kind::Float => match digits_of(alloc, kind, text) {
+        Kind::Int | Kind::Float => match digits_of_found(alloc, text, found) {
             Ok(digits) => Ok(text_size(digits.as_str())),
             Err(_) => Err(AllocError),
         },
@@ -44,7 +67,7 @@ pub(crate) fn value_weight(kind: Kind, size: usize, suffix: &str) -> u64
     weight(kind, size, text_size(suffix))
 }
 
-/// By kind, contents and suffix, by way of the shape and the decoders.
+/// By kind, contents and suffix, by way of what reading finds, and the decoders of bodies.
 pub(crate) struct ByValue;
 
 impl Weigh for ByValue {
@@ -55,10 +78,10 @@ impl Weigh for ByValue {
     ghost weighs = { HasValueWeight };
 
     fn weigh(alloc: Global, text: &str) -> Result<u64, AllocError> {
-        let Some(parts) = shape(text) else {
+        let Some(found) = find(text) else {
             return Ok(0);
         };
-        let size = contents_size(alloc, parts.kind, text)?;
-        Ok(value_weight(parts.kind, size, parts.suffix))
+        let size = contents_size(alloc, text, found)?;
+        Ok(value_weight(found.kind, size, suffix_in(text, found)))
     }
 }

@@ -36,7 +36,7 @@ pub(crate) fn weight(kind: Kind, first: usize, second: usize) -> u64
 }
 
 /// How many bytes the characters of a text take.
-#[tactic(auto, using(rl_tokens::proofs::LexEnds::char_len))]
+#[tactic(auto, using(rl_tokens::proofs::Faults::char_len))]
 pub(crate) fn text_size(text: &str) -> usize
     ensures { result ≡ byte_len (chars text.now) }
 {
