@@ -69,11 +69,15 @@ pub fn byte_string_call(name: &str, trial: Trial<'_>, text: &str, page: &mut Pag
             trial.ends(&LitByteStr::new(trial.scant, text.as_bytes(), HERE), page);
         }
         "value" => {
-            let Some(literal) = made::<LitByteStr<Scant<'_>>>(trial, text) else {
+            let (Some(literal), Some(other)) = (
+                made::<LitByteStr<Scant<'_>>>(trial, text),
+                made(trial, text),
+            ) else {
                 return page.put(UNFIT);
             };
             trial.begins();
             trial.ends(&literal.value(trial.scant), page);
+            trial.leaves(&literal, &other, page);
         }
         _ => call_of_struct::<LitByteStr<Scant<'_>>>(name, trial, text, page),
     }
@@ -90,11 +94,15 @@ pub fn c_string_call(name: &str, trial: Trial<'_>, text: &str, page: &mut Page) 
             trial.ends(&LitCStr::new(trial.scant, &value, HERE), page);
         }
         "value" => {
-            let Some(literal) = made::<LitCStr<Scant<'_>>>(trial, text) else {
+            let (Some(literal), Some(other)) = (
+                made::<LitCStr<Scant<'_>>>(trial, text),
+                made(trial, text),
+            ) else {
                 return page.put(UNFIT);
             };
             trial.begins();
             trial.ends(&literal.value(trial.scant), page);
+            trial.leaves(&literal, &other, page);
         }
         _ => call_of_struct::<LitCStr<Scant<'_>>>(name, trial, text, page),
     }
@@ -139,11 +147,15 @@ pub fn integer_call(name: &str, trial: Trial<'_>, text: &str, page: &mut Page) {
             trial.ends(&LitInt::from_token(trial.scant, token), page);
         }
         "base10_parse" => {
-            let Some(literal) = made::<LitInt<Scant<'_>>>(trial, text) else {
+            let (Some(literal), Some(other)) = (
+                made::<LitInt<Scant<'_>>>(trial, text),
+                made(trial, text),
+            ) else {
                 return page.put(UNFIT);
             };
             trial.begins();
             trial.ends(&literal.base10_parse::<i8, _>(trial.scant), page);
+            trial.leaves(&literal, &other, page);
         }
         _ => call_of_struct::<LitInt<Scant<'_>>>(name, trial, text, page),
     }
@@ -164,11 +176,15 @@ pub fn float_call(name: &str, trial: Trial<'_>, text: &str, page: &mut Page) {
             trial.ends(&LitFloat::from_token(trial.scant, token), page);
         }
         "base10_parse" => {
-            let Some(literal) = made::<LitFloat<Scant<'_>>>(trial, text) else {
+            let (Some(literal), Some(other)) = (
+                made::<LitFloat<Scant<'_>>>(trial, text),
+                made(trial, text),
+            ) else {
                 return page.put(UNFIT);
             };
             trial.begins();
             trial.ends(&literal.base10_parse::<i8, _>(trial.scant), page);
+            trial.leaves(&literal, &other, page);
         }
         _ => call_of_struct::<LitFloat<Scant<'_>>>(name, trial, text, page),
     }

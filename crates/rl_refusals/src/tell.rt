@@ -53,12 +53,6 @@ impl Tell for i8 {
     }
 }
 
-impl Tell for u8 {
-    fn tell(&self, page: &mut Page) {
-        page.put_number(*self as usize);
-    }
-}
-
 impl Tell for String<Scant<'_>> {
     fn tell(&self, page: &mut Page) {
         page.put(self.as_str());
