@@ -20,6 +20,7 @@ pub(crate) enum Call {
     Across,
     Map,
     Shown,
+    Lends,
 }
 
 /// The call of this name.
@@ -34,6 +35,7 @@ pub(crate) fn call_of(name: &str) -> Option<Call> {
         "across" => Some(Call::Across),
         "map" => Some(Call::Map),
         "shown" => Some(Call::Shown),
+        "lends" => Some(Call::Lends),
         _ => None,
     }
 }
@@ -55,6 +57,7 @@ pub(crate) fn told(
         Call::Across => across(alloc, text, out),
         Call::Map => map(alloc, text, out),
         Call::Shown => shown(alloc, text, out),
+        Call::Lends => lends(alloc, text, out),
     }
 }
 
@@ -218,5 +221,34 @@ fn shown(alloc: Global, text: &str, out: &mut String) -> Result<(), AllocError> 
         Lit::Float(literal) => write!(out, "{literal}\n"),
         Lit::Verbatim(token) => write!(out, "{token}\n"),
         _ => out.push_str("another literal\n"),
+    }
+}
+
+/// What the literal lends of what it stands for, as text.
+fn lends(alloc: Global, text: &str, out: &mut String) -> Result<(), AllocError> {
+    match literal_of(alloc, text, HERE)? {
+        Lit::Str(literal) => tell_lent(literal.value_ref(), out),
+        Lit::ByteStr(literal) => tell_lent_bytes(literal.value_ref(), out),
+        Lit::CStr(literal) => tell_lent_bytes(literal.value_ref(), out),
+        _ => out.push_str("no string\n"),
+    }
+}
+
+/// Tells a text that is lent.
+fn tell_lent(lent: Option<&str>, out: &mut String) -> Result<(), AllocError> {
+    match lent {
+        Some(value) => write!(out, "{value:?}\n"),
+        None => out.push_str("nothing\n"),
+    }
+}
+
+/// Tells bytes that are lent.
+fn tell_lent_bytes(lent: Option<&[u8]>, out: &mut String) -> Result<(), AllocError> {
+    let Some(bytes) = lent else {
+        return out.push_str("nothing\n");
+    };
+    match std::str::from_utf8(bytes) {
+        Ok(value) => write!(out, "{value:?}\n"),
+        Err(_) => out.push_str("no text\n"),
     }
 }
