@@ -7,8 +7,17 @@ pub enum Form {
     Literals,
     /// One, a list of literals.
     List,
+    /// One, such a list with something else in its last bytes.
+    Spoiled,
     /// One, of one piece over and over.
     Hostile,
+}
+
+impl Form {
+    /// Whether it is no good text.
+    pub fn is_bad(self) -> bool {
+        matches!(self, Form::Spoiled | Form::Hostile)
+    }
 }
 
 /// Texts behind one another, and the place where each ends.
@@ -19,7 +28,7 @@ pub struct Corpus {
 }
 
 /// Every corpus.
-pub const ALL: [(&str, Form); 20] = [
+pub const ALL: [(&str, Form); 29] = [
     ("mixed literals", Form::Literals),
     ("short strings", Form::Literals),
     ("plain strings of 4 KB", Form::Literals),
@@ -31,6 +40,9 @@ pub const ALL: [(&str, Form); 20] = [
     ("list with comments", Form::List),
     ("comments alone", Form::List),
     ("list of short integers", Form::List),
+    ("short integers, a comma last", Form::Spoiled),
+    ("short integers, a group last", Form::Spoiled),
+    ("short integers, a fault last", Form::Spoiled),
     ("/", Form::Hostile),
     ("\"", Form::Hostile),
     ("#", Form::Hostile),
@@ -40,6 +52,12 @@ pub const ALL: [(&str, Form); 20] = [
     ("r#", Form::Hostile),
     ("'", Form::Hostile),
     ("(", Form::Hostile),
+    ("-", Form::Hostile),
+    ("\\", Form::Hostile),
+    ("1.", Form::Hostile),
+    ("1e", Form::Hostile),
+    ("b'", Form::Hostile),
+    ("c\"", Form::Hostile),
 ];
 
 impl Corpus {
@@ -177,6 +195,16 @@ impl Numbers {
     }
 }
 
+/// What stands behind a list of this name.
+fn last(name: &str) -> &'static str {
+    match name {
+        "short integers, a comma last" => ",",
+        "short integers, a group last" => "(1)",
+        "short integers, a fault last" => "'",
+        _ => "",
+    }
+}
+
 /// The texts of this name and form, of about this many bytes.
 pub fn make(name: &'static str, form: Form, size: usize) -> Corpus {
     let (bytes, ends) = (Vec::new(), Vec::new());
@@ -189,13 +217,14 @@ pub fn make(name: &'static str, form: Form, size: usize) -> Corpus {
                 corpus.push(&numbers.piece(name));
             }
         }
-        Form::List => {
+        Form::List | Form::Spoiled => {
             let mut list = String::new();
             while list.len() < size {
                 list.push_str(&numbers.piece(name));
             }
             // One literal more, so that a list of none isn't taken for a refusal.
             list.push('1');
+            list.push_str(last(name));
             corpus.push(&list);
         }
     }

@@ -1,15 +1,17 @@
 //! Times this repository's libraries and others on the same texts. bench/run builds and calls it.
 //!
 //! `driver time [--rounds N] [--size BYTES]` prints a table of times; `driver names` the corpora and what runs on each;
-//! `driver once CORPUS WORK BYTES` runs one piece of work once, in the function `measured`.
+//! `driver once CORPUS WORK BYTES` runs one piece of work once, in the function `measured`; `driver peak CORPUS WORK BYTES`
+//! also tells how far memory grew meanwhile. Each first tries the works on texts whose sums are known.
 
 mod corpus;
+mod known;
 mod others;
 mod ours;
 mod weight;
 mod works;
 
-use corpus::{Corpus, Form};
+use corpus::Corpus;
 use std::hint::black_box;
 use std::process::ExitCode;
 use works::Work;
@@ -62,7 +64,7 @@ fn print_times(rounds: u32, size: usize) -> Result<(), String> {
     println!("| Corpus | texts | bytes | work | ms | ns a byte | ours to it |");
     println!("|---|---|---|---|---|---|---|");
     for (name, form) in corpus::ALL {
-        if form == Form::Hostile {
+        if form.is_bad() {
             continue;
         }
         let corpus = corpus::make(name, form, size);
@@ -94,14 +96,10 @@ fn print_times(rounds: u32, size: usize) -> Result<(), String> {
     Ok(())
 }
 
-/// Prints each corpus and work, with a word on whether the corpus is hostile and the work ours.
+/// Prints each corpus and work, with a word on whether the corpus is bad input and the work ours.
 fn print_names() {
     for (name, form) in corpus::ALL {
-        let kind = if form == Form::Hostile {
-            "hostile"
-        } else {
-            "plain"
-        };
+        let kind = if form.is_bad() { "hostile" } else { "plain" };
         for work in works::of(form) {
             let whose = if work.ours { "ours" } else { "other" };
             println!("{kind}\t{whose}\t{name}\t{}", work.name);
@@ -109,8 +107,18 @@ fn print_names() {
     }
 }
 
-/// Runs one work once, and prints the corpus's bytes and the sum.
-fn run_once(name: &str, work_name: &str, size: usize) -> Result<(), String> {
+/// What the kernel tells of this process under a word, in bytes.
+fn memory(word: &str) -> Result<u64, String> {
+    let status = std::fs::read_to_string("/proc/self/status").map_err(|fault| fault.to_string())?;
+    let mut lines = status.lines();
+    let line = lines.find(|line| line.starts_with(word)).ok_or(word)?;
+    let number = line.split_whitespace().nth(1).ok_or(word)?;
+    let kilobytes: u64 = number.parse().map_err(|_| word.to_string())?;
+    Ok(1024 * kilobytes)
+}
+
+/// The work of this name, and the corpus of this name and size.
+fn found(name: &str, work_name: &str, size: usize) -> Result<(&'static Work, Corpus), String> {
     let (name, form) = corpus::ALL
         .into_iter()
         .find(|(known, _)| *known == name)
@@ -119,8 +127,25 @@ fn run_once(name: &str, work_name: &str, size: usize) -> Result<(), String> {
         .iter()
         .find(|work| work.name == work_name)
         .ok_or_else(|| format!("no work {work_name} on {name}"))?;
-    let corpus = corpus::make(name, form, size);
+    Ok((work, corpus::make(name, form, size)))
+}
+
+/// Runs one work once, and prints the corpus's bytes and the sum.
+fn run_once(name: &str, work_name: &str, size: usize) -> Result<(), String> {
+    let (work, corpus) = found(name, work_name, size)?;
     println!("{} {}", corpus.bytes.len(), measured(work, &corpus));
+    Ok(())
+}
+
+/// The same, and prints how many bytes more than before were held at most.
+fn run_for_peak(name: &str, work_name: &str, size: usize) -> Result<(), String> {
+    let (work, corpus) = found(name, work_name, size)?;
+    // The peak begins anew.
+    std::fs::write("/proc/self/clear_refs", "5").map_err(|fault| fault.to_string())?;
+    let before = memory("VmRSS")?;
+    let sum = measured(work, &corpus);
+    let peak = memory("VmHWM")? - before;
+    println!("{} {sum} {peak}", corpus.bytes.len());
     Ok(())
 }
 
@@ -137,6 +162,7 @@ fn number(arguments: &[String], flag: &str, default: usize) -> Result<usize, Str
 fn run() -> Result<(), String> {
     let arguments: Vec<String> = std::env::args().skip(1).collect();
     let words: Vec<&str> = arguments.iter().map(String::as_str).collect();
+    known::check()?;
     match words.as_slice() {
         ["time", ..] => {
             let rounds = number(&arguments, "--rounds", 20)?;
@@ -146,11 +172,18 @@ fn run() -> Result<(), String> {
             print_names();
             Ok(())
         }
-        ["once", corpus, work, size] => {
+        [verb @ ("once" | "peak"), corpus, work, size] => {
             let size = size.parse().map_err(|fault| format!("{size}: {fault}"))?;
-            run_once(corpus, work, size)
+            let run = if *verb == "once" {
+                run_once
+            } else {
+                run_for_peak
+            };
+            run(corpus, work, size)
         }
-        _ => Err("time [--rounds N] [--size BYTES] | names | once CORPUS WORK BYTES".to_string()),
+        _ => Err(
+            "time [--rounds N] [--size BYTES] | names | once|peak CORPUS WORK BYTES".to_string(),
+        ),
     }
 }
 

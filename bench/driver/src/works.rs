@@ -60,6 +60,12 @@ const OF_LISTS: &[Work] = &[
     other("proc-macro2 and syn", Sum::Literals, others::syn::read),
 ];
 
+/// The works of a list with something else in its last bytes.
+const OF_SPOILED: &[Work] = &[
+    ours("lex", Sum::Trees, ours::lex),
+    ours("read", Sum::Literals, ours::read),
+];
+
 /// The works of a text that is hostile.
 const OF_HOSTILE: &[Work] = &[
     ours("shape", Sum::Shapes, ours::shape),
@@ -73,6 +79,7 @@ pub fn of(form: Form) -> &'static [Work] {
     match form {
         Form::Literals => OF_LITERALS,
         Form::List => OF_LISTS,
+        Form::Spoiled => OF_SPOILED,
         Form::Hostile => OF_HOSTILE,
     }
 }

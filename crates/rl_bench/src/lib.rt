@@ -121,34 +121,3 @@ fn put(sum: Result<u64, AllocError>, total: &mut u64) -> bool
         Err(_) => false,
     }
 }
-
-#[cfg(test)]
-mod tests {
-    use super::*;
-
-    // A text past UTF-8, places out of order, and one past the end, among the texts.
-    const CORPUS: &[u8] = b"\"ab\"q0xFF_u8nope1 'a' [2]\xFFtrue";
-
-    const ENDS: &[usize] = &[5, 12, 16, 25, 26, 30, 3, 40];
-
-    #[test]
-    fn sums(rt: HostRuntime) {
-        let alloc = rt.alloc();
-        // 1 + 2 + 1, 6 + 5 + 2, 8 + 4
-        assert_eq!(&rt; rl_bench_shape(alloc, CORPUS, ENDS), 29);
-        let mut total = 0;
-        // 1 + 2 + 1, 6 + 3 + 2, 8
-        assert!(&rt; rl_bench_value(alloc, CORPUS, ENDS, &mut total));
-        assert_eq!(&rt; total, 23);
-        assert!(&rt; rl_bench_literal(alloc, CORPUS, ENDS, &mut total));
-        assert_eq!(&rt; total, 23);
-        assert!(&rt; rl_bench_lent(alloc, CORPUS, ENDS, &mut total));
-        assert_eq!(&rt; total, 23);
-        // 1, 1, 1, 3, 1
-        assert!(&rt; rl_bench_lex(alloc, CORPUS, ENDS, &mut total));
-        assert_eq!(&rt; total, 7);
-        // 1, 1, none, none, 1
-        assert!(&rt; rl_bench_read(alloc, CORPUS, ENDS, &mut total));
-        assert_eq!(&rt; total, 3);
-    }
-}

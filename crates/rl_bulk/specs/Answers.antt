@@ -15,7 +15,7 @@ use Rattle.rl_lines.specs.Lines.{IsLineOf, AreLinesOfText, PrintsKind, PrintsFlo
 use Rattle.rl_bulk.specs.declared.command.Command.{Command}
 use Rattle.rl_bulk.specs.declared.command.Command.TheVariants.{Text, Int, Float, Skip, Read}
 use Rattle.rl_bulk.specs.Asked.{name_of}
-use Rattle.rl_bulk.specs.Digits.{bytes_of}
+use Rattle.rl_lines.specs.Digits.{bytes_of}
 
 -- the line of the text as an integer, or why it is none
 abbrev pub IsIntegerAnswer : List ℕ → List ℕ → Type 0

@@ -4,7 +4,7 @@ ghost use Rattle.std.specs.Prelude.{◌≡◌, ◌++◌, ◌==◌, ℕ, List, []
 ghost use Rattle.std.specs.List.{before_first, after_first};
 ghost use Rattle.std.specs.Str.{chars};
 ghost use Rattle.rl_lines.specs.Lines.{IsLineOf, PrintsList};
-ghost use Rattle.rl_bulk.specs.Digits.{bytes_of};
+ghost use Rattle.rl_lines.specs.Digits.{bytes_of};
 ghost use Rattle.rl_bulk.specs.Answers.{
   IsIntegerAnswer,
   IsFloatAnswer,
@@ -17,8 +17,7 @@ ghost use Rattle.rl_bulk.specs.Answers.{
 };
 
 use crate::command::Command;
-use crate::digits::decoded;
-use rl_lines::{Refusal, line_of, lines_of};
+use rl_lines::{Refusal, decoded, line_of, lines_of};
 use rl_tokens::{Error, ErrorKind, Literal, Span, whitespace};
 use rust_literals::{Lit, LitFloat, LitInt, read_all};
 use std::alloc::{AllocError, Global};

@@ -1,11 +1,8 @@
-//! Reads many texts, one a line, and prints of each what `rl_tool` prints, or what a call of the libraries answers. For
-//! development: comparing at scale, and the stored rows that stand for tests.
+//! Reads many texts, one a line, and prints of each what `rl_tool` prints. For development: comparing at scale.
 #![tactic(auto)]
 
 mod answer;
-mod calls;
 mod command;
-mod digits;
 mod line;
 
 use std::io;

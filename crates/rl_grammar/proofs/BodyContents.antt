@@ -1,18 +1,15 @@
 -- What the body of a string stands for.
-use Rattle.std.proofs.Common.{◌≡◌, ◌-◌, take, drop, ◌⊎◌, inl, inr, ℕ, Bool, true, false, List, refl, sym, ap, subst, ◌∙◌}
+use Rattle.std.proofs.Common.{◌≡◌, ◌⊎◌, inl, inr, ℕ, Bool, true, false, List, refl, sym, ap, subst, ◌∙◌}
 use Rattle.std.proofs.lemmas.Bool.{both_ways}
 use Rattle.std.specs.Prelude.{Result, Ok, Err, IfOk}
 use Rattle.std.specs.Str.{chars, IsUtf8}
 use Rattle.rl_tokens.specs.declared.kind.Kind.{Kind}
 use Rattle.rl_tokens.specs.declared.kind.Kind.TheVariants.{Str, ByteStr, CStr, Byte, Char, Int, Float, Bool as BoolKind}
 use Rattle.rl_tokens.specs.Reading.{Characters, Bytes, ReadsQuoted, HasContents, quoted_contents}
-use Rattle.rl_grammar.specs.Bodies.{HasBody, IsBodyAt}
-use Rattle.rl_grammar.specs.declared.bodies.Body.{Body}
-use Rattle.rl_grammar.specs.Forms.{PartsAre}
-use Rattle.std.proofs.lemmas.Str.{IsUtf8-between, IsUtf8-drop}
+use Rattle.rl_grammar.specs.Bodies.{HasBody}
 use Rattle.rl_grammar.specs.Decoded.{Decodes, HoldsBytes}
 use Rattle.rl_grammar.proofs.ContentLemmas.{plain_bytes, not_raw, cooked_bytes, str_bytes}
-use Rattle.rl_grammar.proofs.FormLemmas.{formed, formed_once, parts_formed, parts_read}
+use Rattle.rl_grammar.proofs.FormLemmas.{parts_read}
 
 pub ok_plain : {X E : Type 0} (items : X → List ℕ) (r : Result X E) (kind : Kind) (body bytes : List ℕ) (plain : Bool) → plain ≡ true → IsUtf8 body → body ≡ bytes → IfOk r (λ v. items v ≡ bytes) → IfOk r (λ v. (t : List ℕ) → HasBody kind t body plain → HoldsBytes t (items v))
 ok_plain items (Ok v) kind body bytes plain is u same e = λ t has. subst (HoldsBytes t) (same ∙ sym e) (plain_bytes t has.form kind has.value body has.suffix (sym has.plain_is ∙ is) u has.parts)

@@ -219,7 +219,7 @@ one_unicode Int c s h = absurd (cc)
 one_unicode Float c s h = absurd (cc)
 one_unicode BoolKind c s h = absurd (cc)
 
-one_value : (kind : Kind) (u : QuotedUnit) → is_single kind ≡ true → IsUnit kind u → (n : ℕ) × (unit_value kind u ≡ n ∷ [])
+pub one_value : (kind : Kind) (u : QuotedUnit) → is_single kind ≡ true → IsUnit kind u → (n : ℕ) × (unit_value kind u ≡ n ∷ [])
 one_value kind (Plain c) s h = one_plain kind c s h
 one_value kind CrLf s h = absurd (not_both kind h s)
 one_value kind (Named l) s h = (letter_value l, refl)

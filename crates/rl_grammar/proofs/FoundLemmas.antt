@@ -1,7 +1,7 @@
 -- What reading a text finds, from its parts.
-use Rattle.std.proofs.Common.{◌≡◌, ◌≢◌, ℕ, ◌-◌, ◌<◌, ◌≤◌, ◌⊎◌, inl, inr, Bool, true, false, List, [], ◌∷◌, ◌++◌, length, take, drop, refl, sym, ap, ap₂, subst, ◌∙◌, arith, length-append}
-use Rattle.std.proofs.Math.Seq.{drop-append_seam, take-append_seam}
-use Rattle.std.proofs.lemmas.Bool.{both_ways, or_right}
+use Rattle.std.proofs.Common.{◌≡◌, ℕ, ◌-◌, ◌⊎◌, inl, inr, Bool, true, false, List, [], ◌∷◌, ◌++◌, length, take, drop, refl, sym, ap, ap₂, subst, ◌∙◌, arith, length-append}
+use Rattle.std.proofs.Math.Seq.{take-append_seam}
+use Rattle.std.proofs.lemmas.Bool.{both_ways}
 use Rattle.std.proofs.lemmas.List.{append_cancel_right}
 use Rattle.std.proofs.lemmas.Str.{IsCharBoundary-start, IsCharBoundary-end, IsUtf8-between, IsUtf8-drop, chars-append, chars-nil}
 use Rattle.std.specs.Str.{chars, IsUtf8, IsCharBoundary}
@@ -10,7 +10,7 @@ use Rattle.rl_tokens.specs.declared.kind.Kind.TheVariants.{Str, ByteStr, CStr, B
 use Rattle.rl_tokens.specs.Texts.{IsBehind}
 use Rattle.rl_tokens.specs.Numbers.{FloatReads, float_digits}
 use Rattle.rl_tokens.specs.Quoted.{is_string, is_single}
-use Rattle.rl_tokens.specs.Reading.{Contents, Digits, Truth, HasNoInteger, HasSuffix, ReadsAs, ReadsInt, ReadsQuoted, quoted_contents, truth_text}
+use Rattle.rl_tokens.specs.Reading.{Digits, Truth, HasNoInteger, HasSuffix, ReadsAs, ReadsQuoted, quoted_contents, truth_text}
 use Rattle.rl_tokens.proofs.BehindLemmas.{cut_boundary, cut_drop}
 use Rattle.rl_grammar.specs.declared.quoted.Form.{Form}
 use Rattle.rl_grammar.specs.declared.quoted.Form.TheVariants.{Cooked as CookedForm, Raw as RawForm, Single as SingleForm}

@@ -1,17 +1,23 @@
 -- At most one literal begins the trees.
-use Rattle.std.proofs.Common.{◌≡◌, ℕ, Bool, List, [], ◌∷◌, refl, sym, ◌∙◌, subst}
-use Rattle.std.specs.Prelude.{IsFalse}
+use Rattle.std.proofs.Common.{◌≡◌, ℕ, Bool, List, [], ◌∷◌, refl, sym, ap, ◌∙◌, subst}
+use Rattle.std.specs.Prelude.{◌↔◌, IsTrue, IsFalse, Option, Some, None, IfSome, IfNone}
+use Rattle.std.specs.Option.{is_some}
 use Rattle.std.specs.Str.{chars}
 use Rattle.rl_tokens.specs.declared.kind.Kind.{Kind}
 use Rattle.rl_tokens.specs.declared.kind.Kind.TheVariants.{Bool as BoolKind}
+use Rattle.rl_tokens.specs.Puncts.{Mark}
 use Rattle.rl_tokens.specs.Tokens.{Token}
 use Rattle.rl_tokens.specs.Trees.{Tree, GroupTree, IdentTree, PunctTree, LiteralTree}
 use Rattle.rl_tokens.specs.Reading.{Truth, ReadsAs, truth_text}
-use Rattle.rl_tokens.specs.Buffers.{begins_literal}
-use Rattle.rl_tokens.specs.Fronts.{IsFront, HasNoFront, HasFrontOf}
+use Rattle.rl_tokens.specs.Buffers.{begins_literal, IsRest}
+use Rattle.rl_tokens.specs.Fronts.{IsFront, HasNoFront, HasFrontOf, joined}
 use Rattle.rl_tokens.proofs.OneReading.{one_reading}
-use Rattle.rl_grammar.proofs.MinusLemmas.{no_truth}
+use Rattle.rl_tokens.proofs.TreeRests.{rest_one, rest_two}
+use Rattle.rl_grammar.specs.declared.found.Found.{Found}
+use Rattle.rl_grammar.specs.Founds.{IsFound}
 use Rattle.rl_grammar.specs.FrontTokens.{HasNoWord, HasNoMinus}
+use Rattle.rl_grammar.proofs.FoundLemmas.{found_reads}
+use Rattle.rl_grammar.proofs.MinusLemmas.{no_truth}
 
 -- a literal token, a word or a minus and its number: else nothing begins the trees
 pub no_front : (trees : List Tree) → IsFalse (begins_literal trees) → HasNoWord trees → HasNoMinus trees → HasNoFront trees
@@ -37,9 +43,26 @@ one_front (PunctTree p ∷ PunctTree x ∷ trees) a b r s h k = absurd h
 one_front (PunctTree p ∷ GroupTree d inside at ∷ trees) a b r s h k = absurd h
 one_front (GroupTree d inside at ∷ trees) a b r s h k = absurd h
 
+-- behind a literal the rest stands
+pub front_rest : (trees rest : List Tree) (token : Token) → IsFront trees token rest → IsRest trees rest
+front_rest [] rest token h = absurd h
+front_rest (LiteralTree x ∷ trees) rest token (_, f) = rest_one _ _ _ (ap (λ ts. LiteralTree x ∷ ts) (sym f))
+front_rest (IdentTree x ∷ trees) rest token (_, _, f) = rest_one _ _ _ (ap (λ ts. IdentTree x ∷ ts) (sym f))
+front_rest (PunctTree p ∷ []) rest token h = absurd h
+front_rest (PunctTree p ∷ LiteralTree x ∷ trees) rest token (_, _, _, f) = rest_two _ _ _ _ (ap (λ ts. PunctTree p ∷ (LiteralTree x ∷ ts)) (sym f))
+front_rest (PunctTree p ∷ IdentTree x ∷ trees) rest token h = absurd h
+front_rest (PunctTree p ∷ PunctTree x ∷ trees) rest token h = absurd h
+front_rest (PunctTree p ∷ GroupTree d inside at ∷ trees) rest token h = absurd h
+front_rest (GroupTree d inside at ∷ trees) rest token h = absurd h
+
 -- a text reads as one kind
 pub one_kind : (t : List ℕ) (k l : Kind) → ReadsAs k t → ReadsAs l t → k ≡ l
 one_kind t k l (v, x, r) (w, y, s) = (one_reading t k l v w x y r s).0
+
+-- what was found, or was not, decides whether the text reads as the kind
+pub found_as : (kind : Kind) (t : List ℕ) (o : Option Found) → IfSome o (IsFound t) → IfSome o (λ f. f.kind ≡ kind) → IfNone o (ReadsAs kind (chars t) → ⊥) → IsTrue (is_some o) ↔ ReadsAs kind (chars t)
+found_as kind t (Some f) found is none = ((λ h. subst (λ k. ReadsAs k (chars t)) is (found_reads t f found)), (λ r. refl))
+found_as kind t None found is none = ((λ h. absurd (cc)), (λ r. absurd (none r)))
 
 -- what one literal at the front reads as, each does
 pub same_front : (k : Kind) (trees : List Tree) (token : Token) (rest : List Tree) → IsFront trees token rest → HasFrontOf k trees → ReadsAs k (chars token.text)
@@ -59,3 +82,9 @@ pub minus_chars : (bs : List ℕ) → chars (45 ∷ bs) ≡ 45 ∷ chars bs
 unfolding chars
 minus_chars [] = refl
 minus_chars (b ∷ bs) = refl
+
+-- a minus and a literal that read together begin the trees
+pub negative_front : (trees behind rest : List Tree) (m : Mark) (l : Token) (f : Found) → trees ≡ PunctTree m ∷ behind → behind ≡ LiteralTree l ∷ rest → m.ch ≡ 45 → IsFound (45 ∷ l.text) f → IsFront trees (joined m l) rest
+negative_front trees behind rest m l f first second minus found =
+    subst (λ ts. IsFront ts (joined m l) rest) (sym (first ∙ ap (λ ts. PunctTree m ∷ ts) second))
+    (minus, (f.kind, subst (ReadsAs f.kind) (minus_chars l.text) (found_reads (45 ∷ l.text) f found)), refl, refl)

@@ -24,6 +24,7 @@ pub mod StrictBackLemmas
 pub mod StrictUnitLemmas
 pub mod StrictRowLemmas
 pub mod StrictRawLemmas
+pub mod ByteRunLemmas
 pub mod StrictLemmas
 pub mod FrontLemmas
 pub mod PlainLemmas
@@ -31,6 +32,7 @@ pub mod BodyLemmas
 pub mod AsciiLemmas
 pub mod PlaceLemmas
 pub mod BodyContents
+pub mod SingleBodies
 pub mod FoundLemmas
 pub mod MinusFoundLemmas
 pub mod NumberFoundLemmas

@@ -1,19 +1,16 @@
 -- A number that was found, behind a minus.
-use Rattle.std.proofs.Common.{◌≡◌, ◌≢◌, ℕ, zero, suc, ◌+◌, ◌-◌, ◌<◌, ◌≤◌, ◌⊎◌, inl, inr, Bool, true, false, not, cond, ◌==◌, List, [], ◌∷◌, ◌++◌, length, take, drop, refl, sym, ap, subst, ◌∙◌, arith, length-drop}
+use Rattle.std.proofs.Common.{◌≡◌, ℕ, zero, suc, ◌+◌, ◌-◌, ◌≤◌, ◌⊎◌, inl, inr, Bool, true, false, cond, ◌==◌, List, [], ◌∷◌, ◌++◌, length, take, drop, refl, sym, ap, subst, ◌∙◌, arith, length-drop}
 use Rattle.std.proofs.lemmas.List.{take-append-drop}
-use Rattle.std.proofs.lemmas.Bool.{both_ways}
 use Rattle.std.proofs.lemmas.List.{append_cancel_right}
 use Rattle.std.proofs.lemmas.Str.{IsUtf8-take, IsUtf8-drop, IsUtf8-append, IsUtf8-from_ascii, chars-append}
 use Rattle.std.specs.Str.{chars, IsUtf8, IsAscii}
-use Rattle.rl_tokens.specs.declared.kind.Kind.{Kind}
 use Rattle.rl_tokens.specs.declared.kind.Kind.TheVariants.{Int, Float}
 use Rattle.rl_tokens.specs.Texts.{IsBehind}
-use Rattle.rl_tokens.specs.Numbers.{Sign, NoSign, Minus, FloatReads}
+use Rattle.rl_tokens.specs.Numbers.{NoSign, Minus, FloatReads}
 use Rattle.rl_tokens.specs.Reading.{HasNoInteger, HasSuffix}
 use Rattle.rl_tokens.proofs.StrictNumbers.{behind_minus}
-use Rattle.rl_grammar.specs.declared.bodies.Body.{Body}
 use Rattle.rl_grammar.specs.declared.found.Found.{Found}
-use Rattle.rl_grammar.specs.Founds.{IsFound, IsFoundFloat, suffix_in}
+use Rattle.rl_grammar.specs.Founds.{IsFound}
 use Rattle.rl_grammar.specs.NumberAt.{sign_at}
 use Rattle.rl_grammar.specs.NumberShapes.{IsWithin, IsCutInteger}
 use Rattle.rl_grammar.specs.PlainAt.{is_plain_integer, is_plain_digits, is_plain_float}

@@ -10,7 +10,7 @@ use Rattle.rl_tokens.specs.Quoted.{is_string, is_single}
 use Rattle.rl_grammar.specs.Shapes.{IsQuotedCut}
 use Rattle.rl_tokens.specs.Reading.{Contents, Reads, ReadsQuoted, quoted_contents}
 use Rattle.rl_grammar.specs.declared.quoted.Form.{Form}
-use Rattle.rl_grammar.specs.Bodies.{HasBody, IsBodyAt, letters}
+use Rattle.rl_grammar.specs.Bodies.{IsBodyAt, letters}
 use Rattle.rl_grammar.specs.declared.bodies.Body.{Body}
 use Rattle.rl_grammar.specs.Founds.{IsQuotedAt, body_in, suffix_in}
 use Rattle.rl_grammar.specs.Decoded.{ReadsAsQuoted}

@@ -4,7 +4,10 @@ use Rattle.std.proofs.lemmas.Bool.{and_parts, and_from, not-true, not_from_false
 use Rattle.std.specs.List.{list_all}
 use Rattle.rl_tokens.specs.Texts.{passes, xid_ok}
 use Rattle.rl_tokens.specs.Numbers.{IsSuffix}
+use Rattle.rl_tokens.specs.Quoted.{is_blank}
 use Rattle.rl_grammar.specs.NumberAt.{run, after_run, is_suffix}
+use Rattle.rl_grammar.specs.Forms.{after_hashes}
+use Rattle.rl_grammar.specs.UnitAt.{after_blanks}
 use Rattle.rl_grammar.proofs.DigitRowLemmas.{run_yes, run_no}
 
 -- each character of a run passes
@@ -60,3 +63,14 @@ suffix_sound [] h = (inl refl, refl)
 suffix_sound (c ∷ cs) h =
     let b = and_parts (not (c == 95)) (xid_ok (c ∷ cs)) h in
     (inr b.1, not-true (c == 95) b.0)
+
+-- what follows hashes, and blanks
+pub run_is_hashes : (t : List ℕ) → after_run (λ c. c == 35) t ≡ after_hashes t
+unfolding after_run after_hashes
+run_is_hashes [] = refl
+run_is_hashes (c ∷ cs) = ap (λ z. cond (c == 35) z (c ∷ cs)) (run_is_hashes cs)
+
+pub run_is_blanks : (t : List ℕ) → after_run is_blank t ≡ after_blanks t
+unfolding after_run after_blanks
+run_is_blanks [] = refl
+run_is_blanks (c ∷ cs) = ap (λ z. cond (is_blank c) z (c ∷ cs)) (run_is_blanks cs)

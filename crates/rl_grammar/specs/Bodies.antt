@@ -6,6 +6,7 @@ use Rattle.rl_tokens.specs.declared.kind.Kind.TheVariants.{Str, Char}
 use Rattle.rl_tokens.specs.Quoted.{is_string}
 use Rattle.rl_tokens.specs.Reading.{HasSuffix}
 use Rattle.rl_grammar.specs.declared.quoted.Form.{Form}
+use Rattle.rl_grammar.specs.declared.quoted.Form.TheVariants.{Single as SingleForm}
 use Rattle.rl_grammar.specs.declared.bodies.Body.{Body}
 use Rattle.rl_grammar.specs.Forms.{PartsAre, is_plain_body}
 
@@ -17,6 +18,12 @@ pub record HasBody (kind : Kind) (text body : List ℕ) (plain : Bool) : Type 0 
   pub suffix : List ℕ
   pub parts : PartsAre form kind text value (chars body) suffix
   pub plain_is : plain ≡ is_plain_body form kind (chars body)
+
+-- The body, in bytes, stands between the quotes of the character or the byte.
+pub record HasSingleBody (kind : Kind) (text body : List ℕ) : Type 0 where
+  pub value : List ℕ
+  pub suffix : List ℕ
+  pub parts : PartsAre SingleForm kind text value (chars body) suffix
 
 -- The parts of the string, whose text is told by its bytes, stand at these places.
 pub record IsBodyAt (kind : Kind) (text : List ℕ) (body : Body) : Type 0 where

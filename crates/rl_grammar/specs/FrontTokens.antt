@@ -14,7 +14,7 @@ use Rattle.rl_grammar.specs.declared.front.Front.TheVariants.{Token as TokenFron
 abbrev pub token_of : {A : Type 0} → Front A → Token
 token_of (TokenFront l) = l.now
 token_of (Word i) = i.now
-token_of (Negative m l) = joined m.now l.now
+token_of (Negative n) = joined n.0 n.1
 
 -- the trees don't begin with the word `true` or `false`
 abbrev pub HasNoWord : List Tree → Type 0

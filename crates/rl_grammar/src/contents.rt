@@ -7,7 +7,7 @@ ghost use Rattle.rl_tokens.specs.Errors.{memory_at, nowhere};
 ghost use Rattle.rl_tokens.specs.Quoted.{is_single, is_string};
 ghost use Rattle.rl_tokens.specs.Reading.{Contents, Characters, Bytes, quoted_contents, ReadsQuoted, ReadsAs, HasContents};
 ghost use Rattle.rl_grammar.specs.UnitAt.{piece_value};
-ghost use Rattle.rl_grammar.specs.Bodies.{HasBody};
+ghost use Rattle.rl_grammar.specs.Bodies.{HasBody, HasSingleBody};
 ghost use Rattle.rl_grammar.specs.Decoded.{ContentsAre, ReadsAsQuoted, piece_bytes, Decodes, HoldsBytes};
 ghost use Rattle.rl_grammar.specs.WholeShapes.{IsPlain};
 
@@ -215,17 +215,50 @@ fn single_piece(kind: Kind, text: &str) -> Piece
     piece
 }
 
+/// The same of the unit that stands between the quotes.
+fn body_piece(kind: Kind, body: &str) -> Piece
+    requires { (text : List ℕ) × HasSingleBody kind text body.now }
+    ensures reads { (text : List ℕ) → HasSingleBody kind text body.now
+        → (x : List ℕ) × ReadsQuoted text kind (quoted_contents kind (piece_value kind result)) x }
+    ensures one { (n : ℕ) × (piece_value kind result ≡ n ∷ []) }
+{
+    let Some((piece, _)) = unit(kind, body) else {
+        unreachable!()
+    };
+    piece
+}
+
+/// The byte that the piece of a byte literal is.
+fn piece_byte(piece: Piece) -> u8
+    requires { (n : ℕ) × (piece_value Kind.Byte piece ≡ n ∷ []) }
+    ensures { piece_value Kind.Byte piece ≡ result ∷ [] }
+{
+    match piece {
+        Piece::Byte(b) => b,
+        Piece::Character(c) => c as u8,
+        Piece::Nothing => unreachable!(),
+    }
+}
+
+/// The character that the piece of a character literal is.
+fn piece_char(piece: Piece) -> char
+    requires { (n : ℕ) × (piece_value Kind.Char piece ≡ n ∷ []) }
+    ensures { piece_value Kind.Char piece ≡ result ∷ [] }
+{
+    match piece {
+        Piece::Character(c) => c,
+        Piece::Byte(b) => b as char,
+        Piece::Nothing => unreachable!(),
+    }
+}
+
 /// The byte that a byte literal stands for. The text has to read as `Byte`, as its shape tells.
 pub fn byte_of(text: &str) -> u8
     requires { ReadsAs Kind.Byte (chars text.now) }
     ensures value { ContentsAre Kind.Byte (chars text.now) (Bytes (result ∷ [])) }
     ensures reads { HasContents Kind.Byte (chars text.now) (Bytes (result ∷ [])) }
 {
-    match single_piece(Kind::Byte, text) {
-        Piece::Byte(b) => b,
-        Piece::Character(c) => c as u8,
-        Piece::Nothing => unreachable!(),
-    }
+    piece_byte(single_piece(Kind::Byte, text))
 }
 
 /// The character that a character literal stands for. The text has to read as `Char`, as its shape tells.
@@ -234,9 +267,23 @@ pub fn char_of(text: &str) -> char
     ensures value { ContentsAre Kind.Char (chars text.now) (Characters (result ∷ [])) }
     ensures reads { HasContents Kind.Char (chars text.now) (Characters (result ∷ [])) }
 {
-    match single_piece(Kind::Char, text) {
-        Piece::Character(c) => c,
-        Piece::Byte(b) => b as char,
-        Piece::Nothing => unreachable!(),
-    }
+    piece_char(single_piece(Kind::Char, text))
+}
+
+/// The byte that a byte literal with this between its quotes stands for.
+pub fn byte_of_body(body: &str) -> u8
+    requires { (text : List ℕ) × HasSingleBody Kind.Byte text body.now }
+    ensures { (text : List ℕ) → HasSingleBody Kind.Byte text body.now
+        → HasContents Kind.Byte text (Bytes (result ∷ [])) }
+{
+    piece_byte(body_piece(Kind::Byte, body))
+}
+
+/// The character that a character literal with this between its quotes stands for.
+pub fn char_of_body(body: &str) -> char
+    requires { (text : List ℕ) × HasSingleBody Kind.Char text body.now }
+    ensures { (text : List ℕ) → HasSingleBody Kind.Char text body.now
+        → HasContents Kind.Char text (Characters (result ∷ [])) }
+{
+    piece_char(body_piece(Kind::Char, body))
 }

@@ -3,11 +3,12 @@
 ghost use Rattle.std.specs.Prelude.{◌≡◌, ◌++◌, IfNone, IfSome, option_map};
 ghost use Rattle.std.specs.Str.{chars};
 ghost use Rattle.rl_tokens.specs.declared.kind.Kind.TheVariants.{Float};
-ghost use Rattle.rl_tokens.specs.Texts.{IsBehind, is_underscore};
+ghost use Rattle.rl_tokens.specs.Texts.{IsBehind};
 ghost use Rattle.rl_tokens.specs.Numbers.{FloatReads};
-ghost use Rattle.rl_grammar.specs.NumberAt.{after_exponent, after_fraction, after_minus, after_run, float_at, float_tail_at, IsHead, power_at};
+ghost use Rattle.rl_grammar.specs.NumberAt.{after_exponent, after_fraction, after_minus, float_at, float_tail_at, IsHead, power_at};
 ghost use Rattle.rl_grammar.specs.NumberShapes.{HasNoFloat, HasOneFloat};
 
+use crate::classes::{Class, skip};
 use crate::integers::Head;
 use crate::parts::Parts;
 use crate::rows::{after_minus, begins_digit, cut_suffix, is_suffix, skip_row};
@@ -26,26 +27,13 @@ fn after_fraction(text: &str) -> &str
     }
 }
 
-/// What follows the underscores.
-#[tactic(auto, using(rl_tokens::proofs::BehindLemmas::behind_step, rl_tokens::proofs::BehindLemmas::behind_self), unfolding(crate::specs::NumberAt::after_run))]
-fn after_underscores(text: &str) -> &str
-    ensures value { chars result.now ≡ after_run is_underscore (chars text.now) }
-    ensures behind { IsBehind text.now result.now }
-{
-    let mut rest = text;
-    while let Some(('_', after)) = split_char(rest) {
-        rest = after;
-    }
-    rest
-}
-
 /// The digits of a power, behind its letter.
 #[tactic(auto, using(rl_tokens::proofs::BehindLemmas::behind_step, rl_tokens::proofs::BehindLemmas::behind_self), unfolding(crate::specs::NumberAt::power_at))]
 fn power_digits(text: &str) -> &str
     ensures value { chars result.now ≡ power_at (chars text.now) }
     ensures behind { IsBehind text.now result.now }
 {
-    let signed = after_underscores(text);
+    let signed = skip(Class::Underscore, text);
     match split_char(signed) {
         Some(('+' | '-', digits)) => digits,
         _ => signed,

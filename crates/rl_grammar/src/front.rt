@@ -1,18 +1,19 @@
 //! The literal that begins a buffer's trees.
 
 ghost use Rattle.std.specs.Prelude.{◌≡◌, [], ◌∷◌, IsTrue, ◌↔◌, IfOk, IfErr, IfSome, IfNone};
+ghost use Rattle.std.specs.Result.{result_map_both};
 ghost use Rattle.std.specs.Str.{chars};
 ghost use Rattle.rl_tokens.specs.declared.kind.Kind.TheVariants.{Bool as BoolKind};
 ghost use Rattle.rl_tokens.specs.Errors.{memory_at};
-ghost use Rattle.rl_tokens.specs.Trees.{IdentTree, PunctTree, LiteralTree};
+ghost use Rattle.rl_tokens.specs.Trees.{IdentTree};
 ghost use Rattle.rl_tokens.specs.Reading.{Reads, ReadsAs, Truth};
 ghost use Rattle.rl_tokens.specs.Buffers.{trees_in, scope_of, IsRest};
 ghost use Rattle.rl_tokens.specs.Fronts.{
   IsFront,
   HasNoFront,
   HasFrontOf,
-  HasReading,
   RunsAs,
+  joined,
   joined_span,
 };
 ghost use Rattle.rl_grammar.specs.Founds.{IsFound};
@@ -20,10 +21,32 @@ ghost use Rattle.rl_grammar.specs.NumberShapes.{HasNoReading};
 ghost use Rattle.rl_grammar.specs.FrontTokens.{HasNoWord, HasNoMinus};
 
 use crate::found::{Found, find, find_negative};
-use crate::numbers::shape_negative;
 use crate::reading::truth_of;
 use rl_tokens::{Error, Ident, Kind, Literal, ParseBuffer, Punct, Span};
 use std::alloc::Allocator;
+use std::marker::Model;
+
+/// A minus and a literal token that read together, and what reading them found.
+#[derive(Drop)]
+pub struct Negative<'a, A: Allocator> {
+    minus: &'a Punct,
+    number: &'a Literal<A>,
+    found: Found,
+}
+
+/// The minus, and the literal token. The places count in the text of both, the minus included.
+impl<'a, A: Allocator> Model for Negative<'a, A> {
+    ghost use Rattle.std.specs.Prelude.{◌∷◌};
+    ghost use Rattle.rl_tokens.specs.Puncts.{Mark};
+    ghost use Rattle.rl_tokens.specs.Tokens.{Token};
+    ghost use Rattle.rl_grammar.specs.Founds.{IsFound};
+
+    ghost Value = { Mark × Token };
+
+    ghost view = { λ n. (n.minus.now, n.number.now) };
+
+    ghost invariant = { λ n. IsFound (45 ∷ n.number.now.text) n.found };
+}
 
 /// A literal at the front of trees, as the tokens that it is made of.
 #[derive(Drop)]
@@ -33,7 +56,7 @@ pub enum Front<'a, A: Allocator> {
     /// The word `true` or `false`.
     Word(&'a Ident<A>),
     /// A minus and a literal token that read together.
-    Negative(&'a Punct, &'a Literal<A>),
+    Negative(Negative<'a, A>),
 }
 
 /// Takes the word `true` or `false`; else the buffer stays.
@@ -53,12 +76,9 @@ fn take_word<'a, A: Allocator>(input: &mut ParseBuffer<'a, A>) -> Option<&'a Ide
 }
 
 /// Takes a minus and a literal token that read together; else the buffer stays.
-fn take_negative<'a, A: Allocator>(
-    input: &mut ParseBuffer<'a, A>,
-) -> Option<(&'a Punct, &'a Literal<A>)>
+fn take_negative<'a, A: Allocator>(input: &mut ParseBuffer<'a, A>) -> Option<Negative<'a, A>>
     ensures taken { IfSome result
-        (λ p. (trees_in input.old ≡ PunctTree p.0.now ∷ LiteralTree p.1.now ∷ trees_in input.new)
-        × (p.0.now.ch ≡ 45) × HasReading (45 ∷ chars p.1.now.text)) }
+        (λ n. IsFront (trees_in input.old) (joined n.0 n.1) (trees_in input.new)) }
     ensures none { IfNone result (HasNoMinus (trees_in input.old)) }
     ensures left { IfNone result (trees_in input.new ≡ trees_in input.old) }
     ensures scope { scope_of input.new ≡ scope_of input.old }
@@ -69,9 +89,13 @@ fn take_negative<'a, A: Allocator>(
         return None;
     }
     let number = ahead.literal()?;
-    shape_negative(number.text())?;
+    let found = find_negative(number.text())?;
     *input = ahead;
-    Some((minus, number))
+    Some(Negative {
+        minus,
+        number,
+        found,
+    })
 }
 
 /// From a minus to its number, where both stand in one file, else the minus alone.
@@ -103,8 +127,8 @@ impl<'a, A: Allocator> Front<'a, A> {
         if let Some(word) = take_word(input) {
             return Some(Front::Word(word));
         }
-        let (minus, number) = take_negative(input)?;
-        Some(Front::Negative(minus, number))
+        let negative = take_negative(input)?;
+        Some(Front::Negative(negative))
     }
 
     /// What reading the literal finds; the places count in its token's text, a minus included. None where it has no
@@ -116,7 +140,7 @@ impl<'a, A: Allocator> Front<'a, A> {
         match self {
             Front::Token(token) => find(token.text()),
             Front::Word(word) => find(word.text()),
-            Front::Negative(_, number) => find_negative(number.text()),
+            Front::Negative(negative) => Some(negative.found),
         }
     }
 
@@ -129,14 +153,25 @@ impl<'a, A: Allocator> Front<'a, A> {
         Some(found.kind)
     }
 
+    /// What reading the literal finds, where it reads as this kind.
+    fn find_as(&self, kind: Kind) -> Option<Found>
+        ensures found { IfSome result (IsFound (token_of self.now).text) }
+        ensures kind { IfSome result (λ f. f.kind ≡ kind) }
+        ensures none { IfNone result (ReadsAs kind (chars (token_of self.now).text) → ⊥) }
+    {
+        let found = self.find()?;
+        if found.kind == kind {
+            Some(found)
+        } else {
+            None
+        }
+    }
+
     /// Whether the literal reads as this kind.
     pub fn is_of(&self, kind: Kind) -> bool
         ensures { IsTrue result ↔ ReadsAs kind (chars (token_of self.now).text) }
     {
-        match self.kind() {
-            Some(found) => found == kind,
-            None => false,
-        }
+        self.find_as(kind).is_some()
     }
 
     /// The truth value that the literal is, where it is one.
@@ -148,7 +183,7 @@ impl<'a, A: Allocator> Front<'a, A> {
         match self {
             Front::Token(token) => truth_of(token.text()),
             Front::Word(word) => truth_of(word.text()),
-            Front::Negative(_, _) => None,
+            Front::Negative(_) => None,
         }
     }
 
@@ -159,7 +194,7 @@ impl<'a, A: Allocator> Front<'a, A> {
         match self {
             Front::Token(token) => token.span(),
             Front::Word(word) => word.span(),
-            Front::Negative(minus, number) => joined_span(minus.span(), number.span()),
+            Front::Negative(negative) => joined_span(negative.minus.span(), negative.number.span()),
         }
     }
 
@@ -171,7 +206,7 @@ impl<'a, A: Allocator> Front<'a, A> {
         match self {
             Front::Token(token) => Literal::clone(token, alloc),
             Front::Word(word) => Literal::from_text(alloc, word.text(), word.span()),
-            Front::Negative(_, number) => number.behind_minus(alloc, self.span()),
+            Front::Negative(negative) => negative.number.behind_minus(alloc, self.span()),
         }
     }
 }
@@ -187,7 +222,7 @@ pub fn next_is<A: Allocator>(input: &ParseBuffer<'_, A>, kind: Kind) -> bool
     }
 }
 
-/// Takes the literal of this kind that stands next, as a token.
+/// Takes the literal of this kind that stands next, as a token, with what reading it finds.
 ///
 /// It is refused with the word: where a literal of another kind stands, the buffer moves past it; where none does, it
 /// stays. Want of memory is told where the literal stands, and the buffer stays.
@@ -196,8 +231,11 @@ pub fn take_kind<A: Allocator>(
     input: &mut ParseBuffer<'_, A>,
     kind: Kind,
     word: &'static str,
-) -> Result<Literal<A>, Error<A>>
-    ensures runs { RunsAs kind word.now (trees_in input.old) (scope_of input.old) result (trees_in input.new) }
+) -> Result<(Literal<A>, Found), Error<A>>
+    ensures runs { RunsAs kind word.now (trees_in input.old) (scope_of input.old)
+        (result_map_both (λ p. p.0) (λ e. e) result) (trees_in input.new) }
+    ensures found { IfOk result (λ p. IsFound p.0.text p.1) }
+    ensures kind { IfOk result (λ p. p.1.kind ≡ kind) }
     ensures rest { IsRest (trees_in input.old) (trees_in input.new) }
     ensures scope { scope_of input.new ≡ scope_of input.old }
 {
@@ -205,15 +243,15 @@ pub fn take_kind<A: Allocator>(
     let Some(front) = Front::take(&mut ahead) else {
         return Err(input.error(word));
     };
-    if !front.is_of(kind) {
+    let Some(found) = front.find_as(kind) else {
         let error = input.error(word);
         *input = ahead;
         return Err(error);
-    }
+    };
     match front.token(alloc) {
         Ok(token) => {
             *input = ahead;
-            Ok(token)
+            Ok((token, found))
         }
         Err(_) => Err(Error::memory(input.span())),
     }

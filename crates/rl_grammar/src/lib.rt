@@ -2,6 +2,7 @@
 #![tactic(auto)]
 
 mod bodies;
+mod classes;
 mod contents;
 mod cuts;
 mod digits;
@@ -21,14 +22,16 @@ mod tally;
 mod units;
 
 pub use crate::bodies::{Body, body_of};
-pub use crate::contents::{byte_of, bytes_of, bytes_of_body, char_of, str_of, str_of_body};
+pub use crate::contents::{
+    byte_of, byte_of_body, bytes_of, bytes_of_body, char_of, char_of_body, str_of, str_of_body,
+};
 pub use crate::digits::{digits_of, digits_of_found};
 pub use crate::floats::float_shape;
 pub use crate::found::{Found, find, find_float, find_int, find_negative};
-pub use crate::front::{Front, next_is, take_kind};
+pub use crate::front::{Front, Negative, next_is, take_kind};
 pub use crate::integers::int_shape;
 pub use crate::numbers::shape_negative;
 pub use crate::parts::Parts;
 pub use crate::plain::is_plain;
-pub use crate::reading::shape;
+pub use crate::reading::{shape, truth_of};
 pub use rl_tokens::Kind;

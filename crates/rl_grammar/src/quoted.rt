@@ -11,6 +11,7 @@ ghost use Rattle.rl_grammar.specs.Rows.{BeginsRow};
 ghost use Rattle.rl_grammar.specs.Forms.{has_form, form_opener, string_front_at, byte_front_at, front_at, PartsAre, HasNoParts, is_plain_body, after_hashes};
 ghost use Rattle.rl_grammar.specs.Shapes.{IsQuotedCut, HasNoQuoted};
 
+use crate::classes::{Class, skip};
 use crate::cuts::{before, behind_prefix, has_nul, split_last_quote};
 use crate::parts::Parts;
 use crate::runs::split_plain;
@@ -77,15 +78,10 @@ fn skip_units(kind: Kind, text: &str) -> &str
 }
 
 /// The text behind the hashes at its front.
-#[tactic(auto, unfolding(crate::specs::Forms::after_hashes))]
 pub(crate) fn skip_hashes(text: &str) -> &str
     ensures { chars result.now ≡ after_hashes (chars text.now) }
 {
-    let mut rest = text;
-    while let Some(('#', after)) = split_char(rest) {
-        rest = after;
-    }
-    rest
+    skip(Class::Hash, text)
 }
 
 /// The text in front of a rest that begins with the quote, and the text behind that quote.

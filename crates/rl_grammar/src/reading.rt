@@ -14,8 +14,9 @@ use crate::quoted::quoted_shape;
 use rl_tokens::Kind;
 
 /// The truth value that the text is.
-pub(crate) fn truth_of(text: &str) -> Option<bool>
+pub fn truth_of(text: &str) -> Option<bool>
     ensures some { IfSome result (λ b. chars text.now ≡ truth_text b) }
+    ensures bytes { IfSome result (λ b. text.now ≡ truth_text b) }
     ensures none { IfNone result ((b : Bool) → chars text.now ≢ truth_text b) }
 {
     match text {

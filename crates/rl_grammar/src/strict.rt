@@ -6,8 +6,8 @@ ghost use Rattle.rl_grammar.specs.Forms.{has_form};
 ghost use Rattle.rl_grammar.specs.StrictShapes.{Closes, IsToken};
 
 mod numbers;
-mod quoted;
-mod units;
+pub(crate) mod quoted;
+pub(crate) mod units;
 pub(crate) mod words;
 
 use crate::quoted::{Form, front};

@@ -6,6 +6,7 @@ ghost use Rattle.rl_tokens.specs.Texts.{passes};
 ghost use Rattle.rl_tokens.specs.Quoted.{holds_characters, is_plain, may_hold, may_be_hex, has_unicode};
 ghost use Rattle.rl_grammar.specs.UnitAt.{piece_value, IsPieceOf, named_in, digit_at, hex_at, digits_at, unicode_at, after_blanks, escape_at, unit_at};
 
+use crate::classes::{Class, skip};
 use rl_tokens::Kind;
 use rl_tokens::text::{split_ascii, split_char};
 
@@ -148,16 +149,11 @@ fn unicode_escape(kind: Kind, text: &str) -> Option<(char, &str)>
 }
 
 /// The text behind the spaces, TABs, LFs and CRs.
-#[tactic(auto, unfolding(crate::specs::UnitAt::after_blanks))]
 fn skip_blanks(text: &str) -> &str
     ensures value { chars result.now ≡ after_blanks (chars text.now) }
     ensures shorter { length result.now ≤ length text.now }
 {
-    let mut rest = text;
-    while let Some((' ' | '\t' | '\n' | '\r', after)) = split_char(rest) {
-        rest = after;
-    }
-    rest
+    skip(Class::Blank, text)
 }
 
 /// What the escape stands for whose backslash stands before the text, and the text behind it.

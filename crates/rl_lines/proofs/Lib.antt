@@ -1,4 +1,5 @@
 pub mod LineLemmas
+pub mod DigitLemmas
 pub mod PrintLemmas
 pub mod TextLemmas
 pub mod ListLemmas

@@ -1,9 +1,12 @@
-//! What the programs print: literals as lines (kind, contents as they are written, and suffix), and refusals.
+//! What the programs print: literals as lines (kind, contents as they are written, and suffix), and refusals; and what
+//! those for development read, bytes as hexadecimal digits.
 #![tactic(auto)]
 
+mod digits;
 mod line;
 mod print;
 mod refusal;
 
+pub use crate::digits::decoded;
 pub use crate::print::{line_of, lines_of};
 pub use crate::refusal::Refusal;

@@ -1,20 +1,24 @@
 -- The places of parts, as reading finds them, and what stands there.
-use Rattle.std.proofs.Common.{◌≡◌, ◌⊎◌, ℕ, Bool, true, List, sym, subst, ◌∙◌}
-use Rattle.std.proofs.lemmas.Bool.{or_left}
+use Rattle.std.proofs.Common.{◌≡◌, ◌⊎◌, ℕ, Bool, true, List, refl, sym, subst, ◌∙◌}
+use Rattle.std.proofs.lemmas.Bool.{or_left, or_right}
+use Rattle.std.specs.Prelude.{Result, Ok, Err, Some, IfErr, position}
+use Rattle.std.specs.Result.{IsOk}
 use Rattle.std.specs.Str.{chars, IsUtf8}
 use Rattle.rl_tokens.specs.declared.kind.Kind.{Kind}
 use Rattle.rl_tokens.specs.declared.kind.Kind.TheVariants.{ByteStr, CStr}
-use Rattle.rl_tokens.specs.CStrings.{has_no_zero}
+use Rattle.rl_tokens.specs.CStrings.{has_no_zero, is_zero}
 use Rattle.rl_tokens.specs.Quoted.{is_string, is_single}
 use Rattle.rl_tokens.specs.Reading.{Bytes, ReadsAs, HasContents}
 use Rattle.rl_tokens.proofs.OneReading.{one_reading}
+use Rattle.rl_tokens.proofs.CStringLemmas.{zero_is_found}
 use Rattle.rl_tokens.proofs.CStringContents.{c_string_no_zero}
 use Rattle.rl_grammar.specs.declared.bodies.Body.{Body}
 use Rattle.rl_grammar.specs.declared.found.Found.{Found}
-use Rattle.rl_grammar.specs.Bodies.{HasBody}
+use Rattle.rl_grammar.specs.Bodies.{HasBody, HasSingleBody}
 use Rattle.rl_grammar.specs.Founds.{IsFound, body_in}
 use Rattle.rl_grammar.proofs.BodyContents.{bytes_of_has}
 use Rattle.rl_grammar.proofs.ContentLemmas.{plain_bytes}
+use Rattle.rl_grammar.proofs.SingleBodies.{single_at}
 use Rattle.rl_quoted.specs.Places.{StandsAt}
 
 -- what is found is of the kind that the text reads as
@@ -32,9 +36,18 @@ has_body kind t body s at =
     let q = at.quoted (or_left (is_string kind) (is_single kind) s) in
     record { string = s; form = q.form; value = q.value; suffix = _; parts = q.parts; plain_is = q.plain_is }
 
+-- the body of a character or a byte, which is a quoted literal
+pub single_body : (kind : Kind) (t : List ℕ) (body : Body) → is_single kind ≡ true → StandsAt kind t body → HasSingleBody kind (chars t) (body_in t body)
+single_body kind t body s at = single_at kind t body s (at.quoted (or_right (is_string kind) (is_single kind) s))
+
 -- the bytes of a C string hold no zero
 pub no_zero_of : (text bytes : List ℕ) → HasContents CStr text (Bytes bytes) → has_no_zero bytes ≡ true
 no_zero_of text bytes r = c_string_no_zero text bytes r.0 r.1
+
+-- of bytes without a zero a C string is made
+pub is_made : {S E : Type 0} (r : Result S E) (bytes : List ℕ) (place : E → ℕ) → has_no_zero bytes ≡ true → IfErr r (λ e. position is_zero bytes ≡ Some (place e)) → IsOk r
+is_made (Ok s) bytes place none first = refl
+is_made (Err e) bytes place none first = absurd (zero_is_found bytes (place e) none first)
 
 -- a plain body is the contents of what holds bytes
 pub plain_contents_bytes : (kind : Kind) (t body : List ℕ) (plain : Bool) → (kind ≡ ByteStr) ⊎ (kind ≡ CStr) → plain ≡ true → HasBody kind (chars t) body plain → IsUtf8 body → HasContents kind (chars t) (Bytes body)

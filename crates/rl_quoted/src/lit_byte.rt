@@ -6,7 +6,7 @@ ghost use Rattle.rl_tokens.specs.Reading.{Bytes, HasContents};
 ghost use Rattle.rl_tokens.specs.Agreeing.{IsWrittenForm};
 
 use crate::quoted::{Quoted, QuotedKind};
-use rl_grammar::{Kind, byte_of};
+use rl_grammar::{Kind, byte_of_body};
 use rl_tokens::{Error, Literal, Span};
 use std::alloc::{Allocator, Global};
 
@@ -39,6 +39,6 @@ impl<A: Allocator> LitByte<A> {
     pub fn value(&self) -> u8
         ensures { HasContents Byte (chars self.now.text) (Bytes (result ∷ [])) }
     {
-        byte_of(self.token.text())
+        byte_of_body(self.single_body())
     }
 }

@@ -47,10 +47,7 @@ impl<A: Allocator> LitCStr<A> {
     {
         let (body, plain) = self.body();
         match bytes_of_body(alloc, Kind::CStr, body, plain) {
-            Ok(bytes) => match CString::new(bytes) {
-                Ok(value) => Ok(value),
-                Err(_) => unreachable!(),
-            },
+            Ok(bytes) => Ok(CString::new(bytes).unwrap()),
             Err(_) => Err(Error::memory(self.token.span())),
         }
     }

@@ -6,7 +6,7 @@ ghost use Rattle.rl_tokens.specs.Reading.{Characters, HasContents};
 ghost use Rattle.rl_tokens.specs.Agreeing.{IsWrittenForm};
 
 use crate::quoted::{Quoted, QuotedKind};
-use rl_grammar::{Kind, char_of};
+use rl_grammar::{Kind, char_of_body};
 use rl_tokens::{Error, Literal, Span};
 use std::alloc::{Allocator, Global};
 
@@ -43,6 +43,6 @@ impl<A: Allocator> LitChar<A> {
     pub fn value(&self) -> char
         ensures { HasContents Char (chars self.now.text) (Characters (result ∷ [])) }
     {
-        char_of(self.token.text())
+        char_of_body(self.single_body())
     }
 }

@@ -12,8 +12,8 @@ ghost use Rattle.rl_tokens.specs.declared.kind.Kind.{Kind};
 ghost use Rattle.rl_tokens.specs.Errors.{memory_at};
 ghost use Rattle.rl_tokens.specs.Reading.{HasSuffix, ReadsAs};
 ghost use Rattle.rl_tokens.specs.Trees.{LiteralTree, stream_view};
-ghost use Rattle.rl_tokens.specs.Quoted.{is_string};
-ghost use Rattle.rl_grammar.specs.Bodies.{HasBody};
+ghost use Rattle.rl_tokens.specs.Quoted.{is_single, is_string};
+ghost use Rattle.rl_grammar.specs.Bodies.{HasBody, HasSingleBody};
 ghost use Rattle.rl_grammar.specs.Founds.{IsFound, is_quoted};
 ghost use Rattle.rl_grammar.specs.WholeShapes.{IsPlain};
 ghost use Rattle.rl_quoted.specs.Places.{IsWrittenAs, StandsAt};
@@ -63,10 +63,8 @@ impl<K: QuotedKind, A: Allocator> Quoted<K, A> {
         requires { ReadsAs K.KIND (chars token.text) }
         ensures { result ≡ token }
     {
-        match find(token.text()) {
-            Some(found) => Quoted::of_found(token, found),
-            None => unreachable!(),
-        }
+        let found = find(token.text()).unwrap();
+        Quoted::of_found(token, found)
     }
 
     /// The literal of this token, in whose text [`find`] found this literal of the kind.
@@ -106,6 +104,15 @@ impl<K: QuotedKind, A: Allocator> Quoted<K, A> {
     {
         let body = self.body;
         (&self.token.text()[body.at..body.end], body.plain)
+    }
+
+    /// What stands between the quotes of a character or a byte.
+    pub(crate) fn single_body(&self) -> &str
+        requires { IsTrue (is_single K.KIND) }
+        ensures { HasSingleBody K.KIND (chars self.now.text) result.now }
+    {
+        let body = self.body;
+        &self.token.text()[body.at..body.end]
     }
 
     /// What stands behind the closing quote.
@@ -169,7 +176,7 @@ impl<K: QuotedKind, A: Allocator> Parse<A> for Quoted<K, A> {
 
     fn parse(alloc: A, input: &mut ParseBuffer<'_, A>) -> Result<Quoted<K, A>, Error<A>> {
         match take_kind(alloc, input, K::KIND, K::KIND.word()) {
-            Ok(token) => Ok(Quoted::of_token(token)),
+            Ok((token, found)) => Ok(Quoted::of_found(token, found)),
             Err(error) => Err(error),
         }
     }

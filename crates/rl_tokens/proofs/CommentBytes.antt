@@ -1,14 +1,15 @@
 -- Where comments end, told by the bytes of a text.
-use Rattle.std.proofs.Common.{◌≡◌, ℕ, suc, zero, ◌+◌, ◌<◌, ◌≤◌, ◌≢◌, ◌⊎◌, inl, inr, Bool, true, false, ◌&&◌, ◌==◌, cond, List, [], ◌∷◌, ◌++◌, length, length-append, drop, get_or, Option, Some, None, refl, sym, ◌∙◌, ap, subst, arith, append_assoc}
+use Rattle.std.proofs.Common.{◌≡◌, ℕ, suc, zero, ◌<◌, ◌≤◌, ◌⊎◌, inl, inr, Bool, true, false, ◌&&◌, ◌==◌, cond, List, [], ◌∷◌, ◌++◌, length, get_or, Option, Some, None, refl, sym, ◌∙◌, ap, arith}
 use Rattle.std.proofs.lemmas.Bool.Decides.{nat_tests}
 use Rattle.std.specs.List.{AllByRecursion}
-use Rattle.std.specs.Char.{encode_utf8}
+use Rattle.std.proofs.lemmas.Bool.{ltb-false}
+use Rattle.std.specs.Char.{encode_utf8, is_ascii}
 use Rattle.std.specs.Str.{chars, encode_utf8_all, IsUtf8}
 use Rattle.std.specs.Option.{option_map}
-use Rattle.std.proofs.lemmas.Str.{encode_ascii, length-encode, len_utf8_bounds, inside_one, encodes-chars, chars_from_encodes, IsUtf8-nil, IsUtf8-drop, IsCharBoundary-after_ascii}
-use Rattle.std.proofs.Math.Seq.{drop-append-add}
-use Rattle.rl_tokens.specs.Texts.{IsBehind}
-use Rattle.rl_tokens.specs.SkippedAt.{after_block, after_line}
+use Rattle.std.proofs.lemmas.Str.{encode_ascii, length-encode, len_utf8_bounds, inside_one, encodes-chars, chars_from_encodes}
+use Rattle.rl_tokens.specs.Texts.{passes}
+use Rattle.rl_tokens.specs.Trivia.{is_plain_line, is_plain_block}
+use Rattle.rl_tokens.specs.SkippedAt.{after_block, after_comment}
 use Rattle.rl_tokens.proofs.Comments.{closed, after_block-step, block_goes_on, both, false_unless}
 
 abbrev pub AllHigh : List ℕ → Type 0
@@ -101,26 +102,6 @@ after_block-encodes d [] = refl
 after_block-encodes d (c ∷ []) = block_one d c (cases128 c)
 after_block-encodes d (c ∷ e ∷ cs) = block_two d c e cs (λ n. after_block-encodes n cs) (after_block-encodes d (e ∷ cs)) (cases128 c) (cases128 e)
 
--- Lines.
-line_past_all : (xs s : List ℕ) → AllHigh xs → after_line (xs ++ s) ≡ after_line s
-line_past_all [] s is = refl
-line_past_all (x ∷ xs) s (is, more) = ap (λ b. cond b (xs ++ s) (after_line (xs ++ s))) (false_unless (x == 10) (λ h. let q : x ≡ 10 = grind (arith, nat_tests) in omega arith)) ∙ line_past_all xs s more
-
-line_one : (c : ℕ) (cs : List ℕ) → (c < 128) ⊎ (128 ≤ c) → after_line (encode_utf8_all cs) ≡ encode_utf8_all (after_line cs) → after_line (encode_utf8_all (c ∷ cs)) ≡ encode_utf8_all (after_line (c ∷ cs))
-line_one c cs (inl low) more =
-    ap after_line (low_front c cs low) ∙ same_cond (c == 10) more
-  where
-    same_cond : (b : Bool) → after_line (encode_utf8_all cs) ≡ encode_utf8_all (after_line cs) → cond b (encode_utf8_all cs) (after_line (encode_utf8_all cs)) ≡ encode_utf8_all (cond b cs (after_line cs))
-    same_cond true h = refl
-    same_cond false h = h
-line_one c cs (inr high) more =
-    line_past_all (encode_utf8 c) (encode_utf8_all cs) (encode_high c high) ∙ more
-    ∙ ap encode_utf8_all (sym (line_past_all (c ∷ []) cs (high, tt)))
-
-pub after_line-encodes : (cs : List ℕ) → after_line (encode_utf8_all cs) ≡ encode_utf8_all (after_line cs)
-after_line-encodes [] = refl
-after_line-encodes (c ∷ cs) = line_one c cs (cases128 c) (after_line-encodes cs)
-
 -- What the bytes give, the characters give.
 same_chars : (m : Option (List ℕ)) (rest : List ℕ) → IsUtf8 rest → Some rest ≡ option_map encode_utf8_all m → Some (chars rest) ≡ m
 same_chars None rest is e = absurd (cc)
@@ -142,49 +123,19 @@ block_of_bytes t rest is is_rest e = same_chars (after_block 0 (chars t)) rest i
 pub no_block_of_bytes : (t : List ℕ) → IsUtf8 t → after_block 0 t ≡ None → None ≡ after_block 0 (chars t)
 no_block_of_bytes t is e = same_none (after_block 0 (chars t)) (sym e ∙ block_bytes t is)
 
-pub line_of_bytes : (t rest : List ℕ) → IsUtf8 t → IsUtf8 rest → after_line t ≡ rest → chars rest ≡ after_line (chars t)
-line_of_bytes t rest is is_rest e =
-    sym (chars_from_encodes (after_line (chars t)) rest is_rest
-    (sym (after_line-encodes (chars t)) ∙ ap after_line (encodes-chars t is) ∙ e))
-
--- A line ends at its first LF.
-pub after_line-cut : (xs ys : List ℕ) → ((k : ℕ) → k < length xs → get_or xs k 0 ≢ 10) → after_line (xs ++ 10 ∷ ys) ≡ ys
-after_line-cut [] ys none = refl
-after_line-cut (x ∷ xs) ys none =
-    ap (λ b. cond b (xs ++ 10 ∷ ys) (after_line (xs ++ 10 ∷ ys))) (false_unless (x == 10) (λ h. let q : x ≡ 10 = grind (arith, nat_tests) in none 0 (omega arith) q))
-    ∙ after_line-cut xs ys (λ k l. none (suc k) (omega arith))
-
-pub after_line-none : (xs : List ℕ) → ((k : ℕ) → k < length xs → get_or xs k 0 ≢ 10) → after_line xs ≡ []
-after_line-none [] none = refl
-after_line-none (x ∷ xs) none =
-    ap (λ b. cond b xs (after_line xs)) (false_unless (x == 10) (λ h. let q : x ≡ 10 = grind (arith, nat_tests) in none 0 (omega arith) q))
-    ∙ after_line-none xs (λ k l. none (suc k) (omega arith))
-
--- What stands behind an ASCII character is a text.
-pub utf8_behind : (t x y : List ℕ) (c : ℕ) → IsUtf8 t → c < 128 → t ≡ x ++ (c ∷ y) → IsUtf8 y
-utf8_behind t x y c is low e =
-    let at : get_or t (length x) 0 ≡ c = ap (λ z. get_or z (length x) 0) e ∙ get_or_seam x (c ∷ y) in
-    let inside : length x < length t = omega (arith, ap length e, length-append x (c ∷ y)) in
-    let P : List ℕ → Type 0 = λ z. IsUtf8 z in
-    subst P (ap (drop (length x + 1)) e ∙ drop_past x c y) (IsUtf8-drop t (length x + 1) is (IsCharBoundary-after_ascii t (length x) is inside (omega arith)))
-  where
-    get_or_seam : (x z : List ℕ) → get_or (x ++ z) (length x) 0 ≡ get_or z 0 0
-    get_or_seam [] z = refl
-    get_or_seam (a ∷ x) z = get_or_seam x z
-
-    drop_past : (x : List ℕ) (c : ℕ) (y : List ℕ) → drop (length x + 1) (x ++ (c ∷ y)) ≡ y
-    drop_past x c y = drop-append-add x (c ∷ y) 1
-
-pub line_cut : (t x y : List ℕ) → IsUtf8 t → (t ≡ x ++ (10 ∷ y)) × ((k : ℕ) → k < length x → get_or x k 0 ≢ 10) → (chars y ≡ after_line (chars t)) × IsBehind t y
-line_cut t x y is (e, none) =
-    let is_y : IsUtf8 y = utf8_behind t x y 10 is (omega arith) e in (
-      line_of_bytes t y is is_y (ap after_line e ∙ after_line-cut x y none),
-      record { front = x ++ (10 ∷ []); text_is = e ∙ sym (append_assoc x (10 ∷ []) y); is_text = is_y },
-    )
-
-pub line_open : (t : List ℕ) → IsUtf8 t → ((k : ℕ) → k < length t → get_or t k 0 ≢ 10) → (chars [] ≡ after_line (chars t)) × IsBehind t []
-line_open t is none = (line_of_bytes t [] is IsUtf8-nil (after_line-none t none), record { front = t; text_is = nil_behind t; is_text = IsUtf8-nil })
-
 -- A byte or a character past ASCII is no ASCII character.
 pub not_equal : (c k : ℕ) → k < 128 → 128 ≤ c → (c == k) ≡ false
 not_equal c k l h = false_unless (c == k) (λ e. let q : c ≡ k = grind (arith, nat_tests) in omega arith)
+
+-- What begins with no character of ASCII begins no comment, and is plain inside one.
+pub wide_comment : (t : List ℕ) → passes is_ascii t ≡ false → None ≡ after_comment t
+wide_comment [] h = refl
+wide_comment (c ∷ t) h = rw (not_equal c 47 (omega arith) (ltb-false c 128 h), not_equal c 42 (omega arith) (ltb-false c 128 h)) refl
+
+pub wide_line : (t : List ℕ) → passes is_ascii t ≡ false → true ≡ is_plain_line t
+wide_line [] h = refl
+wide_line (c ∷ t) h = rw (not_equal c 33 (omega arith) (ltb-false c 128 h), not_equal c 47 (omega arith) (ltb-false c 128 h)) refl
+
+pub wide_block : (t : List ℕ) → passes is_ascii t ≡ false → true ≡ is_plain_block t
+wide_block [] h = refl
+wide_block (c ∷ t) h = rw (not_equal c 33 (omega arith) (ltb-false c 128 h), not_equal c 42 (omega arith) (ltb-false c 128 h)) refl

@@ -1,8 +1,19 @@
--- One step of the search for the end of a block comment.
-use Rattle.std.proofs.Common.{◌≡◌, ℕ, suc, zero, ◌+◌, ◌-◌, ◌<◌, Bool, true, false, ◌&&◌, ◌==◌, cond, List, [], ◌∷◌, length, get_or, drop, Option, None, refl, sym, ◌∙◌, ap, arith, add-one}
-use Rattle.std.proofs.lemmas.List.{drop_more, get_or-drop, drop-drop}
-use Rattle.rl_tokens.specs.SkippedAt.{after_block}
-use Rattle.rl_tokens.proofs.Comments.{closed, after_block-step, false_unless, both}
+-- One step of the search for the end of a comment.
+use Rattle.std.proofs.Common.{◌≡◌, ℕ, suc, zero, ◌+◌, ◌-◌, ◌<◌, ◌≤◌, Bool, true, false, not, ◌&&◌, ◌==◌, cond, List, [], ◌∷◌, ◌++◌, append-nil, length, get_or, take, drop, Option, None, refl, sym, ◌∙◌, ap, arith, add-one}
+use Rattle.std.proofs.lemmas.List.{drop_more, get_or-drop, drop-drop, length-drop}
+use Rattle.std.proofs.lemmas.List.Sums.{prefix_len-le-length}
+use Rattle.std.proofs.lemmas.Bool.{and_from, and_parts, ne_eqb}
+use Rattle.std.proofs.lemmas.Str.{IsUtf8-nil}
+use Rattle.std.proofs.Math.Seq.{take-length}
+use Rattle.std.specs.Str.{chars}
+use Rattle.rl_tokens.specs.Texts.{IsBehind}
+use Rattle.rl_tokens.specs.SkippedAt.{after_block, after_line}
+use Rattle.rl_tokens.specs.Scanning.{is_other, IsNextMark}
+use Rattle.rl_tokens.specs.declared.scan.Marks.{Marks}
+use Rattle.std.specs.List.{list_all, prefix_len}
+use Rattle.rl_tokens.proofs.Comments.{closed, after_block-step, block_goes_on, false_unless, both, OneLine, after_line-past, after_line-open}
+use Rattle.rl_tokens.proofs.LexemeSteps.{only}
+use Rattle.rl_tokens.proofs.ScanLemmas.{drop_next, not_first, not_second}
 
 -- The next character is told by its place, 0 at the end.
 abbrev Turns : ℕ → ℕ → ℕ → Option (List ℕ) → Option (List ℕ) → Option (List ℕ) → Option (List ℕ)
@@ -57,3 +68,54 @@ pub next_inside : (s : List ℕ) (i n : ℕ) → get_or s i 0 ≡ n → 0 < n �
 next_inside [] i n e l = absurd (omega arith)
 next_inside (x ∷ s) zero n e l = omega arith
 next_inside (x ∷ s) (suc i) n e l = omega (arith, next_inside s i n e l)
+
+-- a slice up to the end
+rest_whole : (s : List ℕ) (i : ℕ) → take (length s - i) (drop i s) ≡ drop i s
+rest_whole s i = ap (λ n. take n (drop i s)) (sym (length-drop i s)) ∙ take-length (drop i s)
+
+-- What is no mark is passed over.
+goes_over : (m : Marks) (d c : ℕ) (t : List ℕ) → m.first ≡ 42 → m.second ≡ 47 → is_other m c ≡ true → after_block d (c ∷ t) ≡ after_block d t
+goes_over m d c [] star slash h = refl
+goes_over m d c (e ∷ t) star slash h =
+    block_goes_on d c e t
+    (false_unless (c == 42 && e == 47) (λ is. not_first m c h ((both c 42 e 47 is).0 ∙ sym star)))
+    (false_unless (c == 47 && e == 42) (λ is. not_second m c h ((both c 47 e 42 is).0 ∙ sym slash)))
+
+run_over : (m : Marks) (d : ℕ) (t : List ℕ) → m.first ≡ 42 → m.second ≡ 47 → after_block d (drop (prefix_len (is_other m) t) t) ≡ after_block d t
+run_over m d [] star slash = refl
+run_over m d (c ∷ t) star slash = go (is_other m c) refl (run_over m d t star slash)
+  where
+    go : (b : Bool) → is_other m c ≡ b → after_block d (drop (prefix_len (is_other m) t) t) ≡ after_block d t → after_block d (drop (cond b (1 + prefix_len (is_other m) t) 0) (c ∷ t)) ≡ after_block d (c ∷ t)
+    go true h more = ap (after_block d) (drop_next (prefix_len (is_other m) t) c t) ∙ more ∙ sym (goes_over m d c t star slash h)
+    go false h more = refl
+
+pub block_runs : (m : Marks) (s : List ℕ) (i d n : ℕ) → m ≡ record { first = 42; second = 47; third = 47; fourth = 47 } → n ≡ prefix_len (is_other m) (take (length s - i) (drop i s)) → after_block d (drop (i + n) s) ≡ after_block d (drop i s)
+block_runs m s i d n is e =
+    ap (after_block d) (sym (drop-drop n i s)) ∙ ap (λ k. after_block d (drop k (drop i s))) (e ∙ ap (prefix_len (is_other m)) (rest_whole s i))
+    ∙ run_over m d (drop i s) (ap (λ z. z.first) is) (ap (λ z. z.second) is)
+
+pub run_inside : (m : Marks) (s : List ℕ) (i n : ℕ) → n ≡ prefix_len (is_other m) (take (length s - i) (drop i s)) → i ≤ length s → i + n ≤ length s
+run_inside m s i n e l = omega (arith, e ∙ ap (prefix_len (is_other m)) (rest_whole s i), prefix_len-le-length (is_other m) (drop i s), length-drop i s)
+
+-- ---- lines
+
+one_line : (m : Marks) (s : List ℕ) → m.first ≡ 10 → list_all (is_other m) s ≡ true → OneLine s
+one_line m [] is h = refl
+one_line m (c ∷ s) is h =
+    let parts = and_parts (is_other m c) (list_all (is_other m) s) h in
+    and_from (not (c == 10)) (list_all (λ c. not (c == 10)) s) (ap not (ne_eqb c 10 (λ e. not_first m c parts.0 (e ∙ sym is)))) (one_line m s is parts.1)
+
+-- the line ends at the mark, or there is none
+pub line_found : (m : Marks) (s t : List ℕ) (k : ℕ) → m ≡ record { first = 10; second = 10; third = 10; fourth = 10 } → IsNextMark m s k t → t ≡ after_line s
+line_found m s t k is next =
+    sym (ap after_line (next.text_is ∙ ap (λ c. next.front ++ (c ∷ t)) (only m 10 k is next.is_mark)) ∙ after_line-past next.front t (one_line m next.front (ap (λ z. z.first) is) next.others))
+
+chars_nil : chars [] ≡ []
+unfolding chars
+chars_nil = refl
+
+pub line_open : (m : Marks) (s : List ℕ) → m ≡ record { first = 10; second = 10; third = 10; fourth = 10 } → list_all (is_other m) s ≡ true → chars [] ≡ after_line s
+line_open m s is h = chars_nil ∙ sym (after_line-open s (one_line m s (ap (λ z. z.first) is) h))
+
+pub nothing_behind : (t : List ℕ) → IsBehind t []
+nothing_behind t = record { front = t; text_is = sym (append-nil t); is_text = IsUtf8-nil }

@@ -2,7 +2,8 @@
 use Rattle.std.proofs.Common.{◌≡◌, ℕ, suc, zero, ◌+◌, ◌⊎◌, inl, inr, Bool, true, false, ◌==◌, cond, List, [], ◌∷◌, ◌++◌, length, Option, Some, None, refl, sym, ◌∙◌, ap, subst, arith, append_assoc}
 use Rattle.std.proofs.lemmas.Bool.Decides.{nat_tests}
 use Rattle.std.specs.List.{AllByRecursion}
-use Rattle.rl_tokens.specs.Texts.{is_white}
+use Rattle.rl_tokens.specs.Texts.{is_white, passes}
+use Rattle.rl_tokens.specs.Lexemes.{after_run}
 use Rattle.rl_tokens.specs.Trivia.{is_plain_line, is_plain_block, inside_text, Piece, White, Line, Block, piece_text, IsPiece, trivia_text, IsTrivia, IsOpenLine, BeginsTrivia, Skipped, OneRest}
 use Rattle.rl_tokens.specs.SkippedAt.{after_block, after_line, after_comment, after_piece}
 use Rattle.rl_tokens.proofs.Comments.{chosen, same_Some, false_unless, Closes, after_block-sound, after_block-past, OneLine, after_line-past, after_line-open, plain_line-same, plain_block-same}
@@ -199,3 +200,38 @@ skipped_here t h = inl (record { front = []; is_trivia = no_trivia; text = refl;
 pub skipped_again : (t r : List ℕ) → Skipped t r → Skipped r r
 skipped_again t r (inl s) = inl (record { front = []; is_trivia = no_trivia; text = refl; stops = s.stops })
 skipped_again t r (inr s) = skipped_here r (ap after_piece s.nothing)
+
+-- ---- runs of white space
+
+pub skipped_run : (t u r : List ℕ) → u ≡ after_run is_white t → Skipped u r → Skipped t r
+skipped_run t u r e s = go t (subst (λ (x : List ℕ). Skipped x r) e s)
+  where
+    step : (c : ℕ) (t : List ℕ) (b : Bool) → is_white c ≡ b → (Skipped (after_run is_white t) r → Skipped t r) → Skipped (cond b (after_run is_white t) (c ∷ t)) r → Skipped (c ∷ t) r
+    step c t true h more s = skipped_after (c ∷ t) t r (after_piece-past (White c) t h) (more s)
+    step c t false h more s = s
+
+    go : (t : List ℕ) → Skipped (after_run is_white t) r → Skipped t r
+    go [] s = s
+    go (c ∷ t) s = step c t (is_white c) refl (go t) s
+
+pub run_ends : (test : ℕ → Bool) (t u : List ℕ) → u ≡ after_run test t → passes test u ≡ false
+run_ends test t u e = ap (passes test) e ∙ go t
+  where
+    step : (c : ℕ) (t : List ℕ) (b : Bool) → test c ≡ b → passes test (after_run test t) ≡ false → passes test (cond b (after_run test t) (c ∷ t)) ≡ false
+    step c t true h more = more
+    step c t false h more = h
+
+    go : (t : List ℕ) → passes test (after_run test t) ≡ false
+    go [] = refl
+    go (c ∷ t) = step c t (test c) refl (go t)
+
+-- a text that begins with no white space: nothing is skipped but a comment
+pub skipped_none : (t : List ℕ) → passes is_white t ≡ false → passes (λ c. c == 47) t ≡ false → Skipped t t
+skipped_none [] white slash = skipped_here [] refl
+skipped_none (c ∷ t) white slash = skipped_here (c ∷ t) (ap (λ b. cond b (after_comment t) (cond (is_white c) (Some t) None)) slash ∙ ap (λ b. cond b (Some t) None) white)
+
+pub skipped_slash : (t u : List ℕ) → t ≡ 47 ∷ u → after_comment u ≡ None → Skipped t t
+skipped_slash t u e h = skipped_here t (ap after_piece e ∙ h)
+
+pub skipped_comment : (t u m r : List ℕ) → t ≡ 47 ∷ u → after_comment u ≡ Some m → Skipped m r → Skipped t r
+skipped_comment t u m r e h s = skipped_after t m r (ap after_piece e ∙ h) s

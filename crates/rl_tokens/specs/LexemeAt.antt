@@ -3,13 +3,13 @@ use Rattle.std.specs.Prelude.{◌≡◌, ℕ, Bool, ◌&&◌, ◌||◌, ◌==◌
 use Rattle.std.proofs.Common.{suc, zero, Option, Some, None}
 use Rattle.std.specs.Char.{is_ascii_digit}
 use Rattle.std.specs.Option.{option_map}
-use Rattle.rl_tokens.specs.Texts.{is_start, is_continue, is_underscore, is_among, passes}
+use Rattle.rl_tokens.specs.Texts.{is_start, is_continue, is_underscore, is_white, is_among, passes}
 use Rattle.rl_tokens.specs.Lexemes.{is_numeral_part, is_hash, is_base_letter, delimiters, after_run, begins_hashed_quote, begins_hashes, begins_exponent, begins_dot, after_sign, Form, LiteralForm, IdentifierForm, DelimiterForm, MarkForm, form_of, Lexeme, lexeme_text, IsLexeme}
 use Rattle.rl_tokens.specs.Puncts.{is_punct}
 use Rattle.rl_tokens.specs.declared.lexeme.Form.{Form as FoundForm}
 use Rattle.rl_tokens.specs.declared.lexeme.Form.TheVariants as found
 use Rattle.rl_tokens.specs.declared.lexeme.rows.Row.{Row}
-use Rattle.rl_tokens.specs.declared.lexeme.rows.Row.TheVariants.{Continue, Numeral, Underscores}
+use Rattle.rl_tokens.specs.declared.lexeme.rows.Row.TheVariants.{Continue, Numeral, Underscores, White}
 
 -- the form that the code tells
 abbrev pub form_view : FoundForm → Form
@@ -23,6 +23,7 @@ abbrev pub row_test : Row → ℕ → Bool
 row_test Continue = is_continue
 row_test Numeral = is_numeral_part
 row_test Underscores = is_underscore
+row_test White = is_white
 
 abbrev pub after_suffix : List ℕ → List ℕ
 after_suffix [] = []

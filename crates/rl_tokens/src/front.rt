@@ -1,10 +1,10 @@
 //! Tests of what a text begins with.
 
-ghost use Rattle.std.specs.Prelude.{◌≡◌, ◌<◌, ◌==◌, slice_index, drop};
+ghost use Rattle.std.specs.Prelude.{◌≡◌, ◌<◌, ◌==◌, ◌∷◌, length, slice_index, drop, MatchOption, IfSome, IsFalse};
 ghost use Rattle.std.specs.Str.{chars};
-ghost use Rattle.rl_tokens.specs.Texts.{IsBehind};
+ghost use Rattle.rl_tokens.specs.Texts.{passes, IsBehind};
 
-use crate::text::split_char;
+use crate::text::{split_ascii, split_char};
 
 /// Whether the text begins with a character, which isn't NUL.
 pub(crate) fn begins_with(text: &str, c: char) -> bool
@@ -25,5 +25,20 @@ pub(crate) fn without_first(text: &str) -> &str
     match split_char(text) {
         Some((_, rest)) => rest,
         None => text,
+    }
+}
+
+/// The text behind a byte of ASCII, where the text begins with it.
+#[inline(always)]
+pub(crate) fn strip_byte(text: &str, byte: u8) -> Option<&str>
+    requires { byte < 128 }
+    ensures rest { MatchOption result
+        (IsFalse (passes (λ c. c == byte) (chars text.now))) (λ rest. chars text.now ≡ byte ∷ chars rest.now) }
+    ensures behind { IfSome result (λ rest. IsBehind text.now rest.now) }
+    ensures shorter { IfSome result (λ rest. length rest.now < length text.now) }
+{
+    match split_ascii(text) {
+        Some((first, behind)) if first == byte => Some(behind),
+        _ => None,
     }
 }

@@ -27,7 +27,7 @@ use crate::text::{split_ascii, split_char};
 use number::{after_decimal, after_digits, ends_number};
 pub(crate) use quoted::begins_hashed_quote;
 use quoted::{after_character, after_quoted, after_raw_literal};
-use rows::{Row, after_row};
+pub(crate) use rows::{Row, after_row};
 
 /// What a token is to a parser.
 #[derive(Clone, Copy)]

@@ -122,6 +122,7 @@ impl<A: Allocator + Copy> Nest<A> {
     }
 
     // Puts a tree behind the others of its level. Want of memory is told at the byte.
+    #[inline(always)]
     fn append(&mut self, tree: TokenTree<A>, at: usize) -> Result<(), LexError>
         ensures ok { OnOk result (TakesTree self.old self.new tree) }
         ensures err { IfErr result (λ e. e ≡ record { kind = LexKind.Memory; at = at }) }
@@ -133,6 +134,7 @@ impl<A: Allocator + Copy> Nest<A> {
     }
 
     // The trees that follow stand in a new group, whose opener is at the byte.
+    #[inline(never)]
     fn open_group(&mut self, delimiter: Delimiter, at: usize) -> Result<(), LexError>
         ensures ok { OnOk result (OpensGroup self.old self.new delimiter at) }
         ensures at { IfErr result (λ e. e.at ≡ at) }
@@ -154,6 +156,7 @@ impl<A: Allocator + Copy> Nest<A> {
     }
 
     // The innermost group ends with this closer: it is the next tree of the level around it.
+    #[inline(never)]
     fn close_group(&mut self, delimiter: Delimiter, lo: usize, hi: usize) -> Result<(), LexError>
         requires { hi ≡ lo + 1 }
         ensures ok { OnOk result (ClosesGroup self.old self.new delimiter lo hi) }

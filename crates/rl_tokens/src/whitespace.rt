@@ -1,19 +1,21 @@
 //! White space and plain comments.
 
-ghost use Rattle.std.specs.Prelude.{◌≡◌, ◌<◌, length, slice_index, option_map, IfSome};
+ghost use Rattle.std.specs.Prelude.{◌≡◌, slice_index, option_map, IfSome, IsFalse};
 ghost use Rattle.std.specs.Str.{chars};
-ghost use Rattle.rl_tokens.specs.Texts.{IsBehind};
+ghost use Rattle.rl_tokens.specs.Texts.{is_white, passes, IsBehind};
 ghost use Rattle.rl_tokens.specs.Trivia.{is_plain_line, is_plain_block, Skipped, OneRest};
-ghost use Rattle.rl_tokens.specs.SkippedAt.{after_line, after_block, after_comment, after_piece};
+ghost use Rattle.rl_tokens.specs.SkippedAt.{after_line, after_block, after_comment};
 
-use crate::characters::is_white;
-use crate::front::begins_with;
-use crate::text::split_char;
+use crate::front::{begins_with, strip_byte};
+use crate::lexeme::{Row, after_row};
+use crate::scan::{Marks, len_before, next_mark};
+use crate::text::split_ascii;
 
 /// The rest of the text after its leading white space and plain comments.
 ///
 /// A doc comment, a block comment that isn't closed, and all else that is no white space stay. A line comment
 /// that the text ends in leaves the empty rest.
+#[inline(always)]
 pub fn skip(text: &str) -> &str
     // The rest behind all trivia at the front, by the characters of both.
     ensures skipped { Skipped (chars text.now) (chars result.now) }
@@ -23,38 +25,43 @@ pub fn skip(text: &str) -> &str
     ensures only { OneRest }
     ensures again { Skipped (chars result.now) (chars result.now) }
 {
+    let rest = after_row(Row::White, text);
+    match strip_byte(rest, b'/') {
+        Some(_) => skip_comments(rest),
+        None => rest,
+    }
+}
+
+// The same, where no white space begins the text, but perhaps a comment does.
+#[inline(never)]
+fn skip_comments(text: &str) -> &str
+    requires { IsFalse (passes is_white (chars text.now)) }
+    ensures skipped { Skipped (chars text.now) (chars result.now) }
+    ensures behind { IsBehind text.now result.now }
+{
     let mut rest = text;
-    while let Some(behind) = after_piece(rest) {
-        rest = behind;
+    while let Some(inside) = strip_byte(rest, b'/') {
+        let Some(behind) = after_comment(inside) else {
+            return rest;
+        };
+        rest = after_row(Row::White, behind);
     }
     rest
 }
 
-// What follows the piece or the open line that the text begins with.
-fn after_piece(text: &str) -> Option<&str>
-    ensures rest { option_map (λ rest. chars rest.now) result ≡ after_piece (chars text.now) }
-    ensures behind { IfSome result (λ rest. IsBehind text.now rest.now) }
-    ensures shorter { IfSome result (λ rest. length rest.now < length text.now) }
-{
-    let (first, behind) = split_char(text)?;
-    if first == '/' {
-        after_comment(behind)
-    } else if is_white(first) {
-        Some(behind)
-    } else {
-        None
-    }
-}
-
 // What follows a plain comment, by what stands behind its first slash.
+#[inline(always)]
+#[tactic(auto, using(crate::proofs::CommentBytes::wide_comment, crate::proofs::BehindLemmas::behind_step, crate::proofs::BehindLemmas::some_behind))]
 fn after_comment(text: &str) -> Option<&str>
     ensures rest { option_map (λ rest. chars rest.now) result ≡ after_comment (chars text.now) }
     ensures behind { IfSome result (λ rest. IsBehind text.now rest.now) }
 {
-    let (second, behind) = split_char(text)?;
-    if second == '/' && is_plain_line(behind) {
+    let Some((second, behind)) = split_ascii(text) else {
+        return None;
+    };
+    if second == b'/' && is_plain_line(behind) {
         Some(after_line(behind))
-    } else if second == '*' && is_plain_block(behind) {
+    } else if second == b'*' && is_plain_block(behind) {
         after_block(behind)
     } else {
         None
@@ -62,22 +69,24 @@ fn after_comment(text: &str) -> Option<&str>
 }
 
 // Whether a line comment is plain, by what stands behind its `//`.
+#[tactic(auto, using(crate::proofs::CommentBytes::wide_line))]
 fn is_plain_line(body: &str) -> bool
     ensures { result ≡ is_plain_line (chars body.now) }
 {
-    match split_char(body) {
-        Some((first, behind)) => first != '!' && (first != '/' || begins_with(behind, '/')),
+    match split_ascii(body) {
+        Some((first, behind)) => first != b'!' && (first != b'/' || begins_with(behind, '/')),
         None => true,
     }
 }
 
 // Whether a block is plain, by what stands behind its `/*`.
+#[tactic(auto, using(crate::proofs::CommentBytes::wide_block))]
 fn is_plain_block(inside: &str) -> bool
     ensures { result ≡ is_plain_block (chars inside.now) }
 {
-    match split_char(inside) {
+    match split_ascii(inside) {
         Some((first, behind)) => {
-            first != '!' && (first != '*' || begins_with(behind, '/') || begins_with(behind, '*'))
+            first != b'!' && (first != b'*' || begins_with(behind, '/') || begins_with(behind, '*'))
         }
         None => true,
     }
@@ -88,14 +97,15 @@ fn after_line(text: &str) -> &str
     ensures rest { chars result.now ≡ after_line (chars text.now) }
     ensures behind { IsBehind text.now result.now }
 {
-    match text.split_once('\n') {
+    match next_mark(Marks::two(b'\n', b'\n'), text) {
         Some((_, behind)) => behind,
         None => "",
     }
 }
 
-// What follows a block comment, by what stands behind its `/*`. It is a loop over bytes, with the number of blocks
-// that are open inside it.
+// What follows a block comment, by what stands behind its `/*`. It is a loop over bytes, from mark to mark, with the
+// number of blocks that are open inside it.
+#[inline(always)]
 fn after_block(text: &str) -> Option<&str>
     ensures rest { option_map (λ rest. chars rest.now) result ≡ after_block 0 (chars text.now) }
     ensures behind { IfSome result (λ rest. IsBehind text.now rest.now) }
@@ -105,17 +115,22 @@ fn after_block(text: &str) -> Option<&str>
     let mut at: usize = 0;
     while at < bytes.len() {
         let byte = bytes[at];
-        let next = byte_at(bytes, at + 1);
         at += 1;
-        if byte == b'*' && next == b'/' {
-            at += 1;
-            if depth == 0 {
-                return Some(&text[at..]);
+        if byte == b'*' {
+            if byte_at(bytes, at) == b'/' {
+                at += 1;
+                if depth == 0 {
+                    return Some(&text[at..]);
+                }
+                depth -= 1;
             }
-            depth -= 1;
-        } else if byte == b'/' && next == b'*' {
-            at += 1;
-            depth += 1;
+        } else if byte == b'/' {
+            if byte_at(bytes, at) == b'*' {
+                at += 1;
+                depth += 1;
+            }
+        } else {
+            at += len_before(Marks::two(b'*', b'/'), &bytes[at..]);
         }
     }
     None

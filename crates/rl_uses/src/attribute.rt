@@ -21,7 +21,6 @@ pub struct Attribute<A: Allocator = Global> {
 }
 
 /// Takes the character `=` and a string literal. A refusal may leave the buffer behind what was taken.
-#[tactic(auto, using(rl_tokens::proofs::TreeRests::rest_step))]
 fn parse_value<A: Allocator>(
     alloc: A,
     input: &mut ParseBuffer<'_, A>,
@@ -37,7 +36,6 @@ fn parse_value<A: Allocator>(
 }
 
 /// Takes an attribute. A refusal may leave the buffer behind what was taken.
-#[tactic(auto, using(rl_tokens::proofs::TreeRests::rest_step))]
 fn parse_attribute<A: Allocator + Copy>(
     alloc: A,
     input: &mut ParseBuffer<'_, A>,

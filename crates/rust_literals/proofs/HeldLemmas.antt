@@ -1,5 +1,5 @@
 -- What a number struct holds.
-use Rattle.std.proofs.Common.{◌≡◌, ◌≢◌, inl, inr, ℕ, List, ◌++◌, take, true, false, arith, refl, sym, subst, ◌∙◌}
+use Rattle.std.proofs.Common.{◌≡◌, ◌≢◌, ◌⊎◌, inl, inr, ℕ, List, ◌++◌, take, true, false, arith, refl, sym, subst, ◌∙◌}
 use Rattle.std.specs.Str.{chars, IsUtf8}
 use Rattle.std.proofs.lemmas.List.{take-append-drop, append_cancel_right}
 use Rattle.rl_tokens.specs.declared.kind.Kind.{Kind}
@@ -24,6 +24,11 @@ abbrev IsOfKind : Kind → List ℕ → Found → Type 0
 IsOfKind Int text found = IsFound text found
 IsOfKind Float text found = IsFoundFloat text found
 IsOfKind _ text found = ⊥
+
+-- what was found of a number kind is a number
+pub is_found_number : (kind : Kind) (text : List ℕ) (found : Found) → (kind ≡ Int) ⊎ (kind ≡ Float) → found.kind ≡ kind → IsFound text found → IsFoundNumber text found
+is_found_number kind text found (inl i) e h = inl (h, inl (e ∙ i))
+is_found_number kind text found (inr f) e h = inl (h, inr (e ∙ f))
 
 no_integer : (k : Kind) → k ≡ Float → k ≢ Int
 no_integer k e i = absurd (cc)

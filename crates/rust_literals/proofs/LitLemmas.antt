@@ -1,6 +1,9 @@
 -- Literals by their kind and token.
 use Rattle.std.proofs.Common.{◌≡◌, ℕ, ◌==◌, Bool as Truths, true, false, List, [], ◌∷◌, Option, Some, None, refl, sym, ◌∙◌, ap, subst}
 use Rattle.std.specs.Cmp.Lexicographic.{pointwise}
+use Rattle.std.specs.Prelude.{Result, Ok, Err, IfOk, IfSome, OnErr, OnSome}
+use Rattle.std.specs.Result.{result_ok}
+use Rattle.std.proofs.lemmas.Option.{MatchOption-at_some}
 use Rattle.std.specs.Str.{chars, IsUtf8}
 use Rattle.rl_tokens.specs.declared.kind.Kind.{Kind}
 use Rattle.rl_tokens.specs.declared.kind.Kind.TheVariants.{Str as StrKind, ByteStr as ByteStrKind, CStr as CStrKind, Byte as ByteKind, Char as CharKind, Int as IntKind, Float as FloatKind, Bool as BoolKind}
@@ -147,3 +150,25 @@ pub found_lent : (kind : Kind) (text : List ℕ) (found : Found) → IsFound tex
 found_lent kind text found h e never (k, (v, x, r), plain) =
     let one = one_reading (chars text) k found.kind v h.reads.0 x (chars (suffix_in text found.body)) r h.reads.1 in
     never (subst (λ z. IsPlain z text) (one.0 ∙ e) plain)
+
+pub some_found : (text : List ℕ) (o : Option Found) (found : Found) → o ≡ Some found → IfSome o (IsFound text) → IsFound text found
+some_found text o found is h = MatchOption-at_some _ (IsFound text) found is h
+
+-- the text reads as the kind of what was found
+pub found_as : (kind : Kind) (text : List ℕ) (o : Option Found) (found : Found) → o ≡ Some found → IfSome o (IsFound text) → found.kind ≡ kind → ReadsAs kind (chars text)
+found_as kind text o found is h e =
+    reads_as (chars text) (chars (suffix_in text found.body)) found.kind kind (some_found text o found is h).reads e
+
+-- what holds whatever the value is
+pub on_some : {T : Type 0} (o : Option T) (P : Type 0) → P → OnSome o P
+on_some (Some x) P h = h
+on_some None P h = tt
+
+pub on_err : {T E : Type 0} (r : Result T E) (P : Type 0) → P → OnErr r P
+on_err (Ok x) P h = tt
+on_err (Err e) P h = h
+
+-- the value of an answer that is taken as an option
+pub ok_some : {T E : Type 0} (r : Result T E) (P : T → Type 0) → IfOk r P → IfSome (result_ok r) P
+ok_some (Ok x) P h = h
+ok_some (Err e) P h = tt

@@ -1,8 +1,7 @@
 //! The literals of a text without groups, read as its tokens are cut.
 
-ghost use Rattle.std.specs.Prelude.{◌≡◌, ◌<◌, ◌∷◌, length, IfSome};
+ghost use Rattle.std.specs.Prelude.{◌<◌, ◌∷◌, length, IfSome};
 ghost use Rattle.std.specs.Str.{chars};
-ghost use Rattle.rl_tokens.specs.Reading.{truth_text};
 ghost use Rattle.rl_tokens.specs.Fronts.{HasReading};
 ghost use Rattle.rust_literals.specs.Literals.{IsReadFrom};
 ghost use Rattle.rust_literals.specs.Parsing.{AreRead};
@@ -10,7 +9,7 @@ ghost use Rattle.rust_literals.specs.Flat.{ReadsNext};
 
 use crate::lit::Lit;
 use crate::lit_bool::LitBool;
-use rl_grammar::find_negative;
+use rl_grammar::{find_negative, truth_of};
 use rl_tokens::{Form, Literal, Span, Tokens};
 use std::alloc::{Allocator, Global};
 
@@ -22,30 +21,14 @@ fn literal_of<A: Allocator + Copy>(alloc: A, text: &str, span: Span) -> Option<L
     Lit::new(alloc, token).ok()
 }
 
-/// The truth value that a word is.
-fn truth_of(text: &str) -> Option<bool>
-    ensures { IfSome result (λ b. text.now ≡ truth_text b) }
-{
-    match text {
-        "true" => Some(true),
-        "false" => Some(false),
-        _ => None,
-    }
-}
-
 /// The literal that a minus and a text make. `None` where they don't read together, and where memory is refused.
 fn negative_of<A: Allocator + Copy>(alloc: A, text: &str, span: Span) -> Option<Lit<A>>
     ensures read { IfSome result (IsReadFrom (record { text = 45 ∷ text.now; span = span })) }
     ensures together { IfSome result (λ lit. HasReading (45 ∷ chars text.now)) }
 {
     let found = find_negative(text)?;
-    let Ok(token) = Literal::negative(alloc, text, span) else {
-        return None;
-    };
-    match Lit::of_found(alloc, token, found) {
-        Ok(literal) => Some(literal),
-        Err(_) => None,
-    }
+    let token = Literal::negative(alloc, text, span).ok()?;
+    Lit::of_found(alloc, token, Some(found)).ok()
 }
 
 /// Takes the literal that the next tokens are. `None` where they are none, and where memory is refused.

@@ -1,8 +1,9 @@
-ghost use Rattle.std.specs.Prelude.{◌≡◌, IfOk, IfErr, Some};
+ghost use Rattle.std.specs.Prelude.{◌≡◌, IfOk, IfErr, IfSome, IfNone, Some};
 ghost use Rattle.std.specs.Str.{chars};
 ghost use Rattle.rl_tokens.specs.Errors.{memory_at};
 ghost use Rattle.rl_tokens.specs.Reading.{HasSuffix};
 ghost use Rattle.rl_grammar.specs.Founds.{IsFound};
+ghost use Rattle.rl_grammar.specs.NumberShapes.{HasNoReading};
 ghost use Rattle.rust_literals.specs.Held.{HasOwnSuffix};
 
 mod copies;
@@ -111,39 +112,35 @@ impl<A: Allocator> Lit<A> {
         ensures strict { KeepsStrict (chars token.text) }
         ensures strict_behind_minus { KeepsStrictBehindMinus (chars token.text) }
     {
-        match find(token.text()) {
-            Some(found) => Lit::of_found(alloc, token, found),
-            None => Ok(Lit::Verbatim(token)),
-        }
+        let found = find(token.text());
+        Lit::of_found(alloc, token, found)
     }
 
-    /// The literal of this token, in whose text this was found.
+    /// The literal of this token, in whose text this was found; `Verbatim` where nothing was.
     pub(crate) fn of_found(
         alloc: A,
         token: Literal<A>,
-        found: Found,
+        found: Option<Found>,
     ) -> Result<Lit<A>, Kept<Literal<A>, A>>
-        requires { IsFound token.text found }
+        requires none { IfNone found (HasNoReading (chars token.text)) }
+        requires found { IfSome found (IsFound token.text) }
         ensures reads { IfOk result (IsReadFrom token) }
         ensures kept { IfErr result (λ k. k.value ≡ token) }
         ensures memory { IfErr result (λ k. k.error ≡ memory_at token.span) }
         ensures numbers_alone { IfErr result (λ k. ReadsAsNumber (chars token.text)) }
         ensures lent { IfErr result (λ k. ReadsPlain token.text → ⊥) }
     {
+        let Some(found) = found else {
+            return Ok(Lit::Verbatim(token));
+        };
         match found.kind {
             Kind::Str => Ok(Lit::Str(LitStr::of_found(token, found))),
             Kind::ByteStr => Ok(Lit::ByteStr(LitByteStr::of_found(token, found))),
             Kind::CStr => Ok(Lit::CStr(LitCStr::of_found(token, found))),
             Kind::Byte => Ok(Lit::Byte(LitByte::of_found(token, found))),
             Kind::Char => Ok(Lit::Char(LitChar::of_found(token, found))),
-            Kind::Int => match LitInt::of_found(alloc, token, found) {
-                Ok(literal) => Ok(Lit::Int(literal)),
-                Err(kept) => Err(kept),
-            },
-            Kind::Float => match LitFloat::of_found(alloc, token, found) {
-                Ok(literal) => Ok(Lit::Float(literal)),
-                Err(kept) => Err(kept),
-            },
+            Kind::Int => Ok(Lit::Int(LitInt::of_found(alloc, token, found)?)),
+            Kind::Float => Ok(Lit::Float(LitFloat::of_found(alloc, token, found)?)),
             Kind::Bool => {
                 let value = token.text() == "true";
                 Ok(Lit::Bool(LitBool::new(value, token.span())))
@@ -254,7 +251,7 @@ impl<A: Allocator + Copy> Parse<A> for Lit<A> {
         let Ok(token) = front.token(alloc) else {
             return Err(Error::memory(input.span()));
         };
-        match Lit::new(alloc, token) {
+        match Lit::of_found(alloc, token, front.find()) {
             Ok(literal) => {
                 *input = ahead;
                 Ok(literal)

@@ -1,6 +1,7 @@
 //! Float literals.
 
-ghost use Rattle.std.specs.Prelude.{◌≡◌, IfOk, IfErr};
+ghost use Rattle.std.specs.Prelude.{◌≡◌, IfOk, IfErr, refl};
+ghost use Rattle.std.proofs.Common.{inr};
 ghost use Rattle.std.specs.Str.{chars};
 ghost use Rattle.rl_tokens.specs.declared.kind.Kind.TheVariants.{Float};
 ghost use Rattle.rl_grammar.specs.Founds.{IsFoundNumber};
@@ -22,6 +23,8 @@ pub type LitFloat<A = Global> = Number<FloatKind, A>;
 
 impl NumberKind for FloatKind {
     ghost KIND = { Float };
+
+    ghost is_number = { inr refl };
 
     const KIND: Kind = Kind::Float;
 

@@ -1,6 +1,7 @@
 //! Integer literals.
 
-ghost use Rattle.std.specs.Prelude.{◌≡◌, IfOk, IfErr};
+ghost use Rattle.std.specs.Prelude.{◌≡◌, IfOk, IfErr, refl};
+ghost use Rattle.std.proofs.Common.{inl};
 ghost use Rattle.std.specs.Str.{chars};
 ghost use Rattle.rl_tokens.specs.declared.kind.Kind.TheVariants.{Int};
 ghost use Rattle.rl_grammar.specs.Founds.{IsFoundNumber};
@@ -19,6 +20,8 @@ pub type LitInt<A = Global> = Number<IntKind, A>;
 
 impl NumberKind for IntKind {
     ghost KIND = { Int };
+
+    ghost is_number = { inl refl };
 
     const KIND: Kind = Kind::Int;
 

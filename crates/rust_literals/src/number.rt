@@ -1,8 +1,9 @@
 //! What integers and floats have in common: a token, its digits, and the place of its suffix.
 
-ghost use Rattle.std.specs.Prelude.{◌≡◌, OnOk, IfOk, IfErr, Some, option_map, string_bytes};
+ghost use Rattle.std.specs.Prelude.{◌≡◌, ◌⊎◌, OnOk, IfOk, IfErr, Some, option_map, string_bytes};
 ghost use Rattle.std.specs.Str.{chars};
 ghost use Rattle.rl_tokens.specs.declared.kind.Kind.{Kind};
+ghost use Rattle.rl_tokens.specs.declared.kind.Kind.TheVariants.{Float, Int};
 ghost use Rattle.rl_tokens.specs.Errors.{memory_at};
 ghost use Rattle.rl_grammar.specs.Founds.{IsFoundNumber};
 ghost use Rattle.rl_grammar.specs.NumberShapes.{IsNumber};
@@ -31,6 +32,8 @@ pub trait NumberKind {
         ensures found { IfOk result (IsFoundNumber text.now) }
         ensures kind { IfOk result (λ f. f.kind ≡ Self.KIND) }
         ensures err { IfErr result (IsNoNumber Self.KIND (chars text.now)) };
+
+    ghost is_number: { (KIND ≡ Int) ⊎ (KIND ≡ Float) };
 }
 
 /// The digits of a number that was found in the text, where they aren't its body.
@@ -48,10 +51,7 @@ fn own_digits<A: Allocator>(
     if found.body.plain {
         return Ok(None);
     }
-    match digits_of_found(alloc, text, found) {
-        Ok(digits) => Ok(Some(digits)),
-        Err(error) => Err(error),
-    }
+    Ok(Some(digits_of_found(alloc, text, found)?))
 }
 
 /// A number of a kind. Programs name it as [`LitInt`](crate::LitInt) or [`LitFloat`](crate::LitFloat).
@@ -236,11 +236,11 @@ impl<K: NumberKind, A: Allocator + Copy> Parse<A> for Number<K, A> {
 
     fn parse(alloc: A, input: &mut ParseBuffer<'_, A>) -> Result<Number<K, A>, Error<A>> {
         let before = input.fork();
-        let token = match take_kind(alloc, input, K::KIND, K::KIND.word()) {
-            Ok(token) => token,
+        let (token, found) = match take_kind(alloc, input, K::KIND, K::KIND.word()) {
+            Ok(taken) => taken,
             Err(error) => return Err(error),
         };
-        match Number::from_token(alloc, token) {
+        match Number::of_found(alloc, token, found) {
             Ok(literal) => Ok(literal),
             Err(_) => {
                 *input = before;

@@ -9,6 +9,7 @@ ghost use Rattle.rl_tokens.specs.Strict.{Itself, is_strict_unit};
 ghost use Rattle.rl_grammar.specs.StrictAt.{ends_quoted, ends_raw, is_inside, is_raw_character, unit_rest};
 ghost use Rattle.rl_grammar.specs.StrictShapes.{ClosesRaw, ClosesUnits};
 
+use crate::classes::{Class, skip};
 use crate::cuts::{before, behind_prefix};
 use crate::quoted::skip_hashes;
 use crate::runs::split_plain;
@@ -36,8 +37,8 @@ fn ends_quoted(quote: char, text: &str) -> bool
     }
 }
 
-/// The text behind characters at its front that a string of the kind takes as they are. Of a byte string, which takes
-/// none past ASCII, they are told one by one.
+/// The text behind characters at its front that a string of the kind takes as they are. A byte string takes none past
+/// ASCII: where one stands among them, they are told one by one up to it.
 #[inline(always)]
 fn skip_bare(kind: Kind, text: &str) -> &str
     requires { IsTrue (is_string kind) }
@@ -45,9 +46,16 @@ fn skip_bare(kind: Kind, text: &str) -> &str
         × IsTrue (list_all (λ c. is_strict_unit kind (Itself c)) run) }
     ensures shorter { length result.now ≤ length text.now }
 {
+    let (run, rest) = split_plain(kind, text);
     match kind {
-        Kind::ByteStr => text,
-        _ => split_plain(kind, text).1,
+        Kind::ByteStr => {
+            if run.is_ascii() {
+                rest
+            } else {
+                skip(Class::InByteString, text)
+            }
+        }
+        _ => rest,
     }
 }
 
@@ -84,7 +92,7 @@ pub(crate) fn closes_one(kind: Kind, text: &str) -> bool
 }
 
 /// Whether a raw string of the kind may hold the character.
-fn is_raw_character(kind: Kind, c: char) -> bool
+pub(crate) fn is_raw_character(kind: Kind, c: char) -> bool
     ensures { result ≡ is_raw_character kind c }
 {
     match kind {
@@ -107,8 +115,8 @@ fn behind_closer<'t>(hashes: &str, c: char, after: &'t str) -> Option<&'t str>
     }
 }
 
-/// The text behind characters at its front that a raw string of the kind holds and that close none. Of a byte string,
-/// which holds none past ASCII, they are told one by one.
+/// The text behind characters at its front that a raw string of the kind holds and that close none. A byte string holds
+/// none past ASCII: where one stands among them, they are told one by one up to it.
 #[inline(always)]
 fn skip_inside(kind: Kind, text: &str) -> &str
     ensures run { (run : List ℕ) × (chars text.now ≡ run ++ chars result.now)
@@ -117,6 +125,14 @@ fn skip_inside(kind: Kind, text: &str) -> &str
 {
     match kind {
         Kind::Str => split_before(Marks::two(b'"', b'\r'), text).1,
+        Kind::ByteStr => {
+            let (run, rest) = split_before(Marks::two(b'"', b'\r'), text);
+            if run.is_ascii() {
+                rest
+            } else {
+                skip(Class::InRawByteString, text)
+            }
+        }
         Kind::CStr => split_before(INSIDE_C_STRING, text).1,
         _ => text,
     }

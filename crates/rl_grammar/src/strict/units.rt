@@ -1,17 +1,17 @@
 //! The units that stand between the quotes of a strict literal.
 
-ghost use Rattle.std.specs.Prelude.{◌≡◌, ◌<◌, ◌≤◌, ◌∷◌, IfSome, length, option_map};
+ghost use Rattle.std.specs.Prelude.{◌≡◌, ◌<◌, ◌∷◌, IfSome, length, option_map};
 ghost use Rattle.std.specs.Str.{chars};
-ghost use Rattle.rl_tokens.specs.Strict.{Itself, is_dropped_blank, is_strict_unit};
-ghost use Rattle.rl_grammar.specs.NumberAt.{after_run};
+ghost use Rattle.rl_tokens.specs.Strict.{Itself, is_strict_unit};
 ghost use Rattle.rl_grammar.specs.StrictAt.{escape_rest, unit_rest};
 
+use crate::classes::{Class, skip};
 use crate::units::unit;
 use rl_tokens::Kind;
 use rl_tokens::text::split_char;
 
 /// Whether the kind takes the character as it is.
-fn is_bare(kind: Kind, c: char) -> bool
+pub(crate) fn is_bare(kind: Kind, c: char) -> bool
     ensures { result ≡ is_strict_unit kind (Itself c) }
 {
     match kind {
@@ -22,19 +22,6 @@ fn is_bare(kind: Kind, c: char) -> bool
         Kind::CStr => !matches!(c, '"' | '\\' | '\r' | '\0'),
         Kind::Int | Kind::Float | Kind::Bool => false,
     }
-}
-
-/// The text behind the spaces, TABs and LFs.
-#[tactic(auto, unfolding(crate::specs::NumberAt::after_run))]
-fn skip_blanks(text: &str) -> &str
-    ensures value { chars result.now ≡ after_run is_dropped_blank (chars text.now) }
-    ensures shorter { length result.now ≤ length text.now }
-{
-    let mut rest = text;
-    while let Some((' ' | '\t' | '\n', after)) = split_char(rest) {
-        rest = after;
-    }
-    rest
 }
 
 /// The text behind an escape, whose backslash stands before the second text.
@@ -49,7 +36,7 @@ fn skip_escape<'t>(kind: Kind, text: &'t str, behind: &'t str) -> Option<&'t str
     match split_char(behind)? {
         ('\n', blanks) => {
             if kind.is_string() {
-                Some(skip_blanks(blanks))
+                Some(skip(Class::StrictBlank, blanks))
             } else {
                 None
             }

@@ -7,7 +7,7 @@ ghost use Rattle.rl_tokens.specs.Texts.{IsBehind};
 ghost use Rattle.rl_tokens.specs.Lexemes.{after_run, is_hash, begins_hashes};
 ghost use Rattle.rl_tokens.specs.LexemeAt.{row_test, after_suffix, hashes};
 
-use crate::characters::{is_continue, is_start};
+use crate::characters::{is_continue, is_start, is_white};
 use crate::text::{split_ascii, split_char};
 
 /// A kind of row, by what it holds.
@@ -19,9 +19,12 @@ pub(crate) enum Row {
     Numeral,
     /// Underscores.
     Underscores,
+    /// White space.
+    White,
 }
 
 // Whether a row of this kind holds the character.
+#[inline(always)]
 fn holds(row: Row, c: char) -> bool
     ensures { result ≡ row_test row c }
 {
@@ -29,6 +32,7 @@ fn holds(row: Row, c: char) -> bool
         Row::Continue => is_continue(c),
         Row::Numeral => c.is_ascii_digit() || c == '_',
         Row::Underscores => c == '_',
+        Row::White => is_white(c),
     }
 }
 

@@ -1,4 +1,4 @@
-//! Readers and writers that fail.
+//! Readers and writers that fail, or give and take few bytes a call.
 
 use crate::command::Command;
 use crate::fault::Fault;
@@ -6,27 +6,30 @@ use crate::run::run;
 use std::io::{self, ErrorKind, Read, Write};
 use std::test::Fail;
 
-/// Gives its bytes at the first call, and fails at each further one.
+/// Gives so many of its bytes a call, and fails once it was called so often.
 #[derive(Drop)]
-struct OnceRead<'a> {
+struct Source<'a> {
     bytes: &'a [u8],
-    called: bool,
+    at_once: usize,
+    calls: usize,
 }
 
-impl Read for OnceRead<'_> {
+impl Read for Source<'_> {
     fn read(&mut self, buf: &mut [u8]) -> io::Result<usize> {
-        if self.called {
+        if self.calls == 0 {
             return Err(ErrorKind::Interrupted.into());
         }
-        self.called = true;
-        self.bytes.read(buf)
+        self.calls -= 1;
+        let count = self.at_once.min(buf.len());
+        self.bytes.read(&mut buf[..count])
     }
 }
 
-/// Takes as many bytes as it has room for, and then fails, or answers zero.
+/// Takes so many bytes a call while it has room for them, and then fails, or answers zero.
 #[derive(Drop)]
 struct Room<'a> {
     held: &'a mut Vec<u8>,
+    at_once: usize,
     room: usize,
     fails: bool,
 }
@@ -36,7 +39,7 @@ impl Write for Room<'_> {
         if self.room == 0 && self.fails {
             return Err(ErrorKind::BrokenPipe.into());
         }
-        let count = self.room.min(buf.len());
+        let count = self.room.min(self.at_once).min(buf.len());
         self.held.extend_from_slice(&buf[..count])?;
         self.room -= count;
         Ok(count)
@@ -53,9 +56,10 @@ const LIST: &str = "0xFF_u8 -1.5 true 'x'";
 #[test]
 fn a_reader_that_fails(rt: HostRuntime) {
     let alloc = rt.alloc();
-    let mut input = OnceRead {
+    let mut input = Source {
         bytes: LIST.as_bytes(),
-        called: false,
+        at_once: usize::MAX,
+        calls: 1,
     };
     let mut out = Vec::new(alloc);
     let answer = run(alloc, Command::Read, &mut input, &mut out);
@@ -75,12 +79,36 @@ fn writers_that_fail(rt: HostRuntime) -> Result<(), Fail> {
         let mut held = Vec::new(alloc);
         let mut out = Room {
             held: &mut held,
+            at_once: usize::MAX,
             room,
             fails,
         };
         let answer = run(alloc, Command::Read, &mut LIST.as_bytes(), &mut out);
         assert!(&rt; matches!(answer, Err(Fault::Write)));
         assert_eq!(&rt; held.as_slice(), written.as_bytes());
+    }
+    Ok(())
+}
+
+#[test]
+fn a_few_bytes_a_call(rt: HostRuntime) -> Result<(), Fail> {
+    let alloc = rt.alloc();
+    for at_once in [1, 3, 7] {
+        let mut input = Source {
+            bytes: LIST.as_bytes(),
+            at_once,
+            calls: usize::MAX,
+        };
+        let mut held = Vec::new(alloc);
+        let mut out = Room {
+            held: &mut held,
+            at_once,
+            room: usize::MAX,
+            fails: true,
+        };
+        run(alloc, Command::Read, &mut input, &mut out)?;
+        let wanted = "Int 255 u8\nFloat -1.5 -\nBool true -\nChar 'x' -\n";
+        assert_eq!(&rt; held.as_slice(), wanted.as_bytes());
     }
     Ok(())
 }

@@ -26,10 +26,7 @@ fn copy_of<A: Allocator, B: Allocator>(
     ensures { IfOk result (λ copy. option_map string_bytes copy ≡ option_map string_bytes text.now) }
 {
     match text {
-        Some(text) => match String::from_str(alloc, text.as_str()) {
-            Ok(copy) => Ok(Some(copy)),
-            Err(_) => Err(AllocError),
-        },
+        Some(text) => Ok(Some(String::from_str(alloc, text.as_str())?)),
         None => Ok(None),
     }
 }

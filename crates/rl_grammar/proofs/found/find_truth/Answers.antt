@@ -1,5 +1,3 @@
-use Rattle.std.specs.Str.{chars}
-use Rattle.rl_tokens.proofs.BehindLemmas.{if_none}
 use Rattle.rl_grammar.proofs.FoundLemmas.{truth_found}
 use Rattle.rl_grammar.proofs.found.find_truth.Goals as goal
 

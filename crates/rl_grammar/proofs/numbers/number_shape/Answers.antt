@@ -1,4 +1,4 @@
-use Rattle.std.proofs.Common.{ap, sym, subst}
+use Rattle.std.proofs.Common.{sym, subst}
 use Rattle.std.specs.Str.{chars}
 use Rattle.rl_tokens.specs.Numbers.{FloatReads}
 use Rattle.rl_grammar.specs.NumberShapes.{IsWithin}

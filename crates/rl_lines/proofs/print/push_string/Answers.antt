@@ -1,4 +1,4 @@
-use Rattle.std.proofs.Common.{◌≡◌, ap, refl, string_bytes}
+use Rattle.std.proofs.Common.{ap, refl, string_bytes}
 use Rattle.std.specs.Str.{chars}
 use Rattle.std.proofs.lemmas.Result.{on_ok_weaker}
 use Rattle.rl_tokens.specs.declared.kind.Kind.TheVariants.{Str}

@@ -1,17 +1,9 @@
--- `split_once` cuts at the first LF.
-use Rattle.std.proofs.Common.{Some, None, lit<}
-use Rattle.std.proofs.lemmas.Str.Pattern.{split_parts}
-use Rattle.rl_tokens.proofs.CommentBytes.{line_cut, line_open}
+-- The next LF ends the line.
+use Rattle.rl_tokens.proofs.CommentSteps.{line_found, line_open, nothing_behind}
 use Rattle.rl_tokens.proofs.whitespace.after_line.Goals as goal
 
-pub returns-in-Some : goal.returns-in-Some
-returns-in-Some c =
-    let t = c.args.text.now in
-    let (rest, behind) = line_cut t c.in-Some.field-0-0.now c.in-Some.behind.now c.utf8.text (split_parts 10 t (Some (c.in-Some.field-0-0, c.in-Some.behind)) c.in-Some.ensures.cases (lit< tt)) in
-    record { rest = rest; behind = behind }
+pub returns-in-Some-clause-rest : goal.returns-in-Some-clause-rest
+returns-in-Some-clause-rest c = line_found _ _ _ _ c.two.ensures c.in-Some.ensures.some
 
 pub returns-in-None : goal.returns-in-None
-returns-in-None c =
-    let t = c.args.text.now in
-    let (rest, behind) = line_open t c.utf8.text (split_parts 10 t None c.in-None.ensures.cases (lit< tt)) in
-    record { rest = rest; behind = behind }
+returns-in-None c = record { rest = line_open _ _ c.two.ensures c.in-None.ensures.none; behind = nothing_behind c.args.text.now }

@@ -1,24 +1,22 @@
--- What is skipped behind a piece is skipped behind the text.
-use Rattle.std.proofs.Common.{sym}
+-- What is skipped behind white space is skipped behind the text.
 use Rattle.std.specs.Str.{chars}
+use Rattle.rl_tokens.specs.Texts.{is_white}
 use Rattle.rl_tokens.proofs.BehindLemmas.{behind_step}
-use Rattle.rl_tokens.proofs.Pieces.{one_rest, skipped_after, skipped_here}
+use Rattle.rl_tokens.proofs.Pieces.{one_rest, run_ends, skipped_again, skipped_none, skipped_run}
 use Rattle.rl_tokens.proofs.whitespace.skip.Goals as goal
 
-pub after_piece-requires-text-text : goal.after_piece-requires-text-text
-after_piece-requires-text-text c κs = c.loop-behind.invariant.behind.is_text
+pub skip_comments-requires : goal.skip_comments-requires
+skip_comments-requires c = run_ends is_white (chars c.args.text.now) _ c.after_row-rest.ensures.rest
 
-pub loop-behind-preserved : goal.loop-behind-preserved
-loop-behind-preserved c = record {
-  behind = behind_step c.args.text.now c.loop-behind.rest.now c.in-Some.behind.now c.loop-behind.invariant.behind c.in-Some.ensures.behind;
-  skipped = λ r s. c.loop-behind.invariant.skipped r (skipped_after (chars c.loop-behind.rest.now) (chars c.in-Some.behind.now) r (sym c.in-Some.ensures.rest) s);
-}
+pub returns-in-Some : goal.returns-in-Some
+returns-in-Some c =
+    let run = c.after_row-rest.ensures in
+    let more = c.skip_comments.ensures in
+    let skipped = skipped_run (chars c.args.text.now) _ _ run.rest more.skipped in
+    record { skipped = skipped; behind = behind_step _ _ _ run.behind more.behind; only = one_rest; again = skipped_again _ _ skipped }
 
-pub returns-clause-skipped : goal.returns-clause-skipped
-returns-clause-skipped c = c.loop-behind.invariant.skipped (chars c.loop-behind.rest.now) (skipped_here (chars c.loop-behind.rest.now) (sym c.in_default.ensures.rest))
-
-pub returns-clause-only : goal.returns-clause-only
-returns-clause-only c = one_rest
-
-pub returns-clause-again : goal.returns-clause-again
-returns-clause-again c = skipped_here (chars c.loop-behind.rest.now) (sym c.in_default.ensures.rest)
+pub returns-in-None : goal.returns-in-None
+returns-in-None c =
+    let run = c.after_row-rest.ensures in
+    let none = skipped_none _ (run_ends is_white (chars c.args.text.now) _ run.rest) c.in-None.ensures.rest in
+    record { skipped = skipped_run (chars c.args.text.now) _ _ run.rest none; behind = run.behind; only = one_rest; again = none }

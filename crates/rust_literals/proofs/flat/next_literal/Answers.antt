@@ -18,7 +18,7 @@ returns-in-Literal-clause-next g c =
 pub returns-in_ok-truth_of-in-Identifier-clause-next : goal.returns-in_ok-truth_of-in-Identifier-clause-next
 returns-in_ok-truth_of-in-Identifier-clause-next g c =
     truth_next c.args.file c.args.tokens.now c.next.new.self c.in_ok-token.token _ c.in_ok-truth_of-in-Identifier.field-0 c.in_ok-token.ensures.next
-    (ap form_view c.in-Identifier.is) c.in_ok-truth_of-in-Identifier.ensures
+    (ap form_view c.in-Identifier.is) c.in_ok-truth_of-in-Identifier.ensures.bytes
     (ap BoolLit (c.new.ensures ∙ ap (λ s. record { value = c.in_ok-truth_of-in-Identifier.field-0; span = s }) c.new-span.ensures))
 
 pub returns-in_ok-joined-in-Mark-eq45-clause-next : goal.returns-in_ok-joined-in-Mark-eq45-clause-next

@@ -3,4 +3,4 @@ use Rattle.rl_grammar.proofs.FrontLemmas.{minus_chars, no_negative_truth}
 use Rattle.rl_grammar.proofs.front.Front.truth.Goals as goal
 
 pub returns-in-Negative-clause-none : goal.returns-in-Negative-clause-none
-returns-in-Negative-clause-none g c = rw c.in-Negative.is (rw (minus_chars c.in-Negative.field-1.now.text) (no_negative_truth (chars c.in-Negative.field-1.now.text)))
+returns-in-Negative-clause-none g c = rw c.in-Negative.is (rw (minus_chars c.in-Negative.field-0.1.text) (no_negative_truth (chars c.in-Negative.field-0.1.text)))

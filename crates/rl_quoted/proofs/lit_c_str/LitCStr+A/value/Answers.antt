@@ -1,13 +1,16 @@
+use Rattle.std.proofs.Common.{◌≡◌}
 use Rattle.std.specs.Str.{chars}
-use Rattle.rl_tokens.proofs.CStringLemmas.{zero_is_found}
-use Rattle.rl_quoted.proofs.PlaceLemmas.{no_zero_of}
+use Rattle.std.proofs.lemmas.Result.{IfOk-at_ok}
+use Rattle.rl_quoted.proofs.PlaceLemmas.{no_zero_of, is_made}
 use Rattle.rl_quoted.proofs.lit_c_str.LitCStr+A.value.Goals as goal
 
-pub unreachable-requires : goal.unreachable-requires
-unreachable-requires g c =
+pub unwrap-requires : goal.unwrap-requires
+unwrap-requires g c =
     let t = chars c.args.self.now.text in
-    let held = c.in-Ok.ensures.value t c.body-plain.ensures.stands in
-    zero_is_found c.in-Ok.bytes.items _ (no_zero_of t c.in-Ok.bytes.items held) c.in-Err-new.ensures.first
+    is_made c.new.result c.in-Ok.bytes.items (λ e. e.place) (no_zero_of t c.in-Ok.bytes.items (c.in-Ok.ensures.value t c.body-plain.ensures.stands)) c.new.ensures.first
 
-pub returns-in-Ok-new-clause-value : goal.returns-in-Ok-new-clause-value
-returns-in-Ok-new-clause-value g c = rw c.in-Ok-new.ensures.ok (c.in-Ok.ensures.value _ c.body-plain.ensures.stands)
+pub returns-in-Ok-clause-value : goal.returns-in-Ok-clause-value
+returns-in-Ok-clause-value g c =
+    let t = chars c.args.self.now.text in
+    let made : c.unwrap.result ≡ c.in-Ok.bytes.items = IfOk-at_ok (λ v. v ≡ c.in-Ok.bytes.items) c.unwrap.ensures c.new.ensures.ok in
+    rw made (c.in-Ok.ensures.value t c.body-plain.ensures.stands)

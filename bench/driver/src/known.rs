@@ -1,0 +1,32 @@
+//! Sums that were worked out by hand, of every export.
+
+use crate::corpus::Corpus;
+use crate::ours;
+
+/// The sums of some texts, with a text past UTF-8, places out of order, and one past the end among them.
+pub fn check() -> Result<(), String> {
+    let corpus = Corpus {
+        name: "known texts",
+        bytes: b"\"ab\"q0xFF_u8nope1 'a' [2]\xFFtrue".to_vec(),
+        ends: vec![5, 12, 16, 25, 26, 30, 3, 40],
+    };
+    // 1 + 2 + 1, 6 + 5 + 2, 8 + 4
+    wanted("shape", ours::shape(&corpus), 29)?;
+    // 1 + 2 + 1, 6 + 3 + 2, 8
+    wanted("value", ours::value(&corpus), 23)?;
+    wanted("literal", ours::literal(&corpus), 23)?;
+    wanted("lent", ours::lent(&corpus), 23)?;
+    // 1, 1, 1, 3, none, 1
+    wanted("lex", ours::lex(&corpus), 7)?;
+    // 1, 1, none, none, 1
+    wanted("read", ours::read(&corpus), 3)
+}
+
+/// A work has to make this sum.
+fn wanted(work: &str, sum: u64, wanted: u64) -> Result<(), String> {
+    if sum == wanted {
+        Ok(())
+    } else {
+        Err(format!("known texts: {work} makes {sum}, not {wanted}"))
+    }
+}

@@ -1,0 +1,6 @@
+use Rattle.std.proofs.Common.{◌∙◌}
+use Rattle.rl_grammar.proofs.RunLemmas.{run_is_blanks}
+use Rattle.rl_grammar.proofs.units.skip_blanks.Goals as goal
+
+pub returns-clause-value : goal.returns-clause-value
+returns-clause-value c = c.skip.ensures.value ∙ run_is_blanks _

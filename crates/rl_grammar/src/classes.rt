@@ -1,0 +1,60 @@
+//! Rows of characters of one class.
+
+ghost use Rattle.std.specs.Prelude.{◌≡◌, ◌≤◌, length};
+ghost use Rattle.std.specs.Str.{chars};
+ghost use Rattle.rl_tokens.specs.Texts.{IsBehind};
+ghost use Rattle.rl_grammar.specs.Classes.{class_test};
+ghost use Rattle.rl_grammar.specs.NumberAt.{after_run};
+
+use crate::strict::quoted::is_raw_character;
+use crate::strict::units::is_bare;
+use rl_tokens::Kind;
+use rl_tokens::text::split_char;
+
+/// A class of characters, all of ASCII.
+#[derive(Clone, Copy)]
+pub(crate) enum Class {
+    /// Hashes of a raw form.
+    Hash,
+    Underscore,
+    /// What an escaped line end takes with it.
+    Blank,
+    /// The same in strict texts, where no CR stands.
+    StrictBlank,
+    /// What a strict byte string takes as it is.
+    InByteString,
+    /// What a strict raw byte string holds, but for its closer.
+    InRawByteString,
+}
+
+/// Whether the character is of the class.
+fn is_of(class: Class, c: char) -> bool
+    ensures { result ≡ class_test class c }
+{
+    match class {
+        Class::Hash => c == '#',
+        Class::Underscore => c == '_',
+        Class::Blank => matches!(c, ' ' | '\t' | '\n' | '\r'),
+        Class::StrictBlank => matches!(c, ' ' | '\t' | '\n'),
+        Class::InByteString => is_bare(Kind::ByteStr, c),
+        Class::InRawByteString => c != '"' && is_raw_character(Kind::ByteStr, c),
+    }
+}
+
+/// The text behind the characters of the class at its front. It is inlined for the class that its caller names.
+#[inline(always)]
+#[tactic(auto, using(rl_tokens::proofs::BehindLemmas::behind_step, rl_tokens::proofs::BehindLemmas::behind_self), unfolding(crate::specs::NumberAt::after_run))]
+pub(crate) fn skip(class: Class, text: &str) -> &str
+    ensures value { chars result.now ≡ after_run (class_test class) (chars text.now) }
+    ensures behind { IsBehind text.now result.now }
+    ensures shorter { length result.now ≤ length text.now }
+{
+    let mut rest = text;
+    while let Some((c, after)) = split_char(rest) {
+        if !is_of(class, c) {
+            break;
+        }
+        rest = after;
+    }
+    rest
+}

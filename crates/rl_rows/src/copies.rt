@@ -1,0 +1,76 @@
+//! Equality and hash of literals.
+
+use crate::tell::{HERE, THERE, line, literal_of, show, show_line, show_word};
+use rl_tokens::Span;
+use rust_literals::Lit;
+use std::alloc::{AllocError, Global};
+use std::collections::HashMap;
+use std::hash::{DefaultHasher, Hash, Hasher};
+
+/// Tells what a call of this name answers; false where there is none.
+pub(crate) fn told(
+    alloc: Global,
+    name: &str,
+    text: &str,
+    out: &mut String,
+) -> Result<bool, AllocError> {
+    match name {
+        "equal" => equal(alloc, text, out)?,
+        "map" => map(alloc, text, out)?,
+        _ => return Ok(false),
+    }
+    Ok(true)
+}
+
+fn hash_of(literal: &Lit) -> u64 {
+    let mut state = DefaultHasher::new();
+    literal.hash(&mut state);
+    state.finish()
+}
+
+/// Whether two literals, a LF between their texts, are equal, and hash alike, at two spans.
+fn equal(alloc: Global, text: &str, out: &mut String) -> Result<(), AllocError> {
+    let (first, second) = text.split_once('\n').unwrap_or((text, text));
+    let first = literal_of(alloc, first, HERE)?;
+    let second = literal_of(alloc, second, THERE)?;
+    tell_equal(&first, &second, out)
+}
+
+/// Whether two literals are equal, and hash alike.
+fn tell_equal(first: &Lit, second: &Lit, out: &mut String) -> Result<(), AllocError> {
+    show_word(&(*first == *second), out)?;
+    show_line(&(hash_of(first) == hash_of(second)), out)
+}
+
+/// Puts the literals of the text, which LF part, into a map, and tells of each which one stood there before.
+fn map(alloc: Global, text: &str, out: &mut String) -> Result<(), AllocError> {
+    let mut map = HashMap::new(alloc);
+    for (at, text) in text.split('\n').enumerate() {
+        let before = put(alloc, at, text, &mut map)?;
+        tell_before(at, before, out)?;
+    }
+    show_line(&map.len(), out)
+}
+
+/// Puts the literal that a text is into the map; which one stood there before.
+fn put(
+    alloc: Global,
+    at: usize,
+    text: &str,
+    map: &mut HashMap<Lit, usize>,
+) -> Result<Option<usize>, AllocError> {
+    let literal = literal_of(alloc, text, Span::new(0, at, at))?;
+    Ok(map.insert(literal, at)?)
+}
+
+/// Tells which one stood there before.
+fn tell_before(at: usize, before: Option<usize>, out: &mut String) -> Result<(), AllocError> {
+    show(&at, out)?;
+    match before {
+        Some(before) => {
+            out.push_str(" as ")?;
+            show_line(&before, out)
+        }
+        None => line(" new", out),
+    }
+}

@@ -1,0 +1,63 @@
+//! Long numbers, told in brief.
+
+use crate::tell::{HERE, line, literal_of, show, word};
+use rust_literals::Lit;
+use std::alloc::{AllocError, Global};
+
+/// Tells the number that a row of pieces spells; false where another call is meant.
+pub(crate) fn told(
+    alloc: Global,
+    name: &str,
+    row: &str,
+    out: &mut String,
+) -> Result<bool, AllocError> {
+    if name != "long" {
+        return Ok(false);
+    }
+    let text = spelled(alloc, row)?;
+    let literal = literal_of(alloc, text.as_str(), HERE)?;
+    tell_number(&literal, out)?;
+    Ok(true)
+}
+
+/// The text that a row spells: pieces with a space between, each behind how often it stands there, as `1*0x 64*F`.
+fn spelled(alloc: Global, row: &str) -> Result<String, AllocError> {
+    let mut text = String::new(alloc);
+    for part in row.split(' ') {
+        let (count, piece) = part.split_once('*').unwrap_or(("1", part));
+        for _ in 0..count.parse::<u32>().unwrap_or(0) {
+            text.push_str(piece)?;
+        }
+    }
+    Ok(text)
+}
+
+/// Tells a number's digits and its suffix, of any other literal its text.
+fn tell_number(literal: &Lit, out: &mut String) -> Result<(), AllocError> {
+    match literal {
+        Lit::Int(number) => tell_parts("Int", number.base10_digits(), number.suffix(), out),
+        Lit::Float(number) => tell_parts("Float", number.base10_digits(), number.suffix(), out),
+        other => tell_parts("Verbatim", other.text(), "", out),
+    }
+}
+
+fn tell_parts(kind: &str, digits: &str, suffix: &str, out: &mut String) -> Result<(), AllocError> {
+    word(kind, out)?;
+    tell_brief(digits, out)?;
+    if !suffix.is_empty() {
+        out.push_str(" ")?;
+        tell_brief(suffix, out)?;
+    }
+    line("", out)
+}
+
+/// Tells a text of up to forty bytes; of a longer one its first eight, its last eight, and how many they are.
+fn tell_brief(text: &str, out: &mut String) -> Result<(), AllocError> {
+    if text.len() <= 40 {
+        return out.push_str(text);
+    }
+    out.push_str(text.get(..8).unwrap_or(""))?;
+    out.push_str("..")?;
+    word(text.get(text.len() - 8..).unwrap_or(""), out)?;
+    show(&text.len(), out)
+}

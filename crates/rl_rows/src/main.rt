@@ -1,0 +1,36 @@
+//! Rows of tests: reads lines of input, and prints of each what a call of the libraries answers to a text, to be compared
+//! with stored lines. No clause speaks of what is printed.
+#![tactic(auto)]
+
+mod bytes;
+mod calls;
+mod copies;
+mod inside;
+mod lists;
+mod literals;
+mod long;
+mod messages;
+mod numbers;
+mod parsers;
+mod refused;
+mod row;
+mod shapes;
+mod takers;
+mod tell;
+mod tokens;
+mod trees;
+mod turns;
+mod uses;
+
+use std::io;
+use std::io::{BufRead, BufReader, BufWriter, Write};
+
+fn main(rt: HostRuntime) -> io::Result<()> {
+    let alloc = rt.alloc();
+    let mut out = BufWriter::new(alloc, io::writer(&rt))?;
+    for line in BufReader::new(alloc, rt.reader())?.lines(alloc) {
+        let answer = row::told(alloc, line?.as_str())?;
+        out.write_all(answer.as_bytes())?;
+    }
+    out.flush()
+}

@@ -1,0 +1,88 @@
+//! Calls whose requests for memory are refused.
+
+use crate::tell::{At, HERE, line, show_line, show_word, word};
+use rl_refusing::Refusing;
+use rl_tokens::{Kept, Literal};
+use rust_literals::Lit;
+use std::alloc::{AllocError, Global};
+
+/// An allocator that refuses when it is told to, lent.
+type Lent<'a> = &'a Refusing<Global>;
+
+/// Tells what a call of this name answers to a text; false where there is none.
+pub(crate) fn told(
+    alloc: Global,
+    name: &str,
+    text: &str,
+    out: &mut String,
+) -> Result<bool, AllocError> {
+    let refusing = Refusing::new(alloc);
+    match name {
+        "all_refused" => all_refused(&refusing, text, out)?,
+        "second_refused" => second_refused(&refusing, text, out)?,
+        _ => return Ok(false),
+    }
+    Ok(true)
+}
+
+/// A token of the text, with its memory from an allocator that refuses nothing yet.
+fn token_of<'a>(refusing: Lent<'a>, text: &str) -> Result<Literal<Lent<'a>>, AllocError> {
+    match Literal::from_text(refusing, text, HERE) {
+        Ok(token) => Ok(token),
+        Err(_) => Err(AllocError),
+    }
+}
+
+/// The literal of a token, with every request refused: what it is, or why not, and the token that comes back.
+fn all_refused(refusing: Lent<'_>, text: &str, out: &mut String) -> Result<(), AllocError> {
+    let token = token_of(refusing, text)?;
+    refusing.refuse(1, u64::MAX);
+    let answer = Lit::new(refusing, token);
+    refusing.allow();
+    match answer {
+        Ok(literal) => tell_number(&literal, out),
+        Err(Kept { value, error }) => {
+            show_word(&error, out)?;
+            show_word(&At(error.span), out)?;
+            word(value.text(), out)?;
+            show_line(&At(value.span()), out)
+        }
+    }
+}
+
+/// Tells the digits of a number, and its suffix.
+fn tell_number(literal: &Lit<Lent<'_>>, out: &mut String) -> Result<(), AllocError> {
+    match literal {
+        Lit::Int(number) => {
+            word("Int", out)?;
+            word(number.base10_digits(), out)?;
+        }
+        Lit::Float(number) => {
+            word("Float", out)?;
+            word(number.base10_digits(), out)?;
+        }
+        other => word(other.text(), out)?,
+    }
+    line(literal.suffix(), out)
+}
+
+/// The value of a string whose contents are the text ten thousand times over, with all requests but the first refused.
+fn second_refused(refusing: Lent<'_>, text: &str, out: &mut String) -> Result<(), AllocError> {
+    let mut quoted = String::from_str(refusing, "\"")?;
+    for _ in 0..10_000 {
+        quoted.push_str(text)?;
+    }
+    quoted.push_str("\"")?;
+    let token = token_of(refusing, quoted.as_str())?;
+    let Ok(Lit::Str(literal)) = Lit::new(refusing, token) else {
+        return line("no string", out);
+    };
+    show_word(&literal.value_ref().is_some(), out)?;
+    refusing.refuse(2, u64::MAX);
+    let value = literal.value(refusing);
+    refusing.allow();
+    match value {
+        Ok(value) => show_line(&value.len(), out),
+        Err(error) => show_line(&error, out),
+    }
+}

@@ -1,0 +1,112 @@
+//! What the grammars answer of one text.
+
+use crate::tell::{debug_line, debug_word, line, show_line};
+use rl_grammar::strict::is_token;
+use rl_grammar::{
+    Kind, Parts, byte_of, bytes_of, char_of, digits_of, float_shape, int_shape, is_plain, shape,
+    shape_negative, str_of,
+};
+use rl_tokens::{Error, whitespace};
+use std::alloc::{AllocError, Global};
+
+/// Tells what a call of this name answers; false where there is none.
+pub(crate) fn told(
+    alloc: Global,
+    name: &str,
+    text: &str,
+    out: &mut String,
+) -> Result<bool, AllocError> {
+    match name {
+        "shape" => tell_parts(shape(text), out)?,
+        "int_shape" => integer(text, out)?,
+        "float_shape" => tell_parts(float_shape(text), out)?,
+        "shape_negative" => tell_parts(shape_negative(text), out)?,
+        "strict" => show_line(&is_token(text), out)?,
+        "skipped" => line(whitespace::skip(text), out)?,
+        "contents" => contents(alloc, text, out)?,
+        "plain" => plain(text, out)?,
+        _ => return Ok(false),
+    }
+    Ok(true)
+}
+
+/// Tells a kind, and body and suffix with a point between, or that there is none.
+fn tell_parts(parts: Option<Parts<'_>>, out: &mut String) -> Result<(), AllocError> {
+    match parts {
+        Some(parts) => {
+            debug_word(&parts.kind, out)?;
+            out.push_str(parts.body)?;
+            out.push_str(".")?;
+            line(parts.suffix, out)
+        }
+        None => line("None", out),
+    }
+}
+
+/// The text's shape as an integer of any magnitude.
+fn integer(text: &str, out: &mut String) -> Result<(), AllocError> {
+    match int_shape(text) {
+        Some(Some(parts)) => tell_parts(Some(parts), out),
+        Some(None) => line("past", out),
+        None => line("None", out),
+    }
+}
+
+/// The text's contents, by the decoder of its kind.
+fn contents(alloc: Global, text: &str, out: &mut String) -> Result<(), AllocError> {
+    match shape(text) {
+        Some(parts) => match parts.kind {
+            Kind::Str => tell_text(str_of(alloc, text), out),
+            Kind::ByteStr | Kind::CStr => tell_bytes(bytes_of(alloc, text), out),
+            Kind::Byte => show_line(&byte_of(text), out),
+            Kind::Char => show_line(&(char_of(text) as u32), out),
+            Kind::Int | Kind::Float => tell_digits(digits_of(alloc, parts.kind, text), out),
+            Kind::Bool => line(text, out),
+        },
+        None => line("None", out),
+    }
+}
+
+/// Tells a text's bytes.
+fn tell_text(text: Result<String, Error>, out: &mut String) -> Result<(), AllocError> {
+    match text {
+        Ok(text) => debug_line(&text.as_bytes(), out),
+        Err(_) => Err(AllocError),
+    }
+}
+
+/// Tells bytes.
+fn tell_bytes(bytes: Result<Vec<u8>, Error>, out: &mut String) -> Result<(), AllocError> {
+    match bytes {
+        Ok(bytes) => debug_line(&bytes.as_slice(), out),
+        Err(_) => Err(AllocError),
+    }
+}
+
+/// Tells digits.
+fn tell_digits(digits: Result<String, Error>, out: &mut String) -> Result<(), AllocError> {
+    match digits {
+        Ok(digits) => line(digits.as_str(), out),
+        Err(_) => Err(AllocError),
+    }
+}
+
+/// The kind of this name.
+fn kind_of(name: &str) -> Kind {
+    match name {
+        "Str" => Kind::Str,
+        "ByteStr" => Kind::ByteStr,
+        "CStr" => Kind::CStr,
+        "Byte" => Kind::Byte,
+        "Char" => Kind::Char,
+        "Int" => Kind::Int,
+        "Float" => Kind::Float,
+        _ => Kind::Bool,
+    }
+}
+
+/// Whether the contents of a text, behind a kind's name and a LF, stand in it as they are.
+fn plain(text: &str, out: &mut String) -> Result<(), AllocError> {
+    let (name, text) = text.split_once('\n').unwrap_or(("", text));
+    show_line(&is_plain(kind_of(name), text), out)
+}

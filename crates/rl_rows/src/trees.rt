@@ -1,0 +1,104 @@
+//! The trees of a text, and why it is cut into none.
+
+use crate::tell::{HERE, debug_word, line, place, show, tell_form, token_of, word};
+use rl_tokens::{Delimiter, Group, LexKind, Span, TokenStream, TokenTree, Tokens, lex};
+use std::alloc::{AllocError, Global};
+
+/// Tells what a call of this name answers; false where there is none.
+pub(crate) fn told(
+    alloc: Global,
+    name: &str,
+    text: &str,
+    out: &mut String,
+) -> Result<bool, AllocError> {
+    match name {
+        "lex" => cut(alloc, text, out)?,
+        "lent" => lent(text, out)?,
+        "built" => built(alloc, out)?,
+        _ => return Ok(false),
+    }
+    Ok(true)
+}
+
+/// Tells each tree with its bytes: a group as its delimiter, with the trees inside between angle brackets.
+fn tell_all(trees: &[TokenTree], out: &mut String) -> Result<(), AllocError> {
+    for tree in trees {
+        tell_form(tree, out)?;
+        place(tree.span(), out)?;
+        if let TokenTree::Group(group) = tree {
+            word("<", out)?;
+            tell_all(group.stream().trees(), out)?;
+            word(">", out)?;
+        }
+    }
+    Ok(())
+}
+
+/// The trees of a text, or the fault and its byte.
+fn cut(alloc: Global, text: &str, out: &mut String) -> Result<(), AllocError> {
+    match lex(alloc, text, 7) {
+        Ok(stream) => tell_all(stream.trees(), out)?,
+        Err(fault) => tell_fault(fault.kind, fault.at, out)?,
+    }
+    out.push_str("\n")
+}
+
+/// Tells a fault and its byte.
+fn tell_fault(kind: LexKind, at: usize, out: &mut String) -> Result<(), AllocError> {
+    debug_word(&kind, out)?;
+    show(&at, out)
+}
+
+/// Tells why the tokens stopped, where they did.
+fn tell_stop(tokens: &Tokens<'_>, out: &mut String) -> Result<(), AllocError> {
+    match tokens.fault() {
+        Some(fault) => {
+            tell_fault(fault.kind, fault.at, out)?;
+            out.push_str("; ")
+        }
+        None => Ok(()),
+    }
+}
+
+/// Tells a token and its bytes.
+fn tell_lent(text: &str, lo: usize, hi: usize, out: &mut String) -> Result<(), AllocError> {
+    word(text, out)?;
+    show(&lo, out)?;
+    out.push_str("..")?;
+    show(&hi, out)?;
+    out.push_str("; ")
+}
+
+/// The tokens of a text as they are lent, why they stopped, and what is left of it.
+fn lent(text: &str, out: &mut String) -> Result<(), AllocError> {
+    let mut tokens = Tokens::new(text);
+    for _ in 0..text.len() {
+        tell_stop(&tokens, out)?;
+        match tokens.next() {
+            Some(token) => tell_lent(token.text, token.lo, token.hi, out)?,
+            None => break,
+        }
+    }
+    line(tokens.rest(), out)
+}
+
+/// A stream that is built of a group and a literal, and set to another span.
+fn built(alloc: Global, out: &mut String) -> Result<(), AllocError> {
+    let first = token_of(alloc, "1", HERE)?;
+    let inside = stream_of(alloc, TokenTree::Literal(first))?;
+    let group = Group::new(Delimiter::Brace, inside, HERE);
+    let mut stream = stream_of(alloc, TokenTree::Group(group))?;
+    tell_all(stream.trees(), out)?;
+    stream.respan(Span::new(0, 8, 9));
+    tell_all(stream.trees(), out)?;
+    out.push_str("\n")
+}
+
+/// A stream of one tree.
+fn stream_of(alloc: Global, tree: TokenTree) -> Result<TokenStream, AllocError> {
+    let mut stream = TokenStream::new(alloc);
+    match stream.append(tree) {
+        Ok(()) => Ok(stream),
+        Err(_) => Err(AllocError),
+    }
+}

@@ -1,0 +1,108 @@
+//! A user's own parser, in turn with that of literals.
+
+use crate::tell::{debug_word, line, show_line, tell_error, trees_of};
+use rl_tokens::{Error, Parse, ParseBuffer, Span, Token};
+use rust_literals::Lit;
+use std::alloc::{AllocError, Allocator, Global};
+
+/// A user's own type: one mark.
+#[derive(Drop)]
+pub(crate) struct Sign {
+    ch: char,
+}
+
+impl<A: Allocator> Parse<A> for Sign {
+    ghost use Rattle.std.specs.Prelude.{⊤};
+
+    ghost runs = { λ trees scope answer rest. ⊤ };
+
+    fn parse(_alloc: A, input: &mut ParseBuffer<'_, A>) -> Result<Sign, Error<A>> {
+        match input.punct() {
+            Some(mark) => Ok(Sign { ch: mark.as_char() }),
+            None => Err(input.error("sign")),
+        }
+    }
+}
+
+impl Token for Sign {
+    ghost use Rattle.std.specs.Prelude.{IsTrue, codes};
+    ghost use Rattle.rl_tokens.specs.Buffers.{begins_punct};
+
+    ghost peeks = { λ trees. IsTrue (begins_punct trees) };
+
+    ghost shown = { codes "sign" };
+
+    fn peek<A: Allocator>(input: &ParseBuffer<'_, A>) -> bool {
+        input.fork().punct().is_some()
+    }
+
+    fn display() -> &'static str {
+        "sign"
+    }
+}
+
+/// Literals and signs in turn, up to the end or a refusal.
+pub(crate) fn turns(alloc: Global, text: &str, out: &mut String) -> Result<(), AllocError> {
+    let Some(stream) = trees_of(alloc, text, 0) else {
+        return line("no trees", out);
+    };
+    let mut input = ParseBuffer::new(stream.trees(), Span::call_site());
+    for _ in 0..stream.trees().len() {
+        if !turn(alloc, &mut input, out)? {
+            return Ok(());
+        }
+    }
+    Ok(())
+}
+
+/// A literal and a sign; false where one of them is refused, and at the end.
+fn turn(alloc: Global, input: &mut ParseBuffer<'_>, out: &mut String) -> Result<bool, AllocError> {
+    if !next_literal(alloc, input, out)? || !next_sign(alloc, input, out)? {
+        return Ok(false);
+    }
+    if input.is_empty() {
+        line("end", out)?;
+        return Ok(false);
+    }
+    Ok(true)
+}
+
+/// The literal that stands next; false where there is none.
+fn next_literal(
+    alloc: Global,
+    input: &mut ParseBuffer<'_>,
+    out: &mut String,
+) -> Result<bool, AllocError> {
+    let answer = input.parse::<Lit>(alloc);
+    let is_there = answer.is_ok();
+    tell_literal(answer, out)?;
+    Ok(is_there)
+}
+
+/// Tells a literal, or why there is none.
+fn tell_literal(answer: Result<Lit, Error>, out: &mut String) -> Result<(), AllocError> {
+    match answer {
+        Ok(literal) => debug_word(&literal, out),
+        Err(error) => tell_error(&error, out),
+    }
+}
+
+/// The sign that stands next; false where there is none.
+fn next_sign(
+    alloc: Global,
+    input: &mut ParseBuffer<'_>,
+    out: &mut String,
+) -> Result<bool, AllocError> {
+    let answer = input.parse::<Sign>(alloc);
+    let is_there = answer.is_ok();
+    tell_sign(answer, out)?;
+    Ok(is_there)
+}
+
+/// Tells a sign, or why there is none.
+fn tell_sign(answer: Result<Sign, Error>, out: &mut String) -> Result<(), AllocError> {
+    match answer {
+        Ok(sign) => show_line(&sign.ch, out),
+        Err(error) => tell_error(&error, out),
+    }
+}

@@ -1,0 +1,24 @@
+-- What is skipped behind a comment is skipped behind the text.
+use Rattle.std.proofs.Common.{sym}
+use Rattle.std.specs.Str.{chars}
+use Rattle.rl_tokens.specs.Texts.{is_white}
+use Rattle.rl_tokens.proofs.BehindLemmas.{behind_step}
+use Rattle.rl_tokens.proofs.Pieces.{run_ends, skipped_run, skipped_none, skipped_slash, skipped_comment}
+use Rattle.rl_tokens.proofs.whitespace.skip_comments.Goals as goal
+
+pub loop-inside-preserved : goal.loop-inside-preserved
+loop-inside-preserved c =
+    let run = c.after_row-rest.ensures in
+    let behind = c.in-Some-after_comment.behind.now in
+    record {
+      behind = behind_step _ _ _ (behind_step _ _ _ (behind_step _ _ _ c.loop-inside.invariant.behind c.in-Some.ensures.behind) c.in-Some-after_comment.ensures.behind) run.behind;
+      dark = run_ends is_white (chars behind) _ run.rest;
+      skipped = λ r s. c.loop-inside.invariant.skipped r (skipped_comment _ _ (chars behind) r c.in-Some.ensures.rest (sym c.in-Some-after_comment.ensures.rest) (skipped_run (chars behind) _ r run.rest s));
+    }
+
+pub returns-in_default-after_comment-clause-skipped : goal.returns-in_default-after_comment-clause-skipped
+returns-in_default-after_comment-clause-skipped c =
+    c.loop-inside.invariant.skipped _ (skipped_slash _ _ c.in-Some.ensures.rest (sym c.in_default-after_comment.ensures.rest))
+
+pub returns-clause-skipped : goal.returns-clause-skipped
+returns-clause-skipped c = c.loop-inside.invariant.skipped _ (skipped_none _ c.loop-inside.invariant.dark c.in_default.ensures.rest)
