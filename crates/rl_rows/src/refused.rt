@@ -3,7 +3,7 @@
 use crate::tell::{At, HERE, line, show_line, show_word, word};
 use rl_refusing::Refusing;
 use rl_tokens::{Kept, Literal};
-use rust_literals::Lit;
+use rust_literals::{Lit, LitStr};
 use std::alloc::{AllocError, Global};
 
 /// An allocator that refuses when it is told to, lent.
@@ -66,17 +66,30 @@ fn tell_number(literal: &Lit<Lent<'_>>, out: &mut String) -> Result<(), AllocErr
     line(literal.suffix(), out)
 }
 
-/// The value of a string whose contents are the text ten thousand times over, with all requests but the first refused.
-fn second_refused(refusing: Lent<'_>, text: &str, out: &mut String) -> Result<(), AllocError> {
+/// The text ten thousand times over, as a string's token.
+fn long_string<'a>(refusing: Lent<'a>, text: &str) -> Result<Literal<Lent<'a>>, AllocError> {
     let mut quoted = String::from_str(refusing, "\"")?;
     for _ in 0..10_000 {
         quoted.push_str(text)?;
     }
     quoted.push_str("\"")?;
-    let token = token_of(refusing, quoted.as_str())?;
-    let Ok(Lit::Str(literal)) = Lit::new(refusing, token) else {
-        return line("no string", out);
-    };
+    token_of(refusing, quoted.as_str())
+}
+
+/// The value of a string whose contents are the text ten thousand times over, with all requests but the first refused.
+fn second_refused(refusing: Lent<'_>, text: &str, out: &mut String) -> Result<(), AllocError> {
+    match Lit::new(refusing, long_string(refusing, text)?) {
+        Ok(Lit::Str(literal)) => refused_value(refusing, &literal, out),
+        _ => line("no string", out),
+    }
+}
+
+/// Whether the string lends its value, and what it answers with all requests but the first refused.
+fn refused_value<'a>(
+    refusing: Lent<'a>,
+    literal: &LitStr<Lent<'a>>,
+    out: &mut String,
+) -> Result<(), AllocError> {
     show_word(&literal.value_ref().is_some(), out)?;
     refusing.refuse(2, u64::MAX);
     let value = literal.value(refusing);

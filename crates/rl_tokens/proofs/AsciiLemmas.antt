@@ -1,15 +1,20 @@
 -- The characters of identifiers in ASCII.
-use Rattle.std.proofs.Common.{◌≡◌, ℕ, ◌<◌, Bool, true, false, not, ◌&&◌, ◌||◌, ◌==◌, ◌∙◌, ap, refl, arith}
+use Rattle.std.proofs.Common.{◌≡◌, ℕ, ◌<◌, Bool, true, false, not, ◌&&◌, ◌||◌, ◌==◌, ◌∙◌, ap, sym, refl, arith}
 use Rattle.std.specs.Prelude.{nat_lt}
 use Rattle.std.proofs.lemmas.Bool.Decides.{nat_tests}
 use Rattle.std.specs.Char.{is_ascii_alphabetic, is_ascii_alphanumeric}
 use Rattle.unicode_ident.proofs.IdentLemmas.{is_xid_start-ascii, is_xid_continue-ascii}
+use Rattle.unicode_ident.specs.Ident.{is_xid_start, is_xid_continue}
 use Rattle.rl_tokens.specs.Texts.{is_white, is_start, is_continue}
 
 -- what is no white space
 plain : (b w : Bool) → (b ≡ true → w ≡ false) → (b && not w) ≡ b
 plain true w h = ap not (h refl)
 plain false w h = refl
+
+pub either : (b : Bool) → {d : Bool} → d ≡ true → (b || d) ≡ true
+either true h = refl
+either false h = h
 
 differ : (c k : ℕ) → c < k → (c == k) ≡ false
 differ c k less = grind (arith, nat_tests)
@@ -49,12 +54,19 @@ start_low c is = grind (arith, nat_tests)
 continue_low : (c : ℕ) → (is_ascii_alphanumeric c || (c == 95)) ≡ true → 47 < c
 continue_low c is = grind (arith, nat_tests)
 
-pub ascii_start : (c : ℕ) → c < 128 → is_start c ≡ (c == 95 || is_ascii_alphabetic c)
-ascii_start c low =
-    ap (λ b. (c == 95 || b) && not (is_white c)) (is_xid_start-ascii c low)
-    ∙ plain (c == 95 || is_ascii_alphabetic c) (is_white c) (λ is. no_white c (start_low c is) low)
+pub ascii_xid_start : (c : ℕ) → c < 128 → is_xid_start c ≡ is_ascii_alphabetic c
+ascii_xid_start c low = is_xid_start-ascii c low
 
-pub ascii_continue : (c : ℕ) → c < 128 → is_continue c ≡ (is_ascii_alphanumeric c || (c == 95))
-ascii_continue c low =
-    ap (λ b. b && not (is_white c)) (is_xid_continue-ascii c low)
-    ∙ plain (is_ascii_alphanumeric c || (c == 95)) (is_white c) (λ is. no_white c (continue_low c is) low)
+pub ascii_xid_continue : (c : ℕ) → c < 128 → is_xid_continue c ≡ (is_ascii_alphanumeric c || (c == 95))
+ascii_xid_continue c low = is_xid_continue-ascii c low
+
+-- an ASCII character that may stand in an identifier is no white space
+pub start_is_plain : (c : ℕ) → c < 128 → is_start c ≡ (c == 95 || is_xid_start c)
+start_is_plain c low =
+    plain (c == 95 || is_xid_start c) (is_white c)
+      (λ is. no_white c (start_low c (ap (λ b. c == 95 || b) (sym (ascii_xid_start c low)) ∙ is)) low)
+
+pub continue_is_plain : (c : ℕ) → c < 128 → is_continue c ≡ is_xid_continue c
+continue_is_plain c low =
+    plain (is_xid_continue c) (is_white c)
+      (λ is. no_white c (continue_low c (sym (ascii_xid_continue c low) ∙ is)) low)

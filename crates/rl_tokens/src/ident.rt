@@ -7,6 +7,7 @@ ghost use Rattle.std.specs.List.{list_all};
 ghost use Rattle.rl_tokens.specs.Texts.{xid_ok};
 ghost use Rattle.rl_tokens.specs.Errors.{memory_at};
 
+use crate::characters::{is_xid_continue, is_xid_start};
 use crate::error::Error;
 use crate::span::Span;
 use crate::text::split_char;
@@ -20,7 +21,7 @@ pub fn xid_ok(text: &str) -> bool
 {
     match split_char(text) {
         Some((first, rest)) => {
-            (first == '_' || unicode_ident::is_xid_start(first)) && all_continue(rest)
+            (first == '_' || is_xid_start(first)) && all_continue(rest)
         }
         None => false,
     }
@@ -30,7 +31,7 @@ pub fn xid_ok(text: &str) -> bool
 fn all_continue(text: &str) -> bool
     ensures { result ≡ list_all is_xid_continue (chars text.now) }
 {
-    text.chars().all(|c| unicode_ident::is_xid_continue(c))
+    text.chars().all(|c| is_xid_continue(c))
 }
 
 /// An identifier token, and where it stands.

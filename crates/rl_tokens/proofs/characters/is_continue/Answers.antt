@@ -1,8 +1,9 @@
-use Rattle.std.proofs.Common.{rules, ◌<◌, ◌||◌, ◌==◌, sym, ◌∙◌, ap}
-use Rattle.rl_tokens.proofs.AsciiLemmas.{ascii_continue}
+use Rattle.std.proofs.Common.{rules, ◌<◌, sym, ◌∙◌}
+use Rattle.rl_tokens.proofs.AsciiLemmas.{continue_is_plain}
 use Rattle.rl_tokens.proofs.characters.is_continue.Goals as goal
 
-pub returns-else-is_ascii_alphanumeric : goal.returns-else-is_ascii_alphanumeric
-returns-else-is_ascii_alphanumeric c =
+pub returns-then-is_ascii : goal.returns-then-is_ascii
+returns-then-is_ascii c =
     let low : c.args.c < 128 = search rules in
-    sym (ascii_continue c.args.c low ∙ ap (λ b. b || (c.args.c == 95)) (sym c.is_ascii_alphanumeric.ensures.value ∙ c.if-is_ascii_alphanumeric.false))
+    c.if-is_ascii.true
+    ∙ sym (continue_is_plain c.args.c low ∙ sym c.is_xid_continue.ensures ∙ c.if-is_xid_continue.true)
