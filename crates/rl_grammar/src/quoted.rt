@@ -4,7 +4,7 @@ ghost use Rattle.std.specs.Prelude.{◌≡◌, ◌≢◌, ◌==◌, ◌∷◌, �
 ghost use Rattle.std.specs.List.{list_all};
 ghost use Rattle.std.specs.Str.{chars};
 ghost use Rattle.rl_tokens.specs.Texts.{IsBehind};
-ghost use Rattle.rl_tokens.specs.Quoted.{is_string, is_single, may_hold};
+ghost use Rattle.rl_tokens.specs.Quoted.{is_string, is_single, is_raw};
 ghost use Rattle.rl_tokens.specs.Reading.{Contents, ReadsQuoted};
 ghost use Rattle.rl_grammar.specs.UnitAt.{unit_at};
 ghost use Rattle.rl_grammar.specs.Rows.{BeginsRow};
@@ -133,11 +133,15 @@ fn raw_parts(kind: Kind, text: &str) -> Option<(&str, &str, bool)>
     }
 }
 
-/// Whether the kind holds each character of the text.
+/// Whether the raw form of the kind takes each character of the text.
 fn holds_all(kind: Kind, text: &str) -> bool
-    ensures { result ≡ list_all (may_hold kind) (chars text.now) }
+    ensures { result ≡ list_all (is_raw kind) (chars text.now) }
 {
-    !matches!(kind, Kind::CStr) || !has_nul(text)
+    match kind {
+        Kind::ByteStr => text.is_ascii(),
+        Kind::CStr => !has_nul(text),
+        _ => true,
+    }
 }
 
 /// The body and the suffix of a character or a byte, from the text behind its opener.

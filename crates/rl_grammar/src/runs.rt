@@ -5,16 +5,17 @@ ghost use Rattle.std.specs.List.{list_all, prefix_len};
 ghost use Rattle.std.specs.Str.{chars};
 ghost use Rattle.rl_tokens.specs.Texts.{passes};
 ghost use Rattle.rl_tokens.specs.Quoted.{is_string, is_plain};
-ghost use Rattle.rl_tokens.specs.Scanning.{is_other};
+ghost use Rattle.rl_grammar.specs.Classes.{is_in_run};
 
+use crate::ascii::ascii_len;
 use rl_tokens::Kind;
 use rl_tokens::scan::{Marks, len_before};
 
-/// The characters that a string of the kind doesn't take as they are.
+/// The characters of ASCII that a string of the kind doesn't take as they are.
 #[inline(always)]
 fn ends_of_runs(kind: Kind) -> Marks
     requires { IsTrue (is_string kind) }
-    ensures { (c : ℕ) → is_other result c ≡ is_plain kind c }
+    ensures { (c : ℕ) → is_in_run kind result c ≡ is_plain kind c }
 {
     let fourth = match kind {
         Kind::CStr => 0,
@@ -28,13 +29,17 @@ fn ends_of_runs(kind: Kind) -> Marks
     }
 }
 
-/// How many bytes at the front are plain.
+/// How many bytes at the front are plain. Those of a byte string are of ASCII.
 #[inline(never)]
 fn run_len(kind: Kind, bytes: &[u8]) -> usize
     requires { IsTrue (is_string kind) }
     ensures { result ≡ prefix_len (is_plain kind) bytes.now }
 {
-    len_before(ends_of_runs(kind), bytes)
+    let marks = ends_of_runs(kind);
+    match kind {
+        Kind::ByteStr => ascii_len(marks, bytes),
+        _ => len_before(marks, bytes),
+    }
 }
 
 /// The same, told at once before an escape: these often stand side by side.

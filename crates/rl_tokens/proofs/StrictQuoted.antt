@@ -342,7 +342,7 @@ cooked_text k us t x r o e h =
     ∙ ap (λ z. opener k ++ (flat_map strict_text us ++ (z ++ x))) e
     ∙ ap (λ z. opener k ++ (z ++ (34 ∷ x))) (sym r.text_is)
 
-cooked_reads : (k : Kind) (t x : List ℕ) (v : Contents) (s : StrictCooked t k v x) → is_string k ≡ true → opens k ≡ opener k → ends k ≡ 34 ∷ [] → (w : List ℕ) × Cooked k t w x × (v ≡ held_by k w)
+pub cooked_reads : (k : Kind) (t x : List ℕ) (v : Contents) (s : StrictCooked t k v x) → is_string k ≡ true → opens k ≡ opener k → ends k ≡ 34 ∷ [] → (w : List ℕ) × Cooked k t w x × (v ≡ held_by k w)
 cooked_reads k t x v s string o e =
     let r = stand_row k s.units s.each s.blanks_end in (
       values k r.units,
