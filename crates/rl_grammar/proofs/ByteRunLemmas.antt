@@ -1,24 +1,24 @@
 -- Runs of ASCII at the front of a text, which byte strings hold.
-use Rattle.std.proofs.Common.{◌≡◌, ◌+◌, ◌<◌, ◌≤◌, ◌⊎◌, inl, inr, ℕ, zero, suc, ◌==◌, ◌&&◌, ◌||◌, Bool, true, false, not, List, [], ◌∷◌, ◌++◌, take, drop, get_or, nat_lt, nat_le, refl, sym, ap, subst, ◌∙◌, arith}
-use Rattle.std.proofs.lemmas.Bool.{and_from, and_parts, cases_Bool, ltb-true}
+use Rattle.std.proofs.Common.{◌≡◌, ◌+◌, ◌<◌, ◌≤◌, ◌⊎◌, inl, inr, ℕ, zero, suc, ◌==◌, ◌&&◌, ◌||◌, Bool, true, false, not, cond, eqb, List, [], ◌∷◌, ◌++◌, length, take, drop, get_or, nat_lt, nat_le, refl, sym, ap, subst, ◌∙◌, arith}
+use Rattle.std.proofs.lemmas.Bool.{and_from, and_parts, cases_Bool, ltb-true, ne_eqb}
 use Rattle.std.proofs.lemmas.Bool.Decides.{nat_tests}
 use Rattle.std.proofs.lemmas.List.{take-append-drop}
 use Rattle.std.proofs.lemmas.List.Sums.{prefix_len-le-length, prefix_len_passes}
 use Rattle.std.proofs.lemmas.Str.{IsCharBoundary-start, IsCharBoundary-after_ascii, IsUtf8-drop, IsUtf8-take, chars-append, chars-IsAscii, encodes-chars}
-use Rattle.std.specs.Bool.{MatchBool}
+use Rattle.std.specs.Char.{is_ascii}
 use Rattle.std.specs.List.{list_all, prefix_len}
-use Rattle.std.specs.Str.{chars, encode_utf8_all, IsAscii, IsCharBoundary, IsNotAscii, IsUtf8}
+use Rattle.std.specs.Str.{chars, encode_utf8_all, IsAscii, IsCharBoundary, IsUtf8}
 use Rattle.rl_tokens.specs.declared.kind.Kind.{Kind}
 use Rattle.rl_tokens.specs.declared.kind.Kind.TheVariants.{Str, ByteStr, CStr, Byte, Char, Int, Float, Bool as BoolKind}
 use Rattle.rl_tokens.specs.declared.scan.Marks.{Marks}
 use Rattle.rl_tokens.specs.Quoted.{is_plain, is_string}
 use Rattle.rl_tokens.specs.Scanning.{is_one_of, is_other}
 use Rattle.rl_tokens.specs.Texts.{passes}
-use Rattle.rl_tokens.proofs.CommentBytes.{cases128, low_front}
+use Rattle.rl_tokens.proofs.CommentBytes.{cases128, encode_is_high, low_front}
 use Rattle.rl_tokens.proofs.ScanLemmas.{PassesHigh, prefix_ends, prefix_passes, run_boundary, run_cut, run_plain, run_stop}
 use Rattle.rl_grammar.specs.Classes.{ends_low, is_low_other}
 use Rattle.rl_grammar.specs.StrictAt.{is_inside}
-use Rattle.rl_grammar.proofs.PlainLemmas.{plain_high}
+use Rattle.rl_grammar.proofs.PlainLemmas.{plain_high, same_prefix}
 
 -- ---- the lanes of a mask
 
@@ -134,38 +134,52 @@ inside_run m run e each = go run (ap (λ n. list_all (is_low_other n) run) (sym 
         let b = and_parts (is_low_other (record { first = 34; second = 13; third = 13; fourth = 13 }) c) (list_all (is_low_other (record { first = 34; second = 13; third = 13; fourth = 13 })) cs) h in
         and_from (is_inside ByteStr c) (list_all (is_inside ByteStr) cs) (inside_one c b.0) (go cs b.1)
 
--- a text of ASCII, told by its characters
-abbrev is_low : ℕ → Bool
-is_low c = nat_lt c 128
+-- ---- texts of ASCII alone
 
-low_bytes : (bs : List ℕ) → IsAscii bs → list_all is_low bs ≡ true
-low_bytes [] a = refl
-low_bytes (b ∷ bs) a = and_from (is_low b) (list_all is_low bs) (small b (a 0)) (low_bytes bs (λ i. a (suc i)))
+-- one more of both
+next_same : (a b : ℕ) → eqb a b ≡ eqb (1 + a) (suc b)
+next_same a b = grind (arith, nat_tests)
+
+none_same : (b : ℕ) → false ≡ eqb 0 (suc b)
+none_same b = sym (ne_eqb 0 (suc b) (λ e. omega arith))
+
+-- a run to the end is all
+run_is_all : (q : ℕ → Bool) (bs : List ℕ) → list_all q bs ≡ eqb (prefix_len q bs) (length bs)
+run_is_all q [] = refl
+run_is_all q (b ∷ bs) = go (q b) (run_is_all q bs)
   where
-    small : (c : ℕ) → c < 128 → nat_lt c 128 ≡ true
-    small c l = grind (arith, nat_tests)
+    go : (t : Bool) → list_all q bs ≡ eqb (prefix_len q bs) (length bs) → (t && list_all q bs) ≡ eqb (cond t (1 + prefix_len q bs) 0) (suc (length bs))
+    go true ih = ih ∙ next_same (prefix_len q bs) (length bs)
+    go false ih = none_same (length bs)
 
-ascii_held : (bs : List ℕ) → IsAscii bs → true ≡ list_all is_low (chars bs)
-ascii_held bs a = sym (ap (list_all is_low) (chars-IsAscii bs a) ∙ low_bytes bs a)
+-- characters of ASCII are bytes of ASCII
+high_fails : (c : ℕ) → 128 ≤ c → is_ascii c ≡ false
+high_fails c h = grind (arith, nat_tests)
 
--- characters of ASCII are their bytes
-low_encoded : (cs : List ℕ) → list_all is_low cs ≡ true → encode_utf8_all cs ≡ cs
-low_encoded [] h = refl
-low_encoded (c ∷ cs) h =
-    let p = and_parts (is_low c) (list_all is_low cs) h in
-    low_front c cs (ltb-true c 128 p.0) ∙ ap (λ z. c ∷ z) (low_encoded cs p.1)
-
-ascii_not_held : (bs : List ℕ) → IsUtf8 bs → IsNotAscii bs → false ≡ list_all is_low (chars bs)
-ascii_not_held bs u past = go (list_all is_low (chars bs)) refl
+all_bytes : (cs : List ℕ) → list_all is_ascii (encode_utf8_all cs) ≡ list_all is_ascii cs
+all_bytes [] = refl
+all_bytes (c ∷ cs) = go (all_bytes cs) (cases128 c)
   where
-    go : (b : Bool) → list_all is_low (chars bs) ≡ b → false ≡ b
-    go false e = refl
-    go true e =
-        let same : chars bs ≡ bs = sym (low_encoded (chars bs) e) ∙ encodes-chars bs u in
-        let low : IsAscii bs = low_all is_low (λ c h. ltb-true c 128 h) bs (ap (list_all is_low) (sym same) ∙ e) in
-        absurd (let l = low past.0 in omega (arith, past.1, l))
+    go : list_all is_ascii (encode_utf8_all cs) ≡ list_all is_ascii cs → (c < 128) ⊎ (128 ≤ c) → list_all is_ascii (encode_utf8_all (c ∷ cs)) ≡ list_all is_ascii (c ∷ cs)
+    go more (inl small) = ap (list_all is_ascii) (low_front c cs small) ∙ ap (λ b. is_ascii c && b) more
+    go more (inr past) =
+        let (b, bs, same, is, _) = encode_is_high c past in
+        ap (λ z. list_all is_ascii (z ++ encode_utf8_all cs)) same ∙ ap (λ z. z && list_all is_ascii (bs ++ encode_utf8_all cs)) (high_fails b is) ∙ sym (ap (λ z. z && list_all is_ascii cs) (high_fails c past))
+and_true : (b : Bool) → (b && true) ≡ b
+and_true true = refl
+and_true false = refl
 
--- so is what the test tells
-pub held_as : (b : Bool) (bs : List ℕ) → IsUtf8 bs → MatchBool b (IsAscii bs) (IsNotAscii bs) → b ≡ list_all is_low (chars bs)
-held_as true bs u is = ascii_held bs is
-held_as false bs u is = ascii_not_held bs u is
+-- a mark past ASCII is none
+no_mark : (m : Marks) → m ≡ record { first = 255; second = 255; third = 255; fourth = 255 } → (c : ℕ) → is_low_other m c ≡ is_ascii c
+no_mark m e c = ap (λ n. is_low_other n c) e ∙ go (cases128 c)
+  where
+    go : (c < 128) ⊎ (128 ≤ c) → is_low_other (record { first = 255; second = 255; third = 255; fourth = 255 }) c ≡ is_ascii c
+    go (inl small) = rw (ne_eqb c 255 (λ e. omega arith)) (and_true (nat_lt c 128))
+    go (inr past) = rw (high_fails c past) refl
+
+pub ascii_all : (m : Marks) (n : ℕ) (bs : List ℕ) → m ≡ record { first = 255; second = 255; third = 255; fourth = 255 } → IsUtf8 bs → n ≡ prefix_len (is_low_other m) bs → eqb n (length bs) ≡ list_all is_ascii (chars bs)
+ascii_all m n bs e u len =
+    ap (λ k. eqb k (length bs)) (len ∙ same_prefix (is_low_other m) is_ascii bs (no_mark m e))
+    ∙ sym (run_is_all is_ascii bs)
+    ∙ ap (list_all is_ascii) (sym (encodes-chars bs u))
+    ∙ all_bytes (chars bs)

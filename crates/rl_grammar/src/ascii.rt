@@ -1,6 +1,7 @@
 //! Where ASCII without marks ends, looked for sixteen bytes at a time.
 
 ghost use Rattle.std.specs.Prelude.{◌≡◌, ◌+◌, ◌≤◌, ◌++◌, length, drop, map, IsTrue, IsFalse};
+ghost use Rattle.std.specs.Char.{is_ascii};
 ghost use Rattle.std.specs.List.{list_all, prefix_len};
 ghost use Rattle.std.specs.Simd.Lanes.{chunk, mask_l};
 ghost use Rattle.std.specs.Str.{chars};
@@ -9,6 +10,14 @@ ghost use Rattle.rl_grammar.specs.Classes.{is_low_other, ends_low};
 
 use rl_tokens::scan::Marks;
 use std::simd::prelude::*;
+
+/// No mark: a byte that is none of ASCII.
+const NO_MARK: Marks = Marks {
+    first: 255,
+    second: 255,
+    third: 255,
+    fourth: 255,
+};
 
 /// A bit for each of the N bytes from a place on, set where the byte is past ASCII or a mark.
 fn ends_among<const N: usize>(marks: Marks, bytes: &[u8], at: usize) -> u64
@@ -88,4 +97,11 @@ pub(crate) fn split_ascii_run(marks: Marks, text: &str) -> (&str, &str)
     ensures shorter { length result.1.now ≤ length text.now }
 {
     text.split_at(ascii_len(marks, text.as_bytes()))
+}
+
+/// Whether the text is ASCII alone.
+pub(crate) fn is_ascii(text: &str) -> bool
+    ensures { result ≡ list_all is_ascii (chars text.now) }
+{
+    ascii_len(NO_MARK, text.as_bytes()) == text.len()
 }

@@ -11,6 +11,7 @@ ghost use Rattle.rl_grammar.specs.Rows.{BeginsRow};
 ghost use Rattle.rl_grammar.specs.Forms.{has_form, form_opener, string_front_at, byte_front_at, front_at, PartsAre, HasNoParts, is_plain_body, after_hashes};
 ghost use Rattle.rl_grammar.specs.Shapes.{IsQuotedCut, HasNoQuoted};
 
+use crate::ascii::is_ascii;
 use crate::classes::{Class, skip};
 use crate::cuts::{before, behind_prefix, has_nul, split_last_quote};
 use crate::parts::Parts;
@@ -138,7 +139,7 @@ fn holds_all(kind: Kind, text: &str) -> bool
     ensures { result ≡ list_all (is_raw kind) (chars text.now) }
 {
     match kind {
-        Kind::ByteStr => text.is_ascii(),
+        Kind::ByteStr => is_ascii(text),
         Kind::CStr => !has_nul(text),
         _ => true,
     }
