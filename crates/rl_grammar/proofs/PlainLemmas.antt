@@ -9,7 +9,7 @@ use Rattle.rl_tokens.specs.Texts.{passes}
 use Rattle.rl_tokens.specs.Quoted.{is_string, is_plain}
 use Rattle.rl_tokens.specs.declared.scan.Marks.{Marks}
 use Rattle.rl_tokens.specs.Scanning.{IsNextMark, is_one_of, is_other}
-use Rattle.rl_grammar.specs.Classes.{is_in_run, is_low_other}
+use Rattle.rl_grammar.specs.Classes.{is_in_run}
 use Rattle.rl_grammar.specs.PlainAt.{is_kept, is_plain_float}
 use Rattle.rl_tokens.proofs.CommentBytes.{not_equal}
 use Rattle.rl_tokens.proofs.ScanLemmas.{PassesHigh}
@@ -31,10 +31,7 @@ pub same_prefix : (p q : ℕ → Bool) (xs : List ℕ) → ((c : ℕ) → p c �
 same_prefix p q [] same = refl
 same_prefix p q (x ∷ xs) same = ap₂ (λ b n. cond b (1 + n) 0) (same x) (same_prefix p q xs same)
 
--- what runs of strings go on with
-pub in_run_bytes : (kind : Kind) (m : Marks) (c : ℕ) → kind ≡ ByteStr → is_low_other m c ≡ is_in_run kind m c
-in_run_bytes kind m c e = ap (λ k. is_in_run k m c) (sym e)
-
+-- what runs of strings but byte strings go on with
 pub in_run_other : (kind : Kind) (m : Marks) (c : ℕ) → (kind ≡ ByteStr → ⊥) → is_other m c ≡ is_in_run kind m c
 in_run_other ByteStr m c n = absurd (n refl)
 in_run_other Str m c n = refl
