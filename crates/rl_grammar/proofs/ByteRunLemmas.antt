@@ -152,10 +152,11 @@ run_is_all q (b ∷ bs) = go (q b) (run_is_all q bs)
     go true ih = ih ∙ next_same (prefix_len q bs) (length bs)
     go false ih = none_same (length bs)
 
--- characters of ASCII are bytes of ASCII
+-- what is past ASCII is not ASCII
 high_fails : (c : ℕ) → 128 ≤ c → is_ascii c ≡ false
 high_fails c h = grind (arith, nat_tests)
 
+-- characters of ASCII are bytes of ASCII
 all_bytes : (cs : List ℕ) → list_all is_ascii (encode_utf8_all cs) ≡ list_all is_ascii cs
 all_bytes [] = refl
 all_bytes (c ∷ cs) = go (all_bytes cs) (cases128 c)
@@ -165,6 +166,7 @@ all_bytes (c ∷ cs) = go (all_bytes cs) (cases128 c)
     go more (inr past) =
         let (b, bs, same, is, _) = encode_is_high c past in
         ap (λ z. list_all is_ascii (z ++ encode_utf8_all cs)) same ∙ ap (λ z. z && list_all is_ascii (bs ++ encode_utf8_all cs)) (high_fails b is) ∙ sym (ap (λ z. z && list_all is_ascii cs) (high_fails c past))
+
 and_true : (b : Bool) → (b && true) ≡ b
 and_true true = refl
 and_true false = refl
