@@ -1,41 +1,187 @@
--- Runs of ASCII that strict byte strings hold.
-use Rattle.std.proofs.Common.{◌≡◌, ℕ, suc, ◌<◌, arith, true, not, ◌&&◌, ◌==◌, List, [], ◌∷◌, nat_lt, refl, sym, subst}
-use Rattle.std.proofs.lemmas.Bool.{and_from, and_parts}
+-- Runs of ASCII at the front of a text, which byte strings hold.
+use Rattle.std.proofs.Common.{◌≡◌, ◌+◌, ◌<◌, ◌≤◌, ◌⊎◌, inl, inr, ℕ, zero, suc, ◌==◌, ◌&&◌, ◌||◌, Bool, true, false, not, cond, eqb, List, [], ◌∷◌, ◌++◌, length, take, drop, get_or, nat_lt, nat_le, refl, sym, ap, subst, ◌∙◌, arith}
+use Rattle.std.proofs.lemmas.Bool.{and_from, and_parts, cases_Bool, ltb-true, ne_eqb}
 use Rattle.std.proofs.lemmas.Bool.Decides.{nat_tests}
-use Rattle.std.proofs.lemmas.Str.{chars-IsAscii}
-use Rattle.std.specs.List.{list_all}
-use Rattle.std.specs.Str.{chars, IsAscii}
-use Rattle.rl_tokens.specs.declared.kind.Kind.TheVariants.{Str, ByteStr}
+use Rattle.std.proofs.lemmas.List.{take-append-drop}
+use Rattle.std.proofs.lemmas.List.Sums.{prefix_len-le-length, prefix_len_passes}
+use Rattle.std.proofs.lemmas.Str.{IsCharBoundary-start, IsCharBoundary-after_ascii, IsUtf8-drop, IsUtf8-take, chars-append, chars-IsAscii, encodes-chars}
+use Rattle.std.specs.Char.{is_ascii}
+use Rattle.std.specs.List.{list_all, prefix_len}
+use Rattle.std.specs.Str.{chars, encode_utf8_all, IsAscii, IsCharBoundary, IsUtf8}
+use Rattle.rl_tokens.specs.declared.kind.Kind.{Kind}
+use Rattle.rl_tokens.specs.declared.kind.Kind.TheVariants.{Str, ByteStr, CStr, Byte, Char, Int, Float, Bool as BoolKind}
 use Rattle.rl_tokens.specs.declared.scan.Marks.{Marks}
-use Rattle.rl_tokens.specs.Quoted.{is_plain}
-use Rattle.rl_tokens.specs.Scanning.{is_other}
-use Rattle.rl_tokens.specs.Strict.{Itself, is_strict_unit}
+use Rattle.rl_tokens.specs.Quoted.{is_plain, is_string}
+use Rattle.rl_tokens.specs.Scanning.{is_one_of, is_other}
+use Rattle.rl_tokens.specs.Texts.{passes}
+use Rattle.rl_tokens.proofs.CommentBytes.{cases128, encode_is_high, low_front}
+use Rattle.rl_tokens.proofs.ScanLemmas.{PassesHigh, prefix_ends, prefix_passes, run_boundary, run_cut, run_plain, run_stop}
+use Rattle.rl_grammar.specs.Classes.{ends_low, is_low_other}
 use Rattle.rl_grammar.specs.StrictAt.{is_inside}
-use Rattle.rl_grammar.proofs.StrictRawLemmas.{str_run}
+use Rattle.rl_grammar.proofs.PlainLemmas.{plain_high, same_prefix}
 
-low_first : (c : ℕ) → c < 128 → nat_lt c 128 ≡ true
-low_first c l = grind (arith, nat_tests)
+-- ---- the lanes of a mask
 
--- what a lenient byte string takes as it is
-bare_low : (run : List ℕ) → IsAscii run → list_all (is_plain ByteStr) run ≡ true → list_all (λ c. is_strict_unit ByteStr (Itself c)) run ≡ true
-bare_low [] a h = refl
-bare_low (c ∷ cs) a h =
-    let b = and_parts (is_plain ByteStr c) (list_all (is_plain ByteStr) cs) h in
-    and_from (is_strict_unit ByteStr (Itself c)) (list_all (λ c. is_strict_unit ByteStr (Itself c)) cs)
-    (and_from (nat_lt c 128) (is_plain ByteStr c) (low_first c (a 0)) b.0) (bare_low cs (λ i. a (suc i)) b.1)
+-- past ASCII is not ASCII
+past_low : (c : ℕ) → not (nat_lt c 128) ≡ nat_le 128 c
+past_low c = grind (arith, nat_tests)
 
-pub bare_bytes : (run : List ℕ) → IsAscii run → list_all (is_plain ByteStr) (chars run) ≡ true → list_all (λ c. is_strict_unit ByteStr (Itself c)) (chars run) ≡ true
-bare_bytes run a = subst (λ z. list_all (is_plain ByteStr) z ≡ true → list_all (λ c. is_strict_unit ByteStr (Itself c)) z ≡ true) (sym (chars-IsAscii run a)) (bare_low run a)
+-- what ends a run is what doesn't go on with it
+ends_either : (a b d : Bool) → not a ≡ b → not (a && not d) ≡ b || d
+ends_either true true d h = absurd (cc)
+ends_either true false true h = refl
+ends_either true false false h = refl
+ends_either false true d h = refl
+ends_either false false d h = absurd (cc)
 
--- what a raw string holds
-inside_low : (run : List ℕ) → IsAscii run → list_all (is_inside Str) run ≡ true → list_all (is_inside ByteStr) run ≡ true
-inside_low [] a h = refl
-inside_low (c ∷ cs) a h =
-    let b = and_parts (is_inside Str c) (list_all (is_inside Str) cs) h in
-    let f = and_parts (not (c == 34)) (not (c == 13)) b.0 in
-    and_from (is_inside ByteStr c) (list_all (is_inside ByteStr) cs)
-    (and_from (not (c == 34)) (nat_lt c 128 && not (c == 13)) f.0 (and_from (nat_lt c 128) (not (c == 13)) (low_first c (a 0)) f.1))
-    (inside_low cs (λ i. a (suc i)) b.1)
+pub ends_opposite : (m : Marks) (c : ℕ) → not (is_low_other m c) ≡ ends_low m c
+ends_opposite m c = ends_either (nat_lt c 128) (nat_le 128 c) (is_one_of m c) (past_low c)
 
-pub inside_bytes : (m : Marks) (run : List ℕ) → m ≡ record { first = 34; second = 13; third = 13; fourth = 13 } → IsAscii run → list_all (is_other m) (chars run) ≡ true → list_all (is_inside ByteStr) (chars run) ≡ true
-inside_bytes m run e a h = subst (λ z. list_all (is_inside Str) z ≡ true → list_all (is_inside ByteStr) z ≡ true) (sym (chars-IsAscii run a)) (inside_low run a) (str_run m (chars run) e h)
+-- ---- a run of bytes that pass a test, told by characters
+
+pub record RunCut (q : ℕ → Bool) (bs : List ℕ) : Type 0 where
+  pub boundary : IsCharBoundary bs (prefix_len q bs)
+  pub cut : chars bs ≡ chars (take (prefix_len q bs) bs) ++ chars (drop (prefix_len q bs) bs)
+  pub plain : list_all q (chars (take (prefix_len q bs) bs)) ≡ true
+  pub stops : passes q (chars (drop (prefix_len q bs) bs)) ≡ false
+
+-- the test passes ASCII alone
+abbrev pub PassesLow : (ℕ → Bool) → Type 0
+PassesLow q = (c : ℕ) → q c ≡ true → c < 128
+
+module _ (q : ℕ → Bool) (low : PassesLow q) where
+  -- it ends where a character does
+  low_boundary : (bs : List ℕ) (n : ℕ) → IsUtf8 bs → n ≡ prefix_len q bs → IsCharBoundary bs n
+  low_boundary bs zero u e = IsCharBoundary-start bs u
+  low_boundary bs (suc m) u e =
+      let within : m < prefix_len q bs = omega arith in
+      let long = prefix_len-le-length q bs in
+      let next : m + 1 ≡ suc m = omega arith in
+      subst (IsCharBoundary bs) next (IsCharBoundary-after_ascii bs m u (omega arith) (low (get_or bs m 0) (prefix_len_passes q bs m 0 within)))
+
+  -- the bytes in front are ASCII
+  low_all : (bs : List ℕ) → list_all q bs ≡ true → IsAscii bs
+  low_all [] h i = omega arith
+  low_all (b ∷ bs) h zero = low b (and_parts (q b) (list_all q bs) h).0
+  low_all (b ∷ bs) h (suc i) = low_all bs (and_parts (q b) (list_all q bs) h).1 i
+
+  -- what passes no byte passes no character
+  low_head : (cs : List ℕ) → passes q (encode_utf8_all cs) ≡ false → passes q cs ≡ false
+  low_head [] h = refl
+  low_head (c ∷ cs) h = go (cases128 c)
+    where
+      go : (c < 128) ⊎ (128 ≤ c) → q c ≡ false
+      go (inl small) = ap (passes q) (sym (low_front c cs small)) ∙ h
+      go (inr past) = elim (cases_Bool (q c)) [ inl is ↦ absurd (let small = low c is in omega arith) | inr fails ↦ fails ]
+
+  pub low_cut : (bs : List ℕ) → IsUtf8 bs → RunCut q bs
+  low_cut bs u =
+      let n = prefix_len q bs in
+      let at = low_boundary bs n u refl in
+      let front = take n bs in
+      let rest = drop n bs in
+      record {
+        boundary = at;
+        cut = ap chars (sym (take-append-drop n bs)) ∙ chars-append front rest (IsUtf8-take bs n u at);
+        plain = ap (list_all q) (chars-IsAscii front (low_all front (prefix_passes q bs))) ∙ prefix_passes q bs;
+        stops = low_head (chars rest) (ap (passes q) (encodes-chars rest (IsUtf8-drop bs n u at)) ∙ prefix_ends q bs);
+      }
+
+-- the same of a test that passes all past ASCII
+high_cut : (q : ℕ → Bool) → PassesHigh q → (bs : List ℕ) → IsUtf8 bs → RunCut q bs
+high_cut q high bs u = record { boundary = run_boundary q high bs; cut = run_cut q high bs u; plain = run_plain q high bs u; stops = run_stop q high bs u }
+
+-- ASCII without marks
+other_low : (m : Marks) → PassesLow (is_low_other m)
+other_low m c h = ltb-true c 128 (and_parts (nat_lt c 128) (is_other m c) h).0
+
+pub other_cut : (m : Marks) (bs : List ℕ) → IsUtf8 bs → RunCut (is_low_other m) bs
+other_cut m bs u = low_cut (is_low_other m) (other_low m) bs u
+
+-- what byte strings take as it is
+plain_low : PassesLow (is_plain ByteStr)
+plain_low c h = ltb-true c 128 (and_parts (nat_lt c 128) (is_plain Str c) h).0
+
+-- what a string takes as it is
+pub plain_cut : (kind : Kind) (bs : List ℕ) → is_string kind ≡ true → IsUtf8 bs → RunCut (is_plain kind) bs
+plain_cut Str bs h u = high_cut (is_plain Str) (plain_high Str refl (λ e. absurd (cc))) bs u
+plain_cut ByteStr bs h u = low_cut (is_plain ByteStr) plain_low bs u
+plain_cut CStr bs h u = high_cut (is_plain CStr) (plain_high CStr refl (λ e. absurd (cc))) bs u
+plain_cut Byte bs h u = absurd (cc)
+plain_cut Char bs h u = absurd (cc)
+plain_cut Int bs h u = absurd (cc)
+plain_cut Float bs h u = absurd (cc)
+plain_cut BoolKind bs h u = absurd (cc)
+
+-- ---- what raw byte strings hold
+
+-- ASCII up to a quote or a CR
+inside_one : (c : ℕ) → is_low_other (record { first = 34; second = 13; third = 13; fourth = 13 }) c ≡ true → is_inside ByteStr c ≡ true
+inside_one c h = go (nat_lt c 128) (c == 34) (c == 13) h
+  where
+    go : (l q r : Bool) → (l && not (q || r || r || r)) ≡ true → (not q && (l && not r)) ≡ true
+    go true false false h = refl
+    go true true r h = absurd (cc)
+    go true false true h = absurd (cc)
+    go false q r h = absurd (cc)
+
+pub inside_run : (m : Marks) (run : List ℕ) → m ≡ record { first = 34; second = 13; third = 13; fourth = 13 } → list_all (is_low_other m) run ≡ true → list_all (is_inside ByteStr) run ≡ true
+inside_run m run e each = go run (ap (λ n. list_all (is_low_other n) run) (sym e) ∙ each)
+  where
+    go : (cs : List ℕ) → list_all (is_low_other (record { first = 34; second = 13; third = 13; fourth = 13 })) cs ≡ true → list_all (is_inside ByteStr) cs ≡ true
+    go [] h = refl
+    go (c ∷ cs) h =
+        let b = and_parts (is_low_other (record { first = 34; second = 13; third = 13; fourth = 13 }) c) (list_all (is_low_other (record { first = 34; second = 13; third = 13; fourth = 13 })) cs) h in
+        and_from (is_inside ByteStr c) (list_all (is_inside ByteStr) cs) (inside_one c b.0) (go cs b.1)
+
+-- ---- texts of ASCII alone
+
+-- one more of both
+next_same : (a b : ℕ) → eqb a b ≡ eqb (1 + a) (suc b)
+next_same a b = grind (arith, nat_tests)
+
+none_same : (b : ℕ) → false ≡ eqb 0 (suc b)
+none_same b = sym (ne_eqb 0 (suc b) (λ e. omega arith))
+
+-- a run to the end is all
+run_is_all : (q : ℕ → Bool) (bs : List ℕ) → list_all q bs ≡ eqb (prefix_len q bs) (length bs)
+run_is_all q [] = refl
+run_is_all q (b ∷ bs) = go (q b) (run_is_all q bs)
+  where
+    go : (t : Bool) → list_all q bs ≡ eqb (prefix_len q bs) (length bs) → (t && list_all q bs) ≡ eqb (cond t (1 + prefix_len q bs) 0) (suc (length bs))
+    go true ih = ih ∙ next_same (prefix_len q bs) (length bs)
+    go false ih = none_same (length bs)
+
+-- what is past ASCII is not ASCII
+high_fails : (c : ℕ) → 128 ≤ c → is_ascii c ≡ false
+high_fails c h = grind (arith, nat_tests)
+
+-- characters of ASCII are bytes of ASCII
+all_bytes : (cs : List ℕ) → list_all is_ascii (encode_utf8_all cs) ≡ list_all is_ascii cs
+all_bytes [] = refl
+all_bytes (c ∷ cs) = go (all_bytes cs) (cases128 c)
+  where
+    go : list_all is_ascii (encode_utf8_all cs) ≡ list_all is_ascii cs → (c < 128) ⊎ (128 ≤ c) → list_all is_ascii (encode_utf8_all (c ∷ cs)) ≡ list_all is_ascii (c ∷ cs)
+    go more (inl small) = ap (list_all is_ascii) (low_front c cs small) ∙ ap (λ b. is_ascii c && b) more
+    go more (inr past) =
+        let (b, bs, same, is, _) = encode_is_high c past in
+        ap (λ z. list_all is_ascii (z ++ encode_utf8_all cs)) same ∙ ap (λ z. z && list_all is_ascii (bs ++ encode_utf8_all cs)) (high_fails b is) ∙ sym (ap (λ z. z && list_all is_ascii cs) (high_fails c past))
+
+and_true : (b : Bool) → (b && true) ≡ b
+and_true true = refl
+and_true false = refl
+
+-- a mark past ASCII is none
+no_mark : (m : Marks) → m ≡ record { first = 255; second = 255; third = 255; fourth = 255 } → (c : ℕ) → is_low_other m c ≡ is_ascii c
+no_mark m e c = ap (λ n. is_low_other n c) e ∙ go (cases128 c)
+  where
+    go : (c < 128) ⊎ (128 ≤ c) → is_low_other (record { first = 255; second = 255; third = 255; fourth = 255 }) c ≡ is_ascii c
+    go (inl small) = rw (ne_eqb c 255 (λ e. omega arith)) (and_true (nat_lt c 128))
+    go (inr past) = rw (high_fails c past) refl
+
+pub ascii_all : (m : Marks) (n : ℕ) (bs : List ℕ) → m ≡ record { first = 255; second = 255; third = 255; fourth = 255 } → IsUtf8 bs → n ≡ prefix_len (is_low_other m) bs → eqb n (length bs) ≡ list_all is_ascii (chars bs)
+ascii_all m n bs e u len =
+    ap (λ k. eqb k (length bs)) (len ∙ same_prefix (is_low_other m) is_ascii bs (no_mark m e))
+    ∙ sym (run_is_all is_ascii bs)
+    ∙ ap (list_all is_ascii) (sym (encodes-chars bs u))
+    ∙ all_bytes (chars bs)

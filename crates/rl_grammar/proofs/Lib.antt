@@ -23,6 +23,7 @@ pub mod StrictNumberLemmas
 pub mod StrictBackLemmas
 pub mod StrictUnitLemmas
 pub mod StrictRowLemmas
+pub mod StrictBytesLemmas
 pub mod StrictRawLemmas
 pub mod ByteRunLemmas
 pub mod StrictLemmas

@@ -9,26 +9,38 @@ use Rattle.rl_tokens.specs.Texts.{passes}
 use Rattle.rl_tokens.specs.Quoted.{is_string, is_plain}
 use Rattle.rl_tokens.specs.declared.scan.Marks.{Marks}
 use Rattle.rl_tokens.specs.Scanning.{IsNextMark, is_one_of, is_other}
+use Rattle.rl_grammar.specs.Classes.{is_in_run}
 use Rattle.rl_grammar.specs.PlainAt.{is_kept, is_plain_float}
 use Rattle.rl_tokens.proofs.CommentBytes.{not_equal}
 use Rattle.rl_tokens.proofs.ScanLemmas.{PassesHigh}
 
--- a string of any kind takes what is past ASCII as it is
-pub plain_high : (kind : Kind) → is_string kind ≡ true → PassesHigh (is_plain kind)
-plain_high Str h b high = rw (not_equal b 34 (omega arith) high, not_equal b 92 (omega arith) high, not_equal b 13 (omega arith) high) refl
-plain_high ByteStr h b high = rw (not_equal b 34 (omega arith) high, not_equal b 92 (omega arith) high, not_equal b 13 (omega arith) high) refl
-plain_high CStr h b high = rw (not_equal b 34 (omega arith) high, not_equal b 92 (omega arith) high, not_equal b 13 (omega arith) high, not_equal b 0 (omega arith) high) refl
-plain_high Byte h b high = absurd (cc)
-plain_high Char h b high = absurd (cc)
-plain_high Int h b high = absurd (cc)
-plain_high Float h b high = absurd (cc)
-plain_high BoolKind h b high = absurd (cc)
+-- strings but byte strings take what is past ASCII as it is
+pub plain_high : (kind : Kind) → is_string kind ≡ true → (kind ≡ ByteStr → ⊥) → PassesHigh (is_plain kind)
+plain_high Str h n b high = rw (not_equal b 34 (omega arith) high, not_equal b 92 (omega arith) high, not_equal b 13 (omega arith) high) refl
+plain_high ByteStr h n b high = absurd (n refl)
+plain_high CStr h n b high = rw (not_equal b 34 (omega arith) high, not_equal b 92 (omega arith) high, not_equal b 13 (omega arith) high, not_equal b 0 (omega arith) high) refl
+plain_high Byte h n b high = absurd (cc)
+plain_high Char h n b high = absurd (cc)
+plain_high Int h n b high = absurd (cc)
+plain_high Float h n b high = absurd (cc)
+plain_high BoolKind h n b high = absurd (cc)
 
 -- ---- two tests that agree
 
 pub same_prefix : (p q : ℕ → Bool) (xs : List ℕ) → ((c : ℕ) → p c ≡ q c) → prefix_len p xs ≡ prefix_len q xs
 same_prefix p q [] same = refl
 same_prefix p q (x ∷ xs) same = ap₂ (λ b n. cond b (1 + n) 0) (same x) (same_prefix p q xs same)
+
+-- what runs of strings but byte strings go on with
+pub in_run_other : (kind : Kind) (m : Marks) (c : ℕ) → (kind ≡ ByteStr → ⊥) → is_other m c ≡ is_in_run kind m c
+in_run_other ByteStr m c n = absurd (n refl)
+in_run_other Str m c n = refl
+in_run_other CStr m c n = refl
+in_run_other Byte m c n = refl
+in_run_other Char m c n = refl
+in_run_other Int m c n = refl
+in_run_other Float m c n = refl
+in_run_other BoolKind m c n = refl
 
 -- ---- a body that is one run
 

@@ -8,7 +8,7 @@ use Rattle.std.proofs.lemmas.List.Folds.{list_all-append}
 use Rattle.rl_tokens.specs.declared.kind.Kind.{Kind}
 use Rattle.rl_tokens.specs.declared.kind.Kind.TheVariants.{Str, ByteStr, CStr, Byte, Char, Int, Float, Bool as BoolKind}
 use Rattle.rl_tokens.specs.Texts.{IsBehind}
-use Rattle.rl_tokens.specs.Quoted.{held, is_string, may_hold, raw_opener, Raw}
+use Rattle.rl_tokens.specs.Quoted.{held, is_string, is_raw, raw_opener, Raw}
 use Rattle.rl_grammar.specs.declared.quoted.Form.TheVariants.{Raw as RawForm}
 use Rattle.rl_grammar.specs.Forms.{PartsAre, HasNoParts, after_hashes}
 use Rattle.rl_grammar.proofs.CutLemmas.{behind_chars}
@@ -16,20 +16,20 @@ use Rattle.rl_grammar.proofs.CutLemmas.{behind_chars}
 abbrev no_quote : ℕ → Bool
 no_quote c = not (eqb c 34)
 
--- each kind but C strings holds all
+-- each kind but byte strings and C strings takes all
 all_true : (cs : List ℕ) → list_all (λ c. true) cs ≡ true
 all_true [] = refl
 all_true (c ∷ cs) = all_true cs
 
-pub others_hold : (kind : Kind) → kind ≢ CStr → (cs : List ℕ) → list_all (may_hold kind) cs ≡ true
-others_hold CStr h cs = absurd (h refl)
-others_hold Str h cs = all_true cs
-others_hold ByteStr h cs = all_true cs
-others_hold Byte h cs = all_true cs
-others_hold Char h cs = all_true cs
-others_hold Int h cs = all_true cs
-others_hold Float h cs = all_true cs
-others_hold BoolKind h cs = all_true cs
+pub others_hold : (kind : Kind) → kind ≢ ByteStr → kind ≢ CStr → (cs : List ℕ) → list_all (is_raw kind) cs ≡ true
+others_hold ByteStr n h cs = absurd (n refl)
+others_hold CStr n h cs = absurd (h refl)
+others_hold Str n h cs = all_true cs
+others_hold Byte n h cs = all_true cs
+others_hold Char n h cs = all_true cs
+others_hold Int n h cs = all_true cs
+others_hold Float n h cs = all_true cs
+others_hold BoolKind n h cs = all_true cs
 
 -- ---- the last quote of a text
 
@@ -139,12 +139,12 @@ module _ (kind : Kind) (t hashes rest : List ℕ) (rest_is : rest ≡ after_hash
     pub raw_other_hashes : ((x : List ℕ) → after ≢ hashes ++ x) → HasNoParts RawForm kind (raw_opener kind ++ t)
     raw_other_hashes h v b x p = h x (closes v x p.0).1
 
-    pub raw_not_held : list_all (may_hold kind) body ≡ false → HasNoParts RawForm kind (raw_opener kind ++ t)
+    pub raw_not_held : list_all (is_raw kind) body ≡ false → HasNoParts RawForm kind (raw_opener kind ++ t)
     raw_not_held h v b x p =
-        let each : list_all (may_hold kind) body ≡ true = subst (λ z. list_all (may_hold kind) z ≡ true) (sym (closes v x p.0).0) p.0.each in
-        both_ways (list_all (may_hold kind) body) h each
+        let each : list_all (is_raw kind) body ≡ true = subst (λ z. list_all (is_raw kind) z ≡ true) (sym (closes v x p.0).0) p.0.each in
+        both_ways (list_all (is_raw kind) body) h each
 
-    pub raw_found : (suffix : List ℕ) → is_string kind ≡ true → after ≡ hashes ++ suffix → list_all (may_hold kind) body ≡ true → (v : List ℕ) × PartsAre RawForm kind (raw_opener kind ++ t) v body suffix
+    pub raw_found : (suffix : List ℕ) → is_string kind ≡ true → after ≡ hashes ++ suffix → list_all (is_raw kind) body ≡ true → (v : List ℕ) × PartsAre RawForm kind (raw_opener kind ++ t) v body suffix
     raw_found suffix string e held_all =
         let front = hashes_sound t in
         let n = front.0 in

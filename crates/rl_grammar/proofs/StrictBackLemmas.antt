@@ -1,5 +1,5 @@
--- The escapes of the lenient reading are strict, line breaks apart.
-use Rattle.std.proofs.Common.{◌≡◌, ℕ, zero, suc, ◌<◌, ◌≤◌, ◌||◌, ◌&&◌, true, false, not, cond, eqb, List, [], ◌∷◌, ◌++◌, length, map, replicate, refl, sym, ap, subst, ◌∙◌, inl, inr, arith}
+-- The units of the lenient reading are strict, line breaks apart.
+use Rattle.std.proofs.Common.{◌≡◌, ℕ, zero, suc, ◌<◌, ◌≤◌, ◌==◌, ◌||◌, ◌&&◌, Bool, true, false, not, cond, eqb, List, [], ◌∷◌, ◌++◌, length, map, replicate, refl, sym, ap, subst, ◌∙◌, inl, inr, arith}
 use Rattle.std.proofs.lemmas.Bool.{and_from, and_parts, cases_Bool, eqb-true, le-leb, lt-ltb, ltb-true, not_from_false}
 use Rattle.std.proofs.Math.Utf8.{scalar}
 use Rattle.std.specs.Char.{digit_value, is_ascii_hexdigit, IsScalar}
@@ -8,21 +8,39 @@ use Rattle.std.specs.Prelude.{nat_lt, nat_le}
 use Rattle.rl_tokens.specs.declared.kind.Kind.{Kind}
 use Rattle.rl_tokens.specs.declared.kind.Kind.TheVariants.{Str, ByteStr, CStr, Byte, Char, Int, Float, Bool as BoolKind}
 use Rattle.rl_tokens.specs.Texts.{is_underscore}
-use Rattle.rl_tokens.specs.Quoted.{Letter, Named, Hex, Unicode, LowerN, LowerR, LowerT, Backslash, Apostrophe, Quote, Zero, letter_value, unit_text, place_value, without_underscores, unicode_value, hex_value, is_hex_digit, may_hold, IsUnit}
-use Rattle.rl_tokens.specs.Strict.{StrictUnit, Itself, QuoteEscape, PlainEscape, AsciiEscape, ByteEscape, UnicodeEscape, LineBreak, spaced_digit, strict_text, number_of, is_octal, is_unicode_escape, is_strict_unit, HasUnits}
+use Rattle.rl_tokens.specs.Quoted.{QuotedUnit, Letter, Named, Hex, Unicode, LowerN, LowerR, LowerT, Backslash, Apostrophe, Quote, Zero, letter_text, letter_value, unit_text, unit_value, held, place_value, without_underscores, unicode_value, hex_value, is_hex_digit, is_plain, may_hold, IsUnit}
+use Rattle.rl_tokens.specs.Strict.{StrictUnit, Itself, QuoteEscape, PlainEscape, AsciiEscape, ByteEscape, UnicodeEscape, LineBreak, spaced_digit, strict_text, number_of, strict_contents, taken_in, is_octal, is_unicode_escape, is_strict_unit, HasUnits}
 use Rattle.rl_tokens.proofs.Basics.{hex_is_sixteen}
 use Rattle.rl_tokens.proofs.StrictQuoted.{hex_first, same_number, bare_digits, digits_count}
 
--- a strict unit with this text, an escape and no line break
-pub record Escape (k : Kind) (text : List ℕ) : Type 0 where
+-- the strict unit that a lenient one is, with its text and what it stands for; it is no line break
+pub record Back (k : Kind) (u : QuotedUnit) : Type 0 where
   pub unit : StrictUnit
   pub is_unit : is_strict_unit k unit ≡ true
   pub no_break : (blanks : List ℕ) → unit ≡ LineBreak blanks → ⊥
-  pub text_is : text ≡ strict_text unit
+  pub text_is : unit_text u ≡ strict_text unit
+  pub value_is : unit_value k u ≡ strict_contents (taken_in k) unit
 
 -- the kind is a quoted one
 abbrev pub IsQuotedKind : Kind → Type 0
 IsQuotedKind k = HasUnits k (Itself 0 ∷ [])
+
+-- ---- characters
+
+not_either : (a b : Bool) → not (a || b) ≡ (not a && not b)
+not_either true b = refl
+not_either false b = refl
+
+-- but for characters both grammars take the same as it is
+pub plain_is_bare : (k : Kind) (c : ℕ) → (k ≡ Char → ⊥) → is_plain k c ≡ is_strict_unit k (Itself c)
+plain_is_bare Str c n = refl
+plain_is_bare ByteStr c n = refl
+plain_is_bare CStr c n = not_either (c == 34 || c == 92 || c == 13) (c == 0)
+plain_is_bare Byte c n = refl
+plain_is_bare Char c n = absurd (n refl)
+plain_is_bare Int c n = refl
+plain_is_bare Float c n = refl
+plain_is_bare BoolKind c n = refl
 
 -- ---- letters
 
@@ -37,22 +55,22 @@ zero_letter CStr h = absurd (cc)
 zero_letter _ h = refl
 
 -- an escape of one letter
-plain_escape : (k : Kind) (c : ℕ) → is_strict_unit k (PlainEscape c) ≡ true → Escape k (92 ∷ c ∷ [])
-plain_escape k c h = record { unit = PlainEscape c; is_unit = h; no_break = λ b e. absurd (cc); text_is = refl }
+plain_escape : (k : Kind) (l : Letter) → is_strict_unit k (PlainEscape (letter_text l)) ≡ true → letter_value l ∷ [] ≡ strict_contents (taken_in k) (PlainEscape (letter_text l)) → Back k (Named l)
+plain_escape k l h v = record { unit = PlainEscape (letter_text l); is_unit = h; no_break = λ b e. absurd (cc); text_is = refl; value_is = v }
 
 -- an escaped quote
-quote_escape : (k : Kind) (c : ℕ) → is_strict_unit k (QuoteEscape c) ≡ true → Escape k (92 ∷ c ∷ [])
-quote_escape k c h = record { unit = QuoteEscape c; is_unit = h; no_break = λ b e. absurd (cc); text_is = refl }
+quote_escape : (k : Kind) (l : Letter) → is_strict_unit k (QuoteEscape (letter_text l)) ≡ true → letter_value l ≡ letter_text l → Back k (Named l)
+quote_escape k l h v = record { unit = QuoteEscape (letter_text l); is_unit = h; no_break = λ b e. absurd (cc); text_is = refl; value_is = ap (λ n. n ∷ []) v }
 
 -- the escapes of a backslash and one letter
-pub named_escape : (k : Kind) (l : Letter) → may_hold k (letter_value l) ≡ true → Escape k (unit_text (Named l))
-named_escape k LowerN h = plain_escape k 110 (escape_letter k 110 refl refl)
-named_escape k LowerR h = plain_escape k 114 (escape_letter k 114 refl refl)
-named_escape k LowerT h = plain_escape k 116 (escape_letter k 116 refl refl)
-named_escape k Backslash h = plain_escape k 92 (escape_letter k 92 refl refl)
-named_escape k Zero h = plain_escape k 48 (zero_letter k h)
-named_escape k Apostrophe h = quote_escape k 39 refl
-named_escape k Quote h = quote_escape k 34 refl
+pub named_escape : (k : Kind) (l : Letter) → may_hold k (letter_value l) ≡ true → Back k (Named l)
+named_escape k LowerN h = plain_escape k LowerN (escape_letter k 110 refl refl) refl
+named_escape k LowerR h = plain_escape k LowerR (escape_letter k 114 refl refl) refl
+named_escape k LowerT h = plain_escape k LowerT (escape_letter k 116 refl refl) refl
+named_escape k Backslash h = plain_escape k Backslash (escape_letter k 92 refl refl) refl
+named_escape k Zero h = plain_escape k Zero (zero_letter k h) refl
+named_escape k Apostrophe h = quote_escape k Apostrophe refl refl
+named_escape k Quote h = quote_escape k Quote refl refl
 
 -- ---- numbers
 
@@ -65,15 +83,15 @@ small_high : (high low : ℕ) → nat_lt (hex_value high low) 128 ≡ true → i
 small_high high low h = let e : hex_value high low < 128 = ltb-true (hex_value high low) 128 h in lt-ltb (digit_value high) 8 (omega arith)
 
 -- an escape of a character of ASCII
-ascii_escape : (k : Kind) (high low : ℕ) → is_hex_digit low ≡ true → nat_lt (hex_value high low) 128 ≡ true → ((is_octal high && is_ascii_hexdigit low) ≡ true → is_strict_unit k (AsciiEscape high low) ≡ true) → Escape k (unit_text (Hex high low))
-ascii_escape k high low l s allowed = record { unit = AsciiEscape high low; is_unit = allowed (and_from _ _ (small_high high low s) (hex_digit_back low l)); no_break = λ b e. absurd (cc); text_is = refl }
+ascii_escape : (k : Kind) (high low : ℕ) → is_hex_digit low ≡ true → nat_lt (hex_value high low) 128 ≡ true → ((is_octal high && is_ascii_hexdigit low) ≡ true → is_strict_unit k (AsciiEscape high low) ≡ true) → Back k (Hex high low)
+ascii_escape k high low l s allowed = record { unit = AsciiEscape high low; is_unit = allowed (and_from _ _ (small_high high low s) (hex_digit_back low l)); no_break = λ b e. absurd (cc); text_is = refl; value_is = refl }
 
 -- an escape of a byte
-byte_escape : (k : Kind) (high low : ℕ) → is_strict_unit k (ByteEscape high low) ≡ true → Escape k (unit_text (Hex high low))
-byte_escape k high low h = record { unit = ByteEscape high low; is_unit = h; no_break = λ b e. absurd (cc); text_is = refl }
+byte_escape : (k : Kind) (high low : ℕ) → is_strict_unit k (ByteEscape high low) ≡ true → Back k (Hex high low)
+byte_escape k high low h = record { unit = ByteEscape high low; is_unit = h; no_break = λ b e. absurd (cc); text_is = refl; value_is = refl }
 
 -- the escapes by two digits
-pub hex_escape : (k : Kind) (high low : ℕ) → IsQuotedKind k → IsUnit k (Hex high low) → Escape k (unit_text (Hex high low))
+pub hex_escape : (k : Kind) (high low : ℕ) → IsQuotedKind k → IsUnit k (Hex high low) → Back k (Hex high low)
 hex_escape Str high low q u = ascii_escape Str high low u.1 u.2 (λ h. h)
 hex_escape Char high low q u = ascii_escape Char high low u.1 u.2 (λ h. h)
 hex_escape ByteStr high low q u = byte_escape ByteStr high low (and_from _ _ (hex_digit_back high u.0) (hex_digit_back low u.1))
@@ -141,16 +159,22 @@ unicode_allowed first more h each few s =
     (and_from (scalar (number_of 16 (map (λ d. d.0) (group first 0 more)))) true (subst IsScalar (sym same) s) refl)
 
 -- an escape by grouped digits
-spaced_escape : (k : Kind) (first : ℕ) (more : List ℕ) → is_strict_unit k (UnicodeEscape (group first 0 more)) ≡ true → Escape k (unit_text (Unicode first more))
-spaced_escape k first more h = record { unit = UnicodeEscape (group first 0 more); is_unit = h; no_break = λ b e. absurd (cc); text_is = ap (λ z. 92 ∷ 117 ∷ 123 ∷ (z ++ (125 ∷ []))) (sym (group_text first 0 more)) }
+spaced_escape : (k : Kind) (first : ℕ) (more : List ℕ) → is_strict_unit k (UnicodeEscape (group first 0 more)) ≡ true → held k (unicode_value first more ∷ []) ≡ taken_in k (unicode_value first more ∷ []) → number_of 16 (map (λ d. d.0) (group first 0 more)) ≡ unicode_value first more → Back k (Unicode first more)
+spaced_escape k first more h same number = record {
+  unit = UnicodeEscape (group first 0 more);
+  is_unit = h;
+  no_break = λ b e. absurd (cc);
+  text_is = ap (λ z. 92 ∷ 117 ∷ 123 ∷ (z ++ (125 ∷ []))) (sym (group_text first 0 more));
+  value_is = same ∙ ap (λ n. taken_in k (n ∷ [])) (sym number);
+}
 
 -- the escapes by one to six digits
-pub unicode_escape : (k : Kind) (first : ℕ) (more : List ℕ) → IsQuotedKind k → IsUnit k (Unicode first more) → Escape k (unit_text (Unicode first more))
-unicode_escape Str first more q u = spaced_escape Str first more (unicode_allowed first more u.1 u.2 u.3 u.4)
-unicode_escape Char first more q u = spaced_escape Char first more (unicode_allowed first more u.1 u.2 u.3 u.4)
+pub unicode_escape : (k : Kind) (first : ℕ) (more : List ℕ) → IsQuotedKind k → IsUnit k (Unicode first more) → Back k (Unicode first more)
+unicode_escape Str first more q u = spaced_escape Str first more (unicode_allowed first more u.1 u.2 u.3 u.4) refl (unicode_number first more (group_hex first 0 more u.1 u.2))
+unicode_escape Char first more q u = spaced_escape Char first more (unicode_allowed first more u.1 u.2 u.3 u.4) refl (unicode_number first more (group_hex first 0 more u.1 u.2))
 unicode_escape CStr first more q u =
     let number = unicode_number first more (group_hex first 0 more u.1 u.2) in
-    spaced_escape CStr first more (and_from _ _ (unicode_allowed first more u.1 u.2 u.3 u.4) (ap (λ n. not (eqb n 0)) number ∙ u.5))
+    spaced_escape CStr first more (and_from _ _ (unicode_allowed first more u.1 u.2 u.3 u.4) (ap (λ n. not (eqb n 0)) number ∙ u.5)) refl number
 unicode_escape ByteStr first more q u = absurd (let h = u.0 in (cc))
 unicode_escape Byte first more q u = absurd (let h = u.0 in (cc))
 unicode_escape Int first more q u = absurd q

@@ -1,5 +1,5 @@
 -- Strict units up to a quote, and the suffix behind it.
-use Rattle.std.proofs.Common.{◌≡◌, ℕ, Bool, true, false, not, cond, ◌&&◌, ◌||◌, ◌==◌, List, [], ◌∷◌, ◌++◌, length, Some, None, refl, sym, ap, subst, ◌∙◌, arith, append_assoc, append-nil}
+use Rattle.std.proofs.Common.{◌≡◌, ℕ, Bool, true, false, cond, ◌==◌, List, [], ◌∷◌, ◌++◌, length, Some, None, refl, sym, ap, subst, ◌∙◌, arith, append_assoc, append-nil}
 use Rattle.std.proofs.lemmas.Bool.{and_from, and_parts, both_ways, eqb-true}
 use Rattle.std.specs.List.{list_all, flat_map}
 use Rattle.std.specs.Prelude.{◌↔◌, IsTrue}
@@ -11,7 +11,7 @@ use Rattle.rl_tokens.specs.Quoted.{is_plain, is_single, is_string}
 use Rattle.rl_tokens.specs.Strict.{StrictUnit, Itself, QuoteEscape, PlainEscape, AsciiEscape, ByteEscape, UnicodeEscape, LineBreak, strict_text, is_dropped_blank, is_strict_unit, BlanksEnd, HasUnits, ends, IsStrictSuffix}
 use Rattle.rl_grammar.specs.StrictAt.{ends_quoted, escape_rest, is_strict_suffix, unit_rest}
 use Rattle.rl_grammar.specs.StrictShapes.{ClosesUnits}
-use Rattle.rl_grammar.proofs.StrictBackLemmas.{IsQuotedKind}
+use Rattle.rl_grammar.proofs.StrictBackLemmas.{IsQuotedKind, plain_is_bare}
 use Rattle.rl_grammar.proofs.StrictUnitLemmas.{MayEnd, StrictFront, unit_rest_sound, unit_rest_complete}
 use Rattle.rl_grammar.proofs.StrictWordLemmas.{strict_suffix_complete, strict_suffix_sound}
 
@@ -117,7 +117,7 @@ may_end_seam (ByteEscape high low) us b n m = tt
 may_end_seam (UnicodeEscape digits) us b n m = tt
 
 -- one more unit in front
-blanks_cons : (u : StrictUnit) (us : List StrictUnit) → MayEnd u (flat_map strict_text us) → BlanksEnd us → BlanksEnd (u ∷ us)
+pub blanks_cons : (u : StrictUnit) (us : List StrictUnit) → MayEnd u (flat_map strict_text us) → BlanksEnd us → BlanksEnd (u ∷ us)
 blanks_cons (LineBreak blanks) us m b = (m, b)
 blanks_cons (Itself c) us m b = b
 blanks_cons (QuoteEscape c) us m b = b
@@ -235,26 +235,15 @@ units_run k (c ∷ cs) rest s h each same =
 pub units_past : (k : Kind) (t x s : List ℕ) (run : List ℕ) → is_string k ≡ true → t ≡ run ++ x → list_all (is_bare k) run ≡ true → (ClosesUnits k t ↔ ClosesUnits k s) → ClosesUnits k x ↔ ClosesUnits k s
 units_past k t x s run h e each same = units_run k run x s h each (subst (λ z. ClosesUnits k z ↔ ClosesUnits k s) e same)
 
-not_either : (a b : Bool) → not (a || b) ≡ (not a && not b)
-not_either true b = refl
-not_either false b = refl
+-- what the lenient reading of a string takes as it is, the strict one does
+no_char : (k : Kind) → is_string k ≡ true → k ≡ Char → ⊥
+no_char k h e = both_ways (is_string k) (ap is_string e) h
 
--- but for byte strings what the lenient reading takes as it is, the strict one does
-bare_plain : (k : Kind) (c : ℕ) → is_string k ≡ true → (k ≡ ByteStr → ⊥) → is_plain k c ≡ is_bare k c
-bare_plain Str c h n = refl
-bare_plain ByteStr c h n = absurd (n refl)
-bare_plain CStr c h n = not_either (c == 34 || c == 92 || c == 13) (c == 0)
-bare_plain Byte c h n = absurd (cc)
-bare_plain Char c h n = absurd (cc)
-bare_plain Int c h n = absurd (cc)
-bare_plain Float c h n = absurd (cc)
-bare_plain BoolKind c h n = absurd (cc)
-
-pub bare_run : (k : Kind) (run : List ℕ) → is_string k ≡ true → (k ≡ ByteStr → ⊥) → list_all (is_plain k) run ≡ true → list_all (is_bare k) run ≡ true
-bare_run k [] h n each = refl
-bare_run k (c ∷ cs) h n each =
+pub bare_run : (k : Kind) (run : List ℕ) → is_string k ≡ true → list_all (is_plain k) run ≡ true → list_all (is_bare k) run ≡ true
+bare_run k [] h each = refl
+bare_run k (c ∷ cs) h each =
     let b = and_parts (is_plain k c) (list_all (is_plain k) cs) each in
-    and_from (is_bare k c) (list_all (is_bare k) cs) (sym (bare_plain k c h n) ∙ b.0) (bare_run k cs h n b.1)
+    and_from (is_bare k c) (list_all (is_bare k) cs) (sym (plain_is_bare k c (no_char k h)) ∙ b.0) (bare_run k cs h b.1)
 
 -- where no unit stands, the end stands
 stuck_down : (k : Kind) (t x : List ℕ) (us : List StrictUnit) → is_string k ≡ true → unit_rest k t ≡ None → list_all (is_strict_unit k) us ≡ true → BlanksEnd us → IsStrictSuffix x → t ≡ flat_map strict_text us ++ (34 ∷ x) → ends_quoted 34 t ≡ true

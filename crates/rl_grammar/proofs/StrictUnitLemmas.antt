@@ -15,7 +15,7 @@ use Rattle.rl_grammar.specs.UnitAt.{unit_at}
 use Rattle.rl_grammar.specs.StrictAt.{escape_rest, unit_rest}
 use Rattle.rl_grammar.proofs.IntegerLemmas.{chosen_some}
 use Rattle.rl_grammar.proofs.RunLemmas.{run_all, run_ends, run_join, run_past}
-use Rattle.rl_grammar.proofs.StrictBackLemmas.{Escape, IsQuotedKind, named_escape, hex_escape, unicode_escape}
+use Rattle.rl_grammar.proofs.StrictBackLemmas.{Back, IsQuotedKind, named_escape, hex_escape, unicode_escape}
 use Rattle.rl_grammar.proofs.UnitLemmas.{unit_complete, unit_sound}
 
 -- the blanks of a line break go as far as blanks go
@@ -33,7 +33,7 @@ pub record StrictFront (k : Kind) (t r : List ℕ) : Type 0 where
 -- ---- what is left stands behind a unit
 
 -- only a line break asks what follows
-no_break_ends : (u : StrictUnit) (r : List ℕ) → ((blanks : List ℕ) → u ≡ LineBreak blanks → ⊥) → MayEnd u r
+pub no_break_ends : (u : StrictUnit) (r : List ℕ) → ((blanks : List ℕ) → u ≡ LineBreak blanks → ⊥) → MayEnd u r
 no_break_ends (LineBreak blanks) r n = absurd (n blanks refl)
 no_break_ends (Itself c) r n = tt
 no_break_ends (QuoteEscape c) r n = tt
@@ -43,8 +43,8 @@ no_break_ends (ByteEscape high low) r n = tt
 no_break_ends (UnicodeEscape digits) r n = tt
 
 -- an escape at the front
-escape_front : (k : Kind) (t text r : List ℕ) → Escape k text → t ≡ text ++ r → StrictFront k t r
-escape_front k t text r e h = record { unit = e.unit; is_unit = e.is_unit; may_end = no_break_ends e.unit r e.no_break; text_is = h ∙ ap (λ z. z ++ r) e.text_is }
+escape_front : (k : Kind) (t : List ℕ) (u : QuotedUnit) (r : List ℕ) → Back k u → t ≡ unit_text u ++ r → StrictFront k t r
+escape_front k t u r e h = record { unit = e.unit; is_unit = e.is_unit; may_end = no_break_ends e.unit r e.no_break; text_is = h ∙ ap (λ z. z ++ r) e.text_is }
 
 -- no kind takes a backslash as it is
 plain_backslash : (k : Kind) → is_plain k 92 ≡ false
@@ -73,14 +73,14 @@ lenient_front k (Plain d) c cs r q n m u e =
     let d_is : d ≡ 92 = eqb-true d 92 (sym (ap (passes is_backslash) e)) in
     absurd (both_ways (is_plain k 92) (plain_backslash k) (subst At d_is u))
 lenient_front k CrLf c cs r q n m u e = absurd (both_ways true (ap (passes is_backslash) e) refl)
-lenient_front k (Named l) c cs r q n m u e = escape_front k (92 ∷ c ∷ cs) (unit_text (Named l)) r (named_escape k l u) e
-lenient_front k (Hex high low) c cs r q n m u e = escape_front k (92 ∷ c ∷ cs) (unit_text (Hex high low)) r (hex_escape k high low q u) e
-lenient_front k (Unicode first more) c cs r q n m u e = escape_front k (92 ∷ c ∷ cs) (unit_text (Unicode first more)) r (unicode_escape k first more q u) e
+lenient_front k (Named l) c cs r q n m u e = escape_front k (92 ∷ c ∷ cs) (Named l) r (named_escape k l u) e
+lenient_front k (Hex high low) c cs r q n m u e = escape_front k (92 ∷ c ∷ cs) (Hex high low) r (hex_escape k high low q u) e
+lenient_front k (Unicode first more) c cs r q n m u e = escape_front k (92 ∷ c ∷ cs) (Unicode first more) r (unicode_escape k first more q u) e
 lenient_front k (Continuation d run) c cs r q n m u e =
     absurd (both_ways (is_line_end c) (or_from (c == 10) (c == 13) n m) (ap (λ z. passes is_line_end (behind z)) e ∙ u.1))
 
 -- the kinds of strings have line breaks
-line_allowed : (k : Kind) (blanks : List ℕ) → is_string k ≡ true → list_all is_dropped_blank blanks ≡ true → is_strict_unit k (LineBreak blanks) ≡ true
+pub line_allowed : (k : Kind) (blanks : List ℕ) → is_string k ≡ true → list_all is_dropped_blank blanks ≡ true → is_strict_unit k (LineBreak blanks) ≡ true
 line_allowed Str blanks s h = h
 line_allowed ByteStr blanks s h = h
 line_allowed CStr blanks s h = h

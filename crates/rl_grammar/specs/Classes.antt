@@ -1,17 +1,30 @@
 -- Classes of characters that are skipped as far as they go.
-use Rattle.std.specs.Prelude.{ℕ, Bool, ◌==◌}
+use Rattle.std.specs.Prelude.{ℕ, Bool, ◌==◌, ◌&&◌, ◌||◌, nat_lt, nat_le}
+use Rattle.rl_tokens.specs.declared.kind.Kind.{Kind}
 use Rattle.rl_tokens.specs.declared.kind.Kind.TheVariants.{ByteStr}
 use Rattle.rl_tokens.specs.Texts.{is_underscore}
 use Rattle.rl_tokens.specs.Quoted.{is_blank}
-use Rattle.rl_tokens.specs.Strict.{Itself, is_strict_unit, is_dropped_blank}
-use Rattle.rl_grammar.specs.StrictAt.{is_inside}
+use Rattle.rl_tokens.specs.Strict.{is_dropped_blank}
+use Rattle.rl_tokens.specs.declared.scan.Marks.{Marks}
+use Rattle.rl_tokens.specs.Scanning.{is_one_of, is_other}
 use Rattle.rl_grammar.specs.declared.classes.Class.{Class}
-use Rattle.rl_grammar.specs.declared.classes.Class.TheVariants.{Hash, Underscore, Blank, StrictBlank, InByteString, InRawByteString}
+use Rattle.rl_grammar.specs.declared.classes.Class.TheVariants.{Hash, Underscore, Blank, StrictBlank}
 
 abbrev pub class_test : Class → ℕ → Bool
 class_test Hash = λ c. c == 35
 class_test Underscore = is_underscore
 class_test Blank = is_blank
 class_test StrictBlank = is_dropped_blank
-class_test InByteString = λ c. is_strict_unit ByteStr (Itself c)
-class_test InRawByteString = is_inside ByteStr
+
+-- ASCII that is none of the marks
+abbrev pub is_low_other : Marks → ℕ → Bool
+is_low_other marks c = nat_lt c 128 && is_other marks c
+
+-- where it ends
+abbrev pub ends_low : Marks → ℕ → Bool
+ends_low marks c = nat_le 128 c || is_one_of marks c
+
+-- what a run of plain characters goes on with: in a byte string ASCII alone
+abbrev pub is_in_run : Kind → Marks → ℕ → Bool
+is_in_run ByteStr marks = is_low_other marks
+is_in_run _ marks = is_other marks

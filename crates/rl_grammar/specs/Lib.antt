@@ -9,6 +9,7 @@ pub mod Decoded
 pub mod WholeShapes
 pub mod StrictAt
 pub mod StrictShapes
+pub mod StrictBytes
 pub mod Classes
 pub mod FrontTokens
 pub mod PlainAt

@@ -6,9 +6,6 @@ ghost use Rattle.rl_tokens.specs.Texts.{IsBehind};
 ghost use Rattle.rl_grammar.specs.Classes.{class_test};
 ghost use Rattle.rl_grammar.specs.NumberAt.{after_run};
 
-use crate::strict::quoted::is_raw_character;
-use crate::strict::units::is_bare;
-use rl_tokens::Kind;
 use rl_tokens::text::split_char;
 
 /// A class of characters, all of ASCII.
@@ -21,10 +18,6 @@ pub(crate) enum Class {
     Blank,
     /// The same in strict texts, where no CR stands.
     StrictBlank,
-    /// What a strict byte string takes as it is.
-    InByteString,
-    /// What a strict raw byte string holds, but for its closer.
-    InRawByteString,
 }
 
 /// Whether the character is of the class.
@@ -36,8 +29,6 @@ fn is_of(class: Class, c: char) -> bool
         Class::Underscore => c == '_',
         Class::Blank => matches!(c, ' ' | '\t' | '\n' | '\r'),
         Class::StrictBlank => matches!(c, ' ' | '\t' | '\n'),
-        Class::InByteString => is_bare(Kind::ByteStr, c),
-        Class::InRawByteString => c != '"' && is_raw_character(Kind::ByteStr, c),
     }
 }
 

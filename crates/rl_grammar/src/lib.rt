@@ -1,6 +1,7 @@
 //! The grammars of Rust's literals: whether a text is one, of which kind, its parts and what it stands for.
 #![tactic(auto)]
 
+mod ascii;
 mod bodies;
 mod classes;
 mod contents;
@@ -10,6 +11,7 @@ mod floats;
 mod found;
 mod front;
 mod integers;
+pub mod laws;
 mod numbers;
 mod parts;
 mod plain;

@@ -4,13 +4,14 @@ ghost use Rattle.std.specs.Prelude.{◌≡◌, ◌≢◌, ◌==◌, ◌∷◌, �
 ghost use Rattle.std.specs.List.{list_all};
 ghost use Rattle.std.specs.Str.{chars};
 ghost use Rattle.rl_tokens.specs.Texts.{IsBehind};
-ghost use Rattle.rl_tokens.specs.Quoted.{is_string, is_single, may_hold};
+ghost use Rattle.rl_tokens.specs.Quoted.{is_string, is_single, is_raw};
 ghost use Rattle.rl_tokens.specs.Reading.{Contents, ReadsQuoted};
 ghost use Rattle.rl_grammar.specs.UnitAt.{unit_at};
 ghost use Rattle.rl_grammar.specs.Rows.{BeginsRow};
 ghost use Rattle.rl_grammar.specs.Forms.{has_form, form_opener, string_front_at, byte_front_at, front_at, PartsAre, HasNoParts, is_plain_body, after_hashes};
 ghost use Rattle.rl_grammar.specs.Shapes.{IsQuotedCut, HasNoQuoted};
 
+use crate::ascii::is_ascii;
 use crate::classes::{Class, skip};
 use crate::cuts::{before, behind_prefix, has_nul, split_last_quote};
 use crate::parts::Parts;
@@ -133,11 +134,15 @@ fn raw_parts(kind: Kind, text: &str) -> Option<(&str, &str, bool)>
     }
 }
 
-/// Whether the kind holds each character of the text.
+/// Whether the raw form of the kind takes each character of the text.
 fn holds_all(kind: Kind, text: &str) -> bool
-    ensures { result ≡ list_all (may_hold kind) (chars text.now) }
+    ensures { result ≡ list_all (is_raw kind) (chars text.now) }
 {
-    !matches!(kind, Kind::CStr) || !has_nul(text)
+    match kind {
+        Kind::ByteStr => is_ascii(text),
+        Kind::CStr => !has_nul(text),
+        _ => true,
+    }
 }
 
 /// The body and the suffix of a character or a byte, from the text behind its opener.

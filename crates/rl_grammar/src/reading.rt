@@ -6,6 +6,7 @@ ghost use Rattle.rl_tokens.specs.declared.kind.Kind.TheVariants.{Bool as BoolKin
 ghost use Rattle.rl_tokens.specs.Texts.{IsBehind, passes};
 ghost use Rattle.rl_tokens.specs.Reading.{Contents, Reads, ReadsBool, truth_text};
 ghost use Rattle.rl_grammar.specs.NumberShapes.{HasNoReading};
+ghost use Rattle.rl_grammar.specs.StrictBytes.{KeepsBytesStrict};
 ghost use Rattle.rl_grammar.specs.WholeShapes.{HasNoTruth, IsCut, is_number_front};
 
 use crate::numbers::number_shape;
@@ -61,12 +62,17 @@ pub(crate) fn begins_number(text: &str) -> bool
 ///
 /// Of a quoted literal the body is what stands between its quotes, of a number all that stands before its suffix, sign
 /// and prefix included, and of a truth value the whole text. Body and suffix are slices of the text.
+///
+/// A text without CR is a byte, or a byte string with escapes, and its suffix empty or a word, exactly where it is a
+/// strict one (`strict_bytes`).
+#[tactic(auto, using(crate::proofs::StrictBytesLemmas::bytes_are_strict))]
 pub fn shape(text: &str) -> Option<Parts<'_>>
     ensures none { IfNone result (HasNoReading (chars text.now)) }
     ensures reads { IfSome result
         (λ p. (v : Contents) × Reads (chars text.now) p.kind v (chars p.suffix.now)) }
     ensures cut { IfSome result (λ p. IsCut p.kind text.now p.body.now p.suffix.now) }
     ensures behind { IfSome result (λ p. IsBehind text.now p.suffix.now) }
+    ensures strict_bytes { KeepsBytesStrict (chars text.now) }
 {
     if begins_number(text) {
         return number_shape(text);

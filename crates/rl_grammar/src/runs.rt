@@ -1,20 +1,21 @@
 //! Runs of plain characters.
 
-ghost use Rattle.std.specs.Prelude.{◌≡◌, ◌≤◌, ◌++◌, ℕ, length, IsTrue, IsFalse};
+ghost use Rattle.std.specs.Prelude.{◌≡◌, ◌≢◌, ◌≤◌, ◌++◌, ℕ, length, IsTrue, IsFalse};
 ghost use Rattle.std.specs.List.{list_all, prefix_len};
 ghost use Rattle.std.specs.Str.{chars};
 ghost use Rattle.rl_tokens.specs.Texts.{passes};
 ghost use Rattle.rl_tokens.specs.Quoted.{is_string, is_plain};
-ghost use Rattle.rl_tokens.specs.Scanning.{is_other};
+ghost use Rattle.rl_grammar.specs.Classes.{is_in_run};
 
+use crate::ascii::ascii_len;
 use rl_tokens::Kind;
 use rl_tokens::scan::{Marks, len_before};
 
-/// The characters that a string of the kind doesn't take as they are.
+/// The characters of ASCII that a string of the kind doesn't take as they are.
 #[inline(always)]
 fn ends_of_runs(kind: Kind) -> Marks
     requires { IsTrue (is_string kind) }
-    ensures { (c : ℕ) → is_other result c ≡ is_plain kind c }
+    ensures { (c : ℕ) → is_in_run kind result c ≡ is_plain kind c }
 {
     let fourth = match kind {
         Kind::CStr => 0,
@@ -28,16 +29,25 @@ fn ends_of_runs(kind: Kind) -> Marks
     }
 }
 
-/// How many bytes at the front are plain.
+/// How many bytes at the front are plain, of a string of characters or a C string.
 #[inline(never)]
 fn run_len(kind: Kind, bytes: &[u8]) -> usize
-    requires { IsTrue (is_string kind) }
+    requires string { IsTrue (is_string kind) }
+    requires other { kind ≢ Kind.ByteStr }
     ensures { result ≡ prefix_len (is_plain kind) bytes.now }
 {
     len_before(ends_of_runs(kind), bytes)
 }
 
-/// The same, told at once before an escape: these often stand side by side.
+/// How many bytes at the front are plain, of a byte string: these are of ASCII.
+#[inline(never)]
+fn byte_run_len(bytes: &[u8]) -> usize
+    ensures { result ≡ prefix_len (is_plain Kind.ByteStr) bytes.now }
+{
+    ascii_len(ends_of_runs(Kind::ByteStr), bytes)
+}
+
+/// How many bytes at the front are plain, told at once before an escape: these often stand side by side.
 #[inline(always)]
 fn plain_len(kind: Kind, bytes: &[u8]) -> usize
     requires { IsTrue (is_string kind) }
@@ -46,7 +56,10 @@ fn plain_len(kind: Kind, bytes: &[u8]) -> usize
     if !bytes.is_empty() && bytes[0] == b'\\' {
         return 0;
     }
-    run_len(kind, bytes)
+    match kind {
+        Kind::ByteStr => byte_run_len(bytes),
+        _ => run_len(kind, bytes),
+    }
 }
 
 /// The characters at the front that the kind takes as they are, and the text behind them.

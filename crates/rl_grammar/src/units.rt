@@ -4,6 +4,7 @@ ghost use Rattle.std.specs.Prelude.{◌≡◌, ◌==◌, ◌<◌, ◌≤◌, len
 ghost use Rattle.std.specs.Str.{chars};
 ghost use Rattle.rl_tokens.specs.Texts.{passes};
 ghost use Rattle.rl_tokens.specs.Quoted.{holds_characters, is_plain, may_hold, may_be_hex, has_unicode};
+ghost use Rattle.rl_tokens.specs.Strict.{is_bare_character};
 ghost use Rattle.rl_grammar.specs.UnitAt.{piece_value, IsPieceOf, named_in, digit_at, hex_at, digits_at, unicode_at, after_blanks, escape_at, unit_at};
 
 use crate::classes::{Class, skip};
@@ -18,15 +19,24 @@ pub(crate) enum Piece {
     Nothing,
 }
 
+/// Whether the character may stand for itself between single quotes: in both grammars a byte, in the strict one a
+/// character too.
+pub(crate) fn is_bare_character(c: char) -> bool
+    ensures { result ≡ is_bare_character c }
+{
+    !matches!(c, '\'' | '\\' | '\n' | '\r' | '\t')
+}
+
 /// Whether the kind takes the character as it is.
 pub(crate) fn is_plain(kind: Kind, c: char) -> bool
     ensures { result ≡ is_plain kind c }
 {
     match kind {
-        Kind::Str | Kind::ByteStr => !matches!(c, '"' | '\\' | '\r'),
+        Kind::Str => !matches!(c, '"' | '\\' | '\r'),
+        Kind::ByteStr => c.is_ascii() && !matches!(c, '"' | '\\' | '\r'),
         Kind::CStr => !matches!(c, '"' | '\\' | '\r' | '\0'),
         Kind::Char => c != '\\',
-        Kind::Byte => c.is_ascii() && c != '\\',
+        Kind::Byte => c.is_ascii() && is_bare_character(c),
         Kind::Int | Kind::Float | Kind::Bool => false,
     }
 }

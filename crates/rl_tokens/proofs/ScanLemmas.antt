@@ -33,7 +33,7 @@ take_next n b bs = let e : 1 + n ≡ suc n = omega arith in ap (λ k. take k (b 
 pub drop_next : (n b : ℕ) (bs : List ℕ) → drop (1 + n) (b ∷ bs) ≡ drop n bs
 drop_next n b bs = let e : 1 + n ≡ suc n = omega arith in ap (λ k. drop k (b ∷ bs)) e
 
-prefix_passes : (q : ℕ → Bool) (bs : List ℕ) → list_all q (take (prefix_len q bs) bs) ≡ true
+pub prefix_passes : (q : ℕ → Bool) (bs : List ℕ) → list_all q (take (prefix_len q bs) bs) ≡ true
 prefix_passes q [] = refl
 prefix_passes q (b ∷ bs) = go (q b) refl (prefix_passes q bs)
   where
@@ -41,7 +41,7 @@ prefix_passes q (b ∷ bs) = go (q b) refl (prefix_passes q bs)
     go true e more = ap (list_all q) (take_next (prefix_len q bs) b bs) ∙ and_from (q b) (list_all q (take (prefix_len q bs) bs)) e more
     go false e more = refl
 
-prefix_ends : (q : ℕ → Bool) (bs : List ℕ) → passes q (drop (prefix_len q bs) bs) ≡ false
+pub prefix_ends : (q : ℕ → Bool) (bs : List ℕ) → passes q (drop (prefix_len q bs) bs) ≡ false
 prefix_ends q [] = refl
 prefix_ends q (b ∷ bs) = go (q b) refl (prefix_ends q bs)
   where

@@ -12,7 +12,7 @@ use Rattle.std.proofs.lemmas.Bool.{eqb-true, and_parts, and_from, or_parts, or_c
 use Rattle.rl_tokens.specs.declared.kind.Kind.{Kind}
 use Rattle.rl_tokens.specs.declared.kind.Kind.TheVariants.{Str, ByteStr, CStr, Byte, Char, Int, Float, Bool as BoolKind}
 use Rattle.rl_tokens.specs.Texts.{passes, is_underscore}
-use Rattle.rl_tokens.specs.Quoted.{QuotedUnit, Plain, Named, Hex, Unicode, Continuation, LowerN, LowerR, LowerT, Backslash, Apostrophe, Quote, Zero, unit_text, unit_value, place_value, without_underscores, unicode_value, held, hex_value, is_hex_digit, is_blank, is_string, is_single, may_hold, IsUnit, texts, values, EndsBefore, ContinuationsEnd, opener, raw_opener, Cooked, Raw, Single}
+use Rattle.rl_tokens.specs.Quoted.{QuotedUnit, Plain, Named, Hex, Unicode, Continuation, LowerN, LowerR, LowerT, Backslash, Apostrophe, Quote, Zero, unit_text, unit_value, place_value, without_underscores, unicode_value, held, hex_value, is_hex_digit, is_blank, is_string, is_single, is_raw, may_hold, IsUnit, texts, values, EndsBefore, ContinuationsEnd, opener, raw_opener, Cooked, Raw, Single}
 use Rattle.rl_tokens.specs.Reading.{Contents, Reads}
 use Rattle.rl_tokens.specs.Strict.{StrictUnit, Itself, QuoteEscape, PlainEscape, AsciiEscape, ByteEscape, UnicodeEscape, LineBreak, spaced_digit, strict_text, number_of, strict_contents, is_plain_letter, is_octal, is_dropped_blank, is_unicode_escape, is_bare_character, is_bare_in_string, is_strict_unit, BlanksEnd, opens, ends, taken_in, held_by, StrictCooked, StrictRaw, opens_raw, IsStrictSuffix}
 use Rattle.rl_tokens.proofs.Basics.{apart, all_weaker, hex_is_sixteen, word_without}
@@ -41,10 +41,10 @@ itself Str c h = record { unit = Plain c; is_unit = h; text_is = refl; value_is 
 itself Char c h = record { unit = Plain c; is_unit = bare_not_backslash c h; text_is = refl; value_is = refl; ends_before = λ t f. tt }
 itself ByteStr c h =
     let p = and_parts (nat_lt c 128) (is_bare_in_string c) h in
-    record { unit = Plain c; is_unit = p.1; text_is = refl; value_is = ascii_alone c p.0; ends_before = λ t f. tt }
+    record { unit = Plain c; is_unit = h; text_is = refl; value_is = ascii_alone c p.0; ends_before = λ t f. tt }
 itself Byte c h =
     let p = and_parts (nat_lt c 128) (is_bare_character c) h in
-    record { unit = Plain c; is_unit = and_from (nat_lt c 128) (not (eqb c 92)) p.0 (bare_not_backslash c p.1); text_is = refl; value_is = ascii_alone c p.0; ends_before = λ t f. tt }
+    record { unit = Plain c; is_unit = h; text_is = refl; value_is = ascii_alone c p.0; ends_before = λ t f. tt }
 itself CStr c h =
     let p = and_parts (is_bare_in_string c) (not (eqb c 0)) h in
     let a = or_parts (eqb c 34 || eqb c 92) (eqb c 13) (not-true _ p.0) in
@@ -342,7 +342,7 @@ cooked_text k us t x r o e h =
     ∙ ap (λ z. opener k ++ (flat_map strict_text us ++ (z ++ x))) e
     ∙ ap (λ z. opener k ++ (z ++ (34 ∷ x))) (sym r.text_is)
 
-cooked_reads : (k : Kind) (t x : List ℕ) (v : Contents) (s : StrictCooked t k v x) → is_string k ≡ true → opens k ≡ opener k → ends k ≡ 34 ∷ [] → (w : List ℕ) × Cooked k t w x × (v ≡ held_by k w)
+pub cooked_reads : (k : Kind) (t x : List ℕ) (v : Contents) (s : StrictCooked t k v x) → is_string k ≡ true → opens k ≡ opener k → ends k ≡ 34 ∷ [] → (w : List ℕ) × Cooked k t w x × (v ≡ held_by k w)
 cooked_reads k t x v s string o e =
     let r = stand_row k s.units s.each s.blanks_end in (
       values k r.units,
@@ -390,11 +390,11 @@ suffix_without_quote x (inr w) = word_without 34 x (omega arith) refl w.identifi
 raw_text : (o i x : List ℕ) (n : ℕ) → ((((o ++ replicate n 35) ++ (34 ∷ i)) ++ (34 ∷ replicate n 35)) ++ x) ≡ o ++ (replicate n 35 ++ (34 ∷ (i ++ (34 ∷ (replicate n 35 ++ x)))))
 raw_text o i x n = simp append_assoc
 
-holds_all : (k : Kind) (cs : List ℕ) → ((n : ℕ) → may_hold k n ≡ true) → list_all (may_hold k) cs ≡ true
+holds_all : (k : Kind) (cs : List ℕ) → ((n : ℕ) → is_raw k n ≡ true) → list_all (is_raw k) cs ≡ true
 holds_all k [] h = refl
-holds_all k (c ∷ cs) h = and_from (may_hold k c) (list_all (may_hold k) cs) (h c) (holds_all k cs h)
+holds_all k (c ∷ cs) h = and_from (is_raw k c) (list_all (is_raw k) cs) (h c) (holds_all k cs h)
 
-raw_reads : (k : Kind) (t x : List ℕ) (v : Contents) (s : StrictRaw t k v x) → is_string k ≡ true → opens_raw k ≡ raw_opener k → list_all (may_hold k) s.inside ≡ true → held k s.inside ≡ taken_in k s.inside → (w : List ℕ) × Raw k t w x × (v ≡ held_by k w)
+raw_reads : (k : Kind) (t x : List ℕ) (v : Contents) (s : StrictRaw t k v x) → is_string k ≡ true → opens_raw k ≡ raw_opener k → list_all (is_raw k) s.inside ≡ true → held k s.inside ≡ taken_in k s.inside → (w : List ℕ) × Raw k t w x × (v ≡ held_by k w)
 raw_reads k t x v s string o each taken = (
   held k s.inside,
   record {
@@ -421,7 +421,7 @@ from_cooked BoolKind t x v s = absurd s.count
 
 from_raw : (k : Kind) (t x : List ℕ) (v : Contents) → StrictRaw t k v x → Reads t k v x
 from_raw Str t x v s = let r = raw_reads Str t x v s refl refl (holds_all Str s.inside (λ n. refl)) refl in record { value = r.0; form = inr (inl r.1); contents_is = r.2 }
-from_raw ByteStr t x v s = let r = raw_reads ByteStr t x v s refl refl (holds_all ByteStr s.inside (λ n. refl)) (ascii_row s.inside s.allowed) in record { value = r.0; form = inr (inl r.1); contents_is = r.2 }
+from_raw ByteStr t x v s = let r = raw_reads ByteStr t x v s refl refl s.allowed (ascii_row s.inside s.allowed) in record { value = r.0; form = inr (inl r.1); contents_is = r.2 }
 from_raw CStr t x v s = let r = raw_reads CStr t x v s refl refl s.allowed refl in record { value = r.0; form = inr (inl r.1); contents_is = r.2 }
 from_raw Byte t x v s = absurd s.allowed
 from_raw Char t x v s = absurd s.allowed

@@ -112,16 +112,21 @@ is_single _ = false
 -- which characters a kind takes as they are
 abbrev pub is_plain : Kind → ℕ → Bool
 is_plain Str c = not (c == 34 || c == 92 || c == 13)
-is_plain ByteStr c = not (c == 34 || c == 92 || c == 13)
+is_plain ByteStr c = nat_lt c 128 && not (c == 34 || c == 92 || c == 13)
 is_plain CStr c = not (c == 34 || c == 92 || c == 13 || c == 0)
 is_plain Char c = not (c == 92)
-is_plain Byte c = nat_lt c 128 && not (c == 92)
+is_plain Byte c = nat_lt c 128 && not (c == 39 || c == 92 || c == 10 || c == 13 || c == 9)
 is_plain _ c = false
 
 -- a C string holds no zero
 abbrev pub may_hold : Kind → ℕ → Bool
 may_hold CStr n = not (n == 0)
 may_hold _ n = true
+
+-- what the raw form of a kind takes
+abbrev pub is_raw : Kind → ℕ → Bool
+is_raw ByteStr c = nat_lt c 128
+is_raw kind c = may_hold kind c
 
 -- which numbers `\xHH` may have, and whether there is `\u{..}`
 abbrev pub may_be_hex : Kind → ℕ → Bool
@@ -192,7 +197,7 @@ pub record Raw (kind : Kind) (text value suffix : List ℕ) : Type 0 where
   pub hashes : ℕ
   pub inside : List ℕ
   pub string : IsTrue (is_string kind)
-  pub each : IsTrue (list_all (may_hold kind) inside)
+  pub each : IsTrue (list_all (is_raw kind) inside)
   pub no_quote : IsTrue (list_all (λ c. not (c == 34)) suffix)
   pub text_is : text ≡ raw_opener kind ++ (replicate hashes 35 ++ (34 ∷ (inside ++ (34 ∷ (replicate hashes 35 ++ suffix)))))
   pub value_is : value ≡ held kind inside

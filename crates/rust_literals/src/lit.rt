@@ -92,12 +92,14 @@ impl<A: Allocator> Lit<A> {
       KeepsStrict,
       KeepsStrictBehindMinus,
     };
+    ghost use Rattle.rl_grammar.specs.StrictBytes.{KeepsBytesStrict};
 
     /// The literal that the token's text reads as; `Verbatim` exactly where it has no reading. The token stays as it is,
     /// text and span.
     ///
     /// A strict text, an integer within 128 bits, is read with the kind, contents and suffix that it has there
-    /// (`strict`), and a strict number behind a minus too.
+    /// (`strict`), and a strict number behind a minus too. A text without CR is a byte, or a byte string with escapes, and
+    /// its suffix empty or a word, exactly where it is a strict one (`strict_bytes`).
     ///
     /// # Errors
     ///
@@ -111,6 +113,7 @@ impl<A: Allocator> Lit<A> {
         ensures lent { IfErr result (λ k. ReadsPlain token.text → ⊥) }
         ensures strict { KeepsStrict (chars token.text) }
         ensures strict_behind_minus { KeepsStrictBehindMinus (chars token.text) }
+        ensures strict_bytes { KeepsBytesStrict (chars token.text) }
     {
         let found = find(token.text());
         Lit::of_found(alloc, token, found)

@@ -9,7 +9,7 @@ ghost use Rattle.rl_tokens.specs.Strict.{Itself, is_strict_unit};
 ghost use Rattle.rl_grammar.specs.StrictAt.{ends_quoted, ends_raw, is_inside, is_raw_character, unit_rest};
 ghost use Rattle.rl_grammar.specs.StrictShapes.{ClosesRaw, ClosesUnits};
 
-use crate::classes::{Class, skip};
+use crate::ascii::split_ascii_run;
 use crate::cuts::{before, behind_prefix};
 use crate::quoted::skip_hashes;
 use crate::runs::split_plain;
@@ -37,8 +37,7 @@ fn ends_quoted(quote: char, text: &str) -> bool
     }
 }
 
-/// The text behind characters at its front that a string of the kind takes as they are. A byte string takes none past
-/// ASCII: where one stands among them, they are told one by one up to it.
+/// The text behind characters at its front that a string of the kind takes as they are.
 #[inline(always)]
 fn skip_bare(kind: Kind, text: &str) -> &str
     requires { IsTrue (is_string kind) }
@@ -46,17 +45,8 @@ fn skip_bare(kind: Kind, text: &str) -> &str
         × IsTrue (list_all (λ c. is_strict_unit kind (Itself c)) run) }
     ensures shorter { length result.now ≤ length text.now }
 {
-    let (run, rest) = split_plain(kind, text);
-    match kind {
-        Kind::ByteStr => {
-            if run.is_ascii() {
-                rest
-            } else {
-                skip(Class::InByteString, text)
-            }
-        }
-        _ => rest,
-    }
+    let (_, rest) = split_plain(kind, text);
+    rest
 }
 
 /// The text behind the units at its front, as far as they go.
@@ -92,7 +82,7 @@ pub(crate) fn closes_one(kind: Kind, text: &str) -> bool
 }
 
 /// Whether a raw string of the kind may hold the character.
-pub(crate) fn is_raw_character(kind: Kind, c: char) -> bool
+fn is_raw_character(kind: Kind, c: char) -> bool
     ensures { result ≡ is_raw_character kind c }
 {
     match kind {
@@ -115,8 +105,7 @@ fn behind_closer<'t>(hashes: &str, c: char, after: &'t str) -> Option<&'t str>
     }
 }
 
-/// The text behind characters at its front that a raw string of the kind holds and that close none. A byte string holds
-/// none past ASCII: where one stands among them, they are told one by one up to it.
+/// The text behind characters at its front that a raw string of the kind holds and that close none.
 #[inline(always)]
 fn skip_inside(kind: Kind, text: &str) -> &str
     ensures run { (run : List ℕ) × (chars text.now ≡ run ++ chars result.now)
@@ -125,14 +114,7 @@ fn skip_inside(kind: Kind, text: &str) -> &str
 {
     match kind {
         Kind::Str => split_before(Marks::two(b'"', b'\r'), text).1,
-        Kind::ByteStr => {
-            let (run, rest) = split_before(Marks::two(b'"', b'\r'), text);
-            if run.is_ascii() {
-                rest
-            } else {
-                skip(Class::InRawByteString, text)
-            }
-        }
+        Kind::ByteStr => split_ascii_run(Marks::two(b'"', b'\r'), text).1,
         Kind::CStr => split_before(INSIDE_C_STRING, text).1,
         _ => text,
     }

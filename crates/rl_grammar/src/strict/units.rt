@@ -6,21 +6,17 @@ ghost use Rattle.rl_tokens.specs.Strict.{Itself, is_strict_unit};
 ghost use Rattle.rl_grammar.specs.StrictAt.{escape_rest, unit_rest};
 
 use crate::classes::{Class, skip};
-use crate::units::unit;
+use crate::units::{is_bare_character, is_plain, unit};
 use rl_tokens::Kind;
 use rl_tokens::text::split_char;
 
-/// Whether the kind takes the character as it is.
-pub(crate) fn is_bare(kind: Kind, c: char) -> bool
+/// Whether the kind takes the character as it is. But for characters this is what the lenient grammar says.
+fn is_bare(kind: Kind, c: char) -> bool
     ensures { result ≡ is_strict_unit kind (Itself c) }
 {
     match kind {
-        Kind::Char => !matches!(c, '\'' | '\\' | '\n' | '\r' | '\t'),
-        Kind::Byte => c.is_ascii() && !matches!(c, '\'' | '\\' | '\n' | '\r' | '\t'),
-        Kind::Str => !matches!(c, '"' | '\\' | '\r'),
-        Kind::ByteStr => c.is_ascii() && !matches!(c, '"' | '\\' | '\r'),
-        Kind::CStr => !matches!(c, '"' | '\\' | '\r' | '\0'),
-        Kind::Int | Kind::Float | Kind::Bool => false,
+        Kind::Char => is_bare_character(c),
+        _ => is_plain(kind, c),
     }
 }
 
