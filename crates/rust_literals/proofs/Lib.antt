@@ -7,3 +7,4 @@ pub mod PrintedLemmas
 pub mod AgainLemmas
 pub mod PeekLemmas
 pub mod FlatLemmas
+pub mod BegunLemmas

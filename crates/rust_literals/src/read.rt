@@ -4,6 +4,7 @@ ghost use Rattle.std.specs.Prelude.{◌≡◌, ◌⊎◌, ℕ, List, [], length,
 ghost use Rattle.std.specs.Str.{chars};
 ghost use Rattle.rl_tokens.specs.Errors.{lex_refusal};
 ghost use Rattle.rl_tokens.specs.Buffers.{trees_in, scope_of};
+ghost use Rattle.rl_tokens.specs.Trees.{Tree};
 ghost use Rattle.rl_tokens.specs.Printed.{Entry, Printed};
 ghost use Rattle.rust_literals.specs.declared.lit.Lit.{Lit};
 ghost use Rattle.rust_literals.specs.Parsing.{Leads, Stops, RunsShort, AreRead, RefusesText, IsOrMemory};
@@ -14,17 +15,18 @@ use crate::lit::Lit;
 use rl_tokens::{Error, LexError, ParseBuffer, Span, lex};
 use std::alloc::{Allocator, Global};
 
-/// The literals that the trees are, one after another, up to their end.
-fn read_trees<A: Allocator + Copy>(
+/// The literals of the list, and behind them those that the trees are, one after another, up to their end.
+fn read_on<A: Allocator + Copy>(
     alloc: A,
     input: &mut ParseBuffer<'_, A>,
+    mut list: Vec<Lit<A>, A>,
 ) -> Result<Vec<Lit<A>, A>, Error<A>>
-    ensures read { IfOk result (λ list. Leads (trees_in input.old) list.items []) }
-    ensures refused { IfErr result
-        (λ e. Stops (trees_in input.old) (scope_of input.old) e
-        ⊎ RunsShort (trees_in input.old) (scope_of input.old) e) }
+    // Whatever trees the list led through to these.
+    ensures read { (all : List Tree) → Leads all list.items (trees_in input.old)
+        → IfOk result (λ found. Leads all found.items []) }
+    ensures refused { (all : List Tree) → Leads all list.items (trees_in input.old)
+        → IfErr result (λ e. Stops all (scope_of input.old) e ⊎ RunsShort all (scope_of input.old) e) }
 {
-    let mut list = Vec::new(alloc);
     while !input.is_empty() {
         let literal = input.parse::<Lit<A>>(alloc)?;
         if list.push(literal).is_err() {
@@ -69,13 +71,15 @@ pub fn read_all<A: Allocator + Copy>(
     ensures again { (spaced : List (Spaced A)) (last : List ℕ) → Again (chars text.now) spaced last
         → HoldsOrMemory (AreMoved (lits_of spaced)) result }
 {
-    if let Some(literals) = read_flat(alloc, text, file) {
-        return Ok(literals);
-    }
+    let begun = match read_flat(alloc, text, file) {
+        Ok(literals) => return Ok(literals),
+        Err(begun) => begun,
+    };
     let stream = match lex(alloc, text, file) {
         Ok(stream) => stream,
         Err(fault) => return Err(refusal_of(fault, file)),
     };
     let end = Span::new(file, text.len(), text.len());
-    read_trees(alloc, &mut ParseBuffer::new(stream.trees(), end))
+    let (_, behind) = stream.trees().split_at(begun.trees);
+    read_on(alloc, &mut ParseBuffer::new(behind, end), begun.list)
 }

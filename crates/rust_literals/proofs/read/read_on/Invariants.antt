@@ -1,11 +1,12 @@
-use Rattle.std.proofs.Common.{◌≡◌, length}
+use Rattle.std.proofs.Common.{◌≡◌, List, length}
+use Rattle.rl_tokens.specs.Trees.{Tree}
 use Rattle.rl_tokens.specs.Buffers.{trees_in, scope_of}
 use Rattle.rust_literals.specs.Parsing.{Leads}
-use Rattle.rust_literals.proofs.read.read_trees.Given as goal
+use Rattle.rust_literals.proofs.read.read_on.Given as goal
 
 abbrev pub invariant-loop-alloc : goal.invariant-loop-alloc
 invariant-loop-alloc g l = record {
-  leads : Leads (trees_in l.initial.input) l.list.items (trees_in l.input);
+  leads : (all : List Tree) → Leads all l.initial.list.items (trees_in l.initial.input) → Leads all l.list.items (trees_in l.input);
   scope : scope_of l.input ≡ scope_of l.initial.input;
 }
 
