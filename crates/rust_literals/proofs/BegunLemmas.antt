@@ -1,15 +1,16 @@
 -- Where the trees of a text go on behind the literals at its front.
-use Rattle.std.proofs.Common.{arith, ◌≡◌, ◌≤◌, ℕ, List, [], ◌∷◌, ◌++◌, length, length-append, drop, map, refl, sym, ◌∙◌, ap, subst}
-use Rattle.std.proofs.Math.Seq.{drop-append_seam}
-use Rattle.std.proofs.lemmas.List.{length-map, drop-map}
+use Rattle.std.proofs.Common.{arith, ◌≡◌, ◌<◌, ℕ, ◌+◌, suc, List, [], ◌∷◌, ◌++◌, length, get_or, drop, drop-cons, add-one, map, Option, Some, None, refl, sym, ◌∙◌, ap, subst}
+use Rattle.std.specs.Prelude.{IfSome, IfNone}
 use Rattle.std.specs.List.{AllByRecursion}
-use Rattle.rl_tokens.specs.declared.token.TokenTree.{TokenTree}
-use Rattle.rl_tokens.specs.Trees.{Tree, GroupTree, IdentTree, PunctTree, LiteralTree, tree_view, FlatToken, flat_trees}
+use Rattle.rl_tokens.specs.Tokens.{Token}
+use Rattle.rl_tokens.specs.Trees.{Tree, GroupTree, IdentTree, PunctTree, LiteralTree, FlatToken, flat_trees}
 use Rattle.rl_tokens.specs.Lexing.{Cut, flat_cut, Lexes}
+use Rattle.rl_tokens.specs.Fronts.{IsFront, HasNoFront}
 use Rattle.rl_tokens.proofs.CutLaws.{begins_cut}
+use Rattle.rl_grammar.proofs.FrontLemmas.{one_front}
 use Rattle.rust_literals.specs.declared.lit.Lit.{Lit}
 use Rattle.rust_literals.specs.Parsing.{Leads}
-use Rattle.rust_literals.specs.Flat.{IsNoGroup, AreReadUpTo, AreBegun}
+use Rattle.rust_literals.specs.Flat.{IsNoGroup, AreBegun}
 
 -- trees that begin with tokens, seen flat, begin with their trees
 front_trees : (front trees : List Tree) (more : List FlatToken) → AllByRecursion IsNoGroup front → flat_trees trees ≡ flat_trees front ++ more → (behind : List Tree) × (trees ≡ front ++ behind)
@@ -32,36 +33,24 @@ front_trees (LiteralTree i ∷ front) (LiteralTree j ∷ trees) more (_, h) e =
     (further.0, ap (λ x. LiteralTree x ∷ trees) same ∙ ap (λ xs. LiteralTree i ∷ xs) further.1)
 front_trees (tree ∷ front) trees more h e = absurd (cc)
 
--- The list leads to the trees behind so many.
-pub record GoesOn {A : Type 0} (trees : List Tree) (list : List (Lit A)) (count : ℕ) : Type 0 where
-  pub within : count ≤ length trees
-  pub leads : Leads trees list (drop count trees)
-
-goes_on_at : {A : Type 0} (front behind trees : List Tree) (list : List (Lit A)) (count : ℕ) → trees ≡ front ++ behind → length front ≡ count → Leads (front ++ behind) list behind → GoesOn trees list count
-goes_on_at front behind trees list count is len leads =
-    let left : drop count trees ≡ behind = ap (drop count) is ∙ ap (λ n. drop n (front ++ behind)) (sym len) ∙ drop-append_seam front behind in
-    record {
-      within = omega (arith, len, ap length is, length-append front behind);
-      leads = subst (λ (rest : List Tree). Leads trees list rest) (sym left) (subst (λ (ts : List Tree). Leads ts list behind) (sym is) leads);
-    }
-
 -- The trees of a text that begins with these literals go on behind theirs.
-pub goes_on : {A : Type 0} (text : List ℕ) (file : ℕ) (list : List (Lit A)) (count : ℕ) (trees : List Tree) → AreBegun text file list count → Lexes text file trees → GoesOn trees list count
-goes_on text file list count trees begun lexes =
+pub goes_on : {A : Type 0} (text : List ℕ) (file : ℕ) (list : List (Lit A)) (trees : List Tree) → AreBegun text file list → Lexes text file trees → (behind : List Tree) × Leads trees list behind
+goes_on text file list trees begun lexes =
     let read = begun.read in
     let (more, same) = begins_cut 0 text read.cuts.cuts lexes.cuts begun.rest read.cuts.are_cuts lexes.are_cuts in
     let flat : flat_trees trees ≡ flat_trees read.trees ++ map (flat_cut file) more =
     sym lexes.flat_is ∙ same file ∙ ap (λ z. z ++ map (flat_cut file) more) read.cuts.flat_is in
     let (behind, is) = front_trees read.trees trees (map (flat_cut file) more) read.cuts.no_groups flat in
-    goes_on_at read.trees behind trees list count is read.count_is (read.leads behind)
+    (behind, subst (λ (ts : List Tree). Leads ts list behind) (sym is) (read.leads behind))
 
--- so many trees are cut off from those of the text
-pub splits : {A B : Type 0} (items all : List (TokenTree B)) (list : List (Lit A)) (count : ℕ) → all ≡ items → GoesOn (map tree_view items) list count → count ≤ length all
-splits items all list count same on = omega (arith, on.within, length-map items tree_view, ap length same)
-
--- and the list leads to the others
-pub leads_behind : {A B : Type 0} (items all behind : List (TokenTree B)) (list : List (Lit A)) (count : ℕ) (left : List Tree) → all ≡ items → behind ≡ drop count all → left ≡ map tree_view behind → GoesOn (map tree_view items) list count → Leads (map tree_view items) list left
-leads_behind items all behind list count left same cut seen on =
-    let left_is : left ≡ drop count (map tree_view items) =
-    seen ∙ ap (map tree_view) (cut ∙ ap (drop count) same) ∙ sym (drop-map tree_view count items) in
-    subst (λ (rest : List Tree). Leads (map tree_view items) list rest) (sym left_is) on.leads
+-- One of the literals that lead on is passed.
+pub pass_one : {A : Type 0} {F : Type 0} (token_in : F → Token) (old new : List Tree) (literals : List (Lit A)) (i : ℕ) (rest : List Tree) (front : Option F) → i < length literals → IfSome front (λ f. IsFront old (token_in f) new) → IfNone front (HasNoFront old) → Leads old (drop i literals) rest → Leads new (drop (i + 1) literals) rest
+pass_one token_in old new [] i rest front i_in some none leads = absurd (omega arith)
+pass_one {F = F} token_in old new (l ∷ ls) i rest front i_in some none leads =
+    let next : drop i (l ∷ ls) ≡ get_or (l ∷ ls) i l ∷ drop (suc i) (l ∷ ls) = drop-cons (l ∷ ls) i l i_in in
+    rw add-one (go front some none (subst (λ xs. Leads old xs rest) next leads))
+  where
+    go : (front : Option F) → IfSome front (λ f. IsFront old (token_in f) new) → IfNone front (HasNoFront old) → Leads old (get_or (l ∷ ls) i l ∷ drop (suc i) (l ∷ ls)) rest → Leads new (drop (suc i) (l ∷ ls)) rest
+    go None some none (after, is, more) = absurd (none is.token after is.front)
+    go (Some f) some none (after, is, more) =
+        subst (λ (ts : List Tree). Leads ts (drop (suc i) (l ∷ ls)) rest) (one_front old is.token (token_in f) after new is.front some).1 more

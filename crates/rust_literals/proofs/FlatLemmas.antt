@@ -1,8 +1,8 @@
 -- A literal more of a text without groups, and all of them.
-use Rattle.std.proofs.Common.{arith, true, ◌≡◌, ℕ, ◌+◌, ◌==◌, List, [], ◌∷◌, ◌++◌, length, length-append, Some, refl, sym, ◌∙◌, ap, subst, append_assoc}
+use Rattle.std.proofs.Common.{arith, true, ◌≡◌, ℕ, ◌==◌, List, [], ◌∷◌, ◌++◌, length, Option, Some, None, refl, sym, ◌∙◌, ap, subst, append_assoc}
 use Rattle.std.proofs.lemmas.List.{map-append, nil_from_length}
 use Rattle.std.proofs.lemmas.Bool.Decides.{nat_tests}
-use Rattle.std.specs.Prelude.{min, max, Bool, if◌then◌else◌}
+use Rattle.std.specs.Prelude.{min, max, Bool, IfSome, if◌then◌else◌}
 use Rattle.std.specs.List.{AllByRecursion}
 use Rattle.std.specs.Str.{chars}
 use Rattle.rl_tokens.specs.declared.span.Span.{Span}
@@ -64,31 +64,29 @@ tree_more file old new l form tree done t form_is none flat_is no_group c =
     }
 
 -- a literal token
-pub literal_next : {A : Type 0} (file : ℕ) (old new : Cutting) (l : Lent) (lit : Lit A) → TakesNext old l new → form_view l.form ≡ LiteralForm → IsReadFrom (token_at file l) lit → ReadsNext file old lit 1 new
+pub literal_next : {A : Type 0} (file : ℕ) (old new : Cutting) (l : Lent) (lit : Lit A) → TakesNext old l new → form_view l.form ≡ LiteralForm → IsReadFrom (token_at file l) lit → ReadsNext file old lit new
 literal_next file old new l lit t form_is read =
     let tree : Tree = LiteralTree (token_at file l) in record {
       trees = tree ∷ [];
-      count_is = refl;
       cuts = λ done c. tree_more file old new l LiteralForm tree done t form_is refl refl tt c;
       front = λ behind. record { token = token_at file l; front = (refl, refl); read = read };
       same = t.same;
     }
 
 -- the word of a truth value
-pub truth_next : {A : Type 0} (file : ℕ) (old new : Cutting) (l : Lent) (lit : Lit A) (b : Bool) → TakesNext old l new → form_view l.form ≡ IdentifierForm → l.text.now ≡ truth_text b → lit ≡ BoolLit (record { value = b; span = span_at file l }) → ReadsNext file old lit 1 new
+pub truth_next : {A : Type 0} (file : ℕ) (old new : Cutting) (l : Lent) (lit : Lit A) (b : Bool) → TakesNext old l new → form_view l.form ≡ IdentifierForm → l.text.now ≡ truth_text b → lit ≡ BoolLit (record { value = b; span = span_at file l }) → ReadsNext file old lit new
 truth_next {A} file old new l lit b t form_is word_is lit_is =
     let tree : Tree = IdentTree (token_at file l) in
     let word : Lit A = BoolLit (record { value = b; span = span_at file l }) in
     let read : IsReadFrom (token_at file l) word = read_truth (token_at file l) b (span_at file l) word_is refl in record {
       trees = tree ∷ [];
-      count_is = refl;
       cuts = λ done c. tree_more file old new l IdentifierForm tree done t form_is refl refl tt c;
       front = λ behind. record { token = token_at file l; front = (read.1, refl, refl); read = subst (λ (x : Lit A). IsReadFrom (token_at file l) x) (sym lit_is) read };
       same = t.same;
     }
 
 -- a minus and a literal token
-pub negative_next : {A : Type 0} (file : ℕ) (old between new : Cutting) (m l : Lent) (lit : Lit A) (span : Span) → TakesNext old m between → TakesNext between l new → form_view m.form ≡ MarkForm 45 → form_view l.form ≡ LiteralForm → span ≡ joined_span (span_at file m) (span_at file l) → HasReading (45 ∷ chars l.text.now) → IsReadFrom (record { text = 45 ∷ l.text.now; span = span }) lit → ReadsNext file old lit 2 new
+pub negative_next : {A : Type 0} (file : ℕ) (old between new : Cutting) (m l : Lent) (lit : Lit A) (span : Span) → TakesNext old m between → TakesNext between l new → form_view m.form ≡ MarkForm 45 → form_view l.form ≡ LiteralForm → span ≡ joined_span (span_at file m) (span_at file l) → HasReading (45 ∷ chars l.text.now) → IsReadFrom (record { text = 45 ∷ l.text.now; span = span }) lit → ReadsNext file old lit new
 negative_next file old between new m l lit span t u m_is l_is span_is together read =
     let mark : Mark = record { ch = 45; span = span_at file m } in
     let minus : Tree = PunctTree mark in
@@ -97,7 +95,6 @@ negative_next file old between new m l lit span t u m_is l_is span_is together r
     let From : List ℕ → List Tree → Type 0 = λ text trees. CutsInto (chars text) file trees (chars between.rest) in
     record {
       trees = minus ∷ number ∷ [];
-      count_is = refl;
       cuts = λ done c.
           let first : From old.text (done ++ minus ∷ []) = tree_more file old between m (MarkForm 45) minus done t m_is refl refl tt c in
           let second : Into between.text ((done ++ minus ∷ []) ++ number ∷ []) = tree_more file between new l LiteralForm number (done ++ minus ∷ []) u l_is refl refl tt (subst (λ (x : List ℕ). From x (done ++ minus ∷ [])) (sym t.same) first) in
@@ -122,26 +119,25 @@ joined_at file m l a b span p q e =
     let both : Span → Span → Span = λ x y. record { file = x.file; lo = min x.lo y.lo; hi = max x.hi y.hi } in
     e ∙ ap (λ x. both x b) p ∙ ap (λ y. both (span_at file m) y) q
 
-pub read_negative : {A : Type 0} (file : ℕ) (old between new : Cutting) (m l : Lent) (lit : Lit A) (span : Span) → TakesNext old m between → TakesNext between l new → form_view m.form ≡ MarkForm 45 → form_view l.form ≡ LiteralForm → span ≡ record { file = file; lo = min m.lo l.lo; hi = max m.hi l.hi } → HasReading (45 ∷ chars l.text.now) → IsReadFrom (record { text = 45 ∷ l.text.now; span = span }) lit → ReadsNext file old lit 2 new
-read_negative file old between new m l lit span t u m_is l_is span_is together read =
+pub read_negative : {A : Type 0} (file : ℕ) (old between new : Cutting) (m l : Lent) (span : Span) (r : Option (Lit A)) → TakesNext old m between → TakesNext between l new → form_view m.form ≡ MarkForm 45 → form_view l.form ≡ LiteralForm → span ≡ record { file = file; lo = min m.lo l.lo; hi = max m.hi l.hi } → IfSome r (λ lit. HasReading (45 ∷ chars l.text.now)) → IfSome r (IsReadFrom (record { text = 45 ∷ l.text.now; span = span })) → IfSome r (λ lit. ReadsNext file old lit new)
+read_negative file old between new m l span None t u m_is l_is span_is together read = tt
+read_negative file old between new m l span (Some lit) t u m_is l_is span_is together read =
     negative_next file old between new m l lit span t u m_is l_is (same_file file m l span span_is) together read
 
 -- nothing is read yet
-pub read_none : {A : Type 0} (text : List ℕ) (file : ℕ) (rest : List ℕ) → Cuts 0 text [] rest → AreReadUpTo {A = A} text file [] 0 rest
+pub read_none : {A : Type 0} (text : List ℕ) (file : ℕ) (rest : List ℕ) → Cuts 0 text [] rest → AreReadUpTo {A = A} text file [] rest
 read_none text file rest skips = record {
   trees = [];
-  count_is = refl;
   cuts = record { cuts = []; are_cuts = skips; none_open = refl; flat_is = refl; no_groups = tt };
   leads = λ behind. refl;
 }
 
 -- one literal more
-pub read_more : {A : Type 0} (text : List ℕ) (file : ℕ) (old new : Cutting) (list : List (Lit A)) (lit : Lit A) (count more : ℕ) → old.text ≡ text → AreReadUpTo (chars text) file list count (chars old.rest) → ReadsNext file old lit more new → AreReadUpTo (chars text) file (list ++ lit ∷ []) (count + more) (chars new.rest)
-read_more text file old new list lit count more same read next =
+pub read_more : {A : Type 0} (text : List ℕ) (file : ℕ) (old new : Cutting) (list : List (Lit A)) (lit : Lit A) → old.text ≡ text → AreReadUpTo (chars text) file list (chars old.rest) → ReadsNext file old lit new → AreReadUpTo (chars text) file (list ++ lit ∷ []) (chars new.rest)
+read_more text file old new list lit same read next =
     let Goes : List ℕ → Type 0 = λ t. (done : List Tree) → CutsInto (chars t) file done (chars old.rest) → CutsInto (chars t) file (done ++ next.trees) (chars new.rest) in
     let goes : Goes text = subst Goes same next.cuts in record {
       trees = read.trees ++ next.trees;
-      count_is = omega (arith, length-append read.trees next.trees, read.count_is, next.count_is);
       cuts = goes read.trees read.cuts;
       leads = λ behind.
           subst (λ (ts : List Tree). Leads ts (list ++ lit ∷ []) behind) (sym (append_assoc read.trees next.trees behind))
@@ -149,8 +145,8 @@ read_more text file old new list lit count more same read next =
     }
 
 -- all is read
-pub read_whole : {A : Type 0} (text : List ℕ) (file : ℕ) (list : List (Lit A)) (count : ℕ) (rest : List ℕ) → rest ≡ [] → AreReadUpTo text file list count rest → AreRead text file list
-read_whole text file list count rest ends read = record {
+pub read_whole : {A : Type 0} (text : List ℕ) (file : ℕ) (list : List (Lit A)) (rest : List ℕ) → rest ≡ [] → AreReadUpTo text file list rest → AreRead text file list
+read_whole text file list rest ends read = record {
   trees = read.trees ++ [];
   lexes = record {
     cuts = read.cuts.cuts;

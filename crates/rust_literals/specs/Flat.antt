@@ -1,5 +1,5 @@
 -- What is read of a text without groups, as its tokens are cut.
-use Rattle.std.specs.Prelude.{◌≡◌, ℕ, List, [], ◌++◌, length, map, Some, ⊤}
+use Rattle.std.specs.Prelude.{◌≡◌, ℕ, List, [], ◌++◌, map, Some, ⊤}
 use Rattle.std.specs.List.{AllByRecursion}
 use Rattle.std.specs.Str.{chars}
 use Rattle.rl_tokens.specs.Trees.{Tree, GroupTree, flat_trees}
@@ -20,22 +20,20 @@ pub record CutsInto (text : List ℕ) (file : ℕ) (trees : List Tree) (rest : L
   pub flat_is : map (flat_cut file) cuts ≡ flat_trees trees
   pub no_groups : AllByRecursion IsNoGroup trees
 
--- The trees that are cut off, so many, make the literal, whatever stands behind them.
-pub record ReadsNext {A : Type 0} (file : ℕ) (old : Cutting) (lit : Lit A) (count : ℕ) (new : Cutting) : Type 0 where
+-- The trees that are cut off make the literal, whatever stands behind them.
+pub record ReadsNext {A : Type 0} (file : ℕ) (old : Cutting) (lit : Lit A) (new : Cutting) : Type 0 where
   pub trees : List Tree
-  pub count_is : length trees ≡ count
   pub cuts : (done : List Tree) → CutsInto (chars old.text) file done (chars old.rest) → CutsInto (chars old.text) file (done ++ trees) (chars new.rest)
   pub front : (behind : List Tree) → IsLitFront (trees ++ behind) lit behind
   pub same : new.text ≡ old.text
 
--- The text up to the rest is these literals, of so many trees, whatever trees stand behind.
-pub record AreReadUpTo {A : Type 0} (text : List ℕ) (file : ℕ) (list : List (Lit A)) (count : ℕ) (rest : List ℕ) : Type 0 where
+-- The text up to the rest is these literals, whatever trees stand behind.
+pub record AreReadUpTo {A : Type 0} (text : List ℕ) (file : ℕ) (list : List (Lit A)) (rest : List ℕ) : Type 0 where
   pub trees : List Tree
-  pub count_is : length trees ≡ count
   pub cuts : CutsInto text file trees rest
   pub leads : (behind : List Tree) → Leads (trees ++ behind) list behind
 
--- The text begins with these literals, of so many trees.
-pub record AreBegun {A : Type 0} (text : List ℕ) (file : ℕ) (list : List (Lit A)) (count : ℕ) : Type 0 where
+-- The text begins with these literals.
+pub record AreBegun {A : Type 0} (text : List ℕ) (file : ℕ) (list : List (Lit A)) : Type 0 where
   pub rest : List ℕ
-  pub read : AreReadUpTo text file list count rest
+  pub read : AreReadUpTo text file list rest

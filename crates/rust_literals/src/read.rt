@@ -12,8 +12,20 @@ ghost use Rattle.rust_literals.specs.ReadBack.{HoldsOrMemory, AreItems, Spaced, 
 
 use crate::flat::read_flat;
 use crate::lit::Lit;
+use rl_grammar::Front;
 use rl_tokens::{Error, LexError, ParseBuffer, Span, lex};
 use std::alloc::{Allocator, Global};
+
+/// Passes the trees of these literals, which begin the others.
+fn pass<A: Allocator>(input: &mut ParseBuffer<'_, A>, literals: &[Lit<A>])
+    ensures passed { (rest : List Tree) → Leads (trees_in input.old) literals.now rest
+        → trees_in input.new ≡ rest }
+    ensures scope { scope_of input.new ≡ scope_of input.old }
+{
+    for _ in literals {
+        let _ = Front::take(input);
+    }
+}
 
 /// The literals of the list, and behind them those that the trees are, one after another, up to their end.
 fn read_on<A: Allocator + Copy>(
@@ -80,6 +92,7 @@ pub fn read_all<A: Allocator + Copy>(
         Err(fault) => return Err(refusal_of(fault, file)),
     };
     let end = Span::new(file, text.len(), text.len());
-    let (_, behind) = stream.trees().split_at(begun.trees);
-    read_on(alloc, &mut ParseBuffer::new(behind, end), begun.list)
+    let mut input = ParseBuffer::new(stream.trees(), end);
+    pass(&mut input, begun.as_slice());
+    read_on(alloc, &mut input, begun)
 }

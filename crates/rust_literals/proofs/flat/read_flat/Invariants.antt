@@ -1,13 +1,12 @@
-use Rattle.std.proofs.Common.{◌≡◌, ◌≤◌, ◌+◌, length}
+use Rattle.std.proofs.Common.{◌≡◌, length}
 use Rattle.std.specs.Str.{chars}
 use Rattle.rust_literals.specs.Flat.{AreReadUpTo}
 use Rattle.rust_literals.proofs.flat.read_flat.Given as goal
 
 abbrev pub invariant-loop-tokens : goal.invariant-loop-tokens
 invariant-loop-tokens g l = record {
-  read : AreReadUpTo (chars l.text) l.file l.list.items l.trees (chars l.tokens.rest);
+  read : AreReadUpTo (chars l.text) l.file l.list.items (chars l.tokens.rest);
   same : l.tokens.text ≡ l.text;
-  room : l.trees + length l.tokens.rest ≤ length l.text;
 }
 
 abbrev pub decreases-loop-tokens : goal.decreases-loop-tokens
