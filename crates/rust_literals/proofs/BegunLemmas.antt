@@ -4,7 +4,7 @@ use Rattle.std.specs.Prelude.{IfSome, IfNone}
 use Rattle.std.specs.List.{AllByRecursion}
 use Rattle.rl_tokens.specs.Tokens.{Token}
 use Rattle.rl_tokens.specs.Trees.{Tree, GroupTree, IdentTree, PunctTree, LiteralTree, FlatToken, flat_trees}
-use Rattle.rl_tokens.specs.Lexing.{Cut, flat_cut, Lexes}
+use Rattle.rl_tokens.specs.Lexing.{flat_cut, Lexes}
 use Rattle.rl_tokens.specs.Fronts.{IsFront, HasNoFront}
 use Rattle.rl_tokens.proofs.CutLaws.{begins_cut}
 use Rattle.rl_grammar.proofs.FrontLemmas.{one_front}

@@ -1,5 +1,5 @@
 -- What is read of a text without groups, as its tokens are cut.
-use Rattle.std.specs.Prelude.{◌≡◌, ℕ, List, [], ◌++◌, map, Some, ⊤}
+use Rattle.std.specs.Prelude.{◌≡◌, ℕ, List, [], ◌∷◌, ◌++◌, map, Some, ⊤}
 use Rattle.std.specs.List.{AllByRecursion}
 use Rattle.std.specs.Str.{chars}
 use Rattle.rl_tokens.specs.Trees.{Tree, GroupTree, flat_trees}
@@ -26,6 +26,12 @@ pub record ReadsNext {A : Type 0} (file : ℕ) (old : Cutting) (lit : Lit A) (ne
   pub cuts : (done : List Tree) → CutsInto (chars old.text) file done (chars old.rest) → CutsInto (chars old.text) file (done ++ trees) (chars new.rest)
   pub front : (behind : List Tree) → IsLitFront (trees ++ behind) lit behind
   pub same : new.text ≡ old.text
+
+-- The list grows by the literal that is cut off.
+pub record AddsNext {A : Type 0} (file : ℕ) (old : Cutting) (list : List (Lit A)) (new : Cutting) (longer : List (Lit A)) : Type 0 where
+  pub lit : Lit A
+  pub next : ReadsNext file old lit new
+  pub longer_is : longer ≡ list ++ lit ∷ []
 
 -- The text up to the rest is these literals, whatever trees stand behind.
 pub record AreReadUpTo {A : Type 0} (text : List ℕ) (file : ℕ) (list : List (Lit A)) (rest : List ℕ) : Type 0 where

@@ -1,11 +1,23 @@
 //! The literals of a text without groups, read as its tokens are cut.
 
-ghost use Rattle.std.specs.Prelude.{◌<◌, ◌∷◌, length, IfSome, IfOk, IfErr};
+ghost use Rattle.std.specs.Prelude.{
+  ◌≡◌,
+  ◌<◌,
+  [],
+  ◌∷◌,
+  ◌++◌,
+  length,
+  OnSome,
+  IfSome,
+  IfNone,
+  IfOk,
+  IfErr,
+};
 ghost use Rattle.std.specs.Str.{chars};
 ghost use Rattle.rl_tokens.specs.Fronts.{HasReading};
 ghost use Rattle.rust_literals.specs.Literals.{IsReadFrom};
 ghost use Rattle.rust_literals.specs.Parsing.{AreRead};
-ghost use Rattle.rust_literals.specs.Flat.{ReadsNext, AreBegun};
+ghost use Rattle.rust_literals.specs.Flat.{AddsNext, AreBegun};
 
 use crate::lit::Lit;
 use crate::lit_bool::LitBool;
@@ -31,23 +43,39 @@ fn negative_of<A: Allocator + Copy>(alloc: A, text: &str, span: Span) -> Option<
     Lit::of_found(alloc, token, Some(found)).ok()
 }
 
-/// Takes the literal that the next tokens are. `None` where they are none, and where memory is refused.
-fn next_literal<A: Allocator + Copy>(alloc: A, tokens: &mut Tokens<'_>, file: u32) -> Option<Lit<A>>
-    ensures next { IfSome result (λ lit. ReadsNext file tokens.old lit tokens.new) }
-    ensures shorter { IfSome result (λ lit. length tokens.new.rest < length tokens.old.rest) }
+/// Puts a literal at the list's end. `None` where memory is refused; the list stays then.
+#[inline(always)]
+fn put<A: Allocator>(list: &mut Vec<Lit<A>, A>, literal: Lit<A>) -> Option<()>
+    ensures put { OnSome result (list.new.items ≡ list.old.items ++ literal ∷ []) }
+    ensures stays { IfNone result (list.new.items ≡ list.old.items) }
+{
+    list.push(literal).ok()
+}
+
+/// Puts the literal that the next tokens are at the list's end. `None` where they are none, and where memory is refused;
+/// the list stays then.
+fn read_next<A: Allocator + Copy>(
+    alloc: A,
+    tokens: &mut Tokens<'_>,
+    file: u32,
+    list: &mut Vec<Lit<A>, A>,
+) -> Option<()>
+    ensures next { OnSome result (AddsNext file tokens.old list.old.items tokens.new list.new.items) }
+    ensures shorter { OnSome result (length tokens.new.rest < length tokens.old.rest) }
+    ensures stays { IfNone result (list.new.items ≡ list.old.items) }
 {
     let token = tokens.next()?;
     let span = Span::new(file, token.lo, token.hi);
     match token.form {
-        Form::Literal => literal_of(alloc, token.text, span),
-        Form::Identifier => Some(Lit::Bool(LitBool::new(truth_of(token.text)?, span))),
+        Form::Literal => put(list, literal_of(alloc, token.text, span)?),
+        Form::Identifier => put(list, Lit::Bool(LitBool::new(truth_of(token.text)?, span))),
         Form::Mark('-') => {
             let number = tokens.next()?;
             let Form::Literal = number.form else {
                 return None;
             };
             let joined = span.join(Span::new(file, number.lo, number.hi))?;
-            negative_of(alloc, number.text, joined)
+            put(list, negative_of(alloc, number.text, joined)?)
         }
         _ => None,
     }
@@ -66,10 +94,7 @@ pub(crate) fn read_flat<A: Allocator + Copy>(
     let mut list = Vec::new(alloc);
     let mut tokens = Tokens::new(text);
     while !tokens.rest().is_empty() {
-        let Some(literal) = next_literal(alloc, &mut tokens, file) else {
-            return Err(list);
-        };
-        if list.push(literal).is_err() {
+        if read_next(alloc, &mut tokens, file, &mut list).is_none() {
             return Err(list);
         }
     }
