@@ -1,5 +1,5 @@
 -- What is read of a text without groups, as its tokens are cut.
-use Rattle.std.specs.Prelude.{◌≡◌, ℕ, List, [], ◌∷◌, ◌++◌, map, Some, ⊤}
+use Rattle.std.specs.Prelude.{◌≡◌, ℕ, List, [], ◌∷◌, ◌++◌, length, map, Some, ⊤}
 use Rattle.std.specs.List.{AllByRecursion}
 use Rattle.std.specs.Str.{chars}
 use Rattle.rl_tokens.specs.Trees.{Tree, GroupTree, flat_trees}
@@ -43,3 +43,8 @@ pub record AreReadUpTo {A : Type 0} (text : List ℕ) (file : ℕ) (list : List 
 pub record AreBegun {A : Type 0} (text : List ℕ) (file : ℕ) (list : List (Lit A)) : Type 0 where
   pub rest : List ℕ
   pub read : AreReadUpTo text file list rest
+
+-- The text begins with these literals, which are so many.
+pub record AreFirst {A : Type 0} (text : List ℕ) (file count : ℕ) (list : List (Lit A)) : Type 0 where
+  pub begun : AreBegun text file list
+  pub count_is : length list ≡ count
