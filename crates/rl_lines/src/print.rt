@@ -251,8 +251,8 @@ fn push_literal<A: Allocator + Copy>(
     }
 }
 
-/// Writes the lines of the literals at the end.
-fn push_literals<A: Allocator + Copy>(
+/// Writes the lines of the literals at the end. Where memory is refused, some of them may stand there.
+pub fn push_literals<A: Allocator + Copy>(
     alloc: A,
     out: &mut String<A>,
     literals: &[Lit<A>],

@@ -87,3 +87,18 @@ same_cut at t gs (v ∷ vs) (w ∷ ws) r s g h (x, a, is, m, more) p stuck (y, b
       rest = rec.rest;
       groups = rec.groups;
     }
+
+-- What was cut of a text begins each cut of all of it, seen as tokens.
+pub begins_cut : (at : ℕ) (t : List ℕ) (vs ws : List Cut) (r : List ℕ) → Cuts at t vs r → Cuts at t ws [] → (more : List Cut) × ((file : ℕ) → map (flat_cut file) ws ≡ map (flat_cut file) vs ++ map (flat_cut file) more)
+begins_cut at t [] ws r a b = (ws, λ file. refl)
+begins_cut at t (v ∷ vs) [] r (x, a, is, m, more) b =
+    let e : [] ≡ lexeme_text v.lexeme ++ x = one_rest t [] (lexeme_text v.lexeme ++ x) b a in
+    absurd (none-some (form_of v.lexeme, x) (ap lexeme_at e ∙ lexeme_at-past v.lexeme x is))
+begins_cut at t (v ∷ vs) (w ∷ ws) r (x, a, is, m, more) (y, b, js, n, more') =
+    let same : SameFirst v w x y = same_first at t v w x y a is m b js n in
+    let behind : Cuts (end_of v) x ws [] =
+    subst (λ (k : ℕ). Cuts k x ws []) (sym (same_end v w x y same)) (subst (λ (z : List ℕ). Cuts (end_of w) z ws []) (sym same.rest) more') in
+    let rec = begins_cut (end_of v) x vs ws r more behind in (
+      rec.0,
+      λ file. ap (λ f. f ∷ map (flat_cut file) ws) (sym (same_flat v w x y same file)) ∙ ap (λ fs. flat_cut file v ∷ fs) (rec.1 file),
+    )

@@ -1,2 +1,3 @@
 pub mod StreamLemmas
 pub mod RunLemmas
+pub mod ListLemmas

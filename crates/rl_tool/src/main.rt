@@ -8,6 +8,7 @@ ghost use Rattle.rl_tool.specs.Endings.{status_of};
 mod command;
 mod ending;
 mod fault;
+mod list;
 mod run;
 mod streams;
 #[cfg(test)]

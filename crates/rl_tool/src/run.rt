@@ -1,20 +1,20 @@
 //! A run of the program, over any reader and writer.
 
-ghost use Rattle.std.specs.Prelude.{◌≡◌, length, IfErr, IfOk, IfSome, OnOk, string_bytes};
+ghost use Rattle.std.specs.Prelude.{◌≡◌, IfErr, IfOk, IfSome, OnOk, string_bytes};
 ghost use Rattle.std.specs.Str.{chars, IsUtf8};
-ghost use Rattle.rl_tool.specs.declared.command.Command.TheVariants.{Text, Read};
+ghost use Rattle.rl_tool.specs.declared.command.Command.TheVariants.{Text};
 ghost use Rattle.rl_tokens.specs.Errors.{memory_at};
 ghost use Rattle.rust_literals.specs.Literals.{IsReadFrom, ReadsAsNumber};
-ghost use Rattle.rust_literals.specs.Parsing.{AreRead, RefusesText};
 ghost use Rattle.rl_tool.specs.declared.fault.Fault.TheVariants.{NotText, Memory};
 ghost use Rattle.rl_tool.specs.Runs.{whole_token, Shows, Prints, TellsLiteral, IsFaultOf, IsRefusalOf};
 
 use crate::command::Command;
 use crate::fault::Fault;
+use crate::list::literal_lines;
 use crate::streams::{read_whole, write_whole};
-use rl_lines::{line_of, lines_of};
+use rl_lines::line_of;
 use rl_tokens::{Literal, Span};
-use rust_literals::{Lit, read_all};
+use rust_literals::Lit;
 use std::alloc::Allocator;
 use std::io::{Read, Write};
 
@@ -54,18 +54,6 @@ fn literal_of<A: Allocator + Copy>(alloc: A, token: Literal<A>) -> Result<Lit<A>
     }
 }
 
-/// The literals that a text is. Want of memory is the literals'.
-fn literals_of<A: Allocator + Copy>(alloc: A, text: &str) -> Result<Vec<Lit<A>, A>, Fault<A>>
-    ensures read { IfOk result (λ list. AreRead (chars text.now) 0 list.items) }
-    ensures refusal { IfErr result
-        (TellsLiteral (RefusesText (chars text.now) 0 (length text.now))) }
-{
-    match read_all(alloc, text, 0) {
-        Ok(literals) => Ok(literals),
-        Err(error) => Err(Fault::Literal(error)),
-    }
-}
-
 /// The line of the whole text as one literal.
 fn literal_line<A: Allocator + Copy>(alloc: A, text: &str) -> Result<String<A>, Fault<A>>
     ensures line { IfOk result (λ line. Shows Text (chars text.now) (chars (string_bytes line))) }
@@ -75,16 +63,6 @@ fn literal_line<A: Allocator + Copy>(alloc: A, text: &str) -> Result<String<A>, 
     let literal = literal_of(alloc, token)?;
     let line = line_of(alloc, &literal)?;
     Ok(line)
-}
-
-/// The lines of the text's literals.
-fn literal_lines<A: Allocator + Copy>(alloc: A, text: &str) -> Result<String<A>, Fault<A>>
-    ensures lines { IfOk result (λ lines. Shows Read (chars text.now) (chars (string_bytes lines))) }
-    ensures refusal { IfErr result (IsRefusalOf Read text.now) }
-{
-    let literals = literals_of(alloc, text)?;
-    let lines = lines_of(alloc, literals.as_slice())?;
-    Ok(lines)
 }
 
 /// All lines of the input.

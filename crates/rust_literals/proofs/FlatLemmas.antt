@@ -1,8 +1,10 @@
 -- A literal more of a text without groups, and all of them.
-use Rattle.std.proofs.Common.{arith, true, ◌≡◌, ℕ, ◌==◌, List, [], ◌∷◌, ◌++◌, length, Option, Some, None, refl, sym, ◌∙◌, ap, subst, append_assoc}
+use Rattle.std.proofs.Common.{arith, true, false, ◌≡◌, ℕ, ◌==◌, List, [], ◌∷◌, ◌++◌, length, Option, Some, None, refl, sym, ◌∙◌, ap, subst, append_assoc}
 use Rattle.std.proofs.lemmas.List.{map-append, nil_from_length}
 use Rattle.std.proofs.lemmas.Bool.Decides.{nat_tests}
-use Rattle.std.specs.Prelude.{min, max, Bool, IfSome, if◌then◌else◌}
+use Rattle.std.specs.Prelude.{min, max, Bool, IfNone, OnSome, if◌then◌else◌}
+use Rattle.std.specs.List.{AllByRecursion}
+use Rattle.std.specs.Option.{is_some}
 use Rattle.std.specs.Str.{chars}
 use Rattle.rl_tokens.specs.declared.span.Span.{Span}
 use Rattle.rl_tokens.specs.declared.cursor.Lexeme.{Lexeme as Lent}
@@ -22,7 +24,7 @@ use Rattle.rust_literals.specs.declared.lit.Lit.{Lit}
 use Rattle.rust_literals.specs.declared.lit.Lit.TheVariants.{Bool as BoolLit}
 use Rattle.rust_literals.specs.Literals.{IsReadFrom}
 use Rattle.rust_literals.specs.Parsing.{Leads, AreRead}
-use Rattle.rust_literals.specs.Flat.{CutsInto, ReadsNext, AreReadUpTo}
+use Rattle.rust_literals.specs.Flat.{IsNoGroup, CutsInto, ReadsNext, AddsNext, AreReadUpTo}
 use Rattle.rl_tokens.proofs.LexLaws.{one_list}
 use Rattle.rust_literals.proofs.LitLemmas.{read_truth}
 use Rattle.rust_literals.proofs.LeadsLemmas.{leads_step, one_list_of}
@@ -38,9 +40,13 @@ span_at file l = record { file = file; lo = l.lo; hi = l.hi }
 abbrev token_at : ℕ → Lent → Token
 token_at file l = record { text = l.text.now; span = span_at file l }
 
+all_more : (P : Tree → Type 0) (trees : List Tree) (tree : Tree) → AllByRecursion P trees → P tree → AllByRecursion P (trees ++ tree ∷ [])
+all_more P [] tree h p = (p, tt)
+all_more P (t ∷ trees) tree (q, h) p = (q, all_more P trees tree h p)
+
 -- one tree more, which is no group
-tree_more : (file : ℕ) (old new : Cutting) (l : Lent) (form : Form) (tree : Tree) (done : List Tree) → TakesNext old l new → form_view l.form ≡ form → behind_form [] form l.lo ≡ Some [] → flat_trees (tree ∷ []) ≡ flat_form form l.text.now (span_at file l) ∷ [] → CutsInto (chars old.text) file done (chars old.rest) → CutsInto (chars old.text) file (done ++ tree ∷ []) (chars new.rest)
-tree_more file old new l form tree done t form_is none flat_is c =
+tree_more : (file : ℕ) (old new : Cutting) (l : Lent) (form : Form) (tree : Tree) (done : List Tree) → TakesNext old l new → form_view l.form ≡ form → behind_form [] form l.lo ≡ Some [] → flat_trees (tree ∷ []) ≡ flat_form form l.text.now (span_at file l) ∷ [] → IsNoGroup tree → CutsInto (chars old.text) file done (chars old.rest) → CutsInto (chars old.text) file (done ++ tree ∷ []) (chars new.rest)
+tree_more file old new l form tree done t form_is none flat_is no_group c =
     let w = t.cut in record {
       cuts = c.cuts ++ w ∷ [];
       are_cuts = t.goes_on c.cuts c.are_cuts;
@@ -55,6 +61,7 @@ tree_more file old new l form tree done t form_is none flat_is c =
           ∙ ap (λ z. flat_trees done ++ z ∷ []) (flat_lent file l w t.is_cut ∙ ap (λ f. flat_form f l.text.now (span_at file l)) form_is)
           ∙ ap (λ z. flat_trees done ++ z) (sym flat_is)
           ∙ sym (flat_trees-append done (tree ∷ []));
+      no_groups = all_more IsNoGroup done tree c.no_groups no_group;
     }
 
 -- a literal token
@@ -62,7 +69,7 @@ pub literal_next : {A : Type 0} (file : ℕ) (old new : Cutting) (l : Lent) (lit
 literal_next file old new l lit t form_is read =
     let tree : Tree = LiteralTree (token_at file l) in record {
       trees = tree ∷ [];
-      cuts = λ done c. tree_more file old new l LiteralForm tree done t form_is refl refl c;
+      cuts = λ done c. tree_more file old new l LiteralForm tree done t form_is refl refl tt c;
       front = λ behind. record { token = token_at file l; front = (refl, refl); read = read };
       same = t.same;
     }
@@ -74,7 +81,7 @@ truth_next {A} file old new l lit b t form_is word_is lit_is =
     let word : Lit A = BoolLit (record { value = b; span = span_at file l }) in
     let read : IsReadFrom (token_at file l) word = read_truth (token_at file l) b (span_at file l) word_is refl in record {
       trees = tree ∷ [];
-      cuts = λ done c. tree_more file old new l IdentifierForm tree done t form_is refl refl c;
+      cuts = λ done c. tree_more file old new l IdentifierForm tree done t form_is refl refl tt c;
       front = λ behind. record { token = token_at file l; front = (read.1, refl, refl); read = subst (λ (x : Lit A). IsReadFrom (token_at file l) x) (sym lit_is) read };
       same = t.same;
     }
@@ -90,8 +97,8 @@ negative_next file old between new m l lit span t u m_is l_is span_is together r
     record {
       trees = minus ∷ number ∷ [];
       cuts = λ done c.
-          let first : From old.text (done ++ minus ∷ []) = tree_more file old between m (MarkForm 45) minus done t m_is refl refl c in
-          let second : Into between.text ((done ++ minus ∷ []) ++ number ∷ []) = tree_more file between new l LiteralForm number (done ++ minus ∷ []) u l_is refl refl (subst (λ (x : List ℕ). From x (done ++ minus ∷ [])) (sym t.same) first) in
+          let first : From old.text (done ++ minus ∷ []) = tree_more file old between m (MarkForm 45) minus done t m_is refl refl tt c in
+          let second : Into between.text ((done ++ minus ∷ []) ++ number ∷ []) = tree_more file between new l LiteralForm number (done ++ minus ∷ []) u l_is refl refl tt (subst (λ (x : List ℕ). From x (done ++ minus ∷ [])) (sym t.same) first) in
           subst (λ (trees : List Tree). Into old.text trees) (append_assoc done (minus ∷ []) (number ∷ [])) (subst (λ (x : List ℕ). Into x ((done ++ minus ∷ []) ++ number ∷ [])) t.same second);
       front = λ behind. record {
         token = joined mark (token_at file l);
@@ -113,30 +120,46 @@ joined_at file m l a b span p q e =
     let both : Span → Span → Span = λ x y. record { file = x.file; lo = min x.lo y.lo; hi = max x.hi y.hi } in
     e ∙ ap (λ x. both x b) p ∙ ap (λ y. both (span_at file m) y) q
 
-pub read_negative : {A : Type 0} (file : ℕ) (old between new : Cutting) (m l : Lent) (span : Span) (r : Option (Lit A)) → TakesNext old m between → TakesNext between l new → form_view m.form ≡ MarkForm 45 → form_view l.form ≡ LiteralForm → span ≡ record { file = file; lo = min m.lo l.lo; hi = max m.hi l.hi } → IfSome r (λ lit. HasReading (45 ∷ chars l.text.now)) → IfSome r (IsReadFrom (record { text = 45 ∷ l.text.now; span = span })) → IfSome r (λ lit. ReadsNext file old lit new)
-read_negative file old between new m l span None t u m_is l_is span_is together read = tt
-read_negative file old between new m l span (Some lit) t u m_is l_is span_is together read =
+pub read_negative : {A : Type 0} (file : ℕ) (old between new : Cutting) (m l : Lent) (lit : Lit A) (span : Span) → TakesNext old m between → TakesNext between l new → form_view m.form ≡ MarkForm 45 → form_view l.form ≡ LiteralForm → span ≡ record { file = file; lo = min m.lo l.lo; hi = max m.hi l.hi } → HasReading (45 ∷ chars l.text.now) → IsReadFrom (record { text = 45 ∷ l.text.now; span = span }) lit → ReadsNext file old lit new
+read_negative file old between new m l lit span t u m_is l_is span_is together read =
     negative_next file old between new m l lit span t u m_is l_is (same_file file m l span span_is) together read
+
+-- the list grows, or memory was refused
+pub adds : {A : Type 0} (file : ℕ) (old new : Cutting) (list longer : List (Lit A)) (lit : Lit A) (r : Option (Unit {0})) → ReadsNext file old lit new → OnSome r (longer ≡ list ++ lit ∷ []) → OnSome r (AddsNext file old list new longer)
+adds file old new list longer lit None next put = tt
+adds file old new list longer lit (Some u) next put = record { lit = lit; next = next; longer_is = put }
+
+pub when_some : {P : Type 0} (r : Option (Unit {0})) → is_some r ≡ true → OnSome r P → P
+when_some None e h = absurd (cc)
+when_some (Some u) e h = h
+
+pub when_none : {P : Type 0} (r : Option (Unit {0})) → is_some r ≡ false → IfNone r P → P
+when_none None e h = h
+when_none (Some u) e h = absurd (cc)
 
 -- nothing is read yet
 pub read_none : {A : Type 0} (text : List ℕ) (file : ℕ) (rest : List ℕ) → Cuts 0 text [] rest → AreReadUpTo {A = A} text file [] rest
 read_none text file rest skips = record {
   trees = [];
-  cuts = record { cuts = []; are_cuts = skips; none_open = refl; flat_is = refl };
+  cuts = record { cuts = []; are_cuts = skips; none_open = refl; flat_is = refl; no_groups = tt };
   leads = λ behind. refl;
 }
 
 -- one literal more
-pub read_more : {A : Type 0} (text : List ℕ) (file : ℕ) (old new : Cutting) (list : List (Lit A)) (lit : Lit A) → old.text ≡ text → AreReadUpTo (chars text) file list (chars old.rest) → ReadsNext file old lit new → AreReadUpTo (chars text) file (list ++ lit ∷ []) (chars new.rest)
-read_more text file old new list lit same read next =
+pub read_more : {A : Type 0} (text : List ℕ) (file : ℕ) (old new : Cutting) (list longer : List (Lit A)) → old.text ≡ text → AreReadUpTo (chars text) file list (chars old.rest) → AddsNext file old list new longer → AreReadUpTo (chars text) file longer (chars new.rest)
+read_more text file old new list longer same read added =
+    let lit = added.lit in
+    let next = added.next in
     let Goes : List ℕ → Type 0 = λ t. (done : List Tree) → CutsInto (chars t) file done (chars old.rest) → CutsInto (chars t) file (done ++ next.trees) (chars new.rest) in
-    let goes : Goes text = subst Goes same next.cuts in record {
+    let goes : Goes text = subst Goes same next.cuts in
+    subst (λ ls. AreReadUpTo (chars text) file ls (chars new.rest)) (sym added.longer_is)
+    (record {
       trees = read.trees ++ next.trees;
       cuts = goes read.trees read.cuts;
       leads = λ behind.
           subst (λ (ts : List Tree). Leads ts (list ++ lit ∷ []) behind) (sym (append_assoc read.trees next.trees behind))
           (leads_step (read.trees ++ (next.trees ++ behind)) list (next.trees ++ behind) lit behind (read.leads (next.trees ++ behind)) (next.front behind));
-    }
+    })
 
 -- all is read
 pub read_whole : {A : Type 0} (text : List ℕ) (file : ℕ) (list : List (Lit A)) (rest : List ℕ) → rest ≡ [] → AreReadUpTo text file list rest → AreRead text file list

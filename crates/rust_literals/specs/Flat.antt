@@ -1,18 +1,24 @@
 -- What is read of a text without groups, as its tokens are cut.
-use Rattle.std.specs.Prelude.{◌≡◌, ℕ, List, [], ◌++◌, map, Some}
+use Rattle.std.specs.Prelude.{◌≡◌, ℕ, List, [], ◌∷◌, ◌++◌, length, map, Some, ⊤}
+use Rattle.std.specs.List.{AllByRecursion}
 use Rattle.std.specs.Str.{chars}
-use Rattle.rl_tokens.specs.Trees.{Tree, flat_trees}
+use Rattle.rl_tokens.specs.Trees.{Tree, GroupTree, flat_trees}
 use Rattle.rl_tokens.specs.Lexing.{Cut, Cuts, open_groups, flat_cut}
 use Rattle.rl_tokens.specs.Cursors.{Cutting}
 use Rattle.rust_literals.specs.declared.lit.Lit.{Lit}
 use Rattle.rust_literals.specs.Parsing.{IsLitFront, Leads}
 
--- The text is cut into these trees up to the rest, where no group is open.
+abbrev pub IsNoGroup : Tree → Type 0
+IsNoGroup (GroupTree delimiter inside span) = ⊥
+IsNoGroup _ = ⊤
+
+-- The text is cut into these trees up to the rest, where no group is open; none of them is a group.
 pub record CutsInto (text : List ℕ) (file : ℕ) (trees : List Tree) (rest : List ℕ) : Type 0 where
   pub cuts : List Cut
   pub are_cuts : Cuts 0 text cuts rest
   pub none_open : open_groups [] cuts ≡ Some []
   pub flat_is : map (flat_cut file) cuts ≡ flat_trees trees
+  pub no_groups : AllByRecursion IsNoGroup trees
 
 -- The trees that are cut off make the literal, whatever stands behind them.
 pub record ReadsNext {A : Type 0} (file : ℕ) (old : Cutting) (lit : Lit A) (new : Cutting) : Type 0 where
@@ -21,8 +27,24 @@ pub record ReadsNext {A : Type 0} (file : ℕ) (old : Cutting) (lit : Lit A) (ne
   pub front : (behind : List Tree) → IsLitFront (trees ++ behind) lit behind
   pub same : new.text ≡ old.text
 
+-- The list grows by the literal that is cut off.
+pub record AddsNext {A : Type 0} (file : ℕ) (old : Cutting) (list : List (Lit A)) (new : Cutting) (longer : List (Lit A)) : Type 0 where
+  pub lit : Lit A
+  pub next : ReadsNext file old lit new
+  pub longer_is : longer ≡ list ++ lit ∷ []
+
 -- The text up to the rest is these literals, whatever trees stand behind.
 pub record AreReadUpTo {A : Type 0} (text : List ℕ) (file : ℕ) (list : List (Lit A)) (rest : List ℕ) : Type 0 where
   pub trees : List Tree
   pub cuts : CutsInto text file trees rest
   pub leads : (behind : List Tree) → Leads (trees ++ behind) list behind
+
+-- The text begins with these literals.
+pub record AreBegun {A : Type 0} (text : List ℕ) (file : ℕ) (list : List (Lit A)) : Type 0 where
+  pub rest : List ℕ
+  pub read : AreReadUpTo text file list rest
+
+-- The text begins with these literals, which are so many.
+pub record AreFirst {A : Type 0} (text : List ℕ) (file count : ℕ) (list : List (Lit A)) : Type 0 where
+  pub begun : AreBegun text file list
+  pub count_is : length list ≡ count

@@ -10,10 +10,11 @@ mod lit_int;
 mod number;
 mod read;
 
+pub use crate::flat::read_next;
 pub use crate::lit::Lit;
 pub use crate::lit_bool::LitBool;
 pub use crate::lit_float::{FloatKind, LitFloat};
 pub use crate::lit_int::{IntKind, LitInt};
 pub use crate::number::{Number, NumberKind};
-pub use crate::read::read_all;
+pub use crate::read::{read_all, read_behind};
 pub use rl_quoted::{LitByte, LitByteStr, LitCStr, LitChar, LitStr};

@@ -1,30 +1,45 @@
 //! The literals of a text.
 
-ghost use Rattle.std.specs.Prelude.{◌≡◌, ◌⊎◌, ℕ, List, [], length, IfOk, IfErr};
+ghost use Rattle.std.specs.Prelude.{◌≡◌, ◌⊎◌, ℕ, List, [], ◌++◌, length, IfOk, IfErr};
 ghost use Rattle.std.specs.Str.{chars};
 ghost use Rattle.rl_tokens.specs.Errors.{lex_refusal};
 ghost use Rattle.rl_tokens.specs.Buffers.{trees_in, scope_of};
+ghost use Rattle.rl_tokens.specs.Trees.{Tree};
 ghost use Rattle.rl_tokens.specs.Printed.{Entry, Printed};
 ghost use Rattle.rust_literals.specs.declared.lit.Lit.{Lit};
 ghost use Rattle.rust_literals.specs.Parsing.{Leads, Stops, RunsShort, AreRead, RefusesText, IsOrMemory};
+ghost use Rattle.rust_literals.specs.Flat.{AreFirst};
 ghost use Rattle.rust_literals.specs.ReadBack.{HoldsOrMemory, AreItems, Spaced, lits_of, Again, AreMoved};
 
 use crate::flat::read_flat;
 use crate::lit::Lit;
+use rl_grammar::Front;
 use rl_tokens::{Error, LexError, ParseBuffer, Span, lex};
 use std::alloc::{Allocator, Global};
 
-/// The literals that the trees are, one after another, up to their end.
-fn read_trees<A: Allocator + Copy>(
+/// Passes the trees of so many literals.
+fn pass<A: Allocator>(input: &mut ParseBuffer<'_, A>, count: usize)
+    ensures passed { (passed : List (Lit A)) (rest : List Tree) → length passed ≡ count
+        → Leads (trees_in input.old) passed rest → trees_in input.new ≡ rest }
+    ensures scope { scope_of input.new ≡ scope_of input.old }
+{
+    for _ in 0..count {
+        let _ = Front::take(input);
+    }
+}
+
+/// The literals of the list, and behind them those that the trees are, one after another, up to their end.
+fn read_on<A: Allocator + Copy>(
     alloc: A,
     input: &mut ParseBuffer<'_, A>,
+    mut list: Vec<Lit<A>, A>,
 ) -> Result<Vec<Lit<A>, A>, Error<A>>
-    ensures read { IfOk result (λ list. Leads (trees_in input.old) list.items []) }
-    ensures refused { IfErr result
-        (λ e. Stops (trees_in input.old) (scope_of input.old) e
-        ⊎ RunsShort (trees_in input.old) (scope_of input.old) e) }
+    // Whatever trees the list led through to these, behind literals that were let go.
+    ensures read { (all : List Tree) (gone : List (Lit A)) → Leads all (gone ++ list.items) (trees_in input.old)
+        → IfOk result (λ found. Leads all (gone ++ found.items) []) }
+    ensures refused { (all : List Tree) (gone : List (Lit A)) → Leads all (gone ++ list.items) (trees_in input.old)
+        → IfErr result (λ e. Stops all (scope_of input.old) e ⊎ RunsShort all (scope_of input.old) e) }
 {
-    let mut list = Vec::new(alloc);
     while !input.is_empty() {
         let literal = input.parse::<Lit<A>>(alloc)?;
         if list.push(literal).is_err() {
@@ -39,6 +54,51 @@ fn refusal_of<A: Allocator>(fault: LexError, file: u32) -> Error<A>
     ensures { result ≡ lex_refusal fault.kind (record { file = file; lo = fault.at; hi = fault.at }) }
 {
     Error::of_lexer(fault.kind, Span::new(file, fault.at, fault.at))
+}
+
+/// The literals of the list, and behind them those of the text behind so many: those that were let go, and the list's.
+fn read_from<A: Allocator + Copy>(
+    alloc: A,
+    text: &str,
+    file: u32,
+    count: usize,
+    list: Vec<Lit<A>, A>,
+) -> Result<Vec<Lit<A>, A>, Error<A>>
+    ensures read { (gone : List (Lit A)) → AreFirst (chars text.now) file count (gone ++ list.items)
+        → IfOk result (λ found. AreRead (chars text.now) file (gone ++ found.items)) }
+    ensures refused { (gone : List (Lit A)) → AreFirst (chars text.now) file count (gone ++ list.items)
+        → IfErr result (RefusesText (chars text.now) file (length text.now)) }
+{
+    let stream = match lex(alloc, text, file) {
+        Ok(stream) => stream,
+        Err(fault) => return Err(refusal_of(fault, file)),
+    };
+    let end = Span::new(file, text.len(), text.len());
+    let mut input = ParseBuffer::new(stream.trees(), end);
+    pass(&mut input, count);
+    read_on(alloc, &mut input, list)
+}
+
+/// The literals of a text behind its first `count`, which [`read_next`] has taken.
+///
+/// # Errors
+///
+/// As [`read_all`] of the whole text.
+///
+/// [`read_next`]: crate::read_next
+pub fn read_behind<A: Allocator + Copy>(
+    alloc: A,
+    text: &str,
+    file: u32,
+    count: usize,
+) -> Result<Vec<Lit<A>, A>, Error<A>>
+    // The text is the first literals and these.
+    ensures read { (first : List (Lit A)) → AreFirst (chars text.now) file count first
+        → IfOk result (λ more. AreRead (chars text.now) file (first ++ more.items)) }
+    ensures refused { (first : List (Lit A)) → AreFirst (chars text.now) file count first
+        → IfErr result (RefusesText (chars text.now) file (length text.now)) }
+{
+    read_from(alloc, text, file, count, Vec::new(alloc))
 }
 
 /// The literals of a text, which is nothing but literals, white space and plain comments. Each is what [`Lit::parse`]
@@ -69,13 +129,8 @@ pub fn read_all<A: Allocator + Copy>(
     ensures again { (spaced : List (Spaced A)) (last : List ℕ) → Again (chars text.now) spaced last
         → HoldsOrMemory (AreMoved (lits_of spaced)) result }
 {
-    if let Some(literals) = read_flat(alloc, text, file) {
-        return Ok(literals);
+    match read_flat(alloc, text, file) {
+        Ok(literals) => Ok(literals),
+        Err(begun) => read_from(alloc, text, file, begun.len(), begun),
     }
-    let stream = match lex(alloc, text, file) {
-        Ok(stream) => stream,
-        Err(fault) => return Err(refusal_of(fault, file)),
-    };
-    let end = Span::new(file, text.len(), text.len());
-    read_trees(alloc, &mut ParseBuffer::new(stream.trees(), end))
 }

@@ -1,0 +1,19 @@
+use Rattle.std.proofs.Common.{◌≡◌, List, ◌++◌, sym, ◌∙◌, ap, subst}
+use Rattle.std.proofs.lemmas.List.{append-nil}
+use Rattle.std.specs.Str.{chars}
+use Rattle.rust_literals.specs.declared.lit.Lit.{Lit}
+use Rattle.rust_literals.specs.Flat.{AreFirst}
+use Rattle.rust_literals.proofs.read.read_behind.Given as given
+use Rattle.rust_literals.proofs.read.read_behind.Goals as goal
+
+-- behind them the list is empty
+none_more : (g : given.Over) (c : goal.After-read_from g) (first : List (Lit g.row.A.Denot)) → AreFirst (chars c.args.text.now) c.args.file c.args.count first → AreFirst (chars c.args.text.now) c.args.file c.args.count (first ++ c.new.result.items)
+none_more g c first are =
+    let none : first ++ c.new.result.items ≡ first = ap (λ xs. first ++ xs) c.new.ensures.items ∙ append-nil first in
+    subst (λ ls. AreFirst (chars c.args.text.now) c.args.file c.args.count ls) (sym none) are
+
+pub returns-clause-read : goal.returns-clause-read
+returns-clause-read g c = λ first are. c.read_from.ensures.read first (none_more g c first are)
+
+pub returns-clause-refused : goal.returns-clause-refused
+returns-clause-refused g c = λ first are. c.read_from.ensures.refused first (none_more g c first are)

@@ -1,0 +1,35 @@
+use Rattle.std.proofs.Common.{◌≡◌, inl, List, ◌++◌, length, map, ◌∙◌, ap, sym, subst}
+use Rattle.std.specs.Str.{chars}
+use Rattle.rl_tokens.specs.Trees.{tree_view, stream_view}
+use Rattle.rl_tokens.specs.Buffers.{trees_in, scope_of}
+use Rattle.rust_literals.specs.declared.lit.Lit.{Lit}
+use Rattle.rust_literals.specs.Parsing.{Leads}
+use Rattle.rust_literals.specs.Flat.{AreFirst}
+use Rattle.rust_literals.proofs.ReadLemmas.{text_read, text_refused}
+use Rattle.rust_literals.proofs.BegunLemmas.{goes_on}
+use Rattle.rust_literals.proofs.read.read_from.Given as given
+use Rattle.rust_literals.proofs.read.read_from.Goals as goal
+
+pub returns-in-Err-clause-refused : goal.returns-in-Err-clause-refused
+returns-in-Err-clause-refused g c = λ gone first. inl (record {
+  kind = c.in-Err.fault.kind;
+  at = c.in-Err.fault.at;
+  refused = c.in-Err.ensures.refused;
+  error = c.refusal_of.ensures;
+})
+
+led : (g : given.Over) (c : goal.After-drop-stream g) (gone : List (Lit g.row.A.Denot)) → AreFirst (chars c.args.text.now) c.args.file c.args.count (gone ++ c.args.list.items) → Leads (stream_view c.in-Ok.stream) (gone ++ c.args.list.items) (trees_in c.pass.new.input)
+led g c gone first =
+    let list = gone ++ c.args.list.items in
+    let all : trees_in c.new-input.result ≡ stream_view c.in-Ok.stream = c.new-input.ensures.trees ∙ ap (map tree_view) c.trees.ensures in
+    let (behind, leads) = goes_on (chars c.args.text.now) c.args.file list (stream_view c.in-Ok.stream) first.begun c.in-Ok.ensures.trees in
+    let here : Leads (trees_in c.new-input.result) list behind = subst (λ ts. Leads ts list behind) (sym all) leads in
+    subst (λ rest. Leads (stream_view c.in-Ok.stream) list rest) (sym (c.pass.ensures.passed list behind first.count_is here)) leads
+
+pub returns-clause-read : goal.returns-clause-read
+returns-clause-read g c = λ gone first.
+    text_read (chars c.args.text.now) c.args.file (stream_view c.in-Ok.stream) gone c.read_on.result c.in-Ok.ensures.trees (c.read_on.ensures.read _ gone (led g c gone first))
+
+pub returns-clause-refused : goal.returns-clause-refused
+returns-clause-refused g c = λ gone first.
+    text_refused (chars c.args.text.now) c.args.file (length c.args.text.now) (stream_view c.in-Ok.stream) (scope_of c.pass.new.input) c.read_on.result c.in-Ok.ensures.trees (c.pass.ensures.scope ∙ c.new-input.ensures.scope ∙ c.new-end.ensures) (c.read_on.ensures.refused _ gone (led g c gone first))
