@@ -8,6 +8,7 @@ use Rattle.rl_tokens.specs.Cursors.{Cutting}
 use Rattle.rust_literals.specs.declared.lit.Lit.{Lit}
 use Rattle.rust_literals.specs.Parsing.{IsLitFront, Leads}
 
+-- the tree is one token
 abbrev pub IsNoGroup : Tree → Type 0
 IsNoGroup (GroupTree delimiter inside span) = ⊥
 IsNoGroup _ = ⊤

@@ -53,9 +53,9 @@ fn put<A: Allocator>(list: &mut Vec<Lit<A>, A>, literal: Lit<A>) -> Option<()>
 }
 
 /// Puts the literal that the next tokens are at the list's end. `None` where they are none, and where memory is refused;
-/// the list stays then, and [`read_behind`] tells why, or goes on.
+/// the list stays then, the cursor may not, and [`read_behind`] tells why, or goes on.
 ///
-/// A list that is long needn't be held: where each literal is let go before the next is taken, the memory is that of one.
+/// So a long list needn't be held: where each literal is let go before the next is taken, the memory is that of one.
 ///
 /// [`read_behind`]: crate::read_behind
 pub fn read_next<A: Allocator + Copy>(
