@@ -30,11 +30,13 @@ fn text_of<A: Allocator>(bytes: &[u8]) -> Result<&str, Fault<A>>
     }
 }
 
-/// The whole text as one token.
-fn token_of<A: Allocator + Copy>(alloc: A, text: &str) -> Result<Literal<A>, Fault<A>>
-    ensures token { IfOk result (λ token. token ≡ whole_token text.now) }
-    ensures memory { IfErr result (λ fault. fault ≡ Memory) }
+/// The whole input as one token. The input is let go.
+fn token_of<A: Allocator + Copy>(alloc: A, bytes: Vec<u8, A>) -> Result<Literal<A>, Fault<A>>
+    ensures utf8 { OnOk result (IsUtf8 bytes.items) }
+    ensures token { IfOk result (λ token. token ≡ whole_token bytes.items) }
+    ensures refusal { IfErr result (IsRefusalOf Text bytes.items) }
 {
+    let text = text_of(bytes.as_slice())?;
     let span = Span::new(0, 0, text.len());
     match Literal::from_text(alloc, text, span) {
         Ok(token) => Ok(token),
@@ -54,12 +56,13 @@ fn literal_of<A: Allocator + Copy>(alloc: A, token: Literal<A>) -> Result<Lit<A>
     }
 }
 
-/// The line of the whole text as one literal.
-fn literal_line<A: Allocator + Copy>(alloc: A, text: &str) -> Result<String<A>, Fault<A>>
-    ensures line { IfOk result (λ line. Shows Text (chars text.now) (chars (string_bytes line))) }
-    ensures refusal { IfErr result (IsRefusalOf Text text.now) }
+/// The line of the whole input as one literal.
+fn literal_line<A: Allocator + Copy>(alloc: A, bytes: Vec<u8, A>) -> Result<String<A>, Fault<A>>
+    ensures utf8 { OnOk result (IsUtf8 bytes.items) }
+    ensures line { IfOk result (λ line. Shows Text (chars bytes.items) (chars (string_bytes line))) }
+    ensures refusal { IfErr result (IsRefusalOf Text bytes.items) }
 {
-    let token = token_of(alloc, text)?;
+    let token = token_of(alloc, bytes)?;
     let literal = literal_of(alloc, token)?;
     let line = line_of(alloc, &literal)?;
     Ok(line)
@@ -69,17 +72,16 @@ fn literal_line<A: Allocator + Copy>(alloc: A, text: &str) -> Result<String<A>, 
 fn lines_of_input<A: Allocator + Copy>(
     alloc: A,
     command: Command,
-    bytes: &[u8],
+    bytes: Vec<u8, A>,
 ) -> Result<String<A>, Fault<A>>
-    ensures utf8 { OnOk result (IsUtf8 bytes.now) }
+    ensures utf8 { OnOk result (IsUtf8 bytes.items) }
     ensures lines { IfOk result
-        (λ lines. Shows command (chars bytes.now) (chars (string_bytes lines))) }
-    ensures refusal { IfErr result (IsRefusalOf command bytes.now) }
+        (λ lines. Shows command (chars bytes.items) (chars (string_bytes lines))) }
+    ensures refusal { IfErr result (IsRefusalOf command bytes.items) }
 {
-    let text = text_of(bytes)?;
     match command {
-        Command::Text => literal_line(alloc, text),
-        Command::Read => literal_lines(alloc, text),
+        Command::Text => literal_line(alloc, bytes),
+        Command::Read => literal_lines(alloc, text_of(bytes.as_slice())?),
     }
 }
 
@@ -101,7 +103,7 @@ pub fn run<A: Allocator + Copy, R: Read, W: Write>(
         (IsFaultOf command (R.remaining input.old) (W.contents out.old) (W.contents out.new)) }
 {
     let bytes = read_whole(alloc, input)?;
-    let lines = match lines_of_input(alloc, command, bytes.as_slice()) {
+    let lines = match lines_of_input(alloc, command, bytes) {
         Ok(lines) => lines,
         Err(fault) => return Err(fault),
     };
