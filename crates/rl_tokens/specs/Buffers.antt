@@ -66,6 +66,12 @@ pub record IsRest (before left : List Tree) : Type 0 where
   pub taken : List Tree
   pub are : before ≡ taken ++ left
 
+-- The buffer stands where it stood before.
+pub record IsPutBack {A : Type 0} (before after : ParseBuffer A) : Type 0 where
+  pub trees : trees_in after ≡ trees_in before
+  pub scope : scope_of after ≡ scope_of before
+  pub rest : IsRest (trees_in before) (trees_in after)
+
 -- the kind of a refusal where this word was expected before these trees
 abbrev pub MissesWord : {A : Type 0} → List Tree → List ℕ → ErrorKind A → Type 0
 MissesWord [] word (EndOfInput w) = w.now ≡ word
