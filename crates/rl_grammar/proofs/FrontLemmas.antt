@@ -71,10 +71,6 @@ front_shorter (GroupTree d inside at ∷ trees) token rest h = absurd h
 pub front_of : (kind : Kind) (trees : List Tree) (token : Token) (rest : List Tree) → IsFront trees token rest → ReadsAs kind (chars token.text) → IsFrontOf kind trees token rest
 front_of kind trees token rest h r = record { front = h; reads = r; shorter = front_shorter trees token rest h }
 
--- where no literal begins the trees, none of a kind does
-pub none_of : (kind : Kind) (trees : List Tree) → HasNoFront trees → HasFrontOf kind trees → ⊥
-none_of kind trees none (token, rest, of) = none token rest of.front
-
 -- a text reads as one kind
 pub one_kind : (t : List ℕ) (k l : Kind) → ReadsAs k t → ReadsAs l t → k ≡ l
 one_kind t k l (v, x, r) (w, y, s) = (one_reading t k l v w x y r s).0
