@@ -3,16 +3,25 @@
 use Rattle.std.specs.Prelude.{◌≡◌, ◌≢◌, ◌⊎◌, ℕ, List, [], length, Result, Ok, Err}
 use Rattle.std.specs.Str.{chars}
 use Rattle.rl_tokens.specs.declared.span.Span.{Span}
+use Rattle.rl_tokens.specs.declared.lex_error.LexKind.{LexKind}
 use Rattle.rl_tokens.specs.declared.error.ErrorKind.TheVariants.{Unexpected}
 use Rattle.rl_tokens.specs.declared.error.Error.{Error}
+use Rattle.rl_tokens.specs.Errors.{lex_refusal}
 use Rattle.rl_tokens.specs.Trees.{Tree}
-use Rattle.rl_tokens.specs.Lexing.{Lexes}
+use Rattle.rl_tokens.specs.Lexing.{Lexes, Refuses}
 use Rattle.rl_tokens.specs.Buffers.{first_span}
-use Rattle.rust_literals.specs.Parsing.{IsUncutText}
 
 -- the span of no bytes at a place
 abbrev pub place_at : ℕ → ℕ → Span
 place_at file at = record { file = file; lo = at; hi = at }
+
+-- The text can't be cut: its first fault, or want of memory for the token there, told at its place. Here a text is its
+-- characters.
+pub record IsUncutText {A : Type 0} (text : List ℕ) (file : ℕ) (e : Error A) : Type 0 where
+  pub kind : LexKind
+  pub at : ℕ
+  pub refused : Refuses text kind at
+  pub error : e ≡ lex_refusal kind (place_at file at)
 
 -- The parser, by what it means, makes a value of the first trees and leaves others: this is told at the first of them.
 pub record LeavesTrees {T A : Type 0} (runs : List Tree → Span → Result T (Error A) → List Tree → Type 0) (trees : List Tree) (scope : Span) (e : Error A) : Type 0 where

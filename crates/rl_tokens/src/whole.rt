@@ -4,10 +4,14 @@ ghost use Rattle.std.specs.Prelude.{[], IfOk, IfErr, Ok};
 ghost use Rattle.std.specs.Str.{chars};
 ghost use Rattle.rl_tokens.specs.Lexing.{Lexes};
 ghost use Rattle.rl_tokens.specs.Trees.{stream_view};
-ghost use Rattle.rust_literals.specs.Parsing.{IsUncutText};
-ghost use Rattle.rl_uses.specs.Whole.{RefusesTrees, ParsesAll, RefusesAll};
+ghost use Rattle.rl_tokens.specs.Whole.{IsUncutText, RefusesTrees, ParsesAll, RefusesAll};
 
-use rl_tokens::{Error, ErrorKind, Parse, ParseBuffer, Span, TokenStream, lex};
+use crate::buffer::ParseBuffer;
+use crate::error::{Error, ErrorKind};
+use crate::lexer::lex;
+use crate::parse::Parse;
+use crate::span::Span;
+use crate::token::TokenStream;
 use std::alloc::Allocator;
 
 /// The trees of a text.
@@ -38,19 +42,18 @@ fn parse_trees<T: Parse<A> + Drop, A: Allocator>(
     ensures refused { IfErr result (RefusesTrees T.runs (stream_view stream.now) scope) }
 {
     let mut input = ParseBuffer::new(stream.trees(), scope);
-    let value = input.parse::<T>(alloc)?;
+    let value = T::parse(alloc, &mut input)?;
     if !input.is_empty() {
-        return Err(Error {
-            span: input.span(),
-            kind: ErrorKind::Unexpected,
-        });
+        return Err(Error::new(input.span(), ErrorKind::Unexpected));
     }
     Ok(value)
 }
 
 /// Parses all of a text as one value of a type that says how.
 ///
-/// The refusals come in this order: the lexer's, as `Lex` with the span of no bytes at its place (its want of memory as
+/// # Errors
+///
+/// In this order: the lexer's, as `Lex` with the span of no bytes at its place (its want of memory as
 /// `Memory` there); the parser's own, whose scope is the span of no bytes at the text's end; and `Unexpected` at the
 /// first tree that is left over. Spans have the file and bytes of the text.
 pub fn parse_all<T: Parse<A> + Drop, A: Allocator + Copy>(
