@@ -64,9 +64,9 @@ ascii_xid_continue c low = is_xid_continue-ascii c low
 pub start_is_plain : (c : ℕ) → c < 128 → is_start c ≡ (c == 95 || is_xid_start c)
 start_is_plain c low =
     plain (c == 95 || is_xid_start c) (is_white c)
-      (λ is. no_white c (start_low c (ap (λ b. c == 95 || b) (sym (ascii_xid_start c low)) ∙ is)) low)
+    (λ is. no_white c (start_low c (ap (λ b. c == 95 || b) (sym (ascii_xid_start c low)) ∙ is)) low)
 
 pub continue_is_plain : (c : ℕ) → c < 128 → is_continue c ≡ is_xid_continue c
 continue_is_plain c low =
     plain (is_xid_continue c) (is_white c)
-      (λ is. no_white c (continue_low c (sym (ascii_xid_continue c low) ∙ is)) low)
+    (λ is. no_white c (continue_low c (sym (ascii_xid_continue c low) ∙ is)) low)

@@ -46,5 +46,6 @@ pub mod StrictNumberLexemes
 pub mod PrintedLaws
 pub mod PrintedAnswers
 pub mod TreeRests
+pub mod MarkLemmas
 pub mod LaneLemmas
 pub mod ScanLemmas

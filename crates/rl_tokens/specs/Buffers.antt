@@ -1,10 +1,11 @@
 -- What contracts see of a buffer of trees: the trees that are left, and the scope.
-use Rattle.std.specs.Prelude.{◌≡◌, ℕ, Bool, true, false, List, [], ◌∷◌, ◌++◌, map}
+use Rattle.std.specs.Prelude.{◌≡◌, ℕ, ◌==◌, Bool, true, false, List, [], ◌∷◌, ◌++◌, map}
 use Rattle.rl_tokens.specs.declared.span.Span.{Span}
 use Rattle.rl_tokens.specs.declared.error.ErrorKind.{ErrorKind}
 use Rattle.rl_tokens.specs.declared.error.ErrorKind.TheVariants.{Expected, EndOfInput}
 use Rattle.rl_tokens.specs.declared.error.Error.{Error}
 use Rattle.rl_tokens.specs.declared.buffer.ParseBuffer.{ParseBuffer}
+use Rattle.rl_tokens.specs.Puncts.{Mark}
 use Rattle.rl_tokens.specs.Trees.{Tree, GroupTree, IdentTree, PunctTree, LiteralTree, tree_view}
 
 -- the trees that are left
@@ -48,10 +49,28 @@ begins_group [] = false
 begins_group (GroupTree d inside span ∷ ts) = true
 begins_group (_ ∷ ts) = false
 
+-- whether the first tree is this character of punctuation
+abbrev pub begins_mark : ℕ → List Tree → Bool
+begins_mark ch [] = false
+begins_mark ch (PunctTree m ∷ ts) = m.ch == ch
+begins_mark ch (_ ∷ ts) = false
+
+-- The trees begin with this character of punctuation, and the rest stands behind it.
+pub record IsBehindMark (ch : ℕ) (trees rest : List Tree) : Type 0 where
+  pub mark : Mark
+  pub trees_are : trees ≡ PunctTree mark ∷ rest
+  pub is : mark.ch ≡ ch
+
 -- The trees are what is left of those before.
 pub record IsRest (before left : List Tree) : Type 0 where
   pub taken : List Tree
   pub are : before ≡ taken ++ left
+
+-- The buffer stands where it stood before.
+pub record IsPutBack {A : Type 0} (before after : ParseBuffer A) : Type 0 where
+  pub trees : trees_in after ≡ trees_in before
+  pub scope : scope_of after ≡ scope_of before
+  pub rest : IsRest (trees_in before) (trees_in after)
 
 -- the kind of a refusal where this word was expected before these trees
 abbrev pub MissesWord : {A : Type 0} → List Tree → List ℕ → ErrorKind A → Type 0

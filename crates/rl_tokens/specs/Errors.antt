@@ -4,7 +4,7 @@ use Rattle.rl_tokens.specs.declared.span.Span.{Span}
 use Rattle.rl_tokens.specs.declared.lex_error.LexKind.{LexKind}
 use Rattle.rl_tokens.specs.declared.lex_error.LexKind.TheVariants.{Memory as LexMemory}
 use Rattle.rl_tokens.specs.declared.error.ErrorKind.{ErrorKind}
-use Rattle.rl_tokens.specs.declared.error.ErrorKind.TheVariants.{Expected, EndOfInput, Unexpected, Lex, Suffix, NotInteger, TooLarge, NotFloat, Number, Memory}
+use Rattle.rl_tokens.specs.declared.error.ErrorKind.TheVariants.{Expected, EndOfInput, Unexpected, Lex, Suffix, NotInteger, TooLarge, NotFloat, Repeated, Number, Memory}
 use Rattle.rl_tokens.specs.declared.error.Error.{Error}
 use Rattle.rl_tokens.specs.LexErrors.{lex_message}
 
@@ -18,6 +18,7 @@ message_of (Suffix suffix) = codes "unexpected suffix `" ++ string_bytes suffix 
 message_of NotInteger = codes "not an integer literal"
 message_of TooLarge = codes "integer literal past 128 bits"
 message_of NotFloat = codes "not a float literal"
+message_of Repeated = codes "repeated name"
 message_of (Number words) = string_bytes words
 message_of Memory = codes "out of memory"
 

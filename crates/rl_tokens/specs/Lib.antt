@@ -23,3 +23,4 @@ pub mod Cursors
 pub mod Nests
 pub mod Printed
 pub mod Scanning
+pub mod Whole

@@ -1,11 +1,11 @@
 //! A buffer of trees that parsers go over.
 
-ghost use Rattle.std.specs.Prelude.{◌≡◌, ◌∷◌, [], map, IsTrue, IsFalse, ◌↔◌, IfSome, IfNone};
+ghost use Rattle.std.specs.Prelude.{◌≡◌, ◌∷◌, [], map, IsTrue, IsFalse, ◌↔◌, IfSome, IfNone, OnOk, OnErr, IfOk, IfErr};
 
 use crate::error::{Error, ErrorKind};
 use crate::ident::Ident;
 use crate::literal::Literal;
-use crate::punct::Punct;
+use crate::punct::{Punct, word_of};
 use crate::span::Span;
 use crate::token::{Group, TokenTree};
 use std::alloc::{Allocator, Global};
@@ -39,9 +39,12 @@ impl<'a, A: Allocator> ParseBuffer<'a, A> {
       begins_ident,
       begins_punct,
       begins_group,
+      begins_mark,
+      IsBehindMark,
       IsRefusal,
       IsRest,
     };
+    ghost use Rattle.rl_tokens.specs.Puncts.{is_punct, mark_word};
 
     /// The buffer of these trees.
     pub fn new(trees: &'a [TokenTree<A>], scope: Span) -> ParseBuffer<'a, A>
@@ -141,6 +144,57 @@ impl<'a, A: Allocator> ParseBuffer<'a, A> {
             }
             _ => None,
         }
+    }
+
+    /// Whether this character of punctuation stands next. The buffer stays.
+    #[tactic(auto, using(crate::proofs::MarkLemmas::no_mark))]
+    pub fn peek_punct(&self, ch: char) -> bool
+        ensures { result ≡ begins_mark ch (trees_in self.now) }
+    {
+        match self.fork().punct() {
+            Some(punct) => punct.as_char() == ch,
+            None => false,
+        }
+    }
+
+    /// Takes this character of punctuation ([`Punct::is_char`] tells which are), and lends its token.
+    ///
+    /// # Errors
+    ///
+    /// Where it doesn't stand next, `Expected` at the next tree, at the end `EndOfInput` at the scope, with the word of
+    /// the character between backticks, as in ``expected `=` ``. The buffer stays.
+    pub fn take_punct(&mut self, ch: char) -> Result<&'a Punct, Error<A>>
+        requires { IsTrue (is_punct ch) }
+        ensures taken { OnOk result (IsBehindMark ch (trees_in self.old) (trees_in self.new)) }
+        ensures lent { IfOk result
+            (λ x. trees_in self.old ≡ PunctTree x.now ∷ trees_in self.new) }
+        ensures left { OnErr result (trees_in self.new ≡ trees_in self.old) }
+        ensures other { OnErr result (IsFalse (begins_mark ch (trees_in self.old))) }
+        ensures refused { IfErr result
+            (IsRefusal (trees_in self.old) (scope_of self.old) (mark_word ch)) }
+        ensures rest { IsRest (trees_in self.old) (trees_in self.new) }
+        ensures scope { scope_of self.new ≡ scope_of self.old }
+    {
+        match self.mark(ch) {
+            Some(punct) => Ok(punct),
+            None => Err(self.error(word_of(ch))),
+        }
+    }
+
+    /// Takes this character of punctuation where it stands next; else the buffer stays.
+    #[tactic(auto, using(crate::proofs::MarkLemmas::no_mark))]
+    fn mark(&mut self, ch: char) -> Option<&'a Punct>
+        ensures taken { IfSome result
+            (λ x. (trees_in self.old ≡ PunctTree x.now ∷ trees_in self.new) × (x.now.ch ≡ ch)) }
+        ensures left { IfNone result (trees_in self.new ≡ trees_in self.old) }
+        ensures other { IfNone result (IsFalse (begins_mark ch (trees_in self.old))) }
+        ensures rest { IsRest (trees_in self.old) (trees_in self.new) }
+        ensures scope { scope_of self.new ≡ scope_of self.old }
+    {
+        if !self.peek_punct(ch) {
+            return None;
+        }
+        self.punct()
     }
 
     /// Takes the next tree where it is a group; else the buffer stays.

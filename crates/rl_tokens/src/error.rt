@@ -5,7 +5,7 @@ ghost use Rattle.rl_tokens.specs.Errors.{message_of};
 
 use crate::lex_error::LexKind;
 use crate::span::Span;
-use std::alloc::{Allocator, Global};
+use std::alloc::{AllocError, Allocator, Global};
 use std::fmt;
 
 /// What was refused, and where.
@@ -38,6 +38,8 @@ pub enum ErrorKind<A: Allocator = Global> {
     TooLarge,
     /// The text has no float reading.
     NotFloat,
+    /// The name stood before.
+    Repeated,
     /// A number type refused the digits, in these words of its own.
     Number(String<A>),
     /// Memory was wanted and refused.
@@ -46,6 +48,13 @@ pub enum ErrorKind<A: Allocator = Global> {
 
 impl<A: Allocator> Error<A> {
     ghost use Rattle.rl_tokens.specs.Errors.{memory_at, lex_refusal};
+
+    /// The refusal of this kind, told at a span.
+    pub fn new(span: Span, kind: ErrorKind<A>) -> Error<A>
+        ensures { result ≡ record { span = span; kind = kind } }
+    {
+        Error { span, kind }
+    }
 
     /// Want of memory, told at a span.
     pub fn memory(span: Span) -> Error<A>
@@ -71,6 +80,18 @@ impl<A: Allocator> Error<A> {
     }
 }
 
+/// std's want of memory, which has no place: `Memory` at [`Span::call_site`].
+impl<A: Allocator> From<AllocError> for Error<A> {
+    ghost use Rattle.std.specs.Prelude.{◌≡◌};
+    ghost use Rattle.rl_tokens.specs.Errors.{memory_at, nowhere};
+
+    ghost from_gives = { λ refused error. error ≡ memory_at nowhere };
+
+    fn from(_refused: AllocError) -> Error<A> {
+        Error::memory(Span::call_site())
+    }
+}
+
 impl<A: Allocator> fmt::Display for ErrorKind<A> {
     ghost output = { λ kind. Some (message_of kind) };
 
@@ -87,6 +108,7 @@ impl<A: Allocator> fmt::Display for ErrorKind<A> {
             ErrorKind::NotInteger => write!(f, "not an integer literal"),
             ErrorKind::TooLarge => write!(f, "integer literal past 128 bits"),
             ErrorKind::NotFloat => write!(f, "not a float literal"),
+            ErrorKind::Repeated => write!(f, "repeated name"),
             ErrorKind::Number(words) => write!(f, "{words}"),
             ErrorKind::Memory => write!(f, "out of memory"),
         }

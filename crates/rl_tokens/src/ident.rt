@@ -20,9 +20,7 @@ pub fn xid_ok(text: &str) -> bool
     ensures { result ≡ xid_ok (chars text.now) }
 {
     match split_char(text) {
-        Some((first, rest)) => {
-            (first == '_' || is_xid_start(first)) && all_continue(rest)
-        }
+        Some((first, rest)) => { (first == '_' || is_xid_start(first)) && all_continue(rest) }
         None => false,
     }
 }
@@ -80,6 +78,18 @@ impl<A: Allocator> Ident<A> {
         ensures { result ≡ self.now.span }
     {
         self.span
+    }
+
+    /// The token once more, with its memory from this allocator.
+    ///
+    /// # Errors
+    ///
+    /// `Memory` at the token's span.
+    pub fn clone<B: Allocator>(&self, alloc: B) -> Result<Ident<B>, Error<B>>
+        ensures ok { IfOk result (λ i. i ≡ self.now) }
+        ensures memory { IfErr result (λ e. e ≡ memory_at self.now.span) }
+    {
+        Ident::new(alloc, self.text(), self.span)
     }
 
     /// Puts the token elsewhere.

@@ -1,7 +1,7 @@
 //! Punctuation tokens.
 
 ghost use Rattle.std.specs.Prelude.{◌≡◌, IsTrue};
-ghost use Rattle.rl_tokens.specs.Puncts.{is_punct};
+ghost use Rattle.rl_tokens.specs.Puncts.{is_punct, mark_word};
 
 use crate::span::Span;
 use std::marker::Model;
@@ -82,5 +82,35 @@ impl Punct {
         ensures { self.new ≡ record self.old { span = span } }
     {
         self.span = span;
+    }
+}
+
+/// What a character of punctuation is called in refusals: itself between two backticks.
+pub(crate) fn word_of(ch: char) -> &'static str
+    requires { IsTrue (is_punct ch) }
+    ensures { result.now ≡ mark_word ch }
+{
+    match ch {
+        '~' => "`~`",
+        '!' => "`!`",
+        '@' => "`@`",
+        '#' => "`#`",
+        '$' => "`$`",
+        '%' => "`%`",
+        '^' => "`^`",
+        '&' => "`&`",
+        '*' => "`*`",
+        '-' => "`-`",
+        '=' => "`=`",
+        '+' => "`+`",
+        '|' => "`|`",
+        ';' => "`;`",
+        ':' => "`:`",
+        ',' => "`,`",
+        '<' => "`<`",
+        '.' => "`.`",
+        '>' => "`>`",
+        '/' => "`/`",
+        _ => "`?`",
     }
 }

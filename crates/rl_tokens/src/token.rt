@@ -2,6 +2,7 @@
 
 ghost use Rattle.std.specs.Prelude.{◌≡◌, ◌++◌, ◌∷◌, [], map, OnOk, OnErr, IfErr};
 
+use crate::buffer::ParseBuffer;
 use crate::error::Error;
 use crate::ident::Ident;
 use crate::kept::Kept;
@@ -94,7 +95,15 @@ impl<A: Allocator> TokenTree<A> {
 }
 
 impl<A: Allocator> Group<A> {
-    ghost use Rattle.rl_tokens.specs.Trees.{delimiter_of, stream_of, group_span, stream_view, respanned};
+    ghost use Rattle.rl_tokens.specs.Trees.{
+      delimiter_of,
+      stream_of,
+      group_span,
+      closer_span,
+      stream_view,
+      respanned,
+    };
+    ghost use Rattle.rl_tokens.specs.Buffers.{trees_in, scope_of};
 
     /// The group of these trees.
     pub fn new(delimiter: Delimiter, stream: TokenStream<A>, span: Span) -> Group<A>
@@ -121,6 +130,16 @@ impl<A: Allocator> Group<A> {
         ensures { result.now ≡ stream_of self.now }
     {
         &self.stream
+    }
+
+    /// A buffer of the trees inside, whose end is told at the group's closer: at its last byte.
+    pub fn inside(&self) -> ParseBuffer<'_, A>
+        ensures trees { trees_in result ≡ stream_view (stream_of self.now) }
+        ensures scope { scope_of result ≡ closer_span (group_span self.now) }
+    {
+        let hi = self.span.hi();
+        let closer = Span::new(self.span.file(), hi.saturating_sub(1), hi);
+        ParseBuffer::new(self.stream.trees(), closer)
     }
 
     /// Where the group stands, from its opener to its closer.

@@ -1,0 +1,13 @@
+-- Characters of punctuation at the front of trees.
+use Rattle.std.proofs.Common.{◌≡◌, ℕ, false, List, [], ◌∷◌, refl}
+use Rattle.std.specs.Prelude.{IsFalse}
+use Rattle.rl_tokens.specs.Trees.{Tree, GroupTree, IdentTree, PunctTree, LiteralTree}
+use Rattle.rl_tokens.specs.Buffers.{begins_punct, begins_mark}
+
+-- where no punctuation stands, this character doesn't
+pub no_mark : (ch : ℕ) (trees : List Tree) → IsFalse (begins_punct trees) → begins_mark ch trees ≡ false
+no_mark ch [] h = refl
+no_mark ch (GroupTree d inside at ∷ ts) h = refl
+no_mark ch (IdentTree i ∷ ts) h = refl
+no_mark ch (PunctTree m ∷ ts) h = absurd (cc)
+no_mark ch (LiteralTree l ∷ ts) h = refl

@@ -1,0 +1,70 @@
+//! A whole text as one value.
+
+ghost use Rattle.std.specs.Prelude.{[], IfOk, IfErr, Ok};
+ghost use Rattle.std.specs.Str.{chars};
+ghost use Rattle.rl_tokens.specs.Lexing.{Lexes};
+ghost use Rattle.rl_tokens.specs.Trees.{stream_view};
+ghost use Rattle.rl_tokens.specs.Whole.{IsUncutText, RefusesTrees, ParsesAll, RefusesAll};
+
+use crate::buffer::ParseBuffer;
+use crate::error::{Error, ErrorKind};
+use crate::lexer::lex;
+use crate::parse::Parse;
+use crate::span::Span;
+use crate::token::TokenStream;
+use std::alloc::Allocator;
+
+/// The trees of a text.
+fn trees_of_text<A: Allocator + Copy>(
+    alloc: A,
+    text: &str,
+    file: u32,
+) -> Result<TokenStream<A>, Error<A>>
+    ensures ok { IfOk result (λ s. Lexes (chars text.now) file (stream_view s)) }
+    ensures refused { IfErr result (IsUncutText (chars text.now) file) }
+{
+    match lex(alloc, text, file) {
+        Ok(stream) => Ok(stream),
+        Err(fault) => {
+            let at = Span::new(file, fault.at, fault.at);
+            Err(Error::of_lexer(fault.kind, at))
+        }
+    }
+}
+
+/// Parses all of the trees as one value. Their end is told at the scope.
+fn parse_trees<T: Parse<A> + Drop, A: Allocator>(
+    alloc: A,
+    stream: &TokenStream<A>,
+    scope: Span,
+) -> Result<T, Error<A>>
+    ensures parsed { IfOk result (λ x. T.runs (stream_view stream.now) scope (Ok x) []) }
+    ensures refused { IfErr result (RefusesTrees T.runs (stream_view stream.now) scope) }
+{
+    let mut input = ParseBuffer::new(stream.trees(), scope);
+    let value = input.parse::<T>(alloc)?;
+    if !input.is_empty() {
+        return Err(Error::new(input.span(), ErrorKind::Unexpected));
+    }
+    Ok(value)
+}
+
+/// Parses all of a text as one value of a type that says how.
+///
+/// # Errors
+///
+/// In this order: the lexer's, as `Lex` with the span of no bytes at its place (its want of memory as
+/// `Memory` there); the parser's own, whose scope is the span of no bytes at the text's end; and `Unexpected` at the
+/// first tree that is left over. Spans have the file and bytes of the text.
+pub fn parse_all<T: Parse<A> + Drop, A: Allocator + Copy>(
+    alloc: A,
+    text: &str,
+    file: u32,
+) -> Result<T, Error<A>>
+    ensures parsed { IfOk result (ParsesAll T.runs text.now file) }
+    ensures refused { IfErr result (RefusesAll T.runs text.now file) }
+{
+    let stream = trees_of_text(alloc, text, file)?;
+    let end = Span::new(file, text.len(), text.len());
+    parse_trees(alloc, &stream, end)
+}
