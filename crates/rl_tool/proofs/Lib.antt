@@ -1,3 +1,4 @@
 pub mod StreamLemmas
 pub mod RunLemmas
 pub mod ListLemmas
+pub mod AttributeLemmas

@@ -5,7 +5,7 @@ use Rattle.std.proofs.lemmas.List.{take-append-drop, append_cancel_right}
 use Rattle.rl_tokens.specs.declared.kind.Kind.{Kind}
 use Rattle.rl_tokens.specs.declared.kind.Kind.TheVariants.{Str, ByteStr, CStr, Byte, Char, Int, Float, Bool}
 use Rattle.rl_tokens.specs.declared.error.ErrorKind.{ErrorKind}
-use Rattle.rl_tokens.specs.declared.error.ErrorKind.TheVariants.{Expected, EndOfInput, Unexpected, Lex, Suffix, NotInteger, TooLarge, NotFloat, Number, Memory}
+use Rattle.rl_tokens.specs.declared.error.ErrorKind.TheVariants.{Expected, EndOfInput, Unexpected, Lex, Suffix, NotInteger, TooLarge, NotFloat, Repeated, Number, Memory}
 use Rattle.rl_tokens.specs.declared.error.Error.{Error}
 use Rattle.rl_tokens.specs.declared.span.Span.{Span}
 use Rattle.rl_tokens.specs.Errors.{memory_at}
@@ -145,6 +145,7 @@ no_number_plain Int text Unexpected none p = absurd none
 no_number_plain Int text (Lex l) none p = absurd none
 no_number_plain Int text (Suffix x) none p = absurd none
 no_number_plain Int text NotFloat none p = absurd none
+no_number_plain Int text Repeated none p = absurd none
 no_number_plain Int text (Number w) none p = absurd none
 no_number_plain Int text Memory none p = absurd none
 no_number_plain Float text (Expected w) none p = absurd none
@@ -155,6 +156,7 @@ no_number_plain Float text (Suffix x) none p = absurd none
 no_number_plain Float text NotInteger none p = absurd none
 no_number_plain Float text TooLarge none p = absurd none
 no_number_plain Float text NotFloat none p = none (chars p.body) p.suffix p.reads.0
+no_number_plain Float text Repeated none p = absurd none
 no_number_plain Float text (Number w) none p = absurd none
 no_number_plain Float text Memory none p = absurd none
 no_number_plain Str text reason none p = absurd none
