@@ -1,5 +1,5 @@
 -- Attributes at the front of trees, one after another.
-use Rattle.std.proofs.Common.{◌≡◌, ◌≢◌, inl, inr, ℕ, ◌<◌, ◌≤◌, Bool, true, false, cond, List, [], ◌∷◌, ◌++◌, length, length-append, append-nil, append_assoc, map, refl, sym, ◌∙◌, ap, subst, arith}
+use Rattle.std.proofs.Common.{◌≡◌, ◌≢◌, inl, inr, ℕ, ◌<◌, ◌≤◌, Bool, true, false, ◌||◌, cond, List, [], ◌∷◌, ◌++◌, length, length-append, append-nil, append_assoc, map, refl, sym, ◌∙◌, ap, subst, arith}
 use Rattle.std.specs.Prelude.{IsTrue, IsFalse}
 use Rattle.std.specs.Cmp.Lexicographic.{nat_list_eq_equiv}
 use Rattle.std.specs.List.{list_any, IsDistinct, AllByRecursion}
@@ -26,7 +26,7 @@ no_attribute attribute rest h = let e = h.named in absurd (cc)
 
 none_listed : (list : List Attribute) → AreListed [] list → list ≡ []
 none_listed [] h = refl
-none_listed (a ∷ as) (b, i, c) = absurd (no_attribute a b i)
+none_listed (a ∷ others) (b, i, c) = absurd (no_attribute a b i)
 
 -- a character of punctuation leaves one rest
 one_mark : (ch : ℕ) (trees a b : List Tree) → IsBehindMark ch trees a → IsBehindMark ch trees b → a ≡ b
@@ -39,8 +39,7 @@ mark_begins ch trees rest h = rw (h.trees_are, h.is) (search arith)
 no_behind : (ch : ℕ) (trees rest : List Tree) → IsBehindMark ch trees rest → trees ≡ [] → ⊥
 no_behind ch trees rest h e = let f = h.trees_are in absurd (cc)
 
-attribute : Token → Token → Attribute
-unfolding attribute
+abbrev attribute : Token → Token → Attribute
 attribute name literal = record { name = name; literal = literal }
 
 -- the trees begin with one attribute at most
@@ -108,7 +107,11 @@ taken_all trees done rest t e = subst (AreListed trees) (append-nil done) (t.on 
 
 -- ---- names
 
--- no attribute bears the name of another: one more with a new name
+pub differ_none : NamesDiffer []
+unfolding IsDistinct
+differ_none = tt
+
+-- one more with a new name
 pub differ_more : (done : List Attribute) (a : Attribute) → NamesDiffer done → is_named a.name.text done ≡ false → NamesDiffer (done ++ a ∷ [])
 differ_more done a h new = subst (IsDistinct bytes_eq) (sym (map-append (λ x. x.name.text) done (a ∷ []))) (IsDistinct-push nat_list_eq_equiv (names_of done) a.name.text h new)
 
@@ -224,8 +227,8 @@ never_refused done (a ∷ more) trees scope e some d h r =
     ]
 
 -- attributes that differ were taken, and what is left is refused: the trees are
-pub refused : {A : Type 0} (trees : List Tree) (done : List Attribute) (rest : List Tree) (scope : Span) (e : Error A) → AreTaken trees done rest → NamesDiffer done → rest ≢ [] → RefusesNext (λ name. is_named name done) rest scope e → RefusesAttributes trees scope e
-refused trees done rest scope e t d some r = record {
+pub refused_next : {A : Type 0} (trees : List Tree) (done : List Attribute) (rest : List Tree) (scope : Span) (e : Error A) → AreTaken trees done rest → NamesDiffer done → rest ≢ [] → RefusesNext (λ name. is_named name done) rest scope e → RefusesAttributes trees scope e
+refused_next trees done rest scope e t d some r = record {
   earlier = done;
   rest = rest;
   stand = t.stand some;
@@ -258,4 +261,4 @@ taken_begins trees done rest t some h = go done (t.stand some)
   where
     go : (done : List Attribute) → StandBefore trees done rest → IsTrue (begins_ident trees)
     go [] e = subst (λ (ts : List Tree). begins_ident ts ≡ true) (sym e) h
-    go (a ∷ as) (b, n, i, m, k) = rw i.named refl
+    go (a ∷ others) (b, n, i, m, k) = rw i.named refl

@@ -2,3 +2,4 @@ pub mod StreamLemmas
 pub mod RunLemmas
 pub mod ListLemmas
 pub mod AttributeLemmas
+pub mod EntryLemmas

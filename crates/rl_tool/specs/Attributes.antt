@@ -33,8 +33,8 @@ pub record IsAttribute (trees : List Tree) (attribute : Attribute) (rest : List 
 -- attributes of the rest.
 abbrev pub AreListed : List Tree → List Attribute → Type 0
 AreListed trees [] = trees ≡ []
-AreListed trees (a ∷ as) =
-    (behind : List Tree) × IsAttribute trees a behind × (((behind ≡ []) × (as ≡ [])) ⊎ ((rest : List Tree) × IsBehindMark 44 behind rest × AreListed rest as))
+AreListed trees (a ∷ others) =
+    (behind : List Tree) × IsAttribute trees a behind × (((behind ≡ []) × (others ≡ [])) ⊎ ((rest : List Tree) × IsBehindMark 44 behind rest × AreListed rest others))
 
 -- the texts of the names
 abbrev pub names_of : List Attribute → List (List ℕ)
@@ -116,8 +116,8 @@ pub record RefusesNext {A : Type 0} (seen : List ℕ → Bool) (trees : List Tre
 -- These attributes begin the trees, each with a comma behind it, and the rest stands behind them.
 abbrev pub StandBefore : List Tree → List Attribute → List Tree → Type 0
 StandBefore trees [] rest = trees ≡ rest
-StandBefore trees (a ∷ as) rest =
-    (behind next : List Tree) × IsAttribute trees a behind × IsBehindMark 44 behind next × StandBefore next as rest
+StandBefore trees (a ∷ others) rest =
+    (behind next : List Tree) × IsAttribute trees a behind × IsBehindMark 44 behind next × StandBefore next others rest
 
 -- The trees are no attributes: attributes, whose names differ, lead to trees that don't go on as attributes do.
 pub record RefusesAttributes {A : Type 0} (trees : List Tree) (scope : Span) (e : Error A) : Type 0 where

@@ -9,8 +9,8 @@ use Rattle.rl_tool.specs.Attributes.{Attribute, AreAttributesOf}
 -- the lines of these attributes, one after another
 abbrev pub AreAttributeLines : List Attribute → List ℕ → Type 0
 AreAttributeLines [] shown = shown ≡ []
-AreAttributeLines (a ∷ as) shown =
-    (line rest : List ℕ) × IsLineOf (chars a.literal.text) line × AreAttributeLines as rest × (shown ≡ chars a.name.text ++ (32 ∷ (line ++ rest)))
+AreAttributeLines (a ∷ others) shown =
+    (line rest : List ℕ) × IsLineOf (chars a.literal.text) line × AreAttributeLines others rest × (shown ≡ chars a.name.text ++ (32 ∷ (line ++ rest)))
 
 -- The text is cut into the trees of attributes, and these are their lines.
 pub record ShowsAttributes (text shown : List ℕ) : Type 0 where

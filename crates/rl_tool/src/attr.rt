@@ -1,5 +1,8 @@
 //! Attributes, `name = literal` with commas between: a layer above the literals, by their public calls alone.
 
+ghost use Rattle.std.proofs.Props.{props};
+ghost use Rattle.rl_tool.specs.Entries.{EntriesDiffer};
+
 mod take;
 
 pub use take::read;
@@ -23,13 +26,13 @@ pub struct Entry<A: Allocator = Global> {
 #[derive(Drop)]
 pub struct Attrs<A: Allocator = Global> {
     entries: Vec<Entry<A>, A>,
-    ghost differ: { Rattle.rl_tool.specs.Entries.EntriesDiffer entries.items },
+    ghost differ: { EntriesDiffer entries.items } by { Prim.hlevel props },
 }
 
 impl<A: Allocator> Attrs<A> {
     ghost use Rattle.std.specs.Prelude.{◌≡◌, All, Any, IfSome};
     ghost use Rattle.std.specs.Option.{IsSomeAnd};
-    ghost use Rattle.rl_tool.specs.Entries.{EntriesDiffer, HasName};
+    ghost use Rattle.rl_tool.specs.Entries.{HasName};
     ghost use Rattle.rl_tool.specs.AttributeParsing.{entries_of};
 
     /// The attributes, in their order.

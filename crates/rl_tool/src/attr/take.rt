@@ -82,6 +82,7 @@ fn take_entry<'a, A: Allocator + Copy>(
 }
 
 /// Takes an attribute whose name is none of the names, and the comma behind it where anything stands there.
+#[tactic(auto, using(crate::proofs::AttributeLemmas::next_shorter))]
 fn take_next<'a, A: Allocator + Copy>(
     alloc: A,
     input: &mut ParseBuffer<'a, A>,
