@@ -1,9 +1,13 @@
 -- Entries, one after another, and the names that are kept beside them.
-use Rattle.std.proofs.Common.{◌≡◌, ◌≢◌, ◌⊎◌, inl, inr, ℕ, Bool, true, cond, List, [], ◌∷◌, ◌++◌, map, refl, sym, ◌∙◌, ap, subst, Bor, string_bytes, arith}
+use Rattle.std.proofs.Common.{◌≡◌, ◌≢◌, ◌⊎◌, inl, inr, ℕ, zero, suc, ◌+◌, ◌<◌, Bool, true, false, cond, get_or, List, [], ◌∷◌, ◌++◌, map, refl, sym, ◌∙◌, ap, subst, Bor, string_bytes, arith}
 use Rattle.std.specs.Prelude.{IsTrue, IsFalse, All, Result, Ok, Err, IfOk, IfErr, length}
 use Rattle.std.specs.HashSet.{HashSet, IsEmpty}
 use Rattle.std.specs.Str.{bytes_eq, chars}
-use Rattle.std.proofs.lemmas.List.{map_push}
+use Rattle.std.specs.Cmp.Lexicographic.{nat_list_eq_equiv}
+use Rattle.std.proofs.lemmas.Bool.{cases_lt, cases_order}
+use Rattle.std.proofs.lemmas.List.{map_push, get_or_default, length-map}
+use Rattle.std.proofs.lemmas.Map.Keys.{apart_from_distinct}
+use Rattle.std.proofs.lemmas.Slice.Eq.{bytes_eq-Decides}
 use Rattle.std.proofs.lemmas.List.Elements.{All-push, All-same}
 use Rattle.rl_tokens.specs.declared.span.Span.{Span}
 use Rattle.rl_tokens.specs.declared.error.Error.{Error}
@@ -18,8 +22,8 @@ use Rattle.rl_tokens.proofs.TreeRests.{rest_self, rest_step}
 use Rattle.rust_literals.proofs.ReadLemmas.{lex_memory}
 use Rattle.rl_tool.specs.declared.attr.Entry.{Entry}
 use Rattle.rl_tool.specs.declared.attr.Attrs.{Attrs}
-use Rattle.rl_tool.specs.Attributes.{Attribute, AreListed, is_named, NamesDiffer, AreAttributes, AreAttributesOf, RefusesNext, RefusesAttributes, RefusesTrees, RefusesText}
-use Rattle.rl_tool.specs.Entries.{attribute_of, attributes_of, IsRead, EntriesDiffer}
+use Rattle.rl_tool.specs.Attributes.{Attribute, AreListed, names_of, is_named, NamesDiffer, AreAttributes, AreAttributesOf, RefusesNext, RefusesAttributes, RefusesTrees, RefusesText}
+use Rattle.rl_tool.specs.Entries.{attribute_of, attributes_of, IsRead, HasName, EntriesDiffer}
 use Rattle.rl_tool.specs.AttributeParsing.{entries_of, AreEntries, RunsAttrs, IsListOrMemory}
 use Rattle.rl_tool.specs.AttributeSteps.{has_name, AddsName, IsNext, WantsMemory, Stops, told_at, kind_told_at}
 use Rattle.rl_tool.proofs.AttributeLemmas.{AreTaken, taken_none, taken_more, taken_all, taken_begins, differ_more, differ_none, named_more, refused_next, same_seen, one_listing}
@@ -139,3 +143,54 @@ exactly {A = A} text file end (Err e) read (inr c) list a = go c.refused
     go : RefusesTrees c.trees (place_at file end) e → e.kind ≡ Memory
     go (inl s) = ap (λ (x : Error A). x.kind) s.error
     go (inr r) = absurd (r.none list (subst (λ (t : List Tree). AreAttributes t list) (one_list text file a.trees c.trees a.lexes c.lexes) a.are))
+
+-- ---- the entry of a name
+
+-- what a comparison of names tells
+pub is_name : (bytes text name : List ℕ) (b : Bool) → text ≡ bytes → b ≡ bytes_eq text name → b ≡ true → bytes ≡ name
+is_name bytes text name b t e h = sym t ∙ (bytes_eq-Decides text name).0 (sym e ∙ h)
+
+pub no_name : (bytes text name : List ℕ) (b : Bool) → text ≡ bytes → b ≡ bytes_eq text name → b ≡ false → bytes ≡ name → ⊥
+no_name bytes text name b t e h k = let same = (bytes_eq-Decides text name).1 (t ∙ k) in absurd (cc)
+
+-- the name of the entry at a place
+name_at : {A : Type 0} (entries : List (Entry A)) (i : ℕ) (d : Entry A) → i < length entries → get_or (names_of (attributes_of entries)) i [] ≡ string_bytes (get_or entries i d).name
+name_at [] i d h = absurd (omega arith)
+name_at (x ∷ xs) zero d h = refl
+name_at (x ∷ xs) (suc i) d h = name_at xs i d (omega arith)
+
+names_length : {A : Type 0} (entries : List (Entry A)) → length (names_of (attributes_of entries)) ≡ length entries
+names_length entries = simp length-map
+
+apart : {A : Type 0} (entries : List (Entry A)) (name : List ℕ) (i k : ℕ) (d e : Entry A) → EntriesDiffer entries → i < k → k < length entries → HasName name (get_or entries i d) → HasName name (get_or entries k e) → ⊥
+apart entries name i k d e differ order within one other =
+    let names = names_of (attributes_of entries) in
+    let differs = apart_from_distinct bytes_eq names i k [] differ order (omega (arith, names_length entries)) in
+    let first : get_or names i [] ≡ name = name_at entries i d (omega arith) ∙ one in
+    let second : get_or names k [] ≡ name = name_at entries k e within ∙ other in
+    let same = nat_list_eq_equiv.refl name in
+    let both = rw (first, second) at differs in
+    absurd (cc)
+
+-- it is the one entry with its name
+pub value_lent : {A : Type 0} (entries : List (Entry A)) (name : List ℕ) (i : ℕ) (entry : Entry A) → EntriesDiffer entries → i < length entries → entry ≡ get_or entries i entry → HasName name entry → (k : ℕ) (d : Entry A) → k < length entries → HasName name (get_or entries k d) → entry.value ≡ (get_or entries k d).value
+value_lent {A = A} entries name i entry differ below is named k d within other =
+    elim (cases_order i k) [
+      | inl h ↦ ap (λ (x : Entry A). x.value) (is ∙ get_or_default entries i entry d below ∙ ap (λ n. get_or entries n d) h)
+      | inr (inl h) ↦ absurd (apart entries name i k entry d differ h within here other)
+      | inr (inr h) ↦ absurd (apart entries name k i d entry differ h below other here)
+    ]
+  where
+    here : HasName name (get_or entries i entry)
+    here = subst (λ (x : Entry A). HasName name x) is named
+
+-- one entry more hasn't the name
+pub none_more : {A : Type 0} (entries : List (Entry A)) (name : List ℕ) (i : ℕ) (entry : Entry A) → i < length entries → entry ≡ get_or entries i entry → (HasName name entry → ⊥) → ((k : ℕ) (d : Entry A) → k < i → HasName name (get_or entries k d) → ⊥) → (k : ℕ) (d : Entry A) → k < i + 1 → HasName name (get_or entries k d) → ⊥
+none_more {A = A} entries name i entry below is other none k d h has =
+    elim (cases_lt k i) [
+      | inl l ↦ none k d l has
+      | inr l ↦
+          let at : k ≡ i = omega arith in
+          let same : get_or entries k d ≡ entry = ap (λ n. get_or entries n d) at ∙ get_or_default entries i d entry below ∙ sym is in
+          other (subst (λ (x : Entry A). HasName name x) same has)
+    ]

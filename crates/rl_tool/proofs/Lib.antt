@@ -3,3 +3,4 @@ pub mod RunLemmas
 pub mod ListLemmas
 pub mod AttributeLemmas
 pub mod EntryLemmas
+pub mod EntryLineLemmas
