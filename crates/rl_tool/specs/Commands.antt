@@ -1,12 +1,13 @@
 -- The program's commands, and how they are asked for.
 use Rattle.std.specs.Prelude.{◌≡◌, ℕ, List, [], ◌∷◌, codes, String, string_bytes}
 use Rattle.rl_tool.specs.declared.command.Command.{Command}
-use Rattle.rl_tool.specs.declared.command.Command.TheVariants.{Text, Read}
+use Rattle.rl_tool.specs.declared.command.Command.TheVariants.{Text, Read, Attr}
 
 -- the word that asks for a command
 abbrev pub name_of : Command → List ℕ
 name_of Text = codes "text"
 name_of Read = codes "read"
+name_of Attr = codes "attr"
 
 -- The arguments are a program's own name and a command's.
 abbrev pub AskFor : {A : Type 0} → List (String A) → Command → Type 0

@@ -9,16 +9,19 @@ use Rattle.rust_literals.specs.Literals.{ReadsAsNumber}
 use Rattle.rust_literals.specs.declared.lit.Lit.{Lit}
 use Rattle.rust_literals.specs.Parsing.{AreRead, RefusesText}
 use Rattle.rl_tool.specs.declared.command.Command.{Command}
-use Rattle.rl_tool.specs.declared.command.Command.TheVariants.{Text, Read as ReadCommand}
+use Rattle.rl_tool.specs.declared.command.Command.TheVariants.{Text, Read as ReadCommand, Attr}
 use Rattle.rl_tool.specs.declared.fault.Fault.{Fault}
 use Rattle.rl_tool.specs.declared.fault.Fault.TheVariants.{Read, Write, NotText, Memory, Literal}
 use Rattle.rl_lines.specs.Lines.{IsLineOf, AreLinesOfText}
 use Rattle.rl_tool.specs.Streams.{AppendsBeginning}
+use Rattle.rl_tool.specs.Attributes.{Attribute, AreAttributesOf, RefusesText as RefusesAttributeText}
+use Rattle.rl_tool.specs.EntryLines.{ShowsAttributes}
 
 -- what a command prints of a text
 abbrev pub Shows : Command → List ℕ → List ℕ → Type 0
 Shows Text text shown = IsLineOf text shown
 Shows ReadCommand text shown = AreLinesOfText text shown
+Shows Attr text shown = ShowsAttributes text shown
 
 -- the bytes are a text, and its lines are what was written
 abbrev pub Prints : Command → List ℕ → Option (List ℕ) → Option (List ℕ) → Type 0
@@ -38,16 +41,19 @@ abbrev pub TellsLiteral : {A : Type 0} → (Error A → Type 0) → Fault A → 
 TellsLiteral refuses (Literal error) = refuses error
 TellsLiteral refuses _ = ⊥
 
--- what the call that reads the literals refuses of a text: want of memory for a number's digits, or as `read_all` does
+-- what the call that reads the literals refuses of a text: want of memory for a number's digits, or as `read_all` or
+-- `attr::read` does
 abbrev pub RefusesLiterals : {A : Type 0} → Command → List ℕ → Error A → Type 0
 RefusesLiterals Text bytes error = (error ≡ memory_at (whole_token bytes).span) × ReadsAsNumber (chars bytes)
 RefusesLiterals ReadCommand bytes error = RefusesText (chars bytes) 0 (length bytes) error
+RefusesLiterals Attr bytes error = RefusesAttributeText (chars bytes) 0 (length bytes) error
 
--- where memory may be wanted that is no literal's: under `text` for the token or its line, under `read` for the lines alone,
--- behind literals that were read
+-- where memory may be wanted that is no literal's: under `text` for the token or its line, under `read` and `attr` for the
+-- lines alone, behind literals or attributes that were read
 abbrev pub MayWantMemory : Type 0 → Command → List ℕ → Type 0
 MayWantMemory A Text bytes = ⊤
 MayWantMemory A ReadCommand bytes = (list : List (Lit A)) × AreRead (chars bytes) 0 list
+MayWantMemory A Attr bytes = (list : List Attribute) × AreAttributesOf (chars bytes) 0 list
 
 -- why the whole input was refused: it is no text, its literals were refused, or memory was, elsewhere
 abbrev pub IsRefusalOf : {A : Type 0} → Command → List ℕ → Fault A → Type 0

@@ -7,6 +7,8 @@ pub enum Command {
     Text,
     /// Reads the input as literals, with white space and comments between them.
     Read,
+    /// Reads the input as attributes, each a name that is set to a literal, with commas between them.
+    Attr,
 }
 
 impl Command {
@@ -22,6 +24,7 @@ impl Command {
         match name {
             "text" => Some(Command::Text),
             "read" => Some(Command::Read),
+            "attr" => Some(Command::Attr),
             _ => None,
         }
     }

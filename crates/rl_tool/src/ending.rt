@@ -42,7 +42,7 @@ impl<A: Allocator> fmt::Display for Ending<A> {
     fn fmt<W: fmt::Write>(&self, f: &mut fmt::Formatter<W>) -> fmt::Result {
         match self {
             Ending::Done => Ok(()),
-            Ending::Usage => write!(f, "usage: rl_tool text|read"),
+            Ending::Usage => write!(f, "usage: rl_tool text|read|attr"),
             Ending::Failed(fault) => write!(f, "{fault}"),
         }
     }

@@ -1,10 +1,12 @@
-//! Reads a literal and prints its kind, what it stands for, and its suffix.
+//! Reads literals, or attributes, and prints of each literal its kind, what it stands for, and its suffix.
 #![tactic(auto)]
 
 ghost use Rattle.std.specs.Prelude.{◌≡◌};
 ghost use Rattle.std.specs.Process.{exit_status};
 ghost use Rattle.rl_tool.specs.Endings.{status_of};
 
+mod attr;
+mod attribute_lines;
 mod command;
 mod ending;
 mod fault;

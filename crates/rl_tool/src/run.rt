@@ -8,6 +8,7 @@ ghost use Rattle.rust_literals.specs.Literals.{IsReadFrom, ReadsAsNumber};
 ghost use Rattle.rl_tool.specs.declared.fault.Fault.TheVariants.{NotText, Memory};
 ghost use Rattle.rl_tool.specs.Runs.{whole_token, Shows, Prints, TellsLiteral, IsFaultOf, IsRefusalOf};
 
+use crate::attribute_lines::attribute_lines;
 use crate::command::Command;
 use crate::fault::Fault;
 use crate::list::literal_lines;
@@ -82,6 +83,7 @@ fn lines_of_input<A: Allocator + Copy>(
     match command {
         Command::Text => literal_line(alloc, bytes),
         Command::Read => literal_lines(alloc, text_of(bytes.as_slice())?),
+        Command::Attr => attribute_lines(alloc, text_of(bytes.as_slice())?),
     }
 }
 
@@ -89,7 +91,7 @@ fn lines_of_input<A: Allocator + Copy>(
 ///
 /// All lines are made before the first is written, so a refusal writes nothing; a write that fails leaves a beginning
 /// of the lines' bytes written. `NotText` comes exactly where the input was read whole and isn't UTF-8. `Literal` has the
-/// refusal of `Lit::new` or `read_all`, and `Memory` is told of every other growth that was refused. `Read` and `Write` come where a
+/// refusal of `Lit::new`, `read_all` or `attr::read`, and `Memory` is told of every other growth that was refused. `Read` and `Write` come where a
 /// call of the reader or the writer failed, or where 4,294,967,295 turns of reading brought no end.
 pub fn run<A: Allocator + Copy, R: Read, W: Write>(
     alloc: A,

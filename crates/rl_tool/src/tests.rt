@@ -1,5 +1,6 @@
 //! Calls of the program over texts in memory: statuses, what is written, and what is told.
 
+mod attributes;
 mod failing;
 mod refused;
 
@@ -36,15 +37,34 @@ const CALLS: &str = concat!(
     "rl_tool\nread␟␟0 ␞",
     "rl_tool\nread␟1 'a␟1 error at 2..2: lifetime is not carried␞",
     "rl_tool\nread␟true | true␟1 error at 5..6: expected literal␞",
-    "rl_tool␟1␟2 usage: rl_tool text|read␞",
-    "rl_tool\n␟1␟2 usage: rl_tool text|read␞",
-    "rl_tool\nText␟1␟2 usage: rl_tool text|read␞",
-    "rl_tool\ntext ␟1␟2 usage: rl_tool text|read␞",
-    "rl_tool\nRead␟1␟2 usage: rl_tool text|read␞",
-    "rl_tool\nattr␟1␟2 usage: rl_tool text|read␞",
-    "rl_tool\nread\nread␟1␟2 usage: rl_tool text|read␞",
-    "rl_tool\ntext\n␟1␟2 usage: rl_tool text|read␞",
-    "text␟1␟2 usage: rl_tool text|read␞",
+    "rl_tool\nattr␟a = 1, b = \"x\",␟a Int 1 -\nb Str \"x\" -\n0 ␞",
+    "rl_tool\nattr␟␟0 ␞",
+    "rl_tool\nattr␟a = 1, a = 2␟1 error at 7..8: repeated name␞",
+    "rl_tool\nattr␟a = -2u8␟a Int -2 u8\n0 ␞",
+    "rl_tool\nattr␟true=false,false=b'''␟true Bool false -\nfalse Verbatim \"b'''\" -\n0 ␞",
+    "rl_tool\nattr␟,␟1 error at 0..1: expected identifier␞",
+    "rl_tool\nattr␟a = 1,,␟1 error at 6..7: expected identifier␞",
+    "rl_tool\nattr␟(a = 1)␟1 error at 0..7: expected identifier␞",
+    "rl_tool\nattr␟a 1␟1 error at 2..3: expected `=`␞",
+    "rl_tool\nattr␟a␟1 error at 1..1: unexpected end of input, expected `=`␞",
+    "rl_tool\nattr␟a, a = 1␟1 error at 1..2: expected `=`␞",
+    "rl_tool\nattr␟a = 1, a 2␟1 error at 7..8: repeated name␞",
+    "rl_tool\nattr␟a = 1, a␟1 error at 7..8: repeated name␞",
+    "rl_tool\nattr␟a == 1␟1 error at 3..4: expected literal␞",
+    "rl_tool\nattr␟a =␟1 error at 3..3: unexpected end of input, expected literal␞",
+    "rl_tool\nattr␟a = 1, b = -\"x\", a = 1␟1 error at 11..12: expected literal␞",
+    "rl_tool\nattr␟a = 1 b␟1 error at 6..7: expected `,`␞",
+    "rl_tool\nattr␟a = 1 a = 2␟1 error at 6..7: expected `,`␞",
+    "rl_tool\nattr␟a = 1, b = (␟1 error at 11..11: unclosed group␞",
+    "rl_tool␟1␟2 usage: rl_tool text|read|attr␞",
+    "rl_tool\n␟1␟2 usage: rl_tool text|read|attr␞",
+    "rl_tool\nText␟1␟2 usage: rl_tool text|read|attr␞",
+    "rl_tool\ntext ␟1␟2 usage: rl_tool text|read|attr␞",
+    "rl_tool\nRead␟1␟2 usage: rl_tool text|read|attr␞",
+    "rl_tool\nAttr␟1␟2 usage: rl_tool text|read|attr␞",
+    "rl_tool\nread\nread␟1␟2 usage: rl_tool text|read|attr␞",
+    "rl_tool\ntext\n␟1␟2 usage: rl_tool text|read|attr␞",
+    "text␟1␟2 usage: rl_tool text|read|attr␞",
 );
 
 #[test]

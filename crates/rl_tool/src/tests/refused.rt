@@ -69,3 +69,14 @@ fn a_list(rt: HostRuntime) -> Result<(), Fail> {
     assert_eq!(&rt; answers.as_str(), wanted);
     Ok(())
 }
+
+/// The input's bytes, the tokens' memory, then what the attributes take, and the lines.
+#[test]
+fn attributes(rt: HostRuntime) -> Result<(), Fail> {
+    let answers = all_told(rt.alloc(), Command::Attr, "a = 0x1", 12)?;
+    let wanted = concat!(
+        "done, 10 written\n",
+    );
+    assert_eq!(&rt; answers.as_str(), wanted);
+    Ok(())
+}

@@ -1,0 +1,56 @@
+//! The lines of attributes.
+
+ghost use Rattle.std.specs.Prelude.{[], OnOk, IfOk, IfErr, string_bytes};
+ghost use Rattle.std.specs.Str.{chars};
+ghost use Rattle.rl_tool.specs.declared.command.Command.TheVariants.{Attr};
+ghost use Rattle.rl_tool.specs.Runs.{Shows, IsRefusalOf};
+ghost use Rattle.rl_tool.specs.EntryLines.{PrintsEntry, PrintsEntries};
+
+use crate::attr::{Entry, read};
+use crate::fault::Fault;
+use rl_lines::line_of;
+use std::alloc::{AllocError, Allocator};
+
+/// Writes an attribute's line at the end: its name, a space, and its literal's line.
+fn push_entry<A: Allocator + Copy>(
+    alloc: A,
+    out: &mut String<A>,
+    entry: &Entry<A>,
+) -> Result<(), AllocError>
+    ensures { OnOk result
+        (PrintsEntry entry.now (chars (string_bytes out.old)) (chars (string_bytes out.new))) }
+{
+    let line = line_of(alloc, &entry.value)?;
+    out.push_str(entry.name.as_str())?;
+    out.push_str(" ")?;
+    out.push_str(line.as_str())?;
+    Ok(())
+}
+
+/// The lines of attributes, one after another.
+fn lines_of<A: Allocator + Copy>(
+    alloc: A,
+    entries: &[Entry<A>],
+) -> Result<String<A>, AllocError>
+    ensures { IfOk result
+        (λ lines. PrintsEntries entries.now [] (chars (string_bytes lines))) }
+{
+    let mut lines = String::new(alloc);
+    for entry in entries {
+        push_entry(alloc, &mut lines, entry)?;
+    }
+    Ok(lines)
+}
+
+/// The lines of the text's attributes.
+pub fn attribute_lines<A: Allocator + Copy>(alloc: A, text: &str) -> Result<String<A>, Fault<A>>
+    ensures lines { IfOk result (λ lines. Shows Attr (chars text.now) (chars (string_bytes lines))) }
+    ensures refusal { IfErr result (IsRefusalOf Attr text.now) }
+{
+    let attrs = match read(alloc, text, 0) {
+        Ok(attrs) => attrs,
+        Err(error) => return Err(Fault::Literal(error)),
+    };
+    let lines = lines_of(alloc, attrs.entries())?;
+    Ok(lines)
+}
