@@ -5,11 +5,10 @@ ghost use Rattle.rl_tool.specs.Entries.{EntriesDiffer};
 
 mod take;
 
-pub use take::read;
-
 use rl_tokens::Span;
 use rust_literals::Lit;
 use std::alloc::{Allocator, Global};
+pub use take::read;
 
 /// An attribute: a name, and the literal that it is set to.
 #[derive(Drop)]
