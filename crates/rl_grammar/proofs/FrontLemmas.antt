@@ -1,5 +1,5 @@
 -- At most one literal begins the trees.
-use Rattle.std.proofs.Common.{◌≡◌, ℕ, Bool, List, [], ◌∷◌, refl, sym, ap, ◌∙◌, subst}
+use Rattle.std.proofs.Common.{◌≡◌, ℕ, ◌<◌, Bool, List, [], ◌∷◌, length, refl, sym, ap, ◌∙◌, subst, arith}
 use Rattle.std.specs.Prelude.{◌↔◌, IsTrue, IsFalse, Option, Some, None, IfSome, IfNone}
 use Rattle.std.specs.Option.{is_some}
 use Rattle.std.specs.Str.{chars}
@@ -10,7 +10,7 @@ use Rattle.rl_tokens.specs.Tokens.{Token}
 use Rattle.rl_tokens.specs.Trees.{Tree, GroupTree, IdentTree, PunctTree, LiteralTree}
 use Rattle.rl_tokens.specs.Reading.{Truth, ReadsAs, truth_text}
 use Rattle.rl_tokens.specs.Buffers.{begins_literal, IsRest}
-use Rattle.rl_tokens.specs.Fronts.{IsFront, HasNoFront, HasFrontOf, joined}
+use Rattle.rl_tokens.specs.Fronts.{IsFront, IsFrontOf, HasNoFront, HasFrontOf, joined}
 use Rattle.rl_tokens.proofs.OneReading.{one_reading}
 use Rattle.rl_tokens.proofs.TreeRests.{rest_one, rest_two}
 use Rattle.rl_grammar.specs.declared.found.Found.{Found}
@@ -55,6 +55,22 @@ front_rest (PunctTree p ∷ PunctTree x ∷ trees) rest token h = absurd h
 front_rest (PunctTree p ∷ GroupTree d inside at ∷ trees) rest token h = absurd h
 front_rest (GroupTree d inside at ∷ trees) rest token h = absurd h
 
+-- and is shorter
+pub front_shorter : (trees : List Tree) (token : Token) (rest : List Tree) → IsFront trees token rest → length rest < length trees
+front_shorter [] token rest h = absurd h
+front_shorter (LiteralTree x ∷ trees) token rest (e, f) = omega (arith, ap length f)
+front_shorter (IdentTree x ∷ trees) token rest (_, e, f) = omega (arith, ap length f)
+front_shorter (PunctTree p ∷ []) token rest h = absurd h
+front_shorter (PunctTree p ∷ LiteralTree x ∷ trees) token rest (_, _, e, f) = omega (arith, ap length f)
+front_shorter (PunctTree p ∷ IdentTree x ∷ trees) token rest h = absurd h
+front_shorter (PunctTree p ∷ PunctTree x ∷ trees) token rest h = absurd h
+front_shorter (PunctTree p ∷ GroupTree d inside at ∷ trees) token rest h = absurd h
+front_shorter (GroupTree d inside at ∷ trees) token rest h = absurd h
+
+-- a literal at the front that reads as the kind is one of it
+pub front_of : (kind : Kind) (trees : List Tree) (token : Token) (rest : List Tree) → IsFront trees token rest → ReadsAs kind (chars token.text) → IsFrontOf kind trees token rest
+front_of kind trees token rest h r = record { front = h; reads = r; shorter = front_shorter trees token rest h }
+
 -- a text reads as one kind
 pub one_kind : (t : List ℕ) (k l : Kind) → ReadsAs k t → ReadsAs l t → k ≡ l
 one_kind t k l (v, x, r) (w, y, s) = (one_reading t k l v w x y r s).0
@@ -68,6 +84,10 @@ found_as kind t None found is none = ((λ h. absurd (cc)), (λ r. absurd (none r
 pub same_front : (k : Kind) (trees : List Tree) (token : Token) (rest : List Tree) → IsFront trees token rest → HasFrontOf k trees → ReadsAs k (chars token.text)
 same_front k trees token rest h (other, left, of) =
     subst (λ (x : Token). ReadsAs k (chars x.text)) ((one_front trees other token left rest of.front h).0) of.reads
+
+-- where a literal that doesn't read as the kind begins the trees, none of the kind does
+pub other_of : (kind : Kind) (trees : List Tree) (token : Token) (rest : List Tree) → IsFront trees token rest → (ReadsAs kind (chars token.text) → ⊥) → HasFrontOf kind trees → ⊥
+other_of kind trees token rest h other has = other (same_front kind trees token rest h has)
 
 -- a word that is a truth value reads as it
 pub truth_reads : (t : List ℕ) (b : Bool) → t ≡ truth_text b → ReadsAs BoolKind t

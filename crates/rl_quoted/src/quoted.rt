@@ -1,6 +1,6 @@
 //! What the five have in common: a token, its kind, and the places of its parts.
 
-ghost use Rattle.std.specs.Prelude.{◌≡◌, ◌↔◌, IsTrue, IfOk, IfErr, ◌==◌, ◌++◌, ◌∷◌, [], OnOk, OnErr, Some, codes};
+ghost use Rattle.std.specs.Prelude.{◌≡◌, ◌≢◌, ◌↔◌, IsTrue, MatchBool, IfOk, IfErr, ◌==◌, ◌++◌, ◌∷◌, [], OnOk, OnErr, Some, codes};
 ghost use Rattle.std.specs.Cmp.{partial_equiv_from_equiv, on_equiv};
 ghost use Rattle.std.specs.Cmp.Lexicographic.{pointwise, nat_list_eq_equiv};
 ghost use Rattle.std.specs.Cmp.Rules.{hashing};
@@ -17,6 +17,7 @@ ghost use Rattle.rl_grammar.specs.Bodies.{HasBody, HasSingleBody};
 ghost use Rattle.rl_grammar.specs.Founds.{IsFound, is_quoted};
 ghost use Rattle.rl_grammar.specs.WholeShapes.{IsPlain};
 ghost use Rattle.rl_quoted.specs.Places.{IsWrittenAs, StandsAt};
+ghost use Rattle.rl_quoted.specs.Suffixes.{HasSomeSuffix};
 ghost use Rattle.rl_tokens.specs.Words.{kind_name};
 
 use crate::written::written_body;
@@ -28,6 +29,13 @@ use std::alloc::{Allocator, Global};
 use std::fmt;
 use std::hash::{Hash, Hasher};
 use std::marker::{Model, PhantomData};
+
+/// Whether the text has a character.
+fn holds_some(text: &str) -> bool
+    ensures { MatchBool result (chars text.now ≢ []) (chars text.now ≡ []) }
+{
+    !text.is_empty()
+}
 
 /// A kind of quoted literals, as a type.
 pub trait QuotedKind {
@@ -120,6 +128,14 @@ impl<K: QuotedKind, A: Allocator> Quoted<K, A> {
         ensures { HasSuffix K.KIND (chars self.now.text) (chars result.now) }
     {
         &self.token.text()[self.body.suffix_at..]
+    }
+
+    /// Whether anything stands behind the closing quote.
+    pub fn has_suffix(&self) -> bool
+        ensures { MatchBool result (HasSomeSuffix K.KIND (chars self.now.text))
+            (HasSuffix K.KIND (chars self.now.text) []) }
+    {
+        holds_some(self.suffix())
     }
 
     /// The token's text.

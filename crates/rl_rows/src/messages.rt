@@ -45,6 +45,7 @@ fn kinds(alloc: Global, out: &mut String) -> Result<(), AllocError> {
     tell_kind(ErrorKind::NotInteger, out)?;
     tell_kind(ErrorKind::TooLarge, out)?;
     tell_kind(ErrorKind::NotFloat, out)?;
+    tell_kind(ErrorKind::Repeated, out)?;
     tell_kind(ErrorKind::Number(String::from_str(alloc, "too many")?), out)?;
     tell_kind(ErrorKind::Memory, out)
 }

@@ -38,6 +38,7 @@ fn others(alloc: Global, name: &str, text: &str, out: &mut String) -> Result<boo
         "LitBool" => parsed_as::<LitBool>(alloc, text, out)?,
         "Sign" => parsed_as::<Sign>(alloc, text, out)?,
         "two_files" => two_files(alloc, out)?,
+        "mark" => mark(alloc, text, out)?,
         _ => return Ok(false),
     }
     Ok(true)
@@ -57,6 +58,23 @@ fn parsed_as<T: Parse<Global> + Token + Drop>(
     let mut input = ParseBuffer::new(stream.trees(), end);
     tell_peek(T::display(), input.peek::<T>(), out)?;
     tell_parsed(input.parse::<T>(alloc), out)?;
+    word("next", out)?;
+    show_line(&At(input.span()), out)
+}
+
+/// Whether `=` stands at the front, or at the front of the group there, what taking it answers, and where the buffer
+/// stands then.
+fn mark(alloc: Global, text: &str, out: &mut String) -> Result<(), AllocError> {
+    let Some(stream) = trees_of(alloc, text, 0) else {
+        return line("no trees", out);
+    };
+    let end = Span::new(0, text.len(), text.len());
+    let mut input = ParseBuffer::new(stream.trees(), end);
+    if let Some(group) = input.group() {
+        input = group.inside();
+    }
+    tell_peek("equals sign", input.peek_punct('='), out)?;
+    tell_parsed(input.take_punct('='), out)?;
     word("next", out)?;
     show_line(&At(input.span()), out)
 }

@@ -1,9 +1,9 @@
 //! What the small callers of `rl_uses` make of a text.
 
 use crate::tell::{At, debug_word, line, show, show_line, show_word, tell_error, trees_of, word};
-use rl_tokens::{Error, Parse, ParseBuffer, Span};
+use rl_tokens::{Error, Parse, ParseBuffer, Span, parse_all};
 use rl_uses::{
-    Attribute, Item, ItemList, control_strings, count_literals, format, parse_all, read_attribute,
+    Attribute, Item, ItemList, control_strings, count_literals, format, read_attribute,
     read_number, rewritten,
 };
 use rust_literals::{Lit, read_all};

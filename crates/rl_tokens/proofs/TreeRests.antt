@@ -1,7 +1,7 @@
 -- Trees that are left of those before.
 use Rattle.std.proofs.Common.{◌≡◌, List, [], ◌∷◌, ◌++◌, refl, sym, ◌∙◌, ap, append_assoc}
 use Rattle.rl_tokens.specs.Trees.{Tree}
-use Rattle.rl_tokens.specs.Buffers.{IsRest}
+use Rattle.rl_tokens.specs.Buffers.{IsRest, StaysRest}
 
 -- behind one tree
 pub rest_one : (before left : List Tree) (t : Tree) → before ≡ t ∷ left → IsRest before left
@@ -25,3 +25,10 @@ rest_step before between left a b = record {
 -- all that was there
 pub rest_self : (trees : List Tree) → IsRest trees trees
 rest_self trees = record { taken = []; are = refl }
+
+-- of which trees those before are a rest, these are one too
+pub stays_rest : (between left : List Tree) → IsRest between left → StaysRest between left
+stays_rest between left a before b = rest_step before between left b a
+
+pub stays_behind : (between left : List Tree) (t : Tree) → between ≡ t ∷ left → StaysRest between left
+stays_behind between left t e = stays_rest between left (rest_one between left t e)

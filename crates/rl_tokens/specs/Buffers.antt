@@ -66,6 +66,10 @@ pub record IsRest (before left : List Tree) : Type 0 where
   pub taken : List Tree
   pub are : before ≡ taken ++ left
 
+-- what was a rest of these trees is still one of them: a rest of a rest is a rest
+abbrev pub StaysRest : List Tree → List Tree → Type 0
+StaysRest between left = (before : List Tree) → IsRest before between → IsRest before left
+
 -- The buffer stands where it stood before.
 pub record IsPutBack {A : Type 0} (before after : ParseBuffer A) : Type 0 where
   pub trees : trees_in after ≡ trees_in before

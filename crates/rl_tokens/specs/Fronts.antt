@@ -1,5 +1,5 @@
 -- Which literal begins the trees, and what a parser of literals does.
-use Rattle.std.specs.Prelude.{◌≡◌, ◌⊎◌, ℕ, ◌==◌, min, max, List, ◌∷◌, Result, Ok, Err, if◌then◌else◌}
+use Rattle.std.specs.Prelude.{◌≡◌, ◌⊎◌, ℕ, ◌<◌, ◌==◌, min, max, List, ◌∷◌, length, Result, Ok, Err, if◌then◌else◌}
 use Rattle.std.specs.Str.{chars}
 use Rattle.rl_tokens.specs.declared.span.Span.{Span}
 use Rattle.rl_tokens.specs.declared.kind.Kind.{Kind}
@@ -36,10 +36,11 @@ IsFront _ token rest = ⊥
 abbrev pub HasNoFront : List Tree → Type 0
 HasNoFront trees = (token : Token) (rest : List Tree) → IsFront trees token rest → ⊥
 
--- A literal of this kind begins the trees, as this token.
+-- A literal of this kind begins the trees, as this token; the rest is shorter.
 pub record IsFrontOf (kind : Kind) (trees : List Tree) (token : Token) (rest : List Tree) : Type 0 where
   pub front : IsFront trees token rest
   pub reads : ReadsAs kind (chars token.text)
+  pub shorter : length rest < length trees
 
 -- a literal begins the trees; one of this kind does
 abbrev pub HasFront : List Tree → Type 0
@@ -59,10 +60,11 @@ pub record WantsMemory {A : Type 0} (trees : List Tree) (scope : Span) (e : Erro
   pub error : e ≡ memory_at (first_span trees scope)
   pub stays : rest ≡ trees
 
--- A parser of literals of one kind refuses what begins the trees: a literal of another kind is passed, and else the
--- trees stay.
+-- A parser of literals of one kind refuses what begins the trees, which is none of them: a literal of another kind is
+-- passed, and else the trees stay.
 pub record PassesOther {A : Type 0} (kind : Kind) (word : List ℕ) (trees : List Tree) (scope : Span) (e : Error A) (rest : List Tree) : Type 0 where
   pub refusal : IsRefusal trees scope word e
+  pub none : HasFrontOf kind trees → ⊥
   pub passed : IsOtherFront kind trees rest ⊎ (HasNoFront trees × (rest ≡ trees))
 
 -- What a parser of literals of one kind does. The word is that of its refusals.

@@ -43,6 +43,7 @@ impl<'a, A: Allocator> ParseBuffer<'a, A> {
       IsBehindMark,
       IsRefusal,
       IsRest,
+      StaysRest,
     };
     ghost use Rattle.rl_tokens.specs.Puncts.{is_punct, mark_word};
 
@@ -96,6 +97,7 @@ impl<'a, A: Allocator> ParseBuffer<'a, A> {
         ensures left { IfNone result (trees_in self.new ≡ trees_in self.old) }
         ensures other { IfNone result (IsFalse (begins_literal (trees_in self.old))) }
         ensures rest { IsRest (trees_in self.old) (trees_in self.new) }
+        ensures onward { StaysRest (trees_in self.old) (trees_in self.new) }
         ensures scope { scope_of self.new ≡ scope_of self.old }
     {
         let (first, rest) = self.trees.split_first()?;
@@ -115,6 +117,7 @@ impl<'a, A: Allocator> ParseBuffer<'a, A> {
         ensures left { IfNone result (trees_in self.new ≡ trees_in self.old) }
         ensures other { IfNone result (IsFalse (begins_ident (trees_in self.old))) }
         ensures rest { IsRest (trees_in self.old) (trees_in self.new) }
+        ensures onward { StaysRest (trees_in self.old) (trees_in self.new) }
         ensures scope { scope_of self.new ≡ scope_of self.old }
     {
         let (first, rest) = self.trees.split_first()?;
@@ -134,6 +137,7 @@ impl<'a, A: Allocator> ParseBuffer<'a, A> {
         ensures left { IfNone result (trees_in self.new ≡ trees_in self.old) }
         ensures other { IfNone result (IsFalse (begins_punct (trees_in self.old))) }
         ensures rest { IsRest (trees_in self.old) (trees_in self.new) }
+        ensures onward { StaysRest (trees_in self.old) (trees_in self.new) }
         ensures scope { scope_of self.new ≡ scope_of self.old }
     {
         let (first, rest) = self.trees.split_first()?;
@@ -173,6 +177,7 @@ impl<'a, A: Allocator> ParseBuffer<'a, A> {
         ensures refused { IfErr result
             (IsRefusal (trees_in self.old) (scope_of self.old) (mark_word ch)) }
         ensures rest { IsRest (trees_in self.old) (trees_in self.new) }
+        ensures onward { StaysRest (trees_in self.old) (trees_in self.new) }
         ensures scope { scope_of self.new ≡ scope_of self.old }
     {
         match self.mark(ch) {
@@ -189,6 +194,7 @@ impl<'a, A: Allocator> ParseBuffer<'a, A> {
         ensures left { IfNone result (trees_in self.new ≡ trees_in self.old) }
         ensures other { IfNone result (IsFalse (begins_mark ch (trees_in self.old))) }
         ensures rest { IsRest (trees_in self.old) (trees_in self.new) }
+        ensures onward { StaysRest (trees_in self.old) (trees_in self.new) }
         ensures scope { scope_of self.new ≡ scope_of self.old }
     {
         if !self.peek_punct(ch) {
@@ -204,6 +210,7 @@ impl<'a, A: Allocator> ParseBuffer<'a, A> {
         ensures left { IfNone result (trees_in self.new ≡ trees_in self.old) }
         ensures other { IfNone result (IsFalse (begins_group (trees_in self.old))) }
         ensures rest { IsRest (trees_in self.old) (trees_in self.new) }
+        ensures onward { StaysRest (trees_in self.old) (trees_in self.new) }
         ensures scope { scope_of self.new ≡ scope_of self.old }
     {
         let (first, rest) = self.trees.split_first()?;

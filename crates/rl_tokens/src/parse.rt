@@ -5,7 +5,7 @@ ghost use Rattle.rl_tokens.specs.declared.span.Span.{Span};
 ghost use Rattle.rl_tokens.specs.declared.error.Error.{Error};
 ghost use Rattle.rl_tokens.specs.declared.error.ErrorKind.TheVariants.{Memory};
 ghost use Rattle.rl_tokens.specs.Trees.{Tree, stream_view};
-ghost use Rattle.rl_tokens.specs.Buffers.{trees_in, scope_of, IsRest};
+ghost use Rattle.rl_tokens.specs.Buffers.{trees_in, scope_of, IsRest, StaysRest};
 
 use crate::buffer::ParseBuffer;
 use crate::error::Error;
@@ -102,9 +102,11 @@ pub trait ToTokens {
 
 impl<'a, A: Allocator> ParseBuffer<'a, A> {
     /// Parses a value of a type that says how.
+    #[tactic(auto, using(crate::proofs::TreeRests::rest_step))]
     pub fn parse<T: Parse<A>>(&mut self, alloc: A) -> Result<T, Error<A>>
         ensures runs { T.runs (trees_in self.old) (scope_of self.old) result (trees_in self.new) }
         ensures rest { IsRest (trees_in self.old) (trees_in self.new) }
+        ensures onward { StaysRest (trees_in self.old) (trees_in self.new) }
         ensures scope { scope_of self.new ≡ scope_of self.old }
     {
         T::parse(alloc, self)

@@ -42,7 +42,7 @@ fn parse_trees<T: Parse<A> + Drop, A: Allocator>(
     ensures refused { IfErr result (RefusesTrees T.runs (stream_view stream.now) scope) }
 {
     let mut input = ParseBuffer::new(stream.trees(), scope);
-    let value = input.parse::<T>(alloc)?;
+    let value = T::parse(alloc, &mut input)?;
     if !input.is_empty() {
         return Err(Error::new(input.span(), ErrorKind::Unexpected));
     }

@@ -6,10 +6,9 @@ use Rattle.rl_tokens.specs.declared.error.Error.{Error}
 use Rattle.rl_tokens.specs.Errors.{memory_at}
 use Rattle.rl_tokens.specs.Tokens.{Token}
 use Rattle.rl_tokens.specs.Trees.{Tree, IdentTree}
-use Rattle.rl_tokens.specs.Buffers.{begins_ident, IsRefusal}
+use Rattle.rl_tokens.specs.Buffers.{begins_ident, begins_mark, IsBehindMark, IsRefusal}
 use Rattle.rl_tokens.specs.Fronts.{IsFrontOf, RunsAs}
 use Rattle.rl_uses.specs.declared.attribute.Attribute.{Attribute}
-use Rattle.rl_uses.specs.Marks.{IsBehindMark, HasNoMark}
 
 -- The character `=` and a string literal begin the trees, and the rest stands behind them.
 pub record IsValue (trees : List Tree) (value : Token) (rest : List Tree) : Type 0 where
@@ -19,7 +18,7 @@ pub record IsValue (trees : List Tree) (value : Token) (rest : List Tree) : Type
 
 -- No `=` begins the trees.
 pub record MissesEquals {A : Type 0} (trees : List Tree) (scope : Span) (e : Error A) : Type 0 where
-  pub none : HasNoMark 61 trees
+  pub none : IsFalse (begins_mark 61 trees)
   pub refusal : IsRefusal trees scope (codes "`=`") e
 
 -- The parser of string literals refuses what stands behind the `=`.

@@ -1,5 +1,3 @@
-pub mod Whole
-pub mod Marks
 pub mod Attributes
 pub mod Settings
 pub mod Lists

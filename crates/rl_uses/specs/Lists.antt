@@ -1,22 +1,26 @@
 -- What the parsers of items and lists do.
-use Rattle.std.specs.Prelude.{◌≡◌, ◌≢◌, ◌⊎◌, List, [], ◌∷◌, codes, Result, Ok, Err}
+use Rattle.std.specs.Prelude.{◌≡◌, ◌≢◌, ◌⊎◌, ◌<◌, IsFalse, List, [], ◌∷◌, length, codes, Result, Ok, Err}
 use Rattle.rl_tokens.specs.declared.span.Span.{Span}
 use Rattle.rl_tokens.specs.declared.kind.Kind.TheVariants.{Str as StrKind, Int as IntKind}
 use Rattle.rl_tokens.specs.declared.token.Delimiter.TheVariants.{Bracket}
 use Rattle.rl_tokens.specs.declared.error.Error.{Error}
 use Rattle.rl_tokens.specs.Errors.{memory_at}
-use Rattle.rl_tokens.specs.Trees.{Tree, Trees, GroupTree, inside_of}
-use Rattle.rl_tokens.specs.Buffers.{first_span, IsRefusal}
+use Rattle.rl_tokens.specs.Trees.{Tree, Trees, GroupTree, inside_of, closer_span}
+use Rattle.rl_tokens.specs.Buffers.{first_span, begins_mark, IsBehindMark, IsRefusal}
 use Rattle.rl_tokens.specs.Fronts.{IsFrontOf, HasFrontOf}
 use Rattle.rl_uses.specs.declared.list.Item.{Item}
 use Rattle.rl_uses.specs.declared.list.Item.TheVariants.{Int, Str}
 use Rattle.rl_uses.specs.declared.list.ItemList.{ItemList}
-use Rattle.rl_uses.specs.Marks.{IsBehindMark, HasNoMark}
 
--- the item begins the trees, and the rest stands behind it
-abbrev pub IsItem : {A : Type 0} → List Tree → Item A → List Tree → Type 0
-IsItem trees (Int literal) rest = IsFrontOf IntKind trees literal rest
-IsItem trees (Str literal) rest = IsFrontOf StrKind trees literal rest
+-- the literal of the item begins the trees, and the rest stands behind it
+abbrev pub IsItemOf : {A : Type 0} → List Tree → Item A → List Tree → Type 0
+IsItemOf trees (Int literal) rest = IsFrontOf IntKind trees literal rest
+IsItemOf trees (Str literal) rest = IsFrontOf StrKind trees literal rest
+
+-- The item begins the trees, and the rest stands behind it; the rest is shorter.
+pub record IsItem {A : Type 0} (trees : List Tree) (item : Item A) (rest : List Tree) : Type 0 where
+  pub literal : IsItemOf trees item rest
+  pub shorter : length rest < length trees
 
 -- Neither an integer nor a string begins the trees: this is told there, with the words of both.
 pub record MissesItem {A : Type 0} (trees : List Tree) (scope : Span) (e : Error A) : Type 0 where
@@ -50,7 +54,7 @@ pub record MissesComma {A : Type 0} (trees : List Tree) (scope : Span) (e : Erro
   pub behind : List Tree
   pub is : IsItem trees item behind
   pub some : behind ≢ []
-  pub none : HasNoMark 44 behind
+  pub none : IsFalse (begins_mark 44 behind)
   pub refusal : IsRefusal behind scope (codes "`,`") e
 
 -- No item with a comma or the end behind it begins the trees.
@@ -100,15 +104,19 @@ pub record MissesList {A : Type 0} (trees : List Tree) (scope : Span) (e : Error
   pub none : HasNoList trees
   pub refusal : IsRefusal trees scope (codes "square brackets") e
 
--- A group in square brackets begins the trees, and what is inside is refused; its end would be told at the group.
+-- A group in square brackets begins the trees, and what is inside is refused; its end would be told at the closer.
 pub record RefusesInside {A : Type 0} (trees : List Tree) (e : Error A) : Type 0 where
   pub inside : List Tree
   pub span : Span
   pub behind : List Tree
   pub group : trees ≡ GroupTree Bracket (inside_of inside) span ∷ behind
-  pub refused : RefusesItems inside span e
+  pub refused : RefusesItems inside (closer_span span) e
+
+-- no list begins the trees
+abbrev pub RefusesList : {A : Type 0} → List Tree → Span → Error A → Type 0
+RefusesList trees scope e = MissesList trees scope e ⊎ RefusesInside trees e
 
 -- what the parser of lists does; a refusal leaves the trees
 abbrev pub RunsList : {A : Type 0} → List Tree → Span → Result (ItemList A) (Error A) → List Tree → Type 0
 RunsList trees scope (Ok list) rest = IsList trees list.items.items rest
-RunsList trees scope (Err e) rest = (MissesList trees scope e ⊎ RefusesInside trees e) × (rest ≡ trees)
+RunsList trees scope (Err e) rest = RefusesList trees scope e × (rest ≡ trees)

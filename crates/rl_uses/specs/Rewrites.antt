@@ -1,11 +1,12 @@
 -- Literals that are written anew from their values, and the text that they make.
-use Rattle.std.specs.Prelude.{◌≡◌, ◌≢◌, ◌⊎◌, ℕ, List, [], ◌∷◌, ◌++◌}
+use Rattle.std.specs.Prelude.{◌≡◌, ◌⊎◌, ℕ, List, [], ◌∷◌, ◌++◌}
 use Rattle.std.specs.Str.{chars}
 use Rattle.rl_tokens.specs.declared.kind.Kind.{Kind}
 use Rattle.rl_tokens.specs.declared.kind.Kind.TheVariants.{Str as StrKind, ByteStr as ByteStrKind, CStr as CStrKind, Byte as ByteKind, Char as CharKind}
 use Rattle.rl_tokens.specs.Tokens.{Token}
 use Rattle.rl_tokens.specs.Reading.{quoted_contents, HasContents, HasSuffix}
 use Rattle.rl_tokens.specs.Agreeing.{IsWrittenForm}
+use Rattle.rl_quoted.specs.Suffixes.{HasSomeSuffix}
 use Rattle.rust_literals.specs.declared.lit.Lit.{Lit}
 use Rattle.rust_literals.specs.declared.lit.Lit.TheVariants.{Str, ByteStr, CStr, Byte, Char}
 use Rattle.rust_literals.specs.Copies.{text_of}
@@ -20,9 +21,7 @@ pub record IsAnew (kind : Kind) (old new : Token) : Type 0 where
 
 -- A suffix stands behind the old literal, and the new one is the same.
 pub record IsKept (kind : Kind) (old new : Token) : Type 0 where
-  pub suffix : List ℕ
-  pub has : HasSuffix kind (chars old.text) suffix
-  pub some : suffix ≢ []
+  pub suffix : HasSomeSuffix kind (chars old.text)
   pub same : new ≡ old
 
 -- what becomes of a quoted literal

@@ -7,8 +7,8 @@ use Rattle.rl_tokens.specs.Tokens.{Token}
 use Rattle.rl_tokens.specs.Trees.{Tree}
 use Rattle.rl_tokens.specs.Lexing.{Lexes}
 use Rattle.rl_tokens.specs.Fronts.{IsFrontOf, RunsAs}
+use Rattle.rl_tokens.specs.Whole.{RefusesAll}
 use Rattle.rust_literals.specs.Base10.{AreBase10Digits, IsMadeOf, IsRefusedBy}
-use Rattle.rl_uses.specs.Whole.{RefusesAll}
 
 -- The text is cut into the trees of one integer literal, and nothing else.
 pub record IsOneInt (text : List ℕ) (file : ℕ) (literal : Token) : Type 0 where

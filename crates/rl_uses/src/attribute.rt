@@ -1,14 +1,12 @@
 //! Attributes: a name that is set to a string.
 
 ghost use Rattle.std.specs.Prelude.{◌≡◌, IfOk, IfErr};
-ghost use Rattle.rl_tokens.specs.Buffers.{trees_in, scope_of, IsRest};
+ghost use Rattle.rl_tokens.specs.Buffers.{trees_in, scope_of, IsRest, StaysRest};
 ghost use Rattle.rl_uses.specs.Attributes.{IsValue, RefusesValue, IsAttribute, RefusesAttribute, RunsAttribute};
-ghost use Rattle.rl_uses.specs.Whole.{ParsesAll, RefusesAll};
+ghost use Rattle.rl_tokens.specs.Whole.{ParsesAll, RefusesAll};
 
-use crate::mark::take_mark;
-use crate::whole::parse_all;
 use rl_quoted::LitStr;
-use rl_tokens::{Error, Ident, Parse, ParseBuffer};
+use rl_tokens::{Error, Ident, Parse, ParseBuffer, attempt, parse_all};
 use std::alloc::{Allocator, Global};
 
 /// An attribute: `name = "value"`.
@@ -27,12 +25,11 @@ fn parse_value<A: Allocator>(
 ) -> Result<LitStr<A>, Error<A>>
     ensures ok { IfOk result (λ v. IsValue (trees_in input.old) v (trees_in input.new)) }
     ensures refused { IfErr result (RefusesValue (trees_in input.old) (scope_of input.old)) }
-    ensures rest { IsRest (trees_in input.old) (trees_in input.new) }
+    ensures onward { StaysRest (trees_in input.old) (trees_in input.new) }
     ensures scope { scope_of input.new ≡ scope_of input.old }
 {
-    take_mark(input, '=', "`=`")?;
-    let value = input.parse::<LitStr<A>>(alloc)?;
-    Ok(value)
+    input.take_punct('=')?;
+    input.parse::<LitStr<A>>(alloc)
 }
 
 /// Takes an attribute. A refusal may leave the buffer behind what was taken.
@@ -48,7 +45,7 @@ fn parse_attribute<A: Allocator + Copy>(
     let Some(name) = input.ident() else {
         return Err(input.error("identifier"));
     };
-    let name = Ident::new(alloc, name.text(), name.span())?;
+    let name = name.clone(alloc)?;
     let value = parse_value(alloc, input)?;
     Ok(Attribute { name, value })
 }
@@ -61,16 +58,9 @@ impl<A: Allocator + Copy> Parse<A> for Attribute<A> {
 
     ghost runs = { RunsAttribute };
 
-    #[tactic(auto, using(rl_tokens::proofs::TreeRests::rest_none))]
     fn parse(alloc: A, input: &mut ParseBuffer<'_, A>) -> Result<Attribute<A>, Error<A>> {
-        let before = input.fork();
-        match parse_attribute(alloc, input) {
-            Ok(attribute) => Ok(attribute),
-            Err(error) => {
-                *input = before;
-                Err(error)
-            }
-        }
+        let attribute = attempt(input, |input| parse_attribute(alloc, input))?;
+        Ok(attribute)
     }
 }
 

@@ -6,10 +6,8 @@ mod attribute;
 mod count;
 mod lint;
 mod list;
-mod mark;
 mod rewrite;
 mod setting;
-mod whole;
 
 pub use crate::attribute::{Attribute, read_attribute};
 pub use crate::count::{Counts, count_literals};
@@ -17,4 +15,3 @@ pub use crate::lint::control_strings;
 pub use crate::list::{Item, ItemList};
 pub use crate::rewrite::{format, rewritten};
 pub use crate::setting::read_number;
-pub use crate::whole::parse_all;

@@ -4,11 +4,10 @@ ghost use Rattle.std.specs.Prelude.{◌≡◌, ◌∷◌, [], ◌<◌, length, O
 ghost use Rattle.rl_tokens.specs.declared.token.Delimiter.TheVariants.{Bracket};
 ghost use Rattle.rl_tokens.specs.Trees.{GroupTree, inside_of, stream_of, stream_view, group_span};
 ghost use Rattle.rl_tokens.specs.Buffers.{trees_in, scope_of, IsRest, IsRefusal};
-ghost use Rattle.rl_uses.specs.Lists.{IsListed, RefusesListed, Lists, RefusesItems, HasNoList};
+ghost use Rattle.rl_uses.specs.Lists.{IsListed, RefusesListed, Lists, RefusesItems, HasNoList, IsList, RefusesList};
 
-use crate::mark::take_mark;
 use rl_quoted::LitStr;
-use rl_tokens::{Delimiter, Error, Group, Parse, ParseBuffer};
+use rl_tokens::{Delimiter, Error, Group, Parse, ParseBuffer, attempt};
 use rust_literals::LitInt;
 use std::alloc::{Allocator, Global};
 
@@ -49,7 +48,6 @@ pub struct ItemList<A: Allocator = Global> {
 }
 
 /// Takes an item, and the comma behind it where anything stands there.
-#[tactic(auto, using(crate::proofs::ItemLemmas::item_shorter))]
 fn parse_listed<A: Allocator + Copy>(
     alloc: A,
     input: &mut ParseBuffer<'_, A>,
@@ -63,7 +61,7 @@ fn parse_listed<A: Allocator + Copy>(
     if input.is_empty() {
         return Ok(item);
     }
-    take_mark(input, ',', "`,`")?;
+    input.take_punct(',')?;
     Ok(item)
 }
 
@@ -107,12 +105,19 @@ fn take_brackets<'a, A: Allocator>(input: &mut ParseBuffer<'a, A>) -> Result<&'a
     }
 }
 
-/// The trees inside a group, whose end is told at the group.
-fn inside<'a, A: Allocator>(group: &'a Group<A>) -> ParseBuffer<'a, A>
-    ensures trees { trees_in result ≡ stream_view (stream_of group.now) }
-    ensures scope { scope_of result ≡ group_span group.now }
+/// Takes a list. A refusal may leave the buffer behind the group.
+fn parse_list<A: Allocator + Copy>(
+    alloc: A,
+    input: &mut ParseBuffer<'_, A>,
+) -> Result<ItemList<A>, Error<A>>
+    ensures ok { IfOk result (λ list. IsList (trees_in input.old) list.items.items (trees_in input.new)) }
+    ensures refused { IfErr result (RefusesList (trees_in input.old) (scope_of input.old)) }
+    ensures rest { IsRest (trees_in input.old) (trees_in input.new) }
+    ensures scope { scope_of input.new ≡ scope_of input.old }
 {
-    ParseBuffer::new(group.stream().trees(), group.span())
+    let group = take_brackets(input)?;
+    let items = parse_items(alloc, &mut group.inside())?;
+    Ok(ItemList { items })
 }
 
 /// Takes a group in square brackets, of items with commas between them. Refused is, at its place, what is no such group
@@ -123,16 +128,8 @@ impl<A: Allocator + Copy> Parse<A> for ItemList<A> {
 
     ghost runs = { RunsList };
 
-    #[tactic(auto, using(rl_tokens::proofs::TreeRests::rest_none))]
     fn parse(alloc: A, input: &mut ParseBuffer<'_, A>) -> Result<ItemList<A>, Error<A>> {
-        let before = input.fork();
-        let group = take_brackets(input)?;
-        match parse_items(alloc, &mut inside(group)) {
-            Ok(items) => Ok(ItemList { items }),
-            Err(error) => {
-                *input = before;
-                Err(error)
-            }
-        }
+        let list = attempt(input, |input| parse_list(alloc, input))?;
+        Ok(list)
     }
 }

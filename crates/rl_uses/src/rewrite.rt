@@ -1,6 +1,6 @@
 //! A formatter: quoted literals are written anew from their values.
 
-ghost use Rattle.std.specs.Prelude.{◌≡◌, ◌≢◌, [], List, OnOk, IfOk, IfErr, MatchBool, string_bytes};
+ghost use Rattle.std.specs.Prelude.{◌≡◌, List, OnOk, IfOk, IfErr, string_bytes};
 ghost use Rattle.std.specs.Str.{chars};
 ghost use Rattle.rl_tokens.specs.declared.kind.Kind.TheVariants.{Str as StrKind, ByteStr as ByteStrKind, CStr as CStrKind, Byte as ByteKind, Char as CharKind};
 ghost use Rattle.rl_tokens.specs.Errors.{memory_at};
@@ -14,13 +14,6 @@ use rl_tokens::Error;
 use rust_literals::{Lit, LitByte, LitByteStr, LitCStr, LitChar, LitStr, read_all};
 use std::alloc::Allocator;
 
-/// Whether the suffix is empty.
-fn is_bare(suffix: &str) -> bool
-    ensures { MatchBool result (chars suffix.now ≡ []) (chars suffix.now ≢ []) }
-{
-    suffix.is_empty()
-}
-
 /// The string, written anew where it has no suffix.
 fn string_rewritten<A: Allocator + Copy>(
     alloc: A,
@@ -29,7 +22,7 @@ fn string_rewritten<A: Allocator + Copy>(
     ensures rewritten { IfOk result (IsQuotedRewrite StrKind literal.now) }
     ensures memory { IfErr result (λ e. e ≡ memory_at literal.now.span) }
 {
-    if !is_bare(literal.suffix()) {
+    if literal.has_suffix() {
         return literal.clone(alloc);
     }
     let value = literal.value(alloc)?;
@@ -44,7 +37,7 @@ fn byte_string_rewritten<A: Allocator + Copy>(
     ensures rewritten { IfOk result (IsQuotedRewrite ByteStrKind literal.now) }
     ensures memory { IfErr result (λ e. e ≡ memory_at literal.now.span) }
 {
-    if !is_bare(literal.suffix()) {
+    if literal.has_suffix() {
         return literal.clone(alloc);
     }
     let value = literal.value(alloc)?;
@@ -59,7 +52,7 @@ fn c_string_rewritten<A: Allocator + Copy>(
     ensures rewritten { IfOk result (IsQuotedRewrite CStrKind literal.now) }
     ensures memory { IfErr result (λ e. e ≡ memory_at literal.now.span) }
 {
-    if !is_bare(literal.suffix()) {
+    if literal.has_suffix() {
         return literal.clone(alloc);
     }
     let value = literal.value(alloc)?;
@@ -74,7 +67,7 @@ fn byte_rewritten<A: Allocator + Copy>(
     ensures rewritten { IfOk result (IsQuotedRewrite ByteKind literal.now) }
     ensures memory { IfErr result (λ e. e ≡ memory_at literal.now.span) }
 {
-    if !is_bare(literal.suffix()) {
+    if literal.has_suffix() {
         return literal.clone(alloc);
     }
     LitByte::new(alloc, literal.value(), literal.span())
@@ -88,7 +81,7 @@ fn character_rewritten<A: Allocator + Copy>(
     ensures rewritten { IfOk result (IsQuotedRewrite CharKind literal.now) }
     ensures memory { IfErr result (λ e. e ≡ memory_at literal.now.span) }
 {
-    if !is_bare(literal.suffix()) {
+    if literal.has_suffix() {
         return literal.clone(alloc);
     }
     LitChar::new(alloc, literal.value(), literal.span())

@@ -3,8 +3,7 @@
 ghost use Rattle.std.specs.Prelude.{IfOk, IfErr};
 ghost use Rattle.rl_uses.specs.Settings.{IsSetTo, RefusesSetting};
 
-use crate::whole::parse_all;
-use rl_tokens::Error;
+use rl_tokens::{Error, parse_all};
 use rust_literals::LitInt;
 use std::alloc::Allocator;
 use std::fmt::Display;

@@ -3,7 +3,7 @@ use Rattle.std.proofs.Common.{◌≡◌, ◌≢◌, ◌<◌, List, [], ◌∷◌
 use Rattle.rl_tokens.specs.Tokens.{Token}
 use Rattle.rl_tokens.specs.Trees.{Tree, GroupTree, IdentTree, PunctTree, LiteralTree}
 use Rattle.rl_tokens.specs.Fronts.{IsFront, HasNoFront}
-use Rattle.rl_grammar.proofs.FrontLemmas.{one_front}
+use Rattle.rl_grammar.proofs.FrontLemmas.{one_front, front_shorter}
 use Rattle.rust_literals.specs.declared.lit.Lit.{Lit}
 use Rattle.rust_literals.specs.Literals.{IsReadFrom}
 use Rattle.rust_literals.specs.Parsing.{IsLitFront, Leads}
@@ -16,17 +16,6 @@ one_lit_front trees a b r s h k =
     (one_lit k.token a b (subst (λ (t : Token). IsReadFrom t a) one.0 h.read) k.read, one.1)
 
 -- what stands behind a literal is shorter
-front_shorter : (trees : List Tree) (token : Token) (rest : List Tree) → IsFront trees token rest → length rest < length trees
-front_shorter [] token rest h = absurd h
-front_shorter (LiteralTree x ∷ trees) token rest (e, f) = omega (arith, ap length f)
-front_shorter (IdentTree x ∷ trees) token rest (_, e, f) = omega (arith, ap length f)
-front_shorter (PunctTree p ∷ []) token rest h = absurd h
-front_shorter (PunctTree p ∷ LiteralTree x ∷ trees) token rest (_, _, e, f) = omega (arith, ap length f)
-front_shorter (PunctTree p ∷ IdentTree x ∷ trees) token rest h = absurd h
-front_shorter (PunctTree p ∷ PunctTree x ∷ trees) token rest h = absurd h
-front_shorter (PunctTree p ∷ GroupTree d inside at ∷ trees) token rest h = absurd h
-front_shorter (GroupTree d inside at ∷ trees) token rest h = absurd h
-
 pub lit_shorter : {A : Type 0} (trees : List Tree) (lit : Lit A) (rest : List Tree) → IsLitFront trees lit rest → length rest < length trees
 lit_shorter trees lit rest h = front_shorter trees h.token rest h.front
 

@@ -11,8 +11,8 @@ use Rattle.rl_tokens.specs.Tokens.{Token}
 use Rattle.rl_tokens.specs.Trees.{Tree}
 use Rattle.rl_tokens.specs.Reading.{Truth}
 use Rattle.rl_tokens.specs.Buffers.{MissesWord}
-use Rattle.rl_tokens.specs.Fronts.{HasFront, HasFrontOf, PassesOther, RunsAs}
-use Rattle.rl_grammar.proofs.FrontLemmas.{same_front}
+use Rattle.rl_tokens.specs.Fronts.{HasFront, HasFrontOf, RunsAs}
+use Rattle.rl_grammar.proofs.FrontLemmas.{front_of}
 use Rattle.rust_literals.specs.declared.lit.Lit.{Lit}
 use Rattle.rust_literals.specs.declared.lit_bool.LitBool.{LitBool}
 use Rattle.rust_literals.specs.Parsing.{RunsLit, RunsTruth}
@@ -26,14 +26,6 @@ never_memory A (t ∷ ts) word h = h
 word_is_not_memory : {A : Type 0} (trees : List Tree) (word : List ℕ) (kind : ErrorKind A) → MissesWord trees word kind → kind ≡ Memory → ⊥
 word_is_not_memory {A = A} trees word kind h e = never_memory A trees word (subst (λ (k : ErrorKind A). MissesWord trees word k) e h)
 
--- where a literal of the kind begins the trees, none of another kind does
-pub never_other : {A : Type 0} (kind : Kind) (word : List ℕ) (trees : List Tree) (scope : Span) (e : Error A) (rest : List Tree) → PassesOther kind word trees scope e rest → HasFrontOf kind trees → ⊥
-never_other kind word trees scope e rest p has =
-    elim p.passed [
-      | inl o ↦ o.other (same_front kind trees o.token rest o.front has)
-      | inr n ↦ n.0 has.0 has.1 has.2.front
-    ]
-
 -- what a parser of one kind refuses for want of memory, its peek is true of
 typed_wants : {A : Type 0} (kind : Kind) (word : List ℕ) (trees : List Tree) (scope : Span) (e : Error A) (rest : List Tree) → RunsAs kind word trees scope (Err e) rest → e.kind ≡ Memory → HasFrontOf kind trees
 typed_wants kind word trees scope e rest (inl m) is = m.0
@@ -42,7 +34,7 @@ typed_wants kind word trees scope e rest (inr p) is = absurd (word_is_not_memory
 typed_finds : {A : Type 0} (kind : Kind) (word : List ℕ) (trees : List Tree) (scope : Span) (answer : Result Token (Error A)) (rest : List Tree) → RunsAs kind word trees scope answer rest → HasFrontOf kind trees → SucceedsOrMemory answer
 typed_finds kind word trees scope (Ok token) rest runs has = tt
 typed_finds kind word trees scope (Err e) rest (inl m) has = ap (λ x. x.kind) m.1.error
-typed_finds kind word trees scope (Err e) rest (inr p) has = absurd (never_other kind word trees scope e rest p has)
+typed_finds kind word trees scope (Err e) rest (inr p) has = absurd (p.none has)
 
 pub typed_tells : {A : Type 0} (kind : Kind) (word : List ℕ) → PeekTells (RunsAs {A = A} kind word) (HasFrontOf kind)
 typed_tells kind word = record {
@@ -54,7 +46,7 @@ typed_tells kind word = record {
 -- the same of truth values
 truth_finds : {A : Type 0} (trees : List Tree) (scope : Span) (answer : Result LitBool (Error A)) (rest : List Tree) → RunsTruth trees scope answer rest → HasFrontOf BoolKind trees → SucceedsOrMemory answer
 truth_finds trees scope (Ok literal) rest runs has = tt
-truth_finds trees scope (Err e) rest p has = absurd (never_other BoolKind _ trees scope e rest p has)
+truth_finds trees scope (Err e) rest p has = absurd (p.none has)
 
 truth_wants : {A : Type 0} (trees : List Tree) (scope : Span) (e : Error A) (rest : List Tree) → RunsTruth trees scope (Err e) rest → e.kind ≡ Memory → HasFrontOf BoolKind trees
 truth_wants trees scope e rest p is = absurd (word_is_not_memory trees _ e.kind p.refusal.kind is)
@@ -62,7 +54,7 @@ truth_wants trees scope e rest p is = absurd (word_is_not_memory trees _ e.kind 
 pub truth_tells : {A : Type 0} → PeekTells (RunsTruth {A = A}) (HasFrontOf BoolKind)
 truth_tells = record {
   finds = truth_finds;
-  only = λ trees scope literal rest runs. (runs.token, rest, record { front = runs.front; reads = (Truth literal.value, [], runs.reads) });
+  only = λ trees scope literal rest runs. (runs.token, rest, front_of _ _ _ _ runs.front (Truth literal.value, [], runs.reads));
   wants = truth_wants;
 }
 

@@ -3,16 +3,16 @@ use Rattle.std.specs.Prelude.{◌≡◌, ◌≢◌, ◌⊎◌, ℕ, List, [], �
 use Rattle.std.specs.Str.{chars}
 use Rattle.rl_tokens.specs.declared.span.Span.{Span}
 use Rattle.rl_tokens.specs.declared.kind.Kind.TheVariants.{Bool as BoolKind}
-use Rattle.rl_tokens.specs.declared.lex_error.LexKind.{LexKind}
 use Rattle.rl_tokens.specs.declared.error.Error.{Error}
 use Rattle.rl_tokens.specs.declared.error.ErrorKind.TheVariants.{Memory}
-use Rattle.rl_tokens.specs.Errors.{memory_at, lex_refusal, nowhere}
+use Rattle.rl_tokens.specs.Errors.{memory_at, nowhere}
 use Rattle.rl_tokens.specs.Tokens.{Token}
 use Rattle.rl_tokens.specs.Trees.{Tree}
 use Rattle.rl_tokens.specs.Reading.{Reads, Truth}
-use Rattle.rl_tokens.specs.Lexing.{Lexes, Refuses}
+use Rattle.rl_tokens.specs.Lexing.{Lexes}
 use Rattle.rl_tokens.specs.Buffers.{first_span, IsRefusal}
 use Rattle.rl_tokens.specs.Fronts.{IsFront, HasFront, HasNoFront, PassesOther, WantsMemory}
+use Rattle.rl_tokens.specs.Whole.{IsUncutText}
 use Rattle.rust_literals.specs.declared.lit.Lit.{Lit}
 use Rattle.rust_literals.specs.declared.lit_bool.LitBool.{LitBool}
 use Rattle.rust_literals.specs.Literals.{IsReadFrom}
@@ -72,13 +72,6 @@ pub record AreRead {A : Type 0} (text : List ℕ) (file : ℕ) (list : List (Lit
   pub trees : List Tree
   pub lexes : Lexes text file trees
   pub leads : Leads trees list []
-
--- The text can't be cut: its first fault, or want of memory for the token there, told at its place.
-pub record IsUncutText {A : Type 0} (text : List ℕ) (file : ℕ) (e : Error A) : Type 0 where
-  pub kind : LexKind
-  pub at : ℕ
-  pub refused : Refuses text kind at
-  pub error : e ≡ lex_refusal kind (record { file = file; lo = at; hi = at })
 
 -- The text is cut into trees, and this is refused of them.
 pub record RefusesTrees {A : Type 0} (text : List ℕ) (file end : ℕ) (e : Error A) : Type 0 where

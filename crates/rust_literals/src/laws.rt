@@ -1,12 +1,13 @@
 //! Laws of the definitions: each function does nothing, and its contract is the law.
 
-ghost use Rattle.std.specs.Prelude.{◌≡◌, List, ℕ};
+ghost use Rattle.std.specs.Prelude.{◌≡◌, ◌<◌, List, ℕ, length};
 ghost use Rattle.rl_tokens.specs.declared.kind.Kind.{Kind};
 ghost use Rattle.rl_tokens.specs.declared.kind.Kind.TheVariants.{Bool as BoolKind};
 ghost use Rattle.rl_tokens.specs.Fronts.{HasFront, HasFrontOf, RunsAs};
 ghost use Rattle.rust_literals.specs.declared.lit.Lit.{Lit};
 ghost use Rattle.rust_literals.specs.Literals.{kind_of, token_of};
-ghost use Rattle.rust_literals.specs.Parsing.{RunsLit, RunsTruth};
+ghost use Rattle.rl_tokens.specs.Trees.{Tree};
+ghost use Rattle.rust_literals.specs.Parsing.{IsLitFront, RunsLit, RunsTruth};
 ghost use Rattle.rust_literals.specs.Peeking.{PeekTells};
 
 use std::alloc::Allocator;
@@ -22,4 +23,10 @@ pub fn peeks_tell<A: Allocator>()
 /// A literal is told by its kind and its token: a copy, and a literal at another place, is told by them whole.
 pub fn kind_and_token_tell<A: Allocator>()
     ensures { (a b : Lit A) → kind_of a ≡ kind_of b → token_of a ≡ token_of b → a ≡ b }
+{}
+
+/// Behind a literal of any kind fewer trees stand than before it.
+pub fn literal_is_taken<A: Allocator>()
+    ensures { (trees : List Tree) (literal : Lit A) (rest : List Tree)
+        → IsLitFront trees literal rest → length rest < length trees }
 {}

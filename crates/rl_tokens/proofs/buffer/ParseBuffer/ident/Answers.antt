@@ -1,6 +1,6 @@
 use Rattle.std.proofs.Common.{rules}
 use Rattle.rl_tokens.specs.Trees.{tree_view}
-use Rattle.rl_tokens.proofs.TreeRests.{rest_one, rest_self}
+use Rattle.rl_tokens.proofs.TreeRests.{rest_one, rest_self, stays_behind}
 use Rattle.rl_tokens.proofs.buffer.ParseBuffer.ident.Goals as goal
 
 pub returns-in-Ident-clause-rest : goal.returns-in-Ident-clause-rest
@@ -8,3 +8,6 @@ returns-in-Ident-clause-rest g c = rest_one _ _ (tree_view c.in_ok-first.first.n
 
 pub returns-in_default-clause-rest : goal.returns-in_default-clause-rest
 returns-in_default-clause-rest g c = rest_self _
+
+pub returns-in-Ident-clause-onward : goal.returns-in-Ident-clause-onward
+returns-in-Ident-clause-onward g c = stays_behind _ _ (tree_view c.in_ok-first.first.now) (search rules)
