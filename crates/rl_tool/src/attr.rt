@@ -51,7 +51,7 @@ impl<A: Allocator> Attrs<A> {
         ensures named { IfSome result
             (λ value. Any (λ entry. HasName name.now entry) (entries_of self.now)) }
     {
-        for entry in self.entries.as_slice() {
+        for entry in self.entries() {
             if entry.name.as_str() == name {
                 return Some(&entry.value);
             }
