@@ -1,6 +1,6 @@
 -- Attributes at the front of trees, one after another.
-use Rattle.std.proofs.Common.{◌≡◌, ◌≢◌, inl, inr, ℕ, ◌<◌, ◌≤◌, Bool, true, false, ◌||◌, cond, List, [], ◌∷◌, ◌++◌, length, length-append, append-nil, append_assoc, map, refl, sym, ◌∙◌, ap, subst, arith}
-use Rattle.std.specs.Prelude.{IsTrue, IsFalse}
+use Rattle.std.proofs.Common.{◌≡◌, ◌≢◌, inl, inr, ℕ, ◌<◌, Bool, true, false, ◌||◌, cond, List, [], ◌∷◌, ◌++◌, length, length-append, append-nil, append_assoc, refl, sym, ◌∙◌, ap, subst, arith}
+use Rattle.std.specs.Prelude.{IsTrue}
 use Rattle.std.specs.Cmp.Lexicographic.{nat_list_eq_equiv}
 use Rattle.std.specs.List.{list_any, IsDistinct, AllByRecursion}
 use Rattle.std.specs.Str.{bytes_eq}
@@ -10,12 +10,11 @@ use Rattle.std.proofs.lemmas.Map.Keys.{IsDistinct-push, IsDistinct-head, IsDisti
 use Rattle.rl_tokens.specs.declared.span.Span.{Span}
 use Rattle.rl_tokens.specs.declared.error.Error.{Error}
 use Rattle.rl_tokens.specs.Tokens.{Token}
-use Rattle.rl_tokens.specs.Puncts.{Mark}
-use Rattle.rl_tokens.specs.Trees.{Tree, IdentTree, PunctTree}
-use Rattle.rl_tokens.specs.Buffers.{begins_ident, begins_mark, IsBehindMark, IsRest}
+use Rattle.rl_tokens.specs.Trees.{Tree}
+use Rattle.rl_tokens.specs.Buffers.{begins_ident, begins_mark, IsBehindMark}
 use Rattle.rl_tokens.specs.Fronts.{IsFront}
 use Rattle.rl_grammar.proofs.FrontLemmas.{one_front, front_rest}
-use Rattle.rl_tool.specs.Attributes.{Attribute, IsAttribute, AreListed, names_of, is_named, NamesDiffer, AreAttributes, MissesName, RepeatsName, MissesEquals, MissesLiteral, MissesComma, RefusesNext, StandBefore, RefusesAttributes, HasNewName}
+use Rattle.rl_tool.specs.Attributes.{Attribute, IsAttribute, AreListed, names_of, is_named, NamesDiffer, MissesName, RepeatsName, MissesEquals, MissesLiteral, MissesComma, RefusesNext, StandBefore, RefusesAttributes, HasNewName}
 use Rattle.rl_tool.specs.AttributeSteps.{IsNext}
 
 -- ---- one attribute

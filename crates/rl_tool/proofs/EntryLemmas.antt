@@ -1,6 +1,6 @@
 -- Entries, one after another, and the names that are kept beside them.
-use Rattle.std.proofs.Common.{◌≡◌, ◌≢◌, ◌⊎◌, inl, inr, ℕ, zero, suc, ◌+◌, ◌<◌, Bool, true, false, cond, get_or, List, [], ◌∷◌, ◌++◌, map, refl, sym, ◌∙◌, ap, subst, Bor, string_bytes, arith}
-use Rattle.std.specs.Prelude.{IsTrue, IsFalse, All, Result, Ok, Err, IfOk, IfErr, length}
+use Rattle.std.proofs.Common.{◌≡◌, ◌≢◌, ◌⊎◌, inl, inr, ℕ, zero, suc, ◌+◌, ◌<◌, Bool, true, false, cond, get_or, List, [], ◌∷◌, ◌++◌, refl, sym, ◌∙◌, ap, subst, Bor, string_bytes, arith}
+use Rattle.std.specs.Prelude.{IsFalse, codes, All, Result, Ok, Err, IfOk, IfErr, length}
 use Rattle.std.specs.HashSet.{HashSet, IsEmpty}
 use Rattle.std.specs.Str.{bytes_eq, chars}
 use Rattle.std.specs.Cmp.Lexicographic.{nat_list_eq_equiv}
@@ -14,15 +14,17 @@ use Rattle.rl_tokens.specs.declared.error.Error.{Error}
 use Rattle.rl_tokens.specs.declared.error.ErrorKind.{ErrorKind}
 use Rattle.rl_tokens.specs.declared.error.ErrorKind.TheVariants.{Expected, EndOfInput, Unexpected, Lex, Suffix, NotInteger, TooLarge, NotFloat, Repeated, Number, Memory}
 use Rattle.rl_tokens.specs.Errors.{memory_at}
+use Rattle.rl_tokens.specs.Tokens.{Token}
 use Rattle.rl_tokens.specs.Trees.{Tree}
-use Rattle.rl_tokens.specs.Buffers.{begins_ident, first_span, IsRest, MissesWord, IsRefusal}
+use Rattle.rl_tokens.specs.Buffers.{begins_ident, first_span, IsRest, IsBehindMark, StaysRest, MissesWord, IsRefusal}
 use Rattle.rl_tokens.specs.Whole.{place_at, RefusesAll, LeavesTrees}
 use Rattle.rl_tokens.proofs.LexLaws.{one_list, never_both}
-use Rattle.rl_tokens.proofs.TreeRests.{rest_self, rest_step}
+use Rattle.rl_tokens.proofs.TreeRests.{rest_self}
+use Rattle.rust_literals.specs.Parsing.{RunsLit}
 use Rattle.rust_literals.proofs.ReadLemmas.{lex_memory}
 use Rattle.rl_tool.specs.declared.attr.Entry.{Entry}
 use Rattle.rl_tool.specs.declared.attr.Attrs.{Attrs}
-use Rattle.rl_tool.specs.Attributes.{Attribute, AreListed, names_of, is_named, NamesDiffer, AreAttributes, AreAttributesOf, RefusesNext, RefusesAttributes, RefusesTrees, RefusesText}
+use Rattle.rl_tool.specs.Attributes.{Attribute, HasNewName, AreListed, names_of, is_named, NamesDiffer, AreAttributes, AreAttributesOf, RefusesNext, RefusesAttributes, RefusesTrees, RefusesText}
 use Rattle.rl_tool.specs.Entries.{attribute_of, attributes_of, IsRead, HasName, EntriesDiffer}
 use Rattle.rl_tool.specs.AttributeParsing.{entries_of, AreEntries, RunsAttrs, IsListOrMemory}
 use Rattle.rl_tool.specs.AttributeSteps.{has_name, AddsName, IsNext, WantsMemory, Stops, told_at, kind_told_at}
@@ -47,7 +49,7 @@ at_first {A = A} trees entries names e n = record {
 }
 
 -- one entry more
-pub at_next : {A S : Type 0} (trees : List Tree) (entries more : List (Entry A)) (old new : HashSet (Bor (List ℕ)) S) (rest next : List Tree) (entry : Entry A) → IsAt trees entries old rest → rest ≢ [] → IsNext rest (attribute_of entry) next → IsFalse (has_name old (string_bytes entry.name)) → IsRead entry → AddsName old new (string_bytes entry.name) → IsRest rest next → more ≡ entries ++ (entry ∷ []) → IsAt trees more new next
+pub at_next : {A S : Type 0} (trees : List Tree) (entries more : List (Entry A)) (old new : HashSet (Bor (List ℕ)) S) (rest next : List Tree) (entry : Entry A) → IsAt trees entries old rest → rest ≢ [] → IsNext rest (attribute_of entry) next → IsFalse (has_name old (string_bytes entry.name)) → IsRead entry → AddsName old new (string_bytes entry.name) → StaysRest rest next → more ≡ entries ++ (entry ∷ []) → IsAt trees more new next
 at_next trees entries more old new rest next entry at some n anew read adds left e =
     let grown : attributes_of more ≡ attributes_of entries ++ (attribute_of entry ∷ []) = ap attributes_of e ∙ map_push attribute_of entries entry in
     record {
@@ -59,7 +61,7 @@ at_next trees entries more old new rest next entry at some n anew read adds left
           ∙ ap (λ b. cond (bytes_eq (string_bytes entry.name) name) true b) (at.knows name)
           ∙ sym (named_more name (attributes_of entries) (attribute_of entry))
           ∙ ap (is_named name) (sym grown);
-      left = rest_step trees rest next at.left left;
+      left = left trees at.left;
     }
 
 -- the trees end
@@ -79,6 +81,23 @@ at_refusal trees entries names rest scope was e at some s (inl w) = inl (at_memo
 at_refusal trees entries names rest scope was e at some s (inr r) =
     let seen = same_seen (has_name names) (λ name. is_named name (attributes_of entries)) rest was e at.knows r in
     inr (subst (λ (z : Span). RefusesAttributes trees z e) s (refused_next trees (attributes_of entries) rest was e at.taken at.differ some seen))
+
+-- behind a new name and `=`, what the parser of literals refuses
+pub value_refused : {A : Type 0} (seen : List ℕ → Bool) (trees at_equals at_literal after : List Tree) (scope was : Span) (name : Token) (e : Error A) → HasNewName seen trees name at_equals → IsBehindMark 61 at_equals at_literal → was ≡ scope → RunsLit at_literal was (Err e) after → Stops seen trees scope e
+value_refused {A = A} seen trees at_equals at_literal after scope was name e begun equals same (inl w) =
+    inl (record { begun = subst (λ (ts : List Tree). begins_ident ts ≡ true) (sym begun.named) refl; memory = ap (λ (x : Error A). x.kind) w.1.error })
+value_refused seen trees at_equals at_literal after scope was name e begun equals same (inr n) =
+    inr (record {
+      why = inr (inr (inr (inl (record {
+        name = name;
+        at_equals = at_equals;
+        at_literal = at_literal;
+        begun = begun;
+        equals = equals;
+        none = n.none;
+        refusal = subst (λ (z : Span). IsRefusal at_literal z (codes "literal") e) same n.refusal;
+      }))));
+    })
 
 -- ---- want of memory is told at the first tree
 

@@ -22,11 +22,13 @@ entry_pushed entry a b c d line u v w p q r prints =
     let name = chars (string_bytes entry.name) in
     let one : chars b ≡ chars a ++ name = pushed a b (string_bytes entry.name) u p in
     let two : chars c ≡ chars b ++ (32 ∷ []) = pushed b c (32 ∷ []) v q ∙ ap (λ z. chars b ++ z) space in
-    let three : chars d ≡ chars c ++ chars line = pushed c d line w r in
-    (chars line, prints,
+    let three : chars d ≡ chars c ++ chars line = pushed c d line w r in (
+      chars line,
+      prints,
       three ∙ ap (λ z. z ++ chars line) (two ∙ ap (λ z. z ++ (32 ∷ [])) one)
-      ∙ append_assoc (chars a ++ name) (32 ∷ []) (chars line)
-      ∙ append_assoc (chars a) name (32 ∷ chars line))
+          ∙ append_assoc (chars a ++ name) (32 ∷ []) (chars line)
+          ∙ append_assoc (chars a) name (32 ∷ chars line),
+    )
 
 -- one entry more
 pub prints_entry_more : {A : Type 0} (es : List (Entry A)) (e : Entry A) (a b c : List ℕ) → PrintsEntries es a b → PrintsEntry e b c → PrintsEntries (es ++ (e ∷ [])) a c

@@ -1,5 +1,5 @@
 -- What entries hold: attributes, each with its literal as it reads.
-use Rattle.std.specs.Prelude.{◌≡◌, ℕ, List, map, All, string_bytes}
+use Rattle.std.specs.Prelude.{◌≡◌, ℕ, List, map, string_bytes}
 use Rattle.std.specs.Str.{chars}
 use Rattle.rust_literals.specs.Literals.{kind_of, token_of, IsReadAs}
 use Rattle.rl_tool.specs.declared.attr.Entry.{Entry}

@@ -5,11 +5,10 @@ ghost use Rattle.rl_tool.specs.Entries.{EntriesDiffer};
 
 mod take;
 
-pub use take::read;
-
 use rl_tokens::Span;
 use rust_literals::Lit;
 use std::alloc::{Allocator, Global};
+pub use take::read;
 
 /// An attribute: a name, and the literal that it is set to.
 #[derive(Drop)]
@@ -52,7 +51,7 @@ impl<A: Allocator> Attrs<A> {
         ensures named { IfSome result
             (λ value. Any (λ entry. HasName name.now entry) (entries_of self.now)) }
     {
-        for entry in self.entries.as_slice() {
+        for entry in self.entries() {
             if entry.name.as_str() == name {
                 return Some(&entry.value);
             }

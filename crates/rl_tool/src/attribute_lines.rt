@@ -28,10 +28,7 @@ fn push_entry<A: Allocator + Copy>(
 }
 
 /// The lines of attributes, one after another.
-fn lines_of<A: Allocator + Copy>(
-    alloc: A,
-    entries: &[Entry<A>],
-) -> Result<String<A>, AllocError>
+fn lines_of<A: Allocator + Copy>(alloc: A, entries: &[Entry<A>]) -> Result<String<A>, AllocError>
     ensures { IfOk result
         (λ lines. PrintsEntries entries.now [] (chars (string_bytes lines))) }
 {

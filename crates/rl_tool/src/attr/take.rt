@@ -2,7 +2,7 @@
 
 ghost use Rattle.std.specs.Prelude.{◌≡◌, ◌⊎◌, [], ◌<◌, List, All, length, IfOk, IfErr, OnOk, OnErr, IsFalse, string_bytes};
 ghost use Rattle.std.specs.Str.{chars};
-ghost use Rattle.rl_tokens.specs.Buffers.{trees_in, scope_of, IsRest};
+ghost use Rattle.rl_tokens.specs.Buffers.{trees_in, scope_of, IsRest, StaysRest};
 ghost use Rattle.rl_tool.specs.Attributes.{
   Attribute,
   IsAttribute,
@@ -23,7 +23,7 @@ ghost use Rattle.rl_tool.specs.AttributeSteps.{
 };
 
 use super::{Attrs, Entry};
-use rl_tokens::{Error, ErrorKind, Ident, Parse, ParseBuffer, Span, parse_all};
+use rl_tokens::{Error, ErrorKind, Ident, Parse, ParseBuffer, Span, attempt, parse_all};
 use rust_literals::Lit;
 use std::alloc::Allocator;
 use std::collections::HashSet;
@@ -41,7 +41,7 @@ fn take_name<'a, A: Allocator + Copy>(
     ensures adds { IfOk result (λ name. AddsName names.old names.new name.now.text) }
     ensures refused { IfErr result
         (Stops (has_name names.old) (trees_in input.old) (scope_of input.old)) }
-    ensures rest { IsRest (trees_in input.old) (trees_in input.new) }
+    ensures onward { StaysRest (trees_in input.old) (trees_in input.new) }
     ensures scope { scope_of input.new ≡ scope_of input.old }
 {
     let Some(name) = input.ident() else {
@@ -67,7 +67,7 @@ fn take_entry<'a, A: Allocator + Copy>(
     ensures adds { IfOk result (λ entry. AddsName names.old names.new (string_bytes entry.name)) }
     ensures refused { IfErr result
         (Stops (has_name names.old) (trees_in input.old) (scope_of input.old)) }
-    ensures rest { IsRest (trees_in input.old) (trees_in input.new) }
+    ensures onward { StaysRest (trees_in input.old) (trees_in input.new) }
     ensures scope { scope_of input.new ≡ scope_of input.old }
 {
     let ident = take_name(input, names)?;
@@ -96,7 +96,7 @@ fn take_next<'a, A: Allocator + Copy>(
     ensures refused { IfErr result
         (Stops (has_name names.old) (trees_in input.old) (scope_of input.old)) }
     ensures shorter { OnOk result (length (trees_in input.new) < length (trees_in input.old)) }
-    ensures rest { IsRest (trees_in input.old) (trees_in input.new) }
+    ensures onward { StaysRest (trees_in input.old) (trees_in input.new) }
     ensures scope { scope_of input.new ≡ scope_of input.old }
 {
     let entry = take_entry(alloc, input, names)?;
@@ -154,16 +154,11 @@ impl<A: Allocator + Copy> Parse<A> for Attrs<A> {
 
     ghost runs = { RunsAttrs };
 
-    #[tactic(auto, using(rl_tokens::proofs::TreeRests::rest_none))]
     fn parse(alloc: A, input: &mut ParseBuffer<'_, A>) -> Result<Attrs<A>, Error<A>> {
         let place = input.span();
-        let before = input.fork();
-        match take_all(alloc, input) {
+        match attempt(input, |input| take_all(alloc, input)) {
             Ok(attrs) => Ok(attrs),
-            Err(error) => {
-                *input = before;
-                Err(told_at(error, place))
-            }
+            Err(error) => Err(told_at(error, place)),
         }
     }
 }

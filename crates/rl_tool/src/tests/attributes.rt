@@ -61,7 +61,10 @@ fn values_of_names(rt: HostRuntime) -> Result<(), Fail> {
     for name in ["a", "b", "true", "c", ""] {
         told.push_str(told_of(alloc, &attrs, name)?.as_str())?;
     }
-    assert_eq!(&rt; told.as_str(), "Int 1 -\nStr \"x\" -\nChar 'y' -\nnone\nnone\n");
+    assert_eq!(&rt;
+        told.as_str(),
+        "Int 1 -\nStr \"x\" -\nChar 'y' -\nnone\nnone\n"
+    );
     Ok(())
 }
 
@@ -93,44 +96,43 @@ fn many_names(rt: HostRuntime) -> Result<(), Fail> {
     Ok(())
 }
 
-/// What the parser tells with this request and all behind it refused, and how many trees are left.
+/// What the parser tells with these requests refused, and how many trees are left.
 fn told_short(
     alloc: Global,
     refusing: &Refusing<Global>,
-    request: u64,
+    first: u64,
+    last: u64,
 ) -> Result<String, AllocError> {
     let Ok(stream) = lex(refusing, "a = 0x1, b = 2", 0) else {
         return Err(AllocError);
     };
     let mut input = ParseBuffer::new(stream.trees(), Span::new(0, 14, 14));
-    refusing.refuse(request, u64::MAX);
+    refusing.refuse(first, last);
     let answer = Attrs::parse(refusing, &mut input);
     refusing.allow();
     let left = input.rest().len();
     match answer {
         Ok(attrs) => {
             let count = attrs.entries().len();
-            format!(in alloc; "{count} taken, {left} left\n")
+            format!(in alloc; "{count} taken, {left} left")
         }
-        Err(error) => format!(in alloc; "{}, {left} left\n", Refusal(&error)),
+        Err(error) => format!(in alloc; "{}, {left} left", Refusal(&error)),
     }
 }
 
-/// The set of names, then of each attribute its name, the token, the digits where they differ; the list.
+/// Ten requests: for the set of names, and of each attribute for its name, its token, its digits where they aren't in
+/// that, and the list.
 #[test]
 fn memory_refused(rt: HostRuntime) -> Result<(), Fail> {
     let alloc = rt.alloc();
     let refusing = Refusing::new(alloc);
-    let mut told = String::new(alloc);
-    for request in 1..=8_u64 {
-        told.push_str(told_short(alloc, &refusing, request)?.as_str())?;
+    for request in 1..=10_u64 {
+        for last in [request, u64::MAX] {
+            let told = told_short(alloc, &refusing, request, last)?;
+            assert!(&rt; told.as_str() == "error at 0..1: out of memory, 7 left");
+        }
     }
-    assert_eq!(&rt;
-        told.as_str(),
-        concat!(
-            "error at 0..1: out of memory, 7 left\n",
-            "2 taken, 0 left\n",
-        )
-    );
+    let told = told_short(alloc, &refusing, 11, u64::MAX)?;
+    assert!(&rt; told.as_str() == "2 taken, 0 left");
     Ok(())
 }

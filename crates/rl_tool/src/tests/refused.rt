@@ -70,12 +70,28 @@ fn a_list(rt: HostRuntime) -> Result<(), Fail> {
     Ok(())
 }
 
-/// The input's bytes, the tokens' memory, then what the attributes take, and the lines.
+/// The input's bytes; the lexer's two for the name and one for the literal, told where they stand; the parser's, told at
+/// the first tree: for the set of names, the name, the token, its digits and the list; then the line.
 #[test]
 fn attributes(rt: HostRuntime) -> Result<(), Fail> {
-    let answers = all_told(rt.alloc(), Command::Attr, "a = 0x1", 12)?;
+    let answers = all_told(rt.alloc(), Command::Attr, "a = 0x1", 15)?;
     let wanted = concat!(
         "done, 10 written\n",
+        "error: out of memory, 0 written\n",
+        "error at 0..0: out of memory, 0 written\n",
+        "error at 0..0: out of memory, 0 written\n",
+        "error at 4..4: out of memory, 0 written\n",
+        "error at 0..1: out of memory, 0 written\n",
+        "error at 0..1: out of memory, 0 written\n",
+        "error at 0..1: out of memory, 0 written\n",
+        "error at 0..1: out of memory, 0 written\n",
+        "error at 0..1: out of memory, 0 written\n",
+        "error at 0..1: out of memory, 0 written\n",
+        "error at 0..1: out of memory, 0 written\n",
+        "error at 0..1: out of memory, 0 written\n",
+        "error: out of memory, 0 written\n",
+        "error: out of memory, 0 written\n",
+        "error: out of memory, 0 written\n",
     );
     assert_eq!(&rt; answers.as_str(), wanted);
     Ok(())
