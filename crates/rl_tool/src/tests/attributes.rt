@@ -4,8 +4,8 @@ use crate::attr::{Attrs, read};
 use rl_lines::{Refusal, line_of};
 use rl_quoted::LitStr;
 use rl_refusing::Refusing;
-use rl_tokens::{ErrorKind, Parse, ParseBuffer, Span, lex};
-use std::alloc::{AllocError, Global};
+use rl_tokens::{Error, ErrorKind, Parse, ParseBuffer, Span, lex};
+use std::alloc::{AllocError, Allocator, Global};
 use std::test::Fail;
 
 /// What a string's parser tells of attributes inside it: how many, or why there are none. The string stands at 3..9.
@@ -96,10 +96,35 @@ fn many_names(rt: HostRuntime) -> Result<(), Fail> {
     Ok(())
 }
 
+/// An allocator that refuses when it is told to, lent.
+type Lent<'a> = &'a Refusing<Global>;
+
+/// What the parser answers with these requests refused.
+fn parsed_short<'a>(
+    refusing: Lent<'a>,
+    input: &mut ParseBuffer<'_, Lent<'a>>,
+    first: u64,
+    last: u64,
+) -> Result<Attrs<Lent<'a>>, Error<Lent<'a>>> {
+    refusing.refuse(first, last);
+    let answer = Attrs::parse(refusing, input);
+    refusing.allow();
+    answer
+}
+
+/// A refusal with its place, and how many trees are left.
+fn told_refusal<A: Allocator>(
+    alloc: Global,
+    error: &Error<A>,
+    left: usize,
+) -> Result<String, AllocError> {
+    format!(in alloc; "{}, {left} left", Refusal(error))
+}
+
 /// What the parser tells with these requests refused, and how many trees are left.
 fn told_short(
     alloc: Global,
-    refusing: &Refusing<Global>,
+    refusing: Lent<'_>,
     first: u64,
     last: u64,
 ) -> Result<String, AllocError> {
@@ -107,16 +132,14 @@ fn told_short(
         return Err(AllocError);
     };
     let mut input = ParseBuffer::new(stream.trees(), Span::new(0, 14, 14));
-    refusing.refuse(first, last);
-    let answer = Attrs::parse(refusing, &mut input);
-    refusing.allow();
+    let answer = parsed_short(refusing, &mut input, first, last);
     let left = input.rest().len();
     match answer {
         Ok(attrs) => {
             let count = attrs.entries().len();
             format!(in alloc; "{count} taken, {left} left")
         }
-        Err(error) => format!(in alloc; "{}, {left} left", Refusal(&error)),
+        Err(error) => told_refusal(alloc, &error, left),
     }
 }
 
