@@ -11,13 +11,17 @@ use Rattle.rust_literals.specs.declared.lit.Lit.{Lit}
 use Rattle.rust_literals.specs.declared.lit.Lit.TheVariants.{Str, ByteStr, CStr, Byte, Char}
 use Rattle.rust_literals.specs.Copies.{text_of}
 
--- No suffix stands behind the old literal, and the new one is the written form of its value, at the same span.
-pub record IsAnew (kind : Kind) (old new : Token) : Type 0 where
+-- The new literal is the written form of the old one's value, at the same span.
+pub record IsWrittenOf (kind : Kind) (old new : Token) : Type 0 where
   pub value : List ℕ
   pub contents : HasContents kind (chars old.text) (quoted_contents kind value)
-  pub bare : HasSuffix kind (chars old.text) []
   pub written : IsWrittenForm kind value (chars new.text)
   pub span : new.span ≡ old.span
+
+-- No suffix stands behind the old literal, and the new one is the written form of its value.
+pub record IsAnew (kind : Kind) (old new : Token) : Type 0 where
+  pub bare : HasSuffix kind (chars old.text) []
+  pub written : IsWrittenOf kind old new
 
 -- A suffix stands behind the old literal, and the new one is the same.
 pub record IsKept (kind : Kind) (old new : Token) : Type 0 where
