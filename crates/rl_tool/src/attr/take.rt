@@ -1,6 +1,6 @@
 //! The parser of attributes, part by part.
 
-ghost use Rattle.std.specs.Prelude.{◌≡◌, ◌⊎◌, [], ◌<◌, List, All, length, IfOk, IfErr, OnOk, OnErr, IsFalse, string_bytes};
+ghost use Rattle.std.specs.Prelude.{◌≡◌, ◌⊎◌, [], List, All, length, IfOk, IfErr, OnOk, IsFalse, string_bytes};
 ghost use Rattle.std.specs.Str.{chars};
 ghost use Rattle.rl_tokens.specs.Buffers.{trees_in, scope_of, IsRest, StaysRest};
 ghost use Rattle.rl_tool.specs.Attributes.{
@@ -37,7 +37,8 @@ fn take_name<'a, A: Allocator + Copy>(
     input: &mut ParseBuffer<'a, A>,
     names: &mut Names<'a, A>,
 ) -> Result<&'a Ident<A>, Error<A>>
-    ensures taken { IfOk result (λ name. HasNewName (has_name names.old) (trees_in input.old) name.now (trees_in input.new)) }
+    ensures taken { IfOk result (λ name.
+        HasNewName (has_name names.old) (trees_in input.old) name.now (trees_in input.new)) }
     ensures adds { IfOk result (λ name. AddsName names.old names.new name.now.text) }
     ensures refused { IfErr result
         (Stops (has_name names.old) (trees_in input.old) (scope_of input.old)) }
@@ -82,7 +83,6 @@ fn take_entry<'a, A: Allocator + Copy>(
 }
 
 /// Takes an attribute whose name is none of the names, and the comma behind it where anything stands there.
-#[tactic(auto, using(crate::proofs::AttributeLemmas::next_shorter))]
 fn take_next<'a, A: Allocator + Copy>(
     alloc: A,
     input: &mut ParseBuffer<'a, A>,
@@ -95,7 +95,6 @@ fn take_next<'a, A: Allocator + Copy>(
     ensures adds { IfOk result (λ entry. AddsName names.old names.new (string_bytes entry.name)) }
     ensures refused { IfErr result
         (Stops (has_name names.old) (trees_in input.old) (scope_of input.old)) }
-    ensures shorter { OnOk result (length (trees_in input.new) < length (trees_in input.old)) }
     ensures onward { StaysRest (trees_in input.old) (trees_in input.new) }
     ensures scope { scope_of input.new ≡ scope_of input.old }
 {

@@ -2,6 +2,7 @@ use Rattle.std.proofs.Common.{rules, inl, ◌≡◌, ◌≢◌, ◌∷◌, [], �
 use Rattle.std.proofs.lemmas.Result.{err_from_is_err_and}
 use Rattle.rl_tokens.specs.Buffers.{trees_in, scope_of}
 use Rattle.rl_tool.specs.Entries.{attribute_of}
+use Rattle.rl_tool.proofs.AttributeLemmas.{next_shorter}
 use Rattle.rl_tool.proofs.EntryLemmas.{at_first, at_next, at_end, at_memory, next_memory, at_refusal}
 use Rattle.rl_tool.proofs.attr.take.take_all.Goals as goal
 
@@ -32,7 +33,7 @@ pub returns-then-is_err-clause-scope : goal.returns-then-is_err-clause-scope
 returns-then-is_err-clause-scope g c = c.in_ok-entry.ensures.scope ∙ c.loop-alloc.invariant.scope
 
 pub loop-alloc-smaller : goal.loop-alloc-smaller
-loop-alloc-smaller g c = c.in_ok-entry.ensures.shorter
+loop-alloc-smaller g c = next_shorter (trees_in c.loop-alloc.input) (attribute_of c.in_ok-entry.entry) (trees_in c.take_next.new.input) c.in_ok-entry.ensures.taken
 
 pub loop-alloc-preserved : goal.loop-alloc-preserved
 loop-alloc-preserved g c =
