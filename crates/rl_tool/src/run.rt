@@ -87,12 +87,13 @@ fn lines_of_input<A: Allocator + Copy>(
     }
 }
 
-/// Reads the whole input, and writes the lines of its literals.
+/// Reads the whole input, and writes the lines of its literals or attributes.
 ///
 /// All lines are made before the first is written, so a refusal writes nothing; a write that fails leaves a beginning
-/// of the lines' bytes written. `NotText` comes exactly where the input was read whole and isn't UTF-8. `Literal` has the
-/// refusal of `Lit::new`, `read_all` or `attr::read`, and `Memory` is told of every other growth that was refused. `Read` and `Write` come where a
-/// call of the reader or the writer failed, or where 4,294,967,295 turns of reading brought no end.
+/// of the lines' bytes written. `NotText` comes exactly where the input was read whole and isn't UTF-8. `Literal` has
+/// the refusal of `Lit::new`, `read_all` or `attr::read`, and `Memory` is told of every other growth that was refused.
+/// `Read` and `Write` come where a call of the reader or the writer failed, or where 4,294,967,295 turns of reading
+/// brought no end.
 pub fn run<A: Allocator + Copy, R: Read, W: Write>(
     alloc: A,
     command: Command,
