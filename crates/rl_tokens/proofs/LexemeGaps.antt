@@ -7,7 +7,8 @@ use Rattle.std.specs.Char.{is_ascii_alphanumeric}
 use Rattle.unicode_ident.proofs.IdentLemmas.{is_xid_continue-ascii}
 use Rattle.rl_tokens.specs.Texts.{is_white, is_start, is_continue, is_underscore, first_passes}
 use Rattle.std.specs.Char.{is_ascii_digit}
-use Rattle.rl_tokens.specs.Lexemes.{is_numeral_part, is_hash, is_base_letter, after_run, begins_hashed_quote, begins_exponent, begins_dot, after_sign, begins_otherwise, LexedFraction, NoLexedFraction, LexedDot, lexed_fraction_text, lexed_sign_text, LexedExponent, NoLexedExponent, LexedPower, lexed_exponent_text, IsRow, IsLexedSuffix, IsLexedFraction, IsLexedExponent, QuotedLexeme, RawLexeme, CharacterLexeme, BasedLexeme, DecimalLexeme, IdentifierLexeme, DelimiterLexeme, MarkLexeme, IsLexeme, BeginsGap, StaysBeforeGap}
+use Rattle.rl_tokens.specs.Lexemes.{is_numeral_part, is_hash, is_base_letter, after_run, begins_hashed_quote, begins_exponent, begins_dot, after_sign, begins_otherwise, LexedFraction, NoLexedFraction, LexedDot, lexed_fraction_text, lexed_sign_text, LexedExponent, NoLexedExponent, LexedPower, lexed_exponent_text, IsRow, IsLexedSuffix, IsLexedFraction, IsLexedExponent, QuotedLexeme, RawLexeme, CharacterLexeme, BasedLexeme, DecimalLexeme, IdentifierLexeme, DelimiterLexeme, MarkLexeme, IsLexeme}
+use Rattle.rl_tokens.proofs.Gaps.{BeginsGap, StaysBeforeGap}
 use Rattle.rl_tokens.proofs.Comments.{false_unless}
 use Rattle.rl_tokens.proofs.Pieces.{is_equal}
 use Rattle.rl_tokens.proofs.LexemeRows.{both_true, not_true, not_among}

@@ -6,7 +6,8 @@ use Rattle.std.specs.Char.{is_ascii_digit, is_ascii_alphanumeric}
 use Rattle.std.proofs.lemmas.Bool.{and_from, or_from}
 use Rattle.unicode_ident.specs.Ident.{is_xid_start, is_xid_continue}
 use Rattle.rl_tokens.specs.Texts.{is_white, is_start, is_continue, is_among, first_passes}
-use Rattle.rl_tokens.specs.Lexemes.{is_numeral_part, is_base_letter, IsLexedSuffix, IsLexeme, BeginsGap}
+use Rattle.rl_tokens.specs.Lexemes.{is_numeral_part, is_base_letter, IsLexedSuffix, IsLexeme}
+use Rattle.rl_tokens.proofs.Gaps.{BeginsGap}
 use Rattle.rl_tokens.specs.Strict.{IsStrictSuffix}
 use Rattle.rl_tokens.proofs.Basics.{word_continues}
 use Rattle.rl_tokens.proofs.LexemeRows.{both_true, not_true, not_among}

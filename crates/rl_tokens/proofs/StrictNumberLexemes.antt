@@ -7,7 +7,7 @@ use Rattle.std.proofs.lemmas.Bool.{and_parts, and_from, or_from, or_cases, eqb-t
 use Rattle.std.proofs.lemmas.Bool.Decides.{nat_tests}
 use Rattle.std.proofs.lemmas.List.Folds.{list_all-append}
 use Rattle.rl_tokens.specs.Texts.{is_white, is_start, is_continue, first_passes, begins}
-use Rattle.rl_tokens.specs.Numbers.{is_digit_part, Decimal}
+use Rattle.rl_tokens.specs.Numbers.{is_row_part, Decimal}
 use Rattle.rl_tokens.specs.Lexemes.{is_numeral_part, is_base_letter, begins_dot, begins_exponent, after_sign, after_run, LexedFraction, NoLexedFraction, LexedDot, lexed_fraction_text, LexedSign, NoLexedSign, LexedPlus, LexedMinus, lexed_sign_text, LexedExponent, NoLexedExponent, LexedPower, lexed_exponent_text, IsLexedFraction, IsLexedExponent, BasedLexeme, DecimalLexeme}
 use Rattle.rl_tokens.specs.Reading.{Contents}
 use Rattle.rl_tokens.specs.Strict.{is_row, IsDigits, IsDecimalText, IsStrictSuffix, IsNumberSuffix, StrictInt, StrictFloat, IsStrictExponent}
@@ -122,7 +122,7 @@ digit_row [] (first, each) = absurd (cc)
 digit_row (d ∷ more) (first, each) = record { digit = d; more = more; text = refl; is_digit = first; each = (and_parts (is_row is_ascii_digit d) (list_all (is_row is_ascii_digit) more) each).1 }
 
 suffix_no_numeral : (x : List ℕ) → IsNumberSuffix x → first_passes is_numeral_part x ≡ false
-suffix_no_numeral x is = passes_same is_numeral_part (is_digit_part Decimal) (λ c. ap (λ b. b || c == 95) (digit_is_ten c)) x ∙ suffix_no_part x (suffix_of_strict x is)
+suffix_no_numeral x is = passes_same is_numeral_part (is_row_part 10) (λ c. ap (λ b. b || c == 95) (digit_is_ten c)) x ∙ suffix_no_part x (suffix_of_strict x is)
 
 suffix_no_dot : (x : List ℕ) → IsStrictSuffix x → first_passes (λ c. c == 46) x ≡ false
 suffix_no_dot [] is = refl

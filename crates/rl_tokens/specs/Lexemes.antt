@@ -195,10 +195,6 @@ IsLexeme (MarkLexeme c) after = IsTrue (is_among marks c) ⊎ ((c ≡ 47) × (fi
 abbrev pub LexemeWith : List ℕ → List ℕ → Type 0
 LexemeWith w after = (l : Lexeme) × IsLexeme l after × (w ≡ lexeme_text l)
 
--- At most one front of a text is a lexeme with the rest.
-abbrev pub OneLexeme : Type 0
-OneLexeme = (t v w x y : List ℕ) → t ≡ v ++ x → t ≡ w ++ y → LexemeWith v x → LexemeWith w y → (v ≡ w) × (x ≡ y)
-
 -- What a lexeme is to a parser: a literal, an identifier, one of the six delimiters, or another mark.
 pub data LexemeForm : Type 0 where
   LiteralForm : LexemeForm
@@ -215,17 +211,3 @@ form_of _ = LiteralForm
 -- A lexeme stands at the front of the text, and the rest behind it.
 abbrev pub LexemeBefore : List ℕ → List ℕ → Type 0
 LexemeBefore t after = (w : List ℕ) × LexemeWith w after × (t ≡ w ++ after)
-
--- The text is empty, or begins with white space or a slash.
-abbrev pub BeginsGap : List ℕ → Type 0
-BeginsGap [] = ⊤
-BeginsGap (c ∷ t) = IsTrue (is_white c || c == 47)
-
--- What is told by its own characters: all but the marks.
-abbrev pub KeepsItsEnd : Lexeme → Type 0
-KeepsItsEnd (MarkLexeme c) = ⊥
-KeepsItsEnd _ = ⊤
-
--- A lexeme but a mark stays one before a gap and at the end.
-abbrev pub StaysBeforeGap : Type 0
-StaysBeforeGap = (l : Lexeme) (after gap : List ℕ) → KeepsItsEnd l → IsLexeme l after → BeginsGap gap → IsLexeme l gap

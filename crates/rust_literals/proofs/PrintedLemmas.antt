@@ -10,19 +10,21 @@ use Rattle.rl_tokens.specs.declared.error.Error.{Error}
 use Rattle.rl_tokens.specs.declared.error.ErrorKind.TheVariants.{Memory}
 use Rattle.rl_tokens.specs.Trivia.{IsTrivia}
 use Rattle.rl_tokens.specs.Reading.{ReadsAs, truth_text}
-use Rattle.rl_tokens.specs.Lexing.{byte_len}
-use Rattle.rl_tokens.specs.Printed.{Item, WordItem, LiteralItem, MinusItem, item_text, Entry, printed_text, token_at, printed_trees, IsRead, IsStrictItem, Printed}
+use Rattle.rl_tokens.specs.Texts.{byte_len}
+use Rattle.rl_tokens.specs.Printed.{Item, WordItem, LiteralItem, MinusItem, item_text, Entry, printed_text, token_at, IsStrictItem, Printed}
+use Rattle.rl_tokens.specs.PrintedTrees.{printed_trees}
+use Rattle.rl_tokens.specs.Reading.{HasReading}
 use Rattle.rl_tokens.proofs.CutTrees.{scalars_parts}
 use Rattle.rl_tokens.proofs.PrintedLaws.{printed_lexes}
 use Rattle.rl_grammar.proofs.FrontLemmas.{truth_reads}
 use Rattle.rust_literals.specs.declared.lit.Lit.{Lit}
-use Rattle.rust_literals.specs.Parsing.{AreRead, IsOrMemory}
+use Rattle.rust_literals.specs.Parsing.{AreRead}
 use Rattle.rust_literals.specs.ReadBack.{HoldsOrMemory, IsItemRead, AreItems}
 use Rattle.rust_literals.proofs.LitLemmas.{read_lit}
 use Rattle.rust_literals.proofs.ItemFronts.{IsFrontItem, AreReadAt, items_lead, spells_words}
 
 -- A strict item reads, behind a minus too.
-item_reads : (item : Item) → IsStrictItem item → IsRead (item_text item)
+item_reads : (item : Item) → IsStrictItem item → HasReading (item_text item)
 item_reads (WordItem truth) is = (BoolKind, truth_reads (truth_text truth) truth refl)
 item_reads (LiteralItem text) (kind, other, strict, reads) = reads
 item_reads (MinusItem text) (kind, number, strict, reads) = reads
@@ -62,12 +64,12 @@ items_read_at file at (e ∷ es) [] are = are
 items_read_at file at (e ∷ es) (l ∷ ls) (read, are) = (read.read, items_read_at file (at + byte_len e.gap + byte_len (item_text e.item)) es ls are)
 
 -- A list of literals holds, and is the answer or memory was refused.
-pub holds_exactly : {A B : Type 0} (holds : List (Lit A) → Type 0) (list : List (Lit A)) (r : Result (Vec (Lit A) B) (Error A)) → holds list → IsOrMemory list r → HoldsOrMemory holds r
+pub holds_exactly : {A B : Type 0} (holds : List (Lit A) → Type 0) (list : List (Lit A)) (r : Result (Vec (Lit A) B) (Error A)) → holds list → HoldsOrMemory (λ found. found ≡ list) r → HoldsOrMemory holds r
 holds_exactly holds list (Ok found) h same = subst holds (sym same) h
 holds_exactly holds list (Err e) h same = same
 
 -- The answer to a print.
-pub printed_read : {A B : Type 0} (text : List ℕ) (file : ℕ) (r : Result (Vec (Lit A) B) (Error A)) → IsUtf8 text → ((list : List (Lit A)) → AreRead (chars text) file list → IsOrMemory list r) → (entries : List Entry) (last : List ℕ) → Printed (chars text) entries last → HoldsOrMemory (AreItems file 0 entries) r
+pub printed_read : {A B : Type 0} (text : List ℕ) (file : ℕ) (r : Result (Vec (Lit A) B) (Error A)) → IsUtf8 text → ((list : List (Lit A)) → AreRead (chars text) file list → HoldsOrMemory (λ found. found ≡ list) r) → (entries : List Entry) (last : List ℕ) → Printed (chars text) entries last → HoldsOrMemory (AreItems file 0 entries) r
 printed_read {A} text file r utf8 exactly entries last printed =
     let (lits, are, fronts) = item_lits A file 0 entries last printed.items (ap scalars (sym printed.text) ∙ scalars-chars text utf8) in
     let read : AreRead (chars text) file lits = record {

@@ -10,10 +10,11 @@ use Rattle.rl_tokens.specs.Errors.{lex_refusal}
 use Rattle.rl_tokens.specs.Trees.{Tree}
 use Rattle.rl_tokens.specs.Lexing.{Lexes, Refuses, NeverBoth}
 use Rattle.rust_literals.specs.declared.lit.Lit.{Lit}
-use Rattle.rust_literals.specs.Parsing.{RunsLit, ReadsLiterals, RefusesNextLiteral, LacksMemory, AreRead, RefusesText, IsOrMemory}
+use Rattle.rust_literals.specs.Parsing.{RunsLit, ReadsLiterals, RefusesNextLiteral, LacksMemory, AreRead, RefusesText}
 use Rattle.rl_tokens.proofs.LexLaws.{one_list, never_both}
 use Rattle.rust_literals.proofs.LeadsLemmas.{never_stops}
 use Rattle.rust_literals.proofs.FlatLemmas.{one_read}
+use Rattle.rust_literals.specs.ReadBack.{HoldsOrMemory}
 
 abbrev at_span : ℕ → ℕ → Span
 at_span file at = record { file = file; lo = at; hi = at }
@@ -55,7 +56,7 @@ short_memory : {A : Type 0} (trees : List Tree) (scope : Span) (e : Error A) →
 short_memory trees scope e h = elim h.memory [ inl m ↦ ap (λ x. x.kind) m.1 | inr m ↦ ap (λ x. x.kind) m ]
 
 -- a text that reads as a list is read as this list, or memory was refused
-pub text_exactly : {A B : Type 0} (text : List ℕ) (file end : ℕ) (r : Result (Vec (Lit A) B) (Error A)) → IfOk r (λ l. AreRead text file l.items) → IfErr r (RefusesText text file end) → (list : List (Lit A)) → AreRead text file list → IsOrMemory list r
+pub text_exactly : {A B : Type 0} (text : List ℕ) (file end : ℕ) (r : Result (Vec (Lit A) B) (Error A)) → IfOk r (λ l. AreRead text file l.items) → IfErr r (RefusesText text file end) → (list : List (Lit A)) → AreRead text file list → HoldsOrMemory (λ found. found ≡ list) r
 text_exactly text file end (Ok l) read refused list a = one_read text file l.items list read a
 text_exactly text file end (Err x) read (inl uncut) list a = lex_memory text file a.trees uncut.kind uncut.at x never_both a.lexes uncut.error uncut.refused
 text_exactly {A = A} text file end (Err x) read (inr trees) list a =

@@ -6,12 +6,12 @@ use Rattle.rl_tokens.specs.declared.kind.Kind.TheVariants.{Bool as BoolKind}
 use Rattle.rl_tokens.specs.declared.error.Error.{Error}
 use Rattle.rl_tokens.specs.declared.error.ErrorKind.TheVariants.{Memory}
 use Rattle.rl_tokens.specs.Errors.{memory_at, nowhere}
-use Rattle.rl_tokens.specs.Tokens.{SpannedText}
+use Rattle.rl_tokens.specs.Texts.{SpannedText}
 use Rattle.rl_tokens.specs.Trees.{Tree}
 use Rattle.rl_tokens.specs.Reading.{Reads, Truth}
 use Rattle.rl_tokens.specs.Lexing.{Lexes}
 use Rattle.rl_tokens.specs.Buffers.{first_span, IsRefusal}
-use Rattle.rl_tokens.specs.Fronts.{IsFront, HasFront, HasNoFront, PassesOther, LacksMemoryAtFront}
+use Rattle.rl_grammar.specs.Fronts.{IsFront, HasFront, HasNoFront, PassesOther, LacksMemoryAtFront}
 use Rattle.rl_tokens.specs.Whole.{RefusesLexing}
 use Rattle.rust_literals.specs.declared.lit.Lit.{Lit}
 use Rattle.rust_literals.specs.declared.lit_bool.LitBool.{LitBool}
@@ -82,8 +82,3 @@ pub record RefusesLiteralTrees {A : Type 0} (text : List ℕ) (file end : ℕ) (
 -- what `read_all` refuses of a text of this length
 abbrev pub RefusesText : {A : Type 0} → List ℕ → ℕ → ℕ → Error A → Type 0
 RefusesText text file end e = RefusesLexing text file e ⊎ RefusesLiteralTrees text file end e
-
--- the answer is this list, or memory was refused
-abbrev pub IsOrMemory : {A B : Type 0} → List (Lit A) → Result (Vec (Lit A) B) (Error A) → Type 0
-IsOrMemory list (Ok found) = found.items ≡ list
-IsOrMemory list (Err e) = e.kind ≡ Memory

@@ -7,9 +7,10 @@ ghost use Rattle.rl_tokens.specs.Buffers.{trees_in, scope_of};
 ghost use Rattle.rl_tokens.specs.Trees.{Tree};
 ghost use Rattle.rl_tokens.specs.Printed.{Entry, Printed};
 ghost use Rattle.rust_literals.specs.declared.lit.Lit.{Lit};
-ghost use Rattle.rust_literals.specs.Parsing.{ReadsLiterals, RefusesNextLiteral, LacksMemory, AreRead, RefusesText, IsOrMemory};
+ghost use Rattle.rust_literals.specs.Parsing.{ReadsLiterals, RefusesNextLiteral, LacksMemory, AreRead, RefusesText};
 ghost use Rattle.rust_literals.specs.Flat.{AreFirst};
-ghost use Rattle.rust_literals.specs.ReadBack.{HoldsOrMemory, AreItems, Spaced, lits_of, IsReprint, SameButSpans};
+ghost use Rattle.rust_literals.specs.ReadBack.{HoldsOrMemory, AreItems};
+ghost use Rattle.rust_literals.specs.Reprints.{Spaced, lits_of, IsReprint, SameButSpans};
 
 use crate::flat::read_flat;
 use crate::lit::Lit;
@@ -121,7 +122,7 @@ pub fn read_all<A: Allocator + Copy>(
     ensures refused { IfErr result (RefusesText (chars text.now) file (length text.now)) }
     // What a text reads as is the answer, or memory was refused.
     ensures exactly { (list : List (Lit A)) → AreRead (chars text.now) file list
-        → IsOrMemory list result }
+        → HoldsOrMemory (λ found. found ≡ list) result }
     // A print of strict literals reads as its items, each at its range, or memory was refused.
     ensures printed { (entries : List Entry) (last : List ℕ) → Printed (chars text.now) entries last
         → HoldsOrMemory (AreItems file 0 entries) result }

@@ -1,10 +1,10 @@
--- Reading numbers, one part after another.
+-- A mirror of the code, for proofs alone: reading numbers, one part after another.
 use Rattle.std.specs.Prelude.{◌≡◌, IsTrue, ℕ, ◌+◌, ◌*◌, ◌==◌, ◌||◌, ◌&&◌, not, Bool, true, false, List, [], ◌∷◌, Option, Some, None, nat_lt, nat_le, if◌then◌else◌}
 use Rattle.std.specs.Char.{digit_value, is_ascii_digit}
 use Rattle.std.specs.List.{list_any}
 use Rattle.rl_tokens.specs.Texts.{first_passes, is_underscore, xid_ok}
 use Rattle.rl_tokens.specs.Quoted.{place_value, without_underscores}
-use Rattle.rl_tokens.specs.Numbers.{Sign, NoSign, Minus, limit, is_exponent_letter}
+use Rattle.rl_tokens.specs.Numbers.{Sign, NoSign, Minus, limit, is_exponent_letter, is_row_part}
 
 -- the characters at the front that pass the test, and what follows them
 unfoldable pub run : (ℕ → Bool) → List ℕ → List ℕ
@@ -17,9 +17,6 @@ after_run test (c ∷ cs) = if test c then after_run test cs else (c ∷ cs)
 
 abbrev pub has_value : ℕ → ℕ → Bool
 has_value radix c = nat_lt (digit_value c) radix
-
-abbrev pub is_part : ℕ → ℕ → Bool
-is_part radix c = has_value radix c || is_underscore c
 
 -- a number, if it is within the limit
 abbrev pub capped : ℕ → Option ℕ
@@ -39,7 +36,7 @@ row_from radix some m (c ∷ cs) =
 
 -- the same by what stands there
 abbrev pub digit_row_at : ℕ → List ℕ → List ℕ
-digit_row_at radix t = run (is_part radix) t
+digit_row_at radix t = run (is_row_part radix) t
 
 abbrev pub has_digit_at : ℕ → List ℕ → Bool
 has_digit_at radix t = list_any (has_value radix) (digit_row_at radix t)
@@ -48,7 +45,7 @@ abbrev pub magnitude_at : ℕ → List ℕ → ℕ
 magnitude_at radix t = place_value radix (without_underscores (digit_row_at radix t))
 
 abbrev pub after_digits : ℕ → List ℕ → List ℕ
-after_digits radix t = after_run (is_part radix) t
+after_digits radix t = after_run (is_row_part radix) t
 
 -- nothing, or an identifier that doesn't begin with `_`
 abbrev pub is_suffix : List ℕ → Bool
