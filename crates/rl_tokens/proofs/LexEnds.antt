@@ -8,12 +8,12 @@ use Rattle.rl_tokens.specs.declared.nest.TreeBuilder.{TreeBuilder}
 use Rattle.rl_tokens.specs.declared.lex_error.LexKind.{LexKind}
 use Rattle.rl_tokens.specs.declared.lex_error.LexKind.TheVariants.{UnmatchedClose, UnclosedGroup, TooDeep, Memory}
 use Rattle.rl_tokens.specs.declared.lex_error.LexError.{LexError}
-use Rattle.rl_tokens.specs.Lexemes.{LexemeBefore, Lexeme, QuotedLexeme, RawLexeme, CharacterLexeme, BasedLexeme, DecimalLexeme, IdentifierLexeme, DelimiterLexeme, MarkLexeme, lexeme_text, LexemeForm, form_of}
+use Rattle.rl_tokens.specs.Lexemes.{LexemeBefore, Lexeme, QuotedLexeme, RawLexeme, CharacterLexeme, BasedLexeme, DecimalLexeme, IdentifierLexeme, DelimiterLexeme, MarkLexeme, lexeme_text, IsLexeme, LexemeForm, form_of}
 use Rattle.rl_tokens.specs.Cursors.{form_view}
 use Rattle.rl_tokens.specs.declared.cursor.Lexeme.{Lexeme as Lent}
-use Rattle.rl_tokens.specs.Cursors.{CursorState, TakesNext, BeginsLexeme, IsFirstFault}
+use Rattle.rl_tokens.specs.Cursors.{CursorState, TakesNext, IsFirstFault}
 use Rattle.rl_tokens.specs.Trees.{Tree, stream_view, flat_trees}
-use Rattle.rl_tokens.specs.Lexing.{OpenGroup, LexesUpTo, fault_place, BeginsNoLexeme, FaultAt, Fault, LeavesRestAt, Refuses, Lexes}
+use Rattle.rl_tokens.specs.Lexing.{OpenGroup, LexesUpTo, fault_place, BeginsLexeme, BeginsNoLexeme, FaultAt, Fault, LeavesRestAt, Refuses, Lexes}
 use Rattle.rl_tokens.specs.Mirrors.TreeBuilders.{groups_of, flat_builder, EndsInGroup, ClosesWrong, OpensTooDeep, RefusesForm}
 use Rattle.rl_tokens.proofs.LexLoop.{HasCut}
 use Rattle.rl_tokens.proofs.Faults.{rest_place, fault_refuses}
@@ -31,11 +31,12 @@ fault_here text rest file nest kind at place is is_rest has here fault at_is = r
   at_is = at_is;
 }
 
-pub leaves_here : {A : Type 0} (text rest : List ℕ) (file : ℕ) (nest : TreeBuilder A) (place : ℕ) → IsUtf8 text → IsUtf8 rest → HasCut text rest file nest → place + length rest ≡ length text → LeavesRestAt (chars text) place
-leaves_here text rest file nest place is is_rest has here = record {
+pub leaves_here : {A : Type 0} (text rest : List ℕ) (file : ℕ) (nest : TreeBuilder A) (place : ℕ) → IsUtf8 text → IsUtf8 rest → HasCut text rest file nest → place + length rest ≡ length text → BeginsLexeme (chars rest) → LeavesRestAt (chars text) place
+leaves_here text rest file nest place is is_rest has here begins = record {
   cuts = has.cuts;
   rest = chars rest;
   are_cuts = has.are_cuts;
+  begins = begins;
   rest_place = rest_place text rest place is is_rest here;
 }
 
@@ -78,19 +79,19 @@ opens_deep groups (DecimalLexeme d m f x s) after h = absurd h
 opens_deep groups (IdentifierLexeme c more) after h = absurd h
 opens_deep groups (MarkLexeme c) after h = absurd h
 
-refused_lexeme : {A : Type 0} (text rest after : List ℕ) (file : ℕ) (nest : TreeBuilder A) (l : Lexeme) (kind : LexKind) (at : ℕ) → IsUtf8 text → HasCut text rest file nest → at + length rest ≡ length text → chars rest ≡ lexeme_text l ++ after → RefusesForm (groups_of nest) (form_of l) kind → Refuses (chars text) kind at
-refused_lexeme text rest after file nest l UnmatchedClose at is has place same h =
+refused_lexeme : {A : Type 0} (text rest after : List ℕ) (file : ℕ) (nest : TreeBuilder A) (l : Lexeme) (kind : LexKind) (at : ℕ) → IsUtf8 text → HasCut text rest file nest → at + length rest ≡ length text → chars rest ≡ lexeme_text l ++ after → IsLexeme l after → RefusesForm (groups_of nest) (form_of l) kind → Refuses (chars text) kind at
+refused_lexeme text rest after file nest l UnmatchedClose at is has place same whole h =
     let here : FaultAt UnmatchedClose (groups_of nest) (chars rest) = subst (λ (r : List ℕ). FaultAt UnmatchedClose (groups_of nest) r) (sym same) (closes_wrong (groups_of nest) l after h) in
     fault_here text rest file nest UnmatchedClose at at is has.behind.is_text has place here refl
-refused_lexeme text rest after file nest l TooDeep at is has place same h =
+refused_lexeme text rest after file nest l TooDeep at is has place same whole h =
     let here : FaultAt TooDeep (groups_of nest) (chars rest) = subst (λ (r : List ℕ). FaultAt TooDeep (groups_of nest) r) (sym same) (opens_deep (groups_of nest) l after h) in
     fault_here text rest file nest TooDeep at at is has.behind.is_text has place here refl
-refused_lexeme text rest after file nest l Memory at is has place same h = leaves_here text rest file nest at is has.behind.is_text has place
-refused_lexeme text rest after file nest l _ at is has place same h = absurd h
+refused_lexeme text rest after file nest l Memory at is has place same whole h = leaves_here text rest file nest at is has.behind.is_text has place (after, (lexeme_text l, (l, whole, refl), same))
+refused_lexeme text rest after file nest l _ at is has place same whole h = absurd h
 
 pub refused_token : {A : Type 0} (text : List ℕ) (from to : CursorState) (file : ℕ) (nest : TreeBuilder A) (l : Lent) (e : LexError) → IsUtf8 text → from.text ≡ text → HasCut text from.rest file nest → TakesNext from l to → e.at ≡ l.lo → RefusesForm (groups_of nest) (form_view l.form) e.kind → Refuses (chars text) e.kind e.at
 refused_token text from to file nest l e is same has next at_is h =
-    refused_lexeme text from.rest next.after file nest next.cut.lexeme e.kind e.at is has (omega (arith, next.place, ap length same, at_is)) next.begins
+    refused_lexeme text from.rest next.after file nest next.cut.lexeme e.kind e.at is has (omega (arith, next.place, ap length same, at_is)) next.begins next.is_lexeme
     (subst (λ (f : LexemeForm). RefusesForm (groups_of nest) f e.kind) (sym next.is_cut.form_is) h)
 
 -- the cursor stays where no token begins what is left, and tells the fault

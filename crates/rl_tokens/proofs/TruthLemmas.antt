@@ -8,7 +8,9 @@ use Rattle.std.proofs.lemmas.Bool.{and_from, and_parts, or_right, ltb-true}
 use Rattle.unicode_ident.specs.Ident.{is_xid_start, is_xid_continue}
 use Rattle.unicode_ident.proofs.IdentLemmas.{is_xid_continue-ascii, is_xid_start-ascii}
 use Rattle.rl_tokens.specs.Texts.{xid_ok}
-use Rattle.rl_tokens.specs.Reading.{truth_text}
+use Rattle.rl_tokens.specs.declared.kind.Kind.TheVariants.{Bool as BoolKind}
+use Rattle.rl_tokens.specs.Reading.{Truth, truth_text}
+use Rattle.rl_tokens.specs.Strict.{Strict}
 
 abbrev is_word_letter : ℕ → Bool
 is_word_letter c = is_ascii_alphanumeric c || eqb c 95
@@ -39,3 +41,8 @@ characters_of false = refl
 
 pub truth_is_identifier : (b : Bool) (bs : List ℕ) → bs ≡ truth_text b → xid_ok (chars bs) ≡ true
 truth_is_identifier b bs e = ap (λ z. xid_ok (chars z)) e ∙ ap xid_ok (characters_of b) ∙ word_of b
+
+-- they are strict
+pub words_strict : (truth : Bool) → Strict (truth_text truth) BoolKind (Truth truth) []
+words_strict true = record { truth = true; text = refl; contents = refl; suffix = refl }
+words_strict false = record { truth = false; text = refl; contents = refl; suffix = refl }

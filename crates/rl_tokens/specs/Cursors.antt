@@ -2,7 +2,7 @@
 use Rattle.std.specs.Prelude.{◌≡◌, ℕ, ◌+◌, List, [], ◌∷◌, ◌++◌, length, encode_utf8_all, Option, Some, MatchOption}
 use Rattle.std.specs.Str.{chars, IsUtf8}
 use Rattle.rl_tokens.specs.Texts.{IsTail}
-use Rattle.rl_tokens.specs.Lexemes.{lexeme_text, IsLexeme, LexemeBefore, form_of, LexemeForm, LiteralForm, IdentifierForm, DelimiterForm, MarkForm}
+use Rattle.rl_tokens.specs.Lexemes.{lexeme_text, IsLexeme, form_of, LexemeForm, LiteralForm, IdentifierForm, DelimiterForm, MarkForm}
 use Rattle.rl_tokens.specs.Lexing.{LexedToken, end_of, LexesUpTo, OpenGroup, open_groups, Fault, BeginsNoLexeme}
 use Rattle.rl_tokens.specs.declared.cursor.Lexeme.{Lexeme}
 use Rattle.rl_tokens.specs.declared.lex_error.LexKind.{LexKind}
@@ -44,10 +44,6 @@ pub record TakesNext (old : CursorState) (l : Lexeme) (new : CursorState) : Type
   pub goes_on : (done : List LexedToken) → LexesUpTo 0 (chars old.text) done (chars old.rest) → LexesUpTo 0 (chars old.text) (done ++ cut ∷ []) (chars new.rest)
   pub same : new.text ≡ old.text
   pub behind : IsTail old.rest new.rest
-
--- A token begins the text.
-abbrev pub BeginsLexeme : List ℕ → Type 0
-BeginsLexeme t = (after : List ℕ) × LexemeBefore t after
 
 -- Where the text was cut into tokens whose groups open and close as they must, and this is left of it, its first fault is
 -- of this kind and stands at this byte.

@@ -119,6 +119,10 @@ begins_quote r =
     begins (codes "\"") r || begins (codes "b\"") r || begins (codes "c\"") r || begins_raw r || begins (codes "b'") r
     || (begins (codes "'") r && not (begins_lifetime r))
 
+-- a token begins the text; none does
+abbrev pub BeginsLexeme : List ℕ → Type 0
+BeginsLexeme r = (after : List ℕ) × LexemeBefore r after
+
 abbrev pub BeginsNoLexeme : List ℕ → Type 0
 BeginsNoLexeme r = (after : List ℕ) → LexemeBefore r after → ⊥
 
@@ -158,14 +162,15 @@ pub record Fault (t : List ℕ) (kind : LexKind) (at : ℕ) : Type 0 where
   pub rest_place : rest_at + byte_len rest ≡ byte_len t
   pub at_is : at ≡ fault_place kind groups rest_at
 
--- Some cut of the text leaves the rest that begins at this byte.
+-- The text is cut into tokens up to the rest that begins at this byte, and a token begins that rest.
 pub record LeavesRestAt (t : List ℕ) (at : ℕ) : Type 0 where
   pub cuts : List LexedToken
   pub rest : List ℕ
   pub are_cuts : LexesUpTo 0 t cuts rest
+  pub begins : BeginsLexeme rest
   pub rest_place : at + byte_len rest ≡ byte_len t
 
--- What a refusal says of the text: its first fault, or where memory was refused.
+-- What a refusal says of the text: its first fault, or the token for which memory was refused, a group's closer too.
 abbrev pub Refuses : List ℕ → LexKind → ℕ → Type 0
 Refuses t Memory at = LeavesRestAt t at
 Refuses t kind at = Fault t kind at

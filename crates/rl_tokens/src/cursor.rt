@@ -3,7 +3,7 @@
 ghost use Rattle.std.specs.Prelude.{◌≡◌, ◌<◌, ◌+◌, ◌⊎◌, List, [], length, IfSome, IfNone};
 ghost use Rattle.std.specs.Str.{chars};
 ghost use Rattle.rl_tokens.specs.Skipping.{Skipped};
-ghost use Rattle.rl_tokens.specs.Lexing.{BeginsNoLexeme, OpenGroup, FaultAt};
+ghost use Rattle.rl_tokens.specs.Lexing.{BeginsLexeme, BeginsNoLexeme, OpenGroup, FaultAt};
 
 use crate::fault::fault_kind;
 use crate::lex_error::LexError;
@@ -57,7 +57,7 @@ impl<'t> Model for Tokens<'t> {
 }
 
 impl<'t> Tokens<'t> {
-    ghost use Rattle.rl_tokens.specs.Cursors.{IsCursorState, TakesNext, BeginsLexeme, IsFirstFault};
+    ghost use Rattle.rl_tokens.specs.Cursors.{IsCursorState, TakesNext, IsFirstFault};
 
     /// The tokens of a text, from its front.
     pub fn new(text: &'t str) -> Tokens<'t>

@@ -1,8 +1,9 @@
 //! Laws of the definitions: each function does nothing, and its contract is the law.
 
-ghost use Rattle.std.specs.Prelude.{List, ℕ, ◌≡◌, ◌∷◌, [], IsTrue};
+ghost use Rattle.std.specs.Prelude.{List, Bool, ℕ, ◌≡◌, ◌∷◌, [], IsTrue};
 ghost use Rattle.rl_tokens.specs.declared.kind.Kind.{Kind};
-ghost use Rattle.rl_tokens.specs.Reading.{Contents, Digits, Reads, quoted_contents};
+ghost use Rattle.rl_tokens.specs.declared.kind.Kind.TheVariants.{Bool as BoolKind};
+ghost use Rattle.rl_tokens.specs.Reading.{Contents, Digits, Truth, Reads, quoted_contents, truth_text};
 ghost use Rattle.rl_tokens.specs.Strict.{Strict, strict_quoted_contents};
 ghost use Rattle.rl_tokens.specs.Written.{written_text};
 ghost use Rattle.rl_tokens.specs.Agreeing.{IsWithinLimit, IsQuotedValue};
@@ -19,6 +20,11 @@ pub fn one_reading()
 pub fn one_strict()
     ensures { (t : List ℕ) (k l : Kind) (v w : Contents) (x y : List ℕ)
         → Strict t k v x → Strict t l w y → (k ≡ l) × (v ≡ w) × (x ≡ y) }
+{}
+
+/// The words `true` and `false` are strict, each with its truth value, and no suffix.
+pub fn words_strict()
+    ensures { (truth : Bool) → Strict (truth_text truth) BoolKind (Truth truth) [] }
 {}
 
 /// A strict text, an integer within the limit, reads as the same kind, value and suffix.
