@@ -5,7 +5,7 @@ use denote.Ref.{Bor}
 use Rattle.std.specs.Str.{chars}
 use Rattle.rl_tokens.specs.declared.kind.Kind.{Kind}
 use Rattle.rl_tokens.specs.declared.kind.Kind.TheVariants.{Byte, Char, Bool as BoolKind}
-use Rattle.rl_tokens.specs.Tokens.{Token}
+use Rattle.rl_tokens.specs.Tokens.{SpannedText}
 use Rattle.rl_tokens.specs.Reading.{ReadsAs, HasContents, truth_text}
 use Rattle.rl_tokens.proofs.OneReading.{one_reading}
 use Rattle.rl_grammar.specs.WholeShapes.{IsPlain}
@@ -31,7 +31,7 @@ none_lent kind t text (Some l) e reads none = tt
 none_lent kind t text None e reads none = subst (λ z. ReadsPlain z → ⊥) (sym e) (never_plain kind text reads none)
 
 -- a literal of another kind than these five lends nothing
-pub others_lend_none : {A : Type 0} (l : Lit A) → IsHeld l → ((x : Token) → l ≡ StrLit x → ⊥) → ((x : Token) → l ≡ ByteStrLit x → ⊥) → ((x : Token) → l ≡ CStrLit x → ⊥) → ((x : Token) → l ≡ IntLit x → ⊥) → ((x : Token) → l ≡ FloatLit x → ⊥) → ReadsPlain (token_of l).text → ⊥
+pub others_lend_none : {A : Type 0} (l : Lit A) → IsHeld l → ((x : SpannedText) → l ≡ StrLit x → ⊥) → ((x : SpannedText) → l ≡ ByteStrLit x → ⊥) → ((x : SpannedText) → l ≡ CStrLit x → ⊥) → ((x : SpannedText) → l ≡ IntLit x → ⊥) → ((x : SpannedText) → l ≡ FloatLit x → ⊥) → ReadsPlain (token_of l).text → ⊥
 others_lend_none (StrLit x) h s b c i f p = s x refl
 others_lend_none (ByteStrLit x) h s b c i f p = b x refl
 others_lend_none (CStrLit x) h s b c i f p = c x refl
