@@ -9,10 +9,10 @@ use Rattle.std.proofs.lemmas.List.Folds.{list_any-append}
 use Rattle.std.proofs.lemmas.Map.Keys.{IsDistinct-push, IsDistinct-head, IsDistinct-tail}
 use Rattle.rl_tokens.specs.declared.span.Span.{Span}
 use Rattle.rl_tokens.specs.declared.error.Error.{Error}
-use Rattle.rl_tokens.specs.Tokens.{SpannedText}
+use Rattle.rl_tokens.specs.Texts.{SpannedText}
 use Rattle.rl_tokens.specs.Trees.{Tree}
 use Rattle.rl_tokens.specs.Buffers.{begins_ident, begins_mark, IsBehindMark}
-use Rattle.rl_tokens.specs.Fronts.{IsFront}
+use Rattle.rl_grammar.specs.Fronts.{IsFront}
 use Rattle.rl_grammar.proofs.FrontLemmas.{one_front, front_rest}
 use Rattle.rl_attributes.specs.Attributes.{Attribute, IsAttribute, AreListed, names_of, is_named, NamesDiffer, MissesName, RepeatsName, MissesEquals, MissesLiteral, MissesComma, RefusesNextAttribute, StandBefore, RefusesAttributes, HasNewName}
 use Rattle.rl_attributes.specs.AttributeSteps.{IsNext}

@@ -7,10 +7,10 @@ use Rattle.rl_tokens.specs.declared.span.Span.{Span}
 use Rattle.rl_tokens.specs.declared.error.ErrorKind.TheVariants.{Repeated}
 use Rattle.rl_tokens.specs.declared.error.Error.{Error}
 use Rattle.rl_tokens.specs.Errors.{memory_at}
-use Rattle.rl_tokens.specs.Tokens.{SpannedText}
+use Rattle.rl_tokens.specs.Texts.{SpannedText}
 use Rattle.rl_tokens.specs.Trees.{Tree, IdentTree}
 use Rattle.rl_tokens.specs.Buffers.{first_span, begins_ident, begins_mark, IsBehindMark, IsRefusal}
-use Rattle.rl_tokens.specs.Fronts.{IsFront, HasNoFront}
+use Rattle.rl_grammar.specs.Fronts.{IsFront, HasNoFront}
 use Rattle.rl_tokens.specs.Lexing.{Lexes}
 use Rattle.rl_tokens.specs.Whole.{place_at, RefusesLexing}
 

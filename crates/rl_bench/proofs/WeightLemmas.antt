@@ -1,7 +1,7 @@
 -- Lengths and weights.
 use Rattle.std.proofs.Common.{◌≡◌, ◌∙◌, ℕ, List, [], Bool, Option, Some, None, ap, sym, subst, inl, inr, refl, Result, Ok, Err, IfOk}
 use Rattle.std.specs.Str.{chars, IsUtf8}
-use Rattle.rl_tokens.specs.Lexing.{byte_len}
+use Rattle.rl_tokens.specs.Texts.{byte_len}
 use Rattle.rl_tokens.specs.declared.kind.Kind.{Kind}
 use Rattle.rl_tokens.specs.declared.kind.Kind.TheVariants.{Str as StrKind, ByteStr as ByteStrKind, CStr as CStrKind, Byte as ByteKind, Char as CharKind, Int as IntKind, Float as FloatKind, Bool as BoolKind}
 use Rattle.rl_tokens.specs.Numbers.{FloatReads, float_digits}

@@ -2,7 +2,7 @@
 
 ghost use Rattle.std.specs.Prelude.{◌≡◌};
 ghost use Rattle.std.specs.Str.{chars};
-ghost use Rattle.rl_tokens.specs.Lexing.{byte_len};
+ghost use Rattle.rl_tokens.specs.Texts.{byte_len};
 ghost use Rattle.rl_bench.specs.Weights.{kind_number, weight_of};
 
 use crate::sums::Weigh;

@@ -5,11 +5,12 @@ use denote.Ref.{Bor}
 use Rattle.std.specs.Str.{chars}
 use Rattle.rl_tokens.specs.declared.kind.Kind.{Kind}
 use Rattle.rl_tokens.specs.declared.kind.Kind.TheVariants.{Byte, Char, Bool as BoolKind}
-use Rattle.rl_tokens.specs.Tokens.{SpannedText}
+use Rattle.rl_tokens.specs.Texts.{SpannedText}
 use Rattle.rl_tokens.specs.Reading.{ReadsAs, HasContents, truth_text}
 use Rattle.rl_tokens.proofs.OneReading.{one_reading}
 use Rattle.rl_grammar.specs.WholeShapes.{IsPlain}
-use Rattle.rust_literals.specs.Literals.{token_of, ReadsPlain}
+use Rattle.rust_literals.specs.Literals.{token_of}
+use Rattle.rust_literals.specs.LitParts.{ReadsPlain}
 use Rattle.rust_literals.specs.declared.lit.Lit.{Lit}
 use Rattle.rust_literals.specs.declared.lit.Lit.TheVariants.{Str as StrLit, ByteStr as ByteStrLit, CStr as CStrLit, Byte as ByteLit, Char as CharLit, Int as IntLit, Float as FloatLit, Bool as BoolLit, Verbatim}
 use Rattle.rl_bulk.specs.Lent.{IsHeld, IsLent, lent_contents}

@@ -9,7 +9,8 @@ use Rattle.rl_tokens.specs.declared.kind.Kind.{Kind}
 use Rattle.rl_tokens.specs.declared.kind.Kind.TheVariants.{Str}
 use Rattle.rl_tokens.specs.Written.{written_text}
 use Rattle.rust_literals.specs.declared.lit.Lit.{Lit}
-use Rattle.rust_literals.specs.Literals.{kind_of, token_of, lit_span}
+use Rattle.rust_literals.specs.Literals.{kind_of, token_of}
+use Rattle.rust_literals.specs.LitParts.{lit_span}
 use Rattle.rl_bulk.specs.Spans.{kind_name, span_line, span_lines}
 
 -- the bytes of a written text

@@ -7,7 +7,8 @@ use Rattle.rl_tokens.specs.Reading.{Contents, Characters, Bytes, Digits, HasCont
 use Rattle.rl_tokens.specs.Written.{written_text}
 use Rattle.rl_grammar.specs.WholeShapes.{IsPlain}
 use Rattle.rust_literals.specs.declared.lit.Lit.{Lit}
-use Rattle.rust_literals.specs.Literals.{kind_of, token_of, IsReadAs, ReadsPlain}
+use Rattle.rust_literals.specs.Literals.{kind_of, token_of, IsReadAs}
+use Rattle.rust_literals.specs.LitParts.{ReadsPlain}
 
 -- the literal is what its text reads as
 abbrev pub IsHeld : {A : Type 0} → Lit A → Type 0

@@ -7,7 +7,8 @@ use Rattle.rl_tokens.specs.declared.kind.Kind.TheVariants.{Str}
 use Rattle.rl_tokens.specs.declared.error.Error.{Error}
 use Rattle.rl_tokens.specs.Written.{written_text}
 use Rattle.rust_literals.specs.declared.lit.Lit.{Lit}
-use Rattle.rust_literals.specs.Literals.{kind_of, token_of, lit_span}
+use Rattle.rust_literals.specs.Literals.{kind_of, token_of}
+use Rattle.rust_literals.specs.LitParts.{lit_span}
 use Rattle.rust_literals.specs.Parsing.{AreRead, RefusesText}
 use Rattle.rl_lines.specs.Lines.{kind_label}
 use Rattle.rl_bulk.specs.Refused.{refusal_lines}

@@ -5,7 +5,7 @@ use Rattle.std.specs.Char.{is_ascii, digit_value}
 use Rattle.rl_tokens.specs.declared.kind.Kind.{Kind}
 use Rattle.rl_tokens.specs.Texts.{first_passes}
 use Rattle.rl_tokens.proofs.CommentBytes.{not_equal}
-use Rattle.rl_grammar.specs.UnitAt.{digit_at, unicode_digits_at, brace_at, escape_at}
+use Rattle.rl_grammar.specs.Mirrors.UnitAt.{digit_at, unicode_digits_at, brace_at, escape_at}
 
 not_below : (c k : ℕ) → k ≤ c → ltb c k ≡ false
 not_below c k h = le-ltb c k h

@@ -14,7 +14,7 @@ use Rattle.rl_tokens.specs.Quoted.{QuotedUnit, Letter, Plain, CrLf, Named, Hex, 
 use Rattle.rl_grammar.specs.declared.quoted.QuotedForm.{QuotedForm}
 use Rattle.rl_grammar.specs.declared.quoted.QuotedForm.TheVariants.{Cooked as CookedForm, Raw as RawForm, Single as SingleForm}
 use Rattle.rl_grammar.specs.declared.units.Piece.TheVariants.{Byte}
-use Rattle.rl_grammar.specs.UnitAt.{IsPieceOf}
+use Rattle.rl_grammar.specs.Mirrors.UnitAt.{IsPieceOf}
 use Rattle.rl_grammar.specs.Forms.{PartsAre, is_plain_body}
 use Rattle.rl_grammar.specs.Shapes.{IsCookedSplit, IsQuotedSplit, HasNoQuoted}
 use Rattle.rl_grammar.specs.Decoded.{in_bytes, HoldsBytes}

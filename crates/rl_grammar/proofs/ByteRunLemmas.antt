@@ -16,8 +16,8 @@ use Rattle.rl_tokens.specs.Scanning.{is_one_of, is_other}
 use Rattle.rl_tokens.specs.Texts.{first_passes}
 use Rattle.rl_tokens.proofs.CommentBytes.{cases128, encode_is_high, low_front}
 use Rattle.rl_tokens.proofs.ScanLemmas.{PassesHigh, prefix_ends, prefix_passes, run_boundary, run_cut, run_plain, run_stop}
-use Rattle.rl_grammar.specs.Classes.{ends_low, is_low_other}
-use Rattle.rl_grammar.specs.StrictAt.{is_inside}
+use Rattle.rl_grammar.specs.Mirrors.Classes.{ends_low, is_low_other}
+use Rattle.rl_grammar.specs.Mirrors.StrictAt.{is_inside}
 use Rattle.rl_grammar.proofs.PlainLemmas.{plain_high, same_prefix}
 
 -- ---- the lanes of a mask

@@ -16,10 +16,12 @@ use Rattle.rl_grammar.specs.declared.quoted.QuotedForm.{QuotedForm}
 use Rattle.rl_grammar.specs.declared.quoted.QuotedForm.TheVariants.{Cooked as CookedForm, Raw as RawForm, Single as SingleForm}
 use Rattle.rl_grammar.specs.declared.units.Piece.{Piece}
 use Rattle.rl_grammar.specs.declared.units.Piece.TheVariants.{Character, Byte, Nothing}
-use Rattle.rl_grammar.specs.UnitAt.{piece_value, IsPieceOf, found, unit_at}
+use Rattle.rl_grammar.specs.Mirrors.UnitAt.{piece_value, IsPieceOf, found, unit_at}
 use Rattle.rl_grammar.specs.Rows.{BeginsRow}
-use Rattle.rl_grammar.specs.Forms.{found_opener, opener_at, PartsAre, is_plain_body}
-use Rattle.rl_grammar.specs.Decoded.{piece_bytes, in_bytes, Decodes, HoldsBytes}
+use Rattle.rl_grammar.specs.Mirrors.OpenerAt.{found_opener, opener_at}
+use Rattle.rl_grammar.specs.Forms.{PartsAre, is_plain_body}
+use Rattle.rl_grammar.specs.Decoded.{piece_bytes, in_bytes, HoldsBytes}
+use Rattle.rl_grammar.specs.Mirrors.Decodes.{Decodes}
 use Rattle.rl_grammar.proofs.UnitLemmas.{some_pair, unit_nil}
 use Rattle.rl_grammar.proofs.RowLemmas.{row_start, row_step, row_run, row_once}
 use Rattle.rl_grammar.proofs.FormLemmas.{Formed, formed, parts_formed, formed_once, not_both, single_unit, string_parts, cooked_row_of_body}

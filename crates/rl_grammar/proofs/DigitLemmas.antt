@@ -9,7 +9,7 @@ use Rattle.std.specs.Str.{chars, IsUtf8, IsAscii}
 use Rattle.std.specs.Prelude.{encode_utf8_all}
 use Rattle.rl_tokens.specs.Numbers.{Sign, NoSign, Minus, sign_text, IntReads, limit, float_digits, FloatReads}
 use Rattle.rl_tokens.specs.Reading.{Contents, Digits, ReadsInt}
-use Rattle.rl_grammar.specs.NumberAt.{sign_at, int_at, capped_int}
+use Rattle.rl_grammar.specs.Mirrors.NumberAt.{sign_at, int_at, capped_int}
 use Rattle.rl_grammar.specs.NumberShapes.{HasMagnitude}
 use Rattle.rl_grammar.proofs.IntegerLemmas.{int_past, sign_of_some, is_past, no_int}
 use Rattle.rl_tokens.proofs.OneNumber.{int_once, float_once}

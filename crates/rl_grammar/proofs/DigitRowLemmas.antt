@@ -8,7 +8,7 @@ use Rattle.std.specs.Char.{digit_value}
 use Rattle.std.specs.List.{list_any}
 use Rattle.rl_tokens.specs.Quoted.{place_value, without_underscores}
 use Rattle.rl_tokens.specs.Numbers.{limit}
-use Rattle.rl_grammar.specs.NumberAt.{run, after_run, is_part, has_value, capped, append_digit, row_from, digit_row_at, has_digit_at, magnitude_at, after_digits}
+use Rattle.rl_grammar.specs.Mirrors.NumberAt.{run, after_run, is_part, has_value, capped, append_digit, row_from, digit_row_at, has_digit_at, magnitude_at, after_digits}
 
 -- within the limit nothing is cut
 pub capped_within : (n : ℕ) → n ≤ limit → capped n ≡ Some n

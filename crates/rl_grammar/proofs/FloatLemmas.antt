@@ -10,7 +10,7 @@ use Rattle.rl_tokens.specs.Texts.{first_passes, is_underscore, xid_ok}
 use Rattle.rl_tokens.specs.Numbers.{sign_text, is_exponent_letter, Fraction, NoFraction, Dot, fraction_text, IsFraction, Exponent, NoExponent, Power, exponent_text, IsExponent, is_power_sign, BeginsExponent, FloatReads}
 use Rattle.rl_tokens.proofs.Basics.{any_same, continue_not, digit_is_ten, word_continues, word_without}
 use Rattle.rl_tokens.proofs.StrictNumbers.{letter_no_part, suffix_no_part}
-use Rattle.rl_grammar.specs.NumberAt.{run, after_run, is_part, has_value, is_suffix, digit_row_at, has_digit_at, after_digits, after_minus, sign_at, after_fraction, after_power_sign, power_at, after_exponent, float_at}
+use Rattle.rl_grammar.specs.Mirrors.NumberAt.{run, after_run, is_part, has_value, is_suffix, digit_row_at, has_digit_at, after_digits, after_minus, sign_at, after_fraction, after_power_sign, power_at, after_exponent, float_at}
 use Rattle.rl_grammar.proofs.DigitRowLemmas.{run_yes, run_no}
 use Rattle.rl_grammar.proofs.RunLemmas.{run_all, run_ends, run_join, run_past, suffix_complete, suffix_sound}
 use Rattle.rl_grammar.proofs.IntegerLemmas.{minus_past, chosen_some, sign_join}

@@ -11,9 +11,10 @@ use Rattle.rl_tokens.specs.Quoted.{Cooked, Single, is_string, is_single, opener,
 use Rattle.rl_tokens.specs.Reading.{Contents, ReadsQuoted, quoted_contents}
 use Rattle.rl_grammar.specs.declared.quoted.QuotedForm.{QuotedForm}
 use Rattle.rl_grammar.specs.declared.quoted.QuotedForm.TheVariants.{Cooked as CookedForm, Raw as RawForm, Single as SingleForm}
-use Rattle.rl_grammar.specs.UnitAt.{found, unit_at}
+use Rattle.rl_grammar.specs.Mirrors.UnitAt.{found, unit_at}
 use Rattle.rl_grammar.specs.Rows.{BeginsRow, RowEnds}
-use Rattle.rl_grammar.specs.Forms.{has_form, form_opener, found_opener, string_opener_at, byte_opener_at, opener_at, PartsAre, HasNoParts, is_plain_body}
+use Rattle.rl_grammar.specs.Forms.{has_form, form_opener, PartsAre, HasNoParts, is_plain_body}
+use Rattle.rl_grammar.specs.Mirrors.OpenerAt.{found_opener, string_opener_at, byte_opener_at, opener_at}
 use Rattle.rl_grammar.specs.Shapes.{HasNoQuoted}
 use Rattle.rl_grammar.proofs.UnitLemmas.{some_pair, unit_sound, unit_complete, unit_quote}
 use Rattle.rl_grammar.proofs.RowLemmas.{ends_before, row_ends_on, row_ends_off, row_once}

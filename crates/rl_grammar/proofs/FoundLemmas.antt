@@ -19,7 +19,7 @@ use Rattle.rl_grammar.specs.declared.found.Found.{Found}
 use Rattle.rl_grammar.specs.Forms.{PartsAre, is_plain_body}
 use Rattle.rl_grammar.specs.Founds.{IsFound, IsFoundFloat, IsQuotedAt, StandsIn, body_in, suffix_in, is_quoted}
 use Rattle.rl_grammar.specs.NumberShapes.{HasMagnitude, IsSplitInteger}
-use Rattle.rl_grammar.specs.PlainAt.{is_plain_integer, is_plain_float}
+use Rattle.rl_grammar.specs.Mirrors.PlainAt.{is_plain_integer, is_plain_float}
 use Rattle.rl_grammar.specs.Shapes.{IsQuotedSplit}
 use Rattle.rl_grammar.specs.WholeShapes.{IsSplit, IsPlain}
 use Rattle.rl_grammar.proofs.BodyLemmas.{plain_parts, parts_plain}

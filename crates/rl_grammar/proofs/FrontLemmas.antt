@@ -6,11 +6,11 @@ use Rattle.std.specs.Str.{chars}
 use Rattle.rl_tokens.specs.declared.kind.Kind.{Kind}
 use Rattle.rl_tokens.specs.declared.kind.Kind.TheVariants.{Bool as BoolKind}
 use Rattle.rl_tokens.specs.Puncts.{Mark}
-use Rattle.rl_tokens.specs.Tokens.{SpannedText}
+use Rattle.rl_tokens.specs.Texts.{SpannedText}
 use Rattle.rl_tokens.specs.Trees.{Tree, GroupTree, IdentTree, PunctTree, LiteralTree}
 use Rattle.rl_tokens.specs.Reading.{Truth, ReadsAs, truth_text}
 use Rattle.rl_tokens.specs.Buffers.{begins_literal, IsRest}
-use Rattle.rl_tokens.specs.Fronts.{IsFront, IsFrontOf, HasNoFront, HasFrontOf, joined}
+use Rattle.rl_grammar.specs.Fronts.{IsFront, IsFrontOf, HasNoFront, HasFrontOf, joined}
 use Rattle.rl_tokens.proofs.OneReading.{one_reading}
 use Rattle.rl_tokens.proofs.TreeRests.{rest_one, rest_two}
 use Rattle.rl_grammar.specs.declared.found.Found.{Found}

@@ -11,9 +11,9 @@ use Rattle.rl_tokens.specs.Reading.{HasNoInteger, HasSuffix}
 use Rattle.rl_tokens.proofs.StrictNumbers.{behind_minus}
 use Rattle.rl_grammar.specs.declared.found.Found.{Found}
 use Rattle.rl_grammar.specs.Founds.{IsFound}
-use Rattle.rl_grammar.specs.NumberAt.{sign_at}
+use Rattle.rl_grammar.specs.Mirrors.NumberAt.{sign_at}
 use Rattle.rl_grammar.specs.NumberShapes.{HasMagnitude, IsSplitInteger}
-use Rattle.rl_grammar.specs.PlainAt.{is_plain_integer, is_plain_digits, is_plain_float}
+use Rattle.rl_grammar.specs.Mirrors.PlainAt.{is_plain_integer, is_plain_digits, is_plain_float}
 use Rattle.rl_grammar.specs.WholeShapes.{IsPlain}
 use Rattle.rl_grammar.proofs.FloatLemmas.{float_past, float_sound}
 use Rattle.rl_grammar.proofs.FoundLemmas.{Whether, Of, NumberBody, integer_found, float_found, float_alone}

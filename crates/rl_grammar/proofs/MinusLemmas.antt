@@ -7,8 +7,9 @@ use Rattle.rl_tokens.specs.Texts.{first_passes}
 use Rattle.rl_tokens.specs.Quoted.{is_string, is_single, opener, raw_opener}
 use Rattle.rl_tokens.specs.Numbers.{Sign, NoSign, Minus, IntReads}
 use Rattle.rl_tokens.specs.Reading.{Contents, ReadsQuoted, ReadsBool, truth_text}
-use Rattle.rl_grammar.specs.NumberAt.{sign_at, float_at, after_exponent, after_fraction, after_digits, is_suffix}
-use Rattle.rl_grammar.specs.NumberShapes.{ReadsNumber, HasNoNumber, HasNoReading}
+use Rattle.rl_grammar.specs.Mirrors.NumberAt.{sign_at, float_at, after_exponent, after_fraction, after_digits, is_suffix}
+use Rattle.rl_grammar.specs.NumberShapes.{ReadsNumber, HasNoNumber}
+use Rattle.rl_tokens.specs.Reading.{HasNoReading}
 use Rattle.std.proofs.lemmas.Bool.{both_ways, eqb-true}
 use Rattle.rl_tokens.proofs.StrictNumbers.{behind_minus, minus_int}
 use Rattle.rl_grammar.proofs.FloatLemmas.{float_past, float_sound}

@@ -10,8 +10,9 @@ use Rattle.rl_tokens.specs.Numbers.{FloatReads, float_digits, sign_text}
 use Rattle.rl_tokens.specs.Reading.{HasSuffix, HasNoInteger}
 use Rattle.rl_grammar.specs.declared.found.Found.{Found}
 use Rattle.rl_grammar.specs.Founds.{IsFound, IsFoundFloat, IsFoundNumber, StandsIn, body_in, suffix_in}
-use Rattle.rl_grammar.specs.NumberAt.{sign_at}
-use Rattle.rl_grammar.specs.NumberShapes.{AreDigits, HasNoFloat, IsSplitInteger, IsNumber, IsPast}
+use Rattle.rl_grammar.specs.Mirrors.NumberAt.{sign_at}
+use Rattle.rl_grammar.specs.NumberShapes.{AreDigits, IsSplitInteger, IsNumber}
+use Rattle.rl_tokens.specs.Reading.{HasNoFloat, IsPast}
 use Rattle.rl_grammar.specs.WholeShapes.{IsSplit, IsPlain}
 use Rattle.rl_grammar.proofs.DigitLemmas.{int_contents, same_numeral}
 use Rattle.rl_grammar.proofs.FoundLemmas.{body_text, Whether}

@@ -9,8 +9,8 @@ use Rattle.rl_tokens.specs.Texts.{first_passes}
 use Rattle.rl_tokens.specs.Quoted.{is_string, is_plain}
 use Rattle.rl_tokens.specs.declared.scan.Marks.{Marks}
 use Rattle.rl_tokens.specs.Scanning.{IsNextMark, is_one_of, is_other}
-use Rattle.rl_grammar.specs.Classes.{is_in_run}
-use Rattle.rl_grammar.specs.PlainAt.{is_kept, is_plain_float}
+use Rattle.rl_grammar.specs.Mirrors.Classes.{is_in_run}
+use Rattle.rl_grammar.specs.Mirrors.PlainAt.{is_kept, is_plain_float}
 use Rattle.rl_tokens.proofs.CommentBytes.{not_equal}
 use Rattle.rl_tokens.proofs.ScanLemmas.{PassesHigh}
 

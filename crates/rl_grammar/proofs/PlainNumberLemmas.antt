@@ -20,10 +20,11 @@ use Rattle.rl_tokens.specs.Numbers.{Base, Binary, Octal, Decimal, Hexadecimal, r
 use Rattle.rl_tokens.specs.Quoted.{place_value, without_underscores}
 use Rattle.rl_tokens.specs.Reading.{Digits}
 use Rattle.rl_tokens.specs.Texts.{first_passes}
-use Rattle.rl_grammar.specs.NumberAt.{after_minus}
-use Rattle.rl_grammar.specs.NumberShapes.{AreDigits, HasNoFloat, IsSplitInteger, IsNumber}
+use Rattle.rl_grammar.specs.Mirrors.NumberAt.{after_minus}
+use Rattle.rl_grammar.specs.NumberShapes.{AreDigits, IsSplitInteger, IsNumber}
+use Rattle.rl_tokens.specs.Reading.{HasNoFloat}
 use Rattle.rl_grammar.specs.WholeShapes.{IsPlain}
-use Rattle.rl_grammar.specs.PlainAt.{is_plain_digits, is_plain_integer, is_kept, is_plain_float}
+use Rattle.rl_grammar.specs.Mirrors.PlainAt.{is_plain_digits, is_plain_integer, is_kept, is_plain_float}
 use Rattle.rl_grammar.proofs.IntegerLemmas.{minus_past}
 
 -- ---- what std writes

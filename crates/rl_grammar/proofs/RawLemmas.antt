@@ -10,7 +10,8 @@ use Rattle.rl_tokens.specs.declared.kind.Kind.TheVariants.{Str, ByteStr, CStr, B
 use Rattle.rl_tokens.specs.Texts.{IsTail}
 use Rattle.rl_tokens.specs.Quoted.{content_of, is_string, is_raw, raw_opener, Raw}
 use Rattle.rl_grammar.specs.declared.quoted.QuotedForm.TheVariants.{Raw as RawForm}
-use Rattle.rl_grammar.specs.Forms.{PartsAre, HasNoParts, after_hashes}
+use Rattle.rl_grammar.specs.Forms.{PartsAre, HasNoParts}
+use Rattle.rl_grammar.specs.Mirrors.OpenerAt.{after_hashes}
 use Rattle.rl_grammar.proofs.CutLemmas.{behind_chars}
 
 abbrev no_quote : ℕ → Bool

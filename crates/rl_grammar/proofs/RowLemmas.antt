@@ -7,7 +7,7 @@ use Rattle.std.proofs.lemmas.List.Concat.{flat_map-append}
 use Rattle.rl_tokens.specs.declared.kind.Kind.{Kind}
 use Rattle.rl_tokens.specs.Texts.{first_passes}
 use Rattle.rl_tokens.specs.Quoted.{QuotedUnit, Plain, CrLf, Named, Hex, Unicode, Continuation, unit_text, unit_value, is_blank, content_of, holds_characters, is_plain, IsUnit, EndsBefore, ContinuationsEnd, texts, values}
-use Rattle.rl_grammar.specs.UnitAt.{found, unit_at}
+use Rattle.rl_grammar.specs.Mirrors.UnitAt.{found, unit_at}
 use Rattle.rl_grammar.specs.Rows.{RowEnds, BeginsRow}
 use Rattle.rl_grammar.proofs.UnitLemmas.{some_pair, unit_sound, unit_complete}
 

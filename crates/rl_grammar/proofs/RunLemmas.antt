@@ -5,9 +5,9 @@ use Rattle.std.specs.List.{list_all}
 use Rattle.rl_tokens.specs.Texts.{first_passes, xid_ok}
 use Rattle.rl_tokens.specs.Numbers.{IsSuffix}
 use Rattle.rl_tokens.specs.Quoted.{is_blank}
-use Rattle.rl_grammar.specs.NumberAt.{run, after_run, is_suffix}
-use Rattle.rl_grammar.specs.Forms.{after_hashes}
-use Rattle.rl_grammar.specs.UnitAt.{after_blanks}
+use Rattle.rl_grammar.specs.Mirrors.NumberAt.{run, after_run, is_suffix}
+use Rattle.rl_grammar.specs.Mirrors.OpenerAt.{after_hashes}
+use Rattle.rl_grammar.specs.Mirrors.UnitAt.{after_blanks}
 use Rattle.rl_grammar.proofs.DigitRowLemmas.{run_yes, run_no}
 
 -- each character of a run passes

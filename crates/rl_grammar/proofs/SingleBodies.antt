@@ -10,7 +10,7 @@ use Rattle.rl_grammar.specs.declared.quoted.QuotedForm.TheVariants.{Cooked as Co
 use Rattle.rl_grammar.specs.Bodies.{HasSingleBody}
 use Rattle.rl_grammar.specs.Forms.{PartsAre}
 use Rattle.rl_grammar.specs.Founds.{IsQuotedAt, body_in}
-use Rattle.rl_grammar.specs.UnitAt.{found, unit_at}
+use Rattle.rl_grammar.specs.Mirrors.UnitAt.{found, unit_at}
 use Rattle.rl_grammar.proofs.ContentLemmas.{one_value}
 use Rattle.rl_grammar.proofs.FormLemmas.{not_both, parts_read}
 use Rattle.rl_grammar.proofs.RowLemmas.{ends_before}

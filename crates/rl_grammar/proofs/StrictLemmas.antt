@@ -17,8 +17,9 @@ use Rattle.rl_tokens.proofs.StrictNumbers.{strict_int, float_strict_reads}
 use Rattle.rl_tokens.proofs.StrictQuoted.{between}
 use Rattle.rl_grammar.specs.declared.quoted.QuotedForm.{QuotedForm}
 use Rattle.rl_grammar.specs.declared.quoted.QuotedForm.TheVariants.{Cooked as CookedForm, Raw as RawForm, Single as SingleForm}
-use Rattle.rl_grammar.specs.Forms.{has_form, form_opener, opener_at}
-use Rattle.rl_grammar.specs.StrictAt.{is_strict_number}
+use Rattle.rl_grammar.specs.Forms.{has_form, form_opener}
+use Rattle.rl_grammar.specs.Mirrors.OpenerAt.{opener_at}
+use Rattle.rl_grammar.specs.Mirrors.StrictAt.{is_strict_number}
 use Rattle.rl_grammar.specs.StrictShapes.{IsToken, IsStrictNumber, ClosesUnits, ClosesRaw, Closes}
 use Rattle.rl_grammar.proofs.FormLemmas.{front_complete, front_sound}
 use Rattle.rl_grammar.proofs.StrictBackLemmas.{IsQuotedKind}

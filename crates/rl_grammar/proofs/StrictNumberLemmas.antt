@@ -9,8 +9,8 @@ use Rattle.rl_tokens.specs.Reading.{Contents}
 use Rattle.rl_tokens.specs.Strict.{is_row, IsDigits, IsDecimalText, IsNumberSuffix, BasedPrefix, StrictInt, IsStrictExponent, IsDotAlone, IsPointed, IsScientific, StrictFloat}
 use Rattle.rl_tokens.proofs.Basics.{all_same, any_same, apart, digit_is_ten, hex_is_sixteen, passes_same}
 use Rattle.rl_tokens.proofs.StrictNumbers.{foreign_dot, letter_no_part, no_part, suffix_no_part, suffix_without}
-use Rattle.rl_grammar.specs.NumberAt.{is_part, has_value, digit_row_at, has_digit_at, after_digits, after_power_sign}
-use Rattle.rl_grammar.specs.StrictAt.{is_number_suffix, is_power_letter, is_some_text, ends_power, ends_digits, ends_dot, ends_whole, is_decimal, is_based, is_strict_number}
+use Rattle.rl_grammar.specs.Mirrors.NumberAt.{is_part, has_value, digit_row_at, has_digit_at, after_digits, after_power_sign}
+use Rattle.rl_grammar.specs.Mirrors.StrictAt.{is_number_suffix, is_power_letter, is_some_text, ends_power, ends_digits, ends_dot, ends_whole, is_decimal, is_based, is_strict_number}
 use Rattle.rl_grammar.specs.StrictShapes.{IsStrictNumber}
 use Rattle.rl_grammar.proofs.RunLemmas.{run_all, run_ends, run_join, run_past}
 use Rattle.rl_grammar.proofs.IntegerLemmas.{based, hex_stops, not_based, radix_past}

@@ -9,7 +9,7 @@ use Rattle.rl_tokens.specs.declared.kind.Kind.TheVariants.{Str, ByteStr, CStr, B
 use Rattle.rl_tokens.specs.Texts.{first_passes}
 use Rattle.rl_tokens.specs.Quoted.{is_plain, is_single, is_string}
 use Rattle.rl_tokens.specs.Strict.{StrictUnit, Itself, QuoteEscape, PlainEscape, AsciiEscape, ByteEscape, UnicodeEscape, LineBreak, strict_text, is_dropped_blank, is_strict_unit, BlanksEnd, HasUnits, strict_closer, IsStrictSuffix}
-use Rattle.rl_grammar.specs.StrictAt.{ends_quoted, escape_rest, is_strict_suffix, unit_rest}
+use Rattle.rl_grammar.specs.Mirrors.StrictAt.{ends_quoted, escape_rest, is_strict_suffix, unit_rest}
 use Rattle.rl_grammar.specs.StrictShapes.{ClosesUnits}
 use Rattle.rl_grammar.proofs.StrictBackLemmas.{IsQuotedKind, plain_is_bare}
 use Rattle.rl_grammar.proofs.StrictUnitLemmas.{MayEnd, StrictFront, unit_rest_sound, unit_rest_complete}

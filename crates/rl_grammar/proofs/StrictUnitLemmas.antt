@@ -10,9 +10,9 @@ use Rattle.rl_tokens.specs.Quoted.{QuotedUnit, Plain, CrLf, Named, Hex, Unicode,
 use Rattle.rl_tokens.specs.Strict.{StrictUnit, Itself, QuoteEscape, PlainEscape, AsciiEscape, ByteEscape, UnicodeEscape, LineBreak, strict_text, is_plain_letter, is_dropped_blank, is_strict_unit}
 use Rattle.rl_tokens.proofs.Basics.{apart}
 use Rattle.rl_tokens.proofs.StrictQuoted.{MayFollow, stands}
-use Rattle.rl_grammar.specs.NumberAt.{run, after_run}
-use Rattle.rl_grammar.specs.UnitAt.{unit_at}
-use Rattle.rl_grammar.specs.StrictAt.{escape_rest, unit_rest}
+use Rattle.rl_grammar.specs.Mirrors.NumberAt.{run, after_run}
+use Rattle.rl_grammar.specs.Mirrors.UnitAt.{unit_at}
+use Rattle.rl_grammar.specs.Mirrors.StrictAt.{escape_rest, unit_rest}
 use Rattle.rl_grammar.proofs.IntegerLemmas.{chosen_some}
 use Rattle.rl_grammar.proofs.RunLemmas.{run_all, run_ends, run_join, run_past}
 use Rattle.rl_grammar.proofs.StrictBackLemmas.{Back, IsQuotedKind, named_escape, hex_escape, unicode_escape}

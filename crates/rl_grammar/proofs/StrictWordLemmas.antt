@@ -6,7 +6,7 @@ use Rattle.unicode_ident.specs.Ident.{is_xid_start, is_xid_continue}
 use Rattle.rl_tokens.specs.Texts.{IsWord, is_continue, is_start, is_underscore, is_white, first_passes}
 use Rattle.rl_tokens.specs.Numbers.{IsSuffix}
 use Rattle.rl_tokens.specs.Strict.{IsNumberSuffix, IsStrictSuffix}
-use Rattle.rl_grammar.specs.StrictAt.{is_number_suffix, is_some_text, is_strict_suffix}
+use Rattle.rl_grammar.specs.Mirrors.StrictAt.{is_number_suffix, is_some_text, is_strict_suffix}
 
 -- what passes two tests passes both at once
 pub all_both : (f g : ℕ → Bool) (cs : List ℕ) → list_all f cs ≡ true → list_all g cs ≡ true → list_all (λ c. f c && g c) cs ≡ true

@@ -5,8 +5,9 @@ use Rattle.rl_tokens.specs.declared.kind.Kind.TheVariants.{Bool as BoolKind}
 use Rattle.rl_tokens.specs.Puncts.{Mark}
 use Rattle.rl_tokens.specs.Trees.{Tree, IdentTree, PunctTree, LiteralTree}
 use Rattle.rl_tokens.specs.Reading.{ReadsAs}
-use Rattle.rl_tokens.specs.Tokens.{SpannedText}
-use Rattle.rl_tokens.specs.Fronts.{joined, HasReading}
+use Rattle.rl_tokens.specs.Texts.{SpannedText}
+use Rattle.rl_grammar.specs.Fronts.{joined}
+use Rattle.rl_tokens.specs.Reading.{HasReading}
 use Rattle.rl_grammar.specs.declared.front.Front.{Front}
 use Rattle.rl_grammar.specs.declared.front.Front.TheVariants.{Literal as LiteralFront, Word, Negative}
 

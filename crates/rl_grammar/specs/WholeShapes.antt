@@ -5,7 +5,7 @@ use Rattle.std.specs.Str.{chars}
 use Rattle.rl_tokens.specs.declared.kind.Kind.{Kind}
 use Rattle.rl_tokens.specs.declared.kind.Kind.TheVariants.{Str, ByteStr, CStr, Int, Float, Bool as BoolKind}
 use Rattle.rl_tokens.specs.Numbers.{FloatReads, float_digits}
-use Rattle.rl_tokens.specs.Reading.{Contents, Characters, Bytes, Digits, ReadsQuoted, ReadsInt, ReadsBool}
+use Rattle.rl_tokens.specs.Reading.{Characters, Bytes, Digits, ReadsQuoted, ReadsInt}
 use Rattle.rl_grammar.specs.Shapes.{IsQuotedSplit}
 
 -- The bytes of a literal, as its parts cut them: a quoted one is opener, body, closer and suffix in turn, a number is
@@ -15,10 +15,6 @@ IsSplit Int text body suffix = text ≡ body ++ suffix
 IsSplit Float text body suffix = text ≡ body ++ suffix
 IsSplit BoolKind text body suffix = (body ≡ text) × (suffix ≡ [])
 IsSplit kind text body suffix = IsQuotedSplit kind text body suffix
-
--- the text is no truth value
-abbrev pub HasNoTruth : List ℕ → Type 0
-HasNoTruth text = (contents : Contents) (suffix : List ℕ) → ReadsBool text contents suffix → ⊥
 
 -- a character that a number begins with, and no other literal
 abbrev pub is_number_front : ℕ → Bool

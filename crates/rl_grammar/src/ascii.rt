@@ -6,7 +6,7 @@ ghost use Rattle.std.specs.List.{list_all, prefix_len};
 ghost use Rattle.std.specs.Simd.Lanes.{chunk, mask_l};
 ghost use Rattle.std.specs.Str.{chars};
 ghost use Rattle.rl_tokens.specs.Texts.{first_passes};
-ghost use Rattle.rl_grammar.specs.Classes.{is_low_other, ends_low};
+ghost use Rattle.rl_grammar.specs.Mirrors.Classes.{is_low_other, ends_low};
 
 use rl_tokens::scan::Marks;
 use std::simd::prelude::*;

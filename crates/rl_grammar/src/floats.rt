@@ -5,8 +5,9 @@ ghost use Rattle.std.specs.Str.{chars};
 ghost use Rattle.rl_tokens.specs.declared.kind.Kind.TheVariants.{Float};
 ghost use Rattle.rl_tokens.specs.Texts.{IsTail};
 ghost use Rattle.rl_tokens.specs.Numbers.{FloatReads};
-ghost use Rattle.rl_grammar.specs.NumberAt.{after_exponent, after_fraction, after_minus, float_at, float_tail_at, IsHead, power_at};
-ghost use Rattle.rl_grammar.specs.NumberShapes.{HasNoFloat, HasOneFloat};
+ghost use Rattle.rl_grammar.specs.Mirrors.NumberAt.{after_exponent, after_fraction, after_minus, float_at, float_tail_at, IsHead, power_at};
+ghost use Rattle.rl_tokens.specs.Reading.{HasNoFloat};
+ghost use Rattle.rl_grammar.specs.NumberShapes.{HasOneFloat};
 
 use crate::classes::{Class, skip};
 use crate::integers::Head;
@@ -28,7 +29,7 @@ fn after_fraction(text: &str) -> &str
 }
 
 /// The digits of a power, behind its letter.
-#[tactic(auto, using(rl_tokens::proofs::BehindLemmas::behind_step, rl_tokens::proofs::BehindLemmas::behind_self), unfolding(crate::specs::NumberAt::power_at))]
+#[tactic(auto, using(rl_tokens::proofs::BehindLemmas::behind_step, rl_tokens::proofs::BehindLemmas::behind_self), unfolding(crate::specs::Mirrors::NumberAt::power_at))]
 fn power_digits(text: &str) -> &str
     ensures value { chars result.now ≡ power_at (chars text.now) }
     ensures behind { IsTail text.now result.now }
@@ -41,7 +42,7 @@ fn power_digits(text: &str) -> &str
 }
 
 /// What follows an exponent, or the text.
-#[tactic(auto, using(rl_tokens::proofs::BehindLemmas::behind_step, rl_tokens::proofs::BehindLemmas::behind_self), unfolding(crate::specs::NumberAt::after_exponent))]
+#[tactic(auto, using(rl_tokens::proofs::BehindLemmas::behind_step, rl_tokens::proofs::BehindLemmas::behind_self), unfolding(crate::specs::Mirrors::NumberAt::after_exponent))]
 fn after_exponent(text: &str) -> &str
     ensures value { chars result.now ≡ after_exponent (chars text.now) }
     ensures behind { IsTail text.now result.now }
@@ -70,7 +71,7 @@ fn tail_suffix(text: &str) -> Option<&str>
 }
 
 /// The suffix of the float that the text is.
-#[tactic(auto, using(rl_tokens::proofs::BehindLemmas::behind_step, rl_tokens::proofs::BehindLemmas::behind_self), unfolding(crate::specs::NumberAt::float_at))]
+#[tactic(auto, using(rl_tokens::proofs::BehindLemmas::behind_step, rl_tokens::proofs::BehindLemmas::behind_self), unfolding(crate::specs::Mirrors::NumberAt::float_at))]
 pub(crate) fn float_suffix(text: &str) -> Option<&str>
     ensures value { option_map (λ x. chars x.now) result ≡ float_at (chars text.now) }
     ensures behind { IfSome result (λ x. IsTail text.now x.now) }

@@ -7,9 +7,10 @@ ghost use Rattle.rl_tokens.specs.Numbers.{FloatReads};
 ghost use Rattle.rl_tokens.specs.Reading.{HasNoInteger};
 ghost use Rattle.rl_tokens.specs.Texts.{IsTail};
 ghost use Rattle.rl_grammar.specs.Founds.{IsFound, IsFoundFloat};
-ghost use Rattle.rl_grammar.specs.NumberShapes.{HasNoFloat, HasNoNumber, HasNoReading, HasOneFloat, HasOneInteger, IsPast, HasMagnitude};
+ghost use Rattle.rl_tokens.specs.Reading.{HasNoFloat, HasNoReading, IsPast};
+ghost use Rattle.rl_grammar.specs.NumberShapes.{HasNoNumber, HasOneFloat, HasOneInteger, HasMagnitude};
 ghost use Rattle.rl_grammar.specs.Shapes.{HasNoQuoted};
-ghost use Rattle.rl_grammar.specs.WholeShapes.{HasNoTruth};
+ghost use Rattle.rl_tokens.specs.Reading.{HasNoTruth};
 
 use crate::bodies::{Body, quoted_body};
 use crate::digits::{is_plain_float, is_plain_integer};

@@ -8,16 +8,9 @@ ghost use Rattle.rl_tokens.specs.Errors.{memory_at};
 ghost use Rattle.rl_tokens.specs.Trees.{IdentTree};
 ghost use Rattle.rl_tokens.specs.Reading.{Reads, ReadsAs, Truth};
 ghost use Rattle.rl_tokens.specs.Buffers.{trees_in, scope_of, IsRest};
-ghost use Rattle.rl_tokens.specs.Fronts.{
-  IsFront,
-  HasNoFront,
-  HasFrontOf,
-  RunsAs,
-  joined,
-  joined_span,
-};
+ghost use Rattle.rl_grammar.specs.Fronts.{IsFront, HasNoFront, HasFrontOf, RunsAs, joined, joined_span};
 ghost use Rattle.rl_grammar.specs.Founds.{IsFound};
-ghost use Rattle.rl_grammar.specs.NumberShapes.{HasNoReading};
+ghost use Rattle.rl_tokens.specs.Reading.{HasNoReading};
 ghost use Rattle.rl_grammar.specs.FrontTokens.{HasNoWord, HasNoMinus};
 
 use crate::found::{Found, find, find_negative};
@@ -38,7 +31,7 @@ pub struct Negative<'a, A: Allocator> {
 impl<'a, A: Allocator> Model for Negative<'a, A> {
     ghost use Rattle.std.specs.Prelude.{◌∷◌};
     ghost use Rattle.rl_tokens.specs.Puncts.{Mark};
-    ghost use Rattle.rl_tokens.specs.Tokens.{SpannedText};
+    ghost use Rattle.rl_tokens.specs.Texts.{SpannedText};
     ghost use Rattle.rl_grammar.specs.Founds.{IsFound};
 
     ghost Value = { Mark × SpannedText };

@@ -6,8 +6,9 @@ ghost use Rattle.std.specs.Str.{chars};
 ghost use Rattle.rl_tokens.specs.declared.kind.Kind.TheVariants.{Int};
 ghost use Rattle.rl_tokens.specs.Texts.{IsTail, first_passes};
 ghost use Rattle.rl_tokens.specs.Reading.{Contents, HasNoInteger, ReadsInt};
-ghost use Rattle.rl_grammar.specs.NumberAt.{after_minus, capped_int, ended_at, int_at, IsHead, radix_at};
-ghost use Rattle.rl_grammar.specs.NumberShapes.{HasOneInteger, IsPast};
+ghost use Rattle.rl_grammar.specs.Mirrors.NumberAt.{after_minus, capped_int, ended_at, int_at, IsHead, radix_at};
+ghost use Rattle.rl_grammar.specs.NumberShapes.{HasOneInteger};
+ghost use Rattle.rl_tokens.specs.Reading.{IsPast};
 
 use crate::parts::Parts;
 use crate::rows::{
@@ -17,7 +18,7 @@ use rl_tokens::Kind;
 use rl_tokens::text::split_char;
 
 /// The base, and what follows its prefix.
-#[tactic(auto, using(rl_tokens::proofs::BehindLemmas::behind_step, rl_tokens::proofs::BehindLemmas::behind_self), unfolding(crate::specs::NumberAt::radix_at))]
+#[tactic(auto, using(rl_tokens::proofs::BehindLemmas::behind_step, rl_tokens::proofs::BehindLemmas::behind_self), unfolding(crate::specs::Mirrors::NumberAt::radix_at))]
 pub(crate) fn split_radix(text: &str) -> (u32, &str)
     ensures value { (result.0, chars result.1.now) ≡ radix_at (chars text.now) }
     ensures within { (2 ≤ result.0) × (result.0 ≤ 16) }

@@ -6,9 +6,10 @@ ghost use Rattle.std.specs.Str.{chars};
 ghost use Rattle.rl_tokens.specs.Texts.{IsTail};
 ghost use Rattle.rl_tokens.specs.Quoted.{is_string, is_single, is_raw};
 ghost use Rattle.rl_tokens.specs.Reading.{Contents, ReadsQuoted};
-ghost use Rattle.rl_grammar.specs.UnitAt.{unit_at};
+ghost use Rattle.rl_grammar.specs.Mirrors.UnitAt.{unit_at};
 ghost use Rattle.rl_grammar.specs.Rows.{BeginsRow};
-ghost use Rattle.rl_grammar.specs.Forms.{has_form, form_opener, string_opener_at, byte_opener_at, opener_at, PartsAre, HasNoParts, is_plain_body, after_hashes};
+ghost use Rattle.rl_grammar.specs.Forms.{has_form, form_opener, PartsAre, HasNoParts, is_plain_body};
+ghost use Rattle.rl_grammar.specs.Mirrors.OpenerAt.{string_opener_at, byte_opener_at, opener_at, after_hashes};
 ghost use Rattle.rl_grammar.specs.Shapes.{IsQuotedSplit, HasNoQuoted};
 
 use crate::ascii::is_ascii;
@@ -51,7 +52,7 @@ fn byte_front(text: &str) -> Option<(QuotedForm, Kind, &str)>
 }
 
 /// What a text's front tells: the one form and the one kind that the text can have, and the text behind the opener.
-#[tactic(auto, unfolding(crate::specs::Forms::opener_at))]
+#[tactic(auto, unfolding(crate::specs::Mirrors::OpenerAt::opener_at))]
 pub(crate) fn front(text: &str) -> Option<(QuotedForm, Kind, &str)>
     ensures { option_map (λ p. (p.0, p.1, chars p.2.now)) result ≡ opener_at (chars text.now) }
 {

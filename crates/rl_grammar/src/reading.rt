@@ -5,9 +5,10 @@ ghost use Rattle.std.specs.Str.{chars};
 ghost use Rattle.rl_tokens.specs.declared.kind.Kind.TheVariants.{Bool as BoolKind};
 ghost use Rattle.rl_tokens.specs.Texts.{IsTail, first_passes};
 ghost use Rattle.rl_tokens.specs.Reading.{Contents, Reads, ReadsBool, truth_text};
-ghost use Rattle.rl_grammar.specs.NumberShapes.{HasNoReading};
+ghost use Rattle.rl_tokens.specs.Reading.{HasNoReading};
 ghost use Rattle.rl_grammar.specs.StrictBytes.{KeepsBytesStrict};
-ghost use Rattle.rl_grammar.specs.WholeShapes.{HasNoTruth, IsSplit, is_number_front};
+ghost use Rattle.rl_tokens.specs.Reading.{HasNoTruth};
+ghost use Rattle.rl_grammar.specs.WholeShapes.{IsSplit, is_number_front};
 
 use crate::numbers::number_shape;
 use crate::parts::Parts;

@@ -5,7 +5,7 @@ ghost use Rattle.std.specs.Char.{digit_value, is_ascii_digit};
 ghost use Rattle.std.specs.Str.{chars};
 ghost use Rattle.rl_tokens.specs.Texts.{IsTail, first_passes};
 ghost use Rattle.rl_tokens.specs.Numbers.{Minus, NoSign};
-ghost use Rattle.rl_grammar.specs.NumberAt.{after_digits, after_minus, append_digit, capped, has_digit_at, is_exponent_suffix, is_suffix, magnitude_at, row_from, sign_at};
+ghost use Rattle.rl_grammar.specs.Mirrors.NumberAt.{after_digits, after_minus, append_digit, capped, has_digit_at, is_exponent_suffix, is_suffix, magnitude_at, row_from, sign_at};
 
 use crate::parts::Parts;
 use crate::tally::Tally;
@@ -130,7 +130,7 @@ pub(crate) fn is_suffix(text: &str) -> bool
 }
 
 /// Whether the suffix makes a decimal integer an exponent.
-#[tactic(auto, unfolding(crate::specs::NumberAt::is_exponent_suffix))]
+#[tactic(auto, unfolding(crate::specs::Mirrors::NumberAt::is_exponent_suffix))]
 pub(crate) fn is_exponent_suffix(text: &str) -> bool
     ensures { result ≡ is_exponent_suffix (chars text.now) }
 {

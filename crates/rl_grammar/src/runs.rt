@@ -5,7 +5,7 @@ ghost use Rattle.std.specs.List.{list_all, prefix_len};
 ghost use Rattle.std.specs.Str.{chars};
 ghost use Rattle.rl_tokens.specs.Texts.{first_passes};
 ghost use Rattle.rl_tokens.specs.Quoted.{is_string, is_plain};
-ghost use Rattle.rl_grammar.specs.Classes.{is_in_run};
+ghost use Rattle.rl_grammar.specs.Mirrors.Classes.{is_in_run};
 
 use crate::ascii::ascii_len;
 use rl_tokens::Kind;

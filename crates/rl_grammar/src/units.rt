@@ -5,7 +5,7 @@ ghost use Rattle.std.specs.Str.{chars};
 ghost use Rattle.rl_tokens.specs.Texts.{first_passes};
 ghost use Rattle.rl_tokens.specs.Quoted.{holds_characters, is_plain, allows_code, may_be_hex, has_unicode};
 ghost use Rattle.rl_tokens.specs.Strict.{is_bare_character};
-ghost use Rattle.rl_grammar.specs.UnitAt.{piece_value, IsPieceOf, named_in, digit_at, hex_at, unicode_digits_at, unicode_at, after_blanks, escape_at, unit_at};
+ghost use Rattle.rl_grammar.specs.Mirrors.UnitAt.{piece_value, IsPieceOf, named_in, digit_at, hex_at, unicode_digits_at, unicode_at, after_blanks, escape_at, unit_at};
 
 use crate::classes::{Class, skip};
 use rl_tokens::Kind;
@@ -93,7 +93,7 @@ fn digit(text: &str) -> Option<(u32, &str)>
 }
 
 /// The number of the two digits of `\x`, and the text behind them.
-#[tactic(auto, unfolding(crate::specs::UnitAt::hex_at))]
+#[tactic(auto, unfolding(crate::specs::Mirrors::UnitAt::hex_at))]
 #[inline(always)]
 fn hex_escape(kind: Kind, text: &str) -> Option<(u8, &str)>
     ensures value { option_map (λ p. (p.0, chars p.1.now)) result ≡ hex_at kind (chars text.now) }
@@ -111,7 +111,7 @@ fn hex_escape(kind: Kind, text: &str) -> Option<(u8, &str)>
 }
 
 /// What follows the first digit of `\u{`: the character of all the digits, and the text behind the brace.
-#[tactic(auto, unfolding(crate::specs::UnitAt::unicode_digits_at), using(crate::proofs::AsciiLemmas::no_digits))]
+#[tactic(auto, unfolding(crate::specs::Mirrors::UnitAt::unicode_digits_at), using(crate::proofs::AsciiLemmas::no_digits))]
 #[inline(always)]
 fn more_digits(text: &str, first: u32) -> Option<(char, &str)>
     requires { first < 16 }
@@ -139,7 +139,7 @@ fn more_digits(text: &str, first: u32) -> Option<(char, &str)>
 }
 
 /// The character of `\u{..}` from its brace on, and the text behind it.
-#[tactic(auto, unfolding(crate::specs::UnitAt::unicode_at), using(crate::proofs::AsciiLemmas::no_brace))]
+#[tactic(auto, unfolding(crate::specs::Mirrors::UnitAt::unicode_at), using(crate::proofs::AsciiLemmas::no_brace))]
 #[inline(always)]
 fn unicode_escape(kind: Kind, text: &str) -> Option<(char, &str)>
     ensures value { option_map (λ p. (p.0, chars p.1.now)) result ≡ unicode_at kind (chars text.now) }
@@ -167,7 +167,7 @@ fn skip_blanks(text: &str) -> &str
 }
 
 /// What the escape stands for whose backslash stands before the text, and the text behind it.
-#[tactic(auto, unfolding(crate::specs::UnitAt::escape_at), using(crate::proofs::AsciiLemmas::no_escape))]
+#[tactic(auto, unfolding(crate::specs::Mirrors::UnitAt::escape_at), using(crate::proofs::AsciiLemmas::no_escape))]
 #[inline(always)]
 fn escape(kind: Kind, text: &str) -> Option<(Piece, &str)>
     ensures value { option_map (λ p. (piece_value kind p.0, chars p.1.now)) result ≡ escape_at kind (chars text.now) }
@@ -199,7 +199,7 @@ fn escape(kind: Kind, text: &str) -> Option<(Piece, &str)>
 }
 
 /// What a character at the front stands for that is no backslash, or the two of a line end, and the text behind.
-#[tactic(auto, unfolding(crate::specs::UnitAt::unit_at))]
+#[tactic(auto, unfolding(crate::specs::Mirrors::UnitAt::unit_at))]
 #[inline(always)]
 fn character(kind: Kind, text: &str) -> Option<(Piece, &str)>
     requires { IsFalse (first_passes (λ c. c == 92) (chars text.now)) }
@@ -223,7 +223,7 @@ fn character(kind: Kind, text: &str) -> Option<(Piece, &str)>
 }
 
 /// What the unit at the front stands for, and the text behind it: `None` where no unit of the kind stands there.
-#[tactic(auto, unfolding(crate::specs::UnitAt::unit_at), using(crate::proofs::AsciiLemmas::no_backslash))]
+#[tactic(auto, unfolding(crate::specs::Mirrors::UnitAt::unit_at), using(crate::proofs::AsciiLemmas::no_backslash))]
 #[inline(always)]
 pub(crate) fn unit(kind: Kind, text: &str) -> Option<(Piece, &str)>
     ensures value { option_map (λ p. (piece_value kind p.0, chars p.1.now)) result ≡ unit_at kind (chars text.now) }

@@ -9,7 +9,7 @@ use Rattle.rl_tokens.specs.declared.error.ErrorKind.{ErrorKind}
 use Rattle.rl_tokens.specs.declared.error.ErrorKind.TheVariants.{Unexpected, Suffix}
 use Rattle.rl_tokens.specs.declared.error.Error.{Error}
 use Rattle.rl_tokens.specs.Errors.{memory_at, lex_refusal}
-use Rattle.rl_tokens.specs.Tokens.{SpannedText}
+use Rattle.rl_tokens.specs.Texts.{SpannedText}
 use Rattle.rl_tokens.specs.Trees.{Tree, respanned}
 use Rattle.rl_tokens.specs.Reading.{Characters, HasContents, HasSuffix}
 use Rattle.rl_tokens.specs.Lexing.{Lexes, Refuses}

@@ -9,7 +9,7 @@ use Rattle.std.specs.Option.{option_map}
 use Rattle.std.proofs.lemmas.Str.{encode_ascii, length-encode, len_utf8_bounds, inside_one, encodes-chars, chars_from_encodes}
 use Rattle.rl_tokens.specs.Texts.{first_passes}
 use Rattle.rl_tokens.specs.Trivia.{is_plain_line, is_plain_block}
-use Rattle.rl_tokens.specs.SkippedAt.{after_block, after_comment}
+use Rattle.rl_tokens.specs.Mirrors.SkippedAt.{after_block, after_comment}
 use Rattle.rl_tokens.proofs.Comments.{closed, after_block-step, block_goes_on, both, false_unless}
 
 abbrev pub AllHigh : List ℕ → Type 0

@@ -7,7 +7,7 @@ use Rattle.std.proofs.lemmas.Str.{IsUtf8-nil}
 use Rattle.std.proofs.Math.Seq.{take-length}
 use Rattle.std.specs.Str.{chars}
 use Rattle.rl_tokens.specs.Texts.{IsTail}
-use Rattle.rl_tokens.specs.SkippedAt.{after_block, after_line}
+use Rattle.rl_tokens.specs.Mirrors.SkippedAt.{after_block, after_line}
 use Rattle.rl_tokens.specs.Scanning.{is_other, IsNextMark}
 use Rattle.rl_tokens.specs.declared.scan.Marks.{Marks}
 use Rattle.std.specs.List.{list_all, prefix_len}

@@ -3,10 +3,11 @@ use Rattle.std.proofs.Common.{◌≡◌, ℕ, ◌+◌, List, [], ◌∷◌, ◌+
 use Rattle.std.specs.Option.{option_and_then}
 use Rattle.std.specs.Str.{encode_utf8_all}
 use Rattle.std.proofs.lemmas.Option.{none-some}
-use Rattle.rl_tokens.specs.Trivia.{Skipped}
+use Rattle.rl_tokens.specs.Skipping.{Skipped}
 use Rattle.rl_tokens.specs.Lexemes.{Lexeme, lexeme_text, IsLexeme, LexemeForm, form_of}
-use Rattle.rl_tokens.specs.LexemeAt.{lexeme_at}
-use Rattle.rl_tokens.specs.Lexing.{LexedToken, byte_len, end_of, LexesUpTo, OpenGroup, behind_form, behind_lexeme, open_groups, flat_form, flat_token}
+use Rattle.rl_tokens.specs.Mirrors.LexemeAt.{lexeme_at}
+use Rattle.rl_tokens.specs.Lexing.{LexedToken, end_of, LexesUpTo, OpenGroup, behind_form, behind_lexeme, open_groups, flat_form, flat_token}
+use Rattle.rl_tokens.specs.Texts.{byte_len}
 use Rattle.rl_tokens.proofs.Comments.{same_Some}
 use Rattle.rl_tokens.proofs.Pieces.{one_rest}
 use Rattle.rl_tokens.proofs.LexemeFronts.{lexeme_at-past, one_front}

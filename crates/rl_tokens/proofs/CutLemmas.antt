@@ -3,9 +3,10 @@ use Rattle.std.proofs.Common.{◌≡◌, ℕ, ◌+◌, List, [], ◌∷◌, ◌+
 use Rattle.std.proofs.lemmas.Str.{encodes-append}
 use Rattle.std.specs.Str.{encode_utf8_all}
 use Rattle.std.specs.Option.{option_and_then}
-use Rattle.rl_tokens.specs.Trivia.{Skipped}
+use Rattle.rl_tokens.specs.Skipping.{Skipped}
 use Rattle.rl_tokens.specs.Lexemes.{lexeme_text, IsLexeme}
-use Rattle.rl_tokens.specs.Lexing.{LexedToken, byte_len, end_of, LexesUpTo, OpenGroup, behind_lexeme, open_groups}
+use Rattle.rl_tokens.specs.Lexing.{LexedToken, end_of, LexesUpTo, OpenGroup, behind_lexeme, open_groups}
+use Rattle.rl_tokens.specs.Texts.{byte_len}
 
 pub byte_len-append : (xs ys : List ℕ) → byte_len (xs ++ ys) ≡ byte_len xs + byte_len ys
 byte_len-append xs ys = ap length (encodes-append xs ys) ∙ length-append (encode_utf8_all xs) (encode_utf8_all ys)

@@ -6,9 +6,9 @@ use Rattle.rl_tokens.specs.declared.lex_error.LexKind.{LexKind}
 use Rattle.rl_tokens.specs.declared.lex_error.LexKind.TheVariants.{DocComment, UnclosedComment, UnclosedQuote, Lifetime, RawIdentifier, StrayCharacter, UnmatchedClose, UnclosedGroup, TooDeep, Memory}
 use Rattle.rl_tokens.specs.Texts.{is_start, is_among, first_passes, begins}
 use Rattle.rl_tokens.specs.Lexemes.{Lexeme, lexeme_text, IsLexeme, LexemeForm, form_of, DelimiterForm, MarkForm, delimiters, after_run, is_hash}
-use Rattle.rl_tokens.specs.LexemeAt.{lexeme_at, SlashHead}
+use Rattle.rl_tokens.specs.Mirrors.LexemeAt.{lexeme_at, SlashHead}
 use Rattle.rl_tokens.specs.Lexing.{OpenGroup, is_opener, is_closer, closes, popped, behind_form, begins_doc_comment, begins_quote, begins_lifetime, begins_raw_identifier, BeginsNoLexeme, FaultAt}
-use Rattle.rl_tokens.specs.Nests.{fault_kind}
+use Rattle.rl_tokens.specs.Mirrors.TreeBuilders.{fault_kind}
 use Rattle.rl_tokens.proofs.Comments.{false_unless, same_Some}
 use Rattle.rl_tokens.proofs.Pieces.{is_equal}
 use Rattle.rl_tokens.proofs.LexemeRows.{both_true, not_true, not_among}

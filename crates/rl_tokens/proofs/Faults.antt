@@ -10,8 +10,9 @@ use Rattle.rl_tokens.specs.declared.lex_error.LexKind.TheVariants.{DocComment, U
 use Rattle.rl_tokens.specs.declared.lex_error.LexError.{LexError}
 use Rattle.rl_tokens.specs.Texts.{begins}
 use Rattle.rl_tokens.specs.Cursors.{CursorState, IsCursorState, IsFirstFault}
-use Rattle.rl_tokens.specs.Lexing.{byte_len, LexedToken, LexesUpTo, open_groups, OpenGroup, fault_place, begins_doc_comment, begins_quote, begins_lifetime, begins_raw_identifier, BeginsNoLexeme, FaultAt, Fault, Refuses}
-use Rattle.rl_tokens.specs.Nests.{fault_kind}
+use Rattle.rl_tokens.specs.Texts.{byte_len}
+use Rattle.rl_tokens.specs.Lexing.{LexedToken, LexesUpTo, open_groups, OpenGroup, fault_place, begins_doc_comment, begins_quote, begins_lifetime, begins_raw_identifier, BeginsNoLexeme, FaultAt, Fault, Refuses}
+use Rattle.rl_tokens.specs.Mirrors.TreeBuilders.{fault_kind}
 use Rattle.rl_tokens.proofs.Rests.{behind_length}
 
 -- a text's characters take its bytes

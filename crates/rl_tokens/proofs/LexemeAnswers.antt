@@ -5,7 +5,8 @@ use Rattle.std.specs.Str.{chars}
 use Rattle.std.proofs.lemmas.Option.{none-some}
 use Rattle.rl_tokens.specs.declared.lexeme.Form.{Form as FoundForm}
 use Rattle.rl_tokens.specs.Lexemes.{LexemeForm, form_of, LexemeBefore}
-use Rattle.rl_tokens.specs.LexemeAt.{form_view, lexeme_at, FormBefore}
+use Rattle.rl_tokens.specs.Cursors.{form_view}
+use Rattle.rl_tokens.specs.Mirrors.LexemeAt.{lexeme_at, FormBefore}
 use Rattle.rl_tokens.proofs.LexemeFronts.{lexeme_at-past}
 use Rattle.rl_tokens.proofs.LexemeFound.{lexeme_at-found}
 

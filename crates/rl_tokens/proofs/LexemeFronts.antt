@@ -12,7 +12,7 @@ use Rattle.rl_tokens.specs.Lexemes.{is_numeral_part, is_hash, is_base_letter, de
 use Rattle.rl_tokens.proofs.Comments.{false_unless, same_Some}
 use Rattle.rl_tokens.proofs.Pieces.{is_equal}
 use Rattle.rl_tokens.specs.Puncts.{is_punct}
-use Rattle.rl_tokens.specs.LexemeAt.{after_suffix, after_raw, after_lexed_fraction, after_lexed_exponent, after_decimal, HeadClass, LetterBHead, LetterCHead, LetterRHead, OtherLetterHead, QuoteHead, ApostropheHead, DigitHead, SlashHead, StrayHead, start_class, other_class, head_class, quoted_at, raw_at, single_at, word_at, by_class, lexeme_at, literal_at, DelimiterHead, MarkHead}
+use Rattle.rl_tokens.specs.Mirrors.LexemeAt.{after_suffix, after_raw, after_lexed_fraction, after_lexed_exponent, after_decimal, HeadClass, LetterBHead, LetterCHead, LetterRHead, OtherLetterHead, QuoteHead, ApostropheHead, DigitHead, SlashHead, StrayHead, start_class, other_class, head_class, quoted_at, raw_at, single_at, word_at, by_class, lexeme_at, literal_at, DelimiterHead, MarkHead}
 use Rattle.rl_tokens.proofs.LexemeRows.{both_true, not_true, run_past, suffix_past, quote_past, raw_past, hashes_count, hashes_past, single_past, fraction_past, exponent_past, not_among}
 use Rattle.std.proofs.lemmas.List.{append_cancel_right}
 

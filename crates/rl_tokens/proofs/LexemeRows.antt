@@ -6,7 +6,7 @@ use Rattle.std.specs.Char.{is_ascii_digit}
 use Rattle.rl_tokens.specs.Lexemes.{is_numeral_part, is_hash, after_run, begins_hashes, after_sign, BodyPart, PlainPart, EscapedPart, body_text, IsBody, CharacterBody, OneCharacter, EscapedCharacter, character_body_text, IsCharacterBody, LexedFraction, NoLexedFraction, LexedDot, lexed_fraction_text, LexedSign, NoLexedSign, LexedPlus, LexedMinus, lexed_sign_text, LexedExponent, NoLexedExponent, LexedPower, lexed_exponent_text, IsRow, IsLexedSuffix, IsRawBody, IsLexedFraction, IsLexedExponent}
 use Rattle.rl_tokens.proofs.Comments.{false_unless}
 use Rattle.rl_tokens.proofs.Pieces.{is_equal}
-use Rattle.rl_tokens.specs.LexemeAt.{after_suffix, after_quote, hashes, after_raw, after_apostrophe, after_single, after_lexed_fraction, after_lexed_exponent}
+use Rattle.rl_tokens.specs.Mirrors.LexemeAt.{after_suffix, after_quote, hashes, after_raw, after_apostrophe, after_single, after_lexed_fraction, after_lexed_exponent}
 
 pub both_true : (a b : Bool) → (a && b) ≡ true → (a ≡ true) × (b ≡ true)
 both_true true b h = (refl, h)

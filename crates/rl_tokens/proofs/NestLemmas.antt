@@ -12,7 +12,7 @@ use Rattle.rl_tokens.specs.declared.token.Delimiter.TheVariants.{Parenthesis, Br
 use Rattle.rl_tokens.specs.declared.lex_error.LexKind.TheVariants.{UnclosedGroup}
 use Rattle.rl_tokens.specs.Trees.{Tree, FlatToken, Opening, Closing, FlatPunct, opener_span, closer_span, trees_of, delimiter_of, stream_of, group_span, tree_view, stream_view, flat, flat_trees}
 use Rattle.rl_tokens.specs.Lexing.{closer_of, closes, popped, innermost, behind_form, flat_form}
-use Rattle.rl_tokens.specs.Nests.{opener_of, closer_char, group_of, groups_of, flat_open, flat_builder, TakesToken, TakesTree, OpensGroup, ClosesGroup, EndsInGroup}
+use Rattle.rl_tokens.specs.Mirrors.TreeBuilders.{opener_of, closer_char, group_of, groups_of, flat_open, flat_builder, TakesToken, TakesTree, OpensGroup, ClosesGroup, EndsInGroup}
 use Rattle.rl_tokens.specs.Puncts.{Mark}
 use Rattle.rl_tokens.specs.Lexemes.{LexemeForm, MarkForm}
 use Rattle.rl_tokens.proofs.TreeLemmas.{tree_view-group, tree_view-punct}

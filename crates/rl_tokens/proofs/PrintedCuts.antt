@@ -9,12 +9,15 @@ use Rattle.std.proofs.lemmas.Option.{none-some}
 use Rattle.std.proofs.lemmas.Str.{encode_ascii}
 use Rattle.unicode_ident.specs.Ident.{is_xid_start}
 use Rattle.rl_tokens.specs.Texts.{is_white, is_among}
-use Rattle.rl_tokens.specs.Trivia.{White, Line, Block, BeginsTrivia, IsTrivia}
+use Rattle.rl_tokens.specs.Trivia.{White, Line, Block, IsTrivia}
+use Rattle.rl_tokens.specs.Skipping.{BeginsTrivia}
 use Rattle.rl_tokens.specs.Lexemes.{delimiters, marks, Lexeme, IdentifierLexeme, MarkLexeme, lexeme_text, IsLexeme, LiteralForm, form_of}
-use Rattle.rl_tokens.specs.LexemeAt.{DelimiterHead, MarkHead, SlashHead, DigitHead, QuoteHead, ApostropheHead, StrayHead, head_class, lexeme_at}
+use Rattle.rl_tokens.specs.Mirrors.LexemeAt.{DelimiterHead, MarkHead, SlashHead, DigitHead, QuoteHead, ApostropheHead, StrayHead, head_class, lexeme_at}
 use Rattle.rl_tokens.specs.Trees.{Tree, PunctTree, LiteralTree, flat, flat_trees}
-use Rattle.rl_tokens.specs.Lexing.{LexedToken, byte_len, LexesUpTo, OpenGroup, behind_form, open_groups, flat_form, flat_token, Lexes}
-use Rattle.rl_tokens.specs.Printed.{Item, WordItem, LiteralItem, MinusItem, item_text, Entry, printed_text, token_at, item_trees, printed_trees}
+use Rattle.rl_tokens.specs.Lexing.{LexedToken, LexesUpTo, OpenGroup, behind_form, open_groups, flat_form, flat_token, Lexes}
+use Rattle.rl_tokens.specs.Texts.{byte_len}
+use Rattle.rl_tokens.specs.Printed.{Item, WordItem, LiteralItem, MinusItem, item_text, Entry, printed_text, token_at}
+use Rattle.rl_tokens.specs.PrintedTrees.{item_trees, printed_trees}
 use Rattle.rl_tokens.proofs.Comments.{false_unless}
 use Rattle.rl_tokens.proofs.Pieces.{stops-from_none}
 use Rattle.rl_tokens.proofs.LexemeRows.{not_true, not_among}

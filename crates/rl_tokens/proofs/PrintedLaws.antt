@@ -10,8 +10,9 @@ use Rattle.rl_tokens.specs.Trivia.{TriviaPiece, White, Line, Block, trivia_piece
 use Rattle.rl_tokens.specs.Lexemes.{Lexeme, QuotedLexeme, RawLexeme, CharacterLexeme, BasedLexeme, DecimalLexeme, IdentifierLexeme, DelimiterLexeme, MarkLexeme, LiteralForm, form_of, KeepsItsEnd, BeginsGap}
 use Rattle.rl_tokens.specs.Reading.{Contents}
 use Rattle.rl_tokens.specs.Strict.{Strict}
-use Rattle.rl_tokens.specs.Agreeing.{is_number}
-use Rattle.rl_tokens.specs.Printed.{Item, WordItem, LiteralItem, MinusItem, item_text, Entry, printed_text, IsStrictItem, IsApart, IsLexedLiteral, IsLexedItem, PrintedLexes, ReprintedLexes}
+use Rattle.rl_tokens.specs.Quoted.{is_number}
+use Rattle.rl_tokens.specs.Printed.{Item, WordItem, LiteralItem, MinusItem, item_text, Entry, printed_text, IsStrictItem, IsApart}
+use Rattle.rl_tokens.specs.PrintedTrees.{IsLexedLiteral, IsLexedItem, PrintedLexes, ReprintedLexes}
 use Rattle.rl_tokens.proofs.LexemeGaps.{stays_before_gap}
 use Rattle.rl_tokens.proofs.PrintedCuts.{LexedBefore, LexedItem, EndsEach, entries_lex}
 use Rattle.rl_tokens.proofs.LiteralEnds.{EndsLiteral, gap_ends, word_ends}

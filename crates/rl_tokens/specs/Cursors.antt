@@ -2,11 +2,12 @@
 use Rattle.std.specs.Prelude.{◌≡◌, ℕ, ◌+◌, List, [], ◌∷◌, ◌++◌, length, encode_utf8_all, Option, Some, MatchOption}
 use Rattle.std.specs.Str.{chars, IsUtf8}
 use Rattle.rl_tokens.specs.Texts.{IsTail}
-use Rattle.rl_tokens.specs.Lexemes.{lexeme_text, IsLexeme, LexemeBefore, form_of}
-use Rattle.rl_tokens.specs.LexemeAt.{form_view}
+use Rattle.rl_tokens.specs.Lexemes.{lexeme_text, IsLexeme, LexemeBefore, form_of, LexemeForm, LiteralForm, IdentifierForm, DelimiterForm, MarkForm}
 use Rattle.rl_tokens.specs.Lexing.{LexedToken, end_of, LexesUpTo, OpenGroup, open_groups, Fault, BeginsNoLexeme}
 use Rattle.rl_tokens.specs.declared.cursor.Lexeme.{Lexeme}
 use Rattle.rl_tokens.specs.declared.lex_error.LexKind.{LexKind}
+use Rattle.rl_tokens.specs.declared.lexeme.Form.{Form as FoundForm}
+use Rattle.rl_tokens.specs.declared.lexeme.Form.TheVariants as found
 
 -- The text, and what is left of it. Both are bytes.
 pub record CursorState : Type 0 where
@@ -50,3 +51,10 @@ IsFirstFault t kind at =
 -- What the cursor gives: the next token, or nothing where none begins what is left, and then it stays.
 abbrev pub GivesNext : CursorState → Option Lexeme → CursorState → Type 0
 GivesNext old token new = MatchOption token (BeginsNoLexeme (chars old.rest) × (new ≡ old)) (λ l. TakesNext old l new)
+
+-- the form that the code tells
+abbrev pub form_view : FoundForm → LexemeForm
+form_view found.Literal = LiteralForm
+form_view found.Identifier = IdentifierForm
+form_view (found.Delimiter c) = DelimiterForm c
+form_view (found.Mark c) = MarkForm c

@@ -1,7 +1,7 @@
 -- How a whole text is cut into tokens, and the first fault of a text that can't be.
 use Rattle.std.specs.Prelude.{◌≡◌, ◌≢◌, ℕ, ◌+◌, Bool, false, not, ◌&&◌, ◌||◌, ◌==◌, nat_lt, List, [], ◌∷◌, ◌++◌, length, map, IsTrue, IsFalse, codes, encode_utf8_all, Option, Some, None, option_and_then, if◌then◌else◌}
-use Rattle.rl_tokens.specs.Texts.{is_start, is_among, first_passes, begins}
-use Rattle.rl_tokens.specs.Trivia.{Skipped}
+use Rattle.rl_tokens.specs.Texts.{is_start, is_among, first_passes, begins, byte_len}
+use Rattle.rl_tokens.specs.Skipping.{Skipped}
 use Rattle.rl_tokens.specs.declared.span.Span.{Span}
 use Rattle.rl_tokens.specs.declared.token.Delimiter.{Delimiter}
 use Rattle.rl_tokens.specs.declared.token.Delimiter.TheVariants.{Parenthesis, Brace, Bracket}
@@ -14,9 +14,6 @@ use Rattle.rl_tokens.specs.Lexemes.{Lexeme, lexeme_text, IsLexeme, LexemeBefore,
 pub record LexedToken : Type 0 where
   pub lexeme : Lexeme
   pub at : ℕ
-
-abbrev pub byte_len : List ℕ → ℕ
-byte_len cs = length (encode_utf8_all cs)
 
 abbrev pub end_of : LexedToken → ℕ
 end_of w = w.at + byte_len (lexeme_text w.lexeme)

@@ -3,7 +3,7 @@ use Rattle.std.specs.Prelude.{◌≡◌, ℕ, ◌+◌, ◌*◌, ◌^◌, ◌≤�
 use Rattle.std.specs.Char.{IsScalar, digit_value}
 use Rattle.std.specs.List.{list_all, flat_map, AllByRecursion}
 use Rattle.rl_tokens.specs.declared.kind.Kind.{Kind}
-use Rattle.rl_tokens.specs.declared.kind.Kind.TheVariants.{Str, ByteStr, CStr, Byte, Char}
+use Rattle.rl_tokens.specs.declared.kind.Kind.TheVariants.{Str, ByteStr, CStr, Byte, Char, Int, Float}
 use Rattle.rl_tokens.specs.Texts.{first_passes, is_underscore}
 
 -- the escapes of a backslash and one letter
@@ -209,3 +209,8 @@ pub record Single (kind : Kind) (text value suffix : List ℕ) : Type 0 where
   pub is_unit : IsUnit kind unit
   pub text_is : text ≡ opener kind ++ (unit_text unit ++ (39 ∷ suffix))
   pub value_is : value ≡ unit_value kind unit
+
+abbrev pub is_number : Kind → Bool
+is_number Int = true
+is_number Float = true
+is_number _ = false

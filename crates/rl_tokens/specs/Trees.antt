@@ -6,7 +6,7 @@ use Rattle.rl_tokens.specs.declared.token.TokenTree.{TokenTree, fold-TokenTree, 
 use Rattle.rl_tokens.specs.declared.token.TokenTree.TheOpen.{TokenTree-F, Group-F, TokenStream-F}
 use Rattle.rl_tokens.specs.declared.token.Group.{Group, out-Group}
 use Rattle.rl_tokens.specs.declared.token.TokenStream.{TokenStream, out-TokenStream}
-use Rattle.rl_tokens.specs.Tokens.{SpannedText}
+use Rattle.rl_tokens.specs.Texts.{SpannedText}
 use Rattle.rl_tokens.specs.Puncts.{Mark}
 
 -- the trees of a stream

@@ -2,7 +2,7 @@
 
 ghost use Rattle.std.specs.Prelude.{◌≡◌, ◌<◌, ◌+◌, ◌⊎◌, List, [], length, IfSome, IfNone};
 ghost use Rattle.std.specs.Str.{chars};
-ghost use Rattle.rl_tokens.specs.Trivia.{Skipped};
+ghost use Rattle.rl_tokens.specs.Skipping.{Skipped};
 ghost use Rattle.rl_tokens.specs.Lexing.{BeginsNoLexeme, OpenGroup, FaultAt};
 
 use crate::fault::fault_kind;

@@ -43,7 +43,7 @@ impl<A: Allocator> Model for Ident<A> {
     ghost use Rattle.std.specs.Prelude.{string_bytes, IsTrue};
     ghost use Rattle.std.specs.Str.{chars};
     ghost use Rattle.rl_tokens.specs.Texts.{xid_ok};
-    ghost use Rattle.rl_tokens.specs.Tokens.{SpannedText};
+    ghost use Rattle.rl_tokens.specs.Texts.{SpannedText};
 
     ghost Value = { SpannedText };
 

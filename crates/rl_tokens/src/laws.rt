@@ -5,8 +5,9 @@ ghost use Rattle.rl_tokens.specs.declared.kind.Kind.{Kind};
 ghost use Rattle.rl_tokens.specs.Reading.{Contents, Digits, Reads, quoted_contents};
 ghost use Rattle.rl_tokens.specs.Strict.{Strict, strict_quoted_contents};
 ghost use Rattle.rl_tokens.specs.Written.{written_text};
-ghost use Rattle.rl_tokens.specs.Agreeing.{IsWithinLimit, is_number, IsQuotedValue};
-ghost use Rattle.rl_tokens.specs.Printed.{PrintedLexes, ReprintedLexes};
+ghost use Rattle.rl_tokens.specs.Agreeing.{IsWithinLimit, IsQuotedValue};
+ghost use Rattle.rl_tokens.specs.Quoted.{is_number};
+ghost use Rattle.rl_tokens.specs.PrintedTrees.{PrintedLexes, ReprintedLexes};
 
 /// A text has one reading at most: one kind, one value, one suffix.
 pub fn one_reading()

@@ -9,16 +9,8 @@ ghost use Rattle.std.specs.Prelude.{◌≡◌, ◌<◌, ◌&&◌, ◌==◌, List
 ghost use Rattle.std.specs.Str.{chars};
 ghost use Rattle.rl_tokens.specs.Texts.{is_among, is_start, first_passes, IsTail};
 ghost use Rattle.rl_tokens.specs.Lexemes.{delimiters, LexemeBefore};
-ghost use Rattle.rl_tokens.specs.LexemeAt.{
-  form_view,
-  start_class,
-  other_class,
-  head_class,
-  by_class,
-  after_digit,
-  lexeme_at,
-  FormBefore,
-};
+ghost use Rattle.rl_tokens.specs.Cursors.{form_view};
+ghost use Rattle.rl_tokens.specs.Mirrors.LexemeAt.{start_class, other_class, head_class, by_class, after_digit, lexeme_at, FormBefore};
 
 use crate::characters::is_start;
 use crate::front::{begins_with, without_first};

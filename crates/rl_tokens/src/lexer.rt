@@ -4,7 +4,8 @@ ghost use Rattle.std.specs.Prelude.{List, ℕ, ◌≡◌, IfOk, IfErr};
 ghost use Rattle.std.specs.Str.{chars};
 ghost use Rattle.rl_tokens.specs.declared.lex_error.LexKind.{LexKind};
 ghost use Rattle.rl_tokens.specs.Lexing.{Lexes, Refuses, OneList, OneFault, NeverBoth};
-ghost use Rattle.rl_tokens.specs.Printed.{Entry, Printed, Reprinted, printed_trees};
+ghost use Rattle.rl_tokens.specs.Printed.{Entry, Printed};
+ghost use Rattle.rl_tokens.specs.PrintedTrees.{Reprinted, printed_trees};
 ghost use Rattle.rl_tokens.specs.Trees.{stream_view};
 
 use crate::cursor::Tokens;

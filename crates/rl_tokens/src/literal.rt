@@ -16,7 +16,7 @@ pub struct Literal<A: Allocator = Global> {
 
 impl<A: Allocator> Model for Literal<A> {
     ghost use Rattle.std.specs.Prelude.{string_bytes};
-    ghost use Rattle.rl_tokens.specs.Tokens.{SpannedText};
+    ghost use Rattle.rl_tokens.specs.Texts.{SpannedText};
 
     ghost Value = { SpannedText };
 

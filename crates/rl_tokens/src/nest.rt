@@ -1,7 +1,7 @@
 //! The trees of a text as they grow.
 
 ghost use Rattle.std.specs.Prelude.{◌≡◌, ◌≤◌, ◌+◌, [], vec_len, OnOk, IfErr, IfOk};
-ghost use Rattle.rl_tokens.specs.LexemeAt.{form_view};
+ghost use Rattle.rl_tokens.specs.Cursors.{form_view};
 ghost use Rattle.rl_tokens.specs.Lexing.{is_opener, delimiter_for};
 
 use crate::ident::Ident;
@@ -41,19 +41,7 @@ pub(crate) struct TreeBuilder<A: Allocator> {
 
 impl<A: Allocator + Copy> TreeBuilder<A> {
     ghost use Rattle.rl_tokens.specs.Trees.{stream_view, flat_trees};
-    ghost use Rattle.rl_tokens.specs.Nests.{
-      groups_of,
-      flat_builder,
-      IsFitting,
-      TakesToken,
-      TakesTree,
-      OpensGroup,
-      ClosesGroup,
-      RefusesForm,
-      RefusesOpener,
-      RefusesCloser,
-      EndsInGroup,
-    };
+    ghost use Rattle.rl_tokens.specs.Mirrors.TreeBuilders.{groups_of, flat_builder, IsFitting, TakesToken, TakesTree, OpensGroup, ClosesGroup, RefusesForm, RefusesOpener, RefusesCloser, EndsInGroup};
 
     /// Nothing was read yet.
     pub(crate) fn new(alloc: A, file: u32) -> TreeBuilder<A>

@@ -3,8 +3,9 @@
 ghost use Rattle.std.specs.Prelude.{◌≡◌, slice_index, option_map, IfSome, IsFalse};
 ghost use Rattle.std.specs.Str.{chars};
 ghost use Rattle.rl_tokens.specs.Texts.{is_white, first_passes, IsTail};
-ghost use Rattle.rl_tokens.specs.Trivia.{is_plain_line, is_plain_block, Skipped, OneRest};
-ghost use Rattle.rl_tokens.specs.SkippedAt.{after_line, after_block, after_comment};
+ghost use Rattle.rl_tokens.specs.Trivia.{is_plain_line, is_plain_block};
+ghost use Rattle.rl_tokens.specs.Skipping.{Skipped, OneRest};
+ghost use Rattle.rl_tokens.specs.Mirrors.SkippedAt.{after_line, after_block, after_comment};
 
 use crate::front::{begins_with, strip_byte};
 use crate::lexeme::{RunClass, after_row};

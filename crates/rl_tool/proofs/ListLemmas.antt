@@ -4,7 +4,7 @@ use Rattle.std.specs.Prelude.{String, IfSome}
 use Rattle.std.specs.Option.{ok_or}
 use Rattle.std.specs.Str.{chars, IsUtf8}
 use Rattle.std.proofs.lemmas.Str.{chars-nil}
-use Rattle.rl_tokens.specs.Trivia.{Skipped}
+use Rattle.rl_tokens.specs.Skipping.{Skipped}
 use Rattle.rl_tokens.specs.Cursors.{CursorState}
 use Rattle.rust_literals.specs.declared.lit.Lit.{Lit}
 use Rattle.rust_literals.specs.Parsing.{AreRead, RefusesText}

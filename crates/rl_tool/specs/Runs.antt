@@ -4,8 +4,8 @@ use Rattle.std.specs.Str.{chars, IsUtf8}
 use Rattle.std.specs.Io.KnownBytes.{Appends, Keeps}
 use Rattle.rl_tokens.specs.declared.error.Error.{Error}
 use Rattle.rl_tokens.specs.Errors.{memory_at}
-use Rattle.rl_tokens.specs.Tokens.{SpannedText}
-use Rattle.rust_literals.specs.Literals.{ReadsAsNumber}
+use Rattle.rl_tokens.specs.Texts.{SpannedText}
+use Rattle.rust_literals.specs.LitParts.{ReadsAsNumber}
 use Rattle.rust_literals.specs.declared.lit.Lit.{Lit}
 use Rattle.rust_literals.specs.Parsing.{AreRead, RefusesText}
 use Rattle.rl_tool.specs.declared.command.Command.{Command}

@@ -2,7 +2,7 @@
 use Rattle.std.proofs.Common.{inl, inr, true, false, List, [], ◌∷◌, ◌++◌, refl, ap}
 use Rattle.rl_tokens.specs.declared.span.Span.{Span}
 use Rattle.rust_literals.specs.declared.lit.Lit.{Lit}
-use Rattle.rust_literals.specs.Literals.{lit_span}
+use Rattle.rust_literals.specs.LitParts.{lit_span}
 use Rattle.rl_uses.specs.Lints.{TellsFault, AreFaults}
 
 -- one literal more that is no fault

@@ -6,7 +6,7 @@ use Rattle.std.proofs.lemmas.Result.{err_from_is_err_and}
 use Rattle.rl_tokens.specs.declared.error.Error.{Error}
 use Rattle.rl_tokens.specs.Errors.{memory_at}
 use Rattle.rust_literals.specs.declared.lit.Lit.{Lit}
-use Rattle.rust_literals.specs.Literals.{lit_span}
+use Rattle.rust_literals.specs.LitParts.{lit_span}
 use Rattle.rl_uses.specs.Shortage.{IsShortOf}
 
 -- what a call for the literal at a place refuses, and is passed on

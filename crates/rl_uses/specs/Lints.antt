@@ -5,11 +5,11 @@ use Rattle.std.specs.List.{list_any}
 use Rattle.std.specs.Str.{chars}
 use Rattle.rl_tokens.specs.declared.span.Span.{Span}
 use Rattle.rl_tokens.specs.declared.kind.Kind.TheVariants.{Str as StrKind}
-use Rattle.rl_tokens.specs.Tokens.{SpannedText}
+use Rattle.rl_tokens.specs.Texts.{SpannedText}
 use Rattle.rl_tokens.specs.Reading.{Characters, HasContents}
 use Rattle.rust_literals.specs.declared.lit.Lit.{Lit}
 use Rattle.rust_literals.specs.declared.lit.Lit.TheVariants.{Str}
-use Rattle.rust_literals.specs.Literals.{lit_span}
+use Rattle.rust_literals.specs.LitParts.{lit_span}
 
 -- The answer tells whether the string's value has a control character.
 abbrev pub TellsControl : SpannedText → Bool → Type 0

@@ -7,7 +7,7 @@ use Rattle.rl_tokens.specs.declared.error.Error.{Error}
 use Rattle.rl_tokens.specs.Errors.{memory_at}
 use Rattle.rl_tokens.specs.Trees.{Tree, Trees, GroupTree, inside_of, closer_span}
 use Rattle.rl_tokens.specs.Buffers.{first_span, begins_mark, IsBehindMark, IsRefusal}
-use Rattle.rl_tokens.specs.Fronts.{IsFrontOf, HasFrontOf}
+use Rattle.rl_grammar.specs.Fronts.{IsFrontOf, HasFrontOf}
 use Rattle.rl_uses.specs.declared.list.Item.{Item}
 use Rattle.rl_uses.specs.declared.list.Item.TheVariants.{Int, Str}
 use Rattle.rl_uses.specs.declared.list.ItemList.{ItemList}

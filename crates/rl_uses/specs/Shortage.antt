@@ -4,7 +4,7 @@ use Rattle.std.specs.Str.{chars}
 use Rattle.rl_tokens.specs.declared.error.Error.{Error}
 use Rattle.rl_tokens.specs.Errors.{memory_at}
 use Rattle.rust_literals.specs.declared.lit.Lit.{Lit}
-use Rattle.rust_literals.specs.Literals.{lit_span}
+use Rattle.rust_literals.specs.LitParts.{lit_span}
 use Rattle.rust_literals.specs.Parsing.{AreRead, RefusesText}
 
 -- memory was refused, and this is told at one of the literals

@@ -7,7 +7,7 @@ ghost use Rattle.std.specs.Str.{chars};
 ghost use Rattle.rl_tokens.specs.Errors.{memory_at};
 ghost use Rattle.rust_literals.specs.declared.lit.Lit.{Lit};
 ghost use Rattle.rust_literals.specs.Parsing.{AreRead};
-ghost use Rattle.rust_literals.specs.Literals.{lit_span};
+ghost use Rattle.rust_literals.specs.LitParts.{lit_span};
 ghost use Rattle.rl_uses.specs.Shortage.{IsShortOf, RefusesTextOrMemory};
 ghost use Rattle.rl_uses.specs.Lints.{TellsControl, TellsFault, AreFaults};
 

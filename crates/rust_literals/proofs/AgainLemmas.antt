@@ -6,19 +6,23 @@ use Rattle.std.specs.Str.{chars, encode_utf8_all}
 use Rattle.std.proofs.lemmas.Str.{scalars-chars}
 use Rattle.rl_tokens.specs.declared.error.Error.{Error}
 use Rattle.rl_tokens.specs.declared.error.ErrorKind.TheVariants.{Memory}
-use Rattle.rl_tokens.specs.Tokens.{SpannedText}
+use Rattle.rl_tokens.specs.Texts.{SpannedText}
 use Rattle.rl_tokens.specs.Trivia.{IsTrivia}
 use Rattle.rl_tokens.specs.Trees.{Tree, GroupTree, IdentTree, PunctTree, LiteralTree}
-use Rattle.rl_tokens.specs.Fronts.{HasReading, IsFront}
-use Rattle.rl_tokens.specs.Lexing.{byte_len}
-use Rattle.rl_tokens.specs.Printed.{Item, WordItem, LiteralItem, MinusItem, item_text, Entry, printed_text, token_at, printed_trees, IsLexedItem, Reprinted}
+use Rattle.rl_tokens.specs.Reading.{HasReading}
+use Rattle.rl_grammar.specs.Fronts.{IsFront}
+use Rattle.rl_tokens.specs.Texts.{byte_len}
+use Rattle.rl_tokens.specs.Printed.{Item, WordItem, LiteralItem, MinusItem, item_text, Entry, printed_text, token_at}
+use Rattle.rl_tokens.specs.PrintedTrees.{printed_trees, IsLexedItem, Reprinted}
 use Rattle.rl_tokens.proofs.CutTrees.{IsCutTree, lexed_trees}
 use Rattle.rl_tokens.proofs.PrintedLaws.{reprinted_lexes}
 use Rattle.rl_grammar.proofs.FrontLemmas.{minus_chars}
 use Rattle.rust_literals.specs.declared.lit.Lit.{Lit}
-use Rattle.rust_literals.specs.Literals.{kind_of, token_of, IsReadAs, IsReadFrom, IsSameAt}
+use Rattle.rust_literals.specs.Literals.{kind_of, token_of, IsReadAs, IsReadFrom}
+use Rattle.rust_literals.specs.LitParts.{IsSameAt}
 use Rattle.rust_literals.specs.Parsing.{IsLitFront, ReadsLiterals, AreRead, IsOrMemory}
-use Rattle.rust_literals.specs.ReadBack.{HoldsOrMemory, lit_text, Spaced, spaced_text, lits_of, IsReprint, SameButSpans}
+use Rattle.rust_literals.specs.ReadBack.{HoldsOrMemory}
+use Rattle.rust_literals.specs.Reprints.{lit_text, Spaced, spaced_text, lits_of, IsReprint, SameButSpans}
 use Rattle.rust_literals.proofs.LitLemmas.{SpellsWords, read_lit}
 use Rattle.rust_literals.proofs.ItemFronts.{IsFrontItem, minus_bytes, AreReadAt, items_lead, spells_words}
 use Rattle.rust_literals.proofs.PrintedLemmas.{holds_exactly}

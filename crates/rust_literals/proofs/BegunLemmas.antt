@@ -2,10 +2,10 @@
 use Rattle.std.proofs.Common.{arith, ◌≡◌, ◌<◌, ℕ, ◌+◌, suc, List, [], ◌∷◌, ◌++◌, length, get_or, drop, drop-cons, add-one, map, Option, Some, None, refl, sym, ◌∙◌, ap, subst}
 use Rattle.std.specs.Prelude.{IfSome, IfNone}
 use Rattle.std.specs.List.{AllByRecursion}
-use Rattle.rl_tokens.specs.Tokens.{SpannedText}
+use Rattle.rl_tokens.specs.Texts.{SpannedText}
 use Rattle.rl_tokens.specs.Trees.{Tree, GroupTree, IdentTree, PunctTree, LiteralTree, FlatToken, flat_trees}
 use Rattle.rl_tokens.specs.Lexing.{flat_token, Lexes}
-use Rattle.rl_tokens.specs.Fronts.{IsFront, HasNoFront}
+use Rattle.rl_grammar.specs.Fronts.{IsFront, HasNoFront}
 use Rattle.rl_tokens.proofs.CutLaws.{begins_cut}
 use Rattle.rl_grammar.proofs.FrontLemmas.{one_front}
 use Rattle.rust_literals.specs.declared.lit.Lit.{Lit}

@@ -7,11 +7,11 @@ use Rattle.rl_tokens.specs.declared.kind.Kind.TheVariants.{Bool as BoolKind}
 use Rattle.rl_tokens.specs.declared.error.Error.{Error}
 use Rattle.rl_tokens.specs.declared.error.ErrorKind.{ErrorKind}
 use Rattle.rl_tokens.specs.declared.error.ErrorKind.TheVariants.{Memory}
-use Rattle.rl_tokens.specs.Tokens.{SpannedText}
+use Rattle.rl_tokens.specs.Texts.{SpannedText}
 use Rattle.rl_tokens.specs.Trees.{Tree}
 use Rattle.rl_tokens.specs.Reading.{Truth}
 use Rattle.rl_tokens.specs.Buffers.{MissesWord}
-use Rattle.rl_tokens.specs.Fronts.{HasFront, HasFrontOf, RunsAs}
+use Rattle.rl_grammar.specs.Fronts.{HasFront, HasFrontOf, RunsAs}
 use Rattle.rl_grammar.proofs.FrontLemmas.{front_of}
 use Rattle.rust_literals.specs.declared.lit.Lit.{Lit}
 use Rattle.rust_literals.specs.declared.lit_bool.LitBool.{LitBool}

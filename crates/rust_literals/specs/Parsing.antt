@@ -6,12 +6,12 @@ use Rattle.rl_tokens.specs.declared.kind.Kind.TheVariants.{Bool as BoolKind}
 use Rattle.rl_tokens.specs.declared.error.Error.{Error}
 use Rattle.rl_tokens.specs.declared.error.ErrorKind.TheVariants.{Memory}
 use Rattle.rl_tokens.specs.Errors.{memory_at, nowhere}
-use Rattle.rl_tokens.specs.Tokens.{SpannedText}
+use Rattle.rl_tokens.specs.Texts.{SpannedText}
 use Rattle.rl_tokens.specs.Trees.{Tree}
 use Rattle.rl_tokens.specs.Reading.{Reads, Truth}
 use Rattle.rl_tokens.specs.Lexing.{Lexes}
 use Rattle.rl_tokens.specs.Buffers.{first_span, IsRefusal}
-use Rattle.rl_tokens.specs.Fronts.{IsFront, HasFront, HasNoFront, PassesOther, LacksMemoryAtFront}
+use Rattle.rl_grammar.specs.Fronts.{IsFront, HasFront, HasNoFront, PassesOther, LacksMemoryAtFront}
 use Rattle.rl_tokens.specs.Whole.{RefusesLexing}
 use Rattle.rust_literals.specs.declared.lit.Lit.{Lit}
 use Rattle.rust_literals.specs.declared.lit_bool.LitBool.{LitBool}

@@ -3,7 +3,7 @@ ghost use Rattle.std.specs.Str.{chars};
 ghost use Rattle.rl_tokens.specs.Errors.{memory_at};
 ghost use Rattle.rl_tokens.specs.Reading.{HasSuffix};
 ghost use Rattle.rl_grammar.specs.Founds.{IsFound};
-ghost use Rattle.rl_grammar.specs.NumberShapes.{HasNoReading};
+ghost use Rattle.rl_tokens.specs.Reading.{HasNoReading};
 ghost use Rattle.rust_literals.specs.Held.{HasOwnSuffix};
 
 mod copies;
@@ -85,13 +85,8 @@ impl<'a> View<'a> {
 }
 
 impl<A: Allocator> Lit<A> {
-    ghost use Rattle.rust_literals.specs.Literals.{
-      IsReadFrom,
-      ReadsAsNumber,
-      ReadsPlain,
-      KeepsStrict,
-      KeepsStrictBehindMinus,
-    };
+    ghost use Rattle.rust_literals.specs.Literals.{IsReadFrom};
+ghost use Rattle.rust_literals.specs.LitParts.{ReadsAsNumber, ReadsPlain, KeepsStrict, KeepsStrictBehindMinus};
     ghost use Rattle.rl_grammar.specs.StrictBytes.{KeepsBytesStrict};
 
     /// The literal that the token's text reads as; `Verbatim` exactly where it has no reading. The token stays as it is,
@@ -153,13 +148,8 @@ impl<A: Allocator> Lit<A> {
 }
 
 impl<A: Allocator> Lit<A> {
-    ghost use Rattle.rust_literals.specs.Literals.{
-      HasLitSuffix,
-      IsSameAt,
-      kind_of,
-      lit_span,
-      token_of,
-    };
+    ghost use Rattle.rust_literals.specs.LitParts.{HasLitSuffix, IsSameAt, lit_span};
+ghost use Rattle.rust_literals.specs.Literals.{kind_of, token_of};
 
     /// The literal's parts, whatever its variant.
     #[inline(always)]
@@ -267,7 +257,7 @@ impl<A: Allocator + Copy> Parse<A> for Lit<A> {
 /// True exactly where the parser succeeds, if memory is found.
 impl<A: Allocator> Token for Lit<A> {
     ghost use Rattle.std.specs.Prelude.{codes};
-    ghost use Rattle.rl_tokens.specs.Fronts.{HasFront};
+    ghost use Rattle.rl_grammar.specs.Fronts.{HasFront};
 
     ghost peeks = { HasFront };
 

@@ -9,7 +9,8 @@ ghost use Rattle.rl_tokens.specs.Printed.{Entry, Printed};
 ghost use Rattle.rust_literals.specs.declared.lit.Lit.{Lit};
 ghost use Rattle.rust_literals.specs.Parsing.{ReadsLiterals, RefusesNextLiteral, LacksMemory, AreRead, RefusesText, IsOrMemory};
 ghost use Rattle.rust_literals.specs.Flat.{AreFirst};
-ghost use Rattle.rust_literals.specs.ReadBack.{HoldsOrMemory, AreItems, Spaced, lits_of, IsReprint, SameButSpans};
+ghost use Rattle.rust_literals.specs.ReadBack.{HoldsOrMemory, AreItems};
+ghost use Rattle.rust_literals.specs.Reprints.{Spaced, lits_of, IsReprint, SameButSpans};
 
 use crate::flat::read_flat;
 use crate::lit::Lit;

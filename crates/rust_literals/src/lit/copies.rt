@@ -16,7 +16,8 @@ ghost use Rattle.rust_literals.specs.Copies.{
   debug_text,
   tree_of,
 };
-ghost use Rattle.rust_literals.specs.Literals.{kind_of, lit_span};
+ghost use Rattle.rust_literals.specs.Literals.{kind_of};
+ghost use Rattle.rust_literals.specs.LitParts.{lit_span};
 
 use crate::lit::Lit;
 use rl_grammar::Kind;

@@ -2,7 +2,7 @@ use Rattle.std.proofs.Common.{◌≡◌, ◌++◌, take, drop, sym, subst, ap, a
 use Rattle.std.specs.Str.{chars, IsCharBoundary}
 use Rattle.std.specs.List.{list_all, prefix_len}
 use Rattle.rl_tokens.specs.Texts.{first_passes}
-use Rattle.rl_grammar.specs.Classes.{is_low_other}
+use Rattle.rl_grammar.specs.Mirrors.Classes.{is_low_other}
 use Rattle.rl_grammar.proofs.ByteRunLemmas.{other_cut}
 use Rattle.rl_grammar.proofs.ascii.split_ascii_run.Goals as goal
 

@@ -3,8 +3,8 @@ use denote.Text.{Utf8}
 use denote.Shadow.{shadow}
 use Rattle.std.specs.Str.{chars}
 use Rattle.rl_tokens.specs.Texts.{IsTail}
-use Rattle.rl_grammar.specs.Classes.{class_test}
-use Rattle.rl_grammar.specs.NumberAt.{after_run}
+use Rattle.rl_grammar.specs.Mirrors.Classes.{class_test}
+use Rattle.rl_grammar.specs.Mirrors.NumberAt.{after_run}
 use Rattle.rl_grammar.proofs.classes.skip.Given as goal
 
 abbrev pub invariant-loop-c : goal.invariant-loop-c

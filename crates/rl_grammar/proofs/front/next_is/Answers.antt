@@ -1,6 +1,6 @@
 use Rattle.std.proofs.Common.{subst}
 use Rattle.rl_tokens.specs.Buffers.{trees_in}
-use Rattle.rl_tokens.specs.Fronts.{IsFront}
+use Rattle.rl_grammar.specs.Fronts.{IsFront}
 use Rattle.rl_grammar.specs.FrontTokens.{front_token}
 use Rattle.rl_grammar.proofs.FrontLemmas.{front_of, same_front}
 use Rattle.rl_grammar.proofs.front.next_is.Goals as goal

@@ -1,6 +1,6 @@
 use Rattle.std.proofs.Common.{inl, inr, rules}
 use Rattle.rl_tokens.specs.Buffers.{trees_in}
-use Rattle.rl_tokens.specs.Fronts.{IsFront, HasFrontOf}
+use Rattle.rl_grammar.specs.Fronts.{IsFront, HasFrontOf}
 use Rattle.rl_grammar.specs.FrontTokens.{front_token}
 use Rattle.rl_grammar.proofs.FrontLemmas.{front_of, other_of}
 use Rattle.rl_grammar.proofs.front.take_kind.Goals as goal

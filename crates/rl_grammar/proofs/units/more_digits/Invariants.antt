@@ -2,7 +2,7 @@ use Rattle.std.proofs.Common.{◌≡◌, ◌≤◌, ◌<◌, ◌^◌, length}
 use denote.Text.{Utf8}
 use denote.Shadow.{shadow}
 use Rattle.std.specs.Str.{chars}
-use Rattle.rl_grammar.specs.UnitAt.{unicode_digits_at}
+use Rattle.rl_grammar.specs.Mirrors.UnitAt.{unicode_digits_at}
 use Rattle.rl_grammar.proofs.units.more_digits.Given as goal
 
 abbrev pub invariant-loop-next : goal.invariant-loop-next

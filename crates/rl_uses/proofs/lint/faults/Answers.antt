@@ -1,6 +1,6 @@
 use Rattle.std.proofs.Common.{◌≡◌, ◌+◌, ◌∷◌, [], ◌++◌, take, arith}
 use Rattle.std.proofs.lemmas.Grind.{common_steps}
-use Rattle.rust_literals.specs.Literals.{lit_span}
+use Rattle.rust_literals.specs.LitParts.{lit_span}
 use Rattle.rl_uses.proofs.LintLemmas.{faults_same, faults_more}
 use Rattle.rl_uses.proofs.ShortageLemmas.{short_at}
 use Rattle.rl_uses.proofs.lint.faults.Goals.{then-branch+else-is_err, else-branch}

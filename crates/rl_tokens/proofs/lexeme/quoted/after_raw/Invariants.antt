@@ -1,6 +1,6 @@
 use Rattle.std.proofs.Common.{◌≡◌, length}
 use Rattle.std.specs.Str.{chars}
-use Rattle.rl_tokens.specs.LexemeAt.{after_raw}
+use Rattle.rl_tokens.specs.Mirrors.LexemeAt.{after_raw}
 use Rattle.rl_tokens.specs.Texts.{IsTail}
 use Rattle.rl_tokens.proofs.lexeme.quoted.after_raw.Given as goal
 

@@ -1,6 +1,6 @@
 use Rattle.std.proofs.Common.{sym, subst}
 use Rattle.rl_tokens.specs.declared.lex_error.LexError.{LexError}
-use Rattle.rl_tokens.specs.Nests.{groups_of, EndsInGroup}
+use Rattle.rl_tokens.specs.Mirrors.TreeBuilders.{groups_of, EndsInGroup}
 use Rattle.rl_tokens.proofs.NestLemmas.{ends_in_group}
 use Rattle.rl_tokens.proofs.nest.TreeBuilder.finish.Goals as goal
 

@@ -1,6 +1,6 @@
 use Rattle.std.proofs.Common.{subst, refl}
 use Rattle.rl_tokens.specs.Buffers.{trees_in}
-use Rattle.rl_tokens.specs.Fronts.{IsFront}
+use Rattle.rl_grammar.specs.Fronts.{IsFront}
 use Rattle.rl_grammar.specs.FrontTokens.{front_token}
 use Rattle.rust_literals.proofs.lit.LitToken.peek.Goals as goal
 

@@ -1,7 +1,7 @@
 use Rattle.std.proofs.Common.{rules}
 use Rattle.rl_tokens.specs.declared.kind.Kind.TheVariants.{Bool as BoolKind}
 use Rattle.rl_tokens.specs.Buffers.{trees_in}
-use Rattle.rl_tokens.specs.Fronts.{IsFront}
+use Rattle.rl_grammar.specs.Fronts.{IsFront}
 use Rattle.rl_grammar.specs.FrontTokens.{front_token}
 use Rattle.rl_grammar.proofs.FrontLemmas.{other_of}
 use Rattle.rust_literals.proofs.lit_bool.LitBoolParse.parse.Goals as goal

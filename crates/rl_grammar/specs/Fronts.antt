@@ -6,10 +6,10 @@ use Rattle.rl_tokens.specs.declared.kind.Kind.{Kind}
 use Rattle.rl_tokens.specs.declared.kind.Kind.TheVariants.{Bool as BoolKind}
 use Rattle.rl_tokens.specs.declared.error.Error.{Error}
 use Rattle.rl_tokens.specs.Errors.{memory_at}
-use Rattle.rl_tokens.specs.Tokens.{SpannedText}
+use Rattle.rl_tokens.specs.Texts.{SpannedText}
 use Rattle.rl_tokens.specs.Puncts.{Mark}
 use Rattle.rl_tokens.specs.Trees.{Tree, IdentTree, PunctTree, LiteralTree}
-use Rattle.rl_tokens.specs.Reading.{ReadsAs}
+use Rattle.rl_tokens.specs.Reading.{ReadsAs, HasReading}
 use Rattle.rl_tokens.specs.Buffers.{first_span, IsRefusal}
 
 -- from the first of both to the last of both where they stand in one file, else the first alone
@@ -19,9 +19,6 @@ joined_span a b = if a.file == b.file then record { file = a.file; lo = min a.lo
 -- a minus and the literal behind it, as one token: without what stands between
 abbrev pub joined : Mark → SpannedText → SpannedText
 joined mark token = record { text = 45 ∷ token.text; span = joined_span mark.span token.span }
-
-abbrev pub HasReading : List ℕ → Type 0
-HasReading text = (kind : Kind) × ReadsAs kind text
 
 -- A literal begins the trees, as this token, and these trees stand behind it: a literal token with any text; the word
 -- `true` or `false`; a minus and a literal token that read together.

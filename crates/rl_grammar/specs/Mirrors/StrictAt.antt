@@ -1,4 +1,4 @@
--- Reading strict texts, one part after another.
+-- A mirror of the code, for proofs alone: strict tokens, one part after another.
 use Rattle.std.specs.Prelude.{ℕ, ◌==◌, ◌||◌, ◌&&◌, not, Bool, true, false, List, [], ◌∷◌, Option, Some, None, option_map, length, drop, nat_lt, if◌then◌else◌}
 use Rattle.std.specs.Char.{is_ascii_digit}
 use Rattle.std.specs.List.{list_all}
@@ -7,8 +7,8 @@ use Rattle.rl_tokens.specs.declared.kind.Kind.TheVariants.{Str, ByteStr, CStr}
 use Rattle.rl_tokens.specs.Texts.{first_passes, begins, is_underscore, is_start, is_continue}
 use Rattle.rl_tokens.specs.Quoted.{is_string}
 use Rattle.rl_tokens.specs.Strict.{Itself, is_strict_unit, is_dropped_blank}
-use Rattle.rl_grammar.specs.NumberAt.{after_run, has_digit_at, after_digits, after_power_sign, radix_at}
-use Rattle.rl_grammar.specs.UnitAt.{unit_at}
+use Rattle.rl_grammar.specs.Mirrors.NumberAt.{after_run, has_digit_at, after_digits, after_power_sign, radix_at}
+use Rattle.rl_grammar.specs.Mirrors.UnitAt.{unit_at}
 
 -- some character stands there
 abbrev pub is_some_text : List ℕ → Bool

@@ -1,4 +1,4 @@
--- The unit at the front of a text between quotes, as a plain program on characters.
+-- A mirror of the code, for proofs alone: the unit at the front of a text between quotes, as a program on characters.
 use Rattle.std.specs.Prelude.{ℕ, ◌+◌, ◌*◌, ◌==◌, ◌||◌, ◌&&◌, Bool, not, List, [], ◌∷◌, Option, Some, None, option_and_then, nat_lt, if◌then◌else◌, IsTrue, ⊤}
 use Rattle.std.specs.Char.{digit_value}
 use Rattle.std.proofs.Math.Utf8.{scalar}

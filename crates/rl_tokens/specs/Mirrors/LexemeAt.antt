@@ -1,4 +1,5 @@
--- The lexeme at the front of a text as the code finds it, by the first characters: its form, and the rest behind it.
+-- A mirror of the code, for proofs alone: the lexeme at the front of a text as the code finds it, by the first characters:
+-- its form, and the rest behind it.
 use Rattle.std.specs.Prelude.{◌≡◌, ℕ, Bool, ◌&&◌, ◌||◌, ◌==◌, List, [], ◌∷◌, ◌++◌, slice_index, drop, cond}
 use Rattle.std.proofs.Common.{suc, zero, Option, Some, None}
 use Rattle.std.specs.Char.{is_ascii_digit}
@@ -6,17 +7,8 @@ use Rattle.std.specs.Option.{option_map}
 use Rattle.rl_tokens.specs.Texts.{is_start, is_continue, is_underscore, is_white, is_among, first_passes}
 use Rattle.rl_tokens.specs.Lexemes.{is_numeral_part, is_hash, is_base_letter, delimiters, after_run, begins_hashed_quote, begins_hashes, begins_exponent, begins_dot, after_sign, LexemeForm, LiteralForm, IdentifierForm, DelimiterForm, MarkForm, form_of, Lexeme, lexeme_text, IsLexeme}
 use Rattle.rl_tokens.specs.Puncts.{is_punct}
-use Rattle.rl_tokens.specs.declared.lexeme.Form.{Form as FoundForm}
-use Rattle.rl_tokens.specs.declared.lexeme.Form.TheVariants as found
 use Rattle.rl_tokens.specs.declared.lexeme.rows.RunClass.{RunClass}
 use Rattle.rl_tokens.specs.declared.lexeme.rows.RunClass.TheVariants.{Continue, Numeral, Underscores, White}
-
--- the form that the code tells
-abbrev pub form_view : FoundForm → LexemeForm
-form_view found.Literal = LiteralForm
-form_view found.Identifier = IdentifierForm
-form_view (found.Delimiter c) = DelimiterForm c
-form_view (found.Mark c) = MarkForm c
 
 -- the test of a row
 abbrev pub run_test : RunClass → ℕ → Bool

@@ -1,4 +1,4 @@
--- The trees of a text as they grow: what contracts of the lexer see of the groups that are open.
+-- A mirror of the code, for proofs alone: the trees of a text as they grow, and the groups that are open.
 use Rattle.std.specs.Prelude.{◌≡◌, ◌≢◌, ◌<◌, ℕ, ◌+◌, true, false, codes, if◌then◌else◌, List, [], ◌∷◌, ◌++◌, IsTrue, Some, length, map, reverse, not, ◌&&◌, ⊤}
 use Rattle.std.specs.Str.{chars}
 use Rattle.rl_tokens.specs.declared.token.Delimiter.{Delimiter}
