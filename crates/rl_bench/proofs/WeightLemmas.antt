@@ -11,7 +11,7 @@ use Rattle.rl_grammar.specs.NumberShapes.{AreDigits}
 use Rattle.rust_literals.specs.declared.lit.Lit.{Lit}
 use Rattle.rust_literals.specs.Literals.{kind_of, IsReadAs}
 use Rattle.rl_bench.specs.Weights.{size, IsValueWeight, HasValueWeight}
-use Rattle.rl_bench.specs.Sizes.{HasSize, WeighsAs, HasLitWeight, IsLitOf}
+use Rattle.rl_bench.specs.Sizes.{HasSize, WeighsAs, HasLitWeight, IsLitOfText}
 
 -- a number's digits are its contents
 pub digits_size : (kind : Kind) (text ds : List ℕ) (n : ℕ) → ReadsAs kind text → AreDigits kind text ds → n ≡ byte_len ds → HasSize kind text n
@@ -47,7 +47,7 @@ read_weight (Some kind) text w reads h = inl (kind, h reads)
 read_weight None text w none zero = inr (none, zero)
 
 -- the weight of the literal that a text reads as is the text's, where there is one
-pub read_weights : {A E : Type 0} (text : List ℕ) (lit : Lit A) (r : Result ℕ E) → IsLitOf text lit → IfOk r (HasLitWeight lit) → IfOk r (HasValueWeight text)
+pub read_weights : {A E : Type 0} (text : List ℕ) (lit : Lit A) (r : Result ℕ E) → IsLitOfText text lit → IfOk r (HasLitWeight lit) → IfOk r (HasValueWeight text)
 read_weights text lit (Ok w) (e, reads) h = let P : List ℕ → Type 0 = λ t. WeighsAs (kind_of lit) (chars t) w in read_weight (kind_of lit) text w reads (subst P e h)
 read_weights text lit (Err x) is h = tt
 

@@ -3,7 +3,7 @@
 ghost use Rattle.std.specs.Prelude.{◌≡◌};
 ghost use Rattle.std.specs.Str.{chars};
 ghost use Rattle.rl_tokens.specs.Lexing.{byte_len};
-ghost use Rattle.rl_bench.specs.Weights.{number_of, weight_of};
+ghost use Rattle.rl_bench.specs.Weights.{kind_number, weight_of};
 
 use crate::sums::Weigh;
 use rl_grammar::{Kind, shape};
@@ -11,8 +11,8 @@ use std::alloc::Global;
 use std::convert::Infallible;
 
 /// A kind's number.
-fn number_of(kind: Kind) -> u64
-    ensures { result ≡ number_of kind }
+fn kind_number(kind: Kind) -> u64
+    ensures { result ≡ kind_number kind }
 {
     match kind {
         Kind::Str => 1,
@@ -30,7 +30,7 @@ fn number_of(kind: Kind) -> u64
 pub(crate) fn weight(kind: Kind, first: usize, second: usize) -> u64
     ensures { result ≡ weight_of kind first second }
 {
-    number_of(kind)
+    kind_number(kind)
         .wrapping_add(first as u64)
         .wrapping_add(second as u64)
 }

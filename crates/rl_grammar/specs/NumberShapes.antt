@@ -14,7 +14,7 @@ pub record IsPast (text : List ℕ) : Type 0 where
   pub past : limit < magnitude
 
 -- an integer of this magnitude and suffix stands there, within the limit
-pub record IsWithin (text : List ℕ) (magnitude : ℕ) (suffix : List ℕ) : Type 0 where
+pub record HasMagnitude (text : List ℕ) (magnitude : ℕ) (suffix : List ℕ) : Type 0 where
   pub sign : Sign
   pub reads : IntReads text sign magnitude suffix
   pub within : magnitude ≤ limit
@@ -57,7 +57,7 @@ AreDigits Float text digits = (numeral suffix : List ℕ) → FloatReads text nu
 AreDigits _ text digits = ⊥
 
 -- an integer of this magnitude stands there, within the limit, and the body is all before its suffix
-pub record IsCutInteger (text : List ℕ) (magnitude : ℕ) (body : List ℕ) : Type 0 where
+pub record IsSplitInteger (text : List ℕ) (magnitude : ℕ) (body : List ℕ) : Type 0 where
   pub suffix : List ℕ
-  pub within : IsWithin text magnitude suffix
+  pub within : HasMagnitude text magnitude suffix
   pub cut : text ≡ body ++ suffix

@@ -2,7 +2,7 @@
 
 ghost use Rattle.std.specs.Prelude.{◌≡◌, ◌≤◌, length};
 ghost use Rattle.std.specs.Str.{chars};
-ghost use Rattle.rl_tokens.specs.Texts.{IsBehind};
+ghost use Rattle.rl_tokens.specs.Texts.{IsTail};
 ghost use Rattle.rl_grammar.specs.Classes.{class_test};
 ghost use Rattle.rl_grammar.specs.NumberAt.{after_run};
 
@@ -37,7 +37,7 @@ fn is_of(class: Class, c: char) -> bool
 #[tactic(auto, using(rl_tokens::proofs::BehindLemmas::behind_step, rl_tokens::proofs::BehindLemmas::behind_self), unfolding(crate::specs::NumberAt::after_run))]
 pub(crate) fn skip(class: Class, text: &str) -> &str
     ensures value { chars result.now ≡ after_run (class_test class) (chars text.now) }
-    ensures behind { IsBehind text.now result.now }
+    ensures behind { IsTail text.now result.now }
     ensures shorter { length result.now ≤ length text.now }
 {
     let mut rest = text;

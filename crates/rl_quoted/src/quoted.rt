@@ -55,10 +55,10 @@ pub struct Quoted<K: QuotedKind, A: Allocator = Global> {
 
 /// The token's text reads as the kind, and its parts stand at the places that are kept.
 impl<K: QuotedKind, A: Allocator> Model for Quoted<K, A> {
-    ghost use Rattle.rl_tokens.specs.Tokens.{Token};
+    ghost use Rattle.rl_tokens.specs.Tokens.{SpannedText};
     ghost use Rattle.rl_quoted.specs.Places.{StandsAt};
 
-    ghost Value = { Token };
+    ghost Value = { SpannedText };
 
     ghost view = { λ l. l.token };
 

@@ -3,9 +3,9 @@ use Rattle.std.specs.Prelude.{◌≡◌, ◌≢◌, ℕ, ◌+◌, ◌⊎◌, Boo
 use Rattle.std.specs.List.{AllByRecursion}
 use Rattle.rl_tokens.specs.declared.kind.Kind.{Kind}
 use Rattle.rl_tokens.specs.declared.kind.Kind.TheVariants.{Bool as BoolKind}
-use Rattle.rl_tokens.specs.Texts.{is_among, passes}
+use Rattle.rl_tokens.specs.Texts.{is_among, first_passes}
 use Rattle.rl_tokens.specs.Trivia.{IsTrivia}
-use Rattle.rl_tokens.specs.Tokens.{Token}
+use Rattle.rl_tokens.specs.Tokens.{SpannedText}
 use Rattle.rl_tokens.specs.Trees.{Tree, IdentTree, PunctTree, LiteralTree}
 use Rattle.rl_tokens.specs.Lexemes.{Lexeme, lexeme_text, IsLexeme, LiteralForm, form_of}
 use Rattle.rl_tokens.specs.Lexing.{byte_len, Lexes}
@@ -35,7 +35,7 @@ printed_text [] last = last
 printed_text (e ∷ es) last = e.gap ++ (item_text e.item ++ printed_text es last)
 
 -- a token of this text that begins at a byte of the file
-abbrev pub token_at : ℕ → ℕ → List ℕ → Token
+abbrev pub token_at : ℕ → ℕ → List ℕ → SpannedText
 token_at file at text = record { text = encode_utf8_all text; span = record { file = file; lo = at; hi = at + byte_len text } }
 
 -- the trees of an item that begins at this byte
@@ -67,7 +67,7 @@ IsStrictItem (MinusItem text) = (kind : Kind) × IsTrue (is_number kind) × IsSt
 
 -- The gap before the item is empty only where the item begins with `"`, `'` or `-`.
 abbrev pub IsApart : Entry → Type 0
-IsApart e = (e.gap ≢ []) ⊎ IsTrue (passes (is_among (codes "\"'-")) (item_text e.item))
+IsApart e = (e.gap ≢ []) ⊎ IsTrue (first_passes (is_among (codes "\"'-")) (item_text e.item))
 
 -- The text is gap, item, gap, .., item, gap, each item strict and each gap trivia. The first gap and the last may be
 -- empty; one between two items as said.
@@ -82,18 +82,18 @@ abbrev pub PrintedLexes : Type 0
 PrintedLexes = (t : List ℕ) (entries : List Entry) (last : List ℕ) (file : ℕ) → Printed t entries last → Lexes t file (printed_trees file 0 entries)
 
 -- The text of a literal that was cut from some text, strict or not.
-abbrev pub IsCutLiteral : List ℕ → Type 0
-IsCutLiteral text = (l : Lexeme) × (after : List ℕ) × IsLexeme l after × (form_of l ≡ LiteralForm) × (text ≡ lexeme_text l)
+abbrev pub IsLexedLiteral : List ℕ → Type 0
+IsLexedLiteral text = (l : Lexeme) × (after : List ℕ) × IsLexeme l after × (form_of l ≡ LiteralForm) × (text ≡ lexeme_text l)
 
-abbrev pub IsCutItem : Item → Type 0
-IsCutItem (WordItem truth) = ⊤
-IsCutItem (LiteralItem text) = IsCutLiteral text
-IsCutItem (MinusItem text) = IsCutLiteral text
+abbrev pub IsLexedItem : Item → Type 0
+IsLexedItem (WordItem truth) = ⊤
+IsLexedItem (LiteralItem text) = IsLexedLiteral text
+IsLexedItem (MinusItem text) = IsLexedLiteral text
 
 -- The text is gap, item, gap, .., item, gap, each item as it was cut from some text and each gap trivia. The first
 -- gap and the last may be empty; one between two items isn't.
 pub record Reprinted (t : List ℕ) (entries : List Entry) (last : List ℕ) : Type 0 where
-  pub items : AllByRecursion (λ e. IsTrivia e.gap × IsCutItem e.item) entries
+  pub items : AllByRecursion (λ e. IsTrivia e.gap × IsLexedItem e.item) entries
   pub apart : AllByRecursion (λ e. e.gap ≢ []) (drop 1 entries)
   pub last_gap : IsTrivia last
   pub text : t ≡ printed_text entries last

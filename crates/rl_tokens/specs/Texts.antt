@@ -28,9 +28,9 @@ pub record IsWord (x : List ℕ) : Type 0 where
   pub no_white : IsTrue (list_all (λ c. not (is_white c)) x)
 
 -- the text begins with a character that passes the test
-abbrev pub passes : (ℕ → Bool) → List ℕ → Bool
-passes test [] = false
-passes test (c ∷ cs) = test c
+abbrev pub first_passes : (ℕ → Bool) → List ℕ → Bool
+first_passes test [] = false
+first_passes test (c ∷ cs) = test c
 
 abbrev pub is_among : List ℕ → ℕ → Bool
 is_among codes c = list_any (λ k. c == k) codes
@@ -45,7 +45,7 @@ abbrev pub is_underscore : ℕ → Bool
 is_underscore c = c == 95
 
 -- The rest is the text without its front, and is a text. Both are bytes.
-pub record IsBehind (text rest : List ℕ) : Type 0 where
+pub record IsTail (text rest : List ℕ) : Type 0 where
   pub front : List ℕ
   pub text_is : text ≡ front ++ rest
   pub is_text : IsUtf8 rest

@@ -24,8 +24,8 @@ abbrev pub is_written_as_number : Kind → ℕ → Bool
 is_written_as_number kind c = nat_lt c 32 || c == 127 || (nat_lt 127 c && (if holds_characters kind then false else true))
 
 -- the unit that a character or a byte is written as
-unfoldable pub writing : Kind → ℕ → QuotedUnit
-writing kind c =
+unfoldable pub written_unit : Kind → ℕ → QuotedUnit
+written_unit kind c =
     if c == 0 then Named Zero else
     (if c == 9 then Named LowerT else
     (if c == 10 then Named LowerN else
@@ -35,5 +35,5 @@ writing kind c =
     (if is_written_as_number kind c then Hex (upper_digit (c / 16)) (upper_digit (c % 16)) else Plain c))))))
 
 -- the literal of a value: its characters or bytes, each as it is written, between quotes
-abbrev pub written : Kind → List ℕ → List ℕ
-written kind value = opener kind ++ (texts (map (writing kind) value) ++ (closer kind ∷ []))
+abbrev pub written_text : Kind → List ℕ → List ℕ
+written_text kind value = opener kind ++ (texts (map (written_unit kind) value) ++ (closer kind ∷ []))

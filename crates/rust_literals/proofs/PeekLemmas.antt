@@ -7,7 +7,7 @@ use Rattle.rl_tokens.specs.declared.kind.Kind.TheVariants.{Bool as BoolKind}
 use Rattle.rl_tokens.specs.declared.error.Error.{Error}
 use Rattle.rl_tokens.specs.declared.error.ErrorKind.{ErrorKind}
 use Rattle.rl_tokens.specs.declared.error.ErrorKind.TheVariants.{Memory}
-use Rattle.rl_tokens.specs.Tokens.{Token}
+use Rattle.rl_tokens.specs.Tokens.{SpannedText}
 use Rattle.rl_tokens.specs.Trees.{Tree}
 use Rattle.rl_tokens.specs.Reading.{Truth}
 use Rattle.rl_tokens.specs.Buffers.{MissesWord}
@@ -31,7 +31,7 @@ typed_wants : {A : Type 0} (kind : Kind) (word : List ℕ) (trees : List Tree) (
 typed_wants kind word trees scope e rest (inl m) is = m.0
 typed_wants kind word trees scope e rest (inr p) is = absurd (word_is_not_memory trees word e.kind p.refusal.kind is)
 
-typed_finds : {A : Type 0} (kind : Kind) (word : List ℕ) (trees : List Tree) (scope : Span) (answer : Result Token (Error A)) (rest : List Tree) → RunsAs kind word trees scope answer rest → HasFrontOf kind trees → SucceedsOrMemory answer
+typed_finds : {A : Type 0} (kind : Kind) (word : List ℕ) (trees : List Tree) (scope : Span) (answer : Result SpannedText (Error A)) (rest : List Tree) → RunsAs kind word trees scope answer rest → HasFrontOf kind trees → SucceedsOrMemory answer
 typed_finds kind word trees scope (Ok token) rest runs has = tt
 typed_finds kind word trees scope (Err e) rest (inl m) has = ap (λ x. x.kind) m.1.error
 typed_finds kind word trees scope (Err e) rest (inr p) has = absurd (p.none has)

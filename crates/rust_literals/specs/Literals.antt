@@ -1,7 +1,7 @@
 -- What a literal is to a text: the text's one reading, or none.
 use Rattle.std.specs.Prelude.{◌≡◌, ◌⊎◌, ℕ, List, [], ◌∷◌, Option, Some, None, IsTrue}
 use Rattle.std.specs.Str.{chars}
-use Rattle.rl_tokens.specs.Tokens.{Token}
+use Rattle.rl_tokens.specs.Tokens.{SpannedText}
 use Rattle.rl_tokens.specs.declared.kind.Kind.TheVariants.{Str as StrKind, ByteStr as ByteStrKind, CStr as CStrKind, Byte as ByteKind, Char as CharKind, Int as IntKind, Float as FloatKind, Bool as BoolKind}
 use Rattle.rl_tokens.specs.declared.kind.Kind.{Kind}
 use Rattle.rl_tokens.specs.Reading.{Contents, Digits, Reads, ReadsAs, truth_text}
@@ -27,7 +27,7 @@ kind_of (Bool l) = Some BoolKind
 kind_of (Verbatim l) = None
 
 -- its token, text and span; of a truth value the word, where it stands
-abbrev pub token_of : {A : Type 0} → Lit A → Token
+abbrev pub token_of : {A : Type 0} → Lit A → SpannedText
 token_of (Str l) = l
 token_of (ByteStr l) = l
 token_of (CStr l) = l
@@ -39,8 +39,8 @@ token_of (Bool l) = record { text = truth_text l.value; span = l.span }
 token_of (Verbatim l) = l
 
 -- where the literal stands
-abbrev pub span_of : {A : Type 0} → Lit A → Span
-span_of lit = (token_of lit).span
+abbrev pub lit_span : {A : Type 0} → Lit A → Span
+lit_span lit = (token_of lit).span
 
 -- the text reads as this kind; for none, it has no reading
 abbrev pub IsReadAs : Option Kind → List ℕ → Type 0
@@ -48,7 +48,7 @@ IsReadAs (Some kind) text = ReadsAs kind text
 IsReadAs None text = HasNoReading text
 
 -- The literal keeps the token, whose text reads as the literal's kind; `Verbatim` where the text has no reading.
-abbrev pub IsReadFrom : {A : Type 0} → Token → Lit A → Type 0
+abbrev pub IsReadFrom : {A : Type 0} → SpannedText → Lit A → Type 0
 IsReadFrom token lit = (token_of lit ≡ token) × IsReadAs (kind_of lit) (chars token.text)
 
 -- the text reads as a number
@@ -70,7 +70,7 @@ abbrev pub HasLitSuffix : {A : Type 0} → Lit A → List ℕ → Type 0
 HasLitSuffix lit x = IsSuffixAs (kind_of lit) (chars (token_of lit).text) x
 
 -- the same literal at this span, perhaps with its memory from another allocator
-pub record IsMovedTo {A B : Type 0} (lit : Lit A) (span : Span) (moved : Lit B) : Type 0 where
+pub record IsSameAt {A B : Type 0} (lit : Lit A) (span : Span) (moved : Lit B) : Type 0 where
   pub kind : kind_of moved ≡ kind_of lit
   pub token : token_of moved ≡ record (token_of lit) { span = span }
 

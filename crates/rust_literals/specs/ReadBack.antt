@@ -11,7 +11,7 @@ use Rattle.rl_tokens.specs.Reading.{ReadsAs}
 use Rattle.rl_tokens.specs.Lexing.{byte_len}
 use Rattle.rl_tokens.specs.Printed.{Item, item_text, Entry, token_at}
 use Rattle.rust_literals.specs.declared.lit.Lit.{Lit}
-use Rattle.rust_literals.specs.Literals.{kind_of, token_of, IsReadFrom, IsMovedTo}
+use Rattle.rust_literals.specs.Literals.{kind_of, token_of, IsReadFrom, IsSameAt}
 use Rattle.rust_literals.specs.Parsing.{AreRead}
 
 -- the answer is a list of which this holds, or memory was refused
@@ -52,7 +52,7 @@ lits_of spaced = map (λ s. s.lit) spaced
 
 -- The text is gap, literal, gap, .., literal, gap, each gap trivia, where the literals are those of some text. The
 -- first gap and the last may be empty; one between two literals isn't.
-pub record Again {A : Type 0} (t : List ℕ) (spaced : List (Spaced A)) (last : List ℕ) : Type 0 where
+pub record IsReprint {A : Type 0} (t : List ℕ) (spaced : List (Spaced A)) (last : List ℕ) : Type 0 where
   pub gaps : AllByRecursion (λ s. IsTrivia s.gap) spaced
   pub apart : AllByRecursion (λ s. s.gap ≢ []) (drop 1 spaced)
   pub last_gap : IsTrivia last
@@ -63,7 +63,7 @@ pub record Again {A : Type 0} (t : List ℕ) (spaced : List (Spaced A)) (last : 
   pub are_read : AreRead (chars source) file (lits_of spaced)
 
 -- The literals found are these one by one, but for their spans.
-abbrev pub AreMoved : {A : Type 0} → List (Lit A) → List (Lit A) → Type 0
-AreMoved [] found = found ≡ []
-AreMoved (l ∷ ls) [] = ⊥
-AreMoved (l ∷ ls) (m ∷ ms) = ((span : Span) × IsMovedTo l span m) × AreMoved ls ms
+abbrev pub SameButSpans : {A : Type 0} → List (Lit A) → List (Lit A) → Type 0
+SameButSpans [] found = found ≡ []
+SameButSpans (l ∷ ls) [] = ⊥
+SameButSpans (l ∷ ls) (m ∷ ms) = ((span : Span) × IsSameAt l span m) × SameButSpans ls ms

@@ -155,9 +155,9 @@ impl<A: Allocator> Lit<A> {
 impl<A: Allocator> Lit<A> {
     ghost use Rattle.rust_literals.specs.Literals.{
       HasLitSuffix,
-      IsMovedTo,
+      IsSameAt,
       kind_of,
-      span_of,
+      lit_span,
       token_of,
     };
 
@@ -167,7 +167,7 @@ impl<A: Allocator> Lit<A> {
         ensures kind { result.kind ≡ kind_of self.now }
         ensures text { result.text.now ≡ (token_of self.now).text }
         ensures suffix { HasLitSuffix self.now (chars result.suffix.now) }
-        ensures span { result.span ≡ span_of self.now }
+        ensures span { result.span ≡ lit_span self.now }
     {
         match self {
             Lit::Str(literal) => View::of_quoted(literal),
@@ -215,14 +215,14 @@ impl<A: Allocator> Lit<A> {
 
     /// Where the literal stands.
     pub fn span(&self) -> Span
-        ensures { result ≡ span_of self.now }
+        ensures { result ≡ lit_span self.now }
     {
         self.view().span
     }
 
     /// Puts the literal elsewhere.
     pub fn set_span(&mut self, span: Span)
-        ensures { IsMovedTo self.old span self.new }
+        ensures { IsSameAt self.old span self.new }
     {
         match self {
             Lit::Str(literal) => literal.set_span(span),

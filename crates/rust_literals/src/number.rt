@@ -69,10 +69,10 @@ pub struct Number<K: NumberKind, A: Allocator = Global> {
 /// The token's text is a number of the kind.
 impl<K: NumberKind, A: Allocator> Model for Number<K, A> {
     ghost use Rattle.std.specs.Prelude.{string_bytes, option_map};
-    ghost use Rattle.rl_tokens.specs.Tokens.{Token};
+    ghost use Rattle.rl_tokens.specs.Tokens.{SpannedText};
     ghost use Rattle.rust_literals.specs.Held.{HoldsNumber, digits_in};
 
-    ghost Value = { Token };
+    ghost Value = { SpannedText };
 
     ghost view = { λ l. l.token };
 

@@ -2,7 +2,7 @@
 
 ghost use Rattle.std.specs.Prelude.{◌≡◌, ◌≤◌};
 ghost use Rattle.std.specs.Str.{chars};
-ghost use Rattle.rl_tokens.specs.Texts.{passes};
+ghost use Rattle.rl_tokens.specs.Texts.{first_passes};
 ghost use Rattle.rl_grammar.specs.NumberAt.{after_power_sign};
 ghost use Rattle.rl_grammar.specs.StrictAt.{ends_digits, ends_dot, ends_power, ends_whole, is_based, is_decimal, is_power_letter, is_strict_number};
 
@@ -83,7 +83,7 @@ fn is_based(text: &str, radix: u32) -> bool
 
 /// Whether the text begins as an exponent does.
 fn begins_power(text: &str) -> bool
-    ensures { result ≡ passes is_power_letter (chars text.now) }
+    ensures { result ≡ first_passes is_power_letter (chars text.now) }
 {
     matches!(split_char(text), Some(('e' | 'E', _)))
 }
