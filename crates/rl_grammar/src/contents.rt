@@ -124,6 +124,13 @@ pub(crate) fn string_is_plain(kind: Kind, text: &str) -> bool
 /// # Errors
 ///
 /// `Memory` where memory is refused, told at `Span::call_site`.
+///
+/// # Example
+///
+/// ```
+/// Kind::Str => tell_text(str_of(alloc, text), out),
+/// Kind::ByteStr | Kind::CStr => tell_bytes(bytes_of(alloc, text), out),
+/// ```
 pub fn str_of<A: Allocator>(alloc: A, text: &str) -> Result<String<A>, Error<A>>
     requires { ReadsAs Kind.Str (chars text.now) }
     ensures value { IfOk result (λ s. ContentsAre Kind.Str (chars text.now) (Characters (chars (string_bytes s)))) }

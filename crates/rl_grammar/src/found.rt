@@ -182,7 +182,8 @@ fn find_truth(text: &str) -> Option<Found>
     })
 }
 
-/// What reading the text finds: `None` where it is no literal, or an integer past 128 bits.
+/// What reading the text finds: `None` where it is no literal, or an integer past 128 bits. No
+/// memory is taken.
 ///
 /// It is the reading of [`shape`](crate::shape), with all that was learned on the way.
 pub fn find(text: &str) -> Option<Found>

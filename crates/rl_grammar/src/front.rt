@@ -198,7 +198,11 @@ impl<'a, A: Allocator> Front<'a, A> {
         }
     }
 
-    /// The literal as one token. Want of memory is told at its span.
+    /// The literal as one token: of a minus and its number, `-` and the number's text.
+    ///
+    /// # Errors
+    ///
+    /// `Memory` at the literal's span.
     pub fn token<B: Allocator>(&self, alloc: B) -> Result<Literal<B>, Error<B>>
         ensures ok { IfOk result (λ l. l ≡ front_token self.now) }
         ensures memory { IfErr result (λ e. e ≡ memory_at (front_token self.now).span) }
@@ -224,8 +228,10 @@ pub fn next_is<A: Allocator>(input: &ParseBuffer<'_, A>, kind: Kind) -> bool
 
 /// Takes the literal of this kind that stands next, as a token, with what reading it finds.
 ///
-/// It is refused with the word: where a literal of another kind stands, the buffer moves past it; where none does, it
-/// stays. Want of memory is told where the literal stands, and the buffer stays.
+/// # Errors
+///
+/// `Expected`, at the end `EndOfInput`, with the word: where a literal of another kind stands, the
+/// buffer moves past it; where none does, it stays. `Memory` at the literal, and the buffer stays.
 pub fn take_kind<A: Allocator>(
     alloc: A,
     input: &mut ParseBuffer<'_, A>,

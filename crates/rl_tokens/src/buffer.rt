@@ -10,8 +10,15 @@ use crate::span::Span;
 use crate::token::{Group, TokenTree};
 use std::alloc::{Allocator, Global};
 
-/// Trees that are lent, and a scope: the span at which their end is told. Parsers take trees from the front; the
-/// trees themselves stay with their owner.
+/// Trees that are lent, and a scope: the span at which their end is told. Parsers take trees from
+/// the front; the trees themselves stay with their owner, who may lend them as often as is wanted.
+///
+/// # Example
+///
+/// ```
+/// let end = Span::new(0, text.len(), text.len());
+/// let mut input = ParseBuffer::new(stream.trees(), end);
+/// ```
 #[derive(Drop)]
 pub struct ParseBuffer<'a, A: Allocator = Global> {
     trees: &'a [TokenTree<A>],
@@ -47,7 +54,8 @@ impl<'a, A: Allocator> ParseBuffer<'a, A> {
     };
     ghost use Rattle.rl_tokens.specs.Puncts.{is_punct, mark_word};
 
-    /// The buffer of these trees.
+    /// The buffer of these trees. The scope is best where they end: the text's end, or a group's
+    /// closer.
     pub fn new(trees: &'a [TokenTree<A>], scope: Span) -> ParseBuffer<'a, A>
         ensures trees { trees_in result ≡ map tree_view trees.now }
         ensures scope { scope_of result ≡ scope }
@@ -223,8 +231,8 @@ impl<'a, A: Allocator> ParseBuffer<'a, A> {
         }
     }
 
-    /// The refusal of what stands next, where this word was expected: `Expected` at the next tree's span, at the end
-    /// `EndOfInput` at the scope.
+    /// The refusal of what stands next, where this word was expected: `Expected` at the next tree's
+    /// span, at the end `EndOfInput` at the scope. It takes no memory.
     pub fn error(&self, word: &'static str) -> Error<A>
         ensures { IsRefusal (trees_in self.now) (scope_of self.now) word.now result }
     {

@@ -24,18 +24,19 @@ pub struct Lexeme<'t> {
     pub hi: usize,
 }
 
-/// A text that is cut into tokens as they are asked for. White space and plain comments between them are dropped. No
-/// memory is taken, and a delimiter is a token like any other: whether groups are closed is for the caller, or [`lex`].
+/// A text that is cut into tokens as they are asked for. White space and plain comments between
+/// them are dropped. No memory is taken, and a delimiter is a token like any other: whether groups
+/// are closed is for the caller, or [`lex`].
+///
+/// # Example
 ///
 /// ```
-/// let mut tokens = Tokens::new("x = -0xF; // less sixteen, and one more");
-/// let mut literals = 0;
-/// for token in &mut tokens {
-///     if matches!(token.form, Form::Literal) {
-///         literals += 1; // at token.lo..token.hi, as token.text
-///     }
+/// let mut tokens = Tokens::new(text);
+///
+/// match tokens.next() {
+///     Some(token) => tell_lent(token.text, token.lo, token.hi, out)?,
+///     None => break,
 /// }
-/// assert!(literals == 1 && tokens.fault().is_none());
 /// ```
 ///
 /// [`lex`]: crate::lex
@@ -88,15 +89,20 @@ impl<'t> Tokens<'t> {
         Some(Lexeme { form, text, lo, hi })
     }
 
-    /// Why no token begins what is left: the lexer's fault, and the byte where it stands in the whole text. `None` at the
-    /// end of the text, and where a token begins what is left. Groups aren't counted here, so the kind is the first six of
-    /// [`LexKind`](crate::LexKind)'s alone.
+    /// Why no token begins what is left: the lexer's fault, and the byte where it stands in the
+    /// whole text. `None` at the end of the text, and where a token begins what is left. Groups
+    /// aren't counted here, so the kind is the first six of [`LexKind`](crate::LexKind)'s alone.
+    ///
+    /// # Example
     ///
     /// ```
-    /// let mut tokens = Tokens::new("1 /* open");
-    /// assert!(tokens.fault().is_none());
-    /// assert!(tokens.next().is_some() && tokens.next().is_none());
-    /// assert_eq!(tokens.fault(), Some(LexError { kind: LexKind::UnclosedComment, at: 2 }));
+    /// match tokens.fault() {
+    ///     Some(fault) => {
+    ///         tell_fault(fault.kind, fault.at, out)?;
+    ///         out.push_str("; ")
+    ///     }
+    ///     None => Ok(()),
+    /// }
     /// ```
     pub fn fault(&self) -> Option<LexError>
         // It is a fault of what is left, whatever groups are open, and stands where that begins.

@@ -8,7 +8,17 @@ use crate::span::Span;
 use std::alloc::{AllocError, Allocator, Global};
 use std::fmt;
 
-/// What was refused, and where.
+/// What was refused, and where. `Display` prints the message of the kind; the span is for who shows
+/// the text.
+///
+/// # Example
+///
+/// A refusal's bytes and its message:
+///
+/// ```
+/// place(error.span, out)?;
+/// show_line(error, out)
+/// ```
 #[derive(Drop)]
 #[derive_where(PartialEq, Eq, Debug)]
 pub struct Error<A: Allocator = Global> {
@@ -18,7 +28,17 @@ pub struct Error<A: Allocator = Global> {
     pub kind: ErrorKind<A>,
 }
 
-/// What can be refused.
+/// What can be refused. Match the kind to act on it: the words are for people.
+///
+/// # Example
+///
+/// ```
+/// match error.kind {
+///     ErrorKind::NotInteger => String::from_str(alloc, "None\n"),
+///     ErrorKind::TooLarge => String::from_str(alloc, "TooLarge\n"),
+///     _ => Err(AllocError),
+/// }
+/// ```
 #[derive(Drop)]
 #[derive_where(PartialEq, Eq, Debug)]
 pub enum ErrorKind<A: Allocator = Global> {

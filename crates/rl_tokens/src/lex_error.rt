@@ -1,9 +1,20 @@
+//! What the lexer refuses.
+
 ghost use Rattle.std.specs.Prelude.{◌≡◌, Some};
 ghost use Rattle.rl_tokens.specs.LexErrors.{lex_message};
 
 use std::fmt;
 
 /// Why a text was not cut into trees, and where.
+///
+/// # Example
+///
+/// ```
+/// match lex(alloc, text, 7) {
+///     Ok(stream) => tell_all(stream.trees(), out)?,
+///     Err(fault) => tell_fault(fault.kind, fault.at, out)?,
+/// }
+/// ```
 #[derive(Clone, Copy, PartialEq, Eq, Debug)]
 pub struct LexError {
     /// What the fault is.

@@ -6,7 +6,16 @@ ghost use Rattle.rl_tokens.specs.Puncts.{is_punct, mark_word};
 use crate::span::Span;
 use std::marker::Model;
 
-/// One character of punctuation, and where it stands.
+/// One character of punctuation, and where it stands. `==` is two of them.
+///
+/// # Example
+///
+/// ```
+/// match input.punct() {
+///     Some(mark) => Ok(Sign { ch: mark.as_char() }),
+///     None => Err(input.error("sign")),
+/// }
+/// ```
 #[derive(Drop)]
 pub struct Punct {
     ch: char,
@@ -77,7 +86,7 @@ impl Punct {
         self.span
     }
 
-    /// Puts the token elsewhere.
+    /// Puts the token elsewhere: its span becomes this one, and its character stays.
     pub fn set_span(&mut self, span: Span)
         ensures { self.new ≡ record self.old { span = span } }
     {

@@ -1,6 +1,15 @@
+//! Places of tokens.
+
 ghost use Rattle.std.specs.Prelude.{◌≡◌, ◌↔◌, min, max, IsSome, IfSome};
 
-/// Where a token stands: a file, and the bytes of its text from `lo` up to `hi`.
+/// Where a token stands: a file, and the bytes of its text from `lo` up to `hi`. Two spans are
+/// equal where all three are.
+///
+/// # Example
+///
+/// ```
+/// let end = Span::new(0, text.len(), text.len());
+/// ```
 #[derive(Clone, Copy, PartialEq, Eq, Debug)]
 pub struct Span {
     /// The file, by a number of the caller's choice.
@@ -12,7 +21,8 @@ pub struct Span {
 }
 
 impl Span {
-    /// The span of what stands in no text.
+    /// The span of what stands in no text: file 0, no bytes at 0. The writers give it, and so does
+    /// an error with no place.
     pub fn call_site() -> Span
         ensures { result ≡ record { file = 0; lo = 0; hi = 0 } }
     {
@@ -23,7 +33,7 @@ impl Span {
         }
     }
 
-    /// The bytes from `lo` up to `hi` of a file.
+    /// The bytes from `lo` up to `hi` of a file. Nothing is asked of the places.
     pub fn new(file: u32, lo: usize, hi: usize) -> Span
         ensures { result ≡ record { file = file; lo = lo; hi = hi } }
     {
@@ -51,7 +61,16 @@ impl Span {
         self.hi
     }
 
-    /// From the first of both to the last of both, where they stand in one file.
+    /// From the first byte of both to the last of both, where they stand in one file; else `None`.
+    ///
+    /// # Example
+    ///
+    /// ```
+    /// match first.join(second) {
+    ///     Some(joined) => show_line(&At(joined), out),
+    ///     None => line("None", out),
+    /// }
+    /// ```
     pub fn join(self, other: Span) -> Option<Span>
         ensures one_file { IsSome result ↔ (self.file ≡ other.file) }
         ensures range { IfSome result

@@ -64,7 +64,11 @@ impl<A: Allocator + Copy> Parse<A> for Attribute<A> {
     }
 }
 
-/// The attribute that all of a text is. It is refused as [`parse_all`] says, by the parser of attributes.
+/// The attribute that all of a text is.
+///
+/// # Errors
+///
+/// As [`parse_all`] says, by the parser of attributes.
 pub fn read_attribute<A: Allocator + Copy>(
     alloc: A,
     text: &str,

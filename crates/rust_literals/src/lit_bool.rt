@@ -1,3 +1,5 @@
+//! Truth values.
+
 ghost use Rattle.std.specs.Prelude.{◌≡◌, IfOk, IfErr};
 ghost use Rattle.rl_tokens.specs.Errors.{memory_at};
 ghost use Rattle.rl_tokens.specs.Reading.{truth_text};
@@ -8,7 +10,15 @@ use rl_grammar::{Front, Kind, next_is};
 use rl_tokens::{Error, Ident, Parse, ParseBuffer, Span, Token};
 use std::alloc::Allocator;
 
-/// A truth value: `true` or `false`.
+/// A truth value: `true` or `false`. It takes no memory.
+///
+/// # Example
+///
+/// ```
+/// let mut literal = LitBool::new(value, HERE);
+/// show_word(&literal.value(), out)?;
+/// show_word(&At(literal.span()), out)?;
+/// ```
 #[derive(Drop)]
 pub struct LitBool {
     /// The truth value.
@@ -53,7 +63,11 @@ impl LitBool {
         *self = LitBool::new(self.value, span);
     }
 
-    /// The word `true` or `false`, at the span. Want of memory is told there.
+    /// The word `true` or `false`, at the span.
+    ///
+    /// # Errors
+    ///
+    /// `Memory` at the literal's span.
     pub fn token<A: Allocator>(&self, alloc: A) -> Result<Ident<A>, Error<A>>
         ensures ok { IfOk result
             (λ i. i ≡ record { text = truth_text self.now.value; span = self.now.span }) }

@@ -17,8 +17,17 @@ pub struct FloatKind;
 
 /// A float literal: `1.5`, `1e5`, `2.0f32`. Its size isn't judged.
 ///
-/// `LitFloat::new` reads by the float rule alone, so it takes `1f64` too, which `Lit::new` reads as an integer with the
-/// suffix `f64`.
+/// `LitFloat::new` reads by the float rule alone, so it takes `1f64` too, which `Lit::new` reads as
+/// an integer with the suffix `f64`.
+///
+/// # Example
+///
+/// ```
+/// match LitFloat::new(alloc, text, HERE) {
+///     Ok(mut literal) => moved_float(alloc, &mut literal, out),
+///     Err(error) => tell_error(&error, out),
+/// }
+/// ```
 pub type LitFloat<A = Global> = Number<FloatKind, A>;
 
 impl NumberKind for FloatKind {
