@@ -277,7 +277,7 @@ pub fn char_of(text: &str) -> char
     piece_char(single_piece(Kind::Char, text))
 }
 
-/// The byte that a byte literal with this between its quotes stands for.
+/// The byte that a byte literal stands for, of what stands between its quotes.
 pub fn byte_of_body(body: &str) -> u8
     requires { (text : List ℕ) × HasSingleBody Kind.Byte text body.now }
     ensures { (text : List ℕ) → HasSingleBody Kind.Byte text body.now
@@ -286,7 +286,7 @@ pub fn byte_of_body(body: &str) -> u8
     piece_byte(body_piece(Kind::Byte, body))
 }
 
-/// The character that a character literal with this between its quotes stands for.
+/// The character that a character literal stands for, of what stands between its quotes.
 pub fn char_of_body(body: &str) -> char
     requires { (text : List ℕ) × HasSingleBody Kind.Char text body.now }
     ensures { (text : List ℕ) → HasSingleBody Kind.Char text body.now

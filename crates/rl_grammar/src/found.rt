@@ -27,6 +27,7 @@ use rl_tokens::Kind;
 /// and prefix included, and of a truth value the whole text. Nothing is lent: the text is cut at the places again.
 #[derive(Clone, Copy)]
 pub struct Found {
+    /// What the literal is.
     pub kind: Kind,
     /// Where body and suffix stand, and whether the body is what the literal stands for, as
     /// [`is_plain`](crate::is_plain) tells.

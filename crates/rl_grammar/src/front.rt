@@ -144,7 +144,7 @@ impl<'a, A: Allocator> Front<'a, A> {
         }
     }
 
-    /// The kind that the literal reads as; none where it has no reading.
+    /// The kind that the literal reads as; `None` where it has no reading.
     pub fn kind(&self) -> Option<Kind>
         ensures some { IfSome result (λ k. ReadsAs k (chars (front_token self.now).text)) }
         ensures none { IfNone result (HasNoReading (chars (front_token self.now).text)) }
@@ -167,14 +167,14 @@ impl<'a, A: Allocator> Front<'a, A> {
         }
     }
 
-    /// Whether the literal reads as this kind.
+    /// Whether the literal reads as this kind. No memory is taken.
     pub fn is_of(&self, kind: Kind) -> bool
         ensures { IsTrue result ↔ ReadsAs kind (chars (front_token self.now).text) }
     {
         self.find_as(kind).is_some()
     }
 
-    /// The truth value that the literal is, where it is one.
+    /// The truth value that the literal is; `None` where it is another one.
     pub fn truth(&self) -> Option<bool>
         ensures some { IfSome result
             (λ b. Reads (chars (front_token self.now).text) BoolKind (Truth b) []) }

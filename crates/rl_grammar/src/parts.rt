@@ -19,7 +19,10 @@ use rl_tokens::Kind;
 /// ```
 #[derive(Clone, Copy, PartialEq, Eq, Debug)]
 pub struct Parts<'t> {
+    /// What the literal is.
     pub kind: Kind,
+    /// What stands before the suffix; of a quoted literal, what stands between its quotes.
     pub body: &'t str,
+    /// What stands behind; empty where there is none.
     pub suffix: &'t str,
 }

@@ -14,7 +14,7 @@ use crate::parts::Parts;
 use crate::quoted::quoted_shape;
 use rl_tokens::Kind;
 
-/// The truth value that the text is.
+/// The truth value that the text is, `true` or `false`; `None` for any other text.
 pub fn truth_of(text: &str) -> Option<bool>
     ensures some { IfSome result (λ b. chars text.now ≡ truth_text b) }
     ensures bytes { IfSome result (λ b. text.now ≡ truth_text b) }

@@ -37,7 +37,8 @@ fn holds_some(text: &str) -> bool
     !text.is_empty()
 }
 
-/// A kind of quoted literals, as a type.
+/// A kind of quoted literals, as a type. It has five implementations; callers need none of their
+/// own.
 pub trait QuotedKind {
     ghost KIND: { Kind };
 
@@ -66,7 +67,8 @@ impl<K: QuotedKind, A: Allocator> Model for Quoted<K, A> {
 }
 
 impl<K: QuotedKind, A: Allocator> Quoted<K, A> {
-    /// The literal of this token, whose text reads as the kind.
+    /// The literal of this token, whose text has to read as the kind, as `shape` of `rl_grammar`
+    /// tells. `Lit::new` of `rust_literals` takes any token.
     pub fn of_token(token: Literal<A>) -> Quoted<K, A>
         requires { ReadsAs K.KIND (chars token.text) }
         ensures { result ≡ token }
@@ -145,7 +147,7 @@ impl<K: QuotedKind, A: Allocator> Quoted<K, A> {
         self.token.text()
     }
 
-    /// Where the literal stands.
+    /// Where the literal stands: its file, and its bytes in it.
     pub fn span(&self) -> Span
         ensures { result ≡ self.now.span }
     {

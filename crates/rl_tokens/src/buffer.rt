@@ -70,7 +70,7 @@ impl<'a, A: Allocator> ParseBuffer<'a, A> {
         self.trees.is_empty()
     }
 
-    /// Where the next tree stands; at the end, the scope.
+    /// Where the next tree stands, a group whole; at the end, the scope.
     pub fn span(&self) -> Span
         ensures { result ≡ first_span (trees_in self.now) (scope_of self.now) }
     {
@@ -80,7 +80,8 @@ impl<'a, A: Allocator> ParseBuffer<'a, A> {
         }
     }
 
-    /// A buffer of the same trees and scope.
+    /// A buffer of the same trees and scope, to look ahead by: what is taken from it stays in this
+    /// one. No tree is copied.
     pub fn fork(&self) -> ParseBuffer<'a, A>
         ensures trees { trees_in result ≡ trees_in self.now }
         ensures scope { scope_of result ≡ scope_of self.now }
@@ -91,14 +92,15 @@ impl<'a, A: Allocator> ParseBuffer<'a, A> {
         }
     }
 
-    /// The trees that are left.
+    /// The trees that are left, in their order, lent.
     pub fn rest(&self) -> &'a [TokenTree<A>]
         ensures { map tree_view result.now ≡ trees_in self.now }
     {
         &self.trees[..]
     }
 
-    /// Takes the next tree where it is a literal; else the buffer stays.
+    /// Takes the next tree where it is a literal token, and lends it; else the buffer stays. `true`
+    /// and `-1` are no literal tokens: the parser of `Lit` takes them.
     pub fn literal(&mut self) -> Option<&'a Literal<A>>
         ensures taken { IfSome result
             (λ x. trees_in self.old ≡ LiteralTree x.now ∷ trees_in self.new) }
@@ -118,7 +120,7 @@ impl<'a, A: Allocator> ParseBuffer<'a, A> {
         }
     }
 
-    /// Takes the next tree where it is an identifier; else the buffer stays.
+    /// Takes the next tree where it is an identifier, and lends it; else the buffer stays.
     pub fn ident(&mut self) -> Option<&'a Ident<A>>
         ensures taken { IfSome result
             (λ x. trees_in self.old ≡ IdentTree x.now ∷ trees_in self.new) }
@@ -138,7 +140,8 @@ impl<'a, A: Allocator> ParseBuffer<'a, A> {
         }
     }
 
-    /// Takes the next tree where it is a character of punctuation; else the buffer stays.
+    /// Takes the next tree where it is a character of punctuation, whichever, and lends it; else
+    /// the buffer stays.
     pub fn punct(&mut self) -> Option<&'a Punct>
         ensures taken { IfSome result
             (λ x. trees_in self.old ≡ PunctTree x.now ∷ trees_in self.new) }
@@ -211,7 +214,8 @@ impl<'a, A: Allocator> ParseBuffer<'a, A> {
         self.punct()
     }
 
-    /// Takes the next tree where it is a group; else the buffer stays.
+    /// Takes the next tree where it is a group, and lends it; else the buffer stays.
+    /// [`Group::inside`] is a buffer of its trees.
     pub fn group(&mut self) -> Option<&'a Group<A>>
         ensures taken { IfSome result
             (λ x. trees_in self.old ≡ GroupTree (delimiter_of x.now) (inside_of (stream_view (stream_of x.now))) (group_span x.now) ∷ trees_in self.new) }

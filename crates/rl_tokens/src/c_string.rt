@@ -39,6 +39,14 @@ impl<A: Allocator> Model for CString<A> {
 }
 
 /// Bytes that are no C string, since a zero stands among them.
+///
+/// # Example
+///
+/// ```
+/// show_word(&refused.nul_position(), out)?;
+/// word("of", out)?;
+/// debug_line(&refused.into_vec().as_slice(), out)
+/// ```
 #[derive(Drop)]
 pub struct NulError<A: Allocator = Global> {
     bytes: Vec<u8, A>,
@@ -75,7 +83,7 @@ impl<A: Allocator> CString<A> {
         }
     }
 
-    /// The bytes, none of which is zero.
+    /// The bytes, none of which is zero, lent.
     pub fn as_bytes(&self) -> &[u8]
         ensures bytes { result.now ≡ self.now }
         ensures none_is_zero { IsTrue (has_no_zero result.now) }
@@ -100,7 +108,7 @@ impl<A: Allocator> NulError<A> {
         self.place
     }
 
-    /// The bytes as they were given.
+    /// The bytes as they were given, handed back.
     pub fn into_vec(self) -> Vec<u8, A>
         ensures { result.items ≡ self.bytes }
     {

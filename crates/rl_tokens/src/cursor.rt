@@ -11,7 +11,14 @@ use crate::lexeme::{Form, first_lexeme};
 use crate::whitespace::skip;
 use std::marker::Model;
 
-/// A token of a text, lent from it.
+/// A token of a text, lent from it: what it is to a parser, and where it stands.
+///
+/// # Example
+///
+/// ```
+/// Some(token) => tell_lent(token.text, token.lo, token.hi, out)?,
+/// None => break,
+/// ```
 #[derive(Clone, Copy)]
 pub struct Lexeme<'t> {
     /// What it is to a parser.
@@ -60,7 +67,7 @@ impl<'t> Model for Tokens<'t> {
 impl<'t> Tokens<'t> {
     ghost use Rattle.rl_tokens.specs.Cursors.{IsCursorState, TakesNext, BeginsLexeme, IsFirstFault};
 
-    /// The tokens of a text, from its front.
+    /// The tokens of a text, from its front. Nothing is cut yet but white space and comments.
     pub fn new(text: &'t str) -> Tokens<'t>
         ensures text { result.text ≡ text.now }
         ensures skipped { Skipped (chars text.now) (chars result.rest) }
@@ -121,7 +128,8 @@ impl<'t> Tokens<'t> {
         Some(LexError::new(kind, self.text.len() - self.rest.len()))
     }
 
-    /// What is left of the text, behind white space and comments.
+    /// What is left of the text, behind white space and comments: empty at its end, or where a
+    /// token or a fault begins.
     pub fn rest(&self) -> &'t str
         ensures { result.now ≡ self.now.rest }
     {

@@ -69,14 +69,14 @@ pub enum ErrorKind<A: Allocator = Global> {
 impl<A: Allocator> Error<A> {
     ghost use Rattle.rl_tokens.specs.Errors.{memory_at, lex_refusal};
 
-    /// The refusal of this kind, told at a span.
+    /// The refusal of this kind, told at this span.
     pub fn new(span: Span, kind: ErrorKind<A>) -> Error<A>
         ensures { result ≡ record { span = span; kind = kind } }
     {
         Error { span, kind }
     }
 
-    /// Want of memory, told at a span.
+    /// Want of memory, told at this span.
     pub fn memory(span: Span) -> Error<A>
         ensures { result ≡ memory_at span }
     {

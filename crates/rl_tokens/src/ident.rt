@@ -86,7 +86,7 @@ impl<A: Allocator> Ident<A> {
         }
     }
 
-    /// The text.
+    /// The text, an identifier ([`xid_ok`]), lent.
     pub fn text(&self) -> &str
         ensures text { result.now ≡ self.now.text }
         ensures identifier { IsTrue (xid_ok (chars result.now)) }
@@ -94,7 +94,7 @@ impl<A: Allocator> Ident<A> {
         self.text.as_str()
     }
 
-    /// Where the token stands.
+    /// Where the token stands: its file, and its bytes in it.
     pub fn span(&self) -> Span
         ensures { result ≡ self.now.span }
     {

@@ -38,7 +38,7 @@ pub enum Kind {
 }
 
 impl Kind {
-    /// Whether it is one of the three kinds of strings.
+    /// Whether it is one of the three kinds of strings: `Str`, `ByteStr`, `CStr`.
     pub fn is_string(self) -> bool
         ensures { result ≡ is_string self }
     {

@@ -23,7 +23,17 @@ pub struct LexError {
     pub at: usize,
 }
 
-/// What the lexer refuses, each told at the byte that its line names.
+/// What the lexer refuses, each told at the byte that its line names. docs/REFUSALS.md has a text
+/// for each, and what to do.
+///
+/// # Example
+///
+/// ```
+/// Err(fault) => match fault.kind {
+///     LexKind::Memory => Err(AllocError),
+///     _ => Ok(0),
+/// },
+/// ```
 #[derive(Clone, Copy, PartialEq, Eq, Debug)]
 pub enum LexKind {
     /// A doc comment, closed or not: its first slash.

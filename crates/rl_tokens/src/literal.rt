@@ -82,7 +82,7 @@ impl<A: Allocator> Literal<A> {
         self.text.as_str()
     }
 
-    /// Where the token stands.
+    /// Where the token stands: its file, and its bytes in it.
     pub fn span(&self) -> Span
         ensures { result ≡ self.now.span }
     {

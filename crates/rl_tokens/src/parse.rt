@@ -94,7 +94,7 @@ pub struct ByParse<T> {
 }
 
 impl<T> ByParse<T> {
-    /// The parser that calls `T::parse`.
+    /// The parser that calls `T::parse`. It holds nothing.
     pub fn new() -> ByParse<T> {
         ByParse {
             parsed: PhantomData,
@@ -134,7 +134,7 @@ pub trait Token {
     fn peek<A: Allocator>(input: &ParseBuffer<'_, A>) -> bool
         ensures { IsTrue result ↔ peeks (trees_in input.now) };
 
-    /// What it is called in messages.
+    /// What it is called in messages, as `string literal`.
     fn display() -> &'static str
         ensures { result.now ≡ shown };
 }

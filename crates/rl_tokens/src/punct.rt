@@ -71,7 +71,7 @@ impl Punct {
         )
     }
 
-    /// The character.
+    /// The character, of which [`Punct::is_char`] is true.
     pub fn as_char(&self) -> char
         ensures ch { result ≡ self.now.ch }
         ensures punct { IsTrue (is_punct result) }
@@ -79,7 +79,7 @@ impl Punct {
         self.ch
     }
 
-    /// Where the token stands.
+    /// Where the token stands: its file, and its byte in it.
     pub fn span(&self) -> Span
         ensures { result ≡ self.now.span }
     {

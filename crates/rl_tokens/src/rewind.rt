@@ -12,7 +12,7 @@ use std::alloc::Allocator;
 pub trait Rewind: Sized {
     ghost same: { Self → Self → Type 0 };
 
-    /// The value once more, where it stands now.
+    /// The value once more, where it stands now: what a refusal is put back to.
     fn here(&self) -> Self
         ensures { same self.now result };
 }

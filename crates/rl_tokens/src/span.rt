@@ -40,21 +40,21 @@ impl Span {
         Span { file, lo, hi }
     }
 
-    /// The file.
+    /// The file, by the number that the caller chose.
     pub fn file(self) -> u32
         ensures { result ≡ self.file }
     {
         self.file
     }
 
-    /// The place of the first byte.
+    /// The place of the first byte, counted from 0.
     pub fn lo(self) -> usize
         ensures { result ≡ self.lo }
     {
         self.lo
     }
 
-    /// The place behind the last byte.
+    /// The place behind the last byte; of no bytes, `lo`.
     pub fn hi(self) -> usize
         ensures { result ≡ self.hi }
     {

@@ -12,6 +12,15 @@ use crate::span::Span;
 use std::alloc::{Allocator, Global};
 
 /// How a group is delimited.
+///
+/// # Example
+///
+/// ```
+/// Some(group) if group.delimiter() == Delimiter::Bracket => {
+///     *input = ahead;
+///     Ok(group)
+/// }
+/// ```
 #[derive(Clone, Copy, PartialEq, Eq, Debug)]
 pub enum Delimiter {
     /// `( .. )`

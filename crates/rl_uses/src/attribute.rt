@@ -9,7 +9,7 @@ use rl_quoted::LitStr;
 use rl_tokens::{Error, Ident, Parse, ParseBuffer, attempt, parse_all};
 use std::alloc::{Allocator, Global};
 
-/// An attribute: `name = "value"`.
+/// An attribute, `name = "value"`, with the places of its parts in the two tokens.
 #[derive(Drop)]
 pub struct Attribute<A: Allocator = Global> {
     /// What is set.

@@ -213,14 +213,14 @@ impl<A: Allocator> Lit<A> {
         }
     }
 
-    /// The kind that the literal is of; none for `Verbatim`.
+    /// The kind that the literal is of; `None` for `Verbatim`.
     pub fn kind(&self) -> Option<Kind>
         ensures { result ≡ kind_of self.now }
     {
         self.view().kind
     }
 
-    /// The token's text; of a truth value its word.
+    /// The token's text, suffix included; of a truth value its word.
     pub fn text(&self) -> &str
         ensures { result.now ≡ (token_of self.now).text }
     {

@@ -35,28 +35,28 @@ pub(crate) fn word(value: bool) -> &'static str
 }
 
 impl LitBool {
-    /// The literal of this truth value, at this span.
+    /// The literal of this truth value, at this span. It takes no memory.
     pub fn new(value: bool, span: Span) -> LitBool
         ensures { result ≡ record { value = value; span = span } }
     {
         LitBool { value, span }
     }
 
-    /// The truth value.
+    /// The truth value, as the field has it.
     pub fn value(&self) -> bool
         ensures { result ≡ self.now.value }
     {
         self.value
     }
 
-    /// Where it stands.
+    /// Where it stands: its file, and its bytes in it.
     pub fn span(&self) -> Span
         ensures { result ≡ self.now.span }
     {
         self.span
     }
 
-    /// Puts it elsewhere.
+    /// Puts it elsewhere: its span becomes this one.
     pub fn set_span(&mut self, span: Span)
         ensures { self.new ≡ record self.old { span = span } }
     {

@@ -20,7 +20,7 @@ use std::alloc::{Allocator, Global};
 use std::fmt;
 use std::marker::{Model, PhantomData};
 
-/// A kind of numbers, as a type.
+/// A kind of numbers, as a type. It has two implementations; callers need none of their own.
 pub trait NumberKind {
     ghost KIND: { Kind };
 
@@ -209,7 +209,7 @@ impl<K: NumberKind, A: Allocator> Number<K, A> {
         self.token.text()
     }
 
-    /// Where the literal stands.
+    /// Where the literal stands: its file, and its bytes in it.
     pub fn span(&self) -> Span
         ensures { result ≡ self.now.span }
     {
