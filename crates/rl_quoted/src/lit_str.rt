@@ -38,8 +38,8 @@ impl QuotedKind for StrKind {
 pub type LitStr<A = Global> = Quoted<StrKind, A>;
 
 impl<A: Allocator> LitStr<A> {
-    /// The literal that the text is written as, with no suffix, at this span: `"` and `\` and
-    /// control characters are written as escapes, all else as it stands.
+    /// The literal that the text is written as, with no suffix, at this span: `"`, `\` and the
+    /// control characters of ASCII are written as escapes, all else as it stands.
     ///
     /// # Errors
     ///
@@ -62,8 +62,8 @@ impl<A: Allocator> LitStr<A> {
         }
     }
 
-    /// The text that the literal stands for, as a copy: escapes are decoded, CR LF is LF, and the
-    /// suffix is no part of it.
+    /// The text that the literal stands for, as a copy: unless it is raw, escapes are decoded and
+    /// CR LF is LF. The suffix is no part of it.
     ///
     /// # Errors
     ///

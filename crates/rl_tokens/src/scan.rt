@@ -10,8 +10,8 @@ ghost use Rattle.rl_tokens.specs.Scanning.{is_one_of, is_other, AreAscii, IsNext
 use crate::text::split_ascii;
 use std::simd::prelude::*;
 
-/// The bytes that are looked for, each of ASCII in a text; where they are fewer than four, one of
-/// them stands twice.
+/// The bytes that are looked for; where they are fewer than four, one of them stands twice. In a
+/// text they have to be of ASCII.
 #[derive(Clone, Copy)]
 pub struct Marks {
     /// A byte that is looked for.
