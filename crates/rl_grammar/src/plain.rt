@@ -18,7 +18,10 @@ use rl_tokens::Kind;
 ///
 /// # Example
 ///
+/// The kind's name stands on a line before the text:
+///
 /// ```
+/// let (name, text) = text.split_once('\n').unwrap_or(("", text));
 /// show_line(&is_plain(kind_of(name), text), out)
 /// ```
 pub fn is_plain(kind: Kind, text: &str) -> bool

@@ -25,6 +25,7 @@ use rl_tokens::Kind;
 /// # Example
 ///
 /// ```
+/// // `true` of `0xFF_u8`, `false` of `-1`
 /// show_line(&is_token(text), out)
 /// ```
 pub fn is_token(text: &str) -> bool

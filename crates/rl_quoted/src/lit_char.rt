@@ -59,7 +59,8 @@ impl<A: Allocator> LitChar<A> {
     /// # Example
     ///
     /// ```
-    /// LitChar::new(alloc, literal.value(), literal.span())
+    /// let size = literal.value().len_utf8();
+    /// Ok(value_weight(Kind::Char, size, literal.suffix()))
     /// ```
     pub fn value(&self) -> char
         ensures { HasContents Char (chars self.now.text) (Characters (result ∷ [])) }

@@ -104,11 +104,8 @@ impl<'t> Tokens<'t> {
     ///
     /// ```
     /// match tokens.fault() {
-    ///     Some(fault) => {
-    ///         tell_fault(fault.kind, fault.at, out)?;
-    ///         out.push_str("; ")
-    ///     }
-    ///     None => Ok(()),
+    ///     Some(fault) => Err(fault),
+    ///     None => nest.finish(),
     /// }
     /// ```
     pub fn fault(&self) -> Option<LexError>

@@ -20,17 +20,15 @@ use std::marker::PhantomData;
 ///
 /// # Example
 ///
-/// A parser of several steps, each in a function of its own; a refusal puts the buffer back:
+/// The members of a parser of several steps, which a function of their own takes; a refusal puts
+/// the buffer back:
 ///
 /// ```
-/// impl<A: Allocator + Copy> Parse<A> for Attribute<A> {
+/// ghost runs = { RunsAttribute };
 ///
-///     ghost runs = { RunsAttribute };
-///
-///     fn parse(alloc: A, input: &mut ParseBuffer<'_, A>) -> Result<Attribute<A>, Error<A>> {
-///         let attribute = attempt(input, |input| parse_attribute(alloc, input))?;
-///         Ok(attribute)
-///     }
+/// fn parse(alloc: A, input: &mut ParseBuffer<'_, A>) -> Result<Attribute<A>, Error<A>> {
+///     let attribute = attempt(input, |input| parse_attribute(alloc, input))?;
+///     Ok(attribute)
 /// }
 /// ```
 pub trait Parse<A: Allocator>: Sized {
@@ -55,18 +53,15 @@ pub trait Parse<A: Allocator>: Sized {
 ///
 /// # Example
 ///
-/// The members of a parser that takes a group, and promises nothing (`⊤`):
+/// The members of [`ByParse`]:
 ///
 /// ```
-/// type Output = Spans;
+/// type Output = T;
 ///
-/// ghost runs = { λ parser trees scope answer rest. ⊤ };
+/// ghost runs = { λ parser. T.runs };
 ///
-/// fn parse(self, _alloc: A, input: &mut ParseBuffer<'_, A>) -> Result<Spans, Error<A>> {
-///     match input.group() {
-///         Some(group) => spans_of(group),
-///         None => Err(input.error("group")),
-///     }
+/// fn parse(self, alloc: A, input: &mut ParseBuffer<'_, A>) -> Result<T, Error<A>> {
+///     T::parse(alloc, input)
 /// }
 /// ```
 pub trait Parser<A: Allocator>: Sized {

@@ -7,8 +7,11 @@ ghost use Rattle.std.specs.Prelude.{◌≡◌, ◌↔◌, min, max, IsSome, IfSo
 ///
 /// # Example
 ///
+/// The end of a text, where a parser tells that something is missing:
+///
 /// ```
 /// let end = Span::new(0, text.len(), text.len());
+/// let mut input = ParseBuffer::new(stream.trees(), end);
 /// ```
 #[derive(Clone, Copy, PartialEq, Eq, Debug)]
 pub struct Span {

@@ -18,9 +18,8 @@ use crate::text::split_ascii;
 ///
 /// # Example
 ///
-/// How many bytes stand behind them:
-///
 /// ```
+/// // How many bytes stand behind them: of `/* one */ two` 3.
 /// format!(in alloc; "{}\n", whitespace::skip(text).len())
 /// ```
 #[inline(always)]
