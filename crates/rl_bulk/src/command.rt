@@ -1,3 +1,5 @@
+//! The commands, and what they are called.
+
 /// What a line of input asks for.
 #[derive(Clone, Copy, PartialEq, Eq)]
 pub enum Command {

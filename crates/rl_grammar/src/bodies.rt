@@ -15,9 +15,13 @@ use rl_tokens::Kind;
 /// Where the parts of a literal stand in its text, in bytes, and whether the body is what it stands for, byte for byte.
 #[derive(Clone, Copy)]
 pub struct Body {
+    /// The place of the body's first byte.
     pub at: usize,
+    /// The place behind the body's last byte.
     pub end: usize,
+    /// The place of the suffix's first byte; the text's end where there is none.
     pub suffix_at: usize,
+    /// Whether the body is what the literal stands for, byte for byte.
     pub plain: bool,
 }
 
@@ -56,7 +60,7 @@ pub(crate) fn quoted_body<'t>(
     }
 }
 
-/// The places of the parts of a text that reads as a string of the kind.
+/// The places of the parts of a text that has to read as a string of the kind. No memory is taken.
 pub fn body_of(kind: Kind, text: &str) -> Body
     requires string { IsTrue (is_string kind) }
     requires reads { ReadsAsQuoted kind (chars text.now) }

@@ -125,6 +125,13 @@ pub(crate) fn string_is_plain(kind: Kind, text: &str) -> bool
 /// # Errors
 ///
 /// `Memory` where memory is refused, told at `Span::call_site`.
+///
+/// # Example
+///
+/// ```
+/// Kind::Str => tell_text(str_of(alloc, text), out),
+/// Kind::ByteStr | Kind::CStr => tell_bytes(bytes_of(alloc, text), out),
+/// ```
 pub fn str_of<A: Allocator>(alloc: A, text: &str) -> Result<String<A>, Error<A>>
     requires { ReadsAs Kind.Str (chars text.now) }
     ensures value { IfOk result (λ s. ContentsAre Kind.Str (chars text.now) (Characters (chars (string_bytes s)))) }
@@ -271,7 +278,7 @@ pub fn char_of(text: &str) -> char
     piece_char(single_piece(Kind::Char, text))
 }
 
-/// The byte that a byte literal with this between its quotes stands for.
+/// The byte that a byte literal stands for, of what stands between its quotes.
 pub fn byte_of_body(body: &str) -> u8
     requires { (text : List ℕ) × HasSingleBody Kind.Byte text body.now }
     ensures { (text : List ℕ) → HasSingleBody Kind.Byte text body.now
@@ -280,7 +287,7 @@ pub fn byte_of_body(body: &str) -> u8
     piece_byte(body_piece(Kind::Byte, body))
 }
 
-/// The character that a character literal with this between its quotes stands for.
+/// The character that a character literal stands for, of what stands between its quotes.
 pub fn char_of_body(body: &str) -> char
     requires { (text : List ℕ) × HasSingleBody Kind.Char text body.now }
     ensures { (text : List ℕ) → HasSingleBody Kind.Char text body.now

@@ -35,11 +35,16 @@ const CHANGED: Marks = Marks {
 
 /// The digits of a number in base ten.
 ///
-/// Of an integer they are its magnitude in base ten, behind a minus where the text begins with one. Of a float they are
-/// all that stands before its suffix, without underscores and pluses and with `E` as `e`.
+/// Of an integer they are its magnitude in base ten, behind a minus where the text begins with one.
+/// Of a float they are all that stands before its suffix, without underscores and pluses and with
+/// `E` as `e`.
 ///
-/// The text has to be a number of the kind: an integer within 128 bits, or a float, whether or not an integer stands
-/// there too. The one error is want of memory, told at the span of no text.
+/// The text has to be a number of the kind: an integer within 128 bits, or a float, whether or not
+/// an integer stands there too.
+///
+/// # Errors
+///
+/// `Memory` where memory is refused, told at `Span::call_site`.
 pub fn digits_of<A: Allocator>(alloc: A, kind: Kind, text: &str) -> Result<String<A>, Error<A>>
     requires reads { IsNumber kind (chars text.now) }
     ensures value { IfOk result (λ s. AreDigits kind (chars text.now) (chars (string_bytes s))) }

@@ -28,6 +28,7 @@ use rl_tokens::Kind;
 /// and prefix included, and of a truth value the whole text. Nothing is lent: the text is cut at the places again.
 #[derive(Clone, Copy)]
 pub struct Found {
+    /// What the literal is.
     pub kind: Kind,
     /// Where body and suffix stand, and whether the body is what the literal stands for, as
     /// [`is_plain`](crate::is_plain) tells.
@@ -183,7 +184,8 @@ fn find_truth(text: &str) -> Option<Found>
     })
 }
 
-/// What reading the text finds: `None` where it is no literal, or an integer past 128 bits.
+/// What reading the text finds: `None` where it is no literal, or an integer past 128 bits. No
+/// memory is taken.
 ///
 /// It is the reading of [`shape`](crate::shape), with all that was learned on the way.
 pub fn find(text: &str) -> Option<Found>

@@ -137,7 +137,7 @@ impl<'a, A: Allocator> Front<'a, A> {
         }
     }
 
-    /// The kind that the literal reads as; none where it has no reading.
+    /// The kind that the literal reads as; `None` where it has no reading.
     pub fn kind(&self) -> Option<Kind>
         ensures some { IfSome result (λ k. ReadsAs k (chars (front_token self.now).text)) }
         ensures none { IfNone result (HasNoReading (chars (front_token self.now).text)) }
@@ -160,14 +160,14 @@ impl<'a, A: Allocator> Front<'a, A> {
         }
     }
 
-    /// Whether the literal reads as this kind.
+    /// Whether the literal reads as this kind. No memory is taken.
     pub fn is_of(&self, kind: Kind) -> bool
         ensures { IsTrue result ↔ ReadsAs kind (chars (front_token self.now).text) }
     {
         self.find_as(kind).is_some()
     }
 
-    /// The truth value that the literal is, where it is one.
+    /// The truth value that the literal is; `None` where it is another one.
     pub fn truth(&self) -> Option<bool>
         ensures some { IfSome result
             (λ b. Reads (chars (front_token self.now).text) BoolKind (Truth b) []) }
@@ -191,7 +191,11 @@ impl<'a, A: Allocator> Front<'a, A> {
         }
     }
 
-    /// The literal as one token. Want of memory is told at its span.
+    /// The literal as one token: of a minus and its number, `-` and the number's text.
+    ///
+    /// # Errors
+    ///
+    /// `Memory` at the literal's span.
     pub fn token<B: Allocator>(&self, alloc: B) -> Result<Literal<B>, Error<B>>
         ensures ok { IfOk result (λ l. l ≡ front_token self.now) }
         ensures memory { IfErr result (λ e. e ≡ memory_at (front_token self.now).span) }
@@ -217,8 +221,10 @@ pub fn next_is<A: Allocator>(input: &ParseBuffer<'_, A>, kind: Kind) -> bool
 
 /// Takes the literal of this kind that stands next, as a token, with what reading it finds.
 ///
-/// It is refused with the word: where a literal of another kind stands, the buffer moves past it; where none does, it
-/// stays. Want of memory is told where the literal stands, and the buffer stays.
+/// # Errors
+///
+/// `Expected`, at the end `EndOfInput`, with the word: where a literal of another kind stands, the
+/// buffer moves past it; where none does, it stays. `Memory` at the literal, and the buffer stays.
 pub fn take_kind<A: Allocator>(
     alloc: A,
     input: &mut ParseBuffer<'_, A>,

@@ -8,13 +8,22 @@ use crate::contents::string_is_plain;
 use crate::found::{find_float, find_int};
 use rl_tokens::Kind;
 
-/// Whether the text reads as the kind, and its body is what it stands for, byte for byte: a string's contents, or a
-/// number's digits in base ten.
+/// Whether the text reads as the kind, and its body is what it stands for, byte for byte: a
+/// string's contents, or a number's digits in base ten. No memory is taken.
 ///
-/// A string is plain where it is raw, or has neither an escape nor a line end of two characters; an integer within 128
-/// bits where it is in base ten, with no underscore and no needless zero; a float, by the rule of floats alone, where
-/// it has no underscore, no plus and no `E`. Nothing else is: neither a text of another kind, nor a character, a byte
-/// or a truth value.
+/// A string is plain where it is raw, or has neither an escape nor a line end of two characters; an
+/// integer within 128 bits where it is in base ten, with no underscore and no needless zero; a
+/// float, by the rule of floats alone, where it has no underscore, no plus and no `E`. Nothing else
+/// is: neither a text of another kind, nor a character, a byte or a truth value.
+///
+/// # Example
+///
+/// The kind's name stands on a line before the text:
+///
+/// ```
+/// let (name, text) = text.split_once('\n').unwrap_or(("", text));
+/// show_line(&is_plain(kind_of(name), text), out)
+/// ```
 pub fn is_plain(kind: Kind, text: &str) -> bool
     ensures { IsTrue result ↔ IsPlain kind text.now }
 {

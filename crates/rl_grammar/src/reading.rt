@@ -15,7 +15,7 @@ use crate::parts::Parts;
 use crate::quoted::quoted_shape;
 use rl_tokens::Kind;
 
-/// The truth value that the text is.
+/// The truth value that the text is, `true` or `false`; `None` for any other text.
 pub fn truth_of(text: &str) -> Option<bool>
     ensures some { IfSome result (λ b. chars text.now ≡ truth_text b) }
     ensures bytes { IfSome result (λ b. text.now ≡ truth_text b) }
@@ -59,13 +59,24 @@ pub(crate) fn begins_number(text: &str) -> bool
     is_number_front(text.as_bytes())
 }
 
-/// The kind of a literal and its parts: `None` where the text is no literal, or an integer past 128 bits.
+/// The kind of a literal and its parts: `None` where the text is no literal, or an integer past 128
+/// bits. No memory is taken.
 ///
-/// Of a quoted literal the body is what stands between its quotes, of a number all that stands before its suffix, sign
-/// and prefix included, and of a truth value the whole text. Body and suffix are slices of the text.
+/// Of a quoted literal the body is what stands between its quotes, of a number all that stands
+/// before its suffix, sign and prefix included, and of a truth value the whole text. Body and
+/// suffix are slices of the text.
 ///
-/// A text without CR is a byte, or a byte string with escapes, and its suffix empty or a word, exactly where it is a
-/// strict one (`strict_bytes`).
+/// A text without CR is a byte, or a byte string with escapes, and its suffix empty or a word,
+/// exactly where it is a strict one (`strict_bytes`).
+///
+/// # Example
+///
+/// ```
+/// match shape(text) {
+///     Some(parts) => Ok(weight(parts.kind, parts.body.len(), parts.suffix.len())),
+///     None => Ok(0),
+/// }
+/// ```
 #[tactic(auto, using(crate::proofs::StrictBytesLemmas::bytes_are_strict))]
 pub fn shape(text: &str) -> Option<Parts<'_>>
     ensures none { IfNone result (HasNoReading (chars text.now)) }

@@ -16,10 +16,18 @@ use crate::strict::numbers::is_number;
 use crate::strict::quoted::{closes_one, closes_raw, closes_string};
 use rl_tokens::Kind;
 
-/// Whether the text is a literal token of the strict grammar, of any kind and with any suffix.
+/// Whether the text is a literal token of the strict grammar, of any kind and with any suffix:
+/// `0xFF_u8` is one, `-1`, `1e` and `r"a"b"` are none. No memory is taken.
 ///
-/// Every strict text is a literal of the lenient grammar too, unless it is an integer past 128 bits: here integers have
-/// no limit. The reverse doesn't hold.
+/// Every strict text is a literal of the lenient grammar too, unless it is an integer past 128
+/// bits: here integers have no limit. The reverse doesn't hold.
+///
+/// # Example
+///
+/// ```
+/// // `true` of `0xFF_u8`, `false` of `-1`
+/// show_line(&is_token(text), out)
+/// ```
 pub fn is_token(text: &str) -> bool
     ensures { IsTrue result ↔ IsToken (chars text.now) }
 {

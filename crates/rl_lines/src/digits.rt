@@ -37,6 +37,10 @@ fn split_pair(bytes: &[u8]) -> Option<(u8, u8, &[u8])>
 }
 
 /// The bytes that the digits stand for; none where something else stands.
+///
+/// # Errors
+///
+/// Want of memory, as std tells it, with no place.
 pub fn decoded<A: Allocator>(alloc: A, digits: &[u8]) -> Result<Option<Vec<u8, A>>, AllocError>
     ensures { IfOk result (λ bytes. bytes_if_any bytes ≡ bytes_of digits.now) }
 {

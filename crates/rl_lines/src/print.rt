@@ -252,6 +252,10 @@ fn push_literal<A: Allocator + Copy>(
 }
 
 /// Writes the lines of the literals at the end. Where memory is refused, some of them may stand there.
+///
+/// # Errors
+///
+/// Want of memory, as std tells it. Some of the lines may stand there then.
 pub fn push_literals<A: Allocator + Copy>(
     alloc: A,
     out: &mut String<A>,
@@ -267,6 +271,10 @@ pub fn push_literals<A: Allocator + Copy>(
 }
 
 /// The line of a literal: its kind, its contents as they are written, and its suffix, with LF behind it.
+///
+/// # Errors
+///
+/// Want of memory, as std tells it, with no place.
 pub fn line_of<A: Allocator + Copy>(alloc: A, literal: &Lit<A>) -> Result<String<A>, AllocError>
     ensures { IfOk result (λ line. PrintsLit literal.now [] (chars (string_bytes line))) }
 {
@@ -276,6 +284,10 @@ pub fn line_of<A: Allocator + Copy>(alloc: A, literal: &Lit<A>) -> Result<String
 }
 
 /// The lines of literals, one after another.
+///
+/// # Errors
+///
+/// Want of memory, as std tells it, with no place.
 pub fn lines_of<A: Allocator + Copy>(alloc: A, literals: &[Lit<A>]) -> Result<String<A>, AllocError>
     ensures { IfOk result (λ lines. PrintsList literals.now [] (chars (string_bytes lines))) }
 {

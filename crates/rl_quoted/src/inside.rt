@@ -82,10 +82,23 @@ impl<A: Allocator> LitStr<A> {
 
     /// What the parser makes of the text that the literal stands for.
     ///
-    /// The text is cut into tokens, each of them gets the literal's span, also inside groups, and the parser runs on them
-    /// with that span as scope. The refusals come in this order: the lexer's, as `Lex`; the parser's own; `Unexpected`
-    /// where trees are left over; `Suffix` where the literal has one. All but the parser's own are told at the literal's
+    /// The text is cut into tokens, each of them gets the literal's span, also inside groups, and
+    /// the parser runs on them with that span as scope.
+    ///
+    /// # Errors
+    ///
+    /// In this order: the lexer's, as `Lex`; the parser's own; `Unexpected` where trees are left
+    /// over; `Suffix` where the literal has one. All but the parser's own are told at the literal's
     /// span, and so is want of memory.
+    ///
+    /// # Example
+    ///
+    /// ```
+    /// match string.parse_with(alloc, SpansOfGroup) {
+    ///     Ok(spans) => tell_spans(&spans, out),
+    ///     Err(error) => tell_error(&error, out),
+    /// }
+    /// ```
     pub fn parse_with<P: Parser<B>, B: Allocator + Copy>(
         &self,
         alloc: B,
@@ -102,7 +115,23 @@ impl<A: Allocator> LitStr<A> {
         Ok(parsed)
     }
 
-    /// The same with the parser of a type.
+    /// What the parser of a type makes of the text that the literal stands for.
+    ///
+    /// # Errors
+    ///
+    /// As [`parse_with`](LitStr::parse_with).
+    ///
+    /// # Example
+    ///
+    /// ```
+    /// match string.parse::<LitInt, Global>(alloc) {
+    ///     Ok(integer) => {
+    ///         show_word(&integer, out)?;
+    ///         show_line(&At(integer.span()), out)
+    ///     }
+    ///     Err(error) => tell_error(&error, out),
+    /// }
+    /// ```
     pub fn parse<T: Parse<B> + Drop, B: Allocator + Copy>(&self, alloc: B) -> Result<T, Error<B>>
         ensures parsed { IfOk result (IsParsedInside T.runs self.now) }
         ensures refused { IfErr result (RefusesInside T.runs self.now) }

@@ -1,3 +1,5 @@
+//! Byte literals.
+
 ghost use Rattle.std.specs.Prelude.{◌≡◌, ◌∷◌, [], IfOk, IfErr};
 ghost use Rattle.std.specs.Str.{chars};
 ghost use Rattle.rl_tokens.specs.declared.kind.Kind.TheVariants.{Byte};
@@ -10,7 +12,7 @@ use rl_grammar::{Kind, byte_of_body};
 use rl_tokens::{Error, Literal, Span};
 use std::alloc::{Allocator, Global};
 
-/// Bytes.
+/// The kind of bytes, as a type: what tells `LitByte` from its siblings.
 pub struct ByteKind;
 
 impl QuotedKind for ByteKind {
@@ -20,10 +22,23 @@ impl QuotedKind for ByteKind {
 }
 
 /// A byte literal: `b'a'`.
+///
+/// # Example
+///
+/// ```
+/// if literal.has_suffix() {
+///     return literal.clone(alloc);
+/// }
+/// LitByte::new(alloc, literal.value(), literal.span())
+/// ```
 pub type LitByte<A = Global> = Quoted<ByteKind, A>;
 
 impl<A: Allocator> LitByte<A> {
-    /// The literal that the byte is written as, with no suffix, at this span, where want of memory is told too.
+    /// The literal that the byte is written as, with no suffix, at this span.
+    ///
+    /// # Errors
+    ///
+    /// `Memory` at the span.
     pub fn new(alloc: A, value: u8, span: Span) -> Result<LitByte<A>, Error<A>>
         ensures text { IfOk result (λ l. IsWrittenForm Byte (value ∷ []) (chars l.text)) }
         ensures span { IfOk result (λ l. l.span ≡ span) }
@@ -35,7 +50,15 @@ impl<A: Allocator> LitByte<A> {
         }
     }
 
-    /// The byte that the literal stands for.
+    /// The byte that the literal stands for. No memory is taken.
+    ///
+    /// # Example
+    ///
+    /// ```
+    /// show(&literal.value(), out)?;
+    /// word(literal.suffix(), out)?;
+    /// show_word(&At(literal.span()), out)
+    /// ```
     pub fn value(&self) -> u8
         ensures { HasContents Byte (chars self.now.text) (Bytes (result ∷ [])) }
     {

@@ -1,3 +1,5 @@
+//! Byte string literals.
+
 ghost use Rattle.std.specs.Prelude.{◌≡◌, IfOk, IfErr, IfSome, OnSome, IfNone};
 ghost use Rattle.std.specs.Str.{chars};
 ghost use Rattle.rl_tokens.specs.declared.kind.Kind.TheVariants.{ByteStr};
@@ -11,7 +13,7 @@ use rl_grammar::{Kind, bytes_of_body};
 use rl_tokens::{Error, Literal, Span};
 use std::alloc::{Allocator, Global};
 
-/// Byte strings.
+/// The kind of byte strings, as a type: what tells `LitByteStr` from its siblings.
 pub struct ByteStrKind;
 
 impl QuotedKind for ByteStrKind {
@@ -21,10 +23,25 @@ impl QuotedKind for ByteStrKind {
 }
 
 /// A byte string literal: `b"bytes"`, `br"bytes"`.
+///
+/// # Example
+///
+/// ```
+/// let Ok(literal) = LitByteStr::new(alloc, bytes, HERE) else {
+///     return Err(AllocError);
+/// };
+/// let Ok(value) = literal.value(alloc) else {
+///     return Err(AllocError);
+/// };
+/// ```
 pub type LitByteStr<A = Global> = Quoted<ByteStrKind, A>;
 
 impl<A: Allocator> LitByteStr<A> {
-    /// The literal that the bytes are written as, with no suffix, at this span, where want of memory is told too.
+    /// The literal that the bytes are written as, with no suffix, at this span.
+    ///
+    /// # Errors
+    ///
+    /// `Memory` at the span.
     pub fn new(alloc: A, value: &[u8], span: Span) -> Result<LitByteStr<A>, Error<A>>
         ensures text { IfOk result (λ l. IsWrittenForm ByteStr value.now (chars l.text)) }
         ensures span { IfOk result (λ l. l.span ≡ span) }
@@ -36,7 +53,18 @@ impl<A: Allocator> LitByteStr<A> {
         }
     }
 
-    /// The bytes that the literal stands for. Want of memory is told at the span.
+    /// The bytes that the literal stands for, as a copy.
+    ///
+    /// # Errors
+    ///
+    /// `Memory` at the literal's span.
+    ///
+    /// # Example
+    ///
+    /// ```
+    /// let value = literal.value(alloc)?;
+    /// LitByteStr::new(alloc, value.as_slice(), literal.span())
+    /// ```
     pub fn value<B: Allocator>(&self, alloc: B) -> Result<Vec<u8, B>, Error<B>>
         ensures value { IfOk result (λ v. HasContents ByteStr (chars self.now.text) (Bytes v.items)) }
         ensures memory { IfErr result (λ e. e ≡ memory_at self.now.span) }
@@ -48,8 +76,18 @@ impl<A: Allocator> LitByteStr<A> {
         }
     }
 
-    /// The bytes that the literal stands for, lent: `None` where they aren't what stands between the quotes, that is
-    /// where an escape or a line end of two characters stands there, and the string isn't raw.
+    /// The bytes that the literal stands for, lent: `None` where they aren't what stands between
+    /// the quotes, byte for byte, that is where an escape or a line end of two characters stands
+    /// there, and the string isn't raw. No memory is taken.
+    ///
+    /// # Example
+    ///
+    /// ```
+    /// match literal.value_ref() {
+    ///     Some(value) => LitByteStr::new(alloc, value, literal.span()),
+    ///     None => byte_string_of_value(alloc, literal),
+    /// }
+    /// ```
     pub fn value_ref(&self) -> Option<&[u8]>
         ensures some { IfSome result (λ v. HasContents ByteStr (chars self.now.text) (Bytes v.now)) }
         ensures plain { OnSome result (IsPlain ByteStr self.now.text) }

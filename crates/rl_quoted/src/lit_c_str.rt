@@ -1,3 +1,5 @@
+//! C string literals.
+
 ghost use Rattle.std.specs.Prelude.{◌≡◌, IfOk, IfErr, IfSome, OnSome, IfNone};
 ghost use Rattle.std.specs.Str.{chars};
 ghost use Rattle.rl_tokens.specs.declared.kind.Kind.TheVariants.{CStr};
@@ -11,7 +13,7 @@ use rl_grammar::{Kind, bytes_of_body};
 use rl_tokens::{CString, Error, Literal, Span};
 use std::alloc::{Allocator, Global};
 
-/// C strings.
+/// The kind of C strings, as a type: what tells `LitCStr` from its siblings.
 pub struct CStrKind;
 
 impl QuotedKind for CStrKind {
@@ -21,10 +23,21 @@ impl QuotedKind for CStrKind {
 }
 
 /// A C string literal: `c"text"`, `cr"text"`.
+///
+/// # Example
+///
+/// ```
+/// let value = literal.value(alloc)?;
+/// LitCStr::new(alloc, &value, literal.span())
+/// ```
 pub type LitCStr<A = Global> = Quoted<CStrKind, A>;
 
 impl<A: Allocator> LitCStr<A> {
-    /// The literal that the bytes are written as, with no suffix, at this span, where want of memory is told too.
+    /// The literal that the bytes are written as, with no suffix, at this span.
+    ///
+    /// # Errors
+    ///
+    /// `Memory` at the span.
     pub fn new<C: Allocator>(
         alloc: A,
         value: &CString<C>,
@@ -40,7 +53,19 @@ impl<A: Allocator> LitCStr<A> {
         }
     }
 
-    /// The bytes that the literal stands for, none of which is zero. Want of memory is told at the span.
+    /// The bytes that the literal stands for, as a copy: characters in UTF-8, and no zero at the
+    /// end.
+    ///
+    /// # Errors
+    ///
+    /// `Memory` at the literal's span.
+    ///
+    /// # Example
+    ///
+    /// ```
+    /// let value = literal.value(alloc)?;
+    /// LitCStr::new(alloc, &value, literal.span())
+    /// ```
     pub fn value<B: Allocator>(&self, alloc: B) -> Result<CString<B>, Error<B>>
         ensures value { IfOk result (λ v. HasContents CStr (chars self.now.text) (Bytes v)) }
         ensures memory { IfErr result (λ e. e ≡ memory_at self.now.span) }

@@ -1,3 +1,5 @@
+//! Character literals.
+
 ghost use Rattle.std.specs.Prelude.{◌≡◌, ◌∷◌, [], IfOk, IfErr};
 ghost use Rattle.std.specs.Str.{chars};
 ghost use Rattle.rl_tokens.specs.declared.kind.Kind.TheVariants.{Char};
@@ -10,7 +12,7 @@ use rl_grammar::{Kind, char_of_body};
 use rl_tokens::{Error, Literal, Span};
 use std::alloc::{Allocator, Global};
 
-/// Characters.
+/// The kind of characters, as a type: what tells `LitChar` from its siblings.
 pub struct CharKind;
 
 impl QuotedKind for CharKind {
@@ -20,10 +22,23 @@ impl QuotedKind for CharKind {
 }
 
 /// A character literal: `'a'`.
+///
+/// # Example
+///
+/// ```
+/// if literal.has_suffix() {
+///     return literal.clone(alloc);
+/// }
+/// LitChar::new(alloc, literal.value(), literal.span())
+/// ```
 pub type LitChar<A = Global> = Quoted<CharKind, A>;
 
 impl<A: Allocator> LitChar<A> {
-    /// The literal that the character is written as, with no suffix, at this span, where want of memory is told too.
+    /// The literal that the character is written as, with no suffix, at this span.
+    ///
+    /// # Errors
+    ///
+    /// `Memory` at the span.
     pub fn new(alloc: A, value: char, span: Span) -> Result<LitChar<A>, Error<A>>
         ensures text { IfOk result (λ l. IsWrittenForm Char (value ∷ []) (chars l.text)) }
         ensures span { IfOk result (λ l. l.span ≡ span) }
@@ -39,7 +54,14 @@ impl<A: Allocator> LitChar<A> {
         }
     }
 
-    /// The character that the literal stands for.
+    /// The character that the literal stands for. No memory is taken.
+    ///
+    /// # Example
+    ///
+    /// ```
+    /// let size = literal.value().len_utf8();
+    /// Ok(value_weight(Kind::Char, size, literal.suffix()))
+    /// ```
     pub fn value(&self) -> char
         ensures { HasContents Char (chars self.now.text) (Characters (result ∷ [])) }
     {

@@ -1,3 +1,5 @@
+//! String literals.
+
 ghost use Rattle.std.specs.Prelude.{◌≡◌, IfOk, IfErr, IfSome, OnSome, IfNone, string_bytes};
 ghost use Rattle.std.specs.Str.{chars};
 ghost use Rattle.rl_tokens.specs.declared.kind.Kind.TheVariants.{Str};
@@ -11,7 +13,7 @@ use rl_grammar::{Kind, str_of_body};
 use rl_tokens::{Error, Literal, Span};
 use std::alloc::{Allocator, Global};
 
-/// Strings.
+/// The kind of strings, as a type: what tells `LitStr` from its siblings.
 pub struct StrKind;
 
 impl QuotedKind for StrKind {
@@ -21,10 +23,34 @@ impl QuotedKind for StrKind {
 }
 
 /// A string literal: `"text"`, `r"text"`.
+///
+/// # Example
+///
+/// What it stands for, lent where it can be:
+///
+/// ```
+/// if let Some(value) = string.value_ref() {
+///     return Ok(holds_control(value));
+/// }
+/// let value = string.value(alloc)?;
+/// Ok(holds_control(value.as_str()))
+/// ```
 pub type LitStr<A = Global> = Quoted<StrKind, A>;
 
 impl<A: Allocator> LitStr<A> {
-    /// The literal that the text is written as, with no suffix, at this span, where want of memory is told too.
+    /// The literal that the text is written as, with no suffix, at this span: `"`, `\` and the
+    /// control characters of ASCII are written as escapes, all else as it stands.
+    ///
+    /// # Errors
+    ///
+    /// `Memory` at the span.
+    ///
+    /// # Example
+    ///
+    /// ```
+    /// let value = literal.value(alloc)?;
+    /// LitStr::new(alloc, value.as_str(), literal.span())
+    /// ```
     pub fn new(alloc: A, value: &str, span: Span) -> Result<LitStr<A>, Error<A>>
         ensures text { IfOk result (λ l. IsWrittenForm Str (chars value.now) (chars l.text)) }
         ensures span { IfOk result (λ l. l.span ≡ span) }
@@ -36,7 +62,19 @@ impl<A: Allocator> LitStr<A> {
         }
     }
 
-    /// The text that the literal stands for. Want of memory is told at the span.
+    /// The text that the literal stands for, as a copy: unless it is raw, escapes are decoded and
+    /// CR LF is LF. The suffix is no part of it.
+    ///
+    /// # Errors
+    ///
+    /// `Memory` at the literal's span.
+    ///
+    /// # Example
+    ///
+    /// ```
+    /// let value = string.value(alloc)?;
+    /// Ok(holds_control(value.as_str()))
+    /// ```
     pub fn value<B: Allocator>(&self, alloc: B) -> Result<String<B>, Error<B>>
         ensures value { IfOk result (λ v. HasContents Str (chars self.now.text) (Characters (chars (string_bytes v)))) }
         ensures memory { IfErr result (λ e. e ≡ memory_at self.now.span) }
@@ -48,8 +86,18 @@ impl<A: Allocator> LitStr<A> {
         }
     }
 
-    /// The text that the literal stands for, lent: `None` where it isn't what stands between the quotes, byte for byte,
-    /// that is where an escape or a line end of two characters stands there, and the string isn't raw.
+    /// The text that the literal stands for, lent: `None` where it isn't what stands between the
+    /// quotes, byte for byte, that is where an escape or a line end of two characters stands there,
+    /// and the string isn't raw. No memory is taken.
+    ///
+    /// # Example
+    ///
+    /// ```
+    /// match literal.value_ref() {
+    ///     Some(value) => LitStr::new(alloc, value, literal.span()),
+    ///     None => string_of_value(alloc, literal),
+    /// }
+    /// ```
     pub fn value_ref(&self) -> Option<&str>
         ensures some { IfSome result (λ v. HasContents Str (chars self.now.text) (Characters (chars v.now))) }
         ensures plain { OnSome result (IsPlain Str self.now.text) }

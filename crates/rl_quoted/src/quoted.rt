@@ -37,7 +37,8 @@ fn holds_some(text: &str) -> bool
     !text.is_empty()
 }
 
-/// A kind of quoted literals, as a type.
+/// A kind of quoted literals, as a type. It has five implementations; callers need none of their
+/// own.
 pub trait QuotedKind {
     ghost KIND: { Kind };
 
@@ -66,7 +67,8 @@ impl<K: QuotedKind, A: Allocator> Model for Quoted<K, A> {
 }
 
 impl<K: QuotedKind, A: Allocator> Quoted<K, A> {
-    /// The literal of this token, whose text reads as the kind.
+    /// The literal of this token, whose text has to read as the kind, as `shape` of `rl_grammar`
+    /// tells. `Lit::new` of `rust_literals` takes any token.
     pub fn of_token(token: Literal<A>) -> Quoted<K, A>
         requires { ReadsAs K.KIND (chars token.text) }
         ensures { result ≡ token }
@@ -123,7 +125,7 @@ impl<K: QuotedKind, A: Allocator> Quoted<K, A> {
         &self.token.text()[body.at..body.end]
     }
 
-    /// What stands behind the closing quote.
+    /// What stands behind the closing quote, lent: empty, or any text.
     pub fn suffix(&self) -> &str
         ensures { HasSuffix K.KIND (chars self.now.text) (chars result.now) }
     {
@@ -138,28 +140,32 @@ impl<K: QuotedKind, A: Allocator> Quoted<K, A> {
         holds_some(self.suffix())
     }
 
-    /// The token's text.
+    /// The token's text, from its first quote or letter to its suffix.
     pub fn text(&self) -> &str
         ensures { result.now ≡ self.now.text }
     {
         self.token.text()
     }
 
-    /// Where the literal stands.
+    /// Where the literal stands: its file, and its bytes in it.
     pub fn span(&self) -> Span
         ensures { result ≡ self.now.span }
     {
         self.token.span()
     }
 
-    /// Puts the literal elsewhere.
+    /// Puts the literal elsewhere: its span becomes this one, and its text stays.
     pub fn set_span(&mut self, span: Span)
         ensures { self.new ≡ record self.old { span = span } }
     {
         self.token.set_span(span);
     }
 
-    /// The token, with text and span as held. Want of memory is told at the span.
+    /// The token, with text and span as held.
+    ///
+    /// # Errors
+    ///
+    /// `Memory` at the literal's span.
     pub fn token<B: Allocator>(&self, alloc: B) -> Result<Literal<B>, Error<B>>
         ensures ok { IfOk result (λ l. l ≡ self.now) }
         ensures memory { IfErr result (λ e. e ≡ memory_at self.now.span) }
@@ -167,7 +173,11 @@ impl<K: QuotedKind, A: Allocator> Quoted<K, A> {
         Literal::from_text(alloc, self.token.text(), self.token.span())
     }
 
-    /// The literal once more, with its memory from this allocator. Want of memory is told at the span.
+    /// The literal once more, with its memory from this allocator.
+    ///
+    /// # Errors
+    ///
+    /// `Memory` at the literal's span.
     pub fn clone<B: Allocator>(&self, alloc: B) -> Result<Quoted<K, B>, Error<B>>
         ensures ok { IfOk result (λ l. l ≡ self.now) }
         ensures memory { IfErr result (λ e. e ≡ memory_at self.now.span) }

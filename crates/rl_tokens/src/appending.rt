@@ -11,8 +11,11 @@ use crate::literal::Literal;
 use crate::token::{TokenStream, TokenTree};
 use std::alloc::Allocator;
 
-/// Puts a copy of the literal token last. Where memory is wanted and refused, the stream stays, and that is told at the
-/// token's span.
+/// Puts a copy of the literal token last.
+///
+/// # Errors
+///
+/// `Memory` at the token's span. The stream stays.
 pub fn append_literal<A: Allocator, B: Allocator>(
     alloc: B,
     token: &Literal<A>,
@@ -30,8 +33,11 @@ pub fn append_literal<A: Allocator, B: Allocator>(
     }
 }
 
-/// Puts the identifier last. Where memory is wanted and refused, the stream stays, and that is told at the identifier's
-/// span.
+/// Puts the identifier last.
+///
+/// # Errors
+///
+/// `Memory` at the identifier's span. The stream stays.
 pub fn append_ident<A: Allocator>(
     ident: Ident<A>,
     tokens: &mut TokenStream<A>,

@@ -10,8 +10,15 @@ use crate::span::Span;
 use crate::token::{Group, TokenTree};
 use std::alloc::{Allocator, Global};
 
-/// Trees that are lent, and a scope: the span at which their end is told. Parsers take trees from the front; the
-/// trees themselves stay with their owner.
+/// Trees that are lent, and a scope: the span at which their end is told. Parsers take trees from
+/// the front; the trees themselves stay with their owner, who may lend them as often as is wanted.
+///
+/// # Example
+///
+/// ```
+/// let end = Span::new(0, text.len(), text.len());
+/// let mut input = ParseBuffer::new(stream.trees(), end);
+/// ```
 #[derive(Drop)]
 pub struct ParseBuffer<'a, A: Allocator = Global> {
     trees: &'a [TokenTree<A>],
@@ -47,7 +54,8 @@ impl<'a, A: Allocator> ParseBuffer<'a, A> {
     };
     ghost use Rattle.rl_tokens.specs.Puncts.{is_punct, mark_word};
 
-    /// The buffer of these trees.
+    /// The buffer of these trees. The scope is best where they end: the text's end, or a group's
+    /// closer.
     pub fn new(trees: &'a [TokenTree<A>], scope: Span) -> ParseBuffer<'a, A>
         ensures trees { trees_in result ≡ map tree_view trees.now }
         ensures scope { scope_of result ≡ scope }
@@ -62,7 +70,7 @@ impl<'a, A: Allocator> ParseBuffer<'a, A> {
         self.trees.is_empty()
     }
 
-    /// Where the next tree stands; at the end, the scope.
+    /// Where the next tree stands, a group whole; at the end, the scope.
     pub fn span(&self) -> Span
         ensures { result ≡ first_span (trees_in self.now) (scope_of self.now) }
     {
@@ -72,7 +80,8 @@ impl<'a, A: Allocator> ParseBuffer<'a, A> {
         }
     }
 
-    /// A buffer of the same trees and scope.
+    /// A buffer of the same trees and scope, to look ahead by: what is taken from it stays in this
+    /// one. No tree is copied.
     pub fn fork(&self) -> ParseBuffer<'a, A>
         ensures trees { trees_in result ≡ trees_in self.now }
         ensures scope { scope_of result ≡ scope_of self.now }
@@ -83,14 +92,15 @@ impl<'a, A: Allocator> ParseBuffer<'a, A> {
         }
     }
 
-    /// The trees that are left.
+    /// The trees that are left, in their order, lent.
     pub fn rest(&self) -> &'a [TokenTree<A>]
         ensures { map tree_view result.now ≡ trees_in self.now }
     {
         &self.trees[..]
     }
 
-    /// Takes the next tree where it is a literal; else the buffer stays.
+    /// Takes the next tree where it is a literal token, and lends it; else the buffer stays. `true`
+    /// and `-1` are no literal tokens: the parser of `Lit` takes them.
     pub fn literal(&mut self) -> Option<&'a Literal<A>>
         ensures taken { IfSome result
             (λ x. trees_in self.old ≡ LiteralTree x.now ∷ trees_in self.new) }
@@ -110,7 +120,7 @@ impl<'a, A: Allocator> ParseBuffer<'a, A> {
         }
     }
 
-    /// Takes the next tree where it is an identifier; else the buffer stays.
+    /// Takes the next tree where it is an identifier, and lends it; else the buffer stays.
     pub fn ident(&mut self) -> Option<&'a Ident<A>>
         ensures taken { IfSome result
             (λ x. trees_in self.old ≡ IdentTree x.now ∷ trees_in self.new) }
@@ -130,7 +140,8 @@ impl<'a, A: Allocator> ParseBuffer<'a, A> {
         }
     }
 
-    /// Takes the next tree where it is a character of punctuation; else the buffer stays.
+    /// Takes the next tree where it is a character of punctuation, whichever, and lends it; else
+    /// the buffer stays.
     pub fn punct(&mut self) -> Option<&'a Punct>
         ensures taken { IfSome result
             (λ x. trees_in self.old ≡ PunctTree x.now ∷ trees_in self.new) }
@@ -203,7 +214,8 @@ impl<'a, A: Allocator> ParseBuffer<'a, A> {
         self.punct()
     }
 
-    /// Takes the next tree where it is a group; else the buffer stays.
+    /// Takes the next tree where it is a group, and lends it; else the buffer stays.
+    /// [`Group::inside`] is a buffer of its trees.
     pub fn group(&mut self) -> Option<&'a Group<A>>
         ensures taken { IfSome result
             (λ x. trees_in self.old ≡ GroupTree (delimiter_of x.now) (inside_of (stream_view (stream_of x.now))) (group_span x.now) ∷ trees_in self.new) }
@@ -223,8 +235,8 @@ impl<'a, A: Allocator> ParseBuffer<'a, A> {
         }
     }
 
-    /// The refusal of what stands next, where this word was expected: `Expected` at the next tree's span, at the end
-    /// `EndOfInput` at the scope.
+    /// The refusal of what stands next, where this word was expected: `Expected` at the next tree's
+    /// span, at the end `EndOfInput` at the scope. It takes no memory.
     pub fn error(&self, word: &'static str) -> Error<A>
         ensures { IsRefusal (trees_in self.now) (scope_of self.now) word.now result }
     {

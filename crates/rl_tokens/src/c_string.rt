@@ -1,3 +1,5 @@
+//! C strings: bytes without zero.
+
 ghost use Rattle.std.specs.Prelude.{◌≡◌, ◌==◌, IsTrue, IfOk, IfErr, Some, position};
 ghost use Rattle.std.proofs.Common.{rules};
 ghost use Rattle.std.specs.Cmp.{partial_equiv_from_equiv, and_equiv, on_equiv};
@@ -10,7 +12,16 @@ use std::alloc::{Allocator, Global};
 use std::fmt;
 use std::marker::Model;
 
-/// The bytes of a C string: any but zero.
+/// The bytes of a C string: any but zero, and none added at the end. Equal where the bytes are.
+///
+/// # Example
+///
+/// ```
+/// match CString::new(bytes.to_vec(alloc)?) {
+///     Ok(held) => held_c_string(alloc, &held, out),
+///     Err(refused) => refused_c_string(refused, out),
+/// }
+/// ```
 #[derive(Drop)]
 pub struct CString<A: Allocator = Global> {
     bytes: Vec<u8, A>,
@@ -28,6 +39,14 @@ impl<A: Allocator> Model for CString<A> {
 }
 
 /// Bytes that are no C string, since a zero stands among them.
+///
+/// # Example
+///
+/// ```
+/// show_word(&refused.nul_position(), out)?;
+/// word("of", out)?;
+/// debug_line(&refused.into_vec().as_slice(), out)
+/// ```
 #[derive(Drop)]
 pub struct NulError<A: Allocator = Global> {
     bytes: Vec<u8, A>,
@@ -46,7 +65,12 @@ impl<A: Allocator> Model for NulError<A> {
 }
 
 impl<A: Allocator> CString<A> {
-    /// The C string of these bytes. Where a zero stands among them they are handed back.
+    /// The C string of these bytes.
+    ///
+    /// # Errors
+    ///
+    /// Where a zero stands among them: the [`NulError`] tells the place of the first, and hands the
+    /// bytes back.
     pub fn new(bytes: Vec<u8, A>) -> Result<CString<A>, NulError<A>>
         ensures ok { IfOk result (λ c. c ≡ bytes.items) }
         ensures none_is_zero { IfOk result (λ c. IsTrue (has_no_zero bytes.items)) }
@@ -59,7 +83,7 @@ impl<A: Allocator> CString<A> {
         }
     }
 
-    /// The bytes, none of which is zero.
+    /// The bytes, none of which is zero, lent.
     pub fn as_bytes(&self) -> &[u8]
         ensures bytes { result.now ≡ self.now }
         ensures none_is_zero { IsTrue (has_no_zero result.now) }
@@ -76,7 +100,7 @@ fn first_zero(bytes: &[u8]) -> Option<usize>
 }
 
 impl<A: Allocator> NulError<A> {
-    /// The place of the first zero.
+    /// The place of the first zero, counted in bytes from 0.
     pub fn nul_position(&self) -> usize
         ensures place { result ≡ self.now.place }
         ensures first { position is_zero self.now.bytes ≡ Some result }
@@ -84,7 +108,7 @@ impl<A: Allocator> NulError<A> {
         self.place
     }
 
-    /// The bytes as they were given.
+    /// The bytes as they were given, handed back.
     pub fn into_vec(self) -> Vec<u8, A>
         ensures { result.items ≡ self.bytes }
     {

@@ -11,7 +11,14 @@ use crate::lexeme::{Form, first_lexeme};
 use crate::whitespace::skip;
 use std::marker::Model;
 
-/// A token of a text, lent from it.
+/// A token of a text, lent from it: what it is to a parser, and where it stands.
+///
+/// # Example
+///
+/// ```
+/// Some(token) => tell_lent(token.text, token.lo, token.hi, out)?,
+/// None => break,
+/// ```
 #[derive(Clone, Copy)]
 pub struct Lexeme<'t> {
     /// What it is to a parser.
@@ -24,18 +31,19 @@ pub struct Lexeme<'t> {
     pub hi: usize,
 }
 
-/// A text that is cut into tokens as they are asked for. White space and plain comments between them are dropped. No
-/// memory is taken, and a delimiter is a token like any other: whether groups are closed is for the caller, or [`lex`].
+/// A text that is cut into tokens as they are asked for. White space and plain comments between
+/// them are dropped. No memory is taken, and a delimiter is a token like any other: whether groups
+/// are closed is for the caller, or [`lex`].
+///
+/// # Example
 ///
 /// ```
-/// let mut tokens = Tokens::new("x = -0xF; // less sixteen, and one more");
-/// let mut literals = 0;
-/// for token in &mut tokens {
-///     if matches!(token.form, Form::Literal) {
-///         literals += 1; // at token.lo..token.hi, as token.text
-///     }
+/// let mut tokens = Tokens::new(text);
+///
+/// match tokens.next() {
+///     Some(token) => tell_lent(token.text, token.lo, token.hi, out)?,
+///     None => break,
 /// }
-/// assert!(literals == 1 && tokens.fault().is_none());
 /// ```
 ///
 /// [`lex`]: crate::lex
@@ -59,7 +67,7 @@ impl<'t> Model for Tokens<'t> {
 impl<'t> Tokens<'t> {
     ghost use Rattle.rl_tokens.specs.Cursors.{IsCursorState, TakesNext, IsFirstFault};
 
-    /// The tokens of a text, from its front.
+    /// The tokens of a text, from its front. Nothing is cut yet but white space and comments.
     pub fn new(text: &'t str) -> Tokens<'t>
         ensures text { result.text ≡ text.now }
         ensures skipped { Skipped (chars text.now) (chars result.rest) }
@@ -88,15 +96,17 @@ impl<'t> Tokens<'t> {
         Some(Lexeme { form, text, lo, hi })
     }
 
-    /// Why no token begins what is left: the lexer's fault, and the byte where it stands in the whole text. `None` at the
-    /// end of the text, and where a token begins what is left. Groups aren't counted here, so the kind is the first six of
-    /// [`LexKind`](crate::LexKind)'s alone.
+    /// Why no token begins what is left: the lexer's fault, and the byte where it stands in the
+    /// whole text. `None` at the end of the text, and where a token begins what is left. Groups
+    /// aren't counted here, so the kind is the first six of [`LexKind`](crate::LexKind)'s alone.
+    ///
+    /// # Example
     ///
     /// ```
-    /// let mut tokens = Tokens::new("1 /* open");
-    /// assert!(tokens.fault().is_none());
-    /// assert!(tokens.next().is_some() && tokens.next().is_none());
-    /// assert_eq!(tokens.fault(), Some(LexError { kind: LexKind::UnclosedComment, at: 2 }));
+    /// match tokens.fault() {
+    ///     Some(fault) => Err(fault),
+    ///     None => nest.finish(),
+    /// }
     /// ```
     pub fn fault(&self) -> Option<LexError>
         // It is a fault of what is left, whatever groups are open, and stands where that begins.
@@ -115,7 +125,8 @@ impl<'t> Tokens<'t> {
         Some(LexError::new(kind, self.text.len() - self.rest.len()))
     }
 
-    /// What is left of the text, behind white space and comments.
+    /// What is left of the text, behind white space and comments: empty at its end, or where a
+    /// token or a fault begins.
     pub fn rest(&self) -> &'t str
         ensures { result.now ≡ self.now.rest }
     {

@@ -8,7 +8,17 @@ use crate::span::Span;
 use std::alloc::{AllocError, Allocator, Global};
 use std::fmt;
 
-/// What was refused, and where.
+/// What was refused, and where. `Display` prints the message of the kind; the span is for who shows
+/// the text.
+///
+/// # Example
+///
+/// A refusal's bytes and its message:
+///
+/// ```
+/// place(error.span, out)?;
+/// show_line(error, out)
+/// ```
 #[derive(Drop)]
 #[derive_where(PartialEq, Eq, Debug)]
 pub struct Error<A: Allocator = Global> {
@@ -18,7 +28,17 @@ pub struct Error<A: Allocator = Global> {
     pub kind: ErrorKind<A>,
 }
 
-/// What can be refused.
+/// What can be refused. Match the kind to act on it: the words are for people.
+///
+/// # Example
+///
+/// ```
+/// match error.kind {
+///     ErrorKind::NotInteger => String::from_str(alloc, "None\n"),
+///     ErrorKind::TooLarge => String::from_str(alloc, "TooLarge\n"),
+///     _ => Err(AllocError),
+/// }
+/// ```
 #[derive(Drop)]
 #[derive_where(PartialEq, Eq, Debug)]
 pub enum ErrorKind<A: Allocator = Global> {
@@ -49,14 +69,14 @@ pub enum ErrorKind<A: Allocator = Global> {
 impl<A: Allocator> Error<A> {
     ghost use Rattle.rl_tokens.specs.Errors.{memory_at, lex_refusal};
 
-    /// The refusal of this kind, told at a span.
+    /// The refusal of this kind, told at this span.
     pub fn new(span: Span, kind: ErrorKind<A>) -> Error<A>
         ensures { result ≡ record { span = span; kind = kind } }
     {
         Error { span, kind }
     }
 
-    /// Want of memory, told at a span.
+    /// Want of memory, told at this span.
     pub fn memory(span: Span) -> Error<A>
         ensures { result ≡ memory_at span }
     {

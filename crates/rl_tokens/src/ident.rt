@@ -14,8 +14,16 @@ use crate::text::split_char;
 use std::alloc::{Allocator, Global};
 use std::marker::Model;
 
-/// Whether the text is an identifier: its first character is `_` or has Unicode's property XID_Start, and all others
-/// have XID_Continue. The empty text is none, and `_` alone is one.
+/// Whether the text is an identifier: its first character is `_` or has Unicode's property
+/// XID_Start, and all others have XID_Continue. The empty text is none, and `_` alone is one.
+///
+/// # Example
+///
+/// ```
+/// if !xid_ok(text) {
+///     return line("no word", out);
+/// }
+/// ```
 pub fn xid_ok(text: &str) -> bool
     ensures { result ≡ xid_ok (chars text.now) }
 {
@@ -32,7 +40,16 @@ fn all_continue(text: &str) -> bool
     text.chars().all(|c| is_xid_continue(c))
 }
 
-/// An identifier token, and where it stands.
+/// An identifier token, `true` and `false` among them, and where it stands.
+///
+/// # Example
+///
+/// ```
+/// let Some(name) = input.ident() else {
+///     return Err(input.error("identifier"));
+/// };
+/// let name = name.clone(alloc)?;
+/// ```
 #[derive(Drop)]
 pub struct Ident<A: Allocator = Global> {
     text: String<A>,
@@ -53,7 +70,11 @@ impl<A: Allocator> Model for Ident<A> {
 }
 
 impl<A: Allocator> Ident<A> {
-    /// The token with this text, which is an identifier, and this span. Want of memory is told at the span.
+    /// The token with this text, which has to be an identifier ([`xid_ok`] tells), and this span.
+    ///
+    /// # Errors
+    ///
+    /// `Memory` at the span.
     pub fn new(alloc: A, text: &str, span: Span) -> Result<Ident<A>, Error<A>>
         requires { IsTrue (xid_ok (chars text.now)) }
         ensures ok { IfOk result (λ i. i ≡ record { text = text.now; span = span }) }
@@ -65,7 +86,7 @@ impl<A: Allocator> Ident<A> {
         }
     }
 
-    /// The text.
+    /// The text, an identifier ([`xid_ok`]), lent.
     pub fn text(&self) -> &str
         ensures text { result.now ≡ self.now.text }
         ensures identifier { IsTrue (xid_ok (chars result.now)) }
@@ -73,7 +94,7 @@ impl<A: Allocator> Ident<A> {
         self.text.as_str()
     }
 
-    /// Where the token stands.
+    /// Where the token stands: its file, and its bytes in it.
     pub fn span(&self) -> Span
         ensures { result ≡ self.now.span }
     {
@@ -92,7 +113,7 @@ impl<A: Allocator> Ident<A> {
         Ident::new(alloc, self.text(), self.span)
     }
 
-    /// Puts the token elsewhere.
+    /// Puts the token elsewhere: its span becomes this one, and its text stays.
     pub fn set_span(&mut self, span: Span)
         ensures { self.new ≡ record self.old { span = span } }
     {

@@ -1,7 +1,19 @@
+//! Values that a refused call hands back.
+
 use crate::error::Error;
 use std::alloc::{Allocator, Global};
 
-/// A value that a refused call hands back as it was, and why the call was refused.
+/// A value that a refused call hands back as it was, and why the call was refused. `?` turns it
+/// into its [`Error`], and drops the value.
+///
+/// # Example
+///
+/// ```
+/// word(kept.value.text(), out)?;
+/// show_word(&At(kept.value.span()), out)?;
+/// tell_error(&kept.error, out)?;
+/// Ok(kept.value)
+/// ```
 #[derive(Drop)]
 #[derive_where(Debug; T)]
 pub struct Kept<T, A: Allocator = Global> {

@@ -4,7 +4,19 @@ ghost use Rattle.std.specs.Prelude.{◌≡◌};
 ghost use Rattle.rl_tokens.specs.Quoted.{holds_characters, is_string};
 ghost use Rattle.rl_tokens.specs.Words.{kind_name, kind_shown, kind_word};
 
-/// What a literal is.
+/// What a literal is: its kind, without its text. A refusal names it by [`word`](Kind::word).
+///
+/// # Example
+///
+/// The decoder of each kind of a text:
+///
+/// ```
+/// Kind::Str => tell_text(str_of(alloc, text), out),
+/// Kind::ByteStr | Kind::CStr => tell_bytes(bytes_of(alloc, text), out),
+/// Kind::Byte => show_line(&byte_of(text), out),
+/// Kind::Char => show_line(&(char_of(text) as u32), out),
+/// Kind::Int | Kind::Float => tell_digits(digits_of(alloc, parts.kind, text), out),
+/// ```
 #[derive(Clone, Copy, PartialEq, Eq, Debug)]
 pub enum Kind {
     /// `"text"` and `r"text"`.
@@ -26,7 +38,7 @@ pub enum Kind {
 }
 
 impl Kind {
-    /// Whether it is one of the three kinds of strings.
+    /// Whether it is one of the three kinds of strings: `Str`, `ByteStr`, `CStr`.
     pub fn is_string(self) -> bool
         ensures { result ≡ is_string self }
     {
@@ -40,7 +52,7 @@ impl Kind {
         matches!(self, Kind::Str | Kind::Char)
     }
 
-    /// What refusals call a literal of the kind.
+    /// What refusals call a literal of the kind, as `string literal`.
     pub fn word(self) -> &'static str
         ensures { result.now ≡ kind_word self }
     {
@@ -56,7 +68,7 @@ impl Kind {
         }
     }
 
-    /// What the `display` of its tokens calls it.
+    /// What the `display` of its tokens calls it: its [`word`](Kind::word), but `C-string literal`.
     pub fn shown(self) -> &'static str
         ensures { result.now ≡ kind_shown self }
     {
@@ -66,7 +78,7 @@ impl Kind {
         }
     }
 
-    /// What its struct is called.
+    /// The name of its struct, as `LitStr`, which `Debug` prints.
     pub fn struct_name(self) -> &'static str
         ensures { result.now ≡ kind_name self }
     {

@@ -1,9 +1,20 @@
+//! What the lexer refuses.
+
 ghost use Rattle.std.specs.Prelude.{◌≡◌, Some};
 ghost use Rattle.rl_tokens.specs.LexErrors.{lex_message};
 
 use std::fmt;
 
 /// Why a text was not cut into trees, and where.
+///
+/// # Example
+///
+/// ```
+/// match lex(alloc, text, 7) {
+///     Ok(stream) => tell_all(stream.trees(), out)?,
+///     Err(fault) => tell_fault(fault.kind, fault.at, out)?,
+/// }
+/// ```
 #[derive(Clone, Copy, PartialEq, Eq, Debug)]
 pub struct LexError {
     /// What the fault is.
@@ -12,7 +23,17 @@ pub struct LexError {
     pub at: usize,
 }
 
-/// What the lexer refuses, each told at the byte that its line names.
+/// What the lexer refuses, each told at the byte that its line names. docs/REFUSALS.md has a text
+/// for each, and what to do.
+///
+/// # Example
+///
+/// ```
+/// Err(fault) => match fault.kind {
+///     LexKind::Memory => Err(AllocError),
+///     _ => Ok(0),
+/// },
+/// ```
 #[derive(Clone, Copy, PartialEq, Eq, Debug)]
 pub enum LexKind {
     /// A doc comment, closed or not: its first slash.

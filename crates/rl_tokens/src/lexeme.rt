@@ -21,7 +21,8 @@ pub(crate) use quoted::begins_hashed_quote;
 use quoted::{after_character, after_quoted, after_raw_literal};
 pub(crate) use rows::{RunClass, after_row};
 
-/// What a token is to a parser.
+/// What a token is to a parser: what [`Tokens`](crate::Tokens) cuts off, told by its first
+/// characters. Whether a literal reads isn't judged.
 #[derive(Clone, Copy)]
 pub enum Form {
     /// A literal of any kind.

@@ -14,11 +14,28 @@ use crate::nest::TreeBuilder;
 use crate::token::TokenStream;
 use std::alloc::Allocator;
 
-/// Cuts a text into token trees. Each span is the file and the bytes of its text; a group's runs from its opener to
-/// its closer.
+/// Cuts a text into token trees. Each span is the file and the bytes of its text; a group's runs
+/// from its opener to its closer.
 ///
-/// White space and plain comments are dropped. The text is read from its front, and the first fault is told: where
-/// it stands, as [`LexKind`] says. Escapes aren't judged, and no more than 128 groups may be open at once.
+/// White space and plain comments are dropped. Escapes aren't judged: what a literal token reads as
+/// is asked of it later.
+///
+/// # Errors
+///
+/// The text is read from its front, and the first fault is told, at the byte that [`LexKind`]
+/// names; no more than 128 groups may be open at once. `Memory` comes at the first byte of the
+/// token for which it was refused.
+///
+/// # Example
+///
+/// ```
+/// match lex(alloc, text, 7) {
+///     Ok(stream) => tell_all(stream.trees(), out)?,
+///     Err(fault) => tell_fault(fault.kind, fault.at, out)?,
+/// }
+/// ```
+///
+/// [`LexKind`]: crate::LexKind
 pub fn lex<A: Allocator + Copy>(alloc: A, text: &str, file: u32) -> Result<TokenStream<A>, LexError>
     // The text is cut into these trees, and nothing is left of it.
     ensures trees { IfOk result (λ trees. Lexes (chars text.now) file (stream_view trees)) }

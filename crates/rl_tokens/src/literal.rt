@@ -1,3 +1,5 @@
+//! Literal tokens.
+
 ghost use Rattle.std.specs.Prelude.{◌≡◌, ◌∷◌, IfOk, IfErr, Some, string_bytes};
 ghost use Rattle.rl_tokens.specs.Errors.{memory_at, nowhere};
 
@@ -7,7 +9,16 @@ use std::alloc::{AllocError, Allocator, Global};
 use std::fmt;
 use std::marker::Model;
 
-/// A literal token: any text, and where it stands. Whether the text reads as a literal is told by `rl_grammar`.
+/// A literal token: any text, and where it stands. Whether the text reads as a literal is told by
+/// `rl_grammar`, and what it reads as by `Lit::new` of `rust_literals`.
+///
+/// # Example
+///
+/// ```
+/// let Ok(token) = Literal::from_text(alloc, text, span) else {
+///     return Err(AllocError);
+/// };
+/// ```
 #[derive(Drop)]
 pub struct Literal<A: Allocator = Global> {
     text: String<A>,
@@ -24,7 +35,11 @@ impl<A: Allocator> Model for Literal<A> {
 }
 
 impl<A: Allocator> Literal<A> {
-    /// The token with this text and span. Want of memory is told at the span.
+    /// The token with this text and span. Nothing is asked of the text.
+    ///
+    /// # Errors
+    ///
+    /// `Memory` at the span.
     pub fn from_text(alloc: A, text: &str, span: Span) -> Result<Literal<A>, Error<A>>
         ensures ok { IfOk result (λ l. l ≡ record { text = text.now; span = span }) }
         ensures memory { IfErr result (λ e. e ≡ memory_at span) }
@@ -35,7 +50,11 @@ impl<A: Allocator> Literal<A> {
         }
     }
 
-    /// The token of a minus and this text, with this span. Want of memory is told at the span.
+    /// The token of a minus and this text, with this span.
+    ///
+    /// # Errors
+    ///
+    /// `Memory` at the span.
     pub fn negative(alloc: A, text: &str, span: Span) -> Result<Literal<A>, Error<A>>
         ensures ok { IfOk result (λ l. l ≡ record { text = 45 ∷ text.now; span = span }) }
         ensures memory { IfErr result (λ e. e ≡ memory_at span) }
@@ -56,21 +75,25 @@ impl<A: Allocator> Literal<A> {
         }
     }
 
-    /// The text.
+    /// The text as it was given, quotes and suffix included.
     pub fn text(&self) -> &str
         ensures { result.now ≡ self.now.text }
     {
         self.text.as_str()
     }
 
-    /// Where the token stands.
+    /// Where the token stands: its file, and its bytes in it.
     pub fn span(&self) -> Span
         ensures { result ≡ self.now.span }
     {
         self.span
     }
 
-    /// The token once more, with its memory from this allocator. Want of memory is told at its span.
+    /// The token once more, with its memory from this allocator.
+    ///
+    /// # Errors
+    ///
+    /// `Memory` at the token's span.
     pub fn clone<B: Allocator>(&self, alloc: B) -> Result<Literal<B>, Error<B>>
         ensures ok { IfOk result (λ l. l ≡ self.now) }
         ensures memory { IfErr result (λ e. e ≡ memory_at self.now.span) }
@@ -78,7 +101,11 @@ impl<A: Allocator> Literal<A> {
         Literal::from_text(alloc, self.text(), self.span)
     }
 
-    /// The token with a minus before its text, at this span. Want of memory is told there.
+    /// The token with a minus before its text, at this span.
+    ///
+    /// # Errors
+    ///
+    /// `Memory` at the span.
     pub fn behind_minus<B: Allocator>(&self, alloc: B, span: Span) -> Result<Literal<B>, Error<B>>
         ensures ok { IfOk result (λ l. l ≡ record { text = 45 ∷ self.now.text; span = span }) }
         ensures memory { IfErr result (λ e. e ≡ memory_at span) }
@@ -86,7 +113,7 @@ impl<A: Allocator> Literal<A> {
         Literal::negative(alloc, self.text(), span)
     }
 
-    /// Puts the token elsewhere.
+    /// Puts the token elsewhere: its span becomes this one, and its text stays.
     pub fn set_span(&mut self, span: Span)
         ensures { self.new ≡ record self.old { span = span } }
     {

@@ -6,7 +6,16 @@ ghost use Rattle.rl_tokens.specs.Puncts.{is_punct, mark_word};
 use crate::span::Span;
 use std::marker::Model;
 
-/// One character of punctuation, and where it stands.
+/// One character of punctuation, and where it stands. `==` is two of them.
+///
+/// # Example
+///
+/// ```
+/// match input.punct() {
+///     Some(mark) => Ok(Sign { ch: mark.as_char() }),
+///     None => Err(input.error("sign")),
+/// }
+/// ```
 #[derive(Drop)]
 pub struct Punct {
     ch: char,
@@ -62,7 +71,7 @@ impl Punct {
         )
     }
 
-    /// The character.
+    /// The character, of which [`Punct::is_char`] is true.
     pub fn as_char(&self) -> char
         ensures ch { result ≡ self.now.ch }
         ensures punct { IsTrue (is_punct result) }
@@ -70,14 +79,14 @@ impl Punct {
         self.ch
     }
 
-    /// Where the token stands.
+    /// Where the token stands: its file, and its byte in it.
     pub fn span(&self) -> Span
         ensures { result ≡ self.now.span }
     {
         self.span
     }
 
-    /// Puts the token elsewhere.
+    /// Puts the token elsewhere: its span becomes this one, and its character stays.
     pub fn set_span(&mut self, span: Span)
         ensures { self.new ≡ record self.old { span = span } }
     {

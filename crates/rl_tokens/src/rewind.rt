@@ -12,7 +12,7 @@ use std::alloc::Allocator;
 pub trait Rewind: Sized {
     ghost same: { Self → Self → Type 0 };
 
-    /// The value once more, where it stands now.
+    /// The value once more, where it stands now: what a refusal is put back to.
     fn here(&self) -> Self
         ensures { same self.now result };
 }
@@ -36,12 +36,18 @@ fn ran<B, T, E, F: FnOnce(&mut B) -> Result<T, E>>(input: &mut B, parser: F) -> 
     parser(input)
 }
 
-/// Runs a parser of one or more steps, as `attempt(input, |input| parse_pair(alloc, input))`. Where it refuses, the buffer
-/// is put back to where it stood.
+/// Runs a parser of one or more steps. Where it refuses, the buffer is put back to where it stood.
 ///
 /// # Errors
 ///
 /// The parser's own. The buffer stays.
+///
+/// # Example
+///
+/// ```
+/// let attribute = attempt(input, |input| parse_attribute(alloc, input))?;
+/// Ok(attribute)
+/// ```
 pub fn attempt<B: Rewind + Drop, T, E, F: FnOnce(&mut B) -> Result<T, E>>(
     input: &mut B,
     parser: F,

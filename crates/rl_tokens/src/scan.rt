@@ -10,17 +10,22 @@ ghost use Rattle.rl_tokens.specs.Scanning.{is_one_of, is_other, AreAscii, IsNext
 use crate::text::split_ascii;
 use std::simd::prelude::*;
 
-/// The bytes that are looked for; where they are fewer than four, one of them stands twice.
+/// The bytes that are looked for; where they are fewer than four, one of them stands twice. In a
+/// text they have to be of ASCII.
 #[derive(Clone, Copy)]
 pub struct Marks {
+    /// A byte that is looked for.
     pub first: u8,
+    /// A byte that is looked for.
     pub second: u8,
+    /// A byte that is looked for.
     pub third: u8,
+    /// A byte that is looked for.
     pub fourth: u8,
 }
 
 impl Marks {
-    /// Two marks.
+    /// Two bytes that are looked for.
     #[inline(always)]
     pub fn two(first: u8, second: u8) -> Marks
         ensures { result ≡ record { first = first; second = second; third = second; fourth = second } }

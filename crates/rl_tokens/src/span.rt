@@ -1,6 +1,18 @@
+//! Places of tokens.
+
 ghost use Rattle.std.specs.Prelude.{◌≡◌, ◌↔◌, min, max, IsSome, IfSome};
 
-/// Where a token stands: a file, and the bytes of its text from `lo` up to `hi`.
+/// Where a token stands: a file, and the bytes of its text from `lo` up to `hi`. Two spans are
+/// equal where all three are.
+///
+/// # Example
+///
+/// The end of a text, where a parser tells that something is missing:
+///
+/// ```
+/// let end = Span::new(0, text.len(), text.len());
+/// let mut input = ParseBuffer::new(stream.trees(), end);
+/// ```
 #[derive(Clone, Copy, PartialEq, Eq, Debug)]
 pub struct Span {
     /// The file, by a number of the caller's choice.
@@ -12,7 +24,8 @@ pub struct Span {
 }
 
 impl Span {
-    /// The span of what stands in no text.
+    /// The span of what stands in no text: file 0, no bytes at 0. The writers give it, and so does
+    /// an error with no place.
     pub fn call_site() -> Span
         ensures { result ≡ record { file = 0; lo = 0; hi = 0 } }
     {
@@ -23,35 +36,44 @@ impl Span {
         }
     }
 
-    /// The bytes from `lo` up to `hi` of a file.
+    /// The bytes from `lo` up to `hi` of a file. Nothing is asked of the places.
     pub fn new(file: u32, lo: usize, hi: usize) -> Span
         ensures { result ≡ record { file = file; lo = lo; hi = hi } }
     {
         Span { file, lo, hi }
     }
 
-    /// The file.
+    /// The file, by the number that the caller chose.
     pub fn file(self) -> u32
         ensures { result ≡ self.file }
     {
         self.file
     }
 
-    /// The place of the first byte.
+    /// The place of the first byte, counted from 0.
     pub fn lo(self) -> usize
         ensures { result ≡ self.lo }
     {
         self.lo
     }
 
-    /// The place behind the last byte.
+    /// The place behind the last byte; of no bytes, `lo`.
     pub fn hi(self) -> usize
         ensures { result ≡ self.hi }
     {
         self.hi
     }
 
-    /// From the first of both to the last of both, where they stand in one file.
+    /// From the first byte of both to the last of both, where they stand in one file; else `None`.
+    ///
+    /// # Example
+    ///
+    /// ```
+    /// match first.join(second) {
+    ///     Some(joined) => show_line(&At(joined), out),
+    ///     None => line("None", out),
+    /// }
+    /// ```
     pub fn join(self, other: Span) -> Option<Span>
         ensures one_file { IsSome result ↔ (self.file ≡ other.file) }
         ensures range { IfSome result

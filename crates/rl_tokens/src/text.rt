@@ -36,7 +36,7 @@ pub fn split_ascii(text: &str) -> Option<(u8, &str)>
     Some((bytes[0], &text[1..]))
 }
 
-/// The byte place in the text from which on the rest of it stands.
+/// The place of the rest's first byte in the text, of which it has to be a rest.
 #[tactic(auto, using(crate::proofs::BehindLemmas::cut_boundary, crate::proofs::BehindLemmas::cut_drop))]
 pub fn offset_of(text: &str, rest: &str) -> usize
     requires { IsTail text.now rest.now }

@@ -12,6 +12,15 @@ use crate::span::Span;
 use std::alloc::{Allocator, Global};
 
 /// How a group is delimited.
+///
+/// # Example
+///
+/// ```
+/// Some(group) if group.delimiter() == Delimiter::Bracket => {
+///     *input = ahead;
+///     Ok(group)
+/// }
+/// ```
 #[derive(Clone, Copy, PartialEq, Eq, Debug)]
 pub enum Delimiter {
     /// `( .. )`
@@ -22,7 +31,17 @@ pub enum Delimiter {
     Bracket,
 }
 
-/// One token, or a group with all that is inside.
+/// One token, or a group with all that is inside: what [`lex`](crate::lex) cuts a text into.
+///
+/// # Example
+///
+/// ```
+/// if let TokenTree::Group(group) = tree {
+///     word("<", out)?;
+///     tell_all(group.stream().trees(), out)?;
+///     word(">", out)?;
+/// }
+/// ```
 #[derive(Drop)]
 #[cycle(tree)]
 pub enum TokenTree<A: Allocator = Global> {
@@ -37,6 +56,16 @@ pub enum TokenTree<A: Allocator = Global> {
 }
 
 /// Trees between an opener and its closer.
+///
+/// # Example
+///
+/// The items between brackets, by a parser of one's own:
+///
+/// ```
+/// let group = take_brackets(input)?;
+/// let items = parse_items(alloc, &mut group.inside())?;
+/// Ok(ItemList { items })
+/// ```
 #[derive(Drop)]
 #[cycle(tree)]
 pub struct Group<A: Allocator = Global> {
@@ -45,7 +74,19 @@ pub struct Group<A: Allocator = Global> {
     span: Span,
 }
 
-/// A sequence of trees.
+/// A sequence of trees. It keeps the allocator that it was made with.
+///
+/// # Example
+///
+/// A stream of one tree:
+///
+/// ```
+/// let mut stream = TokenStream::new(alloc);
+/// match stream.append(tree) {
+///     Ok(()) => Ok(stream),
+///     Err(_) => Err(AllocError),
+/// }
+/// ```
 #[derive(Drop)]
 #[cycle(tree)]
 pub struct TokenStream<A: Allocator = Global> {
@@ -184,8 +225,11 @@ impl<A: Allocator> TokenStream<A> {
         }
     }
 
-    /// Puts the tree last. Where memory is wanted and refused, the stream stays, and the tree is handed back; the
-    /// error is told at the tree's span.
+    /// Puts the tree last.
+    ///
+    /// # Errors
+    ///
+    /// `Memory` at the tree's span. The stream stays, and the tree is handed back.
     pub fn append(&mut self, tree: TokenTree<A>) -> Result<(), Kept<TokenTree<A>, A>>
         ensures ok { OnOk result (trees_of self.new ≡ trees_of self.old ++ tree ∷ []) }
         ensures unchanged { OnErr result (trees_of self.new ≡ trees_of self.old) }

@@ -12,10 +12,17 @@ use crate::lexeme::{RunClass, after_row};
 use crate::scan::{Marks, len_before, next_mark};
 use crate::text::split_ascii;
 
-/// The rest of the text after its leading white space and plain comments.
+/// The rest of the text after its leading white space and plain comments, as a slice of the text.
 ///
-/// A doc comment, a block comment that isn't closed, and all else that is no white space stay. A line comment
-/// that the text ends in leaves the empty rest.
+/// A doc comment, a block comment that isn't closed, and all else that is no white space stay. A
+/// line comment that the text ends in leaves the empty rest.
+///
+/// # Example
+///
+/// ```
+/// // How many bytes stand behind them: of `/* one */ two` 3.
+/// format!(in alloc; "{}\n", whitespace::skip(text).len())
+/// ```
 #[inline(always)]
 pub fn skip(text: &str) -> &str
     // The rest behind all trivia at the front, by the characters of both.

@@ -53,9 +53,18 @@ fn parse_trees<T: Parse<A> + Drop, A: Allocator>(
 ///
 /// # Errors
 ///
-/// In this order: the lexer's, as `Lex` with the span of no bytes at its place (its want of memory as
-/// `Memory` there); the parser's own, whose scope is the span of no bytes at the text's end; and `Unexpected` at the
-/// first tree that is left over. Spans have the file and bytes of the text.
+/// In this order: the lexer's, as `Lex` with the span of no bytes at its place (its want of memory
+/// as `Memory` there); the parser's own, whose scope is the span of no bytes at the text's end; and
+/// `Unexpected` at the first tree that is left over. Spans have the file and bytes of the text.
+///
+/// # Example
+///
+/// ```
+/// match parse_all::<ItemList, Global>(alloc, text, FILE) {
+///     Ok(list) => tell_items(list.items.as_slice(), out),
+///     Err(error) => tell_error(&error, out),
+/// }
+/// ```
 pub fn parse_all<T: Parse<A> + Drop, A: Allocator + Copy>(
     alloc: A,
     text: &str,

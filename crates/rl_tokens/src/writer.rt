@@ -143,7 +143,12 @@ fn token<A: Allocator>(text: Result<String<A>, AllocError>) -> Result<Literal<A>
 
 /// The literals that values are written as, at no place (`Span::call_site`), where want of memory is told too.
 impl<A: Allocator> Literal<A> {
-    /// The string literal that stands for the text.
+    /// The string literal that stands for the text, as docs/GRAMMAR.md writes it, at
+    /// [`Span::call_site`].
+    ///
+    /// # Errors
+    ///
+    /// `Memory`, at [`Span::call_site`].
     pub fn string(alloc: A, value: &str) -> Result<Literal<A>, Error<A>>
         ensures text { IfOk result (λ l. IsWrittenForm Kind.Str (chars value.now) (chars l.text)) }
         ensures span { IfOk result (λ l. l.span ≡ nowhere) }
@@ -152,7 +157,12 @@ impl<A: Allocator> Literal<A> {
         token(text_of_characters(alloc, value))
     }
 
-    /// The byte string literal that stands for the bytes.
+    /// The byte string literal that stands for the bytes, as docs/GRAMMAR.md writes it, at
+    /// [`Span::call_site`].
+    ///
+    /// # Errors
+    ///
+    /// `Memory`, at [`Span::call_site`].
     pub fn byte_string(alloc: A, value: &[u8]) -> Result<Literal<A>, Error<A>>
         ensures text { IfOk result (λ l. IsWrittenForm Kind.ByteStr value.now (chars l.text)) }
         ensures span { IfOk result (λ l. l.span ≡ nowhere) }
@@ -161,7 +171,12 @@ impl<A: Allocator> Literal<A> {
         token(text_of_bytes(alloc, Kind::ByteStr, value))
     }
 
-    /// The C string literal that stands for the bytes.
+    /// The C string literal that stands for the bytes, as docs/GRAMMAR.md writes it, at
+    /// [`Span::call_site`].
+    ///
+    /// # Errors
+    ///
+    /// `Memory`, at [`Span::call_site`].
     pub fn c_string<B: Allocator>(alloc: A, value: &CString<B>) -> Result<Literal<A>, Error<A>>
         ensures text { IfOk result (λ l. IsWrittenForm Kind.CStr value.now (chars l.text)) }
         ensures span { IfOk result (λ l. l.span ≡ nowhere) }
@@ -170,7 +185,12 @@ impl<A: Allocator> Literal<A> {
         token(text_of_bytes(alloc, Kind::CStr, value.as_bytes()))
     }
 
-    /// The byte literal that stands for the byte.
+    /// The byte literal that stands for the byte, as docs/GRAMMAR.md writes it, at
+    /// [`Span::call_site`].
+    ///
+    /// # Errors
+    ///
+    /// `Memory`, at [`Span::call_site`].
     pub fn byte_character(alloc: A, value: u8) -> Result<Literal<A>, Error<A>>
         ensures text { IfOk result (λ l. IsWrittenForm Kind.Byte (value ∷ []) (chars l.text)) }
         ensures span { IfOk result (λ l. l.span ≡ nowhere) }
@@ -179,7 +199,12 @@ impl<A: Allocator> Literal<A> {
         token(text_of_bytes(alloc, Kind::Byte, &[value]))
     }
 
-    /// The character literal that stands for the character.
+    /// The character literal that stands for the character, as docs/GRAMMAR.md writes it, at
+    /// [`Span::call_site`].
+    ///
+    /// # Errors
+    ///
+    /// `Memory`, at [`Span::call_site`].
     pub fn character(alloc: A, value: char) -> Result<Literal<A>, Error<A>>
         ensures text { IfOk result (λ l. IsWrittenForm Kind.Char (value ∷ []) (chars l.text)) }
         ensures span { IfOk result (λ l. l.span ≡ nowhere) }

@@ -1,3 +1,5 @@
+//! The commands, and which one the arguments ask for.
+
 use std::alloc::Allocator;
 
 /// What the program does with its input.

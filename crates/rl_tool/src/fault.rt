@@ -1,3 +1,5 @@
+//! Why a run ends without printing.
+
 ghost use Rattle.std.specs.Prelude.{◌≡◌, Some};
 ghost use Rattle.rl_tool.specs.Faults.{fault_line, fault_status};
 

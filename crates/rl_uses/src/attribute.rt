@@ -9,7 +9,7 @@ use rl_quoted::LitStr;
 use rl_tokens::{Error, Ident, Parse, ParseBuffer, attempt, parse_all};
 use std::alloc::{Allocator, Global};
 
-/// An attribute: `name = "value"`.
+/// An attribute, `name = "value"`, with the places of its parts in the two tokens.
 #[derive(Drop)]
 pub struct Attribute<A: Allocator = Global> {
     /// What is set.
@@ -64,7 +64,11 @@ impl<A: Allocator + Copy> Parse<A> for Attribute<A> {
     }
 }
 
-/// The attribute that all of a text is. It is refused as [`parse_all`] says, by the parser of attributes.
+/// The attribute that all of a text is.
+///
+/// # Errors
+///
+/// As [`parse_all`] says, by the parser of attributes.
 pub fn read_attribute<A: Allocator + Copy>(
     alloc: A,
     text: &str,

@@ -32,10 +32,13 @@ fn tally<A: Allocator + Copy>(alloc: A, literals: Vec<Lit<A>, A>) -> Result<Coun
     Ok(counts)
 }
 
-/// How often each literal stands in the text. Literals are equal where their kinds and texts are, as `==` says.
+/// How often each literal stands in the text. Literals are equal where their kinds and texts are,
+/// as `==` says. The text is nothing but literals, white space and plain comments.
 ///
-/// The text is nothing but literals, white space and plain comments; what [`read_all`] refuses of it is refused with the
-/// same error. Want of memory behind that is told at the literal that it was refused for.
+/// # Errors
+///
+/// What [`read_all`] refuses of the text, with the same error. `Memory` behind that at the literal
+/// that it was refused for.
 pub fn count_literals<A: Allocator + Copy>(
     alloc: A,
     text: &str,

@@ -61,11 +61,14 @@ fn faults<A: Allocator + Copy>(alloc: A, literals: &[Lit<A>]) -> Result<Vec<Span
     Ok(spans)
 }
 
-/// Where the strings stand whose value has a control character (below U+0020, or from U+007F to U+009F), in the text's
-/// order: each span is the file and the bytes of the literal.
+/// Where the strings stand whose value has a control character (below U+0020, or from U+007F to
+/// U+009F), in the text's order: each span is the file and the bytes of the literal. The text is
+/// nothing but literals, white space and plain comments.
 ///
-/// The text is nothing but literals, white space and plain comments; what [`read_all`] refuses of it is refused with the
-/// same error. Want of memory behind that is told at the literal that it was refused for.
+/// # Errors
+///
+/// What [`read_all`] refuses of the text, with the same error. `Memory` behind that at the literal
+/// that it was refused for.
 pub fn control_strings<A: Allocator + Copy>(
     alloc: A,
     text: &str,

@@ -115,10 +115,13 @@ fn character_rewritten<A: Allocator + Copy>(
     LitChar::new(alloc, literal.value(), literal.span())
 }
 
-/// The literal as strict text: a string, byte string, C string, byte or character with no suffix is written anew from
-/// its value, as its struct's `new` writes it; any other literal is copied as it stands. The span stays.
+/// The literal as strict text: a string, byte string, C string, byte or character with no suffix is
+/// written anew from its value, as its struct's `new` writes it; any other literal is copied as it
+/// stands. The span stays.
 ///
-/// The one error is want of memory, told at the literal's span.
+/// # Errors
+///
+/// `Memory` at the literal's span.
 pub fn rewritten<A: Allocator + Copy>(alloc: A, literal: &Lit<A>) -> Result<Lit<A>, Error<A>>
     ensures rewritten { IfOk result (IsRewrite literal.now) }
     ensures memory { IfErr result (λ e. e ≡ memory_at (lit_span literal.now)) }
@@ -165,10 +168,13 @@ fn lines<A: Allocator + Copy>(alloc: A, literals: &[Lit<A>]) -> Result<String<A>
     Ok(out)
 }
 
-/// The literals of the text as [`rewritten`] makes them, one on each line.
+/// The literals of the text as [`rewritten`] makes them, one on each line. The text is nothing but
+/// literals, white space and plain comments.
 ///
-/// The text is nothing but literals, white space and plain comments; what [`read_all`] refuses of it is refused with the
-/// same error. Want of memory behind that is told at the literal that it was refused for.
+/// # Errors
+///
+/// What [`read_all`] refuses of the text, with the same error. `Memory` behind that at the literal
+/// that it was refused for.
 pub fn format<A: Allocator + Copy>(alloc: A, text: &str, file: u32) -> Result<String<A>, Error<A>>
     // The text reads as literals, and the lines are their rewritings, each with LF behind it.
     ensures printed { IfOk result (λ printed. (list : List (Lit A))

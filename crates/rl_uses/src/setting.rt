@@ -9,11 +9,14 @@ use std::alloc::Allocator;
 use std::fmt::Display;
 use std::str::FromStr;
 
-/// The number that a text sets: one integer literal, or a minus and one, with white space and comments around it.
+/// The number that a text sets: one integer literal, or a minus and one, with white space and
+/// comments around it.
 ///
-/// A text that isn't one integer literal is refused as by [`parse_all`], with the word `integer literal`. Digits that the
-/// type refuses are `Number`, in the type's own words, at the literal's bytes of the file; want of memory for these words
-/// is told there too.
+/// # Errors
+///
+/// A text that isn't one integer literal is refused as by [`parse_all`], with the word `integer
+/// literal`. Digits that the type refuses are `Number`, in the type's own words, at the literal's
+/// bytes of the file; `Memory` for these words is told there too.
 pub fn read_number<N: FromStr, A: Allocator + Copy>(
     alloc: A,
     text: &str,

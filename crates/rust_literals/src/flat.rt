@@ -52,10 +52,22 @@ fn put<A: Allocator>(list: &mut Vec<Lit<A>, A>, literal: Lit<A>) -> Option<()>
     list.push(literal).ok()
 }
 
-/// Puts the literal that the next tokens are at the list's end. `None` where they are none, and where memory is refused;
-/// the list stays then, the cursor may not, and [`read_behind`] tells why, or goes on.
+/// Puts the literal that the next tokens are at the list's end. `None` where they are none, and
+/// where memory is refused; the list stays then, the cursor may not, and [`read_behind`] tells why,
+/// or goes on.
 ///
-/// So a long list needn't be held: where each literal is let go before the next is taken, the memory is that of one.
+/// So a long list needn't be held: where each literal is let go before the next is taken, the
+/// memory is that of one.
+///
+/// # Example
+///
+/// ```
+/// while !tokens.rest().is_empty() {
+///     if read_next(alloc, &mut tokens, file, &mut list).is_none() {
+///         return Err(list);
+///     }
+/// }
+/// ```
 ///
 /// [`read_behind`]: crate::read_behind
 pub fn read_next<A: Allocator + Copy>(

@@ -1,3 +1,5 @@
+//! `Lit`, and what its nine variants have in common.
+
 ghost use Rattle.std.specs.Prelude.{◌≡◌, IfOk, IfErr, IfSome, IfNone, Some};
 ghost use Rattle.std.specs.Str.{chars};
 ghost use Rattle.rl_tokens.specs.Errors.{memory_at};
@@ -17,7 +19,16 @@ use rl_quoted::{LitByte, LitByteStr, LitCStr, LitChar, LitStr, Quoted, QuotedKin
 use rl_tokens::{Error, Kept, Literal, Parse, ParseBuffer, Span, Token};
 use std::alloc::{Allocator, Global};
 
-/// A literal of Rust.
+/// A literal of Rust: what a token's text reads as, with the token.
+///
+/// # Example
+///
+/// ```
+/// match literal {
+///     Lit::Str(string) => has_control(alloc, string),
+///     _ => Ok(false),
+/// }
+/// ```
 #[derive(Drop)]
 pub enum Lit<A: Allocator = Global> {
     /// A string: `"foo"`, `r"foo"`.
@@ -89,17 +100,27 @@ impl<A: Allocator> Lit<A> {
     ghost use Rattle.rust_literals.specs.LitParts.{ReadsAsNumber, ReadsPlain, KeepsStrict, KeepsStrictBehindMinus};
     ghost use Rattle.rl_grammar.specs.StrictBytes.{KeepsBytesStrict};
 
-    /// The literal that the token's text reads as; `Verbatim` exactly where it has no reading. The token stays as it is,
-    /// text and span.
+    /// The literal that the token's text reads as; `Verbatim` exactly where it has no reading. The
+    /// token stays as it is, text and span.
     ///
-    /// A strict text, an integer within 128 bits, is read with the kind, contents and suffix that it has there
-    /// (`strict`), and a strict number behind a minus too. A text without CR is a byte, or a byte string with escapes, and
-    /// its suffix empty or a word, exactly where it is a strict one (`strict_bytes`).
+    /// A strict text, an integer within 128 bits, is read with the kind, contents and suffix that
+    /// it has there (`strict`), and a strict number behind a minus too. A text without CR is a
+    /// byte, or a byte string with escapes, and its suffix empty or a word, exactly where it is a
+    /// strict one (`strict_bytes`).
     ///
     /// # Errors
     ///
-    /// `Memory` alone, at the token's span, where there is none for the digits of a number whose body isn't its digits;
-    /// the token is handed back. Other texts take no memory.
+    /// `Memory` alone, at the token's span, where there is none for the digits of a number whose
+    /// body isn't its digits; the token is handed back. Other texts take no memory.
+    ///
+    /// # Example
+    ///
+    /// ```
+    /// match Lit::new(alloc, token_of(alloc, text, span)?) {
+    ///     Ok(literal) => Ok(literal),
+    ///     Err(_) => Err(AllocError),
+    /// }
+    /// ```
     pub fn new(alloc: A, token: Literal<A>) -> Result<Lit<A>, Kept<Literal<A>, A>>
         ensures reads { IfOk result (IsReadFrom token) }
         ensures kept { IfErr result (λ k. k.value ≡ token) }
@@ -182,35 +203,35 @@ impl<A: Allocator> Lit<A> {
         }
     }
 
-    /// The kind that the literal is of; none for `Verbatim`.
+    /// The kind that the literal is of; `None` for `Verbatim`.
     pub fn kind(&self) -> Option<Kind>
         ensures { result ≡ kind_of self.now }
     {
         self.view().kind
     }
 
-    /// The token's text; of a truth value its word.
+    /// The token's text, suffix included; of a truth value its word.
     pub fn text(&self) -> &str
         ensures { result.now ≡ (token_of self.now).text }
     {
         self.view().text
     }
 
-    /// What stands behind the literal proper: empty for a truth value and for `Verbatim`.
+    /// What stands behind the literal proper, lent: empty for a truth value and for `Verbatim`.
     pub fn suffix(&self) -> &str
         ensures { HasLitSuffix self.now (chars result.now) }
     {
         self.view().suffix
     }
 
-    /// Where the literal stands.
+    /// Where the literal stands, as its token was given.
     pub fn span(&self) -> Span
         ensures { result ≡ lit_span self.now }
     {
         self.view().span
     }
 
-    /// Puts the literal elsewhere.
+    /// Puts the literal elsewhere: its span becomes this one, and all else stays.
     pub fn set_span(&mut self, span: Span)
         ensures { IsSameAt self.old span self.new }
     {

@@ -1,3 +1,5 @@
+//! Truth values.
+
 ghost use Rattle.std.specs.Prelude.{◌≡◌, IfOk, IfErr};
 ghost use Rattle.rl_tokens.specs.Errors.{memory_at};
 ghost use Rattle.rl_tokens.specs.Reading.{truth_text};
@@ -8,7 +10,15 @@ use rl_grammar::{Front, Kind, next_is};
 use rl_tokens::{Error, Ident, Parse, ParseBuffer, Span, Token};
 use std::alloc::Allocator;
 
-/// A truth value: `true` or `false`.
+/// A truth value: `true` or `false`. It takes no memory.
+///
+/// # Example
+///
+/// ```
+/// let mut literal = LitBool::new(value, HERE);
+/// show_word(&literal.value(), out)?;
+/// show_word(&At(literal.span()), out)?;
+/// ```
 #[derive(Drop)]
 pub struct LitBool {
     /// The truth value.
@@ -25,35 +35,39 @@ pub(crate) fn word(value: bool) -> &'static str
 }
 
 impl LitBool {
-    /// The literal of this truth value, at this span.
+    /// The literal of this truth value, at this span. It takes no memory.
     pub fn new(value: bool, span: Span) -> LitBool
         ensures { result ≡ record { value = value; span = span } }
     {
         LitBool { value, span }
     }
 
-    /// The truth value.
+    /// The truth value, as the field has it.
     pub fn value(&self) -> bool
         ensures { result ≡ self.now.value }
     {
         self.value
     }
 
-    /// Where it stands.
+    /// Where it stands: its file, and its bytes in it.
     pub fn span(&self) -> Span
         ensures { result ≡ self.now.span }
     {
         self.span
     }
 
-    /// Puts it elsewhere.
+    /// Puts it elsewhere: its span becomes this one.
     pub fn set_span(&mut self, span: Span)
         ensures { self.new ≡ record self.old { span = span } }
     {
         *self = LitBool::new(self.value, span);
     }
 
-    /// The word `true` or `false`, at the span. Want of memory is told there.
+    /// The word `true` or `false`, at the span.
+    ///
+    /// # Errors
+    ///
+    /// `Memory` at the literal's span.
     pub fn token<A: Allocator>(&self, alloc: A) -> Result<Ident<A>, Error<A>>
         ensures ok { IfOk result
             (λ i. i ≡ record { text = truth_text self.now.value; span = self.now.span }) }

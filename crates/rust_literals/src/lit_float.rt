@@ -12,13 +12,22 @@ use rl_grammar::{Found, Kind, find_float};
 use rl_tokens::ErrorKind;
 use std::alloc::{Allocator, Global};
 
-/// Floats.
+/// The kind of floats, as a type: what tells `LitFloat` from `LitInt`.
 pub struct FloatKind;
 
 /// A float literal: `1.5`, `1e5`, `2.0f32`. Its size isn't judged.
 ///
-/// `LitFloat::new` reads by the float rule alone, so it takes `1f64` too, which `Lit::new` reads as an integer with the
-/// suffix `f64`.
+/// `LitFloat::new` reads by the float rule alone, so it takes `1f64` too, which `Lit::new` reads as
+/// an integer with the suffix `f64`.
+///
+/// # Example
+///
+/// ```
+/// match LitFloat::new(alloc, text, HERE) {
+///     Ok(mut literal) => moved_float(alloc, &mut literal, out),
+///     Err(error) => tell_error(&error, out),
+/// }
+/// ```
 pub type LitFloat<A = Global> = Number<FloatKind, A>;
 
 impl NumberKind for FloatKind {

@@ -20,14 +20,18 @@ use std::alloc::{Allocator, Global};
 use std::fmt;
 use std::marker::{Model, PhantomData};
 
-/// A kind of numbers, as a type.
+/// A kind of numbers, as a type. It has two implementations; callers need none of their own.
 pub trait NumberKind {
     ghost KIND: { Kind };
 
     /// The kind that its texts are of.
     const KIND: Kind;
 
-    /// What reading the text as a number of the kind finds; or why it is none.
+    /// What reading the text as a number of the kind finds.
+    ///
+    /// # Errors
+    ///
+    /// Why it is none: `NotInteger` or `TooLarge`, of floats `NotFloat`.
     fn find<A: Allocator>(text: &str) -> Result<Found, ErrorKind<A>>
         ensures found { IfOk result (IsFoundNumber text.now) }
         ensures kind { IfOk result (λ f. f.kind ≡ Self.KIND) }
@@ -168,10 +172,20 @@ impl<K: NumberKind, A: Allocator> Number<K, A> {
         }
     }
 
-    /// The digits in base ten. Of an integer its magnitude without leading zeros, behind a minus where the text begins
-    /// with one; of a float what stands before the suffix, without underscores and pluses, and with `E` as `e`.
+    /// The digits in base ten. Of an integer its magnitude without leading zeros, behind a minus
+    /// where the text begins with one; of a float what stands before the suffix, without
+    /// underscores and pluses, and with `E` as `e`.
     ///
     /// They are lent from the text where they are all that stands before the suffix.
+    ///
+    /// # Example
+    ///
+    /// Of `0xFF_u8` they are `255`, and the suffix is `u8`:
+    ///
+    /// ```
+    /// word(literal.base10_digits(), out)?;
+    /// debug_word(&literal.suffix(), out)?;
+    /// ```
     pub fn base10_digits(&self) -> &str
         ensures { HasDigits K.KIND (chars self.now.text) (chars result.now) }
     {
@@ -181,35 +195,39 @@ impl<K: NumberKind, A: Allocator> Number<K, A> {
         }
     }
 
-    /// What stands behind the digits.
+    /// What stands behind the digits, lent: empty, or a word.
     pub fn suffix(&self) -> &str
         ensures { HasOwnSuffix K.KIND (chars self.now.text) (chars result.now) }
     {
         &self.token.text()[self.suffix_at..]
     }
 
-    /// The token's text.
+    /// The token's text, sign, prefix, underscores and suffix included.
     pub fn text(&self) -> &str
         ensures { result.now ≡ self.now.text }
     {
         self.token.text()
     }
 
-    /// Where the literal stands.
+    /// Where the literal stands: its file, and its bytes in it.
     pub fn span(&self) -> Span
         ensures { result ≡ self.now.span }
     {
         self.token.span()
     }
 
-    /// Puts the literal elsewhere.
+    /// Puts the literal elsewhere: its span becomes this one, and its text stays.
     pub fn set_span(&mut self, span: Span)
         ensures { self.new ≡ record self.old { span = span } }
     {
         self.token.set_span(span);
     }
 
-    /// The token, with text and span as held. Want of memory is told at the span.
+    /// The token, with text and span as held.
+    ///
+    /// # Errors
+    ///
+    /// `Memory` at the literal's span.
     pub fn token<B: Allocator>(&self, alloc: B) -> Result<Literal<B>, Error<B>>
         ensures ok { IfOk result (λ l. l ≡ self.now) }
         ensures memory { IfErr result (λ e. e ≡ memory_at self.now.span) }

@@ -102,15 +102,25 @@ pub fn read_behind<A: Allocator + Copy>(
     read_from(alloc, text, file, count, Vec::new(alloc))
 }
 
-/// The literals of a text, which is nothing but literals, white space and plain comments. Each is what [`Lit::parse`]
-/// takes from the trees of the text, `Verbatim` too; its span is the file and the bytes of its text, of a number
-/// behind a minus from the minus to its last byte.
+/// The literals of a text, which is nothing but literals, white space and plain comments. Each is
+/// what [`Lit::parse`] takes from the trees of the text, `Verbatim` too; its span is the file and
+/// the bytes of its text, of a number behind a minus from the minus to its last byte.
 ///
 /// # Errors
 ///
-/// The first refusal is the answer: the lexer's fault as `Lex`, with the span of no bytes at its place; or `Expected` at
-/// the first tree that no literal begins. `Memory` is told where it was met, in the text or at a literal; and where the
-/// list itself can't grow, which is at no place of the text, at `Span::call_site`.
+/// The first refusal is the answer: the lexer's fault as `Lex`, with the span of no bytes at its
+/// place; or `Expected` at the first tree that no literal begins. `Memory` is told where it was
+/// met, in the text or at a literal; and where the list itself can't grow, which is at no place of
+/// the text, at `Span::call_site`.
+///
+/// # Example
+///
+/// ```
+/// match read_all(alloc, text, 0) {
+///     Ok(literals) => tell_places(alloc, literals.as_slice(), out),
+///     Err(error) => tell_refused(&error, out),
+/// }
+/// ```
 pub fn read_all<A: Allocator + Copy>(
     alloc: A,
     text: &str,

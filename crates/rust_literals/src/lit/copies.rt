@@ -27,7 +27,11 @@ use std::fmt;
 use std::hash::{Hash, Hasher};
 
 impl<A: Allocator> Lit<A> {
-    /// The literal once more, with its memory from this allocator. Want of memory is told at the span.
+    /// The literal once more, with its memory from this allocator.
+    ///
+    /// # Errors
+    ///
+    /// `Memory` at the literal's span.
     pub fn clone<B: Allocator + Copy>(&self, alloc: B) -> Result<Lit<B>, Error<B>>
         ensures ok { IfOk result (IsCopyOf self.now) }
         ensures memory { IfErr result (λ e. e ≡ memory_at (lit_span self.now)) }

@@ -19,6 +19,10 @@ use std::hash::{Hash, Hasher};
 
 impl LitBool {
     /// The truth value once more. It takes no memory, so this is never refused.
+    ///
+    /// # Errors
+    ///
+    /// None: the answer is always `Ok`.
     pub fn clone<B: Allocator>(&self, _alloc: B) -> Result<LitBool, Error<B>>
         ensures { result ≡ Ok self.now }
     {

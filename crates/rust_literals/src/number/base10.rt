@@ -23,12 +23,22 @@ fn reported<F: Display, B: Allocator>(alloc: B, fault: &F, span: Span) -> Error<
 }
 
 impl<K: NumberKind, A: Allocator> Number<K, A> {
-    /// The number that the type makes of the digits, by its own `from_str`.
+    /// The number that the type makes of the digits, by its own `from_str`: of `0xFF` as a `u8`
+    /// 255.
     ///
     /// # Errors
     ///
-    /// The type's fault is told at the span, as `Number` in the fault's own words; want of memory for these is told there
-    /// too, and so is a fault that can't be put into words.
+    /// The type's fault is told at the span, as `Number` in the fault's own words; want of memory
+    /// for these is told there too, and so is a fault that can't be put into words.
+    ///
+    /// # Example
+    ///
+    /// ```
+    /// match literal.base10_parse::<N, Global>(alloc) {
+    ///     Ok(number) => show(&number, out),
+    ///     Err(error) => refused_number(&error, out),
+    /// }
+    /// ```
     pub fn base10_parse<N: FromStr, B: Allocator>(&self, alloc: B) -> Result<N, Error<B>>
     where
         N::Err: Display + Drop,

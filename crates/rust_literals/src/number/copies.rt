@@ -32,8 +32,12 @@ fn copy_of<A: Allocator, B: Allocator>(
 }
 
 impl<K: NumberKind, A: Allocator> Number<K, A> {
-    /// The literal once more, with its memory from this allocator: for the token, and for the digits where they aren't
-    /// lent from it. Want of memory is told at the span.
+    /// The literal once more, with its memory from this allocator: for the token, and for the
+    /// digits where they aren't lent from it.
+    ///
+    /// # Errors
+    ///
+    /// `Memory` at the literal's span.
     pub fn clone<B: Allocator + Copy>(&self, alloc: B) -> Result<Number<K, B>, Error<B>>
         ensures ok { IfOk result (λ l. l ≡ self.now) }
         ensures memory { IfErr result (λ e. e ≡ memory_at self.now.span) }
