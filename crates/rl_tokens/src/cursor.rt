@@ -96,6 +96,18 @@ impl<'t> Tokens<'t> {
         Some(Lexeme { form, text, lo, hi })
     }
 
+    /// A cursor at the same place of the same text, to look ahead by: what is cut off there stays
+    /// here.
+    #[inline(always)]
+    pub fn fork(&self) -> Tokens<'t>
+        ensures { result ≡ self.now }
+    {
+        Tokens {
+            text: self.text,
+            rest: self.rest,
+        }
+    }
+
     /// Why no token begins what is left: the lexer's fault, and the byte where it stands in the
     /// whole text. `None` at the end of the text, and where a token begins what is left. Groups
     /// aren't counted here, so the kind is the first six of [`LexKind`](crate::LexKind)'s alone.

@@ -48,13 +48,13 @@ fn first_lines<A: Allocator + Copy>(alloc: A, text: &str) -> FirstLines<A>
     let mut one = Vec::new(alloc);
     let mut tokens = Tokens::new(text);
     while !tokens.rest().is_empty() {
-        if read_next(alloc, &mut tokens, 0, &mut one).is_none() {
+        let Ok(true) = read_next(alloc, &mut tokens, 0, &mut one) else {
             return FirstLines {
                 lines,
                 count,
                 whole: false,
             };
-        }
+        };
         lines = with_lines(alloc, lines, one.as_slice());
         one.clear();
         count += 1;

@@ -7,67 +7,110 @@ ghost use Rattle.std.specs.Prelude.{
   ◌∷◌,
   ◌++◌,
   length,
+  IsTrue,
+  IsFalse,
   OnSome,
   IfSome,
   IfNone,
   IfOk,
   IfErr,
+  MatchResult,
 };
 ghost use Rattle.std.specs.Str.{chars};
-ghost use Rattle.rl_tokens.specs.Reading.{HasReading};
+ghost use Rattle.rl_tokens.specs.Reading.{HasReading, HasNoReading};
 ghost use Rattle.rust_literals.specs.Literals.{IsReadFrom};
 ghost use Rattle.rust_literals.specs.Parsing.{AreRead};
-ghost use Rattle.rust_literals.specs.Flat.{AddsNext, AreBegun};
+ghost use Rattle.rust_literals.specs.Flat.{HasNoNext, ReadsNext, AddsNext, AreBegun};
 
 use crate::lit::Lit;
 use crate::lit_bool::LitBool;
 use rl_grammar::{find_negative, truth_of};
 use rl_tokens::{Form, Literal, Span, Tokens};
-use std::alloc::{Allocator, Global};
+use std::alloc::{AllocError, Allocator, Global};
 
-/// The literal of a token with this text. `None` where memory is refused.
-fn literal_of<A: Allocator + Copy>(alloc: A, text: &str, span: Span) -> Option<Lit<A>>
-    ensures { IfSome result (IsReadFrom (record { text = text.now; span = span })) }
+/// The literal of a token with this text.
+fn literal_of<A: Allocator + Copy>(alloc: A, text: &str, span: Span) -> Result<Lit<A>, AllocError>
+    ensures { IfOk result (IsReadFrom (record { text = text.now; span = span })) }
 {
-    let token = Literal::from_text(alloc, text, span).ok()?;
-    Lit::new(alloc, token).ok()
+    let Ok(token) = Literal::from_text(alloc, text, span) else {
+        return Err(AllocError);
+    };
+    match Lit::new(alloc, token) {
+        Ok(literal) => Ok(literal),
+        Err(_) => Err(AllocError),
+    }
 }
 
-/// The literal that a minus and a text make. `None` where they don't read together, and where memory is refused.
-fn negative_of<A: Allocator + Copy>(alloc: A, text: &str, span: Span) -> Option<Lit<A>>
-    ensures read { IfSome result (IsReadFrom (record { text = 45 ∷ text.now; span = span })) }
-    ensures together { IfSome result (λ lit. HasReading (45 ∷ chars text.now)) }
+/// The literal that a minus and a text make. `None` where they don't read together.
+fn negative_of<A: Allocator + Copy>(
+    alloc: A,
+    text: &str,
+    span: Span,
+) -> Result<Option<Lit<A>>, AllocError>
+    ensures read { IfOk result
+        (λ lit. IfSome lit (IsReadFrom (record { text = 45 ∷ text.now; span = span }))) }
+    ensures together { IfOk result (λ lit. OnSome lit (HasReading (45 ∷ chars text.now))) }
+    ensures none { IfOk result (λ lit. IfNone lit (HasNoReading (45 ∷ chars text.now))) }
 {
-    let found = find_negative(text)?;
-    let token = Literal::negative(alloc, text, span).ok()?;
-    Lit::of_found(alloc, token, Some(found)).ok()
+    let Some(found) = find_negative(text) else {
+        return Ok(None);
+    };
+    let Ok(token) = Literal::negative(alloc, text, span) else {
+        return Err(AllocError);
+    };
+    match Lit::of_found(alloc, token, Some(found)) {
+        Ok(literal) => Ok(Some(literal)),
+        Err(_) => Err(AllocError),
+    }
 }
 
-/// Puts a literal at the list's end. `None` where memory is refused; the list stays then.
+/// The literal that the next tokens are, which are cut off. `None` where they are none; tokens may be cut off then too,
+/// and where memory is refused.
 #[inline(always)]
-fn put<A: Allocator>(list: &mut Vec<Lit<A>, A>, literal: Lit<A>) -> Option<()>
-    ensures put { OnSome result (list.new.items ≡ list.old.items ++ literal ∷ []) }
-    ensures stays { IfNone result (list.new.items ≡ list.old.items) }
+fn take_next<A: Allocator + Copy>(
+    alloc: A,
+    tokens: &mut Tokens<'_>,
+    file: u32,
+) -> Result<Option<Lit<A>>, AllocError>
+    ensures next { IfOk result (λ lit. IfSome lit (λ lit. ReadsNext file tokens.old lit tokens.new)) }
+    ensures shorter { IfOk result
+        (λ lit. OnSome lit (length tokens.new.rest < length tokens.old.rest)) }
+    ensures none { IfOk result (λ lit. IfNone lit (HasNoNext tokens.old)) }
 {
-    list.push(literal).ok()
+    let Some(token) = tokens.next() else {
+        return Ok(None);
+    };
+    let span = Span::new(file, token.lo, token.hi);
+    match token.form {
+        Form::Literal => Ok(Some(literal_of(alloc, token.text, span)?)),
+        Form::Identifier => match truth_of(token.text) {
+            Some(value) => Ok(Some(Lit::Bool(LitBool::new(value, span)))),
+            None => Ok(None),
+        },
+        Form::Mark('-') => {
+            let Some(number) = tokens.next() else {
+                return Ok(None);
+            };
+            let Form::Literal = number.form else {
+                return Ok(None);
+            };
+            let Some(joined) = span.join(Span::new(file, number.lo, number.hi)) else {
+                return Ok(None);
+            };
+            negative_of(alloc, number.text, joined)
+        }
+        _ => Ok(None),
+    }
 }
-
-/// Puts the literal that the next tokens are at the list's end. `None` where they are none, and
-/// where memory is refused; the list stays then, the cursor may not, and [`read_behind`] tells why,
-/// or goes on.
+/// Puts the literal that the next tokens are at the list's end, and says whether one stood there. So a long list needn't
+/// be held: where each literal is let go before the next is taken, the memory is that of one.
 ///
-/// So a long list needn't be held: where each literal is let go before the next is taken, the
-/// memory is that of one.
+/// `false` says that the text is at its end, or that anything but a literal stands next (a fault, a group, another word
+/// or mark); [`read_behind`] says what. List and cursor stay then.
 ///
-/// # Example
+/// # Errors
 ///
-/// ```
-/// while !tokens.rest().is_empty() {
-///     if read_next(alloc, &mut tokens, file, &mut list).is_none() {
-///         return Err(list);
-///     }
-/// }
-/// ```
+/// Memory was refused, for the literal or for the list; both stay. [`read_behind`] tells it at its place.
 ///
 /// [`read_behind`]: crate::read_behind
 pub fn read_next<A: Allocator + Copy>(
@@ -75,26 +118,25 @@ pub fn read_next<A: Allocator + Copy>(
     tokens: &mut Tokens<'_>,
     file: u32,
     list: &mut Vec<Lit<A>, A>,
-) -> Option<()>
-    ensures next { OnSome result (AddsNext file tokens.old list.old.items tokens.new list.new.items) }
-    ensures shorter { OnSome result (length tokens.new.rest < length tokens.old.rest) }
-    ensures stays { IfNone result (list.new.items ≡ list.old.items) }
+) -> Result<bool, AllocError>
+    ensures next { IfOk result (λ read. IsTrue read
+        → AddsNext file tokens.old list.old.items tokens.new list.new.items) }
+    ensures shorter { IfOk result (λ read. IsTrue read
+        → length tokens.new.rest < length tokens.old.rest) }
+    ensures none { IfOk result (λ read. IsFalse read → HasNoNext tokens.old) }
+    ensures stays { MatchResult result
+        (λ read. IsFalse read → (list.new.items ≡ list.old.items) × (tokens.new ≡ tokens.old))
+        (λ _. (list.new.items ≡ list.old.items) × (tokens.new ≡ tokens.old)) }
 {
-    let token = tokens.next()?;
-    let span = Span::new(file, token.lo, token.hi);
-    match token.form {
-        Form::Literal => put(list, literal_of(alloc, token.text, span)?),
-        Form::Identifier => put(list, Lit::Bool(LitBool::new(truth_of(token.text)?, span))),
-        Form::Mark('-') => {
-            let number = tokens.next()?;
-            let Form::Literal = number.form else {
-                return None;
-            };
-            let joined = span.join(Span::new(file, number.lo, number.hi))?;
-            put(list, negative_of(alloc, number.text, joined)?)
-        }
-        _ => None,
+    let mut ahead = tokens.fork();
+    let Some(literal) = take_next(alloc, &mut ahead, file)? else {
+        return Ok(false);
+    };
+    if list.push(literal).is_err() {
+        return Err(AllocError);
     }
+    *tokens = ahead;
+    Ok(true)
 }
 
 /// The literals of a text, which is nothing but literals, white space and plain comments. Where it is anything else, and
@@ -110,9 +152,9 @@ pub(crate) fn read_flat<A: Allocator + Copy>(
     let mut list = Vec::new(alloc);
     let mut tokens = Tokens::new(text);
     while !tokens.rest().is_empty() {
-        if read_next(alloc, &mut tokens, file, &mut list).is_none() {
+        let Ok(true) = read_next(alloc, &mut tokens, file, &mut list) else {
             return Err(list);
-        }
+        };
     }
     Ok(list)
 }
