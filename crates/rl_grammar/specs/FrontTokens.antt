@@ -8,7 +8,7 @@ use Rattle.rl_tokens.specs.Reading.{ReadsAs}
 use Rattle.rl_tokens.specs.Tokens.{SpannedText}
 use Rattle.rl_tokens.specs.Fronts.{joined, HasReading}
 use Rattle.rl_grammar.specs.declared.front.Front.{Front}
-use Rattle.rl_grammar.specs.declared.front.Front.TheVariants.{SpannedText as LiteralFront, Word, Negative}
+use Rattle.rl_grammar.specs.declared.front.Front.TheVariants.{Literal as LiteralFront, Word, Negative}
 
 -- a literal token or a word as it stands, a minus and its number joined
 abbrev pub front_token : {A : Type 0} → Front A → SpannedText

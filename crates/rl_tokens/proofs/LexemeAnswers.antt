@@ -3,7 +3,7 @@ use Rattle.std.proofs.Common.{◌≡◌, ℕ, ◌++◌, List, Option, Some, None
 use Rattle.std.specs.Option.{IfSome, IfNone, option_map}
 use Rattle.std.specs.Str.{chars}
 use Rattle.std.proofs.lemmas.Option.{none-some}
-use Rattle.rl_tokens.specs.declared.lexeme.Form.{LexemeForm as FoundForm}
+use Rattle.rl_tokens.specs.declared.lexeme.Form.{Form as FoundForm}
 use Rattle.rl_tokens.specs.Lexemes.{LexemeForm, form_of, LexemeBefore}
 use Rattle.rl_tokens.specs.LexemeAt.{form_view, lexeme_at, FormBefore}
 use Rattle.rl_tokens.proofs.LexemeFronts.{lexeme_at-past}
