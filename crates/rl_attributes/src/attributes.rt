@@ -11,6 +11,15 @@ use std::alloc::{Allocator, Global};
 pub use take::read;
 
 /// An attribute: a name, and the literal that it is set to.
+///
+/// # Example
+///
+/// ```
+/// match attrs.get(name) {
+///     Some(value) => line_of(alloc, value),
+///     None => String::from_str(alloc, "none\n"),
+/// }
+/// ```
 #[derive(Drop)]
 pub struct Entry<A: Allocator = Global> {
     /// The name.
@@ -22,6 +31,17 @@ pub struct Entry<A: Allocator = Global> {
 }
 
 /// Attributes in their order. No two have one name.
+///
+/// # Example
+///
+/// ```
+/// let attrs = read(alloc, "a = 1, b = \"x\", true = 'y'", 4)?;
+///
+/// match attrs.get(name) {
+///     Some(value) => line_of(alloc, value),
+///     None => String::from_str(alloc, "none\n"),
+/// }
+/// ```
 #[derive(Drop)]
 pub struct Attrs<A: Allocator = Global> {
     entries: Vec<Entry<A>, A>,
@@ -42,7 +62,16 @@ impl<A: Allocator> Attrs<A> {
         self.entries.as_slice()
     }
 
-    /// What the name is set to; none where no attribute has the name.
+    /// What the name is set to; `None` where no attribute has the name. It goes over the entries.
+    ///
+    /// # Example
+    ///
+    /// ```
+    /// match attrs.get(name) {
+    ///     Some(value) => line_of(alloc, value),
+    ///     None => String::from_str(alloc, "none\n"),
+    /// }
+    /// ```
     pub fn get(&self, name: &str) -> Option<&Lit<A>>
         // What is lent is the value of each entry with the name, of which there is one at most.
         ensures lent { All (λ entry. HasName name.now entry

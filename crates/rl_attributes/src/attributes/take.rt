@@ -166,8 +166,18 @@ impl<A: Allocator + Copy> Parse<A> for Attrs<A> {
 ///
 /// # Errors
 ///
-/// The lexer's fault as `Lex`, with the span of no bytes at its place, and its want of memory as `Memory` there; else
-/// what the parser of [`Attrs`] refuses, which tells the text's end by the span of no bytes there.
+/// The lexer's fault as `Lex`, with the span of no bytes at its place, and its want of memory as
+/// `Memory` there; else what the parser of [`Attrs`] refuses, which tells the text's end by the
+/// span of no bytes there.
+///
+/// # Example
+///
+/// ```
+/// match read(alloc, text, 0) {
+///     Ok(attrs) => ended(entry_lines(alloc, attrs.entries())?),
+///     Err(error) => refused(alloc, &error),
+/// }
+/// ```
 pub fn read<A: Allocator + Copy>(alloc: A, text: &str, file: u32) -> Result<Attrs<A>, Error<A>>
     // The text is cut into the trees of these attributes.
     ensures attributes { IfOk result
