@@ -1,13 +1,14 @@
 -- A literal more of a text without groups, and all of them.
-use Rattle.std.proofs.Common.{arith, true, false, ◌≡◌, ℕ, ◌==◌, List, [], ◌∷◌, ◌++◌, length, Option, Some, None, refl, sym, ◌∙◌, ap, subst, append_assoc}
+use Rattle.std.proofs.Common.{arith, true, false, ◌≢◌, ◌⊎◌, inl, inr, Result, Ok, IfOk, ◌≡◌, ℕ, ◌==◌, List, [], ◌∷◌, ◌++◌, length, Option, Some, None, refl, sym, ◌∙◌, ap, subst, append_assoc}
 use Rattle.std.proofs.lemmas.List.{map-append, nil_from_length}
 use Rattle.std.proofs.lemmas.Bool.Decides.{nat_tests}
-use Rattle.std.specs.Prelude.{min, max, Bool, IfNone, OnSome, if◌then◌else◌}
+use Rattle.std.specs.Prelude.{min, max, Bool, IfNone, IfSome, OnSome, if◌then◌else◌}
 use Rattle.std.specs.List.{AllByRecursion}
-use Rattle.std.specs.Option.{is_some}
 use Rattle.std.specs.Str.{chars}
 use Rattle.rl_tokens.specs.declared.span.Span.{Span}
 use Rattle.rl_tokens.specs.declared.cursor.Lexeme.{Lexeme as Lent}
+use Rattle.rl_tokens.specs.declared.lexeme.Form.{Form as FoundForm}
+use Rattle.rl_tokens.specs.declared.lexeme.Form.TheVariants as found
 use Rattle.rl_tokens.specs.Lexemes.{LexemeForm, LiteralForm, IdentifierForm, MarkForm}
 use Rattle.rl_tokens.specs.Cursors.{form_view}
 use Rattle.rl_tokens.specs.Texts.{SpannedText}
@@ -16,7 +17,7 @@ use Rattle.rl_tokens.specs.Reading.{truth_text}
 use Rattle.rl_tokens.specs.Trees.{Tree, IdentTree, PunctTree, LiteralTree, flat_trees}
 use Rattle.rl_tokens.specs.Lexing.{LexesUpTo, behind_form, flat_form, flat_token}
 use Rattle.rl_tokens.specs.Cursors.{CursorState, TakesNext}
-use Rattle.rl_tokens.specs.Reading.{HasReading}
+use Rattle.rl_tokens.specs.Reading.{HasReading, HasNoReading}
 use Rattle.rl_grammar.specs.Fronts.{joined, joined_span}
 use Rattle.rl_tokens.proofs.CutLemmas.{open_more}
 use Rattle.rl_tokens.proofs.CursorLemmas.{flat_lent}
@@ -25,7 +26,7 @@ use Rattle.rust_literals.specs.declared.lit.Lit.{Lit}
 use Rattle.rust_literals.specs.declared.lit.Lit.TheVariants.{Bool as BoolLit}
 use Rattle.rust_literals.specs.Literals.{IsReadFrom}
 use Rattle.rust_literals.specs.Parsing.{ReadsLiterals, AreRead}
-use Rattle.rust_literals.specs.Flat.{IsNoGroup, LexesTreesUpTo, ReadsNext, AddsNext, AreReadUpTo}
+use Rattle.rust_literals.specs.Flat.{IsNoGroup, HasNoNumberNext, BeginsNoLiteral, HasNoNext, LexesTreesUpTo, ReadsNext, AddsNext, AreReadUpTo}
 use Rattle.rl_tokens.proofs.LexLaws.{one_list}
 use Rattle.rust_literals.proofs.LitLemmas.{read_truth}
 use Rattle.rust_literals.proofs.LeadsLemmas.{leads_step, one_list_of}
@@ -125,18 +126,32 @@ pub read_negative : {A : Type 0} (file : ℕ) (old between new : CursorState) (m
 read_negative file old between new m l lit span t u m_is l_is span_is together read =
     negative_next file old between new m l lit span t u m_is l_is (same_file file m l span span_is) together read
 
--- the list grows, or memory was refused
-pub adds : {A : Type 0} (file : ℕ) (old new : CursorState) (list longer : List (Lit A)) (lit : Lit A) (r : Option (Unit {0})) → ReadsNext file old lit new → OnSome r (longer ≡ list ++ lit ∷ []) → OnSome r (AddsNext file old list new longer)
-adds file old new list longer lit None next put = tt
-adds file old new list longer lit (Some u) next put = record { lit = lit; next = next; longer_is = put }
+-- a form that is no literal's
+pub other_form : (f : FoundForm) → (f ≡ found.Literal → ⊥) → form_view f ≡ LiteralForm → ⊥
+other_form found.Literal h e = h refl
+other_form found.Identifier h e = absurd (cc)
+other_form (found.Delimiter c) h e = absurd (cc)
+other_form (found.Mark c) h e = absurd (cc)
 
-pub when_some : {P : Type 0} (r : Option (Unit {0})) → is_some r ≡ true → OnSome r P → P
-when_some None e h = absurd (cc)
-when_some (Some u) e h = h
+-- no token that makes a literal with a minus before it
+pub none_number : (old new : CursorState) (l : Lent) → TakesNext old l new → (form_view l.form ≢ LiteralForm) ⊎ HasNoReading (45 ∷ chars l.text.now) → HasNoNumberNext old
+none_number old new l t h = inr (l, new, t, h)
 
-pub when_none : {P : Type 0} (r : Option (Unit {0})) → is_some r ≡ false → IfNone r P → P
-when_none None e h = h
-when_none (Some u) e h = absurd (cc)
+-- a minus, and no number behind it
+pub none_minus : (old between : CursorState) (m : Lent) → TakesNext old m between → form_view m.form ≡ MarkForm 45 → HasNoNumberNext between → HasNoNext old
+none_minus old between m t is h =
+    inr (m, between, t, subst (λ (f : LexemeForm). BeginsNoLiteral f m.text.now between) (sym is) (inr h))
+
+-- an option whose form is known
+pub no_some : {T P : Type 0} (o : Option T) → o ≡ None → IfNone o P → P
+no_some None e h = h
+no_some (Some x) e h = absurd (cc)
+
+pub the_some : {T : Type 0} (P : T → Type 0) (o : Option T) (x : T) → o ≡ Some x → IfSome o P → P x
+the_some {T} P o x e h = subst (λ (y : Option T). IfSome y P) e h
+
+pub when_some : {T P : Type 0} (o : Option T) (x : T) → o ≡ Some x → OnSome o P → P
+when_some {T} {P} o x e h = subst (λ (y : Option T). OnSome y P) e h
 
 -- nothing is read yet
 pub read_none : {A : Type 0} (text : List ℕ) (file : ℕ) (rest : List ℕ) → LexesUpTo 0 text [] rest → AreReadUpTo {A = A} text file [] rest

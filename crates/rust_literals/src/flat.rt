@@ -97,7 +97,10 @@ fn take_next<A: Allocator + Copy>(
             let Some(joined) = span.join(Span::new(file, number.lo, number.hi)) else {
                 return Ok(None);
             };
-            negative_of(alloc, number.text, joined)
+            let Some(literal) = negative_of(alloc, number.text, joined)? else {
+                return Ok(None);
+            };
+            Ok(Some(literal))
         }
         _ => Ok(None),
     }
