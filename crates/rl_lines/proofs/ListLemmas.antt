@@ -10,7 +10,7 @@ use Rattle.rl_tokens.specs.Trees.{Tree}
 use Rattle.rust_literals.specs.declared.lit.Lit.{Lit}
 use Rattle.rust_literals.specs.declared.lit.Lit.TheVariants.{Str as StrLit, ByteStr as ByteStrLit, CStr as CStrLit, Byte as ByteLit, Char as CharLit, Int as IntLit, Float as FloatLit, Bool as BoolLit, Verbatim}
 use Rattle.rust_literals.specs.Parsing.{ReadsLiterals, AreRead}
-use Rattle.rl_lines.specs.Lines.{literal_line, verbatim_line, AreLinesOf, UseUp, AreLinesOfText, PrintsLit, PrintsList}
+use Rattle.rl_lines.specs.Lines.{literal_line, verbatim_line, AreLinesOf, ReadsTokens, AreLinesOfText, PrintsLit, PrintsList}
 use Rattle.rl_lines.proofs.TextLemmas.{line_of_text}
 
 -- A literal's line, apart from what stands before it.
@@ -38,7 +38,7 @@ prints_more (x ∷ ls) l a b c (m, p, h) k = (m, p, prints_more ls l m b c h k)
 -- The lines of literals, and the tokens that they were read from.
 record LinesApart (trees : List Tree) (old new : List ℕ) : Type 0 where
   pub tokens : List SpannedText
-  pub used : UseUp trees tokens
+  pub used : ReadsTokens trees tokens
   pub shown : List ℕ
   pub lines : AreLinesOf tokens shown
   pub new_is : new ≡ old ++ shown

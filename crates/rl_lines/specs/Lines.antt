@@ -62,16 +62,16 @@ AreLinesOf [] shown = shown ≡ []
 AreLinesOf (t ∷ ts) shown = (first rest : List ℕ) × IsLineOf (chars t.text) first × AreLinesOf ts rest × (shown ≡ first ++ rest)
 
 -- Literals begin the trees one after another, as these tokens, up to the trees' end.
-abbrev pub UseUp : List Tree → List SpannedText → Type 0
-UseUp trees [] = trees ≡ []
-UseUp trees (t ∷ ts) = (rest : List Tree) × IsFront trees t rest × UseUp rest ts
+abbrev pub ReadsTokens : List Tree → List SpannedText → Type 0
+ReadsTokens trees [] = trees ≡ []
+ReadsTokens trees (t ∷ ts) = (rest : List Tree) × IsFront trees t rest × ReadsTokens rest ts
 
 -- The text is cut into the trees of literals, and these are their lines.
 pub record AreLinesOfText (text shown : List ℕ) : Type 0 where
   pub trees : List Tree
   pub tokens : List SpannedText
   pub lexes : Lexes text 0 trees
-  pub used : UseUp trees tokens
+  pub used : ReadsTokens trees tokens
   pub lines : AreLinesOf tokens shown
 
 -- ---- a literal that is printed behind what was printed before

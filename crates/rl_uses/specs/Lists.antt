@@ -13,13 +13,13 @@ use Rattle.rl_uses.specs.declared.list.Item.TheVariants.{Int, Str}
 use Rattle.rl_uses.specs.declared.list.ItemList.{ItemList}
 
 -- the literal of the item begins the trees, and the rest stands behind it
-abbrev pub IsItemOf : {A : Type 0} → List Tree → Item A → List Tree → Type 0
-IsItemOf trees (Int literal) rest = IsFrontOf IntKind trees literal rest
-IsItemOf trees (Str literal) rest = IsFrontOf StrKind trees literal rest
+abbrev pub IsItemLiteral : {A : Type 0} → List Tree → Item A → List Tree → Type 0
+IsItemLiteral trees (Int literal) rest = IsFrontOf IntKind trees literal rest
+IsItemLiteral trees (Str literal) rest = IsFrontOf StrKind trees literal rest
 
 -- The item begins the trees, and the rest stands behind it; the rest is shorter.
 pub record IsItem {A : Type 0} (trees : List Tree) (item : Item A) (rest : List Tree) : Type 0 where
-  pub literal : IsItemOf trees item rest
+  pub literal : IsItemLiteral trees item rest
   pub shorter : length rest < length trees
 
 -- Neither an integer nor a string begins the trees: this is told there, with the words of both.

@@ -2,6 +2,7 @@ pub mod HeldLemmas
 pub mod LitLemmas
 pub mod LeadsLemmas
 pub mod ItemFronts
+pub mod StrictLits
 pub mod PrintedLemmas
 pub mod AgainLemmas
 pub mod PeekLemmas

@@ -9,7 +9,7 @@ use Rattle.rl_tokens.specs.declared.kind.Kind.TheVariants.{Bool as BoolKind}
 use Rattle.rl_tokens.specs.declared.error.Error.{Error}
 use Rattle.rl_tokens.specs.declared.error.ErrorKind.TheVariants.{Memory}
 use Rattle.rl_tokens.specs.Trivia.{IsTrivia}
-use Rattle.rl_tokens.specs.Reading.{ReadsAs, truth_text}
+use Rattle.rl_tokens.specs.Reading.{ReadsAs, truth_text, Reads}
 use Rattle.rl_tokens.specs.Texts.{byte_len}
 use Rattle.rl_tokens.specs.Printed.{Item, WordItem, LiteralItem, MinusItem, item_text, Entry, printed_text, token_at, IsStrictItem, Printed}
 use Rattle.rl_tokens.specs.PrintedTrees.{printed_trees}
@@ -22,6 +22,7 @@ use Rattle.rust_literals.specs.Parsing.{AreRead}
 use Rattle.rust_literals.specs.ReadBack.{HoldsOrMemory, IsItemRead, AreItems}
 use Rattle.rust_literals.proofs.LitLemmas.{read_lit}
 use Rattle.rust_literals.proofs.ItemFronts.{IsFrontItem, AreReadAt, items_lead, spells_words}
+use Rattle.rust_literals.proofs.StrictLits.{lit_from, item_is}
 
 -- A strict item reads, behind a minus too.
 item_reads : (item : Item) → IsStrictItem item → HasReading (item_text item)
@@ -41,8 +42,15 @@ item_lit : (A : Type 0) (file at : ℕ) (item : Item) → IsStrictItem item → 
 item_lit A file at item is h =
     let same : chars (encode_utf8_all (item_text item)) ≡ item_text item = chars-encodes (item_text item) h in
     let (kind, reads) = item_reads item is in
-    let (lit, read, kind_is) = read_lit A (token_at file at (item_text item)) (Some kind) (spells_words (item_text item) same) (subst (λ (x : List ℕ). ReadsAs kind x) (sym same) reads) in
-    (lit, record { read = read; characters = same; kind = (kind, kind_is, reads) })
+    let (lit, read, kind_is) = read_lit A (token_at file at (item_text item)) (Some kind) (spells_words (item_text item) same) (subst (λ (x : List ℕ). ReadsAs kind x) (sym same) reads) in (
+      lit,
+      record {
+        read = read;
+        characters = same;
+        kind = (kind, kind_is, reads);
+        is_of = λ k v x of. lit_from (token_at file at (item_text item)) lit k v x read (subst (λ (t : List ℕ). Reads t k v x) (sym same) (item_is item is k v x of));
+      },
+    )
 
 -- all items in turn
 abbrev ItemLits : Type 0 → (file at : ℕ) → List Entry → Type 0

@@ -11,7 +11,7 @@ use Rattle.rl_tokens.specs.declared.span.Span.{Span}
 use Rattle.rl_grammar.specs.WholeShapes.{IsPlain}
 use Rattle.rust_literals.specs.Held.{HasOwnSuffix}
 use Rattle.rust_literals.specs.declared.lit.Lit.{Lit}
-use Rattle.rust_literals.specs.Literals.{kind_of, token_of}
+use Rattle.rust_literals.specs.Literals.{kind_of, token_of, IsLitOf}
 
 -- where the literal stands
 abbrev pub lit_span : {A : Type 0} → Lit A → Span
@@ -49,3 +49,8 @@ abbrev pub KeepsStrictBehindMinus : List ℕ → Type 0
 KeepsStrictBehindMinus text =
     (kind : Kind) (digits suffix : List ℕ) → IsTrue (is_number kind) → Strict text kind (Digits digits) suffix → IsWithinLimit kind text
     → Reads (45 ∷ text) kind (Digits (45 ∷ digits)) suffix
+
+-- what the text is strict as, an integer within the limit, the literal is: of that kind, with those contents and that suffix
+abbrev pub AgreesWithStrict : {A : Type 0} → List ℕ → Lit A → Type 0
+AgreesWithStrict text lit =
+    (kind : Kind) (contents : Contents) (suffix : List ℕ) → Strict text kind contents suffix → IsWithinLimit kind text → IsLitOf kind contents suffix lit

@@ -4,7 +4,7 @@ use Rattle.std.specs.Str.{chars}
 use Rattle.rl_tokens.specs.Texts.{SpannedText}
 use Rattle.rl_tokens.specs.declared.kind.Kind.TheVariants.{Str as StrKind, ByteStr as ByteStrKind, CStr as CStrKind, Byte as ByteKind, Char as CharKind, Int as IntKind, Float as FloatKind, Bool as BoolKind}
 use Rattle.rl_tokens.specs.declared.kind.Kind.{Kind}
-use Rattle.rl_tokens.specs.Reading.{ReadsAs, truth_text, HasNoReading}
+use Rattle.rl_tokens.specs.Reading.{ReadsAs, truth_text, HasNoReading, Contents, Reads}
 use Rattle.rust_literals.specs.declared.lit.Lit.{Lit}
 use Rattle.rust_literals.specs.declared.lit.Lit.TheVariants.{Str, ByteStr, CStr, Byte, Char, Int, Float, Bool, Verbatim}
 
@@ -40,3 +40,7 @@ IsReadAs None text = HasNoReading text
 -- The literal keeps the token, whose text reads as the literal's kind; `Verbatim` where the text has no reading.
 abbrev pub IsReadFrom : {A : Type 0} → SpannedText → Lit A → Type 0
 IsReadFrom token lit = (token_of lit ≡ token) × IsReadAs (kind_of lit) (chars token.text)
+
+-- the literal is of this kind, and its text reads with these contents and this suffix
+abbrev pub IsLitOf : {A : Type 0} → Kind → Contents → List ℕ → Lit A → Type 0
+IsLitOf kind contents suffix lit = (kind_of lit ≡ Some kind) × Reads (chars (token_of lit).text) kind contents suffix

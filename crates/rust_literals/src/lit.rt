@@ -97,16 +97,16 @@ impl<'a> View<'a> {
 
 impl<A: Allocator> Lit<A> {
     ghost use Rattle.rust_literals.specs.Literals.{IsReadFrom};
-    ghost use Rattle.rust_literals.specs.LitParts.{ReadsAsNumber, ReadsPlain, KeepsStrict, KeepsStrictBehindMinus};
+    ghost use Rattle.rust_literals.specs.LitParts.{ReadsAsNumber, ReadsPlain, KeepsStrict, KeepsStrictBehindMinus, AgreesWithStrict};
     ghost use Rattle.rl_grammar.specs.StrictBytes.{KeepsBytesStrict};
 
     /// The literal that the token's text reads as; `Verbatim` exactly where it has no reading. The
     /// token stays as it is, text and span.
     ///
-    /// A strict text, an integer within 128 bits, is read with the kind, contents and suffix that
-    /// it has there (`strict`), and a strict number behind a minus too. A text without CR is a
-    /// byte, or a byte string with escapes, and its suffix empty or a word, exactly where it is a
-    /// strict one (`strict_bytes`).
+    /// Of a strict text, an integer within 128 bits, the literal is of the kind, contents and
+    /// suffix that the text has there (`strict_found`): it reads so (`strict`), and a strict number
+    /// behind a minus too. A text without CR is a byte, or a byte string with escapes, and its
+    /// suffix empty or a word, exactly where it is a strict one (`strict_bytes`).
     ///
     /// # Errors
     ///
@@ -127,6 +127,7 @@ impl<A: Allocator> Lit<A> {
         ensures memory { IfErr result (λ k. k.error ≡ memory_at token.span) }
         ensures numbers_alone { IfErr result (λ k. ReadsAsNumber (chars token.text)) }
         ensures lent { IfErr result (λ k. ReadsPlain token.text → ⊥) }
+        ensures strict_found { IfOk result (AgreesWithStrict (chars token.text)) }
         ensures strict { KeepsStrict (chars token.text) }
         ensures strict_behind_minus { KeepsStrictBehindMinus (chars token.text) }
         ensures strict_bytes { KeepsBytesStrict (chars token.text) }

@@ -1,6 +1,8 @@
 use Rattle.std.specs.Str.{chars}
 use Rattle.rl_tokens.proofs.Agreeing.{strict_reads, strict_minus}
 use Rattle.rl_grammar.proofs.StrictBytesLemmas.{bytes_are_strict}
+use Rattle.std.proofs.lemmas.Result.{IfOk-weaker}
+use Rattle.rust_literals.proofs.StrictLits.{agrees}
 use Rattle.rust_literals.proofs.lit.Lit.new.Goals as goal
 
 pub returns-clause-strict : goal.returns-clause-strict
@@ -11,3 +13,6 @@ returns-clause-strict_behind_minus g c = strict_minus (chars c.args.token.text)
 
 pub returns-clause-strict_bytes : goal.returns-clause-strict_bytes
 returns-clause-strict_bytes g c = bytes_are_strict (chars c.args.token.text)
+
+pub returns-clause-strict_found : goal.returns-clause-strict_found
+returns-clause-strict_found g c = IfOk-weaker c.of_found.result _ _ (λ lit h. agrees c.args.token lit h) c.of_found.ensures.reads

@@ -1,0 +1,94 @@
+-- The literal of a strict text is of the kind, contents and suffix that the text has.
+use Rattle.std.proofs.Common.{◌≡◌, ◌≤◌, ◌⊎◌, inl, inr, ℕ, ◌||◌, Bool, true, false, List, [], ◌∷◌, Some, refl, sym, ap, subst}
+use Rattle.std.specs.Prelude.{◌<◌, ◌==◌}
+use Rattle.std.proofs.lemmas.Bool.{cases_lt}
+use Rattle.std.specs.Str.{chars}
+use Rattle.std.specs.Char.{is_ascii_digit}
+use Rattle.rl_tokens.specs.Texts.{SpannedText, first_passes}
+use Rattle.rl_tokens.specs.declared.kind.Kind.{Kind}
+use Rattle.rl_tokens.specs.declared.kind.Kind.TheVariants.{Str, ByteStr, CStr, Byte, Char, Int, Float, Bool as BoolKind}
+use Rattle.rl_tokens.specs.Numbers.{Sign, NoSign, Minus, IntReads, limit}
+use Rattle.rl_tokens.specs.Reading.{Contents, Digits, Reads, truth_text, HasReading, IsPast}
+use Rattle.rl_tokens.specs.Strict.{Strict}
+use Rattle.rl_tokens.specs.Agreeing.{IsWithinLimit}
+use Rattle.rl_tokens.specs.Printed.{Item, WordItem, LiteralItem, MinusItem, item_text, IsStrictItem}
+use Rattle.rl_tokens.proofs.Agreeing.{strict_reads, strict_minus}
+use Rattle.rl_tokens.proofs.OneNumber.{int_once, int_front, begins_number}
+use Rattle.rl_tokens.proofs.StrictNumbers.{strict_int, minus_int}
+use Rattle.rl_grammar.specs.WholeShapes.{is_number_front}
+use Rattle.rl_grammar.proofs.NumberLemmas.{past_number}
+use Rattle.rl_grammar.proofs.ReadingLemmas.{only_number}
+use Rattle.rl_grammar.proofs.FrontLemmas.{truth_reads}
+use Rattle.rust_literals.specs.declared.lit.Lit.{Lit}
+use Rattle.rust_literals.specs.Literals.{kind_of, token_of, IsReadFrom, IsLitOf}
+use Rattle.rust_literals.specs.LitParts.{AgreesWithStrict}
+use Rattle.rust_literals.specs.ReadBack.{IsItemOf}
+use Rattle.rust_literals.proofs.LitLemmas.{one_kind}
+
+pub lit_from : {A : Type 0} (token : SpannedText) (lit : Lit A) (kind : Kind) (contents : Contents) (suffix : List ℕ) → IsReadFrom token lit → Reads (chars token.text) kind contents suffix → IsLitOf kind contents suffix lit
+lit_from token lit kind contents suffix (same, read) r = (
+  one_kind (chars token.text) (kind_of lit) (Some kind) read (contents, suffix, r),
+  subst (λ (t : SpannedText). Reads (chars t.text) kind contents suffix) (sym same) r,
+)
+
+pub agrees : {A : Type 0} (token : SpannedText) (lit : Lit A) → IsReadFrom token lit → AgreesWithStrict (chars token.text) lit
+agrees token lit read kind contents suffix strict within =
+    lit_from token lit kind contents suffix read (strict_reads (chars token.text) kind contents suffix strict within)
+
+-- ---- what reads is within the limit
+
+swapped : (a b : Bool) → (a || b) ≡ true → (b || a) ≡ true
+swapped true true h = refl
+swapped true false h = refl
+swapped false true h = refl
+swapped false false h = h
+
+number_front : (t : List ℕ) → begins_number t ≡ true → first_passes is_number_front t ≡ true
+number_front [] h = h
+number_front (c ∷ cs) h = swapped (is_ascii_digit c) (c == 45) h
+
+int_within : (t : List ℕ) → HasReading t → (sign : Sign) (magnitude : ℕ) (suffix : List ℕ) → IntReads t sign magnitude suffix → magnitude ≤ limit
+int_within t (kind, (contents, end, r)) sign magnitude suffix i = go (cases_lt limit magnitude)
+  where
+    go : (limit < magnitude) ⊎ (magnitude ≤ limit) → magnitude ≤ limit
+    go (inr small) = small
+    go (inl past) =
+        let is_past : IsPast t = record { sign = sign; magnitude = magnitude; suffix = suffix; reads = i; past = past } in
+        absurd (only_number t (number_front t (int_front t suffix sign magnitude i)) (past_number t is_past) kind contents end r)
+
+within_limit : (kind : Kind) (t : List ℕ) → HasReading t → IsWithinLimit kind t
+within_limit Int t reads = int_within t reads
+within_limit Str t reads = tt
+within_limit ByteStr t reads = tt
+within_limit CStr t reads = tt
+within_limit Byte t reads = tt
+within_limit Char t reads = tt
+within_limit Float t reads = tt
+within_limit BoolKind t reads = tt
+
+int_behind_minus : (t : List ℕ) (contents : Contents) (suffix : List ℕ) → Strict t Int contents suffix → HasReading (45 ∷ t) → (sign : Sign) (magnitude : ℕ) (end : List ℕ) → IntReads t sign magnitude end → magnitude ≤ limit
+int_behind_minus t contents suffix strict reads sign magnitude end i =
+    let n = strict_int t suffix contents strict in
+    let o = int_once t suffix end NoSign sign n.magnitude magnitude n.reads i in
+    subst (λ (z : ℕ). z ≤ limit) o.1 (int_within (45 ∷ t) reads Minus n.magnitude suffix (minus_int t suffix n.magnitude n.reads))
+
+within_minus : (kind : Kind) (t : List ℕ) (contents : Contents) (suffix : List ℕ) → Strict t kind contents suffix → HasReading (45 ∷ t) → IsWithinLimit kind t
+within_minus Int t contents suffix strict reads = int_behind_minus t contents suffix strict reads
+within_minus Str t contents suffix strict reads = tt
+within_minus ByteStr t contents suffix strict reads = tt
+within_minus CStr t contents suffix strict reads = tt
+within_minus Byte t contents suffix strict reads = tt
+within_minus Char t contents suffix strict reads = tt
+within_minus Float t contents suffix strict reads = tt
+within_minus BoolKind t contents suffix strict reads = tt
+
+-- ---- items
+
+pub item_is : (item : Item) → IsStrictItem item → (kind : Kind) (contents : Contents) (suffix : List ℕ) → IsItemOf kind contents suffix item → Reads (item_text item) kind contents suffix
+item_is (WordItem truth) is kind contents suffix strict =
+    strict_reads (truth_text truth) kind contents suffix strict (within_limit kind (truth_text truth) (BoolKind, truth_reads (truth_text truth) truth refl))
+item_is (LiteralItem text) (own, other, is, reads) kind contents suffix strict =
+    strict_reads text kind contents suffix strict (within_limit kind text reads)
+item_is (MinusItem text) (own, number, is, reads) kind contents suffix (digits, is_number, strict, same) =
+    subst (λ (c : Contents). Reads (45 ∷ text) kind c suffix) (sym same)
+    (strict_minus text kind digits suffix is_number strict (within_minus kind text (Digits digits) suffix strict reads))
