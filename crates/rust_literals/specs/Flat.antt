@@ -36,7 +36,7 @@ abbrev pub HasNoNumberNext : CursorState → Type 0
 HasNoNumberNext t =
     BeginsNoLexeme (chars t.rest)
     ⊎ ((l : Lexeme) × (new : CursorState) × TakesNext t l new
-        × ((form_view l.form ≢ LiteralForm) ⊎ HasNoReading (45 ∷ chars l.text.now)))
+    × ((form_view l.form ≢ LiteralForm) ⊎ HasNoReading (45 ∷ chars l.text.now)))
 
 -- A token of this form and text, and what is left behind it, begin no literal: the token is none, no word of a truth
 -- value, and no minus before a number.
@@ -51,7 +51,7 @@ abbrev pub HasNoNext : CursorState → Type 0
 HasNoNext t =
     BeginsNoLexeme (chars t.rest)
     ⊎ ((l : Lexeme) × (new : CursorState) × TakesNext t l new
-        × BeginsNoLiteral (form_view l.form) l.text.now new)
+    × BeginsNoLiteral (form_view l.form) l.text.now new)
 
 -- The list grows by the literal that is cut off.
 pub record AddsNext {A : Type 0} (file : ℕ) (old : CursorState) (list : List (Lit A)) (new : CursorState) (longer : List (Lit A)) : Type 0 where
