@@ -172,8 +172,8 @@ def lists_entry(text, their, our):
 
 def strict_entry(text, their, our):
     """The entry of a difference under `strict`, or None."""
-    if '\r' in text:
-        return 'CR LF, which rustc reads as LF'
+    if re.search(r'\\\n[ \t\n]*\r', text):
+        return 'a CR among the white space behind an escaped line end'
     return None
 
 
