@@ -1,4 +1,4 @@
-//! Reads many texts, one a line, and prints of each what `rl_tool` prints. For development: comparing at scale.
+//! Reads many texts, one a line, and answers each by its command. For development: comparing at scale.
 #![tactic(auto)]
 
 mod answer;

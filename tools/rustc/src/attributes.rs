@@ -1,0 +1,41 @@
+//! Attributes: `name = literal`, with commas between.
+
+use crate::literals::line;
+use crate::texts::Refusal;
+use crate::trees::Cut;
+use proc_macro::TokenTree;
+use std::collections::HashSet;
+
+/// The trees behind this mark.
+fn behind<'t>(cut: &Cut<'_>, trees: &'t [TokenTree], mark: char) -> Result<&'t [TokenTree], Refusal> {
+    match trees.first() {
+        Some(TokenTree::Punct(found)) if found.as_char() == mark => Ok(&trees[1..]),
+        _ => Err(cut.expected(trees, &format!("`{mark}`"))),
+    }
+}
+
+/// The line of each of the text's attributes: its name, and its literal's line.
+pub fn lines(cut: &Cut<'_>) -> Result<String, Refusal> {
+    let mut rest = &cut.trees[..];
+    let mut names = HashSet::new();
+    let mut out = String::new();
+    while !rest.is_empty() {
+        let Some(TokenTree::Ident(name)) = rest.first() else {
+            return Err(cut.expected(rest, "identifier"));
+        };
+        let (lo, hi) = cut.place(name.span());
+        if !names.insert(name.to_string()) {
+            return Err(Refusal::At(lo, hi, "repeated name".to_string()));
+        }
+        rest = behind(cut, &rest[1..], '=')?;
+        let Some(value) = cut.front(rest) else {
+            return Err(cut.expected(rest, "literal"));
+        };
+        out.push_str(&format!("{name} {}\n", line(&value.text)));
+        rest = &rest[value.trees..];
+        if !rest.is_empty() {
+            rest = behind(cut, rest, ',')?;
+        }
+    }
+    Ok(out)
+}

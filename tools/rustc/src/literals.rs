@@ -1,0 +1,87 @@
+//! Literals at the front of trees, after syn's parser of them.
+
+use crate::texts::{Refusal, written};
+use crate::trees::{Cut, is_whole};
+use proc_macro::{Literal, TokenTree};
+
+/// Whether the text is one literal token without an error, or a truth value.
+pub fn is_token(text: &str) -> bool {
+    if text == "true" || text == "false" {
+        return true;
+    }
+    let literal: Result<Literal, _> = text.parse();
+    !text.starts_with('-') && literal.is_ok_and(|literal| is_whole(&literal, text))
+}
+
+/// A literal that begins trees: its text, where it stands, and how many trees it takes.
+pub struct Front {
+    pub text: String,
+    pub lo: usize,
+    pub hi: usize,
+    pub trees: usize,
+}
+
+/// The line of a text, without LF.
+pub fn line(text: &str) -> String {
+    let line = String::from_utf8(synval::line(text)).expect("a line");
+    line.trim_end_matches('\n').to_string()
+}
+
+fn is_number(line: &str) -> bool {
+    line.starts_with("Int ") || line.starts_with("Float ")
+}
+
+impl Cut<'_> {
+    /// The literal that begins the trees, or None.
+    pub fn front(&self, trees: &[TokenTree]) -> Option<Front> {
+        let first = trees.first()?;
+        let (lo, hi) = self.place(first.span());
+        let whole = |text: String| Some(Front { text, lo, hi, trees: 1 });
+        match first {
+            TokenTree::Literal(literal) => whole(literal.to_string()),
+            TokenTree::Ident(word) if ["true", "false"].contains(&word.to_string().as_str()) => {
+                whole(word.to_string())
+            }
+            TokenTree::Punct(sign) if sign.as_char() == '-' => {
+                let Some(TokenTree::Literal(number)) = trees.get(1) else {
+                    return None;
+                };
+                let text = format!("-{number}");
+                let (_, hi) = self.place(number.span());
+                is_number(&line(&text)).then_some(Front { text, lo, hi, trees: 2 })
+            }
+            _ => None,
+        }
+    }
+
+    /// What is told where something else stands than this word says.
+    pub fn expected(&self, trees: &[TokenTree], word: &str) -> Refusal {
+        match trees.first() {
+            Some(tree) => {
+                let (lo, hi) = self.place(tree.span());
+                Refusal::At(lo, hi, format!("expected {word}"))
+            }
+            None => {
+                let end = self.text.len();
+                Refusal::At(end, end, format!("unexpected end of input, expected {word}"))
+            }
+        }
+    }
+}
+
+/// The kind of each of the text's literals, its bytes and its text, a line each.
+pub fn spans(cut: &Cut<'_>) -> Result<String, Refusal> {
+    let mut rest = &cut.trees[..];
+    let mut out = String::new();
+    while !rest.is_empty() {
+        let Some(found) = cut.front(rest) else {
+            return Err(cut.expected(rest, "literal"));
+        };
+        let line = line(&found.text);
+        let kind = line.split(' ').next().unwrap_or_default();
+        let Front { text, lo, hi, trees } = found;
+        out.push_str(&format!("{kind} {lo}..{hi} {}\n", written(&text)));
+        rest = &rest[trees..];
+    }
+    Ok(out)
+}

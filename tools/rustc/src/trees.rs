@@ -1,0 +1,103 @@
+//! Trees as rustc cuts them.
+
+use crate::texts::Refusal;
+use proc_macro::{Group, Literal, Spacing, Span, TokenStream, TokenTree};
+
+/// Whether the lexer told an error of the literal: of an escape, or of digits.
+fn is_faulty(literal: &Literal) -> bool {
+    format!("{literal:?}").contains("kind: Err")
+}
+
+/// Whether the literal is the text, without an error. Where a suffix is one, the literal lacks it.
+pub fn is_whole(literal: &Literal, text: &str) -> bool {
+    !is_faulty(literal) && literal.to_string() == text
+}
+
+/// Whether no literal of the trees is one that the lexer told an error of.
+fn are_sound(trees: TokenStream) -> bool {
+    trees.into_iter().all(|tree| match tree {
+        TokenTree::Literal(literal) => !is_faulty(&literal),
+        TokenTree::Group(group) => are_sound(group.stream()),
+        _ => true,
+    })
+}
+
+/// Whether the text is cut into trees, and the lexer told no error of a literal.
+pub fn lexes(text: &str) -> bool {
+    text.parse().is_ok_and(are_sound)
+}
+
+/// A text that was cut: its trees, and where it begins in its file.
+pub struct Cut<'a> {
+    pub text: &'a str,
+    pub trees: Vec<TokenTree>,
+    base: usize,
+}
+
+impl<'a> Cut<'a> {
+    /// The text between the braces of the group.
+    pub fn of(text: &'a str, group: Group) -> Result<Cut<'a>, Refusal> {
+        let base = group.span_open().byte_range().end;
+        let trees: Vec<_> = group.stream().into_iter().collect();
+        let cut = Cut { text, trees, base };
+        let mut named = None;
+        cut.check(&cut.trees, &mut named)?;
+        match named {
+            Some(refusal) => Err(refusal),
+            None => Ok(cut),
+        }
+    }
+
+    /// The bytes of the text.
+    pub fn place(&self, span: Span) -> (usize, usize) {
+        let range = span.byte_range();
+        (range.start - self.base, range.end - self.base)
+    }
+
+    /// Refuses a literal, also inside groups, that isn't what stands at its place, and finds what our lexer refuses first.
+    fn check(&self, trees: &[TokenTree], named: &mut Option<Refusal>) -> Result<(), Refusal> {
+        for tree in trees {
+            *named = named.take().or_else(|| self.refused_by_name(tree));
+            match tree {
+                TokenTree::Literal(literal) => self.check_literal(literal)?,
+                TokenTree::Group(group) => {
+                    let inside: Vec<_> = group.stream().into_iter().collect();
+                    self.check(&inside, named)?;
+                }
+                _ => (),
+            }
+        }
+        Ok(())
+    }
+
+    /// Refuses a literal that isn't what stands at its place, unless it is what a doc comment is turned into.
+    fn check_literal(&self, literal: &Literal) -> Result<(), Refusal> {
+        let (lo, hi) = self.place(literal.span());
+        let stands = &self.text[lo..hi];
+        if stands.starts_with('/') || is_whole(literal, stands) {
+            Ok(())
+        } else {
+            Err(Refusal::Unlexed)
+        }
+    }
+
+    /// What our lexer refuses by name, and where: a doc comment, a lifetime, a raw identifier.
+    fn refused_by_name(&self, tree: &TokenTree) -> Option<Refusal> {
+        let (lo, hi) = self.place(tree.span());
+        let word = match tree {
+            TokenTree::Punct(mark) if mark.as_char() == '#' && hi - lo > 1 => {
+                "doc comment is not carried"
+            }
+            TokenTree::Punct(mark)
+                if mark.as_char() == '\'' && mark.spacing() == Spacing::Joint =>
+            {
+                "lifetime is not carried"
+            }
+            TokenTree::Ident(name) if name.to_string().starts_with("r#") => {
+                "raw identifier is not carried"
+            }
+            _ => return None,
+        };
+        Some(Refusal::At(lo, lo, word.to_string()))
+    }
+}
