@@ -1,7 +1,7 @@
 use Rattle.std.proofs.Common.{arith, ◌∙◌, sym, subst}
 use Rattle.std.specs.Prelude.{IfSome}
 use Rattle.rl_tokens.proofs.Rests.{behind_length}
-use Rattle.rust_literals.proofs.FlatLemmas.{empty_text, when_some}
+use Rattle.rust_literals.proofs.FlatLemmas.{empty_text}
 use Rattle.rl_tool.specs.Lists.{Lengthens}
 use Rattle.rl_tool.proofs.ListLemmas.{first_none, first_more}
 use Rattle.rl_tool.proofs.list.first_lines.Goals as goal
@@ -16,16 +16,16 @@ loop-tokens-init g c = record {
 
 pub overflow_add-count : goal.overflow_add-count
 overflow_add-count g c =
-    let shorter = when_some c.read_next.result c.if-is_none.ensures c.read_next.ensures.shorter in
+    let shorter = c.in-Ok-true.ensures.shorter c.in-Ok-true.field-0-test in
     omega (arith, c.loop-tokens.invariant.room, shorter)
 
 pub loop-tokens-smaller : goal.loop-tokens-smaller
-loop-tokens-smaller g c = when_some c.read_next.result c.if-is_none.ensures c.read_next.ensures.shorter
+loop-tokens-smaller g c = c.in-Ok-true.ensures.shorter c.in-Ok-true.field-0-test
 
 pub loop-tokens-preserved : goal.loop-tokens-preserved
 loop-tokens-preserved g c =
-    let shorter = when_some c.read_next.result c.if-is_none.ensures c.read_next.ensures.shorter in
-    let adds = when_some c.read_next.result c.if-is_none.ensures c.read_next.ensures.next in
+    let shorter = c.in-Ok-true.ensures.shorter c.in-Ok-true.field-0-test in
+    let adds = c.in-Ok-true.ensures.next c.in-Ok-true.field-0-test in
     record {
       has = first_more c.args.text.now c.loop-tokens.tokens c.read_next.new.tokens c.loop-tokens.lines c.with_lines-lines.result c.loop-tokens.count c.loop-tokens.one.items c.read_next.new.list.items
           c.loop-tokens.invariant.same c.loop-tokens.invariant.empty c.loop-tokens.invariant.has adds
@@ -34,13 +34,6 @@ loop-tokens-preserved g c =
       empty = c.clear.ensures.items;
       room = omega (arith, c.loop-tokens.invariant.room, shorter);
     }
-
-pub returns-then-is_none : goal.returns-then-is_none
-returns-then-is_none g c = record {
-  rest = c.loop-tokens.tokens.rest;
-  has = c.loop-tokens.invariant.has;
-  ends = λ e. absurd (cc);
-}
 
 pub returns : goal.returns
 returns g c =
