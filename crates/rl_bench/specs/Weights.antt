@@ -7,7 +7,7 @@ use Rattle.rl_tokens.specs.declared.lex_error.LexKind.{LexKind}
 use Rattle.rl_tokens.specs.declared.error.Error.{Error}
 use Rattle.rl_tokens.specs.declared.error.ErrorKind.TheVariants.{Memory}
 use Rattle.rl_tokens.specs.Reading.{Contents, Characters, Bytes, Digits, Truth, Reads, HasContents, HasSuffix}
-use Rattle.rl_tokens.specs.Lexing.{byte_len, Lexes, Fault}
+use Rattle.rl_tokens.specs.Lexing.{byte_len, Cut, Cuts, BeginsNoLexeme, Lexes, Fault}
 use Rattle.rl_tokens.specs.Trees.{Tree}
 use Rattle.rl_grammar.specs.NumberShapes.{HasNoReading}
 use Rattle.rl_grammar.specs.WholeShapes.{IsCut}
@@ -62,6 +62,10 @@ pub record IsValueWeight (kind : Kind) (text : List ℕ) (weight : ℕ) : Type 0
 -- the weight of a text by its value; a text that is no literal weighs nothing
 abbrev pub HasValueWeight : List ℕ → ℕ → Type 0
 HasValueWeight text weight = ((kind : Kind) × IsValueWeight kind (chars text) weight) ⊎ (HasNoReading (chars text) × (weight ≡ 0))
+
+-- this many tokens can be cut off the text, until none begins what is left
+abbrev pub HasTokenCount : List ℕ → ℕ → Type 0
+HasTokenCount text count = (cuts : List Cut) × (rest : List ℕ) × Cuts 0 (chars text) cuts rest × BeginsNoLexeme rest × (count ≡ length cuts)
 
 -- a text is cut into this many trees, groups as one; or it has a fault, and none
 abbrev pub HasTreeCount : List ℕ → ℕ → Type 0
