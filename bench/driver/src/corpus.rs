@@ -18,6 +18,16 @@ impl Form {
     pub fn is_bad(self) -> bool {
         matches!(self, Form::Spoiled | Form::Hostile)
     }
+
+    /// What tables call it.
+    pub fn word(self) -> &'static str {
+        match self {
+            Form::Literals => "literals",
+            Form::List => "list",
+            Form::Spoiled => "spoiled",
+            Form::Hostile => "hostile",
+        }
+    }
 }
 
 /// Texts behind one another, and the place where each ends.

@@ -15,7 +15,11 @@ pub fn check() -> Result<(), String> {
     // 1 + 2 + 1, 6 + 3 + 2, 8
     wanted("value", ours::value(&corpus), 23)?;
     wanted("literal", ours::literal(&corpus), 23)?;
-    wanted("lent", ours::lent(&corpus), 23)?;
+    wanted("value_ref", ours::value_ref(&corpus), 23)?;
+    // 1 + 2 + 1, 6 + 255 + 2, 8
+    wanted("lent", ours::lent(&corpus), 275)?;
+    // 1, 1, 1, 5, 1
+    wanted("tokens", ours::tokens(&corpus), 9)?;
     // 1, 1, 1, 3, none, 1
     wanted("lex", ours::lex(&corpus), 7)?;
     // 1, 1, none, none, 1

@@ -1,0 +1,37 @@
+"""Requests of memory and their bytes, by valgrind's dhat."""
+import collections
+import concurrent.futures
+import re
+import subprocess
+
+# bytes of a corpus whose requests are counted
+SIZE = 100_000
+# what is asked for: how often, and how many bytes in all
+Asked = collections.namedtuple('Asked', 'requests bytes')
+
+
+def total(driver, verb, row):
+    """All that a run of the driver asks for, and what it prints."""
+    command = ['valgrind', '--tool=dhat', '--dhat-out-file=/dev/null', driver, verb, row.corpus, row.work, str(SIZE)]
+    run = subprocess.run(command, check=True, capture_output=True, text=True)
+    size, blocks = re.search(r'Total: +([\d,]+) bytes in ([\d,]+) blocks', run.stderr).groups()
+    return Asked(int(blocks.replace(',', '')), int(size.replace(',', ''))), run.stdout
+
+
+def of_row(driver, row):
+    """What a work asks for, and for how many literals or trees."""
+    (asked, printed), (before, _) = total(driver, 'once', row), total(driver, 'none', row)
+    _, texts, made = [int(word) for word in printed.split()]
+    taken = Asked(asked.requests - before.requests, asked.bytes - before.bytes)
+    return taken, texts if row.form == 'literals' else made
+
+
+def print_table(driver, jobs, rows):
+    print('\n## Memory\n')
+    print('Requests of memory, and the bytes that they ask for in all, by dhat on %d bytes.\n' % SIZE)
+    print('| Corpus | work | literals or trees | requests | each | bytes | each |\n|---|---|---|---|---|---|---|')
+    good = [row for row in rows if row.form in ('literals', 'list')]
+    with concurrent.futures.ThreadPoolExecutor(jobs) as pool:
+        for row, (asked, count) in zip(good, pool.map(lambda row: of_row(driver, row), good)):
+            cells = (row.corpus, row.work, count, asked.requests, asked.requests / count, asked.bytes, asked.bytes / count)
+            print('| `%s` | %s | %d | %d | %.2f | %d | %.1f |' % cells, flush=True)
