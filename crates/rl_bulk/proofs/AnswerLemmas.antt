@@ -4,10 +4,12 @@ use Rattle.std.specs.Prelude.{codes}
 use Rattle.std.specs.Str.{chars, IsUtf8}
 use Rattle.rl_tokens.specs.declared.kind.Kind.TheVariants.{Int as IntKind}
 use Rattle.rust_literals.specs.declared.lit.Lit.{Lit}
+use Rattle.rust_literals.specs.Literals.{token_of, IsReadFrom}
 use Rattle.rust_literals.specs.Parsing.{AreRead}
 use Rattle.rl_lines.specs.Lines.{PrintsKind, PrintsFloat, PrintsList}
 use Rattle.rl_lines.proofs.LineLemmas.{pushed}
 use Rattle.rl_lines.proofs.ListLemmas.{lines_of_text}
+use Rattle.rl_bulk.specs.Lent.{IsHeld}
 use Rattle.rl_bulk.specs.Answers.{IsIntegerAnswer, IsFloatAnswer, IsReadAnswer}
 
 -- the line of an integer with the text
@@ -29,3 +31,7 @@ point_pushed old new u e = pushed old new (46 ∷ 10 ∷ []) u e ∙ ap (λ z. c
 -- the lines of the literals that the text is
 pub read_lines : {A B : Type 0} (bytes : List ℕ) (list : List (Lit B)) (out : List ℕ) → AreRead (chars bytes) 0 list → ((lines : List ℕ) × PrintsList list [] lines × (chars out ≡ lines ++ codes ".\n")) → IsReadAnswer A bytes out
 read_lines bytes list out read (lines, prints, e) = inl (lines, lines_of_text (chars bytes) list [] lines read prints refl, e)
+
+-- a literal is read from the token that it keeps
+pub held_read : {A : Type 0} (literal : Lit A) → IsHeld literal → IsReadFrom (token_of literal) literal
+held_read literal h = (refl, h)

@@ -9,13 +9,18 @@ use Rattle.rl_tokens.specs.Trivia.{Skipped}
 use Rattle.rl_tokens.specs.Lexing.{byte_len}
 use Rattle.rl_tokens.specs.Reading.{HasNoInteger}
 use Rattle.rl_grammar.specs.NumberShapes.{IsPast, HasNoFloat}
+use Rattle.rl_grammar.specs.StrictShapes.{IsToken}
 use Rattle.rust_literals.specs.Parsing.{RefusesText}
-use Rattle.rl_lines.specs.Refusals.{refusal_line}
 use Rattle.rl_lines.specs.Lines.{IsLineOf, AreLinesOfText, PrintsKind, PrintsFloat}
 use Rattle.rl_bulk.specs.declared.command.Command.{Command}
-use Rattle.rl_bulk.specs.declared.command.Command.TheVariants.{Text, Int, Float, Skip, Read}
-use Rattle.rl_bulk.specs.Asked.{name_of}
+use Rattle.rl_bulk.specs.declared.command.Command.TheVariants.{Text, Int, Float, Skip, Strict, Value, Read, Spans, Attr}
 use Rattle.rl_lines.specs.Digits.{bytes_of}
+use Rattle.rl_attributes.specs.Attributes.{RefusesText as RefusesAttributeText}
+use Rattle.rl_attributes.specs.EntryLines.{ShowsAttributes}
+use Rattle.rl_bulk.specs.Asked.{name_of}
+use Rattle.rl_bulk.specs.Refused.{refusal_lines}
+use Rattle.rl_bulk.specs.Lent.{IsLentAnswer}
+use Rattle.rl_bulk.specs.Spans.{IsSpansAnswer}
 
 -- the line of the text as an integer, or why it is none
 abbrev pub IsIntegerAnswer : List ℕ → List ℕ → Type 0
@@ -30,9 +35,9 @@ IsFloatAnswer text out = PrintsFloat text [] (chars out) ⊎ (HasNoFloat text ×
 abbrev pub IsSkipAnswer : List ℕ → List ℕ → Type 0
 IsSkipAnswer text out = (rest : List ℕ) × Skipped text rest × (out ≡ decimal (byte_len rest) ++ codes "\n")
 
--- the line of a refusal, and one with a point
-abbrev pub refusal_lines : {A : Type 0} → Error A → List ℕ
-refusal_lines e = refusal_line e ++ codes "\n.\n"
+-- whether the text is a token of the strict grammar
+abbrev pub IsStrictAnswer : List ℕ → List ℕ → Type 0
+IsStrictAnswer text out = (IsToken text × (out ≡ codes "true\n")) ⊎ ((IsToken text → ⊥) × (out ≡ codes "false\n"))
 
 -- the lines of the literals that the bytes' text is, and one with a point, or those of its refusal
 abbrev pub IsReadAnswer : Type 0 → List ℕ → List ℕ → Type 0
@@ -40,13 +45,23 @@ IsReadAnswer A bytes out =
     ((lines : List ℕ) × AreLinesOfText (chars bytes) lines × (chars out ≡ lines ++ codes ".\n"))
     ⊎ ((e : Error A) × RefusesText (chars bytes) 0 (length bytes) e × (out ≡ refusal_lines e))
 
+-- the lines of the attributes that the bytes' text is, and one with a point, or those of its refusal
+abbrev pub IsAttributesAnswer : Type 0 → List ℕ → List ℕ → Type 0
+IsAttributesAnswer A bytes out =
+    ((lines : List ℕ) × ShowsAttributes (chars bytes) lines × (chars out ≡ lines ++ codes ".\n"))
+    ⊎ ((e : Error A) × RefusesAttributeText (chars bytes) 0 (length bytes) e × (out ≡ refusal_lines e))
+
 -- what a command answers to the bytes of a text
 abbrev pub Answers : Type 0 → Command → List ℕ → List ℕ → Type 0
 Answers A Text bytes out = IsLineOf (chars bytes) (chars out)
 Answers A Int bytes out = IsIntegerAnswer (chars bytes) out
 Answers A Float bytes out = IsFloatAnswer (chars bytes) out
 Answers A Skip bytes out = IsSkipAnswer (chars bytes) out
+Answers A Strict bytes out = IsStrictAnswer (chars bytes) out
+Answers A Value bytes out = IsLentAnswer bytes out
 Answers A Read bytes out = IsReadAnswer A bytes out
+Answers A Spans bytes out = IsSpansAnswer A bytes out
+Answers A Attr bytes out = IsAttributesAnswer A bytes out
 
 -- the answer to bytes, where the digits stand for some: they may be no text
 abbrev pub AnswersBytes : Type 0 → Command → Option (List ℕ) → List ℕ → Type 0

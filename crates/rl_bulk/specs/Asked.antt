@@ -1,7 +1,7 @@
 -- What a line of input can ask for.
 use Rattle.std.specs.Prelude.{ℕ, List, codes}
 use Rattle.rl_bulk.specs.declared.command.Command.{Command}
-use Rattle.rl_bulk.specs.declared.command.Command.TheVariants.{Text, Int, Float, Skip, Read}
+use Rattle.rl_bulk.specs.declared.command.Command.TheVariants.{Text, Int, Float, Skip, Strict, Value, Read, Spans, Attr}
 
 -- the word that asks for a command
 abbrev pub name_of : Command → List ℕ
@@ -9,4 +9,8 @@ name_of Text = codes "text"
 name_of Int = codes "int"
 name_of Float = codes "float"
 name_of Skip = codes "skip"
+name_of Strict = codes "strict"
+name_of Value = codes "value"
 name_of Read = codes "read"
+name_of Spans = codes "spans"
+name_of Attr = codes "attr"

@@ -1,2 +1,5 @@
 pub mod Asked
+pub mod Refused
+pub mod Lent
+pub mod Spans
 pub mod Answers

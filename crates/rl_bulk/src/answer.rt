@@ -10,15 +10,21 @@ ghost use Rattle.rl_bulk.specs.Answers.{
   IsFloatAnswer,
   IsSkipAnswer,
   IsReadAnswer,
-  refusal_lines,
+  IsStrictAnswer,
   Answers,
   AnswersBytes,
   IsAnswerOf,
 };
 
+use crate::attributes::attributes_answer;
 use crate::command::Command;
-use rl_lines::{Refusal, decoded, line_of, lines_of};
-use rl_tokens::{Error, ErrorKind, Literal, Span, whitespace};
+use crate::ending::{ended, refused};
+use crate::lent::value_answer;
+use crate::literal::literal_of;
+use crate::spans::spans_answer;
+use rl_grammar::strict::is_token;
+use rl_lines::{decoded, line_of, lines_of};
+use rl_tokens::{ErrorKind, Span, whitespace};
 use rust_literals::{Lit, LitFloat, LitInt, read_all};
 use std::alloc::{AllocError, Global};
 
@@ -26,13 +32,7 @@ use std::alloc::{AllocError, Global};
 fn text_answer(alloc: Global, text: &str) -> Result<String, AllocError>
     ensures { IfOk result (λ out. IsLineOf (chars text.now) (chars (string_bytes out))) }
 {
-    let span = Span::new(0, 0, text.len());
-    let Ok(token) = Literal::from_text(alloc, text, span) else {
-        return Err(AllocError);
-    };
-    let Ok(literal) = Lit::new(alloc, token) else {
-        return Err(AllocError);
-    };
+    let literal = literal_of(alloc, text)?;
     line_of(alloc, &literal)
 }
 
@@ -70,11 +70,15 @@ fn skip_answer(alloc: Global, text: &str) -> Result<String, AllocError>
     format!(in alloc; "{}\n", whitespace::skip(text).len())
 }
 
-/// The line of a refusal, and one with a point.
-fn refusal_answer(alloc: Global, error: &Error) -> Result<String, AllocError>
-    ensures { IfOk result (λ out. string_bytes out ≡ refusal_lines error.now) }
+/// Whether the text is a token of the strict grammar.
+fn strict_answer(alloc: Global, text: &str) -> Result<String, AllocError>
+    ensures { IfOk result (λ out. IsStrictAnswer (chars text.now) (string_bytes out)) }
 {
-    format!(in alloc; "{}\n.\n", Refusal(error))
+    if is_token(text) {
+        String::from_str(alloc, "true\n")
+    } else {
+        String::from_str(alloc, "false\n")
+    }
 }
 
 /// The lines of literals, and one with a point.
@@ -82,9 +86,7 @@ fn list_answer(alloc: Global, literals: &[Lit]) -> Result<String, AllocError>
     ensures { IfOk result (λ out. (lines : List ℕ) × PrintsList literals.now [] lines
         × (chars (string_bytes out) ≡ lines ++ codes ".\n")) }
 {
-    let mut lines = lines_of(alloc, literals)?;
-    lines.push_str(".\n")?;
-    Ok(lines)
+    ended(lines_of(alloc, literals)?)
 }
 
 /// The lines of the text's literals, or of its refusal, and one with a point.
@@ -93,7 +95,7 @@ fn read_answer(alloc: Global, text: &str) -> Result<String, AllocError>
 {
     match read_all(alloc, text, 0) {
         Ok(literals) => list_answer(alloc, literals.as_slice()),
-        Err(error) => refusal_answer(alloc, &error),
+        Err(error) => refused(alloc, &error),
     }
 }
 
@@ -106,7 +108,11 @@ fn text_asked(alloc: Global, command: Command, text: &str) -> Result<String, All
         Command::Int => integer_answer(alloc, text),
         Command::Float => float_answer(alloc, text),
         Command::Skip => skip_answer(alloc, text),
+        Command::Strict => strict_answer(alloc, text),
+        Command::Value => value_answer(alloc, text),
         Command::Read => read_answer(alloc, text),
+        Command::Spans => spans_answer(alloc, text),
+        Command::Attr => attributes_answer(alloc, text),
     }
 }
 
@@ -137,7 +143,8 @@ pub fn parts_of(line: &str) -> (&str, &str)
 
 /// What is printed for a line of input. Under `text` a literal's line; under `int` and `float` such a line, `None` where
 /// the text is no such number, or `TooLarge`; under `skip` how many bytes stand behind white space and comments; under
-/// `read` lines up to one with a point. Another command, digits that aren't hexadecimal or come in no pairs, and bytes
+/// `strict` whether the text is a strict token; under `value` what it lends, or `None`; under `read`, `spans` and `attr`
+/// lines up to one with a point. Another command, digits that aren't hexadecimal or come in no pairs, and bytes
 /// that aren't UTF-8 are each answered by a line of their own.
 pub fn answer(alloc: Global, line: &str) -> Result<String, AllocError>
     ensures { IfOk result (λ out. IsAnswerOf Global line.now (string_bytes out)) }

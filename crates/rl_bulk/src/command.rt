@@ -9,8 +9,16 @@ pub enum Command {
     Float,
     /// How much stands behind white space and comments.
     Skip,
+    /// Whether the text is a token of the strict grammar.
+    Strict,
+    /// What the text stands for as a literal, where that is its body.
+    Value,
     /// The text as literals, with white space and comments between them.
     Read,
+    /// Where the literals of the text stand.
+    Spans,
+    /// The text as attributes.
+    Attr,
 }
 
 impl Command {
@@ -28,7 +36,11 @@ impl Command {
             "int" => Some(Command::Int),
             "float" => Some(Command::Float),
             "skip" => Some(Command::Skip),
+            "strict" => Some(Command::Strict),
+            "value" => Some(Command::Value),
             "read" => Some(Command::Read),
+            "spans" => Some(Command::Spans),
+            "attr" => Some(Command::Attr),
             _ => None,
         }
     }

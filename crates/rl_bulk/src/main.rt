@@ -2,8 +2,13 @@
 #![tactic(auto)]
 
 mod answer;
+mod attributes;
 mod command;
+mod ending;
+mod lent;
 mod line;
+mod literal;
+mod spans;
 
 use std::io;
 use std::io::{BufRead, BufReader, BufWriter, Write};

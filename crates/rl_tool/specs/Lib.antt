@@ -1,9 +1,4 @@
 pub mod Streams
-pub mod Attributes
-pub mod Entries
-pub mod AttributeParsing
-pub mod AttributeSteps
-pub mod EntryLines
 pub mod Runs
 pub mod Lists
 pub mod Faults

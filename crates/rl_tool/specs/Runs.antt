@@ -14,8 +14,8 @@ use Rattle.rl_tool.specs.declared.fault.Fault.{Fault}
 use Rattle.rl_tool.specs.declared.fault.Fault.TheVariants.{Read, Write, NotText, Memory, Literal}
 use Rattle.rl_lines.specs.Lines.{IsLineOf, AreLinesOfText}
 use Rattle.rl_tool.specs.Streams.{AppendsBeginning}
-use Rattle.rl_tool.specs.Attributes.{Attribute, AreAttributesOf, RefusesText as RefusesAttributeText}
-use Rattle.rl_tool.specs.EntryLines.{ShowsAttributes}
+use Rattle.rl_attributes.specs.Attributes.{Attribute, AreAttributesOf, RefusesText as RefusesAttributeText}
+use Rattle.rl_attributes.specs.EntryLines.{ShowsAttributes}
 
 -- what a command prints of a text
 abbrev pub Shows : Command → List ℕ → List ℕ → Type 0

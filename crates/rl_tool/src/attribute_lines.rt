@@ -1,43 +1,14 @@
-//! The lines of attributes.
+//! The lines of a text's attributes.
 
-ghost use Rattle.std.specs.Prelude.{[], OnOk, IfOk, IfErr, string_bytes};
+ghost use Rattle.std.specs.Prelude.{IfOk, IfErr, string_bytes};
 ghost use Rattle.std.specs.Str.{chars};
 ghost use Rattle.rl_tool.specs.declared.command.Command.TheVariants.{Attr};
 ghost use Rattle.rl_tool.specs.Runs.{Shows, IsRefusalOf};
-ghost use Rattle.rl_tool.specs.EntryLines.{PrintsEntry, PrintsEntries};
 
-use crate::attr::{Entry, read};
+use crate::attr::read;
 use crate::fault::Fault;
-use rl_lines::line_of;
-use std::alloc::{AllocError, Allocator};
-
-/// Writes an attribute's line at the end: its name, a space, and its literal's line.
-fn push_entry<A: Allocator + Copy>(
-    alloc: A,
-    out: &mut String<A>,
-    entry: &Entry<A>,
-) -> Result<(), AllocError>
-    ensures { OnOk result
-        (PrintsEntry entry.now (chars (string_bytes out.old)) (chars (string_bytes out.new))) }
-{
-    let line = line_of(alloc, &entry.value)?;
-    out.push_str(entry.name.as_str())?;
-    out.push_str(" ")?;
-    out.push_str(line.as_str())?;
-    Ok(())
-}
-
-/// The lines of attributes, one after another.
-fn lines_of<A: Allocator + Copy>(alloc: A, entries: &[Entry<A>]) -> Result<String<A>, AllocError>
-    ensures { IfOk result
-        (λ lines. PrintsEntries entries.now [] (chars (string_bytes lines))) }
-{
-    let mut lines = String::new(alloc);
-    for entry in entries {
-        push_entry(alloc, &mut lines, entry)?;
-    }
-    Ok(lines)
-}
+use rl_attributes::entry_lines;
+use std::alloc::Allocator;
 
 /// The lines of the text's attributes.
 pub fn attribute_lines<A: Allocator + Copy>(alloc: A, text: &str) -> Result<String<A>, Fault<A>>
@@ -48,6 +19,6 @@ pub fn attribute_lines<A: Allocator + Copy>(alloc: A, text: &str) -> Result<Stri
         Ok(attrs) => attrs,
         Err(error) => return Err(Fault::Literal(error)),
     };
-    let lines = lines_of(alloc, attrs.entries())?;
+    let lines = entry_lines(alloc, attrs.entries())?;
     Ok(lines)
 }

@@ -1,0 +1,3 @@
+pub mod AttributeLemmas
+pub mod EntryLemmas
+pub mod EntryLineLemmas

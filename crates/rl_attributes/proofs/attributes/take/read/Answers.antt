@@ -1,0 +1,17 @@
+use Rattle.std.proofs.Common.{length}
+use Rattle.std.specs.Str.{chars}
+use Rattle.std.proofs.lemmas.Result.{IfOk-weaker, IfErr-weaker}
+use Rattle.rl_attributes.proofs.EntryLemmas.{text_refused, exactly}
+use Rattle.rl_attributes.proofs.attributes.take.read.Goals as goal
+
+pub returns-clause-attributes : goal.returns-clause-attributes
+returns-clause-attributes g c = IfOk-weaker c.parse_all.result _ _ (λ attrs p. record { trees = p.trees; lexes = p.lexes; are = p.ran.0.are }) c.parse_all.ensures.parsed
+
+pub returns-clause-values : goal.returns-clause-values
+returns-clause-values g c = IfOk-weaker c.parse_all.result _ _ (λ attrs p. p.ran.0.read) c.parse_all.ensures.parsed
+
+pub returns-clause-refused : goal.returns-clause-refused
+returns-clause-refused g c = IfErr-weaker c.parse_all.result _ _ (text_refused c.args.text.now c.args.file) c.parse_all.ensures.refused
+
+pub returns-clause-exactly : goal.returns-clause-exactly
+returns-clause-exactly g c = exactly (chars c.args.text.now) c.args.file (length c.args.text.now) c.parse_all.result (returns-clause-attributes g c) (returns-clause-refused g c)

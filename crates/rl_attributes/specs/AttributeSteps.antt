@@ -1,0 +1,44 @@
+-- The steps of the parser of attributes, and the names that it keeps.
+use Rattle.std.specs.Prelude.{◌≡◌, ◌⊎◌, ℕ, Bool, true, List, [], IsTrue, cond}
+use Rattle.std.specs.HashSet.{HashSet, contains_by}
+use Rattle.std.specs.Str.{bytes_eq}
+use denote.Ref.{Bor}
+use Rattle.rl_tokens.specs.declared.span.Span.{Span}
+use Rattle.rl_tokens.specs.declared.error.ErrorKind.{ErrorKind}
+use Rattle.rl_tokens.specs.declared.error.ErrorKind.TheVariants.{Memory}
+use Rattle.rl_tokens.specs.declared.error.Error.{Error}
+use Rattle.rl_tokens.specs.Errors.{memory_at}
+use Rattle.rl_tokens.specs.Trees.{Tree}
+use Rattle.rl_tokens.specs.Buffers.{begins_ident, IsBehindMark}
+use Rattle.rl_attributes.specs.Attributes.{Attribute, IsAttribute, RefusesNext}
+
+-- whether the set has this name
+abbrev pub has_name : {S : Type 0} → HashSet (Bor (List ℕ)) S → List ℕ → Bool
+has_name names name = contains_by (λ k. bytes_eq name k.now) names
+
+-- the set has this name, and else those that it had
+abbrev pub AddsName : {S : Type 0} → HashSet (Bor (List ℕ)) S → HashSet (Bor (List ℕ)) S → List ℕ → Type 0
+AddsName old new name = (other : List ℕ) → has_name new other ≡ cond (bytes_eq name other) true (has_name old other)
+
+-- The attribute begins the trees, and behind it stands a comma and the rest, or nothing.
+pub record IsNext (trees : List Tree) (attribute : Attribute) (rest : List Tree) : Type 0 where
+  pub behind : List Tree
+  pub is : IsAttribute trees attribute behind
+  pub comma : IsBehindMark 44 behind rest ⊎ ((behind ≡ []) × (rest ≡ []))
+
+-- A name begins the trees, and memory was refused, wherever this is told.
+pub record WantsMemory {A : Type 0} (trees : List Tree) (e : Error A) : Type 0 where
+  pub begun : IsTrue (begins_ident trees)
+  pub memory : e.kind ≡ Memory
+
+-- what a step refuses, beside memory
+abbrev pub Stops : {A : Type 0} → (List ℕ → Bool) → List Tree → Span → Error A → Type 0
+Stops seen trees scope e = WantsMemory trees e ⊎ RefusesNext seen trees scope e
+
+-- the refusal of this kind and span, but want of memory at that place
+abbrev pub kind_told_at : {A : Type 0} → ErrorKind A → Span → Span → Error A
+kind_told_at Memory span place = memory_at place
+kind_told_at kind span place = record { span = span; kind = kind }
+
+abbrev pub told_at : {A : Type 0} → Error A → Span → Error A
+told_at e place = kind_told_at e.kind e.span place

@@ -1,0 +1,25 @@
+-- What entries hold: attributes, each with its literal as it reads.
+use Rattle.std.specs.Prelude.{◌≡◌, ℕ, List, map, string_bytes}
+use Rattle.std.specs.Str.{chars}
+use Rattle.rust_literals.specs.Literals.{kind_of, token_of, IsReadAs}
+use Rattle.rl_attributes.specs.declared.attributes.Entry.{Entry}
+use Rattle.rl_attributes.specs.Attributes.{Attribute, NamesDiffer}
+
+-- the attribute that an entry holds
+abbrev pub attribute_of : {A : Type 0} → Entry A → Attribute
+attribute_of entry = record { name = record { text = string_bytes entry.name; span = entry.span }; literal = token_of entry.value }
+
+abbrev pub attributes_of : {A : Type 0} → List (Entry A) → List Attribute
+attributes_of entries = map attribute_of entries
+
+-- the value is the one reading of its token, or `Verbatim` where that has none
+abbrev pub IsRead : {A : Type 0} → Entry A → Type 0
+IsRead entry = IsReadAs (kind_of entry.value) (chars (token_of entry.value).text)
+
+-- the entry has this name
+abbrev pub HasName : {A : Type 0} → List ℕ → Entry A → Type 0
+HasName name entry = string_bytes entry.name ≡ name
+
+-- no two entries have one name
+abbrev pub EntriesDiffer : {A : Type 0} → List (Entry A) → Type 0
+EntriesDiffer entries = NamesDiffer (attributes_of entries)

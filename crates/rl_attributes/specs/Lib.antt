@@ -1,0 +1,5 @@
+pub mod Attributes
+pub mod Entries
+pub mod AttributeParsing
+pub mod AttributeSteps
+pub mod EntryLines

@@ -1,0 +1,61 @@
+//! Attributes, and what they hold.
+
+ghost use Rattle.std.proofs.Props.{props};
+ghost use Rattle.rl_attributes.specs.Entries.{EntriesDiffer};
+
+mod take;
+
+use rl_tokens::Span;
+use rust_literals::Lit;
+use std::alloc::{Allocator, Global};
+pub use take::read;
+
+/// An attribute: a name, and the literal that it is set to.
+#[derive(Drop)]
+pub struct Entry<A: Allocator = Global> {
+    /// The name.
+    pub name: String<A>,
+    /// Where the name stands.
+    pub span: Span,
+    /// What it is set to, `Verbatim` too.
+    pub value: Lit<A>,
+}
+
+/// Attributes in their order. No two have one name.
+#[derive(Drop)]
+pub struct Attrs<A: Allocator = Global> {
+    entries: Vec<Entry<A>, A>,
+    ghost differ: { EntriesDiffer entries.items } by { Prim.hlevel props },
+}
+
+impl<A: Allocator> Attrs<A> {
+    ghost use Rattle.std.specs.Prelude.{◌≡◌, All, Any, IfSome};
+    ghost use Rattle.std.specs.Option.{IsSomeAnd};
+    ghost use Rattle.rl_attributes.specs.Entries.{HasName};
+    ghost use Rattle.rl_attributes.specs.AttributeParsing.{entries_of};
+
+    /// The attributes, in their order.
+    pub fn entries(&self) -> &[Entry<A>]
+        ensures entries { result.now ≡ entries_of self.now }
+        ensures differ { EntriesDiffer result.now }
+    {
+        self.entries.as_slice()
+    }
+
+    /// What the name is set to; none where no attribute has the name.
+    pub fn get(&self, name: &str) -> Option<&Lit<A>>
+        // What is lent is the value of each entry with the name, of which there is one at most.
+        ensures lent { All (λ entry. HasName name.now entry
+            → IsSomeAnd result (λ value. value.now ≡ entry.value)) (entries_of self.now) }
+        // Where something is lent, an entry has the name.
+        ensures named { IfSome result
+            (λ value. Any (λ entry. HasName name.now entry) (entries_of self.now)) }
+    {
+        for entry in self.entries() {
+            if entry.name.as_str() == name {
+                return Some(&entry.value);
+            }
+        }
+        None
+    }
+}

@@ -1,0 +1,185 @@
+//! The parser of attributes, part by part.
+
+ghost use Rattle.std.specs.Prelude.{◌≡◌, ◌⊎◌, [], List, All, length, IfOk, IfErr, OnOk, IsFalse, string_bytes};
+ghost use Rattle.std.specs.Str.{chars};
+ghost use Rattle.rl_tokens.specs.Buffers.{trees_in, scope_of, IsRest, StaysRest};
+ghost use Rattle.rl_attributes.specs.Attributes.{
+  Attribute,
+  IsAttribute,
+  HasNewName,
+  AreAttributesOf,
+  RefusesAttributes,
+  RefusesText,
+};
+ghost use Rattle.rl_attributes.specs.Entries.{attribute_of, attributes_of, IsRead};
+ghost use Rattle.rl_attributes.specs.AttributeParsing.{entries_of, AreEntries, RunsAttrs, IsListOrMemory};
+ghost use Rattle.rl_attributes.specs.AttributeSteps.{
+  has_name,
+  AddsName,
+  IsNext,
+  WantsMemory,
+  Stops,
+  told_at,
+};
+
+use super::{Attrs, Entry};
+use rl_tokens::{Error, ErrorKind, Ident, Parse, ParseBuffer, Span, attempt, parse_all};
+use rust_literals::Lit;
+use std::alloc::Allocator;
+use std::collections::HashSet;
+use std::hash::{BuildHasherDefault, FoldHasher};
+
+/// Names that were taken, as the trees lend them.
+type Names<'a, A> = HashSet<&'a str, BuildHasherDefault<FoldHasher>, A>;
+
+/// Takes an identifier that is none of the names, and adds it to them.
+fn take_name<'a, A: Allocator + Copy>(
+    input: &mut ParseBuffer<'a, A>,
+    names: &mut Names<'a, A>,
+) -> Result<&'a Ident<A>, Error<A>>
+    ensures taken { IfOk result (λ name.
+        HasNewName (has_name names.old) (trees_in input.old) name.now (trees_in input.new)) }
+    ensures adds { IfOk result (λ name. AddsName names.old names.new name.now.text) }
+    ensures refused { IfErr result
+        (Stops (has_name names.old) (trees_in input.old) (scope_of input.old)) }
+    ensures onward { StaysRest (trees_in input.old) (trees_in input.new) }
+    ensures scope { scope_of input.new ≡ scope_of input.old }
+{
+    let Some(name) = input.ident() else {
+        return Err(input.error("identifier"));
+    };
+    match names.insert(name.text()) {
+        Ok(true) => Ok(name),
+        Ok(false) => Err(Error::new(name.span(), ErrorKind::Repeated)),
+        Err(_) => Err(Error::memory(name.span())),
+    }
+}
+
+/// Takes an attribute whose name is none of the names, and adds it to them.
+fn take_entry<'a, A: Allocator + Copy>(
+    alloc: A,
+    input: &mut ParseBuffer<'a, A>,
+    names: &mut Names<'a, A>,
+) -> Result<Entry<A>, Error<A>>
+    ensures taken { IfOk result
+        (λ entry. IsAttribute (trees_in input.old) (attribute_of entry) (trees_in input.new)) }
+    ensures anew { IfOk result (λ entry. IsFalse (has_name names.old (string_bytes entry.name))) }
+    ensures read { IfOk result IsRead }
+    ensures adds { IfOk result (λ entry. AddsName names.old names.new (string_bytes entry.name)) }
+    ensures refused { IfErr result
+        (Stops (has_name names.old) (trees_in input.old) (scope_of input.old)) }
+    ensures onward { StaysRest (trees_in input.old) (trees_in input.new) }
+    ensures scope { scope_of input.new ≡ scope_of input.old }
+{
+    let ident = take_name(input, names)?;
+    let name = String::from_str(alloc, ident.text())?;
+    input.take_punct('=')?;
+    let value = input.parse::<Lit<A>>(alloc)?;
+    Ok(Entry {
+        name,
+        span: ident.span(),
+        value,
+    })
+}
+
+/// Takes an attribute whose name is none of the names, and the comma behind it where anything stands there.
+fn take_next<'a, A: Allocator + Copy>(
+    alloc: A,
+    input: &mut ParseBuffer<'a, A>,
+    names: &mut Names<'a, A>,
+) -> Result<Entry<A>, Error<A>>
+    ensures taken { IfOk result
+        (λ entry. IsNext (trees_in input.old) (attribute_of entry) (trees_in input.new)) }
+    ensures anew { IfOk result (λ entry. IsFalse (has_name names.old (string_bytes entry.name))) }
+    ensures read { IfOk result IsRead }
+    ensures adds { IfOk result (λ entry. AddsName names.old names.new (string_bytes entry.name)) }
+    ensures refused { IfErr result
+        (Stops (has_name names.old) (trees_in input.old) (scope_of input.old)) }
+    ensures onward { StaysRest (trees_in input.old) (trees_in input.new) }
+    ensures scope { scope_of input.new ≡ scope_of input.old }
+{
+    let entry = take_entry(alloc, input, names)?;
+    if !input.is_empty() {
+        input.take_punct(',')?;
+    }
+    Ok(entry)
+}
+
+/// Takes attributes up to the end. A refusal may leave the buffer behind what was taken, and tells want of memory
+/// wherever it was met.
+fn take_all<A: Allocator + Copy>(
+    alloc: A,
+    input: &mut ParseBuffer<'_, A>,
+) -> Result<Attrs<A>, Error<A>>
+    ensures taken { IfOk result (λ attrs. AreEntries (trees_in input.old) (entries_of attrs)) }
+    ensures ended { OnOk result (trees_in input.new ≡ []) }
+    ensures refused { IfErr result (λ e. WantsMemory (trees_in input.old) e
+        ⊎ RefusesAttributes (trees_in input.old) (scope_of input.old) e) }
+    ensures rest { IsRest (trees_in input.old) (trees_in input.new) }
+    ensures scope { scope_of input.new ≡ scope_of input.old }
+{
+    let mut names = HashSet::new(alloc);
+    let mut entries = Vec::new(alloc);
+    while !input.is_empty() {
+        let place = input.span();
+        let entry = take_next(alloc, input, &mut names)?;
+        if entries.push(entry).is_err() {
+            return Err(Error::memory(place));
+        }
+    }
+    Ok(Attrs { entries })
+}
+
+/// The refusal, but want of memory at this place.
+fn told_at<A: Allocator>(error: Error<A>, place: Span) -> Error<A>
+    ensures { result ≡ told_at error place }
+{
+    match error.kind {
+        ErrorKind::Memory => Error::memory(place),
+        kind => Error::new(error.span, kind),
+    }
+}
+
+/// Takes all trees as attributes: no trees; or an attribute; or an attribute, a comma, and the attributes behind it. An
+/// attribute is an identifier, `=` and a literal.
+///
+/// # Errors
+///
+/// Reading goes from left to right, and what is missed first is refused by its word: `identifier`, `` `=` ``,
+/// `literal`, or `` `,` ``; before its `=`, a name that stood before as `Repeated`, at the name. Want of memory is
+/// told at the first tree. The buffer stays.
+impl<A: Allocator + Copy> Parse<A> for Attrs<A> {
+    ghost use Rattle.rl_attributes.specs.AttributeParsing.{RunsAttrs};
+
+    ghost runs = { RunsAttrs };
+
+    fn parse(alloc: A, input: &mut ParseBuffer<'_, A>) -> Result<Attrs<A>, Error<A>> {
+        let place = input.span();
+        match attempt(input, |input| take_all(alloc, input)) {
+            Ok(attrs) => Ok(attrs),
+            Err(error) => Err(told_at(error, place)),
+        }
+    }
+}
+
+/// The attributes that a text is. Spans have the file and the bytes of the text.
+///
+/// # Errors
+///
+/// The lexer's fault as `Lex`, with the span of no bytes at its place, and its want of memory as `Memory` there; else
+/// what the parser of [`Attrs`] refuses, which tells the text's end by the span of no bytes there.
+pub fn read<A: Allocator + Copy>(alloc: A, text: &str, file: u32) -> Result<Attrs<A>, Error<A>>
+    // The text is cut into the trees of these attributes.
+    ensures attributes { IfOk result
+        (λ attrs. AreAttributesOf (chars text.now) file (attributes_of (entries_of attrs))) }
+    // Each value is what its literal reads as.
+    ensures values { IfOk result (λ attrs. All IsRead (entries_of attrs)) }
+    // Else the text's first fault; or, of its trees, what is missed first, or a name that stood before; or memory was
+    // refused.
+    ensures refused { IfErr result (RefusesText (chars text.now) file (length text.now)) }
+    // What attributes a text is, these are the answer, or memory was refused.
+    ensures exactly { (list : List Attribute) → AreAttributesOf (chars text.now) file list
+        → IsListOrMemory list result }
+{
+    parse_all::<Attrs<A>, A>(alloc, text, file)
+}

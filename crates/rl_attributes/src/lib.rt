@@ -1,0 +1,8 @@
+//! Attributes, `name = literal` with commas between: a layer above the literals, by their public calls alone.
+#![tactic(auto)]
+
+mod attributes;
+mod lines;
+
+pub use crate::attributes::{Attrs, Entry, read};
+pub use crate::lines::entry_lines;

@@ -1,0 +1,43 @@
+//! The lines of attributes.
+
+ghost use Rattle.std.specs.Prelude.{[], OnOk, IfOk, string_bytes};
+ghost use Rattle.std.specs.Str.{chars};
+ghost use Rattle.rl_attributes.specs.EntryLines.{PrintsEntry, PrintsEntries};
+
+use crate::attributes::Entry;
+use rl_lines::line_of;
+use std::alloc::{AllocError, Allocator};
+
+/// Writes an attribute's line at the end: its name, a space, and its literal's line.
+fn push_entry<A: Allocator + Copy>(
+    alloc: A,
+    out: &mut String<A>,
+    entry: &Entry<A>,
+) -> Result<(), AllocError>
+    ensures { OnOk result
+        (PrintsEntry entry.now (chars (string_bytes out.old)) (chars (string_bytes out.new))) }
+{
+    let line = line_of(alloc, &entry.value)?;
+    out.push_str(entry.name.as_str())?;
+    out.push_str(" ")?;
+    out.push_str(line.as_str())?;
+    Ok(())
+}
+
+/// The lines of attributes, one after another: of each its name, a space, and its literal's line.
+///
+/// # Errors
+///
+/// Memory that was refused.
+pub fn entry_lines<A: Allocator + Copy>(
+    alloc: A,
+    entries: &[Entry<A>],
+) -> Result<String<A>, AllocError>
+    ensures { IfOk result (λ lines. PrintsEntries entries.now [] (chars (string_bytes lines))) }
+{
+    let mut lines = String::new(alloc);
+    for entry in entries {
+        push_entry(alloc, &mut lines, entry)?;
+    }
+    Ok(lines)
+}

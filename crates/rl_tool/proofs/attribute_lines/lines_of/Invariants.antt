@@ -1,7 +1,0 @@
-use Rattle.std.proofs.Common.{string_bytes, take, []}
-use Rattle.std.specs.Str.{chars}
-use Rattle.rl_tool.specs.EntryLines.{PrintsEntries}
-use Rattle.rl_tool.proofs.attribute_lines.lines_of.Given as goal
-
-abbrev pub invariant-loop-entry : goal.invariant-loop-entry
-invariant-loop-entry g l = PrintsEntries (take l.entry-index l.entries) [] (chars (string_bytes l.lines))
