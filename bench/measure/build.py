@@ -11,7 +11,9 @@ BUILD = os.path.join(DRIVER, 'target')
 # bytes of a corpus on which the works' sums are compared
 CHECKED = 100_000
 
-# the corpus's form (literals, list, spoiled, hostile), whose work it is (ours, other), the corpus and the work
+# the forms of corpora that are good texts
+GOOD = ('literals', 'list', 'attributes')
+# the corpus's form (literals, list, attributes, spoiled, hostile), whose work it is (ours, other), the corpus and the work
 Row = collections.namedtuple('Row', 'form whose corpus work')
 
 

@@ -5,6 +5,8 @@ import re
 import subprocess
 import tempfile
 
+from measure import build
+
 # bytes of a corpus where instructions are counted
 SIZES = (1_000_000, 100_000, 10_000)
 # what is counted of one row: the corpus's bytes, the instructions, and each function's own
@@ -61,7 +63,7 @@ def print_hottest(rows, found):
     print('Instructions a byte, and the three functions that take most of them by themselves.\n')
     print('| Corpus | work | a byte | first | second | third |\n|---|---|---|---|---|---|')
     for row, (whole, *_) in zip(rows, found):
-        if row.whose == 'ours' and row.form in ('literals', 'list'):
+        if row.whose == 'ours' and row.form in build.GOOD:
             shown = ['`%s` %.1f' % (name, own / whole.bytes) for name, own in whole.own.most_common(3)]
             shown += [''] * (3 - len(shown))
             each = whole.instructions / whole.bytes

@@ -4,6 +4,8 @@ import concurrent.futures
 import re
 import subprocess
 
+from measure import build
+
 # bytes of a corpus whose requests are counted
 SIZE = 100_000
 # what is asked for: how often, and how many bytes in all
@@ -30,7 +32,7 @@ def print_table(driver, jobs, rows):
     print('\n## Memory\n')
     print('Requests of memory, and the bytes that they ask for in all, by dhat on %d bytes.\n' % SIZE)
     print('| Corpus | work | literals or trees | requests | each | bytes | each |\n|---|---|---|---|---|---|---|')
-    good = [row for row in rows if row.form in ('literals', 'list')]
+    good = [row for row in rows if row.form in build.GOOD]
     with concurrent.futures.ThreadPoolExecutor(jobs) as pool:
         for row, (asked, count) in zip(good, pool.map(lambda row: of_row(driver, row), good)):
             cells = (row.corpus, row.work, count, asked.requests, asked.requests / count, asked.bytes, asked.bytes / count)

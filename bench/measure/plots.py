@@ -1,13 +1,14 @@
 """The two pictures, from bench/RESULTS.md."""
 import os
+import sys
 
 from measure import build, counts
 
-OURS = ('shape', 'lent', 'value', 'literal', 'tokens', 'lex', 'read')
+OURS = ('shape', 'lent', 'value', 'literal', 'tokens', 'lex', 'read', 'attr')
 COLOURS = {True: '#2f6db3', False: '#d98a2b'}
 BESIDE = (
     (('shape', 'lent', 'value', 'literal'), ('litrs, lent', 'litrs', 'syn')),
-    (('tokens', 'lex', 'read'), ('proc-macro2', 'proc-macro2 and syn')),
+    (('tokens', 'lex', 'read', 'attr'), ('proc-macro2', 'proc-macro2 and syn')),
 )
 # nothing of the day or the machine goes into the files
 PLAIN = {'metadata': {'Software': None}, 'dpi': 100}
@@ -15,7 +16,7 @@ PLAIN = {'metadata': {'Software': None}, 'dpi': 100}
 
 def corpora(taken):
     """The corpora on which another library runs too."""
-    others = {corpus for corpus, work in taken if work not in OURS + ('value_ref', 'attr')}
+    others = {corpus for corpus, work in taken if work not in OURS + ('value_ref',)}
     return [corpus for corpus in dict.fromkeys(corpus for corpus, _ in taken) if corpus in others]
 
 
@@ -25,7 +26,7 @@ def bars(axes, taken, corpus):
     each = [taken[corpus, work][0] for work in names]
     places = range(len(names))
     axes.barh(places, each, color=[COLOURS[work in OURS] for work in names], height=0.7)
-    axes.set_yticks(places, names, fontsize=9)
+    axes.set_yticks(places, [name.replace(' and ', '\nand ') for name in names], fontsize=9)
     axes.invert_yaxis()
     axes.set_xlim(0, max(each) * 1.22)
     axes.tick_params(axis='x', labelsize=8)
@@ -39,14 +40,16 @@ def bars(axes, taken, corpus):
 def speed(pyplot, taken, path):
     """Ours beside the others, a panel for each corpus."""
     names = corpora(taken)
-    figure, grid = pyplot.subplots(4, 3, figsize=(12, 12.5), layout='constrained')
-    panels = list(grid.flat)
+    rows = {'height_ratios': [0.12, 1, 1, 1, 1]}
+    figure, grid = pyplot.subplots(5, 3, figsize=(12, 13), layout='constrained', gridspec_kw=rows)
+    top, *panels = [grid[0][1], *grid[1:].flat]
     for axes, corpus in zip(panels, names):
         bars(axes, taken, corpus)
-    for axes in panels[len(names):]:
+    for axes in [*grid[0], *panels[len(names):]]:
         axes.axis('off')
     marks = [pyplot.Rectangle((0, 0), 1, 1, color=COLOURS[ours]) for ours in (True, False)]
-    panels[-1].legend(marks, ['this repository', 'litrs, syn, proc-macro2'], loc='center', fontsize=11, frameon=False)
+    labels = ['this repository', 'litrs, syn, proc-macro2']
+    top.legend(marks, labels, loc='center', ncol=2, fontsize=11, frameon=False)
     figure.suptitle('Instructions a byte on a million bytes; less is better', fontsize=13)
     figure.savefig(path, **PLAIN)
 
@@ -74,7 +77,10 @@ def growth(pyplot, taken, path):
 
 
 def draw(taken):
-    import matplotlib
+    try:
+        import matplotlib
+    except ImportError:
+        sys.exit("bench/run: no matplotlib; with Debian's python3-matplotlib: /usr/bin/python3 bench/run --plot")
     matplotlib.use('Agg')
     from matplotlib import pyplot
     speed(pyplot, taken, os.path.join(build.TOP, 'docs/speed.png'))

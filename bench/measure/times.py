@@ -24,9 +24,9 @@ def print_table(driver, cpu, rounds, rows):
     print('On %d bytes, the least of %d rounds in which the works take turns, each in a process of its own.\n' % (SIZE, rounds))
     print('| Corpus | work | ms | ns a byte | page faults | peak, bytes | a byte | of each in a list |')
     print('|---|---|---|---|---|---|---|---|')
-    for corpus in dict.fromkeys(row.corpus for row in rows if row.form in ('literals', 'list')):
+    for corpus in dict.fromkeys(row.corpus for row in rows if row.form in build.GOOD):
         here = [row for row in rows if row.corpus == corpus]
         for row, (size, made, time, faults, peak) in zip(here, least(driver, cpu, rounds, here)):
-            each = '%.1f' % (peak / made) if row.form == 'list' else ''
+            each = '%.1f' % (peak / made) if row.form != 'literals' else ''
             cells = (corpus, row.work, time / 1000, time * 1000 / size, faults, peak, peak / size, each)
             print('| `%s` | %s | %.1f | %.2f | %d | %d | %.2f | %s |' % cells, flush=True)

@@ -3,8 +3,25 @@
 use crate::corpus::Corpus;
 use crate::ours;
 
-/// The sums of some texts, with a text past UTF-8, places out of order, and one past the end among them.
+/// All of them.
 pub fn check() -> Result<(), String> {
+    check_literals()?;
+    check_attributes()
+}
+
+/// The sum of texts some of which are attributes.
+fn check_attributes() -> Result<(), String> {
+    let corpus = Corpus {
+        name: "known attributes",
+        bytes: b"a = 1, b = \"x\",a = 1, a = 2c = true1".to_vec(),
+        ends: vec![15, 27, 35, 36],
+    };
+    // 2, none (a name twice), 1, none
+    wanted("attr", ours::attr(&corpus), 3)
+}
+
+/// The sums of some texts, with a text past UTF-8, places out of order, and one past the end among them.
+fn check_literals() -> Result<(), String> {
     let corpus = Corpus {
         name: "known texts",
         bytes: b"\"ab\"q0xFF_u8nope1 'a' [2]\xFFtrue".to_vec(),

@@ -18,6 +18,7 @@ extern "C" {
     fn rl_bench_tokens(bytes: *const u8, len: usize, ends: *const usize, count: usize) -> u64;
     fn rl_bench_lex(b: *const u8, n: usize, e: *const usize, m: usize, sum: &mut u64) -> bool;
     fn rl_bench_read(b: *const u8, n: usize, e: *const usize, m: usize, sum: &mut u64) -> bool;
+    fn rl_bench_attr(b: *const u8, n: usize, e: *const usize, m: usize, sum: &mut u64) -> bool;
 }
 
 fn call(export: Export, corpus: &Corpus) -> u64 {
@@ -73,4 +74,8 @@ pub fn lex(corpus: &Corpus) -> u64 {
 
 pub fn read(corpus: &Corpus) -> u64 {
     call(rl_bench_read, corpus)
+}
+
+pub fn attr(corpus: &Corpus) -> u64 {
+    call(rl_bench_attr, corpus)
 }

@@ -11,6 +11,7 @@ pub enum Sum {
     Values,
     Trees,
     Literals,
+    Attributes,
 }
 
 /// One piece of work.
@@ -64,6 +65,14 @@ const OF_LISTS: &[Work] = &[
     other("proc-macro2 and syn", Sum::Literals, others::syn::read),
 ];
 
+/// The works of a text that is attributes.
+const OF_ATTRIBUTES: &[Work] = &[
+    ours("tokens", Sum::Trees, ours::tokens),
+    ours("lex", Sum::Trees, ours::lex),
+    other("proc-macro2", Sum::Trees, others::proc_macro2_lex),
+    ours("attr", Sum::Attributes, ours::attr),
+];
+
 /// The works of a list with something else in its last bytes.
 const OF_SPOILED: &[Work] = &[
     ours("tokens", Sum::Trees, ours::tokens),
@@ -86,6 +95,7 @@ pub fn of(form: Form) -> &'static [Work] {
     match form {
         Form::Literals => OF_LITERALS,
         Form::List => OF_LISTS,
+        Form::Attributes => OF_ATTRIBUTES,
         Form::Spoiled => OF_SPOILED,
         Form::Hostile => OF_HOSTILE,
     }

@@ -1,5 +1,5 @@
 -- What a text weighs.
-use Rattle.std.specs.Prelude.{◌≡◌, ◌≢◌, ◌⊎◌, ℕ, List, length}
+use Rattle.std.specs.Prelude.{◌≡◌, ◌≢◌, ◌⊎◌, ℕ, List, length, All}
 use Rattle.std.specs.Str.{chars}
 use Rattle.rl_tokens.specs.declared.kind.Kind.{Kind}
 use Rattle.rl_tokens.specs.declared.kind.Kind.TheVariants.{Str, ByteStr, CStr, Byte, Char, Int, Float, Bool}
@@ -13,6 +13,9 @@ use Rattle.rl_grammar.specs.NumberShapes.{HasNoReading}
 use Rattle.rl_grammar.specs.WholeShapes.{IsCut}
 use Rattle.rust_literals.specs.declared.lit.Lit.{Lit}
 use Rattle.rust_literals.specs.Parsing.{AreRead, RefusesText}
+use Rattle.rl_attributes.specs.declared.attributes.Entry.{Entry}
+use Rattle.rl_attributes.specs.Attributes.{AreAttributesOf, RefusesText as RefusesAttributes}
+use Rattle.rl_attributes.specs.Entries.{attributes_of, IsRead}
 use Rattle.rl_bench.specs.Sums.{added}
 
 -- a kind's number
@@ -77,3 +80,9 @@ abbrev pub HasLiteralCount : (A : Type 0) → List ℕ → ℕ → Type 0
 HasLiteralCount A text count =
     ((list : List (Lit A)) × AreRead (chars text) 0 list × (count ≡ length list))
     ⊎ ((e : Error A) × RefusesText (chars text) 0 (length text) e × (e.kind ≢ Memory) × (count ≡ 0))
+
+-- a text is read as this many attributes; or it is refused, for another reason than memory, and none
+abbrev pub HasAttributeCount : (A : Type 0) → List ℕ → ℕ → Type 0
+HasAttributeCount A text count =
+    ((entries : List (Entry A)) × AreAttributesOf (chars text) 0 (attributes_of entries) × All IsRead entries × (count ≡ length entries))
+    ⊎ ((e : Error A) × RefusesAttributes (chars text) 0 (length text) e × (e.kind ≢ Memory) × (count ≡ 0))

@@ -8,7 +8,7 @@ ghost use Rattle.std.specs.Prelude.{◌≡◌, IsTrue, IsFalse};
 ghost use Rattle.rl_bench.specs.Sums.{IsSum};
 ghost use Rattle.std.specs.declared.alloc.Global.{Global};
 ghost use Rattle.rl_bench.specs.Lent.{HasLentWeight};
-ghost use Rattle.rl_bench.specs.Weights.{HasShapeWeight, HasValueWeight, HasTokenCount, HasTreeCount, HasLiteralCount};
+ghost use Rattle.rl_bench.specs.Weights.{HasShapeWeight, HasValueWeight, HasTokenCount, HasTreeCount, HasLiteralCount, HasAttributeCount};
 
 mod lent;
 mod lists;
@@ -20,7 +20,7 @@ mod values;
 mod weights;
 
 use crate::lent::ByLent;
-use crate::lists::{ByList, ByTrees};
+use crate::lists::{ByAttributes, ByList, ByTrees};
 use crate::literals::ByLiteral;
 use crate::sums::sum;
 use crate::tokens::ByTokens;
@@ -133,6 +133,21 @@ pub extern "C" fn rl_bench_read(
     ensures refused { IsFalse result → total.new ≡ total.old }
 {
     put(sum::<ByList>(alloc, corpus, ends), total)
+}
+
+/// Puts into `total` how many attributes the texts are read as; a text that is refused counts as none. False where memory
+/// was refused; `total` stays then.
+#[unsafe(no_mangle)]
+pub extern "C" fn rl_bench_attr(
+    alloc: Global,
+    corpus: &[u8],
+    ends: &[usize],
+    total: &mut u64,
+) -> bool
+    ensures sum { IsTrue result → IsSum (HasAttributeCount Global) corpus.now ends.now total.new }
+    ensures refused { IsFalse result → total.new ≡ total.old }
+{
+    put(sum::<ByAttributes>(alloc, corpus, ends), total)
 }
 
 /// A sum that takes no memory.
