@@ -1,7 +1,10 @@
 """What is aimed at, beside other libraries, and whether it is met."""
 import collections
 
-# a work of ours, the other's, and how many times the other's instructions it may take; elsewhere, on these corpora
+from measure import text
+
+# a work of ours, the other's, and how many times the other's instructions it may take; elsewhere,
+# on these corpora
 Aim = collections.namedtuple('Aim', 'work beside most but')
 AIMS = (
     Aim('shape', 'litrs', 0.6, {'short strings': 0.85, 'floats': 0.85}),
@@ -14,8 +17,8 @@ AIMS = (
 
 
 def each(taken):
-    """Each aim on each corpus: the corpus, the aim, what is aimed at, ours and theirs. `taken` has the instructions a
-    byte by corpus and work."""
+    """Each aim on each corpus: the corpus, the aim, what is aimed at, ours and theirs. `taken` has
+    the instructions a byte by corpus and work."""
     for corpus, work in taken:
         for aim in AIMS:
             beside = taken.get((corpus, aim.beside))
@@ -24,13 +27,14 @@ def each(taken):
 
 
 def print_table(rows, found):
-    taken = {(row.corpus, row.work): at[0].instructions / at[0].bytes for row, at in zip(rows, found)}
-    print('\n## Aims\n')
-    print('| Corpus | work | a byte | beside | a byte | times | aim | met |\n|---|---|---|---|---|---|---|---|')
+    taken = {}
+    for row, (whole, *_) in zip(rows, found):
+        taken[row.corpus, row.work] = whole.instructions / whole.bytes
+    text.begin('Aims', ('Corpus', 'work', 'a byte', 'beside', 'a byte', 'times', 'aim', 'met'))
     lines = met = 0
     for corpus, aim, most, ours, theirs in each(taken):
         good = ours <= most * theirs
         lines, met = lines + 1, met + good
-        cells = (corpus, aim.work, ours, aim.beside, theirs, ours / theirs, most, 'yes' if good else 'no')
-        print('| `%s` | %s | %.1f | %s | %.1f | %.2f | %.2f | %s |' % cells)
+        text.row(corpus, aim.work, '%.1f' % ours, aim.beside, '%.1f' % theirs,
+                 '%.2f' % (ours / theirs), '%.2f' % most, 'yes' if good else 'no')
     print('\n%d of %d aims are met.' % (met, lines), flush=True)

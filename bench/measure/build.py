@@ -13,7 +13,8 @@ CHECKED = 100_000
 
 # the forms of corpora that are good texts
 GOOD = ('literals', 'list', 'attributes')
-# the corpus's form (literals, list, attributes, spoiled, hostile), whose work it is (ours, other), the corpus and the work
+# the corpus's form (literals, list, attributes, spoiled, hostile), whose work it is (ours, other),
+# the corpus and the work
 Row = collections.namedtuple('Row', 'form whose corpus work')
 
 
@@ -38,7 +39,8 @@ def with_oracle(path):
     with open(os.path.join(DRIVER, 'Cargo.toml')) as manifest:
         text = manifest.read()
     with open(os.path.join(folder, 'Cargo.toml'), 'w') as copy:
-        copy.write('%s\n[dependencies.synval]\npath = "%s"\n\n[workspace]\n' % (text, os.path.abspath(path)))
+        dependency = '[dependencies.synval]\npath = "%s"\n' % os.path.abspath(path)
+        copy.write('%s\n%s\n[workspace]\n' % (text, dependency))
     return folder
 
 

@@ -5,7 +5,7 @@ import re
 import subprocess
 import tempfile
 
-from measure import build
+from measure import build, text
 
 # bytes of a corpus where instructions are counted
 SIZES = (1_000_000, 100_000, 10_000)
@@ -17,7 +17,8 @@ def count(driver, row, size):
     """What one work takes on one corpus of this size."""
     with tempfile.NamedTemporaryFile() as out:
         command = ['valgrind', '--tool=callgrind', '--toggle-collect=measured']
-        command += ['--callgrind-out-file=' + out.name, driver, 'once', row.corpus, row.work, str(size)]
+        command += ['--callgrind-out-file=' + out.name]
+        command += [driver, 'once', row.corpus, row.work, str(size)]
         run = subprocess.run(command, check=True, capture_output=True, text=True)
         instructions = int(re.search(r'Collected : (\d+)', run.stderr)[1])
         return Count(int(run.stdout.split()[0]), instructions, functions(out.name))
@@ -26,9 +27,9 @@ def count(driver, row, size):
 def functions(path):
     """Each function's own instructions."""
     command = ['callgrind_annotate', '--threshold=100', '--auto=no', path]
-    text = subprocess.run(command, check=True, capture_output=True, text=True).stdout
+    run = subprocess.run(command, check=True, capture_output=True, text=True)
     own = collections.Counter()
-    for line in text.splitlines():
+    for line in run.stdout.splitlines():
         found = re.match(r'\s*([\d,]+) \([ \d.]+%\)\s+(\S.*)$', line)
         if found and 'PROGRAM TOTALS' not in line:
             name = re.sub(r' \[[^]]*\]$', '', found[2])
@@ -45,26 +46,24 @@ def all_of(driver, jobs, rows, sizes):
 
 def print_table(rows, found):
     """Prints each row as it comes, and hands it on."""
-    print('\n## Instructions\n')
-    sizes = ' | '.join('a byte of %d' % size for size in SIZES)
-    print('| Corpus | work | bytes | instructions | %s | times a tenth |' % sizes)
-    print('|---|---|---|---|%s---|' % ('---|' * len(SIZES)))
+    sizes = ['a byte of %d' % size for size in SIZES]
+    columns = ['Corpus', 'work', 'bytes', 'instructions', *sizes, 'times a tenth']
+    text.begin('Instructions', columns)
     for row, at in zip(rows, found):
-        each = ' | '.join('%.3f' % (one.instructions / one.bytes) for one in at)
-        growth = at[0].instructions / at[1].instructions
-        cells = (row.corpus, row.work, at[0].bytes, at[0].instructions, each, growth)
-        print('| `%s` | %s | %d | %d | %s | %.2f |' % cells, flush=True)
+        each = ['%.3f' % (one.instructions / one.bytes) for one in at]
+        growth = '%.2f' % (at[0].instructions / at[1].instructions)
+        text.row(row.corpus, row.work, str(at[0].bytes), str(at[0].instructions), *each, growth)
         yield at
 
 
 def print_hottest(rows, found):
-    """Prints for each of our works on good texts the three functions with most instructions of their own."""
-    print('\n## Where it goes\n')
-    print('Instructions a byte, and the three functions that take most of them by themselves.\n')
-    print('| Corpus | work | a byte | first | second | third |\n|---|---|---|---|---|---|')
+    """Prints for each of our works on good texts the three functions with most instructions."""
+    note = 'Instructions a byte, and the three functions that take most of them by themselves.'
+    columns = ('Corpus', 'work', 'a byte', 'first', 'second', 'third')
+    text.begin('Where it goes', columns, note)
     for row, (whole, *_) in zip(rows, found):
         if row.whose == 'ours' and row.form in build.GOOD:
-            shown = ['`%s` %.1f' % (name, own / whole.bytes) for name, own in whole.own.most_common(3)]
+            most = whole.own.most_common(3)
+            shown = ['`%s` %.1f' % (name, own / whole.bytes) for name, own in most]
             shown += [''] * (3 - len(shown))
-            each = whole.instructions / whole.bytes
-            print('| `%s` | %s | %.1f | %s |' % (row.corpus, row.work, each, ' | '.join(shown)))
+            text.row(row.corpus, row.work, '%.1f' % (whole.instructions / whole.bytes), *shown)

@@ -4,7 +4,7 @@ import os
 from measure import build, counts
 
 PATH = os.path.join(build.BENCH, 'limits')
-HEAD = '# corpus, work, and the instructions a byte that it may take on a million bytes (bench/run --new-limits)\n'
+HEAD = '# corpus, work, and the instructions a byte that it may take (bench/run --new-limits)\n'
 # two per cent above what was reached
 ROOM = 1.02
 
@@ -27,15 +27,17 @@ def read():
 
 
 def check(driver, jobs, rows):
-    """Prints each row of ours that takes more than its limit, that has none, and each limit of no row."""
+    """Prints each row of ours that is past its limit or has none, and each limit of no row."""
     ours = [row for row in rows if row.whose == 'ours']
     most = read()
-    faults = ['%s, %s: a limit of no row' % name for name in set(most) - {(row.corpus, row.work) for row in ours}]
+    idle = [name for name in most if name not in {(row.corpus, row.work) for row in rows}]
+    faults = ['%s, %s: a limit of no row' % name for name in idle]
     for row, (found,) in zip(ours, counts.all_of(driver, jobs, ours, counts.SIZES[:1])):
         each, limit = found.instructions / found.bytes, most.get((row.corpus, row.work))
         if limit is None:
             faults.append('%s, %s: no limit' % (row.corpus, row.work))
         elif each > limit:
-            faults.append('%s, %s: %.3f instructions a byte, past its limit of %.3f' % (row.corpus, row.work, each, limit))
+            words = '%s, %s: %.3f instructions a byte, past its limit of %.3f'
+            faults.append(words % (row.corpus, row.work, each, limit))
     print('\n'.join(faults + ['%d rows, %d past their limits' % (len(ours), len(faults))]))
     return 1 if faults else 0

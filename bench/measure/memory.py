@@ -4,7 +4,7 @@ import concurrent.futures
 import re
 import subprocess
 
-from measure import build
+from measure import build, text
 
 # bytes of a corpus whose requests are counted
 SIZE = 100_000
@@ -14,7 +14,8 @@ Asked = collections.namedtuple('Asked', 'requests bytes')
 
 def total(driver, verb, row):
     """All that a run of the driver asks for, and what it prints."""
-    command = ['valgrind', '--tool=dhat', '--dhat-out-file=/dev/null', driver, verb, row.corpus, row.work, str(SIZE)]
+    command = ['valgrind', '--tool=dhat', '--dhat-out-file=/dev/null']
+    command += [driver, verb, row.corpus, row.work, str(SIZE)]
     run = subprocess.run(command, check=True, capture_output=True, text=True)
     size, blocks = re.search(r'Total: +([\d,]+) bytes in ([\d,]+) blocks', run.stderr).groups()
     return Asked(int(blocks.replace(',', '')), int(size.replace(',', ''))), run.stdout
@@ -29,11 +30,12 @@ def of_row(driver, row):
 
 
 def print_table(driver, jobs, rows):
-    print('\n## Memory\n')
-    print('Requests of memory, and the bytes that they ask for in all, by dhat on %d bytes.\n' % SIZE)
-    print('| Corpus | work | literals or trees | requests | each | bytes | each |\n|---|---|---|---|---|---|---|')
+    note = 'Requests of memory, and the bytes that they ask for in all, by dhat on %d bytes.'
+    columns = ('Corpus', 'work', 'literals or trees', 'requests', 'each', 'bytes', 'each')
+    text.begin('Memory', columns, note % SIZE)
     good = [row for row in rows if row.form in build.GOOD]
     with concurrent.futures.ThreadPoolExecutor(jobs) as pool:
         for row, (asked, count) in zip(good, pool.map(lambda row: of_row(driver, row), good)):
-            cells = (row.corpus, row.work, count, asked.requests, asked.requests / count, asked.bytes, asked.bytes / count)
-            print('| `%s` | %s | %d | %d | %.2f | %d | %.1f |' % cells, flush=True)
+            each = ('%.2f' % (asked.requests / count), '%.1f' % (asked.bytes / count))
+            cells = (str(count), str(asked.requests), each[0], str(asked.bytes), each[1])
+            text.row(row.corpus, row.work, *cells)

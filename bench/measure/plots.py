@@ -56,12 +56,15 @@ def speed(pyplot, taken, path):
 
 def growth(pyplot, taken, path):
     """Each of our works on every corpus, at each size. What grows as the text does is level."""
-    figure, grid = pyplot.subplots(2, 4, figsize=(12, 6), sharex=True, sharey=True, layout='constrained')
+    shared = {'sharex': True, 'sharey': True, 'layout': 'constrained'}
+    figure, grid = pyplot.subplots(2, 4, figsize=(12, 6), **shared)
+    style = {'color': COLOURS[True], 'alpha': 0.55, 'linewidth': 1.2}
+    style |= {'marker': 'o', 'markersize': 3}
     panels = list(grid.flat)
     for axes, name in zip(panels, OURS):
         for (_, work), each in taken.items():
             if work == name:
-                axes.plot(counts.SIZES, each, color=COLOURS[True], alpha=0.55, linewidth=1.2, marker='o', markersize=3)
+                axes.plot(counts.SIZES, each, **style)
         axes.set_xscale('log')
         axes.set_yscale('log')
         axes.set_xticks(counts.SIZES, ['1 MB', '100 KB', '10 KB'], minor=False)
@@ -72,7 +75,8 @@ def growth(pyplot, taken, path):
     for axes in panels[len(OURS):]:
         axes.axis('off')
     panels[3].tick_params(labelbottom=True)
-    figure.suptitle('Instructions a byte by the size of the text, a line for each corpus; level is linear', fontsize=12)
+    title = 'Instructions a byte by the size of the text, a line for each corpus; level is linear'
+    figure.suptitle(title, fontsize=12)
     figure.savefig(path, **PLAIN)
 
 
@@ -80,7 +84,7 @@ def draw(taken):
     try:
         import matplotlib
     except ImportError:
-        sys.exit("bench/run: no matplotlib; with Debian's python3-matplotlib: /usr/bin/python3 bench/run --plot")
+        sys.exit("bench/run: no matplotlib; Debian's is for /usr/bin/python3 bench/run --plot")
     matplotlib.use('Agg')
     from matplotlib import pyplot
     speed(pyplot, taken, os.path.join(build.TOP, 'docs/speed.png'))

@@ -20,7 +20,8 @@ fn check_attributes() -> Result<(), String> {
     wanted("attr", ours::attr(&corpus), 3)
 }
 
-/// The sums of some texts, with a text past UTF-8, places out of order, and one past the end among them.
+/// The sums of some texts, with a text past UTF-8, places out of order, and one past the end among
+/// them.
 fn check_literals() -> Result<(), String> {
     let corpus = Corpus {
         name: "known texts",

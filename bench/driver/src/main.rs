@@ -1,10 +1,11 @@
 //! Runs the same work by this repository's libraries and by others. bench/run builds and calls it.
 //!
-//! `driver names` prints each corpus with what runs on it; `driver check BYTES` compares the sums of works that weigh
-//! alike. The others print numbers: `driver once CORPUS WORK BYTES` runs one work once, in the function `measured`, and
-//! prints the corpus's bytes and texts and the sum; `driver none CORPUS WORK BYTES` does all but run it; `driver taken
-//! CORPUS WORK BYTES` prints, with bytes and sum, the microseconds of processor time, the page faults and the bytes of
-//! memory that it took. Each first tries the works on texts whose sums are known.
+//! `driver names` prints each corpus with what runs on it; `driver check BYTES` compares the sums
+//! of works that weigh alike. The others print numbers: `driver once CORPUS WORK BYTES` runs one
+//! work once, in the function `measured`, and prints the corpus's bytes and texts and the sum;
+//! `driver none CORPUS WORK BYTES` does all but run it; `driver taken CORPUS WORK BYTES` prints,
+//! with bytes and sum, the microseconds of processor time, the page faults and the bytes of memory
+//! that it took. Each first tries the works on texts whose sums are known.
 
 mod corpus;
 mod known;
@@ -52,7 +53,8 @@ fn check_all(size: usize) -> Result<(), String> {
     Ok(())
 }
 
-/// Prints each corpus and work, with a word on whether the corpus is literals, a list or bad input and the work ours.
+/// Prints each corpus and work, with a word on whether the corpus is literals, a list or bad input
+/// and the work ours.
 fn print_names() {
     for (name, form) in corpus::ALL {
         for work in works::of(form) {
@@ -81,8 +83,8 @@ fn run_once(work: &Work, corpus: &Corpus, runs: bool) {
     println!("{} {} {sum}", corpus.bytes.len(), corpus.ends.len());
 }
 
-/// Prints the corpus's bytes, the sum, and what the work takes: microseconds, page faults, and how many bytes more than
-/// before were held at most.
+/// Prints the corpus's bytes, the sum, and what the work takes: microseconds, page faults, and how
+/// many bytes more than before were held at most.
 fn run_taken(work: &Work, corpus: &Corpus) -> Result<(), String> {
     process::begin_peak()?;
     let (held, faults) = (process::held()?, process::page_faults()?);

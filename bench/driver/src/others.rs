@@ -54,8 +54,8 @@ fn litrs_weight(text: &str, numbers: Numbers) -> u64 {
     }
 }
 
-/// The sum by litrs. One loop for both sums, so that the compiler can write litrs' code into it, as it does into the loop
-/// of a caller who parses in one place.
+/// The sum by litrs. One loop for both sums, so that the compiler can write litrs' code into it, as
+/// it does into the loop of a caller who parses in one place.
 #[inline(never)]
 fn litrs_sum(corpus: &Corpus, numbers: Numbers) -> u64 {
     corpus
@@ -125,7 +125,8 @@ pub mod syn {
             .fold(0, u64::wrapping_add)
     }
 
-    /// How many literals stand in the text: proc-macro2's trees, and of each literal's text syn's reading.
+    /// How many literals stand in the text: proc-macro2's trees, and of each literal's text syn's
+    /// reading.
     fn count(text: &str) -> Option<u64> {
         let mut literals = 0;
         let mut trees = text.parse::<TokenStream>().ok()?.into_iter();

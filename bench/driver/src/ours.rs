@@ -24,7 +24,8 @@ extern "C" {
 fn call(export: Export, corpus: &Corpus) -> u64 {
     let (bytes, ends) = (&corpus.bytes, &corpus.ends);
     let mut sum = 0;
-    // SAFETY: the pointers are those of two slices with their lengths, which outlive the call, and are only read.
+    // SAFETY: the pointers are those of two slices with their lengths, which outlive the call, and
+    // are only read.
     let done = unsafe {
         export(
             bytes.as_ptr(),

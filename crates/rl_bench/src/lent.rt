@@ -15,8 +15,8 @@ use std::alloc::{AllocError, Global};
 /// The least number that 64 bits don't hold.
 const PAST_64_BITS: u128 = 1 << 64;
 
-/// The length of the contents of the literal that was found in the text, which are made only where they stand nowhere in
-/// it.
+/// The length of the contents of the literal that was found in the text, which are made only where
+/// they stand nowhere in it.
 fn lent_contents_size(alloc: Global, text: &str, found: Found) -> Result<usize, AllocError>
     requires { IsFound text.now found }
     ensures { IfOk result (HasSize found.kind (chars text.now)) }
@@ -28,8 +28,9 @@ fn lent_contents_size(alloc: Global, text: &str, found: Found) -> Result<usize, 
     }
 }
 
-/// How much is lent of the literal that was found in the text: of an integer what its digits spell, modulo 2 to the 64th;
-/// of a float the length of its numeral; of any other the length of its contents.
+/// How much is lent of the literal that was found in the text: of an integer what its digits spell,
+/// modulo 2 to the 64th; of a float the length of its numeral; of any other the length of its
+/// contents.
 fn lent_size(alloc: Global, text: &str, found: Found) -> Result<u64, AllocError>
     requires { IsFound text.now found }
     ensures { IfOk result (IsLent found.kind text.now) }

@@ -13,7 +13,8 @@ use rl_grammar::Kind;
 use rust_literals::Lit;
 use std::alloc::{AllocError, Global};
 
-/// The weight of a literal by its kind, value or digits, and suffix. A value is lent, and made where it can't be.
+/// The weight of a literal by its kind, value or digits, and suffix. A value is lent, and made
+/// where it can't be.
 fn value_ref_weight(alloc: Global, literal: &Lit) -> Result<u64, AllocError>
     ensures { IfOk result (HasLitWeight literal.now) }
 {
