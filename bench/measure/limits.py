@@ -26,11 +26,12 @@ def read():
     return {(corpus, work): float(most) for corpus, work, most in lines}
 
 
-def check(driver, jobs, rows):
-    """Prints each row of ours that is past its limit or has none, and each limit of no row."""
+def check(driver, jobs, rows, corpus):
+    """Prints each row of ours that is past its limit or has none, and each limit of no row; of one
+    corpus where one is named."""
     ours = [row for row in rows if row.whose == 'ours']
-    most = read()
-    idle = [name for name in most if name not in {(row.corpus, row.work) for row in rows}]
+    most = {name: limit for name, limit in read().items() if corpus in (None, name[0])}
+    idle = [name for name in most if name not in {(row.corpus, row.work) for row in ours}]
     faults = ['%s, %s: a limit of no row' % name for name in idle]
     for row, (found,) in zip(ours, counts.all_of(driver, jobs, ours, counts.SIZES[:1])):
         each, limit = found.instructions / found.bytes, most.get((row.corpus, row.work))
@@ -39,5 +40,5 @@ def check(driver, jobs, rows):
         elif each > limit:
             words = '%s, %s: %.3f instructions a byte, past its limit of %.3f'
             faults.append(words % (row.corpus, row.work, each, limit))
-    print('\n'.join(faults + ['%d rows, %d past their limits' % (len(ours), len(faults))]))
+    print('\n'.join(faults + ['%d rows, %d faults' % (len(ours), len(faults))]))
     return 1 if faults else 0
