@@ -11,8 +11,8 @@ use Rattle.rl_bench.specs.Sizes.{HasSize}
 use Rattle.rl_bench.specs.Weights.{weight_of}
 
 -- The text, in bytes, is an integer whose digits spell this number, but for what 64 bits don't hold.
-abbrev pub HasMagnitude : List ℕ → ℕ → Type 0
-HasMagnitude text n = (magnitude : ℕ) × (suffix : List ℕ) × IsWithin (chars text) magnitude suffix × (n ≡ magnitude % 2 ^ 64)
+abbrev pub HasLowMagnitude : List ℕ → ℕ → Type 0
+HasLowMagnitude text n = (magnitude : ℕ) × (suffix : List ℕ) × IsWithin (chars text) magnitude suffix × (n ≡ magnitude % 2 ^ 64)
 
 -- The text, in bytes, is a float whose numeral, all before its suffix, has this many bytes.
 abbrev pub HasNumeral : List ℕ → ℕ → Type 0
@@ -21,7 +21,7 @@ HasNumeral text n =
 
 -- What is lent of a literal of the kind: an integer's magnitude, a float's numeral, any other's contents.
 abbrev pub IsLent : Kind → List ℕ → ℕ → Type 0
-IsLent Int text n = HasMagnitude text n
+IsLent Int text n = HasLowMagnitude text n
 IsLent Float text n = HasNumeral text n
 IsLent kind text n = HasSize kind (chars text) n
 
