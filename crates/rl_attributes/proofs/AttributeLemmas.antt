@@ -9,12 +9,12 @@ use Rattle.std.proofs.lemmas.List.Folds.{list_any-append}
 use Rattle.std.proofs.lemmas.Map.Keys.{IsDistinct-push, IsDistinct-head, IsDistinct-tail}
 use Rattle.rl_tokens.specs.declared.span.Span.{Span}
 use Rattle.rl_tokens.specs.declared.error.Error.{Error}
-use Rattle.rl_tokens.specs.Tokens.{Token}
+use Rattle.rl_tokens.specs.Texts.{SpannedText}
 use Rattle.rl_tokens.specs.Trees.{Tree}
 use Rattle.rl_tokens.specs.Buffers.{begins_ident, begins_mark, IsBehindMark}
-use Rattle.rl_tokens.specs.Fronts.{IsFront}
+use Rattle.rl_grammar.specs.Fronts.{IsFront}
 use Rattle.rl_grammar.proofs.FrontLemmas.{one_front, front_rest}
-use Rattle.rl_attributes.specs.Attributes.{Attribute, IsAttribute, AreListed, names_of, is_named, NamesDiffer, MissesName, RepeatsName, MissesEquals, MissesLiteral, MissesComma, RefusesNext, StandBefore, RefusesAttributes, HasNewName}
+use Rattle.rl_attributes.specs.Attributes.{Attribute, IsAttribute, AreListed, names_of, is_named, NamesDiffer, MissesName, RepeatsName, MissesEquals, MissesLiteral, MissesComma, RefusesNextAttribute, StandBefore, RefusesAttributes, HasNewName}
 use Rattle.rl_attributes.specs.AttributeSteps.{IsNext}
 
 -- ---- one attribute
@@ -38,7 +38,7 @@ mark_begins ch trees rest h = rw (h.trees_are, h.is) (search arith)
 no_behind : (ch : ℕ) (trees rest : List Tree) → IsBehindMark ch trees rest → trees ≡ [] → ⊥
 no_behind ch trees rest h e = let f = h.trees_are in absurd (cc)
 
-abbrev attribute : Token → Token → Attribute
+abbrev attribute : SpannedText → SpannedText → Attribute
 attribute name literal = record { name = name; literal = literal }
 
 -- the trees begin with one attribute at most
@@ -50,7 +50,7 @@ one_attribute trees a b r s h k =
     let equals : h.at_equals ≡ k.at_equals = cc in
     let literals : h.at_literal ≡ k.at_literal = one_mark 61 k.at_equals h.at_literal k.at_literal (subst (λ (t : List Tree). IsBehindMark 61 t h.at_literal) equals h.equals) k.equals in
     let one = one_front k.at_literal a.literal b.literal r s (subst (λ (t : List Tree). IsFront t a.literal r) literals h.set) k.set in
-    (ap (λ (n : Token). attribute n a.literal) names ∙ ap (attribute b.name) one.0, one.1)
+    (ap (λ (n : SpannedText). attribute n a.literal) names ∙ ap (attribute b.name) one.0, one.1)
 
 -- what stands behind an attribute is shorter
 behind_attribute : (trees : List Tree) (a : Attribute) (rest : List Tree) → IsAttribute trees a rest → length rest < length trees
@@ -188,7 +188,7 @@ repeats_name done a more trees behind e d i r =
     let p = r.named in
     let q = i.named in
     let same : r.name ≡ a.name = cc in
-    let again : is_named a.name.text done ≡ true = subst (λ (n : Token). is_named n.text done ≡ true) same r.again in
+    let again : is_named a.name.text done ≡ true = subst (λ (n : SpannedText). is_named n.text done ≡ true) same r.again in
     let before = names_before done a more d in
     absurd (cc)
 
@@ -214,7 +214,7 @@ misses_comma seen a more trees scope e (b, i, inr (r, k, l)) m =
     let one = one_attribute trees m.attribute a m.behind b m.is i in
     misses_mark 44 b r k (subst (λ (t : List Tree). begins_mark 44 t ≡ false) one.1 m.none)
 
-never_refused : {A : Type 0} (done more : List Attribute) (trees : List Tree) (scope : Span) (e : Error A) → trees ≢ [] → NamesDiffer (done ++ more) → AreListed trees more → RefusesNext (λ name. is_named name done) trees scope e → ⊥
+never_refused : {A : Type 0} (done more : List Attribute) (trees : List Tree) (scope : Span) (e : Error A) → trees ≢ [] → NamesDiffer (done ++ more) → AreListed trees more → RefusesNextAttribute (λ name. is_named name done) trees scope e → ⊥
 never_refused done [] trees scope e some d h r = some h
 never_refused done (a ∷ more) trees scope e some d h r =
     elim r.why [
@@ -226,7 +226,7 @@ never_refused done (a ∷ more) trees scope e some d h r =
     ]
 
 -- attributes that differ were taken, and what is left is refused: the trees are
-pub refused_next : {A : Type 0} (trees : List Tree) (done : List Attribute) (rest : List Tree) (scope : Span) (e : Error A) → AreTaken trees done rest → NamesDiffer done → rest ≢ [] → RefusesNext (λ name. is_named name done) rest scope e → RefusesAttributes trees scope e
+pub refused_next : {A : Type 0} (trees : List Tree) (done : List Attribute) (rest : List Tree) (scope : Span) (e : Error A) → AreTaken trees done rest → NamesDiffer done → rest ≢ [] → RefusesNextAttribute (λ name. is_named name done) rest scope e → RefusesAttributes trees scope e
 refused_next trees done rest scope e t d some r = record {
   earlier = done;
   rest = rest;
@@ -240,10 +240,10 @@ refused_next trees done rest scope e t d some r = record {
 }
 
 -- the refusal is the same where what was seen is told otherwise
-same_new : (s t : List ℕ → Bool) (trees : List Tree) (name : Token) (behind : List Tree) → ((n : List ℕ) → s n ≡ t n) → HasNewName s trees name behind → HasNewName t trees name behind
+same_new : (s t : List ℕ → Bool) (trees : List Tree) (name : SpannedText) (behind : List Tree) → ((n : List ℕ) → s n ≡ t n) → HasNewName s trees name behind → HasNewName t trees name behind
 same_new s t trees name behind e h = record { named = h.named; anew = sym (e name.text) ∙ h.anew }
 
-pub same_seen : {A : Type 0} (s t : List ℕ → Bool) (trees : List Tree) (scope : Span) (e : Error A) → ((n : List ℕ) → s n ≡ t n) → RefusesNext s trees scope e → RefusesNext t trees scope e
+pub same_seen : {A : Type 0} (s t : List ℕ → Bool) (trees : List Tree) (scope : Span) (e : Error A) → ((n : List ℕ) → s n ≡ t n) → RefusesNextAttribute s trees scope e → RefusesNextAttribute t trees scope e
 same_seen s t trees scope e same r = record {
   why = elim r.why [
     | inl m ↦ inl m

@@ -14,7 +14,7 @@ use Rattle.rl_tokens.specs.declared.error.Error.{Error}
 use Rattle.rl_tokens.specs.declared.error.ErrorKind.{ErrorKind}
 use Rattle.rl_tokens.specs.declared.error.ErrorKind.TheVariants.{Expected, EndOfInput, Unexpected, Lex, Suffix, NotInteger, TooLarge, NotFloat, Repeated, Number, Memory}
 use Rattle.rl_tokens.specs.Errors.{memory_at}
-use Rattle.rl_tokens.specs.Tokens.{Token}
+use Rattle.rl_tokens.specs.Texts.{SpannedText}
 use Rattle.rl_tokens.specs.Trees.{Tree}
 use Rattle.rl_tokens.specs.Buffers.{begins_ident, first_span, IsRest, IsBehindMark, StaysRest, MissesWord, IsRefusal}
 use Rattle.rl_tokens.specs.Whole.{place_at, RefusesAll, LeavesTrees}
@@ -24,17 +24,17 @@ use Rattle.rust_literals.specs.Parsing.{RunsLit}
 use Rattle.rust_literals.proofs.ReadLemmas.{lex_memory}
 use Rattle.rl_attributes.specs.declared.attributes.Entry.{Entry}
 use Rattle.rl_attributes.specs.declared.attributes.Attrs.{Attrs}
-use Rattle.rl_attributes.specs.Attributes.{Attribute, HasNewName, AreListed, names_of, is_named, NamesDiffer, AreAttributes, AreAttributesOf, RefusesNext, RefusesAttributes, RefusesTrees, RefusesText}
-use Rattle.rl_attributes.specs.Entries.{attribute_of, attributes_of, IsRead, HasName, EntriesDiffer}
+use Rattle.rl_attributes.specs.Attributes.{Attribute, HasNewName, AreListed, names_of, is_named, NamesDiffer, AreAttributes, AreAttributesOf, RefusesNextAttribute, RefusesAttributes, RefusesAttributeTrees, RefusesAttributeText}
+use Rattle.rl_attributes.specs.Entries.{attribute_of, attributes_of, IsReadEntry, HasName, EntriesDiffer}
 use Rattle.rl_attributes.specs.AttributeParsing.{entries_of, AreEntries, RunsAttrs, IsListOrMemory}
-use Rattle.rl_attributes.specs.AttributeSteps.{has_name, AddsName, IsNext, WantsMemory, Stops, told_at, kind_told_at}
+use Rattle.rl_attributes.specs.AttributeSteps.{has_name, AddsName, IsNext, LacksMemoryInStep, RefusesStep, reported_at, kind_reported_at}
 use Rattle.rl_attributes.proofs.AttributeLemmas.{AreTaken, taken_none, taken_more, taken_all, taken_begins, differ_more, differ_none, named_more, refused_next, same_seen, one_listing}
 
 -- The entries that were taken of the trees, the names that are kept of them, and what is left.
 pub record IsAt {A S : Type 0} (trees : List Tree) (entries : List (Entry A)) (names : HashSet (Bor (List ℕ)) S) (rest : List Tree) : Type 0 where
   pub taken : AreTaken trees (attributes_of entries) rest
   pub differ : EntriesDiffer entries
-  pub read : All IsRead entries
+  pub read : All IsReadEntry entries
   pub knows : (name : List ℕ) → has_name names name ≡ is_named name (attributes_of entries)
   pub left : IsRest trees rest
 
@@ -43,19 +43,19 @@ pub at_first : {A S : Type 0} (trees : List Tree) (entries : List (Entry A)) (na
 at_first {A = A} trees entries names e n = record {
   taken = subst (λ (es : List (Entry A)). AreTaken trees (attributes_of es) trees) (sym e) (taken_none trees);
   differ = subst EntriesDiffer (sym e) differ_none;
-  read = All-same IsRead entries [] e (λ k d h. absurd (omega arith));
+  read = All-same IsReadEntry entries [] e (λ k d h. absurd (omega arith));
   knows = λ name. rw (e, n) refl;
   left = rest_self trees;
 }
 
 -- one entry more
-pub at_next : {A S : Type 0} (trees : List Tree) (entries more : List (Entry A)) (old new : HashSet (Bor (List ℕ)) S) (rest next : List Tree) (entry : Entry A) → IsAt trees entries old rest → rest ≢ [] → IsNext rest (attribute_of entry) next → IsFalse (has_name old (string_bytes entry.name)) → IsRead entry → AddsName old new (string_bytes entry.name) → StaysRest rest next → more ≡ entries ++ (entry ∷ []) → IsAt trees more new next
+pub at_next : {A S : Type 0} (trees : List Tree) (entries more : List (Entry A)) (old new : HashSet (Bor (List ℕ)) S) (rest next : List Tree) (entry : Entry A) → IsAt trees entries old rest → rest ≢ [] → IsNext rest (attribute_of entry) next → IsFalse (has_name old (string_bytes entry.name)) → IsReadEntry entry → AddsName old new (string_bytes entry.name) → StaysRest rest next → more ≡ entries ++ (entry ∷ []) → IsAt trees more new next
 at_next trees entries more old new rest next entry at some n anew read adds left e =
     let grown : attributes_of more ≡ attributes_of entries ++ (attribute_of entry ∷ []) = ap attributes_of e ∙ map_push attribute_of entries entry in
     record {
       taken = subst (λ (l : List Attribute). AreTaken trees l next) (sym grown) (taken_more trees (attributes_of entries) rest (attribute_of entry) next at.taken some n);
       differ = subst NamesDiffer (sym grown) (differ_more (attributes_of entries) (attribute_of entry) at.differ (sym (at.knows (string_bytes entry.name)) ∙ anew));
-      read = All-same IsRead more (entries ++ (entry ∷ [])) e (All-push IsRead entries entry at.read read);
+      read = All-same IsReadEntry more (entries ++ (entry ∷ [])) e (All-push IsReadEntry entries entry at.read read);
       knows = λ name.
           adds name
           ∙ ap (λ b. cond (bytes_eq (string_bytes entry.name) name) true b) (at.knows name)
@@ -69,21 +69,21 @@ pub at_end : {A S : Type 0} (trees : List Tree) (entries : List (Entry A)) (name
 at_end trees entries names rest at e = record { are = record { listed = taken_all trees (attributes_of entries) rest at.taken e; differ = at.differ }; read = at.read }
 
 -- want of memory for what a name begins
-pub at_memory : {A B S : Type 0} (trees : List Tree) (entries : List (Entry A)) (names : HashSet (Bor (List ℕ)) S) (rest : List Tree) (e : Error B) → IsAt trees entries names rest → rest ≢ [] → WantsMemory rest e → WantsMemory trees e
+pub at_memory : {A B S : Type 0} (trees : List Tree) (entries : List (Entry A)) (names : HashSet (Bor (List ℕ)) S) (rest : List Tree) (e : Error B) → IsAt trees entries names rest → rest ≢ [] → LacksMemoryInStep rest e → LacksMemoryInStep trees e
 at_memory trees entries names rest e at some w = record { begun = taken_begins trees (attributes_of entries) rest at.taken some w.begun; memory = w.memory }
 
-pub next_memory : {B : Type 0} (rest next : List Tree) (a : Attribute) (e : Error B) → IsNext rest a next → e.kind ≡ Memory → WantsMemory rest e
+pub next_memory : {B : Type 0} (rest next : List Tree) (a : Attribute) (e : Error B) → IsNext rest a next → e.kind ≡ Memory → LacksMemoryInStep rest e
 next_memory rest next a e n m = record { begun = subst (λ (ts : List Tree). begins_ident ts ≡ true) (sym n.is.named) refl; memory = m }
 
 -- what stops a step is refused of all trees
-pub at_refusal : {A B S : Type 0} (trees : List Tree) (entries : List (Entry A)) (names : HashSet (Bor (List ℕ)) S) (rest : List Tree) (scope was : Span) (e : Error B) → IsAt trees entries names rest → rest ≢ [] → was ≡ scope → Stops (has_name names) rest was e → WantsMemory trees e ⊎ RefusesAttributes trees scope e
+pub at_refusal : {A B S : Type 0} (trees : List Tree) (entries : List (Entry A)) (names : HashSet (Bor (List ℕ)) S) (rest : List Tree) (scope was : Span) (e : Error B) → IsAt trees entries names rest → rest ≢ [] → was ≡ scope → RefusesStep (has_name names) rest was e → LacksMemoryInStep trees e ⊎ RefusesAttributes trees scope e
 at_refusal trees entries names rest scope was e at some s (inl w) = inl (at_memory trees entries names rest e at some w)
 at_refusal trees entries names rest scope was e at some s (inr r) =
     let seen = same_seen (has_name names) (λ name. is_named name (attributes_of entries)) rest was e at.knows r in
     inr (subst (λ (z : Span). RefusesAttributes trees z e) s (refused_next trees (attributes_of entries) rest was e at.taken at.differ some seen))
 
 -- behind a new name and `=`, what the parser of literals refuses
-pub value_refused : {A : Type 0} (seen : List ℕ → Bool) (trees at_equals at_literal after : List Tree) (scope was : Span) (name : Token) (e : Error A) → HasNewName seen trees name at_equals → IsBehindMark 61 at_equals at_literal → was ≡ scope → RunsLit at_literal was (Err e) after → Stops seen trees scope e
+pub value_refused : {A : Type 0} (seen : List ℕ → Bool) (trees at_equals at_literal after : List Tree) (scope was : Span) (name : SpannedText) (e : Error A) → HasNewName seen trees name at_equals → IsBehindMark 61 at_equals at_literal → was ≡ scope → RunsLit at_literal was (Err e) after → RefusesStep seen trees scope e
 value_refused {A = A} seen trees at_equals at_literal after scope was name e begun equals same (inl w) =
     inl (record { begun = subst (λ (ts : List Tree). begins_ident ts ≡ true) (sym begun.named) refl; memory = ap (λ (x : Error A). x.kind) w.1.error })
 value_refused seen trees at_equals at_literal after scope was name e begun equals same (inr n) =
@@ -109,7 +109,7 @@ no_word A (t ∷ ts) word h = h
 no_refusal : {A : Type 0} (trees : List Tree) (scope : Span) (word : List ℕ) (e : Error A) → IsRefusal trees scope word e → e.kind ≡ Memory → ⊥
 no_refusal {A = A} trees scope word e r m = no_word A trees word (subst (λ (k : ErrorKind A). MissesWord trees word k) m r.kind)
 
-no_memory : {A : Type 0} (seen : List ℕ → Bool) (trees : List Tree) (scope : Span) (e : Error A) → RefusesNext seen trees scope e → e.kind ≡ Memory → ⊥
+no_memory : {A : Type 0} (seen : List ℕ → Bool) (trees : List Tree) (scope : Span) (e : Error A) → RefusesNextAttribute seen trees scope e → e.kind ≡ Memory → ⊥
 no_memory {A = A} seen trees scope e r m =
     elim r.why [
       | inl w ↦ no_refusal trees scope _ e w.refusal m
@@ -120,7 +120,7 @@ no_memory {A = A} seen trees scope e r m =
     ]
 
 -- what isn't want of memory stays as it is
-stays : {A : Type 0} (kind : ErrorKind A) (span place : Span) → (kind ≡ Memory → ⊥) → kind_told_at kind span place ≡ record { span = span; kind = kind }
+stays : {A : Type 0} (kind : ErrorKind A) (span place : Span) → (kind ≡ Memory → ⊥) → kind_reported_at kind span place ≡ record { span = span; kind = kind }
 stays (Expected w) span place h = refl
 stays (EndOfInput w) span place h = refl
 stays Unexpected span place h = refl
@@ -133,20 +133,20 @@ stays Repeated span place h = refl
 stays (Number x) span place h = refl
 stays Memory span place h = absurd (h refl)
 
-pub told_refusal : {A : Type 0} (trees : List Tree) (scope place : Span) (e told : Error A) → WantsMemory trees e ⊎ RefusesAttributes trees scope e → place ≡ first_span trees scope → told ≡ told_at e place → RefusesTrees trees scope told
+pub told_refusal : {A : Type 0} (trees : List Tree) (scope place : Span) (e told : Error A) → LacksMemoryInStep trees e ⊎ RefusesAttributes trees scope e → place ≡ first_span trees scope → told ≡ reported_at e place → RefusesAttributeTrees trees scope told
 told_refusal trees scope place e told (inl w) p t =
-    inl (record { begun = w.begun; error = t ∙ ap (λ k. kind_told_at k e.span place) w.memory ∙ ap memory_at p })
+    inl (record { begun = w.begun; error = t ∙ ap (λ k. kind_reported_at k e.span place) w.memory ∙ ap memory_at p })
 told_refusal trees scope place e told (inr r) p t =
     let same : told ≡ e = t ∙ stays e.kind e.span place (no_memory (λ name. is_named name r.earlier) r.rest scope e r.refused) in
     inr (subst (RefusesAttributes trees scope) (sym same) r)
 
 -- ---- a whole text
 
-pub text_refused : {A : Type 0} (text : List ℕ) (file : ℕ) (e : Error A) → RefusesAll (RunsAttrs {A = A}) text file e → RefusesText (chars text) file (length text) e
+pub text_refused : {A : Type 0} (text : List ℕ) (file : ℕ) (e : Error A) → RefusesAll (RunsAttrs {A = A}) text file e → RefusesAttributeText (chars text) file (length text) e
 text_refused text file e (inl u) = inl u
 text_refused {A = A} text file e (inr c) = inr (record { trees = c.trees; lexes = c.lexes; refused = go c.refused.why })
   where
-    go : ((rest : List Tree) × RunsAttrs c.trees (place_at file (length text)) (Err e) rest) ⊎ LeavesTrees (RunsAttrs {A = A}) c.trees (place_at file (length text)) e → RefusesTrees c.trees (place_at file (length text)) e
+    go : ((rest : List Tree) × RunsAttrs c.trees (place_at file (length text)) (Err e) rest) ⊎ LeavesTrees (RunsAttrs {A = A}) c.trees (place_at file (length text)) e → RefusesAttributeTrees c.trees (place_at file (length text)) e
     go (inl (rest, ran)) = ran.0
     go (inr l) = absurd (l.some l.ran.1)
 
@@ -154,12 +154,12 @@ one_text : (text : List ℕ) (file : ℕ) (xs ys : List Attribute) → AreAttrib
 one_text text file xs ys a b =
     one_listing b.trees xs ys (subst (λ (t : List Tree). AreListed t xs) (one_list text file a.trees b.trees a.lexes b.lexes) a.are.listed) b.are.listed
 
-pub exactly : {A : Type 0} (text : List ℕ) (file end : ℕ) (r : Result (Attrs A) (Error A)) → IfOk r (λ attrs. AreAttributesOf text file (attributes_of (entries_of attrs))) → IfErr r (RefusesText text file end) → (list : List Attribute) → AreAttributesOf text file list → IsListOrMemory list r
+pub exactly : {A : Type 0} (text : List ℕ) (file end : ℕ) (r : Result (Attrs A) (Error A)) → IfOk r (λ attrs. AreAttributesOf text file (attributes_of (entries_of attrs))) → IfErr r (RefusesAttributeText text file end) → (list : List Attribute) → AreAttributesOf text file list → IsListOrMemory list r
 exactly text file end (Ok attrs) read refused list a = one_text text file (attributes_of (entries_of attrs)) list read a
 exactly text file end (Err e) read (inl u) list a = lex_memory text file a.trees u.kind u.at e never_both a.lexes u.error u.refused
 exactly {A = A} text file end (Err e) read (inr c) list a = go c.refused
   where
-    go : RefusesTrees c.trees (place_at file end) e → e.kind ≡ Memory
+    go : RefusesAttributeTrees c.trees (place_at file end) e → e.kind ≡ Memory
     go (inl s) = ap (λ (x : Error A). x.kind) s.error
     go (inr r) = absurd (r.none list (subst (λ (t : List Tree). AreAttributes t list) (one_list text file a.trees c.trees a.lexes c.lexes) a.are))
 

@@ -9,7 +9,7 @@ use Rattle.rl_lines.proofs.LineLemmas.{pushed}
 use Rattle.rl_lines.proofs.TextLemmas.{line_of_text}
 use Rattle.rl_attributes.specs.declared.attributes.Entry.{Entry}
 use Rattle.rl_attributes.specs.Attributes.{AreAttributesOf}
-use Rattle.rl_attributes.specs.Entries.{attributes_of, IsRead}
+use Rattle.rl_attributes.specs.Entries.{attributes_of, IsReadEntry}
 use Rattle.rl_attributes.specs.EntryLines.{AreAttributeLines, ShowsAttributes, PrintsEntry, PrintsEntries}
 
 space : chars (32 ∷ []) ≡ 32 ∷ []
@@ -41,12 +41,12 @@ record LinesApart {A : Type 0} (es : List (Entry A)) (old new : List ℕ) : Type
   pub lines : AreAttributeLines (attributes_of es) shown
   pub new_is : new ≡ old ++ shown
 
-lines_apart : {A : Type 0} (es : List (Entry A)) (old new : List ℕ) → All IsRead es → PrintsEntries es old new → LinesApart es old new
+lines_apart : {A : Type 0} (es : List (Entry A)) (old new : List ℕ) → All IsReadEntry es → PrintsEntries es old new → LinesApart es old new
 lines_apart [] old new read e = record { shown = []; lines = refl; new_is = e ∙ sym (append-nil old) }
 lines_apart (x ∷ es) old new read (between, (line, p, b), h) =
     let name = chars (string_bytes x.name) in
-    let rest = lines_apart es between new (All-tail IsRead x es read) h in
-    let is : IsLineOf (chars (token_of x.value).text) line = line_of_text (token_of x.value) x.value (token_of x.value).text [] line (refl, All-head IsRead x es read) refl p refl in
+    let rest = lines_apart es between new (All-tail IsReadEntry x es read) h in
+    let is : IsLineOf (chars (token_of x.value).text) line = line_of_text (token_of x.value) x.value (token_of x.value).text [] line (refl, All-head IsReadEntry x es read) refl p refl in
     record {
       shown = name ++ (32 ∷ (line ++ rest.shown));
       lines = (line, rest.shown, is, rest.lines, refl);
@@ -56,7 +56,7 @@ lines_apart (x ∷ es) old new read (between, (line, p, b), h) =
     }
 
 -- the lines of all entries are those of the text
-pub shows_attributes : {A : Type 0} (text : List ℕ) (es : List (Entry A)) (shown : List ℕ) → AreAttributesOf text 0 (attributes_of es) → All IsRead es → PrintsEntries es [] shown → ShowsAttributes text shown
+pub shows_attributes : {A : Type 0} (text : List ℕ) (es : List (Entry A)) (shown : List ℕ) → AreAttributesOf text 0 (attributes_of es) → All IsReadEntry es → PrintsEntries es [] shown → ShowsAttributes text shown
 shows_attributes text es shown are read p =
     let all = lines_apart es [] shown read p in
     record { list = attributes_of es; are = are; lines = subst (AreAttributeLines (attributes_of es)) (sym all.new_is) all.lines }

@@ -6,8 +6,8 @@ use Rattle.rl_tokens.specs.declared.error.ErrorKind.TheVariants.{Memory}
 use Rattle.rl_tokens.specs.Trees.{Tree}
 use Rattle.rl_attributes.specs.declared.attributes.Entry.{Entry}
 use Rattle.rl_attributes.specs.declared.attributes.Attrs.{Attrs}
-use Rattle.rl_attributes.specs.Attributes.{Attribute, AreAttributes, RefusesTrees}
-use Rattle.rl_attributes.specs.Entries.{attributes_of, IsRead}
+use Rattle.rl_attributes.specs.Attributes.{Attribute, AreAttributes, RefusesAttributeTrees}
+use Rattle.rl_attributes.specs.Entries.{attributes_of, IsReadEntry}
 
 -- the entries, in their order
 abbrev pub entries_of : {A : Type 0} → Attrs A → List (Entry A)
@@ -16,12 +16,12 @@ entries_of attrs = attrs.entries.items
 -- The trees are the attributes of these entries, each value the reading of its literal.
 pub record AreEntries {A : Type 0} (trees : List Tree) (entries : List (Entry A)) : Type 0 where
   pub are : AreAttributes trees (attributes_of entries)
-  pub read : All IsRead entries
+  pub read : All IsReadEntry entries
 
 -- what the parser of attributes does: it takes all trees, or refuses them, and they stay
 abbrev pub RunsAttrs : {A : Type 0} → List Tree → Span → Result (Attrs A) (Error A) → List Tree → Type 0
 RunsAttrs trees scope (Ok attrs) rest = AreEntries trees (entries_of attrs) × (rest ≡ [])
-RunsAttrs trees scope (Err e) rest = RefusesTrees trees scope e × (rest ≡ trees)
+RunsAttrs trees scope (Err e) rest = RefusesAttributeTrees trees scope e × (rest ≡ trees)
 
 -- the answer is this list, or memory was refused
 abbrev pub IsListOrMemory : {A : Type 0} → List Attribute → Result (Attrs A) (Error A) → Type 0

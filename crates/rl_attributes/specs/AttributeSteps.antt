@@ -10,7 +10,7 @@ use Rattle.rl_tokens.specs.declared.error.Error.{Error}
 use Rattle.rl_tokens.specs.Errors.{memory_at}
 use Rattle.rl_tokens.specs.Trees.{Tree}
 use Rattle.rl_tokens.specs.Buffers.{begins_ident, IsBehindMark}
-use Rattle.rl_attributes.specs.Attributes.{Attribute, IsAttribute, RefusesNext}
+use Rattle.rl_attributes.specs.Attributes.{Attribute, IsAttribute, RefusesNextAttribute}
 
 -- whether the set has this name
 abbrev pub has_name : {S : Type 0} → HashSet (Bor (List ℕ)) S → List ℕ → Bool
@@ -27,18 +27,18 @@ pub record IsNext (trees : List Tree) (attribute : Attribute) (rest : List Tree)
   pub comma : IsBehindMark 44 behind rest ⊎ ((behind ≡ []) × (rest ≡ []))
 
 -- A name begins the trees, and memory was refused, wherever this is told.
-pub record WantsMemory {A : Type 0} (trees : List Tree) (e : Error A) : Type 0 where
+pub record LacksMemoryInStep {A : Type 0} (trees : List Tree) (e : Error A) : Type 0 where
   pub begun : IsTrue (begins_ident trees)
   pub memory : e.kind ≡ Memory
 
 -- what a step refuses, beside memory
-abbrev pub Stops : {A : Type 0} → (List ℕ → Bool) → List Tree → Span → Error A → Type 0
-Stops seen trees scope e = WantsMemory trees e ⊎ RefusesNext seen trees scope e
+abbrev pub RefusesStep : {A : Type 0} → (List ℕ → Bool) → List Tree → Span → Error A → Type 0
+RefusesStep seen trees scope e = LacksMemoryInStep trees e ⊎ RefusesNextAttribute seen trees scope e
 
 -- the refusal of this kind and span, but want of memory at that place
-abbrev pub kind_told_at : {A : Type 0} → ErrorKind A → Span → Span → Error A
-kind_told_at Memory span place = memory_at place
-kind_told_at kind span place = record { span = span; kind = kind }
+abbrev pub kind_reported_at : {A : Type 0} → ErrorKind A → Span → Span → Error A
+kind_reported_at Memory span place = memory_at place
+kind_reported_at kind span place = record { span = span; kind = kind }
 
-abbrev pub told_at : {A : Type 0} → Error A → Span → Error A
-told_at e place = kind_told_at e.kind e.span place
+abbrev pub reported_at : {A : Type 0} → Error A → Span → Error A
+reported_at e place = kind_reported_at e.kind e.span place

@@ -7,17 +7,17 @@ use Rattle.rl_tokens.specs.declared.span.Span.{Span}
 use Rattle.rl_tokens.specs.declared.error.ErrorKind.TheVariants.{Repeated}
 use Rattle.rl_tokens.specs.declared.error.Error.{Error}
 use Rattle.rl_tokens.specs.Errors.{memory_at}
-use Rattle.rl_tokens.specs.Tokens.{Token}
+use Rattle.rl_tokens.specs.Texts.{SpannedText}
 use Rattle.rl_tokens.specs.Trees.{Tree, IdentTree}
 use Rattle.rl_tokens.specs.Buffers.{first_span, begins_ident, begins_mark, IsBehindMark, IsRefusal}
-use Rattle.rl_tokens.specs.Fronts.{IsFront, HasNoFront}
+use Rattle.rl_grammar.specs.Fronts.{IsFront, HasNoFront}
 use Rattle.rl_tokens.specs.Lexing.{Lexes}
-use Rattle.rl_tokens.specs.Whole.{place_at, IsUncutText}
+use Rattle.rl_tokens.specs.Whole.{place_at, RefusesLexing}
 
 -- An attribute as tokens: its name, and the literal that it is set to.
 pub record Attribute : Type 0 where
-  pub name : Token
-  pub literal : Token
+  pub name : SpannedText
+  pub literal : SpannedText
 
 -- ---- the grammar
 
@@ -63,7 +63,7 @@ pub record AreAttributesOf (text : List ℕ) (file : ℕ) (list : List Attribute
 -- `seen` tells which names stood before.
 
 -- An identifier begins the trees, and its name is new.
-pub record HasNewName (seen : List ℕ → Bool) (trees : List Tree) (name : Token) (behind : List Tree) : Type 0 where
+pub record HasNewName (seen : List ℕ → Bool) (trees : List Tree) (name : SpannedText) (behind : List Tree) : Type 0 where
   pub named : trees ≡ IdentTree name ∷ behind
   pub anew : IsFalse (seen name.text)
 
@@ -74,7 +74,7 @@ pub record MissesName {A : Type 0} (trees : List Tree) (scope : Span) (e : Error
 
 -- An identifier begins the trees whose name stood before: this is told at it.
 pub record RepeatsName {A : Type 0} (seen : List ℕ → Bool) (trees : List Tree) (e : Error A) : Type 0 where
-  pub name : Token
+  pub name : SpannedText
   pub behind : List Tree
   pub named : trees ≡ IdentTree name ∷ behind
   pub again : IsTrue (seen name.text)
@@ -82,7 +82,7 @@ pub record RepeatsName {A : Type 0} (seen : List ℕ → Bool) (trees : List Tre
 
 -- A new name begins the trees, and no `=` stands behind it.
 pub record MissesEquals {A : Type 0} (seen : List ℕ → Bool) (trees : List Tree) (scope : Span) (e : Error A) : Type 0 where
-  pub name : Token
+  pub name : SpannedText
   pub behind : List Tree
   pub begun : HasNewName seen trees name behind
   pub none : IsFalse (begins_mark 61 behind)
@@ -90,7 +90,7 @@ pub record MissesEquals {A : Type 0} (seen : List ℕ → Bool) (trees : List Tr
 
 -- A new name and `=` begin the trees, and no literal stands behind them.
 pub record MissesLiteral {A : Type 0} (seen : List ℕ → Bool) (trees : List Tree) (scope : Span) (e : Error A) : Type 0 where
-  pub name : Token
+  pub name : SpannedText
   pub at_equals : List Tree
   pub at_literal : List Tree
   pub begun : HasNewName seen trees name at_equals
@@ -110,7 +110,7 @@ pub record MissesComma {A : Type 0} (seen : List ℕ → Bool) (trees : List Tre
 
 -- The trees don't begin with an attribute whose name is new, and with a comma or the end behind it: the first of these
 -- that is missed.
-pub record RefusesNext {A : Type 0} (seen : List ℕ → Bool) (trees : List Tree) (scope : Span) (e : Error A) : Type 0 where
+pub record RefusesNextAttribute {A : Type 0} (seen : List ℕ → Bool) (trees : List Tree) (scope : Span) (e : Error A) : Type 0 where
   pub why : MissesName trees scope e ⊎ RepeatsName seen trees e ⊎ MissesEquals seen trees scope e ⊎ MissesLiteral seen trees scope e ⊎ MissesComma seen trees scope e
 
 -- These attributes begin the trees, each with a comma behind it, and the rest stands behind them.
@@ -126,24 +126,24 @@ pub record RefusesAttributes {A : Type 0} (trees : List Tree) (scope : Span) (e 
   pub stand : StandBefore trees earlier rest
   pub differ : NamesDiffer earlier
   pub some : rest ≢ []
-  pub refused : RefusesNext (λ name. is_named name earlier) rest scope e
+  pub refused : RefusesNextAttribute (λ name. is_named name earlier) rest scope e
   pub none : (list : List Attribute) → AreAttributes trees list → ⊥
 
 -- A name begins the trees, and memory was refused: this is told at the name.
-pub record FallsShort {A : Type 0} (trees : List Tree) (scope : Span) (e : Error A) : Type 0 where
+pub record LacksMemoryForName {A : Type 0} (trees : List Tree) (scope : Span) (e : Error A) : Type 0 where
   pub begun : IsTrue (begins_ident trees)
   pub error : e ≡ memory_at (first_span trees scope)
 
 -- what is refused of trees
-abbrev pub RefusesTrees : {A : Type 0} → List Tree → Span → Error A → Type 0
-RefusesTrees trees scope e = FallsShort trees scope e ⊎ RefusesAttributes trees scope e
+abbrev pub RefusesAttributeTrees : {A : Type 0} → List Tree → Span → Error A → Type 0
+RefusesAttributeTrees trees scope e = LacksMemoryForName trees scope e ⊎ RefusesAttributes trees scope e
 
 -- The text is cut into trees, and this is refused of them.
-pub record RefusesCut {A : Type 0} (text : List ℕ) (file end : ℕ) (e : Error A) : Type 0 where
+pub record RefusesLexedAttributes {A : Type 0} (text : List ℕ) (file end : ℕ) (e : Error A) : Type 0 where
   pub trees : List Tree
   pub lexes : Lexes text file trees
-  pub refused : RefusesTrees trees (place_at file end) e
+  pub refused : RefusesAttributeTrees trees (place_at file end) e
 
 -- what is refused of a text that ends at this byte
-abbrev pub RefusesText : {A : Type 0} → List ℕ → ℕ → ℕ → Error A → Type 0
-RefusesText text file end e = IsUncutText text file e ⊎ RefusesCut text file end e
+abbrev pub RefusesAttributeText : {A : Type 0} → List ℕ → ℕ → ℕ → Error A → Type 0
+RefusesAttributeText text file end e = RefusesLexing text file e ⊎ RefusesLexedAttributes text file end e

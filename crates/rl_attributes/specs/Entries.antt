@@ -13,8 +13,8 @@ abbrev pub attributes_of : {A : Type 0} → List (Entry A) → List Attribute
 attributes_of entries = map attribute_of entries
 
 -- the value is the one reading of its token, or `Verbatim` where that has none
-abbrev pub IsRead : {A : Type 0} → Entry A → Type 0
-IsRead entry = IsReadAs (kind_of entry.value) (chars (token_of entry.value).text)
+abbrev pub IsReadEntry : {A : Type 0} → Entry A → Type 0
+IsReadEntry entry = IsReadAs (kind_of entry.value) (chars (token_of entry.value).text)
 
 -- the entry has this name
 abbrev pub HasName : {A : Type 0} → List ℕ → Entry A → Type 0

@@ -10,7 +10,7 @@ use Rattle.rl_tokens.proofs.Faults.{char_len}
 use Rattle.rl_grammar.specs.declared.found.Found.{Found}
 use Rattle.rl_grammar.specs.Bodies.{HasBody}
 use Rattle.rl_grammar.specs.Founds.{IsFound, body_in, suffix_in}
-use Rattle.rl_grammar.specs.WholeShapes.{IsCut}
+use Rattle.rl_grammar.specs.WholeShapes.{IsSplit}
 use Rattle.rl_grammar.proofs.BodyContents.{plain_contents}
 use Rattle.rl_quoted.proofs.PlaceLemmas.{plain_contents_bytes}
 use Rattle.rl_bench.specs.Sizes.{HasSize}
@@ -36,7 +36,7 @@ pub lent_float : (text body : List ℕ) (found : Found) → found.kind ≡ Float
 lent_float text body found is f e =
     let x = suffix_in text found.body in
     let reads : HasSuffix FloatKind (chars text) (chars x) = subst (λ k. HasSuffix k (chars text) (chars x)) is f.reads in
-    let cut : IsCut FloatKind text (body_in text found.body) x = subst (λ k. IsCut k text (body_in text found.body) x) is f.cut in
+    let cut : IsSplit FloatKind text (body_in text found.body) x = subst (λ k. IsSplit k text (body_in text found.body) x) is f.cut in
     subst (λ k. IsLent k text (length body)) (sym is) (body_in text found.body, x, reads, cut, ap length e)
 
 -- what is lent of any other literal is its contents

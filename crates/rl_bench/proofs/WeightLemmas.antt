@@ -1,7 +1,7 @@
 -- Lengths and weights.
 use Rattle.std.proofs.Common.{◌≡◌, ◌∙◌, ℕ, List, Bool, Option, Some, None, ap, sym, subst, inl, inr, refl, Result, Ok, Err, IfOk}
 use Rattle.std.specs.Str.{chars, IsUtf8}
-use Rattle.rl_tokens.specs.Lexing.{byte_len}
+use Rattle.rl_tokens.specs.Texts.{byte_len}
 use Rattle.rl_tokens.specs.declared.kind.Kind.{Kind}
 use Rattle.rl_tokens.specs.declared.kind.Kind.TheVariants.{Str as StrKind, ByteStr as ByteStrKind, CStr as CStrKind, Byte as ByteKind, Char as CharKind, Int as IntKind, Float as FloatKind, Bool as BoolKind}
 use Rattle.rl_tokens.specs.Numbers.{FloatReads, float_digits}
@@ -11,7 +11,7 @@ use Rattle.rl_grammar.specs.NumberShapes.{AreDigits}
 use Rattle.rust_literals.specs.declared.lit.Lit.{Lit}
 use Rattle.rust_literals.specs.Literals.{kind_of, IsReadAs}
 use Rattle.rl_bench.specs.Weights.{size, HasValueWeight}
-use Rattle.rl_bench.specs.Sizes.{HasSize, WeighsAs, HasLitWeight, IsLitOf}
+use Rattle.rl_bench.specs.Sizes.{HasSize, WeighsAs, HasLitWeight, IsLitOfText}
 
 -- a number's digits are its contents
 pub digits_size : (kind : Kind) (text ds : List ℕ) (n : ℕ) → ReadsAs kind text → AreDigits kind text ds → n ≡ byte_len ds → HasSize kind text n
@@ -47,7 +47,7 @@ read_weight (Some kind) text w reads h = inl (kind, h reads)
 read_weight None text w none zero = inr (none, zero)
 
 -- the weight of the literal that a text reads as is the text's, where there is one
-pub read_weights : {A E : Type 0} (text : List ℕ) (lit : Lit A) (r : Result ℕ E) → IsLitOf text lit → IfOk r (HasLitWeight lit) → IfOk r (HasValueWeight text)
+pub read_weights : {A E : Type 0} (text : List ℕ) (lit : Lit A) (r : Result ℕ E) → IsLitOfText text lit → IfOk r (HasLitWeight lit) → IfOk r (HasValueWeight text)
 read_weights text lit (Ok w) (e, reads) h = let P : List ℕ → Type 0 = λ t. WeighsAs (kind_of lit) (chars t) w in read_weight (kind_of lit) text w reads (subst P e h)
 read_weights text lit (Err x) is h = tt
 

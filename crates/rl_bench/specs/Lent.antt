@@ -3,21 +3,22 @@ use Rattle.std.specs.Prelude.{◌≡◌, ◌⊎◌, ℕ, ◌%◌, ◌^◌, List,
 use Rattle.std.specs.Str.{chars}
 use Rattle.rl_tokens.specs.declared.kind.Kind.{Kind}
 use Rattle.rl_tokens.specs.declared.kind.Kind.TheVariants.{Int, Float}
-use Rattle.rl_tokens.specs.Lexing.{byte_len}
+use Rattle.rl_tokens.specs.Texts.{byte_len}
 use Rattle.rl_tokens.specs.Reading.{HasSuffix}
-use Rattle.rl_grammar.specs.NumberShapes.{HasNoReading, IsWithin}
-use Rattle.rl_grammar.specs.WholeShapes.{IsCut}
+use Rattle.rl_tokens.specs.Reading.{HasNoReading}
+use Rattle.rl_grammar.specs.NumberShapes.{HasMagnitude}
+use Rattle.rl_grammar.specs.WholeShapes.{IsSplit}
 use Rattle.rl_bench.specs.Sizes.{HasSize}
 use Rattle.rl_bench.specs.Weights.{weight_of}
 
 -- The text, in bytes, is an integer whose digits spell this number, but for what 64 bits don't hold.
 abbrev pub HasLowMagnitude : List ℕ → ℕ → Type 0
-HasLowMagnitude text n = (magnitude : ℕ) × (suffix : List ℕ) × IsWithin (chars text) magnitude suffix × (n ≡ magnitude % 2 ^ 64)
+HasLowMagnitude text n = (magnitude : ℕ) × (suffix : List ℕ) × HasMagnitude (chars text) magnitude suffix × (n ≡ magnitude % 2 ^ 64)
 
 -- The text, in bytes, is a float whose numeral, all before its suffix, has this many bytes.
 abbrev pub HasNumeral : List ℕ → ℕ → Type 0
 HasNumeral text n =
-    (numeral : List ℕ) × (suffix : List ℕ) × HasSuffix Float (chars text) (chars suffix) × IsCut Float text numeral suffix × (n ≡ length numeral)
+    (numeral : List ℕ) × (suffix : List ℕ) × HasSuffix Float (chars text) (chars suffix) × IsSplit Float text numeral suffix × (n ≡ length numeral)
 
 -- What is lent of a literal of the kind: an integer's magnitude, a float's numeral, any other's contents.
 abbrev pub IsLent : Kind → List ℕ → ℕ → Type 0

@@ -21,5 +21,5 @@ abbrev pub HasLitWeight : {A : Type 0} → Lit A → ℕ → Type 0
 HasLitWeight lit weight = WeighsAs (kind_of lit) (chars (token_of lit).text) weight
 
 -- the literal that the text, in bytes, reads as; `Verbatim` where it has no reading
-abbrev pub IsLitOf : {A : Type 0} → List ℕ → Lit A → Type 0
-IsLitOf text lit = ((token_of lit).text ≡ text) × IsReadAs (kind_of lit) (chars text)
+abbrev pub IsLitOfText : {A : Type 0} → List ℕ → Lit A → Type 0
+IsLitOfText text lit = ((token_of lit).text ≡ text) × IsReadAs (kind_of lit) (chars text)

@@ -7,31 +7,32 @@ use Rattle.rl_tokens.specs.declared.lex_error.LexKind.{LexKind}
 use Rattle.rl_tokens.specs.declared.error.Error.{Error}
 use Rattle.rl_tokens.specs.declared.error.ErrorKind.TheVariants.{Memory}
 use Rattle.rl_tokens.specs.Reading.{Contents, Characters, Bytes, Digits, Truth, Reads, HasContents, HasSuffix}
-use Rattle.rl_tokens.specs.Lexing.{byte_len, Cut, Cuts, BeginsNoLexeme, Lexes, Fault}
+use Rattle.rl_tokens.specs.Texts.{byte_len}
+use Rattle.rl_tokens.specs.Lexing.{LexedToken, LexesUpTo, BeginsNoLexeme, Lexes, Fault}
 use Rattle.rl_tokens.specs.Trees.{Tree}
-use Rattle.rl_grammar.specs.NumberShapes.{HasNoReading}
-use Rattle.rl_grammar.specs.WholeShapes.{IsCut}
+use Rattle.rl_tokens.specs.Reading.{HasNoReading}
+use Rattle.rl_grammar.specs.WholeShapes.{IsSplit}
 use Rattle.rust_literals.specs.declared.lit.Lit.{Lit}
 use Rattle.rust_literals.specs.Parsing.{AreRead, RefusesText}
 use Rattle.rl_attributes.specs.declared.attributes.Entry.{Entry}
-use Rattle.rl_attributes.specs.Attributes.{AreAttributesOf, RefusesText as RefusesAttributes}
-use Rattle.rl_attributes.specs.Entries.{attributes_of, IsRead}
+use Rattle.rl_attributes.specs.Attributes.{AreAttributesOf, RefusesAttributeText as RefusesAttributes}
+use Rattle.rl_attributes.specs.Entries.{attributes_of, IsReadEntry}
 use Rattle.rl_bench.specs.Sums.{added}
 
 -- a kind's number
-abbrev pub number_of : Kind → ℕ
-number_of Str = 1
-number_of ByteStr = 2
-number_of CStr = 3
-number_of Byte = 4
-number_of Char = 5
-number_of Int = 6
-number_of Float = 7
-number_of Bool = 8
+abbrev pub kind_number : Kind → ℕ
+kind_number Str = 1
+kind_number ByteStr = 2
+kind_number CStr = 3
+kind_number Byte = 4
+kind_number Char = 5
+kind_number Int = 6
+kind_number Float = 7
+kind_number Bool = 8
 
 -- a kind's number and two lengths, modulo 2 to the 64th
 abbrev pub weight_of : Kind → ℕ → ℕ → ℕ
-weight_of kind first second = added (added (number_of kind) first) second
+weight_of kind first second = added (added (kind_number kind) first) second
 
 -- The text reads as a literal, of this weight by its kind and the lengths of its body and suffix in bytes.
 pub record IsShapeWeight (text : List ℕ) (weight : ℕ) : Type 0 where
@@ -40,7 +41,7 @@ pub record IsShapeWeight (text : List ℕ) (weight : ℕ) : Type 0 where
   pub body : List ℕ
   pub suffix : List ℕ
   pub reads : Reads (chars text) kind contents (chars suffix)
-  pub cut : IsCut kind text body suffix
+  pub cut : IsSplit kind text body suffix
   pub weight_is : weight ≡ weight_of kind (length body) (length suffix)
 
 -- the weight of a text by its shape; a text that is no literal weighs nothing
@@ -68,7 +69,7 @@ HasValueWeight text weight = ((kind : Kind) × IsValueWeight kind (chars text) w
 
 -- this many tokens can be cut off the text, until none begins what is left
 abbrev pub HasTokenCount : List ℕ → ℕ → Type 0
-HasTokenCount text count = (cuts : List Cut) × (rest : List ℕ) × Cuts 0 (chars text) cuts rest × BeginsNoLexeme rest × (count ≡ length cuts)
+HasTokenCount text count = (cuts : List LexedToken) × (rest : List ℕ) × LexesUpTo 0 (chars text) cuts rest × BeginsNoLexeme rest × (count ≡ length cuts)
 
 -- a text is cut into this many trees, groups as one; or it has a fault, and none
 abbrev pub HasTreeCount : List ℕ → ℕ → Type 0
@@ -84,5 +85,5 @@ HasLiteralCount A text count =
 -- a text is read as this many attributes; or it is refused, for another reason than memory, and none
 abbrev pub HasAttributeCount : (A : Type 0) → List ℕ → ℕ → Type 0
 HasAttributeCount A text count =
-    ((entries : List (Entry A)) × AreAttributesOf (chars text) 0 (attributes_of entries) × All IsRead entries × (count ≡ length entries))
+    ((entries : List (Entry A)) × AreAttributesOf (chars text) 0 (attributes_of entries) × All IsReadEntry entries × (count ≡ length entries))
     ⊎ ((e : Error A) × RefusesAttributes (chars text) 0 (length text) e × (e.kind ≢ Memory) × (count ≡ 0))

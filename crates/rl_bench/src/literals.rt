@@ -4,7 +4,7 @@ ghost use Rattle.std.specs.Prelude.{IfOk};
 ghost use Rattle.std.specs.Str.{chars};
 ghost use Rattle.rl_tokens.specs.declared.kind.Kind.TheVariants.{Str, ByteStr, CStr};
 ghost use Rattle.rl_bench.specs.Weights.{IsValueWeight};
-ghost use Rattle.rl_bench.specs.Sizes.{HasLitWeight, IsLitOf};
+ghost use Rattle.rl_bench.specs.Sizes.{HasLitWeight, IsLitOfText};
 
 use crate::sums::Weigh;
 use crate::values::value_weight;
@@ -79,7 +79,7 @@ pub(crate) fn c_string_weight(alloc: Global, literal: &LitCStr) -> Result<u64, A
 
 /// The literal that the text reads as.
 pub(crate) fn literal_of(alloc: Global, text: &str) -> Result<Lit, AllocError>
-    ensures { IfOk result (IsLitOf text.now) }
+    ensures { IfOk result (IsLitOfText text.now) }
 {
     let span = Span::new(0, 0, text.len());
     let Ok(token) = Literal::from_text(alloc, text, span) else {

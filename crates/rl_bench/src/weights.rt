@@ -2,8 +2,8 @@
 
 ghost use Rattle.std.specs.Prelude.{◌≡◌};
 ghost use Rattle.std.specs.Str.{chars};
-ghost use Rattle.rl_tokens.specs.Lexing.{byte_len};
-ghost use Rattle.rl_bench.specs.Weights.{number_of, weight_of};
+ghost use Rattle.rl_tokens.specs.Texts.{byte_len};
+ghost use Rattle.rl_bench.specs.Weights.{kind_number, weight_of};
 
 use crate::sums::Weigh;
 use rl_grammar::{Kind, shape};
@@ -11,8 +11,8 @@ use std::alloc::Global;
 use std::convert::Infallible;
 
 /// A kind's number.
-fn number_of(kind: Kind) -> u64
-    ensures { result ≡ number_of kind }
+fn kind_number(kind: Kind) -> u64
+    ensures { result ≡ kind_number kind }
 {
     match kind {
         Kind::Str => 1,
@@ -30,7 +30,7 @@ fn number_of(kind: Kind) -> u64
 pub(crate) fn weight(kind: Kind, first: u64, second: u64) -> u64
     ensures { result ≡ weight_of kind first second }
 {
-    number_of(kind).wrapping_add(first).wrapping_add(second)
+    kind_number(kind).wrapping_add(first).wrapping_add(second)
 }
 
 /// How many bytes the characters of a text take.

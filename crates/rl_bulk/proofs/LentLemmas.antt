@@ -5,11 +5,12 @@ use denote.Ref.{Bor}
 use Rattle.std.specs.Str.{chars}
 use Rattle.rl_tokens.specs.declared.kind.Kind.{Kind}
 use Rattle.rl_tokens.specs.declared.kind.Kind.TheVariants.{Byte, Char, Bool as BoolKind}
-use Rattle.rl_tokens.specs.Tokens.{Token}
+use Rattle.rl_tokens.specs.Texts.{SpannedText}
 use Rattle.rl_tokens.specs.Reading.{ReadsAs, HasContents, truth_text}
 use Rattle.rl_tokens.proofs.OneReading.{one_reading}
 use Rattle.rl_grammar.specs.WholeShapes.{IsPlain}
-use Rattle.rust_literals.specs.Literals.{token_of, ReadsPlain}
+use Rattle.rust_literals.specs.Literals.{token_of}
+use Rattle.rust_literals.specs.LitParts.{ReadsPlain}
 use Rattle.rust_literals.specs.declared.lit.Lit.{Lit}
 use Rattle.rust_literals.specs.declared.lit.Lit.TheVariants.{Str as StrLit, ByteStr as ByteStrLit, CStr as CStrLit, Byte as ByteLit, Char as CharLit, Int as IntLit, Float as FloatLit, Bool as BoolLit, Verbatim}
 use Rattle.rl_bulk.specs.Lent.{IsHeld, IsLent, lent_contents}
@@ -31,7 +32,7 @@ none_lent kind t text (Some l) e reads none = tt
 none_lent kind t text None e reads none = subst (λ z. ReadsPlain z → ⊥) (sym e) (never_plain kind text reads none)
 
 -- a literal of another kind than these five lends nothing
-pub others_lend_none : {A : Type 0} (l : Lit A) → IsHeld l → ((x : Token) → l ≡ StrLit x → ⊥) → ((x : Token) → l ≡ ByteStrLit x → ⊥) → ((x : Token) → l ≡ CStrLit x → ⊥) → ((x : Token) → l ≡ IntLit x → ⊥) → ((x : Token) → l ≡ FloatLit x → ⊥) → ReadsPlain (token_of l).text → ⊥
+pub others_lend_none : {A : Type 0} (l : Lit A) → IsHeld l → ((x : SpannedText) → l ≡ StrLit x → ⊥) → ((x : SpannedText) → l ≡ ByteStrLit x → ⊥) → ((x : SpannedText) → l ≡ CStrLit x → ⊥) → ((x : SpannedText) → l ≡ IntLit x → ⊥) → ((x : SpannedText) → l ≡ FloatLit x → ⊥) → ReadsPlain (token_of l).text → ⊥
 others_lend_none (StrLit x) h s b c i f p = s x refl
 others_lend_none (ByteStrLit x) h s b c i f p = b x refl
 others_lend_none (CStrLit x) h s b c i f p = c x refl

@@ -5,17 +5,17 @@ use Rattle.std.specs.Str.{chars, IsUtf8}
 use Rattle.std.specs.Fmt.{decimal}
 use Rattle.rl_tokens.specs.declared.kind.Kind.TheVariants.{Int as IntKind}
 use Rattle.rl_tokens.specs.declared.error.Error.{Error}
-use Rattle.rl_tokens.specs.Trivia.{Skipped}
-use Rattle.rl_tokens.specs.Lexing.{byte_len}
+use Rattle.rl_tokens.specs.Skipping.{Skipped}
+use Rattle.rl_tokens.specs.Texts.{byte_len}
 use Rattle.rl_tokens.specs.Reading.{HasNoInteger}
-use Rattle.rl_grammar.specs.NumberShapes.{IsPast, HasNoFloat}
+use Rattle.rl_tokens.specs.Reading.{IsPast, HasNoFloat}
 use Rattle.rl_grammar.specs.StrictShapes.{IsToken}
 use Rattle.rust_literals.specs.Parsing.{RefusesText}
 use Rattle.rl_lines.specs.Lines.{IsLineOf, AreLinesOfText, PrintsKind, PrintsFloat}
 use Rattle.rl_bulk.specs.declared.command.Command.{Command}
 use Rattle.rl_bulk.specs.declared.command.Command.TheVariants.{Text, Int, Float, Skip, Strict, Value, Read, Spans, Attr}
 use Rattle.rl_lines.specs.Digits.{bytes_of}
-use Rattle.rl_attributes.specs.Attributes.{RefusesText as RefusesAttributeText}
+use Rattle.rl_attributes.specs.Attributes.{RefusesAttributeText}
 use Rattle.rl_attributes.specs.EntryLines.{ShowsAttributes}
 use Rattle.rl_bulk.specs.Asked.{name_of}
 use Rattle.rl_bulk.specs.Refused.{refusal_lines}

@@ -4,10 +4,11 @@ use Rattle.std.specs.Str.{chars}
 use Rattle.rl_tokens.specs.declared.kind.Kind.{Kind}
 use Rattle.rl_tokens.specs.declared.kind.Kind.TheVariants.{Str, ByteStr, Int, Float}
 use Rattle.rl_tokens.specs.Reading.{Contents, Characters, Bytes, Digits, HasContents}
-use Rattle.rl_tokens.specs.Written.{written}
+use Rattle.rl_tokens.specs.Written.{written_text}
 use Rattle.rl_grammar.specs.WholeShapes.{IsPlain}
 use Rattle.rust_literals.specs.declared.lit.Lit.{Lit}
-use Rattle.rust_literals.specs.Literals.{kind_of, token_of, IsReadAs, ReadsPlain}
+use Rattle.rust_literals.specs.Literals.{kind_of, token_of, IsReadAs}
+use Rattle.rust_literals.specs.LitParts.{ReadsPlain}
 
 -- the literal is what its text reads as
 abbrev pub IsHeld : {A : Type 0} → Lit A → Type 0
@@ -28,7 +29,7 @@ pub record IsLent (text lent : List ℕ) : Type 0 where
 
 -- bytes as a byte string, and LF
 abbrev pub lent_line : List ℕ → List ℕ
-lent_line bytes = encode_utf8_all (written ByteStr bytes) ++ codes "\n"
+lent_line bytes = encode_utf8_all (written_text ByteStr bytes) ++ codes "\n"
 
 -- the line of what the text lends, or that it lends nothing
 abbrev pub IsLentAnswer : List ℕ → List ℕ → Type 0

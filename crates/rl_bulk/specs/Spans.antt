@@ -5,22 +5,23 @@ use Rattle.std.specs.Fmt.{decimal}
 use Rattle.rl_tokens.specs.declared.kind.Kind.{Kind}
 use Rattle.rl_tokens.specs.declared.kind.Kind.TheVariants.{Str}
 use Rattle.rl_tokens.specs.declared.error.Error.{Error}
-use Rattle.rl_tokens.specs.Written.{written}
+use Rattle.rl_tokens.specs.Written.{written_text}
 use Rattle.rust_literals.specs.declared.lit.Lit.{Lit}
-use Rattle.rust_literals.specs.Literals.{kind_of, token_of, span_of}
+use Rattle.rust_literals.specs.Literals.{kind_of, token_of}
+use Rattle.rust_literals.specs.LitParts.{lit_span}
 use Rattle.rust_literals.specs.Parsing.{AreRead, RefusesText}
-use Rattle.rl_lines.specs.Lines.{kind_word}
+use Rattle.rl_lines.specs.Lines.{kind_label}
 use Rattle.rl_bulk.specs.Refused.{refusal_lines}
 
 -- the name of a kind; `Verbatim` for none
 abbrev pub kind_name : Option Kind → List ℕ
-kind_name (Some kind) = kind_word kind
+kind_name (Some kind) = kind_label kind
 kind_name None = codes "Verbatim"
 
 -- a literal's kind, the bytes where it stands, and its text as a string literal
 abbrev pub span_line : {A : Type 0} → Lit A → List ℕ
 span_line l =
-    kind_name (kind_of l) ++ (codes " " ++ (decimal (span_of l).lo ++ (codes ".." ++ (decimal (span_of l).hi ++ (codes " " ++ (encode_utf8_all (written Str (chars (token_of l).text)) ++ codes "\n"))))))
+    kind_name (kind_of l) ++ (codes " " ++ (decimal (lit_span l).lo ++ (codes ".." ++ (decimal (lit_span l).hi ++ (codes " " ++ (encode_utf8_all (written_text Str (chars (token_of l).text)) ++ codes "\n"))))))
 
 -- one after another
 abbrev pub span_lines : {A : Type 0} → List (Lit A) → List ℕ

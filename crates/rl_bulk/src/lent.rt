@@ -5,7 +5,8 @@ ghost use Rattle.std.specs.Str.{chars};
 ghost use Rattle.rl_tokens.specs.declared.kind.Kind.TheVariants.{Str};
 ghost use Rattle.rl_tokens.specs.Reading.{Characters, HasContents};
 ghost use Rattle.rl_grammar.specs.WholeShapes.{IsPlain};
-ghost use Rattle.rust_literals.specs.Literals.{token_of, ReadsPlain};
+ghost use Rattle.rust_literals.specs.Literals.{token_of};
+ghost use Rattle.rust_literals.specs.LitParts.{ReadsPlain};
 ghost use Rattle.rl_bulk.specs.Lent.{IsLent, IsHeld, lent_line, IsLentAnswer};
 
 use crate::literal::literal_of;

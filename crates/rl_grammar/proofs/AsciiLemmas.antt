@@ -3,9 +3,9 @@ use Rattle.std.proofs.Common.{◌≡◌, ℕ, ◌≤◌, false, ltb, eqb, List, 
 use Rattle.std.proofs.lemmas.Bool.{ltb-false, le-ltb}
 use Rattle.std.specs.Char.{is_ascii, digit_value}
 use Rattle.rl_tokens.specs.declared.kind.Kind.{Kind}
-use Rattle.rl_tokens.specs.Texts.{passes}
+use Rattle.rl_tokens.specs.Texts.{first_passes}
 use Rattle.rl_tokens.proofs.CommentBytes.{not_equal}
-use Rattle.rl_grammar.specs.UnitAt.{digit_at, digits_at, brace_at, escape_at}
+use Rattle.rl_grammar.specs.Mirrors.UnitAt.{digit_at, unicode_digits_at, brace_at, escape_at}
 
 not_below : (c k : ℕ) → k ≤ c → ltb c k ≡ false
 not_below c k h = le-ltb c k h
@@ -16,26 +16,26 @@ past c h = omega (arith, ltb-false c 128 h)
 no_value : (c : ℕ) → 128 ≤ c → ltb (digit_value c) 16 ≡ false
 no_value c high = rw (not_below c 48 (omega arith), not_below c 58 (omega arith), not_below c 65 (omega arith), not_below c 91 (omega arith), not_below c 97 (omega arith), not_below c 123 (omega arith)) refl
 
-pub no_digit : (t : List ℕ) → passes is_ascii t ≡ false → digit_at t ≡ None
+pub no_digit : (t : List ℕ) → first_passes is_ascii t ≡ false → digit_at t ≡ None
 no_digit [] h = refl
 no_digit (c ∷ cs) h = rw (no_value c (past c h)) refl
 
-pub no_digits : (v n : ℕ) (t : List ℕ) → passes is_ascii t ≡ false → digits_at v n t ≡ None
-unfolding digits_at
+pub no_digits : (v n : ℕ) (t : List ℕ) → first_passes is_ascii t ≡ false → unicode_digits_at v n t ≡ None
+unfolding unicode_digits_at
 no_digits v n [] h = refl
 no_digits v n (c ∷ cs) h = let high = past c h in rw (not_equal c 125 (omega arith) high, not_equal c 95 (omega arith) high, no_value c high) refl
 
-pub no_brace : (t : List ℕ) → passes is_ascii t ≡ false → brace_at t ≡ None
+pub no_brace : (t : List ℕ) → first_passes is_ascii t ≡ false → brace_at t ≡ None
 no_brace [] h = refl
 no_brace (c ∷ cs) h = rw (not_equal c 123 (omega arith) (past c h)) refl
 
-pub no_escape : (kind : Kind) (t : List ℕ) → passes is_ascii t ≡ false → escape_at kind t ≡ None
+pub no_escape : (kind : Kind) (t : List ℕ) → first_passes is_ascii t ≡ false → escape_at kind t ≡ None
 unfolding escape_at
 no_escape kind [] h = refl
 no_escape kind (c ∷ cs) h =
     let high = past c h in
     rw (not_equal c 120 (omega arith) high, not_equal c 117 (omega arith) high, not_equal c 10 (omega arith) high, not_equal c 13 (omega arith) high, not_equal c 110 (omega arith) high, not_equal c 114 (omega arith) high, not_equal c 116 (omega arith) high, not_equal c 92 (omega arith) high, not_equal c 39 (omega arith) high, not_equal c 34 (omega arith) high, not_equal c 48 (omega arith) high) refl
 
-pub no_backslash : (t : List ℕ) → passes is_ascii t ≡ false → passes (λ c. eqb c 92) t ≡ false
+pub no_backslash : (t : List ℕ) → first_passes is_ascii t ≡ false → first_passes (λ c. eqb c 92) t ≡ false
 no_backslash [] h = refl
 no_backslash (c ∷ cs) h = not_equal c 92 (omega arith) (past c h)

@@ -7,7 +7,8 @@ use Rattle.rl_tokens.specs.declared.kind.Kind.{Kind}
 use Rattle.rl_tokens.specs.declared.kind.Kind.TheVariants.{Str, ByteStr, CStr, Byte, Char, Int, Float, Bool as BoolKind}
 use Rattle.rl_tokens.specs.Reading.{Characters, Bytes, ReadsQuoted, HasContents, quoted_contents}
 use Rattle.rl_grammar.specs.Bodies.{HasBody}
-use Rattle.rl_grammar.specs.Decoded.{Decodes, HoldsBytes}
+use Rattle.rl_grammar.specs.Mirrors.Decodes.{Decodes}
+use Rattle.rl_grammar.specs.Decoded.{HoldsBytes}
 use Rattle.rl_grammar.proofs.ContentLemmas.{plain_bytes, not_raw, cooked_bytes, str_bytes}
 use Rattle.rl_grammar.proofs.FormLemmas.{parts_read}
 

@@ -8,17 +8,17 @@ use Rattle.std.proofs.lemmas.Bool.{and_from, and_parts, both_ways, or_right}
 use Rattle.std.proofs.lemmas.Str.{encodes-append, encodes-chars, length-encode, length-le-encodes, len_utf8_bounds}
 use Rattle.rl_tokens.specs.declared.kind.Kind.{Kind}
 use Rattle.rl_tokens.specs.declared.kind.Kind.TheVariants.{Str, ByteStr, CStr, Byte as ByteKind, Char, Int, Float, Bool as BoolKind}
-use Rattle.rl_tokens.specs.Texts.{passes}
+use Rattle.rl_tokens.specs.Texts.{first_passes}
 use Rattle.rl_tokens.specs.Reading.{Contents, Characters, Bytes, ReadsQuoted, quoted_contents}
-use Rattle.rl_tokens.specs.Quoted.{QuotedUnit, Letter, Plain, CrLf, Named, Hex, Unicode, Continuation, LowerN, LowerR, LowerT, Backslash, Apostrophe, Quote, Zero, letter_value, unit_text, unit_value, hex_value, unicode_value, holds_characters, held, may_hold, is_string, is_plain, IsUnit, opener, raw_opener, texts, values}
-use Rattle.rl_grammar.specs.declared.quoted.Form.{Form}
-use Rattle.rl_grammar.specs.declared.quoted.Form.TheVariants.{Cooked as CookedForm, Raw as RawForm, Single as SingleForm}
+use Rattle.rl_tokens.specs.Quoted.{QuotedUnit, Letter, Plain, CrLf, Named, Hex, Unicode, Continuation, LowerN, LowerR, LowerT, Backslash, Apostrophe, Quote, Zero, letter_value, unit_text, unit_value, hex_value, unicode_value, holds_characters, content_of, allows_code, is_string, is_plain, IsUnit, opener, raw_opener, texts, values}
+use Rattle.rl_grammar.specs.declared.quoted.QuotedForm.{QuotedForm}
+use Rattle.rl_grammar.specs.declared.quoted.QuotedForm.TheVariants.{Cooked as CookedForm, Raw as RawForm, Single as SingleForm}
 use Rattle.rl_grammar.specs.declared.units.Piece.TheVariants.{Byte}
-use Rattle.rl_grammar.specs.UnitAt.{IsPieceOf}
+use Rattle.rl_grammar.specs.Mirrors.UnitAt.{IsPieceOf}
 use Rattle.rl_grammar.specs.Forms.{PartsAre, is_plain_body}
-use Rattle.rl_grammar.specs.Shapes.{IsCookedCut, IsQuotedCut, HasNoQuoted}
+use Rattle.rl_grammar.specs.Shapes.{IsCookedSplit, IsQuotedSplit, HasNoQuoted}
 use Rattle.rl_grammar.specs.Decoded.{in_bytes, HoldsBytes}
-use Rattle.rl_grammar.specs.WholeShapes.{IsCut, IsPlain}
+use Rattle.rl_grammar.specs.WholeShapes.{IsSplit, IsPlain}
 use Rattle.rl_grammar.proofs.ContentLemmas.{in_bytes_append, held_in_bytes, byte_in_bytes, nothing_in_bytes, plain_bytes, str_bytes}
 use Rattle.rl_grammar.proofs.FormLemmas.{formed, parts_formed, parts_read, formed_once, not_both}
 use Rattle.rl_grammar.proofs.ShapeLemmas.{cooked_cut, parts_cut}
@@ -45,14 +45,14 @@ letter_small Apostrophe = refl
 letter_small Quote = refl
 letter_small Zero = refl
 
-few_bytes : (kind : Kind) (n : ℕ) → length (in_bytes kind (held kind (n ∷ []))) ≤ 4
+few_bytes : (kind : Kind) (n : ℕ) → length (in_bytes kind (content_of kind (n ∷ []))) ≤ 4
 few_bytes kind n = omega (arith, ap length (held_in_bytes kind (n ∷ [])), length-append {A = ℕ}, length-encode n, len_utf8_bounds n)
 
 unit_shrinks : (kind : Kind) (u : QuotedUnit) → IsUnit kind u → Shrinks kind (unit_text u) (unit_value kind u)
 unit_shrinks kind (Plain c) h = record { no_longer = omega (arith, ap length (held_in_bytes kind (c ∷ []))); which = inl (and_from (is_plain kind c) true h refl) }
 unit_shrinks kind CrLf h = shorter kind _ _ (omega (arith, one_byte_of kind 10 (or_right (not (holds_characters kind)) true refl)))
 unit_shrinks kind (Named l) h = shorter kind _ _ (omega (arith, one_byte_of kind (letter_value l) (or_right (not (holds_characters kind)) _ (letter_small l))))
-unit_shrinks kind (Hex high low) h = shorter kind _ _ (omega (arith, one_byte_of kind (hex_value high low) (and_parts (may_hold kind (hex_value high low)) _ h.2).1))
+unit_shrinks kind (Hex high low) h = shorter kind _ _ (omega (arith, one_byte_of kind (hex_value high low) (and_parts (allows_code kind (hex_value high low)) _ h.2).1))
 unit_shrinks kind (Unicode first more) h = shorter kind _ _ (omega (arith, few_bytes kind (unicode_value first more), length-append {A = ℕ}))
 unit_shrinks kind (Continuation c run) h = shorter kind _ _ (omega (arith, ap length (nothing_in_bytes kind)))
 
@@ -91,7 +91,7 @@ cooked_shortens kind t w b x other ub p =
     ]
 
 -- where the body of a string isn't plain, it is cooked
-pub cooked_other : (form : Form) (kind : Kind) (t w b x : List ℕ) → is_string kind ≡ true → is_plain_body form kind b ≡ false → PartsAre form kind t w b x → PartsAre CookedForm kind t w b x × (list_all (is_plain kind) b ≡ false)
+pub cooked_other : (form : QuotedForm) (kind : Kind) (t w b x : List ℕ) → is_string kind ≡ true → is_plain_body form kind b ≡ false → PartsAre form kind t w b x → PartsAre CookedForm kind t w b x × (list_all (is_plain kind) b ≡ false)
 cooked_other CookedForm kind t w b x s other p = (p, other)
 cooked_other RawForm kind t w b x s other p = absurd (cc)
 cooked_other SingleForm kind t w b x s other p = absurd (not_both kind s p.0.single)
@@ -125,7 +125,7 @@ held_in Float t s p = absurd (cc)
 held_in BoolKind t s p = absurd (cc)
 
 -- how a string is cut, as any literal is
-string_cut : (kind : Kind) (t b x : List ℕ) → is_string kind ≡ true → IsCut kind t b x → IsQuotedCut kind t b x
+string_cut : (kind : Kind) (t b x : List ℕ) → is_string kind ≡ true → IsSplit kind t b x → IsQuotedSplit kind t b x
 string_cut Str t b x s c = c
 string_cut ByteStr t b x s c = c
 string_cut CStr t b x s c = c
@@ -140,9 +140,9 @@ is_quote c = c == 34
 
 -- no string is opened in both ways
 pub openers_differ : (kind : Kind) (a b : List ℕ) → is_string kind ≡ true → opener kind ++ a ≡ raw_opener kind ++ b → ⊥
-openers_differ Str a b s e = let h : true ≡ false = ap (passes is_quote) e in absurd (cc)
-openers_differ ByteStr a b s e = let h : true ≡ false = ap (λ l. passes is_quote (drop 1 l)) e in absurd (cc)
-openers_differ CStr a b s e = let h : true ≡ false = ap (λ l. passes is_quote (drop 1 l)) e in absurd (cc)
+openers_differ Str a b s e = let h : true ≡ false = ap (first_passes is_quote) e in absurd (cc)
+openers_differ ByteStr a b s e = let h : true ≡ false = ap (λ l. first_passes is_quote (drop 1 l)) e in absurd (cc)
+openers_differ CStr a b s e = let h : true ≡ false = ap (λ l. first_passes is_quote (drop 1 l)) e in absurd (cc)
 openers_differ ByteKind a b s e = absurd (cc)
 openers_differ Char a b s e = absurd (cc)
 openers_differ Int a b s e = absurd (cc)
@@ -150,7 +150,7 @@ openers_differ Float a b s e = absurd (cc)
 openers_differ BoolKind a b s e = absurd (cc)
 
 -- a cooked string is cut in one way
-cut_once : (kind : Kind) (t b d x : List ℕ) → IsCookedCut kind t b x → IsQuotedCut kind t d x → b ≡ d
+cut_once : (kind : Kind) (t b d x : List ℕ) → IsCookedSplit kind t b x → IsQuotedSplit kind t d x → b ≡ d
 cut_once kind t b d x c q = elim q [
   | inl e ↦ append_cancel_right b d (34 ∷ x) (append_cancel_left (opener kind) (b ++ (34 ∷ x)) (d ++ (34 ∷ x)) (sym c.text_is ∙ e.text_is))
   | inr other ↦ elim other [
@@ -160,20 +160,20 @@ cut_once kind t b d x c q = elim q [
 ]
 
 -- a body that isn't plain is longer than the contents
-not_shorter : (form : Form) (kind : Kind) (t w b x : List ℕ) → is_string kind ≡ true → is_plain_body form kind (chars b) ≡ false → IsUtf8 t → IsUtf8 b → IsUtf8 x → PartsAre form kind (chars t) w (chars b) (chars x) → (p : IsPlain kind t) → encode_utf8_all p.suffix ≡ x → (IsUtf8 p.body → in_bytes kind w ≡ p.body) → ⊥
-not_shorter form kind t w b x s other ut ub ux parts p suffix held =
+not_shorter : (form : QuotedForm) (kind : Kind) (t w b x : List ℕ) → is_string kind ≡ true → is_plain_body form kind (chars b) ≡ false → IsUtf8 t → IsUtf8 b → IsUtf8 x → PartsAre form kind (chars t) w (chars b) (chars x) → (p : IsPlain kind t) → encode_utf8_all p.suffix ≡ x → (IsUtf8 p.body → in_bytes kind w ≡ p.body) → ⊥
+not_shorter form kind t w b x s other ut ub ux parts p suffix holds =
     let (cooked, fails) = cooked_other form kind (chars t) w (chars b) (chars x) s other parts in
-    let same : b ≡ p.body = cut_once kind t b p.body x (cooked_cut kind t w b x ut ub ux cooked) (subst (λ z. IsQuotedCut kind t p.body z) suffix (string_cut kind t p.body (encode_utf8_all p.suffix) s p.cut)) in
-    omega (arith, cooked_shortens kind (chars t) w b (chars x) fails ub cooked, ap length (held (subst IsUtf8 same ub) ∙ sym same))
+    let same : b ≡ p.body = cut_once kind t b p.body x (cooked_cut kind t w b x ut ub ux cooked) (subst (λ z. IsQuotedSplit kind t p.body z) suffix (string_cut kind t p.body (encode_utf8_all p.suffix) s p.cut)) in
+    omega (arith, cooked_shortens kind (chars t) w b (chars x) fails ub cooked, ap length (holds (subst IsUtf8 same ub) ∙ sym same))
 
 -- the parts of a string that is plain
-pub plain_parts : (form : Form) (kind : Kind) (t w b x : List ℕ) → is_string kind ≡ true → is_plain_body form kind (chars b) ≡ true → IsUtf8 t → IsUtf8 b → IsUtf8 x → PartsAre form kind (chars t) w (chars b) (chars x) → IsPlain kind t
+pub plain_parts : (form : QuotedForm) (kind : Kind) (t w b x : List ℕ) → is_string kind ≡ true → is_plain_body form kind (chars b) ≡ true → IsUtf8 t → IsUtf8 b → IsUtf8 x → PartsAre form kind (chars t) w (chars b) (chars x) → IsPlain kind t
 plain_parts form kind t w b x s plain ut ub ux p =
-    let cut = subst (λ z. IsQuotedCut kind t b z) (sym (encodes-chars x ux)) (parts_cut form kind t w b x ut ub ux p) in
+    let cut = subst (λ z. IsQuotedSplit kind t b z) (sym (encodes-chars x ux)) (parts_cut form kind t w b x ut ub ux p) in
     let reads = parts_read form kind (chars t) w (chars b) (chars x) p in
     go kind s cut reads (plain_bytes (chars t) form kind w b (chars x) plain ub p)
   where
-    go : (k : Kind) → is_string k ≡ true → IsQuotedCut k t b (encode_utf8_all (chars x)) → ReadsQuoted (chars t) k (quoted_contents k w) (chars x) → HoldsBytes (chars t) b → IsPlain k t
+    go : (k : Kind) → is_string k ≡ true → IsQuotedSplit k t b (encode_utf8_all (chars x)) → ReadsQuoted (chars t) k (quoted_contents k w) (chars x) → HoldsBytes (chars t) b → IsPlain k t
     go Str s c r h = record { body = b; suffix = chars x; cut = c; reads = subst (λ v. ReadsQuoted (chars t) Str v (chars x)) (str_bytes t b (Characters w) (chars x) ut h r).1 r }
     go ByteStr s c r h = record { body = b; suffix = chars x; cut = c; reads = subst (λ v. ReadsQuoted (chars t) ByteStr v (chars x)) (r.contents_is ∙ ap Bytes (sym (h ByteStr _ _ refl r))) r }
     go CStr s c r h = record { body = b; suffix = chars x; cut = c; reads = subst (λ v. ReadsQuoted (chars t) CStr v (chars x)) (r.contents_is ∙ ap Bytes (sym (h CStr _ _ refl r))) r }
@@ -188,14 +188,14 @@ not_false true n = refl
 not_false false n = absurd (n refl)
 
 -- and of one that is to be
-pub parts_plain : (form : Form) (kind k : Kind) (t w b x : List ℕ) → is_string k ≡ true → IsUtf8 t → IsUtf8 b → IsUtf8 x → PartsAre form kind (chars t) w (chars b) (chars x) → IsPlain k t → (kind ≡ k) × (is_plain_body form kind (chars b) ≡ true)
+pub parts_plain : (form : QuotedForm) (kind k : Kind) (t w b x : List ℕ) → is_string k ≡ true → IsUtf8 t → IsUtf8 b → IsUtf8 x → PartsAre form kind (chars t) w (chars b) (chars x) → IsPlain k t → (kind ≡ k) × (is_plain_body form kind (chars b) ≡ true)
 parts_plain form kind k t w b x s ut ub ux parts p =
     let h = held_in k t s p in
     let same = formed_once (chars t) kind k w h.reads.value (chars x) p.suffix (parts_formed form kind (chars t) w (chars b) (chars x) parts) (formed (chars t) k h.contents p.suffix h.reads) in
     let of_kind = subst (λ l. PartsAre form l (chars t) w (chars b) (chars x)) same.0 parts in
     let suffix : encode_utf8_all p.suffix ≡ x = ap encode_utf8_all (sym same.2) ∙ encodes-chars x ux in
-    let held : IsUtf8 p.body → in_bytes k w ≡ p.body = λ u. ap (in_bytes k) same.1 ∙ h.held_are u in
-    let plain = not_false (is_plain_body form k (chars b)) (λ other. not_shorter form k t w b x s other ut ub ux of_kind p suffix held) in
+    let holds : IsUtf8 p.body → in_bytes k w ≡ p.body = λ u. ap (in_bytes k) same.1 ∙ h.held_are u in
+    let plain = not_false (is_plain_body form k (chars b)) (λ other. not_shorter form k t w b x s other ut ub ux of_kind p suffix holds) in
     (same.0, subst (λ l. is_plain_body form l (chars b) ≡ true) (sym same.0) plain)
 
 -- a text that is no quoted literal is no plain string

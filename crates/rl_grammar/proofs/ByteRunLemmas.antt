@@ -13,11 +13,11 @@ use Rattle.rl_tokens.specs.declared.kind.Kind.TheVariants.{Str, ByteStr, CStr, B
 use Rattle.rl_tokens.specs.declared.scan.Marks.{Marks}
 use Rattle.rl_tokens.specs.Quoted.{is_plain, is_string}
 use Rattle.rl_tokens.specs.Scanning.{is_one_of, is_other}
-use Rattle.rl_tokens.specs.Texts.{passes}
+use Rattle.rl_tokens.specs.Texts.{first_passes}
 use Rattle.rl_tokens.proofs.CommentBytes.{cases128, encode_is_high, low_front}
 use Rattle.rl_tokens.proofs.ScanLemmas.{PassesHigh, prefix_ends, prefix_passes, run_boundary, run_cut, run_plain, run_stop}
-use Rattle.rl_grammar.specs.Classes.{ends_low, is_low_other}
-use Rattle.rl_grammar.specs.StrictAt.{is_inside}
+use Rattle.rl_grammar.specs.Mirrors.Classes.{ends_low, is_low_other}
+use Rattle.rl_grammar.specs.Mirrors.StrictAt.{is_inside}
 use Rattle.rl_grammar.proofs.PlainLemmas.{plain_high, same_prefix}
 
 -- ---- the lanes of a mask
@@ -43,7 +43,7 @@ pub record RunCut (q : ℕ → Bool) (bs : List ℕ) : Type 0 where
   pub boundary : IsCharBoundary bs (prefix_len q bs)
   pub cut : chars bs ≡ chars (take (prefix_len q bs) bs) ++ chars (drop (prefix_len q bs) bs)
   pub plain : list_all q (chars (take (prefix_len q bs) bs)) ≡ true
-  pub stops : passes q (chars (drop (prefix_len q bs) bs)) ≡ false
+  pub stops : first_passes q (chars (drop (prefix_len q bs) bs)) ≡ false
 
 -- the test passes ASCII alone
 abbrev pub PassesLow : (ℕ → Bool) → Type 0
@@ -66,12 +66,12 @@ module _ (q : ℕ → Bool) (low : PassesLow q) where
   low_all (b ∷ bs) h (suc i) = low_all bs (and_parts (q b) (list_all q bs) h).1 i
 
   -- what passes no byte passes no character
-  low_head : (cs : List ℕ) → passes q (encode_utf8_all cs) ≡ false → passes q cs ≡ false
+  low_head : (cs : List ℕ) → first_passes q (encode_utf8_all cs) ≡ false → first_passes q cs ≡ false
   low_head [] h = refl
   low_head (c ∷ cs) h = go (cases128 c)
     where
       go : (c < 128) ⊎ (128 ≤ c) → q c ≡ false
-      go (inl small) = ap (passes q) (sym (low_front c cs small)) ∙ h
+      go (inl small) = ap (first_passes q) (sym (low_front c cs small)) ∙ h
       go (inr past) = elim (cases_Bool (q c)) [ inl is ↦ absurd (let small = low c is in omega arith) | inr fails ↦ fails ]
 
   pub low_cut : (bs : List ℕ) → IsUtf8 bs → RunCut q bs
@@ -84,7 +84,7 @@ module _ (q : ℕ → Bool) (low : PassesLow q) where
         boundary = at;
         cut = ap chars (sym (take-append-drop n bs)) ∙ chars-append front rest (IsUtf8-take bs n u at);
         plain = ap (list_all q) (chars-IsAscii front (low_all front (prefix_passes q bs))) ∙ prefix_passes q bs;
-        stops = low_head (chars rest) (ap (passes q) (encodes-chars rest (IsUtf8-drop bs n u at)) ∙ prefix_ends q bs);
+        stops = low_head (chars rest) (ap (first_passes q) (encodes-chars rest (IsUtf8-drop bs n u at)) ∙ prefix_ends q bs);
       }
 
 -- the same of a test that passes all past ASCII

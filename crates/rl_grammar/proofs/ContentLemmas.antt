@@ -9,17 +9,19 @@ use Rattle.std.proofs.lemmas.Bool.{and_from, and_parts, lt-ltb, ltb-true}
 use Rattle.std.proofs.lemmas.Str.{chars-encodes, encodes-append, encodes-chars, encode_ascii, length-encode, scalars-chars}
 use Rattle.rl_tokens.specs.declared.kind.Kind.{Kind}
 use Rattle.rl_tokens.specs.declared.kind.Kind.TheVariants.{Str, ByteStr, CStr, Byte as ByteKind, Char, Int, Float, Bool as BoolKind}
-use Rattle.rl_tokens.specs.Quoted.{QuotedUnit, Letter, Plain, CrLf, Named, Hex, Unicode, Continuation, LowerN, LowerR, LowerT, Backslash, Apostrophe, Quote, Zero, letter_value, unit_text, unit_value, hex_value, unicode_value, held, holds_characters, is_string, is_single, is_plain, has_unicode, IsUnit, texts, values, opener, raw_opener, Cooked, Raw}
+use Rattle.rl_tokens.specs.Quoted.{QuotedUnit, Letter, Plain, CrLf, Named, Hex, Unicode, Continuation, LowerN, LowerR, LowerT, Backslash, Apostrophe, Quote, Zero, letter_value, unit_text, unit_value, hex_value, unicode_value, content_of, holds_characters, is_string, is_single, is_plain, has_unicode, IsUnit, texts, values, opener, raw_opener, Cooked, Raw}
 use Rattle.rl_tokens.specs.Reading.{Contents, Characters, quoted_contents, ReadsQuoted}
 use Rattle.rl_tokens.proofs.CutTrees.{scalars_parts}
-use Rattle.rl_grammar.specs.declared.quoted.Form.{Form}
-use Rattle.rl_grammar.specs.declared.quoted.Form.TheVariants.{Cooked as CookedForm, Raw as RawForm, Single as SingleForm}
+use Rattle.rl_grammar.specs.declared.quoted.QuotedForm.{QuotedForm}
+use Rattle.rl_grammar.specs.declared.quoted.QuotedForm.TheVariants.{Cooked as CookedForm, Raw as RawForm, Single as SingleForm}
 use Rattle.rl_grammar.specs.declared.units.Piece.{Piece}
 use Rattle.rl_grammar.specs.declared.units.Piece.TheVariants.{Character, Byte, Nothing}
-use Rattle.rl_grammar.specs.UnitAt.{piece_value, IsPieceOf, found, unit_at}
+use Rattle.rl_grammar.specs.Mirrors.UnitAt.{piece_value, IsPieceOf, found, unit_at}
 use Rattle.rl_grammar.specs.Rows.{BeginsRow}
-use Rattle.rl_grammar.specs.Forms.{told, front_at, PartsAre, is_plain_body}
-use Rattle.rl_grammar.specs.Decoded.{piece_bytes, in_bytes, Decodes, HoldsBytes}
+use Rattle.rl_grammar.specs.Mirrors.OpenerAt.{found_opener, opener_at}
+use Rattle.rl_grammar.specs.Forms.{PartsAre, is_plain_body}
+use Rattle.rl_grammar.specs.Decoded.{piece_bytes, in_bytes, HoldsBytes}
+use Rattle.rl_grammar.specs.Mirrors.Decodes.{Decodes}
 use Rattle.rl_grammar.proofs.UnitLemmas.{some_pair, unit_nil}
 use Rattle.rl_grammar.proofs.RowLemmas.{row_start, row_step, row_run, row_once}
 use Rattle.rl_grammar.proofs.FormLemmas.{Formed, formed, parts_formed, formed_once, not_both, single_unit, string_parts, cooked_row_of_body}
@@ -34,7 +36,7 @@ in_bytes_append kind v w = go (holds_characters kind)
     go false = refl
 
 -- characters count as their UTF-8 bytes in every kind
-pub held_in_bytes : (kind : Kind) (cs : List ℕ) → in_bytes kind (held kind cs) ≡ encode_utf8_all cs
+pub held_in_bytes : (kind : Kind) (cs : List ℕ) → in_bytes kind (content_of kind cs) ≡ encode_utf8_all cs
 held_in_bytes kind cs = go (holds_characters kind)
   where
     go : (b : Bool) → cond b (encode_utf8_all (cond b cs (encode_utf8_all cs))) (cond b cs (encode_utf8_all cs)) ≡ encode_utf8_all cs
@@ -76,9 +78,9 @@ decode_step kind a v b after bytes more piece row so_far unit fits grown = (
 -- a run of plain characters is as many bytes of the text
 pub decode_run : (kind : Kind) (a v b after bytes more run : List ℕ) → BeginsRow kind a v b → bytes ≡ in_bytes kind v → b ≡ chars run ++ after → list_all (is_plain kind) (chars run) ≡ true → IsUtf8 run → more ≡ bytes ++ run → (w : List ℕ) × BeginsRow kind a w after × (more ≡ in_bytes kind w)
 decode_run kind a v b after bytes more run row so_far cut plain text grown = (
-  v ++ held kind (chars run),
+  v ++ content_of kind (chars run),
   row_run kind a v (chars run) after plain (subst (BeginsRow kind a v) cut row),
-  grown ∙ ap (λ z. z ++ run) so_far ∙ ap (λ z. in_bytes kind v ++ z) (sym (held_in_bytes kind (chars run) ∙ encodes-chars run text)) ∙ sym (in_bytes_append kind v (held kind (chars run))),
+  grown ∙ ap (λ z. z ++ run) so_far ∙ ap (λ z. in_bytes kind v ++ z) (sym (held_in_bytes kind (chars run) ∙ encodes-chars run text)) ∙ sym (in_bytes_append kind v (content_of kind (chars run))),
 )
 
 -- ---- what strings hold
@@ -90,30 +92,30 @@ same_bytes t kind w y bytes r e k v x s p =
     e ∙ ap (λ l. in_bytes l w) same.0 ∙ ap (in_bytes k) same.1
 
 -- a raw string holds its body as it stands
-pub raw_bytes : (t : List ℕ) (form : Form) (kind : Kind) (w body y : List ℕ) → form ≡ RawForm → IsUtf8 body → PartsAre form kind t w (chars body) y → HoldsBytes t body
+pub raw_bytes : (t : List ℕ) (form : QuotedForm) (kind : Kind) (w body y : List ℕ) → form ≡ RawForm → IsUtf8 body → PartsAre form kind t w (chars body) y → HoldsBytes t body
 raw_bytes t form kind w body y raw u p =
     let r : PartsAre RawForm kind t w (chars body) y = subst (λ f. PartsAre f kind t w (chars body) y) raw p in
     let bytes : body ≡ in_bytes kind w = sym (encodes-chars body u) ∙ ap encode_utf8_all r.1 ∙ sym (held_in_bytes kind r.0.inside) ∙ ap (in_bytes kind) (sym r.0.value_is) in
     same_bytes t kind w y body (parts_formed RawForm kind t w (chars body) y r) bytes
 
 -- a string of plain characters does too
-pub plain_bytes : (t : List ℕ) (form : Form) (kind : Kind) (w body y : List ℕ) → is_plain_body form kind (chars body) ≡ true → IsUtf8 body → PartsAre form kind t w (chars body) y → HoldsBytes t body
+pub plain_bytes : (t : List ℕ) (form : QuotedForm) (kind : Kind) (w body y : List ℕ) → is_plain_body form kind (chars body) ≡ true → IsUtf8 body → PartsAre form kind t w (chars body) y → HoldsBytes t body
 plain_bytes t RawForm kind w body y h u p = raw_bytes t RawForm kind w body y refl u p
 plain_bytes t SingleForm kind w body y h u p = absurd (cc)
 plain_bytes t CookedForm kind w body y h u p =
     let cs = chars body in
     let start = subst (BeginsRow kind cs []) (sym (append-nil cs)) (row_start kind cs) in
-    let value : w ≡ held kind cs = (row_once kind cs w [] (held kind cs) [] (cooked_row_of_body kind t w cs y p) (row_run kind cs [] cs [] h start) (unit_nil kind) (unit_nil kind)).0 in
+    let value : w ≡ content_of kind cs = (row_once kind cs w [] (content_of kind cs) [] (cooked_row_of_body kind t w cs y p) (row_run kind cs [] cs [] h start) (unit_nil kind) (unit_nil kind)).0 in
     let bytes : body ≡ in_bytes kind w = sym (encodes-chars body u) ∙ sym (held_in_bytes kind cs) ∙ ap (in_bytes kind) (sym value) in
     same_bytes t kind w y body (parts_formed CookedForm kind t w cs y p) bytes
 
-pub not_raw : (form : Form) (kind : Kind) (body : List ℕ) → is_plain_body form kind body ≡ false → form ≡ RawForm → ⊥
+pub not_raw : (form : QuotedForm) (kind : Kind) (body : List ℕ) → is_plain_body form kind body ≡ false → form ≡ RawForm → ⊥
 not_raw RawForm kind body h e = absurd (cc)
 not_raw CookedForm kind body h e = absurd (cc)
 not_raw SingleForm kind body h e = absurd (cc)
 
 -- a cooked string holds what its body decodes to
-pub cooked_bytes : (t : List ℕ) (form : Form) (kind : Kind) (w body y bytes : List ℕ) → (form ≡ RawForm → ⊥) → PartsAre form kind t w body y → Decodes kind body bytes → HoldsBytes t bytes
+pub cooked_bytes : (t : List ℕ) (form : QuotedForm) (kind : Kind) (w body y bytes : List ℕ) → (form ≡ RawForm → ⊥) → PartsAre form kind t w body y → Decodes kind body bytes → HoldsBytes t bytes
 cooked_bytes t form kind w body y bytes not_raw p d k v x s r =
     let formed_p = parts_formed form kind t w body y p in
     let same = formed_once t kind k w r.value y x formed_p (formed t k v x r) in
@@ -123,7 +125,7 @@ cooked_bytes t form kind w body y bytes not_raw p d k v x s r =
     same_bytes t kind w y bytes formed_p (d.bytes_are ∙ ap (in_bytes kind) value.0) k v x s r
 
 -- a text that reads as a string has the parts of one
-pub string_kind : (t : List ℕ) (form : Form) (kind : Kind) (w body y : List ℕ) (k : Kind) (v : Contents) (x : List ℕ) → PartsAre form kind t w body y → is_string k ≡ true → ReadsQuoted t k v x → is_string kind ≡ true
+pub string_kind : (t : List ℕ) (form : QuotedForm) (kind : Kind) (w body y : List ℕ) (k : Kind) (v : Contents) (x : List ℕ) → PartsAre form kind t w body y → is_string k ≡ true → ReadsQuoted t k v x → is_string kind ≡ true
 string_kind t form kind w body y k v x p s r = ap is_string (formed_once t kind k w r.value y x (parts_formed form kind t w body y p) (formed t k v x r)).0 ∙ s
 
 -- ---- the characters of a string
@@ -199,7 +201,7 @@ str_bytes t bytes v x u held_are r =
 -- ---- characters and bytes
 
 -- a plain character of these kinds is one number, and so is an escape by its number
-one_plain : (kind : Kind) (c : ℕ) → is_single kind ≡ true → is_plain kind c ≡ true → (n : ℕ) × (held kind (c ∷ []) ≡ n ∷ [])
+one_plain : (kind : Kind) (c : ℕ) → is_single kind ≡ true → is_plain kind c ≡ true → (n : ℕ) × (content_of kind (c ∷ []) ≡ n ∷ [])
 one_plain Char c s h = (c, refl)
 one_plain ByteKind c s h = (c, ascii_byte c (ltb-true c 128 (and_parts (ltb c 128) _ h).0))
 one_plain Str c s h = absurd (cc)
@@ -209,7 +211,7 @@ one_plain Int c s h = absurd (cc)
 one_plain Float c s h = absurd (cc)
 one_plain BoolKind c s h = absurd (cc)
 
-one_unicode : (kind : Kind) (c : ℕ) → is_single kind ≡ true → has_unicode kind ≡ true → (n : ℕ) × (held kind (c ∷ []) ≡ n ∷ [])
+one_unicode : (kind : Kind) (c : ℕ) → is_single kind ≡ true → has_unicode kind ≡ true → (n : ℕ) × (content_of kind (c ∷ []) ≡ n ∷ [])
 one_unicode Char c s h = (c, refl)
 one_unicode ByteKind c s h = absurd (cc)
 one_unicode Str c s h = absurd (cc)
@@ -233,7 +235,7 @@ pub record OnlyPiece (kind : Kind) (value : List ℕ) (v : Contents) : Type 0 wh
   pub number : ℕ
   pub one : value ≡ number ∷ []
 
-pub only_piece : (t : List ℕ) (form : Form) (k : Kind) (inside : List ℕ) (kind : Kind) (q : List ℕ × List ℕ) (v : Contents) (x : List ℕ) → is_single kind ≡ true → front_at t ≡ told form k inside → unit_at kind inside ≡ Some q → ReadsQuoted t kind v x → OnlyPiece kind q.0 v
+pub only_piece : (t : List ℕ) (form : QuotedForm) (k : Kind) (inside : List ℕ) (kind : Kind) (q : List ℕ × List ℕ) (v : Contents) (x : List ℕ) → is_single kind ≡ true → opener_at t ≡ found_opener form k inside → unit_at kind inside ≡ Some q → ReadsQuoted t kind v x → OnlyPiece kind q.0 v
 only_piece t form k inside kind q v x s front unit r =
     let a = single_unit t form k inside kind r.value x s front (formed t kind v x r) in
     let same = some_pair (r.value, 39 ∷ x) q (sym a.0 ∙ unit) in
@@ -244,7 +246,7 @@ only_piece t form k inside kind q v x s front unit r =
       one = sym same.0 ∙ a.1.value_is ∙ one.1;
     }
 
-pub unit_stands : (t : List ℕ) (form : Form) (k : Kind) (inside : List ℕ) (kind : Kind) (v : Contents) (x : List ℕ) → is_single kind ≡ true → front_at t ≡ told form k inside → ReadsQuoted t kind v x → unit_at kind inside ≡ None → ⊥
+pub unit_stands : (t : List ℕ) (form : QuotedForm) (k : Kind) (inside : List ℕ) (kind : Kind) (v : Contents) (x : List ℕ) → is_single kind ≡ true → opener_at t ≡ found_opener form k inside → ReadsQuoted t kind v x → unit_at kind inside ≡ None → ⊥
 unit_stands t form k inside kind v x s front r none =
     let a = single_unit t form k inside kind r.value x s front (formed t kind v x r) in
     let e : None ≡ found r.value (39 ∷ x) = sym none ∙ a.0 in

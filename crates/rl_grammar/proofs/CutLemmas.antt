@@ -10,12 +10,12 @@ use Rattle.std.proofs.lemmas.Str.{encodes-chars, encodes-append, chars-append, c
 use Rattle.std.proofs.lemmas.Str.Pattern.{drop_at_char}
 use denote.Ref.{Bor}
 use Rattle.rl_tokens.specs.declared.kind.Kind.{Kind}
-use Rattle.rl_tokens.specs.Texts.{IsBehind}
+use Rattle.rl_tokens.specs.Texts.{IsTail}
 use Rattle.rl_tokens.specs.Quoted.{opener, raw_opener}
-use Rattle.rl_grammar.specs.Shapes.{IsQuotedCut}
+use Rattle.rl_grammar.specs.Shapes.{IsQuotedSplit}
 
 -- what is behind by characters is behind by bytes
-pub behind_chars : (bs ys front : List ℕ) → IsUtf8 bs → IsUtf8 ys → chars bs ≡ front ++ chars ys → IsBehind bs ys
+pub behind_chars : (bs ys front : List ℕ) → IsUtf8 bs → IsUtf8 ys → chars bs ≡ front ++ chars ys → IsTail bs ys
 behind_chars bs ys front u w e = record {
   front = encode_utf8_all front;
   text_is = sym (encodes-chars bs u) ∙ ap encode_utf8_all e ∙ encodes-append front (chars ys) ∙ ap (λ z. encode_utf8_all front ++ z) (encodes-chars ys w);
@@ -95,7 +95,7 @@ strip_prefix_none n bs None m u w = λ x e.
     m (encode_utf8_all x) (sym (encodes-chars bs w) ∙ ap encode_utf8_all e ∙ encodes-append (chars n) x ∙ ap (λ z. z ++ encode_utf8_all x) (encodes-chars n u))
 
 -- the suffix of a cut text is a rest of it
-pub quoted_behind : (kind : Kind) (text body suffix : List ℕ) → IsQuotedCut kind text body suffix → IsUtf8 suffix → IsBehind text suffix
+pub quoted_behind : (kind : Kind) (text body suffix : List ℕ) → IsQuotedSplit kind text body suffix → IsUtf8 suffix → IsTail text suffix
 quoted_behind kind text body suffix c u =
     elim c [
       | inl a ↦
@@ -113,5 +113,5 @@ quoted_behind kind text body suffix c u =
     ]
 
 -- nothing is behind the whole text
-pub end_behind : (text rest : List ℕ) → IsUtf8 rest → rest ≡ [] → IsBehind text rest
+pub end_behind : (text rest : List ℕ) → IsUtf8 rest → rest ≡ [] → IsTail text rest
 end_behind text rest u e = record { front = text; text_is = sym (append-nil text) ∙ ap (λ z. text ++ z) (sym e); is_text = u }

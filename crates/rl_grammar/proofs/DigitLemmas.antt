@@ -9,8 +9,8 @@ use Rattle.std.specs.Str.{chars, IsUtf8, IsAscii}
 use Rattle.std.specs.Prelude.{encode_utf8_all}
 use Rattle.rl_tokens.specs.Numbers.{Sign, NoSign, Minus, sign_text, IntReads, limit, float_digits, FloatReads}
 use Rattle.rl_tokens.specs.Reading.{Contents, Digits, ReadsInt}
-use Rattle.rl_grammar.specs.NumberAt.{sign_at, int_at, capped_int}
-use Rattle.rl_grammar.specs.NumberShapes.{IsWithin}
+use Rattle.rl_grammar.specs.Mirrors.NumberAt.{sign_at, int_at, capped_int}
+use Rattle.rl_grammar.specs.NumberShapes.{HasMagnitude}
 use Rattle.rl_grammar.proofs.IntegerLemmas.{int_past, sign_of_some, is_past, no_int}
 use Rattle.rl_tokens.proofs.OneNumber.{int_once, float_once}
 
@@ -53,7 +53,7 @@ ascii_signed Minus m h = chars-IsAscii (45 ∷ decimal m) (minus_ascii (decimal 
     minus_ascii ds a (suc i) = a i
 
 -- sign and base-ten text are the contents of every integer reading
-pub int_contents : (t y : List ℕ) (m : ℕ) (bs : List ℕ) → IsWithin t m y → bs ≡ sign_text (sign_at t) ++ decimal m → (c : Contents) (x : List ℕ) → ReadsInt t c x → c ≡ Digits (chars bs)
+pub int_contents : (t y : List ℕ) (m : ℕ) (bs : List ℕ) → HasMagnitude t m y → bs ≡ sign_text (sign_at t) ++ decimal m → (c : Contents) (x : List ℕ) → ReadsInt t c x → c ≡ Digits (chars bs)
 int_contents t y m bs w e c x r =
     let o = int_once t y x w.sign r.sign m r.magnitude w.reads r.reads in
     let s = int_sign t w.sign m y w.reads ∙ o.0 in
@@ -61,11 +61,11 @@ int_contents t y m bs w e c x r =
     r.contents_is ∙ ap Digits (sym (ap chars f ∙ ascii_signed r.sign r.magnitude r.within))
 
 -- an integer is read
-pub within_some : (t x : List ℕ) (m : ℕ) → IsWithin t m x → None ≡ capped_int (int_at t) → ⊥
+pub within_some : (t x : List ℕ) (m : ℕ) → HasMagnitude t m x → None ≡ capped_int (int_at t) → ⊥
 within_some t x m w h = no_int t h w.sign m x w.reads
 
 -- and its magnitude too, within the limit
-pub within_fits : (t x y : List ℕ) (m : ℕ) (k : Option ℕ) → IsWithin t m x → Some (k, y) ≡ capped_int (int_at t) → k ≡ None → ⊥
+pub within_fits : (t x y : List ℕ) (m : ℕ) (k : Option ℕ) → HasMagnitude t m x → Some (k, y) ≡ capped_int (int_at t) → k ≡ None → ⊥
 within_fits t x y m k w h e =
     let p = is_past t y (sym (ap (λ o. Some (o, y)) e) ∙ h) in
     let o = int_once t x p.suffix w.sign p.sign m p.magnitude w.reads p.reads in

@@ -8,7 +8,7 @@ use Rattle.std.specs.Char.{digit_value}
 use Rattle.std.specs.List.{list_any}
 use Rattle.rl_tokens.specs.Quoted.{place_value, without_underscores}
 use Rattle.rl_tokens.specs.Numbers.{limit}
-use Rattle.rl_grammar.specs.NumberAt.{run, after_run, is_part, has_value, capped, append_digit, row_from, digits_at, has_digit_at, magnitude_at, after_digits}
+use Rattle.rl_grammar.specs.Mirrors.NumberAt.{run, after_run, is_part, has_value, capped, append_digit, row_from, digit_row_at, has_digit_at, magnitude_at, after_digits}
 
 -- within the limit nothing is cut
 pub capped_within : (n : ℕ) → n ≤ limit → capped n ≡ Some n
@@ -90,8 +90,8 @@ unfolding run after_run
 run_no test c cs h = (ap (λ b. cond b (c ∷ run test cs) []) h, ap (λ b. cond b (after_run test cs) (c ∷ cs)) h)
 
 -- the same, by the parts of the text
-at_parts : (r : ℕ) (some : Bool) (v : ℕ) (t ds x : List ℕ) → digits_at r t ≡ ds → after_digits r t ≡ x → At r some v ds x ≡ At r some v (digits_at r t) (after_digits r t)
-at_parts r some v t ds x d a = ap (λ u. At r some v u x) (sym d) ∙ ap (λ y. At r some v (digits_at r t) y) (sym a)
+at_parts : (r : ℕ) (some : Bool) (v : ℕ) (t ds x : List ℕ) → digit_row_at r t ≡ ds → after_digits r t ≡ x → At r some v ds x ≡ At r some v (digit_row_at r t) (after_digits r t)
+at_parts r some v t ds x d a = ap (λ u. At r some v u x) (sym d) ∙ ap (λ y. At r some v (digit_row_at r t) y) (sym a)
 
 -- an underscore belongs to each row
 part_mark : (r c : ℕ) → (c == 95) ≡ true → is_part r c ≡ true
@@ -110,24 +110,24 @@ part_none : (r c : ℕ) → (c == 95) ≡ false → nat_lt (digit_value c) r ≡
 part_none r c n h = ap (λ b. b || (c == 95)) h ∙ n
 
 -- the row read one character after another is the row that stands there
-pub row_is : (r : ℕ) (some : Bool) (v : ℕ) (t : List ℕ) → 1 ≤ r → r ≤ 36 → row_from r some (capped v) t ≡ At r some v (digits_at r t) (after_digits r t)
+pub row_is : (r : ℕ) (some : Bool) (v : ℕ) (t : List ℕ) → 1 ≤ r → r ≤ 36 → row_from r some (capped v) t ≡ At r some v (digit_row_at r t) (after_digits r t)
 unfolding row_from run after_run
 row_is r some v [] h k = at_end r some v []
 row_is r some v (c ∷ cs) h k = go (λ s w. row_is r s w cs h k) (c == 95) (nat_lt (digit_value c) r) refl refl
   where
-    go : ((s : Bool) (w : ℕ) → row_from r s (capped w) cs ≡ At r s w (digits_at r cs) (after_digits r cs)) → (u g : Bool) → (c == 95) ≡ u → nat_lt (digit_value c) r ≡ g → cond u (row_from r some (capped v) cs) (cond g (row_from r true (append_digit r (capped v) (digit_value c)) cs) (some, capped v, c ∷ cs)) ≡ At r some v (digits_at r (c ∷ cs)) (after_digits r (c ∷ cs))
+    go : ((s : Bool) (w : ℕ) → row_from r s (capped w) cs ≡ At r s w (digit_row_at r cs) (after_digits r cs)) → (u g : Bool) → (c == 95) ≡ u → nat_lt (digit_value c) r ≡ g → cond u (row_from r some (capped v) cs) (cond g (row_from r true (append_digit r (capped v) (digit_value c)) cs) (some, capped v, c ∷ cs)) ≡ At r some v (digit_row_at r (c ∷ cs)) (after_digits r (c ∷ cs))
     go rec true g hu hg =
         let y = run_yes (is_part r) c cs (part_mark r c hu) in
         rec some v
-        ∙ sym (at_mark r some v (digits_at r cs) (after_digits r cs) k)
-        ∙ ap (λ z. At r some v (z ∷ digits_at r cs) (after_digits r cs)) (sym (eqb-true c 95 hu))
-        ∙ at_parts r some v (c ∷ cs) (c ∷ digits_at r cs) (after_digits r cs) y.0 y.1
+        ∙ sym (at_mark r some v (digit_row_at r cs) (after_digits r cs) k)
+        ∙ ap (λ z. At r some v (z ∷ digit_row_at r cs) (after_digits r cs)) (sym (eqb-true c 95 hu))
+        ∙ at_parts r some v (c ∷ cs) (c ∷ digit_row_at r cs) (after_digits r cs) y.0 y.1
     go rec false true hu hg =
         let y = run_yes (is_part r) c cs (part_digit r c hg) in
         ap (λ m. row_from r true m cs) (append_capped r v (digit_value c) h)
         ∙ rec true (v * r + digit_value c)
-        ∙ at_digit r some v c (digits_at r cs) (after_digits r cs) hu hg
-        ∙ at_parts r some v (c ∷ cs) (c ∷ digits_at r cs) (after_digits r cs) y.0 y.1
+        ∙ at_digit r some v c (digit_row_at r cs) (after_digits r cs) hu hg
+        ∙ at_parts r some v (c ∷ cs) (c ∷ digit_row_at r cs) (after_digits r cs) y.0 y.1
     go rec false false hu hg =
         let y = run_no (is_part r) c cs (part_none r c hu hg) in
         at_end r some v (c ∷ cs) ∙ at_parts r some v (c ∷ cs) [] (c ∷ cs) y.0 y.1
@@ -138,7 +138,7 @@ zero_times q p = omega arith
 
 -- the row from its start
 pub row_start : (r : ℕ) (t : List ℕ) → 1 ≤ r → r ≤ 36 → row_from r false (Some 0) t ≡ (has_digit_at r t, capped (magnitude_at r t), after_digits r t)
-row_start r t h k = row_is r false 0 t h k ∙ ap (λ n. (has_digit_at r t, capped n, after_digits r t)) (zero_times (r ^ length (without_underscores (digits_at r t))) (magnitude_at r t))
+row_start r t h k = row_is r false 0 t h k ∙ ap (λ n. (has_digit_at r t, capped n, after_digits r t)) (zero_times (r ^ length (without_underscores (digit_row_at r t))) (magnitude_at r t))
 
 -- how far a row goes doesn't hang on a magnitude
 row_without : (r : ℕ) (some : Bool) (m : Option ℕ) (t : List ℕ) → row_from r some None t ≡ ((row_from r some m t).0, None, (row_from r some m t).2)

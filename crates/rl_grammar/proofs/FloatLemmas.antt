@@ -6,11 +6,11 @@ use Rattle.std.proofs.lemmas.List.{append_cancel_right}
 use Rattle.std.specs.Char.{is_ascii_digit}
 use Rattle.std.specs.List.{list_all, list_any}
 use Rattle.unicode_ident.specs.Ident.{is_xid_continue}
-use Rattle.rl_tokens.specs.Texts.{passes, is_underscore, xid_ok}
+use Rattle.rl_tokens.specs.Texts.{first_passes, is_underscore, xid_ok}
 use Rattle.rl_tokens.specs.Numbers.{sign_text, is_exponent_letter, Fraction, NoFraction, Dot, fraction_text, IsFraction, Exponent, NoExponent, Power, exponent_text, IsExponent, is_power_sign, BeginsExponent, FloatReads}
 use Rattle.rl_tokens.proofs.Basics.{any_same, continue_not, digit_is_ten, word_continues, word_without}
 use Rattle.rl_tokens.proofs.StrictNumbers.{letter_no_part, suffix_no_part}
-use Rattle.rl_grammar.specs.NumberAt.{run, after_run, is_part, has_value, is_suffix, digits_at, has_digit_at, after_digits, after_minus, sign_at, after_fraction, after_power_sign, power_at, after_exponent, float_at}
+use Rattle.rl_grammar.specs.Mirrors.NumberAt.{run, after_run, is_part, has_value, is_suffix, digit_row_at, has_digit_at, after_digits, after_minus, sign_at, after_fraction, after_power_sign, power_at, after_exponent, float_at}
 use Rattle.rl_grammar.proofs.DigitRowLemmas.{run_yes, run_no}
 use Rattle.rl_grammar.proofs.RunLemmas.{run_all, run_ends, run_join, run_past, suffix_complete, suffix_sound}
 use Rattle.rl_grammar.proofs.IntegerLemmas.{minus_past, chosen_some, sign_join}
@@ -32,22 +32,22 @@ run_off test (c ∷ row) t h =
     (run_yes test c (row ++ t) b.0).1 ∙ run_off test row t b.1
 
 -- what a text begins with, it begins with whatever follows
-pub passes_more : (test : ℕ → Bool) (a b : List ℕ) → passes test a ≡ true → passes test (a ++ b) ≡ true
+pub passes_more : (test : ℕ → Bool) (a b : List ℕ) → first_passes test a ≡ true → first_passes test (a ++ b) ≡ true
 passes_more test [] b h = absurd (cc)
 passes_more test (c ∷ cs) b h = h
 
 -- no digit row goes on into an exponent and suffix
-exponent_stops : (e : Exponent) (x : List ℕ) → is_suffix x ≡ true → IsExponent e x → passes (is_part 10) (exponent_text e ++ x) ≡ false
+exponent_stops : (e : Exponent) (x : List ℕ) → is_suffix x ≡ true → IsExponent e x → first_passes (is_part 10) (exponent_text e ++ x) ≡ false
 exponent_stops NoExponent x h k = suffix_no_part x (suffix_sound x h)
 exponent_stops (Power letter us sg row) x h k = letter_no_part letter k.0
 
 -- nor into a fraction
-fraction_stops : (f : Fraction) (z : List ℕ) → passes (is_part 10) z ≡ false → passes (is_part 10) (fraction_text f ++ z) ≡ false
+fraction_stops : (f : Fraction) (z : List ℕ) → first_passes (is_part 10) z ≡ false → first_passes (is_part 10) (fraction_text f ++ z) ≡ false
 fraction_stops NoFraction z h = h
 fraction_stops (Dot row) z h = refl
 
 -- no exponent and suffix begins with a dot
-no_dot : (e : Exponent) (x : List ℕ) → is_suffix x ≡ true → IsExponent e x → passes (λ c. c == 46) (exponent_text e ++ x) ≡ false
+no_dot : (e : Exponent) (x : List ℕ) → is_suffix x ≡ true → IsExponent e x → first_passes (λ c. c == 46) (exponent_text e ++ x) ≡ false
 no_dot NoExponent [] h k = refl
 no_dot NoExponent (c ∷ cs) h k =
     let w = word_without 46 (c ∷ cs) (omega arith) refl (and_parts (not (c == 95)) (xid_ok (c ∷ cs)) h).1 in
@@ -55,12 +55,12 @@ no_dot NoExponent (c ∷ cs) h k =
 no_dot (Power letter us sg row) x h k = letter_no_dot letter k.0
 
 -- without a dot no fraction is taken
-no_fraction : (z : List ℕ) → passes (λ c. c == 46) z ≡ false → after_fraction z ≡ z
+no_fraction : (z : List ℕ) → first_passes (λ c. c == 46) z ≡ false → after_fraction z ≡ z
 no_fraction [] h = refl
 no_fraction (c ∷ cs) h = ap (λ b. cond b (after_digits 10 cs) (c ∷ cs)) h
 
 -- a fraction is taken whole
-fraction_past : (f : Fraction) (z : List ℕ) → IsFraction f → passes (is_part 10) z ≡ false → passes (λ c. c == 46) z ≡ false → after_fraction (fraction_text f ++ z) ≡ z
+fraction_past : (f : Fraction) (z : List ℕ) → IsFraction f → first_passes (is_part 10) z ≡ false → first_passes (λ c. c == 46) z ≡ false → after_fraction (fraction_text f ++ z) ≡ z
 fraction_past NoFraction z k h d = no_fraction z d
 fraction_past (Dot row) z k h d = (run_past (is_part 10) row z k h).1
 
@@ -75,7 +75,7 @@ record Trimmed (row x : List ℕ) : Type 0 where
   is : after_run is_underscore (row ++ x) ≡ more ++ x
   each : list_all (is_part 10) more ≡ true
   some : list_any (has_value 10) more ≡ true
-  first : passes is_ascii_digit more ≡ true
+  first : first_passes is_ascii_digit more ≡ true
 
 -- behind its underscores a row with a digit begins with one
 trimmed : (row x : List ℕ) → list_all (is_part 10) row ≡ true → list_any (has_value 10) row ≡ true → Trimmed row x
@@ -98,7 +98,7 @@ digit_no_mark : (c : ℕ) → is_ascii_digit c ≡ true → (c == 95) ≡ false
 digit_no_mark c h = grind (arith, nat_tests)
 
 -- a digit is no sign
-digit_no_sign : (t : List ℕ) → passes is_ascii_digit t ≡ true → after_power_sign t ≡ t
+digit_no_sign : (t : List ℕ) → first_passes is_ascii_digit t ≡ true → after_power_sign t ≡ t
 digit_no_sign [] h = refl
 digit_no_sign (c ∷ cs) h =
     let e : (c == 43 || c == 45) ≡ false = grind (arith, nat_tests) in
@@ -133,7 +133,7 @@ powered us (c ∷ []) row x a b each some = record { more = row; is = signed_pas
 powered us (c ∷ d ∷ sg) row x a b each some = absurd (cc)
 
 -- an exponent, or the suffix that begins none
-power_past : (letter : ℕ) (cs x : List ℕ) → is_exponent_letter letter ≡ true → passes (is_part 10) x ≡ false → Powered cs x → after_exponent (letter ∷ cs) ≡ x
+power_past : (letter : ℕ) (cs x : List ℕ) → is_exponent_letter letter ≡ true → first_passes (is_part 10) x ≡ false → Powered cs x → after_exponent (letter ∷ cs) ≡ x
 unfolding after_exponent
 power_past letter cs x l stops p =
     let y = run_past (is_part 10) p.more x p.each stops in
@@ -160,7 +160,7 @@ no_sign (c ∷ cs) h =
     ap (λ z. cond z cs (c ∷ cs)) e
 
 -- behind underscores a row with a digit begins with one
-first_digit : (t : List ℕ) → passes is_underscore t ≡ false → has_digit_at 10 t ≡ true → (d : ℕ) × (rest : List ℕ) × (is_ascii_digit d ≡ true) × (t ≡ d ∷ rest)
+first_digit : (t : List ℕ) → first_passes is_underscore t ≡ false → has_digit_at 10 t ≡ true → (d : ℕ) × (rest : List ℕ) × (is_ascii_digit d ≡ true) × (t ≡ d ∷ rest)
 unfolding run
 first_digit [] h k = absurd (cc)
 first_digit (c ∷ cs) h k = go (has_value 10 c) refl
@@ -221,17 +221,17 @@ float_past t n x h =
     let z : List ℕ = exponent_text h.exponent ++ x in
     let y : List ℕ = fraction_text h.fraction ++ z in
     let u : List ℕ = h.whole ++ y in
-    let stops : passes (is_part 10) z ≡ false = exponent_stops h.exponent x ok h.is_exponent in
+    let stops : first_passes (is_part 10) z ≡ false = exponent_stops h.exponent x ok h.is_exponent in
     let is : t ≡ sign_text h.sign ++ u = h.text_is ∙ ap (λ k. k ++ x) h.numeral_is ∙ float_text (sign_text h.sign) h.whole (fraction_text h.fraction) (exponent_text h.exponent) x in
-    let first : passes is_ascii_digit u ≡ true = passes_more is_ascii_digit h.whole y h.first in
+    let first : first_passes is_ascii_digit u ≡ true = passes_more is_ascii_digit h.whole y h.first in
     let unsigned : after_minus t ≡ u = ap after_minus is ∙ (minus_past h.sign u first).0 in
     let rest : after_exponent (after_fraction (after_digits 10 u)) ≡ x =
     ap (λ k. after_exponent (after_fraction k)) (run_past (is_part 10) h.whole y h.each (fraction_stops h.fraction z stops)).1
     ∙ ap after_exponent (fraction_past h.fraction z h.is_fraction stops (no_dot h.exponent x ok h.is_exponent))
     ∙ exponent_past h.exponent x ok h.is_exponent in
-    ap (λ k. cond (passes is_ascii_digit k && is_suffix (after_exponent (after_fraction (after_digits 10 k)))) (Some (after_exponent (after_fraction (after_digits 10 k)))) None) unsigned
-    ∙ ap (λ k. cond (passes is_ascii_digit u && is_suffix k) (Some k) None) rest
-    ∙ ap (λ b. cond b (Some x) None) (and_from (passes is_ascii_digit u) (is_suffix x) first ok)
+    ap (λ k. cond (first_passes is_ascii_digit k && is_suffix (after_exponent (after_fraction (after_digits 10 k)))) (Some (after_exponent (after_fraction (after_digits 10 k)))) None) unsigned
+    ∙ ap (λ k. cond (first_passes is_ascii_digit u && is_suffix k) (Some k) None) rest
+    ∙ ap (λ b. cond b (Some x) None) (and_from (first_passes is_ascii_digit u) (is_suffix x) first ok)
 
 -- Soundness.
 record Fractioned (y : List ℕ) : Type 0 where
@@ -246,9 +246,9 @@ fraction_sound (c ∷ cs) = go (c == 46) refl
   where
     go : (b : Bool) → (c == 46) ≡ b → Fractioned (c ∷ cs)
     go true e = record {
-      fraction = Dot (digits_at 10 cs);
+      fraction = Dot (digit_row_at 10 cs);
       is = run_all (is_part 10) cs;
-      text_is = ap (λ k. k ∷ cs) (eqb-true c 46 e) ∙ ap (λ z. 46 ∷ z) (run_join (is_part 10) cs) ∙ ap (λ z. 46 ∷ (digits_at 10 cs ++ z)) (sym (ap (λ b. cond b (after_digits 10 cs) (c ∷ cs)) e));
+      text_is = ap (λ k. k ∷ cs) (eqb-true c 46 e) ∙ ap (λ z. 46 ∷ z) (run_join (is_part 10) cs) ∙ ap (λ z. 46 ∷ (digit_row_at 10 cs ++ z)) (sym (ap (λ b. cond b (after_digits 10 cs) (c ∷ cs)) e));
     }
     go false e = record { fraction = NoFraction; is = tt; text_is = sym (ap (λ b. cond b (after_digits 10 cs) (c ∷ cs)) e) }
 
@@ -303,7 +303,7 @@ exponent_sound (c ∷ cs) = go (is_exponent_letter c && has_digit_at 10 (power_a
         let us : List ℕ = run is_underscore cs in
         let v : List ℕ = after_run is_underscore cs in
         let sg = sign_splits v in
-        let row : List ℕ = digits_at 10 (power_at cs) in
+        let row : List ℕ = digit_row_at 10 (power_at cs) in
         let x : List ℕ = after_digits 10 (power_at cs) in
         record {
           exponent = Power c us (power_sign v) row;
@@ -315,18 +315,18 @@ exponent_sound (c ∷ cs) = go (is_exponent_letter c && has_digit_at 10 (power_a
         }
 
 -- a row that begins with a digit keeps it
-pub run_first : (t : List ℕ) → passes is_ascii_digit t ≡ true → passes is_ascii_digit (digits_at 10 t) ≡ true
+pub run_first : (t : List ℕ) → first_passes is_ascii_digit t ≡ true → first_passes is_ascii_digit (digit_row_at 10 t) ≡ true
 unfolding run
 run_first [] h = absurd (cc)
 run_first (c ∷ cs) h =
     let d : has_value 10 c ≡ true = sym (digit_is_ten c) ∙ h in
-    ap (passes is_ascii_digit) (run_yes (is_part 10) c cs (ap (λ z. z || (c == 95)) d)).0 ∙ h
+    ap (first_passes is_ascii_digit) (run_yes (is_part 10) c cs (ap (λ z. z || (c == 95)) d)).0 ∙ h
 
 -- the parts taken are a float
-float_built : (t : List ℕ) (x : List ℕ) → passes is_ascii_digit (after_minus t) ≡ true → is_suffix x ≡ true → after_exponent (after_fraction (after_digits 10 (after_minus t))) ≡ x → (n : List ℕ) × FloatReads t n x
+float_built : (t : List ℕ) (x : List ℕ) → first_passes is_ascii_digit (after_minus t) ≡ true → is_suffix x ≡ true → after_exponent (after_fraction (after_digits 10 (after_minus t))) ≡ x → (n : List ℕ) × FloatReads t n x
 float_built t x first ok is =
     let u : List ℕ = after_minus t in
-    let w : List ℕ = digits_at 10 u in
+    let w : List ℕ = digit_row_at 10 u in
     let y : List ℕ = after_digits 10 u in
     let f = fraction_sound y in
     let z : List ℕ = after_fraction y in
@@ -357,8 +357,8 @@ pub float_sound : (t x : List ℕ) → float_at t ≡ Some x → (n : List ℕ) 
 unfolding float_at
 float_sound t x h =
     let rest : List ℕ = after_exponent (after_fraction (after_digits 10 (after_minus t))) in
-    let k = chosen_some (passes is_ascii_digit (after_minus t) && is_suffix rest) rest x h in
-    let a = and_parts (passes is_ascii_digit (after_minus t)) (is_suffix rest) k.0 in
+    let k = chosen_some (first_passes is_ascii_digit (after_minus t) && is_suffix rest) rest x h in
+    let a = and_parts (first_passes is_ascii_digit (after_minus t)) (is_suffix rest) k.0 in
     float_built t x a.0 (ap is_suffix (sym k.1) ∙ a.1) k.1
 
 -- where none is read, none stands

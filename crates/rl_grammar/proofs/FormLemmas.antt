@@ -9,11 +9,12 @@ use Rattle.rl_tokens.specs.declared.kind.Kind.{Kind}
 use Rattle.rl_tokens.specs.declared.kind.Kind.TheVariants.{Str, ByteStr, CStr, Byte, Char, Int, Float, Bool as BoolKind}
 use Rattle.rl_tokens.specs.Quoted.{Cooked, Single, is_string, is_single, opener, raw_opener, texts, unit_text}
 use Rattle.rl_tokens.specs.Reading.{Contents, ReadsQuoted, quoted_contents}
-use Rattle.rl_grammar.specs.declared.quoted.Form.{Form}
-use Rattle.rl_grammar.specs.declared.quoted.Form.TheVariants.{Cooked as CookedForm, Raw as RawForm, Single as SingleForm}
-use Rattle.rl_grammar.specs.UnitAt.{found, unit_at}
+use Rattle.rl_grammar.specs.declared.quoted.QuotedForm.{QuotedForm}
+use Rattle.rl_grammar.specs.declared.quoted.QuotedForm.TheVariants.{Cooked as CookedForm, Raw as RawForm, Single as SingleForm}
+use Rattle.rl_grammar.specs.Mirrors.UnitAt.{found, unit_at}
 use Rattle.rl_grammar.specs.Rows.{BeginsRow, RowEnds}
-use Rattle.rl_grammar.specs.Forms.{has_form, form_opener, told, string_front_at, byte_front_at, front_at, PartsAre, HasNoParts, is_plain_body}
+use Rattle.rl_grammar.specs.Forms.{has_form, form_opener, PartsAre, HasNoParts, is_plain_body}
+use Rattle.rl_grammar.specs.Mirrors.OpenerAt.{found_opener, string_opener_at, byte_opener_at, opener_at}
 use Rattle.rl_grammar.specs.Shapes.{HasNoQuoted}
 use Rattle.rl_grammar.proofs.UnitLemmas.{some_pair, unit_sound, unit_complete, unit_quote}
 use Rattle.rl_grammar.proofs.RowLemmas.{ends_before, row_ends_on, row_ends_off, row_once}
@@ -26,11 +27,11 @@ Cut = Option (Bor (List ℕ) × Bor (List ℕ))
 -- ---- the front
 
 -- what a front tells is so
-pub record Tells (t : List ℕ) (p : Form × Kind × List ℕ) : Type 0 where
+pub record Tells (t : List ℕ) (p : QuotedForm × Kind × List ℕ) : Type 0 where
   pub has : has_form p.0 p.1 ≡ true
   pub text_is : t ≡ form_opener p.0 p.1 ++ p.2
 
-string_tells : (kind : Kind) (pre t : List ℕ) (p : Form × Kind × List ℕ) → is_string kind ≡ true → opener kind ≡ pre ++ (34 ∷ []) → raw_opener kind ≡ pre ++ (114 ∷ []) → string_front_at kind t ≡ Some p → Tells (pre ++ t) p
+string_tells : (kind : Kind) (pre t : List ℕ) (p : QuotedForm × Kind × List ℕ) → is_string kind ≡ true → opener kind ≡ pre ++ (34 ∷ []) → raw_opener kind ≡ pre ++ (114 ∷ []) → string_opener_at kind t ≡ Some p → Tells (pre ++ t) p
 string_tells kind pre [] p s o r h = absurd (cc)
 string_tells kind pre (c ∷ cs) p s o r h =
     let behind : (q : ℕ) → eqb c q ≡ true → pre ++ (c ∷ cs) ≡ (pre ++ (q ∷ [])) ++ cs = λ q e. ap (λ z. pre ++ (z ∷ cs)) (eqb-true c q e) ∙ sym (append_assoc pre (q ∷ []) cs) in
@@ -48,7 +49,7 @@ string_tells kind pre (c ∷ cs) p s o r h =
           ]
     ]
 
-byte_tells : (t : List ℕ) (p : Form × Kind × List ℕ) → byte_front_at t ≡ Some p → Tells (98 ∷ t) p
+byte_tells : (t : List ℕ) (p : QuotedForm × Kind × List ℕ) → byte_opener_at t ≡ Some p → Tells (98 ∷ t) p
 byte_tells [] p h = absurd (cc)
 byte_tells (c ∷ cs) p h =
     elim (cases_Bool (eqb c 39)) [
@@ -58,8 +59,8 @@ byte_tells (c ∷ cs) p h =
       | inr a ↦ string_tells ByteStr (98 ∷ []) (c ∷ cs) p refl refl refl (rw a at h)
     ]
 
-pub front_sound : (t : List ℕ) (p : Form × Kind × List ℕ) → front_at t ≡ Some p → Tells t p
-unfolding front_at
+pub front_sound : (t : List ℕ) (p : QuotedForm × Kind × List ℕ) → opener_at t ≡ Some p → Tells t p
+unfolding opener_at
 front_sound [] p h = absurd (cc)
 front_sound (c ∷ cs) p h =
     elim (cases_Bool (eqb c 39)) [
@@ -79,8 +80,8 @@ front_sound (c ∷ cs) p h =
           ]
     ]
 
-pub front_complete : (form : Form) (kind : Kind) (r : List ℕ) → has_form form kind ≡ true → front_at (form_opener form kind ++ r) ≡ told form kind r
-unfolding front_at
+pub front_complete : (form : QuotedForm) (kind : Kind) (r : List ℕ) → has_form form kind ≡ true → opener_at (form_opener form kind ++ r) ≡ found_opener form kind r
+unfolding opener_at
 front_complete CookedForm Str r h = refl
 front_complete CookedForm ByteStr r h = refl
 front_complete CookedForm CStr r h = refl
@@ -185,26 +186,26 @@ single_stuck kind a h v b x p = let e : None ≡ found v (39 ∷ x) = sym h ∙ 
 
 -- ---- one reading
 
-pub parts_once : (form : Form) (kind : Kind) (a v b x w d y : List ℕ) → PartsAre form kind (form_opener form kind ++ a) v b x → PartsAre form kind (form_opener form kind ++ a) w d y → (v ≡ w) × (x ≡ y)
+pub parts_once : (form : QuotedForm) (kind : Kind) (a v b x w d y : List ℕ) → PartsAre form kind (form_opener form kind ++ a) v b x → PartsAre form kind (form_opener form kind ++ a) w d y → (v ≡ w) × (x ≡ y)
 parts_once CookedForm kind a v b x w d y p q = cooked_once kind a v x w y p.0 q.0
 parts_once RawForm kind a v b x w d y p q = raw_once kind a v x w y p.0 q.0
 parts_once SingleForm kind a v b x w d y p q = single_once kind a v x w y p.0 q.0
 
-pub parts_read : (form : Form) (kind : Kind) (t v b x : List ℕ) → PartsAre form kind t v b x → ReadsQuoted t kind (quoted_contents kind v) x
+pub parts_read : (form : QuotedForm) (kind : Kind) (t v b x : List ℕ) → PartsAre form kind t v b x → ReadsQuoted t kind (quoted_contents kind v) x
 parts_read CookedForm kind t v b x p = record { value = v; form = inl p.0; contents_is = refl }
 parts_read RawForm kind t v b x p = record { value = v; form = inr (inl p.0); contents_is = refl }
 parts_read SingleForm kind t v b x p = record { value = v; form = inr (inr p.0); contents_is = refl }
 
 -- a reading, by its form
 pub record Formed (t : List ℕ) (kind : Kind) (value suffix : List ℕ) : Type 0 where
-  pub form : Form
+  pub form : QuotedForm
   pub inside : List ℕ
   pub body : List ℕ
   pub has : has_form form kind ≡ true
   pub text_is : t ≡ form_opener form kind ++ inside
   pub parts : PartsAre form kind t value body suffix
 
-pub parts_formed : (form : Form) (k : Kind) (t v b x : List ℕ) → PartsAre form k t v b x → Formed t k v x
+pub parts_formed : (form : QuotedForm) (k : Kind) (t v b x : List ℕ) → PartsAre form k t v b x → Formed t k v x
 parts_formed CookedForm k t v b x p = record { form = CookedForm; inside = _; body = b; has = p.0.string; text_is = p.0.text_is; parts = p }
 parts_formed RawForm k t v b x p = record { form = RawForm; inside = _; body = b; has = p.0.string; text_is = p.0.text_is; parts = p }
 parts_formed SingleForm k t v b x p = record { form = SingleForm; inside = _; body = b; has = p.0.single; text_is = p.0.text_is; parts = p }
@@ -221,7 +222,7 @@ formed t k v x r =
 
 -- a form, by its body
 pub record HasParts (kind : Kind) (t value body suffix : List ℕ) : Type 0 where
-  pub form : Form
+  pub form : QuotedForm
   pub parts : PartsAre form kind t value body suffix
   pub single : is_single kind ≡ true → (b : List ℕ) → is_plain_body form kind b ≡ false
 
@@ -232,28 +233,28 @@ pub single_has : (kind : Kind) (t v x : List ℕ) (s : Single kind t v x) → Ha
 single_has kind t v x s = record { form = SingleForm; parts = (s, refl); single = λ h b. refl }
 
 -- the front tells the reading's form and kind
-formed_front : (t : List ℕ) (k : Kind) (v x : List ℕ) (r : Formed t k v x) → front_at t ≡ told r.form k r.inside
-formed_front t k v x r = ap front_at r.text_is ∙ front_complete r.form k r.inside r.has
+formed_front : (t : List ℕ) (k : Kind) (v x : List ℕ) (r : Formed t k v x) → opener_at t ≡ found_opener r.form k r.inside
+formed_front t k v x r = ap opener_at r.text_is ∙ front_complete r.form k r.inside r.has
 
-told_same : (f g : Form) (k l : Kind) (a b : List ℕ) → told f k a ≡ told g l b → (f ≡ g) × (k ≡ l) × (a ≡ b)
+told_same : (f g : QuotedForm) (k l : Kind) (a b : List ℕ) → found_opener f k a ≡ found_opener g l b → (f ≡ g) × (k ≡ l) × (a ≡ b)
 told_same f g k l a b e =
-    let Triple : Type 0 = Form × Kind × List ℕ in
+    let Triple : Type 0 = QuotedForm × Kind × List ℕ in
     let p : Triple = (f, k, a) in
     let q : Triple = (g, l, b) in
     let same : p ≡ q = cc in
     (ap (λ z. z.0) same, ap (λ z. z.1) same, ap (λ z. z.2) same)
 
 -- what a reading is where the front is known
-pub record AtFront (form : Form) (kind : Kind) (inside : List ℕ) (k : Kind) (v x : List ℕ) : Type 0 where
+pub record AtFront (form : QuotedForm) (kind : Kind) (inside : List ℕ) (k : Kind) (v x : List ℕ) : Type 0 where
   pub kind_is : kind ≡ k
   pub body : List ℕ
   pub parts : PartsAre form kind (form_opener form kind ++ inside) v body x
 
-pub at_front : (t : List ℕ) (form : Form) (kind : Kind) (inside : List ℕ) (k : Kind) (v x : List ℕ) → front_at t ≡ told form kind inside → Formed t k v x → AtFront form kind inside k v x
+pub at_front : (t : List ℕ) (form : QuotedForm) (kind : Kind) (inside : List ℕ) (k : Kind) (v x : List ℕ) → opener_at t ≡ found_opener form kind inside → Formed t k v x → AtFront form kind inside k v x
 at_front t form kind inside k v x h r =
     let same = told_same form r.form kind k inside r.inside (sym h ∙ formed_front t k v x r) in
     let tells = front_sound t (form, kind, inside) h in
-    let Parts : Form → Kind → List ℕ → Type 0 = λ f l z. PartsAre f l z v r.body x in
+    let Parts : QuotedForm → Kind → List ℕ → Type 0 = λ f l z. PartsAre f l z v r.body x in
     record {
       kind_is = same.1;
       body = r.body;
@@ -276,18 +277,18 @@ quoted_once t k l v w x y p q =
 
 -- ---- the steps of the reader
 
-pub no_front : (t : List ℕ) → front_at t ≡ None → HasNoQuoted t
+pub no_front : (t : List ℕ) → opener_at t ≡ None → HasNoQuoted t
 no_front t h k v x p =
     let r = formed t k v x p in
-    let e : None ≡ told r.form k r.inside = sym h ∙ formed_front t k p.value x r in
+    let e : None ≡ found_opener r.form k r.inside = sym h ∙ formed_front t k p.value x r in
     absurd (cc)
 
-pub no_parts : (t : List ℕ) (form : Form) (kind : Kind) (inside : List ℕ) → front_at t ≡ told form kind inside → HasNoParts form kind (form_opener form kind ++ inside) → HasNoQuoted t
+pub no_parts : (t : List ℕ) (form : QuotedForm) (kind : Kind) (inside : List ℕ) → opener_at t ≡ found_opener form kind inside → HasNoParts form kind (form_opener form kind ++ inside) → HasNoQuoted t
 no_parts t form kind inside h none k v x p =
     let a = at_front t form kind inside k p.value x h (formed t k v x p) in
     none p.value a.body x a.parts
 
-pub parts_at_front : (t : List ℕ) (form : Form) (kind : Kind) (inside v b x : List ℕ) → front_at t ≡ told form kind inside → PartsAre form kind (form_opener form kind ++ inside) v b x → PartsAre form kind t v b x
+pub parts_at_front : (t : List ℕ) (form : QuotedForm) (kind : Kind) (inside v b x : List ℕ) → opener_at t ≡ found_opener form kind inside → PartsAre form kind (form_opener form kind ++ inside) v b x → PartsAre form kind t v b x
 parts_at_front t form kind inside v b x h p = subst (λ z. PartsAre form kind z v b x) (sym (front_sound t (form, kind, inside) h).text_is) p
 
 -- ---- where the kind is that of a character or a byte
@@ -302,13 +303,13 @@ not_both Int s h = absurd (cc)
 not_both Float s h = absurd (cc)
 not_both BoolKind s h = absurd (cc)
 
-single_here : (form : Form) (kind : Kind) (a v b x : List ℕ) → is_single kind ≡ true → PartsAre form kind (form_opener form kind ++ a) v b x → Single kind (opener kind ++ a) v x
+single_here : (form : QuotedForm) (kind : Kind) (a v b x : List ℕ) → is_single kind ≡ true → PartsAre form kind (form_opener form kind ++ a) v b x → Single kind (opener kind ++ a) v x
 single_here CookedForm kind a v b x h p = absurd (not_both kind p.0.string h)
 single_here RawForm kind a v b x h p = absurd (not_both kind p.0.string h)
 single_here SingleForm kind a v b x h p = p.0
 
 -- the unit behind the opener is the one of any reading
-pub single_unit : (t : List ℕ) (form : Form) (k : Kind) (inside : List ℕ) (kind : Kind) (v x : List ℕ) → is_single kind ≡ true → front_at t ≡ told form k inside → Formed t kind v x → (unit_at kind inside ≡ Some (v, 39 ∷ x)) × Single kind (opener kind ++ inside) v x
+pub single_unit : (t : List ℕ) (form : QuotedForm) (k : Kind) (inside : List ℕ) (kind : Kind) (v x : List ℕ) → is_single kind ≡ true → opener_at t ≡ found_opener form k inside → Formed t kind v x → (unit_at kind inside ≡ Some (v, 39 ∷ x)) × Single kind (opener kind ++ inside) v x
 single_unit t form k inside kind v x h front r =
     let a = at_front t form k inside kind v x front r in
     let parts = subst (λ l. PartsAre form l (form_opener form l ++ inside) v a.body x) a.kind_is a.parts in
@@ -316,7 +317,7 @@ single_unit t form k inside kind v x h front r =
     (single_at kind inside v x s, s)
 
 -- no reading of a string is of the single form
-pub string_parts : (form : Form) (kind : Kind) (t v b x : List ℕ) → is_string kind ≡ true → (form ≡ RawForm → ⊥) → PartsAre form kind t v b x → PartsAre CookedForm kind t v b x
+pub string_parts : (form : QuotedForm) (kind : Kind) (t v b x : List ℕ) → is_string kind ≡ true → (form ≡ RawForm → ⊥) → PartsAre form kind t v b x → PartsAre CookedForm kind t v b x
 string_parts CookedForm kind t v b x h not p = p
 string_parts RawForm kind t v b x h not p = absurd (not refl)
 string_parts SingleForm kind t v b x h not p = absurd (not_both kind h p.0.single)

@@ -7,21 +7,21 @@ use Rattle.std.proofs.lemmas.Str.{IsCharBoundary-start, IsCharBoundary-end, IsUt
 use Rattle.std.specs.Str.{chars, IsUtf8, IsCharBoundary}
 use Rattle.rl_tokens.specs.declared.kind.Kind.{Kind}
 use Rattle.rl_tokens.specs.declared.kind.Kind.TheVariants.{Str, ByteStr, CStr, Byte, Char, Int, Float, Bool as BoolKind}
-use Rattle.rl_tokens.specs.Texts.{IsBehind}
+use Rattle.rl_tokens.specs.Texts.{IsTail}
 use Rattle.rl_tokens.specs.Numbers.{FloatReads, float_digits}
 use Rattle.rl_tokens.specs.Quoted.{is_string, is_single}
 use Rattle.rl_tokens.specs.Reading.{Digits, Truth, HasNoInteger, HasSuffix, ReadsAs, ReadsQuoted, quoted_contents, truth_text}
 use Rattle.rl_tokens.proofs.BehindLemmas.{cut_boundary, cut_drop}
-use Rattle.rl_grammar.specs.declared.quoted.Form.{Form}
-use Rattle.rl_grammar.specs.declared.quoted.Form.TheVariants.{Cooked as CookedForm, Raw as RawForm, Single as SingleForm}
+use Rattle.rl_grammar.specs.declared.quoted.QuotedForm.{QuotedForm}
+use Rattle.rl_grammar.specs.declared.quoted.QuotedForm.TheVariants.{Cooked as CookedForm, Raw as RawForm, Single as SingleForm}
 use Rattle.rl_grammar.specs.declared.bodies.Body.{Body}
 use Rattle.rl_grammar.specs.declared.found.Found.{Found}
 use Rattle.rl_grammar.specs.Forms.{PartsAre, is_plain_body}
 use Rattle.rl_grammar.specs.Founds.{IsFound, IsFoundFloat, IsQuotedAt, StandsIn, body_in, suffix_in, is_quoted}
-use Rattle.rl_grammar.specs.NumberShapes.{IsWithin, IsCutInteger}
-use Rattle.rl_grammar.specs.PlainAt.{is_plain_integer, is_plain_float}
-use Rattle.rl_grammar.specs.Shapes.{IsQuotedCut}
-use Rattle.rl_grammar.specs.WholeShapes.{IsCut, IsPlain}
+use Rattle.rl_grammar.specs.NumberShapes.{HasMagnitude, IsSplitInteger}
+use Rattle.rl_grammar.specs.Mirrors.PlainAt.{is_plain_integer, is_plain_float}
+use Rattle.rl_grammar.specs.Shapes.{IsQuotedSplit}
+use Rattle.rl_grammar.specs.WholeShapes.{IsSplit, IsPlain}
 use Rattle.rl_grammar.proofs.BodyLemmas.{plain_parts, parts_plain}
 use Rattle.rl_grammar.proofs.FormLemmas.{not_both, parts_read}
 use Rattle.rl_grammar.proofs.IntegerLemmas.{within_reads}
@@ -37,7 +37,7 @@ body_text t body u s = IsUtf8-between t body.at body.end u s.ordered s.begins s.
 pub suffix_text : (t : List ℕ) (body : Body) → IsUtf8 t → StandsIn t body → IsUtf8 (suffix_in t body)
 suffix_text t body u s = IsUtf8-drop t body.suffix_at u s.behind
 
-pub quoted_cut : (kind : Kind) (t : List ℕ) (body : Body) → IsUtf8 t → IsQuotedAt kind t body → IsQuotedCut kind t (body_in t body) (suffix_in t body)
+pub quoted_cut : (kind : Kind) (t : List ℕ) (body : Body) → IsUtf8 t → IsQuotedAt kind t body → IsQuotedSplit kind t (body_in t body) (suffix_in t body)
 quoted_cut kind t body u q = parts_cut q.form kind t q.value (body_in t body) (suffix_in t body) u (body_text t body u q.stands) (suffix_text t body u q.stands) q.parts
 
 pub quoted_reads : (kind : Kind) (t : List ℕ) (body : Body) (q : IsQuotedAt kind t body) → ReadsQuoted (chars t) kind (quoted_contents kind q.value) (chars (suffix_in t body))
@@ -55,7 +55,7 @@ string_plain kind t body s u q =
     )
 
 -- a character's or a byte's body isn't taken as it stands
-single_form : (form : Form) (kind : Kind) (t v b x : List ℕ) → is_single kind ≡ true → PartsAre form kind t v b x → is_plain_body form kind b ≡ false
+single_form : (form : QuotedForm) (kind : Kind) (t v b x : List ℕ) → is_single kind ≡ true → PartsAre form kind t v b x → is_plain_body form kind b ≡ false
 single_form CookedForm kind t v b x s p = absurd (not_both kind p.0.string s)
 single_form RawForm kind t v b x s p = absurd (not_both kind p.0.string s)
 single_form SingleForm kind t v b x s p = refl
@@ -65,7 +65,7 @@ single_plain kind t body s none q =
     let other = q.plain_is ∙ single_form q.form kind (chars t) q.value (chars (body_in t body)) (chars (suffix_in t body)) s q.parts in
     ((λ e. absurd (both_ways body.plain other e)), (λ p. absurd (none p)))
 
-form_quoted : (form : Form) (kind : Kind) (t v b x : List ℕ) → PartsAre form kind t v b x → (is_string kind ≡ true) ⊎ (is_single kind ≡ true)
+form_quoted : (form : QuotedForm) (kind : Kind) (t v b x : List ℕ) → PartsAre form kind t v b x → (is_string kind ≡ true) ⊎ (is_single kind ≡ true)
 form_quoted CookedForm kind t v b x p = inl p.0.string
 form_quoted RawForm kind t v b x p = inl p.0.string
 form_quoted SingleForm kind t v b x p = inr p.0.single
@@ -105,7 +105,7 @@ record Cut (t b x : List ℕ) (n : ℕ) : Type 0 where
   pub boundary : IsCharBoundary t n
   pub chars_cut : chars t ≡ chars b ++ chars x
 
-number_cut : (t b x : List ℕ) (n : ℕ) → IsUtf8 b → IsBehind t x → t ≡ b ++ x → n ≡ length t - length x → Cut t b x n
+number_cut : (t b x : List ℕ) (n : ℕ) → IsUtf8 b → IsTail t x → t ≡ b ++ x → n ≡ length t - length x → Cut t b x n
 number_cut t b x n ub behind e n_is =
     let long : n - 0 ≡ length b = omega (arith, n_is, ap length e, length-append b x) in
     record {
@@ -118,11 +118,11 @@ number_cut t b x n ub behind e n_is =
 number_stands : (t : List ℕ) (n : ℕ) (plain : Bool) → IsUtf8 t → IsCharBoundary t n → StandsIn t (NumberBody n plain)
 number_stands t n plain u h = record { ordered = omega arith; begins = IsCharBoundary-start t u; ends = h; behind = h }
 
-integer_body : (t b x : List ℕ) (m n : ℕ) (plain : Bool) → IsUtf8 t → IsUtf8 b → IsWithin (chars t) m (chars x) → IsBehind t x → t ≡ b ++ x → n ≡ length t - length x → plain ≡ is_plain_integer (chars b) → IsFound t (Of Int (NumberBody n plain) m)
+integer_body : (t b x : List ℕ) (m n : ℕ) (plain : Bool) → IsUtf8 t → IsUtf8 b → HasMagnitude (chars t) m (chars x) → IsTail t x → t ≡ b ++ x → n ≡ length t - length x → plain ≡ is_plain_integer (chars b) → IsFound t (Of Int (NumberBody n plain) m)
 integer_body t b x m n plain ut ub within behind e n_is plain_is =
     let c = number_cut t b x n ub behind e n_is in
-    let at : IsWithin (chars t) m (chars (drop n t)) = subst (λ z. IsWithin (chars t) m (chars z)) (sym c.suffix_is) within in
-    let cut : IsCutInteger (chars t) m (chars b) = record { suffix = chars x; within = within; cut = c.chars_cut } in
+    let at : HasMagnitude (chars t) m (chars (drop n t)) = subst (λ z. HasMagnitude (chars t) m (chars z)) (sym c.suffix_is) within in
+    let cut : IsSplitInteger (chars t) m (chars b) = record { suffix = chars x; within = within; cut = c.chars_cut } in
     record {
       reads = within_reads (chars t) (chars (drop n t)) m at;
       cut = e ∙ sym (ap₂ (λ y z. y ++ z) c.body_is c.suffix_is);
@@ -133,10 +133,10 @@ integer_body t b x m n plain ut ub within behind e n_is plain_is =
       no_magnitude = λ h. absurd (h refl);
     }
 
-pub integer_found : (t b x : List ℕ) (m n : ℕ) (plain : Bool) (body : Body) → body ≡ NumberBody n plain → IsUtf8 t → IsUtf8 b → IsWithin (chars t) m (chars x) → IsBehind t x → t ≡ b ++ x → n ≡ length t - length x → plain ≡ is_plain_integer (chars b) → IsFound t (Of Int body m)
+pub integer_found : (t b x : List ℕ) (m n : ℕ) (plain : Bool) (body : Body) → body ≡ NumberBody n plain → IsUtf8 t → IsUtf8 b → HasMagnitude (chars t) m (chars x) → IsTail t x → t ≡ b ++ x → n ≡ length t - length x → plain ≡ is_plain_integer (chars b) → IsFound t (Of Int body m)
 integer_found t b x m n plain body body_is ut ub within behind e n_is plain_is = subst (λ z. IsFound t (Of Int z m)) (sym body_is) (integer_body t b x m n plain ut ub within behind e n_is plain_is)
 
-float_body : (t b x numeral : List ℕ) (n : ℕ) (plain : Bool) → IsUtf8 t → IsUtf8 b → FloatReads (chars t) numeral (chars x) → IsBehind t x → t ≡ b ++ x → n ≡ length t - length x → plain ≡ is_plain_float (chars b) → IsFoundFloat t (Of Float (NumberBody n plain) 0)
+float_body : (t b x numeral : List ℕ) (n : ℕ) (plain : Bool) → IsUtf8 t → IsUtf8 b → FloatReads (chars t) numeral (chars x) → IsTail t x → t ≡ b ++ x → n ≡ length t - length x → plain ≡ is_plain_float (chars b) → IsFoundFloat t (Of Float (NumberBody n plain) 0)
 float_body t b x numeral n plain ut ub reads behind e n_is plain_is =
     let c = number_cut t b x n ub behind e n_is in
     let same : numeral ≡ chars b = append_cancel_right numeral (chars b) (chars x) (sym reads.text_is ∙ c.chars_cut) in
@@ -150,7 +150,7 @@ float_body t b x numeral n plain ut ub reads behind e n_is plain_is =
       no_magnitude = refl;
     }
 
-pub float_found : (t b x numeral : List ℕ) (n : ℕ) (plain : Bool) (body : Body) → body ≡ NumberBody n plain → IsUtf8 t → IsUtf8 b → FloatReads (chars t) numeral (chars x) → IsBehind t x → t ≡ b ++ x → n ≡ length t - length x → plain ≡ is_plain_float (chars b) → IsFoundFloat t (Of Float body 0)
+pub float_found : (t b x numeral : List ℕ) (n : ℕ) (plain : Bool) (body : Body) → body ≡ NumberBody n plain → IsUtf8 t → IsUtf8 b → FloatReads (chars t) numeral (chars x) → IsTail t x → t ≡ b ++ x → n ≡ length t - length x → plain ≡ is_plain_float (chars b) → IsFoundFloat t (Of Float body 0)
 float_found t b x numeral n plain body body_is ut ub reads behind e n_is plain_is = subst (λ z. IsFoundFloat t (Of Float z 0)) (sym body_is) (float_body t b x numeral n plain ut ub reads behind e n_is plain_is)
 
 -- a float is found where no integer stands
@@ -159,7 +159,7 @@ float_alone t f none h =
     let back = sym h.kind in
     record {
       reads = subst (λ k. HasSuffix k (chars t) (chars (suffix_in t f.body))) back (Digits (float_digits (chars (body_in t f.body))), record { numeral = chars (body_in t f.body); reads = h.reads; no_integer = none; contents_is = refl });
-      cut = subst (λ k. IsCut k t (body_in t f.body) (suffix_in t f.body)) back h.cut;
+      cut = subst (λ k. IsSplit k t (body_in t f.body) (suffix_in t f.body)) back h.cut;
       stands = h.stands;
       plain = subst (λ k. Whether f.body.plain k t) back h.plain;
       quoted = λ q. absurd (both_ways (is_quoted f.kind) (ap is_quoted h.kind) q);

@@ -6,11 +6,11 @@ use Rattle.std.specs.Str.{chars}
 use Rattle.rl_tokens.specs.declared.kind.Kind.{Kind}
 use Rattle.rl_tokens.specs.declared.kind.Kind.TheVariants.{Bool as BoolKind}
 use Rattle.rl_tokens.specs.Puncts.{Mark}
-use Rattle.rl_tokens.specs.Tokens.{Token}
+use Rattle.rl_tokens.specs.Texts.{SpannedText}
 use Rattle.rl_tokens.specs.Trees.{Tree, GroupTree, IdentTree, PunctTree, LiteralTree}
 use Rattle.rl_tokens.specs.Reading.{Truth, ReadsAs, truth_text}
 use Rattle.rl_tokens.specs.Buffers.{begins_literal, IsRest}
-use Rattle.rl_tokens.specs.Fronts.{IsFront, IsFrontOf, HasNoFront, HasFrontOf, joined}
+use Rattle.rl_grammar.specs.Fronts.{IsFront, IsFrontOf, HasNoFront, HasFrontOf, joined}
 use Rattle.rl_tokens.proofs.OneReading.{one_reading}
 use Rattle.rl_tokens.proofs.TreeRests.{rest_one, rest_two}
 use Rattle.rl_grammar.specs.declared.found.Found.{Found}
@@ -32,7 +32,7 @@ no_front (PunctTree p ∷ GroupTree d inside at ∷ trees) l w m token rest h = 
 no_front (GroupTree d inside at ∷ trees) l w m token rest h = h
 
 -- at most one literal begins the trees
-pub one_front : (trees : List Tree) (a b : Token) (r s : List Tree) → IsFront trees a r → IsFront trees b s → (a ≡ b) × (r ≡ s)
+pub one_front : (trees : List Tree) (a b : SpannedText) (r s : List Tree) → IsFront trees a r → IsFront trees b s → (a ≡ b) × (r ≡ s)
 one_front [] a b r s h k = absurd h
 one_front (LiteralTree x ∷ trees) a b r s (e, f) (g, h) = (e ∙ sym g, f ∙ sym h)
 one_front (IdentTree x ∷ trees) a b r s (_, e, f) (_, g, h) = (e ∙ sym g, f ∙ sym h)
@@ -44,7 +44,7 @@ one_front (PunctTree p ∷ GroupTree d inside at ∷ trees) a b r s h k = absurd
 one_front (GroupTree d inside at ∷ trees) a b r s h k = absurd h
 
 -- behind a literal the rest stands
-pub front_rest : (trees rest : List Tree) (token : Token) → IsFront trees token rest → IsRest trees rest
+pub front_rest : (trees rest : List Tree) (token : SpannedText) → IsFront trees token rest → IsRest trees rest
 front_rest [] rest token h = absurd h
 front_rest (LiteralTree x ∷ trees) rest token (_, f) = rest_one _ _ _ (ap (λ ts. LiteralTree x ∷ ts) (sym f))
 front_rest (IdentTree x ∷ trees) rest token (_, _, f) = rest_one _ _ _ (ap (λ ts. IdentTree x ∷ ts) (sym f))
@@ -56,7 +56,7 @@ front_rest (PunctTree p ∷ GroupTree d inside at ∷ trees) rest token h = absu
 front_rest (GroupTree d inside at ∷ trees) rest token h = absurd h
 
 -- and is shorter
-pub front_shorter : (trees : List Tree) (token : Token) (rest : List Tree) → IsFront trees token rest → length rest < length trees
+pub front_shorter : (trees : List Tree) (token : SpannedText) (rest : List Tree) → IsFront trees token rest → length rest < length trees
 front_shorter [] token rest h = absurd h
 front_shorter (LiteralTree x ∷ trees) token rest (e, f) = omega (arith, ap length f)
 front_shorter (IdentTree x ∷ trees) token rest (_, e, f) = omega (arith, ap length f)
@@ -68,7 +68,7 @@ front_shorter (PunctTree p ∷ GroupTree d inside at ∷ trees) token rest h = a
 front_shorter (GroupTree d inside at ∷ trees) token rest h = absurd h
 
 -- a literal at the front that reads as the kind is one of it
-pub front_of : (kind : Kind) (trees : List Tree) (token : Token) (rest : List Tree) → IsFront trees token rest → ReadsAs kind (chars token.text) → IsFrontOf kind trees token rest
+pub front_of : (kind : Kind) (trees : List Tree) (token : SpannedText) (rest : List Tree) → IsFront trees token rest → ReadsAs kind (chars token.text) → IsFrontOf kind trees token rest
 front_of kind trees token rest h r = record { front = h; reads = r; shorter = front_shorter trees token rest h }
 
 -- a text reads as one kind
@@ -81,12 +81,12 @@ found_as kind t (Some f) found is none = ((λ h. subst (λ k. ReadsAs k (chars t
 found_as kind t None found is none = ((λ h. absurd (cc)), (λ r. absurd (none r)))
 
 -- what one literal at the front reads as, each does
-pub same_front : (k : Kind) (trees : List Tree) (token : Token) (rest : List Tree) → IsFront trees token rest → HasFrontOf k trees → ReadsAs k (chars token.text)
+pub same_front : (k : Kind) (trees : List Tree) (token : SpannedText) (rest : List Tree) → IsFront trees token rest → HasFrontOf k trees → ReadsAs k (chars token.text)
 same_front k trees token rest h (other, left, of) =
-    subst (λ (x : Token). ReadsAs k (chars x.text)) ((one_front trees other token left rest of.front h).0) of.reads
+    subst (λ (x : SpannedText). ReadsAs k (chars x.text)) ((one_front trees other token left rest of.front h).0) of.reads
 
 -- where a literal that doesn't read as the kind begins the trees, none of the kind does
-pub other_of : (kind : Kind) (trees : List Tree) (token : Token) (rest : List Tree) → IsFront trees token rest → (ReadsAs kind (chars token.text) → ⊥) → HasFrontOf kind trees → ⊥
+pub other_of : (kind : Kind) (trees : List Tree) (token : SpannedText) (rest : List Tree) → IsFront trees token rest → (ReadsAs kind (chars token.text) → ⊥) → HasFrontOf kind trees → ⊥
 other_of kind trees token rest h other has = other (same_front kind trees token rest h has)
 
 -- a word that is a truth value reads as it
@@ -104,7 +104,7 @@ minus_chars [] = refl
 minus_chars (b ∷ bs) = refl
 
 -- a minus and a literal that read together begin the trees
-pub negative_front : (trees behind rest : List Tree) (m : Mark) (l : Token) (f : Found) → trees ≡ PunctTree m ∷ behind → behind ≡ LiteralTree l ∷ rest → m.ch ≡ 45 → IsFound (45 ∷ l.text) f → IsFront trees (joined m l) rest
+pub negative_front : (trees behind rest : List Tree) (m : Mark) (l : SpannedText) (f : Found) → trees ≡ PunctTree m ∷ behind → behind ≡ LiteralTree l ∷ rest → m.ch ≡ 45 → IsFound (45 ∷ l.text) f → IsFront trees (joined m l) rest
 negative_front trees behind rest m l f first second minus found =
     subst (λ ts. IsFront ts (joined m l) rest) (sym (first ∙ ap (λ ts. PunctTree m ∷ ts) second))
     (minus, (f.kind, subst (ReadsAs f.kind) (minus_chars l.text) (found_reads (45 ∷ l.text) f found)), refl, refl)

@@ -3,8 +3,8 @@ use Rattle.std.proofs.Common.{◌≡◌, ℕ, Bool, true, false, not, ◌&&◌, 
 use Rattle.std.proofs.lemmas.Bool.{and_parts, eqb-true}
 use Rattle.std.specs.Char.{is_ascii_digit}
 use Rattle.rl_tokens.specs.Numbers.{Sign}
-use Rattle.rl_tokens.specs.Texts.{passes}
-use Rattle.rl_grammar.specs.NumberAt.{after_digits, after_fraction, after_exponent, after_minus, based_at, capped, capped_int, ended_at, float_at, float_tail_at, has_digit_at, int_at, is_suffix, IsHead, magnitude_at, may_begin, may_end, radix_at, radix_of, sign_at, with_sign}
+use Rattle.rl_tokens.specs.Texts.{first_passes}
+use Rattle.rl_grammar.specs.Mirrors.NumberAt.{after_digits, after_fraction, after_exponent, after_minus, based_at, capped, capped_int, ended_at, float_at, float_tail_at, has_digit_at, int_at, is_suffix, IsHead, magnitude_at, may_begin, may_end, radix_at, radix_of, sign_at, with_sign}
 
 abbrev ten : List ℕ → ℕ × List ℕ
 ten u = (10, u)
@@ -14,18 +14,18 @@ abbrev chosen : Bool → ℕ → List ℕ → List ℕ → ℕ × List ℕ
 chosen b r cs u = cond b (r, cs) (ten u)
 
 -- where a digit stands, the base asks no more
-begins : (u : List ℕ) → passes is_ascii_digit u ≡ true → may_begin (radix_at u).0 (radix_at u).1 ≡ true
+begins : (u : List ℕ) → first_passes is_ascii_digit u ≡ true → may_begin (radix_at u).0 (radix_at u).1 ≡ true
 unfolding radix_at
 begins [] h = absurd (cc)
 begins (z ∷ []) h = h
 begins (z ∷ c ∷ cs) h = go (z == 48 && not (radix_of c == 10)) refl
   where
     go : (b : Bool) → (z == 48 && not (radix_of c == 10)) ≡ b → may_begin (chosen b (radix_of c) cs (z ∷ c ∷ cs)).0 (chosen b (radix_of c) cs (z ∷ c ∷ cs)).1 ≡ true
-    go true e = ap (λ b. b || passes is_ascii_digit cs) (and_parts (z == 48) (not (radix_of c == 10)) e).1
+    go true e = ap (λ b. b || first_passes is_ascii_digit cs) (and_parts (z == 48) (not (radix_of c == 10)) e).1
     go false e = h
 
 -- where none stands, no other base is named
-no_base : (u : List ℕ) → passes is_ascii_digit u ≡ false → radix_at u ≡ ten u
+no_base : (u : List ℕ) → first_passes is_ascii_digit u ≡ false → radix_at u ≡ ten u
 unfolding radix_at
 no_base [] h = refl
 no_base (z ∷ []) h = refl
@@ -55,7 +55,7 @@ capped_cond s true n x = refl
 capped_cond s false n x = refl
 
 -- without a digit behind the sign no integer stands
-pub no_head_int : (t : List ℕ) → passes is_ascii_digit (after_minus t) ≡ false → None ≡ capped_int (int_at t)
+pub no_head_int : (t : List ℕ) → first_passes is_ascii_digit (after_minus t) ≡ false → None ≡ capped_int (int_at t)
 unfolding int_at based_at
 no_head_int t h =
     let u = after_minus t in
@@ -68,7 +68,7 @@ no_head_int t h =
     )
 
 -- nor a float
-pub no_head_float : (t : List ℕ) → passes is_ascii_digit (after_minus t) ≡ false → None ≡ float_at t
+pub no_head_float : (t : List ℕ) → first_passes is_ascii_digit (after_minus t) ≡ false → None ≡ float_at t
 unfolding float_at
 no_head_float t h =
     let x = after_exponent (after_fraction (after_digits 10 (after_minus t))) in
@@ -101,7 +101,7 @@ head_float t r some m x h e =
     ap float_tail_at is ∙ sym (ap (λ b. cond (b && is_suffix y) (Some y) None) h.first)
 
 -- what is read is the head
-pub head_read : (u ds x : List ℕ) (r : ℕ) (some : Bool) (m : Option ℕ) → passes is_ascii_digit u ≡ true → ◌≡◌ {A = ℕ × List ℕ} (r, ds) (radix_at u) → some ≡ has_digit_at r ds → m ≡ capped (magnitude_at r ds) → x ≡ after_digits r ds → IsHead u r some m x
+pub head_read : (u ds x : List ℕ) (r : ℕ) (some : Bool) (m : Option ℕ) → first_passes is_ascii_digit u ≡ true → ◌≡◌ {A = ℕ × List ℕ} (r, ds) (radix_at u) → some ≡ has_digit_at r ds → m ≡ capped (magnitude_at r ds) → x ≡ after_digits r ds → IsHead u r some m x
 head_read u ds x r some m first base has within rest = record {
   first = first;
   base = ap (λ p. p.0) base;

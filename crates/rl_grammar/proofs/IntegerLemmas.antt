@@ -5,20 +5,21 @@ use Rattle.std.proofs.lemmas.Bool.Decides.{nat_tests}
 use Rattle.std.specs.Char.{is_ascii_digit}
 use Rattle.std.specs.List.{list_all, list_any}
 use Rattle.std.specs.Prelude.{IsTrue}
-use Rattle.rl_tokens.specs.Texts.{passes, begins, xid_ok}
+use Rattle.rl_tokens.specs.Texts.{first_passes, begins, xid_ok}
 use Rattle.rl_tokens.specs.Quoted.{place_value, without_underscores}
-use Rattle.rl_tokens.specs.Numbers.{Base, Binary, Octal, Decimal, Hexadecimal, radix, prefix, Sign, NoSign, Minus, sign_text, begins_base, IsFront, IsSuffix, is_exponent_letter, IsExponentSuffix, IsSuffixOf, IntReads, limit}
+use Rattle.rl_tokens.specs.Numbers.{Base, Binary, Octal, Decimal, Hexadecimal, radix, prefix, Sign, NoSign, Minus, sign_text, begins_base, IsBehindPrefix, IsSuffix, is_exponent_letter, IsExponentSuffix, AllowsSuffix, IntReads, limit}
 use Rattle.std.specs.Fmt.{decimal}
 use Rattle.rl_tokens.specs.Reading.{Contents, Digits, HasNoInteger, ReadsInt}
 use Rattle.rl_tokens.proofs.Basics.{any_same, digit_is_ten}
 use Rattle.rl_tokens.proofs.StrictNumbers.{no_part}
-use Rattle.rl_grammar.specs.NumberShapes.{IsPast, IsWithin}
-use Rattle.rl_grammar.specs.NumberAt.{run, after_run, is_part, has_value, is_suffix, digits_at, has_digit_at, magnitude_at, after_digits, is_exponent_suffix, after_minus, sign_at, radix_at, may_begin, may_end, based_at, with_sign, int_at, capped, capped_int}
+use Rattle.rl_tokens.specs.Reading.{IsPast}
+use Rattle.rl_grammar.specs.NumberShapes.{HasMagnitude}
+use Rattle.rl_grammar.specs.Mirrors.NumberAt.{run, after_run, is_part, has_value, is_suffix, digit_row_at, has_digit_at, magnitude_at, after_digits, is_exponent_suffix, after_minus, sign_at, radix_at, may_begin, may_end, based_at, with_sign, int_at, capped, capped_int}
 use Rattle.rl_grammar.proofs.DigitRowLemmas.{within_or_past, capped_within, capped_past}
 use Rattle.rl_grammar.proofs.RunLemmas.{run_all, run_ends, run_join, run_past, suffix_complete, suffix_sound}
 
 -- Exponents in a suffix.
-rest_suffix : (x : List ℕ) → (x ≡ []) ⊎ IsTrue (xid_ok x) → passes (is_part 10) x ≡ false → is_suffix x ≡ true
+rest_suffix : (x : List ℕ) → (x ≡ []) ⊎ IsTrue (xid_ok x) → first_passes (is_part 10) x ≡ false → is_suffix x ≡ true
 rest_suffix [] h k = refl
 rest_suffix (c ∷ cs) h k = suffix_complete (c ∷ cs) (h, go (has_value 10 c) k)
   where
@@ -44,18 +45,18 @@ exponent_suffix_sound (c ∷ cs) h =
     let b = and_parts (has_digit_at 10 cs) (is_suffix (after_digits 10 cs)) a.1 in
     record {
       letter = c;
-      run = digits_at 10 cs;
+      run = digit_row_at 10 cs;
       rest = after_digits 10 cs;
       is_letter = a.0;
       each = run_all (is_part 10) cs;
-      some = any_same is_ascii_digit (has_value 10) digit_is_ten (digits_at 10 cs) ∙ b.0;
+      some = any_same is_ascii_digit (has_value 10) digit_is_ten (digit_row_at 10 cs) ∙ b.0;
       whole = run_ends (is_part 10) cs;
       is_rest = (suffix_sound (after_digits 10 cs) b.1).0;
       text_is = ap (λ z. c ∷ z) (run_join (is_part 10) cs);
     }
 
 -- Completeness.
-pub minus_past : (s : Sign) (u : List ℕ) → passes is_ascii_digit u ≡ true → (after_minus (sign_text s ++ u) ≡ u) × (sign_at (sign_text s ++ u) ≡ s)
+pub minus_past : (s : Sign) (u : List ℕ) → first_passes is_ascii_digit u ≡ true → (after_minus (sign_text s ++ u) ≡ u) × (sign_at (sign_text s ++ u) ≡ s)
 minus_past Minus u h = (refl, refl)
 minus_past NoSign [] h = absurd (cc)
 minus_past NoSign (c ∷ cs) h =
@@ -77,7 +78,7 @@ not_based (z ∷ c ∷ cs) h = go (z == 48) (c == 98) (c == 111) (c == 120) h
     go true false false false e = refl
 
 -- the prefix of each base is taken off
-pub radix_past : (base : Base) (w : List ℕ) → IsFront base w → (radix_at (prefix base ++ w) ≡ (radix base, w)) × (passes is_ascii_digit (prefix base ++ w) ≡ true)
+pub radix_past : (base : Base) (w : List ℕ) → IsBehindPrefix base w → (radix_at (prefix base ++ w) ≡ (radix base, w)) × (first_passes is_ascii_digit (prefix base ++ w) ≡ true)
 unfolding radix_at
 radix_past Binary w h = (refl, refl)
 radix_past Octal w h = (refl, refl)
@@ -85,21 +86,21 @@ radix_past Hexadecimal w h = (refl, refl)
 radix_past Decimal w h = (not_based w h.1, h.0)
 
 -- what the base asks of the front
-base_begins : (base : Base) (w : List ℕ) → IsFront base w → may_begin (radix base) w ≡ true
+base_begins : (base : Base) (w : List ℕ) → IsBehindPrefix base w → may_begin (radix base) w ≡ true
 base_begins Binary w h = refl
 base_begins Octal w h = refl
 base_begins Decimal w h = h.0
 base_begins Hexadecimal w h = refl
 
 -- what the base asks of the suffix
-base_ends : (base : Base) (x : List ℕ) → IsSuffix x → IsSuffixOf base x → may_end (radix base) x ≡ true
+base_ends : (base : Base) (x : List ℕ) → IsSuffix x → AllowsSuffix base x → may_end (radix base) x ≡ true
 base_ends Binary x h k = and_from (is_suffix x) true (suffix_complete x h) refl
 base_ends Octal x h k = and_from (is_suffix x) true (suffix_complete x h) refl
 base_ends Hexadecimal x h k = and_from (is_suffix x) true (suffix_complete x h) refl
 base_ends Decimal x h k = and_from (is_suffix x) (not (is_exponent_suffix x)) (suffix_complete x h) (not_from_false (is_exponent_suffix x) (false_from_ne_true (is_exponent_suffix x) (λ e. k (exponent_suffix_sound x e))))
 
 -- digits and suffix are read
-based_past : (r : ℕ) (ds x : List ℕ) → may_begin r (ds ++ x) ≡ true → list_all (is_part r) ds ≡ true → list_any (has_value r) ds ≡ true → passes (is_part r) x ≡ false → may_end r x ≡ true → based_at r (ds ++ x) ≡ Some (place_value r (without_underscores ds), x)
+based_past : (r : ℕ) (ds x : List ℕ) → may_begin r (ds ++ x) ≡ true → list_all (is_part r) ds ≡ true → list_any (has_value r) ds ≡ true → first_passes (is_part r) x ≡ false → may_end r x ≡ true → based_at r (ds ++ x) ≡ Some (place_value r (without_underscores ds), x)
 unfolding based_at
 based_past r ds x front each some stops ends =
     let p = run_past (is_part r) ds x each stops in
@@ -132,7 +133,7 @@ pub record Based (t : List ℕ) : Type 0 where
   pub rest : List ℕ
   pub at : radix_at t ≡ (radix base, rest)
   pub text_is : t ≡ prefix base ++ rest
-  pub front : may_begin (radix base) rest ≡ true → IsFront base rest
+  pub front : may_begin (radix base) rest ≡ true → IsBehindPrefix base rest
 
 -- what a text begins with is its front
 pub begins_is : (p t : List ℕ) → begins p t ≡ true → (rest : List ℕ) × (t ≡ p ++ rest)
@@ -183,7 +184,7 @@ sign_join (c ∷ cs) = go (c == 45) refl
     go false h = refl
 
 -- behind a row of base 16 no digit of it follows
-pub hex_stops : (x : List ℕ) → passes (is_part 16) x ≡ false → passes (has_value 16) x ≡ false
+pub hex_stops : (x : List ℕ) → first_passes (is_part 16) x ≡ false → first_passes (has_value 16) x ≡ false
 hex_stops [] h = refl
 hex_stops (c ∷ cs) h = go (has_value 16 c) h
   where
@@ -192,7 +193,7 @@ hex_stops (c ∷ cs) h = go (has_value 16 c) h
     go false e = refl
 
 -- what the base asks of the suffix, from the test
-suffix_of : (base : Base) (x : List ℕ) → passes (is_part (radix base)) x ≡ false → may_end (radix base) x ≡ true → IsSuffixOf base x
+suffix_of : (base : Base) (x : List ℕ) → first_passes (is_part (radix base)) x ≡ false → may_end (radix base) x ≡ true → AllowsSuffix base x
 suffix_of Binary x h k = tt
 suffix_of Octal x h k = tt
 suffix_of Hexadecimal x h k = hex_stops x h
@@ -209,7 +210,7 @@ int_built t b front some ends =
     record {
       base = b.base;
       digits = run part b.rest;
-      front = subst (λ (z : List ℕ). IsFront b.base z) (run_join part b.rest) (b.front front);
+      front = subst (λ (z : List ℕ). IsBehindPrefix b.base z) (run_join part b.rest) (b.front front);
       each = run_all part b.rest;
       some = some;
       is_suffix = suffix_sound (after_run part b.rest) (end_suffix (radix b.base) (after_run part b.rest) ends);
@@ -290,7 +291,7 @@ is_past t x h =
     record { sign = k.0.0; magnitude = k.0.1; suffix = k.0.2; reads = int_sound t k.0 k.1; past = capped_none k.0.1 (sym (ap (λ q. q.0) k.2)) }
 
 -- what is read with a magnitude is within the limit
-pub is_within : (t x : List ℕ) (m : ℕ) → Some (Some m, x) ≡ capped_int (int_at t) → IsWithin t m x
+pub is_within : (t x : List ℕ) (m : ℕ) → Some (Some m, x) ≡ capped_int (int_at t) → HasMagnitude t m x
 is_within t x m h =
     let k = some_int (int_at t) (Some m, x) h in
     let c = capped_some k.0.1 m (sym (ap (λ q. q.0) k.2)) in
@@ -305,14 +306,14 @@ pub is_past_at : (t x : List ℕ) (k : Option ℕ) → Some (k, x) ≡ capped_in
 is_past_at t x k h e = is_past t x (sym (ap (λ o. Some (o, x)) e) ∙ h)
 
 -- the same, by equations
-pub is_within_at : (t x y : List ℕ) (m : ℕ) (k : Option ℕ) → Some (k, x) ≡ capped_int (int_at t) → k ≡ Some m → y ≡ x → IsWithin t m y
+pub is_within_at : (t x y : List ℕ) (m : ℕ) (k : Option ℕ) → Some (k, x) ≡ capped_int (int_at t) → k ≡ Some m → y ≡ x → HasMagnitude t m y
 is_within_at t x y m k h e q = is_within t y m (ap (λ z. Some (Some m, z)) q ∙ sym (ap (λ o. Some (o, x)) e) ∙ h)
 
 -- an integer within the limit is a literal
-pub within_reads : (t x : List ℕ) (m : ℕ) → IsWithin t m x → (v : Contents) × ReadsInt t v x
+pub within_reads : (t x : List ℕ) (m : ℕ) → HasMagnitude t m x → (v : Contents) × ReadsInt t v x
 within_reads t x m w =
     (Digits (sign_text w.sign ++ decimal m), record { sign = w.sign; magnitude = m; reads = w.reads; within = w.within; contents_is = refl })
 
 -- and a literal of that kind is an integer within the limit
-pub reads_within : (t x : List ℕ) (v : Contents) (r : ReadsInt t v x) → IsWithin t r.magnitude x
+pub reads_within : (t x : List ℕ) (v : Contents) (r : ReadsInt t v x) → HasMagnitude t r.magnitude x
 reads_within t x v r = record { sign = r.sign; reads = r.reads; within = r.within }

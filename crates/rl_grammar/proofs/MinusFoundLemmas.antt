@@ -5,15 +5,15 @@ use Rattle.std.proofs.lemmas.List.{append_cancel_right}
 use Rattle.std.proofs.lemmas.Str.{IsUtf8-take, IsUtf8-drop, IsUtf8-append, IsUtf8-from_ascii, chars-append}
 use Rattle.std.specs.Str.{chars, IsUtf8, IsAscii}
 use Rattle.rl_tokens.specs.declared.kind.Kind.TheVariants.{Int, Float}
-use Rattle.rl_tokens.specs.Texts.{IsBehind}
+use Rattle.rl_tokens.specs.Texts.{IsTail}
 use Rattle.rl_tokens.specs.Numbers.{NoSign, Minus, FloatReads}
 use Rattle.rl_tokens.specs.Reading.{HasNoInteger, HasSuffix}
 use Rattle.rl_tokens.proofs.StrictNumbers.{behind_minus}
 use Rattle.rl_grammar.specs.declared.found.Found.{Found}
 use Rattle.rl_grammar.specs.Founds.{IsFound}
-use Rattle.rl_grammar.specs.NumberAt.{sign_at}
-use Rattle.rl_grammar.specs.NumberShapes.{IsWithin, IsCutInteger}
-use Rattle.rl_grammar.specs.PlainAt.{is_plain_integer, is_plain_digits, is_plain_float}
+use Rattle.rl_grammar.specs.Mirrors.NumberAt.{sign_at}
+use Rattle.rl_grammar.specs.NumberShapes.{HasMagnitude, IsSplitInteger}
+use Rattle.rl_grammar.specs.Mirrors.PlainAt.{is_plain_integer, is_plain_digits, is_plain_float}
 use Rattle.rl_grammar.specs.WholeShapes.{IsPlain}
 use Rattle.rl_grammar.proofs.FloatLemmas.{float_past, float_sound}
 use Rattle.rl_grammar.proofs.FoundLemmas.{Whether, Of, NumberBody, integer_found, float_found, float_alone}
@@ -56,7 +56,7 @@ Moved f = Of f.kind (NumberBody (f.body.suffix_at + 1) f.body.plain) f.magnitude
 record Behind (t : List ℕ) (n : ℕ) : Type 0 where
   pub text : IsUtf8 (45 ∷ t)
   pub front : IsUtf8 (45 ∷ take n t)
-  pub behind : IsBehind (45 ∷ t) (drop n t)
+  pub behind : IsTail (45 ∷ t) (drop n t)
   pub cut : 45 ∷ t ≡ (45 ∷ take n t) ++ drop n t
   pub place : n + 1 ≡ length (45 ∷ t) - length (drop n t)
 
@@ -83,11 +83,11 @@ negative_integer t f u sign h is =
     let c = halves t f u h in
     let b = behind t n h.stands.behind.0 u c in
     let w = h.integer is in
-    let cut : IsCutInteger (chars t) f.magnitude (chars (take n t)) = record { suffix = chars x; within = w; cut = c.chars_cut } in
+    let cut : IsSplitInteger (chars t) f.magnitude (chars (take n t)) = record { suffix = chars x; within = w; cut = c.chars_cut } in
     let plain : f.body.plain ≡ is_plain_integer (chars (take n t)) =
     same_whether f.body.plain (is_plain_integer (chars (take n t))) (IsPlain Int t) (subst (λ k. Whether f.body.plain k t) is h.plain) (whether_integer t (take n t) f.magnitude (is_plain_integer (chars (take n t))) u c.front cut refl) in
     let signed : is_plain_integer (45 ∷ chars (take n t)) ≡ is_plain_integer (chars (take n t)) = minus_plain (chars (take n t)) (chars x) (ap sign_at (sym c.chars_cut) ∙ sign) in
-    let within : IsWithin (chars (45 ∷ t)) f.magnitude (chars x) = subst (λ z. IsWithin z f.magnitude (chars x)) (sym (minus_chars t)) (record { sign = Minus; reads = int_on (chars t) w.sign f.magnitude (chars x) sign w.reads; within = w.within }) in
+    let within : HasMagnitude (chars (45 ∷ t)) f.magnitude (chars x) = subst (λ z. HasMagnitude z f.magnitude (chars x)) (sym (minus_chars t)) (record { sign = Minus; reads = int_on (chars t) w.sign f.magnitude (chars x) sign w.reads; within = w.within }) in
     subst (λ k. IsFound (45 ∷ t) (Of k (NumberBody (n + 1) f.body.plain) f.magnitude)) (sym is)
     (integer_found (45 ∷ t) (45 ∷ take n t) x f.magnitude (n + 1) f.body.plain (NumberBody (n + 1) f.body.plain) refl b.text b.front within b.behind b.cut b.place (plain ∙ sym signed ∙ ap is_plain_integer (sym (minus_chars (take n t)))))
 

@@ -3,12 +3,13 @@ use Rattle.std.proofs.Common.{◌≡◌, ℕ, inl, inr, Bool, true, false, cond,
 use Rattle.std.specs.Char.{is_ascii_digit}
 use Rattle.rl_tokens.specs.declared.kind.Kind.{Kind}
 use Rattle.rl_tokens.specs.declared.kind.Kind.TheVariants.{Str, ByteStr, CStr, Byte, Char, Int, Float, Bool as BoolKind}
-use Rattle.rl_tokens.specs.Texts.{passes}
+use Rattle.rl_tokens.specs.Texts.{first_passes}
 use Rattle.rl_tokens.specs.Quoted.{is_string, is_single, opener, raw_opener}
 use Rattle.rl_tokens.specs.Numbers.{Sign, NoSign, Minus, IntReads}
 use Rattle.rl_tokens.specs.Reading.{Contents, ReadsQuoted, ReadsBool, truth_text}
-use Rattle.rl_grammar.specs.NumberAt.{sign_at, float_at, after_exponent, after_fraction, after_digits, is_suffix}
-use Rattle.rl_grammar.specs.NumberShapes.{ReadsNumber, HasNoNumber, HasNoReading}
+use Rattle.rl_grammar.specs.Mirrors.NumberAt.{sign_at, float_at, after_exponent, after_fraction, after_digits, is_suffix}
+use Rattle.rl_grammar.specs.NumberShapes.{ReadsNumber, HasNoNumber}
+use Rattle.rl_tokens.specs.Reading.{HasNoReading}
 use Rattle.std.proofs.lemmas.Bool.{both_ways, eqb-true}
 use Rattle.rl_tokens.proofs.StrictNumbers.{behind_minus, minus_int}
 use Rattle.rl_grammar.proofs.FloatLemmas.{float_past, float_sound}
@@ -28,7 +29,7 @@ float_at-minus (c ∷ cs) h = go (c == 45) refl h
     go true e k = absurd (cc)
     go false e k =
         let Rest : List ℕ → List ℕ = λ u. after_exponent (after_fraction (after_digits 10 u)) in
-        ap (λ u. cond (passes is_ascii_digit u && is_suffix (Rest u)) (Some (Rest u)) None) (sym (ap (λ b. cond b cs (c ∷ cs)) e))
+        ap (λ u. cond (first_passes is_ascii_digit u && is_suffix (Rest u)) (Some (Rest u)) None) (sym (ap (λ b. cond b cs (c ∷ cs)) e))
 
 -- two minuses begin no float
 double_minus : (t : List ℕ) → sign_at t ≡ Minus → float_at (45 ∷ t) ≡ None
@@ -87,7 +88,7 @@ abbrev is_minus : ℕ → Bool
 is_minus c = c == 45
 
 -- a cooked string
-string_front : (k : Kind) (r : List ℕ) → is_string k ≡ true → passes is_minus (opener k ++ r) ≡ false
+string_front : (k : Kind) (r : List ℕ) → is_string k ≡ true → first_passes is_minus (opener k ++ r) ≡ false
 string_front Str r h = refl
 string_front ByteStr r h = refl
 string_front CStr r h = refl
@@ -98,7 +99,7 @@ string_front Float r h = absurd (cc)
 string_front BoolKind r h = absurd (cc)
 
 -- a raw string
-raw_front : (k : Kind) (r : List ℕ) → is_string k ≡ true → passes is_minus (raw_opener k ++ r) ≡ false
+raw_front : (k : Kind) (r : List ℕ) → is_string k ≡ true → first_passes is_minus (raw_opener k ++ r) ≡ false
 raw_front Str r h = refl
 raw_front ByteStr r h = refl
 raw_front CStr r h = refl
@@ -109,7 +110,7 @@ raw_front Float r h = absurd (cc)
 raw_front BoolKind r h = absurd (cc)
 
 -- a character or a byte
-single_front : (k : Kind) (r : List ℕ) → is_single k ≡ true → passes is_minus (opener k ++ r) ≡ false
+single_front : (k : Kind) (r : List ℕ) → is_single k ≡ true → first_passes is_minus (opener k ++ r) ≡ false
 single_front Byte r h = refl
 single_front Char r h = refl
 single_front Str r h = refl
@@ -120,17 +121,17 @@ single_front Float r h = absurd (cc)
 single_front BoolKind r h = absurd (cc)
 
 -- a truth value
-truth_front : (b : Bool) → passes is_minus (truth_text b) ≡ false
+truth_front : (b : Bool) → first_passes is_minus (truth_text b) ≡ false
 truth_front true = refl
 truth_front false = refl
 
 -- any quoted form
-quoted_front : (t x : List ℕ) (k : Kind) (c : Contents) → ReadsQuoted t k c x → passes is_minus t ≡ false
+quoted_front : (t x : List ℕ) (k : Kind) (c : Contents) → ReadsQuoted t k c x → first_passes is_minus t ≡ false
 quoted_front t x k c r = elim r.form [
-  | inl f ↦ ap (passes is_minus) f.text_is ∙ string_front k _ f.string
+  | inl f ↦ ap (first_passes is_minus) f.text_is ∙ string_front k _ f.string
   | inr g ↦ elim g [
-    | inl f ↦ ap (passes is_minus) f.text_is ∙ raw_front k _ f.string
-    | inr f ↦ ap (passes is_minus) f.text_is ∙ single_front k _ f.single
+    | inl f ↦ ap (first_passes is_minus) f.text_is ∙ raw_front k _ f.string
+    | inr f ↦ ap (first_passes is_minus) f.text_is ∙ single_front k _ f.single
   ]
 ]
 
@@ -140,7 +141,7 @@ no_quoted t x k c r = both_ways true (quoted_front (45 ∷ t) x k c r) refl
 
 -- nor a truth value
 pub no_truth : (t x : List ℕ) (c : Contents) → ReadsBool (45 ∷ t) c x → ⊥
-no_truth t x c r = both_ways true (ap (passes is_minus) r.text_is ∙ truth_front r.truth) refl
+no_truth t x c r = both_ways true (ap (first_passes is_minus) r.text_is ∙ truth_front r.truth) refl
 
 -- behind a minus only numbers stand
 pub negative_no_reading : (t : List ℕ) → HasNoNumber (45 ∷ t) → HasNoReading (45 ∷ t)

@@ -10,9 +10,10 @@ use Rattle.rl_tokens.specs.Numbers.{FloatReads, float_digits, sign_text}
 use Rattle.rl_tokens.specs.Reading.{HasSuffix, HasNoInteger}
 use Rattle.rl_grammar.specs.declared.found.Found.{Found}
 use Rattle.rl_grammar.specs.Founds.{IsFound, IsFoundFloat, IsFoundNumber, StandsIn, body_in, suffix_in}
-use Rattle.rl_grammar.specs.NumberAt.{sign_at}
-use Rattle.rl_grammar.specs.NumberShapes.{AreDigits, HasNoFloat, IsCutInteger, IsNumber, IsPast}
-use Rattle.rl_grammar.specs.WholeShapes.{IsCut, IsPlain}
+use Rattle.rl_grammar.specs.Mirrors.NumberAt.{sign_at}
+use Rattle.rl_grammar.specs.NumberShapes.{AreDigits, IsSplitInteger, IsNumber}
+use Rattle.rl_tokens.specs.Reading.{HasNoFloat, IsPast}
+use Rattle.rl_grammar.specs.WholeShapes.{IsSplit, IsPlain}
 use Rattle.rl_grammar.proofs.DigitLemmas.{int_contents, same_numeral}
 use Rattle.rl_grammar.proofs.FoundLemmas.{body_text, Whether}
 use Rattle.rl_grammar.proofs.NumberLemmas.{past_number}
@@ -33,7 +34,7 @@ found_float t f u e h =
     let b = body_in t f.body in
     let x = suffix_in t f.body in
     let (v, r) : HasSuffix Float (chars t) (chars x) = subst (λ k. HasSuffix k (chars t) (chars x)) e h.reads in
-    let cut : t ≡ b ++ x = subst (λ k. IsCut k t b x) e h.cut in
+    let cut : t ≡ b ++ x = subst (λ k. IsSplit k t b x) e h.cut in
     let same : r.numeral ≡ chars b = append_cancel_right r.numeral (chars b) (chars x) (sym r.reads.text_is ∙ float_chars t f u h.stands cut) in
     record {
       kind = e;
@@ -56,11 +57,11 @@ pub number_integer : (t : List ℕ) (f : Found) → f.kind ≡ Int → IsFoundNu
 number_integer t f e (inl h) = h.0
 number_integer t f e (inr h) = let k = h.kind in absurd (cc)
 
-integer_cut : (t : List ℕ) (f : Found) → IsUtf8 t → f.kind ≡ Int → IsFound t f → IsCutInteger (chars t) f.magnitude (chars (body_in t f.body))
+integer_cut : (t : List ℕ) (f : Found) → IsUtf8 t → f.kind ≡ Int → IsFound t f → IsSplitInteger (chars t) f.magnitude (chars (body_in t f.body))
 integer_cut t f u e h = record {
   suffix = chars (suffix_in t f.body);
   within = h.integer e;
-  cut = float_chars t f u h.stands (subst (λ k. IsCut k t (body_in t f.body) (suffix_in t f.body)) e h.cut);
+  cut = float_chars t f u h.stands (subst (λ k. IsSplit k t (body_in t f.body) (suffix_in t f.body)) e h.cut);
 }
 
 -- ---- its digits

@@ -4,7 +4,8 @@ use Rattle.rl_tokens.specs.declared.kind.Kind.{Kind}
 use Rattle.rl_tokens.specs.declared.kind.Kind.TheVariants.{Str, ByteStr, CStr, Byte, Char, Int, Float, Bool as BoolKind}
 use Rattle.rl_tokens.specs.Numbers.{FloatReads, float_digits}
 use Rattle.rl_tokens.specs.Reading.{Contents, Digits, HasNoInteger, Reads, ReadsInt}
-use Rattle.rl_grammar.specs.NumberShapes.{IsPast, HasNoFloat, ReadsNumber, HasNoNumber}
+use Rattle.rl_tokens.specs.Reading.{IsPast, HasNoFloat}
+use Rattle.rl_grammar.specs.NumberShapes.{ReadsNumber, HasNoNumber}
 use Rattle.rl_tokens.proofs.OneNumber.{int_once}
 
 -- Which number stands there.

@@ -7,9 +7,9 @@ use Rattle.std.specs.Str.{chars, IsUtf8, IsCharBoundary}
 use Rattle.rl_tokens.specs.declared.kind.Kind.{Kind}
 use Rattle.rl_tokens.specs.declared.kind.Kind.TheVariants.{Str, ByteStr, CStr, Byte, Char, Int, Float, Bool as BoolKind}
 use Rattle.rl_tokens.specs.Quoted.{is_string, is_single}
-use Rattle.rl_grammar.specs.Shapes.{IsQuotedCut}
+use Rattle.rl_grammar.specs.Shapes.{IsQuotedSplit}
 use Rattle.rl_tokens.specs.Reading.{Contents, Reads, ReadsQuoted, quoted_contents}
-use Rattle.rl_grammar.specs.declared.quoted.Form.{Form}
+use Rattle.rl_grammar.specs.declared.quoted.QuotedForm.{QuotedForm}
 use Rattle.rl_grammar.specs.Bodies.{IsBodyAt, letters}
 use Rattle.rl_grammar.specs.declared.bodies.Body.{Body}
 use Rattle.rl_grammar.specs.Founds.{IsQuotedAt, body_in, suffix_in}
@@ -43,7 +43,7 @@ raw_around kind p h t b x long e =
     let same : length front + 1 + length hashes - letters kind ≡ h + 2 + 1 + h = omega (arith, of_front, of_hashes) in
     record { front = front; quote = 34; hashes = hashes; ascii = omega arith; text_is = e ∙ raw_front p h b (34 ∷ (hashes ++ x)); longer = omega (arith, of_front); closer = ap (λ z. z / 2) same ∙ half h ∙ ap (λ z. 1 + z) (sym of_hashes) }
 
-around_string : (kind : Kind) (t b x : List ℕ) → is_string kind ≡ true → IsQuotedCut kind t b x → Around kind t b x
+around_string : (kind : Kind) (t b x : List ℕ) → is_string kind ≡ true → IsQuotedSplit kind t b x → Around kind t b x
 around_string Str t b x s (inl c) = record { front = 34 ∷ []; quote = 34; hashes = []; ascii = omega arith; text_is = c.text_is; longer = omega arith; closer = refl }
 around_string ByteStr t b x s (inl c) = record { front = 98 ∷ 34 ∷ []; quote = 34; hashes = []; ascii = omega arith; text_is = c.text_is; longer = omega arith; closer = refl }
 around_string CStr t b x s (inl c) = record { front = 99 ∷ 34 ∷ []; quote = 34; hashes = []; ascii = omega arith; text_is = c.text_is; longer = omega arith; closer = refl }
@@ -59,7 +59,7 @@ around_string Int t b x s c = absurd (cc)
 around_string Float t b x s c = absurd (cc)
 around_string BoolKind t b x s c = absurd (cc)
 
-around_single : (kind : Kind) (t b x : List ℕ) → is_single kind ≡ true → IsQuotedCut kind t b x → Around kind t b x
+around_single : (kind : Kind) (t b x : List ℕ) → is_single kind ≡ true → IsQuotedSplit kind t b x → Around kind t b x
 around_single Byte t b x s (inr (inr q)) = record { front = 98 ∷ 39 ∷ []; quote = 39; hashes = []; ascii = omega arith; text_is = q.text_is; longer = omega arith; closer = refl }
 around_single Char t b x s (inr (inr q)) = record { front = 39 ∷ []; quote = 39; hashes = []; ascii = omega arith; text_is = q.text_is; longer = omega arith; closer = refl }
 around_single Byte t b x s (inl c) = absurd (not_both Byte c.string s)
@@ -73,7 +73,7 @@ around_single Int t b x s c = absurd (cc)
 around_single Float t b x s c = absurd (cc)
 around_single BoolKind t b x s c = absurd (cc)
 
-around : (kind : Kind) (t b x : List ℕ) → IsQuotedCut kind t b x → Around kind t b x
+around : (kind : Kind) (t b x : List ℕ) → IsQuotedSplit kind t b x → Around kind t b x
 around kind t b x (inl c) = around_string kind t b x c.string (inl c)
 around kind t b x (inr (inl r)) = around_string kind t b x r.string (inr (inl r))
 around kind t b x (inr (inr q)) = around_single kind t b x q.single (inr (inr q))
@@ -143,20 +143,20 @@ lengths kind t b x a =
     let same : length t - length x - length b - letters kind ≡ length a.front + 1 + length a.hashes - letters kind = omega (arith, total) in
     record { stands = a; total = total; closer = ap (λ z. z / 2) same ∙ a.closer }
 
-same_kind : (t : List ℕ) (form : Form) (k : Kind) (w b x : List ℕ) (kind : Kind) → ReadsAsQuoted kind t → PartsAre form k t w b x → k ≡ kind
+same_kind : (t : List ℕ) (form : QuotedForm) (k : Kind) (w b x : List ℕ) (kind : Kind) → ReadsAsQuoted kind t → PartsAre form k t w b x → k ≡ kind
 same_kind t form k w b x kind reads p =
     let (v, y, r) = reads in
     (formed_once t k kind w r.value x y (parts_formed form k t w b x p) (formed t kind v y r)).0
 
-pub found : (t : List ℕ) (form : Form) (kind : Kind) (w b x : List ℕ) → IsUtf8 t → IsUtf8 b → IsUtf8 x → PartsAre form kind (chars t) w (chars b) (chars x) → Lengths kind t b x
+pub found : (t : List ℕ) (form : QuotedForm) (kind : Kind) (w b x : List ℕ) → IsUtf8 t → IsUtf8 b → IsUtf8 x → PartsAre form kind (chars t) w (chars b) (chars x) → Lengths kind t b x
 found t form kind w b x ut ub ux p = lengths kind t b x (around kind t b x (parts_cut form kind t w b x ut ub ux p))
 
-pub of_kind : (t : List ℕ) (form : Form) (k : Kind) (w b x : List ℕ) (kind : Kind) (plain : Bool) → ReadsAsQuoted kind t → PartsAre form k t w b x → plain ≡ is_plain_body form k b → PartsAre form kind t w b x × (plain ≡ is_plain_body form kind b)
+pub of_kind : (t : List ℕ) (form : QuotedForm) (k : Kind) (w b x : List ℕ) (kind : Kind) (plain : Bool) → ReadsAsQuoted kind t → PartsAre form k t w b x → plain ≡ is_plain_body form k b → PartsAre form kind t w b x × (plain ≡ is_plain_body form kind b)
 of_kind t form k w b x kind plain reads p plain_is =
     let same = same_kind t form k w b x kind reads p in
     (subst (λ l. PartsAre form l t w b x) same p, plain_is ∙ ap (λ l. is_plain_body form l b) same)
 
-pub quoted_at : (t : List ℕ) (form : Form) (kind : Kind) (w b x : List ℕ) (plain : Bool) → IsUtf8 t → IsUtf8 b → IsUtf8 x → PartsAre form kind (chars t) w (chars b) (chars x) → plain ≡ is_plain_body form kind (chars b) → (at end_at suffix_at : ℕ) → suffix_at ≡ length t - length x → end_at ≡ suffix_at - (suffix_at - length b - letters kind) / 2 → at ≡ end_at - length b → IsQuotedAt kind t (record { at = at; end = end_at; suffix_at = suffix_at; plain = plain })
+pub quoted_at : (t : List ℕ) (form : QuotedForm) (kind : Kind) (w b x : List ℕ) (plain : Bool) → IsUtf8 t → IsUtf8 b → IsUtf8 x → PartsAre form kind (chars t) w (chars b) (chars x) → plain ≡ is_plain_body form kind (chars b) → (at end_at suffix_at : ℕ) → suffix_at ≡ length t - length x → end_at ≡ suffix_at - (suffix_at - length b - letters kind) / 2 → at ≡ end_at - length b → IsQuotedAt kind t (record { at = at; end = end_at; suffix_at = suffix_at; plain = plain })
 quoted_at t form kind w b x plain ut ub ux p plain_is at end_at suffix_at suffix_eq end_eq at_eq =
     let l = found t form kind w b x ut ub ux p in
     let a = l.stands in

@@ -5,12 +5,12 @@ use Rattle.std.proofs.lemmas.List.{append_cancel_right}
 use Rattle.std.specs.List.{list_all, prefix_len}
 use Rattle.rl_tokens.specs.declared.kind.Kind.{Kind}
 use Rattle.rl_tokens.specs.declared.kind.Kind.TheVariants.{Str, ByteStr, CStr, Byte, Char, Int, Float, Bool as BoolKind}
-use Rattle.rl_tokens.specs.Texts.{passes}
+use Rattle.rl_tokens.specs.Texts.{first_passes}
 use Rattle.rl_tokens.specs.Quoted.{is_string, is_plain}
 use Rattle.rl_tokens.specs.declared.scan.Marks.{Marks}
 use Rattle.rl_tokens.specs.Scanning.{IsNextMark, is_one_of, is_other}
-use Rattle.rl_grammar.specs.Classes.{is_in_run}
-use Rattle.rl_grammar.specs.PlainAt.{is_kept, is_plain_float}
+use Rattle.rl_grammar.specs.Mirrors.Classes.{is_in_run}
+use Rattle.rl_grammar.specs.Mirrors.PlainAt.{is_kept, is_plain_float}
 use Rattle.rl_tokens.proofs.CommentBytes.{not_equal}
 use Rattle.rl_tokens.proofs.ScanLemmas.{PassesHigh}
 
@@ -78,8 +78,8 @@ pub one_run : (q : ℕ → Bool) (body run rest : List ℕ) → body ++ rest ≡
 one_run q body run rest cut plain = sym (ap (list_all q) (append_cancel_right body run rest cut) ∙ plain)
 
 -- and isn't where more stands between
-pub no_run : (q : ℕ → Bool) (body run behind rest more : List ℕ) → body ++ rest ≡ run ++ behind → behind ≡ more ++ rest → passes q behind ≡ false → (behind ≡ rest → ⊥) → false ≡ list_all q body
+pub no_run : (q : ℕ → Bool) (body run behind rest more : List ℕ) → body ++ rest ≡ run ++ behind → behind ≡ more ++ rest → first_passes q behind ≡ false → (behind ≡ rest → ⊥) → false ≡ list_all q body
 no_run q body run behind rest [] cut behind_is stops goes_on = absurd (goes_on behind_is)
 no_run q body run behind rest (c ∷ more) cut behind_is stops goes_on =
     let whole : body ≡ run ++ (c ∷ more) = append_cancel_right body (run ++ (c ∷ more)) rest (cut ∙ ap (λ z. run ++ z) behind_is ∙ sym (append_assoc run (c ∷ more) rest)) in
-    sym (ap (list_all q) whole ∙ stops_all q run c more (ap (passes q) (sym behind_is) ∙ stops))
+    sym (ap (list_all q) whole ∙ stops_all q run c more (ap (first_passes q) (sym behind_is) ∙ stops))

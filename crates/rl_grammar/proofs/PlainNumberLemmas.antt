@@ -16,14 +16,15 @@ use Rattle.rl_tokens.proofs.Dec.{room}
 use Rattle.rl_tokens.proofs.OneNumber.{int_once, float_once}
 use Rattle.rl_tokens.specs.declared.kind.Kind.{Kind}
 use Rattle.rl_tokens.specs.declared.kind.Kind.TheVariants.{Float, Int}
-use Rattle.rl_tokens.specs.Numbers.{Base, Binary, Octal, Decimal, Hexadecimal, radix, is_digit, prefix, IsFront, Sign, sign_text, IntReads, limit, FloatReads, float_digits}
+use Rattle.rl_tokens.specs.Numbers.{Base, Binary, Octal, Decimal, Hexadecimal, radix, is_digit, prefix, IsBehindPrefix, Sign, sign_text, IntReads, limit, FloatReads, float_digits}
 use Rattle.rl_tokens.specs.Quoted.{place_value, without_underscores}
 use Rattle.rl_tokens.specs.Reading.{Digits}
-use Rattle.rl_tokens.specs.Texts.{passes}
-use Rattle.rl_grammar.specs.NumberAt.{after_minus}
-use Rattle.rl_grammar.specs.NumberShapes.{AreDigits, HasNoFloat, IsCutInteger, IsNumber}
+use Rattle.rl_tokens.specs.Texts.{first_passes}
+use Rattle.rl_grammar.specs.Mirrors.NumberAt.{after_minus}
+use Rattle.rl_grammar.specs.NumberShapes.{AreDigits, IsSplitInteger, IsNumber}
+use Rattle.rl_tokens.specs.Reading.{HasNoFloat}
 use Rattle.rl_grammar.specs.WholeShapes.{IsPlain}
-use Rattle.rl_grammar.specs.PlainAt.{is_plain_digits, is_plain_integer, is_kept, is_plain_float}
+use Rattle.rl_grammar.specs.Mirrors.PlainAt.{is_plain_digits, is_plain_integer, is_kept, is_plain_float}
 use Rattle.rl_grammar.proofs.IntegerLemmas.{minus_past}
 
 -- ---- what std writes
@@ -66,17 +67,17 @@ quotient_above n e = grind (arith, nat_tests)
 power_step : (n k : ℕ) → n < 10 ^ suc k → n / 10 < 10 ^ k
 power_step n k h = let e = pow-suc 10 k in omega arith
 
-onto_first : (k n : ℕ) (acc : List ℕ) → 0 < n → n < 10 ^ suc k → passes is_zero (digits_onto (suc k) 10 false n acc) ≡ false
+onto_first : (k n : ℕ) (acc : List ℕ) → 0 < n → n < 10 ^ suc k → first_passes is_zero (digits_onto (suc k) 10 false n acc) ≡ false
 onto_first zero n acc l h =
     let e : (n / 10 == 0) ≡ true = (let p = power_step n zero h in grind (arith, nat_tests)) in
     glyph_first (n / 10 == 0) e
   where
-    glyph_first : (b : Bool) → (n / 10 == 0) ≡ true → passes is_zero (cond b (glyph n ∷ acc) (glyph n ∷ acc)) ≡ false
+    glyph_first : (b : Bool) → (n / 10 == 0) ≡ true → first_passes is_zero (cond b (glyph n ∷ acc) (glyph n ∷ acc)) ≡ false
     glyph_first true e = glyph_above n l e
     glyph_first false e = glyph_above n l e
 onto_first (suc k) n acc l h = go (n / 10 == 0) refl (λ above. onto_first k (n / 10) (glyph n ∷ acc) above (power_step n (suc k) h))
   where
-    go : (b : Bool) → (n / 10 == 0) ≡ b → (0 < n / 10 → passes is_zero (digits_onto (suc k) 10 false (n / 10) (glyph n ∷ acc)) ≡ false) → passes is_zero (cond b (glyph n ∷ acc) (digits_onto (suc k) 10 false (n / 10) (glyph n ∷ acc))) ≡ false
+    go : (b : Bool) → (n / 10 == 0) ≡ b → (0 < n / 10 → first_passes is_zero (digits_onto (suc k) 10 false (n / 10) (glyph n ∷ acc)) ≡ false) → first_passes is_zero (cond b (glyph n ∷ acc) (digits_onto (suc k) 10 false (n / 10) (glyph n ∷ acc))) ≡ false
     go true e more = glyph_above n l e
     go false e more = more (quotient_above n e)
 
@@ -84,25 +85,25 @@ onto_first (suc k) n acc l h = go (n / 10 == 0) refl (λ above. onto_first k (n 
 abbrev is_any : ℕ → Bool
 is_any c = true
 
-onto_some : (k n : ℕ) (acc : List ℕ) → passes is_any (digits_onto (suc k) 10 false n acc) ≡ true
+onto_some : (k n : ℕ) (acc : List ℕ) → first_passes is_any (digits_onto (suc k) 10 false n acc) ≡ true
 onto_some zero n acc = go (n / 10 == 0)
   where
-    go : (b : Bool) → passes is_any (cond b (glyph n ∷ acc) (glyph n ∷ acc)) ≡ true
+    go : (b : Bool) → first_passes is_any (cond b (glyph n ∷ acc) (glyph n ∷ acc)) ≡ true
     go true = refl
     go false = refl
 onto_some (suc k) n acc = go (n / 10 == 0) (onto_some k (n / 10) (glyph n ∷ acc))
   where
-    go : (b : Bool) → passes is_any (digits_onto (suc k) 10 false (n / 10) (glyph n ∷ acc)) ≡ true → passes is_any (cond b (glyph n ∷ acc) (digits_onto (suc k) 10 false (n / 10) (glyph n ∷ acc))) ≡ true
+    go : (b : Bool) → first_passes is_any (digits_onto (suc k) 10 false (n / 10) (glyph n ∷ acc)) ≡ true → first_passes is_any (cond b (glyph n ∷ acc) (digits_onto (suc k) 10 false (n / 10) (glyph n ∷ acc))) ≡ true
     go true more = refl
     go false more = more
 
 -- ---- what is written is plain
 
-plain_list : (ds : List ℕ) → list_all is_ascii_digit ds ≡ true → passes is_any ds ≡ true → passes is_zero ds ≡ false → is_plain_digits ds ≡ true
+plain_list : (ds : List ℕ) → list_all is_ascii_digit ds ≡ true → first_passes is_any ds ≡ true → first_passes is_zero ds ≡ false → is_plain_digits ds ≡ true
 plain_list [] all some first = some
-plain_list (d ∷ ds) all some first = and_from (list_all is_ascii_digit (d ∷ ds)) (not (d == 48) || not (passes is_any ds)) all (ap (λ z. z || not (passes is_any ds)) (not_from_false (d == 48) first))
+plain_list (d ∷ ds) all some first = and_from (list_all is_ascii_digit (d ∷ ds)) (not (d == 48) || not (first_passes is_any ds)) all (ap (λ z. z || not (first_passes is_any ds)) (not_from_false (d == 48) first))
 
-first_digit : (ds : List ℕ) → list_all is_ascii_digit ds ≡ true → passes is_any ds ≡ true → passes is_ascii_digit ds ≡ true
+first_digit : (ds : List ℕ) → list_all is_ascii_digit ds ≡ true → first_passes is_any ds ≡ true → first_passes is_ascii_digit ds ≡ true
 first_digit [] all some = some
 first_digit (d ∷ ds) all some = (and_parts (is_ascii_digit d) (list_all is_ascii_digit ds) all).0
 
@@ -111,7 +112,7 @@ unfolding digits
 decimal_plain zero h = refl
 decimal_plain (suc n) h = plain_list (decimal (suc n)) (onto_digits 64 (suc n) [] refl) (onto_some 63 (suc n) []) (onto_first 63 (suc n) [] (omega arith) h)
 
-decimal_first : (n : ℕ) → passes is_ascii_digit (decimal n) ≡ true
+decimal_first : (n : ℕ) → first_passes is_ascii_digit (decimal n) ≡ true
 unfolding digits
 decimal_first n = first_digit (decimal n) (onto_digits 64 n [] refl) (onto_some 63 n [])
 
@@ -205,7 +206,7 @@ bare (d ∷ ds) h =
     ap (λ m. cond (not m) (d ∷ without_underscores ds) (without_underscores ds)) (apart is_ascii_digit d 95 b.0 refl) ∙ ap (λ z. d ∷ z) (bare ds b.1)
 
 -- it begins with a digit behind its sign
-begins_at : (b : Base) (ds x : List ℕ) → IsFront b (ds ++ x) → list_any (is_digit b) ds ≡ true → passes is_ascii_digit (prefix b ++ ds) ≡ true
+begins_at : (b : Base) (ds x : List ℕ) → IsBehindPrefix b (ds ++ x) → list_any (is_digit b) ds ≡ true → first_passes is_ascii_digit (prefix b ++ ds) ≡ true
 begins_at Binary ds x front some = refl
 begins_at Octal ds x front some = refl
 begins_at Hexadecimal ds x front some = refl
@@ -214,7 +215,7 @@ begins_at Decimal (d ∷ ds) x front some = front.0
 
 all_plain : (ds : List ℕ) → is_plain_digits ds ≡ true → list_all is_ascii_digit ds ≡ true
 all_plain [] p = refl
-all_plain (d ∷ ds) p = (and_parts (list_all is_ascii_digit (d ∷ ds)) (not (d == 48) || not (passes is_any ds)) p).0
+all_plain (d ∷ ds) p = (and_parts (list_all is_ascii_digit (d ∷ ds)) (not (d == 48) || not (first_passes is_any ds)) p).0
 
 -- a plain body is in base ten, and written as its magnitude
 plain_based : (b : Base) (ds : List ℕ) (m : ℕ) → is_plain_digits (prefix b ++ ds) ≡ true → m ≡ place_value (radix b) (without_underscores ds) → m ≤ limit → decimal m ≡ prefix b ++ ds
@@ -239,7 +240,7 @@ bytes_cut t b x ut ub e =
     sym (encodes-chars t ut) ∙ ap encode_utf8_all e ∙ encodes-append (chars b) x ∙ ap (λ z. z ++ encode_utf8_all x) (encodes-chars b ub)
 
 -- the test says whether the integer is plain
-integer_plain : (t b : List ℕ) (m : ℕ) → IsUtf8 t → IsUtf8 b → IsCutInteger (chars t) m (chars b) → is_plain_integer (chars b) ≡ true → IsPlain Int t
+integer_plain : (t b : List ℕ) (m : ℕ) → IsUtf8 t → IsUtf8 b → IsSplitInteger (chars t) m (chars b) → is_plain_integer (chars b) ≡ true → IsPlain Int t
 integer_plain t b m ut ub w p =
     let r = w.within in
     record {
@@ -249,7 +250,7 @@ integer_plain t b m ut ub w p =
       reads = record { sign = r.sign; magnitude = m; reads = r.reads; within = r.within; contents_is = ap Digits (plain_body (chars t) (chars b) w.suffix r.sign m r.reads r.within w.cut p) };
     }
 
-pub plain_integer : (t b : List ℕ) (m : ℕ) → IsUtf8 t → IsUtf8 b → IsCutInteger (chars t) m (chars b) → IsPlain Int t → is_plain_integer (chars b) ≡ true
+pub plain_integer : (t b : List ℕ) (m : ℕ) → IsUtf8 t → IsUtf8 b → IsSplitInteger (chars t) m (chars b) → IsPlain Int t → is_plain_integer (chars b) ≡ true
 plain_integer t b m ut ub w p =
     let r = p.reads in
     let o = int_once (chars t) w.suffix p.suffix w.within.sign r.sign m r.magnitude w.within.reads r.reads in
@@ -313,7 +314,7 @@ plain_float t b x r p =
 
 -- ---- the digits of a number that is plain
 
-pub plain_contents : (t body : List ℕ) (m : ℕ) → IsCutInteger t m body → is_plain_integer body ≡ true → AreDigits Int t body
+pub plain_contents : (t body : List ℕ) (m : ℕ) → IsSplitInteger t m body → is_plain_integer body ≡ true → AreDigits Int t body
 plain_contents t body m w p c x r =
     let o = int_once t w.suffix x w.within.sign r.sign m r.magnitude w.within.reads r.reads in
     let is = plain_body t body w.suffix w.within.sign m w.within.reads w.within.within w.cut p in
@@ -332,7 +333,7 @@ held k t bytes s d e = subst (λ z. AreDigits k t (chars z)) (sym e) d
 abbrev Whether : Bool → Kind → List ℕ → Type 0
 Whether b k t = (IsTrue b → IsPlain k t) × (IsPlain k t → IsTrue b)
 
-pub whether_integer : (t b : List ℕ) (m : ℕ) (r : Bool) → IsUtf8 t → IsUtf8 b → IsCutInteger (chars t) m (chars b) → r ≡ is_plain_integer (chars b) → Whether r Int t
+pub whether_integer : (t b : List ℕ) (m : ℕ) (r : Bool) → IsUtf8 t → IsUtf8 b → IsSplitInteger (chars t) m (chars b) → r ≡ is_plain_integer (chars b) → Whether r Int t
 whether_integer t b m r ut ub w h = ((λ p. integer_plain t b m ut ub w (sym h ∙ p)), (λ q. h ∙ plain_integer t b m ut ub w q))
 
 pub no_plain_integer : (t : List ℕ) → (IsNumber Int (chars t) → ⊥) → Whether false Int t

@@ -7,10 +7,11 @@ use Rattle.std.proofs.lemmas.List.{append_cancel_left, append_cancel_right}
 use Rattle.std.proofs.lemmas.List.Folds.{list_all-append}
 use Rattle.rl_tokens.specs.declared.kind.Kind.{Kind}
 use Rattle.rl_tokens.specs.declared.kind.Kind.TheVariants.{Str, ByteStr, CStr, Byte, Char, Int, Float, Bool as BoolKind}
-use Rattle.rl_tokens.specs.Texts.{IsBehind}
-use Rattle.rl_tokens.specs.Quoted.{held, is_string, is_raw, raw_opener, Raw}
-use Rattle.rl_grammar.specs.declared.quoted.Form.TheVariants.{Raw as RawForm}
-use Rattle.rl_grammar.specs.Forms.{PartsAre, HasNoParts, after_hashes}
+use Rattle.rl_tokens.specs.Texts.{IsTail}
+use Rattle.rl_tokens.specs.Quoted.{content_of, is_string, is_raw, raw_opener, Raw}
+use Rattle.rl_grammar.specs.declared.quoted.QuotedForm.TheVariants.{Raw as RawForm}
+use Rattle.rl_grammar.specs.Forms.{PartsAre, HasNoParts}
+use Rattle.rl_grammar.specs.Mirrors.OpenerAt.{after_hashes}
 use Rattle.rl_grammar.proofs.CutLemmas.{behind_chars}
 
 abbrev no_quote : ℕ → Bool
@@ -95,14 +96,14 @@ raw_once kind t v x w y r s =
     let both : 34 ∷ inner r.hashes r.inside x ≡ 34 ∷ inner s.hashes s.inside y = sym a.1 ∙ b.1 in
     let insides : inner r.hashes r.inside x ≡ inner s.hashes s.inside y = cc in
     let parts = raw_inner s.hashes s.inside y r.inside (replicate r.hashes 35 ++ x) s.no_quote (hashes_no_quote r.hashes x ∙ r.no_quote) insides in (
-      r.value_is ∙ ap (held kind) parts.0 ∙ sym s.value_is,
+      r.value_is ∙ ap (content_of kind) parts.0 ∙ sym s.value_is,
       append_cancel_left (replicate s.hashes 35) x y (ap (λ z. z ++ x) (sym b.0 ∙ a.0) ∙ parts.1),
     )
 
 -- ---- the steps of the reader
 
 -- what follows the hashes is behind the text
-pub hashes_behind : (bs ys : List ℕ) → IsUtf8 bs → IsUtf8 ys → chars ys ≡ after_hashes (chars bs) → IsBehind bs ys
+pub hashes_behind : (bs ys : List ℕ) → IsUtf8 bs → IsUtf8 ys → chars ys ≡ after_hashes (chars bs) → IsTail bs ys
 hashes_behind bs ys u w e =
     let front = hashes_sound (chars bs) in
     behind_chars bs ys (replicate front.0 35) u w (front.1 ∙ ap (λ z. replicate front.0 35 ++ z) (sym e))
@@ -154,7 +155,7 @@ module _ (kind : Kind) (t hashes rest : List ℕ) (rest_is : rest ≡ after_hash
         text_is
         ∙ ap (λ z. hashes ++ z) (inside_is ∙ ap (λ z. 34 ∷ z) (last_is ∙ ap (λ z. body ++ (34 ∷ z)) e))
         ∙ ap (λ z. z ++ (34 ∷ (body ++ (34 ∷ (z ++ suffix))))) hashes_are in (
-          held kind body,
+          content_of kind body,
           (
             record {
               hashes = n;

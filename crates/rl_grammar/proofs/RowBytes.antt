@@ -9,8 +9,8 @@ use Rattle.std.specs.Str.{chars, encode_utf8_all, IsUtf8, IsCharBoundary}
 use Rattle.rl_tokens.proofs.Basics.{digit_is_ten}
 use Rattle.rl_tokens.proofs.CommentBytes.{AllHigh, cases128, encode_is_high, low_front, not_equal}
 use Rattle.std.specs.List.{list_all}
-use Rattle.rl_grammar.specs.NumberAt.{append_digit, row_from}
-use Rattle.rl_grammar.specs.PlainAt.{is_kept}
+use Rattle.rl_grammar.specs.Mirrors.NumberAt.{append_digit, row_from}
+use Rattle.rl_grammar.specs.Mirrors.PlainAt.{is_kept}
 use Rattle.rl_grammar.proofs.DigitRowLemmas.{row_digit}
 
 -- ---- one turn of the loop

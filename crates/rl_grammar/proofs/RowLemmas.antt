@@ -5,20 +5,20 @@ use Rattle.std.specs.List.{AllByRecursion, list_all}
 use Rattle.std.proofs.lemmas.Bool.{and_parts}
 use Rattle.std.proofs.lemmas.List.Concat.{flat_map-append}
 use Rattle.rl_tokens.specs.declared.kind.Kind.{Kind}
-use Rattle.rl_tokens.specs.Texts.{passes}
-use Rattle.rl_tokens.specs.Quoted.{QuotedUnit, Plain, CrLf, Named, Hex, Unicode, Continuation, unit_text, unit_value, is_blank, held, holds_characters, is_plain, IsUnit, EndsBefore, ContinuationsEnd, texts, values}
-use Rattle.rl_grammar.specs.UnitAt.{found, unit_at}
+use Rattle.rl_tokens.specs.Texts.{first_passes}
+use Rattle.rl_tokens.specs.Quoted.{QuotedUnit, Plain, CrLf, Named, Hex, Unicode, Continuation, unit_text, unit_value, is_blank, content_of, holds_characters, is_plain, IsUnit, EndsBefore, ContinuationsEnd, texts, values}
+use Rattle.rl_grammar.specs.Mirrors.UnitAt.{found, unit_at}
 use Rattle.rl_grammar.specs.Rows.{RowEnds, BeginsRow}
 use Rattle.rl_grammar.proofs.UnitLemmas.{some_pair, unit_sound, unit_complete}
 
 -- ---- where continuations end
 
 -- what follows with no blank at its front is as good as the end
-passes_on : (t r : List ℕ) → passes is_blank r ≡ false → passes is_blank (t ++ r) ≡ passes is_blank t
+passes_on : (t r : List ℕ) → first_passes is_blank r ≡ false → first_passes is_blank (t ++ r) ≡ first_passes is_blank t
 passes_on [] r h = h
 passes_on (c ∷ t) r h = refl
 
-ends_on : (u : QuotedUnit) (t r : List ℕ) → passes is_blank r ≡ false → EndsBefore u t → EndsBefore u (t ++ r)
+ends_on : (u : QuotedUnit) (t r : List ℕ) → first_passes is_blank r ≡ false → EndsBefore u t → EndsBefore u (t ++ r)
 ends_on (Continuation c run) t r h e = passes_on t r h ∙ e
 ends_on (Plain c) t r h e = e
 ends_on CrLf t r h e = e
@@ -26,7 +26,7 @@ ends_on (Named l) t r h e = e
 ends_on (Hex high low) t r h e = e
 ends_on (Unicode first more) t r h e = e
 
-ends_off : (u : QuotedUnit) (t r : List ℕ) → passes is_blank r ≡ false → EndsBefore u (t ++ r) → EndsBefore u t
+ends_off : (u : QuotedUnit) (t r : List ℕ) → first_passes is_blank r ≡ false → EndsBefore u (t ++ r) → EndsBefore u t
 ends_off (Continuation c run) t r h e = sym (passes_on t r h) ∙ e
 ends_off (Plain c) t r h e = e
 ends_off CrLf t r h e = e
@@ -35,7 +35,7 @@ ends_off (Hex high low) t r h e = e
 ends_off (Unicode first more) t r h e = e
 
 -- a unit ends before what has no blank at its front
-pub ends_before : (u : QuotedUnit) (r : List ℕ) → passes is_blank r ≡ false → EndsBefore u r
+pub ends_before : (u : QuotedUnit) (r : List ℕ) → first_passes is_blank r ≡ false → EndsBefore u r
 ends_before (Continuation c run) r h = h
 ends_before (Plain c) r h = tt
 ends_before CrLf r h = tt
@@ -43,11 +43,11 @@ ends_before (Named l) r h = tt
 ends_before (Hex high low) r h = tt
 ends_before (Unicode first more) r h = tt
 
-pub row_ends_on : (us : List QuotedUnit) (r : List ℕ) → passes is_blank r ≡ false → ContinuationsEnd us → RowEnds us r
+pub row_ends_on : (us : List QuotedUnit) (r : List ℕ) → first_passes is_blank r ≡ false → ContinuationsEnd us → RowEnds us r
 row_ends_on [] r h e = tt
 row_ends_on (u ∷ us) r h e = (ends_on u (texts us) r h e.0, row_ends_on us r h e.1)
 
-pub row_ends_off : (us : List QuotedUnit) (r : List ℕ) → passes is_blank r ≡ false → RowEnds us r → ContinuationsEnd us
+pub row_ends_off : (us : List QuotedUnit) (r : List ℕ) → first_passes is_blank r ≡ false → RowEnds us r → ContinuationsEnd us
 row_ends_off [] r h e = tt
 row_ends_off (u ∷ us) r h e = (ends_off u (texts us) r h e.0, row_ends_off us r h e.1)
 
@@ -88,14 +88,14 @@ row_step kind a v b p row h =
 
 -- ---- a run of plain characters
 
-held_nil : (kind : Kind) → held kind [] ≡ []
+held_nil : (kind : Kind) → content_of kind [] ≡ []
 held_nil kind = go (holds_characters kind)
   where
     go : (b : Bool) → cond b [] (encode_utf8_all []) ≡ []
     go true = refl
     go false = refl
 
-held_more : (kind : Kind) (c : ℕ) (cs : List ℕ) → held kind (c ∷ []) ++ held kind cs ≡ held kind (c ∷ cs)
+held_more : (kind : Kind) (c : ℕ) (cs : List ℕ) → content_of kind (c ∷ []) ++ content_of kind cs ≡ content_of kind (c ∷ cs)
 held_more kind c cs = go (holds_characters kind)
   where
     go : (b : Bool) → cond b (c ∷ []) (encode_utf8_all (c ∷ [])) ++ cond b cs (encode_utf8_all cs) ≡ cond b (c ∷ cs) (encode_utf8_all (c ∷ cs))
@@ -103,13 +103,13 @@ held_more kind c cs = go (holds_characters kind)
     go false = ap (λ z. z ++ encode_utf8_all cs) (append-nil (encode_utf8 c))
 
 -- each of its characters is a unit
-pub row_run : (kind : Kind) (a v run b : List ℕ) → list_all (is_plain kind) run ≡ true → BeginsRow kind a v (run ++ b) → BeginsRow kind a (v ++ held kind run) b
+pub row_run : (kind : Kind) (a v run b : List ℕ) → list_all (is_plain kind) run ≡ true → BeginsRow kind a v (run ++ b) → BeginsRow kind a (v ++ content_of kind run) b
 row_run kind a v [] b plain row = subst (λ w. BeginsRow kind a w b) (sym (ap (λ z. v ++ z) (held_nil kind) ∙ append-nil v)) row
 row_run kind a v (c ∷ run) b plain row =
     let parts = and_parts (is_plain kind c) (list_all (is_plain kind) run) plain in
-    let one = row_step kind a v (c ∷ (run ++ b)) (held kind (c ∷ []), run ++ b) row (unit_complete kind (Plain c) (run ++ b) parts.0 tt) in
-    let value = append_assoc v (held kind (c ∷ [])) (held kind run) ∙ ap (λ z. v ++ z) (held_more kind c run) in
-    subst (λ w. BeginsRow kind a w b) value (row_run kind a (v ++ held kind (c ∷ [])) run b parts.1 one)
+    let one = row_step kind a v (c ∷ (run ++ b)) (content_of kind (c ∷ []), run ++ b) row (unit_complete kind (Plain c) (run ++ b) parts.0 tt) in
+    let value = append_assoc v (content_of kind (c ∷ [])) (content_of kind run) ∙ ap (λ z. v ++ z) (held_more kind c run) in
+    subst (λ w. BeginsRow kind a w b) value (row_run kind a (v ++ content_of kind (c ∷ [])) run b parts.1 one)
 
 -- a run before a row
 pub row_behind : (kind : Kind) (run b v r : List ℕ) → list_all (is_plain kind) run ≡ true → BeginsRow kind b v r → (w : List ℕ) × BeginsRow kind (run ++ b) w r
@@ -117,13 +117,13 @@ row_behind kind [] b v r plain row = (v, row)
 row_behind kind (c ∷ run) b v r plain row =
     let parts = and_parts (is_plain kind c) (list_all (is_plain kind) run) plain in
     let (w, more) = row_behind kind run b v r parts.1 row in (
-      held kind (c ∷ []) ++ w,
+      content_of kind (c ∷ []) ++ w,
       record {
         units = Plain c ∷ more.units;
         each = (parts.0, more.each);
         ends = (tt, more.ends);
         text_is = ap (λ z. c ∷ z) more.text_is;
-        value_is = ap (λ z. held kind (c ∷ []) ++ z) more.value_is;
+        value_is = ap (λ z. content_of kind (c ∷ []) ++ z) more.value_is;
       },
     )
 

@@ -2,12 +2,12 @@
 use Rattle.std.proofs.Common.{◌≡◌, ℕ, Bool, true, false, not, ◌&&◌, ◌==◌, cond, List, [], ◌∷◌, ◌++◌, refl, ap, ◌∙◌, inl, inr}
 use Rattle.std.proofs.lemmas.Bool.{and_parts, and_from, not-true, not_from_false}
 use Rattle.std.specs.List.{list_all}
-use Rattle.rl_tokens.specs.Texts.{passes, xid_ok}
+use Rattle.rl_tokens.specs.Texts.{first_passes, xid_ok}
 use Rattle.rl_tokens.specs.Numbers.{IsSuffix}
 use Rattle.rl_tokens.specs.Quoted.{is_blank}
-use Rattle.rl_grammar.specs.NumberAt.{run, after_run, is_suffix}
-use Rattle.rl_grammar.specs.Forms.{after_hashes}
-use Rattle.rl_grammar.specs.UnitAt.{after_blanks}
+use Rattle.rl_grammar.specs.Mirrors.NumberAt.{run, after_run, is_suffix}
+use Rattle.rl_grammar.specs.Mirrors.OpenerAt.{after_hashes}
+use Rattle.rl_grammar.specs.Mirrors.UnitAt.{after_blanks}
 use Rattle.rl_grammar.proofs.DigitRowLemmas.{run_yes, run_no}
 
 -- each character of a run passes
@@ -21,12 +21,12 @@ run_all test (c ∷ cs) = go (run_all test cs) (test c) refl
     go ih false h = refl
 
 -- what follows a run doesn't go on with it
-pub run_ends : (test : ℕ → Bool) (t : List ℕ) → passes test (after_run test t) ≡ false
+pub run_ends : (test : ℕ → Bool) (t : List ℕ) → first_passes test (after_run test t) ≡ false
 unfolding after_run
 run_ends test [] = refl
 run_ends test (c ∷ cs) = go (run_ends test cs) (test c) refl
   where
-    go : passes test (after_run test cs) ≡ false → (b : Bool) → test c ≡ b → passes test (cond b (after_run test cs) (c ∷ cs)) ≡ false
+    go : first_passes test (after_run test cs) ≡ false → (b : Bool) → test c ≡ b → first_passes test (cond b (after_run test cs) (c ∷ cs)) ≡ false
     go ih true h = ih
     go ih false h = h
 
@@ -41,7 +41,7 @@ run_join test (c ∷ cs) = go (run_join test cs) (test c)
     go ih false = refl
 
 -- a row that passes, before what doesn't, is the run
-pub run_past : (test : ℕ → Bool) (row x : List ℕ) → list_all test row ≡ true → passes test x ≡ false → (run test (row ++ x) ≡ row) × (after_run test (row ++ x) ≡ x)
+pub run_past : (test : ℕ → Bool) (row x : List ℕ) → list_all test row ≡ true → first_passes test x ≡ false → (run test (row ++ x) ≡ row) × (after_run test (row ++ x) ≡ x)
 unfolding run after_run
 run_past test [] [] h k = (refl, refl)
 run_past test [] (c ∷ cs) h k = run_no test c cs k

@@ -6,10 +6,10 @@ use Rattle.std.proofs.lemmas.Str.{encodes-chars, encodes-append}
 use Rattle.rl_tokens.specs.declared.kind.Kind.{Kind}
 use Rattle.rl_tokens.specs.declared.kind.Kind.TheVariants.{Str, ByteStr, CStr, Byte, Char, Int, Float, Bool as BoolKind}
 use Rattle.rl_tokens.specs.Quoted.{opener, raw_opener}
-use Rattle.rl_grammar.specs.declared.quoted.Form.{Form}
-use Rattle.rl_grammar.specs.declared.quoted.Form.TheVariants.{Cooked as CookedForm, Raw as RawForm, Single as SingleForm}
+use Rattle.rl_grammar.specs.declared.quoted.QuotedForm.{QuotedForm}
+use Rattle.rl_grammar.specs.declared.quoted.QuotedForm.TheVariants.{Cooked as CookedForm, Raw as RawForm, Single as SingleForm}
 use Rattle.rl_grammar.specs.Forms.{PartsAre}
-use Rattle.rl_grammar.specs.Shapes.{IsCookedCut, IsQuotedCut}
+use Rattle.rl_grammar.specs.Shapes.{IsCookedSplit, IsQuotedSplit}
 
 -- ---- openers, quotes and hashes are ASCII
 
@@ -61,14 +61,14 @@ text_bytes xs cs bs u e = encodes-append (chars xs) cs ∙ ap (λ z. z ++ encode
 whole : (t cs bs : List ℕ) → IsUtf8 t → chars t ≡ cs → encode_utf8_all cs ≡ bs → t ≡ bs
 whole t cs bs u e b = sym (encodes-chars t u) ∙ ap encode_utf8_all e ∙ b
 
-pub cooked_cut : (kind : Kind) (t v b x : List ℕ) → IsUtf8 t → IsUtf8 b → IsUtf8 x → PartsAre CookedForm kind (chars t) v (chars b) (chars x) → IsCookedCut kind t b x
+pub cooked_cut : (kind : Kind) (t v b x : List ℕ) → IsUtf8 t → IsUtf8 b → IsUtf8 x → PartsAre CookedForm kind (chars t) v (chars b) (chars x) → IsCookedSplit kind t b x
 cooked_cut kind t v b x ut ub ux p =
     let c = p.0 in
     let text : chars t ≡ opener kind ++ (chars b ++ (34 ∷ chars x)) = c.text_is ∙ ap (λ z. opener kind ++ (z ++ (34 ∷ chars x))) (sym p.1) in
     let closer = double_bytes (chars x) ∙ ap (λ z. 34 ∷ z) (encodes-chars x ux) in
     record { string = c.string; text_is = whole t _ _ ut text (front_bytes (opener kind) _ _ (opener_bytes kind) (text_bytes b _ _ ub closer)) }
 
-pub parts_cut : (form : Form) (kind : Kind) (t v b x : List ℕ) → IsUtf8 t → IsUtf8 b → IsUtf8 x → PartsAre form kind (chars t) v (chars b) (chars x) → IsQuotedCut kind t b x
+pub parts_cut : (form : QuotedForm) (kind : Kind) (t v b x : List ℕ) → IsUtf8 t → IsUtf8 b → IsUtf8 x → PartsAre form kind (chars t) v (chars b) (chars x) → IsQuotedSplit kind t b x
 parts_cut CookedForm kind t v b x ut ub ux p = inl (cooked_cut kind t v b x ut ub ux p)
 parts_cut RawForm kind t v b x ut ub ux p =
     let r = p.0 in

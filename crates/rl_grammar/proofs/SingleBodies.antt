@@ -5,12 +5,12 @@ use Rattle.rl_tokens.specs.declared.kind.Kind.{Kind}
 use Rattle.rl_tokens.specs.Quoted.{is_single, unit_text}
 use Rattle.rl_tokens.specs.Reading.{quoted_contents, ReadsQuoted}
 use Rattle.rl_grammar.specs.declared.bodies.Body.{Body}
-use Rattle.rl_grammar.specs.declared.quoted.Form.{Form}
-use Rattle.rl_grammar.specs.declared.quoted.Form.TheVariants.{Cooked as CookedForm, Raw as RawForm, Single as SingleForm}
+use Rattle.rl_grammar.specs.declared.quoted.QuotedForm.{QuotedForm}
+use Rattle.rl_grammar.specs.declared.quoted.QuotedForm.TheVariants.{Cooked as CookedForm, Raw as RawForm, Single as SingleForm}
 use Rattle.rl_grammar.specs.Bodies.{HasSingleBody}
 use Rattle.rl_grammar.specs.Forms.{PartsAre}
 use Rattle.rl_grammar.specs.Founds.{IsQuotedAt, body_in}
-use Rattle.rl_grammar.specs.UnitAt.{found, unit_at}
+use Rattle.rl_grammar.specs.Mirrors.UnitAt.{found, unit_at}
 use Rattle.rl_grammar.proofs.ContentLemmas.{one_value}
 use Rattle.rl_grammar.proofs.FormLemmas.{not_both, parts_read}
 use Rattle.rl_grammar.proofs.RowLemmas.{ends_before}
@@ -45,7 +45,7 @@ body_one kind t body p has unit =
 -- ---- where it stands
 
 -- a character or a byte has one form
-single_parts : (form : Form) (kind : Kind) (t value body suffix : List ℕ) → is_single kind ≡ true → PartsAre form kind t value body suffix → PartsAre SingleForm kind t value body suffix
+single_parts : (form : QuotedForm) (kind : Kind) (t value body suffix : List ℕ) → is_single kind ≡ true → PartsAre form kind t value body suffix → PartsAre SingleForm kind t value body suffix
 single_parts SingleForm kind t value body suffix s p = p
 single_parts CookedForm kind t value body suffix s p = absurd (not_both kind p.0.string s)
 single_parts RawForm kind t value body suffix s p = absurd (not_both kind p.0.string s)

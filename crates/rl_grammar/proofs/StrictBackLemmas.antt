@@ -8,8 +8,8 @@ use Rattle.std.specs.Prelude.{nat_lt, nat_le}
 use Rattle.rl_tokens.specs.declared.kind.Kind.{Kind}
 use Rattle.rl_tokens.specs.declared.kind.Kind.TheVariants.{Str, ByteStr, CStr, Byte, Char, Int, Float, Bool as BoolKind}
 use Rattle.rl_tokens.specs.Texts.{is_underscore}
-use Rattle.rl_tokens.specs.Quoted.{QuotedUnit, Letter, Named, Hex, Unicode, LowerN, LowerR, LowerT, Backslash, Apostrophe, Quote, Zero, letter_text, letter_value, unit_text, unit_value, held, place_value, without_underscores, unicode_value, hex_value, is_hex_digit, is_plain, may_hold, IsUnit}
-use Rattle.rl_tokens.specs.Strict.{StrictUnit, Itself, QuoteEscape, PlainEscape, AsciiEscape, ByteEscape, UnicodeEscape, LineBreak, spaced_digit, strict_text, number_of, strict_contents, taken_in, is_octal, is_unicode_escape, is_strict_unit, HasUnits}
+use Rattle.rl_tokens.specs.Quoted.{QuotedUnit, Letter, Named, Hex, Unicode, LowerN, LowerR, LowerT, Backslash, Apostrophe, Quote, Zero, letter_text, letter_value, unit_text, unit_value, content_of, place_value, without_underscores, unicode_value, hex_value, is_hex_digit, is_plain, allows_code, IsUnit}
+use Rattle.rl_tokens.specs.Strict.{StrictUnit, Itself, QuoteEscape, PlainEscape, AsciiEscape, ByteEscape, UnicodeEscape, LineBreak, spaced_digit, strict_text, spelled_number, strict_contents, strict_content_of, is_octal, is_unicode_escape, is_strict_unit, HasUnits}
 use Rattle.rl_tokens.proofs.Basics.{hex_is_sixteen}
 use Rattle.rl_tokens.proofs.StrictQuoted.{hex_first, same_number, bare_digits, digits_count}
 
@@ -19,7 +19,7 @@ pub record Back (k : Kind) (u : QuotedUnit) : Type 0 where
   pub is_unit : is_strict_unit k unit ≡ true
   pub no_break : (blanks : List ℕ) → unit ≡ LineBreak blanks → ⊥
   pub text_is : unit_text u ≡ strict_text unit
-  pub value_is : unit_value k u ≡ strict_contents (taken_in k) unit
+  pub value_is : unit_value k u ≡ strict_contents (strict_content_of k) unit
 
 -- the kind is a quoted one
 abbrev pub IsQuotedKind : Kind → Type 0
@@ -50,12 +50,12 @@ escape_letter CStr letter n h = and_from _ _ h (not_from_false _ n)
 escape_letter _ letter n h = h
 
 -- all kinds but C strings have `0`
-zero_letter : (k : Kind) → may_hold k 0 ≡ true → is_strict_unit k (PlainEscape 48) ≡ true
+zero_letter : (k : Kind) → allows_code k 0 ≡ true → is_strict_unit k (PlainEscape 48) ≡ true
 zero_letter CStr h = absurd (cc)
 zero_letter _ h = refl
 
 -- an escape of one letter
-plain_escape : (k : Kind) (l : Letter) → is_strict_unit k (PlainEscape (letter_text l)) ≡ true → letter_value l ∷ [] ≡ strict_contents (taken_in k) (PlainEscape (letter_text l)) → Back k (Named l)
+plain_escape : (k : Kind) (l : Letter) → is_strict_unit k (PlainEscape (letter_text l)) ≡ true → letter_value l ∷ [] ≡ strict_contents (strict_content_of k) (PlainEscape (letter_text l)) → Back k (Named l)
 plain_escape k l h v = record { unit = PlainEscape (letter_text l); is_unit = h; no_break = λ b e. absurd (cc); text_is = refl; value_is = v }
 
 -- an escaped quote
@@ -63,7 +63,7 @@ quote_escape : (k : Kind) (l : Letter) → is_strict_unit k (QuoteEscape (letter
 quote_escape k l h v = record { unit = QuoteEscape (letter_text l); is_unit = h; no_break = λ b e. absurd (cc); text_is = refl; value_is = ap (λ n. n ∷ []) v }
 
 -- the escapes of a backslash and one letter
-pub named_escape : (k : Kind) (l : Letter) → may_hold k (letter_value l) ≡ true → Back k (Named l)
+pub named_escape : (k : Kind) (l : Letter) → allows_code k (letter_value l) ≡ true → Back k (Named l)
 named_escape k LowerN h = plain_escape k LowerN (escape_letter k 110 refl refl) refl
 named_escape k LowerR h = plain_escape k LowerR (escape_letter k 114 refl refl) refl
 named_escape k LowerT h = plain_escape k LowerT (escape_letter k 116 refl refl) refl
@@ -145,7 +145,7 @@ group_some first n (c ∷ cs) =
     ]
 
 -- they spell the number
-unicode_number : (first : ℕ) (more : List ℕ) → list_all hex_first (group first 0 more) ≡ true → number_of 16 (map (λ d. d.0) (group first 0 more)) ≡ unicode_value first more
+unicode_number : (first : ℕ) (more : List ℕ) → list_all hex_first (group first 0 more) ≡ true → spelled_number 16 (map (λ d. d.0) (group first 0 more)) ≡ unicode_value first more
 unicode_number first more h = same_number (map (λ d. d.0) (group first 0 more)) ∙ ap (place_value 16) (sym (bare_digits (group first 0 more) h) ∙ ap without_underscores (group_text first 0 more))
 
 -- what the lenient reading allows, the strict grammar does
@@ -156,16 +156,16 @@ unicode_allowed first more h each few s =
     let long : length (group first 0 more) ≡ length (without_underscores (first ∷ more)) = sym (digits_count (group first 0 more)) ∙ ap length (sym (bare_digits (group first 0 more) hexes) ∙ ap without_underscores (group_text first 0 more)) in
     let Few : ℕ → Type 0 = λ n. n ≤ 6 in
     and_from _ _ (and_from _ _ (and_from _ _ (group_some first 0 more) (le-leb _ 6 (subst Few (sym long) few))) hexes)
-    (and_from (scalar (number_of 16 (map (λ d. d.0) (group first 0 more)))) true (subst IsScalar (sym same) s) refl)
+    (and_from (scalar (spelled_number 16 (map (λ d. d.0) (group first 0 more)))) true (subst IsScalar (sym same) s) refl)
 
 -- an escape by grouped digits
-spaced_escape : (k : Kind) (first : ℕ) (more : List ℕ) → is_strict_unit k (UnicodeEscape (group first 0 more)) ≡ true → held k (unicode_value first more ∷ []) ≡ taken_in k (unicode_value first more ∷ []) → number_of 16 (map (λ d. d.0) (group first 0 more)) ≡ unicode_value first more → Back k (Unicode first more)
+spaced_escape : (k : Kind) (first : ℕ) (more : List ℕ) → is_strict_unit k (UnicodeEscape (group first 0 more)) ≡ true → content_of k (unicode_value first more ∷ []) ≡ strict_content_of k (unicode_value first more ∷ []) → spelled_number 16 (map (λ d. d.0) (group first 0 more)) ≡ unicode_value first more → Back k (Unicode first more)
 spaced_escape k first more h same number = record {
   unit = UnicodeEscape (group first 0 more);
   is_unit = h;
   no_break = λ b e. absurd (cc);
   text_is = ap (λ z. 92 ∷ 117 ∷ 123 ∷ (z ++ (125 ∷ []))) (sym (group_text first 0 more));
-  value_is = same ∙ ap (λ n. taken_in k (n ∷ [])) (sym number);
+  value_is = same ∙ ap (λ n. strict_content_of k (n ∷ [])) (sym number);
 }
 
 -- the escapes by one to six digits

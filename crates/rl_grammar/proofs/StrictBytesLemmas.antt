@@ -7,10 +7,10 @@ use Rattle.std.specs.List.{AllByRecursion, flat_map, list_all}
 use Rattle.std.specs.Prelude.{⊤}
 use Rattle.rl_tokens.specs.declared.kind.Kind.{Kind}
 use Rattle.rl_tokens.specs.declared.kind.Kind.TheVariants.{Str, ByteStr, CStr, Byte, Char, Int, Float, Bool as BoolKind}
-use Rattle.rl_tokens.specs.Texts.{passes}
+use Rattle.rl_tokens.specs.Texts.{first_passes}
 use Rattle.rl_tokens.specs.Quoted.{QuotedUnit, Plain, CrLf, Named, Hex, Unicode, Continuation, unit_text, unit_value, is_blank, is_plain, IsUnit, texts, values, EndsBefore, ContinuationsEnd, Cooked, Single}
 use Rattle.rl_tokens.specs.Reading.{Contents, Bytes, Reads}
-use Rattle.rl_tokens.specs.Strict.{StrictUnit, Itself, LineBreak, strict_text, strict_contents, is_dropped_blank, is_strict_unit, BlanksEnd, taken_in, StrictCooked, IsStrictSuffix}
+use Rattle.rl_tokens.specs.Strict.{StrictUnit, Itself, LineBreak, strict_text, strict_contents, is_dropped_blank, is_strict_unit, BlanksEnd, strict_content_of, StrictCooked, IsStrictSuffix}
 use Rattle.rl_tokens.proofs.Agreeing.{strict_reads}
 use Rattle.rl_tokens.proofs.StrictQuoted.{cooked_reads}
 use Rattle.rl_grammar.specs.StrictBytes.{KeepsBytesStrict}
@@ -34,7 +34,7 @@ record Same (k : Kind) (u : QuotedUnit) : Type 0 where
   unit : StrictUnit
   is_unit : is_strict_unit k unit ≡ true
   text_is : unit_text u ≡ strict_text unit
-  value_is : unit_value k u ≡ strict_contents (taken_in k) unit
+  value_is : unit_value k u ≡ strict_contents (strict_content_of k) unit
   may_end : (t : List ℕ) → EndsBefore u t → MayEnd unit t
 
 -- an escape
@@ -76,7 +76,7 @@ all_dropped (c ∷ run) h n =
     let q = and_parts (no_return c) (list_all no_return run) n in
     and_from (is_dropped_blank c) (list_all is_dropped_blank run) (dropped c p.0 q.0) (all_dropped run p.1 q.1)
 
-not_dropped : (t : List ℕ) → passes is_blank t ≡ false → passes is_dropped_blank t ≡ false
+not_dropped : (t : List ℕ) → first_passes is_blank t ≡ false → first_passes is_dropped_blank t ≡ false
 not_dropped [] h = refl
 not_dropped (c ∷ t) h = (or_parts (is_dropped_blank c) (c == 13) h).0
 
@@ -105,7 +105,7 @@ record SameRow (k : Kind) (us : List QuotedUnit) : Type 0 where
   each : list_all (is_strict_unit k) units ≡ true
   blanks_end : BlanksEnd units
   text_is : texts us ≡ flat_map strict_text units
-  value_is : values k us ≡ flat_map (strict_contents (taken_in k)) units
+  value_is : values k us ≡ flat_map (strict_contents (strict_content_of k)) units
 
 row_same : (k : Kind) (us : List QuotedUnit) → IsByteKind k → AllByRecursion (IsUnit k) us → ContinuationsEnd us → list_all no_return (texts us) ≡ true → SameRow k us
 row_same k [] b e c n = record { units = []; each = refl; blanks_end = tt; text_is = refl; value_is = refl }
@@ -118,7 +118,7 @@ row_same k (u ∷ us) b e c n =
       each = and_from (is_strict_unit k s.unit) (list_all (is_strict_unit k) r.units) s.is_unit r.each;
       blanks_end = blanks_cons s.unit r.units (subst (MayEnd s.unit) r.text_is (s.may_end (texts us) c.0)) r.blanks_end;
       text_is = ap (λ z. z ++ texts us) s.text_is ∙ ap (λ z. strict_text s.unit ++ z) r.text_is;
-      value_is = ap (λ z. z ++ values k us) s.value_is ∙ ap (λ z. strict_contents (taken_in k) s.unit ++ z) r.value_is;
+      value_is = ap (λ z. z ++ values k us) s.value_is ∙ ap (λ z. strict_contents (strict_content_of k) s.unit ++ z) r.value_is;
     }
 
 -- ---- the two forms
@@ -180,7 +180,7 @@ byte_strict t v x r n s =
       suffix = s;
       text = f.text_is ∙ ap (λ z. 98 ∷ 39 ∷ (z ++ (39 ∷ x))) (u.text_is ∙ sym (append-nil (strict_text u.unit)))
           ∙ ap (λ z. 98 ∷ 39 ∷ z) (sym (append_assoc (strict_text u.unit ++ []) (39 ∷ []) x));
-      contents = v_is ∙ ap Bytes (f.value_is ∙ u.value_is ∙ sym (append-nil (strict_contents (taken_in Byte) u.unit)));
+      contents = v_is ∙ ap Bytes (f.value_is ∙ u.value_is ∙ sym (append-nil (strict_contents (strict_content_of Byte) u.unit)));
     }
 
 pub bytes_are_strict : (t : List ℕ) → KeepsBytesStrict t

@@ -10,15 +10,16 @@ use Rattle.rl_tokens.specs.declared.kind.Kind.TheVariants.{Str, ByteStr, CStr, B
 use Rattle.rl_tokens.specs.Numbers.{NoSign}
 use Rattle.rl_tokens.specs.Quoted.{opener, raw_opener}
 use Rattle.rl_tokens.specs.Reading.{Contents, Truth, truth_text}
-use Rattle.rl_tokens.specs.Strict.{StrictCooked, StrictRaw, Strict, opens, opens_raw, ends, strict_text, held_by, strict_contents, taken_in}
+use Rattle.rl_tokens.specs.Strict.{StrictCooked, StrictRaw, Strict, strict_opener, strict_raw_opener, strict_closer, strict_text, strict_quoted_contents, strict_contents, strict_content_of}
 use Rattle.rl_tokens.proofs.Basics.{apart}
 use Rattle.rl_tokens.proofs.OneNumber.{begins_number, float_front, int_front}
 use Rattle.rl_tokens.proofs.StrictNumbers.{strict_int, float_strict_reads}
 use Rattle.rl_tokens.proofs.StrictQuoted.{between}
-use Rattle.rl_grammar.specs.declared.quoted.Form.{Form}
-use Rattle.rl_grammar.specs.declared.quoted.Form.TheVariants.{Cooked as CookedForm, Raw as RawForm, Single as SingleForm}
-use Rattle.rl_grammar.specs.Forms.{has_form, form_opener, front_at}
-use Rattle.rl_grammar.specs.StrictAt.{is_strict_number}
+use Rattle.rl_grammar.specs.declared.quoted.QuotedForm.{QuotedForm}
+use Rattle.rl_grammar.specs.declared.quoted.QuotedForm.TheVariants.{Cooked as CookedForm, Raw as RawForm, Single as SingleForm}
+use Rattle.rl_grammar.specs.Forms.{has_form, form_opener}
+use Rattle.rl_grammar.specs.Mirrors.OpenerAt.{opener_at}
+use Rattle.rl_grammar.specs.Mirrors.StrictAt.{is_strict_number}
 use Rattle.rl_grammar.specs.StrictShapes.{IsToken, IsStrictNumber, ClosesUnits, ClosesRaw, Closes}
 use Rattle.rl_grammar.proofs.FormLemmas.{front_complete, front_sound}
 use Rattle.rl_grammar.proofs.StrictBackLemmas.{IsQuotedKind}
@@ -28,7 +29,7 @@ use Rattle.rl_grammar.proofs.StrictRowLemmas.{quoted_string, quoted_single}
 -- ---- both grammars open their forms alike
 
 -- the quotes
-opener_is : (k : Kind) → opener k ≡ opens k
+opener_is : (k : Kind) → opener k ≡ strict_opener k
 opener_is Str = refl
 opener_is ByteStr = refl
 opener_is CStr = refl
@@ -39,7 +40,7 @@ opener_is Float = refl
 opener_is BoolKind = refl
 
 -- the letters of raw forms
-raw_opener_is : (k : Kind) → raw_opener k ≡ opens_raw k
+raw_opener_is : (k : Kind) → raw_opener k ≡ strict_raw_opener k
 raw_opener_is Str = refl
 raw_opener_is ByteStr = refl
 raw_opener_is CStr = refl
@@ -65,7 +66,7 @@ quoted_strict t BoolKind v x q s = absurd q
 -- units, a quote and a suffix behind an opener
 units_token : (k : Kind) (t inside : List ℕ) → IsQuotedKind k → t ≡ opener k ++ inside → ClosesUnits k inside → IsToken t
 units_token k t inside q text c =
-    let v : Contents = held_by k (flat_map (strict_contents (taken_in k)) c.units) in
+    let v : Contents = strict_quoted_contents k (flat_map (strict_contents (strict_content_of k)) c.units) in
     record {
       kind = k;
       contents = v;
@@ -76,7 +77,7 @@ units_token k t inside q text c =
         each = c.each;
         blanks_end = c.blanks_end;
         suffix = c.is_suffix;
-        text = text ∙ ap (λ z. z ++ inside) (opener_is k) ∙ ap (λ z. opens k ++ z) c.text_is ∙ sym (between (opens k) (flat_map strict_text c.units) (ends k) c.suffix);
+        text = text ∙ ap (λ z. z ++ inside) (opener_is k) ∙ ap (λ z. strict_opener k ++ z) c.text_is ∙ sym (between (strict_opener k) (flat_map strict_text c.units) (strict_closer k) c.suffix);
         contents = refl;
       }));
     }
@@ -90,7 +91,7 @@ raw_token : (k : Kind) (t inside : List ℕ) → IsQuotedKind k → t ≡ raw_op
 raw_token k t inside q text c =
     let i = c.closes in
     let h : List ℕ = replicate c.hashes 35 in
-    let v : Contents = held_by k (taken_in k i.inside) in
+    let v : Contents = strict_quoted_contents k (strict_content_of k i.inside) in
     record {
       kind = k;
       contents = v;
@@ -103,13 +104,13 @@ raw_token k t inside q text c =
         no_carriage_return = i.no_carriage_return;
         first_close = λ f r e. i.first_close f r (e ∙ append_assoc f (34 ∷ h) r);
         suffix = i.is_suffix;
-        text = text ∙ ap (λ z. z ++ inside) (raw_opener_is k) ∙ ap (λ z. opens_raw k ++ z) (c.text_is ∙ ap (λ z. h ++ (34 ∷ z)) i.text_is) ∙ sym (raw_text (opens_raw k) h i.inside i.suffix);
+        text = text ∙ ap (λ z. z ++ inside) (raw_opener_is k) ∙ ap (λ z. strict_raw_opener k ++ z) (c.text_is ∙ ap (λ z. h ++ (34 ∷ z)) i.text_is) ∙ sym (raw_text (strict_raw_opener k) h i.inside i.suffix);
         contents = refl;
       }));
     }
 
 -- any form behind its opener
-close_token : (form : Form) (k : Kind) (t inside : List ℕ) → has_form form k ≡ true → t ≡ form_opener form k ++ inside → Closes form k inside → IsToken t
+close_token : (form : QuotedForm) (k : Kind) (t inside : List ℕ) → has_form form k ≡ true → t ≡ form_opener form k ++ inside → Closes form k inside → IsToken t
 close_token CookedForm k t inside h text c = units_token k t inside (quoted_string k h) text c
 close_token SingleForm k t inside h text c = units_token k t inside (quoted_single k h) text c
 close_token RawForm k t inside h text c = raw_token k t inside (quoted_string k h) text c
@@ -118,7 +119,7 @@ close_token RawForm k t inside h text c = raw_token k t inside (quoted_string k 
 
 -- a quoted form, behind its opener
 record Opened (t : List ℕ) : Type 0 where
-  form : Form
+  form : QuotedForm
   kind : Kind
   inside : List ℕ
   has : has_form form kind ≡ true
@@ -130,20 +131,20 @@ abbrev Seen : List ℕ → Type 0
 Seen t = Opened t ⊎ (IsStrictNumber t ⊎ ((b : Bool) × (t ≡ truth_text b)))
 
 -- what stands behind the opener of a form with escapes
-units_closed : (k : Kind) (t : List ℕ) (v : Contents) (x : List ℕ) (s : StrictCooked t k v x) → ClosesUnits k (flat_map strict_text s.units ++ (ends k ++ x))
+units_closed : (k : Kind) (t : List ℕ) (v : Contents) (x : List ℕ) (s : StrictCooked t k v x) → ClosesUnits k (flat_map strict_text s.units ++ (strict_closer k ++ x))
 units_closed k t v x s = record { units = s.units; suffix = x; count = s.count; each = s.each; blanks_end = s.blanks_end; is_suffix = s.suffix; text_is = refl }
 
 -- and the opener before it
-units_text : (k : Kind) (t : List ℕ) (v : Contents) (x : List ℕ) (s : StrictCooked t k v x) → t ≡ opener k ++ (flat_map strict_text s.units ++ (ends k ++ x))
-units_text k t v x s = s.text ∙ between (opens k) (flat_map strict_text s.units) (ends k) x ∙ ap (λ z. z ++ (flat_map strict_text s.units ++ (ends k ++ x))) (sym (opener_is k))
+units_text : (k : Kind) (t : List ℕ) (v : Contents) (x : List ℕ) (s : StrictCooked t k v x) → t ≡ opener k ++ (flat_map strict_text s.units ++ (strict_closer k ++ x))
+units_text k t v x s = s.text ∙ between (strict_opener k) (flat_map strict_text s.units) (strict_closer k) x ∙ ap (λ z. z ++ (flat_map strict_text s.units ++ (strict_closer k ++ x))) (sym (opener_is k))
 
 -- a string with escapes
 string_seen : (k : Kind) (t : List ℕ) (v : Contents) (x : List ℕ) → has_form CookedForm k ≡ true → StrictCooked t k v x → Seen t
-string_seen k t v x h s = inl (record { form = CookedForm; kind = k; inside = flat_map strict_text s.units ++ (ends k ++ x); has = h; text_is = units_text k t v x s; closes = units_closed k t v x s })
+string_seen k t v x h s = inl (record { form = CookedForm; kind = k; inside = flat_map strict_text s.units ++ (strict_closer k ++ x); has = h; text_is = units_text k t v x s; closes = units_closed k t v x s })
 
 -- a character or a byte
 single_seen : (k : Kind) (t : List ℕ) (v : Contents) (x : List ℕ) → has_form SingleForm k ≡ true → StrictCooked t k v x → Seen t
-single_seen k t v x h s = inl (record { form = SingleForm; kind = k; inside = flat_map strict_text s.units ++ (ends k ++ x); has = h; text_is = units_text k t v x s; closes = units_closed k t v x s })
+single_seen k t v x h s = inl (record { form = SingleForm; kind = k; inside = flat_map strict_text s.units ++ (strict_closer k ++ x); has = h; text_is = units_text k t v x s; closes = units_closed k t v x s })
 
 -- a raw string
 raw_seen : (k : Kind) (t : List ℕ) (v : Contents) (x : List ℕ) → has_form RawForm k ≡ true → StrictRaw t k v x → Seen t
@@ -155,7 +156,7 @@ raw_seen k t v x has s =
       kind = k;
       inside = h ++ (34 ∷ rest);
       has = has;
-      text_is = s.text ∙ raw_text (opens_raw k) h s.inside x ∙ ap (λ z. z ++ (h ++ (34 ∷ rest))) (sym (raw_opener_is k));
+      text_is = s.text ∙ raw_text (strict_raw_opener k) h s.inside x ∙ ap (λ z. z ++ (h ++ (34 ∷ rest))) (sym (raw_opener_is k));
       closes = record {
         hashes = s.hashes;
         few = s.few;
@@ -197,8 +198,8 @@ seen t BoolKind v x s = inr (inr (s.truth, s.text ∙ truth_words s.truth))
 -- ---- what the front tells
 
 -- no quoted form begins like a number
-number_front : (t : List ℕ) → begins_number t ≡ true → front_at t ≡ None
-unfolding front_at
+number_front : (t : List ℕ) → begins_number t ≡ true → opener_at t ≡ None
+unfolding opener_at
 number_front [] h = absurd (cc)
 number_front (c ∷ cs) h =
     let test : ℕ → Bool = λ c. is_ascii_digit c || (c == 45) in
@@ -210,34 +211,34 @@ number_front (c ∷ cs) h =
     rw (a, b, d, e, f) refl
 
 -- so none begins a number
-number_none : (t : List ℕ) → IsStrictNumber t → front_at t ≡ None
+number_none : (t : List ℕ) → IsStrictNumber t → opener_at t ≡ None
 number_none t (v, x, inl s) = let i = strict_int t x v s in number_front t (int_front t x NoSign i.magnitude i.reads)
 number_none t (v, x, inr s) = let f = float_strict_reads t x v s in number_front t (float_front t f.numeral x f.reads)
 
 -- nor like a truth value
-truth_none : (b : Bool) → front_at (truth_text b) ≡ None
-unfolding front_at
+truth_none : (b : Bool) → opener_at (truth_text b) ≡ None
+unfolding opener_at
 truth_none true = refl
 truth_none false = refl
 
 -- a quoted form is what its front tells
-opened_told : (t : List ℕ) (p : Form × Kind × List ℕ) (o : Opened t) → front_at t ≡ Some p → Closes p.0 p.1 p.2
+opened_told : (t : List ℕ) (p : QuotedForm × Kind × List ℕ) (o : Opened t) → opener_at t ≡ Some p → Closes p.0 p.1 p.2
 opened_told t p o h =
-    let front : Some p ≡ Some (o.form, o.kind, o.inside) = sym h ∙ ap front_at o.text_is ∙ front_complete o.form o.kind o.inside o.has in
+    let front : Some p ≡ Some (o.form, o.kind, o.inside) = sym h ∙ ap opener_at o.text_is ∙ front_complete o.form o.kind o.inside o.has in
     let same : (o.form, o.kind, o.inside) ≡ p = cc in
-    subst (λ (q : Form × Kind × List ℕ). Closes q.0 q.1 q.2) same o.closes
+    subst (λ (q : QuotedForm × Kind × List ℕ). Closes q.0 q.1 q.2) same o.closes
 
 -- where a front tells a form, the text is a token exactly where the form is closed
-pub told_token : (t : List ℕ) (p : Form × Kind × List ℕ) (b : Bool) → Some p ≡ front_at t → IsTrue b ↔ Closes p.0 p.1 p.2 → IsTrue b ↔ IsToken t
+pub told_token : (t : List ℕ) (p : QuotedForm × Kind × List ℕ) (b : Bool) → Some p ≡ opener_at t → IsTrue b ↔ Closes p.0 p.1 p.2 → IsTrue b ↔ IsToken t
 told_token t p b h same =
     let tells = front_sound t p (sym h) in
-    let none : front_at t ≡ None → ⊥ = λ e. let f : Some p ≡ None = h ∙ e in absurd (cc) in (
+    let none : opener_at t ≡ None → ⊥ = λ e. let f : Some p ≡ None = h ∙ e in absurd (cc) in (
       λ y. close_token p.0 p.1 t p.2 tells.has tells.text_is (same.0 y),
       λ c. elim (seen t c.kind c.contents c.suffix c.strict) [
         | inl o ↦ same.1 (opened_told t p o (sym h))
         | inr w ↦ elim w [
           | inl n ↦ absurd (none (number_none t n))
-          | inr v ↦ absurd (none (ap front_at v.1 ∙ truth_none v.0))
+          | inr v ↦ absurd (none (ap opener_at v.1 ∙ truth_none v.0))
         ]
       ],
     )
@@ -261,13 +262,13 @@ pub passed_token : (t : List ℕ) (b : Bool) → b ≡ is_strict_number t → b 
 passed_token t b is h = (λ y. number_token t (number_sound t (sym is ∙ h)), λ c. h)
 
 -- a text that is no quoted form and no number is a token exactly where it is a truth value
-pub other_token : (t : List ℕ) (o : Option Bool) (b : Bool) → None ≡ front_at t → is_strict_number t ≡ false → IfSome o (λ v. t ≡ truth_text v) → IfNone o ((v : Bool) → t ≢ truth_text v) → b ≡ is_some o → IsTrue b ↔ IsToken t
+pub other_token : (t : List ℕ) (o : Option Bool) (b : Bool) → None ≡ opener_at t → is_strict_number t ≡ false → IfSome o (λ v. t ≡ truth_text v) → IfNone o ((v : Bool) → t ≢ truth_text v) → b ≡ is_some o → IsTrue b ↔ IsToken t
 other_token t (Some v) b h n some none is = (λ y. truth_token t v some, λ c. is)
 other_token t None b h n some none is = (
   λ y. absurd (both_ways b is y),
   λ c. elim (seen t c.kind c.contents c.suffix c.strict) [
     | inl o ↦
-        let front : None ≡ Some (o.form, o.kind, o.inside) = h ∙ ap front_at o.text_is ∙ front_complete o.form o.kind o.inside o.has in
+        let front : None ≡ Some (o.form, o.kind, o.inside) = h ∙ ap opener_at o.text_is ∙ front_complete o.form o.kind o.inside o.has in
         absurd (cc)
     | inr w ↦ elim w [
       | inl number ↦ absurd (both_ways (is_strict_number t) n (number_complete t number))

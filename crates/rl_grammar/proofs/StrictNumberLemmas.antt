@@ -3,14 +3,14 @@ use Rattle.std.proofs.Common.{◌≡◌, ℕ, ◌⊎◌, ◌||◌, ◌&&◌, Boo
 use Rattle.std.proofs.lemmas.Bool.{and_from, and_parts, cases_Bool, eqb-true, not-true, not_from_false, or_cases, or_left, or_right}
 use Rattle.std.specs.Char.{is_ascii_digit, is_ascii_hexdigit}
 use Rattle.std.specs.List.{list_all, list_any}
-use Rattle.rl_tokens.specs.Texts.{passes}
-use Rattle.rl_tokens.specs.Numbers.{Base, Binary, Octal, Decimal, Hexadecimal, radix, prefix, IsFront, IsSuffixOf}
+use Rattle.rl_tokens.specs.Texts.{first_passes}
+use Rattle.rl_tokens.specs.Numbers.{Base, Binary, Octal, Decimal, Hexadecimal, radix, prefix, IsBehindPrefix, AllowsSuffix}
 use Rattle.rl_tokens.specs.Reading.{Contents}
 use Rattle.rl_tokens.specs.Strict.{is_row, IsDigits, IsDecimalText, IsNumberSuffix, BasedPrefix, StrictInt, IsStrictExponent, IsDotAlone, IsPointed, IsScientific, StrictFloat}
 use Rattle.rl_tokens.proofs.Basics.{all_same, any_same, apart, digit_is_ten, hex_is_sixteen, passes_same}
 use Rattle.rl_tokens.proofs.StrictNumbers.{foreign_dot, letter_no_part, no_part, suffix_no_part, suffix_without}
-use Rattle.rl_grammar.specs.NumberAt.{is_part, has_value, digits_at, has_digit_at, after_digits, after_power_sign}
-use Rattle.rl_grammar.specs.StrictAt.{is_number_suffix, is_power_letter, is_some_text, ends_power, ends_digits, ends_dot, ends_whole, is_decimal, is_based, is_strict_number}
+use Rattle.rl_grammar.specs.Mirrors.NumberAt.{is_part, has_value, digit_row_at, has_digit_at, after_digits, after_power_sign}
+use Rattle.rl_grammar.specs.Mirrors.StrictAt.{is_number_suffix, is_power_letter, is_some_text, ends_power, ends_digits, ends_dot, ends_whole, is_decimal, is_based, is_strict_number}
 use Rattle.rl_grammar.specs.StrictShapes.{IsStrictNumber}
 use Rattle.rl_grammar.proofs.RunLemmas.{run_all, run_ends, run_join, run_past}
 use Rattle.rl_grammar.proofs.IntegerLemmas.{based, hex_stops, not_based, radix_past}
@@ -32,8 +32,8 @@ some_value : (d : List ℕ) → list_any is_ascii_digit d ≡ list_any (has_valu
 some_value d = any_same is_ascii_digit (has_value 10) digit_is_ten d
 
 -- the digits at the front of a text
-front_digits : (t : List ℕ) → passes is_ascii_digit t ≡ true → IsDigits (digits_at 10 t)
-front_digits t h = (run_first t h, part_row (digits_at 10 t) (run_all (is_part 10) t))
+front_digits : (t : List ℕ) → first_passes is_ascii_digit t ≡ true → IsDigits (digit_row_at 10 t)
+front_digits t h = (run_first t h, part_row (digit_row_at 10 t) (run_all (is_part 10) t))
 
 -- ---- what is strict is passed
 
@@ -74,36 +74,36 @@ exponent_complete e x p s =
     ∙ power_complete p.sign p.row x p.is_sign (row_part p.row p.each) (sym (some_value p.row) ∙ p.some) s
 
 -- a suffix alone
-plain_complete : (x : List ℕ) → IsNumberSuffix x → passes is_power_letter x ≡ false → ends_digits x ≡ true
+plain_complete : (x : List ℕ) → IsNumberSuffix x → first_passes is_power_letter x ≡ false → ends_digits x ≡ true
 unfolding ends_digits
 plain_complete [] s n = number_suffix_complete [] s
 plain_complete (c ∷ cs) s n = ap (λ b. cond b (ends_power cs) (is_number_suffix (c ∷ cs))) n ∙ number_suffix_complete (c ∷ cs) s
 
 -- no suffix begins with a dot
-suffix_no_dot : (x : List ℕ) → IsNumberSuffix x → passes (λ c. c == 46) x ≡ false
+suffix_no_dot : (x : List ℕ) → IsNumberSuffix x → first_passes (λ c. c == 46) x ≡ false
 suffix_no_dot [] s = refl
 suffix_no_dot (c ∷ cs) s = not-true (c == 46) (and_parts (not (c == 46)) (list_all (λ c. not (c == 46)) cs) (suffix_without 46 (c ∷ cs) foreign_dot (lenient_suffix (c ∷ cs) s))).0
 
 -- behind the whole part, where no dot follows
-whole_plain : (y : List ℕ) → passes (λ c. c == 46) y ≡ false → ends_digits y ≡ true → ends_whole y ≡ true
+whole_plain : (y : List ℕ) → first_passes (λ c. c == 46) y ≡ false → ends_digits y ≡ true → ends_whole y ≡ true
 whole_plain [] n h = refl
 whole_plain (c ∷ cs) n h = ap (λ b. cond b (ends_dot cs) (ends_digits (c ∷ cs))) n ∙ h
 
 -- a whole part is taken
-whole_past : (d y : List ℕ) → IsDigits d → passes (is_part 10) y ≡ false → ends_whole y ≡ true → is_decimal (d ++ y) ≡ true
+whole_past : (d y : List ℕ) → IsDigits d → first_passes (is_part 10) y ≡ false → ends_whole y ≡ true → is_decimal (d ++ y) ≡ true
 unfolding is_decimal
 whole_past d y h n e =
-    and_from (passes is_ascii_digit (d ++ y)) (ends_whole (after_digits 10 (d ++ y))) (passes_more is_ascii_digit d y h.0) (ap ends_whole (run_past (is_part 10) d y (row_part d h.1) n).1 ∙ e)
+    and_from (first_passes is_ascii_digit (d ++ y)) (ends_whole (after_digits 10 (d ++ y))) (passes_more is_ascii_digit d y h.0) (ap ends_whole (run_past (is_part 10) d y (row_part d h.1) n).1 ∙ e)
 
 -- a fraction is taken
-fraction_past : (f y : List ℕ) → IsDigits f → passes (is_part 10) y ≡ false → ends_digits y ≡ true → ends_dot (f ++ y) ≡ true
+fraction_past : (f y : List ℕ) → IsDigits f → first_passes (is_part 10) y ≡ false → ends_digits y ≡ true → ends_dot (f ++ y) ≡ true
 unfolding ends_dot
 fraction_past f y h n e =
-    or_right (not (is_some_text (f ++ y))) _ (and_from (passes is_ascii_digit (f ++ y)) (ends_digits (after_digits 10 (f ++ y))) (passes_more is_ascii_digit f y h.0) (ap ends_digits (run_past (is_part 10) f y (row_part f h.1) n).1 ∙ e))
+    or_right (not (is_some_text (f ++ y))) _ (and_from (first_passes is_ascii_digit (f ++ y)) (ends_digits (after_digits 10 (f ++ y))) (passes_more is_ascii_digit f y h.0) (ap ends_digits (run_past (is_part 10) f y (row_part f h.1) n).1 ∙ e))
 
 -- an exponent goes on with no row, and begins with no dot
-exponent_front : (test : ℕ → Bool) (e x : List ℕ) (p : IsStrictExponent e) → test p.letter ≡ false → passes test (e ++ x) ≡ false
-exponent_front test e x p h = ap (λ z. passes test (z ++ x)) p.text ∙ h
+exponent_front : (test : ℕ → Bool) (e x : List ℕ) (p : IsStrictExponent e) → test p.letter ≡ false → first_passes test (e ++ x) ≡ false
+exponent_front test e x p h = ap (λ z. first_passes test (z ++ x)) p.text ∙ h
 
 -- the letter of an exponent is no dot
 letter_no_dot : (c : ℕ) → is_power_letter c ≡ true → (c == 46) ≡ false
@@ -116,7 +116,7 @@ dot_alone t d numeral x h n e text =
     ap is_decimal (text ∙ ap (λ z. numeral ++ z) e ∙ append-nil numeral ∙ n) ∙ whole_past d (46 ∷ []) h refl refl
 
 -- a whole part, a dot, and digits
-pointed : (t d f numeral x : List ℕ) → IsDigits d → IsDigits f → numeral ≡ d ++ (46 ∷ f) → passes is_power_letter x ≡ false → IsNumberSuffix x → t ≡ numeral ++ x → is_decimal t ≡ true
+pointed : (t d f numeral x : List ℕ) → IsDigits d → IsDigits f → numeral ≡ d ++ (46 ∷ f) → first_passes is_power_letter x ≡ false → IsNumberSuffix x → t ≡ numeral ++ x → is_decimal t ≡ true
 pointed t d f numeral x h k n p s text =
     ap is_decimal (text ∙ ap (λ z. z ++ x) n ∙ append_assoc d (46 ∷ f) x)
     ∙ whole_past d (46 ∷ (f ++ x)) h refl (fraction_past f x k (suffix_no_part x (lenient_suffix x s)) (plain_complete x s p))
@@ -155,15 +155,15 @@ float_complete t x v s =
     ])
 
 -- digits of a base and a suffix pass
-based_row : (b : Base) (row x : List ℕ) → list_all (is_part (radix b)) row ≡ true → list_any (has_value (radix b)) row ≡ true → passes is_power_letter x ≡ false → IsNumberSuffix x → passes (is_part (radix b)) x ≡ false → is_based (radix b) (row ++ x) ≡ true
+based_row : (b : Base) (row x : List ℕ) → list_all (is_part (radix b)) row ≡ true → list_any (has_value (radix b)) row ≡ true → first_passes is_power_letter x ≡ false → IsNumberSuffix x → first_passes (is_part (radix b)) x ≡ false → is_based (radix b) (row ++ x) ≡ true
 unfolding is_based
 based_row b row x each some n s stops =
     let p = run_past (is_part (radix b)) row x each stops in
     and_from (has_digit_at (radix b) (row ++ x)) _ (ap (list_any (has_value (radix b))) p.0 ∙ some)
-    (and_from (not (passes is_power_letter (after_digits (radix b) (row ++ x)))) _ (ap (λ z. not (passes is_power_letter z)) p.1 ∙ not_from_false (passes is_power_letter x) n) (ap is_number_suffix p.1 ∙ number_suffix_complete x s))
+    (and_from (not (first_passes is_power_letter (after_digits (radix b) (row ++ x)))) _ (ap (λ z. not (first_passes is_power_letter z)) p.1 ∙ not_from_false (first_passes is_power_letter x) n) (ap is_number_suffix p.1 ∙ number_suffix_complete x s))
 
 -- an integer of another base passes
-based_number : (b : Base) (t x : List ℕ) (v : Contents) (s : StrictInt t v x) → IsFront b (s.row ++ x) → (radix b == 10) ≡ false → s.prefix ≡ prefix b → s.base ≡ radix b → IsSuffixOf b x → is_strict_number t ≡ true
+based_number : (b : Base) (t x : List ℕ) (v : Contents) (s : StrictInt t v x) → IsBehindPrefix b (s.row ++ x) → (radix b == 10) ≡ false → s.prefix ≡ prefix b → s.base ≡ radix b → AllowsSuffix b x → is_strict_number t ≡ true
 unfolding is_strict_number
 based_number b t x v s front other p base of =
     let All : ℕ → Type 0 = λ n. list_all (is_part n) s.row ≡ true in
@@ -197,7 +197,7 @@ int_complete t x v s =
 
 -- how digits end: a suffix alone, or an exponent and a suffix
 abbrev Ending : List ℕ → Type 0
-Ending y = (IsNumberSuffix y × (passes is_power_letter y ≡ false)) ⊎ ((e x : List ℕ) × IsStrictExponent e × IsNumberSuffix x × (y ≡ e ++ x))
+Ending y = (IsNumberSuffix y × (first_passes is_power_letter y ≡ false)) ⊎ ((e x : List ℕ) × IsStrictExponent e × IsNumberSuffix x × (y ≡ e ++ x))
 
 -- a sign, and what follows it
 sign_split : (t : List ℕ) → (sign : List ℕ) × ((sign ≡ []) ⊎ ((sign ≡ 43 ∷ []) ⊎ (sign ≡ 45 ∷ []))) × (t ≡ sign ++ after_power_sign t)
@@ -217,7 +217,7 @@ unfolding ends_power
 power_sound letter t l h =
     let w : List ℕ = after_power_sign t in
     let sg = sign_split t in
-    let row : List ℕ = digits_at 10 w in
+    let row : List ℕ = digit_row_at 10 w in
     let x : List ℕ = after_digits 10 w in
     let p = and_parts (has_digit_at 10 w) (is_number_suffix x) h in (
       letter ∷ (sg.0 ++ row),
@@ -242,7 +242,7 @@ float_of : (t numeral x : List ℕ) → (IsDotAlone numeral x ⊎ (IsPointed num
 float_of t numeral x form n s text = (_, x, inr (record { numeral = numeral; form = form; no_prefix = n; suffix = s; text = text; contents = refl }))
 
 -- an integer of base ten, from its parts
-int_of : (t d x : List ℕ) → IsDigits d → IsDecimalText t → IsNumberSuffix x → passes is_power_letter x ≡ false → list_any (has_value 10) d ≡ true → t ≡ d ++ x → IsStrictNumber t
+int_of : (t d x : List ℕ) → IsDigits d → IsDecimalText t → IsNumberSuffix x → first_passes is_power_letter x ≡ false → list_any (has_value 10) d ≡ true → t ≡ d ++ x → IsStrictNumber t
 int_of t d x h n s p some text = (
   _,
   x,
@@ -270,11 +270,11 @@ no_text (c ∷ cs) h = absurd (cc)
 dot_sound : (t d z : List ℕ) → IsDigits d → IsDecimalText t → t ≡ d ++ (46 ∷ z) → ends_dot z ≡ true → IsStrictNumber t
 unfolding ends_dot
 dot_sound t d z h n text k =
-    elim (or_cases (not (is_some_text z)) (passes is_ascii_digit z && ends_digits (after_digits 10 z)) k) [
+    elim (or_cases (not (is_some_text z)) (first_passes is_ascii_digit z && ends_digits (after_digits 10 z)) k) [
       | inl a ↦ float_of t (d ++ (46 ∷ [])) [] (inl (d, h, refl, refl)) n (inl refl, refl) (text ∙ ap (λ y. d ++ (46 ∷ y)) (no_text z a) ∙ sym (append-nil (d ++ (46 ∷ []))))
       | inr a ↦
-          let p = and_parts (passes is_ascii_digit z) (ends_digits (after_digits 10 z)) a in
-          let f : List ℕ = digits_at 10 z in
+          let p = and_parts (first_passes is_ascii_digit z) (ends_digits (after_digits 10 z)) a in
+          let f : List ℕ = digit_row_at 10 z in
           let y : List ℕ = after_digits 10 z in
           let k = front_digits z p.0 in
           let whole : t ≡ (d ++ (46 ∷ f)) ++ y = text ∙ ap (λ q. d ++ (46 ∷ q)) (run_join (is_part 10) z) ∙ sym (append_assoc d (46 ∷ f) y) in
@@ -285,7 +285,7 @@ dot_sound t d z h n text k =
     ]
 
 -- a row that begins with a digit has one
-first_some : (d : List ℕ) → passes is_ascii_digit d ≡ true → list_any (has_value 10) d ≡ true
+first_some : (d : List ℕ) → first_passes is_ascii_digit d ≡ true → list_any (has_value 10) d ≡ true
 first_some [] h = absurd (cc)
 first_some (c ∷ cs) h = or_left (has_value 10 c) (list_any (has_value 10) cs) (sym (digit_is_ten c) ∙ h)
 
@@ -307,11 +307,11 @@ whole_sound t d (c ∷ cs) h n text k =
     ]
 
 -- a number of base ten
-decimal_sound : (t : List ℕ) → (passes is_ascii_digit t ≡ true → IsDecimalText t) → is_decimal t ≡ true → IsStrictNumber t
+decimal_sound : (t : List ℕ) → (first_passes is_ascii_digit t ≡ true → IsDecimalText t) → is_decimal t ≡ true → IsStrictNumber t
 unfolding is_decimal
 decimal_sound t n h =
-    let p = and_parts (passes is_ascii_digit t) (ends_whole (after_digits 10 t)) h in
-    whole_sound t (digits_at 10 t) (after_digits 10 t) (front_digits t p.0) (n p.0) (run_join (is_part 10) t) p.1
+    let p = and_parts (first_passes is_ascii_digit t) (ends_whole (after_digits 10 t)) h in
+    whole_sound t (digit_row_at 10 t) (after_digits 10 t) (front_digits t p.0) (n p.0) (run_join (is_part 10) t) p.1
 
 -- what a prefix of a base tells
 prefix_of : (b : Base) → (radix b == 10) ≡ false → BasedPrefix (prefix b) (radix b)
@@ -321,7 +321,7 @@ prefix_of Hexadecimal h = inr (inr (refl, refl))
 prefix_of Decimal h = absurd (cc)
 
 -- behind a row of base 16 no digit of it follows
-no_more_digits : (b : Base) (x : List ℕ) → passes (is_part (radix b)) x ≡ false → radix b ≡ 16 → passes is_ascii_hexdigit x ≡ false
+no_more_digits : (b : Base) (x : List ℕ) → first_passes (is_part (radix b)) x ≡ false → radix b ≡ 16 → first_passes is_ascii_hexdigit x ≡ false
 no_more_digits Hexadecimal x h e = passes_same is_ascii_hexdigit (has_value 16) hex_is_sixteen x ∙ hex_stops x h
 no_more_digits Binary x h e = absurd (omega arith)
 no_more_digits Octal x h e = absurd (omega arith)
@@ -331,10 +331,10 @@ no_more_digits Decimal x h e = absurd (omega arith)
 based_sound : (b : Base) (t w : List ℕ) → (radix b == 10) ≡ false → t ≡ prefix b ++ w → is_based (radix b) w ≡ true → IsStrictNumber t
 unfolding is_based
 based_sound b t w other text h =
-    let row : List ℕ = digits_at (radix b) w in
+    let row : List ℕ = digit_row_at (radix b) w in
     let x : List ℕ = after_digits (radix b) w in
-    let p = and_parts (has_digit_at (radix b) w) (not (passes is_power_letter x) && is_number_suffix x) h in
-    let q = and_parts (not (passes is_power_letter x)) (is_number_suffix x) p.1 in (
+    let p = and_parts (has_digit_at (radix b) w) (not (first_passes is_power_letter x) && is_number_suffix x) h in
+    let q = and_parts (not (first_passes is_power_letter x)) (is_number_suffix x) p.1 in (
       _,
       x,
       inl (record {
@@ -345,7 +345,7 @@ based_sound b t w other text h =
         each = run_all (is_part (radix b)) w;
         some = p.0;
         suffix = number_suffix_sound x q.1;
-        no_exponent = not-true (passes is_power_letter x) q.0;
+        no_exponent = not-true (first_passes is_power_letter x) q.0;
         no_digit = no_more_digits b x (run_ends (is_part (radix b)) w);
         text = text ∙ ap (λ z. prefix b ++ z) (run_join (is_part (radix b)) w) ∙ sym (append_assoc (prefix b) row x);
         contents = refl;
@@ -353,7 +353,7 @@ based_sound b t w other text h =
     )
 
 -- a number of any base
-by_base : (b : Base) (t w : List ℕ) → t ≡ prefix b ++ w → ((not (radix b == 10) || passes is_ascii_digit w) ≡ true → IsFront b w) → cond (radix b == 10) (is_decimal w) (is_based (radix b) w) ≡ true → IsStrictNumber t
+by_base : (b : Base) (t w : List ℕ) → t ≡ prefix b ++ w → ((not (radix b == 10) || first_passes is_ascii_digit w) ≡ true → IsBehindPrefix b w) → cond (radix b == 10) (is_decimal w) (is_based (radix b) w) ≡ true → IsStrictNumber t
 by_base Decimal t w text front h = subst IsStrictNumber (sym text) (decimal_sound w (λ d. (front d).1) h)
 by_base Binary t w text front h = based_sound Binary t w refl text h
 by_base Octal t w text front h = based_sound Octal t w refl text h

@@ -15,8 +15,8 @@ use Rattle.rl_tokens.specs.Strict.{IsRawInside, IsStrictSuffix}
 use Rattle.rl_tokens.specs.declared.scan.Marks.{Marks}
 use Rattle.rl_tokens.specs.Scanning.{is_other}
 use Rattle.rl_tokens.proofs.StrictNumbers.{begins_front}
-use Rattle.rl_grammar.specs.Forms.{after_hashes}
-use Rattle.rl_grammar.specs.StrictAt.{ends_raw, is_inside, is_raw_character, is_strict_suffix}
+use Rattle.rl_grammar.specs.Mirrors.OpenerAt.{after_hashes}
+use Rattle.rl_grammar.specs.Mirrors.StrictAt.{ends_raw, is_inside, is_raw_character, is_strict_suffix}
 use Rattle.rl_grammar.specs.StrictShapes.{ClosesInside, ClosesRaw}
 use Rattle.rl_grammar.proofs.IntegerLemmas.{begins_is}
 use Rattle.rl_grammar.proofs.RawLemmas.{hashes_sound, hashes_complete}

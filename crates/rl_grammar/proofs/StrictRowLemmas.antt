@@ -6,10 +6,10 @@ use Rattle.std.specs.Prelude.{◌↔◌, IsTrue}
 use Rattle.rl_tokens.proofs.Basics.{apart}
 use Rattle.rl_tokens.specs.declared.kind.Kind.{Kind}
 use Rattle.rl_tokens.specs.declared.kind.Kind.TheVariants.{Str, ByteStr, CStr, Byte, Char, Int, Float, Bool as BoolKind}
-use Rattle.rl_tokens.specs.Texts.{passes}
+use Rattle.rl_tokens.specs.Texts.{first_passes}
 use Rattle.rl_tokens.specs.Quoted.{is_plain, is_single, is_string}
-use Rattle.rl_tokens.specs.Strict.{StrictUnit, Itself, QuoteEscape, PlainEscape, AsciiEscape, ByteEscape, UnicodeEscape, LineBreak, strict_text, is_dropped_blank, is_strict_unit, BlanksEnd, HasUnits, ends, IsStrictSuffix}
-use Rattle.rl_grammar.specs.StrictAt.{ends_quoted, escape_rest, is_strict_suffix, unit_rest}
+use Rattle.rl_tokens.specs.Strict.{StrictUnit, Itself, QuoteEscape, PlainEscape, AsciiEscape, ByteEscape, UnicodeEscape, LineBreak, strict_text, is_dropped_blank, is_strict_unit, BlanksEnd, HasUnits, strict_closer, IsStrictSuffix}
+use Rattle.rl_grammar.specs.Mirrors.StrictAt.{ends_quoted, escape_rest, is_strict_suffix, unit_rest}
 use Rattle.rl_grammar.specs.StrictShapes.{ClosesUnits}
 use Rattle.rl_grammar.proofs.StrictBackLemmas.{IsQuotedKind, plain_is_bare}
 use Rattle.rl_grammar.proofs.StrictUnitLemmas.{MayEnd, StrictFront, unit_rest_sound, unit_rest_complete}
@@ -18,7 +18,7 @@ use Rattle.rl_grammar.proofs.StrictWordLemmas.{strict_suffix_complete, strict_su
 -- ---- what the kinds have
 
 -- a string ends with its quote
-string_ends : (k : Kind) → is_string k ≡ true → ends k ≡ 34 ∷ []
+string_ends : (k : Kind) → is_string k ≡ true → strict_closer k ≡ 34 ∷ []
 string_ends Str h = refl
 string_ends ByteStr h = refl
 string_ends CStr h = refl
@@ -40,7 +40,7 @@ string_count Float us h = absurd (cc)
 string_count BoolKind us h = absurd (cc)
 
 -- a character or a byte ends with its quote
-single_ends : (k : Kind) → is_single k ≡ true → ends k ≡ 39 ∷ []
+single_ends : (k : Kind) → is_single k ≡ true → strict_closer k ≡ 39 ∷ []
 single_ends Byte h = refl
 single_ends Char h = refl
 single_ends Str h = absurd (cc)
@@ -87,12 +87,12 @@ quote_stops BoolKind x h = absurd (cc)
 -- ---- the blanks of a line break
 
 -- the front of a text passes where the text does
-passes_front : (test : ℕ → Bool) (a b : List ℕ) → passes test (a ++ b) ≡ false → passes test a ≡ false
+passes_front : (test : ℕ → Bool) (a b : List ℕ) → first_passes test (a ++ b) ≡ false → first_passes test a ≡ false
 passes_front test [] b h = refl
 passes_front test (c ∷ cs) b h = h
 
 -- and the text where the front does, if what follows does
-passes_seam : (test : ℕ → Bool) (a b : List ℕ) → passes test a ≡ false → passes test b ≡ false → passes test (a ++ b) ≡ false
+passes_seam : (test : ℕ → Bool) (a b : List ℕ) → first_passes test a ≡ false → first_passes test b ≡ false → first_passes test (a ++ b) ≡ false
 passes_seam test [] b h k = k
 passes_seam test (c ∷ cs) b h k = h
 
@@ -107,7 +107,7 @@ may_end_front (ByteEscape high low) a b m = tt
 may_end_front (UnicodeEscape digits) a b m = tt
 
 -- it ends before units and a quote
-may_end_seam : (u : StrictUnit) (us : List StrictUnit) (b : List ℕ) → passes is_dropped_blank b ≡ false → BlanksEnd (u ∷ us) → MayEnd u (flat_map strict_text us ++ b)
+may_end_seam : (u : StrictUnit) (us : List StrictUnit) (b : List ℕ) → first_passes is_dropped_blank b ≡ false → BlanksEnd (u ∷ us) → MayEnd u (flat_map strict_text us ++ b)
 may_end_seam (LineBreak blanks) us b n m = passes_seam is_dropped_blank (flat_map strict_text us) b m.0 n
 may_end_seam (Itself c) us b n m = tt
 may_end_seam (QuoteEscape c) us b n m = tt
@@ -159,7 +159,7 @@ row_behind k u us q x t each b n text =
     ∙ unit_rest_complete k u (flat_map strict_text us ++ (q ∷ x)) p.0 (may_end_seam u us (q ∷ x) n b)
 
 -- the row with its quote written out
-string_text : (k : Kind) (t x : List ℕ) (us : List StrictUnit) → is_string k ≡ true → t ≡ flat_map strict_text us ++ (ends k ++ x) → t ≡ flat_map strict_text us ++ (34 ∷ x)
+string_text : (k : Kind) (t x : List ℕ) (us : List StrictUnit) → is_string k ≡ true → t ≡ flat_map strict_text us ++ (strict_closer k ++ x) → t ≡ flat_map strict_text us ++ (34 ∷ x)
 string_text k t x us s e = e ∙ ap (λ z. flat_map strict_text us ++ (z ++ x)) (string_ends k s)
 
 -- behind the first unit the same end follows
@@ -180,7 +180,7 @@ row_down k t r x (u ∷ us) s h each b i e =
 -- before the end one more unit may stand
 row_up : (k : Kind) (t r : List ℕ) → is_string k ≡ true → StrictFront k t r → ClosesUnits k r → ClosesUnits k t
 row_up k t r s f c =
-    let rest : List ℕ = ends k ++ c.suffix in
+    let rest : List ℕ = strict_closer k ++ c.suffix in
     let us : List StrictUnit = c.units in
     let At : List ℕ → Type 0 = λ z. MayEnd f.unit z in
     record {
@@ -294,7 +294,7 @@ one_closes k t r x s f i e = record {
   each = and_from (is_strict_unit k f.unit) true f.is_unit refl;
   blanks_end = blanks_cons f.unit [] (may_end_front f.unit [] r f.may_end) tt;
   is_suffix = i;
-  text_is = f.text_is ∙ ap (λ z. strict_text f.unit ++ z) (e ∙ ap (λ z. z ++ x) (sym (single_ends k s))) ∙ ap (λ z. z ++ (ends k ++ x)) (sym (append-nil (strict_text f.unit)));
+  text_is = f.text_is ∙ ap (λ z. strict_text f.unit ++ z) (e ∙ ap (λ z. z ++ x) (sym (single_ends k s))) ∙ ap (λ z. z ++ (strict_closer k ++ x)) (sym (append-nil (strict_text f.unit)));
 }
 
 -- where a unit stands, a quote and a suffix have to follow

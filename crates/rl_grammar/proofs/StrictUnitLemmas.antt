@@ -5,14 +5,14 @@ use Rattle.std.specs.List.{list_all}
 use Rattle.std.specs.Prelude.{IsFalse, ⊤}
 use Rattle.rl_tokens.specs.declared.kind.Kind.{Kind}
 use Rattle.rl_tokens.specs.declared.kind.Kind.TheVariants.{Str, ByteStr, CStr, Byte, Char, Int, Float, Bool as BoolKind}
-use Rattle.rl_tokens.specs.Texts.{passes}
+use Rattle.rl_tokens.specs.Texts.{first_passes}
 use Rattle.rl_tokens.specs.Quoted.{QuotedUnit, Plain, CrLf, Named, Hex, Unicode, Continuation, unit_text, is_line_end, is_plain, is_string, IsUnit}
 use Rattle.rl_tokens.specs.Strict.{StrictUnit, Itself, QuoteEscape, PlainEscape, AsciiEscape, ByteEscape, UnicodeEscape, LineBreak, strict_text, is_plain_letter, is_dropped_blank, is_strict_unit}
 use Rattle.rl_tokens.proofs.Basics.{apart}
 use Rattle.rl_tokens.proofs.StrictQuoted.{MayFollow, stands}
-use Rattle.rl_grammar.specs.NumberAt.{run, after_run}
-use Rattle.rl_grammar.specs.UnitAt.{unit_at}
-use Rattle.rl_grammar.specs.StrictAt.{escape_rest, unit_rest}
+use Rattle.rl_grammar.specs.Mirrors.NumberAt.{run, after_run}
+use Rattle.rl_grammar.specs.Mirrors.UnitAt.{unit_at}
+use Rattle.rl_grammar.specs.Mirrors.StrictAt.{escape_rest, unit_rest}
 use Rattle.rl_grammar.proofs.IntegerLemmas.{chosen_some}
 use Rattle.rl_grammar.proofs.RunLemmas.{run_all, run_ends, run_join, run_past}
 use Rattle.rl_grammar.proofs.StrictBackLemmas.{Back, IsQuotedKind, named_escape, hex_escape, unicode_escape}
@@ -20,7 +20,7 @@ use Rattle.rl_grammar.proofs.UnitLemmas.{unit_complete, unit_sound}
 
 -- the blanks of a line break go as far as blanks go
 abbrev pub MayEnd : StrictUnit → List ℕ → Type 0
-MayEnd (LineBreak blanks) t = IsFalse (passes is_dropped_blank t)
+MayEnd (LineBreak blanks) t = IsFalse (first_passes is_dropped_blank t)
 MayEnd _ t = ⊤
 
 -- a unit of the kind stands at the front, and the rest is left
@@ -70,14 +70,14 @@ behind (c ∷ cs) = cs
 lenient_front : (k : Kind) (u : QuotedUnit) (c : ℕ) (cs r : List ℕ) → IsQuotedKind k → (c == 10) ≡ false → (c == 13) ≡ false → IsUnit k u → 92 ∷ c ∷ cs ≡ unit_text u ++ r → StrictFront k (92 ∷ c ∷ cs) r
 lenient_front k (Plain d) c cs r q n m u e =
     let At : ℕ → Type 0 = λ z. is_plain k z ≡ true in
-    let d_is : d ≡ 92 = eqb-true d 92 (sym (ap (passes is_backslash) e)) in
+    let d_is : d ≡ 92 = eqb-true d 92 (sym (ap (first_passes is_backslash) e)) in
     absurd (both_ways (is_plain k 92) (plain_backslash k) (subst At d_is u))
-lenient_front k CrLf c cs r q n m u e = absurd (both_ways true (ap (passes is_backslash) e) refl)
+lenient_front k CrLf c cs r q n m u e = absurd (both_ways true (ap (first_passes is_backslash) e) refl)
 lenient_front k (Named l) c cs r q n m u e = escape_front k (92 ∷ c ∷ cs) (Named l) r (named_escape k l u) e
 lenient_front k (Hex high low) c cs r q n m u e = escape_front k (92 ∷ c ∷ cs) (Hex high low) r (hex_escape k high low q u) e
 lenient_front k (Unicode first more) c cs r q n m u e = escape_front k (92 ∷ c ∷ cs) (Unicode first more) r (unicode_escape k first more q u) e
 lenient_front k (Continuation d run) c cs r q n m u e =
-    absurd (both_ways (is_line_end c) (or_from (c == 10) (c == 13) n m) (ap (λ z. passes is_line_end (behind z)) e ∙ u.1))
+    absurd (both_ways (is_line_end c) (or_from (c == 10) (c == 13) n m) (ap (λ z. first_passes is_line_end (behind z)) e ∙ u.1))
 
 -- the kinds of strings have line breaks
 pub line_allowed : (k : Kind) (blanks : List ℕ) → is_string k ≡ true → list_all is_dropped_blank blanks ≡ true → is_strict_unit k (LineBreak blanks) ≡ true
@@ -94,7 +94,7 @@ line_allowed BoolKind blanks s h = absurd (cc)
 line_front : (k : Kind) (cs r : List ℕ) → cond (is_string k) (Some (after_run is_dropped_blank cs)) None ≡ Some r → StrictFront k (92 ∷ 10 ∷ cs) r
 line_front k cs r h =
     let p = chosen_some (is_string k) (after_run is_dropped_blank cs) r h in
-    let At : List ℕ → Type 0 = λ z. passes is_dropped_blank z ≡ false in
+    let At : List ℕ → Type 0 = λ z. first_passes is_dropped_blank z ≡ false in
     record {
       unit = LineBreak (run is_dropped_blank cs);
       is_unit = line_allowed k (run is_dropped_blank cs) p.0 (run_all is_dropped_blank cs);
@@ -197,7 +197,7 @@ line_of Float blanks h = absurd (cc)
 line_of BoolKind blanks h = absurd (cc)
 
 -- a line break is taken off with its blanks
-line_past : (k : Kind) (blanks r : List ℕ) → is_strict_unit k (LineBreak blanks) ≡ true → passes is_dropped_blank r ≡ false → unit_rest k (92 ∷ 10 ∷ (blanks ++ r)) ≡ Some r
+line_past : (k : Kind) (blanks r : List ℕ) → is_strict_unit k (LineBreak blanks) ≡ true → first_passes is_dropped_blank r ≡ false → unit_rest k (92 ∷ 10 ∷ (blanks ++ r)) ≡ Some r
 unfolding unit_rest
 line_past k blanks r h n =
     let p = line_of k blanks h in

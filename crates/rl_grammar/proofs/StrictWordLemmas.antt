@@ -3,10 +3,10 @@ use Rattle.std.proofs.Common.{◌≡◌, ◌≢◌, ℕ, ◌||◌, ◌&&◌, Boo
 use Rattle.std.proofs.lemmas.Bool.{and_from, and_parts, both_ways, cases_Bool, eqb-true, not-true, not_from_false}
 use Rattle.std.specs.List.{list_all}
 use Rattle.unicode_ident.specs.Ident.{is_xid_start, is_xid_continue}
-use Rattle.rl_tokens.specs.Texts.{IsWord, is_continue, is_start, is_underscore, is_white, passes}
+use Rattle.rl_tokens.specs.Texts.{IsWord, is_continue, is_start, is_underscore, is_white, first_passes}
 use Rattle.rl_tokens.specs.Numbers.{IsSuffix}
 use Rattle.rl_tokens.specs.Strict.{IsNumberSuffix, IsStrictSuffix}
-use Rattle.rl_grammar.specs.StrictAt.{is_number_suffix, is_some_text, is_strict_suffix}
+use Rattle.rl_grammar.specs.Mirrors.StrictAt.{is_number_suffix, is_some_text, is_strict_suffix}
 
 -- what passes two tests passes both at once
 pub all_both : (f g : ℕ → Bool) (cs : List ℕ) → list_all f cs ≡ true → list_all g cs ≡ true → list_all (λ c. f c && g c) cs ≡ true
@@ -72,18 +72,18 @@ strict_suffix_sound (c ∷ cs) h =
           inr (word_of c cs (subst At (sym (eqb-true c 95 a)) refl) p.1 (λ e. both_ways (is_some_text cs) (ap (λ z. is_some_text (behind z)) e) some))
       | inr a ↦
           let start : is_start c ≡ true = ap (λ b. cond b (is_some_text cs) (is_start c)) (sym a) ∙ p.0 in
-          inr (word_of c cs start p.1 (λ e. both_ways (c == 95) a (ap (λ z. passes is_underscore z) e)))
+          inr (word_of c cs start p.1 (λ e. both_ways (c == 95) a (ap (λ z. first_passes is_underscore z) e)))
     ]
 
 -- the same of a number's suffix
 pub number_suffix_complete : (x : List ℕ) → IsNumberSuffix x → is_number_suffix x ≡ true
-number_suffix_complete x s = and_from (not (passes is_underscore x)) (is_strict_suffix x) (not_from_false (passes is_underscore x) s.1) (strict_suffix_complete x s.0)
+number_suffix_complete x s = and_from (not (first_passes is_underscore x)) (is_strict_suffix x) (not_from_false (first_passes is_underscore x) s.1) (strict_suffix_complete x s.0)
 
 -- and the other way about
 pub number_suffix_sound : (x : List ℕ) → is_number_suffix x ≡ true → IsNumberSuffix x
 number_suffix_sound x h =
-    let p = and_parts (not (passes is_underscore x)) (is_strict_suffix x) h in
-    (strict_suffix_sound x p.1, not-true (passes is_underscore x) p.0)
+    let p = and_parts (not (first_passes is_underscore x)) (is_strict_suffix x) h in
+    (strict_suffix_sound x p.1, not-true (first_passes is_underscore x) p.0)
 
 -- a strict number's suffix is a lenient one's
 pub lenient_suffix : (x : List ℕ) → IsNumberSuffix x → IsSuffix x

@@ -1,6 +1,6 @@
 -- A magnitude with its last digits apart.
 use Rattle.std.proofs.Common.{◌≡◌, ℕ, ◌+◌, ◌*◌, ◌≤◌, Option, Some, None, refl, sym, ap, ◌∙◌, arith}
-use Rattle.rl_grammar.specs.NumberAt.{append_digit, capped}
+use Rattle.rl_grammar.specs.Mirrors.NumberAt.{append_digit, capped}
 use Rattle.rl_grammar.proofs.DigitRowLemmas.{append_capped}
 
 -- a digit more behind the last ones

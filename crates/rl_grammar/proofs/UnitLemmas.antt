@@ -9,9 +9,9 @@ use Rattle.std.proofs.lemmas.Bool.{and_from, and_parts, both_ways, cases_Bool, e
 use Rattle.std.proofs.lemmas.Bool.Decides.{eqb_tells}
 use Rattle.rl_tokens.specs.declared.kind.Kind.{Kind}
 use Rattle.rl_tokens.specs.declared.kind.Kind.TheVariants.{Str, ByteStr, CStr, Byte, Char, Int, Float, Bool as BoolKind}
-use Rattle.rl_tokens.specs.Texts.{passes, is_underscore}
-use Rattle.rl_tokens.specs.Quoted.{QuotedUnit, Letter, Plain, CrLf, Named, Hex, Unicode, Continuation, LowerN, LowerR, LowerT, Backslash, Apostrophe, Quote, Zero, letter_value, letter_text, unit_text, unit_value, unicode_value, without_underscores, place_value, held, hex_value, is_hex_digit, is_blank, is_line_end, is_string, is_plain, may_hold, may_be_hex, has_unicode, IsUnit, EndsBefore}
-use Rattle.rl_grammar.specs.UnitAt.{found, number_if, named_of, named_in, named_at, digit_at, hex_at, digits_at, brace_at, unicode_at, after_blanks, escape_at, line_feed_at, unit_at}
+use Rattle.rl_tokens.specs.Texts.{first_passes, is_underscore}
+use Rattle.rl_tokens.specs.Quoted.{QuotedUnit, Letter, Plain, CrLf, Named, Hex, Unicode, Continuation, LowerN, LowerR, LowerT, Backslash, Apostrophe, Quote, Zero, letter_value, letter_text, unit_text, unit_value, unicode_value, without_underscores, place_value, content_of, hex_value, is_hex_digit, is_blank, is_line_end, is_string, is_plain, allows_code, may_be_hex, has_unicode, IsUnit, EndsBefore}
+use Rattle.rl_grammar.specs.Mirrors.UnitAt.{found, number_if, named_of, named_in, named_at, digit_at, hex_at, unicode_digits_at, brace_at, unicode_at, after_blanks, escape_at, line_feed_at, unit_at}
 
 -- which way a test went
 chosen : {A : Type 0} (b : Bool) (x y z : A) → cond b x y ≡ z → ((b ≡ true) × (x ≡ z)) ⊎ ((b ≡ false) × (y ≡ z))
@@ -99,16 +99,16 @@ digits_digit v n c w cs r e l d =
       is_scalar = d.is_scalar;
     }
 
-digits_sound : (v n : ℕ) (t : List ℕ) (w : ℕ) (r : List ℕ) → n ≤ 6 → digits_at v n t ≡ Some (w, r) → Digits v n t w r
-unfolding digits_at
+digits_sound : (v n : ℕ) (t : List ℕ) (w : ℕ) (r : List ℕ) → n ≤ 6 → unicode_digits_at v n t ≡ Some (w, r) → Digits v n t w r
+unfolding unicode_digits_at
 digits_sound v n [] w r few h = absurd (cc)
 digits_sound v n (c ∷ cs) w r few h =
     let last = number_if (scalar v) v cs in
-    let next = digits_at (v * 16 + digit_value c) (n + 1) cs in
+    let next = unicode_digits_at (v * 16 + digit_value c) (n + 1) cs in
     let digit = cond (is_hex_digit c && ltb n 6) next None in
-    elim (chosen (eqb c 125) last (cond (eqb c 95) (digits_at v n cs) digit) (given w r) h) [
+    elim (chosen (eqb c 125) last (cond (eqb c 95) (unicode_digits_at v n cs) digit) (given w r) h) [
       | inl a ↦ digits_end v n c w cs r few a.0 a.1
-      | inr a ↦ elim (chosen (eqb c 95) (digits_at v n cs) digit (given w r) a.1) [
+      | inr a ↦ elim (chosen (eqb c 95) (unicode_digits_at v n cs) digit (given w r) a.1) [
         | inl b ↦ digits_underscore v n c w cs r b.0 (digits_sound v n cs w r few b.1)
         | inr b ↦ elim (chosen (is_hex_digit c && ltb n 6) next None (given w r) b.1) [
           | inl d ↦
@@ -120,23 +120,23 @@ digits_sound v n (c ∷ cs) w r few h =
       ]
     ]
 
-end_at : (v n : ℕ) (r : List ℕ) → IsScalar v → digits_at v n (125 ∷ r) ≡ Some (v, r)
-unfolding digits_at
+end_at : (v n : ℕ) (r : List ℕ) → IsScalar v → unicode_digits_at v n (125 ∷ r) ≡ Some (v, r)
+unfolding unicode_digits_at
 end_at v n r h = rw h refl
 
-underscore_at : (v n : ℕ) (t : List ℕ) → digits_at v n (95 ∷ t) ≡ digits_at v n t
-unfolding digits_at
+underscore_at : (v n : ℕ) (t : List ℕ) → unicode_digits_at v n (95 ∷ t) ≡ unicode_digits_at v n t
+unfolding unicode_digits_at
 underscore_at v n t = refl
 
-digit_step : (v n c : ℕ) (t : List ℕ) → is_hex_digit c ≡ true → n < 6 → digits_at v n (c ∷ t) ≡ digits_at (v * 16 + digit_value c) (n + 1) t
-unfolding digits_at
+digit_step : (v n c : ℕ) (t : List ℕ) → is_hex_digit c ≡ true → n < 6 → unicode_digits_at v n (c ∷ t) ≡ unicode_digits_at (v * 16 + digit_value c) (n + 1) t
+unfolding unicode_digits_at
 digit_step v n c t h room =
     let no_underscore = apart c 95 h refl in
     let no_brace = apart c 125 h refl in
     let few : ltb n 6 ≡ true = lt-ltb n 6 room in
     rw (no_brace, no_underscore, h, few) refl
 
-digits_complete : (v n : ℕ) (more r : List ℕ) → list_all is_more more ≡ true → n + length (without_underscores more) ≤ 6 → IsScalar (value_on v more) → digits_at v n (more ++ (125 ∷ r)) ≡ Some (value_on v more, r)
+digits_complete : (v n : ℕ) (more r : List ℕ) → list_all is_more more ≡ true → n + length (without_underscores more) ≤ 6 → IsScalar (value_on v more) → unicode_digits_at v n (more ++ (125 ∷ r)) ≡ Some (value_on v more, r)
 digits_complete v n [] r each few s =
     let same : v * 1 + 0 ≡ v = omega arith in
     rw same (end_at v n r (subst IsScalar same s))
@@ -147,7 +147,7 @@ digits_complete v n (c ∷ cs) r each few s =
           let is = eqb-true c 95 underscore in
           let Fits : ℕ → Type 0 = λ x. n + length (without_underscores (x ∷ cs)) ≤ 6 in
           let Scalar : ℕ → Type 0 = λ x. IsScalar (value_on v (x ∷ cs)) in
-          let Goal : ℕ → Type 0 = λ x. digits_at v n (x ∷ (cs ++ (125 ∷ r))) ≡ Some (value_on v (x ∷ cs), r) in
+          let Goal : ℕ → Type 0 = λ x. unicode_digits_at v n (x ∷ (cs ++ (125 ∷ r))) ≡ Some (value_on v (x ∷ cs), r) in
           subst Goal (sym is) (underscore_at v n (cs ++ (125 ∷ r)) ∙ digits_complete v n cs r parts.1 (subst Fits is few) (subst Scalar is s))
       | inr digit ↦
           let no_underscore = apart c 95 digit refl in
@@ -226,16 +226,16 @@ brace_sound (c ∷ cs) r h =
 value_first : (first : ℕ) (more : List ℕ) → is_hex_digit first ≡ true → value_on (digit_value first) more ≡ unicode_value first more
 value_first first more h = ap (place_value 16) (sym (kept_digit first more (apart first 95 h refl)))
 
-unicode_built : (kind : Kind) (t b d r : List ℕ) (c v w : ℕ) → t ≡ 123 ∷ b → b ≡ c ∷ d → is_hex_digit c ≡ true → v ≡ digit_value c → Digits v 1 d w r → (has_unicode kind && may_hold kind w) ≡ true → UnicodeAt kind t w r
+unicode_built : (kind : Kind) (t b d r : List ℕ) (c v w : ℕ) → t ≡ 123 ∷ b → b ≡ c ∷ d → is_hex_digit c ≡ true → v ≡ digit_value c → Digits v 1 d w r → (has_unicode kind && allows_code kind w) ≡ true → UnicodeAt kind t w r
 unicode_built kind t b d r c v w brace first digit v_is more allowed =
-    let tests = and_parts (has_unicode kind) (may_hold kind w) allowed in
+    let tests = and_parts (has_unicode kind) (allows_code kind w) allowed in
     let long = length_on_digit c more.more (apart c 95 digit refl) in
     let fits = more.few in
     let value : w ≡ unicode_value c more.more = more.value_is ∙ ap (λ x. value_on x more.more) v_is ∙ value_first c more.more digit in
     record {
       first = c;
       more = more.more;
-      allowed = (tests.0, digit, more.each, rw long (omega arith), subst IsScalar value more.is_scalar, subst (λ x. may_hold kind x ≡ true) value tests.1);
+      allowed = (tests.0, digit, more.each, rw long (omega arith), subst IsScalar value more.is_scalar, subst (λ x. allows_code kind x ≡ true) value tests.1);
       text_is = brace ∙ ap (λ x. 123 ∷ x) (first ∙ ap (λ x. c ∷ x) more.text_is);
       value_is = value;
     }
@@ -246,8 +246,8 @@ unicode_sound kind t p h =
     let b = bind_some (brace_at t) _ p h in
     let d = bind_some (digit_at b.0) _ p b.2 in
     let first = digit_sound b.0 d.0 d.1 in
-    let e = bind_some (digits_at d.0.0 1 d.0.1) _ p d.2 in
-    let a = allowed_some (has_unicode kind && may_hold kind e.0.0) e.0 p e.2 in
+    let e = bind_some (unicode_digits_at d.0.0 1 d.0.1) _ p d.2 in
+    let a = allowed_some (has_unicode kind && allows_code kind e.0.0) e.0 p e.2 in
     let fields = some_pair e.0 p a.1 in
     let more = digits_sound d.0.0 1 d.0.1 e.0.0 e.0.1 (omega arith) e.1 in
     let built = unicode_built kind t b.0 d.0.1 e.0.1 first.0 d.0.0 e.0.0 (brace_sound t b.0 b.1) first.1 first.2 first.3 more a.0 in
@@ -260,14 +260,14 @@ unicode_complete kind first more r u =
     let long = length_on_digit first more (apart first 95 u.1 refl) in
     let value = value_first first more u.1 in
     let few : length (without_underscores (first ∷ more)) ≤ 6 = u.3 in
-    let digits : digits_at (digit_value first) 1 (more ++ (125 ∷ r)) ≡ Some (unicode_value first more, r) = digits_complete (digit_value first) 1 more r u.2 (omega arith) (subst IsScalar (sym value) u.4) ∙ ap (λ w. Some (w, r)) value in
+    let digits : unicode_digits_at (digit_value first) 1 (more ++ (125 ∷ r)) ≡ Some (unicode_value first more, r) = digits_complete (digit_value first) 1 more r u.2 (omega arith) (subst IsScalar (sym value) u.4) ∙ ap (λ w. Some (w, r)) value in
     let has : has_unicode kind ≡ true = u.0 in
-    let holds : may_hold kind (unicode_value first more) ≡ true = u.5 in
+    let holds : allows_code kind (unicode_value first more) ≡ true = u.5 in
     rw (a, digits, has, holds) refl
 
 -- ---- blanks
 
-blanks_sound : (t : List ℕ) → (run : List ℕ) × (list_all is_blank run ≡ true) × (t ≡ run ++ after_blanks t) × (passes is_blank (after_blanks t) ≡ false)
+blanks_sound : (t : List ℕ) → (run : List ℕ) × (list_all is_blank run ≡ true) × (t ≡ run ++ after_blanks t) × (first_passes is_blank (after_blanks t) ≡ false)
 unfolding after_blanks
 blanks_sound [] = ([], refl, refl, refl)
 blanks_sound (c ∷ cs) =
@@ -277,7 +277,7 @@ blanks_sound (c ∷ cs) =
       | inr b ↦ rw b ([], refl, refl, b)
     ]
 
-blanks_complete : (run r : List ℕ) → list_all is_blank run ≡ true → passes is_blank r ≡ false → after_blanks (run ++ r) ≡ r
+blanks_complete : (run r : List ℕ) → list_all is_blank run ≡ true → first_passes is_blank r ≡ false → after_blanks (run ++ r) ≡ r
 unfolding after_blanks
 blanks_complete [] [] each ends = refl
 blanks_complete [] (c ∷ cs) each ends = rw ends refl
@@ -326,7 +326,7 @@ pub record Begins (kind : Kind) (t v r : List ℕ) : Type 0 where
   pub value_is : v ≡ unit_value kind unit
 
 -- a kind holds all that a letter stands for but 0
-pub holds_more : (kind : Kind) (n : ℕ) → eqb n 0 ≡ false → may_hold kind n ≡ true
+pub holds_more : (kind : Kind) (n : ℕ) → eqb n 0 ≡ false → allows_code kind n ≡ true
 holds_more Str n h = refl
 holds_more ByteStr n h = refl
 holds_more CStr n h = rw h refl
@@ -340,13 +340,13 @@ named_sound : (kind : Kind) (c : ℕ) (cs : List ℕ) (p : List ℕ × List ℕ)
 named_sound kind c cs p h =
     let i = bind_some (named_in kind c) _ p h in
     let o = bind_some (named_of c) _ i.0 i.1 in
-    let a = allowed_some (may_hold kind o.0) o.0 i.0 o.2 in
+    let a = allowed_some (allows_code kind o.0) o.0 i.0 o.2 in
     let at = letter_sound c o.0 o.1 in
     let same : o.0 ≡ i.0 = let e = a.1 in cc in
     let fields = some_pair (i.0 ∷ [], cs) p i.2 in
     record {
       unit = Named at.0;
-      allowed = subst (λ x. may_hold kind x ≡ true) at.2 a.0;
+      allowed = subst (λ x. allows_code kind x ≡ true) at.2 a.0;
       ends = tt;
       text_is = ap (λ x. 92 ∷ x ∷ cs) at.1 ∙ ap (λ x. 92 ∷ letter_text at.0 ∷ x) fields.1;
       value_is = sym fields.0 ∙ ap (λ w. w ∷ []) (sym same ∙ at.2);
@@ -360,7 +360,7 @@ continuation_sound kind c cs p l h =
     record {
       unit = Continuation c blanks.0;
       allowed = (a.0, l, blanks.1);
-      ends = subst (λ r. passes is_blank r ≡ false) fields.1 blanks.3;
+      ends = subst (λ r. first_passes is_blank r ≡ false) fields.1 blanks.3;
       text_is = ap (λ x. 92 ∷ c ∷ x) (blanks.2 ∙ ap (λ x. blanks.0 ++ x) fields.1);
       value_is = sym fields.0;
     }
@@ -378,17 +378,17 @@ hex_begins kind c cs p e h =
       value_is = sym fields.0 ∙ ap (λ w. w ∷ []) at.value_is;
     }
 
-unicode_begins : (kind : Kind) (c : ℕ) (cs : List ℕ) (p : List ℕ × List ℕ) → eqb c 117 ≡ true → option_and_then (λ q. found (held kind (q.0 ∷ [])) q.1) (unicode_at kind cs) ≡ Some p → Begins kind (92 ∷ c ∷ cs) p.0 p.1
+unicode_begins : (kind : Kind) (c : ℕ) (cs : List ℕ) (p : List ℕ × List ℕ) → eqb c 117 ≡ true → option_and_then (λ q. found (content_of kind (q.0 ∷ [])) q.1) (unicode_at kind cs) ≡ Some p → Begins kind (92 ∷ c ∷ cs) p.0 p.1
 unicode_begins kind c cs p e h =
     let o = bind_some (unicode_at kind cs) _ p h in
     let at = unicode_sound kind cs o.0 o.1 in
-    let fields = some_pair (held kind (o.0.0 ∷ []), o.0.1) p o.2 in
+    let fields = some_pair (content_of kind (o.0.0 ∷ []), o.0.1) p o.2 in
     record {
       unit = Unicode at.first at.more;
       allowed = at.allowed;
       ends = tt;
       text_is = ap (λ x. 92 ∷ x ∷ cs) (eqb-true c 117 e) ∙ ap (λ x. 92 ∷ 117 ∷ x) (at.text_is ∙ ap (λ x. 123 ∷ at.first ∷ (at.more ++ (125 ∷ x))) fields.1 ∙ ap (λ x. 123 ∷ at.first ∷ x) (sym (append_assoc at.more (125 ∷ []) p.1)));
-      value_is = sym fields.0 ∙ ap (λ w. held kind (w ∷ [])) at.value_is;
+      value_is = sym fields.0 ∙ ap (λ w. content_of kind (w ∷ [])) at.value_is;
     }
 
 escape_sound : (kind : Kind) (t : List ℕ) (p : List ℕ × List ℕ) → escape_at kind t ≡ Some p → Begins kind (92 ∷ t) p.0 p.1
@@ -396,7 +396,7 @@ unfolding escape_at
 escape_sound kind [] p h = absurd (cc)
 escape_sound kind (c ∷ cs) p h =
     let hex = option_and_then (λ q. found (q.0 ∷ []) q.1) (hex_at kind cs) in
-    let unicode = option_and_then (λ q. found (held kind (q.0 ∷ [])) q.1) (unicode_at kind cs) in
+    let unicode = option_and_then (λ q. found (content_of kind (q.0 ∷ [])) q.1) (unicode_at kind cs) in
     let skip = cond (is_string kind) (found [] (after_blanks cs)) None in
     let letter = named_at kind c cs in
     elim (chosen (eqb c 120) hex (cond (eqb c 117) unicode (cond (is_line_end c) skip letter)) (Some p) h) [
@@ -428,13 +428,13 @@ pub unit_sound : (kind : Kind) (t : List ℕ) (p : List ℕ × List ℕ) → uni
 unfolding unit_at
 unit_sound kind [] p h = absurd (cc)
 unit_sound kind (c ∷ cs) p h =
-    let plain = found (held kind (c ∷ [])) cs in
+    let plain = found (content_of kind (c ∷ [])) cs in
     let last = cond (eqb c 13) (line_feed_at kind cs) None in
     elim (chosen (eqb c 92) (escape_at kind cs) (cond (is_plain kind c) plain last) (Some p) h) [
       | inl a ↦ subst (λ x. Begins kind (x ∷ cs) p.0 p.1) (sym (eqb-true c 92 a.0)) (escape_sound kind cs p a.1)
       | inr a ↦ elim (chosen (is_plain kind c) plain last (Some p) a.1) [
         | inl b ↦
-            let fields = some_pair (held kind (c ∷ []), cs) p b.1 in
+            let fields = some_pair (content_of kind (c ∷ []), cs) p b.1 in
             record { unit = Plain c; allowed = b.0; ends = tt; text_is = ap (λ x. c ∷ x) fields.1; value_is = sym fields.0 }
         | inr b ↦ elim (chosen (eqb c 13) (line_feed_at kind cs) None (Some p) b.1) [
           | inl d ↦ subst (λ x. Begins kind (x ∷ cs) p.0 p.1) (sym (eqb-true c 13 d.0)) (line_feed_sound kind cs p d.1)
@@ -465,7 +465,7 @@ quote_and_return Int h = absurd (cc)
 quote_and_return Float h = absurd (cc)
 quote_and_return BoolKind h = absurd (cc)
 
-plain_complete : (kind : Kind) (c : ℕ) (r : List ℕ) → is_plain kind c ≡ true → unit_at kind (c ∷ r) ≡ found (held kind (c ∷ [])) r
+plain_complete : (kind : Kind) (c : ℕ) (r : List ℕ) → is_plain kind c ≡ true → unit_at kind (c ∷ r) ≡ found (content_of kind (c ∷ [])) r
 unfolding unit_at
 plain_complete kind c r h =
     let no_backslash : eqb c 92 ≡ false = ne_eqb c 92 (λ e. both_ways (is_plain kind 92) (backslash_not_plain kind) (subst (λ x. is_plain kind x ≡ true) e h)) in
@@ -475,7 +475,7 @@ crlf_complete : (kind : Kind) (r : List ℕ) → is_string kind ≡ true → uni
 unfolding unit_at
 crlf_complete kind r h = rw ((quote_and_return kind h).1, h) refl
 
-named_complete : (kind : Kind) (l : Letter) (r : List ℕ) → may_hold kind (letter_value l) ≡ true → unit_at kind (92 ∷ letter_text l ∷ r) ≡ found (letter_value l ∷ []) r
+named_complete : (kind : Kind) (l : Letter) (r : List ℕ) → allows_code kind (letter_value l) ≡ true → unit_at kind (92 ∷ letter_text l ∷ r) ≡ found (letter_value l ∷ []) r
 unfolding unit_at escape_at
 named_complete kind LowerN r h = rw h refl
 named_complete kind LowerR r h = rw h refl
@@ -485,7 +485,7 @@ named_complete kind Apostrophe r h = rw h refl
 named_complete kind Quote r h = rw h refl
 named_complete kind Zero r h = rw h refl
 
-continuation_complete : (kind : Kind) (c : ℕ) (run r : List ℕ) → IsUnit kind (Continuation c run) → passes is_blank r ≡ false → unit_at kind (92 ∷ c ∷ (run ++ r)) ≡ found [] r
+continuation_complete : (kind : Kind) (c : ℕ) (run r : List ℕ) → IsUnit kind (Continuation c run) → first_passes is_blank r ≡ false → unit_at kind (92 ∷ c ∷ (run ++ r)) ≡ found [] r
 unfolding unit_at escape_at
 continuation_complete kind c run r u ends =
     let At : ℕ → Type 0 = λ x. unit_at kind (92 ∷ x ∷ (run ++ r)) ≡ found [] r in

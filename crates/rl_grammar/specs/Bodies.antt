@@ -5,15 +5,15 @@ use Rattle.rl_tokens.specs.declared.kind.Kind.{Kind}
 use Rattle.rl_tokens.specs.declared.kind.Kind.TheVariants.{Str, Char}
 use Rattle.rl_tokens.specs.Quoted.{is_string}
 use Rattle.rl_tokens.specs.Reading.{HasSuffix}
-use Rattle.rl_grammar.specs.declared.quoted.Form.{Form}
-use Rattle.rl_grammar.specs.declared.quoted.Form.TheVariants.{Single as SingleForm}
+use Rattle.rl_grammar.specs.declared.quoted.QuotedForm.{QuotedForm}
+use Rattle.rl_grammar.specs.declared.quoted.QuotedForm.TheVariants.{Single as SingleForm}
 use Rattle.rl_grammar.specs.declared.bodies.Body.{Body}
 use Rattle.rl_grammar.specs.Forms.{PartsAre, is_plain_body}
 
 -- The body, in bytes, stands between the quotes of the string, and it is told whether the body stands for itself.
 pub record HasBody (kind : Kind) (text body : List ℕ) (plain : Bool) : Type 0 where
   pub string : IsTrue (is_string kind)
-  pub form : Form
+  pub form : QuotedForm
   pub value : List ℕ
   pub suffix : List ℕ
   pub parts : PartsAre form kind text value (chars body) suffix

@@ -1,12 +1,10 @@
 -- What the decoders of quoted literals answer.
-use Rattle.std.specs.Prelude.{◌≡◌, ℕ, List, [], ◌∷◌, None, encode_utf8, encode_utf8_all, if◌then◌else◌, IsTrue}
+use Rattle.std.specs.Prelude.{◌≡◌, ℕ, List, [], ◌∷◌, encode_utf8, encode_utf8_all, if◌then◌else◌, IsTrue}
 use Rattle.rl_tokens.specs.declared.kind.Kind.{Kind}
 use Rattle.rl_tokens.specs.Quoted.{holds_characters, is_string}
 use Rattle.rl_tokens.specs.Reading.{Contents, Reads, ReadsQuoted}
 use Rattle.rl_grammar.specs.declared.units.Piece.{Piece}
 use Rattle.rl_grammar.specs.declared.units.Piece.TheVariants.{Character, Byte, Nothing}
-use Rattle.rl_grammar.specs.UnitAt.{unit_at}
-use Rattle.rl_grammar.specs.Rows.{BeginsRow}
 
 -- whatever reading of the kind the text has, these are its contents
 abbrev pub ContentsAre : Kind → List ℕ → Contents → Type 0
@@ -24,14 +22,6 @@ piece_bytes Nothing = []
 -- the bytes of a value, those of characters in UTF-8
 abbrev pub in_bytes : Kind → List ℕ → List ℕ
 in_bytes kind v = if holds_characters kind then encode_utf8_all v else v
-
--- the bytes of the units at the front, as far as they go
-pub record Decodes (kind : Kind) (text bytes : List ℕ) : Type 0 where
-  pub value : List ℕ
-  pub rest : List ℕ
-  pub row : BeginsRow kind text value rest
-  pub stuck : unit_at kind rest ≡ None
-  pub bytes_are : bytes ≡ in_bytes kind value
 
 -- the bytes of the value of whatever reading as a string the text has
 abbrev pub HoldsBytes : List ℕ → List ℕ → Type 0

@@ -6,12 +6,12 @@ use Rattle.rl_tokens.specs.declared.kind.Kind.TheVariants.{Int, Float}
 use Rattle.rl_tokens.specs.Numbers.{FloatReads}
 use Rattle.rl_tokens.specs.Quoted.{is_string, is_single}
 use Rattle.rl_tokens.specs.Reading.{HasSuffix}
-use Rattle.rl_grammar.specs.declared.quoted.Form.{Form}
+use Rattle.rl_grammar.specs.declared.quoted.QuotedForm.{QuotedForm}
 use Rattle.rl_grammar.specs.declared.bodies.Body.{Body}
 use Rattle.rl_grammar.specs.declared.found.Found.{Found}
 use Rattle.rl_grammar.specs.Forms.{PartsAre, is_plain_body}
-use Rattle.rl_grammar.specs.NumberShapes.{IsWithin}
-use Rattle.rl_grammar.specs.WholeShapes.{IsCut, IsPlain}
+use Rattle.rl_grammar.specs.NumberShapes.{HasMagnitude}
+use Rattle.rl_grammar.specs.WholeShapes.{IsSplit, IsPlain}
 
 -- the parts at their places, in bytes
 abbrev pub body_in : List ℕ → Body → List ℕ
@@ -32,7 +32,7 @@ is_quoted kind = is_string kind || is_single kind
 
 -- The parts of the quoted literal stand at these places, and it is told whether the body stands for itself.
 pub record IsQuotedAt (kind : Kind) (text : List ℕ) (body : Body) : Type 0 where
-  pub form : Form
+  pub form : QuotedForm
   pub value : List ℕ
   pub parts : PartsAre form kind (chars text) value (chars (body_in text body)) (chars (suffix_in text body))
   pub plain_is : body.plain ≡ is_plain_body form kind (chars (body_in text body))
@@ -42,11 +42,11 @@ pub record IsQuotedAt (kind : Kind) (text : List ℕ) (body : Body) : Type 0 whe
 -- for, and the magnitude of an integer.
 pub record IsFound (text : List ℕ) (found : Found) : Type 0 where
   pub reads : HasSuffix found.kind (chars text) (chars (suffix_in text found.body))
-  pub cut : IsCut found.kind text (body_in text found.body) (suffix_in text found.body)
+  pub cut : IsSplit found.kind text (body_in text found.body) (suffix_in text found.body)
   pub stands : StandsIn text found.body
   pub plain : IsTrue found.body.plain ↔ IsPlain found.kind text
   pub quoted : IsTrue (is_quoted found.kind) → IsQuotedAt found.kind text found.body
-  pub integer : found.kind ≡ Int → IsWithin (chars text) found.magnitude (chars (suffix_in text found.body))
+  pub integer : found.kind ≡ Int → HasMagnitude (chars text) found.magnitude (chars (suffix_in text found.body))
   pub no_magnitude : found.kind ≢ Int → found.magnitude ≡ 0
 
 -- The same of a float, whether or not an integer stands there too.

@@ -5,22 +5,23 @@ use Rattle.rl_tokens.specs.declared.kind.Kind.TheVariants.{Bool as BoolKind}
 use Rattle.rl_tokens.specs.Puncts.{Mark}
 use Rattle.rl_tokens.specs.Trees.{Tree, IdentTree, PunctTree, LiteralTree}
 use Rattle.rl_tokens.specs.Reading.{ReadsAs}
-use Rattle.rl_tokens.specs.Tokens.{Token}
-use Rattle.rl_tokens.specs.Fronts.{joined, HasReading}
+use Rattle.rl_tokens.specs.Texts.{SpannedText}
+use Rattle.rl_grammar.specs.Fronts.{joined}
+use Rattle.rl_tokens.specs.Reading.{HasReading}
 use Rattle.rl_grammar.specs.declared.front.Front.{Front}
-use Rattle.rl_grammar.specs.declared.front.Front.TheVariants.{Token as TokenFront, Word, Negative}
+use Rattle.rl_grammar.specs.declared.front.Front.TheVariants.{Literal as LiteralFront, Word, Negative}
 
 -- a literal token or a word as it stands, a minus and its number joined
-abbrev pub token_of : {A : Type 0} → Front A → Token
-token_of (TokenFront l) = l.now
-token_of (Word i) = i.now
-token_of (Negative n) = joined n.0 n.1
+abbrev pub front_token : {A : Type 0} → Front A → SpannedText
+front_token (LiteralFront l) = l.now
+front_token (Word i) = i.now
+front_token (Negative n) = joined n.0 n.1
 
 -- the trees don't begin with the word `true` or `false`
 abbrev pub HasNoWord : List Tree → Type 0
-HasNoWord trees = (i : Token) (rest : List Tree) → trees ≡ IdentTree i ∷ rest → ReadsAs BoolKind (chars i.text) → ⊥
+HasNoWord trees = (i : SpannedText) (rest : List Tree) → trees ≡ IdentTree i ∷ rest → ReadsAs BoolKind (chars i.text) → ⊥
 
 -- the trees don't begin with a minus and a literal token that read together
 abbrev pub HasNoMinus : List Tree → Type 0
 HasNoMinus trees =
-    (m : Mark) (l : Token) (rest : List Tree) → trees ≡ PunctTree m ∷ LiteralTree l ∷ rest → m.ch ≡ 45 → HasReading (45 ∷ chars l.text) → ⊥
+    (m : Mark) (l : SpannedText) (rest : List Tree) → trees ≡ PunctTree m ∷ LiteralTree l ∷ rest → m.ch ≡ 45 → HasReading (45 ∷ chars l.text) → ⊥

@@ -1,20 +1,12 @@
 -- What the calls on numbers say.
-use Rattle.std.specs.Prelude.{◌≡◌, ℕ, ◌<◌, ◌≤◌, List, ◌++◌}
+use Rattle.std.specs.Prelude.{◌≡◌, ℕ, ◌≤◌, List, ◌++◌}
 use Rattle.rl_tokens.specs.declared.kind.Kind.{Kind}
 use Rattle.rl_tokens.specs.declared.kind.Kind.TheVariants.{Int, Float}
 use Rattle.rl_tokens.specs.Numbers.{Sign, IntReads, limit, FloatReads, float_digits}
-use Rattle.rl_tokens.specs.Reading.{Contents, Digits, Reads, ReadsInt, ReadsFloat}
-
--- an integer stands there, past the limit
-pub record IsPast (text : List ℕ) : Type 0 where
-  pub sign : Sign
-  pub magnitude : ℕ
-  pub suffix : List ℕ
-  pub reads : IntReads text sign magnitude suffix
-  pub past : limit < magnitude
+use Rattle.rl_tokens.specs.Reading.{Contents, Digits, ReadsInt, ReadsFloat}
 
 -- an integer of this magnitude and suffix stands there, within the limit
-pub record IsWithin (text : List ℕ) (magnitude : ℕ) (suffix : List ℕ) : Type 0 where
+pub record HasMagnitude (text : List ℕ) (magnitude : ℕ) (suffix : List ℕ) : Type 0 where
   pub sign : Sign
   pub reads : IntReads text sign magnitude suffix
   pub within : magnitude ≤ limit
@@ -23,9 +15,6 @@ pub record IsWithin (text : List ℕ) (magnitude : ℕ) (suffix : List ℕ) : Ty
 abbrev pub HasOneInteger : List ℕ → Type 0
 HasOneInteger text =
     (x y : List ℕ) (s z : Sign) (m n : ℕ) → IntReads text s m x → IntReads text z n y → (s ≡ z) × (m ≡ n) × (x ≡ y)
-
-abbrev pub HasNoFloat : List ℕ → Type 0
-HasNoFloat text = (numeral : List ℕ) (suffix : List ℕ) → FloatReads text numeral suffix → ⊥
 
 -- one float at most stands there
 abbrev pub HasOneFloat : List ℕ → Type 0
@@ -40,10 +29,6 @@ ReadsNumber text _ contents suffix = ⊥
 abbrev pub HasNoNumber : List ℕ → Type 0
 HasNoNumber text = (kind : Kind) (contents : Contents) (suffix : List ℕ) → ReadsNumber text kind contents suffix → ⊥
 
--- the text is no literal of any kind
-abbrev pub HasNoReading : List ℕ → Type 0
-HasNoReading text = (kind : Kind) (contents : Contents) (suffix : List ℕ) → Reads text kind contents suffix → ⊥
-
 -- The text is a number of the kind: an integer within the limit, or a float, whether or not an integer stands too.
 abbrev pub IsNumber : Kind → List ℕ → Type 0
 IsNumber Int text = (contents : Contents) × (suffix : List ℕ) × ReadsInt text contents suffix
@@ -57,7 +42,7 @@ AreDigits Float text digits = (numeral suffix : List ℕ) → FloatReads text nu
 AreDigits _ text digits = ⊥
 
 -- an integer of this magnitude stands there, within the limit, and the body is all before its suffix
-pub record IsCutInteger (text : List ℕ) (magnitude : ℕ) (body : List ℕ) : Type 0 where
+pub record IsSplitInteger (text : List ℕ) (magnitude : ℕ) (body : List ℕ) : Type 0 where
   pub suffix : List ℕ
-  pub within : IsWithin text magnitude suffix
+  pub within : HasMagnitude text magnitude suffix
   pub cut : text ≡ body ++ suffix

@@ -1,15 +1,15 @@
 -- A number, read.
 use Rattle.std.specs.Prelude.{ℕ, List}
 use Rattle.std.specs.Str.{chars}
-use Rattle.rl_tokens.specs.Texts.{IsBehind}
+use Rattle.rl_tokens.specs.Texts.{IsTail}
 use Rattle.rl_tokens.specs.Numbers.{FloatReads}
 use Rattle.rl_tokens.specs.Reading.{HasNoInteger}
 use Rattle.rl_grammar.specs.declared.numbers.Number.{Number}
 use Rattle.rl_grammar.specs.declared.numbers.Number.TheVariants.{Integer, Float}
-use Rattle.rl_grammar.specs.NumberShapes.{IsWithin}
+use Rattle.rl_grammar.specs.NumberShapes.{HasMagnitude}
 
 -- the number stands there, with this magnitude or none, and this suffix
 abbrev pub IsNumberOf : List ℕ → Number → Type 0
-IsNumberOf text (Integer magnitude suffix) = IsWithin (chars text) magnitude (chars suffix.now) × IsBehind text suffix.now
+IsNumberOf text (Integer magnitude suffix) = HasMagnitude (chars text) magnitude (chars suffix.now) × IsTail text suffix.now
 IsNumberOf text (Float suffix) =
-    ((numeral : List ℕ) × FloatReads (chars text) numeral (chars suffix.now)) × HasNoInteger (chars text) × IsBehind text suffix.now
+    ((numeral : List ℕ) × FloatReads (chars text) numeral (chars suffix.now)) × HasNoInteger (chars text) × IsTail text suffix.now

@@ -4,22 +4,22 @@ use Rattle.rl_tokens.specs.declared.kind.Kind.{Kind}
 use Rattle.rl_tokens.specs.Quoted.{is_string, is_single, opener, raw_opener}
 use Rattle.rl_tokens.specs.Reading.{Contents, ReadsQuoted}
 
-pub record IsCookedCut (kind : Kind) (text body suffix : List ℕ) : Type 0 where
+pub record IsCookedSplit (kind : Kind) (text body suffix : List ℕ) : Type 0 where
   pub string : IsTrue (is_string kind)
   pub text_is : text ≡ opener kind ++ (body ++ (34 ∷ suffix))
 
-pub record IsRawCut (kind : Kind) (text body suffix : List ℕ) : Type 0 where
+pub record IsRawSplit (kind : Kind) (text body suffix : List ℕ) : Type 0 where
   pub string : IsTrue (is_string kind)
   pub hashes : ℕ
   pub text_is : text ≡ raw_opener kind ++ (replicate hashes 35 ++ (34 ∷ (body ++ (34 ∷ (replicate hashes 35 ++ suffix)))))
 
-pub record IsSingleCut (kind : Kind) (text body suffix : List ℕ) : Type 0 where
+pub record IsSingleSplit (kind : Kind) (text body suffix : List ℕ) : Type 0 where
   pub single : IsTrue (is_single kind)
   pub text_is : text ≡ opener kind ++ (body ++ (39 ∷ suffix))
 
 -- The bytes of a quoted literal are opener, body, closer and suffix in turn.
-abbrev pub IsQuotedCut : Kind → List ℕ → List ℕ → List ℕ → Type 0
-IsQuotedCut kind text body suffix = IsCookedCut kind text body suffix ⊎ IsRawCut kind text body suffix ⊎ IsSingleCut kind text body suffix
+abbrev pub IsQuotedSplit : Kind → List ℕ → List ℕ → List ℕ → Type 0
+IsQuotedSplit kind text body suffix = IsCookedSplit kind text body suffix ⊎ IsRawSplit kind text body suffix ⊎ IsSingleSplit kind text body suffix
 
 -- No quoted literal stands there.
 abbrev pub HasNoQuoted : List ℕ → Type 0

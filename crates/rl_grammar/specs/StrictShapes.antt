@@ -3,9 +3,9 @@ use Rattle.std.specs.Prelude.{◌≡◌, ◌≢◌, ◌⊎◌, ℕ, ◌<◌, not
 use Rattle.std.specs.List.{list_all, flat_map}
 use Rattle.rl_tokens.specs.declared.kind.Kind.{Kind}
 use Rattle.rl_tokens.specs.Reading.{Contents}
-use Rattle.rl_tokens.specs.Strict.{StrictUnit, strict_text, is_strict_unit, BlanksEnd, HasUnits, ends, IsRawInside, IsStrictSuffix, StrictInt, StrictFloat, Strict}
-use Rattle.rl_grammar.specs.declared.quoted.Form.{Form}
-use Rattle.rl_grammar.specs.declared.quoted.Form.TheVariants.{Cooked as CookedForm, Raw as RawForm, Single as SingleForm}
+use Rattle.rl_tokens.specs.Strict.{StrictUnit, strict_text, is_strict_unit, BlanksEnd, HasUnits, strict_closer, IsRawInside, IsStrictSuffix, StrictInt, StrictFloat, Strict}
+use Rattle.rl_grammar.specs.declared.quoted.QuotedForm.{QuotedForm}
+use Rattle.rl_grammar.specs.declared.quoted.QuotedForm.TheVariants.{Cooked as CookedForm, Raw as RawForm, Single as SingleForm}
 
 -- The text is a strict token, of some kind, with some contents and suffix.
 pub record IsToken (text : List ℕ) : Type 0 where
@@ -26,7 +26,7 @@ pub record ClosesUnits (kind : Kind) (text : List ℕ) : Type 0 where
   pub each : IsTrue (list_all (is_strict_unit kind) units)
   pub blanks_end : BlanksEnd units
   pub is_suffix : IsStrictSuffix suffix
-  pub text_is : text ≡ flat_map strict_text units ++ (ends kind ++ suffix)
+  pub text_is : text ≡ flat_map strict_text units ++ (strict_closer kind ++ suffix)
 
 -- what stands behind the hashes and the quote of a strict raw form
 pub record ClosesInside (kind : Kind) (hashes text : List ℕ) : Type 0 where
@@ -47,7 +47,7 @@ pub record ClosesRaw (kind : Kind) (text : List ℕ) : Type 0 where
   pub text_is : text ≡ replicate hashes 35 ++ (34 ∷ rest)
 
 -- what stands behind the opener of a strict form
-abbrev pub Closes : Form → Kind → List ℕ → Type 0
+abbrev pub Closes : QuotedForm → Kind → List ℕ → Type 0
 Closes CookedForm kind text = ClosesUnits kind text
 Closes SingleForm kind text = ClosesUnits kind text
 Closes RawForm kind text = ClosesRaw kind text

@@ -5,20 +5,16 @@ use Rattle.std.specs.Str.{chars}
 use Rattle.rl_tokens.specs.declared.kind.Kind.{Kind}
 use Rattle.rl_tokens.specs.declared.kind.Kind.TheVariants.{Str, ByteStr, CStr, Int, Float, Bool as BoolKind}
 use Rattle.rl_tokens.specs.Numbers.{FloatReads, float_digits}
-use Rattle.rl_tokens.specs.Reading.{Contents, Characters, Bytes, Digits, ReadsQuoted, ReadsInt, ReadsBool}
-use Rattle.rl_grammar.specs.Shapes.{IsQuotedCut}
+use Rattle.rl_tokens.specs.Reading.{Characters, Bytes, Digits, ReadsQuoted, ReadsInt}
+use Rattle.rl_grammar.specs.Shapes.{IsQuotedSplit}
 
 -- The bytes of a literal, as its parts cut them: a quoted one is opener, body, closer and suffix in turn, a number is
 -- body and suffix, a truth value the body alone.
-abbrev pub IsCut : Kind → List ℕ → List ℕ → List ℕ → Type 0
-IsCut Int text body suffix = text ≡ body ++ suffix
-IsCut Float text body suffix = text ≡ body ++ suffix
-IsCut BoolKind text body suffix = (body ≡ text) × (suffix ≡ [])
-IsCut kind text body suffix = IsQuotedCut kind text body suffix
-
--- the text is no truth value
-abbrev pub HasNoTruth : List ℕ → Type 0
-HasNoTruth text = (contents : Contents) (suffix : List ℕ) → ReadsBool text contents suffix → ⊥
+abbrev pub IsSplit : Kind → List ℕ → List ℕ → List ℕ → Type 0
+IsSplit Int text body suffix = text ≡ body ++ suffix
+IsSplit Float text body suffix = text ≡ body ++ suffix
+IsSplit BoolKind text body suffix = (body ≡ text) × (suffix ≡ [])
+IsSplit kind text body suffix = IsQuotedSplit kind text body suffix
 
 -- a character that a number begins with, and no other literal
 abbrev pub is_number_front : ℕ → Bool
@@ -38,5 +34,5 @@ HasPlainBody _ text body suffix = ⊥
 pub record IsPlain (kind : Kind) (text : List ℕ) : Type 0 where
   pub body : List ℕ
   pub suffix : List ℕ
-  pub cut : IsCut kind text body (encode_utf8_all suffix)
+  pub cut : IsSplit kind text body (encode_utf8_all suffix)
   pub reads : HasPlainBody kind (chars text) body suffix

@@ -5,8 +5,8 @@ ghost use Rattle.std.specs.Char.{is_ascii};
 ghost use Rattle.std.specs.List.{list_all, prefix_len};
 ghost use Rattle.std.specs.Simd.Lanes.{chunk, mask_l};
 ghost use Rattle.std.specs.Str.{chars};
-ghost use Rattle.rl_tokens.specs.Texts.{passes};
-ghost use Rattle.rl_grammar.specs.Classes.{is_low_other, ends_low};
+ghost use Rattle.rl_tokens.specs.Texts.{first_passes};
+ghost use Rattle.rl_grammar.specs.Mirrors.Classes.{is_low_other, ends_low};
 
 use rl_tokens::scan::Marks;
 use std::simd::prelude::*;
@@ -93,7 +93,7 @@ pub(crate) fn ascii_len(marks: Marks, bytes: &[u8]) -> usize
 pub(crate) fn split_ascii_run(marks: Marks, text: &str) -> (&str, &str)
     ensures cut { chars text.now ≡ chars result.0.now ++ chars result.1.now }
     ensures run { IsTrue (list_all (is_low_other marks) (chars result.0.now)) }
-    ensures stops { IsFalse (passes (is_low_other marks) (chars result.1.now)) }
+    ensures stops { IsFalse (first_passes (is_low_other marks) (chars result.1.now)) }
     ensures shorter { length result.1.now ≤ length text.now }
 {
     text.split_at(ascii_len(marks, text.as_bytes()))

@@ -3,7 +3,7 @@
 ghost use Rattle.std.specs.Prelude.{◌≡◌, ℕ, List, IsTrue};
 ghost use Rattle.std.specs.Str.{chars};
 ghost use Rattle.rl_tokens.specs.Quoted.{is_string};
-ghost use Rattle.rl_grammar.specs.declared.quoted.Form.{Form};
+ghost use Rattle.rl_grammar.specs.declared.quoted.QuotedForm.{QuotedForm};
 ghost use Rattle.rl_grammar.specs.Bodies.{IsBodyAt, letters};
 ghost use Rattle.rl_grammar.specs.Decoded.{ReadsAsQuoted};
 ghost use Rattle.rl_grammar.specs.Forms.{PartsAre, is_plain_body};
@@ -40,7 +40,7 @@ pub(crate) fn quoted_body<'t>(
     suffix: &'t str,
     plain: bool,
 ) -> Body
-    requires { (form : Form) × (v : List ℕ)
+    requires { (form : QuotedForm) × (v : List ℕ)
         × PartsAre form kind (chars text.now) v (chars body.now) (chars suffix.now)
         × (plain ≡ is_plain_body form kind (chars body.now)) }
     ensures { IsQuotedAt kind text.now result }

@@ -2,9 +2,9 @@
 
 ghost use Rattle.std.specs.Prelude.{◌≡◌, ◌≤◌, length};
 ghost use Rattle.std.specs.Str.{chars};
-ghost use Rattle.rl_tokens.specs.Texts.{IsBehind};
-ghost use Rattle.rl_grammar.specs.Classes.{class_test};
-ghost use Rattle.rl_grammar.specs.NumberAt.{after_run};
+ghost use Rattle.rl_tokens.specs.Texts.{IsTail};
+ghost use Rattle.rl_grammar.specs.Mirrors.Classes.{class_test};
+ghost use Rattle.rl_grammar.specs.Mirrors.NumberAt.{after_run};
 
 use rl_tokens::text::split_char;
 
@@ -34,10 +34,10 @@ fn is_of(class: Class, c: char) -> bool
 
 /// The text behind the characters of the class at its front. It is inlined for the class that its caller names.
 #[inline(always)]
-#[tactic(auto, using(rl_tokens::proofs::BehindLemmas::behind_step, rl_tokens::proofs::BehindLemmas::behind_self), unfolding(crate::specs::NumberAt::after_run))]
+#[tactic(auto, using(rl_tokens::proofs::BehindLemmas::behind_step, rl_tokens::proofs::BehindLemmas::behind_self), unfolding(crate::specs::Mirrors::NumberAt::after_run))]
 pub(crate) fn skip(class: Class, text: &str) -> &str
     ensures value { chars result.now ≡ after_run (class_test class) (chars text.now) }
-    ensures behind { IsBehind text.now result.now }
+    ensures behind { IsTail text.now result.now }
     ensures shorter { length result.now ≤ length text.now }
 {
     let mut rest = text;

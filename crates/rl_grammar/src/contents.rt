@@ -6,9 +6,10 @@ ghost use Rattle.rl_tokens.specs.declared.kind.Kind.{Kind as AnyKind};
 ghost use Rattle.rl_tokens.specs.Errors.{memory_at, nowhere};
 ghost use Rattle.rl_tokens.specs.Quoted.{is_single, is_string};
 ghost use Rattle.rl_tokens.specs.Reading.{Contents, Characters, Bytes, quoted_contents, ReadsQuoted, ReadsAs, HasContents};
-ghost use Rattle.rl_grammar.specs.UnitAt.{piece_value};
+ghost use Rattle.rl_grammar.specs.Mirrors.UnitAt.{piece_value};
 ghost use Rattle.rl_grammar.specs.Bodies.{HasBody, HasSingleBody};
-ghost use Rattle.rl_grammar.specs.Decoded.{ContentsAre, ReadsAsQuoted, piece_bytes, Decodes, HoldsBytes};
+ghost use Rattle.rl_grammar.specs.Decoded.{ContentsAre, ReadsAsQuoted, piece_bytes, HoldsBytes};
+ghost use Rattle.rl_grammar.specs.Mirrors.Decodes.{Decodes};
 ghost use Rattle.rl_grammar.specs.WholeShapes.{IsPlain};
 
 use crate::quoted::{front, quoted_parts};

@@ -3,12 +3,12 @@
 ghost use Rattle.std.specs.Prelude.{◌≡◌, ◌≢◌, ◌==◌, ℕ, List, ◌∷◌, ◌++◌, not, IfSome, IfNone, IsTrue};
 ghost use Rattle.std.specs.List.{list_all};
 ghost use Rattle.std.specs.Str.{chars};
-ghost use Rattle.rl_tokens.specs.Texts.{IsBehind};
+ghost use Rattle.rl_tokens.specs.Texts.{IsTail};
 
 /// The text in front of a rest of it.
 #[tactic(auto, using(rl_tokens::proofs::BehindLemmas::cut_boundary, rl_tokens::proofs::BehindLemmas::cut_chars))]
 pub(crate) fn before<'t>(text: &'t str, rest: &str) -> &'t str
-    requires { IsBehind text.now rest.now }
+    requires { IsTail text.now rest.now }
     ensures { chars text.now ≡ chars result.now ++ chars rest.now }
 {
     &text[..text.len() - rest.len()]

@@ -7,10 +7,10 @@ ghost use Rattle.std.specs.List.{list_all};
 ghost use Rattle.std.specs.Str.{chars};
 ghost use Rattle.rl_tokens.specs.Errors.{memory_at, nowhere};
 ghost use Rattle.rl_tokens.specs.Numbers.{float_digits, sign_text};
-ghost use Rattle.rl_grammar.specs.NumberAt.{sign_at};
+ghost use Rattle.rl_grammar.specs.Mirrors.NumberAt.{sign_at};
 ghost use Rattle.rl_grammar.specs.Founds.{IsFoundNumber};
 ghost use Rattle.rl_grammar.specs.NumberShapes.{AreDigits, IsNumber};
-ghost use Rattle.rl_grammar.specs.PlainAt.{is_plain_digits, is_plain_float, is_plain_integer};
+ghost use Rattle.rl_grammar.specs.Mirrors.PlainAt.{is_plain_digits, is_plain_float, is_plain_integer};
 
 use crate::contents::out_of_memory;
 use crate::found::{Found, find_float, find_int};

@@ -3,10 +3,11 @@
 ghost use Rattle.std.specs.Prelude.{◌≡◌, ◌++◌, IfNone, IfSome, option_map};
 ghost use Rattle.std.specs.Str.{chars};
 ghost use Rattle.rl_tokens.specs.declared.kind.Kind.TheVariants.{Float};
-ghost use Rattle.rl_tokens.specs.Texts.{IsBehind};
+ghost use Rattle.rl_tokens.specs.Texts.{IsTail};
 ghost use Rattle.rl_tokens.specs.Numbers.{FloatReads};
-ghost use Rattle.rl_grammar.specs.NumberAt.{after_exponent, after_fraction, after_minus, float_at, float_tail_at, IsHead, power_at};
-ghost use Rattle.rl_grammar.specs.NumberShapes.{HasNoFloat, HasOneFloat};
+ghost use Rattle.rl_grammar.specs.Mirrors.NumberAt.{after_exponent, after_fraction, after_minus, float_at, float_tail_at, IsHead, power_at};
+ghost use Rattle.rl_tokens.specs.Reading.{HasNoFloat};
+ghost use Rattle.rl_grammar.specs.NumberShapes.{HasOneFloat};
 
 use crate::classes::{Class, skip};
 use crate::integers::Head;
@@ -19,7 +20,7 @@ use rl_tokens::text::split_char;
 #[tactic(auto, using(rl_tokens::proofs::BehindLemmas::behind_step, rl_tokens::proofs::BehindLemmas::behind_self))]
 fn after_fraction(text: &str) -> &str
     ensures value { chars result.now ≡ after_fraction (chars text.now) }
-    ensures behind { IsBehind text.now result.now }
+    ensures behind { IsTail text.now result.now }
 {
     match split_char(text) {
         Some(('.', digits)) => skip_row(digits).rest,
@@ -28,10 +29,10 @@ fn after_fraction(text: &str) -> &str
 }
 
 /// The digits of a power, behind its letter.
-#[tactic(auto, using(rl_tokens::proofs::BehindLemmas::behind_step, rl_tokens::proofs::BehindLemmas::behind_self), unfolding(crate::specs::NumberAt::power_at))]
+#[tactic(auto, using(rl_tokens::proofs::BehindLemmas::behind_step, rl_tokens::proofs::BehindLemmas::behind_self), unfolding(crate::specs::Mirrors::NumberAt::power_at))]
 fn power_digits(text: &str) -> &str
     ensures value { chars result.now ≡ power_at (chars text.now) }
-    ensures behind { IsBehind text.now result.now }
+    ensures behind { IsTail text.now result.now }
 {
     let signed = skip(Class::Underscore, text);
     match split_char(signed) {
@@ -41,10 +42,10 @@ fn power_digits(text: &str) -> &str
 }
 
 /// What follows an exponent, or the text.
-#[tactic(auto, using(rl_tokens::proofs::BehindLemmas::behind_step, rl_tokens::proofs::BehindLemmas::behind_self), unfolding(crate::specs::NumberAt::after_exponent))]
+#[tactic(auto, using(rl_tokens::proofs::BehindLemmas::behind_step, rl_tokens::proofs::BehindLemmas::behind_self), unfolding(crate::specs::Mirrors::NumberAt::after_exponent))]
 fn after_exponent(text: &str) -> &str
     ensures value { chars result.now ≡ after_exponent (chars text.now) }
-    ensures behind { IsBehind text.now result.now }
+    ensures behind { IsTail text.now result.now }
 {
     if let Some(('e' | 'E', power)) = split_char(text) {
         let row = skip_row(power_digits(power));
@@ -59,7 +60,7 @@ fn after_exponent(text: &str) -> &str
 #[tactic(auto, using(rl_tokens::proofs::BehindLemmas::behind_step, rl_tokens::proofs::BehindLemmas::behind_self))]
 fn tail_suffix(text: &str) -> Option<&str>
     ensures value { option_map (λ x. chars x.now) result ≡ float_tail_at (chars text.now) }
-    ensures behind { IfSome result (λ x. IsBehind text.now x.now) }
+    ensures behind { IfSome result (λ x. IsTail text.now x.now) }
 {
     let suffix = after_exponent(after_fraction(text));
     if is_suffix(suffix) {
@@ -70,10 +71,10 @@ fn tail_suffix(text: &str) -> Option<&str>
 }
 
 /// The suffix of the float that the text is.
-#[tactic(auto, using(rl_tokens::proofs::BehindLemmas::behind_step, rl_tokens::proofs::BehindLemmas::behind_self), unfolding(crate::specs::NumberAt::float_at))]
+#[tactic(auto, using(rl_tokens::proofs::BehindLemmas::behind_step, rl_tokens::proofs::BehindLemmas::behind_self), unfolding(crate::specs::Mirrors::NumberAt::float_at))]
 pub(crate) fn float_suffix(text: &str) -> Option<&str>
     ensures value { option_map (λ x. chars x.now) result ≡ float_at (chars text.now) }
-    ensures behind { IfSome result (λ x. IsBehind text.now x.now) }
+    ensures behind { IfSome result (λ x. IsTail text.now x.now) }
 {
     let whole = after_minus(text);
     if !begins_digit(whole) {
@@ -86,9 +87,9 @@ pub(crate) fn float_suffix(text: &str) -> Option<&str>
 pub(crate) fn head_suffix<'t>(text: &'t str, head: Head<'t>) -> Option<&'t str>
     requires head { IsHead (after_minus (chars text.now)) head.radix
         head.row.has_digit head.row.magnitude (chars head.row.rest.now) }
-    requires behind { IsBehind text.now head.row.rest.now }
+    requires behind { IsTail text.now head.row.rest.now }
     ensures value { option_map (λ x. chars x.now) result ≡ float_at (chars text.now) }
-    ensures behind { IfSome result (λ x. IsBehind text.now x.now) }
+    ensures behind { IfSome result (λ x. IsTail text.now x.now) }
 {
     if head.radix == 10 {
         tail_suffix(head.row.rest)
@@ -106,7 +107,7 @@ pub fn float_shape(text: &str) -> Option<Parts<'_>>
         (λ p. FloatReads (chars text.now) (chars p.body.now) (chars p.suffix.now)) }
     ensures kind { IfSome result (λ p. p.kind ≡ Float) }
     ensures cut { IfSome result (λ p. text.now ≡ p.body.now ++ p.suffix.now) }
-    ensures behind { IfSome result (λ p. IsBehind text.now p.suffix.now) }
+    ensures behind { IfSome result (λ p. IsTail text.now p.suffix.now) }
     ensures once { HasOneFloat (chars text.now) }
 {
     let suffix = float_suffix(text)?;

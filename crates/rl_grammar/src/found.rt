@@ -5,11 +5,12 @@ ghost use Rattle.std.specs.Str.{chars};
 ghost use Rattle.rl_tokens.specs.declared.kind.Kind.TheVariants.{Float, Int};
 ghost use Rattle.rl_tokens.specs.Numbers.{FloatReads};
 ghost use Rattle.rl_tokens.specs.Reading.{HasNoInteger};
-ghost use Rattle.rl_tokens.specs.Texts.{IsBehind};
+ghost use Rattle.rl_tokens.specs.Texts.{IsTail};
 ghost use Rattle.rl_grammar.specs.Founds.{IsFound, IsFoundFloat};
-ghost use Rattle.rl_grammar.specs.NumberShapes.{HasNoFloat, HasNoNumber, HasNoReading, HasOneFloat, HasOneInteger, IsPast, IsWithin};
+ghost use Rattle.rl_tokens.specs.Reading.{HasNoFloat, HasNoReading, IsPast};
+ghost use Rattle.rl_grammar.specs.NumberShapes.{HasNoNumber, HasOneFloat, HasOneInteger, HasMagnitude};
 ghost use Rattle.rl_grammar.specs.Shapes.{HasNoQuoted};
-ghost use Rattle.rl_grammar.specs.WholeShapes.{HasNoTruth};
+ghost use Rattle.rl_tokens.specs.Reading.{HasNoTruth};
 
 use crate::bodies::{Body, quoted_body};
 use crate::digits::{is_plain_float, is_plain_integer};
@@ -56,8 +57,8 @@ fn number_body(text: &str, suffix: &str, plain: bool) -> Body
 
 /// The integer of this magnitude and suffix.
 fn integer_found<'t>(text: &'t str, suffix: &'t str, magnitude: u128) -> Found
-    requires within { IsWithin (chars text.now) magnitude (chars suffix.now) }
-    requires behind { IsBehind text.now suffix.now }
+    requires within { HasMagnitude (chars text.now) magnitude (chars suffix.now) }
+    requires behind { IsTail text.now suffix.now }
     ensures found { IsFound text.now result }
     ensures kind { result.kind ≡ Int }
 {
@@ -73,7 +74,7 @@ fn integer_found<'t>(text: &'t str, suffix: &'t str, magnitude: u128) -> Found
 /// The float of this suffix.
 fn float_found<'t>(text: &'t str, suffix: &'t str) -> Found
     requires reads { (numeral : List ℕ) × FloatReads (chars text.now) numeral (chars suffix.now) }
-    requires behind { IsBehind text.now suffix.now }
+    requires behind { IsTail text.now suffix.now }
     ensures { IsFoundFloat text.now result }
 {
     let parts = cut_suffix(Kind::Float, text, suffix);

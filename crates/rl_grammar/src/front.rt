@@ -8,16 +8,9 @@ ghost use Rattle.rl_tokens.specs.Errors.{memory_at};
 ghost use Rattle.rl_tokens.specs.Trees.{IdentTree};
 ghost use Rattle.rl_tokens.specs.Reading.{Reads, ReadsAs, Truth};
 ghost use Rattle.rl_tokens.specs.Buffers.{trees_in, scope_of, IsRest};
-ghost use Rattle.rl_tokens.specs.Fronts.{
-  IsFront,
-  HasNoFront,
-  HasFrontOf,
-  RunsAs,
-  joined,
-  joined_span,
-};
+ghost use Rattle.rl_grammar.specs.Fronts.{IsFront, HasNoFront, HasFrontOf, RunsAs, joined, joined_span};
 ghost use Rattle.rl_grammar.specs.Founds.{IsFound};
-ghost use Rattle.rl_grammar.specs.NumberShapes.{HasNoReading};
+ghost use Rattle.rl_tokens.specs.Reading.{HasNoReading};
 ghost use Rattle.rl_grammar.specs.FrontTokens.{HasNoWord, HasNoMinus};
 
 use crate::found::{Found, find, find_negative};
@@ -38,10 +31,10 @@ pub struct Negative<'a, A: Allocator> {
 impl<'a, A: Allocator> Model for Negative<'a, A> {
     ghost use Rattle.std.specs.Prelude.{◌∷◌};
     ghost use Rattle.rl_tokens.specs.Puncts.{Mark};
-    ghost use Rattle.rl_tokens.specs.Tokens.{Token};
+    ghost use Rattle.rl_tokens.specs.Texts.{SpannedText};
     ghost use Rattle.rl_grammar.specs.Founds.{IsFound};
 
-    ghost Value = { Mark × Token };
+    ghost Value = { Mark × SpannedText };
 
     ghost view = { λ n. (n.minus.now, n.number.now) };
 
@@ -52,7 +45,7 @@ impl<'a, A: Allocator> Model for Negative<'a, A> {
 #[derive(Drop)]
 pub enum Front<'a, A: Allocator> {
     /// A literal token, with any text.
-    Token(&'a Literal<A>),
+    Literal(&'a Literal<A>),
     /// The word `true` or `false`.
     Word(&'a Ident<A>),
     /// A minus and a literal token that read together.
@@ -109,20 +102,20 @@ fn joined_span(minus: Span, number: Span) -> Span
 }
 
 impl<'a, A: Allocator> Front<'a, A> {
-    ghost use Rattle.rl_grammar.specs.FrontTokens.{token_of};
+    ghost use Rattle.rl_grammar.specs.FrontTokens.{front_token};
 
     /// Takes the literal that stands next: a literal token with any text, the word `true` or `false`, or a minus and a
     /// literal token that read together. Where none does, the buffer stays.
     pub fn take(input: &mut ParseBuffer<'a, A>) -> Option<Front<'a, A>>
         ensures taken { IfSome result
-            (λ f. IsFront (trees_in input.old) (token_of f) (trees_in input.new)) }
+            (λ f. IsFront (trees_in input.old) (front_token f) (trees_in input.new)) }
         ensures none { IfNone result (HasNoFront (trees_in input.old)) }
         ensures left { IfNone result (trees_in input.new ≡ trees_in input.old) }
         ensures rest { IsRest (trees_in input.old) (trees_in input.new) }
         ensures scope { scope_of input.new ≡ scope_of input.old }
     {
         if let Some(token) = input.literal() {
-            return Some(Front::Token(token));
+            return Some(Front::Literal(token));
         }
         if let Some(word) = take_word(input) {
             return Some(Front::Word(word));
@@ -134,11 +127,11 @@ impl<'a, A: Allocator> Front<'a, A> {
     /// What reading the literal finds; the places count in its token's text, a minus included. None where it has no
     /// reading.
     pub fn find(&self) -> Option<Found>
-        ensures none { IfNone result (HasNoReading (chars (token_of self.now).text)) }
-        ensures found { IfSome result (IsFound (token_of self.now).text) }
+        ensures none { IfNone result (HasNoReading (chars (front_token self.now).text)) }
+        ensures found { IfSome result (IsFound (front_token self.now).text) }
     {
         match self {
-            Front::Token(token) => find(token.text()),
+            Front::Literal(token) => find(token.text()),
             Front::Word(word) => find(word.text()),
             Front::Negative(negative) => Some(negative.found),
         }
@@ -146,8 +139,8 @@ impl<'a, A: Allocator> Front<'a, A> {
 
     /// The kind that the literal reads as; none where it has no reading.
     pub fn kind(&self) -> Option<Kind>
-        ensures some { IfSome result (λ k. ReadsAs k (chars (token_of self.now).text)) }
-        ensures none { IfNone result (HasNoReading (chars (token_of self.now).text)) }
+        ensures some { IfSome result (λ k. ReadsAs k (chars (front_token self.now).text)) }
+        ensures none { IfNone result (HasNoReading (chars (front_token self.now).text)) }
     {
         let found = self.find()?;
         Some(found.kind)
@@ -155,9 +148,9 @@ impl<'a, A: Allocator> Front<'a, A> {
 
     /// What reading the literal finds, where it reads as this kind.
     fn find_as(&self, kind: Kind) -> Option<Found>
-        ensures found { IfSome result (IsFound (token_of self.now).text) }
+        ensures found { IfSome result (IsFound (front_token self.now).text) }
         ensures kind { IfSome result (λ f. f.kind ≡ kind) }
-        ensures none { IfNone result (ReadsAs kind (chars (token_of self.now).text) → ⊥) }
+        ensures none { IfNone result (ReadsAs kind (chars (front_token self.now).text) → ⊥) }
     {
         let found = self.find()?;
         if found.kind == kind {
@@ -169,7 +162,7 @@ impl<'a, A: Allocator> Front<'a, A> {
 
     /// Whether the literal reads as this kind.
     pub fn is_of(&self, kind: Kind) -> bool
-        ensures { IsTrue result ↔ ReadsAs kind (chars (token_of self.now).text) }
+        ensures { IsTrue result ↔ ReadsAs kind (chars (front_token self.now).text) }
     {
         self.find_as(kind).is_some()
     }
@@ -177,11 +170,11 @@ impl<'a, A: Allocator> Front<'a, A> {
     /// The truth value that the literal is, where it is one.
     pub fn truth(&self) -> Option<bool>
         ensures some { IfSome result
-            (λ b. Reads (chars (token_of self.now).text) BoolKind (Truth b) []) }
-        ensures none { IfNone result (ReadsAs BoolKind (chars (token_of self.now).text) → ⊥) }
+            (λ b. Reads (chars (front_token self.now).text) BoolKind (Truth b) []) }
+        ensures none { IfNone result (ReadsAs BoolKind (chars (front_token self.now).text) → ⊥) }
     {
         match self {
-            Front::Token(token) => truth_of(token.text()),
+            Front::Literal(token) => truth_of(token.text()),
             Front::Word(word) => truth_of(word.text()),
             Front::Negative(_) => None,
         }
@@ -189,10 +182,10 @@ impl<'a, A: Allocator> Front<'a, A> {
 
     /// Where the literal stands: from a minus to its number, where both stand in one file, else the minus alone.
     pub fn span(&self) -> Span
-        ensures { result ≡ (token_of self.now).span }
+        ensures { result ≡ (front_token self.now).span }
     {
         match self {
-            Front::Token(token) => token.span(),
+            Front::Literal(token) => token.span(),
             Front::Word(word) => word.span(),
             Front::Negative(negative) => joined_span(negative.minus.span(), negative.number.span()),
         }
@@ -200,11 +193,11 @@ impl<'a, A: Allocator> Front<'a, A> {
 
     /// The literal as one token. Want of memory is told at its span.
     pub fn token<B: Allocator>(&self, alloc: B) -> Result<Literal<B>, Error<B>>
-        ensures ok { IfOk result (λ l. l ≡ token_of self.now) }
-        ensures memory { IfErr result (λ e. e ≡ memory_at (token_of self.now).span) }
+        ensures ok { IfOk result (λ l. l ≡ front_token self.now) }
+        ensures memory { IfErr result (λ e. e ≡ memory_at (front_token self.now).span) }
     {
         match self {
-            Front::Token(token) => Literal::clone(token, alloc),
+            Front::Literal(token) => Literal::clone(token, alloc),
             Front::Word(word) => Literal::from_text(alloc, word.text(), word.span()),
             Front::Negative(negative) => negative.number.behind_minus(alloc, self.span()),
         }

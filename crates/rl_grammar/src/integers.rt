@@ -4,24 +4,25 @@ ghost use Rattle.std.specs.Prelude.{◌≡◌, ◌++◌, ◌≤◌, false, IsTru
 ghost use Rattle.std.specs.Char.{is_ascii_digit};
 ghost use Rattle.std.specs.Str.{chars};
 ghost use Rattle.rl_tokens.specs.declared.kind.Kind.TheVariants.{Int};
-ghost use Rattle.rl_tokens.specs.Texts.{IsBehind, passes};
+ghost use Rattle.rl_tokens.specs.Texts.{IsTail, first_passes};
 ghost use Rattle.rl_tokens.specs.Reading.{Contents, HasNoInteger, ReadsInt};
-ghost use Rattle.rl_grammar.specs.NumberAt.{after_minus, capped_int, ended_at, int_at, IsHead, radix_at};
-ghost use Rattle.rl_grammar.specs.NumberShapes.{HasOneInteger, IsPast};
+ghost use Rattle.rl_grammar.specs.Mirrors.NumberAt.{after_minus, capped_int, ended_at, int_at, IsHead, radix_at};
+ghost use Rattle.rl_grammar.specs.NumberShapes.{HasOneInteger};
+ghost use Rattle.rl_tokens.specs.Reading.{IsPast};
 
 use crate::parts::Parts;
 use crate::rows::{
-    Row, after_minus, begins_digit, cut_suffix, is_exponent_suffix, is_suffix, read_row,
+    DigitRow, after_minus, begins_digit, cut_suffix, is_exponent_suffix, is_suffix, read_row,
 };
 use rl_tokens::Kind;
 use rl_tokens::text::split_char;
 
 /// The base, and what follows its prefix.
-#[tactic(auto, using(rl_tokens::proofs::BehindLemmas::behind_step, rl_tokens::proofs::BehindLemmas::behind_self), unfolding(crate::specs::NumberAt::radix_at))]
+#[tactic(auto, using(rl_tokens::proofs::BehindLemmas::behind_step, rl_tokens::proofs::BehindLemmas::behind_self), unfolding(crate::specs::Mirrors::NumberAt::radix_at))]
 pub(crate) fn split_radix(text: &str) -> (u32, &str)
     ensures value { (result.0, chars result.1.now) ≡ radix_at (chars text.now) }
     ensures within { (2 ≤ result.0) × (result.0 ≤ 16) }
-    ensures behind { IsBehind text.now result.1.now }
+    ensures behind { IsTail text.now result.1.now }
 {
     if let Some(('0', letter)) = split_char(text) {
         match split_char(letter) {
@@ -38,16 +39,16 @@ pub(crate) fn split_radix(text: &str) -> (u32, &str)
 #[derive(Clone, Copy)]
 pub(crate) struct Head<'t> {
     pub radix: u32,
-    pub row: Row<'t>,
+    pub row: DigitRow<'t>,
 }
 
 /// What a number begins with, by what stands behind its sign.
 #[tactic(auto, using(rl_tokens::proofs::BehindLemmas::behind_step))]
 fn head_of(unsigned: &str) -> Head<'_>
-    requires { IsTrue (passes is_ascii_digit (chars unsigned.now)) }
+    requires { IsTrue (first_passes is_ascii_digit (chars unsigned.now)) }
     ensures head { IsHead (chars unsigned.now) result.radix
         result.row.has_digit result.row.magnitude (chars result.row.rest.now) }
-    ensures behind { IsBehind unsigned.now result.row.rest.now }
+    ensures behind { IsTail unsigned.now result.row.rest.now }
 {
     let (radix, digits) = split_radix(unsigned);
     let row = read_row(digits, radix);
@@ -58,10 +59,10 @@ fn head_of(unsigned: &str) -> Head<'_>
 #[inline(always)]
 #[tactic(auto, using(rl_tokens::proofs::BehindLemmas::behind_step))]
 pub(crate) fn read_head(text: &str) -> Option<Head<'_>>
-    ensures none { IfNone result (passes is_ascii_digit (after_minus (chars text.now)) ≡ false) }
+    ensures none { IfNone result (first_passes is_ascii_digit (after_minus (chars text.now)) ≡ false) }
     ensures head { IfSome result (λ h. IsHead (after_minus (chars text.now)) h.radix
         h.row.has_digit h.row.magnitude (chars h.row.rest.now)) }
-    ensures behind { IfSome result (λ h. IsBehind text.now h.row.rest.now) }
+    ensures behind { IfSome result (λ h. IsTail text.now h.row.rest.now) }
 {
     let unsigned = after_minus(text);
     if begins_digit(unsigned) {
@@ -104,7 +105,7 @@ pub(crate) fn integer_of(head: Head<'_>) -> Option<Integer<'_>>
 pub(crate) fn read_integer(text: &str) -> Option<Integer<'_>>
     ensures value { option_map {U = Option ℕ × List ℕ} (λ i. (i.magnitude, chars i.suffix.now)) result
         ≡ capped_int (int_at (chars text.now)) }
-    ensures behind { IfSome result (λ i. IsBehind text.now i.suffix.now) }
+    ensures behind { IfSome result (λ i. IsTail text.now i.suffix.now) }
 {
     match read_head(text) {
         Some(head) => integer_of(head),
@@ -122,7 +123,7 @@ pub fn int_shape(text: &str) -> Option<Option<Parts<'_>>>
         (λ p. (v : Contents) × ReadsInt (chars text.now) v (chars p.suffix.now))) }
     ensures kind { IfSome result (λ o. IfSome o (λ p. p.kind ≡ Int)) }
     ensures cut { IfSome result (λ o. IfSome o (λ p. text.now ≡ p.body.now ++ p.suffix.now)) }
-    ensures behind { IfSome result (λ o. IfSome o (λ p. IsBehind text.now p.suffix.now)) }
+    ensures behind { IfSome result (λ o. IfSome o (λ p. IsTail text.now p.suffix.now)) }
     ensures once { HasOneInteger (chars text.now) }
 {
     let integer = read_integer(text)?;

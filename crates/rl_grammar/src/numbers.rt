@@ -4,7 +4,8 @@ ghost use Rattle.std.specs.Prelude.{◌≡◌, ◌++◌, ◌∷◌, ◌⊎◌, I
 ghost use Rattle.std.specs.Str.{chars};
 ghost use Rattle.rl_tokens.specs.declared.kind.Kind.TheVariants.{Float, Int};
 ghost use Rattle.rl_tokens.specs.Reading.{Contents, Reads};
-ghost use Rattle.rl_grammar.specs.NumberShapes.{HasNoNumber, HasNoReading, ReadsNumber};
+ghost use Rattle.rl_grammar.specs.NumberShapes.{HasNoNumber, ReadsNumber};
+ghost use Rattle.rl_tokens.specs.Reading.{HasNoReading};
 ghost use Rattle.rl_grammar.specs.NumbersRead.{IsNumberOf};
 
 use crate::floats::head_suffix;

@@ -3,13 +3,14 @@
 ghost use Rattle.std.specs.Prelude.{◌≡◌, ◌≢◌, ◌==◌, ◌∷◌, ◌++◌, ℕ, List, None, option_map, IfSome, IfNone, IsTrue};
 ghost use Rattle.std.specs.List.{list_all};
 ghost use Rattle.std.specs.Str.{chars};
-ghost use Rattle.rl_tokens.specs.Texts.{IsBehind};
+ghost use Rattle.rl_tokens.specs.Texts.{IsTail};
 ghost use Rattle.rl_tokens.specs.Quoted.{is_string, is_single, is_raw};
 ghost use Rattle.rl_tokens.specs.Reading.{Contents, ReadsQuoted};
-ghost use Rattle.rl_grammar.specs.UnitAt.{unit_at};
+ghost use Rattle.rl_grammar.specs.Mirrors.UnitAt.{unit_at};
 ghost use Rattle.rl_grammar.specs.Rows.{BeginsRow};
-ghost use Rattle.rl_grammar.specs.Forms.{has_form, form_opener, string_front_at, byte_front_at, front_at, PartsAre, HasNoParts, is_plain_body, after_hashes};
-ghost use Rattle.rl_grammar.specs.Shapes.{IsQuotedCut, HasNoQuoted};
+ghost use Rattle.rl_grammar.specs.Forms.{has_form, form_opener, PartsAre, HasNoParts, is_plain_body};
+ghost use Rattle.rl_grammar.specs.Mirrors.OpenerAt.{string_opener_at, byte_opener_at, opener_at, after_hashes};
+ghost use Rattle.rl_grammar.specs.Shapes.{IsQuotedSplit, HasNoQuoted};
 
 use crate::ascii::is_ascii;
 use crate::classes::{Class, skip};
@@ -22,42 +23,42 @@ use rl_tokens::text::split_char;
 
 /// The forms of quoted literals: with escapes between `"`, as the text stands, and one unit between `'`.
 #[derive(Clone, Copy)]
-pub(crate) enum Form {
+pub(crate) enum QuotedForm {
     Cooked,
     Raw,
     Single,
 }
 
 /// What a `"` or an `r` at the front tells of a string of the kind.
-fn string_front(kind: Kind, text: &str) -> Option<(Form, Kind, &str)>
-    ensures { option_map (λ p. (p.0, p.1, chars p.2.now)) result ≡ string_front_at kind (chars text.now) }
+fn string_front(kind: Kind, text: &str) -> Option<(QuotedForm, Kind, &str)>
+    ensures { option_map (λ p. (p.0, p.1, chars p.2.now)) result ≡ string_opener_at kind (chars text.now) }
 {
     let (first, rest) = split_char(text)?;
     match first {
-        '"' => Some((Form::Cooked, kind, rest)),
-        'r' => Some((Form::Raw, kind, rest)),
+        '"' => Some((QuotedForm::Cooked, kind, rest)),
+        'r' => Some((QuotedForm::Raw, kind, rest)),
         _ => None,
     }
 }
 
 /// What the text behind a `b` tells.
-fn byte_front(text: &str) -> Option<(Form, Kind, &str)>
-    ensures { option_map (λ p. (p.0, p.1, chars p.2.now)) result ≡ byte_front_at (chars text.now) }
+fn byte_front(text: &str) -> Option<(QuotedForm, Kind, &str)>
+    ensures { option_map (λ p. (p.0, p.1, chars p.2.now)) result ≡ byte_opener_at (chars text.now) }
 {
     match split_char(text) {
-        Some(('\'', rest)) => Some((Form::Single, Kind::Byte, rest)),
+        Some(('\'', rest)) => Some((QuotedForm::Single, Kind::Byte, rest)),
         _ => string_front(Kind::ByteStr, text),
     }
 }
 
 /// What a text's front tells: the one form and the one kind that the text can have, and the text behind the opener.
-#[tactic(auto, unfolding(crate::specs::Forms::front_at))]
-pub(crate) fn front(text: &str) -> Option<(Form, Kind, &str)>
-    ensures { option_map (λ p. (p.0, p.1, chars p.2.now)) result ≡ front_at (chars text.now) }
+#[tactic(auto, unfolding(crate::specs::Mirrors::OpenerAt::opener_at))]
+pub(crate) fn front(text: &str) -> Option<(QuotedForm, Kind, &str)>
+    ensures { option_map (λ p. (p.0, p.1, chars p.2.now)) result ≡ opener_at (chars text.now) }
 {
     let (first, rest) = split_char(text)?;
     match first {
-        '\'' => Some((Form::Single, Kind::Char, rest)),
+        '\'' => Some((QuotedForm::Single, Kind::Char, rest)),
         'b' => byte_front(rest),
         'c' => string_front(Kind::CStr, rest),
         _ => string_front(Kind::Str, text),
@@ -87,7 +88,7 @@ pub(crate) fn skip_hashes(text: &str) -> &str
 
 /// The text in front of a rest that begins with the quote, and the text behind that quote.
 fn cut_at_quote<'t>(quote: char, text: &'t str, rest: &'t str) -> Option<(&'t str, &'t str)>
-    requires { IsBehind text.now rest.now }
+    requires { IsTail text.now rest.now }
     ensures before { IfSome result (λ p. chars text.now ≡ chars p.0.now ++ chars rest.now) }
     ensures quote { IfSome result (λ p. chars rest.now ≡ quote ∷ chars p.1.now) }
     ensures none { IfNone result ((x : List ℕ) → chars rest.now ≢ quote ∷ x) }
@@ -104,9 +105,9 @@ fn cut_at_quote<'t>(quote: char, text: &'t str, rest: &'t str) -> Option<(&'t st
 fn cooked_parts(kind: Kind, text: &str) -> Option<(&str, &str, bool)>
     requires { IsTrue (is_string kind) }
     ensures some { IfSome result (λ p. (v : List ℕ)
-        × PartsAre Form.Cooked kind (form_opener Form.Cooked kind ++ chars text.now) v (chars p.0.now) (chars p.1.now)) }
-    ensures plain { IfSome result (λ p. p.2 ≡ is_plain_body Form.Cooked kind (chars p.0.now)) }
-    ensures none { IfNone result (HasNoParts Form.Cooked kind (form_opener Form.Cooked kind ++ chars text.now)) }
+        × PartsAre QuotedForm.Cooked kind (form_opener QuotedForm.Cooked kind ++ chars text.now) v (chars p.0.now) (chars p.1.now)) }
+    ensures plain { IfSome result (λ p. p.2 ≡ is_plain_body QuotedForm.Cooked kind (chars p.0.now)) }
+    ensures none { IfNone result (HasNoParts QuotedForm.Cooked kind (form_opener QuotedForm.Cooked kind ++ chars text.now)) }
 {
     let (_, behind) = split_plain(kind, text);
     if let Some((body, suffix)) = cut_at_quote('"', text, behind) {
@@ -120,9 +121,9 @@ fn cooked_parts(kind: Kind, text: &str) -> Option<(&str, &str, bool)>
 fn raw_parts(kind: Kind, text: &str) -> Option<(&str, &str, bool)>
     requires { IsTrue (is_string kind) }
     ensures some { IfSome result (λ p. (v : List ℕ)
-        × PartsAre Form.Raw kind (form_opener Form.Raw kind ++ chars text.now) v (chars p.0.now) (chars p.1.now)) }
-    ensures plain { IfSome result (λ p. p.2 ≡ is_plain_body Form.Raw kind (chars p.0.now)) }
-    ensures none { IfNone result (HasNoParts Form.Raw kind (form_opener Form.Raw kind ++ chars text.now)) }
+        × PartsAre QuotedForm.Raw kind (form_opener QuotedForm.Raw kind ++ chars text.now) v (chars p.0.now) (chars p.1.now)) }
+    ensures plain { IfSome result (λ p. p.2 ≡ is_plain_body QuotedForm.Raw kind (chars p.0.now)) }
+    ensures none { IfNone result (HasNoParts QuotedForm.Raw kind (form_opener QuotedForm.Raw kind ++ chars text.now)) }
 {
     let (hashes, inside) = cut_at_quote('"', text, skip_hashes(text))?;
     let (body, after) = split_last_quote(inside)?;
@@ -149,9 +150,9 @@ fn holds_all(kind: Kind, text: &str) -> bool
 fn single_parts(kind: Kind, text: &str) -> Option<(&str, &str, bool)>
     requires { IsTrue (is_single kind) }
     ensures some { IfSome result (λ p. (v : List ℕ)
-        × PartsAre Form.Single kind (form_opener Form.Single kind ++ chars text.now) v (chars p.0.now) (chars p.1.now)) }
-    ensures plain { IfSome result (λ p. p.2 ≡ is_plain_body Form.Single kind (chars p.0.now)) }
-    ensures none { IfNone result (HasNoParts Form.Single kind (form_opener Form.Single kind ++ chars text.now)) }
+        × PartsAre QuotedForm.Single kind (form_opener QuotedForm.Single kind ++ chars text.now) v (chars p.0.now) (chars p.1.now)) }
+    ensures plain { IfSome result (λ p. p.2 ≡ is_plain_body QuotedForm.Single kind (chars p.0.now)) }
+    ensures none { IfNone result (HasNoParts QuotedForm.Single kind (form_opener QuotedForm.Single kind ++ chars text.now)) }
 {
     let (_, rest) = unit(kind, text)?;
     let (body, suffix) = cut_at_quote('\'', text, rest)?;
@@ -159,7 +160,7 @@ fn single_parts(kind: Kind, text: &str) -> Option<(&str, &str, bool)>
 }
 
 /// The body and the suffix of a literal of the form, from the text behind its opener.
-fn parts_inside(form: Form, kind: Kind, text: &str) -> Option<(&str, &str, bool)>
+fn parts_inside(form: QuotedForm, kind: Kind, text: &str) -> Option<(&str, &str, bool)>
     requires { IsTrue (has_form form kind) }
     ensures some { IfSome result (λ p. (v : List ℕ)
         × PartsAre form kind (form_opener form kind ++ chars text.now) v (chars p.0.now) (chars p.1.now)) }
@@ -167,14 +168,14 @@ fn parts_inside(form: Form, kind: Kind, text: &str) -> Option<(&str, &str, bool)
     ensures none { IfNone result (HasNoParts form kind (form_opener form kind ++ chars text.now)) }
 {
     match form {
-        Form::Cooked => cooked_parts(kind, text),
-        Form::Raw => raw_parts(kind, text),
-        Form::Single => single_parts(kind, text),
+        QuotedForm::Cooked => cooked_parts(kind, text),
+        QuotedForm::Raw => raw_parts(kind, text),
+        QuotedForm::Single => single_parts(kind, text),
     }
 }
 
 /// The form and the parts of a quoted literal, and whether its body stands for itself: `None` where the text is none.
-pub(crate) fn quoted_parts(text: &str) -> Option<(Form, Parts<'_>, bool)>
+pub(crate) fn quoted_parts(text: &str) -> Option<(QuotedForm, Parts<'_>, bool)>
     ensures some { IfSome result (λ p. (v : List ℕ)
         × PartsAre p.0 p.1.kind (chars text.now) v (chars p.1.body.now) (chars p.1.suffix.now)) }
     ensures plain { IfSome result (λ p. p.2 ≡ is_plain_body p.0 p.1.kind (chars p.1.body.now)) }
@@ -188,8 +189,8 @@ pub(crate) fn quoted_parts(text: &str) -> Option<(Form, Parts<'_>, bool)>
 /// The parts of a quoted literal: `None` where the text is none.
 pub(crate) fn quoted_shape(text: &str) -> Option<Parts<'_>>
     ensures reads { IfSome result (λ p. (v : Contents) × ReadsQuoted (chars text.now) p.kind v (chars p.suffix.now)) }
-    ensures cut { IfSome result (λ p. IsQuotedCut p.kind text.now p.body.now p.suffix.now) }
-    ensures behind { IfSome result (λ p. IsBehind text.now p.suffix.now) }
+    ensures cut { IfSome result (λ p. IsQuotedSplit p.kind text.now p.body.now p.suffix.now) }
+    ensures behind { IfSome result (λ p. IsTail text.now p.suffix.now) }
     ensures none { IfNone result (HasNoQuoted (chars text.now)) }
 {
     let quoted = quoted_parts(text)?;

@@ -3,11 +3,12 @@
 ghost use Rattle.std.specs.Prelude.{◌≡◌, ◌≢◌, Bool, IfNone, IfSome};
 ghost use Rattle.std.specs.Str.{chars};
 ghost use Rattle.rl_tokens.specs.declared.kind.Kind.TheVariants.{Bool as BoolKind};
-ghost use Rattle.rl_tokens.specs.Texts.{IsBehind, passes};
+ghost use Rattle.rl_tokens.specs.Texts.{IsTail, first_passes};
 ghost use Rattle.rl_tokens.specs.Reading.{Contents, Reads, ReadsBool, truth_text};
-ghost use Rattle.rl_grammar.specs.NumberShapes.{HasNoReading};
+ghost use Rattle.rl_tokens.specs.Reading.{HasNoReading};
 ghost use Rattle.rl_grammar.specs.StrictBytes.{KeepsBytesStrict};
-ghost use Rattle.rl_grammar.specs.WholeShapes.{HasNoTruth, IsCut, is_number_front};
+ghost use Rattle.rl_tokens.specs.Reading.{HasNoTruth};
+ghost use Rattle.rl_grammar.specs.WholeShapes.{IsSplit, is_number_front};
 
 use crate::numbers::number_shape;
 use crate::parts::Parts;
@@ -32,8 +33,8 @@ fn truth_shape(text: &str) -> Option<Parts<'_>>
     ensures none { IfNone result (HasNoTruth (chars text.now)) }
     ensures reads { IfSome result (λ p. (v : Contents) × ReadsBool (chars text.now) v (chars p.suffix.now)) }
     ensures kind { IfSome result (λ p. p.kind ≡ BoolKind) }
-    ensures cut { IfSome result (λ p. IsCut BoolKind text.now p.body.now p.suffix.now) }
-    ensures behind { IfSome result (λ p. IsBehind text.now p.suffix.now) }
+    ensures cut { IfSome result (λ p. IsSplit BoolKind text.now p.body.now p.suffix.now) }
+    ensures behind { IfSome result (λ p. IsTail text.now p.suffix.now) }
 {
     truth_of(text)?;
     Some(Parts {
@@ -45,7 +46,7 @@ fn truth_shape(text: &str) -> Option<Parts<'_>>
 
 /// Whether the first byte is a minus or a decimal digit.
 fn is_number_front(bytes: &[u8]) -> bool
-    ensures { result ≡ passes is_number_front bytes.now }
+    ensures { result ≡ first_passes is_number_front bytes.now }
 {
     !bytes.is_empty() && (bytes[0] == b'-' || bytes[0].is_ascii_digit())
 }
@@ -53,7 +54,7 @@ fn is_number_front(bytes: &[u8]) -> bool
 /// Whether the text begins as numbers do, and no other literals.
 #[inline(always)]
 pub(crate) fn begins_number(text: &str) -> bool
-    ensures { result ≡ passes is_number_front (chars text.now) }
+    ensures { result ≡ first_passes is_number_front (chars text.now) }
 {
     is_number_front(text.as_bytes())
 }
@@ -70,8 +71,8 @@ pub fn shape(text: &str) -> Option<Parts<'_>>
     ensures none { IfNone result (HasNoReading (chars text.now)) }
     ensures reads { IfSome result
         (λ p. (v : Contents) × Reads (chars text.now) p.kind v (chars p.suffix.now)) }
-    ensures cut { IfSome result (λ p. IsCut p.kind text.now p.body.now p.suffix.now) }
-    ensures behind { IfSome result (λ p. IsBehind text.now p.suffix.now) }
+    ensures cut { IfSome result (λ p. IsSplit p.kind text.now p.body.now p.suffix.now) }
+    ensures behind { IfSome result (λ p. IsTail text.now p.suffix.now) }
     ensures strict_bytes { KeepsBytesStrict (chars text.now) }
 {
     if begins_number(text) {

@@ -3,9 +3,9 @@
 ghost use Rattle.std.specs.Prelude.{◌≡◌, ◌++◌, ◌<◌, ◌≤◌, None, Option, Some, false, if◌then◌else◌};
 ghost use Rattle.std.specs.Char.{digit_value, is_ascii_digit};
 ghost use Rattle.std.specs.Str.{chars};
-ghost use Rattle.rl_tokens.specs.Texts.{IsBehind, passes};
+ghost use Rattle.rl_tokens.specs.Texts.{IsTail, first_passes};
 ghost use Rattle.rl_tokens.specs.Numbers.{Minus, NoSign};
-ghost use Rattle.rl_grammar.specs.NumberAt.{after_digits, after_minus, append_digit, capped, has_digit_at, is_exponent_suffix, is_suffix, magnitude_at, row_from, sign_at};
+ghost use Rattle.rl_grammar.specs.Mirrors.NumberAt.{after_digits, after_minus, append_digit, capped, has_digit_at, is_exponent_suffix, is_suffix, magnitude_at, row_from, sign_at};
 
 use crate::parts::Parts;
 use crate::tally::Tally;
@@ -15,7 +15,7 @@ use rl_tokens::text::split_char;
 
 /// A row of digits and underscores, read.
 #[derive(Clone, Copy)]
-pub(crate) struct Row<'t> {
+pub(crate) struct DigitRow<'t> {
     pub has_digit: bool,
     /// What the digits spell, if 128 bits hold it.
     pub magnitude: Option<u128>,
@@ -49,14 +49,14 @@ fn digit_value(byte: u8) -> u32
 /// It is written into its callers, so that a base that is known there costs no multiplication in full.
 #[inline(always)]
 #[tactic(auto, using(rl_tokens::proofs::Rests::behind_drop))]
-fn read_row_in(text: &str, radix: u32) -> Row<'_>
+fn read_row_in(text: &str, radix: u32) -> DigitRow<'_>
     requires { (2 ≤ radix) × (radix ≤ 36) }
     ensures value { (result.has_digit, result.magnitude, chars result.rest.now)
         ≡ row_from radix false (Some 0) (chars text.now) }
     ensures has_digit { result.has_digit ≡ has_digit_at radix (chars text.now) }
     ensures magnitude { result.magnitude ≡ capped (magnitude_at radix (chars text.now)) }
     ensures rest { chars result.rest.now ≡ after_digits radix (chars text.now) }
-    ensures behind { IsBehind text.now result.rest.now }
+    ensures behind { IsTail text.now result.rest.now }
 {
     let bytes = text.as_bytes();
     let mut has_digit = false;
@@ -73,7 +73,7 @@ fn read_row_in(text: &str, radix: u32) -> Row<'_>
         }
         at += 1;
     }
-    Row {
+    DigitRow {
         has_digit,
         magnitude: tally.magnitude(),
         rest: &text[at..],
@@ -81,12 +81,12 @@ fn read_row_in(text: &str, radix: u32) -> Row<'_>
 }
 
 /// The digits and underscores at the front of the text. Base ten has a loop of its own.
-pub(crate) fn read_row(text: &str, radix: u32) -> Row<'_>
+pub(crate) fn read_row(text: &str, radix: u32) -> DigitRow<'_>
     requires { (2 ≤ radix) × (radix ≤ 36) }
     ensures has_digit { result.has_digit ≡ has_digit_at radix (chars text.now) }
     ensures magnitude { result.magnitude ≡ capped (magnitude_at radix (chars text.now)) }
     ensures rest { chars result.rest.now ≡ after_digits radix (chars text.now) }
-    ensures behind { IsBehind text.now result.rest.now }
+    ensures behind { IsTail text.now result.rest.now }
 {
     if radix == 10 {
         read_row_in(text, 10)
@@ -99,7 +99,7 @@ pub(crate) fn read_row(text: &str, radix: u32) -> Row<'_>
 pub(crate) fn skip_row(text: &str) -> Skipped<'_>
     ensures has_digit { result.has_digit ≡ has_digit_at 10 (chars text.now) }
     ensures rest { chars result.rest.now ≡ after_digits 10 (chars text.now) }
-    ensures behind { IsBehind text.now result.rest.now }
+    ensures behind { IsTail text.now result.rest.now }
 {
     let bytes = text.as_bytes();
     let mut has_digit = false;
@@ -130,7 +130,7 @@ pub(crate) fn is_suffix(text: &str) -> bool
 }
 
 /// Whether the suffix makes a decimal integer an exponent.
-#[tactic(auto, unfolding(crate::specs::NumberAt::is_exponent_suffix))]
+#[tactic(auto, unfolding(crate::specs::Mirrors::NumberAt::is_exponent_suffix))]
 pub(crate) fn is_exponent_suffix(text: &str) -> bool
     ensures { result ≡ is_exponent_suffix (chars text.now) }
 {
@@ -153,7 +153,7 @@ pub(crate) fn is_negative(text: &str) -> bool
 /// What follows a minus, or the text.
 pub(crate) fn after_minus(text: &str) -> &str
     ensures value { chars result.now ≡ after_minus (chars text.now) }
-    ensures behind { IsBehind text.now result.now }
+    ensures behind { IsTail text.now result.now }
 {
     match split_char(text) {
         Some(('-', rest)) => rest,
@@ -163,7 +163,7 @@ pub(crate) fn after_minus(text: &str) -> &str
 
 /// Whether the text begins with a decimal digit.
 pub(crate) fn begins_digit(text: &str) -> bool
-    ensures { result ≡ passes is_ascii_digit (chars text.now) }
+    ensures { result ≡ first_passes is_ascii_digit (chars text.now) }
 {
     match split_char(text) {
         Some((first, _)) => first.is_ascii_digit(),
@@ -173,7 +173,7 @@ pub(crate) fn begins_digit(text: &str) -> bool
 
 /// The parts of a number that ends with this suffix.
 pub(crate) fn cut_suffix<'t>(kind: Kind, text: &'t str, suffix: &'t str) -> Parts<'t>
-    requires { IsBehind text.now suffix.now }
+    requires { IsTail text.now suffix.now }
     ensures kind { result.kind ≡ kind }
     ensures suffix { result.suffix.now ≡ suffix.now }
     ensures cut { text.now ≡ result.body.now ++ suffix.now }

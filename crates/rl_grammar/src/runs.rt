@@ -3,9 +3,9 @@
 ghost use Rattle.std.specs.Prelude.{◌≡◌, ◌≢◌, ◌≤◌, ◌++◌, ℕ, length, IsTrue, IsFalse};
 ghost use Rattle.std.specs.List.{list_all, prefix_len};
 ghost use Rattle.std.specs.Str.{chars};
-ghost use Rattle.rl_tokens.specs.Texts.{passes};
+ghost use Rattle.rl_tokens.specs.Texts.{first_passes};
 ghost use Rattle.rl_tokens.specs.Quoted.{is_string, is_plain};
-ghost use Rattle.rl_grammar.specs.Classes.{is_in_run};
+ghost use Rattle.rl_grammar.specs.Mirrors.Classes.{is_in_run};
 
 use crate::ascii::ascii_len;
 use rl_tokens::Kind;
@@ -68,7 +68,7 @@ pub(crate) fn split_plain(kind: Kind, text: &str) -> (&str, &str)
     requires { IsTrue (is_string kind) }
     ensures cut { chars text.now ≡ chars result.0.now ++ chars result.1.now }
     ensures plain { IsTrue (list_all (is_plain kind) (chars result.0.now)) }
-    ensures stops { IsFalse (passes (is_plain kind) (chars result.1.now)) }
+    ensures stops { IsFalse (first_passes (is_plain kind) (chars result.1.now)) }
     ensures shorter { length result.1.now ≤ length text.now }
 {
     text.split_at(plain_len(kind, text.as_bytes()))

@@ -10,7 +10,7 @@ pub(crate) mod quoted;
 pub(crate) mod units;
 pub(crate) mod words;
 
-use crate::quoted::{Form, front};
+use crate::quoted::{QuotedForm, front};
 use crate::reading::truth_of;
 use crate::strict::numbers::is_number;
 use crate::strict::quoted::{closes_one, closes_raw, closes_string};
@@ -30,13 +30,13 @@ pub fn is_token(text: &str) -> bool
 }
 
 /// Whether the text behind the opener of a quoted form ends it, and a suffix may follow.
-fn closes(form: Form, kind: Kind, text: &str) -> bool
+fn closes(form: QuotedForm, kind: Kind, text: &str) -> bool
     requires { IsTrue (has_form form kind) }
     ensures { IsTrue result ↔ Closes form kind (chars text.now) }
 {
     match form {
-        Form::Cooked => closes_string(kind, text),
-        Form::Raw => closes_raw(kind, text),
-        Form::Single => closes_one(kind, text),
+        QuotedForm::Cooked => closes_string(kind, text),
+        QuotedForm::Raw => closes_raw(kind, text),
+        QuotedForm::Single => closes_one(kind, text),
     }
 }

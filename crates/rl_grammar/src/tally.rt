@@ -1,7 +1,7 @@
 //! A magnitude that grows digit by digit, in 64 bits for as long as they hold it.
 
 ghost use Rattle.std.specs.Prelude.{◌≡◌, ◌<◌, ◌≤◌, Option, Some, ℕ};
-ghost use Rattle.rl_grammar.specs.NumberAt.{append_digit};
+ghost use Rattle.rl_grammar.specs.Mirrors.NumberAt.{append_digit};
 
 use std::marker::Model;
 
@@ -18,7 +18,7 @@ pub(crate) struct Tally {
 
 impl Model for Tally {
     ghost use Rattle.std.specs.Prelude.{Option, ℕ, ◌<◌};
-    ghost use Rattle.rl_grammar.specs.NumberAt.{append_digit};
+    ghost use Rattle.rl_grammar.specs.Mirrors.NumberAt.{append_digit};
 
     ghost Value = { Option ℕ };
 

@@ -2,10 +2,10 @@
 
 ghost use Rattle.std.specs.Prelude.{◌≡◌, ◌==◌, ◌<◌, ◌≤◌, length, option_map, IfSome, IsTrue, IsFalse};
 ghost use Rattle.std.specs.Str.{chars};
-ghost use Rattle.rl_tokens.specs.Texts.{passes};
-ghost use Rattle.rl_tokens.specs.Quoted.{holds_characters, is_plain, may_hold, may_be_hex, has_unicode};
+ghost use Rattle.rl_tokens.specs.Texts.{first_passes};
+ghost use Rattle.rl_tokens.specs.Quoted.{holds_characters, is_plain, allows_code, may_be_hex, has_unicode};
 ghost use Rattle.rl_tokens.specs.Strict.{is_bare_character};
-ghost use Rattle.rl_grammar.specs.UnitAt.{piece_value, IsPieceOf, named_in, digit_at, hex_at, digits_at, unicode_at, after_blanks, escape_at, unit_at};
+ghost use Rattle.rl_grammar.specs.Mirrors.UnitAt.{piece_value, IsPieceOf, named_in, digit_at, hex_at, unicode_digits_at, unicode_at, after_blanks, escape_at, unit_at};
 
 use crate::classes::{Class, skip};
 use rl_tokens::Kind;
@@ -42,8 +42,8 @@ pub(crate) fn is_plain(kind: Kind, c: char) -> bool
 }
 
 /// Whether the kind holds the number: a C string holds no zero.
-fn may_hold(kind: Kind, code: u32) -> bool
-    ensures { result ≡ may_hold kind code }
+fn allows_code(kind: Kind, code: u32) -> bool
+    ensures { result ≡ allows_code kind code }
 {
     !matches!(kind, Kind::CStr) || code != 0
 }
@@ -52,7 +52,7 @@ fn may_hold(kind: Kind, code: u32) -> bool
 fn may_be_hex(kind: Kind, code: u32) -> bool
     ensures { result ≡ may_be_hex kind code }
 {
-    may_hold(kind, code) && (!kind.holds_characters() || code < 128)
+    allows_code(kind, code) && (!kind.holds_characters() || code < 128)
 }
 
 /// Whether the kind has escapes `\u{..}`.
@@ -76,7 +76,7 @@ fn named_value(kind: Kind, letter: u8) -> Option<u8>
         b'\\' => Some(b'\\'),
         b'\'' => Some(b'\''),
         b'"' => Some(b'"'),
-        b'0' if may_hold(kind, 0) => Some(0),
+        b'0' if allows_code(kind, 0) => Some(0),
         _ => None,
     }
 }
@@ -93,7 +93,7 @@ fn digit(text: &str) -> Option<(u32, &str)>
 }
 
 /// The number of the two digits of `\x`, and the text behind them.
-#[tactic(auto, unfolding(crate::specs::UnitAt::hex_at))]
+#[tactic(auto, unfolding(crate::specs::Mirrors::UnitAt::hex_at))]
 #[inline(always)]
 fn hex_escape(kind: Kind, text: &str) -> Option<(u8, &str)>
     ensures value { option_map (λ p. (p.0, chars p.1.now)) result ≡ hex_at kind (chars text.now) }
@@ -111,11 +111,11 @@ fn hex_escape(kind: Kind, text: &str) -> Option<(u8, &str)>
 }
 
 /// What follows the first digit of `\u{`: the character of all the digits, and the text behind the brace.
-#[tactic(auto, unfolding(crate::specs::UnitAt::digits_at), using(crate::proofs::AsciiLemmas::no_digits))]
+#[tactic(auto, unfolding(crate::specs::Mirrors::UnitAt::unicode_digits_at), using(crate::proofs::AsciiLemmas::no_digits))]
 #[inline(always)]
 fn more_digits(text: &str, first: u32) -> Option<(char, &str)>
     requires { first < 16 }
-    ensures value { option_map (λ p. (p.0, chars p.1.now)) result ≡ digits_at first 1 (chars text.now) }
+    ensures value { option_map (λ p. (p.0, chars p.1.now)) result ≡ unicode_digits_at first 1 (chars text.now) }
     ensures shorter { IfSome result (λ p. length p.1.now < length text.now) }
 {
     let mut value = first;
@@ -139,7 +139,7 @@ fn more_digits(text: &str, first: u32) -> Option<(char, &str)>
 }
 
 /// The character of `\u{..}` from its brace on, and the text behind it.
-#[tactic(auto, unfolding(crate::specs::UnitAt::unicode_at), using(crate::proofs::AsciiLemmas::no_brace))]
+#[tactic(auto, unfolding(crate::specs::Mirrors::UnitAt::unicode_at), using(crate::proofs::AsciiLemmas::no_brace))]
 #[inline(always)]
 fn unicode_escape(kind: Kind, text: &str) -> Option<(char, &str)>
     ensures value { option_map (λ p. (p.0, chars p.1.now)) result ≡ unicode_at kind (chars text.now) }
@@ -151,7 +151,7 @@ fn unicode_escape(kind: Kind, text: &str) -> Option<(char, &str)>
     }
     let (first, rest) = digit(inside)?;
     let (c, rest) = more_digits(rest, first)?;
-    if has_unicode(kind) && may_hold(kind, c as u32) {
+    if has_unicode(kind) && allows_code(kind, c as u32) {
         Some((c, rest))
     } else {
         None
@@ -167,7 +167,7 @@ fn skip_blanks(text: &str) -> &str
 }
 
 /// What the escape stands for whose backslash stands before the text, and the text behind it.
-#[tactic(auto, unfolding(crate::specs::UnitAt::escape_at), using(crate::proofs::AsciiLemmas::no_escape))]
+#[tactic(auto, unfolding(crate::specs::Mirrors::UnitAt::escape_at), using(crate::proofs::AsciiLemmas::no_escape))]
 #[inline(always)]
 fn escape(kind: Kind, text: &str) -> Option<(Piece, &str)>
     ensures value { option_map (λ p. (piece_value kind p.0, chars p.1.now)) result ≡ escape_at kind (chars text.now) }
@@ -199,10 +199,10 @@ fn escape(kind: Kind, text: &str) -> Option<(Piece, &str)>
 }
 
 /// What a character at the front stands for that is no backslash, or the two of a line end, and the text behind.
-#[tactic(auto, unfolding(crate::specs::UnitAt::unit_at))]
+#[tactic(auto, unfolding(crate::specs::Mirrors::UnitAt::unit_at))]
 #[inline(always)]
 fn character(kind: Kind, text: &str) -> Option<(Piece, &str)>
-    requires { IsFalse (passes (λ c. c == 92) (chars text.now)) }
+    requires { IsFalse (first_passes (λ c. c == 92) (chars text.now)) }
     ensures value { option_map (λ p. (piece_value kind p.0, chars p.1.now)) result ≡ unit_at kind (chars text.now) }
     ensures piece { IfSome result (λ p. IsPieceOf kind p.0) }
     ensures shorter { IfSome result (λ p. length p.1.now < length text.now) }
@@ -223,7 +223,7 @@ fn character(kind: Kind, text: &str) -> Option<(Piece, &str)>
 }
 
 /// What the unit at the front stands for, and the text behind it: `None` where no unit of the kind stands there.
-#[tactic(auto, unfolding(crate::specs::UnitAt::unit_at), using(crate::proofs::AsciiLemmas::no_backslash))]
+#[tactic(auto, unfolding(crate::specs::Mirrors::UnitAt::unit_at), using(crate::proofs::AsciiLemmas::no_backslash))]
 #[inline(always)]
 pub(crate) fn unit(kind: Kind, text: &str) -> Option<(Piece, &str)>
     ensures value { option_map (λ p. (piece_value kind p.0, chars p.1.now)) result ≡ unit_at kind (chars text.now) }

@@ -6,7 +6,7 @@ use Rattle.std.proofs.lemmas.Bool.{eqb-true, both_ways}
 use Rattle.std.proofs.lemmas.Str.{chars-append, encodes-chars}
 use Rattle.rl_tokens.specs.declared.kind.Kind.TheVariants.{Str}
 use Rattle.rl_tokens.specs.Texts.{xid_ok}
-use Rattle.rl_tokens.specs.Written.{written}
+use Rattle.rl_tokens.specs.Written.{written_text}
 use Rattle.rl_lines.specs.Lines.{line, suffix_word}
 
 -- a piece at the end
@@ -19,12 +19,12 @@ unfolding chars
 empty_suffix [] h = refl
 empty_suffix (c ∷ s) h = absurd (let e = eqb-true (length (c ∷ s)) 0 h in omega arith)
 
-some_word : (cs : List ℕ) → (cs ≡ [] → ⊥) → xid_ok cs ≡ false → suffix_word cs ≡ written Str cs
+some_word : (cs : List ℕ) → (cs ≡ [] → ⊥) → xid_ok cs ≡ false → suffix_word cs ≡ written_text Str cs
 some_word [] some h = absurd (some refl)
 some_word (c ∷ cs) some h = rw h refl
 
 -- a suffix that is no identifier
-pub quoted_suffix : (s : List ℕ) → IsUtf8 s → eqb (length s) 0 ≡ false → xid_ok (chars s) ≡ false → suffix_word (chars s) ≡ written Str (chars s)
+pub quoted_suffix : (s : List ℕ) → IsUtf8 s → eqb (length s) 0 ≡ false → xid_ok (chars s) ≡ false → suffix_word (chars s) ≡ written_text Str (chars s)
 quoted_suffix s u n h = some_word (chars s) (λ e. absurd (nothing e)) h
   where
     nothing : chars s ≡ [] → ⊥

@@ -5,12 +5,12 @@ use Rattle.std.specs.Str.{chars}
 use Rattle.rl_tokens.specs.declared.kind.Kind.TheVariants.{Str, ByteStr, CStr, Byte, Char, Int, Float, Bool}
 use Rattle.rl_tokens.specs.Numbers.{float_digits}
 use Rattle.rl_tokens.specs.Reading.{Digits, Truth}
-use Rattle.rl_tokens.specs.Tokens.{Token}
+use Rattle.rl_tokens.specs.Texts.{SpannedText}
 use Rattle.rl_tokens.specs.Trees.{Tree}
 use Rattle.rust_literals.specs.declared.lit.Lit.{Lit}
 use Rattle.rust_literals.specs.declared.lit.Lit.TheVariants.{Str as StrLit, ByteStr as ByteStrLit, CStr as CStrLit, Byte as ByteLit, Char as CharLit, Int as IntLit, Float as FloatLit, Bool as BoolLit, Verbatim}
-use Rattle.rust_literals.specs.Parsing.{Leads, AreRead}
-use Rattle.rl_lines.specs.Lines.{literal_line, verbatim_line, AreLinesOf, UseUp, AreLinesOfText, PrintsLit, PrintsList}
+use Rattle.rust_literals.specs.Parsing.{ReadsLiterals, AreRead}
+use Rattle.rl_lines.specs.Lines.{literal_line, verbatim_line, AreLinesOf, ReadsTokens, AreLinesOfText, PrintsLit, PrintsList}
 use Rattle.rl_lines.proofs.TextLemmas.{line_of_text}
 
 -- A literal's line, apart from what stands before it.
@@ -37,13 +37,13 @@ prints_more (x ∷ ls) l a b c (m, p, h) k = (m, p, prints_more ls l m b c h k)
 
 -- The lines of literals, and the tokens that they were read from.
 record LinesApart (trees : List Tree) (old new : List ℕ) : Type 0 where
-  pub tokens : List Token
-  pub used : UseUp trees tokens
+  pub tokens : List SpannedText
+  pub used : ReadsTokens trees tokens
   pub shown : List ℕ
   pub lines : AreLinesOf tokens shown
   pub new_is : new ≡ old ++ shown
 
-lines_apart : {A : Type 0} (trees : List Tree) (list : List (Lit A)) (old new : List ℕ) → Leads trees list [] → PrintsList list old new → LinesApart trees old new
+lines_apart : {A : Type 0} (trees : List Tree) (list : List (Lit A)) (old new : List ℕ) → ReadsLiterals trees list [] → PrintsList list old new → LinesApart trees old new
 lines_apart trees [] old new h e = record { tokens = []; used = h; shown = []; lines = refl; new_is = e ∙ sym (append-nil old) }
 lines_apart trees (l ∷ ls) old new (after, front, h) (between, p, k) =
     let first = line_apart l old between p in

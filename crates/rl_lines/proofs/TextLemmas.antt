@@ -1,7 +1,7 @@
 -- A whole text's line.
 use Rattle.std.proofs.Common.{◌≡◌, ℕ, List, [], ◌++◌, sym, ap, subst, ◌∙◌, inl, inr}
 use Rattle.std.specs.Str.{chars}
-use Rattle.rl_tokens.specs.Tokens.{Token}
+use Rattle.rl_tokens.specs.Texts.{SpannedText}
 use Rattle.rl_tokens.specs.declared.kind.Kind.{Kind}
 use Rattle.rl_tokens.specs.declared.kind.Kind.TheVariants.{Str, ByteStr, CStr, Byte, Char, Int, Float, Bool}
 use Rattle.rl_tokens.specs.Numbers.{float_digits}
@@ -14,14 +14,14 @@ use Rattle.rust_literals.proofs.LitLemmas.{truth_reads}
 use Rattle.rl_lines.specs.Lines.{literal_line, verbatim_line, IsLineOf, PrintsKind, PrintsFloat, PrintsLit}
 
 -- the token's characters, where the literal keeps the token
-same_text : (l token : Token) (t : List ℕ) → l ≡ token → token.text ≡ t → chars l.text ≡ chars t
+same_text : (l token : SpannedText) (t : List ℕ) → l ≡ token → token.text ≡ t → chars l.text ≡ chars t
 same_text l token t e k = ap chars (ap (λ z. z.text) e ∙ k)
 
-kind_line : (kind : Kind) (l token : Token) (t old new : List ℕ) → l ≡ token → token.text ≡ t → PrintsKind kind (chars l.text) old new → old ≡ [] → IsLineOf (chars t) new
+kind_line : (kind : Kind) (l token : SpannedText) (t old new : List ℕ) → l ≡ token → token.text ≡ t → PrintsKind kind (chars l.text) old new → old ≡ [] → IsLineOf (chars t) new
 kind_line kind l token t old new e k p o =
     inl (kind, p.0, p.1, subst (λ z. Reads z kind p.0 p.1) (same_text l token t e k) p.2, p.3 ∙ ap (λ z. z ++ literal_line kind p.0 p.1) o)
 
-float_line : (l token : Token) (t old new : List ℕ) → l ≡ token → token.text ≡ t → ReadsAs Float (chars token.text) → PrintsFloat (chars l.text) old new → old ≡ [] → IsLineOf (chars t) new
+float_line : (l token : SpannedText) (t old new : List ℕ) → l ≡ token → token.text ≡ t → ReadsAs Float (chars token.text) → PrintsFloat (chars l.text) old new → old ≡ [] → IsLineOf (chars t) new
 float_line l token t old new e k r p o =
     let same : chars l.text ≡ chars token.text = ap (λ z. chars z.text) e in
     let one = float_once (chars l.text) p.0 r.2.numeral p.1 r.1 p.2 (rw same r.2.reads) in
@@ -29,7 +29,7 @@ float_line l token t old new e k r p o =
     inl (Float, r.0, r.1, subst (λ z. Reads z Float r.0 r.1) (ap chars k) r.2, p.3 ∙ ap (λ z. z ++ literal_line Float (Digits (float_digits p.0)) p.1) o ∙ ap (λ z. literal_line Float z p.1) digits ∙ ap (λ z. literal_line Float r.0 z) one.1)
 
 -- a literal that was read from a token prints the line of the token's text
-pub line_of_text : {A : Type 0} (token : Token) (literal : Lit A) (t old new : List ℕ) → IsReadFrom token literal → token.text ≡ t → PrintsLit literal old new → old ≡ [] → IsLineOf (chars t) new
+pub line_of_text : {A : Type 0} (token : SpannedText) (literal : Lit A) (t old new : List ℕ) → IsReadFrom token literal → token.text ≡ t → PrintsLit literal old new → old ≡ [] → IsLineOf (chars t) new
 line_of_text token (StrLit l) t old new r k p o = kind_line Str l token t old new r.0 k p o
 line_of_text token (ByteStrLit l) t old new r k p o = kind_line ByteStr l token t old new r.0 k p o
 line_of_text token (CStrLit l) t old new r k p o = kind_line CStr l token t old new r.0 k p o

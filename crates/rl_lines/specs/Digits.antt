@@ -14,6 +14,6 @@ bytes_of (high ∷ []) = None
 bytes_of (high ∷ low ∷ rest) = if is_hex_digit high && is_hex_digit low then with_front (hex_value high low ∷ []) (bytes_of rest) else None
 
 -- the bytes of an answer that may have none
-abbrev pub held : {A : Type 0} → Option (Vec ℕ A) → Option (List ℕ)
-held (Some v) = Some v.items
-held None = None
+abbrev pub bytes_if_any : {A : Type 0} → Option (Vec ℕ A) → Option (List ℕ)
+bytes_if_any (Some v) = Some v.items
+bytes_if_any None = None

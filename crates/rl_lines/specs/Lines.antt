@@ -4,39 +4,39 @@ use Rattle.rl_tokens.specs.declared.kind.Kind.{Kind}
 use Rattle.rl_tokens.specs.declared.kind.Kind.TheVariants.{Str, ByteStr, CStr, Byte, Char, Int, Float, Bool}
 use Rattle.std.specs.Str.{chars}
 use Rattle.rl_tokens.specs.Texts.{xid_ok}
-use Rattle.rl_tokens.specs.Tokens.{Token}
+use Rattle.rl_tokens.specs.Texts.{SpannedText}
 use Rattle.rl_tokens.specs.Trees.{Tree}
 use Rattle.rl_tokens.specs.Lexing.{Lexes}
-use Rattle.rl_tokens.specs.Fronts.{IsFront}
+use Rattle.rl_grammar.specs.Fronts.{IsFront}
 use Rattle.rl_tokens.specs.Numbers.{FloatReads, float_digits}
 use Rattle.rl_tokens.specs.Reading.{Contents, Characters, Bytes, Digits, Truth, truth_text, Reads}
-use Rattle.rl_tokens.specs.Written.{written}
-use Rattle.rl_grammar.specs.NumberShapes.{HasNoReading}
+use Rattle.rl_tokens.specs.Written.{written_text}
+use Rattle.rl_tokens.specs.Reading.{HasNoReading}
 use Rattle.rust_literals.specs.declared.lit.Lit.{Lit}
 use Rattle.rust_literals.specs.declared.lit.Lit.TheVariants.{Str as StrLit, ByteStr as ByteStrLit, CStr as CStrLit, Byte as ByteLit, Char as CharLit, Int as IntLit, Float as FloatLit, Bool as BoolLit, Verbatim}
 
 -- a kind's word
-abbrev pub kind_word : Kind → List ℕ
-kind_word Str = codes "Str"
-kind_word ByteStr = codes "ByteStr"
-kind_word CStr = codes "CStr"
-kind_word Byte = codes "Byte"
-kind_word Char = codes "Char"
-kind_word Int = codes "Int"
-kind_word Float = codes "Float"
-kind_word Bool = codes "Bool"
+abbrev pub kind_label : Kind → List ℕ
+kind_label Str = codes "Str"
+kind_label ByteStr = codes "ByteStr"
+kind_label CStr = codes "CStr"
+kind_label Byte = codes "Byte"
+kind_label Char = codes "Char"
+kind_label Int = codes "Int"
+kind_label Float = codes "Float"
+kind_label Bool = codes "Bool"
 
 -- what a literal stands for: as a literal, a number by its digits, a truth value by its word
 abbrev pub payload : Kind → Contents → List ℕ
-payload kind (Characters cs) = written kind cs
-payload kind (Bytes bs) = written kind bs
+payload kind (Characters cs) = written_text kind cs
+payload kind (Bytes bs) = written_text kind bs
 payload kind (Digits ds) = ds
 payload kind (Truth b) = truth_text b
 
 -- a suffix: `-` for none, itself where it is an identifier, else as a string literal
 abbrev pub suffix_word : List ℕ → List ℕ
 suffix_word [] = codes "-"
-suffix_word (c ∷ cs) = if xid_ok (c ∷ cs) then (c ∷ cs) else written Str (c ∷ cs)
+suffix_word (c ∷ cs) = if xid_ok (c ∷ cs) then (c ∷ cs) else written_text Str (c ∷ cs)
 
 -- a word, a payload and a suffix, with a space between, and LF
 abbrev pub line : List ℕ → List ℕ → List ℕ → List ℕ
@@ -44,11 +44,11 @@ line word shown suffix = word ++ (32 ∷ (shown ++ (32 ∷ (suffix_word suffix +
 
 -- the line of a literal of this kind, contents and suffix
 abbrev pub literal_line : Kind → Contents → List ℕ → List ℕ
-literal_line kind contents suffix = line (kind_word kind) (payload kind contents) suffix
+literal_line kind contents suffix = line (kind_label kind) (payload kind contents) suffix
 
 -- the line of a text that is no literal: the text as a string literal
 abbrev pub verbatim_line : List ℕ → List ℕ
-verbatim_line text = line (codes "Verbatim") (written Str text) []
+verbatim_line text = line (codes "Verbatim") (written_text Str text) []
 
 -- The line is that of the text's one reading, or the text has none.
 abbrev pub IsLineOf : List ℕ → List ℕ → Type 0
@@ -57,21 +57,21 @@ IsLineOf text shown =
     ⊎ (HasNoReading text × (shown ≡ verbatim_line text))
 
 -- The lines of tokens, one after another: each is that of the token's text.
-abbrev pub AreLinesOf : List Token → List ℕ → Type 0
+abbrev pub AreLinesOf : List SpannedText → List ℕ → Type 0
 AreLinesOf [] shown = shown ≡ []
 AreLinesOf (t ∷ ts) shown = (first rest : List ℕ) × IsLineOf (chars t.text) first × AreLinesOf ts rest × (shown ≡ first ++ rest)
 
 -- Literals begin the trees one after another, as these tokens, up to the trees' end.
-abbrev pub UseUp : List Tree → List Token → Type 0
-UseUp trees [] = trees ≡ []
-UseUp trees (t ∷ ts) = (rest : List Tree) × IsFront trees t rest × UseUp rest ts
+abbrev pub ReadsTokens : List Tree → List SpannedText → Type 0
+ReadsTokens trees [] = trees ≡ []
+ReadsTokens trees (t ∷ ts) = (rest : List Tree) × IsFront trees t rest × ReadsTokens rest ts
 
 -- The text is cut into the trees of literals, and these are their lines.
 pub record AreLinesOfText (text shown : List ℕ) : Type 0 where
   pub trees : List Tree
-  pub tokens : List Token
+  pub tokens : List SpannedText
   pub lexes : Lexes text 0 trees
-  pub used : UseUp trees tokens
+  pub used : ReadsTokens trees tokens
   pub lines : AreLinesOf tokens shown
 
 -- ---- a literal that is printed behind what was printed before

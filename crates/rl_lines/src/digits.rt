@@ -3,7 +3,7 @@
 ghost use Rattle.std.specs.Prelude.{◌≡◌, ◌&&◌, ◌∷◌, ◌<◌, length, IfOk, IfSome, IfNone, IsTrue, IsFalse};
 ghost use Rattle.std.specs.Char.{digit_value};
 ghost use Rattle.rl_tokens.specs.Quoted.{is_hex_digit, hex_value};
-ghost use Rattle.rl_lines.specs.Digits.{bytes_of, held};
+ghost use Rattle.rl_lines.specs.Digits.{bytes_of, bytes_if_any};
 
 use std::alloc::{AllocError, Allocator};
 
@@ -38,7 +38,7 @@ fn split_pair(bytes: &[u8]) -> Option<(u8, u8, &[u8])>
 
 /// The bytes that the digits stand for; none where something else stands.
 pub fn decoded<A: Allocator>(alloc: A, digits: &[u8]) -> Result<Option<Vec<u8, A>>, AllocError>
-    ensures { IfOk result (λ bytes. held bytes ≡ bytes_of digits.now) }
+    ensures { IfOk result (λ bytes. bytes_if_any bytes ≡ bytes_of digits.now) }
 {
     let mut bytes = Vec::new(alloc);
     let mut rest = digits;

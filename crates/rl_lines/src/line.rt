@@ -3,7 +3,7 @@
 ghost use Rattle.std.specs.Prelude.{◌≡◌, ◌++◌, OnOk, string_bytes};
 ghost use Rattle.std.specs.Str.{chars};
 ghost use Rattle.rl_tokens.specs.declared.kind.Kind.TheVariants.{Str};
-ghost use Rattle.rl_tokens.specs.Written.{written};
+ghost use Rattle.rl_tokens.specs.Written.{written_text};
 ghost use Rattle.rl_lines.specs.Lines.{line, suffix_word};
 
 use rl_tokens::Literal;
@@ -26,7 +26,7 @@ fn push_quoted<A: Allocator + Copy>(
     text: &str,
 ) -> Result<(), AllocError>
     ensures { OnOk result
-        (chars (string_bytes out.new) ≡ chars (string_bytes out.old) ++ written Str (chars text.now)) }
+        (chars (string_bytes out.new) ≡ chars (string_bytes out.old) ++ written_text Str (chars text.now)) }
 {
     match Literal::string(alloc, text) {
         Ok(literal) => push(out, literal.text()),

@@ -4,7 +4,7 @@ ghost use Rattle.std.specs.Prelude.{◌≡◌, ◌++◌, [], OnOk, IfOk, string_
 ghost use Rattle.std.specs.Str.{chars};
 ghost use Rattle.rl_tokens.specs.declared.kind.Kind.TheVariants.{Str, ByteStr, CStr, Byte, Char, Int, Bool};
 ghost use Rattle.rl_tokens.specs.Reading.{Bytes, Characters, Truth, truth_text};
-ghost use Rattle.rl_lines.specs.Lines.{line, kind_word, literal_line, verbatim_line, PrintsKind, PrintsFloat, PrintsLit, PrintsList};
+ghost use Rattle.rl_lines.specs.Lines.{line, kind_label, literal_line, verbatim_line, PrintsKind, PrintsFloat, PrintsLit, PrintsList};
 
 use crate::line::push_line;
 use rl_tokens::{Kind, Literal};
@@ -15,7 +15,7 @@ use std::alloc::{AllocError, Allocator};
 
 /// A kind's word.
 fn word(kind: Kind) -> &'static str
-    ensures { result.now ≡ kind_word kind }
+    ensures { result.now ≡ kind_label kind }
 {
     match kind {
         Kind::Str => "Str",
@@ -38,7 +38,7 @@ fn push_kind<A: Allocator + Copy>(
     suffix: &str,
 ) -> Result<(), AllocError>
     ensures { OnOk result (chars (string_bytes out.new)
-        ≡ chars (string_bytes out.old) ++ line (kind_word kind) (chars shown.now) (chars suffix.now)) }
+        ≡ chars (string_bytes out.old) ++ line (kind_label kind) (chars shown.now) (chars suffix.now)) }
 {
     push_line(alloc, out, word(kind), shown, suffix)
 }

@@ -10,7 +10,7 @@ use Rattle.rl_tokens.specs.declared.kind.Kind.{Kind}
 use Rattle.rl_tokens.specs.declared.kind.Kind.TheVariants.{Str, ByteStr, CStr, Byte, Char, Int, Float, Bool as BoolKind}
 use Rattle.rl_tokens.specs.Quoted.{Cooked, Single, is_string, is_single, opener, texts, unit_text}
 use Rattle.rl_tokens.specs.Reading.{Contents, Reads, ReadsQuoted, quoted_contents}
-use Rattle.rl_tokens.specs.Agreeing.{IsWrittenForm}
+use Rattle.rl_tokens.specs.Written.{IsWrittenForm}
 use Rattle.rl_tokens.proofs.CutTrees.{scalars_parts}
 use Rattle.rl_grammar.specs.declared.bodies.Body.{Body}
 use Rattle.rl_grammar.specs.Decoded.{in_bytes}

@@ -8,7 +8,7 @@ ghost use Rattle.rl_tokens.specs.Reading.{HasSuffix};
 ghost use Rattle.rl_tokens.specs.Trees.{stream_view};
 ghost use Rattle.rl_quoted.specs.Inside.{
   AreInside,
-  IsUncut,
+  RefusesLexingInside,
   IsSuffixed,
   IsParsedInside,
   RunsInside,
@@ -23,7 +23,7 @@ impl<A: Allocator> LitStr<A> {
     /// The trees of the text that the literal stands for, each at the literal's span.
     fn trees_inside<B: Allocator + Copy>(&self, alloc: B) -> Result<TokenStream<B>, Error<B>>
         ensures ok { IfOk result (λ s. AreInside self.now (stream_view s)) }
-        ensures refused { IfErr result (λ e. IsUncut self.now e ⊎ (e ≡ memory_at self.now.span)) }
+        ensures refused { IfErr result (λ e. RefusesLexingInside self.now e ⊎ (e ≡ memory_at self.now.span)) }
     {
         let span = self.span();
         let value = self.value(alloc)?;

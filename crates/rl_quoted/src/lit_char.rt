@@ -3,7 +3,7 @@ ghost use Rattle.std.specs.Str.{chars};
 ghost use Rattle.rl_tokens.specs.declared.kind.Kind.TheVariants.{Char};
 ghost use Rattle.rl_tokens.specs.Errors.{memory_at};
 ghost use Rattle.rl_tokens.specs.Reading.{Characters, HasContents};
-ghost use Rattle.rl_tokens.specs.Agreeing.{IsWrittenForm};
+ghost use Rattle.rl_tokens.specs.Written.{IsWrittenForm};
 
 use crate::quoted::{Quoted, QuotedKind};
 use rl_grammar::{Kind, char_of_body};

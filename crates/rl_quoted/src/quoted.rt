@@ -55,10 +55,10 @@ pub struct Quoted<K: QuotedKind, A: Allocator = Global> {
 
 /// The token's text reads as the kind, and its parts stand at the places that are kept.
 impl<K: QuotedKind, A: Allocator> Model for Quoted<K, A> {
-    ghost use Rattle.rl_tokens.specs.Tokens.{Token};
+    ghost use Rattle.rl_tokens.specs.Texts.{SpannedText};
     ghost use Rattle.rl_quoted.specs.Places.{StandsAt};
 
-    ghost Value = { Token };
+    ghost Value = { SpannedText };
 
     ghost view = { λ l. l.token };
 
@@ -185,7 +185,7 @@ impl<K: QuotedKind, A: Allocator> Quoted<K, A> {
 
 /// Takes the literal of the kind that stands next. It is refused as [`take_kind`] says.
 impl<K: QuotedKind, A: Allocator> Parse<A> for Quoted<K, A> {
-    ghost use Rattle.rl_tokens.specs.Fronts.{RunsAs};
+    ghost use Rattle.rl_grammar.specs.Fronts.{RunsAs};
     ghost use Rattle.rl_tokens.specs.Words.{kind_word};
 
     ghost runs = { RunsAs K.KIND (kind_word K.KIND) };
@@ -200,7 +200,7 @@ impl<K: QuotedKind, A: Allocator> Parse<A> for Quoted<K, A> {
 
 /// True exactly where the parser succeeds, if memory is found.
 impl<K: QuotedKind, A: Allocator> Token for Quoted<K, A> {
-    ghost use Rattle.rl_tokens.specs.Fronts.{HasFrontOf};
+    ghost use Rattle.rl_grammar.specs.Fronts.{HasFrontOf};
     ghost use Rattle.rl_tokens.specs.Words.{kind_shown};
 
     ghost peeks = { HasFrontOf K.KIND };

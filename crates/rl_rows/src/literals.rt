@@ -44,7 +44,7 @@ fn told_of(
 /// The literal, its copy, its trees, what is parsed of them, and its suffix; then it is moved.
 fn moved(alloc: Global, literal: &mut Lit, out: &mut String) -> Result<(), AllocError> {
     tell(alloc, literal, out)?;
-    copied(alloc, literal, out)?;
+    push_copy(alloc, literal, out)?;
     appended(alloc, literal, out)?;
     debug_word(&literal.suffix(), out)?;
     literal.set_span(THERE);
@@ -52,7 +52,7 @@ fn moved(alloc: Global, literal: &mut Lit, out: &mut String) -> Result<(), Alloc
 }
 
 /// A copy, and whether it is equal.
-fn copied(alloc: Global, literal: &Lit, out: &mut String) -> Result<(), AllocError> {
+fn push_copy(alloc: Global, literal: &Lit, out: &mut String) -> Result<(), AllocError> {
     let Ok(copy) = literal.clone(alloc) else {
         return Err(AllocError);
     };

@@ -3,7 +3,8 @@ use Rattle.std.proofs.Common.{◌≡◌, ℕ, List, ◌∷◌, true, false, Bool
 use Rattle.std.specs.Prelude.{codes, if◌then◌else◌}
 use Rattle.rl_tokens.specs.declared.kind.Kind.{Kind}
 use Rattle.rl_tokens.specs.declared.kind.Kind.TheVariants.{Str, ByteStr, CStr, Byte, Char, Int, Float, Bool as BoolKind}
-use Rattle.rl_tokens.specs.Agreeing.{IsWithinLimit, is_number}
+use Rattle.rl_tokens.specs.Agreeing.{IsWithinLimit}
+use Rattle.rl_tokens.specs.Quoted.{is_number}
 use Rattle.rl_tokens.specs.Reading.{Contents, Digits, Reads, ReadsBool, truth_text}
 use Rattle.rl_tokens.specs.Strict.{Strict, StrictBool}
 use Rattle.rl_tokens.proofs.StrictQuoted.{quoted_strict_reads}

@@ -6,7 +6,7 @@ use Rattle.std.specs.List.{list_all, list_any}
 use Rattle.std.proofs.lemmas.Bool.{eqb-true, ne_eqb, both_ways, and_parts, and_from, or_from, cases_Bool, cases_lt, le-ltb, lt-leb, not_from_false, agree_below, agree_below_at}
 use Rattle.unicode_ident.specs.Ident.{is_xid_start, is_xid_continue}
 use Rattle.unicode_ident.proofs.IdentLemmas.{is_xid_continue-ascii, is_xid_start-is_xid_continue}
-use Rattle.rl_tokens.specs.Texts.{xid_ok, passes}
+use Rattle.rl_tokens.specs.Texts.{xid_ok, first_passes}
 
 -- a test that one passes and another doesn't tells them apart
 pub apart : (test : ℕ → Bool) (c k : ℕ) → test c ≡ true → test k ≡ false → eqb c k ≡ false
@@ -60,7 +60,7 @@ pub any_same : (f g : ℕ → Bool) → ((c : ℕ) → f c ≡ g c) → (cs : Li
 any_same f g same [] = refl
 any_same f g same (c ∷ cs) = ap (λ b. b || list_any f cs) (same c) ∙ ap (λ b. g c || b) (any_same f g same cs)
 
-pub passes_same : (f g : ℕ → Bool) → ((c : ℕ) → f c ≡ g c) → (cs : List ℕ) → passes f cs ≡ passes g cs
+pub passes_same : (f g : ℕ → Bool) → ((c : ℕ) → f c ≡ g c) → (cs : List ℕ) → first_passes f cs ≡ first_passes g cs
 passes_same f g same [] = refl
 passes_same f g same (c ∷ cs) = same c
 

@@ -6,19 +6,19 @@ use Rattle.std.proofs.lemmas.Str.{IsCharBoundary-at_seam, chars-append}
 use Rattle.std.proofs.Common.{Option, Some, None}
 use Rattle.std.specs.Option.{IfSome, IfNone}
 use Rattle.std.specs.Str.{IsUtf8}
-use Rattle.rl_tokens.specs.Texts.{IsBehind}
+use Rattle.rl_tokens.specs.Texts.{IsTail}
 
-pub behind_self : (t : List ℕ) → IsUtf8 t → IsBehind t t
+pub behind_self : (t : List ℕ) → IsUtf8 t → IsTail t t
 behind_self t u = record { front = []; text_is = refl; is_text = u }
 
-pub behind_step : (a b d : List ℕ) → IsBehind a b → IsBehind b d → IsBehind a d
+pub behind_step : (a b d : List ℕ) → IsTail a b → IsTail b d → IsTail a d
 behind_step a b d p q = record {
   front = p.front ++ q.front;
   text_is = p.text_is ∙ ap (λ z. p.front ++ z) q.text_is ∙ sym (append_assoc p.front q.front d);
   is_text = q.is_text;
 }
 
-pub some_behind : {I : Type 0} (rest : I → List ℕ) (a b : List ℕ) (r : Option I) → IsBehind a b → IfSome r (λ i. IsBehind b (rest i)) → IfSome r (λ i. IsBehind a (rest i))
+pub some_behind : {I : Type 0} (rest : I → List ℕ) (a b : List ℕ) (r : Option I) → IsTail a b → IfSome r (λ i. IsTail b (rest i)) → IfSome r (λ i. IsTail a (rest i))
 some_behind rest a b None p q = tt
 some_behind rest a b (Some i) p q = behind_step a b (rest i) p q
 
@@ -26,12 +26,12 @@ some_behind rest a b (Some i) p q = behind_step a b (rest i) p q
 front_len : (bs xs ys : List ℕ) → bs ≡ xs ++ ys → length xs ≡ length bs - length ys
 front_len bs xs ys e = omega (arith, length-append {A = ℕ}, ap length e)
 
-pub cut_boundary : (bs ys : List ℕ) → IsBehind bs ys → IsCharBoundary bs (length bs - length ys)
+pub cut_boundary : (bs ys : List ℕ) → IsTail bs ys → IsCharBoundary bs (length bs - length ys)
 cut_boundary bs ys b =
     let At : ℕ → Type 0 = λ n. IsCharBoundary bs n in
     subst At (front_len bs b.front ys b.text_is) (IsCharBoundary-at_seam bs b.front ys b.text_is b.is_text)
 
-pub cut_join : (bs ys : List ℕ) → IsBehind bs ys → bs ≡ take (length bs - length ys) bs ++ ys
+pub cut_join : (bs ys : List ℕ) → IsTail bs ys → bs ≡ take (length bs - length ys) bs ++ ys
 cut_join bs ys b =
     let xs = b.front in
     let f : List ℕ → List ℕ = λ z. take (length bs - length ys) z in
@@ -40,7 +40,7 @@ cut_join bs ys b =
     b.text_is ∙ ap (λ z. z ++ ys) (sym taken)
 
 -- what stands from there on
-pub cut_drop : (bs ys : List ℕ) → IsBehind bs ys → drop (length bs - length ys) bs ≡ ys
+pub cut_drop : (bs ys : List ℕ) → IsTail bs ys → drop (length bs - length ys) bs ≡ ys
 cut_drop bs ys b =
     let f : List ℕ → List ℕ = λ z. drop (length bs - length ys) z in
     let g : ℕ → List ℕ = λ n. drop n (b.front ++ ys) in
@@ -50,5 +50,5 @@ pub if_none : {A : Type 0} (r : Option A) {P : Type 0} → P → IfNone r P
 if_none None p = p
 if_none (Some x) p = tt
 
-pub cut_chars : (bs xs ys : List ℕ) → IsUtf8 xs → IsBehind bs ys → xs ≡ take (length bs - length ys) bs → chars bs ≡ chars xs ++ chars ys
+pub cut_chars : (bs xs ys : List ℕ) → IsUtf8 xs → IsTail bs ys → xs ≡ take (length bs - length ys) bs → chars bs ≡ chars xs ++ chars ys
 cut_chars bs xs ys u b e = ap chars (cut_join bs ys b ∙ ap (λ z. z ++ ys) (sym e)) ∙ chars-append xs ys u

@@ -5,7 +5,7 @@ use Rattle.std.specs.List.{list_all, AllByRecursion}
 use Rattle.std.proofs.lemmas.List.Folds.{list_all-append}
 use Rattle.std.proofs.lemmas.Bool.{and_parts, and_from, cases_Bool, not-true, not_from_false, ne_eqb, or_parts}
 use Rattle.rl_tokens.specs.declared.kind.Kind.TheVariants.{CStr}
-use Rattle.rl_tokens.specs.Quoted.{QuotedUnit, Plain, CrLf, Named, Hex, Unicode, Continuation, letter_value, unit_value, hex_value, unicode_value, may_hold, is_plain, IsUnit, values}
+use Rattle.rl_tokens.specs.Quoted.{QuotedUnit, Plain, CrLf, Named, Hex, Unicode, Continuation, letter_value, unit_value, hex_value, unicode_value, allows_code, is_plain, IsUnit, values}
 use Rattle.rl_tokens.specs.Reading.{Bytes, Reads}
 use Rattle.rl_tokens.specs.CStrings.{is_zero, has_no_zero}
 
@@ -30,16 +30,16 @@ encode_no_zero c h =
 join_no_zero : (xs ys : List ℕ) → has_no_zero xs ≡ true → has_no_zero ys ≡ true → has_no_zero (xs ++ ys) ≡ true
 join_no_zero xs ys h k = list_all-append (λ b. not (is_zero b)) xs ys ∙ and_from _ _ h k
 
-encodes_no_zero : (cs : List ℕ) → list_all (may_hold CStr) cs ≡ true → has_no_zero (encode_utf8_all cs) ≡ true
+encodes_no_zero : (cs : List ℕ) → list_all (allows_code CStr) cs ≡ true → has_no_zero (encode_utf8_all cs) ≡ true
 encodes_no_zero [] h = refl
 encodes_no_zero (c ∷ cs) h =
-    let p = and_parts (may_hold CStr c) (list_all (may_hold CStr) cs) h in
+    let p = and_parts (allows_code CStr c) (list_all (allows_code CStr) cs) h in
     join_no_zero (encode_utf8 c) (encode_utf8_all cs) (encode_no_zero c (not-true (eqb c 0) p.0)) (encodes_no_zero cs p.1)
 
-one_no_zero : (c : ℕ) → may_hold CStr c ≡ true → has_no_zero (c ∷ []) ≡ true
+one_no_zero : (c : ℕ) → allows_code CStr c ≡ true → has_no_zero (c ∷ []) ≡ true
 one_no_zero c h = and_from _ _ h refl
 
-plain_may : (c : ℕ) → is_plain CStr c ≡ true → may_hold CStr c ≡ true
+plain_may : (c : ℕ) → is_plain CStr c ≡ true → allows_code CStr c ≡ true
 plain_may c h = let n = not-true _ h in not_from_false (eqb c 0) (or_parts _ (eqb c 0) n).1
 
 unit_no_zero : (u : QuotedUnit) → IsUnit CStr u → has_no_zero (unit_value CStr u) ≡ true

@@ -7,9 +7,9 @@ use Rattle.std.specs.Char.{encode_utf8, is_ascii}
 use Rattle.std.specs.Str.{chars, encode_utf8_all, IsUtf8}
 use Rattle.std.specs.Option.{option_map}
 use Rattle.std.proofs.lemmas.Str.{encode_ascii, length-encode, len_utf8_bounds, inside_one, encodes-chars, chars_from_encodes}
-use Rattle.rl_tokens.specs.Texts.{passes}
+use Rattle.rl_tokens.specs.Texts.{first_passes}
 use Rattle.rl_tokens.specs.Trivia.{is_plain_line, is_plain_block}
-use Rattle.rl_tokens.specs.SkippedAt.{after_block, after_comment}
+use Rattle.rl_tokens.specs.Mirrors.SkippedAt.{after_block, after_comment}
 use Rattle.rl_tokens.proofs.Comments.{closed, after_block-step, block_goes_on, both, false_unless}
 
 abbrev pub AllHigh : List ℕ → Type 0
@@ -128,14 +128,14 @@ pub not_equal : (c k : ℕ) → k < 128 → 128 ≤ c → (c == k) ≡ false
 not_equal c k l h = false_unless (c == k) (λ e. let q : c ≡ k = grind (arith, nat_tests) in omega arith)
 
 -- What begins with no character of ASCII begins no comment, and is plain inside one.
-pub wide_comment : (t : List ℕ) → passes is_ascii t ≡ false → None ≡ after_comment t
+pub wide_comment : (t : List ℕ) → first_passes is_ascii t ≡ false → None ≡ after_comment t
 wide_comment [] h = refl
 wide_comment (c ∷ t) h = rw (not_equal c 47 (omega arith) (ltb-false c 128 h), not_equal c 42 (omega arith) (ltb-false c 128 h)) refl
 
-pub wide_line : (t : List ℕ) → passes is_ascii t ≡ false → true ≡ is_plain_line t
+pub wide_line : (t : List ℕ) → first_passes is_ascii t ≡ false → true ≡ is_plain_line t
 wide_line [] h = refl
 wide_line (c ∷ t) h = rw (not_equal c 33 (omega arith) (ltb-false c 128 h), not_equal c 47 (omega arith) (ltb-false c 128 h)) refl
 
-pub wide_block : (t : List ℕ) → passes is_ascii t ≡ false → true ≡ is_plain_block t
+pub wide_block : (t : List ℕ) → first_passes is_ascii t ≡ false → true ≡ is_plain_block t
 wide_block [] h = refl
 wide_block (c ∷ t) h = rw (not_equal c 33 (omega arith) (ltb-false c 128 h), not_equal c 42 (omega arith) (ltb-false c 128 h)) refl

@@ -6,8 +6,8 @@ use Rattle.std.proofs.lemmas.Bool.{and_from, and_parts, ne_eqb}
 use Rattle.std.proofs.lemmas.Str.{IsUtf8-nil}
 use Rattle.std.proofs.Math.Seq.{take-length}
 use Rattle.std.specs.Str.{chars}
-use Rattle.rl_tokens.specs.Texts.{IsBehind}
-use Rattle.rl_tokens.specs.SkippedAt.{after_block, after_line}
+use Rattle.rl_tokens.specs.Texts.{IsTail}
+use Rattle.rl_tokens.specs.Mirrors.SkippedAt.{after_block, after_line}
 use Rattle.rl_tokens.specs.Scanning.{is_other, IsNextMark}
 use Rattle.rl_tokens.specs.declared.scan.Marks.{Marks}
 use Rattle.std.specs.List.{list_all, prefix_len}
@@ -117,5 +117,5 @@ chars_nil = refl
 pub line_open : (m : Marks) (s : List ℕ) → m ≡ record { first = 10; second = 10; third = 10; fourth = 10 } → list_all (is_other m) s ≡ true → chars [] ≡ after_line s
 line_open m s is h = chars_nil ∙ sym (after_line-open s (one_line m s (ap (λ z. z.first) is) h))
 
-pub nothing_behind : (t : List ℕ) → IsBehind t []
+pub nothing_behind : (t : List ℕ) → IsTail t []
 nothing_behind t = record { front = t; text_is = sym (append-nil t); is_text = IsUtf8-nil }

@@ -2,7 +2,7 @@
 use Rattle.std.proofs.Common.{◌≡◌, ℕ, suc, zero, ◌⊎◌, inl, inr, Bool, true, false, not, ◌&&◌, ◌==◌, cond, List, [], ◌∷◌, ◌++◌, Option, Some, refl, sym, ◌∙◌, ap, arith, append_assoc}
 use Rattle.std.proofs.lemmas.Bool.Decides.{nat_tests}
 use Rattle.rl_tokens.specs.Trivia.{is_plain_line, is_plain_block, Inside, End, Other, Nested, inside_text, IsInside, BeginsNoMark}
-use Rattle.rl_tokens.specs.SkippedAt.{after_block, after_line}
+use Rattle.rl_tokens.specs.Mirrors.SkippedAt.{after_block, after_line}
 use Rattle.std.specs.List.{list_all}
 use Rattle.std.specs.Prelude.{IsTrue}
 

@@ -3,20 +3,22 @@ use Rattle.std.proofs.Common.{◌≡◌, ℕ, ◌+◌, ◌-◌, List, ◌++◌, 
 use Rattle.std.proofs.lemmas.List.{append_cancel_right}
 use Rattle.std.proofs.lemmas.Str.{encodes-append, encodes-chars, chars_from_encodes}
 use Rattle.std.specs.Str.{chars, encode_utf8_all, IsUtf8}
-use Rattle.rl_tokens.specs.Texts.{IsBehind}
-use Rattle.rl_tokens.specs.Trivia.{Skipped}
-use Rattle.rl_tokens.specs.Lexemes.{lexeme_text, Form}
-use Rattle.rl_tokens.specs.LexemeAt.{FormBefore, form_view}
+use Rattle.rl_tokens.specs.Texts.{IsTail}
+use Rattle.rl_tokens.specs.Skipping.{Skipped}
+use Rattle.rl_tokens.specs.Lexemes.{lexeme_text, LexemeForm}
+use Rattle.rl_tokens.specs.Mirrors.LexemeAt.{FormBefore}
+use Rattle.rl_tokens.specs.Cursors.{form_view}
 use Rattle.rl_tokens.specs.declared.span.Span.{Span}
-use Rattle.rl_tokens.specs.Lexing.{Cut, byte_len, end_of, flat_form, flat_cut}
-use Rattle.rl_tokens.specs.Cursors.{IsCutting, IsCut, TakesNext}
+use Rattle.rl_tokens.specs.Lexing.{LexedToken, end_of, flat_form, flat_token}
+use Rattle.rl_tokens.specs.Texts.{byte_len}
+use Rattle.rl_tokens.specs.Cursors.{IsCursorState, IsLentToken, TakesNext}
 use Rattle.rl_tokens.specs.declared.cursor.Lexeme.{Lexeme as Lent}
 use Rattle.rl_tokens.proofs.BehindLemmas.{behind_step, cut_join}
 use Rattle.rl_tokens.proofs.Rests.{behind_length}
 use Rattle.rl_tokens.proofs.CutLemmas.{cuts_more}
 
 -- The lexeme at the front of the rest, by its bytes.
-record TokenAt (text rest behind token : List ℕ) (form : Form) (lo hi : ℕ) : Type 0 where
+record TokenAt (text rest behind token : List ℕ) (form : LexemeForm) (lo hi : ℕ) : Type 0 where
   pub front : FormBefore (chars rest) form (chars behind)
   pub rest_text : IsUtf8 rest
   pub behind_text : IsUtf8 behind
@@ -26,7 +28,7 @@ record TokenAt (text rest behind token : List ℕ) (form : Form) (lo hi : ℕ) :
   pub hi_place : hi + length behind ≡ length text
 
 -- the token is the lexeme's text
-token_is : {text rest behind token : List ℕ} {form : Form} {lo hi : ℕ} (at : TokenAt text rest behind token form lo hi) → encode_utf8_all (lexeme_text at.front.lexeme) ≡ token
+token_is : {text rest behind token : List ℕ} {form : LexemeForm} {lo hi : ℕ} (at : TokenAt text rest behind token form lo hi) → encode_utf8_all (lexeme_text at.front.lexeme) ≡ token
 token_is {rest = rest} {behind = behind} {token = token} at =
     let l = lexeme_text at.front.lexeme in
     let e : encode_utf8_all l ++ behind ≡ token ++ behind =
@@ -37,14 +39,14 @@ token_is {rest = rest} {behind = behind} {token = token} at =
     ∙ at.rest_is in
     append_cancel_right (encode_utf8_all l) token behind e
 
-token_chars : {text rest behind token : List ℕ} {form : Form} {lo hi : ℕ} (at : TokenAt text rest behind token form lo hi) → chars token ≡ lexeme_text at.front.lexeme
+token_chars : {text rest behind token : List ℕ} {form : LexemeForm} {lo hi : ℕ} (at : TokenAt text rest behind token form lo hi) → chars token ≡ lexeme_text at.front.lexeme
 token_chars {token = token} at = sym (chars_from_encodes (lexeme_text at.front.lexeme) token at.token_text (token_is at))
 
-token_len : {text rest behind token : List ℕ} {form : Form} {lo hi : ℕ} → TokenAt text rest behind token form lo hi → lo + length token ≡ hi
+token_len : {text rest behind token : List ℕ} {form : LexemeForm} {lo hi : ℕ} → TokenAt text rest behind token form lo hi → lo + length token ≡ hi
 token_len {rest = rest} {behind = behind} {token = token} at = omega (arith, at.lo_place, at.hi_place, ap length at.rest_is, length-append token behind)
 
 -- the token is the rest up to what is behind it
-token_at : (text rest behind token : List ℕ) (form : Form) → IsBehind text rest → IsBehind rest behind → FormBefore (chars rest) form (chars behind) → IsUtf8 token → token ≡ slice_range rest 0 (length rest - length behind) → TokenAt text rest behind token form (length text - length rest) (length text - length behind)
+token_at : (text rest behind token : List ℕ) (form : LexemeForm) → IsTail text rest → IsTail rest behind → FormBefore (chars rest) form (chars behind) → IsUtf8 token → token ≡ slice_range rest 0 (length rest - length behind) → TokenAt text rest behind token form (length text - length rest) (length text - length behind)
 token_at text rest behind token form in_text in_rest front is token_is =
     let taken : token ≡ take (length rest - length behind) rest = token_is ∙ ap (λ n. take n rest) (let q : length rest - length behind - 0 ≡ length rest - length behind = omega arith in q) in
     record {
@@ -58,15 +60,15 @@ token_at text rest behind token form in_text in_rest front is token_is =
     }
 
 -- the rest behind the next token is behind the text
-pub still_cutting : (text rest behind next : List ℕ) → IsCutting text rest → IsBehind rest behind → IsBehind behind next → IsCutting text next
+pub still_cutting : (text rest behind next : List ℕ) → IsCursorState text rest → IsTail rest behind → IsTail behind next → IsCursorState text next
 still_cutting text rest behind next is in_rest in_behind = record {
   is_text = is.is_text;
   behind = behind_step text rest next is.behind (behind_step rest behind next in_rest in_behind);
 }
 
-takes : (text rest behind next : List ℕ) (l : Lent) → IsCutting text rest → IsBehind rest behind → IsBehind behind next → Skipped (chars behind) (chars next) → TokenAt text rest behind l.text.now (form_view l.form) l.lo l.hi → TakesNext (record { text = text; rest = rest }) l (record { text = text; rest = next })
+takes : (text rest behind next : List ℕ) (l : Lent) → IsCursorState text rest → IsTail rest behind → IsTail behind next → Skipped (chars behind) (chars next) → TokenAt text rest behind l.text.now (form_view l.form) l.lo l.hi → TakesNext (record { text = text; rest = rest }) l (record { text = text; rest = next })
 takes text rest behind next l is in_rest in_behind skips at =
-    let w : Cut = record { lexeme = at.front.lexeme; at = l.lo } in
+    let w : LexedToken = record { lexeme = at.front.lexeme; at = l.lo } in
     let rest_len : byte_len (chars rest) ≡ length rest = ap length (encodes-chars rest at.rest_text) in
     let text_len : byte_len (chars text) ≡ length text = ap length (encodes-chars text is.is_text) in
     let ends : end_of w ≡ l.hi = omega (arith, token_len at, ap length (token_is at)) in
@@ -83,14 +85,14 @@ takes text rest behind next l is in_rest in_behind skips at =
     }
 
 -- what is lent is the next token
-pub takes_next : (text rest behind next : List ℕ) (l : Lent) → IsCutting text rest → FormBefore (chars rest) (form_view l.form) (chars behind) → IsBehind rest behind → IsUtf8 l.text.now → l.text.now ≡ slice_range rest 0 (length rest - length behind) → l.lo ≡ length text - length rest → l.hi ≡ length text - length behind → Skipped (chars behind) (chars next) → IsBehind behind next → TakesNext (record { text = text; rest = rest }) l (record { text = text; rest = next })
+pub takes_next : (text rest behind next : List ℕ) (l : Lent) → IsCursorState text rest → FormBefore (chars rest) (form_view l.form) (chars behind) → IsTail rest behind → IsUtf8 l.text.now → l.text.now ≡ slice_range rest 0 (length rest - length behind) → l.lo ≡ length text - length rest → l.hi ≡ length text - length behind → Skipped (chars behind) (chars next) → IsTail behind next → TakesNext (record { text = text; rest = rest }) l (record { text = text; rest = next })
 takes_next text rest behind next l is front in_rest utf8 token_is lo hi skips in_behind =
     let at : TokenAt text rest behind l.text.now (form_view l.form) l.lo l.hi =
     rw (lo, hi) (token_at text rest behind l.text.now (form_view l.form) is.behind in_rest front utf8 token_is) in
     takes text rest behind next l is in_rest in_behind skips at
 
 -- the cut written flat
-pub flat_lent : (file : ℕ) (l : Lent) (w : Cut) → IsCut l w → flat_cut file w ≡ flat_form (form_view l.form) l.text.now (record { file = file; lo = l.lo; hi = l.hi })
+pub flat_lent : (file : ℕ) (l : Lent) (w : LexedToken) → IsLentToken l w → flat_token file w ≡ flat_form (form_view l.form) l.text.now (record { file = file; lo = l.lo; hi = l.hi })
 flat_lent file l w is =
     let at : ℕ → ℕ → Span = λ lo hi. record { file = file; lo = lo; hi = hi } in
     ap (λ f. flat_form f (encode_utf8_all (lexeme_text w.lexeme)) (at w.at (end_of w))) is.form_is

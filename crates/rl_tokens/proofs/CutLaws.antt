@@ -3,10 +3,11 @@ use Rattle.std.proofs.Common.{◌≡◌, ℕ, ◌+◌, List, [], ◌∷◌, ◌+
 use Rattle.std.specs.Option.{option_and_then}
 use Rattle.std.specs.Str.{encode_utf8_all}
 use Rattle.std.proofs.lemmas.Option.{none-some}
-use Rattle.rl_tokens.specs.Trivia.{Skipped}
-use Rattle.rl_tokens.specs.Lexemes.{Lexeme, lexeme_text, IsLexeme, Form, form_of}
-use Rattle.rl_tokens.specs.LexemeAt.{lexeme_at}
-use Rattle.rl_tokens.specs.Lexing.{Cut, byte_len, end_of, Cuts, OpenGroup, behind_form, behind_lexeme, open_groups, flat_form, flat_cut}
+use Rattle.rl_tokens.specs.Skipping.{Skipped}
+use Rattle.rl_tokens.specs.Lexemes.{Lexeme, lexeme_text, IsLexeme, LexemeForm, form_of}
+use Rattle.rl_tokens.specs.Mirrors.LexemeAt.{lexeme_at}
+use Rattle.rl_tokens.specs.Lexing.{LexedToken, end_of, LexesUpTo, OpenGroup, behind_form, behind_lexeme, open_groups, flat_form, flat_token}
+use Rattle.rl_tokens.specs.Texts.{byte_len}
 use Rattle.rl_tokens.proofs.Comments.{same_Some}
 use Rattle.rl_tokens.proofs.Pieces.{one_rest}
 use Rattle.rl_tokens.proofs.LexemeFronts.{lexeme_at-past, one_front}
@@ -16,54 +17,54 @@ abbrev pub IsStuck : List OpenGroup → List ℕ → Type 0
 IsStuck groups r = (l : Lexeme) (after : List ℕ) (at : ℕ) → IsLexeme l after → r ≡ lexeme_text l ++ after → behind_lexeme groups l at ≡ None
 
 -- two cuts are one, seen as tokens
-pub record SameCut (vs ws : List Cut) (r s : List ℕ) (g h : List OpenGroup) : Type 0 where
-  pub flat : (file : ℕ) → map (flat_cut file) vs ≡ map (flat_cut file) ws
+pub record SameCut (vs ws : List LexedToken) (r s : List ℕ) (g h : List OpenGroup) : Type 0 where
+  pub flat : (file : ℕ) → map (flat_token file) vs ≡ map (flat_token file) ws
   pub rest : r ≡ s
   pub groups : g ≡ h
 
 -- the first tokens of two cuts are one
-record SameFirst (v w : Cut) (x y : List ℕ) : Type 0 where
+record SameFirst (v w : LexedToken) (x y : List ℕ) : Type 0 where
   pub form : form_of v.lexeme ≡ form_of w.lexeme
   pub text : lexeme_text v.lexeme ≡ lexeme_text w.lexeme
   pub at : v.at ≡ w.at
   pub rest : x ≡ y
 
-same_first : (at : ℕ) (t : List ℕ) (v w : Cut) (x y : List ℕ) → Skipped t (lexeme_text v.lexeme ++ x) → IsLexeme v.lexeme x → v.at + byte_len (lexeme_text v.lexeme ++ x) ≡ at + byte_len t → Skipped t (lexeme_text w.lexeme ++ y) → IsLexeme w.lexeme y → w.at + byte_len (lexeme_text w.lexeme ++ y) ≡ at + byte_len t → SameFirst v w x y
+same_first : (at : ℕ) (t : List ℕ) (v w : LexedToken) (x y : List ℕ) → Skipped t (lexeme_text v.lexeme ++ x) → IsLexeme v.lexeme x → v.at + byte_len (lexeme_text v.lexeme ++ x) ≡ at + byte_len t → Skipped t (lexeme_text w.lexeme ++ y) → IsLexeme w.lexeme y → w.at + byte_len (lexeme_text w.lexeme ++ y) ≡ at + byte_len t → SameFirst v w x y
 same_first at t v w x y a is m b js n =
     let u = lexeme_text v.lexeme ++ x in
     let e : u ≡ lexeme_text w.lexeme ++ y = one_rest t u (lexeme_text w.lexeme ++ y) a b in
     let f = one_front u (lexeme_text v.lexeme) (lexeme_text w.lexeme) x y refl e (v.lexeme, is, refl) (w.lexeme, js, refl) in
-    let p : ◌≡◌ {A = Option (Form × List ℕ)} (Some (form_of v.lexeme, x)) (Some (form_of w.lexeme, y)) =
+    let p : ◌≡◌ {A = Option (LexemeForm × List ℕ)} (Some (form_of v.lexeme, x)) (Some (form_of w.lexeme, y)) =
     sym (lexeme_at-past v.lexeme x is) ∙ ap lexeme_at e ∙ lexeme_at-past w.lexeme y js in
     record {
-      form = ap (λ (q : Form × List ℕ). q.0) (same_Some (form_of v.lexeme, x) (form_of w.lexeme, y) p);
+      form = ap (λ (q : LexemeForm × List ℕ). q.0) (same_Some (form_of v.lexeme, x) (form_of w.lexeme, y) p);
       text = f.0;
       at = omega (arith, m, n, ap byte_len e);
       rest = f.1;
     }
 
-same_end : (v w : Cut) (x y : List ℕ) → SameFirst v w x y → end_of v ≡ end_of w
+same_end : (v w : LexedToken) (x y : List ℕ) → SameFirst v w x y → end_of v ≡ end_of w
 same_end v w x y same = omega (arith, same.at, ap byte_len same.text)
 
-same_flat : (v w : Cut) (x y : List ℕ) → SameFirst v w x y → (file : ℕ) → flat_cut file v ≡ flat_cut file w
+same_flat : (v w : LexedToken) (x y : List ℕ) → SameFirst v w x y → (file : ℕ) → flat_token file v ≡ flat_token file w
 same_flat v w x y same file =
     ap (λ f. flat_form f (encode_utf8_all (lexeme_text v.lexeme)) (record { file = file; lo = v.at; hi = end_of v })) same.form
     ∙ ap (λ t. flat_form (form_of w.lexeme) (encode_utf8_all t) (record { file = file; lo = v.at; hi = end_of v })) same.text
     ∙ ap (λ n. flat_form (form_of w.lexeme) (encode_utf8_all (lexeme_text w.lexeme)) (record { file = file; lo = n; hi = end_of v })) same.at
     ∙ ap (λ n. flat_form (form_of w.lexeme) (encode_utf8_all (lexeme_text w.lexeme)) (record { file = file; lo = w.at; hi = n })) (same_end v w x y same)
 
-same_behind : (groups : List OpenGroup) (v w : Cut) (x y : List ℕ) → SameFirst v w x y → behind_lexeme groups v.lexeme v.at ≡ behind_lexeme groups w.lexeme w.at
+same_behind : (groups : List OpenGroup) (v w : LexedToken) (x y : List ℕ) → SameFirst v w x y → behind_lexeme groups v.lexeme v.at ≡ behind_lexeme groups w.lexeme w.at
 same_behind groups v w x y same = ap (λ f. behind_form groups f v.at) same.form ∙ ap (λ n. behind_form groups (form_of w.lexeme) n) same.at
 
 -- the groups behind the first token
-opened : (o : Option (List OpenGroup)) (ws : List Cut) (h : List OpenGroup) → option_and_then (λ g. open_groups g ws) o ≡ Some h → (g : List OpenGroup) × (o ≡ Some g) × (open_groups g ws ≡ Some h)
+opened : (o : Option (List OpenGroup)) (ws : List LexedToken) (h : List OpenGroup) → option_and_then (λ g. open_groups g ws) o ≡ Some h → (g : List OpenGroup) × (o ≡ Some g) × (open_groups g ws ≡ Some h)
 opened None ws h e = absurd (none-some h e)
 opened (Some g) ws h e = (g, refl, e)
 
-nothing_behind : (o : Option (List OpenGroup)) (ws : List Cut) (h : List OpenGroup) → o ≡ None → option_and_then (λ g. open_groups g ws) o ≡ Some h → ⊥
+nothing_behind : (o : Option (List OpenGroup)) (ws : List LexedToken) (h : List OpenGroup) → o ≡ None → option_and_then (λ g. open_groups g ws) o ≡ Some h → ⊥
 nothing_behind o ws h none e = none-some h (ap (option_and_then (λ g. open_groups g ws)) (sym none) ∙ e)
 
-pub same_cut : (at : ℕ) (t : List ℕ) (gs : List OpenGroup) (vs ws : List Cut) (r s : List ℕ) (g h : List OpenGroup) → Cuts at t vs r → open_groups gs vs ≡ Some g → IsStuck g r → Cuts at t ws s → open_groups gs ws ≡ Some h → IsStuck h s → SameCut vs ws r s g h
+pub same_cut : (at : ℕ) (t : List ℕ) (gs : List OpenGroup) (vs ws : List LexedToken) (r s : List ℕ) (g h : List OpenGroup) → LexesUpTo at t vs r → open_groups gs vs ≡ Some g → IsStuck g r → LexesUpTo at t ws s → open_groups gs ws ≡ Some h → IsStuck h s → SameCut vs ws r s g h
 same_cut at t gs [] [] r s g h a p stuck b q stuck' =
     record { flat = λ file. refl; rest = one_rest t r s a b; groups = same_Some g h (sym p ∙ q) }
 same_cut at t gs [] (w ∷ ws) r s g h a p stuck (y, b, js, n, more) q stuck' =
@@ -79,26 +80,26 @@ same_cut at t gs (v ∷ vs) (w ∷ ws) r s g h (x, a, is, m, more) p stuck (y, b
     let (g1, g1_is, p1) = opened (behind_lexeme gs v.lexeme v.at) vs g p in
     let (h1, h1_is, q1) = opened (behind_lexeme gs w.lexeme w.at) ws h q in
     let same_groups : h1 ≡ g1 = same_Some h1 g1 (sym h1_is ∙ sym (same_behind gs v w x y same) ∙ g1_is) in
-    let more1 : Cuts (end_of v) x ws s =
-    subst (λ (k : ℕ). Cuts k x ws s) (sym (same_end v w x y same)) (subst (λ (z : List ℕ). Cuts (end_of w) z ws s) (sym same.rest) more') in
+    let more1 : LexesUpTo (end_of v) x ws s =
+    subst (λ (k : ℕ). LexesUpTo k x ws s) (sym (same_end v w x y same)) (subst (λ (z : List ℕ). LexesUpTo (end_of w) z ws s) (sym same.rest) more') in
     let rec = same_cut (end_of v) x g1 vs ws r s g h more p1 stuck more1 (ap (λ z. open_groups z ws) (sym same_groups) ∙ q1) stuck' in
     record {
-      flat = λ file. ap (λ f. f ∷ map (flat_cut file) vs) (same_flat v w x y same file) ∙ ap (λ fs. flat_cut file w ∷ fs) (rec.flat file);
+      flat = λ file. ap (λ f. f ∷ map (flat_token file) vs) (same_flat v w x y same file) ∙ ap (λ fs. flat_token file w ∷ fs) (rec.flat file);
       rest = rec.rest;
       groups = rec.groups;
     }
 
 -- What was cut of a text begins each cut of all of it, seen as tokens.
-pub begins_cut : (at : ℕ) (t : List ℕ) (vs ws : List Cut) (r : List ℕ) → Cuts at t vs r → Cuts at t ws [] → (more : List Cut) × ((file : ℕ) → map (flat_cut file) ws ≡ map (flat_cut file) vs ++ map (flat_cut file) more)
+pub begins_cut : (at : ℕ) (t : List ℕ) (vs ws : List LexedToken) (r : List ℕ) → LexesUpTo at t vs r → LexesUpTo at t ws [] → (more : List LexedToken) × ((file : ℕ) → map (flat_token file) ws ≡ map (flat_token file) vs ++ map (flat_token file) more)
 begins_cut at t [] ws r a b = (ws, λ file. refl)
 begins_cut at t (v ∷ vs) [] r (x, a, is, m, more) b =
     let e : [] ≡ lexeme_text v.lexeme ++ x = one_rest t [] (lexeme_text v.lexeme ++ x) b a in
     absurd (none-some (form_of v.lexeme, x) (ap lexeme_at e ∙ lexeme_at-past v.lexeme x is))
 begins_cut at t (v ∷ vs) (w ∷ ws) r (x, a, is, m, more) (y, b, js, n, more') =
     let same : SameFirst v w x y = same_first at t v w x y a is m b js n in
-    let behind : Cuts (end_of v) x ws [] =
-    subst (λ (k : ℕ). Cuts k x ws []) (sym (same_end v w x y same)) (subst (λ (z : List ℕ). Cuts (end_of w) z ws []) (sym same.rest) more') in
+    let behind : LexesUpTo (end_of v) x ws [] =
+    subst (λ (k : ℕ). LexesUpTo k x ws []) (sym (same_end v w x y same)) (subst (λ (z : List ℕ). LexesUpTo (end_of w) z ws []) (sym same.rest) more') in
     let rec = begins_cut (end_of v) x vs ws r more behind in (
       rec.0,
-      λ file. ap (λ f. f ∷ map (flat_cut file) ws) (sym (same_flat v w x y same file)) ∙ ap (λ fs. flat_cut file v ∷ fs) (rec.1 file),
+      λ file. ap (λ f. f ∷ map (flat_token file) ws) (sym (same_flat v w x y same file)) ∙ ap (λ fs. flat_token file v ∷ fs) (rec.1 file),
     )

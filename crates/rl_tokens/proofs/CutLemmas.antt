@@ -3,18 +3,19 @@ use Rattle.std.proofs.Common.{◌≡◌, ℕ, ◌+◌, List, [], ◌∷◌, ◌+
 use Rattle.std.proofs.lemmas.Str.{encodes-append}
 use Rattle.std.specs.Str.{encode_utf8_all}
 use Rattle.std.specs.Option.{option_and_then}
-use Rattle.rl_tokens.specs.Trivia.{Skipped}
+use Rattle.rl_tokens.specs.Skipping.{Skipped}
 use Rattle.rl_tokens.specs.Lexemes.{lexeme_text, IsLexeme}
-use Rattle.rl_tokens.specs.Lexing.{Cut, byte_len, end_of, Cuts, OpenGroup, behind_lexeme, open_groups}
+use Rattle.rl_tokens.specs.Lexing.{LexedToken, end_of, LexesUpTo, OpenGroup, behind_lexeme, open_groups}
+use Rattle.rl_tokens.specs.Texts.{byte_len}
 
 pub byte_len-append : (xs ys : List ℕ) → byte_len (xs ++ ys) ≡ byte_len xs + byte_len ys
 byte_len-append xs ys = ap length (encodes-append xs ys) ∙ length-append (encode_utf8_all xs) (encode_utf8_all ys)
 
 -- behind a token its rest stands where the token ends
-pub behind_place : (w : Cut) (after : List ℕ) (n : ℕ) → w.at + byte_len (lexeme_text w.lexeme ++ after) ≡ n → end_of w + byte_len after ≡ n
+pub behind_place : (w : LexedToken) (after : List ℕ) (n : ℕ) → w.at + byte_len (lexeme_text w.lexeme ++ after) ≡ n → end_of w + byte_len after ≡ n
 behind_place w after n place = omega (arith, place, byte_len-append (lexeme_text w.lexeme) after)
 
-pub cuts_more : (at : ℕ) (t : List ℕ) (done : List Cut) (u : List ℕ) (w : Cut) (after r : List ℕ) → Cuts at t done u → u ≡ lexeme_text w.lexeme ++ after → IsLexeme w.lexeme after → w.at + byte_len u ≡ at + byte_len t → Skipped after r → Cuts at t (done ++ w ∷ []) r
+pub cuts_more : (at : ℕ) (t : List ℕ) (done : List LexedToken) (u : List ℕ) (w : LexedToken) (after r : List ℕ) → LexesUpTo at t done u → u ≡ lexeme_text w.lexeme ++ after → IsLexeme w.lexeme after → w.at + byte_len u ≡ at + byte_len t → Skipped after r → LexesUpTo at t (done ++ w ∷ []) r
 cuts_more at t [] u w after r cut same is place skipped =
     (after, subst (λ (x : List ℕ). Skipped t x) same cut, is, ap (λ x. w.at + byte_len x) (sym same) ∙ place, skipped)
 cuts_more at t (d ∷ done) u w after r (rest, first, first_is, first_place, more) same is place skipped = (
@@ -25,7 +26,7 @@ cuts_more at t (d ∷ done) u w after r (rest, first, first_is, first_place, mor
   cuts_more (end_of d) rest done u w after r more same is (place ∙ sym (behind_place d rest (at + byte_len t) first_place)) skipped,
 )
 
-pub open_more : (groups : List OpenGroup) (done : List Cut) (w : Cut) (between : List OpenGroup) → open_groups groups done ≡ Some between → open_groups groups (done ++ w ∷ []) ≡ behind_lexeme between w.lexeme w.at
+pub open_more : (groups : List OpenGroup) (done : List LexedToken) (w : LexedToken) (between : List OpenGroup) → open_groups groups done ≡ Some between → open_groups groups (done ++ w ∷ []) ≡ behind_lexeme between w.lexeme w.at
 open_more groups [] w between h = last (behind_lexeme groups w.lexeme w.at) ∙ ap (λ g. behind_lexeme g w.lexeme w.at) (some_inner groups between h)
   where
     last : (o : Option (List OpenGroup)) → option_and_then (λ g. Some g) o ≡ o

@@ -7,12 +7,12 @@ use Rattle.std.proofs.Math.Utf8.{scalar, scalars}
 use Rattle.std.proofs.lemmas.Bool.{and_parts, and_from}
 use Rattle.std.proofs.lemmas.Str.{chars-encodes}
 use Rattle.rl_tokens.specs.declared.span.Span.{Span}
-use Rattle.rl_tokens.specs.Tokens.{Token}
-use Rattle.rl_tokens.specs.Trivia.{Skipped}
+use Rattle.rl_tokens.specs.Texts.{SpannedText}
+use Rattle.rl_tokens.specs.Skipping.{Skipped}
 use Rattle.rl_tokens.specs.Trees.{Tree, GroupTree, IdentTree, PunctTree, LiteralTree, FlatToken, Opening, Closing, FlatIdent, FlatLiteral, flat, flat_trees}
-use Rattle.rl_tokens.specs.Lexemes.{lexeme_text, IsLexeme, Form, LiteralForm, IdentifierForm, DelimiterForm, MarkForm, form_of}
-use Rattle.rl_tokens.specs.Lexing.{Cut, end_of, Cuts, is_opener, delimiter_for, flat_form, flat_cut, Lexes}
-use Rattle.rl_tokens.specs.Printed.{IsCutLiteral}
+use Rattle.rl_tokens.specs.Lexemes.{lexeme_text, IsLexeme, LexemeForm, LiteralForm, IdentifierForm, DelimiterForm, MarkForm, form_of}
+use Rattle.rl_tokens.specs.Lexing.{LexedToken, end_of, LexesUpTo, is_opener, delimiter_for, flat_form, flat_token, Lexes}
+use Rattle.rl_tokens.specs.PrintedTrees.{IsLexedLiteral}
 
 -- The parts of a text are characters too.
 pub scalars_parts : (a b : List ℕ) → scalars (a ++ b) ≡ true → (scalars a ≡ true) × (scalars b ≡ true)
@@ -23,15 +23,15 @@ scalars_parts (c ∷ a) b h =
     (and_from (scalar c) (scalars a) first.0 more.0, more.1)
 
 -- The token's bytes are those of the text, and its characters are the text.
-pub record IsTokenOf (text : List ℕ) (token : Token) : Type 0 where
+pub record IsTokenOf (text : List ℕ) (token : SpannedText) : Type 0 where
   pub bytes : token.text ≡ encode_utf8_all text
   pub characters : chars token.text ≡ text
 
 -- a literal's token has the text of a literal that was cut, an identifier's some text
-abbrev pub IsCutToken : Token → Type 0
-IsCutToken token = (text : List ℕ) × IsCutLiteral text × IsTokenOf text token
+abbrev pub IsCutToken : SpannedText → Type 0
+IsCutToken token = (text : List ℕ) × IsLexedLiteral text × IsTokenOf text token
 
-abbrev pub IsCutIdent : Token → Type 0
+abbrev pub IsCutIdent : SpannedText → Type 0
 IsCutIdent token = (text : List ℕ) × IsTokenOf text token
 
 abbrev pub IsCutTree : Tree → Type 0
@@ -44,7 +44,7 @@ IsCutFlat (FlatLiteral token) = IsCutToken token
 IsCutFlat (FlatIdent token) = IsCutIdent token
 IsCutFlat _ = ⊤
 
-flat_is_cut : (file : ℕ) (w : Cut) (after : List ℕ) → IsLexeme w.lexeme after → scalars (lexeme_text w.lexeme) ≡ true → IsCutFlat (flat_cut file w)
+flat_is_cut : (file : ℕ) (w : LexedToken) (after : List ℕ) → IsLexeme w.lexeme after → scalars (lexeme_text w.lexeme) ≡ true → IsCutFlat (flat_token file w)
 flat_is_cut file w after is scalar = go (form_of w.lexeme) refl
   where
     bytes : List ℕ
@@ -57,7 +57,7 @@ flat_is_cut file w after is scalar = go (form_of w.lexeme) refl
     delimiter true c = tt
     delimiter false c = tt
 
-    go : (f : Form) → form_of w.lexeme ≡ f → IsCutFlat (flat_form f bytes span)
+    go : (f : LexemeForm) → form_of w.lexeme ≡ f → IsCutFlat (flat_form f bytes span)
     go LiteralForm form = (lexeme_text w.lexeme, (w.lexeme, after, is, form, refl), record { bytes = refl; characters = chars-encodes (lexeme_text w.lexeme) scalar })
     go IdentifierForm form = (lexeme_text w.lexeme, record { bytes = refl; characters = chars-encodes (lexeme_text w.lexeme) scalar })
     go (DelimiterForm c) form = delimiter (is_opener c) c
@@ -68,7 +68,7 @@ skipped_scalars : (t r : List ℕ) → Skipped t r → scalars t ≡ true → sc
 skipped_scalars t r (inl s) h = (scalars_parts s.front r (ap scalars (sym s.text) ∙ h)).1
 skipped_scalars t r (inr s) h = ap scalars s.nothing
 
-cuts_are_cut : (file at : ℕ) (t : List ℕ) (ws : List Cut) (r : List ℕ) → Cuts at t ws r → scalars t ≡ true → AllByRecursion IsCutFlat (map (flat_cut file) ws)
+cuts_are_cut : (file at : ℕ) (t : List ℕ) (ws : List LexedToken) (r : List ℕ) → LexesUpTo at t ws r → scalars t ≡ true → AllByRecursion IsCutFlat (map (flat_token file) ws)
 cuts_are_cut file at t [] r cut h = tt
 cuts_are_cut file at t (w ∷ ws) r (after, skipped, is, place, more) h =
     let both = scalars_parts (lexeme_text w.lexeme) after (skipped_scalars t (lexeme_text w.lexeme ++ after) skipped h) in

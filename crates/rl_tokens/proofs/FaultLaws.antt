@@ -4,11 +4,11 @@ use Rattle.std.proofs.lemmas.Option.{none-some}
 use Rattle.std.specs.Prelude.{codes, nat_lt, if◌then◌else◌}
 use Rattle.rl_tokens.specs.declared.lex_error.LexKind.{LexKind}
 use Rattle.rl_tokens.specs.declared.lex_error.LexKind.TheVariants.{DocComment, UnclosedComment, UnclosedQuote, Lifetime, RawIdentifier, StrayCharacter, UnmatchedClose, UnclosedGroup, TooDeep, Memory}
-use Rattle.rl_tokens.specs.Texts.{is_start, is_among, passes, begins}
-use Rattle.rl_tokens.specs.Lexemes.{Lexeme, lexeme_text, IsLexeme, Form, form_of, DelimiterForm, MarkForm, delimiters, after_run, is_hash}
-use Rattle.rl_tokens.specs.LexemeAt.{lexeme_at, SlashHead}
+use Rattle.rl_tokens.specs.Texts.{is_start, is_among, first_passes, begins}
+use Rattle.rl_tokens.specs.Lexemes.{Lexeme, lexeme_text, IsLexeme, LexemeForm, form_of, DelimiterForm, MarkForm, delimiters, after_run, is_hash}
+use Rattle.rl_tokens.specs.Mirrors.LexemeAt.{lexeme_at, SlashHead}
 use Rattle.rl_tokens.specs.Lexing.{OpenGroup, is_opener, is_closer, closes, popped, behind_form, begins_doc_comment, begins_quote, begins_lifetime, begins_raw_identifier, BeginsNoLexeme, FaultAt}
-use Rattle.rl_tokens.specs.Nests.{fault_kind}
+use Rattle.rl_tokens.specs.Mirrors.TreeBuilders.{fault_kind}
 use Rattle.rl_tokens.proofs.Comments.{false_unless, same_Some}
 use Rattle.rl_tokens.proofs.Pieces.{is_equal}
 use Rattle.rl_tokens.proofs.LexemeRows.{both_true, not_true, not_among}
@@ -29,7 +29,7 @@ stuck_without groups r none l after at is same = absurd (none after (lexeme_text
 no_lexeme_at : (r : List ℕ) → BeginsNoLexeme r → lexeme_at r ≡ None
 no_lexeme_at r none = go (lexeme_at r) refl
   where
-    go : (o : Option (Form × List ℕ)) → lexeme_at r ≡ o → o ≡ None
+    go : (o : Option (LexemeForm × List ℕ)) → lexeme_at r ≡ o → o ≡ None
     go None h = refl
     go (Some p) h =
         let (l, is, same, form) = lexeme_at-found r p h in
@@ -37,7 +37,7 @@ no_lexeme_at r none = go (lexeme_at r) refl
 
 -- comments
 abbrev SlashAndMark : List ℕ → Type 0
-SlashAndMark r = (t : List ℕ) × (r ≡ 47 ∷ t) × (passes (λ d. d == 47 || d == 42) t ≡ true)
+SlashAndMark r = (t : List ℕ) × (r ≡ 47 ∷ t) × (first_passes (λ d. d == 47 || d == 42) t ≡ true)
 
 slash_none : (r : List ℕ) → SlashAndMark r → lexeme_at r ≡ None
 slash_none r (t, same, h) = ap lexeme_at same ∙ at_class 47 t SlashHead class47 ∙ ap (λ b. cond b None (Some (MarkForm 47, t))) h
@@ -79,8 +79,8 @@ block_slash (c ∷ d ∷ t) h = slash_and c d t (two (c == 47) (d == 47) (d == 4
 -- delimiters
 delimiter_stuck : (groups : List OpenGroup) (c : ℕ) (t : List ℕ) → is_among delimiters c ≡ true → ((at : ℕ) → behind_form groups (DelimiterForm c) at ≡ None) → IsStuck groups (c ∷ t)
 delimiter_stuck groups c t is none l after at is_l same =
-    let p : ◌≡◌ {A = Option (Form × List ℕ)} (Some (form_of l, after)) (Some (DelimiterForm c, t)) = sym (found_form l after (c ∷ t) is_l same) ∙ front_delimiter c t is in
-    let form : form_of l ≡ DelimiterForm c = ap (λ (q : Form × List ℕ). q.0) (same_Some (form_of l, after) (DelimiterForm c, t) p) in
+    let p : ◌≡◌ {A = Option (LexemeForm × List ℕ)} (Some (form_of l, after)) (Some (DelimiterForm c, t)) = sym (found_form l after (c ∷ t) is_l same) ∙ front_delimiter c t is in
+    let form : form_of l ≡ DelimiterForm c = ap (λ (q : LexemeForm × List ℕ). q.0) (same_Some (form_of l, after) (DelimiterForm c, t) p) in
     ap (λ f. behind_form groups f at) form ∙ none at
 
 closer_among : (c : ℕ) → is_closer c ≡ true → (is_among delimiters c ≡ true) × (is_opener c ≡ false)
@@ -89,13 +89,13 @@ closer_among c h = (among (codes ")]}") (is_among delimiters) c refl h, not_true
 opener_among : (c : ℕ) → is_opener c ≡ true → is_among delimiters c ≡ true
 opener_among c h = among (codes "([{") (is_among delimiters) c refl h
 
-first_passes : (test : ℕ → Bool) (r : List ℕ) → passes test r ≡ true → (c : ℕ) × (t : List ℕ) × (r ≡ c ∷ t) × (test c ≡ true)
-first_passes test [] h = absurd (cc)
-first_passes test (c ∷ t) h = (c, t, refl, h)
+first_passed : (test : ℕ → Bool) (r : List ℕ) → first_passes test r ≡ true → (c : ℕ) × (t : List ℕ) × (r ≡ c ∷ t) × (test c ≡ true)
+first_passed test [] h = absurd (cc)
+first_passed test (c ∷ t) h = (c, t, refl, h)
 
-close_stuck : (groups : List OpenGroup) (r : List ℕ) → passes (λ c. is_closer c && not (closes groups c)) r ≡ true → IsStuck groups r
+close_stuck : (groups : List OpenGroup) (r : List ℕ) → first_passes (λ c. is_closer c && not (closes groups c)) r ≡ true → IsStuck groups r
 close_stuck groups r h =
-    let (c, t, same, is) = first_passes (λ c. is_closer c && not (closes groups c)) r h in
+    let (c, t, same, is) = first_passed (λ c. is_closer c && not (closes groups c)) r h in
     let k : (is_closer c ≡ true) × (not (closes groups c) ≡ true) = both_true (is_closer c) (not (closes groups c)) is in
     let m = closer_among c k.0 in
     subst (λ (x : List ℕ). IsStuck groups x) (sym same)
@@ -103,9 +103,9 @@ close_stuck groups r h =
     ap (λ b. if b then (if nat_lt (length groups) 128 then Some (record { opener = c; at = at } ∷ groups) else None) else (if closes groups c then Some (popped groups) else None)) m.1
     ∙ ap (λ b. if b then Some (popped groups) else None) (not_true (closes groups c) k.1)))
 
-deep_stuck : (groups : List OpenGroup) (r : List ℕ) → passes is_opener r ≡ true → length groups ≡ 128 → IsStuck groups r
+deep_stuck : (groups : List OpenGroup) (r : List ℕ) → first_passes is_opener r ≡ true → length groups ≡ 128 → IsStuck groups r
 deep_stuck groups r h n =
-    let (c, t, same, is) = first_passes is_opener r h in
+    let (c, t, same, is) = first_passed is_opener r h in
     subst (λ (x : List ℕ). IsStuck groups x) (sym same)
     (delimiter_stuck groups c t (opener_among c is) (λ at.
     ap (λ b. if b then (if nat_lt (length groups) 128 then Some (record { opener = c; at = at } ∷ groups) else None) else (if closes groups c then Some (popped groups) else None)) is
@@ -128,11 +128,11 @@ fault_stuck TooDeep groups r (h, n) = deep_stuck groups r h n
 fault_stuck Memory groups r h = absurd h
 
 -- The kind of a fault is told by the rest.
-abbrev kind_by_form : Form → LexKind
+abbrev kind_by_form : LexemeForm → LexKind
 kind_by_form (DelimiterForm c) = if is_opener c then TooDeep else UnmatchedClose
 kind_by_form _ = StrayCharacter
 
-abbrev pub kind_at : Option (Form × List ℕ) → List ℕ → LexKind
+abbrev pub kind_at : Option (LexemeForm × List ℕ) → List ℕ → LexKind
 kind_at None [] = UnclosedGroup
 kind_at None (c ∷ t) = fault_kind (c ∷ t)
 kind_at (Some p) r = kind_by_form p.0
@@ -172,8 +172,8 @@ chosen_kind r doc block quote life raw a b c d e =
 life_split : (r : List ℕ) → begins_lifetime r ≡ true → (d : ℕ) × (u : List ℕ) × (r ≡ 39 ∷ d ∷ u) × (is_start d ≡ true)
 life_split [] h = absurd (cc)
 life_split (c ∷ cs) h =
-    let k : ((c == 39) ≡ true) × (passes is_start cs ≡ true) = both_true (c == 39) (passes is_start cs) h in
-    let (d, u, same, is) = first_passes is_start cs k.1 in
+    let k : ((c == 39) ≡ true) × (first_passes is_start cs ≡ true) = both_true (c == 39) (first_passes is_start cs) h in
+    let (d, u, same, is) = first_passed is_start cs k.1 in
     (d, u, ap (λ x. x ∷ cs) (is_equal c 39 k.0) ∙ ap (λ x. 39 ∷ x) same, is)
 
 life_no_quote : (r : List ℕ) → begins_lifetime r ≡ true → begins_quote r ≡ false
@@ -185,9 +185,9 @@ raw_split : (r : List ℕ) → begins_raw_identifier r ≡ true → (d : ℕ) ×
 raw_split [] h = absurd (cc)
 raw_split (c ∷ []) h = absurd (cc)
 raw_split (c ∷ e ∷ cs) h =
-    let k : ((c == 114 && e == 35) ≡ true) × (passes is_start cs ≡ true) = both_true (c == 114 && e == 35) (passes is_start cs) h in
+    let k : ((c == 114 && e == 35) ≡ true) × (first_passes is_start cs ≡ true) = both_true (c == 114 && e == 35) (first_passes is_start cs) h in
     let m : ((c == 114) ≡ true) × ((e == 35) ≡ true) = both_true (c == 114) (e == 35) k.0 in
-    let (d, u, same, is) = first_passes is_start cs k.1 in
+    let (d, u, same, is) = first_passed is_start cs k.1 in
     (d, u, ap (λ x. x ∷ e ∷ cs) (is_equal c 114 m.0) ∙ ap (λ x. 114 ∷ x ∷ cs) (is_equal e 35 m.1) ∙ ap (λ x. 114 ∷ 35 ∷ x) same, is)
 
 raw_no_quote : (r : List ℕ) → begins_raw_identifier r ≡ true → begins_quote r ≡ false
@@ -238,15 +238,15 @@ stray_kind r some none h =
 delimiter_kind : (k : LexKind) (c : ℕ) (t r : List ℕ) → r ≡ c ∷ t → is_among delimiters c ≡ true → kind_by_form (DelimiterForm c) ≡ k → k ≡ kind_at (lexeme_at r) r
 delimiter_kind k c t r same is e = sym (ap (λ o. kind_at o r) (ap lexeme_at same ∙ front_delimiter c t is) ∙ e)
 
-close_kind : (groups : List OpenGroup) (r : List ℕ) → passes (λ c. is_closer c && not (closes groups c)) r ≡ true → UnmatchedClose ≡ kind_at (lexeme_at r) r
+close_kind : (groups : List OpenGroup) (r : List ℕ) → first_passes (λ c. is_closer c && not (closes groups c)) r ≡ true → UnmatchedClose ≡ kind_at (lexeme_at r) r
 close_kind groups r h =
-    let (c, t, same, is) = first_passes (λ c. is_closer c && not (closes groups c)) r h in
+    let (c, t, same, is) = first_passed (λ c. is_closer c && not (closes groups c)) r h in
     let m = closer_among c (both_true (is_closer c) (not (closes groups c)) is).0 in
     delimiter_kind UnmatchedClose c t r same m.0 (ap (λ b. if b then TooDeep else UnmatchedClose) m.1)
 
-deep_kind : (r : List ℕ) → passes is_opener r ≡ true → TooDeep ≡ kind_at (lexeme_at r) r
+deep_kind : (r : List ℕ) → first_passes is_opener r ≡ true → TooDeep ≡ kind_at (lexeme_at r) r
 deep_kind r h =
-    let (c, t, same, is) = first_passes is_opener r h in
+    let (c, t, same, is) = first_passed is_opener r h in
     delimiter_kind TooDeep c t r same (opener_among c is) (ap (λ b. if b then TooDeep else UnmatchedClose) is)
 
 pub fault_kind_at : (k : LexKind) (groups : List OpenGroup) (r : List ℕ) → FaultAt k groups r → k ≡ kind_at (lexeme_at r) r

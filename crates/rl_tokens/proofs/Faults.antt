@@ -9,9 +9,10 @@ use Rattle.rl_tokens.specs.declared.lex_error.LexKind.{LexKind}
 use Rattle.rl_tokens.specs.declared.lex_error.LexKind.TheVariants.{DocComment, UnclosedComment, UnclosedQuote, Lifetime, RawIdentifier, StrayCharacter, UnmatchedClose, UnclosedGroup, TooDeep, Memory}
 use Rattle.rl_tokens.specs.declared.lex_error.LexError.{LexError}
 use Rattle.rl_tokens.specs.Texts.{begins}
-use Rattle.rl_tokens.specs.Cursors.{Cutting, IsCutting, IsFirstFault}
-use Rattle.rl_tokens.specs.Lexing.{byte_len, Cut, Cuts, open_groups, OpenGroup, fault_place, begins_doc_comment, begins_quote, begins_lifetime, begins_raw_identifier, BeginsNoLexeme, FaultAt, Fault, Refuses}
-use Rattle.rl_tokens.specs.Nests.{fault_kind}
+use Rattle.rl_tokens.specs.Cursors.{CursorState, IsCursorState, IsFirstFault}
+use Rattle.rl_tokens.specs.Texts.{byte_len}
+use Rattle.rl_tokens.specs.Lexing.{LexedToken, LexesUpTo, open_groups, OpenGroup, fault_place, begins_doc_comment, begins_quote, begins_lifetime, begins_raw_identifier, BeginsNoLexeme, FaultAt, Fault, Refuses}
+use Rattle.rl_tokens.specs.Mirrors.TreeBuilders.{fault_kind}
 use Rattle.rl_tokens.proofs.Rests.{behind_length}
 
 -- a text's characters take its bytes
@@ -72,18 +73,18 @@ chars_some rest is some nil =
     absurd (omega (arith, ap length e))
 
 -- What the cursor tells where no lexeme begins what is left.
-pub record Stops (t : Cutting) (e : LexError) : Type 0 where
+pub record Stops (t : CursorState) (e : LexError) : Type 0 where
   pub fault : (groups : List OpenGroup) → FaultAt e.kind groups (chars t.rest)
   pub first : IsFirstFault t e.kind e.at
 
-pub stops_here : (text rest : List ℕ) (e : LexError) (kind : LexKind) → IsCutting text rest → (empty : Bool) → empty ≡ (length rest == 0) → empty ≡ false → BeginsNoLexeme (chars rest) → kind ≡ fault_kind (chars rest) → e ≡ record { kind = kind; at = length text - length rest } → Stops (record { text = text; rest = rest }) e
+pub stops_here : (text rest : List ℕ) (e : LexError) (kind : LexKind) → IsCursorState text rest → (empty : Bool) → empty ≡ (length rest == 0) → empty ≡ false → BeginsNoLexeme (chars rest) → kind ≡ fault_kind (chars rest) → e ≡ record { kind = kind; at = length text - length rest } → Stops (record { text = text; rest = rest }) e
 stops_here text rest e kind is empty empty_is some none kind_is e_is =
-    let t : Cutting = record { text = text; rest = rest } in
+    let t : CursorState = record { text = text; rest = rest } in
     let place : ℕ = length text - length rest in
     let here : place + length rest ≡ length text = omega (arith, behind_length text rest is.behind) in
     let fault : (groups : List OpenGroup) → FaultAt kind groups (chars rest) =
     λ groups. rw kind_is (kind_here groups (chars rest) (chars_some rest is.behind.is_text (sym empty_is ∙ some)) none) in
-    let first : (cuts : List Cut) (groups : List OpenGroup) → Cuts 0 (chars text) cuts (chars rest) → open_groups [] cuts ≡ Some groups → Fault (chars text) kind place =
+    let first : (cuts : List LexedToken) (groups : List OpenGroup) → LexesUpTo 0 (chars text) cuts (chars rest) → open_groups [] cuts ≡ Some groups → Fault (chars text) kind place =
     λ cuts groups are open_now. record {
       cuts = cuts;
       rest = chars rest;

@@ -4,21 +4,21 @@ use Rattle.std.proofs.lemmas.Str.{chars-nil}
 use Rattle.std.specs.Result.{IfOk}
 use Rattle.rl_tokens.specs.declared.token.TokenStream.{TokenStream}
 use Rattle.std.specs.Str.{chars, IsUtf8}
-use Rattle.rl_tokens.specs.declared.nest.Nest.{Nest}
+use Rattle.rl_tokens.specs.declared.nest.TreeBuilder.{TreeBuilder}
 use Rattle.rl_tokens.specs.declared.lex_error.LexKind.{LexKind}
 use Rattle.rl_tokens.specs.declared.lex_error.LexKind.TheVariants.{UnmatchedClose, UnclosedGroup, TooDeep, Memory}
 use Rattle.rl_tokens.specs.declared.lex_error.LexError.{LexError}
-use Rattle.rl_tokens.specs.Lexemes.{LexemeBefore, Lexeme, QuotedLexeme, RawLexeme, CharacterLexeme, BasedLexeme, DecimalLexeme, IdentifierLexeme, DelimiterLexeme, MarkLexeme, lexeme_text, Form, form_of}
-use Rattle.rl_tokens.specs.LexemeAt.{form_view}
+use Rattle.rl_tokens.specs.Lexemes.{LexemeBefore, Lexeme, QuotedLexeme, RawLexeme, CharacterLexeme, BasedLexeme, DecimalLexeme, IdentifierLexeme, DelimiterLexeme, MarkLexeme, lexeme_text, LexemeForm, form_of}
+use Rattle.rl_tokens.specs.Cursors.{form_view}
 use Rattle.rl_tokens.specs.declared.cursor.Lexeme.{Lexeme as Lent}
-use Rattle.rl_tokens.specs.Cursors.{Cutting, TakesNext, BeginsLexeme, IsFirstFault}
+use Rattle.rl_tokens.specs.Cursors.{CursorState, TakesNext, BeginsLexeme, IsFirstFault}
 use Rattle.rl_tokens.specs.Trees.{Tree, stream_view, flat_trees}
-use Rattle.rl_tokens.specs.Lexing.{OpenGroup, Cuts, fault_place, BeginsNoLexeme, FaultAt, Fault, LeavesRestAt, Refuses, Lexes}
-use Rattle.rl_tokens.specs.Nests.{groups_of, flat_nest, EndsInGroup, ClosesWrong, OpensTooDeep, RefusesForm}
+use Rattle.rl_tokens.specs.Lexing.{OpenGroup, LexesUpTo, fault_place, BeginsNoLexeme, FaultAt, Fault, LeavesRestAt, Refuses, Lexes}
+use Rattle.rl_tokens.specs.Mirrors.TreeBuilders.{groups_of, flat_builder, EndsInGroup, ClosesWrong, OpensTooDeep, RefusesForm}
 use Rattle.rl_tokens.proofs.LexLoop.{HasCut}
 use Rattle.rl_tokens.proofs.Faults.{rest_place, fault_refuses}
 
-fault_here : {A : Type 0} (text rest : List ℕ) (file : ℕ) (nest : Nest A) (kind : LexKind) (at place : ℕ) → IsUtf8 text → IsUtf8 rest → HasCut text rest file nest → place + length rest ≡ length text → FaultAt kind (groups_of nest) (chars rest) → at ≡ fault_place kind (groups_of nest) place → Fault (chars text) kind at
+fault_here : {A : Type 0} (text rest : List ℕ) (file : ℕ) (nest : TreeBuilder A) (kind : LexKind) (at place : ℕ) → IsUtf8 text → IsUtf8 rest → HasCut text rest file nest → place + length rest ≡ length text → FaultAt kind (groups_of nest) (chars rest) → at ≡ fault_place kind (groups_of nest) place → Fault (chars text) kind at
 fault_here text rest file nest kind at place is is_rest has here fault at_is = record {
   cuts = has.cuts;
   rest = chars rest;
@@ -31,7 +31,7 @@ fault_here text rest file nest kind at place is is_rest has here fault at_is = r
   at_is = at_is;
 }
 
-pub leaves_here : {A : Type 0} (text rest : List ℕ) (file : ℕ) (nest : Nest A) (place : ℕ) → IsUtf8 text → IsUtf8 rest → HasCut text rest file nest → place + length rest ≡ length text → LeavesRestAt (chars text) place
+pub leaves_here : {A : Type 0} (text rest : List ℕ) (file : ℕ) (nest : TreeBuilder A) (place : ℕ) → IsUtf8 text → IsUtf8 rest → HasCut text rest file nest → place + length rest ≡ length text → LeavesRestAt (chars text) place
 leaves_here text rest file nest place is is_rest has here = record {
   cuts = has.cuts;
   rest = chars rest;
@@ -40,16 +40,16 @@ leaves_here text rest file nest place is is_rest has here = record {
 }
 
 -- all is cut
-pub all_cut : {A : Type 0} (text rest : List ℕ) (file : ℕ) (nest : Nest A) (trees : List Tree) → HasCut text rest file nest → rest ≡ [] → groups_of nest ≡ [] → flat_trees trees ≡ flat_nest nest → Lexes (chars text) file trees
+pub all_cut : {A : Type 0} (text rest : List ℕ) (file : ℕ) (nest : TreeBuilder A) (trees : List Tree) → HasCut text rest file nest → rest ≡ [] → groups_of nest ≡ [] → flat_trees trees ≡ flat_builder nest → Lexes (chars text) file trees
 all_cut text rest file nest trees has ends none flat_is = record {
   cuts = has.cuts;
-  are_cuts = subst (λ (r : List ℕ). Cuts 0 (chars text) has.cuts r) (ap chars ends ∙ chars-nil) has.are_cuts;
+  are_cuts = subst (λ (r : List ℕ). LexesUpTo 0 (chars text) has.cuts r) (ap chars ends ∙ chars-nil) has.are_cuts;
   none_open = has.are_open ∙ ap Some none;
   flat_is = has.flat ∙ sym flat_is;
 }
 
 -- a group is open at the end
-pub ends_open : {A : Type 0} (text rest : List ℕ) (file : ℕ) (nest : Nest A) (e : LexError) → IsUtf8 text → HasCut text rest file nest → rest ≡ [] → EndsInGroup (groups_of nest) e → Refuses (chars text) e.kind e.at
+pub ends_open : {A : Type 0} (text rest : List ℕ) (file : ℕ) (nest : TreeBuilder A) (e : LexError) → IsUtf8 text → HasCut text rest file nest → rest ≡ [] → EndsInGroup (groups_of nest) e → Refuses (chars text) e.kind e.at
 ends_open text rest file nest e is has nothing ends =
     let P : LexKind → Type 0 = λ k. Refuses (chars text) k e.at in
     let u : IsUtf8 rest = has.behind.is_text in
@@ -78,7 +78,7 @@ opens_deep groups (DecimalLexeme d m f x s) after h = absurd h
 opens_deep groups (IdentifierLexeme c more) after h = absurd h
 opens_deep groups (MarkLexeme c) after h = absurd h
 
-refused_lexeme : {A : Type 0} (text rest after : List ℕ) (file : ℕ) (nest : Nest A) (l : Lexeme) (kind : LexKind) (at : ℕ) → IsUtf8 text → HasCut text rest file nest → at + length rest ≡ length text → chars rest ≡ lexeme_text l ++ after → RefusesForm (groups_of nest) (form_of l) kind → Refuses (chars text) kind at
+refused_lexeme : {A : Type 0} (text rest after : List ℕ) (file : ℕ) (nest : TreeBuilder A) (l : Lexeme) (kind : LexKind) (at : ℕ) → IsUtf8 text → HasCut text rest file nest → at + length rest ≡ length text → chars rest ≡ lexeme_text l ++ after → RefusesForm (groups_of nest) (form_of l) kind → Refuses (chars text) kind at
 refused_lexeme text rest after file nest l UnmatchedClose at is has place same h =
     let here : FaultAt UnmatchedClose (groups_of nest) (chars rest) = subst (λ (r : List ℕ). FaultAt UnmatchedClose (groups_of nest) r) (sym same) (closes_wrong (groups_of nest) l after h) in
     fault_here text rest file nest UnmatchedClose at at is has.behind.is_text has place here refl
@@ -88,23 +88,23 @@ refused_lexeme text rest after file nest l TooDeep at is has place same h =
 refused_lexeme text rest after file nest l Memory at is has place same h = leaves_here text rest file nest at is has.behind.is_text has place
 refused_lexeme text rest after file nest l _ at is has place same h = absurd h
 
-pub refused_token : {A : Type 0} (text : List ℕ) (from to : Cutting) (file : ℕ) (nest : Nest A) (l : Lent) (e : LexError) → IsUtf8 text → from.text ≡ text → HasCut text from.rest file nest → TakesNext from l to → e.at ≡ l.lo → RefusesForm (groups_of nest) (form_view l.form) e.kind → Refuses (chars text) e.kind e.at
+pub refused_token : {A : Type 0} (text : List ℕ) (from to : CursorState) (file : ℕ) (nest : TreeBuilder A) (l : Lent) (e : LexError) → IsUtf8 text → from.text ≡ text → HasCut text from.rest file nest → TakesNext from l to → e.at ≡ l.lo → RefusesForm (groups_of nest) (form_view l.form) e.kind → Refuses (chars text) e.kind e.at
 refused_token text from to file nest l e is same has next at_is h =
     refused_lexeme text from.rest next.after file nest next.cut.lexeme e.kind e.at is has (omega (arith, next.place, ap length same, at_is)) next.begins
-    (subst (λ (f : Form). RefusesForm (groups_of nest) f e.kind) (sym next.is_cut.form_is) h)
+    (subst (λ (f : LexemeForm). RefusesForm (groups_of nest) f e.kind) (sym next.is_cut.form_is) h)
 
 -- the cursor stays where no token begins what is left, and tells the fault
-pub fault_told : {A : Type 0} (text : List ℕ) (old new : Cutting) (file : ℕ) (nest : Nest A) (e : LexError) → old.text ≡ text → new ≡ old → HasCut text old.rest file nest → IsFirstFault new e.kind e.at → Refuses (chars text) e.kind e.at
+pub fault_told : {A : Type 0} (text : List ℕ) (old new : CursorState) (file : ℕ) (nest : TreeBuilder A) (e : LexError) → old.text ≡ text → new ≡ old → HasCut text old.rest file nest → IsFirstFault new e.kind e.at → Refuses (chars text) e.kind e.at
 fault_told text old new file nest e same stays has first =
-    let here : IsFirstFault old e.kind e.at = subst (λ (t : Cutting). IsFirstFault t e.kind e.at) stays first in
-    let cuts : Cuts 0 (chars old.text) has.cuts (chars old.rest) = subst (λ (t : List ℕ). Cuts 0 (chars t) has.cuts (chars old.rest)) (sym same) has.are_cuts in
+    let here : IsFirstFault old e.kind e.at = subst (λ (t : CursorState). IsFirstFault t e.kind e.at) stays first in
+    let cuts : LexesUpTo 0 (chars old.text) has.cuts (chars old.rest) = subst (λ (t : List ℕ). LexesUpTo 0 (chars t) has.cuts (chars old.rest)) (sym same) has.are_cuts in
     fault_refuses (chars text) e.kind e.at (subst (λ (t : List ℕ). Fault (chars t) e.kind e.at) same (here has.cuts (groups_of nest) cuts has.are_open))
 
 -- where it tells none, the text has ended
-pub told_end : (old new : Cutting) → new ≡ old → BeginsNoLexeme (chars old.rest) → (new.rest ≡ []) ⊎ BeginsLexeme (chars new.rest) → old.rest ≡ []
-told_end old new stays none (inl nothing) = ap (λ (t : Cutting). t.rest) (sym stays) ∙ nothing
-told_end old new stays none (inr (after, before)) = absurd (none after (subst (λ (t : Cutting). LexemeBefore (chars t.rest) after) stays before))
+pub told_end : (old new : CursorState) → new ≡ old → BeginsNoLexeme (chars old.rest) → (new.rest ≡ []) ⊎ BeginsLexeme (chars new.rest) → old.rest ≡ []
+told_end old new stays none (inl nothing) = ap (λ (t : CursorState). t.rest) (sym stays) ∙ nothing
+told_end old new stays none (inr (after, before)) = absurd (none after (subst (λ (t : CursorState). LexemeBefore (chars t.rest) after) stays before))
 
-pub all_done : {A : Type 0} (text rest : List ℕ) (file : ℕ) (nest : Nest A) (r : Result (TokenStream A) LexError) → HasCut text rest file nest → rest ≡ [] → IfOk r (λ trees. groups_of nest ≡ []) → IfOk r (λ trees. flat_trees (stream_view trees) ≡ flat_nest nest) → IfOk r (λ trees. Lexes (chars text) file (stream_view trees))
+pub all_done : {A : Type 0} (text rest : List ℕ) (file : ℕ) (nest : TreeBuilder A) (r : Result (TokenStream A) LexError) → HasCut text rest file nest → rest ≡ [] → IfOk r (λ trees. groups_of nest ≡ []) → IfOk r (λ trees. flat_trees (stream_view trees) ≡ flat_builder nest) → IfOk r (λ trees. Lexes (chars text) file (stream_view trees))
 all_done text rest file nest (Ok trees) has ends none flat_is = all_cut text rest file nest (stream_view trees) has ends none flat_is
 all_done text rest file nest (Err e) has ends none flat_is = tt

@@ -1,7 +1,8 @@
 -- A text has one list of trees at most, or one first fault, and never both.
 use Rattle.std.proofs.Common.{◌≡◌, ℕ, List, [], refl, sym, ◌∙◌, ap, subst, arith}
-use Rattle.rl_tokens.specs.LexemeAt.{lexeme_at}
-use Rattle.rl_tokens.specs.Lexing.{byte_len, OpenGroup, FaultAt, fault_place, OneList, OneFault, NeverBoth}
+use Rattle.rl_tokens.specs.Mirrors.LexemeAt.{lexeme_at}
+use Rattle.rl_tokens.specs.Texts.{byte_len}
+use Rattle.rl_tokens.specs.Lexing.{OpenGroup, FaultAt, fault_place, OneList, OneFault, NeverBoth}
 use Rattle.rl_tokens.proofs.FlatTrees.{flat_trees_same}
 use Rattle.rl_tokens.proofs.CutLaws.{same_cut}
 use Rattle.rl_tokens.proofs.FaultLaws.{nothing_stuck, fault_stuck, kind_at, fault_kind_at, no_fault}

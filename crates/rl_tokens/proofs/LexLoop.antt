@@ -5,16 +5,16 @@ use Rattle.std.proofs.lemmas.Str.{encode_ascii}
 use Rattle.std.specs.List.{list_all}
 use Rattle.std.specs.Str.{chars, encode_utf8_all}
 use Rattle.unicode_ident.specs.Ident.{is_xid_start, is_xid_continue}
-use Rattle.rl_tokens.specs.Texts.{is_white, is_start, is_continue, xid_ok, IsBehind}
-use Rattle.rl_tokens.specs.Trivia.{Skipped}
+use Rattle.rl_tokens.specs.Texts.{is_white, is_start, is_continue, xid_ok, IsTail}
+use Rattle.rl_tokens.specs.Skipping.{Skipped}
 use Rattle.rl_tokens.specs.Puncts.{is_punct}
-use Rattle.rl_tokens.specs.Lexemes.{Lexeme, QuotedLexeme, RawLexeme, CharacterLexeme, BasedLexeme, DecimalLexeme, IdentifierLexeme, DelimiterLexeme, MarkLexeme, lexeme_text, IsLexeme, Form, form_of, delimiters}
-use Rattle.rl_tokens.specs.LexemeAt.{form_view}
-use Rattle.rl_tokens.specs.declared.nest.Nest.{Nest}
+use Rattle.rl_tokens.specs.Lexemes.{Lexeme, QuotedLexeme, RawLexeme, CharacterLexeme, BasedLexeme, DecimalLexeme, IdentifierLexeme, DelimiterLexeme, MarkLexeme, lexeme_text, IsLexeme, LexemeForm, form_of, delimiters}
+use Rattle.rl_tokens.specs.Cursors.{form_view}
+use Rattle.rl_tokens.specs.declared.nest.TreeBuilder.{TreeBuilder}
 use Rattle.rl_tokens.specs.declared.cursor.Lexeme.{Lexeme as Lent}
-use Rattle.rl_tokens.specs.Lexing.{Cut, Cuts, open_groups, behind_form, flat_form, flat_cut}
-use Rattle.rl_tokens.specs.Cursors.{Cutting, TakesNext}
-use Rattle.rl_tokens.specs.Nests.{groups_of, flat_nest, IsFitting, TakesToken}
+use Rattle.rl_tokens.specs.Lexing.{LexedToken, LexesUpTo, open_groups, behind_form, flat_form, flat_token}
+use Rattle.rl_tokens.specs.Cursors.{CursorState, TakesNext}
+use Rattle.rl_tokens.specs.Mirrors.TreeBuilders.{groups_of, flat_builder, IsFitting, TakesToken}
 use Rattle.rl_tokens.proofs.BehindLemmas.{behind_step}
 use Rattle.rl_tokens.proofs.LexemeRows.{both_true}
 use Rattle.rl_tokens.proofs.LexemeFronts.{low_among}
@@ -22,13 +22,13 @@ use Rattle.rl_tokens.proofs.CutLemmas.{open_more}
 use Rattle.rl_tokens.proofs.CursorLemmas.{flat_lent}
 
 -- The text is cut up to the rest, and the nest holds what was cut.
-pub record HasCut {A : Type 0} (text rest : List ℕ) (file : ℕ) (nest : Nest A) : Type 0 where
-  pub cuts : List Cut
-  pub are_cuts : Cuts 0 (chars text) cuts (chars rest)
+pub record HasCut {A : Type 0} (text rest : List ℕ) (file : ℕ) (nest : TreeBuilder A) : Type 0 where
+  pub cuts : List LexedToken
+  pub are_cuts : LexesUpTo 0 (chars text) cuts (chars rest)
   pub are_open : open_groups [] cuts ≡ Some (groups_of nest)
-  pub flat : map (flat_cut file) cuts ≡ flat_nest nest
+  pub flat : map (flat_token file) cuts ≡ flat_builder nest
   pub file_is : nest.file ≡ file
-  pub behind : IsBehind text rest
+  pub behind : IsTail text rest
 
 -- what the nest asks of a token
 start_continues : (c : ℕ) → is_start c ≡ true → (c == 95 || is_xid_start c) ≡ true
@@ -54,18 +54,18 @@ fits (DelimiterLexeme c) after token lo hi is e f n =
 fits (MarkLexeme c) after token lo hi (inl is) e f n = ap (λ b. b || c == 47) is
 fits (MarkLexeme c) after token lo hi (inr (is, _)) e f n = ap is_punct is
 
-pub token_fits : {old new : Cutting} {l : Lent} → TakesNext old l new → IsFitting (form_view l.form) l.text.now l.lo l.hi
+pub token_fits : {old new : CursorState} {l : Lent} → TakesNext old l new → IsFitting (form_view l.form) l.text.now l.lo l.hi
 token_fits {l = l} t =
     let w = t.cut in
     let len : l.lo + length l.text.now ≡ l.hi = omega (arith, t.is_cut.lo_is, t.is_cut.hi_is, ap length t.is_cut.bytes_are) in
-    subst (λ (f : Form). IsFitting f l.text.now l.lo l.hi) t.is_cut.form_is
+    subst (λ (f : LexemeForm). IsFitting f l.text.now l.lo l.hi) t.is_cut.form_is
     (fits w.lexeme t.after l.text.now l.lo l.hi t.is_lexeme (sym t.is_cut.chars_are) t.is_cut.bytes_are len)
 
 -- one turn
-pub has_more : {A : Type 0} (text : List ℕ) (from to : Cutting) (file : ℕ) (old new : Nest A) (l : Lent) → from.text ≡ text → HasCut text from.rest file old → TakesNext from l to → TakesToken old new (form_view l.form) l.text.now l.lo l.hi → HasCut text to.rest file new
+pub has_more : {A : Type 0} (text : List ℕ) (from to : CursorState) (file : ℕ) (old new : TreeBuilder A) (l : Lent) → from.text ≡ text → HasCut text from.rest file old → TakesNext from l to → TakesToken old new (form_view l.form) l.text.now l.lo l.hi → HasCut text to.rest file new
 has_more text from to file old new l same has next takes =
     let w = next.cut in
-    let Goes : List ℕ → Type 0 = λ t. (done : List Cut) → Cuts 0 (chars t) done (chars from.rest) → Cuts 0 (chars t) (done ++ w ∷ []) (chars to.rest) in
+    let Goes : List ℕ → Type 0 = λ t. (done : List LexedToken) → LexesUpTo 0 (chars t) done (chars from.rest) → LexesUpTo 0 (chars t) (done ++ w ∷ []) (chars to.rest) in
     let goes_on : Goes text = subst Goes same next.goes_on in
     record {
       cuts = has.cuts ++ w ∷ [];
@@ -76,16 +76,16 @@ has_more text from to file old new l same has next takes =
           ∙ ap (λ n. behind_form (groups_of old) (form_view l.form) n) next.is_cut.lo_is
           ∙ takes.groups;
       flat =
-          map-append (flat_cut file) has.cuts (w ∷ [])
-          ∙ ap (λ z. z ++ flat_cut file w ∷ []) has.flat
-          ∙ ap (λ z. flat_nest old ++ z ∷ []) (flat_lent file l w next.is_cut ∙ ap (λ n. flat_form (form_view l.form) l.text.now (record { file = n; lo = l.lo; hi = l.hi })) (sym has.file_is))
+          map-append (flat_token file) has.cuts (w ∷ [])
+          ∙ ap (λ z. z ++ flat_token file w ∷ []) has.flat
+          ∙ ap (λ z. flat_builder old ++ z ∷ []) (flat_lent file l w next.is_cut ∙ ap (λ n. flat_form (form_view l.form) l.text.now (record { file = n; lo = l.lo; hi = l.hi })) (sym has.file_is))
           ∙ sym takes.flat;
       file_is = takes.file ∙ has.file_is;
       behind = behind_step text from.rest to.rest has.behind next.behind;
     }
 
 -- before the first turn
-pub has_none : {A : Type 0} (text rest : List ℕ) (file : ℕ) (nest : Nest A) → Skipped (chars text) (chars rest) → IsBehind text rest → groups_of nest ≡ [] → flat_nest nest ≡ [] → nest.file ≡ file → HasCut text rest file nest
+pub has_none : {A : Type 0} (text rest : List ℕ) (file : ℕ) (nest : TreeBuilder A) → Skipped (chars text) (chars rest) → IsTail text rest → groups_of nest ≡ [] → flat_builder nest ≡ [] → nest.file ≡ file → HasCut text rest file nest
 has_none text rest file nest skips behind groups flat_is file_is = record {
   cuts = [];
   are_cuts = skips;

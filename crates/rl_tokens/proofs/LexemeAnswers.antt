@@ -4,8 +4,9 @@ use Rattle.std.specs.Option.{IfSome, IfNone, option_map}
 use Rattle.std.specs.Str.{chars}
 use Rattle.std.proofs.lemmas.Option.{none-some}
 use Rattle.rl_tokens.specs.declared.lexeme.Form.{Form as FoundForm}
-use Rattle.rl_tokens.specs.Lexemes.{Form, form_of, LexemeBefore}
-use Rattle.rl_tokens.specs.LexemeAt.{form_view, lexeme_at, FormBefore}
+use Rattle.rl_tokens.specs.Lexemes.{LexemeForm, form_of, LexemeBefore}
+use Rattle.rl_tokens.specs.Cursors.{form_view}
+use Rattle.rl_tokens.specs.Mirrors.LexemeAt.{lexeme_at, FormBefore}
 use Rattle.rl_tokens.proofs.LexemeFronts.{lexeme_at-past}
 use Rattle.rl_tokens.proofs.LexemeFound.{lexeme_at-found}
 
@@ -13,10 +14,10 @@ abbrev Answer : Type 0
 Answer = Option (FoundForm × Bor (List ℕ))
 
 -- the form and the rest of an answer, by characters
-abbrev seen : FoundForm × Bor (List ℕ) → Form × List ℕ
+abbrev seen : FoundForm × Bor (List ℕ) → LexemeForm × List ℕ
 seen p = (form_view p.0, chars p.1.now)
 
-pub form_before : (t : List ℕ) (p : Form × List ℕ) → lexeme_at t ≡ Some p → FormBefore t p.0 p.1
+pub form_before : (t : List ℕ) (p : LexemeForm × List ℕ) → lexeme_at t ≡ Some p → FormBefore t p.0 p.1
 form_before t p h = let (l, is, same, form) = lexeme_at-found t p h in record { lexeme = l; is_lexeme = is; text_is = same; form_is = form }
 
 pub lexeme_found : (t : List ℕ) (r : Answer) → option_map seen r ≡ lexeme_at t → IfSome r (λ p. FormBefore t (form_view p.0) (chars p.1.now))

@@ -3,13 +3,13 @@ use Rattle.std.proofs.Common.{◌≡◌, ℕ, suc, zero, ◌<◌, inl, inr, Bool
 use Rattle.std.specs.List.{list_all}
 use Rattle.std.specs.Prelude.{if◌then◌else◌}
 use Rattle.std.specs.Option.{option_map}
-use Rattle.rl_tokens.specs.Texts.{is_start, is_continue, is_underscore, is_among, passes}
+use Rattle.rl_tokens.specs.Texts.{is_start, is_continue, is_underscore, is_among, first_passes}
 use Rattle.std.specs.Char.{is_ascii_digit}
-use Rattle.rl_tokens.specs.Lexemes.{is_numeral_part, is_hash, is_base_letter, delimiters, marks, after_run, begins_hashed_quote, begins_hashes, begins_exponent, begins_dot, after_sign, BodyPart, PlainPart, EscapedPart, body_text, IsBody, Within, OneCharacter, EscapedCharacter, within_text, IsWithin, LexedFraction, NoLexedFraction, LexedDot, lexed_fraction_text, LexedSign, NoLexedSign, LexedPlus, LexedMinus, lexed_sign_text, LexedExponent, NoLexedExponent, LexedPower, lexed_exponent_text, IsRow, IsLexedSuffix, IsRawBody, IsLexedFraction, IsLexedExponent, begins_otherwise, LiteralPrefix, NoPrefix, BytePrefix, CPrefix, prefix_text, Lexeme, QuotedLexeme, RawLexeme, CharacterLexeme, BasedLexeme, DecimalLexeme, IdentifierLexeme, DelimiterLexeme, MarkLexeme, lexeme_text, IsLexeme, Form, LiteralForm, IdentifierForm, DelimiterForm, MarkForm, form_of}
+use Rattle.rl_tokens.specs.Lexemes.{is_numeral_part, is_hash, is_base_letter, delimiters, marks, after_run, begins_hashed_quote, begins_hashes, begins_exponent, begins_dot, after_sign, BodyPart, PlainPart, EscapedPart, body_text, IsBody, CharacterBody, OneCharacter, EscapedCharacter, character_body_text, IsCharacterBody, LexedFraction, NoLexedFraction, LexedDot, lexed_fraction_text, LexedSign, NoLexedSign, LexedPlus, LexedMinus, lexed_sign_text, LexedExponent, NoLexedExponent, LexedPower, lexed_exponent_text, IsRow, IsLexedSuffix, IsRawBody, IsLexedFraction, IsLexedExponent, begins_otherwise, LiteralPrefix, NoPrefix, BytePrefix, CPrefix, prefix_text, Lexeme, QuotedLexeme, RawLexeme, CharacterLexeme, BasedLexeme, DecimalLexeme, IdentifierLexeme, DelimiterLexeme, MarkLexeme, lexeme_text, IsLexeme, LexemeForm, LiteralForm, IdentifierForm, DelimiterForm, MarkForm, form_of}
 use Rattle.rl_tokens.proofs.Comments.{chosen, chosen3, same_Some}
 use Rattle.rl_tokens.proofs.Pieces.{is_equal}
 use Rattle.rl_tokens.specs.Puncts.{is_punct}
-use Rattle.rl_tokens.specs.LexemeAt.{after_suffix, after_quote, hashes, after_raw, after_apostrophe, after_single, after_fraction, after_exponent, after_decimal, HeadClass, LetterBHead, LetterCHead, LetterRHead, OtherLetterHead, QuoteHead, ApostropheHead, DigitHead, SlashHead, StrayHead, start_class, other_class, head_class, quoted_at, raw_at, single_at, word_at, by_class, lexeme_at, literal_at, DelimiterHead, MarkHead, after_digit}
+use Rattle.rl_tokens.specs.Mirrors.LexemeAt.{after_suffix, after_quote, hashes, after_raw, after_apostrophe, after_single, after_lexed_fraction, after_lexed_exponent, after_decimal, HeadClass, LetterBHead, LetterCHead, LetterRHead, OtherLetterHead, QuoteHead, ApostropheHead, DigitHead, SlashHead, StrayHead, start_class, other_class, head_class, quoted_at, raw_at, single_at, word_at, by_class, lexeme_at, literal_at, DelimiterHead, MarkHead, after_digit}
 use Rattle.rl_tokens.proofs.LexemeRows.{both_true, hashes_inside, power_text}
 use Rattle.rl_tokens.proofs.LexemeFronts.{decimal_text, raw_text}
 use Rattle.std.proofs.lemmas.Option.{none-some}
@@ -129,7 +129,7 @@ apostrophe_found (c ∷ t) r h =
     ]
 
 abbrev Inside : List ℕ → List ℕ → Type 0
-Inside t r = (inside : Within) × IsWithin inside × (t ≡ within_text inside ++ 39 ∷ r)
+Inside t r = (inside : CharacterBody) × IsCharacterBody inside × (t ≡ character_body_text inside ++ 39 ∷ r)
 
 inside_escape : (c e : ℕ) (t r : List ℕ) → (c == 92) ≡ true → More t r → Inside (c ∷ e ∷ t) r
 inside_escape c e t r h (more, is, same) = (EscapedCharacter e more, is, (let q : c ≡ 92 = is_equal c 92 h in cc))
@@ -153,7 +153,7 @@ Fractioned t r = (f : LexedFraction) × IsLexedFraction f r × (t ≡ lexed_frac
 
 dot_split : (t : List ℕ) → begins_dot t ≡ true → t ≡ 46 ∷ drop 1 t
 dot_split [] h = absurd (cc)
-dot_split (c ∷ t) h = ap (λ x. x ∷ t) (is_equal c 46 (both_true (c == 46) (not (passes (λ d. d == 46 || is_start d) t)) h).0)
+dot_split (c ∷ t) h = ap (λ x. x ∷ t) (is_equal c 46 (both_true (c == 46) (not (first_passes (λ d. d == 46 || is_start d) t)) h).0)
 
 fraction_step : (t : List ℕ) (b : Bool) → begins_dot t ≡ b → Fractioned t (cond b (after_run is_numeral_part (drop 1 t)) t)
 fraction_step t false h = (NoLexedFraction, h, refl)
@@ -162,7 +162,7 @@ fraction_step t true h =
     let e : t ≡ 46 ∷ (digits ++ after_run is_numeral_part (drop 1 t)) = dot_split t h ∙ ap (λ s. 46 ∷ s) same in
     (LexedDot digits, (ap begins_dot (sym e) ∙ h, row), e)
 
-pub fraction_found : (t : List ℕ) → Fractioned t (after_fraction t)
+pub fraction_found : (t : List ℕ) → Fractioned t (after_lexed_fraction t)
 fraction_found t = fraction_step t (begins_dot t) refl
 
 underscores_found : (t : List ℕ) → (n : ℕ) × (t ≡ replicate n 95 ++ after_run is_underscore t)
@@ -182,7 +182,7 @@ sign_found (c ∷ t) = go (c == 43) (c == 45) refl refl
     go false true h k = (LexedMinus, ap (λ x. x ∷ t) (is_equal c 45 k))
     go false false h k = (NoLexedSign, refl)
 
-passes_split : (test : ℕ → Bool) (t : List ℕ) → passes test t ≡ true → (d : ℕ) × (u : List ℕ) × (t ≡ d ∷ u) × (test d ≡ true)
+passes_split : (test : ℕ → Bool) (t : List ℕ) → first_passes test t ≡ true → (d : ℕ) × (u : List ℕ) × (t ≡ d ∷ u) × (test d ≡ true)
 passes_split test [] h = absurd (cc)
 passes_split test (d ∷ t) h = (d, t, refl, h)
 
@@ -193,7 +193,7 @@ part_run (suc n) d u is = part_run n d u is
 abbrev Powered : List ℕ → List ℕ → Type 0
 Powered t r = (e : LexedExponent) × IsLexedExponent e r × (t ≡ lexed_exponent_text e ++ r)
 
-power_found : (c : ℕ) (t : List ℕ) → (c == 101 || c == 69) ≡ true → passes is_ascii_digit (after_run is_underscore (after_sign t)) ≡ true → Powered (c ∷ t) (after_run is_numeral_part (after_sign t))
+power_found : (c : ℕ) (t : List ℕ) → (c == 101 || c == 69) ≡ true → first_passes is_ascii_digit (after_run is_underscore (after_sign t)) ≡ true → Powered (c ∷ t) (after_run is_numeral_part (after_sign t))
 power_found c t letter digit =
     let (s, t_is) = sign_found t in
     let (n, v_is) = underscores_found (after_sign t) in
@@ -211,38 +211,38 @@ exponent_step : (t : List ℕ) (b : Bool) → begins_exponent t ≡ b → Powere
 exponent_step t false h = (NoLexedExponent, h, refl)
 exponent_step [] true h = absurd (cc)
 exponent_step (c ∷ t) true h =
-    let k : ((c == 101 || c == 69) ≡ true) × (passes is_ascii_digit (after_run is_underscore (after_sign t)) ≡ true) = both_true (c == 101 || c == 69) (passes is_ascii_digit (after_run is_underscore (after_sign t))) h in
+    let k : ((c == 101 || c == 69) ≡ true) × (first_passes is_ascii_digit (after_run is_underscore (after_sign t)) ≡ true) = both_true (c == 101 || c == 69) (first_passes is_ascii_digit (after_run is_underscore (after_sign t))) h in
     power_found c t k.0 k.1
 
-pub exponent_found : (t : List ℕ) → Powered t (after_exponent t)
+pub exponent_found : (t : List ℕ) → Powered t (after_lexed_exponent t)
 exponent_found t = exponent_step t (begins_exponent t) refl
 
 -- A lexeme of this form at the front, and the rest.
-abbrev pub Found : List ℕ → Form × List ℕ → Type 0
+abbrev pub Found : List ℕ → LexemeForm × List ℕ → Type 0
 Found t p = (l : Lexeme) × IsLexeme l p.1 × (t ≡ lexeme_text l ++ p.1) × (form_of l ≡ p.0)
 
 -- A literal at the front.
 abbrev FoundLiteral : List ℕ → List ℕ → Type 0
 FoundLiteral t r = Found t (LiteralForm, r)
 
-literal_from : (t : List ℕ) (o : Option (List ℕ)) (p : Form × List ℕ) → literal_at o ≡ Some p → ((r : List ℕ) → o ≡ Some r → FoundLiteral t r) → Found t p
+literal_from : (t : List ℕ) (o : Option (List ℕ)) (p : LexemeForm × List ℕ) → literal_at o ≡ Some p → ((r : List ℕ) → o ≡ Some r → FoundLiteral t r) → Found t p
 literal_from t o p h found =
     let (m, m_is, same) = mapped (λ r. (LiteralForm, r)) o p h in
-    subst (λ (x : Form × List ℕ). Found t x) same (found m m_is)
+    subst (λ (x : LexemeForm × List ℕ). Found t x) same (found m m_is)
 
-decimal_found : (d : ℕ) (t : List ℕ) → is_ascii_digit d ≡ true → (d == 48 && passes is_base_letter t) ≡ false → FoundLiteral (d ∷ t) (after_decimal t)
+decimal_found : (d : ℕ) (t : List ℕ) → is_ascii_digit d ≡ true → (d == 48 && first_passes is_base_letter t) ≡ false → FoundLiteral (d ∷ t) (after_decimal t)
 decimal_found d t is other =
     let (more, row, t_is) = run_found is_numeral_part t in
     let (f, fraction, a_is) = fraction_found (after_run is_numeral_part t) in
-    let (e, exponent, b_is) = exponent_found (after_fraction (after_run is_numeral_part t)) in
-    let (x, suffix, c_is) = suffix_found (after_exponent (after_fraction (after_run is_numeral_part t))) in
-    let b : after_fraction (after_run is_numeral_part t) ≡ lexed_exponent_text e ++ (x ++ after_decimal t) = b_is ∙ ap (λ s. lexed_exponent_text e ++ s) c_is in
+    let (e, exponent, b_is) = exponent_found (after_lexed_fraction (after_run is_numeral_part t)) in
+    let (x, suffix, c_is) = suffix_found (after_lexed_exponent (after_lexed_fraction (after_run is_numeral_part t))) in
+    let b : after_lexed_fraction (after_run is_numeral_part t) ≡ lexed_exponent_text e ++ (x ++ after_decimal t) = b_is ∙ ap (λ s. lexed_exponent_text e ++ s) c_is in
     let a : after_run is_numeral_part t ≡ lexed_fraction_text f ++ (lexed_exponent_text e ++ (x ++ after_decimal t)) = a_is ∙ ap (λ s. lexed_fraction_text f ++ s) b in
     let whole : t ≡ more ++ (lexed_fraction_text f ++ (lexed_exponent_text e ++ (x ++ after_decimal t))) = t_is ∙ ap (λ s. more ++ s) a in (
       DecimalLexeme d more f e x,
       (
         is,
-        ap (λ s. d == 48 && passes is_base_letter s) (sym whole) ∙ other,
+        ap (λ s. d == 48 && first_passes is_base_letter s) (sym whole) ∙ other,
         subst (λ (s : List ℕ). IsRow is_numeral_part more s) a row,
         subst (λ (s : List ℕ). IsLexedFraction f s) b fraction,
         subst (λ (s : List ℕ). IsLexedExponent e s) c_is exponent,
@@ -294,7 +294,7 @@ head_fact c true h = start_fact c h (c == 98) (c == 99) (c == 114) refl refl ref
 head_fact c false h = other_fact c (is_among delimiters c) (c == 47) (is_punct c) (is_ascii_digit c) (c == 34) (c == 39) refl refl refl refl refl refl
 
 -- Each form.
-at_head : (c k : ℕ) (t : List ℕ) (p : Form × List ℕ) → c ≡ k → Found (k ∷ t) p → Found (c ∷ t) p
+at_head : (c k : ℕ) (t : List ℕ) (p : LexemeForm × List ℕ) → c ≡ k → Found (k ∷ t) p → Found (c ∷ t) p
 at_head c k t p h (l, is, same, form) = (l, is, ap (λ x. x ∷ t) h ∙ same, form)
 
 quoted_found : (p : LiteralPrefix) (t r : List ℕ) → quoted_at t ≡ Some r → FoundLiteral (prefix_text p ++ 34 ∷ t) r
@@ -340,20 +340,20 @@ character_found b t r h =
     let e : m ≡ x ++ r = x_is ∙ ap (λ s. x ++ s) r_is in (
       CharacterLexeme b inside x,
       (is, subst (λ (s : List ℕ). IsLexedSuffix x s) r_is suffix),
-      ap (λ s. (if b then 98 ∷ [] else []) ++ 39 ∷ s) (t_is ∙ ap (λ s. within_text inside ++ 39 ∷ s) e) ∙ character_text b inside x r,
+      ap (λ s. (if b then 98 ∷ [] else []) ++ 39 ∷ s) (t_is ∙ ap (λ s. character_body_text inside ++ 39 ∷ s) e) ∙ character_text b inside x r,
       refl,
     )
   where
-    character_text : (b : Bool) (inside : Within) (x r : List ℕ) → (if b then 98 ∷ [] else []) ++ 39 ∷ (within_text inside ++ 39 ∷ (x ++ r)) ≡ lexeme_text (CharacterLexeme b inside x) ++ r
-    character_text true inside x r = ap (λ s. 98 ∷ 39 ∷ s) (sym (append_assoc (within_text inside) (39 ∷ x) r))
-    character_text false inside x r = ap (λ s. 39 ∷ s) (sym (append_assoc (within_text inside) (39 ∷ x) r))
+    character_text : (b : Bool) (inside : CharacterBody) (x r : List ℕ) → (if b then 98 ∷ [] else []) ++ 39 ∷ (character_body_text inside ++ 39 ∷ (x ++ r)) ≡ lexeme_text (CharacterLexeme b inside x) ++ r
+    character_text true inside x r = ap (λ s. 98 ∷ 39 ∷ s) (sym (append_assoc (character_body_text inside) (39 ∷ x) r))
+    character_text false inside x r = ap (λ s. 39 ∷ s) (sym (append_assoc (character_body_text inside) (39 ∷ x) r))
 
-word_found : (c : ℕ) (t : List ℕ) (p : Form × List ℕ) → is_start c ≡ true → begins_otherwise (c ∷ t) ≡ false → word_at t ≡ Some p → Found (c ∷ t) p
+word_found : (c : ℕ) (t : List ℕ) (p : LexemeForm × List ℕ) → is_start c ≡ true → begins_otherwise (c ∷ t) ≡ false → word_at t ≡ Some p → Found (c ∷ t) p
 word_found c t p is other h =
     let (more, row, t_is) = run_found is_continue t in
     let here : Found (c ∷ t) (IdentifierForm, after_run is_continue t) =
     (IdentifierLexeme c more, (is, row, ap (λ s. begins_otherwise (c ∷ s)) (sym t_is) ∙ other), ap (λ s. c ∷ s) t_is, refl) in
-    subst (λ (x : Form × List ℕ). Found (c ∷ t) x) (same_Some (IdentifierForm, after_run is_continue t) p h) here
+    subst (λ (x : LexemeForm × List ℕ). Found (c ∷ t) x) (same_Some (IdentifierForm, after_run is_continue t) p h) here
 
 prefixed : (k : ℕ) (t : List ℕ) → slice_index t 0 ≡ k → 0 < k → t ≡ k ∷ drop 1 t
 prefixed k [] h l = absurd (omega arith)
@@ -366,17 +366,17 @@ none2 : (p q : Bool) → p ≡ false → q ≡ false → (p || q) ≡ false
 none2 p q a b = ap (λ x. x || q) a ∙ b
 
 -- a literal whose prefix is one character, behind which the text goes on with k
-behind_prefix : (c k : ℕ) (t : List ℕ) (p : Form × List ℕ) → slice_index t 0 ≡ k → 0 < k → Found (c ∷ k ∷ drop 1 t) p → Found (c ∷ t) p
+behind_prefix : (c k : ℕ) (t : List ℕ) (p : LexemeForm × List ℕ) → slice_index t 0 ≡ k → 0 < k → Found (c ∷ k ∷ drop 1 t) p → Found (c ∷ t) p
 behind_prefix c k t p e l found = subst (λ (s : List ℕ). Found (c ∷ s) p) (sym (prefixed k t e l)) found
 
-raw_behind : (c : ℕ) (prefix : LiteralPrefix) (t : List ℕ) (p : Form × List ℕ) → prefix_text prefix ≡ c ∷ [] → (slice_index t 0 == 114 && begins_hashed_quote (drop 1 t)) ≡ true → literal_at (raw_at (drop 1 t)) ≡ Some p → Found (c ∷ t) p
+raw_behind : (c : ℕ) (prefix : LiteralPrefix) (t : List ℕ) (p : LexemeForm × List ℕ) → prefix_text prefix ≡ c ∷ [] → (slice_index t 0 == 114 && begins_hashed_quote (drop 1 t)) ≡ true → literal_at (raw_at (drop 1 t)) ≡ Some p → Found (c ∷ t) p
 raw_behind c prefix t p e h x =
     let k : ((slice_index t 0 == 114) ≡ true) × (begins_hashed_quote (drop 1 t) ≡ true) = both_true (slice_index t 0 == 114) (begins_hashed_quote (drop 1 t)) h in
     behind_prefix c 114 t p (is_equal (slice_index t 0) 114 k.0) (omega arith)
     (subst (λ (s : List ℕ). Found (s ++ 114 ∷ drop 1 t) p) e
     (literal_from (prefix_text prefix ++ 114 ∷ drop 1 t) (raw_at (drop 1 t)) p x (λ r y. raw_all prefix (drop 1 t) r k.1 y)))
 
-from_b : (t : List ℕ) (p : Form × List ℕ) → is_start 98 ≡ true → by_class LetterBHead 98 t ≡ Some p → Found (98 ∷ t) p
+from_b : (t : List ℕ) (p : LexemeForm × List ℕ) → is_start 98 ≡ true → by_class LetterBHead 98 t ≡ Some p → Found (98 ∷ t) p
 from_b t p is h =
     elim (chosen3 (slice_index t 0 == 34) (slice_index t 0 == 39) (literal_at (quoted_at (drop 1 t))) (literal_at (single_at (drop 1 t))) (cond (slice_index t 0 == 114 && begins_hashed_quote (drop 1 t)) (literal_at (raw_at (drop 1 t))) (word_at t)) (Some p) h) [
       | inl (a, x) ↦ behind_prefix 98 34 t p (is_equal (slice_index t 0) 34 a) (omega arith) (literal_from (98 ∷ 34 ∷ drop 1 t) (quoted_at (drop 1 t)) p x (λ r y. quoted_found BytePrefix (drop 1 t) r y))
@@ -387,7 +387,7 @@ from_b t p is h =
       ]
     ]
 
-from_c : (t : List ℕ) (p : Form × List ℕ) → is_start 99 ≡ true → by_class LetterCHead 99 t ≡ Some p → Found (99 ∷ t) p
+from_c : (t : List ℕ) (p : LexemeForm × List ℕ) → is_start 99 ≡ true → by_class LetterCHead 99 t ≡ Some p → Found (99 ∷ t) p
 from_c t p is h =
     elim (chosen3 (slice_index t 0 == 34) (slice_index t 0 == 114 && begins_hashed_quote (drop 1 t)) (literal_at (quoted_at (drop 1 t))) (literal_at (raw_at (drop 1 t))) (word_at t) (Some p) h) [
       | inl (a, x) ↦ behind_prefix 99 34 t p (is_equal (slice_index t 0) 34 a) (omega arith) (literal_from (99 ∷ 34 ∷ drop 1 t) (quoted_at (drop 1 t)) p x (λ r y. quoted_found CPrefix (drop 1 t) r y))
@@ -395,48 +395,48 @@ from_c t p is h =
       | inr (inr (a, d, y)) ↦ word_found 99 t p is (none2 (slice_index t 0 == 34 || (slice_index t 0 == 114 && begins_hashed_quote (drop 1 t))) false (none2 (slice_index t 0 == 34) (slice_index t 0 == 114 && begins_hashed_quote (drop 1 t)) a d) refl) y
     ]
 
-from_r : (t : List ℕ) (p : Form × List ℕ) → is_start 114 ≡ true → by_class LetterRHead 114 t ≡ Some p → Found (114 ∷ t) p
+from_r : (t : List ℕ) (p : LexemeForm × List ℕ) → is_start 114 ≡ true → by_class LetterRHead 114 t ≡ Some p → Found (114 ∷ t) p
 from_r t p is h =
-    elim (chosen3 (begins_hashed_quote t) (slice_index t 0 == 35 && passes is_start (drop 1 t)) (literal_at (raw_at t)) None (word_at t) (Some p) h) [
+    elim (chosen3 (begins_hashed_quote t) (slice_index t 0 == 35 && first_passes is_start (drop 1 t)) (literal_at (raw_at t)) None (word_at t) (Some p) h) [
       | inl (a, x) ↦ literal_from (114 ∷ t) (raw_at t) p x (λ r y. raw_all NoPrefix t r a y)
       | inr (inl (_, d, y)) ↦ absurd (none-some p y)
-      | inr (inr (a, d, y)) ↦ word_found 114 t p is (none2 (begins_hashed_quote t) (slice_index t 0 == 35 && passes is_start (drop 1 t)) a d) y
+      | inr (inr (a, d, y)) ↦ word_found 114 t p is (none2 (begins_hashed_quote t) (slice_index t 0 == 35 && first_passes is_start (drop 1 t)) a d) y
     ]
 
 letter_otherwise : (c : ℕ) (t : List ℕ) → (c == 98) ≡ false → (c == 99) ≡ false → (c == 114) ≡ false → begins_otherwise (c ∷ t) ≡ false
-letter_otherwise c t p q r = none3 (c == 98 && (slice_index t 0 == 34 || (slice_index t 0 == 39 || (slice_index t 0 == 114 && begins_hashed_quote (drop 1 t))))) (c == 99 && (slice_index t 0 == 34 || (slice_index t 0 == 114 && begins_hashed_quote (drop 1 t)))) (c == 114 && (begins_hashed_quote t || (slice_index t 0 == 35 && passes is_start (drop 1 t)))) (ap (λ b. b && (slice_index t 0 == 34 || (slice_index t 0 == 39 || (slice_index t 0 == 114 && begins_hashed_quote (drop 1 t))))) p) (ap (λ b. b && (slice_index t 0 == 34 || (slice_index t 0 == 114 && begins_hashed_quote (drop 1 t)))) q) (ap (λ b. b && (begins_hashed_quote t || (slice_index t 0 == 35 && passes is_start (drop 1 t)))) r)
+letter_otherwise c t p q r = none3 (c == 98 && (slice_index t 0 == 34 || (slice_index t 0 == 39 || (slice_index t 0 == 114 && begins_hashed_quote (drop 1 t))))) (c == 99 && (slice_index t 0 == 34 || (slice_index t 0 == 114 && begins_hashed_quote (drop 1 t)))) (c == 114 && (begins_hashed_quote t || (slice_index t 0 == 35 && first_passes is_start (drop 1 t)))) (ap (λ b. b && (slice_index t 0 == 34 || (slice_index t 0 == 39 || (slice_index t 0 == 114 && begins_hashed_quote (drop 1 t))))) p) (ap (λ b. b && (slice_index t 0 == 34 || (slice_index t 0 == 114 && begins_hashed_quote (drop 1 t)))) q) (ap (λ b. b && (begins_hashed_quote t || (slice_index t 0 == 35 && first_passes is_start (drop 1 t)))) r)
 
-digit_found : (c : ℕ) (t : List ℕ) (b : Bool) → is_ascii_digit c ≡ true → (c == 48 && passes is_base_letter t) ≡ b → FoundLiteral (c ∷ t) (cond b (after_run is_continue (drop 1 t)) (after_decimal t))
+digit_found : (c : ℕ) (t : List ℕ) (b : Bool) → is_ascii_digit c ≡ true → (c == 48 && first_passes is_base_letter t) ≡ b → FoundLiteral (c ∷ t) (cond b (after_run is_continue (drop 1 t)) (after_decimal t))
 digit_found c t false is h = decimal_found c t is h
-digit_found c t true is h = based_found t (both_true (c == 48) (passes is_base_letter t) h).1 (is_equal c 48 (both_true (c == 48) (passes is_base_letter t) h).0)
+digit_found c t true is h = based_found t (both_true (c == 48) (first_passes is_base_letter t) h).1 (is_equal c 48 (both_true (c == 48) (first_passes is_base_letter t) h).0)
   where
-    based_found : (t : List ℕ) → passes is_base_letter t ≡ true → c ≡ 48 → FoundLiteral (c ∷ t) (after_run is_continue (drop 1 t))
+    based_found : (t : List ℕ) → first_passes is_base_letter t ≡ true → c ≡ 48 → FoundLiteral (c ∷ t) (after_run is_continue (drop 1 t))
     based_found [] a zero_is = absurd (cc)
     based_found (letter ∷ t) a zero_is =
         let (digits, row, t_is) = run_found is_continue t in
         (BasedLexeme letter digits, (a, row), ap (λ x. x ∷ letter ∷ t) zero_is ∙ ap (λ s. 48 ∷ letter ∷ s) t_is, refl)
 
-slash_found : (t : List ℕ) (b : Bool) (p : Form × List ℕ) → passes (λ d. d == 47 || d == 42) t ≡ b → cond b None (Some (MarkForm 47, t)) ≡ Some p → Found (47 ∷ t) p
+slash_found : (t : List ℕ) (b : Bool) (p : LexemeForm × List ℕ) → first_passes (λ d. d == 47 || d == 42) t ≡ b → cond b None (Some (MarkForm 47, t)) ≡ Some p → Found (47 ∷ t) p
 slash_found t true p h e = absurd (none-some p e)
-slash_found t false p h e = subst (λ (x : Form × List ℕ). Found (47 ∷ t) x) (same_Some (MarkForm 47, t) p e) (MarkLexeme 47, inr (refl, h), refl, refl)
+slash_found t false p h e = subst (λ (x : LexemeForm × List ℕ). Found (47 ∷ t) x) (same_Some (MarkForm 47, t) p e) (MarkLexeme 47, inr (refl, h), refl, refl)
 
-found_at : (t : List ℕ) (q p : Form × List ℕ) → Some q ≡ Some p → Found t q → Found t p
-found_at t q p e found = subst (λ (x : Form × List ℕ). Found t x) (same_Some q p e) found
+found_at : (t : List ℕ) (q p : LexemeForm × List ℕ) → Some q ≡ Some p → Found t q → Found t p
+found_at t q p e found = subst (λ (x : LexemeForm × List ℕ). Found t x) (same_Some q p e) found
 
-by_head : (k : HeadClass) (c : ℕ) (t : List ℕ) (p : Form × List ℕ) → Fact k c → by_class k c t ≡ Some p → Found (c ∷ t) p
+by_head : (k : HeadClass) (c : ℕ) (t : List ℕ) (p : LexemeForm × List ℕ) → Fact k c → by_class k c t ≡ Some p → Found (c ∷ t) p
 by_head LetterBHead c t p (is, e) h = at_head c 98 t p e (from_b t p (ap is_start (sym e) ∙ is) h)
 by_head LetterCHead c t p (is, e) h = at_head c 99 t p e (from_c t p (ap is_start (sym e) ∙ is) h)
 by_head LetterRHead c t p (is, e) h = at_head c 114 t p e (from_r t p (ap is_start (sym e) ∙ is) h)
 by_head OtherLetterHead c t p (is, a, b, d) h = word_found c t p is (letter_otherwise c t a b d) h
 by_head QuoteHead c t p e h = at_head c 34 t p e (literal_from (34 ∷ t) (quoted_at t) p h (λ r y. quoted_found NoPrefix t r y))
 by_head ApostropheHead c t p e h = at_head c 39 t p e (literal_from (39 ∷ t) (single_at t) p h (λ r y. character_found false t r y))
-by_head DigitHead c t p is h = found_at (c ∷ t) (LiteralForm, after_digit c t) p h (digit_found c t (c == 48 && passes is_base_letter t) is refl)
+by_head DigitHead c t p is h = found_at (c ∷ t) (LiteralForm, after_digit c t) p h (digit_found c t (c == 48 && first_passes is_base_letter t) is refl)
 by_head DelimiterHead c t p is h = found_at (c ∷ t) (DelimiterForm c, t) p h (DelimiterLexeme c, is, refl, refl)
 by_head MarkHead c t p is h = found_at (c ∷ t) (MarkForm c, t) p h (MarkLexeme c, inl is, refl, refl)
 by_head SlashHead c t p e h =
-    at_head c 47 t p e (slash_found t (passes (λ d. d == 47 || d == 42) t) p refl (ap (λ x. cond (passes (λ d. d == 47 || d == 42) t) None (Some (MarkForm x, t))) (sym e) ∙ h))
+    at_head c 47 t p e (slash_found t (first_passes (λ d. d == 47 || d == 42) t) p refl (ap (λ x. cond (first_passes (λ d. d == 47 || d == 42) t) None (Some (MarkForm x, t))) (sym e) ∙ h))
 by_head StrayHead c t p e h = absurd (none-some p h)
 
-pub lexeme_at-found : (t : List ℕ) (p : Form × List ℕ) → lexeme_at t ≡ Some p → Found t p
+pub lexeme_at-found : (t : List ℕ) (p : LexemeForm × List ℕ) → lexeme_at t ≡ Some p → Found t p
 lexeme_at-found [] p h = absurd (none-some p h)
 lexeme_at-found (c ∷ t) p h = by_head (head_class c) c t p (head_fact c (is_start c) refl) h

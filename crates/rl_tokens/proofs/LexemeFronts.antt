@@ -6,13 +6,13 @@ use Rattle.std.specs.Prelude.{IsTrue, nat_lt}
 use Rattle.std.specs.Char.{is_ascii_alphabetic}
 use Rattle.std.specs.Option.{option_map}
 use Rattle.unicode_ident.proofs.IdentLemmas.{is_xid_start-ascii}
-use Rattle.rl_tokens.specs.Texts.{is_white, is_start, is_continue, is_among, passes}
+use Rattle.rl_tokens.specs.Texts.{is_white, is_start, is_continue, is_among, first_passes}
 use Rattle.std.specs.Char.{is_ascii_digit}
-use Rattle.rl_tokens.specs.Lexemes.{is_numeral_part, is_hash, is_base_letter, delimiters, marks, after_run, begins_hashed_quote, BodyPart, body_text, IsBody, Within, within_text, IsWithin, LexedFraction, lexed_fraction_text, LexedExponent, lexed_exponent_text, IsRow, IsLexedSuffix, IsRawBody, begins_otherwise, LiteralPrefix, NoPrefix, BytePrefix, CPrefix, Lexeme, QuotedLexeme, RawLexeme, CharacterLexeme, BasedLexeme, DecimalLexeme, IdentifierLexeme, DelimiterLexeme, MarkLexeme, lexeme_text, IsLexeme, OneFront, Form, LiteralForm, IdentifierForm, DelimiterForm, MarkForm, form_of}
+use Rattle.rl_tokens.specs.Lexemes.{is_numeral_part, is_hash, is_base_letter, delimiters, marks, after_run, begins_hashed_quote, BodyPart, body_text, IsBody, CharacterBody, character_body_text, IsCharacterBody, LexedFraction, lexed_fraction_text, LexedExponent, lexed_exponent_text, IsRow, IsLexedSuffix, IsRawBody, begins_otherwise, LiteralPrefix, NoPrefix, BytePrefix, CPrefix, Lexeme, QuotedLexeme, RawLexeme, CharacterLexeme, BasedLexeme, DecimalLexeme, IdentifierLexeme, DelimiterLexeme, MarkLexeme, lexeme_text, IsLexeme, OneLexeme, LexemeForm, LiteralForm, IdentifierForm, DelimiterForm, MarkForm, form_of}
 use Rattle.rl_tokens.proofs.Comments.{false_unless, same_Some}
 use Rattle.rl_tokens.proofs.Pieces.{is_equal}
 use Rattle.rl_tokens.specs.Puncts.{is_punct}
-use Rattle.rl_tokens.specs.LexemeAt.{after_suffix, after_raw, after_fraction, after_exponent, after_decimal, HeadClass, LetterBHead, LetterCHead, LetterRHead, OtherLetterHead, QuoteHead, ApostropheHead, DigitHead, SlashHead, StrayHead, start_class, other_class, head_class, quoted_at, raw_at, single_at, word_at, by_class, lexeme_at, literal_at, DelimiterHead, MarkHead}
+use Rattle.rl_tokens.specs.Mirrors.LexemeAt.{after_suffix, after_raw, after_lexed_fraction, after_lexed_exponent, after_decimal, HeadClass, LetterBHead, LetterCHead, LetterRHead, OtherLetterHead, QuoteHead, ApostropheHead, DigitHead, SlashHead, StrayHead, start_class, other_class, head_class, quoted_at, raw_at, single_at, word_at, by_class, lexeme_at, literal_at, DelimiterHead, MarkHead}
 use Rattle.rl_tokens.proofs.LexemeRows.{both_true, not_true, run_past, suffix_past, quote_past, raw_past, hashes_count, hashes_past, single_past, fraction_past, exponent_past, not_among}
 use Rattle.std.proofs.lemmas.List.{append_cancel_right}
 
@@ -87,13 +87,13 @@ front_quoted BytePrefix parts x t is suffix = at_class 98 (34 ∷ (body_text par
 front_quoted CPrefix parts x t is suffix = at_class 99 (34 ∷ (body_text parts ++ 34 ∷ x ++ t)) LetterCHead class99 ∙ ap literal_at (quoted_past parts x t is suffix)
 
 -- Characters.
-single_front : (inside : Within) (x t : List ℕ) → IsWithin inside → IsLexedSuffix x t → single_at (within_text inside ++ 39 ∷ x ++ t) ≡ Some t
+single_front : (inside : CharacterBody) (x t : List ℕ) → IsCharacterBody inside → IsLexedSuffix x t → single_at (character_body_text inside ++ 39 ∷ x ++ t) ≡ Some t
 single_front inside x t is suffix =
-    ap single_at (append_assoc (within_text inside) (39 ∷ x) t) ∙ ap (option_map after_suffix) (single_past inside (x ++ t) is) ∙ ap Some (suffix_past x t suffix)
+    ap single_at (append_assoc (character_body_text inside) (39 ∷ x) t) ∙ ap (option_map after_suffix) (single_past inside (x ++ t) is) ∙ ap Some (suffix_past x t suffix)
 
-front_character : (b : Bool) (inside : Within) (x t : List ℕ) → IsWithin inside → IsLexedSuffix x t → lexeme_at (lexeme_text (CharacterLexeme b inside x) ++ t) ≡ Some (LiteralForm, t)
-front_character false inside x t is suffix = at_class 39 (within_text inside ++ 39 ∷ x ++ t) ApostropheHead class39 ∙ ap literal_at (single_front inside x t is suffix)
-front_character true inside x t is suffix = at_class 98 (39 ∷ (within_text inside ++ 39 ∷ x ++ t)) LetterBHead class98 ∙ ap literal_at (single_front inside x t is suffix)
+front_character : (b : Bool) (inside : CharacterBody) (x t : List ℕ) → IsCharacterBody inside → IsLexedSuffix x t → lexeme_at (lexeme_text (CharacterLexeme b inside x) ++ t) ≡ Some (LiteralForm, t)
+front_character false inside x t is suffix = at_class 39 (character_body_text inside ++ 39 ∷ x ++ t) ApostropheHead class39 ∙ ap literal_at (single_front inside x t is suffix)
+front_character true inside x t is suffix = at_class 98 (39 ∷ (character_body_text inside ++ 39 ∷ x ++ t)) LetterBHead class98 ∙ ap literal_at (single_front inside x t is suffix)
 
 -- Delimiters and marks.
 not_delimiter : (codes : List ℕ) (c : ℕ) → list_all (λ k. not (is_among delimiters k)) codes ≡ true → is_among codes c ≡ true → is_among delimiters c ≡ false
@@ -102,7 +102,7 @@ not_delimiter codes c all is = not_true (is_among delimiters c) (among codes (λ
 pub front_delimiter : (c : ℕ) (t : List ℕ) → IsTrue (is_among delimiters c) → lexeme_at (c ∷ t) ≡ Some (DelimiterForm c, t)
 front_delimiter c t is = at_class c t DelimiterHead (class_other c (not_start_among delimiters c refl refl is) ∙ ap (λ b. cond b DelimiterHead (behind_delimiter c)) is)
 
-front_slash : (t : List ℕ) → passes (λ d. d == 47 || d == 42) t ≡ false → lexeme_at (47 ∷ t) ≡ Some (MarkForm 47, t)
+front_slash : (t : List ℕ) → first_passes (λ d. d == 47 || d == 42) t ≡ false → lexeme_at (47 ∷ t) ≡ Some (MarkForm 47, t)
 front_slash t h = at_class 47 t SlashHead class47 ∙ ap (λ b. cond b None (Some (MarkForm 47, t))) h
 
 front_mark : (c : ℕ) (t : List ℕ) → IsLexeme (MarkLexeme c) t → lexeme_at (c ∷ t) ≡ Some (MarkForm c, t)
@@ -129,14 +129,14 @@ raw_front n body x t is suffix =
     ∙ ap (option_map after_suffix) (raw_past n body (x ++ t) is)
     ∙ ap Some (suffix_past x t suffix)
 
-raw_chosen : (u : List ℕ) (other : Option (Form × List ℕ)) (r : List ℕ) → begins_hashed_quote u ≡ true → raw_at u ≡ Some r → cond (begins_hashed_quote u) (literal_at (raw_at u)) other ≡ Some (LiteralForm, r)
+raw_chosen : (u : List ℕ) (other : Option (LexemeForm × List ℕ)) (r : List ℕ) → begins_hashed_quote u ≡ true → raw_at u ≡ Some r → cond (begins_hashed_quote u) (literal_at (raw_at u)) other ≡ Some (LiteralForm, r)
 raw_chosen u other r opens h = ap (λ b. cond b (literal_at (raw_at u)) other) opens ∙ ap literal_at h
 
 front_raw : (p : LiteralPrefix) (n : ℕ) (body x t : List ℕ) → IsRawBody n body → IsLexedSuffix x t → lexeme_at (lexeme_text (RawLexeme p n body x) ++ t) ≡ Some (LiteralForm, t)
 front_raw NoPrefix n body x t is suffix =
     let u = replicate n 35 ++ 34 ∷ (body ++ 34 ∷ (replicate n 35 ++ (x ++ t))) in
     ap (λ s. lexeme_at (114 ∷ s)) (raw_text n body x t) ∙ at_class 114 u LetterRHead class114
-    ∙ raw_chosen u (cond (slice_index u 0 == 35 && passes is_start (drop 1 u)) None (word_at u)) t (raw_opens_here n (body ++ 34 ∷ (replicate n 35 ++ (x ++ t)))) (raw_front n body x t is suffix)
+    ∙ raw_chosen u (cond (slice_index u 0 == 35 && first_passes is_start (drop 1 u)) None (word_at u)) t (raw_opens_here n (body ++ 34 ∷ (replicate n 35 ++ (x ++ t)))) (raw_front n body x t is suffix)
 front_raw BytePrefix n body x t is suffix =
     let u = replicate n 35 ++ 34 ∷ (body ++ 34 ∷ (replicate n 35 ++ (x ++ t))) in
     ap (λ s. lexeme_at (98 ∷ 114 ∷ s)) (raw_text n body x t) ∙ at_class 98 (114 ∷ u) LetterBHead class98
@@ -185,8 +185,8 @@ front_decimal d more f e x t (is, not_based, row, fraction, exponent, suffix) =
     ap (λ s. lexeme_at (d ∷ s)) (decimal_text more (lexed_fraction_text f) (lexed_exponent_text e) x t)
     ∙ at_class d u DigitHead (class_digit d is)
     ∙ ap (λ b. Some (LiteralForm, cond b (after_run is_continue (drop 1 u)) (after_decimal u))) not_based
-    ∙ ap (λ s. Some (LiteralForm, after_suffix (after_exponent (after_fraction s)))) (run_past is_numeral_part more (lexed_fraction_text f ++ (lexed_exponent_text e ++ (x ++ t))) row)
-    ∙ ap (λ s. Some (LiteralForm, after_suffix (after_exponent s))) (fraction_past f (lexed_exponent_text e ++ (x ++ t)) fraction)
+    ∙ ap (λ s. Some (LiteralForm, after_suffix (after_lexed_exponent (after_lexed_fraction s)))) (run_past is_numeral_part more (lexed_fraction_text f ++ (lexed_exponent_text e ++ (x ++ t))) row)
+    ∙ ap (λ s. Some (LiteralForm, after_suffix (after_lexed_exponent s))) (fraction_past f (lexed_exponent_text e ++ (x ++ t)) fraction)
     ∙ ap (λ s. Some (LiteralForm, after_suffix s)) (exponent_past e (x ++ t) exponent)
     ∙ ap (λ s. Some (LiteralForm, s)) (suffix_past x t suffix)
 
@@ -209,10 +209,10 @@ or_false false b h = (refl, h)
 word_class : (c : ℕ) (u : List ℕ) → begins_otherwise (c ∷ u) ≡ false → by_class (start_class c) c u ≡ word_at u
 word_class c u h = go (c == 98) (c == 99) (c == 114) h
   where
-    go : (a b r : Bool) → ((a && (slice_index u 0 == 34 || (slice_index u 0 == 39 || (slice_index u 0 == 114 && begins_hashed_quote (drop 1 u))))) || ((b && (slice_index u 0 == 34 || (slice_index u 0 == 114 && begins_hashed_quote (drop 1 u)))) || (r && (begins_hashed_quote u || (slice_index u 0 == 35 && passes is_start (drop 1 u)))))) ≡ false → by_class (cond a LetterBHead (cond b LetterCHead (cond r LetterRHead OtherLetterHead))) c u ≡ word_at u
+    go : (a b r : Bool) → ((a && (slice_index u 0 == 34 || (slice_index u 0 == 39 || (slice_index u 0 == 114 && begins_hashed_quote (drop 1 u))))) || ((b && (slice_index u 0 == 34 || (slice_index u 0 == 114 && begins_hashed_quote (drop 1 u)))) || (r && (begins_hashed_quote u || (slice_index u 0 == 35 && first_passes is_start (drop 1 u)))))) ≡ false → by_class (cond a LetterBHead (cond b LetterCHead (cond r LetterRHead OtherLetterHead))) c u ≡ word_at u
     go true b r h = none_of3 (slice_index u 0 == 34) (slice_index u 0 == 39) (slice_index u 0 == 114 && begins_hashed_quote (drop 1 u)) (literal_at (quoted_at (drop 1 u))) (literal_at (single_at (drop 1 u))) (literal_at (raw_at (drop 1 u))) (word_at u) (or_false _ _ h).0
     go false true r h = none_of2 (slice_index u 0 == 34) (slice_index u 0 == 114 && begins_hashed_quote (drop 1 u)) (literal_at (quoted_at (drop 1 u))) (literal_at (raw_at (drop 1 u))) (word_at u) (or_false _ _ h).0
-    go false false true h = none_of2 (begins_hashed_quote u) (slice_index u 0 == 35 && passes is_start (drop 1 u)) (literal_at (raw_at u)) None (word_at u) h
+    go false false true h = none_of2 (begins_hashed_quote u) (slice_index u 0 == 35 && first_passes is_start (drop 1 u)) (literal_at (raw_at u)) None (word_at u) h
     go false false false h = refl
 
 front_identifier : (c : ℕ) (more t : List ℕ) → IsTrue (is_start c) → IsRow is_continue more t → begins_otherwise (c ∷ more ++ t) ≡ false → lexeme_at (c ∷ more ++ t) ≡ Some (IdentifierForm, t)
@@ -230,13 +230,13 @@ lexeme_at-past (IdentifierLexeme c more) t (is, row, other) = front_identifier c
 lexeme_at-past (DelimiterLexeme c) t is = front_delimiter c t is
 lexeme_at-past (MarkLexeme c) t is = front_mark c t is
 
-same_pair : (f g : Form) (x y : List ℕ) → ◌≡◌ {A = Option (Form × List ℕ)} (Some (f, x)) (Some (g, y)) → (f ≡ g) × (x ≡ y)
-same_pair f g x y e = let q : ◌≡◌ {A = Form × List ℕ} (f, x) (g, y) = same_Some (f, x) (g, y) e in (ap (λ (z : Form × List ℕ). z.0) q, ap (λ (z : Form × List ℕ). z.1) q)
+same_pair : (f g : LexemeForm) (x y : List ℕ) → ◌≡◌ {A = Option (LexemeForm × List ℕ)} (Some (f, x)) (Some (g, y)) → (f ≡ g) × (x ≡ y)
+same_pair f g x y e = let q : ◌≡◌ {A = LexemeForm × List ℕ} (f, x) (g, y) = same_Some (f, x) (g, y) e in (ap (λ (z : LexemeForm × List ℕ). z.0) q, ap (λ (z : LexemeForm × List ℕ). z.1) q)
 
 same_front : (v w x : List ℕ) → v ++ x ≡ w ++ x → v ≡ w
 same_front v w x h = append_cancel_right v w x h
 
-pub one_front : OneFront
+pub one_front : OneLexeme
 one_front t v w x y p q (l, is, v_is) (m, ms, w_is) =
     let a : lexeme_at t ≡ Some (form_of l, x) = ap lexeme_at (p ∙ ap (λ s. s ++ x) v_is) ∙ lexeme_at-past l x is in
     let b : lexeme_at t ≡ Some (form_of m, y) = ap lexeme_at (q ∙ ap (λ s. s ++ y) w_is) ∙ lexeme_at-past m y ms in

@@ -5,7 +5,7 @@ use Rattle.std.specs.List.{list_all}
 use Rattle.unicode_ident.specs.Ident.{is_xid_start, is_xid_continue}
 use Rattle.std.specs.Char.{is_ascii_alphanumeric}
 use Rattle.unicode_ident.proofs.IdentLemmas.{is_xid_continue-ascii}
-use Rattle.rl_tokens.specs.Texts.{is_white, is_start, is_continue, is_underscore, passes}
+use Rattle.rl_tokens.specs.Texts.{is_white, is_start, is_continue, is_underscore, first_passes}
 use Rattle.std.specs.Char.{is_ascii_digit}
 use Rattle.rl_tokens.specs.Lexemes.{is_numeral_part, is_hash, is_base_letter, after_run, begins_hashed_quote, begins_exponent, begins_dot, after_sign, begins_otherwise, LexedFraction, NoLexedFraction, LexedDot, lexed_fraction_text, lexed_sign_text, LexedExponent, NoLexedExponent, LexedPower, lexed_exponent_text, IsRow, IsLexedSuffix, IsLexedFraction, IsLexedExponent, QuotedLexeme, RawLexeme, CharacterLexeme, BasedLexeme, DecimalLexeme, IdentifierLexeme, DelimiterLexeme, MarkLexeme, IsLexeme, BeginsGap, StaysBeforeGap}
 use Rattle.rl_tokens.proofs.Comments.{false_unless}
@@ -34,7 +34,7 @@ start_solid = solid_from is_start (start_ascii 47 (lit< tt)) (λ c w. ap (λ b. 
 continue_solid : Solid is_continue
 continue_solid = solid_from is_continue (ap (λ b. b && not (is_white 47)) (is_xid_continue-ascii 47 (lit< tt))) (λ c w. ap (λ b. is_xid_continue c && not b) w ∙ and_false (is_xid_continue c))
 
-gap_fails : (test : ℕ → Bool) (gap : List ℕ) → Solid test → BeginsGap gap → passes test gap ≡ false
+gap_fails : (test : ℕ → Bool) (gap : List ℕ) → Solid test → BeginsGap gap → first_passes test gap ≡ false
 gap_fails test [] solid is = refl
 gap_fails test (c ∷ t) solid is = solid c is
 
@@ -63,7 +63,7 @@ letter_solid : Solid (λ c. c == 101 || c == 69)
 letter_solid = or_solid (λ c. c == 101) (λ c. c == 69) (code_solid 101 refl refl) (code_solid 69 refl refl)
 
 -- A test that fails at what follows fails before a gap too.
-passes_gap : (test : ℕ → Bool) (s after gap : List ℕ) → Solid test → BeginsGap gap → passes test (s ++ after) ≡ false → passes test (s ++ gap) ≡ false
+passes_gap : (test : ℕ → Bool) (s after gap : List ℕ) → Solid test → BeginsGap gap → first_passes test (s ++ after) ≡ false → first_passes test (s ++ gap) ≡ false
 passes_gap test [] after gap solid is h = gap_fails test gap solid is
 passes_gap test (c ∷ s) after gap solid is h = h
 
@@ -75,12 +75,12 @@ suffix_gap [] after gap is h = gap_fails is_start gap start_solid is
 suffix_gap (c ∷ x) after gap is (h, r) = (h, record { each = r.each; ends = gap_fails is_continue gap continue_solid is })
 
 -- Exponents.
-run_gap : (u test : ℕ → Bool) (s after gap : List ℕ) → Solid u → Solid test → BeginsGap gap → passes test (after_run u (s ++ after)) ≡ false → passes test (after_run u (s ++ gap)) ≡ false
+run_gap : (u test : ℕ → Bool) (s after gap : List ℕ) → Solid u → Solid test → BeginsGap gap → first_passes test (after_run u (s ++ after)) ≡ false → first_passes test (after_run u (s ++ gap)) ≡ false
 run_gap u test [] after [] su st is h = refl
-run_gap u test [] after (c ∷ t) su st is h = ap (λ b. passes test (cond b (after_run u t) (c ∷ t))) (su c is) ∙ st c is
+run_gap u test [] after (c ∷ t) su st is h = ap (λ b. first_passes test (cond b (after_run u t) (c ∷ t))) (su c is) ∙ st c is
 run_gap u test (c ∷ s) after gap su st is h = go (u c) h (run_gap u test s after gap su st is)
   where
-    go : (b : Bool) → passes test (cond b (after_run u (s ++ after)) (c ∷ s ++ after)) ≡ false → (passes test (after_run u (s ++ after)) ≡ false → passes test (after_run u (s ++ gap)) ≡ false) → passes test (cond b (after_run u (s ++ gap)) (c ∷ s ++ gap)) ≡ false
+    go : (b : Bool) → first_passes test (cond b (after_run u (s ++ after)) (c ∷ s ++ after)) ≡ false → (first_passes test (after_run u (s ++ after)) ≡ false → first_passes test (after_run u (s ++ gap)) ≡ false) → first_passes test (cond b (after_run u (s ++ gap)) (c ∷ s ++ gap)) ≡ false
     go true h more = more h
     go false h more = h
 
@@ -109,23 +109,23 @@ underscore_solid = code_solid 95 refl refl
 
 exponent_gap : (x after gap : List ℕ) → BeginsGap gap → IsLexedSuffix x after → begins_exponent (x ++ after) ≡ false → begins_exponent (x ++ gap) ≡ false
 exponent_gap [] after [] is suffix e = refl
-exponent_gap [] after (c ∷ t) is suffix e = ap (λ b. b && passes is_ascii_digit (after_run is_underscore (after_sign t))) (letter_solid c is)
+exponent_gap [] after (c ∷ t) is suffix e = ap (λ b. b && first_passes is_ascii_digit (after_run is_underscore (after_sign t))) (letter_solid c is)
 exponent_gap (c ∷ []) after gap is (h, r) e =
-    ap (λ s. (c == 101 || c == 69) && passes is_ascii_digit (after_run is_underscore s)) (sign_gap gap is)
+    ap (λ s. (c == 101 || c == 69) && first_passes is_ascii_digit (after_run is_underscore s)) (sign_gap gap is)
     ∙ ap (λ b. (c == 101 || c == 69) && b) (run_gap is_underscore is_ascii_digit [] [] gap underscore_solid digit_solid is refl)
     ∙ and_false (c == 101 || c == 69)
 exponent_gap (c ∷ p ∷ q) after gap is (h, r) e =
     let k : is_continue p ≡ true = (both_true (is_continue p) (list_all is_continue q) r.each).0 in
     let a : (p == 43) ≡ false = not_among p 43 is_continue k (continue_ascii 43 (lit< tt)) in
     let b : (p == 45) ≡ false = not_among p 45 is_continue k (continue_ascii 45 (lit< tt)) in
-    ap (λ s. (c == 101 || c == 69) && passes is_ascii_digit (after_run is_underscore s)) (no_sign p (q ++ gap) a b)
-    ∙ and_more (c == 101 || c == 69) (passes is_ascii_digit (after_run is_underscore (p ∷ q ++ after))) (passes is_ascii_digit (after_run is_underscore (p ∷ q ++ gap)))
+    ap (λ s. (c == 101 || c == 69) && first_passes is_ascii_digit (after_run is_underscore s)) (no_sign p (q ++ gap) a b)
+    ∙ and_more (c == 101 || c == 69) (first_passes is_ascii_digit (after_run is_underscore (p ∷ q ++ after))) (first_passes is_ascii_digit (after_run is_underscore (p ∷ q ++ gap)))
     (run_gap is_underscore is_ascii_digit (p ∷ q) after gap underscore_solid digit_solid is)
-    (ap (λ s. (c == 101 || c == 69) && passes is_ascii_digit (after_run is_underscore s)) (sym (no_sign p (q ++ after) a b)) ∙ e)
+    (ap (λ s. (c == 101 || c == 69) && first_passes is_ascii_digit (after_run is_underscore s)) (sym (no_sign p (q ++ after) a b)) ∙ e)
 
 -- Dot parts.
 not_dot : (c : ℕ) (t : List ℕ) → (c == 46) ≡ false → begins_dot (c ∷ t) ≡ false
-not_dot c t h = ap (λ b. b && not (passes (λ d. d == 46 || is_start d) t)) h
+not_dot c t h = ap (λ b. b && not (first_passes (λ d. d == 46 || is_start d) t)) h
 
 dot_gap : (e : LexedExponent) (x after gap : List ℕ) → BeginsGap gap → IsLexedExponent e (x ++ after) → IsLexedSuffix x after → begins_dot (lexed_exponent_text e ++ (x ++ gap)) ≡ false
 dot_gap NoLexedExponent [] after [] is ie suffix = refl
@@ -143,10 +143,10 @@ fraction_gap : (f : LexedFraction) (e : LexedExponent) (x after gap : List ℕ) 
 fraction_gap NoLexedFraction e x after gap is h ie suffix = dot_gap e x after gap is ie suffix
 fraction_gap (LexedDot digits) e x after gap is (h, r) ie suffix =
     let t = lexed_exponent_text e in
-    let k : passes (λ d. d == 46 || is_start d) (digits ++ (t ++ (x ++ after))) ≡ false = not_true (passes (λ d. d == 46 || is_start d) (digits ++ (t ++ (x ++ after)))) h in
-    let m : passes (λ d. d == 46 || is_start d) (digits ++ (t ++ (x ++ gap))) ≡ false =
-    ap (passes (λ d. d == 46 || is_start d)) (sym (assoc3 digits t x gap))
-    ∙ passes_gap (λ d. d == 46 || is_start d) (digits ++ (t ++ x)) after gap dot_solid is (ap (passes (λ d. d == 46 || is_start d)) (assoc3 digits t x after) ∙ k) in (
+    let k : first_passes (λ d. d == 46 || is_start d) (digits ++ (t ++ (x ++ after))) ≡ false = not_true (first_passes (λ d. d == 46 || is_start d) (digits ++ (t ++ (x ++ after)))) h in
+    let m : first_passes (λ d. d == 46 || is_start d) (digits ++ (t ++ (x ++ gap))) ≡ false =
+    ap (first_passes (λ d. d == 46 || is_start d)) (sym (assoc3 digits t x gap))
+    ∙ passes_gap (λ d. d == 46 || is_start d) (digits ++ (t ++ x)) after gap dot_solid is (ap (first_passes (λ d. d == 46 || is_start d)) (assoc3 digits t x after) ∙ k) in (
       ap not m,
       subst (λ (s : List ℕ). IsRow is_numeral_part digits s) (assoc2 t x gap) (row_gap is_numeral_part digits (t ++ x) after gap part_solid is (subst (λ (s : List ℕ). IsRow is_numeral_part digits s) (sym (assoc2 t x after)) r)),
     )
@@ -160,9 +160,9 @@ decimal_gap d more f e x after gap is (id, not_based, row, fraction, exponent, s
     let t = lexed_fraction_text f ++ (lexed_exponent_text e ++ x) in
     let at : (rest : List ℕ) → (more ++ t) ++ rest ≡ more ++ (lexed_fraction_text f ++ (lexed_exponent_text e ++ (x ++ rest))) = λ rest. append_assoc more t rest ∙ ap (λ s. more ++ s) (assoc3 (lexed_fraction_text f) (lexed_exponent_text e) x rest) in (
       id,
-      ap (λ s. d == 48 && passes is_base_letter s) (sym (at gap))
-          ∙ and_more (d == 48) (passes is_base_letter ((more ++ t) ++ after)) (passes is_base_letter ((more ++ t) ++ gap)) (passes_gap is_base_letter (more ++ t) after gap base_solid is)
-          (ap (λ s. d == 48 && passes is_base_letter s) (at after) ∙ not_based),
+      ap (λ s. d == 48 && first_passes is_base_letter s) (sym (at gap))
+          ∙ and_more (d == 48) (first_passes is_base_letter ((more ++ t) ++ after)) (first_passes is_base_letter ((more ++ t) ++ gap)) (passes_gap is_base_letter (more ++ t) after gap base_solid is)
+          (ap (λ s. d == 48 && first_passes is_base_letter s) (at after) ∙ not_based),
       subst (λ (s : List ℕ). IsRow is_numeral_part more s) (assoc3 (lexed_fraction_text f) (lexed_exponent_text e) x gap) (row_gap is_numeral_part more t after gap part_solid is (subst (λ (s : List ℕ). IsRow is_numeral_part more s) (sym (assoc3 (lexed_fraction_text f) (lexed_exponent_text e) x after)) row)),
       fraction_gap f e x after gap is fraction exponent suffix,
       power_gap e x after gap is exponent suffix,
@@ -210,12 +210,12 @@ second_raw (c ∷ x) gap row is = ap (λ b. c == 114 && b) (raw_none x gap (both
 otherwise_gap : (c : ℕ) (more gap : List ℕ) → list_all is_continue more ≡ true → BeginsGap gap → begins_otherwise (c ∷ more ++ gap) ≡ false
 otherwise_gap c more gap row is =
     let u = more ++ gap in
-    none_of (c == 98) (c == 99) (c == 114) (slice_index u 0 == 34) (slice_index u 0 == 39) (slice_index u 0 == 114 && begins_hashed_quote (drop 1 u)) (begins_hashed_quote u) (slice_index u 0 == 35 && passes is_start (drop 1 u))
+    none_of (c == 98) (c == 99) (c == 114) (slice_index u 0 == 34) (slice_index u 0 == 39) (slice_index u 0 == 114 && begins_hashed_quote (drop 1 u)) (begins_hashed_quote u) (slice_index u 0 == 35 && first_passes is_start (drop 1 u))
     (hash_none 34 more gap row is (code_solid 34 refl refl) (continue_ascii 34 (lit< tt)) refl)
     (hash_none 39 more gap row is (code_solid 39 refl refl) (continue_ascii 39 (lit< tt)) refl)
     (second_raw more gap row is)
     (raw_none more gap row is)
-    (ap (λ b. b && passes is_start (drop 1 u)) (hash_none 35 more gap row is (code_solid 35 refl refl) (continue_ascii 35 (lit< tt)) refl))
+    (ap (λ b. b && first_passes is_start (drop 1 u)) (hash_none 35 more gap row is (code_solid 35 refl refl) (continue_ascii 35 (lit< tt)) refl))
 
 run_end : (row after gap : List ℕ) → BeginsGap gap → IsRow is_continue row after → IsRow is_continue row gap
 run_end row after gap is r = row_gap is_continue row [] after gap continue_solid is r

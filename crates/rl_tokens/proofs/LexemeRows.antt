@@ -1,12 +1,12 @@
 -- Each stage of a lexeme, past what it is made of.
 use Rattle.std.proofs.Common.{◌≡◌, ℕ, suc, zero, Bool, true, false, not, ◌&&◌, ◌||◌, ◌==◌, cond, List, [], ◌∷◌, ◌++◌, Some, None, drop, replicate, refl, sym, ◌∙◌, ap, subst, append_assoc}
 use Rattle.std.specs.List.{list_all}
-use Rattle.rl_tokens.specs.Texts.{is_continue, is_underscore, passes}
+use Rattle.rl_tokens.specs.Texts.{is_continue, is_underscore, first_passes}
 use Rattle.std.specs.Char.{is_ascii_digit}
-use Rattle.rl_tokens.specs.Lexemes.{is_numeral_part, is_hash, after_run, begins_hashes, after_sign, BodyPart, PlainPart, EscapedPart, body_text, IsBody, Within, OneCharacter, EscapedCharacter, within_text, IsWithin, LexedFraction, NoLexedFraction, LexedDot, lexed_fraction_text, LexedSign, NoLexedSign, LexedPlus, LexedMinus, lexed_sign_text, LexedExponent, NoLexedExponent, LexedPower, lexed_exponent_text, IsRow, IsLexedSuffix, IsRawBody, IsLexedFraction, IsLexedExponent}
+use Rattle.rl_tokens.specs.Lexemes.{is_numeral_part, is_hash, after_run, begins_hashes, after_sign, BodyPart, PlainPart, EscapedPart, body_text, IsBody, CharacterBody, OneCharacter, EscapedCharacter, character_body_text, IsCharacterBody, LexedFraction, NoLexedFraction, LexedDot, lexed_fraction_text, LexedSign, NoLexedSign, LexedPlus, LexedMinus, lexed_sign_text, LexedExponent, NoLexedExponent, LexedPower, lexed_exponent_text, IsRow, IsLexedSuffix, IsRawBody, IsLexedFraction, IsLexedExponent}
 use Rattle.rl_tokens.proofs.Comments.{false_unless}
 use Rattle.rl_tokens.proofs.Pieces.{is_equal}
-use Rattle.rl_tokens.specs.LexemeAt.{after_suffix, after_quote, hashes, after_raw, after_apostrophe, after_single, after_fraction, after_exponent}
+use Rattle.rl_tokens.specs.Mirrors.LexemeAt.{after_suffix, after_quote, hashes, after_raw, after_apostrophe, after_single, after_lexed_fraction, after_lexed_exponent}
 
 pub both_true : (a b : Bool) → (a && b) ≡ true → (a ≡ true) × (b ≡ true)
 both_true true b h = (refl, h)
@@ -21,7 +21,7 @@ neither_true true b h = absurd (cc)
 neither_true false b h = (refl, not_true b h)
 
 -- Rows.
-run_stops : (test : ℕ → Bool) (t : List ℕ) → passes test t ≡ false → after_run test t ≡ t
+run_stops : (test : ℕ → Bool) (t : List ℕ) → first_passes test t ≡ false → after_run test t ≡ t
 run_stops test [] h = refl
 run_stops test (c ∷ t) h = ap (λ b. cond b (after_run test t) (c ∷ t)) h
 
@@ -99,12 +99,12 @@ apostrophe_past (c ∷ more) t is =
     ∙ ap (λ b. cond b None (after_apostrophe (more ++ 39 ∷ t))) m.1
     ∙ apostrophe_past more t k.1
 
-pub single_past : (inside : Within) (t : List ℕ) → IsWithin inside → after_single (within_text inside ++ 39 ∷ t) ≡ Some t
+pub single_past : (inside : CharacterBody) (t : List ℕ) → IsCharacterBody inside → after_single (character_body_text inside ++ 39 ∷ t) ≡ Some t
 single_past (OneCharacter c) t is = ap (λ b. cond b (after_apostrophe t) (Some t)) (not_true (c == 92) is)
 single_past (EscapedCharacter c more) t is = apostrophe_past more t is
 
 -- Parts of a decimal.
-pub fraction_past : (f : LexedFraction) (t : List ℕ) → IsLexedFraction f t → after_fraction (lexed_fraction_text f ++ t) ≡ t
+pub fraction_past : (f : LexedFraction) (t : List ℕ) → IsLexedFraction f t → after_lexed_fraction (lexed_fraction_text f ++ t) ≡ t
 fraction_past NoLexedFraction t is = ap (λ b. cond b (after_run is_numeral_part (drop 1 t)) t) is
 fraction_past (LexedDot digits) t (begins, row) =
     ap (λ b. cond b (after_run is_numeral_part (digits ++ t)) (46 ∷ digits ++ t)) begins ∙ run_past is_numeral_part digits t row
@@ -130,13 +130,13 @@ sign_past NoLexedSign zero d t is =
 pub power_text : (letter : ℕ) (s : LexedSign) (n d : ℕ) (more t : List ℕ) → lexed_exponent_text (LexedPower letter s n d more) ++ t ≡ letter ∷ (lexed_sign_text s ++ (replicate n 95 ++ d ∷ (more ++ t)))
 power_text letter s n d more t = ap (λ x. letter ∷ x) (append_assoc (lexed_sign_text s) (replicate n 95 ++ d ∷ more) t ∙ ap (λ x. lexed_sign_text s ++ x) (append_assoc (replicate n 95) (d ∷ more) t))
 
-pub exponent_past : (e : LexedExponent) (t : List ℕ) → IsLexedExponent e t → after_exponent (lexed_exponent_text e ++ t) ≡ t
+pub exponent_past : (e : LexedExponent) (t : List ℕ) → IsLexedExponent e t → after_lexed_exponent (lexed_exponent_text e ++ t) ≡ t
 exponent_past NoLexedExponent t is = ap (λ b. cond b (after_run is_numeral_part (after_sign (drop 1 t))) t) is
 exponent_past (LexedPower letter s n d more) t (is_letter, is, row) =
     let g : after_sign (lexed_sign_text s ++ (replicate n 95 ++ d ∷ (more ++ t))) ≡ replicate n 95 ++ d ∷ (more ++ t) = sign_past s n d (more ++ t) is in
-    ap after_exponent (power_text letter s n d more t)
-    ∙ ap (λ b. cond (b && passes is_ascii_digit (after_run is_underscore (after_sign (lexed_sign_text s ++ (replicate n 95 ++ d ∷ (more ++ t)))))) (after_run is_numeral_part (after_sign (lexed_sign_text s ++ (replicate n 95 ++ d ∷ (more ++ t))))) (letter ∷ (lexed_sign_text s ++ (replicate n 95 ++ d ∷ (more ++ t))))) is_letter
-    ∙ ap (λ x. cond (passes is_ascii_digit (after_run is_underscore x)) (after_run is_numeral_part x) (letter ∷ (lexed_sign_text s ++ (replicate n 95 ++ d ∷ (more ++ t))))) g
-    ∙ ap (λ x. cond (passes is_ascii_digit x) (after_run is_numeral_part (replicate n 95 ++ d ∷ (more ++ t))) (letter ∷ (lexed_sign_text s ++ (replicate n 95 ++ d ∷ (more ++ t))))) (underscores_past n d (more ++ t) is)
+    ap after_lexed_exponent (power_text letter s n d more t)
+    ∙ ap (λ b. cond (b && first_passes is_ascii_digit (after_run is_underscore (after_sign (lexed_sign_text s ++ (replicate n 95 ++ d ∷ (more ++ t)))))) (after_run is_numeral_part (after_sign (lexed_sign_text s ++ (replicate n 95 ++ d ∷ (more ++ t))))) (letter ∷ (lexed_sign_text s ++ (replicate n 95 ++ d ∷ (more ++ t))))) is_letter
+    ∙ ap (λ x. cond (first_passes is_ascii_digit (after_run is_underscore x)) (after_run is_numeral_part x) (letter ∷ (lexed_sign_text s ++ (replicate n 95 ++ d ∷ (more ++ t))))) g
+    ∙ ap (λ x. cond (first_passes is_ascii_digit x) (after_run is_numeral_part (replicate n 95 ++ d ∷ (more ++ t))) (letter ∷ (lexed_sign_text s ++ (replicate n 95 ++ d ∷ (more ++ t))))) (underscores_past n d (more ++ t) is)
     ∙ ap (λ b. cond b (after_run is_numeral_part (replicate n 95 ++ d ∷ (more ++ t))) (letter ∷ (lexed_sign_text s ++ (replicate n 95 ++ d ∷ (more ++ t))))) is
     ∙ digits_past n d more t is row

@@ -4,7 +4,7 @@ use Rattle.std.proofs.lemmas.Bool.{and_parts, ne_eqb}
 use Rattle.std.specs.List.{list_all}
 use Rattle.std.proofs.lemmas.Bool.Decides.{nat_tests}
 use Rattle.rl_tokens.specs.Lexemes.{begins_hashes}
-use Rattle.rl_tokens.specs.LexemeAt.{after_quote, after_raw}
+use Rattle.rl_tokens.specs.Mirrors.LexemeAt.{after_quote, after_raw}
 use Rattle.rl_tokens.specs.declared.scan.Marks.{Marks}
 use Rattle.rl_tokens.specs.Scanning.{is_one_of, is_other, IsNextMark}
 use Rattle.rl_tokens.proofs.ScanLemmas.{not_first, not_second}

@@ -5,7 +5,7 @@ use Rattle.std.specs.List.{list_all}
 use Rattle.std.specs.Char.{is_ascii_digit, is_ascii_alphanumeric}
 use Rattle.std.proofs.lemmas.Bool.{and_from, or_from}
 use Rattle.unicode_ident.specs.Ident.{is_xid_start, is_xid_continue}
-use Rattle.rl_tokens.specs.Texts.{is_white, is_start, is_continue, is_among, passes}
+use Rattle.rl_tokens.specs.Texts.{is_white, is_start, is_continue, is_among, first_passes}
 use Rattle.rl_tokens.specs.Lexemes.{is_numeral_part, is_base_letter, IsLexedSuffix, IsLexeme, BeginsGap}
 use Rattle.rl_tokens.specs.Strict.{IsStrictSuffix}
 use Rattle.rl_tokens.proofs.Basics.{word_continues}
@@ -78,12 +78,12 @@ pub clear_exponent : Clear (λ c. c == 101 || c == 69)
 clear_exponent = clear_or (λ c. c == 101) (λ c. c == 69) (clear_code 101 refl refl) (clear_code 69 refl refl)
 
 -- Such a text passes no such test.
-pub ends_fails : (test : ℕ → Bool) (after : List ℕ) → Clear test → EndsLiteral after → passes test after ≡ false
+pub ends_fails : (test : ℕ → Bool) (after : List ℕ) → Clear test → EndsLiteral after → first_passes test after ≡ false
 ends_fails test [] clear is = refl
 ends_fails test (c ∷ t) clear is = clear c is
 
 -- What fails at the front of a text fails where such a text follows.
-pub front_fails : (test : ℕ → Bool) (s after : List ℕ) → Clear test → EndsLiteral after → passes test s ≡ false → passes test (s ++ after) ≡ false
+pub front_fails : (test : ℕ → Bool) (s after : List ℕ) → Clear test → EndsLiteral after → first_passes test s ≡ false → first_passes test (s ++ after) ≡ false
 front_fails test [] after clear ends h = ends_fails test after clear ends
 front_fails test (c ∷ s) after clear ends h = h
 

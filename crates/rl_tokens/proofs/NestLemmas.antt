@@ -2,8 +2,8 @@
 use Rattle.std.proofs.Common.{◌≡◌, ◌≢◌, ℕ, suc, ◌+◌, ◌-◌, ◌<◌, true, false, ◌==◌, List, [], ◌∷◌, ◌++◌, length, map, reverse, Some, refl, sym, ◌∙◌, ap, arith, append_assoc}
 use Rattle.std.proofs.lemmas.List.{map-append, reverse-append, length-reverse}
 use Rattle.rl_tokens.specs.declared.span.Span.{Span}
-use Rattle.rl_tokens.specs.declared.nest.OpenNest.{OpenNest}
-use Rattle.rl_tokens.specs.declared.nest.Nest.{Nest}
+use Rattle.rl_tokens.specs.declared.nest.GroupBuilder.{GroupBuilder}
+use Rattle.rl_tokens.specs.declared.nest.TreeBuilder.{TreeBuilder}
 use Rattle.rl_tokens.specs.declared.token.TokenTree.{TokenTree}
 use Rattle.rl_tokens.specs.declared.token.TokenTree.TheVariants as tree
 use Rattle.rl_tokens.specs.declared.token.Group.{Group}
@@ -12,9 +12,9 @@ use Rattle.rl_tokens.specs.declared.token.Delimiter.TheVariants.{Parenthesis, Br
 use Rattle.rl_tokens.specs.declared.lex_error.LexKind.TheVariants.{UnclosedGroup}
 use Rattle.rl_tokens.specs.Trees.{Tree, FlatToken, Opening, Closing, FlatPunct, opener_span, closer_span, trees_of, delimiter_of, stream_of, group_span, tree_view, stream_view, flat, flat_trees}
 use Rattle.rl_tokens.specs.Lexing.{closer_of, closes, popped, innermost, behind_form, flat_form}
-use Rattle.rl_tokens.specs.Nests.{opener_of, closer_char, group_of, groups_of, flat_open, flat_nest, TakesToken, TakesTree, OpensGroup, ClosesGroup, EndsInGroup}
+use Rattle.rl_tokens.specs.Mirrors.TreeBuilders.{opener_of, closer_char, group_of, groups_of, flat_open, flat_builder, TakesToken, TakesTree, OpensGroup, ClosesGroup, EndsInGroup}
 use Rattle.rl_tokens.specs.Puncts.{Mark}
-use Rattle.rl_tokens.specs.Lexemes.{Form, MarkForm}
+use Rattle.rl_tokens.specs.Lexemes.{LexemeForm, MarkForm}
 use Rattle.rl_tokens.proofs.TreeLemmas.{tree_view-group, tree_view-punct}
 
 pub flat_trees-append : (xs ys : List Tree) → flat_trees (xs ++ ys) ≡ flat_trees xs ++ flat_trees ys
@@ -25,7 +25,7 @@ nil_behind : {X : Type 0} (xs : List X) → xs ++ [] ≡ xs
 nil_behind [] = refl
 nil_behind (x ∷ xs) = ap (λ t. x ∷ t) (nil_behind xs)
 
-pub takes_tree : {A : Type 0} (old new : Nest A) (tree : TokenTree A) → new.opened ≡ old.opened → new.file ≡ old.file → trees_of new.trees ≡ trees_of old.trees ++ tree ∷ [] → TakesTree old new tree
+pub takes_tree : {A : Type 0} (old new : TreeBuilder A) (tree : TokenTree A) → new.opened ≡ old.opened → new.file ≡ old.file → trees_of new.trees ≡ trees_of old.trees ++ tree ∷ [] → TakesTree old new tree
 takes_tree old new tree o f t = record {
   opened_same = o;
   file_same = f;
@@ -36,17 +36,17 @@ takes_tree old new tree o f t = record {
       ∙ ap (λ z. flat_trees (stream_view old.trees) ++ z) (nil_behind (flat (tree_view tree)));
 }
 
-pub groups-push : {A : Type 0} (xs : List (OpenNest A)) (o : OpenNest A) → reverse (map group_of (xs ++ o ∷ [])) ≡ group_of o ∷ reverse (map group_of xs)
+pub groups-push : {A : Type 0} (xs : List (GroupBuilder A)) (o : GroupBuilder A) → reverse (map group_of (xs ++ o ∷ [])) ≡ group_of o ∷ reverse (map group_of xs)
 groups-push xs o = ap reverse (map-append group_of xs (o ∷ [])) ∙ reverse-append (map group_of xs) (group_of o ∷ [])
 
-pub groups_length : {A : Type 0} (xs : List (OpenNest A)) → length (reverse (map group_of xs)) ≡ length xs
+pub groups_length : {A : Type 0} (xs : List (GroupBuilder A)) → length (reverse (map group_of xs)) ≡ length xs
 groups_length xs = length-reverse (map group_of xs) ∙ length_map xs
   where
-    length_map : {A : Type 0} (xs : List (OpenNest A)) → length (map group_of xs) ≡ length xs
+    length_map : {A : Type 0} (xs : List (GroupBuilder A)) → length (map group_of xs) ≡ length xs
     length_map [] = refl
     length_map (x ∷ xs) = ap suc (length_map xs)
 
-pub flat_open-push : {A : Type 0} (file : ℕ) (xs : List (OpenNest A)) (o : OpenNest A) → flat_open file (xs ++ o ∷ []) ≡ flat_open file xs ++ (flat_trees (stream_view o.before) ++ (Opening o.delimiter (record { file = file; lo = o.at; hi = o.at + 1 }) ∷ []))
+pub flat_open-push : {A : Type 0} (file : ℕ) (xs : List (GroupBuilder A)) (o : GroupBuilder A) → flat_open file (xs ++ o ∷ []) ≡ flat_open file xs ++ (flat_trees (stream_view o.before) ++ (Opening o.delimiter (record { file = file; lo = o.at; hi = o.at + 1 }) ∷ []))
 flat_open-push file [] o = refl
 flat_open-push file (x ∷ xs) o =
     let f = flat_trees (stream_view x.before) in
@@ -58,7 +58,7 @@ regroup : (a b c d : List FlatToken) → (a ++ (b ++ c)) ++ d ≡ (a ++ b) ++ (c
 regroup a b c d = simp append_assoc
 
 -- a group was opened
-pub opens_group : {A : Type 0} (old new : Nest A) (o : OpenNest A) → new.opened.items ≡ old.opened.items ++ o ∷ [] → o.before ≡ old.trees → trees_of new.trees ≡ [] → new.file ≡ old.file → length old.opened.items < 128 → OpensGroup old new o.delimiter o.at
+pub opens_group : {A : Type 0} (old new : TreeBuilder A) (o : GroupBuilder A) → new.opened.items ≡ old.opened.items ++ o ∷ [] → o.before ≡ old.trees → trees_of new.trees ≡ [] → new.file ≡ old.file → length old.opened.items < 128 → OpensGroup old new o.delimiter o.at
 opens_group old new o pushed before empty file shallow =
     let xs = old.opened.items in
     let opening = Opening o.delimiter (record { file = old.file; lo = o.at; hi = o.at + 1 }) ∷ [] in
@@ -106,7 +106,7 @@ other_closer Bracket Brace h = refl
 other_closer Bracket Bracket h = absurd (h refl)
 
 -- a group was closed: it is the last tree of the level around it
-pub closes_group : {A : Type 0} (old between new : Nest A) (o : OpenNest A) (g : Group A) (d : Delimiter) (lo hi : ℕ) → old.opened.items ≡ between.opened.items ++ o ∷ [] → o.before ≡ between.trees → between.file ≡ old.file → o.delimiter ≡ d → delimiter_of g ≡ d → stream_of g ≡ old.trees → group_span g ≡ record { file = old.file; lo = o.at; hi = hi } → hi ≡ lo + 1 → TakesTree between new (tree.Group g) → ClosesGroup old new d lo hi
+pub closes_group : {A : Type 0} (old between new : TreeBuilder A) (o : GroupBuilder A) (g : Group A) (d : Delimiter) (lo hi : ℕ) → old.opened.items ≡ between.opened.items ++ o ∷ [] → o.before ≡ between.trees → between.file ≡ old.file → o.delimiter ≡ d → delimiter_of g ≡ d → stream_of g ≡ old.trees → group_span g ≡ record { file = old.file; lo = o.at; hi = hi } → hi ≡ lo + 1 → TakesTree between new (tree.Group g) → ClosesGroup old new d lo hi
 closes_group old between new o g d lo hi popped_is before file d_is g_delimiter g_stream g_span one takes =
     let xs = between.opened.items in
     let groups_are : groups_of old ≡ group_of o ∷ reverse (map group_of xs) = ap (λ os. reverse (map group_of os)) popped_is ∙ groups-push xs o in
@@ -117,11 +117,11 @@ closes_group old between new o g d lo hi popped_is before file d_is g_delimiter 
     let closed : flat (tree_view (tree.Group g)) ≡ opening ∷ (inside ++ (closing ∷ [])) =
     flat_closed g d old.file o.at lo hi inside g_delimiter g_span (ap (λ s. flat_trees (stream_view s)) g_stream) one in
     let new_file : new.file ≡ old.file = takes.file_same ∙ file in
-    let new_flat : flat_nest new ≡ front ++ (flat_trees (stream_view between.trees) ++ (opening ∷ (inside ++ (closing ∷ [])))) =
+    let new_flat : flat_builder new ≡ front ++ (flat_trees (stream_view between.trees) ++ (opening ∷ (inside ++ (closing ∷ [])))) =
     ap (λ f. flat_open f new.opened.items ++ flat_trees (stream_view new.trees)) new_file
     ∙ ap (λ os. flat_open old.file os.items ++ flat_trees (stream_view new.trees)) takes.opened_same
     ∙ ap (λ z. front ++ z) (takes.trees ∙ ap (λ z. flat_trees (stream_view between.trees) ++ z) closed) in
-    let old_flat : flat_nest old ≡ (front ++ (flat_trees (stream_view between.trees) ++ (opening ∷ []))) ++ inside =
+    let old_flat : flat_builder old ≡ (front ++ (flat_trees (stream_view between.trees) ++ (opening ∷ []))) ++ inside =
     ap (λ os. flat_open old.file os ++ inside) popped_is
     ∙ ap (λ z. z ++ inside) (flat_open-push old.file xs o)
     ∙ ap (λ s. (front ++ (flat_trees (stream_view s) ++ (Opening o.delimiter (record { file = old.file; lo = o.at; hi = o.at + 1 }) ∷ []))) ++ inside) before
@@ -137,17 +137,17 @@ closes_group old between new o g d lo hi popped_is before file d_is g_delimiter 
     regroup_closed a b i o c = simp append_assoc
 
 -- the closer isn't that of the innermost open group
-pub wrong_closer : {A : Type 0} (old : Nest A) (xs : List (OpenNest A)) (o : OpenNest A) (d : Delimiter) → old.opened.items ≡ xs ++ o ∷ [] → o.delimiter ≢ d → closes (groups_of old) (closer_char d) ≡ false
+pub wrong_closer : {A : Type 0} (old : TreeBuilder A) (xs : List (GroupBuilder A)) (o : GroupBuilder A) (d : Delimiter) → old.opened.items ≡ xs ++ o ∷ [] → o.delimiter ≢ d → closes (groups_of old) (closer_char d) ≡ false
 wrong_closer old xs o d popped_is other =
     ap (λ os. closes (reverse (map group_of os)) (closer_char d)) popped_is
     ∙ ap (λ gs. closes gs (closer_char d)) (groups-push xs o)
     ∙ other_closer o.delimiter d other
 
-pub no_group : {A : Type 0} (old : Nest A) (d : Delimiter) → old.opened.items ≡ [] → closes (groups_of old) (closer_char d) ≡ false
+pub no_group : {A : Type 0} (old : TreeBuilder A) (d : Delimiter) → old.opened.items ≡ [] → closes (groups_of old) (closer_char d) ≡ false
 no_group old d none = ap (λ os. closes (reverse (map group_of os)) (closer_char d)) none
 
 -- the text ends in a group
-pub ends_in_group : {A : Type 0} (old : Nest A) (xs : List (OpenNest A)) (o : OpenNest A) → old.opened.items ≡ xs ++ o ∷ [] → EndsInGroup (groups_of old) (record { kind = UnclosedGroup; at = o.at })
+pub ends_in_group : {A : Type 0} (old : TreeBuilder A) (xs : List (GroupBuilder A)) (o : GroupBuilder A) → old.opened.items ≡ xs ++ o ∷ [] → EndsInGroup (groups_of old) (record { kind = UnclosedGroup; at = o.at })
 ends_in_group old xs o popped_is =
     let groups_are : groups_of old ≡ group_of o ∷ reverse (map group_of xs) = ap (λ os. reverse (map group_of os)) popped_is ∙ groups-push xs o in
     record {
@@ -157,7 +157,7 @@ ends_in_group old xs o popped_is =
     }
 
 -- a token without trees inside was read
-pub takes_leaf : {A : Type 0} (old new : Nest A) (t : TokenTree A) (f : FlatToken) → flat (tree_view t) ≡ f ∷ [] → TakesTree old new t → (groups_of new ≡ groups_of old) × (flat_nest new ≡ flat_nest old ++ f ∷ []) × (new.file ≡ old.file)
+pub takes_leaf : {A : Type 0} (old new : TreeBuilder A) (t : TokenTree A) (f : FlatToken) → flat (tree_view t) ≡ f ∷ [] → TakesTree old new t → (groups_of new ≡ groups_of old) × (flat_builder new ≡ flat_builder old ++ f ∷ []) × (new.file ≡ old.file)
 takes_leaf old new t f is takes = (
   ap (λ os. reverse (map group_of os.items)) takes.opened_same,
   ap (λ k. flat_open k new.opened.items ++ flat_trees (stream_view new.trees)) takes.file_same
@@ -167,13 +167,13 @@ takes_leaf old new t f is takes = (
   takes.file_same,
 )
 
-pub takes_mark : {A : Type 0} (old new : Nest A) (p : Mark) (form : Form) (c : ℕ) (text : List ℕ) (lo hi : ℕ) → form ≡ MarkForm c → p ≡ record { ch = c; span = record { file = old.file; lo = lo; hi = hi } } → TakesTree old new (tree.Punct p) → TakesToken old new form text lo hi
+pub takes_mark : {A : Type 0} (old new : TreeBuilder A) (p : Mark) (form : LexemeForm) (c : ℕ) (text : List ℕ) (lo hi : ℕ) → form ≡ MarkForm c → p ≡ record { ch = c; span = record { file = old.file; lo = lo; hi = hi } } → TakesTree old new (tree.Punct p) → TakesToken old new form text lo hi
 takes_mark {A} old new p form c text lo hi form_is p_is takes =
     let (groups, flat_new, file) = takes_leaf old new (tree.Punct p) (FlatPunct p) (ap flat (tree_view-punct A p)) takes in
     let span : Span = record { file = old.file; lo = lo; hi = hi } in
     let token : flat_form form text span ≡ FlatPunct p = ap (λ f. flat_form f text span) form_is ∙ ap FlatPunct (sym p_is) in
     record {
       groups = ap (λ f. behind_form (groups_of old) f lo) form_is ∙ ap Some (sym groups);
-      flat = flat_new ∙ ap (λ f. flat_nest old ++ f ∷ []) (sym token);
+      flat = flat_new ∙ ap (λ f. flat_builder old ++ f ∷ []) (sym token);
       file = file;
     }

@@ -3,9 +3,9 @@ use Rattle.std.proofs.Common.{◌≡◌, ℕ, ◌⊎◌, inl, inr, Bool, true, f
 use Rattle.std.proofs.lemmas.Bool.Decides.{nat_tests}
 use Rattle.rl_tokens.proofs.Comments.{false_unless}
 use Rattle.std.specs.Char.{is_ascii, is_ascii_digit}
-use Rattle.rl_tokens.specs.Texts.{is_start, is_continue, is_underscore, passes}
+use Rattle.rl_tokens.specs.Texts.{is_start, is_continue, is_underscore, first_passes}
 use Rattle.rl_tokens.specs.Lexemes.{LiteralForm, after_run, is_numeral_part, is_base_letter, after_sign}
-use Rattle.rl_tokens.specs.LexemeAt.{DigitHead, QuoteHead, literal_at, quoted_at, after_digit, after_suffix, after_exponent, after_fraction, after_decimal, lexeme_at}
+use Rattle.rl_tokens.specs.Mirrors.LexemeAt.{DigitHead, QuoteHead, literal_at, quoted_at, after_digit, after_suffix, after_lexed_exponent, after_lexed_fraction, after_decimal, lexeme_at}
 use Rattle.rl_tokens.proofs.LexemeRows.{neither_true, not_among}
 use Rattle.rl_tokens.proofs.LexemeFronts.{at_class, class34, class_digit, start_ascii}
 
@@ -25,21 +25,21 @@ quote_closed s t r b e is some = ap literal_at some ∙ sym (quote_first s t b e
 abbrev pub goes_on_none : ℕ → Bool
 goes_on_none c = not (c == 46 || is_start c)
 
-pub number_ends : (t : List ℕ) → passes goes_on_none t ≡ true → after_suffix (after_exponent (after_fraction t)) ≡ t
+pub number_ends : (t : List ℕ) → first_passes goes_on_none t ≡ true → after_suffix (after_lexed_exponent (after_lexed_fraction t)) ≡ t
 number_ends [] h = absurd (cc)
 number_ends (c ∷ u) h =
     let parts : ((c == 46) ≡ false) × (is_start c ≡ false) = neither_true (c == 46) (is_start c) h in
     let plain : not (is_start c) ≡ true = ap not parts.1 in
     let small : (c == 101) ≡ false = not_among c 101 (λ d. not (is_start d)) plain (ap not (start_ascii 101 (lit< tt))) in
     let large : (c == 69) ≡ false = not_among c 69 (λ d. not (is_start d)) plain (ap not (start_ascii 69 (lit< tt))) in
-    let fraction : after_fraction (c ∷ u) ≡ c ∷ u = ap (λ b. cond (b && not (passes (λ d. d == 46 || is_start d) u)) (after_run is_numeral_part u) (c ∷ u)) parts.0 in
-    let exponent : after_exponent (c ∷ u) ≡ c ∷ u =
-    ap (λ b. cond ((b || c == 69) && passes is_ascii_digit (after_run is_underscore (after_sign u))) (after_run is_numeral_part (after_sign u)) (c ∷ u)) small
-    ∙ ap (λ b. cond (b && passes is_ascii_digit (after_run is_underscore (after_sign u))) (after_run is_numeral_part (after_sign u)) (c ∷ u)) large in
-    ap (λ x. after_suffix (after_exponent x)) fraction ∙ ap after_suffix exponent ∙ ap (λ b. cond b (after_run is_continue u) (c ∷ u)) parts.1
+    let fraction : after_lexed_fraction (c ∷ u) ≡ c ∷ u = ap (λ b. cond (b && not (first_passes (λ d. d == 46 || is_start d) u)) (after_run is_numeral_part u) (c ∷ u)) parts.0 in
+    let exponent : after_lexed_exponent (c ∷ u) ≡ c ∷ u =
+    ap (λ b. cond ((b || c == 69) && first_passes is_ascii_digit (after_run is_underscore (after_sign u))) (after_run is_numeral_part (after_sign u)) (c ∷ u)) small
+    ∙ ap (λ b. cond (b && first_passes is_ascii_digit (after_run is_underscore (after_sign u))) (after_run is_numeral_part (after_sign u)) (c ∷ u)) large in
+    ap (λ x. after_suffix (after_lexed_exponent x)) fraction ∙ ap after_suffix exponent ∙ ap (λ b. cond b (after_run is_continue u) (c ∷ u)) parts.1
 
 -- a row of digits, and what ends it
-pub no_digit : (t : List ℕ) → passes is_ascii t ≡ false → after_run is_ascii_digit t ≡ t
+pub no_digit : (t : List ℕ) → first_passes is_ascii t ≡ false → after_run is_ascii_digit t ≡ t
 no_digit [] h = refl
 no_digit (c ∷ u) h = ap (λ b. cond b (after_run is_ascii_digit u) (c ∷ u)) (false_unless (is_ascii_digit c) (λ d. let low : is_ascii c ≡ true = grind (arith, nat_tests) in absurd (cc)))
 
@@ -50,11 +50,11 @@ starts : (k : ℕ) → is_start k ≡ true → no_start k ≡ false
 starts k h = ap not h
 
 -- what ends at once has no underscore behind its digits
-same_row : (t : List ℕ) → passes goes_on_none (after_run is_ascii_digit t) ≡ true → after_run is_numeral_part t ≡ after_run is_ascii_digit t
+same_row : (t : List ℕ) → first_passes goes_on_none (after_run is_ascii_digit t) ≡ true → after_run is_numeral_part t ≡ after_run is_ascii_digit t
 same_row [] h = refl
 same_row (d ∷ u) h = go (is_ascii_digit d) refl h (same_row u)
   where
-    go : (b : Bool) → is_ascii_digit d ≡ b → passes goes_on_none (cond b (after_run is_ascii_digit u) (d ∷ u)) ≡ true → (passes goes_on_none (after_run is_ascii_digit u) ≡ true → after_run is_numeral_part u ≡ after_run is_ascii_digit u) → cond (is_ascii_digit d || d == 95) (after_run is_numeral_part u) (d ∷ u) ≡ cond b (after_run is_ascii_digit u) (d ∷ u)
+    go : (b : Bool) → is_ascii_digit d ≡ b → first_passes goes_on_none (cond b (after_run is_ascii_digit u) (d ∷ u)) ≡ true → (first_passes goes_on_none (after_run is_ascii_digit u) ≡ true → after_run is_numeral_part u ≡ after_run is_ascii_digit u) → cond (is_ascii_digit d || d == 95) (after_run is_numeral_part u) (d ∷ u) ≡ cond b (after_run is_ascii_digit u) (d ∷ u)
     go true is h more = ap (λ a. cond (a || d == 95) (after_run is_numeral_part u) (d ∷ u)) is ∙ more h
     go false is h more =
         ap (λ a. cond (a || d == 95) (after_run is_numeral_part u) (d ∷ u)) is
@@ -70,7 +70,7 @@ row_on (d ∷ u) = go (is_ascii_digit d) refl (row_on u)
     go false is more = refl
 
 -- The letter of a base stands where a suffix would begin, so each number is read as a decimal.
-base_is_suffix : (t : List ℕ) → passes is_base_letter t ≡ true → after_run is_continue (drop 1 t) ≡ after_decimal t
+base_is_suffix : (t : List ℕ) → first_passes is_base_letter t ≡ true → after_run is_continue (drop 1 t) ≡ after_decimal t
 base_is_suffix [] h = absurd (cc)
 base_is_suffix (d ∷ u) h = go (letter d h)
   where
@@ -86,24 +86,24 @@ base_is_suffix (d ∷ u) h = go (letter d h)
     go (inr (inr b)) = starts_suffix 98 (start_ascii 98 (lit< tt)) ∙ ap (λ k. after_decimal (k ∷ u)) (sym b)
 
 as_decimal : (d : ℕ) (t : List ℕ) → after_digit d t ≡ after_decimal t
-as_decimal d t = go (d == 48) (passes is_base_letter t) (base_is_suffix t)
+as_decimal d t = go (d == 48) (first_passes is_base_letter t) (base_is_suffix t)
   where
     go : (a b : Bool) → (b ≡ true → after_run is_continue (drop 1 t) ≡ after_decimal t) → cond (a && b) (after_run is_continue (drop 1 t)) (after_decimal t) ≡ after_decimal t
     go true true h = h refl
     go true false h = refl
     go false b h = refl
 
-pub number_short : (c : ℕ) (t r : List ℕ) → r ≡ after_run is_ascii_digit t → passes goes_on_none r ≡ true → r ≡ after_digit c t
+pub number_short : (c : ℕ) (t r : List ℕ) → r ≡ after_run is_ascii_digit t → first_passes goes_on_none r ≡ true → r ≡ after_digit c t
 number_short c t r e h =
-    let k : passes goes_on_none (after_run is_ascii_digit t) ≡ true = ap (passes goes_on_none) (sym e) ∙ h in
+    let k : first_passes goes_on_none (after_run is_ascii_digit t) ≡ true = ap (first_passes goes_on_none) (sym e) ∙ h in
     e
     ∙ sym (number_ends (after_run is_ascii_digit t) k)
-    ∙ ap (λ s. after_suffix (after_exponent (after_fraction s))) (sym (same_row t k))
+    ∙ ap (λ s. after_suffix (after_lexed_exponent (after_lexed_fraction s))) (sym (same_row t k))
     ∙ sym (as_decimal c t)
 
 pub number_long : (c : ℕ) (t r s : List ℕ) → r ≡ after_run is_ascii_digit t → s ≡ after_decimal r → s ≡ after_digit c t
 number_long c t r s e h =
     h
-    ∙ ap (λ x. after_suffix (after_exponent (after_fraction (after_run is_numeral_part x)))) e
-    ∙ ap (λ x. after_suffix (after_exponent (after_fraction x))) (row_on t)
+    ∙ ap (λ x. after_suffix (after_lexed_exponent (after_lexed_fraction (after_run is_numeral_part x)))) e
+    ∙ ap (λ x. after_suffix (after_lexed_exponent (after_lexed_fraction x))) (row_on t)
     ∙ sym (as_decimal c t)

@@ -4,9 +4,9 @@ use Rattle.std.specs.Char.{is_ascii_digit}
 use Rattle.std.specs.List.{list_all, list_any}
 use Rattle.std.proofs.lemmas.List.Folds.{list_all-append}
 use Rattle.std.proofs.lemmas.Bool.{eqb-true, both_ways, and_parts, and_from, or_parts, or_cases, or_left, or_right, cases_Bool, not-true}
-use Rattle.rl_tokens.specs.Texts.{passes, begins, is_underscore}
+use Rattle.rl_tokens.specs.Texts.{first_passes, begins, is_underscore}
 use Rattle.rl_tokens.specs.Quoted.{place_value, without_underscores}
-use Rattle.rl_tokens.specs.Numbers.{Base, Binary, Octal, Decimal, Hexadecimal, radix, prefix, is_digit, is_digit_part, Sign, NoSign, Minus, sign_text, IsFront, IsSuffix, is_exponent_letter, IsSuffixOf, IntReads, Fraction, NoFraction, Dot, fraction_text, IsFraction, Exponent, NoExponent, Power, exponent_text, is_power_sign, BeginsExponent, IsExponent, FloatReads, float_digits}
+use Rattle.rl_tokens.specs.Numbers.{Base, Binary, Octal, Decimal, Hexadecimal, radix, prefix, is_digit, is_digit_part, Sign, NoSign, Minus, sign_text, IsBehindPrefix, IsSuffix, is_exponent_letter, AllowsSuffix, IntReads, Fraction, NoFraction, Dot, fraction_text, IsFraction, Exponent, NoExponent, Power, exponent_text, is_power_sign, BeginsExponent, IsExponent, FloatReads, float_digits}
 use Rattle.rl_tokens.specs.Reading.{Contents, Digits, ReadsInt, ReadsFloat}
 use Rattle.rl_tokens.specs.Strict.{dec}
 use Rattle.rl_tokens.proofs.Dec.{dec_is_decimal}
@@ -16,18 +16,18 @@ use Rattle.rl_tokens.proofs.StrictNumbers.{no_part, suffix_no_part, digit_front,
 -- ---- signs
 
 -- what a digit begins has no sign before it
-pub same_sign : (s z : Sign) (a b : List ℕ) → passes is_ascii_digit a ≡ true → passes is_ascii_digit b ≡ true → sign_text s ++ a ≡ sign_text z ++ b → (s ≡ z) × (a ≡ b)
+pub same_sign : (s z : Sign) (a b : List ℕ) → first_passes is_ascii_digit a ≡ true → first_passes is_ascii_digit b ≡ true → sign_text s ++ a ≡ sign_text z ++ b → (s ≡ z) × (a ≡ b)
 same_sign NoSign NoSign a b ha hb e = (refl, e)
 same_sign Minus Minus a b ha hb e = (refl, cc)
-same_sign NoSign Minus a b ha hb e = let h : true ≡ false = sym ha ∙ ap (passes is_ascii_digit) e in absurd (cc)
-same_sign Minus NoSign a b ha hb e = let h : true ≡ false = sym hb ∙ ap (passes is_ascii_digit) (sym e) in absurd (cc)
+same_sign NoSign Minus a b ha hb e = let h : true ≡ false = sym ha ∙ ap (first_passes is_ascii_digit) e in absurd (cc)
+same_sign Minus NoSign a b ha hb e = let h : true ≡ false = sym hb ∙ ap (first_passes is_ascii_digit) (sym e) in absurd (cc)
 
 -- ---- integers
 
 base_at : List ℕ → Base
 base_at t = cond (begins (prefix Binary) t) Binary (cond (begins (prefix Octal) t) Octal (cond (begins (prefix Hexadecimal) t) Hexadecimal Decimal))
 
-base_is : (b : Base) (r : List ℕ) → IsFront b r → base_at (prefix b ++ r) ≡ b
+base_is : (b : Base) (r : List ℕ) → IsBehindPrefix b r → base_at (prefix b ++ r) ≡ b
 unfolding base_at
 base_is Binary r f = refl
 base_is Octal r f = refl
@@ -40,7 +40,7 @@ base_is Decimal r f =
     let e = p.1 in
     rw (a, d, e) refl
 
-at_base : (b : Base) (ds es x y : List ℕ) → list_all (is_digit_part b) ds ≡ true → list_all (is_digit_part b) es ≡ true → IsSuffix x → IsSuffixOf b x → IsSuffix y → IsSuffixOf b y → prefix b ++ (ds ++ x) ≡ prefix b ++ (es ++ y) → (ds ≡ es) × (x ≡ y)
+at_base : (b : Base) (ds es x y : List ℕ) → list_all (is_digit_part b) ds ≡ true → list_all (is_digit_part b) es ≡ true → IsSuffix x → AllowsSuffix b x → IsSuffix y → AllowsSuffix b y → prefix b ++ (ds ++ x) ≡ prefix b ++ (es ++ y) → (ds ≡ es) × (x ≡ y)
 at_base b ds es x y hd he sx ox sy oy e =
     same_run (is_digit_part b) ds es x y hd he (no_part b x sx ox) (no_part b y sy oy) (behind b e)
   where
@@ -57,7 +57,7 @@ int_once t x y s z m n a b =
     let signs = same_sign s z ta tb (digit_front a.base a.digits x a.front) (digit_front b.base b.digits y b.front) (sym a.text_is ∙ b.text_is) in
     let bases : b.base ≡ a.base = sym (base_is b.base (b.digits ++ y) b.front) ∙ ap base_at (sym signs.1) ∙ base_is a.base (a.digits ++ x) a.front in
     let Each : Base → Type 0 = λ k. list_all (is_digit_part k) b.digits ≡ true in
-    let Of : Base → Type 0 = λ k. IsSuffixOf k y in
+    let Of : Base → Type 0 = λ k. AllowsSuffix k y in
     let text : ta ≡ prefix a.base ++ (b.digits ++ y) = signs.1 ∙ ap (λ k. prefix k ++ (b.digits ++ y)) bases in
     let p = at_base a.base a.digits b.digits x y a.each (subst Each bases b.each) a.is_suffix a.is_suffix_of b.is_suffix (subst Of bases b.is_suffix_of) text in
     (signs.0, a.magnitude_is ∙ ap (λ d. place_value (radix a.base) (without_underscores d)) p.0 ∙ ap (λ k. place_value (radix k) (without_underscores b.digits)) (sym bases) ∙ sym b.magnitude_is, p.1)
@@ -169,7 +169,7 @@ same_exponent (Power l us s row) (Power m vs z sow) x y pa pb sx sy e =
     let p = same_power us s row vs z sow x y pa.1 pa.2 pa.3 pb.1 pb.2 pb.3 sx sy tail in
     (ap (λ w. w ∷ (us ++ (s ++ row))) head ∙ ap (λ w. m ∷ w) p.0, p.1)
 
-exponent_no_part : (a : Exponent) (x : List ℕ) → IsExponent a x → IsSuffix x → passes (is_digit_part Decimal) (exponent_text a ++ x) ≡ false
+exponent_no_part : (a : Exponent) (x : List ℕ) → IsExponent a x → IsSuffix x → first_passes (is_digit_part Decimal) (exponent_text a ++ x) ≡ false
 exponent_no_part NoExponent x p s = suffix_no_part x s
 exponent_no_part (Power l us s row) x p sx = letter_no_part l p.0
 
@@ -179,30 +179,30 @@ is_dot c = eqb c 46
 letter_no_dot : (c : ℕ) → is_exponent_letter c ≡ true → is_dot c ≡ false
 letter_no_dot c h = apart is_exponent_letter c 46 h refl
 
-suffix_no_dot : (x : List ℕ) → IsSuffix x → passes is_dot x ≡ false
+suffix_no_dot : (x : List ℕ) → IsSuffix x → first_passes is_dot x ≡ false
 suffix_no_dot [] s = refl
 suffix_no_dot (c ∷ x) s =
     let p = and_parts (not (is_dot c)) (list_all (λ c. not (eqb c 46)) x) (suffix_without 46 (c ∷ x) foreign_dot s) in
     not-true (is_dot c) p.0
 
-exponent_no_dot : (a : Exponent) (x : List ℕ) → IsExponent a x → IsSuffix x → passes is_dot (exponent_text a ++ x) ≡ false
+exponent_no_dot : (a : Exponent) (x : List ℕ) → IsExponent a x → IsSuffix x → first_passes is_dot (exponent_text a ++ x) ≡ false
 exponent_no_dot NoExponent x p s = suffix_no_dot x s
 exponent_no_dot (Power l us s row) x p sx = letter_no_dot l p.0
 
-same_fraction : (f g : Fraction) (r s : List ℕ) → IsFraction f → IsFraction g → passes (is_digit_part Decimal) r ≡ false → passes (is_digit_part Decimal) s ≡ false → passes is_dot r ≡ false → passes is_dot s ≡ false → fraction_text f ++ r ≡ fraction_text g ++ s → (fraction_text f ≡ fraction_text g) × (r ≡ s)
+same_fraction : (f g : Fraction) (r s : List ℕ) → IsFraction f → IsFraction g → first_passes (is_digit_part Decimal) r ≡ false → first_passes (is_digit_part Decimal) s ≡ false → first_passes is_dot r ≡ false → first_passes is_dot s ≡ false → fraction_text f ++ r ≡ fraction_text g ++ s → (fraction_text f ≡ fraction_text g) × (r ≡ s)
 same_fraction NoFraction NoFraction r s pf pg nr ns dr ds e = (refl, e)
 same_fraction (Dot row) (Dot sow) r s pf pg nr ns dr ds e =
     let tail : row ++ r ≡ sow ++ s = cc in
     let p = same_run (is_digit_part Decimal) row sow r s pf pg nr ns tail in
     (ap (λ w. 46 ∷ w) p.0, p.1)
-same_fraction NoFraction (Dot sow) r s pf pg nr ns dr ds e = let h : false ≡ true = sym dr ∙ ap (passes is_dot) e in absurd (cc)
-same_fraction (Dot row) NoFraction r s pf pg nr ns dr ds e = let h : false ≡ true = sym ds ∙ ap (passes is_dot) (sym e) in absurd (cc)
+same_fraction NoFraction (Dot sow) r s pf pg nr ns dr ds e = let h : false ≡ true = sym dr ∙ ap (first_passes is_dot) e in absurd (cc)
+same_fraction (Dot row) NoFraction r s pf pg nr ns dr ds e = let h : false ≡ true = sym ds ∙ ap (first_passes is_dot) (sym e) in absurd (cc)
 
-fraction_no_part : (f : Fraction) (r : List ℕ) → passes (is_digit_part Decimal) r ≡ false → passes (is_digit_part Decimal) (fraction_text f ++ r) ≡ false
+fraction_no_part : (f : Fraction) (r : List ℕ) → first_passes (is_digit_part Decimal) r ≡ false → first_passes (is_digit_part Decimal) (fraction_text f ++ r) ≡ false
 fraction_no_part NoFraction r h = h
 fraction_no_part (Dot row) r h = refl
 
-passes_on : (test : ℕ → Bool) (a b : List ℕ) → passes test a ≡ true → passes test (a ++ b) ≡ true
+passes_on : (test : ℕ → Bool) (a b : List ℕ) → first_passes test a ≡ true → first_passes test (a ++ b) ≡ true
 passes_on test [] b h = absurd (cc)
 passes_on test (c ∷ cs) b h = h
 
@@ -248,9 +248,9 @@ reads_float_once t x y v w a b =
 
 -- a number's text begins with a digit or a minus
 abbrev pub begins_number : List ℕ → Bool
-begins_number t = passes (λ c. is_ascii_digit c || eqb c 45) t
+begins_number t = first_passes (λ c. is_ascii_digit c || eqb c 45) t
 
-number_front : (s : Sign) (a : List ℕ) → passes is_ascii_digit a ≡ true → begins_number (sign_text s ++ a) ≡ true
+number_front : (s : Sign) (a : List ℕ) → first_passes is_ascii_digit a ≡ true → begins_number (sign_text s ++ a) ≡ true
 number_front NoSign [] h = absurd (cc)
 number_front NoSign (c ∷ a) h = or_left (is_ascii_digit c) (eqb c 45) h
 number_front Minus a h = refl

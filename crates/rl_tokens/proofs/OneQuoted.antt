@@ -5,8 +5,8 @@ use Rattle.std.proofs.lemmas.List.Folds.{list_all-append}
 use Rattle.std.proofs.lemmas.Bool.{eqb-true, and_parts, or_cases, and_left, and_right}
 use Rattle.rl_tokens.specs.declared.kind.Kind.{Kind}
 use Rattle.rl_tokens.specs.declared.kind.Kind.TheVariants.{Str, ByteStr, CStr, Byte, Char, Int, Float, Bool as BoolKind}
-use Rattle.rl_tokens.specs.Texts.{passes, is_underscore}
-use Rattle.rl_tokens.specs.Quoted.{QuotedUnit, Letter, Plain, CrLf, Named, Hex, Unicode, Continuation, LowerN, LowerR, LowerT, Backslash, Apostrophe, Quote, Zero, letter_value, letter_text, unit_text, unit_value, unicode_value, held, hex_value, is_hex_digit, is_blank, is_line_end, is_string, is_plain, IsUnit, texts, values, EndsBefore, ContinuationsEnd, opener, raw_opener, Cooked, Raw, Single}
+use Rattle.rl_tokens.specs.Texts.{first_passes, is_underscore}
+use Rattle.rl_tokens.specs.Quoted.{QuotedUnit, Letter, Plain, CrLf, Named, Hex, Unicode, Continuation, LowerN, LowerR, LowerT, Backslash, Apostrophe, Quote, Zero, letter_value, letter_text, unit_text, unit_value, unicode_value, content_of, hex_value, is_hex_digit, is_blank, is_line_end, is_string, is_plain, IsUnit, texts, values, EndsBefore, ContinuationsEnd, opener, raw_opener, Cooked, Raw, Single}
 use Rattle.rl_tokens.proofs.Basics.{apart}
 use Rattle.rl_tokens.proofs.StrictNumbers.{same_run}
 
@@ -38,7 +38,7 @@ hex_at (h ∷ l ∷ r) = found (hex_value h l ∷ []) r
 hex_at _ = None
 
 abbrev unicode_at : Kind → List ℕ → Found
-unicode_at k (b ∷ first ∷ cs) = found (held k (unicode_value first (before_brace cs) ∷ [])) (after_brace cs)
+unicode_at k (b ∷ first ∷ cs) = found (content_of k (unicode_value first (before_brace cs) ∷ [])) (after_brace cs)
 unicode_at k _ = None
 
 abbrev escape_at : Kind → List ℕ → Found
@@ -51,7 +51,7 @@ line_feed_at (c ∷ cs) = found (10 ∷ []) cs
 
 abbrev unit_at : Kind → List ℕ → Found
 unit_at k [] = None
-unit_at k (c ∷ cs) = cond (eqb c 92) (escape_at k cs) (cond (eqb c 13 && is_string k) (line_feed_at cs) (cond (eqb c 34 && is_string k) None (found (held k (c ∷ [])) cs)))
+unit_at k (c ∷ cs) = cond (eqb c 92) (escape_at k cs) (cond (eqb c 13 && is_string k) (line_feed_at cs) (cond (eqb c 34 && is_string k) None (found (content_of k (c ∷ [])) cs)))
 
 pub record PlainFacts (k : Kind) (c : ℕ) : Type 0 where
   pub no_backslash : eqb c 92 ≡ false
@@ -68,7 +68,7 @@ plain_facts Int c h = absurd (cc)
 plain_facts Float c h = absurd (cc)
 plain_facts BoolKind c h = absurd (cc)
 
-plain_at : (k : Kind) (c : ℕ) (r : List ℕ) → is_plain k c ≡ true → unit_at k (c ∷ r) ≡ found (held k (c ∷ [])) r
+plain_at : (k : Kind) (c : ℕ) (r : List ℕ) → is_plain k c ≡ true → unit_at k (c ∷ r) ≡ found (content_of k (c ∷ [])) r
 plain_at k c r h =
     let f = plain_facts k c h in
     let a = f.no_backslash in
@@ -77,7 +77,7 @@ plain_at k c r h =
     rw (a, b, d) refl
 
 crlf_at : (k : Kind) (r : List ℕ) → is_string k ≡ true → unit_at k (13 ∷ 10 ∷ r) ≡ found (10 ∷ []) r
-crlf_at k r h = ap (λ b. cond b (found (10 ∷ []) r) (found (held k (13 ∷ [])) (10 ∷ r))) h
+crlf_at k r h = ap (λ b. cond b (found (10 ∷ []) r) (found (content_of k (13 ∷ [])) (10 ∷ r))) h
 
 named_at : (k : Kind) (l : Letter) (r : List ℕ) → unit_at k (92 ∷ letter_text l ∷ r) ≡ found (letter_value l ∷ []) r
 named_at k LowerN r = refl
@@ -103,21 +103,21 @@ after_at (c ∷ more) r h =
     let p = and_parts (is_more c) (list_all is_more more) h in
     ap (λ b. cond b (more ++ (125 ∷ r)) (after_brace (more ++ (125 ∷ r)))) (apart is_more c 125 p.0 refl) ∙ after_at more r p.1
 
-unicode_found : (k : Kind) (first : ℕ) (more r : List ℕ) → list_all is_more more ≡ true → unit_at k ((92 ∷ 117 ∷ 123 ∷ first ∷ (more ++ (125 ∷ []))) ++ r) ≡ found (held k (unicode_value first more ∷ [])) r
+unicode_found : (k : Kind) (first : ℕ) (more r : List ℕ) → list_all is_more more ≡ true → unit_at k ((92 ∷ 117 ∷ 123 ∷ first ∷ (more ++ (125 ∷ []))) ++ r) ≡ found (content_of k (unicode_value first more ∷ [])) r
 unicode_found k first more r h =
     let text : (more ++ (125 ∷ [])) ++ r ≡ more ++ (125 ∷ r) = append_assoc more (125 ∷ []) r in
     ap (λ z. unit_at k (92 ∷ 117 ∷ 123 ∷ first ∷ z)) text
-    ∙ ap (λ z. found (held k (unicode_value first z ∷ [])) (after_brace (more ++ (125 ∷ r)))) (before_at more r h)
-    ∙ ap (λ z. found (held k (unicode_value first more ∷ [])) z) (after_at more r h)
+    ∙ ap (λ z. found (content_of k (unicode_value first z ∷ [])) (after_brace (more ++ (125 ∷ r)))) (before_at more r h)
+    ∙ ap (λ z. found (content_of k (unicode_value first more ∷ [])) z) (after_at more r h)
 
-blanks_past : (run r : List ℕ) → list_all is_blank run ≡ true → passes is_blank r ≡ false → after_blanks (run ++ r) ≡ r
+blanks_past : (run r : List ℕ) → list_all is_blank run ≡ true → first_passes is_blank r ≡ false → after_blanks (run ++ r) ≡ r
 blanks_past [] [] h e = refl
 blanks_past [] (c ∷ r) h e = ap (λ b. cond b (after_blanks r) (c ∷ r)) e
 blanks_past (c ∷ run) r h e =
     let p = and_parts (is_blank c) (list_all is_blank run) h in
     ap (λ b. cond b (after_blanks (run ++ r)) (c ∷ (run ++ r))) p.0 ∙ blanks_past run r p.1 e
 
-continuation_at : (k : Kind) (c : ℕ) (run r : List ℕ) → is_line_end c ≡ true → list_all is_blank run ≡ true → passes is_blank r ≡ false → unit_at k (92 ∷ c ∷ (run ++ r)) ≡ found [] r
+continuation_at : (k : Kind) (c : ℕ) (run r : List ℕ) → is_line_end c ≡ true → list_all is_blank run ≡ true → first_passes is_blank r ≡ false → unit_at k (92 ∷ c ∷ (run ++ r)) ≡ found [] r
 continuation_at k c run r l h e =
     let At : ℕ → Type 0 = λ x. unit_at k (92 ∷ x ∷ (run ++ r)) ≡ found [] r in
     let skipped : found [] (after_blanks (run ++ r)) ≡ found [] r = ap (λ z. found [] z) (blanks_past run r h e) in
@@ -139,7 +139,7 @@ some_pair p q h = let e : p ≡ q = cc in (ap (λ x. x.0) e, ap (λ x. x.1) e)
 
 -- ---- rows
 
-blank_on : (t x : List ℕ) → passes is_blank t ≡ false → passes is_blank (t ++ (34 ∷ x)) ≡ false
+blank_on : (t x : List ℕ) → first_passes is_blank t ≡ false → first_passes is_blank (t ++ (34 ∷ x)) ≡ false
 blank_on [] x h = refl
 blank_on (c ∷ t) x h = h
 
@@ -156,7 +156,7 @@ first_unit k u us x each ends =
     ap (unit_at k) (append_assoc (unit_text u) (texts us) (34 ∷ x)) ∙ unit_complete k u (texts us ++ (34 ∷ x)) each.0 (ends_on u (texts us) x ends.0)
 
 quote_none : (k : Kind) (x : List ℕ) → is_string k ≡ true → unit_at k (34 ∷ x) ≡ None
-quote_none k x h = ap (λ b. cond b None (found (held k (34 ∷ [])) x)) h
+quote_none k x h = ap (λ b. cond b None (found (content_of k (34 ∷ [])) x)) h
 
 rows_same : (k : Kind) (us ws : List QuotedUnit) (x y : List ℕ) → is_string k ≡ true → AllByRecursion (IsUnit k) us → ContinuationsEnd us → AllByRecursion (IsUnit k) ws → ContinuationsEnd ws → texts us ++ (34 ∷ x) ≡ texts ws ++ (34 ∷ y) → (values k us ≡ values k ws) × (x ≡ y)
 rows_same k [] [] x y s eu cu ew cw e = (refl, cc)
@@ -231,6 +231,6 @@ raw_once k t v x w y a b =
     let g : 34 ∷ ra ≡ 34 ∷ rb = f.1 in
     let inner : ra ≡ rb = cc in
     let l = last_same a.inside b.inside (replicate a.hashes 35 ++ x) (replicate b.hashes 35 ++ y) (hashes_no_quote a.hashes x a.no_quote) (hashes_no_quote b.hashes y b.no_quote) inner in (
-      a.value_is ∙ ap (held k) l.0 ∙ sym b.value_is,
+      a.value_is ∙ ap (content_of k) l.0 ∙ sym b.value_is,
       same_behind (replicate a.hashes 35) x y (l.1 ∙ ap (λ z. z ++ y) (sym f.0)),
     )

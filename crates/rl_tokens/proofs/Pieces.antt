@@ -2,10 +2,11 @@
 use Rattle.std.proofs.Common.{◌≡◌, ℕ, suc, zero, ◌+◌, ◌⊎◌, inl, inr, Bool, true, false, ◌==◌, cond, List, [], ◌∷◌, ◌++◌, length, Option, Some, None, refl, sym, ◌∙◌, ap, subst, arith, append_assoc}
 use Rattle.std.proofs.lemmas.Bool.Decides.{nat_tests}
 use Rattle.std.specs.List.{AllByRecursion}
-use Rattle.rl_tokens.specs.Texts.{is_white, passes}
+use Rattle.rl_tokens.specs.Texts.{is_white, first_passes}
 use Rattle.rl_tokens.specs.Lexemes.{after_run}
-use Rattle.rl_tokens.specs.Trivia.{is_plain_line, is_plain_block, inside_text, Piece, White, Line, Block, piece_text, IsPiece, trivia_text, IsTrivia, IsOpenLine, BeginsTrivia, Skipped, OneRest}
-use Rattle.rl_tokens.specs.SkippedAt.{after_block, after_line, after_comment, after_piece}
+use Rattle.rl_tokens.specs.Trivia.{is_plain_line, is_plain_block, inside_text, TriviaPiece, White, Line, Block, trivia_piece_text, IsTriviaPiece, trivia_text, IsTrivia}
+use Rattle.rl_tokens.specs.Skipping.{IsOpenLine, BeginsTrivia, Skipped, OneRest}
+use Rattle.rl_tokens.specs.Mirrors.SkippedAt.{after_block, after_line, after_comment, after_piece}
 use Rattle.rl_tokens.proofs.Comments.{chosen, same_Some, false_unless, Closes, after_block-sound, after_block-past, OneLine, after_line-past, after_line-open, plain_line-same, plain_block-same}
 
 -- What after_line gives: the text behind the first LF, or nothing.
@@ -26,7 +27,7 @@ after_line-sound (c ∷ t) = line_ends_step c t (c == 10) refl (after_line-sound
 
 -- What after_piece gives.
 abbrev pub TakesOff : List ℕ → List ℕ → Type 0
-TakesOff t r = ((p : Piece) × IsPiece p × (t ≡ piece_text p ++ r)) ⊎ (IsOpenLine t × (r ≡ []))
+TakesOff t r = ((p : TriviaPiece) × IsTriviaPiece p × (t ≡ trivia_piece_text p ++ r)) ⊎ (IsOpenLine t × (r ≡ []))
 
 none-some : {A : Type 0} (x : A) → None ≡ Some x → ⊥
 none-some x e = cc
@@ -77,7 +78,7 @@ after_piece-sound (c ∷ t) r h =
 white_not_slash : (c : ℕ) → is_white c ≡ true → (c == 47) ≡ false
 white_not_slash c w = false_unless (c == 47) (λ h. let q : is_white 47 ≡ true = subst (λ (x : ℕ). is_white x ≡ true) (is_equal c 47 h) w in absurd (cc))
 
-pub after_piece-past : (p : Piece) (r : List ℕ) → IsPiece p → after_piece (piece_text p ++ r) ≡ Some r
+pub after_piece-past : (p : TriviaPiece) (r : List ℕ) → IsTriviaPiece p → after_piece (trivia_piece_text p ++ r) ≡ Some r
 after_piece-past (White c) r w =
     ap (λ x. cond x (after_comment r) (cond (is_white c) (Some r) None)) (white_not_slash c w) ∙ ap (λ x. cond x (Some r) None) w
 after_piece-past (Line body) r is =
@@ -115,19 +116,19 @@ abbrev skip_in : ℕ → List ℕ → List ℕ
 skip_in zero t = t
 skip_in (suc n) t = goes_on (skip_in n) t (after_piece t)
 
-abbrev adds : List Piece → ℕ → ℕ
+abbrev adds : List TriviaPiece → ℕ → ℕ
 adds [] n = n
 adds (p ∷ ps) n = suc (adds ps n)
 
-adds-length : (ps : List Piece) (n : ℕ) → adds ps n ≡ length ps + n
+adds-length : (ps : List TriviaPiece) (n : ℕ) → adds ps n ≡ length ps + n
 adds-length [] n = omega arith
 adds-length (p ∷ ps) n = omega (arith, adds-length ps n)
 
-skip_in-trivia : (ps : List Piece) (n : ℕ) (r : List ℕ) → AllByRecursion IsPiece ps → skip_in (adds ps n) (trivia_text ps ++ r) ≡ skip_in n r
+skip_in-trivia : (ps : List TriviaPiece) (n : ℕ) (r : List ℕ) → AllByRecursion IsTriviaPiece ps → skip_in (adds ps n) (trivia_text ps ++ r) ≡ skip_in n r
 skip_in-trivia [] n r is = refl
 skip_in-trivia (p ∷ ps) n r (is, more) =
-    ap (λ x. skip_in (suc (adds ps n)) x) (append_assoc (piece_text p) (trivia_text ps) r)
-    ∙ ap (λ x. goes_on (skip_in (adds ps n)) (piece_text p ++ (trivia_text ps ++ r)) x) (after_piece-past p (trivia_text ps ++ r) is)
+    ap (λ x. skip_in (suc (adds ps n)) x) (append_assoc (trivia_piece_text p) (trivia_text ps) r)
+    ∙ ap (λ x. goes_on (skip_in (adds ps n)) (trivia_piece_text p ++ (trivia_text ps ++ r)) x) (after_piece-past p (trivia_text ps ++ r) is)
     ∙ skip_in-trivia ps n r more
 
 skip_in-stops : (n : ℕ) (t : List ℕ) → after_piece t ≡ None → skip_in n t ≡ t
@@ -136,7 +137,7 @@ skip_in-stops (suc n) t h = ap (λ x. goes_on (skip_in n) t x) h
 
 -- Whatever fuel is left, the function reaches the rest.
 abbrev Reaches : List ℕ → List ℕ → Type 0
-Reaches t r = (ps : List Piece) × ((n : ℕ) → skip_in (adds ps (suc n)) t ≡ r)
+Reaches t r = (ps : List TriviaPiece) × ((n : ℕ) → skip_in (adds ps (suc n)) t ≡ r)
 
 reaches : (t r : List ℕ) → Skipped t r → Reaches t r
 reaches t r (inl s) = (
@@ -173,8 +174,8 @@ nothing_behind : (r : List ℕ) → Skipped [] r → r ≡ []
 nothing_behind r (inl s) = nil-append s.front r s.text
 nothing_behind r (inr s) = s.nothing
 
-trivia_more : (p : Piece) (front : List ℕ) → IsPiece p → IsTrivia front → IsTrivia (piece_text p ++ front)
-trivia_more p front is more = record { pieces = p ∷ more.pieces; each = (is, more.each); text = ap (λ x. piece_text p ++ x) more.text }
+trivia_more : (p : TriviaPiece) (front : List ℕ) → IsTriviaPiece p → IsTrivia front → IsTrivia (trivia_piece_text p ++ front)
+trivia_more p front is more = record { pieces = p ∷ more.pieces; each = (is, more.each); text = ap (λ x. trivia_piece_text p ++ x) more.text }
 
 no_trivia : IsTrivia []
 no_trivia = record { pieces = []; each = tt; text = refl }
@@ -182,9 +183,9 @@ no_trivia = record { pieces = []; each = tt; text = refl }
 joined : (t a b m r : List ℕ) → t ≡ a ++ m → m ≡ b ++ r → t ≡ (a ++ b) ++ r
 joined t a b m r h k = h ∙ ap (λ x. a ++ x) k ∙ sym (append_assoc a b r)
 
-skipped_more : (p : Piece) (t m r : List ℕ) → IsPiece p → t ≡ piece_text p ++ m → Skipped m r → Skipped t r
-skipped_more p t m r is same (inl s) = inl (record { front = piece_text p ++ s.front; is_trivia = trivia_more p s.front is s.is_trivia; text = joined t (piece_text p) s.front m r same s.text; stops = s.stops })
-skipped_more p t m r is same (inr s) = inr (record { front = piece_text p ++ s.front; line = s.line; is_trivia = trivia_more p s.front is s.is_trivia; is_line = s.is_line; text = joined t (piece_text p) s.front m s.line same s.text; nothing = s.nothing })
+skipped_more : (p : TriviaPiece) (t m r : List ℕ) → IsTriviaPiece p → t ≡ trivia_piece_text p ++ m → Skipped m r → Skipped t r
+skipped_more p t m r is same (inl s) = inl (record { front = trivia_piece_text p ++ s.front; is_trivia = trivia_more p s.front is s.is_trivia; text = joined t (trivia_piece_text p) s.front m r same s.text; stops = s.stops })
+skipped_more p t m r is same (inr s) = inr (record { front = trivia_piece_text p ++ s.front; line = s.line; is_trivia = trivia_more p s.front is s.is_trivia; is_line = s.is_line; text = joined t (trivia_piece_text p) s.front m s.line same s.text; nothing = s.nothing })
 
 skipped_by : (t m r : List ℕ) → TakesOff t m → Skipped m r → Skipped t r
 skipped_by t m r (inl (p, is, same)) s = skipped_more p t m r is same s
@@ -214,19 +215,19 @@ skipped_run t u r e s = go t (subst (λ (x : List ℕ). Skipped x r) e s)
     go [] s = s
     go (c ∷ t) s = step c t (is_white c) refl (go t) s
 
-pub run_ends : (test : ℕ → Bool) (t u : List ℕ) → u ≡ after_run test t → passes test u ≡ false
-run_ends test t u e = ap (passes test) e ∙ go t
+pub run_ends : (test : ℕ → Bool) (t u : List ℕ) → u ≡ after_run test t → first_passes test u ≡ false
+run_ends test t u e = ap (first_passes test) e ∙ go t
   where
-    step : (c : ℕ) (t : List ℕ) (b : Bool) → test c ≡ b → passes test (after_run test t) ≡ false → passes test (cond b (after_run test t) (c ∷ t)) ≡ false
+    step : (c : ℕ) (t : List ℕ) (b : Bool) → test c ≡ b → first_passes test (after_run test t) ≡ false → first_passes test (cond b (after_run test t) (c ∷ t)) ≡ false
     step c t true h more = more
     step c t false h more = h
 
-    go : (t : List ℕ) → passes test (after_run test t) ≡ false
+    go : (t : List ℕ) → first_passes test (after_run test t) ≡ false
     go [] = refl
     go (c ∷ t) = step c t (test c) refl (go t)
 
 -- a text that begins with no white space: nothing is skipped but a comment
-pub skipped_none : (t : List ℕ) → passes is_white t ≡ false → passes (λ c. c == 47) t ≡ false → Skipped t t
+pub skipped_none : (t : List ℕ) → first_passes is_white t ≡ false → first_passes (λ c. c == 47) t ≡ false → Skipped t t
 skipped_none [] white slash = skipped_here [] refl
 skipped_none (c ∷ t) white slash = skipped_here (c ∷ t) (ap (λ b. cond b (after_comment t) (cond (is_white c) (Some t) None)) slash ∙ ap (λ b. cond b (Some t) None) white)
 

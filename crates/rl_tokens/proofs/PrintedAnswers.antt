@@ -9,7 +9,8 @@ use Rattle.rl_tokens.specs.declared.lex_error.LexKind.TheVariants.{DocComment, U
 use Rattle.rl_tokens.specs.declared.lex_error.LexError.{LexError}
 use Rattle.rl_tokens.specs.Trees.{Tree, stream_view}
 use Rattle.rl_tokens.specs.Lexing.{Lexes, Fault, Refuses}
-use Rattle.rl_tokens.specs.Printed.{Entry, Printed, Reprinted, printed_trees}
+use Rattle.rl_tokens.specs.Printed.{Entry, Printed}
+use Rattle.rl_tokens.specs.PrintedTrees.{Reprinted, printed_trees}
 use Rattle.rl_tokens.proofs.LexLaws.{one_list, never_both}
 use Rattle.rl_tokens.proofs.PrintedLaws.{printed_lexes, reprinted_lexes}
 

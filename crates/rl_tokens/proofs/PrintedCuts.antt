@@ -9,12 +9,15 @@ use Rattle.std.proofs.lemmas.Option.{none-some}
 use Rattle.std.proofs.lemmas.Str.{encode_ascii}
 use Rattle.unicode_ident.specs.Ident.{is_xid_start}
 use Rattle.rl_tokens.specs.Texts.{is_white, is_among}
-use Rattle.rl_tokens.specs.Trivia.{White, Line, Block, BeginsTrivia, IsTrivia}
+use Rattle.rl_tokens.specs.Trivia.{White, Line, Block, IsTrivia}
+use Rattle.rl_tokens.specs.Skipping.{BeginsTrivia}
 use Rattle.rl_tokens.specs.Lexemes.{delimiters, marks, Lexeme, IdentifierLexeme, MarkLexeme, lexeme_text, IsLexeme, LiteralForm, form_of}
-use Rattle.rl_tokens.specs.LexemeAt.{DelimiterHead, MarkHead, SlashHead, DigitHead, QuoteHead, ApostropheHead, StrayHead, head_class, lexeme_at}
+use Rattle.rl_tokens.specs.Mirrors.LexemeAt.{DelimiterHead, MarkHead, SlashHead, DigitHead, QuoteHead, ApostropheHead, StrayHead, head_class, lexeme_at}
 use Rattle.rl_tokens.specs.Trees.{Tree, PunctTree, LiteralTree, flat, flat_trees}
-use Rattle.rl_tokens.specs.Lexing.{Cut, byte_len, Cuts, OpenGroup, behind_form, open_groups, flat_form, flat_cut, Lexes}
-use Rattle.rl_tokens.specs.Printed.{Item, WordItem, LiteralItem, MinusItem, item_text, Entry, printed_text, token_at, item_trees, printed_trees}
+use Rattle.rl_tokens.specs.Lexing.{LexedToken, LexesUpTo, OpenGroup, behind_form, open_groups, flat_form, flat_token, Lexes}
+use Rattle.rl_tokens.specs.Texts.{byte_len}
+use Rattle.rl_tokens.specs.Printed.{Item, WordItem, LiteralItem, MinusItem, item_text, Entry, printed_text, token_at}
+use Rattle.rl_tokens.specs.PrintedTrees.{item_trees, printed_trees}
 use Rattle.rl_tokens.proofs.Comments.{false_unless}
 use Rattle.rl_tokens.proofs.Pieces.{stops-from_none}
 use Rattle.rl_tokens.proofs.LexemeRows.{not_true, not_among}
@@ -49,10 +52,10 @@ lexeme_stops l after is trivia = none-some (form_of l, after) (sym (trivia_none 
 
 -- The text that stands at this byte is cut into these trees, and no group is opened.
 record CutInto (file at : ℕ) (t : List ℕ) (trees : List Tree) : Type 0 where
-  pub cuts : List Cut
-  pub are_cuts : Cuts at t cuts []
+  pub cuts : List LexedToken
+  pub are_cuts : LexesUpTo at t cuts []
   pub none_open : (groups : List OpenGroup) → open_groups groups cuts ≡ Some groups
-  pub flat_is : map (flat_cut file) cuts ≡ flat_trees trees
+  pub flat_is : map (flat_token file) cuts ≡ flat_trees trees
 
 -- the last gap
 last_cut : (file at : ℕ) (last : List ℕ) → IsTrivia last → CutInto file at last []
@@ -64,7 +67,7 @@ last_cut file at last is = record {
 }
 
 -- a gap and a token of no delimiter
-token_cut : (file at : ℕ) (gap : List ℕ) (l : Lexeme) (after : List ℕ) (tree : Tree) (trees : List Tree) → IsTrivia gap → IsLexeme l after → ((groups : List OpenGroup) (n : ℕ) → behind_form groups (form_of l) n ≡ Some groups) → flat tree ≡ flat_cut file (record { lexeme = l; at = at + byte_len gap }) ∷ [] → CutInto file (at + byte_len gap + byte_len (lexeme_text l)) after trees → CutInto file at (gap ++ (lexeme_text l ++ after)) (tree ∷ trees)
+token_cut : (file at : ℕ) (gap : List ℕ) (l : Lexeme) (after : List ℕ) (tree : Tree) (trees : List Tree) → IsTrivia gap → IsLexeme l after → ((groups : List OpenGroup) (n : ℕ) → behind_form groups (form_of l) n ≡ Some groups) → flat tree ≡ flat_token file (record { lexeme = l; at = at + byte_len gap }) ∷ [] → CutInto file (at + byte_len gap + byte_len (lexeme_text l)) after trees → CutInto file at (gap ++ (lexeme_text l ++ after)) (tree ∷ trees)
 token_cut file at gap l after tree trees is_gap is_lexeme neutral is_flat rest = record {
   cuts = record { lexeme = l; at = at + byte_len gap } ∷ rest.cuts;
   are_cuts = (
@@ -75,11 +78,11 @@ token_cut file at gap l after tree trees is_gap is_lexeme neutral is_flat rest =
     rest.are_cuts,
   );
   none_open = λ groups. ap (option_and_then (λ g. open_groups g rest.cuts)) (neutral groups (at + byte_len gap)) ∙ rest.none_open groups;
-  flat_is = ap (λ fs. flat_cut file (record { lexeme = l; at = at + byte_len gap }) ∷ fs) rest.flat_is ∙ ap (λ f. f ++ flat_trees trees) (sym is_flat);
+  flat_is = ap (λ fs. flat_token file (record { lexeme = l; at = at + byte_len gap }) ∷ fs) rest.flat_is ∙ ap (λ f. f ++ flat_trees trees) (sym is_flat);
 }
 
 -- The trees of items.
-literal_flat : (file at : ℕ) (l : Lexeme) (text : List ℕ) → form_of l ≡ LiteralForm → text ≡ lexeme_text l → flat (LiteralTree (token_at file at text)) ≡ flat_cut file (record { lexeme = l; at = at }) ∷ []
+literal_flat : (file at : ℕ) (l : Lexeme) (text : List ℕ) → form_of l ≡ LiteralForm → text ≡ lexeme_text l → flat (LiteralTree (token_at file at text)) ≡ flat_token file (record { lexeme = l; at = at }) ∷ []
 literal_flat file at l text form same =
     ap (λ x. flat (LiteralTree (token_at file at x))) same
     ∙ ap (λ f. flat_form f (encode_utf8_all (lexeme_text l)) (record { file = file; lo = at; hi = at + byte_len (lexeme_text l) }) ∷ []) (sym form)
@@ -90,7 +93,7 @@ literal_neutral l form groups n = ap (λ f. behind_form groups f n) form
 minus_len : byte_len (45 ∷ []) ≡ 1
 minus_len = ap (λ z. length (z ++ [])) (encode_ascii 45 (lit< tt))
 
-minus_flat : (file at : ℕ) → flat (PunctTree (record { ch = 45; span = record { file = file; lo = at; hi = at + 1 } })) ≡ flat_cut file (record { lexeme = MarkLexeme 45; at = at }) ∷ []
+minus_flat : (file at : ℕ) → flat (PunctTree (record { ch = 45; span = record { file = file; lo = at; hi = at + 1 } })) ≡ flat_token file (record { lexeme = MarkLexeme 45; at = at }) ∷ []
 minus_flat file at = ap (λ n. flat (PunctTree (record { ch = 45; span = record { file = file; lo = at; hi = at + n } }))) (sym minus_len)
 
 -- Below a family says what may follow a literal. The text of a literal that is one lexeme before each such text:
@@ -156,4 +159,4 @@ entries_cut ends file at (e ∷ es) last ((is_gap, is), each) (follows, follow) 
 pub entries_lex : (ends : List ℕ → Type 0) (file : ℕ) (t : List ℕ) (entries : List Entry) (last : List ℕ) → t ≡ printed_text entries last → AllByRecursion (λ e. IsTrivia e.gap × LexedItem ends e.item) entries → EndsEach ends entries last → IsTrivia last → Lexes t file (printed_trees file 0 entries)
 entries_lex ends file t entries last same each follow is_last =
     let c = entries_cut ends file 0 entries last each follow is_last in
-    record { cuts = c.cuts; are_cuts = subst (λ (x : List ℕ). Cuts 0 x c.cuts []) (sym same) c.are_cuts; none_open = c.none_open []; flat_is = c.flat_is }
+    record { cuts = c.cuts; are_cuts = subst (λ (x : List ℕ). LexesUpTo 0 x c.cuts []) (sym same) c.are_cuts; none_open = c.none_open []; flat_is = c.flat_is }

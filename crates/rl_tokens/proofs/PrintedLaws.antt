@@ -5,13 +5,14 @@ use Rattle.std.specs.List.{AllByRecursion}
 use Rattle.std.proofs.lemmas.Bool.{or_right}
 use Rattle.rl_tokens.specs.declared.kind.Kind.{Kind}
 use Rattle.rl_tokens.specs.declared.kind.Kind.TheVariants.{Str, ByteStr, CStr, Byte, Char, Int, Float, Bool as BoolKind}
-use Rattle.rl_tokens.specs.Texts.{is_white, passes, is_among}
-use Rattle.rl_tokens.specs.Trivia.{Piece, White, Line, Block, piece_text, IsPiece, trivia_text, IsTrivia}
+use Rattle.rl_tokens.specs.Texts.{is_white, first_passes, is_among}
+use Rattle.rl_tokens.specs.Trivia.{TriviaPiece, White, Line, Block, trivia_piece_text, IsTriviaPiece, trivia_text, IsTrivia}
 use Rattle.rl_tokens.specs.Lexemes.{Lexeme, QuotedLexeme, RawLexeme, CharacterLexeme, BasedLexeme, DecimalLexeme, IdentifierLexeme, DelimiterLexeme, MarkLexeme, LiteralForm, form_of, KeepsItsEnd, BeginsGap}
 use Rattle.rl_tokens.specs.Reading.{Contents}
 use Rattle.rl_tokens.specs.Strict.{Strict}
-use Rattle.rl_tokens.specs.Agreeing.{is_number}
-use Rattle.rl_tokens.specs.Printed.{Item, WordItem, LiteralItem, MinusItem, item_text, Entry, printed_text, IsStrictItem, IsApart, IsCutLiteral, IsCutItem, PrintedLexes, ReprintedLexes}
+use Rattle.rl_tokens.specs.Quoted.{is_number}
+use Rattle.rl_tokens.specs.Printed.{Item, WordItem, LiteralItem, MinusItem, item_text, Entry, printed_text, IsStrictItem, IsApart}
+use Rattle.rl_tokens.specs.PrintedTrees.{IsLexedLiteral, IsLexedItem, PrintedLexes, ReprintedLexes}
 use Rattle.rl_tokens.proofs.LexemeGaps.{stays_before_gap}
 use Rattle.rl_tokens.proofs.PrintedCuts.{LexedBefore, LexedItem, EndsEach, entries_lex}
 use Rattle.rl_tokens.proofs.LiteralEnds.{EndsLiteral, gap_ends, word_ends}
@@ -32,7 +33,7 @@ behind_first P [] ps = tt
 behind_first P (x ∷ xs) (p, ps) = ps
 
 -- What a gap begins with.
-piece_begins : (p : Piece) (rest : List ℕ) → IsPiece p → BeginsGap (piece_text p ++ rest)
+piece_begins : (p : TriviaPiece) (rest : List ℕ) → IsTriviaPiece p → BeginsGap (trivia_piece_text p ++ rest)
 piece_begins (White c) rest is = ap (λ b. b || c == 47) is
 piece_begins (Line body) rest is = refl
 piece_begins (Block inside) rest is = refl
@@ -40,9 +41,9 @@ piece_begins (Block inside) rest is = refl
 gap_begins : (gap rest : List ℕ) → IsTrivia gap → (gap ≡ [] → BeginsGap rest) → BeginsGap (gap ++ rest)
 gap_begins gap rest is none = go is.pieces is.each is.text
   where
-    go : (ps : List Piece) → AllByRecursion IsPiece ps → gap ≡ trivia_text ps → BeginsGap (gap ++ rest)
+    go : (ps : List TriviaPiece) → AllByRecursion IsTriviaPiece ps → gap ≡ trivia_text ps → BeginsGap (gap ++ rest)
     go [] each same = subst (λ (x : List ℕ). BeginsGap (x ++ rest)) (sym same) (none same)
-    go (p ∷ ps) (is, each) same = subst (λ (x : List ℕ). BeginsGap x) (sym (append_assoc (piece_text p) (trivia_text ps) rest) ∙ ap (λ x. x ++ rest) (sym same)) (piece_begins p (trivia_text ps ++ rest) is)
+    go (p ∷ ps) (is, each) same = subst (λ (x : List ℕ). BeginsGap x) (sym (append_assoc (trivia_piece_text p) (trivia_text ps) rest) ∙ ap (λ x. x ++ rest) (sym same)) (piece_begins p (trivia_text ps ++ rest) is)
 
 filled_gap : (gap rest : List ℕ) → IsTrivia gap → gap ≢ [] → BeginsGap (gap ++ rest)
 filled_gap gap rest is some = gap_begins gap rest is (λ h. absurd (some h))
@@ -82,7 +83,7 @@ strict_item : (e : Entry) → IsTrivia e.gap × IsStrictItem e.item → IsTrivia
 strict_item e (gap, is) = (gap, item_lexed e.item is)
 
 -- what begins with a quote, an apostrophe or a minus
-text_ends : (text rest : List ℕ) → passes (is_among (codes "\"'-")) text ≡ true → EndsLiteral (text ++ rest)
+text_ends : (text rest : List ℕ) → first_passes (is_among (codes "\"'-")) text ≡ true → EndsLiteral (text ++ rest)
 text_ends [] rest begins = absurd (cc)
 text_ends (c ∷ t) rest begins = or_right (is_white c) (is_among (47 ∷ codes "\"'-") c) (or_right (c == 47) (is_among (codes "\"'-") c) begins)
 
@@ -115,10 +116,10 @@ literal_keeps (IdentifierLexeme c more) form = tt
 literal_keeps (DelimiterLexeme c) form = tt
 literal_keeps (MarkLexeme c) form = absurd (cc)
 
-cut_stays : (text : List ℕ) → IsCutLiteral text → LexedBefore BeginsGap text
+cut_stays : (text : List ℕ) → IsLexedLiteral text → LexedBefore BeginsGap text
 cut_stays text (l, after, is, form, same) = record { lexeme = l; is_lexeme = λ gap begins. stays_before_gap l after gap (literal_keeps l form) is begins; form = form; text_is = same }
 
-item_stays : (item : Item) → IsCutItem item → LexedItem BeginsGap item
+item_stays : (item : Item) → IsLexedItem item → LexedItem BeginsGap item
 item_stays (WordItem truth) is = λ after begins. word_ends truth after (gap_ends after begins)
 item_stays (LiteralItem text) is = cut_stays text is
 item_stays (MinusItem text) is = cut_stays text is
@@ -127,8 +128,8 @@ item_stays (MinusItem text) is = cut_stays text is
 pub reprinted_lexes : ReprintedLexes
 reprinted_lexes t entries last file printed =
     entries_lex BeginsGap file t entries last printed.text
-    (all_from (λ (e : Entry). IsTrivia e.gap × IsCutItem e.item) (λ (e : Entry). IsTrivia e.gap × LexedItem BeginsGap e.item) (λ e is. (is.0, item_stays e.item is.1)) entries printed.items)
+    (all_from (λ (e : Entry). IsTrivia e.gap × IsLexedItem e.item) (λ (e : Entry). IsTrivia e.gap × LexedItem BeginsGap e.item) (λ e is. (is.0, item_stays e.item is.1)) entries printed.items)
     (follow_each BeginsGap entries last
-    (all_by (λ (e : Entry). IsTrivia e.gap × IsCutItem e.item) (λ (e : Entry). e.gap ≢ []) (Follows BeginsGap) (λ e is some rest. filled_gap e.gap (item_text e.item ++ rest) is.0 some) (drop 1 entries) (behind_first _ entries printed.items) printed.apart)
+    (all_by (λ (e : Entry). IsTrivia e.gap × IsLexedItem e.item) (λ (e : Entry). e.gap ≢ []) (Follows BeginsGap) (λ e is some rest. filled_gap e.gap (item_text e.item ++ rest) is.0 some) (drop 1 entries) (behind_first _ entries printed.items) printed.apart)
     (last_begins last printed.last_gap))
     printed.last_gap

@@ -3,14 +3,14 @@ use Rattle.std.proofs.Common.{◌≡◌, ℕ, ◌<◌, ◌≤◌, List, ◌++◌
 use Rattle.std.proofs.lemmas.List.{take-append-drop}
 use Rattle.std.specs.Option.{IfSome}
 use Rattle.std.specs.Str.{IsUtf8}
-use Rattle.rl_tokens.specs.Texts.{IsBehind}
+use Rattle.rl_tokens.specs.Texts.{IsTail}
 
-pub behind_drop : (t r : List ℕ) (n : ℕ) → r ≡ drop n t → IsUtf8 r → IsBehind t r
+pub behind_drop : (t r : List ℕ) (n : ℕ) → r ≡ drop n t → IsUtf8 r → IsTail t r
 behind_drop t r n e u = record { front = take n t; text_is = sym (take-append-drop n t) ∙ ap (λ x. take n t ++ x) (sym e); is_text = u }
 
-pub behind_length : (t r : List ℕ) → IsBehind t r → length r ≤ length t
+pub behind_length : (t r : List ℕ) → IsTail t r → length r ≤ length t
 behind_length t r b = omega (arith, ap length b.text_is, length-append b.front r)
 
-pub shorter_in : (t u : List ℕ) (r : Option (Bor (List ℕ))) → length u < length t → IfSome r (λ rest. IsBehind u rest.now) → IfSome r (λ rest. length rest.now < length t)
+pub shorter_in : (t u : List ℕ) (r : Option (Bor (List ℕ))) → length u < length t → IfSome r (λ rest. IsTail u rest.now) → IfSome r (λ rest. length rest.now < length t)
 shorter_in t u None l h = tt
 shorter_in t u (Some x) l h = omega (arith, behind_length u x.now h)

@@ -8,7 +8,7 @@ use Rattle.std.specs.List.{list_all, prefix_len}
 use Rattle.std.specs.Char.{encode_utf8, is_ascii}
 use Rattle.std.specs.Str.{chars, encode_utf8_all, IsUtf8, IsCharBoundary}
 use Rattle.rl_tokens.specs.declared.scan.Marks.{Marks}
-use Rattle.rl_tokens.specs.Texts.{passes, IsBehind}
+use Rattle.rl_tokens.specs.Texts.{first_passes, IsTail}
 use Rattle.rl_tokens.specs.Scanning.{is_one_of, is_other, AreAscii, IsNextMark}
 use Rattle.rl_tokens.proofs.CommentBytes.{not_equal, cases128, low_front, encode_is_high}
 use Rattle.rl_tokens.proofs.Comments.{false_unless}
@@ -41,12 +41,12 @@ prefix_passes q (b ∷ bs) = go (q b) refl (prefix_passes q bs)
     go true e more = ap (list_all q) (take_next (prefix_len q bs) b bs) ∙ and_from (q b) (list_all q (take (prefix_len q bs) bs)) e more
     go false e more = refl
 
-pub prefix_ends : (q : ℕ → Bool) (bs : List ℕ) → passes q (drop (prefix_len q bs) bs) ≡ false
+pub prefix_ends : (q : ℕ → Bool) (bs : List ℕ) → first_passes q (drop (prefix_len q bs) bs) ≡ false
 prefix_ends q [] = refl
 prefix_ends q (b ∷ bs) = go (q b) refl (prefix_ends q bs)
   where
-    go : (t : Bool) → q b ≡ t → passes q (drop (prefix_len q bs) bs) ≡ false → passes q (drop (cond t (1 + prefix_len q bs) 0) (b ∷ bs)) ≡ false
-    go true e more = ap (passes q) (drop_next (prefix_len q bs) b bs) ∙ more
+    go : (t : Bool) → q b ≡ t → first_passes q (drop (prefix_len q bs) bs) ≡ false → first_passes q (drop (cond t (1 + prefix_len q bs) 0) (b ∷ bs)) ≡ false
+    go true e more = ap (first_passes q) (drop_next (prefix_len q bs) b bs) ∙ more
     go false e more = e
 
 later_pass : (q : ℕ → Bool) (xs ys : List ℕ) → list_all q (xs ++ ys) ≡ true → list_all q ys ≡ true
@@ -64,15 +64,15 @@ module _ (q : ℕ → Bool) (high : PassesHigh q) where
       first (inl low) = (and_parts (q c) (list_all q (encode_utf8_all cs)) (ap (list_all q) (sym (low_front c cs low)) ∙ h)).0
       first (inr past) = high c past
 
-  head_encoded : (cs : List ℕ) → passes q (encode_utf8_all cs) ≡ false → passes q cs ≡ false
+  head_encoded : (cs : List ℕ) → first_passes q (encode_utf8_all cs) ≡ false → first_passes q cs ≡ false
   head_encoded [] h = refl
   head_encoded (c ∷ cs) h = go (cases128 c)
     where
       go : (c < 128) ⊎ (128 ≤ c) → q c ≡ false
-      go (inl low) = ap (passes q) (sym (low_front c cs low)) ∙ h
+      go (inl low) = ap (first_passes q) (sym (low_front c cs low)) ∙ h
       go (inr past) =
           let (b, bs, same, is, _) = encode_is_high c past in
-          absurd (both_ways (q b) (ap (λ x. passes q (x ++ encode_utf8_all cs)) (sym same) ∙ h) (high b is))
+          absurd (both_ways (q b) (ap (λ x. first_passes q (x ++ encode_utf8_all cs)) (sym same) ∙ h) (high b is))
 
   -- the bytes of a run end where a character does
   pub run_boundary : (bs : List ℕ) → IsCharBoundary bs (prefix_len q bs)
@@ -96,17 +96,17 @@ module _ (q : ℕ → Bool) (high : PassesHigh q) where
       all_encoded (chars front) (ap (list_all q) (encodes-chars front (IsUtf8-take bs (prefix_len q bs) u (run_boundary bs))) ∙ prefix_passes q bs)
 
   -- and the one behind it doesn't
-  pub run_stop : (bs : List ℕ) → IsUtf8 bs → passes q (chars (drop (prefix_len q bs) bs)) ≡ false
+  pub run_stop : (bs : List ℕ) → IsUtf8 bs → first_passes q (chars (drop (prefix_len q bs) bs)) ≡ false
   run_stop bs u =
       let rest = drop (prefix_len q bs) bs in
-      head_encoded (chars rest) (ap (passes q) (encodes-chars rest (IsUtf8-drop bs (prefix_len q bs) u (run_boundary bs))) ∙ prefix_ends q bs)
+      head_encoded (chars rest) (ap (first_passes q) (encodes-chars rest (IsUtf8-drop bs (prefix_len q bs) u (run_boundary bs))) ∙ prefix_ends q bs)
 
   pub run_cut : (bs : List ℕ) → IsUtf8 bs → chars bs ≡ chars (take (prefix_len q bs) bs) ++ chars (drop (prefix_len q bs) bs)
   run_cut bs u =
       let n = prefix_len q bs in
       ap chars (sym (take-append-drop n bs)) ∙ chars-append (take n bs) (drop n bs) (IsUtf8-take bs n u (run_boundary bs))
 
-  pub run_behind : (bs : List ℕ) → IsUtf8 bs → IsBehind bs (drop (prefix_len q bs) bs)
+  pub run_behind : (bs : List ℕ) → IsUtf8 bs → IsTail bs (drop (prefix_len q bs) bs)
   run_behind bs u = record { front = take (prefix_len q bs) bs; text_is = sym (take-append-drop (prefix_len q bs) bs); is_text = IsUtf8-drop bs (prefix_len q bs) u (run_boundary bs) }
 
 -- ---- a character of ASCII at the front
@@ -115,40 +115,40 @@ pub ascii_first : (t : List ℕ) → IsUtf8 t → 0 < length t → get_or t 0 0 
 ascii_first [] u some low = absurd (omega arith)
 ascii_first (b ∷ bs) u some low = chars_past_char (b ∷ bs) bs b u (sym (ap (λ x. x ++ bs) (encode_ascii b low)))
 
-pub none_first : (t : List ℕ) → length t ≡ 0 → passes is_ascii (chars t) ≡ false
+pub none_first : (t : List ℕ) → length t ≡ 0 → first_passes is_ascii (chars t) ≡ false
 unfolding chars
 none_first [] none = refl
 none_first (b ∷ bs) none = absurd (omega arith)
 
-pub other_first : (t : List ℕ) → IsUtf8 t → 128 ≤ get_or t 0 0 → passes is_ascii (chars t) ≡ false
+pub other_first : (t : List ℕ) → IsUtf8 t → 128 ≤ get_or t 0 0 → first_passes is_ascii (chars t) ≡ false
 other_first t u high = go (chars t) (encodes-chars t u)
   where
     low_head : (c : ℕ) (cs : List ℕ) → encode_utf8_all (c ∷ cs) ≡ t → c < 128 → get_or t 0 0 ≡ c
     low_head c cs e low = ap (λ x. get_or x 0 0) (sym e ∙ low_front c cs low)
 
-    go : (cs : List ℕ) → encode_utf8_all cs ≡ t → passes is_ascii cs ≡ false
+    go : (cs : List ℕ) → encode_utf8_all cs ≡ t → first_passes is_ascii cs ≡ false
     go [] e = refl
     go (c ∷ cs) e = false_unless (is_ascii c) (λ h. omega (arith, low_head c cs e (ltb-true c 128 h), ltb-true c 128 h))
 
 -- ---- the next mark
 
-none_left : (m : Marks) (cs : List ℕ) → AreAscii m → passes (is_other m) cs ≡ false → passes is_ascii cs ≡ false → cs ≡ []
+none_left : (m : Marks) (cs : List ℕ) → AreAscii m → first_passes (is_other m) cs ≡ false → first_passes is_ascii cs ≡ false → cs ≡ []
 none_left m [] a stops none = refl
 none_left m (c ∷ cs) a stops none = absurd (both_ways (is_other m c) stops (other_high m a c (ltb-false c 128 none)))
 
-pub all_other : (m : Marks) (t front rest : List ℕ) → AreAscii m → t ≡ front ++ rest → list_all (is_other m) front ≡ true → passes (is_other m) rest ≡ false → passes is_ascii rest ≡ false → list_all (is_other m) t ≡ true
+pub all_other : (m : Marks) (t front rest : List ℕ) → AreAscii m → t ≡ front ++ rest → list_all (is_other m) front ≡ true → first_passes (is_other m) rest ≡ false → first_passes is_ascii rest ≡ false → list_all (is_other m) t ≡ true
 all_other m t front rest a cut others stops none = ap (list_all (is_other m)) (cut ∙ ap (λ z. front ++ z) (none_left m rest a stops none) ∙ append-nil front) ∙ others
 
 not_false : (b : Bool) → not b ≡ false → b ≡ true
 not_false true h = refl
 not_false false h = absurd (cc)
 
-pub mark_next : (m : Marks) (t front from : List ℕ) (k : ℕ) (rest : List ℕ) → t ≡ front ++ from → list_all (is_other m) front ≡ true → passes (is_other m) from ≡ false → from ≡ k ∷ rest → IsNextMark m t k rest
+pub mark_next : (m : Marks) (t front from : List ℕ) (k : ℕ) (rest : List ℕ) → t ≡ front ++ from → list_all (is_other m) front ≡ true → first_passes (is_other m) from ≡ false → from ≡ k ∷ rest → IsNextMark m t k rest
 mark_next m t front from k rest cut others stops first = record {
   front = front;
   others = others;
   text_is = cut ∙ ap (λ z. front ++ z) first;
-  is_mark = not_false (is_one_of m k) (ap (passes (is_other m)) (sym first) ∙ stops);
+  is_mark = not_false (is_one_of m k) (ap (first_passes (is_other m)) (sym first) ∙ stops);
 }
 
 -- ---- what is no mark

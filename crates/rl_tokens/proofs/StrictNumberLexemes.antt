@@ -6,7 +6,7 @@ use Rattle.std.specs.Char.{digit_value, is_ascii_digit, is_ascii_hexdigit, is_as
 use Rattle.std.proofs.lemmas.Bool.{and_parts, and_from, or_from, or_cases, eqb-true, ltb-true, lt-ltb, agree_below_at}
 use Rattle.std.proofs.lemmas.Bool.Decides.{nat_tests}
 use Rattle.std.proofs.lemmas.List.Folds.{list_all-append}
-use Rattle.rl_tokens.specs.Texts.{is_white, is_start, is_continue, passes, begins}
+use Rattle.rl_tokens.specs.Texts.{is_white, is_start, is_continue, first_passes, begins}
 use Rattle.rl_tokens.specs.Numbers.{is_digit_part, Decimal}
 use Rattle.rl_tokens.specs.Lexemes.{is_numeral_part, is_base_letter, begins_dot, begins_exponent, after_sign, after_run, LexedFraction, NoLexedFraction, LexedDot, lexed_fraction_text, LexedSign, NoLexedSign, LexedPlus, LexedMinus, lexed_sign_text, LexedExponent, NoLexedExponent, LexedPower, lexed_exponent_text, IsLexedFraction, IsLexedExponent, BasedLexeme, DecimalLexeme}
 use Rattle.rl_tokens.specs.Reading.{Contents}
@@ -27,12 +27,12 @@ abbrev is_letter : ℕ → Bool
 is_letter c = c == 101 || c == 69
 
 abbrev FractionFacts : LexedFraction → List ℕ → Type 0
-FractionFacts NoLexedFraction s = passes (λ c. c == 46) s ≡ false
-FractionFacts (LexedDot digits) s = (passes is_dot_or_start (digits ++ s) ≡ false) × (list_all is_numeral_part digits ≡ true) × (passes is_numeral_part s ≡ false)
+FractionFacts NoLexedFraction s = first_passes (λ c. c == 46) s ≡ false
+FractionFacts (LexedDot digits) s = (first_passes is_dot_or_start (digits ++ s) ≡ false) × (list_all is_numeral_part digits ≡ true) × (first_passes is_numeral_part s ≡ false)
 
 abbrev ExponentFacts : LexedExponent → List ℕ → Type 0
-ExponentFacts NoLexedExponent x = passes is_letter x ≡ false
-ExponentFacts (LexedPower letter sign n d more) x = (is_letter letter ≡ true) × (is_ascii_digit d ≡ true) × (list_all is_numeral_part more ≡ true) × (passes is_numeral_part x ≡ false)
+ExponentFacts NoLexedExponent x = first_passes is_letter x ≡ false
+ExponentFacts (LexedPower letter sign n d more) x = (is_letter letter ≡ true) × (is_ascii_digit d ≡ true) × (list_all is_numeral_part more ≡ true) × (first_passes is_numeral_part x ≡ false)
 
 record DecimalFacts (t : List ℕ) : Type 0 where
   pub digit : ℕ
@@ -42,14 +42,14 @@ record DecimalFacts (t : List ℕ) : Type 0 where
   pub suffix : List ℕ
   pub is_digit : is_ascii_digit digit ≡ true
   pub each : list_all is_numeral_part more ≡ true
-  pub row_ends : passes is_numeral_part (lexed_fraction_text fraction ++ (lexed_exponent_text exponent ++ suffix)) ≡ false
+  pub row_ends : first_passes is_numeral_part (lexed_fraction_text fraction ++ (lexed_exponent_text exponent ++ suffix)) ≡ false
   pub is_fraction : FractionFacts fraction (lexed_exponent_text exponent ++ suffix)
   pub is_exponent : ExponentFacts exponent suffix
   pub is_suffix : IsStrictSuffix suffix
   pub is_decimal : IsDecimalText t
   pub text : t ≡ digit ∷ (more ++ (lexed_fraction_text fraction ++ (lexed_exponent_text exponent ++ suffix)))
 
-not_based : (d : ℕ) (u : List ℕ) → IsDecimalText (d ∷ u) → (d == 48 && passes is_base_letter u) ≡ false
+not_based : (d : ℕ) (u : List ℕ) → IsDecimalText (d ∷ u) → (d == 48 && first_passes is_base_letter u) ≡ false
 not_based d [] h = and_false (d == 48)
 not_based d (c ∷ u) h = go (d == 48) (c == 98) (c == 111) (c == 120) h
   where
@@ -60,23 +60,23 @@ not_based d (c ∷ u) h = go (d == 48) (c == 98) (c == 111) (c == 120) h
     go true false true r h = absurd (cc)
     go true false false true h = absurd (cc)
 
-no_dot : (s : List ℕ) → passes (λ c. c == 46) s ≡ false → begins_dot s ≡ false
+no_dot : (s : List ℕ) → first_passes (λ c. c == 46) s ≡ false → begins_dot s ≡ false
 no_dot [] h = refl
-no_dot (c ∷ t) h = ap (λ b. b && not (passes (λ d. d == 46 || is_start d) t)) h
+no_dot (c ∷ t) h = ap (λ b. b && not (first_passes (λ d. d == 46 || is_start d) t)) h
 
-no_exponent : (s : List ℕ) → passes is_letter s ≡ false → begins_exponent s ≡ false
+no_exponent : (s : List ℕ) → first_passes is_letter s ≡ false → begins_exponent s ≡ false
 no_exponent [] h = refl
-no_exponent (c ∷ t) h = ap (λ b. b && passes is_ascii_digit (after_run (λ c. c == 95) (after_sign t))) h
+no_exponent (c ∷ t) h = ap (λ b. b && first_passes is_ascii_digit (after_run (λ c. c == 95) (after_sign t))) h
 
 assoc3 : (f e x t : List ℕ) → (f ++ (e ++ x)) ++ t ≡ f ++ (e ++ (x ++ t))
 assoc3 f e x t = simp append_assoc
 
 -- a test that fails at a joined text fails where an end follows
-fails_behind2 : (test : ℕ → Bool) (e x after : List ℕ) → Clear test → EndsLiteral after → passes test (e ++ x) ≡ false → passes test (e ++ (x ++ after)) ≡ false
-fails_behind2 test e x after clear ends h = ap (passes test) (sym (append_assoc e x after)) ∙ front_fails test (e ++ x) after clear ends h
+fails_behind2 : (test : ℕ → Bool) (e x after : List ℕ) → Clear test → EndsLiteral after → first_passes test (e ++ x) ≡ false → first_passes test (e ++ (x ++ after)) ≡ false
+fails_behind2 test e x after clear ends h = ap (first_passes test) (sym (append_assoc e x after)) ∙ front_fails test (e ++ x) after clear ends h
 
-fails_behind3 : (test : ℕ → Bool) (f e x after : List ℕ) → Clear test → EndsLiteral after → passes test (f ++ (e ++ x)) ≡ false → passes test (f ++ (e ++ (x ++ after))) ≡ false
-fails_behind3 test f e x after clear ends h = ap (passes test) (sym (assoc3 f e x after)) ∙ front_fails test (f ++ (e ++ x)) after clear ends h
+fails_behind3 : (test : ℕ → Bool) (f e x after : List ℕ) → Clear test → EndsLiteral after → first_passes test (f ++ (e ++ x)) ≡ false → first_passes test (f ++ (e ++ (x ++ after))) ≡ false
+fails_behind3 test f e x after clear ends h = ap (first_passes test) (sym (assoc3 f e x after)) ∙ front_fails test (f ++ (e ++ x)) after clear ends h
 
 fraction_lexed : (f : LexedFraction) (e x after : List ℕ) → EndsLiteral after → FractionFacts f (e ++ x) → IsLexedFraction f (e ++ (x ++ after))
 fraction_lexed NoLexedFraction e x after ends h = no_dot (e ++ (x ++ after)) (fails_behind2 (λ c. c == 46) e x after (clear_code 46 refl refl) ends h)
@@ -98,8 +98,8 @@ decimal_lexed t s =
       lexeme = DecimalLexeme s.digit s.more s.fraction s.exponent s.suffix;
       is_lexeme = λ after ends. (
         s.is_digit,
-        ap (λ z. s.digit == 48 && passes is_base_letter z) (sym (decimal_text s.more f e s.suffix after))
-            ∙ and_more (s.digit == 48) (passes is_base_letter u) (passes is_base_letter (u ++ after)) (front_fails is_base_letter u after clear_base ends) (not_based s.digit u decimal),
+        ap (λ z. s.digit == 48 && first_passes is_base_letter z) (sym (decimal_text s.more f e s.suffix after))
+            ∙ and_more (s.digit == 48) (first_passes is_base_letter u) (first_passes is_base_letter (u ++ after)) (front_fails is_base_letter u after clear_base ends) (not_based s.digit u decimal),
         record { each = s.each; ends = fails_behind3 is_numeral_part f e s.suffix after clear_part ends s.row_ends },
         fraction_lexed s.fraction e s.suffix after ends s.is_fraction,
         exponent_lexed s.exponent s.suffix after ends s.is_exponent,
@@ -121,10 +121,10 @@ digit_row : (row : List ℕ) → IsDigits row → DigitRow row
 digit_row [] (first, each) = absurd (cc)
 digit_row (d ∷ more) (first, each) = record { digit = d; more = more; text = refl; is_digit = first; each = (and_parts (is_row is_ascii_digit d) (list_all (is_row is_ascii_digit) more) each).1 }
 
-suffix_no_numeral : (x : List ℕ) → IsNumberSuffix x → passes is_numeral_part x ≡ false
+suffix_no_numeral : (x : List ℕ) → IsNumberSuffix x → first_passes is_numeral_part x ≡ false
 suffix_no_numeral x is = passes_same is_numeral_part (is_digit_part Decimal) (λ c. ap (λ b. b || c == 95) (digit_is_ten c)) x ∙ suffix_no_part x (suffix_of_strict x is)
 
-suffix_no_dot : (x : List ℕ) → IsStrictSuffix x → passes (λ c. c == 46) x ≡ false
+suffix_no_dot : (x : List ℕ) → IsStrictSuffix x → first_passes (λ c. c == 46) x ≡ false
 suffix_no_dot [] is = refl
 suffix_no_dot (c ∷ cs) is = not_among c 46 is_start (suffix_starts c cs is) (start_ascii 46 (lit< tt))
 
@@ -251,7 +251,7 @@ int_lexed t x v s =
 float_text : (more f e x : List ℕ) → (more ++ (f ++ e)) ++ x ≡ more ++ (f ++ (e ++ x))
 float_text more f e x = simp append_assoc
 
-float_from : (t x d : List ℕ) (v : Contents) (s : StrictFloat t v x) (f : LexedFraction) (e : LexedExponent) → IsDigits d → s.numeral ≡ d ++ (lexed_fraction_text f ++ lexed_exponent_text e) → passes is_numeral_part (lexed_fraction_text f ++ (lexed_exponent_text e ++ x)) ≡ false → FractionFacts f (lexed_exponent_text e ++ x) → ExponentFacts e x → LexedBefore EndsLiteral t
+float_from : (t x d : List ℕ) (v : Contents) (s : StrictFloat t v x) (f : LexedFraction) (e : LexedExponent) → IsDigits d → s.numeral ≡ d ++ (lexed_fraction_text f ++ lexed_exponent_text e) → first_passes is_numeral_part (lexed_fraction_text f ++ (lexed_exponent_text e ++ x)) ≡ false → FractionFacts f (lexed_exponent_text e ++ x) → ExponentFacts e x → LexedBefore EndsLiteral t
 float_from t x d v s f e digits numeral row_ends is_fraction is_exponent =
     let r = digit_row d digits in
     decimal_lexed t
@@ -276,15 +276,15 @@ float_from t x d v s f e digits numeral row_ends is_fraction is_exponent =
 dot_alone : (t x d : List ℕ) (v : Contents) (s : StrictFloat t v x) → IsDigits d → s.numeral ≡ d ++ (46 ∷ []) → x ≡ [] → LexedBefore EndsLiteral t
 dot_alone t x d v s digits numeral none =
     float_from t x d v s (LexedDot []) NoLexedExponent digits numeral refl
-    (ap (passes is_dot_or_start) none, refl, ap (passes is_numeral_part) none) (ap (passes is_letter) none)
+    (ap (first_passes is_dot_or_start) none, refl, ap (first_passes is_numeral_part) none) (ap (first_passes is_letter) none)
 
 -- behind a dot the digits begin neither as a dot does nor as an identifier
-digits_behind_dot : (f s : List ℕ) → IsDigits f → passes is_dot_or_start (f ++ s) ≡ false
+digits_behind_dot : (f s : List ℕ) → IsDigits f → first_passes is_dot_or_start (f ++ s) ≡ false
 digits_behind_dot f s digits =
     let r = digit_row f digits in
-    ap (λ z. passes is_dot_or_start (z ++ s)) r.text ∙ or_from (r.digit == 46) (is_start r.digit) (not_among r.digit 46 is_ascii_digit r.is_digit refl) (digit_not_start r.digit r.is_digit)
+    ap (λ z. first_passes is_dot_or_start (z ++ s)) r.text ∙ or_from (r.digit == 46) (is_start r.digit) (not_among r.digit 46 is_ascii_digit r.is_digit refl) (digit_not_start r.digit r.is_digit)
 
-pointed : (t x d f : List ℕ) (v : Contents) (s : StrictFloat t v x) → IsDigits d → IsDigits f → s.numeral ≡ d ++ (46 ∷ f) → passes is_letter x ≡ false → LexedBefore EndsLiteral t
+pointed : (t x d f : List ℕ) (v : Contents) (s : StrictFloat t v x) → IsDigits d → IsDigits f → s.numeral ≡ d ++ (46 ∷ f) → first_passes is_letter x ≡ false → LexedBefore EndsLiteral t
 pointed t x d f v s digits behind numeral no_letter =
     float_from t x d v s (LexedDot f) NoLexedExponent digits (numeral ∙ ap (λ z. d ++ (46 ∷ z)) (sym (append-nil f))) refl
     (digits_behind_dot f x behind, behind.1, suffix_no_numeral x s.suffix) no_letter

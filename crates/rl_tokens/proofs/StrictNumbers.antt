@@ -7,11 +7,11 @@ use Rattle.std.proofs.lemmas.List.Folds.{list_all-append}
 use Rattle.std.proofs.lemmas.Bool.{eqb-true, eq-eqb, both_ways, and_parts, and_from, or_parts, or_cases, or_from, cases_lt, ltb-true, lt-ltb, not-true, false_from_ne_true, agree_below_at, not_from_false}
 use Rattle.unicode_ident.specs.Ident.{is_xid_start, is_xid_continue}
 use Rattle.unicode_ident.proofs.IdentLemmas.{is_xid_start-ascii}
-use Rattle.rl_tokens.specs.Texts.{passes, begins, is_underscore}
+use Rattle.rl_tokens.specs.Texts.{first_passes, begins, is_underscore}
 use Rattle.rl_tokens.specs.Quoted.{place_value, without_underscores}
-use Rattle.rl_tokens.specs.Numbers.{Base, Binary, Octal, Decimal, Hexadecimal, radix, prefix, is_digit, is_digit_part, Sign, NoSign, Minus, sign_text, begins_base, IsFront, IsSuffix, is_exponent_letter, IsExponentSuffix, IsSuffixOf, IntReads, limit, Fraction, NoFraction, Dot, fraction_text, IsFraction, Exponent, NoExponent, Power, exponent_text, is_power_sign, BeginsExponent, IsExponent, float_digits}
+use Rattle.rl_tokens.specs.Numbers.{Base, Binary, Octal, Decimal, Hexadecimal, radix, prefix, is_digit, is_digit_part, Sign, NoSign, Minus, sign_text, begins_base, IsBehindPrefix, IsSuffix, is_exponent_letter, IsExponentSuffix, AllowsSuffix, IntReads, limit, Fraction, NoFraction, Dot, fraction_text, IsFraction, Exponent, NoExponent, Power, exponent_text, is_power_sign, BeginsExponent, IsExponent, float_digits}
 use Rattle.rl_tokens.specs.Reading.{Contents, Digits, ReadsInt, HasNoInteger, ReadsFloat}
-use Rattle.rl_tokens.specs.Strict.{dec, is_row, bare, number_of, IsDigits, IsDecimalText, IsNumberSuffix, StrictInt, IsStrictExponent, StrictFloat}
+use Rattle.rl_tokens.specs.Strict.{dec, is_row, bare, spelled_number, IsDigits, IsDecimalText, IsNumberSuffix, StrictInt, IsStrictExponent, StrictFloat}
 use Rattle.rl_tokens.proofs.Dec.{dec_is_decimal}
 use Rattle.rl_tokens.proofs.Basics.{apart, all_weaker, all_same, passes_same, digit_is_ten, hex_is_sixteen, word_without, range_past}
 
@@ -31,14 +31,14 @@ low_digit n c small h = false_from_ne_true (ltb (digit_value c) n) (λ d.
     let less : digit_value c < n = ltb-true (digit_value c) n d in
     both_ways (is_ascii_digit c) h (digit_is_ten c ∙ lt-ltb (digit_value c) 10 (omega arith)))
 
-pub no_part : (b : Base) (x : List ℕ) → IsSuffix x → IsSuffixOf b x → passes (is_digit_part b) x ≡ false
+pub no_part : (b : Base) (x : List ℕ) → IsSuffix x → AllowsSuffix b x → first_passes (is_digit_part b) x ≡ false
 no_part b [] s f = refl
 no_part b (c ∷ cs) (inl e, u) f = absurd (cc)
 no_part b (c ∷ cs) (inr w, u) f =
     let start : is_xid_start c ≡ true = ap (λ z. z || is_xid_start c) (sym u) ∙ (and_parts (eqb c 95 || is_xid_start c) (list_all is_xid_continue cs) w).0 in
     or_from (is_digit b c) (is_underscore c) (digit b (start_no_digit c start) f) u
   where
-    digit : (b : Base) → is_ascii_digit c ≡ false → IsSuffixOf b (c ∷ cs) → is_digit b c ≡ false
+    digit : (b : Base) → is_ascii_digit c ≡ false → AllowsSuffix b (c ∷ cs) → is_digit b c ≡ false
     digit Binary n f = low_digit 2 c (omega arith) n
     digit Octal n f = low_digit 8 c (omega arith) n
     digit Decimal n f = low_digit 10 c (omega arith) n
@@ -48,13 +48,13 @@ pub suffix_of_strict : (x : List ℕ) → IsNumberSuffix x → IsSuffix x
 suffix_of_strict x (inl e, u) = (inl e, u)
 suffix_of_strict x (inr w, u) = (inr w.identifier, u)
 
-no_exponent_suffix : (x : List ℕ) → passes is_exponent_letter x ≡ false → IsExponentSuffix x → ⊥
-no_exponent_suffix x h e = both_ways (is_exponent_letter e.letter) (ap (passes is_exponent_letter) (sym e.text_is) ∙ h) e.is_letter
+no_exponent_suffix : (x : List ℕ) → first_passes is_exponent_letter x ≡ false → IsExponentSuffix x → ⊥
+no_exponent_suffix x h e = both_ways (is_exponent_letter e.letter) (ap (first_passes is_exponent_letter) (sym e.text_is) ∙ h) e.is_letter
 
-begins_no_exponent : (x : List ℕ) → passes is_exponent_letter x ≡ false → BeginsExponent x → ⊥
-begins_no_exponent x h e = both_ways (is_exponent_letter e.letter) (ap (passes is_exponent_letter) (sym e.text_is) ∙ h) e.is_letter
+begins_no_exponent : (x : List ℕ) → first_passes is_exponent_letter x ≡ false → BeginsExponent x → ⊥
+begins_no_exponent x h e = both_ways (is_exponent_letter e.letter) (ap (first_passes is_exponent_letter) (sym e.text_is) ∙ h) e.is_letter
 
-pub suffix_no_part : (x : List ℕ) → IsSuffix x → passes (is_digit_part Decimal) x ≡ false
+pub suffix_no_part : (x : List ℕ) → IsSuffix x → first_passes (is_digit_part Decimal) x ≡ false
 suffix_no_part [] s = refl
 suffix_no_part (c ∷ cs) (inl e, u) = absurd (cc)
 suffix_no_part (c ∷ cs) (inr w, u) =
@@ -63,11 +63,11 @@ suffix_no_part (c ∷ cs) (inr w, u) =
 
 -- ---- integers
 
-pub same_value : (base : ℕ) (ds : List ℕ) → number_of base ds ≡ place_value base ds
+pub same_value : (base : ℕ) (ds : List ℕ) → spelled_number base ds ≡ place_value base ds
 same_value base [] = refl
 same_value base (d ∷ ds) = ap (λ n. digit_value d * base ^ length ds + n) (same_value base ds)
 
-passes_on : (test : ℕ → Bool) (a b : List ℕ) → passes test a ≡ true → passes test (a ++ b) ≡ true
+passes_on : (test : ℕ → Bool) (a b : List ℕ) → first_passes test a ≡ true → first_passes test (a ++ b) ≡ true
 passes_on test [] b h = absurd (cc)
 passes_on test (c ∷ cs) b h = h
 
@@ -76,7 +76,7 @@ pub record IsInt (t : List ℕ) (v : Contents) (x : List ℕ) : Type 0 where
   pub reads : IntReads t NoSign magnitude x
   pub contents_is : v ≡ Digits (dec magnitude)
 
-int_at : (b : Base) (t x : List ℕ) (v : Contents) (s : StrictInt t v x) → s.base ≡ radix b → s.prefix ≡ prefix b → IsFront b (s.row ++ x) → IsSuffixOf b x → IsInt t v x
+int_at : (b : Base) (t x : List ℕ) (v : Contents) (s : StrictInt t v x) → s.base ≡ radix b → s.prefix ≡ prefix b → IsBehindPrefix b (s.row ++ x) → AllowsSuffix b x → IsInt t v x
 int_at b t x v s base front is_front is_suffix_of =
     let All : ℕ → Type 0 = λ n. list_all (is_row (λ c. nat_lt (digit_value c) n)) s.row ≡ true in
     let Any : ℕ → Type 0 = λ n. list_any (λ c. nat_lt (digit_value c) n) s.row ≡ true in
@@ -128,18 +128,18 @@ minus_int t x m r = record {
 -- ---- where no integer stands
 
 -- an integer's text without its sign begins with a digit
-pub digit_front : (b : Base) (digits x : List ℕ) → IsFront b (digits ++ x) → passes is_ascii_digit (prefix b ++ (digits ++ x)) ≡ true
+pub digit_front : (b : Base) (digits x : List ℕ) → IsBehindPrefix b (digits ++ x) → first_passes is_ascii_digit (prefix b ++ (digits ++ x)) ≡ true
 digit_front Binary digits x f = refl
 digit_front Octal digits x f = refl
 digit_front Decimal digits x f = f.0
 digit_front Hexadecimal digits x f = refl
 
-pub no_sign : (t x : List ℕ) (s : Sign) (m : ℕ) → passes is_ascii_digit t ≡ true → IntReads t s m x → IntReads t NoSign m x × (s ≡ NoSign)
+pub no_sign : (t x : List ℕ) (s : Sign) (m : ℕ) → first_passes is_ascii_digit t ≡ true → IntReads t s m x → IntReads t NoSign m x × (s ≡ NoSign)
 no_sign t x NoSign m h r = (r, refl)
-no_sign t x Minus m h r = absurd (let e = ap (passes is_ascii_digit) (sym r.text_is) ∙ h in (cc))
+no_sign t x Minus m h r = absurd (let e = ap (first_passes is_ascii_digit) (sym r.text_is) ∙ h in (cc))
 
 pub behind_minus : (t x : List ℕ) (s : Sign) (m : ℕ) → IntReads (45 ∷ t) s m x → IntReads t NoSign m x × (s ≡ Minus)
-behind_minus t x NoSign m r = absurd (let e = ap (passes is_ascii_digit) r.text_is ∙ digit_front r.base r.digits x r.front in (cc))
+behind_minus t x NoSign m r = absurd (let e = ap (first_passes is_ascii_digit) r.text_is ∙ digit_front r.base r.digits x r.front in (cc))
 behind_minus t x Minus m r = (
   record {
     base = r.base;
@@ -227,15 +227,15 @@ foreign_inside k t a b same e h =
     let p = and_parts (list_all test a) (list_all test (k ∷ b)) (sym (list_all-append test a (k ∷ b)) ∙ ap (list_all test) (sym e) ∙ h) in
     both_ways (eqb k k) (not-true (eqb k k) (and_parts (test k) (list_all test b) p.1).0) same
 
-pub none_around : (k : ℕ) (t a b : List ℕ) → IsForeign k → eqb k k ≡ true → t ≡ a ++ (k ∷ b) → passes is_ascii_digit t ≡ true → HasNoInteger t
+pub none_around : (k : ℕ) (t a b : List ℕ) → IsForeign k → eqb k k ≡ true → t ≡ a ++ (k ∷ b) → first_passes is_ascii_digit t ≡ true → HasNoInteger t
 none_around k t a b f same e d s m x r = foreign_inside k t a b same e (int_without k t x m f (no_sign t x s m d r).0)
 
-pub same_run : (test : ℕ → Bool) (a b r s : List ℕ) → list_all test a ≡ true → list_all test b ≡ true → passes test r ≡ false → passes test s ≡ false → a ++ r ≡ b ++ s → (a ≡ b) × (r ≡ s)
+pub same_run : (test : ℕ → Bool) (a b r s : List ℕ) → list_all test a ≡ true → list_all test b ≡ true → first_passes test r ≡ false → first_passes test s ≡ false → a ++ r ≡ b ++ s → (a ≡ b) × (r ≡ s)
 same_run test [] [] r s ha hb hr hs e = (refl, e)
 same_run test [] (c ∷ b) r s ha hb hr hs e =
-    absurd (both_ways (test c) (ap (passes test) (sym e) ∙ hr) (and_parts (test c) (list_all test b) hb).0)
+    absurd (both_ways (test c) (ap (first_passes test) (sym e) ∙ hr) (and_parts (test c) (list_all test b) hb).0)
 same_run test (c ∷ a) [] r s ha hb hr hs e =
-    absurd (both_ways (test c) (ap (passes test) e ∙ hs) (and_parts (test c) (list_all test a) ha).0)
+    absurd (both_ways (test c) (ap (first_passes test) e ∙ hs) (and_parts (test c) (list_all test a) ha).0)
 same_run test (c ∷ a) (d ∷ b) r s ha hb hr hs e =
     let head : c ≡ d = cc in
     let tail : a ++ r ≡ b ++ s = cc in
@@ -268,7 +268,7 @@ other_base Hexadecimal t r h e =
     absurd (both_ways _ p.1 (ap (begins (prefix Hexadecimal)) e ∙ begins_front (prefix Hexadecimal) r))
 
 -- where the whole part ends in a letter of an exponent that is whole
-none_at_base : (b : Base) (t d row x digits y : List ℕ) (letter : ℕ) → b ≡ Decimal → list_all (is_digit_part Decimal) d ≡ true → is_exponent_letter letter ≡ true → list_all (is_digit_part Decimal) row ≡ true → list_any is_ascii_digit row ≡ true → IsSuffix x → passes (is_digit_part Decimal) x ≡ false → t ≡ d ++ (letter ∷ (row ++ x)) → list_all (is_digit_part b) digits ≡ true → IsSuffix y → IsSuffixOf b y → t ≡ prefix b ++ (digits ++ y) → ⊥
+none_at_base : (b : Base) (t d row x digits y : List ℕ) (letter : ℕ) → b ≡ Decimal → list_all (is_digit_part Decimal) d ≡ true → is_exponent_letter letter ≡ true → list_all (is_digit_part Decimal) row ≡ true → list_any is_ascii_digit row ≡ true → IsSuffix x → first_passes (is_digit_part Decimal) x ≡ false → t ≡ d ++ (letter ∷ (row ++ x)) → list_all (is_digit_part b) digits ≡ true → IsSuffix y → AllowsSuffix b y → t ≡ prefix b ++ (digits ++ y) → ⊥
 none_at_base Decimal t d row x digits y letter decimal each is_letter run some sx whole e each_digit sy of text =
     let p = same_run (is_digit_part Decimal) d digits (letter ∷ (row ++ x)) y each each_digit (letter_no_part letter is_letter) (no_part Decimal y sy of) (sym e ∙ text) in
     of (record { letter = letter; run = row; rest = x; is_letter = is_letter; each = run; some = some; whole = whole; is_rest = sx.0; text_is = sym p.1 })
@@ -276,7 +276,7 @@ none_at_base Binary t d row x digits y letter decimal each is_letter run some sx
 none_at_base Octal t d row x digits y letter decimal each is_letter run some sx whole e each_digit sy of text = absurd (cc)
 none_at_base Hexadecimal t d row x digits y letter decimal each is_letter run some sx whole e each_digit sy of text = absurd (cc)
 
-none_at_exponent : (t d row x : List ℕ) (letter : ℕ) → IsDecimalText t → list_all (is_digit_part Decimal) d ≡ true → is_exponent_letter letter ≡ true → list_all (is_digit_part Decimal) row ≡ true → list_any is_ascii_digit row ≡ true → IsSuffix x → passes (is_digit_part Decimal) x ≡ false → t ≡ d ++ (letter ∷ (row ++ x)) → passes is_ascii_digit t ≡ true → HasNoInteger t
+none_at_exponent : (t d row x : List ℕ) (letter : ℕ) → IsDecimalText t → list_all (is_digit_part Decimal) d ≡ true → is_exponent_letter letter ≡ true → list_all (is_digit_part Decimal) row ≡ true → list_any is_ascii_digit row ≡ true → IsSuffix x → first_passes (is_digit_part Decimal) x ≡ false → t ≡ d ++ (letter ∷ (row ++ x)) → first_passes is_ascii_digit t ≡ true → HasNoInteger t
 none_at_exponent t d row x letter decimal each is_letter run some sx whole e front s m y r0 =
     let r = (no_sign t y s m front r0).0 in
     none_at_base r.base t d row x r.digits y letter (other_base r.base t (r.digits ++ y) decimal r.text_is) each is_letter run some sx whole e r.each r.is_suffix r.is_suffix_of r.text_is
@@ -287,7 +287,7 @@ pub record IsFloat (t : List ℕ) (v : Contents) (x : List ℕ) : Type 0 where
   pub whole : List ℕ
   pub fraction : Fraction
   pub exponent : Exponent
-  pub first : passes is_ascii_digit whole ≡ true
+  pub first : first_passes is_ascii_digit whole ≡ true
   pub each : list_all (is_digit_part Decimal) whole ≡ true
   pub is_fraction : IsFraction fraction
   pub is_exponent : IsExponent exponent x
@@ -299,8 +299,8 @@ pub record IsFloat (t : List ℕ) (v : Contents) (x : List ℕ) : Type 0 where
 digits_part : (d : List ℕ) → list_all (is_row is_ascii_digit) d ≡ true → list_all (is_digit_part Decimal) d ≡ true
 digits_part d h = sym (all_same (is_row is_ascii_digit) (is_digit_part Decimal) (λ c. ap (λ b. b || eqb c 95) (digit_is_ten c)) d) ∙ h
 
-front_of : (t d r : List ℕ) → t ≡ d ++ r → passes is_ascii_digit d ≡ true → passes is_ascii_digit t ≡ true
-front_of t d r e h = ap (passes is_ascii_digit) e ∙ passes_on is_ascii_digit d r h
+front_of : (t d r : List ℕ) → t ≡ d ++ r → first_passes is_ascii_digit d ≡ true → first_passes is_ascii_digit t ≡ true
+front_of t d r e h = ap (first_passes is_ascii_digit) e ∙ passes_on is_ascii_digit d r h
 
 dot_float : (t x d f : List ℕ) (v : Contents) (s : StrictFloat t v x) → IsDigits d → list_all (is_digit_part Decimal) f ≡ true → s.numeral ≡ d ++ (46 ∷ f) → (BeginsExponent x → ⊥) → IsFloat t v x
 dot_float t x d f v s is_d each_f e no_exponent =

@@ -11,15 +11,15 @@ use Rattle.std.proofs.lemmas.List.Folds.{list_all-append}
 use Rattle.std.proofs.lemmas.Bool.{eqb-true, and_parts, and_from, or_parts, or_cases, or_from, or_left, or_right, ltb-true, lt-ltb, leb-true, not-true, not_from_false}
 use Rattle.rl_tokens.specs.declared.kind.Kind.{Kind}
 use Rattle.rl_tokens.specs.declared.kind.Kind.TheVariants.{Str, ByteStr, CStr, Byte, Char, Int, Float, Bool as BoolKind}
-use Rattle.rl_tokens.specs.Texts.{passes, is_underscore}
-use Rattle.rl_tokens.specs.Quoted.{QuotedUnit, Plain, Named, Hex, Unicode, Continuation, LowerN, LowerR, LowerT, Backslash, Apostrophe, Quote, Zero, unit_text, unit_value, place_value, without_underscores, unicode_value, held, hex_value, is_hex_digit, is_blank, is_string, is_single, is_raw, may_hold, IsUnit, texts, values, EndsBefore, ContinuationsEnd, opener, raw_opener, Cooked, Raw, Single}
+use Rattle.rl_tokens.specs.Texts.{first_passes, is_underscore}
+use Rattle.rl_tokens.specs.Quoted.{QuotedUnit, Plain, Named, Hex, Unicode, Continuation, LowerN, LowerR, LowerT, Backslash, Apostrophe, Quote, Zero, unit_text, unit_value, place_value, without_underscores, unicode_value, content_of, hex_value, is_hex_digit, is_blank, is_string, is_single, is_raw, allows_code, IsUnit, texts, values, EndsBefore, ContinuationsEnd, opener, raw_opener, Cooked, Raw, Single}
 use Rattle.rl_tokens.specs.Reading.{Contents, Reads}
-use Rattle.rl_tokens.specs.Strict.{StrictUnit, Itself, QuoteEscape, PlainEscape, AsciiEscape, ByteEscape, UnicodeEscape, LineBreak, spaced_digit, strict_text, number_of, strict_contents, is_plain_letter, is_octal, is_dropped_blank, is_unicode_escape, is_bare_character, is_bare_in_string, is_strict_unit, BlanksEnd, opens, ends, taken_in, held_by, StrictCooked, StrictRaw, opens_raw, IsStrictSuffix}
+use Rattle.rl_tokens.specs.Strict.{StrictUnit, Itself, QuoteEscape, PlainEscape, AsciiEscape, ByteEscape, UnicodeEscape, LineBreak, spaced_digit, strict_text, spelled_number, strict_contents, is_plain_letter, is_octal, is_dropped_blank, is_unicode_escape, is_bare_character, is_bare_in_string, is_strict_unit, BlanksEnd, strict_opener, strict_closer, strict_content_of, strict_quoted_contents, StrictCooked, StrictRaw, strict_raw_opener, IsStrictSuffix}
 use Rattle.rl_tokens.proofs.Basics.{apart, all_weaker, hex_is_sixteen, word_without}
 
 -- what may follow: no blank at all where a line break's blanks end
 abbrev pub MayFollow : StrictUnit → List ℕ → Type 0
-MayFollow (LineBreak blanks) t = IsFalse (passes is_blank t)
+MayFollow (LineBreak blanks) t = IsFalse (first_passes is_blank t)
 MayFollow _ t = ⊤
 
 -- the unit of the lenient reading that a strict one is
@@ -27,7 +27,7 @@ pub record Stands (k : Kind) (s : StrictUnit) : Type 0 where
   pub unit : QuotedUnit
   pub is_unit : IsUnit k unit
   pub text_is : unit_text unit ≡ strict_text s
-  pub value_is : unit_value k unit ≡ strict_contents (taken_in k) s
+  pub value_is : unit_value k unit ≡ strict_contents (strict_content_of k) s
   pub ends_before : (t : List ℕ) → MayFollow s t → EndsBefore unit t
 
 ascii_alone : (c : ℕ) → nat_lt c 128 ≡ true → encode_utf8_all (c ∷ []) ≡ c ∷ []
@@ -54,7 +54,7 @@ itself Int c h = absurd (cc)
 itself Float c h = absurd (cc)
 itself BoolKind c h = absurd (cc)
 
-holds_other : (k : Kind) (n : ℕ) → eqb n 0 ≡ false → may_hold k n ≡ true
+holds_other : (k : Kind) (n : ℕ) → eqb n 0 ≡ false → allows_code k n ≡ true
 holds_other CStr n h = not_from_false (eqb n 0) h
 holds_other _ n h = refl
 
@@ -89,7 +89,7 @@ is_letter : (k : Kind) (c : ℕ) → is_strict_unit k (PlainEscape c) ≡ true �
 is_letter CStr c h = (and_parts (is_plain_letter c) (not (eqb c 48)) h).0
 is_letter _ c h = h
 
-zero_held : (k : Kind) → is_strict_unit k (PlainEscape 48) ≡ true → may_hold k 0 ≡ true
+zero_held : (k : Kind) → is_strict_unit k (PlainEscape 48) ≡ true → allows_code k 0 ≡ true
 zero_held CStr h = absurd (cc)
 zero_held _ h = refl
 
@@ -185,7 +185,7 @@ pub digits_count : (ds : List (ℕ × ℕ)) → length (map (λ d. d.0) ds) ≡ 
 digits_count [] = refl
 digits_count (d ∷ ds) = ap suc (digits_count ds)
 
-pub same_number : (ds : List ℕ) → number_of 16 ds ≡ place_value 16 ds
+pub same_number : (ds : List ℕ) → spelled_number 16 ds ≡ place_value 16 ds
 same_number [] = refl
 same_number (d ∷ ds) = ap (λ n. digit_value d * 16 ^ length ds + n) (same_number ds)
 
@@ -194,11 +194,11 @@ pub record UnicodeFacts (d : ℕ × ℕ) (ds : List (ℕ × ℕ)) : Type 0 where
   pub more : list_all (λ c. is_underscore c || is_hex_digit c) (replicate d.1 95 ++ flat_map spaced_digit ds) ≡ true
   pub few : length (without_underscores (d.0 ∷ (replicate d.1 95 ++ flat_map spaced_digit ds))) ≤ 6
   pub is_scalar : IsScalar (unicode_value d.0 (replicate d.1 95 ++ flat_map spaced_digit ds))
-  pub same : unicode_value d.0 (replicate d.1 95 ++ flat_map spaced_digit ds) ≡ number_of 16 (map (λ d. d.0) (d ∷ ds))
+  pub same : unicode_value d.0 (replicate d.1 95 ++ flat_map spaced_digit ds) ≡ spelled_number 16 (map (λ d. d.0) (d ∷ ds))
 
 unicode_facts : (d : ℕ × ℕ) (ds : List (ℕ × ℕ)) → is_unicode_escape (d ∷ ds) ≡ true → UnicodeFacts d ds
 unicode_facts d ds h =
-    let v = number_of 16 (map (λ d. d.0) (d ∷ ds)) in
+    let v = spelled_number 16 (map (λ d. d.0) (d ∷ ds)) in
     let p = and_parts _ (all_scalars (v ∷ [])) h in
     let q = and_parts _ (list_all hex_first (d ∷ ds)) p.0 in
     let r = and_parts (nat_le 1 (length (d ∷ ds))) (nat_le (length (d ∷ ds)) 6) q.0 in
@@ -228,7 +228,7 @@ unicode_escape Char (d ∷ ds) h =
     record { unit = Unicode d.0 (replicate d.1 95 ++ flat_map spaced_digit ds); is_unit = (refl, f.first, f.more, f.few, f.is_scalar, refl); text_is = refl; value_is = ap (λ v. v ∷ []) f.same; ends_before = λ t f. tt }
 unicode_escape CStr [] h = absurd (cc)
 unicode_escape CStr (d ∷ ds) h =
-    let v = number_of 16 (map (λ d. d.0) (d ∷ ds)) in
+    let v = spelled_number 16 (map (λ d. d.0) (d ∷ ds)) in
     let p = and_parts (is_unicode_escape (d ∷ ds)) (not (eqb v 0)) h in
     let f = unicode_facts d ds p.0 in
     record { unit = Unicode d.0 (replicate d.1 95 ++ flat_map spaced_digit ds); is_unit = (refl, f.first, f.more, f.few, f.is_scalar, ap (λ n. not (eqb n 0)) f.same ∙ p.1); text_is = refl; value_is = ap (λ v. encode_utf8_all (v ∷ [])) f.same; ends_before = λ t f. tt }
@@ -267,7 +267,7 @@ pub record StandRow (k : Kind) (us : List StrictUnit) : Type 0 where
   pub each : AllByRecursion (IsUnit k) units
   pub ends : ContinuationsEnd units
   pub text_is : texts units ≡ flat_map strict_text us
-  pub value_is : values k units ≡ flat_map (strict_contents (taken_in k)) us
+  pub value_is : values k units ≡ flat_map (strict_contents (strict_content_of k)) us
 
 abbrev pub is_return : ℕ → Bool
 is_return c = eqb c 13
@@ -283,7 +283,7 @@ not_return Int c h = absurd (cc)
 not_return Float c h = absurd (cc)
 not_return BoolKind c h = absurd (cc)
 
-pub no_return : (k : Kind) (us : List StrictUnit) → list_all (is_strict_unit k) us ≡ true → passes is_return (flat_map strict_text us) ≡ false
+pub no_return : (k : Kind) (us : List StrictUnit) → list_all (is_strict_unit k) us ≡ true → first_passes is_return (flat_map strict_text us) ≡ false
 no_return k [] h = refl
 no_return k (Itself c ∷ us) h = not_return k c (and_parts (is_strict_unit k (Itself c)) (list_all (is_strict_unit k) us) h).0
 no_return k (QuoteEscape c ∷ us) h = refl
@@ -293,7 +293,7 @@ no_return k (ByteEscape high low ∷ us) h = refl
 no_return k (UnicodeEscape digits ∷ us) h = refl
 no_return k (LineBreak blanks ∷ us) h = refl
 
-no_blank : (t : List ℕ) → passes is_dropped_blank t ≡ false → passes is_return t ≡ false → passes is_blank t ≡ false
+no_blank : (t : List ℕ) → first_passes is_dropped_blank t ≡ false → first_passes is_return t ≡ false → first_passes is_blank t ≡ false
 no_blank [] a b = refl
 no_blank (c ∷ t) a b = or_from (is_dropped_blank c) (eqb c 13) a b
 
@@ -327,7 +327,7 @@ stand_row k (s ∷ us) h b =
       each = (u.is_unit, r.each);
       ends = (u.ends_before (texts r.units) follows, r.ends);
       text_is = ap (λ z. z ++ texts r.units) u.text_is ∙ ap (λ z. strict_text s ++ z) r.text_is;
-      value_is = ap (λ z. z ++ values k r.units) u.value_is ∙ ap (λ z. strict_contents (taken_in k) s ++ z) r.value_is;
+      value_is = ap (λ z. z ++ values k r.units) u.value_is ∙ ap (λ z. strict_contents (strict_content_of k) s ++ z) r.value_is;
     }
 
 -- ---- the forms
@@ -335,19 +335,19 @@ stand_row k (s ∷ us) h b =
 pub between : (o b e x : List ℕ) → ((o ++ b) ++ e) ++ x ≡ o ++ (b ++ (e ++ x))
 between o b e x = append_assoc (o ++ b) e x ∙ append_assoc o b (e ++ x)
 
-cooked_text : (k : Kind) (us : List StrictUnit) (t x : List ℕ) → (r : StandRow k us) → opens k ≡ opener k → ends k ≡ 34 ∷ [] → t ≡ ((opens k ++ flat_map strict_text us) ++ ends k) ++ x → t ≡ opener k ++ (texts r.units ++ (34 ∷ x))
+cooked_text : (k : Kind) (us : List StrictUnit) (t x : List ℕ) → (r : StandRow k us) → strict_opener k ≡ opener k → strict_closer k ≡ 34 ∷ [] → t ≡ ((strict_opener k ++ flat_map strict_text us) ++ strict_closer k) ++ x → t ≡ opener k ++ (texts r.units ++ (34 ∷ x))
 cooked_text k us t x r o e h =
-    h ∙ between (opens k) (flat_map strict_text us) (ends k) x
-    ∙ ap (λ z. z ++ (flat_map strict_text us ++ (ends k ++ x))) o
+    h ∙ between (strict_opener k) (flat_map strict_text us) (strict_closer k) x
+    ∙ ap (λ z. z ++ (flat_map strict_text us ++ (strict_closer k ++ x))) o
     ∙ ap (λ z. opener k ++ (flat_map strict_text us ++ (z ++ x))) e
     ∙ ap (λ z. opener k ++ (z ++ (34 ∷ x))) (sym r.text_is)
 
-pub cooked_reads : (k : Kind) (t x : List ℕ) (v : Contents) (s : StrictCooked t k v x) → is_string k ≡ true → opens k ≡ opener k → ends k ≡ 34 ∷ [] → (w : List ℕ) × Cooked k t w x × (v ≡ held_by k w)
+pub cooked_reads : (k : Kind) (t x : List ℕ) (v : Contents) (s : StrictCooked t k v x) → is_string k ≡ true → strict_opener k ≡ opener k → strict_closer k ≡ 34 ∷ [] → (w : List ℕ) × Cooked k t w x × (v ≡ strict_quoted_contents k w)
 cooked_reads k t x v s string o e =
     let r = stand_row k s.units s.each s.blanks_end in (
       values k r.units,
       record { units = r.units; string = string; each = r.each; ends = r.ends; text_is = cooked_text k s.units t x r o e s.text; value_is = refl },
-      s.contents ∙ ap (held_by k) (sym r.value_is),
+      s.contents ∙ ap (strict_quoted_contents k) (sym r.value_is),
     )
 
 pub one_unit : (us : List StrictUnit) → length us ≡ 1 → (u : StrictUnit) × (us ≡ u ∷ [])
@@ -355,26 +355,26 @@ one_unit [] h = absurd (omega arith)
 one_unit (u ∷ []) h = (u, refl)
 one_unit (u ∷ w ∷ us) h = absurd (omega arith)
 
-single_reads : (k : Kind) (t x : List ℕ) (v : Contents) (s : StrictCooked t k v x) → is_single k ≡ true → length s.units ≡ 1 → opens k ≡ opener k → ends k ≡ 39 ∷ [] → (w : List ℕ) × Single k t w x × (v ≡ held_by k w)
+single_reads : (k : Kind) (t x : List ℕ) (v : Contents) (s : StrictCooked t k v x) → is_single k ≡ true → length s.units ≡ 1 → strict_opener k ≡ opener k → strict_closer k ≡ 39 ∷ [] → (w : List ℕ) × Single k t w x × (v ≡ strict_quoted_contents k w)
 single_reads k t x v s single one o e =
     let p = one_unit s.units one in
     let At : List StrictUnit → Type 0 = λ us. list_all (is_strict_unit k) us ≡ true in
     let q = subst At p.1 s.each in
     let u = stands k p.0 (and_parts (is_strict_unit k p.0) true q).0 in
     let text : flat_map strict_text s.units ≡ unit_text u.unit = ap (flat_map strict_text) p.1 ∙ append-nil (strict_text p.0) ∙ sym u.text_is in
-    let value : flat_map (strict_contents (taken_in k)) s.units ≡ unit_value k u.unit = ap (flat_map (strict_contents (taken_in k))) p.1 ∙ append-nil (strict_contents (taken_in k) p.0) ∙ sym u.value_is in (
+    let value : flat_map (strict_contents (strict_content_of k)) s.units ≡ unit_value k u.unit = ap (flat_map (strict_contents (strict_content_of k))) p.1 ∙ append-nil (strict_contents (strict_content_of k) p.0) ∙ sym u.value_is in (
       unit_value k u.unit,
       record {
         unit = u.unit;
         single = single;
         is_unit = u.is_unit;
-        text_is = s.text ∙ between (opens k) (flat_map strict_text s.units) (ends k) x
-            ∙ ap (λ z. z ++ (flat_map strict_text s.units ++ (ends k ++ x))) o
+        text_is = s.text ∙ between (strict_opener k) (flat_map strict_text s.units) (strict_closer k) x
+            ∙ ap (λ z. z ++ (flat_map strict_text s.units ++ (strict_closer k ++ x))) o
             ∙ ap (λ z. opener k ++ (flat_map strict_text s.units ++ (z ++ x))) e
             ∙ ap (λ z. opener k ++ (z ++ (39 ∷ x))) text;
         value_is = refl;
       },
-      s.contents ∙ ap (held_by k) value,
+      s.contents ∙ ap (strict_quoted_contents k) value,
     )
 
 ascii_row : (cs : List ℕ) → list_all (λ c. nat_lt c 128) cs ≡ true → encode_utf8_all cs ≡ cs
@@ -394,19 +394,19 @@ holds_all : (k : Kind) (cs : List ℕ) → ((n : ℕ) → is_raw k n ≡ true) �
 holds_all k [] h = refl
 holds_all k (c ∷ cs) h = and_from (is_raw k c) (list_all (is_raw k) cs) (h c) (holds_all k cs h)
 
-raw_reads : (k : Kind) (t x : List ℕ) (v : Contents) (s : StrictRaw t k v x) → is_string k ≡ true → opens_raw k ≡ raw_opener k → list_all (is_raw k) s.inside ≡ true → held k s.inside ≡ taken_in k s.inside → (w : List ℕ) × Raw k t w x × (v ≡ held_by k w)
+raw_reads : (k : Kind) (t x : List ℕ) (v : Contents) (s : StrictRaw t k v x) → is_string k ≡ true → strict_raw_opener k ≡ raw_opener k → list_all (is_raw k) s.inside ≡ true → content_of k s.inside ≡ strict_content_of k s.inside → (w : List ℕ) × Raw k t w x × (v ≡ strict_quoted_contents k w)
 raw_reads k t x v s string o each taken = (
-  held k s.inside,
+  content_of k s.inside,
   record {
     hashes = s.hashes;
     inside = s.inside;
     string = string;
     each = each;
     no_quote = suffix_without_quote x s.suffix;
-    text_is = s.text ∙ raw_text (opens_raw k) s.inside x s.hashes ∙ ap (λ z. z ++ (replicate s.hashes 35 ++ (34 ∷ (s.inside ++ (34 ∷ (replicate s.hashes 35 ++ x)))))) o;
+    text_is = s.text ∙ raw_text (strict_raw_opener k) s.inside x s.hashes ∙ ap (λ z. z ++ (replicate s.hashes 35 ++ (34 ∷ (s.inside ++ (34 ∷ (replicate s.hashes 35 ++ x)))))) o;
     value_is = refl;
   },
-  s.contents ∙ ap (held_by k) (sym taken),
+  s.contents ∙ ap (strict_quoted_contents k) (sym taken),
 )
 
 from_cooked : (k : Kind) (t x : List ℕ) (v : Contents) → StrictCooked t k v x → Reads t k v x

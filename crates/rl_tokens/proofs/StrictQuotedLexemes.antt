@@ -8,9 +8,9 @@ use Rattle.std.proofs.lemmas.Bool.{and_parts, and_from, or_from, not_from_false}
 use Rattle.std.proofs.lemmas.List.Folds.{list_all-append}
 use Rattle.rl_tokens.specs.declared.kind.Kind.{Kind}
 use Rattle.rl_tokens.specs.declared.kind.Kind.TheVariants.{Str, ByteStr, CStr, Byte, Char, Int, Float, Bool as BoolKind}
-use Rattle.rl_tokens.specs.Lexemes.{LiteralPrefix, NoPrefix, BytePrefix, CPrefix, prefix_text, BodyPart, PlainPart, EscapedPart, body_text, IsBody, Within, OneCharacter, EscapedCharacter, within_text, IsWithin, begins_hashes, IsRawBody, QuotedLexeme, RawLexeme, CharacterLexeme}
+use Rattle.rl_tokens.specs.Lexemes.{LiteralPrefix, NoPrefix, BytePrefix, CPrefix, prefix_text, BodyPart, PlainPart, EscapedPart, body_text, IsBody, CharacterBody, OneCharacter, EscapedCharacter, character_body_text, IsCharacterBody, begins_hashes, IsRawBody, QuotedLexeme, RawLexeme, CharacterLexeme}
 use Rattle.rl_tokens.specs.Reading.{Contents}
-use Rattle.rl_tokens.specs.Strict.{StrictUnit, Itself, QuoteEscape, PlainEscape, AsciiEscape, ByteEscape, UnicodeEscape, LineBreak, spaced_digit, spaced_value, strict_text, number_of, is_octal, is_dropped_blank, is_unicode_escape, is_bare_character, is_bare_in_string, is_strict_unit, opens, ends, HasUnits, StrictCooked, StrictRaw}
+use Rattle.rl_tokens.specs.Strict.{StrictUnit, Itself, QuoteEscape, PlainEscape, AsciiEscape, ByteEscape, UnicodeEscape, LineBreak, spaced_digit, spaced_value, strict_text, spelled_number, is_octal, is_dropped_blank, is_unicode_escape, is_bare_character, is_bare_in_string, is_strict_unit, strict_opener, strict_closer, HasUnits, StrictCooked, StrictRaw}
 use Rattle.rl_tokens.proofs.Comments.{false_unless}
 use Rattle.rl_tokens.proofs.Pieces.{is_equal}
 use Rattle.rl_tokens.proofs.Basics.{apart, all_weaker, hex_is_sixteen}
@@ -103,7 +103,7 @@ ascii_of a b BoolKind high low o h = absurd (cc)
 byte_of : (a b : ℕ) (k : Kind) (high low : ℕ) → Outside a b → is_strict_unit k (ByteEscape high low) ≡ true → Escape a b (ByteEscape high low)
 byte_of a b ByteStr high low o h = hex_escape a b high low o h
 byte_of a b Byte high low o h = hex_escape a b high low o h
-byte_of a b CStr high low o h = hex_escape a b high low o (and_parts (is_ascii_hexdigit high && is_ascii_hexdigit low) (not (number_of 16 (high ∷ low ∷ []) == 0)) h).0
+byte_of a b CStr high low o h = hex_escape a b high low o (and_parts (is_ascii_hexdigit high && is_ascii_hexdigit low) (not (spelled_number 16 (high ∷ low ∷ []) == 0)) h).0
 byte_of a b Str high low o h = absurd (cc)
 byte_of a b Char high low o h = absurd (cc)
 byte_of a b Int high low o h = absurd (cc)
@@ -138,8 +138,8 @@ record StringKind (k : Kind) : Type 0 where
   pub bare : (c : ℕ) → is_strict_unit k (Itself c) ≡ true → free 34 92 c ≡ true
   pub line : (blanks : List ℕ) → is_strict_unit k (LineBreak blanks) ≡ true → list_all (free 34 92) blanks ≡ true
   pub before : LiteralPrefix
-  pub opens_is : opens k ≡ prefix_text before ++ (34 ∷ [])
-  pub ends_is : ends k ≡ 34 ∷ []
+  pub opens_is : strict_opener k ≡ prefix_text before ++ (34 ∷ [])
+  pub ends_is : strict_closer k ≡ 34 ∷ []
 
 blanks_free : (blanks : List ℕ) → list_all is_dropped_blank blanks ≡ true → list_all (free 34 92) blanks ≡ true
 blanks_free = all_weaker is_dropped_blank (free 34 92) (free_from is_dropped_blank 34 92 refl refl)
@@ -203,8 +203,8 @@ string_lexed k t x v f s =
       lexeme = QuotedLexeme f.before r.parts x;
       is_lexeme = λ after ends. (r.is_body, strict_suffix_lexed x after s.suffix ends);
       form = refl;
-      text_is = s.text ∙ between (opens k) (flat_map strict_text s.units) (ends k) x
-          ∙ ap (λ z. z ++ (flat_map strict_text s.units ++ (ends k ++ x))) f.opens_is
+      text_is = s.text ∙ between (strict_opener k) (flat_map strict_text s.units) (strict_closer k) x
+          ∙ ap (λ z. z ++ (flat_map strict_text s.units ++ (strict_closer k ++ x))) f.opens_is
           ∙ ap (λ z. (prefix_text f.before ++ (34 ∷ [])) ++ (flat_map strict_text s.units ++ (z ++ x))) f.ends_is
           ∙ ap (λ z. (prefix_text f.before ++ (34 ∷ [])) ++ (z ++ (34 ∷ x))) (sym r.text)
           ∙ sym (quoted_text f.before (body_text r.parts) x);
@@ -215,8 +215,8 @@ record SingleKind (k : Kind) : Type 0 where
   pub bare : (c : ℕ) → is_strict_unit k (Itself c) ≡ true → not (c == 92) ≡ true
   pub line : (blanks : List ℕ) → is_strict_unit k (LineBreak blanks) ≡ true → list_all (free 39 10) blanks ≡ true
   pub is_byte : Bool
-  pub opens_is : opens k ≡ (if is_byte then 98 ∷ [] else []) ++ (39 ∷ [])
-  pub ends_is : ends k ≡ 39 ∷ []
+  pub opens_is : strict_opener k ≡ (if is_byte then 98 ∷ [] else []) ++ (39 ∷ [])
+  pub ends_is : strict_closer k ≡ 39 ∷ []
   pub one : (us : List StrictUnit) → HasUnits k us → length us ≡ 1
 
 character_kind : SingleKind Char
@@ -227,9 +227,9 @@ byte_kind = record { bare = λ c h. bare_not_backslash c (and_parts (nat_lt c 12
 
 -- what stands between the quotes
 record Between (s : StrictUnit) : Type 0 where
-  pub inside : Within
-  pub text : strict_text s ≡ within_text inside
-  pub is_within : IsWithin inside
+  pub inside : CharacterBody
+  pub text : strict_text s ≡ character_body_text inside
+  pub is_within : IsCharacterBody inside
 
 within_of : (k : Kind) (s : StrictUnit) → SingleKind k → OneOrEscape 39 10 k s → Between s
 within_of k s f (inl (c, same, is)) = record { inside = OneCharacter c; text = ap strict_text same; is_within = f.bare c is }
@@ -244,16 +244,16 @@ single_lexed k t x v f s =
     let (u, one) = one_unit s.units (f.one s.units s.count) in
     let each : list_all (is_strict_unit k) (u ∷ []) ≡ true = subst (λ (us : List StrictUnit). list_all (is_strict_unit k) us ≡ true) one s.each in
     let w = within_of k u f (one_or_escape 39 10 k u apostrophe_outside f.line (and_parts (is_strict_unit k u) true each).0) in
-    let text : flat_map strict_text s.units ≡ within_text w.inside = ap (flat_map strict_text) one ∙ append-nil (strict_text u) ∙ w.text in
+    let text : flat_map strict_text s.units ≡ character_body_text w.inside = ap (flat_map strict_text) one ∙ append-nil (strict_text u) ∙ w.text in
     record {
       lexeme = CharacterLexeme f.is_byte w.inside x;
       is_lexeme = λ after ends. (w.is_within, strict_suffix_lexed x after s.suffix ends);
       form = refl;
-      text_is = s.text ∙ between (opens k) (flat_map strict_text s.units) (ends k) x
-          ∙ ap (λ z. z ++ (flat_map strict_text s.units ++ (ends k ++ x))) f.opens_is
+      text_is = s.text ∙ between (strict_opener k) (flat_map strict_text s.units) (strict_closer k) x
+          ∙ ap (λ z. z ++ (flat_map strict_text s.units ++ (strict_closer k ++ x))) f.opens_is
           ∙ ap (λ z. ((if f.is_byte then 98 ∷ [] else []) ++ (39 ∷ [])) ++ (flat_map strict_text s.units ++ (z ++ x))) f.ends_is
           ∙ ap (λ z. ((if f.is_byte then 98 ∷ [] else []) ++ (39 ∷ [])) ++ (z ++ (39 ∷ x))) text
-          ∙ sym (single_text f.is_byte (within_text w.inside) x);
+          ∙ sym (single_text f.is_byte (character_body_text w.inside) x);
     }
 
 -- Raw strings: no quote inside has the hashes behind it.

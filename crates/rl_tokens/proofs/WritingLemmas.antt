@@ -6,11 +6,11 @@ use Rattle.std.proofs.lemmas.Str.{encodes-append, chars_from_encodes}
 use Rattle.rl_tokens.specs.declared.kind.Kind.{Kind}
 use Rattle.rl_tokens.specs.declared.kind.Kind.TheVariants.{Str, ByteStr, CStr, Byte, Char, Int, Float, Bool as BoolKind}
 use Rattle.rl_tokens.specs.Quoted.{opener, unit_text, texts}
-use Rattle.rl_tokens.specs.Written.{closer, writing, written}
+use Rattle.rl_tokens.specs.Written.{closer, written_unit, written_text}
 
 -- the opener, and these characters as they are written
 abbrev pub begun : Kind → List ℕ → List ℕ
-begun k xs = encode_utf8_all (opener k ++ texts (map (writing k) xs))
+begun k xs = encode_utf8_all (opener k ++ texts (map (written_unit k) xs))
 
 -- the opener alone
 pub begun_start : (k : Kind) (s : List ℕ) → s ≡ opener k → s ≡ begun k []
@@ -24,24 +24,24 @@ begun_start Int s h = h
 begun_start Float s h = h
 begun_start BoolKind s h = h
 
-texts_more : (k : Kind) (xs : List ℕ) (c : ℕ) → texts (map (writing k) (xs ++ (c ∷ []))) ≡ texts (map (writing k) xs) ++ unit_text (writing k c)
-texts_more k [] c = append-nil (unit_text (writing k c))
-texts_more k (x ∷ xs) c = ap (λ z. unit_text (writing k x) ++ z) (texts_more k xs c) ∙ sym (append_assoc (unit_text (writing k x)) (texts (map (writing k) xs)) (unit_text (writing k c)))
+texts_more : (k : Kind) (xs : List ℕ) (c : ℕ) → texts (map (written_unit k) (xs ++ (c ∷ []))) ≡ texts (map (written_unit k) xs) ++ unit_text (written_unit k c)
+texts_more k [] c = append-nil (unit_text (written_unit k c))
+texts_more k (x ∷ xs) c = ap (λ z. unit_text (written_unit k x) ++ z) (texts_more k xs c) ∙ sym (append_assoc (unit_text (written_unit k x)) (texts (map (written_unit k) xs)) (unit_text (written_unit k c)))
 
 -- one character more
-pub begun_more : (k : Kind) (a b xs : List ℕ) (c : ℕ) → a ≡ begun k xs → b ≡ a ++ encode_utf8_all (unit_text (writing k c)) → b ≡ begun k (xs ++ (c ∷ []))
+pub begun_more : (k : Kind) (a b xs : List ℕ) (c : ℕ) → a ≡ begun k xs → b ≡ a ++ encode_utf8_all (unit_text (written_unit k c)) → b ≡ begun k (xs ++ (c ∷ []))
 begun_more k a b xs c e h =
-    let inner = texts (map (writing k) xs) in
-    let all : (opener k ++ inner) ++ unit_text (writing k c) ≡ opener k ++ texts (map (writing k) (xs ++ (c ∷ []))) = append_assoc (opener k) inner (unit_text (writing k c)) ∙ ap (λ z. opener k ++ z) (sym (texts_more k xs c)) in
-    h ∙ ap (λ z. z ++ encode_utf8_all (unit_text (writing k c))) e ∙ sym (encodes-append (opener k ++ inner) (unit_text (writing k c))) ∙ ap encode_utf8_all all
+    let inner = texts (map (written_unit k) xs) in
+    let all : (opener k ++ inner) ++ unit_text (written_unit k c) ≡ opener k ++ texts (map (written_unit k) (xs ++ (c ∷ []))) = append_assoc (opener k) inner (unit_text (written_unit k c)) ∙ ap (λ z. opener k ++ z) (sym (texts_more k xs c)) in
+    h ∙ ap (λ z. z ++ encode_utf8_all (unit_text (written_unit k c))) e ∙ sym (encodes-append (opener k ++ inner) (unit_text (written_unit k c))) ∙ ap encode_utf8_all all
 
 -- the closer behind all of them
-pub begun_whole : (k : Kind) (a b xs ys : List ℕ) → a ≡ begun k xs → b ≡ a ++ encode_utf8 (closer k) → xs ≡ ys → IsUtf8 b → chars b ≡ written k ys
+pub begun_whole : (k : Kind) (a b xs ys : List ℕ) → a ≡ begun k xs → b ≡ a ++ encode_utf8 (closer k) → xs ≡ ys → IsUtf8 b → chars b ≡ written_text k ys
 begun_whole k a b xs ys e h same u =
-    let inner = texts (map (writing k) xs) in
+    let inner = texts (map (written_unit k) xs) in
     let one : encode_utf8_all (closer k ∷ []) ≡ encode_utf8 (closer k) = append-nil (encode_utf8 (closer k)) in
     let all : encode_utf8_all (opener k ++ (inner ++ (closer k ∷ []))) ≡ b =
     ap encode_utf8_all (sym (append_assoc (opener k) inner (closer k ∷ [])))
     ∙ encodes-append (opener k ++ inner) (closer k ∷ [])
     ∙ ap (λ z. encode_utf8_all (opener k ++ inner) ++ z) one ∙ ap (λ z. z ++ encode_utf8 (closer k)) (sym e) ∙ sym h in
-    sym (chars_from_encodes (opener k ++ (inner ++ (closer k ∷ []))) b u all) ∙ ap (written k) same
+    sym (chars_from_encodes (opener k ++ (inner ++ (closer k ∷ []))) b u all) ∙ ap (written_text k) same

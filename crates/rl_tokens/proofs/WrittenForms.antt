@@ -6,18 +6,19 @@ use Rattle.std.proofs.lemmas.Bool.{and_from, and_parts, lt-ltb}
 use Rattle.rl_tokens.specs.declared.kind.Kind.{Kind}
 use Rattle.rl_tokens.specs.declared.kind.Kind.TheVariants.{Str, ByteStr, CStr, Byte, Char, Int, Float, Bool as BoolKind}
 use Rattle.rl_tokens.specs.Reading.{Reads, quoted_contents}
-use Rattle.rl_tokens.specs.Strict.{Strict, held_by}
-use Rattle.rl_tokens.specs.Written.{written}
+use Rattle.rl_tokens.specs.Strict.{Strict, strict_quoted_contents}
+use Rattle.rl_tokens.specs.Written.{written_text}
 use Rattle.rl_tokens.specs.CStrings.{has_no_zero}
-use Rattle.rl_tokens.specs.Agreeing.{IsValue, AreBytesOf, IsWrittenForm}
+use Rattle.rl_tokens.specs.Agreeing.{IsQuotedValue, AreBytesOf}
+use Rattle.rl_tokens.specs.Written.{IsWrittenForm}
 use Rattle.rl_tokens.proofs.WrittenLaws.{written_reads, written_strict}
 
 -- a value's written text has that form
-pub written_form : (k : Kind) (v t : List ℕ) → IsValue k v → t ≡ written k v → IsWrittenForm k v t
+pub written_form : (k : Kind) (v t : List ℕ) → IsQuotedValue k v → t ≡ written_text k v → IsWrittenForm k v t
 written_form k v t h e = record {
   text_is = e;
   reads = subst (λ z. Reads z k (quoted_contents k v) []) (sym e) (written_reads k v h);
-  strict = subst (λ z. Strict z k (held_by k v) []) (sym e) (written_strict k v h);
+  strict = subst (λ z. Strict z k (strict_quoted_contents k v) []) (sym e) (written_strict k v h);
 }
 
 -- bytes fit eight bits
@@ -33,7 +34,7 @@ both_tests (c ∷ v) h n =
     and_from _ _ (and_from _ _ p.0 q.0) (both_tests v p.1 q.1)
 
 -- what the kind asks, and that they are bytes, is what a value is
-pub bytes_value : (k : Kind) (v : List ℕ) → AreBytesOf k v → list_all (λ c. nat_lt c 256) v ≡ true → IsValue k v
+pub bytes_value : (k : Kind) (v : List ℕ) → AreBytesOf k v → list_all (λ c. nat_lt c 256) v ≡ true → IsQuotedValue k v
 bytes_value ByteStr v h b = b
 bytes_value Byte v h b = (h, b)
 bytes_value CStr v h b = both_tests v b h

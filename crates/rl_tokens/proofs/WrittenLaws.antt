@@ -10,9 +10,9 @@ use Rattle.rl_tokens.specs.declared.kind.Kind.{Kind}
 use Rattle.rl_tokens.specs.declared.kind.Kind.TheVariants.{Str, ByteStr, CStr, Byte, Char, Int, Float, Bool as BoolKind}
 use Rattle.rl_tokens.specs.Quoted.{QuotedUnit, Plain, Named, Hex, LowerN, LowerR, LowerT, Backslash, Zero, unit_text, texts, opener, hex_value}
 use Rattle.rl_tokens.specs.Reading.{Reads, quoted_contents}
-use Rattle.rl_tokens.specs.Written.{upper_digit, closer, own_quote, is_written_as_number, writing, written}
-use Rattle.rl_tokens.specs.Strict.{StrictUnit, Itself, QuoteEscape, PlainEscape, AsciiEscape, ByteEscape, strict_text, strict_contents, is_octal, is_bare_character, is_bare_in_string, is_strict_unit, BlanksEnd, opens, ends, taken_in, held_by, HasUnits, StrictCooked, Strict}
-use Rattle.rl_tokens.specs.Agreeing.{IsValue}
+use Rattle.rl_tokens.specs.Written.{upper_digit, closer, own_quote, is_written_as_number, written_unit, written_text}
+use Rattle.rl_tokens.specs.Strict.{StrictUnit, Itself, QuoteEscape, PlainEscape, AsciiEscape, ByteEscape, strict_text, strict_contents, is_octal, is_bare_character, is_bare_in_string, is_strict_unit, BlanksEnd, strict_opener, strict_closer, strict_content_of, strict_quoted_contents, HasUnits, StrictCooked, Strict}
+use Rattle.rl_tokens.specs.Agreeing.{IsQuotedValue}
 use Rattle.rl_tokens.proofs.Agreeing.{strict_reads}
 
 -- what holds of each way to write a character holds of the one that is taken
@@ -20,8 +20,8 @@ written_by : (k : Kind) (P : QuotedUnit → Type 0) (c : ℕ) →
     (c ≡ 0 → P (Named Zero)) → (c ≡ 9 → P (Named LowerT)) → (c ≡ 10 → P (Named LowerN)) → (c ≡ 13 → P (Named LowerR)) → (c ≡ 92 → P (Named Backslash)) → (c ≡ closer k → P (own_quote k)) →
     (eqb c 0 ≡ false → is_written_as_number k c ≡ true → P (Hex (upper_digit (c / 16)) (upper_digit (c % 16)))) →
     (eqb c 0 ≡ false → eqb c 9 ≡ false → eqb c 10 ≡ false → eqb c 13 ≡ false → eqb c 92 ≡ false → eqb c (closer k) ≡ false → is_written_as_number k c ≡ false → P (Plain c)) →
-    P (writing k c)
-unfolding writing
+    P (written_unit k c)
+unfolding written_unit
 written_by k P c zero_is tab lf cr backslash quote hex plain =
     elim (cases_Bool (eqb c 0)) [
       | inl a ↦ rw a (zero_is (eqb-true c 0 a))
@@ -83,7 +83,7 @@ pub record Fine (k : Kind) (c : ℕ) (u : QuotedUnit) : Type 0 where
   pub unit : StrictUnit
   pub is_unit : is_strict_unit k unit ≡ true
   pub text_is : unit_text u ≡ strict_text unit
-  pub value_is : strict_contents (taken_in k) unit ≡ c ∷ []
+  pub value_is : strict_contents (strict_content_of k) unit ≡ c ∷ []
   pub goes_on : (us : List StrictUnit) → BlanksEnd us → BlanksEnd (unit ∷ us)
 
 one_of : (c n : ℕ) → c ≡ n → n ∷ [] ≡ c ∷ []
@@ -125,38 +125,38 @@ byte_hex k c h allowed =
     let d = two_digits c h in
     record { unit = ByteEscape (upper_digit (c / 16)) (upper_digit (c % 16)); is_unit = allowed _ _ d.high_hex d.low_hex d.value_is; text_is = refl; value_is = ap (λ z. z ∷ []) d.value_is; goes_on = λ us b. b }
 
-named : (k : Kind) (c letter value : ℕ) (u : QuotedUnit) → c ≡ value → is_strict_unit k (PlainEscape letter) ≡ true → unit_text u ≡ 92 ∷ letter ∷ [] → strict_contents (taken_in k) (PlainEscape letter) ≡ value ∷ [] → Fine k c u
+named : (k : Kind) (c letter value : ℕ) (u : QuotedUnit) → c ≡ value → is_strict_unit k (PlainEscape letter) ≡ true → unit_text u ≡ 92 ∷ letter ∷ [] → strict_contents (strict_content_of k) (PlainEscape letter) ≡ value ∷ [] → Fine k c u
 named k c letter value u e allowed text contents = record { unit = PlainEscape letter; is_unit = allowed; text_is = text; value_is = contents ∙ one_of c value e; goes_on = λ us b. b }
 
-str_fine : (c : ℕ) → Fine Str c (writing Str c)
+str_fine : (c : ℕ) → Fine Str c (written_unit Str c)
 str_fine c = written_by Str (Fine Str c) c
     (λ e. named Str c 48 0 _ e refl refl refl) (λ e. named Str c 116 9 _ e refl refl refl) (λ e. named Str c 110 10 _ e refl refl refl) (λ e. named Str c 114 13 _ e refl refl refl) (λ e. named Str c 92 92 _ e refl refl refl)
     (λ e. record { unit = QuoteEscape 34; is_unit = refl; text_is = refl; value_is = one_of c 34 e; goes_on = λ us b. b })
     (λ z n. ascii_hex Str c (small_number c n) (λ high low a b. and_from _ _ a b))
     (λ z t l r b q n. record { unit = Itself c; is_unit = bare_string c q b r; text_is = refl; value_is = refl; goes_on = λ us b. b })
 
-char_fine : (c : ℕ) → Fine Char c (writing Char c)
+char_fine : (c : ℕ) → Fine Char c (written_unit Char c)
 char_fine c = written_by Char (Fine Char c) c
     (λ e. named Char c 48 0 _ e refl refl refl) (λ e. named Char c 116 9 _ e refl refl refl) (λ e. named Char c 110 10 _ e refl refl refl) (λ e. named Char c 114 13 _ e refl refl refl) (λ e. named Char c 92 92 _ e refl refl refl)
     (λ e. record { unit = QuoteEscape 39; is_unit = refl; text_is = refl; value_is = one_of c 39 e; goes_on = λ us b. b })
     (λ z n. ascii_hex Char c (small_number c n) (λ high low a b. and_from _ _ a b))
     (λ z t l r b q n. record { unit = Itself c; is_unit = bare_character c q b l r t; text_is = refl; value_is = refl; goes_on = λ us b. b })
 
-byte_str_fine : (c : ℕ) → c < 256 → Fine ByteStr c (writing ByteStr c)
+byte_str_fine : (c : ℕ) → c < 256 → Fine ByteStr c (written_unit ByteStr c)
 byte_str_fine c h = written_by ByteStr (Fine ByteStr c) c
     (λ e. named ByteStr c 48 0 _ e refl refl refl) (λ e. named ByteStr c 116 9 _ e refl refl refl) (λ e. named ByteStr c 110 10 _ e refl refl refl) (λ e. named ByteStr c 114 13 _ e refl refl refl) (λ e. named ByteStr c 92 92 _ e refl refl refl)
     (λ e. record { unit = QuoteEscape 34; is_unit = refl; text_is = refl; value_is = one_of c 34 e; goes_on = λ us b. b })
     (λ z n. byte_hex ByteStr c h (λ high low a b v. and_from _ _ a b))
     (λ z t l r b q n. record { unit = Itself c; is_unit = and_from _ _ (lt-ltb c 128 (small_plain c n)) (bare_string c q b r); text_is = refl; value_is = refl; goes_on = λ us b. b })
 
-byte_fine : (c : ℕ) → c < 256 → Fine Byte c (writing Byte c)
+byte_fine : (c : ℕ) → c < 256 → Fine Byte c (written_unit Byte c)
 byte_fine c h = written_by Byte (Fine Byte c) c
     (λ e. named Byte c 48 0 _ e refl refl refl) (λ e. named Byte c 116 9 _ e refl refl refl) (λ e. named Byte c 110 10 _ e refl refl refl) (λ e. named Byte c 114 13 _ e refl refl refl) (λ e. named Byte c 92 92 _ e refl refl refl)
     (λ e. record { unit = QuoteEscape 39; is_unit = refl; text_is = refl; value_is = one_of c 39 e; goes_on = λ us b. b })
     (λ z n. byte_hex Byte c h (λ high low a b v. and_from _ _ a b))
     (λ z t l r b q n. record { unit = Itself c; is_unit = and_from _ _ (lt-ltb c 128 (small_plain c n)) (bare_character c q b l r t); text_is = refl; value_is = refl; goes_on = λ us b. b })
 
-c_str_fine : (c : ℕ) → c < 256 → eqb c 0 ≡ false → Fine CStr c (writing CStr c)
+c_str_fine : (c : ℕ) → c < 256 → eqb c 0 ≡ false → Fine CStr c (written_unit CStr c)
 c_str_fine c h some = written_by CStr (Fine CStr c) c
     (λ e. absurd (eqb-false c 0 some e)) (λ e. named CStr c 116 9 _ e refl refl refl) (λ e. named CStr c 110 10 _ e refl refl refl) (λ e. named CStr c 114 13 _ e refl refl refl) (λ e. named CStr c 92 92 _ e refl refl refl)
     (λ e. record { unit = QuoteEscape 34; is_unit = refl; text_is = refl; value_is = one_of c 34 e; goes_on = λ us b. b })
@@ -169,21 +169,21 @@ pub record FineRow (k : Kind) (v : List ℕ) : Type 0 where
   pub units : List StrictUnit
   pub each : list_all (is_strict_unit k) units ≡ true
   pub blanks_end : BlanksEnd units
-  pub text_is : texts (map (writing k) v) ≡ flat_map strict_text units
-  pub value_is : flat_map (strict_contents (taken_in k)) units ≡ v
+  pub text_is : texts (map (written_unit k) v) ≡ flat_map strict_text units
+  pub value_is : flat_map (strict_contents (strict_content_of k)) units ≡ v
   pub count : length units ≡ length v
 
-fine_more : (k : Kind) (c : ℕ) (v : List ℕ) → Fine k c (writing k c) → FineRow k v → FineRow k (c ∷ v)
+fine_more : (k : Kind) (c : ℕ) (v : List ℕ) → Fine k c (written_unit k c) → FineRow k v → FineRow k (c ∷ v)
 fine_more k c v f r = record {
   units = f.unit ∷ r.units;
   each = and_from _ _ f.is_unit r.each;
   blanks_end = f.goes_on r.units r.blanks_end;
-  text_is = ap (λ z. z ++ texts (map (writing k) v)) f.text_is ∙ ap (λ z. strict_text f.unit ++ z) r.text_is;
-  value_is = ap (λ z. z ++ flat_map (strict_contents (taken_in k)) r.units) f.value_is ∙ ap (λ z. c ∷ z) r.value_is;
+  text_is = ap (λ z. z ++ texts (map (written_unit k) v)) f.text_is ∙ ap (λ z. strict_text f.unit ++ z) r.text_is;
+  value_is = ap (λ z. z ++ flat_map (strict_contents (strict_content_of k)) r.units) f.value_is ∙ ap (λ z. c ∷ z) r.value_is;
   count = ap suc r.count;
 }
 
-fine_row : (k : Kind) (test : ℕ → Bool) (v : List ℕ) → ((c : ℕ) → test c ≡ true → Fine k c (writing k c)) → list_all test v ≡ true → FineRow k v
+fine_row : (k : Kind) (test : ℕ → Bool) (v : List ℕ) → ((c : ℕ) → test c ≡ true → Fine k c (written_unit k c)) → list_all test v ≡ true → FineRow k v
 fine_row k test [] f h = record { units = []; each = refl; blanks_end = tt; text_is = refl; value_is = refl; count = refl }
 fine_row k test (c ∷ v) f h =
     let p = and_parts (test c) (list_all test v) h in
@@ -199,7 +199,7 @@ is_byte c = nat_lt c 256
 abbrev is_some_byte : ℕ → Bool
 is_some_byte c = nat_lt c 256 && not (eqb c 0)
 
-row_of : (k : Kind) (v : List ℕ) → IsValue k v → FineRow k v
+row_of : (k : Kind) (v : List ℕ) → IsQuotedValue k v → FineRow k v
 row_of Str v h = fine_row Str (λ c. true) v (λ c h. str_fine c) (always v)
 row_of Char v h = fine_row Char (λ c. true) v (λ c h. char_fine c) (always v)
 row_of ByteStr v h = fine_row ByteStr is_byte v (λ c h. byte_str_fine c (ltb-true c 256 h)) h
@@ -209,26 +209,26 @@ row_of Int v h = absurd h
 row_of Float v h = absurd h
 row_of BoolKind v h = absurd h
 
-written_text : (k : Kind) (v : List ℕ) (units : List StrictUnit) → texts (map (writing k) v) ≡ flat_map strict_text units → opener k ≡ opens k → closer k ∷ [] ≡ ends k → written k v ≡ ((opens k ++ flat_map strict_text units) ++ ends k) ++ []
-written_text k v units t o e =
-    ap (λ z. z ++ (texts (map (writing k) v) ++ (closer k ∷ []))) o
-    ∙ ap (λ z. opens k ++ (z ++ (closer k ∷ []))) t
-    ∙ ap (λ z. opens k ++ (flat_map strict_text units ++ z)) e
-    ∙ sym (append_assoc (opens k) (flat_map strict_text units) (ends k))
-    ∙ sym (append-nil ((opens k ++ flat_map strict_text units) ++ ends k))
+written_units : (k : Kind) (v : List ℕ) (units : List StrictUnit) → texts (map (written_unit k) v) ≡ flat_map strict_text units → opener k ≡ strict_opener k → closer k ∷ [] ≡ strict_closer k → written_text k v ≡ ((strict_opener k ++ flat_map strict_text units) ++ strict_closer k) ++ []
+written_units k v units t o e =
+    ap (λ z. z ++ (texts (map (written_unit k) v) ++ (closer k ∷ []))) o
+    ∙ ap (λ z. strict_opener k ++ (z ++ (closer k ∷ []))) t
+    ∙ ap (λ z. strict_opener k ++ (flat_map strict_text units ++ z)) e
+    ∙ sym (append_assoc (strict_opener k) (flat_map strict_text units) (strict_closer k))
+    ∙ sym (append-nil ((strict_opener k ++ flat_map strict_text units) ++ strict_closer k))
 
-cooked_written : (k : Kind) (v : List ℕ) (r : FineRow k v) → HasUnits k r.units → opener k ≡ opens k → closer k ∷ [] ≡ ends k → StrictCooked (written k v) k (held_by k v) []
+cooked_written : (k : Kind) (v : List ℕ) (r : FineRow k v) → HasUnits k r.units → opener k ≡ strict_opener k → closer k ∷ [] ≡ strict_closer k → StrictCooked (written_text k v) k (strict_quoted_contents k v) []
 cooked_written k v r count o e = record {
   units = r.units;
   count = count;
   each = r.each;
   blanks_end = r.blanks_end;
   suffix = inl refl;
-  text = written_text k v r.units r.text_is o e;
-  contents = ap (held_by k) (sym r.value_is);
+  text = written_units k v r.units r.text_is o e;
+  contents = ap (strict_quoted_contents k) (sym r.value_is);
 }
 
-pub written_strict : (k : Kind) (v : List ℕ) → IsValue k v → Strict (written k v) k (held_by k v) []
+pub written_strict : (k : Kind) (v : List ℕ) → IsQuotedValue k v → Strict (written_text k v) k (strict_quoted_contents k v) []
 written_strict Str v h = inl (cooked_written Str v (row_of Str v h) tt refl refl)
 written_strict ByteStr v h = inl (cooked_written ByteStr v (row_of ByteStr v h) tt refl refl)
 written_strict CStr v h = inl (cooked_written CStr v (row_of CStr v h) tt refl refl)
@@ -238,12 +238,12 @@ written_strict Int v h = absurd h
 written_strict Float v h = absurd h
 written_strict BoolKind v h = absurd h
 
-pub written_reads : (k : Kind) (v : List ℕ) → IsValue k v → Reads (written k v) k (quoted_contents k v) []
-written_reads Str v h = strict_reads (written Str v) Str _ [] (written_strict Str v h) tt
-written_reads ByteStr v h = strict_reads (written ByteStr v) ByteStr _ [] (written_strict ByteStr v h) tt
-written_reads CStr v h = strict_reads (written CStr v) CStr _ [] (written_strict CStr v h) tt
-written_reads Char v h = strict_reads (written Char v) Char _ [] (written_strict Char v h) tt
-written_reads Byte v h = strict_reads (written Byte v) Byte _ [] (written_strict Byte v h) tt
+pub written_reads : (k : Kind) (v : List ℕ) → IsQuotedValue k v → Reads (written_text k v) k (quoted_contents k v) []
+written_reads Str v h = strict_reads (written_text Str v) Str _ [] (written_strict Str v h) tt
+written_reads ByteStr v h = strict_reads (written_text ByteStr v) ByteStr _ [] (written_strict ByteStr v h) tt
+written_reads CStr v h = strict_reads (written_text CStr v) CStr _ [] (written_strict CStr v h) tt
+written_reads Char v h = strict_reads (written_text Char v) Char _ [] (written_strict Char v h) tt
+written_reads Byte v h = strict_reads (written_text Byte v) Byte _ [] (written_strict Byte v h) tt
 written_reads Int v h = absurd h
 written_reads Float v h = absurd h
 written_reads BoolKind v h = absurd h

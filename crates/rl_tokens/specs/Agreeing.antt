@@ -1,12 +1,9 @@
 -- What the laws on the two grammars and the writer ask of a text or a value.
-use Rattle.std.specs.Prelude.{◌≡◌, ℕ, ◌≤◌, Bool, true, false, not, ◌&&◌, ◌==◌, nat_lt, List, [], length, IsTrue, ⊤}
+use Rattle.std.specs.Prelude.{◌≡◌, ℕ, ◌≤◌, not, ◌&&◌, ◌==◌, nat_lt, List, length, IsTrue, ⊤}
 use Rattle.std.specs.List.{list_all}
 use Rattle.rl_tokens.specs.declared.kind.Kind.{Kind}
-use Rattle.rl_tokens.specs.declared.kind.Kind.TheVariants.{Str, ByteStr, CStr, Byte, Char, Int, Float}
+use Rattle.rl_tokens.specs.declared.kind.Kind.TheVariants.{Str, ByteStr, CStr, Byte, Char, Int}
 use Rattle.rl_tokens.specs.Numbers.{Sign, IntReads, limit}
-use Rattle.rl_tokens.specs.Reading.{Reads, quoted_contents}
-use Rattle.rl_tokens.specs.Strict.{Strict, held_by}
-use Rattle.rl_tokens.specs.Written.{written}
 use Rattle.rl_tokens.specs.CStrings.{has_no_zero}
 
 -- an integer's text stands for no magnitude past the limit; of other texts nothing is asked
@@ -14,19 +11,14 @@ abbrev pub IsWithinLimit : Kind → List ℕ → Type 0
 IsWithinLimit Int t = (sign : Sign) (magnitude : ℕ) (suffix : List ℕ) → IntReads t sign magnitude suffix → magnitude ≤ limit
 IsWithinLimit _ t = ⊤
 
-abbrev pub is_number : Kind → Bool
-is_number Int = true
-is_number Float = true
-is_number _ = false
-
 -- what a literal of the kind can hold: characters, bytes, bytes but zero; one of them for a character or a byte
-abbrev pub IsValue : Kind → List ℕ → Type 0
-IsValue Str v = ⊤
-IsValue Char v = length v ≡ 1
-IsValue ByteStr v = IsTrue (list_all (λ c. nat_lt c 256) v)
-IsValue Byte v = (length v ≡ 1) × IsTrue (list_all (λ c. nat_lt c 256) v)
-IsValue CStr v = IsTrue (list_all (λ c. nat_lt c 256 && not (c == 0)) v)
-IsValue _ v = ⊥
+abbrev pub IsQuotedValue : Kind → List ℕ → Type 0
+IsQuotedValue Str v = ⊤
+IsQuotedValue Char v = length v ≡ 1
+IsQuotedValue ByteStr v = IsTrue (list_all (λ c. nat_lt c 256) v)
+IsQuotedValue Byte v = (length v ≡ 1) × IsTrue (list_all (λ c. nat_lt c 256) v)
+IsQuotedValue CStr v = IsTrue (list_all (λ c. nat_lt c 256 && not (c == 0)) v)
+IsQuotedValue _ v = ⊥
 
 -- what a literal that holds bytes asks of them
 abbrev pub AreBytesOf : Kind → List ℕ → Type 0
@@ -34,9 +26,3 @@ AreBytesOf ByteStr v = ⊤
 AreBytesOf Byte v = length v ≡ 1
 AreBytesOf CStr v = IsTrue (has_no_zero v)
 AreBytesOf _ v = ⊥
-
--- The text is what the value is written as: it reads as the value with no suffix, and it is strict.
-pub record IsWrittenForm (kind : Kind) (value text : List ℕ) : Type 0 where
-  pub text_is : text ≡ written kind value
-  pub reads : Reads text kind (quoted_contents kind value) []
-  pub strict : Strict text kind (held_by kind value) []

@@ -1,24 +1,25 @@
 -- What contracts see of a text that is cut token by token.
 use Rattle.std.specs.Prelude.{◌≡◌, ℕ, ◌+◌, List, [], ◌∷◌, ◌++◌, length, encode_utf8_all, Option, Some, MatchOption}
 use Rattle.std.specs.Str.{chars, IsUtf8}
-use Rattle.rl_tokens.specs.Texts.{IsBehind}
-use Rattle.rl_tokens.specs.Lexemes.{lexeme_text, IsLexeme, LexemeBefore, form_of}
-use Rattle.rl_tokens.specs.LexemeAt.{form_view}
-use Rattle.rl_tokens.specs.Lexing.{Cut, end_of, Cuts, OpenGroup, open_groups, Fault, BeginsNoLexeme}
+use Rattle.rl_tokens.specs.Texts.{IsTail}
+use Rattle.rl_tokens.specs.Lexemes.{lexeme_text, IsLexeme, LexemeBefore, form_of, LexemeForm, LiteralForm, IdentifierForm, DelimiterForm, MarkForm}
+use Rattle.rl_tokens.specs.Lexing.{LexedToken, end_of, LexesUpTo, OpenGroup, open_groups, Fault, BeginsNoLexeme}
 use Rattle.rl_tokens.specs.declared.cursor.Lexeme.{Lexeme}
 use Rattle.rl_tokens.specs.declared.lex_error.LexKind.{LexKind}
+use Rattle.rl_tokens.specs.declared.lexeme.Form.{Form as FoundForm}
+use Rattle.rl_tokens.specs.declared.lexeme.Form.TheVariants as found
 
 -- The text, and what is left of it. Both are bytes.
-pub record Cutting : Type 0 where
+pub record CursorState : Type 0 where
   pub text : List ℕ
   pub rest : List ℕ
 
-pub record IsCutting (text rest : List ℕ) : Type 0 where
+pub record IsCursorState (text rest : List ℕ) : Type 0 where
   pub is_text : IsUtf8 text
-  pub behind : IsBehind text rest
+  pub behind : IsTail text rest
 
 -- The form, the text and the place that are lent are those of the cut.
-pub record IsCut (l : Lexeme) (w : Cut) : Type 0 where
+pub record IsLentToken (l : Lexeme) (w : LexedToken) : Type 0 where
   pub form_is : form_of w.lexeme ≡ form_view l.form
   pub bytes_are : encode_utf8_all (lexeme_text w.lexeme) ≡ l.text.now
   pub chars_are : lexeme_text w.lexeme ≡ chars l.text.now
@@ -26,16 +27,16 @@ pub record IsCut (l : Lexeme) (w : Cut) : Type 0 where
   pub hi_is : end_of w ≡ l.hi
 
 -- The token begins what is left, and whatever was cut of the text before, it is cut next.
-pub record TakesNext (old : Cutting) (l : Lexeme) (new : Cutting) : Type 0 where
-  pub cut : Cut
-  pub is_cut : IsCut l cut
+pub record TakesNext (old : CursorState) (l : Lexeme) (new : CursorState) : Type 0 where
+  pub cut : LexedToken
+  pub is_cut : IsLentToken l cut
   pub after : List ℕ
   pub begins : chars old.rest ≡ lexeme_text cut.lexeme ++ after
   pub is_lexeme : IsLexeme cut.lexeme after
   pub place : l.lo + length old.rest ≡ length old.text
-  pub goes_on : (done : List Cut) → Cuts 0 (chars old.text) done (chars old.rest) → Cuts 0 (chars old.text) (done ++ cut ∷ []) (chars new.rest)
+  pub goes_on : (done : List LexedToken) → LexesUpTo 0 (chars old.text) done (chars old.rest) → LexesUpTo 0 (chars old.text) (done ++ cut ∷ []) (chars new.rest)
   pub same : new.text ≡ old.text
-  pub behind : IsBehind old.rest new.rest
+  pub behind : IsTail old.rest new.rest
 
 -- A token begins the text.
 abbrev pub BeginsLexeme : List ℕ → Type 0
@@ -43,10 +44,17 @@ BeginsLexeme t = (after : List ℕ) × LexemeBefore t after
 
 -- Where the text was cut into tokens whose groups open and close as they must, and this is left of it, its first fault is
 -- of this kind and stands at this byte.
-abbrev pub IsFirstFault : Cutting → LexKind → ℕ → Type 0
+abbrev pub IsFirstFault : CursorState → LexKind → ℕ → Type 0
 IsFirstFault t kind at =
-    (cuts : List Cut) (groups : List OpenGroup) → Cuts 0 (chars t.text) cuts (chars t.rest) → open_groups [] cuts ≡ Some groups → Fault (chars t.text) kind at
+    (cuts : List LexedToken) (groups : List OpenGroup) → LexesUpTo 0 (chars t.text) cuts (chars t.rest) → open_groups [] cuts ≡ Some groups → Fault (chars t.text) kind at
 
 -- What the cursor gives: the next token, or nothing where none begins what is left, and then it stays.
-abbrev pub GivesNext : Cutting → Option Lexeme → Cutting → Type 0
+abbrev pub GivesNext : CursorState → Option Lexeme → CursorState → Type 0
 GivesNext old token new = MatchOption token (BeginsNoLexeme (chars old.rest) × (new ≡ old)) (λ l. TakesNext old l new)
+
+-- the form that the code tells
+abbrev pub form_view : FoundForm → LexemeForm
+form_view found.Literal = LiteralForm
+form_view found.Identifier = IdentifierForm
+form_view (found.Delimiter c) = DelimiterForm c
+form_view (found.Mark c) = MarkForm c

@@ -3,7 +3,7 @@ use Rattle.std.specs.Prelude.{◌≡◌, ℕ, ◌⊎◌, Bool, true, false, not,
 use Rattle.std.proofs.Common.{suc, zero}
 use Rattle.std.specs.Char.{is_ascii_digit}
 use Rattle.std.specs.List.{list_all}
-use Rattle.rl_tokens.specs.Texts.{is_white, is_start, is_continue, is_underscore, is_among, passes}
+use Rattle.rl_tokens.specs.Texts.{is_white, is_start, is_continue, is_underscore, is_among, first_passes}
 
 -- what a row of digits in a decimal holds
 abbrev pub is_numeral_part : ℕ → Bool
@@ -38,7 +38,7 @@ begins_otherwise [] = false
 begins_otherwise (c ∷ t) =
     (c == 98 && (slice_index t 0 == 34 || (slice_index t 0 == 39 || (slice_index t 0 == 114 && begins_hashed_quote (drop 1 t)))))
     || ((c == 99 && (slice_index t 0 == 34 || (slice_index t 0 == 114 && begins_hashed_quote (drop 1 t))))
-    || (c == 114 && (begins_hashed_quote t || (slice_index t 0 == 35 && passes is_start (drop 1 t)))))
+    || (c == 114 && (begins_hashed_quote t || (slice_index t 0 == 35 && first_passes is_start (drop 1 t)))))
 
 -- n hashes begin the text.
 abbrev pub begins_hashes : ℕ → List ℕ → Bool
@@ -54,12 +54,12 @@ after_sign (c ∷ t) = cond (c == 43 || c == 45) t (c ∷ t)
 -- An exponent begins the text: `e` or `E`, perhaps a sign, underscores and a digit.
 abbrev pub begins_exponent : List ℕ → Bool
 begins_exponent [] = false
-begins_exponent (c ∷ t) = (c == 101 || c == 69) && passes is_ascii_digit (after_run is_underscore (after_sign t))
+begins_exponent (c ∷ t) = (c == 101 || c == 69) && first_passes is_ascii_digit (after_run is_underscore (after_sign t))
 
 -- A dot part begins the text: a dot, and behind it neither a dot nor an identifier.
 abbrev pub begins_dot : List ℕ → Bool
 begins_dot [] = false
-begins_dot (c ∷ t) = c == 46 && not (passes (λ d. d == 46 || is_start d) t)
+begins_dot (c ∷ t) = c == 46 && not (first_passes (λ d. d == 46 || is_start d) t)
 
 -- What stands before the quote, or before the `r`: nothing, `b` or `c`.
 pub data LiteralPrefix : Type 0 where
@@ -88,17 +88,17 @@ IsBody (PlainPart c ∷ parts) = IsTrue (not (c == 34 || c == 92)) × IsBody par
 IsBody (EscapedPart c ∷ parts) = IsBody parts
 
 -- Between the quotes of a character: one character, or a backslash, any character, and more.
-pub data Within : Type 0 where
-  OneCharacter : (c : ℕ) → Within
-  EscapedCharacter : (c : ℕ) (more : List ℕ) → Within
+pub data CharacterBody : Type 0 where
+  OneCharacter : (c : ℕ) → CharacterBody
+  EscapedCharacter : (c : ℕ) (more : List ℕ) → CharacterBody
 
-abbrev pub within_text : Within → List ℕ
-within_text (OneCharacter c) = c ∷ []
-within_text (EscapedCharacter c more) = 92 ∷ c ∷ more
+abbrev pub character_body_text : CharacterBody → List ℕ
+character_body_text (OneCharacter c) = c ∷ []
+character_body_text (EscapedCharacter c more) = 92 ∷ c ∷ more
 
-abbrev pub IsWithin : Within → Type 0
-IsWithin (OneCharacter c) = IsTrue (not (c == 92))
-IsWithin (EscapedCharacter c more) = IsTrue (list_all (λ d. not (d == 39 || d == 10)) more)
+abbrev pub IsCharacterBody : CharacterBody → Type 0
+IsCharacterBody (OneCharacter c) = IsTrue (not (c == 92))
+IsCharacterBody (EscapedCharacter c more) = IsTrue (list_all (λ d. not (d == 39 || d == 10)) more)
 
 -- The dot part of a decimal, where there is one.
 pub data LexedFraction : Type 0 where
@@ -133,7 +133,7 @@ pub data Lexeme : Type 0 where
   QuotedLexeme : (p : LiteralPrefix) (parts : List BodyPart) (suffix : List ℕ) → Lexeme
   RawLexeme : (p : LiteralPrefix) (hashes : ℕ) (body suffix : List ℕ) → Lexeme
   -- a character or a byte
-  CharacterLexeme : (is_byte : Bool) (inside : Within) (suffix : List ℕ) → Lexeme
+  CharacterLexeme : (is_byte : Bool) (inside : CharacterBody) (suffix : List ℕ) → Lexeme
   -- `0x`, `0o` or `0b`, and what goes on with it, a suffix too
   BasedLexeme : (letter : ℕ) (digits : List ℕ) → Lexeme
   DecimalLexeme : (digit : ℕ) (more : List ℕ) (fraction : LexedFraction) (exponent : LexedExponent) (suffix : List ℕ) → Lexeme
@@ -144,7 +144,7 @@ pub data Lexeme : Type 0 where
 abbrev pub lexeme_text : Lexeme → List ℕ
 lexeme_text (QuotedLexeme p parts suffix) = prefix_text p ++ 34 ∷ body_text parts ++ 34 ∷ suffix
 lexeme_text (RawLexeme p n body suffix) = prefix_text p ++ 114 ∷ replicate n 35 ++ 34 ∷ body ++ 34 ∷ replicate n 35 ++ suffix
-lexeme_text (CharacterLexeme is_byte inside suffix) = (if is_byte then 98 ∷ [] else []) ++ 39 ∷ within_text inside ++ 39 ∷ suffix
+lexeme_text (CharacterLexeme is_byte inside suffix) = (if is_byte then 98 ∷ [] else []) ++ 39 ∷ character_body_text inside ++ 39 ∷ suffix
 lexeme_text (BasedLexeme letter digits) = 48 ∷ letter ∷ digits
 lexeme_text (DecimalLexeme d more fraction exponent suffix) = d ∷ more ++ (lexed_fraction_text fraction ++ (lexed_exponent_text exponent ++ suffix))
 lexeme_text (IdentifierLexeme c more) = c ∷ more
@@ -154,11 +154,11 @@ lexeme_text (MarkLexeme c) = c ∷ []
 -- A row of such characters, as long as what follows allows.
 pub record IsRow (test : ℕ → Bool) (row after : List ℕ) : Type 0 where
   pub each : IsTrue (list_all test row)
-  pub ends : passes test after ≡ false
+  pub ends : first_passes test after ≡ false
 
 -- An identifier run, or nothing where none follows.
 abbrev pub IsLexedSuffix : List ℕ → List ℕ → Type 0
-IsLexedSuffix [] after = passes is_start after ≡ false
+IsLexedSuffix [] after = first_passes is_start after ≡ false
 IsLexedSuffix (c ∷ more) after = IsTrue (is_start c) × IsRow is_continue more after
 
 -- No quote in the body has n hashes behind it.
@@ -178,35 +178,35 @@ IsLexedExponent (LexedPower letter sign n d more) after = IsTrue (letter == 101 
 abbrev pub IsLexeme : Lexeme → List ℕ → Type 0
 IsLexeme (QuotedLexeme p parts suffix) after = IsBody parts × IsLexedSuffix suffix after
 IsLexeme (RawLexeme p n body suffix) after = IsRawBody n body × IsLexedSuffix suffix after
-IsLexeme (CharacterLexeme is_byte inside suffix) after = IsWithin inside × IsLexedSuffix suffix after
+IsLexeme (CharacterLexeme is_byte inside suffix) after = IsCharacterBody inside × IsLexedSuffix suffix after
 IsLexeme (BasedLexeme letter digits) after = IsTrue (is_base_letter letter) × IsRow is_continue digits after
 IsLexeme (DecimalLexeme d more fraction exponent suffix) after =
     IsTrue (is_ascii_digit d)
-    × ((d == 48 && passes is_base_letter (more ++ (lexed_fraction_text fraction ++ (lexed_exponent_text exponent ++ (suffix ++ after))))) ≡ false)
+    × ((d == 48 && first_passes is_base_letter (more ++ (lexed_fraction_text fraction ++ (lexed_exponent_text exponent ++ (suffix ++ after))))) ≡ false)
     × IsRow is_numeral_part more (lexed_fraction_text fraction ++ (lexed_exponent_text exponent ++ (suffix ++ after)))
     × IsLexedFraction fraction (lexed_exponent_text exponent ++ (suffix ++ after))
     × IsLexedExponent exponent (suffix ++ after)
     × IsLexedSuffix suffix after
 IsLexeme (IdentifierLexeme c more) after = IsTrue (is_start c) × IsRow is_continue more after × (begins_otherwise (c ∷ more ++ after) ≡ false)
 IsLexeme (DelimiterLexeme c) after = IsTrue (is_among delimiters c)
-IsLexeme (MarkLexeme c) after = IsTrue (is_among marks c) ⊎ ((c ≡ 47) × (passes (λ d. d == 47 || d == 42) after ≡ false))
+IsLexeme (MarkLexeme c) after = IsTrue (is_among marks c) ⊎ ((c ≡ 47) × (first_passes (λ d. d == 47 || d == 42) after ≡ false))
 
 -- w is a lexeme with after behind it.
 abbrev pub LexemeWith : List ℕ → List ℕ → Type 0
 LexemeWith w after = (l : Lexeme) × IsLexeme l after × (w ≡ lexeme_text l)
 
 -- At most one front of a text is a lexeme with the rest.
-abbrev pub OneFront : Type 0
-OneFront = (t v w x y : List ℕ) → t ≡ v ++ x → t ≡ w ++ y → LexemeWith v x → LexemeWith w y → (v ≡ w) × (x ≡ y)
+abbrev pub OneLexeme : Type 0
+OneLexeme = (t v w x y : List ℕ) → t ≡ v ++ x → t ≡ w ++ y → LexemeWith v x → LexemeWith w y → (v ≡ w) × (x ≡ y)
 
 -- What a lexeme is to a parser: a literal, an identifier, one of the six delimiters, or another mark.
-pub data Form : Type 0 where
-  LiteralForm : Form
-  IdentifierForm : Form
-  DelimiterForm : (c : ℕ) → Form
-  MarkForm : (c : ℕ) → Form
+pub data LexemeForm : Type 0 where
+  LiteralForm : LexemeForm
+  IdentifierForm : LexemeForm
+  DelimiterForm : (c : ℕ) → LexemeForm
+  MarkForm : (c : ℕ) → LexemeForm
 
-abbrev pub form_of : Lexeme → Form
+abbrev pub form_of : Lexeme → LexemeForm
 form_of (IdentifierLexeme first more) = IdentifierForm
 form_of (DelimiterLexeme c) = DelimiterForm c
 form_of (MarkLexeme c) = MarkForm c

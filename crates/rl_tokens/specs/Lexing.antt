@@ -1,33 +1,30 @@
 -- How a whole text is cut into tokens, and the first fault of a text that can't be.
 use Rattle.std.specs.Prelude.{◌≡◌, ◌≢◌, ℕ, ◌+◌, Bool, false, not, ◌&&◌, ◌||◌, ◌==◌, nat_lt, List, [], ◌∷◌, ◌++◌, length, map, IsTrue, IsFalse, codes, encode_utf8_all, Option, Some, None, option_and_then, if◌then◌else◌}
-use Rattle.rl_tokens.specs.Texts.{is_start, is_among, passes, begins}
-use Rattle.rl_tokens.specs.Trivia.{Skipped}
+use Rattle.rl_tokens.specs.Texts.{is_start, is_among, first_passes, begins, byte_len}
+use Rattle.rl_tokens.specs.Skipping.{Skipped}
 use Rattle.rl_tokens.specs.declared.span.Span.{Span}
 use Rattle.rl_tokens.specs.declared.token.Delimiter.{Delimiter}
 use Rattle.rl_tokens.specs.declared.token.Delimiter.TheVariants.{Parenthesis, Brace, Bracket}
 use Rattle.rl_tokens.specs.declared.lex_error.LexKind.{LexKind}
 use Rattle.rl_tokens.specs.declared.lex_error.LexKind.TheVariants.{DocComment, UnclosedComment, UnclosedQuote, Lifetime, RawIdentifier, StrayCharacter, UnmatchedClose, UnclosedGroup, TooDeep, Memory}
 use Rattle.rl_tokens.specs.Trees.{Tree, FlatToken, Opening, Closing, FlatIdent, FlatPunct, FlatLiteral, flat_trees}
-use Rattle.rl_tokens.specs.Lexemes.{Lexeme, lexeme_text, IsLexeme, LexemeBefore, begins_hashed_quote, Form, LiteralForm, IdentifierForm, DelimiterForm, MarkForm, form_of}
+use Rattle.rl_tokens.specs.Lexemes.{Lexeme, lexeme_text, IsLexeme, LexemeBefore, begins_hashed_quote, LexemeForm, LiteralForm, IdentifierForm, DelimiterForm, MarkForm, form_of}
 
 -- A token that was cut, and the byte where it begins.
-pub record Cut : Type 0 where
+pub record LexedToken : Type 0 where
   pub lexeme : Lexeme
   pub at : ℕ
 
-abbrev pub byte_len : List ℕ → ℕ
-byte_len cs = length (encode_utf8_all cs)
-
-abbrev pub end_of : Cut → ℕ
+abbrev pub end_of : LexedToken → ℕ
 end_of w = w.at + byte_len (lexeme_text w.lexeme)
 
 -- The text t, which begins at a byte, is these tokens with white space and comments before each, and after
 -- the last one's it goes on with r.
-abbrev pub Cuts : ℕ → List ℕ → List Cut → List ℕ → Type 0
-Cuts at t [] r = Skipped t r
-Cuts at t (w ∷ ws) r =
+abbrev pub LexesUpTo : ℕ → List ℕ → List LexedToken → List ℕ → Type 0
+LexesUpTo at t [] r = Skipped t r
+LexesUpTo at t (w ∷ ws) r =
     (after : List ℕ) × Skipped t (lexeme_text w.lexeme ++ after) × IsLexeme w.lexeme after
-    × (w.at + byte_len (lexeme_text w.lexeme ++ after) ≡ at + byte_len t) × Cuts (end_of w) after ws r
+    × (w.at + byte_len (lexeme_text w.lexeme ++ after) ≡ at + byte_len t) × LexesUpTo (end_of w) after ws r
 
 -- the closer of an opener; 0 for what is no opener
 abbrev pub closer_of : ℕ → ℕ
@@ -58,7 +55,7 @@ behind_delimiter groups c at =
     if is_opener c then (if nat_lt (length groups) 128 then Some (record { opener = c; at = at } ∷ groups) else None)
     else (if closes groups c then Some (popped groups) else None)
 
-abbrev pub behind_form : List OpenGroup → Form → ℕ → Option (List OpenGroup)
+abbrev pub behind_form : List OpenGroup → LexemeForm → ℕ → Option (List OpenGroup)
 behind_form groups (DelimiterForm c) at = behind_delimiter groups c at
 behind_form groups _ at = Some groups
 
@@ -66,7 +63,7 @@ abbrev pub behind_lexeme : List OpenGroup → Lexeme → ℕ → Option (List Op
 behind_lexeme groups l at = behind_form groups (form_of l) at
 
 -- the groups that are open behind all these tokens
-abbrev pub open_groups : List OpenGroup → List Cut → Option (List OpenGroup)
+abbrev pub open_groups : List OpenGroup → List LexedToken → Option (List OpenGroup)
 open_groups groups [] = Some groups
 open_groups groups (w ∷ ws) = option_and_then (λ g. open_groups g ws) (behind_lexeme groups w.lexeme w.at)
 
@@ -75,23 +72,23 @@ abbrev pub delimiter_for : ℕ → Delimiter
 delimiter_for c = if c == 40 || c == 41 then Parenthesis else (if c == 91 || c == 93 then Bracket else Brace)
 
 -- the token of this form, text and place, written flat
-abbrev pub flat_form : Form → List ℕ → Span → FlatToken
+abbrev pub flat_form : LexemeForm → List ℕ → Span → FlatToken
 flat_form LiteralForm text span = FlatLiteral (record { text = text; span = span })
 flat_form IdentifierForm text span = FlatIdent (record { text = text; span = span })
 flat_form (DelimiterForm c) text span = if is_opener c then Opening (delimiter_for c) span else Closing (delimiter_for c) span
 flat_form (MarkForm c) text span = FlatPunct (record { ch = c; span = span })
 
 -- a token that was cut, written flat: its span is the file and the bytes of its text
-abbrev pub flat_cut : ℕ → Cut → FlatToken
-flat_cut file w =
+abbrev pub flat_token : ℕ → LexedToken → FlatToken
+flat_token file w =
     flat_form (form_of w.lexeme) (encode_utf8_all (lexeme_text w.lexeme)) (record { file = file; lo = w.at; hi = end_of w })
 
 -- The text is cut into the tokens of these trees, and nothing is left: neither text nor an open group.
 pub record Lexes (t : List ℕ) (file : ℕ) (trees : List Tree) : Type 0 where
-  pub cuts : List Cut
-  pub are_cuts : Cuts 0 t cuts []
+  pub cuts : List LexedToken
+  pub are_cuts : LexesUpTo 0 t cuts []
   pub none_open : open_groups [] cuts ≡ Some []
-  pub flat_is : map (flat_cut file) cuts ≡ flat_trees trees
+  pub flat_is : map (flat_token file) cuts ≡ flat_trees trees
 
 -- `///` but not `////`, `//!`, `/**` but neither `/**/` nor `/***`, `/*!`
 abbrev pub begins_doc_comment : List ℕ → Bool
@@ -101,12 +98,12 @@ begins_doc_comment r =
 
 abbrev pub begins_lifetime : List ℕ → Bool
 begins_lifetime [] = false
-begins_lifetime (c ∷ cs) = c == 39 && passes is_start cs
+begins_lifetime (c ∷ cs) = c == 39 && first_passes is_start cs
 
 abbrev pub begins_raw_identifier : List ℕ → Bool
 begins_raw_identifier [] = false
 begins_raw_identifier (c ∷ []) = false
-begins_raw_identifier (c ∷ d ∷ cs) = c == 114 && d == 35 && passes is_start cs
+begins_raw_identifier (c ∷ d ∷ cs) = c == 114 && d == 35 && first_passes is_start cs
 
 abbrev pub begins_raw : List ℕ → Bool
 begins_raw [] = false
@@ -135,9 +132,9 @@ FaultAt RawIdentifier groups r = BeginsNoLexeme r × IsTrue (begins_raw_identifi
 FaultAt StrayCharacter groups r =
     (r ≢ []) × BeginsNoLexeme r
     × IsFalse (begins_doc_comment r || begins (codes "/*") r || begins_quote r || begins_lifetime r || begins_raw_identifier r)
-FaultAt UnmatchedClose groups r = IsTrue (passes (λ c. is_closer c && not (closes groups c)) r)
+FaultAt UnmatchedClose groups r = IsTrue (first_passes (λ c. is_closer c && not (closes groups c)) r)
 FaultAt UnclosedGroup groups r = (r ≡ []) × (groups ≢ [])
-FaultAt TooDeep groups r = IsTrue (passes is_opener r) × (length groups ≡ 128)
+FaultAt TooDeep groups r = IsTrue (first_passes is_opener r) × (length groups ≡ 128)
 FaultAt Memory groups r = ⊥
 
 abbrev pub innermost : List OpenGroup → ℕ → ℕ
@@ -151,11 +148,11 @@ fault_place _ groups at = at
 
 -- The first fault of the text: it is cut as far as it goes, and the fault stands there.
 pub record Fault (t : List ℕ) (kind : LexKind) (at : ℕ) : Type 0 where
-  pub cuts : List Cut
+  pub cuts : List LexedToken
   pub rest : List ℕ
   pub groups : List OpenGroup
   pub rest_at : ℕ
-  pub are_cuts : Cuts 0 t cuts rest
+  pub are_cuts : LexesUpTo 0 t cuts rest
   pub are_open : open_groups [] cuts ≡ Some groups
   pub fault : FaultAt kind groups rest
   pub rest_place : rest_at + byte_len rest ≡ byte_len t
@@ -163,9 +160,9 @@ pub record Fault (t : List ℕ) (kind : LexKind) (at : ℕ) : Type 0 where
 
 -- Some cut of the text leaves the rest that begins at this byte.
 pub record LeavesRestAt (t : List ℕ) (at : ℕ) : Type 0 where
-  pub cuts : List Cut
+  pub cuts : List LexedToken
   pub rest : List ℕ
-  pub are_cuts : Cuts 0 t cuts rest
+  pub are_cuts : LexesUpTo 0 t cuts rest
   pub rest_place : at + byte_len rest ≡ byte_len t
 
 -- What a refusal says of the text: its first fault, or where memory was refused.

@@ -3,15 +3,11 @@ use Rattle.std.specs.Prelude.{◌≡◌, ◌≢◌, ℕ, ◌+◌, ◌⊎◌, Boo
 use Rattle.std.specs.List.{AllByRecursion}
 use Rattle.rl_tokens.specs.declared.kind.Kind.{Kind}
 use Rattle.rl_tokens.specs.declared.kind.Kind.TheVariants.{Bool as BoolKind}
-use Rattle.rl_tokens.specs.Texts.{is_among, passes}
+use Rattle.rl_tokens.specs.Texts.{is_among, first_passes, SpannedText, byte_len}
 use Rattle.rl_tokens.specs.Trivia.{IsTrivia}
-use Rattle.rl_tokens.specs.Tokens.{Token}
-use Rattle.rl_tokens.specs.Trees.{Tree, IdentTree, PunctTree, LiteralTree}
-use Rattle.rl_tokens.specs.Lexemes.{Lexeme, lexeme_text, IsLexeme, LiteralForm, form_of}
-use Rattle.rl_tokens.specs.Lexing.{byte_len, Lexes}
-use Rattle.rl_tokens.specs.Reading.{Contents, ReadsAs, truth_text}
+use Rattle.rl_tokens.specs.Reading.{Contents, truth_text}
 use Rattle.rl_tokens.specs.Strict.{Strict}
-use Rattle.rl_tokens.specs.Agreeing.{is_number}
+use Rattle.rl_tokens.specs.Quoted.{is_number}
 
 -- What is printed: a truth value's word, the text of another literal, or a minus and the text of one.
 pub data Item : Type 0 where
@@ -35,29 +31,12 @@ printed_text [] last = last
 printed_text (e ∷ es) last = e.gap ++ (item_text e.item ++ printed_text es last)
 
 -- a token of this text that begins at a byte of the file
-abbrev pub token_at : ℕ → ℕ → List ℕ → Token
+abbrev pub token_at : ℕ → ℕ → List ℕ → SpannedText
 token_at file at text = record { text = encode_utf8_all text; span = record { file = file; lo = at; hi = at + byte_len text } }
-
--- the trees of an item that begins at this byte
-abbrev pub item_trees : ℕ → ℕ → Item → List Tree
-item_trees file at (WordItem truth) = IdentTree (token_at file at (truth_text truth)) ∷ []
-item_trees file at (LiteralItem text) = LiteralTree (token_at file at text) ∷ []
-item_trees file at (MinusItem text) =
-    PunctTree (record { ch = 45; span = record { file = file; lo = at; hi = at + 1 } }) ∷ LiteralTree (token_at file (at + 1) text) ∷ []
-
--- the trees of all entries, the first of which begins at this byte
-abbrev pub printed_trees : ℕ → ℕ → List Entry → List Tree
-printed_trees file at [] = []
-printed_trees file at (e ∷ es) =
-    item_trees file (at + byte_len e.gap) e.item ++ printed_trees file (at + byte_len e.gap + byte_len (item_text e.item)) es
 
 -- the text is a strict literal of the kind
 abbrev pub IsStrictAs : Kind → List ℕ → Type 0
 IsStrictAs kind t = (contents : Contents) × (suffix : List ℕ) × Strict t kind contents suffix
-
--- the text reads as a literal of some kind
-abbrev pub IsRead : List ℕ → Type 0
-IsRead t = (kind : Kind) × ReadsAs kind t
 
 -- A strict text, or a minus and a strict number; and it reads. Both words are strict and read.
 abbrev pub IsStrictItem : Item → Type 0
@@ -67,7 +46,7 @@ IsStrictItem (MinusItem text) = (kind : Kind) × IsTrue (is_number kind) × IsSt
 
 -- The gap before the item is empty only where the item begins with `"`, `'` or `-`.
 abbrev pub IsApart : Entry → Type 0
-IsApart e = (e.gap ≢ []) ⊎ IsTrue (passes (is_among (codes "\"'-")) (item_text e.item))
+IsApart e = (e.gap ≢ []) ⊎ IsTrue (first_passes (is_among (codes "\"'-")) (item_text e.item))
 
 -- The text is gap, item, gap, .., item, gap, each item strict and each gap trivia. The first gap and the last may be
 -- empty; one between two items as said.
@@ -76,28 +55,3 @@ pub record Printed (t : List ℕ) (entries : List Entry) (last : List ℕ) : Typ
   pub apart : AllByRecursion IsApart (drop 1 entries)
   pub last_gap : IsTrivia last
   pub text : t ≡ printed_text entries last
-
--- Such a text is cut into the trees of its items and no others.
-abbrev pub PrintedLexes : Type 0
-PrintedLexes = (t : List ℕ) (entries : List Entry) (last : List ℕ) (file : ℕ) → Printed t entries last → Lexes t file (printed_trees file 0 entries)
-
--- The text of a literal that was cut from some text, strict or not.
-abbrev pub IsCutLiteral : List ℕ → Type 0
-IsCutLiteral text = (l : Lexeme) × (after : List ℕ) × IsLexeme l after × (form_of l ≡ LiteralForm) × (text ≡ lexeme_text l)
-
-abbrev pub IsCutItem : Item → Type 0
-IsCutItem (WordItem truth) = ⊤
-IsCutItem (LiteralItem text) = IsCutLiteral text
-IsCutItem (MinusItem text) = IsCutLiteral text
-
--- The text is gap, item, gap, .., item, gap, each item as it was cut from some text and each gap trivia. The first
--- gap and the last may be empty; one between two items isn't.
-pub record Reprinted (t : List ℕ) (entries : List Entry) (last : List ℕ) : Type 0 where
-  pub items : AllByRecursion (λ e. IsTrivia e.gap × IsCutItem e.item) entries
-  pub apart : AllByRecursion (λ e. e.gap ≢ []) (drop 1 entries)
-  pub last_gap : IsTrivia last
-  pub text : t ≡ printed_text entries last
-
--- So is such a text.
-abbrev pub ReprintedLexes : Type 0
-ReprintedLexes = (t : List ℕ) (entries : List Entry) (last : List ℕ) (file : ℕ) → Reprinted t entries last → Lexes t file (printed_trees file 0 entries)

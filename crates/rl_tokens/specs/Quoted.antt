@@ -3,8 +3,8 @@ use Rattle.std.specs.Prelude.{◌≡◌, ℕ, ◌+◌, ◌*◌, ◌^◌, ◌≤�
 use Rattle.std.specs.Char.{IsScalar, digit_value}
 use Rattle.std.specs.List.{list_all, flat_map, AllByRecursion}
 use Rattle.rl_tokens.specs.declared.kind.Kind.{Kind}
-use Rattle.rl_tokens.specs.declared.kind.Kind.TheVariants.{Str, ByteStr, CStr, Byte, Char}
-use Rattle.rl_tokens.specs.Texts.{passes, is_underscore}
+use Rattle.rl_tokens.specs.declared.kind.Kind.TheVariants.{Str, ByteStr, CStr, Byte, Char, Int, Float}
+use Rattle.rl_tokens.specs.Texts.{first_passes, is_underscore}
 
 -- the escapes of a backslash and one letter
 pub data Letter : Type 0 where
@@ -70,8 +70,8 @@ holds_characters Str = true
 holds_characters Char = true
 holds_characters _ = false
 
-abbrev pub held : Kind → List ℕ → List ℕ
-held kind cs = if holds_characters kind then cs else encode_utf8_all cs
+abbrev pub content_of : Kind → List ℕ → List ℕ
+content_of kind cs = if holds_characters kind then cs else encode_utf8_all cs
 
 abbrev pub hex_value : ℕ → ℕ → ℕ
 hex_value high low = place_value 16 (high ∷ low ∷ [])
@@ -81,11 +81,11 @@ unicode_value first more = place_value 16 (without_underscores (first ∷ more))
 
 -- what a unit stands for in a literal of the kind
 abbrev pub unit_value : Kind → QuotedUnit → List ℕ
-unit_value kind (Plain c) = held kind (c ∷ [])
+unit_value kind (Plain c) = content_of kind (c ∷ [])
 unit_value kind CrLf = 10 ∷ []
 unit_value kind (Named letter) = letter_value letter ∷ []
 unit_value kind (Hex high low) = hex_value high low ∷ []
-unit_value kind (Unicode first more) = held kind (unicode_value first more ∷ [])
+unit_value kind (Unicode first more) = content_of kind (unicode_value first more ∷ [])
 unit_value kind (Continuation line_end run) = []
 
 abbrev pub is_hex_digit : ℕ → Bool
@@ -119,18 +119,18 @@ is_plain Byte c = nat_lt c 128 && not (c == 39 || c == 92 || c == 10 || c == 13 
 is_plain _ c = false
 
 -- a C string holds no zero
-abbrev pub may_hold : Kind → ℕ → Bool
-may_hold CStr n = not (n == 0)
-may_hold _ n = true
+abbrev pub allows_code : Kind → ℕ → Bool
+allows_code CStr n = not (n == 0)
+allows_code _ n = true
 
 -- what the raw form of a kind takes
 abbrev pub is_raw : Kind → ℕ → Bool
 is_raw ByteStr c = nat_lt c 128
-is_raw kind c = may_hold kind c
+is_raw kind c = allows_code kind c
 
 -- which numbers `\xHH` may have, and whether there is `\u{..}`
 abbrev pub may_be_hex : Kind → ℕ → Bool
-may_be_hex kind n = may_hold kind n && (not (holds_characters kind) || nat_lt n 128)
+may_be_hex kind n = allows_code kind n && (not (holds_characters kind) || nat_lt n 128)
 
 abbrev pub has_unicode : Kind → Bool
 has_unicode ByteStr = false
@@ -141,14 +141,14 @@ has_unicode _ = true
 abbrev pub IsUnit : Kind → QuotedUnit → Type 0
 IsUnit kind (Plain c) = IsTrue (is_plain kind c)
 IsUnit kind CrLf = IsTrue (is_string kind)
-IsUnit kind (Named letter) = IsTrue (may_hold kind (letter_value letter))
+IsUnit kind (Named letter) = IsTrue (allows_code kind (letter_value letter))
 IsUnit kind (Hex high low) =
     IsTrue (is_hex_digit high) × IsTrue (is_hex_digit low) × IsTrue (may_be_hex kind (hex_value high low))
 IsUnit kind (Unicode first more) =
     IsTrue (has_unicode kind) × IsTrue (is_hex_digit first)
     × IsTrue (list_all (λ c. is_underscore c || is_hex_digit c) more)
     × (length (without_underscores (first ∷ more)) ≤ 6)
-    × IsScalar (unicode_value first more) × IsTrue (may_hold kind (unicode_value first more))
+    × IsScalar (unicode_value first more) × IsTrue (allows_code kind (unicode_value first more))
 IsUnit kind (Continuation line_end run) =
     IsTrue (is_string kind) × IsTrue (is_line_end line_end) × IsTrue (list_all is_blank run)
 
@@ -160,7 +160,7 @@ values kind us = flat_map (unit_value kind) us
 
 -- the run of a continuation goes as far as blanks go
 abbrev pub EndsBefore : QuotedUnit → List ℕ → Type 0
-EndsBefore (Continuation line_end run) after = IsFalse (passes is_blank after)
+EndsBefore (Continuation line_end run) after = IsFalse (first_passes is_blank after)
 EndsBefore _ after = ⊤
 
 abbrev pub ContinuationsEnd : List QuotedUnit → Type 0
@@ -200,7 +200,7 @@ pub record Raw (kind : Kind) (text value suffix : List ℕ) : Type 0 where
   pub each : IsTrue (list_all (is_raw kind) inside)
   pub no_quote : IsTrue (list_all (λ c. not (c == 34)) suffix)
   pub text_is : text ≡ raw_opener kind ++ (replicate hashes 35 ++ (34 ∷ (inside ++ (34 ∷ (replicate hashes 35 ++ suffix)))))
-  pub value_is : value ≡ held kind inside
+  pub value_is : value ≡ content_of kind inside
 
 -- A character or a byte: one unit between single quotes.
 pub record Single (kind : Kind) (text value suffix : List ℕ) : Type 0 where
@@ -209,3 +209,8 @@ pub record Single (kind : Kind) (text value suffix : List ℕ) : Type 0 where
   pub is_unit : IsUnit kind unit
   pub text_is : text ≡ opener kind ++ (unit_text unit ++ (39 ∷ suffix))
   pub value_is : value ≡ unit_value kind unit
+
+abbrev pub is_number : Kind → Bool
+is_number Int = true
+is_number Float = true
+is_number _ = false

@@ -1,5 +1,5 @@
 -- The one reading of a text as a literal.
-use Rattle.std.specs.Prelude.{◌≡◌, ◌⊎◌, ℕ, ◌≤◌, Bool, true, false, List, [], ◌++◌, codes}
+use Rattle.std.specs.Prelude.{◌≡◌, ◌⊎◌, ℕ, ◌≤◌, Bool, true, false, List, [], ◌++◌, codes, ◌<◌}
 use Rattle.std.specs.Fmt.{decimal}
 use Rattle.rl_tokens.specs.declared.kind.Kind.{Kind}
 use Rattle.rl_tokens.specs.declared.kind.Kind.TheVariants.{Str, Char, Int, Float, Bool as BoolKind}
@@ -69,3 +69,25 @@ HasContents kind text contents = (suffix : List ℕ) × Reads text kind contents
 -- The text reads as a literal of the kind with this suffix.
 abbrev pub HasSuffix : Kind → List ℕ → List ℕ → Type 0
 HasSuffix kind text suffix = (contents : Contents) × Reads text kind contents suffix
+
+abbrev pub HasReading : List ℕ → Type 0
+HasReading text = (kind : Kind) × ReadsAs kind text
+
+-- an integer stands there, past the limit
+pub record IsPast (text : List ℕ) : Type 0 where
+  pub sign : Sign
+  pub magnitude : ℕ
+  pub suffix : List ℕ
+  pub reads : IntReads text sign magnitude suffix
+  pub past : limit < magnitude
+
+abbrev pub HasNoFloat : List ℕ → Type 0
+HasNoFloat text = (numeral : List ℕ) (suffix : List ℕ) → FloatReads text numeral suffix → ⊥
+
+-- the text is no literal of any kind
+abbrev pub HasNoReading : List ℕ → Type 0
+HasNoReading text = (kind : Kind) (contents : Contents) (suffix : List ℕ) → Reads text kind contents suffix → ⊥
+
+-- the text is no truth value
+abbrev pub HasNoTruth : List ℕ → Type 0
+HasNoTruth text = (contents : Contents) (suffix : List ℕ) → ReadsBool text contents suffix → ⊥

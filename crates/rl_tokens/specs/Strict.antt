@@ -7,7 +7,7 @@ use Rattle.std.specs.Fmt.{digits_onto}
 use Rattle.std.specs.List.{list_all, list_any, flat_map}
 use Rattle.rl_tokens.specs.declared.kind.Kind.{Kind}
 use Rattle.rl_tokens.specs.declared.kind.Kind.TheVariants.{Str, ByteStr, CStr, Byte, Char, Int, Float, Bool as BoolKind}
-use Rattle.rl_tokens.specs.Texts.{IsWord, passes, begins}
+use Rattle.rl_tokens.specs.Texts.{IsWord, first_passes, begins}
 use Rattle.rl_tokens.specs.Reading.{Contents, Characters, Bytes, Digits, Truth}
 
 abbrev pub IsStrictSuffix : List ℕ → Type 0
@@ -42,12 +42,12 @@ strict_text (UnicodeEscape digits) = 92 ∷ 117 ∷ 123 ∷ [] ++ flat_map space
 strict_text (LineBreak blanks) = 92 ∷ 10 ∷ blanks
 
 -- the number that digits stand for, the first of them the highest
-abbrev pub number_of : ℕ → List ℕ → ℕ
-number_of base [] = 0
-number_of base (d ∷ ds) = digit_value d * base ^ length ds + number_of base ds
+abbrev pub spelled_number : ℕ → List ℕ → ℕ
+spelled_number base [] = 0
+spelled_number base (d ∷ ds) = digit_value d * base ^ length ds + spelled_number base ds
 
 abbrev pub spaced_value : List (ℕ × ℕ) → ℕ
-spaced_value digits = number_of 16 (map (λ d. d.0) digits)
+spaced_value digits = spelled_number 16 (map (λ d. d.0) digits)
 
 -- the letters of the plain escapes, and what they stand for
 abbrev pub plain_escapes : List (ℕ × ℕ)
@@ -62,8 +62,8 @@ abbrev pub strict_contents : (List ℕ → List ℕ) → StrictUnit → List ℕ
 strict_contents as_kind (Itself c) = as_kind (c ∷ [])
 strict_contents as_kind (QuoteEscape c) = c ∷ []
 strict_contents as_kind (PlainEscape c) = plain_value_in plain_escapes c
-strict_contents as_kind (AsciiEscape high low) = number_of 16 (high ∷ low ∷ []) ∷ []
-strict_contents as_kind (ByteEscape high low) = number_of 16 (high ∷ low ∷ []) ∷ []
+strict_contents as_kind (AsciiEscape high low) = spelled_number 16 (high ∷ low ∷ []) ∷ []
+strict_contents as_kind (ByteEscape high low) = spelled_number 16 (high ∷ low ∷ []) ∷ []
 strict_contents as_kind (UnicodeEscape digits) = as_kind (spaced_value digits ∷ [])
 strict_contents as_kind (LineBreak blanks) = []
 
@@ -103,7 +103,7 @@ is_strict_unit Str (AsciiEscape high low) = is_octal high && is_ascii_hexdigit l
 is_strict_unit _ (AsciiEscape high low) = false
 is_strict_unit Byte (ByteEscape high low) = is_ascii_hexdigit high && is_ascii_hexdigit low
 is_strict_unit ByteStr (ByteEscape high low) = is_ascii_hexdigit high && is_ascii_hexdigit low
-is_strict_unit CStr (ByteEscape high low) = is_ascii_hexdigit high && is_ascii_hexdigit low && not (number_of 16 (high ∷ low ∷ []) == 0)
+is_strict_unit CStr (ByteEscape high low) = is_ascii_hexdigit high && is_ascii_hexdigit low && not (spelled_number 16 (high ∷ low ∷ []) == 0)
 is_strict_unit _ (ByteEscape high low) = false
 is_strict_unit Char (UnicodeEscape digits) = is_unicode_escape digits
 is_strict_unit Str (UnicodeEscape digits) = is_unicode_escape digits
@@ -117,31 +117,31 @@ is_strict_unit _ (LineBreak blanks) = false
 -- The blanks that a line break drops go as far as blanks go.
 abbrev pub BlanksEnd : List StrictUnit → Type 0
 BlanksEnd [] = ⊤
-BlanksEnd (LineBreak blanks ∷ us) = IsFalse (passes is_dropped_blank (flat_map strict_text us)) × BlanksEnd us
+BlanksEnd (LineBreak blanks ∷ us) = IsFalse (first_passes is_dropped_blank (flat_map strict_text us)) × BlanksEnd us
 BlanksEnd (_ ∷ us) = BlanksEnd us
 
 -- How a kind opens, how it ends, and how it takes characters in.
-abbrev pub opens : Kind → List ℕ
-opens Str = codes "\""
-opens ByteStr = codes "b\""
-opens CStr = codes "c\""
-opens Byte = codes "b'"
-opens Char = codes "'"
-opens _ = []
+abbrev pub strict_opener : Kind → List ℕ
+strict_opener Str = codes "\""
+strict_opener ByteStr = codes "b\""
+strict_opener CStr = codes "c\""
+strict_opener Byte = codes "b'"
+strict_opener Char = codes "'"
+strict_opener _ = []
 
-abbrev pub ends : Kind → List ℕ
-ends Byte = codes "'"
-ends Char = codes "'"
-ends _ = codes "\""
+abbrev pub strict_closer : Kind → List ℕ
+strict_closer Byte = codes "'"
+strict_closer Char = codes "'"
+strict_closer _ = codes "\""
 
-abbrev pub taken_in : Kind → List ℕ → List ℕ
-taken_in CStr cs = encode_utf8_all cs
-taken_in _ cs = cs
+abbrev pub strict_content_of : Kind → List ℕ → List ℕ
+strict_content_of CStr cs = encode_utf8_all cs
+strict_content_of _ cs = cs
 
-abbrev pub held_by : Kind → List ℕ → Contents
-held_by Str v = Characters v
-held_by Char v = Characters v
-held_by _ v = Bytes v
+abbrev pub strict_quoted_contents : Kind → List ℕ → Contents
+strict_quoted_contents Str v = Characters v
+strict_quoted_contents Char v = Characters v
+strict_quoted_contents _ v = Bytes v
 
 -- one unit for a character or a byte, any number for a string; none for numbers and truth values
 abbrev pub HasUnits : Kind → List StrictUnit → Type 0
@@ -158,14 +158,14 @@ pub record StrictCooked (t : List ℕ) (k : Kind) (v : Contents) (x : List ℕ) 
   pub each : IsTrue (list_all (is_strict_unit k) units)
   pub blanks_end : BlanksEnd units
   pub suffix : IsStrictSuffix x
-  pub text : t ≡ opens k ++ flat_map strict_text units ++ ends k ++ x
-  pub contents : v ≡ held_by k (flat_map (strict_contents (taken_in k)) units)
+  pub text : t ≡ strict_opener k ++ flat_map strict_text units ++ strict_closer k ++ x
+  pub contents : v ≡ strict_quoted_contents k (flat_map (strict_contents (strict_content_of k)) units)
 
-abbrev pub opens_raw : Kind → List ℕ
-opens_raw Str = codes "r"
-opens_raw ByteStr = codes "br"
-opens_raw CStr = codes "cr"
-opens_raw _ = []
+abbrev pub strict_raw_opener : Kind → List ℕ
+strict_raw_opener Str = codes "r"
+strict_raw_opener ByteStr = codes "br"
+strict_raw_opener CStr = codes "cr"
+strict_raw_opener _ = []
 
 abbrev pub IsRawInside : Kind → List ℕ → Type 0
 IsRawInside Str cs = ⊤
@@ -181,8 +181,8 @@ pub record StrictRaw (t : List ℕ) (k : Kind) (v : Contents) (x : List ℕ) : T
   pub no_carriage_return : IsTrue (list_all (λ c. not (c == 13)) inside)
   pub first_close : (front rest : List ℕ) → inside ≢ front ++ 34 ∷ replicate hashes 35 ++ rest
   pub suffix : IsStrictSuffix x
-  pub text : t ≡ opens_raw k ++ replicate hashes 35 ++ 34 ∷ inside ++ 34 ∷ replicate hashes 35 ++ x
-  pub contents : v ≡ held_by k (taken_in k inside)
+  pub text : t ≡ strict_raw_opener k ++ replicate hashes 35 ++ 34 ∷ inside ++ 34 ∷ replicate hashes 35 ++ x
+  pub contents : v ≡ strict_quoted_contents k (strict_content_of k inside)
 
 abbrev pub is_row : (ℕ → Bool) → ℕ → Bool
 is_row digit c = digit c || c == 95
@@ -192,14 +192,14 @@ bare cs = filter (λ c. not (c == 95)) cs
 
 -- D: a digit, and digits and underscores
 abbrev pub IsDigits : List ℕ → Type 0
-IsDigits d = IsTrue (passes is_ascii_digit d) × IsTrue (list_all (is_row is_ascii_digit) d)
+IsDigits d = IsTrue (first_passes is_ascii_digit d) × IsTrue (list_all (is_row is_ascii_digit) d)
 
 -- a decimal form doesn't begin as another base does
 abbrev pub IsDecimalText : List ℕ → Type 0
 IsDecimalText t = IsFalse (begins (codes "0b") t || begins (codes "0o") t || begins (codes "0x") t)
 
 abbrev pub IsNumberSuffix : List ℕ → Type 0
-IsNumberSuffix x = IsStrictSuffix x × IsFalse (passes (λ c. c == 95) x)
+IsNumberSuffix x = IsStrictSuffix x × IsFalse (first_passes (λ c. c == 95) x)
 
 -- the digits of the bases with a prefix
 abbrev pub BasedPrefix : List ℕ → ℕ → Type 0
@@ -217,10 +217,10 @@ pub record StrictInt (t : List ℕ) (v : Contents) (x : List ℕ) : Type 0 where
   pub each : IsTrue (list_all (is_row (λ c. nat_lt (digit_value c) base)) row)
   pub some : IsTrue (list_any (λ c. nat_lt (digit_value c) base) row)
   pub suffix : IsNumberSuffix x
-  pub no_exponent : IsFalse (passes (λ c. c == 101 || c == 69) x)
-  pub no_digit : base ≡ 16 → IsFalse (passes is_ascii_hexdigit x)
+  pub no_exponent : IsFalse (first_passes (λ c. c == 101 || c == 69) x)
+  pub no_digit : base ≡ 16 → IsFalse (first_passes is_ascii_hexdigit x)
   pub text : t ≡ prefix ++ row ++ x
-  pub contents : v ≡ Digits (dec (number_of base (bare row)))
+  pub contents : v ≡ Digits (dec (spelled_number base (bare row)))
 
 pub record IsStrictExponent (e : List ℕ) : Type 0 where
   pub letter : ℕ
@@ -239,7 +239,7 @@ IsDotAlone numeral x = (d : List ℕ) × IsDigits d × (numeral ≡ d ++ 46 ∷ 
 -- `D.D` with a suffix that doesn't begin as an exponent does
 abbrev pub IsPointed : List ℕ → List ℕ → Type 0
 IsPointed numeral x =
-    (d f : List ℕ) × IsDigits d × IsDigits f × (numeral ≡ d ++ 46 ∷ f) × IsFalse (passes (λ c. c == 101 || c == 69) x)
+    (d f : List ℕ) × IsDigits d × IsDigits f × (numeral ≡ d ++ 46 ∷ f) × IsFalse (first_passes (λ c. c == 101 || c == 69) x)
 
 -- `D` or `D.D`, and an exponent
 abbrev pub IsScientific : List ℕ → List ℕ → Type 0

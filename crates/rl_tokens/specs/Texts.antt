@@ -1,9 +1,10 @@
 -- Texts: lists of characters, each character its code. The characters of identifiers, and white space.
-use Rattle.std.specs.Prelude.{◌≡◌, ◌≢◌, ℕ, Bool, true, false, not, ◌&&◌, ◌||◌, ◌==◌, List, [], ◌∷◌, ◌++◌, IsTrue}
+use Rattle.std.specs.Prelude.{◌≡◌, ◌≢◌, ℕ, Bool, true, false, not, ◌&&◌, ◌||◌, ◌==◌, List, [], ◌∷◌, ◌++◌, IsTrue, ◌+◌, length, codes, encode_utf8_all}
 use Rattle.std.specs.Char.{is_whitespace}
 use Rattle.std.specs.Str.{IsUtf8}
 use Rattle.std.specs.List.{list_all, list_any}
 use Rattle.unicode_ident.specs.Ident.{is_xid_start, is_xid_continue}
+use Rattle.rl_tokens.specs.declared.span.Span.{Span}
 
 -- white space: Unicode's White_Space, and the two direction marks
 abbrev pub is_white : ℕ → Bool
@@ -28,9 +29,9 @@ pub record IsWord (x : List ℕ) : Type 0 where
   pub no_white : IsTrue (list_all (λ c. not (is_white c)) x)
 
 -- the text begins with a character that passes the test
-abbrev pub passes : (ℕ → Bool) → List ℕ → Bool
-passes test [] = false
-passes test (c ∷ cs) = test c
+abbrev pub first_passes : (ℕ → Bool) → List ℕ → Bool
+first_passes test [] = false
+first_passes test (c ∷ cs) = test c
 
 abbrev pub is_among : List ℕ → ℕ → Bool
 is_among codes c = list_any (λ k. c == k) codes
@@ -45,7 +46,15 @@ abbrev pub is_underscore : ℕ → Bool
 is_underscore c = c == 95
 
 -- The rest is the text without its front, and is a text. Both are bytes.
-pub record IsBehind (text rest : List ℕ) : Type 0 where
+pub record IsTail (text rest : List ℕ) : Type 0 where
   pub front : List ℕ
   pub text_is : text ≡ front ++ rest
   pub is_text : IsUtf8 rest
+
+abbrev pub byte_len : List ℕ → ℕ
+byte_len cs = length (encode_utf8_all cs)
+
+-- A token that holds a text: the bytes of the text, and where it stands.
+pub record SpannedText : Type 0 where
+  pub text : List ℕ
+  pub span : Span

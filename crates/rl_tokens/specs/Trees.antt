@@ -6,7 +6,7 @@ use Rattle.rl_tokens.specs.declared.token.TokenTree.{TokenTree, fold-TokenTree, 
 use Rattle.rl_tokens.specs.declared.token.TokenTree.TheOpen.{TokenTree-F, Group-F, TokenStream-F}
 use Rattle.rl_tokens.specs.declared.token.Group.{Group, out-Group}
 use Rattle.rl_tokens.specs.declared.token.TokenStream.{TokenStream, out-TokenStream}
-use Rattle.rl_tokens.specs.Tokens.{Token}
+use Rattle.rl_tokens.specs.Texts.{SpannedText}
 use Rattle.rl_tokens.specs.Puncts.{Mark}
 
 -- the trees of a stream
@@ -30,16 +30,16 @@ span_in (TokenTree-F.Ident i) = i.span
 span_in (TokenTree-F.Punct p) = p.span
 span_in (TokenTree-F.Literal l) = l.span
 
-abbrev pub span_of : {A : Type 0} → TokenTree A → Span
-span_of {A} t = span_in (out-TokenTree A t)
+abbrev pub token_tree_span : {A : Type 0} → TokenTree A → Span
+token_tree_span {A} t = span_in (out-TokenTree A t)
 
 -- A tree as plain data: a token, or a group with the trees inside.
 mutual
   pub data Tree : Type 0 where
     GroupTree : (delimiter : Delimiter) (inside : Trees) (span : Span) → Tree
-    IdentTree : (token : Token) → Tree
+    IdentTree : (token : SpannedText) → Tree
     PunctTree : (mark : Mark) → Tree
-    LiteralTree : (token : Token) → Tree
+    LiteralTree : (token : SpannedText) → Tree
 
   pub data Trees : Type 0 where
     NoTrees : Trees
@@ -77,11 +77,11 @@ abbrev pub stream_view : {A : Type 0} → TokenStream A → List Tree
 stream_view s = map tree_view (trees_of s)
 
 -- the tree elsewhere: its own span is another, and what is inside a group stays
-abbrev pub moved : Span → Tree → Tree
-moved span (GroupTree d inside _) = GroupTree d inside span
-moved span (IdentTree i) = IdentTree (record i { span = span })
-moved span (PunctTree p) = PunctTree (record p { span = span })
-moved span (LiteralTree l) = LiteralTree (record l { span = span })
+abbrev pub with_span : Span → Tree → Tree
+with_span span (GroupTree d inside _) = GroupTree d inside span
+with_span span (IdentTree i) = IdentTree (record i { span = span })
+with_span span (PunctTree p) = PunctTree (record p { span = span })
+with_span span (LiteralTree l) = LiteralTree (record l { span = span })
 
 -- every span is another, also inside groups
 abbrev mutual
@@ -99,9 +99,9 @@ abbrev mutual
 pub data FlatToken : Type 0 where
   Opening : (delimiter : Delimiter) (span : Span) → FlatToken
   Closing : (delimiter : Delimiter) (span : Span) → FlatToken
-  FlatIdent : (token : Token) → FlatToken
+  FlatIdent : (token : SpannedText) → FlatToken
   FlatPunct : (mark : Mark) → FlatToken
-  FlatLiteral : (token : Token) → FlatToken
+  FlatLiteral : (token : SpannedText) → FlatToken
 
 -- the first byte of a group, and its last
 abbrev pub opener_span : Span → Span

@@ -17,7 +17,7 @@ place_at file at = record { file = file; lo = at; hi = at }
 
 -- The text can't be cut: its first fault, or want of memory for the token there, told at its place. Here a text is its
 -- characters.
-pub record IsUncutText {A : Type 0} (text : List ℕ) (file : ℕ) (e : Error A) : Type 0 where
+pub record RefusesLexing {A : Type 0} (text : List ℕ) (file : ℕ) (e : Error A) : Type 0 where
   pub kind : LexKind
   pub at : ℕ
   pub refused : Refuses text kind at
@@ -32,7 +32,7 @@ pub record LeavesTrees {T A : Type 0} (runs : List Tree → Span → Result T (E
   pub error : e ≡ record { span = first_span rest scope; kind = Unexpected }
 
 -- The trees aren't one value: the parser's own refusal, or trees that are left over.
-pub record RefusesTrees {T A : Type 0} (runs : List Tree → Span → Result T (Error A) → List Tree → Type 0) (trees : List Tree) (scope : Span) (e : Error A) : Type 0 where
+pub record RefusesParse {T A : Type 0} (runs : List Tree → Span → Result T (Error A) → List Tree → Type 0) (trees : List Tree) (scope : Span) (e : Error A) : Type 0 where
   pub why : ((rest : List Tree) × runs trees scope (Err e) rest) ⊎ LeavesTrees runs trees scope e
 
 -- The text is cut into trees, and the parser makes this value of all of them.
@@ -42,11 +42,11 @@ pub record ParsesAll {T E : Type 0} (runs : List Tree → Span → Result T E �
   pub ran : runs trees (place_at file (length text)) (Ok value) []
 
 -- The text is cut into trees, and these aren't one value.
-pub record RefusesCut {T A : Type 0} (runs : List Tree → Span → Result T (Error A) → List Tree → Type 0) (text : List ℕ) (file : ℕ) (e : Error A) : Type 0 where
+pub record RefusesLexed {T A : Type 0} (runs : List Tree → Span → Result T (Error A) → List Tree → Type 0) (text : List ℕ) (file : ℕ) (e : Error A) : Type 0 where
   pub trees : List Tree
   pub lexes : Lexes (chars text) file trees
-  pub refused : RefusesTrees runs trees (place_at file (length text)) e
+  pub refused : RefusesParse runs trees (place_at file (length text)) e
 
 -- why a text isn't parsed
 abbrev pub RefusesAll : {T A : Type 0} → (List Tree → Span → Result T (Error A) → List Tree → Type 0) → List ℕ → ℕ → Error A → Type 0
-RefusesAll runs text file e = IsUncutText (chars text) file e ⊎ RefusesCut runs text file e
+RefusesAll runs text file e = RefusesLexing (chars text) file e ⊎ RefusesLexed runs text file e

@@ -1,8 +1,10 @@
 -- How values are written as literals.
-use Rattle.std.specs.Prelude.{ℕ, ◌+◌, ◌/◌, ◌%◌, Bool, true, false, ◌&&◌, ◌||◌, ◌==◌, nat_lt, List, [], ◌∷◌, ◌++◌, map, if◌then◌else◌}
+use Rattle.std.specs.Prelude.{ℕ, ◌+◌, ◌/◌, ◌%◌, Bool, true, false, ◌&&◌, ◌||◌, ◌==◌, nat_lt, List, [], ◌∷◌, ◌++◌, map, if◌then◌else◌, ◌≡◌}
 use Rattle.rl_tokens.specs.declared.kind.Kind.{Kind}
 use Rattle.rl_tokens.specs.declared.kind.Kind.TheVariants.{Byte, Char}
 use Rattle.rl_tokens.specs.Quoted.{QuotedUnit, Plain, Named, Hex, Zero, LowerT, LowerN, LowerR, Backslash, Quote, Apostrophe, holds_characters, opener, texts}
+use Rattle.rl_tokens.specs.Reading.{Reads, quoted_contents}
+use Rattle.rl_tokens.specs.Strict.{Strict, strict_quoted_contents}
 
 -- a digit of base 16, in upper case
 abbrev pub upper_digit : ℕ → ℕ
@@ -24,8 +26,8 @@ abbrev pub is_written_as_number : Kind → ℕ → Bool
 is_written_as_number kind c = nat_lt c 32 || c == 127 || (nat_lt 127 c && (if holds_characters kind then false else true))
 
 -- the unit that a character or a byte is written as
-unfoldable pub writing : Kind → ℕ → QuotedUnit
-writing kind c =
+unfoldable pub written_unit : Kind → ℕ → QuotedUnit
+written_unit kind c =
     if c == 0 then Named Zero else
     (if c == 9 then Named LowerT else
     (if c == 10 then Named LowerN else
@@ -35,5 +37,11 @@ writing kind c =
     (if is_written_as_number kind c then Hex (upper_digit (c / 16)) (upper_digit (c % 16)) else Plain c))))))
 
 -- the literal of a value: its characters or bytes, each as it is written, between quotes
-abbrev pub written : Kind → List ℕ → List ℕ
-written kind value = opener kind ++ (texts (map (writing kind) value) ++ (closer kind ∷ []))
+abbrev pub written_text : Kind → List ℕ → List ℕ
+written_text kind value = opener kind ++ (texts (map (written_unit kind) value) ++ (closer kind ∷ []))
+
+-- The text is what the value is written as: it reads as the value with no suffix, and it is strict.
+pub record IsWrittenForm (kind : Kind) (value text : List ℕ) : Type 0 where
+  pub text_is : text ≡ written_text kind value
+  pub reads : Reads text kind (quoted_contents kind value) []
+  pub strict : Strict text kind (strict_quoted_contents kind value) []

@@ -2,7 +2,7 @@
 
 ghost use Rattle.std.specs.Prelude.{◌≡◌, ◌<◌, ◌+◌, ◌⊎◌, List, [], length, IfSome, IfNone};
 ghost use Rattle.std.specs.Str.{chars};
-ghost use Rattle.rl_tokens.specs.Trivia.{Skipped};
+ghost use Rattle.rl_tokens.specs.Skipping.{Skipped};
 ghost use Rattle.rl_tokens.specs.Lexing.{BeginsNoLexeme, OpenGroup, FaultAt};
 
 use crate::fault::fault_kind;
@@ -47,23 +47,23 @@ pub struct Tokens<'t> {
 }
 
 impl<'t> Model for Tokens<'t> {
-    ghost use Rattle.rl_tokens.specs.Cursors.{Cutting, IsCutting};
+    ghost use Rattle.rl_tokens.specs.Cursors.{CursorState, IsCursorState};
 
-    ghost Value = { Cutting };
+    ghost Value = { CursorState };
 
     ghost view = { λ t. record { text = t.text.now; rest = t.rest.now } };
 
-    ghost invariant = { λ t. IsCutting t.text.now t.rest.now };
+    ghost invariant = { λ t. IsCursorState t.text.now t.rest.now };
 }
 
 impl<'t> Tokens<'t> {
-    ghost use Rattle.rl_tokens.specs.Cursors.{IsCutting, TakesNext, BeginsLexeme, IsFirstFault};
+    ghost use Rattle.rl_tokens.specs.Cursors.{IsCursorState, TakesNext, BeginsLexeme, IsFirstFault};
 
     /// The tokens of a text, from its front.
     pub fn new(text: &'t str) -> Tokens<'t>
         ensures text { result.text ≡ text.now }
         ensures skipped { Skipped (chars text.now) (chars result.rest) }
-        ensures behind { IsCutting text.now result.rest }
+        ensures behind { IsCursorState text.now result.rest }
     {
         Tokens {
             text,

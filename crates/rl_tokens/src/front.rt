@@ -2,7 +2,7 @@
 
 ghost use Rattle.std.specs.Prelude.{◌≡◌, ◌<◌, ◌==◌, ◌∷◌, length, slice_index, drop, MatchOption, IfSome, IsFalse};
 ghost use Rattle.std.specs.Str.{chars};
-ghost use Rattle.rl_tokens.specs.Texts.{passes, IsBehind};
+ghost use Rattle.rl_tokens.specs.Texts.{first_passes, IsTail};
 
 use crate::text::{split_ascii, split_char};
 
@@ -20,7 +20,7 @@ pub(crate) fn begins_with(text: &str, c: char) -> bool
 /// The text behind its first character.
 pub(crate) fn without_first(text: &str) -> &str
     ensures rest { chars result.now ≡ drop 1 (chars text.now) }
-    ensures behind { IsBehind text.now result.now }
+    ensures behind { IsTail text.now result.now }
 {
     match split_char(text) {
         Some((_, rest)) => rest,
@@ -33,8 +33,8 @@ pub(crate) fn without_first(text: &str) -> &str
 pub(crate) fn strip_byte(text: &str, byte: u8) -> Option<&str>
     requires { byte < 128 }
     ensures rest { MatchOption result
-        (IsFalse (passes (λ c. c == byte) (chars text.now))) (λ rest. chars text.now ≡ byte ∷ chars rest.now) }
-    ensures behind { IfSome result (λ rest. IsBehind text.now rest.now) }
+        (IsFalse (first_passes (λ c. c == byte) (chars text.now))) (λ rest. chars text.now ≡ byte ∷ chars rest.now) }
+    ensures behind { IfSome result (λ rest. IsTail text.now rest.now) }
     ensures shorter { IfSome result (λ rest. length rest.now < length text.now) }
 {
     match split_ascii(text) {

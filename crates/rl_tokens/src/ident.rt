@@ -43,9 +43,9 @@ impl<A: Allocator> Model for Ident<A> {
     ghost use Rattle.std.specs.Prelude.{string_bytes, IsTrue};
     ghost use Rattle.std.specs.Str.{chars};
     ghost use Rattle.rl_tokens.specs.Texts.{xid_ok};
-    ghost use Rattle.rl_tokens.specs.Tokens.{Token};
+    ghost use Rattle.rl_tokens.specs.Texts.{SpannedText};
 
-    ghost Value = { Token };
+    ghost Value = { SpannedText };
 
     ghost view = { λ ident. record { text = string_bytes ident.text; span = ident.span } };
 

@@ -3,10 +3,11 @@
 ghost use Rattle.std.specs.Prelude.{List, ℕ, ◌≡◌, ◌∷◌, [], IsTrue};
 ghost use Rattle.rl_tokens.specs.declared.kind.Kind.{Kind};
 ghost use Rattle.rl_tokens.specs.Reading.{Contents, Digits, Reads, quoted_contents};
-ghost use Rattle.rl_tokens.specs.Strict.{Strict, held_by};
-ghost use Rattle.rl_tokens.specs.Written.{written};
-ghost use Rattle.rl_tokens.specs.Agreeing.{IsWithinLimit, is_number, IsValue};
-ghost use Rattle.rl_tokens.specs.Printed.{PrintedLexes, ReprintedLexes};
+ghost use Rattle.rl_tokens.specs.Strict.{Strict, strict_quoted_contents};
+ghost use Rattle.rl_tokens.specs.Written.{written_text};
+ghost use Rattle.rl_tokens.specs.Agreeing.{IsWithinLimit, IsQuotedValue};
+ghost use Rattle.rl_tokens.specs.Quoted.{is_number};
+ghost use Rattle.rl_tokens.specs.PrintedTrees.{PrintedLexes, ReprintedLexes};
 
 /// A text has one reading at most: one kind, one value, one suffix.
 pub fn one_reading()
@@ -35,12 +36,12 @@ pub fn strict_minus()
 
 /// What a value is written as is strict, has that value, and no suffix.
 pub fn written_strict()
-    ensures { (k : Kind) (v : List ℕ) → IsValue k v → Strict (written k v) k (held_by k v) [] }
+    ensures { (k : Kind) (v : List ℕ) → IsQuotedValue k v → Strict (written_text k v) k (strict_quoted_contents k v) [] }
 {}
 
 /// What a value is written as reads as that value, with no suffix.
 pub fn written_reads()
-    ensures { (k : Kind) (v : List ℕ) → IsValue k v → Reads (written k v) k (quoted_contents k v) [] }
+    ensures { (k : Kind) (v : List ℕ) → IsQuotedValue k v → Reads (written_text k v) k (quoted_contents k v) [] }
 {}
 
 /// A printed list of strict literals is cut into exactly its items.

@@ -7,18 +7,10 @@ mod rows;
 
 ghost use Rattle.std.specs.Prelude.{◌≡◌, ◌<◌, ◌&&◌, ◌==◌, List, ℕ, length, slice_index, drop, option_map, IfSome, IfNone};
 ghost use Rattle.std.specs.Str.{chars};
-ghost use Rattle.rl_tokens.specs.Texts.{is_among, is_start, passes, IsBehind};
+ghost use Rattle.rl_tokens.specs.Texts.{is_among, is_start, first_passes, IsTail};
 ghost use Rattle.rl_tokens.specs.Lexemes.{delimiters, LexemeBefore};
-ghost use Rattle.rl_tokens.specs.LexemeAt.{
-  form_view,
-  start_class,
-  other_class,
-  head_class,
-  by_class,
-  after_digit,
-  lexeme_at,
-  FormBefore,
-};
+ghost use Rattle.rl_tokens.specs.Cursors.{form_view};
+ghost use Rattle.rl_tokens.specs.Mirrors.LexemeAt.{start_class, other_class, head_class, by_class, after_digit, lexeme_at, FormBefore};
 
 use crate::characters::is_start;
 use crate::front::{begins_with, without_first};
@@ -27,7 +19,7 @@ use crate::text::{split_ascii, split_char};
 use number::{after_decimal, after_digits, ends_number};
 pub(crate) use quoted::begins_hashed_quote;
 use quoted::{after_character, after_quoted, after_raw_literal};
-pub(crate) use rows::{Row, after_row};
+pub(crate) use rows::{RunClass, after_row};
 
 /// What a token is to a parser.
 #[derive(Clone, Copy)]
@@ -47,7 +39,7 @@ pub enum Form {
 pub(crate) fn first_lexeme(text: &str) -> Option<(Form, &str)>
     ensures found { IfSome result (λ p. FormBefore (chars text.now) (form_view p.0) (chars p.1.now)) }
     ensures none { IfNone result ((after : List ℕ) → LexemeBefore (chars text.now) after → ⊥) }
-    ensures behind { IfSome result (λ p. IsBehind text.now p.1.now) }
+    ensures behind { IfSome result (λ p. IsTail text.now p.1.now) }
     ensures shorter { IfSome result (λ p. length p.1.now < length text.now) }
 {
     lexeme_at(text)
@@ -57,7 +49,7 @@ pub(crate) fn first_lexeme(text: &str) -> Option<(Form, &str)>
 #[inline(always)]
 fn lexeme_at(text: &str) -> Option<(Form, &str)>
     ensures rest { option_map (λ p. (form_view p.0, chars p.1.now)) result ≡ lexeme_at (chars text.now) }
-    ensures behind { IfSome result (λ p. IsBehind text.now p.1.now) }
+    ensures behind { IfSome result (λ p. IsTail text.now p.1.now) }
     ensures shorter { IfSome result (λ p. length p.1.now < length text.now) }
 {
     if let Some((byte, behind)) = split_ascii(text) {
@@ -72,7 +64,7 @@ fn lexeme_at(text: &str) -> Option<(Form, &str)>
 #[inline(never)]
 fn by_character(text: &str) -> Option<(Form, &str)>
     ensures rest { option_map (λ p. (form_view p.0, chars p.1.now)) result ≡ lexeme_at (chars text.now) }
-    ensures behind { IfSome result (λ p. IsBehind text.now p.1.now) }
+    ensures behind { IfSome result (λ p. IsTail text.now p.1.now) }
     ensures shorter { IfSome result (λ p. length p.1.now < length text.now) }
 {
     match split_ascii(text) {
@@ -86,7 +78,7 @@ fn by_character(text: &str) -> Option<(Form, &str)>
 #[inline(never)]
 fn by_wide_character(text: &str) -> Option<(Form, &str)>
     ensures rest { option_map (λ p. (form_view p.0, chars p.1.now)) result ≡ lexeme_at (chars text.now) }
-    ensures behind { IfSome result (λ p. IsBehind text.now p.1.now) }
+    ensures behind { IfSome result (λ p. IsTail text.now p.1.now) }
     ensures shorter { IfSome result (λ p. length p.1.now < length text.now) }
 {
     let (c, behind) = split_char(text)?;
@@ -98,7 +90,7 @@ fn by_wide_character(text: &str) -> Option<(Form, &str)>
 fn by_first(c: char, text: &str) -> Option<(Form, &str)>
     ensures rest { option_map (λ p. (form_view p.0, chars p.1.now)) result
         ≡ by_class (head_class c) c (chars text.now) }
-    ensures behind { IfSome result (λ p. IsBehind text.now p.1.now) }
+    ensures behind { IfSome result (λ p. IsTail text.now p.1.now) }
 {
     if is_start(c) {
         after_start(c, text)
@@ -111,7 +103,7 @@ fn by_first(c: char, text: &str) -> Option<(Form, &str)>
 fn after_start(c: char, text: &str) -> Option<(Form, &str)>
     ensures rest { option_map (λ p. (form_view p.0, chars p.1.now)) result
         ≡ by_class (start_class c) c (chars text.now) }
-    ensures behind { IfSome result (λ p. IsBehind text.now p.1.now) }
+    ensures behind { IfSome result (λ p. IsTail text.now p.1.now) }
 {
     if c == 'b' {
         if begins_with(text, '"') {
@@ -138,14 +130,14 @@ fn after_start(c: char, text: &str) -> Option<(Form, &str)>
             return None;
         }
     }
-    Some((Form::Identifier, after_row(Row::Continue, text)))
+    Some((Form::Identifier, after_row(RunClass::Continue, text)))
 }
 
 // By a character that begins no identifier, and what stands behind it.
 fn after_other(c: char, text: &str) -> Option<(Form, &str)>
     ensures rest { option_map (λ p. (form_view p.0, chars p.1.now)) result
         ≡ by_class (other_class c) c (chars text.now) }
-    ensures behind { IfSome result (λ p. IsBehind text.now p.1.now) }
+    ensures behind { IfSome result (λ p. IsTail text.now p.1.now) }
 {
     if is_delimiter(c) {
         return Some((Form::Delimiter(c), text));
@@ -174,7 +166,7 @@ fn after_other(c: char, text: &str) -> Option<(Form, &str)>
 #[inline(always)]
 fn after_digit(text: &str) -> &str
     ensures rest { (digit : ℕ) → chars result.now ≡ after_digit digit (chars text.now) }
-    ensures behind { IsBehind text.now result.now }
+    ensures behind { IsTail text.now result.now }
 {
     let rest = after_digits(text);
     if ends_number(rest) {
@@ -185,7 +177,7 @@ fn after_digit(text: &str) -> &str
 
 /// Whether a hash and an identifier's start begin the text.
 pub(crate) fn begins_marked_identifier(text: &str) -> bool
-    ensures { result ≡ (slice_index (chars text.now) 0 == 35 && passes is_start (drop 1 (chars text.now))) }
+    ensures { result ≡ (slice_index (chars text.now) 0 == 35 && first_passes is_start (drop 1 (chars text.now))) }
 {
     match split_char(text) {
         Some(('#', behind)) => match split_char(behind) {

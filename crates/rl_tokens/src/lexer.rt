@@ -4,12 +4,13 @@ ghost use Rattle.std.specs.Prelude.{List, ℕ, ◌≡◌, IfOk, IfErr};
 ghost use Rattle.std.specs.Str.{chars};
 ghost use Rattle.rl_tokens.specs.declared.lex_error.LexKind.{LexKind};
 ghost use Rattle.rl_tokens.specs.Lexing.{Lexes, Refuses, OneList, OneFault, NeverBoth};
-ghost use Rattle.rl_tokens.specs.Printed.{Entry, Printed, Reprinted, printed_trees};
+ghost use Rattle.rl_tokens.specs.Printed.{Entry, Printed};
+ghost use Rattle.rl_tokens.specs.PrintedTrees.{Reprinted, printed_trees};
 ghost use Rattle.rl_tokens.specs.Trees.{stream_view};
 
 use crate::cursor::Tokens;
 use crate::lex_error::LexError;
-use crate::nest::Nest;
+use crate::nest::TreeBuilder;
 use crate::token::TokenStream;
 use std::alloc::Allocator;
 
@@ -34,7 +35,7 @@ pub fn lex<A: Allocator + Copy>(alloc: A, text: &str, file: u32) -> Result<Token
     ensures reprinted { (entries : List Entry) (last : List ℕ) → Reprinted (chars text.now) entries last
         → IfOk result (λ trees. stream_view trees ≡ printed_trees file 0 entries) × IfErr result (λ e. e.kind ≡ LexKind.Memory) }
 {
-    let mut nest = Nest::new(alloc, file);
+    let mut nest = TreeBuilder::new(alloc, file);
     let mut tokens = Tokens::new(text);
     while let Some(token) = tokens.next() {
         nest.add(token.form, token.text, token.lo, token.hi)?;

@@ -16,9 +16,9 @@ pub struct Literal<A: Allocator = Global> {
 
 impl<A: Allocator> Model for Literal<A> {
     ghost use Rattle.std.specs.Prelude.{string_bytes};
-    ghost use Rattle.rl_tokens.specs.Tokens.{Token};
+    ghost use Rattle.rl_tokens.specs.Texts.{SpannedText};
 
-    ghost Value = { Token };
+    ghost Value = { SpannedText };
 
     ghost view = { λ literal. record { text = string_bytes literal.text; span = literal.span } };
 }

@@ -1,7 +1,7 @@
 //! The trees of a text as they grow.
 
 ghost use Rattle.std.specs.Prelude.{◌≡◌, ◌≤◌, ◌+◌, [], vec_len, OnOk, IfErr, IfOk};
-ghost use Rattle.rl_tokens.specs.LexemeAt.{form_view};
+ghost use Rattle.rl_tokens.specs.Cursors.{form_view};
 ghost use Rattle.rl_tokens.specs.Lexing.{is_opener, delimiter_for};
 
 use crate::ident::Ident;
@@ -19,7 +19,7 @@ const MAX_OPEN: usize = 128;
 
 /// A group whose closer wasn't read yet.
 #[derive(Drop)]
-pub(crate) struct OpenNest<A: Allocator> {
+pub(crate) struct GroupBuilder<A: Allocator> {
     delimiter: Delimiter,
     // the byte of its opener
     at: usize,
@@ -29,39 +29,27 @@ pub(crate) struct OpenNest<A: Allocator> {
 
 /// The trees that were read so far of one text, and the groups that are open.
 #[derive(Drop)]
-pub(crate) struct Nest<A: Allocator> {
+pub(crate) struct TreeBuilder<A: Allocator> {
     alloc: A,
     file: u32,
     // the outermost first
-    opened: Vec<OpenNest<A>, A>,
+    opened: Vec<GroupBuilder<A>, A>,
     // the trees of the innermost open group
     trees: TokenStream<A>,
     ghost shallow: { vec_len opened ≤ 128 },
 }
 
-impl<A: Allocator + Copy> Nest<A> {
+impl<A: Allocator + Copy> TreeBuilder<A> {
     ghost use Rattle.rl_tokens.specs.Trees.{stream_view, flat_trees};
-    ghost use Rattle.rl_tokens.specs.Nests.{
-      groups_of,
-      flat_nest,
-      IsFitting,
-      TakesToken,
-      TakesTree,
-      OpensGroup,
-      ClosesGroup,
-      RefusesForm,
-      RefusesOpener,
-      RefusesCloser,
-      EndsInGroup,
-    };
+    ghost use Rattle.rl_tokens.specs.Mirrors.TreeBuilders.{groups_of, flat_builder, IsFitting, TakesToken, TakesTree, OpensGroup, ClosesGroup, RefusesForm, RefusesOpener, RefusesCloser, EndsInGroup};
 
     /// Nothing was read yet.
-    pub(crate) fn new(alloc: A, file: u32) -> Nest<A>
+    pub(crate) fn new(alloc: A, file: u32) -> TreeBuilder<A>
         ensures groups { groups_of result ≡ [] }
-        ensures flat { flat_nest result ≡ [] }
+        ensures flat { flat_builder result ≡ [] }
         ensures file { result.file ≡ file }
     {
-        Nest {
+        TreeBuilder {
             alloc,
             file,
             opened: Vec::new(alloc),
@@ -107,10 +95,10 @@ impl<A: Allocator + Copy> Nest<A> {
     /// All trees. A group that is open is told at its opener, the innermost of several.
     pub(crate) fn finish(self) -> Result<TokenStream<A>, LexError>
         ensures none_open { IfOk result (λ trees. groups_of self ≡ []) }
-        ensures flat { IfOk result (λ trees. flat_trees (stream_view trees) ≡ flat_nest self) }
+        ensures flat { IfOk result (λ trees. flat_trees (stream_view trees) ≡ flat_builder self) }
         ensures err { IfErr result (EndsInGroup (groups_of self)) }
     {
-        let Nest {
+        let TreeBuilder {
             mut opened,
             trees,
             ..
@@ -144,7 +132,7 @@ impl<A: Allocator + Copy> Nest<A> {
             return Err(LexError::new(LexKind::TooDeep, at));
         }
         let before = mem::replace(&mut self.trees, TokenStream::new(self.alloc));
-        let opened = OpenNest {
+        let opened = GroupBuilder {
             delimiter,
             at,
             before,

@@ -4,7 +4,7 @@ ghost use Rattle.std.specs.Prelude.{◌≡◌, ◌+◌, ◌<◌, ◌≤◌, ◌+
 ghost use Rattle.std.specs.List.{list_all, prefix_len};
 ghost use Rattle.std.specs.Simd.Lanes.{chunk, mask_l};
 ghost use Rattle.std.specs.Str.{chars};
-ghost use Rattle.rl_tokens.specs.Texts.{passes, IsBehind};
+ghost use Rattle.rl_tokens.specs.Texts.{first_passes, IsTail};
 ghost use Rattle.rl_tokens.specs.Scanning.{is_one_of, is_other, AreAscii, IsNextMark};
 
 use crate::text::split_ascii;
@@ -104,8 +104,8 @@ pub fn split_before(marks: Marks, text: &str) -> (&str, &str)
     requires { AreAscii marks }
     ensures cut { chars text.now ≡ chars result.0.now ++ chars result.1.now }
     ensures others { IsTrue (list_all (is_other marks) (chars result.0.now)) }
-    ensures stops { IsFalse (passes (is_other marks) (chars result.1.now)) }
-    ensures behind { IsBehind text.now result.1.now }
+    ensures stops { IsFalse (first_passes (is_other marks) (chars result.1.now)) }
+    ensures behind { IsTail text.now result.1.now }
     ensures shorter { length result.1.now ≤ length text.now }
 {
     text.split_at(len_before(marks, text.as_bytes()))
@@ -117,7 +117,7 @@ pub fn next_mark(marks: Marks, text: &str) -> Option<(u8, &str)>
     requires { AreAscii marks }
     ensures some { IfSome result (λ p. IsNextMark marks (chars text.now) p.0 (chars p.1.now)) }
     ensures none { IfNone result (IsTrue (list_all (is_other marks) (chars text.now))) }
-    ensures behind { IfSome result (λ p. IsBehind text.now p.1.now) }
+    ensures behind { IfSome result (λ p. IsTail text.now p.1.now) }
     ensures shorter { IfSome result (λ p. length p.1.now < length text.now) }
 {
     let (_, from) = split_before(marks, text);

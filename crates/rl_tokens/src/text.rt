@@ -3,7 +3,7 @@
 ghost use Rattle.std.specs.Prelude.{◌≡◌, ◌<◌, ◌++◌, ◌∷◌, [], length, drop, encode_utf8, MatchOption, IfSome, IfNone, IsFalse};
 ghost use Rattle.std.specs.Char.{is_ascii};
 ghost use Rattle.std.specs.Str.{chars, IsCharBoundary};
-ghost use Rattle.rl_tokens.specs.Texts.{passes, IsBehind};
+ghost use Rattle.rl_tokens.specs.Texts.{first_passes, IsTail};
 
 /// The first character, and the text behind it: `None` where the text is empty.
 pub fn split_char(text: &str) -> Option<(char, &str)>
@@ -11,7 +11,7 @@ pub fn split_char(text: &str) -> Option<(char, &str)>
         (chars text.now ≡ []) (λ p. chars text.now ≡ p.0 ∷ chars p.1.now) }
     ensures bytes { MatchOption result
         (text.now ≡ []) (λ p. text.now ≡ encode_utf8 p.0 ++ p.1.now) }
-    ensures behind { IfSome result (λ p. IsBehind text.now p.1.now) }
+    ensures behind { IfSome result (λ p. IsTail text.now p.1.now) }
     ensures shorter { MatchOption result
         (length text.now ≡ 0) (λ p. length p.1.now < length text.now) }
 {
@@ -25,8 +25,8 @@ pub fn split_char(text: &str) -> Option<(char, &str)>
 pub fn split_ascii(text: &str) -> Option<(u8, &str)>
     ensures some { IfSome result (λ p. chars text.now ≡ p.0 ∷ chars p.1.now) }
     ensures ascii { IfSome result (λ p. p.0 < 128) }
-    ensures none { IfNone result (IsFalse (passes is_ascii (chars text.now))) }
-    ensures behind { IfSome result (λ p. IsBehind text.now p.1.now) }
+    ensures none { IfNone result (IsFalse (first_passes is_ascii (chars text.now))) }
+    ensures behind { IfSome result (λ p. IsTail text.now p.1.now) }
     ensures shorter { IfSome result (λ p. length p.1.now < length text.now) }
 {
     let bytes = text.as_bytes();
@@ -38,8 +38,8 @@ pub fn split_ascii(text: &str) -> Option<(u8, &str)>
 
 /// The byte place in the text from which on the rest of it stands.
 #[tactic(auto, using(crate::proofs::BehindLemmas::cut_boundary, crate::proofs::BehindLemmas::cut_drop))]
-pub fn place_of(text: &str, rest: &str) -> usize
-    requires { IsBehind text.now rest.now }
+pub fn offset_of(text: &str, rest: &str) -> usize
+    requires { IsTail text.now rest.now }
     ensures boundary { IsCharBoundary text.now result }
     ensures rest { drop result text.now ≡ rest.now }
 {

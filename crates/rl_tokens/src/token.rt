@@ -53,11 +53,11 @@ pub struct TokenStream<A: Allocator = Global> {
 }
 
 impl<A: Allocator> TokenTree<A> {
-    ghost use Rattle.rl_tokens.specs.Trees.{span_of, tree_view, moved, respanned};
+    ghost use Rattle.rl_tokens.specs.Trees.{token_tree_span, tree_view, with_span, respanned};
 
     /// Where the tree stands: a group from its opener to its closer.
     pub fn span(&self) -> Span
-        ensures { result ≡ span_of self.now }
+        ensures { result ≡ token_tree_span self.now }
     {
         match self {
             TokenTree::Group(group) => group.span(),
@@ -69,7 +69,7 @@ impl<A: Allocator> TokenTree<A> {
 
     /// Puts the tree elsewhere; what is inside a group stays.
     pub fn set_span(&mut self, span: Span)
-        ensures { tree_view self.new ≡ moved span (tree_view self.old) }
+        ensures { tree_view self.new ≡ with_span span (tree_view self.old) }
     {
         match self {
             TokenTree::Group(group) => group.set_span(span),
@@ -173,7 +173,7 @@ impl<A: Allocator> Group<A> {
 
 impl<A: Allocator> TokenStream<A> {
     ghost use Rattle.rl_tokens.specs.Errors.{memory_at};
-    ghost use Rattle.rl_tokens.specs.Trees.{trees_of, span_of, stream_view, respanned};
+    ghost use Rattle.rl_tokens.specs.Trees.{trees_of, token_tree_span, stream_view, respanned};
 
     /// No trees. The stream takes its memory from the allocator.
     pub fn new(alloc: A) -> TokenStream<A>
@@ -190,7 +190,7 @@ impl<A: Allocator> TokenStream<A> {
         ensures ok { OnOk result (trees_of self.new ≡ trees_of self.old ++ tree ∷ []) }
         ensures unchanged { OnErr result (trees_of self.new ≡ trees_of self.old) }
         ensures kept { IfErr result (λ kept. kept.value ≡ tree) }
-        ensures memory { IfErr result (λ kept. kept.error ≡ memory_at (span_of tree)) }
+        ensures memory { IfErr result (λ kept. kept.error ≡ memory_at (token_tree_span tree)) }
     {
         match self.trees.push(tree) {
             Ok(()) => Ok(()),

@@ -2,12 +2,13 @@
 
 ghost use Rattle.std.specs.Prelude.{◌≡◌, slice_index, option_map, IfSome, IsFalse};
 ghost use Rattle.std.specs.Str.{chars};
-ghost use Rattle.rl_tokens.specs.Texts.{is_white, passes, IsBehind};
-ghost use Rattle.rl_tokens.specs.Trivia.{is_plain_line, is_plain_block, Skipped, OneRest};
-ghost use Rattle.rl_tokens.specs.SkippedAt.{after_line, after_block, after_comment};
+ghost use Rattle.rl_tokens.specs.Texts.{is_white, first_passes, IsTail};
+ghost use Rattle.rl_tokens.specs.Trivia.{is_plain_line, is_plain_block};
+ghost use Rattle.rl_tokens.specs.Skipping.{Skipped, OneRest};
+ghost use Rattle.rl_tokens.specs.Mirrors.SkippedAt.{after_line, after_block, after_comment};
 
 use crate::front::{begins_with, strip_byte};
-use crate::lexeme::{Row, after_row};
+use crate::lexeme::{RunClass, after_row};
 use crate::scan::{Marks, len_before, next_mark};
 use crate::text::split_ascii;
 
@@ -20,12 +21,12 @@ pub fn skip(text: &str) -> &str
     // The rest behind all trivia at the front, by the characters of both.
     ensures skipped { Skipped (chars text.now) (chars result.now) }
     // The rest is a slice at the end of the text.
-    ensures behind { IsBehind text.now result.now }
+    ensures behind { IsTail text.now result.now }
     // There is no other rest, and to skip it once more changes nothing.
     ensures only { OneRest }
     ensures again { Skipped (chars result.now) (chars result.now) }
 {
-    let rest = after_row(Row::White, text);
+    let rest = after_row(RunClass::White, text);
     match strip_byte(rest, b'/') {
         Some(_) => skip_comments(rest),
         None => rest,
@@ -35,16 +36,16 @@ pub fn skip(text: &str) -> &str
 // The same, where no white space begins the text, but perhaps a comment does.
 #[inline(never)]
 fn skip_comments(text: &str) -> &str
-    requires { IsFalse (passes is_white (chars text.now)) }
+    requires { IsFalse (first_passes is_white (chars text.now)) }
     ensures skipped { Skipped (chars text.now) (chars result.now) }
-    ensures behind { IsBehind text.now result.now }
+    ensures behind { IsTail text.now result.now }
 {
     let mut rest = text;
     while let Some(inside) = strip_byte(rest, b'/') {
         let Some(behind) = after_comment(inside) else {
             return rest;
         };
-        rest = after_row(Row::White, behind);
+        rest = after_row(RunClass::White, behind);
     }
     rest
 }
@@ -54,7 +55,7 @@ fn skip_comments(text: &str) -> &str
 #[tactic(auto, using(crate::proofs::CommentBytes::wide_comment, crate::proofs::BehindLemmas::behind_step, crate::proofs::BehindLemmas::some_behind))]
 fn after_comment(text: &str) -> Option<&str>
     ensures rest { option_map (λ rest. chars rest.now) result ≡ after_comment (chars text.now) }
-    ensures behind { IfSome result (λ rest. IsBehind text.now rest.now) }
+    ensures behind { IfSome result (λ rest. IsTail text.now rest.now) }
 {
     let Some((second, behind)) = split_ascii(text) else {
         return None;
@@ -95,7 +96,7 @@ fn is_plain_block(inside: &str) -> bool
 // What follows the LF that ends a line comment; nothing where the text ends in the comment.
 fn after_line(text: &str) -> &str
     ensures rest { chars result.now ≡ after_line (chars text.now) }
-    ensures behind { IsBehind text.now result.now }
+    ensures behind { IsTail text.now result.now }
 {
     match next_mark(Marks::two(b'\n', b'\n'), text) {
         Some((_, behind)) => behind,
@@ -108,7 +109,7 @@ fn after_line(text: &str) -> &str
 #[inline(always)]
 fn after_block(text: &str) -> Option<&str>
     ensures rest { option_map (λ rest. chars rest.now) result ≡ after_block 0 (chars text.now) }
-    ensures behind { IfSome result (λ rest. IsBehind text.now rest.now) }
+    ensures behind { IfSome result (λ rest. IsTail text.now rest.now) }
 {
     let bytes = text.as_bytes();
     let mut depth: usize = 0;

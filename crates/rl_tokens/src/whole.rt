@@ -4,7 +4,7 @@ ghost use Rattle.std.specs.Prelude.{[], IfOk, IfErr, Ok};
 ghost use Rattle.std.specs.Str.{chars};
 ghost use Rattle.rl_tokens.specs.Lexing.{Lexes};
 ghost use Rattle.rl_tokens.specs.Trees.{stream_view};
-ghost use Rattle.rl_tokens.specs.Whole.{IsUncutText, RefusesTrees, ParsesAll, RefusesAll};
+ghost use Rattle.rl_tokens.specs.Whole.{RefusesLexing, RefusesParse, ParsesAll, RefusesAll};
 
 use crate::buffer::ParseBuffer;
 use crate::error::{Error, ErrorKind};
@@ -21,7 +21,7 @@ fn trees_of_text<A: Allocator + Copy>(
     file: u32,
 ) -> Result<TokenStream<A>, Error<A>>
     ensures ok { IfOk result (λ s. Lexes (chars text.now) file (stream_view s)) }
-    ensures refused { IfErr result (IsUncutText (chars text.now) file) }
+    ensures refused { IfErr result (RefusesLexing (chars text.now) file) }
 {
     match lex(alloc, text, file) {
         Ok(stream) => Ok(stream),
@@ -39,7 +39,7 @@ fn parse_trees<T: Parse<A> + Drop, A: Allocator>(
     scope: Span,
 ) -> Result<T, Error<A>>
     ensures parsed { IfOk result (λ x. T.runs (stream_view stream.now) scope (Ok x) []) }
-    ensures refused { IfErr result (RefusesTrees T.runs (stream_view stream.now) scope) }
+    ensures refused { IfErr result (RefusesParse T.runs (stream_view stream.now) scope) }
 {
     let mut input = ParseBuffer::new(stream.trees(), scope);
     let value = T::parse(alloc, &mut input)?;

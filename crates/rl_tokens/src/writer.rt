@@ -3,8 +3,9 @@
 ghost use Rattle.std.specs.Prelude.{◌≡◌, ◌⊎◌, ◌<◌, ◌/◌, ◌%◌, ◌++◌, ◌∷◌, [], IsTrue, OnOk, IfOk, IfErr, MatchResult, string_bytes, encode_utf8_all};
 ghost use Rattle.std.specs.Str.{chars};
 ghost use Rattle.rl_tokens.specs.Quoted.{holds_characters, opener, unit_text};
-ghost use Rattle.rl_tokens.specs.Written.{closer, upper_digit, is_written_as_number, writing};
-ghost use Rattle.rl_tokens.specs.Agreeing.{AreBytesOf, IsWrittenForm};
+ghost use Rattle.rl_tokens.specs.Written.{closer, upper_digit, is_written_as_number, written_unit};
+ghost use Rattle.rl_tokens.specs.Agreeing.{AreBytesOf};
+ghost use Rattle.rl_tokens.specs.Written.{IsWrittenForm};
 ghost use Rattle.rl_tokens.specs.Errors.{memory_at, nowhere};
 
 use crate::c_string::CString;
@@ -72,11 +73,11 @@ fn push_number<A: Allocator>(out: &mut String<A>, code: u32) -> Result<(), Alloc
 }
 
 /// Writes a character or a byte as it stands in a literal of the kind.
-#[tactic(auto, unfolding(crate::specs::Written::writing))]
+#[tactic(auto, unfolding(crate::specs::Written::written_unit))]
 fn push_written<A: Allocator>(out: &mut String<A>, kind: Kind, c: char) -> Result<(), AllocError>
     requires { IsTrue (holds_characters kind) ⊎ (c < 256) }
     ensures { OnOk result (string_bytes out.new
-        ≡ string_bytes out.old ++ encode_utf8_all (unit_text (writing kind c))) }
+        ≡ string_bytes out.old ++ encode_utf8_all (unit_text (written_unit kind c))) }
 {
     match c {
         '\0' => out.push_str("\\0"),

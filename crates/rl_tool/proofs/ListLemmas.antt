@@ -4,8 +4,8 @@ use Rattle.std.specs.Prelude.{String, IfSome}
 use Rattle.std.specs.Option.{ok_or}
 use Rattle.std.specs.Str.{chars, IsUtf8}
 use Rattle.std.proofs.lemmas.Str.{chars-nil}
-use Rattle.rl_tokens.specs.Trivia.{Skipped}
-use Rattle.rl_tokens.specs.Cursors.{Cutting}
+use Rattle.rl_tokens.specs.Skipping.{Skipped}
+use Rattle.rl_tokens.specs.Cursors.{CursorState}
 use Rattle.rust_literals.specs.declared.lit.Lit.{Lit}
 use Rattle.rust_literals.specs.Parsing.{AreRead, RefusesText}
 use Rattle.rust_literals.specs.Flat.{AddsNext, AreFirst}
@@ -38,7 +38,7 @@ first_none text rest lines empty skips = record {
 }
 
 -- one literal more, whose line is made
-pub first_more : {A : Type 0} (text : List ℕ) (old new : Cutting) (lines longer : Option (String A)) (count : ℕ) (none one : List (Lit A)) → old.text ≡ text → none ≡ [] → HasFirst text old.rest lines count → AddsNext 0 old none new one → IfSome longer (Lengthens lines one) → HasFirst text new.rest longer (count + 1)
+pub first_more : {A : Type 0} (text : List ℕ) (old new : CursorState) (lines longer : Option (String A)) (count : ℕ) (none one : List (Lit A)) → old.text ≡ text → none ≡ [] → HasFirst text old.rest lines count → AddsNext 0 old none new one → IfSome longer (Lengthens lines one) → HasFirst text new.rest longer (count + 1)
 first_more text old new lines longer count none one same nothing has adds pushed =
     let lit = adds.lit in
     let one_is : one ≡ lit ∷ [] = adds.longer_is ∙ ap (λ ls. ls ++ lit ∷ []) nothing in

@@ -15,10 +15,10 @@ status_of Usage = 2
 status_of (Failed fault) = fault_status fault
 
 -- the line that the program tells on standard error; after a run that printed all it tells none
-abbrev pub line_of : {A : Type 0} → Ending A → List ℕ
-line_of Done = []
-line_of Usage = codes "usage: rl_tool text|read|attr"
-line_of (Failed fault) = fault_line fault
+abbrev pub ending_line : {A : Type 0} → Ending A → List ℕ
+ending_line Done = []
+ending_line Usage = codes "usage: rl_tool text|read|attr"
+ending_line (Failed fault) = fault_line fault
 
 -- What a call with these arguments ends as: with what the command that they ask for does, or, where they ask for none,
 -- with how the program is used, and nothing is written.

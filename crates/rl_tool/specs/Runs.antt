@@ -4,8 +4,8 @@ use Rattle.std.specs.Str.{chars, IsUtf8}
 use Rattle.std.specs.Io.KnownBytes.{Appends, Keeps}
 use Rattle.rl_tokens.specs.declared.error.Error.{Error}
 use Rattle.rl_tokens.specs.Errors.{memory_at}
-use Rattle.rl_tokens.specs.Tokens.{Token}
-use Rattle.rust_literals.specs.Literals.{ReadsAsNumber}
+use Rattle.rl_tokens.specs.Texts.{SpannedText}
+use Rattle.rust_literals.specs.LitParts.{ReadsAsNumber}
 use Rattle.rust_literals.specs.declared.lit.Lit.{Lit}
 use Rattle.rust_literals.specs.Parsing.{AreRead, RefusesText}
 use Rattle.rl_tool.specs.declared.command.Command.{Command}
@@ -14,7 +14,7 @@ use Rattle.rl_tool.specs.declared.fault.Fault.{Fault}
 use Rattle.rl_tool.specs.declared.fault.Fault.TheVariants.{Read, Write, NotText, Memory, Literal}
 use Rattle.rl_lines.specs.Lines.{IsLineOf, AreLinesOfText}
 use Rattle.rl_tool.specs.Streams.{AppendsBeginning}
-use Rattle.rl_attributes.specs.Attributes.{Attribute, AreAttributesOf, RefusesText as RefusesAttributeText}
+use Rattle.rl_attributes.specs.Attributes.{Attribute, AreAttributesOf, RefusesAttributeText}
 use Rattle.rl_attributes.specs.EntryLines.{ShowsAttributes}
 
 -- what a command prints of a text
@@ -33,7 +33,7 @@ PrintsBeginning command bytes old new =
     IsUtf8 bytes × ((lines : List ℕ) × Shows command (chars bytes) lines × AppendsBeginning old new (encode_utf8_all lines))
 
 -- the bytes of a whole input as one token
-abbrev pub whole_token : List ℕ → Token
+abbrev pub whole_token : List ℕ → SpannedText
 whole_token bytes = record { text = bytes; span = record { file = 0; lo = 0; hi = length bytes } }
 
 -- the fault is a literal's, and this is its error
@@ -43,10 +43,10 @@ TellsLiteral refuses _ = ⊥
 
 -- what the call that reads the literals refuses of a text: want of memory for a number's digits, or as `read_all` or
 -- `attr::read` does
-abbrev pub RefusesLiterals : {A : Type 0} → Command → List ℕ → Error A → Type 0
-RefusesLiterals Text bytes error = (error ≡ memory_at (whole_token bytes).span) × ReadsAsNumber (chars bytes)
-RefusesLiterals ReadCommand bytes error = RefusesText (chars bytes) 0 (length bytes) error
-RefusesLiterals Attr bytes error = RefusesAttributeText (chars bytes) 0 (length bytes) error
+abbrev pub RefusesAsCommand : {A : Type 0} → Command → List ℕ → Error A → Type 0
+RefusesAsCommand Text bytes error = (error ≡ memory_at (whole_token bytes).span) × ReadsAsNumber (chars bytes)
+RefusesAsCommand ReadCommand bytes error = RefusesText (chars bytes) 0 (length bytes) error
+RefusesAsCommand Attr bytes error = RefusesAttributeText (chars bytes) 0 (length bytes) error
 
 -- where memory may be wanted that is no literal's: under `text` for the token or its line, under `read` and `attr` for the
 -- lines alone, behind literals or attributes that were read
@@ -58,7 +58,7 @@ MayWantMemory A Attr bytes = (list : List Attribute) × AreAttributesOf (chars b
 -- why the whole input was refused: it is no text, its literals were refused, or memory was, elsewhere
 abbrev pub IsRefusalOf : {A : Type 0} → Command → List ℕ → Fault A → Type 0
 IsRefusalOf command bytes NotText = IsUtf8 bytes → ⊥
-IsRefusalOf command bytes (Literal error) = IsUtf8 bytes × RefusesLiterals command bytes error
+IsRefusalOf command bytes (Literal error) = IsUtf8 bytes × RefusesAsCommand command bytes error
 IsRefusalOf {A} command bytes Memory = MayWantMemory A command bytes
 IsRefusalOf command bytes Read = ⊥
 IsRefusalOf command bytes Write = ⊥

@@ -14,12 +14,12 @@ pub enum Command {
 impl Command {
     ghost use Rattle.std.specs.Prelude.{◌≡◌, ◌≢◌, IfSome, IfNone};
     ghost use Rattle.rl_tool.specs.declared.command.Command.{Command};
-    ghost use Rattle.rl_tool.specs.Commands.{name_of, AskFor};
+    ghost use Rattle.rl_tool.specs.Commands.{command_word, AskFor};
 
     /// The command of this name.
     pub fn from_name(name: &str) -> Option<Command>
-        ensures known { IfSome result (λ command. name.now ≡ name_of command) }
-        ensures unknown { IfNone result ((command : Command) → name.now ≢ name_of command) }
+        ensures known { IfSome result (λ command. name.now ≡ command_word command) }
+        ensures unknown { IfNone result ((command : Command) → name.now ≢ command_word command) }
     {
         match name {
             "text" => Some(Command::Text),

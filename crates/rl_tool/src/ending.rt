@@ -1,7 +1,7 @@
 //! A call of the program, and how it ends.
 
 ghost use Rattle.std.specs.Prelude.{◌≡◌, Some};
-ghost use Rattle.rl_tool.specs.Endings.{line_of, status_of, EndsAs};
+ghost use Rattle.rl_tool.specs.Endings.{ending_line, status_of, EndsAs};
 
 use crate::command::Command;
 use crate::fault::Fault;
@@ -37,7 +37,7 @@ impl<A: Allocator> Ending<A> {
 
 /// The line that the program tells on standard error: how it is used, or the fault's; none where all was written.
 impl<A: Allocator> fmt::Display for Ending<A> {
-    ghost output = { λ ending. Some (line_of ending) };
+    ghost output = { λ ending. Some (ending_line ending) };
 
     fn fmt<W: fmt::Write>(&self, f: &mut fmt::Formatter<W>) -> fmt::Result {
         match self {

@@ -4,7 +4,8 @@ ghost use Rattle.std.specs.Prelude.{◌≡◌, IfErr, IfOk, IfSome, OnOk, string
 ghost use Rattle.std.specs.Str.{chars, IsUtf8};
 ghost use Rattle.rl_tool.specs.declared.command.Command.TheVariants.{Text};
 ghost use Rattle.rl_tokens.specs.Errors.{memory_at};
-ghost use Rattle.rust_literals.specs.Literals.{IsReadFrom, ReadsAsNumber};
+ghost use Rattle.rust_literals.specs.Literals.{IsReadFrom};
+ghost use Rattle.rust_literals.specs.LitParts.{ReadsAsNumber};
 ghost use Rattle.rl_tool.specs.declared.fault.Fault.TheVariants.{NotText, Memory};
 ghost use Rattle.rl_tool.specs.Runs.{whole_token, Shows, Prints, TellsLiteral, IsFaultOf, IsRefusalOf};
 

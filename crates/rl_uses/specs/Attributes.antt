@@ -4,20 +4,20 @@ use Rattle.rl_tokens.specs.declared.span.Span.{Span}
 use Rattle.rl_tokens.specs.declared.kind.Kind.TheVariants.{Str}
 use Rattle.rl_tokens.specs.declared.error.Error.{Error}
 use Rattle.rl_tokens.specs.Errors.{memory_at}
-use Rattle.rl_tokens.specs.Tokens.{Token}
+use Rattle.rl_tokens.specs.Texts.{SpannedText}
 use Rattle.rl_tokens.specs.Trees.{Tree, IdentTree}
 use Rattle.rl_tokens.specs.Buffers.{begins_ident, begins_mark, IsBehindMark, IsRefusal}
-use Rattle.rl_tokens.specs.Fronts.{IsFrontOf, RunsAs}
+use Rattle.rl_grammar.specs.Fronts.{IsFrontOf, RunsAs}
 use Rattle.rl_uses.specs.declared.attribute.Attribute.{Attribute}
 
 -- The character `=` and a string literal begin the trees, and the rest stands behind them.
-pub record IsValue (trees : List Tree) (value : Token) (rest : List Tree) : Type 0 where
+pub record IsAttributeValue (trees : List Tree) (value : SpannedText) (rest : List Tree) : Type 0 where
   pub behind : List Tree
   pub equals : IsBehindMark 61 trees behind
   pub string : IsFrontOf Str behind value rest
 
 -- No `=` begins the trees.
-pub record MissesEquals {A : Type 0} (trees : List Tree) (scope : Span) (e : Error A) : Type 0 where
+pub record MissesValueEquals {A : Type 0} (trees : List Tree) (scope : Span) (e : Error A) : Type 0 where
   pub none : IsFalse (begins_mark 61 trees)
   pub refusal : IsRefusal trees scope (codes "`=`") e
 
@@ -30,38 +30,38 @@ pub record MissesString {A : Type 0} (trees : List Tree) (scope : Span) (e : Err
 
 -- No `=` and string literal begin the trees.
 pub record RefusesValue {A : Type 0} (trees : List Tree) (scope : Span) (e : Error A) : Type 0 where
-  pub why : MissesEquals trees scope e ⊎ MissesString trees scope e
+  pub why : MissesValueEquals trees scope e ⊎ MissesString trees scope e
 
 -- An identifier, the character `=` and a string literal begin the trees, and the rest stands behind them.
-pub record IsAttribute (trees : List Tree) (name value : Token) (rest : List Tree) : Type 0 where
+pub record IsStringAttribute (trees : List Tree) (name value : SpannedText) (rest : List Tree) : Type 0 where
   pub behind : List Tree
   pub named : trees ≡ IdentTree name ∷ behind
-  pub set : IsValue behind value rest
+  pub set : IsAttributeValue behind value rest
 
 -- No identifier begins the trees.
-pub record MissesName {A : Type 0} (trees : List Tree) (scope : Span) (e : Error A) : Type 0 where
+pub record MissesAttributeName {A : Type 0} (trees : List Tree) (scope : Span) (e : Error A) : Type 0 where
   pub none : IsFalse (begins_ident trees)
   pub refusal : IsRefusal trees scope (codes "identifier") e
 
 -- An identifier begins the trees, and memory was refused for it.
-pub record NamesShort {A : Type 0} (trees : List Tree) (e : Error A) : Type 0 where
-  pub name : Token
+pub record LacksMemoryForIdentifier {A : Type 0} (trees : List Tree) (e : Error A) : Type 0 where
+  pub name : SpannedText
   pub behind : List Tree
   pub named : trees ≡ IdentTree name ∷ behind
   pub error : e ≡ memory_at name.span
 
 -- An identifier begins the trees, and no value stands behind it.
 pub record MissesValue {A : Type 0} (trees : List Tree) (scope : Span) (e : Error A) : Type 0 where
-  pub name : Token
+  pub name : SpannedText
   pub behind : List Tree
   pub named : trees ≡ IdentTree name ∷ behind
   pub refused : RefusesValue behind scope e
 
 -- No attribute begins the trees: the first part that is missed, or want of memory.
 pub record RefusesAttribute {A : Type 0} (trees : List Tree) (scope : Span) (e : Error A) : Type 0 where
-  pub why : MissesName trees scope e ⊎ NamesShort trees e ⊎ MissesValue trees scope e
+  pub why : MissesAttributeName trees scope e ⊎ LacksMemoryForIdentifier trees e ⊎ MissesValue trees scope e
 
 -- what the parser of attributes does; a refusal leaves the trees
 abbrev pub RunsAttribute : {A : Type 0} → List Tree → Span → Result (Attribute A) (Error A) → List Tree → Type 0
-RunsAttribute trees scope (Ok attribute) rest = IsAttribute trees attribute.name attribute.value rest
+RunsAttribute trees scope (Ok attribute) rest = IsStringAttribute trees attribute.name attribute.value rest
 RunsAttribute trees scope (Err e) rest = RefusesAttribute trees scope e × (rest ≡ trees)

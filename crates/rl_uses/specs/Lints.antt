@@ -5,14 +5,14 @@ use Rattle.std.specs.List.{list_any}
 use Rattle.std.specs.Str.{chars}
 use Rattle.rl_tokens.specs.declared.span.Span.{Span}
 use Rattle.rl_tokens.specs.declared.kind.Kind.TheVariants.{Str as StrKind}
-use Rattle.rl_tokens.specs.Tokens.{Token}
+use Rattle.rl_tokens.specs.Texts.{SpannedText}
 use Rattle.rl_tokens.specs.Reading.{Characters, HasContents}
 use Rattle.rust_literals.specs.declared.lit.Lit.{Lit}
 use Rattle.rust_literals.specs.declared.lit.Lit.TheVariants.{Str}
-use Rattle.rust_literals.specs.Literals.{span_of}
+use Rattle.rust_literals.specs.LitParts.{lit_span}
 
 -- The answer tells whether the string's value has a control character.
-abbrev pub TellsControl : Token → Bool → Type 0
+abbrev pub TellsControl : SpannedText → Bool → Type 0
 TellsControl string answer = (value : List ℕ) × HasContents StrKind (chars string.text) (Characters value) × (answer ≡ list_any is_control value)
 
 -- The answer tells whether the literal is a string whose value has a control character.
@@ -23,4 +23,4 @@ TellsFault other answer = answer ≡ false
 -- The spans are those of the literals that are such strings, in order.
 abbrev pub AreFaults : {A : Type 0} → List (Lit A) → List Span → Type 0
 AreFaults [] spans = spans ≡ []
-AreFaults (l ∷ ls) spans = (TellsFault l false × AreFaults ls spans) ⊎ ((rest : List Span) × TellsFault l true × (spans ≡ span_of l ∷ rest) × AreFaults ls rest)
+AreFaults (l ∷ ls) spans = (TellsFault l false × AreFaults ls spans) ⊎ ((rest : List Span) × TellsFault l true × (spans ≡ lit_span l ∷ rest) × AreFaults ls rest)

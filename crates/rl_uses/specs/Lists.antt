@@ -7,19 +7,19 @@ use Rattle.rl_tokens.specs.declared.error.Error.{Error}
 use Rattle.rl_tokens.specs.Errors.{memory_at}
 use Rattle.rl_tokens.specs.Trees.{Tree, Trees, GroupTree, inside_of, closer_span}
 use Rattle.rl_tokens.specs.Buffers.{first_span, begins_mark, IsBehindMark, IsRefusal}
-use Rattle.rl_tokens.specs.Fronts.{IsFrontOf, HasFrontOf}
+use Rattle.rl_grammar.specs.Fronts.{IsFrontOf, HasFrontOf}
 use Rattle.rl_uses.specs.declared.list.Item.{Item}
 use Rattle.rl_uses.specs.declared.list.Item.TheVariants.{Int, Str}
 use Rattle.rl_uses.specs.declared.list.ItemList.{ItemList}
 
 -- the literal of the item begins the trees, and the rest stands behind it
-abbrev pub IsItemOf : {A : Type 0} → List Tree → Item A → List Tree → Type 0
-IsItemOf trees (Int literal) rest = IsFrontOf IntKind trees literal rest
-IsItemOf trees (Str literal) rest = IsFrontOf StrKind trees literal rest
+abbrev pub IsItemLiteral : {A : Type 0} → List Tree → Item A → List Tree → Type 0
+IsItemLiteral trees (Int literal) rest = IsFrontOf IntKind trees literal rest
+IsItemLiteral trees (Str literal) rest = IsFrontOf StrKind trees literal rest
 
 -- The item begins the trees, and the rest stands behind it; the rest is shorter.
 pub record IsItem {A : Type 0} (trees : List Tree) (item : Item A) (rest : List Tree) : Type 0 where
-  pub literal : IsItemOf trees item rest
+  pub literal : IsItemLiteral trees item rest
   pub shorter : length rest < length trees
 
 -- Neither an integer nor a string begins the trees: this is told there, with the words of both.
@@ -29,13 +29,13 @@ pub record MissesItem {A : Type 0} (trees : List Tree) (scope : Span) (e : Error
   pub refusal : IsRefusal trees scope (codes "integer literal or string literal") e
 
 -- An integer or a string begins the trees, and memory was refused for it.
-pub record ItemShort {A : Type 0} (trees : List Tree) (scope : Span) (e : Error A) : Type 0 where
+pub record LacksMemoryForItem {A : Type 0} (trees : List Tree) (scope : Span) (e : Error A) : Type 0 where
   pub some : HasFrontOf IntKind trees ⊎ HasFrontOf StrKind trees
   pub error : e ≡ memory_at (first_span trees scope)
 
 -- No item is taken.
 pub record RefusesItem {A : Type 0} (trees : List Tree) (scope : Span) (e : Error A) : Type 0 where
-  pub why : MissesItem trees scope e ⊎ ItemShort trees scope e
+  pub why : MissesItem trees scope e ⊎ LacksMemoryForItem trees scope e
 
 -- what the parser of items does; a refusal leaves the trees
 abbrev pub RunsItem : {A : Type 0} → List Tree → Span → Result (Item A) (Error A) → List Tree → Type 0
@@ -49,7 +49,7 @@ pub record IsListed {A : Type 0} (trees : List Tree) (item : Item A) (rest : Lis
   pub comma : IsBehindMark 44 behind rest ⊎ ((behind ≡ []) × (rest ≡ []))
 
 -- An item begins the trees, and something stands behind it that is no comma.
-pub record MissesComma {A : Type 0} (trees : List Tree) (scope : Span) (e : Error A) : Type 0 where
+pub record MissesItemComma {A : Type 0} (trees : List Tree) (scope : Span) (e : Error A) : Type 0 where
   pub item : Item A
   pub behind : List Tree
   pub is : IsItem trees item behind
@@ -59,7 +59,7 @@ pub record MissesComma {A : Type 0} (trees : List Tree) (scope : Span) (e : Erro
 
 -- No item with a comma or the end behind it begins the trees.
 pub record RefusesListed {A : Type 0} (trees : List Tree) (scope : Span) (e : Error A) : Type 0 where
-  pub why : RefusesItem trees scope e ⊎ MissesComma trees scope e
+  pub why : RefusesItem trees scope e ⊎ MissesItemComma trees scope e
 
 -- these items begin the trees one after another, each as listed, and the rest stands behind them
 abbrev pub Lists : {A : Type 0} → List Tree → List (Item A) → List Tree → Type 0
@@ -67,7 +67,7 @@ Lists trees [] rest = trees ≡ rest
 Lists trees (x ∷ xs) rest = (after : List Tree) × IsListed trees x after × Lists after xs rest
 
 -- Items lead to trees that begin with none.
-pub record StopsAt {A : Type 0} (trees : List Tree) (scope : Span) (e : Error A) : Type 0 where
+pub record RefusesNextItem {A : Type 0} (trees : List Tree) (scope : Span) (e : Error A) : Type 0 where
   pub items : List (Item A)
   pub rest : List Tree
   pub lists : Lists trees items rest
@@ -75,7 +75,7 @@ pub record StopsAt {A : Type 0} (trees : List Tree) (scope : Span) (e : Error A)
   pub refused : RefusesListed rest scope e
 
 -- Items lead to one for which no place was found: this is told at it.
-pub record RunsOut {A : Type 0} (trees : List Tree) (scope : Span) (e : Error A) : Type 0 where
+pub record LacksMemoryForPlace {A : Type 0} (trees : List Tree) (scope : Span) (e : Error A) : Type 0 where
   pub items : List (Item A)
   pub rest : List Tree
   pub lists : Lists trees items rest
@@ -86,7 +86,7 @@ pub record RunsOut {A : Type 0} (trees : List Tree) (scope : Span) (e : Error A)
 
 -- The trees aren't items with commas between them.
 pub record RefusesItems {A : Type 0} (trees : List Tree) (scope : Span) (e : Error A) : Type 0 where
-  pub why : StopsAt trees scope e ⊎ RunsOut trees scope e
+  pub why : RefusesNextItem trees scope e ⊎ LacksMemoryForPlace trees scope e
 
 -- no group in square brackets begins the trees
 abbrev pub HasNoList : List Tree → Type 0
@@ -105,7 +105,7 @@ pub record MissesList {A : Type 0} (trees : List Tree) (scope : Span) (e : Error
   pub refusal : IsRefusal trees scope (codes "square brackets") e
 
 -- A group in square brackets begins the trees, and what is inside is refused; its end would be told at the closer.
-pub record RefusesInside {A : Type 0} (trees : List Tree) (e : Error A) : Type 0 where
+pub record RefusesInsideList {A : Type 0} (trees : List Tree) (e : Error A) : Type 0 where
   pub inside : List Tree
   pub span : Span
   pub behind : List Tree
@@ -114,7 +114,7 @@ pub record RefusesInside {A : Type 0} (trees : List Tree) (e : Error A) : Type 0
 
 -- no list begins the trees
 abbrev pub RefusesList : {A : Type 0} → List Tree → Span → Error A → Type 0
-RefusesList trees scope e = MissesList trees scope e ⊎ RefusesInside trees e
+RefusesList trees scope e = MissesList trees scope e ⊎ RefusesInsideList trees e
 
 -- what the parser of lists does; a refusal leaves the trees
 abbrev pub RunsList : {A : Type 0} → List Tree → Span → Result (ItemList A) (Error A) → List Tree → Type 0

@@ -3,33 +3,33 @@ use Rattle.std.specs.Prelude.{◌≡◌, ◌⊎◌, ℕ, List, [], ◌∷◌, �
 use Rattle.std.specs.Str.{chars}
 use Rattle.rl_tokens.specs.declared.kind.Kind.{Kind}
 use Rattle.rl_tokens.specs.declared.kind.Kind.TheVariants.{Str as StrKind, ByteStr as ByteStrKind, CStr as CStrKind, Byte as ByteKind, Char as CharKind}
-use Rattle.rl_tokens.specs.Tokens.{Token}
+use Rattle.rl_tokens.specs.Texts.{SpannedText}
 use Rattle.rl_tokens.specs.Reading.{quoted_contents, HasContents, HasSuffix}
-use Rattle.rl_tokens.specs.Agreeing.{IsWrittenForm}
+use Rattle.rl_tokens.specs.Written.{IsWrittenForm}
 use Rattle.rl_quoted.specs.Suffixes.{HasSomeSuffix}
 use Rattle.rust_literals.specs.declared.lit.Lit.{Lit}
 use Rattle.rust_literals.specs.declared.lit.Lit.TheVariants.{Str, ByteStr, CStr, Byte, Char}
 use Rattle.rust_literals.specs.Copies.{text_of}
 
 -- The new literal is the written form of the old one's value, at the same span.
-pub record IsWrittenOf (kind : Kind) (old new : Token) : Type 0 where
+pub record IsWrittenOf (kind : Kind) (old new : SpannedText) : Type 0 where
   pub value : List ℕ
   pub contents : HasContents kind (chars old.text) (quoted_contents kind value)
   pub written : IsWrittenForm kind value (chars new.text)
   pub span : new.span ≡ old.span
 
 -- No suffix stands behind the old literal, and the new one is the written form of its value.
-pub record IsAnew (kind : Kind) (old new : Token) : Type 0 where
+pub record IsAnew (kind : Kind) (old new : SpannedText) : Type 0 where
   pub bare : HasSuffix kind (chars old.text) []
   pub written : IsWrittenOf kind old new
 
 -- A suffix stands behind the old literal, and the new one is the same.
-pub record IsKept (kind : Kind) (old new : Token) : Type 0 where
+pub record IsKept (kind : Kind) (old new : SpannedText) : Type 0 where
   pub suffix : HasSomeSuffix kind (chars old.text)
   pub same : new ≡ old
 
 -- what becomes of a quoted literal
-abbrev pub IsQuotedRewrite : Kind → Token → Token → Type 0
+abbrev pub IsQuotedRewrite : Kind → SpannedText → SpannedText → Type 0
 IsQuotedRewrite kind old new = IsAnew kind old new ⊎ IsKept kind old new
 
 -- what becomes of a literal: one that is not quoted stays the same

@@ -3,28 +3,28 @@ use Rattle.std.specs.Prelude.{◌⊎◌, ℕ, List, [], Option, Result, codes}
 use Rattle.std.specs.Str.{chars}
 use Rattle.rl_tokens.specs.declared.kind.Kind.TheVariants.{Int}
 use Rattle.rl_tokens.specs.declared.error.Error.{Error}
-use Rattle.rl_tokens.specs.Tokens.{Token}
+use Rattle.rl_tokens.specs.Texts.{SpannedText}
 use Rattle.rl_tokens.specs.Trees.{Tree}
 use Rattle.rl_tokens.specs.Lexing.{Lexes}
-use Rattle.rl_tokens.specs.Fronts.{IsFrontOf, RunsAs}
+use Rattle.rl_grammar.specs.Fronts.{IsFrontOf, RunsAs}
 use Rattle.rl_tokens.specs.Whole.{RefusesAll}
 use Rattle.rust_literals.specs.Base10.{AreBase10Digits, IsMadeOf, IsRefusedBy}
 
 -- The text is cut into the trees of one integer literal, and nothing else.
-pub record IsOneInt (text : List ℕ) (file : ℕ) (literal : Token) : Type 0 where
+pub record IsOneInt (text : List ℕ) (file : ℕ) (literal : SpannedText) : Type 0 where
   pub trees : List Tree
   pub lexes : Lexes (chars text) file trees
   pub front : IsFrontOf Int trees literal []
 
 -- The text is one integer literal, and the number is what its type makes of the digits.
 pub record IsSetTo {N E : Type 0} (gives : List ℕ → Result N E → Type 0) (text : List ℕ) (file : ℕ) (number : N) : Type 0 where
-  pub literal : Token
+  pub literal : SpannedText
   pub one : IsOneInt text file literal
   pub made : IsMadeOf gives (AreBase10Digits Int literal.text) number
 
 -- The text is one integer literal, and the number type refuses its digits: this is told at the literal.
 pub record RefusesDigits {N E A : Type 0} (gives : List ℕ → Result N E → Type 0) (output : E → Option (List ℕ)) (text : List ℕ) (file : ℕ) (e : Error A) : Type 0 where
-  pub literal : Token
+  pub literal : SpannedText
   pub one : IsOneInt text file literal
   pub refused : IsRefusedBy gives output (AreBase10Digits Int literal.text) literal.span e
 

@@ -2,7 +2,7 @@
 
 ghost use Rattle.std.specs.Prelude.{◌≡◌, IfOk, IfErr};
 ghost use Rattle.rl_tokens.specs.Buffers.{trees_in, scope_of, IsRest, StaysRest};
-ghost use Rattle.rl_uses.specs.Attributes.{IsValue, RefusesValue, IsAttribute, RefusesAttribute, RunsAttribute};
+ghost use Rattle.rl_uses.specs.Attributes.{IsAttributeValue, RefusesValue, IsStringAttribute, RefusesAttribute, RunsAttribute};
 ghost use Rattle.rl_tokens.specs.Whole.{ParsesAll, RefusesAll};
 
 use rl_quoted::LitStr;
@@ -23,7 +23,7 @@ fn parse_value<A: Allocator>(
     alloc: A,
     input: &mut ParseBuffer<'_, A>,
 ) -> Result<LitStr<A>, Error<A>>
-    ensures ok { IfOk result (λ v. IsValue (trees_in input.old) v (trees_in input.new)) }
+    ensures ok { IfOk result (λ v. IsAttributeValue (trees_in input.old) v (trees_in input.new)) }
     ensures refused { IfErr result (RefusesValue (trees_in input.old) (scope_of input.old)) }
     ensures onward { StaysRest (trees_in input.old) (trees_in input.new) }
     ensures scope { scope_of input.new ≡ scope_of input.old }
@@ -37,7 +37,7 @@ fn parse_attribute<A: Allocator + Copy>(
     alloc: A,
     input: &mut ParseBuffer<'_, A>,
 ) -> Result<Attribute<A>, Error<A>>
-    ensures ok { IfOk result (λ a. IsAttribute (trees_in input.old) a.name a.value (trees_in input.new)) }
+    ensures ok { IfOk result (λ a. IsStringAttribute (trees_in input.old) a.name a.value (trees_in input.new)) }
     ensures refused { IfErr result (RefusesAttribute (trees_in input.old) (scope_of input.old)) }
     ensures rest { IsRest (trees_in input.old) (trees_in input.new) }
     ensures scope { scope_of input.new ≡ scope_of input.old }

@@ -4,7 +4,7 @@ ghost use Rattle.std.specs.Prelude.{List, IfOk, IfErr};
 ghost use Rattle.std.specs.Str.{chars};
 ghost use Rattle.rust_literals.specs.declared.lit.Lit.{Lit};
 ghost use Rattle.rust_literals.specs.Parsing.{AreRead};
-ghost use Rattle.rl_uses.specs.Shortage.{IsShortOf, RefusesLiterals};
+ghost use Rattle.rl_uses.specs.Shortage.{IsShortOf, RefusesTextOrMemory};
 ghost use Rattle.rl_uses.specs.Counts.{AreCounts};
 
 use rl_tokens::Error;
@@ -45,7 +45,7 @@ pub fn count_literals<A: Allocator + Copy>(
     ensures counts { IfOk result (λ counts. (list : List (Lit A))
         × AreRead (chars text.now) file list × AreCounts list counts) }
     // What `read_all` refuses of the text, or memory was refused for one of its literals, which the error is told at.
-    ensures refused { IfErr result (RefusesLiterals text.now file) }
+    ensures refused { IfErr result (RefusesTextOrMemory text.now file) }
 {
     tally(alloc, read_all(alloc, text, file)?)
 }

@@ -7,8 +7,8 @@ ghost use Rattle.std.specs.Str.{chars};
 ghost use Rattle.rl_tokens.specs.Errors.{memory_at};
 ghost use Rattle.rust_literals.specs.declared.lit.Lit.{Lit};
 ghost use Rattle.rust_literals.specs.Parsing.{AreRead};
-ghost use Rattle.rust_literals.specs.Literals.{span_of};
-ghost use Rattle.rl_uses.specs.Shortage.{IsShortOf, RefusesLiterals};
+ghost use Rattle.rust_literals.specs.LitParts.{lit_span};
+ghost use Rattle.rl_uses.specs.Shortage.{IsShortOf, RefusesTextOrMemory};
 ghost use Rattle.rl_uses.specs.Lints.{TellsControl, TellsFault, AreFaults};
 
 use rl_tokens::{Error, Span};
@@ -37,7 +37,7 @@ fn has_control<A: Allocator + Copy>(alloc: A, string: &LitStr<A>) -> Result<bool
 /// Whether the literal is a string whose value has a control character.
 fn is_fault<A: Allocator + Copy>(alloc: A, literal: &Lit<A>) -> Result<bool, Error<A>>
     ensures tells { IfOk result (TellsFault literal.now) }
-    ensures memory { IfErr result (λ e. e ≡ memory_at (span_of literal.now)) }
+    ensures memory { IfErr result (λ e. e ≡ memory_at (lit_span literal.now)) }
 {
     match literal {
         Lit::Str(string) => has_control(alloc, string),
@@ -75,7 +75,7 @@ pub fn control_strings<A: Allocator + Copy>(
     ensures found { IfOk result (λ spans. (list : List (Lit A))
         × AreRead (chars text.now) file list × AreFaults list spans.items) }
     // What `read_all` refuses of the text, or memory was refused for one of its literals, which the error is told at.
-    ensures refused { IfErr result (RefusesLiterals text.now file) }
+    ensures refused { IfErr result (RefusesTextOrMemory text.now file) }
 {
     let literals = read_all(alloc, text, file)?;
     faults(alloc, literals.as_slice())

@@ -6,8 +6,8 @@ ghost use Rattle.rl_tokens.specs.declared.kind.Kind.TheVariants.{Str as StrKind,
 ghost use Rattle.rl_tokens.specs.Errors.{memory_at};
 ghost use Rattle.rust_literals.specs.declared.lit.Lit.{Lit};
 ghost use Rattle.rust_literals.specs.Parsing.{AreRead};
-ghost use Rattle.rust_literals.specs.Literals.{span_of};
-ghost use Rattle.rl_uses.specs.Shortage.{IsShortOf, RefusesLiterals};
+ghost use Rattle.rust_literals.specs.LitParts.{lit_span};
+ghost use Rattle.rl_uses.specs.Shortage.{IsShortOf, RefusesTextOrMemory};
 ghost use Rattle.rl_uses.specs.Rewrites.{IsQuotedRewrite, IsWrittenOf, IsRewrite, PrintsLine, AreLines};
 
 use rl_tokens::Error;
@@ -121,7 +121,7 @@ fn character_rewritten<A: Allocator + Copy>(
 /// The one error is want of memory, told at the literal's span.
 pub fn rewritten<A: Allocator + Copy>(alloc: A, literal: &Lit<A>) -> Result<Lit<A>, Error<A>>
     ensures rewritten { IfOk result (IsRewrite literal.now) }
-    ensures memory { IfErr result (λ e. e ≡ memory_at (span_of literal.now)) }
+    ensures memory { IfErr result (λ e. e ≡ memory_at (lit_span literal.now)) }
 {
     Ok(match literal {
         Lit::Str(literal) => Lit::Str(string_rewritten(alloc, literal)?),
@@ -144,7 +144,7 @@ fn push_line<A: Allocator + Copy>(
 ) -> Result<(), Error<A>>
     ensures line { OnOk result
         (PrintsLine literal.now (string_bytes out.old) (string_bytes out.new)) }
-    ensures memory { IfErr result (λ e. e ≡ memory_at (span_of literal.now)) }
+    ensures memory { IfErr result (λ e. e ≡ memory_at (lit_span literal.now)) }
 {
     let anew = rewritten(alloc, literal)?;
     if out.push_str(anew.text()).is_err() || out.push('\n').is_err() {
@@ -174,7 +174,7 @@ pub fn format<A: Allocator + Copy>(alloc: A, text: &str, file: u32) -> Result<St
     ensures printed { IfOk result (λ printed. (list : List (Lit A))
         × AreRead (chars text.now) file list × AreLines list (string_bytes printed)) }
     // What `read_all` refuses of the text, or memory was refused for one of its literals, which the error is told at.
-    ensures refused { IfErr result (RefusesLiterals text.now file) }
+    ensures refused { IfErr result (RefusesTextOrMemory text.now file) }
 {
     let literals = read_all(alloc, text, file)?;
     lines(alloc, literals.as_slice())

@@ -6,44 +6,48 @@ use Rattle.std.specs.Str.{chars, encode_utf8_all}
 use Rattle.std.proofs.lemmas.Str.{scalars-chars}
 use Rattle.rl_tokens.specs.declared.error.Error.{Error}
 use Rattle.rl_tokens.specs.declared.error.ErrorKind.TheVariants.{Memory}
-use Rattle.rl_tokens.specs.Tokens.{Token}
+use Rattle.rl_tokens.specs.Texts.{SpannedText}
 use Rattle.rl_tokens.specs.Trivia.{IsTrivia}
 use Rattle.rl_tokens.specs.Trees.{Tree, GroupTree, IdentTree, PunctTree, LiteralTree}
-use Rattle.rl_tokens.specs.Fronts.{HasReading, IsFront}
-use Rattle.rl_tokens.specs.Lexing.{byte_len}
-use Rattle.rl_tokens.specs.Printed.{Item, WordItem, LiteralItem, MinusItem, item_text, Entry, printed_text, token_at, printed_trees, IsCutItem, Reprinted}
+use Rattle.rl_tokens.specs.Reading.{HasReading}
+use Rattle.rl_grammar.specs.Fronts.{IsFront}
+use Rattle.rl_tokens.specs.Texts.{byte_len}
+use Rattle.rl_tokens.specs.Printed.{Item, WordItem, LiteralItem, MinusItem, item_text, Entry, printed_text, token_at}
+use Rattle.rl_tokens.specs.PrintedTrees.{printed_trees, IsLexedItem, Reprinted}
 use Rattle.rl_tokens.proofs.CutTrees.{IsCutTree, lexed_trees}
 use Rattle.rl_tokens.proofs.PrintedLaws.{reprinted_lexes}
 use Rattle.rl_grammar.proofs.FrontLemmas.{minus_chars}
 use Rattle.rust_literals.specs.declared.lit.Lit.{Lit}
-use Rattle.rust_literals.specs.Literals.{kind_of, token_of, IsReadAs, IsReadFrom, IsMovedTo}
-use Rattle.rust_literals.specs.Parsing.{IsLitFront, Leads, AreRead, IsOrMemory}
-use Rattle.rust_literals.specs.ReadBack.{HoldsOrMemory, lit_text, Spaced, spaced_text, lits_of, Again, AreMoved}
+use Rattle.rust_literals.specs.Literals.{kind_of, token_of, IsReadAs, IsReadFrom}
+use Rattle.rust_literals.specs.LitParts.{IsSameAt}
+use Rattle.rust_literals.specs.Parsing.{IsLitFront, ReadsLiterals, AreRead, IsOrMemory}
+use Rattle.rust_literals.specs.ReadBack.{HoldsOrMemory}
+use Rattle.rust_literals.specs.Reprints.{lit_text, Spaced, spaced_text, lits_of, IsReprint, SameButSpans}
 use Rattle.rust_literals.proofs.LitLemmas.{SpellsWords, read_lit}
 use Rattle.rust_literals.proofs.ItemFronts.{IsFrontItem, minus_bytes, AreReadAt, items_lead, spells_words}
 use Rattle.rust_literals.proofs.PrintedLemmas.{holds_exactly}
 
 -- What a literal is printed as is the text of its token.
-lit_text_is : {A : Type 0} (token : Token) (lit : Lit A) → IsReadFrom token lit → lit_text lit ≡ chars token.text
-lit_text_is token lit (is, r) = ap (λ (t : Token). chars t.text) is
+lit_text_is : {A : Type 0} (token : SpannedText) (lit : Lit A) → IsReadFrom token lit → lit_text lit ≡ chars token.text
+lit_text_is token lit (is, r) = ap (λ (t : SpannedText). chars t.text) is
 
 -- A token at another place, which has the same text, is the same literal.
-abbrev MovedLit : {A : Type 0} → Token → Lit A → Type 0
-MovedLit {A} other lit = (moved : Lit A) × IsReadFrom other moved × IsMovedTo lit other.span moved
+abbrev MovedLit : {A : Type 0} → SpannedText → Lit A → Type 0
+MovedLit {A} other lit = (moved : Lit A) × IsReadFrom other moved × IsSameAt lit other.span moved
 
-moved_lit : {A : Type 0} (token other : Token) (lit : Lit A) → SpellsWords other.text → other.text ≡ token.text → IsReadFrom token lit → MovedLit other lit
+moved_lit : {A : Type 0} (token other : SpannedText) (lit : Lit A) → SpellsWords other.text → other.text ≡ token.text → IsReadFrom token lit → MovedLit other lit
 moved_lit {A} token other lit words same (is, r) =
     let (moved, read, kind_is) = read_lit A other (kind_of lit) words (subst (λ (x : List ℕ). IsReadAs (kind_of lit) (chars x)) (sym same) r) in
-    let text_is : other.text ≡ (token_of lit).text = same ∙ ap (λ (t : Token). t.text) (sym is) in
-    let there : other ≡ record (token_of lit) { span = other.span } = ap (λ (x : List ℕ). let t : Token = record { text = x; span = other.span } in t) text_is in
+    let text_is : other.text ≡ (token_of lit).text = same ∙ ap (λ (t : SpannedText). t.text) (sym is) in
+    let there : other ≡ record (token_of lit) { span = other.span } = ap (λ (x : List ℕ). let t : SpannedText = record { text = x; span = other.span } in t) text_is in
     (moved, read, record { kind = kind_is; token = read.0 ∙ there })
 
 -- The literal is that of an item, as it was cut.
 record IsCutLit {A : Type 0} (lit : Lit A) : Type 0 where
   pub item : Item
-  pub is_cut : IsCutItem item
+  pub is_cut : IsLexedItem item
   pub front : IsFrontItem item
-  pub token : Token
+  pub token : SpannedText
   pub read : IsReadFrom token lit
   pub bytes : token.text ≡ encode_utf8_all (item_text item)
   pub characters : chars token.text ≡ item_text item
@@ -63,8 +67,8 @@ front_cut trees lit rest cut h = go trees cut h.front
         front = tt;
         token = h.token;
         read = h.read;
-        bytes = ap (λ (t : Token). t.text) e ∙ of.bytes;
-        characters = ap (λ (t : Token). chars t.text) e ∙ of.characters;
+        bytes = ap (λ (t : SpannedText). t.text) e ∙ of.bytes;
+        characters = ap (λ (t : SpannedText). chars t.text) e ∙ of.characters;
       },
       subst (λ (ts : List Tree). AllByRecursion IsCutTree ts) (sym f) cut,
     )
@@ -75,8 +79,8 @@ front_cut trees lit rest cut h = go trees cut h.front
         front = tt;
         token = h.token;
         read = h.read;
-        bytes = ap (λ (t : Token). t.text) e ∙ of.bytes ∙ ap encode_utf8_all (sym of.characters ∙ r.text_is);
-        characters = ap (λ (t : Token). chars t.text) e ∙ r.text_is;
+        bytes = ap (λ (t : SpannedText). t.text) e ∙ of.bytes ∙ ap encode_utf8_all (sym of.characters ∙ r.text_is);
+        characters = ap (λ (t : SpannedText). chars t.text) e ∙ r.text_is;
       },
       subst (λ (ts : List Tree). AllByRecursion IsCutTree ts) (sym f) cut,
     )
@@ -88,8 +92,8 @@ front_cut trees lit rest cut h = go trees cut h.front
         front = (subst (λ (t : List ℕ). HasReading (45 ∷ t)) of.characters reads, ap chars (sym of.bytes) ∙ of.characters);
         token = h.token;
         read = h.read;
-        bytes = ap (λ (t : Token). t.text) e ∙ ap (λ b. 45 ∷ b) of.bytes ∙ sym (minus_bytes text);
-        characters = ap (λ (t : Token). chars t.text) e ∙ minus_chars x.text ∙ ap (λ t. 45 ∷ t) of.characters;
+        bytes = ap (λ (t : SpannedText). t.text) e ∙ ap (λ b. 45 ∷ b) of.bytes ∙ sym (minus_bytes text);
+        characters = ap (λ (t : SpannedText). chars t.text) e ∙ minus_chars x.text ∙ ap (λ t. 45 ∷ t) of.characters;
       },
       subst (λ (ts : List Tree). AllByRecursion IsCutTree ts) (sym f) cut,
     )
@@ -98,7 +102,7 @@ front_cut trees lit rest cut h = go trees cut h.front
     go (PunctTree m ∷ GroupTree d inside at ∷ trees) cut f = absurd f
     go (GroupTree d inside at ∷ trees) cut f = absurd f
 
-leads_cut : {A : Type 0} (trees : List Tree) (lits : List (Lit A)) → AllByRecursion IsCutTree trees → Leads trees lits [] → AllByRecursion IsCutLit lits
+leads_cut : {A : Type 0} (trees : List Tree) (lits : List (Lit A)) → AllByRecursion IsCutTree trees → ReadsLiterals trees lits [] → AllByRecursion IsCutLit lits
 leads_cut trees [] cut leads = tt
 leads_cut trees (l ∷ ls) cut (after, front, leads) =
     let (first, behind) = front_cut trees l after cut front in
@@ -109,7 +113,7 @@ entries_of : {A : Type 0} (spaced : List (Spaced A)) → AllByRecursion IsCutLit
 entries_of [] cuts = []
 entries_of (s ∷ ss) (c, cuts) = record { gap = s.gap; item = c.item } ∷ entries_of ss cuts
 
-items_cut : {A : Type 0} (spaced : List (Spaced A)) (cuts : AllByRecursion IsCutLit (lits_of spaced)) → AllByRecursion (λ (s : Spaced A). IsTrivia s.gap) spaced → AllByRecursion (λ (e : Entry). IsTrivia e.gap × IsCutItem e.item) (entries_of spaced cuts)
+items_cut : {A : Type 0} (spaced : List (Spaced A)) (cuts : AllByRecursion IsCutLit (lits_of spaced)) → AllByRecursion (λ (s : Spaced A). IsTrivia s.gap) spaced → AllByRecursion (λ (e : Entry). IsTrivia e.gap × IsLexedItem e.item) (entries_of spaced cuts)
 unfolding entries_of
 items_cut [] cuts gaps = tt
 items_cut (s ∷ ss) (c, cuts) (gap, gaps) = ((gap, c.is_cut), items_cut ss cuts gaps)
@@ -136,7 +140,7 @@ items_text (s ∷ ss) (c, cuts) last =
     ap (λ t. s.gap ++ (lit_text s.lit ++ t)) (items_text ss cuts last) ∙ ap (λ t. s.gap ++ (t ++ printed_text (entries_of ss cuts) last)) (lit_text_is c.token s.lit c.read ∙ c.characters)
 
 abbrev MovedLits : {A : Type 0} → (file at : ℕ) → List Entry → List (Lit A) → Type 0
-MovedLits {A} file at entries list = (lits : List (Lit A)) × AreReadAt file at entries lits × AreMoved list lits
+MovedLits {A} file at entries list = (lits : List (Lit A)) × AreReadAt file at entries lits × SameButSpans list lits
 
 items_moved : {A : Type 0} (file at : ℕ) (spaced : List (Spaced A)) (cuts : AllByRecursion IsCutLit (lits_of spaced)) → MovedLits file at (entries_of spaced cuts) (lits_of spaced)
 unfolding entries_of
@@ -148,7 +152,7 @@ items_moved file at (s ∷ ss) (c, cuts) =
     (lit ∷ lits, (read, are), ((token.span, there), moved))
 
 -- The answer to the texts of literals that were read once.
-pub again_read : {A B : Type 0} (text : List ℕ) (file : ℕ) (r : Result (Vec (Lit A) B) (Error A)) → ((list : List (Lit A)) → AreRead (chars text) file list → IsOrMemory list r) → (spaced : List (Spaced A)) (last : List ℕ) → Again (chars text) spaced last → HoldsOrMemory (AreMoved (lits_of spaced)) r
+pub again_read : {A B : Type 0} (text : List ℕ) (file : ℕ) (r : Result (Vec (Lit A) B) (Error A)) → ((list : List (Lit A)) → AreRead (chars text) file list → IsOrMemory list r) → (spaced : List (Spaced A)) (last : List ℕ) → IsReprint (chars text) spaced last → HoldsOrMemory (SameButSpans (lits_of spaced)) r
 again_read text file r exactly spaced last again =
     let read = again.are_read in
     let cuts = leads_cut read.trees (lits_of spaced) (lexed_trees (chars again.source) again.file read.trees (scalars-chars again.source again.is_text) read.lexes) read.leads in
@@ -160,7 +164,7 @@ again_read text file r exactly spaced last again =
       text = again.text ∙ items_text spaced cuts last;
     } in
     let (lits, are, moved) = items_moved file 0 spaced cuts in
-    holds_exactly (AreMoved (lits_of spaced)) lits r moved
+    holds_exactly (SameButSpans (lits_of spaced)) lits r moved
     (exactly lits (record {
       trees = printed_trees file 0 entries;
       lexes = reprinted_lexes (chars text) entries last file reprinted;
@@ -168,5 +172,5 @@ again_read text file r exactly spaced last again =
     }))
 
 -- A refusal, as the answer to them.
-pub again_refusal : {A : Type 0} (text : List ℕ) (file : ℕ) (e : Error A) → ((list : List (Lit A)) → AreRead (chars text) file list → e.kind ≡ Memory) → (spaced : List (Spaced A)) (last : List ℕ) → Again (chars text) spaced last → e.kind ≡ Memory
+pub again_refusal : {A : Type 0} (text : List ℕ) (file : ℕ) (e : Error A) → ((list : List (Lit A)) → AreRead (chars text) file list → e.kind ≡ Memory) → (spaced : List (Spaced A)) (last : List ℕ) → IsReprint (chars text) spaced last → e.kind ≡ Memory
 again_refusal {A} text file e = again_read {A = A} {B = A} text file (Err e)

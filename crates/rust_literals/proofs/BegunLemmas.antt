@@ -2,14 +2,14 @@
 use Rattle.std.proofs.Common.{arith, ◌≡◌, ◌<◌, ℕ, ◌+◌, suc, List, [], ◌∷◌, ◌++◌, length, get_or, drop, drop-cons, add-one, map, Option, Some, None, refl, sym, ◌∙◌, ap, subst}
 use Rattle.std.specs.Prelude.{IfSome, IfNone}
 use Rattle.std.specs.List.{AllByRecursion}
-use Rattle.rl_tokens.specs.Tokens.{Token}
+use Rattle.rl_tokens.specs.Texts.{SpannedText}
 use Rattle.rl_tokens.specs.Trees.{Tree, GroupTree, IdentTree, PunctTree, LiteralTree, FlatToken, flat_trees}
-use Rattle.rl_tokens.specs.Lexing.{flat_cut, Lexes}
-use Rattle.rl_tokens.specs.Fronts.{IsFront, HasNoFront}
+use Rattle.rl_tokens.specs.Lexing.{flat_token, Lexes}
+use Rattle.rl_grammar.specs.Fronts.{IsFront, HasNoFront}
 use Rattle.rl_tokens.proofs.CutLaws.{begins_cut}
 use Rattle.rl_grammar.proofs.FrontLemmas.{one_front}
 use Rattle.rust_literals.specs.declared.lit.Lit.{Lit}
-use Rattle.rust_literals.specs.Parsing.{Leads}
+use Rattle.rust_literals.specs.Parsing.{ReadsLiterals}
 use Rattle.rust_literals.specs.Flat.{IsNoGroup, AreBegun}
 
 -- trees that begin with tokens, seen flat, begin with their trees
@@ -34,23 +34,23 @@ front_trees (LiteralTree i ∷ front) (LiteralTree j ∷ trees) more (_, h) e =
 front_trees (tree ∷ front) trees more h e = absurd (cc)
 
 -- The trees of a text that begins with these literals go on behind theirs.
-pub goes_on : {A : Type 0} (text : List ℕ) (file : ℕ) (list : List (Lit A)) (trees : List Tree) → AreBegun text file list → Lexes text file trees → (behind : List Tree) × Leads trees list behind
+pub goes_on : {A : Type 0} (text : List ℕ) (file : ℕ) (list : List (Lit A)) (trees : List Tree) → AreBegun text file list → Lexes text file trees → (behind : List Tree) × ReadsLiterals trees list behind
 goes_on text file list trees begun lexes =
     let read = begun.read in
     let (more, same) = begins_cut 0 text read.cuts.cuts lexes.cuts begun.rest read.cuts.are_cuts lexes.are_cuts in
-    let flat : flat_trees trees ≡ flat_trees read.trees ++ map (flat_cut file) more =
-    sym lexes.flat_is ∙ same file ∙ ap (λ z. z ++ map (flat_cut file) more) read.cuts.flat_is in
-    let (behind, is) = front_trees read.trees trees (map (flat_cut file) more) read.cuts.no_groups flat in
-    (behind, subst (λ (ts : List Tree). Leads ts list behind) (sym is) (read.leads behind))
+    let flat : flat_trees trees ≡ flat_trees read.trees ++ map (flat_token file) more =
+    sym lexes.flat_is ∙ same file ∙ ap (λ z. z ++ map (flat_token file) more) read.cuts.flat_is in
+    let (behind, is) = front_trees read.trees trees (map (flat_token file) more) read.cuts.no_groups flat in
+    (behind, subst (λ (ts : List Tree). ReadsLiterals ts list behind) (sym is) (read.leads behind))
 
 -- One of the literals that lead on is passed.
-pub pass_one : {A : Type 0} {F : Type 0} (token_in : F → Token) (old new : List Tree) (literals : List (Lit A)) (i : ℕ) (rest : List Tree) (front : Option F) → i < length literals → IfSome front (λ f. IsFront old (token_in f) new) → IfNone front (HasNoFront old) → Leads old (drop i literals) rest → Leads new (drop (i + 1) literals) rest
+pub pass_one : {A : Type 0} {F : Type 0} (token_in : F → SpannedText) (old new : List Tree) (literals : List (Lit A)) (i : ℕ) (rest : List Tree) (front : Option F) → i < length literals → IfSome front (λ f. IsFront old (token_in f) new) → IfNone front (HasNoFront old) → ReadsLiterals old (drop i literals) rest → ReadsLiterals new (drop (i + 1) literals) rest
 pass_one token_in old new [] i rest front i_in some none leads = absurd (omega arith)
 pass_one {F = F} token_in old new (l ∷ ls) i rest front i_in some none leads =
     let next : drop i (l ∷ ls) ≡ get_or (l ∷ ls) i l ∷ drop (suc i) (l ∷ ls) = drop-cons (l ∷ ls) i l i_in in
-    rw add-one (go front some none (subst (λ xs. Leads old xs rest) next leads))
+    rw add-one (go front some none (subst (λ xs. ReadsLiterals old xs rest) next leads))
   where
-    go : (front : Option F) → IfSome front (λ f. IsFront old (token_in f) new) → IfNone front (HasNoFront old) → Leads old (get_or (l ∷ ls) i l ∷ drop (suc i) (l ∷ ls)) rest → Leads new (drop (suc i) (l ∷ ls)) rest
+    go : (front : Option F) → IfSome front (λ f. IsFront old (token_in f) new) → IfNone front (HasNoFront old) → ReadsLiterals old (get_or (l ∷ ls) i l ∷ drop (suc i) (l ∷ ls)) rest → ReadsLiterals new (drop (suc i) (l ∷ ls)) rest
     go None some none (after, is, more) = absurd (none is.token after is.front)
     go (Some f) some none (after, is, more) =
-        subst (λ (ts : List Tree). Leads ts (drop (suc i) (l ∷ ls)) rest) (one_front old is.token (token_in f) after new is.front some).1 more
+        subst (λ (ts : List Tree). ReadsLiterals ts (drop (suc i) (l ∷ ls)) rest) (one_front old is.token (token_in f) after new is.front some).1 more

@@ -8,23 +8,24 @@ use Rattle.std.specs.Option.{is_some}
 use Rattle.std.specs.Str.{chars}
 use Rattle.rl_tokens.specs.declared.span.Span.{Span}
 use Rattle.rl_tokens.specs.declared.cursor.Lexeme.{Lexeme as Lent}
-use Rattle.rl_tokens.specs.Lexemes.{Form, LiteralForm, IdentifierForm, MarkForm}
-use Rattle.rl_tokens.specs.LexemeAt.{form_view}
-use Rattle.rl_tokens.specs.Tokens.{Token}
+use Rattle.rl_tokens.specs.Lexemes.{LexemeForm, LiteralForm, IdentifierForm, MarkForm}
+use Rattle.rl_tokens.specs.Cursors.{form_view}
+use Rattle.rl_tokens.specs.Texts.{SpannedText}
 use Rattle.rl_tokens.specs.Puncts.{Mark}
 use Rattle.rl_tokens.specs.Reading.{truth_text}
 use Rattle.rl_tokens.specs.Trees.{Tree, IdentTree, PunctTree, LiteralTree, flat_trees}
-use Rattle.rl_tokens.specs.Lexing.{Cuts, behind_form, flat_form, flat_cut}
-use Rattle.rl_tokens.specs.Cursors.{Cutting, TakesNext}
-use Rattle.rl_tokens.specs.Fronts.{HasReading, joined, joined_span}
+use Rattle.rl_tokens.specs.Lexing.{LexesUpTo, behind_form, flat_form, flat_token}
+use Rattle.rl_tokens.specs.Cursors.{CursorState, TakesNext}
+use Rattle.rl_tokens.specs.Reading.{HasReading}
+use Rattle.rl_grammar.specs.Fronts.{joined, joined_span}
 use Rattle.rl_tokens.proofs.CutLemmas.{open_more}
 use Rattle.rl_tokens.proofs.CursorLemmas.{flat_lent}
 use Rattle.rl_tokens.proofs.NestLemmas.{flat_trees-append}
 use Rattle.rust_literals.specs.declared.lit.Lit.{Lit}
 use Rattle.rust_literals.specs.declared.lit.Lit.TheVariants.{Bool as BoolLit}
 use Rattle.rust_literals.specs.Literals.{IsReadFrom}
-use Rattle.rust_literals.specs.Parsing.{Leads, AreRead}
-use Rattle.rust_literals.specs.Flat.{IsNoGroup, CutsInto, ReadsNext, AddsNext, AreReadUpTo}
+use Rattle.rust_literals.specs.Parsing.{ReadsLiterals, AreRead}
+use Rattle.rust_literals.specs.Flat.{IsNoGroup, LexesTreesUpTo, ReadsNext, AddsNext, AreReadUpTo}
 use Rattle.rl_tokens.proofs.LexLaws.{one_list}
 use Rattle.rust_literals.proofs.LitLemmas.{read_truth}
 use Rattle.rust_literals.proofs.LeadsLemmas.{leads_step, one_list_of}
@@ -37,7 +38,7 @@ empty_text t h = nil_from_length t (let q : length t ≡ 0 = grind (arith, nat_t
 abbrev pub span_at : ℕ → Lent → Span
 span_at file l = record { file = file; lo = l.lo; hi = l.hi }
 
-abbrev token_at : ℕ → Lent → Token
+abbrev token_at : ℕ → Lent → SpannedText
 token_at file l = record { text = l.text.now; span = span_at file l }
 
 all_more : (P : Tree → Type 0) (trees : List Tree) (tree : Tree) → AllByRecursion P trees → P tree → AllByRecursion P (trees ++ tree ∷ [])
@@ -45,7 +46,7 @@ all_more P [] tree h p = (p, tt)
 all_more P (t ∷ trees) tree (q, h) p = (q, all_more P trees tree h p)
 
 -- one tree more, which is no group
-tree_more : (file : ℕ) (old new : Cutting) (l : Lent) (form : Form) (tree : Tree) (done : List Tree) → TakesNext old l new → form_view l.form ≡ form → behind_form [] form l.lo ≡ Some [] → flat_trees (tree ∷ []) ≡ flat_form form l.text.now (span_at file l) ∷ [] → IsNoGroup tree → CutsInto (chars old.text) file done (chars old.rest) → CutsInto (chars old.text) file (done ++ tree ∷ []) (chars new.rest)
+tree_more : (file : ℕ) (old new : CursorState) (l : Lent) (form : LexemeForm) (tree : Tree) (done : List Tree) → TakesNext old l new → form_view l.form ≡ form → behind_form [] form l.lo ≡ Some [] → flat_trees (tree ∷ []) ≡ flat_form form l.text.now (span_at file l) ∷ [] → IsNoGroup tree → LexesTreesUpTo (chars old.text) file done (chars old.rest) → LexesTreesUpTo (chars old.text) file (done ++ tree ∷ []) (chars new.rest)
 tree_more file old new l form tree done t form_is none flat_is no_group c =
     let w = t.cut in record {
       cuts = c.cuts ++ w ∷ [];
@@ -56,8 +57,8 @@ tree_more file old new l form tree done t form_is none flat_is no_group c =
           ∙ ap (λ n. behind_form [] form n) t.is_cut.lo_is
           ∙ none;
       flat_is =
-          map-append (flat_cut file) c.cuts (w ∷ [])
-          ∙ ap (λ z. z ++ flat_cut file w ∷ []) c.flat_is
+          map-append (flat_token file) c.cuts (w ∷ [])
+          ∙ ap (λ z. z ++ flat_token file w ∷ []) c.flat_is
           ∙ ap (λ z. flat_trees done ++ z ∷ []) (flat_lent file l w t.is_cut ∙ ap (λ f. flat_form f l.text.now (span_at file l)) form_is)
           ∙ ap (λ z. flat_trees done ++ z) (sym flat_is)
           ∙ sym (flat_trees-append done (tree ∷ []));
@@ -65,7 +66,7 @@ tree_more file old new l form tree done t form_is none flat_is no_group c =
     }
 
 -- a literal token
-pub literal_next : {A : Type 0} (file : ℕ) (old new : Cutting) (l : Lent) (lit : Lit A) → TakesNext old l new → form_view l.form ≡ LiteralForm → IsReadFrom (token_at file l) lit → ReadsNext file old lit new
+pub literal_next : {A : Type 0} (file : ℕ) (old new : CursorState) (l : Lent) (lit : Lit A) → TakesNext old l new → form_view l.form ≡ LiteralForm → IsReadFrom (token_at file l) lit → ReadsNext file old lit new
 literal_next file old new l lit t form_is read =
     let tree : Tree = LiteralTree (token_at file l) in record {
       trees = tree ∷ [];
@@ -75,7 +76,7 @@ literal_next file old new l lit t form_is read =
     }
 
 -- the word of a truth value
-pub truth_next : {A : Type 0} (file : ℕ) (old new : Cutting) (l : Lent) (lit : Lit A) (b : Bool) → TakesNext old l new → form_view l.form ≡ IdentifierForm → l.text.now ≡ truth_text b → lit ≡ BoolLit (record { value = b; span = span_at file l }) → ReadsNext file old lit new
+pub truth_next : {A : Type 0} (file : ℕ) (old new : CursorState) (l : Lent) (lit : Lit A) (b : Bool) → TakesNext old l new → form_view l.form ≡ IdentifierForm → l.text.now ≡ truth_text b → lit ≡ BoolLit (record { value = b; span = span_at file l }) → ReadsNext file old lit new
 truth_next {A} file old new l lit b t form_is word_is lit_is =
     let tree : Tree = IdentTree (token_at file l) in
     let word : Lit A = BoolLit (record { value = b; span = span_at file l }) in
@@ -87,13 +88,13 @@ truth_next {A} file old new l lit b t form_is word_is lit_is =
     }
 
 -- a minus and a literal token
-pub negative_next : {A : Type 0} (file : ℕ) (old between new : Cutting) (m l : Lent) (lit : Lit A) (span : Span) → TakesNext old m between → TakesNext between l new → form_view m.form ≡ MarkForm 45 → form_view l.form ≡ LiteralForm → span ≡ joined_span (span_at file m) (span_at file l) → HasReading (45 ∷ chars l.text.now) → IsReadFrom (record { text = 45 ∷ l.text.now; span = span }) lit → ReadsNext file old lit new
+pub negative_next : {A : Type 0} (file : ℕ) (old between new : CursorState) (m l : Lent) (lit : Lit A) (span : Span) → TakesNext old m between → TakesNext between l new → form_view m.form ≡ MarkForm 45 → form_view l.form ≡ LiteralForm → span ≡ joined_span (span_at file m) (span_at file l) → HasReading (45 ∷ chars l.text.now) → IsReadFrom (record { text = 45 ∷ l.text.now; span = span }) lit → ReadsNext file old lit new
 negative_next file old between new m l lit span t u m_is l_is span_is together read =
     let mark : Mark = record { ch = 45; span = span_at file m } in
     let minus : Tree = PunctTree mark in
     let number : Tree = LiteralTree (token_at file l) in
-    let Into : List ℕ → List Tree → Type 0 = λ text trees. CutsInto (chars text) file trees (chars new.rest) in
-    let From : List ℕ → List Tree → Type 0 = λ text trees. CutsInto (chars text) file trees (chars between.rest) in
+    let Into : List ℕ → List Tree → Type 0 = λ text trees. LexesTreesUpTo (chars text) file trees (chars new.rest) in
+    let From : List ℕ → List Tree → Type 0 = λ text trees. LexesTreesUpTo (chars text) file trees (chars between.rest) in
     record {
       trees = minus ∷ number ∷ [];
       cuts = λ done c.
@@ -120,12 +121,12 @@ joined_at file m l a b span p q e =
     let both : Span → Span → Span = λ x y. record { file = x.file; lo = min x.lo y.lo; hi = max x.hi y.hi } in
     e ∙ ap (λ x. both x b) p ∙ ap (λ y. both (span_at file m) y) q
 
-pub read_negative : {A : Type 0} (file : ℕ) (old between new : Cutting) (m l : Lent) (lit : Lit A) (span : Span) → TakesNext old m between → TakesNext between l new → form_view m.form ≡ MarkForm 45 → form_view l.form ≡ LiteralForm → span ≡ record { file = file; lo = min m.lo l.lo; hi = max m.hi l.hi } → HasReading (45 ∷ chars l.text.now) → IsReadFrom (record { text = 45 ∷ l.text.now; span = span }) lit → ReadsNext file old lit new
+pub read_negative : {A : Type 0} (file : ℕ) (old between new : CursorState) (m l : Lent) (lit : Lit A) (span : Span) → TakesNext old m between → TakesNext between l new → form_view m.form ≡ MarkForm 45 → form_view l.form ≡ LiteralForm → span ≡ record { file = file; lo = min m.lo l.lo; hi = max m.hi l.hi } → HasReading (45 ∷ chars l.text.now) → IsReadFrom (record { text = 45 ∷ l.text.now; span = span }) lit → ReadsNext file old lit new
 read_negative file old between new m l lit span t u m_is l_is span_is together read =
     negative_next file old between new m l lit span t u m_is l_is (same_file file m l span span_is) together read
 
 -- the list grows, or memory was refused
-pub adds : {A : Type 0} (file : ℕ) (old new : Cutting) (list longer : List (Lit A)) (lit : Lit A) (r : Option (Unit {0})) → ReadsNext file old lit new → OnSome r (longer ≡ list ++ lit ∷ []) → OnSome r (AddsNext file old list new longer)
+pub adds : {A : Type 0} (file : ℕ) (old new : CursorState) (list longer : List (Lit A)) (lit : Lit A) (r : Option (Unit {0})) → ReadsNext file old lit new → OnSome r (longer ≡ list ++ lit ∷ []) → OnSome r (AddsNext file old list new longer)
 adds file old new list longer lit None next put = tt
 adds file old new list longer lit (Some u) next put = record { lit = lit; next = next; longer_is = put }
 
@@ -138,7 +139,7 @@ when_none None e h = h
 when_none (Some u) e h = absurd (cc)
 
 -- nothing is read yet
-pub read_none : {A : Type 0} (text : List ℕ) (file : ℕ) (rest : List ℕ) → Cuts 0 text [] rest → AreReadUpTo {A = A} text file [] rest
+pub read_none : {A : Type 0} (text : List ℕ) (file : ℕ) (rest : List ℕ) → LexesUpTo 0 text [] rest → AreReadUpTo {A = A} text file [] rest
 read_none text file rest skips = record {
   trees = [];
   cuts = record { cuts = []; are_cuts = skips; none_open = refl; flat_is = refl; no_groups = tt };
@@ -146,18 +147,18 @@ read_none text file rest skips = record {
 }
 
 -- one literal more
-pub read_more : {A : Type 0} (text : List ℕ) (file : ℕ) (old new : Cutting) (list longer : List (Lit A)) → old.text ≡ text → AreReadUpTo (chars text) file list (chars old.rest) → AddsNext file old list new longer → AreReadUpTo (chars text) file longer (chars new.rest)
+pub read_more : {A : Type 0} (text : List ℕ) (file : ℕ) (old new : CursorState) (list longer : List (Lit A)) → old.text ≡ text → AreReadUpTo (chars text) file list (chars old.rest) → AddsNext file old list new longer → AreReadUpTo (chars text) file longer (chars new.rest)
 read_more text file old new list longer same read added =
     let lit = added.lit in
     let next = added.next in
-    let Goes : List ℕ → Type 0 = λ t. (done : List Tree) → CutsInto (chars t) file done (chars old.rest) → CutsInto (chars t) file (done ++ next.trees) (chars new.rest) in
+    let Goes : List ℕ → Type 0 = λ t. (done : List Tree) → LexesTreesUpTo (chars t) file done (chars old.rest) → LexesTreesUpTo (chars t) file (done ++ next.trees) (chars new.rest) in
     let goes : Goes text = subst Goes same next.cuts in
     subst (λ ls. AreReadUpTo (chars text) file ls (chars new.rest)) (sym added.longer_is)
     (record {
       trees = read.trees ++ next.trees;
       cuts = goes read.trees read.cuts;
       leads = λ behind.
-          subst (λ (ts : List Tree). Leads ts (list ++ lit ∷ []) behind) (sym (append_assoc read.trees next.trees behind))
+          subst (λ (ts : List Tree). ReadsLiterals ts (list ++ lit ∷ []) behind) (sym (append_assoc read.trees next.trees behind))
           (leads_step (read.trees ++ (next.trees ++ behind)) list (next.trees ++ behind) lit behind (read.leads (next.trees ++ behind)) (next.front behind));
     })
 
@@ -167,7 +168,7 @@ read_whole text file list rest ends read = record {
   trees = read.trees ++ [];
   lexes = record {
     cuts = read.cuts.cuts;
-    are_cuts = subst (λ (r : List ℕ). Cuts 0 text read.cuts.cuts r) ends read.cuts.are_cuts;
+    are_cuts = subst (λ (r : List ℕ). LexesUpTo 0 text read.cuts.cuts r) ends read.cuts.are_cuts;
     none_open = read.cuts.none_open;
     flat_is = read.cuts.flat_is ∙ ap flat_trees (sym (nil_behind read.trees));
   };
@@ -182,4 +183,4 @@ read_whole text file list rest ends read = record {
 pub one_read : {A : Type 0} (text : List ℕ) (file : ℕ) (found list : List (Lit A)) → AreRead text file found → AreRead text file list → found ≡ list
 one_read text file found list r q =
     let same : q.trees ≡ r.trees = one_list text file q.trees r.trees q.lexes r.lexes in
-    one_list_of r.trees found list r.leads (subst (λ (t : List Tree). Leads t list []) same q.leads)
+    one_list_of r.trees found list r.leads (subst (λ (t : List Tree). ReadsLiterals t list []) same q.leads)

@@ -14,7 +14,7 @@ use Rattle.rl_tokens.proofs.OneNumber.{int_once}
 use Rattle.rl_grammar.specs.declared.found.Found.{Found}
 use Rattle.rl_grammar.specs.Founds.{IsFound, IsFoundFloat, IsFoundNumber, body_in, suffix_in}
 use Rattle.rl_grammar.specs.NumberShapes.{AreDigits, IsNumber}
-use Rattle.rl_grammar.specs.WholeShapes.{IsCut, IsPlain}
+use Rattle.rl_grammar.specs.WholeShapes.{IsSplit, IsPlain}
 use Rattle.rl_grammar.proofs.NumberFoundLemmas.{number_integer, number_float, number_stands, plain_digits}
 use Rattle.rust_literals.specs.Held.{HasDigits, HasOwnSuffix, HoldsNumber}
 use Rattle.rust_literals.specs.Refusals.{IsNoNumber, IsRefusedAs}
@@ -86,7 +86,7 @@ holds_number kind text digits found utf8 h e d =
 
 -- a body is all that stands before the suffix
 body_cut : (kind : Kind) (text : List ℕ) (found : Found) → found.kind ≡ kind → IsOfKind kind text found → text ≡ body_in text found.body ++ suffix_in text found.body
-body_cut Int text found e h = subst (λ k. IsCut k text (body_in text found.body) (suffix_in text found.body)) e h.cut
+body_cut Int text found e h = subst (λ k. IsSplit k text (body_in text found.body) (suffix_in text found.body)) e h.cut
 body_cut Float text found e h = h.cut
 body_cut Str text found e h = absurd h
 body_cut ByteStr text found e h = absurd h

@@ -7,18 +7,20 @@ use Rattle.std.proofs.lemmas.Bool.Decides.{nat_tests}
 use Rattle.std.proofs.lemmas.Str.{chars-encodes}
 use Rattle.rl_tokens.specs.declared.span.Span.{Span}
 use Rattle.rl_tokens.specs.declared.kind.Kind.TheVariants.{Bool as BoolKind}
-use Rattle.rl_tokens.specs.Tokens.{Token}
+use Rattle.rl_tokens.specs.Texts.{SpannedText}
 use Rattle.rl_tokens.specs.Trees.{Tree}
 use Rattle.rl_tokens.specs.Reading.{ReadsAs, truth_text}
-use Rattle.rl_tokens.specs.Fronts.{joined_span, joined, HasReading, IsFront}
-use Rattle.rl_tokens.specs.Lexing.{byte_len}
-use Rattle.rl_tokens.specs.Printed.{Item, WordItem, LiteralItem, MinusItem, item_text, Entry, token_at, item_trees, printed_trees}
+use Rattle.rl_grammar.specs.Fronts.{joined_span, joined, IsFront}
+use Rattle.rl_tokens.specs.Reading.{HasReading}
+use Rattle.rl_tokens.specs.Texts.{byte_len}
+use Rattle.rl_tokens.specs.Printed.{Item, WordItem, LiteralItem, MinusItem, item_text, Entry, token_at}
+use Rattle.rl_tokens.specs.PrintedTrees.{item_trees, printed_trees}
 use Rattle.rl_tokens.proofs.CommentBytes.{low_front}
 use Rattle.rl_grammar.proofs.FrontLemmas.{truth_reads}
 use Rattle.rust_literals.proofs.LitLemmas.{SpellsWords}
 use Rattle.rust_literals.specs.declared.lit.Lit.{Lit}
 use Rattle.rust_literals.specs.Literals.{IsReadFrom}
-use Rattle.rust_literals.specs.Parsing.{Leads}
+use Rattle.rust_literals.specs.Parsing.{ReadsLiterals}
 
 -- the bytes of the words are their characters
 word_bytes : (b : Bool) → encode_utf8_all (truth_text b) ≡ truth_text b
@@ -57,8 +59,8 @@ joined_at file at n =
 
 pub minus_joined : (file at : ℕ) (text : List ℕ) → joined (record { ch = 45; span = record { file = file; lo = at; hi = at + 1 } }) (token_at file (at + 1) text) ≡ token_at file at (45 ∷ text)
 minus_joined file at text =
-    ap (λ s. let t : Token = record { text = 45 ∷ encode_utf8_all text; span = s } in t) (joined_at file at (byte_len text))
-    ∙ ap (λ bs. let t : Token = record { text = bs; span = record { file = file; lo = at; hi = at + length bs } } in t) (sym (minus_bytes text))
+    ap (λ s. let t : SpannedText = record { text = 45 ∷ encode_utf8_all text; span = s } in t) (joined_at file at (byte_len text))
+    ∙ ap (λ bs. let t : SpannedText = record { text = bs; span = record { file = file; lo = at; hi = at + length bs } } in t) (sym (minus_bytes text))
 
 item_front : (file at : ℕ) (item : Item) (rest : List Tree) → IsFrontItem item → IsFront (item_trees file at item ++ rest) (token_at file at (item_text item)) rest
 item_front file at (WordItem truth) rest is = (word_reads truth, refl, refl)
@@ -74,7 +76,7 @@ AreReadAt file at (e ∷ es) (l ∷ ls) =
     IsReadFrom (token_at file (at + byte_len e.gap) (item_text e.item)) l × AreReadAt file (at + byte_len e.gap + byte_len (item_text e.item)) es ls
 
 -- The trees of entries are these literals.
-pub items_lead : {A : Type 0} (file at : ℕ) (entries : List Entry) (lits : List (Lit A)) → AllByRecursion (λ e. IsFrontItem e.item) entries → AreReadAt file at entries lits → Leads (printed_trees file at entries) lits []
+pub items_lead : {A : Type 0} (file at : ℕ) (entries : List Entry) (lits : List (Lit A)) → AllByRecursion (λ e. IsFrontItem e.item) entries → AreReadAt file at entries lits → ReadsLiterals (printed_trees file at entries) lits []
 items_lead file at [] [] fronts are = refl
 items_lead file at [] (l ∷ ls) fronts are = absurd (cc)
 items_lead file at (e ∷ es) [] fronts are = absurd are

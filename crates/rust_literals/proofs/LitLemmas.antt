@@ -8,11 +8,11 @@ use Rattle.std.specs.Str.{chars, IsUtf8}
 use Rattle.rl_tokens.specs.declared.kind.Kind.{Kind}
 use Rattle.rl_tokens.specs.declared.kind.Kind.TheVariants.{Str as StrKind, ByteStr as ByteStrKind, CStr as CStrKind, Byte as ByteKind, Char as CharKind, Int as IntKind, Float as FloatKind, Bool as BoolKind}
 use Rattle.rl_tokens.specs.declared.span.Span.{Span}
-use Rattle.rl_tokens.specs.Tokens.{Token}
-use Rattle.rl_tokens.specs.Texts.{passes}
+use Rattle.rl_tokens.specs.Texts.{SpannedText}
+use Rattle.rl_tokens.specs.Texts.{first_passes}
 use Rattle.rl_tokens.specs.Trees.{LiteralTree}
 use Rattle.rl_tokens.specs.Reading.{Truth, Reads, ReadsAs, HasSuffix, truth_text}
-use Rattle.rl_tokens.specs.Fronts.{HasReading}
+use Rattle.rl_tokens.specs.Reading.{HasReading}
 use Rattle.rl_tokens.proofs.OneReading.{one_reading}
 use Rattle.rl_grammar.specs.declared.found.Found.{Found}
 use Rattle.rl_grammar.specs.Founds.{IsFound, suffix_in}
@@ -21,21 +21,22 @@ use Rattle.rl_grammar.proofs.ReadingLemmas.{truth_chars, truth_bytes}
 use Rattle.rl_grammar.proofs.FrontLemmas.{minus_chars}
 use Rattle.rust_literals.specs.declared.lit.Lit.{Lit}
 use Rattle.rust_literals.specs.declared.lit.Lit.TheVariants.{Str, ByteStr, CStr, Byte, Char, Int, Float, Bool, Verbatim}
-use Rattle.rust_literals.specs.Literals.{kind_of, token_of, IsReadAs, IsReadFrom, ReadsPlain}
+use Rattle.rust_literals.specs.Literals.{kind_of, token_of, IsReadAs, IsReadFrom}
+use Rattle.rust_literals.specs.LitParts.{ReadsPlain}
 use Rattle.rust_literals.specs.Copies.{tree_of}
 
 -- ---- a literal is told by its kind and token
 
 -- the truth value of a word
 is_true_word : List ℕ → Truths
-is_true_word text = passes (λ c. c == 116) text
+is_true_word text = first_passes (λ c. c == 116) text
 
 word_tells : (b : Truths) → b ≡ is_true_word (truth_text b)
 unfolding is_true_word
 word_tells true = refl
 word_tells false = refl
 
-lit_of : {A : Type 0} → Option Kind → Token → Lit A
+lit_of : {A : Type 0} → Option Kind → SpannedText → Lit A
 lit_of (Some StrKind) token = Str token
 lit_of (Some ByteStrKind) token = ByteStr token
 lit_of (Some CStrKind) token = CStr token
@@ -71,17 +72,17 @@ one_kind text (Some k) None (v, x, r) m = absurd (m k v x r)
 one_kind text (Some k) (Some l) (v, x, r) (w, y, s) = ap Some (one_reading text k l v w x y r s).0
 
 -- a token is one literal
-pub one_lit : {A : Type 0} (token : Token) (a b : Lit A) → IsReadFrom token a → IsReadFrom token b → a ≡ b
+pub one_lit : {A : Type 0} (token : SpannedText) (a b : Lit A) → IsReadFrom token a → IsReadFrom token b → a ≡ b
 one_lit token a b (e, h) (f, k) = same_lit a b (one_kind (chars token.text) (kind_of a) (kind_of b) h k) (e ∙ sym f)
 
 -- A word's characters are its bytes: of a text where that holds, there is a literal.
 abbrev pub SpellsWords : List ℕ → Type 0
 SpellsWords text = (b : Truths) → chars text ≡ truth_text b → text ≡ truth_text b
 
-abbrev pub ReadLit : Type 0 → Token → Option Kind → Type 0
+abbrev pub ReadLit : Type 0 → SpannedText → Option Kind → Type 0
 ReadLit A token kind = (lit : Lit A) × IsReadFrom token lit × (kind_of lit ≡ kind)
 
-pub read_lit : (A : Type 0) (token : Token) (kind : Option Kind) → SpellsWords token.text → IsReadAs kind (chars token.text) → ReadLit A token kind
+pub read_lit : (A : Type 0) (token : SpannedText) (kind : Option Kind) → SpellsWords token.text → IsReadAs kind (chars token.text) → ReadLit A token kind
 read_lit A token (Some StrKind) w r = (Str token, (refl, r), refl)
 read_lit A token (Some ByteStrKind) w r = (ByteStr token, (refl, r), refl)
 read_lit A token (Some CStrKind) w r = (CStr token, (refl, r), refl)
@@ -90,7 +91,7 @@ read_lit A token (Some CharKind) w r = (Char token, (refl, r), refl)
 read_lit A token (Some IntKind) w r = (Int token, (refl, r), refl)
 read_lit A token (Some FloatKind) w r = (Float token, (refl, r), refl)
 read_lit A token (Some BoolKind) w (v, x, r) =
-    let is : record { text = truth_text r.truth; span = token.span } ≡ token = ap (λ z. let t : Token = record { text = z; span = token.span } in t) (sym (w r.truth r.text_is)) in
+    let is : record { text = truth_text r.truth; span = token.span } ≡ token = ap (λ z. let t : SpannedText = record { text = z; span = token.span } in t) (sym (w r.truth r.text_is)) in
     (Bool (record { value = r.truth; span = token.span }), (is, (v, x, r)), refl)
 read_lit A token None w n = (Verbatim token, (refl, n), refl)
 
@@ -101,21 +102,21 @@ pub truth_reads : (t : List ℕ) (b : Truths) → t ≡ truth_text b → Reads (
 truth_reads t b e = record { truth = b; text_is = truth_chars t b e; suffix_is = refl; contents_is = refl }
 
 -- so it reads from a token
-pub read_truth : (token : Token) (b : Truths) (span : Span) → token.text ≡ truth_text b → span ≡ token.span → (record { text = truth_text b; span = span } ≡ token) × ReadsAs BoolKind (chars token.text)
+pub read_truth : (token : SpannedText) (b : Truths) (span : Span) → token.text ≡ truth_text b → span ≡ token.span → (record { text = truth_text b; span = span } ≡ token) × ReadsAs BoolKind (chars token.text)
 read_truth token b span e s =
-    let is : record { text = truth_text b; span = span } ≡ token = ap (λ z. let t : Token = record { text = z; span = span } in t) (sym e) ∙ ap (λ z. let t : Token = record { text = token.text; span = z } in t) s in
+    let is : record { text = truth_text b; span = span } ≡ token = ap (λ z. let t : SpannedText = record { text = z; span = span } in t) (sym e) ∙ ap (λ z. let t : SpannedText = record { text = token.text; span = z } in t) s in
     (is, (Truth b, [], truth_reads token.text b e))
 
 -- and this is what was read
-pub truth_read : (token : Token) (b : Truths) (span : Span) → (record { text = truth_text b; span = span } ≡ token) × ReadsAs BoolKind (chars token.text) → (span ≡ token.span) × Reads (chars token.text) BoolKind (Truth b) []
-truth_read token b span (is, r) = (ap (λ (t : Token). t.span) is, truth_reads token.text b (ap (λ (t : Token). t.text) (sym is)))
+pub truth_read : (token : SpannedText) (b : Truths) (span : Span) → (record { text = truth_text b; span = span } ≡ token) × ReadsAs BoolKind (chars token.text) → (span ≡ token.span) × Reads (chars token.text) BoolKind (Truth b) []
+truth_read token b span (is, r) = (ap (λ (t : SpannedText). t.span) is, truth_reads token.text b (ap (λ (t : SpannedText). t.text) (sym is)))
 
 -- the value of a text that is one of the words, by comparing it with the first
 word_value : (b : Truths) → pointwise ◌==◌ (truth_text b) (truth_text true) ≡ b
 word_value true = refl
 word_value false = refl
 
-pub read_word : (token : Token) (seen : List ℕ) (value : Truths) (span : Span) → IsUtf8 seen → seen ≡ token.text → ReadsAs BoolKind (chars token.text) → value ≡ pointwise ◌==◌ seen (truth_text true) → span ≡ token.span → (record { text = truth_text value; span = span } ≡ token) × ReadsAs BoolKind (chars token.text)
+pub read_word : (token : SpannedText) (seen : List ℕ) (value : Truths) (span : Span) → IsUtf8 seen → seen ≡ token.text → ReadsAs BoolKind (chars token.text) → value ≡ pointwise ◌==◌ seen (truth_text true) → span ≡ token.span → (record { text = truth_text value; span = span } ≡ token) × ReadsAs BoolKind (chars token.text)
 read_word token seen value span utf8 same (v, x, r) tested there =
     let word : seen ≡ truth_text r.truth = truth_bytes seen r.truth utf8 (ap chars same ∙ r.text_is) in
     let value_is : value ≡ r.truth = tested ∙ ap (λ z. pointwise ◌==◌ z (truth_text true)) word ∙ word_value r.truth in

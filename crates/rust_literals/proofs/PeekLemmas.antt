@@ -7,11 +7,11 @@ use Rattle.rl_tokens.specs.declared.kind.Kind.TheVariants.{Bool as BoolKind}
 use Rattle.rl_tokens.specs.declared.error.Error.{Error}
 use Rattle.rl_tokens.specs.declared.error.ErrorKind.{ErrorKind}
 use Rattle.rl_tokens.specs.declared.error.ErrorKind.TheVariants.{Memory}
-use Rattle.rl_tokens.specs.Tokens.{Token}
+use Rattle.rl_tokens.specs.Texts.{SpannedText}
 use Rattle.rl_tokens.specs.Trees.{Tree}
 use Rattle.rl_tokens.specs.Reading.{Truth}
 use Rattle.rl_tokens.specs.Buffers.{MissesWord}
-use Rattle.rl_tokens.specs.Fronts.{HasFront, HasFrontOf, RunsAs}
+use Rattle.rl_grammar.specs.Fronts.{HasFront, HasFrontOf, RunsAs}
 use Rattle.rl_grammar.proofs.FrontLemmas.{front_of}
 use Rattle.rust_literals.specs.declared.lit.Lit.{Lit}
 use Rattle.rust_literals.specs.declared.lit_bool.LitBool.{LitBool}
@@ -31,7 +31,7 @@ typed_wants : {A : Type 0} (kind : Kind) (word : List ℕ) (trees : List Tree) (
 typed_wants kind word trees scope e rest (inl m) is = m.0
 typed_wants kind word trees scope e rest (inr p) is = absurd (word_is_not_memory trees word e.kind p.refusal.kind is)
 
-typed_finds : {A : Type 0} (kind : Kind) (word : List ℕ) (trees : List Tree) (scope : Span) (answer : Result Token (Error A)) (rest : List Tree) → RunsAs kind word trees scope answer rest → HasFrontOf kind trees → SucceedsOrMemory answer
+typed_finds : {A : Type 0} (kind : Kind) (word : List ℕ) (trees : List Tree) (scope : Span) (answer : Result SpannedText (Error A)) (rest : List Tree) → RunsAs kind word trees scope answer rest → HasFrontOf kind trees → SucceedsOrMemory answer
 typed_finds kind word trees scope (Ok token) rest runs has = tt
 typed_finds kind word trees scope (Err e) rest (inl m) has = ap (λ x. x.kind) m.1.error
 typed_finds kind word trees scope (Err e) rest (inr p) has = absurd (p.none has)

@@ -10,8 +10,10 @@ use Rattle.rl_tokens.specs.declared.error.Error.{Error}
 use Rattle.rl_tokens.specs.declared.error.ErrorKind.TheVariants.{Memory}
 use Rattle.rl_tokens.specs.Trivia.{IsTrivia}
 use Rattle.rl_tokens.specs.Reading.{ReadsAs, truth_text}
-use Rattle.rl_tokens.specs.Lexing.{byte_len}
-use Rattle.rl_tokens.specs.Printed.{Item, WordItem, LiteralItem, MinusItem, item_text, Entry, printed_text, token_at, printed_trees, IsRead, IsStrictItem, Printed}
+use Rattle.rl_tokens.specs.Texts.{byte_len}
+use Rattle.rl_tokens.specs.Printed.{Item, WordItem, LiteralItem, MinusItem, item_text, Entry, printed_text, token_at, IsStrictItem, Printed}
+use Rattle.rl_tokens.specs.PrintedTrees.{printed_trees}
+use Rattle.rl_tokens.specs.Reading.{HasReading}
 use Rattle.rl_tokens.proofs.CutTrees.{scalars_parts}
 use Rattle.rl_tokens.proofs.PrintedLaws.{printed_lexes}
 use Rattle.rl_grammar.proofs.FrontLemmas.{truth_reads}
@@ -22,7 +24,7 @@ use Rattle.rust_literals.proofs.LitLemmas.{read_lit}
 use Rattle.rust_literals.proofs.ItemFronts.{IsFrontItem, AreReadAt, items_lead, spells_words}
 
 -- A strict item reads, behind a minus too.
-item_reads : (item : Item) → IsStrictItem item → IsRead (item_text item)
+item_reads : (item : Item) → IsStrictItem item → HasReading (item_text item)
 item_reads (WordItem truth) is = (BoolKind, truth_reads (truth_text truth) truth refl)
 item_reads (LiteralItem text) (kind, other, strict, reads) = reads
 item_reads (MinusItem text) (kind, number, strict, reads) = reads

@@ -10,7 +10,7 @@ use Rattle.rl_tokens.specs.Errors.{lex_refusal}
 use Rattle.rl_tokens.specs.Trees.{Tree}
 use Rattle.rl_tokens.specs.Lexing.{Lexes, Refuses, NeverBoth}
 use Rattle.rust_literals.specs.declared.lit.Lit.{Lit}
-use Rattle.rust_literals.specs.Parsing.{RunsLit, Leads, Stops, RunsShort, AreRead, RefusesText, IsOrMemory}
+use Rattle.rust_literals.specs.Parsing.{RunsLit, ReadsLiterals, RefusesNextLiteral, LacksMemory, AreRead, RefusesText, IsOrMemory}
 use Rattle.rl_tokens.proofs.LexLaws.{one_list, never_both}
 use Rattle.rust_literals.proofs.LeadsLemmas.{never_stops}
 use Rattle.rust_literals.proofs.FlatLemmas.{one_read}
@@ -32,26 +32,26 @@ lex_memory text file trees TooDeep at e never lexes is r = absurd (never text fi
 lex_memory text file trees Memory at e never lexes is r = ap (λ x. x.kind) is
 
 -- The parser's refusal, behind a list that led here.
-pub refused_next : {A : Type 0} (all trees rest : List Tree) (scope : Span) (list : List (Lit A)) (e : Error A) → Leads all list trees → trees ≢ [] → RunsLit trees scope (Err e) rest → Stops all scope e ⊎ RunsShort all scope e
+pub refused_next : {A : Type 0} (all trees rest : List Tree) (scope : Span) (list : List (Lit A)) (e : Error A) → ReadsLiterals all list trees → trees ≢ [] → RunsLit trees scope (Err e) rest → RefusesNextLiteral all scope e ⊎ LacksMemory all scope e
 refused_next all trees rest scope list e leads some (inl (front, wants)) = inr (record { list = list; rest = trees; leads = leads; memory = inl (front, wants.error) })
 refused_next all trees rest scope list e leads some (inr none) = inl (record { list = list; rest = trees; leads = leads; some = some; none = none.none; refusal = none.refusal })
 
 -- what the trees are read as, behind literals that were let go, the text is
-pub text_read : {A B : Type 0} (text : List ℕ) (file : ℕ) (trees : List Tree) (gone : List (Lit A)) (r : Result (Vec (Lit A) B) (Error A)) → Lexes text file trees → IfOk r (λ l. Leads trees (gone ++ l.items) []) → IfOk r (λ l. AreRead text file (gone ++ l.items))
+pub text_read : {A B : Type 0} (text : List ℕ) (file : ℕ) (trees : List Tree) (gone : List (Lit A)) (r : Result (Vec (Lit A) B) (Error A)) → Lexes text file trees → IfOk r (λ l. ReadsLiterals trees (gone ++ l.items) []) → IfOk r (λ l. AreRead text file (gone ++ l.items))
 text_read text file trees gone (Ok l) lexes h = record { trees = trees; lexes = lexes; leads = h }
 text_read text file trees gone (Err x) lexes h = tt
 
 -- what is refused of the trees, is refused of the text
-pub text_refused : {A B : Type 0} (text : List ℕ) (file end : ℕ) (trees : List Tree) (scope : Span) (r : Result (Vec (Lit A) B) (Error A)) → Lexes text file trees → scope ≡ at_span file end → IfErr r (λ e. Stops trees scope e ⊎ RunsShort trees scope e) → IfErr r (RefusesText text file end)
+pub text_refused : {A B : Type 0} (text : List ℕ) (file end : ℕ) (trees : List Tree) (scope : Span) (r : Result (Vec (Lit A) B) (Error A)) → Lexes text file trees → scope ≡ at_span file end → IfErr r (λ e. RefusesNextLiteral trees scope e ⊎ LacksMemory trees scope e) → IfErr r (RefusesText text file end)
 text_refused text file end trees scope (Ok l) lexes s h = tt
 text_refused text file end trees scope (Err x) lexes s h =
     inr (record {
       trees = trees;
       lexes = lexes;
-      refused = subst (λ (k : Span). Stops trees k x ⊎ RunsShort trees k x) s h;
+      refused = subst (λ (k : Span). RefusesNextLiteral trees k x ⊎ LacksMemory trees k x) s h;
     })
 
-short_memory : {A : Type 0} (trees : List Tree) (scope : Span) (e : Error A) → RunsShort trees scope e → e.kind ≡ MemoryError
+short_memory : {A : Type 0} (trees : List Tree) (scope : Span) (e : Error A) → LacksMemory trees scope e → e.kind ≡ MemoryError
 short_memory trees scope e h = elim h.memory [ inl m ↦ ap (λ x. x.kind) m.1 | inr m ↦ ap (λ x. x.kind) m ]
 
 -- a text that reads as a list is read as this list, or memory was refused
@@ -59,9 +59,9 @@ pub text_exactly : {A B : Type 0} (text : List ℕ) (file end : ℕ) (r : Result
 text_exactly text file end (Ok l) read refused list a = one_read text file l.items list read a
 text_exactly text file end (Err x) read (inl uncut) list a = lex_memory text file a.trees uncut.kind uncut.at x never_both a.lexes uncut.error uncut.refused
 text_exactly {A = A} text file end (Err x) read (inr trees) list a =
-    let leads : Leads trees.trees list [] = subst (λ (t : List Tree). Leads t list []) (one_list text file a.trees trees.trees a.lexes trees.lexes) a.leads in
+    let leads : ReadsLiterals trees.trees list [] = subst (λ (t : List Tree). ReadsLiterals t list []) (one_list text file a.trees trees.trees a.lexes trees.lexes) a.leads in
     go trees.refused leads
   where
-    go : Stops trees.trees (at_span file end) x ⊎ RunsShort trees.trees (at_span file end) x → Leads trees.trees list [] → x.kind ≡ MemoryError
+    go : RefusesNextLiteral trees.trees (at_span file end) x ⊎ LacksMemory trees.trees (at_span file end) x → ReadsLiterals trees.trees list [] → x.kind ≡ MemoryError
     go (inl s) leads = absurd (never_stops trees.trees list s.list s.rest leads s.leads s.some s.none)
     go (inr s) leads = short_memory trees.trees (at_span file end) x s

@@ -26,7 +26,7 @@ IsInWords words Memory = ⊤
 IsInWords words _ = ⊥
 
 -- The fault is told at a span.
-pub record IsTold {A : Type 0} (words : Option (List ℕ)) (span : Span) (e : Error A) : Type 0 where
+pub record IsReported {A : Type 0} (words : Option (List ℕ)) (span : Span) (e : Error A) : Type 0 where
   pub span_is : e.span ≡ span
   pub kind_is : IsInWords words e.kind
 
@@ -36,4 +36,4 @@ pub record IsRefusedBy {N E A : Type 0} (gives : List ℕ → Result N E → Typ
   pub are : AreOf digits
   pub fault : E
   pub refused : gives digits (Err fault)
-  pub told : IsTold (output fault) span e
+  pub told : IsReported (output fault) span e

@@ -5,7 +5,7 @@ use Rattle.std.specs.Cmp.{IsEquivalence, and_equiv, on_equiv, nat_eq_equiv}
 use Rattle.std.specs.Cmp.Lexicographic.{pointwise, nat_list_eq_equiv}
 use Rattle.rl_tokens.specs.declared.kind.Kind.{Kind}
 use Rattle.rl_tokens.specs.declared.kind.Kind.TheVariants.{Str, ByteStr, CStr, Byte, Char, Int, Float, Bool as BoolKind}
-use Rattle.rl_tokens.specs.Tokens.{Token}
+use Rattle.rl_tokens.specs.Texts.{SpannedText}
 use Rattle.rl_tokens.specs.Trees.{Tree, IdentTree, LiteralTree}
 use Rattle.rl_tokens.specs.Words.{kind_name}
 use Rattle.rust_literals.specs.declared.lit.Lit.{Lit}
@@ -17,19 +17,19 @@ pub record IsCopyOf {A B : Type 0} (lit : Lit A) (copy : Lit B) : Type 0 where
   pub token : token_of copy ≡ token_of lit
 
 -- a kind's place among the kinds; none comes last
-abbrev pub place_of : Option Kind → ℕ
-place_of (Some Str) = 0
-place_of (Some ByteStr) = 1
-place_of (Some CStr) = 2
-place_of (Some Byte) = 3
-place_of (Some Char) = 4
-place_of (Some Int) = 5
-place_of (Some Float) = 6
-place_of (Some BoolKind) = 7
-place_of None = 8
+abbrev pub kind_rank : Option Kind → ℕ
+kind_rank (Some Str) = 0
+kind_rank (Some ByteStr) = 1
+kind_rank (Some CStr) = 2
+kind_rank (Some Byte) = 3
+kind_rank (Some Char) = 4
+kind_rank (Some Int) = 5
+kind_rank (Some Float) = 6
+kind_rank (Some BoolKind) = 7
+kind_rank None = 8
 
 abbrev pub variant_of : {A : Type 0} → Lit A → ℕ
-variant_of lit = place_of (kind_of lit)
+variant_of lit = kind_rank (kind_of lit)
 
 -- its text; of a truth value the word
 abbrev pub text_of : {A : Type 0} → Lit A → List ℕ
@@ -44,7 +44,7 @@ pub is_equal_equiv : {A : Type 0} → IsEquivalence (is_equal {A = A})
 is_equal_equiv {A} = and_equiv (on_equiv variant_of nat_eq_equiv) (on_equiv text_of nat_list_eq_equiv)
 
 -- a token as a tree: of a truth value a word, else a literal
-abbrev pub tree_as : Option Kind → Token → Tree
+abbrev pub tree_as : Option Kind → SpannedText → Tree
 tree_as (Some BoolKind) token = IdentTree token
 tree_as _ token = LiteralTree token
 

@@ -3,10 +3,10 @@ use Rattle.std.specs.Prelude.{◌≡◌, ℕ, List, [], ◌∷◌, ◌++◌, len
 use Rattle.std.specs.List.{AllByRecursion}
 use Rattle.std.specs.Str.{chars}
 use Rattle.rl_tokens.specs.Trees.{Tree, GroupTree, flat_trees}
-use Rattle.rl_tokens.specs.Lexing.{Cut, Cuts, open_groups, flat_cut}
-use Rattle.rl_tokens.specs.Cursors.{Cutting}
+use Rattle.rl_tokens.specs.Lexing.{LexedToken, LexesUpTo, open_groups, flat_token}
+use Rattle.rl_tokens.specs.Cursors.{CursorState}
 use Rattle.rust_literals.specs.declared.lit.Lit.{Lit}
-use Rattle.rust_literals.specs.Parsing.{IsLitFront, Leads}
+use Rattle.rust_literals.specs.Parsing.{IsLitFront, ReadsLiterals}
 
 -- the tree is one token
 abbrev pub IsNoGroup : Tree → Type 0
@@ -14,22 +14,22 @@ IsNoGroup (GroupTree delimiter inside span) = ⊥
 IsNoGroup _ = ⊤
 
 -- The text is cut into these trees up to the rest, where no group is open; none of them is a group.
-pub record CutsInto (text : List ℕ) (file : ℕ) (trees : List Tree) (rest : List ℕ) : Type 0 where
-  pub cuts : List Cut
-  pub are_cuts : Cuts 0 text cuts rest
+pub record LexesTreesUpTo (text : List ℕ) (file : ℕ) (trees : List Tree) (rest : List ℕ) : Type 0 where
+  pub cuts : List LexedToken
+  pub are_cuts : LexesUpTo 0 text cuts rest
   pub none_open : open_groups [] cuts ≡ Some []
-  pub flat_is : map (flat_cut file) cuts ≡ flat_trees trees
+  pub flat_is : map (flat_token file) cuts ≡ flat_trees trees
   pub no_groups : AllByRecursion IsNoGroup trees
 
 -- The trees that are cut off make the literal, whatever stands behind them.
-pub record ReadsNext {A : Type 0} (file : ℕ) (old : Cutting) (lit : Lit A) (new : Cutting) : Type 0 where
+pub record ReadsNext {A : Type 0} (file : ℕ) (old : CursorState) (lit : Lit A) (new : CursorState) : Type 0 where
   pub trees : List Tree
-  pub cuts : (done : List Tree) → CutsInto (chars old.text) file done (chars old.rest) → CutsInto (chars old.text) file (done ++ trees) (chars new.rest)
+  pub cuts : (done : List Tree) → LexesTreesUpTo (chars old.text) file done (chars old.rest) → LexesTreesUpTo (chars old.text) file (done ++ trees) (chars new.rest)
   pub front : (behind : List Tree) → IsLitFront (trees ++ behind) lit behind
   pub same : new.text ≡ old.text
 
 -- The list grows by the literal that is cut off.
-pub record AddsNext {A : Type 0} (file : ℕ) (old : Cutting) (list : List (Lit A)) (new : Cutting) (longer : List (Lit A)) : Type 0 where
+pub record AddsNext {A : Type 0} (file : ℕ) (old : CursorState) (list : List (Lit A)) (new : CursorState) (longer : List (Lit A)) : Type 0 where
   pub lit : Lit A
   pub next : ReadsNext file old lit new
   pub longer_is : longer ≡ list ++ lit ∷ []
@@ -37,8 +37,8 @@ pub record AddsNext {A : Type 0} (file : ℕ) (old : Cutting) (list : List (Lit 
 -- The text up to the rest is these literals, whatever trees stand behind.
 pub record AreReadUpTo {A : Type 0} (text : List ℕ) (file : ℕ) (list : List (Lit A)) (rest : List ℕ) : Type 0 where
   pub trees : List Tree
-  pub cuts : CutsInto text file trees rest
-  pub leads : (behind : List Tree) → Leads (trees ++ behind) list behind
+  pub cuts : LexesTreesUpTo text file trees rest
+  pub leads : (behind : List Tree) → ReadsLiterals (trees ++ behind) list behind
 
 -- The text begins with these literals.
 pub record AreBegun {A : Type 0} (text : List ℕ) (file : ℕ) (list : List (Lit A)) : Type 0 where

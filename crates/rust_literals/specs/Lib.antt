@@ -7,3 +7,5 @@ pub mod Copies
 pub mod ReadBack
 pub mod Peeking
 pub mod Flat
+pub mod LitParts
+pub mod Reprints

@@ -6,26 +6,26 @@ use Rattle.rl_tokens.specs.declared.kind.Kind.TheVariants.{Bool as BoolKind}
 use Rattle.rl_tokens.specs.declared.error.Error.{Error}
 use Rattle.rl_tokens.specs.declared.error.ErrorKind.TheVariants.{Memory}
 use Rattle.rl_tokens.specs.Errors.{memory_at, nowhere}
-use Rattle.rl_tokens.specs.Tokens.{Token}
+use Rattle.rl_tokens.specs.Texts.{SpannedText}
 use Rattle.rl_tokens.specs.Trees.{Tree}
 use Rattle.rl_tokens.specs.Reading.{Reads, Truth}
 use Rattle.rl_tokens.specs.Lexing.{Lexes}
 use Rattle.rl_tokens.specs.Buffers.{first_span, IsRefusal}
-use Rattle.rl_tokens.specs.Fronts.{IsFront, HasFront, HasNoFront, PassesOther, WantsMemory}
-use Rattle.rl_tokens.specs.Whole.{IsUncutText}
+use Rattle.rl_grammar.specs.Fronts.{IsFront, HasFront, HasNoFront, PassesOther, LacksMemoryAtFront}
+use Rattle.rl_tokens.specs.Whole.{RefusesLexing}
 use Rattle.rust_literals.specs.declared.lit.Lit.{Lit}
 use Rattle.rust_literals.specs.declared.lit_bool.LitBool.{LitBool}
 use Rattle.rust_literals.specs.Literals.{IsReadFrom}
 
 -- The literal begins the trees: it is the one reading of the token there, or `Verbatim`.
 pub record IsLitFront {A : Type 0} (trees : List Tree) (lit : Lit A) (rest : List Tree) : Type 0 where
-  pub token : Token
+  pub token : SpannedText
   pub front : IsFront trees token rest
   pub read : IsReadFrom token lit
 
 -- The truth value begins the trees.
 pub record IsTruthFront (trees : List Tree) (literal : LitBool) (rest : List Tree) : Type 0 where
-  pub token : Token
+  pub token : SpannedText
   pub front : IsFront trees token rest
   pub reads : Reads (chars token.text) BoolKind (Truth literal.value) []
   pub span : literal.span ≡ token.span
@@ -39,7 +39,7 @@ pub record FindsNone {A : Type 0} (trees : List Tree) (scope : Span) (e : Error 
 -- what the parser of literals of any kind does
 abbrev pub RunsLit : {A : Type 0} → List Tree → Span → Result (Lit A) (Error A) → List Tree → Type 0
 RunsLit trees scope (Ok lit) rest = IsLitFront trees lit rest
-RunsLit trees scope (Err e) rest = (HasFront trees × WantsMemory trees scope e rest) ⊎ FindsNone trees scope e rest
+RunsLit trees scope (Err e) rest = (HasFront trees × LacksMemoryAtFront trees scope e rest) ⊎ FindsNone trees scope e rest
 
 -- what the parser of truth values does
 abbrev pub RunsTruth : {A : Type 0} → List Tree → Span → Result LitBool (Error A) → List Tree → Type 0
@@ -47,41 +47,41 @@ RunsTruth trees scope (Ok literal) rest = IsTruthFront trees literal rest
 RunsTruth trees scope (Err e) rest = PassesOther BoolKind (codes "boolean literal") trees scope e rest
 
 -- These literals begin the trees one after another, and the rest stands behind them.
-abbrev pub Leads : {A : Type 0} → List Tree → List (Lit A) → List Tree → Type 0
-Leads trees [] rest = trees ≡ rest
-Leads trees (l ∷ ls) rest = (after : List Tree) × IsLitFront trees l after × Leads after ls rest
+abbrev pub ReadsLiterals : {A : Type 0} → List Tree → List (Lit A) → List Tree → Type 0
+ReadsLiterals trees [] rest = trees ≡ rest
+ReadsLiterals trees (l ∷ ls) rest = (after : List Tree) × IsLitFront trees l after × ReadsLiterals after ls rest
 
 -- Literals lead to trees that no literal begins: these are refused.
-pub record Stops {A : Type 0} (trees : List Tree) (scope : Span) (e : Error A) : Type 0 where
+pub record RefusesNextLiteral {A : Type 0} (trees : List Tree) (scope : Span) (e : Error A) : Type 0 where
   pub list : List (Lit A)
   pub rest : List Tree
-  pub leads : Leads trees list rest
+  pub leads : ReadsLiterals trees list rest
   pub some : rest ≢ []
   pub none : HasNoFront rest
   pub refusal : IsRefusal rest scope (codes "literal") e
 
 -- Literals lead to one for which memory was refused, or to one that found no place in the list.
-pub record RunsShort {A : Type 0} (trees : List Tree) (scope : Span) (e : Error A) : Type 0 where
+pub record LacksMemory {A : Type 0} (trees : List Tree) (scope : Span) (e : Error A) : Type 0 where
   pub list : List (Lit A)
   pub rest : List Tree
-  pub leads : Leads trees list rest
+  pub leads : ReadsLiterals trees list rest
   pub memory : (HasFront rest × (e ≡ memory_at (first_span rest scope))) ⊎ (e ≡ memory_at nowhere)
 
 -- The text is cut into the trees of these literals, with nothing left.
 pub record AreRead {A : Type 0} (text : List ℕ) (file : ℕ) (list : List (Lit A)) : Type 0 where
   pub trees : List Tree
   pub lexes : Lexes text file trees
-  pub leads : Leads trees list []
+  pub leads : ReadsLiterals trees list []
 
 -- The text is cut into trees, and this is refused of them.
-pub record RefusesTrees {A : Type 0} (text : List ℕ) (file end : ℕ) (e : Error A) : Type 0 where
+pub record RefusesLiteralTrees {A : Type 0} (text : List ℕ) (file end : ℕ) (e : Error A) : Type 0 where
   pub trees : List Tree
   pub lexes : Lexes text file trees
-  pub refused : Stops trees (record { file = file; lo = end; hi = end }) e ⊎ RunsShort trees (record { file = file; lo = end; hi = end }) e
+  pub refused : RefusesNextLiteral trees (record { file = file; lo = end; hi = end }) e ⊎ LacksMemory trees (record { file = file; lo = end; hi = end }) e
 
 -- what `read_all` refuses of a text of this length
 abbrev pub RefusesText : {A : Type 0} → List ℕ → ℕ → ℕ → Error A → Type 0
-RefusesText text file end e = IsUncutText text file e ⊎ RefusesTrees text file end e
+RefusesText text file end e = RefusesLexing text file e ⊎ RefusesLiteralTrees text file end e
 
 -- the answer is this list, or memory was refused
 abbrev pub IsOrMemory : {A B : Type 0} → List (Lit A) → Result (Vec (Lit A) B) (Error A) → Type 0

@@ -5,7 +5,8 @@ use Rattle.rl_tokens.specs.declared.error.ErrorKind.TheVariants.{NotInteger, Too
 use Rattle.rl_tokens.specs.declared.kind.Kind.{Kind}
 use Rattle.rl_tokens.specs.declared.kind.Kind.TheVariants.{Int, Float}
 use Rattle.rl_tokens.specs.Reading.{HasNoInteger}
-use Rattle.rl_grammar.specs.NumberShapes.{IsPast, IsNumber, HasNoFloat}
+use Rattle.rl_tokens.specs.Reading.{IsPast, HasNoFloat}
+use Rattle.rl_grammar.specs.NumberShapes.{IsNumber}
 
 -- why the text is no number of the kind: no integer stands there, or one past 128 bits does; no float stands there
 abbrev pub IsNoNumber : {A : Type 0} → Kind → List ℕ → ErrorKind A → Type 0

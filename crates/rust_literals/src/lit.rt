@@ -3,7 +3,7 @@ ghost use Rattle.std.specs.Str.{chars};
 ghost use Rattle.rl_tokens.specs.Errors.{memory_at};
 ghost use Rattle.rl_tokens.specs.Reading.{HasSuffix};
 ghost use Rattle.rl_grammar.specs.Founds.{IsFound};
-ghost use Rattle.rl_grammar.specs.NumberShapes.{HasNoReading};
+ghost use Rattle.rl_tokens.specs.Reading.{HasNoReading};
 ghost use Rattle.rust_literals.specs.Held.{HasOwnSuffix};
 
 mod copies;
@@ -85,13 +85,8 @@ impl<'a> View<'a> {
 }
 
 impl<A: Allocator> Lit<A> {
-    ghost use Rattle.rust_literals.specs.Literals.{
-      IsReadFrom,
-      ReadsAsNumber,
-      ReadsPlain,
-      KeepsStrict,
-      KeepsStrictBehindMinus,
-    };
+    ghost use Rattle.rust_literals.specs.Literals.{IsReadFrom};
+ghost use Rattle.rust_literals.specs.LitParts.{ReadsAsNumber, ReadsPlain, KeepsStrict, KeepsStrictBehindMinus};
     ghost use Rattle.rl_grammar.specs.StrictBytes.{KeepsBytesStrict};
 
     /// The literal that the token's text reads as; `Verbatim` exactly where it has no reading. The token stays as it is,
@@ -153,13 +148,8 @@ impl<A: Allocator> Lit<A> {
 }
 
 impl<A: Allocator> Lit<A> {
-    ghost use Rattle.rust_literals.specs.Literals.{
-      HasLitSuffix,
-      IsMovedTo,
-      kind_of,
-      span_of,
-      token_of,
-    };
+    ghost use Rattle.rust_literals.specs.LitParts.{HasLitSuffix, IsSameAt, lit_span};
+ghost use Rattle.rust_literals.specs.Literals.{kind_of, token_of};
 
     /// The literal's parts, whatever its variant.
     #[inline(always)]
@@ -167,7 +157,7 @@ impl<A: Allocator> Lit<A> {
         ensures kind { result.kind ≡ kind_of self.now }
         ensures text { result.text.now ≡ (token_of self.now).text }
         ensures suffix { HasLitSuffix self.now (chars result.suffix.now) }
-        ensures span { result.span ≡ span_of self.now }
+        ensures span { result.span ≡ lit_span self.now }
     {
         match self {
             Lit::Str(literal) => View::of_quoted(literal),
@@ -215,14 +205,14 @@ impl<A: Allocator> Lit<A> {
 
     /// Where the literal stands.
     pub fn span(&self) -> Span
-        ensures { result ≡ span_of self.now }
+        ensures { result ≡ lit_span self.now }
     {
         self.view().span
     }
 
     /// Puts the literal elsewhere.
     pub fn set_span(&mut self, span: Span)
-        ensures { IsMovedTo self.old span self.new }
+        ensures { IsSameAt self.old span self.new }
     {
         match self {
             Lit::Str(literal) => literal.set_span(span),
@@ -267,7 +257,7 @@ impl<A: Allocator + Copy> Parse<A> for Lit<A> {
 /// True exactly where the parser succeeds, if memory is found.
 impl<A: Allocator> Token for Lit<A> {
     ghost use Rattle.std.specs.Prelude.{codes};
-    ghost use Rattle.rl_tokens.specs.Fronts.{HasFront};
+    ghost use Rattle.rl_grammar.specs.Fronts.{HasFront};
 
     ghost peeks = { HasFront };
 

@@ -89,7 +89,7 @@ impl<A: Allocator> Parse<A> for LitBool {
 impl Token for LitBool {
     ghost use Rattle.std.specs.Prelude.{codes};
     ghost use Rattle.rl_tokens.specs.declared.kind.Kind.TheVariants.{Bool as BoolKind};
-    ghost use Rattle.rl_tokens.specs.Fronts.{HasFrontOf};
+    ghost use Rattle.rl_grammar.specs.Fronts.{HasFrontOf};
 
     ghost peeks = { HasFrontOf BoolKind };
 

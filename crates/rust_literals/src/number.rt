@@ -69,10 +69,10 @@ pub struct Number<K: NumberKind, A: Allocator = Global> {
 /// The token's text is a number of the kind.
 impl<K: NumberKind, A: Allocator> Model for Number<K, A> {
     ghost use Rattle.std.specs.Prelude.{string_bytes, option_map};
-    ghost use Rattle.rl_tokens.specs.Tokens.{Token};
+    ghost use Rattle.rl_tokens.specs.Texts.{SpannedText};
     ghost use Rattle.rust_literals.specs.Held.{HoldsNumber, digits_in};
 
-    ghost Value = { Token };
+    ghost Value = { SpannedText };
 
     ghost view = { λ l. l.token };
 
@@ -229,7 +229,7 @@ impl<K: NumberKind, A: Allocator> fmt::Display for Number<K, A> {
 
 /// Takes the number of the kind that stands next. It is refused as [`take_kind`] says.
 impl<K: NumberKind, A: Allocator + Copy> Parse<A> for Number<K, A> {
-    ghost use Rattle.rl_tokens.specs.Fronts.{RunsAs};
+    ghost use Rattle.rl_grammar.specs.Fronts.{RunsAs};
     ghost use Rattle.rl_tokens.specs.Words.{kind_word};
 
     ghost runs = { RunsAs K.KIND (kind_word K.KIND) };
@@ -252,7 +252,7 @@ impl<K: NumberKind, A: Allocator + Copy> Parse<A> for Number<K, A> {
 
 /// True exactly where the parser succeeds, if memory is found.
 impl<K: NumberKind, A: Allocator> Token for Number<K, A> {
-    ghost use Rattle.rl_tokens.specs.Fronts.{HasFrontOf};
+    ghost use Rattle.rl_grammar.specs.Fronts.{HasFrontOf};
     ghost use Rattle.rl_tokens.specs.Words.{kind_shown};
 
     ghost peeks = { HasFrontOf K.KIND };

@@ -7,9 +7,10 @@ ghost use Rattle.rl_tokens.specs.Buffers.{trees_in, scope_of};
 ghost use Rattle.rl_tokens.specs.Trees.{Tree};
 ghost use Rattle.rl_tokens.specs.Printed.{Entry, Printed};
 ghost use Rattle.rust_literals.specs.declared.lit.Lit.{Lit};
-ghost use Rattle.rust_literals.specs.Parsing.{Leads, Stops, RunsShort, AreRead, RefusesText, IsOrMemory};
+ghost use Rattle.rust_literals.specs.Parsing.{ReadsLiterals, RefusesNextLiteral, LacksMemory, AreRead, RefusesText, IsOrMemory};
 ghost use Rattle.rust_literals.specs.Flat.{AreFirst};
-ghost use Rattle.rust_literals.specs.ReadBack.{HoldsOrMemory, AreItems, Spaced, lits_of, Again, AreMoved};
+ghost use Rattle.rust_literals.specs.ReadBack.{HoldsOrMemory, AreItems};
+ghost use Rattle.rust_literals.specs.Reprints.{Spaced, lits_of, IsReprint, SameButSpans};
 
 use crate::flat::read_flat;
 use crate::lit::Lit;
@@ -20,7 +21,7 @@ use std::alloc::{Allocator, Global};
 /// Passes the trees of so many literals.
 fn pass<A: Allocator>(input: &mut ParseBuffer<'_, A>, count: usize)
     ensures passed { (passed : List (Lit A)) (rest : List Tree) → length passed ≡ count
-        → Leads (trees_in input.old) passed rest → trees_in input.new ≡ rest }
+        → ReadsLiterals (trees_in input.old) passed rest → trees_in input.new ≡ rest }
     ensures scope { scope_of input.new ≡ scope_of input.old }
 {
     for _ in 0..count {
@@ -35,10 +36,10 @@ fn read_on<A: Allocator + Copy>(
     mut list: Vec<Lit<A>, A>,
 ) -> Result<Vec<Lit<A>, A>, Error<A>>
     // Whatever trees the list led through to these, behind literals that were let go.
-    ensures read { (all : List Tree) (gone : List (Lit A)) → Leads all (gone ++ list.items) (trees_in input.old)
-        → IfOk result (λ found. Leads all (gone ++ found.items) []) }
-    ensures refused { (all : List Tree) (gone : List (Lit A)) → Leads all (gone ++ list.items) (trees_in input.old)
-        → IfErr result (λ e. Stops all (scope_of input.old) e ⊎ RunsShort all (scope_of input.old) e) }
+    ensures read { (all : List Tree) (gone : List (Lit A)) → ReadsLiterals all (gone ++ list.items) (trees_in input.old)
+        → IfOk result (λ found. ReadsLiterals all (gone ++ found.items) []) }
+    ensures refused { (all : List Tree) (gone : List (Lit A)) → ReadsLiterals all (gone ++ list.items) (trees_in input.old)
+        → IfErr result (λ e. RefusesNextLiteral all (scope_of input.old) e ⊎ LacksMemory all (scope_of input.old) e) }
 {
     while !input.is_empty() {
         let literal = input.parse::<Lit<A>>(alloc)?;
@@ -126,8 +127,8 @@ pub fn read_all<A: Allocator + Copy>(
     ensures printed { (entries : List Entry) (last : List ℕ) → Printed (chars text.now) entries last
         → HoldsOrMemory (AreItems file 0 entries) result }
     // The texts of literals that were read once, strict or not, read as the same, whatever trivia stands between them.
-    ensures again { (spaced : List (Spaced A)) (last : List ℕ) → Again (chars text.now) spaced last
-        → HoldsOrMemory (AreMoved (lits_of spaced)) result }
+    ensures again { (spaced : List (Spaced A)) (last : List ℕ) → IsReprint (chars text.now) spaced last
+        → HoldsOrMemory (SameButSpans (lits_of spaced)) result }
 {
     match read_flat(alloc, text, file) {
         Ok(literals) => Ok(literals),

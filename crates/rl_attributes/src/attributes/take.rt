@@ -9,17 +9,17 @@ ghost use Rattle.rl_attributes.specs.Attributes.{
   HasNewName,
   AreAttributesOf,
   RefusesAttributes,
-  RefusesText,
+  RefusesAttributeText,
 };
-ghost use Rattle.rl_attributes.specs.Entries.{attribute_of, attributes_of, IsRead};
+ghost use Rattle.rl_attributes.specs.Entries.{attribute_of, attributes_of, IsReadEntry};
 ghost use Rattle.rl_attributes.specs.AttributeParsing.{entries_of, AreEntries, RunsAttrs, IsListOrMemory};
 ghost use Rattle.rl_attributes.specs.AttributeSteps.{
   has_name,
   AddsName,
   IsNext,
-  WantsMemory,
-  Stops,
-  told_at,
+  LacksMemoryInStep,
+  RefusesStep,
+  reported_at,
 };
 
 use super::{Attrs, Entry};
@@ -41,7 +41,7 @@ fn take_name<'a, A: Allocator + Copy>(
         HasNewName (has_name names.old) (trees_in input.old) name.now (trees_in input.new)) }
     ensures adds { IfOk result (λ name. AddsName names.old names.new name.now.text) }
     ensures refused { IfErr result
-        (Stops (has_name names.old) (trees_in input.old) (scope_of input.old)) }
+        (RefusesStep (has_name names.old) (trees_in input.old) (scope_of input.old)) }
     ensures onward { StaysRest (trees_in input.old) (trees_in input.new) }
     ensures scope { scope_of input.new ≡ scope_of input.old }
 {
@@ -64,10 +64,10 @@ fn take_entry<'a, A: Allocator + Copy>(
     ensures taken { IfOk result
         (λ entry. IsAttribute (trees_in input.old) (attribute_of entry) (trees_in input.new)) }
     ensures anew { IfOk result (λ entry. IsFalse (has_name names.old (string_bytes entry.name))) }
-    ensures read { IfOk result IsRead }
+    ensures read { IfOk result IsReadEntry }
     ensures adds { IfOk result (λ entry. AddsName names.old names.new (string_bytes entry.name)) }
     ensures refused { IfErr result
-        (Stops (has_name names.old) (trees_in input.old) (scope_of input.old)) }
+        (RefusesStep (has_name names.old) (trees_in input.old) (scope_of input.old)) }
     ensures onward { StaysRest (trees_in input.old) (trees_in input.new) }
     ensures scope { scope_of input.new ≡ scope_of input.old }
 {
@@ -91,10 +91,10 @@ fn take_next<'a, A: Allocator + Copy>(
     ensures taken { IfOk result
         (λ entry. IsNext (trees_in input.old) (attribute_of entry) (trees_in input.new)) }
     ensures anew { IfOk result (λ entry. IsFalse (has_name names.old (string_bytes entry.name))) }
-    ensures read { IfOk result IsRead }
+    ensures read { IfOk result IsReadEntry }
     ensures adds { IfOk result (λ entry. AddsName names.old names.new (string_bytes entry.name)) }
     ensures refused { IfErr result
-        (Stops (has_name names.old) (trees_in input.old) (scope_of input.old)) }
+        (RefusesStep (has_name names.old) (trees_in input.old) (scope_of input.old)) }
     ensures onward { StaysRest (trees_in input.old) (trees_in input.new) }
     ensures scope { scope_of input.new ≡ scope_of input.old }
 {
@@ -113,7 +113,7 @@ fn take_all<A: Allocator + Copy>(
 ) -> Result<Attrs<A>, Error<A>>
     ensures taken { IfOk result (λ attrs. AreEntries (trees_in input.old) (entries_of attrs)) }
     ensures ended { OnOk result (trees_in input.new ≡ []) }
-    ensures refused { IfErr result (λ e. WantsMemory (trees_in input.old) e
+    ensures refused { IfErr result (λ e. LacksMemoryInStep (trees_in input.old) e
         ⊎ RefusesAttributes (trees_in input.old) (scope_of input.old) e) }
     ensures rest { IsRest (trees_in input.old) (trees_in input.new) }
     ensures scope { scope_of input.new ≡ scope_of input.old }
@@ -132,7 +132,7 @@ fn take_all<A: Allocator + Copy>(
 
 /// The refusal, but want of memory at this place.
 fn told_at<A: Allocator>(error: Error<A>, place: Span) -> Error<A>
-    ensures { result ≡ told_at error place }
+    ensures { result ≡ reported_at error place }
 {
     match error.kind {
         ErrorKind::Memory => Error::memory(place),
@@ -173,10 +173,10 @@ pub fn read<A: Allocator + Copy>(alloc: A, text: &str, file: u32) -> Result<Attr
     ensures attributes { IfOk result
         (λ attrs. AreAttributesOf (chars text.now) file (attributes_of (entries_of attrs))) }
     // Each value is what its literal reads as.
-    ensures values { IfOk result (λ attrs. All IsRead (entries_of attrs)) }
+    ensures values { IfOk result (λ attrs. All IsReadEntry (entries_of attrs)) }
     // Else the text's first fault; or, of its trees, what is missed first, or a name that stood before; or memory was
     // refused.
-    ensures refused { IfErr result (RefusesText (chars text.now) file (length text.now)) }
+    ensures refused { IfErr result (RefusesAttributeText (chars text.now) file (length text.now)) }
     // What attributes a text is, these are the answer, or memory was refused.
     ensures exactly { (list : List Attribute) → AreAttributesOf (chars text.now) file list
         → IsListOrMemory list result }

@@ -2,9 +2,9 @@
 
 ghost use Rattle.std.specs.Prelude.{◌≡◌, ◌≤◌};
 ghost use Rattle.std.specs.Str.{chars};
-ghost use Rattle.rl_tokens.specs.Texts.{passes};
-ghost use Rattle.rl_grammar.specs.NumberAt.{after_power_sign};
-ghost use Rattle.rl_grammar.specs.StrictAt.{ends_digits, ends_dot, ends_power, ends_whole, is_based, is_decimal, is_power_letter, is_strict_number};
+ghost use Rattle.rl_tokens.specs.Texts.{first_passes};
+ghost use Rattle.rl_grammar.specs.Mirrors.NumberAt.{after_power_sign};
+ghost use Rattle.rl_grammar.specs.Mirrors.StrictAt.{ends_digits, ends_dot, ends_power, ends_whole, is_based, is_decimal, is_power_letter, is_strict_number};
 
 use crate::integers::split_radix;
 use crate::rows::{begins_digit, read_row, skip_row};
@@ -22,7 +22,7 @@ fn after_sign(text: &str) -> &str
 }
 
 /// Whether the text behind the letter of an exponent ends a float.
-#[tactic(auto, unfolding(crate::specs::StrictAt::ends_power))]
+#[tactic(auto, unfolding(crate::specs::Mirrors::StrictAt::ends_power))]
 fn ends_power(text: &str) -> bool
     ensures { result ≡ ends_power (chars text.now) }
 {
@@ -31,7 +31,7 @@ fn ends_power(text: &str) -> bool
 }
 
 /// Whether the text behind digits ends a number.
-#[tactic(auto, unfolding(crate::specs::StrictAt::ends_digits))]
+#[tactic(auto, unfolding(crate::specs::Mirrors::StrictAt::ends_digits))]
 fn ends_digits(text: &str) -> bool
     ensures { result ≡ ends_digits (chars text.now) }
 {
@@ -42,7 +42,7 @@ fn ends_digits(text: &str) -> bool
 }
 
 /// Whether the text behind a dot ends a float.
-#[tactic(auto, unfolding(crate::specs::StrictAt::ends_dot))]
+#[tactic(auto, unfolding(crate::specs::Mirrors::StrictAt::ends_dot))]
 fn ends_dot(text: &str) -> bool
     ensures { result ≡ ends_dot (chars text.now) }
 {
@@ -53,7 +53,7 @@ fn ends_dot(text: &str) -> bool
 }
 
 /// Whether the text is a number of base ten.
-#[tactic(auto, unfolding(crate::specs::StrictAt::is_decimal))]
+#[tactic(auto, unfolding(crate::specs::Mirrors::StrictAt::is_decimal))]
 fn is_decimal(text: &str) -> bool
     ensures { result ≡ is_decimal (chars text.now) }
 {
@@ -72,7 +72,7 @@ fn ends_whole(text: &str) -> bool
 }
 
 /// Whether the text behind the prefix of a base is an integer.
-#[tactic(auto, unfolding(crate::specs::StrictAt::is_based))]
+#[tactic(auto, unfolding(crate::specs::Mirrors::StrictAt::is_based))]
 fn is_based(text: &str, radix: u32) -> bool
     requires { (2 ≤ radix) × (radix ≤ 16) }
     ensures { result ≡ is_based radix (chars text.now) }
@@ -83,13 +83,13 @@ fn is_based(text: &str, radix: u32) -> bool
 
 /// Whether the text begins as an exponent does.
 fn begins_power(text: &str) -> bool
-    ensures { result ≡ passes is_power_letter (chars text.now) }
+    ensures { result ≡ first_passes is_power_letter (chars text.now) }
 {
     matches!(split_char(text), Some(('e' | 'E', _)))
 }
 
 /// Whether the text is a number: an integer of any size, or a float.
-#[tactic(auto, unfolding(crate::specs::StrictAt::is_strict_number))]
+#[tactic(auto, unfolding(crate::specs::Mirrors::StrictAt::is_strict_number))]
 pub(crate) fn is_number(text: &str) -> bool
     ensures { result ≡ is_strict_number (chars text.now) }
 {

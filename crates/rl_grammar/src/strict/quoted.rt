@@ -6,7 +6,7 @@ ghost use Rattle.std.specs.Str.{chars};
 ghost use Rattle.rl_tokens.specs.Texts.{begins};
 ghost use Rattle.rl_tokens.specs.Quoted.{is_single, is_string};
 ghost use Rattle.rl_tokens.specs.Strict.{Itself, is_strict_unit};
-ghost use Rattle.rl_grammar.specs.StrictAt.{ends_quoted, ends_raw, is_inside, is_raw_character, unit_rest};
+ghost use Rattle.rl_grammar.specs.Mirrors.StrictAt.{ends_quoted, ends_raw, is_inside, is_raw_character, unit_rest};
 ghost use Rattle.rl_grammar.specs.StrictShapes.{ClosesRaw, ClosesUnits};
 
 use crate::ascii::split_ascii_run;
@@ -121,7 +121,7 @@ fn skip_inside(kind: Kind, text: &str) -> &str
 }
 
 /// Whether the contents of a raw string, the first quote with its hashes behind it, and a suffix follow.
-#[tactic(auto, unfolding(crate::specs::StrictAt::ends_raw))]
+#[tactic(auto, unfolding(crate::specs::Mirrors::StrictAt::ends_raw))]
 fn ends_raw(kind: Kind, hashes: &str, text: &str) -> bool
     ensures { result ≡ ends_raw kind (chars hashes.now) (chars text.now) }
 {

@@ -3,7 +3,7 @@
 ghost use Rattle.std.specs.Prelude.{◌≡◌, ◌<◌, ◌∷◌, IfSome, length, option_map};
 ghost use Rattle.std.specs.Str.{chars};
 ghost use Rattle.rl_tokens.specs.Strict.{Itself, is_strict_unit};
-ghost use Rattle.rl_grammar.specs.StrictAt.{escape_rest, unit_rest};
+ghost use Rattle.rl_grammar.specs.Mirrors.StrictAt.{escape_rest, unit_rest};
 
 use crate::classes::{Class, skip};
 use crate::units::{is_bare_character, is_plain, unit};
@@ -46,7 +46,7 @@ fn skip_escape<'t>(kind: Kind, text: &'t str, behind: &'t str) -> Option<&'t str
 }
 
 /// The text behind the unit at the front: `None` where no unit of the kind stands there.
-#[tactic(auto, unfolding(crate::specs::StrictAt::unit_rest))]
+#[tactic(auto, unfolding(crate::specs::Mirrors::StrictAt::unit_rest))]
 pub(crate) fn skip_unit(kind: Kind, text: &str) -> Option<&str>
     ensures value { option_map (λ r. chars r.now) result ≡ unit_rest kind (chars text.now) }
     ensures shorter { IfSome result (λ r. length r.now < length text.now) }

@@ -4,7 +4,7 @@ ghost use Rattle.std.specs.Prelude.{◌≡◌};
 ghost use Rattle.std.specs.List.{list_all};
 ghost use Rattle.std.specs.Str.{chars};
 ghost use Rattle.rl_tokens.specs.Texts.{is_continue};
-ghost use Rattle.rl_grammar.specs.StrictAt.{is_number_suffix, is_some_text, is_strict_suffix};
+ghost use Rattle.rl_grammar.specs.Mirrors.StrictAt.{is_number_suffix, is_some_text, is_strict_suffix};
 
 use rl_tokens::characters::{is_continue, is_start};
 use rl_tokens::text::split_char;
@@ -24,7 +24,7 @@ pub(crate) fn is_some_text(text: &str) -> bool
 }
 
 /// Whether the text may be the suffix of a quoted literal: nothing, or a word.
-#[tactic(auto, unfolding(crate::specs::StrictAt::is_strict_suffix))]
+#[tactic(auto, unfolding(crate::specs::Mirrors::StrictAt::is_strict_suffix))]
 pub(crate) fn is_suffix(text: &str) -> bool
     ensures { result ≡ is_strict_suffix (chars text.now) }
 {

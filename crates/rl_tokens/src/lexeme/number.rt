@@ -4,11 +4,11 @@
 ghost use Rattle.std.specs.Prelude.{◌≡◌, ◌<◌, ◌==◌, ◌||◌, not, length, IsTrue, IfSome, IfNone};
 ghost use Rattle.std.specs.Char.{is_ascii_digit};
 ghost use Rattle.std.specs.Str.{chars};
-ghost use Rattle.rl_tokens.specs.Texts.{is_start, passes, IsBehind};
+ghost use Rattle.rl_tokens.specs.Texts.{is_start, first_passes, IsTail};
 ghost use Rattle.rl_tokens.specs.Lexemes.{after_run, after_sign, begins_dot};
-ghost use Rattle.rl_tokens.specs.LexemeAt.{after_fraction, after_exponent, after_decimal};
+ghost use Rattle.rl_tokens.specs.Mirrors.LexemeAt.{after_lexed_fraction, after_lexed_exponent, after_decimal};
 
-use super::rows::{Row, after_row, after_suffix};
+use super::rows::{RunClass, after_row, after_suffix};
 use crate::characters::is_start;
 use crate::front::without_first;
 use crate::text::{split_ascii, split_char};
@@ -17,16 +17,16 @@ use crate::text::{split_ascii, split_char};
 #[inline(never)]
 pub(crate) fn after_decimal(text: &str) -> &str
     ensures rest { chars result.now ≡ after_decimal (chars text.now) }
-    ensures behind { IsBehind text.now result.now }
+    ensures behind { IsTail text.now result.now }
 {
-    after_suffix(after_exponent(after_fraction(after_row(Row::Numeral, text))))
+    after_suffix(after_exponent(after_fraction(after_row(RunClass::Numeral, text))))
 }
 
 /// What follows the longest row of digits, perhaps an empty one.
 #[inline(always)]
 pub(crate) fn after_digits(text: &str) -> &str
     ensures rest { chars result.now ≡ after_run is_ascii_digit (chars text.now) }
-    ensures behind { IsBehind text.now result.now }
+    ensures behind { IsTail text.now result.now }
 {
     let mut rest = text;
     while let Some(behind) = without_digit(rest) {
@@ -41,7 +41,7 @@ pub(crate) fn after_digits(text: &str) -> &str
 fn without_digit(text: &str) -> Option<&str>
     ensures some { IfSome result (λ rest. after_run is_ascii_digit (chars text.now) ≡ after_run is_ascii_digit (chars rest.now)) }
     ensures none { IfNone result (after_run is_ascii_digit (chars text.now) ≡ chars text.now) }
-    ensures behind { IfSome result (λ rest. IsBehind text.now rest.now) }
+    ensures behind { IfSome result (λ rest. IsTail text.now rest.now) }
     ensures shorter { IfSome result (λ rest. length rest.now < length text.now) }
 {
     match split_ascii(text) {
@@ -53,7 +53,7 @@ fn without_digit(text: &str) -> Option<&str>
 /// Whether the text begins with a character of ASCII that goes on with no number.
 #[inline(always)]
 pub(crate) fn ends_number(text: &str) -> bool
-    ensures { IsTrue result → IsTrue (passes (λ c. not (c == 46 || is_start c)) (chars text.now)) }
+    ensures { IsTrue result → IsTrue (first_passes (λ c. not (c == 46 || is_start c)) (chars text.now)) }
 {
     match split_ascii(text) {
         Some((byte, _)) => !(byte == b'.' || is_start(byte as char)),
@@ -63,11 +63,11 @@ pub(crate) fn ends_number(text: &str) -> bool
 
 // What follows the dot part, where there is one.
 fn after_fraction(text: &str) -> &str
-    ensures rest { chars result.now ≡ after_fraction (chars text.now) }
-    ensures behind { IsBehind text.now result.now }
+    ensures rest { chars result.now ≡ after_lexed_fraction (chars text.now) }
+    ensures behind { IsTail text.now result.now }
 {
     if begins_dot(text) {
-        after_row(Row::Numeral, without_first(text))
+        after_row(RunClass::Numeral, without_first(text))
     } else {
         text
     }
@@ -88,14 +88,14 @@ fn begins_dot(text: &str) -> bool
 
 // What follows the exponent, where there is one.
 fn after_exponent(text: &str) -> &str
-    ensures rest { chars result.now ≡ after_exponent (chars text.now) }
-    ensures behind { IsBehind text.now result.now }
+    ensures rest { chars result.now ≡ after_lexed_exponent (chars text.now) }
+    ensures behind { IsTail text.now result.now }
 {
     if let Some(('e' | 'E', behind)) = split_char(text) {
         let digits = after_sign(behind);
-        if let Some((d, _)) = split_char(after_row(Row::Underscores, digits)) {
+        if let Some((d, _)) = split_char(after_row(RunClass::Underscores, digits)) {
             if d.is_ascii_digit() {
-                return after_row(Row::Numeral, digits);
+                return after_row(RunClass::Numeral, digits);
             }
         }
     }
@@ -105,7 +105,7 @@ fn after_exponent(text: &str) -> &str
 // What follows the sign, where there is one.
 fn after_sign(text: &str) -> &str
     ensures rest { chars result.now ≡ after_sign (chars text.now) }
-    ensures behind { IsBehind text.now result.now }
+    ensures behind { IsTail text.now result.now }
 {
     match split_char(text) {
         Some(('+' | '-', behind)) => behind,

@@ -3,17 +3,9 @@
 
 ghost use Rattle.std.specs.Prelude.{◌≡◌, option_map, IfSome};
 ghost use Rattle.std.specs.Str.{chars};
-ghost use Rattle.rl_tokens.specs.Texts.{IsBehind};
+ghost use Rattle.rl_tokens.specs.Texts.{IsTail};
 ghost use Rattle.rl_tokens.specs.Lexemes.{begins_hashed_quote};
-ghost use Rattle.rl_tokens.specs.LexemeAt.{
-  after_quote,
-  after_raw,
-  after_apostrophe,
-  after_single,
-  quoted_at,
-  raw_at,
-  single_at,
-};
+ghost use Rattle.rl_tokens.specs.Mirrors.LexemeAt.{after_quote, after_raw, after_apostrophe, after_single, quoted_at, raw_at, single_at};
 
 use super::rows::{after_suffix, split_hashes, strip_hashes};
 use crate::front::{begins_with, without_first};
@@ -23,7 +15,7 @@ use crate::text::split_char;
 /// What follows the literal behind whose opening `"` the text stands.
 pub(crate) fn after_quoted(text: &str) -> Option<&str>
     ensures rest { option_map (λ rest. chars rest.now) result ≡ quoted_at (chars text.now) }
-    ensures behind { IfSome result (λ rest. IsBehind text.now rest.now) }
+    ensures behind { IfSome result (λ rest. IsTail text.now rest.now) }
 {
     let rest = after_quote(text)?;
     Some(after_suffix(rest))
@@ -32,7 +24,7 @@ pub(crate) fn after_quoted(text: &str) -> Option<&str>
 /// What follows the character literal behind whose opening `'` the text stands.
 pub(crate) fn after_character(text: &str) -> Option<&str>
     ensures rest { option_map (λ rest. chars rest.now) result ≡ single_at (chars text.now) }
-    ensures behind { IfSome result (λ rest. IsBehind text.now rest.now) }
+    ensures behind { IfSome result (λ rest. IsTail text.now rest.now) }
 {
     let rest = after_single(text)?;
     Some(after_suffix(rest))
@@ -41,7 +33,7 @@ pub(crate) fn after_character(text: &str) -> Option<&str>
 /// What follows the raw literal behind whose `r` the text stands.
 pub(crate) fn after_raw_literal(text: &str) -> Option<&str>
     ensures rest { option_map (λ rest. chars rest.now) result ≡ raw_at (chars text.now) }
-    ensures behind { IfSome result (λ rest. IsBehind text.now rest.now) }
+    ensures behind { IfSome result (λ rest. IsTail text.now rest.now) }
 {
     let (count, opener) = split_hashes(text);
     let rest = after_raw(count, without_first(opener))?;
@@ -60,7 +52,7 @@ pub(crate) fn begins_hashed_quote(text: &str) -> bool
 #[inline(never)]
 fn after_quote(text: &str) -> Option<&str>
     ensures rest { option_map (λ rest. chars rest.now) result ≡ after_quote (chars text.now) }
-    ensures behind { IfSome result (λ rest. IsBehind text.now rest.now) }
+    ensures behind { IfSome result (λ rest. IsTail text.now rest.now) }
 {
     let mut rest = text;
     while let Some((mark, behind)) = next_mark(Marks::two(b'"', b'\\'), rest) {
@@ -77,7 +69,7 @@ fn after_quote(text: &str) -> Option<&str>
 #[inline(never)]
 fn after_raw(count: usize, text: &str) -> Option<&str>
     ensures rest { option_map (λ rest. chars rest.now) result ≡ after_raw count (chars text.now) }
-    ensures behind { IfSome result (λ rest. IsBehind text.now rest.now) }
+    ensures behind { IfSome result (λ rest. IsTail text.now rest.now) }
 {
     let mut rest = text;
     while let Some((_, behind)) = next_mark(Marks::two(b'"', b'"'), rest) {
@@ -92,7 +84,7 @@ fn after_raw(count: usize, text: &str) -> Option<&str>
 // What follows the `'` that ends a character, by what stands behind the opening one.
 fn after_single(text: &str) -> Option<&str>
     ensures rest { option_map (λ rest. chars rest.now) result ≡ after_single (chars text.now) }
-    ensures behind { IfSome result (λ rest. IsBehind text.now rest.now) }
+    ensures behind { IfSome result (λ rest. IsTail text.now rest.now) }
 {
     let (c, behind) = split_char(text)?;
     let (second, more) = split_char(behind)?;
@@ -108,7 +100,7 @@ fn after_single(text: &str) -> Option<&str>
 // What follows the `'` that ends an escaped character, by what stands behind the escaped one.
 fn after_apostrophe(text: &str) -> Option<&str>
     ensures rest { option_map (λ rest. chars rest.now) result ≡ after_apostrophe (chars text.now) }
-    ensures behind { IfSome result (λ rest. IsBehind text.now rest.now) }
+    ensures behind { IfSome result (λ rest. IsTail text.now rest.now) }
 {
     let mut rest = text;
     while let Some((c, behind)) = split_char(rest) {

@@ -3,16 +3,16 @@
 
 ghost use Rattle.std.specs.Prelude.{◌≡◌, MatchOption, IfSome, drop, true, false};
 ghost use Rattle.std.specs.Str.{chars};
-ghost use Rattle.rl_tokens.specs.Texts.{IsBehind};
+ghost use Rattle.rl_tokens.specs.Texts.{IsTail};
 ghost use Rattle.rl_tokens.specs.Lexemes.{after_run, is_hash, begins_hashes};
-ghost use Rattle.rl_tokens.specs.LexemeAt.{row_test, after_suffix, hashes};
+ghost use Rattle.rl_tokens.specs.Mirrors.LexemeAt.{run_test, after_suffix, hashes};
 
 use crate::characters::{is_continue, is_start, is_white};
 use crate::text::{split_ascii, split_char};
 
 /// A kind of row, by what it holds.
 #[derive(Clone, Copy)]
-pub(crate) enum Row {
+pub(crate) enum RunClass {
     /// What goes on with an identifier.
     Continue,
     /// Digits and underscores.
@@ -25,23 +25,23 @@ pub(crate) enum Row {
 
 // Whether a row of this kind holds the character.
 #[inline(always)]
-fn holds(row: Row, c: char) -> bool
-    ensures { result ≡ row_test row c }
+fn holds(row: RunClass, c: char) -> bool
+    ensures { result ≡ run_test row c }
 {
     match row {
-        Row::Continue => is_continue(c),
-        Row::Numeral => c.is_ascii_digit() || c == '_',
-        Row::Underscores => c == '_',
-        Row::White => is_white(c),
+        RunClass::Continue => is_continue(c),
+        RunClass::Numeral => c.is_ascii_digit() || c == '_',
+        RunClass::Underscores => c == '_',
+        RunClass::White => is_white(c),
     }
 }
 
 /// What follows the longest row of this kind, perhaps an empty one. It is inlined for the kind that its caller names,
 /// and goes by bytes up to the first character past ASCII.
 #[inline(always)]
-pub(crate) fn after_row(row: Row, text: &str) -> &str
-    ensures rest { chars result.now ≡ after_run (row_test row) (chars text.now) }
-    ensures behind { IsBehind text.now result.now }
+pub(crate) fn after_row(row: RunClass, text: &str) -> &str
+    ensures rest { chars result.now ≡ after_run (run_test row) (chars text.now) }
+    ensures behind { IsTail text.now result.now }
 {
     let mut rest = text;
     while let Some((byte, behind)) = split_ascii(rest) {
@@ -55,9 +55,9 @@ pub(crate) fn after_row(row: Row, text: &str) -> &str
 
 // The same, character by character.
 #[inline(never)]
-fn after_wide_row(row: Row, text: &str) -> &str
-    ensures rest { chars result.now ≡ after_run (row_test row) (chars text.now) }
-    ensures behind { IsBehind text.now result.now }
+fn after_wide_row(row: RunClass, text: &str) -> &str
+    ensures rest { chars result.now ≡ after_run (run_test row) (chars text.now) }
+    ensures behind { IsTail text.now result.now }
 {
     let mut rest = text;
     while let Some((c, behind)) = split_char(rest) {
@@ -73,7 +73,7 @@ fn after_wide_row(row: Row, text: &str) -> &str
 #[inline(always)]
 pub(crate) fn after_suffix(text: &str) -> &str
     ensures rest { chars result.now ≡ after_suffix (chars text.now) }
-    ensures behind { IsBehind text.now result.now }
+    ensures behind { IsTail text.now result.now }
 {
     match split_ascii(text) {
         Some((byte, _)) if !is_start(byte as char) => text,
@@ -85,10 +85,10 @@ pub(crate) fn after_suffix(text: &str) -> &str
 #[inline(never)]
 fn after_some_suffix(text: &str) -> &str
     ensures rest { chars result.now ≡ after_suffix (chars text.now) }
-    ensures behind { IsBehind text.now result.now }
+    ensures behind { IsTail text.now result.now }
 {
     match split_char(text) {
-        Some((c, behind)) if is_start(c) => after_row(Row::Continue, behind),
+        Some((c, behind)) if is_start(c) => after_row(RunClass::Continue, behind),
         _ => text,
     }
 }
@@ -97,7 +97,7 @@ fn after_some_suffix(text: &str) -> &str
 pub(crate) fn split_hashes(text: &str) -> (usize, &str)
     ensures count { result.0 ≡ hashes (chars text.now) }
     ensures rest { chars result.1.now ≡ after_run is_hash (chars text.now) }
-    ensures behind { IsBehind text.now result.1.now }
+    ensures behind { IsTail text.now result.1.now }
 {
     let mut count: usize = 0;
     let mut rest = text;
@@ -116,7 +116,7 @@ pub(crate) fn strip_hashes(text: &str, count: usize) -> Option<&str>
     ensures rest { MatchOption result (begins_hashes count (chars text.now) ≡ false)
         (λ rest. chars rest.now ≡ drop count (chars text.now)) }
     ensures stands { IfSome result (λ rest. begins_hashes count (chars text.now) ≡ true) }
-    ensures behind { IfSome result (λ rest. IsBehind text.now rest.now) }
+    ensures behind { IfSome result (λ rest. IsTail text.now rest.now) }
 {
     let mut rest = text;
     let mut left = count;

@@ -16,7 +16,8 @@ ghost use Rattle.rust_literals.specs.Copies.{
   debug_text,
   tree_of,
 };
-ghost use Rattle.rust_literals.specs.Literals.{kind_of, span_of};
+ghost use Rattle.rust_literals.specs.Literals.{kind_of};
+ghost use Rattle.rust_literals.specs.LitParts.{lit_span};
 
 use crate::lit::Lit;
 use rl_grammar::Kind;
@@ -29,7 +30,7 @@ impl<A: Allocator> Lit<A> {
     /// The literal once more, with its memory from this allocator. Want of memory is told at the span.
     pub fn clone<B: Allocator + Copy>(&self, alloc: B) -> Result<Lit<B>, Error<B>>
         ensures ok { IfOk result (IsCopyOf self.now) }
-        ensures memory { IfErr result (λ e. e ≡ memory_at (span_of self.now)) }
+        ensures memory { IfErr result (λ e. e ≡ memory_at (lit_span self.now)) }
     {
         Ok(match self {
             Lit::Str(literal) => Lit::Str(literal.clone(alloc)?),
@@ -137,7 +138,7 @@ impl<A: Allocator> ToTokens for Lit<A> {
         ensures ok { OnOk result
             (stream_view tokens.new ≡ stream_view tokens.old ++ tree_of self.now ∷ []) }
         ensures unchanged { OnErr result (stream_view tokens.new ≡ stream_view tokens.old) }
-        ensures memory { IfErr result (λ e. e ≡ memory_at (span_of self.now)) }
+        ensures memory { IfErr result (λ e. e ≡ memory_at (lit_span self.now)) }
     {
         match self {
             Lit::Bool(literal) => literal.to_tokens(alloc, tokens),

@@ -1,7 +1,7 @@
 //! Number types that are made from the digits of a number.
 
 ghost use Rattle.std.specs.Prelude.{IfOk, IfErr};
-ghost use Rattle.rust_literals.specs.Base10.{AreBase10Digits, IsMadeOf, IsRefusedBy, IsTold};
+ghost use Rattle.rust_literals.specs.Base10.{AreBase10Digits, IsMadeOf, IsRefusedBy, IsReported};
 
 use crate::number::{Number, NumberKind};
 use rl_tokens::{Error, ErrorKind, Span};
@@ -10,8 +10,8 @@ use std::fmt::Display;
 use std::str::FromStr;
 
 /// A number type's fault in its own words, told at a span; want of memory for the words is told there too.
-fn told<F: Display, B: Allocator>(alloc: B, fault: &F, span: Span) -> Error<B>
-    ensures { IsTold (F.output fault.now) span result }
+fn reported<F: Display, B: Allocator>(alloc: B, fault: &F, span: Span) -> Error<B>
+    ensures { IsReported (F.output fault.now) span result }
 {
     match format!(in alloc; "{fault}") {
         Ok(words) => Error {
@@ -38,7 +38,7 @@ impl<K: NumberKind, A: Allocator> Number<K, A> {
     {
         match N::from_str(self.base10_digits()) {
             Ok(number) => Ok(number),
-            Err(fault) => Err(told(alloc, &fault, self.span())),
+            Err(fault) => Err(reported(alloc, &fault, self.span())),
         }
     }
 }

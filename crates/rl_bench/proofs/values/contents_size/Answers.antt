@@ -2,7 +2,7 @@
 use Rattle.std.proofs.Common.{◌≡◌, ◌∙◌, ap, length, rules}
 use Rattle.std.specs.Str.{chars}
 use Rattle.std.specs.Prelude.{string_bytes}
-use Rattle.rl_tokens.specs.Lexing.{byte_len}
+use Rattle.rl_tokens.specs.Texts.{byte_len}
 use Rattle.rl_tokens.specs.Reading.{Bytes}
 use Rattle.rl_bench.proofs.WeightLemmas.{digits_size, string_size}
 use Rattle.rl_bench.proofs.values.contents_size.Goals as goal

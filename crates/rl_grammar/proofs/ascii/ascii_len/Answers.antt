@@ -1,6 +1,6 @@
 use Rattle.std.proofs.Common.{sym, ap, ◌∙◌, arith}
 use lib.Count.{count_trailing_zeros}
-use Rattle.rl_grammar.specs.Classes.{is_low_other}
+use Rattle.rl_grammar.specs.Mirrors.Classes.{is_low_other}
 use Rattle.rl_tokens.proofs.LaneLemmas.{run_through, run_stops}
 use Rattle.rl_grammar.proofs.ByteRunLemmas.{ends_opposite}
 use Rattle.rl_grammar.proofs.ascii.ascii_len.Goals as goal

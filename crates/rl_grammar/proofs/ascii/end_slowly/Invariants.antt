@@ -1,6 +1,6 @@
 use Rattle.std.proofs.Common.{◌≡◌, ◌+◌, ◌-◌, ◌≤◌, length, drop}
 use Rattle.std.specs.List.{prefix_len}
-use Rattle.rl_grammar.specs.Classes.{is_low_other}
+use Rattle.rl_grammar.specs.Mirrors.Classes.{is_low_other}
 use Rattle.rl_grammar.proofs.ascii.end_slowly.Given as goal
 
 abbrev pub invariant-loop-at : goal.invariant-loop-at

@@ -1,6 +1,6 @@
 use Rattle.std.proofs.Common.{refl, ap, ◌∙◌}
 use Rattle.std.specs.List.{prefix_len}
-use Rattle.rl_grammar.specs.Classes.{is_low_other}
+use Rattle.rl_grammar.specs.Mirrors.Classes.{is_low_other}
 use Rattle.rl_grammar.proofs.ByteRunLemmas.{ascii_all}
 use Rattle.rl_grammar.proofs.ascii.is_ascii.Goals as goal
 

@@ -1,6 +1,6 @@
 use Rattle.std.proofs.Common.{◌≡◌, None, rules}
 use Rattle.std.specs.Str.{chars, IsUtf8}
-use Rattle.rl_grammar.specs.UnitAt.{unit_at}
+use Rattle.rl_grammar.specs.Mirrors.UnitAt.{unit_at}
 use Rattle.rl_grammar.proofs.ContentLemmas.{decode_run, decode_step}
 use Rattle.rl_grammar.proofs.contents.decode.Goals as goal
 

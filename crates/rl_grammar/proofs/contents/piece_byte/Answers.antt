@@ -1,6 +1,6 @@
 use Rattle.std.proofs.Common.{◌<◌, ap, arith, sym, ◌∙◌}
 use Rattle.rl_tokens.specs.declared.kind.Kind.TheVariants.{Byte}
-use Rattle.rl_grammar.specs.UnitAt.{piece_value}
+use Rattle.rl_grammar.specs.Mirrors.UnitAt.{piece_value}
 use Rattle.rl_grammar.proofs.ContentLemmas.{ascii_byte, one_byte}
 use Rattle.rl_grammar.proofs.contents.piece_byte.Goals as goal
 

@@ -1,14 +1,14 @@
 use Rattle.std.proofs.Common.{subst}
 use Rattle.rl_tokens.specs.Buffers.{trees_in}
-use Rattle.rl_tokens.specs.Fronts.{IsFront}
-use Rattle.rl_grammar.specs.FrontTokens.{token_of}
+use Rattle.rl_grammar.specs.Fronts.{IsFront}
+use Rattle.rl_grammar.specs.FrontTokens.{front_token}
 use Rattle.rl_grammar.proofs.FrontLemmas.{front_of, same_front}
 use Rattle.rl_grammar.proofs.front.next_is.Goals as goal
 
 pub returns-in-Some : goal.returns-in-Some
 returns-in-Some g c =
-    let f : IsFront (trees_in c.args.input.now) (token_of c.in-Some.front) (trees_in c.take.new.input) =
-    subst (λ ts. IsFront ts (token_of c.in-Some.front) (trees_in c.take.new.input)) c.fork-ahead.ensures.trees c.in-Some.ensures.taken in (
-      (λ h. (token_of c.in-Some.front, trees_in c.take.new.input, front_of _ _ _ _ f (c.is_of.ensures.0 h))),
-      (λ h. c.is_of.ensures.1 (same_front c.args.kind (trees_in c.args.input.now) (token_of c.in-Some.front) (trees_in c.take.new.input) f h)),
+    let f : IsFront (trees_in c.args.input.now) (front_token c.in-Some.front) (trees_in c.take.new.input) =
+    subst (λ ts. IsFront ts (front_token c.in-Some.front) (trees_in c.take.new.input)) c.fork-ahead.ensures.trees c.in-Some.ensures.taken in (
+      (λ h. (front_token c.in-Some.front, trees_in c.take.new.input, front_of _ _ _ _ f (c.is_of.ensures.0 h))),
+      (λ h. c.is_of.ensures.1 (same_front c.args.kind (trees_in c.args.input.now) (front_token c.in-Some.front) (trees_in c.take.new.input) f h)),
     )

@@ -1,16 +1,16 @@
 use Rattle.std.proofs.Common.{inl, inr, rules}
 use Rattle.rl_tokens.specs.Buffers.{trees_in}
-use Rattle.rl_tokens.specs.Fronts.{IsFront, HasFrontOf}
-use Rattle.rl_grammar.specs.FrontTokens.{token_of}
+use Rattle.rl_grammar.specs.Fronts.{IsFront, HasFrontOf}
+use Rattle.rl_grammar.specs.FrontTokens.{front_token}
 use Rattle.rl_grammar.proofs.FrontLemmas.{front_of, other_of}
 use Rattle.rl_grammar.proofs.front.take_kind.Goals as goal
 
 pub returns-in_default-find_as-clause-runs : goal.returns-in_default-find_as-clause-runs
 returns-in_default-find_as-clause-runs g c =
-    let front : IsFront (trees_in c.args.input.now) (token_of c.in-Some.front) (trees_in c.take.new.input) = search rules in
+    let front : IsFront (trees_in c.args.input.now) (front_token c.in-Some.front) (trees_in c.take.new.input) = search rules in
     inr (record {
       refusal = search rules;
-      none = other_of c.args.kind (trees_in c.args.input.now) (token_of c.in-Some.front) (trees_in c.take.new.input) front (search rules);
+      none = other_of c.args.kind (trees_in c.args.input.now) (front_token c.in-Some.front) (trees_in c.take.new.input) front (search rules);
       passed = search rules;
     })
 
@@ -21,6 +21,6 @@ returns-in-Ok-clause-runs g c =
 
 pub returns-clause-runs : goal.returns-clause-runs
 returns-clause-runs g c =
-    let front : IsFront (trees_in c.args.input.now) (token_of c.in-Some.front) (trees_in c.take.new.input) = search rules in
-    let found : HasFrontOf c.args.kind (trees_in c.args.input.now) = (token_of c.in-Some.front, trees_in c.take.new.input, front_of _ _ _ _ front (search rules)) in
+    let front : IsFront (trees_in c.args.input.now) (front_token c.in-Some.front) (trees_in c.take.new.input) = search rules in
+    let found : HasFrontOf c.args.kind (trees_in c.args.input.now) = (front_token c.in-Some.front, trees_in c.take.new.input, front_of _ _ _ _ front (search rules)) in
     inl (found, search rules)

@@ -1,7 +1,7 @@
 use Rattle.std.proofs.Common.{sym, subst}
 use Rattle.std.specs.Str.{chars}
 use Rattle.rl_tokens.specs.Numbers.{FloatReads}
-use Rattle.rl_grammar.specs.NumberShapes.{IsWithin}
+use Rattle.rl_grammar.specs.NumberShapes.{HasMagnitude}
 use Rattle.rl_grammar.specs.NumbersRead.{IsNumberOf}
 use Rattle.rl_grammar.proofs.IntegerLemmas.{within_reads}
 use Rattle.rl_grammar.proofs.NumberLemmas.{int_number, float_number}
@@ -11,7 +11,7 @@ pub returns-in-Integer-clause-reads : goal.returns-in-Integer-clause-reads
 returns-in-Integer-clause-reads c =
     let t = chars c.args.text.now in
     let h = subst (IsNumberOf c.args.text.now) c.in-Integer.is c.in_ok-suffix.ensures.reads in
-    int_number t _ _ (within_reads t _ _ (subst (λ z. IsWithin t c.in-Integer.field-0 (chars z)) (sym c.cut_suffix.ensures.suffix) h.0)) c.cut_suffix.ensures.kind
+    int_number t _ _ (within_reads t _ _ (subst (λ z. HasMagnitude t c.in-Integer.field-0 (chars z)) (sym c.cut_suffix.ensures.suffix) h.0)) c.cut_suffix.ensures.kind
 
 pub returns-in-Float-clause-reads : goal.returns-in-Float-clause-reads
 returns-in-Float-clause-reads c =

@@ -1,7 +1,7 @@
 use Rattle.std.proofs.Common.{Some, true, false, arith, ap, ◌∙◌, drop, ◌+◌}
 use Rattle.std.specs.Str.{chars}
 use Rattle.std.proofs.lemmas.Str.{IsCharBoundary-start}
-use Rattle.rl_grammar.specs.NumberAt.{row_from}
+use Rattle.rl_grammar.specs.Mirrors.NumberAt.{row_from}
 use Rattle.rl_grammar.proofs.DigitRowLemmas.{row_start}
 use Rattle.rl_grammar.proofs.RowBytes.{digit_cuts, mark_cuts, row_mark, row_goes, row_stops, row_ends, row_read}
 use Rattle.rl_grammar.proofs.rows.read_row_in.Goals.{then-digit-radix, else-digit-radix+else-byte-ne95, else-loop-at-test, then-loop-at-test+else-digit-radix+then-byte-ne95}

@@ -2,7 +2,7 @@ use Rattle.std.proofs.Common.{◌≡◌, Bool, ℕ, Option, List, None, false, r
 use Rattle.std.specs.Str.{chars}
 use Rattle.std.proofs.lemmas.Str.{IsCharBoundary-start}
 use Rattle.rl_tokens.proofs.Rests.{behind_drop}
-use Rattle.rl_grammar.specs.NumberAt.{row_from}
+use Rattle.rl_grammar.specs.Mirrors.NumberAt.{row_from}
 use Rattle.rl_grammar.proofs.DigitRowLemmas.{row_skipped}
 use Rattle.rl_grammar.proofs.RowBytes.{digit_cuts, mark_cuts, is_digit, no_digit, row_mark, row_goes, row_stops, row_ends, row_read}
 use Rattle.rl_grammar.proofs.rows.skip_row.Goals.{then-is_ascii_digit, else-is_ascii_digit+else-byte-ne95, else-loop-at-test, then-loop-at-test+else-is_ascii_digit+then-byte-ne95}

@@ -1,7 +1,7 @@
 use Rattle.std.proofs.Common.{◌≡◌, None, false, length, drop}
 use Rattle.std.specs.Prelude.{◌-◌}
 use Rattle.std.specs.Str.{IsCharBoundary}
-use Rattle.rl_grammar.specs.NumberAt.{row_from}
+use Rattle.rl_grammar.specs.Mirrors.NumberAt.{row_from}
 use Rattle.rl_grammar.proofs.rows.skip_row.Given as goal
 
 abbrev pub invariant-loop-at : goal.invariant-loop-at

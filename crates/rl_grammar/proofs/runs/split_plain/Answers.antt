@@ -1,7 +1,7 @@
 use Rattle.std.proofs.Common.{◌≡◌, ◌++◌, take, drop, sym, subst, ap, ap₂, ◌∙◌, rules}
 use Rattle.std.specs.Str.{chars, IsCharBoundary}
 use Rattle.std.specs.List.{list_all, prefix_len}
-use Rattle.rl_tokens.specs.Texts.{passes}
+use Rattle.rl_tokens.specs.Texts.{first_passes}
 use Rattle.rl_tokens.specs.Quoted.{is_plain}
 use Rattle.rl_grammar.proofs.ByteRunLemmas.{plain_cut}
 use Rattle.rl_grammar.proofs.runs.split_plain.Goals as goal
@@ -23,6 +23,6 @@ returns c =
     record {
       cut = run.cut ∙ ap₂ (λ a b. chars a ++ chars b) front back;
       plain = ap (λ a. list_all q (chars a)) (sym front) ∙ run.plain;
-      stops = ap (λ b. passes q (chars b)) (sym back) ∙ run.stops;
+      stops = ap (λ b. first_passes q (chars b)) (sym back) ∙ run.stops;
       shorter = search rules;
     }

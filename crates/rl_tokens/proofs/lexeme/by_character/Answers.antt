@@ -1,7 +1,7 @@
 use Rattle.std.proofs.Common.{◌≡◌, ◌∙◌, ap, None, rules}
 use Rattle.std.specs.Option.{option_map}
 use Rattle.std.specs.Str.{chars}
-use Rattle.rl_tokens.specs.LexemeAt.{form_view}
+use Rattle.rl_tokens.specs.Cursors.{form_view}
 use Rattle.rl_tokens.proofs.NumberEnds.{quote_open, quote_closed}
 use Rattle.rl_tokens.proofs.lexeme.by_character.Goals as goal
 

@@ -2,7 +2,7 @@
 use Rattle.std.proofs.Common.{arith, ◌+◌, ◌≡◌, [], Some, get_or, sym, ◌∙◌, ap, drop}
 use Rattle.std.proofs.lemmas.Str.{IsCharBoundary-after_ascii}
 use Rattle.std.proofs.Math.ListN.{drop_of_length-le}
-use Rattle.rl_tokens.specs.SkippedAt.{after_block}
+use Rattle.rl_tokens.specs.Mirrors.SkippedAt.{after_block}
 use Rattle.rl_tokens.proofs.Rests.{behind_drop}
 use Rattle.rl_tokens.proofs.CommentBytes.{block_of_bytes, no_block_of_bytes}
 use Rattle.rl_tokens.proofs.Comments.{closed}

@@ -1,5 +1,5 @@
 use Rattle.std.proofs.Common.{◌≡◌, ◌-◌, ◌≤◌, length, drop}
-use Rattle.rl_tokens.specs.SkippedAt.{after_block}
+use Rattle.rl_tokens.specs.Mirrors.SkippedAt.{after_block}
 use Rattle.rl_tokens.proofs.whitespace.after_block.Given as goal
 
 abbrev pub invariant-loop-at : goal.invariant-loop-at

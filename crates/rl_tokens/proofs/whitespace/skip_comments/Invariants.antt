@@ -1,13 +1,13 @@
 use Rattle.std.proofs.Common.{◌≡◌, false, ℕ, List, length}
 use Rattle.std.specs.Str.{chars}
-use Rattle.rl_tokens.specs.Trivia.{Skipped}
-use Rattle.rl_tokens.specs.Texts.{is_white, passes, IsBehind}
+use Rattle.rl_tokens.specs.Skipping.{Skipped}
+use Rattle.rl_tokens.specs.Texts.{is_white, first_passes, IsTail}
 use Rattle.rl_tokens.proofs.whitespace.skip_comments.Given as goal
 
 abbrev pub invariant-loop-inside : goal.invariant-loop-inside
 invariant-loop-inside l = record {
-  behind : IsBehind l.text l.rest;
-  dark : passes is_white (chars l.rest) ≡ false;
+  behind : IsTail l.text l.rest;
+  dark : first_passes is_white (chars l.rest) ≡ false;
   skipped : (r : List ℕ) → Skipped (chars l.rest) r → Skipped (chars l.text) r;
 }
 

@@ -3,7 +3,7 @@ use Rattle.std.specs.Prelude.{encode_utf8, encode_utf8_all}
 use Rattle.std.proofs.lemmas.List.{take_more, take_all}
 use Rattle.std.proofs.lemmas.Str.{IsUtf8-string_bytes}
 use Rattle.rl_tokens.specs.Quoted.{unit_text}
-use Rattle.rl_tokens.specs.Written.{closer, writing}
+use Rattle.rl_tokens.specs.Written.{closer, written_unit}
 use Rattle.rl_tokens.proofs.WrittenForms.{written_form, all_bytes, bytes_value}
 use Rattle.rl_tokens.proofs.WritingLemmas.{begun, begun_start, begun_more, begun_whole}
 use Rattle.rl_tokens.proofs.writer.text_of_bytes.Goals as goal
@@ -16,7 +16,7 @@ loop-byte-preserved g c =
     let value = c.args.value.now in
     let i = c.loop-byte.byte-index in
     let same : c.from.result ≡ get_or value i 0 = search rules in
-    let pushed : string_bytes c.push_written.new.out ≡ string_bytes c.loop-byte.text ++ encode_utf8_all (unit_text (writing c.args.kind (get_or value i 0))) = c.in_ok-push_written.ensures ∙ ap (λ z. string_bytes c.loop-byte.text ++ encode_utf8_all (unit_text (writing c.args.kind z))) same in
+    let pushed : string_bytes c.push_written.new.out ≡ string_bytes c.loop-byte.text ++ encode_utf8_all (unit_text (written_unit c.args.kind (get_or value i 0))) = c.in_ok-push_written.ensures ∙ ap (λ z. string_bytes c.loop-byte.text ++ encode_utf8_all (unit_text (written_unit c.args.kind z))) same in
     let At : List ℕ → Type 0 = λ xs. string_bytes c.push_written.new.out ≡ begun c.args.kind xs in
     subst At (sym (take_more value i 0 (omega arith))) (begun_more _ _ _ (take i value) (get_or value i 0) c.loop-byte.invariant pushed)
 

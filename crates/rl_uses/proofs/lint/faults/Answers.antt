@@ -1,6 +1,6 @@
 use Rattle.std.proofs.Common.{◌≡◌, ◌+◌, ◌∷◌, [], ◌++◌, take, arith}
 use Rattle.std.proofs.lemmas.Grind.{common_steps}
-use Rattle.rust_literals.specs.Literals.{span_of}
+use Rattle.rust_literals.specs.LitParts.{lit_span}
 use Rattle.rl_uses.proofs.LintLemmas.{faults_same, faults_more}
 use Rattle.rl_uses.proofs.ShortageLemmas.{short_at}
 use Rattle.rl_uses.proofs.lint.faults.Goals.{then-branch+else-is_err, else-branch}
@@ -14,7 +14,7 @@ loop-literal-preserved g c =
     let grown : take (i + 1) literals ≡ take i literals ++ (l ∷ []) = grind (arith, common_steps) in
     elim c.if-branch.branch [
       | then-branch+else-is_err w ↦
-          let more : c.if-branch.spans.items ≡ c.loop-literal.spans.items ++ (span_of l ∷ []) = grind (arith, common_steps) in
+          let more : c.if-branch.spans.items ≡ c.loop-literal.spans.items ++ (lit_span l ∷ []) = grind (arith, common_steps) in
           rw (grown, more) (faults_more (take i literals) l c.loop-literal.spans.items c.loop-literal.invariant (rw w.if-branch.true at c.in_ok-is_fault.ensures.tells))
       | else-branch w ↦
           rw (grown, w.spans-is) (faults_same (take i literals) l c.loop-literal.spans.items c.loop-literal.invariant (rw w.if-branch.false at c.in_ok-is_fault.ensures.tells))

@@ -1,6 +1,6 @@
 use Rattle.std.proofs.Common.{ap, rules, ◌≡◌, ◌∙◌, subst}
 use Rattle.rl_tokens.specs.declared.span.Span.{Span}
-use Rattle.rl_tokens.specs.LexemeAt.{form_view}
+use Rattle.rl_tokens.specs.Cursors.{form_view}
 use Rattle.rust_literals.specs.declared.lit.Lit.TheVariants.{Bool as BoolLit}
 use Rattle.rl_tokens.specs.Lexemes.{MarkForm}
 use Rattle.rust_literals.specs.Literals.{IsReadFrom}

@@ -3,7 +3,7 @@ use Rattle.std.specs.Str.{chars}
 use Rattle.rl_tokens.specs.Trees.{tree_view, stream_view}
 use Rattle.rl_tokens.specs.Buffers.{trees_in, scope_of}
 use Rattle.rust_literals.specs.declared.lit.Lit.{Lit}
-use Rattle.rust_literals.specs.Parsing.{Leads}
+use Rattle.rust_literals.specs.Parsing.{ReadsLiterals}
 use Rattle.rust_literals.specs.Flat.{AreFirst}
 use Rattle.rust_literals.proofs.ReadLemmas.{text_read, text_refused}
 use Rattle.rust_literals.proofs.BegunLemmas.{goes_on}
@@ -18,13 +18,13 @@ returns-in-Err-clause-refused g c = λ gone first. inl (record {
   error = c.refusal_of.ensures;
 })
 
-led : (g : given.Over) (c : goal.After-drop-stream g) (gone : List (Lit g.row.A.Denot)) → AreFirst (chars c.args.text.now) c.args.file c.args.count (gone ++ c.args.list.items) → Leads (stream_view c.in-Ok.stream) (gone ++ c.args.list.items) (trees_in c.pass.new.input)
+led : (g : given.Over) (c : goal.After-drop-stream g) (gone : List (Lit g.row.A.Denot)) → AreFirst (chars c.args.text.now) c.args.file c.args.count (gone ++ c.args.list.items) → ReadsLiterals (stream_view c.in-Ok.stream) (gone ++ c.args.list.items) (trees_in c.pass.new.input)
 led g c gone first =
     let list = gone ++ c.args.list.items in
     let all : trees_in c.new-input.result ≡ stream_view c.in-Ok.stream = c.new-input.ensures.trees ∙ ap (map tree_view) c.trees.ensures in
     let (behind, leads) = goes_on (chars c.args.text.now) c.args.file list (stream_view c.in-Ok.stream) first.begun c.in-Ok.ensures.trees in
-    let here : Leads (trees_in c.new-input.result) list behind = subst (λ ts. Leads ts list behind) (sym all) leads in
-    subst (λ rest. Leads (stream_view c.in-Ok.stream) list rest) (sym (c.pass.ensures.passed list behind first.count_is here)) leads
+    let here : ReadsLiterals (trees_in c.new-input.result) list behind = subst (λ ts. ReadsLiterals ts list behind) (sym all) leads in
+    subst (λ rest. ReadsLiterals (stream_view c.in-Ok.stream) list rest) (sym (c.pass.ensures.passed list behind first.count_is here)) leads
 
 pub returns-clause-read : goal.returns-clause-read
 returns-clause-read g c = λ gone first.

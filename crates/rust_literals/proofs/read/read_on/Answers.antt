@@ -3,7 +3,7 @@ use Rattle.std.proofs.lemmas.Result.{err_from_is_err_and}
 use Rattle.rl_tokens.specs.declared.span.Span.{Span}
 use Rattle.rl_tokens.specs.Errors.{memory_at}
 use Rattle.rl_tokens.specs.Buffers.{trees_in, scope_of}
-use Rattle.rust_literals.specs.Parsing.{Leads, Stops, RunsShort}
+use Rattle.rust_literals.specs.Parsing.{ReadsLiterals, RefusesNextLiteral, LacksMemory}
 use Rattle.rust_literals.proofs.ReadLemmas.{refused_next}
 use Rattle.rust_literals.proofs.LeadsLemmas.{lit_shorter, leads_step}
 use Rattle.rust_literals.proofs.read.read_on.Goals as goal
@@ -19,7 +19,7 @@ loop-alloc-preserved g c =
     let grown : c.push.new.self.items ≡ c.loop-alloc.list.items ++ (c.in_ok-literal.literal ∷ []) = search rules in
     record {
       leads = λ all gone h.
-          subst (λ ls. Leads all ls (trees_in c.parse.new.self)) (append_assoc gone c.loop-alloc.list.items (c.in_ok-literal.literal ∷ []) ∙ ap (λ ls. gone ++ ls) (sym grown))
+          subst (λ ls. ReadsLiterals all ls (trees_in c.parse.new.self)) (append_assoc gone c.loop-alloc.list.items (c.in_ok-literal.literal ∷ []) ∙ ap (λ ls. gone ++ ls) (sym grown))
           (leads_step all (gone ++ c.loop-alloc.list.items) (trees_in c.loop-alloc.input) c.in_ok-literal.literal (trees_in c.parse.new.self) (c.loop-alloc.invariant.leads all gone h) c.in_ok-literal.ensures.runs);
       scope = c.in_ok-literal.ensures.scope ∙ c.loop-alloc.invariant.scope;
     }
@@ -29,7 +29,7 @@ returns-in_err-literal-clause-refused g c = λ all gone h.
     let p = err_from_is_err_and c.from_residual.result c.from_residual.ensures.1 in
     let some : trees_in c.loop-alloc.input ≢ [] = search rules in
     rw (p.1, p.2)
-    (subst (λ (s : Span). Stops all s c.in_err-literal.field-0.0 ⊎ RunsShort all s c.in_err-literal.field-0.0) c.loop-alloc.invariant.scope
+    (subst (λ (s : Span). RefusesNextLiteral all s c.in_err-literal.field-0.0 ⊎ LacksMemory all s c.in_err-literal.field-0.0) c.loop-alloc.invariant.scope
     (refused_next all (trees_in c.loop-alloc.input) (trees_in c.parse.new.self) (scope_of c.loop-alloc.input) (gone ++ c.loop-alloc.list.items) c.in_err-literal.field-0.0 (c.loop-alloc.invariant.leads all gone h) some c.in_err-literal.ensures.runs))
 
 pub returns-then-is_err-clause-refused : goal.returns-then-is_err-clause-refused
@@ -43,4 +43,4 @@ returns-then-is_err-clause-refused g c = λ all gone h. inr (record {
 pub returns-clause-read : goal.returns-clause-read
 returns-clause-read g c = λ all gone h.
     let nothing : trees_in c.loop-alloc.input ≡ [] = c.loop-alloc-test.ensures.0 refl in
-    subst (λ ts. Leads all (gone ++ c.loop-alloc.list.items) ts) nothing (c.loop-alloc.invariant.leads all gone h)
+    subst (λ ts. ReadsLiterals all (gone ++ c.loop-alloc.list.items) ts) nothing (c.loop-alloc.invariant.leads all gone h)

@@ -1,15 +1,15 @@
 use Rattle.std.proofs.Common.{subst, ◌∷◌}
 use Rattle.rl_tokens.specs.Puncts.{Mark}
-use Rattle.rl_tokens.specs.Tokens.{Token}
+use Rattle.rl_tokens.specs.Texts.{SpannedText}
 use Rattle.rl_grammar.specs.Founds.{IsFound}
 use Rattle.rl_grammar.proofs.front.Front.find.Goals as goal
 
-pub returns-in-Token-clause-found : goal.returns-in-Token-clause-found
-returns-in-Token-clause-found g c = rw c.in-Token.is (rw c.text.ensures at c.find.ensures.found)
+pub returns-in-Literal-clause-found : goal.returns-in-Literal-clause-found
+returns-in-Literal-clause-found g c = rw c.in-Literal.is (rw c.text.ensures at c.find.ensures.found)
 
 pub returns-in-Word-clause-found : goal.returns-in-Word-clause-found
 returns-in-Word-clause-found g c = rw c.in-Word.is (rw c.text-in-Word.ensures.text at c.find-in-Word.ensures.found)
 
 pub returns-in-Negative-clause-found : goal.returns-in-Negative-clause-found
 returns-in-Negative-clause-found g c =
-    rw c.in-Negative.is (subst (λ (n : Mark × Token). IsFound (45 ∷ n.1.text) c.negative.inside.found) c.negative.view_is c.negative.invariant)
+    rw c.in-Negative.is (subst (λ (n : Mark × SpannedText). IsFound (45 ∷ n.1.text) c.negative.inside.found) c.negative.view_is c.negative.invariant)

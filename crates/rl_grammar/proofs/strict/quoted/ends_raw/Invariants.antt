@@ -2,7 +2,7 @@ use Rattle.std.proofs.Common.{◌≡◌, length}
 use denote.Text.{Utf8}
 use denote.Shadow.{shadow}
 use Rattle.std.specs.Str.{chars}
-use Rattle.rl_grammar.specs.StrictAt.{ends_raw}
+use Rattle.rl_grammar.specs.Mirrors.StrictAt.{ends_raw}
 use Rattle.rl_grammar.proofs.strict.quoted.ends_raw.Given as goal
 
 abbrev pub invariant-loop-c : goal.invariant-loop-c

@@ -1,5 +1,5 @@
 use Rattle.std.proofs.Common.{◌+◌, ◌*◌, ap, ◌∙◌, arith}
-use Rattle.rl_grammar.specs.NumberAt.{append_digit}
+use Rattle.rl_grammar.specs.Mirrors.NumberAt.{append_digit}
 use Rattle.rl_grammar.proofs.TallyLemmas.{append_last}
 use Rattle.rl_grammar.proofs.tally.Tally.append_digit.Goals as goal
 

@@ -1,12 +1,12 @@
 use Rattle.std.proofs.Common.{◌≡◌, length}
 use Rattle.std.specs.Str.{chars}
-use Rattle.rl_tokens.specs.LexemeAt.{after_quote}
-use Rattle.rl_tokens.specs.Texts.{IsBehind}
+use Rattle.rl_tokens.specs.Mirrors.LexemeAt.{after_quote}
+use Rattle.rl_tokens.specs.Texts.{IsTail}
 use Rattle.rl_tokens.proofs.lexeme.quoted.after_quote.Given as goal
 
 abbrev pub invariant-loop-mark : goal.invariant-loop-mark
 invariant-loop-mark l = record {
-  behind : IsBehind l.text l.rest;
+  behind : IsTail l.text l.rest;
   same : after_quote (chars l.rest) ≡ after_quote (chars l.text);
 }
 

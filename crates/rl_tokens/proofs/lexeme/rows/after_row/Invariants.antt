@@ -1,14 +1,14 @@
 use Rattle.std.proofs.Common.{◌≡◌, length}
 use Rattle.std.specs.Str.{chars}
 use Rattle.rl_tokens.specs.Lexemes.{after_run}
-use Rattle.rl_tokens.specs.LexemeAt.{row_test}
-use Rattle.rl_tokens.specs.Texts.{IsBehind}
+use Rattle.rl_tokens.specs.Mirrors.LexemeAt.{run_test}
+use Rattle.rl_tokens.specs.Texts.{IsTail}
 use Rattle.rl_tokens.proofs.lexeme.rows.after_row.Given as goal
 
 abbrev pub invariant-loop-byte : goal.invariant-loop-byte
 invariant-loop-byte l = record {
-  behind : IsBehind l.text l.rest;
-  same : after_run (row_test l.row) (chars l.rest) ≡ after_run (row_test l.row) (chars l.text);
+  behind : IsTail l.text l.rest;
+  same : after_run (run_test l.row) (chars l.rest) ≡ after_run (run_test l.row) (chars l.text);
 }
 
 abbrev pub decreases-loop-byte : goal.decreases-loop-byte

@@ -1,11 +1,11 @@
 use Rattle.std.proofs.Common.{subst, refl}
 use Rattle.rl_tokens.specs.Buffers.{trees_in}
-use Rattle.rl_tokens.specs.Fronts.{IsFront}
-use Rattle.rl_grammar.specs.FrontTokens.{token_of}
+use Rattle.rl_grammar.specs.Fronts.{IsFront}
+use Rattle.rl_grammar.specs.FrontTokens.{front_token}
 use Rattle.rust_literals.proofs.lit.LitToken.peek.Goals as goal
 
 pub returns-in-Some : goal.returns-in-Some
 returns-in-Some g c =
-    let f : IsFront (trees_in c.args.input.now) (token_of c.in-Some.field-0) (trees_in c.take.new.input) =
-    subst (λ ts. IsFront ts (token_of c.in-Some.field-0) (trees_in c.take.new.input)) c.fork-ahead.ensures.trees c.in-Some.ensures.taken in
-    ((λ h. (token_of c.in-Some.field-0, trees_in c.take.new.input, f)), (λ h. refl))
+    let f : IsFront (trees_in c.args.input.now) (front_token c.in-Some.field-0) (trees_in c.take.new.input) =
+    subst (λ ts. IsFront ts (front_token c.in-Some.field-0) (trees_in c.take.new.input)) c.fork-ahead.ensures.trees c.in-Some.ensures.taken in
+    ((λ h. (front_token c.in-Some.field-0, trees_in c.take.new.input, f)), (λ h. refl))

@@ -1,8 +1,8 @@
--- Reading numbers, one part after another.
+-- A mirror of the code, for proofs alone: reading numbers, one part after another.
 use Rattle.std.specs.Prelude.{◌≡◌, IsTrue, ℕ, ◌+◌, ◌*◌, ◌==◌, ◌||◌, ◌&&◌, not, Bool, true, false, List, [], ◌∷◌, Option, Some, None, nat_lt, nat_le, if◌then◌else◌}
 use Rattle.std.specs.Char.{digit_value, is_ascii_digit}
 use Rattle.std.specs.List.{list_any}
-use Rattle.rl_tokens.specs.Texts.{passes, is_underscore, xid_ok}
+use Rattle.rl_tokens.specs.Texts.{first_passes, is_underscore, xid_ok}
 use Rattle.rl_tokens.specs.Quoted.{place_value, without_underscores}
 use Rattle.rl_tokens.specs.Numbers.{Sign, NoSign, Minus, limit, is_exponent_letter}
 
@@ -38,14 +38,14 @@ row_from radix some m (c ∷ cs) =
     else (some, m, c ∷ cs))
 
 -- the same by what stands there
-abbrev pub digits_at : ℕ → List ℕ → List ℕ
-digits_at radix t = run (is_part radix) t
+abbrev pub digit_row_at : ℕ → List ℕ → List ℕ
+digit_row_at radix t = run (is_part radix) t
 
 abbrev pub has_digit_at : ℕ → List ℕ → Bool
-has_digit_at radix t = list_any (has_value radix) (digits_at radix t)
+has_digit_at radix t = list_any (has_value radix) (digit_row_at radix t)
 
 abbrev pub magnitude_at : ℕ → List ℕ → ℕ
-magnitude_at radix t = place_value radix (without_underscores (digits_at radix t))
+magnitude_at radix t = place_value radix (without_underscores (digit_row_at radix t))
 
 abbrev pub after_digits : ℕ → List ℕ → List ℕ
 after_digits radix t = after_run (is_part radix) t
@@ -80,7 +80,7 @@ radix_at (z ∷ c ∷ cs) = if z == 48 && not (radix_of c == 10) then (radix_of 
 
 -- what base ten asks besides: a digit in front, and no exponent behind
 abbrev pub may_begin : ℕ → List ℕ → Bool
-may_begin radix t = not (radix == 10) || passes is_ascii_digit t
+may_begin radix t = not (radix == 10) || first_passes is_ascii_digit t
 
 abbrev pub may_end : ℕ → List ℕ → Bool
 may_end radix x = is_suffix x && (not (radix == 10) || not (is_exponent_suffix x))
@@ -111,7 +111,7 @@ capped_int (Some p) = Some (capped p.1, p.2)
 -- What stands behind the sign begins with a digit, has this base, and behind its prefix this row: whether there is a
 -- digit, the number within the limit, and what follows.
 pub record IsHead (unsigned : List ℕ) (radix : ℕ) (some : Bool) (magnitude : Option ℕ) (rest : List ℕ) : Type 0 where
-  pub first : IsTrue (passes is_ascii_digit unsigned)
+  pub first : IsTrue (first_passes is_ascii_digit unsigned)
   pub base : radix ≡ (radix_at unsigned).0
   pub has_digit : some ≡ has_digit_at (radix_at unsigned).0 (radix_at unsigned).1
   pub within : magnitude ≡ capped (magnitude_at (radix_at unsigned).0 (radix_at unsigned).1)
@@ -146,5 +146,5 @@ float_tail_at t = if is_suffix (after_exponent (after_fraction t)) then Some (af
 -- the suffix of a float
 unfoldable pub float_at : List ℕ → Option (List ℕ)
 float_at t =
-    if passes is_ascii_digit (after_minus t) && is_suffix (after_exponent (after_fraction (after_digits 10 (after_minus t))))
+    if first_passes is_ascii_digit (after_minus t) && is_suffix (after_exponent (after_fraction (after_digits 10 (after_minus t))))
     then Some (after_exponent (after_fraction (after_digits 10 (after_minus t)))) else None

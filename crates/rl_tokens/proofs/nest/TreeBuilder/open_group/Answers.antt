@@ -1,7 +1,7 @@
 use Rattle.std.proofs.Common.{refl, ◌∙◌, ap, arith}
 use Rattle.rl_tokens.specs.Trees.{trees_of}
 use Rattle.rl_tokens.proofs.NestLemmas.{opens_group}
-use Rattle.rl_tokens.proofs.nest.Nest.open_group.Goals as goal
+use Rattle.rl_tokens.proofs.nest.TreeBuilder.open_group.Goals as goal
 
 pub returns-clause-ok : goal.returns-clause-ok
 returns-clause-ok g c =

@@ -1,18 +1,18 @@
--- Reading strict texts, one part after another.
+-- A mirror of the code, for proofs alone: strict tokens, one part after another.
 use Rattle.std.specs.Prelude.{ℕ, ◌==◌, ◌||◌, ◌&&◌, not, Bool, true, false, List, [], ◌∷◌, Option, Some, None, option_map, length, drop, nat_lt, if◌then◌else◌}
 use Rattle.std.specs.Char.{is_ascii_digit}
 use Rattle.std.specs.List.{list_all}
 use Rattle.rl_tokens.specs.declared.kind.Kind.{Kind}
 use Rattle.rl_tokens.specs.declared.kind.Kind.TheVariants.{Str, ByteStr, CStr}
-use Rattle.rl_tokens.specs.Texts.{passes, begins, is_underscore, is_start, is_continue}
+use Rattle.rl_tokens.specs.Texts.{first_passes, begins, is_underscore, is_start, is_continue}
 use Rattle.rl_tokens.specs.Quoted.{is_string}
 use Rattle.rl_tokens.specs.Strict.{Itself, is_strict_unit, is_dropped_blank}
-use Rattle.rl_grammar.specs.NumberAt.{after_run, has_digit_at, after_digits, after_power_sign, radix_at}
-use Rattle.rl_grammar.specs.UnitAt.{unit_at}
+use Rattle.rl_grammar.specs.Mirrors.NumberAt.{after_run, has_digit_at, after_digits, after_power_sign, radix_at}
+use Rattle.rl_grammar.specs.Mirrors.UnitAt.{unit_at}
 
 -- some character stands there
 abbrev pub is_some_text : List ℕ → Bool
-is_some_text t = passes (λ c. true) t
+is_some_text t = first_passes (λ c. true) t
 
 -- nothing, or a word
 unfoldable pub is_strict_suffix : List ℕ → Bool
@@ -21,7 +21,7 @@ is_strict_suffix (c ∷ cs) = (if c == 95 then is_some_text cs else is_start c) 
 
 -- the same, and it doesn't begin with `_`
 abbrev pub is_number_suffix : List ℕ → Bool
-is_number_suffix x = not (passes is_underscore x) && is_strict_suffix x
+is_number_suffix x = not (first_passes is_underscore x) && is_strict_suffix x
 
 abbrev pub is_power_letter : ℕ → Bool
 is_power_letter c = c == 101 || c == 69
@@ -37,7 +37,7 @@ ends_digits (c ∷ cs) = if is_power_letter c then ends_power cs else is_number_
 
 -- behind a dot: nothing, or digits and what ends them
 unfoldable pub ends_dot : List ℕ → Bool
-ends_dot t = not (is_some_text t) || (passes is_ascii_digit t && ends_digits (after_digits 10 t))
+ends_dot t = not (is_some_text t) || (first_passes is_ascii_digit t && ends_digits (after_digits 10 t))
 
 -- behind the whole part
 abbrev pub ends_whole : List ℕ → Bool
@@ -46,11 +46,11 @@ ends_whole (c ∷ cs) = if c == 46 then ends_dot cs else ends_digits (c ∷ cs)
 
 -- a number of base ten
 unfoldable pub is_decimal : List ℕ → Bool
-is_decimal t = passes is_ascii_digit t && ends_whole (after_digits 10 t)
+is_decimal t = first_passes is_ascii_digit t && ends_whole (after_digits 10 t)
 
 -- an integer of another base, behind its prefix
 unfoldable pub is_based : ℕ → List ℕ → Bool
-is_based radix t = has_digit_at radix t && (not (passes is_power_letter (after_digits radix t)) && is_number_suffix (after_digits radix t))
+is_based radix t = has_digit_at radix t && (not (first_passes is_power_letter (after_digits radix t)) && is_number_suffix (after_digits radix t))
 
 unfoldable pub is_strict_number : List ℕ → Bool
 is_strict_number t = if (radix_at t).0 == 10 then is_decimal (radix_at t).1 else is_based (radix_at t).0 (radix_at t).1

@@ -1,15 +1,15 @@
--- The unit at the front of a text between quotes, as a plain program on characters.
+-- A mirror of the code, for proofs alone: the unit at the front of a text between quotes, as a program on characters.
 use Rattle.std.specs.Prelude.{ℕ, ◌+◌, ◌*◌, ◌==◌, ◌||◌, ◌&&◌, Bool, not, List, [], ◌∷◌, Option, Some, None, option_and_then, nat_lt, if◌then◌else◌, IsTrue, ⊤}
 use Rattle.std.specs.Char.{digit_value}
 use Rattle.std.proofs.Math.Utf8.{scalar}
 use Rattle.rl_tokens.specs.declared.kind.Kind.{Kind}
-use Rattle.rl_tokens.specs.Quoted.{held, holds_characters, is_blank, is_line_end, is_string, is_plain, may_hold, may_be_hex, has_unicode}
+use Rattle.rl_tokens.specs.Quoted.{content_of, holds_characters, is_blank, is_line_end, is_string, is_plain, allows_code, may_be_hex, has_unicode}
 use Rattle.rl_grammar.specs.declared.units.Piece.{Piece}
 use Rattle.rl_grammar.specs.declared.units.Piece.TheVariants.{Character, Byte, Nothing}
 
 -- what a piece is in a literal of the kind
 abbrev pub piece_value : Kind → Piece → List ℕ
-piece_value kind (Character c) = held kind (c ∷ [])
+piece_value kind (Character c) = content_of kind (c ∷ [])
 piece_value kind (Byte b) = b ∷ []
 piece_value kind Nothing = []
 
@@ -36,7 +36,7 @@ named_of c = if c == 110 then Some 10 else (if c == 114 then Some 13 else (if c 
 
 -- and where the kind holds it
 abbrev pub named_in : Kind → ℕ → Option ℕ
-named_in kind c = named_of c >>= λ n. if may_hold kind n then Some n else None
+named_in kind c = named_of c >>= λ n. if allows_code kind n then Some n else None
 
 abbrev pub named_at : Kind → ℕ → List ℕ → Option (List ℕ × List ℕ)
 named_at kind c rest = named_in kind c >>= λ n. found (n ∷ []) rest
@@ -54,9 +54,9 @@ hex_at kind t = do
   number_if (may_be_hex kind (high.0 * 16 + low.0)) (high.0 * 16 + low.0) low.1
 
 -- the digits and underscores up to the closing brace, behind n digits that spell v
-unfoldable pub digits_at : ℕ → ℕ → List ℕ → Option (ℕ × List ℕ)
-digits_at v n [] = None
-digits_at v n (c ∷ cs) = if c == 125 then number_if (scalar v) v cs else (if c == 95 then digits_at v n cs else (if nat_lt (digit_value c) 16 && nat_lt n 6 then digits_at (v * 16 + digit_value c) (n + 1) cs else None))
+unfoldable pub unicode_digits_at : ℕ → ℕ → List ℕ → Option (ℕ × List ℕ)
+unicode_digits_at v n [] = None
+unicode_digits_at v n (c ∷ cs) = if c == 125 then number_if (scalar v) v cs else (if c == 95 then unicode_digits_at v n cs else (if nat_lt (digit_value c) 16 && nat_lt n 6 then unicode_digits_at (v * 16 + digit_value c) (n + 1) cs else None))
 
 -- an opening brace at the front
 abbrev pub brace_at : List ℕ → Option (List ℕ)
@@ -68,8 +68,8 @@ unfoldable pub unicode_at : Kind → List ℕ → Option (ℕ × List ℕ)
 unicode_at kind t = do
   inside ← brace_at t
   first ← digit_at inside
-  whole ← digits_at first.0 1 first.1
-  number_if (has_unicode kind && may_hold kind whole.0) whole.0 whole.1
+  whole ← unicode_digits_at first.0 1 first.1
+  number_if (has_unicode kind && allows_code kind whole.0) whole.0 whole.1
 
 -- what is left behind the blanks at the front
 unfoldable pub after_blanks : List ℕ → List ℕ
@@ -79,7 +79,7 @@ after_blanks (c ∷ cs) = if is_blank c then after_blanks cs else (c ∷ cs)
 -- what stands behind a backslash
 unfoldable pub escape_at : Kind → List ℕ → Option (List ℕ × List ℕ)
 escape_at kind [] = None
-escape_at kind (c ∷ cs) = if c == 120 then (hex_at kind cs >>= λ p. found (p.0 ∷ []) p.1) else (if c == 117 then (unicode_at kind cs >>= λ p. found (held kind (p.0 ∷ [])) p.1) else (if is_line_end c then (if is_string kind then found [] (after_blanks cs) else None) else named_at kind c cs))
+escape_at kind (c ∷ cs) = if c == 120 then (hex_at kind cs >>= λ p. found (p.0 ∷ []) p.1) else (if c == 117 then (unicode_at kind cs >>= λ p. found (content_of kind (p.0 ∷ [])) p.1) else (if is_line_end c then (if is_string kind then found [] (after_blanks cs) else None) else named_at kind c cs))
 
 -- the LF of a line end of two characters
 abbrev pub line_feed_at : Kind → List ℕ → Option (List ℕ × List ℕ)
@@ -89,4 +89,4 @@ line_feed_at kind (c ∷ cs) = if is_string kind && c == 10 then found (10 ∷ [
 -- the unit at the front: what it stands for in a literal of the kind, and the text behind it
 unfoldable pub unit_at : Kind → List ℕ → Option (List ℕ × List ℕ)
 unit_at kind [] = None
-unit_at kind (c ∷ cs) = if c == 92 then escape_at kind cs else (if is_plain kind c then found (held kind (c ∷ [])) cs else (if c == 13 then line_feed_at kind cs else None))
+unit_at kind (c ∷ cs) = if c == 92 then escape_at kind cs else (if is_plain kind c then found (content_of kind (c ∷ [])) cs else (if c == 13 then line_feed_at kind cs else None))

@@ -1,8 +1,8 @@
 use Rattle.std.proofs.Common.{sym, subst}
 use Rattle.rl_tokens.specs.declared.lex_error.LexError.{LexError}
-use Rattle.rl_tokens.specs.Nests.{groups_of, EndsInGroup}
+use Rattle.rl_tokens.specs.Mirrors.TreeBuilders.{groups_of, EndsInGroup}
 use Rattle.rl_tokens.proofs.NestLemmas.{ends_in_group}
-use Rattle.rl_tokens.proofs.nest.Nest.finish.Goals as goal
+use Rattle.rl_tokens.proofs.nest.TreeBuilder.finish.Goals as goal
 
 pub returns-in-Some-clause-err : goal.returns-in-Some-clause-err
 returns-in-Some-clause-err g c =

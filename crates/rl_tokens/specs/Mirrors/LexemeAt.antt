@@ -1,29 +1,21 @@
--- The lexeme at the front of a text as the code finds it, by the first characters: its form, and the rest behind it.
+-- A mirror of the code, for proofs alone: the lexeme at the front of a text as the code finds it, by the first characters:
+-- its form, and the rest behind it.
 use Rattle.std.specs.Prelude.{◌≡◌, ℕ, Bool, ◌&&◌, ◌||◌, ◌==◌, List, [], ◌∷◌, ◌++◌, slice_index, drop, cond}
 use Rattle.std.proofs.Common.{suc, zero, Option, Some, None}
 use Rattle.std.specs.Char.{is_ascii_digit}
 use Rattle.std.specs.Option.{option_map}
-use Rattle.rl_tokens.specs.Texts.{is_start, is_continue, is_underscore, is_white, is_among, passes}
-use Rattle.rl_tokens.specs.Lexemes.{is_numeral_part, is_hash, is_base_letter, delimiters, after_run, begins_hashed_quote, begins_hashes, begins_exponent, begins_dot, after_sign, Form, LiteralForm, IdentifierForm, DelimiterForm, MarkForm, form_of, Lexeme, lexeme_text, IsLexeme}
+use Rattle.rl_tokens.specs.Texts.{is_start, is_continue, is_underscore, is_white, is_among, first_passes}
+use Rattle.rl_tokens.specs.Lexemes.{is_numeral_part, is_hash, is_base_letter, delimiters, after_run, begins_hashed_quote, begins_hashes, begins_exponent, begins_dot, after_sign, LexemeForm, LiteralForm, IdentifierForm, DelimiterForm, MarkForm, form_of, Lexeme, lexeme_text, IsLexeme}
 use Rattle.rl_tokens.specs.Puncts.{is_punct}
-use Rattle.rl_tokens.specs.declared.lexeme.Form.{Form as FoundForm}
-use Rattle.rl_tokens.specs.declared.lexeme.Form.TheVariants as found
-use Rattle.rl_tokens.specs.declared.lexeme.rows.Row.{Row}
-use Rattle.rl_tokens.specs.declared.lexeme.rows.Row.TheVariants.{Continue, Numeral, Underscores, White}
-
--- the form that the code tells
-abbrev pub form_view : FoundForm → Form
-form_view found.Literal = LiteralForm
-form_view found.Identifier = IdentifierForm
-form_view (found.Delimiter c) = DelimiterForm c
-form_view (found.Mark c) = MarkForm c
+use Rattle.rl_tokens.specs.declared.lexeme.rows.RunClass.{RunClass}
+use Rattle.rl_tokens.specs.declared.lexeme.rows.RunClass.TheVariants.{Continue, Numeral, Underscores, White}
 
 -- the test of a row
-abbrev pub row_test : Row → ℕ → Bool
-row_test Continue = is_continue
-row_test Numeral = is_numeral_part
-row_test Underscores = is_underscore
-row_test White = is_white
+abbrev pub run_test : RunClass → ℕ → Bool
+run_test Continue = is_continue
+run_test Numeral = is_numeral_part
+run_test Underscores = is_underscore
+run_test White = is_white
 
 abbrev pub after_suffix : List ℕ → List ℕ
 after_suffix [] = []
@@ -56,17 +48,17 @@ after_single [] = None
 after_single (c ∷ []) = None
 after_single (c ∷ e ∷ t) = cond (c == 92) (after_apostrophe t) (cond (e == 39) (Some t) None)
 
-abbrev pub after_fraction : List ℕ → List ℕ
-after_fraction t = cond (begins_dot t) (after_run is_numeral_part (drop 1 t)) t
+abbrev pub after_lexed_fraction : List ℕ → List ℕ
+after_lexed_fraction t = cond (begins_dot t) (after_run is_numeral_part (drop 1 t)) t
 
-abbrev pub after_exponent : List ℕ → List ℕ
-after_exponent t = cond (begins_exponent t) (after_run is_numeral_part (after_sign (drop 1 t))) t
+abbrev pub after_lexed_exponent : List ℕ → List ℕ
+after_lexed_exponent t = cond (begins_exponent t) (after_run is_numeral_part (after_sign (drop 1 t))) t
 
 abbrev pub after_decimal : List ℕ → List ℕ
-after_decimal t = after_suffix (after_exponent (after_fraction (after_run is_numeral_part t)))
+after_decimal t = after_suffix (after_lexed_exponent (after_lexed_fraction (after_run is_numeral_part t)))
 
 abbrev pub after_digit : ℕ → List ℕ → List ℕ
-after_digit c t = cond (c == 48 && passes is_base_letter t) (after_run is_continue (drop 1 t)) (after_decimal t)
+after_digit c t = cond (c == 48 && first_passes is_base_letter t) (after_run is_continue (drop 1 t)) (after_decimal t)
 
 abbrev pub quoted_at : List ℕ → Option (List ℕ)
 quoted_at t = option_map after_suffix (after_quote t)
@@ -101,14 +93,14 @@ other_class c =
 abbrev pub head_class : ℕ → HeadClass
 head_class c = cond (is_start c) (start_class c) (other_class c)
 
-abbrev pub literal_at : Option (List ℕ) → Option (Form × List ℕ)
+abbrev pub literal_at : Option (List ℕ) → Option (LexemeForm × List ℕ)
 literal_at rest = option_map (λ r. (LiteralForm, r)) rest
 
-abbrev pub word_at : List ℕ → Option (Form × List ℕ)
+abbrev pub word_at : List ℕ → Option (LexemeForm × List ℕ)
 word_at t = Some (IdentifierForm, after_run is_continue t)
 
 -- by the first character's class, the character, and what stands behind it
-abbrev pub by_class : HeadClass → ℕ → List ℕ → Option (Form × List ℕ)
+abbrev pub by_class : HeadClass → ℕ → List ℕ → Option (LexemeForm × List ℕ)
 by_class LetterBHead c t =
     cond (slice_index t 0 == 34) (literal_at (quoted_at (drop 1 t)))
     (cond (slice_index t 0 == 39) (literal_at (single_at (drop 1 t)))
@@ -117,22 +109,22 @@ by_class LetterCHead c t =
     cond (slice_index t 0 == 34) (literal_at (quoted_at (drop 1 t)))
     (cond (slice_index t 0 == 114 && begins_hashed_quote (drop 1 t)) (literal_at (raw_at (drop 1 t))) (word_at t))
 by_class LetterRHead c t =
-    cond (begins_hashed_quote t) (literal_at (raw_at t)) (cond (slice_index t 0 == 35 && passes is_start (drop 1 t)) None (word_at t))
+    cond (begins_hashed_quote t) (literal_at (raw_at t)) (cond (slice_index t 0 == 35 && first_passes is_start (drop 1 t)) None (word_at t))
 by_class OtherLetterHead c t = word_at t
 by_class QuoteHead c t = literal_at (quoted_at t)
 by_class ApostropheHead c t = literal_at (single_at t)
 by_class DigitHead c t = Some (LiteralForm, after_digit c t)
 by_class DelimiterHead c t = Some (DelimiterForm c, t)
 by_class MarkHead c t = Some (MarkForm c, t)
-by_class SlashHead c t = cond (passes (λ d. d == 47 || d == 42) t) None (Some (MarkForm c, t))
+by_class SlashHead c t = cond (first_passes (λ d. d == 47 || d == 42) t) None (Some (MarkForm c, t))
 by_class StrayHead c t = None
 
-abbrev pub lexeme_at : List ℕ → Option (Form × List ℕ)
+abbrev pub lexeme_at : List ℕ → Option (LexemeForm × List ℕ)
 lexeme_at [] = None
 lexeme_at (c ∷ t) = by_class (head_class c) c t
 
 -- A lexeme of this form begins the text, with the rest behind it.
-pub record FormBefore (t : List ℕ) (form : Form) (rest : List ℕ) : Type 0 where
+pub record FormBefore (t : List ℕ) (form : LexemeForm) (rest : List ℕ) : Type 0 where
   pub lexeme : Lexeme
   pub is_lexeme : IsLexeme lexeme rest
   pub text_is : t ≡ lexeme_text lexeme ++ rest

@@ -1,4 +1,4 @@
--- The trees of a text as they grow: what contracts of the lexer see of the groups that are open.
+-- A mirror of the code, for proofs alone: the trees of a text as they grow, and the groups that are open.
 use Rattle.std.specs.Prelude.{◌≡◌, ◌≢◌, ◌<◌, ℕ, ◌+◌, true, false, codes, if◌then◌else◌, List, [], ◌∷◌, ◌++◌, IsTrue, Some, length, map, reverse, not, ◌&&◌, ⊤}
 use Rattle.std.specs.Str.{chars}
 use Rattle.rl_tokens.specs.declared.token.Delimiter.{Delimiter}
@@ -6,12 +6,12 @@ use Rattle.rl_tokens.specs.declared.token.Delimiter.TheVariants.{Parenthesis, Br
 use Rattle.rl_tokens.specs.declared.lex_error.LexKind.{LexKind}
 use Rattle.rl_tokens.specs.declared.lex_error.LexKind.TheVariants.{DocComment, UnclosedComment, UnclosedQuote, Lifetime, RawIdentifier, StrayCharacter, UnmatchedClose, UnclosedGroup, TooDeep, Memory}
 use Rattle.rl_tokens.specs.declared.lex_error.LexError.{LexError}
-use Rattle.rl_tokens.specs.declared.nest.OpenNest.{OpenNest}
-use Rattle.rl_tokens.specs.declared.nest.Nest.{Nest}
+use Rattle.rl_tokens.specs.declared.nest.GroupBuilder.{GroupBuilder}
+use Rattle.rl_tokens.specs.declared.nest.TreeBuilder.{TreeBuilder}
 use Rattle.rl_tokens.specs.declared.token.TokenTree.{TokenTree}
 use Rattle.rl_tokens.specs.Texts.{is_among, begins, xid_ok}
 use Rattle.rl_tokens.specs.Puncts.{is_punct}
-use Rattle.rl_tokens.specs.Lexemes.{Form, LiteralForm, IdentifierForm, DelimiterForm, MarkForm, delimiters}
+use Rattle.rl_tokens.specs.Lexemes.{LexemeForm, LiteralForm, IdentifierForm, DelimiterForm, MarkForm, delimiters}
 use Rattle.rl_tokens.specs.Trees.{FlatToken, Opening, Closing, tree_view, stream_view, flat, flat_trees}
 use Rattle.rl_tokens.specs.Lexing.{OpenGroup, is_opener, is_closer, closes, popped, innermost, behind_form, flat_form, begins_doc_comment, begins_quote, begins_lifetime, begins_raw_identifier}
 
@@ -25,43 +25,43 @@ closer_char Parenthesis = 41
 closer_char Brace = 125
 closer_char Bracket = 93
 
-abbrev pub group_of : {A : Type 0} → OpenNest A → OpenGroup
+abbrev pub group_of : {A : Type 0} → GroupBuilder A → OpenGroup
 group_of o = record { opener = opener_of o.delimiter; at = o.at }
 
 -- the open groups, the innermost first
-abbrev pub groups_of : {A : Type 0} → Nest A → List OpenGroup
+abbrev pub groups_of : {A : Type 0} → TreeBuilder A → List OpenGroup
 groups_of n = reverse (map group_of n.opened.items)
 
 -- what was read before and with the openers of these groups, the outermost first
-abbrev pub flat_open : {A : Type 0} → ℕ → List (OpenNest A) → List FlatToken
+abbrev pub flat_open : {A : Type 0} → ℕ → List (GroupBuilder A) → List FlatToken
 flat_open file [] = []
 flat_open file (o ∷ os) =
     flat_trees (stream_view o.before)
     ++ (Opening o.delimiter (record { file = file; lo = o.at; hi = o.at + 1 }) ∷ flat_open file os)
 
 -- all that was read
-abbrev pub flat_nest : {A : Type 0} → Nest A → List FlatToken
-flat_nest n = flat_open n.file n.opened.items ++ flat_trees (stream_view n.trees)
+abbrev pub flat_builder : {A : Type 0} → TreeBuilder A → List FlatToken
+flat_builder n = flat_open n.file n.opened.items ++ flat_trees (stream_view n.trees)
 
 -- a tree more behind the others of its level
-pub record TakesTree {A : Type 0} (old new : Nest A) (tree : TokenTree A) : Type 0 where
+pub record TakesTree {A : Type 0} (old new : TreeBuilder A) (tree : TokenTree A) : Type 0 where
   pub opened_same : new.opened ≡ old.opened
   pub file_same : new.file ≡ old.file
   pub trees : flat_trees (stream_view new.trees) ≡ flat_trees (stream_view old.trees) ++ flat (tree_view tree)
 
 -- a group more is open
-pub record OpensGroup {A : Type 0} (old new : Nest A) (delimiter : Delimiter) (at : ℕ) : Type 0 where
+pub record OpensGroup {A : Type 0} (old new : TreeBuilder A) (delimiter : Delimiter) (at : ℕ) : Type 0 where
   pub shallow : length (groups_of old) < 128
   pub groups : groups_of new ≡ record { opener = opener_of delimiter; at = at } ∷ groups_of old
   pub file_same : new.file ≡ old.file
-  pub flat : flat_nest new ≡ flat_nest old ++ (Opening delimiter (record { file = old.file; lo = at; hi = at + 1 }) ∷ [])
+  pub flat : flat_builder new ≡ flat_builder old ++ (Opening delimiter (record { file = old.file; lo = at; hi = at + 1 }) ∷ [])
 
 -- the innermost group is closed
-pub record ClosesGroup {A : Type 0} (old new : Nest A) (delimiter : Delimiter) (lo hi : ℕ) : Type 0 where
+pub record ClosesGroup {A : Type 0} (old new : TreeBuilder A) (delimiter : Delimiter) (lo hi : ℕ) : Type 0 where
   pub closes_it : closes (groups_of old) (closer_char delimiter) ≡ true
   pub groups : groups_of new ≡ popped (groups_of old)
   pub file_same : new.file ≡ old.file
-  pub flat : flat_nest new ≡ flat_nest old ++ (Closing delimiter (record { file = old.file; lo = lo; hi = hi }) ∷ [])
+  pub flat : flat_builder new ≡ flat_builder old ++ (Closing delimiter (record { file = old.file; lo = lo; hi = hi }) ∷ [])
 
 -- why a group can't be opened, and why it can't be closed
 abbrev pub RefusesOpener : List OpenGroup → LexKind → Type 0
@@ -81,29 +81,29 @@ pub record EndsInGroup (groups : List OpenGroup) (e : LexError) : Type 0 where
   pub place : (at : ℕ) → e.at ≡ innermost groups at
 
 -- the token's text and place fit its form
-abbrev pub IsFitting : Form → List ℕ → ℕ → ℕ → Type 0
+abbrev pub IsFitting : LexemeForm → List ℕ → ℕ → ℕ → Type 0
 IsFitting LiteralForm text lo hi = ⊤
 IsFitting IdentifierForm text lo hi = IsTrue (xid_ok (chars text))
 IsFitting (DelimiterForm c) text lo hi = IsTrue (is_among delimiters c) × (hi ≡ lo + 1)
 IsFitting (MarkForm c) text lo hi = IsTrue (is_punct c)
 
 -- one token more was read
-pub record TakesToken {A : Type 0} (old new : Nest A) (form : Form) (text : List ℕ) (lo hi : ℕ) : Type 0 where
+pub record TakesToken {A : Type 0} (old new : TreeBuilder A) (form : LexemeForm) (text : List ℕ) (lo hi : ℕ) : Type 0 where
   pub groups : behind_form (groups_of old) form lo ≡ Some (groups_of new)
-  pub flat : flat_nest new ≡ flat_nest old ++ (flat_form form text (record { file = old.file; lo = lo; hi = hi }) ∷ [])
+  pub flat : flat_builder new ≡ flat_builder old ++ (flat_form form text (record { file = old.file; lo = lo; hi = hi }) ∷ [])
   pub file : new.file ≡ old.file
 
 -- a closer that isn't that of the innermost open group; an opener with too many groups open
-abbrev pub ClosesWrong : List OpenGroup → Form → Type 0
+abbrev pub ClosesWrong : List OpenGroup → LexemeForm → Type 0
 ClosesWrong groups (DelimiterForm c) = IsTrue (is_closer c && not (closes groups c))
 ClosesWrong groups _ = ⊥
 
-abbrev pub OpensTooDeep : List OpenGroup → Form → Type 0
+abbrev pub OpensTooDeep : List OpenGroup → LexemeForm → Type 0
 OpensTooDeep groups (DelimiterForm c) = IsTrue (is_opener c) × (length groups ≡ 128)
 OpensTooDeep groups _ = ⊥
 
 -- why a token of this form can't be read
-abbrev pub RefusesForm : List OpenGroup → Form → LexKind → Type 0
+abbrev pub RefusesForm : List OpenGroup → LexemeForm → LexKind → Type 0
 RefusesForm groups form UnmatchedClose = ClosesWrong groups form
 RefusesForm groups form TooDeep = OpensTooDeep groups form
 RefusesForm groups form Memory = ⊤

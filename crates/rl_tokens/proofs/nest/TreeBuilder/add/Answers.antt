@@ -1,9 +1,9 @@
 use Rattle.std.proofs.Common.{◌∙◌, ap}
 use Rattle.std.proofs.lemmas.Result.{on_ok_weaker}
-use Rattle.rl_tokens.specs.LexemeAt.{form_view}
+use Rattle.rl_tokens.specs.Cursors.{form_view}
 use Rattle.rl_tokens.specs.Puncts.{Mark}
 use Rattle.rl_tokens.proofs.NestLemmas.{takes_mark}
-use Rattle.rl_tokens.proofs.nest.Nest.add.Goals as goal
+use Rattle.rl_tokens.proofs.nest.TreeBuilder.add.Goals as goal
 
 pub returns-in-Mark-clause-ok : goal.returns-in-Mark-clause-ok
 returns-in-Mark-clause-ok g c =

@@ -1,9 +1,9 @@
--- Whether a number's body is its digits.
+-- A mirror of the code, for proofs alone: whether a number's body is its digits.
 use Rattle.std.specs.Prelude.{ℕ, Bool, false, not, ◌==◌, ◌||◌, ◌&&◌, List, [], ◌∷◌}
 use Rattle.std.specs.Char.{is_ascii_digit}
 use Rattle.std.specs.List.{list_all}
-use Rattle.rl_grammar.specs.NumberAt.{after_minus}
-use Rattle.rl_grammar.specs.StrictAt.{is_some_text}
+use Rattle.rl_grammar.specs.Mirrors.NumberAt.{after_minus}
+use Rattle.rl_grammar.specs.Mirrors.StrictAt.{is_some_text}
 
 -- decimal digits, with no needless zero in front
 abbrev pub is_plain_digits : List ℕ → Bool

@@ -1,4 +1,4 @@
--- Classes of characters that are skipped as far as they go.
+-- A mirror of the code, for proofs alone: classes of characters that are skipped as far as they go.
 use Rattle.std.specs.Prelude.{ℕ, Bool, ◌==◌, ◌&&◌, ◌||◌, nat_lt, nat_le}
 use Rattle.rl_tokens.specs.declared.kind.Kind.{Kind}
 use Rattle.rl_tokens.specs.declared.kind.Kind.TheVariants.{ByteStr}

@@ -1,4 +1,4 @@
--- Skipping as the code does it: one piece after the other, blocks by their depth.
+-- A mirror of the code, for proofs alone: skipping as the code does it, one piece after the other, blocks by their depth.
 use Rattle.std.specs.Prelude.{ℕ, ◌&&◌, ◌==◌, List, [], ◌∷◌, cond}
 use Rattle.std.proofs.Common.{suc, zero, Option, Some, None}
 use Rattle.rl_tokens.specs.Texts.{is_white}

@@ -3,7 +3,7 @@ use Rattle.std.proofs.lemmas.Result.{on_ok_weaker}
 use denote.Enum.Bare.{same_true}
 use Rattle.rl_tokens.specs.contracts.token.Delimiter.{the_type}
 use Rattle.rl_tokens.proofs.NestLemmas.{closes_group}
-use Rattle.rl_tokens.proofs.nest.Nest.close_group.Goals as goal
+use Rattle.rl_tokens.proofs.nest.TreeBuilder.close_group.Goals as goal
 
 not_false : (b : Bool) → not b ≡ false → b ≡ true
 not_false true h = refl
