@@ -7,6 +7,8 @@ pub enum Form {
     Literals,
     /// One, a list of literals.
     List,
+    /// One, attributes: each a name, `=`, a literal and a comma.
+    Attributes,
     /// One, such a list with something else in its last bytes.
     Spoiled,
     /// One, of one piece over and over.
@@ -18,6 +20,17 @@ impl Form {
     pub fn is_bad(self) -> bool {
         matches!(self, Form::Spoiled | Form::Hostile)
     }
+
+    /// What tables call it.
+    pub fn word(self) -> &'static str {
+        match self {
+            Form::Literals => "literals",
+            Form::List => "list",
+            Form::Attributes => "attributes",
+            Form::Spoiled => "spoiled",
+            Form::Hostile => "hostile",
+        }
+    }
 }
 
 /// Texts behind one another, and the place where each ends.
@@ -28,7 +41,7 @@ pub struct Corpus {
 }
 
 /// Every corpus.
-pub const ALL: [(&str, Form); 29] = [
+pub const ALL: [(&str, Form); 30] = [
     ("mixed literals", Form::Literals),
     ("short strings", Form::Literals),
     ("plain strings of 4 KB", Form::Literals),
@@ -40,6 +53,7 @@ pub const ALL: [(&str, Form); 29] = [
     ("list with comments", Form::List),
     ("comments alone", Form::List),
     ("list of short integers", Form::List),
+    ("attributes", Form::Attributes),
     ("short integers, a comma last", Form::Spoiled),
     ("short integers, a group last", Form::Spoiled),
     ("short integers, a fault last", Form::Spoiled),
@@ -216,6 +230,16 @@ pub fn make(name: &'static str, form: Form, size: usize) -> Corpus {
             while corpus.bytes.len() < size {
                 corpus.push(&numbers.piece(name));
             }
+        }
+        Form::Attributes => {
+            let mut list = String::new();
+            let mut count = 0;
+            while list.len() < size {
+                let (letters, literal) = (numbers.letters(4), numbers.mixed());
+                list.push_str(&format!("{letters}{count} = {literal},\n"));
+                count += 1;
+            }
+            corpus.push(&list);
         }
         Form::List | Form::Spoiled => {
             let mut list = String::new();

@@ -3,8 +3,26 @@
 use crate::corpus::Corpus;
 use crate::ours;
 
-/// The sums of some texts, with a text past UTF-8, places out of order, and one past the end among them.
+/// All of them.
 pub fn check() -> Result<(), String> {
+    check_literals()?;
+    check_attributes()
+}
+
+/// The sum of texts some of which are attributes.
+fn check_attributes() -> Result<(), String> {
+    let corpus = Corpus {
+        name: "known attributes",
+        bytes: b"a = 1, b = \"x\",a = 1, a = 2c = true1".to_vec(),
+        ends: vec![15, 27, 35, 36],
+    };
+    // 2, none (a name twice), 1, none
+    wanted("attr", ours::attr(&corpus), 3)
+}
+
+/// The sums of some texts, with a text past UTF-8, places out of order, and one past the end among
+/// them.
+fn check_literals() -> Result<(), String> {
     let corpus = Corpus {
         name: "known texts",
         bytes: b"\"ab\"q0xFF_u8nope1 'a' [2]\xFFtrue".to_vec(),
@@ -15,7 +33,11 @@ pub fn check() -> Result<(), String> {
     // 1 + 2 + 1, 6 + 3 + 2, 8
     wanted("value", ours::value(&corpus), 23)?;
     wanted("literal", ours::literal(&corpus), 23)?;
-    wanted("lent", ours::lent(&corpus), 23)?;
+    wanted("value_ref", ours::value_ref(&corpus), 23)?;
+    // 1 + 2 + 1, 6 + 255 + 2, 8
+    wanted("lent", ours::lent(&corpus), 275)?;
+    // 1, 1, 1, 5, 1
+    wanted("tokens", ours::tokens(&corpus), 9)?;
     // 1, 1, 1, 3, none, 1
     wanted("lex", ours::lex(&corpus), 7)?;
     // 1, 1, none, none, 1

@@ -1,13 +1,17 @@
-//! Times this repository's libraries and others on the same texts. bench/run builds and calls it.
+//! Runs the same work by this repository's libraries and by others. bench/run builds and calls it.
 //!
-//! `driver time [--rounds N] [--size BYTES]` prints a table of times; `driver names` the corpora and what runs on each;
-//! `driver once CORPUS WORK BYTES` runs one piece of work once, in the function `measured`; `driver peak CORPUS WORK BYTES`
-//! also tells how far memory grew meanwhile. Each first tries the works on texts whose sums are known.
+//! `driver names` prints each corpus with what runs on it; `driver check BYTES` compares the sums
+//! of works that weigh alike. The others print numbers: `driver once CORPUS WORK BYTES` runs one
+//! work once, in the function `measured`, and prints the corpus's bytes and texts and the sum;
+//! `driver none CORPUS WORK BYTES` does all but run it; `driver taken CORPUS WORK BYTES` prints,
+//! with bytes and sum, the microseconds of processor time, the page faults and the bytes of memory
+//! that it took. Each first tries the works on texts whose sums are known.
 
 mod corpus;
 mod known;
 mod others;
 mod ours;
+mod process;
 mod weight;
 mod works;
 
@@ -16,31 +20,11 @@ use std::hint::black_box;
 use std::process::ExitCode;
 use works::Work;
 
-extern "C" {
-    /// The C library's: the processor time of this process, in microseconds.
-    fn clock() -> i64;
-}
-
 /// Runs the work. Callgrind counts what runs inside.
 #[no_mangle]
 #[inline(never)]
 fn measured(work: &Work, corpus: &Corpus) -> u64 {
     (work.run)(black_box(corpus))
-}
-
-/// The least processor time of the rounds, in microseconds, of each work. They take turns.
-fn least_times(works: &[Work], corpus: &Corpus, rounds: u32) -> Vec<i64> {
-    let mut least = vec![i64::MAX; works.len()];
-    for _ in 0..rounds {
-        for (work, least) in works.iter().zip(&mut least) {
-            // SAFETY: `clock` takes nothing and writes nothing of ours.
-            let before = unsafe { clock() };
-            black_box(measured(work, corpus));
-            let after = unsafe { clock() };
-            *least = (*least).min(after - before);
-        }
-    }
-    least
 }
 
 /// The sums of works that weigh alike have to agree.
@@ -59,62 +43,25 @@ fn check_sums(works: &[Work], corpus: &Corpus) -> Result<(), String> {
     Ok(())
 }
 
-/// Prints a row for each corpus: the time of each work in milliseconds, and how many times that of the others it is.
-fn print_times(rounds: u32, size: usize) -> Result<(), String> {
-    println!("| Corpus | texts | bytes | work | ms | ns a byte | ours to it |");
-    println!("|---|---|---|---|---|---|---|");
+/// The same on every corpus that is good text.
+fn check_all(size: usize) -> Result<(), String> {
     for (name, form) in corpus::ALL {
-        if form.is_bad() {
-            continue;
-        }
-        let corpus = corpus::make(name, form, size);
-        let works = works::of(form);
-        check_sums(works, &corpus)?;
-        let times = least_times(works, &corpus, rounds);
-        for (work, time) in works.iter().zip(&times) {
-            let against: Vec<String> = works
-                .iter()
-                .zip(&times)
-                .filter(|(other, _)| other.ours && !work.ours && other.sum == work.sum)
-                .map(|(other, other_time)| {
-                    format!("{} {:.2}", other.name, *other_time as f64 / *time as f64)
-                })
-                .collect();
-            let bytes = corpus.bytes.len();
-            println!(
-                "| {} | {} | {} | {} | {:.1} | {:.2} | {} |",
-                corpus.name,
-                corpus.ends.len(),
-                bytes,
-                work.name,
-                *time as f64 / 1000.0,
-                *time as f64 * 1000.0 / bytes as f64,
-                against.join(", ")
-            );
+        if !form.is_bad() {
+            check_sums(works::of(form), &corpus::make(name, form, size))?;
         }
     }
     Ok(())
 }
 
-/// Prints each corpus and work, with a word on whether the corpus is bad input and the work ours.
+/// Prints each corpus and work, with a word on whether the corpus is literals, a list or bad input
+/// and the work ours.
 fn print_names() {
     for (name, form) in corpus::ALL {
-        let kind = if form.is_bad() { "hostile" } else { "plain" };
         for work in works::of(form) {
             let whose = if work.ours { "ours" } else { "other" };
-            println!("{kind}\t{whose}\t{name}\t{}", work.name);
+            println!("{}\t{whose}\t{name}\t{}", form.word(), work.name);
         }
     }
-}
-
-/// What the kernel tells of this process under a word, in bytes.
-fn memory(word: &str) -> Result<u64, String> {
-    let status = std::fs::read_to_string("/proc/self/status").map_err(|fault| fault.to_string())?;
-    let mut lines = status.lines();
-    let line = lines.find(|line| line.starts_with(word)).ok_or(word)?;
-    let number = line.split_whitespace().nth(1).ok_or(word)?;
-    let kilobytes: u64 = number.parse().map_err(|_| word.to_string())?;
-    Ok(1024 * kilobytes)
 }
 
 /// The work of this name, and the corpus of this name and size.
@@ -130,33 +77,28 @@ fn found(name: &str, work_name: &str, size: usize) -> Result<(&'static Work, Cor
     Ok((work, corpus::make(name, form, size)))
 }
 
-/// Runs one work once, and prints the corpus's bytes and the sum.
-fn run_once(name: &str, work_name: &str, size: usize) -> Result<(), String> {
-    let (work, corpus) = found(name, work_name, size)?;
-    println!("{} {}", corpus.bytes.len(), measured(work, &corpus));
+/// Prints the corpus's bytes and texts, and what the work makes of it, or 0 where it isn't to run.
+fn run_once(work: &Work, corpus: &Corpus, runs: bool) {
+    let sum = if runs { measured(work, corpus) } else { 0 };
+    println!("{} {} {sum}", corpus.bytes.len(), corpus.ends.len());
+}
+
+/// Prints the corpus's bytes, the sum, and what the work takes: microseconds, page faults, and how
+/// many bytes more than before were held at most.
+fn run_taken(work: &Work, corpus: &Corpus) -> Result<(), String> {
+    process::begin_peak()?;
+    let (held, faults) = (process::held()?, process::page_faults()?);
+    let before = process::processor_time();
+    let sum = measured(work, corpus);
+    let time = process::processor_time() - before;
+    let faults = process::page_faults()? - faults;
+    let peak = process::peak()?.saturating_sub(held);
+    println!("{} {sum} {time} {faults} {peak}", corpus.bytes.len());
     Ok(())
 }
 
-/// The same, and prints how many bytes more than before were held at most.
-fn run_for_peak(name: &str, work_name: &str, size: usize) -> Result<(), String> {
-    let (work, corpus) = found(name, work_name, size)?;
-    // The peak begins anew.
-    std::fs::write("/proc/self/clear_refs", "5").map_err(|fault| fault.to_string())?;
-    let before = memory("VmRSS")?;
-    let sum = measured(work, &corpus);
-    let peak = memory("VmHWM")? - before;
-    println!("{} {sum} {peak}", corpus.bytes.len());
-    Ok(())
-}
-
-/// The number that stands behind a flag, or the default.
-fn number(arguments: &[String], flag: &str, default: usize) -> Result<usize, String> {
-    let Some(at) = arguments.iter().position(|word| word == flag) else {
-        return Ok(default);
-    };
-    let word = arguments.get(at + 1).ok_or(flag)?;
-    word.parse()
-        .map_err(|fault| format!("{flag} {word}: {fault}"))
+fn number(word: &str) -> Result<usize, String> {
+    word.parse().map_err(|fault| format!("{word}: {fault}"))
 }
 
 fn run() -> Result<(), String> {
@@ -164,27 +106,18 @@ fn run() -> Result<(), String> {
     let words: Vec<&str> = arguments.iter().map(String::as_str).collect();
     known::check()?;
     match words.as_slice() {
-        ["time", ..] => {
-            let rounds = number(&arguments, "--rounds", 20)?;
-            print_times(rounds as u32, number(&arguments, "--size", 10_000_000)?)
+        ["names"] => print_names(),
+        ["check", size] => check_all(number(size)?)?,
+        [verb @ ("once" | "none" | "taken"), corpus, work, size] => {
+            let (work, corpus) = found(corpus, work, number(size)?)?;
+            match *verb {
+                "taken" => run_taken(work, &corpus)?,
+                _ => run_once(work, &corpus, *verb == "once"),
+            }
         }
-        ["names"] => {
-            print_names();
-            Ok(())
-        }
-        [verb @ ("once" | "peak"), corpus, work, size] => {
-            let size = size.parse().map_err(|fault| format!("{size}: {fault}"))?;
-            let run = if *verb == "once" {
-                run_once
-            } else {
-                run_for_peak
-            };
-            run(corpus, work, size)
-        }
-        _ => Err(
-            "time [--rounds N] [--size BYTES] | names | once|peak CORPUS WORK BYTES".to_string(),
-        ),
+        _ => return Err("names | check BYTES | once|none|taken CORPUS WORK BYTES".to_string()),
     }
+    Ok(())
 }
 
 fn main() -> ExitCode {

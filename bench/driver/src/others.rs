@@ -9,8 +9,23 @@ fn digit_count(value: u128) -> usize {
     value.checked_ilog10().map_or(1, |log| log as usize + 1)
 }
 
+/// How many digits a float has without its underscores and pluses.
+fn float_digit_count(numeral: &str) -> usize {
+    let bytes = numeral.bytes();
+    bytes.filter(|byte| !matches!(byte, b'_' | b'+')).count()
+}
+
+/// What an integer and a float weigh beside kind and suffix.
+#[derive(Clone, Copy)]
+enum Numbers {
+    /// How many digits they have in base ten.
+    Digits,
+    /// An integer's value, and how long a float's numeral is.
+    AsTheyStand,
+}
+
 /// The weight of a text by litrs; 0 where it refuses.
-fn litrs_weight(text: &str) -> u64 {
+fn litrs_weight(text: &str, numbers: Numbers) -> u64 {
     use litrs::Literal;
     let Ok(literal) = Literal::parse(text) else {
         return 0;
@@ -21,17 +36,32 @@ fn litrs_weight(text: &str) -> u64 {
         Literal::Byte(_) => weight(Kind::Byte, 1, 0),
         Literal::Char(literal) => weight(Kind::Char, literal.value().len_utf8(), 0),
         Literal::Integer(literal) => {
-            let digits = literal.value::<u128>().map_or(0, digit_count);
+            let value = literal.value::<u128>().map_or(0, |value| match numbers {
+                Numbers::Digits => digit_count(value) as u64,
+                Numbers::AsTheyStand => value as u64,
+            });
             let suffix = literal.type_suffix().map_or(0, integer_suffix);
-            weight(Kind::Int, digits, suffix)
+            weight(Kind::Int, 0, suffix).wrapping_add(value)
         }
         Literal::Float(literal) => {
-            let number = literal.number_part().bytes();
-            let digits = number.filter(|byte| !matches!(byte, b'_' | b'+')).count();
-            weight(Kind::Float, digits, literal.type_suffix().map_or(0, |_| 3))
+            let size = match numbers {
+                Numbers::Digits => float_digit_count(literal.number_part()),
+                Numbers::AsTheyStand => literal.number_part().len(),
+            };
+            weight(Kind::Float, size, literal.type_suffix().map_or(0, |_| 3))
         }
         Literal::Bool(_) => weight(Kind::Bool, 0, 0),
     }
+}
+
+/// The sum by litrs. One loop for both sums, so that the compiler can write litrs' code into it, as
+/// it does into the loop of a caller who parses in one place.
+#[inline(never)]
+fn litrs_sum(corpus: &Corpus, numbers: Numbers) -> u64 {
+    corpus
+        .texts()
+        .map(|text| litrs_weight(text, numbers))
+        .fold(0, u64::wrapping_add)
 }
 
 /// The length of a type's name.
@@ -45,8 +75,14 @@ fn integer_suffix(suffix: litrs::IntegerType) -> usize {
     }
 }
 
+/// By the values, with the digits in base ten of numbers counted.
 pub fn litrs_value(corpus: &Corpus) -> u64 {
-    corpus.texts().map(litrs_weight).fold(0, u64::wrapping_add)
+    litrs_sum(corpus, Numbers::Digits)
+}
+
+/// By what is lent: an integer's value, and a float's numeral as it stands.
+pub fn litrs_lent(corpus: &Corpus) -> u64 {
+    litrs_sum(corpus, Numbers::AsTheyStand)
 }
 
 /// How many trees proc-macro2's own lexer cuts the texts into; none where it refuses.
@@ -89,7 +125,8 @@ pub mod syn {
             .fold(0, u64::wrapping_add)
     }
 
-    /// How many literals stand in the text: proc-macro2's trees, and of each literal's text syn's reading.
+    /// How many literals stand in the text: proc-macro2's trees, and of each literal's text syn's
+    /// reading.
     fn count(text: &str) -> Option<u64> {
         let mut literals = 0;
         let mut trees = text.parse::<TokenStream>().ok()?.into_iter();

@@ -2,22 +2,30 @@
 
 use crate::corpus::Corpus;
 
-/// A slice of bytes and its length, a slice of places and its length, and the place of the sum.
+/// A slice of bytes and its length, and a slice of places and its length.
+type Certain = unsafe extern "C" fn(*const u8, usize, *const usize, usize) -> u64;
+
+/// The same, and the place of the sum.
 type Export = unsafe extern "C" fn(*const u8, usize, *const usize, usize, &mut u64) -> bool;
 
 extern "C" {
     fn rl_bench_shape(bytes: *const u8, len: usize, ends: *const usize, count: usize) -> u64;
     fn rl_bench_value(b: *const u8, n: usize, e: *const usize, m: usize, sum: &mut u64) -> bool;
     fn rl_bench_literal(b: *const u8, n: usize, e: *const usize, m: usize, sum: &mut u64) -> bool;
+    fn rl_bench_value_ref(b: *const u8, n: usize, e: *const usize, m: usize, sum: &mut u64)
+        -> bool;
     fn rl_bench_lent(b: *const u8, n: usize, e: *const usize, m: usize, sum: &mut u64) -> bool;
+    fn rl_bench_tokens(bytes: *const u8, len: usize, ends: *const usize, count: usize) -> u64;
     fn rl_bench_lex(b: *const u8, n: usize, e: *const usize, m: usize, sum: &mut u64) -> bool;
     fn rl_bench_read(b: *const u8, n: usize, e: *const usize, m: usize, sum: &mut u64) -> bool;
+    fn rl_bench_attr(b: *const u8, n: usize, e: *const usize, m: usize, sum: &mut u64) -> bool;
 }
 
 fn call(export: Export, corpus: &Corpus) -> u64 {
     let (bytes, ends) = (&corpus.bytes, &corpus.ends);
     let mut sum = 0;
-    // SAFETY: the pointers are those of two slices with their lengths, which outlive the call, and are only read.
+    // SAFETY: the pointers are those of two slices with their lengths, which outlive the call, and
+    // are only read.
     let done = unsafe {
         export(
             bytes.as_ptr(),
@@ -31,10 +39,14 @@ fn call(export: Export, corpus: &Corpus) -> u64 {
     sum
 }
 
-pub fn shape(corpus: &Corpus) -> u64 {
+fn call_certain(export: Certain, corpus: &Corpus) -> u64 {
     let (bytes, ends) = (&corpus.bytes, &corpus.ends);
     // SAFETY: as in `call`.
-    unsafe { rl_bench_shape(bytes.as_ptr(), bytes.len(), ends.as_ptr(), ends.len()) }
+    unsafe { export(bytes.as_ptr(), bytes.len(), ends.as_ptr(), ends.len()) }
+}
+
+pub fn shape(corpus: &Corpus) -> u64 {
+    call_certain(rl_bench_shape, corpus)
 }
 
 pub fn value(corpus: &Corpus) -> u64 {
@@ -49,10 +61,22 @@ pub fn lent(corpus: &Corpus) -> u64 {
     call(rl_bench_lent, corpus)
 }
 
+pub fn value_ref(corpus: &Corpus) -> u64 {
+    call(rl_bench_value_ref, corpus)
+}
+
+pub fn tokens(corpus: &Corpus) -> u64 {
+    call_certain(rl_bench_tokens, corpus)
+}
+
 pub fn lex(corpus: &Corpus) -> u64 {
     call(rl_bench_lex, corpus)
 }
 
 pub fn read(corpus: &Corpus) -> u64 {
     call(rl_bench_read, corpus)
+}
+
+pub fn attr(corpus: &Corpus) -> u64 {
+    call(rl_bench_attr, corpus)
 }

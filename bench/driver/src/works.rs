@@ -7,9 +7,11 @@ use crate::{others, ours};
 #[derive(Clone, Copy, PartialEq, Eq)]
 pub enum Sum {
     Shapes,
+    Lents,
     Values,
     Trees,
     Literals,
+    Attributes,
 }
 
 /// One piece of work.
@@ -43,9 +45,11 @@ const fn other(name: &'static str, sum: Sum, run: fn(&Corpus) -> u64) -> Work {
 /// The works of texts that are a literal each.
 const OF_LITERALS: &[Work] = &[
     ours("shape", Sum::Shapes, ours::shape),
+    ours("lent", Sum::Lents, ours::lent),
+    other("litrs, lent", Sum::Lents, others::litrs_lent),
     ours("value", Sum::Values, ours::value),
     ours("literal", Sum::Values, ours::literal),
-    ours("lent", Sum::Values, ours::lent),
+    ours("value_ref", Sum::Values, ours::value_ref),
     other("litrs", Sum::Values, others::litrs_value),
     #[cfg(feature = "oracle")]
     other("syn", Sum::Values, others::syn::value),
@@ -53,6 +57,7 @@ const OF_LITERALS: &[Work] = &[
 
 /// The works of a text that is a list.
 const OF_LISTS: &[Work] = &[
+    ours("tokens", Sum::Trees, ours::tokens),
     ours("lex", Sum::Trees, ours::lex),
     other("proc-macro2", Sum::Trees, others::proc_macro2_lex),
     ours("read", Sum::Literals, ours::read),
@@ -60,8 +65,17 @@ const OF_LISTS: &[Work] = &[
     other("proc-macro2 and syn", Sum::Literals, others::syn::read),
 ];
 
+/// The works of a text that is attributes.
+const OF_ATTRIBUTES: &[Work] = &[
+    ours("tokens", Sum::Trees, ours::tokens),
+    ours("lex", Sum::Trees, ours::lex),
+    other("proc-macro2", Sum::Trees, others::proc_macro2_lex),
+    ours("attr", Sum::Attributes, ours::attr),
+];
+
 /// The works of a list with something else in its last bytes.
 const OF_SPOILED: &[Work] = &[
+    ours("tokens", Sum::Trees, ours::tokens),
     ours("lex", Sum::Trees, ours::lex),
     ours("read", Sum::Literals, ours::read),
 ];
@@ -69,7 +83,9 @@ const OF_SPOILED: &[Work] = &[
 /// The works of a text that is hostile.
 const OF_HOSTILE: &[Work] = &[
     ours("shape", Sum::Shapes, ours::shape),
+    ours("lent", Sum::Lents, ours::lent),
     ours("literal", Sum::Values, ours::literal),
+    ours("tokens", Sum::Trees, ours::tokens),
     ours("lex", Sum::Trees, ours::lex),
     ours("read", Sum::Literals, ours::read),
 ];
@@ -79,6 +95,7 @@ pub fn of(form: Form) -> &'static [Work] {
     match form {
         Form::Literals => OF_LITERALS,
         Form::List => OF_LISTS,
+        Form::Attributes => OF_ATTRIBUTES,
         Form::Spoiled => OF_SPOILED,
         Form::Hostile => OF_HOSTILE,
     }

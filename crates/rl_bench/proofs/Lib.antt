@@ -1,2 +1,4 @@
+pub mod LentLemmas
 pub mod SumLemmas
+pub mod TokenLemmas
 pub mod WeightLemmas

@@ -1,5 +1,5 @@
 -- Lengths and weights.
-use Rattle.std.proofs.Common.{◌≡◌, ◌∙◌, ℕ, List, [], Bool, Option, Some, None, ap, sym, subst, inl, inr, refl, Result, Ok, Err, IfOk}
+use Rattle.std.proofs.Common.{◌≡◌, ◌∙◌, ℕ, List, Bool, Option, Some, None, ap, sym, subst, inl, inr, refl, Result, Ok, Err, IfOk}
 use Rattle.std.specs.Str.{chars, IsUtf8}
 use Rattle.rl_tokens.specs.Texts.{byte_len}
 use Rattle.rl_tokens.specs.declared.kind.Kind.{Kind}
@@ -10,7 +10,7 @@ use Rattle.rl_grammar.specs.Bodies.{HasBody}
 use Rattle.rl_grammar.specs.NumberShapes.{AreDigits}
 use Rattle.rust_literals.specs.declared.lit.Lit.{Lit}
 use Rattle.rust_literals.specs.Literals.{kind_of, IsReadAs}
-use Rattle.rl_bench.specs.Weights.{size, IsValueWeight, HasValueWeight}
+use Rattle.rl_bench.specs.Weights.{size, HasValueWeight}
 use Rattle.rl_bench.specs.Sizes.{HasSize, WeighsAs, HasLitWeight, IsLitOfText}
 
 -- a number's digits are its contents

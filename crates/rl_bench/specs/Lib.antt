@@ -1,3 +1,4 @@
+pub mod Lent
 pub mod Sizes
 pub mod Sums
 pub mod Weights

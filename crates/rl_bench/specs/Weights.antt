@@ -1,5 +1,5 @@
 -- What a text weighs.
-use Rattle.std.specs.Prelude.{◌≡◌, ◌≢◌, ◌⊎◌, ℕ, List, length}
+use Rattle.std.specs.Prelude.{◌≡◌, ◌≢◌, ◌⊎◌, ℕ, List, length, All}
 use Rattle.std.specs.Str.{chars}
 use Rattle.rl_tokens.specs.declared.kind.Kind.{Kind}
 use Rattle.rl_tokens.specs.declared.kind.Kind.TheVariants.{Str, ByteStr, CStr, Byte, Char, Int, Float, Bool}
@@ -8,12 +8,15 @@ use Rattle.rl_tokens.specs.declared.error.Error.{Error}
 use Rattle.rl_tokens.specs.declared.error.ErrorKind.TheVariants.{Memory}
 use Rattle.rl_tokens.specs.Reading.{Contents, Characters, Bytes, Digits, Truth, Reads, HasContents, HasSuffix}
 use Rattle.rl_tokens.specs.Texts.{byte_len}
-use Rattle.rl_tokens.specs.Lexing.{Lexes, Fault}
+use Rattle.rl_tokens.specs.Lexing.{LexedToken, LexesUpTo, BeginsNoLexeme, Lexes, Fault}
 use Rattle.rl_tokens.specs.Trees.{Tree}
 use Rattle.rl_tokens.specs.Reading.{HasNoReading}
 use Rattle.rl_grammar.specs.WholeShapes.{IsSplit}
 use Rattle.rust_literals.specs.declared.lit.Lit.{Lit}
 use Rattle.rust_literals.specs.Parsing.{AreRead, RefusesText}
+use Rattle.rl_attributes.specs.declared.attributes.Entry.{Entry}
+use Rattle.rl_attributes.specs.Attributes.{AreAttributesOf, RefusesAttributeText as RefusesAttributes}
+use Rattle.rl_attributes.specs.Entries.{attributes_of, IsReadEntry}
 use Rattle.rl_bench.specs.Sums.{added}
 
 -- a kind's number
@@ -64,6 +67,10 @@ pub record IsValueWeight (kind : Kind) (text : List ℕ) (weight : ℕ) : Type 0
 abbrev pub HasValueWeight : List ℕ → ℕ → Type 0
 HasValueWeight text weight = ((kind : Kind) × IsValueWeight kind (chars text) weight) ⊎ (HasNoReading (chars text) × (weight ≡ 0))
 
+-- this many tokens can be cut off the text, until none begins what is left
+abbrev pub HasTokenCount : List ℕ → ℕ → Type 0
+HasTokenCount text count = (cuts : List LexedToken) × (rest : List ℕ) × LexesUpTo 0 (chars text) cuts rest × BeginsNoLexeme rest × (count ≡ length cuts)
+
 -- a text is cut into this many trees, groups as one; or it has a fault, and none
 abbrev pub HasTreeCount : List ℕ → ℕ → Type 0
 HasTreeCount text count =
@@ -74,3 +81,9 @@ abbrev pub HasLiteralCount : (A : Type 0) → List ℕ → ℕ → Type 0
 HasLiteralCount A text count =
     ((list : List (Lit A)) × AreRead (chars text) 0 list × (count ≡ length list))
     ⊎ ((e : Error A) × RefusesText (chars text) 0 (length text) e × (e.kind ≢ Memory) × (count ≡ 0))
+
+-- a text is read as this many attributes; or it is refused, for another reason than memory, and none
+abbrev pub HasAttributeCount : (A : Type 0) → List ℕ → ℕ → Type 0
+HasAttributeCount A text count =
+    ((entries : List (Entry A)) × AreAttributesOf (chars text) 0 (attributes_of entries) × All IsReadEntry entries × (count ≡ length entries))
+    ⊎ ((e : Error A) × RefusesAttributes (chars text) 0 (length text) e × (e.kind ≢ Memory) × (count ≡ 0))

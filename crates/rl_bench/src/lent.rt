@@ -1,51 +1,63 @@
-//! What literals weigh whose values are lent where they can be.
+//! What literals weigh whose contents are lent from the text, where they stand in it.
 
 ghost use Rattle.std.specs.Prelude.{IfOk};
-ghost use Rattle.rl_bench.specs.Sizes.{HasLitWeight};
+ghost use Rattle.std.specs.Str.{chars};
+ghost use Rattle.rl_grammar.specs.Founds.{IsFound};
+ghost use Rattle.rl_bench.specs.Lent.{IsLent};
+ghost use Rattle.rl_bench.specs.Sizes.{HasSize};
 
-use crate::literals::{
-    byte_string_weight, c_string_weight, literal_of, literal_weight, string_weight,
-};
 use crate::sums::Weigh;
-use crate::values::value_weight;
-use crate::weights::text_size;
-use rl_grammar::Kind;
-use rust_literals::Lit;
+use crate::values::{body_in, contents_size, suffix_in};
+use crate::weights::{text_size, weight};
+use rl_grammar::{Found, Kind, find};
 use std::alloc::{AllocError, Global};
 
-/// The weight of a literal by its kind, value or digits, and suffix. A value is lent, and made where it can't be.
-fn lent_weight(alloc: Global, literal: &Lit) -> Result<u64, AllocError>
-    ensures { IfOk result (HasLitWeight literal.now) }
+/// The least number that 64 bits don't hold.
+const PAST_64_BITS: u128 = 1 << 64;
+
+/// The length of the contents of the literal that was found in the text, which are made only where
+/// they stand nowhere in it.
+fn lent_contents_size(alloc: Global, text: &str, found: Found) -> Result<usize, AllocError>
+    requires { IsFound text.now found }
+    ensures { IfOk result (HasSize found.kind (chars text.now)) }
 {
-    match literal {
-        Lit::Str(string) => match string.value_ref() {
-            Some(value) => Ok(value_weight(Kind::Str, text_size(value), string.suffix())),
-            None => string_weight(alloc, string),
-        },
-        Lit::ByteStr(string) => match string.value_ref() {
-            Some(value) => Ok(value_weight(Kind::ByteStr, value.len(), string.suffix())),
-            None => byte_string_weight(alloc, string),
-        },
-        Lit::CStr(string) => match string.value_ref() {
-            Some(value) => Ok(value_weight(Kind::CStr, value.len(), string.suffix())),
-            None => c_string_weight(alloc, string),
-        },
-        _ => literal_weight(alloc, literal),
+    if found.kind.is_string() && found.body.plain {
+        Ok(body_in(text, found).len())
+    } else {
+        contents_size(alloc, text, found)
     }
 }
 
-/// By kind, value or digits, and suffix, by way of `Lit::new` and what it lends.
+/// How much is lent of the literal that was found in the text: of an integer what its digits spell,
+/// modulo 2 to the 64th; of a float the length of its numeral; of any other the length of its
+/// contents.
+fn lent_size(alloc: Global, text: &str, found: Found) -> Result<u64, AllocError>
+    requires { IsFound text.now found }
+    ensures { IfOk result (IsLent found.kind text.now) }
+{
+    match found.kind {
+        Kind::Int => Ok((found.magnitude % PAST_64_BITS) as u64),
+        Kind::Float => Ok(text[found.body.at..found.body.end].len() as u64),
+        _ => Ok(lent_contents_size(alloc, text, found)? as u64),
+    }
+}
+
+/// By kind, what is lent, and suffix, by way of what reading finds.
 pub(crate) struct ByLent;
 
 impl Weigh for ByLent {
-    ghost use Rattle.rl_bench.specs.Weights.{HasValueWeight};
+    ghost use Rattle.rl_bench.specs.Lent.{HasLentWeight};
 
     type Refusal = AllocError;
 
-    ghost weighs = { HasValueWeight };
+    ghost weighs = { HasLentWeight };
 
     fn weigh(alloc: Global, text: &str) -> Result<u64, AllocError> {
-        let literal = literal_of(alloc, text)?;
-        lent_weight(alloc, &literal)
+        let Some(found) = find(text) else {
+            return Ok(0);
+        };
+        let size = lent_size(alloc, text, found)?;
+        let suffix = text_size(suffix_in(text, found));
+        Ok(weight(found.kind, size, suffix as u64))
     }
 }

@@ -1,42 +1,54 @@
 //! Sums over many texts, to be called and timed by a program in another language. A static library.
 //!
-//! Each export takes a corpus: all texts behind one another, and the place where each ends. A text begins where the one
-//! before ended. What stands between places that are out of order or past the end, or is no UTF-8, is skipped.
+//! Each export takes a corpus: all texts behind one another, and the place where each ends. A text
+//! begins where the one before ended. What stands between places that are out of order or past the
+//! end, or is no UTF-8, is skipped.
 #![tactic(auto)]
 
 ghost use Rattle.std.specs.Prelude.{◌≡◌, IsTrue, IsFalse};
 ghost use Rattle.rl_bench.specs.Sums.{IsSum};
 ghost use Rattle.std.specs.declared.alloc.Global.{Global};
-ghost use Rattle.rl_bench.specs.Weights.{HasShapeWeight, HasValueWeight, HasTreeCount, HasLiteralCount};
+ghost use Rattle.rl_bench.specs.Lent.{HasLentWeight};
+ghost use Rattle.rl_bench.specs.Weights.{
+  HasShapeWeight,
+  HasValueWeight,
+  HasTokenCount,
+  HasTreeCount,
+  HasLiteralCount,
+  HasAttributeCount,
+};
 
 mod lent;
 mod lists;
 mod literals;
 mod sums;
+mod tokens;
+mod value_refs;
 mod values;
 mod weights;
 
 use crate::lent::ByLent;
-use crate::lists::{ByList, ByTrees};
+use crate::lists::{ByAttributes, ByList, ByTrees};
 use crate::literals::ByLiteral;
 use crate::sums::sum;
+use crate::tokens::ByTokens;
+use crate::value_refs::ByValueRef;
 use crate::values::ByValue;
 use crate::weights::ByShape;
 use std::alloc::{AllocError, Global};
+use std::convert::Infallible;
 
-/// The sum of the shapes of the texts: of each literal its kind's number, and the lengths of body and suffix in bytes.
+/// The sum of the shapes of the texts: of each literal its kind's number, and the lengths of body
+/// and suffix in bytes.
 #[unsafe(no_mangle)]
 pub extern "C" fn rl_bench_shape(alloc: Global, corpus: &[u8], ends: &[usize]) -> u64
     ensures { IsSum HasShapeWeight corpus.now ends.now result }
 {
-    match sum::<ByShape>(alloc, corpus, ends) {
-        Ok(total) => total,
-        Err(never) => match never {},
-    }
+    certain(sum::<ByShape>(alloc, corpus, ends))
 }
 
-/// Puts into `total` the sum of the values of the texts: of each literal its kind's number, and the lengths of contents
-/// and suffix in bytes. False where memory was refused; `total` stays then.
+/// Puts into `total` the sum of the values of the texts: of each literal its kind's number, and the
+/// lengths of contents and suffix in bytes. False where memory was refused; `total` stays then.
 #[unsafe(no_mangle)]
 pub extern "C" fn rl_bench_value(
     alloc: Global,
@@ -50,7 +62,25 @@ pub extern "C" fn rl_bench_value(
     put(sum::<ByValue>(alloc, corpus, ends), total)
 }
 
-/// The same, by way of `Lit::new`, the values, and the digits that it lends.
+/// Puts into `total` the sum of what is lent of the texts: of each literal its kind's number, the
+/// length of its suffix in bytes, and what its digits spell for an integer, the length of its
+/// numeral for a float, the length of its contents for any other. Nothing that stands in the text
+/// is copied. False where memory was refused; `total` stays then.
+#[unsafe(no_mangle)]
+pub extern "C" fn rl_bench_lent(
+    alloc: Global,
+    corpus: &[u8],
+    ends: &[usize],
+    total: &mut u64,
+) -> bool
+    ensures sum { IsTrue result → IsSum HasLentWeight corpus.now ends.now total.new }
+    ensures refused { IsFalse result → total.new ≡ total.old }
+{
+    put(sum::<ByLent>(alloc, corpus, ends), total)
+}
+
+/// Puts into `total` the sum of the values of the texts, as [`rl_bench_value`] does, by way of
+/// `Lit::new`, the values, and the digits that it lends.
 #[unsafe(no_mangle)]
 pub extern "C" fn rl_bench_literal(
     alloc: Global,
@@ -66,7 +96,7 @@ pub extern "C" fn rl_bench_literal(
 
 /// The same, by way of `Lit::new`, and each value lent where the literal lends it.
 #[unsafe(no_mangle)]
-pub extern "C" fn rl_bench_lent(
+pub extern "C" fn rl_bench_value_ref(
     alloc: Global,
     corpus: &[u8],
     ends: &[usize],
@@ -75,11 +105,20 @@ pub extern "C" fn rl_bench_lent(
     ensures sum { IsTrue result → IsSum HasValueWeight corpus.now ends.now total.new }
     ensures refused { IsFalse result → total.new ≡ total.old }
 {
-    put(sum::<ByLent>(alloc, corpus, ends), total)
+    put(sum::<ByValueRef>(alloc, corpus, ends), total)
 }
 
-/// Puts into `total` how many trees the texts are cut into, a group counted as one; a text that has a fault counts as
-/// none. False where memory was refused; `total` stays then.
+/// How many tokens can be cut off the texts, each until no token begins what is left. No memory is
+/// taken.
+#[unsafe(no_mangle)]
+pub extern "C" fn rl_bench_tokens(alloc: Global, corpus: &[u8], ends: &[usize]) -> u64
+    ensures { IsSum HasTokenCount corpus.now ends.now result }
+{
+    certain(sum::<ByTokens>(alloc, corpus, ends))
+}
+
+/// Puts into `total` how many trees the texts are cut into, a group counted as one; a text that has
+/// a fault counts as none. False where memory was refused; `total` stays then.
 #[unsafe(no_mangle)]
 pub extern "C" fn rl_bench_lex(
     alloc: Global,
@@ -93,8 +132,8 @@ pub extern "C" fn rl_bench_lex(
     put(sum::<ByTrees>(alloc, corpus, ends), total)
 }
 
-/// Puts into `total` how many literals the texts are read as; a text that is refused counts as none. False where memory
-/// was refused; `total` stays then.
+/// Puts into `total` how many literals the texts are read as; a text that is refused counts as
+/// none. False where memory was refused; `total` stays then.
 #[unsafe(no_mangle)]
 pub extern "C" fn rl_bench_read(
     alloc: Global,
@@ -106,6 +145,31 @@ pub extern "C" fn rl_bench_read(
     ensures refused { IsFalse result → total.new ≡ total.old }
 {
     put(sum::<ByList>(alloc, corpus, ends), total)
+}
+
+/// Puts into `total` how many attributes the texts are read as; a text that is refused counts as
+/// none. False where memory was refused; `total` stays then.
+#[unsafe(no_mangle)]
+pub extern "C" fn rl_bench_attr(
+    alloc: Global,
+    corpus: &[u8],
+    ends: &[usize],
+    total: &mut u64,
+) -> bool
+    ensures sum { IsTrue result → IsSum (HasAttributeCount Global) corpus.now ends.now total.new }
+    ensures refused { IsFalse result → total.new ≡ total.old }
+{
+    put(sum::<ByAttributes>(alloc, corpus, ends), total)
+}
+
+/// A sum that takes no memory.
+fn certain(sum: Result<u64, Infallible>) -> u64
+    ensures { sum ≡ Ok result }
+{
+    match sum {
+        Ok(total) => total,
+        Err(never) => match never {},
+    }
 }
 
 /// Puts a sum into its place, where there is one.

@@ -15,7 +15,7 @@ use rl_grammar::{Found, Kind, bytes_of_body, char_of, digits_of_found, find, str
 use std::alloc::{AllocError, Global};
 
 /// What stands between the quotes of the string that was found in the text.
-fn body_in(text: &str, found: Found) -> &str
+pub(crate) fn body_in(text: &str, found: Found) -> &str
     requires string { IsTrue (is_string found.kind) }
     requires found { IsFound text.now found }
     ensures { HasBody found.kind (chars text.now) result.now found.body.plain }
@@ -24,7 +24,7 @@ fn body_in(text: &str, found: Found) -> &str
 }
 
 /// What stands behind the literal proper that was found in the text.
-fn suffix_in(text: &str, found: Found) -> &str
+pub(crate) fn suffix_in(text: &str, found: Found) -> &str
     requires { IsFound text.now found }
     ensures { HasSuffix found.kind (chars text.now) (chars result.now) }
 {
@@ -32,7 +32,7 @@ fn suffix_in(text: &str, found: Found) -> &str
 }
 
 /// The length of the contents of the literal that was found in the text.
-fn contents_size(alloc: Global, text: &str, found: Found) -> Result<usize, AllocError>
+pub(crate) fn contents_size(alloc: Global, text: &str, found: Found) -> Result<usize, AllocError>
     requires { IsFound text.now found }
     ensures { IfOk result (HasSize found.kind (chars text.now)) }
 {
@@ -64,7 +64,7 @@ pub(crate) fn value_weight(kind: Kind, size: usize, suffix: &str) -> u64
     ensures { (text : List ℕ) → HasSize kind text size → HasSuffix kind text (chars suffix.now)
         → IsValueWeight kind text result }
 {
-    weight(kind, size, text_size(suffix))
+    weight(kind, size as u64, text_size(suffix) as u64)
 }
 
 /// By kind, contents and suffix, by way of what reading finds, and the decoders of bodies.

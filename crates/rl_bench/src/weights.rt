@@ -27,12 +27,10 @@ fn kind_number(kind: Kind) -> u64
 }
 
 /// A kind's number and two lengths, added modulo 2 to the 64th.
-pub(crate) fn weight(kind: Kind, first: usize, second: usize) -> u64
+pub(crate) fn weight(kind: Kind, first: u64, second: u64) -> u64
     ensures { result ≡ weight_of kind first second }
 {
-    kind_number(kind)
-        .wrapping_add(first as u64)
-        .wrapping_add(second as u64)
+    kind_number(kind).wrapping_add(first).wrapping_add(second)
 }
 
 /// How many bytes the characters of a text take.
@@ -55,7 +53,10 @@ impl Weigh for ByShape {
 
     fn weigh(_alloc: Global, text: &str) -> Result<u64, Infallible> {
         match shape(text) {
-            Some(parts) => Ok(weight(parts.kind, parts.body.len(), parts.suffix.len())),
+            Some(parts) => {
+                let (body, suffix) = (parts.body.len(), parts.suffix.len());
+                Ok(weight(parts.kind, body as u64, suffix as u64))
+            }
             None => Ok(0),
         }
     }

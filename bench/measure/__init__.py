@@ -1,0 +1,1 @@
+"""What bench/run does, part by part."""

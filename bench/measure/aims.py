@@ -1,0 +1,40 @@
+"""What is aimed at, beside other libraries, and whether it is met."""
+import collections
+
+from measure import text
+
+# a work of ours, the other's, and how many times the other's instructions it may take; elsewhere,
+# on these corpora
+Aim = collections.namedtuple('Aim', 'work beside most but')
+AIMS = (
+    Aim('shape', 'litrs', 0.6, {'short strings': 0.85, 'floats': 0.85}),
+    Aim('lent', 'litrs, lent', 1, {}),
+    Aim('value', 'litrs', 1.5, {}),
+    Aim('literal', 'syn', 1 / 3, {'floats': 0.5, 'strings of escapes': 0.5}),
+    Aim('lex', 'proc-macro2', 0.5, {}),
+    Aim('read', 'proc-macro2 and syn', 1 / 3, {}),
+)
+
+
+def each(taken):
+    """Each aim on each corpus: the corpus, the aim, what is aimed at, ours and theirs. `taken` has
+    the instructions a byte by corpus and work."""
+    for corpus, work in taken:
+        for aim in AIMS:
+            beside = taken.get((corpus, aim.beside))
+            if aim.work == work and beside:
+                yield corpus, aim, aim.but.get(corpus, aim.most), taken[corpus, work], beside
+
+
+def print_table(rows, found):
+    taken = {}
+    for row, (whole, *_) in zip(rows, found):
+        taken[row.corpus, row.work] = whole.instructions / whole.bytes
+    text.begin('Aims', ('Corpus', 'work', 'a byte', 'beside', 'a byte', 'times', 'aim', 'met'))
+    lines = met = 0
+    for corpus, aim, most, ours, theirs in each(taken):
+        good = ours <= most * theirs
+        lines, met = lines + 1, met + good
+        text.row(corpus, aim.work, '%.1f' % ours, aim.beside, '%.1f' % theirs,
+                 '%.2f' % (ours / theirs), '%.2f' % most, 'yes' if good else 'no')
+    print('\n%d of %d aims are met.' % (met, lines), flush=True)

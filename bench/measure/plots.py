@@ -1,0 +1,92 @@
+"""The two pictures, from bench/RESULTS.md."""
+import os
+import sys
+
+from measure import build, counts
+
+OURS = ('shape', 'lent', 'value', 'literal', 'tokens', 'lex', 'read', 'attr')
+COLOURS = {True: '#2f6db3', False: '#d98a2b'}
+BESIDE = (
+    (('shape', 'lent', 'value', 'literal'), ('litrs, lent', 'litrs', 'syn')),
+    (('tokens', 'lex', 'read', 'attr'), ('proc-macro2', 'proc-macro2 and syn')),
+)
+# nothing of the day or the machine goes into the files
+PLAIN = {'metadata': {'Software': None}, 'dpi': 100}
+
+
+def corpora(taken):
+    """The corpora on which another library runs too."""
+    others = {corpus for corpus, work in taken if work not in OURS + ('value_ref',)}
+    return [corpus for corpus in dict.fromkeys(corpus for corpus, _ in taken) if corpus in others]
+
+
+def bars(axes, taken, corpus):
+    """The works of one corpus, a bar each."""
+    names = [work for ours, theirs in BESIDE for work in ours + theirs if (corpus, work) in taken]
+    each = [taken[corpus, work][0] for work in names]
+    places = range(len(names))
+    axes.barh(places, each, color=[COLOURS[work in OURS] for work in names], height=0.7)
+    axes.set_yticks(places, [name.replace(' and ', '\nand ') for name in names], fontsize=9)
+    axes.invert_yaxis()
+    axes.set_xlim(0, max(each) * 1.22)
+    axes.tick_params(axis='x', labelsize=8)
+    axes.set_title(corpus, fontsize=10, loc='left')
+    for place, value in zip(places, each):
+        axes.text(value + max(each) * 0.015, place, '%.1f' % value, va='center', fontsize=8)
+    for side in ('top', 'right'):
+        axes.spines[side].set_visible(False)
+
+
+def speed(pyplot, taken, path):
+    """Ours beside the others, a panel for each corpus."""
+    names = corpora(taken)
+    rows = {'height_ratios': [0.12, 1, 1, 1, 1]}
+    figure, grid = pyplot.subplots(5, 3, figsize=(12, 13), layout='constrained', gridspec_kw=rows)
+    top, *panels = [grid[0][1], *grid[1:].flat]
+    for axes, corpus in zip(panels, names):
+        bars(axes, taken, corpus)
+    for axes in [*grid[0], *panels[len(names):]]:
+        axes.axis('off')
+    marks = [pyplot.Rectangle((0, 0), 1, 1, color=COLOURS[ours]) for ours in (True, False)]
+    labels = ['this repository', 'litrs, syn, proc-macro2']
+    top.legend(marks, labels, loc='center', ncol=2, fontsize=11, frameon=False)
+    figure.suptitle('Instructions a byte on a million bytes; less is better', fontsize=13)
+    figure.savefig(path, **PLAIN)
+
+
+def growth(pyplot, taken, path):
+    """Each of our works on every corpus, at each size. What grows as the text does is level."""
+    shared = {'sharex': True, 'sharey': True, 'layout': 'constrained'}
+    figure, grid = pyplot.subplots(2, 4, figsize=(12, 6), **shared)
+    style = {'color': COLOURS[True], 'alpha': 0.55, 'linewidth': 1.2}
+    style |= {'marker': 'o', 'markersize': 3}
+    panels = list(grid.flat)
+    for axes, name in zip(panels, OURS):
+        for (_, work), each in taken.items():
+            if work == name:
+                axes.plot(counts.SIZES, each, **style)
+        axes.set_xscale('log')
+        axes.set_yscale('log')
+        axes.set_xticks(counts.SIZES, ['1 MB', '100 KB', '10 KB'], minor=False)
+        axes.minorticks_off()
+        axes.set_yticks((0.1, 1, 10, 100, 1000), ('0.1', '1', '10', '100', '1000'))
+        axes.set_title(name, fontsize=10, loc='left')
+        axes.grid(color='#dddddd', linewidth=0.6)
+    for axes in panels[len(OURS):]:
+        axes.axis('off')
+    panels[3].tick_params(labelbottom=True)
+    title = 'Instructions a byte by the size of the text, a line for each corpus; level is linear'
+    figure.suptitle(title, fontsize=12)
+    figure.savefig(path, **PLAIN)
+
+
+def draw(taken):
+    try:
+        import matplotlib
+    except ImportError:
+        sys.exit("bench/run: no matplotlib; Debian's is for /usr/bin/python3 bench/run --plot")
+    matplotlib.use('Agg')
+    from matplotlib import pyplot
+    speed(pyplot, taken, os.path.join(build.TOP, 'docs/speed.png'))
+    growth(pyplot, taken, os.path.join(build.TOP, 'docs/growth.png'))
+    return 0

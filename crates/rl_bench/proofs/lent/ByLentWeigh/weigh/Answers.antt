@@ -1,6 +1,0 @@
--- The literal is the text's, and weighs what the text does.
-use Rattle.rl_bench.proofs.WeightLemmas.{read_weights}
-use Rattle.rl_bench.proofs.lent.ByLentWeigh.weigh.Goals as goal
-
-pub returns : goal.returns
-returns c = read_weights c.args.text.now c.in_ok-literal.literal c.lent_weight.result c.in_ok-literal.ensures c.lent_weight.ensures

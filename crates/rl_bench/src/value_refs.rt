@@ -1,0 +1,52 @@
+//! What literals weigh whose values are lent where they can be.
+
+ghost use Rattle.std.specs.Prelude.{IfOk};
+ghost use Rattle.rl_bench.specs.Sizes.{HasLitWeight};
+
+use crate::literals::{
+    byte_string_weight, c_string_weight, literal_of, literal_weight, string_weight,
+};
+use crate::sums::Weigh;
+use crate::values::value_weight;
+use crate::weights::text_size;
+use rl_grammar::Kind;
+use rust_literals::Lit;
+use std::alloc::{AllocError, Global};
+
+/// The weight of a literal by its kind, value or digits, and suffix. A value is lent, and made
+/// where it can't be.
+fn value_ref_weight(alloc: Global, literal: &Lit) -> Result<u64, AllocError>
+    ensures { IfOk result (HasLitWeight literal.now) }
+{
+    match literal {
+        Lit::Str(string) => match string.value_ref() {
+            Some(value) => Ok(value_weight(Kind::Str, text_size(value), string.suffix())),
+            None => string_weight(alloc, string),
+        },
+        Lit::ByteStr(string) => match string.value_ref() {
+            Some(value) => Ok(value_weight(Kind::ByteStr, value.len(), string.suffix())),
+            None => byte_string_weight(alloc, string),
+        },
+        Lit::CStr(string) => match string.value_ref() {
+            Some(value) => Ok(value_weight(Kind::CStr, value.len(), string.suffix())),
+            None => c_string_weight(alloc, string),
+        },
+        _ => literal_weight(alloc, literal),
+    }
+}
+
+/// By kind, value or digits, and suffix, by way of `Lit::new` and what it lends.
+pub(crate) struct ByValueRef;
+
+impl Weigh for ByValueRef {
+    ghost use Rattle.rl_bench.specs.Weights.{HasValueWeight};
+
+    type Refusal = AllocError;
+
+    ghost weighs = { HasValueWeight };
+
+    fn weigh(alloc: Global, text: &str) -> Result<u64, AllocError> {
+        let literal = literal_of(alloc, text)?;
+        value_ref_weight(alloc, &literal)
+    }
+}
