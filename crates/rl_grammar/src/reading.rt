@@ -73,7 +73,10 @@ pub(crate) fn begins_number(text: &str) -> bool
 ///
 /// ```
 /// match shape(text) {
-///     Some(parts) => Ok(weight(parts.kind, parts.body.len(), parts.suffix.len())),
+///     Some(parts) => {
+///         let (body, suffix) = (parts.body.len(), parts.suffix.len());
+///         Ok(weight(parts.kind, body as u64, suffix as u64))
+///     }
 ///     None => Ok(0),
 /// }
 /// ```

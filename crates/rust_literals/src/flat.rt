@@ -108,6 +108,16 @@ fn take_next<A: Allocator + Copy>(
 /// Puts the literal that the next tokens are at the list's end, and says whether one stood there. So a long list needn't
 /// be held: where each literal is let go before the next is taken, the memory is that of one.
 ///
+/// # Example
+///
+/// ```
+/// while !tokens.rest().is_empty() {
+///     let Ok(true) = read_next(alloc, &mut tokens, file, &mut list) else {
+///         return Err(list);
+///     };
+/// }
+/// ```
+///
 /// `false` says that the text is at its end, or that anything but a literal stands next (a fault, a group, another word
 /// or mark); [`read_behind`] says what. List and cursor stay then.
 ///
