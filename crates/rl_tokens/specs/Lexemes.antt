@@ -1,4 +1,7 @@
--- The lexemes of a text, each a tree with its spelling, and as long as what follows it allows. A character is its code.
+-- The lexemes of a text, each a tree with its spelling, and as long as what follows it allows. A
+-- character is its code. They are the tokens of the Rust Reference, chapters Tokens (sections
+-- Literals, Punctuation, Delimiters) and Identifiers. What stands in a literal isn't judged, and doc
+-- comments, lifetimes and raw identifiers are none of them.
 use Rattle.std.specs.Prelude.{◌≡◌, ℕ, ◌⊎◌, Bool, true, false, not, ◌&&◌, ◌||◌, ◌==◌, List, [], ◌∷◌, ◌++◌, IsTrue, ⊤, slice_index, replicate, drop, cond, if◌then◌else◌}
 use Rattle.std.proofs.Common.{suc, zero}
 use Rattle.std.specs.Char.{is_ascii_digit}

@@ -1,4 +1,6 @@
 -- The quoted forms of the lenient reading: cooked strings, raw strings, single characters and bytes.
+-- They are those of `syn` 3.0.9, src/lit.rs, each named at its form. What the byte kinds take as plain
+-- characters is what rustc takes.
 use Rattle.std.specs.Prelude.{◌≡◌, ℕ, ◌+◌, ◌*◌, ◌^◌, ◌≤◌, Bool, true, false, not, ◌&&◌, ◌||◌, ◌==◌, nat_lt, List, [], ◌∷◌, ◌++◌, length, filter, replicate, IsTrue, IsFalse, ⊤, encode_utf8_all, if◌then◌else◌}
 use Rattle.std.specs.Char.{IsScalar, digit_value}
 use Rattle.std.specs.List.{list_all, flat_map, AllByRecursion}
@@ -41,9 +43,9 @@ pub data QuotedUnit : Type 0 where
   -- a line end of two characters
   CrLf : QuotedUnit
   Named : (letter : Letter) → QuotedUnit
-  -- \xHH
+  -- \xHH: `backslash_x`
   Hex : (high low : ℕ) → QuotedUnit
-  -- \u{..}: the first digit, and what stands between it and the brace
+  -- \u{..}, `backslash_u`: the first digit, and what stands between it and the brace
   Unicode : (first : ℕ) (more : List ℕ) → QuotedUnit
   -- a backslash, a CR or LF, and the run of blanks after it
   Continuation : (line_end : ℕ) (run : List ℕ) → QuotedUnit
@@ -184,6 +186,7 @@ raw_opener CStr = 99 ∷ 114 ∷ []
 raw_opener _ = []
 
 -- A cooked string with this value and suffix: the text is units between quotes, and the suffix.
+-- In `syn`: `parse_lit_str_cooked`, `parse_lit_byte_str_cooked`, `parse_lit_c_str_cooked`.
 pub record Cooked (kind : Kind) (text value suffix : List ℕ) : Type 0 where
   pub units : List QuotedUnit
   pub string : IsTrue (is_string kind)
@@ -193,6 +196,7 @@ pub record Cooked (kind : Kind) (text value suffix : List ℕ) : Type 0 where
   pub value_is : value ≡ values kind units
 
 -- A raw string: what stands between its first quote and its last, since the suffix has none.
+-- In `syn`: `parse_lit_str_raw`, `parse_lit_byte_str_raw`, `parse_lit_c_str_raw`.
 pub record Raw (kind : Kind) (text value suffix : List ℕ) : Type 0 where
   pub hashes : ℕ
   pub inside : List ℕ
@@ -203,6 +207,7 @@ pub record Raw (kind : Kind) (text value suffix : List ℕ) : Type 0 where
   pub value_is : value ≡ content_of kind inside
 
 -- A character or a byte: one unit between single quotes.
+-- In `syn`: `parse_lit_char`, `parse_lit_byte`.
 pub record Single (kind : Kind) (text value suffix : List ℕ) : Type 0 where
   pub unit : QuotedUnit
   pub single : IsTrue (is_single kind)

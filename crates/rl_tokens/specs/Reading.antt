@@ -1,4 +1,5 @@
--- The one reading of a text as a literal.
+-- The one reading of a text as a literal: that of `Lit::new` in `syn` 3.0.9, src/lit.rs, an integer
+-- before a float.
 use Rattle.std.specs.Prelude.{◌≡◌, ◌⊎◌, ℕ, ◌≤◌, Bool, true, false, List, [], ◌++◌, codes, ◌<◌}
 use Rattle.std.specs.Fmt.{decimal}
 use Rattle.rl_tokens.specs.declared.kind.Kind.{Kind}

@@ -1,5 +1,5 @@
--- The literal tokens of the Rust Reference, in the profile of this project. Nothing of the lenient
--- grammar's tables is used here.
+-- The literal tokens of the Rust Reference, chapter Tokens, in the profile of this project. Each form
+-- names its section there. Nothing of the lenient grammar's tables is used here.
 use Rattle.std.specs.Prelude.{◌≡◌, ◌≢◌, ◌⊎◌, ℕ, suc, ◌+◌, ◌*◌, ◌^◌, ◌<◌, Bool, false, not, ◌&&◌, ◌||◌, ◌==◌, nat_lt, nat_le, List, [], ◌∷◌, ◌++◌, length, filter, map, replicate, IsTrue, IsFalse, ⊤, encode_utf8_all, codes, if◌then◌else◌}
 use Rattle.std.specs.Char.{is_ascii_digit, is_ascii_hexdigit, digit_value}
 use Rattle.std.specs.Str.{all_scalars}
@@ -10,10 +10,13 @@ use Rattle.rl_tokens.specs.declared.kind.Kind.TheVariants.{Str, ByteStr, CStr, B
 use Rattle.rl_tokens.specs.Texts.{IsWord, first_passes, begins}
 use Rattle.rl_tokens.specs.Reading.{Contents, Characters, Bytes, Digits, Truth}
 
+-- section Suffixes
 abbrev pub IsStrictSuffix : List ℕ → Type 0
 IsStrictSuffix x = (x ≡ []) ⊎ IsWord x
 
--- What stands between quotes, item by item.
+-- What stands between quotes, item by item: the tables ASCII escapes, Byte escapes, Unicode escapes
+-- and Quote escapes of section Literals, and for a line break section String continuation escapes of
+-- chapter Literal expressions.
 pub data StrictUnit : Type 0 where
   Itself : (c : ℕ) → StrictUnit
   -- \' and \"
@@ -152,6 +155,8 @@ HasUnits Byte us = length us ≡ 1
 HasUnits Char us = length us ≡ 1
 HasUnits _ us = ⊥
 
+-- Sections Character literals, String literals, Byte literals, Byte string literals, C string
+-- literals.
 pub record StrictCooked (t : List ℕ) (k : Kind) (v : Contents) (x : List ℕ) : Type 0 where
   pub units : List StrictUnit
   pub count : HasUnits k units
@@ -173,6 +178,7 @@ IsRawInside ByteStr cs = IsTrue (list_all (λ c. nat_lt c 128) cs)
 IsRawInside CStr cs = IsTrue (list_all (λ c. not (c == 0)) cs)
 IsRawInside _ cs = ⊥
 
+-- Sections Raw string literals, Raw byte string literals, Raw C string literals.
 pub record StrictRaw (t : List ℕ) (k : Kind) (v : Contents) (x : List ℕ) : Type 0 where
   pub hashes : ℕ
   pub inside : List ℕ
@@ -209,6 +215,7 @@ BasedPrefix p base = ((p ≡ codes "0b") × (base ≡ 2)) ⊎ (((p ≡ codes "0o
 unfoldable pub dec : ℕ → List ℕ
 dec n = digits_onto (suc n) 10 false n []
 
+-- Section Integer literals.
 pub record StrictInt (t : List ℕ) (v : Contents) (x : List ℕ) : Type 0 where
   pub prefix : List ℕ
   pub base : ℕ
@@ -247,6 +254,7 @@ IsScientific numeral x =
     (d e : List ℕ) × IsDigits d × IsStrictExponent e
     × ((numeral ≡ d ++ e) ⊎ ((f : List ℕ) × IsDigits f × (numeral ≡ d ++ 46 ∷ f ++ e)))
 
+-- Section Floating-point literals.
 pub record StrictFloat (t : List ℕ) (v : Contents) (x : List ℕ) : Type 0 where
   pub numeral : List ℕ
   pub form : IsDotAlone numeral x ⊎ (IsPointed numeral x ⊎ IsScientific numeral x)
@@ -255,6 +263,7 @@ pub record StrictFloat (t : List ℕ) (v : Contents) (x : List ℕ) : Type 0 whe
   pub text : t ≡ numeral ++ x
   pub contents : v ≡ Digits (map (λ c. if c == 69 then 101 else c) (filter (λ c. not (c == 95 || c == 43)) numeral))
 
+-- Chapter Literal expressions, section Boolean literal expressions: the words `true` and `false`.
 pub record StrictBool (t : List ℕ) (v : Contents) (x : List ℕ) : Type 0 where
   pub truth : Bool
   pub text : t ≡ (if truth then codes "true" else codes "false")

@@ -6,11 +6,13 @@ use Rattle.std.specs.List.{list_all, list_any}
 use Rattle.unicode_ident.specs.Ident.{is_xid_start, is_xid_continue}
 use Rattle.rl_tokens.specs.declared.span.Span.{Span}
 
--- white space: Unicode's White_Space, and the two direction marks
+-- white space: Unicode's White_Space, and the two direction marks (`is_whitespace` of `syn` 3.0.9,
+-- src/whitespace.rs)
 abbrev pub is_white : ℕ → Bool
 is_white c = is_whitespace c || c == 0x200e || c == 0x200f
 
--- what may begin an identifier token, and what may go on with it
+-- what may begin an identifier token, and what may go on with it (the Rust Reference, chapter
+-- Identifiers)
 abbrev pub is_start : ℕ → Bool
 is_start c = (c == 95 || is_xid_start c) && not (is_white c)
 
