@@ -1,8 +1,10 @@
 //! Laws of the definitions: each function does nothing, and its contract is the law.
 
-ghost use Rattle.std.specs.Prelude.{List, Bool, ℕ, ◌≡◌, ◌∷◌, [], IsTrue};
+ghost use Rattle.std.specs.Prelude.{List, Bool, ℕ, ◌≡◌, ◌==◌, not, ◌∷◌, [], IsTrue};
+ghost use Rattle.std.specs.List.{list_all};
 ghost use Rattle.rl_tokens.specs.declared.kind.Kind.{Kind};
 ghost use Rattle.rl_tokens.specs.declared.kind.Kind.TheVariants.{Bool as BoolKind};
+ghost use Rattle.rl_tokens.specs.Characters.{carriage_return};
 ghost use Rattle.rl_tokens.specs.Reading.{Contents, Digits, Truth, Reads, quoted_contents, truth_text};
 ghost use Rattle.rl_tokens.specs.Strict.{Strict, strict_quoted_contents};
 ghost use Rattle.rl_tokens.specs.Written.{written_text};
@@ -20,6 +22,12 @@ pub fn one_reading()
 pub fn one_strict()
     ensures { (t : List ℕ) (k l : Kind) (v w : Contents) (x y : List ℕ)
         → Strict t k v x → Strict t l w y → (k ≡ l) × (v ≡ w) × (x ≡ y) }
+{}
+
+/// A strict text holds no CR, neither in its body nor in its suffix.
+pub fn strict_holds_no_return()
+    ensures { (t : List ℕ) (k : Kind) (v : Contents) (x : List ℕ)
+        → Strict t k v x → IsTrue (list_all (λ c. not (c == carriage_return)) t) }
 {}
 
 /// The words `true` and `false` are strict, each with its truth value, and no suffix.
