@@ -28,8 +28,8 @@ LexesUpTo at t (w ∷ ws) r =
     × (w.at + byte_len (lexeme_text w.lexeme ++ after) ≡ at + byte_len t) × LexesUpTo (end_of w) after ws r
 
 -- the closer of an opener; 0 for what is no opener
-abbrev pub closer_of : ℕ → ℕ
-closer_of c = if c == open_parenthesis then close_parenthesis else (if c == open_bracket then close_bracket else (if c == open_brace then close_brace else 0))
+abbrev pub closer_for : ℕ → ℕ
+closer_for c = if c == open_parenthesis then close_parenthesis else (if c == open_bracket then close_bracket else (if c == open_brace then close_brace else 0))
 
 abbrev pub is_opener : ℕ → Bool
 is_opener c = is_among (codes "([{") c
@@ -44,7 +44,7 @@ pub record OpenGroup : Type 0 where
 
 abbrev pub closes : List OpenGroup → ℕ → Bool
 closes [] c = false
-closes (o ∷ os) c = closer_of o.opener == c
+closes (o ∷ os) c = closer_for o.opener == c
 
 abbrev pub popped : List OpenGroup → List OpenGroup
 popped [] = []
