@@ -38,6 +38,7 @@ pub mod CutTrees
 pub mod CutLaws
 pub mod FaultLaws
 pub mod LexLaws
+pub mod StrictReturns
 pub mod TruthLemmas
 pub mod CStringContents
 pub mod PrintedCuts

@@ -11,8 +11,8 @@ use Rattle.rl_tokens.specs.declared.token.Delimiter.{Delimiter}
 use Rattle.rl_tokens.specs.declared.token.Delimiter.TheVariants.{Parenthesis, Brace, Bracket}
 use Rattle.rl_tokens.specs.declared.lex_error.LexKind.TheVariants.{UnclosedGroup}
 use Rattle.rl_tokens.specs.Trees.{Tree, FlatToken, Opening, Closing, FlatPunct, opener_span, closer_span, trees_of, delimiter_of, stream_of, group_span, tree_view, stream_view, flat, flat_trees}
-use Rattle.rl_tokens.specs.Lexing.{closer_of, closes, popped, innermost, behind_form, flat_form}
-use Rattle.rl_tokens.specs.Mirrors.TreeBuilders.{opener_of, closer_char, group_of, groups_of, flat_open, flat_builder, TakesToken, TakesTree, OpensGroup, ClosesGroup, EndsInGroup}
+use Rattle.rl_tokens.specs.Lexing.{closer_for, closes, popped, innermost, behind_form, flat_form}
+use Rattle.rl_tokens.specs.Mirrors.TreeBuilders.{opener_of, closer_of, group_of, groups_of, flat_open, flat_builder, TakesToken, TakesTree, OpensGroup, ClosesGroup, EndsInGroup}
 use Rattle.rl_tokens.specs.Puncts.{Mark}
 use Rattle.rl_tokens.specs.Lexemes.{LexemeForm, MarkForm}
 use Rattle.rl_tokens.proofs.TreeLemmas.{tree_view-group, tree_view-punct}
@@ -89,12 +89,12 @@ flat_closed g d file at lo hi inside d_is span_is inside_is one =
     ∙ ap (λ x. Opening d (record { file = file; lo = at; hi = at + 1 }) ∷ (x ++ (Closing d (record { file = file; lo = hi - 1; hi = hi }) ∷ []))) inside_is
     ∙ ap (λ n. Opening d (record { file = file; lo = at; hi = at + 1 }) ∷ (inside ++ (Closing d (record { file = file; lo = n; hi = hi }) ∷ []))) low
 
-same_closer : (d : Delimiter) → (closer_of (opener_of d) == closer_char d) ≡ true
+same_closer : (d : Delimiter) → (closer_for (opener_of d) == closer_of d) ≡ true
 same_closer Parenthesis = refl
 same_closer Brace = refl
 same_closer Bracket = refl
 
-other_closer : (d e : Delimiter) → d ≢ e → (closer_of (opener_of d) == closer_char e) ≡ false
+other_closer : (d e : Delimiter) → d ≢ e → (closer_for (opener_of d) == closer_of e) ≡ false
 other_closer Parenthesis Parenthesis h = absurd (h refl)
 other_closer Parenthesis Brace h = refl
 other_closer Parenthesis Bracket h = refl
@@ -127,7 +127,7 @@ closes_group old between new o g d lo hi popped_is before file d_is g_delimiter 
     ∙ ap (λ s. (front ++ (flat_trees (stream_view s) ++ (Opening o.delimiter (record { file = old.file; lo = o.at; hi = o.at + 1 }) ∷ []))) ++ inside) before
     ∙ ap (λ x. (front ++ (flat_trees (stream_view between.trees) ++ (Opening x (record { file = old.file; lo = o.at; hi = o.at + 1 }) ∷ []))) ++ inside) d_is in
     record {
-      closes_it = ap (λ gs. closes gs (closer_char d)) groups_are ∙ ap (λ x. closer_of (opener_of x) == closer_char d) d_is ∙ same_closer d;
+      closes_it = ap (λ gs. closes gs (closer_of d)) groups_are ∙ ap (λ x. closer_for (opener_of x) == closer_of d) d_is ∙ same_closer d;
       groups = ap (λ os. reverse (map group_of os.items)) takes.opened_same ∙ sym (ap popped groups_are);
       file_same = new_file;
       flat = new_flat ∙ regroup_closed front (flat_trees (stream_view between.trees)) inside opening closing ∙ ap (λ z. z ++ (closing ∷ [])) (sym old_flat);
@@ -137,14 +137,14 @@ closes_group old between new o g d lo hi popped_is before file d_is g_delimiter 
     regroup_closed a b i o c = simp append_assoc
 
 -- the closer isn't that of the innermost open group
-pub wrong_closer : {A : Type 0} (old : TreeBuilder A) (xs : List (GroupBuilder A)) (o : GroupBuilder A) (d : Delimiter) → old.opened.items ≡ xs ++ o ∷ [] → o.delimiter ≢ d → closes (groups_of old) (closer_char d) ≡ false
+pub wrong_closer : {A : Type 0} (old : TreeBuilder A) (xs : List (GroupBuilder A)) (o : GroupBuilder A) (d : Delimiter) → old.opened.items ≡ xs ++ o ∷ [] → o.delimiter ≢ d → closes (groups_of old) (closer_of d) ≡ false
 wrong_closer old xs o d popped_is other =
-    ap (λ os. closes (reverse (map group_of os)) (closer_char d)) popped_is
-    ∙ ap (λ gs. closes gs (closer_char d)) (groups-push xs o)
+    ap (λ os. closes (reverse (map group_of os)) (closer_of d)) popped_is
+    ∙ ap (λ gs. closes gs (closer_of d)) (groups-push xs o)
     ∙ other_closer o.delimiter d other
 
-pub no_group : {A : Type 0} (old : TreeBuilder A) (d : Delimiter) → old.opened.items ≡ [] → closes (groups_of old) (closer_char d) ≡ false
-no_group old d none = ap (λ os. closes (reverse (map group_of os)) (closer_char d)) none
+pub no_group : {A : Type 0} (old : TreeBuilder A) (d : Delimiter) → old.opened.items ≡ [] → closes (groups_of old) (closer_of d) ≡ false
+no_group old d none = ap (λ os. closes (reverse (map group_of os)) (closer_of d)) none
 
 -- the text ends in a group
 pub ends_in_group : {A : Type 0} (old : TreeBuilder A) (xs : List (GroupBuilder A)) (o : GroupBuilder A) → old.opened.items ≡ xs ++ o ∷ [] → EndsInGroup (groups_of old) (record { kind = UnclosedGroup; at = o.at })

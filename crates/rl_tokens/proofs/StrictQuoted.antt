@@ -273,7 +273,7 @@ abbrev pub is_return : ℕ → Bool
 is_return c = eqb c 13
 
 -- no unit begins with CR
-not_return : (k : Kind) (c : ℕ) → is_strict_unit k (Itself c) ≡ true → eqb c 13 ≡ false
+pub not_return : (k : Kind) (c : ℕ) → is_strict_unit k (Itself c) ≡ true → eqb c 13 ≡ false
 not_return Str c h = apart is_bare_in_string c 13 h refl
 not_return ByteStr c h = apart is_bare_in_string c 13 (and_parts (nat_lt c 128) (is_bare_in_string c) h).1 refl
 not_return CStr c h = apart is_bare_in_string c 13 (and_parts (is_bare_in_string c) (not (eqb c 0)) h).0 refl

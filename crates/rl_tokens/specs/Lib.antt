@@ -1,3 +1,4 @@
+pub mod Characters
 pub mod Texts
 pub mod Quoted
 pub mod Numbers

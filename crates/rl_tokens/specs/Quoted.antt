@@ -1,7 +1,10 @@
 -- The quoted forms of the lenient reading: cooked strings, raw strings, single characters and bytes.
-use Rattle.std.specs.Prelude.{◌≡◌, ℕ, ◌+◌, ◌*◌, ◌^◌, ◌≤◌, Bool, true, false, not, ◌&&◌, ◌||◌, ◌==◌, nat_lt, List, [], ◌∷◌, ◌++◌, length, filter, replicate, IsTrue, IsFalse, ⊤, encode_utf8_all, if◌then◌else◌}
+-- They are those of `syn` 3.0.9, src/lit.rs, each named at its form. What the byte kinds take as plain
+-- characters is what rustc takes.
+use Rattle.std.specs.Prelude.{◌≡◌, ℕ, ◌+◌, ◌*◌, ◌^◌, ◌≤◌, Bool, true, false, not, ◌&&◌, ◌||◌, ◌==◌, nat_lt, List, [], codes, ◌∷◌, ◌++◌, length, filter, replicate, IsTrue, IsFalse, ⊤, encode_utf8_all, if◌then◌else◌}
 use Rattle.std.specs.Char.{IsScalar, digit_value}
 use Rattle.std.specs.List.{list_all, flat_map, AllByRecursion}
+use Rattle.rl_tokens.specs.Characters.{tab, line_feed, carriage_return, space, double_quote, hash_sign, single_quote, digit_zero, back_slash, letter_n, letter_r, letter_t, letter_u, letter_x, open_brace, close_brace}
 use Rattle.rl_tokens.specs.declared.kind.Kind.{Kind}
 use Rattle.rl_tokens.specs.declared.kind.Kind.TheVariants.{Str, ByteStr, CStr, Byte, Char, Int, Float}
 use Rattle.rl_tokens.specs.Texts.{first_passes, is_underscore}
@@ -17,21 +20,21 @@ pub data Letter : Type 0 where
   Zero : Letter
 
 abbrev pub letter_text : Letter → ℕ
-letter_text LowerN = 110
-letter_text LowerR = 114
-letter_text LowerT = 116
-letter_text Backslash = 92
-letter_text Apostrophe = 39
-letter_text Quote = 34
-letter_text Zero = 48
+letter_text LowerN = letter_n
+letter_text LowerR = letter_r
+letter_text LowerT = letter_t
+letter_text Backslash = back_slash
+letter_text Apostrophe = single_quote
+letter_text Quote = double_quote
+letter_text Zero = digit_zero
 
 abbrev pub letter_value : Letter → ℕ
-letter_value LowerN = 10
-letter_value LowerR = 13
-letter_value LowerT = 9
-letter_value Backslash = 92
-letter_value Apostrophe = 39
-letter_value Quote = 34
+letter_value LowerN = line_feed
+letter_value LowerR = carriage_return
+letter_value LowerT = tab
+letter_value Backslash = back_slash
+letter_value Apostrophe = single_quote
+letter_value Quote = double_quote
 letter_value Zero = 0
 
 -- What stands between quotes is a row of units.
@@ -41,20 +44,20 @@ pub data QuotedUnit : Type 0 where
   -- a line end of two characters
   CrLf : QuotedUnit
   Named : (letter : Letter) → QuotedUnit
-  -- \xHH
+  -- \xHH: `backslash_x`
   Hex : (high low : ℕ) → QuotedUnit
-  -- \u{..}: the first digit, and what stands between it and the brace
+  -- \u{..}, `backslash_u`: the first digit, and what stands between it and the brace
   Unicode : (first : ℕ) (more : List ℕ) → QuotedUnit
   -- a backslash, a CR or LF, and the run of blanks after it
   Continuation : (line_end : ℕ) (run : List ℕ) → QuotedUnit
 
 abbrev pub unit_text : QuotedUnit → List ℕ
 unit_text (Plain c) = c ∷ []
-unit_text CrLf = 13 ∷ 10 ∷ []
-unit_text (Named letter) = 92 ∷ letter_text letter ∷ []
-unit_text (Hex high low) = 92 ∷ 120 ∷ high ∷ low ∷ []
-unit_text (Unicode first more) = 92 ∷ 117 ∷ 123 ∷ first ∷ (more ++ (125 ∷ []))
-unit_text (Continuation line_end run) = 92 ∷ line_end ∷ run
+unit_text CrLf = carriage_return ∷ line_feed ∷ []
+unit_text (Named letter) = back_slash ∷ letter_text letter ∷ []
+unit_text (Hex high low) = back_slash ∷ letter_x ∷ high ∷ low ∷ []
+unit_text (Unicode first more) = back_slash ∷ letter_u ∷ open_brace ∷ first ∷ (more ++ (close_brace ∷ []))
+unit_text (Continuation line_end run) = back_slash ∷ line_end ∷ run
 
 -- the number that digits of a base spell: each digit times its power of the base
 abbrev pub place_value : ℕ → List ℕ → ℕ
@@ -82,7 +85,7 @@ unicode_value first more = place_value 16 (without_underscores (first ∷ more))
 -- what a unit stands for in a literal of the kind
 abbrev pub unit_value : Kind → QuotedUnit → List ℕ
 unit_value kind (Plain c) = content_of kind (c ∷ [])
-unit_value kind CrLf = 10 ∷ []
+unit_value kind CrLf = line_feed ∷ []
 unit_value kind (Named letter) = letter_value letter ∷ []
 unit_value kind (Hex high low) = hex_value high low ∷ []
 unit_value kind (Unicode first more) = content_of kind (unicode_value first more ∷ [])
@@ -93,10 +96,10 @@ is_hex_digit c = nat_lt (digit_value c) 16
 
 -- space, TAB, LF, CR
 abbrev pub is_blank : ℕ → Bool
-is_blank c = c == 32 || c == 9 || c == 10 || c == 13
+is_blank c = c == space || c == tab || c == line_feed || c == carriage_return
 
 abbrev pub is_line_end : ℕ → Bool
-is_line_end c = c == 10 || c == 13
+is_line_end c = c == line_feed || c == carriage_return
 
 abbrev pub is_string : Kind → Bool
 is_string Str = true
@@ -111,11 +114,11 @@ is_single _ = false
 
 -- which characters a kind takes as they are
 abbrev pub is_plain : Kind → ℕ → Bool
-is_plain Str c = not (c == 34 || c == 92 || c == 13)
-is_plain ByteStr c = nat_lt c 128 && not (c == 34 || c == 92 || c == 13)
-is_plain CStr c = not (c == 34 || c == 92 || c == 13 || c == 0)
-is_plain Char c = not (c == 92)
-is_plain Byte c = nat_lt c 128 && not (c == 39 || c == 92 || c == 10 || c == 13 || c == 9)
+is_plain Str c = not (c == double_quote || c == back_slash || c == carriage_return)
+is_plain ByteStr c = nat_lt c 128 && not (c == double_quote || c == back_slash || c == carriage_return)
+is_plain CStr c = not (c == double_quote || c == back_slash || c == carriage_return || c == 0)
+is_plain Char c = not (c == back_slash)
+is_plain Byte c = nat_lt c 128 && not (c == single_quote || c == back_slash || c == line_feed || c == carriage_return || c == tab)
 is_plain _ c = false
 
 -- a C string holds no zero
@@ -169,45 +172,48 @@ ContinuationsEnd (u ∷ us) = EndsBefore u (texts us) × ContinuationsEnd us
 
 -- what stands before the units
 abbrev pub opener : Kind → List ℕ
-opener Str = 34 ∷ []
-opener ByteStr = 98 ∷ 34 ∷ []
-opener CStr = 99 ∷ 34 ∷ []
-opener Byte = 98 ∷ 39 ∷ []
-opener Char = 39 ∷ []
+opener Str = codes "\""
+opener ByteStr = codes "b\""
+opener CStr = codes "c\""
+opener Byte = codes "b'"
+opener Char = codes "'"
 opener _ = []
 
 -- what stands before the hashes
 abbrev pub raw_opener : Kind → List ℕ
-raw_opener Str = 114 ∷ []
-raw_opener ByteStr = 98 ∷ 114 ∷ []
-raw_opener CStr = 99 ∷ 114 ∷ []
+raw_opener Str = codes "r"
+raw_opener ByteStr = codes "br"
+raw_opener CStr = codes "cr"
 raw_opener _ = []
 
 -- A cooked string with this value and suffix: the text is units between quotes, and the suffix.
+-- In `syn`: `parse_lit_str_cooked`, `parse_lit_byte_str_cooked`, `parse_lit_c_str_cooked`.
 pub record Cooked (kind : Kind) (text value suffix : List ℕ) : Type 0 where
   pub units : List QuotedUnit
   pub string : IsTrue (is_string kind)
   pub each : AllByRecursion (IsUnit kind) units
   pub ends : ContinuationsEnd units
-  pub text_is : text ≡ opener kind ++ (texts units ++ (34 ∷ suffix))
+  pub text_is : text ≡ opener kind ++ (texts units ++ (double_quote ∷ suffix))
   pub value_is : value ≡ values kind units
 
 -- A raw string: what stands between its first quote and its last, since the suffix has none.
+-- In `syn`: `parse_lit_str_raw`, `parse_lit_byte_str_raw`, `parse_lit_c_str_raw`.
 pub record Raw (kind : Kind) (text value suffix : List ℕ) : Type 0 where
   pub hashes : ℕ
   pub inside : List ℕ
   pub string : IsTrue (is_string kind)
   pub each : IsTrue (list_all (is_raw kind) inside)
-  pub no_quote : IsTrue (list_all (λ c. not (c == 34)) suffix)
-  pub text_is : text ≡ raw_opener kind ++ (replicate hashes 35 ++ (34 ∷ (inside ++ (34 ∷ (replicate hashes 35 ++ suffix)))))
+  pub no_quote : IsTrue (list_all (λ c. not (c == double_quote)) suffix)
+  pub text_is : text ≡ raw_opener kind ++ (replicate hashes hash_sign ++ (double_quote ∷ (inside ++ (double_quote ∷ (replicate hashes hash_sign ++ suffix)))))
   pub value_is : value ≡ content_of kind inside
 
 -- A character or a byte: one unit between single quotes.
+-- In `syn`: `parse_lit_char`, `parse_lit_byte`.
 pub record Single (kind : Kind) (text value suffix : List ℕ) : Type 0 where
   pub unit : QuotedUnit
   pub single : IsTrue (is_single kind)
   pub is_unit : IsUnit kind unit
-  pub text_is : text ≡ opener kind ++ (unit_text unit ++ (39 ∷ suffix))
+  pub text_is : text ≡ opener kind ++ (unit_text unit ++ (single_quote ∷ suffix))
   pub value_is : value ≡ unit_value kind unit
 
 abbrev pub is_number : Kind → Bool

@@ -1,4 +1,5 @@
--- The one reading of a text as a literal.
+-- The one reading of a text as a literal: that of `Lit::new` in `syn` 3.0.9, src/lit.rs, an integer
+-- before a float.
 use Rattle.std.specs.Prelude.{◌≡◌, ◌⊎◌, ℕ, ◌≤◌, Bool, true, false, List, [], ◌++◌, codes, ◌<◌}
 use Rattle.std.specs.Fmt.{decimal}
 use Rattle.rl_tokens.specs.declared.kind.Kind.{Kind}
@@ -23,7 +24,8 @@ pub record ReadsQuoted (text : List ℕ) (kind : Kind) (contents : Contents) (su
   pub form : Cooked kind text value suffix ⊎ Raw kind text value suffix ⊎ Single kind text value suffix
   pub contents_is : contents ≡ quoted_contents kind value
 
--- An integer within the limit: its sign, and its magnitude in base ten.
+-- An integer within the limit: its sign, and its magnitude in base ten. (`decimal` is std's, which
+-- writes the last 64 digits alone; what is within the limit has 39 at most.)
 pub record ReadsInt (text : List ℕ) (contents : Contents) (suffix : List ℕ) : Type 0 where
   pub sign : Sign
   pub magnitude : ℕ

@@ -1,19 +1,23 @@
--- The literal tokens of the Rust Reference, in the profile of this project. Nothing of the lenient
--- grammar's tables is used here.
+-- The literal tokens of the Rust Reference, chapter Tokens, in the profile of this project. Each form
+-- names its section there. Nothing of the lenient grammar's tables is used here.
 use Rattle.std.specs.Prelude.{◌≡◌, ◌≢◌, ◌⊎◌, ℕ, suc, ◌+◌, ◌*◌, ◌^◌, ◌<◌, Bool, false, not, ◌&&◌, ◌||◌, ◌==◌, nat_lt, nat_le, List, [], ◌∷◌, ◌++◌, length, filter, map, replicate, IsTrue, IsFalse, ⊤, encode_utf8_all, codes, if◌then◌else◌}
 use Rattle.std.specs.Char.{is_ascii_digit, is_ascii_hexdigit, digit_value}
 use Rattle.std.specs.Str.{all_scalars}
 use Rattle.std.specs.Fmt.{digits_onto}
 use Rattle.std.specs.List.{list_all, list_any, flat_map}
+use Rattle.rl_tokens.specs.Characters.{tab, line_feed, carriage_return, space, double_quote, hash_sign, single_quote, plus_sign, minus_sign, full_stop, digit_zero, capital_e, back_slash, underscore, letter_e, letter_n, letter_r, letter_t, letter_u, letter_x, open_brace, close_brace}
 use Rattle.rl_tokens.specs.declared.kind.Kind.{Kind}
 use Rattle.rl_tokens.specs.declared.kind.Kind.TheVariants.{Str, ByteStr, CStr, Byte, Char, Int, Float, Bool as BoolKind}
 use Rattle.rl_tokens.specs.Texts.{IsWord, first_passes, begins}
 use Rattle.rl_tokens.specs.Reading.{Contents, Characters, Bytes, Digits, Truth}
 
+-- section Suffixes
 abbrev pub IsStrictSuffix : List ℕ → Type 0
 IsStrictSuffix x = (x ≡ []) ⊎ IsWord x
 
--- What stands between quotes, item by item.
+-- What stands between quotes, item by item: the tables ASCII escapes, Byte escapes, Unicode escapes
+-- and Quote escapes of section Literals, and for a line break section String continuation escapes of
+-- chapter Literal expressions.
 pub data StrictUnit : Type 0 where
   Itself : (c : ℕ) → StrictUnit
   -- \' and \"
@@ -30,16 +34,16 @@ pub data StrictUnit : Type 0 where
   LineBreak : (blanks : List ℕ) → StrictUnit
 
 abbrev pub spaced_digit : ℕ × ℕ → List ℕ
-spaced_digit d = d.0 ∷ replicate d.1 95
+spaced_digit d = d.0 ∷ replicate d.1 underscore
 
 abbrev pub strict_text : StrictUnit → List ℕ
 strict_text (Itself c) = c ∷ []
-strict_text (QuoteEscape c) = 92 ∷ c ∷ []
-strict_text (PlainEscape c) = 92 ∷ c ∷ []
-strict_text (AsciiEscape high low) = 92 ∷ 120 ∷ high ∷ low ∷ []
-strict_text (ByteEscape high low) = 92 ∷ 120 ∷ high ∷ low ∷ []
-strict_text (UnicodeEscape digits) = 92 ∷ 117 ∷ 123 ∷ [] ++ flat_map spaced_digit digits ++ 125 ∷ []
-strict_text (LineBreak blanks) = 92 ∷ 10 ∷ blanks
+strict_text (QuoteEscape c) = back_slash ∷ c ∷ []
+strict_text (PlainEscape c) = back_slash ∷ c ∷ []
+strict_text (AsciiEscape high low) = back_slash ∷ letter_x ∷ high ∷ low ∷ []
+strict_text (ByteEscape high low) = back_slash ∷ letter_x ∷ high ∷ low ∷ []
+strict_text (UnicodeEscape digits) = back_slash ∷ letter_u ∷ open_brace ∷ [] ++ flat_map spaced_digit digits ++ close_brace ∷ []
+strict_text (LineBreak blanks) = back_slash ∷ line_feed ∷ blanks
 
 -- the number that digits stand for, the first of them the highest
 abbrev pub spelled_number : ℕ → List ℕ → ℕ
@@ -51,7 +55,7 @@ spaced_value digits = spelled_number 16 (map (λ d. d.0) digits)
 
 -- the letters of the plain escapes, and what they stand for
 abbrev pub plain_escapes : List (ℕ × ℕ)
-plain_escapes = (110, 10) ∷ (114, 13) ∷ (116, 9) ∷ (92, 92) ∷ (48, 0) ∷ []
+plain_escapes = (letter_n, line_feed) ∷ (letter_r, carriage_return) ∷ (letter_t, tab) ∷ (back_slash, back_slash) ∷ (digit_zero, 0) ∷ []
 
 abbrev pub plain_value_in : List (ℕ × ℕ) → ℕ → List ℕ
 plain_value_in [] c = []
@@ -74,7 +78,7 @@ abbrev pub is_octal : ℕ → Bool
 is_octal c = nat_lt (digit_value c) 8
 
 abbrev pub is_dropped_blank : ℕ → Bool
-is_dropped_blank c = c == 32 || c == 9 || c == 10
+is_dropped_blank c = c == space || c == tab || c == line_feed
 
 abbrev pub is_unicode_escape : List (ℕ × ℕ) → Bool
 is_unicode_escape digits =
@@ -83,10 +87,10 @@ is_unicode_escape digits =
 
 -- what a single character or byte may not be by itself
 abbrev pub is_bare_character : ℕ → Bool
-is_bare_character c = not (c == 39 || c == 92 || c == 10 || c == 13 || c == 9)
+is_bare_character c = not (c == single_quote || c == back_slash || c == line_feed || c == carriage_return || c == tab)
 
 abbrev pub is_bare_in_string : ℕ → Bool
-is_bare_in_string c = not (c == 34 || c == 92 || c == 13)
+is_bare_in_string c = not (c == double_quote || c == back_slash || c == carriage_return)
 
 abbrev pub is_strict_unit : Kind → StrictUnit → Bool
 is_strict_unit Char (Itself c) = is_bare_character c
@@ -95,8 +99,8 @@ is_strict_unit Byte (Itself c) = nat_lt c 128 && is_bare_character c
 is_strict_unit ByteStr (Itself c) = nat_lt c 128 && is_bare_in_string c
 is_strict_unit CStr (Itself c) = is_bare_in_string c && not (c == 0)
 is_strict_unit _ (Itself c) = false
-is_strict_unit k (QuoteEscape c) = c == 39 || c == 34
-is_strict_unit CStr (PlainEscape c) = is_plain_letter c && not (c == 48)
+is_strict_unit k (QuoteEscape c) = c == single_quote || c == double_quote
+is_strict_unit CStr (PlainEscape c) = is_plain_letter c && not (c == digit_zero)
 is_strict_unit _ (PlainEscape c) = is_plain_letter c
 is_strict_unit Char (AsciiEscape high low) = is_octal high && is_ascii_hexdigit low
 is_strict_unit Str (AsciiEscape high low) = is_octal high && is_ascii_hexdigit low
@@ -152,6 +156,8 @@ HasUnits Byte us = length us ≡ 1
 HasUnits Char us = length us ≡ 1
 HasUnits _ us = ⊥
 
+-- Sections Character literals, String literals, Byte literals, Byte string literals, C string
+-- literals.
 pub record StrictCooked (t : List ℕ) (k : Kind) (v : Contents) (x : List ℕ) : Type 0 where
   pub units : List StrictUnit
   pub count : HasUnits k units
@@ -173,22 +179,23 @@ IsRawInside ByteStr cs = IsTrue (list_all (λ c. nat_lt c 128) cs)
 IsRawInside CStr cs = IsTrue (list_all (λ c. not (c == 0)) cs)
 IsRawInside _ cs = ⊥
 
+-- Sections Raw string literals, Raw byte string literals, Raw C string literals.
 pub record StrictRaw (t : List ℕ) (k : Kind) (v : Contents) (x : List ℕ) : Type 0 where
   pub hashes : ℕ
   pub inside : List ℕ
   pub few : hashes < 256
   pub allowed : IsRawInside k inside
-  pub no_carriage_return : IsTrue (list_all (λ c. not (c == 13)) inside)
-  pub first_close : (front rest : List ℕ) → inside ≢ front ++ 34 ∷ replicate hashes 35 ++ rest
+  pub no_carriage_return : IsTrue (list_all (λ c. not (c == carriage_return)) inside)
+  pub first_close : (front rest : List ℕ) → inside ≢ front ++ double_quote ∷ replicate hashes hash_sign ++ rest
   pub suffix : IsStrictSuffix x
-  pub text : t ≡ strict_raw_opener k ++ replicate hashes 35 ++ 34 ∷ inside ++ 34 ∷ replicate hashes 35 ++ x
+  pub text : t ≡ strict_raw_opener k ++ replicate hashes hash_sign ++ double_quote ∷ inside ++ double_quote ∷ replicate hashes hash_sign ++ x
   pub contents : v ≡ strict_quoted_contents k (strict_content_of k inside)
 
 abbrev pub is_row : (ℕ → Bool) → ℕ → Bool
-is_row digit c = digit c || c == 95
+is_row digit c = digit c || c == underscore
 
 abbrev pub bare : List ℕ → List ℕ
-bare cs = filter (λ c. not (c == 95)) cs
+bare cs = filter (λ c. not (c == underscore)) cs
 
 -- D: a digit, and digits and underscores
 abbrev pub IsDigits : List ℕ → Type 0
@@ -199,7 +206,7 @@ abbrev pub IsDecimalText : List ℕ → Type 0
 IsDecimalText t = IsFalse (begins (codes "0b") t || begins (codes "0o") t || begins (codes "0x") t)
 
 abbrev pub IsNumberSuffix : List ℕ → Type 0
-IsNumberSuffix x = IsStrictSuffix x × IsFalse (first_passes (λ c. c == 95) x)
+IsNumberSuffix x = IsStrictSuffix x × IsFalse (first_passes (λ c. c == underscore) x)
 
 -- the digits of the bases with a prefix
 abbrev pub BasedPrefix : List ℕ → ℕ → Type 0
@@ -209,6 +216,7 @@ BasedPrefix p base = ((p ≡ codes "0b") × (base ≡ 2)) ⊎ (((p ≡ codes "0o
 unfoldable pub dec : ℕ → List ℕ
 dec n = digits_onto (suc n) 10 false n []
 
+-- Section Integer literals.
 pub record StrictInt (t : List ℕ) (v : Contents) (x : List ℕ) : Type 0 where
   pub prefix : List ℕ
   pub base : ℕ
@@ -217,7 +225,7 @@ pub record StrictInt (t : List ℕ) (v : Contents) (x : List ℕ) : Type 0 where
   pub each : IsTrue (list_all (is_row (λ c. nat_lt (digit_value c) base)) row)
   pub some : IsTrue (list_any (λ c. nat_lt (digit_value c) base) row)
   pub suffix : IsNumberSuffix x
-  pub no_exponent : IsFalse (first_passes (λ c. c == 101 || c == 69) x)
+  pub no_exponent : IsFalse (first_passes (λ c. c == letter_e || c == capital_e) x)
   pub no_digit : base ≡ 16 → IsFalse (first_passes is_ascii_hexdigit x)
   pub text : t ≡ prefix ++ row ++ x
   pub contents : v ≡ Digits (dec (spelled_number base (bare row)))
@@ -226,42 +234,45 @@ pub record IsStrictExponent (e : List ℕ) : Type 0 where
   pub letter : ℕ
   pub sign : List ℕ
   pub row : List ℕ
-  pub is_letter : IsTrue (letter == 101 || letter == 69)
-  pub is_sign : (sign ≡ []) ⊎ ((sign ≡ 43 ∷ []) ⊎ (sign ≡ 45 ∷ []))
+  pub is_letter : IsTrue (letter == letter_e || letter == capital_e)
+  pub is_sign : (sign ≡ []) ⊎ ((sign ≡ plus_sign ∷ []) ⊎ (sign ≡ minus_sign ∷ []))
   pub each : IsTrue (list_all (is_row is_ascii_digit) row)
   pub some : IsTrue (list_any is_ascii_digit row)
   pub text : e ≡ letter ∷ sign ++ row
 
 -- `D.` alone
 abbrev pub IsDotAlone : List ℕ → List ℕ → Type 0
-IsDotAlone numeral x = (d : List ℕ) × IsDigits d × (numeral ≡ d ++ 46 ∷ []) × (x ≡ [])
+IsDotAlone numeral x = (d : List ℕ) × IsDigits d × (numeral ≡ d ++ full_stop ∷ []) × (x ≡ [])
 
 -- `D.D` with a suffix that doesn't begin as an exponent does
 abbrev pub IsPointed : List ℕ → List ℕ → Type 0
 IsPointed numeral x =
-    (d f : List ℕ) × IsDigits d × IsDigits f × (numeral ≡ d ++ 46 ∷ f) × IsFalse (first_passes (λ c. c == 101 || c == 69) x)
+    (d f : List ℕ) × IsDigits d × IsDigits f × (numeral ≡ d ++ full_stop ∷ f) × IsFalse (first_passes (λ c. c == letter_e || c == capital_e) x)
 
 -- `D` or `D.D`, and an exponent
 abbrev pub IsScientific : List ℕ → List ℕ → Type 0
 IsScientific numeral x =
     (d e : List ℕ) × IsDigits d × IsStrictExponent e
-    × ((numeral ≡ d ++ e) ⊎ ((f : List ℕ) × IsDigits f × (numeral ≡ d ++ 46 ∷ f ++ e)))
+    × ((numeral ≡ d ++ e) ⊎ ((f : List ℕ) × IsDigits f × (numeral ≡ d ++ full_stop ∷ f ++ e)))
 
+-- Section Floating-point literals.
 pub record StrictFloat (t : List ℕ) (v : Contents) (x : List ℕ) : Type 0 where
   pub numeral : List ℕ
   pub form : IsDotAlone numeral x ⊎ (IsPointed numeral x ⊎ IsScientific numeral x)
   pub no_prefix : IsDecimalText t
   pub suffix : IsNumberSuffix x
   pub text : t ≡ numeral ++ x
-  pub contents : v ≡ Digits (map (λ c. if c == 69 then 101 else c) (filter (λ c. not (c == 95 || c == 43)) numeral))
+  pub contents : v ≡ Digits (map (λ c. if c == capital_e then letter_e else c) (filter (λ c. not (c == underscore || c == plus_sign)) numeral))
 
+-- Chapter Literal expressions, section Boolean literal expressions: the words `true` and `false`.
 pub record StrictBool (t : List ℕ) (v : Contents) (x : List ℕ) : Type 0 where
   pub truth : Bool
   pub text : t ≡ (if truth then codes "true" else codes "false")
   pub contents : v ≡ Truth truth
   pub suffix : x ≡ []
 
--- A strict text holds no CR, and ident characters of its suffix aren't white.
+-- The text is a strict literal of the kind, with these contents and this suffix. It holds no CR, and
+-- no white character stands in its suffix.
 abbrev pub Strict : List ℕ → Kind → Contents → List ℕ → Type 0
 Strict t Int v x = StrictInt t v x
 Strict t Float v x = StrictFloat t v x

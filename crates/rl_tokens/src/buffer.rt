@@ -172,12 +172,14 @@ impl<'a, A: Allocator> ParseBuffer<'a, A> {
         }
     }
 
-    /// Takes this character of punctuation ([`Punct::is_char`] tells which are), and lends its token.
+    /// Takes this character of punctuation ([`Punct::is_char`] tells which are), and lends its
+    /// token.
     ///
     /// # Errors
     ///
-    /// Where it doesn't stand next, `Expected` at the next tree, at the end `EndOfInput` at the scope, with the word of
-    /// the character between backticks, as in ``expected `=` ``. The buffer stays.
+    /// Where it doesn't stand next, `Expected` at the next tree, at the end `EndOfInput` at the
+    /// scope, with the word of the character between backticks, as in ``expected `=` ``. The buffer
+    /// stays.
     pub fn take_punct(&mut self, ch: char) -> Result<&'a Punct, Error<A>>
         requires { IsTrue (is_punct ch) }
         ensures taken { OnOk result (IsBehindMark ch (trees_in self.old) (trees_in self.new)) }
@@ -218,7 +220,10 @@ impl<'a, A: Allocator> ParseBuffer<'a, A> {
     /// [`Group::inside`] is a buffer of its trees.
     pub fn group(&mut self) -> Option<&'a Group<A>>
         ensures taken { IfSome result
-            (λ x. trees_in self.old ≡ GroupTree (delimiter_of x.now) (inside_of (stream_view (stream_of x.now))) (group_span x.now) ∷ trees_in self.new) }
+            (λ x. trees_in self.old
+            ≡ GroupTree (delimiter_of x.now) (inside_of (stream_view (stream_of x.now)))
+            (group_span x.now)
+            ∷ trees_in self.new) }
         ensures left { IfNone result (trees_in self.new ≡ trees_in self.old) }
         ensures other { IfNone result (IsFalse (begins_group (trees_in self.old))) }
         ensures rest { IsRest (trees_in self.old) (trees_in self.new) }

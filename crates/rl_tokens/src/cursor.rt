@@ -79,7 +79,8 @@ impl<'t> Tokens<'t> {
         }
     }
 
-    /// Cuts off the token that begins what is left. `None` where no token begins it, at its end too; it stays then.
+    /// Cuts off the token that begins what is left. `None` where no token begins it, at its end
+    /// too; it stays then.
     #[inline(always)]
     pub fn next(&mut self) -> Option<Lexeme<'t>>
         // The token is the next cut of the text.
@@ -122,7 +123,8 @@ impl<'t> Tokens<'t> {
     /// ```
     pub fn fault(&self) -> Option<LexError>
         // It is a fault of what is left, whatever groups are open, and stands where that begins.
-        ensures fault { IfSome result (λ e. (groups : List OpenGroup) → FaultAt e.kind groups (chars self.now.rest)) }
+        ensures fault { IfSome result (λ e. (groups : List OpenGroup)
+            → FaultAt e.kind groups (chars self.now.rest)) }
         ensures place { IfSome result (λ e. e.at + length self.now.rest ≡ length self.now.text) }
         // It is the first fault of the text, however that was cut up to here.
         ensures first { IfSome result (λ e. IsFirstFault self.now e.kind e.at) }

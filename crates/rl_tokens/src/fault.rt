@@ -31,7 +31,7 @@ pub(crate) fn fault_kind(rest: &str) -> LexKind
     }
 }
 
-// Whether the text begins with these characters, which are ASCII.
+/// Whether the text begins with these characters, which are ASCII.
 fn begins(text: &str, word: &str) -> bool
     requires { IsTrue (list_all (λ c. nat_lt c 128) word.now) }
     ensures { result ≡ begins word.now (chars text.now) }
@@ -48,7 +48,8 @@ fn begins_doc_comment(text: &str) -> bool
         || begins(text, "/*!")
 }
 
-// Whether a quoted or raw opener begins the text, a byte's opener, or an apostrophe that begins no lifetime.
+/// Whether a quoted or raw opener begins the text, a byte's opener, or an apostrophe that begins no
+/// lifetime.
 fn begins_quote(text: &str) -> bool
     ensures { result ≡ begins_quote (chars text.now) }
 {
@@ -60,7 +61,7 @@ fn begins_quote(text: &str) -> bool
         || (begins(text, "'") && !begins_lifetime(text))
 }
 
-// Whether the opener of a raw literal begins the text.
+/// Whether the opener of a raw literal begins the text.
 fn begins_raw(text: &str) -> bool
     ensures { result ≡ begins_raw (chars text.now) }
 {
@@ -74,7 +75,7 @@ fn begins_raw(text: &str) -> bool
     }
 }
 
-// Whether an apostrophe and an identifier's start begin the text.
+/// Whether an apostrophe and an identifier's start begin the text.
 fn begins_lifetime(text: &str) -> bool
     ensures { result ≡ begins_lifetime (chars text.now) }
 {
@@ -87,7 +88,7 @@ fn begins_lifetime(text: &str) -> bool
     }
 }
 
-// Whether `r#` and an identifier's start begin the text.
+/// Whether `r#` and an identifier's start begin the text.
 fn begins_raw_identifier(text: &str) -> bool
     ensures { result ≡ begins_raw_identifier (chars text.now) }
 {

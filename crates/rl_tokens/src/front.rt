@@ -33,7 +33,8 @@ pub(crate) fn without_first(text: &str) -> &str
 pub(crate) fn strip_byte(text: &str, byte: u8) -> Option<&str>
     requires { byte < 128 }
     ensures rest { MatchOption result
-        (IsFalse (first_passes (λ c. c == byte) (chars text.now))) (λ rest. chars text.now ≡ byte ∷ chars rest.now) }
+        (IsFalse (first_passes (λ c. c == byte) (chars text.now)))
+        (λ rest. chars text.now ≡ byte ∷ chars rest.now) }
     ensures behind { IfSome result (λ rest. IsTail text.now rest.now) }
     ensures shorter { IfSome result (λ rest. length rest.now < length text.now) }
 {

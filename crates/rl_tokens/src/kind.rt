@@ -45,7 +45,8 @@ impl Kind {
         matches!(self, Kind::Str | Kind::ByteStr | Kind::CStr)
     }
 
-    /// Whether its literals hold characters, as strings and characters do; the other quoted kinds hold bytes.
+    /// Whether its literals hold characters, as strings and characters do; the other quoted kinds
+    /// hold bytes.
     pub fn holds_characters(self) -> bool
         ensures { result ≡ holds_characters self }
     {

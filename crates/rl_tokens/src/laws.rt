@@ -1,8 +1,10 @@
 //! Laws of the definitions: each function does nothing, and its contract is the law.
 
-ghost use Rattle.std.specs.Prelude.{List, Bool, ℕ, ◌≡◌, ◌∷◌, [], IsTrue};
+ghost use Rattle.std.specs.Prelude.{List, Bool, ℕ, ◌≡◌, ◌==◌, not, ◌∷◌, [], IsTrue};
+ghost use Rattle.std.specs.List.{list_all};
 ghost use Rattle.rl_tokens.specs.declared.kind.Kind.{Kind};
 ghost use Rattle.rl_tokens.specs.declared.kind.Kind.TheVariants.{Bool as BoolKind};
+ghost use Rattle.rl_tokens.specs.Characters.{carriage_return, minus_sign};
 ghost use Rattle.rl_tokens.specs.Reading.{Contents, Digits, Truth, Reads, quoted_contents, truth_text};
 ghost use Rattle.rl_tokens.specs.Strict.{Strict, strict_quoted_contents};
 ghost use Rattle.rl_tokens.specs.Written.{written_text};
@@ -22,6 +24,12 @@ pub fn one_strict()
         → Strict t k v x → Strict t l w y → (k ≡ l) × (v ≡ w) × (x ≡ y) }
 {}
 
+/// A strict text holds no CR, neither in its body nor in its suffix.
+pub fn strict_holds_no_return()
+    ensures { (t : List ℕ) (k : Kind) (v : Contents) (x : List ℕ)
+        → Strict t k v x → IsTrue (list_all (λ c. not (c == carriage_return)) t) }
+{}
+
 /// The words `true` and `false` are strict, each with its truth value, and no suffix.
 pub fn words_strict()
     ensures { (truth : Bool) → Strict (truth_text truth) BoolKind (Truth truth) [] }
@@ -33,21 +41,24 @@ pub fn strict_reads()
         → Strict t k v x → IsWithinLimit k t → Reads t k v x }
 {}
 
-/// A strict number, an integer within the limit, reads behind a minus as that number with `-` before its digits.
+/// A strict number, an integer within the limit, reads behind a minus as that number with `-`
+/// before its digits.
 pub fn strict_minus()
     ensures { (t : List ℕ) (k : Kind) (ds x : List ℕ)
         → IsTrue (is_number k) → Strict t k (Digits ds) x → IsWithinLimit k t
-        → Reads (45 ∷ t) k (Digits (45 ∷ ds)) x }
+        → Reads (minus_sign ∷ t) k (Digits (minus_sign ∷ ds)) x }
 {}
 
 /// What a value is written as is strict, has that value, and no suffix.
 pub fn written_strict()
-    ensures { (k : Kind) (v : List ℕ) → IsQuotedValue k v → Strict (written_text k v) k (strict_quoted_contents k v) [] }
+    ensures { (k : Kind) (v : List ℕ)
+        → IsQuotedValue k v → Strict (written_text k v) k (strict_quoted_contents k v) [] }
 {}
 
 /// What a value is written as reads as that value, with no suffix.
 pub fn written_reads()
-    ensures { (k : Kind) (v : List ℕ) → IsQuotedValue k v → Reads (written_text k v) k (quoted_contents k v) [] }
+    ensures { (k : Kind) (v : List ℕ)
+        → IsQuotedValue k v → Reads (written_text k v) k (quoted_contents k v) [] }
 {}
 
 /// A printed list of strict literals is cut into exactly its items.

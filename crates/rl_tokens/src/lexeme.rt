@@ -35,10 +35,12 @@ pub enum Form {
     Mark(char),
 }
 
-/// The form of the lexeme that the text begins with, and the rest behind it. `None` where there is no such lexeme.
+/// The form of the lexeme that the text begins with, and the rest behind it. `None` where there is
+/// no such lexeme.
 #[inline(always)]
 pub(crate) fn first_lexeme(text: &str) -> Option<(Form, &str)>
-    ensures found { IfSome result (λ p. FormBefore (chars text.now) (form_view p.0) (chars p.1.now)) }
+    ensures found { IfSome result
+        (λ p. FormBefore (chars text.now) (form_view p.0) (chars p.1.now)) }
     ensures none { IfNone result ((after : List ℕ) → LexemeBefore (chars text.now) after → ⊥) }
     ensures behind { IfSome result (λ p. IsTail text.now p.1.now) }
     ensures shorter { IfSome result (λ p. length p.1.now < length text.now) }
@@ -46,10 +48,11 @@ pub(crate) fn first_lexeme(text: &str) -> Option<(Form, &str)>
     lexeme_at(text)
 }
 
-// The same, as the first characters tell it. A digit is told by its byte, before all else.
+/// The same, as the first characters tell it. A digit is told by its byte, before all else.
 #[inline(always)]
 fn lexeme_at(text: &str) -> Option<(Form, &str)>
-    ensures rest { option_map (λ p. (form_view p.0, chars p.1.now)) result ≡ lexeme_at (chars text.now) }
+    ensures rest { option_map (λ p. (form_view p.0, chars p.1.now)) result
+        ≡ lexeme_at (chars text.now) }
     ensures behind { IfSome result (λ p. IsTail text.now p.1.now) }
     ensures shorter { IfSome result (λ p. length p.1.now < length text.now) }
 {
@@ -61,10 +64,11 @@ fn lexeme_at(text: &str) -> Option<(Form, &str)>
     by_character(text)
 }
 
-// The same, where it is no number. A quote is told by its byte too.
+/// The same, where it is no number. A quote is told by its byte too.
 #[inline(never)]
 fn by_character(text: &str) -> Option<(Form, &str)>
-    ensures rest { option_map (λ p. (form_view p.0, chars p.1.now)) result ≡ lexeme_at (chars text.now) }
+    ensures rest { option_map (λ p. (form_view p.0, chars p.1.now)) result
+        ≡ lexeme_at (chars text.now) }
     ensures behind { IfSome result (λ p. IsTail text.now p.1.now) }
     ensures shorter { IfSome result (λ p. length p.1.now < length text.now) }
 {
@@ -75,10 +79,11 @@ fn by_character(text: &str) -> Option<(Form, &str)>
     }
 }
 
-// The same, where the first character is perhaps past ASCII.
+/// The same, where the first character is perhaps past ASCII.
 #[inline(never)]
 fn by_wide_character(text: &str) -> Option<(Form, &str)>
-    ensures rest { option_map (λ p. (form_view p.0, chars p.1.now)) result ≡ lexeme_at (chars text.now) }
+    ensures rest { option_map (λ p. (form_view p.0, chars p.1.now)) result
+        ≡ lexeme_at (chars text.now) }
     ensures behind { IfSome result (λ p. IsTail text.now p.1.now) }
     ensures shorter { IfSome result (λ p. length p.1.now < length text.now) }
 {
@@ -86,7 +91,7 @@ fn by_wide_character(text: &str) -> Option<(Form, &str)>
     by_first(c, behind)
 }
 
-// By the first character, and what stands behind it.
+/// By the first character, and what stands behind it.
 #[inline(always)]
 fn by_first(c: char, text: &str) -> Option<(Form, &str)>
     ensures rest { option_map (λ p. (form_view p.0, chars p.1.now)) result
@@ -100,7 +105,7 @@ fn by_first(c: char, text: &str) -> Option<(Form, &str)>
     }
 }
 
-// By an identifier's start, and what stands behind it.
+/// By an identifier's start, and what stands behind it.
 fn after_start(c: char, text: &str) -> Option<(Form, &str)>
     ensures rest { option_map (λ p. (form_view p.0, chars p.1.now)) result
         ≡ by_class (start_class c) c (chars text.now) }
@@ -134,7 +139,7 @@ fn after_start(c: char, text: &str) -> Option<(Form, &str)>
     Some((Form::Identifier, after_row(RunClass::Continue, text)))
 }
 
-// By a character that begins no identifier, and what stands behind it.
+/// By a character that begins no identifier, and what stands behind it.
 fn after_other(c: char, text: &str) -> Option<(Form, &str)>
     ensures rest { option_map (λ p. (form_view p.0, chars p.1.now)) result
         ≡ by_class (other_class c) c (chars text.now) }
@@ -162,8 +167,9 @@ fn after_other(c: char, text: &str) -> Option<(Form, &str)>
     }
 }
 
-// What follows the number behind whose first digit the text stands, whichever that is: the letter of a base, and the row
-// behind it, are where a suffix would stand. Most numbers end behind a row of digits.
+/// What follows the number behind whose first digit the text stands, whichever that is: the letter
+/// of a base, and the row behind it, are where a suffix would stand. Most numbers end behind a row
+/// of digits.
 #[inline(always)]
 fn after_digit(text: &str) -> &str
     ensures rest { (digit : ℕ) → chars result.now ≡ after_digit digit (chars text.now) }
@@ -178,7 +184,9 @@ fn after_digit(text: &str) -> &str
 
 /// Whether a hash and an identifier's start begin the text.
 pub(crate) fn begins_marked_identifier(text: &str) -> bool
-    ensures { result ≡ (slice_index (chars text.now) 0 == 35 && first_passes is_start (drop 1 (chars text.now))) }
+    ensures { result
+        ≡ (slice_index (chars text.now) 0 == 35
+        && first_passes is_start (drop 1 (chars text.now))) }
 {
     match split_char(text) {
         Some(('#', behind)) => match split_char(behind) {

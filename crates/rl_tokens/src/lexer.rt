@@ -46,11 +46,15 @@ pub fn lex<A: Allocator + Copy>(alloc: A, text: &str, file: u32) -> Result<Token
     ensures one_fault { OneFault }
     ensures never_both { NeverBoth }
     // A print of strict literals is cut into exactly its items, or memory was refused.
-    ensures printed { (entries : List Entry) (last : List ℕ) → Printed (chars text.now) entries last
-        → IfOk result (λ trees. stream_view trees ≡ printed_trees file 0 entries) × IfErr result (λ e. e.kind ≡ LexKind.Memory) }
+    ensures printed { (entries : List Entry) (last : List ℕ)
+        → Printed (chars text.now) entries last
+        → IfOk result (λ trees. stream_view trees ≡ printed_trees file 0 entries)
+        × IfErr result (λ e. e.kind ≡ LexKind.Memory) }
     // So is one of literals that were cut from any text, where no gap between two items is empty.
-    ensures reprinted { (entries : List Entry) (last : List ℕ) → Reprinted (chars text.now) entries last
-        → IfOk result (λ trees. stream_view trees ≡ printed_trees file 0 entries) × IfErr result (λ e. e.kind ≡ LexKind.Memory) }
+    ensures reprinted { (entries : List Entry) (last : List ℕ)
+        → Reprinted (chars text.now) entries last
+        → IfOk result (λ trees. stream_view trees ≡ printed_trees file 0 entries)
+        × IfErr result (λ e. e.kind ≡ LexKind.Memory) }
 {
     let mut nest = TreeBuilder::new(alloc, file);
     let mut tokens = Tokens::new(text);

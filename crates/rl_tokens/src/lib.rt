@@ -1,5 +1,5 @@
-//! The tokens of Rust's literals: spans, literal tokens and how values are written, and the definitions that
-//! the contracts of every crate above cite (`specs/`).
+//! The tokens of Rust's literals: spans, literal tokens and how values are written, and the
+//! definitions that the contracts of every crate above cite (`specs/`).
 #![tactic(auto)]
 
 mod appending;

@@ -57,8 +57,8 @@ impl<A: Allocator + Copy> TreeBuilder<A> {
         }
     }
 
-    /// Reads one token more, of this form and text, which stands from the byte `lo` to the byte `hi`. A refusal is
-    /// told at `lo`.
+    /// Reads one token more, of this form and text, which stands from the byte `lo` to the byte
+    /// `hi`. A refusal is told at `lo`.
     pub(crate) fn add(
         &mut self,
         form: Form,
@@ -69,7 +69,8 @@ impl<A: Allocator + Copy> TreeBuilder<A> {
         requires { IsFitting (form_view form) text.now lo hi }
         ensures ok { OnOk result (TakesToken self.old self.new (form_view form) text.now lo hi) }
         ensures at { IfErr result (λ e. e.at ≡ lo) }
-        ensures kind { IfErr result (λ e. RefusesForm (groups_of self.old) (form_view form) e.kind) }
+        ensures kind { IfErr result
+            (λ e. RefusesForm (groups_of self.old) (form_view form) e.kind) }
     {
         let span = Span::new(self.file, lo, hi);
         match form {
@@ -109,7 +110,7 @@ impl<A: Allocator + Copy> TreeBuilder<A> {
         }
     }
 
-    // Puts a tree behind the others of its level. Want of memory is told at the byte.
+    /// Puts a tree behind the others of its level. Want of memory is told at the byte.
     #[inline(always)]
     fn append(&mut self, tree: TokenTree<A>, at: usize) -> Result<(), LexError>
         ensures ok { OnOk result (TakesTree self.old self.new tree) }
@@ -121,7 +122,7 @@ impl<A: Allocator + Copy> TreeBuilder<A> {
         Ok(())
     }
 
-    // The trees that follow stand in a new group, whose opener is at the byte.
+    /// The trees that follow stand in a new group, whose opener is at the byte.
     #[inline(never)]
     fn open_group(&mut self, delimiter: Delimiter, at: usize) -> Result<(), LexError>
         ensures ok { OnOk result (OpensGroup self.old self.new delimiter at) }
@@ -143,7 +144,7 @@ impl<A: Allocator + Copy> TreeBuilder<A> {
         Ok(())
     }
 
-    // The innermost group ends with this closer: it is the next tree of the level around it.
+    /// The innermost group ends with this closer: it is the next tree of the level around it.
     #[inline(never)]
     fn close_group(&mut self, delimiter: Delimiter, lo: usize, hi: usize) -> Result<(), LexError>
         requires { hi ≡ lo + 1 }
@@ -163,14 +164,14 @@ impl<A: Allocator + Copy> TreeBuilder<A> {
     }
 }
 
-// Whether a delimiter opens a group.
+/// Whether a delimiter opens a group.
 fn is_opener(c: char) -> bool
     ensures { result ≡ is_opener c }
 {
     matches!(c, '(' | '[' | '{')
 }
 
-// Which delimiter the opener or closer belongs to.
+/// Which delimiter the opener or closer belongs to.
 fn delimiter_for(c: char) -> Delimiter
     ensures { result ≡ delimiter_for c }
 {

@@ -77,7 +77,8 @@ pub trait Parser<A: Allocator>: Sized {
     ///
     /// The implementation's own, as its `runs` says.
     fn parse(self, alloc: A, input: &mut ParseBuffer<'_, A>) -> Result<Self::Output, Error<A>>
-        ensures runs { runs self (trees_in input.old) (scope_of input.old) result (trees_in input.new) }
+        ensures runs { runs self (trees_in input.old) (scope_of input.old) result
+            (trees_in input.new) }
         ensures rest { IsRest (trees_in input.old) (trees_in input.new) }
         ensures scope { scope_of input.new ≡ scope_of input.old };
 }
@@ -153,7 +154,8 @@ pub trait ToTokens {
     ///
     /// `Memory` where memory is refused; the stream stays.
     fn to_tokens<A: Allocator>(&self, alloc: A, tokens: &mut TokenStream<A>) -> Result<(), Error<A>>
-        ensures ok { OnOk result (stream_view tokens.new ≡ stream_view tokens.old ++ appends self.now) }
+        ensures ok { OnOk result
+            (stream_view tokens.new ≡ stream_view tokens.old ++ appends self.now) }
         ensures unchanged { OnErr result (stream_view tokens.new ≡ stream_view tokens.old) }
         ensures memory { IfErr result (λ e. e.kind ≡ Memory) };
 }

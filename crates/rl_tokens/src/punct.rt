@@ -34,7 +34,8 @@ impl Model for Punct {
 }
 
 impl Punct {
-    /// The token of this character, which is punctuation ([`Punct::is_char`] tells), with this span.
+    /// The token of this character, which is punctuation ([`Punct::is_char`] tells), with this
+    /// span.
     pub fn new(ch: char, span: Span) -> Punct
         requires { IsTrue (is_punct ch) }
         ensures { result ≡ record { ch = ch; span = span } }

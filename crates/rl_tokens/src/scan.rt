@@ -28,7 +28,8 @@ impl Marks {
     /// Two bytes that are looked for.
     #[inline(always)]
     pub fn two(first: u8, second: u8) -> Marks
-        ensures { result ≡ record { first = first; second = second; third = second; fourth = second } }
+        ensures { result
+            ≡ record { first = first; second = second; third = second; fourth = second } }
     {
         Marks {
             first,
@@ -86,8 +87,8 @@ fn mark_shortly(marks: Marks, bytes: &[u8], from: usize) -> usize
     mark_slowly(marks, bytes, from + 8)
 }
 
-/// How many bytes stand in front of the first mark; all where there is none. It is inlined for the marks that its caller
-/// names.
+/// How many bytes stand in front of the first mark; all where there is none. It is inlined for the
+/// marks that its caller names.
 #[inline(always)]
 pub fn len_before(marks: Marks, bytes: &[u8]) -> usize
     ensures { result ≡ prefix_len (is_other marks) bytes.now }

@@ -77,7 +77,11 @@ impl Span {
     pub fn join(self, other: Span) -> Option<Span>
         ensures one_file { IsSome result ↔ (self.file ≡ other.file) }
         ensures range { IfSome result
-            (λ s. s ≡ record { file = self.file; lo = min self.lo other.lo; hi = max self.hi other.hi }) }
+            (λ s. s ≡ record {
+              file = self.file;
+              lo = min self.lo other.lo;
+              hi = max self.hi other.hi;
+            }) }
     {
         if self.file != other.file {
             return None;

@@ -120,7 +120,7 @@ impl<A: Allocator> TokenTree<A> {
         }
     }
 
-    // Gives the tree this span, and with a group all that is inside.
+    /// Gives the tree this span, and with a group all that is inside.
     #[cycle(respan)]
     #[tactic(auto, using(crate::proofs::TreeLemmas::respanned_group))]
     fn respan(&mut self, span: Span)
@@ -199,7 +199,7 @@ impl<A: Allocator> Group<A> {
         self.span = span;
     }
 
-    // Gives the group this span, and all that is inside.
+    /// Gives the group this span, and all that is inside.
     #[cycle(respan)]
     fn respan(&mut self, span: Span)
         ensures delimiter { delimiter_of self.new ≡ delimiter_of self.old }

@@ -40,7 +40,7 @@ pub fn skip(text: &str) -> &str
     }
 }
 
-// The same, where no white space begins the text, but perhaps a comment does.
+/// The same, where no white space begins the text, but perhaps a comment does.
 #[inline(never)]
 fn skip_comments(text: &str) -> &str
     requires { IsFalse (first_passes is_white (chars text.now)) }
@@ -57,7 +57,7 @@ fn skip_comments(text: &str) -> &str
     rest
 }
 
-// What follows a plain comment, by what stands behind its first slash.
+/// What follows a plain comment, by what stands behind its first slash.
 #[inline(always)]
 #[tactic(auto, using(crate::proofs::CommentBytes::wide_comment, crate::proofs::BehindLemmas::behind_step, crate::proofs::BehindLemmas::some_behind))]
 fn after_comment(text: &str) -> Option<&str>
@@ -76,7 +76,7 @@ fn after_comment(text: &str) -> Option<&str>
     }
 }
 
-// Whether a line comment is plain, by what stands behind its `//`.
+/// Whether a line comment is plain, by what stands behind its `//`.
 #[tactic(auto, using(crate::proofs::CommentBytes::wide_line))]
 fn is_plain_line(body: &str) -> bool
     ensures { result ≡ is_plain_line (chars body.now) }
@@ -87,7 +87,7 @@ fn is_plain_line(body: &str) -> bool
     }
 }
 
-// Whether a block is plain, by what stands behind its `/*`.
+/// Whether a block is plain, by what stands behind its `/*`.
 #[tactic(auto, using(crate::proofs::CommentBytes::wide_block))]
 fn is_plain_block(inside: &str) -> bool
     ensures { result ≡ is_plain_block (chars inside.now) }
@@ -100,7 +100,7 @@ fn is_plain_block(inside: &str) -> bool
     }
 }
 
-// What follows the LF that ends a line comment; nothing where the text ends in the comment.
+/// What follows the LF that ends a line comment; nothing where the text ends in the comment.
 fn after_line(text: &str) -> &str
     ensures rest { chars result.now ≡ after_line (chars text.now) }
     ensures behind { IsTail text.now result.now }
@@ -111,8 +111,8 @@ fn after_line(text: &str) -> &str
     }
 }
 
-// What follows a block comment, by what stands behind its `/*`. It is a loop over bytes, from mark to mark, with the
-// number of blocks that are open inside it.
+/// What follows a block comment, by what stands behind its `/*`. It is a loop over bytes, from mark
+/// to mark, with the number of blocks that are open inside it.
 #[inline(always)]
 fn after_block(text: &str) -> Option<&str>
     ensures rest { option_map (λ rest. chars rest.now) result ≡ after_block 0 (chars text.now) }
@@ -144,7 +144,7 @@ fn after_block(text: &str) -> Option<&str>
     None
 }
 
-// The byte at a place, and 0 past the end.
+/// The byte at a place, and 0 past the end.
 fn byte_at(bytes: &[u8], at: usize) -> u8
     ensures { result ≡ slice_index bytes.now at }
 {

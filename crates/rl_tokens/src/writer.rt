@@ -65,7 +65,8 @@ fn upper_digit(digit: u32) -> char
 fn push_number<A: Allocator>(out: &mut String<A>, code: u32) -> Result<(), AllocError>
     requires { code < 256 }
     ensures { OnOk result (string_bytes out.new
-        ≡ string_bytes out.old ++ 92 ∷ 120 ∷ upper_digit (code / 16) ∷ upper_digit (code % 16) ∷ []) }
+        ≡ string_bytes out.old
+        ++ 92 ∷ 120 ∷ upper_digit (code / 16) ∷ upper_digit (code % 16) ∷ []) }
 {
     out.push_str("\\x")?;
     out.push(upper_digit(code / 16))?;
@@ -141,7 +142,8 @@ fn token<A: Allocator>(text: Result<String<A>, AllocError>) -> Result<Literal<A>
     }
 }
 
-/// The literals that values are written as, at no place (`Span::call_site`), where want of memory is told too.
+/// The literals that values are written as, at no place (`Span::call_site`), where want of memory
+/// is told too.
 impl<A: Allocator> Literal<A> {
     /// The string literal that stands for the text, as docs/GRAMMAR.md writes it, at
     /// [`Span::call_site`].

@@ -2,6 +2,7 @@
 use Rattle.std.specs.Prelude.{◌≡◌, IsTrue, ℕ, ◌+◌, ◌*◌, ◌==◌, ◌||◌, ◌&&◌, not, Bool, true, false, List, [], ◌∷◌, Option, Some, None, nat_lt, nat_le, if◌then◌else◌}
 use Rattle.std.specs.Char.{digit_value, is_ascii_digit}
 use Rattle.std.specs.List.{list_any}
+use Rattle.rl_tokens.specs.Characters.{plus_sign, minus_sign, full_stop, digit_zero, underscore, letter_b, letter_o, letter_x}
 use Rattle.rl_tokens.specs.Texts.{first_passes, is_underscore, xid_ok}
 use Rattle.rl_tokens.specs.Quoted.{place_value, without_underscores}
 use Rattle.rl_tokens.specs.Numbers.{Sign, NoSign, Minus, limit, is_exponent_letter, is_row_part}
@@ -30,7 +31,7 @@ append_digit radix (Some v) d = capped (v * radix + d)
 unfoldable pub row_from : ℕ → Bool → Option ℕ → List ℕ → Bool × Option ℕ × List ℕ
 row_from radix some m [] = (some, m, [])
 row_from radix some m (c ∷ cs) =
-    if c == 95 then row_from radix some m cs
+    if c == underscore then row_from radix some m cs
     else (if nat_lt (digit_value c) radix then row_from radix true (append_digit radix m (digit_value c)) cs
     else (some, m, c ∷ cs))
 
@@ -59,21 +60,21 @@ is_exponent_suffix (c ∷ cs) = is_exponent_letter c && (has_digit_at 10 cs && i
 
 abbrev pub after_minus : List ℕ → List ℕ
 after_minus [] = []
-after_minus (c ∷ cs) = if c == 45 then cs else (c ∷ cs)
+after_minus (c ∷ cs) = if c == minus_sign then cs else (c ∷ cs)
 
 abbrev pub sign_at : List ℕ → Sign
 sign_at [] = NoSign
-sign_at (c ∷ cs) = if c == 45 then Minus else NoSign
+sign_at (c ∷ cs) = if c == minus_sign then Minus else NoSign
 
 -- the base that a letter behind a zero names
 abbrev pub radix_of : ℕ → ℕ
-radix_of c = if c == 98 then 2 else (if c == 111 then 8 else (if c == 120 then 16 else 10))
+radix_of c = if c == letter_b then 2 else (if c == letter_o then 8 else (if c == letter_x then 16 else 10))
 
 -- the base, and what stands behind its prefix
 unfoldable pub radix_at : List ℕ → ℕ × List ℕ
 radix_at [] = (10, [])
 radix_at (z ∷ []) = (10, z ∷ [])
-radix_at (z ∷ c ∷ cs) = if z == 48 && not (radix_of c == 10) then (radix_of c, cs) else (10, z ∷ c ∷ cs)
+radix_at (z ∷ c ∷ cs) = if z == digit_zero && not (radix_of c == 10) then (radix_of c, cs) else (10, z ∷ c ∷ cs)
 
 -- what base ten asks besides: a digit in front, and no exponent behind
 abbrev pub may_begin : ℕ → List ℕ → Bool
@@ -121,11 +122,11 @@ ended_at radix some m x = if some && may_end radix x then Some (m, x) else None
 -- what follows a dot and its digits, or the text
 abbrev pub after_fraction : List ℕ → List ℕ
 after_fraction [] = []
-after_fraction (c ∷ cs) = if c == 46 then after_digits 10 cs else (c ∷ cs)
+after_fraction (c ∷ cs) = if c == full_stop then after_digits 10 cs else (c ∷ cs)
 
 abbrev pub after_power_sign : List ℕ → List ℕ
 after_power_sign [] = []
-after_power_sign (c ∷ cs) = if c == 43 || c == 45 then cs else (c ∷ cs)
+after_power_sign (c ∷ cs) = if c == plus_sign || c == minus_sign then cs else (c ∷ cs)
 
 -- the digits of a power, behind its letter
 unfoldable pub power_at : List ℕ → List ℕ

@@ -2,6 +2,7 @@
 use Rattle.std.specs.Prelude.{ℕ, ◌+◌, ◌*◌, ◌==◌, ◌||◌, ◌&&◌, Bool, not, List, [], ◌∷◌, Option, Some, None, option_and_then, nat_lt, if◌then◌else◌, IsTrue, ⊤}
 use Rattle.std.specs.Char.{digit_value}
 use Rattle.std.proofs.Math.Utf8.{scalar}
+use Rattle.rl_tokens.specs.Characters.{tab, line_feed, carriage_return, double_quote, single_quote, digit_zero, back_slash, underscore, letter_n, letter_r, letter_t, letter_u, letter_x, open_brace, close_brace}
 use Rattle.rl_tokens.specs.declared.kind.Kind.{Kind}
 use Rattle.rl_tokens.specs.Quoted.{content_of, holds_characters, is_blank, is_line_end, is_string, is_plain, allows_code, may_be_hex, has_unicode}
 use Rattle.rl_grammar.specs.declared.units.Piece.{Piece}
@@ -32,7 +33,7 @@ found value rest = Some (value, rest)
 
 -- what a backslash and one letter stand for
 abbrev pub named_of : ℕ → Option ℕ
-named_of c = if c == 110 then Some 10 else (if c == 114 then Some 13 else (if c == 116 then Some 9 else (if c == 92 then Some 92 else (if c == 39 then Some 39 else (if c == 34 then Some 34 else (if c == 48 then Some 0 else None))))))
+named_of c = if c == letter_n then Some line_feed else (if c == letter_r then Some carriage_return else (if c == letter_t then Some tab else (if c == back_slash then Some back_slash else (if c == single_quote then Some single_quote else (if c == double_quote then Some double_quote else (if c == digit_zero then Some 0 else None))))))
 
 -- and where the kind holds it
 abbrev pub named_in : Kind → ℕ → Option ℕ
@@ -56,12 +57,12 @@ hex_at kind t = do
 -- the digits and underscores up to the closing brace, behind n digits that spell v
 unfoldable pub unicode_digits_at : ℕ → ℕ → List ℕ → Option (ℕ × List ℕ)
 unicode_digits_at v n [] = None
-unicode_digits_at v n (c ∷ cs) = if c == 125 then number_if (scalar v) v cs else (if c == 95 then unicode_digits_at v n cs else (if nat_lt (digit_value c) 16 && nat_lt n 6 then unicode_digits_at (v * 16 + digit_value c) (n + 1) cs else None))
+unicode_digits_at v n (c ∷ cs) = if c == close_brace then number_if (scalar v) v cs else (if c == underscore then unicode_digits_at v n cs else (if nat_lt (digit_value c) 16 && nat_lt n 6 then unicode_digits_at (v * 16 + digit_value c) (n + 1) cs else None))
 
 -- an opening brace at the front
 abbrev pub brace_at : List ℕ → Option (List ℕ)
 brace_at [] = None
-brace_at (c ∷ cs) = if c == 123 then Some cs else None
+brace_at (c ∷ cs) = if c == open_brace then Some cs else None
 
 -- what follows \u
 unfoldable pub unicode_at : Kind → List ℕ → Option (ℕ × List ℕ)
@@ -79,14 +80,14 @@ after_blanks (c ∷ cs) = if is_blank c then after_blanks cs else (c ∷ cs)
 -- what stands behind a backslash
 unfoldable pub escape_at : Kind → List ℕ → Option (List ℕ × List ℕ)
 escape_at kind [] = None
-escape_at kind (c ∷ cs) = if c == 120 then (hex_at kind cs >>= λ p. found (p.0 ∷ []) p.1) else (if c == 117 then (unicode_at kind cs >>= λ p. found (content_of kind (p.0 ∷ [])) p.1) else (if is_line_end c then (if is_string kind then found [] (after_blanks cs) else None) else named_at kind c cs))
+escape_at kind (c ∷ cs) = if c == letter_x then (hex_at kind cs >>= λ p. found (p.0 ∷ []) p.1) else (if c == letter_u then (unicode_at kind cs >>= λ p. found (content_of kind (p.0 ∷ [])) p.1) else (if is_line_end c then (if is_string kind then found [] (after_blanks cs) else None) else named_at kind c cs))
 
 -- the LF of a line end of two characters
 abbrev pub line_feed_at : Kind → List ℕ → Option (List ℕ × List ℕ)
 line_feed_at kind [] = None
-line_feed_at kind (c ∷ cs) = if is_string kind && c == 10 then found (10 ∷ []) cs else None
+line_feed_at kind (c ∷ cs) = if is_string kind && c == line_feed then found (line_feed ∷ []) cs else None
 
 -- the unit at the front: what it stands for in a literal of the kind, and the text behind it
 unfoldable pub unit_at : Kind → List ℕ → Option (List ℕ × List ℕ)
 unit_at kind [] = None
-unit_at kind (c ∷ cs) = if c == 92 then escape_at kind cs else (if is_plain kind c then found (content_of kind (c ∷ [])) cs else (if c == 13 then line_feed_at kind cs else None))
+unit_at kind (c ∷ cs) = if c == back_slash then escape_at kind cs else (if is_plain kind c then found (content_of kind (c ∷ [])) cs else (if c == carriage_return then line_feed_at kind cs else None))

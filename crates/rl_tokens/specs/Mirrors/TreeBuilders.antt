@@ -1,6 +1,7 @@
 -- A mirror of the code, for proofs alone: the trees of a text as they grow, and the groups that are open.
 use Rattle.std.specs.Prelude.{◌≡◌, ◌≢◌, ◌<◌, ℕ, ◌+◌, true, false, codes, if◌then◌else◌, List, [], ◌∷◌, ◌++◌, IsTrue, Some, length, map, reverse, not, ◌&&◌, ⊤}
 use Rattle.std.specs.Str.{chars}
+use Rattle.rl_tokens.specs.Characters.{open_parenthesis, close_parenthesis, open_bracket, close_bracket, open_brace, close_brace}
 use Rattle.rl_tokens.specs.declared.token.Delimiter.{Delimiter}
 use Rattle.rl_tokens.specs.declared.token.Delimiter.TheVariants.{Parenthesis, Brace, Bracket}
 use Rattle.rl_tokens.specs.declared.lex_error.LexKind.{LexKind}
@@ -16,14 +17,14 @@ use Rattle.rl_tokens.specs.Trees.{FlatToken, Opening, Closing, tree_view, stream
 use Rattle.rl_tokens.specs.Lexing.{OpenGroup, is_opener, is_closer, closes, popped, innermost, behind_form, flat_form, begins_doc_comment, begins_quote, begins_lifetime, begins_raw_identifier}
 
 abbrev pub opener_of : Delimiter → ℕ
-opener_of Parenthesis = 40
-opener_of Brace = 123
-opener_of Bracket = 91
+opener_of Parenthesis = open_parenthesis
+opener_of Brace = open_brace
+opener_of Bracket = open_bracket
 
-abbrev pub closer_char : Delimiter → ℕ
-closer_char Parenthesis = 41
-closer_char Brace = 125
-closer_char Bracket = 93
+abbrev pub closer_of : Delimiter → ℕ
+closer_of Parenthesis = close_parenthesis
+closer_of Brace = close_brace
+closer_of Bracket = close_bracket
 
 abbrev pub group_of : {A : Type 0} → GroupBuilder A → OpenGroup
 group_of o = record { opener = opener_of o.delimiter; at = o.at }
@@ -58,7 +59,7 @@ pub record OpensGroup {A : Type 0} (old new : TreeBuilder A) (delimiter : Delimi
 
 -- the innermost group is closed
 pub record ClosesGroup {A : Type 0} (old new : TreeBuilder A) (delimiter : Delimiter) (lo hi : ℕ) : Type 0 where
-  pub closes_it : closes (groups_of old) (closer_char delimiter) ≡ true
+  pub closes_it : closes (groups_of old) (closer_of delimiter) ≡ true
   pub groups : groups_of new ≡ popped (groups_of old)
   pub file_same : new.file ≡ old.file
   pub flat : flat_builder new ≡ flat_builder old ++ (Closing delimiter (record { file = old.file; lo = lo; hi = hi }) ∷ [])
@@ -70,7 +71,7 @@ RefusesOpener groups Memory = ⊤
 RefusesOpener groups _ = ⊥
 
 abbrev pub RefusesCloser : List OpenGroup → Delimiter → LexKind → Type 0
-RefusesCloser groups delimiter UnmatchedClose = closes groups (closer_char delimiter) ≡ false
+RefusesCloser groups delimiter UnmatchedClose = closes groups (closer_of delimiter) ≡ false
 RefusesCloser groups delimiter Memory = ⊤
 RefusesCloser groups delimiter _ = ⊥
 

@@ -35,11 +35,12 @@ pub(crate) fn after_digits(text: &str) -> &str
     rest
 }
 
-// The text behind its first character, where that is a digit.
+/// The text behind its first character, where that is a digit.
 #[inline(always)]
 #[tactic(auto, using(crate::proofs::BehindLemmas::behind_step, crate::proofs::NumberEnds::no_digit))]
 fn without_digit(text: &str) -> Option<&str>
-    ensures some { IfSome result (λ rest. after_run is_ascii_digit (chars text.now) ≡ after_run is_ascii_digit (chars rest.now)) }
+    ensures some { IfSome result (λ rest. after_run is_ascii_digit (chars text.now)
+        ≡ after_run is_ascii_digit (chars rest.now)) }
     ensures none { IfNone result (after_run is_ascii_digit (chars text.now) ≡ chars text.now) }
     ensures behind { IfSome result (λ rest. IsTail text.now rest.now) }
     ensures shorter { IfSome result (λ rest. length rest.now < length text.now) }
@@ -53,7 +54,8 @@ fn without_digit(text: &str) -> Option<&str>
 /// Whether the text begins with a character of ASCII that goes on with no number.
 #[inline(always)]
 pub(crate) fn ends_number(text: &str) -> bool
-    ensures { IsTrue result → IsTrue (first_passes (λ c. not (c == 46 || is_start c)) (chars text.now)) }
+    ensures { IsTrue result
+        → IsTrue (first_passes (λ c. not (c == 46 || is_start c)) (chars text.now)) }
 {
     match split_ascii(text) {
         Some((byte, _)) => !(byte == b'.' || is_start(byte as char)),
@@ -61,7 +63,7 @@ pub(crate) fn ends_number(text: &str) -> bool
     }
 }
 
-// What follows the dot part, where there is one.
+/// What follows the dot part, where there is one.
 fn after_fraction(text: &str) -> &str
     ensures rest { chars result.now ≡ after_lexed_fraction (chars text.now) }
     ensures behind { IsTail text.now result.now }
@@ -73,7 +75,7 @@ fn after_fraction(text: &str) -> &str
     }
 }
 
-// Whether the text begins with a dot that neither a dot nor an identifier follows.
+/// Whether the text begins with a dot that neither a dot nor an identifier follows.
 fn begins_dot(text: &str) -> bool
     ensures { result ≡ begins_dot (chars text.now) }
 {
@@ -86,7 +88,7 @@ fn begins_dot(text: &str) -> bool
     }
 }
 
-// What follows the exponent, where there is one.
+/// What follows the exponent, where there is one.
 fn after_exponent(text: &str) -> &str
     ensures rest { chars result.now ≡ after_lexed_exponent (chars text.now) }
     ensures behind { IsTail text.now result.now }
@@ -102,7 +104,7 @@ fn after_exponent(text: &str) -> &str
     text
 }
 
-// What follows the sign, where there is one.
+/// What follows the sign, where there is one.
 fn after_sign(text: &str) -> &str
     ensures rest { chars result.now ≡ after_sign (chars text.now) }
     ensures behind { IsTail text.now result.now }

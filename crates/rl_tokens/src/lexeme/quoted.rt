@@ -48,7 +48,7 @@ pub(crate) fn begins_hashed_quote(text: &str) -> bool
     begins_with(opener, '"')
 }
 
-// What follows the `"` that ends a body.
+/// What follows the `"` that ends a body.
 #[inline(never)]
 fn after_quote(text: &str) -> Option<&str>
     ensures rest { option_map (λ rest. chars rest.now) result ≡ after_quote (chars text.now) }
@@ -65,7 +65,7 @@ fn after_quote(text: &str) -> Option<&str>
     None
 }
 
-// What follows the `"` and the hashes, so many, that end a raw body.
+/// What follows the `"` and the hashes, so many, that end a raw body.
 #[inline(never)]
 fn after_raw(count: usize, text: &str) -> Option<&str>
     ensures rest { option_map (λ rest. chars rest.now) result ≡ after_raw count (chars text.now) }
@@ -81,7 +81,7 @@ fn after_raw(count: usize, text: &str) -> Option<&str>
     None
 }
 
-// What follows the `'` that ends a character, by what stands behind the opening one.
+/// What follows the `'` that ends a character, by what stands behind the opening one.
 fn after_single(text: &str) -> Option<&str>
     ensures rest { option_map (λ rest. chars rest.now) result ≡ after_single (chars text.now) }
     ensures behind { IfSome result (λ rest. IsTail text.now rest.now) }
@@ -97,7 +97,7 @@ fn after_single(text: &str) -> Option<&str>
     }
 }
 
-// What follows the `'` that ends an escaped character, by what stands behind the escaped one.
+/// What follows the `'` that ends an escaped character, by what stands behind the escaped one.
 fn after_apostrophe(text: &str) -> Option<&str>
     ensures rest { option_map (λ rest. chars rest.now) result ≡ after_apostrophe (chars text.now) }
     ensures behind { IfSome result (λ rest. IsTail text.now rest.now) }

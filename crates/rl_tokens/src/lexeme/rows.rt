@@ -23,7 +23,7 @@ pub(crate) enum RunClass {
     White,
 }
 
-// Whether a row of this kind holds the character.
+/// Whether a row of this kind holds the character.
 #[inline(always)]
 fn holds(row: RunClass, c: char) -> bool
     ensures { result ≡ run_test row c }
@@ -36,8 +36,8 @@ fn holds(row: RunClass, c: char) -> bool
     }
 }
 
-/// What follows the longest row of this kind, perhaps an empty one. It is inlined for the kind that its caller names,
-/// and goes by bytes up to the first character past ASCII.
+/// What follows the longest row of this kind, perhaps an empty one. It is inlined for the kind that
+/// its caller names, and goes by bytes up to the first character past ASCII.
 #[inline(always)]
 pub(crate) fn after_row(row: RunClass, text: &str) -> &str
     ensures rest { chars result.now ≡ after_run (run_test row) (chars text.now) }
@@ -53,7 +53,7 @@ pub(crate) fn after_row(row: RunClass, text: &str) -> &str
     after_wide_row(row, rest)
 }
 
-// The same, character by character.
+/// The same, character by character.
 #[inline(never)]
 fn after_wide_row(row: RunClass, text: &str) -> &str
     ensures rest { chars result.now ≡ after_run (run_test row) (chars text.now) }
@@ -81,7 +81,7 @@ pub(crate) fn after_suffix(text: &str) -> &str
     }
 }
 
-// The same, where one may stand.
+/// The same, where one may stand.
 #[inline(never)]
 fn after_some_suffix(text: &str) -> &str
     ensures rest { chars result.now ≡ after_suffix (chars text.now) }
