@@ -1,8 +1,9 @@
 //! The lines of attributes.
 
-ghost use Rattle.std.specs.Prelude.{[], OnOk, IfOk, string_bytes};
+ghost use Rattle.std.specs.Prelude.{OnOk, IfOk, string_bytes};
 ghost use Rattle.std.specs.Str.{chars};
-ghost use Rattle.rl_attributes.specs.EntryLines.{PrintsEntry, PrintsEntries};
+ghost use Rattle.rl_lines.specs.Lines.{Appends};
+ghost use Rattle.rl_attributes.specs.EntryLines.{IsLineOfEntry, AreLinesOfEntries};
 
 use crate::attributes::Entry;
 use rl_lines::line_of;
@@ -14,8 +15,8 @@ fn push_entry<A: Allocator + Copy>(
     out: &mut String<A>,
     entry: &Entry<A>,
 ) -> Result<(), AllocError>
-    ensures { OnOk result
-        (PrintsEntry entry.now (chars (string_bytes out.old)) (chars (string_bytes out.new))) }
+    ensures { OnOk result (Appends (IsLineOfEntry entry.now)
+        (chars (string_bytes out.old)) (chars (string_bytes out.new))) }
 {
     let line = line_of(alloc, &entry.value)?;
     out.push_str(entry.name.as_str())?;
@@ -33,7 +34,7 @@ pub fn entry_lines<A: Allocator + Copy>(
     alloc: A,
     entries: &[Entry<A>],
 ) -> Result<String<A>, AllocError>
-    ensures { IfOk result (λ lines. PrintsEntries entries.now [] (chars (string_bytes lines))) }
+    ensures { IfOk result (λ lines. AreLinesOfEntries entries.now (chars (string_bytes lines))) }
 {
     let mut lines = String::new(alloc);
     for entry in entries {

@@ -1,5 +1,6 @@
 -- Sums over the texts of a corpus: all bytes, and the place where each text ends.
 use Rattle.std.specs.Prelude.{◌≡◌, ◌⊎◌, ℕ, ◌≤◌, ◌+◌, ◌%◌, ◌^◌, List, [], ◌∷◌, length, slice_range}
+use Rattle.std.specs.List.{sum}
 use Rattle.std.specs.Str.{IsUtf8}
 
 -- the bytes from one place to another are this text
@@ -28,11 +29,18 @@ abbrev pub Adds : (List ℕ → ℕ → Type 0) → List ℕ → ℕ → ℕ →
 Adds weighs corpus lo hi before after =
     ((weight : ℕ) × HasWeightAt weighs corpus lo hi weight × (after ≡ added before weight)) ⊎ (HasNoTextAt corpus lo hi × (after ≡ before))
 
--- the texts that end at these places, one behind another, make one sum of another
-abbrev pub Sums : (List ℕ → ℕ → Type 0) → List ℕ → ℕ → List ℕ → ℕ → ℕ → Type 0
-Sums weighs corpus lo [] before total = before ≡ total
-Sums weighs corpus lo (hi ∷ ends) before total = (after : ℕ) × Adds weighs corpus lo hi before after × Sums weighs corpus hi ends after total
+-- a text of this weight stands there, or none, which weighs nothing
+abbrev pub WeighsAt : (List ℕ → ℕ → Type 0) → List ℕ → ℕ → ℕ → ℕ → Type 0
+WeighsAt weighs corpus lo hi weight = HasWeightAt weighs corpus lo hi weight ⊎ (HasNoTextAt corpus lo hi × (weight ≡ 0))
 
--- this is the sum of the weights of all texts, modulo 2 to the 64th
-abbrev pub IsSum : (List ℕ → ℕ → Type 0) → List ℕ → List ℕ → ℕ → Type 0
-IsSum weighs corpus ends total = Sums weighs corpus 0 ends 0 total
+-- the weights of the texts that end at these places, one behind another, the first from the place on
+abbrev pub AreWeights : (List ℕ → ℕ → Type 0) → List ℕ → ℕ → List ℕ → List ℕ → Type 0
+AreWeights weighs corpus lo [] weights = weights ≡ []
+AreWeights weighs corpus lo (hi ∷ ends) weights =
+    (weight : ℕ) × (others : List ℕ) × WeighsAt weighs corpus lo hi weight × AreWeights weighs corpus hi ends others × (weights ≡ weight ∷ others)
+
+-- This is the sum of the weights of all texts, modulo 2 to the 64th.
+pub record IsSum (weighs : List ℕ → ℕ → Type 0) (corpus ends : List ℕ) (total : ℕ) : Type 0 where
+  pub weights : List ℕ
+  pub are : AreWeights weighs corpus 0 ends weights
+  pub total_is : total ≡ sum weights % 2 ^ 64

@@ -1,5 +1,5 @@
 -- What is printed for a line of input. Lines and what is printed are lists of bytes, texts lists of characters.
-use Rattle.std.specs.Prelude.{◌≡◌, ◌≢◌, ◌⊎◌, ℕ, ◌==◌, List, [], ◌++◌, length, Option, Some, None, codes}
+use Rattle.std.specs.Prelude.{◌≡◌, ◌≢◌, ◌⊎◌, ℕ, ◌==◌, List, ◌++◌, length, Option, Some, None, codes}
 use Rattle.std.specs.List.{before_first, after_first}
 use Rattle.std.specs.Str.{chars, IsUtf8}
 use Rattle.std.specs.Fmt.{decimal}
@@ -11,7 +11,7 @@ use Rattle.rl_tokens.specs.Reading.{HasNoInteger}
 use Rattle.rl_tokens.specs.Reading.{IsPast, HasNoFloat}
 use Rattle.rl_grammar.specs.StrictShapes.{IsToken}
 use Rattle.rust_literals.specs.Parsing.{RefusesText}
-use Rattle.rl_lines.specs.Lines.{IsLineOf, AreLinesOfText, PrintsKind, PrintsFloat}
+use Rattle.rl_lines.specs.Lines.{IsLineOf, AreLinesOfText, IsLineOfKind, IsLineOfFloat}
 use Rattle.rl_bulk.specs.declared.command.Command.{Command}
 use Rattle.rl_bulk.specs.declared.command.Command.TheVariants.{Text, Int, Float, Skip, Strict, Value, Read, Spans, Attr}
 use Rattle.rl_lines.specs.Digits.{bytes_of}
@@ -25,11 +25,11 @@ use Rattle.rl_bulk.specs.Spans.{IsSpansAnswer}
 -- the line of the text as an integer, or why it is none
 abbrev pub IsIntegerAnswer : List ℕ → List ℕ → Type 0
 IsIntegerAnswer text out =
-    PrintsKind IntKind text [] (chars out) ⊎ (HasNoInteger text × (out ≡ codes "None\n")) ⊎ (IsPast text × (out ≡ codes "TooLarge\n"))
+    IsLineOfKind IntKind text (chars out) ⊎ (HasNoInteger text × (out ≡ codes "None\n")) ⊎ (IsPast text × (out ≡ codes "TooLarge\n"))
 
 -- the line of the text as a float, or that it is none
 abbrev pub IsFloatAnswer : List ℕ → List ℕ → Type 0
-IsFloatAnswer text out = PrintsFloat text [] (chars out) ⊎ (HasNoFloat text × (out ≡ codes "None\n"))
+IsFloatAnswer text out = IsLineOfFloat text (chars out) ⊎ (HasNoFloat text × (out ≡ codes "None\n"))
 
 -- how many bytes stand behind white space and comments
 abbrev pub IsSkipAnswer : List ℕ → List ℕ → Type 0

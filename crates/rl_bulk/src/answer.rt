@@ -3,7 +3,7 @@
 ghost use Rattle.std.specs.Prelude.{◌≡◌, ◌++◌, ◌==◌, ℕ, List, [], IfOk, codes, string_bytes};
 ghost use Rattle.std.specs.List.{before_first, after_first};
 ghost use Rattle.std.specs.Str.{chars};
-ghost use Rattle.rl_lines.specs.Lines.{IsLineOf, PrintsList};
+ghost use Rattle.rl_lines.specs.Lines.{IsLineOf, AreLinesOfLits};
 ghost use Rattle.rl_lines.specs.Digits.{bytes_of};
 ghost use Rattle.rl_bulk.specs.Answers.{
   IsIntegerAnswer,
@@ -83,7 +83,7 @@ fn strict_answer(alloc: Global, text: &str) -> Result<String, AllocError>
 
 /// The lines of literals, and one with a point.
 fn list_answer(alloc: Global, literals: &[Lit]) -> Result<String, AllocError>
-    ensures { IfOk result (λ out. (lines : List ℕ) × PrintsList literals.now [] lines
+    ensures { IfOk result (λ out. (lines : List ℕ) × AreLinesOfLits literals.now lines
         × (chars (string_bytes out) ≡ lines ++ codes ".\n")) }
 {
     ended(lines_of(alloc, literals)?)

@@ -1,5 +1,6 @@
 pub mod LineLemmas
 pub mod DigitLemmas
+pub mod JoinLemmas
 pub mod PrintLemmas
 pub mod TextLemmas
 pub mod ListLemmas

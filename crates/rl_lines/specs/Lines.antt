@@ -56,10 +56,14 @@ IsLineOf text shown =
     ((kind : Kind) × (contents : Contents) × (suffix : List ℕ) × Reads text kind contents suffix × (shown ≡ literal_line kind contents suffix))
     ⊎ (HasNoReading text × (shown ≡ verbatim_line text))
 
+-- one piece of each, one after another
+abbrev pub Joins : {A : Type 0} → (A → List ℕ → Type 0) → List A → List ℕ → Type 0
+Joins IsPiece [] shown = shown ≡ []
+Joins IsPiece (x ∷ xs) shown = (first rest : List ℕ) × IsPiece x first × Joins IsPiece xs rest × (shown ≡ first ++ rest)
+
 -- The lines of tokens, one after another: each is that of the token's text.
 abbrev pub AreLinesOf : List SpannedText → List ℕ → Type 0
-AreLinesOf [] shown = shown ≡ []
-AreLinesOf (t ∷ ts) shown = (first rest : List ℕ) × IsLineOf (chars t.text) first × AreLinesOf ts rest × (shown ≡ first ++ rest)
+AreLinesOf tokens shown = Joins (λ t. IsLineOf (chars t.text)) tokens shown
 
 -- Literals begin the trees one after another, as these tokens, up to the trees' end.
 abbrev pub ReadsTokens : List Tree → List SpannedText → Type 0
@@ -74,31 +78,34 @@ pub record AreLinesOfText (text shown : List ℕ) : Type 0 where
   pub used : ReadsTokens trees tokens
   pub lines : AreLinesOf tokens shown
 
--- ---- a literal that is printed behind what was printed before
+-- ---- literals that are held
 
 -- the line of a text's reading of the kind
-abbrev pub PrintsKind : Kind → List ℕ → List ℕ → List ℕ → Type 0
-PrintsKind kind text old new =
-    (contents : Contents) × (suffix : List ℕ) × Reads text kind contents suffix × (new ≡ old ++ literal_line kind contents suffix)
+abbrev pub IsLineOfKind : Kind → List ℕ → List ℕ → Type 0
+IsLineOfKind kind text shown =
+    (contents : Contents) × (suffix : List ℕ) × Reads text kind contents suffix × (shown ≡ literal_line kind contents suffix)
 
 -- the line of a text's reading as a float, by the float rule alone
-abbrev pub PrintsFloat : List ℕ → List ℕ → List ℕ → Type 0
-PrintsFloat text old new =
-    (numeral : List ℕ) × (suffix : List ℕ) × FloatReads text numeral suffix × (new ≡ old ++ literal_line Float (Digits (float_digits numeral)) suffix)
+abbrev pub IsLineOfFloat : List ℕ → List ℕ → Type 0
+IsLineOfFloat text shown =
+    (numeral : List ℕ) × (suffix : List ℕ) × FloatReads text numeral suffix × (shown ≡ literal_line Float (Digits (float_digits numeral)) suffix)
 
 -- a literal's line
-abbrev pub PrintsLit : {A : Type 0} → Lit A → List ℕ → List ℕ → Type 0
-PrintsLit (StrLit l) old new = PrintsKind Str (chars l.text) old new
-PrintsLit (ByteStrLit l) old new = PrintsKind ByteStr (chars l.text) old new
-PrintsLit (CStrLit l) old new = PrintsKind CStr (chars l.text) old new
-PrintsLit (ByteLit l) old new = PrintsKind Byte (chars l.text) old new
-PrintsLit (CharLit l) old new = PrintsKind Char (chars l.text) old new
-PrintsLit (IntLit l) old new = PrintsKind Int (chars l.text) old new
-PrintsLit (FloatLit l) old new = PrintsFloat (chars l.text) old new
-PrintsLit (BoolLit l) old new = new ≡ old ++ literal_line Bool (Truth l.value) []
-PrintsLit (Verbatim l) old new = new ≡ old ++ verbatim_line (chars l.text)
+abbrev pub IsLineOfLit : {A : Type 0} → Lit A → List ℕ → Type 0
+IsLineOfLit (StrLit l) shown = IsLineOfKind Str (chars l.text) shown
+IsLineOfLit (ByteStrLit l) shown = IsLineOfKind ByteStr (chars l.text) shown
+IsLineOfLit (CStrLit l) shown = IsLineOfKind CStr (chars l.text) shown
+IsLineOfLit (ByteLit l) shown = IsLineOfKind Byte (chars l.text) shown
+IsLineOfLit (CharLit l) shown = IsLineOfKind Char (chars l.text) shown
+IsLineOfLit (IntLit l) shown = IsLineOfKind Int (chars l.text) shown
+IsLineOfLit (FloatLit l) shown = IsLineOfFloat (chars l.text) shown
+IsLineOfLit (BoolLit l) shown = shown ≡ literal_line Bool (Truth l.value) []
+IsLineOfLit (Verbatim l) shown = shown ≡ verbatim_line (chars l.text)
 
 -- the lines of literals, one after another
-abbrev pub PrintsList : {A : Type 0} → List (Lit A) → List ℕ → List ℕ → Type 0
-PrintsList [] old new = new ≡ old
-PrintsList (l ∷ ls) old new = (between : List ℕ) × PrintsLit l old between × PrintsList ls between new
+abbrev pub AreLinesOfLits : {A : Type 0} → List (Lit A) → List ℕ → Type 0
+AreLinesOfLits literals shown = Joins IsLineOfLit literals shown
+
+-- such a piece stands behind what stood there
+abbrev pub Appends : (List ℕ → Type 0) → List ℕ → List ℕ → Type 0
+Appends IsPiece old new = (piece : List ℕ) × IsPiece piece × (new ≡ old ++ piece)

@@ -4,7 +4,7 @@ ghost use Rattle.std.specs.Prelude.{◌≡◌, ◌++◌, [], OnOk, IfOk, string_
 ghost use Rattle.std.specs.Str.{chars};
 ghost use Rattle.rl_tokens.specs.declared.kind.Kind.TheVariants.{Str, ByteStr, CStr, Byte, Char, Int, Bool};
 ghost use Rattle.rl_tokens.specs.Reading.{Bytes, Characters, Truth, truth_text};
-ghost use Rattle.rl_lines.specs.Lines.{line, kind_label, literal_line, verbatim_line, PrintsKind, PrintsFloat, PrintsLit, PrintsList};
+ghost use Rattle.rl_lines.specs.Lines.{line, kind_label, literal_line, verbatim_line, IsLineOfKind, IsLineOfFloat, IsLineOfLit, AreLinesOfLits, Appends};
 
 use crate::line::push_line;
 use rl_tokens::{Kind, Literal};
@@ -65,7 +65,7 @@ fn push_string<A: Allocator + Copy>(
     out: &mut String<A>,
     literal: &LitStr<A>,
 ) -> Result<(), AllocError>
-    ensures { OnOk result (PrintsKind Str (chars literal.now.text)
+    ensures { OnOk result (Appends (IsLineOfKind Str (chars literal.now.text))
         (chars (string_bytes out.old)) (chars (string_bytes out.new))) }
 {
     if let Some(value) = literal.value_ref() {
@@ -99,7 +99,7 @@ fn push_byte_string<A: Allocator + Copy>(
     out: &mut String<A>,
     literal: &LitByteStr<A>,
 ) -> Result<(), AllocError>
-    ensures { OnOk result (PrintsKind ByteStr (chars literal.now.text)
+    ensures { OnOk result (Appends (IsLineOfKind ByteStr (chars literal.now.text))
         (chars (string_bytes out.old)) (chars (string_bytes out.new))) }
 {
     if let Some(value) = literal.value_ref() {
@@ -117,7 +117,7 @@ fn push_c_string<A: Allocator + Copy>(
     out: &mut String<A>,
     literal: &LitCStr<A>,
 ) -> Result<(), AllocError>
-    ensures { OnOk result (PrintsKind CStr (chars literal.now.text)
+    ensures { OnOk result (Appends (IsLineOfKind CStr (chars literal.now.text))
         (chars (string_bytes out.old)) (chars (string_bytes out.new))) }
 {
     let Ok(value) = literal.value(alloc) else {
@@ -135,7 +135,7 @@ fn push_byte<A: Allocator + Copy>(
     out: &mut String<A>,
     literal: &LitByte<A>,
 ) -> Result<(), AllocError>
-    ensures { OnOk result (PrintsKind Byte (chars literal.now.text)
+    ensures { OnOk result (Appends (IsLineOfKind Byte (chars literal.now.text))
         (chars (string_bytes out.old)) (chars (string_bytes out.new))) }
 {
     let Ok(shown) = Literal::byte_character(alloc, literal.value()) else {
@@ -150,7 +150,7 @@ fn push_character<A: Allocator + Copy>(
     out: &mut String<A>,
     literal: &LitChar<A>,
 ) -> Result<(), AllocError>
-    ensures { OnOk result (PrintsKind Char (chars literal.now.text)
+    ensures { OnOk result (Appends (IsLineOfKind Char (chars literal.now.text))
         (chars (string_bytes out.old)) (chars (string_bytes out.new))) }
 {
     let Ok(shown) = Literal::character(alloc, literal.value()) else {
@@ -165,7 +165,7 @@ fn push_integer<A: Allocator + Copy>(
     out: &mut String<A>,
     literal: &LitInt<A>,
 ) -> Result<(), AllocError>
-    ensures { OnOk result (PrintsKind Int (chars literal.now.text)
+    ensures { OnOk result (Appends (IsLineOfKind Int (chars literal.now.text))
         (chars (string_bytes out.old)) (chars (string_bytes out.new))) }
 {
     push_kind(
@@ -183,7 +183,7 @@ fn push_float<A: Allocator + Copy>(
     out: &mut String<A>,
     literal: &LitFloat<A>,
 ) -> Result<(), AllocError>
-    ensures { OnOk result (PrintsFloat (chars literal.now.text)
+    ensures { OnOk result (Appends (IsLineOfFloat (chars literal.now.text))
         (chars (string_bytes out.old)) (chars (string_bytes out.new))) }
 {
     push_kind(
@@ -208,8 +208,8 @@ fn push_truth<A: Allocator + Copy>(
     out: &mut String<A>,
     literal: &LitBool,
 ) -> Result<(), AllocError>
-    ensures { OnOk result (chars (string_bytes out.new)
-        ≡ chars (string_bytes out.old) ++ literal_line Bool (Truth literal.now.value) []) }
+    ensures { OnOk result (Appends (λ line. line ≡ literal_line Bool (Truth literal.now.value) [])
+        (chars (string_bytes out.old)) (chars (string_bytes out.new))) }
 {
     push_kind(alloc, out, Kind::Bool, truth_word(literal.value()), "")
 }
@@ -220,8 +220,8 @@ fn push_verbatim<A: Allocator + Copy>(
     out: &mut String<A>,
     token: &Literal<A>,
 ) -> Result<(), AllocError>
-    ensures { OnOk result (chars (string_bytes out.new)
-        ≡ chars (string_bytes out.old) ++ verbatim_line (chars token.now.text)) }
+    ensures { OnOk result (Appends (λ line. line ≡ verbatim_line (chars token.now.text))
+        (chars (string_bytes out.old)) (chars (string_bytes out.new))) }
 {
     let Ok(shown) = Literal::string(alloc, token.text()) else {
         return Err(AllocError);
@@ -235,8 +235,8 @@ fn push_literal<A: Allocator + Copy>(
     out: &mut String<A>,
     literal: &Lit<A>,
 ) -> Result<(), AllocError>
-    ensures { OnOk result
-        (PrintsLit literal.now (chars (string_bytes out.old)) (chars (string_bytes out.new))) }
+    ensures { OnOk result (Appends (IsLineOfLit literal.now)
+        (chars (string_bytes out.old)) (chars (string_bytes out.new))) }
 {
     match literal {
         Lit::Str(literal) => push_string(alloc, out, literal),
@@ -261,8 +261,8 @@ pub fn push_literals<A: Allocator + Copy>(
     out: &mut String<A>,
     literals: &[Lit<A>],
 ) -> Result<(), AllocError>
-    ensures { OnOk result
-        (PrintsList literals.now (chars (string_bytes out.old)) (chars (string_bytes out.new))) }
+    ensures { OnOk result (Appends (AreLinesOfLits literals.now)
+        (chars (string_bytes out.old)) (chars (string_bytes out.new))) }
 {
     for literal in literals {
         push_literal(alloc, out, literal)?;
@@ -276,7 +276,7 @@ pub fn push_literals<A: Allocator + Copy>(
 ///
 /// Want of memory, as std tells it, with no place.
 pub fn line_of<A: Allocator + Copy>(alloc: A, literal: &Lit<A>) -> Result<String<A>, AllocError>
-    ensures { IfOk result (λ line. PrintsLit literal.now [] (chars (string_bytes line))) }
+    ensures { IfOk result (λ line. IsLineOfLit literal.now (chars (string_bytes line))) }
 {
     let mut line = String::new(alloc);
     push_literal(alloc, &mut line, literal)?;
@@ -289,7 +289,7 @@ pub fn line_of<A: Allocator + Copy>(alloc: A, literal: &Lit<A>) -> Result<String
 ///
 /// Want of memory, as std tells it, with no place.
 pub fn lines_of<A: Allocator + Copy>(alloc: A, literals: &[Lit<A>]) -> Result<String<A>, AllocError>
-    ensures { IfOk result (λ lines. PrintsList literals.now [] (chars (string_bytes lines))) }
+    ensures { IfOk result (λ lines. AreLinesOfLits literals.now (chars (string_bytes lines))) }
 {
     let mut lines = String::new(alloc);
     push_literals(alloc, &mut lines, literals)?;

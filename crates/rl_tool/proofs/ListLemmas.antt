@@ -10,7 +10,8 @@ use Rattle.rust_literals.specs.declared.lit.Lit.{Lit}
 use Rattle.rust_literals.specs.Parsing.{AreRead, RefusesText}
 use Rattle.rust_literals.specs.Flat.{AddsNext, AreFirst}
 use Rattle.rust_literals.proofs.FlatLemmas.{read_none, read_more, read_whole}
-use Rattle.rl_lines.specs.Lines.{PrintsList}
+use Rattle.rl_lines.specs.Lines.{IsLineOfLit, AreLinesOfLits}
+use Rattle.rl_lines.proofs.JoinLemmas.{joins_append}
 use Rattle.rl_lines.proofs.ListLemmas.{lines_of_text}
 use Rattle.rl_tool.specs.declared.command.Command.TheVariants.{Read}
 use Rattle.rl_tool.specs.declared.fault.Fault.{Fault}
@@ -19,14 +20,11 @@ use Rattle.rl_tool.specs.Runs.{Shows, TellsLiteral, IsRefusalOf}
 use Rattle.rl_tool.specs.Lists.{Lengthens, HasFirst}
 
 -- lines behind lines
-prints_append : {A : Type 0} (xs ys : List (Lit A)) (a b c : List ℕ) → PrintsList xs a b → PrintsList ys b c → PrintsList (xs ++ ys) a c
-prints_append [] ys a b c h k = subst (λ (z : List ℕ). PrintsList ys z c) h k
-prints_append (x ∷ xs) ys a b c (m, p, h) k = (m, p, prints_append xs ys m b c h k)
-
-pub lengthened : {A : Type 0} (lines longer : Option (String A)) (xs ys : List (Lit A)) → IfSome lines (λ l. PrintsList xs [] (chars (string_bytes l))) → IfSome longer (Lengthens lines ys) → IfSome longer (λ l. PrintsList (xs ++ ys) [] (chars (string_bytes l)))
+pub lengthened : {A : Type 0} (lines longer : Option (String A)) (xs ys : List (Lit A)) → IfSome lines (λ l. AreLinesOfLits xs (chars (string_bytes l))) → IfSome longer (Lengthens lines ys) → IfSome longer (λ l. AreLinesOfLits (xs ++ ys) (chars (string_bytes l)))
 lengthened lines None xs ys h k = tt
 lengthened None (Some longer) xs ys h k = absurd k
-lengthened (Some lines) (Some longer) xs ys h k = prints_append xs ys [] (chars (string_bytes lines)) (chars (string_bytes longer)) h k
+lengthened (Some lines) (Some longer) xs ys h (more, k, e) =
+    subst (AreLinesOfLits (xs ++ ys)) (sym e) (joins_append IsLineOfLit xs ys (chars (string_bytes lines)) more h k)
 
 -- no literal yet, and no line
 pub first_none : {A : Type 0} (text rest : List ℕ) (lines : String A) → string_bytes lines ≡ [] → Skipped (chars text) (chars rest) → HasFirst text rest (Some lines) 0
@@ -54,9 +52,9 @@ pub record Answers {A : Type 0} (text : List ℕ) (r : Result (String A) (Fault 
   pub lines : IfOk r (λ lines. Shows Read (chars text) (chars (string_bytes lines)))
   pub refusal : IfErr r (IsRefusalOf Read text)
 
-pub answers : {A : Type 0} (text : List ℕ) (list : List (Lit A)) (lines : Option (String A)) (r : Result (String A) (Fault A)) → AreRead (chars text) 0 list → IfSome lines (λ l. PrintsList list [] (chars (string_bytes l))) → r ≡ ok_or lines Memory → Answers text r
+pub answers : {A : Type 0} (text : List ℕ) (list : List (Lit A)) (lines : Option (String A)) (r : Result (String A) (Fault A)) → AreRead (chars text) 0 list → IfSome lines (λ l. AreLinesOfLits list (chars (string_bytes l))) → r ≡ ok_or lines Memory → Answers text r
 answers text list None r read lines is = subst (Answers text) (sym is) (record { lines = tt; refusal = (list, read) })
-answers text list (Some l) r read lines is = subst (Answers text) (sym is) (record { lines = lines_of_text (chars text) list [] (chars (string_bytes l)) read lines refl; refusal = tt })
+answers text list (Some l) r read lines is = subst (Answers text) (sym is) (record { lines = lines_of_text (chars text) list (chars (string_bytes l)) read lines; refusal = tt })
 
 -- the first literals are all of the text
 pub first_whole : {A : Type 0} (text rest : List ℕ) (lines : Option (String A)) (count : ℕ) (r : Result (String A) (Fault A)) → HasFirst text rest lines count → rest ≡ [] → r ≡ ok_or lines Memory → Answers text r

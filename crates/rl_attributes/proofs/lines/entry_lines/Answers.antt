@@ -2,8 +2,8 @@ use Rattle.std.proofs.Common.{◌≡◌, ◌+◌, ◌∷◌, [], ◌++◌, take,
 use Rattle.std.proofs.lemmas.Grind.{common_steps}
 use Rattle.std.specs.Str.{chars}
 use Rattle.std.proofs.lemmas.Str.{chars-nil}
-use Rattle.rl_attributes.specs.EntryLines.{PrintsEntries}
-use Rattle.rl_attributes.proofs.EntryLineLemmas.{prints_entry_more}
+use Rattle.rl_attributes.specs.EntryLines.{IsLineOfEntry, AreLinesOfEntries}
+use Rattle.rl_lines.proofs.JoinLemmas.{joins_more}
 use Rattle.rl_attributes.proofs.lines.entry_lines.Goals as goal
 
 pub loop-entry-init : goal.loop-entry-init
@@ -14,4 +14,4 @@ loop-entry-preserved g c =
     let entries = c.args.entries.now in
     let i = c.loop-entry.entry-index in
     let grown : take (i + 1) entries ≡ take i entries ++ (c.entry-item.result ∷ []) = grind (arith, common_steps) in
-    subst (λ es. PrintsEntries es [] (chars (string_bytes c.push_entry.new.out))) (sym grown) (prints_entry_more (take i entries) c.entry-item.result [] (chars (string_bytes c.loop-entry.lines)) (chars (string_bytes c.push_entry.new.out)) c.loop-entry.invariant c.in_ok-push_entry.ensures)
+    subst (λ es. AreLinesOfEntries es (chars (string_bytes c.push_entry.new.out))) (sym grown) (joins_more IsLineOfEntry (take i entries) c.entry-item.result (chars (string_bytes c.loop-entry.lines)) (chars (string_bytes c.push_entry.new.out)) c.loop-entry.invariant c.in_ok-push_entry.ensures)

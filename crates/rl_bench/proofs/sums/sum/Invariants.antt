@@ -1,8 +1,7 @@
--- What the texts still to come make of the sum so far is the sum of all.
-use Rattle.std.proofs.Common.{ℕ, drop}
-use Rattle.rl_bench.specs.Sums.{Sums, IsSum}
+-- What was added so far, and what the texts still to come make of it.
+use Rattle.std.proofs.Common.{drop}
+use Rattle.rl_bench.proofs.SumLemmas.{SumSoFar}
 use Rattle.rl_bench.proofs.sums.sum.Given as goal
 
 abbrev pub invariant-loop-hi : goal.invariant-loop-hi
-invariant-loop-hi g l =
-    (total : ℕ) → Sums g.W.Weigh.weighs l.corpus l.lo (drop l.hi-index l.ends) l.total total → IsSum g.W.Weigh.weighs l.corpus l.ends total
+invariant-loop-hi g l = SumSoFar g.W.Weigh.weighs l.corpus l.ends (drop l.hi-index l.ends) l.lo l.total

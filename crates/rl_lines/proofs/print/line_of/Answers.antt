@@ -1,9 +1,11 @@
 use Rattle.std.proofs.Common.{◌≡◌, [], ap, ◌∙◌, string_bytes}
 use Rattle.std.specs.Str.{chars}
 use Rattle.std.proofs.lemmas.Str.{chars-nil}
+use Rattle.rl_lines.specs.Lines.{IsLineOfLit}
+use Rattle.rl_lines.proofs.JoinLemmas.{appends_to_none}
 use Rattle.rl_lines.proofs.print.line_of.Goals as goal
 
 pub returns : goal.returns
 returns g c =
     let empty : chars (string_bytes c.new-line.result) ≡ [] = ap chars c.new-line.ensures.bytes ∙ chars-nil in
-    rw empty at c.in_ok-push_literal.ensures
+    appends_to_none (IsLineOfLit c.args.literal.now) _ _ empty c.in_ok-push_literal.ensures

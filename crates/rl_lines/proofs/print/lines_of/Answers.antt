@@ -1,9 +1,11 @@
 use Rattle.std.proofs.Common.{◌≡◌, [], ap, ◌∙◌, string_bytes}
 use Rattle.std.specs.Str.{chars}
 use Rattle.std.proofs.lemmas.Str.{chars-nil}
+use Rattle.rl_lines.specs.Lines.{AreLinesOfLits}
+use Rattle.rl_lines.proofs.JoinLemmas.{appends_to_none}
 use Rattle.rl_lines.proofs.print.lines_of.Goals as goal
 
 pub returns : goal.returns
 returns g c =
     let empty : chars (string_bytes c.new-lines.result) ≡ [] = ap chars c.new-lines.ensures.bytes ∙ chars-nil in
-    rw empty at c.in_ok-push_literals.ensures
+    appends_to_none (AreLinesOfLits c.args.literals.now) _ _ empty c.in_ok-push_literals.ensures

@@ -1,9 +1,12 @@
 use Rattle.std.proofs.Common.{◌≡◌, ◌+◌, ◌∷◌, [], ◌++◌, take, string_bytes, sym, subst, arith}
 use Rattle.std.proofs.lemmas.Grind.{common_steps}
 use Rattle.std.specs.Str.{chars}
-use Rattle.rl_lines.specs.Lines.{PrintsList}
-use Rattle.rl_lines.proofs.ListLemmas.{prints_more}
+use Rattle.rl_lines.specs.Lines.{IsLineOfLit, AreLinesOfLits, Appends}
+use Rattle.rl_lines.proofs.JoinLemmas.{appends_none, appends_more}
 use Rattle.rl_lines.proofs.print.push_literals.Goals as goal
+
+pub loop-literal-init : goal.loop-literal-init
+loop-literal-init g c = appends_none (chars (string_bytes c.args.out.now))
 
 pub loop-literal-preserved : goal.loop-literal-preserved
 loop-literal-preserved g c =
@@ -11,4 +14,4 @@ loop-literal-preserved g c =
     let i = c.loop-literal.literal-index in
     let start = chars (string_bytes c.args.out.now) in
     let grown : take (i + 1) literals ≡ take i literals ++ (c.literal-item.result ∷ []) = grind (arith, common_steps) in
-    subst (λ ls. PrintsList ls start (chars (string_bytes c.push_literal.new.out))) (sym grown) (prints_more (take i literals) c.literal-item.result start (chars (string_bytes c.loop-literal.out)) (chars (string_bytes c.push_literal.new.out)) c.loop-literal.invariant c.in_ok-push_literal.ensures)
+    subst (λ ls. Appends (AreLinesOfLits ls) start (chars (string_bytes c.push_literal.new.out))) (sym grown) (appends_more IsLineOfLit (take i literals) c.literal-item.result start (chars (string_bytes c.loop-literal.out)) (chars (string_bytes c.push_literal.new.out)) c.loop-literal.invariant c.in_ok-push_literal.ensures)

@@ -1,7 +1,7 @@
 use Rattle.std.proofs.Common.{string_bytes, take}
 use Rattle.std.specs.Str.{chars}
-use Rattle.rl_lines.specs.Lines.{PrintsList}
+use Rattle.rl_lines.specs.Lines.{AreLinesOfLits, Appends}
 use Rattle.rl_lines.proofs.print.push_literals.Given as goal
 
 abbrev pub invariant-loop-literal : goal.invariant-loop-literal
-invariant-loop-literal g l = PrintsList (take l.literal-index l.literals) (chars (string_bytes l.initial.out)) (chars (string_bytes l.out))
+invariant-loop-literal g l = Appends (AreLinesOfLits (take l.literal-index l.literals)) (chars (string_bytes l.initial.out)) (chars (string_bytes l.out))
