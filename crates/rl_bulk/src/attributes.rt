@@ -8,7 +8,7 @@ use rl_attributes::{entry_lines, read};
 use std::alloc::{AllocError, Global};
 
 /// The lines of the text's attributes, or of its refusal, and one with a point.
-pub fn attributes_answer(alloc: Global, text: &str) -> Result<String, AllocError>
+pub(crate) fn attributes_answer(alloc: Global, text: &str) -> Result<String, AllocError>
     ensures { IfOk result (λ out. IsAttributesAnswer Global text.now (string_bytes out)) }
 {
     match read(alloc, text, 0) {

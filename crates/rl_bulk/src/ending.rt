@@ -8,7 +8,7 @@ use rl_tokens::Error;
 use std::alloc::{AllocError, Global};
 
 /// The lines, and one with a point.
-pub fn ended(lines: String) -> Result<String, AllocError>
+pub(crate) fn ended(lines: String) -> Result<String, AllocError>
     ensures { IfOk result (λ out. string_bytes out ≡ string_bytes lines ++ codes ".\n") }
 {
     let mut out = lines;
@@ -17,7 +17,7 @@ pub fn ended(lines: String) -> Result<String, AllocError>
 }
 
 /// The line of a refusal, and one with a point.
-pub fn refused(alloc: Global, error: &Error) -> Result<String, AllocError>
+pub(crate) fn refused(alloc: Global, error: &Error) -> Result<String, AllocError>
     ensures { IfOk result (λ out. string_bytes out ≡ refusal_lines error.now) }
 {
     format!(in alloc; "{}\n.\n", Refusal(error))

@@ -69,7 +69,7 @@ fn lent_line(alloc: Global, bytes: &[u8]) -> Result<String, AllocError>
 }
 
 /// What the text stands for as a literal, where that is its body, byte for byte, written as a byte string; else `None`.
-pub fn value_answer(alloc: Global, text: &str) -> Result<String, AllocError>
+pub(crate) fn value_answer(alloc: Global, text: &str) -> Result<String, AllocError>
     ensures { IfOk result (λ out. IsLentAnswer text.now (string_bytes out)) }
 {
     let literal = literal_of(alloc, text)?;

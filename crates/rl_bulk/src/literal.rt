@@ -9,7 +9,7 @@ use rust_literals::Lit;
 use std::alloc::{AllocError, Global};
 
 /// The literal that the text is, `Verbatim` too.
-pub fn literal_of(alloc: Global, text: &str) -> Result<Lit, AllocError>
+pub(crate) fn literal_of(alloc: Global, text: &str) -> Result<Lit, AllocError>
     ensures text { IfOk result (λ literal. (token_of literal).text ≡ text.now) }
     ensures reads { IfOk result IsHeld }
 {
