@@ -1,7 +1,8 @@
 -- The literal of a strict text is of the kind, contents and suffix that the text has.
 use Rattle.std.proofs.Common.{◌≡◌, ◌≤◌, ◌⊎◌, inl, inr, ℕ, ◌||◌, Bool, true, false, List, [], ◌∷◌, Some, refl, sym, ap, subst}
-use Rattle.std.specs.Prelude.{◌<◌, ◌==◌}
+use Rattle.std.specs.Prelude.{◌<◌, ◌==◌, Result, IfOk}
 use Rattle.std.proofs.lemmas.Bool.{cases_lt}
+use Rattle.std.proofs.lemmas.Result.{IfOk-weaker}
 use Rattle.std.specs.Str.{chars}
 use Rattle.std.specs.Char.{is_ascii_digit}
 use Rattle.rl_tokens.specs.Texts.{SpannedText, first_passes}
@@ -34,6 +35,9 @@ lit_from token lit kind contents suffix (same, read) r = (
 pub agrees : {A : Type 0} (token : SpannedText) (lit : Lit A) → IsReadFrom token lit → AgreesWithStrict (chars token.text) lit
 agrees token lit read kind contents suffix strict within =
     lit_from token lit kind contents suffix read (strict_reads (chars token.text) kind contents suffix strict within)
+
+pub found_agrees : {A E : Type 0} (token : SpannedText) (result : Result (Lit A) E) → IfOk result (IsReadFrom token) → IfOk result (AgreesWithStrict (chars token.text))
+found_agrees token result read = IfOk-weaker result _ _ (λ lit h. agrees token lit h) read
 
 -- ---- what reads is within the limit
 

@@ -121,13 +121,14 @@ impl<A: Allocator> Lit<A> {
     ///     Err(_) => Err(AllocError),
     /// }
     /// ```
+    #[tactic(auto, using(crate::proofs::StrictLits::found_agrees, rl_tokens::proofs::Agreeing::strict_reads, rl_tokens::proofs::Agreeing::strict_minus, rl_grammar::proofs::StrictBytesLemmas::bytes_are_strict))]
     pub fn new(alloc: A, token: Literal<A>) -> Result<Lit<A>, Kept<Literal<A>, A>>
+        ensures strict_found { IfOk result (AgreesWithStrict (chars token.text)) }
         ensures reads { IfOk result (IsReadFrom token) }
         ensures kept { IfErr result (λ k. k.value ≡ token) }
         ensures memory { IfErr result (λ k. k.error ≡ memory_at token.span) }
         ensures numbers_alone { IfErr result (λ k. ReadsAsNumber (chars token.text)) }
         ensures lent { IfErr result (λ k. ReadsPlain token.text → ⊥) }
-        ensures strict_found { IfOk result (AgreesWithStrict (chars token.text)) }
         ensures strict { KeepsStrict (chars token.text) }
         ensures strict_behind_minus { KeepsStrictBehindMinus (chars token.text) }
         ensures strict_bytes { KeepsBytesStrict (chars token.text) }
