@@ -1,6 +1,5 @@
-use Rattle.std.proofs.Common.{Some, true, false, arith, ap, ◌∙◌, drop, ◌+◌}
-use Rattle.std.specs.Str.{chars}
-use Rattle.std.proofs.lemmas.Str.{IsCharBoundary-start}
+use Rattle.std.proofs.Common.{Some, true, false, arith, ap, sym, subst, ◌∙◌, drop, ◌+◌}
+use Rattle.std.specs.Str.{chars, IsCharBoundary}
 use Rattle.rl_grammar.specs.Mirrors.NumberAt.{row_from}
 use Rattle.rl_grammar.proofs.DigitRowLemmas.{row_start}
 use Rattle.rl_grammar.proofs.RowBytes.{digit_cuts, mark_cuts, row_mark, row_goes, row_stops, row_ends, row_read}
@@ -9,8 +8,11 @@ use Rattle.rl_grammar.proofs.rows.read_row_in.Goals as goal
 
 pub loop-at-init : goal.loop-at-init
 loop-at-init c = record {
-  boundary = IsCharBoundary-start c.as_bytes-bytes.result.now c.as_bytes-bytes.ensures.utf8;
-  same = ap (λ m. row_from c.args.radix false m c.as_bytes-bytes.result.now) c.new-tally.ensures;
+  boundary = subst (λ s. IsCharBoundary s c.row_front-front.result.end) (sym c.as_bytes-bytes.ensures.value) c.row_front-front.ensures.boundary;
+  same = ap (λ s. row_from c.args.radix c.row_front-front.result.has_digit c.of-tally.result (drop c.row_front-front.result.end s)) c.as_bytes-bytes.ensures.value
+      ∙ ap (λ m. row_from c.args.radix c.row_front-front.result.has_digit m (drop c.row_front-front.result.end c.args.text.now)) c.of-tally.ensures
+      ∙ c.row_front-front.ensures.goes
+      ∙ ap (row_from c.args.radix false (Some 0)) (sym c.as_bytes-bytes.ensures.value);
 }
 
 pub loop-at-preserved : goal.loop-at-preserved
