@@ -42,6 +42,7 @@ fn power_digits(text: &str) -> &str
 }
 
 /// What follows an exponent, or the text.
+#[inline(always)]
 #[tactic(auto, using(rl_tokens::proofs::BehindLemmas::behind_step, rl_tokens::proofs::BehindLemmas::behind_self), unfolding(crate::specs::Mirrors::NumberAt::after_exponent))]
 fn after_exponent(text: &str) -> &str
     ensures value { chars result.now ≡ after_exponent (chars text.now) }

@@ -1,13 +1,13 @@
-use Rattle.std.proofs.Common.{◌≡◌, ◌<◌, Some, false, length, drop}
+use Rattle.std.proofs.Common.{◌≡◌, ◌<◌, Some, false, length, drop, nat_lt}
 use Rattle.std.specs.Prelude.{◌-◌}
 use Rattle.std.specs.Str.{IsCharBoundary}
 use Rattle.rl_grammar.specs.Mirrors.NumberAt.{row_from}
-use Rattle.rl_grammar.proofs.rows.row_front.Given as goal
+use Rattle.rl_grammar.proofs.rows.first_digits.Given as goal
 
 abbrev pub invariant-loop-end : goal.invariant-loop-end
 invariant-loop-end l = record {
   boundary : IsCharBoundary l.bytes l.end;
-  same : row_from l.radix l.has_digit (Some l.spelled) (drop l.end l.bytes) ≡ row_from l.radix false (Some 0) l.bytes;
+  same : row_from l.radix (nat_lt 0 l.end) (Some l.spelled) (drop l.end l.bytes) ≡ row_from l.radix false (Some 0) l.bytes;
   small : l.spelled < 18446744073709551615;
 }
 
