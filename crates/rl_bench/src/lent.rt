@@ -17,9 +17,9 @@ const PAST_64_BITS: u128 = 1 << 64;
 
 /// The length of the contents of the literal that was found in the text, which are made only where
 /// they stand nowhere in it.
-fn lent_contents_size(alloc: Global, text: &str, found: Found) -> Result<usize, AllocError>
-    requires { IsFound text.now found }
-    ensures { IfOk result (HasSize found.kind (chars text.now)) }
+fn lent_contents_size(alloc: Global, text: &str, found: &Found) -> Result<usize, AllocError>
+    requires { IsFound text.now found.now }
+    ensures { IfOk result (HasSize found.now.kind (chars text.now)) }
 {
     if found.kind.is_string() && found.body.plain {
         Ok(body_in(text, found).len())
@@ -31,9 +31,9 @@ fn lent_contents_size(alloc: Global, text: &str, found: Found) -> Result<usize, 
 /// How much is lent of the literal that was found in the text: of an integer what its digits spell,
 /// modulo 2 to the 64th; of a float the length of its numeral; of any other the length of its
 /// contents.
-fn lent_size(alloc: Global, text: &str, found: Found) -> Result<u64, AllocError>
-    requires { IsFound text.now found }
-    ensures { IfOk result (IsLent found.kind text.now) }
+fn lent_size(alloc: Global, text: &str, found: &Found) -> Result<u64, AllocError>
+    requires { IsFound text.now found.now }
+    ensures { IfOk result (IsLent found.now.kind text.now) }
 {
     match found.kind {
         Kind::Int => Ok((found.magnitude % PAST_64_BITS) as u64),
@@ -56,8 +56,8 @@ impl Weigh for ByLent {
         let Some(found) = find(text) else {
             return Ok(0);
         };
-        let size = lent_size(alloc, text, found)?;
-        let suffix = text_size(suffix_in(text, found));
+        let size = lent_size(alloc, text, &found)?;
+        let suffix = text_size(suffix_in(text, &found));
         Ok(weight(found.kind, size, suffix as u64))
     }
 }

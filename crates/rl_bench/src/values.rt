@@ -15,26 +15,26 @@ use rl_grammar::{Found, Kind, bytes_of_body, char_of, digits_of_found, find, str
 use std::alloc::{AllocError, Global};
 
 /// What stands between the quotes of the string that was found in the text.
-pub(crate) fn body_in(text: &str, found: Found) -> &str
-    requires string { IsTrue (is_string found.kind) }
-    requires found { IsFound text.now found }
-    ensures { HasBody found.kind (chars text.now) result.now found.body.plain }
+pub(crate) fn body_in<'t>(text: &'t str, found: &Found) -> &'t str
+    requires string { IsTrue (is_string found.now.kind) }
+    requires found { IsFound text.now found.now }
+    ensures { HasBody found.now.kind (chars text.now) result.now found.now.body.plain }
 {
     &text[found.body.at..found.body.end]
 }
 
 /// What stands behind the literal proper that was found in the text.
-pub(crate) fn suffix_in(text: &str, found: Found) -> &str
-    requires { IsFound text.now found }
-    ensures { HasSuffix found.kind (chars text.now) (chars result.now) }
+pub(crate) fn suffix_in<'t>(text: &'t str, found: &Found) -> &'t str
+    requires { IsFound text.now found.now }
+    ensures { HasSuffix found.now.kind (chars text.now) (chars result.now) }
 {
     &text[found.body.suffix_at..]
 }
 
 /// The length of the contents of the literal that was found in the text.
-pub(crate) fn contents_size(alloc: Global, text: &str, found: Found) -> Result<usize, AllocError>
-    requires { IsFound text.now found }
-    ensures { IfOk result (HasSize found.kind (chars text.now)) }
+pub(crate) fn contents_size(alloc: Global, text: &str, found: &Found) -> Result<usize, AllocError>
+    requires { IsFound text.now found.now }
+    ensures { IfOk result (HasSize found.now.kind (chars text.now)) }
 {
     let plain = found.body.plain;
     match found.kind {
@@ -51,7 +51,7 @@ pub(crate) fn contents_size(alloc: Global, text: &str, found: Found) -> Result<u
         // A byte is one byte, whichever it is.
         Kind::Byte => Ok(1),
         Kind::Char => Ok(char_of(text).len_utf8()),
-        Kind::Int | Kind::Float => match digits_of_found(alloc, text, found) {
+        Kind::Int | Kind::Float => match digits_of_found(alloc, text, *found) {
             Ok(digits) => Ok(text_size(digits.as_str())),
             Err(_) => Err(AllocError),
         },
@@ -81,7 +81,7 @@ impl Weigh for ByValue {
         let Some(found) = find(text) else {
             return Ok(0);
         };
-        let size = contents_size(alloc, text, found)?;
-        Ok(value_weight(found.kind, size, suffix_in(text, found)))
+        let size = contents_size(alloc, text, &found)?;
+        Ok(value_weight(found.kind, size, suffix_in(text, &found)))
     }
 }

@@ -42,6 +42,17 @@ in_run_other Int m c n = refl
 in_run_other Float m c n = refl
 in_run_other BoolKind m c n = refl
 
+-- strings but byte strings and C strings are of one kind
+pub other_string : (kind : Kind) → is_string kind ≡ true → (kind ≡ ByteStr → ⊥) → (kind ≡ CStr → ⊥) → kind ≡ Str
+other_string Str h n m = refl
+other_string ByteStr h n m = absurd (n refl)
+other_string CStr h n m = absurd (m refl)
+other_string Byte h n m = absurd (cc)
+other_string Char h n m = absurd (cc)
+other_string Int h n m = absurd (cc)
+other_string Float h n m = absurd (cc)
+other_string BoolKind h n m = absurd (cc)
+
 -- ---- a body that is one run
 
 stops_all : (q : ℕ → Bool) (xs : List ℕ) (c : ℕ) (more : List ℕ) → q c ≡ false → list_all q (xs ++ (c ∷ more)) ≡ false

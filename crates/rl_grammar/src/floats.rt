@@ -42,6 +42,7 @@ fn power_digits(text: &str) -> &str
 }
 
 /// What follows an exponent, or the text.
+#[inline(always)]
 #[tactic(auto, using(rl_tokens::proofs::BehindLemmas::behind_step, rl_tokens::proofs::BehindLemmas::behind_self), unfolding(crate::specs::Mirrors::NumberAt::after_exponent))]
 fn after_exponent(text: &str) -> &str
     ensures value { chars result.now ≡ after_exponent (chars text.now) }
@@ -57,6 +58,7 @@ fn after_exponent(text: &str) -> &str
 }
 
 /// The suffix of the float whose whole part this follows.
+#[inline(always)]
 #[tactic(auto, using(rl_tokens::proofs::BehindLemmas::behind_step, rl_tokens::proofs::BehindLemmas::behind_self))]
 fn tail_suffix(text: &str) -> Option<&str>
     ensures value { option_map (λ x. chars x.now) result ≡ float_tail_at (chars text.now) }
@@ -84,6 +86,7 @@ pub(crate) fn float_suffix(text: &str) -> Option<&str>
 }
 
 /// The suffix of the float that begins so: behind another base's prefix the whole part is its zero.
+#[inline(always)]
 pub(crate) fn head_suffix<'t>(text: &'t str, head: Head<'t>) -> Option<&'t str>
     requires head { IsHead (after_minus (chars text.now)) head.radix
         head.row.has_digit head.row.magnitude (chars head.row.rest.now) }

@@ -57,6 +57,7 @@ fn number_body(text: &str, suffix: &str, plain: bool) -> Body
 }
 
 /// The integer of this magnitude and suffix.
+#[inline(always)]
 fn integer_found<'t>(text: &'t str, suffix: &'t str, magnitude: u128) -> Found
     requires within { HasMagnitude (chars text.now) magnitude (chars suffix.now) }
     requires behind { IsTail text.now suffix.now }
@@ -73,6 +74,7 @@ fn integer_found<'t>(text: &'t str, suffix: &'t str, magnitude: u128) -> Found
 }
 
 /// The float of this suffix.
+#[inline(always)]
 fn float_found<'t>(text: &'t str, suffix: &'t str) -> Found
     requires reads { (numeral : List ℕ) × FloatReads (chars text.now) numeral (chars suffix.now) }
     requires behind { IsTail text.now suffix.now }

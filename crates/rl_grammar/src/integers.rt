@@ -18,6 +18,7 @@ use rl_tokens::Kind;
 use rl_tokens::text::split_char;
 
 /// The base, and what follows its prefix.
+#[inline(always)]
 #[tactic(auto, using(rl_tokens::proofs::BehindLemmas::behind_step, rl_tokens::proofs::BehindLemmas::behind_self), unfolding(crate::specs::Mirrors::NumberAt::radix_at))]
 pub(crate) fn split_radix(text: &str) -> (u32, &str)
     ensures value { (result.0, chars result.1.now) ≡ radix_at (chars text.now) }
@@ -43,6 +44,7 @@ pub(crate) struct Head<'t> {
 }
 
 /// What a number begins with, by what stands behind its sign.
+#[inline(always)]
 #[tactic(auto, using(rl_tokens::proofs::BehindLemmas::behind_step))]
 fn head_of(unsigned: &str) -> Head<'_>
     requires { IsTrue (first_passes is_ascii_digit (chars unsigned.now)) }

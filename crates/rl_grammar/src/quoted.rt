@@ -52,6 +52,7 @@ fn byte_front(text: &str) -> Option<(QuotedForm, Kind, &str)>
 }
 
 /// What a text's front tells: the one form and the one kind that the text can have, and the text behind the opener.
+#[inline(always)]
 #[tactic(auto, unfolding(crate::specs::Mirrors::OpenerAt::opener_at))]
 pub(crate) fn front(text: &str) -> Option<(QuotedForm, Kind, &str)>
     ensures { option_map (λ p. (p.0, p.1, chars p.2.now)) result ≡ opener_at (chars text.now) }

@@ -1,8 +1,8 @@
 //! Rows of digits and underscores, and what may stand before and behind them.
 
-ghost use Rattle.std.specs.Prelude.{◌≡◌, ◌++◌, ◌<◌, ◌≤◌, None, Option, Some, false, if◌then◌else◌};
+ghost use Rattle.std.specs.Prelude.{◌≡◌, ◌++◌, ◌<◌, ◌≤◌, None, Option, Some, drop, false, nat_lt, if◌then◌else◌};
 ghost use Rattle.std.specs.Char.{digit_value, is_ascii_digit};
-ghost use Rattle.std.specs.Str.{chars};
+ghost use Rattle.std.specs.Str.{IsCharBoundary, chars};
 ghost use Rattle.rl_tokens.specs.Texts.{IsTail, first_passes};
 ghost use Rattle.rl_tokens.specs.Numbers.{Minus, NoSign};
 ghost use Rattle.rl_grammar.specs.Mirrors.NumberAt.{after_digits, after_minus, append_digit, capped, has_digit_at, is_exponent_suffix, is_suffix, magnitude_at, row_from, sign_at};
@@ -44,6 +44,41 @@ fn digit_value(byte: u8) -> u32
     }
 }
 
+/// What 64 bits surely hold with one more digit behind it, in the bases up to 36, is below this.
+const MAY_GROW: u64 = 1 << 58;
+
+/// Digits at the front of a row.
+#[derive(Clone, Copy)]
+struct FirstDigits {
+    /// What they spell.
+    spelled: u64,
+    /// The place behind them.
+    end: usize,
+}
+
+/// The digits at the front of the text, as far as 64 bits surely hold what they spell.
+#[inline(always)]
+fn first_digits(text: &str, radix: u32) -> FirstDigits
+    requires { (2 ≤ radix) × (radix ≤ 36) }
+    ensures goes { row_from radix (nat_lt 0 result.end) (Some result.spelled) (drop result.end text.now)
+        ≡ row_from radix false (Some 0) text.now }
+    ensures boundary { IsCharBoundary text.now result.end }
+    ensures small { result.spelled < 18446744073709551615 }
+{
+    let bytes = text.as_bytes();
+    let mut spelled = 0_u64;
+    let mut end = 0;
+    while end < bytes.len() && spelled < MAY_GROW {
+        let digit = digit_value(bytes[end]);
+        if digit >= radix {
+            break;
+        }
+        spelled = spelled * u64::from(radix) + u64::from(digit);
+        end += 1;
+    }
+    FirstDigits { spelled, end }
+}
+
 /// The digits and underscores at the front of the text.
 ///
 /// It is written into its callers, so that a base that is known there costs no multiplication in full.
@@ -59,9 +94,10 @@ fn read_row_in(text: &str, radix: u32) -> DigitRow<'_>
     ensures behind { IsTail text.now result.rest.now }
 {
     let bytes = text.as_bytes();
-    let mut has_digit = false;
-    let mut tally = Tally::new();
-    let mut at = 0;
+    let first = first_digits(text, radix);
+    let mut has_digit = first.end > 0;
+    let mut tally = Tally::of(first.spelled);
+    let mut at = first.end;
     while at < bytes.len() {
         let byte = bytes[at];
         let digit = digit_value(byte);
@@ -81,6 +117,7 @@ fn read_row_in(text: &str, radix: u32) -> DigitRow<'_>
 }
 
 /// The digits and underscores at the front of the text. Base ten has a loop of its own.
+#[inline(always)]
 pub(crate) fn read_row(text: &str, radix: u32) -> DigitRow<'_>
     requires { (2 ≤ radix) × (radix ≤ 36) }
     ensures has_digit { result.has_digit ≡ has_digit_at radix (chars text.now) }
@@ -95,6 +132,21 @@ pub(crate) fn read_row(text: &str, radix: u32) -> DigitRow<'_>
     }
 }
 
+/// How many decimal digits stand at the front of the text.
+#[inline(always)]
+fn digits_len(text: &str) -> usize
+    ensures goes { row_from 10 (nat_lt 0 result) None (drop result text.now)
+        ≡ row_from 10 false None text.now }
+    ensures boundary { IsCharBoundary text.now result }
+{
+    let bytes = text.as_bytes();
+    let mut len = 0;
+    while len < bytes.len() && bytes[len].is_ascii_digit() {
+        len += 1;
+    }
+    len
+}
+
 /// The decimal digits and underscores at the front of the text, with no magnitude.
 pub(crate) fn skip_row(text: &str) -> Skipped<'_>
     ensures has_digit { result.has_digit ≡ has_digit_at 10 (chars text.now) }
@@ -102,8 +154,8 @@ pub(crate) fn skip_row(text: &str) -> Skipped<'_>
     ensures behind { IsTail text.now result.rest.now }
 {
     let bytes = text.as_bytes();
-    let mut has_digit = false;
-    let mut at = 0;
+    let mut at = digits_len(text);
+    let mut has_digit = at > 0;
     while at < bytes.len() {
         let byte = bytes[at];
         if byte.is_ascii_digit() {
@@ -120,6 +172,7 @@ pub(crate) fn skip_row(text: &str) -> Skipped<'_>
 }
 
 /// Whether the text may be the suffix of a number.
+#[inline(always)]
 pub(crate) fn is_suffix(text: &str) -> bool
     ensures { result ≡ is_suffix (chars text.now) }
 {

@@ -36,7 +36,10 @@ fn run_len(kind: Kind, bytes: &[u8]) -> usize
     requires other { kind ≢ Kind.ByteStr }
     ensures { result ≡ prefix_len (is_plain kind) bytes.now }
 {
-    len_before(ends_of_runs(kind), bytes)
+    match kind {
+        Kind::CStr => len_before(ends_of_runs(Kind::CStr), bytes),
+        _ => len_before(ends_of_runs(Kind::Str), bytes),
+    }
 }
 
 /// How many bytes at the front are plain, of a byte string: these are of ASCII.

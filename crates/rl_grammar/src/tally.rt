@@ -28,14 +28,15 @@ impl Model for Tally {
 }
 
 impl Tally {
-    /// Of no digits.
-    pub(crate) fn new() -> Tally
-        ensures { result ≡ Some 0 }
+    /// Of digits that spell this.
+    pub(crate) fn of(spelled: u64) -> Tally
+        requires { spelled < 18446744073709551615 }
+        ensures { result ≡ Some spelled }
     {
         Tally {
             front: Some(0),
-            last: 0,
-            scale: 1,
+            last: spelled,
+            scale: spelled + 1,
         }
     }
 

@@ -78,6 +78,7 @@ impl<K: QuotedKind, A: Allocator> Quoted<K, A> {
     }
 
     /// The literal of this token, in whose text [`find`] found this literal of the kind.
+    #[inline(always)]
     pub fn of_found(token: Literal<A>, found: Found) -> Quoted<K, A>
         requires found { IsFound token.text found }
         requires kind { found.kind ≡ K.KIND }

@@ -24,6 +24,7 @@ use std::marker::Model;
 ///     return line("no word", out);
 /// }
 /// ```
+#[inline(always)]
 pub fn xid_ok(text: &str) -> bool
     ensures { result ≡ xid_ok (chars text.now) }
 {

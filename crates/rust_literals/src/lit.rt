@@ -138,6 +138,7 @@ impl<A: Allocator> Lit<A> {
     }
 
     /// The literal of this token, in whose text this was found; `Verbatim` where nothing was.
+    #[inline(always)]
     pub(crate) fn of_found(
         alloc: A,
         token: Literal<A>,

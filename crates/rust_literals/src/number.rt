@@ -41,6 +41,7 @@ pub trait NumberKind {
 }
 
 /// The digits of a number that was found in the text, where they aren't its body.
+#[inline(always)]
 fn own_digits<A: Allocator>(
     alloc: A,
     text: &str,
@@ -142,6 +143,7 @@ impl<K: NumberKind, A: Allocator> Number<K, A> {
 
     /// The literal of this token, in whose text this number of the kind was found. Want of memory for digits that aren't
     /// the body is told at the token's span; the token is handed back.
+    #[inline(always)]
     pub(crate) fn of_found(
         alloc: A,
         token: Literal<A>,

@@ -10,7 +10,7 @@ use Rattle.rl_bench.proofs.values.contents_size.Goals as goal
 pub returns-in-Ok-digits_of_found : goal.returns-in-Ok-digits_of_found
 returns-in-Ok-digits_of_found c =
     let reads = c.requires.reads in
-    digits_size c.args.found.kind (chars c.args.text.now) _ c.text_size-in-Ok-digits_of_found.result (reads.0, _, reads.1) c.in-Ok-digits_of_found.ensures.value
+    digits_size c.args.found.now.kind (chars c.args.text.now) _ c.text_size-in-Ok-digits_of_found.result (reads.0, _, reads.1) c.in-Ok-digits_of_found.ensures.value
     (c.text_size-in-Ok-digits_of_found.ensures ∙ ap (λ bs. byte_len (chars bs)) c.as_str-in-Ok-digits_of_found.ensures.value)
 
 pub returns-in-Ok-bytes_of_body : goal.returns-in-Ok-bytes_of_body
@@ -21,5 +21,5 @@ returns-in-Ok-bytes_of_body c =
 
 pub returns-in-Ok : goal.returns-in-Ok
 returns-in-Ok c =
-    string_size c.args.found.kind c.args.text.now c.body_in.result.now (string_bytes c.in-Ok.value) c.args.found.body.plain c.text_size.result c.in-Str.is c.utf8.text c.body_in.ensures c.in-Ok.ensures.value
+    string_size c.args.found.now.kind c.args.text.now c.body_in.result.now (string_bytes c.in-Ok.value) c.args.found.now.body.plain c.text_size.result c.in-Str.is c.utf8.text c.body_in.ensures c.in-Ok.ensures.value
     (c.text_size.ensures ∙ ap (λ bs. byte_len (chars bs)) c.as_str.ensures.value)

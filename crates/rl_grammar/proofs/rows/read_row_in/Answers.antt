@@ -1,6 +1,5 @@
-use Rattle.std.proofs.Common.{Some, true, false, arith, ap, ◌∙◌, drop, ◌+◌}
-use Rattle.std.specs.Str.{chars}
-use Rattle.std.proofs.lemmas.Str.{IsCharBoundary-start}
+use Rattle.std.proofs.Common.{Some, true, false, nat_lt, arith, ap, sym, subst, ◌∙◌, drop, ◌+◌}
+use Rattle.std.specs.Str.{chars, IsCharBoundary}
 use Rattle.rl_grammar.specs.Mirrors.NumberAt.{row_from}
 use Rattle.rl_grammar.proofs.DigitRowLemmas.{row_start}
 use Rattle.rl_grammar.proofs.RowBytes.{digit_cuts, mark_cuts, row_mark, row_goes, row_stops, row_ends, row_read}
@@ -8,10 +7,17 @@ use Rattle.rl_grammar.proofs.rows.read_row_in.Goals.{then-digit-radix, else-digi
 use Rattle.rl_grammar.proofs.rows.read_row_in.Goals as goal
 
 pub loop-at-init : goal.loop-at-init
-loop-at-init c = record {
-  boundary = IsCharBoundary-start c.as_bytes-bytes.result.now c.as_bytes-bytes.ensures.utf8;
-  same = ap (λ m. row_from c.args.radix false m c.as_bytes-bytes.result.now) c.new-tally.ensures;
-}
+loop-at-init c =
+    let f = c.first_digits-first in
+    let e = f.result.end in
+    let r = c.args.radix in
+    record {
+      boundary = subst (λ s. IsCharBoundary s e) (sym c.as_bytes-bytes.ensures.value) f.ensures.boundary;
+      same = ap (λ s. row_from r (nat_lt 0 e) c.of-tally.result (drop e s)) c.as_bytes-bytes.ensures.value
+          ∙ ap (λ m. row_from r (nat_lt 0 e) m (drop e c.args.text.now)) c.of-tally.ensures
+          ∙ f.ensures.goes
+          ∙ ap (row_from r false (Some 0)) (sym c.as_bytes-bytes.ensures.value);
+    }
 
 pub loop-at-preserved : goal.loop-at-preserved
 loop-at-preserved c =

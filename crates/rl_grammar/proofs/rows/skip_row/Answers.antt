@@ -1,6 +1,5 @@
-use Rattle.std.proofs.Common.{◌≡◌, Bool, ℕ, Option, List, None, false, refl, arith, ap, sym, ◌∙◌, drop, get_or, ◌+◌}
-use Rattle.std.specs.Str.{chars}
-use Rattle.std.proofs.lemmas.Str.{IsCharBoundary-start}
+use Rattle.std.proofs.Common.{◌≡◌, Bool, ℕ, Option, List, None, false, nat_lt, refl, arith, ap, sym, subst, ◌∙◌, drop, get_or, ◌+◌}
+use Rattle.std.specs.Str.{chars, IsCharBoundary}
 use Rattle.rl_tokens.proofs.Rests.{behind_drop}
 use Rattle.rl_grammar.specs.Mirrors.NumberAt.{row_from}
 use Rattle.rl_grammar.proofs.DigitRowLemmas.{row_skipped}
@@ -9,10 +8,14 @@ use Rattle.rl_grammar.proofs.rows.skip_row.Goals.{then-is_ascii_digit, else-is_a
 use Rattle.rl_grammar.proofs.rows.skip_row.Goals as goal
 
 pub loop-at-init : goal.loop-at-init
-loop-at-init c = record {
-  boundary = IsCharBoundary-start c.as_bytes-bytes.result.now c.as_bytes-bytes.ensures.utf8;
-  same = refl;
-}
+loop-at-init c =
+    let n = c.digits_len-at.result in
+    record {
+      boundary = subst (λ s. IsCharBoundary s n) (sym c.as_bytes-bytes.ensures.value) c.digits_len-at.ensures.boundary;
+      same = ap (λ s. row_from 10 (nat_lt 0 n) None (drop n s)) c.as_bytes-bytes.ensures.value
+          ∙ c.digits_len-at.ensures.goes
+          ∙ ap (row_from 10 false None) (sym c.as_bytes-bytes.ensures.value);
+    }
 
 pub loop-at-preserved : goal.loop-at-preserved
 loop-at-preserved c =
