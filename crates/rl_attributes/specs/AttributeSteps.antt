@@ -1,5 +1,6 @@
 -- The steps of the parser of attributes, and the names that it keeps.
 use Rattle.std.specs.Prelude.{◌≡◌, ◌⊎◌, ℕ, Bool, true, List, [], IsTrue, cond}
+use Prim.Native.Char.{code}
 use Rattle.std.specs.HashSet.{HashSet, contains_by}
 use Rattle.std.specs.Str.{bytes_eq}
 use denote.Ref.{Bor}
@@ -24,7 +25,7 @@ AddsName old new name = (other : List ℕ) → has_name new other ≡ cond (byte
 pub record IsNext (trees : List Tree) (attribute : Attribute) (rest : List Tree) : Type 0 where
   pub behind : List Tree
   pub is : IsAttribute trees attribute behind
-  pub comma : IsBehindMark 44 behind rest ⊎ ((behind ≡ []) × (rest ≡ []))
+  pub comma : IsBehindMark (code ",") behind rest ⊎ ((behind ≡ []) × (rest ≡ []))
 
 -- A name begins the trees, and memory was refused, wherever this is told.
 pub record LacksMemoryInStep {A : Type 0} (trees : List Tree) (e : Error A) : Type 0 where

@@ -1,6 +1,6 @@
--- Attributes: names that are set to literals, with commas between. 61 is the character `=`, 44 a comma. Texts are lists of
--- characters.
+-- Attributes: names that are set to literals, with commas between. Texts are lists of characters.
 use Rattle.std.specs.Prelude.{◌≡◌, ◌≢◌, ◌⊎◌, ℕ, Bool, List, [], ◌∷◌, map, IsTrue, IsFalse, codes}
+use Prim.Native.Char.{code}
 use Rattle.std.specs.List.{list_any, IsDistinct}
 use Rattle.std.specs.Str.{bytes_eq}
 use Rattle.rl_tokens.specs.declared.span.Span.{Span}
@@ -26,7 +26,7 @@ pub record IsAttribute (trees : List Tree) (attribute : Attribute) (rest : List 
   pub at_equals : List Tree
   pub at_literal : List Tree
   pub named : trees ≡ IdentTree attribute.name ∷ at_equals
-  pub equals : IsBehindMark 61 at_equals at_literal
+  pub equals : IsBehindMark (code "=") at_equals at_literal
   pub set : IsFront at_literal attribute.literal rest
 
 -- The trees are these attributes, whatever their names: no trees; or an attribute; or an attribute, a comma, and the
@@ -34,7 +34,7 @@ pub record IsAttribute (trees : List Tree) (attribute : Attribute) (rest : List 
 abbrev pub AreListed : List Tree → List Attribute → Type 0
 AreListed trees [] = trees ≡ []
 AreListed trees (a ∷ others) =
-    (behind : List Tree) × IsAttribute trees a behind × (((behind ≡ []) × (others ≡ [])) ⊎ ((rest : List Tree) × IsBehindMark 44 behind rest × AreListed rest others))
+    (behind : List Tree) × IsAttribute trees a behind × (((behind ≡ []) × (others ≡ [])) ⊎ ((rest : List Tree) × IsBehindMark (code ",") behind rest × AreListed rest others))
 
 -- the texts of the names
 abbrev pub names_of : List Attribute → List (List ℕ)
@@ -85,7 +85,7 @@ pub record MissesEquals {A : Type 0} (seen : List ℕ → Bool) (trees : List Tr
   pub name : SpannedText
   pub behind : List Tree
   pub begun : HasNewName seen trees name behind
-  pub none : IsFalse (begins_mark 61 behind)
+  pub none : IsFalse (begins_mark (code "=") behind)
   pub refusal : IsRefusal behind scope (codes "`=`") e
 
 -- A new name and `=` begin the trees, and no literal stands behind them.
@@ -94,7 +94,7 @@ pub record MissesLiteral {A : Type 0} (seen : List ℕ → Bool) (trees : List T
   pub at_equals : List Tree
   pub at_literal : List Tree
   pub begun : HasNewName seen trees name at_equals
-  pub equals : IsBehindMark 61 at_equals at_literal
+  pub equals : IsBehindMark (code "=") at_equals at_literal
   pub none : HasNoFront at_literal
   pub refusal : IsRefusal at_literal scope (codes "literal") e
 
@@ -105,7 +105,7 @@ pub record MissesComma {A : Type 0} (seen : List ℕ → Bool) (trees : List Tre
   pub is : IsAttribute trees attribute behind
   pub anew : IsFalse (seen attribute.name.text)
   pub some : behind ≢ []
-  pub none : IsFalse (begins_mark 44 behind)
+  pub none : IsFalse (begins_mark (code ",") behind)
   pub refusal : IsRefusal behind scope (codes "`,`") e
 
 -- The trees don't begin with an attribute whose name is new, and with a comma or the end behind it: the first of these
@@ -117,7 +117,7 @@ pub record RefusesNextAttribute {A : Type 0} (seen : List ℕ → Bool) (trees :
 abbrev pub StandBefore : List Tree → List Attribute → List Tree → Type 0
 StandBefore trees [] rest = trees ≡ rest
 StandBefore trees (a ∷ others) rest =
-    (behind next : List Tree) × IsAttribute trees a behind × IsBehindMark 44 behind next × StandBefore next others rest
+    (behind next : List Tree) × IsAttribute trees a behind × IsBehindMark (code ",") behind next × StandBefore next others rest
 
 -- The trees are no attributes: attributes, whose names differ, lead to trees that don't go on as attributes do.
 pub record RefusesAttributes {A : Type 0} (trees : List Tree) (scope : Span) (e : Error A) : Type 0 where

@@ -1,5 +1,6 @@
 -- What is printed for a line of input. Lines and what is printed are lists of bytes, texts lists of characters.
 use Rattle.std.specs.Prelude.{◌≡◌, ◌≢◌, ◌⊎◌, ℕ, ◌==◌, List, ◌++◌, length, Option, Some, None, codes}
+use Prim.Native.Char.{code}
 use Rattle.std.specs.List.{before_first, after_first}
 use Rattle.std.specs.Str.{chars, IsUtf8}
 use Rattle.std.specs.Fmt.{decimal}
@@ -72,5 +73,5 @@ AnswersBytes A command (Some bytes) out =
 -- the answer to a line: to the digits behind its first space, by the command before it
 abbrev pub IsAnswerOf : Type 0 → List ℕ → List ℕ → Type 0
 IsAnswerOf A line out =
-    ((command : Command) × (before_first (λ b. b == 32) line ≡ name_of command) × AnswersBytes A command (bytes_of (after_first (λ b. b == 32) line)) out)
-    ⊎ (((command : Command) → before_first (λ b. b == 32) line ≢ name_of command) × (out ≡ codes "error: no command\n"))
+    ((command : Command) × (before_first (λ b. b == code " ") line ≡ name_of command) × AnswersBytes A command (bytes_of (after_first (λ b. b == code " ") line)) out)
+    ⊎ (((command : Command) → before_first (λ b. b == code " ") line ≢ name_of command) × (out ≡ codes "error: no command\n"))

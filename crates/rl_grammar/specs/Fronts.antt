@@ -1,7 +1,7 @@
 -- Which literal begins the trees, and what a parser of literals does.
 use Rattle.std.specs.Prelude.{◌≡◌, ◌⊎◌, ℕ, ◌<◌, ◌==◌, min, max, List, ◌∷◌, length, Result, Ok, Err, if◌then◌else◌}
 use Rattle.std.specs.Str.{chars}
-use Rattle.rl_tokens.specs.Characters.{minus_sign}
+use Prim.Native.Char.{code}
 use Rattle.rl_tokens.specs.declared.span.Span.{Span}
 use Rattle.rl_tokens.specs.declared.kind.Kind.{Kind}
 use Rattle.rl_tokens.specs.declared.kind.Kind.TheVariants.{Bool as BoolKind}
@@ -19,7 +19,7 @@ joined_span a b = if a.file == b.file then record { file = a.file; lo = min a.lo
 
 -- a minus and the literal behind it, as one token: without what stands between
 abbrev pub joined : Mark → SpannedText → SpannedText
-joined mark token = record { text = minus_sign ∷ token.text; span = joined_span mark.span token.span }
+joined mark token = record { text = code "-" ∷ token.text; span = joined_span mark.span token.span }
 
 -- A literal begins the trees, as this token, and these trees stand behind it: a literal token with any text; the word
 -- `true` or `false`; a minus and a literal token that read together.
@@ -27,7 +27,7 @@ abbrev pub IsFront : List Tree → SpannedText → List Tree → Type 0
 IsFront (LiteralTree l ∷ trees) token rest = (token ≡ l) × (rest ≡ trees)
 IsFront (IdentTree i ∷ trees) token rest = ReadsAs BoolKind (chars i.text) × (token ≡ i) × (rest ≡ trees)
 IsFront (PunctTree m ∷ LiteralTree l ∷ trees) token rest =
-    (m.ch ≡ minus_sign) × HasReading (minus_sign ∷ chars l.text) × (token ≡ joined m l) × (rest ≡ trees)
+    (m.ch ≡ code "-") × HasReading (code "-" ∷ chars l.text) × (token ≡ joined m l) × (rest ≡ trees)
 IsFront _ token rest = ⊥
 
 -- no literal begins the trees

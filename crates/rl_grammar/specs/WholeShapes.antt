@@ -2,7 +2,7 @@
 use Rattle.std.specs.Prelude.{◌≡◌, ℕ, ◌==◌, ◌||◌, Bool, List, [], ◌++◌, encode_utf8_all}
 use Rattle.std.specs.Char.{is_ascii_digit}
 use Rattle.std.specs.Str.{chars}
-use Rattle.rl_tokens.specs.Characters.{minus_sign}
+use Prim.Native.Char.{code}
 use Rattle.rl_tokens.specs.declared.kind.Kind.{Kind}
 use Rattle.rl_tokens.specs.declared.kind.Kind.TheVariants.{Str, ByteStr, CStr, Int, Float, Bool as BoolKind}
 use Rattle.rl_tokens.specs.Numbers.{FloatReads, float_digits}
@@ -19,7 +19,7 @@ IsSplit kind text body suffix = IsQuotedSplit kind text body suffix
 
 -- a character that a number begins with, and no other literal
 abbrev pub is_number_front : ℕ → Bool
-is_number_front c = c == minus_sign || is_ascii_digit c
+is_number_front c = c == code "-" || is_ascii_digit c
 
 -- The text reads as the kind with this suffix, and its contents, or its digits, are these bytes. A float reads by its
 -- own rule, whether or not an integer stands there too.

@@ -1,5 +1,6 @@
--- What the program prints: a line for a literal. Texts and lines are lists of characters; 32 is a space, 10 LF.
+-- What the program prints: a line for a literal. Texts and lines are lists of characters.
 use Rattle.std.specs.Prelude.{◌≡◌, ◌⊎◌, ℕ, List, [], ◌∷◌, ◌++◌, codes, if◌then◌else◌}
+use Prim.Native.Char.{code}
 use Rattle.rl_tokens.specs.declared.kind.Kind.{Kind}
 use Rattle.rl_tokens.specs.declared.kind.Kind.TheVariants.{Str, ByteStr, CStr, Byte, Char, Int, Float, Bool}
 use Rattle.std.specs.Str.{chars}
@@ -40,7 +41,7 @@ suffix_word (c ∷ cs) = if xid_ok (c ∷ cs) then (c ∷ cs) else written_text 
 
 -- a word, a payload and a suffix, with a space between, and LF
 abbrev pub line : List ℕ → List ℕ → List ℕ → List ℕ
-line word shown suffix = word ++ (32 ∷ (shown ++ (32 ∷ (suffix_word suffix ++ (10 ∷ [])))))
+line word shown suffix = word ++ (code " " ∷ (shown ++ (code " " ∷ (suffix_word suffix ++ (code "\n" ∷ [])))))
 
 -- the line of a literal of this kind, contents and suffix
 abbrev pub literal_line : Kind → Contents → List ℕ → List ℕ

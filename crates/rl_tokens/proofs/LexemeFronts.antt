@@ -6,9 +6,9 @@ use Rattle.std.specs.Prelude.{IsTrue, nat_lt}
 use Rattle.std.specs.Char.{is_ascii_alphabetic}
 use Rattle.std.specs.Option.{option_map}
 use Rattle.unicode_ident.proofs.IdentLemmas.{is_xid_start-ascii}
-use Rattle.rl_tokens.specs.Texts.{is_white, is_start, is_continue, is_among, first_passes}
+use Rattle.rl_tokens.specs.Texts.{is_white, is_start, is_continue, is_among, first_passes, is_row_part}
 use Rattle.std.specs.Char.{is_ascii_digit}
-use Rattle.rl_tokens.specs.Lexemes.{is_numeral_part, is_hash, is_base_letter, delimiters, marks, after_run, begins_hashed_quote, BodyPart, body_text, IsBody, CharacterBody, character_body_text, IsCharacterBody, LexedFraction, lexed_fraction_text, LexedExponent, lexed_exponent_text, IsRow, IsLexedSuffix, IsRawBody, begins_otherwise, LiteralPrefix, NoPrefix, BytePrefix, CPrefix, Lexeme, QuotedLexeme, RawLexeme, CharacterLexeme, BasedLexeme, DecimalLexeme, IdentifierLexeme, DelimiterLexeme, MarkLexeme, lexeme_text, IsLexeme, LexemeForm, LiteralForm, IdentifierForm, DelimiterForm, MarkForm, form_of}
+use Rattle.rl_tokens.specs.Lexemes.{is_hash, is_base_letter, delimiters, marks, after_run, begins_hashed_quote, BodyPart, body_text, IsBody, CharacterBody, character_body_text, IsCharacterBody, LexedFraction, lexed_fraction_text, LexedExponent, lexed_exponent_text, IsRow, IsLexedSuffix, IsRawBody, begins_otherwise, LiteralPrefix, NoPrefix, BytePrefix, CPrefix, Lexeme, QuotedLexeme, RawLexeme, CharacterLexeme, BasedLexeme, DecimalLexeme, IdentifierLexeme, DelimiterLexeme, MarkLexeme, lexeme_text, IsLexeme, LexemeForm, LiteralForm, IdentifierForm, DelimiterForm, MarkForm, form_of}
 use Rattle.rl_tokens.proofs.Gaps.{OneLexeme}
 use Rattle.rl_tokens.proofs.Comments.{false_unless, same_Some}
 use Rattle.rl_tokens.proofs.Pieces.{is_equal}
@@ -186,7 +186,7 @@ front_decimal d more f e x t (is, not_based, row, fraction, exponent, suffix) =
     ap (λ s. lexeme_at (d ∷ s)) (decimal_text more (lexed_fraction_text f) (lexed_exponent_text e) x t)
     ∙ at_class d u DigitHead (class_digit d is)
     ∙ ap (λ b. Some (LiteralForm, cond b (after_run is_continue (drop 1 u)) (after_decimal u))) not_based
-    ∙ ap (λ s. Some (LiteralForm, after_suffix (after_lexed_exponent (after_lexed_fraction s)))) (run_past is_numeral_part more (lexed_fraction_text f ++ (lexed_exponent_text e ++ (x ++ t))) row)
+    ∙ ap (λ s. Some (LiteralForm, after_suffix (after_lexed_exponent (after_lexed_fraction s)))) (run_past (is_row_part is_ascii_digit) more (lexed_fraction_text f ++ (lexed_exponent_text e ++ (x ++ t))) row)
     ∙ ap (λ s. Some (LiteralForm, after_suffix (after_lexed_exponent s))) (fraction_past f (lexed_exponent_text e ++ (x ++ t)) fraction)
     ∙ ap (λ s. Some (LiteralForm, after_suffix s)) (exponent_past e (x ++ t) exponent)
     ∙ ap (λ s. Some (LiteralForm, s)) (suffix_past x t suffix)

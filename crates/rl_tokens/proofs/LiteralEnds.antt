@@ -5,8 +5,8 @@ use Rattle.std.specs.List.{list_all}
 use Rattle.std.specs.Char.{is_ascii_digit, is_ascii_alphanumeric}
 use Rattle.std.proofs.lemmas.Bool.{and_from, or_from}
 use Rattle.unicode_ident.specs.Ident.{is_xid_start, is_xid_continue}
-use Rattle.rl_tokens.specs.Texts.{is_white, is_start, is_continue, is_among, first_passes}
-use Rattle.rl_tokens.specs.Lexemes.{is_numeral_part, is_base_letter, IsLexedSuffix, IsLexeme}
+use Rattle.rl_tokens.specs.Texts.{is_white, is_start, is_continue, is_among, first_passes, is_row_part}
+use Rattle.rl_tokens.specs.Lexemes.{is_base_letter, IsLexedSuffix, IsLexeme}
 use Rattle.rl_tokens.proofs.Gaps.{BeginsGap}
 use Rattle.rl_tokens.specs.Strict.{IsStrictSuffix}
 use Rattle.rl_tokens.proofs.Basics.{word_continues}
@@ -63,7 +63,7 @@ clear_or : (f g : ℕ → Bool) → Clear f → Clear g → Clear (λ c. f c || 
 clear_or f g a b c h = or_from (f c) (g c) (a c h) (b c h)
 
 -- It goes on with no row of digits.
-pub clear_part : Clear is_numeral_part
+pub clear_part : Clear (is_row_part is_ascii_digit)
 clear_part = clear_or is_ascii_digit (λ c. c == 95) clear_digit (clear_code 95 refl refl)
 
 -- It doesn't keep a dot from being a dot part.

@@ -6,19 +6,15 @@ use Rattle.std.specs.Prelude.{◌≡◌, ℕ, ◌⊎◌, Bool, true, false, not,
 use Rattle.std.proofs.Common.{suc, zero}
 use Rattle.std.specs.Char.{is_ascii_digit}
 use Rattle.std.specs.List.{list_all}
-use Rattle.rl_tokens.specs.Characters.{line_feed, double_quote, hash_sign, single_quote, asterisk, plus_sign, minus_sign, full_stop, slash, digit_zero, capital_e, back_slash, underscore, letter_b, letter_c, letter_e, letter_o, letter_r, letter_x}
-use Rattle.rl_tokens.specs.Texts.{is_white, is_start, is_continue, is_underscore, is_among, first_passes}
-
--- what a row of digits in a decimal holds
-abbrev pub is_numeral_part : ℕ → Bool
-is_numeral_part c = is_ascii_digit c || is_underscore c
+use Prim.Native.Char.{code}
+use Rattle.rl_tokens.specs.Texts.{is_white, is_start, is_continue, is_underscore, is_among, first_passes, is_row_part}
 
 abbrev pub is_hash : ℕ → Bool
-is_hash c = c == hash_sign
+is_hash c = c == code "#"
 
 -- behind a zero: x, o or b
 abbrev pub is_base_letter : ℕ → Bool
-is_base_letter c = c == letter_x || c == letter_o || c == letter_b
+is_base_letter c = c == code "x" || c == code "o" || c == code "b"
 
 abbrev pub delimiters : List ℕ
 delimiters = codes "()[]{}"
@@ -34,36 +30,36 @@ after_run test (c ∷ t) = cond (test c) (after_run test t) (c ∷ t)
 
 -- Hashes, perhaps none, and a quote.
 abbrev pub begins_hashed_quote : List ℕ → Bool
-begins_hashed_quote t = slice_index (after_run is_hash t) 0 == double_quote
+begins_hashed_quote t = slice_index (after_run is_hash t) 0 == code "\""
 
 -- The text begins like a literal with a prefix, or like a raw identifier.
 abbrev pub begins_otherwise : List ℕ → Bool
 begins_otherwise [] = false
 begins_otherwise (c ∷ t) =
-    (c == letter_b && (slice_index t 0 == double_quote || (slice_index t 0 == single_quote || (slice_index t 0 == letter_r && begins_hashed_quote (drop 1 t)))))
-    || ((c == letter_c && (slice_index t 0 == double_quote || (slice_index t 0 == letter_r && begins_hashed_quote (drop 1 t))))
-    || (c == letter_r && (begins_hashed_quote t || (slice_index t 0 == hash_sign && first_passes is_start (drop 1 t)))))
+    (c == code "b" && (slice_index t 0 == code "\"" || (slice_index t 0 == code "'" || (slice_index t 0 == code "r" && begins_hashed_quote (drop 1 t)))))
+    || ((c == code "c" && (slice_index t 0 == code "\"" || (slice_index t 0 == code "r" && begins_hashed_quote (drop 1 t))))
+    || (c == code "r" && (begins_hashed_quote t || (slice_index t 0 == code "#" && first_passes is_start (drop 1 t)))))
 
 -- n hashes begin the text.
 abbrev pub begins_hashes : ℕ → List ℕ → Bool
 begins_hashes zero t = true
 begins_hashes (suc n) [] = false
-begins_hashes (suc n) (c ∷ t) = c == hash_sign && begins_hashes n t
+begins_hashes (suc n) (c ∷ t) = c == code "#" && begins_hashes n t
 
 -- What follows a sign, where one begins the text.
 abbrev pub after_sign : List ℕ → List ℕ
 after_sign [] = []
-after_sign (c ∷ t) = cond (c == plus_sign || c == minus_sign) t (c ∷ t)
+after_sign (c ∷ t) = cond (c == code "+" || c == code "-") t (c ∷ t)
 
 -- An exponent begins the text: `e` or `E`, perhaps a sign, underscores and a digit.
 abbrev pub begins_exponent : List ℕ → Bool
 begins_exponent [] = false
-begins_exponent (c ∷ t) = (c == letter_e || c == capital_e) && first_passes is_ascii_digit (after_run is_underscore (after_sign t))
+begins_exponent (c ∷ t) = (c == code "e" || c == code "E") && first_passes is_ascii_digit (after_run is_underscore (after_sign t))
 
 -- A dot part begins the text: a dot, and behind it neither a dot nor an identifier.
 abbrev pub begins_dot : List ℕ → Bool
 begins_dot [] = false
-begins_dot (c ∷ t) = c == full_stop && not (first_passes (λ d. d == full_stop || is_start d) t)
+begins_dot (c ∷ t) = c == code "." && not (first_passes (λ d. d == code "." || is_start d) t)
 
 -- What stands before the quote, or before the `r`: nothing, `b` or `c`.
 pub data LiteralPrefix : Type 0 where
@@ -84,11 +80,11 @@ pub data BodyPart : Type 0 where
 abbrev pub body_text : List BodyPart → List ℕ
 body_text [] = []
 body_text (PlainPart c ∷ parts) = c ∷ body_text parts
-body_text (EscapedPart c ∷ parts) = back_slash ∷ c ∷ body_text parts
+body_text (EscapedPart c ∷ parts) = code "\\" ∷ c ∷ body_text parts
 
 abbrev pub IsBody : List BodyPart → Type 0
 IsBody [] = ⊤
-IsBody (PlainPart c ∷ parts) = IsTrue (not (c == double_quote || c == back_slash)) × IsBody parts
+IsBody (PlainPart c ∷ parts) = IsTrue (not (c == code "\"" || c == code "\\")) × IsBody parts
 IsBody (EscapedPart c ∷ parts) = IsBody parts
 
 -- Between the quotes of a character: one character, or a backslash, any character, and more.
@@ -98,11 +94,11 @@ pub data CharacterBody : Type 0 where
 
 abbrev pub character_body_text : CharacterBody → List ℕ
 character_body_text (OneCharacter c) = c ∷ []
-character_body_text (EscapedCharacter c more) = back_slash ∷ c ∷ more
+character_body_text (EscapedCharacter c more) = code "\\" ∷ c ∷ more
 
 abbrev pub IsCharacterBody : CharacterBody → Type 0
-IsCharacterBody (OneCharacter c) = IsTrue (not (c == back_slash))
-IsCharacterBody (EscapedCharacter c more) = IsTrue (list_all (λ d. not (d == single_quote || d == line_feed)) more)
+IsCharacterBody (OneCharacter c) = IsTrue (not (c == code "\\"))
+IsCharacterBody (EscapedCharacter c more) = IsTrue (list_all (λ d. not (d == code "'" || d == code "\n")) more)
 
 -- The dot part of a decimal, where there is one.
 pub data LexedFraction : Type 0 where
@@ -111,7 +107,7 @@ pub data LexedFraction : Type 0 where
 
 abbrev pub lexed_fraction_text : LexedFraction → List ℕ
 lexed_fraction_text NoLexedFraction = []
-lexed_fraction_text (LexedDot digits) = full_stop ∷ digits
+lexed_fraction_text (LexedDot digits) = code "." ∷ digits
 
 pub data LexedSign : Type 0 where
   NoLexedSign : LexedSign
@@ -130,7 +126,7 @@ pub data LexedExponent : Type 0 where
 
 abbrev pub lexed_exponent_text : LexedExponent → List ℕ
 lexed_exponent_text NoLexedExponent = []
-lexed_exponent_text (LexedPower letter sign n d more) = letter ∷ lexed_sign_text sign ++ (replicate n underscore ++ d ∷ more)
+lexed_exponent_text (LexedPower letter sign n d more) = letter ∷ lexed_sign_text sign ++ (replicate n (code "_") ++ d ∷ more)
 
 pub data Lexeme : Type 0 where
   -- a string with escapes
@@ -146,10 +142,10 @@ pub data Lexeme : Type 0 where
   MarkLexeme : (c : ℕ) → Lexeme
 
 abbrev pub lexeme_text : Lexeme → List ℕ
-lexeme_text (QuotedLexeme p parts suffix) = prefix_text p ++ double_quote ∷ body_text parts ++ double_quote ∷ suffix
-lexeme_text (RawLexeme p n body suffix) = prefix_text p ++ letter_r ∷ replicate n hash_sign ++ double_quote ∷ body ++ double_quote ∷ replicate n hash_sign ++ suffix
-lexeme_text (CharacterLexeme is_byte inside suffix) = (if is_byte then codes "b" else []) ++ single_quote ∷ character_body_text inside ++ single_quote ∷ suffix
-lexeme_text (BasedLexeme letter digits) = digit_zero ∷ letter ∷ digits
+lexeme_text (QuotedLexeme p parts suffix) = prefix_text p ++ code "\"" ∷ body_text parts ++ code "\"" ∷ suffix
+lexeme_text (RawLexeme p n body suffix) = prefix_text p ++ code "r" ∷ replicate n (code "#") ++ code "\"" ∷ body ++ code "\"" ∷ replicate n (code "#") ++ suffix
+lexeme_text (CharacterLexeme is_byte inside suffix) = (if is_byte then codes "b" else []) ++ code "'" ∷ character_body_text inside ++ code "'" ∷ suffix
+lexeme_text (BasedLexeme letter digits) = code "0" ∷ letter ∷ digits
 lexeme_text (DecimalLexeme d more fraction exponent suffix) = d ∷ more ++ (lexed_fraction_text fraction ++ (lexed_exponent_text exponent ++ suffix))
 lexeme_text (IdentifierLexeme c more) = c ∷ more
 lexeme_text (DelimiterLexeme c) = c ∷ []
@@ -168,15 +164,15 @@ IsLexedSuffix (c ∷ more) after = IsTrue (is_start c) × IsRow is_continue more
 -- No quote in the body has n hashes behind it.
 abbrev pub IsRawBody : ℕ → List ℕ → Type 0
 IsRawBody n [] = ⊤
-IsRawBody n (c ∷ body) = ((c == double_quote && begins_hashes n body) ≡ false) × IsRawBody n body
+IsRawBody n (c ∷ body) = ((c == code "\"" && begins_hashes n body) ≡ false) × IsRawBody n body
 
 abbrev pub IsLexedFraction : LexedFraction → List ℕ → Type 0
 IsLexedFraction NoLexedFraction after = begins_dot after ≡ false
-IsLexedFraction (LexedDot digits) after = IsTrue (begins_dot (full_stop ∷ digits ++ after)) × IsRow is_numeral_part digits after
+IsLexedFraction (LexedDot digits) after = IsTrue (begins_dot (code "." ∷ digits ++ after)) × IsRow (is_row_part is_ascii_digit) digits after
 
 abbrev pub IsLexedExponent : LexedExponent → List ℕ → Type 0
 IsLexedExponent NoLexedExponent after = begins_exponent after ≡ false
-IsLexedExponent (LexedPower letter sign n d more) after = IsTrue (letter == letter_e || letter == capital_e) × IsTrue (is_ascii_digit d) × IsRow is_numeral_part more after
+IsLexedExponent (LexedPower letter sign n d more) after = IsTrue (letter == code "e" || letter == code "E") × IsTrue (is_ascii_digit d) × IsRow (is_row_part is_ascii_digit) more after
 
 -- The lexeme is well made, and as long as the text after it allows.
 abbrev pub IsLexeme : Lexeme → List ℕ → Type 0
@@ -186,14 +182,14 @@ IsLexeme (CharacterLexeme is_byte inside suffix) after = IsCharacterBody inside 
 IsLexeme (BasedLexeme letter digits) after = IsTrue (is_base_letter letter) × IsRow is_continue digits after
 IsLexeme (DecimalLexeme d more fraction exponent suffix) after =
     IsTrue (is_ascii_digit d)
-    × ((d == digit_zero && first_passes is_base_letter (more ++ (lexed_fraction_text fraction ++ (lexed_exponent_text exponent ++ (suffix ++ after))))) ≡ false)
-    × IsRow is_numeral_part more (lexed_fraction_text fraction ++ (lexed_exponent_text exponent ++ (suffix ++ after)))
+    × ((d == code "0" && first_passes is_base_letter (more ++ (lexed_fraction_text fraction ++ (lexed_exponent_text exponent ++ (suffix ++ after))))) ≡ false)
+    × IsRow (is_row_part is_ascii_digit) more (lexed_fraction_text fraction ++ (lexed_exponent_text exponent ++ (suffix ++ after)))
     × IsLexedFraction fraction (lexed_exponent_text exponent ++ (suffix ++ after))
     × IsLexedExponent exponent (suffix ++ after)
     × IsLexedSuffix suffix after
 IsLexeme (IdentifierLexeme c more) after = IsTrue (is_start c) × IsRow is_continue more after × (begins_otherwise (c ∷ more ++ after) ≡ false)
 IsLexeme (DelimiterLexeme c) after = IsTrue (is_among delimiters c)
-IsLexeme (MarkLexeme c) after = IsTrue (is_among marks c) ⊎ ((c ≡ slash) × (first_passes (λ d. d == slash || d == asterisk) after ≡ false))
+IsLexeme (MarkLexeme c) after = IsTrue (is_among marks c) ⊎ ((c ≡ code "/") × (first_passes (λ d. d == code "/" || d == code "*") after ≡ false))
 
 -- w is a lexeme with after behind it.
 abbrev pub LexemeWith : List ℕ → List ℕ → Type 0

@@ -1,6 +1,6 @@
 -- How a whole text is cut into tokens, and the first fault of a text that can't be.
 use Rattle.std.specs.Prelude.{◌≡◌, ◌≢◌, ℕ, ◌+◌, Bool, false, not, ◌&&◌, ◌||◌, ◌==◌, nat_lt, List, [], ◌∷◌, ◌++◌, length, map, IsTrue, IsFalse, codes, encode_utf8_all, Option, Some, None, option_and_then, if◌then◌else◌}
-use Rattle.rl_tokens.specs.Characters.{hash_sign, single_quote, open_parenthesis, close_parenthesis, open_bracket, close_bracket, letter_b, letter_c, letter_r, open_brace, close_brace}
+use Prim.Native.Char.{code}
 use Rattle.rl_tokens.specs.Texts.{is_start, is_among, first_passes, begins, byte_len}
 use Rattle.rl_tokens.specs.Skipping.{Skipped}
 use Rattle.rl_tokens.specs.declared.span.Span.{Span}
@@ -29,7 +29,7 @@ LexesUpTo at t (w ∷ ws) r =
 
 -- the closer of an opener; 0 for what is no opener
 abbrev pub closer_for : ℕ → ℕ
-closer_for c = if c == open_parenthesis then close_parenthesis else (if c == open_bracket then close_bracket else (if c == open_brace then close_brace else 0))
+closer_for c = if c == code "(" then code ")" else (if c == code "[" then code "]" else (if c == code "{" then code "}" else 0))
 
 abbrev pub is_opener : ℕ → Bool
 is_opener c = is_among (codes "([{") c
@@ -70,7 +70,7 @@ open_groups groups (w ∷ ws) = option_and_then (λ g. open_groups g ws) (behind
 
 -- which delimiter it is
 abbrev pub delimiter_for : ℕ → Delimiter
-delimiter_for c = if c == open_parenthesis || c == close_parenthesis then Parenthesis else (if c == open_bracket || c == close_bracket then Bracket else Brace)
+delimiter_for c = if c == code "(" || c == code ")" then Parenthesis else (if c == code "[" || c == code "]" then Bracket else Brace)
 
 -- the token of this form, text and place, written flat
 abbrev pub flat_form : LexemeForm → List ℕ → Span → FlatToken
@@ -99,20 +99,20 @@ begins_doc_comment r =
 
 abbrev pub begins_lifetime : List ℕ → Bool
 begins_lifetime [] = false
-begins_lifetime (c ∷ cs) = c == single_quote && first_passes is_start cs
+begins_lifetime (c ∷ cs) = c == code "'" && first_passes is_start cs
 
 abbrev pub begins_raw_identifier : List ℕ → Bool
 begins_raw_identifier [] = false
 begins_raw_identifier (c ∷ []) = false
-begins_raw_identifier (c ∷ d ∷ cs) = c == letter_r && d == hash_sign && first_passes is_start cs
+begins_raw_identifier (c ∷ d ∷ cs) = c == code "r" && d == code "#" && first_passes is_start cs
 
 abbrev pub begins_raw : List ℕ → Bool
 begins_raw [] = false
-begins_raw (c ∷ cs) = (c == letter_r && begins_hashed_quote cs) || begins_prefixed cs (c == letter_b || c == letter_c)
+begins_raw (c ∷ cs) = (c == code "r" && begins_hashed_quote cs) || begins_prefixed cs (c == code "b" || c == code "c")
   where
     begins_prefixed : List ℕ → Bool → Bool
     begins_prefixed [] b = false
-    begins_prefixed (c ∷ cs) b = b && c == letter_r && begins_hashed_quote cs
+    begins_prefixed (c ∷ cs) b = b && c == code "r" && begins_hashed_quote cs
 
 -- a quoted or raw opener, `b'`, or `'` without an identifier start behind it
 abbrev pub begins_quote : List ℕ → Bool

@@ -1,7 +1,7 @@
 -- Lists of literals printed with gaps between them, and the trees that such a text is cut into. A character is its code.
 use Rattle.std.specs.Prelude.{◌≡◌, ◌≢◌, ℕ, ◌+◌, ◌⊎◌, Bool, List, [], ◌∷◌, ◌++◌, IsTrue, ⊤, drop, codes, encode_utf8_all}
 use Rattle.std.specs.List.{AllByRecursion}
-use Rattle.rl_tokens.specs.Characters.{minus_sign}
+use Prim.Native.Char.{code}
 use Rattle.rl_tokens.specs.declared.kind.Kind.{Kind}
 use Rattle.rl_tokens.specs.declared.kind.Kind.TheVariants.{Bool as BoolKind}
 use Rattle.rl_tokens.specs.Texts.{is_among, first_passes, SpannedText, byte_len}
@@ -19,7 +19,7 @@ pub data Item : Type 0 where
 abbrev pub item_text : Item → List ℕ
 item_text (WordItem truth) = truth_text truth
 item_text (LiteralItem text) = text
-item_text (MinusItem text) = minus_sign ∷ text
+item_text (MinusItem text) = code "-" ∷ text
 
 -- An item, and the gap before it.
 pub record Entry : Type 0 where
@@ -43,7 +43,7 @@ IsStrictAs kind t = (contents : Contents) × (suffix : List ℕ) × Strict t kin
 abbrev pub IsStrictItem : Item → Type 0
 IsStrictItem (WordItem truth) = ⊤
 IsStrictItem (LiteralItem text) = (kind : Kind) × (kind ≢ BoolKind) × IsStrictAs kind text × HasReading text
-IsStrictItem (MinusItem text) = (kind : Kind) × IsTrue (is_number kind) × IsStrictAs kind text × HasReading (minus_sign ∷ text)
+IsStrictItem (MinusItem text) = (kind : Kind) × IsTrue (is_number kind) × IsStrictAs kind text × HasReading (code "-" ∷ text)
 
 -- The gap before the item is empty only where the item begins with `"`, `'` or `-`.
 abbrev pub IsApart : Entry → Type 0

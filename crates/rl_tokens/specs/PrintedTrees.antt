@@ -1,7 +1,7 @@
 -- The trees that a printed list of literals is cut into, and prints of literals that were cut from any text.
 use Rattle.std.specs.Prelude.{◌≡◌, ◌≢◌, ℕ, ◌+◌, List, [], ◌∷◌, ◌++◌, ⊤, drop}
 use Rattle.std.specs.List.{AllByRecursion}
-use Rattle.rl_tokens.specs.Characters.{minus_sign}
+use Prim.Native.Char.{code}
 use Rattle.rl_tokens.specs.Trivia.{IsTrivia}
 use Rattle.rl_tokens.specs.Trees.{Tree, IdentTree, PunctTree, LiteralTree}
 use Rattle.rl_tokens.specs.Lexemes.{Lexeme, lexeme_text, IsLexeme, LiteralForm, form_of}
@@ -15,7 +15,7 @@ abbrev pub item_trees : ℕ → ℕ → Item → List Tree
 item_trees file at (WordItem truth) = IdentTree (token_at file at (truth_text truth)) ∷ []
 item_trees file at (LiteralItem text) = LiteralTree (token_at file at text) ∷ []
 item_trees file at (MinusItem text) =
-    PunctTree (record { ch = minus_sign; span = record { file = file; lo = at; hi = at + 1 } }) ∷ LiteralTree (token_at file (at + 1) text) ∷ []
+    PunctTree (record { ch = code "-"; span = record { file = file; lo = at; hi = at + 1 } }) ∷ LiteralTree (token_at file (at + 1) text) ∷ []
 
 -- the trees of all entries, the first of which begins at this byte
 abbrev pub printed_trees : ℕ → ℕ → List Entry → List Tree

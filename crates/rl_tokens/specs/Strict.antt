@@ -5,7 +5,7 @@ use Rattle.std.specs.Char.{is_ascii_digit, is_ascii_hexdigit, digit_value}
 use Rattle.std.specs.Str.{all_scalars}
 use Rattle.std.specs.Fmt.{digits_onto}
 use Rattle.std.specs.List.{list_all, list_any, flat_map}
-use Rattle.rl_tokens.specs.Characters.{tab, line_feed, carriage_return, space, double_quote, hash_sign, single_quote, plus_sign, minus_sign, full_stop, digit_zero, capital_e, back_slash, underscore, letter_e, letter_n, letter_r, letter_t, letter_u, letter_x, open_brace, close_brace}
+use Prim.Native.Char.{code}
 use Rattle.rl_tokens.specs.declared.kind.Kind.{Kind}
 use Rattle.rl_tokens.specs.declared.kind.Kind.TheVariants.{Str, ByteStr, CStr, Byte, Char, Int, Float, Bool as BoolKind}
 use Rattle.rl_tokens.specs.Texts.{IsWord, first_passes, begins}
@@ -34,16 +34,16 @@ pub data StrictUnit : Type 0 where
   LineBreak : (blanks : List ℕ) → StrictUnit
 
 abbrev pub spaced_digit : ℕ × ℕ → List ℕ
-spaced_digit d = d.0 ∷ replicate d.1 underscore
+spaced_digit d = d.0 ∷ replicate d.1 (code "_")
 
 abbrev pub strict_text : StrictUnit → List ℕ
 strict_text (Itself c) = c ∷ []
-strict_text (QuoteEscape c) = back_slash ∷ c ∷ []
-strict_text (PlainEscape c) = back_slash ∷ c ∷ []
-strict_text (AsciiEscape high low) = back_slash ∷ letter_x ∷ high ∷ low ∷ []
-strict_text (ByteEscape high low) = back_slash ∷ letter_x ∷ high ∷ low ∷ []
-strict_text (UnicodeEscape digits) = back_slash ∷ letter_u ∷ open_brace ∷ [] ++ flat_map spaced_digit digits ++ close_brace ∷ []
-strict_text (LineBreak blanks) = back_slash ∷ line_feed ∷ blanks
+strict_text (QuoteEscape c) = code "\\" ∷ c ∷ []
+strict_text (PlainEscape c) = code "\\" ∷ c ∷ []
+strict_text (AsciiEscape high low) = code "\\" ∷ code "x" ∷ high ∷ low ∷ []
+strict_text (ByteEscape high low) = code "\\" ∷ code "x" ∷ high ∷ low ∷ []
+strict_text (UnicodeEscape digits) = code "\\" ∷ code "u" ∷ code "{" ∷ [] ++ flat_map spaced_digit digits ++ code "}" ∷ []
+strict_text (LineBreak blanks) = code "\\" ∷ code "\n" ∷ blanks
 
 -- the number that digits stand for, the first of them the highest
 abbrev pub spelled_number : ℕ → List ℕ → ℕ
@@ -55,7 +55,7 @@ spaced_value digits = spelled_number 16 (map (λ d. d.0) digits)
 
 -- the letters of the plain escapes, and what they stand for
 abbrev pub plain_escapes : List (ℕ × ℕ)
-plain_escapes = (letter_n, line_feed) ∷ (letter_r, carriage_return) ∷ (letter_t, tab) ∷ (back_slash, back_slash) ∷ (digit_zero, 0) ∷ []
+plain_escapes = (code "n", code "\n") ∷ (code "r", code "\r") ∷ (code "t", code "\t") ∷ (code "\\", code "\\") ∷ (code "0", 0) ∷ []
 
 abbrev pub plain_value_in : List (ℕ × ℕ) → ℕ → List ℕ
 plain_value_in [] c = []
@@ -78,7 +78,7 @@ abbrev pub is_octal : ℕ → Bool
 is_octal c = nat_lt (digit_value c) 8
 
 abbrev pub is_dropped_blank : ℕ → Bool
-is_dropped_blank c = c == space || c == tab || c == line_feed
+is_dropped_blank c = c == code " " || c == code "\t" || c == code "\n"
 
 abbrev pub is_unicode_escape : List (ℕ × ℕ) → Bool
 is_unicode_escape digits =
@@ -87,10 +87,10 @@ is_unicode_escape digits =
 
 -- what a single character or byte may not be by itself
 abbrev pub is_bare_character : ℕ → Bool
-is_bare_character c = not (c == single_quote || c == back_slash || c == line_feed || c == carriage_return || c == tab)
+is_bare_character c = not (c == code "'" || c == code "\\" || c == code "\n" || c == code "\r" || c == code "\t")
 
 abbrev pub is_bare_in_string : ℕ → Bool
-is_bare_in_string c = not (c == double_quote || c == back_slash || c == carriage_return)
+is_bare_in_string c = not (c == code "\"" || c == code "\\" || c == code "\r")
 
 abbrev pub is_strict_unit : Kind → StrictUnit → Bool
 is_strict_unit Char (Itself c) = is_bare_character c
@@ -99,8 +99,8 @@ is_strict_unit Byte (Itself c) = nat_lt c 128 && is_bare_character c
 is_strict_unit ByteStr (Itself c) = nat_lt c 128 && is_bare_in_string c
 is_strict_unit CStr (Itself c) = is_bare_in_string c && not (c == 0)
 is_strict_unit _ (Itself c) = false
-is_strict_unit k (QuoteEscape c) = c == single_quote || c == double_quote
-is_strict_unit CStr (PlainEscape c) = is_plain_letter c && not (c == digit_zero)
+is_strict_unit k (QuoteEscape c) = c == code "'" || c == code "\""
+is_strict_unit CStr (PlainEscape c) = is_plain_letter c && not (c == code "0")
 is_strict_unit _ (PlainEscape c) = is_plain_letter c
 is_strict_unit Char (AsciiEscape high low) = is_octal high && is_ascii_hexdigit low
 is_strict_unit Str (AsciiEscape high low) = is_octal high && is_ascii_hexdigit low
@@ -185,17 +185,17 @@ pub record StrictRaw (t : List ℕ) (k : Kind) (v : Contents) (x : List ℕ) : T
   pub inside : List ℕ
   pub few : hashes < 256
   pub allowed : IsRawInside k inside
-  pub no_carriage_return : IsTrue (list_all (λ c. not (c == carriage_return)) inside)
-  pub first_close : (front rest : List ℕ) → inside ≢ front ++ double_quote ∷ replicate hashes hash_sign ++ rest
+  pub no_carriage_return : IsTrue (list_all (λ c. not (c == code "\r")) inside)
+  pub first_close : (front rest : List ℕ) → inside ≢ front ++ code "\"" ∷ replicate hashes (code "#") ++ rest
   pub suffix : IsStrictSuffix x
-  pub text : t ≡ strict_raw_opener k ++ replicate hashes hash_sign ++ double_quote ∷ inside ++ double_quote ∷ replicate hashes hash_sign ++ x
+  pub text : t ≡ strict_raw_opener k ++ replicate hashes (code "#") ++ code "\"" ∷ inside ++ code "\"" ∷ replicate hashes (code "#") ++ x
   pub contents : v ≡ strict_quoted_contents k (strict_content_of k inside)
 
 abbrev pub is_row : (ℕ → Bool) → ℕ → Bool
-is_row digit c = digit c || c == underscore
+is_row digit c = digit c || c == code "_"
 
 abbrev pub bare : List ℕ → List ℕ
-bare cs = filter (λ c. not (c == underscore)) cs
+bare cs = filter (λ c. not (c == code "_")) cs
 
 -- D: a digit, and digits and underscores
 abbrev pub IsDigits : List ℕ → Type 0
@@ -206,7 +206,7 @@ abbrev pub IsDecimalText : List ℕ → Type 0
 IsDecimalText t = IsFalse (begins (codes "0b") t || begins (codes "0o") t || begins (codes "0x") t)
 
 abbrev pub IsNumberSuffix : List ℕ → Type 0
-IsNumberSuffix x = IsStrictSuffix x × IsFalse (first_passes (λ c. c == underscore) x)
+IsNumberSuffix x = IsStrictSuffix x × IsFalse (first_passes (λ c. c == code "_") x)
 
 -- the digits of the bases with a prefix
 abbrev pub BasedPrefix : List ℕ → ℕ → Type 0
@@ -225,7 +225,7 @@ pub record StrictInt (t : List ℕ) (v : Contents) (x : List ℕ) : Type 0 where
   pub each : IsTrue (list_all (is_row (λ c. nat_lt (digit_value c) base)) row)
   pub some : IsTrue (list_any (λ c. nat_lt (digit_value c) base) row)
   pub suffix : IsNumberSuffix x
-  pub no_exponent : IsFalse (first_passes (λ c. c == letter_e || c == capital_e) x)
+  pub no_exponent : IsFalse (first_passes (λ c. c == code "e" || c == code "E") x)
   pub no_digit : base ≡ 16 → IsFalse (first_passes is_ascii_hexdigit x)
   pub text : t ≡ prefix ++ row ++ x
   pub contents : v ≡ Digits (dec (spelled_number base (bare row)))
@@ -234,26 +234,26 @@ pub record IsStrictExponent (e : List ℕ) : Type 0 where
   pub letter : ℕ
   pub sign : List ℕ
   pub row : List ℕ
-  pub is_letter : IsTrue (letter == letter_e || letter == capital_e)
-  pub is_sign : (sign ≡ []) ⊎ ((sign ≡ plus_sign ∷ []) ⊎ (sign ≡ minus_sign ∷ []))
+  pub is_letter : IsTrue (letter == code "e" || letter == code "E")
+  pub is_sign : (sign ≡ []) ⊎ ((sign ≡ code "+" ∷ []) ⊎ (sign ≡ code "-" ∷ []))
   pub each : IsTrue (list_all (is_row is_ascii_digit) row)
   pub some : IsTrue (list_any is_ascii_digit row)
   pub text : e ≡ letter ∷ sign ++ row
 
 -- `D.` alone
 abbrev pub IsDotAlone : List ℕ → List ℕ → Type 0
-IsDotAlone numeral x = (d : List ℕ) × IsDigits d × (numeral ≡ d ++ full_stop ∷ []) × (x ≡ [])
+IsDotAlone numeral x = (d : List ℕ) × IsDigits d × (numeral ≡ d ++ code "." ∷ []) × (x ≡ [])
 
 -- `D.D` with a suffix that doesn't begin as an exponent does
 abbrev pub IsPointed : List ℕ → List ℕ → Type 0
 IsPointed numeral x =
-    (d f : List ℕ) × IsDigits d × IsDigits f × (numeral ≡ d ++ full_stop ∷ f) × IsFalse (first_passes (λ c. c == letter_e || c == capital_e) x)
+    (d f : List ℕ) × IsDigits d × IsDigits f × (numeral ≡ d ++ code "." ∷ f) × IsFalse (first_passes (λ c. c == code "e" || c == code "E") x)
 
 -- `D` or `D.D`, and an exponent
 abbrev pub IsScientific : List ℕ → List ℕ → Type 0
 IsScientific numeral x =
     (d e : List ℕ) × IsDigits d × IsStrictExponent e
-    × ((numeral ≡ d ++ e) ⊎ ((f : List ℕ) × IsDigits f × (numeral ≡ d ++ full_stop ∷ f ++ e)))
+    × ((numeral ≡ d ++ e) ⊎ ((f : List ℕ) × IsDigits f × (numeral ≡ d ++ code "." ∷ f ++ e)))
 
 -- Section Floating-point literals.
 pub record StrictFloat (t : List ℕ) (v : Contents) (x : List ℕ) : Type 0 where
@@ -262,7 +262,7 @@ pub record StrictFloat (t : List ℕ) (v : Contents) (x : List ℕ) : Type 0 whe
   pub no_prefix : IsDecimalText t
   pub suffix : IsNumberSuffix x
   pub text : t ≡ numeral ++ x
-  pub contents : v ≡ Digits (map (λ c. if c == capital_e then letter_e else c) (filter (λ c. not (c == underscore || c == plus_sign)) numeral))
+  pub contents : v ≡ Digits (map (λ c. if c == code "E" then code "e" else c) (filter (λ c. not (c == code "_" || c == code "+")) numeral))
 
 -- Chapter Literal expressions, section Boolean literal expressions: the words `true` and `false`.
 pub record StrictBool (t : List ℕ) (v : Contents) (x : List ℕ) : Type 0 where

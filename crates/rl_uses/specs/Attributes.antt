@@ -1,5 +1,6 @@
 -- What the parser of attributes does.
 use Rattle.std.specs.Prelude.{◌≡◌, ◌⊎◌, List, ◌∷◌, IsFalse, codes, Result, Ok, Err}
+use Prim.Native.Char.{code}
 use Rattle.rl_tokens.specs.declared.span.Span.{Span}
 use Rattle.rl_tokens.specs.declared.kind.Kind.TheVariants.{Str}
 use Rattle.rl_tokens.specs.declared.error.Error.{Error}
@@ -13,19 +14,19 @@ use Rattle.rl_uses.specs.declared.attribute.Attribute.{Attribute}
 -- The character `=` and a string literal begin the trees, and the rest stands behind them.
 pub record IsAttributeValue (trees : List Tree) (value : SpannedText) (rest : List Tree) : Type 0 where
   pub behind : List Tree
-  pub equals : IsBehindMark 61 trees behind
+  pub equals : IsBehindMark (code "=") trees behind
   pub string : IsFrontOf Str behind value rest
 
 -- No `=` begins the trees.
 pub record MissesValueEquals {A : Type 0} (trees : List Tree) (scope : Span) (e : Error A) : Type 0 where
-  pub none : IsFalse (begins_mark 61 trees)
+  pub none : IsFalse (begins_mark (code "=") trees)
   pub refusal : IsRefusal trees scope (codes "`=`") e
 
 -- The parser of string literals refuses what stands behind the `=`.
 pub record MissesString {A : Type 0} (trees : List Tree) (scope : Span) (e : Error A) : Type 0 where
   pub behind : List Tree
   pub after : List Tree
-  pub equals : IsBehindMark 61 trees behind
+  pub equals : IsBehindMark (code "=") trees behind
   pub refused : RunsAs Str (codes "string literal") behind scope (Err e) after
 
 -- No `=` and string literal begin the trees.

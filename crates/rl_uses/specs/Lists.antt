@@ -1,5 +1,6 @@
 -- What the parsers of items and lists do.
 use Rattle.std.specs.Prelude.{◌≡◌, ◌≢◌, ◌⊎◌, ◌<◌, IsFalse, List, [], ◌∷◌, length, codes, Result, Ok, Err}
+use Prim.Native.Char.{code}
 use Rattle.rl_tokens.specs.declared.span.Span.{Span}
 use Rattle.rl_tokens.specs.declared.kind.Kind.TheVariants.{Str as StrKind, Int as IntKind}
 use Rattle.rl_tokens.specs.declared.token.Delimiter.TheVariants.{Bracket}
@@ -46,7 +47,7 @@ RunsItem trees scope (Err e) rest = RefusesItem trees scope e × (rest ≡ trees
 pub record IsListed {A : Type 0} (trees : List Tree) (item : Item A) (rest : List Tree) : Type 0 where
   pub behind : List Tree
   pub is : IsItem trees item behind
-  pub comma : IsBehindMark 44 behind rest ⊎ ((behind ≡ []) × (rest ≡ []))
+  pub comma : IsBehindMark (code ",") behind rest ⊎ ((behind ≡ []) × (rest ≡ []))
 
 -- An item begins the trees, and something stands behind it that is no comma.
 pub record MissesItemComma {A : Type 0} (trees : List Tree) (scope : Span) (e : Error A) : Type 0 where
@@ -54,7 +55,7 @@ pub record MissesItemComma {A : Type 0} (trees : List Tree) (scope : Span) (e : 
   pub behind : List Tree
   pub is : IsItem trees item behind
   pub some : behind ≢ []
-  pub none : IsFalse (begins_mark 44 behind)
+  pub none : IsFalse (begins_mark (code ",") behind)
   pub refusal : IsRefusal behind scope (codes "`,`") e
 
 -- No item with a comma or the end behind it begins the trees.

@@ -1,5 +1,6 @@
 -- What is read of a text without groups, as its tokens are cut.
 use Rattle.std.specs.Prelude.{◌≡◌, ◌≢◌, ◌⊎◌, ℕ, List, [], ◌∷◌, ◌++◌, length, map, Some, ⊤}
+use Prim.Native.Char.{code}
 use Rattle.std.specs.List.{AllByRecursion}
 use Rattle.std.specs.Str.{chars}
 use Rattle.rl_tokens.specs.Trees.{Tree, GroupTree, flat_trees}
@@ -36,7 +37,7 @@ abbrev pub HasNoNumberNext : CursorState → Type 0
 HasNoNumberNext t =
     BeginsNoLexeme (chars t.rest)
     ⊎ ((l : Lexeme) × (new : CursorState) × TakesNext t l new
-    × ((form_view l.form ≢ LiteralForm) ⊎ HasNoReading (45 ∷ chars l.text.now)))
+    × ((form_view l.form ≢ LiteralForm) ⊎ HasNoReading (code "-" ∷ chars l.text.now)))
 
 -- A token of this form and text, and what is left behind it, begin no literal: the token is none, no word of a truth
 -- value, and no minus before a number.
@@ -44,7 +45,7 @@ abbrev pub BeginsNoLiteral : LexemeForm → List ℕ → CursorState → Type 0
 BeginsNoLiteral LiteralForm text behind = ⊥
 BeginsNoLiteral IdentifierForm text behind = HasNoTruth (chars text)
 BeginsNoLiteral (DelimiterForm c) text behind = ⊤
-BeginsNoLiteral (MarkForm c) text behind = (c ≢ 45) ⊎ HasNoNumberNext behind
+BeginsNoLiteral (MarkForm c) text behind = (c ≢ code "-") ⊎ HasNoNumberNext behind
 
 -- No literal stands next: no token does, or one that begins none.
 abbrev pub HasNoNext : CursorState → Type 0

@@ -1,5 +1,6 @@
 -- The parts of a literal, and what else the calls on one literal say.
 use Rattle.std.specs.Prelude.{◌≡◌, ◌⊎◌, ℕ, List, [], ◌∷◌, Option, Some, None, IsTrue}
+use Prim.Native.Char.{code}
 use Rattle.std.specs.Str.{chars}
 use Rattle.rl_tokens.specs.declared.kind.Kind.TheVariants.{Int as IntKind, Float as FloatKind, Bool as BoolKind}
 use Rattle.rl_tokens.specs.declared.kind.Kind.{Kind}
@@ -48,7 +49,7 @@ KeepsStrict text = (kind : Kind) (contents : Contents) (suffix : List ℕ) → S
 abbrev pub KeepsStrictBehindMinus : List ℕ → Type 0
 KeepsStrictBehindMinus text =
     (kind : Kind) (digits suffix : List ℕ) → IsTrue (is_number kind) → Strict text kind (Digits digits) suffix → IsWithinLimit kind text
-    → Reads (45 ∷ text) kind (Digits (45 ∷ digits)) suffix
+    → Reads (code "-" ∷ text) kind (Digits (code "-" ∷ digits)) suffix
 
 -- what the text is strict as, an integer within the limit, the literal is: of that kind, with those contents and that suffix
 abbrev pub AgreesWithStrict : {A : Type 0} → List ℕ → Lit A → Type 0

@@ -1,5 +1,6 @@
 -- What a printed list of literals reads as, and what the texts of literals that were read once read as again.
 use Rattle.std.specs.Prelude.{◌≡◌, ℕ, ◌+◌, List, [], ◌∷◌, Some, IsTrue, Result, Ok, Err, Vec}
+use Prim.Native.Char.{code}
 use Rattle.std.specs.Str.{chars, encode_utf8_all}
 use Rattle.rl_tokens.specs.declared.kind.Kind.{Kind}
 use Rattle.rl_tokens.specs.declared.error.Error.{Error}
@@ -23,7 +24,7 @@ abbrev pub IsItemOf : Kind → Contents → List ℕ → Item → Type 0
 IsItemOf kind contents suffix (WordItem truth) = Strict (truth_text truth) kind contents suffix
 IsItemOf kind contents suffix (LiteralItem text) = Strict text kind contents suffix
 IsItemOf kind contents suffix (MinusItem text) =
-    (digits : List ℕ) × IsTrue (is_number kind) × Strict text kind (Digits digits) suffix × (contents ≡ Digits (45 ∷ digits))
+    (digits : List ℕ) × IsTrue (is_number kind) × Strict text kind (Digits digits) suffix × (contents ≡ Digits (code "-" ∷ digits))
 
 -- The literal is the reading of the item that begins at this byte: it has the item's text and range, its bytes spell the
 -- characters of the item, it is of the kind that these read as, and of the kind, contents and suffix that the item has.

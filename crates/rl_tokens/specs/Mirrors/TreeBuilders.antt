@@ -1,7 +1,7 @@
 -- A mirror of the code, for proofs alone: the trees of a text as they grow, and the groups that are open.
 use Rattle.std.specs.Prelude.{◌≡◌, ◌≢◌, ◌<◌, ℕ, ◌+◌, true, false, codes, if◌then◌else◌, List, [], ◌∷◌, ◌++◌, IsTrue, Some, length, map, reverse, not, ◌&&◌, ⊤}
 use Rattle.std.specs.Str.{chars}
-use Rattle.rl_tokens.specs.Characters.{open_parenthesis, close_parenthesis, open_bracket, close_bracket, open_brace, close_brace}
+use Prim.Native.Char.{code}
 use Rattle.rl_tokens.specs.declared.token.Delimiter.{Delimiter}
 use Rattle.rl_tokens.specs.declared.token.Delimiter.TheVariants.{Parenthesis, Brace, Bracket}
 use Rattle.rl_tokens.specs.declared.lex_error.LexKind.{LexKind}
@@ -17,14 +17,14 @@ use Rattle.rl_tokens.specs.Trees.{FlatToken, Opening, Closing, tree_view, stream
 use Rattle.rl_tokens.specs.Lexing.{OpenGroup, is_opener, is_closer, closes, popped, innermost, behind_form, flat_form, begins_doc_comment, begins_quote, begins_lifetime, begins_raw_identifier}
 
 abbrev pub opener_of : Delimiter → ℕ
-opener_of Parenthesis = open_parenthesis
-opener_of Brace = open_brace
-opener_of Bracket = open_bracket
+opener_of Parenthesis = code "("
+opener_of Brace = code "{"
+opener_of Bracket = code "["
 
 abbrev pub closer_of : Delimiter → ℕ
-closer_of Parenthesis = close_parenthesis
-closer_of Brace = close_brace
-closer_of Bracket = close_bracket
+closer_of Parenthesis = code ")"
+closer_of Brace = code "}"
+closer_of Bracket = code "]"
 
 abbrev pub group_of : {A : Type 0} → GroupBuilder A → OpenGroup
 group_of o = record { opener = opener_of o.delimiter; at = o.at }
