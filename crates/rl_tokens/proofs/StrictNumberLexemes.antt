@@ -6,18 +6,20 @@ use Rattle.std.specs.Char.{digit_value, is_ascii_digit, is_ascii_hexdigit, is_as
 use Rattle.std.proofs.lemmas.Bool.{and_parts, and_from, or_from, or_cases, eqb-true, ltb-true, lt-ltb, agree_below_at}
 use Rattle.std.proofs.lemmas.Bool.Decides.{nat_tests}
 use Rattle.std.proofs.lemmas.List.Folds.{list_all-append}
-use Rattle.rl_tokens.specs.Texts.{is_white, is_start, is_continue, first_passes, begins, is_row_part}
+use Rattle.rl_tokens.specs.Texts.{is_white, first_passes, begins, is_row_part}
 use Rattle.rl_tokens.specs.Numbers.{Decimal, is_digit}
-use Rattle.rl_tokens.specs.Lexemes.{is_base_letter, begins_dot, begins_exponent, after_sign, after_run, LexedFraction, NoLexedFraction, LexedDot, lexed_fraction_text, LexedSign, NoLexedSign, LexedPlus, LexedMinus, lexed_sign_text, LexedExponent, NoLexedExponent, LexedPower, lexed_exponent_text, IsLexedFraction, IsLexedExponent, BasedLexeme, DecimalLexeme}
+use Rattle.rl_tokens.specs.Lexemes.{is_base_letter, begins_dot, LexedFraction, NoLexedFraction, LexedDot, lexed_fraction_text, LexedSign, NoLexedSign, LexedPlus, LexedMinus, lexed_sign_text, LexedExponent, NoLexedExponent, LexedPower, lexed_exponent_text, IsLexedFraction, IsLexedExponent, BasedLexeme, DecimalLexeme, is_start, is_continue}
 use Rattle.rl_tokens.specs.Reading.{Contents}
 use Rattle.rl_tokens.specs.Strict.{is_row, IsDigits, IsDecimalText, IsStrictSuffix, IsNumberSuffix, StrictInt, StrictFloat, IsStrictExponent}
 use Rattle.rl_tokens.proofs.Basics.{all_weaker, passes_same, digit_is_ten, hex_is_sixteen}
 use Rattle.rl_tokens.proofs.StrictNumbers.{suffix_of_strict, suffix_no_part}
 use Rattle.rl_tokens.proofs.LexemeRows.{not_among}
+use Rattle.rl_tokens.proofs.LexemeOpeners.{no_exponent_begins}
 use Rattle.rl_tokens.proofs.LexemeFronts.{start_ascii, digit_not_start, decimal_text}
 use Rattle.rl_tokens.proofs.LexemeGaps.{and_false, and_more, continue_ascii}
 use Rattle.rl_tokens.proofs.PrintedCuts.{LexedBefore}
 use Rattle.rl_tokens.proofs.LiteralEnds.{EndsLiteral, Clear, clear_continue, clear_part, clear_dot, clear_base, clear_exponent, clear_code, ends_fails, front_fails, suffix_starts, suffix_continues, strict_suffix_lexed}
+use Rattle.rl_tokens.specs.Mirrors.LexemeAt.{begins_exponent, after_sign, after_run}
 
 -- Decimals. What the parts of one are, apart from the text that follows.
 abbrev is_dot_or_start : ℕ → Bool
@@ -84,7 +86,8 @@ fraction_lexed (LexedDot digits) e x after ends (begins, each, row_ends) =
     (ap not (fails_behind3 is_dot_or_start digits e x after clear_dot ends begins), record { each = each; ends = fails_behind2 (is_row_part is_ascii_digit) e x after clear_part ends row_ends })
 
 exponent_lexed : (e : LexedExponent) (x after : List ℕ) → EndsLiteral after → ExponentFacts e x → IsLexedExponent e (x ++ after)
-exponent_lexed NoLexedExponent x after ends h = no_exponent (x ++ after) (front_fails is_letter x after clear_exponent ends h)
+exponent_lexed NoLexedExponent x after ends h =
+    no_exponent_begins (x ++ after) (no_exponent (x ++ after) (front_fails is_letter x after clear_exponent ends h))
 exponent_lexed (LexedPower letter sign n d more) x after ends (is, digit, each, row_ends) =
     (is, digit, record { each = each; ends = front_fails (is_row_part is_ascii_digit) x after clear_part ends row_ends })
 

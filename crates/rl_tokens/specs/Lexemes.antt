@@ -2,15 +2,22 @@
 -- character is its code. They are the tokens of the Rust Reference, chapters Tokens (sections
 -- Literals, Punctuation, Delimiters) and Identifiers. What stands in a literal isn't judged, and doc
 -- comments, lifetimes and raw identifiers are none of them.
-use Rattle.std.specs.Prelude.{◌≡◌, ℕ, ◌⊎◌, Bool, true, false, not, ◌&&◌, ◌||◌, ◌==◌, List, [], codes, ◌∷◌, ◌++◌, IsTrue, ⊤, slice_index, replicate, drop, cond, if◌then◌else◌}
+use Rattle.std.specs.Prelude.{◌≡◌, ℕ, ◌⊎◌, Bool, true, false, not, ◌&&◌, ◌||◌, ◌==◌, List, [], codes, ◌∷◌, ◌++◌, IsTrue, ⊤, replicate, if◌then◌else◌}
 use Rattle.std.proofs.Common.{suc, zero}
 use Rattle.std.specs.Char.{is_ascii_digit}
 use Rattle.std.specs.List.{list_all}
 use Prim.Native.Char.{code}
-use Rattle.rl_tokens.specs.Texts.{is_white, is_start, is_continue, is_underscore, is_among, first_passes, is_row_part}
+use Rattle.unicode_ident.specs.Ident.{is_xid_start, is_xid_continue}
+use Rattle.rl_tokens.specs.Texts.{is_white, is_among, first_passes, begins, is_row_part}
+use Rattle.rl_tokens.specs.Numbers.{is_exponent_letter}
 
-abbrev pub is_hash : ℕ → Bool
-is_hash c = c == code "#"
+-- what may begin an identifier token, and what may go on with it (the Rust Reference, chapter
+-- Identifiers)
+abbrev pub is_start : ℕ → Bool
+is_start c = (c == code "_" || is_xid_start c) && not (is_white c)
+
+abbrev pub is_continue : ℕ → Bool
+is_continue c = is_xid_continue c && not (is_white c)
 
 -- behind a zero: x, o or b
 abbrev pub is_base_letter : ℕ → Bool
@@ -23,38 +30,11 @@ delimiters = codes "()[]{}"
 abbrev pub marks : List ℕ
 marks = codes "~!@#$%^&*-=+|;:,<.>?"
 
--- What follows the longest row of such characters.
-abbrev pub after_run : (ℕ → Bool) → List ℕ → List ℕ
-after_run test [] = []
-after_run test (c ∷ t) = cond (test c) (after_run test t) (c ∷ t)
-
--- Hashes, perhaps none, and a quote.
-abbrev pub begins_hashed_quote : List ℕ → Bool
-begins_hashed_quote t = slice_index (after_run is_hash t) 0 == code "\""
-
--- The text begins like a literal with a prefix, or like a raw identifier.
-abbrev pub begins_otherwise : List ℕ → Bool
-begins_otherwise [] = false
-begins_otherwise (c ∷ t) =
-    (c == code "b" && (slice_index t 0 == code "\"" || (slice_index t 0 == code "'" || (slice_index t 0 == code "r" && begins_hashed_quote (drop 1 t)))))
-    || ((c == code "c" && (slice_index t 0 == code "\"" || (slice_index t 0 == code "r" && begins_hashed_quote (drop 1 t))))
-    || (c == code "r" && (begins_hashed_quote t || (slice_index t 0 == code "#" && first_passes is_start (drop 1 t)))))
-
 -- n hashes begin the text.
 abbrev pub begins_hashes : ℕ → List ℕ → Bool
 begins_hashes zero t = true
 begins_hashes (suc n) [] = false
 begins_hashes (suc n) (c ∷ t) = c == code "#" && begins_hashes n t
-
--- What follows a sign, where one begins the text.
-abbrev pub after_sign : List ℕ → List ℕ
-after_sign [] = []
-after_sign (c ∷ t) = cond (c == code "+" || c == code "-") t (c ∷ t)
-
--- An exponent begins the text: `e` or `E`, perhaps a sign, underscores and a digit.
-abbrev pub begins_exponent : List ℕ → Bool
-begins_exponent [] = false
-begins_exponent (c ∷ t) = (c == code "e" || c == code "E") && first_passes is_ascii_digit (after_run is_underscore (after_sign t))
 
 -- A dot part begins the text: a dot, and behind it neither a dot nor an identifier.
 abbrev pub begins_dot : List ℕ → Bool
@@ -71,6 +51,35 @@ abbrev pub prefix_text : LiteralPrefix → List ℕ
 prefix_text NoPrefix = []
 prefix_text BytePrefix = codes "b"
 prefix_text CPrefix = codes "c"
+
+-- Hashes, perhaps none, and a quote begin the text.
+pub record BeginsHashedQuote (t : List ℕ) : Type 0 where
+  pub hashes : ℕ
+  pub rest : List ℕ
+  pub text_is : t ≡ replicate hashes (code "#") ++ (code "\"" ∷ rest)
+
+-- A raw literal's opener begins the text: perhaps a prefix, `r`, hashes and a quote.
+pub record BeginsRaw (t : List ℕ) : Type 0 where
+  pub prefix : LiteralPrefix
+  pub rest : List ℕ
+  pub opens : BeginsHashedQuote rest
+  pub text_is : t ≡ prefix_text prefix ++ (code "r" ∷ rest)
+
+-- A prefix and a quote begin the text.
+abbrev pub begins_prefixed_quote : List ℕ → Bool
+begins_prefixed_quote t =
+    begins (codes "b\"") t || (begins (codes "c\"") t || begins (codes "b'") t)
+
+-- `r#` and the start of an identifier begin the text.
+abbrev pub begins_raw_identifier : List ℕ → Bool
+begins_raw_identifier [] = false
+begins_raw_identifier (c ∷ []) = false
+begins_raw_identifier (c ∷ d ∷ cs) = c == code "r" && d == code "#" && first_passes is_start cs
+
+-- The text begins like a literal with a prefix, or like a raw identifier.
+abbrev pub BeginsOtherwise : List ℕ → Type 0
+BeginsOtherwise t =
+    IsTrue (begins_prefixed_quote t) ⊎ (BeginsRaw t ⊎ IsTrue (begins_raw_identifier t))
 
 -- A part of a quoted body: a character on its own, or a backslash and any character.
 pub data BodyPart : Type 0 where
@@ -128,6 +137,17 @@ abbrev pub lexed_exponent_text : LexedExponent → List ℕ
 lexed_exponent_text NoLexedExponent = []
 lexed_exponent_text (LexedPower letter sign n d more) = letter ∷ lexed_sign_text sign ++ (replicate n (code "_") ++ d ∷ more)
 
+-- An exponent begins the text: `e` or `E`, perhaps a sign, underscores and a digit.
+pub record BeginsLexedExponent (t : List ℕ) : Type 0 where
+  pub letter : ℕ
+  pub sign : LexedSign
+  pub underscores : ℕ
+  pub digit : ℕ
+  pub rest : List ℕ
+  pub is_letter : IsTrue (is_exponent_letter letter)
+  pub is_digit : IsTrue (is_ascii_digit digit)
+  pub text_is : t ≡ letter ∷ (lexed_sign_text sign ++ (replicate underscores (code "_") ++ (digit ∷ rest)))
+
 pub data Lexeme : Type 0 where
   -- a string with escapes
   QuotedLexeme : (p : LiteralPrefix) (parts : List BodyPart) (suffix : List ℕ) → Lexeme
@@ -171,8 +191,8 @@ IsLexedFraction NoLexedFraction after = begins_dot after ≡ false
 IsLexedFraction (LexedDot digits) after = IsTrue (begins_dot (code "." ∷ digits ++ after)) × IsRow (is_row_part is_ascii_digit) digits after
 
 abbrev pub IsLexedExponent : LexedExponent → List ℕ → Type 0
-IsLexedExponent NoLexedExponent after = begins_exponent after ≡ false
-IsLexedExponent (LexedPower letter sign n d more) after = IsTrue (letter == code "e" || letter == code "E") × IsTrue (is_ascii_digit d) × IsRow (is_row_part is_ascii_digit) more after
+IsLexedExponent NoLexedExponent after = BeginsLexedExponent after → ⊥
+IsLexedExponent (LexedPower letter sign n d more) after = IsTrue (is_exponent_letter letter) × IsTrue (is_ascii_digit d) × IsRow (is_row_part is_ascii_digit) more after
 
 -- The lexeme is well made, and as long as the text after it allows.
 abbrev pub IsLexeme : Lexeme → List ℕ → Type 0
@@ -187,7 +207,7 @@ IsLexeme (DecimalLexeme d more fraction exponent suffix) after =
     × IsLexedFraction fraction (lexed_exponent_text exponent ++ (suffix ++ after))
     × IsLexedExponent exponent (suffix ++ after)
     × IsLexedSuffix suffix after
-IsLexeme (IdentifierLexeme c more) after = IsTrue (is_start c) × IsRow is_continue more after × (begins_otherwise (c ∷ more ++ after) ≡ false)
+IsLexeme (IdentifierLexeme c more) after = IsTrue (is_start c) × IsRow is_continue more after × (BeginsOtherwise (c ∷ more ++ after) → ⊥)
 IsLexeme (DelimiterLexeme c) after = IsTrue (is_among delimiters c)
 IsLexeme (MarkLexeme c) after = IsTrue (is_among marks c) ⊎ ((c ≡ code "/") × (first_passes (λ d. d == code "/" || d == code "*") after ≡ false))
 

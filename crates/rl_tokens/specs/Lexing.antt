@@ -1,7 +1,7 @@
 -- How a whole text is cut into tokens, and the first fault of a text that can't be.
-use Rattle.std.specs.Prelude.{◌≡◌, ◌≢◌, ℕ, ◌+◌, Bool, false, not, ◌&&◌, ◌||◌, ◌==◌, nat_lt, List, [], ◌∷◌, ◌++◌, length, map, IsTrue, IsFalse, codes, encode_utf8_all, Option, Some, None, option_and_then, if◌then◌else◌}
+use Rattle.std.specs.Prelude.{◌≡◌, ◌≢◌, ◌⊎◌, ℕ, ◌+◌, Bool, false, not, ◌&&◌, ◌||◌, ◌==◌, nat_lt, List, [], ◌∷◌, ◌++◌, length, map, IsTrue, IsFalse, codes, encode_utf8_all, Option, Some, None, option_and_then, if◌then◌else◌}
 use Prim.Native.Char.{code}
-use Rattle.rl_tokens.specs.Texts.{is_start, is_among, first_passes, begins, byte_len}
+use Rattle.rl_tokens.specs.Texts.{is_among, first_passes, begins, byte_len}
 use Rattle.rl_tokens.specs.Skipping.{Skipped}
 use Rattle.rl_tokens.specs.declared.span.Span.{Span}
 use Rattle.rl_tokens.specs.declared.token.Delimiter.{Delimiter}
@@ -9,7 +9,7 @@ use Rattle.rl_tokens.specs.declared.token.Delimiter.TheVariants.{Parenthesis, Br
 use Rattle.rl_tokens.specs.declared.lex_error.LexKind.{LexKind}
 use Rattle.rl_tokens.specs.declared.lex_error.LexKind.TheVariants.{DocComment, UnclosedComment, UnclosedQuote, Lifetime, RawIdentifier, StrayCharacter, UnmatchedClose, UnclosedGroup, TooDeep, Memory}
 use Rattle.rl_tokens.specs.Trees.{Tree, FlatToken, Opening, Closing, FlatIdent, FlatPunct, FlatLiteral, flat_trees}
-use Rattle.rl_tokens.specs.Lexemes.{Lexeme, lexeme_text, IsLexeme, LexemeBefore, begins_hashed_quote, LexemeForm, LiteralForm, IdentifierForm, DelimiterForm, MarkForm, form_of}
+use Rattle.rl_tokens.specs.Lexemes.{Lexeme, lexeme_text, IsLexeme, LexemeBefore, LexemeForm, LiteralForm, IdentifierForm, DelimiterForm, MarkForm, form_of, is_start, BeginsRaw, begins_prefixed_quote, begins_raw_identifier}
 
 -- A token that was cut, and the byte where it begins.
 pub record LexedToken : Type 0 where
@@ -101,24 +101,12 @@ abbrev pub begins_lifetime : List ℕ → Bool
 begins_lifetime [] = false
 begins_lifetime (c ∷ cs) = c == code "'" && first_passes is_start cs
 
-abbrev pub begins_raw_identifier : List ℕ → Bool
-begins_raw_identifier [] = false
-begins_raw_identifier (c ∷ []) = false
-begins_raw_identifier (c ∷ d ∷ cs) = c == code "r" && d == code "#" && first_passes is_start cs
-
-abbrev pub begins_raw : List ℕ → Bool
-begins_raw [] = false
-begins_raw (c ∷ cs) = (c == code "r" && begins_hashed_quote cs) || begins_prefixed cs (c == code "b" || c == code "c")
-  where
-    begins_prefixed : List ℕ → Bool → Bool
-    begins_prefixed [] b = false
-    begins_prefixed (c ∷ cs) b = b && c == code "r" && begins_hashed_quote cs
-
--- a quoted or raw opener, `b'`, or `'` without an identifier start behind it
-abbrev pub begins_quote : List ℕ → Bool
-begins_quote r =
-    begins (codes "\"") r || begins (codes "b\"") r || begins (codes "c\"") r || begins_raw r || begins (codes "b'") r
-    || (begins (codes "'") r && not (begins_lifetime r))
+-- a quote that begins a literal: alone, behind a prefix, behind a raw literal's opener, or a
+-- character's, which begins no lifetime
+abbrev pub BeginsQuote : List ℕ → Type 0
+BeginsQuote r =
+    IsTrue (begins (codes "\"") r) ⊎ (IsTrue (begins_prefixed_quote r)
+    ⊎ (BeginsRaw r ⊎ (IsTrue (begins (codes "'") r) × IsFalse (begins_lifetime r))))
 
 -- a token begins the text; none does
 abbrev pub BeginsLexeme : List ℕ → Type 0
@@ -131,12 +119,12 @@ BeginsNoLexeme r = (after : List ℕ) → LexemeBefore r after → ⊥
 abbrev pub FaultAt : LexKind → List OpenGroup → List ℕ → Type 0
 FaultAt DocComment groups r = IsTrue (begins_doc_comment r)
 FaultAt UnclosedComment groups r = IsTrue (begins (codes "/*") r) × IsFalse (begins_doc_comment r)
-FaultAt UnclosedQuote groups r = BeginsNoLexeme r × IsTrue (begins_quote r)
+FaultAt UnclosedQuote groups r = BeginsNoLexeme r × BeginsQuote r
 FaultAt Lifetime groups r = BeginsNoLexeme r × IsTrue (begins_lifetime r)
 FaultAt RawIdentifier groups r = BeginsNoLexeme r × IsTrue (begins_raw_identifier r)
 FaultAt StrayCharacter groups r =
-    (r ≢ []) × BeginsNoLexeme r
-    × IsFalse (begins_doc_comment r || begins (codes "/*") r || begins_quote r || begins_lifetime r || begins_raw_identifier r)
+    (r ≢ []) × BeginsNoLexeme r × (BeginsQuote r → ⊥)
+    × IsFalse (begins_doc_comment r || begins (codes "/*") r || begins_lifetime r || begins_raw_identifier r)
 FaultAt UnmatchedClose groups r = IsTrue (first_passes (λ c. is_closer c && not (closes groups c)) r)
 FaultAt UnclosedGroup groups r = (r ≡ []) × (groups ≢ [])
 FaultAt TooDeep groups r = IsTrue (first_passes is_opener r) × (length groups ≡ 128)

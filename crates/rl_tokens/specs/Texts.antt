@@ -1,4 +1,4 @@
--- Texts: lists of characters, each character its code. The characters of identifiers, and white space.
+-- Texts: lists of characters, each character its code, as `code "x"` says it; and white space.
 use Rattle.std.specs.Prelude.{◌≡◌, ◌≢◌, ℕ, Bool, true, false, not, ◌&&◌, ◌||◌, ◌==◌, List, [], ◌∷◌, ◌++◌, IsTrue, ◌+◌, length, codes, encode_utf8_all}
 use Rattle.std.specs.Char.{is_whitespace}
 use Rattle.std.specs.Str.{IsUtf8}
@@ -11,14 +11,6 @@ use Rattle.rl_tokens.specs.declared.span.Span.{Span}
 -- src/whitespace.rs)
 abbrev pub is_white : ℕ → Bool
 is_white c = is_whitespace c || c == 0x200e || c == 0x200f
-
--- what may begin an identifier token, and what may go on with it (the Rust Reference, chapter
--- Identifiers)
-abbrev pub is_start : ℕ → Bool
-is_start c = (c == code "_" || is_xid_start c) && not (is_white c)
-
-abbrev pub is_continue : ℕ → Bool
-is_continue c = is_xid_continue c && not (is_white c)
 
 -- a suffix of the lenient reading, if it isn't empty: `_` alone counts, and white characters aren't asked about
 abbrev pub xid_ok : List ℕ → Bool

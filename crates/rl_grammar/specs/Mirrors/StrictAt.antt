@@ -5,12 +5,13 @@ use Rattle.std.specs.List.{list_all}
 use Prim.Native.Char.{code}
 use Rattle.rl_tokens.specs.declared.kind.Kind.{Kind}
 use Rattle.rl_tokens.specs.declared.kind.Kind.TheVariants.{Str, ByteStr, CStr}
-use Rattle.rl_tokens.specs.Texts.{first_passes, begins, is_underscore, is_start, is_continue}
+use Rattle.rl_tokens.specs.Texts.{first_passes, begins, is_underscore}
 use Rattle.rl_tokens.specs.Quoted.{is_string}
 use Rattle.rl_tokens.specs.Strict.{Itself, is_strict_unit, is_dropped_blank}
 use Rattle.rl_grammar.specs.Mirrors.NumberAt.{after_run, has_digit_at, after_digits, after_power_sign, radix_at}
 use Rattle.rl_grammar.specs.Mirrors.UnitAt.{unit_at}
 use Rattle.rl_tokens.specs.Numbers.{is_exponent_letter}
+use Rattle.rl_tokens.specs.Lexemes.{is_start, is_continue}
 
 -- some character stands there
 abbrev pub is_some_text : List ℕ → Bool

@@ -1,20 +1,65 @@
 -- A mirror of the code, for proofs alone: the lexeme at the front of a text as the code finds it, by the first characters:
 -- its form, and the rest behind it.
-use Rattle.std.specs.Prelude.{◌≡◌, ℕ, Bool, ◌&&◌, ◌||◌, ◌==◌, List, [], ◌∷◌, ◌++◌, slice_index, drop, cond}
+use Rattle.std.specs.Prelude.{◌≡◌, ℕ, Bool, true, false, not, ◌&&◌, ◌||◌, ◌==◌, List, [], ◌∷◌, ◌++◌, slice_index, drop, cond, codes}
 use Rattle.std.proofs.Common.{suc, zero, Option, Some, None}
 use Rattle.std.specs.Char.{is_ascii_digit}
 use Rattle.std.specs.Option.{option_map}
 use Prim.Native.Char.{code}
-use Rattle.rl_tokens.specs.Texts.{is_start, is_continue, is_underscore, is_white, is_among, first_passes, is_row_part}
-use Rattle.rl_tokens.specs.Lexemes.{is_hash, is_base_letter, delimiters, after_run, begins_hashed_quote, begins_hashes, begins_exponent, begins_dot, after_sign, LexemeForm, LiteralForm, IdentifierForm, DelimiterForm, MarkForm, form_of, Lexeme, lexeme_text, IsLexeme}
+use Rattle.rl_tokens.specs.Texts.{is_underscore, is_white, is_among, first_passes, begins, is_row_part}
+use Rattle.rl_tokens.specs.Lexemes.{is_base_letter, delimiters, begins_hashes, begins_dot, LexemeForm, LiteralForm, IdentifierForm, DelimiterForm, MarkForm, form_of, Lexeme, lexeme_text, IsLexeme, is_start, is_continue}
+use Rattle.rl_tokens.specs.Lexing.{begins_lifetime}
 use Rattle.rl_tokens.specs.Puncts.{is_punct}
 use Rattle.rl_tokens.specs.declared.lexeme.rows.RunClass.{RunClass}
 use Rattle.rl_tokens.specs.declared.lexeme.rows.RunClass.TheVariants.{Continue, Numeral, Underscores, White}
 
+abbrev pub is_hash : ℕ → Bool
+is_hash c = c == code "#"
+
+-- what follows the longest row of such characters
+abbrev pub after_run : (ℕ → Bool) → List ℕ → List ℕ
+after_run test [] = []
+after_run test (c ∷ t) = cond (test c) (after_run test t) (c ∷ t)
+
+-- hashes, perhaps none, and a quote
+abbrev pub begins_hashed_quote : List ℕ → Bool
+begins_hashed_quote t = slice_index (after_run is_hash t) 0 == code "\""
+
+abbrev pub begins_raw_behind : List ℕ → Bool → Bool
+begins_raw_behind [] b = false
+begins_raw_behind (c ∷ cs) b = b && c == code "r" && begins_hashed_quote cs
+
+abbrev pub begins_raw : List ℕ → Bool
+begins_raw [] = false
+begins_raw (c ∷ cs) = (c == code "r" && begins_hashed_quote cs) || begins_raw_behind cs (c == code "b" || c == code "c")
+
+-- a quoted or raw opener, `b'`, or `'` without an identifier start behind it
+abbrev pub begins_quote : List ℕ → Bool
+begins_quote r =
+    begins (codes "\"") r || begins (codes "b\"") r || begins (codes "c\"") r || begins_raw r || begins (codes "b'") r
+    || (begins (codes "'") r && not (begins_lifetime r))
+
+-- the text begins like a literal with a prefix, or like a raw identifier
+abbrev pub begins_otherwise : List ℕ → Bool
+begins_otherwise [] = false
+begins_otherwise (c ∷ t) =
+    (c == code "b" && (slice_index t 0 == code "\"" || (slice_index t 0 == code "'" || (slice_index t 0 == code "r" && begins_hashed_quote (drop 1 t)))))
+    || ((c == code "c" && (slice_index t 0 == code "\"" || (slice_index t 0 == code "r" && begins_hashed_quote (drop 1 t))))
+    || (c == code "r" && (begins_hashed_quote t || (slice_index t 0 == code "#" && first_passes is_start (drop 1 t)))))
+
+-- what follows a sign, where one begins the text
+abbrev pub after_sign : List ℕ → List ℕ
+after_sign [] = []
+after_sign (c ∷ t) = cond (c == code "+" || c == code "-") t (c ∷ t)
+
+-- an exponent begins the text: `e` or `E`, perhaps a sign, underscores and a digit
+abbrev pub begins_exponent : List ℕ → Bool
+begins_exponent [] = false
+begins_exponent (c ∷ t) = (c == code "e" || c == code "E") && first_passes is_ascii_digit (after_run is_underscore (after_sign t))
+
 -- the test of a row
 abbrev pub run_test : RunClass → ℕ → Bool
 run_test Continue = is_continue
-run_test Numeral = (is_row_part is_ascii_digit)
+run_test Numeral = is_row_part is_ascii_digit
 run_test Underscores = is_underscore
 run_test White = is_white
 

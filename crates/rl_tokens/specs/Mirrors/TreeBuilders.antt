@@ -12,9 +12,10 @@ use Rattle.rl_tokens.specs.declared.nest.TreeBuilder.{TreeBuilder}
 use Rattle.rl_tokens.specs.declared.token.TokenTree.{TokenTree}
 use Rattle.rl_tokens.specs.Texts.{is_among, begins, xid_ok}
 use Rattle.rl_tokens.specs.Puncts.{is_punct}
-use Rattle.rl_tokens.specs.Lexemes.{LexemeForm, LiteralForm, IdentifierForm, DelimiterForm, MarkForm, delimiters}
+use Rattle.rl_tokens.specs.Lexemes.{LexemeForm, LiteralForm, IdentifierForm, DelimiterForm, MarkForm, delimiters, begins_raw_identifier}
 use Rattle.rl_tokens.specs.Trees.{FlatToken, Opening, Closing, tree_view, stream_view, flat, flat_trees}
-use Rattle.rl_tokens.specs.Lexing.{OpenGroup, is_opener, is_closer, closes, popped, innermost, behind_form, flat_form, begins_doc_comment, begins_quote, begins_lifetime, begins_raw_identifier}
+use Rattle.rl_tokens.specs.Lexing.{OpenGroup, is_opener, is_closer, closes, popped, innermost, behind_form, flat_form, begins_doc_comment, begins_lifetime}
+use Rattle.rl_tokens.specs.Mirrors.LexemeAt.{begins_quote}
 
 abbrev pub opener_of : Delimiter → ℕ
 opener_of Parenthesis = code "("
