@@ -20,9 +20,12 @@ front_token (Negative n) = joined n.0 n.1
 
 -- the trees don't begin with the word `true` or `false`
 abbrev pub HasNoWord : List Tree → Type 0
-HasNoWord trees = (i : SpannedText) (rest : List Tree) → trees ≡ IdentTree i ∷ rest → ReadsAs BoolKind (chars i.text) → ⊥
+HasNoWord trees =
+    (i : SpannedText) (rest : List Tree) → trees ≡ IdentTree i ∷ rest
+    → ReadsAs BoolKind (chars i.text) → ⊥
 
 -- the trees don't begin with a minus and a literal token that read together
 abbrev pub HasNoMinus : List Tree → Type 0
 HasNoMinus trees =
-    (m : Mark) (l : SpannedText) (rest : List Tree) → trees ≡ PunctTree m ∷ LiteralTree l ∷ rest → m.ch ≡ code "-" → HasReading (code "-" ∷ chars l.text) → ⊥
+    (m : Mark) (l : SpannedText) (rest : List Tree) → trees ≡ PunctTree m ∷ LiteralTree l ∷ rest
+    → m.ch ≡ code "-" → HasReading (code "-" ∷ chars l.text) → ⊥

@@ -12,7 +12,9 @@ pub record IsCookedSplit (kind : Kind) (text body suffix : List ℕ) : Type 0 wh
 pub record IsRawSplit (kind : Kind) (text body suffix : List ℕ) : Type 0 where
   pub string : IsTrue (is_string kind)
   pub hashes : ℕ
-  pub text_is : text ≡ raw_opener kind ++ (replicate hashes (code "#") ++ (code "\"" ∷ (body ++ (code "\"" ∷ (replicate hashes (code "#") ++ suffix)))))
+  pub text_is : text ≡ raw_opener kind
+      ++ (replicate hashes (code "#")
+      ++ (code "\"" ∷ (body ++ (code "\"" ∷ (replicate hashes (code "#") ++ suffix)))))
 
 pub record IsSingleSplit (kind : Kind) (text body suffix : List ℕ) : Type 0 where
   pub single : IsTrue (is_single kind)
@@ -20,8 +22,12 @@ pub record IsSingleSplit (kind : Kind) (text body suffix : List ℕ) : Type 0 wh
 
 -- The bytes of a quoted literal are opener, body, closer and suffix in turn.
 abbrev pub IsQuotedSplit : Kind → List ℕ → List ℕ → List ℕ → Type 0
-IsQuotedSplit kind text body suffix = IsCookedSplit kind text body suffix ⊎ IsRawSplit kind text body suffix ⊎ IsSingleSplit kind text body suffix
+IsQuotedSplit kind text body suffix =
+    IsCookedSplit kind text body suffix ⊎ IsRawSplit kind text body suffix
+    ⊎ IsSingleSplit kind text body suffix
 
 -- No quoted literal stands there.
 abbrev pub HasNoQuoted : List ℕ → Type 0
-HasNoQuoted text = (kind : Kind) (contents : Contents) (suffix : List ℕ) → ReadsQuoted text kind contents suffix → ⊥
+HasNoQuoted text =
+    (kind : Kind) (contents : Contents) (suffix : List ℕ) → ReadsQuoted text kind contents suffix
+    → ⊥

@@ -17,7 +17,9 @@ pub record IsToken (text : List ℕ) : Type 0 where
 
 -- a strict number
 abbrev pub IsStrictNumber : List ℕ → Type 0
-IsStrictNumber text = (contents : Contents) × (suffix : List ℕ) × (StrictInt text contents suffix ⊎ StrictFloat text contents suffix)
+IsStrictNumber text =
+    (contents : Contents) × (suffix : List ℕ)
+    × (StrictInt text contents suffix ⊎ StrictFloat text contents suffix)
 
 -- what stands behind the opener of a strict form with escapes: units, the quote, and a suffix
 pub record ClosesUnits (kind : Kind) (text : List ℕ) : Type 0 where

@@ -9,8 +9,8 @@ use Rattle.rl_tokens.specs.Numbers.{FloatReads, float_digits}
 use Rattle.rl_tokens.specs.Reading.{Characters, Bytes, Digits, ReadsQuoted, ReadsInt}
 use Rattle.rl_grammar.specs.Shapes.{IsQuotedSplit}
 
--- The bytes of a literal, as its parts cut them: a quoted one is opener, body, closer and suffix in turn, a number is
--- body and suffix, a truth value the body alone.
+-- The bytes of a literal, as its parts cut them: a quoted one is opener, body, closer and suffix in
+-- turn, a number is body and suffix, a truth value the body alone.
 abbrev pub IsSplit : Kind → List ℕ → List ℕ → List ℕ → Type 0
 IsSplit Int text body suffix = text ≡ body ++ suffix
 IsSplit Float text body suffix = text ≡ body ++ suffix
@@ -21,17 +21,19 @@ IsSplit kind text body suffix = IsQuotedSplit kind text body suffix
 abbrev pub is_number_front : ℕ → Bool
 is_number_front c = c == code "-" || is_ascii_digit c
 
--- The text reads as the kind with this suffix, and its contents, or its digits, are these bytes. A float reads by its
--- own rule, whether or not an integer stands there too.
+-- The text reads as the kind with this suffix, and its contents, or its digits, are these bytes. A
+-- float reads by its own rule, whether or not an integer stands there too.
 abbrev pub HasPlainBody : Kind → List ℕ → List ℕ → List ℕ → Type 0
 HasPlainBody Str text body suffix = ReadsQuoted text Str (Characters (chars body)) suffix
 HasPlainBody ByteStr text body suffix = ReadsQuoted text ByteStr (Bytes body) suffix
 HasPlainBody CStr text body suffix = ReadsQuoted text CStr (Bytes body) suffix
 HasPlainBody Int text body suffix = ReadsInt text (Digits (chars body)) suffix
-HasPlainBody Float text body suffix = FloatReads text (chars body) suffix × (float_digits (chars body) ≡ chars body)
+HasPlainBody Float text body suffix =
+    FloatReads text (chars body) suffix × (float_digits (chars body) ≡ chars body)
 HasPlainBody _ text body suffix = ⊥
 
--- The text reads as a string, an integer or a float, and its body is the contents or the digits, byte for byte.
+-- The text reads as a string, an integer or a float, and its body is the contents or the digits,
+-- byte for byte.
 pub record IsPlain (kind : Kind) (text : List ℕ) : Type 0 where
   pub body : List ℕ
   pub suffix : List ℕ

@@ -1,7 +1,7 @@
 -- The lexemes of a text, each a tree with its spelling, and as long as what follows it allows. A
 -- character is its code. They are the tokens of the Rust Reference, chapters Tokens (sections
--- Literals, Punctuation, Delimiters) and Identifiers. What stands in a literal isn't judged, and doc
--- comments, lifetimes and raw identifiers are none of them.
+-- Literals, Punctuation, Delimiters) and Identifiers. What stands in a literal isn't judged, and
+-- doc comments, lifetimes and raw identifiers are none of them.
 use Rattle.std.specs.Prelude.{◌≡◌, ℕ, ◌⊎◌, Bool, true, false, not, ◌&&◌, ◌||◌, ◌==◌, List, [], codes, ◌∷◌, ◌++◌, IsTrue, ⊤, replicate, if◌then◌else◌}
 use Rattle.std.proofs.Common.{suc, zero}
 use Rattle.std.specs.Char.{is_ascii_digit}
@@ -107,7 +107,8 @@ character_body_text (EscapedCharacter c more) = code "\\" ∷ c ∷ more
 
 abbrev pub IsCharacterBody : CharacterBody → Type 0
 IsCharacterBody (OneCharacter c) = IsTrue (not (c == code "\\"))
-IsCharacterBody (EscapedCharacter c more) = IsTrue (list_all (λ d. not (d == code "'" || d == code "\n")) more)
+IsCharacterBody (EscapedCharacter c more) =
+    IsTrue (list_all (λ d. not (d == code "'" || d == code "\n")) more)
 
 -- The dot part of a decimal, where there is one.
 pub data LexedFraction : Type 0 where
@@ -128,14 +129,17 @@ lexed_sign_text NoLexedSign = []
 lexed_sign_text LexedPlus = codes "+"
 lexed_sign_text LexedMinus = codes "-"
 
--- The exponent of a decimal, where there is one: a letter, perhaps a sign, underscores, a digit and what follows it.
+-- The exponent of a decimal, where there is one: a letter, perhaps a sign, underscores, a digit and
+-- what follows it.
 pub data LexedExponent : Type 0 where
   NoLexedExponent : LexedExponent
-  LexedPower : (letter : ℕ) (sign : LexedSign) (underscores digit : ℕ) (more : List ℕ) → LexedExponent
+  LexedPower : (letter : ℕ) (sign : LexedSign) (underscores digit : ℕ) (more : List ℕ)
+      → LexedExponent
 
 abbrev pub lexed_exponent_text : LexedExponent → List ℕ
 lexed_exponent_text NoLexedExponent = []
-lexed_exponent_text (LexedPower letter sign n d more) = letter ∷ lexed_sign_text sign ++ (replicate n (code "_") ++ d ∷ more)
+lexed_exponent_text (LexedPower letter sign n d more) =
+    letter ∷ lexed_sign_text sign ++ (replicate n (code "_") ++ d ∷ more)
 
 -- An exponent begins the text: `e` or `E`, perhaps a sign, underscores and a digit.
 pub record BeginsLexedExponent (t : List ℕ) : Type 0 where
@@ -146,7 +150,8 @@ pub record BeginsLexedExponent (t : List ℕ) : Type 0 where
   pub rest : List ℕ
   pub is_letter : IsTrue (is_exponent_letter letter)
   pub is_digit : IsTrue (is_ascii_digit digit)
-  pub text_is : t ≡ letter ∷ (lexed_sign_text sign ++ (replicate underscores (code "_") ++ (digit ∷ rest)))
+  pub text_is : t ≡ letter
+      ∷ (lexed_sign_text sign ++ (replicate underscores (code "_") ++ (digit ∷ rest)))
 
 pub data Lexeme : Type 0 where
   -- a string with escapes
@@ -156,17 +161,24 @@ pub data Lexeme : Type 0 where
   CharacterLexeme : (is_byte : Bool) (inside : CharacterBody) (suffix : List ℕ) → Lexeme
   -- `0x`, `0o` or `0b`, and what goes on with it, a suffix too
   BasedLexeme : (letter : ℕ) (digits : List ℕ) → Lexeme
-  DecimalLexeme : (digit : ℕ) (more : List ℕ) (fraction : LexedFraction) (exponent : LexedExponent) (suffix : List ℕ) → Lexeme
+  DecimalLexeme : (digit : ℕ) (more : List ℕ) (fraction : LexedFraction)
+      (exponent : LexedExponent) (suffix : List ℕ) → Lexeme
   IdentifierLexeme : (first : ℕ) (more : List ℕ) → Lexeme
   DelimiterLexeme : (c : ℕ) → Lexeme
   MarkLexeme : (c : ℕ) → Lexeme
 
 abbrev pub lexeme_text : Lexeme → List ℕ
-lexeme_text (QuotedLexeme p parts suffix) = prefix_text p ++ code "\"" ∷ body_text parts ++ code "\"" ∷ suffix
-lexeme_text (RawLexeme p n body suffix) = prefix_text p ++ code "r" ∷ replicate n (code "#") ++ code "\"" ∷ body ++ code "\"" ∷ replicate n (code "#") ++ suffix
-lexeme_text (CharacterLexeme is_byte inside suffix) = (if is_byte then codes "b" else []) ++ code "'" ∷ character_body_text inside ++ code "'" ∷ suffix
+lexeme_text (QuotedLexeme p parts suffix) =
+    prefix_text p ++ code "\"" ∷ body_text parts ++ code "\"" ∷ suffix
+lexeme_text (RawLexeme p n body suffix) =
+    prefix_text p ++ code "r" ∷ replicate n (code "#") ++ code "\"" ∷ body
+    ++ code "\"" ∷ replicate n (code "#") ++ suffix
+lexeme_text (CharacterLexeme is_byte inside suffix) =
+    (if is_byte then codes "b" else []) ++ code "'" ∷ character_body_text inside
+    ++ code "'" ∷ suffix
 lexeme_text (BasedLexeme letter digits) = code "0" ∷ letter ∷ digits
-lexeme_text (DecimalLexeme d more fraction exponent suffix) = d ∷ more ++ (lexed_fraction_text fraction ++ (lexed_exponent_text exponent ++ suffix))
+lexeme_text (DecimalLexeme d more fraction exponent suffix) =
+    d ∷ more ++ (lexed_fraction_text fraction ++ (lexed_exponent_text exponent ++ suffix))
 lexeme_text (IdentifierLexeme c more) = c ∷ more
 lexeme_text (DelimiterLexeme c) = c ∷ []
 lexeme_text (MarkLexeme c) = c ∷ []
@@ -188,34 +200,49 @@ IsRawBody n (c ∷ body) = ((c == code "\"" && begins_hashes n body) ≡ false) 
 
 abbrev pub IsLexedFraction : LexedFraction → List ℕ → Type 0
 IsLexedFraction NoLexedFraction after = begins_dot after ≡ false
-IsLexedFraction (LexedDot digits) after = IsTrue (begins_dot (code "." ∷ digits ++ after)) × IsRow (is_row_part is_ascii_digit) digits after
+IsLexedFraction (LexedDot digits) after =
+    IsTrue (begins_dot (code "." ∷ digits ++ after))
+    × IsRow (is_row_part is_ascii_digit) digits after
 
 abbrev pub IsLexedExponent : LexedExponent → List ℕ → Type 0
 IsLexedExponent NoLexedExponent after = BeginsLexedExponent after → ⊥
-IsLexedExponent (LexedPower letter sign n d more) after = IsTrue (is_exponent_letter letter) × IsTrue (is_ascii_digit d) × IsRow (is_row_part is_ascii_digit) more after
+IsLexedExponent (LexedPower letter sign n d more) after =
+    IsTrue (is_exponent_letter letter) × IsTrue (is_ascii_digit d)
+    × IsRow (is_row_part is_ascii_digit) more after
 
 -- The lexeme is well made, and as long as the text after it allows.
 abbrev pub IsLexeme : Lexeme → List ℕ → Type 0
 IsLexeme (QuotedLexeme p parts suffix) after = IsBody parts × IsLexedSuffix suffix after
 IsLexeme (RawLexeme p n body suffix) after = IsRawBody n body × IsLexedSuffix suffix after
-IsLexeme (CharacterLexeme is_byte inside suffix) after = IsCharacterBody inside × IsLexedSuffix suffix after
-IsLexeme (BasedLexeme letter digits) after = IsTrue (is_base_letter letter) × IsRow is_continue digits after
+IsLexeme (CharacterLexeme is_byte inside suffix) after =
+    IsCharacterBody inside × IsLexedSuffix suffix after
+IsLexeme (BasedLexeme letter digits) after =
+    IsTrue (is_base_letter letter) × IsRow is_continue digits after
 IsLexeme (DecimalLexeme d more fraction exponent suffix) after =
     IsTrue (is_ascii_digit d)
-    × ((d == code "0" && first_passes is_base_letter (more ++ (lexed_fraction_text fraction ++ (lexed_exponent_text exponent ++ (suffix ++ after))))) ≡ false)
-    × IsRow (is_row_part is_ascii_digit) more (lexed_fraction_text fraction ++ (lexed_exponent_text exponent ++ (suffix ++ after)))
+    × ((d == code "0"
+    && first_passes is_base_letter (more
+    ++ (lexed_fraction_text fraction
+    ++ (lexed_exponent_text exponent ++ (suffix ++ after)))))
+    ≡ false)
+    × IsRow (is_row_part is_ascii_digit) more (lexed_fraction_text fraction
+    ++ (lexed_exponent_text exponent ++ (suffix ++ after)))
     × IsLexedFraction fraction (lexed_exponent_text exponent ++ (suffix ++ after))
     × IsLexedExponent exponent (suffix ++ after)
     × IsLexedSuffix suffix after
-IsLexeme (IdentifierLexeme c more) after = IsTrue (is_start c) × IsRow is_continue more after × (BeginsOtherwise (c ∷ more ++ after) → ⊥)
+IsLexeme (IdentifierLexeme c more) after =
+    IsTrue (is_start c) × IsRow is_continue more after × (BeginsOtherwise (c ∷ more ++ after) → ⊥)
 IsLexeme (DelimiterLexeme c) after = IsTrue (is_among delimiters c)
-IsLexeme (MarkLexeme c) after = IsTrue (is_among marks c) ⊎ ((c ≡ code "/") × (first_passes (λ d. d == code "/" || d == code "*") after ≡ false))
+IsLexeme (MarkLexeme c) after =
+    IsTrue (is_among marks c)
+    ⊎ ((c ≡ code "/") × (first_passes (λ d. d == code "/" || d == code "*") after ≡ false))
 
 -- w is a lexeme with after behind it.
 abbrev pub LexemeWith : List ℕ → List ℕ → Type 0
 LexemeWith w after = (l : Lexeme) × IsLexeme l after × (w ≡ lexeme_text l)
 
--- What a lexeme is to a parser: a literal, an identifier, one of the six delimiters, or another mark.
+-- What a lexeme is to a parser: a literal, an identifier, one of the six delimiters, or another
+-- mark.
 pub data LexemeForm : Type 0 where
   LiteralForm : LexemeForm
   IdentifierForm : LexemeForm

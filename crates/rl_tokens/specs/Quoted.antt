@@ -1,6 +1,6 @@
--- The quoted forms of the lenient reading: cooked strings, raw strings, single characters and bytes.
--- They are those of `syn` 3.0.9, src/lit.rs, each named at its form. What the byte kinds take as plain
--- characters is what rustc takes.
+-- The quoted forms of the lenient reading: cooked strings, raw strings, single characters and
+-- bytes. They are those of `syn` 3.0.9, src/lit.rs, each named at its form. What the byte kinds
+-- take as plain characters is what rustc takes.
 use Rattle.std.specs.Prelude.{◌≡◌, ℕ, ◌+◌, ◌*◌, ◌^◌, ◌≤◌, Bool, true, false, not, ◌&&◌, ◌||◌, ◌==◌, nat_lt, List, [], codes, ◌∷◌, ◌++◌, length, filter, replicate, IsTrue, IsFalse, ⊤, encode_utf8_all, if◌then◌else◌}
 use Rattle.std.specs.Char.{IsScalar, digit_value}
 use Rattle.std.specs.List.{list_all, flat_map, AllByRecursion}
@@ -118,7 +118,9 @@ is_plain Str c = not (c == code "\"" || c == code "\\" || c == code "\r")
 is_plain ByteStr c = nat_lt c 128 && not (c == code "\"" || c == code "\\" || c == code "\r")
 is_plain CStr c = not (c == code "\"" || c == code "\\" || c == code "\r" || c == 0)
 is_plain Char c = not (c == code "\\")
-is_plain Byte c = nat_lt c 128 && not (c == code "'" || c == code "\\" || c == code "\n" || c == code "\r" || c == code "\t")
+is_plain Byte c =
+    nat_lt c 128
+    && not (c == code "'" || c == code "\\" || c == code "\n" || c == code "\r" || c == code "\t")
 is_plain _ c = false
 
 -- a C string holds no zero
@@ -146,7 +148,8 @@ IsUnit kind (Plain c) = IsTrue (is_plain kind c)
 IsUnit kind CrLf = IsTrue (is_string kind)
 IsUnit kind (Named letter) = IsTrue (allows_code kind (letter_value letter))
 IsUnit kind (Hex high low) =
-    IsTrue (is_hex_digit high) × IsTrue (is_hex_digit low) × IsTrue (may_be_hex kind (hex_value high low))
+    IsTrue (is_hex_digit high) × IsTrue (is_hex_digit low)
+    × IsTrue (may_be_hex kind (hex_value high low))
 IsUnit kind (Unicode first more) =
     IsTrue (has_unicode kind) × IsTrue (is_hex_digit first)
     × IsTrue (list_all (λ c. is_underscore c || is_hex_digit c) more)
@@ -204,7 +207,9 @@ pub record Raw (kind : Kind) (text value suffix : List ℕ) : Type 0 where
   pub string : IsTrue (is_string kind)
   pub each : IsTrue (list_all (is_raw kind) inside)
   pub no_quote : IsTrue (list_all (λ c. not (c == code "\"")) suffix)
-  pub text_is : text ≡ raw_opener kind ++ (replicate hashes (code "#") ++ (code "\"" ∷ (inside ++ (code "\"" ∷ (replicate hashes (code "#") ++ suffix)))))
+  pub text_is : text ≡ raw_opener kind
+      ++ (replicate hashes (code "#")
+      ++ (code "\"" ∷ (inside ++ (code "\"" ∷ (replicate hashes (code "#") ++ suffix)))))
   pub value_is : value ≡ content_of kind inside
 
 -- A character or a byte: one unit between single quotes.

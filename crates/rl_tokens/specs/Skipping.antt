@@ -11,7 +11,9 @@ pub record IsOpenLine (t : List ℕ) : Type 0 where
 
 -- A piece or an open line begins the text.
 abbrev pub BeginsTrivia : List ℕ → Type 0
-BeginsTrivia t = ((p : TriviaPiece) × (rest : List ℕ) × IsTriviaPiece p × (t ≡ trivia_piece_text p ++ rest)) ⊎ IsOpenLine t
+BeginsTrivia t =
+    ((p : TriviaPiece) × (rest : List ℕ) × IsTriviaPiece p × (t ≡ trivia_piece_text p ++ rest))
+    ⊎ IsOpenLine t
 
 -- r is what stands behind all trivia at the front of t: with an open line there, nothing.
 pub record StopsBehindTrivia (t r : List ℕ) : Type 0 where

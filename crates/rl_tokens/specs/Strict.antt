@@ -1,5 +1,5 @@
--- The literal tokens of the Rust Reference, chapter Tokens, in the profile of this project. Each form
--- names its section there. Nothing of the lenient grammar's tables is used here.
+-- The literal tokens of the Rust Reference, chapter Tokens, in the profile of this project. Each
+-- form names its section there. Nothing of the lenient grammar's tables is used here.
 use Rattle.std.specs.Prelude.{◌≡◌, ◌≢◌, ◌⊎◌, ℕ, suc, ◌+◌, ◌*◌, ◌^◌, ◌<◌, Bool, false, not, ◌&&◌, ◌||◌, ◌==◌, nat_lt, nat_le, List, [], ◌∷◌, ◌++◌, length, filter, map, replicate, IsTrue, IsFalse, ⊤, encode_utf8_all, codes, if◌then◌else◌}
 use Rattle.std.specs.Char.{is_ascii_digit, is_ascii_hexdigit, digit_value}
 use Rattle.std.specs.Str.{all_scalars}
@@ -16,8 +16,8 @@ abbrev pub IsStrictSuffix : List ℕ → Type 0
 IsStrictSuffix x = (x ≡ []) ⊎ IsWord x
 
 -- What stands between quotes, item by item: the tables ASCII escapes, Byte escapes, Unicode escapes
--- and Quote escapes of section Literals, and for a line break section String continuation escapes of
--- chapter Literal expressions.
+-- and Quote escapes of section Literals, and for a line break section String continuation escapes
+-- of chapter Literal expressions.
 pub data StrictUnit : Type 0 where
   Itself : (c : ℕ) → StrictUnit
   -- \' and \"
@@ -42,7 +42,8 @@ strict_text (QuoteEscape c) = code "\\" ∷ c ∷ []
 strict_text (PlainEscape c) = code "\\" ∷ c ∷ []
 strict_text (AsciiEscape high low) = code "\\" ∷ code "x" ∷ high ∷ low ∷ []
 strict_text (ByteEscape high low) = code "\\" ∷ code "x" ∷ high ∷ low ∷ []
-strict_text (UnicodeEscape digits) = code "\\" ∷ code "u" ∷ code "{" ∷ [] ++ flat_map spaced_digit digits ++ code "}" ∷ []
+strict_text (UnicodeEscape digits) =
+    code "\\" ∷ code "u" ∷ code "{" ∷ [] ++ flat_map spaced_digit digits ++ code "}" ∷ []
 strict_text (LineBreak blanks) = code "\\" ∷ code "\n" ∷ blanks
 
 -- the number that digits stand for, the first of them the highest
@@ -55,13 +56,16 @@ spaced_value digits = spelled_number 16 (map (λ d. d.0) digits)
 
 -- the letters of the plain escapes, and what they stand for
 abbrev pub plain_escapes : List (ℕ × ℕ)
-plain_escapes = (code "n", code "\n") ∷ (code "r", code "\r") ∷ (code "t", code "\t") ∷ (code "\\", code "\\") ∷ (code "0", 0) ∷ []
+plain_escapes =
+    (code "n", code "\n") ∷ (code "r", code "\r") ∷ (code "t", code "\t") ∷ (code "\\", code "\\")
+    ∷ (code "0", 0) ∷ []
 
 abbrev pub plain_value_in : List (ℕ × ℕ) → ℕ → List ℕ
 plain_value_in [] c = []
 plain_value_in (e ∷ es) c = if e.0 == c then e.1 ∷ [] else plain_value_in es c
 
--- A unit's contents as characters (Str, Char, and what a C string spells as characters) or as bytes.
+-- A unit's contents as characters (Str, Char, and what a C string spells as characters) or as
+-- bytes.
 abbrev pub strict_contents : (List ℕ → List ℕ) → StrictUnit → List ℕ
 strict_contents as_kind (Itself c) = as_kind (c ∷ [])
 strict_contents as_kind (QuoteEscape c) = c ∷ []
@@ -87,7 +91,8 @@ is_unicode_escape digits =
 
 -- what a single character or byte may not be by itself
 abbrev pub is_bare_character : ℕ → Bool
-is_bare_character c = not (c == code "'" || c == code "\\" || c == code "\n" || c == code "\r" || c == code "\t")
+is_bare_character c =
+    not (c == code "'" || c == code "\\" || c == code "\n" || c == code "\r" || c == code "\t")
 
 abbrev pub is_bare_in_string : ℕ → Bool
 is_bare_in_string c = not (c == code "\"" || c == code "\\" || c == code "\r")
@@ -107,11 +112,14 @@ is_strict_unit Str (AsciiEscape high low) = is_octal high && is_ascii_hexdigit l
 is_strict_unit _ (AsciiEscape high low) = false
 is_strict_unit Byte (ByteEscape high low) = is_ascii_hexdigit high && is_ascii_hexdigit low
 is_strict_unit ByteStr (ByteEscape high low) = is_ascii_hexdigit high && is_ascii_hexdigit low
-is_strict_unit CStr (ByteEscape high low) = is_ascii_hexdigit high && is_ascii_hexdigit low && not (spelled_number 16 (high ∷ low ∷ []) == 0)
+is_strict_unit CStr (ByteEscape high low) =
+    is_ascii_hexdigit high && is_ascii_hexdigit low
+    && not (spelled_number 16 (high ∷ low ∷ []) == 0)
 is_strict_unit _ (ByteEscape high low) = false
 is_strict_unit Char (UnicodeEscape digits) = is_unicode_escape digits
 is_strict_unit Str (UnicodeEscape digits) = is_unicode_escape digits
-is_strict_unit CStr (UnicodeEscape digits) = is_unicode_escape digits && not (spaced_value digits == 0)
+is_strict_unit CStr (UnicodeEscape digits) =
+    is_unicode_escape digits && not (spaced_value digits == 0)
 is_strict_unit _ (UnicodeEscape digits) = false
 is_strict_unit Str (LineBreak blanks) = list_all is_dropped_blank blanks
 is_strict_unit ByteStr (LineBreak blanks) = list_all is_dropped_blank blanks
@@ -121,7 +129,8 @@ is_strict_unit _ (LineBreak blanks) = false
 -- The blanks that a line break drops go as far as blanks go.
 abbrev pub BlanksEnd : List StrictUnit → Type 0
 BlanksEnd [] = ⊤
-BlanksEnd (LineBreak blanks ∷ us) = IsFalse (first_passes is_dropped_blank (flat_map strict_text us)) × BlanksEnd us
+BlanksEnd (LineBreak blanks ∷ us) =
+    IsFalse (first_passes is_dropped_blank (flat_map strict_text us)) × BlanksEnd us
 BlanksEnd (_ ∷ us) = BlanksEnd us
 
 -- How a kind opens, how it ends, and how it takes characters in.
@@ -165,7 +174,8 @@ pub record StrictCooked (t : List ℕ) (k : Kind) (v : Contents) (x : List ℕ) 
   pub blanks_end : BlanksEnd units
   pub suffix : IsStrictSuffix x
   pub text : t ≡ strict_opener k ++ flat_map strict_text units ++ strict_closer k ++ x
-  pub contents : v ≡ strict_quoted_contents k (flat_map (strict_contents (strict_content_of k)) units)
+  pub contents : v
+      ≡ strict_quoted_contents k (flat_map (strict_contents (strict_content_of k)) units)
 
 abbrev pub strict_raw_opener : Kind → List ℕ
 strict_raw_opener Str = codes "r"
@@ -186,9 +196,11 @@ pub record StrictRaw (t : List ℕ) (k : Kind) (v : Contents) (x : List ℕ) : T
   pub few : hashes < 256
   pub allowed : IsRawInside k inside
   pub no_carriage_return : IsTrue (list_all (λ c. not (c == code "\r")) inside)
-  pub first_close : (front rest : List ℕ) → inside ≢ front ++ code "\"" ∷ replicate hashes (code "#") ++ rest
+  pub first_close : (front rest : List ℕ)
+      → inside ≢ front ++ code "\"" ∷ replicate hashes (code "#") ++ rest
   pub suffix : IsStrictSuffix x
-  pub text : t ≡ strict_raw_opener k ++ replicate hashes (code "#") ++ code "\"" ∷ inside ++ code "\"" ∷ replicate hashes (code "#") ++ x
+  pub text : t ≡ strict_raw_opener k ++ replicate hashes (code "#") ++ code "\"" ∷ inside
+      ++ code "\"" ∷ replicate hashes (code "#") ++ x
   pub contents : v ≡ strict_quoted_contents k (strict_content_of k inside)
 
 abbrev pub is_row : (ℕ → Bool) → ℕ → Bool
@@ -210,7 +222,9 @@ IsNumberSuffix x = IsStrictSuffix x × IsFalse (first_passes (λ c. c == code "_
 
 -- the digits of the bases with a prefix
 abbrev pub BasedPrefix : List ℕ → ℕ → Type 0
-BasedPrefix p base = ((p ≡ codes "0b") × (base ≡ 2)) ⊎ (((p ≡ codes "0o") × (base ≡ 8)) ⊎ ((p ≡ codes "0x") × (base ≡ 16)))
+BasedPrefix p base =
+    ((p ≡ codes "0b") × (base ≡ 2))
+    ⊎ (((p ≡ codes "0o") × (base ≡ 8)) ⊎ ((p ≡ codes "0x") × (base ≡ 16)))
 
 -- The base-ten text of a number of any size. std's `decimal` writes the last 64 digits alone.
 unfoldable pub dec : ℕ → List ℕ
@@ -221,7 +235,8 @@ pub record StrictInt (t : List ℕ) (v : Contents) (x : List ℕ) : Type 0 where
   pub prefix : List ℕ
   pub base : ℕ
   pub row : List ℕ
-  pub is_front : ((prefix ≡ []) × (base ≡ 10) × IsDigits row × IsDecimalText t) ⊎ BasedPrefix prefix base
+  pub is_front : ((prefix ≡ []) × (base ≡ 10) × IsDigits row × IsDecimalText t)
+      ⊎ BasedPrefix prefix base
   pub each : IsTrue (list_all (is_row (λ c. nat_lt (digit_value c) base)) row)
   pub some : IsTrue (list_any (λ c. nat_lt (digit_value c) base) row)
   pub suffix : IsNumberSuffix x
@@ -247,7 +262,8 @@ IsDotAlone numeral x = (d : List ℕ) × IsDigits d × (numeral ≡ d ++ code ".
 -- `D.D` with a suffix that doesn't begin as an exponent does
 abbrev pub IsPointed : List ℕ → List ℕ → Type 0
 IsPointed numeral x =
-    (d f : List ℕ) × IsDigits d × IsDigits f × (numeral ≡ d ++ code "." ∷ f) × IsFalse (first_passes (λ c. c == code "e" || c == code "E") x)
+    (d f : List ℕ) × IsDigits d × IsDigits f × (numeral ≡ d ++ code "." ∷ f)
+    × IsFalse (first_passes (λ c. c == code "e" || c == code "E") x)
 
 -- `D` or `D.D`, and an exponent
 abbrev pub IsScientific : List ℕ → List ℕ → Type 0
@@ -262,7 +278,9 @@ pub record StrictFloat (t : List ℕ) (v : Contents) (x : List ℕ) : Type 0 whe
   pub no_prefix : IsDecimalText t
   pub suffix : IsNumberSuffix x
   pub text : t ≡ numeral ++ x
-  pub contents : v ≡ Digits (map (λ c. if c == code "E" then code "e" else c) (filter (λ c. not (c == code "_" || c == code "+")) numeral))
+  pub contents : v ≡ Digits
+      (map (λ c. if c == code "E" then code "e" else c)
+      (filter (λ c. not (c == code "_" || c == code "+")) numeral))
 
 -- Chapter Literal expressions, section Boolean literal expressions: the words `true` and `false`.
 pub record StrictBool (t : List ℕ) (v : Contents) (x : List ℕ) : Type 0 where
@@ -271,8 +289,8 @@ pub record StrictBool (t : List ℕ) (v : Contents) (x : List ℕ) : Type 0 wher
   pub contents : v ≡ Truth truth
   pub suffix : x ≡ []
 
--- The text is a strict literal of the kind, with these contents and this suffix. It holds no CR, and
--- no white character stands in its suffix.
+-- The text is a strict literal of the kind, with these contents and this suffix. It holds no CR,
+-- and no white character stands in its suffix.
 abbrev pub Strict : List ℕ → Kind → Contents → List ℕ → Type 0
 Strict t Int v x = StrictInt t v x
 Strict t Float v x = StrictFloat t v x

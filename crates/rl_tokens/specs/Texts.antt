@@ -12,7 +12,8 @@ use Rattle.rl_tokens.specs.declared.span.Span.{Span}
 abbrev pub is_white : ℕ → Bool
 is_white c = is_whitespace c || c == 0x200e || c == 0x200f
 
--- a suffix of the lenient reading, if it isn't empty: `_` alone counts, and white characters aren't asked about
+-- a suffix of the lenient reading, if it isn't empty: `_` alone counts, and white characters aren't
+-- asked about
 abbrev pub xid_ok : List ℕ → Bool
 xid_ok [] = false
 xid_ok (c ∷ cs) = (c == code "_" || is_xid_start c) && list_all is_xid_continue cs

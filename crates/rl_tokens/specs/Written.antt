@@ -22,10 +22,12 @@ own_quote Byte = Named Apostrophe
 own_quote Char = Named Apostrophe
 own_quote _ = Named Quote
 
--- what is written as a number: control characters (below the space, and DEL, which is 127), and past
--- ASCII what is a byte
+-- what is written as a number: control characters (below the space, and DEL, which is 127), and
+-- past ASCII what is a byte
 abbrev pub is_written_as_number : Kind → ℕ → Bool
-is_written_as_number kind c = nat_lt c (code " ") || c == 127 || (nat_lt 127 c && (if holds_characters kind then false else true))
+is_written_as_number kind c =
+    nat_lt c (code " ") || c == 127
+    || (nat_lt 127 c && (if holds_characters kind then false else true))
 
 -- the unit that a character or a byte is written as
 unfoldable pub written_unit : Kind → ℕ → QuotedUnit
@@ -36,11 +38,13 @@ written_unit kind c =
     (if c == code "\r" then Named LowerR else
     (if c == code "\\" then Named Backslash else
     (if c == closer kind then own_quote kind else
-    (if is_written_as_number kind c then Hex (upper_digit (c / 16)) (upper_digit (c % 16)) else Plain c))))))
+    (if is_written_as_number kind c then Hex (upper_digit (c / 16)) (upper_digit (c % 16))
+    else Plain c))))))
 
 -- the literal of a value: its characters or bytes, each as it is written, between quotes
 abbrev pub written_text : Kind → List ℕ → List ℕ
-written_text kind value = opener kind ++ (texts (map (written_unit kind) value) ++ (closer kind ∷ []))
+written_text kind value =
+    opener kind ++ (texts (map (written_unit kind) value) ++ (closer kind ∷ []))
 
 -- The text is what the value is written as: it reads as the value with no suffix, and it is strict.
 pub record IsWrittenForm (kind : Kind) (value text : List ℕ) : Type 0 where

@@ -27,12 +27,14 @@ abbrev pub append_digit : ℕ → Option ℕ → ℕ → Option ℕ
 append_digit radix None d = None
 append_digit radix (Some v) d = capped (v * radix + d)
 
--- digits and underscores from here on: whether there was a digit, the number within the limit, and what follows
+-- digits and underscores from here on: whether there was a digit, the number within the limit, and
+-- what follows
 unfoldable pub row_from : ℕ → Bool → Option ℕ → List ℕ → Bool × Option ℕ × List ℕ
 row_from radix some m [] = (some, m, [])
 row_from radix some m (c ∷ cs) =
     if c == code "_" then row_from radix some m cs
-    else (if nat_lt (digit_value c) radix then row_from radix true (append_digit radix m (digit_value c)) cs
+    else (if nat_lt (digit_value c) radix
+    then row_from radix true (append_digit radix m (digit_value c)) cs
     else (some, m, c ∷ cs))
 
 -- the same by what stands there
@@ -56,7 +58,8 @@ is_suffix (c ∷ cs) = not (is_underscore c) && xid_ok (c ∷ cs)
 -- the suffix makes a decimal integer an exponent
 unfoldable pub is_exponent_suffix : List ℕ → Bool
 is_exponent_suffix [] = false
-is_exponent_suffix (c ∷ cs) = is_exponent_letter c && (has_digit_at 10 cs && is_suffix (after_digits 10 cs))
+is_exponent_suffix (c ∷ cs) =
+    is_exponent_letter c && (has_digit_at 10 cs && is_suffix (after_digits 10 cs))
 
 abbrev pub after_minus : List ℕ → List ℕ
 after_minus [] = []
@@ -68,13 +71,15 @@ sign_at (c ∷ cs) = if c == code "-" then Minus else NoSign
 
 -- the base that a letter behind a zero names
 abbrev pub radix_of : ℕ → ℕ
-radix_of c = if c == code "b" then 2 else (if c == code "o" then 8 else (if c == code "x" then 16 else 10))
+radix_of c =
+    if c == code "b" then 2 else (if c == code "o" then 8 else (if c == code "x" then 16 else 10))
 
 -- the base, and what stands behind its prefix
 unfoldable pub radix_at : List ℕ → ℕ × List ℕ
 radix_at [] = (10, [])
 radix_at (z ∷ []) = (10, z ∷ [])
-radix_at (z ∷ c ∷ cs) = if z == code "0" && not (radix_of c == 10) then (radix_of c, cs) else (10, z ∷ c ∷ cs)
+radix_at (z ∷ c ∷ cs) =
+    if z == code "0" && not (radix_of c == 10) then (radix_of c, cs) else (10, z ∷ c ∷ cs)
 
 -- what base ten asks besides: a digit in front, and no exponent behind
 abbrev pub may_begin : ℕ → List ℕ → Bool
@@ -95,7 +100,8 @@ with_sign sign (Some p) = Some (sign, p.0, p.1)
 
 -- the sign, magnitude and suffix of an integer
 unfoldable pub int_at : List ℕ → Option (Sign × ℕ × List ℕ)
-int_at t = with_sign (sign_at t) (based_at (radix_at (after_minus t)).0 (radix_at (after_minus t)).1)
+int_at t =
+    with_sign (sign_at t) (based_at (radix_at (after_minus t)).0 (radix_at (after_minus t)).1)
 
 -- the same, the magnitude within the limit
 abbrev pub capped_based : Option (ℕ × List ℕ) → Option (Option ℕ × List ℕ)
@@ -106,9 +112,10 @@ abbrev pub capped_int : Option (Sign × ℕ × List ℕ) → Option (Option ℕ 
 capped_int None = None
 capped_int (Some p) = Some (capped p.1, p.2)
 
--- What stands behind the sign begins with a digit, has this base, and behind its prefix this row: whether there is a
--- digit, the number within the limit, and what follows.
-pub record IsHead (unsigned : List ℕ) (radix : ℕ) (some : Bool) (magnitude : Option ℕ) (rest : List ℕ) : Type 0 where
+-- What stands behind the sign begins with a digit, has this base, and behind its prefix this row:
+-- whether there is a digit, the number within the limit, and what follows.
+pub record IsHead (unsigned : List ℕ) (radix : ℕ) (some : Bool) (magnitude : Option ℕ)
+    (rest : List ℕ) : Type 0 where
   pub first : IsTrue (first_passes is_ascii_digit unsigned)
   pub base : radix ≡ (radix_at unsigned).0
   pub has_digit : some ≡ has_digit_at (radix_at unsigned).0 (radix_at unsigned).1
@@ -135,14 +142,19 @@ power_at t = after_power_sign (after_run is_underscore t)
 -- what follows an exponent, or the text
 unfoldable pub after_exponent : List ℕ → List ℕ
 after_exponent [] = []
-after_exponent (c ∷ cs) = if is_exponent_letter c && has_digit_at 10 (power_at cs) then after_digits 10 (power_at cs) else (c ∷ cs)
+after_exponent (c ∷ cs) =
+    if is_exponent_letter c && has_digit_at 10 (power_at cs) then after_digits 10 (power_at cs)
+    else (c ∷ cs)
 
 -- the suffix of a float, by what follows its whole part
 abbrev pub float_tail_at : List ℕ → Option (List ℕ)
-float_tail_at t = if is_suffix (after_exponent (after_fraction t)) then Some (after_exponent (after_fraction t)) else None
+float_tail_at t =
+    if is_suffix (after_exponent (after_fraction t)) then Some (after_exponent (after_fraction t))
+    else None
 
 -- the suffix of a float
 unfoldable pub float_at : List ℕ → Option (List ℕ)
 float_at t =
-    if first_passes is_ascii_digit (after_minus t) && is_suffix (after_exponent (after_fraction (after_digits 10 (after_minus t))))
+    if first_passes is_ascii_digit (after_minus t)
+    && is_suffix (after_exponent (after_fraction (after_digits 10 (after_minus t))))
     then Some (after_exponent (after_fraction (after_digits 10 (after_minus t)))) else None

@@ -15,16 +15,23 @@ found_opener form kind rest = Some (form, kind, rest)
 -- a quote or an `r`, which tell a string of the kind
 abbrev pub string_opener_at : Kind → List ℕ → FoundOpener
 string_opener_at kind [] = None
-string_opener_at kind (c ∷ cs) = if c == code "\"" then found_opener CookedForm kind cs else (if c == code "r" then found_opener RawForm kind cs else None)
+string_opener_at kind (c ∷ cs) =
+    if c == code "\"" then found_opener CookedForm kind cs
+    else (if c == code "r" then found_opener RawForm kind cs else None)
 
 abbrev pub byte_opener_at : List ℕ → FoundOpener
 byte_opener_at [] = None
-byte_opener_at (c ∷ cs) = if c == code "'" then found_opener SingleForm Byte cs else string_opener_at ByteStr (c ∷ cs)
+byte_opener_at (c ∷ cs) =
+    if c == code "'" then found_opener SingleForm Byte cs else string_opener_at ByteStr (c ∷ cs)
 
 -- what a text's front tells: a form, a kind, and the text behind the opener
 unfoldable pub opener_at : List ℕ → FoundOpener
 opener_at [] = None
-opener_at (c ∷ cs) = if c == code "'" then found_opener SingleForm Char cs else (if c == code "b" then byte_opener_at cs else (if c == code "c" then string_opener_at CStr cs else string_opener_at Str (c ∷ cs)))
+opener_at (c ∷ cs) =
+    if c == code "'" then found_opener SingleForm Char cs
+    else (if c == code "b" then byte_opener_at cs
+    else (if c == code "c" then string_opener_at CStr cs
+    else string_opener_at Str (c ∷ cs)))
 
 -- what is left behind the hashes at the front
 unfoldable pub after_hashes : List ℕ → List ℕ

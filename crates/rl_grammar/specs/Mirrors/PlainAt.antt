@@ -9,7 +9,8 @@ use Rattle.rl_grammar.specs.Mirrors.StrictAt.{is_some_text}
 -- decimal digits, with no needless zero in front
 abbrev pub is_plain_digits : List ℕ → Bool
 is_plain_digits [] = false
-is_plain_digits (d ∷ ds) = list_all is_ascii_digit (d ∷ ds) && (not (d == code "0") || not (is_some_text ds))
+is_plain_digits (d ∷ ds) =
+    list_all is_ascii_digit (d ∷ ds) && (not (d == code "0") || not (is_some_text ds))
 
 -- the same, perhaps behind a minus
 abbrev pub is_plain_integer : List ℕ → Bool

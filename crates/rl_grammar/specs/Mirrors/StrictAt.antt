@@ -20,7 +20,8 @@ is_some_text t = first_passes (λ c. true) t
 -- nothing, or a word
 unfoldable pub is_strict_suffix : List ℕ → Bool
 is_strict_suffix [] = true
-is_strict_suffix (c ∷ cs) = (if c == code "_" then is_some_text cs else is_start c) && list_all is_continue cs
+is_strict_suffix (c ∷ cs) =
+    (if c == code "_" then is_some_text cs else is_start c) && list_all is_continue cs
 
 -- the same, and it doesn't begin with `_`
 abbrev pub is_number_suffix : List ℕ → Bool
@@ -28,7 +29,8 @@ is_number_suffix x = not (first_passes is_underscore x) && is_strict_suffix x
 
 -- behind the letter of an exponent: a sign perhaps, a row with a digit, and a suffix
 unfoldable pub ends_power : List ℕ → Bool
-ends_power t = has_digit_at 10 (after_power_sign t) && is_number_suffix (after_digits 10 (after_power_sign t))
+ends_power t =
+    has_digit_at 10 (after_power_sign t) && is_number_suffix (after_digits 10 (after_power_sign t))
 
 -- behind digits: an exponent and a suffix, or a suffix alone
 unfoldable pub ends_digits : List ℕ → Bool
@@ -37,7 +39,8 @@ ends_digits (c ∷ cs) = if is_exponent_letter c then ends_power cs else is_numb
 
 -- behind a dot: nothing, or digits and what ends them
 unfoldable pub ends_dot : List ℕ → Bool
-ends_dot t = not (is_some_text t) || (first_passes is_ascii_digit t && ends_digits (after_digits 10 t))
+ends_dot t =
+    not (is_some_text t) || (first_passes is_ascii_digit t && ends_digits (after_digits 10 t))
 
 -- behind the whole part
 abbrev pub ends_whole : List ℕ → Bool
@@ -50,22 +53,30 @@ is_decimal t = first_passes is_ascii_digit t && ends_whole (after_digits 10 t)
 
 -- an integer of another base, behind its prefix
 unfoldable pub is_based : ℕ → List ℕ → Bool
-is_based radix t = has_digit_at radix t && (not (first_passes is_exponent_letter (after_digits radix t)) && is_number_suffix (after_digits radix t))
+is_based radix t =
+    has_digit_at radix t
+    && (not (first_passes is_exponent_letter (after_digits radix t))
+    && is_number_suffix (after_digits radix t))
 
 unfoldable pub is_strict_number : List ℕ → Bool
-is_strict_number t = if (radix_at t).0 == 10 then is_decimal (radix_at t).1 else is_based (radix_at t).0 (radix_at t).1
+is_strict_number t =
+    if (radix_at t).0 == 10 then is_decimal (radix_at t).1
+    else is_based (radix_at t).0 (radix_at t).1
 
 -- what is left behind a line break's backslash, or behind another escape
 abbrev pub escape_rest : Kind → List ℕ → Option (List ℕ)
 escape_rest kind [] = None
 escape_rest kind (c ∷ cs) =
     if c == code "\n" then (if is_string kind then Some (after_run is_dropped_blank cs) else None)
-    else (if c == code "\r" then None else option_map (λ p. p.1) (unit_at kind (code "\\" ∷ c ∷ cs)))
+    else (if c == code "\r" then None
+    else option_map (λ p. p.1) (unit_at kind (code "\\" ∷ c ∷ cs)))
 
 -- what is left behind the unit at the front
 unfoldable pub unit_rest : Kind → List ℕ → Option (List ℕ)
 unit_rest kind [] = None
-unit_rest kind (c ∷ cs) = if c == code "\\" then escape_rest kind cs else (if is_strict_unit kind (Itself c) then Some cs else None)
+unit_rest kind (c ∷ cs) =
+    if c == code "\\" then escape_rest kind cs
+    else (if is_strict_unit kind (Itself c) then Some cs else None)
 
 -- a quote, and a suffix
 abbrev pub ends_quoted : ℕ → List ℕ → Bool
