@@ -12,8 +12,8 @@ abbrev pub bytes_of : List ℕ → Option (List ℕ)
 bytes_of [] = Some []
 bytes_of (high ∷ []) = None
 bytes_of (high ∷ low ∷ rest) =
-    if is_hex_digit high
-    && is_hex_digit low then with_front (hex_value high low ∷ []) (bytes_of rest)
+    if is_hex_digit high && is_hex_digit low
+    then with_front (hex_value high low ∷ []) (bytes_of rest)
     else None
 
 -- the bytes of an answer that may have none

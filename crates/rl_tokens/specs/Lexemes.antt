@@ -150,8 +150,8 @@ pub record BeginsLexedExponent (t : List ℕ) : Type 0 where
   pub rest : List ℕ
   pub is_letter : IsTrue (is_exponent_letter letter)
   pub is_digit : IsTrue (is_ascii_digit digit)
-  pub text_is : t ≡ letter
-      ∷ (lexed_sign_text sign ++ (replicate underscores (code "_") ++ (digit ∷ rest)))
+  pub text_is :
+      t ≡ letter ∷ (lexed_sign_text sign ++ (replicate underscores (code "_") ++ (digit ∷ rest)))
 
 pub data Lexeme : Type 0 where
   -- a string with escapes
@@ -219,15 +219,12 @@ IsLexeme (CharacterLexeme is_byte inside suffix) after =
 IsLexeme (BasedLexeme letter digits) after =
     IsTrue (is_base_letter letter) × IsRow is_continue digits after
 IsLexeme (DecimalLexeme d more fraction exponent suffix) after =
+    let behind_fraction = lexed_exponent_text exponent ++ (suffix ++ after) in
+    let behind_digits = lexed_fraction_text fraction ++ behind_fraction in
     IsTrue (is_ascii_digit d)
-    × ((d == code "0"
-    && first_passes is_base_letter (more
-    ++ (lexed_fraction_text fraction
-    ++ (lexed_exponent_text exponent ++ (suffix ++ after)))))
-    ≡ false)
-    × IsRow (is_row_part is_ascii_digit) more (lexed_fraction_text fraction
-    ++ (lexed_exponent_text exponent ++ (suffix ++ after)))
-    × IsLexedFraction fraction (lexed_exponent_text exponent ++ (suffix ++ after))
+    × ((d == code "0" && first_passes is_base_letter (more ++ behind_digits)) ≡ false)
+    × IsRow (is_row_part is_ascii_digit) more behind_digits
+    × IsLexedFraction fraction behind_fraction
     × IsLexedExponent exponent (suffix ++ after)
     × IsLexedSuffix suffix after
 IsLexeme (IdentifierLexeme c more) after =

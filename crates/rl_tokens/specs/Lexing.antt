@@ -57,8 +57,8 @@ popped (o ∷ os) = os
 -- opens too deep
 abbrev pub behind_delimiter : List OpenGroup → ℕ → ℕ → Option (List OpenGroup)
 behind_delimiter groups c at =
-    if is_opener c then (if nat_lt (length groups) 128 then Some (record { opener = c; at = at }
-    ∷ groups)
+    if is_opener c
+    then (if nat_lt (length groups) 128 then Some (record { opener = c; at = at } ∷ groups)
     else None)
     else (if closes groups c then Some (popped groups) else None)
 

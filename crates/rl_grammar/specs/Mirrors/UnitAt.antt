@@ -68,8 +68,8 @@ unicode_digits_at v n [] = None
 unicode_digits_at v n (c ∷ cs) =
     if c == code "}" then number_if (scalar v) v cs
     else (if c == code "_" then unicode_digits_at v n cs
-    else (if nat_lt (digit_value c) 16
-    && nat_lt n 6 then unicode_digits_at (v * 16 + digit_value c) (n + 1) cs
+    else (if nat_lt (digit_value c) 16 && nat_lt n 6
+    then unicode_digits_at (v * 16 + digit_value c) (n + 1) cs
     else None))
 
 -- an opening brace at the front
@@ -96,8 +96,7 @@ escape_at kind [] = None
 escape_at kind (c ∷ cs) =
     if c == code "x" then (hex_at kind cs >>= λ p. found (p.0 ∷ []) p.1)
     else (if c == code "u" then (unicode_at kind cs >>= λ p. found (content_of kind (p.0 ∷ [])) p.1)
-    else (if is_line_end c then (if is_string kind then found [] (after_blanks cs)
-    else None)
+    else (if is_line_end c then (if is_string kind then found [] (after_blanks cs) else None)
     else named_at kind c cs))
 
 -- the LF of a line end of two characters

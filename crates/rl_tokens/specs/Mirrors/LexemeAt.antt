@@ -84,8 +84,8 @@ abbrev pub after_quote : List ℕ → Option (List ℕ)
 after_quote [] = None
 after_quote (c ∷ []) = cond (c == code "\"") (Some []) None
 after_quote (c ∷ e ∷ t) =
-    cond (c == code "\"") (Some (e
-    ∷ t)) (cond (c == code "\\") (after_quote t) (after_quote (e ∷ t)))
+    cond (c == code "\"") (Some (e ∷ t))
+    (cond (c == code "\\") (after_quote t) (after_quote (e ∷ t)))
 
 -- how many hashes begin the text
 abbrev pub hashes : List ℕ → ℕ
@@ -124,8 +124,8 @@ after_decimal t =
 
 abbrev pub after_digit : ℕ → List ℕ → List ℕ
 after_digit c t =
-    cond (c == code "0"
-    && first_passes is_base_letter t) (after_run is_continue (drop 1 t)) (after_decimal t)
+    cond (c == code "0" && first_passes is_base_letter t) (after_run is_continue (drop 1 t))
+    (after_decimal t)
 
 abbrev pub quoted_at : List ℕ → Option (List ℕ)
 quoted_at t = option_map after_suffix (after_quote t)
@@ -179,15 +179,15 @@ abbrev pub by_class : HeadClass → ℕ → List ℕ → Option (LexemeForm × L
 by_class LetterBHead c t =
     cond (slice_index t 0 == code "\"") (literal_at (quoted_at (drop 1 t)))
     (cond (slice_index t 0 == code "'") (literal_at (single_at (drop 1 t)))
-    (cond (slice_index t 0 == code "r"
-    && begins_hashed_quote (drop 1 t)) (literal_at (raw_at (drop 1 t))) (word_at t)))
+    (cond (slice_index t 0 == code "r" && begins_hashed_quote (drop 1 t))
+    (literal_at (raw_at (drop 1 t))) (word_at t)))
 by_class LetterCHead c t =
     cond (slice_index t 0 == code "\"") (literal_at (quoted_at (drop 1 t)))
-    (cond (slice_index t 0 == code "r"
-    && begins_hashed_quote (drop 1 t)) (literal_at (raw_at (drop 1 t))) (word_at t))
+    (cond (slice_index t 0 == code "r" && begins_hashed_quote (drop 1 t))
+    (literal_at (raw_at (drop 1 t))) (word_at t))
 by_class LetterRHead c t =
-    cond (begins_hashed_quote t) (literal_at (raw_at t)) (cond (slice_index t 0 == code "#"
-    && first_passes is_start (drop 1 t)) None (word_at t))
+    cond (begins_hashed_quote t) (literal_at (raw_at t))
+    (cond (slice_index t 0 == code "#" && first_passes is_start (drop 1 t)) None (word_at t))
 by_class OtherLetterHead c t = word_at t
 by_class QuoteHead c t = literal_at (quoted_at t)
 by_class ApostropheHead c t = literal_at (single_at t)

@@ -11,13 +11,12 @@ abbrev pub after_block : ℕ → List ℕ → Option (List ℕ)
 after_block depth [] = None
 after_block depth (c ∷ []) = None
 after_block zero (c ∷ e ∷ t) =
-    cond (c == code "*"
-    && e == code "/") (Some t) (cond (c == code "/"
-    && e == code "*") (after_block 1 t) (after_block 0 (e ∷ t)))
+    cond (c == code "*" && e == code "/") (Some t)
+    (cond (c == code "/" && e == code "*") (after_block 1 t) (after_block 0 (e ∷ t)))
 after_block (suc d) (c ∷ e ∷ t) =
-    cond (c == code "*"
-    && e == code "/") (after_block d t) (cond (c == code "/"
-    && e == code "*") (after_block (suc (suc d)) t) (after_block (suc d) (e ∷ t)))
+    cond (c == code "*" && e == code "/") (after_block d t)
+    (cond (c == code "/" && e == code "*") (after_block (suc (suc d)) t)
+    (after_block (suc d) (e ∷ t)))
 
 -- What follows the first LF.
 abbrev pub after_line : List ℕ → List ℕ
