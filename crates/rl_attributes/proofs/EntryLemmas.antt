@@ -68,7 +68,7 @@ at_next trees entries more old new rest next entry at some n anew read adds left
 pub at_end : {A S : Type 0} (trees : List Tree) (entries : List (Entry A)) (names : HashSet (Bor (List ℕ)) S) (rest : List Tree) → IsAt trees entries names rest → rest ≡ [] → AreEntries trees entries
 at_end trees entries names rest at e = record { are = record { listed = taken_all trees (attributes_of entries) rest at.taken e; differ = at.differ }; read = at.read }
 
--- want of memory for what a name begins
+-- running out of memory for what a name begins
 pub at_memory : {A B S : Type 0} (trees : List Tree) (entries : List (Entry A)) (names : HashSet (Bor (List ℕ)) S) (rest : List Tree) (e : Error B) → IsAt trees entries names rest → rest ≢ [] → LacksMemoryInStep rest e → LacksMemoryInStep trees e
 at_memory trees entries names rest e at some w = record { begun = taken_begins trees (attributes_of entries) rest at.taken some w.begun; memory = w.memory }
 
@@ -99,9 +99,9 @@ value_refused seen trees at_equals at_literal after scope was name e begun equal
       }))));
     })
 
--- ---- want of memory is told at the first tree
+-- ---- running out of memory is reported at the first tree
 
--- no word that was missed is want of memory
+-- no refusal by a missed word is for running out of memory
 no_word : (A : Type 0) (trees : List Tree) (word : List ℕ) → MissesWord {A = A} trees word Memory → ⊥
 no_word A [] word h = h
 no_word A (t ∷ ts) word h = h
@@ -119,7 +119,7 @@ no_memory {A = A} seen trees scope e r m =
       | inr (inr (inr (inr w))) ↦ no_refusal w.behind scope _ e w.refusal m
     ]
 
--- what isn't want of memory stays as it is
+-- what isn't for running out of memory stays as it is
 stays : {A : Type 0} (kind : ErrorKind A) (span place : Span) → (kind ≡ Memory → ⊥) → kind_reported_at kind span place ≡ record { span = span; kind = kind }
 stays (Expected w) span place h = refl
 stays (EndOfInput w) span place h = refl

@@ -19,7 +19,8 @@ pub record AreEntries {A : Type 0} (trees : List Tree) (entries : List (Entry A)
   pub read : All IsReadEntry entries
 
 -- what the parser of attributes does: it takes all trees, or refuses them, and they stay
-abbrev pub RunsAttrs : {A : Type 0} → List Tree → Span → Result (Attrs A) (Error A) → List Tree → Type 0
+abbrev pub RunsAttrs : {A : Type 0} → List Tree → Span → Result (Attrs A) (Error A) → List Tree
+    → Type 0
 RunsAttrs trees scope (Ok attrs) rest = AreEntries trees (entries_of attrs) × (rest ≡ [])
 RunsAttrs trees scope (Err e) rest = RefusesAttributeTrees trees scope e × (rest ≡ trees)
 

@@ -1,5 +1,6 @@
 -- The steps of the parser of attributes, and the names that it keeps.
 use Rattle.std.specs.Prelude.{◌≡◌, ◌⊎◌, ℕ, Bool, true, List, [], IsTrue, cond}
+use Prim.Native.Char.{code}
 use Rattle.std.specs.HashSet.{HashSet, contains_by}
 use Rattle.std.specs.Str.{bytes_eq}
 use denote.Ref.{Bor}
@@ -17,14 +18,16 @@ abbrev pub has_name : {S : Type 0} → HashSet (Bor (List ℕ)) S → List ℕ �
 has_name names name = contains_by (λ k. bytes_eq name k.now) names
 
 -- the set has this name, and else those that it had
-abbrev pub AddsName : {S : Type 0} → HashSet (Bor (List ℕ)) S → HashSet (Bor (List ℕ)) S → List ℕ → Type 0
-AddsName old new name = (other : List ℕ) → has_name new other ≡ cond (bytes_eq name other) true (has_name old other)
+abbrev pub AddsName : {S : Type 0} → HashSet (Bor (List ℕ)) S → HashSet (Bor (List ℕ)) S → List ℕ
+    → Type 0
+AddsName old new name =
+    (other : List ℕ) → has_name new other ≡ cond (bytes_eq name other) true (has_name old other)
 
 -- The attribute begins the trees, and behind it stands a comma and the rest, or nothing.
 pub record IsNext (trees : List Tree) (attribute : Attribute) (rest : List Tree) : Type 0 where
   pub behind : List Tree
   pub is : IsAttribute trees attribute behind
-  pub comma : IsBehindMark 44 behind rest ⊎ ((behind ≡ []) × (rest ≡ []))
+  pub comma : IsBehindMark (code ",") behind rest ⊎ ((behind ≡ []) × (rest ≡ []))
 
 -- A name begins the trees, and memory was refused, wherever this is told.
 pub record LacksMemoryInStep {A : Type 0} (trees : List Tree) (e : Error A) : Type 0 where
@@ -35,7 +38,7 @@ pub record LacksMemoryInStep {A : Type 0} (trees : List Tree) (e : Error A) : Ty
 abbrev pub RefusesStep : {A : Type 0} → (List ℕ → Bool) → List Tree → Span → Error A → Type 0
 RefusesStep seen trees scope e = LacksMemoryInStep trees e ⊎ RefusesNextAttribute seen trees scope e
 
--- the refusal of this kind and span, but want of memory at that place
+-- the refusal of this kind and span, but running out of memory at that place
 abbrev pub kind_reported_at : {A : Type 0} → ErrorKind A → Span → Span → Error A
 kind_reported_at Memory span place = memory_at place
 kind_reported_at kind span place = record { span = span; kind = kind }

@@ -1,6 +1,6 @@
--- Attributes: names that are set to literals, with commas between. 61 is the character `=`, 44 a comma. Texts are lists of
--- characters.
+-- Attributes: names that are set to literals, with commas between. Texts are lists of characters.
 use Rattle.std.specs.Prelude.{◌≡◌, ◌≢◌, ◌⊎◌, ℕ, Bool, List, [], ◌∷◌, map, IsTrue, IsFalse, codes}
+use Prim.Native.Char.{code}
 use Rattle.std.specs.List.{list_any, IsDistinct}
 use Rattle.std.specs.Str.{bytes_eq}
 use Rattle.rl_tokens.specs.declared.span.Span.{Span}
@@ -26,15 +26,17 @@ pub record IsAttribute (trees : List Tree) (attribute : Attribute) (rest : List 
   pub at_equals : List Tree
   pub at_literal : List Tree
   pub named : trees ≡ IdentTree attribute.name ∷ at_equals
-  pub equals : IsBehindMark 61 at_equals at_literal
+  pub equals : IsBehindMark (code "=") at_equals at_literal
   pub set : IsFront at_literal attribute.literal rest
 
--- The trees are these attributes, whatever their names: no trees; or an attribute; or an attribute, a comma, and the
--- attributes of the rest.
+-- The trees are these attributes, whatever their names: no trees; or an attribute; or an attribute,
+-- a comma, and the attributes of the rest.
 abbrev pub AreListed : List Tree → List Attribute → Type 0
 AreListed trees [] = trees ≡ []
 AreListed trees (a ∷ others) =
-    (behind : List Tree) × IsAttribute trees a behind × (((behind ≡ []) × (others ≡ [])) ⊎ ((rest : List Tree) × IsBehindMark 44 behind rest × AreListed rest others))
+    (behind : List Tree) × IsAttribute trees a behind
+    × (((behind ≡ []) × (others ≡ []))
+    ⊎ ((rest : List Tree) × IsBehindMark (code ",") behind rest × AreListed rest others))
 
 -- the texts of the names
 abbrev pub names_of : List Attribute → List (List ℕ)
@@ -59,11 +61,12 @@ pub record AreAttributesOf (text : List ℕ) (file : ℕ) (list : List Attribute
   pub lexes : Lexes text file trees
   pub are : AreAttributes trees list
 
--- ---- refusals, from left to right: an identifier, whether its name stood before, `=`, a literal, then the end or a comma.
--- `seen` tells which names stood before.
+-- ---- refusals, from left to right: an identifier, whether its name stood before, `=`, a literal,
+-- then the end or a comma. `seen` tells which names stood before.
 
 -- An identifier begins the trees, and its name is new.
-pub record HasNewName (seen : List ℕ → Bool) (trees : List Tree) (name : SpannedText) (behind : List Tree) : Type 0 where
+pub record HasNewName (seen : List ℕ → Bool) (trees : List Tree) (name : SpannedText)
+    (behind : List Tree) : Type 0 where
   pub named : trees ≡ IdentTree name ∷ behind
   pub anew : IsFalse (seen name.text)
 
@@ -72,8 +75,9 @@ pub record MissesName {A : Type 0} (trees : List Tree) (scope : Span) (e : Error
   pub none : IsFalse (begins_ident trees)
   pub refusal : IsRefusal trees scope (codes "identifier") e
 
--- An identifier begins the trees whose name stood before: this is told at it.
-pub record RepeatsName {A : Type 0} (seen : List ℕ → Bool) (trees : List Tree) (e : Error A) : Type 0 where
+-- An identifier begins the trees whose name stood before: this is reported at it.
+pub record RepeatsName {A : Type 0} (seen : List ℕ → Bool) (trees : List Tree) (e : Error A)
+    : Type 0 where
   pub name : SpannedText
   pub behind : List Tree
   pub named : trees ≡ IdentTree name ∷ behind
@@ -81,46 +85,54 @@ pub record RepeatsName {A : Type 0} (seen : List ℕ → Bool) (trees : List Tre
   pub error : e ≡ record { span = name.span; kind = Repeated }
 
 -- A new name begins the trees, and no `=` stands behind it.
-pub record MissesEquals {A : Type 0} (seen : List ℕ → Bool) (trees : List Tree) (scope : Span) (e : Error A) : Type 0 where
+pub record MissesEquals {A : Type 0} (seen : List ℕ → Bool) (trees : List Tree) (scope : Span)
+    (e : Error A) : Type 0 where
   pub name : SpannedText
   pub behind : List Tree
   pub begun : HasNewName seen trees name behind
-  pub none : IsFalse (begins_mark 61 behind)
+  pub none : IsFalse (begins_mark (code "=") behind)
   pub refusal : IsRefusal behind scope (codes "`=`") e
 
 -- A new name and `=` begin the trees, and no literal stands behind them.
-pub record MissesLiteral {A : Type 0} (seen : List ℕ → Bool) (trees : List Tree) (scope : Span) (e : Error A) : Type 0 where
+pub record MissesLiteral {A : Type 0} (seen : List ℕ → Bool) (trees : List Tree) (scope : Span)
+    (e : Error A) : Type 0 where
   pub name : SpannedText
   pub at_equals : List Tree
   pub at_literal : List Tree
   pub begun : HasNewName seen trees name at_equals
-  pub equals : IsBehindMark 61 at_equals at_literal
+  pub equals : IsBehindMark (code "=") at_equals at_literal
   pub none : HasNoFront at_literal
   pub refusal : IsRefusal at_literal scope (codes "literal") e
 
 -- An attribute with a new name begins the trees, and something stands behind it that is no comma.
-pub record MissesComma {A : Type 0} (seen : List ℕ → Bool) (trees : List Tree) (scope : Span) (e : Error A) : Type 0 where
+pub record MissesComma {A : Type 0} (seen : List ℕ → Bool) (trees : List Tree) (scope : Span)
+    (e : Error A) : Type 0 where
   pub attribute : Attribute
   pub behind : List Tree
   pub is : IsAttribute trees attribute behind
   pub anew : IsFalse (seen attribute.name.text)
   pub some : behind ≢ []
-  pub none : IsFalse (begins_mark 44 behind)
+  pub none : IsFalse (begins_mark (code ",") behind)
   pub refusal : IsRefusal behind scope (codes "`,`") e
 
--- The trees don't begin with an attribute whose name is new, and with a comma or the end behind it: the first of these
--- that is missed.
-pub record RefusesNextAttribute {A : Type 0} (seen : List ℕ → Bool) (trees : List Tree) (scope : Span) (e : Error A) : Type 0 where
-  pub why : MissesName trees scope e ⊎ RepeatsName seen trees e ⊎ MissesEquals seen trees scope e ⊎ MissesLiteral seen trees scope e ⊎ MissesComma seen trees scope e
+-- The trees don't begin with an attribute whose name is new, and with a comma or the end behind it:
+-- the first of these that is missed.
+pub record RefusesNextAttribute {A : Type 0} (seen : List ℕ → Bool) (trees : List Tree)
+    (scope : Span) (e : Error A) : Type 0 where
+  pub why : MissesName trees scope e ⊎ RepeatsName seen trees e ⊎ MissesEquals seen trees scope e
+      ⊎ MissesLiteral seen trees scope e ⊎ MissesComma seen trees scope e
 
 -- These attributes begin the trees, each with a comma behind it, and the rest stands behind them.
 abbrev pub StandBefore : List Tree → List Attribute → List Tree → Type 0
 StandBefore trees [] rest = trees ≡ rest
 StandBefore trees (a ∷ others) rest =
-    (behind next : List Tree) × IsAttribute trees a behind × IsBehindMark 44 behind next × StandBefore next others rest
+    (behind next : List Tree) × IsAttribute trees a behind × IsBehindMark (code ",") behind next
+    × StandBefore next others rest
 
--- The trees are no attributes: attributes, whose names differ, lead to trees that don't go on as attributes do.
-pub record RefusesAttributes {A : Type 0} (trees : List Tree) (scope : Span) (e : Error A) : Type 0 where
+-- The trees are no attributes: attributes, whose names differ, lead to trees that don't go on as
+-- attributes do.
+pub record RefusesAttributes {A : Type 0} (trees : List Tree) (scope : Span) (e : Error A)
+    : Type 0 where
   pub earlier : List Attribute
   pub rest : List Tree
   pub stand : StandBefore trees earlier rest
@@ -129,21 +141,25 @@ pub record RefusesAttributes {A : Type 0} (trees : List Tree) (scope : Span) (e 
   pub refused : RefusesNextAttribute (λ name. is_named name earlier) rest scope e
   pub none : (list : List Attribute) → AreAttributes trees list → ⊥
 
--- A name begins the trees, and memory was refused: this is told at the name.
-pub record LacksMemoryForName {A : Type 0} (trees : List Tree) (scope : Span) (e : Error A) : Type 0 where
+-- A name begins the trees, and memory was refused: this is reported at the name.
+pub record LacksMemoryForName {A : Type 0} (trees : List Tree) (scope : Span) (e : Error A)
+    : Type 0 where
   pub begun : IsTrue (begins_ident trees)
   pub error : e ≡ memory_at (first_span trees scope)
 
 -- what is refused of trees
 abbrev pub RefusesAttributeTrees : {A : Type 0} → List Tree → Span → Error A → Type 0
-RefusesAttributeTrees trees scope e = LacksMemoryForName trees scope e ⊎ RefusesAttributes trees scope e
+RefusesAttributeTrees trees scope e =
+    LacksMemoryForName trees scope e ⊎ RefusesAttributes trees scope e
 
 -- The text is cut into trees, and this is refused of them.
-pub record RefusesLexedAttributes {A : Type 0} (text : List ℕ) (file end : ℕ) (e : Error A) : Type 0 where
+pub record RefusesLexedAttributes {A : Type 0} (text : List ℕ) (file end : ℕ) (e : Error A)
+    : Type 0 where
   pub trees : List Tree
   pub lexes : Lexes text file trees
   pub refused : RefusesAttributeTrees trees (place_at file end) e
 
 -- what is refused of a text that ends at this byte
 abbrev pub RefusesAttributeText : {A : Type 0} → List ℕ → ℕ → ℕ → Error A → Type 0
-RefusesAttributeText text file end e = RefusesLexing text file e ⊎ RefusesLexedAttributes text file end e
+RefusesAttributeText text file end e =
+    RefusesLexing text file e ⊎ RefusesLexedAttributes text file end e

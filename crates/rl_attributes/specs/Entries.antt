@@ -7,7 +7,11 @@ use Rattle.rl_attributes.specs.Attributes.{Attribute, NamesDiffer}
 
 -- the attribute that an entry holds
 abbrev pub attribute_of : {A : Type 0} → Entry A → Attribute
-attribute_of entry = record { name = record { text = string_bytes entry.name; span = entry.span }; literal = token_of entry.value }
+attribute_of entry =
+    record {
+      name = record { text = string_bytes entry.name; span = entry.span };
+      literal = token_of entry.value;
+    }
 
 abbrev pub attributes_of : {A : Type 0} → List (Entry A) → List Attribute
 attributes_of entries = map attribute_of entries

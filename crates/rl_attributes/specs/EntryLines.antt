@@ -1,6 +1,7 @@
--- The lines of attributes: of each its name, a space, and its literal's line. 32 is a space. Texts and lines are lists of
--- characters.
+-- The lines of attributes: of each its name, a space, and its literal's line. Texts and lines are
+-- lists of characters.
 use Rattle.std.specs.Prelude.{◌≡◌, ℕ, List, ◌∷◌, ◌++◌, string_bytes}
+use Prim.Native.Char.{code}
 use Rattle.std.specs.Str.{chars}
 use Rattle.rl_lines.specs.Lines.{IsLineOf, IsLineOfLit, Joins}
 use Rattle.rl_attributes.specs.declared.attributes.Entry.{Entry}
@@ -8,7 +9,9 @@ use Rattle.rl_attributes.specs.Attributes.{Attribute, AreAttributesOf}
 
 -- an attribute's line
 abbrev pub IsAttributeLine : Attribute → List ℕ → Type 0
-IsAttributeLine a shown = (line : List ℕ) × IsLineOf (chars a.literal.text) line × (shown ≡ chars a.name.text ++ (32 ∷ line))
+IsAttributeLine a shown =
+    (line : List ℕ) × IsLineOf (chars a.literal.text) line
+    × (shown ≡ chars a.name.text ++ (code " " ∷ line))
 
 -- the lines of these attributes, one after another
 abbrev pub AreAttributeLines : List Attribute → List ℕ → Type 0
@@ -24,7 +27,9 @@ pub record ShowsAttributes (text shown : List ℕ) : Type 0 where
 
 -- an entry's line
 abbrev pub IsLineOfEntry : {A : Type 0} → Entry A → List ℕ → Type 0
-IsLineOfEntry entry shown = (line : List ℕ) × IsLineOfLit entry.value line × (shown ≡ chars (string_bytes entry.name) ++ (32 ∷ line))
+IsLineOfEntry entry shown =
+    (line : List ℕ) × IsLineOfLit entry.value line
+    × (shown ≡ chars (string_bytes entry.name) ++ (code " " ∷ line))
 
 -- the lines of entries, one after another
 abbrev pub AreLinesOfEntries : {A : Type 0} → List (Entry A) → List ℕ → Type 0

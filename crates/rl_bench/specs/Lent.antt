@@ -11,22 +11,28 @@ use Rattle.rl_grammar.specs.WholeShapes.{IsSplit}
 use Rattle.rl_bench.specs.Sizes.{HasSize}
 use Rattle.rl_bench.specs.Weights.{weight_of}
 
--- The text, in bytes, is an integer whose digits spell this number, but for what 64 bits don't hold.
+-- The text, in bytes, is an integer whose digits spell this number, but for what 64 bits don't
+-- hold.
 abbrev pub HasLowMagnitude : List ℕ → ℕ → Type 0
-HasLowMagnitude text n = (magnitude : ℕ) × (suffix : List ℕ) × HasMagnitude (chars text) magnitude suffix × (n ≡ magnitude % 2 ^ 64)
+HasLowMagnitude text n =
+    (magnitude : ℕ) × (suffix : List ℕ) × HasMagnitude (chars text) magnitude suffix
+    × (n ≡ magnitude % 2 ^ 64)
 
 -- The text, in bytes, is a float whose numeral, all before its suffix, has this many bytes.
 abbrev pub HasNumeral : List ℕ → ℕ → Type 0
 HasNumeral text n =
-    (numeral : List ℕ) × (suffix : List ℕ) × HasSuffix Float (chars text) (chars suffix) × IsSplit Float text numeral suffix × (n ≡ length numeral)
+    (numeral : List ℕ) × (suffix : List ℕ) × HasSuffix Float (chars text) (chars suffix)
+    × IsSplit Float text numeral suffix × (n ≡ length numeral)
 
--- What is lent of a literal of the kind: an integer's magnitude, a float's numeral, any other's contents.
+-- What is lent of a literal of the kind: an integer's magnitude, a float's numeral, any other's
+-- contents.
 abbrev pub IsLent : Kind → List ℕ → ℕ → Type 0
 IsLent Int text n = HasLowMagnitude text n
 IsLent Float text n = HasNumeral text n
 IsLent kind text n = HasSize kind (chars text) n
 
--- The text, in bytes, reads as this kind of literal, of this weight by its kind, what is lent of it, and its suffix.
+-- The text, in bytes, reads as this kind of literal, of this weight by its kind, what is lent of
+-- it, and its suffix.
 pub record IsLentWeight (kind : Kind) (text : List ℕ) (weight : ℕ) : Type 0 where
   pub size : ℕ
   pub suffix : List ℕ
@@ -36,4 +42,5 @@ pub record IsLentWeight (kind : Kind) (text : List ℕ) (weight : ℕ) : Type 0 
 
 -- the weight of a text by what is lent; a text that is no literal weighs nothing
 abbrev pub HasLentWeight : List ℕ → ℕ → Type 0
-HasLentWeight text weight = ((kind : Kind) × IsLentWeight kind text weight) ⊎ (HasNoReading (chars text) × (weight ≡ 0))
+HasLentWeight text weight =
+    ((kind : Kind) × IsLentWeight kind text weight) ⊎ (HasNoReading (chars text) × (weight ≡ 0))

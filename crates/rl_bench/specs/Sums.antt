@@ -15,7 +15,8 @@ abbrev pub HasNoTextAt : List ℕ → ℕ → ℕ → Type 0
 HasNoTextAt corpus lo hi = (text : List ℕ) → IsTextAt corpus lo hi text → ⊥
 
 -- a text of this weight stands there
-pub record HasWeightAt (weighs : List ℕ → ℕ → Type 0) (corpus : List ℕ) (lo hi weight : ℕ) : Type 0 where
+pub record HasWeightAt (weighs : List ℕ → ℕ → Type 0) (corpus : List ℕ) (lo hi weight : ℕ)
+    : Type 0 where
   pub text : List ℕ
   pub is_text : IsTextAt corpus lo hi text
   pub weight_is : weighs text weight
@@ -27,17 +28,21 @@ added a b = (a + b) % 2 ^ 64
 -- what stands there adds to the first sum and makes the second
 abbrev pub Adds : (List ℕ → ℕ → Type 0) → List ℕ → ℕ → ℕ → ℕ → ℕ → Type 0
 Adds weighs corpus lo hi before after =
-    ((weight : ℕ) × HasWeightAt weighs corpus lo hi weight × (after ≡ added before weight)) ⊎ (HasNoTextAt corpus lo hi × (after ≡ before))
+    ((weight : ℕ) × HasWeightAt weighs corpus lo hi weight × (after ≡ added before weight))
+    ⊎ (HasNoTextAt corpus lo hi × (after ≡ before))
 
 -- a text of this weight stands there, or none, which weighs nothing
 abbrev pub WeighsAt : (List ℕ → ℕ → Type 0) → List ℕ → ℕ → ℕ → ℕ → Type 0
-WeighsAt weighs corpus lo hi weight = HasWeightAt weighs corpus lo hi weight ⊎ (HasNoTextAt corpus lo hi × (weight ≡ 0))
+WeighsAt weighs corpus lo hi weight =
+    HasWeightAt weighs corpus lo hi weight ⊎ (HasNoTextAt corpus lo hi × (weight ≡ 0))
 
--- the weights of the texts that end at these places, one behind another, the first from the place on
+-- the weights of the texts that end at these places, one behind another, the first from the place
+-- on
 abbrev pub AreWeights : (List ℕ → ℕ → Type 0) → List ℕ → ℕ → List ℕ → List ℕ → Type 0
 AreWeights weighs corpus lo [] weights = weights ≡ []
 AreWeights weighs corpus lo (hi ∷ ends) weights =
-    (weight : ℕ) × (others : List ℕ) × WeighsAt weighs corpus lo hi weight × AreWeights weighs corpus hi ends others × (weights ≡ weight ∷ others)
+    (weight : ℕ) × (others : List ℕ) × WeighsAt weighs corpus lo hi weight
+    × AreWeights weighs corpus hi ends others × (weights ≡ weight ∷ others)
 
 -- This is the sum of the weights of all texts, modulo 2 to the 64th.
 pub record IsSum (weighs : List ℕ → ℕ → Type 0) (corpus ends : List ℕ) (total : ℕ) : Type 0 where

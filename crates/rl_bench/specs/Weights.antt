@@ -34,7 +34,8 @@ kind_number Bool = 8
 abbrev pub weight_of : Kind → ℕ → ℕ → ℕ
 weight_of kind first second = added (added (kind_number kind) first) second
 
--- The text reads as a literal, of this weight by its kind and the lengths of its body and suffix in bytes.
+-- The text reads as a literal, of this weight by its kind and the lengths of its body and suffix in
+-- bytes.
 pub record IsShapeWeight (text : List ℕ) (weight : ℕ) : Type 0 where
   pub kind : Kind
   pub contents : Contents
@@ -55,7 +56,8 @@ size (Bytes bs) = length bs
 size (Digits ds) = byte_len ds
 size (Truth b) = 0
 
--- The characters read as this kind of literal, of this weight by its kind and the lengths of its contents and suffix.
+-- The characters read as this kind of literal, of this weight by its kind and the lengths of its
+-- contents and suffix.
 pub record IsValueWeight (kind : Kind) (text : List ℕ) (weight : ℕ) : Type 0 where
   pub contents : Contents
   pub suffix : List ℕ
@@ -65,16 +67,21 @@ pub record IsValueWeight (kind : Kind) (text : List ℕ) (weight : ℕ) : Type 0
 
 -- the weight of a text by its value; a text that is no literal weighs nothing
 abbrev pub HasValueWeight : List ℕ → ℕ → Type 0
-HasValueWeight text weight = ((kind : Kind) × IsValueWeight kind (chars text) weight) ⊎ (HasNoReading (chars text) × (weight ≡ 0))
+HasValueWeight text weight =
+    ((kind : Kind) × IsValueWeight kind (chars text) weight)
+    ⊎ (HasNoReading (chars text) × (weight ≡ 0))
 
 -- this many tokens can be cut off the text, until none begins what is left
 abbrev pub HasTokenCount : List ℕ → ℕ → Type 0
-HasTokenCount text count = (cuts : List LexedToken) × (rest : List ℕ) × LexesUpTo 0 (chars text) cuts rest × BeginsNoLexeme rest × (count ≡ length cuts)
+HasTokenCount text count =
+    (cuts : List LexedToken) × (rest : List ℕ) × LexesUpTo 0 (chars text) cuts rest
+    × BeginsNoLexeme rest × (count ≡ length cuts)
 
 -- a text is cut into this many trees, groups as one; or it has a fault, and none
 abbrev pub HasTreeCount : List ℕ → ℕ → Type 0
 HasTreeCount text count =
-    ((trees : List Tree) × Lexes (chars text) 0 trees × (count ≡ length trees)) ⊎ ((kind : LexKind) × (at : ℕ) × Fault (chars text) kind at × (count ≡ 0))
+    ((trees : List Tree) × Lexes (chars text) 0 trees × (count ≡ length trees))
+    ⊎ ((kind : LexKind) × (at : ℕ) × Fault (chars text) kind at × (count ≡ 0))
 
 -- a text is read as this many literals; or it is refused, for another reason than memory, and none
 abbrev pub HasLiteralCount : (A : Type 0) → List ℕ → ℕ → Type 0
@@ -82,8 +89,11 @@ HasLiteralCount A text count =
     ((list : List (Lit A)) × AreRead (chars text) 0 list × (count ≡ length list))
     ⊎ ((e : Error A) × RefusesText (chars text) 0 (length text) e × (e.kind ≢ Memory) × (count ≡ 0))
 
--- a text is read as this many attributes; or it is refused, for another reason than memory, and none
+-- a text is read as this many attributes; or it is refused, for another reason than memory, and
+-- none
 abbrev pub HasAttributeCount : (A : Type 0) → List ℕ → ℕ → Type 0
 HasAttributeCount A text count =
-    ((entries : List (Entry A)) × AreAttributesOf (chars text) 0 (attributes_of entries) × All IsReadEntry entries × (count ≡ length entries))
-    ⊎ ((e : Error A) × RefusesAttributes (chars text) 0 (length text) e × (e.kind ≢ Memory) × (count ≡ 0))
+    ((entries : List (Entry A)) × AreAttributesOf (chars text) 0 (attributes_of entries)
+    × All IsReadEntry entries × (count ≡ length entries))
+    ⊎ ((e : Error A) × RefusesAttributes (chars text) 0 (length text) e × (e.kind ≢ Memory)
+    × (count ≡ 0))

@@ -1,5 +1,7 @@
--- What is printed for a line of input. Lines and what is printed are lists of bytes, texts lists of characters.
+-- What is printed for a line of input. Lines and what is printed are lists of bytes, texts lists of
+-- characters.
 use Rattle.std.specs.Prelude.{◌≡◌, ◌≢◌, ◌⊎◌, ℕ, ◌==◌, List, ◌++◌, length, Option, Some, None, codes}
+use Prim.Native.Char.{code}
 use Rattle.std.specs.List.{before_first, after_first}
 use Rattle.std.specs.Str.{chars, IsUtf8}
 use Rattle.std.specs.Fmt.{decimal}
@@ -25,7 +27,8 @@ use Rattle.rl_bulk.specs.Spans.{IsSpansAnswer}
 -- the line of the text as an integer, or why it is none
 abbrev pub IsIntegerAnswer : List ℕ → List ℕ → Type 0
 IsIntegerAnswer text out =
-    IsLineOfKind IntKind text (chars out) ⊎ (HasNoInteger text × (out ≡ codes "None\n")) ⊎ (IsPast text × (out ≡ codes "TooLarge\n"))
+    IsLineOfKind IntKind text (chars out) ⊎ (HasNoInteger text × (out ≡ codes "None\n"))
+    ⊎ (IsPast text × (out ≡ codes "TooLarge\n"))
 
 -- the line of the text as a float, or that it is none
 abbrev pub IsFloatAnswer : List ℕ → List ℕ → Type 0
@@ -33,11 +36,13 @@ IsFloatAnswer text out = IsLineOfFloat text (chars out) ⊎ (HasNoFloat text × 
 
 -- how many bytes stand behind white space and comments
 abbrev pub IsSkipAnswer : List ℕ → List ℕ → Type 0
-IsSkipAnswer text out = (rest : List ℕ) × Skipped text rest × (out ≡ decimal (byte_len rest) ++ codes "\n")
+IsSkipAnswer text out =
+    (rest : List ℕ) × Skipped text rest × (out ≡ decimal (byte_len rest) ++ codes "\n")
 
 -- whether the text is a token of the strict grammar
 abbrev pub IsStrictAnswer : List ℕ → List ℕ → Type 0
-IsStrictAnswer text out = (IsToken text × (out ≡ codes "true\n")) ⊎ ((IsToken text → ⊥) × (out ≡ codes "false\n"))
+IsStrictAnswer text out =
+    (IsToken text × (out ≡ codes "true\n")) ⊎ ((IsToken text → ⊥) × (out ≡ codes "false\n"))
 
 -- the lines of the literals that the bytes' text is, and one with a point, or those of its refusal
 abbrev pub IsReadAnswer : Type 0 → List ℕ → List ℕ → Type 0
@@ -45,11 +50,13 @@ IsReadAnswer A bytes out =
     ((lines : List ℕ) × AreLinesOfText (chars bytes) lines × (chars out ≡ lines ++ codes ".\n"))
     ⊎ ((e : Error A) × RefusesText (chars bytes) 0 (length bytes) e × (out ≡ refusal_lines e))
 
--- the lines of the attributes that the bytes' text is, and one with a point, or those of its refusal
+-- the lines of the attributes that the bytes' text is, and one with a point, or those of its
+-- refusal
 abbrev pub IsAttributesAnswer : Type 0 → List ℕ → List ℕ → Type 0
 IsAttributesAnswer A bytes out =
     ((lines : List ℕ) × ShowsAttributes (chars bytes) lines × (chars out ≡ lines ++ codes ".\n"))
-    ⊎ ((e : Error A) × RefusesAttributeText (chars bytes) 0 (length bytes) e × (out ≡ refusal_lines e))
+    ⊎ ((e : Error A) × RefusesAttributeText (chars bytes) 0 (length bytes) e
+    × (out ≡ refusal_lines e))
 
 -- what a command answers to the bytes of a text
 abbrev pub Answers : Type 0 → Command → List ℕ → List ℕ → Type 0
@@ -67,10 +74,13 @@ Answers A Attr bytes out = IsAttributesAnswer A bytes out
 abbrev pub AnswersBytes : Type 0 → Command → Option (List ℕ) → List ℕ → Type 0
 AnswersBytes A command None out = out ≡ codes "error: input is not hexadecimal\n"
 AnswersBytes A command (Some bytes) out =
-    (IsUtf8 bytes × Answers A command bytes out) ⊎ ((IsUtf8 bytes → ⊥) × (out ≡ codes "error: input is not UTF-8\n"))
+    (IsUtf8 bytes × Answers A command bytes out)
+    ⊎ ((IsUtf8 bytes → ⊥) × (out ≡ codes "error: input is not UTF-8\n"))
 
 -- the answer to a line: to the digits behind its first space, by the command before it
 abbrev pub IsAnswerOf : Type 0 → List ℕ → List ℕ → Type 0
 IsAnswerOf A line out =
-    ((command : Command) × (before_first (λ b. b == 32) line ≡ name_of command) × AnswersBytes A command (bytes_of (after_first (λ b. b == 32) line)) out)
-    ⊎ (((command : Command) → before_first (λ b. b == 32) line ≢ name_of command) × (out ≡ codes "error: no command\n"))
+    ((command : Command) × (before_first (λ b. b == code " ") line ≡ name_of command)
+    × AnswersBytes A command (bytes_of (after_first (λ b. b == code " ") line)) out)
+    ⊎ (((command : Command) → before_first (λ b. b == code " ") line ≢ name_of command)
+    × (out ≡ codes "error: no command\n"))

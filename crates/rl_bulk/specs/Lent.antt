@@ -1,4 +1,5 @@
--- What a text stands for as a literal, where that is its body, byte for byte. Texts and lines are lists of bytes.
+-- What a text stands for as a literal, where that is its body, byte for byte. Texts and lines are
+-- lists of bytes.
 use Rattle.std.specs.Prelude.{◌≡◌, ◌⊎◌, ℕ, List, ◌++◌, codes, encode_utf8_all}
 use Rattle.std.specs.Str.{chars}
 use Rattle.rl_tokens.specs.declared.kind.Kind.{Kind}
@@ -21,7 +22,8 @@ lent_contents Int bytes = Digits (chars bytes)
 lent_contents Float bytes = Digits (chars bytes)
 lent_contents _ bytes = Bytes bytes
 
--- The text reads as a kind by which its body is what it stands for, byte for byte, and these are the bytes of that.
+-- The text reads as a kind by which its body is what it stands for, byte for byte, and these are
+-- the bytes of that.
 pub record IsLent (text lent : List ℕ) : Type 0 where
   pub kind : Kind
   pub plain : IsPlain kind text
@@ -33,4 +35,6 @@ lent_line bytes = encode_utf8_all (written_text ByteStr bytes) ++ codes "\n"
 
 -- the line of what the text lends, or that it lends nothing
 abbrev pub IsLentAnswer : List ℕ → List ℕ → Type 0
-IsLentAnswer text out = ((lent : List ℕ) × IsLent text lent × (out ≡ lent_line lent)) ⊎ ((ReadsPlain text → ⊥) × (out ≡ codes "None\n"))
+IsLentAnswer text out =
+    ((lent : List ℕ) × IsLent text lent × (out ≡ lent_line lent))
+    ⊎ ((ReadsPlain text → ⊥) × (out ≡ codes "None\n"))

@@ -21,7 +21,14 @@ kind_name None = codes "Verbatim"
 -- a literal's kind, the bytes where it stands, and its text as a string literal
 abbrev pub span_line : {A : Type 0} → Lit A → List ℕ
 span_line l =
-    kind_name (kind_of l) ++ (codes " " ++ (decimal (lit_span l).lo ++ (codes ".." ++ (decimal (lit_span l).hi ++ (codes " " ++ (encode_utf8_all (written_text Str (chars (token_of l).text)) ++ codes "\n"))))))
+    kind_name (kind_of l)
+    ++ (codes " "
+    ++ (decimal (lit_span l).lo
+    ++ (codes ".."
+    ++ (decimal (lit_span l).hi
+    ++ (codes " "
+    ++ (encode_utf8_all (written_text Str (chars (token_of l).text))
+    ++ codes "\n"))))))
 
 -- one after another
 abbrev pub span_lines : {A : Type 0} → List (Lit A) → List ℕ

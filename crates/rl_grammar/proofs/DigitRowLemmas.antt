@@ -7,8 +7,9 @@ use native.Mathlib.Numerals.{unary_clauses}
 use Rattle.std.specs.Char.{digit_value}
 use Rattle.std.specs.List.{list_any}
 use Rattle.rl_tokens.specs.Quoted.{place_value, without_underscores}
-use Rattle.rl_tokens.specs.Numbers.{limit, is_row_part}
+use Rattle.rl_tokens.specs.Numbers.{limit}
 use Rattle.rl_grammar.specs.Mirrors.NumberAt.{run, after_run, has_value, capped, append_digit, row_from, digit_row_at, has_digit_at, magnitude_at, after_digits}
+use Rattle.rl_tokens.specs.Texts.{is_row_part}
 
 -- within the limit nothing is cut
 pub capped_within : (n : ℕ) → n ≤ limit → capped n ≡ Some n
@@ -94,7 +95,7 @@ at_parts : (r : ℕ) (some : Bool) (v : ℕ) (t ds x : List ℕ) → digit_row_a
 at_parts r some v t ds x d a = ap (λ u. At r some v u x) (sym d) ∙ ap (λ y. At r some v (digit_row_at r t) y) (sym a)
 
 -- an underscore belongs to each row
-part_mark : (r c : ℕ) → (c == 95) ≡ true → is_row_part r c ≡ true
+part_mark : (r c : ℕ) → (c == 95) ≡ true → is_row_part (has_value r) c ≡ true
 part_mark r c h = go (has_value r c)
   where
     go : (b : Bool) → (b || (c == 95)) ≡ true
@@ -102,11 +103,11 @@ part_mark r c h = go (has_value r c)
     go false = h
 
 -- a digit of the base belongs to the row
-part_digit : (r c : ℕ) → nat_lt (digit_value c) r ≡ true → is_row_part r c ≡ true
+part_digit : (r c : ℕ) → nat_lt (digit_value c) r ≡ true → is_row_part (has_value r) c ≡ true
 part_digit r c h = ap (λ b. b || (c == 95)) h
 
 -- nothing else does
-part_none : (r c : ℕ) → (c == 95) ≡ false → nat_lt (digit_value c) r ≡ false → is_row_part r c ≡ false
+part_none : (r c : ℕ) → (c == 95) ≡ false → nat_lt (digit_value c) r ≡ false → is_row_part (has_value r) c ≡ false
 part_none r c n h = ap (λ b. b || (c == 95)) h ∙ n
 
 -- the row read one character after another is the row that stands there
@@ -117,19 +118,19 @@ row_is r some v (c ∷ cs) h k = go (λ s w. row_is r s w cs h k) (c == 95) (nat
   where
     go : ((s : Bool) (w : ℕ) → row_from r s (capped w) cs ≡ At r s w (digit_row_at r cs) (after_digits r cs)) → (u g : Bool) → (c == 95) ≡ u → nat_lt (digit_value c) r ≡ g → cond u (row_from r some (capped v) cs) (cond g (row_from r true (append_digit r (capped v) (digit_value c)) cs) (some, capped v, c ∷ cs)) ≡ At r some v (digit_row_at r (c ∷ cs)) (after_digits r (c ∷ cs))
     go rec true g hu hg =
-        let y = run_yes (is_row_part r) c cs (part_mark r c hu) in
+        let y = run_yes (is_row_part (has_value r)) c cs (part_mark r c hu) in
         rec some v
         ∙ sym (at_mark r some v (digit_row_at r cs) (after_digits r cs) k)
         ∙ ap (λ z. At r some v (z ∷ digit_row_at r cs) (after_digits r cs)) (sym (eqb-true c 95 hu))
         ∙ at_parts r some v (c ∷ cs) (c ∷ digit_row_at r cs) (after_digits r cs) y.0 y.1
     go rec false true hu hg =
-        let y = run_yes (is_row_part r) c cs (part_digit r c hg) in
+        let y = run_yes (is_row_part (has_value r)) c cs (part_digit r c hg) in
         ap (λ m. row_from r true m cs) (append_capped r v (digit_value c) h)
         ∙ rec true (v * r + digit_value c)
         ∙ at_digit r some v c (digit_row_at r cs) (after_digits r cs) hu hg
         ∙ at_parts r some v (c ∷ cs) (c ∷ digit_row_at r cs) (after_digits r cs) y.0 y.1
     go rec false false hu hg =
-        let y = run_no (is_row_part r) c cs (part_none r c hu hg) in
+        let y = run_no (is_row_part (has_value r)) c cs (part_none r c hu hg) in
         at_end r some v (c ∷ cs) ∙ at_parts r some v (c ∷ cs) [] (c ∷ cs) y.0 y.1
 
 -- zero in front adds nothing

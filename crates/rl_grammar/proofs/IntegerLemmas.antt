@@ -5,9 +5,9 @@ use Rattle.std.proofs.lemmas.Bool.Decides.{nat_tests}
 use Rattle.std.specs.Char.{is_ascii_digit}
 use Rattle.std.specs.List.{list_all, list_any}
 use Rattle.std.specs.Prelude.{IsTrue}
-use Rattle.rl_tokens.specs.Texts.{first_passes, begins, xid_ok}
+use Rattle.rl_tokens.specs.Texts.{first_passes, begins, xid_ok, is_row_part}
 use Rattle.rl_tokens.specs.Quoted.{place_value, without_underscores}
-use Rattle.rl_tokens.specs.Numbers.{Base, Binary, Octal, Decimal, Hexadecimal, radix, prefix, Sign, NoSign, Minus, sign_text, begins_base, IsBehindPrefix, IsSuffix, is_exponent_letter, IsExponentSuffix, AllowsSuffix, IntReads, limit, is_row_part}
+use Rattle.rl_tokens.specs.Numbers.{Base, Binary, Octal, Decimal, Hexadecimal, radix, prefix, Sign, NoSign, Minus, sign_text, begins_base, IsBehindPrefix, IsSuffix, is_exponent_letter, IsExponentSuffix, AllowsSuffix, IntReads, limit}
 use Rattle.std.specs.Fmt.{decimal}
 use Rattle.rl_tokens.specs.Reading.{Contents, Digits, HasNoInteger, ReadsInt}
 use Rattle.rl_tokens.proofs.Basics.{any_same, digit_is_ten}
@@ -19,7 +19,7 @@ use Rattle.rl_grammar.proofs.DigitRowLemmas.{within_or_past, capped_within, capp
 use Rattle.rl_grammar.proofs.RunLemmas.{run_all, run_ends, run_join, run_past, suffix_complete, suffix_sound}
 
 -- Exponents in a suffix.
-rest_suffix : (x : List ℕ) → (x ≡ []) ⊎ IsTrue (xid_ok x) → first_passes (is_row_part 10) x ≡ false → is_suffix x ≡ true
+rest_suffix : (x : List ℕ) → (x ≡ []) ⊎ IsTrue (xid_ok x) → first_passes (is_row_part (has_value 10)) x ≡ false → is_suffix x ≡ true
 rest_suffix [] h k = refl
 rest_suffix (c ∷ cs) h k = suffix_complete (c ∷ cs) (h, go (has_value 10 c) k)
   where
@@ -31,7 +31,7 @@ rest_suffix (c ∷ cs) h k = suffix_complete (c ∷ cs) (h, go (has_value 10 c) 
 pub exponent_suffix_complete : (x : List ℕ) → IsExponentSuffix x → is_exponent_suffix x ≡ true
 unfolding is_exponent_suffix
 exponent_suffix_complete x e =
-    let p = run_past (is_row_part 10) e.run e.rest e.each e.whole in
+    let p = run_past (is_row_part (has_value 10)) e.run e.rest e.each e.whole in
     let some : has_digit_at 10 (e.run ++ e.rest) ≡ true = ap (list_any (has_value 10)) p.0 ∙ sym (any_same is_ascii_digit (has_value 10) digit_is_ten e.run) ∙ e.some in
     let ends : is_suffix (after_digits 10 (e.run ++ e.rest)) ≡ true = ap is_suffix p.1 ∙ rest_suffix e.rest e.is_rest e.whole in
     ap is_exponent_suffix e.text_is ∙ and_from (is_exponent_letter e.letter) _ e.is_letter (and_from (has_digit_at 10 (e.run ++ e.rest)) _ some ends)
@@ -48,11 +48,11 @@ exponent_suffix_sound (c ∷ cs) h =
       run = digit_row_at 10 cs;
       rest = after_digits 10 cs;
       is_letter = a.0;
-      each = run_all (is_row_part 10) cs;
+      each = run_all (is_row_part (has_value 10)) cs;
       some = any_same is_ascii_digit (has_value 10) digit_is_ten (digit_row_at 10 cs) ∙ b.0;
-      whole = run_ends (is_row_part 10) cs;
+      whole = run_ends (is_row_part (has_value 10)) cs;
       is_rest = (suffix_sound (after_digits 10 cs) b.1).0;
-      text_is = ap (λ z. c ∷ z) (run_join (is_row_part 10) cs);
+      text_is = ap (λ z. c ∷ z) (run_join (is_row_part (has_value 10)) cs);
     }
 
 -- Completeness.
@@ -100,10 +100,10 @@ base_ends Hexadecimal x h k = and_from (is_suffix x) true (suffix_complete x h) 
 base_ends Decimal x h k = and_from (is_suffix x) (not (is_exponent_suffix x)) (suffix_complete x h) (not_from_false (is_exponent_suffix x) (false_from_ne_true (is_exponent_suffix x) (λ e. k (exponent_suffix_sound x e))))
 
 -- digits and suffix are read
-based_past : (r : ℕ) (ds x : List ℕ) → may_begin r (ds ++ x) ≡ true → list_all (is_row_part r) ds ≡ true → list_any (has_value r) ds ≡ true → first_passes (is_row_part r) x ≡ false → may_end r x ≡ true → based_at r (ds ++ x) ≡ Some (place_value r (without_underscores ds), x)
+based_past : (r : ℕ) (ds x : List ℕ) → may_begin r (ds ++ x) ≡ true → list_all (is_row_part (has_value r)) ds ≡ true → list_any (has_value r) ds ≡ true → first_passes (is_row_part (has_value r)) x ≡ false → may_end r x ≡ true → based_at r (ds ++ x) ≡ Some (place_value r (without_underscores ds), x)
 unfolding based_at
 based_past r ds x front each some stops ends =
-    let p = run_past (is_row_part r) ds x each stops in
+    let p = run_past (is_row_part (has_value r)) ds x each stops in
     let Found : List ℕ → List ℕ → Option (ℕ × List ℕ) = λ row rest. cond (may_begin r (ds ++ x) && (list_any (has_value r) row && may_end r rest)) (Some (place_value r (without_underscores row), rest)) None in
     ap (λ row. Found row (after_digits r (ds ++ x))) p.0
     ∙ ap (Found ds) p.1
@@ -184,7 +184,7 @@ sign_join (c ∷ cs) = go (c == 45) refl
     go false h = refl
 
 -- behind a row of base 16 no digit of it follows
-pub hex_stops : (x : List ℕ) → first_passes (is_row_part 16) x ≡ false → first_passes (has_value 16) x ≡ false
+pub hex_stops : (x : List ℕ) → first_passes (is_row_part (has_value 16)) x ≡ false → first_passes (has_value 16) x ≡ false
 hex_stops [] h = refl
 hex_stops (c ∷ cs) h = go (has_value 16 c) h
   where
@@ -193,7 +193,7 @@ hex_stops (c ∷ cs) h = go (has_value 16 c) h
     go false e = refl
 
 -- what the base asks of the suffix, from the test
-suffix_of : (base : Base) (x : List ℕ) → first_passes (is_row_part (radix base)) x ≡ false → may_end (radix base) x ≡ true → AllowsSuffix base x
+suffix_of : (base : Base) (x : List ℕ) → first_passes (is_row_part (has_value (radix base))) x ≡ false → may_end (radix base) x ≡ true → AllowsSuffix base x
 suffix_of Binary x h k = tt
 suffix_of Octal x h k = tt
 suffix_of Hexadecimal x h k = hex_stops x h
@@ -206,7 +206,7 @@ end_suffix r x h = (and_parts (is_suffix x) _ h).0
 -- the parts taken are an integer
 int_built : (t : List ℕ) (b : Based (after_minus t)) → may_begin (radix b.base) b.rest ≡ true → has_digit_at (radix b.base) b.rest ≡ true → may_end (radix b.base) (after_digits (radix b.base) b.rest) ≡ true → IntReads t (sign_at t) (magnitude_at (radix b.base) b.rest) (after_digits (radix b.base) b.rest)
 int_built t b front some ends =
-    let part = is_row_part (radix b.base) in
+    let part = is_row_part (has_value (radix b.base)) in
     record {
       base = b.base;
       digits = run part b.rest;

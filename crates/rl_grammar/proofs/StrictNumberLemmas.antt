@@ -3,8 +3,8 @@ use Rattle.std.proofs.Common.{◌≡◌, ℕ, ◌⊎◌, ◌||◌, ◌&&◌, Boo
 use Rattle.std.proofs.lemmas.Bool.{and_from, and_parts, cases_Bool, eqb-true, not-true, not_from_false, or_cases, or_left, or_right}
 use Rattle.std.specs.Char.{is_ascii_digit, is_ascii_hexdigit}
 use Rattle.std.specs.List.{list_all, list_any}
-use Rattle.rl_tokens.specs.Texts.{first_passes}
-use Rattle.rl_tokens.specs.Numbers.{Base, Binary, Octal, Decimal, Hexadecimal, radix, prefix, IsBehindPrefix, AllowsSuffix, is_exponent_letter, is_row_part}
+use Rattle.rl_tokens.specs.Texts.{first_passes, is_row_part}
+use Rattle.rl_tokens.specs.Numbers.{Base, Binary, Octal, Decimal, Hexadecimal, radix, prefix, IsBehindPrefix, AllowsSuffix, is_exponent_letter}
 use Rattle.rl_tokens.specs.Reading.{Contents}
 use Rattle.rl_tokens.specs.Strict.{is_row, IsDigits, IsDecimalText, IsNumberSuffix, BasedPrefix, StrictInt, IsStrictExponent, IsDotAlone, IsPointed, IsScientific, StrictFloat}
 use Rattle.rl_tokens.proofs.Basics.{all_same, any_same, apart, digit_is_ten, hex_is_sixteen, passes_same}
@@ -20,12 +20,12 @@ use Rattle.rl_grammar.proofs.StrictWordLemmas.{lenient_suffix, number_suffix_com
 -- ---- rows of digits, spelled as both grammars do
 
 -- a row of the strict spelling is one of the lenient
-row_part : (d : List ℕ) → list_all (is_row is_ascii_digit) d ≡ true → list_all (is_row_part 10) d ≡ true
-row_part d h = sym (all_same (is_row is_ascii_digit) (is_row_part 10) (λ c. ap (λ b. b || (c == 95)) (digit_is_ten c)) d) ∙ h
+row_part : (d : List ℕ) → list_all (is_row is_ascii_digit) d ≡ true → list_all (is_row_part (has_value 10)) d ≡ true
+row_part d h = sym (all_same (is_row is_ascii_digit) (is_row_part (has_value 10)) (λ c. ap (λ b. b || (c == 95)) (digit_is_ten c)) d) ∙ h
 
 -- and the other way about
-part_row : (d : List ℕ) → list_all (is_row_part 10) d ≡ true → list_all (is_row is_ascii_digit) d ≡ true
-part_row d h = all_same (is_row is_ascii_digit) (is_row_part 10) (λ c. ap (λ b. b || (c == 95)) (digit_is_ten c)) d ∙ h
+part_row : (d : List ℕ) → list_all (is_row_part (has_value 10)) d ≡ true → list_all (is_row is_ascii_digit) d ≡ true
+part_row d h = all_same (is_row is_ascii_digit) (is_row_part (has_value 10)) (λ c. ap (λ b. b || (c == 95)) (digit_is_ten c)) d ∙ h
 
 -- a row has a digit in one spelling where it has one in the other
 some_value : (d : List ℕ) → list_any is_ascii_digit d ≡ list_any (has_value 10) d
@@ -33,33 +33,33 @@ some_value d = any_same is_ascii_digit (has_value 10) digit_is_ten d
 
 -- the digits at the front of a text
 front_digits : (t : List ℕ) → first_passes is_ascii_digit t ≡ true → IsDigits (digit_row_at 10 t)
-front_digits t h = (run_first t h, part_row (digit_row_at 10 t) (run_all (is_row_part 10) t))
+front_digits t h = (run_first t h, part_row (digit_row_at 10 t) (run_all (is_row_part (has_value 10)) t))
 
 -- ---- what is strict is passed
 
 -- a row with a digit begins with no sign
-no_sign_row : (row x : List ℕ) → list_all (is_row_part 10) row ≡ true → list_any (has_value 10) row ≡ true → after_power_sign (row ++ x) ≡ row ++ x
+no_sign_row : (row x : List ℕ) → list_all (is_row_part (has_value 10)) row ≡ true → list_any (has_value 10) row ≡ true → after_power_sign (row ++ x) ≡ row ++ x
 no_sign_row [] x each some = absurd (cc)
 no_sign_row (c ∷ cs) x each some =
-    let p = and_parts (is_row_part 10 c) (list_all (is_row_part 10) cs) each in
-    let a = apart (is_row_part 10) c 43 p.0 refl in
-    let b = apart (is_row_part 10) c 45 p.0 refl in
+    let p = and_parts (is_row_part (has_value 10) c) (list_all (is_row_part (has_value 10)) cs) each in
+    let a = apart (is_row_part (has_value 10)) c 43 p.0 refl in
+    let b = apart (is_row_part (has_value 10)) c 45 p.0 refl in
     rw (a, b) refl
 
 -- a sign is taken off
-sign_off : (sign row x : List ℕ) → ((sign ≡ []) ⊎ ((sign ≡ 43 ∷ []) ⊎ (sign ≡ 45 ∷ []))) → list_all (is_row_part 10) row ≡ true → list_any (has_value 10) row ≡ true → after_power_sign (sign ++ (row ++ x)) ≡ row ++ x
+sign_off : (sign row x : List ℕ) → ((sign ≡ []) ⊎ ((sign ≡ 43 ∷ []) ⊎ (sign ≡ 45 ∷ []))) → list_all (is_row_part (has_value 10)) row ≡ true → list_any (has_value 10) row ≡ true → after_power_sign (sign ++ (row ++ x)) ≡ row ++ x
 sign_off sign row x (inl e) each some = ap (λ z. after_power_sign (z ++ (row ++ x))) e ∙ no_sign_row row x each some
 sign_off sign row x (inr (inl e)) each some = ap (λ z. after_power_sign (z ++ (row ++ x))) e
 sign_off sign row x (inr (inr e)) each some = ap (λ z. after_power_sign (z ++ (row ++ x))) e
 
 -- the digits of a power and a suffix
-power_row : (row x : List ℕ) → list_all (is_row_part 10) row ≡ true → list_any (has_value 10) row ≡ true → IsNumberSuffix x → (has_digit_at 10 (row ++ x) && is_number_suffix (after_digits 10 (row ++ x))) ≡ true
+power_row : (row x : List ℕ) → list_all (is_row_part (has_value 10)) row ≡ true → list_any (has_value 10) row ≡ true → IsNumberSuffix x → (has_digit_at 10 (row ++ x) && is_number_suffix (after_digits 10 (row ++ x))) ≡ true
 power_row row x each some s =
-    let p = run_past (is_row_part 10) row x each (suffix_no_part x (lenient_suffix x s)) in
+    let p = run_past (is_row_part (has_value 10)) row x each (suffix_no_part x (lenient_suffix x s)) in
     and_from (has_digit_at 10 (row ++ x)) (is_number_suffix (after_digits 10 (row ++ x))) (ap (list_any (has_value 10)) p.0 ∙ some) (ap is_number_suffix p.1 ∙ number_suffix_complete x s)
 
 -- what stands behind the letter of an exponent
-power_complete : (sign row x : List ℕ) → ((sign ≡ []) ⊎ ((sign ≡ 43 ∷ []) ⊎ (sign ≡ 45 ∷ []))) → list_all (is_row_part 10) row ≡ true → list_any (has_value 10) row ≡ true → IsNumberSuffix x → ends_power (sign ++ (row ++ x)) ≡ true
+power_complete : (sign row x : List ℕ) → ((sign ≡ []) ⊎ ((sign ≡ 43 ∷ []) ⊎ (sign ≡ 45 ∷ []))) → list_all (is_row_part (has_value 10)) row ≡ true → list_any (has_value 10) row ≡ true → IsNumberSuffix x → ends_power (sign ++ (row ++ x)) ≡ true
 unfolding ends_power
 power_complete sign row x sg each some s =
     ap (λ z. has_digit_at 10 z && is_number_suffix (after_digits 10 z)) (sign_off sign row x sg each some) ∙ power_row row x each some s
@@ -90,16 +90,16 @@ whole_plain [] n h = refl
 whole_plain (c ∷ cs) n h = ap (λ b. cond b (ends_dot cs) (ends_digits (c ∷ cs))) n ∙ h
 
 -- a whole part is taken
-whole_past : (d y : List ℕ) → IsDigits d → first_passes (is_row_part 10) y ≡ false → ends_whole y ≡ true → is_decimal (d ++ y) ≡ true
+whole_past : (d y : List ℕ) → IsDigits d → first_passes (is_row_part (has_value 10)) y ≡ false → ends_whole y ≡ true → is_decimal (d ++ y) ≡ true
 unfolding is_decimal
 whole_past d y h n e =
-    and_from (first_passes is_ascii_digit (d ++ y)) (ends_whole (after_digits 10 (d ++ y))) (passes_more is_ascii_digit d y h.0) (ap ends_whole (run_past (is_row_part 10) d y (row_part d h.1) n).1 ∙ e)
+    and_from (first_passes is_ascii_digit (d ++ y)) (ends_whole (after_digits 10 (d ++ y))) (passes_more is_ascii_digit d y h.0) (ap ends_whole (run_past (is_row_part (has_value 10)) d y (row_part d h.1) n).1 ∙ e)
 
 -- a fraction is taken
-fraction_past : (f y : List ℕ) → IsDigits f → first_passes (is_row_part 10) y ≡ false → ends_digits y ≡ true → ends_dot (f ++ y) ≡ true
+fraction_past : (f y : List ℕ) → IsDigits f → first_passes (is_row_part (has_value 10)) y ≡ false → ends_digits y ≡ true → ends_dot (f ++ y) ≡ true
 unfolding ends_dot
 fraction_past f y h n e =
-    or_right (not (is_some_text (f ++ y))) _ (and_from (first_passes is_ascii_digit (f ++ y)) (ends_digits (after_digits 10 (f ++ y))) (passes_more is_ascii_digit f y h.0) (ap ends_digits (run_past (is_row_part 10) f y (row_part f h.1) n).1 ∙ e))
+    or_right (not (is_some_text (f ++ y))) _ (and_from (first_passes is_ascii_digit (f ++ y)) (ends_digits (after_digits 10 (f ++ y))) (passes_more is_ascii_digit f y h.0) (ap ends_digits (run_past (is_row_part (has_value 10)) f y (row_part f h.1) n).1 ∙ e))
 
 -- an exponent goes on with no row, and begins with no dot
 exponent_front : (test : ℕ → Bool) (e x : List ℕ) (p : IsStrictExponent e) → test p.letter ≡ false → first_passes test (e ++ x) ≡ false
@@ -126,14 +126,14 @@ scientific : (t d e numeral x : List ℕ) → IsDigits d → IsStrictExponent e 
 scientific t d e numeral x h p n s text =
     let y : List ℕ = e ++ x in
     ap is_decimal (text ∙ ap (λ z. z ++ x) n ∙ append_assoc d e x)
-    ∙ whole_past d y h (exponent_front (is_row_part 10) e x p (letter_no_part p.letter p.is_letter)) (whole_plain y (exponent_front (λ c. c == 46) e x p (letter_no_dot p.letter p.is_letter)) (exponent_complete e x p s))
+    ∙ whole_past d y h (exponent_front (is_row_part (has_value 10)) e x p (letter_no_part p.letter p.is_letter)) (whole_plain y (exponent_front (λ c. c == 46) e x p (letter_no_dot p.letter p.is_letter)) (exponent_complete e x p s))
 
 -- a whole part, a dot, digits, and an exponent
 pointed_power : (t d f e numeral x : List ℕ) → IsDigits d → IsDigits f → IsStrictExponent e → numeral ≡ (d ++ (46 ∷ f)) ++ e → IsNumberSuffix x → t ≡ numeral ++ x → is_decimal t ≡ true
 pointed_power t d f e numeral x h k p n s text =
     let y : List ℕ = e ++ x in
     ap is_decimal (text ∙ ap (λ z. z ++ x) n ∙ append_assoc (d ++ (46 ∷ f)) e x ∙ append_assoc d (46 ∷ f) y)
-    ∙ whole_past d (46 ∷ (f ++ y)) h refl (fraction_past f y k (exponent_front (is_row_part 10) e x p (letter_no_part p.letter p.is_letter)) (exponent_complete e x p s))
+    ∙ whole_past d (46 ∷ (f ++ y)) h refl (fraction_past f y k (exponent_front (is_row_part (has_value 10)) e x p (letter_no_part p.letter p.is_letter)) (exponent_complete e x p s))
 
 -- a text that begins like no other base is judged as one of base ten
 decimal_number : (t : List ℕ) → IsDecimalText t → is_decimal t ≡ true → is_strict_number t ≡ true
@@ -155,10 +155,10 @@ float_complete t x v s =
     ])
 
 -- digits of a base and a suffix pass
-based_row : (b : Base) (row x : List ℕ) → list_all (is_row_part (radix b)) row ≡ true → list_any (has_value (radix b)) row ≡ true → first_passes is_exponent_letter x ≡ false → IsNumberSuffix x → first_passes (is_row_part (radix b)) x ≡ false → is_based (radix b) (row ++ x) ≡ true
+based_row : (b : Base) (row x : List ℕ) → list_all (is_row_part (has_value (radix b))) row ≡ true → list_any (has_value (radix b)) row ≡ true → first_passes is_exponent_letter x ≡ false → IsNumberSuffix x → first_passes (is_row_part (has_value (radix b))) x ≡ false → is_based (radix b) (row ++ x) ≡ true
 unfolding is_based
 based_row b row x each some n s stops =
-    let p = run_past (is_row_part (radix b)) row x each stops in
+    let p = run_past (is_row_part (has_value (radix b))) row x each stops in
     and_from (has_digit_at (radix b) (row ++ x)) _ (ap (list_any (has_value (radix b))) p.0 ∙ some)
     (and_from (not (first_passes is_exponent_letter (after_digits (radix b) (row ++ x)))) _ (ap (λ z. not (first_passes is_exponent_letter z)) p.1 ∙ not_from_false (first_passes is_exponent_letter x) n) (ap is_number_suffix p.1 ∙ number_suffix_complete x s))
 
@@ -166,7 +166,7 @@ based_row b row x each some n s stops =
 based_number : (b : Base) (t x : List ℕ) (v : Contents) (s : StrictInt t v x) → IsBehindPrefix b (s.row ++ x) → (radix b == 10) ≡ false → s.prefix ≡ prefix b → s.base ≡ radix b → AllowsSuffix b x → is_strict_number t ≡ true
 unfolding is_strict_number
 based_number b t x v s front other p base of =
-    let All : ℕ → Type 0 = λ n. list_all (is_row_part n) s.row ≡ true in
+    let All : ℕ → Type 0 = λ n. list_all (is_row_part (has_value n)) s.row ≡ true in
     let Any : ℕ → Type 0 = λ n. list_any (has_value n) s.row ≡ true in
     let w : List ℕ = s.row ++ x in
     ap is_strict_number (s.text ∙ append_assoc s.prefix s.row x ∙ ap (λ z. z ++ w) p)
@@ -222,9 +222,9 @@ power_sound letter t l h =
     let p = and_parts (has_digit_at 10 w) (is_number_suffix x) h in (
       letter ∷ (sg.0 ++ row),
       x,
-      record { letter = letter; sign = sg.0; row = row; is_letter = l; is_sign = sg.1; each = part_row row (run_all (is_row_part 10) w); some = some_value row ∙ p.0; text = refl },
+      record { letter = letter; sign = sg.0; row = row; is_letter = l; is_sign = sg.1; each = part_row row (run_all (is_row_part (has_value 10)) w); some = some_value row ∙ p.0; text = refl },
       number_suffix_sound x p.1,
-      ap (λ z. letter ∷ z) (sg.2 ∙ ap (λ z. sg.0 ++ z) (run_join (is_row_part 10) w) ∙ sym (append_assoc sg.0 row x)),
+      ap (λ z. letter ∷ z) (sg.2 ∙ ap (λ z. sg.0 ++ z) (run_join (is_row_part (has_value 10)) w) ∙ sym (append_assoc sg.0 row x)),
     )
 
 -- what digits end with, where the test passes
@@ -277,7 +277,7 @@ dot_sound t d z h n text k =
           let f : List ℕ = digit_row_at 10 z in
           let y : List ℕ = after_digits 10 z in
           let k = front_digits z p.0 in
-          let whole : t ≡ (d ++ (46 ∷ f)) ++ y = text ∙ ap (λ q. d ++ (46 ∷ q)) (run_join (is_row_part 10) z) ∙ sym (append_assoc d (46 ∷ f) y) in
+          let whole : t ≡ (d ++ (46 ∷ f)) ++ y = text ∙ ap (λ q. d ++ (46 ∷ q)) (run_join (is_row_part (has_value 10)) z) ∙ sym (append_assoc d (46 ∷ f) y) in
           elim (ending_sound y p.1) [
             | inl b ↦ float_of t (d ++ (46 ∷ f)) y (inr (inl (d, f, h, k, refl, b.1))) n b.0 whole
             | inr b ↦ float_of t ((d ++ (46 ∷ f)) ++ b.0) b.1 (inr (inr (d, b.0, h, b.2, inr (f, k, refl)))) n b.3 (whole ∙ ap (λ q. (d ++ (46 ∷ f)) ++ q) b.4 ∙ sym (append_assoc (d ++ (46 ∷ f)) b.0 b.1))
@@ -311,7 +311,7 @@ decimal_sound : (t : List ℕ) → (first_passes is_ascii_digit t ≡ true → I
 unfolding is_decimal
 decimal_sound t n h =
     let p = and_parts (first_passes is_ascii_digit t) (ends_whole (after_digits 10 t)) h in
-    whole_sound t (digit_row_at 10 t) (after_digits 10 t) (front_digits t p.0) (n p.0) (run_join (is_row_part 10) t) p.1
+    whole_sound t (digit_row_at 10 t) (after_digits 10 t) (front_digits t p.0) (n p.0) (run_join (is_row_part (has_value 10)) t) p.1
 
 -- what a prefix of a base tells
 prefix_of : (b : Base) → (radix b == 10) ≡ false → BasedPrefix (prefix b) (radix b)
@@ -321,7 +321,7 @@ prefix_of Hexadecimal h = inr (inr (refl, refl))
 prefix_of Decimal h = absurd (cc)
 
 -- behind a row of base 16 no digit of it follows
-no_more_digits : (b : Base) (x : List ℕ) → first_passes (is_row_part (radix b)) x ≡ false → radix b ≡ 16 → first_passes is_ascii_hexdigit x ≡ false
+no_more_digits : (b : Base) (x : List ℕ) → first_passes (is_row_part (has_value (radix b))) x ≡ false → radix b ≡ 16 → first_passes is_ascii_hexdigit x ≡ false
 no_more_digits Hexadecimal x h e = passes_same is_ascii_hexdigit (has_value 16) hex_is_sixteen x ∙ hex_stops x h
 no_more_digits Binary x h e = absurd (omega arith)
 no_more_digits Octal x h e = absurd (omega arith)
@@ -342,12 +342,12 @@ based_sound b t w other text h =
         base = radix b;
         row = row;
         is_front = inr (prefix_of b other);
-        each = run_all (is_row_part (radix b)) w;
+        each = run_all (is_row_part (has_value (radix b))) w;
         some = p.0;
         suffix = number_suffix_sound x q.1;
         no_exponent = not-true (first_passes is_exponent_letter x) q.0;
-        no_digit = no_more_digits b x (run_ends (is_row_part (radix b)) w);
-        text = text ∙ ap (λ z. prefix b ++ z) (run_join (is_row_part (radix b)) w) ∙ sym (append_assoc (prefix b) row x);
+        no_digit = no_more_digits b x (run_ends (is_row_part (has_value (radix b))) w);
+        text = text ∙ ap (λ z. prefix b ++ z) (run_join (is_row_part (has_value (radix b))) w) ∙ sym (append_assoc (prefix b) row x);
         contents = refl;
       }),
     )

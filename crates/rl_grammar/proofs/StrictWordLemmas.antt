@@ -3,10 +3,11 @@ use Rattle.std.proofs.Common.{◌≡◌, ◌≢◌, ℕ, ◌||◌, ◌&&◌, Boo
 use Rattle.std.proofs.lemmas.Bool.{and_from, and_parts, both_ways, cases_Bool, eqb-true, not-true, not_from_false}
 use Rattle.std.specs.List.{list_all}
 use Rattle.unicode_ident.specs.Ident.{is_xid_start, is_xid_continue}
-use Rattle.rl_tokens.specs.Texts.{IsWord, is_continue, is_start, is_underscore, is_white, first_passes}
+use Rattle.rl_tokens.specs.Texts.{IsWord, is_underscore, is_white, first_passes}
 use Rattle.rl_tokens.specs.Numbers.{IsSuffix}
 use Rattle.rl_tokens.specs.Strict.{IsNumberSuffix, IsStrictSuffix}
 use Rattle.rl_grammar.specs.Mirrors.StrictAt.{is_number_suffix, is_some_text, is_strict_suffix}
+use Rattle.rl_tokens.specs.Lexemes.{is_continue, is_start}
 
 -- what passes two tests passes both at once
 pub all_both : (f g : ℕ → Bool) (cs : List ℕ) → list_all f cs ≡ true → list_all g cs ≡ true → list_all (λ c. f c && g c) cs ≡ true

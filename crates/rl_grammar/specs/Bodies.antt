@@ -10,7 +10,8 @@ use Rattle.rl_grammar.specs.declared.quoted.QuotedForm.TheVariants.{Single as Si
 use Rattle.rl_grammar.specs.declared.bodies.Body.{Body}
 use Rattle.rl_grammar.specs.Forms.{PartsAre, is_plain_body}
 
--- The body, in bytes, stands between the quotes of the string, and it is told whether the body stands for itself.
+-- The body, in bytes, stands between the quotes of the string, and it is told whether the body
+-- stands for itself.
 pub record HasBody (kind : Kind) (text body : List ℕ) (plain : Bool) : Type 0 where
   pub string : IsTrue (is_string kind)
   pub form : QuotedForm

@@ -25,4 +25,6 @@ in_bytes kind v = if holds_characters kind then encode_utf8_all v else v
 
 -- the bytes of the value of whatever reading as a string the text has
 abbrev pub HoldsBytes : List ℕ → List ℕ → Type 0
-HoldsBytes text bytes = (kind : Kind) (v : Contents) (x : List ℕ) → IsTrue (is_string kind) → (r : ReadsQuoted text kind v x) → bytes ≡ in_bytes kind r.value
+HoldsBytes text bytes =
+    (kind : Kind) (v : Contents) (x : List ℕ) → IsTrue (is_string kind)
+    → (r : ReadsQuoted text kind v x) → bytes ≡ in_bytes kind r.value

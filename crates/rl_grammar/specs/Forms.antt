@@ -20,11 +20,14 @@ form_opener SingleForm kind = opener kind
 
 -- The text has the form, with this value, body and suffix.
 abbrev pub PartsAre : QuotedForm → Kind → List ℕ → List ℕ → List ℕ → List ℕ → Type 0
-PartsAre CookedForm kind text value body suffix = (c : Cooked kind text value suffix) × (body ≡ texts c.units)
+PartsAre CookedForm kind text value body suffix =
+    (c : Cooked kind text value suffix) × (body ≡ texts c.units)
 PartsAre RawForm kind text value body suffix = (r : Raw kind text value suffix) × (body ≡ r.inside)
-PartsAre SingleForm kind text value body suffix = (s : Single kind text value suffix) × (body ≡ unit_text s.unit)
+PartsAre SingleForm kind text value body suffix =
+    (s : Single kind text value suffix) × (body ≡ unit_text s.unit)
 
--- the body is taken as it stands: of a raw string, and of a cooked one with neither escapes nor line ends of two characters
+-- the body is taken as it stands: of a raw string, and of a cooked one with neither escapes nor
+-- line ends of two characters
 abbrev pub is_plain_body : QuotedForm → Kind → List ℕ → Bool
 is_plain_body RawForm kind body = true
 is_plain_body CookedForm kind body = list_all (is_plain kind) body

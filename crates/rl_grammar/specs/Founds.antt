@@ -30,35 +30,42 @@ pub record StandsIn (text : List ℕ) (body : Body) : Type 0 where
 abbrev pub is_quoted : Kind → Bool
 is_quoted kind = is_string kind || is_single kind
 
--- The parts of the quoted literal stand at these places, and it is told whether the body stands for itself.
+-- The parts of the quoted literal stand at these places, and it is told whether the body stands for
+-- itself.
 pub record IsQuotedAt (kind : Kind) (text : List ℕ) (body : Body) : Type 0 where
   pub form : QuotedForm
   pub value : List ℕ
-  pub parts : PartsAre form kind (chars text) value (chars (body_in text body)) (chars (suffix_in text body))
+  pub parts :
+      PartsAre form kind (chars text) value (chars (body_in text body))
+      (chars (suffix_in text body))
   pub plain_is : body.plain ≡ is_plain_body form kind (chars (body_in text body))
   pub stands : StandsIn text body
 
--- What reading the text finds, which is a literal: its kind, where its parts stand, whether the body is what it stands
--- for, and the magnitude of an integer.
+-- What reading the text finds, which is a literal: its kind, where its parts stand, whether the
+-- body is what it stands for, and the magnitude of an integer.
 pub record IsFound (text : List ℕ) (found : Found) : Type 0 where
   pub reads : HasSuffix found.kind (chars text) (chars (suffix_in text found.body))
   pub cut : IsSplit found.kind text (body_in text found.body) (suffix_in text found.body)
   pub stands : StandsIn text found.body
   pub plain : IsTrue found.body.plain ↔ IsPlain found.kind text
   pub quoted : IsTrue (is_quoted found.kind) → IsQuotedAt found.kind text found.body
-  pub integer : found.kind ≡ Int → HasMagnitude (chars text) found.magnitude (chars (suffix_in text found.body))
+  pub integer : found.kind ≡ Int
+      → HasMagnitude (chars text) found.magnitude (chars (suffix_in text found.body))
   pub no_magnitude : found.kind ≢ Int → found.magnitude ≡ 0
 
 -- The same of a float, whether or not an integer stands there too.
 pub record IsFoundFloat (text : List ℕ) (found : Found) : Type 0 where
   pub kind : found.kind ≡ Float
-  pub reads : FloatReads (chars text) (chars (body_in text found.body)) (chars (suffix_in text found.body))
+  pub reads :
+      FloatReads (chars text) (chars (body_in text found.body))
+      (chars (suffix_in text found.body))
   pub cut : text ≡ body_in text found.body ++ suffix_in text found.body
   pub stands : StandsIn text found.body
   pub plain : IsTrue found.body.plain ↔ IsPlain Float text
   pub no_magnitude : found.magnitude ≡ 0
 
--- What reading the text finds, which is a number: an integer within the limit, or a float, whether or not an integer
--- stands there too.
+-- What reading the text finds, which is a number: an integer within the limit, or a float, whether
+-- or not an integer stands there too.
 abbrev pub IsFoundNumber : List ℕ → Found → Type 0
-IsFoundNumber text found = (IsFound text found × ((found.kind ≡ Int) ⊎ (found.kind ≡ Float))) ⊎ IsFoundFloat text found
+IsFoundNumber text found =
+    (IsFound text found × ((found.kind ≡ Int) ⊎ (found.kind ≡ Float))) ⊎ IsFoundFloat text found

@@ -1,7 +1,7 @@
 -- The token of a literal at the front of trees.
 use Rattle.std.specs.Prelude.{◌≡◌, List, ◌∷◌}
 use Rattle.std.specs.Str.{chars}
-use Rattle.rl_tokens.specs.Characters.{minus_sign}
+use Prim.Native.Char.{code}
 use Rattle.rl_tokens.specs.declared.kind.Kind.TheVariants.{Bool as BoolKind}
 use Rattle.rl_tokens.specs.Puncts.{Mark}
 use Rattle.rl_tokens.specs.Trees.{Tree, IdentTree, PunctTree, LiteralTree}
@@ -20,9 +20,12 @@ front_token (Negative n) = joined n.0 n.1
 
 -- the trees don't begin with the word `true` or `false`
 abbrev pub HasNoWord : List Tree → Type 0
-HasNoWord trees = (i : SpannedText) (rest : List Tree) → trees ≡ IdentTree i ∷ rest → ReadsAs BoolKind (chars i.text) → ⊥
+HasNoWord trees =
+    (i : SpannedText) (rest : List Tree) → trees ≡ IdentTree i ∷ rest
+    → ReadsAs BoolKind (chars i.text) → ⊥
 
 -- the trees don't begin with a minus and a literal token that read together
 abbrev pub HasNoMinus : List Tree → Type 0
 HasNoMinus trees =
-    (m : Mark) (l : SpannedText) (rest : List Tree) → trees ≡ PunctTree m ∷ LiteralTree l ∷ rest → m.ch ≡ minus_sign → HasReading (minus_sign ∷ chars l.text) → ⊥
+    (m : Mark) (l : SpannedText) (rest : List Tree) → trees ≡ PunctTree m ∷ LiteralTree l ∷ rest
+    → m.ch ≡ code "-" → HasReading (code "-" ∷ chars l.text) → ⊥

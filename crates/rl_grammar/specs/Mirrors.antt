@@ -1,4 +1,5 @@
--- Mirrors of the code: programs on lists of characters that code is proved equal to. No public clause cites one.
+-- Mirrors of the code: programs on lists of characters that code is proved equal to. No public
+-- clause cites one.
 
 pub mod Classes
 pub mod Decodes

@@ -10,6 +10,8 @@ use Rattle.rl_grammar.specs.NumberShapes.{HasMagnitude}
 
 -- the number stands there, with this magnitude or none, and this suffix
 abbrev pub IsNumberOf : List ℕ → Number → Type 0
-IsNumberOf text (Integer magnitude suffix) = HasMagnitude (chars text) magnitude (chars suffix.now) × IsTail text suffix.now
+IsNumberOf text (Integer magnitude suffix) =
+    HasMagnitude (chars text) magnitude (chars suffix.now) × IsTail text suffix.now
 IsNumberOf text (Float suffix) =
-    ((numeral : List ℕ) × FloatReads (chars text) numeral (chars suffix.now)) × HasNoInteger (chars text) × IsTail text suffix.now
+    ((numeral : List ℕ) × FloatReads (chars text) numeral (chars suffix.now))
+    × HasNoInteger (chars text) × IsTail text suffix.now

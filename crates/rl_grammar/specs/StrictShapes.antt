@@ -1,7 +1,7 @@
 -- What the calls on strict texts say.
 use Rattle.std.specs.Prelude.{◌≡◌, ◌≢◌, ◌⊎◌, ℕ, ◌<◌, not, ◌==◌, List, ◌∷◌, ◌++◌, replicate, IsTrue}
 use Rattle.std.specs.List.{list_all, flat_map}
-use Rattle.rl_tokens.specs.Characters.{carriage_return, double_quote, hash_sign}
+use Prim.Native.Char.{code}
 use Rattle.rl_tokens.specs.declared.kind.Kind.{Kind}
 use Rattle.rl_tokens.specs.Reading.{Contents}
 use Rattle.rl_tokens.specs.Strict.{StrictUnit, strict_text, is_strict_unit, BlanksEnd, HasUnits, strict_closer, IsRawInside, IsStrictSuffix, StrictInt, StrictFloat, Strict}
@@ -17,7 +17,9 @@ pub record IsToken (text : List ℕ) : Type 0 where
 
 -- a strict number
 abbrev pub IsStrictNumber : List ℕ → Type 0
-IsStrictNumber text = (contents : Contents) × (suffix : List ℕ) × (StrictInt text contents suffix ⊎ StrictFloat text contents suffix)
+IsStrictNumber text =
+    (contents : Contents) × (suffix : List ℕ)
+    × (StrictInt text contents suffix ⊎ StrictFloat text contents suffix)
 
 -- what stands behind the opener of a strict form with escapes: units, the quote, and a suffix
 pub record ClosesUnits (kind : Kind) (text : List ℕ) : Type 0 where
@@ -34,18 +36,18 @@ pub record ClosesInside (kind : Kind) (hashes text : List ℕ) : Type 0 where
   pub inside : List ℕ
   pub suffix : List ℕ
   pub allowed : IsRawInside kind inside
-  pub no_carriage_return : IsTrue (list_all (λ c. not (c == carriage_return)) inside)
-  pub first_close : (front rest : List ℕ) → inside ≢ front ++ (double_quote ∷ (hashes ++ rest))
+  pub no_carriage_return : IsTrue (list_all (λ c. not (c == code "\r")) inside)
+  pub first_close : (front rest : List ℕ) → inside ≢ front ++ (code "\"" ∷ (hashes ++ rest))
   pub is_suffix : IsStrictSuffix suffix
-  pub text_is : text ≡ inside ++ (double_quote ∷ (hashes ++ suffix))
+  pub text_is : text ≡ inside ++ (code "\"" ∷ (hashes ++ suffix))
 
 -- what stands behind the opener of a strict raw form: hashes, a quote, and what ends it
 pub record ClosesRaw (kind : Kind) (text : List ℕ) : Type 0 where
   pub hashes : ℕ
   pub few : hashes < 256
   pub rest : List ℕ
-  pub closes : ClosesInside kind (replicate hashes hash_sign) rest
-  pub text_is : text ≡ replicate hashes hash_sign ++ (double_quote ∷ rest)
+  pub closes : ClosesInside kind (replicate hashes (code "#")) rest
+  pub text_is : text ≡ replicate hashes (code "#") ++ (code "\"" ∷ rest)
 
 -- what stands behind the opener of a strict form
 abbrev pub Closes : QuotedForm → Kind → List ℕ → Type 0

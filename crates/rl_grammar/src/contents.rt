@@ -18,7 +18,7 @@ use crate::units::{Piece, unit};
 use rl_tokens::{Error, ErrorKind, Kind, Span};
 use std::alloc::{AllocError, Allocator};
 
-/// Want of memory, told of no place in a text.
+/// Running out of memory, told of no place in a text.
 pub(crate) fn out_of_memory<A: Allocator>() -> Error<A>
     ensures { result ≡ memory_at nowhere }
 {
@@ -88,7 +88,8 @@ fn body_bytes<A: Allocator>(
     plain: bool,
 ) -> Result<Vec<u8, A>, AllocError>
     requires { (text : List ℕ) × HasBody kind text body.now plain }
-    ensures { IfOk result (λ bytes. (text : List ℕ) → HasBody kind text body.now plain → HoldsBytes text bytes.items) }
+    ensures { IfOk result (λ bytes. (text : List ℕ) → HasBody kind text body.now plain
+        → HoldsBytes text bytes.items) }
 {
     if plain {
         Vec::from_slice(alloc, body.as_bytes())
@@ -124,7 +125,7 @@ pub(crate) fn string_is_plain(kind: Kind, text: &str) -> bool
 ///
 /// # Errors
 ///
-/// `Memory` where memory is refused, told at `Span::call_site`.
+/// `Memory` where memory is refused, reported at `Span::call_site`.
 ///
 /// # Example
 ///
@@ -134,8 +135,10 @@ pub(crate) fn string_is_plain(kind: Kind, text: &str) -> bool
 /// ```
 pub fn str_of<A: Allocator>(alloc: A, text: &str) -> Result<String<A>, Error<A>>
     requires { ReadsAs Kind.Str (chars text.now) }
-    ensures value { IfOk result (λ s. ContentsAre Kind.Str (chars text.now) (Characters (chars (string_bytes s)))) }
-    ensures reads { IfOk result (λ s. HasContents Kind.Str (chars text.now) (Characters (chars (string_bytes s)))) }
+    ensures value { IfOk result
+        (λ s. ContentsAre Kind.Str (chars text.now) (Characters (chars (string_bytes s)))) }
+    ensures reads { IfOk result
+        (λ s. HasContents Kind.Str (chars text.now) (Characters (chars (string_bytes s)))) }
     ensures memory { IfErr result (λ e. e ≡ memory_at nowhere) }
 {
     match held_bytes(alloc, text) {
@@ -150,12 +153,15 @@ pub fn str_of<A: Allocator>(alloc: A, text: &str) -> Result<String<A>, Error<A>>
 ///
 /// # Errors
 ///
-/// `Memory` where memory is refused, told at `Span::call_site`.
+/// `Memory` where memory is refused, reported at `Span::call_site`.
 pub fn bytes_of<A: Allocator>(alloc: A, text: &str) -> Result<Vec<u8, A>, Error<A>>
     requires { ReadsAs Kind.ByteStr (chars text.now) ⊎ ReadsAs Kind.CStr (chars text.now) }
-    ensures byte_string { IfOk result (λ bytes. ContentsAre Kind.ByteStr (chars text.now) (Bytes bytes.items)) }
-    ensures c_string { IfOk result (λ bytes. ContentsAre Kind.CStr (chars text.now) (Bytes bytes.items)) }
-    ensures reads { IfOk result (λ bytes. HasContents Kind.ByteStr (chars text.now) (Bytes bytes.items)
+    ensures byte_string { IfOk result
+        (λ bytes. ContentsAre Kind.ByteStr (chars text.now) (Bytes bytes.items)) }
+    ensures c_string { IfOk result
+        (λ bytes. ContentsAre Kind.CStr (chars text.now) (Bytes bytes.items)) }
+    ensures reads { IfOk result
+        (λ bytes. HasContents Kind.ByteStr (chars text.now) (Bytes bytes.items)
         ⊎ HasContents Kind.CStr (chars text.now) (Bytes bytes.items)) }
     ensures memory { IfErr result (λ e. e ≡ memory_at nowhere) }
 {
@@ -169,10 +175,11 @@ pub fn bytes_of<A: Allocator>(alloc: A, text: &str) -> Result<Vec<u8, A>, Error<
 ///
 /// # Errors
 ///
-/// `Memory` where memory is refused, told at `Span::call_site`.
+/// `Memory` where memory is refused, reported at `Span::call_site`.
 pub fn str_of_body<A: Allocator>(alloc: A, body: &str, plain: bool) -> Result<String<A>, Error<A>>
     requires { (text : List ℕ) × HasBody Kind.Str (chars text) body.now plain × IsUtf8 text }
-    ensures value { IfOk result (λ s. (text : List ℕ) → HasBody Kind.Str (chars text) body.now plain → IsUtf8 text
+    ensures value { IfOk result
+        (λ s. (text : List ℕ) → HasBody Kind.Str (chars text) body.now plain → IsUtf8 text
         → HasContents Kind.Str (chars text) (Characters (chars (string_bytes s)))) }
     ensures memory { IfErr result (λ e. e ≡ memory_at nowhere) }
 {
@@ -187,7 +194,7 @@ pub fn str_of_body<A: Allocator>(alloc: A, body: &str, plain: bool) -> Result<St
 ///
 /// # Errors
 ///
-/// `Memory` where memory is refused, told at `Span::call_site`.
+/// `Memory` where memory is refused, reported at `Span::call_site`.
 pub fn bytes_of_body<A: Allocator>(
     alloc: A,
     kind: Kind,

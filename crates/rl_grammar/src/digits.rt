@@ -44,7 +44,7 @@ const CHANGED: Marks = Marks {
 ///
 /// # Errors
 ///
-/// `Memory` where memory is refused, told at `Span::call_site`.
+/// `Memory` where memory is refused, reported at `Span::call_site`.
 pub fn digits_of<A: Allocator>(alloc: A, kind: Kind, text: &str) -> Result<String<A>, Error<A>>
     requires reads { IsNumber kind (chars text.now) }
     ensures value { IfOk result (λ s. AreDigits kind (chars text.now) (chars (string_bytes s))) }
@@ -81,14 +81,15 @@ fn found_number(kind: Kind, text: &str) -> Found
 ///
 /// # Errors
 ///
-/// `Memory` where memory is refused, told at `Span::call_site`.
+/// `Memory` where memory is refused, reported at `Span::call_site`.
 pub fn digits_of_found<A: Allocator>(
     alloc: A,
     text: &str,
     found: Found,
 ) -> Result<String<A>, Error<A>>
     requires { IsFoundNumber text.now found }
-    ensures value { IfOk result (λ s. AreDigits found.kind (chars text.now) (chars (string_bytes s))) }
+    ensures value { IfOk result
+        (λ s. AreDigits found.kind (chars text.now) (chars (string_bytes s))) }
     ensures memory { IfErr result (λ e. e ≡ memory_at nowhere) }
 {
     match found_digits(alloc, text, found) {
@@ -171,7 +172,8 @@ pub(crate) fn is_plain_float(numeral: &str) -> bool
 /// Writes a minus where the text begins with one.
 fn push_sign<A: Allocator>(digits: &mut String<A>, text: &str) -> Result<(), AllocError>
     ensures { OnOk result
-        (string_bytes digits.new ≡ string_bytes digits.old ++ sign_text (sign_at (chars text.now))) }
+        (string_bytes digits.new ≡ string_bytes digits.old
+        ++ sign_text (sign_at (chars text.now))) }
 {
     if is_negative(text) {
         digits.push('-')
@@ -197,7 +199,8 @@ fn push_decimal<A: Allocator>(digits: &mut String<A>, number: u128) -> Result<()
 /// Writes a character of a numeral, if it belongs to the digits.
 fn push_plain<A: Allocator>(digits: &mut String<A>, c: char) -> Result<(), AllocError>
     ensures { OnOk result
-        (string_bytes digits.new ≡ string_bytes digits.old ++ encode_utf8_all (float_digits (c ∷ []))) }
+        (string_bytes digits.new ≡ string_bytes digits.old
+        ++ encode_utf8_all (float_digits (c ∷ []))) }
 {
     match c {
         '_' | '+' => Ok(()),

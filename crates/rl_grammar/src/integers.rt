@@ -61,7 +61,8 @@ fn head_of(unsigned: &str) -> Head<'_>
 #[inline(always)]
 #[tactic(auto, using(rl_tokens::proofs::BehindLemmas::behind_step))]
 pub(crate) fn read_head(text: &str) -> Option<Head<'_>>
-    ensures none { IfNone result (first_passes is_ascii_digit (after_minus (chars text.now)) ≡ false) }
+    ensures none { IfNone result
+        (first_passes is_ascii_digit (after_minus (chars text.now)) ≡ false) }
     ensures head { IfSome result (λ h. IsHead (after_minus (chars text.now)) h.radix
         h.row.has_digit h.row.magnitude (chars h.row.rest.now)) }
     ensures behind { IfSome result (λ h. IsTail text.now h.row.rest.now) }
@@ -85,8 +86,10 @@ pub(crate) struct Integer<'t> {
 /// The integer that begins so, if what follows its row may be its suffix.
 #[inline(always)]
 pub(crate) fn integer_of(head: Head<'_>) -> Option<Integer<'_>>
-    ensures value { option_map {U = Option ℕ × List ℕ} (λ i. (i.magnitude, chars i.suffix.now)) result
-        ≡ ended_at head.entry.radix head.entry.row.has_digit head.entry.row.magnitude (chars head.entry.row.rest.now) }
+    ensures value { option_map {U = Option ℕ × List ℕ}
+        (λ i. (i.magnitude, chars i.suffix.now)) result
+        ≡ ended_at head.entry.radix head.entry.row.has_digit head.entry.row.magnitude
+        (chars head.entry.row.rest.now) }
     ensures suffix { IfSome result (λ i. i.suffix.now ≡ head.entry.row.rest.now) }
 {
     let suffix = head.row.rest;
@@ -105,7 +108,8 @@ pub(crate) fn integer_of(head: Head<'_>) -> Option<Integer<'_>>
 
 /// The integer that the text is.
 pub(crate) fn read_integer(text: &str) -> Option<Integer<'_>>
-    ensures value { option_map {U = Option ℕ × List ℕ} (λ i. (i.magnitude, chars i.suffix.now)) result
+    ensures value { option_map {U = Option ℕ × List ℕ}
+        (λ i. (i.magnitude, chars i.suffix.now)) result
         ≡ capped_int (int_at (chars text.now)) }
     ensures behind { IfSome result (λ i. IsTail text.now i.suffix.now) }
 {

@@ -31,7 +31,8 @@ pub(crate) enum QuotedForm {
 
 /// What a `"` or an `r` at the front tells of a string of the kind.
 fn string_front(kind: Kind, text: &str) -> Option<(QuotedForm, Kind, &str)>
-    ensures { option_map (λ p. (p.0, p.1, chars p.2.now)) result ≡ string_opener_at kind (chars text.now) }
+    ensures { option_map (λ p. (p.0, p.1, chars p.2.now)) result
+        ≡ string_opener_at kind (chars text.now) }
 {
     let (first, rest) = split_char(text)?;
     match first {
@@ -106,9 +107,12 @@ fn cut_at_quote<'t>(quote: char, text: &'t str, rest: &'t str) -> Option<(&'t st
 fn cooked_parts(kind: Kind, text: &str) -> Option<(&str, &str, bool)>
     requires { IsTrue (is_string kind) }
     ensures some { IfSome result (λ p. (v : List ℕ)
-        × PartsAre QuotedForm.Cooked kind (form_opener QuotedForm.Cooked kind ++ chars text.now) v (chars p.0.now) (chars p.1.now)) }
-    ensures plain { IfSome result (λ p. p.2 ≡ is_plain_body QuotedForm.Cooked kind (chars p.0.now)) }
-    ensures none { IfNone result (HasNoParts QuotedForm.Cooked kind (form_opener QuotedForm.Cooked kind ++ chars text.now)) }
+        × PartsAre QuotedForm.Cooked kind (form_opener QuotedForm.Cooked kind ++ chars text.now) v
+        (chars p.0.now) (chars p.1.now)) }
+    ensures plain { IfSome result
+        (λ p. p.2 ≡ is_plain_body QuotedForm.Cooked kind (chars p.0.now)) }
+    ensures none { IfNone result
+        (HasNoParts QuotedForm.Cooked kind (form_opener QuotedForm.Cooked kind ++ chars text.now)) }
 {
     let (_, behind) = split_plain(kind, text);
     if let Some((body, suffix)) = cut_at_quote('"', text, behind) {
@@ -122,9 +126,11 @@ fn cooked_parts(kind: Kind, text: &str) -> Option<(&str, &str, bool)>
 fn raw_parts(kind: Kind, text: &str) -> Option<(&str, &str, bool)>
     requires { IsTrue (is_string kind) }
     ensures some { IfSome result (λ p. (v : List ℕ)
-        × PartsAre QuotedForm.Raw kind (form_opener QuotedForm.Raw kind ++ chars text.now) v (chars p.0.now) (chars p.1.now)) }
+        × PartsAre QuotedForm.Raw kind (form_opener QuotedForm.Raw kind ++ chars text.now) v
+        (chars p.0.now) (chars p.1.now)) }
     ensures plain { IfSome result (λ p. p.2 ≡ is_plain_body QuotedForm.Raw kind (chars p.0.now)) }
-    ensures none { IfNone result (HasNoParts QuotedForm.Raw kind (form_opener QuotedForm.Raw kind ++ chars text.now)) }
+    ensures none { IfNone result
+        (HasNoParts QuotedForm.Raw kind (form_opener QuotedForm.Raw kind ++ chars text.now)) }
 {
     let (hashes, inside) = cut_at_quote('"', text, skip_hashes(text))?;
     let (body, after) = split_last_quote(inside)?;
@@ -151,9 +157,12 @@ fn holds_all(kind: Kind, text: &str) -> bool
 fn single_parts(kind: Kind, text: &str) -> Option<(&str, &str, bool)>
     requires { IsTrue (is_single kind) }
     ensures some { IfSome result (λ p. (v : List ℕ)
-        × PartsAre QuotedForm.Single kind (form_opener QuotedForm.Single kind ++ chars text.now) v (chars p.0.now) (chars p.1.now)) }
-    ensures plain { IfSome result (λ p. p.2 ≡ is_plain_body QuotedForm.Single kind (chars p.0.now)) }
-    ensures none { IfNone result (HasNoParts QuotedForm.Single kind (form_opener QuotedForm.Single kind ++ chars text.now)) }
+        × PartsAre QuotedForm.Single kind (form_opener QuotedForm.Single kind ++ chars text.now) v
+        (chars p.0.now) (chars p.1.now)) }
+    ensures plain { IfSome result
+        (λ p. p.2 ≡ is_plain_body QuotedForm.Single kind (chars p.0.now)) }
+    ensures none { IfNone result
+        (HasNoParts QuotedForm.Single kind (form_opener QuotedForm.Single kind ++ chars text.now)) }
 {
     let (_, rest) = unit(kind, text)?;
     let (body, suffix) = cut_at_quote('\'', text, rest)?;
@@ -164,7 +173,8 @@ fn single_parts(kind: Kind, text: &str) -> Option<(&str, &str, bool)>
 fn parts_inside(form: QuotedForm, kind: Kind, text: &str) -> Option<(&str, &str, bool)>
     requires { IsTrue (has_form form kind) }
     ensures some { IfSome result (λ p. (v : List ℕ)
-        × PartsAre form kind (form_opener form kind ++ chars text.now) v (chars p.0.now) (chars p.1.now)) }
+        × PartsAre form kind (form_opener form kind ++ chars text.now) v
+        (chars p.0.now) (chars p.1.now)) }
     ensures plain { IfSome result (λ p. p.2 ≡ is_plain_body form kind (chars p.0.now)) }
     ensures none { IfNone result (HasNoParts form kind (form_opener form kind ++ chars text.now)) }
 {
@@ -189,7 +199,8 @@ pub(crate) fn quoted_parts(text: &str) -> Option<(QuotedForm, Parts<'_>, bool)>
 
 /// The parts of a quoted literal: `None` where the text is none.
 pub(crate) fn quoted_shape(text: &str) -> Option<Parts<'_>>
-    ensures reads { IfSome result (λ p. (v : Contents) × ReadsQuoted (chars text.now) p.kind v (chars p.suffix.now)) }
+    ensures reads { IfSome result
+        (λ p. (v : Contents) × ReadsQuoted (chars text.now) p.kind v (chars p.suffix.now)) }
     ensures cut { IfSome result (λ p. IsQuotedSplit p.kind text.now p.body.now p.suffix.now) }
     ensures behind { IfSome result (λ p. IsTail text.now p.suffix.now) }
     ensures none { IfNone result (HasNoQuoted (chars text.now)) }

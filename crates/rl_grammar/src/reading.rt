@@ -31,7 +31,8 @@ pub fn truth_of(text: &str) -> Option<bool>
 /// The parts of a truth value.
 fn truth_shape(text: &str) -> Option<Parts<'_>>
     ensures none { IfNone result (HasNoTruth (chars text.now)) }
-    ensures reads { IfSome result (λ p. (v : Contents) × ReadsBool (chars text.now) v (chars p.suffix.now)) }
+    ensures reads { IfSome result
+        (λ p. (v : Contents) × ReadsBool (chars text.now) v (chars p.suffix.now)) }
     ensures kind { IfSome result (λ p. p.kind ≡ BoolKind) }
     ensures cut { IfSome result (λ p. IsSplit BoolKind text.now p.body.now p.suffix.now) }
     ensures behind { IfSome result (λ p. IsTail text.now p.suffix.now) }

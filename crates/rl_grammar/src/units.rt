@@ -115,7 +115,8 @@ fn hex_escape(kind: Kind, text: &str) -> Option<(u8, &str)>
 #[inline(always)]
 fn more_digits(text: &str, first: u32) -> Option<(char, &str)>
     requires { first < 16 }
-    ensures value { option_map (λ p. (p.0, chars p.1.now)) result ≡ unicode_digits_at first 1 (chars text.now) }
+    ensures value { option_map (λ p. (p.0, chars p.1.now)) result
+        ≡ unicode_digits_at first 1 (chars text.now) }
     ensures shorter { IfSome result (λ p. length p.1.now < length text.now) }
 {
     let mut value = first;
@@ -142,7 +143,8 @@ fn more_digits(text: &str, first: u32) -> Option<(char, &str)>
 #[tactic(auto, unfolding(crate::specs::Mirrors::UnitAt::unicode_at), using(crate::proofs::AsciiLemmas::no_brace))]
 #[inline(always)]
 fn unicode_escape(kind: Kind, text: &str) -> Option<(char, &str)>
-    ensures value { option_map (λ p. (p.0, chars p.1.now)) result ≡ unicode_at kind (chars text.now) }
+    ensures value { option_map (λ p. (p.0, chars p.1.now)) result
+        ≡ unicode_at kind (chars text.now) }
     ensures shorter { IfSome result (λ p. length p.1.now < length text.now) }
 {
     let (brace, inside) = split_ascii(text)?;
@@ -170,7 +172,8 @@ fn skip_blanks(text: &str) -> &str
 #[tactic(auto, unfolding(crate::specs::Mirrors::UnitAt::escape_at), using(crate::proofs::AsciiLemmas::no_escape))]
 #[inline(always)]
 fn escape(kind: Kind, text: &str) -> Option<(Piece, &str)>
-    ensures value { option_map (λ p. (piece_value kind p.0, chars p.1.now)) result ≡ escape_at kind (chars text.now) }
+    ensures value { option_map (λ p. (piece_value kind p.0, chars p.1.now)) result
+        ≡ escape_at kind (chars text.now) }
     ensures piece { IfSome result (λ p. IsPieceOf kind p.0) }
     ensures shorter { IfSome result (λ p. length p.1.now < length text.now) }
 {
@@ -203,7 +206,8 @@ fn escape(kind: Kind, text: &str) -> Option<(Piece, &str)>
 #[inline(always)]
 fn character(kind: Kind, text: &str) -> Option<(Piece, &str)>
     requires { IsFalse (first_passes (λ c. c == 92) (chars text.now)) }
-    ensures value { option_map (λ p. (piece_value kind p.0, chars p.1.now)) result ≡ unit_at kind (chars text.now) }
+    ensures value { option_map (λ p. (piece_value kind p.0, chars p.1.now)) result
+        ≡ unit_at kind (chars text.now) }
     ensures piece { IfSome result (λ p. IsPieceOf kind p.0) }
     ensures shorter { IfSome result (λ p. length p.1.now < length text.now) }
 {
@@ -226,7 +230,8 @@ fn character(kind: Kind, text: &str) -> Option<(Piece, &str)>
 #[tactic(auto, unfolding(crate::specs::Mirrors::UnitAt::unit_at), using(crate::proofs::AsciiLemmas::no_backslash))]
 #[inline(always)]
 pub(crate) fn unit(kind: Kind, text: &str) -> Option<(Piece, &str)>
-    ensures value { option_map (λ p. (piece_value kind p.0, chars p.1.now)) result ≡ unit_at kind (chars text.now) }
+    ensures value { option_map (λ p. (piece_value kind p.0, chars p.1.now)) result
+        ≡ unit_at kind (chars text.now) }
     ensures piece { IfSome result (λ p. IsPieceOf kind p.0) }
     ensures shorter { IfSome result (λ p. length p.1.now < length text.now) }
 {

@@ -11,7 +11,10 @@ with_front front None = None
 abbrev pub bytes_of : List ℕ → Option (List ℕ)
 bytes_of [] = Some []
 bytes_of (high ∷ []) = None
-bytes_of (high ∷ low ∷ rest) = if is_hex_digit high && is_hex_digit low then with_front (hex_value high low ∷ []) (bytes_of rest) else None
+bytes_of (high ∷ low ∷ rest) =
+    if is_hex_digit high && is_hex_digit low
+    then with_front (hex_value high low ∷ []) (bytes_of rest)
+    else None
 
 -- the bytes of an answer that may have none
 abbrev pub bytes_if_any : {A : Type 0} → Option (Vec ℕ A) → Option (List ℕ)

@@ -1,5 +1,6 @@
--- What the program prints: a line for a literal. Texts and lines are lists of characters; 32 is a space, 10 LF.
+-- What the program prints: a line for a literal. Texts and lines are lists of characters.
 use Rattle.std.specs.Prelude.{◌≡◌, ◌⊎◌, ℕ, List, [], ◌∷◌, ◌++◌, codes, if◌then◌else◌}
+use Prim.Native.Char.{code}
 use Rattle.rl_tokens.specs.declared.kind.Kind.{Kind}
 use Rattle.rl_tokens.specs.declared.kind.Kind.TheVariants.{Str, ByteStr, CStr, Byte, Char, Int, Float, Bool}
 use Rattle.std.specs.Str.{chars}
@@ -40,7 +41,8 @@ suffix_word (c ∷ cs) = if xid_ok (c ∷ cs) then (c ∷ cs) else written_text 
 
 -- a word, a payload and a suffix, with a space between, and LF
 abbrev pub line : List ℕ → List ℕ → List ℕ → List ℕ
-line word shown suffix = word ++ (32 ∷ (shown ++ (32 ∷ (suffix_word suffix ++ (10 ∷ [])))))
+line word shown suffix =
+    word ++ (code " " ∷ (shown ++ (code " " ∷ (suffix_word suffix ++ (code "\n" ∷ [])))))
 
 -- the line of a literal of this kind, contents and suffix
 abbrev pub literal_line : Kind → Contents → List ℕ → List ℕ
@@ -53,13 +55,15 @@ verbatim_line text = line (codes "Verbatim") (written_text Str text) []
 -- The line is that of the text's one reading, or the text has none.
 abbrev pub IsLineOf : List ℕ → List ℕ → Type 0
 IsLineOf text shown =
-    ((kind : Kind) × (contents : Contents) × (suffix : List ℕ) × Reads text kind contents suffix × (shown ≡ literal_line kind contents suffix))
+    ((kind : Kind) × (contents : Contents) × (suffix : List ℕ) × Reads text kind contents suffix
+    × (shown ≡ literal_line kind contents suffix))
     ⊎ (HasNoReading text × (shown ≡ verbatim_line text))
 
 -- one piece of each, one after another
 abbrev pub Joins : {A : Type 0} → (A → List ℕ → Type 0) → List A → List ℕ → Type 0
 Joins IsPiece [] shown = shown ≡ []
-Joins IsPiece (x ∷ xs) shown = (first rest : List ℕ) × IsPiece x first × Joins IsPiece xs rest × (shown ≡ first ++ rest)
+Joins IsPiece (x ∷ xs) shown =
+    (first rest : List ℕ) × IsPiece x first × Joins IsPiece xs rest × (shown ≡ first ++ rest)
 
 -- The lines of tokens, one after another: each is that of the token's text.
 abbrev pub AreLinesOf : List SpannedText → List ℕ → Type 0
@@ -83,12 +87,14 @@ pub record AreLinesOfText (text shown : List ℕ) : Type 0 where
 -- the line of a text's reading of the kind
 abbrev pub IsLineOfKind : Kind → List ℕ → List ℕ → Type 0
 IsLineOfKind kind text shown =
-    (contents : Contents) × (suffix : List ℕ) × Reads text kind contents suffix × (shown ≡ literal_line kind contents suffix)
+    (contents : Contents) × (suffix : List ℕ) × Reads text kind contents suffix
+    × (shown ≡ literal_line kind contents suffix)
 
 -- the line of a text's reading as a float, by the float rule alone
 abbrev pub IsLineOfFloat : List ℕ → List ℕ → Type 0
 IsLineOfFloat text shown =
-    (numeral : List ℕ) × (suffix : List ℕ) × FloatReads text numeral suffix × (shown ≡ literal_line Float (Digits (float_digits numeral)) suffix)
+    (numeral : List ℕ) × (suffix : List ℕ) × FloatReads text numeral suffix
+    × (shown ≡ literal_line Float (Digits (float_digits numeral)) suffix)
 
 -- a literal's line
 abbrev pub IsLineOfLit : {A : Type 0} → Lit A → List ℕ → Type 0

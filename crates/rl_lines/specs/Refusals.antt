@@ -6,4 +6,7 @@ use Rattle.rl_tokens.specs.Errors.{message_of}
 
 -- its place in bytes, and its message
 abbrev pub refusal_line : {A : Type 0} → Error A → List ℕ
-refusal_line e = codes "error at " ++ (decimal e.span.lo ++ (codes ".." ++ (decimal e.span.hi ++ (codes ": " ++ message_of e.kind))))
+refusal_line e =
+    codes "error at "
+    ++ (decimal e.span.lo
+    ++ (codes ".." ++ (decimal e.span.hi ++ (codes ": " ++ message_of e.kind))))

@@ -26,7 +26,8 @@ fn push_quoted<A: Allocator + Copy>(
     text: &str,
 ) -> Result<(), AllocError>
     ensures { OnOk result
-        (chars (string_bytes out.new) ≡ chars (string_bytes out.old) ++ written_text Str (chars text.now)) }
+        (chars (string_bytes out.new) ≡ chars (string_bytes out.old)
+        ++ written_text Str (chars text.now)) }
 {
     match Literal::string(alloc, text) {
         Ok(literal) => push(out, literal.text()),
@@ -41,7 +42,8 @@ fn push_suffix<A: Allocator + Copy>(
     suffix: &str,
 ) -> Result<(), AllocError>
     ensures { OnOk result
-        (chars (string_bytes out.new) ≡ chars (string_bytes out.old) ++ suffix_word (chars suffix.now)) }
+        (chars (string_bytes out.new) ≡ chars (string_bytes out.old)
+        ++ suffix_word (chars suffix.now)) }
 {
     if suffix.is_empty() {
         push(out, "-")
@@ -61,7 +63,8 @@ pub fn push_line<A: Allocator + Copy>(
     suffix: &str,
 ) -> Result<(), AllocError>
     ensures { OnOk result (chars (string_bytes out.new)
-        ≡ chars (string_bytes out.old) ++ line (chars word.now) (chars shown.now) (chars suffix.now)) }
+        ≡ chars (string_bytes out.old)
+        ++ line (chars word.now) (chars shown.now) (chars suffix.now)) }
 {
     push(out, word)?;
     push(out, " ")?;

@@ -38,7 +38,8 @@ fn push_kind<A: Allocator + Copy>(
     suffix: &str,
 ) -> Result<(), AllocError>
     ensures { OnOk result (chars (string_bytes out.new)
-        ≡ chars (string_bytes out.old) ++ line (kind_label kind) (chars shown.now) (chars suffix.now)) }
+        ≡ chars (string_bytes out.old)
+        ++ line (kind_label kind) (chars shown.now) (chars suffix.now)) }
 {
     push_line(alloc, out, word(kind), shown, suffix)
 }
@@ -255,7 +256,7 @@ fn push_literal<A: Allocator + Copy>(
 ///
 /// # Errors
 ///
-/// Want of memory, as std tells it. Some of the lines may stand there then.
+/// Running out of memory, as std tells it. Some of the lines may stand there then.
 pub fn push_literals<A: Allocator + Copy>(
     alloc: A,
     out: &mut String<A>,
@@ -274,7 +275,7 @@ pub fn push_literals<A: Allocator + Copy>(
 ///
 /// # Errors
 ///
-/// Want of memory, as std tells it, with no place.
+/// Running out of memory, as std tells it, with no place.
 pub fn line_of<A: Allocator + Copy>(alloc: A, literal: &Lit<A>) -> Result<String<A>, AllocError>
     ensures { IfOk result (λ line. IsLineOfLit literal.now (chars (string_bytes line))) }
 {
@@ -287,7 +288,7 @@ pub fn line_of<A: Allocator + Copy>(alloc: A, literal: &Lit<A>) -> Result<String
 ///
 /// # Errors
 ///
-/// Want of memory, as std tells it, with no place.
+/// Running out of memory, as std tells it, with no place.
 pub fn lines_of<A: Allocator + Copy>(alloc: A, literals: &[Lit<A>]) -> Result<String<A>, AllocError>
     ensures { IfOk result (λ lines. AreLinesOfLits literals.now (chars (string_bytes lines))) }
 {

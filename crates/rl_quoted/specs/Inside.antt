@@ -1,5 +1,5 @@
--- What it means to parse inside a string: the text that the literal stands for is cut into trees, each of these gets the
--- literal's span, and a parser runs on them with that span as its scope.
+-- What it means to parse inside a string: the text that the literal stands for is cut into trees,
+-- each of these gets the literal's span, and a parser runs on them with that span as its scope.
 use Rattle.std.specs.Prelude.{◌≡◌, ◌≢◌, ◌⊎◌, ℕ, List, [], map, Result, Ok, Err, string_bytes}
 use Rattle.std.specs.Str.{chars}
 use Rattle.rl_tokens.specs.declared.span.Span.{Span}
@@ -14,7 +14,8 @@ use Rattle.rl_tokens.specs.Trees.{Tree, respanned}
 use Rattle.rl_tokens.specs.Reading.{Characters, HasContents, HasSuffix}
 use Rattle.rl_tokens.specs.Lexing.{Lexes, Refuses}
 
--- The text that the string stands for is cut into these trees, and each span is the literal's, also inside groups.
+-- The text that the string stands for is cut into these trees, and each span is the literal's, also
+-- inside groups.
 pub record AreInside (token : SpannedText) (trees : List Tree) : Type 0 where
   pub value : List ℕ
   pub contents : HasContents Str (chars token.text) (Characters value)
@@ -22,18 +23,22 @@ pub record AreInside (token : SpannedText) (trees : List Tree) : Type 0 where
   pub lexes : Lexes value token.span.file cut
   pub spanned : trees ≡ map (respanned token.span) cut
 
--- The parser, by what it means, runs on the trees inside the string to this answer, and leaves the rest.
-pub record RunsInside {R : Type 0} (runs : List Tree → Span → R → List Tree → Type 0) (token : SpannedText) (answer : R) (rest : List Tree) : Type 0 where
+-- The parser, by what it means, runs on the trees inside the string to this answer, and leaves the
+-- rest.
+pub record RunsInside {R : Type 0} (runs : List Tree → Span → R → List Tree → Type 0)
+    (token : SpannedText) (answer : R) (rest : List Tree) : Type 0 where
   pub trees : List Tree
   pub inside : AreInside token trees
   pub ran : runs trees token.span answer rest
 
 -- The parser makes this value of all the trees, and the literal has no suffix.
-pub record IsParsedInside {T E : Type 0} (runs : List Tree → Span → Result T E → List Tree → Type 0) (token : SpannedText) (value : T) : Type 0 where
+pub record IsParsedInside {T E : Type 0} (runs : List Tree → Span → Result T E → List Tree → Type 0)
+    (token : SpannedText) (value : T) : Type 0 where
   pub ran : RunsInside runs token (Ok value) []
   pub no_suffix : HasSuffix Str (chars token.text) []
 
--- The text that the string stands for can't be cut: the refusal is its first fault, or want of memory, at the literal.
+-- The text that the string stands for can't be cut: the refusal is its first fault, or running out
+-- of memory, at the literal.
 pub record RefusesLexingInside {A : Type 0} (token : SpannedText) (e : Error A) : Type 0 where
   pub value : List ℕ
   pub contents : HasContents Str (chars token.text) (Characters value)
@@ -43,12 +48,15 @@ pub record RefusesLexingInside {A : Type 0} (token : SpannedText) (e : Error A) 
   pub error : e ≡ lex_refusal kind token.span
 
 -- The refusal is the parser's own.
-pub record IsOwnRefusal {T E : Type 0} (runs : List Tree → Span → Result T E → List Tree → Type 0) (token : SpannedText) (e : E) : Type 0 where
+pub record IsOwnRefusal {T E : Type 0} (runs : List Tree → Span → Result T E → List Tree → Type 0)
+    (token : SpannedText) (e : E) : Type 0 where
   pub rest : List Tree
   pub ran : RunsInside runs token (Err e) rest
 
 -- The parser makes a value, and trees are left over.
-pub record LeavesTreesInside {T A : Type 0} (runs : List Tree → Span → Result T (Error A) → List Tree → Type 0) (token : SpannedText) (e : Error A) : Type 0 where
+pub record LeavesTreesInside {T A : Type 0}
+    (runs : List Tree → Span → Result T (Error A) → List Tree → Type 0) (token : SpannedText)
+    (e : Error A) : Type 0 where
   pub value : T
   pub rest : List Tree
   pub ran : RunsInside runs token (Ok value) rest
@@ -57,7 +65,8 @@ pub record LeavesTreesInside {T A : Type 0} (runs : List Tree → Span → Resul
 
 -- the refusal is a suffix: that of the text, which isn't empty
 abbrev pub TellsSuffix : {A : Type 0} → List ℕ → ErrorKind A → Type 0
-TellsSuffix text (Suffix suffix) = HasSuffix Str text (chars (string_bytes suffix)) × (string_bytes suffix ≢ [])
+TellsSuffix text (Suffix suffix) =
+    HasSuffix Str text (chars (string_bytes suffix)) × (string_bytes suffix ≢ [])
 TellsSuffix text _ = ⊥
 
 -- The literal has a suffix, which is the refusal.
@@ -66,12 +75,17 @@ pub record IsSuffixed {A : Type 0} (token : SpannedText) (e : Error A) : Type 0 
   pub suffix : TellsSuffix (chars token.text) e.kind
 
 -- The parser makes a value of all the trees, and the literal has a suffix.
-pub record LeavesSuffix {T A : Type 0} (runs : List Tree → Span → Result T (Error A) → List Tree → Type 0) (token : SpannedText) (e : Error A) : Type 0 where
+pub record LeavesSuffix {T A : Type 0}
+    (runs : List Tree → Span → Result T (Error A) → List Tree → Type 0) (token : SpannedText)
+    (e : Error A) : Type 0 where
   pub value : T
   pub ran : RunsInside runs token (Ok value) []
   pub suffixed : IsSuffixed token e
 
--- Why nothing is parsed, in the order in which it is told: a fault of the text, the parser's own refusal, trees that are
--- left over, a suffix; or want of memory, at the literal.
-abbrev pub RefusesInside : {T A : Type 0} → (List Tree → Span → Result T (Error A) → List Tree → Type 0) → SpannedText → Error A → Type 0
-RefusesInside runs token e = RefusesLexingInside token e ⊎ IsOwnRefusal runs token e ⊎ LeavesTreesInside runs token e ⊎ LeavesSuffix runs token e ⊎ (e ≡ memory_at token.span)
+-- Why nothing is parsed, in the order in which it is told: a fault of the text, the parser's own
+-- refusal, trees that are left over, a suffix; or running out of memory, at the literal.
+abbrev pub RefusesInside : {T A : Type 0}
+    → (List Tree → Span → Result T (Error A) → List Tree → Type 0) → SpannedText → Error A → Type 0
+RefusesInside runs token e =
+    RefusesLexingInside token e ⊎ IsOwnRefusal runs token e ⊎ LeavesTreesInside runs token e
+    ⊎ LeavesSuffix runs token e ⊎ (e ≡ memory_at token.span)

@@ -23,7 +23,8 @@ impl<A: Allocator> LitStr<A> {
     /// The trees of the text that the literal stands for, each at the literal's span.
     fn trees_inside<B: Allocator + Copy>(&self, alloc: B) -> Result<TokenStream<B>, Error<B>>
         ensures ok { IfOk result (λ s. AreInside self.now (stream_view s)) }
-        ensures refused { IfErr result (λ e. RefusesLexingInside self.now e ⊎ (e ≡ memory_at self.now.span)) }
+        ensures refused { IfErr result
+            (λ e. RefusesLexingInside self.now e ⊎ (e ≡ memory_at self.now.span)) }
     {
         let span = self.span();
         let value = self.value(alloc)?;
@@ -88,8 +89,8 @@ impl<A: Allocator> LitStr<A> {
     /// # Errors
     ///
     /// In this order: the lexer's, as `Lex`; the parser's own; `Unexpected` where trees are left
-    /// over; `Suffix` where the literal has one. All but the parser's own are told at the literal's
-    /// span, and so is want of memory.
+    /// over; `Suffix` where the literal has one. All but the parser's own are reported at the
+    /// literal's span, and so is running out of memory.
     ///
     /// # Example
     ///

@@ -66,7 +66,8 @@ impl<A: Allocator> LitByteStr<A> {
     /// LitByteStr::new(alloc, value.as_slice(), literal.span())
     /// ```
     pub fn value<B: Allocator>(&self, alloc: B) -> Result<Vec<u8, B>, Error<B>>
-        ensures value { IfOk result (λ v. HasContents ByteStr (chars self.now.text) (Bytes v.items)) }
+        ensures value { IfOk result
+            (λ v. HasContents ByteStr (chars self.now.text) (Bytes v.items)) }
         ensures memory { IfErr result (λ e. e ≡ memory_at self.now.span) }
     {
         let (body, plain) = self.body();
@@ -89,7 +90,8 @@ impl<A: Allocator> LitByteStr<A> {
     /// }
     /// ```
     pub fn value_ref(&self) -> Option<&[u8]>
-        ensures some { IfSome result (λ v. HasContents ByteStr (chars self.now.text) (Bytes v.now)) }
+        ensures some { IfSome result
+            (λ v. HasContents ByteStr (chars self.now.text) (Bytes v.now)) }
         ensures plain { OnSome result (IsPlain ByteStr self.now.text) }
         ensures none { IfNone result (IsPlain ByteStr self.now.text → ⊥) }
     {

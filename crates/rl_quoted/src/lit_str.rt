@@ -76,7 +76,8 @@ impl<A: Allocator> LitStr<A> {
     /// Ok(holds_control(value.as_str()))
     /// ```
     pub fn value<B: Allocator>(&self, alloc: B) -> Result<String<B>, Error<B>>
-        ensures value { IfOk result (λ v. HasContents Str (chars self.now.text) (Characters (chars (string_bytes v)))) }
+        ensures value { IfOk result
+            (λ v. HasContents Str (chars self.now.text) (Characters (chars (string_bytes v)))) }
         ensures memory { IfErr result (λ e. e ≡ memory_at self.now.span) }
     {
         let (body, plain) = self.body();
@@ -99,7 +100,8 @@ impl<A: Allocator> LitStr<A> {
     /// }
     /// ```
     pub fn value_ref(&self) -> Option<&str>
-        ensures some { IfSome result (λ v. HasContents Str (chars self.now.text) (Characters (chars v.now))) }
+        ensures some { IfSome result
+            (λ v. HasContents Str (chars self.now.text) (Characters (chars v.now))) }
         ensures plain { OnSome result (IsPlain Str self.now.text) }
         ensures none { IfNone result (IsPlain Str self.now.text → ⊥) }
     {

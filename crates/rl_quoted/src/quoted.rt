@@ -264,7 +264,8 @@ impl<K: QuotedKind, A: Allocator> fmt::Display for Quoted<K, A> {
 
 /// The token's text between the name and braces.
 impl<K: QuotedKind, A: Allocator> fmt::Debug for Quoted<K, A> {
-    ghost debug_output = { λ l. Some (kind_name K.KIND ++ codes " { token: " ++ l.text ++ codes " }") };
+    ghost debug_output = { λ l. Some (kind_name K.KIND ++ codes " { token: " ++ l.text
+        ++ codes " }") };
 
     fn fmt<W: fmt::Write>(&self, f: &mut fmt::Formatter<W>) -> fmt::Result {
         let name = K::KIND.struct_name();

@@ -5,7 +5,8 @@ use Rattle.std.proofs.lemmas.Bool.Decides.{nat_tests}
 use Rattle.std.specs.Char.{is_ascii_alphabetic, is_ascii_alphanumeric}
 use Rattle.unicode_ident.proofs.IdentLemmas.{is_xid_start-ascii, is_xid_continue-ascii}
 use Rattle.unicode_ident.specs.Ident.{is_xid_start, is_xid_continue}
-use Rattle.rl_tokens.specs.Texts.{is_white, is_start, is_continue}
+use Rattle.rl_tokens.specs.Texts.{is_white}
+use Rattle.rl_tokens.specs.Lexemes.{is_start, is_continue}
 
 -- what is no white space
 plain : (b w : Bool) → (b ≡ true → w ≡ false) → (b && not w) ≡ b

@@ -4,15 +4,16 @@ use Rattle.std.proofs.lemmas.Option.{none-some}
 use Rattle.std.specs.Prelude.{codes, nat_lt, if◌then◌else◌}
 use Rattle.rl_tokens.specs.declared.lex_error.LexKind.{LexKind}
 use Rattle.rl_tokens.specs.declared.lex_error.LexKind.TheVariants.{DocComment, UnclosedComment, UnclosedQuote, Lifetime, RawIdentifier, StrayCharacter, UnmatchedClose, UnclosedGroup, TooDeep, Memory}
-use Rattle.rl_tokens.specs.Texts.{is_start, is_among, first_passes, begins}
-use Rattle.rl_tokens.specs.Lexemes.{Lexeme, lexeme_text, IsLexeme, LexemeForm, form_of, DelimiterForm, MarkForm, delimiters, after_run, is_hash}
-use Rattle.rl_tokens.specs.Mirrors.LexemeAt.{lexeme_at, SlashHead}
-use Rattle.rl_tokens.specs.Lexing.{OpenGroup, is_opener, is_closer, closes, popped, behind_form, begins_doc_comment, begins_quote, begins_lifetime, begins_raw_identifier, BeginsNoLexeme, FaultAt}
+use Rattle.rl_tokens.specs.Texts.{is_among, first_passes, begins}
+use Rattle.rl_tokens.specs.Lexemes.{Lexeme, lexeme_text, IsLexeme, LexemeForm, form_of, DelimiterForm, MarkForm, delimiters, is_start, begins_raw_identifier}
+use Rattle.rl_tokens.specs.Mirrors.LexemeAt.{lexeme_at, SlashHead, after_run, is_hash, begins_quote}
+use Rattle.rl_tokens.specs.Lexing.{OpenGroup, is_opener, is_closer, closes, popped, behind_form, begins_doc_comment, begins_lifetime, BeginsNoLexeme, FaultAt}
 use Rattle.rl_tokens.specs.Mirrors.TreeBuilders.{fault_kind}
 use Rattle.rl_tokens.proofs.Comments.{false_unless, same_Some}
 use Rattle.rl_tokens.proofs.Pieces.{is_equal}
 use Rattle.rl_tokens.proofs.LexemeRows.{both_true, not_true, not_among}
 use Rattle.rl_tokens.proofs.LexemeFronts.{lexeme_at-past, start_ascii, front_delimiter, class47, at_class, among}
+use Rattle.rl_tokens.proofs.LexemeOpeners.{quote_here, no_quote_here, raw_split}
 use Rattle.rl_tokens.proofs.LexemeFound.{lexeme_at-found}
 use Rattle.rl_tokens.proofs.CutLaws.{IsStuck}
 
@@ -121,7 +122,7 @@ fault_stuck UnclosedComment groups r (h, other) = stuck_unless groups r (slash_n
 fault_stuck UnclosedQuote groups r (none, h) = stuck_without groups r none
 fault_stuck Lifetime groups r (none, h) = stuck_without groups r none
 fault_stuck RawIdentifier groups r (none, h) = stuck_without groups r none
-fault_stuck StrayCharacter groups r (some, none, h) = stuck_without groups r none
+fault_stuck StrayCharacter groups r (some, none, no_quote, h) = stuck_without groups r none
 fault_stuck UnmatchedClose groups r h = close_stuck groups r h
 fault_stuck UnclosedGroup groups r (nil, some) = nothing_stuck groups r nil
 fault_stuck TooDeep groups r (h, n) = deep_stuck groups r h n
@@ -181,15 +182,6 @@ life_no_quote r h =
     let (d, u, same, is) = life_split r h in
     ap begins_quote same ∙ ap (λ b. not b) is
 
-raw_split : (r : List ℕ) → begins_raw_identifier r ≡ true → (d : ℕ) × (u : List ℕ) × (r ≡ 114 ∷ 35 ∷ d ∷ u) × (is_start d ≡ true)
-raw_split [] h = absurd (cc)
-raw_split (c ∷ []) h = absurd (cc)
-raw_split (c ∷ e ∷ cs) h =
-    let k : ((c == 114 && e == 35) ≡ true) × (first_passes is_start cs ≡ true) = both_true (c == 114 && e == 35) (first_passes is_start cs) h in
-    let m : ((c == 114) ≡ true) × ((e == 35) ≡ true) = both_true (c == 114) (e == 35) k.0 in
-    let (d, u, same, is) = first_passed is_start cs k.1 in
-    (d, u, ap (λ x. x ∷ e ∷ cs) (is_equal c 114 m.0) ∙ ap (λ x. 114 ∷ x ∷ cs) (is_equal e 35 m.1) ∙ ap (λ x. 114 ∷ 35 ∷ x) same, is)
-
 raw_no_quote : (r : List ℕ) → begins_raw_identifier r ≡ true → begins_quote r ≡ false
 raw_no_quote r h =
     let (d, u, same, is) = raw_split r h in
@@ -227,13 +219,12 @@ or_false : (a b : Bool) → (a || b) ≡ false → (a ≡ false) × (b ≡ false
 or_false true b h = absurd (cc)
 or_false false b h = (refl, h)
 
-stray_kind : (r : List ℕ) → r ≢ [] → BeginsNoLexeme r → (begins_doc_comment r || begins (codes "/*") r || begins_quote r || begins_lifetime r || begins_raw_identifier r) ≡ false → StrayCharacter ≡ kind_at (lexeme_at r) r
-stray_kind r some none h =
+stray_kind : (r : List ℕ) → r ≢ [] → BeginsNoLexeme r → begins_quote r ≡ false → (begins_doc_comment r || begins (codes "/*") r || begins_lifetime r || begins_raw_identifier r) ≡ false → StrayCharacter ≡ kind_at (lexeme_at r) r
+stray_kind r some none quote h =
     let e = or_false _ _ h in
     let d = or_false _ _ e.0 in
-    let c = or_false _ _ d.0 in
-    let b = or_false _ _ c.0 in
-    no_lexeme_kind r StrayCharacter (no_lexeme_at r none) some (chosen_kind r false false false false false b.0 b.1 c.1 d.1 e.1)
+    let b = or_false _ _ d.0 in
+    no_lexeme_kind r StrayCharacter (no_lexeme_at r none) some (chosen_kind r false false false false false b.0 b.1 quote d.1 e.1)
 
 delimiter_kind : (k : LexKind) (c : ℕ) (t r : List ℕ) → r ≡ c ∷ t → is_among delimiters c ≡ true → kind_by_form (DelimiterForm c) ≡ k → k ≡ kind_at (lexeme_at r) r
 delimiter_kind k c t r same is e = sym (ap (λ o. kind_at o r) (ap lexeme_at same ∙ front_delimiter c t is) ∙ e)
@@ -256,10 +247,10 @@ fault_kind_at DocComment groups r h =
 fault_kind_at UnclosedComment groups r (h, other) =
     no_lexeme_kind r UnclosedComment (slash_none r (block_slash r h)) (slash_some r (block_slash r h))
     (chosen_kind r false true (begins_quote r) (begins_lifetime r) (begins_raw_identifier r) other h refl refl refl)
-fault_kind_at UnclosedQuote groups r (none, h) = quote_kind r none h
+fault_kind_at UnclosedQuote groups r (none, h) = quote_kind r none (quote_here r h)
 fault_kind_at Lifetime groups r (none, h) = life_kind r none h
 fault_kind_at RawIdentifier groups r (none, h) = raw_kind r none h
-fault_kind_at StrayCharacter groups r (some, none, h) = stray_kind r some none h
+fault_kind_at StrayCharacter groups r (some, none, no_quote, h) = stray_kind r some none (no_quote_here r no_quote) h
 fault_kind_at UnmatchedClose groups r h = close_kind groups r h
 fault_kind_at UnclosedGroup groups r (nil, some) = sym (ap (λ x. kind_at (lexeme_at x) x) nil)
 fault_kind_at TooDeep groups r (h, n) = deep_kind r h
@@ -269,10 +260,10 @@ fault_kind_at Memory groups r h = absurd h
 pub no_fault : (k : LexKind) → FaultAt k [] [] → ⊥
 no_fault DocComment h = absurd (cc)
 no_fault UnclosedComment (h, _) = absurd (cc)
-no_fault UnclosedQuote (_, h) = absurd (cc)
+no_fault UnclosedQuote (_, h) = let q : false ≡ true = quote_here [] h in absurd (cc)
 no_fault Lifetime (_, h) = absurd (cc)
 no_fault RawIdentifier (_, h) = absurd (cc)
-no_fault StrayCharacter (some, _, _) = some refl
+no_fault StrayCharacter (some, _, _, _) = some refl
 no_fault UnmatchedClose h = absurd (cc)
 no_fault UnclosedGroup (_, some) = some refl
 no_fault TooDeep (h, _) = absurd (cc)

@@ -11,9 +11,12 @@ use Rattle.rl_tokens.specs.declared.lex_error.LexError.{LexError}
 use Rattle.rl_tokens.specs.Texts.{begins}
 use Rattle.rl_tokens.specs.Cursors.{CursorState, IsCursorState, IsFirstFault}
 use Rattle.rl_tokens.specs.Texts.{byte_len}
-use Rattle.rl_tokens.specs.Lexing.{LexedToken, LexesUpTo, open_groups, OpenGroup, fault_place, begins_doc_comment, begins_quote, begins_lifetime, begins_raw_identifier, BeginsNoLexeme, FaultAt, Fault, Refuses}
+use Rattle.rl_tokens.specs.Lexing.{LexedToken, LexesUpTo, open_groups, OpenGroup, fault_place, begins_doc_comment, begins_lifetime, BeginsNoLexeme, FaultAt, Fault, Refuses}
 use Rattle.rl_tokens.specs.Mirrors.TreeBuilders.{fault_kind}
+use Rattle.rl_tokens.proofs.LexemeOpeners.{quote_begins, no_quote_begins}
 use Rattle.rl_tokens.proofs.Rests.{behind_length}
+use Rattle.rl_tokens.specs.Mirrors.LexemeAt.{begins_quote}
+use Rattle.rl_tokens.specs.Lexemes.{begins_raw_identifier}
 
 -- a text's characters take its bytes
 pub char_len : (t : List ℕ) → IsUtf8 t → byte_len (chars t) ≡ length t
@@ -34,13 +37,13 @@ kind_here groups r some none =
     go : (doc block quote life raw : Bool) → begins_doc_comment r ≡ doc → begins (codes "/*") r ≡ block → begins_quote r ≡ quote → begins_lifetime r ≡ life → begins_raw_identifier r ≡ raw → FaultAt (if doc then DocComment else (if block then UnclosedComment else (if quote then UnclosedQuote else (if life then Lifetime else (if raw then RawIdentifier else StrayCharacter))))) groups r
     go true block quote life raw a b c d e = a
     go false true quote life raw a b c d e = (b, a)
-    go false false true life raw a b c d e = (none, c)
+    go false false true life raw a b c d e = (none, quote_begins r c)
     go false false false true raw a b c d e = (none, d)
     go false false false false true a b c d e = (none, e)
-    go false false false false false a b c d e = (some, none, none_of_these a b c d e)
+    go false false false false false a b c d e = (some, none, no_quote_begins r c, none_of_these a b d e)
       where
-        none_of_these : begins_doc_comment r ≡ false → begins (codes "/*") r ≡ false → begins_quote r ≡ false → begins_lifetime r ≡ false → begins_raw_identifier r ≡ false → (begins_doc_comment r || begins (codes "/*") r || begins_quote r || begins_lifetime r || begins_raw_identifier r) ≡ false
-        none_of_these a b c d e = or_none _ _ (or_none _ _ (or_none _ _ (or_none _ _ a b) c) d) e
+        none_of_these : begins_doc_comment r ≡ false → begins (codes "/*") r ≡ false → begins_lifetime r ≡ false → begins_raw_identifier r ≡ false → (begins_doc_comment r || begins (codes "/*") r || begins_lifetime r || begins_raw_identifier r) ≡ false
+        none_of_these a b d e = or_none _ _ (or_none _ _ (or_none _ _ a b) d) e
 
 pub fault_refuses : (t : List ℕ) (k : LexKind) (at : ℕ) → Fault t k at → Refuses t k at
 fault_refuses t DocComment at h = h

@@ -3,14 +3,15 @@ use Rattle.std.proofs.Common.{◌≡◌, ℕ, suc, zero, ◌<◌, inl, inr, Bool
 use Rattle.std.specs.List.{list_all}
 use Rattle.std.specs.Prelude.{if◌then◌else◌}
 use Rattle.std.specs.Option.{option_map}
-use Rattle.rl_tokens.specs.Texts.{is_start, is_continue, is_underscore, is_among, first_passes}
+use Rattle.rl_tokens.specs.Texts.{is_underscore, is_among, first_passes, is_row_part}
 use Rattle.std.specs.Char.{is_ascii_digit}
-use Rattle.rl_tokens.specs.Lexemes.{is_numeral_part, is_hash, is_base_letter, delimiters, marks, after_run, begins_hashed_quote, begins_hashes, begins_exponent, begins_dot, after_sign, BodyPart, PlainPart, EscapedPart, body_text, IsBody, CharacterBody, OneCharacter, EscapedCharacter, character_body_text, IsCharacterBody, LexedFraction, NoLexedFraction, LexedDot, lexed_fraction_text, LexedSign, NoLexedSign, LexedPlus, LexedMinus, lexed_sign_text, LexedExponent, NoLexedExponent, LexedPower, lexed_exponent_text, IsRow, IsLexedSuffix, IsRawBody, IsLexedFraction, IsLexedExponent, begins_otherwise, LiteralPrefix, NoPrefix, BytePrefix, CPrefix, prefix_text, Lexeme, QuotedLexeme, RawLexeme, CharacterLexeme, BasedLexeme, DecimalLexeme, IdentifierLexeme, DelimiterLexeme, MarkLexeme, lexeme_text, IsLexeme, LexemeForm, LiteralForm, IdentifierForm, DelimiterForm, MarkForm, form_of}
+use Rattle.rl_tokens.specs.Lexemes.{is_base_letter, delimiters, marks, begins_hashes, begins_dot, BodyPart, PlainPart, EscapedPart, body_text, IsBody, CharacterBody, OneCharacter, EscapedCharacter, character_body_text, IsCharacterBody, LexedFraction, NoLexedFraction, LexedDot, lexed_fraction_text, LexedSign, NoLexedSign, LexedPlus, LexedMinus, lexed_sign_text, LexedExponent, NoLexedExponent, LexedPower, lexed_exponent_text, IsRow, IsLexedSuffix, IsRawBody, IsLexedFraction, IsLexedExponent, LiteralPrefix, NoPrefix, BytePrefix, CPrefix, prefix_text, Lexeme, QuotedLexeme, RawLexeme, CharacterLexeme, BasedLexeme, DecimalLexeme, IdentifierLexeme, DelimiterLexeme, MarkLexeme, lexeme_text, IsLexeme, LexemeForm, LiteralForm, IdentifierForm, DelimiterForm, MarkForm, form_of, is_start, is_continue}
 use Rattle.rl_tokens.proofs.Comments.{chosen, chosen3, same_Some}
 use Rattle.rl_tokens.proofs.Pieces.{is_equal}
 use Rattle.rl_tokens.specs.Puncts.{is_punct}
-use Rattle.rl_tokens.specs.Mirrors.LexemeAt.{after_suffix, after_quote, hashes, after_raw, after_apostrophe, after_single, after_lexed_fraction, after_lexed_exponent, after_decimal, HeadClass, LetterBHead, LetterCHead, LetterRHead, OtherLetterHead, QuoteHead, ApostropheHead, DigitHead, SlashHead, StrayHead, start_class, other_class, head_class, quoted_at, raw_at, single_at, word_at, by_class, lexeme_at, literal_at, DelimiterHead, MarkHead, after_digit}
+use Rattle.rl_tokens.specs.Mirrors.LexemeAt.{after_suffix, after_quote, hashes, after_raw, after_apostrophe, after_single, after_lexed_fraction, after_lexed_exponent, after_decimal, HeadClass, LetterBHead, LetterCHead, LetterRHead, OtherLetterHead, QuoteHead, ApostropheHead, DigitHead, SlashHead, StrayHead, start_class, other_class, head_class, quoted_at, raw_at, single_at, word_at, by_class, lexeme_at, literal_at, DelimiterHead, MarkHead, after_digit, is_hash, after_run, begins_hashed_quote, begins_exponent, after_sign, begins_otherwise}
 use Rattle.rl_tokens.proofs.LexemeRows.{both_true, hashes_inside, power_text}
+use Rattle.rl_tokens.proofs.LexemeOpeners.{opens_found, sign_found, underscores_found, passes_split, no_exponent_begins, none_otherwise}
 use Rattle.rl_tokens.proofs.LexemeFronts.{decimal_text, raw_text}
 use Rattle.std.proofs.lemmas.Option.{none-some}
 
@@ -100,15 +101,6 @@ raw_found n (c ∷ t) r h =
       | inr (a, x) ↦ raw_more n c t r a (raw_found n t r x)
     ]
 
-opens_step : (c : ℕ) (t : List ℕ) (b : Bool) → (c == 35) ≡ b → slice_index (cond b (after_run is_hash t) (c ∷ t)) 0 ≡ 34 → (slice_index (after_run is_hash t) 0 ≡ 34 → t ≡ replicate (hashes t) 35 ++ 34 ∷ drop 1 (after_run is_hash t)) → c ∷ t ≡ replicate (cond b (suc (hashes t)) zero) 35 ++ 34 ∷ drop 1 (cond b (after_run is_hash t) (c ∷ t))
-opens_step c t true h opens more =
-    ap (λ s. c ∷ s) (more opens) ∙ ap (λ x. x ∷ (replicate (hashes t) 35 ++ 34 ∷ drop 1 (after_run is_hash t))) (is_equal c 35 h)
-opens_step c t false h opens more = ap (λ x. x ∷ t) opens
-
-opens_found : (t : List ℕ) → slice_index (after_run is_hash t) 0 ≡ 34 → t ≡ replicate (hashes t) 35 ++ 34 ∷ drop 1 (after_run is_hash t)
-opens_found [] h = absurd (omega arith)
-opens_found (c ∷ t) h = opens_step c t (c == 35) refl h (opens_found t)
-
 -- Characters.
 abbrev More : List ℕ → List ℕ → Type 0
 More t r = (more : List ℕ) × (list_all (λ d. not (d == 39 || d == 10)) more ≡ true) × (t ≡ more ++ 39 ∷ r)
@@ -155,60 +147,39 @@ dot_split : (t : List ℕ) → begins_dot t ≡ true → t ≡ 46 ∷ drop 1 t
 dot_split [] h = absurd (cc)
 dot_split (c ∷ t) h = ap (λ x. x ∷ t) (is_equal c 46 (both_true (c == 46) (not (first_passes (λ d. d == 46 || is_start d) t)) h).0)
 
-fraction_step : (t : List ℕ) (b : Bool) → begins_dot t ≡ b → Fractioned t (cond b (after_run is_numeral_part (drop 1 t)) t)
+fraction_step : (t : List ℕ) (b : Bool) → begins_dot t ≡ b → Fractioned t (cond b (after_run (is_row_part is_ascii_digit) (drop 1 t)) t)
 fraction_step t false h = (NoLexedFraction, h, refl)
 fraction_step t true h =
-    let (digits, row, same) = run_found is_numeral_part (drop 1 t) in
-    let e : t ≡ 46 ∷ (digits ++ after_run is_numeral_part (drop 1 t)) = dot_split t h ∙ ap (λ s. 46 ∷ s) same in
+    let (digits, row, same) = run_found (is_row_part is_ascii_digit) (drop 1 t) in
+    let e : t ≡ 46 ∷ (digits ++ after_run (is_row_part is_ascii_digit) (drop 1 t)) = dot_split t h ∙ ap (λ s. 46 ∷ s) same in
     (LexedDot digits, (ap begins_dot (sym e) ∙ h, row), e)
 
 pub fraction_found : (t : List ℕ) → Fractioned t (after_lexed_fraction t)
 fraction_found t = fraction_step t (begins_dot t) refl
 
-underscores_found : (t : List ℕ) → (n : ℕ) × (t ≡ replicate n 95 ++ after_run is_underscore t)
-underscores_found [] = (zero, refl)
-underscores_found (c ∷ t) = go (c == 95) refl (underscores_found t)
-  where
-    go : (b : Bool) → (c == 95) ≡ b → ((n : ℕ) × (t ≡ replicate n 95 ++ after_run is_underscore t)) → (n : ℕ) × (c ∷ t ≡ replicate n 95 ++ cond b (after_run is_underscore t) (c ∷ t))
-    go true h (n, same) = (suc n, ap (λ s. c ∷ s) same ∙ ap (λ x. x ∷ (replicate n 95 ++ after_run is_underscore t)) (is_equal c 95 h))
-    go false h more = (zero, refl)
-
-sign_found : (t : List ℕ) → (s : LexedSign) × (t ≡ lexed_sign_text s ++ after_sign t)
-sign_found [] = (NoLexedSign, refl)
-sign_found (c ∷ t) = go (c == 43) (c == 45) refl refl
-  where
-    go : (a b : Bool) → (c == 43) ≡ a → (c == 45) ≡ b → (s : LexedSign) × (c ∷ t ≡ lexed_sign_text s ++ cond (a || b) t (c ∷ t))
-    go true b h k = (LexedPlus, ap (λ x. x ∷ t) (is_equal c 43 h))
-    go false true h k = (LexedMinus, ap (λ x. x ∷ t) (is_equal c 45 k))
-    go false false h k = (NoLexedSign, refl)
-
-passes_split : (test : ℕ → Bool) (t : List ℕ) → first_passes test t ≡ true → (d : ℕ) × (u : List ℕ) × (t ≡ d ∷ u) × (test d ≡ true)
-passes_split test [] h = absurd (cc)
-passes_split test (d ∷ t) h = (d, t, refl, h)
-
-part_run : (n d : ℕ) (u : List ℕ) → is_ascii_digit d ≡ true → after_run is_numeral_part (replicate n 95 ++ d ∷ u) ≡ after_run is_numeral_part u
-part_run zero d u is = ap (λ b. cond (b || d == 95) (after_run is_numeral_part u) (d ∷ u)) is
+part_run : (n d : ℕ) (u : List ℕ) → is_ascii_digit d ≡ true → after_run (is_row_part is_ascii_digit) (replicate n 95 ++ d ∷ u) ≡ after_run (is_row_part is_ascii_digit) u
+part_run zero d u is = ap (λ b. cond (b || d == 95) (after_run (is_row_part is_ascii_digit) u) (d ∷ u)) is
 part_run (suc n) d u is = part_run n d u is
 
 abbrev Powered : List ℕ → List ℕ → Type 0
 Powered t r = (e : LexedExponent) × IsLexedExponent e r × (t ≡ lexed_exponent_text e ++ r)
 
-power_found : (c : ℕ) (t : List ℕ) → (c == 101 || c == 69) ≡ true → first_passes is_ascii_digit (after_run is_underscore (after_sign t)) ≡ true → Powered (c ∷ t) (after_run is_numeral_part (after_sign t))
+power_found : (c : ℕ) (t : List ℕ) → (c == 101 || c == 69) ≡ true → first_passes is_ascii_digit (after_run is_underscore (after_sign t)) ≡ true → Powered (c ∷ t) (after_run (is_row_part is_ascii_digit) (after_sign t))
 power_found c t letter digit =
     let (s, t_is) = sign_found t in
     let (n, v_is) = underscores_found (after_sign t) in
     let (d, u, w_is, is) = passes_split is_ascii_digit (after_run is_underscore (after_sign t)) digit in
-    let (more, row, u_is) = run_found is_numeral_part u in
+    let (more, row, u_is) = run_found (is_row_part is_ascii_digit) u in
     let v : after_sign t ≡ replicate n 95 ++ d ∷ u = v_is ∙ ap (λ x. replicate n 95 ++ x) w_is in
-    let r : after_run is_numeral_part (after_sign t) ≡ after_run is_numeral_part u = ap (after_run is_numeral_part) v ∙ part_run n d u is in
+    let r : after_run (is_row_part is_ascii_digit) (after_sign t) ≡ after_run (is_row_part is_ascii_digit) u = ap (after_run (is_row_part is_ascii_digit)) v ∙ part_run n d u is in
     subst (λ (x : List ℕ). Powered (c ∷ t) x) (sym r) (
       LexedPower c s n d more,
       (letter, is, row),
-      ap (λ x. c ∷ x) (t_is ∙ ap (λ x. lexed_sign_text s ++ x) (v ∙ ap (λ x. replicate n 95 ++ d ∷ x) u_is)) ∙ sym (power_text c s n d more (after_run is_numeral_part u)),
+      ap (λ x. c ∷ x) (t_is ∙ ap (λ x. lexed_sign_text s ++ x) (v ∙ ap (λ x. replicate n 95 ++ d ∷ x) u_is)) ∙ sym (power_text c s n d more (after_run (is_row_part is_ascii_digit) u)),
     )
 
-exponent_step : (t : List ℕ) (b : Bool) → begins_exponent t ≡ b → Powered t (cond b (after_run is_numeral_part (after_sign (drop 1 t))) t)
-exponent_step t false h = (NoLexedExponent, h, refl)
+exponent_step : (t : List ℕ) (b : Bool) → begins_exponent t ≡ b → Powered t (cond b (after_run (is_row_part is_ascii_digit) (after_sign (drop 1 t))) t)
+exponent_step t false h = (NoLexedExponent, no_exponent_begins t h, refl)
 exponent_step [] true h = absurd (cc)
 exponent_step (c ∷ t) true h =
     let k : ((c == 101 || c == 69) ≡ true) × (first_passes is_ascii_digit (after_run is_underscore (after_sign t)) ≡ true) = both_true (c == 101 || c == 69) (first_passes is_ascii_digit (after_run is_underscore (after_sign t))) h in
@@ -232,18 +203,18 @@ literal_from t o p h found =
 
 decimal_found : (d : ℕ) (t : List ℕ) → is_ascii_digit d ≡ true → (d == 48 && first_passes is_base_letter t) ≡ false → FoundLiteral (d ∷ t) (after_decimal t)
 decimal_found d t is other =
-    let (more, row, t_is) = run_found is_numeral_part t in
-    let (f, fraction, a_is) = fraction_found (after_run is_numeral_part t) in
-    let (e, exponent, b_is) = exponent_found (after_lexed_fraction (after_run is_numeral_part t)) in
-    let (x, suffix, c_is) = suffix_found (after_lexed_exponent (after_lexed_fraction (after_run is_numeral_part t))) in
-    let b : after_lexed_fraction (after_run is_numeral_part t) ≡ lexed_exponent_text e ++ (x ++ after_decimal t) = b_is ∙ ap (λ s. lexed_exponent_text e ++ s) c_is in
-    let a : after_run is_numeral_part t ≡ lexed_fraction_text f ++ (lexed_exponent_text e ++ (x ++ after_decimal t)) = a_is ∙ ap (λ s. lexed_fraction_text f ++ s) b in
+    let (more, row, t_is) = run_found (is_row_part is_ascii_digit) t in
+    let (f, fraction, a_is) = fraction_found (after_run (is_row_part is_ascii_digit) t) in
+    let (e, exponent, b_is) = exponent_found (after_lexed_fraction (after_run (is_row_part is_ascii_digit) t)) in
+    let (x, suffix, c_is) = suffix_found (after_lexed_exponent (after_lexed_fraction (after_run (is_row_part is_ascii_digit) t))) in
+    let b : after_lexed_fraction (after_run (is_row_part is_ascii_digit) t) ≡ lexed_exponent_text e ++ (x ++ after_decimal t) = b_is ∙ ap (λ s. lexed_exponent_text e ++ s) c_is in
+    let a : after_run (is_row_part is_ascii_digit) t ≡ lexed_fraction_text f ++ (lexed_exponent_text e ++ (x ++ after_decimal t)) = a_is ∙ ap (λ s. lexed_fraction_text f ++ s) b in
     let whole : t ≡ more ++ (lexed_fraction_text f ++ (lexed_exponent_text e ++ (x ++ after_decimal t))) = t_is ∙ ap (λ s. more ++ s) a in (
       DecimalLexeme d more f e x,
       (
         is,
         ap (λ s. d == 48 && first_passes is_base_letter s) (sym whole) ∙ other,
-        subst (λ (s : List ℕ). IsRow is_numeral_part more s) a row,
+        subst (λ (s : List ℕ). IsRow (is_row_part is_ascii_digit) more s) a row,
         subst (λ (s : List ℕ). IsLexedFraction f s) b fraction,
         subst (λ (s : List ℕ). IsLexedExponent e s) c_is exponent,
         suffix,
@@ -352,7 +323,7 @@ word_found : (c : ℕ) (t : List ℕ) (p : LexemeForm × List ℕ) → is_start 
 word_found c t p is other h =
     let (more, row, t_is) = run_found is_continue t in
     let here : Found (c ∷ t) (IdentifierForm, after_run is_continue t) =
-    (IdentifierLexeme c more, (is, row, ap (λ s. begins_otherwise (c ∷ s)) (sym t_is) ∙ other), ap (λ s. c ∷ s) t_is, refl) in
+    (IdentifierLexeme c more, (is, row, none_otherwise (c ∷ more ++ after_run is_continue t) (ap (λ s. begins_otherwise (c ∷ s)) (sym t_is) ∙ other)), ap (λ s. c ∷ s) t_is, refl) in
     subst (λ (x : LexemeForm × List ℕ). Found (c ∷ t) x) (same_Some (IdentifierForm, after_run is_continue t) p h) here
 
 prefixed : (k : ℕ) (t : List ℕ) → slice_index t 0 ≡ k → 0 < k → t ≡ k ∷ drop 1 t

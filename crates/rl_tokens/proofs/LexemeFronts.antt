@@ -6,15 +6,16 @@ use Rattle.std.specs.Prelude.{IsTrue, nat_lt}
 use Rattle.std.specs.Char.{is_ascii_alphabetic}
 use Rattle.std.specs.Option.{option_map}
 use Rattle.unicode_ident.proofs.IdentLemmas.{is_xid_start-ascii}
-use Rattle.rl_tokens.specs.Texts.{is_white, is_start, is_continue, is_among, first_passes}
+use Rattle.rl_tokens.specs.Texts.{is_white, is_among, first_passes, is_row_part}
 use Rattle.std.specs.Char.{is_ascii_digit}
-use Rattle.rl_tokens.specs.Lexemes.{is_numeral_part, is_hash, is_base_letter, delimiters, marks, after_run, begins_hashed_quote, BodyPart, body_text, IsBody, CharacterBody, character_body_text, IsCharacterBody, LexedFraction, lexed_fraction_text, LexedExponent, lexed_exponent_text, IsRow, IsLexedSuffix, IsRawBody, begins_otherwise, LiteralPrefix, NoPrefix, BytePrefix, CPrefix, Lexeme, QuotedLexeme, RawLexeme, CharacterLexeme, BasedLexeme, DecimalLexeme, IdentifierLexeme, DelimiterLexeme, MarkLexeme, lexeme_text, IsLexeme, LexemeForm, LiteralForm, IdentifierForm, DelimiterForm, MarkForm, form_of}
+use Rattle.rl_tokens.specs.Lexemes.{BeginsOtherwise, is_base_letter, delimiters, marks, BodyPart, body_text, IsBody, CharacterBody, character_body_text, IsCharacterBody, LexedFraction, lexed_fraction_text, LexedExponent, lexed_exponent_text, IsRow, IsLexedSuffix, IsRawBody, LiteralPrefix, NoPrefix, BytePrefix, CPrefix, Lexeme, QuotedLexeme, RawLexeme, CharacterLexeme, BasedLexeme, DecimalLexeme, IdentifierLexeme, DelimiterLexeme, MarkLexeme, lexeme_text, IsLexeme, LexemeForm, LiteralForm, IdentifierForm, DelimiterForm, MarkForm, form_of, is_start, is_continue}
 use Rattle.rl_tokens.proofs.Gaps.{OneLexeme}
 use Rattle.rl_tokens.proofs.Comments.{false_unless, same_Some}
 use Rattle.rl_tokens.proofs.Pieces.{is_equal}
 use Rattle.rl_tokens.specs.Puncts.{is_punct}
-use Rattle.rl_tokens.specs.Mirrors.LexemeAt.{after_suffix, after_raw, after_lexed_fraction, after_lexed_exponent, after_decimal, HeadClass, LetterBHead, LetterCHead, LetterRHead, OtherLetterHead, QuoteHead, ApostropheHead, DigitHead, SlashHead, StrayHead, start_class, other_class, head_class, quoted_at, raw_at, single_at, word_at, by_class, lexeme_at, literal_at, DelimiterHead, MarkHead}
-use Rattle.rl_tokens.proofs.LexemeRows.{both_true, not_true, run_past, suffix_past, quote_past, raw_past, hashes_count, hashes_past, single_past, fraction_past, exponent_past, not_among}
+use Rattle.rl_tokens.specs.Mirrors.LexemeAt.{after_suffix, after_raw, after_lexed_fraction, after_lexed_exponent, after_decimal, HeadClass, LetterBHead, LetterCHead, LetterRHead, OtherLetterHead, QuoteHead, ApostropheHead, DigitHead, SlashHead, StrayHead, start_class, other_class, head_class, quoted_at, raw_at, single_at, word_at, by_class, lexeme_at, literal_at, DelimiterHead, MarkHead, is_hash, after_run, begins_hashed_quote, begins_otherwise}
+use Rattle.rl_tokens.proofs.LexemeRows.{both_true, not_true, run_past, suffix_past, quote_past, raw_past, hashes_count, hashes_past, single_past, fraction_past, not_among}
+use Rattle.rl_tokens.proofs.LexemeOpeners.{raw_opens_here, exponent_past, no_otherwise}
 use Rattle.std.proofs.lemmas.List.{append_cancel_right}
 
 -- Heads: the first character alone.
@@ -119,9 +120,6 @@ front_mark c t (inr (e, h)) = ap (λ x. lexeme_at (x ∷ t)) e ∙ front_slash t
 pub raw_text : (n : ℕ) (body x t : List ℕ) → (((replicate n 35 ++ (34 ∷ body)) ++ (34 ∷ replicate n 35)) ++ x) ++ t ≡ replicate n 35 ++ (34 ∷ (body ++ (34 ∷ (replicate n 35 ++ (x ++ t)))))
 raw_text n body x t = simp append_assoc
 
-raw_opens_here : (n : ℕ) (u : List ℕ) → begins_hashed_quote (replicate n 35 ++ 34 ∷ u) ≡ true
-raw_opens_here n u = ap (λ s. slice_index s 0 == 34) (hashes_past n u)
-
 raw_front : (n : ℕ) (body x t : List ℕ) → IsRawBody n body → IsLexedSuffix x t → raw_at (replicate n 35 ++ 34 ∷ (body ++ 34 ∷ (replicate n 35 ++ (x ++ t)))) ≡ Some t
 raw_front n body x t is suffix =
     let u = body ++ 34 ∷ (replicate n 35 ++ (x ++ t)) in
@@ -186,7 +184,7 @@ front_decimal d more f e x t (is, not_based, row, fraction, exponent, suffix) =
     ap (λ s. lexeme_at (d ∷ s)) (decimal_text more (lexed_fraction_text f) (lexed_exponent_text e) x t)
     ∙ at_class d u DigitHead (class_digit d is)
     ∙ ap (λ b. Some (LiteralForm, cond b (after_run is_continue (drop 1 u)) (after_decimal u))) not_based
-    ∙ ap (λ s. Some (LiteralForm, after_suffix (after_lexed_exponent (after_lexed_fraction s)))) (run_past is_numeral_part more (lexed_fraction_text f ++ (lexed_exponent_text e ++ (x ++ t))) row)
+    ∙ ap (λ s. Some (LiteralForm, after_suffix (after_lexed_exponent (after_lexed_fraction s)))) (run_past (is_row_part is_ascii_digit) more (lexed_fraction_text f ++ (lexed_exponent_text e ++ (x ++ t))) row)
     ∙ ap (λ s. Some (LiteralForm, after_suffix (after_lexed_exponent s))) (fraction_past f (lexed_exponent_text e ++ (x ++ t)) fraction)
     ∙ ap (λ s. Some (LiteralForm, after_suffix s)) (exponent_past e (x ++ t) exponent)
     ∙ ap (λ s. Some (LiteralForm, s)) (suffix_past x t suffix)
@@ -216,9 +214,9 @@ word_class c u h = go (c == 98) (c == 99) (c == 114) h
     go false false true h = none_of2 (begins_hashed_quote u) (slice_index u 0 == 35 && first_passes is_start (drop 1 u)) (literal_at (raw_at u)) None (word_at u) h
     go false false false h = refl
 
-front_identifier : (c : ℕ) (more t : List ℕ) → IsTrue (is_start c) → IsRow is_continue more t → begins_otherwise (c ∷ more ++ t) ≡ false → lexeme_at (c ∷ more ++ t) ≡ Some (IdentifierForm, t)
+front_identifier : (c : ℕ) (more t : List ℕ) → IsTrue (is_start c) → IsRow is_continue more t → (BeginsOtherwise (c ∷ more ++ t) → ⊥) → lexeme_at (c ∷ more ++ t) ≡ Some (IdentifierForm, t)
 front_identifier c more t is row other =
-    at_class c (more ++ t) (start_class c) (class_start c is) ∙ word_class c (more ++ t) other ∙ ap (λ s. Some (IdentifierForm, s)) (run_past is_continue more t row)
+    at_class c (more ++ t) (start_class c) (class_start c is) ∙ word_class c (more ++ t) (no_otherwise (c ∷ more ++ t) other) ∙ ap (λ s. Some (IdentifierForm, s)) (run_past is_continue more t row)
 
 -- All eight.
 pub lexeme_at-past : (l : Lexeme) (t : List ℕ) → IsLexeme l t → lexeme_at (lexeme_text l ++ t) ≡ Some (form_of l, t)

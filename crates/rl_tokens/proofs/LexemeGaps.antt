@@ -5,14 +5,16 @@ use Rattle.std.specs.List.{list_all}
 use Rattle.unicode_ident.specs.Ident.{is_xid_start, is_xid_continue}
 use Rattle.std.specs.Char.{is_ascii_alphanumeric}
 use Rattle.unicode_ident.proofs.IdentLemmas.{is_xid_continue-ascii}
-use Rattle.rl_tokens.specs.Texts.{is_white, is_start, is_continue, is_underscore, first_passes}
+use Rattle.rl_tokens.specs.Texts.{is_white, is_underscore, first_passes, is_row_part}
 use Rattle.std.specs.Char.{is_ascii_digit}
-use Rattle.rl_tokens.specs.Lexemes.{is_numeral_part, is_hash, is_base_letter, after_run, begins_hashed_quote, begins_exponent, begins_dot, after_sign, begins_otherwise, LexedFraction, NoLexedFraction, LexedDot, lexed_fraction_text, lexed_sign_text, LexedExponent, NoLexedExponent, LexedPower, lexed_exponent_text, IsRow, IsLexedSuffix, IsLexedFraction, IsLexedExponent, QuotedLexeme, RawLexeme, CharacterLexeme, BasedLexeme, DecimalLexeme, IdentifierLexeme, DelimiterLexeme, MarkLexeme, IsLexeme}
+use Rattle.rl_tokens.specs.Lexemes.{is_base_letter, begins_dot, LexedFraction, NoLexedFraction, LexedDot, lexed_fraction_text, lexed_sign_text, LexedExponent, NoLexedExponent, LexedPower, lexed_exponent_text, IsRow, IsLexedSuffix, IsLexedFraction, IsLexedExponent, QuotedLexeme, RawLexeme, CharacterLexeme, BasedLexeme, DecimalLexeme, IdentifierLexeme, DelimiterLexeme, MarkLexeme, IsLexeme, is_start, is_continue}
 use Rattle.rl_tokens.proofs.Gaps.{BeginsGap, StaysBeforeGap}
 use Rattle.rl_tokens.proofs.Comments.{false_unless}
 use Rattle.rl_tokens.proofs.Pieces.{is_equal}
 use Rattle.rl_tokens.proofs.LexemeRows.{both_true, not_true, not_among}
+use Rattle.rl_tokens.proofs.LexemeOpeners.{no_exponent_here, no_exponent_begins, none_otherwise}
 use Rattle.rl_tokens.proofs.LexemeFronts.{start_ascii}
+use Rattle.rl_tokens.specs.Mirrors.LexemeAt.{is_hash, after_run, begins_hashed_quote, begins_exponent, after_sign, begins_otherwise}
 
 -- Tests that no gap passes: each fails at white characters and at the slash.
 abbrev pub Solid : (ℕ → Bool) → Type 0
@@ -51,7 +53,7 @@ digit_solid = solid_from is_ascii_digit refl (λ c w. false_unless (is_ascii_dig
     white_digit : (c : ℕ) → is_ascii_digit c ≡ true → is_white c ≡ true → ⊥
     white_digit c h w = grind (arith, nat_tests)
 
-part_solid : Solid is_numeral_part
+part_solid : Solid (is_row_part is_ascii_digit)
 part_solid = or_solid is_ascii_digit (λ c. c == 95) digit_solid (code_solid 95 refl refl)
 
 dot_solid : Solid (λ d. d == 46 || is_start d)
@@ -149,12 +151,13 @@ fraction_gap (LexedDot digits) e x after gap is (h, r) ie suffix =
     ap (first_passes (λ d. d == 46 || is_start d)) (sym (assoc3 digits t x gap))
     ∙ passes_gap (λ d. d == 46 || is_start d) (digits ++ (t ++ x)) after gap dot_solid is (ap (first_passes (λ d. d == 46 || is_start d)) (assoc3 digits t x after) ∙ k) in (
       ap not m,
-      subst (λ (s : List ℕ). IsRow is_numeral_part digits s) (assoc2 t x gap) (row_gap is_numeral_part digits (t ++ x) after gap part_solid is (subst (λ (s : List ℕ). IsRow is_numeral_part digits s) (sym (assoc2 t x after)) r)),
+      subst (λ (s : List ℕ). IsRow (is_row_part is_ascii_digit) digits s) (assoc2 t x gap) (row_gap (is_row_part is_ascii_digit) digits (t ++ x) after gap part_solid is (subst (λ (s : List ℕ). IsRow (is_row_part is_ascii_digit) digits s) (sym (assoc2 t x after)) r)),
     )
 
 power_gap : (e : LexedExponent) (x after gap : List ℕ) → BeginsGap gap → IsLexedExponent e (x ++ after) → IsLexedSuffix x after → IsLexedExponent e (x ++ gap)
-power_gap NoLexedExponent x after gap is h suffix = exponent_gap x after gap is suffix h
-power_gap (LexedPower letter s n d more) x after gap is (il, id, r) suffix = (il, id, row_gap is_numeral_part more x after gap part_solid is r)
+power_gap NoLexedExponent x after gap is none suffix =
+    no_exponent_begins (x ++ gap) (exponent_gap x after gap is suffix (no_exponent_here (x ++ after) none))
+power_gap (LexedPower letter s n d more) x after gap is (il, id, r) suffix = (il, id, row_gap (is_row_part is_ascii_digit) more x after gap part_solid is r)
 
 decimal_gap : (d : ℕ) (more : List ℕ) (f : LexedFraction) (e : LexedExponent) (x after gap : List ℕ) → BeginsGap gap → IsLexeme (DecimalLexeme d more f e x) after → IsLexeme (DecimalLexeme d more f e x) gap
 decimal_gap d more f e x after gap is (id, not_based, row, fraction, exponent, suffix) =
@@ -164,7 +167,7 @@ decimal_gap d more f e x after gap is (id, not_based, row, fraction, exponent, s
       ap (λ s. d == 48 && first_passes is_base_letter s) (sym (at gap))
           ∙ and_more (d == 48) (first_passes is_base_letter ((more ++ t) ++ after)) (first_passes is_base_letter ((more ++ t) ++ gap)) (passes_gap is_base_letter (more ++ t) after gap base_solid is)
           (ap (λ s. d == 48 && first_passes is_base_letter s) (at after) ∙ not_based),
-      subst (λ (s : List ℕ). IsRow is_numeral_part more s) (assoc3 (lexed_fraction_text f) (lexed_exponent_text e) x gap) (row_gap is_numeral_part more t after gap part_solid is (subst (λ (s : List ℕ). IsRow is_numeral_part more s) (sym (assoc3 (lexed_fraction_text f) (lexed_exponent_text e) x after)) row)),
+      subst (λ (s : List ℕ). IsRow (is_row_part is_ascii_digit) more s) (assoc3 (lexed_fraction_text f) (lexed_exponent_text e) x gap) (row_gap (is_row_part is_ascii_digit) more t after gap part_solid is (subst (λ (s : List ℕ). IsRow (is_row_part is_ascii_digit) more s) (sym (assoc3 (lexed_fraction_text f) (lexed_exponent_text e) x after)) row)),
       fraction_gap f e x after gap is fraction exponent suffix,
       power_gap e x after gap is exponent suffix,
       suffix_gap x after gap is suffix,
@@ -227,6 +230,6 @@ stays_before_gap (RawLexeme p n body x) after gap keeps (l, suffix) is = (l, suf
 stays_before_gap (CharacterLexeme b inside x) after gap keeps (l, suffix) is = (l, suffix_gap x after gap is suffix)
 stays_before_gap (BasedLexeme letter digits) after gap keeps (l, row) is = (l, run_end digits after gap is row)
 stays_before_gap (DecimalLexeme d more f e x) after gap keeps l is = decimal_gap d more f e x after gap is l
-stays_before_gap (IdentifierLexeme c more) after gap keeps (l, row, other) is = (l, run_end more after gap is row, otherwise_gap c more gap row.each is)
+stays_before_gap (IdentifierLexeme c more) after gap keeps (l, row, other) is = (l, run_end more after gap is row, none_otherwise (c ∷ more ++ gap) (otherwise_gap c more gap row.each is))
 stays_before_gap (DelimiterLexeme c) after gap keeps l is = l
 stays_before_gap (MarkLexeme c) after gap keeps l is = absurd keeps

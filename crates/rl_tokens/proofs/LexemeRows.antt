@@ -1,12 +1,12 @@
 -- Each stage of a lexeme, past what it is made of.
 use Rattle.std.proofs.Common.{◌≡◌, ℕ, suc, zero, Bool, true, false, not, ◌&&◌, ◌||◌, ◌==◌, cond, List, [], ◌∷◌, ◌++◌, Some, None, drop, replicate, refl, sym, ◌∙◌, ap, subst, append_assoc}
 use Rattle.std.specs.List.{list_all}
-use Rattle.rl_tokens.specs.Texts.{is_continue, is_underscore, first_passes}
+use Rattle.rl_tokens.specs.Texts.{is_underscore, first_passes, is_row_part}
 use Rattle.std.specs.Char.{is_ascii_digit}
-use Rattle.rl_tokens.specs.Lexemes.{is_numeral_part, is_hash, after_run, begins_hashes, after_sign, BodyPart, PlainPart, EscapedPart, body_text, IsBody, CharacterBody, OneCharacter, EscapedCharacter, character_body_text, IsCharacterBody, LexedFraction, NoLexedFraction, LexedDot, lexed_fraction_text, LexedSign, NoLexedSign, LexedPlus, LexedMinus, lexed_sign_text, LexedExponent, NoLexedExponent, LexedPower, lexed_exponent_text, IsRow, IsLexedSuffix, IsRawBody, IsLexedFraction, IsLexedExponent}
+use Rattle.rl_tokens.specs.Lexemes.{begins_hashes, BodyPart, PlainPart, EscapedPart, body_text, IsBody, CharacterBody, OneCharacter, EscapedCharacter, character_body_text, IsCharacterBody, LexedFraction, NoLexedFraction, LexedDot, lexed_fraction_text, LexedSign, NoLexedSign, LexedPlus, LexedMinus, lexed_sign_text, LexedExponent, NoLexedExponent, LexedPower, lexed_exponent_text, IsRow, IsLexedSuffix, IsRawBody, IsLexedFraction, IsLexedExponent, is_continue}
 use Rattle.rl_tokens.proofs.Comments.{false_unless}
 use Rattle.rl_tokens.proofs.Pieces.{is_equal}
-use Rattle.rl_tokens.specs.Mirrors.LexemeAt.{after_suffix, after_quote, hashes, after_raw, after_apostrophe, after_single, after_lexed_fraction, after_lexed_exponent}
+use Rattle.rl_tokens.specs.Mirrors.LexemeAt.{after_suffix, after_quote, hashes, after_raw, after_apostrophe, after_single, after_lexed_fraction, after_lexed_exponent, is_hash, after_run, after_sign}
 
 pub both_true : (a b : Bool) → (a && b) ≡ true → (a ≡ true) × (b ≡ true)
 both_true true b h = (refl, h)
@@ -105,22 +105,22 @@ single_past (EscapedCharacter c more) t is = apostrophe_past more t is
 
 -- Parts of a decimal.
 pub fraction_past : (f : LexedFraction) (t : List ℕ) → IsLexedFraction f t → after_lexed_fraction (lexed_fraction_text f ++ t) ≡ t
-fraction_past NoLexedFraction t is = ap (λ b. cond b (after_run is_numeral_part (drop 1 t)) t) is
+fraction_past NoLexedFraction t is = ap (λ b. cond b (after_run (is_row_part is_ascii_digit) (drop 1 t)) t) is
 fraction_past (LexedDot digits) t (begins, row) =
-    ap (λ b. cond b (after_run is_numeral_part (digits ++ t)) (46 ∷ digits ++ t)) begins ∙ run_past is_numeral_part digits t row
+    ap (λ b. cond b (after_run (is_row_part is_ascii_digit) (digits ++ t)) (46 ∷ digits ++ t)) begins ∙ run_past (is_row_part is_ascii_digit) digits t row
 
 pub not_among : (c k : ℕ) (test : ℕ → Bool) → test c ≡ true → test k ≡ false → (c == k) ≡ false
 not_among c k test passed other = false_unless (c == k) (λ h. let q : c ≡ k = is_equal c k h in let r : test k ≡ true = subst (λ (x : ℕ). test x ≡ true) q passed in absurd (cc))
 
-underscores_past : (n d : ℕ) (t : List ℕ) → is_ascii_digit d ≡ true → after_run is_underscore (replicate n 95 ++ d ∷ t) ≡ d ∷ t
+pub underscores_past : (n d : ℕ) (t : List ℕ) → is_ascii_digit d ≡ true → after_run is_underscore (replicate n 95 ++ d ∷ t) ≡ d ∷ t
 underscores_past zero d t is = ap (λ b. cond b (after_run is_underscore t) (d ∷ t)) (not_among d 95 is_ascii_digit is refl)
 underscores_past (suc n) d t is = underscores_past n d t is
 
-digits_past : (n d : ℕ) (more t : List ℕ) → is_ascii_digit d ≡ true → IsRow is_numeral_part more t → after_run is_numeral_part (replicate n 95 ++ d ∷ (more ++ t)) ≡ t
-digits_past zero d more t is row = ap (λ b. cond (b || d == 95) (after_run is_numeral_part (more ++ t)) (d ∷ more ++ t)) is ∙ run_past is_numeral_part more t row
+pub digits_past : (n d : ℕ) (more t : List ℕ) → is_ascii_digit d ≡ true → IsRow (is_row_part is_ascii_digit) more t → after_run (is_row_part is_ascii_digit) (replicate n 95 ++ d ∷ (more ++ t)) ≡ t
+digits_past zero d more t is row = ap (λ b. cond (b || d == 95) (after_run (is_row_part is_ascii_digit) (more ++ t)) (d ∷ more ++ t)) is ∙ run_past (is_row_part is_ascii_digit) more t row
 digits_past (suc n) d more t is row = digits_past n d more t is row
 
-sign_past : (s : LexedSign) (n d : ℕ) (t : List ℕ) → is_ascii_digit d ≡ true → after_sign (lexed_sign_text s ++ (replicate n 95 ++ d ∷ t)) ≡ replicate n 95 ++ d ∷ t
+pub sign_past : (s : LexedSign) (n d : ℕ) (t : List ℕ) → is_ascii_digit d ≡ true → after_sign (lexed_sign_text s ++ (replicate n 95 ++ d ∷ t)) ≡ replicate n 95 ++ d ∷ t
 sign_past LexedPlus n d t is = refl
 sign_past LexedMinus n d t is = refl
 sign_past NoLexedSign (suc n) d t is = refl
@@ -129,14 +129,3 @@ sign_past NoLexedSign zero d t is =
 
 pub power_text : (letter : ℕ) (s : LexedSign) (n d : ℕ) (more t : List ℕ) → lexed_exponent_text (LexedPower letter s n d more) ++ t ≡ letter ∷ (lexed_sign_text s ++ (replicate n 95 ++ d ∷ (more ++ t)))
 power_text letter s n d more t = ap (λ x. letter ∷ x) (append_assoc (lexed_sign_text s) (replicate n 95 ++ d ∷ more) t ∙ ap (λ x. lexed_sign_text s ++ x) (append_assoc (replicate n 95) (d ∷ more) t))
-
-pub exponent_past : (e : LexedExponent) (t : List ℕ) → IsLexedExponent e t → after_lexed_exponent (lexed_exponent_text e ++ t) ≡ t
-exponent_past NoLexedExponent t is = ap (λ b. cond b (after_run is_numeral_part (after_sign (drop 1 t))) t) is
-exponent_past (LexedPower letter s n d more) t (is_letter, is, row) =
-    let g : after_sign (lexed_sign_text s ++ (replicate n 95 ++ d ∷ (more ++ t))) ≡ replicate n 95 ++ d ∷ (more ++ t) = sign_past s n d (more ++ t) is in
-    ap after_lexed_exponent (power_text letter s n d more t)
-    ∙ ap (λ b. cond (b && first_passes is_ascii_digit (after_run is_underscore (after_sign (lexed_sign_text s ++ (replicate n 95 ++ d ∷ (more ++ t)))))) (after_run is_numeral_part (after_sign (lexed_sign_text s ++ (replicate n 95 ++ d ∷ (more ++ t))))) (letter ∷ (lexed_sign_text s ++ (replicate n 95 ++ d ∷ (more ++ t))))) is_letter
-    ∙ ap (λ x. cond (first_passes is_ascii_digit (after_run is_underscore x)) (after_run is_numeral_part x) (letter ∷ (lexed_sign_text s ++ (replicate n 95 ++ d ∷ (more ++ t))))) g
-    ∙ ap (λ x. cond (first_passes is_ascii_digit x) (after_run is_numeral_part (replicate n 95 ++ d ∷ (more ++ t))) (letter ∷ (lexed_sign_text s ++ (replicate n 95 ++ d ∷ (more ++ t))))) (underscores_past n d (more ++ t) is)
-    ∙ ap (λ b. cond b (after_run is_numeral_part (replicate n 95 ++ d ∷ (more ++ t))) (letter ∷ (lexed_sign_text s ++ (replicate n 95 ++ d ∷ (more ++ t))))) is
-    ∙ digits_past n d more t is row

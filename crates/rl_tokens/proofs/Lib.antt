@@ -20,6 +20,7 @@ pub mod AsciiLemmas
 pub mod LexemeSteps
 pub mod LexemeRows
 pub mod Gaps
+pub mod LexemeOpeners
 pub mod LexemeFronts
 pub mod LexemeFound
 pub mod LexemeGaps

@@ -1,16 +1,17 @@
 -- What may follow a literal in a print, and what no such text begins with.
 use Rattle.std.proofs.Common.{◌≡◌, ℕ, ◌<◌, inl, inr, Bool, true, false, not, ◌&&◌, ◌||◌, ◌==◌, List, [], ◌∷◌, ◌++◌, refl, ◌∙◌, ap, lit<}
-use Rattle.std.specs.Prelude.{IsTrue, ⊤}
+use Rattle.std.specs.Prelude.{IsTrue, ⊤, codes}
 use Rattle.std.specs.List.{list_all}
 use Rattle.std.specs.Char.{is_ascii_digit, is_ascii_alphanumeric}
 use Rattle.std.proofs.lemmas.Bool.{and_from, or_from}
 use Rattle.unicode_ident.specs.Ident.{is_xid_start, is_xid_continue}
-use Rattle.rl_tokens.specs.Texts.{is_white, is_start, is_continue, is_among, first_passes}
-use Rattle.rl_tokens.specs.Lexemes.{is_numeral_part, is_base_letter, IsLexedSuffix, IsLexeme}
+use Rattle.rl_tokens.specs.Texts.{is_white, is_among, first_passes, is_row_part}
+use Rattle.rl_tokens.specs.Lexemes.{is_base_letter, IsLexedSuffix, IsLexeme, is_start, is_continue}
 use Rattle.rl_tokens.proofs.Gaps.{BeginsGap}
 use Rattle.rl_tokens.specs.Strict.{IsStrictSuffix}
 use Rattle.rl_tokens.proofs.Basics.{word_continues}
 use Rattle.rl_tokens.proofs.LexemeRows.{both_true, not_true, not_among}
+use Rattle.rl_tokens.proofs.LexemeOpeners.{none_otherwise}
 use Rattle.rl_tokens.proofs.LexemeFronts.{start_ascii, among, low_among, not_start_among}
 use Rattle.rl_tokens.proofs.LexemeGaps.{and_false, digit_solid, continue_ascii}
 use Rattle.rl_tokens.proofs.PrintedCuts.{word_lexeme}
@@ -63,7 +64,7 @@ clear_or : (f g : ℕ → Bool) → Clear f → Clear g → Clear (λ c. f c || 
 clear_or f g a b c h = or_from (f c) (g c) (a c h) (b c h)
 
 -- It goes on with no row of digits.
-pub clear_part : Clear is_numeral_part
+pub clear_part : Clear (is_row_part is_ascii_digit)
 clear_part = clear_or is_ascii_digit (λ c. c == 95) clear_digit (clear_code 95 refl refl)
 
 -- It doesn't keep a dot from being a dot part.
@@ -136,7 +137,7 @@ word_ends true after ends = (
     each = and_from _ _ (letter_continues 114 (lit< tt) refl) (and_from _ _ (letter_continues 117 (lit< tt) refl) (and_from _ _ (letter_continues 101 (lit< tt) refl) refl));
     ends = ends_fails is_continue after clear_continue ends;
   },
-  refl,
+  none_otherwise (codes "true" ++ after) refl,
 )
 word_ends false after ends = (
   start_ascii 102 (lit< tt),
@@ -144,5 +145,5 @@ word_ends false after ends = (
     each = and_from _ _ (letter_continues 97 (lit< tt) refl) (and_from _ _ (letter_continues 108 (lit< tt) refl) (and_from _ _ (letter_continues 115 (lit< tt) refl) (and_from _ _ (letter_continues 101 (lit< tt) refl) refl)));
     ends = ends_fails is_continue after clear_continue ends;
   },
-  refl,
+  none_otherwise (codes "false" ++ after) refl,
 )

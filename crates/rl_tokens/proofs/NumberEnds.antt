@@ -3,9 +3,9 @@ use Rattle.std.proofs.Common.{◌≡◌, ℕ, ◌⊎◌, inl, inr, Bool, true, f
 use Rattle.std.proofs.lemmas.Bool.Decides.{nat_tests}
 use Rattle.rl_tokens.proofs.Comments.{false_unless}
 use Rattle.std.specs.Char.{is_ascii, is_ascii_digit}
-use Rattle.rl_tokens.specs.Texts.{is_start, is_continue, is_underscore, first_passes}
-use Rattle.rl_tokens.specs.Lexemes.{LiteralForm, after_run, is_numeral_part, is_base_letter, after_sign}
-use Rattle.rl_tokens.specs.Mirrors.LexemeAt.{DigitHead, QuoteHead, literal_at, quoted_at, after_digit, after_suffix, after_lexed_exponent, after_lexed_fraction, after_decimal, lexeme_at}
+use Rattle.rl_tokens.specs.Texts.{is_underscore, first_passes, is_row_part}
+use Rattle.rl_tokens.specs.Lexemes.{LiteralForm, is_base_letter, is_start, is_continue}
+use Rattle.rl_tokens.specs.Mirrors.LexemeAt.{DigitHead, QuoteHead, literal_at, quoted_at, after_digit, after_suffix, after_lexed_exponent, after_lexed_fraction, after_decimal, lexeme_at, after_run, after_sign}
 use Rattle.rl_tokens.proofs.LexemeRows.{neither_true, not_among}
 use Rattle.rl_tokens.proofs.LexemeFronts.{at_class, class34, class_digit, start_ascii}
 
@@ -32,10 +32,10 @@ number_ends (c ∷ u) h =
     let plain : not (is_start c) ≡ true = ap not parts.1 in
     let small : (c == 101) ≡ false = not_among c 101 (λ d. not (is_start d)) plain (ap not (start_ascii 101 (lit< tt))) in
     let large : (c == 69) ≡ false = not_among c 69 (λ d. not (is_start d)) plain (ap not (start_ascii 69 (lit< tt))) in
-    let fraction : after_lexed_fraction (c ∷ u) ≡ c ∷ u = ap (λ b. cond (b && not (first_passes (λ d. d == 46 || is_start d) u)) (after_run is_numeral_part u) (c ∷ u)) parts.0 in
+    let fraction : after_lexed_fraction (c ∷ u) ≡ c ∷ u = ap (λ b. cond (b && not (first_passes (λ d. d == 46 || is_start d) u)) (after_run (is_row_part is_ascii_digit) u) (c ∷ u)) parts.0 in
     let exponent : after_lexed_exponent (c ∷ u) ≡ c ∷ u =
-    ap (λ b. cond ((b || c == 69) && first_passes is_ascii_digit (after_run is_underscore (after_sign u))) (after_run is_numeral_part (after_sign u)) (c ∷ u)) small
-    ∙ ap (λ b. cond (b && first_passes is_ascii_digit (after_run is_underscore (after_sign u))) (after_run is_numeral_part (after_sign u)) (c ∷ u)) large in
+    ap (λ b. cond ((b || c == 69) && first_passes is_ascii_digit (after_run is_underscore (after_sign u))) (after_run (is_row_part is_ascii_digit) (after_sign u)) (c ∷ u)) small
+    ∙ ap (λ b. cond (b && first_passes is_ascii_digit (after_run is_underscore (after_sign u))) (after_run (is_row_part is_ascii_digit) (after_sign u)) (c ∷ u)) large in
     ap (λ x. after_suffix (after_lexed_exponent x)) fraction ∙ ap after_suffix exponent ∙ ap (λ b. cond b (after_run is_continue u) (c ∷ u)) parts.1
 
 -- a row of digits, and what ends it
@@ -50,23 +50,23 @@ starts : (k : ℕ) → is_start k ≡ true → no_start k ≡ false
 starts k h = ap not h
 
 -- what ends at once has no underscore behind its digits
-same_row : (t : List ℕ) → first_passes goes_on_none (after_run is_ascii_digit t) ≡ true → after_run is_numeral_part t ≡ after_run is_ascii_digit t
+same_row : (t : List ℕ) → first_passes goes_on_none (after_run is_ascii_digit t) ≡ true → after_run (is_row_part is_ascii_digit) t ≡ after_run is_ascii_digit t
 same_row [] h = refl
 same_row (d ∷ u) h = go (is_ascii_digit d) refl h (same_row u)
   where
-    go : (b : Bool) → is_ascii_digit d ≡ b → first_passes goes_on_none (cond b (after_run is_ascii_digit u) (d ∷ u)) ≡ true → (first_passes goes_on_none (after_run is_ascii_digit u) ≡ true → after_run is_numeral_part u ≡ after_run is_ascii_digit u) → cond (is_ascii_digit d || d == 95) (after_run is_numeral_part u) (d ∷ u) ≡ cond b (after_run is_ascii_digit u) (d ∷ u)
-    go true is h more = ap (λ a. cond (a || d == 95) (after_run is_numeral_part u) (d ∷ u)) is ∙ more h
+    go : (b : Bool) → is_ascii_digit d ≡ b → first_passes goes_on_none (cond b (after_run is_ascii_digit u) (d ∷ u)) ≡ true → (first_passes goes_on_none (after_run is_ascii_digit u) ≡ true → after_run (is_row_part is_ascii_digit) u ≡ after_run is_ascii_digit u) → cond (is_ascii_digit d || d == 95) (after_run (is_row_part is_ascii_digit) u) (d ∷ u) ≡ cond b (after_run is_ascii_digit u) (d ∷ u)
+    go true is h more = ap (λ a. cond (a || d == 95) (after_run (is_row_part is_ascii_digit) u) (d ∷ u)) is ∙ more h
     go false is h more =
-        ap (λ a. cond (a || d == 95) (after_run is_numeral_part u) (d ∷ u)) is
-        ∙ ap (λ a. cond a (after_run is_numeral_part u) (d ∷ u)) (not_among d 95 no_start (ap not (neither_true (d == 46) (is_start d) h).1) (starts 95 (start_ascii 95 (lit< tt))))
+        ap (λ a. cond (a || d == 95) (after_run (is_row_part is_ascii_digit) u) (d ∷ u)) is
+        ∙ ap (λ a. cond a (after_run (is_row_part is_ascii_digit) u) (d ∷ u)) (not_among d 95 no_start (ap not (neither_true (d == 46) (is_start d) h).1) (starts 95 (start_ascii 95 (lit< tt))))
 
 -- a row of digits is part of the row that holds underscores too
-row_on : (t : List ℕ) → after_run is_numeral_part (after_run is_ascii_digit t) ≡ after_run is_numeral_part t
+row_on : (t : List ℕ) → after_run (is_row_part is_ascii_digit) (after_run is_ascii_digit t) ≡ after_run (is_row_part is_ascii_digit) t
 row_on [] = refl
 row_on (d ∷ u) = go (is_ascii_digit d) refl (row_on u)
   where
-    go : (b : Bool) → is_ascii_digit d ≡ b → after_run is_numeral_part (after_run is_ascii_digit u) ≡ after_run is_numeral_part u → after_run is_numeral_part (cond b (after_run is_ascii_digit u) (d ∷ u)) ≡ cond (is_ascii_digit d || d == 95) (after_run is_numeral_part u) (d ∷ u)
-    go true is more = more ∙ sym (ap (λ a. cond (a || d == 95) (after_run is_numeral_part u) (d ∷ u)) is)
+    go : (b : Bool) → is_ascii_digit d ≡ b → after_run (is_row_part is_ascii_digit) (after_run is_ascii_digit u) ≡ after_run (is_row_part is_ascii_digit) u → after_run (is_row_part is_ascii_digit) (cond b (after_run is_ascii_digit u) (d ∷ u)) ≡ cond (is_ascii_digit d || d == 95) (after_run (is_row_part is_ascii_digit) u) (d ∷ u)
+    go true is more = more ∙ sym (ap (λ a. cond (a || d == 95) (after_run (is_row_part is_ascii_digit) u) (d ∷ u)) is)
     go false is more = refl
 
 -- The letter of a base stands where a suffix would begin, so each number is read as a decimal.
@@ -104,6 +104,6 @@ number_short c t r e h =
 pub number_long : (c : ℕ) (t r s : List ℕ) → r ≡ after_run is_ascii_digit t → s ≡ after_decimal r → s ≡ after_digit c t
 number_long c t r s e h =
     h
-    ∙ ap (λ x. after_suffix (after_lexed_exponent (after_lexed_fraction (after_run is_numeral_part x)))) e
+    ∙ ap (λ x. after_suffix (after_lexed_exponent (after_lexed_fraction (after_run (is_row_part is_ascii_digit) x)))) e
     ∙ ap (λ x. after_suffix (after_lexed_exponent (after_lexed_fraction x))) (row_on t)
     ∙ sym (as_decimal c t)

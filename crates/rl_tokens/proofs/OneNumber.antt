@@ -4,9 +4,9 @@ use Rattle.std.specs.Char.{is_ascii_digit}
 use Rattle.std.specs.List.{list_all, list_any}
 use Rattle.std.proofs.lemmas.List.Folds.{list_all-append}
 use Rattle.std.proofs.lemmas.Bool.{eqb-true, both_ways, and_parts, and_from, or_parts, or_cases, or_left, or_right, cases_Bool, not-true}
-use Rattle.rl_tokens.specs.Texts.{first_passes, begins, is_underscore}
+use Rattle.rl_tokens.specs.Texts.{first_passes, begins, is_underscore, is_row_part}
 use Rattle.rl_tokens.specs.Quoted.{place_value, without_underscores}
-use Rattle.rl_tokens.specs.Numbers.{Base, Binary, Octal, Decimal, Hexadecimal, radix, prefix, is_digit, is_row_part, Sign, NoSign, Minus, sign_text, IsBehindPrefix, IsSuffix, is_exponent_letter, AllowsSuffix, IntReads, Fraction, NoFraction, Dot, fraction_text, IsFraction, Exponent, NoExponent, Power, exponent_text, is_power_sign, BeginsExponent, IsExponent, FloatReads, float_digits}
+use Rattle.rl_tokens.specs.Numbers.{Base, Binary, Octal, Decimal, Hexadecimal, radix, prefix, is_digit, Sign, NoSign, Minus, sign_text, IsBehindPrefix, IsSuffix, is_exponent_letter, AllowsSuffix, IntReads, Fraction, NoFraction, Dot, fraction_text, IsFraction, Exponent, NoExponent, Power, exponent_text, is_power_sign, BeginsExponent, IsExponent, FloatReads, float_digits}
 use Rattle.rl_tokens.specs.Reading.{Contents, Digits, ReadsInt, ReadsFloat}
 use Rattle.rl_tokens.specs.Strict.{dec}
 use Rattle.rl_tokens.proofs.Dec.{dec_is_decimal}
@@ -40,9 +40,9 @@ base_is Decimal r f =
     let e = p.1 in
     rw (a, d, e) refl
 
-at_base : (b : Base) (ds es x y : List ℕ) → list_all (is_row_part (radix b)) ds ≡ true → list_all (is_row_part (radix b)) es ≡ true → IsSuffix x → AllowsSuffix b x → IsSuffix y → AllowsSuffix b y → prefix b ++ (ds ++ x) ≡ prefix b ++ (es ++ y) → (ds ≡ es) × (x ≡ y)
+at_base : (b : Base) (ds es x y : List ℕ) → list_all (is_row_part (is_digit b)) ds ≡ true → list_all (is_row_part (is_digit b)) es ≡ true → IsSuffix x → AllowsSuffix b x → IsSuffix y → AllowsSuffix b y → prefix b ++ (ds ++ x) ≡ prefix b ++ (es ++ y) → (ds ≡ es) × (x ≡ y)
 at_base b ds es x y hd he sx ox sy oy e =
-    same_run (is_row_part (radix b)) ds es x y hd he (no_part b x sx ox) (no_part b y sy oy) (behind b e)
+    same_run (is_row_part (is_digit b)) ds es x y hd he (no_part b x sx ox) (no_part b y sy oy) (behind b e)
   where
     behind : (b : Base) → prefix b ++ (ds ++ x) ≡ prefix b ++ (es ++ y) → ds ++ x ≡ es ++ y
     behind Binary e = cc
@@ -56,7 +56,7 @@ int_once t x y s z m n a b =
     let tb = prefix b.base ++ (b.digits ++ y) in
     let signs = same_sign s z ta tb (digit_front a.base a.digits x a.front) (digit_front b.base b.digits y b.front) (sym a.text_is ∙ b.text_is) in
     let bases : b.base ≡ a.base = sym (base_is b.base (b.digits ++ y) b.front) ∙ ap base_at (sym signs.1) ∙ base_is a.base (a.digits ++ x) a.front in
-    let Each : Base → Type 0 = λ k. list_all (is_row_part (radix k)) b.digits ≡ true in
+    let Each : Base → Type 0 = λ k. list_all (is_row_part (is_digit k)) b.digits ≡ true in
     let Of : Base → Type 0 = λ k. AllowsSuffix k y in
     let text : ta ≡ prefix a.base ++ (b.digits ++ y) = signs.1 ∙ ap (λ k. prefix k ++ (b.digits ++ y)) bases in
     let p = at_base a.base a.digits b.digits x y a.each (subst Each bases b.each) a.is_suffix a.is_suffix_of b.is_suffix (subst Of bases b.is_suffix_of) text in
@@ -73,10 +73,10 @@ pub record DigitIn (row : List ℕ) : Type 0 where
   pub is_digit : is_ascii_digit digit ≡ true
   pub row_is : row ≡ underscores ++ (digit ∷ rest)
 
-digit_in : (row : List ℕ) → list_all (is_row_part 10) row ≡ true → list_any is_ascii_digit row ≡ true → DigitIn row
+digit_in : (row : List ℕ) → list_all (is_row_part (is_digit Decimal)) row ≡ true → list_any is_ascii_digit row ≡ true → DigitIn row
 digit_in [] each some = absurd (cc)
 digit_in (c ∷ row) each some =
-    let p = and_parts (is_row_part 10 c) (list_all (is_row_part 10) row) each in
+    let p = and_parts (is_row_part (is_digit Decimal) c) (list_all (is_row_part (is_digit Decimal)) row) each in
     elim (cases_Bool (is_ascii_digit c)) [
       | inl d ↦ record { underscores = []; digit = c; rest = row; all_underscores = refl; is_digit = d; row_is = refl }
       | inr d ↦
@@ -85,8 +85,8 @@ digit_in (c ∷ row) each some =
           record { underscores = c ∷ r.underscores; digit = r.digit; rest = r.rest; all_underscores = and_from (is_underscore c) _ under r.all_underscores; is_digit = r.is_digit; row_is = ap (λ z. c ∷ z) r.row_is }
     ]
 
-underscores_are_parts : (us : List ℕ) → list_all is_underscore us ≡ true → list_all (is_row_part 10) us ≡ true
-underscores_are_parts us h = all_weaker is_underscore (is_row_part 10) (λ c p. or_right (is_digit Decimal c) (is_underscore c) p) us h
+underscores_are_parts : (us : List ℕ) → list_all is_underscore us ≡ true → list_all (is_row_part (is_digit Decimal)) us ≡ true
+underscores_are_parts us h = all_weaker is_underscore (is_row_part (is_digit Decimal)) (λ c p. or_right (is_digit Decimal c) (is_underscore c) p) us h
 
 all_join : (test : ℕ → Bool) (a b : List ℕ) → list_all test a ≡ true → list_all test b ≡ true → list_all test (a ++ b) ≡ true
 all_join test a b ha hb = list_all-append test a b ∙ and_from _ _ ha hb
@@ -101,9 +101,9 @@ sign_cases (c ∷ []) h =
 sign_cases (c ∷ d ∷ s) h = absurd (cc)
 
 -- what is left behind the letter of an exponent, and its suffix
-same_power : (us s row vs z sow x y : List ℕ) → list_all is_underscore us ≡ true → is_power_sign s ≡ true → list_all (is_row_part 10) row ≡ true → list_all is_underscore vs ≡ true → is_power_sign z ≡ true → list_all (is_row_part 10) sow ≡ true → IsSuffix x → IsSuffix y → (us ++ (s ++ row)) ++ x ≡ (vs ++ (z ++ sow)) ++ y → (us ++ (s ++ row) ≡ vs ++ (z ++ sow)) × (x ≡ y)
+same_power : (us s row vs z sow x y : List ℕ) → list_all is_underscore us ≡ true → is_power_sign s ≡ true → list_all (is_row_part (is_digit Decimal)) row ≡ true → list_all is_underscore vs ≡ true → is_power_sign z ≡ true → list_all (is_row_part (is_digit Decimal)) sow ≡ true → IsSuffix x → IsSuffix y → (us ++ (s ++ row)) ++ x ≡ (vs ++ (z ++ sow)) ++ y → (us ++ (s ++ row) ≡ vs ++ (z ++ sow)) × (x ≡ y)
 same_power us s row vs z sow x y hu hs hr hv hz hw sx sy e =
-    let part = is_row_part 10 in
+    let part = is_row_part (is_digit Decimal) in
     let pu = underscores_are_parts us hu in
     let pv = underscores_are_parts vs hv in
     let nx = suffix_no_part x sx in
@@ -169,7 +169,7 @@ same_exponent (Power l us s row) (Power m vs z sow) x y pa pb sx sy e =
     let p = same_power us s row vs z sow x y pa.1 pa.2 pa.3 pb.1 pb.2 pb.3 sx sy tail in
     (ap (λ w. w ∷ (us ++ (s ++ row))) head ∙ ap (λ w. m ∷ w) p.0, p.1)
 
-exponent_no_part : (a : Exponent) (x : List ℕ) → IsExponent a x → IsSuffix x → first_passes (is_row_part 10) (exponent_text a ++ x) ≡ false
+exponent_no_part : (a : Exponent) (x : List ℕ) → IsExponent a x → IsSuffix x → first_passes (is_row_part (is_digit Decimal)) (exponent_text a ++ x) ≡ false
 exponent_no_part NoExponent x p s = suffix_no_part x s
 exponent_no_part (Power l us s row) x p sx = letter_no_part l p.0
 
@@ -189,16 +189,16 @@ exponent_no_dot : (a : Exponent) (x : List ℕ) → IsExponent a x → IsSuffix 
 exponent_no_dot NoExponent x p s = suffix_no_dot x s
 exponent_no_dot (Power l us s row) x p sx = letter_no_dot l p.0
 
-same_fraction : (f g : Fraction) (r s : List ℕ) → IsFraction f → IsFraction g → first_passes (is_row_part 10) r ≡ false → first_passes (is_row_part 10) s ≡ false → first_passes is_dot r ≡ false → first_passes is_dot s ≡ false → fraction_text f ++ r ≡ fraction_text g ++ s → (fraction_text f ≡ fraction_text g) × (r ≡ s)
+same_fraction : (f g : Fraction) (r s : List ℕ) → IsFraction f → IsFraction g → first_passes (is_row_part (is_digit Decimal)) r ≡ false → first_passes (is_row_part (is_digit Decimal)) s ≡ false → first_passes is_dot r ≡ false → first_passes is_dot s ≡ false → fraction_text f ++ r ≡ fraction_text g ++ s → (fraction_text f ≡ fraction_text g) × (r ≡ s)
 same_fraction NoFraction NoFraction r s pf pg nr ns dr ds e = (refl, e)
 same_fraction (Dot row) (Dot sow) r s pf pg nr ns dr ds e =
     let tail : row ++ r ≡ sow ++ s = cc in
-    let p = same_run (is_row_part 10) row sow r s pf pg nr ns tail in
+    let p = same_run (is_row_part (is_digit Decimal)) row sow r s pf pg nr ns tail in
     (ap (λ w. 46 ∷ w) p.0, p.1)
 same_fraction NoFraction (Dot sow) r s pf pg nr ns dr ds e = let h : false ≡ true = sym dr ∙ ap (first_passes is_dot) e in absurd (cc)
 same_fraction (Dot row) NoFraction r s pf pg nr ns dr ds e = let h : false ≡ true = sym ds ∙ ap (first_passes is_dot) (sym e) in absurd (cc)
 
-fraction_no_part : (f : Fraction) (r : List ℕ) → first_passes (is_row_part 10) r ≡ false → first_passes (is_row_part 10) (fraction_text f ++ r) ≡ false
+fraction_no_part : (f : Fraction) (r : List ℕ) → first_passes (is_row_part (is_digit Decimal)) r ≡ false → first_passes (is_row_part (is_digit Decimal)) (fraction_text f ++ r) ≡ false
 fraction_no_part NoFraction r h = h
 fraction_no_part (Dot row) r h = refl
 
@@ -221,7 +221,7 @@ float_once t n m x y a b =
     let pa = exponent_no_part a.exponent x a.is_exponent a.is_suffix in
     let pb = exponent_no_part b.exponent y b.is_exponent b.is_suffix in
     let s = same_sign a.sign b.sign (a.whole ++ (fa ++ (ea ++ x))) (b.whole ++ (fb ++ (eb ++ y))) (passes_on is_ascii_digit a.whole _ a.first) (passes_on is_ascii_digit b.whole _ b.first) (sym ta ∙ tb) in
-    let w = same_run (is_row_part 10) a.whole b.whole (fa ++ (ea ++ x)) (fb ++ (eb ++ y)) a.each b.each (fraction_no_part a.fraction (ea ++ x) pa) (fraction_no_part b.fraction (eb ++ y) pb) s.1 in
+    let w = same_run (is_row_part (is_digit Decimal)) a.whole b.whole (fa ++ (ea ++ x)) (fb ++ (eb ++ y)) a.each b.each (fraction_no_part a.fraction (ea ++ x) pa) (fraction_no_part b.fraction (eb ++ y) pb) s.1 in
     let f = same_fraction a.fraction b.fraction (ea ++ x) (eb ++ y) a.is_fraction b.is_fraction pa pb (exponent_no_dot a.exponent x a.is_exponent a.is_suffix) (exponent_no_dot b.exponent y b.is_exponent b.is_suffix) w.1 in
     let e = same_exponent a.exponent b.exponent x y a.is_exponent b.is_exponent a.is_suffix b.is_suffix f.1 in
     (a.numeral_is ∙ ap (λ z. sign_text z ++ (a.whole ++ (fa ++ ea))) s.0 ∙ ap (λ z. sign_text b.sign ++ (z ++ (fa ++ ea))) w.0 ∙ ap (λ z. sign_text b.sign ++ (b.whole ++ (z ++ ea))) f.0 ∙ ap (λ z. sign_text b.sign ++ (b.whole ++ (fb ++ z))) e.0 ∙ sym b.numeral_is, e.1)

@@ -3,11 +3,11 @@ use Rattle.std.proofs.Common.{◌≡◌, ℕ, suc, zero, ◌+◌, ◌⊎◌, inl
 use Rattle.std.proofs.lemmas.Bool.Decides.{nat_tests}
 use Rattle.std.specs.List.{AllByRecursion}
 use Rattle.rl_tokens.specs.Texts.{is_white, first_passes}
-use Rattle.rl_tokens.specs.Lexemes.{after_run}
 use Rattle.rl_tokens.specs.Trivia.{is_plain_line, is_plain_block, inside_text, TriviaPiece, White, Line, Block, trivia_piece_text, IsTriviaPiece, trivia_text, IsTrivia}
 use Rattle.rl_tokens.specs.Skipping.{IsOpenLine, BeginsTrivia, Skipped, OneRest}
 use Rattle.rl_tokens.specs.Mirrors.SkippedAt.{after_block, after_line, after_comment, after_piece}
 use Rattle.rl_tokens.proofs.Comments.{chosen, same_Some, false_unless, Closes, after_block-sound, after_block-past, OneLine, after_line-past, after_line-open, plain_line-same, plain_block-same}
+use Rattle.rl_tokens.specs.Mirrors.LexemeAt.{after_run}
 
 -- What after_line gives: the text behind the first LF, or nothing.
 abbrev LineEnds : List ℕ → List ℕ → Type 0

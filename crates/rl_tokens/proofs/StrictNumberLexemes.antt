@@ -6,18 +6,20 @@ use Rattle.std.specs.Char.{digit_value, is_ascii_digit, is_ascii_hexdigit, is_as
 use Rattle.std.proofs.lemmas.Bool.{and_parts, and_from, or_from, or_cases, eqb-true, ltb-true, lt-ltb, agree_below_at}
 use Rattle.std.proofs.lemmas.Bool.Decides.{nat_tests}
 use Rattle.std.proofs.lemmas.List.Folds.{list_all-append}
-use Rattle.rl_tokens.specs.Texts.{is_white, is_start, is_continue, first_passes, begins}
-use Rattle.rl_tokens.specs.Numbers.{is_row_part, Decimal}
-use Rattle.rl_tokens.specs.Lexemes.{is_numeral_part, is_base_letter, begins_dot, begins_exponent, after_sign, after_run, LexedFraction, NoLexedFraction, LexedDot, lexed_fraction_text, LexedSign, NoLexedSign, LexedPlus, LexedMinus, lexed_sign_text, LexedExponent, NoLexedExponent, LexedPower, lexed_exponent_text, IsLexedFraction, IsLexedExponent, BasedLexeme, DecimalLexeme}
+use Rattle.rl_tokens.specs.Texts.{is_white, first_passes, begins, is_row_part}
+use Rattle.rl_tokens.specs.Numbers.{Decimal, is_digit}
+use Rattle.rl_tokens.specs.Lexemes.{is_base_letter, begins_dot, LexedFraction, NoLexedFraction, LexedDot, lexed_fraction_text, LexedSign, NoLexedSign, LexedPlus, LexedMinus, lexed_sign_text, LexedExponent, NoLexedExponent, LexedPower, lexed_exponent_text, IsLexedFraction, IsLexedExponent, BasedLexeme, DecimalLexeme, is_start, is_continue}
 use Rattle.rl_tokens.specs.Reading.{Contents}
 use Rattle.rl_tokens.specs.Strict.{is_row, IsDigits, IsDecimalText, IsStrictSuffix, IsNumberSuffix, StrictInt, StrictFloat, IsStrictExponent}
 use Rattle.rl_tokens.proofs.Basics.{all_weaker, passes_same, digit_is_ten, hex_is_sixteen}
 use Rattle.rl_tokens.proofs.StrictNumbers.{suffix_of_strict, suffix_no_part}
 use Rattle.rl_tokens.proofs.LexemeRows.{not_among}
+use Rattle.rl_tokens.proofs.LexemeOpeners.{no_exponent_begins}
 use Rattle.rl_tokens.proofs.LexemeFronts.{start_ascii, digit_not_start, decimal_text}
 use Rattle.rl_tokens.proofs.LexemeGaps.{and_false, and_more, continue_ascii}
 use Rattle.rl_tokens.proofs.PrintedCuts.{LexedBefore}
 use Rattle.rl_tokens.proofs.LiteralEnds.{EndsLiteral, Clear, clear_continue, clear_part, clear_dot, clear_base, clear_exponent, clear_code, ends_fails, front_fails, suffix_starts, suffix_continues, strict_suffix_lexed}
+use Rattle.rl_tokens.specs.Mirrors.LexemeAt.{begins_exponent, after_sign, after_run}
 
 -- Decimals. What the parts of one are, apart from the text that follows.
 abbrev is_dot_or_start : ℕ → Bool
@@ -28,11 +30,11 @@ is_letter c = c == 101 || c == 69
 
 abbrev FractionFacts : LexedFraction → List ℕ → Type 0
 FractionFacts NoLexedFraction s = first_passes (λ c. c == 46) s ≡ false
-FractionFacts (LexedDot digits) s = (first_passes is_dot_or_start (digits ++ s) ≡ false) × (list_all is_numeral_part digits ≡ true) × (first_passes is_numeral_part s ≡ false)
+FractionFacts (LexedDot digits) s = (first_passes is_dot_or_start (digits ++ s) ≡ false) × (list_all (is_row_part is_ascii_digit) digits ≡ true) × (first_passes (is_row_part is_ascii_digit) s ≡ false)
 
 abbrev ExponentFacts : LexedExponent → List ℕ → Type 0
 ExponentFacts NoLexedExponent x = first_passes is_letter x ≡ false
-ExponentFacts (LexedPower letter sign n d more) x = (is_letter letter ≡ true) × (is_ascii_digit d ≡ true) × (list_all is_numeral_part more ≡ true) × (first_passes is_numeral_part x ≡ false)
+ExponentFacts (LexedPower letter sign n d more) x = (is_letter letter ≡ true) × (is_ascii_digit d ≡ true) × (list_all (is_row_part is_ascii_digit) more ≡ true) × (first_passes (is_row_part is_ascii_digit) x ≡ false)
 
 record DecimalFacts (t : List ℕ) : Type 0 where
   pub digit : ℕ
@@ -41,8 +43,8 @@ record DecimalFacts (t : List ℕ) : Type 0 where
   pub exponent : LexedExponent
   pub suffix : List ℕ
   pub is_digit : is_ascii_digit digit ≡ true
-  pub each : list_all is_numeral_part more ≡ true
-  pub row_ends : first_passes is_numeral_part (lexed_fraction_text fraction ++ (lexed_exponent_text exponent ++ suffix)) ≡ false
+  pub each : list_all (is_row_part is_ascii_digit) more ≡ true
+  pub row_ends : first_passes (is_row_part is_ascii_digit) (lexed_fraction_text fraction ++ (lexed_exponent_text exponent ++ suffix)) ≡ false
   pub is_fraction : FractionFacts fraction (lexed_exponent_text exponent ++ suffix)
   pub is_exponent : ExponentFacts exponent suffix
   pub is_suffix : IsStrictSuffix suffix
@@ -81,12 +83,13 @@ fails_behind3 test f e x after clear ends h = ap (first_passes test) (sym (assoc
 fraction_lexed : (f : LexedFraction) (e x after : List ℕ) → EndsLiteral after → FractionFacts f (e ++ x) → IsLexedFraction f (e ++ (x ++ after))
 fraction_lexed NoLexedFraction e x after ends h = no_dot (e ++ (x ++ after)) (fails_behind2 (λ c. c == 46) e x after (clear_code 46 refl refl) ends h)
 fraction_lexed (LexedDot digits) e x after ends (begins, each, row_ends) =
-    (ap not (fails_behind3 is_dot_or_start digits e x after clear_dot ends begins), record { each = each; ends = fails_behind2 is_numeral_part e x after clear_part ends row_ends })
+    (ap not (fails_behind3 is_dot_or_start digits e x after clear_dot ends begins), record { each = each; ends = fails_behind2 (is_row_part is_ascii_digit) e x after clear_part ends row_ends })
 
 exponent_lexed : (e : LexedExponent) (x after : List ℕ) → EndsLiteral after → ExponentFacts e x → IsLexedExponent e (x ++ after)
-exponent_lexed NoLexedExponent x after ends h = no_exponent (x ++ after) (front_fails is_letter x after clear_exponent ends h)
+exponent_lexed NoLexedExponent x after ends h =
+    no_exponent_begins (x ++ after) (no_exponent (x ++ after) (front_fails is_letter x after clear_exponent ends h))
 exponent_lexed (LexedPower letter sign n d more) x after ends (is, digit, each, row_ends) =
-    (is, digit, record { each = each; ends = front_fails is_numeral_part x after clear_part ends row_ends })
+    (is, digit, record { each = each; ends = front_fails (is_row_part is_ascii_digit) x after clear_part ends row_ends })
 
 decimal_lexed : (t : List ℕ) → DecimalFacts t → LexedBefore EndsLiteral t
 decimal_lexed t s =
@@ -100,7 +103,7 @@ decimal_lexed t s =
         s.is_digit,
         ap (λ z. s.digit == 48 && first_passes is_base_letter z) (sym (decimal_text s.more f e s.suffix after))
             ∙ and_more (s.digit == 48) (first_passes is_base_letter u) (first_passes is_base_letter (u ++ after)) (front_fails is_base_letter u after clear_base ends) (not_based s.digit u decimal),
-        record { each = s.each; ends = fails_behind3 is_numeral_part f e s.suffix after clear_part ends s.row_ends },
+        record { each = s.each; ends = fails_behind3 (is_row_part is_ascii_digit) f e s.suffix after clear_part ends s.row_ends },
         fraction_lexed s.fraction e s.suffix after ends s.is_fraction,
         exponent_lexed s.exponent s.suffix after ends s.is_exponent,
         strict_suffix_lexed s.suffix after s.is_suffix ends,
@@ -115,14 +118,14 @@ record DigitRow (row : List ℕ) : Type 0 where
   pub more : List ℕ
   pub text : row ≡ digit ∷ more
   pub is_digit : is_ascii_digit digit ≡ true
-  pub each : list_all is_numeral_part more ≡ true
+  pub each : list_all (is_row_part is_ascii_digit) more ≡ true
 
 digit_row : (row : List ℕ) → IsDigits row → DigitRow row
 digit_row [] (first, each) = absurd (cc)
 digit_row (d ∷ more) (first, each) = record { digit = d; more = more; text = refl; is_digit = first; each = (and_parts (is_row is_ascii_digit d) (list_all (is_row is_ascii_digit) more) each).1 }
 
-suffix_no_numeral : (x : List ℕ) → IsNumberSuffix x → first_passes is_numeral_part x ≡ false
-suffix_no_numeral x is = passes_same is_numeral_part (is_row_part 10) (λ c. ap (λ b. b || c == 95) (digit_is_ten c)) x ∙ suffix_no_part x (suffix_of_strict x is)
+suffix_no_numeral : (x : List ℕ) → IsNumberSuffix x → first_passes (is_row_part is_ascii_digit) x ≡ false
+suffix_no_numeral x is = passes_same (is_row_part is_ascii_digit) (is_row_part (is_digit Decimal)) (λ c. ap (λ b. b || c == 95) (digit_is_ten c)) x ∙ suffix_no_part x (suffix_of_strict x is)
 
 suffix_no_dot : (x : List ℕ) → IsStrictSuffix x → first_passes (λ c. c == 46) x ≡ false
 suffix_no_dot [] is = refl
@@ -142,7 +145,7 @@ record PowerRow (row : List ℕ) : Type 0 where
   pub more : List ℕ
   pub text : row ≡ replicate underscores 95 ++ (digit ∷ more)
   pub is_digit : is_ascii_digit digit ≡ true
-  pub each : list_all is_numeral_part more ≡ true
+  pub each : list_all (is_row_part is_ascii_digit) more ≡ true
 
 power_row : (row : List ℕ) → list_all (is_row is_ascii_digit) row ≡ true → list_any is_ascii_digit row ≡ true → PowerRow row
 power_row [] each some = absurd (cc)
@@ -251,7 +254,7 @@ int_lexed t x v s =
 float_text : (more f e x : List ℕ) → (more ++ (f ++ e)) ++ x ≡ more ++ (f ++ (e ++ x))
 float_text more f e x = simp append_assoc
 
-float_from : (t x d : List ℕ) (v : Contents) (s : StrictFloat t v x) (f : LexedFraction) (e : LexedExponent) → IsDigits d → s.numeral ≡ d ++ (lexed_fraction_text f ++ lexed_exponent_text e) → first_passes is_numeral_part (lexed_fraction_text f ++ (lexed_exponent_text e ++ x)) ≡ false → FractionFacts f (lexed_exponent_text e ++ x) → ExponentFacts e x → LexedBefore EndsLiteral t
+float_from : (t x d : List ℕ) (v : Contents) (s : StrictFloat t v x) (f : LexedFraction) (e : LexedExponent) → IsDigits d → s.numeral ≡ d ++ (lexed_fraction_text f ++ lexed_exponent_text e) → first_passes (is_row_part is_ascii_digit) (lexed_fraction_text f ++ (lexed_exponent_text e ++ x)) ≡ false → FractionFacts f (lexed_exponent_text e ++ x) → ExponentFacts e x → LexedBefore EndsLiteral t
 float_from t x d v s f e digits numeral row_ends is_fraction is_exponent =
     let r = digit_row d digits in
     decimal_lexed t
@@ -276,7 +279,7 @@ float_from t x d v s f e digits numeral row_ends is_fraction is_exponent =
 dot_alone : (t x d : List ℕ) (v : Contents) (s : StrictFloat t v x) → IsDigits d → s.numeral ≡ d ++ (46 ∷ []) → x ≡ [] → LexedBefore EndsLiteral t
 dot_alone t x d v s digits numeral none =
     float_from t x d v s (LexedDot []) NoLexedExponent digits numeral refl
-    (ap (first_passes is_dot_or_start) none, refl, ap (first_passes is_numeral_part) none) (ap (first_passes is_letter) none)
+    (ap (first_passes is_dot_or_start) none, refl, ap (first_passes (is_row_part is_ascii_digit)) none) (ap (first_passes is_letter) none)
 
 -- behind a dot the digits begin neither as a dot does nor as an identifier
 digits_behind_dot : (f s : List ℕ) → IsDigits f → first_passes is_dot_or_start (f ++ s) ≡ false
@@ -292,7 +295,7 @@ pointed t x d f v s digits behind numeral no_letter =
 whole_power : (t x d e : List ℕ) (v : Contents) (s : StrictFloat t v x) → IsDigits d → PowerFacts e → s.numeral ≡ d ++ e → LexedBefore EndsLiteral t
 whole_power t x d e v s digits p numeral =
     float_from t x d v s NoLexedFraction (LexedPower p.letter p.sign p.power.underscores p.power.digit p.power.more) digits (numeral ∙ ap (λ z. d ++ z) p.text)
-    (letter_fails is_numeral_part p.letter refl refl p.is_letter)
+    (letter_fails (is_row_part is_ascii_digit) p.letter refl refl p.is_letter)
     (letter_fails (λ c. c == 46) p.letter refl refl p.is_letter)
     (p.is_letter, p.power.is_digit, p.power.each, suffix_no_numeral x s.suffix)
 
@@ -300,7 +303,7 @@ pointed_power : (t x d f e : List ℕ) (v : Contents) (s : StrictFloat t v x) �
 pointed_power t x d f e v s digits behind p numeral =
     float_from t x d v s (LexedDot f) (LexedPower p.letter p.sign p.power.underscores p.power.digit p.power.more) digits
     (numeral ∙ append_assoc d (46 ∷ f) e ∙ ap (λ z. d ++ ((46 ∷ f) ++ z)) p.text) refl
-    (digits_behind_dot f _ behind, behind.1, letter_fails is_numeral_part p.letter refl refl p.is_letter)
+    (digits_behind_dot f _ behind, behind.1, letter_fails (is_row_part is_ascii_digit) p.letter refl refl p.is_letter)
     (p.is_letter, p.power.is_digit, p.power.each, suffix_no_numeral x s.suffix)
 
 -- A strict float is one lexeme before what may follow it.

@@ -7,9 +7,9 @@ use Rattle.std.proofs.lemmas.List.Folds.{list_all-append}
 use Rattle.std.proofs.lemmas.Bool.{eqb-true, eq-eqb, both_ways, and_parts, and_from, or_parts, or_cases, or_from, cases_lt, ltb-true, lt-ltb, not-true, false_from_ne_true, agree_below_at, not_from_false}
 use Rattle.unicode_ident.specs.Ident.{is_xid_start, is_xid_continue}
 use Rattle.unicode_ident.proofs.IdentLemmas.{is_xid_start-ascii}
-use Rattle.rl_tokens.specs.Texts.{first_passes, begins, is_underscore}
+use Rattle.rl_tokens.specs.Texts.{first_passes, begins, is_underscore, is_row_part}
 use Rattle.rl_tokens.specs.Quoted.{place_value, without_underscores}
-use Rattle.rl_tokens.specs.Numbers.{Base, Binary, Octal, Decimal, Hexadecimal, radix, prefix, is_digit, is_row_part, Sign, NoSign, Minus, sign_text, begins_base, IsBehindPrefix, IsSuffix, is_exponent_letter, IsExponentSuffix, AllowsSuffix, IntReads, limit, Fraction, NoFraction, Dot, fraction_text, IsFraction, Exponent, NoExponent, Power, exponent_text, is_power_sign, BeginsExponent, IsExponent, float_digits}
+use Rattle.rl_tokens.specs.Numbers.{Base, Binary, Octal, Decimal, Hexadecimal, radix, prefix, is_digit, Sign, NoSign, Minus, sign_text, begins_base, IsBehindPrefix, IsSuffix, is_exponent_letter, IsExponentSuffix, AllowsSuffix, IntReads, limit, Fraction, NoFraction, Dot, fraction_text, IsFraction, Exponent, NoExponent, Power, exponent_text, is_power_sign, BeginsExponent, IsExponent, float_digits}
 use Rattle.rl_tokens.specs.Reading.{Contents, Digits, ReadsInt, HasNoInteger, ReadsFloat}
 use Rattle.rl_tokens.specs.Strict.{dec, is_row, bare, spelled_number, IsDigits, IsDecimalText, IsNumberSuffix, StrictInt, IsStrictExponent, StrictFloat}
 use Rattle.rl_tokens.proofs.Dec.{dec_is_decimal}
@@ -31,7 +31,7 @@ low_digit n c small h = false_from_ne_true (ltb (digit_value c) n) (λ d.
     let less : digit_value c < n = ltb-true (digit_value c) n d in
     both_ways (is_ascii_digit c) h (digit_is_ten c ∙ lt-ltb (digit_value c) 10 (omega arith)))
 
-pub no_part : (b : Base) (x : List ℕ) → IsSuffix x → AllowsSuffix b x → first_passes (is_row_part (radix b)) x ≡ false
+pub no_part : (b : Base) (x : List ℕ) → IsSuffix x → AllowsSuffix b x → first_passes (is_row_part (is_digit b)) x ≡ false
 no_part b [] s f = refl
 no_part b (c ∷ cs) (inl e, u) f = absurd (cc)
 no_part b (c ∷ cs) (inr w, u) f =
@@ -54,7 +54,7 @@ no_exponent_suffix x h e = both_ways (is_exponent_letter e.letter) (ap (first_pa
 begins_no_exponent : (x : List ℕ) → first_passes is_exponent_letter x ≡ false → BeginsExponent x → ⊥
 begins_no_exponent x h e = both_ways (is_exponent_letter e.letter) (ap (first_passes is_exponent_letter) (sym e.text_is) ∙ h) e.is_letter
 
-pub suffix_no_part : (x : List ℕ) → IsSuffix x → first_passes (is_row_part 10) x ≡ false
+pub suffix_no_part : (x : List ℕ) → IsSuffix x → first_passes (is_row_part (is_digit Decimal)) x ≡ false
 suffix_no_part [] s = refl
 suffix_no_part (c ∷ cs) (inl e, u) = absurd (cc)
 suffix_no_part (c ∷ cs) (inr w, u) =
@@ -159,13 +159,13 @@ behind_minus t x Minus m r = (
 pub record IsForeign (k : ℕ) : Type 0 where
   pub small : k < 128
   pub no_word : (is_ascii_alphanumeric k || eqb k 95) ≡ false
-  pub no_digit : (b : Base) → is_row_part (radix b) k ≡ false
+  pub no_digit : (b : Base) → is_row_part (is_digit b) k ≡ false
   pub no_prefix : (b : Base) → list_all (λ c. not (eqb c k)) (prefix b) ≡ true
 
 pub foreign_dot : IsForeign 46
 foreign_dot = record { small = omega arith; no_word = refl; no_digit = digit; no_prefix = front }
   where
-    digit : (b : Base) → is_row_part (radix b) 46 ≡ false
+    digit : (b : Base) → is_row_part (is_digit b) 46 ≡ false
     digit Binary = refl
     digit Octal = refl
     digit Decimal = refl
@@ -180,7 +180,7 @@ foreign_dot = record { small = omega arith; no_word = refl; no_digit = digit; no
 pub foreign_plus : IsForeign 43
 foreign_plus = record { small = omega arith; no_word = refl; no_digit = digit; no_prefix = front }
   where
-    digit : (b : Base) → is_row_part (radix b) 43 ≡ false
+    digit : (b : Base) → is_row_part (is_digit b) 43 ≡ false
     digit Binary = refl
     digit Octal = refl
     digit Decimal = refl
@@ -195,7 +195,7 @@ foreign_plus = record { small = omega arith; no_word = refl; no_digit = digit; n
 pub foreign_minus : IsForeign 45
 foreign_minus = record { small = omega arith; no_word = refl; no_digit = digit; no_prefix = front }
   where
-    digit : (b : Base) → is_row_part (radix b) 45 ≡ false
+    digit : (b : Base) → is_row_part (is_digit b) 45 ≡ false
     digit Binary = refl
     digit Octal = refl
     digit Decimal = refl
@@ -218,7 +218,7 @@ int_without k t x m f r =
     ∙ list_all-append test (prefix r.base) (r.digits ++ x)
     ∙ and_from _ _ (f.no_prefix r.base)
     (list_all-append test r.digits x
-    ∙ and_from _ _ (all_weaker (is_row_part (radix r.base)) test (λ c h. not_from_false (eqb c k) (apart (is_row_part (radix r.base)) c k h (f.no_digit r.base))) r.digits r.each)
+    ∙ and_from _ _ (all_weaker (is_row_part (is_digit r.base)) test (λ c h. not_from_false (eqb c k) (apart (is_row_part (is_digit r.base)) c k h (f.no_digit r.base))) r.digits r.each)
     (suffix_without k x f r.is_suffix))
 
 pub foreign_inside : (k : ℕ) (t a b : List ℕ) → eqb k k ≡ true → t ≡ a ++ (k ∷ b) → list_all (λ c. not (eqb c k)) t ≡ true → ⊥
@@ -246,9 +246,9 @@ pub begins_front : (p t : List ℕ) → begins p (p ++ t) ≡ true
 begins_front [] t = refl
 begins_front (c ∷ p) t = and_from _ _ (eq-eqb c c refl) (begins_front p t)
 
-pub letter_no_part : (c : ℕ) → is_exponent_letter c ≡ true → is_row_part 10 c ≡ false
+pub letter_no_part : (c : ℕ) → is_exponent_letter c ≡ true → is_row_part (is_digit Decimal) c ≡ false
 letter_no_part c h =
-    let At : ℕ → Type 0 = λ x. is_row_part 10 x ≡ false in
+    let At : ℕ → Type 0 = λ x. is_row_part (is_digit Decimal) x ≡ false in
     elim (or_cases (eqb c 101) (eqb c 69) h) [
       | inl a ↦ subst At (sym (eqb-true c 101 a)) refl
       | inr a ↦ subst At (sym (eqb-true c 69 a)) refl
@@ -268,15 +268,15 @@ other_base Hexadecimal t r h e =
     absurd (both_ways _ p.1 (ap (begins (prefix Hexadecimal)) e ∙ begins_front (prefix Hexadecimal) r))
 
 -- where the whole part ends in a letter of an exponent that is whole
-none_at_base : (b : Base) (t d row x digits y : List ℕ) (letter : ℕ) → b ≡ Decimal → list_all (is_row_part 10) d ≡ true → is_exponent_letter letter ≡ true → list_all (is_row_part 10) row ≡ true → list_any is_ascii_digit row ≡ true → IsSuffix x → first_passes (is_row_part 10) x ≡ false → t ≡ d ++ (letter ∷ (row ++ x)) → list_all (is_row_part (radix b)) digits ≡ true → IsSuffix y → AllowsSuffix b y → t ≡ prefix b ++ (digits ++ y) → ⊥
+none_at_base : (b : Base) (t d row x digits y : List ℕ) (letter : ℕ) → b ≡ Decimal → list_all (is_row_part (is_digit Decimal)) d ≡ true → is_exponent_letter letter ≡ true → list_all (is_row_part (is_digit Decimal)) row ≡ true → list_any is_ascii_digit row ≡ true → IsSuffix x → first_passes (is_row_part (is_digit Decimal)) x ≡ false → t ≡ d ++ (letter ∷ (row ++ x)) → list_all (is_row_part (is_digit b)) digits ≡ true → IsSuffix y → AllowsSuffix b y → t ≡ prefix b ++ (digits ++ y) → ⊥
 none_at_base Decimal t d row x digits y letter decimal each is_letter run some sx whole e each_digit sy of text =
-    let p = same_run (is_row_part 10) d digits (letter ∷ (row ++ x)) y each each_digit (letter_no_part letter is_letter) (no_part Decimal y sy of) (sym e ∙ text) in
+    let p = same_run (is_row_part (is_digit Decimal)) d digits (letter ∷ (row ++ x)) y each each_digit (letter_no_part letter is_letter) (no_part Decimal y sy of) (sym e ∙ text) in
     of (record { letter = letter; run = row; rest = x; is_letter = is_letter; each = run; some = some; whole = whole; is_rest = sx.0; text_is = sym p.1 })
 none_at_base Binary t d row x digits y letter decimal each is_letter run some sx whole e each_digit sy of text = absurd (cc)
 none_at_base Octal t d row x digits y letter decimal each is_letter run some sx whole e each_digit sy of text = absurd (cc)
 none_at_base Hexadecimal t d row x digits y letter decimal each is_letter run some sx whole e each_digit sy of text = absurd (cc)
 
-none_at_exponent : (t d row x : List ℕ) (letter : ℕ) → IsDecimalText t → list_all (is_row_part 10) d ≡ true → is_exponent_letter letter ≡ true → list_all (is_row_part 10) row ≡ true → list_any is_ascii_digit row ≡ true → IsSuffix x → first_passes (is_row_part 10) x ≡ false → t ≡ d ++ (letter ∷ (row ++ x)) → first_passes is_ascii_digit t ≡ true → HasNoInteger t
+none_at_exponent : (t d row x : List ℕ) (letter : ℕ) → IsDecimalText t → list_all (is_row_part (is_digit Decimal)) d ≡ true → is_exponent_letter letter ≡ true → list_all (is_row_part (is_digit Decimal)) row ≡ true → list_any is_ascii_digit row ≡ true → IsSuffix x → first_passes (is_row_part (is_digit Decimal)) x ≡ false → t ≡ d ++ (letter ∷ (row ++ x)) → first_passes is_ascii_digit t ≡ true → HasNoInteger t
 none_at_exponent t d row x letter decimal each is_letter run some sx whole e front s m y r0 =
     let r = (no_sign t y s m front r0).0 in
     none_at_base r.base t d row x r.digits y letter (other_base r.base t (r.digits ++ y) decimal r.text_is) each is_letter run some sx whole e r.each r.is_suffix r.is_suffix_of r.text_is
@@ -288,7 +288,7 @@ pub record IsFloat (t : List ℕ) (v : Contents) (x : List ℕ) : Type 0 where
   pub fraction : Fraction
   pub exponent : Exponent
   pub first : first_passes is_ascii_digit whole ≡ true
-  pub each : list_all (is_row_part 10) whole ≡ true
+  pub each : list_all (is_row_part (is_digit Decimal)) whole ≡ true
   pub is_fraction : IsFraction fraction
   pub is_exponent : IsExponent exponent x
   pub is_suffix : IsSuffix x
@@ -296,13 +296,13 @@ pub record IsFloat (t : List ℕ) (v : Contents) (x : List ℕ) : Type 0 where
   pub no_integer : HasNoInteger t
   pub contents_is : v ≡ Digits (float_digits (whole ++ (fraction_text fraction ++ exponent_text exponent)))
 
-digits_part : (d : List ℕ) → list_all (is_row is_ascii_digit) d ≡ true → list_all (is_row_part 10) d ≡ true
-digits_part d h = sym (all_same (is_row is_ascii_digit) (is_row_part 10) (λ c. ap (λ b. b || eqb c 95) (digit_is_ten c)) d) ∙ h
+digits_part : (d : List ℕ) → list_all (is_row is_ascii_digit) d ≡ true → list_all (is_row_part (is_digit Decimal)) d ≡ true
+digits_part d h = sym (all_same (is_row is_ascii_digit) (is_row_part (is_digit Decimal)) (λ c. ap (λ b. b || eqb c 95) (digit_is_ten c)) d) ∙ h
 
 front_of : (t d r : List ℕ) → t ≡ d ++ r → first_passes is_ascii_digit d ≡ true → first_passes is_ascii_digit t ≡ true
 front_of t d r e h = ap (first_passes is_ascii_digit) e ∙ passes_on is_ascii_digit d r h
 
-dot_float : (t x d f : List ℕ) (v : Contents) (s : StrictFloat t v x) → IsDigits d → list_all (is_row_part 10) f ≡ true → s.numeral ≡ d ++ (46 ∷ f) → (BeginsExponent x → ⊥) → IsFloat t v x
+dot_float : (t x d f : List ℕ) (v : Contents) (s : StrictFloat t v x) → IsDigits d → list_all (is_row_part (is_digit Decimal)) f ≡ true → s.numeral ≡ d ++ (46 ∷ f) → (BeginsExponent x → ⊥) → IsFloat t v x
 dot_float t x d f v s is_d each_f e no_exponent =
     let numeral : s.numeral ≡ d ++ ((46 ∷ f) ++ []) = e ∙ ap (λ z. d ++ (46 ∷ z)) (sym (append-nil f)) in
     let text : t ≡ (d ++ ((46 ∷ f) ++ [])) ++ x = s.text ∙ ap (λ z. z ++ x) numeral in
@@ -327,7 +327,7 @@ pub record IsPower (e : List ℕ) : Type 0 where
   pub row : List ℕ
   pub is_letter : is_exponent_letter letter ≡ true
   pub is_sign : (sign ≡ []) ⊎ ((sign ≡ 43 ∷ []) ⊎ (sign ≡ 45 ∷ []))
-  pub each : list_all (is_row_part 10) row ≡ true
+  pub each : list_all (is_row_part (is_digit Decimal)) row ≡ true
   pub some : list_any is_ascii_digit row ≡ true
   pub text_is : e ≡ letter ∷ (sign ++ row)
 

@@ -8,10 +8,13 @@ use Rattle.rl_tokens.specs.CStrings.{has_no_zero}
 
 -- an integer's text stands for no magnitude past the limit; of other texts nothing is asked
 abbrev pub IsWithinLimit : Kind → List ℕ → Type 0
-IsWithinLimit Int t = (sign : Sign) (magnitude : ℕ) (suffix : List ℕ) → IntReads t sign magnitude suffix → magnitude ≤ limit
+IsWithinLimit Int t =
+    (sign : Sign) (magnitude : ℕ) (suffix : List ℕ) → IntReads t sign magnitude suffix
+    → magnitude ≤ limit
 IsWithinLimit _ t = ⊤
 
--- what a literal of the kind can hold: characters, bytes, bytes but zero; one of them for a character or a byte
+-- what a literal of the kind can hold: characters, bytes, bytes but zero; one of them for a
+-- character or a byte
 abbrev pub IsQuotedValue : Kind → List ℕ → Type 0
 IsQuotedValue Str v = ⊤
 IsQuotedValue Char v = length v ≡ 1

@@ -82,7 +82,9 @@ MissesWord [] word (EndOfInput w) = w.now ≡ word
 MissesWord (t ∷ ts) word (Expected w) = w.now ≡ word
 MissesWord _ word _ = ⊥
 
--- The refusal where this word was expected before these trees: at the first tree, at the end at the scope.
-pub record IsRefusal {A : Type 0} (trees : List Tree) (scope : Span) (word : List ℕ) (e : Error A) : Type 0 where
+-- The refusal where this word was expected before these trees: at the first tree, at the end at the
+-- scope.
+pub record IsRefusal {A : Type 0} (trees : List Tree) (scope : Span) (word : List ℕ) (e : Error A)
+    : Type 0 where
   pub span : e.span ≡ first_span trees scope
   pub kind : MissesWord trees word e.kind

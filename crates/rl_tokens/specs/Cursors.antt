@@ -41,16 +41,21 @@ pub record TakesNext (old : CursorState) (l : Lexeme) (new : CursorState) : Type
   pub begins : chars old.rest ≡ lexeme_text cut.lexeme ++ after
   pub is_lexeme : IsLexeme cut.lexeme after
   pub place : l.lo + length old.rest ≡ length old.text
-  pub goes_on : (done : List LexedToken) → LexesUpTo 0 (chars old.text) done (chars old.rest) → LexesUpTo 0 (chars old.text) (done ++ cut ∷ []) (chars new.rest)
+  pub goes_on : (done : List LexedToken) → LexesUpTo 0 (chars old.text) done (chars old.rest)
+      → LexesUpTo 0 (chars old.text) (done ++ cut ∷ []) (chars new.rest)
   pub same : new.text ≡ old.text
   pub behind : IsTail old.rest new.rest
 
--- Where the text was cut into tokens whose groups open and close as they must, and this is left of it, its first fault is
--- of this kind and stands at this byte.
+-- Where the text was cut into tokens whose groups open and close as they must, and this is left of
+-- it, its first fault is of this kind and stands at this byte.
 abbrev pub IsFirstFault : CursorState → LexKind → ℕ → Type 0
 IsFirstFault t kind at =
-    (cuts : List LexedToken) (groups : List OpenGroup) → LexesUpTo 0 (chars t.text) cuts (chars t.rest) → open_groups [] cuts ≡ Some groups → Fault (chars t.text) kind at
+    (cuts : List LexedToken) (groups : List OpenGroup)
+    → LexesUpTo 0 (chars t.text) cuts (chars t.rest) → open_groups [] cuts ≡ Some groups
+    → Fault (chars t.text) kind at
 
--- What the cursor gives: the next token, or nothing where none begins what is left, and then it stays.
+-- What the cursor gives: the next token, or nothing where none begins what is left, and then it
+-- stays.
 abbrev pub GivesNext : CursorState → Option Lexeme → CursorState → Type 0
-GivesNext old token new = MatchOption token (BeginsNoLexeme (chars old.rest) × (new ≡ old)) (λ l. TakesNext old l new)
+GivesNext old token new =
+    MatchOption token (BeginsNoLexeme (chars old.rest) × (new ≡ old)) (λ l. TakesNext old l new)

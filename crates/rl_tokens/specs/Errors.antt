@@ -14,7 +14,8 @@ message_of (Expected word) = codes "expected " ++ word.now
 message_of (EndOfInput word) = codes "unexpected end of input, expected " ++ word.now
 message_of Unexpected = codes "unexpected token"
 message_of (Lex kind) = lex_message kind
-message_of (Suffix suffix) = codes "unexpected suffix `" ++ string_bytes suffix ++ codes "` on string literal"
+message_of (Suffix suffix) =
+    codes "unexpected suffix `" ++ string_bytes suffix ++ codes "` on string literal"
 message_of NotInteger = codes "not an integer literal"
 message_of TooLarge = codes "integer literal past 128 bits"
 message_of NotFloat = codes "not a float literal"
@@ -22,11 +23,11 @@ message_of Repeated = codes "repeated name"
 message_of (Number words) = string_bytes words
 message_of Memory = codes "out of memory"
 
--- want of memory, told at a span
+-- running out of memory, reported at a span
 abbrev pub memory_at : {A : Type 0} → Span → Error A
 memory_at at = record { span = at; kind = Memory }
 
--- the lexer's refusal, told at a span; its want of memory is `Memory`
+-- the lexer's refusal, reported at a span; its running out of memory is `Memory`
 abbrev pub lex_refusal : {A : Type 0} → LexKind → Span → Error A
 lex_refusal LexMemory at = memory_at at
 lex_refusal kind at = record { span = at; kind = Lex kind }

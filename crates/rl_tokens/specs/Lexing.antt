@@ -1,7 +1,7 @@
 -- How a whole text is cut into tokens, and the first fault of a text that can't be.
-use Rattle.std.specs.Prelude.{◌≡◌, ◌≢◌, ℕ, ◌+◌, Bool, false, not, ◌&&◌, ◌||◌, ◌==◌, nat_lt, List, [], ◌∷◌, ◌++◌, length, map, IsTrue, IsFalse, codes, encode_utf8_all, Option, Some, None, option_and_then, if◌then◌else◌}
-use Rattle.rl_tokens.specs.Characters.{hash_sign, single_quote, open_parenthesis, close_parenthesis, open_bracket, close_bracket, letter_b, letter_c, letter_r, open_brace, close_brace}
-use Rattle.rl_tokens.specs.Texts.{is_start, is_among, first_passes, begins, byte_len}
+use Rattle.std.specs.Prelude.{◌≡◌, ◌≢◌, ◌⊎◌, ℕ, ◌+◌, Bool, false, not, ◌&&◌, ◌||◌, ◌==◌, nat_lt, List, [], ◌∷◌, ◌++◌, length, map, IsTrue, IsFalse, codes, encode_utf8_all, Option, Some, None, option_and_then, if◌then◌else◌}
+use Prim.Native.Char.{code}
+use Rattle.rl_tokens.specs.Texts.{is_among, first_passes, begins, byte_len}
 use Rattle.rl_tokens.specs.Skipping.{Skipped}
 use Rattle.rl_tokens.specs.declared.span.Span.{Span}
 use Rattle.rl_tokens.specs.declared.token.Delimiter.{Delimiter}
@@ -9,7 +9,7 @@ use Rattle.rl_tokens.specs.declared.token.Delimiter.TheVariants.{Parenthesis, Br
 use Rattle.rl_tokens.specs.declared.lex_error.LexKind.{LexKind}
 use Rattle.rl_tokens.specs.declared.lex_error.LexKind.TheVariants.{DocComment, UnclosedComment, UnclosedQuote, Lifetime, RawIdentifier, StrayCharacter, UnmatchedClose, UnclosedGroup, TooDeep, Memory}
 use Rattle.rl_tokens.specs.Trees.{Tree, FlatToken, Opening, Closing, FlatIdent, FlatPunct, FlatLiteral, flat_trees}
-use Rattle.rl_tokens.specs.Lexemes.{Lexeme, lexeme_text, IsLexeme, LexemeBefore, begins_hashed_quote, LexemeForm, LiteralForm, IdentifierForm, DelimiterForm, MarkForm, form_of}
+use Rattle.rl_tokens.specs.Lexemes.{Lexeme, lexeme_text, IsLexeme, LexemeBefore, LexemeForm, LiteralForm, IdentifierForm, DelimiterForm, MarkForm, form_of, is_start, BeginsRaw, begins_prefixed_quote, begins_raw_identifier}
 
 -- A token that was cut, and the byte where it begins.
 pub record LexedToken : Type 0 where
@@ -19,17 +19,20 @@ pub record LexedToken : Type 0 where
 abbrev pub end_of : LexedToken → ℕ
 end_of w = w.at + byte_len (lexeme_text w.lexeme)
 
--- The text t, which begins at a byte, is these tokens with white space and comments before each, and after
--- the last one's it goes on with r.
+-- The text t, which begins at a byte, is these tokens with white space and comments before each,
+-- and after the last one's it goes on with r.
 abbrev pub LexesUpTo : ℕ → List ℕ → List LexedToken → List ℕ → Type 0
 LexesUpTo at t [] r = Skipped t r
 LexesUpTo at t (w ∷ ws) r =
     (after : List ℕ) × Skipped t (lexeme_text w.lexeme ++ after) × IsLexeme w.lexeme after
-    × (w.at + byte_len (lexeme_text w.lexeme ++ after) ≡ at + byte_len t) × LexesUpTo (end_of w) after ws r
+    × (w.at + byte_len (lexeme_text w.lexeme ++ after) ≡ at + byte_len t)
+    × LexesUpTo (end_of w) after ws r
 
 -- the closer of an opener; 0 for what is no opener
 abbrev pub closer_for : ℕ → ℕ
-closer_for c = if c == open_parenthesis then close_parenthesis else (if c == open_bracket then close_bracket else (if c == open_brace then close_brace else 0))
+closer_for c =
+    if c == code "(" then code ")"
+    else (if c == code "[" then code "]" else (if c == code "{" then code "}" else 0))
 
 abbrev pub is_opener : ℕ → Bool
 is_opener c = is_among (codes "([{") c
@@ -50,10 +53,13 @@ abbrev pub popped : List OpenGroup → List OpenGroup
 popped [] = []
 popped (o ∷ os) = os
 
--- the groups that are open behind a delimiter, the innermost first; none where it closes wrongly or opens too deep
+-- the groups that are open behind a delimiter, the innermost first; none where it closes wrongly or
+-- opens too deep
 abbrev pub behind_delimiter : List OpenGroup → ℕ → ℕ → Option (List OpenGroup)
 behind_delimiter groups c at =
-    if is_opener c then (if nat_lt (length groups) 128 then Some (record { opener = c; at = at } ∷ groups) else None)
+    if is_opener c
+    then (if nat_lt (length groups) 128 then Some (record { opener = c; at = at } ∷ groups)
+    else None)
     else (if closes groups c then Some (popped groups) else None)
 
 abbrev pub behind_form : List OpenGroup → LexemeForm → ℕ → Option (List OpenGroup)
@@ -66,25 +72,31 @@ behind_lexeme groups l at = behind_form groups (form_of l) at
 -- the groups that are open behind all these tokens
 abbrev pub open_groups : List OpenGroup → List LexedToken → Option (List OpenGroup)
 open_groups groups [] = Some groups
-open_groups groups (w ∷ ws) = option_and_then (λ g. open_groups g ws) (behind_lexeme groups w.lexeme w.at)
+open_groups groups (w ∷ ws) =
+    option_and_then (λ g. open_groups g ws) (behind_lexeme groups w.lexeme w.at)
 
 -- which delimiter it is
 abbrev pub delimiter_for : ℕ → Delimiter
-delimiter_for c = if c == open_parenthesis || c == close_parenthesis then Parenthesis else (if c == open_bracket || c == close_bracket then Bracket else Brace)
+delimiter_for c =
+    if c == code "(" || c == code ")" then Parenthesis
+    else (if c == code "[" || c == code "]" then Bracket else Brace)
 
 -- the token of this form, text and place, written flat
 abbrev pub flat_form : LexemeForm → List ℕ → Span → FlatToken
 flat_form LiteralForm text span = FlatLiteral (record { text = text; span = span })
 flat_form IdentifierForm text span = FlatIdent (record { text = text; span = span })
-flat_form (DelimiterForm c) text span = if is_opener c then Opening (delimiter_for c) span else Closing (delimiter_for c) span
+flat_form (DelimiterForm c) text span =
+    if is_opener c then Opening (delimiter_for c) span else Closing (delimiter_for c) span
 flat_form (MarkForm c) text span = FlatPunct (record { ch = c; span = span })
 
 -- a token that was cut, written flat: its span is the file and the bytes of its text
 abbrev pub flat_token : ℕ → LexedToken → FlatToken
 flat_token file w =
-    flat_form (form_of w.lexeme) (encode_utf8_all (lexeme_text w.lexeme)) (record { file = file; lo = w.at; hi = end_of w })
+    flat_form (form_of w.lexeme) (encode_utf8_all (lexeme_text w.lexeme))
+    (record { file = file; lo = w.at; hi = end_of w })
 
--- The text is cut into the tokens of these trees, and nothing is left: neither text nor an open group.
+-- The text is cut into the tokens of these trees, and nothing is left: neither text nor an open
+-- group.
 pub record Lexes (t : List ℕ) (file : ℕ) (trees : List Tree) : Type 0 where
   pub cuts : List LexedToken
   pub are_cuts : LexesUpTo 0 t cuts []
@@ -95,30 +107,19 @@ pub record Lexes (t : List ℕ) (file : ℕ) (trees : List Tree) : Type 0 where
 abbrev pub begins_doc_comment : List ℕ → Bool
 begins_doc_comment r =
     (begins (codes "///") r && not (begins (codes "////") r)) || begins (codes "//!") r
-    || (begins (codes "/**") r && not (begins (codes "/**/") r || begins (codes "/***") r)) || begins (codes "/*!") r
+    || (begins (codes "/**") r && not (begins (codes "/**/") r || begins (codes "/***") r))
+    || begins (codes "/*!") r
 
 abbrev pub begins_lifetime : List ℕ → Bool
 begins_lifetime [] = false
-begins_lifetime (c ∷ cs) = c == single_quote && first_passes is_start cs
+begins_lifetime (c ∷ cs) = c == code "'" && first_passes is_start cs
 
-abbrev pub begins_raw_identifier : List ℕ → Bool
-begins_raw_identifier [] = false
-begins_raw_identifier (c ∷ []) = false
-begins_raw_identifier (c ∷ d ∷ cs) = c == letter_r && d == hash_sign && first_passes is_start cs
-
-abbrev pub begins_raw : List ℕ → Bool
-begins_raw [] = false
-begins_raw (c ∷ cs) = (c == letter_r && begins_hashed_quote cs) || begins_prefixed cs (c == letter_b || c == letter_c)
-  where
-    begins_prefixed : List ℕ → Bool → Bool
-    begins_prefixed [] b = false
-    begins_prefixed (c ∷ cs) b = b && c == letter_r && begins_hashed_quote cs
-
--- a quoted or raw opener, `b'`, or `'` without an identifier start behind it
-abbrev pub begins_quote : List ℕ → Bool
-begins_quote r =
-    begins (codes "\"") r || begins (codes "b\"") r || begins (codes "c\"") r || begins_raw r || begins (codes "b'") r
-    || (begins (codes "'") r && not (begins_lifetime r))
+-- a quote that begins a literal: alone, behind a prefix, behind a raw literal's opener, or a
+-- character's, which begins no lifetime
+abbrev pub BeginsQuote : List ℕ → Type 0
+BeginsQuote r =
+    IsTrue (begins (codes "\"") r) ⊎ (IsTrue (begins_prefixed_quote r)
+    ⊎ (BeginsRaw r ⊎ (IsTrue (begins (codes "'") r) × IsFalse (begins_lifetime r))))
 
 -- a token begins the text; none does
 abbrev pub BeginsLexeme : List ℕ → Type 0
@@ -127,17 +128,20 @@ BeginsLexeme r = (after : List ℕ) × LexemeBefore r after
 abbrev pub BeginsNoLexeme : List ℕ → Type 0
 BeginsNoLexeme r = (after : List ℕ) → LexemeBefore r after → ⊥
 
--- The fault of this kind stands at the rest r, with these groups open. Want of memory is none of the text.
+-- The fault of this kind stands at the rest r, with these groups open. Running out of memory is
+-- none of the text.
 abbrev pub FaultAt : LexKind → List OpenGroup → List ℕ → Type 0
 FaultAt DocComment groups r = IsTrue (begins_doc_comment r)
 FaultAt UnclosedComment groups r = IsTrue (begins (codes "/*") r) × IsFalse (begins_doc_comment r)
-FaultAt UnclosedQuote groups r = BeginsNoLexeme r × IsTrue (begins_quote r)
+FaultAt UnclosedQuote groups r = BeginsNoLexeme r × BeginsQuote r
 FaultAt Lifetime groups r = BeginsNoLexeme r × IsTrue (begins_lifetime r)
 FaultAt RawIdentifier groups r = BeginsNoLexeme r × IsTrue (begins_raw_identifier r)
 FaultAt StrayCharacter groups r =
-    (r ≢ []) × BeginsNoLexeme r
-    × IsFalse (begins_doc_comment r || begins (codes "/*") r || begins_quote r || begins_lifetime r || begins_raw_identifier r)
-FaultAt UnmatchedClose groups r = IsTrue (first_passes (λ c. is_closer c && not (closes groups c)) r)
+    (r ≢ []) × BeginsNoLexeme r × (BeginsQuote r → ⊥)
+    × IsFalse (begins_doc_comment r || begins (codes "/*") r || begins_lifetime r
+    || begins_raw_identifier r)
+FaultAt UnmatchedClose groups r =
+    IsTrue (first_passes (λ c. is_closer c && not (closes groups c)) r)
 FaultAt UnclosedGroup groups r = (r ≡ []) × (groups ≢ [])
 FaultAt TooDeep groups r = IsTrue (first_passes is_opener r) × (length groups ≡ 128)
 FaultAt Memory groups r = ⊥
@@ -163,7 +167,8 @@ pub record Fault (t : List ℕ) (kind : LexKind) (at : ℕ) : Type 0 where
   pub rest_place : rest_at + byte_len rest ≡ byte_len t
   pub at_is : at ≡ fault_place kind groups rest_at
 
--- The text is cut into tokens up to the rest that begins at this byte, and a token begins that rest.
+-- The text is cut into tokens up to the rest that begins at this byte, and a token begins that
+-- rest.
 pub record LeavesRestAt (t : List ℕ) (at : ℕ) : Type 0 where
   pub cuts : List LexedToken
   pub rest : List ℕ
@@ -171,7 +176,8 @@ pub record LeavesRestAt (t : List ℕ) (at : ℕ) : Type 0 where
   pub begins : BeginsLexeme rest
   pub rest_place : at + byte_len rest ≡ byte_len t
 
--- What a refusal says of the text: its first fault, or the token for which memory was refused, a group's closer too.
+-- What a refusal says of the text: its first fault, or the token for which memory was refused, a
+-- group's closer too.
 abbrev pub Refuses : List ℕ → LexKind → ℕ → Type 0
 Refuses t Memory at = LeavesRestAt t at
 Refuses t kind at = Fault t kind at
@@ -186,4 +192,6 @@ OneFault = (t : List ℕ) (k l : LexKind) (m n : ℕ) → Fault t k m → Fault 
 
 -- No text has both.
 abbrev pub NeverBoth : Type 0
-NeverBoth = (t : List ℕ) (file : ℕ) (trees : List Tree) (k : LexKind) (at : ℕ) → Lexes t file trees → Fault t k at → ⊥
+NeverBoth =
+    (t : List ℕ) (file : ℕ) (trees : List Tree) (k : LexKind) (at : ℕ) → Lexes t file trees
+    → Fault t k at → ⊥

@@ -1,4 +1,3 @@
-pub mod Characters
 pub mod Texts
 pub mod Quoted
 pub mod Numbers

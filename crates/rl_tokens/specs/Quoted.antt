@@ -1,10 +1,10 @@
--- The quoted forms of the lenient reading: cooked strings, raw strings, single characters and bytes.
--- They are those of `syn` 3.0.9, src/lit.rs, each named at its form. What the byte kinds take as plain
--- characters is what rustc takes.
+-- The quoted forms of the lenient reading: cooked strings, raw strings, single characters and
+-- bytes. They are those of `syn` 3.0.9, src/lit.rs, each named at its form. What the byte kinds
+-- take as plain characters is what rustc takes.
 use Rattle.std.specs.Prelude.{◌≡◌, ℕ, ◌+◌, ◌*◌, ◌^◌, ◌≤◌, Bool, true, false, not, ◌&&◌, ◌||◌, ◌==◌, nat_lt, List, [], codes, ◌∷◌, ◌++◌, length, filter, replicate, IsTrue, IsFalse, ⊤, encode_utf8_all, if◌then◌else◌}
 use Rattle.std.specs.Char.{IsScalar, digit_value}
 use Rattle.std.specs.List.{list_all, flat_map, AllByRecursion}
-use Rattle.rl_tokens.specs.Characters.{tab, line_feed, carriage_return, space, double_quote, hash_sign, single_quote, digit_zero, back_slash, letter_n, letter_r, letter_t, letter_u, letter_x, open_brace, close_brace}
+use Prim.Native.Char.{code}
 use Rattle.rl_tokens.specs.declared.kind.Kind.{Kind}
 use Rattle.rl_tokens.specs.declared.kind.Kind.TheVariants.{Str, ByteStr, CStr, Byte, Char, Int, Float}
 use Rattle.rl_tokens.specs.Texts.{first_passes, is_underscore}
@@ -20,21 +20,21 @@ pub data Letter : Type 0 where
   Zero : Letter
 
 abbrev pub letter_text : Letter → ℕ
-letter_text LowerN = letter_n
-letter_text LowerR = letter_r
-letter_text LowerT = letter_t
-letter_text Backslash = back_slash
-letter_text Apostrophe = single_quote
-letter_text Quote = double_quote
-letter_text Zero = digit_zero
+letter_text LowerN = code "n"
+letter_text LowerR = code "r"
+letter_text LowerT = code "t"
+letter_text Backslash = code "\\"
+letter_text Apostrophe = code "'"
+letter_text Quote = code "\""
+letter_text Zero = code "0"
 
 abbrev pub letter_value : Letter → ℕ
-letter_value LowerN = line_feed
-letter_value LowerR = carriage_return
-letter_value LowerT = tab
-letter_value Backslash = back_slash
-letter_value Apostrophe = single_quote
-letter_value Quote = double_quote
+letter_value LowerN = code "\n"
+letter_value LowerR = code "\r"
+letter_value LowerT = code "\t"
+letter_value Backslash = code "\\"
+letter_value Apostrophe = code "'"
+letter_value Quote = code "\""
 letter_value Zero = 0
 
 -- What stands between quotes is a row of units.
@@ -53,11 +53,11 @@ pub data QuotedUnit : Type 0 where
 
 abbrev pub unit_text : QuotedUnit → List ℕ
 unit_text (Plain c) = c ∷ []
-unit_text CrLf = carriage_return ∷ line_feed ∷ []
-unit_text (Named letter) = back_slash ∷ letter_text letter ∷ []
-unit_text (Hex high low) = back_slash ∷ letter_x ∷ high ∷ low ∷ []
-unit_text (Unicode first more) = back_slash ∷ letter_u ∷ open_brace ∷ first ∷ (more ++ (close_brace ∷ []))
-unit_text (Continuation line_end run) = back_slash ∷ line_end ∷ run
+unit_text CrLf = code "\r" ∷ code "\n" ∷ []
+unit_text (Named letter) = code "\\" ∷ letter_text letter ∷ []
+unit_text (Hex high low) = code "\\" ∷ code "x" ∷ high ∷ low ∷ []
+unit_text (Unicode first more) = code "\\" ∷ code "u" ∷ code "{" ∷ first ∷ (more ++ (code "}" ∷ []))
+unit_text (Continuation line_end run) = code "\\" ∷ line_end ∷ run
 
 -- the number that digits of a base spell: each digit times its power of the base
 abbrev pub place_value : ℕ → List ℕ → ℕ
@@ -85,7 +85,7 @@ unicode_value first more = place_value 16 (without_underscores (first ∷ more))
 -- what a unit stands for in a literal of the kind
 abbrev pub unit_value : Kind → QuotedUnit → List ℕ
 unit_value kind (Plain c) = content_of kind (c ∷ [])
-unit_value kind CrLf = line_feed ∷ []
+unit_value kind CrLf = code "\n" ∷ []
 unit_value kind (Named letter) = letter_value letter ∷ []
 unit_value kind (Hex high low) = hex_value high low ∷ []
 unit_value kind (Unicode first more) = content_of kind (unicode_value first more ∷ [])
@@ -96,10 +96,10 @@ is_hex_digit c = nat_lt (digit_value c) 16
 
 -- space, TAB, LF, CR
 abbrev pub is_blank : ℕ → Bool
-is_blank c = c == space || c == tab || c == line_feed || c == carriage_return
+is_blank c = c == code " " || c == code "\t" || c == code "\n" || c == code "\r"
 
 abbrev pub is_line_end : ℕ → Bool
-is_line_end c = c == line_feed || c == carriage_return
+is_line_end c = c == code "\n" || c == code "\r"
 
 abbrev pub is_string : Kind → Bool
 is_string Str = true
@@ -114,11 +114,13 @@ is_single _ = false
 
 -- which characters a kind takes as they are
 abbrev pub is_plain : Kind → ℕ → Bool
-is_plain Str c = not (c == double_quote || c == back_slash || c == carriage_return)
-is_plain ByteStr c = nat_lt c 128 && not (c == double_quote || c == back_slash || c == carriage_return)
-is_plain CStr c = not (c == double_quote || c == back_slash || c == carriage_return || c == 0)
-is_plain Char c = not (c == back_slash)
-is_plain Byte c = nat_lt c 128 && not (c == single_quote || c == back_slash || c == line_feed || c == carriage_return || c == tab)
+is_plain Str c = not (c == code "\"" || c == code "\\" || c == code "\r")
+is_plain ByteStr c = nat_lt c 128 && not (c == code "\"" || c == code "\\" || c == code "\r")
+is_plain CStr c = not (c == code "\"" || c == code "\\" || c == code "\r" || c == 0)
+is_plain Char c = not (c == code "\\")
+is_plain Byte c =
+    nat_lt c 128
+    && not (c == code "'" || c == code "\\" || c == code "\n" || c == code "\r" || c == code "\t")
 is_plain _ c = false
 
 -- a C string holds no zero
@@ -146,7 +148,8 @@ IsUnit kind (Plain c) = IsTrue (is_plain kind c)
 IsUnit kind CrLf = IsTrue (is_string kind)
 IsUnit kind (Named letter) = IsTrue (allows_code kind (letter_value letter))
 IsUnit kind (Hex high low) =
-    IsTrue (is_hex_digit high) × IsTrue (is_hex_digit low) × IsTrue (may_be_hex kind (hex_value high low))
+    IsTrue (is_hex_digit high) × IsTrue (is_hex_digit low)
+    × IsTrue (may_be_hex kind (hex_value high low))
 IsUnit kind (Unicode first more) =
     IsTrue (has_unicode kind) × IsTrue (is_hex_digit first)
     × IsTrue (list_all (λ c. is_underscore c || is_hex_digit c) more)
@@ -193,7 +196,7 @@ pub record Cooked (kind : Kind) (text value suffix : List ℕ) : Type 0 where
   pub string : IsTrue (is_string kind)
   pub each : AllByRecursion (IsUnit kind) units
   pub ends : ContinuationsEnd units
-  pub text_is : text ≡ opener kind ++ (texts units ++ (double_quote ∷ suffix))
+  pub text_is : text ≡ opener kind ++ (texts units ++ (code "\"" ∷ suffix))
   pub value_is : value ≡ values kind units
 
 -- A raw string: what stands between its first quote and its last, since the suffix has none.
@@ -203,8 +206,10 @@ pub record Raw (kind : Kind) (text value suffix : List ℕ) : Type 0 where
   pub inside : List ℕ
   pub string : IsTrue (is_string kind)
   pub each : IsTrue (list_all (is_raw kind) inside)
-  pub no_quote : IsTrue (list_all (λ c. not (c == double_quote)) suffix)
-  pub text_is : text ≡ raw_opener kind ++ (replicate hashes hash_sign ++ (double_quote ∷ (inside ++ (double_quote ∷ (replicate hashes hash_sign ++ suffix)))))
+  pub no_quote : IsTrue (list_all (λ c. not (c == code "\"")) suffix)
+  pub text_is : text ≡ raw_opener kind
+      ++ (replicate hashes (code "#")
+      ++ (code "\"" ∷ (inside ++ (code "\"" ∷ (replicate hashes (code "#") ++ suffix)))))
   pub value_is : value ≡ content_of kind inside
 
 -- A character or a byte: one unit between single quotes.
@@ -213,7 +218,7 @@ pub record Single (kind : Kind) (text value suffix : List ℕ) : Type 0 where
   pub unit : QuotedUnit
   pub single : IsTrue (is_single kind)
   pub is_unit : IsUnit kind unit
-  pub text_is : text ≡ opener kind ++ (unit_text unit ++ (single_quote ∷ suffix))
+  pub text_is : text ≡ opener kind ++ (unit_text unit ++ (code "'" ∷ suffix))
   pub value_is : value ≡ unit_value kind unit
 
 abbrev pub is_number : Kind → Bool

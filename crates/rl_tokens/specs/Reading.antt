@@ -7,7 +7,8 @@ use Rattle.rl_tokens.specs.declared.kind.Kind.TheVariants.{Str, Char, Int, Float
 use Rattle.rl_tokens.specs.Quoted.{Cooked, Raw, Single}
 use Rattle.rl_tokens.specs.Numbers.{Sign, sign_text, IntReads, FloatReads, limit, float_digits}
 
--- What a literal stands for: characters (strings and characters), bytes, a number's digits in base ten, a truth value.
+-- What a literal stands for: characters (strings and characters), bytes, a number's digits in base
+-- ten, a truth value.
 pub data Contents : Type 0 where
   Characters : (cs : List ℕ) → Contents
   Bytes : (bs : List ℕ) → Contents
@@ -19,9 +20,11 @@ quoted_contents Str v = Characters v
 quoted_contents Char v = Characters v
 quoted_contents _ v = Bytes v
 
-pub record ReadsQuoted (text : List ℕ) (kind : Kind) (contents : Contents) (suffix : List ℕ) : Type 0 where
+pub record ReadsQuoted (text : List ℕ) (kind : Kind) (contents : Contents) (suffix : List ℕ)
+    : Type 0 where
   pub value : List ℕ
-  pub form : Cooked kind text value suffix ⊎ Raw kind text value suffix ⊎ Single kind text value suffix
+  pub form : Cooked kind text value suffix ⊎ Raw kind text value suffix
+      ⊎ Single kind text value suffix
   pub contents_is : contents ≡ quoted_contents kind value
 
 -- An integer within the limit: its sign, and its magnitude in base ten. (`decimal` is std's, which
@@ -34,7 +37,8 @@ pub record ReadsInt (text : List ℕ) (contents : Contents) (suffix : List ℕ) 
   pub contents_is : contents ≡ Digits (sign_text sign ++ decimal magnitude)
 
 abbrev pub HasNoInteger : List ℕ → Type 0
-HasNoInteger text = (sign : Sign) (magnitude : ℕ) (suffix : List ℕ) → IntReads text sign magnitude suffix → ⊥
+HasNoInteger text =
+    (sign : Sign) (magnitude : ℕ) (suffix : List ℕ) → IntReads text sign magnitude suffix → ⊥
 
 -- A float, where no integer of any magnitude stands.
 pub record ReadsFloat (text : List ℕ) (contents : Contents) (suffix : List ℕ) : Type 0 where
@@ -88,7 +92,8 @@ HasNoFloat text = (numeral : List ℕ) (suffix : List ℕ) → FloatReads text n
 
 -- the text is no literal of any kind
 abbrev pub HasNoReading : List ℕ → Type 0
-HasNoReading text = (kind : Kind) (contents : Contents) (suffix : List ℕ) → Reads text kind contents suffix → ⊥
+HasNoReading text =
+    (kind : Kind) (contents : Contents) (suffix : List ℕ) → Reads text kind contents suffix → ⊥
 
 -- the text is no truth value
 abbrev pub HasNoTruth : List ℕ → Type 0

@@ -11,7 +11,8 @@ abbrev pub is_other : Marks → ℕ → Bool
 is_other marks c = not (is_one_of marks c)
 
 abbrev pub AreAscii : Marks → Type 0
-AreAscii marks = (marks.first < 128) × (marks.second < 128) × (marks.third < 128) × (marks.fourth < 128)
+AreAscii marks =
+    (marks.first < 128) × (marks.second < 128) × (marks.third < 128) × (marks.fourth < 128)
 
 -- The mark is the first in the text, and the rest stands behind it.
 pub record IsNextMark (marks : Marks) (text : List ℕ) (mark : ℕ) (rest : List ℕ) : Type 0 where

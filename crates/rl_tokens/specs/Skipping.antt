@@ -1,17 +1,19 @@
 -- The rest of a text behind white space and plain comments.
 use Rattle.std.specs.Prelude.{◌≡◌, ℕ, ◌⊎◌, List, [], ◌∷◌, ◌++◌}
-use Rattle.rl_tokens.specs.Characters.{slash}
+use Prim.Native.Char.{code}
 use Rattle.rl_tokens.specs.Trivia.{IsLineBody, IsTrivia, IsTriviaPiece, TriviaPiece, trivia_piece_text}
 
 -- A plain line comment with no LF, up to the end of the text.
 pub record IsOpenLine (t : List ℕ) : Type 0 where
   pub body : List ℕ
   pub is_body : IsLineBody body
-  pub text : t ≡ slash ∷ slash ∷ body
+  pub text : t ≡ code "/" ∷ code "/" ∷ body
 
 -- A piece or an open line begins the text.
 abbrev pub BeginsTrivia : List ℕ → Type 0
-BeginsTrivia t = ((p : TriviaPiece) × (rest : List ℕ) × IsTriviaPiece p × (t ≡ trivia_piece_text p ++ rest)) ⊎ IsOpenLine t
+BeginsTrivia t =
+    ((p : TriviaPiece) × (rest : List ℕ) × IsTriviaPiece p × (t ≡ trivia_piece_text p ++ rest))
+    ⊎ IsOpenLine t
 
 -- r is what stands behind all trivia at the front of t: with an open line there, nothing.
 pub record StopsBehindTrivia (t r : List ℕ) : Type 0 where

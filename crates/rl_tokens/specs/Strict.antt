@@ -1,11 +1,11 @@
--- The literal tokens of the Rust Reference, chapter Tokens, in the profile of this project. Each form
--- names its section there. Nothing of the lenient grammar's tables is used here.
+-- The literal tokens of the Rust Reference, chapter Tokens, in the profile of this project. Each
+-- form names its section there. Nothing of the lenient grammar's tables is used here.
 use Rattle.std.specs.Prelude.{◌≡◌, ◌≢◌, ◌⊎◌, ℕ, suc, ◌+◌, ◌*◌, ◌^◌, ◌<◌, Bool, false, not, ◌&&◌, ◌||◌, ◌==◌, nat_lt, nat_le, List, [], ◌∷◌, ◌++◌, length, filter, map, replicate, IsTrue, IsFalse, ⊤, encode_utf8_all, codes, if◌then◌else◌}
 use Rattle.std.specs.Char.{is_ascii_digit, is_ascii_hexdigit, digit_value}
 use Rattle.std.specs.Str.{all_scalars}
 use Rattle.std.specs.Fmt.{digits_onto}
 use Rattle.std.specs.List.{list_all, list_any, flat_map}
-use Rattle.rl_tokens.specs.Characters.{tab, line_feed, carriage_return, space, double_quote, hash_sign, single_quote, plus_sign, minus_sign, full_stop, digit_zero, capital_e, back_slash, underscore, letter_e, letter_n, letter_r, letter_t, letter_u, letter_x, open_brace, close_brace}
+use Prim.Native.Char.{code}
 use Rattle.rl_tokens.specs.declared.kind.Kind.{Kind}
 use Rattle.rl_tokens.specs.declared.kind.Kind.TheVariants.{Str, ByteStr, CStr, Byte, Char, Int, Float, Bool as BoolKind}
 use Rattle.rl_tokens.specs.Texts.{IsWord, first_passes, begins}
@@ -16,8 +16,8 @@ abbrev pub IsStrictSuffix : List ℕ → Type 0
 IsStrictSuffix x = (x ≡ []) ⊎ IsWord x
 
 -- What stands between quotes, item by item: the tables ASCII escapes, Byte escapes, Unicode escapes
--- and Quote escapes of section Literals, and for a line break section String continuation escapes of
--- chapter Literal expressions.
+-- and Quote escapes of section Literals, and for a line break section String continuation escapes
+-- of chapter Literal expressions.
 pub data StrictUnit : Type 0 where
   Itself : (c : ℕ) → StrictUnit
   -- \' and \"
@@ -34,16 +34,17 @@ pub data StrictUnit : Type 0 where
   LineBreak : (blanks : List ℕ) → StrictUnit
 
 abbrev pub spaced_digit : ℕ × ℕ → List ℕ
-spaced_digit d = d.0 ∷ replicate d.1 underscore
+spaced_digit d = d.0 ∷ replicate d.1 (code "_")
 
 abbrev pub strict_text : StrictUnit → List ℕ
 strict_text (Itself c) = c ∷ []
-strict_text (QuoteEscape c) = back_slash ∷ c ∷ []
-strict_text (PlainEscape c) = back_slash ∷ c ∷ []
-strict_text (AsciiEscape high low) = back_slash ∷ letter_x ∷ high ∷ low ∷ []
-strict_text (ByteEscape high low) = back_slash ∷ letter_x ∷ high ∷ low ∷ []
-strict_text (UnicodeEscape digits) = back_slash ∷ letter_u ∷ open_brace ∷ [] ++ flat_map spaced_digit digits ++ close_brace ∷ []
-strict_text (LineBreak blanks) = back_slash ∷ line_feed ∷ blanks
+strict_text (QuoteEscape c) = code "\\" ∷ c ∷ []
+strict_text (PlainEscape c) = code "\\" ∷ c ∷ []
+strict_text (AsciiEscape high low) = code "\\" ∷ code "x" ∷ high ∷ low ∷ []
+strict_text (ByteEscape high low) = code "\\" ∷ code "x" ∷ high ∷ low ∷ []
+strict_text (UnicodeEscape digits) =
+    code "\\" ∷ code "u" ∷ code "{" ∷ [] ++ flat_map spaced_digit digits ++ code "}" ∷ []
+strict_text (LineBreak blanks) = code "\\" ∷ code "\n" ∷ blanks
 
 -- the number that digits stand for, the first of them the highest
 abbrev pub spelled_number : ℕ → List ℕ → ℕ
@@ -55,13 +56,16 @@ spaced_value digits = spelled_number 16 (map (λ d. d.0) digits)
 
 -- the letters of the plain escapes, and what they stand for
 abbrev pub plain_escapes : List (ℕ × ℕ)
-plain_escapes = (letter_n, line_feed) ∷ (letter_r, carriage_return) ∷ (letter_t, tab) ∷ (back_slash, back_slash) ∷ (digit_zero, 0) ∷ []
+plain_escapes =
+    (code "n", code "\n") ∷ (code "r", code "\r") ∷ (code "t", code "\t") ∷ (code "\\", code "\\")
+    ∷ (code "0", 0) ∷ []
 
 abbrev pub plain_value_in : List (ℕ × ℕ) → ℕ → List ℕ
 plain_value_in [] c = []
 plain_value_in (e ∷ es) c = if e.0 == c then e.1 ∷ [] else plain_value_in es c
 
--- A unit's contents as characters (Str, Char, and what a C string spells as characters) or as bytes.
+-- A unit's contents as characters (Str, Char, and what a C string spells as characters) or as
+-- bytes.
 abbrev pub strict_contents : (List ℕ → List ℕ) → StrictUnit → List ℕ
 strict_contents as_kind (Itself c) = as_kind (c ∷ [])
 strict_contents as_kind (QuoteEscape c) = c ∷ []
@@ -78,7 +82,7 @@ abbrev pub is_octal : ℕ → Bool
 is_octal c = nat_lt (digit_value c) 8
 
 abbrev pub is_dropped_blank : ℕ → Bool
-is_dropped_blank c = c == space || c == tab || c == line_feed
+is_dropped_blank c = c == code " " || c == code "\t" || c == code "\n"
 
 abbrev pub is_unicode_escape : List (ℕ × ℕ) → Bool
 is_unicode_escape digits =
@@ -87,10 +91,11 @@ is_unicode_escape digits =
 
 -- what a single character or byte may not be by itself
 abbrev pub is_bare_character : ℕ → Bool
-is_bare_character c = not (c == single_quote || c == back_slash || c == line_feed || c == carriage_return || c == tab)
+is_bare_character c =
+    not (c == code "'" || c == code "\\" || c == code "\n" || c == code "\r" || c == code "\t")
 
 abbrev pub is_bare_in_string : ℕ → Bool
-is_bare_in_string c = not (c == double_quote || c == back_slash || c == carriage_return)
+is_bare_in_string c = not (c == code "\"" || c == code "\\" || c == code "\r")
 
 abbrev pub is_strict_unit : Kind → StrictUnit → Bool
 is_strict_unit Char (Itself c) = is_bare_character c
@@ -99,19 +104,22 @@ is_strict_unit Byte (Itself c) = nat_lt c 128 && is_bare_character c
 is_strict_unit ByteStr (Itself c) = nat_lt c 128 && is_bare_in_string c
 is_strict_unit CStr (Itself c) = is_bare_in_string c && not (c == 0)
 is_strict_unit _ (Itself c) = false
-is_strict_unit k (QuoteEscape c) = c == single_quote || c == double_quote
-is_strict_unit CStr (PlainEscape c) = is_plain_letter c && not (c == digit_zero)
+is_strict_unit k (QuoteEscape c) = c == code "'" || c == code "\""
+is_strict_unit CStr (PlainEscape c) = is_plain_letter c && not (c == code "0")
 is_strict_unit _ (PlainEscape c) = is_plain_letter c
 is_strict_unit Char (AsciiEscape high low) = is_octal high && is_ascii_hexdigit low
 is_strict_unit Str (AsciiEscape high low) = is_octal high && is_ascii_hexdigit low
 is_strict_unit _ (AsciiEscape high low) = false
 is_strict_unit Byte (ByteEscape high low) = is_ascii_hexdigit high && is_ascii_hexdigit low
 is_strict_unit ByteStr (ByteEscape high low) = is_ascii_hexdigit high && is_ascii_hexdigit low
-is_strict_unit CStr (ByteEscape high low) = is_ascii_hexdigit high && is_ascii_hexdigit low && not (spelled_number 16 (high ∷ low ∷ []) == 0)
+is_strict_unit CStr (ByteEscape high low) =
+    is_ascii_hexdigit high && is_ascii_hexdigit low
+    && not (spelled_number 16 (high ∷ low ∷ []) == 0)
 is_strict_unit _ (ByteEscape high low) = false
 is_strict_unit Char (UnicodeEscape digits) = is_unicode_escape digits
 is_strict_unit Str (UnicodeEscape digits) = is_unicode_escape digits
-is_strict_unit CStr (UnicodeEscape digits) = is_unicode_escape digits && not (spaced_value digits == 0)
+is_strict_unit CStr (UnicodeEscape digits) =
+    is_unicode_escape digits && not (spaced_value digits == 0)
 is_strict_unit _ (UnicodeEscape digits) = false
 is_strict_unit Str (LineBreak blanks) = list_all is_dropped_blank blanks
 is_strict_unit ByteStr (LineBreak blanks) = list_all is_dropped_blank blanks
@@ -121,7 +129,8 @@ is_strict_unit _ (LineBreak blanks) = false
 -- The blanks that a line break drops go as far as blanks go.
 abbrev pub BlanksEnd : List StrictUnit → Type 0
 BlanksEnd [] = ⊤
-BlanksEnd (LineBreak blanks ∷ us) = IsFalse (first_passes is_dropped_blank (flat_map strict_text us)) × BlanksEnd us
+BlanksEnd (LineBreak blanks ∷ us) =
+    IsFalse (first_passes is_dropped_blank (flat_map strict_text us)) × BlanksEnd us
 BlanksEnd (_ ∷ us) = BlanksEnd us
 
 -- How a kind opens, how it ends, and how it takes characters in.
@@ -165,7 +174,8 @@ pub record StrictCooked (t : List ℕ) (k : Kind) (v : Contents) (x : List ℕ) 
   pub blanks_end : BlanksEnd units
   pub suffix : IsStrictSuffix x
   pub text : t ≡ strict_opener k ++ flat_map strict_text units ++ strict_closer k ++ x
-  pub contents : v ≡ strict_quoted_contents k (flat_map (strict_contents (strict_content_of k)) units)
+  pub contents : v
+      ≡ strict_quoted_contents k (flat_map (strict_contents (strict_content_of k)) units)
 
 abbrev pub strict_raw_opener : Kind → List ℕ
 strict_raw_opener Str = codes "r"
@@ -185,17 +195,19 @@ pub record StrictRaw (t : List ℕ) (k : Kind) (v : Contents) (x : List ℕ) : T
   pub inside : List ℕ
   pub few : hashes < 256
   pub allowed : IsRawInside k inside
-  pub no_carriage_return : IsTrue (list_all (λ c. not (c == carriage_return)) inside)
-  pub first_close : (front rest : List ℕ) → inside ≢ front ++ double_quote ∷ replicate hashes hash_sign ++ rest
+  pub no_carriage_return : IsTrue (list_all (λ c. not (c == code "\r")) inside)
+  pub first_close : (front rest : List ℕ)
+      → inside ≢ front ++ code "\"" ∷ replicate hashes (code "#") ++ rest
   pub suffix : IsStrictSuffix x
-  pub text : t ≡ strict_raw_opener k ++ replicate hashes hash_sign ++ double_quote ∷ inside ++ double_quote ∷ replicate hashes hash_sign ++ x
+  pub text : t ≡ strict_raw_opener k ++ replicate hashes (code "#") ++ code "\"" ∷ inside
+      ++ code "\"" ∷ replicate hashes (code "#") ++ x
   pub contents : v ≡ strict_quoted_contents k (strict_content_of k inside)
 
 abbrev pub is_row : (ℕ → Bool) → ℕ → Bool
-is_row digit c = digit c || c == underscore
+is_row digit c = digit c || c == code "_"
 
 abbrev pub bare : List ℕ → List ℕ
-bare cs = filter (λ c. not (c == underscore)) cs
+bare cs = filter (λ c. not (c == code "_")) cs
 
 -- D: a digit, and digits and underscores
 abbrev pub IsDigits : List ℕ → Type 0
@@ -206,11 +218,13 @@ abbrev pub IsDecimalText : List ℕ → Type 0
 IsDecimalText t = IsFalse (begins (codes "0b") t || begins (codes "0o") t || begins (codes "0x") t)
 
 abbrev pub IsNumberSuffix : List ℕ → Type 0
-IsNumberSuffix x = IsStrictSuffix x × IsFalse (first_passes (λ c. c == underscore) x)
+IsNumberSuffix x = IsStrictSuffix x × IsFalse (first_passes (λ c. c == code "_") x)
 
 -- the digits of the bases with a prefix
 abbrev pub BasedPrefix : List ℕ → ℕ → Type 0
-BasedPrefix p base = ((p ≡ codes "0b") × (base ≡ 2)) ⊎ (((p ≡ codes "0o") × (base ≡ 8)) ⊎ ((p ≡ codes "0x") × (base ≡ 16)))
+BasedPrefix p base =
+    ((p ≡ codes "0b") × (base ≡ 2))
+    ⊎ (((p ≡ codes "0o") × (base ≡ 8)) ⊎ ((p ≡ codes "0x") × (base ≡ 16)))
 
 -- The base-ten text of a number of any size. std's `decimal` writes the last 64 digits alone.
 unfoldable pub dec : ℕ → List ℕ
@@ -221,11 +235,12 @@ pub record StrictInt (t : List ℕ) (v : Contents) (x : List ℕ) : Type 0 where
   pub prefix : List ℕ
   pub base : ℕ
   pub row : List ℕ
-  pub is_front : ((prefix ≡ []) × (base ≡ 10) × IsDigits row × IsDecimalText t) ⊎ BasedPrefix prefix base
+  pub is_front : ((prefix ≡ []) × (base ≡ 10) × IsDigits row × IsDecimalText t)
+      ⊎ BasedPrefix prefix base
   pub each : IsTrue (list_all (is_row (λ c. nat_lt (digit_value c) base)) row)
   pub some : IsTrue (list_any (λ c. nat_lt (digit_value c) base) row)
   pub suffix : IsNumberSuffix x
-  pub no_exponent : IsFalse (first_passes (λ c. c == letter_e || c == capital_e) x)
+  pub no_exponent : IsFalse (first_passes (λ c. c == code "e" || c == code "E") x)
   pub no_digit : base ≡ 16 → IsFalse (first_passes is_ascii_hexdigit x)
   pub text : t ≡ prefix ++ row ++ x
   pub contents : v ≡ Digits (dec (spelled_number base (bare row)))
@@ -234,26 +249,27 @@ pub record IsStrictExponent (e : List ℕ) : Type 0 where
   pub letter : ℕ
   pub sign : List ℕ
   pub row : List ℕ
-  pub is_letter : IsTrue (letter == letter_e || letter == capital_e)
-  pub is_sign : (sign ≡ []) ⊎ ((sign ≡ plus_sign ∷ []) ⊎ (sign ≡ minus_sign ∷ []))
+  pub is_letter : IsTrue (letter == code "e" || letter == code "E")
+  pub is_sign : (sign ≡ []) ⊎ ((sign ≡ code "+" ∷ []) ⊎ (sign ≡ code "-" ∷ []))
   pub each : IsTrue (list_all (is_row is_ascii_digit) row)
   pub some : IsTrue (list_any is_ascii_digit row)
   pub text : e ≡ letter ∷ sign ++ row
 
 -- `D.` alone
 abbrev pub IsDotAlone : List ℕ → List ℕ → Type 0
-IsDotAlone numeral x = (d : List ℕ) × IsDigits d × (numeral ≡ d ++ full_stop ∷ []) × (x ≡ [])
+IsDotAlone numeral x = (d : List ℕ) × IsDigits d × (numeral ≡ d ++ code "." ∷ []) × (x ≡ [])
 
 -- `D.D` with a suffix that doesn't begin as an exponent does
 abbrev pub IsPointed : List ℕ → List ℕ → Type 0
 IsPointed numeral x =
-    (d f : List ℕ) × IsDigits d × IsDigits f × (numeral ≡ d ++ full_stop ∷ f) × IsFalse (first_passes (λ c. c == letter_e || c == capital_e) x)
+    (d f : List ℕ) × IsDigits d × IsDigits f × (numeral ≡ d ++ code "." ∷ f)
+    × IsFalse (first_passes (λ c. c == code "e" || c == code "E") x)
 
 -- `D` or `D.D`, and an exponent
 abbrev pub IsScientific : List ℕ → List ℕ → Type 0
 IsScientific numeral x =
     (d e : List ℕ) × IsDigits d × IsStrictExponent e
-    × ((numeral ≡ d ++ e) ⊎ ((f : List ℕ) × IsDigits f × (numeral ≡ d ++ full_stop ∷ f ++ e)))
+    × ((numeral ≡ d ++ e) ⊎ ((f : List ℕ) × IsDigits f × (numeral ≡ d ++ code "." ∷ f ++ e)))
 
 -- Section Floating-point literals.
 pub record StrictFloat (t : List ℕ) (v : Contents) (x : List ℕ) : Type 0 where
@@ -262,7 +278,9 @@ pub record StrictFloat (t : List ℕ) (v : Contents) (x : List ℕ) : Type 0 whe
   pub no_prefix : IsDecimalText t
   pub suffix : IsNumberSuffix x
   pub text : t ≡ numeral ++ x
-  pub contents : v ≡ Digits (map (λ c. if c == capital_e then letter_e else c) (filter (λ c. not (c == underscore || c == plus_sign)) numeral))
+  pub contents : v ≡ Digits
+      (map (λ c. if c == code "E" then code "e" else c)
+      (filter (λ c. not (c == code "_" || c == code "+")) numeral))
 
 -- Chapter Literal expressions, section Boolean literal expressions: the words `true` and `false`.
 pub record StrictBool (t : List ℕ) (v : Contents) (x : List ℕ) : Type 0 where
@@ -271,8 +289,8 @@ pub record StrictBool (t : List ℕ) (v : Contents) (x : List ℕ) : Type 0 wher
   pub contents : v ≡ Truth truth
   pub suffix : x ≡ []
 
--- The text is a strict literal of the kind, with these contents and this suffix. It holds no CR, and
--- no white character stands in its suffix.
+-- The text is a strict literal of the kind, with these contents and this suffix. It holds no CR,
+-- and no white character stands in its suffix.
 abbrev pub Strict : List ℕ → Kind → Contents → List ℕ → Type 0
 Strict t Int v x = StrictInt t v x
 Strict t Float v x = StrictFloat t v x

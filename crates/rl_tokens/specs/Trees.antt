@@ -112,7 +112,8 @@ closer_span s = record { file = s.file; lo = s.hi - 1; hi = s.hi }
 
 abbrev mutual
   pub flat : Tree → List FlatToken
-  flat (GroupTree d inside span) = Opening d (opener_span span) ∷ (flat_inside inside ++ (Closing d (closer_span span) ∷ []))
+  flat (GroupTree d inside span) =
+      Opening d (opener_span span) ∷ (flat_inside inside ++ (Closing d (closer_span span) ∷ []))
   flat (IdentTree i) = FlatIdent i ∷ []
   flat (PunctTree p) = FlatPunct p ∷ []
   flat (LiteralTree l) = FlatLiteral l ∷ []

@@ -1,5 +1,5 @@
--- What it means to parse all of a text: it is cut into trees, and a parser runs on them, with the text's end as its scope.
--- A text is its bytes here.
+-- What it means to parse all of a text: it is cut into trees, and a parser runs on them, with the
+-- text's end as its scope. A text is its bytes here.
 use Rattle.std.specs.Prelude.{◌≡◌, ◌≢◌, ◌⊎◌, ℕ, List, [], length, Result, Ok, Err}
 use Rattle.std.specs.Str.{chars}
 use Rattle.rl_tokens.specs.declared.span.Span.{Span}
@@ -15,16 +15,19 @@ use Rattle.rl_tokens.specs.Buffers.{first_span}
 abbrev pub place_at : ℕ → ℕ → Span
 place_at file at = record { file = file; lo = at; hi = at }
 
--- The text can't be cut: its first fault, or want of memory for the token there, told at its place. Here a text is its
--- characters.
+-- The text can't be cut: its first fault, or running out of memory for the token there, reported at
+-- its place. Here a text is its characters.
 pub record RefusesLexing {A : Type 0} (text : List ℕ) (file : ℕ) (e : Error A) : Type 0 where
   pub kind : LexKind
   pub at : ℕ
   pub refused : Refuses text kind at
   pub error : e ≡ lex_refusal kind (place_at file at)
 
--- The parser, by what it means, makes a value of the first trees and leaves others: this is told at the first of them.
-pub record LeavesTrees {T A : Type 0} (runs : List Tree → Span → Result T (Error A) → List Tree → Type 0) (trees : List Tree) (scope : Span) (e : Error A) : Type 0 where
+-- The parser, by what it means, makes a value of the first trees and leaves others: this is
+-- reported at the first of them.
+pub record LeavesTrees {T A : Type 0}
+    (runs : List Tree → Span → Result T (Error A) → List Tree → Type 0) (trees : List Tree)
+    (scope : Span) (e : Error A) : Type 0 where
   pub value : T
   pub rest : List Tree
   pub ran : runs trees scope (Ok value) rest
@@ -32,21 +35,27 @@ pub record LeavesTrees {T A : Type 0} (runs : List Tree → Span → Result T (E
   pub error : e ≡ record { span = first_span rest scope; kind = Unexpected }
 
 -- The trees aren't one value: the parser's own refusal, or trees that are left over.
-pub record RefusesParse {T A : Type 0} (runs : List Tree → Span → Result T (Error A) → List Tree → Type 0) (trees : List Tree) (scope : Span) (e : Error A) : Type 0 where
+pub record RefusesParse {T A : Type 0}
+    (runs : List Tree → Span → Result T (Error A) → List Tree → Type 0) (trees : List Tree)
+    (scope : Span) (e : Error A) : Type 0 where
   pub why : ((rest : List Tree) × runs trees scope (Err e) rest) ⊎ LeavesTrees runs trees scope e
 
 -- The text is cut into trees, and the parser makes this value of all of them.
-pub record ParsesAll {T E : Type 0} (runs : List Tree → Span → Result T E → List Tree → Type 0) (text : List ℕ) (file : ℕ) (value : T) : Type 0 where
+pub record ParsesAll {T E : Type 0} (runs : List Tree → Span → Result T E → List Tree → Type 0)
+    (text : List ℕ) (file : ℕ) (value : T) : Type 0 where
   pub trees : List Tree
   pub lexes : Lexes (chars text) file trees
   pub ran : runs trees (place_at file (length text)) (Ok value) []
 
 -- The text is cut into trees, and these aren't one value.
-pub record RefusesLexed {T A : Type 0} (runs : List Tree → Span → Result T (Error A) → List Tree → Type 0) (text : List ℕ) (file : ℕ) (e : Error A) : Type 0 where
+pub record RefusesLexed {T A : Type 0}
+    (runs : List Tree → Span → Result T (Error A) → List Tree → Type 0) (text : List ℕ) (file : ℕ)
+    (e : Error A) : Type 0 where
   pub trees : List Tree
   pub lexes : Lexes (chars text) file trees
   pub refused : RefusesParse runs trees (place_at file (length text)) e
 
 -- why a text isn't parsed
-abbrev pub RefusesAll : {T A : Type 0} → (List Tree → Span → Result T (Error A) → List Tree → Type 0) → List ℕ → ℕ → Error A → Type 0
+abbrev pub RefusesAll : {T A : Type 0}
+    → (List Tree → Span → Result T (Error A) → List Tree → Type 0) → List ℕ → ℕ → Error A → Type 0
 RefusesAll runs text file e = RefusesLexing (chars text) file e ⊎ RefusesLexed runs text file e

@@ -1,6 +1,6 @@
 -- How values are written as literals, by a table of this project's own.
 use Rattle.std.specs.Prelude.{ℕ, ◌+◌, ◌/◌, ◌%◌, Bool, true, false, ◌&&◌, ◌||◌, ◌==◌, nat_lt, List, [], ◌∷◌, ◌++◌, map, if◌then◌else◌, ◌≡◌}
-use Rattle.rl_tokens.specs.Characters.{tab, line_feed, carriage_return, space, double_quote, single_quote, digit_zero, back_slash}
+use Prim.Native.Char.{code}
 use Rattle.rl_tokens.specs.declared.kind.Kind.{Kind}
 use Rattle.rl_tokens.specs.declared.kind.Kind.TheVariants.{Byte, Char}
 use Rattle.rl_tokens.specs.Quoted.{QuotedUnit, Plain, Named, Hex, Zero, LowerT, LowerN, LowerR, Backslash, Quote, Apostrophe, holds_characters, opener, texts}
@@ -9,12 +9,12 @@ use Rattle.rl_tokens.specs.Strict.{Strict, strict_quoted_contents}
 
 -- a digit of base 16, in upper case: 55 is the code of `A` less 10
 abbrev pub upper_digit : ℕ → ℕ
-upper_digit n = if nat_lt n 10 then digit_zero + n else 55 + n
+upper_digit n = if nat_lt n 10 then code "0" + n else 55 + n
 
 abbrev pub closer : Kind → ℕ
-closer Byte = single_quote
-closer Char = single_quote
-closer _ = double_quote
+closer Byte = code "'"
+closer Char = code "'"
+closer _ = code "\""
 
 -- the quote that the kind escapes
 abbrev pub own_quote : Kind → QuotedUnit
@@ -22,25 +22,29 @@ own_quote Byte = Named Apostrophe
 own_quote Char = Named Apostrophe
 own_quote _ = Named Quote
 
--- what is written as a number: control characters (below the space, and DEL, which is 127), and past
--- ASCII what is a byte
+-- what is written as a number: control characters (below the space, and DEL, which is 127), and
+-- past ASCII what is a byte
 abbrev pub is_written_as_number : Kind → ℕ → Bool
-is_written_as_number kind c = nat_lt c space || c == 127 || (nat_lt 127 c && (if holds_characters kind then false else true))
+is_written_as_number kind c =
+    nat_lt c (code " ") || c == 127
+    || (nat_lt 127 c && (if holds_characters kind then false else true))
 
 -- the unit that a character or a byte is written as
 unfoldable pub written_unit : Kind → ℕ → QuotedUnit
 written_unit kind c =
     if c == 0 then Named Zero else
-    (if c == tab then Named LowerT else
-    (if c == line_feed then Named LowerN else
-    (if c == carriage_return then Named LowerR else
-    (if c == back_slash then Named Backslash else
+    (if c == code "\t" then Named LowerT else
+    (if c == code "\n" then Named LowerN else
+    (if c == code "\r" then Named LowerR else
+    (if c == code "\\" then Named Backslash else
     (if c == closer kind then own_quote kind else
-    (if is_written_as_number kind c then Hex (upper_digit (c / 16)) (upper_digit (c % 16)) else Plain c))))))
+    (if is_written_as_number kind c then Hex (upper_digit (c / 16)) (upper_digit (c % 16))
+    else Plain c))))))
 
 -- the literal of a value: its characters or bytes, each as it is written, between quotes
 abbrev pub written_text : Kind → List ℕ → List ℕ
-written_text kind value = opener kind ++ (texts (map (written_unit kind) value) ++ (closer kind ∷ []))
+written_text kind value =
+    opener kind ++ (texts (map (written_unit kind) value) ++ (closer kind ∷ []))
 
 -- The text is what the value is written as: it reads as the value with no suffix, and it is strict.
 pub record IsWrittenForm (kind : Kind) (value text : List ℕ) : Type 0 where

@@ -134,7 +134,8 @@ impl<A: Allocator> Eq for CString<A> {
 impl<A: Allocator> PartialEq for NulError<A> {
     ghost eq = { eq_of_both (on (λ e. e.bytes) (pointwise ◌==◌)) (on (λ e. e.place) ◌==◌) };
 
-    ghost laws = { partial_equiv_from_equiv (and_equiv (on_equiv (λ e. e.bytes) nat_list_eq_equiv) (on_equiv (λ e. e.place) (Prim.search (comparing, rules)))) };
+    ghost laws = { partial_equiv_from_equiv (and_equiv (on_equiv (λ e. e.bytes) nat_list_eq_equiv)
+        (on_equiv (λ e. e.place) (Prim.search (comparing, rules)))) };
 
     fn eq(&self, other: &Self) -> bool {
         self.bytes == other.bytes && self.place == other.place
@@ -142,7 +143,8 @@ impl<A: Allocator> PartialEq for NulError<A> {
 }
 
 impl<A: Allocator> Eq for NulError<A> {
-    ghost laws = { and_equiv (on_equiv (λ e. e.bytes) nat_list_eq_equiv) (on_equiv (λ e. e.place) (Prim.search (comparing, rules))) };
+    ghost laws = { and_equiv (on_equiv (λ e. e.bytes) nat_list_eq_equiv)
+        (on_equiv (λ e. e.place) (Prim.search (comparing, rules))) };
 }
 
 impl<A: Allocator> fmt::Debug for CString<A> {

@@ -2,7 +2,8 @@
 
 ghost use Rattle.std.specs.Prelude.{◌≡◌};
 ghost use Rattle.unicode_ident.specs.Ident.{is_xid_start, is_xid_continue};
-ghost use Rattle.rl_tokens.specs.Texts.{is_white, is_start, is_continue};
+ghost use Rattle.rl_tokens.specs.Texts.{is_white};
+ghost use Rattle.rl_tokens.specs.Lexemes.{is_start, is_continue};
 
 /// Whether the character is white space between tokens: Unicode's, or one of the two direction
 /// marks.

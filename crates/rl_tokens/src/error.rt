@@ -69,14 +69,14 @@ pub enum ErrorKind<A: Allocator = Global> {
 impl<A: Allocator> Error<A> {
     ghost use Rattle.rl_tokens.specs.Errors.{memory_at, lex_refusal};
 
-    /// The refusal of this kind, told at this span.
+    /// The refusal of this kind, reported at this span.
     pub fn new(span: Span, kind: ErrorKind<A>) -> Error<A>
         ensures { result ≡ record { span = span; kind = kind } }
     {
         Error { span, kind }
     }
 
-    /// Want of memory, told at this span.
+    /// Running out of memory, reported at this span.
     pub fn memory(span: Span) -> Error<A>
         ensures { result ≡ memory_at span }
     {
@@ -86,7 +86,8 @@ impl<A: Allocator> Error<A> {
         }
     }
 
-    /// The lexer's refusal, told at a span: as `Lex`, but its want of memory as `Memory`.
+    /// The lexer's refusal, reported at a span: as `Lex`, but its running out of memory as
+    /// `Memory`.
     pub fn of_lexer(kind: LexKind, span: Span) -> Error<A>
         ensures { result ≡ lex_refusal kind span }
     {
@@ -100,7 +101,7 @@ impl<A: Allocator> Error<A> {
     }
 }
 
-/// std's want of memory, which has no place: `Memory` at [`Span::call_site`].
+/// std's error for running out of memory, which has no place: `Memory` at [`Span::call_site`].
 impl<A: Allocator> From<AllocError> for Error<A> {
     ghost use Rattle.std.specs.Prelude.{◌≡◌};
     ghost use Rattle.rl_tokens.specs.Errors.{memory_at, nowhere};

@@ -5,7 +5,9 @@ ghost use Rattle.std.specs.Str.{chars};
 ghost use Rattle.std.specs.List.{list_all};
 ghost use Rattle.rl_tokens.specs.Texts.{begins};
 ghost use Rattle.rl_tokens.specs.Mirrors.TreeBuilders.{fault_kind};
-ghost use Rattle.rl_tokens.specs.Lexing.{begins_doc_comment, begins_quote, begins_raw, begins_lifetime, begins_raw_identifier};
+ghost use Rattle.rl_tokens.specs.Lexing.{begins_doc_comment, begins_lifetime};
+ghost use Rattle.rl_tokens.specs.Mirrors.LexemeAt.{begins_quote, begins_raw};
+ghost use Rattle.rl_tokens.specs.Lexemes.{begins_raw_identifier};
 
 use crate::characters::is_start;
 use crate::lex_error::LexKind;

@@ -4,7 +4,7 @@ ghost use Rattle.std.specs.Prelude.{List, Bool, ℕ, ◌≡◌, ◌==◌, not, �
 ghost use Rattle.std.specs.List.{list_all};
 ghost use Rattle.rl_tokens.specs.declared.kind.Kind.{Kind};
 ghost use Rattle.rl_tokens.specs.declared.kind.Kind.TheVariants.{Bool as BoolKind};
-ghost use Rattle.rl_tokens.specs.Characters.{carriage_return, minus_sign};
+ghost use Rattle.rl_tokens.specs.Texts.{code};
 ghost use Rattle.rl_tokens.specs.Reading.{Contents, Digits, Truth, Reads, quoted_contents, truth_text};
 ghost use Rattle.rl_tokens.specs.Strict.{Strict, strict_quoted_contents};
 ghost use Rattle.rl_tokens.specs.Written.{written_text};
@@ -27,7 +27,7 @@ pub fn one_strict()
 /// A strict text holds no CR, neither in its body nor in its suffix.
 pub fn strict_holds_no_return()
     ensures { (t : List ℕ) (k : Kind) (v : Contents) (x : List ℕ)
-        → Strict t k v x → IsTrue (list_all (λ c. not (c == carriage_return)) t) }
+        → Strict t k v x → IsTrue (list_all (λ c. not (c == code "\r")) t) }
 {}
 
 /// The words `true` and `false` are strict, each with its truth value, and no suffix.
@@ -46,7 +46,7 @@ pub fn strict_reads()
 pub fn strict_minus()
     ensures { (t : List ℕ) (k : Kind) (ds x : List ℕ)
         → IsTrue (is_number k) → Strict t k (Digits ds) x → IsWithinLimit k t
-        → Reads (minus_sign ∷ t) k (Digits (minus_sign ∷ ds)) x }
+        → Reads (code "-" ∷ t) k (Digits (code "-" ∷ ds)) x }
 {}
 
 /// What a value is written as is strict, has that value, and no suffix.

@@ -23,8 +23,8 @@ pub struct LexError {
     pub at: usize,
 }
 
-/// What the lexer refuses, each told at the byte that its line names. docs/REFUSALS.md has a text
-/// for each, and what to do.
+/// What the lexer refuses, each reported at the byte that its line names. docs/REFUSALS.md has a
+/// text for each, and what to do.
 ///
 /// # Example
 ///

@@ -7,8 +7,8 @@ mod rows;
 
 ghost use Rattle.std.specs.Prelude.{◌≡◌, ◌<◌, ◌&&◌, ◌==◌, List, ℕ, length, slice_index, drop, option_map, IfSome, IfNone};
 ghost use Rattle.std.specs.Str.{chars};
-ghost use Rattle.rl_tokens.specs.Texts.{is_among, is_start, first_passes, IsTail};
-ghost use Rattle.rl_tokens.specs.Lexemes.{delimiters, LexemeBefore};
+ghost use Rattle.rl_tokens.specs.Texts.{is_among, first_passes, IsTail};
+ghost use Rattle.rl_tokens.specs.Lexemes.{delimiters, LexemeBefore, is_start};
 ghost use Rattle.rl_tokens.specs.Cursors.{form_view};
 ghost use Rattle.rl_tokens.specs.Mirrors.LexemeAt.{start_class, other_class, head_class, by_class, after_digit, lexeme_at, FormBefore};
 

@@ -58,7 +58,7 @@ impl<A: Allocator + Copy> TreeBuilder<A> {
     }
 
     /// Reads one token more, of this form and text, which stands from the byte `lo` to the byte
-    /// `hi`. A refusal is told at `lo`.
+    /// `hi`. A refusal is reported at `lo`.
     pub(crate) fn add(
         &mut self,
         form: Form,
@@ -93,7 +93,7 @@ impl<A: Allocator + Copy> TreeBuilder<A> {
         }
     }
 
-    /// All trees. A group that is open is told at its opener, the innermost of several.
+    /// All trees. A group that is open is reported at its opener, the innermost of several.
     pub(crate) fn finish(self) -> Result<TokenStream<A>, LexError>
         ensures none_open { IfOk result (λ trees. groups_of self ≡ []) }
         ensures flat { IfOk result (λ trees. flat_trees (stream_view trees) ≡ flat_builder self) }
@@ -110,7 +110,7 @@ impl<A: Allocator + Copy> TreeBuilder<A> {
         }
     }
 
-    /// Puts a tree behind the others of its level. Want of memory is told at the byte.
+    /// Puts a tree behind the others of its level. Running out of memory is reported at the byte.
     #[inline(always)]
     fn append(&mut self, tree: TokenTree<A>, at: usize) -> Result<(), LexError>
         ensures ok { OnOk result (TakesTree self.old self.new tree) }

@@ -40,8 +40,8 @@ pub trait Parse<A: Allocator>: Sized {
     /// # Errors
     ///
     /// The implementation's own, as its `runs` says. The types of literals refuse by their word
-    /// where another token stands, and want of memory at the buffer's span, which leaves the
-    /// buffer.
+    /// where another token stands, and report running out of memory at the buffer's span, which
+    /// leaves the buffer.
     fn parse(alloc: A, input: &mut ParseBuffer<'_, A>) -> Result<Self, Error<A>>
         ensures runs { runs (trees_in input.old) (scope_of input.old) result (trees_in input.new) }
         ensures rest { IsRest (trees_in input.old) (trees_in input.new) }

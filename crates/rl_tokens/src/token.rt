@@ -173,7 +173,7 @@ impl<A: Allocator> Group<A> {
         &self.stream
     }
 
-    /// A buffer of the trees inside, whose end is told at the group's closer: at its last byte.
+    /// A buffer of the trees inside, whose end is reported at the group's closer: at its last byte.
     pub fn inside(&self) -> ParseBuffer<'_, A>
         ensures trees { trees_in result ≡ stream_view (stream_of self.now) }
         ensures scope { scope_of result ≡ closer_span (group_span self.now) }

@@ -32,7 +32,7 @@ fn trees_of_text<A: Allocator + Copy>(
     }
 }
 
-/// Parses all of the trees as one value. Their end is told at the scope.
+/// Parses all of the trees as one value. Their end is reported at the scope.
 fn parse_trees<T: Parse<A> + Drop, A: Allocator>(
     alloc: A,
     stream: &TokenStream<A>,
@@ -53,9 +53,10 @@ fn parse_trees<T: Parse<A> + Drop, A: Allocator>(
 ///
 /// # Errors
 ///
-/// In this order: the lexer's, as `Lex` with the span of no bytes at its place (its want of memory
-/// as `Memory` there); the parser's own, whose scope is the span of no bytes at the text's end; and
-/// `Unexpected` at the first tree that is left over. Spans have the file and bytes of the text.
+/// In this order: the lexer's, as `Lex` with the span of no bytes at its place (its running out of
+/// memory as `Memory` there); the parser's own, whose scope is the span of no bytes at the text's
+/// end; and `Unexpected` at the first tree that is left over. Spans have the file and bytes of the
+/// text.
 ///
 /// # Example
 ///

@@ -47,7 +47,7 @@ first_more text old new lines longer count none one same nothing has adds pushed
       lines_are = lengthened lines longer has.list (lit ∷ []) has.lines_are (subst (λ ls. IfSome longer (Lengthens lines ls)) one_is pushed);
     }
 
--- the answer where the text is a list: its lines, or want of memory for them
+-- the answer where the text is a list: its lines, or running out of memory for them
 pub record Answers {A : Type 0} (text : List ℕ) (r : Result (String A) (Fault A)) : Type 0 where
   pub lines : IfOk r (λ lines. Shows Read (chars text) (chars (string_bytes lines)))
   pub refusal : IfErr r (IsRefusalOf Read text)

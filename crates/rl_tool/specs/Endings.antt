@@ -20,9 +20,12 @@ ending_line Done = []
 ending_line Usage = codes "usage: rl_tool text|read|attr"
 ending_line (Failed fault) = fault_line fault
 
--- What a call with these arguments ends as: with what the command that they ask for does, or, where they ask for none,
--- with how the program is used, and nothing is written.
-abbrev pub EndsAs : {A B : Type 0} → List (String A) → Option (List ℕ) → Option (List ℕ) → Option (List ℕ) → Ending B → Type 0
-EndsAs args input old new Done = (command : Command) × AskFor args command × IfSome input (λ bytes. Prints command bytes old new)
+-- What a call with these arguments ends as: with what the command that they ask for does, or, where
+-- they ask for none, with how the program is used, and nothing is written.
+abbrev pub EndsAs : {A B : Type 0} → List (String A) → Option (List ℕ) → Option (List ℕ)
+    → Option (List ℕ) → Ending B → Type 0
+EndsAs args input old new Done =
+    (command : Command) × AskFor args command × IfSome input (λ bytes. Prints command bytes old new)
 EndsAs args input old new Usage = ((command : Command) → AskFor args command → ⊥) × Keeps old new
-EndsAs args input old new (Failed fault) = (command : Command) × AskFor args command × IsFaultOf command input old new fault
+EndsAs args input old new (Failed fault) =
+    (command : Command) × AskFor args command × IsFaultOf command input old new fault

@@ -9,16 +9,20 @@ use Rattle.rl_tool.specs.declared.list.FirstLines.{FirstLines}
 -- the lines of these literals stand behind the lines
 abbrev pub Lengthens : {A : Type 0} → Option (String A) → List (Lit A) → String A → Type 0
 Lengthens None literals longer = ⊥
-Lengthens (Some lines) literals longer = Appends (AreLinesOfLits literals) (chars (string_bytes lines)) (chars (string_bytes longer))
+Lengthens (Some lines) literals longer =
+    Appends (AreLinesOfLits literals) (chars (string_bytes lines)) (chars (string_bytes longer))
 
--- The text up to the rest is so many literals, and these are their lines, where memory was found for them.
-pub record HasFirst {A : Type 0} (text rest : List ℕ) (lines : Option (String A)) (count : ℕ) : Type 0 where
+-- The text up to the rest is so many literals, and these are their lines, where memory was found
+-- for them.
+pub record HasFirst {A : Type 0} (text rest : List ℕ) (lines : Option (String A)) (count : ℕ)
+    : Type 0 where
   pub list : List (Lit A)
   pub read : AreReadUpTo (chars text) 0 list (chars rest)
   pub count_is : length list ≡ count
   pub lines_are : IfSome lines (λ l. AreLinesOfLits list (chars (string_bytes l)))
 
--- The text begins with the literals of these lines; nothing stands behind them where it is said that they are the whole.
+-- The text begins with the literals of these lines; nothing stands behind them where it is said
+-- that they are the whole.
 pub record AreFirstLines {A : Type 0} (text : List ℕ) (first : FirstLines A) : Type 0 where
   pub rest : List ℕ
   pub has : HasFirst text rest first.lines first.count

@@ -25,12 +25,17 @@ Shows Attr text shown = ShowsAttributes text shown
 
 -- the bytes are a text, and its lines are what was written
 abbrev pub Prints : Command → List ℕ → Option (List ℕ) → Option (List ℕ) → Type 0
-Prints command bytes old new = IsUtf8 bytes × ((lines : List ℕ) × Shows command (chars bytes) lines × Appends old new (encode_utf8_all lines))
+Prints command bytes old new =
+    IsUtf8 bytes
+    × ((lines : List ℕ) × Shows command (chars bytes) lines
+    × Appends old new (encode_utf8_all lines))
 
 -- the bytes are a text, and a beginning of its lines is what was written
 abbrev pub PrintsBeginning : Command → List ℕ → Option (List ℕ) → Option (List ℕ) → Type 0
 PrintsBeginning command bytes old new =
-    IsUtf8 bytes × ((lines : List ℕ) × Shows command (chars bytes) lines × AppendsBeginning old new (encode_utf8_all lines))
+    IsUtf8 bytes
+    × ((lines : List ℕ) × Shows command (chars bytes) lines
+    × AppendsBeginning old new (encode_utf8_all lines))
 
 -- the bytes of a whole input as one token
 abbrev pub whole_token : List ℕ → SpannedText
@@ -41,21 +46,23 @@ abbrev pub TellsLiteral : {A : Type 0} → (Error A → Type 0) → Fault A → 
 TellsLiteral refuses (Literal error) = refuses error
 TellsLiteral refuses _ = ⊥
 
--- what the call that reads the literals refuses of a text: want of memory for a number's digits, or as `read_all` or
--- `attr::read` does
+-- what the call that reads the literals refuses of a text: running out of memory for a number's
+-- digits, or as `read_all` or `attr::read` does
 abbrev pub RefusesAsCommand : {A : Type 0} → Command → List ℕ → Error A → Type 0
-RefusesAsCommand Text bytes error = (error ≡ memory_at (whole_token bytes).span) × ReadsAsNumber (chars bytes)
+RefusesAsCommand Text bytes error =
+    (error ≡ memory_at (whole_token bytes).span) × ReadsAsNumber (chars bytes)
 RefusesAsCommand ReadCommand bytes error = RefusesText (chars bytes) 0 (length bytes) error
 RefusesAsCommand Attr bytes error = RefusesAttributeText (chars bytes) 0 (length bytes) error
 
--- where memory may be wanted that is no literal's: under `text` for the token or its line, under `read` and `attr` for the
--- lines alone, behind literals or attributes that were read
+-- where memory may be wanted that is no literal's: under `text` for the token or its line, under
+-- `read` and `attr` for the lines alone, behind literals or attributes that were read
 abbrev pub MayWantMemory : Type 0 → Command → List ℕ → Type 0
 MayWantMemory A Text bytes = ⊤
 MayWantMemory A ReadCommand bytes = (list : List (Lit A)) × AreRead (chars bytes) 0 list
 MayWantMemory A Attr bytes = (list : List Attribute) × AreAttributesOf (chars bytes) 0 list
 
--- why the whole input was refused: it is no text, its literals were refused, or memory was, elsewhere
+-- why the whole input was refused: it is no text, its literals were refused, or memory was,
+-- elsewhere
 abbrev pub IsRefusalOf : {A : Type 0} → Command → List ℕ → Fault A → Type 0
 IsRefusalOf command bytes NotText = IsUtf8 bytes → ⊥
 IsRefusalOf command bytes (Literal error) = IsUtf8 bytes × RefusesAsCommand command bytes error
@@ -64,9 +71,11 @@ IsRefusalOf command bytes Read = ⊥
 IsRefusalOf command bytes Write = ⊥
 
 -- why a run failed, and what it wrote: nothing, but where a write failed
-abbrev pub IsFaultOf : {A : Type 0} → Command → Option (List ℕ) → Option (List ℕ) → Option (List ℕ) → Fault A → Type 0
+abbrev pub IsFaultOf : {A : Type 0} → Command → Option (List ℕ) → Option (List ℕ) → Option (List ℕ)
+    → Fault A → Type 0
 IsFaultOf command input old new Read = Keeps old new
-IsFaultOf command input old new Write = IfSome input (λ bytes. PrintsBeginning command bytes old new)
+IsFaultOf command input old new Write =
+    IfSome input (λ bytes. PrintsBeginning command bytes old new)
 IsFaultOf command input old new NotText = Keeps old new × IfSome input (λ bytes. IsUtf8 bytes → ⊥)
 IsFaultOf command input old new Memory = Keeps old new
 IsFaultOf command input old new (Literal error) =

@@ -1,4 +1,5 @@
--- What a run does to the bytes that its reader has left and that its writer holds, where those are known.
+-- What a run does to the bytes that its reader has left and that its writer holds, where those are
+-- known.
 use Rattle.std.specs.Prelude.{ℕ, List, take, Option}
 use Rattle.std.specs.Io.KnownBytes.{Appends}
 

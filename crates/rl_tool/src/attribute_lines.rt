@@ -12,7 +12,8 @@ use std::alloc::Allocator;
 
 /// The lines of the text's attributes.
 pub fn attribute_lines<A: Allocator + Copy>(alloc: A, text: &str) -> Result<String<A>, Fault<A>>
-    ensures lines { IfOk result (λ lines. Shows Attr (chars text.now) (chars (string_bytes lines))) }
+    ensures lines { IfOk result
+        (λ lines. Shows Attr (chars text.now) (chars (string_bytes lines))) }
     ensures refusal { IfErr result (IsRefusalOf Attr text.now) }
 {
     let attrs = match read(alloc, text, 0) {

@@ -66,7 +66,7 @@ fn first_lines<A: Allocator + Copy>(alloc: A, text: &str) -> FirstLines<A>
     }
 }
 
-/// The literals behind the first ones. Want of memory is the literals'.
+/// The literals behind the first ones. Running out of memory is the literals'.
 fn literals_behind<A: Allocator + Copy>(
     alloc: A,
     text: &str,
@@ -85,7 +85,8 @@ fn literals_behind<A: Allocator + Copy>(
 
 /// The lines of the text's literals.
 pub fn literal_lines<A: Allocator + Copy>(alloc: A, text: &str) -> Result<String<A>, Fault<A>>
-    ensures lines { IfOk result (λ lines. Shows Read (chars text.now) (chars (string_bytes lines))) }
+    ensures lines { IfOk result
+        (λ lines. Shows Read (chars text.now) (chars (string_bytes lines))) }
     ensures refusal { IfErr result (IsRefusalOf Read text.now) }
 {
     let FirstLines {

@@ -46,7 +46,7 @@ fn token_of<A: Allocator + Copy>(alloc: A, bytes: Vec<u8, A>) -> Result<Literal<
     }
 }
 
-/// The literal that a token is. Want of memory is the literal's.
+/// The literal that a token is. Running out of memory is the literal's.
 fn literal_of<A: Allocator + Copy>(alloc: A, token: Literal<A>) -> Result<Lit<A>, Fault<A>>
     ensures reads { IfOk result (IsReadFrom token) }
     ensures refusal { IfErr result
@@ -61,7 +61,8 @@ fn literal_of<A: Allocator + Copy>(alloc: A, token: Literal<A>) -> Result<Lit<A>
 /// The line of the whole input as one literal.
 fn literal_line<A: Allocator + Copy>(alloc: A, bytes: Vec<u8, A>) -> Result<String<A>, Fault<A>>
     ensures utf8 { OnOk result (IsUtf8 bytes.items) }
-    ensures line { IfOk result (λ line. Shows Text (chars bytes.items) (chars (string_bytes line))) }
+    ensures line { IfOk result
+        (λ line. Shows Text (chars bytes.items) (chars (string_bytes line))) }
     ensures refusal { IfErr result (IsRefusalOf Text bytes.items) }
 {
     let token = token_of(alloc, bytes)?;

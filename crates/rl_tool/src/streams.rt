@@ -19,7 +19,8 @@ const _: () = prove!(TURNS == 4_294_967_295);
 
 /// All bytes of the input, read in at most 4,294,967,295 turns. An error of any kind counts as a failed call.
 pub fn read_whole<A: Allocator, R: Read>(alloc: A, input: &mut R) -> Result<Vec<u8, A>, Fault<A>>
-    ensures bytes { IfOk result (λ bytes. IfSome (R.remaining input.old) (λ all. bytes.items ≡ all)) }
+    ensures bytes { IfOk result
+        (λ bytes. IfSome (R.remaining input.old) (λ all. bytes.items ≡ all)) }
     ensures faults { IfErr result (λ fault. (fault ≡ Read) ⊎ (fault ≡ Memory)) }
 {
     let mut bytes = Vec::new(alloc);

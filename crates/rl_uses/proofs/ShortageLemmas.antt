@@ -1,4 +1,4 @@
--- Want of memory for a literal of a list.
+-- Running out of memory for a literal of a list.
 use Rattle.std.proofs.Common.{◌≡◌, ℕ, ◌<◌, List, length, get_or, sym, ◌∙◌}
 use Rattle.std.specs.Prelude.{Result, IfErr}
 use Rattle.std.specs.Result.{IsErrAnd}

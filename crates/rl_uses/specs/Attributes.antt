@@ -1,5 +1,6 @@
 -- What the parser of attributes does.
 use Rattle.std.specs.Prelude.{◌≡◌, ◌⊎◌, List, ◌∷◌, IsFalse, codes, Result, Ok, Err}
+use Prim.Native.Char.{code}
 use Rattle.rl_tokens.specs.declared.span.Span.{Span}
 use Rattle.rl_tokens.specs.declared.kind.Kind.TheVariants.{Str}
 use Rattle.rl_tokens.specs.declared.error.Error.{Error}
@@ -11,35 +12,40 @@ use Rattle.rl_grammar.specs.Fronts.{IsFrontOf, RunsAs}
 use Rattle.rl_uses.specs.declared.attribute.Attribute.{Attribute}
 
 -- The character `=` and a string literal begin the trees, and the rest stands behind them.
-pub record IsAttributeValue (trees : List Tree) (value : SpannedText) (rest : List Tree) : Type 0 where
+pub record IsAttributeValue (trees : List Tree) (value : SpannedText) (rest : List Tree)
+    : Type 0 where
   pub behind : List Tree
-  pub equals : IsBehindMark 61 trees behind
+  pub equals : IsBehindMark (code "=") trees behind
   pub string : IsFrontOf Str behind value rest
 
 -- No `=` begins the trees.
-pub record MissesValueEquals {A : Type 0} (trees : List Tree) (scope : Span) (e : Error A) : Type 0 where
-  pub none : IsFalse (begins_mark 61 trees)
+pub record MissesValueEquals {A : Type 0} (trees : List Tree) (scope : Span) (e : Error A)
+    : Type 0 where
+  pub none : IsFalse (begins_mark (code "=") trees)
   pub refusal : IsRefusal trees scope (codes "`=`") e
 
 -- The parser of string literals refuses what stands behind the `=`.
 pub record MissesString {A : Type 0} (trees : List Tree) (scope : Span) (e : Error A) : Type 0 where
   pub behind : List Tree
   pub after : List Tree
-  pub equals : IsBehindMark 61 trees behind
+  pub equals : IsBehindMark (code "=") trees behind
   pub refused : RunsAs Str (codes "string literal") behind scope (Err e) after
 
 -- No `=` and string literal begin the trees.
 pub record RefusesValue {A : Type 0} (trees : List Tree) (scope : Span) (e : Error A) : Type 0 where
   pub why : MissesValueEquals trees scope e ⊎ MissesString trees scope e
 
--- An identifier, the character `=` and a string literal begin the trees, and the rest stands behind them.
-pub record IsStringAttribute (trees : List Tree) (name value : SpannedText) (rest : List Tree) : Type 0 where
+-- An identifier, the character `=` and a string literal begin the trees, and the rest stands behind
+-- them.
+pub record IsStringAttribute (trees : List Tree) (name value : SpannedText) (rest : List Tree)
+    : Type 0 where
   pub behind : List Tree
   pub named : trees ≡ IdentTree name ∷ behind
   pub set : IsAttributeValue behind value rest
 
 -- No identifier begins the trees.
-pub record MissesAttributeName {A : Type 0} (trees : List Tree) (scope : Span) (e : Error A) : Type 0 where
+pub record MissesAttributeName {A : Type 0} (trees : List Tree) (scope : Span) (e : Error A)
+    : Type 0 where
   pub none : IsFalse (begins_ident trees)
   pub refusal : IsRefusal trees scope (codes "identifier") e
 
@@ -57,11 +63,15 @@ pub record MissesValue {A : Type 0} (trees : List Tree) (scope : Span) (e : Erro
   pub named : trees ≡ IdentTree name ∷ behind
   pub refused : RefusesValue behind scope e
 
--- No attribute begins the trees: the first part that is missed, or want of memory.
-pub record RefusesAttribute {A : Type 0} (trees : List Tree) (scope : Span) (e : Error A) : Type 0 where
-  pub why : MissesAttributeName trees scope e ⊎ LacksMemoryForIdentifier trees e ⊎ MissesValue trees scope e
+-- No attribute begins the trees: the first part that is missed, or running out of memory.
+pub record RefusesAttribute {A : Type 0} (trees : List Tree) (scope : Span) (e : Error A)
+    : Type 0 where
+  pub why : MissesAttributeName trees scope e ⊎ LacksMemoryForIdentifier trees e
+      ⊎ MissesValue trees scope e
 
 -- what the parser of attributes does; a refusal leaves the trees
-abbrev pub RunsAttribute : {A : Type 0} → List Tree → Span → Result (Attribute A) (Error A) → List Tree → Type 0
-RunsAttribute trees scope (Ok attribute) rest = IsStringAttribute trees attribute.name attribute.value rest
+abbrev pub RunsAttribute : {A : Type 0} → List Tree → Span → Result (Attribute A) (Error A)
+    → List Tree → Type 0
+RunsAttribute trees scope (Ok attribute) rest =
+    IsStringAttribute trees attribute.name attribute.value rest
 RunsAttribute trees scope (Err e) rest = RefusesAttribute trees scope e × (rest ≡ trees)

@@ -13,8 +13,9 @@ abbrev pub some_times : ℕ → Option ℕ
 some_times zero = None
 some_times (suc n) = Some (suc n)
 
--- The map holds under each literal how many of these equal it, and nothing where none does; each key is the first of its
--- equals.
-pub record AreCounts {A S : Type 0} (list : List (Lit A)) (counts : HashMap (Lit A) ℕ S) : Type 0 where
+-- The map holds under each literal how many of these equal it, and nothing where none does; each
+-- key is the first of its equals.
+pub record AreCounts {A S : Type 0} (list : List (Lit A)) (counts : HashMap (Lit A) ℕ S)
+    : Type 0 where
   pub numbers : (literal : Lit A) → get is_equal counts literal ≡ some_times (times literal list)
   pub firsts : All (λ key. find (is_equal key) list ≡ Some key) (keys counts)

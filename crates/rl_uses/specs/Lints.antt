@@ -13,7 +13,9 @@ use Rattle.rust_literals.specs.LitParts.{lit_span}
 
 -- The answer tells whether the string's value has a control character.
 abbrev pub TellsControl : SpannedText → Bool → Type 0
-TellsControl string answer = (value : List ℕ) × HasContents StrKind (chars string.text) (Characters value) × (answer ≡ list_any is_control value)
+TellsControl string answer =
+    (value : List ℕ) × HasContents StrKind (chars string.text) (Characters value)
+    × (answer ≡ list_any is_control value)
 
 -- The answer tells whether the literal is a string whose value has a control character.
 abbrev pub TellsFault : {A : Type 0} → Lit A → Bool → Type 0
@@ -23,4 +25,6 @@ TellsFault other answer = answer ≡ false
 -- The spans are those of the literals that are such strings, in order.
 abbrev pub AreFaults : {A : Type 0} → List (Lit A) → List Span → Type 0
 AreFaults [] spans = spans ≡ []
-AreFaults (l ∷ ls) spans = (TellsFault l false × AreFaults ls spans) ⊎ ((rest : List Span) × TellsFault l true × (spans ≡ lit_span l ∷ rest) × AreFaults ls rest)
+AreFaults (l ∷ ls) spans =
+    (TellsFault l false × AreFaults ls spans)
+    ⊎ ((rest : List Span) × TellsFault l true × (spans ≡ lit_span l ∷ rest) × AreFaults ls rest)

@@ -1,5 +1,6 @@
 -- What the parsers of items and lists do.
 use Rattle.std.specs.Prelude.{◌≡◌, ◌≢◌, ◌⊎◌, ◌<◌, IsFalse, List, [], ◌∷◌, length, codes, Result, Ok, Err}
+use Prim.Native.Char.{code}
 use Rattle.rl_tokens.specs.declared.span.Span.{Span}
 use Rattle.rl_tokens.specs.declared.kind.Kind.TheVariants.{Str as StrKind, Int as IntKind}
 use Rattle.rl_tokens.specs.declared.token.Delimiter.TheVariants.{Bracket}
@@ -29,7 +30,8 @@ pub record MissesItem {A : Type 0} (trees : List Tree) (scope : Span) (e : Error
   pub refusal : IsRefusal trees scope (codes "integer literal or string literal") e
 
 -- An integer or a string begins the trees, and memory was refused for it.
-pub record LacksMemoryForItem {A : Type 0} (trees : List Tree) (scope : Span) (e : Error A) : Type 0 where
+pub record LacksMemoryForItem {A : Type 0} (trees : List Tree) (scope : Span) (e : Error A)
+    : Type 0 where
   pub some : HasFrontOf IntKind trees ⊎ HasFrontOf StrKind trees
   pub error : e ≡ memory_at (first_span trees scope)
 
@@ -38,27 +40,31 @@ pub record RefusesItem {A : Type 0} (trees : List Tree) (scope : Span) (e : Erro
   pub why : MissesItem trees scope e ⊎ LacksMemoryForItem trees scope e
 
 -- what the parser of items does; a refusal leaves the trees
-abbrev pub RunsItem : {A : Type 0} → List Tree → Span → Result (Item A) (Error A) → List Tree → Type 0
+abbrev pub RunsItem : {A : Type 0} → List Tree → Span → Result (Item A) (Error A) → List Tree
+    → Type 0
 RunsItem trees scope (Ok item) rest = IsItem trees item rest
 RunsItem trees scope (Err e) rest = RefusesItem trees scope e × (rest ≡ trees)
 
 -- The item begins the trees, and behind it stands a comma and the rest, or nothing.
-pub record IsListed {A : Type 0} (trees : List Tree) (item : Item A) (rest : List Tree) : Type 0 where
+pub record IsListed {A : Type 0} (trees : List Tree) (item : Item A) (rest : List Tree)
+    : Type 0 where
   pub behind : List Tree
   pub is : IsItem trees item behind
-  pub comma : IsBehindMark 44 behind rest ⊎ ((behind ≡ []) × (rest ≡ []))
+  pub comma : IsBehindMark (code ",") behind rest ⊎ ((behind ≡ []) × (rest ≡ []))
 
 -- An item begins the trees, and something stands behind it that is no comma.
-pub record MissesItemComma {A : Type 0} (trees : List Tree) (scope : Span) (e : Error A) : Type 0 where
+pub record MissesItemComma {A : Type 0} (trees : List Tree) (scope : Span) (e : Error A)
+    : Type 0 where
   pub item : Item A
   pub behind : List Tree
   pub is : IsItem trees item behind
   pub some : behind ≢ []
-  pub none : IsFalse (begins_mark 44 behind)
+  pub none : IsFalse (begins_mark (code ",") behind)
   pub refusal : IsRefusal behind scope (codes "`,`") e
 
 -- No item with a comma or the end behind it begins the trees.
-pub record RefusesListed {A : Type 0} (trees : List Tree) (scope : Span) (e : Error A) : Type 0 where
+pub record RefusesListed {A : Type 0} (trees : List Tree) (scope : Span) (e : Error A)
+    : Type 0 where
   pub why : RefusesItem trees scope e ⊎ MissesItemComma trees scope e
 
 -- these items begin the trees one after another, each as listed, and the rest stands behind them
@@ -67,15 +73,17 @@ Lists trees [] rest = trees ≡ rest
 Lists trees (x ∷ xs) rest = (after : List Tree) × IsListed trees x after × Lists after xs rest
 
 -- Items lead to trees that begin with none.
-pub record RefusesNextItem {A : Type 0} (trees : List Tree) (scope : Span) (e : Error A) : Type 0 where
+pub record RefusesNextItem {A : Type 0} (trees : List Tree) (scope : Span) (e : Error A)
+    : Type 0 where
   pub items : List (Item A)
   pub rest : List Tree
   pub lists : Lists trees items rest
   pub some : rest ≢ []
   pub refused : RefusesListed rest scope e
 
--- Items lead to one for which no place was found: this is told at it.
-pub record LacksMemoryForPlace {A : Type 0} (trees : List Tree) (scope : Span) (e : Error A) : Type 0 where
+-- Items lead to one for which no place was found: this is reported at it.
+pub record LacksMemoryForPlace {A : Type 0} (trees : List Tree) (scope : Span) (e : Error A)
+    : Type 0 where
   pub items : List (Item A)
   pub rest : List Tree
   pub lists : Lists trees items rest
@@ -90,10 +98,13 @@ pub record RefusesItems {A : Type 0} (trees : List Tree) (scope : Span) (e : Err
 
 -- no group in square brackets begins the trees
 abbrev pub HasNoList : List Tree → Type 0
-HasNoList trees = (inside : Trees) (span : Span) (rest : List Tree) → trees ≡ GroupTree Bracket inside span ∷ rest → ⊥
+HasNoList trees =
+    (inside : Trees) (span : Span) (rest : List Tree) → trees ≡ GroupTree Bracket inside span ∷ rest
+    → ⊥
 
 -- A group in square brackets begins the trees, and the items are what is inside.
-pub record IsList {A : Type 0} (trees : List Tree) (items : List (Item A)) (rest : List Tree) : Type 0 where
+pub record IsList {A : Type 0} (trees : List Tree) (items : List (Item A)) (rest : List Tree)
+    : Type 0 where
   pub inside : List Tree
   pub span : Span
   pub group : trees ≡ GroupTree Bracket (inside_of inside) span ∷ rest
@@ -104,7 +115,8 @@ pub record MissesList {A : Type 0} (trees : List Tree) (scope : Span) (e : Error
   pub none : HasNoList trees
   pub refusal : IsRefusal trees scope (codes "square brackets") e
 
--- A group in square brackets begins the trees, and what is inside is refused; its end would be told at the closer.
+-- A group in square brackets begins the trees, and what is inside is refused; its end would be
+-- reported at the closer.
 pub record RefusesInsideList {A : Type 0} (trees : List Tree) (e : Error A) : Type 0 where
   pub inside : List Tree
   pub span : Span
@@ -117,6 +129,7 @@ abbrev pub RefusesList : {A : Type 0} → List Tree → Span → Error A → Typ
 RefusesList trees scope e = MissesList trees scope e ⊎ RefusesInsideList trees e
 
 -- what the parser of lists does; a refusal leaves the trees
-abbrev pub RunsList : {A : Type 0} → List Tree → Span → Result (ItemList A) (Error A) → List Tree → Type 0
+abbrev pub RunsList : {A : Type 0} → List Tree → Span → Result (ItemList A) (Error A) → List Tree
+    → Type 0
 RunsList trees scope (Ok list) rest = IsList trees list.items.items rest
 RunsList trees scope (Err e) rest = RefusesList trees scope e × (rest ≡ trees)

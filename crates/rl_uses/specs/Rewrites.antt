@@ -1,5 +1,6 @@
 -- Literals that are written anew from their values, and the text that they make.
 use Rattle.std.specs.Prelude.{◌≡◌, ◌⊎◌, ℕ, List, [], ◌∷◌, ◌++◌}
+use Prim.Native.Char.{code}
 use Rattle.std.specs.Str.{chars}
 use Rattle.rl_tokens.specs.declared.kind.Kind.{Kind}
 use Rattle.rl_tokens.specs.declared.kind.Kind.TheVariants.{Str as StrKind, ByteStr as ByteStrKind, CStr as CStrKind, Byte as ByteKind, Char as CharKind}
@@ -43,9 +44,12 @@ IsRewrite old new = new ≡ old
 
 -- the text of a literal's rewriting and LF, behind what was printed before
 abbrev pub PrintsLine : {A : Type 0} → Lit A → List ℕ → List ℕ → Type 0
-PrintsLine {A} literal old new = (anew : Lit A) × IsRewrite literal anew × (new ≡ old ++ (text_of anew ++ (10 ∷ [])))
+PrintsLine {A} literal old new =
+    (anew : Lit A) × IsRewrite literal anew × (new ≡ old ++ (text_of anew ++ (code "\n" ∷ [])))
 
 -- The bytes are the texts of the literals' rewritings in order, LF behind each.
 abbrev pub AreLines : {A : Type 0} → List (Lit A) → List ℕ → Type 0
 AreLines [] printed = printed ≡ []
-AreLines {A} (l ∷ ls) printed = (anew : Lit A) × (rest : List ℕ) × IsRewrite l anew × (printed ≡ text_of anew ++ (10 ∷ rest)) × AreLines ls rest
+AreLines {A} (l ∷ ls) printed =
+    (anew : Lit A) × (rest : List ℕ) × IsRewrite l anew
+    × (printed ≡ text_of anew ++ (code "\n" ∷ rest)) × AreLines ls rest

@@ -17,17 +17,23 @@ pub record IsOneInt (text : List ℕ) (file : ℕ) (literal : SpannedText) : Typ
   pub front : IsFrontOf Int trees literal []
 
 -- The text is one integer literal, and the number is what its type makes of the digits.
-pub record IsSetTo {N E : Type 0} (gives : List ℕ → Result N E → Type 0) (text : List ℕ) (file : ℕ) (number : N) : Type 0 where
+pub record IsSetTo {N E : Type 0} (gives : List ℕ → Result N E → Type 0) (text : List ℕ) (file : ℕ)
+    (number : N) : Type 0 where
   pub literal : SpannedText
   pub one : IsOneInt text file literal
   pub made : IsMadeOf gives (AreBase10Digits Int literal.text) number
 
--- The text is one integer literal, and the number type refuses its digits: this is told at the literal.
-pub record RefusesDigits {N E A : Type 0} (gives : List ℕ → Result N E → Type 0) (output : E → Option (List ℕ)) (text : List ℕ) (file : ℕ) (e : Error A) : Type 0 where
+-- The text is one integer literal, and the number type refuses its digits: this is reported at the
+-- literal.
+pub record RefusesDigits {N E A : Type 0} (gives : List ℕ → Result N E → Type 0)
+    (output : E → Option (List ℕ)) (text : List ℕ) (file : ℕ) (e : Error A) : Type 0 where
   pub literal : SpannedText
   pub one : IsOneInt text file literal
   pub refused : IsRefusedBy gives output (AreBase10Digits Int literal.text) literal.span e
 
 -- the text isn't one integer literal, or the number type refuses it
-abbrev pub RefusesSetting : {N E A : Type 0} → (List ℕ → Result N E → Type 0) → (E → Option (List ℕ)) → List ℕ → ℕ → Error A → Type 0
-RefusesSetting gives output text file e = RefusesAll (RunsAs Int (codes "integer literal")) text file e ⊎ RefusesDigits gives output text file e
+abbrev pub RefusesSetting : {N E A : Type 0} → (List ℕ → Result N E → Type 0)
+    → (E → Option (List ℕ)) → List ℕ → ℕ → Error A → Type 0
+RefusesSetting gives output text file e =
+    RefusesAll (RunsAs Int (codes "integer literal")) text file e
+    ⊎ RefusesDigits gives output text file e

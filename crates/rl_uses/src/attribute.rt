@@ -37,7 +37,8 @@ fn parse_attribute<A: Allocator + Copy>(
     alloc: A,
     input: &mut ParseBuffer<'_, A>,
 ) -> Result<Attribute<A>, Error<A>>
-    ensures ok { IfOk result (λ a. IsStringAttribute (trees_in input.old) a.name a.value (trees_in input.new)) }
+    ensures ok { IfOk result
+        (λ a. IsStringAttribute (trees_in input.old) a.name a.value (trees_in input.new)) }
     ensures refused { IfErr result (RefusesAttribute (trees_in input.old) (scope_of input.old)) }
     ensures rest { IsRest (trees_in input.old) (trees_in input.new) }
     ensures scope { scope_of input.new ≡ scope_of input.old }
@@ -50,9 +51,9 @@ fn parse_attribute<A: Allocator + Copy>(
     Ok(Attribute { name, value })
 }
 
-/// Takes an identifier, the character `=` and a string literal. The first of these that doesn't stand there is refused by
-/// its word: `identifier`, `` `=` `` or `string literal`. Want of memory is told where the token stands. A refusal leaves
-/// the buffer.
+/// Takes an identifier, the character `=` and a string literal. The first of these that doesn't
+/// stand there is refused by its word: `identifier`, `` `=` `` or `string literal`. Running out of
+/// memory is reported where the token stands. A refusal leaves the buffer.
 impl<A: Allocator + Copy> Parse<A> for Attribute<A> {
     ghost use Rattle.rl_uses.specs.Attributes.{RunsAttribute};
 

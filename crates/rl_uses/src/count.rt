@@ -47,7 +47,8 @@ pub fn count_literals<A: Allocator + Copy>(
     // The text reads as literals. The map holds under each how often it stands there, and nothing else.
     ensures counts { IfOk result (λ counts. (list : List (Lit A))
         × AreRead (chars text.now) file list × AreCounts list counts) }
-    // What `read_all` refuses of the text, or memory was refused for one of its literals, which the error is told at.
+    // What `read_all` refuses of the text, or memory was refused for one of its literals, which the
+    // error is reported at.
     ensures refused { IfErr result (RefusesTextOrMemory text.now file) }
 {
     tally(alloc, read_all(alloc, text, file)?)

@@ -77,7 +77,8 @@ pub fn control_strings<A: Allocator + Copy>(
     // The text reads as literals, and these are the spans of the strings with control characters among them.
     ensures found { IfOk result (λ spans. (list : List (Lit A))
         × AreRead (chars text.now) file list × AreFaults list spans.items) }
-    // What `read_all` refuses of the text, or memory was refused for one of its literals, which the error is told at.
+    // What `read_all` refuses of the text, or memory was refused for one of its literals, which the
+    // error is reported at.
     ensures refused { IfErr result (RefusesTextOrMemory text.now file) }
 {
     let literals = read_all(alloc, text, file)?;

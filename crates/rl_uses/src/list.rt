@@ -87,7 +87,9 @@ fn parse_items<A: Allocator + Copy>(
 /// Takes a group in square brackets. Where none stands next, it is refused, and the buffer stays.
 fn take_brackets<'a, A: Allocator>(input: &mut ParseBuffer<'a, A>) -> Result<&'a Group<A>, Error<A>>
     ensures taken { IfOk result
-        (λ g. trees_in input.old ≡ GroupTree Bracket (inside_of (stream_view (stream_of g.now))) (group_span g.now) ∷ trees_in input.new) }
+        (λ g. trees_in input.old
+        ≡ GroupTree Bracket (inside_of (stream_view (stream_of g.now))) (group_span g.now)
+        ∷ trees_in input.new) }
     ensures none { OnErr result (HasNoList (trees_in input.old)) }
     ensures refused { IfErr result
         (IsRefusal (trees_in input.old) (scope_of input.old) (codes "square brackets")) }
@@ -110,7 +112,8 @@ fn parse_list<A: Allocator + Copy>(
     alloc: A,
     input: &mut ParseBuffer<'_, A>,
 ) -> Result<ItemList<A>, Error<A>>
-    ensures ok { IfOk result (λ list. IsList (trees_in input.old) list.items.items (trees_in input.new)) }
+    ensures ok { IfOk result
+        (λ list. IsList (trees_in input.old) list.items.items (trees_in input.new)) }
     ensures refused { IfErr result (RefusesList (trees_in input.old) (scope_of input.old)) }
     ensures rest { IsRest (trees_in input.old) (trees_in input.new) }
     ensures scope { scope_of input.new ≡ scope_of input.old }

@@ -179,7 +179,8 @@ pub fn format<A: Allocator + Copy>(alloc: A, text: &str, file: u32) -> Result<St
     // The text reads as literals, and the lines are their rewritings, each with LF behind it.
     ensures printed { IfOk result (λ printed. (list : List (Lit A))
         × AreRead (chars text.now) file list × AreLines list (string_bytes printed)) }
-    // What `read_all` refuses of the text, or memory was refused for one of its literals, which the error is told at.
+    // What `read_all` refuses of the text, or memory was refused for one of its literals, which the
+    // error is reported at.
     ensures refused { IfErr result (RefusesTextOrMemory text.now file) }
 {
     let literals = read_all(alloc, text, file)?;

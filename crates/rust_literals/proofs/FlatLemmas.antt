@@ -17,7 +17,7 @@ use Rattle.rl_tokens.specs.Reading.{truth_text}
 use Rattle.rl_tokens.specs.Trees.{Tree, IdentTree, PunctTree, LiteralTree, flat_trees}
 use Rattle.rl_tokens.specs.Lexing.{LexesUpTo, behind_form, flat_form, flat_token}
 use Rattle.rl_tokens.specs.Cursors.{CursorState, TakesNext}
-use Rattle.rl_tokens.specs.Reading.{HasReading, HasNoReading}
+use Rattle.rl_tokens.specs.Reading.{HasReading, HasNoReading, HasNoTruth}
 use Rattle.rl_grammar.specs.Fronts.{joined, joined_span}
 use Rattle.rl_tokens.proofs.CutLemmas.{open_more}
 use Rattle.rl_tokens.proofs.CursorLemmas.{flat_lent}
@@ -141,6 +141,12 @@ none_number old new l t h = inr (l, new, t, h)
 pub none_minus : (old between : CursorState) (m : Lent) → TakesNext old m between → form_view m.form ≡ MarkForm 45 → HasNoNumberNext between → HasNoNext old
 none_minus old between m t is h =
     inr (m, between, t, subst (λ (f : LexemeForm). BeginsNoLiteral f m.text.now between) (sym is) (inr h))
+
+-- a word, and none of a truth value
+pub none_word : (old between : CursorState) (m : Lent) → TakesNext old m between → form_view m.form ≡ IdentifierForm → ((b : Bool) → chars m.text.now ≡ truth_text b → ⊥) → HasNoNext old
+none_word old between m t is differs =
+    let h : HasNoTruth (chars m.text.now) = λ contents suffix r. differs r.truth r.text_is in
+    inr (m, between, t, subst (λ (f : LexemeForm). BeginsNoLiteral f m.text.now between) (sym is) h)
 
 -- an option whose form is known
 pub no_some : {T P : Type 0} (o : Option T) → o ≡ None → IfNone o P → P

@@ -125,7 +125,7 @@ found_number kind text found utf8 h e = go kind e (of_kind kind text found utf8 
     go Char e h = absurd h
     go Bool e h = absurd h
 
--- want of memory, as a refusal
+-- running out of memory, as a refusal
 pub wants_memory : {A : Type 0} (kind : Kind) (text : List ℕ) (e : Error A) (span : Span) → e ≡ memory_at span → IsNumber kind text → (e.span ≡ span) × IsRefusedAs kind text e.kind
 wants_memory {A} kind text e span is number =
     let P : Error A → Type 0 = λ x. (x.span ≡ span) × IsRefusedAs kind text x.kind in subst P (sym is) (refl, number)

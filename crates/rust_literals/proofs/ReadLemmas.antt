@@ -19,7 +19,7 @@ use Rattle.rust_literals.specs.ReadBack.{HoldsOrMemory}
 abbrev at_span : ℕ → ℕ → Span
 at_span file at = record { file = file; lo = at; hi = at }
 
--- a text that has trees is refused for want of memory alone
+-- a text that has trees is refused for running out of memory alone
 pub lex_memory : {A : Type 0} (text : List ℕ) (file : ℕ) (trees : List Tree) (kind : LexKind) (at : ℕ) (e : Error A) → NeverBoth → Lexes text file trees → e ≡ lex_refusal kind (at_span file at) → Refuses text kind at → e.kind ≡ MemoryError
 lex_memory text file trees DocComment at e never lexes is r = absurd (never text file trees DocComment at lexes r)
 lex_memory text file trees UnclosedComment at e never lexes is r = absurd (never text file trees UnclosedComment at lexes r)

@@ -41,7 +41,8 @@ is_equal = eq_of_both (on variant_of ◌==◌) (on text_of (pointwise ◌==◌))
 
 -- this is an equivalence
 pub is_equal_equiv : {A : Type 0} → IsEquivalence (is_equal {A = A})
-is_equal_equiv {A} = and_equiv (on_equiv variant_of nat_eq_equiv) (on_equiv text_of nat_list_eq_equiv)
+is_equal_equiv {A} =
+    and_equiv (on_equiv variant_of nat_eq_equiv) (on_equiv text_of nat_list_eq_equiv)
 
 -- a token as a tree: of a truth value a word, else a literal
 abbrev pub tree_as : Option Kind → SpannedText → Tree

@@ -1,5 +1,6 @@
 -- What is read of a text without groups, as its tokens are cut.
 use Rattle.std.specs.Prelude.{◌≡◌, ◌≢◌, ◌⊎◌, ℕ, List, [], ◌∷◌, ◌++◌, length, map, Some, ⊤}
+use Prim.Native.Char.{code}
 use Rattle.std.specs.List.{AllByRecursion}
 use Rattle.std.specs.Str.{chars}
 use Rattle.rl_tokens.specs.Trees.{Tree, GroupTree, flat_trees}
@@ -17,7 +18,8 @@ IsNoGroup (GroupTree delimiter inside span) = ⊥
 IsNoGroup _ = ⊤
 
 -- The text is cut into these trees up to the rest, where no group is open; none of them is a group.
-pub record LexesTreesUpTo (text : List ℕ) (file : ℕ) (trees : List Tree) (rest : List ℕ) : Type 0 where
+pub record LexesTreesUpTo (text : List ℕ) (file : ℕ) (trees : List Tree) (rest : List ℕ)
+    : Type 0 where
   pub cuts : List LexedToken
   pub are_cuts : LexesUpTo 0 text cuts rest
   pub none_open : open_groups [] cuts ≡ Some []
@@ -25,9 +27,11 @@ pub record LexesTreesUpTo (text : List ℕ) (file : ℕ) (trees : List Tree) (re
   pub no_groups : AllByRecursion IsNoGroup trees
 
 -- The trees that are cut off make the literal, whatever stands behind them.
-pub record ReadsNext {A : Type 0} (file : ℕ) (old : CursorState) (lit : Lit A) (new : CursorState) : Type 0 where
+pub record ReadsNext {A : Type 0} (file : ℕ) (old : CursorState) (lit : Lit A) (new : CursorState)
+    : Type 0 where
   pub trees : List Tree
-  pub cuts : (done : List Tree) → LexesTreesUpTo (chars old.text) file done (chars old.rest) → LexesTreesUpTo (chars old.text) file (done ++ trees) (chars new.rest)
+  pub cuts : (done : List Tree) → LexesTreesUpTo (chars old.text) file done (chars old.rest)
+      → LexesTreesUpTo (chars old.text) file (done ++ trees) (chars new.rest)
   pub front : (behind : List Tree) → IsLitFront (trees ++ behind) lit behind
   pub same : new.text ≡ old.text
 
@@ -36,15 +40,15 @@ abbrev pub HasNoNumberNext : CursorState → Type 0
 HasNoNumberNext t =
     BeginsNoLexeme (chars t.rest)
     ⊎ ((l : Lexeme) × (new : CursorState) × TakesNext t l new
-    × ((form_view l.form ≢ LiteralForm) ⊎ HasNoReading (45 ∷ chars l.text.now)))
+    × ((form_view l.form ≢ LiteralForm) ⊎ HasNoReading (code "-" ∷ chars l.text.now)))
 
--- A token of this form and text, and what is left behind it, begin no literal: the token is none, no word of a truth
--- value, and no minus before a number.
+-- A token of this form and text, and what is left behind it, begin no literal: the token is none,
+-- no word of a truth value, and no minus before a number.
 abbrev pub BeginsNoLiteral : LexemeForm → List ℕ → CursorState → Type 0
 BeginsNoLiteral LiteralForm text behind = ⊥
 BeginsNoLiteral IdentifierForm text behind = HasNoTruth (chars text)
 BeginsNoLiteral (DelimiterForm c) text behind = ⊤
-BeginsNoLiteral (MarkForm c) text behind = (c ≢ 45) ⊎ HasNoNumberNext behind
+BeginsNoLiteral (MarkForm c) text behind = (c ≢ code "-") ⊎ HasNoNumberNext behind
 
 -- No literal stands next: no token does, or one that begins none.
 abbrev pub HasNoNext : CursorState → Type 0
@@ -54,13 +58,15 @@ HasNoNext t =
     × BeginsNoLiteral (form_view l.form) l.text.now new)
 
 -- The list grows by the literal that is cut off.
-pub record AddsNext {A : Type 0} (file : ℕ) (old : CursorState) (list : List (Lit A)) (new : CursorState) (longer : List (Lit A)) : Type 0 where
+pub record AddsNext {A : Type 0} (file : ℕ) (old : CursorState) (list : List (Lit A))
+    (new : CursorState) (longer : List (Lit A)) : Type 0 where
   pub lit : Lit A
   pub next : ReadsNext file old lit new
   pub longer_is : longer ≡ list ++ lit ∷ []
 
 -- The text up to the rest is these literals, whatever trees stand behind.
-pub record AreReadUpTo {A : Type 0} (text : List ℕ) (file : ℕ) (list : List (Lit A)) (rest : List ℕ) : Type 0 where
+pub record AreReadUpTo {A : Type 0} (text : List ℕ) (file : ℕ) (list : List (Lit A)) (rest : List ℕ)
+    : Type 0 where
   pub trees : List Tree
   pub cuts : LexesTreesUpTo text file trees rest
   pub leads : (behind : List Tree) → ReadsLiterals (trees ++ behind) list behind
@@ -71,6 +77,7 @@ pub record AreBegun {A : Type 0} (text : List ℕ) (file : ℕ) (list : List (Li
   pub read : AreReadUpTo text file list rest
 
 -- The text begins with these literals, which are so many.
-pub record AreFirst {A : Type 0} (text : List ℕ) (file count : ℕ) (list : List (Lit A)) : Type 0 where
+pub record AreFirst {A : Type 0} (text : List ℕ) (file count : ℕ) (list : List (Lit A))
+    : Type 0 where
   pub begun : AreBegun text file list
   pub count_is : length list ≡ count

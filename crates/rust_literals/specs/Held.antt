@@ -1,4 +1,5 @@
--- What the number structs hold beside their token: the digits, and the place where the suffix begins.
+-- What the number structs hold beside their token: the digits, and the place where the suffix
+-- begins.
 use Rattle.std.specs.Prelude.{◌≡◌, ℕ, List, Option, Some, None, take, drop}
 use Rattle.std.specs.Str.{chars, IsCharBoundary}
 use Rattle.rl_tokens.specs.declared.kind.Kind.{Kind}
@@ -6,11 +7,12 @@ use Rattle.rl_tokens.specs.declared.kind.Kind.TheVariants.{Int, Float}
 use Rattle.rl_tokens.specs.Numbers.{FloatReads, float_digits}
 use Rattle.rl_tokens.specs.Reading.{Digits, ReadsInt, HasSuffix}
 
--- The digits of a text, which is a number of the kind. A float is one by the float rule alone, whether or not an integer
--- stands there too.
+-- The digits of a text, which is a number of the kind. A float is one by the float rule alone,
+-- whether or not an integer stands there too.
 abbrev pub HasDigits : Kind → List ℕ → List ℕ → Type 0
 HasDigits Int text digits = (x : List ℕ) × ReadsInt text (Digits digits) x
-HasDigits Float text digits = (numeral x : List ℕ) × FloatReads text numeral x × (digits ≡ float_digits numeral)
+HasDigits Float text digits =
+    (numeral x : List ℕ) × FloatReads text numeral x × (digits ≡ float_digits numeral)
 HasDigits _ text digits = ⊥
 
 -- The suffix of a text, which is of the kind. A float is one by the float rule alone here too.

@@ -1,5 +1,6 @@
 -- The parts of a literal, and what else the calls on one literal say.
 use Rattle.std.specs.Prelude.{◌≡◌, ◌⊎◌, ℕ, List, [], ◌∷◌, Option, Some, None, IsTrue}
+use Prim.Native.Char.{code}
 use Rattle.std.specs.Str.{chars}
 use Rattle.rl_tokens.specs.declared.kind.Kind.TheVariants.{Int as IntKind, Float as FloatKind, Bool as BoolKind}
 use Rattle.rl_tokens.specs.declared.kind.Kind.{Kind}
@@ -25,7 +26,8 @@ ReadsAsNumber text = ReadsAs IntKind text ⊎ ReadsAs FloatKind text
 abbrev pub ReadsPlain : List ℕ → Type 0
 ReadsPlain text = (kind : Kind) × ReadsAs kind (chars text) × IsPlain kind text
 
--- the suffix of a text, which is of this kind; of a truth value, and of what has no reading, there is none
+-- the suffix of a text, which is of this kind; of a truth value, and of what has no reading, there
+-- is none
 abbrev pub IsSuffixAs : Option Kind → List ℕ → List ℕ → Type 0
 IsSuffixAs (Some BoolKind) text x = x ≡ []
 IsSuffixAs (Some kind) text x = HasOwnSuffix kind text x
@@ -42,15 +44,20 @@ pub record IsSameAt {A B : Type 0} (lit : Lit A) (span : Span) (moved : Lit B) :
 
 -- strict as whatever, an integer within the limit, the text reads as the same
 abbrev pub KeepsStrict : List ℕ → Type 0
-KeepsStrict text = (kind : Kind) (contents : Contents) (suffix : List ℕ) → Strict text kind contents suffix → IsWithinLimit kind text → Reads text kind contents suffix
+KeepsStrict text =
+    (kind : Kind) (contents : Contents) (suffix : List ℕ) → Strict text kind contents suffix
+    → IsWithinLimit kind text → Reads text kind contents suffix
 
 -- strict as a number, the text reads behind a minus as the same, with `-` before its digits
 abbrev pub KeepsStrictBehindMinus : List ℕ → Type 0
 KeepsStrictBehindMinus text =
-    (kind : Kind) (digits suffix : List ℕ) → IsTrue (is_number kind) → Strict text kind (Digits digits) suffix → IsWithinLimit kind text
-    → Reads (45 ∷ text) kind (Digits (45 ∷ digits)) suffix
+    (kind : Kind) (digits suffix : List ℕ) → IsTrue (is_number kind)
+    → Strict text kind (Digits digits) suffix → IsWithinLimit kind text
+    → Reads (code "-" ∷ text) kind (Digits (code "-" ∷ digits)) suffix
 
--- what the text is strict as, an integer within the limit, the literal is: of that kind, with those contents and that suffix
+-- what the text is strict as, an integer within the limit, the literal is: of that kind, with those
+-- contents and that suffix
 abbrev pub AgreesWithStrict : {A : Type 0} → List ℕ → Lit A → Type 0
 AgreesWithStrict text lit =
-    (kind : Kind) (contents : Contents) (suffix : List ℕ) → Strict text kind contents suffix → IsWithinLimit kind text → IsLitOf kind contents suffix lit
+    (kind : Kind) (contents : Contents) (suffix : List ℕ) → Strict text kind contents suffix
+    → IsWithinLimit kind text → IsLitOf kind contents suffix lit

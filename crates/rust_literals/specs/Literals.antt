@@ -37,10 +37,12 @@ abbrev pub IsReadAs : Option Kind → List ℕ → Type 0
 IsReadAs (Some kind) text = ReadsAs kind text
 IsReadAs None text = HasNoReading text
 
--- The literal keeps the token, whose text reads as the literal's kind; `Verbatim` where the text has no reading.
+-- The literal keeps the token, whose text reads as the literal's kind; `Verbatim` where the text
+-- has no reading.
 abbrev pub IsReadFrom : {A : Type 0} → SpannedText → Lit A → Type 0
 IsReadFrom token lit = (token_of lit ≡ token) × IsReadAs (kind_of lit) (chars token.text)
 
 -- the literal is of this kind, and its text reads with these contents and this suffix
 abbrev pub IsLitOf : {A : Type 0} → Kind → Contents → List ℕ → Lit A → Type 0
-IsLitOf kind contents suffix lit = (kind_of lit ≡ Some kind) × Reads (chars (token_of lit).text) kind contents suffix
+IsLitOf kind contents suffix lit =
+    (kind_of lit ≡ Some kind) × Reads (chars (token_of lit).text) kind contents suffix

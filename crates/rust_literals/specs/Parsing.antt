@@ -18,7 +18,8 @@ use Rattle.rust_literals.specs.declared.lit_bool.LitBool.{LitBool}
 use Rattle.rust_literals.specs.Literals.{IsReadFrom}
 
 -- The literal begins the trees: it is the one reading of the token there, or `Verbatim`.
-pub record IsLitFront {A : Type 0} (trees : List Tree) (lit : Lit A) (rest : List Tree) : Type 0 where
+pub record IsLitFront {A : Type 0} (trees : List Tree) (lit : Lit A) (rest : List Tree)
+    : Type 0 where
   pub token : SpannedText
   pub front : IsFront trees token rest
   pub read : IsReadFrom token lit
@@ -31,7 +32,8 @@ pub record IsTruthFront (trees : List Tree) (literal : LitBool) (rest : List Tre
   pub span : literal.span ≡ token.span
 
 -- No literal begins the trees, and they stay.
-pub record FindsNone {A : Type 0} (trees : List Tree) (scope : Span) (e : Error A) (rest : List Tree) : Type 0 where
+pub record FindsNone {A : Type 0} (trees : List Tree) (scope : Span) (e : Error A)
+    (rest : List Tree) : Type 0 where
   pub refusal : IsRefusal trees scope (codes "literal") e
   pub none : HasNoFront trees
   pub stays : rest ≡ trees
@@ -39,20 +41,25 @@ pub record FindsNone {A : Type 0} (trees : List Tree) (scope : Span) (e : Error 
 -- what the parser of literals of any kind does
 abbrev pub RunsLit : {A : Type 0} → List Tree → Span → Result (Lit A) (Error A) → List Tree → Type 0
 RunsLit trees scope (Ok lit) rest = IsLitFront trees lit rest
-RunsLit trees scope (Err e) rest = (HasFront trees × LacksMemoryAtFront trees scope e rest) ⊎ FindsNone trees scope e rest
+RunsLit trees scope (Err e) rest =
+    (HasFront trees × LacksMemoryAtFront trees scope e rest) ⊎ FindsNone trees scope e rest
 
 -- what the parser of truth values does
-abbrev pub RunsTruth : {A : Type 0} → List Tree → Span → Result LitBool (Error A) → List Tree → Type 0
+abbrev pub RunsTruth : {A : Type 0} → List Tree → Span → Result LitBool (Error A) → List Tree
+    → Type 0
 RunsTruth trees scope (Ok literal) rest = IsTruthFront trees literal rest
-RunsTruth trees scope (Err e) rest = PassesOther BoolKind (codes "boolean literal") trees scope e rest
+RunsTruth trees scope (Err e) rest =
+    PassesOther BoolKind (codes "boolean literal") trees scope e rest
 
 -- These literals begin the trees one after another, and the rest stands behind them.
 abbrev pub ReadsLiterals : {A : Type 0} → List Tree → List (Lit A) → List Tree → Type 0
 ReadsLiterals trees [] rest = trees ≡ rest
-ReadsLiterals trees (l ∷ ls) rest = (after : List Tree) × IsLitFront trees l after × ReadsLiterals after ls rest
+ReadsLiterals trees (l ∷ ls) rest =
+    (after : List Tree) × IsLitFront trees l after × ReadsLiterals after ls rest
 
 -- Literals lead to trees that no literal begins: these are refused.
-pub record RefusesNextLiteral {A : Type 0} (trees : List Tree) (scope : Span) (e : Error A) : Type 0 where
+pub record RefusesNextLiteral {A : Type 0} (trees : List Tree) (scope : Span) (e : Error A)
+    : Type 0 where
   pub list : List (Lit A)
   pub rest : List Tree
   pub leads : ReadsLiterals trees list rest
@@ -74,10 +81,12 @@ pub record AreRead {A : Type 0} (text : List ℕ) (file : ℕ) (list : List (Lit
   pub leads : ReadsLiterals trees list []
 
 -- The text is cut into trees, and this is refused of them.
-pub record RefusesLiteralTrees {A : Type 0} (text : List ℕ) (file end : ℕ) (e : Error A) : Type 0 where
+pub record RefusesLiteralTrees {A : Type 0} (text : List ℕ) (file end : ℕ) (e : Error A)
+    : Type 0 where
   pub trees : List Tree
   pub lexes : Lexes text file trees
-  pub refused : RefusesNextLiteral trees (record { file = file; lo = end; hi = end }) e ⊎ LacksMemory trees (record { file = file; lo = end; hi = end }) e
+  pub refused : RefusesNextLiteral trees (record { file = file; lo = end; hi = end }) e
+      ⊎ LacksMemory trees (record { file = file; lo = end; hi = end }) e
 
 -- what `read_all` refuses of a text of this length
 abbrev pub RefusesText : {A : Type 0} → List ℕ → ℕ → ℕ → Error A → Type 0

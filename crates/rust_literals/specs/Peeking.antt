@@ -10,9 +10,14 @@ abbrev pub SucceedsOrMemory : {T A : Type 0} → Result T (Error A) → Type 0
 SucceedsOrMemory (Ok value) = ⊤
 SucceedsOrMemory (Err e) = e.kind ≡ Memory
 
--- A peek is true exactly before the trees on which the parser answers a value, if memory is found; before others the
--- parser wants no memory.
-pub record PeekTells {T A : Type 0} (runs : List Tree → Span → Result T (Error A) → List Tree → Type 0) (peeks : List Tree → Type 0) : Type 0 where
-  pub finds : (trees : List Tree) (scope : Span) (answer : Result T (Error A)) (rest : List Tree) → runs trees scope answer rest → peeks trees → SucceedsOrMemory answer
-  pub only : (trees : List Tree) (scope : Span) (value : T) (rest : List Tree) → runs trees scope (Ok value) rest → peeks trees
-  pub wants : (trees : List Tree) (scope : Span) (e : Error A) (rest : List Tree) → runs trees scope (Err e) rest → e.kind ≡ Memory → peeks trees
+-- A peek is true exactly before the trees on which the parser answers a value, if memory is found;
+-- before others the parser wants no memory.
+pub record PeekTells {T A : Type 0}
+    (runs : List Tree → Span → Result T (Error A) → List Tree → Type 0) (peeks : List Tree → Type 0)
+    : Type 0 where
+  pub finds : (trees : List Tree) (scope : Span) (answer : Result T (Error A)) (rest : List Tree)
+      → runs trees scope answer rest → peeks trees → SucceedsOrMemory answer
+  pub only : (trees : List Tree) (scope : Span) (value : T) (rest : List Tree)
+      → runs trees scope (Ok value) rest → peeks trees
+  pub wants : (trees : List Tree) (scope : Span) (e : Error A) (rest : List Tree)
+      → runs trees scope (Err e) rest → e.kind ≡ Memory → peeks trees

@@ -8,7 +8,8 @@ use Rattle.rl_tokens.specs.Reading.{HasNoInteger}
 use Rattle.rl_tokens.specs.Reading.{IsPast, HasNoFloat}
 use Rattle.rl_grammar.specs.NumberShapes.{IsNumber}
 
--- why the text is no number of the kind: no integer stands there, or one past 128 bits does; no float stands there
+-- why the text is no number of the kind: no integer stands there, or one past 128 bits does; no
+-- float stands there
 abbrev pub IsNoNumber : {A : Type 0} → Kind → List ℕ → ErrorKind A → Type 0
 IsNoNumber Int text NotInteger = HasNoInteger text
 IsNoNumber Int text TooLarge = IsPast text

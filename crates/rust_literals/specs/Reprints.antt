@@ -26,9 +26,10 @@ spaced_text (s ∷ ss) last = s.gap ++ (lit_text s.lit ++ spaced_text ss last)
 abbrev pub lits_of : {A : Type 0} → List (Spaced A) → List (Lit A)
 lits_of spaced = map (λ s. s.lit) spaced
 
--- The text is gap, literal, gap, .., literal, gap, each gap trivia, where the literals are those of some text. The
--- first gap and the last may be empty; one between two literals isn't.
-pub record IsReprint {A : Type 0} (t : List ℕ) (spaced : List (Spaced A)) (last : List ℕ) : Type 0 where
+-- The text is gap, literal, gap, .., literal, gap, each gap trivia, where the literals are those of
+-- some text. The first gap and the last may be empty; one between two literals isn't.
+pub record IsReprint {A : Type 0} (t : List ℕ) (spaced : List (Spaced A)) (last : List ℕ)
+    : Type 0 where
   pub gaps : AllByRecursion (λ s. IsTrivia s.gap) spaced
   pub apart : AllByRecursion (λ s. s.gap ≢ []) (drop 1 spaced)
   pub last_gap : IsTrivia last

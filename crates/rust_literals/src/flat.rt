@@ -72,7 +72,8 @@ fn take_next<A: Allocator + Copy>(
     tokens: &mut Tokens<'_>,
     file: u32,
 ) -> Result<Option<Lit<A>>, AllocError>
-    ensures next { IfOk result (λ lit. IfSome lit (λ lit. ReadsNext file tokens.old lit tokens.new)) }
+    ensures next { IfOk result
+        (λ lit. IfSome lit (λ lit. ReadsNext file tokens.old lit tokens.new)) }
     ensures shorter { IfOk result
         (λ lit. OnSome lit (length tokens.new.rest < length tokens.old.rest)) }
     ensures none { IfOk result (λ lit. IfNone lit (HasNoNext tokens.old)) }

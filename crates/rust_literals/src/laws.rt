@@ -17,7 +17,8 @@ use std::alloc::Allocator;
 pub fn peeks_tell<A: Allocator>()
     ensures literal { PeekTells (RunsLit {A = A}) HasFront }
     ensures truth { PeekTells (RunsTruth {A = A}) (HasFrontOf BoolKind) }
-    ensures typed { (kind : Kind) (word : List ℕ) → PeekTells (RunsAs {A = A} kind word) (HasFrontOf kind) }
+    ensures typed { (kind : Kind) (word : List ℕ)
+        → PeekTells (RunsAs {A = A} kind word) (HasFrontOf kind) }
 {}
 
 /// A literal is told by its kind and its token: a copy, and a literal at another place, is told by them whole.

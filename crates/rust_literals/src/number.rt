@@ -49,7 +49,8 @@ fn own_digits<A: Allocator>(
 ) -> Result<Option<String<A>>, Error<A>>
     requires { IsFoundNumber text.now found }
     ensures held { IfOk result (λ d. HoldsNumber found.kind text.now
-        (digits_in (option_map string_bytes d) text.now found.body.suffix_at) found.body.suffix_at) }
+        (digits_in (option_map string_bytes d) text.now found.body.suffix_at)
+        found.body.suffix_at) }
     ensures lent { IfErr result (λ e. IsPlain found.kind text.now → ⊥) }
     ensures number { IsNumber found.kind (chars text.now) }
 {
@@ -81,7 +82,8 @@ impl<K: NumberKind, A: Allocator> Model for Number<K, A> {
 
     ghost view = { λ l. l.token };
 
-    ghost invariant = { λ l. HoldsNumber K.KIND l.token.text (digits_in (option_map string_bytes l.digits) l.token.text l.suffix_at) l.suffix_at };
+    ghost invariant = { λ l. HoldsNumber K.KIND l.token.text
+        (digits_in (option_map string_bytes l.digits) l.token.text l.suffix_at) l.suffix_at };
 }
 
 impl<K: NumberKind, A: Allocator + Copy> Number<K, A> {
@@ -95,7 +97,8 @@ impl<K: NumberKind, A: Allocator + Copy> Number<K, A> {
     pub fn new(alloc: A, repr: &str, span: Span) -> Result<Number<K, A>, Error<A>>
         ensures ok { IfOk result (λ l. l ≡ record { text = repr.now; span = span }) }
         ensures reads { OnOk result (IsNumber K.KIND (chars repr.now)) }
-        ensures err { IfErr result (λ e. (e.span ≡ span) × IsRefusedAs K.KIND (chars repr.now) e.kind) }
+        ensures err { IfErr result
+            (λ e. (e.span ≡ span) × IsRefusedAs K.KIND (chars repr.now) e.kind) }
     {
         let found = match K::find(repr) {
             Ok(found) => found,
@@ -123,7 +126,8 @@ impl<K: NumberKind, A: Allocator> Number<K, A> {
         ensures reads { OnOk result (IsNumber K.KIND (chars token.text)) }
         ensures kept { IfErr result (λ k. k.value ≡ token) }
         ensures err { IfErr result
-            (λ k. (k.error.span ≡ token.span) × IsRefusedAs K.KIND (chars token.text) k.error.kind) }
+            (λ k. (k.error.span ≡ token.span)
+            × IsRefusedAs K.KIND (chars token.text) k.error.kind) }
         ensures lent { IfErr result (λ k. IsPlain K.KIND token.text → ⊥) }
     {
         match K::find(token.text()) {
@@ -141,8 +145,9 @@ impl<K: NumberKind, A: Allocator> Number<K, A> {
         }
     }
 
-    /// The literal of this token, in whose text this number of the kind was found. Want of memory for digits that aren't
-    /// the body is told at the token's span; the token is handed back.
+    /// The literal of this token, in whose text this number of the kind was found. Running out of
+    /// memory for digits that aren't the body is reported at the token's span; the token is handed
+    /// back.
     #[inline(always)]
     pub(crate) fn of_found(
         alloc: A,

@@ -36,10 +36,13 @@ fn read_on<A: Allocator + Copy>(
     mut list: Vec<Lit<A>, A>,
 ) -> Result<Vec<Lit<A>, A>, Error<A>>
     // Whatever trees the list led through to these, behind literals that were let go.
-    ensures read { (all : List Tree) (gone : List (Lit A)) → ReadsLiterals all (gone ++ list.items) (trees_in input.old)
+    ensures read { (all : List Tree) (gone : List (Lit A))
+        → ReadsLiterals all (gone ++ list.items) (trees_in input.old)
         → IfOk result (λ found. ReadsLiterals all (gone ++ found.items) []) }
-    ensures refused { (all : List Tree) (gone : List (Lit A)) → ReadsLiterals all (gone ++ list.items) (trees_in input.old)
-        → IfErr result (λ e. RefusesNextLiteral all (scope_of input.old) e ⊎ LacksMemory all (scope_of input.old) e) }
+    ensures refused { (all : List Tree) (gone : List (Lit A))
+        → ReadsLiterals all (gone ++ list.items) (trees_in input.old)
+        → IfErr result (λ e. RefusesNextLiteral all (scope_of input.old) e
+        ⊎ LacksMemory all (scope_of input.old) e) }
 {
     while !input.is_empty() {
         let literal = input.parse::<Lit<A>>(alloc)?;
@@ -50,9 +53,10 @@ fn read_on<A: Allocator + Copy>(
     Ok(list)
 }
 
-/// Why a text isn't cut, as a refusal: the fault at its byte; want of memory there too.
+/// Why a text isn't cut, as a refusal: the fault at its byte; running out of memory there too.
 fn refusal_of<A: Allocator>(fault: LexError, file: u32) -> Error<A>
-    ensures { result ≡ lex_refusal fault.kind (record { file = file; lo = fault.at; hi = fault.at }) }
+    ensures { result
+        ≡ lex_refusal fault.kind (record { file = file; lo = fault.at; hi = fault.at }) }
 {
     Error::of_lexer(fault.kind, Span::new(file, fault.at, fault.at))
 }
@@ -67,7 +71,8 @@ fn read_from<A: Allocator + Copy>(
 ) -> Result<Vec<Lit<A>, A>, Error<A>>
     ensures read { (gone : List (Lit A)) → AreFirst (chars text.now) file count (gone ++ list.items)
         → IfOk result (λ found. AreRead (chars text.now) file (gone ++ found.items)) }
-    ensures refused { (gone : List (Lit A)) → AreFirst (chars text.now) file count (gone ++ list.items)
+    ensures refused { (gone : List (Lit A))
+        → AreFirst (chars text.now) file count (gone ++ list.items)
         → IfErr result (RefusesText (chars text.now) file (length text.now)) }
 {
     let stream = match lex(alloc, text, file) {
@@ -137,7 +142,8 @@ pub fn read_all<A: Allocator + Copy>(
     ensures printed { (entries : List Entry) (last : List ℕ) → Printed (chars text.now) entries last
         → HoldsOrMemory (AreItems file 0 entries) result }
     // The texts of literals that were read once, strict or not, read as the same, whatever trivia stands between them.
-    ensures again { (spaced : List (Spaced A)) (last : List ℕ) → IsReprint (chars text.now) spaced last
+    ensures again { (spaced : List (Spaced A)) (last : List ℕ)
+        → IsReprint (chars text.now) spaced last
         → HoldsOrMemory (SameButSpans (lits_of spaced)) result }
 {
     match read_flat(alloc, text, file) {

@@ -105,8 +105,8 @@ fn take_next<'a, A: Allocator + Copy>(
     Ok(entry)
 }
 
-/// Takes attributes up to the end. A refusal may leave the buffer behind what was taken, and tells want of memory
-/// wherever it was met.
+/// Takes attributes up to the end. A refusal may leave the buffer behind what was taken, and
+/// reports running out of memory wherever it was met.
 fn take_all<A: Allocator + Copy>(
     alloc: A,
     input: &mut ParseBuffer<'_, A>,
@@ -130,7 +130,7 @@ fn take_all<A: Allocator + Copy>(
     Ok(Attrs { entries })
 }
 
-/// The refusal, but want of memory at this place.
+/// The refusal, but running out of memory at this place.
 fn told_at<A: Allocator>(error: Error<A>, place: Span) -> Error<A>
     ensures { result ≡ reported_at error place }
 {
@@ -146,8 +146,8 @@ fn told_at<A: Allocator>(error: Error<A>, place: Span) -> Error<A>
 /// # Errors
 ///
 /// Reading goes from left to right, and what is missed first is refused by its word: `identifier`, `` `=` ``,
-/// `literal`, or `` `,` ``; before its `=`, a name that stood before as `Repeated`, at the name. Want of memory is
-/// told at the first tree. The buffer stays.
+/// `literal`, or `` `,` ``; before its `=`, a name that stood before as `Repeated`, at the name. Running out of memory
+/// is reported at the first tree. The buffer stays.
 impl<A: Allocator + Copy> Parse<A> for Attrs<A> {
     ghost use Rattle.rl_attributes.specs.AttributeParsing.{RunsAttrs};
 
@@ -166,9 +166,9 @@ impl<A: Allocator + Copy> Parse<A> for Attrs<A> {
 ///
 /// # Errors
 ///
-/// The lexer's fault as `Lex`, with the span of no bytes at its place, and its want of memory as
-/// `Memory` there; else what the parser of [`Attrs`] refuses, which tells the text's end by the
-/// span of no bytes there.
+/// The lexer's fault as `Lex`, with the span of no bytes at its place, and its running out of
+/// memory as `Memory` there; else what the parser of [`Attrs`] refuses, which tells the text's end
+/// by the span of no bytes there.
 ///
 /// # Example
 ///

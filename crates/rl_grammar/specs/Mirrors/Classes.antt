@@ -1,6 +1,6 @@
 -- A mirror of the code, for proofs alone: classes of characters that are skipped as far as they go.
 use Rattle.std.specs.Prelude.{ℕ, Bool, ◌==◌, ◌&&◌, ◌||◌, nat_lt, nat_le}
-use Rattle.rl_tokens.specs.Characters.{hash_sign}
+use Prim.Native.Char.{code}
 use Rattle.rl_tokens.specs.declared.kind.Kind.{Kind}
 use Rattle.rl_tokens.specs.declared.kind.Kind.TheVariants.{ByteStr}
 use Rattle.rl_tokens.specs.Texts.{is_underscore}
@@ -12,7 +12,7 @@ use Rattle.rl_grammar.specs.declared.classes.Class.{Class}
 use Rattle.rl_grammar.specs.declared.classes.Class.TheVariants.{Hash, Underscore, Blank, StrictBlank}
 
 abbrev pub class_test : Class → ℕ → Bool
-class_test Hash = λ c. c == hash_sign
+class_test Hash = λ c. c == code "#"
 class_test Underscore = is_underscore
 class_test Blank = is_blank
 class_test StrictBlank = is_dropped_blank

@@ -2,10 +2,10 @@
 use Rattle.std.specs.Prelude.{◌≡◌, IsTrue, ℕ, ◌+◌, ◌*◌, ◌==◌, ◌||◌, ◌&&◌, not, Bool, true, false, List, [], ◌∷◌, Option, Some, None, nat_lt, nat_le, if◌then◌else◌}
 use Rattle.std.specs.Char.{digit_value, is_ascii_digit}
 use Rattle.std.specs.List.{list_any}
-use Rattle.rl_tokens.specs.Characters.{plus_sign, minus_sign, full_stop, digit_zero, underscore, letter_b, letter_o, letter_x}
-use Rattle.rl_tokens.specs.Texts.{first_passes, is_underscore, xid_ok}
+use Prim.Native.Char.{code}
+use Rattle.rl_tokens.specs.Texts.{first_passes, is_underscore, xid_ok, is_row_part}
 use Rattle.rl_tokens.specs.Quoted.{place_value, without_underscores}
-use Rattle.rl_tokens.specs.Numbers.{Sign, NoSign, Minus, limit, is_exponent_letter, is_row_part}
+use Rattle.rl_tokens.specs.Numbers.{Sign, NoSign, Minus, limit, is_exponent_letter}
 
 -- the characters at the front that pass the test, and what follows them
 unfoldable pub run : (ℕ → Bool) → List ℕ → List ℕ
@@ -27,17 +27,19 @@ abbrev pub append_digit : ℕ → Option ℕ → ℕ → Option ℕ
 append_digit radix None d = None
 append_digit radix (Some v) d = capped (v * radix + d)
 
--- digits and underscores from here on: whether there was a digit, the number within the limit, and what follows
+-- digits and underscores from here on: whether there was a digit, the number within the limit, and
+-- what follows
 unfoldable pub row_from : ℕ → Bool → Option ℕ → List ℕ → Bool × Option ℕ × List ℕ
 row_from radix some m [] = (some, m, [])
 row_from radix some m (c ∷ cs) =
-    if c == underscore then row_from radix some m cs
-    else (if nat_lt (digit_value c) radix then row_from radix true (append_digit radix m (digit_value c)) cs
+    if c == code "_" then row_from radix some m cs
+    else (if nat_lt (digit_value c) radix
+    then row_from radix true (append_digit radix m (digit_value c)) cs
     else (some, m, c ∷ cs))
 
 -- the same by what stands there
 abbrev pub digit_row_at : ℕ → List ℕ → List ℕ
-digit_row_at radix t = run (is_row_part radix) t
+digit_row_at radix t = run (is_row_part (has_value radix)) t
 
 abbrev pub has_digit_at : ℕ → List ℕ → Bool
 has_digit_at radix t = list_any (has_value radix) (digit_row_at radix t)
@@ -46,7 +48,7 @@ abbrev pub magnitude_at : ℕ → List ℕ → ℕ
 magnitude_at radix t = place_value radix (without_underscores (digit_row_at radix t))
 
 abbrev pub after_digits : ℕ → List ℕ → List ℕ
-after_digits radix t = after_run (is_row_part radix) t
+after_digits radix t = after_run (is_row_part (has_value radix)) t
 
 -- nothing, or an identifier that doesn't begin with `_`
 abbrev pub is_suffix : List ℕ → Bool
@@ -56,25 +58,28 @@ is_suffix (c ∷ cs) = not (is_underscore c) && xid_ok (c ∷ cs)
 -- the suffix makes a decimal integer an exponent
 unfoldable pub is_exponent_suffix : List ℕ → Bool
 is_exponent_suffix [] = false
-is_exponent_suffix (c ∷ cs) = is_exponent_letter c && (has_digit_at 10 cs && is_suffix (after_digits 10 cs))
+is_exponent_suffix (c ∷ cs) =
+    is_exponent_letter c && (has_digit_at 10 cs && is_suffix (after_digits 10 cs))
 
 abbrev pub after_minus : List ℕ → List ℕ
 after_minus [] = []
-after_minus (c ∷ cs) = if c == minus_sign then cs else (c ∷ cs)
+after_minus (c ∷ cs) = if c == code "-" then cs else (c ∷ cs)
 
 abbrev pub sign_at : List ℕ → Sign
 sign_at [] = NoSign
-sign_at (c ∷ cs) = if c == minus_sign then Minus else NoSign
+sign_at (c ∷ cs) = if c == code "-" then Minus else NoSign
 
 -- the base that a letter behind a zero names
 abbrev pub radix_of : ℕ → ℕ
-radix_of c = if c == letter_b then 2 else (if c == letter_o then 8 else (if c == letter_x then 16 else 10))
+radix_of c =
+    if c == code "b" then 2 else (if c == code "o" then 8 else (if c == code "x" then 16 else 10))
 
 -- the base, and what stands behind its prefix
 unfoldable pub radix_at : List ℕ → ℕ × List ℕ
 radix_at [] = (10, [])
 radix_at (z ∷ []) = (10, z ∷ [])
-radix_at (z ∷ c ∷ cs) = if z == digit_zero && not (radix_of c == 10) then (radix_of c, cs) else (10, z ∷ c ∷ cs)
+radix_at (z ∷ c ∷ cs) =
+    if z == code "0" && not (radix_of c == 10) then (radix_of c, cs) else (10, z ∷ c ∷ cs)
 
 -- what base ten asks besides: a digit in front, and no exponent behind
 abbrev pub may_begin : ℕ → List ℕ → Bool
@@ -95,7 +100,8 @@ with_sign sign (Some p) = Some (sign, p.0, p.1)
 
 -- the sign, magnitude and suffix of an integer
 unfoldable pub int_at : List ℕ → Option (Sign × ℕ × List ℕ)
-int_at t = with_sign (sign_at t) (based_at (radix_at (after_minus t)).0 (radix_at (after_minus t)).1)
+int_at t =
+    with_sign (sign_at t) (based_at (radix_at (after_minus t)).0 (radix_at (after_minus t)).1)
 
 -- the same, the magnitude within the limit
 abbrev pub capped_based : Option (ℕ × List ℕ) → Option (Option ℕ × List ℕ)
@@ -106,9 +112,10 @@ abbrev pub capped_int : Option (Sign × ℕ × List ℕ) → Option (Option ℕ 
 capped_int None = None
 capped_int (Some p) = Some (capped p.1, p.2)
 
--- What stands behind the sign begins with a digit, has this base, and behind its prefix this row: whether there is a
--- digit, the number within the limit, and what follows.
-pub record IsHead (unsigned : List ℕ) (radix : ℕ) (some : Bool) (magnitude : Option ℕ) (rest : List ℕ) : Type 0 where
+-- What stands behind the sign begins with a digit, has this base, and behind its prefix this row:
+-- whether there is a digit, the number within the limit, and what follows.
+pub record IsHead (unsigned : List ℕ) (radix : ℕ) (some : Bool) (magnitude : Option ℕ)
+    (rest : List ℕ) : Type 0 where
   pub first : IsTrue (first_passes is_ascii_digit unsigned)
   pub base : radix ≡ (radix_at unsigned).0
   pub has_digit : some ≡ has_digit_at (radix_at unsigned).0 (radix_at unsigned).1
@@ -122,11 +129,11 @@ ended_at radix some m x = if some && may_end radix x then Some (m, x) else None
 -- what follows a dot and its digits, or the text
 abbrev pub after_fraction : List ℕ → List ℕ
 after_fraction [] = []
-after_fraction (c ∷ cs) = if c == full_stop then after_digits 10 cs else (c ∷ cs)
+after_fraction (c ∷ cs) = if c == code "." then after_digits 10 cs else (c ∷ cs)
 
 abbrev pub after_power_sign : List ℕ → List ℕ
 after_power_sign [] = []
-after_power_sign (c ∷ cs) = if c == plus_sign || c == minus_sign then cs else (c ∷ cs)
+after_power_sign (c ∷ cs) = if c == code "+" || c == code "-" then cs else (c ∷ cs)
 
 -- the digits of a power, behind its letter
 unfoldable pub power_at : List ℕ → List ℕ
@@ -135,14 +142,19 @@ power_at t = after_power_sign (after_run is_underscore t)
 -- what follows an exponent, or the text
 unfoldable pub after_exponent : List ℕ → List ℕ
 after_exponent [] = []
-after_exponent (c ∷ cs) = if is_exponent_letter c && has_digit_at 10 (power_at cs) then after_digits 10 (power_at cs) else (c ∷ cs)
+after_exponent (c ∷ cs) =
+    if is_exponent_letter c && has_digit_at 10 (power_at cs) then after_digits 10 (power_at cs)
+    else (c ∷ cs)
 
 -- the suffix of a float, by what follows its whole part
 abbrev pub float_tail_at : List ℕ → Option (List ℕ)
-float_tail_at t = if is_suffix (after_exponent (after_fraction t)) then Some (after_exponent (after_fraction t)) else None
+float_tail_at t =
+    if is_suffix (after_exponent (after_fraction t)) then Some (after_exponent (after_fraction t))
+    else None
 
 -- the suffix of a float
 unfoldable pub float_at : List ℕ → Option (List ℕ)
 float_at t =
-    if first_passes is_ascii_digit (after_minus t) && is_suffix (after_exponent (after_fraction (after_digits 10 (after_minus t))))
+    if first_passes is_ascii_digit (after_minus t)
+    && is_suffix (after_exponent (after_fraction (after_digits 10 (after_minus t))))
     then Some (after_exponent (after_fraction (after_digits 10 (after_minus t)))) else None

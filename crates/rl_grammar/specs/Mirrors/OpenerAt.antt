@@ -1,6 +1,6 @@
 -- A mirror of the code, for proofs alone: which form of quoted literal the front of a text tells.
 use Rattle.std.specs.Prelude.{ℕ, ◌==◌, List, [], ◌∷◌, Option, Some, None, if◌then◌else◌}
-use Rattle.rl_tokens.specs.Characters.{double_quote, hash_sign, single_quote, letter_b, letter_c, letter_r}
+use Prim.Native.Char.{code}
 use Rattle.rl_tokens.specs.declared.kind.Kind.{Kind}
 use Rattle.rl_tokens.specs.declared.kind.Kind.TheVariants.{Str, ByteStr, CStr, Byte, Char}
 use Rattle.rl_grammar.specs.declared.quoted.QuotedForm.{QuotedForm}
@@ -15,18 +15,25 @@ found_opener form kind rest = Some (form, kind, rest)
 -- a quote or an `r`, which tell a string of the kind
 abbrev pub string_opener_at : Kind → List ℕ → FoundOpener
 string_opener_at kind [] = None
-string_opener_at kind (c ∷ cs) = if c == double_quote then found_opener CookedForm kind cs else (if c == letter_r then found_opener RawForm kind cs else None)
+string_opener_at kind (c ∷ cs) =
+    if c == code "\"" then found_opener CookedForm kind cs
+    else (if c == code "r" then found_opener RawForm kind cs else None)
 
 abbrev pub byte_opener_at : List ℕ → FoundOpener
 byte_opener_at [] = None
-byte_opener_at (c ∷ cs) = if c == single_quote then found_opener SingleForm Byte cs else string_opener_at ByteStr (c ∷ cs)
+byte_opener_at (c ∷ cs) =
+    if c == code "'" then found_opener SingleForm Byte cs else string_opener_at ByteStr (c ∷ cs)
 
 -- what a text's front tells: a form, a kind, and the text behind the opener
 unfoldable pub opener_at : List ℕ → FoundOpener
 opener_at [] = None
-opener_at (c ∷ cs) = if c == single_quote then found_opener SingleForm Char cs else (if c == letter_b then byte_opener_at cs else (if c == letter_c then string_opener_at CStr cs else string_opener_at Str (c ∷ cs)))
+opener_at (c ∷ cs) =
+    if c == code "'" then found_opener SingleForm Char cs
+    else (if c == code "b" then byte_opener_at cs
+    else (if c == code "c" then string_opener_at CStr cs
+    else string_opener_at Str (c ∷ cs)))
 
 -- what is left behind the hashes at the front
 unfoldable pub after_hashes : List ℕ → List ℕ
 after_hashes [] = []
-after_hashes (c ∷ cs) = if c == hash_sign then after_hashes cs else (c ∷ cs)
+after_hashes (c ∷ cs) = if c == code "#" then after_hashes cs else (c ∷ cs)

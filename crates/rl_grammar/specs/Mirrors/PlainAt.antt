@@ -2,14 +2,15 @@
 use Rattle.std.specs.Prelude.{ℕ, Bool, false, not, ◌==◌, ◌||◌, ◌&&◌, List, [], ◌∷◌}
 use Rattle.std.specs.Char.{is_ascii_digit}
 use Rattle.std.specs.List.{list_all}
-use Rattle.rl_tokens.specs.Characters.{plus_sign, digit_zero, capital_e, underscore}
+use Prim.Native.Char.{code}
 use Rattle.rl_grammar.specs.Mirrors.NumberAt.{after_minus}
 use Rattle.rl_grammar.specs.Mirrors.StrictAt.{is_some_text}
 
 -- decimal digits, with no needless zero in front
 abbrev pub is_plain_digits : List ℕ → Bool
 is_plain_digits [] = false
-is_plain_digits (d ∷ ds) = list_all is_ascii_digit (d ∷ ds) && (not (d == digit_zero) || not (is_some_text ds))
+is_plain_digits (d ∷ ds) =
+    list_all is_ascii_digit (d ∷ ds) && (not (d == code "0") || not (is_some_text ds))
 
 -- the same, perhaps behind a minus
 abbrev pub is_plain_integer : List ℕ → Bool
@@ -17,7 +18,7 @@ is_plain_integer body = is_plain_digits (after_minus body)
 
 -- a character that a float's digits keep as it is
 abbrev pub is_kept : ℕ → Bool
-is_kept c = not ((c == underscore || c == plus_sign) || c == capital_e)
+is_kept c = not ((c == code "_" || c == code "+") || c == code "E")
 
 abbrev pub is_plain_float : List ℕ → Bool
 is_plain_float body = list_all is_kept body

@@ -1,8 +1,9 @@
--- A mirror of the code, for proofs alone: the unit at the front of a text between quotes, as a program on characters.
+-- A mirror of the code, for proofs alone: the unit at the front of a text between quotes, as a
+-- program on characters.
 use Rattle.std.specs.Prelude.{ℕ, ◌+◌, ◌*◌, ◌==◌, ◌||◌, ◌&&◌, Bool, not, List, [], ◌∷◌, Option, Some, None, option_and_then, nat_lt, if◌then◌else◌, IsTrue, ⊤}
 use Rattle.std.specs.Char.{digit_value}
 use Rattle.std.proofs.Math.Utf8.{scalar}
-use Rattle.rl_tokens.specs.Characters.{tab, line_feed, carriage_return, double_quote, single_quote, digit_zero, back_slash, underscore, letter_n, letter_r, letter_t, letter_u, letter_x, open_brace, close_brace}
+use Prim.Native.Char.{code}
 use Rattle.rl_tokens.specs.declared.kind.Kind.{Kind}
 use Rattle.rl_tokens.specs.Quoted.{content_of, holds_characters, is_blank, is_line_end, is_string, is_plain, allows_code, may_be_hex, has_unicode}
 use Rattle.rl_grammar.specs.declared.units.Piece.{Piece}
@@ -33,7 +34,14 @@ found value rest = Some (value, rest)
 
 -- what a backslash and one letter stand for
 abbrev pub named_of : ℕ → Option ℕ
-named_of c = if c == letter_n then Some line_feed else (if c == letter_r then Some carriage_return else (if c == letter_t then Some tab else (if c == back_slash then Some back_slash else (if c == single_quote then Some single_quote else (if c == double_quote then Some double_quote else (if c == digit_zero then Some 0 else None))))))
+named_of c =
+    if c == code "n" then Some (code "\n")
+    else (if c == code "r" then Some (code "\r")
+    else (if c == code "t" then Some (code "\t")
+    else (if c == code "\\" then Some (code "\\")
+    else (if c == code "'" then Some (code "'")
+    else (if c == code "\"" then Some (code "\"")
+    else (if c == code "0" then Some 0 else None))))))
 
 -- and where the kind holds it
 abbrev pub named_in : Kind → ℕ → Option ℕ
@@ -57,12 +65,17 @@ hex_at kind t = do
 -- the digits and underscores up to the closing brace, behind n digits that spell v
 unfoldable pub unicode_digits_at : ℕ → ℕ → List ℕ → Option (ℕ × List ℕ)
 unicode_digits_at v n [] = None
-unicode_digits_at v n (c ∷ cs) = if c == close_brace then number_if (scalar v) v cs else (if c == underscore then unicode_digits_at v n cs else (if nat_lt (digit_value c) 16 && nat_lt n 6 then unicode_digits_at (v * 16 + digit_value c) (n + 1) cs else None))
+unicode_digits_at v n (c ∷ cs) =
+    if c == code "}" then number_if (scalar v) v cs
+    else (if c == code "_" then unicode_digits_at v n cs
+    else (if nat_lt (digit_value c) 16 && nat_lt n 6
+    then unicode_digits_at (v * 16 + digit_value c) (n + 1) cs
+    else None))
 
 -- an opening brace at the front
 abbrev pub brace_at : List ℕ → Option (List ℕ)
 brace_at [] = None
-brace_at (c ∷ cs) = if c == open_brace then Some cs else None
+brace_at (c ∷ cs) = if c == code "{" then Some cs else None
 
 -- what follows \u
 unfoldable pub unicode_at : Kind → List ℕ → Option (ℕ × List ℕ)
@@ -80,14 +93,22 @@ after_blanks (c ∷ cs) = if is_blank c then after_blanks cs else (c ∷ cs)
 -- what stands behind a backslash
 unfoldable pub escape_at : Kind → List ℕ → Option (List ℕ × List ℕ)
 escape_at kind [] = None
-escape_at kind (c ∷ cs) = if c == letter_x then (hex_at kind cs >>= λ p. found (p.0 ∷ []) p.1) else (if c == letter_u then (unicode_at kind cs >>= λ p. found (content_of kind (p.0 ∷ [])) p.1) else (if is_line_end c then (if is_string kind then found [] (after_blanks cs) else None) else named_at kind c cs))
+escape_at kind (c ∷ cs) =
+    if c == code "x" then (hex_at kind cs >>= λ p. found (p.0 ∷ []) p.1)
+    else (if c == code "u" then (unicode_at kind cs >>= λ p. found (content_of kind (p.0 ∷ [])) p.1)
+    else (if is_line_end c then (if is_string kind then found [] (after_blanks cs) else None)
+    else named_at kind c cs))
 
 -- the LF of a line end of two characters
 abbrev pub line_feed_at : Kind → List ℕ → Option (List ℕ × List ℕ)
 line_feed_at kind [] = None
-line_feed_at kind (c ∷ cs) = if is_string kind && c == line_feed then found (line_feed ∷ []) cs else None
+line_feed_at kind (c ∷ cs) =
+    if is_string kind && c == code "\n" then found (code "\n" ∷ []) cs else None
 
 -- the unit at the front: what it stands for in a literal of the kind, and the text behind it
 unfoldable pub unit_at : Kind → List ℕ → Option (List ℕ × List ℕ)
 unit_at kind [] = None
-unit_at kind (c ∷ cs) = if c == back_slash then escape_at kind cs else (if is_plain kind c then found (content_of kind (c ∷ [])) cs else (if c == carriage_return then line_feed_at kind cs else None))
+unit_at kind (c ∷ cs) =
+    if c == code "\\" then escape_at kind cs
+    else (if is_plain kind c then found (content_of kind (c ∷ [])) cs
+    else (if c == code "\r" then line_feed_at kind cs else None))

@@ -95,8 +95,10 @@ fn is_raw_character(kind: Kind, c: char) -> bool
 
 /// The text behind the closer that begins with the character, if the hashes follow it.
 fn behind_closer<'t>(hashes: &str, c: char, after: &'t str) -> Option<&'t str>
-    ensures some { IfSome result (λ r. (c ≡ 34) × (chars after.now ≡ chars hashes.now ++ chars r.now)) }
-    ensures none { IfNone result (IsFalse (c == 34 && begins (chars hashes.now) (chars after.now))) }
+    ensures some { IfSome result
+        (λ r. (c ≡ 34) × (chars after.now ≡ chars hashes.now ++ chars r.now)) }
+    ensures none { IfNone result
+        (IsFalse (c == 34 && begins (chars hashes.now) (chars after.now))) }
 {
     if c == '"' {
         behind_prefix(hashes, after)

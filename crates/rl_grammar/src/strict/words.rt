@@ -3,8 +3,8 @@
 ghost use Rattle.std.specs.Prelude.{◌≡◌};
 ghost use Rattle.std.specs.List.{list_all};
 ghost use Rattle.std.specs.Str.{chars};
-ghost use Rattle.rl_tokens.specs.Texts.{is_continue};
 ghost use Rattle.rl_grammar.specs.Mirrors.StrictAt.{is_number_suffix, is_some_text, is_strict_suffix};
+ghost use Rattle.rl_tokens.specs.Lexemes.{is_continue};
 
 use rl_tokens::characters::{is_continue, is_start};
 use rl_tokens::text::split_char;

@@ -1,20 +1,77 @@
--- A mirror of the code, for proofs alone: the lexeme at the front of a text as the code finds it, by the first characters:
--- its form, and the rest behind it.
-use Rattle.std.specs.Prelude.{◌≡◌, ℕ, Bool, ◌&&◌, ◌||◌, ◌==◌, List, [], ◌∷◌, ◌++◌, slice_index, drop, cond}
+-- A mirror of the code, for proofs alone: the lexeme at the front of a text as the code finds it,
+-- by the first characters: its form, and the rest behind it.
+use Rattle.std.specs.Prelude.{◌≡◌, ℕ, Bool, true, false, not, ◌&&◌, ◌||◌, ◌==◌, List, [], ◌∷◌, ◌++◌, slice_index, drop, cond, codes}
 use Rattle.std.proofs.Common.{suc, zero, Option, Some, None}
 use Rattle.std.specs.Char.{is_ascii_digit}
 use Rattle.std.specs.Option.{option_map}
-use Rattle.rl_tokens.specs.Characters.{line_feed, double_quote, hash_sign, single_quote, asterisk, slash, digit_zero, back_slash, letter_b, letter_c, letter_r}
-use Rattle.rl_tokens.specs.Texts.{is_start, is_continue, is_underscore, is_white, is_among, first_passes}
-use Rattle.rl_tokens.specs.Lexemes.{is_numeral_part, is_hash, is_base_letter, delimiters, after_run, begins_hashed_quote, begins_hashes, begins_exponent, begins_dot, after_sign, LexemeForm, LiteralForm, IdentifierForm, DelimiterForm, MarkForm, form_of, Lexeme, lexeme_text, IsLexeme}
+use Prim.Native.Char.{code}
+use Rattle.rl_tokens.specs.Texts.{is_underscore, is_white, is_among, first_passes, begins, is_row_part}
+use Rattle.rl_tokens.specs.Lexemes.{is_base_letter, delimiters, begins_hashes, begins_dot, LexemeForm, LiteralForm, IdentifierForm, DelimiterForm, MarkForm, form_of, Lexeme, lexeme_text, IsLexeme, is_start, is_continue}
+use Rattle.rl_tokens.specs.Lexing.{begins_lifetime}
 use Rattle.rl_tokens.specs.Puncts.{is_punct}
 use Rattle.rl_tokens.specs.declared.lexeme.rows.RunClass.{RunClass}
 use Rattle.rl_tokens.specs.declared.lexeme.rows.RunClass.TheVariants.{Continue, Numeral, Underscores, White}
 
+abbrev pub is_hash : ℕ → Bool
+is_hash c = c == code "#"
+
+-- what follows the longest row of such characters
+abbrev pub after_run : (ℕ → Bool) → List ℕ → List ℕ
+after_run test [] = []
+after_run test (c ∷ t) = cond (test c) (after_run test t) (c ∷ t)
+
+-- hashes, perhaps none, and a quote
+abbrev pub begins_hashed_quote : List ℕ → Bool
+begins_hashed_quote t = slice_index (after_run is_hash t) 0 == code "\""
+
+abbrev pub begins_raw_behind : List ℕ → Bool → Bool
+begins_raw_behind [] b = false
+begins_raw_behind (c ∷ cs) b = b && c == code "r" && begins_hashed_quote cs
+
+abbrev pub begins_raw : List ℕ → Bool
+begins_raw [] = false
+begins_raw (c ∷ cs) =
+    (c == code "r" && begins_hashed_quote cs)
+    || begins_raw_behind cs (c == code "b" || c == code "c")
+
+-- a quoted or raw opener, `b'`, or `'` without an identifier start behind it
+abbrev pub begins_quote : List ℕ → Bool
+begins_quote r =
+    begins (codes "\"") r || begins (codes "b\"") r || begins (codes "c\"") r || begins_raw r
+    || begins (codes "b'") r
+    || (begins (codes "'") r && not (begins_lifetime r))
+
+-- the text begins like a literal with a prefix, or like a raw identifier
+abbrev pub begins_otherwise : List ℕ → Bool
+begins_otherwise [] = false
+begins_otherwise (c ∷ t) =
+    (c == code "b"
+    && (slice_index t 0 == code "\""
+    || (slice_index t 0 == code "'"
+    || (slice_index t 0 == code "r" && begins_hashed_quote (drop 1 t)))))
+    || ((c == code "c"
+    && (slice_index t 0 == code "\""
+    || (slice_index t 0 == code "r" && begins_hashed_quote (drop 1 t))))
+    || (c == code "r"
+    && (begins_hashed_quote t
+    || (slice_index t 0 == code "#" && first_passes is_start (drop 1 t)))))
+
+-- what follows a sign, where one begins the text
+abbrev pub after_sign : List ℕ → List ℕ
+after_sign [] = []
+after_sign (c ∷ t) = cond (c == code "+" || c == code "-") t (c ∷ t)
+
+-- an exponent begins the text: `e` or `E`, perhaps a sign, underscores and a digit
+abbrev pub begins_exponent : List ℕ → Bool
+begins_exponent [] = false
+begins_exponent (c ∷ t) =
+    (c == code "e" || c == code "E")
+    && first_passes is_ascii_digit (after_run is_underscore (after_sign t))
+
 -- the test of a row
 abbrev pub run_test : RunClass → ℕ → Bool
 run_test Continue = is_continue
-run_test Numeral = is_numeral_part
+run_test Numeral = is_row_part is_ascii_digit
 run_test Underscores = is_underscore
 run_test White = is_white
 
@@ -25,41 +82,50 @@ after_suffix (c ∷ t) = cond (is_start c) (after_run is_continue t) (c ∷ t)
 -- what follows the quote that ends a body
 abbrev pub after_quote : List ℕ → Option (List ℕ)
 after_quote [] = None
-after_quote (c ∷ []) = cond (c == double_quote) (Some []) None
-after_quote (c ∷ e ∷ t) = cond (c == double_quote) (Some (e ∷ t)) (cond (c == back_slash) (after_quote t) (after_quote (e ∷ t)))
+after_quote (c ∷ []) = cond (c == code "\"") (Some []) None
+after_quote (c ∷ e ∷ t) =
+    cond (c == code "\"") (Some (e ∷ t))
+    (cond (c == code "\\") (after_quote t) (after_quote (e ∷ t)))
 
 -- how many hashes begin the text
 abbrev pub hashes : List ℕ → ℕ
 hashes [] = zero
-hashes (c ∷ t) = cond (c == hash_sign) (suc (hashes t)) zero
+hashes (c ∷ t) = cond (c == code "#") (suc (hashes t)) zero
 
 -- what follows the quote and the n hashes that end a raw body
 abbrev pub after_raw : ℕ → List ℕ → Option (List ℕ)
 after_raw n [] = None
-after_raw n (c ∷ t) = cond (c == double_quote && begins_hashes n t) (Some (drop n t)) (after_raw n t)
+after_raw n (c ∷ t) = cond (c == code "\"" && begins_hashes n t) (Some (drop n t)) (after_raw n t)
 
 -- what follows the quote that ends an escaped character
 abbrev pub after_apostrophe : List ℕ → Option (List ℕ)
 after_apostrophe [] = None
-after_apostrophe (c ∷ t) = cond (c == single_quote) (Some t) (cond (c == line_feed) None (after_apostrophe t))
+after_apostrophe (c ∷ t) =
+    cond (c == code "'") (Some t) (cond (c == code "\n") None (after_apostrophe t))
 
 -- what follows the quote that ends a character
 abbrev pub after_single : List ℕ → Option (List ℕ)
 after_single [] = None
 after_single (c ∷ []) = None
-after_single (c ∷ e ∷ t) = cond (c == back_slash) (after_apostrophe t) (cond (e == single_quote) (Some t) None)
+after_single (c ∷ e ∷ t) =
+    cond (c == code "\\") (after_apostrophe t) (cond (e == code "'") (Some t) None)
 
 abbrev pub after_lexed_fraction : List ℕ → List ℕ
-after_lexed_fraction t = cond (begins_dot t) (after_run is_numeral_part (drop 1 t)) t
+after_lexed_fraction t = cond (begins_dot t) (after_run (is_row_part is_ascii_digit) (drop 1 t)) t
 
 abbrev pub after_lexed_exponent : List ℕ → List ℕ
-after_lexed_exponent t = cond (begins_exponent t) (after_run is_numeral_part (after_sign (drop 1 t))) t
+after_lexed_exponent t =
+    cond (begins_exponent t) (after_run (is_row_part is_ascii_digit) (after_sign (drop 1 t))) t
 
 abbrev pub after_decimal : List ℕ → List ℕ
-after_decimal t = after_suffix (after_lexed_exponent (after_lexed_fraction (after_run is_numeral_part t)))
+after_decimal t =
+    after_suffix
+    (after_lexed_exponent (after_lexed_fraction (after_run (is_row_part is_ascii_digit) t)))
 
 abbrev pub after_digit : ℕ → List ℕ → List ℕ
-after_digit c t = cond (c == digit_zero && first_passes is_base_letter t) (after_run is_continue (drop 1 t)) (after_decimal t)
+after_digit c t =
+    cond (c == code "0" && first_passes is_base_letter t) (after_run is_continue (drop 1 t))
+    (after_decimal t)
 
 abbrev pub quoted_at : List ℕ → Option (List ℕ)
 quoted_at t = option_map after_suffix (after_quote t)
@@ -85,11 +151,19 @@ pub data HeadClass : Type 0 where
   StrayHead : HeadClass
 
 abbrev pub start_class : ℕ → HeadClass
-start_class c = cond (c == letter_b) LetterBHead (cond (c == letter_c) LetterCHead (cond (c == letter_r) LetterRHead OtherLetterHead))
+start_class c =
+    cond (c == code "b") LetterBHead
+    (cond (c == code "c") LetterCHead
+    (cond (c == code "r") LetterRHead OtherLetterHead))
 
 abbrev pub other_class : ℕ → HeadClass
 other_class c =
-    cond (is_among delimiters c) DelimiterHead (cond (c == slash) SlashHead (cond (is_punct c) MarkHead (cond (is_ascii_digit c) DigitHead (cond (c == double_quote) QuoteHead (cond (c == single_quote) ApostropheHead StrayHead)))))
+    cond (is_among delimiters c) DelimiterHead
+    (cond (c == code "/") SlashHead
+    (cond (is_punct c) MarkHead
+    (cond (is_ascii_digit c) DigitHead
+    (cond (c == code "\"") QuoteHead
+    (cond (c == code "'") ApostropheHead StrayHead)))))
 
 abbrev pub head_class : ℕ → HeadClass
 head_class c = cond (is_start c) (start_class c) (other_class c)
@@ -103,21 +177,25 @@ word_at t = Some (IdentifierForm, after_run is_continue t)
 -- by the first character's class, the character, and what stands behind it
 abbrev pub by_class : HeadClass → ℕ → List ℕ → Option (LexemeForm × List ℕ)
 by_class LetterBHead c t =
-    cond (slice_index t 0 == double_quote) (literal_at (quoted_at (drop 1 t)))
-    (cond (slice_index t 0 == single_quote) (literal_at (single_at (drop 1 t)))
-    (cond (slice_index t 0 == letter_r && begins_hashed_quote (drop 1 t)) (literal_at (raw_at (drop 1 t))) (word_at t)))
+    cond (slice_index t 0 == code "\"") (literal_at (quoted_at (drop 1 t)))
+    (cond (slice_index t 0 == code "'") (literal_at (single_at (drop 1 t)))
+    (cond (slice_index t 0 == code "r" && begins_hashed_quote (drop 1 t))
+    (literal_at (raw_at (drop 1 t))) (word_at t)))
 by_class LetterCHead c t =
-    cond (slice_index t 0 == double_quote) (literal_at (quoted_at (drop 1 t)))
-    (cond (slice_index t 0 == letter_r && begins_hashed_quote (drop 1 t)) (literal_at (raw_at (drop 1 t))) (word_at t))
+    cond (slice_index t 0 == code "\"") (literal_at (quoted_at (drop 1 t)))
+    (cond (slice_index t 0 == code "r" && begins_hashed_quote (drop 1 t))
+    (literal_at (raw_at (drop 1 t))) (word_at t))
 by_class LetterRHead c t =
-    cond (begins_hashed_quote t) (literal_at (raw_at t)) (cond (slice_index t 0 == hash_sign && first_passes is_start (drop 1 t)) None (word_at t))
+    cond (begins_hashed_quote t) (literal_at (raw_at t))
+    (cond (slice_index t 0 == code "#" && first_passes is_start (drop 1 t)) None (word_at t))
 by_class OtherLetterHead c t = word_at t
 by_class QuoteHead c t = literal_at (quoted_at t)
 by_class ApostropheHead c t = literal_at (single_at t)
 by_class DigitHead c t = Some (LiteralForm, after_digit c t)
 by_class DelimiterHead c t = Some (DelimiterForm c, t)
 by_class MarkHead c t = Some (MarkForm c, t)
-by_class SlashHead c t = cond (first_passes (λ d. d == slash || d == asterisk) t) None (Some (MarkForm c, t))
+by_class SlashHead c t =
+    cond (first_passes (λ d. d == code "/" || d == code "*") t) None (Some (MarkForm c, t))
 by_class StrayHead c t = None
 
 abbrev pub lexeme_at : List ℕ → Option (LexemeForm × List ℕ)

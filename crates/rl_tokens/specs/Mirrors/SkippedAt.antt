@@ -1,7 +1,8 @@
--- A mirror of the code, for proofs alone: skipping as the code does it, one piece after the other, blocks by their depth.
+-- A mirror of the code, for proofs alone: skipping as the code does it, one piece after the other,
+-- blocks by their depth.
 use Rattle.std.specs.Prelude.{ℕ, ◌&&◌, ◌==◌, List, [], ◌∷◌, cond}
 use Rattle.std.proofs.Common.{suc, zero, Option, Some, None}
-use Rattle.rl_tokens.specs.Characters.{line_feed, asterisk, slash}
+use Prim.Native.Char.{code}
 use Rattle.rl_tokens.specs.Texts.{is_white}
 use Rattle.rl_tokens.specs.Trivia.{is_plain_line, is_plain_block}
 
@@ -9,19 +10,26 @@ use Rattle.rl_tokens.specs.Trivia.{is_plain_line, is_plain_block}
 abbrev pub after_block : ℕ → List ℕ → Option (List ℕ)
 after_block depth [] = None
 after_block depth (c ∷ []) = None
-after_block zero (c ∷ e ∷ t) = cond (c == asterisk && e == slash) (Some t) (cond (c == slash && e == asterisk) (after_block 1 t) (after_block 0 (e ∷ t)))
-after_block (suc d) (c ∷ e ∷ t) = cond (c == asterisk && e == slash) (after_block d t) (cond (c == slash && e == asterisk) (after_block (suc (suc d)) t) (after_block (suc d) (e ∷ t)))
+after_block zero (c ∷ e ∷ t) =
+    cond (c == code "*" && e == code "/") (Some t)
+    (cond (c == code "/" && e == code "*") (after_block 1 t) (after_block 0 (e ∷ t)))
+after_block (suc d) (c ∷ e ∷ t) =
+    cond (c == code "*" && e == code "/") (after_block d t)
+    (cond (c == code "/" && e == code "*") (after_block (suc (suc d)) t)
+    (after_block (suc d) (e ∷ t)))
 
 -- What follows the first LF.
 abbrev pub after_line : List ℕ → List ℕ
 after_line [] = []
-after_line (c ∷ t) = cond (c == line_feed) t (after_line t)
+after_line (c ∷ t) = cond (c == code "\n") t (after_line t)
 
 -- What follows a comment, by what stands behind its first slash.
 abbrev pub after_comment : List ℕ → Option (List ℕ)
 after_comment [] = None
-after_comment (c ∷ t) = cond (c == slash) (cond (is_plain_line t) (Some (after_line t)) None) (cond (c == asterisk) (cond (is_plain_block t) (after_block 0 t) None) None)
+after_comment (c ∷ t) =
+    cond (c == code "/") (cond (is_plain_line t) (Some (after_line t)) None)
+    (cond (c == code "*") (cond (is_plain_block t) (after_block 0 t) None) None)
 
 abbrev pub after_piece : List ℕ → Option (List ℕ)
 after_piece [] = None
-after_piece (c ∷ t) = cond (c == slash) (after_comment t) (cond (is_white c) (Some t) None)
+after_piece (c ∷ t) = cond (c == code "/") (after_comment t) (cond (is_white c) (Some t) None)

@@ -1,7 +1,8 @@
--- A mirror of the code, for proofs alone: the trees of a text as they grow, and the groups that are open.
+-- A mirror of the code, for proofs alone: the trees of a text as they grow, and the groups that are
+-- open.
 use Rattle.std.specs.Prelude.{◌≡◌, ◌≢◌, ◌<◌, ℕ, ◌+◌, true, false, codes, if◌then◌else◌, List, [], ◌∷◌, ◌++◌, IsTrue, Some, length, map, reverse, not, ◌&&◌, ⊤}
 use Rattle.std.specs.Str.{chars}
-use Rattle.rl_tokens.specs.Characters.{open_parenthesis, close_parenthesis, open_bracket, close_bracket, open_brace, close_brace}
+use Prim.Native.Char.{code}
 use Rattle.rl_tokens.specs.declared.token.Delimiter.{Delimiter}
 use Rattle.rl_tokens.specs.declared.token.Delimiter.TheVariants.{Parenthesis, Brace, Bracket}
 use Rattle.rl_tokens.specs.declared.lex_error.LexKind.{LexKind}
@@ -12,19 +13,20 @@ use Rattle.rl_tokens.specs.declared.nest.TreeBuilder.{TreeBuilder}
 use Rattle.rl_tokens.specs.declared.token.TokenTree.{TokenTree}
 use Rattle.rl_tokens.specs.Texts.{is_among, begins, xid_ok}
 use Rattle.rl_tokens.specs.Puncts.{is_punct}
-use Rattle.rl_tokens.specs.Lexemes.{LexemeForm, LiteralForm, IdentifierForm, DelimiterForm, MarkForm, delimiters}
+use Rattle.rl_tokens.specs.Lexemes.{LexemeForm, LiteralForm, IdentifierForm, DelimiterForm, MarkForm, delimiters, begins_raw_identifier}
 use Rattle.rl_tokens.specs.Trees.{FlatToken, Opening, Closing, tree_view, stream_view, flat, flat_trees}
-use Rattle.rl_tokens.specs.Lexing.{OpenGroup, is_opener, is_closer, closes, popped, innermost, behind_form, flat_form, begins_doc_comment, begins_quote, begins_lifetime, begins_raw_identifier}
+use Rattle.rl_tokens.specs.Lexing.{OpenGroup, is_opener, is_closer, closes, popped, innermost, behind_form, flat_form, begins_doc_comment, begins_lifetime}
+use Rattle.rl_tokens.specs.Mirrors.LexemeAt.{begins_quote}
 
 abbrev pub opener_of : Delimiter → ℕ
-opener_of Parenthesis = open_parenthesis
-opener_of Brace = open_brace
-opener_of Bracket = open_bracket
+opener_of Parenthesis = code "("
+opener_of Brace = code "{"
+opener_of Bracket = code "["
 
 abbrev pub closer_of : Delimiter → ℕ
-closer_of Parenthesis = close_parenthesis
-closer_of Brace = close_brace
-closer_of Bracket = close_bracket
+closer_of Parenthesis = code ")"
+closer_of Brace = code "}"
+closer_of Bracket = code "]"
 
 abbrev pub group_of : {A : Type 0} → GroupBuilder A → OpenGroup
 group_of o = record { opener = opener_of o.delimiter; at = o.at }
@@ -48,21 +50,26 @@ flat_builder n = flat_open n.file n.opened.items ++ flat_trees (stream_view n.tr
 pub record TakesTree {A : Type 0} (old new : TreeBuilder A) (tree : TokenTree A) : Type 0 where
   pub opened_same : new.opened ≡ old.opened
   pub file_same : new.file ≡ old.file
-  pub trees : flat_trees (stream_view new.trees) ≡ flat_trees (stream_view old.trees) ++ flat (tree_view tree)
+  pub trees : flat_trees (stream_view new.trees) ≡ flat_trees (stream_view old.trees)
+      ++ flat (tree_view tree)
 
 -- a group more is open
-pub record OpensGroup {A : Type 0} (old new : TreeBuilder A) (delimiter : Delimiter) (at : ℕ) : Type 0 where
+pub record OpensGroup {A : Type 0} (old new : TreeBuilder A) (delimiter : Delimiter) (at : ℕ)
+    : Type 0 where
   pub shallow : length (groups_of old) < 128
   pub groups : groups_of new ≡ record { opener = opener_of delimiter; at = at } ∷ groups_of old
   pub file_same : new.file ≡ old.file
-  pub flat : flat_builder new ≡ flat_builder old ++ (Opening delimiter (record { file = old.file; lo = at; hi = at + 1 }) ∷ [])
+  pub flat : flat_builder new ≡ flat_builder old
+      ++ (Opening delimiter (record { file = old.file; lo = at; hi = at + 1 }) ∷ [])
 
 -- the innermost group is closed
-pub record ClosesGroup {A : Type 0} (old new : TreeBuilder A) (delimiter : Delimiter) (lo hi : ℕ) : Type 0 where
+pub record ClosesGroup {A : Type 0} (old new : TreeBuilder A) (delimiter : Delimiter) (lo hi : ℕ)
+    : Type 0 where
   pub closes_it : closes (groups_of old) (closer_of delimiter) ≡ true
   pub groups : groups_of new ≡ popped (groups_of old)
   pub file_same : new.file ≡ old.file
-  pub flat : flat_builder new ≡ flat_builder old ++ (Closing delimiter (record { file = old.file; lo = lo; hi = hi }) ∷ [])
+  pub flat : flat_builder new ≡ flat_builder old
+      ++ (Closing delimiter (record { file = old.file; lo = lo; hi = hi }) ∷ [])
 
 -- why a group can't be opened, and why it can't be closed
 abbrev pub RefusesOpener : List OpenGroup → LexKind → Type 0
@@ -89,9 +96,11 @@ IsFitting (DelimiterForm c) text lo hi = IsTrue (is_among delimiters c) × (hi �
 IsFitting (MarkForm c) text lo hi = IsTrue (is_punct c)
 
 -- one token more was read
-pub record TakesToken {A : Type 0} (old new : TreeBuilder A) (form : LexemeForm) (text : List ℕ) (lo hi : ℕ) : Type 0 where
+pub record TakesToken {A : Type 0} (old new : TreeBuilder A) (form : LexemeForm) (text : List ℕ)
+    (lo hi : ℕ) : Type 0 where
   pub groups : behind_form (groups_of old) form lo ≡ Some (groups_of new)
-  pub flat : flat_builder new ≡ flat_builder old ++ (flat_form form text (record { file = old.file; lo = lo; hi = hi }) ∷ [])
+  pub flat : flat_builder new ≡ flat_builder old
+      ++ (flat_form form text (record { file = old.file; lo = lo; hi = hi }) ∷ [])
   pub file : new.file ≡ old.file
 
 -- a closer that isn't that of the innermost open group; an opener with too many groups open

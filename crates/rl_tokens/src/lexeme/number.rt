@@ -4,9 +4,9 @@
 ghost use Rattle.std.specs.Prelude.{◌≡◌, ◌<◌, ◌==◌, ◌||◌, not, length, IsTrue, IfSome, IfNone};
 ghost use Rattle.std.specs.Char.{is_ascii_digit};
 ghost use Rattle.std.specs.Str.{chars};
-ghost use Rattle.rl_tokens.specs.Texts.{is_start, first_passes, IsTail};
-ghost use Rattle.rl_tokens.specs.Lexemes.{after_run, after_sign, begins_dot};
-ghost use Rattle.rl_tokens.specs.Mirrors.LexemeAt.{after_lexed_fraction, after_lexed_exponent, after_decimal};
+ghost use Rattle.rl_tokens.specs.Texts.{first_passes, IsTail};
+ghost use Rattle.rl_tokens.specs.Lexemes.{begins_dot, is_start};
+ghost use Rattle.rl_tokens.specs.Mirrors.LexemeAt.{after_lexed_fraction, after_lexed_exponent, after_decimal, after_run, after_sign};
 
 use super::rows::{RunClass, after_row, after_suffix};
 use crate::characters::is_start;

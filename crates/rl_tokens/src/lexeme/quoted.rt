@@ -4,8 +4,7 @@
 ghost use Rattle.std.specs.Prelude.{◌≡◌, option_map, IfSome};
 ghost use Rattle.std.specs.Str.{chars};
 ghost use Rattle.rl_tokens.specs.Texts.{IsTail};
-ghost use Rattle.rl_tokens.specs.Lexemes.{begins_hashed_quote};
-ghost use Rattle.rl_tokens.specs.Mirrors.LexemeAt.{after_quote, after_raw, after_apostrophe, after_single, quoted_at, raw_at, single_at};
+ghost use Rattle.rl_tokens.specs.Mirrors.LexemeAt.{after_quote, after_raw, after_apostrophe, after_single, quoted_at, raw_at, single_at, begins_hashed_quote};
 
 use super::rows::{after_suffix, split_hashes, strip_hashes};
 use crate::front::{begins_with, without_first};

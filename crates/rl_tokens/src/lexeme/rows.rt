@@ -4,8 +4,8 @@
 ghost use Rattle.std.specs.Prelude.{◌≡◌, MatchOption, IfSome, drop, true, false};
 ghost use Rattle.std.specs.Str.{chars};
 ghost use Rattle.rl_tokens.specs.Texts.{IsTail};
-ghost use Rattle.rl_tokens.specs.Lexemes.{after_run, is_hash, begins_hashes};
-ghost use Rattle.rl_tokens.specs.Mirrors.LexemeAt.{run_test, after_suffix, hashes};
+ghost use Rattle.rl_tokens.specs.Lexemes.{begins_hashes};
+ghost use Rattle.rl_tokens.specs.Mirrors.LexemeAt.{run_test, after_suffix, hashes, after_run, is_hash};
 
 use crate::characters::{is_continue, is_start, is_white};
 use crate::text::{split_ascii, split_char};

@@ -70,8 +70,8 @@ fn a_list(rt: HostRuntime) -> Result<(), Fail> {
     Ok(())
 }
 
-/// The input's bytes; the lexer's two for the name and one for the literal, told where they stand; the parser's, told at
-/// the first tree: for the set of names, the name, the token, its digits and the list; then the line.
+/// The input's bytes; the lexer's two for the name and one for the literal, told where they stand; the parser's,
+/// reported at the first tree: for the set of names, the name, the token, its digits and the list; then the line.
 #[test]
 fn attributes(rt: HostRuntime) -> Result<(), Fail> {
     let answers = all_told(rt.alloc(), Command::Attr, "a = 0x1", 15)?;

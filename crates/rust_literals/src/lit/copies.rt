@@ -115,7 +115,7 @@ impl<A: Allocator> fmt::Debug for Lit<A> {
 }
 
 /// Puts a literal token with this text and span last. Where memory is wanted and refused, the stream stays, and that is
-/// told at the span.
+/// reported at the span.
 fn append_text<A: Allocator>(
     alloc: A,
     text: &str,

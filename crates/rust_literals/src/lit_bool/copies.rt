@@ -70,7 +70,8 @@ impl fmt::Display for LitBool {
 
 /// The truth value between the name and braces.
 impl fmt::Debug for LitBool {
-    ghost debug_output = { λ l. Some (codes "LitBool { value: " ++ truth_text l.value ++ codes " }") };
+    ghost debug_output = { λ l. Some (codes "LitBool { value: " ++ truth_text l.value
+        ++ codes " }") };
 
     fn fmt<W: fmt::Write>(&self, f: &mut fmt::Formatter<W>) -> fmt::Result {
         let word = word(self.value);
@@ -84,7 +85,8 @@ impl ToTokens for LitBool {
 
     fn to_tokens<B: Allocator>(&self, alloc: B, tokens: &mut TokenStream<B>) -> Result<(), Error<B>>
         ensures ok { OnOk result
-            (stream_view tokens.new ≡ stream_view tokens.old ++ IdentTree (record { text = truth_text self.now.value; span = self.now.span }) ∷ []) }
+            (stream_view tokens.new ≡ stream_view tokens.old
+            ++ IdentTree (record { text = truth_text self.now.value; span = self.now.span }) ∷ []) }
         ensures unchanged { OnErr result (stream_view tokens.new ≡ stream_view tokens.old) }
         ensures memory { IfErr result (λ e. e ≡ memory_at self.now.span) }
     {

@@ -9,7 +9,8 @@ use std::alloc::Allocator;
 use std::fmt::Display;
 use std::str::FromStr;
 
-/// A number type's fault in its own words, told at a span; want of memory for the words is told there too.
+/// A number type's fault in its own words, reported at a span; running out of memory for the words
+/// is reported there too.
 fn reported<F: Display, B: Allocator>(alloc: B, fault: &F, span: Span) -> Error<B>
     ensures { IsReported (F.output fault.now) span result }
 {
@@ -28,8 +29,8 @@ impl<K: NumberKind, A: Allocator> Number<K, A> {
     ///
     /// # Errors
     ///
-    /// The type's fault is told at the span, as `Number` in the fault's own words; want of memory
-    /// for these is told there too, and so is a fault that can't be put into words.
+    /// The type's fault is reported at the span, as `Number` in the fault's own words; running out
+    /// of memory for these is reported there too, and so is a fault that can't be put into words.
     ///
     /// # Example
     ///
@@ -42,9 +43,11 @@ impl<K: NumberKind, A: Allocator> Number<K, A> {
     pub fn base10_parse<N: FromStr, B: Allocator>(&self, alloc: B) -> Result<N, Error<B>>
     where
         N::Err: Display + Drop,
-        ensures ok { IfOk result (IsMadeOf N.from_str_gives (AreBase10Digits K.KIND self.now.text)) }
+        ensures ok { IfOk result
+            (IsMadeOf N.from_str_gives (AreBase10Digits K.KIND self.now.text)) }
         ensures refused { IfErr result
-            (IsRefusedBy N.from_str_gives N.Err.output (AreBase10Digits K.KIND self.now.text) self.now.span) }
+            (IsRefusedBy N.from_str_gives N.Err.output (AreBase10Digits K.KIND self.now.text)
+            self.now.span) }
     {
         match N::from_str(self.base10_digits()) {
             Ok(number) => Ok(number),

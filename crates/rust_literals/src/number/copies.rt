@@ -23,7 +23,8 @@ fn copy_of<A: Allocator, B: Allocator>(
     alloc: B,
     text: &Option<String<A>>,
 ) -> Result<Option<String<B>>, AllocError>
-    ensures { IfOk result (λ copy. option_map string_bytes copy ≡ option_map string_bytes text.now) }
+    ensures { IfOk result
+        (λ copy. option_map string_bytes copy ≡ option_map string_bytes text.now) }
 {
     match text {
         Some(text) => Ok(Some(String::from_str(alloc, text.as_str())?)),
@@ -86,7 +87,8 @@ impl<K: NumberKind, A: Allocator> Hash for Number<K, A> {
 
 /// The token's text between the name and braces.
 impl<K: NumberKind, A: Allocator> fmt::Debug for Number<K, A> {
-    ghost debug_output = { λ l. Some (kind_name K.KIND ++ codes " { token: " ++ l.text ++ codes " }") };
+    ghost debug_output = { λ l. Some (kind_name K.KIND ++ codes " { token: " ++ l.text
+        ++ codes " }") };
 
     fn fmt<W: fmt::Write>(&self, f: &mut fmt::Formatter<W>) -> fmt::Result {
         let name = K::KIND.struct_name();

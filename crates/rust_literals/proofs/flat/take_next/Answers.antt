@@ -4,7 +4,7 @@ use Rattle.rl_tokens.specs.Cursors.{form_view}
 use Rattle.rl_tokens.specs.Lexemes.{MarkForm}
 use Rattle.rust_literals.specs.declared.lit.Lit.TheVariants.{Bool as BoolLit}
 use Rattle.rust_literals.specs.Literals.{IsReadFrom}
-use Rattle.rust_literals.proofs.FlatLemmas.{literal_next, truth_next, joined_at, read_negative, other_form, none_number, none_minus, no_some, the_some, when_some}
+use Rattle.rust_literals.proofs.FlatLemmas.{literal_next, truth_next, joined_at, read_negative, other_form, none_number, none_minus, none_word, no_some, the_some, when_some}
 use Rattle.rust_literals.proofs.flat.take_next.Goals as goal
 
 pub returns-in_default-form-2 : goal.returns-in_default-form-2
@@ -49,3 +49,12 @@ returns-in-Some-2-clause-next g c =
     (joined_at c.args.file c.in-Some.token l c.new-span.result c.new-in-Mark-eq45.result c.in-Some-join.joined c.new-span.ensures c.new-in-Mark-eq45.ensures c.in-Some-join.ensures.range)
     (when_some c.in_ok-literal-in-Mark-eq45.field-0 lit c.in-Some-2.is c.in_ok-literal-in-Mark-eq45.ensures.together)
     (the_some (IsReadFrom (record { text = 45 ∷ l.text.now; span = c.in-Some-join.joined })) c.in_ok-literal-in-Mark-eq45.field-0 lit c.in-Some-2.is c.in_ok-literal-in-Mark-eq45.ensures.read)
+
+pub returns-in_default-next-clause-none : goal.returns-in_default-next-clause-none
+returns-in_default-next-clause-none g c =
+    let minus : c.in-Mark-eq45.field-0 ≡ 45 = search rules in
+    none_minus c.args.tokens.now c.next.new.self c.in-Some.token c.in-Some.ensures.next (ap form_view c.in-Mark-eq45.is ∙ ap MarkForm minus)
+    (inl c.in_default-next.ensures.none)
+
+pub returns-in-None-clause-none : goal.returns-in-None-clause-none
+returns-in-None-clause-none g c = none_word c.args.tokens.now c.next.new.self c.in-Some.token c.in-Some.ensures.next (ap form_view c.in-Identifier.is) c.in-None.ensures.none

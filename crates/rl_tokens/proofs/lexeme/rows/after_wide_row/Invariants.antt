@@ -1,7 +1,6 @@
 use Rattle.std.proofs.Common.{◌≡◌, length}
 use Rattle.std.specs.Str.{chars}
-use Rattle.rl_tokens.specs.Lexemes.{after_run}
-use Rattle.rl_tokens.specs.Mirrors.LexemeAt.{run_test}
+use Rattle.rl_tokens.specs.Mirrors.LexemeAt.{run_test, after_run}
 use Rattle.rl_tokens.specs.Texts.{IsTail}
 use Rattle.rl_tokens.proofs.lexeme.rows.after_wide_row.Given as goal
 

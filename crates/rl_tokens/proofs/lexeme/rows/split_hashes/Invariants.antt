@@ -1,7 +1,6 @@
 use Rattle.std.proofs.Common.{◌≡◌, ◌+◌, ◌≤◌, length}
 use Rattle.std.specs.Str.{chars}
-use Rattle.rl_tokens.specs.Lexemes.{after_run, is_hash}
-use Rattle.rl_tokens.specs.Mirrors.LexemeAt.{hashes}
+use Rattle.rl_tokens.specs.Mirrors.LexemeAt.{hashes, after_run, is_hash}
 use Rattle.rl_tokens.specs.Texts.{IsTail}
 use Rattle.rl_tokens.proofs.lexeme.rows.split_hashes.Given as goal
 
