@@ -67,6 +67,7 @@ pub(crate) fn front(text: &str) -> Option<(QuotedForm, Kind, &str)>
 }
 
 /// The text behind the units at its front, as far as they go.
+#[inline(never)]
 fn skip_units(kind: Kind, text: &str) -> &str
     requires { IsTrue (is_string kind) }
     ensures row { (v : List ℕ) × BeginsRow kind (chars text.now) v (chars result.now) }
@@ -103,6 +104,7 @@ fn cut_at_quote<'t>(quote: char, text: &'t str, rest: &'t str) -> Option<(&'t st
 }
 
 /// The body and the suffix of a cooked string, from the text behind its opener, and whether the body stands for itself.
+#[inline(always)]
 fn cooked_parts(kind: Kind, text: &str) -> Option<(&str, &str, bool)>
     requires { IsTrue (is_string kind) }
     ensures some { IfSome result (λ p. (v : List ℕ)
@@ -119,6 +121,7 @@ fn cooked_parts(kind: Kind, text: &str) -> Option<(&str, &str, bool)>
 }
 
 /// The body and the suffix of a raw string, from its hashes on.
+#[inline(never)]
 fn raw_parts(kind: Kind, text: &str) -> Option<(&str, &str, bool)>
     requires { IsTrue (is_string kind) }
     ensures some { IfSome result (λ p. (v : List ℕ)
@@ -148,6 +151,7 @@ fn holds_all(kind: Kind, text: &str) -> bool
 }
 
 /// The body and the suffix of a character or a byte, from the text behind its opener.
+#[inline(never)]
 fn single_parts(kind: Kind, text: &str) -> Option<(&str, &str, bool)>
     requires { IsTrue (is_single kind) }
     ensures some { IfSome result (λ p. (v : List ℕ)
@@ -176,6 +180,7 @@ fn parts_inside(form: QuotedForm, kind: Kind, text: &str) -> Option<(&str, &str,
 }
 
 /// The form and the parts of a quoted literal, and whether its body stands for itself: `None` where the text is none.
+#[inline(always)]
 pub(crate) fn quoted_parts(text: &str) -> Option<(QuotedForm, Parts<'_>, bool)>
     ensures some { IfSome result (λ p. (v : List ℕ)
         × PartsAre p.0 p.1.kind (chars text.now) v (chars p.1.body.now) (chars p.1.suffix.now)) }
