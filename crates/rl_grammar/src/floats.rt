@@ -30,6 +30,7 @@ fn after_fraction(text: &str) -> &str
 }
 
 /// The digits of a power, behind its letter.
+#[inline(always)]
 #[tactic(auto, using(rl_tokens::proofs::BehindLemmas::behind_step, rl_tokens::proofs::BehindLemmas::behind_self), unfolding(crate::specs::Mirrors::NumberAt::power_at))]
 fn power_digits(text: &str) -> &str
     ensures value { chars result.now ≡ power_at (chars text.now) }

@@ -165,6 +165,7 @@ fn single_parts(kind: Kind, text: &str) -> Option<(&str, &str, bool)>
 }
 
 /// The body and the suffix of a literal of the form, from the text behind its opener.
+#[inline(always)]
 fn parts_inside(form: QuotedForm, kind: Kind, text: &str) -> Option<(&str, &str, bool)>
     requires { IsTrue (has_form form kind) }
     ensures some { IfSome result (λ p. (v : List ℕ)
