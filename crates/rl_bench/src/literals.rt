@@ -78,7 +78,6 @@ pub(crate) fn c_string_weight(alloc: Global, literal: &LitCStr) -> Result<u64, A
 }
 
 /// The literal that the text reads as.
-#[inline(always)]
 pub(crate) fn literal_of(alloc: Global, text: &str) -> Result<Lit, AllocError>
     ensures { IfOk result (IsLitOfText text.now) }
 {

@@ -17,6 +17,7 @@ use rl_tokens::Kind;
 use rl_tokens::text::split_char;
 
 /// What follows a dot and its digits, or the text.
+#[inline(always)]
 #[tactic(auto, using(rl_tokens::proofs::BehindLemmas::behind_step, rl_tokens::proofs::BehindLemmas::behind_self))]
 fn after_fraction(text: &str) -> &str
     ensures value { chars result.now ≡ after_fraction (chars text.now) }
@@ -29,6 +30,7 @@ fn after_fraction(text: &str) -> &str
 }
 
 /// The digits of a power, behind its letter.
+#[inline(always)]
 #[tactic(auto, using(rl_tokens::proofs::BehindLemmas::behind_step, rl_tokens::proofs::BehindLemmas::behind_self), unfolding(crate::specs::Mirrors::NumberAt::power_at))]
 fn power_digits(text: &str) -> &str
     ensures value { chars result.now ≡ power_at (chars text.now) }

@@ -68,6 +68,7 @@ pub(crate) fn front(text: &str) -> Option<(QuotedForm, Kind, &str)>
 }
 
 /// The text behind the units at its front, as far as they go.
+#[inline(never)]
 fn skip_units(kind: Kind, text: &str) -> &str
     requires { IsTrue (is_string kind) }
     ensures row { (v : List ℕ) × BeginsRow kind (chars text.now) v (chars result.now) }
@@ -104,6 +105,7 @@ fn cut_at_quote<'t>(quote: char, text: &'t str, rest: &'t str) -> Option<(&'t st
 }
 
 /// The body and the suffix of a cooked string, from the text behind its opener, and whether the body stands for itself.
+#[inline(always)]
 fn cooked_parts(kind: Kind, text: &str) -> Option<(&str, &str, bool)>
     requires { IsTrue (is_string kind) }
     ensures some { IfSome result (λ p. (v : List ℕ)
@@ -123,6 +125,7 @@ fn cooked_parts(kind: Kind, text: &str) -> Option<(&str, &str, bool)>
 }
 
 /// The body and the suffix of a raw string, from its hashes on.
+#[inline(never)]
 fn raw_parts(kind: Kind, text: &str) -> Option<(&str, &str, bool)>
     requires { IsTrue (is_string kind) }
     ensures some { IfSome result (λ p. (v : List ℕ)
@@ -154,6 +157,7 @@ fn holds_all(kind: Kind, text: &str) -> bool
 }
 
 /// The body and the suffix of a character or a byte, from the text behind its opener.
+#[inline(never)]
 fn single_parts(kind: Kind, text: &str) -> Option<(&str, &str, bool)>
     requires { IsTrue (is_single kind) }
     ensures some { IfSome result (λ p. (v : List ℕ)
@@ -170,6 +174,7 @@ fn single_parts(kind: Kind, text: &str) -> Option<(&str, &str, bool)>
 }
 
 /// The body and the suffix of a literal of the form, from the text behind its opener.
+#[inline(always)]
 fn parts_inside(form: QuotedForm, kind: Kind, text: &str) -> Option<(&str, &str, bool)>
     requires { IsTrue (has_form form kind) }
     ensures some { IfSome result (λ p. (v : List ℕ)
@@ -186,6 +191,7 @@ fn parts_inside(form: QuotedForm, kind: Kind, text: &str) -> Option<(&str, &str,
 }
 
 /// The form and the parts of a quoted literal, and whether its body stands for itself: `None` where the text is none.
+#[inline(always)]
 pub(crate) fn quoted_parts(text: &str) -> Option<(QuotedForm, Parts<'_>, bool)>
     ensures some { IfSome result (λ p. (v : List ℕ)
         × PartsAre p.0 p.1.kind (chars text.now) v (chars p.1.body.now) (chars p.1.suffix.now)) }

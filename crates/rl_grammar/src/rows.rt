@@ -148,6 +148,7 @@ fn digits_len(text: &str) -> usize
 }
 
 /// The decimal digits and underscores at the front of the text, with no magnitude.
+#[inline(always)]
 pub(crate) fn skip_row(text: &str) -> Skipped<'_>
     ensures has_digit { result.has_digit ≡ has_digit_at 10 (chars text.now) }
     ensures rest { chars result.rest.now ≡ after_digits 10 (chars text.now) }
