@@ -5,7 +5,7 @@ use Rattle.std.specs.Prelude.{if◌then◌else◌}
 use Rattle.std.specs.Option.{option_map}
 use Rattle.rl_tokens.specs.Texts.{is_underscore, is_among, first_passes, is_row_part}
 use Rattle.std.specs.Char.{is_ascii_digit}
-use Rattle.rl_tokens.specs.Lexemes.{is_base_letter, delimiters, marks, begins_hashes, begins_dot, BodyPart, PlainPart, EscapedPart, body_text, IsBody, CharacterBody, OneCharacter, EscapedCharacter, character_body_text, IsCharacterBody, LexedFraction, NoLexedFraction, LexedDot, lexed_fraction_text, LexedSign, NoLexedSign, LexedPlus, LexedMinus, lexed_sign_text, LexedExponent, NoLexedExponent, LexedPower, lexed_exponent_text, IsRow, IsLexedSuffix, IsRawBody, IsLexedFraction, IsLexedExponent, LiteralPrefix, NoPrefix, BytePrefix, CPrefix, prefix_text, Lexeme, QuotedLexeme, RawLexeme, CharacterLexeme, BasedLexeme, DecimalLexeme, IdentifierLexeme, DelimiterLexeme, MarkLexeme, lexeme_text, IsLexeme, LexemeForm, LiteralForm, IdentifierForm, DelimiterForm, MarkForm, form_of, is_start, is_continue}
+use Rattle.rl_tokens.specs.Lexemes.{is_base_letter, delimiters, marks, begins_hashes, begins_dot, BodyPart, PlainPart, EscapedPart, body_text, IsBody, CharacterBody, OneCharacter, EscapedCharacter, character_body_text, IsCharacterBody, LexedFraction, NoLexedFraction, LexedDot, lexed_fraction_text, lexed_sign_text, LexedExponent, NoLexedExponent, LexedPower, lexed_exponent_text, IsRow, IsLexedSuffix, IsRawBody, IsLexedFraction, IsLexedExponent, LiteralPrefix, NoPrefix, BytePrefix, CPrefix, prefix_text, Lexeme, QuotedLexeme, RawLexeme, CharacterLexeme, BasedLexeme, DecimalLexeme, IdentifierLexeme, DelimiterLexeme, MarkLexeme, lexeme_text, IsLexeme, LexemeForm, LiteralForm, IdentifierForm, DelimiterForm, MarkForm, form_of, is_start, is_continue}
 use Rattle.rl_tokens.proofs.Comments.{chosen, chosen3, same_Some}
 use Rattle.rl_tokens.proofs.Pieces.{is_equal}
 use Rattle.rl_tokens.specs.Puncts.{is_punct}

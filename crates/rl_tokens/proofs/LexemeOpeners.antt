@@ -1,6 +1,6 @@
 -- What the tests say of how a text begins, in the words of the lexemes.
 use Rattle.std.proofs.Common.{◌≡◌, ℕ, suc, zero, ◌<◌, ◌⊎◌, inl, inr, Bool, true, false, not, ◌&&◌, ◌||◌, ◌==◌, cond, List, [], ◌∷◌, ◌++◌, slice_index, drop, replicate, refl, sym, ◌∙◌, ap, arith}
-use Rattle.std.specs.Prelude.{codes, IsTrue, IsFalse}
+use Rattle.std.specs.Prelude.{codes}
 use Rattle.std.specs.Char.{is_ascii_digit}
 use Rattle.std.proofs.lemmas.Bool.{and_from, or_left, or_right}
 use Rattle.rl_tokens.specs.Texts.{is_underscore, first_passes, begins, is_row_part}

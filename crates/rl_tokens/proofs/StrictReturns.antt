@@ -1,5 +1,5 @@
 -- A strict text holds no CR.
-use Rattle.std.proofs.Common.{◌≡◌, ℕ, zero, suc, ◌||◌, ◌&&◌, Bool, true, false, not, eqb, List, [], ◌∷◌, ◌++◌, replicate, refl, ap, subst, ◌∙◌, ◌⊎◌, inl, inr, arith}
+use Rattle.std.proofs.Common.{◌≡◌, ℕ, zero, suc, ◌||◌, ◌&&◌, Bool, true, false, not, eqb, List, [], ◌∷◌, ◌++◌, replicate, refl, ap, ◌∙◌, ◌⊎◌, inl, inr, arith}
 use Rattle.std.specs.Prelude.{nat_lt, codes, if◌then◌else◌}
 use Rattle.std.specs.Char.{digit_value, is_ascii_digit, is_ascii_hexdigit}
 use Rattle.std.specs.Str.{all_scalars}
@@ -9,7 +9,7 @@ use Rattle.std.proofs.lemmas.Bool.{and_parts, and_from, not_from_false}
 use Rattle.rl_tokens.specs.declared.kind.Kind.{Kind}
 use Rattle.rl_tokens.specs.declared.kind.Kind.TheVariants.{Str, ByteStr, CStr, Byte, Char, Int, Float, Bool as BoolKind}
 use Rattle.rl_tokens.specs.Reading.{Contents}
-use Rattle.rl_tokens.specs.Strict.{Strict, IsStrictSuffix, StrictUnit, Itself, QuoteEscape, PlainEscape, AsciiEscape, ByteEscape, UnicodeEscape, LineBreak, spaced_digit, strict_text, spelled_number, is_plain_letter, is_octal, is_dropped_blank, is_unicode_escape, spaced_value, is_strict_unit, strict_opener, strict_closer, StrictCooked, StrictRaw, strict_raw_opener, is_row, IsDigits, StrictInt, IsStrictExponent, StrictFloat, StrictBool}
+use Rattle.rl_tokens.specs.Strict.{Strict, IsStrictSuffix, StrictUnit, Itself, QuoteEscape, PlainEscape, AsciiEscape, ByteEscape, UnicodeEscape, LineBreak, spaced_digit, strict_text, spelled_number, is_plain_letter, is_octal, is_dropped_blank, is_unicode_escape, spaced_value, is_strict_unit, strict_opener, strict_closer, StrictCooked, StrictRaw, strict_raw_opener, is_row, IsDigits, StrictInt, IsStrictExponent, StrictFloat}
 use Rattle.rl_tokens.proofs.Basics.{apart, all_weaker, word_without}
 use Rattle.rl_tokens.proofs.StrictQuoted.{not_return}
 

@@ -1,5 +1,5 @@
 -- A literal more of a text without groups, and all of them.
-use Rattle.std.proofs.Common.{arith, true, false, ◌≢◌, ◌⊎◌, inl, inr, Result, Ok, IfOk, ◌≡◌, ℕ, ◌==◌, List, [], ◌∷◌, ◌++◌, length, Option, Some, None, refl, sym, ◌∙◌, ap, subst, append_assoc}
+use Rattle.std.proofs.Common.{arith, true, ◌≢◌, ◌⊎◌, inr, ◌≡◌, ℕ, ◌==◌, List, [], ◌∷◌, ◌++◌, length, Option, Some, None, refl, sym, ◌∙◌, ap, subst, append_assoc}
 use Rattle.std.proofs.lemmas.List.{map-append, nil_from_length}
 use Rattle.std.proofs.lemmas.Bool.Decides.{nat_tests}
 use Rattle.std.specs.Prelude.{min, max, Bool, IfNone, IfSome, OnSome, if◌then◌else◌}

@@ -1,8 +1,8 @@
 -- Trees are the literals of one list at most.
-use Rattle.std.proofs.Common.{◌≡◌, ◌≢◌, ◌<◌, List, [], ◌∷◌, ◌++◌, length, refl, sym, ◌∙◌, ap, subst, arith}
+use Rattle.std.proofs.Common.{◌≡◌, ◌≢◌, ◌<◌, List, [], ◌∷◌, ◌++◌, length, refl, sym, ◌∙◌, ap, subst}
 use Rattle.rl_tokens.specs.Texts.{SpannedText}
-use Rattle.rl_tokens.specs.Trees.{Tree, GroupTree, IdentTree, PunctTree, LiteralTree}
-use Rattle.rl_grammar.specs.Fronts.{IsFront, HasNoFront}
+use Rattle.rl_tokens.specs.Trees.{Tree}
+use Rattle.rl_grammar.specs.Fronts.{HasNoFront}
 use Rattle.rl_grammar.proofs.FrontLemmas.{one_front, front_shorter}
 use Rattle.rust_literals.specs.declared.lit.Lit.{Lit}
 use Rattle.rust_literals.specs.Literals.{IsReadFrom}

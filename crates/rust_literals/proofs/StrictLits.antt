@@ -1,5 +1,5 @@
 -- The literal of a strict text is of the kind, contents and suffix that the text has.
-use Rattle.std.proofs.Common.{◌≡◌, ◌≤◌, ◌⊎◌, inl, inr, ℕ, ◌||◌, Bool, true, false, List, [], ◌∷◌, Some, refl, sym, ap, subst}
+use Rattle.std.proofs.Common.{◌≡◌, ◌≤◌, ◌⊎◌, inl, inr, ℕ, ◌||◌, Bool, true, false, List, [], ◌∷◌, Some, refl, sym, subst}
 use Rattle.std.specs.Prelude.{◌<◌, ◌==◌, Result, IfOk}
 use Rattle.std.proofs.lemmas.Bool.{cases_lt}
 use Rattle.std.proofs.lemmas.Result.{IfOk-weaker}
@@ -21,7 +21,7 @@ use Rattle.rl_grammar.proofs.NumberLemmas.{past_number}
 use Rattle.rl_grammar.proofs.ReadingLemmas.{only_number}
 use Rattle.rl_grammar.proofs.FrontLemmas.{truth_reads}
 use Rattle.rust_literals.specs.declared.lit.Lit.{Lit}
-use Rattle.rust_literals.specs.Literals.{kind_of, token_of, IsReadFrom, IsLitOf}
+use Rattle.rust_literals.specs.Literals.{kind_of, IsReadFrom, IsLitOf}
 use Rattle.rust_literals.specs.LitParts.{AgreesWithStrict}
 use Rattle.rust_literals.specs.ReadBack.{IsItemOf}
 use Rattle.rust_literals.proofs.LitLemmas.{one_kind}

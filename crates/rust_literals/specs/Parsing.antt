@@ -1,10 +1,9 @@
 -- What the parsers of this crate do, and which literals the trees of a text are.
-use Rattle.std.specs.Prelude.{◌≡◌, ◌≢◌, ◌⊎◌, ℕ, List, [], ◌∷◌, codes, Result, Ok, Err, Vec}
+use Rattle.std.specs.Prelude.{◌≡◌, ◌≢◌, ◌⊎◌, ℕ, List, [], ◌∷◌, codes, Result, Ok, Err}
 use Rattle.std.specs.Str.{chars}
 use Rattle.rl_tokens.specs.declared.span.Span.{Span}
 use Rattle.rl_tokens.specs.declared.kind.Kind.TheVariants.{Bool as BoolKind}
 use Rattle.rl_tokens.specs.declared.error.Error.{Error}
-use Rattle.rl_tokens.specs.declared.error.ErrorKind.TheVariants.{Memory}
 use Rattle.rl_tokens.specs.Errors.{memory_at, nowhere}
 use Rattle.rl_tokens.specs.Texts.{SpannedText}
 use Rattle.rl_tokens.specs.Trees.{Tree}
