@@ -60,8 +60,8 @@ struct FirstDigits {
 #[inline(always)]
 fn first_digits(text: &str, radix: u32) -> FirstDigits
     requires { (2 ≤ radix) × (radix ≤ 36) }
-    ensures goes { row_from radix (nat_lt 0 result.end) (Some result.spelled) (drop result.end text.now)
-        ≡ row_from radix false (Some 0) text.now }
+    ensures goes { row_from radix (nat_lt 0 result.end) (Some result.spelled)
+        (drop result.end text.now) ≡ row_from radix false (Some 0) text.now }
     ensures boundary { IsCharBoundary text.now result.end }
     ensures small { result.spelled < 18446744073709551615 }
 {

@@ -29,7 +29,8 @@ fn ends_of_runs(kind: Kind) -> Marks
     }
 }
 
-/// How many bytes at the front are plain, of a string of characters or a C string.
+/// How many bytes at the front are plain, of a string of characters or a C string. Each has a loop
+/// of its own, which knows its marks.
 #[inline(never)]
 fn run_len(kind: Kind, bytes: &[u8]) -> usize
     requires string { IsTrue (is_string kind) }
