@@ -67,22 +67,32 @@ impl LexError {
     }
 }
 
+impl LexKind {
+    /// The words of the refusal.
+    fn words(self) -> &'static str
+        ensures { result.now ≡ lex_message self }
+    {
+        match self {
+            LexKind::DocComment => "doc comment is not carried",
+            LexKind::UnclosedComment => "unclosed block comment",
+            LexKind::UnclosedQuote => "unclosed quote",
+            LexKind::Lifetime => "lifetime is not carried",
+            LexKind::RawIdentifier => "raw identifier is not carried",
+            LexKind::StrayCharacter => "stray character",
+            LexKind::UnmatchedClose => "unmatched closing delimiter",
+            LexKind::UnclosedGroup => "unclosed group",
+            LexKind::TooDeep => "groups nested too deep",
+            LexKind::Memory => "out of memory",
+        }
+    }
+}
+
 impl fmt::Display for LexKind {
     ghost output = { λ kind. Some (lex_message kind) };
 
     fn fmt<W: fmt::Write>(&self, f: &mut fmt::Formatter<W>) -> fmt::Result {
-        match self {
-            LexKind::DocComment => write!(f, "doc comment is not carried"),
-            LexKind::UnclosedComment => write!(f, "unclosed block comment"),
-            LexKind::UnclosedQuote => write!(f, "unclosed quote"),
-            LexKind::Lifetime => write!(f, "lifetime is not carried"),
-            LexKind::RawIdentifier => write!(f, "raw identifier is not carried"),
-            LexKind::StrayCharacter => write!(f, "stray character"),
-            LexKind::UnmatchedClose => write!(f, "unmatched closing delimiter"),
-            LexKind::UnclosedGroup => write!(f, "unclosed group"),
-            LexKind::TooDeep => write!(f, "groups nested too deep"),
-            LexKind::Memory => write!(f, "out of memory"),
-        }
+        let words = self.words();
+        write!(f, "{words}")
     }
 }
 

@@ -128,9 +128,7 @@ impl<A: Allocator> TokenTree<A> {
     {
         match self {
             TokenTree::Group(group) => group.respan(span),
-            TokenTree::Ident(ident) => ident.set_span(span),
-            TokenTree::Punct(punct) => punct.set_span(span),
-            TokenTree::Literal(literal) => literal.set_span(span),
+            other => other.set_span(span),
         }
     }
 }
