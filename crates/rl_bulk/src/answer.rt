@@ -131,7 +131,7 @@ fn digits_answer(alloc: Global, command: Command, digits: &str) -> Result<String
 }
 
 /// What stands before the first space of a line, and what behind it; all of a line with none stands before it.
-pub fn parts_of(line: &str) -> (&str, &str)
+pub(crate) fn parts_of(line: &str) -> (&str, &str)
     ensures before { result.0.now ≡ before_first (λ b. b == 32) line.now }
     ensures behind { result.1.now ≡ after_first (λ b. b == 32) line.now }
 {
@@ -146,7 +146,7 @@ pub fn parts_of(line: &str) -> (&str, &str)
 /// `strict` whether the text is a strict token; under `value` what it lends, or `None`; under `read`, `spans` and `attr`
 /// lines up to one with a point. Another command, digits that aren't hexadecimal or come in no pairs, and bytes
 /// that aren't UTF-8 are each answered by a line of their own.
-pub fn answer(alloc: Global, line: &str) -> Result<String, AllocError>
+pub(crate) fn answer(alloc: Global, line: &str) -> Result<String, AllocError>
     ensures { IfOk result (λ out. IsAnswerOf Global line.now (string_bytes out)) }
 {
     let (name, digits) = parts_of(line);

@@ -2,7 +2,7 @@
 
 /// What a line of input asks for.
 #[derive(Clone, Copy, PartialEq, Eq)]
-pub enum Command {
+pub(crate) enum Command {
     /// The text as one literal.
     Text,
     /// The text as an integer.
@@ -29,7 +29,7 @@ impl Command {
     ghost use Rattle.rl_bulk.specs.Asked.{name_of};
 
     /// The command of this name.
-    pub fn from_name(name: &str) -> Option<Command>
+    pub(crate) fn from_name(name: &str) -> Option<Command>
         ensures known { IfSome result (λ command. name.now ≡ name_of command) }
         ensures unknown { IfNone result ((command : Command) → name.now ≢ name_of command) }
     {

@@ -8,7 +8,7 @@ use crate::answer::answer;
 use std::alloc::{AllocError, Global};
 
 /// What is printed for a line of input, all bytes up to a LF, a CR among them: what [`answer`] says.
-pub fn told(alloc: Global, line: &[u8]) -> Result<String, AllocError>
+pub(crate) fn told(alloc: Global, line: &[u8]) -> Result<String, AllocError>
     ensures answered { IsUtf8 line.now
         → IfOk result (λ out. IsAnswerOf Global line.now (string_bytes out)) }
     ensures refused { (IsUtf8 line.now → ⊥)
