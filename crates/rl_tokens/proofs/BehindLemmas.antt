@@ -1,5 +1,5 @@
 -- What is behind the rest of a text is behind the text.
-use Rattle.std.proofs.Common.{◌≡◌, ℕ, ◌-◌, List, [], ◌++◌, length, take, drop, refl, sym, ap, subst, ◌∙◌, arith, append_assoc, length-append}
+use Rattle.std.proofs.Common.{◌≡◌, ℕ, ◌-◌, ◌<◌, List, [], ◌++◌, length, take, drop, refl, sym, ap, subst, ◌∙◌, arith, append_assoc, length-append}
 use Rattle.std.proofs.Math.Seq.{take-append_seam, drop-append_seam}
 use Rattle.std.specs.Str.{IsCharBoundary, chars}
 use Rattle.std.proofs.lemmas.Str.{IsCharBoundary-at_seam, chars-append}
@@ -52,3 +52,11 @@ if_none (Some x) p = tt
 
 pub cut_chars : (bs xs ys : List ℕ) → IsUtf8 xs → IsTail bs ys → xs ≡ take (length bs - length ys) bs → chars bs ≡ chars xs ++ chars ys
 cut_chars bs xs ys u b e = ap chars (cut_join bs ys b ∙ ap (λ z. z ++ ys) (sym e)) ∙ chars-append xs ys u
+
+-- A rest is no longer than the text, so what is behind something shorter is shorter.
+pub nearer : (a b d : List ℕ) → length b < length a → IsTail b d → length d < length a
+nearer a b d s p = omega (arith, s, length-append p.front d, ap length p.text_is)
+
+pub some_nearer : {I : Type 0} (rest : I → List ℕ) (a b : List ℕ) (r : Option I) → length b < length a → IfSome r (λ i. IsTail b (rest i)) → IfSome r (λ i. length (rest i) < length a)
+some_nearer rest a b None s p = tt
+some_nearer rest a b (Some i) s p = nearer a b (rest i) s p

@@ -10,12 +10,13 @@ use Rattle.rl_tokens.specs.declared.token.Group.{Group}
 use Rattle.rl_tokens.specs.declared.token.Delimiter.{Delimiter}
 use Rattle.rl_tokens.specs.declared.token.Delimiter.TheVariants.{Parenthesis, Brace, Bracket}
 use Rattle.rl_tokens.specs.declared.lex_error.LexKind.TheVariants.{UnclosedGroup}
-use Rattle.rl_tokens.specs.Trees.{Tree, FlatToken, Opening, Closing, FlatPunct, opener_span, closer_span, trees_of, delimiter_of, stream_of, group_span, tree_view, stream_view, flat, flat_trees}
+use Rattle.rl_tokens.specs.Trees.{Tree, FlatToken, Opening, Closing, FlatPunct, FlatLiteral, FlatIdent, opener_span, closer_span, trees_of, delimiter_of, stream_of, group_span, tree_view, stream_view, flat, flat_trees}
 use Rattle.rl_tokens.specs.Lexing.{closer_for, closes, popped, innermost, behind_form, flat_form}
 use Rattle.rl_tokens.specs.Mirrors.TreeBuilders.{opener_of, closer_of, group_of, groups_of, flat_open, flat_builder, TakesToken, TakesTree, OpensGroup, ClosesGroup, EndsInGroup}
 use Rattle.rl_tokens.specs.Puncts.{Mark}
-use Rattle.rl_tokens.specs.Lexemes.{LexemeForm, MarkForm}
-use Rattle.rl_tokens.proofs.TreeLemmas.{tree_view-group, tree_view-punct}
+use Rattle.rl_tokens.specs.Texts.{SpannedText}
+use Rattle.rl_tokens.specs.Lexemes.{LexemeForm, MarkForm, LiteralForm, IdentifierForm}
+use Rattle.rl_tokens.proofs.TreeLemmas.{tree_view-group, tree_view-punct, tree_view-literal, tree_view-ident}
 
 pub flat_trees-append : (xs ys : List Tree) → flat_trees (xs ++ ys) ≡ flat_trees xs ++ flat_trees ys
 flat_trees-append [] ys = refl
@@ -172,6 +173,28 @@ takes_mark {A} old new p form c text lo hi form_is p_is takes =
     let (groups, flat_new, file) = takes_leaf old new (tree.Punct p) (FlatPunct p) (ap flat (tree_view-punct A p)) takes in
     let span : Span = record { file = old.file; lo = lo; hi = hi } in
     let token : flat_form form text span ≡ FlatPunct p = ap (λ f. flat_form f text span) form_is ∙ ap FlatPunct (sym p_is) in
+    record {
+      groups = ap (λ f. behind_form (groups_of old) f lo) form_is ∙ ap Some (sym groups);
+      flat = flat_new ∙ ap (λ f. flat_builder old ++ f ∷ []) (sym token);
+      file = file;
+    }
+
+pub takes_literal : {A : Type 0} (old new : TreeBuilder A) (l : SpannedText) (form : LexemeForm) (text : List ℕ) (lo hi : ℕ) → form ≡ LiteralForm → l ≡ record { text = text; span = record { file = old.file; lo = lo; hi = hi } } → TakesTree old new (tree.Literal l) → TakesToken old new form text lo hi
+takes_literal {A} old new l form text lo hi form_is l_is takes =
+    let (groups, flat_new, file) = takes_leaf old new (tree.Literal l) (FlatLiteral l) (ap flat (tree_view-literal A l)) takes in
+    let span : Span = record { file = old.file; lo = lo; hi = hi } in
+    let token : flat_form form text span ≡ FlatLiteral l = ap (λ f. flat_form f text span) form_is ∙ ap FlatLiteral (sym l_is) in
+    record {
+      groups = ap (λ f. behind_form (groups_of old) f lo) form_is ∙ ap Some (sym groups);
+      flat = flat_new ∙ ap (λ f. flat_builder old ++ f ∷ []) (sym token);
+      file = file;
+    }
+
+pub takes_ident : {A : Type 0} (old new : TreeBuilder A) (i : SpannedText) (form : LexemeForm) (text : List ℕ) (lo hi : ℕ) → form ≡ IdentifierForm → i ≡ record { text = text; span = record { file = old.file; lo = lo; hi = hi } } → TakesTree old new (tree.Ident i) → TakesToken old new form text lo hi
+takes_ident {A} old new i form text lo hi form_is i_is takes =
+    let (groups, flat_new, file) = takes_leaf old new (tree.Ident i) (FlatIdent i) (ap flat (tree_view-ident A i)) takes in
+    let span : Span = record { file = old.file; lo = lo; hi = hi } in
+    let token : flat_form form text span ≡ FlatIdent i = ap (λ f. flat_form f text span) form_is ∙ ap FlatIdent (sym i_is) in
     record {
       groups = ap (λ f. behind_form (groups_of old) f lo) form_is ∙ ap Some (sym groups);
       flat = flat_new ∙ ap (λ f. flat_builder old ++ f ∷ []) (sym token);

@@ -1,13 +1,15 @@
 -- Views of trees and streams.
-use Rattle.std.proofs.Common.{◌≡◌, List, [], ◌∷◌, map, refl, sym, ◌∙◌, ap}
+use Rattle.std.proofs.Common.{◌≡◌, List, [], ◌∷◌, map, refl, sym, ◌∙◌, ap, ◌++◌}
 use Rattle.rl_tokens.specs.declared.span.Span.{Span}
-use Rattle.rl_tokens.specs.declared.token.TokenTree.{fold-roll-TokenTree}
+use Rattle.rl_tokens.specs.declared.token.TokenTree.{fold-roll-TokenTree, TokenTree}
 use Rattle.rl_tokens.specs.declared.token.TokenTree.TheOpen as layer
 use Rattle.rl_tokens.specs.declared.token.TokenTree.TheVariants as tree
 use Rattle.rl_tokens.specs.declared.token.Group.{Group, fold_out-Group}
 use Rattle.rl_tokens.specs.declared.token.TokenStream.{TokenStream, fold-TokenStream, fold_out-TokenStream}
 use Rattle.rl_tokens.specs.Puncts.{Mark}
-use Rattle.rl_tokens.specs.Trees.{Tree, GroupTree, PunctTree, MoreTrees, GroupParts, delimiter_of, stream_of, group_span, inside_of, tree_step, group_step, stream_step, tree_view, stream_view, respanned, all_respanned}
+use Rattle.rl_tokens.specs.Texts.{SpannedText}
+use Rattle.std.proofs.lemmas.List.{map-append}
+use Rattle.rl_tokens.specs.Trees.{Tree, GroupTree, PunctTree, LiteralTree, IdentTree, trees_of, MoreTrees, GroupParts, delimiter_of, stream_of, group_span, inside_of, tree_step, group_step, stream_step, tree_view, stream_view, respanned, all_respanned}
 
 abbrev stream_fold : {A : Type 0} → TokenStream A → List Tree
 stream_fold {A} = fold-TokenStream A Tree GroupParts (List Tree) tree_step group_step stream_step
@@ -25,6 +27,16 @@ tree_view-group {A} g =
 
 pub tree_view-punct : (A : Type 0) (p : Mark) → tree_view {A = A} (tree.Punct p) ≡ PunctTree p
 tree_view-punct A p = ap tree_view (sym (tree.rolls-Punct p)) ∙ fold-roll-TokenTree A Tree GroupParts (List Tree) tree_step group_step stream_step (layer.Punct p)
+
+pub tree_view-literal : (A : Type 0) (l : SpannedText) → tree_view {A = A} (tree.Literal l) ≡ LiteralTree l
+tree_view-literal A l = ap tree_view (sym (tree.rolls-Literal l)) ∙ fold-roll-TokenTree A Tree GroupParts (List Tree) tree_step group_step stream_step (layer.Literal l)
+
+pub tree_view-ident : (A : Type 0) (i : SpannedText) → tree_view {A = A} (tree.Ident i) ≡ IdentTree i
+tree_view-ident A i = ap tree_view (sym (tree.rolls-Ident i)) ∙ fold-roll-TokenTree A Tree GroupParts (List Tree) tree_step group_step stream_step (layer.Ident i)
+
+-- a stream with one tree more
+pub stream_view-append : {A : Type 0} (old new : TokenStream A) (x : TokenTree A) (t : Tree) → tree_view x ≡ t → trees_of new ≡ trees_of old ++ x ∷ [] → stream_view new ≡ stream_view old ++ t ∷ []
+stream_view-append old new x t is e = ap (map tree_view) e ∙ map-append tree_view (trees_of old) (x ∷ []) ∙ ap (λ z. stream_view old ++ z ∷ []) is
 
 pub respanned-inside : (span : Span) (ts : List Tree) → all_respanned span (inside_of ts) ≡ inside_of (map (respanned span) ts)
 respanned-inside span [] = refl

@@ -1,5 +1,6 @@
-use Rattle.std.proofs.Common.{rules, ◌≡◌, sym, ◌∙◌}
+use Rattle.std.proofs.Common.{rules, ◌≡◌, sym, ◌∙◌, arith}
 use Rattle.rl_grammar.proofs.FrontLemmas.{negative_front}
+use Rattle.std.proofs.lemmas.Grind.{common_steps}
 use Rattle.rl_grammar.proofs.front.take_negative.Goals as goal
 
 pub returns-clause-taken : goal.returns-clause-taken
@@ -7,3 +8,30 @@ returns-clause-taken g c =
     let minus : c.in_ok-minus.minus.now.ch ≡ 45 = search rules in
     negative_front _ _ _ c.in_ok-minus.minus.now c.in_ok-number.number.now c.in_ok-found.found (sym c.fork-ahead.ensures.trees ∙ c.in_ok-minus.ensures.taken) c.in_ok-number.ensures.taken minus
     (rw c.text.ensures at c.in_ok-found.ensures.found)
+
+pub returns-in_err-minus-clause-none : goal.returns-in_err-minus-clause-none
+returns-in_err-minus-clause-none g c = grind (arith, common_steps)
+
+pub returns-then-as_char-ne45-clause-none : goal.returns-then-as_char-ne45-clause-none
+returns-then-as_char-ne45-clause-none g c = grind (arith, common_steps)
+
+pub returns-in_err-number-clause-taken : goal.returns-in_err-number-clause-taken
+returns-in_err-number-clause-taken g c = grind (arith, common_steps)
+
+pub returns-in_err-number-clause-none : goal.returns-in_err-number-clause-none
+returns-in_err-number-clause-none g c = grind (arith, common_steps)
+
+pub returns-in_err-number-clause-left : goal.returns-in_err-number-clause-left
+returns-in_err-number-clause-left g c = grind (arith, common_steps)
+
+pub returns-in_err-found-clause-taken : goal.returns-in_err-found-clause-taken
+returns-in_err-found-clause-taken g c = grind (arith, common_steps)
+
+pub returns-in_err-found-clause-left : goal.returns-in_err-found-clause-left
+returns-in_err-found-clause-left g c = grind (arith, common_steps)
+
+pub invariant_of-result : goal.invariant_of-result
+invariant_of-result g c = grind (arith, common_steps)
+
+pub returns-clause-scope : goal.returns-clause-scope
+returns-clause-scope g c = grind (arith, common_steps)

@@ -23,3 +23,7 @@ pub returns-clause-rest : goal.returns-clause-rest
 returns-clause-rest c =
     let m = c.two.ensures in
     sym (sym c.loop-behind.invariant.same ∙ raw_none _ _ _ (ap (λ z. z.first) m) c.in_default.ensures.none)
+
+pub returns-in-Some-strip_hashes-clause-behind : goal.returns-in-Some-strip_hashes-clause-behind
+returns-in-Some-strip_hashes-clause-behind c =
+    behind_step _ _ _ (behind_step _ _ _ c.loop-behind.invariant.behind c.in-Some.ensures.behind) c.in-Some-strip_hashes.ensures.behind
