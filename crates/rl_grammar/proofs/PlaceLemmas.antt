@@ -10,7 +10,7 @@ use Rattle.rl_tokens.specs.Quoted.{is_string, is_single}
 use Rattle.rl_grammar.specs.Shapes.{IsQuotedSplit}
 use Rattle.rl_tokens.specs.Reading.{Contents, Reads, ReadsQuoted, quoted_contents}
 use Rattle.rl_grammar.specs.declared.quoted.QuotedForm.{QuotedForm}
-use Rattle.rl_grammar.specs.Bodies.{IsBodyAt, letters}
+use Rattle.rl_grammar.specs.Bodies.{letters}
 use Rattle.rl_grammar.specs.declared.bodies.Body.{Body}
 use Rattle.rl_grammar.specs.Founds.{IsQuotedAt, body_in, suffix_in}
 use Rattle.rl_grammar.specs.Decoded.{ReadsAsQuoted}
@@ -169,14 +169,3 @@ quoted_at t form kind w b x plain ut ub ux p plain_is at end_at suffix_at suffix
       plain_is = plain_is ∙ ap (λ z. is_plain_body form kind (chars z)) (sym at_places.body_is);
       stands = record { ordered = at_places.ordered; begins = at_places.begins; ends = at_places.ends; behind = at_places.behind };
     }
-
--- the body of a string
-pub string_at : (kind : Kind) (t : List ℕ) (body : Body) → is_string kind ≡ true → IsQuotedAt kind t body → IsBodyAt kind t body
-string_at kind t body s q = record {
-  has = record { string = s; form = q.form; value = q.value; suffix = chars (suffix_in t body); parts = q.parts; plain_is = q.plain_is };
-  suffix = (quoted_contents kind q.value, string_reads kind (chars t) (quoted_contents kind q.value) (chars (suffix_in t body)) s (parts_read q.form kind (chars t) q.value (chars (body_in t body)) (chars (suffix_in t body)) q.parts));
-  ordered = q.stands.ordered;
-  begins = q.stands.begins;
-  ends = q.stands.ends;
-  behind = q.stands.behind;
-}

@@ -1,13 +1,11 @@
 -- The bodies of string literals, and where they stand.
-use Rattle.std.specs.Prelude.{◌≡◌, ◌-◌, ◌≤◌, ℕ, Bool, List, take, drop, IsTrue}
-use Rattle.std.specs.Str.{chars, IsCharBoundary}
+use Rattle.std.specs.Prelude.{◌≡◌, ℕ, Bool, List, IsTrue}
+use Rattle.std.specs.Str.{chars}
 use Rattle.rl_tokens.specs.declared.kind.Kind.{Kind}
 use Rattle.rl_tokens.specs.declared.kind.Kind.TheVariants.{Str, Char}
 use Rattle.rl_tokens.specs.Quoted.{is_string}
-use Rattle.rl_tokens.specs.Reading.{HasSuffix}
 use Rattle.rl_grammar.specs.declared.quoted.QuotedForm.{QuotedForm}
 use Rattle.rl_grammar.specs.declared.quoted.QuotedForm.TheVariants.{Single as SingleForm}
-use Rattle.rl_grammar.specs.declared.bodies.Body.{Body}
 use Rattle.rl_grammar.specs.Forms.{PartsAre, is_plain_body}
 
 -- The body, in bytes, stands between the quotes of the string, and it is told whether the body
@@ -25,15 +23,6 @@ pub record HasSingleBody (kind : Kind) (text body : List ℕ) : Type 0 where
   pub value : List ℕ
   pub suffix : List ℕ
   pub parts : PartsAre SingleForm kind text value (chars body) suffix
-
--- The parts of the string, whose text is told by its bytes, stand at these places.
-pub record IsBodyAt (kind : Kind) (text : List ℕ) (body : Body) : Type 0 where
-  pub has : HasBody kind (chars text) (take (body.end - body.at) (drop body.at text)) body.plain
-  pub suffix : HasSuffix kind (chars text) (chars (drop body.suffix_at text))
-  pub ordered : body.at ≤ body.end
-  pub begins : IsCharBoundary text body.at
-  pub ends : IsCharBoundary text body.end
-  pub behind : IsCharBoundary text body.suffix_at
 
 -- how many letters stand before a quoted literal of the kind
 abbrev pub letters : Kind → ℕ

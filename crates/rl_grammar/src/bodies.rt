@@ -1,15 +1,12 @@
 //! Where the body of a quoted literal stands.
 
-ghost use Rattle.std.specs.Prelude.{◌≡◌, ℕ, List, IsTrue};
+ghost use Rattle.std.specs.Prelude.{◌≡◌, ℕ, List};
 ghost use Rattle.std.specs.Str.{chars};
-ghost use Rattle.rl_tokens.specs.Quoted.{is_string};
 ghost use Rattle.rl_grammar.specs.declared.quoted.QuotedForm.{QuotedForm};
-ghost use Rattle.rl_grammar.specs.Bodies.{IsBodyAt, letters};
-ghost use Rattle.rl_grammar.specs.Decoded.{ReadsAsQuoted};
+ghost use Rattle.rl_grammar.specs.Bodies.{letters};
 ghost use Rattle.rl_grammar.specs.Forms.{PartsAre, is_plain_body};
 ghost use Rattle.rl_grammar.specs.Founds.{IsQuotedAt};
 
-use crate::quoted::quoted_parts;
 use rl_tokens::Kind;
 
 /// Where the parts of a literal stand in its text, in bytes, and whether the body is what it stands for, byte for byte.
@@ -58,16 +55,4 @@ pub(crate) fn quoted_body<'t>(
         suffix_at,
         plain,
     }
-}
-
-/// The places of the parts of a text that has to read as a string of the kind. No memory is taken.
-pub fn body_of(kind: Kind, text: &str) -> Body
-    requires string { IsTrue (is_string kind) }
-    requires reads { ReadsAsQuoted kind (chars text.now) }
-    ensures { IsBodyAt kind text.now result }
-{
-    let Some((_, parts, plain)) = quoted_parts(text) else {
-        unreachable!()
-    };
-    quoted_body(kind, text, parts.body, parts.suffix, plain)
 }

@@ -171,7 +171,7 @@ pub fn bytes_of<A: Allocator>(alloc: A, text: &str) -> Result<Vec<u8, A>, Error<
     }
 }
 
-/// The text that a string literal with this body stands for, as [`body_of`](crate::body_of) tells it.
+/// The text that a string literal with this body stands for, as [`find`](crate::find) tells it.
 ///
 /// # Errors
 ///

@@ -161,7 +161,7 @@ impl<'a, A: Allocator> Front<'a, A> {
     }
 
     /// Whether the literal reads as this kind. No memory is taken.
-    pub fn is_of(&self, kind: Kind) -> bool
+    fn is_of(&self, kind: Kind) -> bool
         ensures { IsTrue result ↔ ReadsAs kind (chars (front_token self.now).text) }
     {
         self.find_as(kind).is_some()

@@ -23,7 +23,7 @@ pub mod strict;
 mod tally;
 mod units;
 
-pub use crate::bodies::{Body, body_of};
+pub use crate::bodies::Body;
 pub use crate::contents::{
     byte_of, byte_of_body, bytes_of, bytes_of_body, char_of, char_of_body, str_of, str_of_body,
 };

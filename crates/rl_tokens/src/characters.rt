@@ -7,7 +7,7 @@ ghost use Rattle.rl_tokens.specs.Lexemes.{is_start, is_continue};
 
 /// Whether the character is white space between tokens: Unicode's, or one of the two direction
 /// marks.
-pub fn is_white(c: char) -> bool
+pub(crate) fn is_white(c: char) -> bool
     ensures { result ≡ is_white c }
 {
     c.is_whitespace() || c == '\u{200e}' || c == '\u{200f}'

@@ -1,8 +1,8 @@
 //! Walking a text by its characters.
 
-ghost use Rattle.std.specs.Prelude.{◌≡◌, ◌<◌, ◌++◌, ◌∷◌, [], length, drop, encode_utf8, MatchOption, IfSome, IfNone, IsFalse};
+ghost use Rattle.std.specs.Prelude.{◌≡◌, ◌<◌, ◌++◌, ◌∷◌, [], length, encode_utf8, MatchOption, IfSome, IfNone, IsFalse};
 ghost use Rattle.std.specs.Char.{is_ascii};
-ghost use Rattle.std.specs.Str.{chars, IsCharBoundary};
+ghost use Rattle.std.specs.Str.{chars};
 ghost use Rattle.rl_tokens.specs.Texts.{first_passes, IsTail};
 
 /// The first character, and the text behind it: `None` where the text is empty.
@@ -34,14 +34,4 @@ pub fn split_ascii(text: &str) -> Option<(u8, &str)>
         return None;
     }
     Some((bytes[0], &text[1..]))
-}
-
-/// The place of the rest's first byte in the text, of which it has to be a rest.
-#[tactic(auto, using(crate::proofs::BehindLemmas::cut_boundary, crate::proofs::BehindLemmas::cut_drop))]
-pub fn offset_of(text: &str, rest: &str) -> usize
-    requires { IsTail text.now rest.now }
-    ensures boundary { IsCharBoundary text.now result }
-    ensures rest { drop result text.now ≡ rest.now }
-{
-    text.len() - rest.len()
 }
