@@ -8,14 +8,13 @@ use Rattle.rl_tokens.specs.declared.kind.Kind.{Kind}
 use Rattle.rl_tokens.specs.declared.kind.Kind.TheVariants.{Str, ByteStr, CStr, Byte, Char, Int, Float, Bool as BoolKind}
 use Rattle.rl_tokens.specs.Quoted.{is_string, is_single}
 use Rattle.rl_grammar.specs.Shapes.{IsQuotedSplit}
-use Rattle.rl_tokens.specs.Reading.{Contents, Reads, ReadsQuoted, quoted_contents}
+use Rattle.rl_tokens.specs.Reading.{Contents, Reads, ReadsQuoted}
 use Rattle.rl_grammar.specs.declared.quoted.QuotedForm.{QuotedForm}
 use Rattle.rl_grammar.specs.Bodies.{letters}
-use Rattle.rl_grammar.specs.declared.bodies.Body.{Body}
-use Rattle.rl_grammar.specs.Founds.{IsQuotedAt, body_in, suffix_in}
+use Rattle.rl_grammar.specs.Founds.{IsQuotedAt}
 use Rattle.rl_grammar.specs.Decoded.{ReadsAsQuoted}
 use Rattle.rl_grammar.specs.Forms.{PartsAre, is_plain_body}
-use Rattle.rl_grammar.proofs.FormLemmas.{formed, formed_once, not_both, parts_formed, parts_read}
+use Rattle.rl_grammar.proofs.FormLemmas.{formed, formed_once, not_both, parts_formed}
 use Rattle.rl_grammar.proofs.ShapeLemmas.{parts_cut}
 
 -- What stands in front of the body is as long as what stands behind it, but for the letters and the other side's `r`.
