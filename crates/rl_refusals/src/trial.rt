@@ -17,6 +17,9 @@ pub const HERE: Span = Span {
     hi: 9,
 };
 
+/// What is told where the values for a call can't be made of the text.
+pub const UNFIT: &str = "unfit text";
+
 /// One run of a call, with the numbers of the requests that are refused while it runs.
 #[derive(Clone, Copy)]
 pub struct Trial<'a> {
@@ -33,28 +36,33 @@ pub struct Trial<'a> {
 }
 
 impl<'a> Trial<'a> {
-    /// The call begins.
-    pub fn begins(&self) {
+    /// The call begins: its memory, which is refused from now on.
+    pub fn begins(&self) -> Scant<'a> {
         self.scant.refuse(self.first, self.last);
+        self.scant
     }
 
     /// The call has ended with this answer, which is put last.
-    pub fn ends<T: Tell>(&self, answer: &T, page: &mut Page) {
+    pub fn ends<T: Tell + Drop>(&self, answer: T, page: &mut Page) {
         self.asked.set(self.scant.allow());
         answer.tell(page);
     }
 
-    /// Puts last what is left of what the call was lent: whether all of it is as in one that was built alike.
-    pub fn leaves<T: Tell>(&self, lent: &T, other: &T, page: &mut Page) {
+    /// What is told of what a call is lent, before it.
+    pub fn lends<T: Tell>(&self, lent: &T) -> Page {
         let mut told = Page::new(self.alloc);
         lent.tell(&mut told);
-        let mut wanted = Page::new(self.alloc);
-        other.tell(&mut wanted);
-        if told.text() == wanted.text() {
+        told
+    }
+
+    /// Puts last what is left of what the call was lent: whether the same is told of it as before.
+    pub fn leaves<T: Tell>(&self, lent: &T, before: Page, page: &mut Page) {
+        let after = self.lends(lent);
+        if after.text() == before.text() {
             page.put("; same");
         } else {
             page.put("; now");
-            page.put(told.text());
+            page.put(after.text());
         }
     }
 

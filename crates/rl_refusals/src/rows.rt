@@ -2,8 +2,9 @@
 
 use crate::page::Page;
 use crate::trial::Trial;
-use crate::{grammar, made, tokens};
+use crate::{grammar, held, made, tokens};
 use rl_refusing::Refusing;
+use rust_literals::{FloatKind, IntKind, LitBool};
 use std::alloc::Global;
 use std::cell::Cell;
 
@@ -34,9 +35,9 @@ fn run_free(row: Row<'_>, trial: Trial<'_>, page: &mut Page) {
 /// Runs a call of a number, of a truth value, of a literal of any kind, or of a token.
 fn run_number(row: Row<'_>, trial: Trial<'_>, page: &mut Page) {
     match row.of {
-        "LitInt" => made::integer_call(row.call, trial, row.text, page),
-        "LitFloat" => made::float_call(row.call, trial, row.text, page),
-        "LitBool" => made::truth_call(row.call, trial, row.text, page),
+        "LitInt" => made::number_call::<IntKind>(row.call, trial, row.text, page),
+        "LitFloat" => made::number_call::<FloatKind>(row.call, trial, row.text, page),
+        "LitBool" => held::call::<LitBool>(row.call, trial, row.text, page),
         "Lit" => made::lit_call(row.call, trial, row.text, page),
         "Literal" => tokens::literal_call(row.call, trial, row.text, page),
         "Ident" => tokens::word(trial, row.text, page),

@@ -1,9 +1,7 @@
 //! Calls of `rl_grammar` and the free calls above it.
 
 use crate::page::Page;
-use crate::tell::Tell;
-use crate::tokens::UNFIT;
-use crate::trial::Trial;
+use crate::trial::{Trial, UNFIT};
 use rl_grammar::{Kind, bytes_of, digits_of, shape, str_of};
 use rust_literals::read_all;
 
@@ -11,8 +9,7 @@ use rust_literals::read_all;
 pub fn text_of(trial: Trial<'_>, text: &str, page: &mut Page) {
     match shape(text) {
         Some(parts) if parts.kind == Kind::Str => {
-            trial.begins();
-            trial.ends(&str_of(trial.scant, text), page);
+            trial.ends(str_of(trial.begins(), text), page);
         }
         _ => page.put(UNFIT),
     }
@@ -22,8 +19,7 @@ pub fn text_of(trial: Trial<'_>, text: &str, page: &mut Page) {
 pub fn contents_of(trial: Trial<'_>, text: &str, page: &mut Page) {
     match shape(text) {
         Some(parts) if parts.kind == Kind::ByteStr || parts.kind == Kind::CStr => {
-            trial.begins();
-            trial.ends(&bytes_of(trial.scant, text), page);
+            trial.ends(bytes_of(trial.begins(), text), page);
         }
         _ => page.put(UNFIT),
     }
@@ -33,8 +29,7 @@ pub fn contents_of(trial: Trial<'_>, text: &str, page: &mut Page) {
 pub fn numeral_of(trial: Trial<'_>, text: &str, page: &mut Page) {
     match shape(text) {
         Some(parts) if parts.kind == Kind::Int || parts.kind == Kind::Float => {
-            trial.begins();
-            trial.ends(&digits_of(trial.scant, parts.kind, text), page);
+            trial.ends(digits_of(trial.begins(), parts.kind, text), page);
         }
         _ => page.put(UNFIT),
     }
@@ -42,6 +37,5 @@ pub fn numeral_of(trial: Trial<'_>, text: &str, page: &mut Page) {
 
 /// `read_all`, in the file 7.
 pub fn read(trial: Trial<'_>, text: &str, page: &mut Page) {
-    trial.begins();
-    trial.ends(&read_all(trial.scant, text, 7), page);
+    trial.ends(read_all(trial.begins(), text, 7), page);
 }

@@ -7,7 +7,7 @@ use rl_tokens::{
     CString, Delimiter, Error, Group, Ident, Kept, LexError, LexKind, Literal, Span, TokenStream,
     TokenTree,
 };
-use rust_literals::{Lit, LitBool, LitFloat, LitInt};
+use rust_literals::{Lit, LitBool, Number, NumberKind};
 
 /// A value that can be printed, with its spans.
 pub trait Tell {
@@ -90,14 +90,7 @@ impl<K: QuotedKind> Tell for Quoted<K, Scant<'_>> {
     }
 }
 
-impl Tell for LitInt<Scant<'_>> {
-    fn tell(&self, page: &mut Page) {
-        page.put_debug(self);
-        tell_span(self.span(), page);
-    }
-}
-
-impl Tell for LitFloat<Scant<'_>> {
+impl<K: NumberKind> Tell for Number<K, Scant<'_>> {
     fn tell(&self, page: &mut Page) {
         page.put_debug(self);
         tell_span(self.span(), page);

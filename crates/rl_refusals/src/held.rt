@@ -1,0 +1,145 @@
+//! Calls that are lent a value: a literal, or a token.
+
+use crate::inside;
+use crate::page::Page;
+use crate::tell::Tell;
+use crate::tokens::parsed;
+use crate::trial::{HERE, Scant, Trial, UNFIT};
+use rl_grammar::shape;
+use rl_quoted::{Quoted, QuotedKind};
+use rl_tokens::{Literal, Parse, ToTokens};
+use rust_literals::{Lit, LitBool, Number, NumberKind};
+
+/// What no row should name.
+pub const NO_CALL: &str = "no such call";
+
+/// A value that is made of a token, and then lent to calls.
+pub trait Held<'a>: Tell + Drop + Sized {
+    /// The value that the token is, if it is one.
+    fn of(scant: Scant<'a>, token: Literal<Scant<'a>>) -> Option<Self>;
+
+    /// Makes the call of this name, and puts its answer last.
+    fn call(&self, name: &str, trial: Trial<'a>, page: &mut Page);
+}
+
+impl<'a> Held<'a> for Literal<Scant<'a>> {
+    fn of(_scant: Scant<'a>, token: Literal<Scant<'a>>) -> Option<Self> {
+        Some(token)
+    }
+
+    fn call(&self, name: &str, trial: Trial<'a>, page: &mut Page) {
+        match name {
+            "clone" => trial.ends(self.clone(trial.begins()), page),
+            "behind_minus" => trial.ends(self.behind_minus(trial.begins(), HERE), page),
+            _ => page.put(NO_CALL),
+        }
+    }
+}
+
+impl<'a, K: QuotedKind> Held<'a> for Quoted<K, Scant<'a>> {
+    fn of(_scant: Scant<'a>, token: Literal<Scant<'a>>) -> Option<Self> {
+        match shape(token.text()) {
+            Some(parts) if parts.kind == K::KIND => Some(Quoted::of_token(token)),
+            _ => None,
+        }
+    }
+
+    fn call(&self, name: &str, trial: Trial<'a>, page: &mut Page) {
+        match name {
+            "clone" => trial.ends(self.clone(trial.begins()), page),
+            "token" => trial.ends(self.token(trial.begins()), page),
+            "to_tokens" => appended(self, trial, page),
+            _ => page.put(NO_CALL),
+        }
+    }
+}
+
+impl<'a, K: NumberKind> Held<'a> for Number<K, Scant<'a>> {
+    fn of(scant: Scant<'a>, token: Literal<Scant<'a>>) -> Option<Self> {
+        Number::from_token(scant, token).ok()
+    }
+
+    fn call(&self, name: &str, trial: Trial<'a>, page: &mut Page) {
+        match name {
+            "clone" => trial.ends(self.clone(trial.begins()), page),
+            "token" => trial.ends(self.token(trial.begins()), page),
+            "to_tokens" => appended(self, trial, page),
+            "base10_parse" => trial.ends(self.base10_parse::<i8, _>(trial.begins()), page),
+            _ => page.put(NO_CALL),
+        }
+    }
+}
+
+impl<'a> Held<'a> for LitBool {
+    fn of(_scant: Scant<'a>, token: Literal<Scant<'a>>) -> Option<Self> {
+        Some(LitBool::new(token.text() == "true", token.span()))
+    }
+
+    fn call(&self, name: &str, trial: Trial<'a>, page: &mut Page) {
+        match name {
+            "clone" => trial.ends(self.clone(trial.begins()), page),
+            "token" => trial.ends(self.token(trial.begins()), page),
+            "to_tokens" => appended(self, trial, page),
+            _ => page.put(NO_CALL),
+        }
+    }
+}
+
+impl<'a> Held<'a> for Lit<Scant<'a>> {
+    fn of(scant: Scant<'a>, token: Literal<Scant<'a>>) -> Option<Self> {
+        Lit::new(scant, token).ok()
+    }
+
+    fn call(&self, name: &str, trial: Trial<'a>, page: &mut Page) {
+        match name {
+            "clone" => trial.ends(self.clone(trial.begins()), page),
+            "to_tokens" => appended(self, trial, page),
+            _ => inside::call(self, name, trial, page),
+        }
+    }
+}
+
+/// The value that the text is, made before a call.
+fn made<'a, T: Held<'a>>(trial: Trial<'a>, text: &str) -> Option<T> {
+    T::of(trial.scant, trial.token(text)?)
+}
+
+/// A call that is lent a value, and what is left of that.
+pub fn lent<'a, T: Held<'a>>(name: &str, trial: Trial<'a>, text: &str, page: &mut Page) {
+    match made::<T>(trial, text) {
+        Some(value) => {
+            let before = trial.lends(&value);
+            value.call(name, trial, page);
+            trial.leaves(&value, before, page);
+        }
+        None => page.put(UNFIT),
+    }
+}
+
+/// As many trees as a stream takes before it has to grow.
+const FULL: &str = "(1) a 2 +";
+
+/// `to_tokens` into a stream that is full, and what is left of the stream.
+fn appended<T: ToTokens>(literal: &T, trial: Trial<'_>, page: &mut Page) {
+    match trial.trees(FULL) {
+        Some(mut stream) => {
+            let before = trial.lends(&stream);
+            trial.ends(literal.to_tokens(trial.begins(), &mut stream), page);
+            trial.leaves(&stream, before, page);
+        }
+        None => page.put(UNFIT),
+    }
+}
+
+/// A call that `Lit` and all eight structs have: a parser, or a call that is lent the literal.
+pub fn call<'a, T: Held<'a> + Parse<Scant<'a>>>(
+    name: &str,
+    trial: Trial<'a>,
+    text: &str,
+    page: &mut Page,
+) {
+    match name {
+        "Parse::parse" => parsed::<T>(trial, text, page),
+        _ => lent::<T>(name, trial, text, page),
+    }
+}
