@@ -1,7 +1,7 @@
 //! Texts that are cut or long, given to five calls: `Lit::new`, `skip`, `lex`, `read_all` and `is_token`.
 
 use crate::page::Page;
-use crate::tell::tell_places;
+use crate::tell::{Tell, tell_places};
 use rl_grammar::strict;
 use rl_lines::line_of;
 use rl_tokens::{Literal, Span, lex, whitespace};
@@ -14,27 +14,45 @@ const LONGEST: usize = 100;
 /// How many literals of a list are told.
 const MOST: usize = 4;
 
-/// Puts last a literal's line without its end, or where that is long its kind and how many bytes it has.
-fn tell_line(alloc: Global, literal: &Lit, page: &mut Page) {
-    let Ok(line) = line_of(alloc, literal) else {
-        return page.put("out of memory");
-    };
-    let line = line.as_str().trim_end();
+/// What is told where memory is refused.
+const NO_MEMORY: &str = "out of memory";
+
+/// Puts last a line without its end, or where that is long its kind and how many bytes it has.
+fn put_line(line: &str, page: &mut Page) {
+    let line = line.trim_end();
     if line.len() <= LONGEST {
-        return page.put(line);
+        page.put(line);
+    } else {
+        put_length(line, page);
     }
+}
+
+/// Puts last the kind that a line begins with, and how many bytes it has.
+fn put_length(line: &str, page: &mut Page) {
     let (kind, _) = line.split_once(' ').unwrap_or((line, ""));
     page.put(kind);
     page.put(" in a line of ");
     page.put_number(line.len());
 }
 
-/// Puts last what `Lit::new` answers.
+/// Puts a literal's line last.
+fn tell_line(alloc: Global, literal: &Lit, page: &mut Page) {
+    match line_of(alloc, literal) {
+        Ok(line) => put_line(line.as_str(), page),
+        Err(_) => page.put(NO_MEMORY),
+    }
+}
+
+/// Puts last what `Lit::new` answers to a token of the text.
 fn tell_literal(alloc: Global, text: &str, page: &mut Page) {
-    page.put("; new ");
-    let Ok(token) = Literal::from_text(alloc, text, Span::call_site()) else {
-        return page.put("out of memory");
-    };
+    match Literal::from_text(alloc, text, Span::call_site()) {
+        Ok(token) => tell_new(alloc, token, page),
+        Err(_) => page.put(NO_MEMORY),
+    }
+}
+
+/// Puts last what `Lit::new` answers.
+fn tell_new(alloc: Global, token: Literal, page: &mut Page) {
     match Lit::new(alloc, token) {
         Ok(literal) => tell_line(alloc, &literal, page),
         Err(kept) => page.put_shown(&kept.error),
@@ -43,33 +61,30 @@ fn tell_literal(alloc: Global, text: &str, page: &mut Page) {
 
 /// Puts last what `lex` answers: how many trees, or a fault and its place.
 fn tell_trees(alloc: Global, text: &str, page: &mut Page) {
-    page.put("; lex ");
     match lex(alloc, text, 0) {
         Ok(stream) => page.put_number(stream.trees().len()),
-        Err(fault) => {
-            page.put_shown(&fault.kind);
-            page.put(" ");
-            page.put_number(fault.at);
-        }
+        Err(fault) => fault.tell(page),
     }
 }
 
 /// Puts last what `read_all` answers: how many literals, the first of them and their places, or a refusal and its places.
-fn tell_literals(alloc: Global, text: &str, page: &mut Page) {
-    page.put("; read ");
+fn tell_read(alloc: Global, text: &str, page: &mut Page) {
     match read_all(alloc, text, 0) {
-        Ok(literals) => {
-            page.put_number(literals.len());
-            for literal in literals.iter().take(MOST) {
-                page.put(", ");
-                tell_line(alloc, literal, page);
-                tell_places(literal.span(), page);
-            }
-        }
+        Ok(literals) => tell_literals(alloc, literals.as_slice(), page),
         Err(error) => {
             page.put_shown(&error);
             tell_places(error.span, page);
         }
+    }
+}
+
+/// Puts last how many literals there are, and the first of them and their places.
+fn tell_literals(alloc: Global, literals: &[Lit], page: &mut Page) {
+    page.put_number(literals.len());
+    for literal in literals.iter().take(MOST) {
+        page.put(", ");
+        tell_line(alloc, literal, page);
+        tell_places(literal.span(), page);
     }
 }
 
@@ -79,40 +94,60 @@ fn tell_text(alloc: Global, text: &str, page: &mut Page) {
     page.put_number(text.len());
     page.put(": skip ");
     page.put_number(whitespace::skip(text).len());
+    page.put("; lex ");
     tell_trees(alloc, text, page);
     if strict::is_token(text) {
         page.put("; token");
     }
-    tell_literals(alloc, text, page);
+    page.put("; read ");
+    tell_read(alloc, text, page);
+    page.put("; new ");
     tell_literal(alloc, text, page);
     page.put("\n");
 }
 
+/// The character that a picture stands for, or itself.
+fn unpictured(c: char) -> char {
+    match c {
+        '␊' => '\n',
+        '␍' => '\r',
+        '␉' => '\t',
+        '␀' => '\0',
+        c => c,
+    }
+}
+
 /// The text whose line ends, tabs and zeros are written as pictures.
-fn unpictured(alloc: Global, text: &str) -> Result<String, AllocError> {
+fn without_pictures(alloc: Global, text: &str) -> Result<String, AllocError> {
     let mut out = String::new(alloc);
     for c in text.chars() {
-        out.push(match c {
-            '␊' => '\n',
-            '␍' => '\r',
-            '␉' => '\t',
-            '␀' => '\0',
-            c => c,
-        })?;
+        out.push(unpictured(c))?;
     }
     Ok(out)
 }
 
 /// Puts last what the five calls answer to the text, cut at each place between two characters.
-pub fn cuts(alloc: Global, text: &str, page: &mut Page) {
-    let Ok(text) = unpictured(alloc, text) else {
-        return page.put("out of memory");
-    };
-    let text = text.as_str();
+fn tell_cuts(alloc: Global, text: &str, page: &mut Page) {
     for (at, _) in text.char_indices() {
         tell_text(alloc, &text[..at], page);
     }
     tell_text(alloc, text, page);
+}
+
+/// Puts last what the five calls answer to the text with pictures in it, cut at each place.
+pub fn cuts(alloc: Global, text: &str, page: &mut Page) {
+    match without_pictures(alloc, text) {
+        Ok(text) => tell_cuts(alloc, text.as_str(), page),
+        Err(_) => page.put(NO_MEMORY),
+    }
+}
+
+/// Puts the piece last, so many times.
+fn put_times(count: u32, piece: &str, text: &mut String) -> Result<(), AllocError> {
+    for _ in 0..count {
+        text.push_str(piece)?;
+    }
+    Ok(())
 }
 
 /// The text of these parts: each a number, a space, and a piece that stands so many times; tabs between them.
@@ -120,9 +155,7 @@ fn put_together(alloc: Global, parts: &str) -> Result<String, AllocError> {
     let mut text = String::new(alloc);
     for part in parts.split('\t') {
         let (count, piece) = part.split_once(' ').unwrap_or(("", part));
-        for _ in 0..count.parse::<u32>().unwrap_or(1) {
-            text.push_str(piece)?;
-        }
+        put_times(count.parse::<u32>().unwrap_or(1), piece, &mut text)?;
     }
     Ok(text)
 }
@@ -131,6 +164,6 @@ fn put_together(alloc: Global, parts: &str) -> Result<String, AllocError> {
 pub fn long(alloc: Global, parts: &str, page: &mut Page) {
     match put_together(alloc, parts) {
         Ok(text) => tell_text(alloc, text.as_str(), page),
-        Err(_) => page.put("out of memory"),
+        Err(_) => page.put(NO_MEMORY),
     }
 }
