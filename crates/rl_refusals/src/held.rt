@@ -4,7 +4,7 @@ use crate::inside;
 use crate::page::Page;
 use crate::tell::Tell;
 use crate::tokens::parsed;
-use crate::trial::{HERE, Scant, Trial, UNFIT};
+use crate::trial::{HERE, Scarce, Trial, UNFIT};
 use rl_grammar::shape;
 use rl_quoted::{Quoted, QuotedKind};
 use rl_tokens::{Literal, Parse, ToTokens};
@@ -14,20 +14,20 @@ use rust_literals::{Lit, LitBool, Number, NumberKind};
 pub const NO_CALL: &str = "no such call";
 
 /// A value that is made of a token, and then lent to calls.
-pub trait Held<'a>: Tell + Drop + Sized {
+pub trait Held<A: Scarce>: Tell + Drop + Sized {
     /// The value that the token is, if it is one.
-    fn of(scant: Scant<'a>, token: Literal<Scant<'a>>) -> Option<Self>;
+    fn of(scant: A, token: Literal<A>) -> Option<Self>;
 
     /// Makes the call of this name, and puts its answer last.
-    fn call(&self, name: &str, trial: Trial<'a>, page: &mut Page);
+    fn call(&self, name: &str, trial: Trial<'_, A>, page: &mut Page);
 }
 
-impl<'a> Held<'a> for Literal<Scant<'a>> {
-    fn of(_scant: Scant<'a>, token: Literal<Scant<'a>>) -> Option<Self> {
+impl<A: Scarce> Held<A> for Literal<A> {
+    fn of(_scant: A, token: Literal<A>) -> Option<Self> {
         Some(token)
     }
 
-    fn call(&self, name: &str, trial: Trial<'a>, page: &mut Page) {
+    fn call(&self, name: &str, trial: Trial<'_, A>, page: &mut Page) {
         match name {
             "clone" => trial.ends(self.clone(trial.begins()), page),
             "behind_minus" => trial.ends(self.behind_minus(trial.begins(), HERE), page),
@@ -36,15 +36,15 @@ impl<'a> Held<'a> for Literal<Scant<'a>> {
     }
 }
 
-impl<'a, K: QuotedKind> Held<'a> for Quoted<K, Scant<'a>> {
-    fn of(_scant: Scant<'a>, token: Literal<Scant<'a>>) -> Option<Self> {
+impl<K: QuotedKind, A: Scarce> Held<A> for Quoted<K, A> {
+    fn of(_scant: A, token: Literal<A>) -> Option<Self> {
         match shape(token.text()) {
             Some(parts) if parts.kind == K::KIND => Some(Quoted::of_token(token)),
             _ => None,
         }
     }
 
-    fn call(&self, name: &str, trial: Trial<'a>, page: &mut Page) {
+    fn call(&self, name: &str, trial: Trial<'_, A>, page: &mut Page) {
         match name {
             "clone" => trial.ends(self.clone(trial.begins()), page),
             "token" => trial.ends(self.token(trial.begins()), page),
@@ -54,12 +54,12 @@ impl<'a, K: QuotedKind> Held<'a> for Quoted<K, Scant<'a>> {
     }
 }
 
-impl<'a, K: NumberKind> Held<'a> for Number<K, Scant<'a>> {
-    fn of(scant: Scant<'a>, token: Literal<Scant<'a>>) -> Option<Self> {
+impl<K: NumberKind, A: Scarce> Held<A> for Number<K, A> {
+    fn of(scant: A, token: Literal<A>) -> Option<Self> {
         Number::from_token(scant, token).ok()
     }
 
-    fn call(&self, name: &str, trial: Trial<'a>, page: &mut Page) {
+    fn call(&self, name: &str, trial: Trial<'_, A>, page: &mut Page) {
         match name {
             "clone" => trial.ends(self.clone(trial.begins()), page),
             "token" => trial.ends(self.token(trial.begins()), page),
@@ -70,12 +70,12 @@ impl<'a, K: NumberKind> Held<'a> for Number<K, Scant<'a>> {
     }
 }
 
-impl<'a> Held<'a> for LitBool {
-    fn of(_scant: Scant<'a>, token: Literal<Scant<'a>>) -> Option<Self> {
+impl<A: Scarce> Held<A> for LitBool {
+    fn of(_scant: A, token: Literal<A>) -> Option<Self> {
         Some(LitBool::new(token.text() == "true", token.span()))
     }
 
-    fn call(&self, name: &str, trial: Trial<'a>, page: &mut Page) {
+    fn call(&self, name: &str, trial: Trial<'_, A>, page: &mut Page) {
         match name {
             "clone" => trial.ends(self.clone(trial.begins()), page),
             "token" => trial.ends(self.token(trial.begins()), page),
@@ -85,12 +85,12 @@ impl<'a> Held<'a> for LitBool {
     }
 }
 
-impl<'a> Held<'a> for Lit<Scant<'a>> {
-    fn of(scant: Scant<'a>, token: Literal<Scant<'a>>) -> Option<Self> {
+impl<A: Scarce> Held<A> for Lit<A> {
+    fn of(scant: A, token: Literal<A>) -> Option<Self> {
         Lit::new(scant, token).ok()
     }
 
-    fn call(&self, name: &str, trial: Trial<'a>, page: &mut Page) {
+    fn call(&self, name: &str, trial: Trial<'_, A>, page: &mut Page) {
         match name {
             "clone" => trial.ends(self.clone(trial.begins()), page),
             "to_tokens" => appended(self, trial, page),
@@ -100,13 +100,13 @@ impl<'a> Held<'a> for Lit<Scant<'a>> {
 }
 
 /// The value that the text is, made before a call.
-fn made<'a, T: Held<'a>>(trial: Trial<'a>, text: &str) -> Option<T> {
+fn made<T: Held<A>, A: Scarce>(trial: Trial<'_, A>, text: &str) -> Option<T> {
     T::of(trial.scant, trial.token(text)?)
 }
 
 /// A call that is lent a value, and what is left of that.
-pub fn lent<'a, T: Held<'a>>(name: &str, trial: Trial<'a>, text: &str, page: &mut Page) {
-    match made::<T>(trial, text) {
+pub fn lent<T: Held<A>, A: Scarce>(name: &str, trial: Trial<'_, A>, text: &str, page: &mut Page) {
+    match made::<T, A>(trial, text) {
         Some(value) => {
             let before = trial.lends(&value);
             value.call(name, trial, page);
@@ -120,7 +120,7 @@ pub fn lent<'a, T: Held<'a>>(name: &str, trial: Trial<'a>, text: &str, page: &mu
 const FULL: &str = "(1) a 2 +";
 
 /// `to_tokens` into a stream that is full, and what is left of the stream.
-fn appended<T: ToTokens>(literal: &T, trial: Trial<'_>, page: &mut Page) {
+fn appended<T: ToTokens, A: Scarce>(literal: &T, trial: Trial<'_, A>, page: &mut Page) {
     match trial.trees(FULL) {
         Some(mut stream) => {
             let before = trial.lends(&stream);
@@ -132,14 +132,14 @@ fn appended<T: ToTokens>(literal: &T, trial: Trial<'_>, page: &mut Page) {
 }
 
 /// A call that `Lit` and all eight structs have: a parser, or a call that is lent the literal.
-pub fn call<'a, T: Held<'a> + Parse<Scant<'a>>>(
+pub fn call<T: Held<A> + Parse<A>, A: Scarce>(
     name: &str,
-    trial: Trial<'a>,
+    trial: Trial<'_, A>,
     text: &str,
     page: &mut Page,
 ) {
     match name {
-        "Parse::parse" => parsed::<T>(trial, text, page),
-        _ => lent::<T>(name, trial, text, page),
+        "Parse::parse" => parsed::<T, A>(trial, text, page),
+        _ => lent::<T, A>(name, trial, text, page),
     }
 }

@@ -4,7 +4,7 @@ use crate::page::Page;
 use crate::tell::{Tell, tell_places};
 use rl_grammar::strict;
 use rl_lines::line_of;
-use rl_tokens::{Literal, Span, lex, whitespace};
+use rl_tokens::{Kept, Literal, Span, lex, whitespace};
 use rust_literals::{Lit, read_all};
 use std::alloc::{AllocError, Global};
 
@@ -19,7 +19,7 @@ const NO_MEMORY: &str = "out of memory";
 
 /// Puts last a line without its end, or where that is long its kind and how many bytes it has.
 fn put_line(line: &str, page: &mut Page) {
-    let line = line.trim_end();
+    let (line, _) = line.split_once('\n').unwrap_or((line, ""));
     if line.len() <= LONGEST {
         page.put(line);
     } else {
@@ -54,9 +54,19 @@ fn tell_literal(alloc: Global, text: &str, page: &mut Page) {
 /// Puts last what `Lit::new` answers.
 fn tell_new(alloc: Global, token: Literal, page: &mut Page) {
     match Lit::new(alloc, token) {
-        Ok(literal) => tell_line(alloc, &literal, page),
-        Err(kept) => page.put_shown(&kept.error),
+        Ok(literal) => tell_literal_line(alloc, literal, page),
+        Err(kept) => tell_kept(kept, page),
     }
+}
+
+/// Puts the line of a literal that `Lit::new` made last.
+fn tell_literal_line(alloc: Global, literal: Lit, page: &mut Page) {
+    tell_line(alloc, &literal, page);
+}
+
+/// Puts a refusal of `Lit::new` last.
+fn tell_kept(kept: Kept<Literal, Global>, page: &mut Page) {
+    page.put_shown(&kept.error);
 }
 
 /// Puts last what `lex` answers: how many trees, or a fault and its place.
@@ -81,7 +91,7 @@ fn tell_read(alloc: Global, text: &str, page: &mut Page) {
 /// Puts last how many literals there are, and the first of them and their places.
 fn tell_literals(alloc: Global, literals: &[Lit], page: &mut Page) {
     page.put_number(literals.len());
-    for literal in literals.iter().take(MOST) {
+    for literal in literals.get(..MOST).unwrap_or(literals) {
         page.put(", ");
         tell_line(alloc, literal, page);
         tell_places(literal.span(), page);

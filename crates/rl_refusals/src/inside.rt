@@ -4,25 +4,22 @@ ghost use Rattle.std.specs.Prelude.{⊤};
 
 use crate::held::NO_CALL;
 use crate::page::Page;
-use crate::trial::{Scant, Trial};
+use crate::trial::{Scarce, Trial};
 use rl_tokens::{Error, Literal, ParseBuffer, Parser};
 use rust_literals::{Lit, LitStr};
+use std::alloc::Allocator;
 
 /// A parser of a copy of the literal token that stands next. Where memory for it is refused it says so at that token, and
 /// has moved past it.
 #[derive(Drop)]
 struct CopyOfToken;
 
-impl<'a> Parser<Scant<'a>> for CopyOfToken {
-    type Output = Literal<Scant<'a>>;
+impl<A: Allocator> Parser<A> for CopyOfToken {
+    type Output = Literal<A>;
 
     ghost runs = { λ parser trees scope answer rest. ⊤ };
 
-    fn parse(
-        self,
-        scant: Scant<'a>,
-        input: &mut ParseBuffer<'_, Scant<'a>>,
-    ) -> Result<Literal<Scant<'a>>, Error<Scant<'a>>> {
+    fn parse(self, scant: A, input: &mut ParseBuffer<'_, A>) -> Result<Literal<A>, Error<A>> {
         match input.literal() {
             Some(token) => token.clone(scant),
             None => Err(input.error("token")),
@@ -31,7 +28,7 @@ impl<'a> Parser<Scant<'a>> for CopyOfToken {
 }
 
 /// Makes the call of this name, and puts its answer last.
-pub fn call(literal: &Lit<Scant<'_>>, name: &str, trial: Trial<'_>, page: &mut Page) {
+pub fn call<A: Scarce>(literal: &Lit<A>, name: &str, trial: Trial<'_, A>, page: &mut Page) {
     match literal {
         Lit::Str(string) => in_string(string, name, trial, page),
         Lit::ByteStr(string) if name == "value" => trial.ends(string.value(trial.begins()), page),
@@ -41,10 +38,10 @@ pub fn call(literal: &Lit<Scant<'_>>, name: &str, trial: Trial<'_>, page: &mut P
 }
 
 /// Makes the call of this name of a string, and puts its answer last.
-fn in_string(string: &LitStr<Scant<'_>>, name: &str, trial: Trial<'_>, page: &mut Page) {
+fn in_string<A: Scarce>(string: &LitStr<A>, name: &str, trial: Trial<'_, A>, page: &mut Page) {
     match name {
         "value" => trial.ends(string.value(trial.begins()), page),
-        "parse" => trial.ends(string.parse::<Lit<Scant<'_>>, _>(trial.begins()), page),
+        "parse" => trial.ends(string.parse::<Lit<A>, _>(trial.begins()), page),
         "parse_with" => trial.ends(string.parse_with(trial.begins(), CopyOfToken), page),
         _ => page.put(NO_CALL),
     }

@@ -1,10 +1,12 @@
 //! Calls whose requests for memory are refused: whose call it is, the call's name, and a text, with a space between.
 
+use crate::held::{NO_CALL, call, lent};
 use crate::page::Page;
-use crate::trial::Trial;
-use crate::{grammar, held, made, tokens};
+use crate::trial::{Scarce, Trial};
+use crate::{grammar, made, tokens};
+use rl_quoted::{ByteKind, ByteStrKind, CStrKind, CharKind, Quoted, StrKind};
 use rl_refusing::Refusing;
-use rust_literals::{FloatKind, IntKind, LitBool};
+use rust_literals::{FloatKind, IntKind, Lit, LitBool, Number, NumberKind};
 use std::alloc::Global;
 use std::cell::Cell;
 
@@ -19,41 +21,65 @@ pub struct Row<'t> {
     pub text: &'t str,
 }
 
-/// Runs a call that is no struct's.
-fn run_free(row: Row<'_>, trial: Trial<'_>, page: &mut Page) {
+/// Runs a call that is no type's.
+fn run_free<A: Scarce>(row: Row<'_>, trial: Trial<'_, A>, page: &mut Page) {
     match row.call {
-        "append" => tokens::append(trial, row.text, page),
         "lex" => tokens::cut(trial, row.text, page),
         "read_all" => grammar::read(trial, row.text, page),
         "str_of" => grammar::text_of(trial, row.text, page),
         "bytes_of" => grammar::contents_of(trial, row.text, page),
         "digits_of" => grammar::numeral_of(trial, row.text, page),
-        _ => page.put("no such call"),
+        _ => page.put(NO_CALL),
     }
 }
 
-/// Runs a call of a number, of a truth value, of a literal of any kind, or of a token.
-fn run_number(row: Row<'_>, trial: Trial<'_>, page: &mut Page) {
+/// Runs a call of one of the five quoted kinds, or of a literal of any kind.
+fn run_quoted<A: Scarce>(row: Row<'_>, trial: Trial<'_, A>, page: &mut Page) {
     match row.of {
-        "LitInt" => made::number_call::<IntKind>(row.call, trial, row.text, page),
-        "LitFloat" => made::number_call::<FloatKind>(row.call, trial, row.text, page),
-        "LitBool" => held::call::<LitBool>(row.call, trial, row.text, page),
-        "Lit" => made::lit_call(row.call, trial, row.text, page),
-        "Literal" => tokens::literal_call(row.call, trial, row.text, page),
-        "Ident" => tokens::word(trial, row.text, page),
-        _ => run_free(row, trial, page),
+        "LitStr" => call::<Quoted<StrKind, A>, A>(row.call, trial, row.text, page),
+        "LitByteStr" => call::<Quoted<ByteStrKind, A>, A>(row.call, trial, row.text, page),
+        "LitCStr" => call::<Quoted<CStrKind, A>, A>(row.call, trial, row.text, page),
+        "LitByte" => call::<Quoted<ByteKind, A>, A>(row.call, trial, row.text, page),
+        "LitChar" => call::<Quoted<CharKind, A>, A>(row.call, trial, row.text, page),
+        _ => call::<Lit<A>, A>(row.call, trial, row.text, page),
+    }
+}
+
+/// Runs a call of a number, by its kind.
+fn run_number<K: NumberKind, A: Scarce>(row: Row<'_>, trial: Trial<'_, A>, page: &mut Page) {
+    match row.call {
+        "from_token" => made::from_token::<K, A>(trial, row.text, page),
+        _ => call::<Number<K, A>, A>(row.call, trial, row.text, page),
+    }
+}
+
+/// Runs a call of a literal.
+fn run_literal<A: Scarce>(row: Row<'_>, trial: Trial<'_, A>, page: &mut Page) {
+    match row.of {
+        "LitInt" => run_number::<IntKind, A>(row, trial, page),
+        "LitFloat" => run_number::<FloatKind, A>(row, trial, page),
+        "LitBool" => call::<LitBool, A>(row.call, trial, row.text, page),
+        _ => run_quoted(row, trial, page),
+    }
+}
+
+/// Runs a call of a literal, by its name.
+fn run_named<A: Scarce>(row: Row<'_>, trial: Trial<'_, A>, page: &mut Page) {
+    match row.call {
+        "new" => made::new(row.of, trial, row.text, page),
+        "value" | "parse" | "parse_with" => lent::<Lit<A>, A>(row.call, trial, row.text, page),
+        _ => run_literal(row, trial, page),
     }
 }
 
 /// Runs the call once, and puts last what came of it.
-fn run(row: Row<'_>, trial: Trial<'_>, page: &mut Page) {
+fn run<A: Scarce>(row: Row<'_>, trial: Trial<'_, A>, page: &mut Page) {
     match row.of {
-        "LitStr" => made::string_call(row.call, trial, row.text, page),
-        "LitByteStr" => made::byte_string_call(row.call, trial, row.text, page),
-        "LitCStr" => made::c_string_call(row.call, trial, row.text, page),
-        "LitByte" => made::byte_call(row.call, trial, row.text, page),
-        "LitChar" => made::character_call(row.call, trial, row.text, page),
-        _ => run_number(row, trial, page),
+        "free" => run_free(row, trial, page),
+        "Literal" => tokens::literal_call(row.call, trial, row.text, page),
+        "Ident" => tokens::word(trial, row.text, page),
+        "TokenStream" => tokens::append(trial, row.text, page),
+        _ => run_named(row, trial, page),
     }
 }
 

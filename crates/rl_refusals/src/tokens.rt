@@ -3,11 +3,12 @@
 use crate::held::lent;
 use crate::page::Page;
 use crate::tell::{Rest, Tell};
-use crate::trial::{HERE, Scant, Trial, UNFIT};
+use crate::trial::{HERE, Scarce, Trial, UNFIT};
 use rl_tokens::{CString, Ident, Literal, Parse, ParseBuffer, TokenTree, ident, lex};
+use std::alloc::Global;
 
 /// Calls of `Literal`.
-pub fn literal_call(name: &str, trial: Trial<'_>, text: &str, page: &mut Page) {
+pub fn literal_call<A: Scarce>(name: &str, trial: Trial<'_, A>, text: &str, page: &mut Page) {
     match name {
         "from_text" => trial.ends(Literal::from_text(trial.begins(), text, HERE), page),
         "negative" => trial.ends(Literal::negative(trial.begins(), text, HERE), page),
@@ -17,37 +18,37 @@ pub fn literal_call(name: &str, trial: Trial<'_>, text: &str, page: &mut Page) {
 }
 
 /// Calls of `Literal` that make one of bytes or a character, and those of a token that is at hand.
-fn literal_of_value(name: &str, trial: Trial<'_>, text: &str, page: &mut Page) {
+fn literal_of_value<A: Scarce>(name: &str, trial: Trial<'_, A>, text: &str, page: &mut Page) {
     match name {
         "byte_string" => byte_string(trial, text.as_bytes(), page),
         "c_string" => c_string(trial, text, page),
         "byte_character" => byte_character(trial, text, page),
         "character" => character(trial, text, page),
-        _ => lent::<Literal<Scant<'_>>>(name, trial, text, page),
+        _ => lent::<Literal<A>, A>(name, trial, text, page),
     }
 }
 
 /// `Literal::byte_string`.
-fn byte_string(trial: Trial<'_>, bytes: &[u8], page: &mut Page) {
+fn byte_string<A: Scarce>(trial: Trial<'_, A>, bytes: &[u8], page: &mut Page) {
     trial.ends(Literal::byte_string(trial.begins(), bytes), page);
 }
 
 /// A C string of the text's bytes.
-pub fn c_string_of(trial: Trial<'_>, text: &str) -> Option<CString> {
-    let bytes = Vec::from_slice(trial.alloc, text.as_bytes()).ok()?;
+pub fn c_string_of(alloc: Global, text: &str) -> Option<CString> {
+    let bytes = Vec::from_slice(alloc, text.as_bytes()).ok()?;
     CString::new(bytes).ok()
 }
 
 /// `Literal::c_string` of the text's bytes.
-fn c_string(trial: Trial<'_>, text: &str, page: &mut Page) {
-    match c_string_of(trial, text) {
+fn c_string<A: Scarce>(trial: Trial<'_, A>, text: &str, page: &mut Page) {
+    match c_string_of(trial.alloc, text) {
         Some(value) => trial.ends(Literal::c_string(trial.begins(), &value), page),
         None => page.put(UNFIT),
     }
 }
 
 /// `Literal::byte_character` of the text's first byte.
-fn byte_character(trial: Trial<'_>, text: &str, page: &mut Page) {
+fn byte_character<A: Scarce>(trial: Trial<'_, A>, text: &str, page: &mut Page) {
     match text.as_bytes().first() {
         Some(byte) => trial.ends(Literal::byte_character(trial.begins(), *byte), page),
         None => page.put(UNFIT),
@@ -55,7 +56,7 @@ fn byte_character(trial: Trial<'_>, text: &str, page: &mut Page) {
 }
 
 /// `Literal::character` of the text's first character.
-fn character(trial: Trial<'_>, text: &str, page: &mut Page) {
+fn character<A: Scarce>(trial: Trial<'_, A>, text: &str, page: &mut Page) {
     match text.chars().next() {
         Some(c) => trial.ends(Literal::character(trial.begins(), c), page),
         None => page.put(UNFIT),
@@ -63,7 +64,7 @@ fn character(trial: Trial<'_>, text: &str, page: &mut Page) {
 }
 
 /// `Ident::new`.
-pub fn word(trial: Trial<'_>, text: &str, page: &mut Page) {
+pub fn word<A: Scarce>(trial: Trial<'_, A>, text: &str, page: &mut Page) {
     if ident::xid_ok(text) {
         trial.ends(Ident::new(trial.begins(), text, HERE), page);
     } else {
@@ -72,7 +73,7 @@ pub fn word(trial: Trial<'_>, text: &str, page: &mut Page) {
 }
 
 /// `TokenStream::append` of a literal behind the trees of the text.
-pub fn append(trial: Trial<'_>, text: &str, page: &mut Page) {
+pub fn append<A: Scarce>(trial: Trial<'_, A>, text: &str, page: &mut Page) {
     match trial.token("last") {
         Some(last) => append_last(trial, text, last, page),
         None => page.put(UNFIT),
@@ -80,12 +81,12 @@ pub fn append(trial: Trial<'_>, text: &str, page: &mut Page) {
 }
 
 /// `TokenStream::append` of this literal behind the trees of the text, and what is left of the stream.
-fn append_last<'a>(trial: Trial<'a>, text: &str, last: Literal<Scant<'a>>, page: &mut Page) {
+fn append_last<A: Scarce>(trial: Trial<'_, A>, text: &str, last: Literal<A>, page: &mut Page) {
     match trial.trees(text) {
         Some(mut stream) => {
             let before = trial.lends(&stream);
             trial.begins();
-            trial.ends(stream.append(TokenTree::Literal(last)), page);
+            trial.ends_with(stream.append(TokenTree::Literal(last)), page);
             trial.leaves(&stream, before, page);
         }
         None => page.put(UNFIT),
@@ -93,13 +94,13 @@ fn append_last<'a>(trial: Trial<'a>, text: &str, last: Literal<Scant<'a>>, page:
 }
 
 /// `lex`, in the file 7.
-pub fn cut(trial: Trial<'_>, text: &str, page: &mut Page) {
-    trial.ends(lex(trial.begins(), text, 7), page);
+pub fn cut<A: Scarce>(trial: Trial<'_, A>, text: &str, page: &mut Page) {
+    trial.ends_with(lex(trial.begins(), text, 7), page);
 }
 
 /// The parser of a type over the trees of the text, and what is left of the buffer.
-pub fn parsed<'a, T: Parse<Scant<'a>> + Tell + Drop>(
-    trial: Trial<'a>,
+pub fn parsed<T: Parse<A> + Tell + Drop, A: Scarce>(
+    trial: Trial<'_, A>,
     text: &str,
     page: &mut Page,
 ) {
