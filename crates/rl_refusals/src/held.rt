@@ -2,117 +2,153 @@
 
 use crate::inside;
 use crate::page::Page;
-use crate::tell::Tell;
-use crate::tokens::parsed;
 use crate::trial::{HERE, Scarce, Trial, UNFIT};
 use rl_grammar::shape;
 use rl_quoted::{Quoted, QuotedKind};
-use rl_tokens::{Literal, Parse, ToTokens};
+use rl_tokens::{Literal, ToTokens};
 use rust_literals::{Lit, LitBool, Number, NumberKind};
 
 /// What no row should name.
 pub const NO_CALL: &str = "no such call";
 
-/// A value that is made of a token, and then lent to calls.
-pub trait Held<A: Scarce>: Tell + Drop + Sized {
-    /// The value that the token is, if it is one.
-    fn of(scant: A, token: Literal<A>) -> Option<Self>;
-
-    /// Makes the call of this name, and puts its answer last.
-    fn call(&self, name: &str, trial: Trial<'_, A>, page: &mut Page);
-}
-
-impl<A: Scarce> Held<A> for Literal<A> {
-    fn of(_scant: A, token: Literal<A>) -> Option<Self> {
-        Some(token)
-    }
-
-    fn call(&self, name: &str, trial: Trial<'_, A>, page: &mut Page) {
-        match name {
-            "clone" => trial.ends(self.clone(trial.begins()), page),
-            "behind_minus" => trial.ends(self.behind_minus(trial.begins(), HERE), page),
-            _ => page.put(NO_CALL),
-        }
-    }
-}
-
-impl<K: QuotedKind, A: Scarce> Held<A> for Quoted<K, A> {
-    fn of(_scant: A, token: Literal<A>) -> Option<Self> {
-        match shape(token.text()) {
-            Some(parts) if parts.kind == K::KIND => Some(Quoted::of_token(token)),
-            _ => None,
-        }
-    }
-
-    fn call(&self, name: &str, trial: Trial<'_, A>, page: &mut Page) {
-        match name {
-            "clone" => trial.ends(self.clone(trial.begins()), page),
-            "token" => trial.ends(self.token(trial.begins()), page),
-            "to_tokens" => appended(self, trial, page),
-            _ => page.put(NO_CALL),
-        }
-    }
-}
-
-impl<K: NumberKind, A: Scarce> Held<A> for Number<K, A> {
-    fn of(scant: A, token: Literal<A>) -> Option<Self> {
-        Number::from_token(scant, token).ok()
-    }
-
-    fn call(&self, name: &str, trial: Trial<'_, A>, page: &mut Page) {
-        match name {
-            "clone" => trial.ends(self.clone(trial.begins()), page),
-            "token" => trial.ends(self.token(trial.begins()), page),
-            "to_tokens" => appended(self, trial, page),
-            "base10_parse" => trial.ends(self.base10_parse::<i8, _>(trial.begins()), page),
-            _ => page.put(NO_CALL),
-        }
-    }
-}
-
-impl<A: Scarce> Held<A> for LitBool {
-    fn of(_scant: A, token: Literal<A>) -> Option<Self> {
-        Some(LitBool::new(token.text() == "true", token.span()))
-    }
-
-    fn call(&self, name: &str, trial: Trial<'_, A>, page: &mut Page) {
-        match name {
-            "clone" => trial.ends(self.clone(trial.begins()), page),
-            "token" => trial.ends(self.token(trial.begins()), page),
-            "to_tokens" => appended(self, trial, page),
-            _ => page.put(NO_CALL),
-        }
-    }
-}
-
-impl<A: Scarce> Held<A> for Lit<A> {
-    fn of(scant: A, token: Literal<A>) -> Option<Self> {
-        Lit::new(scant, token).ok()
-    }
-
-    fn call(&self, name: &str, trial: Trial<'_, A>, page: &mut Page) {
-        match name {
-            "clone" => trial.ends(self.clone(trial.begins()), page),
-            "to_tokens" => appended(self, trial, page),
-            _ => inside::call(self, name, trial, page),
-        }
-    }
-}
-
-/// The value that the text is, made before a call.
-fn made<T: Held<A>, A: Scarce>(trial: Trial<'_, A>, text: &str) -> Option<T> {
-    T::of(trial.scant, trial.token(text)?)
-}
-
-/// A call that is lent a value, and what is left of that.
-pub fn lent<T: Held<A>, A: Scarce>(name: &str, trial: Trial<'_, A>, text: &str, page: &mut Page) {
-    match made::<T, A>(trial, text) {
-        Some(value) => {
-            let before = trial.lends(&value);
-            value.call(name, trial, page);
-            trial.leaves(&value, before, page);
+/// Calls of a token of the text, and what is left of it.
+pub fn token<A: Scarce>(name: &str, trial: Trial<'_, A>, text: &str, page: &mut Page) {
+    match trial.token(text) {
+        Some(token) => {
+            let before = trial.lends(&token);
+            call_token(&token, name, trial, page);
+            trial.leaves(&token, before, page);
         }
         None => page.put(UNFIT),
+    }
+}
+
+fn call_token<A: Scarce>(token: &Literal<A>, name: &str, trial: Trial<'_, A>, page: &mut Page) {
+    match name {
+        "clone" => trial.ends(token.clone(trial.begins()), page),
+        "behind_minus" => trial.ends(token.behind_minus(trial.begins(), HERE), page),
+        _ => page.put(NO_CALL),
+    }
+}
+
+/// Calls of a quoted literal that the text is, and what is left of it.
+pub fn quoted<K: QuotedKind, A: Scarce>(
+    name: &str,
+    trial: Trial<'_, A>,
+    text: &str,
+    page: &mut Page,
+) {
+    match quoted_of::<K, A>(trial.token(text)) {
+        Some(literal) => {
+            let before = trial.lends(&literal);
+            call_quoted(&literal, name, trial, page);
+            trial.leaves(&literal, before, page);
+        }
+        None => page.put(UNFIT),
+    }
+}
+
+/// The quoted literal that the token is, if it is one of the kind.
+fn quoted_of<K: QuotedKind, A: Scarce>(token: Option<Literal<A>>) -> Option<Quoted<K, A>> {
+    let token = token?;
+    match shape(token.text()) {
+        Some(parts) if parts.kind == K::KIND => Some(Quoted::of_token(token)),
+        _ => None,
+    }
+}
+
+fn call_quoted<K: QuotedKind, A: Scarce>(
+    literal: &Quoted<K, A>,
+    name: &str,
+    trial: Trial<'_, A>,
+    page: &mut Page,
+) {
+    match name {
+        "clone" => trial.ends(literal.clone(trial.begins()), page),
+        "token" => trial.ends(literal.token(trial.begins()), page),
+        "to_tokens" => appended(literal, trial, page),
+        _ => page.put(NO_CALL),
+    }
+}
+
+/// Calls of a number that the text is, and what is left of it.
+pub fn number<K: NumberKind, A: Scarce>(
+    name: &str,
+    trial: Trial<'_, A>,
+    text: &str,
+    page: &mut Page,
+) {
+    match number_of::<K, A>(trial, text) {
+        Some(literal) => {
+            let before = trial.lends(&literal);
+            call_number(&literal, name, trial, page);
+            trial.leaves(&literal, before, page);
+        }
+        None => page.put(UNFIT),
+    }
+}
+
+/// The number that the text is, if it is one of the kind.
+fn number_of<K: NumberKind, A: Scarce>(trial: Trial<'_, A>, text: &str) -> Option<Number<K, A>> {
+    let token = trial.token(text)?;
+    Number::from_token(trial.scant, token).ok()
+}
+
+fn call_number<K: NumberKind, A: Scarce>(
+    literal: &Number<K, A>,
+    name: &str,
+    trial: Trial<'_, A>,
+    page: &mut Page,
+) {
+    match name {
+        "clone" => trial.ends(literal.clone(trial.begins()), page),
+        "token" => trial.ends(literal.token(trial.begins()), page),
+        "to_tokens" => appended(literal, trial, page),
+        "base10_parse" => trial.ends(literal.base10_parse::<i8, A>(trial.begins()), page),
+        _ => page.put(NO_CALL),
+    }
+}
+
+/// Calls of a truth value, which is true where the text is `true`, and what is left of it.
+pub fn truth<A: Scarce>(name: &str, trial: Trial<'_, A>, text: &str, page: &mut Page) {
+    let literal = LitBool::new(text == "true", HERE);
+    let before = trial.lends(&literal);
+    call_truth(&literal, name, trial, page);
+    trial.leaves(&literal, before, page);
+}
+
+fn call_truth<A: Scarce>(literal: &LitBool, name: &str, trial: Trial<'_, A>, page: &mut Page) {
+    match name {
+        "clone" => trial.ends(literal.clone(trial.begins()), page),
+        "token" => trial.ends(literal.token(trial.begins()), page),
+        "to_tokens" => appended(literal, trial, page),
+        _ => page.put(NO_CALL),
+    }
+}
+
+/// Calls of a literal of any kind, and what is left of it.
+pub fn literal<A: Scarce>(name: &str, trial: Trial<'_, A>, text: &str, page: &mut Page) {
+    match literal_of(trial, text) {
+        Some(literal) => {
+            let before = trial.lends(&literal);
+            call_literal(&literal, name, trial, page);
+            trial.leaves(&literal, before, page);
+        }
+        None => page.put(UNFIT),
+    }
+}
+
+/// The literal that the text is.
+fn literal_of<A: Scarce>(trial: Trial<'_, A>, text: &str) -> Option<Lit<A>> {
+    let token = trial.token(text)?;
+    Lit::new(trial.scant, token).ok()
+}
+
+fn call_literal<A: Scarce>(literal: &Lit<A>, name: &str, trial: Trial<'_, A>, page: &mut Page) {
+    match name {
+        "clone" => trial.ends(literal.clone(trial.begins()), page),
+        "to_tokens" => appended(literal, trial, page),
+        _ => inside::call(literal, name, trial, page),
     }
 }
 
@@ -128,18 +164,5 @@ fn appended<T: ToTokens, A: Scarce>(literal: &T, trial: Trial<'_, A>, page: &mut
             trial.leaves(&stream, before, page);
         }
         None => page.put(UNFIT),
-    }
-}
-
-/// A call that `Lit` and all eight structs have: a parser, or a call that is lent the literal.
-pub fn call<T: Held<A> + Parse<A>, A: Scarce>(
-    name: &str,
-    trial: Trial<'_, A>,
-    text: &str,
-    page: &mut Page,
-) {
-    match name {
-        "Parse::parse" => parsed::<T, A>(trial, text, page),
-        _ => lent::<T, A>(name, trial, text, page),
     }
 }

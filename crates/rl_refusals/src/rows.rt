@@ -1,10 +1,11 @@
 //! Calls whose requests for memory are refused: whose call it is, the call's name, and a text, with a space between.
 
-use crate::held::{NO_CALL, call, lent};
+use crate::held::NO_CALL;
 use crate::page::Page;
+use crate::tokens::parsed;
 use crate::trial::{Scarce, Trial};
-use crate::{grammar, made, tokens};
-use rl_quoted::{ByteKind, ByteStrKind, CStrKind, CharKind, Quoted, StrKind};
+use crate::{grammar, held, made, tokens};
+use rl_quoted::{ByteKind, ByteStrKind, CStrKind, CharKind, Quoted, QuotedKind, StrKind};
 use rl_refusing::Refusing;
 use rust_literals::{FloatKind, IntKind, Lit, LitBool, Number, NumberKind};
 use std::alloc::Global;
@@ -36,20 +37,45 @@ fn run_free<A: Scarce>(row: Row<'_>, trial: Trial<'_, A>, page: &mut Page) {
 /// Runs a call of one of the five quoted kinds, or of a literal of any kind.
 fn run_quoted<A: Scarce>(row: Row<'_>, trial: Trial<'_, A>, page: &mut Page) {
     match row.of {
-        "LitStr" => call::<Quoted<StrKind, A>, A>(row.call, trial, row.text, page),
-        "LitByteStr" => call::<Quoted<ByteStrKind, A>, A>(row.call, trial, row.text, page),
-        "LitCStr" => call::<Quoted<CStrKind, A>, A>(row.call, trial, row.text, page),
-        "LitByte" => call::<Quoted<ByteKind, A>, A>(row.call, trial, row.text, page),
-        "LitChar" => call::<Quoted<CharKind, A>, A>(row.call, trial, row.text, page),
-        _ => call::<Lit<A>, A>(row.call, trial, row.text, page),
+        "LitStr" => run_kind::<StrKind, A>(row, trial, page),
+        "LitByteStr" => run_kind::<ByteStrKind, A>(row, trial, page),
+        "LitCStr" => run_kind::<CStrKind, A>(row, trial, page),
+        "LitByte" => run_kind::<ByteKind, A>(row, trial, page),
+        "LitChar" => run_kind::<CharKind, A>(row, trial, page),
+        _ => run_any(row, trial, page),
+    }
+}
+
+/// Runs a call of a quoted literal, by its kind.
+fn run_kind<K: QuotedKind, A: Scarce>(row: Row<'_>, trial: Trial<'_, A>, page: &mut Page) {
+    match row.call {
+        "Parse::parse" => parsed::<Quoted<K, A>, A>(trial, row.text, page),
+        _ => held::quoted::<K, A>(row.call, trial, row.text, page),
     }
 }
 
 /// Runs a call of a number, by its kind.
 fn run_number<K: NumberKind, A: Scarce>(row: Row<'_>, trial: Trial<'_, A>, page: &mut Page) {
     match row.call {
+        "Parse::parse" => parsed::<Number<K, A>, A>(trial, row.text, page),
         "from_token" => made::from_token::<K, A>(trial, row.text, page),
-        _ => call::<Number<K, A>, A>(row.call, trial, row.text, page),
+        _ => held::number::<K, A>(row.call, trial, row.text, page),
+    }
+}
+
+/// Runs a call of a truth value.
+fn run_truth<A: Scarce>(row: Row<'_>, trial: Trial<'_, A>, page: &mut Page) {
+    match row.call {
+        "Parse::parse" => parsed::<LitBool, A>(trial, row.text, page),
+        _ => held::truth(row.call, trial, row.text, page),
+    }
+}
+
+/// Runs a call of a literal of any kind.
+fn run_any<A: Scarce>(row: Row<'_>, trial: Trial<'_, A>, page: &mut Page) {
+    match row.call {
+        "Parse::parse" => parsed::<Lit<A>, A>(trial, row.text, page),
+        _ => held::literal(row.call, trial, row.text, page),
     }
 }
 
@@ -58,7 +84,7 @@ fn run_literal<A: Scarce>(row: Row<'_>, trial: Trial<'_, A>, page: &mut Page) {
     match row.of {
         "LitInt" => run_number::<IntKind, A>(row, trial, page),
         "LitFloat" => run_number::<FloatKind, A>(row, trial, page),
-        "LitBool" => call::<LitBool, A>(row.call, trial, row.text, page),
+        "LitBool" => run_truth(row, trial, page),
         _ => run_quoted(row, trial, page),
     }
 }
@@ -67,7 +93,7 @@ fn run_literal<A: Scarce>(row: Row<'_>, trial: Trial<'_, A>, page: &mut Page) {
 fn run_named<A: Scarce>(row: Row<'_>, trial: Trial<'_, A>, page: &mut Page) {
     match row.call {
         "new" => made::new(row.of, trial, row.text, page),
-        "value" | "parse" | "parse_with" => lent::<Lit<A>, A>(row.call, trial, row.text, page),
+        "value" | "parse" | "parse_with" => held::literal(row.call, trial, row.text, page),
         _ => run_literal(row, trial, page),
     }
 }

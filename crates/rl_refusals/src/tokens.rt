@@ -1,6 +1,6 @@
 //! Calls of `rl_tokens`.
 
-use crate::held::lent;
+use crate::held;
 use crate::page::Page;
 use crate::tell::{Rest, Tell};
 use crate::trial::{HERE, Scarce, Trial, UNFIT};
@@ -24,7 +24,7 @@ fn literal_of_value<A: Scarce>(name: &str, trial: Trial<'_, A>, text: &str, page
         "c_string" => c_string(trial, text, page),
         "byte_character" => byte_character(trial, text, page),
         "character" => character(trial, text, page),
-        _ => lent::<Literal<A>, A>(name, trial, text, page),
+        _ => held::token(name, trial, text, page),
     }
 }
 
