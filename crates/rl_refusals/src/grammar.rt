@@ -6,7 +6,7 @@ use rl_grammar::{Kind, bytes_of, digits_of, shape, str_of};
 use rust_literals::read_all;
 
 /// `str_of`.
-pub fn text_of<A: Scarce>(trial: Trial<'_, A>, text: &str, page: &mut Page) {
+pub fn text_of<A: Scarce>(trial: &Trial<'_, A>, text: &str, page: &mut Page) {
     match shape(text) {
         Some(parts) if parts.kind == Kind::Str => {
             trial.ends(str_of(trial.begins(), text), page);
@@ -16,7 +16,7 @@ pub fn text_of<A: Scarce>(trial: Trial<'_, A>, text: &str, page: &mut Page) {
 }
 
 /// `bytes_of`.
-pub fn contents_of<A: Scarce>(trial: Trial<'_, A>, text: &str, page: &mut Page) {
+pub fn contents_of<A: Scarce>(trial: &Trial<'_, A>, text: &str, page: &mut Page) {
     match shape(text) {
         Some(parts) if parts.kind == Kind::ByteStr || parts.kind == Kind::CStr => {
             trial.ends(bytes_of(trial.begins(), text), page);
@@ -26,7 +26,7 @@ pub fn contents_of<A: Scarce>(trial: Trial<'_, A>, text: &str, page: &mut Page) 
 }
 
 /// `digits_of`.
-pub fn numeral_of<A: Scarce>(trial: Trial<'_, A>, text: &str, page: &mut Page) {
+pub fn numeral_of<A: Scarce>(trial: &Trial<'_, A>, text: &str, page: &mut Page) {
     match shape(text) {
         Some(parts) if parts.kind == Kind::Int || parts.kind == Kind::Float => {
             trial.ends(digits_of(trial.begins(), parts.kind, text), page);
@@ -36,6 +36,6 @@ pub fn numeral_of<A: Scarce>(trial: Trial<'_, A>, text: &str, page: &mut Page) {
 }
 
 /// `read_all`, in the file 7.
-pub fn read<A: Scarce>(trial: Trial<'_, A>, text: &str, page: &mut Page) {
+pub fn read<A: Scarce>(trial: &Trial<'_, A>, text: &str, page: &mut Page) {
     trial.ends(read_all(trial.begins(), text, 7), page);
 }

@@ -12,7 +12,7 @@ use rust_literals::{Lit, LitBool, Number, NumberKind};
 pub const NO_CALL: &str = "no such call";
 
 /// Calls of a token of the text, and what is left of it.
-pub fn token<A: Scarce>(name: &str, trial: Trial<'_, A>, text: &str, page: &mut Page) {
+pub fn token<A: Scarce>(name: &str, trial: &Trial<'_, A>, text: &str, page: &mut Page) {
     match trial.token(text) {
         Some(token) => {
             let before = trial.lends(&token);
@@ -23,7 +23,7 @@ pub fn token<A: Scarce>(name: &str, trial: Trial<'_, A>, text: &str, page: &mut 
     }
 }
 
-fn call_token<A: Scarce>(token: &Literal<A>, name: &str, trial: Trial<'_, A>, page: &mut Page) {
+fn call_token<A: Scarce>(token: &Literal<A>, name: &str, trial: &Trial<'_, A>, page: &mut Page) {
     match name {
         "clone" => trial.ends(token.clone(trial.begins()), page),
         "behind_minus" => trial.ends(token.behind_minus(trial.begins(), HERE), page),
@@ -34,7 +34,7 @@ fn call_token<A: Scarce>(token: &Literal<A>, name: &str, trial: Trial<'_, A>, pa
 /// Calls of a quoted literal that the text is, and what is left of it.
 pub fn quoted<K: QuotedKind, A: Scarce>(
     name: &str,
-    trial: Trial<'_, A>,
+    trial: &Trial<'_, A>,
     text: &str,
     page: &mut Page,
 ) {
@@ -60,7 +60,7 @@ fn quoted_of<K: QuotedKind, A: Scarce>(token: Option<Literal<A>>) -> Option<Quot
 fn call_quoted<K: QuotedKind, A: Scarce>(
     literal: &Quoted<K, A>,
     name: &str,
-    trial: Trial<'_, A>,
+    trial: &Trial<'_, A>,
     page: &mut Page,
 ) {
     match name {
@@ -74,7 +74,7 @@ fn call_quoted<K: QuotedKind, A: Scarce>(
 /// Calls of a number that the text is, and what is left of it.
 pub fn number<K: NumberKind, A: Scarce>(
     name: &str,
-    trial: Trial<'_, A>,
+    trial: &Trial<'_, A>,
     text: &str,
     page: &mut Page,
 ) {
@@ -89,7 +89,7 @@ pub fn number<K: NumberKind, A: Scarce>(
 }
 
 /// The number that the text is, if it is one of the kind.
-fn number_of<K: NumberKind, A: Scarce>(trial: Trial<'_, A>, text: &str) -> Option<Number<K, A>> {
+fn number_of<K: NumberKind, A: Scarce>(trial: &Trial<'_, A>, text: &str) -> Option<Number<K, A>> {
     let token = trial.token(text)?;
     Number::from_token(trial.scant, token).ok()
 }
@@ -97,7 +97,7 @@ fn number_of<K: NumberKind, A: Scarce>(trial: Trial<'_, A>, text: &str) -> Optio
 fn call_number<K: NumberKind, A: Scarce>(
     literal: &Number<K, A>,
     name: &str,
-    trial: Trial<'_, A>,
+    trial: &Trial<'_, A>,
     page: &mut Page,
 ) {
     match name {
@@ -110,14 +110,14 @@ fn call_number<K: NumberKind, A: Scarce>(
 }
 
 /// Calls of a truth value, which is true where the text is `true`, and what is left of it.
-pub fn truth<A: Scarce>(name: &str, trial: Trial<'_, A>, text: &str, page: &mut Page) {
+pub fn truth<A: Scarce>(name: &str, trial: &Trial<'_, A>, text: &str, page: &mut Page) {
     let literal = LitBool::new(text == "true", HERE);
     let before = trial.lends(&literal);
     call_truth(&literal, name, trial, page);
     trial.leaves(&literal, before, page);
 }
 
-fn call_truth<A: Scarce>(literal: &LitBool, name: &str, trial: Trial<'_, A>, page: &mut Page) {
+fn call_truth<A: Scarce>(literal: &LitBool, name: &str, trial: &Trial<'_, A>, page: &mut Page) {
     match name {
         "clone" => trial.ends(literal.clone(trial.begins()), page),
         "token" => trial.ends(literal.token(trial.begins()), page),
@@ -127,7 +127,7 @@ fn call_truth<A: Scarce>(literal: &LitBool, name: &str, trial: Trial<'_, A>, pag
 }
 
 /// Calls of a literal of any kind, and what is left of it.
-pub fn literal<A: Scarce>(name: &str, trial: Trial<'_, A>, text: &str, page: &mut Page) {
+pub fn literal<A: Scarce>(name: &str, trial: &Trial<'_, A>, text: &str, page: &mut Page) {
     match literal_of(trial, text) {
         Some(literal) => {
             let before = trial.lends(&literal);
@@ -139,12 +139,12 @@ pub fn literal<A: Scarce>(name: &str, trial: Trial<'_, A>, text: &str, page: &mu
 }
 
 /// The literal that the text is.
-fn literal_of<A: Scarce>(trial: Trial<'_, A>, text: &str) -> Option<Lit<A>> {
+fn literal_of<A: Scarce>(trial: &Trial<'_, A>, text: &str) -> Option<Lit<A>> {
     let token = trial.token(text)?;
     Lit::new(trial.scant, token).ok()
 }
 
-fn call_literal<A: Scarce>(literal: &Lit<A>, name: &str, trial: Trial<'_, A>, page: &mut Page) {
+fn call_literal<A: Scarce>(literal: &Lit<A>, name: &str, trial: &Trial<'_, A>, page: &mut Page) {
     match name {
         "clone" => trial.ends(literal.clone(trial.begins()), page),
         "to_tokens" => appended(literal, trial, page),
@@ -156,7 +156,7 @@ fn call_literal<A: Scarce>(literal: &Lit<A>, name: &str, trial: Trial<'_, A>, pa
 const FULL: &str = "(1) a 2 +";
 
 /// `to_tokens` into a stream that is full, and what is left of the stream.
-fn appended<T: ToTokens, A: Scarce>(literal: &T, trial: Trial<'_, A>, page: &mut Page) {
+fn appended<T: ToTokens, A: Scarce>(literal: &T, trial: &Trial<'_, A>, page: &mut Page) {
     match trial.trees(FULL) {
         Some(mut stream) => {
             let before = trial.lends(&stream);

@@ -28,7 +28,7 @@ impl<A: Allocator> Parser<A> for CopyOfToken {
 }
 
 /// Makes the call of this name, and puts its answer last.
-pub fn call<A: Scarce>(literal: &Lit<A>, name: &str, trial: Trial<'_, A>, page: &mut Page) {
+pub fn call<A: Scarce>(literal: &Lit<A>, name: &str, trial: &Trial<'_, A>, page: &mut Page) {
     match literal {
         Lit::Str(string) => in_string(string, name, trial, page),
         Lit::ByteStr(string) if name == "value" => trial.ends(string.value(trial.begins()), page),
@@ -38,7 +38,7 @@ pub fn call<A: Scarce>(literal: &Lit<A>, name: &str, trial: Trial<'_, A>, page: 
 }
 
 /// Makes the call of this name of a string, and puts its answer last.
-fn in_string<A: Scarce>(string: &LitStr<A>, name: &str, trial: Trial<'_, A>, page: &mut Page) {
+fn in_string<A: Scarce>(string: &LitStr<A>, name: &str, trial: &Trial<'_, A>, page: &mut Page) {
     match name {
         "value" => trial.ends(string.value(trial.begins()), page),
         "parse" => trial.ends(string.parse::<Lit<A>, _>(trial.begins()), page),

@@ -8,7 +8,7 @@ use rust_literals::{
 };
 
 /// `new` of the type of this name: of the text, its bytes, its first byte or character, or a token of it.
-pub fn new<A: Scarce>(of: &str, trial: Trial<'_, A>, text: &str, page: &mut Page) {
+pub fn new<A: Scarce>(of: &str, trial: &Trial<'_, A>, text: &str, page: &mut Page) {
     match of {
         "LitStr" => string(trial, text, page),
         "LitByteStr" => byte_string(trial, text.as_bytes(), page),
@@ -22,17 +22,17 @@ pub fn new<A: Scarce>(of: &str, trial: Trial<'_, A>, text: &str, page: &mut Page
 }
 
 /// `LitStr::new`.
-fn string<A: Scarce>(trial: Trial<'_, A>, text: &str, page: &mut Page) {
+fn string<A: Scarce>(trial: &Trial<'_, A>, text: &str, page: &mut Page) {
     trial.ends(LitStr::new(trial.begins(), text, HERE), page);
 }
 
 /// `LitByteStr::new`.
-fn byte_string<A: Scarce>(trial: Trial<'_, A>, bytes: &[u8], page: &mut Page) {
+fn byte_string<A: Scarce>(trial: &Trial<'_, A>, bytes: &[u8], page: &mut Page) {
     trial.ends(LitByteStr::new(trial.begins(), bytes, HERE), page);
 }
 
 /// `LitCStr::new` of the text's bytes.
-fn c_string<A: Scarce>(trial: Trial<'_, A>, text: &str, page: &mut Page) {
+fn c_string<A: Scarce>(trial: &Trial<'_, A>, text: &str, page: &mut Page) {
     match c_string_of(trial.alloc, text) {
         Some(value) => trial.ends(LitCStr::new(trial.begins(), &value, HERE), page),
         None => page.put(UNFIT),
@@ -40,7 +40,7 @@ fn c_string<A: Scarce>(trial: Trial<'_, A>, text: &str, page: &mut Page) {
 }
 
 /// `LitByte::new` of the text's first byte.
-fn byte<A: Scarce>(trial: Trial<'_, A>, text: &str, page: &mut Page) {
+fn byte<A: Scarce>(trial: &Trial<'_, A>, text: &str, page: &mut Page) {
     match text.as_bytes().first() {
         Some(byte) => trial.ends(LitByte::new(trial.begins(), *byte, HERE), page),
         None => page.put(UNFIT),
@@ -48,7 +48,7 @@ fn byte<A: Scarce>(trial: Trial<'_, A>, text: &str, page: &mut Page) {
 }
 
 /// `LitChar::new` of the text's first character.
-fn character<A: Scarce>(trial: Trial<'_, A>, text: &str, page: &mut Page) {
+fn character<A: Scarce>(trial: &Trial<'_, A>, text: &str, page: &mut Page) {
     match text.chars().next() {
         Some(c) => trial.ends(LitChar::new(trial.begins(), c, HERE), page),
         None => page.put(UNFIT),
@@ -56,12 +56,12 @@ fn character<A: Scarce>(trial: Trial<'_, A>, text: &str, page: &mut Page) {
 }
 
 /// `LitInt::new` or `LitFloat::new`, by the kind.
-fn number<K: NumberKind, A: Scarce>(trial: Trial<'_, A>, text: &str, page: &mut Page) {
+fn number<K: NumberKind, A: Scarce>(trial: &Trial<'_, A>, text: &str, page: &mut Page) {
     trial.ends(Number::<K, A>::new(trial.begins(), text, HERE), page);
 }
 
 /// `Lit::new` of a token of the text.
-fn literal<A: Scarce>(trial: Trial<'_, A>, text: &str, page: &mut Page) {
+fn literal<A: Scarce>(trial: &Trial<'_, A>, text: &str, page: &mut Page) {
     match trial.token(text) {
         Some(token) => trial.ends_with(Lit::new(trial.begins(), token), page),
         None => page.put(UNFIT),
@@ -69,7 +69,7 @@ fn literal<A: Scarce>(trial: Trial<'_, A>, text: &str, page: &mut Page) {
 }
 
 /// `LitInt::from_token` or `LitFloat::from_token` of a token of the text, by the kind.
-pub fn from_token<K: NumberKind, A: Scarce>(trial: Trial<'_, A>, text: &str, page: &mut Page) {
+pub fn from_token<K: NumberKind, A: Scarce>(trial: &Trial<'_, A>, text: &str, page: &mut Page) {
     match trial.token(text) {
         Some(token) => trial.ends_with(Number::<K, A>::from_token(trial.begins(), token), page),
         None => page.put(UNFIT),

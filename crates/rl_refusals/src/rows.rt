@@ -23,7 +23,7 @@ pub struct Row<'t> {
 }
 
 /// Runs a call that is no type's.
-fn run_free<A: Scarce>(row: Row<'_>, trial: Trial<'_, A>, page: &mut Page) {
+fn run_free<A: Scarce>(row: Row<'_>, trial: &Trial<'_, A>, page: &mut Page) {
     match row.call {
         "lex" => tokens::cut(trial, row.text, page),
         "read_all" => grammar::read(trial, row.text, page),
@@ -35,7 +35,7 @@ fn run_free<A: Scarce>(row: Row<'_>, trial: Trial<'_, A>, page: &mut Page) {
 }
 
 /// Runs a call of one of the five quoted kinds, or of a literal of any kind.
-fn run_quoted<A: Scarce>(row: Row<'_>, trial: Trial<'_, A>, page: &mut Page) {
+fn run_quoted<A: Scarce>(row: Row<'_>, trial: &Trial<'_, A>, page: &mut Page) {
     match row.of {
         "LitStr" => run_kind::<StrKind, A>(row, trial, page),
         "LitByteStr" => run_kind::<ByteStrKind, A>(row, trial, page),
@@ -47,7 +47,7 @@ fn run_quoted<A: Scarce>(row: Row<'_>, trial: Trial<'_, A>, page: &mut Page) {
 }
 
 /// Runs a call of a quoted literal, by its kind.
-fn run_kind<K: QuotedKind, A: Scarce>(row: Row<'_>, trial: Trial<'_, A>, page: &mut Page) {
+fn run_kind<K: QuotedKind, A: Scarce>(row: Row<'_>, trial: &Trial<'_, A>, page: &mut Page) {
     match row.call {
         "Parse::parse" => parsed::<Quoted<K, A>, A>(trial, row.text, page),
         _ => held::quoted::<K, A>(row.call, trial, row.text, page),
@@ -55,7 +55,7 @@ fn run_kind<K: QuotedKind, A: Scarce>(row: Row<'_>, trial: Trial<'_, A>, page: &
 }
 
 /// Runs a call of a number, by its kind.
-fn run_number<K: NumberKind, A: Scarce>(row: Row<'_>, trial: Trial<'_, A>, page: &mut Page) {
+fn run_number<K: NumberKind, A: Scarce>(row: Row<'_>, trial: &Trial<'_, A>, page: &mut Page) {
     match row.call {
         "Parse::parse" => parsed::<Number<K, A>, A>(trial, row.text, page),
         "from_token" => made::from_token::<K, A>(trial, row.text, page),
@@ -64,7 +64,7 @@ fn run_number<K: NumberKind, A: Scarce>(row: Row<'_>, trial: Trial<'_, A>, page:
 }
 
 /// Runs a call of a truth value.
-fn run_truth<A: Scarce>(row: Row<'_>, trial: Trial<'_, A>, page: &mut Page) {
+fn run_truth<A: Scarce>(row: Row<'_>, trial: &Trial<'_, A>, page: &mut Page) {
     match row.call {
         "Parse::parse" => parsed::<LitBool, A>(trial, row.text, page),
         _ => held::truth(row.call, trial, row.text, page),
@@ -72,7 +72,7 @@ fn run_truth<A: Scarce>(row: Row<'_>, trial: Trial<'_, A>, page: &mut Page) {
 }
 
 /// Runs a call of a literal of any kind.
-fn run_any<A: Scarce>(row: Row<'_>, trial: Trial<'_, A>, page: &mut Page) {
+fn run_any<A: Scarce>(row: Row<'_>, trial: &Trial<'_, A>, page: &mut Page) {
     match row.call {
         "Parse::parse" => parsed::<Lit<A>, A>(trial, row.text, page),
         _ => held::literal(row.call, trial, row.text, page),
@@ -80,7 +80,7 @@ fn run_any<A: Scarce>(row: Row<'_>, trial: Trial<'_, A>, page: &mut Page) {
 }
 
 /// Runs a call of a literal.
-fn run_literal<A: Scarce>(row: Row<'_>, trial: Trial<'_, A>, page: &mut Page) {
+fn run_literal<A: Scarce>(row: Row<'_>, trial: &Trial<'_, A>, page: &mut Page) {
     match row.of {
         "LitInt" => run_number::<IntKind, A>(row, trial, page),
         "LitFloat" => run_number::<FloatKind, A>(row, trial, page),
@@ -90,7 +90,7 @@ fn run_literal<A: Scarce>(row: Row<'_>, trial: Trial<'_, A>, page: &mut Page) {
 }
 
 /// Runs a call of a literal, by its name.
-fn run_named<A: Scarce>(row: Row<'_>, trial: Trial<'_, A>, page: &mut Page) {
+fn run_named<A: Scarce>(row: Row<'_>, trial: &Trial<'_, A>, page: &mut Page) {
     match row.call {
         "new" => made::new(row.of, trial, row.text, page),
         "value" | "parse" | "parse_with" => held::literal(row.call, trial, row.text, page),
@@ -99,7 +99,7 @@ fn run_named<A: Scarce>(row: Row<'_>, trial: Trial<'_, A>, page: &mut Page) {
 }
 
 /// Runs the call once, and puts last what came of it.
-fn run<A: Scarce>(row: Row<'_>, trial: Trial<'_, A>, page: &mut Page) {
+fn run<A: Scarce>(row: Row<'_>, trial: &Trial<'_, A>, page: &mut Page) {
     match row.of {
         "free" => run_free(row, trial, page),
         "Literal" => tokens::literal_call(row.call, trial, row.text, page),
@@ -121,7 +121,7 @@ fn tried(alloc: Global, row: Row<'_>, first: u64, last: u64) -> (Page, u64) {
         last,
         asked: &asked,
     };
-    run(row, trial, &mut page);
+    run(row, &trial, &mut page);
     if refusing.held() > 0 {
         page.put("; kept memory");
     }

@@ -8,7 +8,7 @@ use rl_tokens::{CString, Ident, Literal, Parse, ParseBuffer, TokenTree, ident, l
 use std::alloc::Global;
 
 /// Calls of `Literal`.
-pub fn literal_call<A: Scarce>(name: &str, trial: Trial<'_, A>, text: &str, page: &mut Page) {
+pub fn literal_call<A: Scarce>(name: &str, trial: &Trial<'_, A>, text: &str, page: &mut Page) {
     match name {
         "from_text" => trial.ends(Literal::from_text(trial.begins(), text, HERE), page),
         "negative" => trial.ends(Literal::negative(trial.begins(), text, HERE), page),
@@ -18,7 +18,7 @@ pub fn literal_call<A: Scarce>(name: &str, trial: Trial<'_, A>, text: &str, page
 }
 
 /// Calls of `Literal` that make one of bytes or a character, and those of a token that is at hand.
-fn literal_of_value<A: Scarce>(name: &str, trial: Trial<'_, A>, text: &str, page: &mut Page) {
+fn literal_of_value<A: Scarce>(name: &str, trial: &Trial<'_, A>, text: &str, page: &mut Page) {
     match name {
         "byte_string" => byte_string(trial, text.as_bytes(), page),
         "c_string" => c_string(trial, text, page),
@@ -29,7 +29,7 @@ fn literal_of_value<A: Scarce>(name: &str, trial: Trial<'_, A>, text: &str, page
 }
 
 /// `Literal::byte_string`.
-fn byte_string<A: Scarce>(trial: Trial<'_, A>, bytes: &[u8], page: &mut Page) {
+fn byte_string<A: Scarce>(trial: &Trial<'_, A>, bytes: &[u8], page: &mut Page) {
     trial.ends(Literal::byte_string(trial.begins(), bytes), page);
 }
 
@@ -40,7 +40,7 @@ pub fn c_string_of(alloc: Global, text: &str) -> Option<CString> {
 }
 
 /// `Literal::c_string` of the text's bytes.
-fn c_string<A: Scarce>(trial: Trial<'_, A>, text: &str, page: &mut Page) {
+fn c_string<A: Scarce>(trial: &Trial<'_, A>, text: &str, page: &mut Page) {
     match c_string_of(trial.alloc, text) {
         Some(value) => trial.ends(Literal::c_string(trial.begins(), &value), page),
         None => page.put(UNFIT),
@@ -48,7 +48,7 @@ fn c_string<A: Scarce>(trial: Trial<'_, A>, text: &str, page: &mut Page) {
 }
 
 /// `Literal::byte_character` of the text's first byte.
-fn byte_character<A: Scarce>(trial: Trial<'_, A>, text: &str, page: &mut Page) {
+fn byte_character<A: Scarce>(trial: &Trial<'_, A>, text: &str, page: &mut Page) {
     match text.as_bytes().first() {
         Some(byte) => trial.ends(Literal::byte_character(trial.begins(), *byte), page),
         None => page.put(UNFIT),
@@ -56,7 +56,7 @@ fn byte_character<A: Scarce>(trial: Trial<'_, A>, text: &str, page: &mut Page) {
 }
 
 /// `Literal::character` of the text's first character.
-fn character<A: Scarce>(trial: Trial<'_, A>, text: &str, page: &mut Page) {
+fn character<A: Scarce>(trial: &Trial<'_, A>, text: &str, page: &mut Page) {
     match text.chars().next() {
         Some(c) => trial.ends(Literal::character(trial.begins(), c), page),
         None => page.put(UNFIT),
@@ -64,7 +64,7 @@ fn character<A: Scarce>(trial: Trial<'_, A>, text: &str, page: &mut Page) {
 }
 
 /// `Ident::new`.
-pub fn word<A: Scarce>(trial: Trial<'_, A>, text: &str, page: &mut Page) {
+pub fn word<A: Scarce>(trial: &Trial<'_, A>, text: &str, page: &mut Page) {
     if ident::xid_ok(text) {
         trial.ends(Ident::new(trial.begins(), text, HERE), page);
     } else {
@@ -73,7 +73,7 @@ pub fn word<A: Scarce>(trial: Trial<'_, A>, text: &str, page: &mut Page) {
 }
 
 /// `TokenStream::append` of a literal behind the trees of the text.
-pub fn append<A: Scarce>(trial: Trial<'_, A>, text: &str, page: &mut Page) {
+pub fn append<A: Scarce>(trial: &Trial<'_, A>, text: &str, page: &mut Page) {
     match trial.token("last") {
         Some(last) => append_last(trial, text, last, page),
         None => page.put(UNFIT),
@@ -81,7 +81,7 @@ pub fn append<A: Scarce>(trial: Trial<'_, A>, text: &str, page: &mut Page) {
 }
 
 /// `TokenStream::append` of this literal behind the trees of the text, and what is left of the stream.
-fn append_last<A: Scarce>(trial: Trial<'_, A>, text: &str, last: Literal<A>, page: &mut Page) {
+fn append_last<A: Scarce>(trial: &Trial<'_, A>, text: &str, last: Literal<A>, page: &mut Page) {
     match trial.trees(text) {
         Some(mut stream) => {
             let before = trial.lends(&stream);
@@ -94,13 +94,13 @@ fn append_last<A: Scarce>(trial: Trial<'_, A>, text: &str, last: Literal<A>, pag
 }
 
 /// `lex`, in the file 7.
-pub fn cut<A: Scarce>(trial: Trial<'_, A>, text: &str, page: &mut Page) {
+pub fn cut<A: Scarce>(trial: &Trial<'_, A>, text: &str, page: &mut Page) {
     trial.ends_with(lex(trial.begins(), text, 7), page);
 }
 
 /// The parser of a type over the trees of the text, and what is left of the buffer.
 pub fn parsed<T: Parse<A> + Tell + Drop, A: Scarce>(
-    trial: Trial<'_, A>,
+    trial: &Trial<'_, A>,
     text: &str,
     page: &mut Page,
 ) {

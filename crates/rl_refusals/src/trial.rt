@@ -37,7 +37,7 @@ pub const HERE: Span = Span {
 pub const UNFIT: &str = "unfit text";
 
 /// One run of a call, with the numbers of the requests that are refused while it runs.
-#[derive(Clone, Copy)]
+#[derive(Drop)]
 pub struct Trial<'a, A: Scarce> {
     /// Memory for what is printed.
     pub alloc: Global,
