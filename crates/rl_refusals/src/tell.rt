@@ -1,13 +1,13 @@
 //! What is printed of answers and of what is left.
 
 use crate::page::Page;
-use crate::trial::Scant;
 use rl_quoted::{Quoted, QuotedKind};
 use rl_tokens::{
     CString, Delimiter, Error, Group, Ident, Kept, LexError, LexKind, Literal, Span, TokenStream,
     TokenTree,
 };
-use rust_literals::{Lit, LitBool, LitFloat, LitInt};
+use rust_literals::{Lit, LitBool, Number, NumberKind};
+use std::alloc::Allocator;
 
 /// A value that can be printed, with its spans.
 pub trait Tell {
@@ -53,51 +53,44 @@ impl Tell for i8 {
     }
 }
 
-impl Tell for String<Scant<'_>> {
+impl<A: Allocator> Tell for String<A> {
     fn tell(&self, page: &mut Page) {
         page.put(self.as_str());
     }
 }
 
-impl<'a> Tell for Vec<u8, Scant<'a>> {
+impl<A: Allocator> Tell for Vec<u8, A> {
     fn tell(&self, page: &mut Page) {
         page.put_debug(&self.as_slice());
     }
 }
 
-impl Tell for CString<Scant<'_>> {
+impl<A: Allocator> Tell for CString<A> {
     fn tell(&self, page: &mut Page) {
         page.put_debug(&self.as_bytes());
     }
 }
 
-impl Tell for Literal<Scant<'_>> {
+impl<A: Allocator> Tell for Literal<A> {
     fn tell(&self, page: &mut Page) {
         tell_token(self.text(), self.span(), page);
     }
 }
 
-impl Tell for Ident<Scant<'_>> {
+impl<A: Allocator> Tell for Ident<A> {
     fn tell(&self, page: &mut Page) {
         tell_token(self.text(), self.span(), page);
     }
 }
 
-impl<K: QuotedKind> Tell for Quoted<K, Scant<'_>> {
+impl<K: QuotedKind, A: Allocator> Tell for Quoted<K, A> {
     fn tell(&self, page: &mut Page) {
         page.put_debug(self);
         tell_span(self.span(), page);
     }
 }
 
-impl Tell for LitInt<Scant<'_>> {
-    fn tell(&self, page: &mut Page) {
-        page.put_debug(self);
-        tell_span(self.span(), page);
-    }
-}
-
-impl Tell for LitFloat<Scant<'_>> {
+impl<K: NumberKind, A: Allocator> Tell for Number<K, A> {
     fn tell(&self, page: &mut Page) {
         page.put_debug(self);
         tell_span(self.span(), page);
@@ -111,14 +104,14 @@ impl Tell for LitBool {
     }
 }
 
-impl Tell for Lit<Scant<'_>> {
+impl<A: Allocator> Tell for Lit<A> {
     fn tell(&self, page: &mut Page) {
         page.put_debug(self);
         tell_span(self.span(), page);
     }
 }
 
-impl<'a> Tell for Vec<Lit<Scant<'a>>, Scant<'a>> {
+impl<A: Allocator> Tell for Vec<Lit<A>, A> {
     fn tell(&self, page: &mut Page) {
         for literal in self.as_slice() {
             literal.tell(page);
@@ -127,7 +120,7 @@ impl<'a> Tell for Vec<Lit<Scant<'a>>, Scant<'a>> {
     }
 }
 
-impl Tell for Error<Scant<'_>> {
+impl<A: Allocator> Tell for Error<A> {
     fn tell(&self, page: &mut Page) {
         page.put_shown(self);
         tell_span(self.span, page);
@@ -142,7 +135,7 @@ impl Tell for LexError {
     }
 }
 
-impl<T: Tell> Tell for Kept<T, Scant<'_>> {
+impl<T: Tell, A: Allocator> Tell for Kept<T, A> {
     fn tell(&self, page: &mut Page) {
         self.error.tell(page);
         page.put(", back ");
@@ -150,18 +143,9 @@ impl<T: Tell> Tell for Kept<T, Scant<'_>> {
     }
 }
 
-impl<T: Tell, E: Tell> Tell for Result<T, E> {
-    fn tell(&self, page: &mut Page) {
-        match self {
-            Ok(value) => value.tell(page),
-            Err(error) => error.tell(page),
-        }
-    }
-}
-
 /// Puts trees last, each behind a space.
 #[cycle(trees)]
-fn tell_trees(trees: &[TokenTree<Scant<'_>>], page: &mut Page) {
+fn tell_trees<A: Allocator>(trees: &[TokenTree<A>], page: &mut Page) {
     for tree in trees {
         page.put(" ");
         tell_tree(tree, page);
@@ -170,7 +154,7 @@ fn tell_trees(trees: &[TokenTree<Scant<'_>>], page: &mut Page) {
 
 /// Puts a tree last, and of a group all that is inside.
 #[cycle(trees)]
-fn tell_tree(tree: &TokenTree<Scant<'_>>, page: &mut Page) {
+fn tell_tree<A: Allocator>(tree: &TokenTree<A>, page: &mut Page) {
     match tree {
         TokenTree::Group(group) => {
             page.put_debug(&group.delimiter());
@@ -188,23 +172,23 @@ fn tell_tree(tree: &TokenTree<Scant<'_>>, page: &mut Page) {
     }
 }
 
-impl Tell for TokenTree<Scant<'_>> {
+impl<A: Allocator> Tell for TokenTree<A> {
     fn tell(&self, page: &mut Page) {
         tell_tree(self, page);
     }
 }
 
-impl Tell for TokenStream<Scant<'_>> {
+impl<A: Allocator> Tell for TokenStream<A> {
     fn tell(&self, page: &mut Page) {
         tell_trees(self.trees(), page);
     }
 }
 
 /// What is left of a buffer.
-#[derive(Clone, Copy)]
-pub struct Rest<'t, 'a>(pub &'t [TokenTree<Scant<'a>>]);
+#[derive(Drop)]
+pub struct Rest<'t, A: Allocator>(pub &'t [TokenTree<A>]);
 
-impl Tell for Rest<'_, '_> {
+impl<A: Allocator> Tell for Rest<'_, A> {
     fn tell(&self, page: &mut Page) {
         tell_trees(self.0, page);
     }

@@ -1,47 +1,41 @@
 //! Calls of `rl_grammar` and the free calls above it.
 
 use crate::page::Page;
-use crate::tell::Tell;
-use crate::tokens::UNFIT;
-use crate::trial::Trial;
+use crate::trial::{Scarce, Trial, UNFIT};
 use rl_grammar::{Kind, bytes_of, digits_of, shape, str_of};
 use rust_literals::read_all;
 
 /// `str_of`.
-pub fn text_of(trial: Trial<'_>, text: &str, page: &mut Page) {
+pub fn text_of<A: Scarce>(trial: &Trial<'_, A>, text: &str, page: &mut Page) {
     match shape(text) {
         Some(parts) if parts.kind == Kind::Str => {
-            trial.begins();
-            trial.ends(&str_of(trial.scant, text), page);
+            trial.ends(str_of(trial.begins(), text), page);
         }
         _ => page.put(UNFIT),
     }
 }
 
 /// `bytes_of`.
-pub fn contents_of(trial: Trial<'_>, text: &str, page: &mut Page) {
+pub fn contents_of<A: Scarce>(trial: &Trial<'_, A>, text: &str, page: &mut Page) {
     match shape(text) {
         Some(parts) if parts.kind == Kind::ByteStr || parts.kind == Kind::CStr => {
-            trial.begins();
-            trial.ends(&bytes_of(trial.scant, text), page);
+            trial.ends(bytes_of(trial.begins(), text), page);
         }
         _ => page.put(UNFIT),
     }
 }
 
 /// `digits_of`.
-pub fn numeral_of(trial: Trial<'_>, text: &str, page: &mut Page) {
+pub fn numeral_of<A: Scarce>(trial: &Trial<'_, A>, text: &str, page: &mut Page) {
     match shape(text) {
         Some(parts) if parts.kind == Kind::Int || parts.kind == Kind::Float => {
-            trial.begins();
-            trial.ends(&digits_of(trial.scant, parts.kind, text), page);
+            trial.ends(digits_of(trial.begins(), parts.kind, text), page);
         }
         _ => page.put(UNFIT),
     }
 }
 
 /// `read_all`, in the file 7.
-pub fn read(trial: Trial<'_>, text: &str, page: &mut Page) {
-    trial.begins();
-    trial.ends(&read_all(trial.scant, text, 7), page);
+pub fn read<A: Scarce>(trial: &Trial<'_, A>, text: &str, page: &mut Page) {
+    trial.ends(read_all(trial.begins(), text, 7), page);
 }

@@ -42,9 +42,7 @@ impl Page {
 
     /// Puts the number last.
     pub fn put_number(&mut self, number: usize) {
-        if write!(self.text, "{number}").is_err() {
-            self.is_short = true;
-        }
+        self.put_shown(&number);
     }
 
     /// Puts the value last, as it is shown to developers.

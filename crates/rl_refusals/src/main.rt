@@ -8,6 +8,7 @@
 mod grammar;
 mod held;
 mod hostile;
+mod inside;
 mod made;
 mod page;
 mod rows;

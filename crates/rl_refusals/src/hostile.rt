@@ -1,0 +1,179 @@
+//! Texts that are cut or long, given to five calls: `Lit::new`, `skip`, `lex`, `read_all` and `is_token`.
+
+use crate::page::Page;
+use crate::tell::{Tell, tell_places};
+use rl_grammar::strict;
+use rl_lines::line_of;
+use rl_tokens::{Kept, Literal, Span, lex, whitespace};
+use rust_literals::{Lit, read_all};
+use std::alloc::{AllocError, Global};
+
+/// Lines longer than this are told by their lengths.
+const LONGEST: usize = 100;
+
+/// How many literals of a list are told.
+const MOST: usize = 4;
+
+/// What is told where memory is refused.
+const NO_MEMORY: &str = "out of memory";
+
+/// Puts last a line without its end, or where that is long its kind and how many bytes it has.
+fn put_line(line: &str, page: &mut Page) {
+    let (line, _) = line.split_once('\n').unwrap_or((line, ""));
+    if line.len() <= LONGEST {
+        page.put(line);
+    } else {
+        put_length(line, page);
+    }
+}
+
+/// Puts last the kind that a line begins with, and how many bytes it has.
+fn put_length(line: &str, page: &mut Page) {
+    let (kind, _) = line.split_once(' ').unwrap_or((line, ""));
+    page.put(kind);
+    page.put(" in a line of ");
+    page.put_number(line.len());
+}
+
+/// Puts a literal's line last.
+fn tell_line(alloc: Global, literal: &Lit, page: &mut Page) {
+    match line_of(alloc, literal) {
+        Ok(line) => put_line(line.as_str(), page),
+        Err(_) => page.put(NO_MEMORY),
+    }
+}
+
+/// Puts last what `Lit::new` answers to a token of the text.
+fn tell_literal(alloc: Global, text: &str, page: &mut Page) {
+    match Literal::from_text(alloc, text, Span::call_site()) {
+        Ok(token) => tell_new(alloc, token, page),
+        Err(_) => page.put(NO_MEMORY),
+    }
+}
+
+/// Puts last what `Lit::new` answers.
+fn tell_new(alloc: Global, token: Literal, page: &mut Page) {
+    match Lit::new(alloc, token) {
+        Ok(literal) => tell_literal_line(alloc, literal, page),
+        Err(kept) => tell_kept(kept, page),
+    }
+}
+
+/// Puts the line of a literal that `Lit::new` made last.
+fn tell_literal_line(alloc: Global, literal: Lit, page: &mut Page) {
+    tell_line(alloc, &literal, page);
+}
+
+/// Puts a refusal of `Lit::new` last.
+fn tell_kept(kept: Kept<Literal, Global>, page: &mut Page) {
+    page.put_shown(&kept.error);
+}
+
+/// Puts last what `lex` answers: how many trees, or a fault and its place.
+fn tell_trees(alloc: Global, text: &str, page: &mut Page) {
+    match lex(alloc, text, 0) {
+        Ok(stream) => page.put_number(stream.trees().len()),
+        Err(fault) => fault.tell(page),
+    }
+}
+
+/// Puts last what `read_all` answers: how many literals, the first of them and their places, or a refusal and its places.
+fn tell_read(alloc: Global, text: &str, page: &mut Page) {
+    match read_all(alloc, text, 0) {
+        Ok(literals) => tell_literals(alloc, literals.as_slice(), page),
+        Err(error) => {
+            page.put_shown(&error);
+            tell_places(error.span, page);
+        }
+    }
+}
+
+/// Puts last how many literals there are, and the first of them and their places.
+fn tell_literals(alloc: Global, literals: &[Lit], page: &mut Page) {
+    page.put_number(literals.len());
+    for literal in literals.get(..MOST).unwrap_or(literals) {
+        page.put(", ");
+        tell_line(alloc, literal, page);
+        tell_places(literal.span(), page);
+    }
+}
+
+/// Puts a line last: how long the text is, and what the five calls answer.
+fn tell_text(alloc: Global, text: &str, page: &mut Page) {
+    page.put("  ");
+    page.put_number(text.len());
+    page.put(": skip ");
+    page.put_number(whitespace::skip(text).len());
+    page.put("; lex ");
+    tell_trees(alloc, text, page);
+    if strict::is_token(text) {
+        page.put("; token");
+    }
+    page.put("; read ");
+    tell_read(alloc, text, page);
+    page.put("; new ");
+    tell_literal(alloc, text, page);
+    page.put("\n");
+}
+
+/// The character that a picture stands for, or itself.
+fn unpictured(c: char) -> char {
+    match c {
+        '␊' => '\n',
+        '␍' => '\r',
+        '␉' => '\t',
+        '␀' => '\0',
+        c => c,
+    }
+}
+
+/// The text whose line ends, tabs and zeros are written as pictures.
+fn without_pictures(alloc: Global, text: &str) -> Result<String, AllocError> {
+    let mut out = String::new(alloc);
+    for c in text.chars() {
+        out.push(unpictured(c))?;
+    }
+    Ok(out)
+}
+
+/// Puts last what the five calls answer to the text, cut at each place between two characters.
+fn tell_cuts(alloc: Global, text: &str, page: &mut Page) {
+    for (at, _) in text.char_indices() {
+        tell_text(alloc, &text[..at], page);
+    }
+    tell_text(alloc, text, page);
+}
+
+/// Puts last what the five calls answer to the text with pictures in it, cut at each place.
+pub fn cuts(alloc: Global, text: &str, page: &mut Page) {
+    match without_pictures(alloc, text) {
+        Ok(text) => tell_cuts(alloc, text.as_str(), page),
+        Err(_) => page.put(NO_MEMORY),
+    }
+}
+
+/// Puts the piece last, so many times.
+fn put_times(count: u32, piece: &str, text: &mut String) -> Result<(), AllocError> {
+    for _ in 0..count {
+        text.push_str(piece)?;
+    }
+    Ok(())
+}
+
+/// The text of these parts: each a number, a space, and a piece that stands so many times; tabs between them.
+fn put_together(alloc: Global, parts: &str) -> Result<String, AllocError> {
+    let mut text = String::new(alloc);
+    for part in parts.split('\t') {
+        let (count, piece) = part.split_once(' ').unwrap_or(("", part));
+        put_times(count.parse::<u32>().unwrap_or(1), piece, &mut text)?;
+    }
+    Ok(text)
+}
+
+/// Puts last what the five calls answer to the text of these parts.
+pub fn long(alloc: Global, parts: &str, page: &mut Page) {
+    match put_together(alloc, parts) {
+        Ok(text) => tell_text(alloc, text.as_str(), page),
+        Err(_) => page.put(NO_MEMORY),
+    }
+}

@@ -1,0 +1,116 @@
+//! Calls of `rl_tokens`.
+
+use crate::held;
+use crate::page::Page;
+use crate::tell::{Rest, Tell};
+use crate::trial::{HERE, Scarce, Trial, UNFIT};
+use rl_tokens::{CString, Ident, Literal, Parse, ParseBuffer, TokenTree, ident, lex};
+use std::alloc::Global;
+
+/// Calls of `Literal`.
+pub fn literal_call<A: Scarce>(name: &str, trial: &Trial<'_, A>, text: &str, page: &mut Page) {
+    match name {
+        "from_text" => trial.ends(Literal::from_text(trial.begins(), text, HERE), page),
+        "negative" => trial.ends(Literal::negative(trial.begins(), text, HERE), page),
+        "string" => trial.ends(Literal::string(trial.begins(), text), page),
+        _ => literal_of_value(name, trial, text, page),
+    }
+}
+
+/// Calls of `Literal` that make one of bytes or a character, and those of a token that is at hand.
+fn literal_of_value<A: Scarce>(name: &str, trial: &Trial<'_, A>, text: &str, page: &mut Page) {
+    match name {
+        "byte_string" => byte_string(trial, text.as_bytes(), page),
+        "c_string" => c_string(trial, text, page),
+        "byte_character" => byte_character(trial, text, page),
+        "character" => character(trial, text, page),
+        _ => held::token(name, trial, text, page),
+    }
+}
+
+/// `Literal::byte_string`.
+fn byte_string<A: Scarce>(trial: &Trial<'_, A>, bytes: &[u8], page: &mut Page) {
+    trial.ends(Literal::byte_string(trial.begins(), bytes), page);
+}
+
+/// A C string of the text's bytes.
+pub fn c_string_of(alloc: Global, text: &str) -> Option<CString> {
+    let bytes = Vec::from_slice(alloc, text.as_bytes()).ok()?;
+    CString::new(bytes).ok()
+}
+
+/// `Literal::c_string` of the text's bytes.
+fn c_string<A: Scarce>(trial: &Trial<'_, A>, text: &str, page: &mut Page) {
+    match c_string_of(trial.alloc, text) {
+        Some(value) => trial.ends(Literal::c_string(trial.begins(), &value), page),
+        None => page.put(UNFIT),
+    }
+}
+
+/// `Literal::byte_character` of the text's first byte.
+fn byte_character<A: Scarce>(trial: &Trial<'_, A>, text: &str, page: &mut Page) {
+    match text.as_bytes().first() {
+        Some(byte) => trial.ends(Literal::byte_character(trial.begins(), *byte), page),
+        None => page.put(UNFIT),
+    }
+}
+
+/// `Literal::character` of the text's first character.
+fn character<A: Scarce>(trial: &Trial<'_, A>, text: &str, page: &mut Page) {
+    match text.chars().next() {
+        Some(c) => trial.ends(Literal::character(trial.begins(), c), page),
+        None => page.put(UNFIT),
+    }
+}
+
+/// `Ident::new`.
+pub fn word<A: Scarce>(trial: &Trial<'_, A>, text: &str, page: &mut Page) {
+    if ident::xid_ok(text) {
+        trial.ends(Ident::new(trial.begins(), text, HERE), page);
+    } else {
+        page.put(UNFIT);
+    }
+}
+
+/// `TokenStream::append` of a literal behind the trees of the text.
+pub fn append<A: Scarce>(trial: &Trial<'_, A>, text: &str, page: &mut Page) {
+    match trial.token("last") {
+        Some(last) => append_last(trial, text, last, page),
+        None => page.put(UNFIT),
+    }
+}
+
+/// `TokenStream::append` of this literal behind the trees of the text, and what is left of the stream.
+fn append_last<A: Scarce>(trial: &Trial<'_, A>, text: &str, last: Literal<A>, page: &mut Page) {
+    match trial.trees(text) {
+        Some(mut stream) => {
+            let before = trial.lends(&stream);
+            trial.begins();
+            trial.ends_with(stream.append(TokenTree::Literal(last)), page);
+            trial.leaves(&stream, before, page);
+        }
+        None => page.put(UNFIT),
+    }
+}
+
+/// `lex`, in the file 7.
+pub fn cut<A: Scarce>(trial: &Trial<'_, A>, text: &str, page: &mut Page) {
+    trial.ends_with(lex(trial.begins(), text, 7), page);
+}
+
+/// The parser of a type over the trees of the text, and what is left of the buffer.
+pub fn parsed<T: Parse<A> + Tell + Drop, A: Scarce>(
+    trial: &Trial<'_, A>,
+    text: &str,
+    page: &mut Page,
+) {
+    match trial.trees(text) {
+        Some(stream) => {
+            let before = trial.lends(&stream);
+            let mut input = ParseBuffer::new(stream.trees(), HERE);
+            trial.ends(input.parse::<T>(trial.begins()), page);
+            trial.leaves(&Rest(input.rest()), before, page);
+        }
+        None => page.put(UNFIT),
+    }
+}
