@@ -1,6 +1,6 @@
 //! Refusals: what was refused, and where.
 
-ghost use Rattle.std.specs.Prelude.{◌≡◌, Some};
+ghost use Rattle.std.specs.Prelude.{◌≡◌, ◌++◌, Some};
 ghost use Rattle.rl_tokens.specs.Errors.{message_of};
 
 use crate::lex_error::LexKind;
@@ -113,26 +113,33 @@ impl<A: Allocator> From<AllocError> for Error<A> {
     }
 }
 
+impl<A: Allocator> ErrorKind<A> {
+    /// The words of the refusal, in three parts: the middle one is what it holds.
+    fn words(&self) -> (&'static str, &str, &'static str)
+        ensures { result.0.now ++ result.1.now ++ result.2.now ≡ message_of self.now }
+    {
+        match self {
+            ErrorKind::Expected(word) => ("expected ", word, ""),
+            ErrorKind::EndOfInput(word) => ("unexpected end of input, expected ", word, ""),
+            ErrorKind::Unexpected => ("unexpected token", "", ""),
+            ErrorKind::Lex(fault) => (fault.words(), "", ""),
+            ErrorKind::Suffix(suffix) => ("unexpected suffix `", suffix.as_str(), "` on string literal"),
+            ErrorKind::NotInteger => ("not an integer literal", "", ""),
+            ErrorKind::TooLarge => ("integer literal past 128 bits", "", ""),
+            ErrorKind::NotFloat => ("not a float literal", "", ""),
+            ErrorKind::Repeated => ("repeated name", "", ""),
+            ErrorKind::Number(words) => ("", words.as_str(), ""),
+            ErrorKind::Memory => ("out of memory", "", ""),
+        }
+    }
+}
+
 impl<A: Allocator> fmt::Display for ErrorKind<A> {
     ghost output = { λ kind. Some (message_of kind) };
 
     fn fmt<W: fmt::Write>(&self, f: &mut fmt::Formatter<W>) -> fmt::Result {
-        match self {
-            ErrorKind::Expected(word) => write!(f, "expected {word}"),
-            ErrorKind::EndOfInput(word) => write!(f, "unexpected end of input, expected {word}"),
-            ErrorKind::Unexpected => write!(f, "unexpected token"),
-            ErrorKind::Lex(fault) => write!(f, "{fault}"),
-            ErrorKind::Suffix(suffix) => write!(
-                f,
-                "unexpected suffix `{suffix}` on string literal"
-            ),
-            ErrorKind::NotInteger => write!(f, "not an integer literal"),
-            ErrorKind::TooLarge => write!(f, "integer literal past 128 bits"),
-            ErrorKind::NotFloat => write!(f, "not a float literal"),
-            ErrorKind::Repeated => write!(f, "repeated name"),
-            ErrorKind::Number(words) => write!(f, "{words}"),
-            ErrorKind::Memory => write!(f, "out of memory"),
-        }
+        let (before, held, behind) = self.words();
+        write!(f, "{before}{held}{behind}")
     }
 }
 
