@@ -1,4 +1,5 @@
-use Rattle.std.proofs.Common.{◌≡◌, ◌∙◌, Bool, true, false, not, refl, rules, sym}
+use Rattle.std.proofs.Common.{◌≡◌, ◌∙◌, arith, Bool, true, false, not, refl, rules, sym}
+use Rattle.std.proofs.lemmas.Grind.{common_steps}
 use Rattle.std.proofs.lemmas.Result.{on_ok_weaker}
 use denote.Enum.Bare.{same_true}
 use Rattle.rl_tokens.specs.contracts.token.Delimiter.{the_type}
@@ -16,3 +17,12 @@ returns-clause-ok g c =
     (closes_group c.args.self.now _ c.append.new.self c.in-Some.open c.new-2.result c.args.delimiter c.args.lo c.args.hi
     c.in-Some.ensures.items (sym c.replace-inside.ensures.after) refl same c.new-2.ensures.delimiter (c.new-2.ensures.stream ∙ c.replace-inside.ensures.value) (c.new-2.ensures.span ∙ c.new-span.ensures) c.requires)
     c.append.ensures.ok
+
+pub returns-then-ne-clause-at : goal.returns-then-ne-clause-at
+returns-then-ne-clause-at g c = grind (arith, common_steps)
+
+pub returns-clause-at : goal.returns-clause-at
+returns-clause-at g c = grind (arith, common_steps)
+
+pub returns-clause-kind : goal.returns-clause-kind
+returns-clause-kind g c = grind (arith, common_steps)
