@@ -41,3 +41,11 @@ returns-in-None-clause-refused g c =
 pub returns-in-Some-fault-clause-refused : goal.returns-in-Some-fault-clause-refused
 returns-in-Some-fault-clause-refused g c =
     fault_told c.args.text.now c.loop-token.tokens c.next.new.self c.args.file c.loop-token.nest c.in-Some-fault.fault c.loop-token.invariant.same c.in_default.ensures.stays c.loop-token.invariant.has c.in-Some-fault.ensures.first
+
+pub loop-token-smaller : goal.loop-token-smaller
+loop-token-smaller g c = c.in-Some.ensures.shorter
+
+pub returns-in_err-add-clause-trees : goal.returns-in_err-add-clause-trees
+returns-in_err-add-clause-trees g c =
+    let p = err_from_is_err_and c.from_residual.result c.from_residual.ensures.1 in
+    rw p.1 tt
