@@ -1,6 +1,6 @@
 //! Refusals: what was refused, and where.
 
-ghost use Rattle.std.specs.Prelude.{◌≡◌, ◌++◌, Some};
+ghost use Rattle.std.specs.Prelude.{◌≡◌, Some};
 ghost use Rattle.rl_tokens.specs.Errors.{message_of};
 
 use crate::lex_error::LexKind;
@@ -113,33 +113,26 @@ impl<A: Allocator> From<AllocError> for Error<A> {
     }
 }
 
-impl<A: Allocator> ErrorKind<A> {
-    /// The words of the refusal, in three parts: the middle one is what it holds.
-    fn words(&self) -> (&'static str, &str, &'static str)
-        ensures { result.0.now ++ result.1.now ++ result.2.now ≡ message_of self.now }
-    {
-        match self {
-            ErrorKind::Expected(word) => ("expected ", word, ""),
-            ErrorKind::EndOfInput(word) => ("unexpected end of input, expected ", word, ""),
-            ErrorKind::Unexpected => ("unexpected token", "", ""),
-            ErrorKind::Lex(fault) => (fault.words(), "", ""),
-            ErrorKind::Suffix(suffix) => ("unexpected suffix `", suffix.as_str(), "` on string literal"),
-            ErrorKind::NotInteger => ("not an integer literal", "", ""),
-            ErrorKind::TooLarge => ("integer literal past 128 bits", "", ""),
-            ErrorKind::NotFloat => ("not a float literal", "", ""),
-            ErrorKind::Repeated => ("repeated name", "", ""),
-            ErrorKind::Number(words) => ("", words.as_str(), ""),
-            ErrorKind::Memory => ("out of memory", "", ""),
-        }
-    }
-}
-
 impl<A: Allocator> fmt::Display for ErrorKind<A> {
     ghost output = { λ kind. Some (message_of kind) };
 
     fn fmt<W: fmt::Write>(&self, f: &mut fmt::Formatter<W>) -> fmt::Result {
-        let (before, held, behind) = self.words();
-        write!(f, "{before}{held}{behind}")
+        match self {
+            ErrorKind::Expected(word) => write!(f, "expected {word}"),
+            ErrorKind::EndOfInput(word) => write!(f, "unexpected end of input, expected {word}"),
+            ErrorKind::Unexpected => f.write_str("unexpected token"),
+            ErrorKind::Lex(fault) => f.write_str(fault.words()),
+            ErrorKind::Suffix(suffix) => write!(
+                f,
+                "unexpected suffix `{suffix}` on string literal"
+            ),
+            ErrorKind::NotInteger => f.write_str("not an integer literal"),
+            ErrorKind::TooLarge => f.write_str("integer literal past 128 bits"),
+            ErrorKind::NotFloat => f.write_str("not a float literal"),
+            ErrorKind::Repeated => f.write_str("repeated name"),
+            ErrorKind::Number(words) => f.write_str(words.as_str()),
+            ErrorKind::Memory => f.write_str("out of memory"),
+        }
     }
 }
 
