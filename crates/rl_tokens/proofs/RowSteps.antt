@@ -1,5 +1,5 @@
 -- One character more of a row, by the loops that go over it.
-use Rattle.std.proofs.Common.{◌≡◌, ◌≢◌, ℕ, suc, zero, ◌+◌, ◌-◌, ◌<◌, Bool, true, false, ◌&&◌, ◌==◌, cond, List, ◌∷◌, Some, None, drop, sym, ◌∙◌, ap, arith}
+use Rattle.std.proofs.Common.{◌≡◌, ◌≢◌, ℕ, suc, zero, ◌+◌, ◌-◌, ◌<◌, Bool, true, false, ◌==◌, cond, List, ◌∷◌, Some, None, drop, sym, ◌∙◌, ap, arith}
 use Rattle.std.proofs.lemmas.Bool.Decides.{nat_tests}
 use Rattle.rl_tokens.specs.Lexemes.{begins_hashes}
 use Rattle.rl_tokens.specs.Mirrors.LexemeAt.{hashes, after_apostrophe, is_hash, after_run}
