@@ -120,6 +120,7 @@ fn after_start(c: char, text: &str) -> Option<(Form, &str)>
 }
 
 /// Behind a `b`: the prefix of three kinds of literals, or the first letter of an identifier.
+#[inline(always)]
 fn after_b(text: &str) -> Option<(Form, &str)>
     ensures rest { option_map (λ p. (form_view p.0, chars p.1.now)) result
         ≡ by_class LetterBHead 98 (chars text.now) }
@@ -135,6 +136,7 @@ fn after_b(text: &str) -> Option<(Form, &str)>
 }
 
 /// Behind a `c`: the prefix of two kinds of literals, or the first letter of an identifier.
+#[inline(always)]
 fn after_c(text: &str) -> Option<(Form, &str)>
     ensures rest { option_map (λ p. (form_view p.0, chars p.1.now)) result
         ≡ by_class LetterCHead 99 (chars text.now) }
@@ -147,6 +149,7 @@ fn after_c(text: &str) -> Option<(Form, &str)>
 }
 
 /// Behind a `b` or `c`, where no quote follows.
+#[inline(always)]
 fn raw_or_word(text: &str) -> Option<(Form, &str)>
     ensures rest { option_map (λ p. (form_view p.0, chars p.1.now)) result
         ≡ cond (slice_index (chars text.now) 0 == 114
@@ -161,6 +164,7 @@ fn raw_or_word(text: &str) -> Option<(Form, &str)>
 }
 
 /// Behind an `r`: a raw string, or an identifier that isn't raw.
+#[inline(always)]
 fn after_r(text: &str) -> Option<(Form, &str)>
     ensures rest { option_map (λ p. (form_view p.0, chars p.1.now)) result
         ≡ by_class LetterRHead 114 (chars text.now) }
@@ -196,6 +200,7 @@ fn quoted_literal(text: &str) -> Option<(Form, &str)>
 }
 
 /// A character or a byte, behind its opening quote.
+#[inline(always)]
 fn character_literal(text: &str) -> Option<(Form, &str)>
     ensures rest { option_map (λ p. (form_view p.0, chars p.1.now)) result
         ≡ literal_at (single_at (chars text.now)) }
@@ -205,6 +210,7 @@ fn character_literal(text: &str) -> Option<(Form, &str)>
 }
 
 /// A raw literal, behind its `r`.
+#[inline(always)]
 fn raw_literal(text: &str) -> Option<(Form, &str)>
     ensures rest { option_map (λ p. (form_view p.0, chars p.1.now)) result
         ≡ literal_at (raw_at (chars text.now)) }
@@ -232,6 +238,7 @@ fn after_other(c: char, text: &str) -> Option<(Form, &str)>
 }
 
 /// Behind a slash, which is a mark where it begins no comment.
+#[inline(always)]
 fn after_slash(text: &str) -> Option<(Form, &str)>
     ensures rest { option_map (λ p. (form_view p.0, chars p.1.now)) result
         ≡ by_class SlashHead 47 (chars text.now) }
@@ -244,6 +251,7 @@ fn after_slash(text: &str) -> Option<(Form, &str)>
 }
 
 /// By a character that begins neither an identifier nor a mark.
+#[inline(always)]
 fn after_rare(c: char, text: &str) -> Option<(Form, &str)>
     ensures rest { option_map (λ p. (form_view p.0, chars p.1.now)) result
         ≡ by_class (rare_class c) c (chars text.now) }

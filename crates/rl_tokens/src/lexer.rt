@@ -60,6 +60,7 @@ pub fn lex<A: Allocator + Copy>(alloc: A, text: &str, file: u32) -> Result<Token
 }
 
 /// The trees that the text is cut into, or its first fault.
+#[inline(always)]
 fn trees_of<A: Allocator + Copy>(
     alloc: A,
     text: &str,

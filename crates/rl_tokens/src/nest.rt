@@ -84,6 +84,9 @@ impl<A: Allocator + Copy> TreeBuilder<A> {
         }
     }
 
+    /// Reads a literal more. Running out of memory is reported at its first byte, in the two that
+    /// follow too.
+    #[inline(always)]
     fn add_literal(&mut self, text: &str, lo: usize, hi: usize) -> Result<(), LexError>
         ensures ok { OnOk result (TakesToken self.old self.new LiteralForm text.now lo hi) }
         ensures err { IfErr result (λ e. e ≡ record { kind = LexKind.Memory; at = lo }) }
@@ -95,6 +98,8 @@ impl<A: Allocator + Copy> TreeBuilder<A> {
         }
     }
 
+    /// Reads an identifier more.
+    #[inline(always)]
     fn add_ident(&mut self, text: &str, lo: usize, hi: usize) -> Result<(), LexError>
         requires { IsTrue (xid_ok (chars text.now)) }
         ensures ok { OnOk result (TakesToken self.old self.new IdentifierForm text.now lo hi) }
@@ -107,6 +112,8 @@ impl<A: Allocator + Copy> TreeBuilder<A> {
         }
     }
 
+    /// Reads a mark more.
+    #[inline(always)]
     fn add_mark(&mut self, c: char, lo: usize, hi: usize) -> Result<(), LexError>
         requires { IsTrue (is_punct c) }
         ensures ok { OnOk result ((text : List ℕ) → TakesToken self.old self.new (MarkForm c) text lo hi) }
@@ -116,6 +123,8 @@ impl<A: Allocator + Copy> TreeBuilder<A> {
         self.append(TokenTree::Punct(Punct::new(c, span)), lo)
     }
 
+    /// Opens or closes a group.
+    #[inline(always)]
     fn add_delimiter(&mut self, c: char, lo: usize, hi: usize) -> Result<(), LexError>
         requires { IsFitting (DelimiterForm c) [] lo hi }
         ensures ok { OnOk result ((text : List ℕ) → TakesToken self.old self.new (DelimiterForm c) text lo hi) }
