@@ -18,6 +18,7 @@ pub mod WritingLemmas
 pub mod WrittenForms
 pub mod AsciiLemmas
 pub mod LexemeSteps
+pub mod RowSteps
 pub mod LexemeRows
 pub mod Gaps
 pub mod LexemeOpeners

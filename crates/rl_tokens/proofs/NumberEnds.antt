@@ -1,5 +1,5 @@
 -- A number by its first digit, and where it ends at once.
-use Rattle.std.proofs.Common.{◌≡◌, ℕ, ◌⊎◌, inl, inr, Bool, true, false, not, ◌&&◌, ◌||◌, ◌==◌, cond, List, [], ◌∷◌, Some, None, refl, sym, ◌∙◌, ap, lit<, arith, drop}
+use Rattle.std.proofs.Common.{◌≡◌, ℕ, ◌⊎◌, inl, inr, Bool, true, false, not, ◌&&◌, ◌||◌, ◌==◌, cond, List, [], ◌∷◌, Some, refl, sym, ◌∙◌, ap, lit<, arith, drop}
 use Rattle.std.proofs.lemmas.Bool.Decides.{nat_tests}
 use Rattle.rl_tokens.proofs.Comments.{false_unless}
 use Rattle.std.specs.Char.{is_ascii, is_ascii_digit}
@@ -12,14 +12,8 @@ use Rattle.rl_tokens.proofs.LexemeFronts.{at_class, class34, class_digit, start_
 pub digit_first : (s t : List ℕ) (d : ℕ) → s ≡ d ∷ t → is_ascii_digit d ≡ true → lexeme_at s ≡ Some (LiteralForm, after_digit d t)
 digit_first s t d e is = ap lexeme_at e ∙ at_class d t DigitHead (class_digit d is)
 
-quote_first : (s t : List ℕ) (b : ℕ) → s ≡ b ∷ t → b ≡ 34 → lexeme_at s ≡ literal_at (quoted_at t)
+pub quote_first : (s t : List ℕ) (b : ℕ) → s ≡ b ∷ t → b ≡ 34 → lexeme_at s ≡ literal_at (quoted_at t)
 quote_first s t b e is = ap lexeme_at e ∙ ap (λ x. lexeme_at (x ∷ t)) is ∙ at_class 34 t QuoteHead class34
-
-pub quote_open : (s t : List ℕ) (b : ℕ) → s ≡ b ∷ t → b ≡ 34 → None ≡ quoted_at t → None ≡ lexeme_at s
-quote_open s t b e is none = ap literal_at none ∙ sym (quote_first s t b e is)
-
-pub quote_closed : (s t r : List ℕ) (b : ℕ) → s ≡ b ∷ t → b ≡ 34 → Some r ≡ quoted_at t → Some (LiteralForm, r) ≡ lexeme_at s
-quote_closed s t r b e is some = ap literal_at some ∙ sym (quote_first s t b e is)
 
 -- neither a dot nor an identifier's start
 abbrev pub goes_on_none : ℕ → Bool

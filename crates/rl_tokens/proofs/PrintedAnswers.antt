@@ -2,7 +2,6 @@
 use Rattle.std.proofs.Common.{◌≡◌, ℕ, List, Result, Ok, Err, refl}
 use Rattle.std.specs.Str.{chars}
 use Rattle.std.specs.Result.{IfOk, IfErr}
-use Rattle.std.specs.Prelude.{IsErrAnd, ⊤}
 use Rattle.rl_tokens.specs.declared.token.TokenStream.{TokenStream}
 use Rattle.rl_tokens.specs.declared.lex_error.LexKind.{LexKind}
 use Rattle.rl_tokens.specs.declared.lex_error.LexKind.TheVariants.{DocComment, UnclosedComment, UnclosedQuote, Lifetime, RawIdentifier, StrayCharacter, UnmatchedClose, UnclosedGroup, TooDeep, Memory}
@@ -39,11 +38,6 @@ answers_trees : {A : Type 0} (t : List ℕ) (file : ℕ) (r : Result (TokenStrea
 answers_trees t file (Ok s) trees lexes found refused = (one_list t file (stream_view s) trees found lexes, tt)
 answers_trees t file (Err e) trees lexes found refused = (tt, only_memory t file trees e lexes refused)
 
--- An error holds no trees.
-pub no_trees : {T E : Type 0} (P : T → Type 0) (Q : E → Type 0) (r : Result T E) → IsErrAnd r Q → IfOk r P
-no_trees P Q (Ok x) is = absurd is
-no_trees P Q (Err e) is = tt
-
 -- The answer to a print.
 pub printed_answer : {A : Type 0} (text : List ℕ) (file : ℕ) (r : Result (TokenStream A) LexError) → IfOk r (λ s. Lexes (chars text) file (stream_view s)) → IfErr r (λ e. Refuses (chars text) e.kind e.at) → (entries : List Entry) (last : List ℕ) → Printed (chars text) entries last → Answers r (printed_trees file 0 entries)
 printed_answer text file r found refused entries last printed = answers_trees (chars text) file r (printed_trees file 0 entries) (printed_lexes (chars text) entries last file printed) found refused
@@ -51,11 +45,3 @@ printed_answer text file r found refused entries last printed = answers_trees (c
 -- The answer to a print of what was cut from any text.
 pub reprinted_answer : {A : Type 0} (text : List ℕ) (file : ℕ) (r : Result (TokenStream A) LexError) → IfOk r (λ s. Lexes (chars text) file (stream_view s)) → IfErr r (λ e. Refuses (chars text) e.kind e.at) → (entries : List Entry) (last : List ℕ) → Reprinted (chars text) entries last → Answers r (printed_trees file 0 entries)
 reprinted_answer text file r found refused entries last reprinted = answers_trees (chars text) file r (printed_trees file 0 entries) (reprinted_lexes (chars text) entries last file reprinted) found refused
-
--- An error, as the answer to a print.
-pub printed_refusal : (text : List ℕ) (file : ℕ) (e : LexError) → Refuses (chars text) e.kind e.at → (entries : List Entry) (last : List ℕ) → Printed (chars text) entries last → ⊤ × (e.kind ≡ Memory)
-printed_refusal text file e refused entries last printed = (tt, only_memory (chars text) file (printed_trees file 0 entries) e (printed_lexes (chars text) entries last file printed) refused)
-
--- An error, as the answer to a print of what was cut from any text.
-pub reprinted_refusal : (text : List ℕ) (file : ℕ) (e : LexError) → Refuses (chars text) e.kind e.at → (entries : List Entry) (last : List ℕ) → Reprinted (chars text) entries last → ⊤ × (e.kind ≡ Memory)
-reprinted_refusal text file e refused entries last reprinted = (tt, only_memory (chars text) file (printed_trees file 0 entries) e (reprinted_lexes (chars text) entries last file reprinted) refused)

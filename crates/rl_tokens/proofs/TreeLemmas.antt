@@ -55,3 +55,7 @@ respanned_group span g h d s i =
     ∙ ap (λ x. GroupTree (delimiter_of g) (inside_of (map (respanned span) (stream_view (stream_of g)))) x) s
     ∙ ap (λ x. GroupTree (delimiter_of g) x span) (sym e)
     ∙ sym k
+
+-- the first of several trees
+pub first_taken : {A : Type 0} (xs rest : List (TokenTree A)) (x : TokenTree A) (t : Tree) → xs ≡ x ∷ rest → tree_view x ≡ t → map tree_view xs ≡ t ∷ map tree_view rest
+first_taken xs rest x t e is = ap (map tree_view) e ∙ ap (λ z. z ∷ map tree_view rest) is

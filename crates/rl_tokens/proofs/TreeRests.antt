@@ -44,5 +44,5 @@ run_moved runs a b s t r x y p q e ran = subst (λ z. runs z t r y) p (subst (λ
 
 pub refuses_left : {T A : Type 0} (runs : List Tree → Span → Result T (Error A) → List Tree → Type 0) (a b left : List Tree) (s t u at : Span) (x : T) (e : Error A) → a ≡ b → s ≡ t → u ≡ s → runs a s (Ok x) left → left ≢ [] → at ≡ first_span left u → e ≡ record { span = at; kind = Unexpected } → RefusesParse runs b t e
 refuses_left runs a b left s t u at x e p q r ran some place is = record {
-  why = inr (record { value = x; rest = left; ran = run_moved runs a b s t (Ok x) left left p q refl ran; some = some; error = cc; });
+  why = inr (record { value = x; rest = left; ran = run_moved runs a b s t (Ok x) left left p q refl ran; some = some; error = cc });
 }

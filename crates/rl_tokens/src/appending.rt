@@ -2,11 +2,10 @@
 
 ghost use Rattle.std.specs.Prelude.{◌≡◌, ◌++◌, ◌∷◌, [], OnOk, OnErr, IfErr};
 ghost use Rattle.rl_tokens.specs.Errors.{memory_at};
-ghost use Rattle.rl_tokens.specs.Trees.{IdentTree, LiteralTree, stream_view};
+ghost use Rattle.rl_tokens.specs.Trees.{IdentTree, LiteralTree, token_tree_span, tree_view, stream_view};
 
 use crate::error::Error;
 use crate::ident::Ident;
-use crate::kept::Kept;
 use crate::literal::Literal;
 use crate::token::{TokenStream, TokenTree};
 use std::alloc::Allocator;
@@ -27,10 +26,7 @@ pub fn append_literal<A: Allocator, B: Allocator>(
     ensures memory { IfErr result (λ e. e ≡ memory_at token.now.span) }
 {
     let copy = token.clone(alloc)?;
-    match tokens.append(TokenTree::Literal(copy)) {
-        Ok(()) => Ok(()),
-        Err(Kept { error, .. }) => Err(error),
-    }
+    append_tree(TokenTree::Literal(copy), tokens)
 }
 
 /// Puts the identifier last.
@@ -47,8 +43,19 @@ pub fn append_ident<A: Allocator>(
     ensures unchanged { OnErr result (stream_view tokens.new ≡ stream_view tokens.old) }
     ensures memory { IfErr result (λ e. e ≡ memory_at ident.span) }
 {
-    match tokens.append(TokenTree::Ident(ident)) {
-        Ok(()) => Ok(()),
-        Err(Kept { error, .. }) => Err(error),
-    }
+    append_tree(TokenTree::Ident(ident), tokens)
+}
+
+/// Puts the tree last. Where memory is refused, the tree is dropped.
+fn append_tree<A: Allocator>(
+    tree: TokenTree<A>,
+    tokens: &mut TokenStream<A>,
+) -> Result<(), Error<A>>
+    ensures ok { OnOk result
+        (stream_view tokens.new ≡ stream_view tokens.old ++ tree_view tree ∷ []) }
+    ensures unchanged { OnErr result (stream_view tokens.new ≡ stream_view tokens.old) }
+    ensures memory { IfErr result (λ e. e ≡ memory_at (token_tree_span tree)) }
+{
+    tokens.append(tree)?;
+    Ok(())
 }

@@ -132,7 +132,10 @@ impl<'t> Tokens<'t> {
         // Else the text ends here, or a token begins what is left.
         ensures none { IfNone result ((self.now.rest ≡ []) ⊎ BeginsLexeme (chars self.now.rest)) }
     {
-        if self.rest.is_empty() || first_lexeme(self.rest).is_some() {
+        if self.rest.is_empty() {
+            return None;
+        }
+        if first_lexeme(self.rest).is_some() {
             return None;
         }
         let kind = fault_kind(self.rest);

@@ -120,18 +120,18 @@ impl<A: Allocator> fmt::Display for ErrorKind<A> {
         match self {
             ErrorKind::Expected(word) => write!(f, "expected {word}"),
             ErrorKind::EndOfInput(word) => write!(f, "unexpected end of input, expected {word}"),
-            ErrorKind::Unexpected => write!(f, "unexpected token"),
-            ErrorKind::Lex(fault) => write!(f, "{fault}"),
+            ErrorKind::Unexpected => f.write_str("unexpected token"),
+            ErrorKind::Lex(fault) => f.write_str(fault.words()),
             ErrorKind::Suffix(suffix) => write!(
                 f,
                 "unexpected suffix `{suffix}` on string literal"
             ),
-            ErrorKind::NotInteger => write!(f, "not an integer literal"),
-            ErrorKind::TooLarge => write!(f, "integer literal past 128 bits"),
-            ErrorKind::NotFloat => write!(f, "not a float literal"),
-            ErrorKind::Repeated => write!(f, "repeated name"),
-            ErrorKind::Number(words) => write!(f, "{words}"),
-            ErrorKind::Memory => write!(f, "out of memory"),
+            ErrorKind::NotInteger => f.write_str("not an integer literal"),
+            ErrorKind::TooLarge => f.write_str("integer literal past 128 bits"),
+            ErrorKind::NotFloat => f.write_str("not a float literal"),
+            ErrorKind::Repeated => f.write_str("repeated name"),
+            ErrorKind::Number(words) => f.write_str(words.as_str()),
+            ErrorKind::Memory => f.write_str("out of memory"),
         }
     }
 }

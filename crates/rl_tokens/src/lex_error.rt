@@ -69,7 +69,7 @@ impl LexError {
 
 impl LexKind {
     /// The words of the refusal.
-    fn words(self) -> &'static str
+    pub(crate) fn words(self) -> &'static str
         ensures { result.now ≡ lex_message self }
     {
         match self {

@@ -5,12 +5,12 @@ mod number;
 mod quoted;
 mod rows;
 
-ghost use Rattle.std.specs.Prelude.{◌≡◌, ◌<◌, ◌&&◌, ◌==◌, List, ℕ, length, slice_index, drop, option_map, IfSome, IfNone};
+ghost use Rattle.std.specs.Prelude.{◌≡◌, ◌<◌, ◌&&◌, ◌==◌, List, ℕ, length, slice_index, drop, cond, option_map, IfSome, IfNone};
 ghost use Rattle.std.specs.Str.{chars};
 ghost use Rattle.rl_tokens.specs.Texts.{is_among, first_passes, IsTail};
 ghost use Rattle.rl_tokens.specs.Lexemes.{delimiters, LexemeBefore, is_start};
 ghost use Rattle.rl_tokens.specs.Cursors.{form_view};
-ghost use Rattle.rl_tokens.specs.Mirrors.LexemeAt.{start_class, other_class, head_class, by_class, after_digit, lexeme_at, FormBefore};
+ghost use Rattle.rl_tokens.specs.Mirrors.LexemeAt.{start_class, other_class, rare_class, head_class, by_class, begins_hashed_quote, quoted_at, raw_at, single_at, literal_at, word_at, after_digit, lexeme_at, FormBefore, LetterBHead, LetterCHead, LetterRHead, SlashHead};
 
 use crate::characters::is_start;
 use crate::front::{begins_with, without_first};
@@ -73,7 +73,7 @@ fn by_character(text: &str) -> Option<(Form, &str)>
     ensures shorter { IfSome result (λ p. length p.1.now < length text.now) }
 {
     match split_ascii(text) {
-        Some((b'"', behind)) => Some((Form::Literal, after_quoted(behind)?)),
+        Some((b'"', behind)) => quoted_literal(behind),
         Some((byte, behind)) => by_first(byte as char, behind),
         None => by_wide_character(text),
     }
@@ -111,32 +111,112 @@ fn after_start(c: char, text: &str) -> Option<(Form, &str)>
         ≡ by_class (start_class c) c (chars text.now) }
     ensures behind { IfSome result (λ p. IsTail text.now p.1.now) }
 {
-    if c == 'b' {
-        if begins_with(text, '"') {
-            return Some((Form::Literal, after_quoted(without_first(text))?));
-        }
-        if begins_with(text, '\'') {
-            return Some((Form::Literal, after_character(without_first(text))?));
-        }
-        if begins_with(text, 'r') && begins_hashed_quote(without_first(text)) {
-            return Some((Form::Literal, after_raw_literal(without_first(text))?));
-        }
-    } else if c == 'c' {
-        if begins_with(text, '"') {
-            return Some((Form::Literal, after_quoted(without_first(text))?));
-        }
-        if begins_with(text, 'r') && begins_hashed_quote(without_first(text)) {
-            return Some((Form::Literal, after_raw_literal(without_first(text))?));
-        }
-    } else if c == 'r' {
-        if begins_hashed_quote(text) {
-            return Some((Form::Literal, after_raw_literal(text)?));
-        }
-        if begins_marked_identifier(text) {
-            return None;
-        }
+    match c {
+        'b' => after_b(text),
+        'c' => after_c(text),
+        'r' => after_r(text),
+        _ => identifier(text),
     }
+}
+
+/// Behind a `b`: the prefix of three kinds of literals, or the first letter of an identifier.
+#[inline(always)]
+fn after_b(text: &str) -> Option<(Form, &str)>
+    ensures rest { option_map (λ p. (form_view p.0, chars p.1.now)) result
+        ≡ by_class LetterBHead 98 (chars text.now) }
+    ensures behind { IfSome result (λ p. IsTail text.now p.1.now) }
+{
+    if begins_with(text, '"') {
+        return quoted_literal(without_first(text));
+    }
+    if begins_with(text, '\'') {
+        return character_literal(without_first(text));
+    }
+    raw_or_word(text)
+}
+
+/// Behind a `c`: the prefix of two kinds of literals, or the first letter of an identifier.
+#[inline(always)]
+fn after_c(text: &str) -> Option<(Form, &str)>
+    ensures rest { option_map (λ p. (form_view p.0, chars p.1.now)) result
+        ≡ by_class LetterCHead 99 (chars text.now) }
+    ensures behind { IfSome result (λ p. IsTail text.now p.1.now) }
+{
+    if begins_with(text, '"') {
+        return quoted_literal(without_first(text));
+    }
+    raw_or_word(text)
+}
+
+/// Behind a `b` or `c`, where no quote follows.
+#[inline(always)]
+fn raw_or_word(text: &str) -> Option<(Form, &str)>
+    ensures rest { option_map (λ p. (form_view p.0, chars p.1.now)) result
+        ≡ cond (slice_index (chars text.now) 0 == 114
+        && begins_hashed_quote (drop 1 (chars text.now)))
+        (literal_at (raw_at (drop 1 (chars text.now)))) (word_at (chars text.now)) }
+    ensures behind { IfSome result (λ p. IsTail text.now p.1.now) }
+{
+    if begins_with(text, 'r') && begins_hashed_quote(without_first(text)) {
+        return raw_literal(without_first(text));
+    }
+    identifier(text)
+}
+
+/// Behind an `r`: a raw string, or an identifier that isn't raw.
+#[inline(always)]
+fn after_r(text: &str) -> Option<(Form, &str)>
+    ensures rest { option_map (λ p. (form_view p.0, chars p.1.now)) result
+        ≡ by_class LetterRHead 114 (chars text.now) }
+    ensures behind { IfSome result (λ p. IsTail text.now p.1.now) }
+{
+    if begins_hashed_quote(text) {
+        return raw_literal(text);
+    }
+    if begins_marked_identifier(text) {
+        return None;
+    }
+    identifier(text)
+}
+
+/// An identifier, behind its first character.
+#[inline(always)]
+fn identifier(text: &str) -> Option<(Form, &str)>
+    ensures rest { option_map (λ p. (form_view p.0, chars p.1.now)) result
+        ≡ word_at (chars text.now) }
+    ensures behind { IfSome result (λ p. IsTail text.now p.1.now) }
+{
     Some((Form::Identifier, after_row(RunClass::Continue, text)))
+}
+
+/// A quoted literal, behind its opening quote.
+#[inline(always)]
+fn quoted_literal(text: &str) -> Option<(Form, &str)>
+    ensures rest { option_map (λ p. (form_view p.0, chars p.1.now)) result
+        ≡ literal_at (quoted_at (chars text.now)) }
+    ensures behind { IfSome result (λ p. IsTail text.now p.1.now) }
+{
+    Some((Form::Literal, after_quoted(text)?))
+}
+
+/// A character or a byte, behind its opening quote.
+#[inline(always)]
+fn character_literal(text: &str) -> Option<(Form, &str)>
+    ensures rest { option_map (λ p. (form_view p.0, chars p.1.now)) result
+        ≡ literal_at (single_at (chars text.now)) }
+    ensures behind { IfSome result (λ p. IsTail text.now p.1.now) }
+{
+    Some((Form::Literal, after_character(text)?))
+}
+
+/// A raw literal, behind its `r`.
+#[inline(always)]
+fn raw_literal(text: &str) -> Option<(Form, &str)>
+    ensures rest { option_map (λ p. (form_view p.0, chars p.1.now)) result
+        ≡ literal_at (raw_at (chars text.now)) }
+    ensures behind { IfSome result (λ p. IsTail text.now p.1.now) }
+{
+    Some((Form::Literal, after_raw_literal(text)?))
 }
 
 /// By a character that begins no identifier, and what stands behind it.
@@ -149,20 +229,40 @@ fn after_other(c: char, text: &str) -> Option<(Form, &str)>
         return Some((Form::Delimiter(c), text));
     }
     if c == '/' {
-        return match split_char(text) {
-            Some(('/' | '*', _)) => None,
-            _ => Some((Form::Mark(c), text)),
-        };
+        return after_slash(text);
     }
     if Punct::is_char(c) {
         return Some((Form::Mark(c), text));
     }
+    after_rare(c, text)
+}
+
+/// Behind a slash, which is a mark where it begins no comment.
+#[inline(always)]
+fn after_slash(text: &str) -> Option<(Form, &str)>
+    ensures rest { option_map (λ p. (form_view p.0, chars p.1.now)) result
+        ≡ by_class SlashHead 47 (chars text.now) }
+    ensures behind { IfSome result (λ p. IsTail text.now p.1.now) }
+{
+    match split_char(text) {
+        Some(('/' | '*', _)) => None,
+        _ => Some((Form::Mark('/'), text)),
+    }
+}
+
+/// By a character that begins neither an identifier nor a mark.
+#[inline(always)]
+fn after_rare(c: char, text: &str) -> Option<(Form, &str)>
+    ensures rest { option_map (λ p. (form_view p.0, chars p.1.now)) result
+        ≡ by_class (rare_class c) c (chars text.now) }
+    ensures behind { IfSome result (λ p. IsTail text.now p.1.now) }
+{
     if c.is_ascii_digit() {
         return Some((Form::Literal, after_digit(text)));
     }
     match c {
-        '"' => Some((Form::Literal, after_quoted(text)?)),
-        '\'' => Some((Form::Literal, after_character(text)?)),
+        '"' => quoted_literal(text),
+        '\'' => character_literal(text),
         _ => None,
     }
 }

@@ -56,6 +56,19 @@ pub fn lex<A: Allocator + Copy>(alloc: A, text: &str, file: u32) -> Result<Token
         → IfOk result (λ trees. stream_view trees ≡ printed_trees file 0 entries)
         × IfErr result (λ e. e.kind ≡ LexKind.Memory) }
 {
+    trees_of(alloc, text, file)
+}
+
+/// The trees that the text is cut into, or its first fault.
+#[inline(always)]
+fn trees_of<A: Allocator + Copy>(
+    alloc: A,
+    text: &str,
+    file: u32,
+) -> Result<TokenStream<A>, LexError>
+    ensures trees { IfOk result (λ trees. Lexes (chars text.now) file (stream_view trees)) }
+    ensures refused { IfErr result (λ e. Refuses (chars text.now) e.kind e.at) }
+{
     let mut nest = TreeBuilder::new(alloc, file);
     let mut tokens = Tokens::new(text);
     while let Some(token) = tokens.next() {

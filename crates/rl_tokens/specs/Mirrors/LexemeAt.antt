@@ -156,14 +156,15 @@ start_class c =
     (cond (c == code "c") LetterCHead
     (cond (c == code "r") LetterRHead OtherLetterHead))
 
+abbrev pub rare_class : ℕ → HeadClass
+rare_class c =
+    cond (is_ascii_digit c) DigitHead
+    (cond (c == code "\"") QuoteHead (cond (c == code "'") ApostropheHead StrayHead))
+
 abbrev pub other_class : ℕ → HeadClass
 other_class c =
     cond (is_among delimiters c) DelimiterHead
-    (cond (c == code "/") SlashHead
-    (cond (is_punct c) MarkHead
-    (cond (is_ascii_digit c) DigitHead
-    (cond (c == code "\"") QuoteHead
-    (cond (c == code "'") ApostropheHead StrayHead)))))
+    (cond (c == code "/") SlashHead (cond (is_punct c) MarkHead (rare_class c)))
 
 abbrev pub head_class : ℕ → HeadClass
 head_class c = cond (is_start c) (start_class c) (other_class c)

@@ -1,6 +1,8 @@
-use Rattle.rl_tokens.specs.Trees.{IdentTree}
-use Rattle.rl_tokens.proofs.TreeLemmas.{stream_view-append, tree_view-ident}
+use Rattle.std.proofs.Common.{◌++◌, ◌∷◌, [], ◌∙◌, ap}
+use Rattle.rl_tokens.specs.Trees.{stream_view}
+use Rattle.std.proofs.lemmas.Result.{on_ok_weaker}
+use Rattle.rl_tokens.proofs.TreeLemmas.{tree_view-ident}
 use Rattle.rl_tokens.proofs.appending.append_ident.Goals as goal
 
-pub returns-in-Ok-clause-ok : goal.returns-in-Ok-clause-ok
-returns-in-Ok-clause-ok g c = stream_view-append c.args.tokens.now c.append.new.self _ (IdentTree c.args.ident) (tree_view-ident g.row.A.Denot c.args.ident) c.in-Ok.ensures.ok
+pub returns-clause-ok : goal.returns-clause-ok
+returns-clause-ok g c = on_ok_weaker c.append_tree.result (λ h. h ∙ ap (λ t. stream_view c.args.tokens.now ++ t ∷ []) (tree_view-ident g.row.A.Denot c.args.ident)) c.append_tree.ensures.ok

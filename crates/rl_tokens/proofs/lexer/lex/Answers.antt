@@ -1,90 +1,18 @@
--- Each turn goes one token further; at the end all is cut, or the first fault stands here.
-use Rattle.std.proofs.Common.{◌≡◌, [], ◌∙◌}
-use Rattle.std.proofs.lemmas.Result.{IfErr-weaker, err_from_is_err_and}
-use Rattle.rl_tokens.specs.Mirrors.TreeBuilders.{groups_of, EndsInGroup}
-use Rattle.rl_tokens.proofs.LexLoop.{token_fits, has_none, has_more}
-use Rattle.rl_tokens.proofs.LexEnds.{all_done, ends_open, refused_token, fault_told, told_end}
 use Rattle.rl_tokens.proofs.LexLaws.{one_list, one_fault, never_both}
-use Rattle.rl_tokens.proofs.PrintedAnswers.{printed_answer, reprinted_answer, printed_refusal, reprinted_refusal, no_trees}
+use Rattle.rl_tokens.proofs.PrintedAnswers.{printed_answer, reprinted_answer}
 use Rattle.rl_tokens.proofs.lexer.lex.Goals as goal
 
-pub loop-token-init : goal.loop-token-init
-loop-token-init g c = record {
-  has = has_none c.args.text.now c.new-tokens.result.rest c.args.file c.new-nest.result c.new-tokens.ensures.skipped c.new-tokens.ensures.behind.behind c.new-nest.ensures.groups c.new-nest.ensures.flat c.new-nest.ensures.file;
-  same = c.new-tokens.ensures.text;
-}
+pub returns-clause-one_list : goal.returns-clause-one_list
+returns-clause-one_list g c = one_list
 
-pub add-requires : goal.add-requires
-add-requires g c = token_fits c.in-Some.ensures.next
+pub returns-clause-one_fault : goal.returns-clause-one_fault
+returns-clause-one_fault g c = one_fault
 
-pub loop-token-preserved : goal.loop-token-preserved
-loop-token-preserved g c = record {
-  has = has_more c.args.text.now c.loop-token.tokens c.next.new.self c.args.file c.loop-token.nest c.add.new.self c.in-Some.token c.loop-token.invariant.same c.loop-token.invariant.has c.in-Some.ensures.next c.in_ok-add.ensures.ok;
-  same = c.in-Some.ensures.next.same ∙ c.loop-token.invariant.same;
-}
+pub returns-clause-never_both : goal.returns-clause-never_both
+returns-clause-never_both g c = never_both
 
-pub returns-in_err-add-clause-refused : goal.returns-in_err-add-clause-refused
-returns-in_err-add-clause-refused g c =
-    let p = err_from_is_err_and c.from_residual.result c.from_residual.ensures.1 in
-    rw (p.1, p.2)
-    (refused_token c.args.text.now c.loop-token.tokens c.next.new.self c.args.file c.loop-token.nest c.in-Some.token c.in_err-add.field-0.0
-    c.utf8.text c.loop-token.invariant.same c.loop-token.invariant.has c.in-Some.ensures.next c.in_err-add.ensures.at c.in_err-add.ensures.kind)
+pub returns-clause-printed : goal.returns-clause-printed
+returns-clause-printed g c = printed_answer c.args.text.now c.args.file c.trees_of.result c.trees_of.ensures.trees c.trees_of.ensures.refused
 
-pub returns-in-None-clause-trees : goal.returns-in-None-clause-trees
-returns-in-None-clause-trees g c =
-    let empty : c.loop-token.tokens.rest ≡ [] = told_end c.loop-token.tokens c.next.new.self c.in_default.ensures.stays c.in_default.ensures.none c.in-None.ensures.none in
-    all_done c.args.text.now c.loop-token.tokens.rest c.args.file c.loop-token.nest c.finish.result c.loop-token.invariant.has empty c.finish.ensures.none_open c.finish.ensures.flat
-
-pub returns-in-None-clause-refused : goal.returns-in-None-clause-refused
-returns-in-None-clause-refused g c =
-    let empty : c.loop-token.tokens.rest ≡ [] = told_end c.loop-token.tokens c.next.new.self c.in_default.ensures.stays c.in_default.ensures.none c.in-None.ensures.none in
-    IfErr-weaker c.finish.result (EndsInGroup (groups_of c.loop-token.nest)) _ (λ e h. ends_open c.args.text.now c.loop-token.tokens.rest c.args.file c.loop-token.nest e c.utf8.text c.loop-token.invariant.has empty h) c.finish.ensures.err
-
-pub returns-in-Some-fault-clause-refused : goal.returns-in-Some-fault-clause-refused
-returns-in-Some-fault-clause-refused g c =
-    fault_told c.args.text.now c.loop-token.tokens c.next.new.self c.args.file c.loop-token.nest c.in-Some-fault.fault c.loop-token.invariant.same c.in_default.ensures.stays c.loop-token.invariant.has c.in-Some-fault.ensures.first
-
-pub returns-in_err-add-clause-one_list : goal.returns-in_err-add-clause-one_list
-returns-in_err-add-clause-one_list g c = one_list
-
-pub returns-in_err-add-clause-one_fault : goal.returns-in_err-add-clause-one_fault
-returns-in_err-add-clause-one_fault g c = one_fault
-
-pub returns-in_err-add-clause-never_both : goal.returns-in_err-add-clause-never_both
-returns-in_err-add-clause-never_both g c = never_both
-
-pub returns-in-None-clause-one_list : goal.returns-in-None-clause-one_list
-returns-in-None-clause-one_list g c = one_list
-
-pub returns-in-None-clause-one_fault : goal.returns-in-None-clause-one_fault
-returns-in-None-clause-one_fault g c = one_fault
-
-pub returns-in-None-clause-never_both : goal.returns-in-None-clause-never_both
-returns-in-None-clause-never_both g c = never_both
-
-pub returns-in-Some-fault-clause-one_list : goal.returns-in-Some-fault-clause-one_list
-returns-in-Some-fault-clause-one_list g c = one_list
-
-pub returns-in-Some-fault-clause-one_fault : goal.returns-in-Some-fault-clause-one_fault
-returns-in-Some-fault-clause-one_fault g c = one_fault
-
-pub returns-in-Some-fault-clause-never_both : goal.returns-in-Some-fault-clause-never_both
-returns-in-Some-fault-clause-never_both g c = never_both
-
-pub returns-in_err-add-clause-printed : goal.returns-in_err-add-clause-printed
-returns-in_err-add-clause-printed g c = printed_answer c.args.text.now c.args.file c.from_residual.result (no_trees _ _ c.from_residual.result c.from_residual.ensures.1) (returns-in_err-add-clause-refused g c)
-
-pub returns-in_err-add-clause-reprinted : goal.returns-in_err-add-clause-reprinted
-returns-in_err-add-clause-reprinted g c = reprinted_answer c.args.text.now c.args.file c.from_residual.result (no_trees _ _ c.from_residual.result c.from_residual.ensures.1) (returns-in_err-add-clause-refused g c)
-
-pub returns-in-None-clause-printed : goal.returns-in-None-clause-printed
-returns-in-None-clause-printed g c = printed_answer c.args.text.now c.args.file c.finish.result (returns-in-None-clause-trees g c) (returns-in-None-clause-refused g c)
-
-pub returns-in-None-clause-reprinted : goal.returns-in-None-clause-reprinted
-returns-in-None-clause-reprinted g c = reprinted_answer c.args.text.now c.args.file c.finish.result (returns-in-None-clause-trees g c) (returns-in-None-clause-refused g c)
-
-pub returns-in-Some-fault-clause-printed : goal.returns-in-Some-fault-clause-printed
-returns-in-Some-fault-clause-printed g c = printed_refusal c.args.text.now c.args.file _ (returns-in-Some-fault-clause-refused g c)
-
-pub returns-in-Some-fault-clause-reprinted : goal.returns-in-Some-fault-clause-reprinted
-returns-in-Some-fault-clause-reprinted g c = reprinted_refusal c.args.text.now c.args.file _ (returns-in-Some-fault-clause-refused g c)
+pub returns-clause-reprinted : goal.returns-clause-reprinted
+returns-clause-reprinted g c = reprinted_answer c.args.text.now c.args.file c.trees_of.result c.trees_of.ensures.trees c.trees_of.ensures.refused

@@ -1,4 +1,6 @@
 -- What is skipped behind a comment is skipped behind the text.
+use Rattle.std.proofs.Common.{arith}
+use Rattle.std.proofs.lemmas.Grind.{common_steps}
 use Rattle.std.proofs.Common.{sym}
 use Rattle.std.specs.Str.{chars}
 use Rattle.rl_tokens.specs.Texts.{is_white}
@@ -22,3 +24,6 @@ returns-in_default-after_comment-clause-skipped c =
 
 pub returns-clause-skipped : goal.returns-clause-skipped
 returns-clause-skipped c = c.loop-inside.invariant.skipped _ (skipped_none _ c.loop-inside.invariant.dark c.in_default.ensures.rest)
+
+pub loop-inside-smaller : goal.loop-inside-smaller
+loop-inside-smaller c = grind (arith, common_steps)

@@ -1,3 +1,5 @@
+use Rattle.std.proofs.Common.{arith}
+use Rattle.std.proofs.lemmas.Grind.{common_steps}
 use Rattle.std.proofs.Common.{◌∙◌, sym, ap, string_bytes, rules, ◌≡◌, ◌++◌}
 use Rattle.std.specs.Str.{chars}
 use Rattle.std.specs.Prelude.{encode_utf8}
@@ -21,3 +23,9 @@ returns g c =
     let t = YieldsList-end (YieldsList-from_chars c.args.value.now c.utf8.value cc) c.loop-c.yielded _ c.loop-c.yielded_by _ _ c.in-None.is c.next.ensures.steps in
     let pushed : string_bytes c.push.new.self ≡ string_bytes c.loop-c.text ++ encode_utf8 34 = c.in_ok-push.ensures.bytes ∙ ap (λ z. string_bytes c.loop-c.text ++ encode_utf8 z) c.closer.ensures.value in
     written_form Str _ _ tt (begun_whole Str _ _ c.loop-c.yielded (chars c.args.value.now) c.loop-c.invariant pushed (sym (map-id c.loop-c.yielded) ∙ t.0) (IsUtf8-string_bytes c.push.new.self))
+
+pub push_written-requires : goal.push_written-requires
+push_written-requires g c = grind (arith, common_steps)
+
+pub loop-c-smaller : goal.loop-c-smaller
+loop-c-smaller g c = grind (arith, common_steps)

@@ -1,13 +1,23 @@
-use Rattle.std.proofs.Common.{rules}
+use Rattle.std.proofs.Common.{◌∙◌, ap, arith, map}
+use Rattle.std.proofs.lemmas.Grind.{common_steps}
 use Rattle.rl_tokens.specs.Trees.{tree_view}
 use Rattle.rl_tokens.proofs.TreeRests.{rest_one, rest_self, stays_behind}
+use Rattle.rl_tokens.proofs.TreeLemmas.{first_taken, tree_view-group}
 use Rattle.rl_tokens.proofs.buffer.ParseBuffer.group.Goals as goal
 
 pub returns-in-Group-clause-rest : goal.returns-in-Group-clause-rest
-returns-in-Group-clause-rest g c = rest_one _ _ (tree_view c.in_ok-first.first.now) (search rules)
+returns-in-Group-clause-rest g c = rest_one _ _ (tree_view c.in_ok-first.first.now) (ap (map tree_view) c.in_ok-first.ensures.cases.0)
 
 pub returns-in_default-clause-rest : goal.returns-in_default-clause-rest
 returns-in_default-clause-rest g c = rest_self _
 
 pub returns-in-Group-clause-onward : goal.returns-in-Group-clause-onward
-returns-in-Group-clause-onward g c = stays_behind _ _ (tree_view c.in_ok-first.first.now) (search rules)
+returns-in-Group-clause-onward g c = stays_behind _ _ (tree_view c.in_ok-first.first.now) (ap (map tree_view) c.in_ok-first.ensures.cases.0)
+
+pub returns-in-Group-clause-taken : goal.returns-in-Group-clause-taken
+returns-in-Group-clause-taken g c =
+    first_taken c.args.self.now.trees.now c.in_ok-first.rest.now c.in_ok-first.first.now _ c.in_ok-first.ensures.cases.0
+    (ap tree_view c.in-Group.is ∙ tree_view-group c.in-Group.group)
+
+pub returns-in_err-first-clause-other : goal.returns-in_err-first-clause-other
+returns-in_err-first-clause-other g c = grind (arith, common_steps)

@@ -1,4 +1,6 @@
 -- No lexeme begins what is left, so the fault is told.
+use Rattle.std.proofs.Common.{arith}
+use Rattle.std.proofs.lemmas.Grind.{common_steps}
 use Rattle.std.specs.Str.{chars}
 use Rattle.rl_tokens.specs.Lexing.{BeginsNoLexeme}
 use Rattle.rl_tokens.proofs.Faults.{stops_here, none_some}
@@ -22,3 +24,9 @@ returns-clause-first c =
     let none : BeginsNoLexeme (chars R) = none_some c.first_lexeme.result _ c.is_some.result c.is_some.ensures c.if-is_some.false c.first_lexeme.ensures.none in
     rw (← c.self.view_is)
     (stops_here c.self.inside.text.now R c.new.result c.fault_kind-kind.result c.self.invariant c.is_empty.result c.is_empty.ensures c.if-is_empty.false none c.fault_kind-kind.ensures c.new.ensures).first
+
+pub overflow_sub-self-inside : goal.overflow_sub-self-inside
+overflow_sub-self-inside c = grind (arith, common_steps)
+
+pub returns-clause-place : goal.returns-clause-place
+returns-clause-place c = grind (arith, common_steps)

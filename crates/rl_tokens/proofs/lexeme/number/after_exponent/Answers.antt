@@ -1,5 +1,5 @@
 -- The rest is behind the text, step by step.
-use Rattle.rl_tokens.proofs.BehindLemmas.{behind_step}
+use Rattle.rl_tokens.proofs.BehindLemmas.{behind_self, behind_step}
 use Rattle.rl_tokens.proofs.lexeme.number.after_exponent.Goals as goal
 
 pub returns-then-is_ascii_digit-clause-behind : goal.returns-then-is_ascii_digit-clause-behind
@@ -10,3 +10,9 @@ returns-then-is_ascii_digit-clause-behind c =
     behind_step t digits c.after_row-then-is_ascii_digit.result.now
     (behind_step t signed digits c.in-Some-e-default.ensures.behind c.after_sign-digits.ensures.behind)
     c.after_row-then-is_ascii_digit.ensures.behind
+
+pub returns-in_default-split_char-clause-behind : goal.returns-in_default-split_char-clause-behind
+returns-in_default-split_char-clause-behind c = behind_self c.args.text.now c.utf8.text
+
+pub returns-else-is_ascii_digit-clause-behind : goal.returns-else-is_ascii_digit-clause-behind
+returns-else-is_ascii_digit-clause-behind c = behind_self c.args.text.now c.utf8.text

@@ -1,6 +1,6 @@
 use Rattle.std.proofs.Common.{◌≡◌, length}
 use Rattle.rl_tokens.proofs.LexLoop.{HasCut}
-use Rattle.rl_tokens.proofs.lexer.lex.Given as goal
+use Rattle.rl_tokens.proofs.lexer.trees_of.Given as goal
 
 abbrev pub invariant-loop-token : goal.invariant-loop-token
 invariant-loop-token g l = record {
