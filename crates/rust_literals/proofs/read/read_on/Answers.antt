@@ -32,8 +32,8 @@ returns-in_err-literal-clause-refused g c = λ all gone h.
     (subst (λ (s : Span). RefusesNextLiteral all s c.in_err-literal.field-0.0 ⊎ LacksMemory all s c.in_err-literal.field-0.0) c.loop-alloc.invariant.scope
     (refused_next all (trees_in c.loop-alloc.input) (trees_in c.parse.new.self) (scope_of c.loop-alloc.input) (gone ++ c.loop-alloc.list.items) c.in_err-literal.field-0.0 (c.loop-alloc.invariant.leads all gone h) some c.in_err-literal.ensures.runs))
 
-pub returns-then-is_err-clause-refused : goal.returns-then-is_err-clause-refused
-returns-then-is_err-clause-refused g c = λ all gone h. inr (record {
+pub returns-in-Err-clause-refused : goal.returns-in-Err-clause-refused
+returns-in-Err-clause-refused g c = λ all gone h. inr (record {
   list = gone ++ c.loop-alloc.list.items;
   rest = trees_in c.loop-alloc.input;
   leads = c.loop-alloc.invariant.leads all gone h;

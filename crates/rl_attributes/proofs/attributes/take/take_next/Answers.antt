@@ -11,12 +11,10 @@ returns-in_err-entry-clause-refused g c =
     let p = err_from_is_err_and c.from_residual.result c.from_residual.ensures.1 in
     rw (p.1, p.2) c.in_err-entry.ensures.refused
 
-pub returns-in_err-take_punct-clause-refused : goal.returns-in_err-take_punct-clause-refused
-returns-in_err-take_punct-clause-refused g c =
-    let p = err_from_is_err_and c.from_residual-in_err-take_punct.result c.from_residual-in_err-take_punct.ensures.1 in
+pub returns-in-Err-clause-refused : goal.returns-in-Err-clause-refused
+returns-in-Err-clause-refused g c =
     let some : trees_in c.take_entry.new.input ≢ [] = λ e. absurd (let full = c.is_empty.ensures.1 e in cc) in
-    rw (p.1, p.2)
-    (comma_refused (has_name c.args.names.now) (trees_in c.args.input.now) (trees_in c.take_entry.new.input) (scope_of c.args.input.now) (scope_of c.take_entry.new.input) (attribute_of c.in_ok-entry.entry) c.in_err-take_punct.field-0.0 c.in_ok-entry.ensures.taken c.in_ok-entry.ensures.anew some c.in_err-take_punct.ensures.other c.in_ok-entry.ensures.scope c.in_err-take_punct.ensures.refused)
+    comma_refused (has_name c.args.names.now) (trees_in c.args.input.now) (trees_in c.take_entry.new.input) (scope_of c.args.input.now) (scope_of c.take_entry.new.input) (attribute_of c.in_ok-entry.entry) c.in-Err.error c.in_ok-entry.ensures.taken c.in_ok-entry.ensures.anew some c.in-Err.ensures.other c.in_ok-entry.ensures.scope c.in-Err.ensures.refused
 
-pub returns-in_err-take_punct-clause-onward : goal.returns-in_err-take_punct-clause-onward
-returns-in_err-take_punct-clause-onward g c before h = c.in_err-take_punct.ensures.onward before (c.in_ok-entry.ensures.onward before h)
+pub returns-in-Err-clause-onward : goal.returns-in-Err-clause-onward
+returns-in-Err-clause-onward g c before h = c.in-Err.ensures.onward before (c.in_ok-entry.ensures.onward before h)
