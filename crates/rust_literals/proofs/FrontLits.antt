@@ -11,7 +11,7 @@ use Rattle.rl_tokens.specs.Texts.{SpannedText}
 use Rattle.rl_tokens.specs.Trees.{Tree}
 use Rattle.rl_tokens.specs.Reading.{Reads, ReadsAs, Truth}
 use Rattle.rl_tokens.specs.Buffers.{first_span, IsRefusal}
-use Rattle.rl_grammar.specs.Fronts.{IsFront, HasFront, HasNoFront, PassesOther, LacksMemoryAtFront}
+use Rattle.rl_grammar.specs.Fronts.{IsFront, HasNoFront, PassesOther}
 use Rattle.rl_grammar.proofs.FrontLemmas.{other_of}
 use Rattle.rust_literals.specs.declared.lit.Lit.{Lit}
 use Rattle.rust_literals.specs.declared.lit_bool.LitBool.{LitBool}

@@ -3,7 +3,6 @@ use Rattle.std.specs.Prelude.{map, Ok, Err}
 use Rattle.std.proofs.lemmas.Result.{err_from_is_err_and}
 use Rattle.rl_tokens.specs.Trees.{stream_view, tree_view}
 use Rattle.rl_tokens.specs.Buffers.{trees_in, scope_of}
-use Rattle.rl_quoted.specs.Inside.{RunsInside}
 use Rattle.rl_quoted.proofs.InsideLemmas.{ran_inside, refuses_trees, refuses_parser, refuses_left}
 use Rattle.rl_quoted.proofs.inside.LitStr+A.parse_whole.Goals as goal
 
