@@ -15,16 +15,19 @@ use Rattle.rl_tokens.specs.declared.error.ErrorKind.{ErrorKind}
 use Rattle.rl_tokens.specs.declared.error.ErrorKind.TheVariants.{Expected, EndOfInput, Unexpected, Lex, Suffix, NotInteger, TooLarge, NotFloat, Repeated, Number, Memory}
 use Rattle.rl_tokens.specs.Errors.{memory_at}
 use Rattle.rl_tokens.specs.Texts.{SpannedText}
-use Rattle.rl_tokens.specs.Trees.{Tree}
-use Rattle.rl_tokens.specs.Buffers.{begins_ident, first_span, IsRest, IsBehindMark, StaysRest, MissesWord, IsRefusal}
+use Rattle.rl_tokens.specs.Trees.{Tree, IdentTree}
+use Rattle.rl_tokens.specs.Buffers.{begins_ident, begins_mark, first_span, IsRest, IsBehindMark, StaysRest, MissesWord, IsRefusal}
 use Rattle.rl_tokens.specs.Whole.{place_at, RefusesAll, LeavesTrees}
 use Rattle.rl_tokens.proofs.LexLaws.{one_list, never_both}
 use Rattle.rl_tokens.proofs.TreeRests.{rest_self}
-use Rattle.rust_literals.specs.Parsing.{RunsLit}
+use Rattle.rust_literals.specs.Parsing.{RunsLit, IsLitFront}
+use Rattle.rl_grammar.specs.Fronts.{IsFront}
+use Rattle.rust_literals.specs.declared.lit.Lit.{Lit}
+use Rattle.rust_literals.specs.Literals.{kind_of, token_of, IsReadAs}
 use Rattle.rust_literals.proofs.ReadLemmas.{lex_memory}
 use Rattle.rl_attributes.specs.declared.attributes.Entry.{Entry}
 use Rattle.rl_attributes.specs.declared.attributes.Attrs.{Attrs}
-use Rattle.rl_attributes.specs.Attributes.{Attribute, HasNewName, AreListed, names_of, is_named, NamesDiffer, AreAttributes, AreAttributesOf, RefusesNextAttribute, RefusesAttributes, RefusesAttributeTrees, RefusesAttributeText}
+use Rattle.rl_attributes.specs.Attributes.{Attribute, IsAttribute, HasNewName, AreListed, names_of, is_named, NamesDiffer, AreAttributes, AreAttributesOf, RefusesNextAttribute, RefusesAttributes, RefusesAttributeTrees, RefusesAttributeText}
 use Rattle.rl_attributes.specs.Entries.{attribute_of, attributes_of, IsReadEntry, HasName, EntriesDiffer}
 use Rattle.rl_attributes.specs.AttributeParsing.{entries_of, AreEntries, RunsAttrs, IsListOrMemory}
 use Rattle.rl_attributes.specs.AttributeSteps.{has_name, AddsName, IsNext, LacksMemoryInStep, RefusesStep, reported_at, kind_reported_at}
@@ -81,6 +84,50 @@ at_refusal trees entries names rest scope was e at some s (inl w) = inl (at_memo
 at_refusal trees entries names rest scope was e at some s (inr r) =
     let seen = same_seen (has_name names) (λ name. is_named name (attributes_of entries)) rest was e at.knows r in
     inr (subst (λ (z : Span). RefusesAttributes trees z e) s (refused_next trees (attributes_of entries) rest was e at.taken at.differ some seen))
+
+-- a new name, `=` and a literal are an attribute
+pub entry_taken : {A : Type 0} (seen : List ℕ → Bool) (trees at_equals at_literal rest : List Tree) (name : SpannedText) (text : List ℕ) (span : Span) (value : Lit A) → text ≡ name.text → span ≡ name.span → HasNewName seen trees name at_equals → IsBehindMark 61 at_equals at_literal → IsLitFront at_literal value rest → IsAttribute trees (record { name = record { text = text; span = span }; literal = token_of value }) rest
+entry_taken seen trees at_equals at_literal rest name text span value text_is span_is begun equals front =
+    let spanned : List ℕ → Span → SpannedText = λ t s. record { text = t; span = s } in
+    let same : name ≡ spanned text span = ap (λ t. spanned t name.span) (sym text_is) ∙ ap (spanned text) (sym span_is) in
+    record {
+      at_equals = at_equals;
+      at_literal = at_literal;
+      named = begun.named ∙ ap (λ n. IdentTree n ∷ at_equals) same;
+      equals = equals;
+      set = subst (λ (t : SpannedText). IsFront at_literal t rest) (sym front.read.0) front.front;
+    }
+
+pub value_read : {A : Type 0} (trees : List Tree) (value : Lit A) (rest : List Tree) → IsLitFront trees value rest → IsReadAs (kind_of value) (chars (token_of value).text)
+value_read trees value rest front = subst (λ (t : SpannedText). IsReadAs (kind_of value) (chars t.text)) (sym front.read.0) front.read.1
+
+-- behind a new name, what is no `=`
+pub equals_refused : {A : Type 0} (seen : List ℕ → Bool) (trees behind : List Tree) (scope was : Span) (name : SpannedText) (e : Error A) → HasNewName seen trees name behind → IsFalse (begins_mark 61 behind) → was ≡ scope → IsRefusal behind was (codes "`=`") e → RefusesStep seen trees scope e
+equals_refused seen trees behind scope was name e begun none same refusal =
+    inr (record {
+      why = inr (inr (inl (record {
+        name = name;
+        behind = behind;
+        begun = begun;
+        none = none;
+        refusal = subst (λ (z : Span). IsRefusal behind z (codes "`=`") e) same refusal;
+      })));
+    })
+
+-- behind an attribute with a new name, what is no comma
+pub comma_refused : {A : Type 0} (seen : List ℕ → Bool) (trees behind : List Tree) (scope was : Span) (attribute : Attribute) (e : Error A) → IsAttribute trees attribute behind → IsFalse (seen attribute.name.text) → behind ≢ [] → IsFalse (begins_mark 44 behind) → was ≡ scope → IsRefusal behind was (codes "`,`") e → RefusesStep seen trees scope e
+comma_refused seen trees behind scope was attribute e is anew some none same refusal =
+    inr (record {
+      why = inr (inr (inr (inr (record {
+        attribute = attribute;
+        behind = behind;
+        is = is;
+        anew = anew;
+        some = some;
+        none = none;
+        refusal = subst (λ (z : Span). IsRefusal behind z (codes "`,`") e) same refusal;
+      }))));
+    })
 
 -- behind a new name and `=`, what the parser of literals refuses
 pub value_refused : {A : Type 0} (seen : List ℕ → Bool) (trees at_equals at_literal after : List Tree) (scope was : Span) (name : SpannedText) (e : Error A) → HasNewName seen trees name at_equals → IsBehindMark 61 at_equals at_literal → was ≡ scope → RunsLit at_literal was (Err e) after → RefusesStep seen trees scope e

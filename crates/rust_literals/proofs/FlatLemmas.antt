@@ -15,6 +15,7 @@ use Rattle.rl_tokens.specs.Texts.{SpannedText}
 use Rattle.rl_tokens.specs.Puncts.{Mark}
 use Rattle.rl_tokens.specs.Reading.{truth_text}
 use Rattle.rl_tokens.specs.Trees.{Tree, IdentTree, PunctTree, LiteralTree, flat_trees}
+use Rattle.rl_tokens.specs.Skipping.{Skipped}
 use Rattle.rl_tokens.specs.Lexing.{LexesUpTo, behind_form, flat_form, flat_token}
 use Rattle.rl_tokens.specs.Cursors.{CursorState, TakesNext}
 use Rattle.rl_tokens.specs.Reading.{HasReading, HasNoReading, HasNoTruth}
@@ -166,6 +167,10 @@ read_none text file rest skips = record {
   cuts = record { cuts = []; are_cuts = skips; none_open = refl; flat_is = refl; no_groups = tt };
   leads = λ behind. refl;
 }
+
+pub read_start : {A : Type 0} (text : List ℕ) (file : ℕ) (rest : List ℕ) (list : List (Lit A)) → list ≡ [] → Skipped (chars text) (chars rest) → AreReadUpTo (chars text) file list (chars rest)
+read_start {A} text file rest list none skips =
+    subst (λ (ls : List (Lit A)). AreReadUpTo (chars text) file ls (chars rest)) (sym none) (read_none (chars text) file (chars rest) skips)
 
 -- one literal more
 pub read_more : {A : Type 0} (text : List ℕ) (file : ℕ) (old new : CursorState) (list longer : List (Lit A)) → old.text ≡ text → AreReadUpTo (chars text) file list (chars old.rest) → AddsNext file old list new longer → AreReadUpTo (chars text) file longer (chars new.rest)

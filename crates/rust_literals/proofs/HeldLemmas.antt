@@ -1,5 +1,6 @@
 -- What a number struct holds.
 use Rattle.std.proofs.Common.{◌≡◌, ◌≢◌, ◌⊎◌, inl, inr, ℕ, List, ◌++◌, take, true, false, arith, refl, sym, subst, ◌∙◌}
+use Rattle.std.specs.Prelude.{Result, Ok, Err, IfErr}
 use Rattle.std.specs.Str.{chars, IsUtf8}
 use Rattle.std.proofs.lemmas.List.{take-append-drop, append_cancel_right}
 use Rattle.rl_tokens.specs.declared.kind.Kind.{Kind}
@@ -7,7 +8,9 @@ use Rattle.rl_tokens.specs.declared.kind.Kind.TheVariants.{Str, ByteStr, CStr, B
 use Rattle.rl_tokens.specs.declared.error.ErrorKind.{ErrorKind}
 use Rattle.rl_tokens.specs.declared.error.ErrorKind.TheVariants.{Expected, EndOfInput, Unexpected, Lex, Suffix, NotInteger, TooLarge, NotFloat, Repeated, Number, Memory}
 use Rattle.rl_tokens.specs.declared.error.Error.{Error}
+use Rattle.rl_tokens.specs.declared.kept.Kept.{Kept}
 use Rattle.rl_tokens.specs.declared.span.Span.{Span}
+use Rattle.rl_tokens.specs.Texts.{SpannedText}
 use Rattle.rl_tokens.specs.Errors.{memory_at}
 use Rattle.rl_tokens.specs.Reading.{Reads, HasSuffix}
 use Rattle.rl_tokens.proofs.OneNumber.{int_once}
@@ -165,3 +168,29 @@ no_number_plain CStr text reason none p = absurd none
 no_number_plain Byte text reason none p = absurd none
 no_number_plain Char text reason none p = absurd none
 no_number_plain Bool text reason none p = absurd none
+
+-- why a text is no number, as a refusal
+pub no_number_refused : {A : Type 0} (kind : Kind) (text : List ℕ) (reason : ErrorKind A) → IsNoNumber kind text reason → IsRefusedAs kind text reason
+no_number_refused kind text (Expected w) none = none
+no_number_refused kind text (EndOfInput w) none = none
+no_number_refused kind text Unexpected none = none
+no_number_refused kind text (Lex l) none = none
+no_number_refused kind text (Suffix x) none = none
+no_number_refused kind text NotInteger none = none
+no_number_refused kind text TooLarge none = none
+no_number_refused kind text NotFloat none = none
+no_number_refused kind text Repeated none = none
+no_number_refused kind text (Number w) none = none
+no_number_refused Int text Memory none = absurd none
+no_number_refused Float text Memory none = absurd none
+no_number_refused Str text Memory none = absurd none
+no_number_refused ByteStr text Memory none = absurd none
+no_number_refused CStr text Memory none = absurd none
+no_number_refused Byte text Memory none = absurd none
+no_number_refused Char text Memory none = absurd none
+no_number_refused Bool text Memory none = absurd none
+
+-- where memory was refused for a number, it is told as that
+pub memory_refused : {T A : Type 0} (kind : Kind) (text : List ℕ) (span : Span) (r : Result T (Kept SpannedText A)) → IfErr r (λ k. k.error ≡ memory_at span) → IsNumber kind text → IfErr r (λ k. (k.error.span ≡ span) × IsRefusedAs kind text k.error.kind)
+memory_refused kind text span (Ok x) memory number = tt
+memory_refused kind text span (Err k) memory number = wants_memory kind text k.error span memory number

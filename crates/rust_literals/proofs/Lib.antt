@@ -1,5 +1,6 @@
 pub mod HeldLemmas
 pub mod LitLemmas
+pub mod FrontLits
 pub mod LeadsLemmas
 pub mod ItemFronts
 pub mod StrictLits

@@ -146,7 +146,9 @@ pub fn read_next<A: Allocator + Copy>(
     let Some(literal) = take_next(alloc, &mut ahead, file)? else {
         return Ok(false);
     };
-    if list.push(literal).is_err() {
+    if let Err(failed) = list.push(literal) {
+        // By a call: letting go of a literal here is as many steps again to prove.
+        drop(failed);
         return Err(AllocError);
     }
     *tokens = ahead;

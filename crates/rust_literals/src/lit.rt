@@ -121,7 +121,6 @@ impl<A: Allocator> Lit<A> {
     ///     Err(_) => Err(AllocError),
     /// }
     /// ```
-    #[tactic(auto, using(crate::proofs::StrictLits::found_agrees, rl_tokens::proofs::Agreeing::strict_reads, rl_tokens::proofs::Agreeing::strict_minus, rl_grammar::proofs::StrictBytesLemmas::bytes_are_strict))]
     pub fn new(alloc: A, token: Literal<A>) -> Result<Lit<A>, Kept<Literal<A>, A>>
         ensures strict_found { IfOk result (AgreesWithStrict (chars token.text)) }
         ensures reads { IfOk result (IsReadFrom token) }

@@ -46,7 +46,9 @@ fn read_on<A: Allocator + Copy>(
 {
     while !input.is_empty() {
         let literal = input.parse::<Lit<A>>(alloc)?;
-        if list.push(literal).is_err() {
+        if let Err(failed) = list.push(literal) {
+            // By a call, as in `read_next`.
+            drop(failed);
             return Err(Error::memory(Span::call_site()));
         }
     }

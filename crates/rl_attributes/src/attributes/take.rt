@@ -100,7 +100,11 @@ fn take_next<'a, A: Allocator + Copy>(
 {
     let entry = take_entry(alloc, input, names)?;
     if !input.is_empty() {
-        input.take_punct(',')?;
+        if let Err(error) = input.take_punct(',') {
+            // By a call: letting go of an entry here is as many steps again to prove.
+            drop(entry);
+            return Err(error);
+        }
     }
     Ok(entry)
 }
@@ -123,7 +127,9 @@ fn take_all<A: Allocator + Copy>(
     while !input.is_empty() {
         let place = input.span();
         let entry = take_next(alloc, input, &mut names)?;
-        if entries.push(entry).is_err() {
+        if let Err(failed) = entries.push(entry) {
+            // By a call, as above.
+            drop(failed);
             return Err(Error::memory(place));
         }
     }

@@ -1,7 +1,7 @@
 use Rattle.std.proofs.Common.{sym, ◌∙◌, ap}
 use Rattle.std.specs.Str.{chars}
 use Rattle.std.proofs.lemmas.Str.{chars-nil}
-use Rattle.rust_literals.proofs.FlatLemmas.{empty_text, read_more, read_whole}
+use Rattle.rust_literals.proofs.FlatLemmas.{read_start, empty_text, read_more, read_whole}
 use Rattle.rust_literals.proofs.flat.read_flat.Goals as goal
 
 pub returns-clause-whole : goal.returns-clause-whole
@@ -16,3 +16,12 @@ loop-tokens-preserved g c =
       read = read_more c.args.text.now c.args.file c.loop-tokens.tokens c.read_next.new.tokens c.loop-tokens.list.items c.read_next.new.list.items c.loop-tokens.invariant.same c.loop-tokens.invariant.read added;
       same = added.next.same ∙ c.loop-tokens.invariant.same;
     }
+
+pub loop-tokens-init : goal.loop-tokens-init
+loop-tokens-init g c = record {
+  read = read_start c.args.text.now c.args.file c.new-tokens.result.rest c.new-list.result.items c.new-list.ensures.items c.new-tokens.ensures.skipped;
+  same = c.new-tokens.ensures.text;
+}
+
+pub loop-tokens-smaller : goal.loop-tokens-smaller
+loop-tokens-smaller g c = c.in-Ok-true.ensures.shorter c.in-Ok-true.field-0-test

@@ -27,13 +27,13 @@ loop-alloc-preserved g c =
 pub returns-in_err-literal-clause-refused : goal.returns-in_err-literal-clause-refused
 returns-in_err-literal-clause-refused g c = λ all gone h.
     let p = err_from_is_err_and c.from_residual.result c.from_residual.ensures.1 in
-    let some : trees_in c.loop-alloc.input ≢ [] = search rules in
+    let some : trees_in c.loop-alloc.input ≢ [] = λ e. absurd (let full = c.is_empty.ensures.1 e in cc) in
     rw (p.1, p.2)
     (subst (λ (s : Span). RefusesNextLiteral all s c.in_err-literal.field-0.0 ⊎ LacksMemory all s c.in_err-literal.field-0.0) c.loop-alloc.invariant.scope
     (refused_next all (trees_in c.loop-alloc.input) (trees_in c.parse.new.self) (scope_of c.loop-alloc.input) (gone ++ c.loop-alloc.list.items) c.in_err-literal.field-0.0 (c.loop-alloc.invariant.leads all gone h) some c.in_err-literal.ensures.runs))
 
-pub returns-then-is_err-clause-refused : goal.returns-then-is_err-clause-refused
-returns-then-is_err-clause-refused g c = λ all gone h. inr (record {
+pub returns-in-Err-clause-refused : goal.returns-in-Err-clause-refused
+returns-in-Err-clause-refused g c = λ all gone h. inr (record {
   list = gone ++ c.loop-alloc.list.items;
   rest = trees_in c.loop-alloc.input;
   leads = c.loop-alloc.invariant.leads all gone h;

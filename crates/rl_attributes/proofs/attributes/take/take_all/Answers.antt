@@ -21,16 +21,16 @@ returns-in_err-entry-clause-rest g c = c.in_err-entry.ensures.onward _ c.loop-al
 pub returns-in_err-entry-clause-scope : goal.returns-in_err-entry-clause-scope
 returns-in_err-entry-clause-scope g c = c.in_err-entry.ensures.scope ∙ c.loop-alloc.invariant.scope
 
-pub returns-then-is_err-clause-refused : goal.returns-then-is_err-clause-refused
-returns-then-is_err-clause-refused g c =
+pub returns-in-Err-clause-refused : goal.returns-in-Err-clause-refused
+returns-in-Err-clause-refused g c =
     let some : trees_in c.loop-alloc.input ≢ [] = λ e. absurd (let full = c.is_empty.ensures.1 e in cc) in
     inl (at_memory _ c.loop-alloc.entries.items c.loop-alloc.names (trees_in c.loop-alloc.input) c.memory.result c.loop-alloc.invariant.at some (next_memory (trees_in c.loop-alloc.input) (trees_in c.take_next.new.input) (attribute_of c.in_ok-entry.entry) c.memory.result c.in_ok-entry.ensures.taken (ap (λ e. e.kind) c.memory.ensures)))
 
-pub returns-then-is_err-clause-rest : goal.returns-then-is_err-clause-rest
-returns-then-is_err-clause-rest g c = c.in_ok-entry.ensures.onward _ c.loop-alloc.invariant.at.left
+pub returns-in-Err-clause-rest : goal.returns-in-Err-clause-rest
+returns-in-Err-clause-rest g c = c.in_ok-entry.ensures.onward _ c.loop-alloc.invariant.at.left
 
-pub returns-then-is_err-clause-scope : goal.returns-then-is_err-clause-scope
-returns-then-is_err-clause-scope g c = c.in_ok-entry.ensures.scope ∙ c.loop-alloc.invariant.scope
+pub returns-in-Err-clause-scope : goal.returns-in-Err-clause-scope
+returns-in-Err-clause-scope g c = c.in_ok-entry.ensures.scope ∙ c.loop-alloc.invariant.scope
 
 pub loop-alloc-smaller : goal.loop-alloc-smaller
 loop-alloc-smaller g c = next_shorter (trees_in c.loop-alloc.input) (attribute_of c.in_ok-entry.entry) (trees_in c.take_next.new.input) c.in_ok-entry.ensures.taken

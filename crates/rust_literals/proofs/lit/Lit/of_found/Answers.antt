@@ -1,5 +1,5 @@
-use Rattle.std.proofs.Common.{ap, inr, ◌∙◌}
-use Rattle.rl_tokens.specs.declared.kind.Kind.TheVariants.{Int, Float, Bool as BoolKind}
+use Rattle.std.proofs.Common.{ap, inl, inr, ◌∙◌}
+use Rattle.rl_tokens.specs.declared.kind.Kind.TheVariants.{Str, ByteStr, CStr, Byte, Char, Int, Float, Bool as BoolKind}
 use Rattle.rust_literals.proofs.LitLemmas.{found_as, found_lent, on_err, read_word, some_found}
 use Rattle.rust_literals.proofs.lit.Lit.of_found.Goals as goal
 
@@ -26,3 +26,26 @@ returns-in-Bool-clause-reads g c =
     read_word token c.text.result.now c.new.result.value c.new.result.span c.text.utf8 c.text.ensures reads
     (ap (λ l. l.value) c.new.ensures ∙ c.eq-value.ensures)
     (ap (λ l. l.span) c.new.ensures ∙ c.span.ensures)
+
+pub returns-in-Str-clause-reads : goal.returns-in-Str-clause-reads
+returns-in-Str-clause-reads g c = (c.of_found.ensures, found_as Str c.args.token.text _ c.in-Some.found c.in-Some.is c.requires.found c.in-Str.is)
+
+pub returns-in-ByteStr-clause-reads : goal.returns-in-ByteStr-clause-reads
+returns-in-ByteStr-clause-reads g c = (c.of_found-in-ByteStr.ensures, found_as ByteStr c.args.token.text _ c.in-Some.found c.in-Some.is c.requires.found c.in-ByteStr.is)
+
+pub returns-in-CStr-clause-reads : goal.returns-in-CStr-clause-reads
+returns-in-CStr-clause-reads g c = (c.of_found-in-CStr.ensures, found_as CStr c.args.token.text _ c.in-Some.found c.in-Some.is c.requires.found c.in-CStr.is)
+
+pub returns-in-Byte-clause-reads : goal.returns-in-Byte-clause-reads
+returns-in-Byte-clause-reads g c = (c.of_found-in-Byte.ensures, found_as Byte c.args.token.text _ c.in-Some.found c.in-Some.is c.requires.found c.in-Byte.is)
+
+pub returns-in-Char-clause-reads : goal.returns-in-Char-clause-reads
+returns-in-Char-clause-reads g c = (c.of_found-in-Char.ensures, found_as Char c.args.token.text _ c.in-Some.found c.in-Some.is c.requires.found c.in-Char.is)
+
+pub returns-in_ok-of_found-in-Int-clause-reads : goal.returns-in_ok-of_found-in-Int-clause-reads
+returns-in_ok-of_found-in-Int-clause-reads g c =
+    (c.in_ok-of_found-in-Int.ensures.ok, found_as Int c.args.token.text _ c.in-Some.found c.in-Some.is c.requires.found c.in-Int.is)
+
+pub returns-in_err-of_found-in-Int-clause-numbers_alone : goal.returns-in_err-of_found-in-Int-clause-numbers_alone
+returns-in_err-of_found-in-Int-clause-numbers_alone g c =
+    on_err _ _ (inl (found_as Int c.args.token.text _ c.in-Some.found c.in-Some.is c.requires.found c.in-Int.is))
