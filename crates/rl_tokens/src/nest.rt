@@ -1,10 +1,6 @@
 //! The trees of a text as they grow.
 
-ghost use Rattle.std.specs.Prelude.{◌≡◌, ◌≤◌, ◌+◌, ℕ, List, [], IsTrue, vec_len, OnOk, IfErr, IfOk};
-ghost use Rattle.std.specs.Str.{chars};
-ghost use Rattle.rl_tokens.specs.Texts.{xid_ok};
-ghost use Rattle.rl_tokens.specs.Puncts.{is_punct};
-ghost use Rattle.rl_tokens.specs.Lexemes.{LiteralForm, IdentifierForm, MarkForm, DelimiterForm};
+ghost use Rattle.std.specs.Prelude.{◌≡◌, ◌≤◌, ◌+◌, [], vec_len, OnOk, IfErr, IfOk};
 ghost use Rattle.rl_tokens.specs.Cursors.{form_view};
 ghost use Rattle.rl_tokens.specs.Lexing.{is_opener, delimiter_for};
 
@@ -76,66 +72,24 @@ impl<A: Allocator + Copy> TreeBuilder<A> {
         ensures kind { IfErr result
             (λ e. RefusesForm (groups_of self.old) (form_view form) e.kind) }
     {
+        let span = Span::new(self.file, lo, hi);
         match form {
-            Form::Literal => self.add_literal(text, lo, hi),
-            Form::Identifier => self.add_ident(text, lo, hi),
-            Form::Mark(c) => self.add_mark(c, lo, hi),
-            Form::Delimiter(c) => self.add_delimiter(c, lo, hi),
-        }
-    }
-
-    /// Reads a literal more. Running out of memory is reported at its first byte, in the two that
-    /// follow too.
-    #[inline(always)]
-    fn add_literal(&mut self, text: &str, lo: usize, hi: usize) -> Result<(), LexError>
-        ensures ok { OnOk result (TakesToken self.old self.new LiteralForm text.now lo hi) }
-        ensures err { IfErr result (λ e. e ≡ record { kind = LexKind.Memory; at = lo }) }
-    {
-        let span = Span::new(self.file, lo, hi);
-        match Literal::from_text(self.alloc, text, span) {
-            Ok(literal) => self.append(TokenTree::Literal(literal), lo),
-            Err(_) => Err(LexError::new(LexKind::Memory, lo)),
-        }
-    }
-
-    /// Reads an identifier more.
-    #[inline(always)]
-    fn add_ident(&mut self, text: &str, lo: usize, hi: usize) -> Result<(), LexError>
-        requires { IsTrue (xid_ok (chars text.now)) }
-        ensures ok { OnOk result (TakesToken self.old self.new IdentifierForm text.now lo hi) }
-        ensures err { IfErr result (λ e. e ≡ record { kind = LexKind.Memory; at = lo }) }
-    {
-        let span = Span::new(self.file, lo, hi);
-        match Ident::new(self.alloc, text, span) {
-            Ok(ident) => self.append(TokenTree::Ident(ident), lo),
-            Err(_) => Err(LexError::new(LexKind::Memory, lo)),
-        }
-    }
-
-    /// Reads a mark more.
-    #[inline(always)]
-    fn add_mark(&mut self, c: char, lo: usize, hi: usize) -> Result<(), LexError>
-        requires { IsTrue (is_punct c) }
-        ensures ok { OnOk result ((text : List ℕ) → TakesToken self.old self.new (MarkForm c) text lo hi) }
-        ensures err { IfErr result (λ e. e ≡ record { kind = LexKind.Memory; at = lo }) }
-    {
-        let span = Span::new(self.file, lo, hi);
-        self.append(TokenTree::Punct(Punct::new(c, span)), lo)
-    }
-
-    /// Opens or closes a group.
-    #[inline(always)]
-    fn add_delimiter(&mut self, c: char, lo: usize, hi: usize) -> Result<(), LexError>
-        requires { IsFitting (DelimiterForm c) [] lo hi }
-        ensures ok { OnOk result ((text : List ℕ) → TakesToken self.old self.new (DelimiterForm c) text lo hi) }
-        ensures at { IfErr result (λ e. e.at ≡ lo) }
-        ensures kind { IfErr result
-            (λ e. RefusesForm (groups_of self.old) (DelimiterForm c) e.kind) }
-    {
-        if is_opener(c) {
-            self.open_group(delimiter_for(c), lo)
-        } else {
-            self.close_group(delimiter_for(c), lo, hi)
+            Form::Literal => match Literal::from_text(self.alloc, text, span) {
+                Ok(literal) => self.append(TokenTree::Literal(literal), lo),
+                Err(_) => Err(LexError::new(LexKind::Memory, lo)),
+            },
+            Form::Identifier => match Ident::new(self.alloc, text, span) {
+                Ok(ident) => self.append(TokenTree::Ident(ident), lo),
+                Err(_) => Err(LexError::new(LexKind::Memory, lo)),
+            },
+            Form::Mark(c) => self.append(TokenTree::Punct(Punct::new(c, span)), lo),
+            Form::Delimiter(c) => {
+                if is_opener(c) {
+                    self.open_group(delimiter_for(c), lo)
+                } else {
+                    self.close_group(delimiter_for(c), lo, hi)
+                }
+            }
         }
     }
 

@@ -1,14 +1,7 @@
 -- The text begins with the spelling of the character.
-use Rattle.std.proofs.Common.{arith, rules}
-use Rattle.std.proofs.lemmas.Grind.{common_steps}
+use Rattle.std.proofs.Common.{rules}
 use Rattle.std.proofs.lemmas.Str.{chars_past_char}
 use Rattle.rl_tokens.proofs.text.split_char.Goals as goal
 
 pub returns-clause-chars : goal.returns-clause-chars
 returns-clause-chars c = chars_past_char c.args.text.now c.as_str.result.now c.in_ok-first.first c.utf8.text (search rules)
-
-pub returns-clause-behind : goal.returns-clause-behind
-returns-clause-behind c = grind (arith, common_steps)
-
-pub returns-in_err-first-clause-bytes : goal.returns-in_err-first-clause-bytes
-returns-in_err-first-clause-bytes c = rw c.from_residual.ensures (grind (arith, common_steps))

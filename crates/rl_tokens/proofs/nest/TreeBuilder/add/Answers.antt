@@ -1,15 +1,28 @@
-use Rattle.std.proofs.Common.{ap}
-use Rattle.std.proofs.lemmas.Result.{on_ok_weaker, IfErr-weaker}
+use Rattle.std.proofs.Common.{◌∙◌, ap}
+use Rattle.std.proofs.lemmas.Result.{on_ok_weaker}
 use Rattle.rl_tokens.specs.Cursors.{form_view}
+use Rattle.rl_tokens.specs.Puncts.{Mark}
+use Rattle.rl_tokens.proofs.NestLemmas.{takes_mark, takes_literal, takes_ident}
+use Rattle.rl_tokens.specs.Texts.{SpannedText}
 use Rattle.rl_tokens.proofs.nest.TreeBuilder.add.Goals as goal
 
 pub returns-in-Mark-clause-ok : goal.returns-in-Mark-clause-ok
 returns-in-Mark-clause-ok g c =
-    rw (ap form_view c.in-Mark.is) (on_ok_weaker c.add_mark.result (λ h. h c.args.text.now) c.add_mark.ensures.ok)
+    on_ok_weaker c.append-in-Mark.result
+    (takes_mark c.args.self.now c.append-in-Mark.new.self c.new-in-Mark.result (form_view c.args.form) c.in-Mark.c c.args.text.now c.args.lo c.args.hi
+    (ap form_view c.in-Mark.is) (c.new-in-Mark.ensures ∙ ap (λ s. let m : Mark = record { ch = c.in-Mark.c; span = s } in m) c.new-span.ensures))
+    c.append-in-Mark.ensures.ok
 
-pub returns-in-Delimiter-clause-ok : goal.returns-in-Delimiter-clause-ok
-returns-in-Delimiter-clause-ok g c =
-    rw (ap form_view c.in-Delimiter.is) (on_ok_weaker c.add_delimiter.result (λ h. h c.args.text.now) c.add_delimiter.ensures.ok)
+pub returns-in-Ok-clause-ok : goal.returns-in-Ok-clause-ok
+returns-in-Ok-clause-ok g c =
+    on_ok_weaker c.append.result
+    (takes_literal c.args.self.now c.append.new.self c.in-Ok.literal (form_view c.args.form) c.args.text.now c.args.lo c.args.hi
+    (ap form_view c.in-Literal.is) (c.in-Ok.ensures.ok ∙ ap (λ s. let t : SpannedText = record { text = c.args.text.now; span = s } in t) c.new-span.ensures))
+    c.append.ensures.ok
 
-pub returns-in-Mark-clause-kind : goal.returns-in-Mark-clause-kind
-returns-in-Mark-clause-kind g c = IfErr-weaker c.add_mark.result _ _ (λ e h. rw h tt) c.add_mark.ensures.err
+pub returns-in-Ok-new-clause-ok : goal.returns-in-Ok-new-clause-ok
+returns-in-Ok-new-clause-ok g c =
+    on_ok_weaker c.append-in-Ok-new.result
+    (takes_ident c.args.self.now c.append-in-Ok-new.new.self c.in-Ok-new.ident (form_view c.args.form) c.args.text.now c.args.lo c.args.hi
+    (ap form_view c.in-Identifier.is) (c.in-Ok-new.ensures.ok ∙ ap (λ s. let t : SpannedText = record { text = c.args.text.now; span = s } in t) c.new-span.ensures))
+    c.append-in-Ok-new.ensures.ok
