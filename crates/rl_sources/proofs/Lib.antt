@@ -1,1 +1,4 @@
 pub mod ScanLemmas
+pub mod OptionLemmas
+pub mod StepLemmas
+pub mod WriteLemmas

@@ -21,9 +21,9 @@ FailsRun options input old new (Fault NotText) =
     Keeps old new × IfSome input (λ bytes. IsUtf8 bytes → ⊥)
 FailsRun {A} options input old new (Fault Memory) =
     Keeps old new
-    ⊎ IfSome input (λ bytes. IsUtf8 bytes × FailsScan {A} options (chars bytes) old new (Fault Memory))
+    ⊎ IfSome input (λ bytes. IsUtf8 bytes × FailsScan {A = A} options (chars bytes) old new (Fault Memory))
 FailsRun options input old new (Fault (Literal error)) = ⊥
 FailsRun {A} options input old new (Fault Write) =
-    IfSome input (λ bytes. IsUtf8 bytes × FailsScan {A} options (chars bytes) old new (Fault Write))
+    IfSome input (λ bytes. IsUtf8 bytes × FailsScan {A = A} options (chars bytes) old new (Fault Write))
 FailsRun {A} options input old new (Source place kind) =
-    IfSome input (λ bytes. IsUtf8 bytes × FailsScan {A} options (chars bytes) old new (Source place kind))
+    IfSome input (λ bytes. IsUtf8 bytes × FailsScan {A = A} options (chars bytes) old new (Source place kind))

@@ -1,17 +1,19 @@
 -- Steps of a scan.
-use Rattle.std.specs.Prelude.{◌≡◌, ◌≢◌, ℕ, ◌+◌, ◌<◌, Bool, List, [], ◌∷◌, ◌++◌, length, IsTrue, Option, IfSome}
+use Rattle.std.specs.Prelude.{◌≡◌, ◌≢◌, ◌⊎◌, ℕ, ◌+◌, ◌<◌, Bool, List, [], ◌∷◌, ◌++◌, length, IsTrue, Option, IfSome}
 use Rattle.std.specs.Str.{chars}
 use Rattle.rl_tokens.specs.Texts.{byte_len, IsTail}
 use Rattle.rl_tokens.specs.Cursors.{CursorState, IsCursorState}
 use Rattle.rl_tokens.specs.Sources.{CutSource, StrayKind, source_view}
 use Rattle.rl_tokens.specs.declared.sources.SourceToken.{SourceToken}
-use Rattle.rl_lines.specs.Lines.{IsLineOfLit}
+use Rattle.rl_lines.specs.Lines.{label_of, IsLineOfLit}
+use Rattle.rust_literals.specs.Literals.{kind_of}
 use Rattle.rust_literals.specs.declared.lit.Lit.{Lit}
 use Prim.Native.Char.{code}
 use Rattle.rl_sources.specs.declared.options.Options.{Options}
 use Rattle.rl_sources.specs.declared.place.Place.{Place}
 use Rattle.rl_sources.specs.declared.step.Step.{Step}
 use Rattle.rl_sources.specs.declared.step.Step.TheVariants.{More, End, Error}
+use Rattle.rl_sources.specs.Options.{Picks}
 use Rattle.rl_sources.specs.Places.{place_text, IsPlaceIn}
 use Rattle.rl_sources.specs.Scans.{ShowsUpTo, IsErrorAt}
 
@@ -19,6 +21,14 @@ use Rattle.rl_sources.specs.Scans.{ShowsUpTo, IsErrorAt}
 abbrev pub IsPlacedLit : {A : Type 0} → Place → Lit A → List ℕ → Type 0
 IsPlacedLit place literal shown =
     (line : List ℕ) × IsLineOfLit literal line × (shown ≡ place_text place ++ (code " " ∷ line))
+
+-- what is shown of a literal: its line after its place where it is picked, else nothing
+abbrev pub IsShownLit : {A : Type 0} → Options → List ℕ → Lit A → ℕ → ℕ → List ℕ → Type 0
+IsShownLit options whole literal lo hi shown =
+    (Picks options.shown (label_of (kind_of literal))
+    × ((place : Place) × IsPlaceIn options.by_line whole lo hi place
+    × IsPlacedLit place literal shown))
+    ⊎ ((Picks options.shown (label_of (kind_of literal)) → ⊥) × (shown ≡ []))
 
 -- where strays are rejected, no token is one
 abbrev pub IsAccepted : Bool → Option SourceToken → Type 0
@@ -38,14 +48,22 @@ pub record Adds (options : Options) (whole old new piece : List ℕ) : Type 0 wh
   pub goes_on : (cuts : List CutSource) (shown : List ℕ) → ShowsUpTo options whole cuts old shown
       → ShowsUpTo options whole (cuts ++ more) new (shown ++ piece)
 
+-- What was gathered is what is shown from the old cursor on, up to the new one, where there is
+-- more to gather.
+pub record GoesOn (options : Options) (old : CursorState) (piece : List ℕ) (new places : CursorState)
+    : Type 0 where
+  pub adds : Adds options (chars old.text) (chars old.rest) (chars new.rest) piece
+  pub stands : StandsAt new places
+  pub text_is : new.text ≡ old.text
+  pub shorter : length new.rest < length old.rest
+
 -- What was gathered is what is shown from the old cursor on: up to the new one, up to the end, or
 -- up to an error.
-abbrev pub IsStepOf : Options → CursorState → List ℕ → CursorState → Step → Type 0
-IsStepOf options old piece new More =
-    Adds options (chars old.text) (chars old.rest) (chars new.rest) piece
-    × (length new.rest < length old.rest)
-IsStepOf options old piece new End = Adds options (chars old.text) (chars old.rest) [] piece
-IsStepOf options old piece new (Error place kind) =
+abbrev pub IsStepOf : Options → CursorState → List ℕ → CursorState → CursorState → Step → Type 0
+IsStepOf options old piece new places More = GoesOn options old piece new places
+IsStepOf options old piece new places End =
+    Adds options (chars old.text) (chars old.rest) [] piece
+IsStepOf options old piece new places (Error place kind) =
     (at : ℕ) × (rest : List ℕ) × Adds options (chars old.text) (chars old.rest) rest piece
     × IsErrorAt options.rejects_strays kind rest
     × (at + byte_len rest ≡ byte_len (chars old.text))

@@ -1,6 +1,6 @@
 //! The lines of a whole source, written as they are made.
 
-ghost use Rattle.std.specs.Prelude.{IfOk, IfErr};
+ghost use Rattle.std.specs.Prelude.{◌≡◌, ◌||◌, ◌==◌, not, length, IfOk, IfErr};
 ghost use Rattle.std.specs.Str.{chars};
 ghost use Rattle.rl_sources.specs.Scans.{Scans, FailsScan};
 
@@ -21,6 +21,13 @@ pub enum ScanError<A: Allocator = Global> {
     /// An error of the source, at a place: a quote or a comment that isn't closed, or a stray
     /// character where these are rejected.
     Source(Place, LexKind),
+}
+
+/// Whether lines were written before, or are now.
+fn is_any(before: bool, lines: &[u8]) -> bool
+    ensures { result ≡ (before || not (length lines.now == 0)) }
+{
+    before || !lines.is_empty()
 }
 
 /// Writes a line for each literal of a source, in order: its place, and what `rl_lines` prints of
@@ -55,7 +62,7 @@ pub fn scan<A: Allocator + Copy, W: Write>(
             Ok(()) => {}
             Err(fault) => return Err(ScanError::Fault(fault)),
         }
-        any = any || !lines.is_empty();
+        any = is_any(any, lines.as_bytes());
         lines.clear();
         match step {
             Step::More => {}

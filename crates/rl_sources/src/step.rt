@@ -1,6 +1,6 @@
 //! What is shown of the tokens of a source, one after another.
 
-ghost use Rattle.std.specs.Prelude.{◌≡◌, ◌+◌, [], length, IfOk, IfErr, OnOk, MatchOption, string_bytes};
+ghost use Rattle.std.specs.Prelude.{◌≡◌, ◌+◌, ◌<◌, [], length, IfSome, IfOk, IfErr, OnOk, MatchOption, string_bytes};
 ghost use Rattle.std.specs.Str.{chars};
 ghost use Rattle.rl_lines.specs.Lines.{Appends};
 ghost use Rattle.rust_literals.specs.Literals.{IsReadFrom};
@@ -8,7 +8,7 @@ ghost use Rattle.rl_tokens.specs.Texts.{IsTail};
 ghost use Rattle.rl_tokens.specs.Cursors.{IsCursorState};
 ghost use Rattle.rl_tokens.specs.Sources.{source_view, TakesSource};
 ghost use Rattle.rl_sources.specs.Scans.{IsShownLiteral, IsShownToken, IsErrorAt};
-ghost use Rattle.rl_sources.specs.Steps.{IsPlacedLit, IsAccepted, StandsAt, IsStepOf};
+ghost use Rattle.rl_sources.specs.Steps.{IsPlacedLit, IsShownLit, IsAccepted, StandsAt, IsStepOf};
 
 use crate::options::Options;
 use crate::place::{Place, place_of};
@@ -51,6 +51,32 @@ fn push_placed<A: Allocator + Copy>(
     push_literal(alloc, out, literal)
 }
 
+/// Appends a literal's line after its place, where it is picked.
+fn push_picked<'t, A: Allocator + Copy>(
+    alloc: A,
+    out: &mut String<A>,
+    options: Options<'_>,
+    literal: &Lit<A>,
+    token: SourceToken<'t>,
+    rest: &'t str,
+    places: &mut Lines<'t>,
+) -> Result<(), AllocError>
+    requires text { IsCursorState places.old.text rest.now }
+    requires behind { IsTail places.old.rest rest.now }
+    requires lo { token.lo + length rest.now ≡ length places.old.text }
+    ensures shown { OnOk result (Appends
+        (IsShownLit options.entry (chars places.old.text) literal.now token.entry.lo token.entry.hi)
+        (chars (string_bytes out.old)) (chars (string_bytes out.new))) }
+    ensures text { places.new.text ≡ places.old.text }
+    ensures behind { IsTail places.new.rest rest.now }
+{
+    if !options.shown.picks(label_of(literal.kind())) {
+        return Ok(());
+    }
+    let place = place_of(options.by_line, places, rest, token.lo, token.hi);
+    push_placed(alloc, out, place, literal)
+}
+
 /// Appends what is shown of a literal.
 fn push_literal_token<'t, A: Allocator + Copy>(
     alloc: A,
@@ -62,7 +88,7 @@ fn push_literal_token<'t, A: Allocator + Copy>(
 ) -> Result<(), AllocError>
     requires text { IsCursorState places.old.text rest.now }
     requires behind { IsTail places.old.rest rest.now }
-    requires lo { token.entry.lo + length rest.now ≡ length places.old.text }
+    requires lo { token.lo + length rest.now ≡ length places.old.text }
     ensures shown { OnOk result (Appends
         (IsShownLiteral options.entry (chars places.old.text) (chars token.entry.text.now)
         token.entry.lo token.entry.hi)
@@ -71,11 +97,7 @@ fn push_literal_token<'t, A: Allocator + Copy>(
     ensures behind { IsTail places.new.rest rest.now }
 {
     let literal = literal_of(alloc, token)?;
-    if !options.shown.picks(label_of(literal.kind())) {
-        return Ok(());
-    }
-    let place = place_of(options.by_line, places, rest, token.lo, token.hi);
-    push_placed(alloc, out, place, &literal)
+    push_picked(alloc, out, options, &literal, token, rest, places)
 }
 
 /// Appends what is shown of a token, at whose first byte the rest of the source begins.
@@ -89,7 +111,7 @@ fn push_token<'t, A: Allocator + Copy>(
 ) -> Result<(), AllocError>
     requires text { IsCursorState places.old.text rest.now }
     requires behind { IsTail places.old.rest rest.now }
-    requires lo { token.entry.lo + length rest.now ≡ length places.old.text }
+    requires lo { token.lo + length rest.now ≡ length places.old.text }
     ensures shown { OnOk result (Appends
         (IsShownToken options.entry (chars places.old.text) (source_view token.entry.form)
         (chars token.entry.text.now) token.entry.lo token.entry.hi)
@@ -117,6 +139,8 @@ fn next_token<'t>(
     ensures token { IfOk result (λ token. MatchOption token (tokens.old.rest ≡ [])
         (λ l. TakesSource tokens.old l tokens.new)) }
     ensures accepted { IfOk result (IsAccepted rejects_strays) }
+    ensures shorter { IfOk result (λ token. IfSome token
+        (λ l. length tokens.new.rest < length tokens.old.rest)) }
     ensures error { IfErr result (λ e. IsErrorAt rejects_strays e.kind (chars tokens.old.rest)) }
     ensures place { IfErr result (λ e. e.at + length tokens.old.rest ≡ length tokens.old.text) }
 {
@@ -154,10 +178,8 @@ pub(crate) fn gather<'t, A: Allocator + Copy>(
 ) -> Result<Step, AllocError>
     requires stands { StandsAt tokens.old places.old }
     requires empty { string_bytes out.old ≡ [] }
-    ensures step { IfOk result
-        (IsStepOf options.entry tokens.old (chars (string_bytes out.new)) tokens.new) }
-    ensures stands { OnOk result (StandsAt tokens.new places.new) }
-    ensures text { OnOk result (tokens.new.text ≡ tokens.old.text) }
+    ensures { IfOk result (IsStepOf options.entry tokens.old (chars (string_bytes out.new))
+        tokens.new places.new) }
 {
     while out.len() < FULL {
         let rest = tokens.rest();

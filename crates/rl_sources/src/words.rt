@@ -1,10 +1,13 @@
 //! The options of the command line.
 
-ghost use Rattle.std.specs.Prelude.{◌≡◌, ◌≢◌, ◌↔◌, ◌∷◌, ℕ, false, List, map, IsTrue, IfSome, IfNone, string_bytes};
+ghost use Rattle.std.specs.Prelude.{◌≡◌, ◌≢◌, ◌↔◌, ◌∷◌, ℕ, false, List, Option, map, IsTrue, IfSome, IfNone, string_bytes};
+ghost use Rattle.rl_tokens.specs.declared.kind.Kind.{Kind};
+ghost use Rattle.rl_lines.specs.Lines.{label_of};
 ghost use Rattle.rl_sources.specs.declared.words.Flag.{Flag};
 ghost use Rattle.rl_sources.specs.Words.{IsKindWord, AreKindWords, Wishes, wishes_of, flag_word, first_wishes, IsAllowed, with_flag, wants_list, Asks};
 
 use crate::options::{Options, Shown};
+use rl_tokens::Kind;
 use std::alloc::Allocator;
 
 /// A word of the command line that begins with two dashes.
@@ -34,14 +37,30 @@ fn flag_of(word: &str) -> Option<Flag>
     }
 }
 
+/// What a line that begins with this word is of: a kind, or none for `Verbatim`.
+fn kind_named(word: &str) -> Option<Option<Kind>>
+    ensures known { IfSome result (λ kind. word.now ≡ label_of kind) }
+    ensures unknown { IfNone result ((kind : Option Kind) → word.now ≢ label_of kind) }
+{
+    match word {
+        "Str" => Some(Some(Kind::Str)),
+        "ByteStr" => Some(Some(Kind::ByteStr)),
+        "CStr" => Some(Some(Kind::CStr)),
+        "Byte" => Some(Some(Kind::Byte)),
+        "Char" => Some(Some(Kind::Char)),
+        "Int" => Some(Some(Kind::Int)),
+        "Float" => Some(Some(Kind::Float)),
+        "Bool" => Some(Some(Kind::Bool)),
+        "Verbatim" => Some(None),
+        _ => None,
+    }
+}
+
 /// Whether a line may begin with this word.
 fn is_kind_word(word: &str) -> bool
     ensures { IsTrue result ↔ IsKindWord word.now }
 {
-    matches!(
-        word,
-        "Str" | "ByteStr" | "CStr" | "Byte" | "Char" | "Int" | "Float" | "Bool" | "Verbatim"
-    )
+    kind_named(word).is_some()
 }
 
 /// Whether each word of a list is one that a line may begin with; commas separate the words.

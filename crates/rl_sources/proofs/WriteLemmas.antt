@@ -1,0 +1,59 @@
+-- What a scan has written after a step.
+use Rattle.std.proofs.Common.{◌≡◌, ℕ, Bool, not, ◌||◌, ◌==◌, List, [], ◌++◌, length, sym, ap, subst, ◌∙◌}
+use Rattle.std.specs.Prelude.{Option}
+use Rattle.std.specs.Str.{chars, IsUtf8}
+use Rattle.std.specs.Io.KnownBytes.{Appends}
+use Rattle.rl_tokens.specs.Texts.{byte_len}
+use Rattle.rl_tokens.specs.Cursors.{CursorState}
+use Rattle.rl_tokens.specs.declared.lex_error.LexKind.{LexKind}
+use Rattle.rl_program.specs.Streams.{AppendsBeginning}
+use Rattle.rl_program.specs.declared.fault.Fault.{Fault as RunFault}
+use Rattle.rl_program.specs.declared.fault.Fault.TheVariants.{Write}
+use Rattle.rl_sources.specs.declared.options.Options.{Options}
+use Rattle.rl_sources.specs.declared.place.Place.{Place}
+use Rattle.rl_sources.specs.declared.scanner.ScanError.TheVariants.{Fault, Source}
+use Rattle.rl_sources.specs.declared.step.Step.{Step}
+use Rattle.rl_sources.specs.declared.step.Step.TheVariants.{More, End, Error}
+use Rattle.rl_sources.specs.Places.{IsPlaceIn}
+use Rattle.rl_sources.specs.Scans.{Scans, FailsScan}
+use Rattle.rl_sources.specs.Steps.{Adds, IsStepOf}
+use Rattle.rl_sources.proofs.ScanLemmas.{HasWritten, written_more, written_beginning, step_adds}
+
+-- the step's piece, with the text as the scan has it
+of_text : (options : Options) (text : List ℕ) (old : CursorState) (rest piece : List ℕ) → old.text ≡ text → Adds options (chars old.text) (chars old.rest) rest piece → Adds options (chars text) (chars old.rest) rest piece
+of_text options text old rest piece same adds = subst (λ (t : List ℕ). Adds options (chars t) (chars old.rest) rest piece) same adds
+
+-- the write of the lines failed
+pub write_fails : {A : Type 0} (options : Options) (text lines : List ℕ) (old new places : CursorState) (step : Step) (any : Bool) (out mid after : Option (List ℕ)) (fault : RunFault A) → old.text ≡ text → HasWritten options (chars text) (chars old.rest) any out mid → IsStepOf options old (chars lines) new places step → IsUtf8 lines → (fault ≡ Write) × AppendsBeginning mid after lines → FailsScan {A = A} options (chars text) out after (Fault fault)
+write_fails {A = A} options text lines old new places step any out mid after fault same has is utf8 (fault_is, begins) =
+    let found = step_adds options old (chars lines) new places step is in
+    subst (λ (f : RunFault A). FailsScan {A = A} options (chars text) out after (Fault f)) (sym fault_is)
+    (written_beginning options (chars text) (chars old.rest) found.0 lines any out mid after has (of_text options text old found.0 (chars lines) same found.1) utf8 begins)
+
+-- there is more
+pub writes_on : (options : Options) (text lines : List ℕ) (old new places : CursorState) (any more : Bool) (out mid after : Option (List ℕ)) → old.text ≡ text → HasWritten options (chars text) (chars old.rest) any out mid → IsStepOf options old (chars lines) new places More → IsUtf8 lines → Appends mid after lines → more ≡ (any || not (length lines == 0)) → HasWritten options (chars text) (chars new.rest) more out after
+writes_on options text lines old new places any more out mid after same has is utf8 appends more_is =
+    written_more options (chars text) (chars old.rest) (chars new.rest) lines any more out mid after has (of_text options text old (chars new.rest) (chars lines) same is.adds) utf8 appends more_is
+
+-- the source ends
+pub writes_all : (options : Options) (text lines : List ℕ) (old new places : CursorState) (any more : Bool) (out mid after : Option (List ℕ)) → old.text ≡ text → HasWritten options (chars text) (chars old.rest) any out mid → IsStepOf options old (chars lines) new places End → IsUtf8 lines → Appends mid after lines → more ≡ (any || not (length lines == 0)) → Scans options (chars text) out after more
+writes_all options text lines old new places any more out mid after same has is utf8 appends more_is =
+    let all = written_more options (chars text) (chars old.rest) [] lines any more out mid after has (of_text options text old [] (chars lines) same is) utf8 appends more_is in
+    (all.cuts, all.shown, all.shows, all.any_is, all.written)
+
+-- the source has an error
+pub writes_up_to : (A : Type 0) (options : Options) (text lines : List ℕ) (old new places : CursorState) (place : Place) (kind : LexKind) (any more : Bool) (out mid after : Option (List ℕ)) → old.text ≡ text → HasWritten options (chars text) (chars old.rest) any out mid → IsStepOf options old (chars lines) new places (Error place kind) → IsUtf8 lines → Appends mid after lines → more ≡ (any || not (length lines == 0)) → FailsScan {A = A} options (chars text) out after (Source place kind)
+writes_up_to A options text lines old new places place kind any more out mid after same has (at, rest, adds, error, rest_place, is_place) utf8 appends more_is =
+    let all = written_more options (chars text) (chars old.rest) rest lines any more out mid after has (of_text options text old rest (chars lines) same adds) utf8 appends more_is in (
+      all.shown,
+      record {
+        cuts = all.cuts;
+        rest = rest;
+        shows = all.shows;
+        error = error;
+        at = at;
+        rest_place = rest_place ∙ ap (λ t. byte_len (chars t)) same;
+        place_is = subst (λ (t : List ℕ). IsPlaceIn options.by_line (chars t) at at place) same is_place;
+      },
+      all.written,
+    )

@@ -1,0 +1,14 @@
+use Rattle.std.proofs.Common.{arith}
+use Rattle.std.specs.Str.{chars}
+use Rattle.rl_tokens.proofs.Faults.{char_len}
+use Rattle.rl_sources.proofs.place.place_of.Goals as goal
+
+pub returns-then-by_line-clause-place : goal.returns-then-by_line-clause-place
+returns-then-by_line-clause-place c = (
+  c.if-by_line.true,
+  (
+    chars c.args.rest.now,
+    c.at.ensures.place,
+    omega (arith, c.requires.lo, char_len c.args.rest.now c.requires.text.behind.is_text, char_len c.args.lines.now.text c.requires.text.is_text),
+  ),
+)
