@@ -17,6 +17,7 @@ use crate::digits::{is_plain_float, is_plain_integer};
 use crate::floats::float_suffix;
 use crate::integers::read_integer;
 use crate::numbers::{Number, read_number};
+use crate::parts::Parts;
 use crate::quoted::quoted_parts;
 use crate::reading::{begins_number, truth_of};
 use crate::rows::{cut_suffix, is_negative};
@@ -35,6 +36,27 @@ pub struct Found {
     pub body: Body,
     /// What the digits of an integer spell; 0 for any other kind.
     pub magnitude: u128,
+}
+
+impl Found {
+    ghost use Rattle.rl_grammar.specs.Founds.{StandsIn, body_in, suffix_in};
+
+    /// The literal's parts, as slices of its text.
+    #[inline(always)]
+    #[tactic(auto, using(rl_tokens::proofs::Rests::behind_drop))]
+    pub(crate) fn parts<'t>(&self, text: &'t str) -> Parts<'t>
+        requires { StandsIn text.now self.now.body }
+        ensures kind { result.kind ≡ self.now.kind }
+        ensures body { result.body.now ≡ body_in text.now self.now.body }
+        ensures suffix { result.suffix.now ≡ suffix_in text.now self.now.body }
+        ensures behind { IsTail text.now result.suffix.now }
+    {
+        Parts {
+            kind: self.kind,
+            body: &text[self.body.at..self.body.end],
+            suffix: &text[self.body.suffix_at..],
+        }
+    }
 }
 
 /// Where the parts of a number stand that ends with this suffix.

@@ -5,12 +5,11 @@ ghost use Rattle.std.specs.List.{list_all};
 ghost use Rattle.std.specs.Str.{chars};
 ghost use Rattle.rl_tokens.specs.Texts.{IsTail};
 ghost use Rattle.rl_tokens.specs.Quoted.{is_string, is_single, is_raw};
-ghost use Rattle.rl_tokens.specs.Reading.{Contents, ReadsQuoted};
 ghost use Rattle.rl_grammar.specs.Mirrors.UnitAt.{unit_at};
 ghost use Rattle.rl_grammar.specs.Rows.{BeginsRow};
 ghost use Rattle.rl_grammar.specs.Forms.{has_form, form_opener, PartsAre, HasNoParts, is_plain_body};
 ghost use Rattle.rl_grammar.specs.Mirrors.OpenerAt.{string_opener_at, byte_opener_at, opener_at, after_hashes};
-ghost use Rattle.rl_grammar.specs.Shapes.{IsQuotedSplit, HasNoQuoted};
+ghost use Rattle.rl_grammar.specs.Shapes.{HasNoQuoted};
 
 use crate::ascii::is_ascii;
 use crate::classes::{Class, skip};
@@ -201,16 +200,4 @@ pub(crate) fn quoted_parts(text: &str) -> Option<(QuotedForm, Parts<'_>, bool)>
     let (form, kind, inside) = front(text)?;
     let (body, suffix, plain) = parts_inside(form, kind, inside)?;
     Some((form, Parts { kind, body, suffix }, plain))
-}
-
-/// The parts of a quoted literal: `None` where the text is none.
-pub(crate) fn quoted_shape(text: &str) -> Option<Parts<'_>>
-    ensures reads { IfSome result
-        (λ p. (v : Contents) × ReadsQuoted (chars text.now) p.kind v (chars p.suffix.now)) }
-    ensures cut { IfSome result (λ p. IsQuotedSplit p.kind text.now p.body.now p.suffix.now) }
-    ensures behind { IfSome result (λ p. IsTail text.now p.suffix.now) }
-    ensures none { IfNone result (HasNoQuoted (chars text.now)) }
-{
-    let quoted = quoted_parts(text)?;
-    Some(quoted.1)
 }
