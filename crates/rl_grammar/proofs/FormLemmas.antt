@@ -269,12 +269,6 @@ formed_once t k l v w x y r s =
     let same = parts_once r.form k r.inside v a.body x w b.body y a.parts b.parts in
     (b.kind_is, same.0, same.1)
 
--- a text has one reading as a quoted literal at most
-pub quoted_once : (t : List ℕ) (k l : Kind) (v w : Contents) (x y : List ℕ) → ReadsQuoted t k v x → ReadsQuoted t l w y → (k ≡ l) × (v ≡ w) × (x ≡ y)
-quoted_once t k l v w x y p q =
-    let same = formed_once t k l p.value q.value x y (formed t k v x p) (formed t l w y q) in
-    (same.0, p.contents_is ∙ ap (λ z. quoted_contents z p.value) same.0 ∙ ap (quoted_contents l) same.1 ∙ sym q.contents_is, same.2)
-
 -- ---- the steps of the reader
 
 pub no_front : (t : List ℕ) → opener_at t ≡ None → HasNoQuoted t

@@ -313,7 +313,3 @@ is_within_at t x y m k h e q = is_within t y m (ap (λ z. Some (Some m, z)) q �
 pub within_reads : (t x : List ℕ) (m : ℕ) → HasMagnitude t m x → (v : Contents) × ReadsInt t v x
 within_reads t x m w =
     (Digits (sign_text w.sign ++ decimal m), record { sign = w.sign; magnitude = m; reads = w.reads; within = w.within; contents_is = refl })
-
--- and a literal of that kind is an integer within the limit
-pub reads_within : (t x : List ℕ) (v : Contents) (r : ReadsInt t v x) → HasMagnitude t r.magnitude x
-reads_within t x v r = record { sign = r.sign; reads = r.reads; within = r.within }

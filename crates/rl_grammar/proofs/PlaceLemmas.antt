@@ -8,13 +8,11 @@ use Rattle.rl_tokens.specs.declared.kind.Kind.{Kind}
 use Rattle.rl_tokens.specs.declared.kind.Kind.TheVariants.{Str, ByteStr, CStr, Byte, Char, Int, Float, Bool as BoolKind}
 use Rattle.rl_tokens.specs.Quoted.{is_string, is_single}
 use Rattle.rl_grammar.specs.Shapes.{IsQuotedSplit}
-use Rattle.rl_tokens.specs.Reading.{Contents, Reads, ReadsQuoted}
 use Rattle.rl_grammar.specs.declared.quoted.QuotedForm.{QuotedForm}
 use Rattle.rl_grammar.specs.Bodies.{letters}
 use Rattle.rl_grammar.specs.Founds.{IsQuotedAt}
-use Rattle.rl_grammar.specs.Decoded.{ReadsAsQuoted}
 use Rattle.rl_grammar.specs.Forms.{PartsAre, is_plain_body}
-use Rattle.rl_grammar.proofs.FormLemmas.{formed, formed_once, not_both, parts_formed}
+use Rattle.rl_grammar.proofs.FormLemmas.{not_both}
 use Rattle.rl_grammar.proofs.ShapeLemmas.{parts_cut}
 
 -- What stands in front of the body is as long as what stands behind it, but for the letters and the other side's `r`.
@@ -121,16 +119,6 @@ places kind t b x a at end_at suffix_at ut ub ux at_is end_is suffix_is =
 
 -- ---- the parts that were found
 
-string_reads : (kind : Kind) (t : List ℕ) (v : Contents) (x : List ℕ) → is_string kind ≡ true → ReadsQuoted t kind v x → Reads t kind v x
-string_reads Str t v x s r = r
-string_reads ByteStr t v x s r = r
-string_reads CStr t v x s r = r
-string_reads Byte t v x s r = r
-string_reads Char t v x s r = r
-string_reads Int t v x s r = absurd (cc)
-string_reads Float t v x s r = absurd (cc)
-string_reads BoolKind t v x s r = absurd (cc)
-
 pub record Lengths (kind : Kind) (t b x : List ℕ) : Type 0 where
   pub stands : Around kind t b x
   pub total : length t ≡ length stands.front + length b + 1 + length stands.hashes + length x
@@ -142,18 +130,8 @@ lengths kind t b x a =
     let same : length t - length x - length b - letters kind ≡ length a.front + 1 + length a.hashes - letters kind = omega (arith, total) in
     record { stands = a; total = total; closer = ap (λ z. z / 2) same ∙ a.closer }
 
-same_kind : (t : List ℕ) (form : QuotedForm) (k : Kind) (w b x : List ℕ) (kind : Kind) → ReadsAsQuoted kind t → PartsAre form k t w b x → k ≡ kind
-same_kind t form k w b x kind reads p =
-    let (v, y, r) = reads in
-    (formed_once t k kind w r.value x y (parts_formed form k t w b x p) (formed t kind v y r)).0
-
 pub found : (t : List ℕ) (form : QuotedForm) (kind : Kind) (w b x : List ℕ) → IsUtf8 t → IsUtf8 b → IsUtf8 x → PartsAre form kind (chars t) w (chars b) (chars x) → Lengths kind t b x
 found t form kind w b x ut ub ux p = lengths kind t b x (around kind t b x (parts_cut form kind t w b x ut ub ux p))
-
-pub of_kind : (t : List ℕ) (form : QuotedForm) (k : Kind) (w b x : List ℕ) (kind : Kind) (plain : Bool) → ReadsAsQuoted kind t → PartsAre form k t w b x → plain ≡ is_plain_body form k b → PartsAre form kind t w b x × (plain ≡ is_plain_body form kind b)
-of_kind t form k w b x kind plain reads p plain_is =
-    let same = same_kind t form k w b x kind reads p in
-    (subst (λ l. PartsAre form l t w b x) same p, plain_is ∙ ap (λ l. is_plain_body form l b) same)
 
 pub quoted_at : (t : List ℕ) (form : QuotedForm) (kind : Kind) (w b x : List ℕ) (plain : Bool) → IsUtf8 t → IsUtf8 b → IsUtf8 x → PartsAre form kind (chars t) w (chars b) (chars x) → plain ≡ is_plain_body form kind (chars b) → (at end_at suffix_at : ℕ) → suffix_at ≡ length t - length x → end_at ≡ suffix_at - (suffix_at - length b - letters kind) / 2 → at ≡ end_at - length b → IsQuotedAt kind t (record { at = at; end = end_at; suffix_at = suffix_at; plain = plain })
 quoted_at t form kind w b x plain ut ub ux p plain_is at end_at suffix_at suffix_eq end_eq at_eq =

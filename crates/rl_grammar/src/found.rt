@@ -1,16 +1,16 @@
 //! What reading a text finds, told by places in it: nothing has to be read again to take a literal apart.
 
-ghost use Rattle.std.specs.Prelude.{◌≡◌, ◌≢◌, ◌∷◌, ◌⊎◌, ◌-◌, ◌≤◌, ℕ, List, IfNone, IfSome, length};
+ghost use Rattle.std.specs.Prelude.{◌≡◌, ◌∷◌, ◌⊎◌, ◌-◌, ◌≤◌, ℕ, List, IfNone, IfSome, length};
 ghost use Rattle.std.specs.Str.{chars};
+ghost use Rattle.rl_tokens.specs.declared.kind.Kind.{Kind as AnyKind};
 ghost use Rattle.rl_tokens.specs.declared.kind.Kind.TheVariants.{Float, Int};
-ghost use Rattle.rl_tokens.specs.Numbers.{FloatReads};
-ghost use Rattle.rl_tokens.specs.Reading.{HasNoInteger};
+ghost use Rattle.rl_tokens.specs.Numbers.{FloatReads, NoSign};
+ghost use Rattle.rl_tokens.specs.Reading.{HasNoFloat, HasNoInteger, HasNoReading, HasNoTruth, HasReading, IsPast, ReadsAs};
 ghost use Rattle.rl_tokens.specs.Texts.{IsTail};
 ghost use Rattle.rl_grammar.specs.Founds.{IsFound, IsFoundFloat};
-ghost use Rattle.rl_tokens.specs.Reading.{HasNoFloat, HasNoReading, IsPast};
+ghost use Rattle.rl_grammar.specs.Mirrors.NumberAt.{sign_at};
 ghost use Rattle.rl_grammar.specs.NumberShapes.{HasNoNumber, HasOneFloat, HasOneInteger, HasMagnitude};
 ghost use Rattle.rl_grammar.specs.Shapes.{HasNoQuoted};
-ghost use Rattle.rl_tokens.specs.Reading.{HasNoTruth};
 
 use crate::bodies::{Body, quoted_body};
 use crate::digits::{is_plain_float, is_plain_integer};
@@ -150,6 +150,20 @@ fn find_number(text: &str) -> Option<Found>
     }
 }
 
+/// What reading the text as a number finds that may stand behind a minus: one without a sign of its own.
+#[inline(always)]
+pub(crate) fn find_unsigned(text: &str) -> Option<Found>
+    ensures none { IfNone result (HasNoReading (45 ∷ chars text.now)) }
+    ensures found { IfSome result (IsFound text.now) }
+    ensures number { IfSome result (λ f. (f.kind ≡ Int) ⊎ (f.kind ≡ Float)) }
+    ensures unsigned { IfSome result (λ f. sign_at (chars text.now) ≡ NoSign) }
+{
+    if is_negative(text) {
+        return None;
+    }
+    find_number(text)
+}
+
 /// What reading a minus and the text finds; its places count in the text with the minus.
 ///
 /// `Some` exactly where the text with a minus before it reads as a literal; it is then an integer or a float.
@@ -158,10 +172,7 @@ pub fn find_negative(text: &str) -> Option<Found>
     ensures found { IfSome result (IsFound (45 ∷ text.now)) }
     ensures number { IfSome result (λ f. (f.kind ≡ Int) ⊎ (f.kind ≡ Float)) }
 {
-    if is_negative(text) {
-        return None;
-    }
-    let found = find_number(text)?;
+    let found = find_unsigned(text)?;
     let end = found.body.suffix_at + 1;
     let body = Body {
         at: 0,
@@ -206,6 +217,18 @@ fn find_truth(text: &str) -> Option<Found>
         body,
         magnitude: 0,
     })
+}
+
+/// What reading the text finds, which is a literal.
+pub(crate) fn found_in(text: &str) -> Found
+    requires { HasReading (chars text.now) }
+    ensures found { IsFound text.now result }
+    ensures kind { (kind : AnyKind) → ReadsAs kind (chars text.now) → result.kind ≡ kind }
+{
+    match find(text) {
+        Some(found) => found,
+        None => unreachable!(),
+    }
 }
 
 /// What reading the text finds: `None` where it is no literal, or an integer past 128 bits. No
