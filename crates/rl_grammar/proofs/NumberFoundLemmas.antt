@@ -7,12 +7,11 @@ use Rattle.std.specs.Fmt.{decimal}
 use Rattle.rl_tokens.specs.declared.kind.Kind.{Kind}
 use Rattle.rl_tokens.specs.declared.kind.Kind.TheVariants.{Str, ByteStr, CStr, Byte, Char, Int, Float, Bool as BoolKind}
 use Rattle.rl_tokens.specs.Numbers.{FloatReads, float_digits, sign_text}
-use Rattle.rl_tokens.specs.Reading.{HasSuffix}
+use Rattle.rl_tokens.specs.Reading.{HasSuffix, HasNoFloat}
 use Rattle.rl_grammar.specs.declared.found.Found.{Found}
 use Rattle.rl_grammar.specs.Founds.{IsFound, IsFoundFloat, IsFoundNumber, StandsIn, body_in, suffix_in}
 use Rattle.rl_grammar.specs.Mirrors.NumberAt.{sign_at}
 use Rattle.rl_grammar.specs.NumberShapes.{AreDigits, IsSplitInteger, IsNumber}
-use Rattle.rl_tokens.specs.Reading.{HasNoFloat}
 use Rattle.rl_grammar.specs.WholeShapes.{IsSplit, IsPlain}
 use Rattle.rl_grammar.proofs.DigitLemmas.{int_contents, same_numeral}
 use Rattle.rl_grammar.proofs.FoundLemmas.{body_text, Whether}

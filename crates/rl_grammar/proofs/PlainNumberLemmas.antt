@@ -18,11 +18,10 @@ use Rattle.rl_tokens.specs.declared.kind.Kind.{Kind}
 use Rattle.rl_tokens.specs.declared.kind.Kind.TheVariants.{Float, Int}
 use Rattle.rl_tokens.specs.Numbers.{Base, Binary, Octal, Decimal, Hexadecimal, radix, is_digit, prefix, IsBehindPrefix, Sign, sign_text, IntReads, limit, FloatReads, float_digits}
 use Rattle.rl_tokens.specs.Quoted.{place_value, without_underscores}
-use Rattle.rl_tokens.specs.Reading.{Digits}
+use Rattle.rl_tokens.specs.Reading.{Digits, HasNoFloat}
 use Rattle.rl_tokens.specs.Texts.{first_passes}
 use Rattle.rl_grammar.specs.Mirrors.NumberAt.{after_minus}
 use Rattle.rl_grammar.specs.NumberShapes.{AreDigits, IsSplitInteger}
-use Rattle.rl_tokens.specs.Reading.{HasNoFloat}
 use Rattle.rl_grammar.specs.WholeShapes.{IsPlain}
 use Rattle.rl_grammar.specs.Mirrors.PlainAt.{is_plain_digits, is_plain_integer, is_kept, is_plain_float}
 use Rattle.rl_grammar.proofs.IntegerLemmas.{minus_past}

@@ -10,13 +10,11 @@ use Rattle.rl_tokens.proofs.Basics.{apart}
 use Rattle.rl_tokens.proofs.CommentBytes.{cases128, encode_is_high, low_front, not_equal}
 use Rattle.rl_tokens.specs.Texts.{first_passes}
 use Rattle.rl_tokens.specs.declared.kind.Kind.TheVariants.{Str, ByteStr, CStr, Byte, Char, Int, Float, Bool as BoolKind}
-use Rattle.rl_tokens.specs.Reading.{truth_text}
+use Rattle.rl_tokens.specs.Reading.{truth_text, HasNoReading, HasNoTruth}
 use Rattle.rl_grammar.specs.NumberShapes.{HasNoNumber}
-use Rattle.rl_tokens.specs.Reading.{HasNoReading}
 use Rattle.rl_grammar.specs.Mirrors.NumberAt.{after_minus}
 use Rattle.rl_grammar.specs.Mirrors.OpenerAt.{opener_at}
 use Rattle.rl_grammar.specs.Shapes.{HasNoQuoted}
-use Rattle.rl_tokens.specs.Reading.{HasNoTruth}
 use Rattle.rl_grammar.specs.WholeShapes.{is_number_front}
 use Rattle.rl_grammar.proofs.FloatLemmas.{no_float}
 use Rattle.rl_grammar.proofs.FormLemmas.{no_front}

@@ -22,6 +22,21 @@ pub struct Body {
     pub plain: bool,
 }
 
+impl Body {
+    /// A body that is all up to this place, where the suffix begins.
+    #[inline(always)]
+    pub(crate) fn up_to(end: usize, plain: bool) -> Body
+        ensures { result ≡ record { at = 0; end = end; suffix_at = end; plain = plain } }
+    {
+        Body {
+            at: 0,
+            end,
+            suffix_at: end,
+            plain,
+        }
+    }
+}
+
 /// How many letters stand before a literal of the quoted kind that has no hashes.
 fn letters(kind: Kind) -> usize
     ensures { result ≡ letters kind }

@@ -9,7 +9,8 @@ ghost use Rattle.rl_tokens.specs.Texts.{IsTail};
 #[tactic(auto, using(rl_tokens::proofs::BehindLemmas::cut_boundary, rl_tokens::proofs::BehindLemmas::cut_chars))]
 pub(crate) fn before<'t>(text: &'t str, rest: &str) -> &'t str
     requires { IsTail text.now rest.now }
-    ensures { chars text.now ≡ chars result.now ++ chars rest.now }
+    ensures cut { text.now ≡ result.now ++ rest.now }
+    ensures chars { chars text.now ≡ chars result.now ++ chars rest.now }
 {
     &text[..text.len() - rest.len()]
 }

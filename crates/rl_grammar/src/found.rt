@@ -13,6 +13,7 @@ ghost use Rattle.rl_grammar.specs.NumberShapes.{HasNoNumber, HasOneFloat, HasOne
 ghost use Rattle.rl_grammar.specs.Shapes.{HasNoQuoted};
 
 use crate::bodies::{Body, quoted_body};
+use crate::cuts::before;
 use crate::digits::{is_plain_float, is_plain_integer};
 use crate::floats::float_suffix;
 use crate::integers::read_integer;
@@ -20,7 +21,7 @@ use crate::numbers::{Number, read_number};
 use crate::parts::Parts;
 use crate::quoted::quoted_parts;
 use crate::reading::{begins_number, truth_of};
-use crate::rows::{cut_suffix, is_negative};
+use crate::rows::is_negative;
 use rl_tokens::Kind;
 
 /// What reading a text finds: the kind of the literal and where its parts stand.
@@ -59,25 +60,6 @@ impl Found {
     }
 }
 
-/// Where the parts of a number stand that ends with this suffix.
-fn number_body(text: &str, suffix: &str, plain: bool) -> Body
-    requires { length suffix.now ≤ length text.now }
-    ensures { result ≡ record {
-      at = 0;
-      end = length text.now - length suffix.now;
-      suffix_at = length text.now - length suffix.now;
-      plain = plain;
-    } }
-{
-    let end = text.len() - suffix.len();
-    Body {
-        at: 0,
-        end,
-        suffix_at: end,
-        plain,
-    }
-}
-
 /// The integer of this magnitude and suffix.
 #[inline(always)]
 fn integer_found<'t>(text: &'t str, suffix: &'t str, magnitude: u128) -> Found
@@ -86,11 +68,10 @@ fn integer_found<'t>(text: &'t str, suffix: &'t str, magnitude: u128) -> Found
     ensures found { IsFound text.now result }
     ensures kind { result.kind ≡ Int }
 {
-    let parts = cut_suffix(Kind::Int, text, suffix);
-    let plain = is_plain_integer(parts.body);
+    let body = before(text, suffix);
     Found {
         kind: Kind::Int,
-        body: number_body(text, suffix, plain),
+        body: Body::up_to(body.len(), is_plain_integer(body)),
         magnitude,
     }
 }
@@ -102,11 +83,10 @@ fn float_found<'t>(text: &'t str, suffix: &'t str) -> Found
     requires behind { IsTail text.now suffix.now }
     ensures { IsFoundFloat text.now result }
 {
-    let parts = cut_suffix(Kind::Float, text, suffix);
-    let plain = is_plain_float(parts.body);
+    let body = before(text, suffix);
     Found {
         kind: Kind::Float,
-        body: number_body(text, suffix, plain),
+        body: Body::up_to(body.len(), is_plain_float(body)),
         magnitude: 0,
     }
 }
@@ -173,16 +153,9 @@ pub fn find_negative(text: &str) -> Option<Found>
     ensures number { IfSome result (λ f. (f.kind ≡ Int) ⊎ (f.kind ≡ Float)) }
 {
     let found = find_unsigned(text)?;
-    let end = found.body.suffix_at + 1;
-    let body = Body {
-        at: 0,
-        end,
-        suffix_at: end,
-        plain: found.body.plain,
-    };
     Some(Found {
         kind: found.kind,
-        body,
+        body: Body::up_to(found.body.suffix_at + 1, found.body.plain),
         magnitude: found.magnitude,
     })
 }
@@ -206,15 +179,9 @@ fn find_truth(text: &str) -> Option<Found>
     ensures found { IfSome result (IsFound text.now) }
 {
     truth_of(text)?;
-    let body = Body {
-        at: 0,
-        end: text.len(),
-        suffix_at: text.len(),
-        plain: false,
-    };
     Some(Found {
         kind: Kind::Bool,
-        body,
+        body: Body::up_to(text.len(), false),
         magnitude: 0,
     })
 }

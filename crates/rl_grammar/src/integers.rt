@@ -5,10 +5,9 @@ ghost use Rattle.std.specs.Char.{is_ascii_digit};
 ghost use Rattle.std.specs.Str.{chars};
 ghost use Rattle.rl_tokens.specs.declared.kind.Kind.TheVariants.{Int};
 ghost use Rattle.rl_tokens.specs.Texts.{IsTail, first_passes};
-ghost use Rattle.rl_tokens.specs.Reading.{Contents, HasNoInteger, ReadsInt};
+ghost use Rattle.rl_tokens.specs.Reading.{Contents, HasNoInteger, ReadsInt, IsPast};
 ghost use Rattle.rl_grammar.specs.Mirrors.NumberAt.{after_minus, capped_int, ended_at, int_at, IsHead, radix_at};
 ghost use Rattle.rl_grammar.specs.NumberShapes.{HasOneInteger};
-ghost use Rattle.rl_tokens.specs.Reading.{IsPast};
 
 use crate::found::find_int;
 use crate::parts::Parts;

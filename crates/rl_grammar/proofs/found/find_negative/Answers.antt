@@ -1,5 +1,12 @@
+use Rattle.std.proofs.Common.{◌∷◌, subst, sym}
+use Rattle.rl_grammar.specs.Founds.{IsFound}
+use Rattle.rl_grammar.proofs.FoundLemmas.{Of}
 use Rattle.rl_grammar.proofs.MinusFoundLemmas.{negative_found}
 use Rattle.rl_grammar.proofs.found.find_negative.Goals as goal
 
 pub returns-clause-found : goal.returns-clause-found
-returns-clause-found c = negative_found _ _ c.utf8.text c.in_ok-found.ensures.unsigned c.in_ok-found.ensures.found c.in_ok-found.ensures.number
+returns-clause-found c =
+    let t = c.args.text.now in
+    let f = c.in_ok-found.found in
+    let h = c.in_ok-found.ensures in
+    subst (λ body. IsFound (45 ∷ t) (Of f.kind body f.magnitude)) (sym c.up_to.ensures) (negative_found t f c.utf8.text h.unsigned h.found h.number)
