@@ -1,6 +1,6 @@
 //! What reading a text finds, told by places in it: nothing has to be read again to take a literal apart.
 
-ghost use Rattle.std.specs.Prelude.{◌≡◌, ◌∷◌, ◌⊎◌, ◌-◌, ◌≤◌, ℕ, List, IfNone, IfSome, length};
+ghost use Rattle.std.specs.Prelude.{◌≡◌, ◌∷◌, ◌⊎◌, ℕ, List, IfNone, IfSome};
 ghost use Rattle.std.specs.Str.{chars};
 ghost use Rattle.rl_tokens.specs.declared.kind.Kind.{Kind as AnyKind};
 ghost use Rattle.rl_tokens.specs.declared.kind.Kind.TheVariants.{Float, Int};
@@ -10,16 +10,15 @@ ghost use Rattle.rl_tokens.specs.Texts.{IsTail};
 ghost use Rattle.rl_grammar.specs.Founds.{IsFound, IsFoundFloat};
 ghost use Rattle.rl_grammar.specs.Mirrors.NumberAt.{sign_at};
 ghost use Rattle.rl_grammar.specs.NumberShapes.{HasNoNumber, HasOneFloat, HasOneInteger, HasMagnitude};
-ghost use Rattle.rl_grammar.specs.Shapes.{HasNoQuoted};
 
-use crate::bodies::{Body, quoted_body};
+use crate::bodies::Body;
 use crate::cuts::before;
 use crate::digits::{is_plain_float, is_plain_integer};
 use crate::floats::float_suffix;
 use crate::integers::read_integer;
 use crate::numbers::{Number, read_number};
 use crate::parts::Parts;
-use crate::quoted::quoted_parts;
+use crate::quoted::find_quoted;
 use crate::reading::{begins_number, truth_of};
 use crate::rows::is_negative;
 use rl_tokens::Kind;
@@ -157,19 +156,6 @@ pub fn find_negative(text: &str) -> Option<Found>
         kind: found.kind,
         body: Body::up_to(found.body.suffix_at + 1, found.body.plain),
         magnitude: found.magnitude,
-    })
-}
-
-/// What reading the text as a quoted literal finds.
-fn find_quoted(text: &str) -> Option<Found>
-    ensures none { IfNone result (HasNoQuoted (chars text.now)) }
-    ensures found { IfSome result (IsFound text.now) }
-{
-    let (_, parts, plain) = quoted_parts(text)?;
-    Some(Found {
-        kind: parts.kind,
-        body: quoted_body(parts.kind, text, parts.body, parts.suffix, plain),
-        magnitude: 0,
     })
 }
 

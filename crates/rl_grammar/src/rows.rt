@@ -1,6 +1,6 @@
 //! Rows of digits and underscores, and what may stand before and behind them.
 
-ghost use Rattle.std.specs.Prelude.{◌≡◌, ◌++◌, ◌<◌, ◌≤◌, None, Option, Some, drop, false, nat_lt, if◌then◌else◌};
+ghost use Rattle.std.specs.Prelude.{◌≡◌, ◌<◌, ◌≤◌, None, Option, Some, drop, false, nat_lt, if◌then◌else◌};
 ghost use Rattle.std.specs.Char.{digit_value, is_ascii_digit};
 ghost use Rattle.std.specs.Str.{IsCharBoundary, chars};
 ghost use Rattle.rl_tokens.specs.Texts.{IsTail, first_passes};

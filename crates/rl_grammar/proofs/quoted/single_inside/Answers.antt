@@ -1,10 +1,10 @@
-use Rattle.std.proofs.Common.{Some, None, sym, rules}
+use Rattle.std.proofs.Common.{refl, Some, None, sym, rules}
 use Rattle.std.specs.Str.{IsUtf8}
-use Rattle.rl_tokens.proofs.BehindLemmas.{if_none}
+use Rattle.rl_tokens.proofs.BehindLemmas.{behind_self, if_none}
 use Rattle.rl_grammar.proofs.UnitLemmas.{unit_sound}
 use Rattle.rl_grammar.proofs.CutLemmas.{behind_chars}
 use Rattle.rl_grammar.proofs.FormLemmas.{single_found, single_stuck, single_none}
-use Rattle.rl_grammar.proofs.quoted.single_parts.Goals as goal
+use Rattle.rl_grammar.proofs.quoted.single_inside.Goals as goal
 
 pub returns-in_err-rest-clause-none : goal.returns-in_err-rest-clause-none
 returns-in_err-rest-clause-none c = if_none _ (single_stuck _ _ (sym c.in_err-rest.ensures.value))
@@ -20,4 +20,5 @@ returns-in_err-body-clause-none c = if_none _ (single_none _ _ _ None (sym c.in_
 pub returns-clause-some : goal.returns-clause-some
 returns-clause-some c =
     let found = c.in_ok-body.ensures in
-    single_found _ _ _ (Some (c.in_ok-body.body, c.in_ok-body.suffix)) c.requires (sym c.in_ok-rest.ensures.value) found.before found.quote
+    let (v, parts) = single_found _ _ _ (Some (c.in_ok-body.body, c.in_ok-body.suffix)) c.requires (sym c.in_ok-rest.ensures.value) found.before found.quote in
+    record { value = v; parts = parts; plain_is = refl; opened = behind_self _ c.utf8.text; closer = _; cut = found.cut; is_text = search rules }
