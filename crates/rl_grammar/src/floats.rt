@@ -9,10 +9,9 @@ ghost use Rattle.rl_grammar.specs.Mirrors.NumberAt.{after_exponent, after_fracti
 ghost use Rattle.rl_tokens.specs.Reading.{HasNoFloat};
 ghost use Rattle.rl_grammar.specs.NumberShapes.{HasOneFloat};
 
-use crate::classes::{Class, skip};
-use crate::found::find_float;
+use crate::cuts::{Class, skip};
+use crate::found::{Parts, find_float};
 use crate::integers::Head;
-use crate::parts::Parts;
 use crate::rows::{after_minus, begins_digit, is_suffix, skip_row};
 use rl_tokens::text::split_char;
 

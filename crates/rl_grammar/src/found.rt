@@ -11,17 +11,43 @@ ghost use Rattle.rl_grammar.specs.Founds.{IsFound, IsFoundFloat};
 ghost use Rattle.rl_grammar.specs.Mirrors.NumberAt.{sign_at};
 ghost use Rattle.rl_grammar.specs.NumberShapes.{HasNoNumber, HasOneFloat, HasOneInteger, HasMagnitude};
 
-use crate::bodies::Body;
 use crate::cuts::before;
 use crate::digits::{is_plain_float, is_plain_integer};
 use crate::floats::float_suffix;
 use crate::integers::read_integer;
 use crate::numbers::{Number, read_number};
-use crate::parts::Parts;
 use crate::quoted::find_quoted;
 use crate::reading::{begins_number, truth_of};
 use crate::rows::is_negative;
 use rl_tokens::Kind;
+
+/// Where the parts of a literal stand in its text, in bytes, and whether the body is what it stands for, byte for byte.
+#[derive(Clone, Copy)]
+pub struct Body {
+    /// The place of the body's first byte.
+    pub at: usize,
+    /// The place behind the body's last byte.
+    pub end: usize,
+    /// The place of the suffix's first byte; the text's end where there is none.
+    pub suffix_at: usize,
+    /// Whether the body is what the literal stands for, byte for byte.
+    pub plain: bool,
+}
+
+impl Body {
+    /// A body that is all up to this place, where the suffix begins.
+    #[inline(always)]
+    pub(crate) fn up_to(end: usize, plain: bool) -> Body
+        ensures { result ≡ record { at = 0; end = end; suffix_at = end; plain = plain } }
+    {
+        Body {
+            at: 0,
+            end,
+            suffix_at: end,
+            plain,
+        }
+    }
+}
 
 /// What reading a text finds: the kind of the literal and where its parts stand.
 ///
@@ -36,6 +62,31 @@ pub struct Found {
     pub body: Body,
     /// What the digits of an integer spell; 0 for any other kind.
     pub magnitude: u128,
+}
+
+/// A literal's kind and the two parts of its text that vary, as slices of it.
+///
+/// Of a quoted literal the body is what stands between its quotes. Of a number it is all that
+/// stands before the suffix, sign and prefix included, and of a truth value the whole text.
+///
+/// # Example
+///
+/// ```
+/// Some(parts) => {
+///     debug_word(&parts.kind, out)?;
+///     out.push_str(parts.body)?;
+///     out.push_str(".")?;
+///     line(parts.suffix, out)
+/// }
+/// ```
+#[derive(Clone, Copy, PartialEq, Eq, Debug)]
+pub struct Parts<'t> {
+    /// What the literal is.
+    pub kind: Kind,
+    /// What stands before the suffix; of a quoted literal, what stands between its quotes.
+    pub body: &'t str,
+    /// What stands behind; empty where there is none.
+    pub suffix: &'t str,
 }
 
 impl Found {

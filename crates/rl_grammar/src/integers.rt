@@ -9,8 +9,7 @@ ghost use Rattle.rl_tokens.specs.Reading.{Contents, HasNoInteger, ReadsInt, IsPa
 ghost use Rattle.rl_grammar.specs.Mirrors.NumberAt.{after_minus, capped_int, ended_at, int_at, IsHead, radix_at};
 ghost use Rattle.rl_grammar.specs.NumberShapes.{HasOneInteger};
 
-use crate::found::find_int;
-use crate::parts::Parts;
+use crate::found::{Parts, find_int};
 use crate::rows::{DigitRow, after_minus, begins_digit, is_exponent_suffix, is_suffix, read_row};
 use rl_tokens::text::split_char;
 

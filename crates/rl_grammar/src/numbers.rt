@@ -8,9 +8,8 @@ ghost use Rattle.rl_grammar.specs.NumberShapes.{HasNoNumber};
 ghost use Rattle.rl_grammar.specs.NumbersRead.{IsNumberOf};
 
 use crate::floats::head_suffix;
-use crate::found::find_unsigned;
+use crate::found::{Parts, find_unsigned};
 use crate::integers::{integer_of, read_head};
-use crate::parts::Parts;
 
 /// A number, read: an integer within 128 bits, or a float where no integer of any magnitude stands.
 #[derive(Clone, Copy)]

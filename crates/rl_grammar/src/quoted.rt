@@ -14,10 +14,8 @@ ghost use Rattle.rl_grammar.specs.Mirrors.OpenerAt.{string_opener_at, byte_opene
 ghost use Rattle.rl_grammar.specs.Shapes.{HasNoQuoted};
 
 use crate::ascii::is_ascii;
-use crate::bodies::Body;
-use crate::classes::{Class, skip};
-use crate::cuts::{before, behind_prefix, has_nul, split_last_quote};
-use crate::found::Found;
+use crate::cuts::{Class, before, behind_prefix, has_nul, skip, split_last_quote};
+use crate::found::{Body, Found};
 use crate::runs::split_plain;
 use crate::units::unit;
 use rl_tokens::Kind;

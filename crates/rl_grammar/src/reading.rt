@@ -7,8 +7,7 @@ ghost use Rattle.rl_tokens.specs.Reading.{Contents, HasNoReading, Reads, truth_t
 ghost use Rattle.rl_grammar.specs.StrictBytes.{KeepsBytesStrict};
 ghost use Rattle.rl_grammar.specs.WholeShapes.{IsSplit, is_number_front};
 
-use crate::found::find;
-use crate::parts::Parts;
+use crate::found::{Parts, find};
 
 /// The truth value that the text is, `true` or `false`; `None` for any other text.
 pub fn truth_of(text: &str) -> Option<bool>

@@ -1,4 +1,4 @@
-use Rattle.std.proofs.Common.{sym, refl, rules, arith}
+use Rattle.std.proofs.Common.{sym, refl, rules}
 use Rattle.std.specs.Str.{IsUtf8}
 use Rattle.rl_tokens.proofs.BehindLemmas.{if_none}
 use Rattle.rl_grammar.proofs.FormLemmas.{front_sound, no_front, no_parts}

@@ -5,7 +5,7 @@ use Rattle.std.specs.Str.{chars}
 use Rattle.rl_tokens.specs.Texts.{IsTail}
 use Rattle.rl_grammar.specs.Mirrors.Classes.{class_test}
 use Rattle.rl_grammar.specs.Mirrors.NumberAt.{after_run}
-use Rattle.rl_grammar.proofs.classes.skip.Given as goal
+use Rattle.rl_grammar.proofs.cuts.skip.Given as goal
 
 abbrev pub invariant-loop-c : goal.invariant-loop-c
 invariant-loop-c l = record {
