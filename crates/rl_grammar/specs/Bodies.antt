@@ -25,7 +25,7 @@ pub record HasSingleBody (kind : Kind) (text body : List ℕ) : Type 0 where
   pub suffix : List ℕ
   pub parts : PartsAre SingleForm kind text value (chars body) suffix
 
--- What stands behind the opener of a quoted literal of the form, as it is read: the text from the
+-- What follows the opener of a quoted literal of the form, as it is read: the text from the
 -- body on, the body and the suffix, and whether the body stands for itself.
 pub record IsInside (form : QuotedForm) (kind : Kind) (text : List ℕ) (inside : Inside)
     : Type 0 where

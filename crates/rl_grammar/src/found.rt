@@ -180,7 +180,7 @@ fn find_number(text: &str) -> Option<Found>
     }
 }
 
-/// What reading the text as a number finds that may stand behind a minus: one without a sign of its own.
+/// What reading the text as the number after a minus finds: one without a sign of its own.
 #[inline(always)]
 pub(crate) fn find_unsigned(text: &str) -> Option<Found>
     ensures none { IfNone result (HasNoReading (45 ∷ chars text.now)) }

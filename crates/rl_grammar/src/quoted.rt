@@ -29,7 +29,7 @@ pub(crate) enum QuotedForm {
     Single,
 }
 
-/// What is read of a quoted literal behind its opener.
+/// What is read of a quoted literal after its opener.
 #[derive(Clone, Copy)]
 pub(crate) struct Inside<'t> {
     /// The text from the body on.
@@ -116,7 +116,7 @@ fn cut_at_quote<'t>(quote: char, text: &'t str, rest: &'t str) -> Option<(&'t st
     }
 }
 
-/// A cooked string, from the text behind its opener.
+/// A cooked string, from the text after its opener.
 #[inline(always)]
 fn cooked_inside(kind: Kind, text: &str) -> Option<Inside<'_>>
     requires { IsTrue (is_string kind) }
@@ -176,7 +176,7 @@ fn holds_all(kind: Kind, text: &str) -> bool
     }
 }
 
-/// A character or a byte, from the text behind its opener.
+/// A character or a byte, from the text after its opener.
 #[inline(never)]
 fn single_inside(kind: Kind, text: &str) -> Option<Inside<'_>>
     requires { IsTrue (is_single kind) }
@@ -194,7 +194,7 @@ fn single_inside(kind: Kind, text: &str) -> Option<Inside<'_>>
     })
 }
 
-/// A literal of the form, from the text behind its opener.
+/// A literal of the form, from the text after its opener.
 #[inline(always)]
 fn read_inside(form: QuotedForm, kind: Kind, text: &str) -> Option<Inside<'_>>
     requires { IsTrue (has_form form kind) }
