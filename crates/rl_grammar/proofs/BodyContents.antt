@@ -20,10 +20,6 @@ pub ok_decoded : {X E : Type 0} (items : X → List ℕ) (r : Result X E) (kind 
 ok_decoded items (Ok v) kind body plain other d = λ t has. cooked_bytes t has.form kind has.value (chars body) has.suffix (items v) (not_raw has.form kind (chars body) (sym has.plain_is ∙ other)) has.parts d
 ok_decoded items (Err a) kind body plain other d = tt
 
-pub ok_of_text : {X E : Type 0} (items : X → List ℕ) (r : Result X E) (kind : Kind) (body t : List ℕ) (plain : Bool) → HasBody kind t body plain → IfOk r (λ v. (t : List ℕ) → HasBody kind t body plain → HoldsBytes t (items v)) → IfOk r (λ v. HoldsBytes t (items v))
-ok_of_text items (Ok v) kind body t plain has held = held t has
-ok_of_text items (Err a) kind body t plain has held = tt
-
 body_reads : (kind : Kind) (t body : List ℕ) (plain : Bool) (has : HasBody kind t body plain) → ReadsQuoted t kind (quoted_contents kind has.value) has.suffix
 body_reads kind t body plain has = parts_read has.form kind t has.value (chars body) has.suffix has.parts
 

@@ -16,7 +16,7 @@ use Rattle.rl_grammar.specs.declared.quoted.QuotedForm.TheVariants.{Cooked as Co
 use Rattle.rl_grammar.specs.declared.units.Piece.TheVariants.{Byte}
 use Rattle.rl_grammar.specs.Mirrors.UnitAt.{IsPieceOf}
 use Rattle.rl_grammar.specs.Forms.{PartsAre, is_plain_body}
-use Rattle.rl_grammar.specs.Shapes.{IsCookedSplit, IsQuotedSplit, HasNoQuoted}
+use Rattle.rl_grammar.specs.Shapes.{IsCookedSplit, IsQuotedSplit}
 use Rattle.rl_grammar.specs.Decoded.{in_bytes, HoldsBytes}
 use Rattle.rl_grammar.specs.WholeShapes.{IsSplit, IsPlain}
 use Rattle.rl_grammar.proofs.ContentLemmas.{in_bytes_append, held_in_bytes, byte_in_bytes, nothing_in_bytes, plain_bytes, str_bytes}
@@ -197,7 +197,3 @@ parts_plain form kind k t w b x s ut ub ux parts p =
     let holds : IsUtf8 p.body → in_bytes k w ≡ p.body = λ u. ap (in_bytes k) same.1 ∙ h.held_are u in
     let plain = not_false (is_plain_body form k (chars b)) (λ other. not_shorter form k t w b x s other ut ub ux of_kind p suffix holds) in
     (same.0, subst (λ l. is_plain_body form l (chars b) ≡ true) (sym same.0) plain)
-
--- a text that is no quoted literal is no plain string
-pub no_plain_string : (kind : Kind) (t : List ℕ) → is_string kind ≡ true → HasNoQuoted (chars t) → IsPlain kind t → ⊥
-no_plain_string kind t s n p = let h = held_in kind t s p in n kind h.contents p.suffix h.reads

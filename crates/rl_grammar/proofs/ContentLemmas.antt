@@ -1,5 +1,5 @@
 -- What the decoders put together is what any reading holds.
-use Rattle.std.proofs.Common.{◌≡◌, ℕ, ◌<◌, ◌||◌, Bool, true, false, not, cond, ltb, List, [], ◌∷◌, ◌++◌, length, Some, None, refl, sym, ap, subst, ◌∙◌, inl, inr, arith, append_assoc, append-nil, replicate}
+use Rattle.std.proofs.Common.{◌≡◌, ℕ, ◌<◌, ◌||◌, Bool, true, false, not, cond, ltb, List, [], ◌∷◌, ◌++◌, length, Some, refl, sym, ap, subst, ◌∙◌, inl, inr, arith, append_assoc, append-nil, replicate}
 use Rattle.std.specs.Prelude.{encode_utf8, encode_utf8_all}
 use Rattle.std.specs.Char.{len_utf8}
 use Rattle.std.specs.List.{AllByRecursion, list_all}
@@ -10,21 +10,20 @@ use Rattle.std.proofs.lemmas.Str.{chars-encodes, encodes-append, encodes-chars, 
 use Rattle.rl_tokens.specs.declared.kind.Kind.{Kind}
 use Rattle.rl_tokens.specs.declared.kind.Kind.TheVariants.{Str, ByteStr, CStr, Byte as ByteKind, Char, Int, Float, Bool as BoolKind}
 use Rattle.rl_tokens.specs.Quoted.{QuotedUnit, Letter, Plain, CrLf, Named, Hex, Unicode, Continuation, LowerN, LowerR, LowerT, Backslash, Apostrophe, Quote, Zero, letter_value, unit_text, unit_value, hex_value, unicode_value, content_of, holds_characters, is_string, is_single, is_plain, has_unicode, IsUnit, texts, values, opener, raw_opener, Cooked, Raw}
-use Rattle.rl_tokens.specs.Reading.{Contents, Characters, quoted_contents, ReadsQuoted}
+use Rattle.rl_tokens.specs.Reading.{Contents, Characters, ReadsQuoted}
 use Rattle.rl_tokens.proofs.CutTrees.{scalars_parts}
 use Rattle.rl_grammar.specs.declared.quoted.QuotedForm.{QuotedForm}
 use Rattle.rl_grammar.specs.declared.quoted.QuotedForm.TheVariants.{Cooked as CookedForm, Raw as RawForm, Single as SingleForm}
 use Rattle.rl_grammar.specs.declared.units.Piece.{Piece}
 use Rattle.rl_grammar.specs.declared.units.Piece.TheVariants.{Character, Byte, Nothing}
-use Rattle.rl_grammar.specs.Mirrors.UnitAt.{piece_value, IsPieceOf, found, unit_at}
+use Rattle.rl_grammar.specs.Mirrors.UnitAt.{piece_value, IsPieceOf, unit_at}
 use Rattle.rl_grammar.specs.Rows.{BeginsRow}
-use Rattle.rl_grammar.specs.Mirrors.OpenerAt.{found_opener, opener_at}
 use Rattle.rl_grammar.specs.Forms.{PartsAre, is_plain_body}
 use Rattle.rl_grammar.specs.Decoded.{piece_bytes, in_bytes, HoldsBytes}
 use Rattle.rl_grammar.specs.Mirrors.Decodes.{Decodes}
-use Rattle.rl_grammar.proofs.UnitLemmas.{some_pair, unit_nil}
+use Rattle.rl_grammar.proofs.UnitLemmas.{unit_nil}
 use Rattle.rl_grammar.proofs.RowLemmas.{row_start, row_step, row_run, row_once}
-use Rattle.rl_grammar.proofs.FormLemmas.{Formed, formed, parts_formed, formed_once, not_both, single_unit, string_parts, cooked_row_of_body}
+use Rattle.rl_grammar.proofs.FormLemmas.{Formed, formed, parts_formed, formed_once, not_both, string_parts, cooked_row_of_body}
 
 -- ---- values as bytes
 
@@ -123,10 +122,6 @@ cooked_bytes t form kind w body y bytes not_raw p d k v x s r =
     let row = cooked_row_of_body kind t w body y (string_parts form kind t w body y string not_raw p) in
     let value = row_once kind body d.value d.rest w [] d.row row d.stuck (unit_nil kind) in
     same_bytes t kind w y bytes formed_p (d.bytes_are ∙ ap (in_bytes kind) value.0) k v x s r
-
--- a text that reads as a string has the parts of one
-pub string_kind : (t : List ℕ) (form : QuotedForm) (kind : Kind) (w body y : List ℕ) (k : Kind) (v : Contents) (x : List ℕ) → PartsAre form kind t w body y → is_string k ≡ true → ReadsQuoted t k v x → is_string kind ≡ true
-string_kind t form kind w body y k v x p s r = ap is_string (formed_once t kind k w r.value y x (parts_formed form kind t w body y p) (formed t k v x r)).0 ∙ s
 
 -- ---- the characters of a string
 
@@ -228,29 +223,6 @@ one_value kind (Named l) s h = (letter_value l, refl)
 one_value kind (Hex high low) s h = (hex_value high low, refl)
 one_value kind (Unicode first more) s h = one_unicode kind (unicode_value first more) s h.0
 one_value kind (Continuation c run) s h = absurd (not_both kind h.0 s)
-
--- what a unit behind the opener is to any reading
-pub record OnlyPiece (kind : Kind) (value : List ℕ) (v : Contents) : Type 0 where
-  pub contents_are : v ≡ quoted_contents kind value
-  pub number : ℕ
-  pub one : value ≡ number ∷ []
-
-pub only_piece : (t : List ℕ) (form : QuotedForm) (k : Kind) (inside : List ℕ) (kind : Kind) (q : List ℕ × List ℕ) (v : Contents) (x : List ℕ) → is_single kind ≡ true → opener_at t ≡ found_opener form k inside → unit_at kind inside ≡ Some q → ReadsQuoted t kind v x → OnlyPiece kind q.0 v
-only_piece t form k inside kind q v x s front unit r =
-    let a = single_unit t form k inside kind r.value x s front (formed t kind v x r) in
-    let same = some_pair (r.value, 39 ∷ x) q (sym a.0 ∙ unit) in
-    let one = one_value kind a.1.unit s a.1.is_unit in
-    record {
-      contents_are = r.contents_is ∙ ap (quoted_contents kind) same.0;
-      number = one.0;
-      one = sym same.0 ∙ a.1.value_is ∙ one.1;
-    }
-
-pub unit_stands : (t : List ℕ) (form : QuotedForm) (k : Kind) (inside : List ℕ) (kind : Kind) (v : Contents) (x : List ℕ) → is_single kind ≡ true → opener_at t ≡ found_opener form k inside → ReadsQuoted t kind v x → unit_at kind inside ≡ None → ⊥
-unit_stands t form k inside kind v x s front r none =
-    let a = single_unit t form k inside kind r.value x s front (formed t kind v x r) in
-    let e : None ≡ found r.value (39 ∷ x) = sym none ∙ a.0 in
-    absurd (cc)
 
 two_or_more : (a b : Bool) → ◌≡◌ {A = ℕ} (cond a 2 (cond b 3 4)) 1 → ⊥
 two_or_more true b e = absurd (cc)

@@ -1,5 +1,5 @@
 -- From what std says of bytes to characters.
-use Rattle.std.proofs.Common.{◌≡◌, ◌≢◌, ℕ, ◌+◌, ◌<◌, ◌≤◌, ◌&&◌, Bool, true, false, not, eqb, List, [], ◌∷◌, ◌++◌, length, take, drop, take-append-drop, Option, Some, None, refl, sym, ap, subst, ◌∙◌, inl, inr, arith, append_assoc, append-nil, length-drop, replicate}
+use Rattle.std.proofs.Common.{◌≡◌, ◌≢◌, ℕ, ◌+◌, ◌<◌, ◌≤◌, ◌&&◌, Bool, true, false, not, eqb, List, [], ◌∷◌, ◌++◌, length, take, drop, take-append-drop, Option, Some, None, refl, sym, ap, subst, ◌∙◌, arith, length-drop}
 use Rattle.std.specs.Prelude.{encode_utf8_all, IfSome, IfNone, MatchOption, MatchBool}
 use Rattle.std.specs.List.{list_all}
 use Rattle.std.specs.Str.{chars, IsUtf8, IsCharBoundary, NoCharPasses, NonePass}
@@ -9,10 +9,7 @@ use Rattle.std.proofs.lemmas.List.Folds.{list_all-append}
 use Rattle.std.proofs.lemmas.Str.{encodes-chars, encodes-append, chars-append, chars_from_encodes, chars_past_char, IsUtf8-take, IsUtf8-drop, IsUtf8-past_char, IsCharBoundary-before_ascii}
 use Rattle.std.proofs.lemmas.Str.Pattern.{drop_at_char}
 use denote.Ref.{Bor}
-use Rattle.rl_tokens.specs.declared.kind.Kind.{Kind}
 use Rattle.rl_tokens.specs.Texts.{IsTail}
-use Rattle.rl_tokens.specs.Quoted.{opener, raw_opener}
-use Rattle.rl_grammar.specs.Shapes.{IsQuotedSplit}
 
 -- what is behind by characters is behind by bytes
 pub behind_chars : (bs ys front : List ℕ) → IsUtf8 bs → IsUtf8 ys → chars bs ≡ front ++ chars ys → IsTail bs ys
@@ -93,25 +90,3 @@ pub strip_prefix_none : (n bs : List ℕ) (r : Option (Bor (List ℕ))) → Stri
 strip_prefix_none n bs (Some x) m u w = tt
 strip_prefix_none n bs None m u w = λ x e.
     m (encode_utf8_all x) (sym (encodes-chars bs w) ∙ ap encode_utf8_all e ∙ encodes-append (chars n) x ∙ ap (λ z. z ++ encode_utf8_all x) (encodes-chars n u))
-
--- the suffix of a cut text is a rest of it
-pub quoted_behind : (kind : Kind) (text body suffix : List ℕ) → IsQuotedSplit kind text body suffix → IsUtf8 suffix → IsTail text suffix
-quoted_behind kind text body suffix c u =
-    elim c [
-      | inl a ↦
-          let e : (opener kind ++ (body ++ (34 ∷ []))) ++ suffix ≡ opener kind ++ (body ++ (34 ∷ suffix)) = simp append_assoc in
-          record { front = opener kind ++ (body ++ (34 ∷ [])); text_is = a.text_is ∙ sym e; is_text = u }
-      | inr b ↦ elim b [
-        | inl a ↦
-            let hs = replicate a.hashes 35 in
-            let e : (raw_opener kind ++ (hs ++ (34 ∷ (body ++ (34 ∷ hs))))) ++ suffix ≡ raw_opener kind ++ (hs ++ (34 ∷ (body ++ (34 ∷ (hs ++ suffix))))) = simp append_assoc in
-            record { front = raw_opener kind ++ (hs ++ (34 ∷ (body ++ (34 ∷ hs)))); text_is = a.text_is ∙ sym e; is_text = u }
-        | inr a ↦
-            let e : (opener kind ++ (body ++ (39 ∷ []))) ++ suffix ≡ opener kind ++ (body ++ (39 ∷ suffix)) = simp append_assoc in
-            record { front = opener kind ++ (body ++ (39 ∷ [])); text_is = a.text_is ∙ sym e; is_text = u }
-      ]
-    ]
-
--- nothing is behind the whole text
-pub end_behind : (text rest : List ℕ) → IsUtf8 rest → rest ≡ [] → IsTail text rest
-end_behind text rest u e = record { front = text; text_is = sym (append-nil text) ∙ ap (λ z. text ++ z) (sym e); is_text = u }

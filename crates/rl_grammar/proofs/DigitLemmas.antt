@@ -1,5 +1,5 @@
 -- The digits of numbers.
-use Rattle.std.proofs.Common.{◌≡◌, ℕ, suc, zero, ◌<◌, ◌≤◌, ◌^◌, List, [], ◌∷◌, ◌++◌, Option, Some, None, sym, ap, ◌∙◌, arith}
+use Rattle.std.proofs.Common.{◌≡◌, ℕ, suc, zero, ◌<◌, ◌≤◌, ◌^◌, List, [], ◌∷◌, ◌++◌, sym, ap, ◌∙◌, arith}
 use Rattle.std.proofs.lemmas.Str.{chars_from_encodes, encodes-append, chars-IsAscii}
 use Rattle.std.proofs.lemmas.List.{map-append}
 use Rattle.std.proofs.lemmas.List.Elements.{filter-append}
@@ -9,9 +9,9 @@ use Rattle.std.specs.Str.{chars, IsUtf8, IsAscii}
 use Rattle.std.specs.Prelude.{encode_utf8_all}
 use Rattle.rl_tokens.specs.Numbers.{Sign, NoSign, Minus, sign_text, IntReads, limit, float_digits, FloatReads}
 use Rattle.rl_tokens.specs.Reading.{Contents, Digits, ReadsInt}
-use Rattle.rl_grammar.specs.Mirrors.NumberAt.{sign_at, int_at, capped_int}
+use Rattle.rl_grammar.specs.Mirrors.NumberAt.{sign_at, int_at}
 use Rattle.rl_grammar.specs.NumberShapes.{HasMagnitude}
-use Rattle.rl_grammar.proofs.IntegerLemmas.{int_past, sign_of_some, is_past, no_int}
+use Rattle.rl_grammar.proofs.IntegerLemmas.{int_past, sign_of_some}
 use Rattle.rl_tokens.proofs.OneNumber.{int_once, float_once}
 
 -- Floats.
@@ -59,20 +59,6 @@ int_contents t y m bs w e c x r =
     let s = int_sign t w.sign m y w.reads ∙ o.0 in
     let f : bs ≡ sign_text r.sign ++ decimal r.magnitude = e ∙ ap (λ k. sign_text k ++ decimal m) s ∙ ap (λ k. sign_text r.sign ++ decimal k) o.1 in
     r.contents_is ∙ ap Digits (sym (ap chars f ∙ ascii_signed r.sign r.magnitude r.within))
-
--- an integer is read
-pub within_some : (t x : List ℕ) (m : ℕ) → HasMagnitude t m x → None ≡ capped_int (int_at t) → ⊥
-within_some t x m w h = no_int t h w.sign m x w.reads
-
--- and its magnitude too, within the limit
-pub within_fits : (t x y : List ℕ) (m : ℕ) (k : Option ℕ) → HasMagnitude t m x → Some (k, y) ≡ capped_int (int_at t) → k ≡ None → ⊥
-within_fits t x y m k w h e =
-    let p = is_past t y (sym (ap (λ o. Some (o, y)) e) ∙ h) in
-    let o = int_once t x p.suffix w.sign p.sign m p.magnitude w.reads p.reads in
-    let small = w.within in
-    let large = p.past in
-    let same = o.1 in
-    omega arith
 
 -- what is written in three steps
 pub signed_bytes : (a b d : List ℕ) (s : Sign) (m : ℕ) → a ≡ [] → b ≡ a ++ sign_text s → d ≡ b ++ decimal m → d ≡ sign_text s ++ decimal m

@@ -2,7 +2,6 @@
 use Rattle.std.proofs.Common.{◌≡◌, ℕ, Bool, true, false, not, ◌&&◌, ◌||◌, ◌==◌, cond, List, [], ◌∷◌, ◌++◌, Some, None, refl, sym, ap, subst, ◌∙◌, arith, append_assoc}
 use Rattle.std.proofs.lemmas.Bool.{and_parts, and_from, both_ways, eqb-true, false_from_ne_true, not-true}
 use Rattle.std.proofs.lemmas.Bool.Decides.{nat_tests}
-use Rattle.std.proofs.lemmas.List.{append_cancel_right}
 use Rattle.std.specs.Char.{is_ascii_digit}
 use Rattle.std.specs.List.{list_all, list_any}
 use Rattle.unicode_ident.specs.Ident.{is_xid_continue}
@@ -364,14 +363,3 @@ float_sound t x h =
 -- where none is read, none stands
 pub no_float : (t : List ℕ) → None ≡ float_at t → (n x : List ℕ) → FloatReads t n x → ⊥
 no_float t h n x r = let f = float_past t n x r in absurd (cc)
-
--- the numeral is what stands before the suffix
-pub float_cut : (t x y : List ℕ) → Some y ≡ float_at t → x ≡ y → (n : List ℕ) × FloatReads t n x
-float_cut t x y h e = float_sound t x (sym h ∙ ap Some (sym e))
-
--- the numeral is what stands before the suffix
-pub float_body : (t b x y : List ℕ) → Some y ≡ float_at t → t ≡ b ++ y → x ≡ y → FloatReads t b x
-float_body t b x y h cut e =
-    let f = float_sound t y (sym h) in
-    let n : f.0 ≡ b = append_cancel_right f.0 b y (sym f.1.text_is ∙ cut) in
-    subst (λ (z : List ℕ). FloatReads t b z) (sym e) (subst (λ (k : List ℕ). FloatReads t k y) n f.1)

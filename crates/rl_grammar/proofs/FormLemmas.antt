@@ -269,12 +269,6 @@ formed_once t k l v w x y r s =
     let same = parts_once r.form k r.inside v a.body x w b.body y a.parts b.parts in
     (b.kind_is, same.0, same.1)
 
--- a text has one reading as a quoted literal at most
-pub quoted_once : (t : List ℕ) (k l : Kind) (v w : Contents) (x y : List ℕ) → ReadsQuoted t k v x → ReadsQuoted t l w y → (k ≡ l) × (v ≡ w) × (x ≡ y)
-quoted_once t k l v w x y p q =
-    let same = formed_once t k l p.value q.value x y (formed t k v x p) (formed t l w y q) in
-    (same.0, p.contents_is ∙ ap (λ z. quoted_contents z p.value) same.0 ∙ ap (quoted_contents l) same.1 ∙ sym q.contents_is, same.2)
-
 -- ---- the steps of the reader
 
 pub no_front : (t : List ℕ) → opener_at t ≡ None → HasNoQuoted t
@@ -302,19 +296,6 @@ not_both Char s h = absurd (cc)
 not_both Int s h = absurd (cc)
 not_both Float s h = absurd (cc)
 not_both BoolKind s h = absurd (cc)
-
-single_here : (form : QuotedForm) (kind : Kind) (a v b x : List ℕ) → is_single kind ≡ true → PartsAre form kind (form_opener form kind ++ a) v b x → Single kind (opener kind ++ a) v x
-single_here CookedForm kind a v b x h p = absurd (not_both kind p.0.string h)
-single_here RawForm kind a v b x h p = absurd (not_both kind p.0.string h)
-single_here SingleForm kind a v b x h p = p.0
-
--- the unit behind the opener is the one of any reading
-pub single_unit : (t : List ℕ) (form : QuotedForm) (k : Kind) (inside : List ℕ) (kind : Kind) (v x : List ℕ) → is_single kind ≡ true → opener_at t ≡ found_opener form k inside → Formed t kind v x → (unit_at kind inside ≡ Some (v, 39 ∷ x)) × Single kind (opener kind ++ inside) v x
-single_unit t form k inside kind v x h front r =
-    let a = at_front t form k inside kind v x front r in
-    let parts = subst (λ l. PartsAre form l (form_opener form l ++ inside) v a.body x) a.kind_is a.parts in
-    let s = single_here form kind inside v a.body x h parts in
-    (single_at kind inside v x s, s)
 
 -- no reading of a string is of the single form
 pub string_parts : (form : QuotedForm) (kind : Kind) (t v b x : List ℕ) → is_string kind ≡ true → (form ≡ RawForm → ⊥) → PartsAre form kind t v b x → PartsAre CookedForm kind t v b x

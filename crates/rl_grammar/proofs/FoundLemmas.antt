@@ -1,9 +1,9 @@
 -- What reading a text finds, from its parts.
-use Rattle.std.proofs.Common.{◌≡◌, ℕ, ◌-◌, ◌⊎◌, inl, inr, Bool, true, false, List, [], ◌∷◌, ◌++◌, length, take, drop, refl, sym, ap, ap₂, subst, ◌∙◌, arith, length-append}
-use Rattle.std.proofs.Math.Seq.{take-append_seam}
+use Rattle.std.proofs.Common.{◌≡◌, ℕ, ◌-◌, ◌⊎◌, inl, inr, Bool, true, false, List, [], ◌∷◌, ◌++◌, length, take, drop, refl, sym, ap, ap₂, subst, ◌∙◌, arith}
+use Rattle.std.proofs.Math.Seq.{drop-append_seam, take-append_seam}
 use Rattle.std.proofs.lemmas.Bool.{both_ways}
 use Rattle.std.proofs.lemmas.List.{append_cancel_right}
-use Rattle.std.proofs.lemmas.Str.{IsCharBoundary-start, IsCharBoundary-end, IsUtf8-between, IsUtf8-drop, chars-append, chars-nil}
+use Rattle.std.proofs.lemmas.Str.{IsCharBoundary-at_seam, IsCharBoundary-start, IsCharBoundary-end, IsUtf8-between, IsUtf8-drop, chars-append, chars-nil}
 use Rattle.std.specs.Str.{chars, IsUtf8, IsCharBoundary}
 use Rattle.rl_tokens.specs.declared.kind.Kind.{Kind}
 use Rattle.rl_tokens.specs.declared.kind.Kind.TheVariants.{Str, ByteStr, CStr, Byte, Char, Int, Float, Bool as BoolKind}
@@ -11,10 +11,9 @@ use Rattle.rl_tokens.specs.Texts.{IsTail}
 use Rattle.rl_tokens.specs.Numbers.{FloatReads, float_digits}
 use Rattle.rl_tokens.specs.Quoted.{is_string, is_single}
 use Rattle.rl_tokens.specs.Reading.{Digits, Truth, HasNoInteger, HasSuffix, ReadsAs, ReadsQuoted, quoted_contents, truth_text}
-use Rattle.rl_tokens.proofs.BehindLemmas.{cut_boundary, cut_drop}
 use Rattle.rl_grammar.specs.declared.quoted.QuotedForm.{QuotedForm}
 use Rattle.rl_grammar.specs.declared.quoted.QuotedForm.TheVariants.{Cooked as CookedForm, Raw as RawForm, Single as SingleForm}
-use Rattle.rl_grammar.specs.declared.bodies.Body.{Body}
+use Rattle.rl_grammar.specs.declared.found.Body.{Body}
 use Rattle.rl_grammar.specs.declared.found.Found.{Found}
 use Rattle.rl_grammar.specs.Forms.{PartsAre, is_plain_body}
 use Rattle.rl_grammar.specs.Founds.{IsFound, IsFoundFloat, IsQuotedAt, StandsIn, body_in, suffix_in, is_quoted}
@@ -105,20 +104,20 @@ record Cut (t b x : List ℕ) (n : ℕ) : Type 0 where
   pub boundary : IsCharBoundary t n
   pub chars_cut : chars t ≡ chars b ++ chars x
 
-number_cut : (t b x : List ℕ) (n : ℕ) → IsUtf8 b → IsTail t x → t ≡ b ++ x → n ≡ length t - length x → Cut t b x n
+number_cut : (t b x : List ℕ) (n : ℕ) → IsUtf8 b → IsTail t x → t ≡ b ++ x → n ≡ length b → Cut t b x n
 number_cut t b x n ub behind e n_is =
-    let long : n - 0 ≡ length b = omega (arith, n_is, ap length e, length-append b x) in
+    let long : n - 0 ≡ length b = omega (arith, n_is) in
     record {
       body_is = ap (λ k. take k (drop 0 t)) long ∙ ap (λ z. take (length b) (drop 0 z)) e ∙ take-append_seam b x;
-      suffix_is = ap (λ k. drop k t) n_is ∙ cut_drop t x behind;
-      boundary = subst (λ k. IsCharBoundary t k) (sym n_is) (cut_boundary t x behind);
+      suffix_is = ap (λ k. drop k t) n_is ∙ ap (drop (length b)) e ∙ drop-append_seam b x;
+      boundary = subst (λ k. IsCharBoundary t k) (sym n_is) (IsCharBoundary-at_seam t b x e behind.is_text);
       chars_cut = ap chars e ∙ chars-append b x ub;
     }
 
 number_stands : (t : List ℕ) (n : ℕ) (plain : Bool) → IsUtf8 t → IsCharBoundary t n → StandsIn t (NumberBody n plain)
 number_stands t n plain u h = record { ordered = omega arith; begins = IsCharBoundary-start t u; ends = h; behind = h }
 
-integer_body : (t b x : List ℕ) (m n : ℕ) (plain : Bool) → IsUtf8 t → IsUtf8 b → HasMagnitude (chars t) m (chars x) → IsTail t x → t ≡ b ++ x → n ≡ length t - length x → plain ≡ is_plain_integer (chars b) → IsFound t (Of Int (NumberBody n plain) m)
+integer_body : (t b x : List ℕ) (m n : ℕ) (plain : Bool) → IsUtf8 t → IsUtf8 b → HasMagnitude (chars t) m (chars x) → IsTail t x → t ≡ b ++ x → n ≡ length b → plain ≡ is_plain_integer (chars b) → IsFound t (Of Int (NumberBody n plain) m)
 integer_body t b x m n plain ut ub within behind e n_is plain_is =
     let c = number_cut t b x n ub behind e n_is in
     let at : HasMagnitude (chars t) m (chars (drop n t)) = subst (λ z. HasMagnitude (chars t) m (chars z)) (sym c.suffix_is) within in
@@ -133,10 +132,10 @@ integer_body t b x m n plain ut ub within behind e n_is plain_is =
       no_magnitude = λ h. absurd (h refl);
     }
 
-pub integer_found : (t b x : List ℕ) (m n : ℕ) (plain : Bool) (body : Body) → body ≡ NumberBody n plain → IsUtf8 t → IsUtf8 b → HasMagnitude (chars t) m (chars x) → IsTail t x → t ≡ b ++ x → n ≡ length t - length x → plain ≡ is_plain_integer (chars b) → IsFound t (Of Int body m)
+pub integer_found : (t b x : List ℕ) (m n : ℕ) (plain : Bool) (body : Body) → body ≡ NumberBody n plain → IsUtf8 t → IsUtf8 b → HasMagnitude (chars t) m (chars x) → IsTail t x → t ≡ b ++ x → n ≡ length b → plain ≡ is_plain_integer (chars b) → IsFound t (Of Int body m)
 integer_found t b x m n plain body body_is ut ub within behind e n_is plain_is = subst (λ z. IsFound t (Of Int z m)) (sym body_is) (integer_body t b x m n plain ut ub within behind e n_is plain_is)
 
-float_body : (t b x numeral : List ℕ) (n : ℕ) (plain : Bool) → IsUtf8 t → IsUtf8 b → FloatReads (chars t) numeral (chars x) → IsTail t x → t ≡ b ++ x → n ≡ length t - length x → plain ≡ is_plain_float (chars b) → IsFoundFloat t (Of Float (NumberBody n plain) 0)
+float_body : (t b x numeral : List ℕ) (n : ℕ) (plain : Bool) → IsUtf8 t → IsUtf8 b → FloatReads (chars t) numeral (chars x) → IsTail t x → t ≡ b ++ x → n ≡ length b → plain ≡ is_plain_float (chars b) → IsFoundFloat t (Of Float (NumberBody n plain) 0)
 float_body t b x numeral n plain ut ub reads behind e n_is plain_is =
     let c = number_cut t b x n ub behind e n_is in
     let same : numeral ≡ chars b = append_cancel_right numeral (chars b) (chars x) (sym reads.text_is ∙ c.chars_cut) in
@@ -150,7 +149,7 @@ float_body t b x numeral n plain ut ub reads behind e n_is plain_is =
       no_magnitude = refl;
     }
 
-pub float_found : (t b x numeral : List ℕ) (n : ℕ) (plain : Bool) (body : Body) → body ≡ NumberBody n plain → IsUtf8 t → IsUtf8 b → FloatReads (chars t) numeral (chars x) → IsTail t x → t ≡ b ++ x → n ≡ length t - length x → plain ≡ is_plain_float (chars b) → IsFoundFloat t (Of Float body 0)
+pub float_found : (t b x numeral : List ℕ) (n : ℕ) (plain : Bool) (body : Body) → body ≡ NumberBody n plain → IsUtf8 t → IsUtf8 b → FloatReads (chars t) numeral (chars x) → IsTail t x → t ≡ b ++ x → n ≡ length b → plain ≡ is_plain_float (chars b) → IsFoundFloat t (Of Float body 0)
 float_found t b x numeral n plain body body_is ut ub reads behind e n_is plain_is = subst (λ z. IsFoundFloat t (Of Float z 0)) (sym body_is) (float_body t b x numeral n plain ut ub reads behind e n_is plain_is)
 
 -- a float is found where no integer stands

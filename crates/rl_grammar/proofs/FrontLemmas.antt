@@ -1,6 +1,6 @@
 -- At most one literal begins the trees.
 use Rattle.std.proofs.Common.{◌≡◌, ℕ, ◌<◌, Bool, List, [], ◌∷◌, length, refl, sym, ap, ◌∙◌, subst, arith}
-use Rattle.std.specs.Prelude.{◌↔◌, IsTrue, IsFalse, Option, Some, None, IfSome, IfNone}
+use Rattle.std.specs.Prelude.{◌↔◌, IsTrue, Option, Some, None, IfSome, IfNone}
 use Rattle.std.specs.Option.{is_some}
 use Rattle.std.specs.Str.{chars}
 use Rattle.rl_tokens.specs.declared.kind.Kind.{Kind}
@@ -9,27 +9,14 @@ use Rattle.rl_tokens.specs.Puncts.{Mark}
 use Rattle.rl_tokens.specs.Texts.{SpannedText}
 use Rattle.rl_tokens.specs.Trees.{Tree, GroupTree, IdentTree, PunctTree, LiteralTree}
 use Rattle.rl_tokens.specs.Reading.{Truth, ReadsAs, truth_text}
-use Rattle.rl_tokens.specs.Buffers.{begins_literal, IsRest}
-use Rattle.rl_grammar.specs.Fronts.{IsFront, IsFrontOf, HasNoFront, HasFrontOf, joined}
+use Rattle.rl_tokens.specs.Buffers.{IsRest}
+use Rattle.rl_grammar.specs.Fronts.{IsFront, IsFrontOf, HasFrontOf, joined}
 use Rattle.rl_tokens.proofs.OneReading.{one_reading}
 use Rattle.rl_tokens.proofs.TreeRests.{rest_one, rest_two}
 use Rattle.rl_grammar.specs.declared.found.Found.{Found}
 use Rattle.rl_grammar.specs.Founds.{IsFound}
-use Rattle.rl_grammar.specs.FrontTokens.{HasNoWord, HasNoMinus}
 use Rattle.rl_grammar.proofs.FoundLemmas.{found_reads}
 use Rattle.rl_grammar.proofs.MinusLemmas.{no_truth}
-
--- a literal token, a word or a minus and its number: else nothing begins the trees
-pub no_front : (trees : List Tree) → IsFalse (begins_literal trees) → HasNoWord trees → HasNoMinus trees → HasNoFront trees
-no_front [] l w m token rest h = h
-no_front (LiteralTree x ∷ trees) l w m token rest h = absurd (cc)
-no_front (IdentTree x ∷ trees) l w m token rest (b, e, r) = w x trees refl b
-no_front (PunctTree p ∷ []) l w m token rest h = h
-no_front (PunctTree p ∷ LiteralTree x ∷ trees) l w m token rest (c, r, e, s) = m p x trees refl c r
-no_front (PunctTree p ∷ IdentTree x ∷ trees) l w m token rest h = h
-no_front (PunctTree p ∷ PunctTree x ∷ trees) l w m token rest h = h
-no_front (PunctTree p ∷ GroupTree d inside at ∷ trees) l w m token rest h = h
-no_front (GroupTree d inside at ∷ trees) l w m token rest h = h
 
 -- at most one literal begins the trees
 pub one_front : (trees : List Tree) (a b : SpannedText) (r s : List Tree) → IsFront trees a r → IsFront trees b s → (a ≡ b) × (r ≡ s)

@@ -9,10 +9,9 @@ use Rattle.rl_tokens.specs.Texts.{first_passes, begins, xid_ok, is_row_part}
 use Rattle.rl_tokens.specs.Quoted.{place_value, without_underscores}
 use Rattle.rl_tokens.specs.Numbers.{Base, Binary, Octal, Decimal, Hexadecimal, radix, prefix, Sign, NoSign, Minus, sign_text, begins_base, IsBehindPrefix, IsSuffix, is_exponent_letter, IsExponentSuffix, AllowsSuffix, IntReads, limit}
 use Rattle.std.specs.Fmt.{decimal}
-use Rattle.rl_tokens.specs.Reading.{Contents, Digits, HasNoInteger, ReadsInt}
+use Rattle.rl_tokens.specs.Reading.{Contents, Digits, HasNoInteger, ReadsInt, IsPast}
 use Rattle.rl_tokens.proofs.Basics.{any_same, digit_is_ten}
 use Rattle.rl_tokens.proofs.StrictNumbers.{no_part}
-use Rattle.rl_tokens.specs.Reading.{IsPast}
 use Rattle.rl_grammar.specs.NumberShapes.{HasMagnitude}
 use Rattle.rl_grammar.specs.Mirrors.NumberAt.{run, after_run, has_value, is_suffix, digit_row_at, has_digit_at, magnitude_at, after_digits, is_exponent_suffix, after_minus, sign_at, radix_at, may_begin, may_end, based_at, with_sign, int_at, capped, capped_int}
 use Rattle.rl_grammar.proofs.DigitRowLemmas.{within_or_past, capped_within, capped_past}
@@ -313,7 +312,3 @@ is_within_at t x y m k h e q = is_within t y m (ap (λ z. Some (Some m, z)) q �
 pub within_reads : (t x : List ℕ) (m : ℕ) → HasMagnitude t m x → (v : Contents) × ReadsInt t v x
 within_reads t x m w =
     (Digits (sign_text w.sign ++ decimal m), record { sign = w.sign; magnitude = m; reads = w.reads; within = w.within; contents_is = refl })
-
--- and a literal of that kind is an integer within the limit
-pub reads_within : (t x : List ℕ) (v : Contents) (r : ReadsInt t v x) → HasMagnitude t r.magnitude x
-reads_within t x v r = record { sign = r.sign; reads = r.reads; within = r.within }

@@ -37,3 +37,4 @@ pub mod SingleBodies
 pub mod FoundLemmas
 pub mod MinusFoundLemmas
 pub mod NumberFoundLemmas
+pub mod FoundContents

@@ -1,7 +1,6 @@
 -- A number that was found, behind a minus.
-use Rattle.std.proofs.Common.{◌≡◌, ℕ, zero, suc, ◌+◌, ◌-◌, ◌≤◌, ◌⊎◌, inl, inr, Bool, true, false, cond, ◌==◌, List, [], ◌∷◌, ◌++◌, length, take, drop, refl, sym, ap, subst, ◌∙◌, arith, length-drop}
-use Rattle.std.proofs.lemmas.List.{take-append-drop}
-use Rattle.std.proofs.lemmas.List.{append_cancel_right}
+use Rattle.std.proofs.Common.{◌≡◌, ℕ, zero, suc, ◌+◌, ◌≤◌, ◌⊎◌, inl, inr, Bool, true, false, cond, ◌==◌, List, [], ◌∷◌, ◌++◌, length, take, drop, refl, sym, ap, subst, ◌∙◌, arith, length-take-le}
+use Rattle.std.proofs.lemmas.List.{take-append-drop, append_cancel_right}
 use Rattle.std.proofs.lemmas.Str.{IsUtf8-take, IsUtf8-drop, IsUtf8-append, IsUtf8-from_ascii, chars-append}
 use Rattle.std.specs.Str.{chars, IsUtf8, IsAscii}
 use Rattle.rl_tokens.specs.declared.kind.Kind.TheVariants.{Int, Float}
@@ -58,7 +57,7 @@ record Behind (t : List ℕ) (n : ℕ) : Type 0 where
   pub front : IsUtf8 (45 ∷ take n t)
   pub behind : IsTail (45 ∷ t) (drop n t)
   pub cut : 45 ∷ t ≡ (45 ∷ take n t) ++ drop n t
-  pub place : n + 1 ≡ length (45 ∷ t) - length (drop n t)
+  pub place : n + 1 ≡ length (45 ∷ take n t)
 
 minus_ascii : IsAscii (45 ∷ [])
 minus_ascii zero = omega arith
@@ -73,7 +72,7 @@ behind t n within u h = record {
   front = IsUtf8-append (45 ∷ []) (take n t) minus h.front;
   behind = record { front = 45 ∷ take n t; text_is = ap (λ z. 45 ∷ z) h.whole; is_text = h.back };
   cut = ap (λ z. 45 ∷ z) h.whole;
-  place = omega (arith, length-drop n t);
+  place = omega (arith, length-take-le n t within);
 }
 
 pub negative_integer : (t : List ℕ) (f : Found) → IsUtf8 t → sign_at (chars t) ≡ NoSign → IsFound t f → f.kind ≡ Int → IsFound (45 ∷ t) (Moved f)

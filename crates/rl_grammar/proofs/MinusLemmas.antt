@@ -1,15 +1,15 @@
 -- Literals behind a minus.
-use Rattle.std.proofs.Common.{◌≡◌, ℕ, inl, inr, Bool, true, false, cond, ◌==◌, ◌&&◌, List, [], ◌∷◌, ◌++◌, Some, None, refl, sym, ap, subst, ◌∙◌}
+use Rattle.std.proofs.Common.{◌≡◌, ℕ, ◌⊎◌, inl, inr, Bool, true, false, cond, ◌==◌, ◌&&◌, List, [], ◌∷◌, ◌++◌, Some, None, refl, sym, ap, subst, ◌∙◌}
 use Rattle.std.specs.Char.{is_ascii_digit}
 use Rattle.rl_tokens.specs.declared.kind.Kind.{Kind}
 use Rattle.rl_tokens.specs.declared.kind.Kind.TheVariants.{Str, ByteStr, CStr, Byte, Char, Int, Float, Bool as BoolKind}
 use Rattle.rl_tokens.specs.Texts.{first_passes}
 use Rattle.rl_tokens.specs.Quoted.{is_string, is_single, opener, raw_opener}
 use Rattle.rl_tokens.specs.Numbers.{Sign, NoSign, Minus, IntReads}
-use Rattle.rl_tokens.specs.Reading.{Contents, ReadsQuoted, ReadsBool, truth_text}
+use Rattle.rl_tokens.specs.Reading.{Contents, HasNoReading, HasSuffix, ReadsQuoted, ReadsBool, truth_text}
 use Rattle.rl_grammar.specs.Mirrors.NumberAt.{sign_at, float_at, after_exponent, after_fraction, after_digits, is_suffix}
-use Rattle.rl_grammar.specs.NumberShapes.{ReadsNumber, HasNoNumber}
-use Rattle.rl_tokens.specs.Reading.{HasNoReading}
+use Rattle.rl_grammar.specs.NumberShapes.{HasNoNumber}
+use Rattle.rl_grammar.specs.WholeShapes.{IsSplit}
 use Rattle.std.proofs.lemmas.Bool.{both_ways, eqb-true}
 use Rattle.rl_tokens.proofs.StrictNumbers.{behind_minus, minus_int}
 use Rattle.rl_grammar.proofs.FloatLemmas.{float_past, float_sound}
@@ -71,17 +71,22 @@ negative_twice t e Char c x r = r
 negative_twice t e BoolKind c x r = r
 
 -- a number stays one behind a minus
-pub negative_reads : (t x : List ℕ) (k : Kind) → sign_at t ≡ NoSign → (c : Contents) × ReadsNumber t k c x → (c : Contents) × ReadsNumber (45 ∷ t) k c x
-negative_reads t x Int e (c, r) = (_, record { sign = Minus; magnitude = r.magnitude; reads = int_on t r.sign r.magnitude x e r.reads; within = r.within; contents_is = refl })
-negative_reads t x Float e (c, r) =
+negative_int : (t x : List ℕ) → sign_at t ≡ NoSign → HasSuffix Int t x → HasSuffix Int (45 ∷ t) x
+negative_int t x e (c, r) = (_, record { sign = Minus; magnitude = r.magnitude; reads = int_on t r.sign r.magnitude x e r.reads; within = r.within; contents_is = refl })
+
+negative_float : (t x : List ℕ) → sign_at t ≡ NoSign → HasSuffix Float t x → HasSuffix Float (45 ∷ t) x
+negative_float t x e (c, r) =
     let f = float_sound (45 ∷ t) x (float_at-minus t e ∙ float_past t r.numeral x r.reads) in
     (_, record { numeral = f.0; reads = f.1; no_integer = λ s m y q. r.no_integer NoSign m y ((behind_minus t y s m q).0); contents_is = refl })
-negative_reads t x Str e (c, r) = absurd r
-negative_reads t x ByteStr e (c, r) = absurd r
-negative_reads t x CStr e (c, r) = absurd r
-negative_reads t x Byte e (c, r) = absurd r
-negative_reads t x Char e (c, r) = absurd r
-negative_reads t x BoolKind e (c, r) = absurd r
+
+pub negative_reads : (t x : List ℕ) (k : Kind) → sign_at t ≡ NoSign → (k ≡ Int) ⊎ (k ≡ Float) → HasSuffix k t x → HasSuffix k (45 ∷ t) x
+negative_reads t x k e (inl n) h = subst (λ (j : Kind). HasSuffix j (45 ∷ t) x) (sym n) (negative_int t x e (subst (λ (j : Kind). HasSuffix j t x) n h))
+negative_reads t x k e (inr n) h = subst (λ (j : Kind). HasSuffix j (45 ∷ t) x) (sym n) (negative_float t x e (subst (λ (j : Kind). HasSuffix j t x) n h))
+
+-- and is cut into body and suffix
+pub number_split : (t b x : List ℕ) (k : Kind) → (k ≡ Int) ⊎ (k ≡ Float) → IsSplit k t b x → t ≡ b ++ x
+number_split t b x k (inl e) s = subst (λ (j : Kind). IsSplit j t b x) e s
+number_split t b x k (inr e) s = subst (λ (j : Kind). IsSplit j t b x) e s
 
 -- No quoted form and no truth value begins with a minus.
 abbrev is_minus : ℕ → Bool

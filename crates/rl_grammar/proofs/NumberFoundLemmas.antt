@@ -7,16 +7,14 @@ use Rattle.std.specs.Fmt.{decimal}
 use Rattle.rl_tokens.specs.declared.kind.Kind.{Kind}
 use Rattle.rl_tokens.specs.declared.kind.Kind.TheVariants.{Str, ByteStr, CStr, Byte, Char, Int, Float, Bool as BoolKind}
 use Rattle.rl_tokens.specs.Numbers.{FloatReads, float_digits, sign_text}
-use Rattle.rl_tokens.specs.Reading.{HasSuffix, HasNoInteger}
+use Rattle.rl_tokens.specs.Reading.{HasSuffix, HasNoFloat}
 use Rattle.rl_grammar.specs.declared.found.Found.{Found}
 use Rattle.rl_grammar.specs.Founds.{IsFound, IsFoundFloat, IsFoundNumber, StandsIn, body_in, suffix_in}
 use Rattle.rl_grammar.specs.Mirrors.NumberAt.{sign_at}
 use Rattle.rl_grammar.specs.NumberShapes.{AreDigits, IsSplitInteger, IsNumber}
-use Rattle.rl_tokens.specs.Reading.{HasNoFloat, IsPast}
 use Rattle.rl_grammar.specs.WholeShapes.{IsSplit, IsPlain}
 use Rattle.rl_grammar.proofs.DigitLemmas.{int_contents, same_numeral}
 use Rattle.rl_grammar.proofs.FoundLemmas.{body_text, Whether}
-use Rattle.rl_grammar.proofs.NumberLemmas.{past_number}
 use Rattle.rl_grammar.proofs.PlainNumberLemmas.{no_plain_float, plain_integer, plain_float, plain_contents, plain_numeral}
 
 -- ---- which number was found
@@ -91,14 +89,8 @@ numeral_digits t bs f u n h is =
 
 -- ---- what isn't found is no number
 
-int_number : (k : Kind) (t : List ℕ) → IsNumber k t → k ≡ Int → IsNumber Int t
+pub int_number : (k : Kind) (t : List ℕ) → IsNumber k t → k ≡ Int → IsNumber Int t
 int_number k t h e = subst (λ j. IsNumber j t) e h
-
-pub not_past : (k : Kind) (t : List ℕ) → IsNumber k t → k ≡ Int → IsPast t → ⊥
-not_past k t h e p = let (v, x, r) = int_number k t h e in past_number t p Int v x r
-
-pub not_none : (k : Kind) (t : List ℕ) → IsNumber k t → k ≡ Int → HasNoInteger t → ⊥
-not_none k t h e n = let (v, x, r) = int_number k t h e in n r.sign r.magnitude x r.reads
 
 pub is_float : (k : Kind) (t : List ℕ) → IsNumber k t → k ≢ Int → IsNumber Float t
 is_float Int t h n = absurd (n refl)
@@ -110,15 +102,5 @@ is_float Byte t h n = absurd h
 is_float Char t h n = absurd h
 is_float BoolKind t h n = absurd h
 
-pub past_not_plain : (t : List ℕ) → IsPast (chars t) → Whether false Int t
-past_not_plain t p = ((λ e. absurd (cc)), (λ q. absurd (past_number (chars t) p Int _ q.suffix q.reads)))
-
-pub none_not_plain : (t : List ℕ) → HasNoInteger (chars t) → Whether false Int t
-none_not_plain t n = ((λ e. absurd (cc)), (λ q. absurd (n q.reads.sign q.reads.magnitude q.suffix q.reads.reads)))
-
 pub float_not_plain : (t : List ℕ) → HasNoFloat (chars t) → Whether false Float t
 float_not_plain t n = no_plain_float t n
-
--- what is found tells
-pub plain_of : (k : Kind) (t : List ℕ) (f : Found) → f.kind ≡ k → IsFound t f → Whether f.body.plain k t
-plain_of k t f e h = subst (λ j. Whether f.body.plain j t) e h.plain

@@ -7,7 +7,7 @@ pub none_then : {A P Q : Type 0} (r : Option A) → (P → Q) → IfNone r P →
 none_then None f p = f p
 none_then (Some a) f p = tt
 
--- from two facts on what is given
-pub some_both : {A : Type 0} (P R Q : A → Type 0) (r : Option A) → ((a : A) → P a → R a → Q a) → IfSome r P → IfSome r R → IfSome r Q
-some_both P R Q None f p q = tt
-some_both P R Q (Some a) f p q = f a p q
+-- what holds anyway
+pub if_some : {A P : Type 0} (r : Option A) → P → IfSome r (λ a. P)
+if_some None p = tt
+if_some (Some a) p = p

@@ -18,11 +18,10 @@ use Rattle.rl_tokens.specs.declared.kind.Kind.{Kind}
 use Rattle.rl_tokens.specs.declared.kind.Kind.TheVariants.{Float, Int}
 use Rattle.rl_tokens.specs.Numbers.{Base, Binary, Octal, Decimal, Hexadecimal, radix, is_digit, prefix, IsBehindPrefix, Sign, sign_text, IntReads, limit, FloatReads, float_digits}
 use Rattle.rl_tokens.specs.Quoted.{place_value, without_underscores}
-use Rattle.rl_tokens.specs.Reading.{Digits}
+use Rattle.rl_tokens.specs.Reading.{Digits, HasNoFloat}
 use Rattle.rl_tokens.specs.Texts.{first_passes}
 use Rattle.rl_grammar.specs.Mirrors.NumberAt.{after_minus}
-use Rattle.rl_grammar.specs.NumberShapes.{AreDigits, IsSplitInteger, IsNumber}
-use Rattle.rl_tokens.specs.Reading.{HasNoFloat}
+use Rattle.rl_grammar.specs.NumberShapes.{AreDigits, IsSplitInteger}
 use Rattle.rl_grammar.specs.WholeShapes.{IsPlain}
 use Rattle.rl_grammar.specs.Mirrors.PlainAt.{is_plain_digits, is_plain_integer, is_kept, is_plain_float}
 use Rattle.rl_grammar.proofs.IntegerLemmas.{minus_past}
@@ -335,9 +334,6 @@ Whether b k t = (IsTrue b → IsPlain k t) × (IsPlain k t → IsTrue b)
 
 pub whether_integer : (t b : List ℕ) (m : ℕ) (r : Bool) → IsUtf8 t → IsUtf8 b → IsSplitInteger (chars t) m (chars b) → r ≡ is_plain_integer (chars b) → Whether r Int t
 whether_integer t b m r ut ub w h = ((λ p. integer_plain t b m ut ub w (sym h ∙ p)), (λ q. h ∙ plain_integer t b m ut ub w q))
-
-pub no_plain_integer : (t : List ℕ) → (IsNumber Int (chars t) → ⊥) → Whether false Int t
-no_plain_integer t n = ((λ p. absurd (cc)), (λ q. absurd (n (Digits (chars q.body), q.suffix, q.reads))))
 
 pub whether_float : (t b x : List ℕ) (r : Bool) → IsUtf8 t → IsUtf8 b → FloatReads (chars t) (chars b) x → r ≡ is_plain_float (chars b) → Whether r Float t
 whether_float t b x r ut ub f h = ((λ p. float_plain t b x ut ub f (sym h ∙ p)), (λ q. h ∙ plain_float t b x f q))

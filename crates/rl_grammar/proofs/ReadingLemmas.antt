@@ -2,7 +2,7 @@
 use Rattle.std.proofs.Common.{◌≡◌, ◌≢◌, ℕ, ◌<◌, ◌≤◌, ◌⊎◌, inl, inr, Bool, true, false, ◌||◌, ◌==◌, cond, List, [], ◌∷◌, ◌++◌, None, refl, sym, ap, ◌∙◌, arith}
 use Rattle.std.proofs.lemmas.Bool.{both_ways, or_parts}
 use Rattle.std.proofs.lemmas.Bool.Decides.{nat_tests}
-use Rattle.std.proofs.lemmas.Str.{chars-nil, encodes-chars}
+use Rattle.std.proofs.lemmas.Str.{encodes-chars}
 use Rattle.std.specs.Prelude.{encode_utf8_all}
 use Rattle.std.specs.Char.{is_ascii_digit}
 use Rattle.std.specs.Str.{chars, IsUtf8}
@@ -10,13 +10,11 @@ use Rattle.rl_tokens.proofs.Basics.{apart}
 use Rattle.rl_tokens.proofs.CommentBytes.{cases128, encode_is_high, low_front, not_equal}
 use Rattle.rl_tokens.specs.Texts.{first_passes}
 use Rattle.rl_tokens.specs.declared.kind.Kind.TheVariants.{Str, ByteStr, CStr, Byte, Char, Int, Float, Bool as BoolKind}
-use Rattle.rl_tokens.specs.Reading.{Contents, Truth, ReadsBool, truth_text}
+use Rattle.rl_tokens.specs.Reading.{truth_text, HasNoReading, HasNoTruth}
 use Rattle.rl_grammar.specs.NumberShapes.{HasNoNumber}
-use Rattle.rl_tokens.specs.Reading.{HasNoReading}
 use Rattle.rl_grammar.specs.Mirrors.NumberAt.{after_minus}
 use Rattle.rl_grammar.specs.Mirrors.OpenerAt.{opener_at}
 use Rattle.rl_grammar.specs.Shapes.{HasNoQuoted}
-use Rattle.rl_tokens.specs.Reading.{HasNoTruth}
 use Rattle.rl_grammar.specs.WholeShapes.{is_number_front}
 use Rattle.rl_grammar.proofs.FloatLemmas.{no_float}
 use Rattle.rl_grammar.proofs.FormLemmas.{no_front}
@@ -48,10 +46,6 @@ truth_bytes t b u e = sym (encodes-chars t u) ∙ ap encode_utf8_all e ∙ word_
 pub no_word : (t : List ℕ) → IsUtf8 t → t ≢ truth_text true → t ≢ truth_text false → (b : Bool) → chars t ≢ truth_text b
 no_word t u h k true e = h (truth_bytes t true u e)
 no_word t u h k false e = k (truth_bytes t false u e)
-
--- a word is a truth value, with an empty suffix
-pub word_reads : (t : List ℕ) (b : Bool) (x : List ℕ) → t ≡ truth_text b → x ≡ [] → (v : Contents) × ReadsBool t v (chars x)
-word_reads t b x e k = (Truth b, record { truth = b; text_is = e; suffix_is = ap chars k ∙ chars-nil; contents_is = refl })
 
 -- a text that is no form's is no literal
 pub no_reading : (t : List ℕ) → HasNoQuoted t → HasNoNumber t → HasNoTruth t → HasNoReading t

@@ -1,5 +1,5 @@
 -- Rows of digits, told by the bytes of a text.
-use Rattle.std.proofs.Common.{◌≡◌, ◌≢◌, ℕ, ◌<◌, ◌≤◌, ◌+◌, ◌⊎◌, inl, inr, Bool, true, false, not, ◌&&◌, ◌||◌, ◌==◌, cond, List, [], ◌∷◌, ◌++◌, length, get_or, drop, Option, refl, sym, ap, ◌∙◌, arith, nat_lt}
+use Rattle.std.proofs.Common.{◌≡◌, ◌≢◌, ℕ, ◌<◌, ◌≤◌, ◌+◌, ◌⊎◌, inl, inr, Bool, true, false, ◌&&◌, ◌==◌, cond, List, [], ◌∷◌, ◌++◌, length, get_or, drop, Option, refl, sym, ap, ◌∙◌, arith, nat_lt}
 use Rattle.std.proofs.lemmas.Bool.Decides.{nat_tests}
 use Rattle.std.proofs.lemmas.List.{drop_more}
 use Rattle.std.proofs.lemmas.Str.{encodes-chars, chars_from_encodes, IsCharBoundary-after_ascii}
@@ -7,10 +7,9 @@ use Rattle.std.proofs.Math.ListN.{drop_of_length-le}
 use Rattle.std.specs.Char.{digit_value, is_ascii_digit}
 use Rattle.std.specs.Str.{chars, encode_utf8_all, IsUtf8, IsCharBoundary}
 use Rattle.rl_tokens.proofs.Basics.{digit_is_ten}
-use Rattle.rl_tokens.proofs.CommentBytes.{AllHigh, cases128, encode_is_high, low_front, not_equal}
+use Rattle.rl_tokens.proofs.CommentBytes.{cases128, encode_is_high, low_front}
 use Rattle.std.specs.List.{list_all}
 use Rattle.rl_grammar.specs.Mirrors.NumberAt.{append_digit, row_from}
-use Rattle.rl_grammar.specs.Mirrors.PlainAt.{is_kept}
 use Rattle.rl_grammar.proofs.DigitRowLemmas.{row_digit}
 
 -- ---- one turn of the loop
@@ -146,30 +145,6 @@ all_low test past (c ∷ cs) = go (cases128 c) (all_low test past cs)
         ∙ ap (λ z. z && list_all test (bs ++ encode_utf8_all cs)) (past b above)
         ∙ sym (ap (λ z. z && list_all test cs) (past c high))
 
--- so does one that passes there
-high_pass : (test : ℕ → Bool) → ((c : ℕ) → 128 ≤ c → test c ≡ true) → (bs xs : List ℕ) → AllHigh bs → list_all test (bs ++ xs) ≡ list_all test xs
-high_pass test past [] xs h = refl
-high_pass test past (b ∷ bs) xs (h, more) = ap (λ z. z && list_all test (bs ++ xs)) (past b h) ∙ high_pass test past bs xs more
-
-pub all_high : (test : ℕ → Bool) → ((c : ℕ) → 128 ≤ c → test c ≡ true) → (cs : List ℕ) → list_all test (encode_utf8_all cs) ≡ list_all test cs
-all_high test past [] = refl
-all_high test past (c ∷ cs) = go (cases128 c) (all_high test past cs)
-  where
-    go : (c < 128) ⊎ (128 ≤ c) → list_all test (encode_utf8_all cs) ≡ list_all test cs → list_all test (encode_utf8_all (c ∷ cs)) ≡ list_all test (c ∷ cs)
-    go (inl low) more = ap (list_all test) (low_front c cs low) ∙ ap (λ b. test c && b) more
-    go (inr high) more =
-        let (b, bs, is, above, each) = encode_is_high c high in
-        ap (list_all test) (ap (λ x. x ++ encode_utf8_all cs) is)
-        ∙ high_pass test past (b ∷ bs) (encode_utf8_all cs) (above, each)
-        ∙ more
-        ∙ sym (ap (λ z. z && list_all test cs) (past c high))
-
 -- for the bytes of a text
 pub digits_same : (t : List ℕ) → IsUtf8 t → list_all is_ascii_digit t ≡ list_all is_ascii_digit (chars t)
 digits_same t is = ap (list_all is_ascii_digit) (sym (encodes-chars t is)) ∙ all_low is_ascii_digit (λ c h. grind (arith, nat_tests)) (chars t)
-
-kept_past : (c : ℕ) → 128 ≤ c → is_kept c ≡ true
-kept_past c h = ap (λ z. not ((z || c == 43) || c == 69)) (not_equal c 95 (omega arith) h) ∙ ap (λ z. not (z || c == 69)) (not_equal c 43 (omega arith) h) ∙ ap not (not_equal c 69 (omega arith) h)
-
-pub kept_same : (t : List ℕ) → IsUtf8 t → list_all is_kept t ≡ list_all is_kept (chars t)
-kept_same t is = ap (list_all is_kept) (sym (encodes-chars t is)) ∙ all_high is_kept kept_past (chars t)

@@ -1,8 +1,8 @@
 -- The bytes of a quoted literal are cut as its characters are.
-use Rattle.std.proofs.Common.{◌≡◌, ℕ, zero, suc, List, ◌∷◌, ◌++◌, replicate, refl, sym, ap, ◌∙◌, inl, inr}
-use Rattle.std.specs.Prelude.{encode_utf8, encode_utf8_all}
-use Rattle.std.specs.Str.{chars, IsUtf8}
-use Rattle.std.proofs.lemmas.Str.{encodes-chars, encodes-append}
+use Rattle.std.proofs.Common.{◌≡◌, ℕ, zero, suc, List, [], ◌∷◌, ◌++◌, replicate, refl, sym, ap, ◌∙◌, inl, inr, arith}
+use Rattle.std.specs.Prelude.{encode_utf8_all}
+use Rattle.std.specs.Str.{chars, IsAscii, IsUtf8}
+use Rattle.std.proofs.lemmas.Str.{encodes-chars, encodes-append, IsUtf8-append, IsUtf8-from_ascii}
 use Rattle.rl_tokens.specs.declared.kind.Kind.{Kind}
 use Rattle.rl_tokens.specs.declared.kind.Kind.TheVariants.{Str, ByteStr, CStr, Byte, Char, Int, Float, Bool as BoolKind}
 use Rattle.rl_tokens.specs.Quoted.{opener, raw_opener}
@@ -85,3 +85,12 @@ parts_cut SingleForm kind t v b x ut ub ux p =
     let text : chars t ≡ opener kind ++ (chars b ++ (39 ∷ chars x)) = s.text_is ∙ ap (λ z. opener kind ++ (z ++ (39 ∷ chars x))) (sym p.1) in
     let closer = quote_bytes (chars x) ∙ ap (λ z. 39 ∷ z) (encodes-chars x ux) in
     inr (inr (record { single = s.single; text_is = whole t _ _ ut text (front_bytes (opener kind) _ _ (opener_bytes kind) (text_bytes b _ _ ub closer)) }))
+
+-- a text that is cut at a quote
+quote_ascii : IsAscii (34 ∷ [])
+quote_ascii zero = omega arith
+quote_ascii (suc i) = omega arith
+
+pub closed_cut : (t b x : List ℕ) → IsUtf8 t → IsUtf8 b → IsUtf8 x → chars t ≡ chars b ++ (34 ∷ chars x) → (t ≡ b ++ (34 ∷ x)) × IsUtf8 (34 ∷ x)
+closed_cut t b x ut ub ux e =
+    (whole t _ _ ut e (text_bytes b _ _ ub (double_bytes (chars x) ∙ ap (λ z. 34 ∷ z) (encodes-chars x ux))), IsUtf8-append (34 ∷ []) x (IsUtf8-from_ascii (34 ∷ []) quote_ascii) ux)

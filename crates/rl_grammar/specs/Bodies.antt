@@ -1,12 +1,13 @@
 -- The bodies of string literals, and where they stand.
-use Rattle.std.specs.Prelude.{◌≡◌, ℕ, Bool, List, IsTrue}
-use Rattle.std.specs.Str.{chars}
+use Rattle.std.specs.Prelude.{◌≡◌, ◌++◌, ℕ, Bool, List, IsTrue}
+use Rattle.std.specs.Str.{chars, IsUtf8}
 use Rattle.rl_tokens.specs.declared.kind.Kind.{Kind}
-use Rattle.rl_tokens.specs.declared.kind.Kind.TheVariants.{Str, Char}
+use Rattle.rl_tokens.specs.Texts.{IsTail}
 use Rattle.rl_tokens.specs.Quoted.{is_string}
+use Rattle.rl_grammar.specs.declared.quoted.Inside.{Inside}
 use Rattle.rl_grammar.specs.declared.quoted.QuotedForm.{QuotedForm}
 use Rattle.rl_grammar.specs.declared.quoted.QuotedForm.TheVariants.{Single as SingleForm}
-use Rattle.rl_grammar.specs.Forms.{PartsAre, is_plain_body}
+use Rattle.rl_grammar.specs.Forms.{PartsAre, form_opener, is_plain_body}
 
 -- The body, in bytes, stands between the quotes of the string, and it is told whether the body
 -- stands for itself.
@@ -24,8 +25,16 @@ pub record HasSingleBody (kind : Kind) (text body : List ℕ) : Type 0 where
   pub suffix : List ℕ
   pub parts : PartsAre SingleForm kind text value (chars body) suffix
 
--- how many letters stand before a quoted literal of the kind
-abbrev pub letters : Kind → ℕ
-letters Str = 0
-letters Char = 0
-letters _ = 1
+-- What follows the opener of a quoted literal of the form, as it is read: the text from the
+-- body on, the body and the suffix, and whether the body stands for itself.
+pub record IsInside (form : QuotedForm) (kind : Kind) (text : List ℕ) (inside : Inside)
+    : Type 0 where
+  pub value : List ℕ
+  pub parts :
+      PartsAre form kind (form_opener form kind ++ chars text) value (chars inside.body.now)
+      (chars inside.suffix.now)
+  pub plain_is : inside.plain ≡ is_plain_body form kind (chars inside.body.now)
+  pub opened : IsTail text inside.opened.now
+  pub closer : List ℕ
+  pub cut : inside.opened.now ≡ inside.body.now ++ closer
+  pub is_text : IsUtf8 closer

@@ -10,9 +10,6 @@ use Rattle.rl_grammar.specs.declared.units.Piece.TheVariants.{Character, Byte, N
 abbrev pub ContentsAre : Kind → List ℕ → Contents → Type 0
 ContentsAre kind text contents = (v : Contents) (x : List ℕ) → Reads text kind v x → v ≡ contents
 
-abbrev pub ReadsAsQuoted : Kind → List ℕ → Type 0
-ReadsAsQuoted kind text = (v : Contents) × (x : List ℕ) × ReadsQuoted text kind v x
-
 -- the bytes of a piece, those of a character in UTF-8
 abbrev pub piece_bytes : Piece → List ℕ
 piece_bytes (Character c) = encode_utf8 c

@@ -5,10 +5,9 @@ use Prim.Native.Char.{code}
 use Rattle.rl_tokens.specs.declared.kind.Kind.TheVariants.{Bool as BoolKind}
 use Rattle.rl_tokens.specs.Puncts.{Mark}
 use Rattle.rl_tokens.specs.Trees.{Tree, IdentTree, PunctTree, LiteralTree}
-use Rattle.rl_tokens.specs.Reading.{ReadsAs}
+use Rattle.rl_tokens.specs.Reading.{ReadsAs, HasReading}
 use Rattle.rl_tokens.specs.Texts.{SpannedText}
 use Rattle.rl_grammar.specs.Fronts.{joined}
-use Rattle.rl_tokens.specs.Reading.{HasReading}
 use Rattle.rl_grammar.specs.declared.front.Front.{Front}
 use Rattle.rl_grammar.specs.declared.front.Front.TheVariants.{Literal as LiteralFront, Word, Negative}
 

@@ -1,32 +1,20 @@
 //! What quoted literals stand for.
 
-ghost use Rattle.std.specs.Prelude.{◌≡◌, ◌⊎◌, ◌↔◌, ◌++◌, [], ◌∷◌, ℕ, List, IsTrue, OnOk, IfOk, IfErr, string_bytes};
+ghost use Rattle.std.specs.Prelude.{◌≡◌, ◌⊎◌, ◌++◌, [], ◌∷◌, ℕ, List, IsTrue, OnOk, IfOk, IfErr, string_bytes};
 ghost use Rattle.std.specs.Str.{chars, IsUtf8};
-ghost use Rattle.rl_tokens.specs.declared.kind.Kind.{Kind as AnyKind};
 ghost use Rattle.rl_tokens.specs.Errors.{memory_at, nowhere};
-ghost use Rattle.rl_tokens.specs.Quoted.{is_single, is_string};
-ghost use Rattle.rl_tokens.specs.Reading.{Contents, Characters, Bytes, quoted_contents, ReadsQuoted, ReadsAs, HasContents};
+ghost use Rattle.rl_tokens.specs.Quoted.{is_string};
+ghost use Rattle.rl_tokens.specs.Reading.{Characters, Bytes, quoted_contents, ReadsQuoted, ReadsAs, HasContents};
 ghost use Rattle.rl_grammar.specs.Mirrors.UnitAt.{piece_value};
 ghost use Rattle.rl_grammar.specs.Bodies.{HasBody, HasSingleBody};
-ghost use Rattle.rl_grammar.specs.Decoded.{ContentsAre, ReadsAsQuoted, piece_bytes, HoldsBytes};
+ghost use Rattle.rl_grammar.specs.Decoded.{ContentsAre, piece_bytes, HoldsBytes};
 ghost use Rattle.rl_grammar.specs.Mirrors.Decodes.{Decodes};
-ghost use Rattle.rl_grammar.specs.WholeShapes.{IsPlain};
 
-use crate::quoted::{front, quoted_parts};
+use crate::found::found_in;
 use crate::runs::split_plain;
 use crate::units::{Piece, unit};
-use rl_tokens::{Error, ErrorKind, Kind, Span};
+use rl_tokens::{Error, Kind};
 use std::alloc::{AllocError, Allocator};
-
-/// Running out of memory, told of no place in a text.
-pub(crate) fn out_of_memory<A: Allocator>() -> Error<A>
-    ensures { result ≡ memory_at nowhere }
-{
-    Error {
-        span: Span::call_site(),
-        kind: ErrorKind::Memory,
-    }
-}
 
 /// Puts the few bytes at the end, each by itself.
 #[inline(always)]
@@ -98,29 +86,6 @@ fn body_bytes<A: Allocator>(
     }
 }
 
-/// The bytes that a string literal holds, those of its characters in UTF-8.
-fn held_bytes<A: Allocator>(alloc: A, text: &str) -> Result<Vec<u8, A>, AllocError>
-    requires { (kind : AnyKind) × IsTrue (is_string kind) × ReadsAsQuoted kind (chars text.now) }
-    ensures { IfOk result (λ bytes. HoldsBytes (chars text.now) bytes.items) }
-{
-    let Some((_, parts, plain)) = quoted_parts(text) else {
-        unreachable!()
-    };
-    body_bytes(alloc, parts.kind, parts.body, plain)
-}
-
-/// Whether the text reads as a string of the kind whose contents are its body, byte for byte: it is raw, or has neither
-/// an escape nor a line end of two characters.
-pub(crate) fn string_is_plain(kind: Kind, text: &str) -> bool
-    requires { IsTrue (is_string kind) }
-    ensures { IsTrue result ↔ IsPlain kind text.now }
-{
-    match quoted_parts(text) {
-        Some((_, parts, plain)) => plain && parts.kind == kind,
-        None => false,
-    }
-}
-
 /// The text that a string literal stands for. The text has to read as `Str`, as its shape tells.
 ///
 /// # Errors
@@ -141,11 +106,8 @@ pub fn str_of<A: Allocator>(alloc: A, text: &str) -> Result<String<A>, Error<A>>
         (λ s. HasContents Kind.Str (chars text.now) (Characters (chars (string_bytes s)))) }
     ensures memory { IfErr result (λ e. e ≡ memory_at nowhere) }
 {
-    match held_bytes(alloc, text) {
-        // SAFETY: the bytes are those of characters in UTF-8, which is proved.
-        Ok(bytes) => Ok(unsafe { String::from_utf8_unchecked(bytes) }),
-        Err(_) => Err(out_of_memory()),
-    }
+    let found = found_in(text);
+    str_of_body(alloc, found.parts(text).body, found.body.plain)
 }
 
 /// The bytes that a byte string or a C string literal stands for, with no zero added at the end. The text has to
@@ -165,10 +127,8 @@ pub fn bytes_of<A: Allocator>(alloc: A, text: &str) -> Result<Vec<u8, A>, Error<
         ⊎ HasContents Kind.CStr (chars text.now) (Bytes bytes.items)) }
     ensures memory { IfErr result (λ e. e ≡ memory_at nowhere) }
 {
-    match held_bytes(alloc, text) {
-        Ok(bytes) => Ok(bytes),
-        Err(_) => Err(out_of_memory()),
-    }
+    let found = found_in(text);
+    bytes_of_body(alloc, found.kind, found.parts(text).body, found.body.plain)
 }
 
 /// The text that a string literal with this body stands for, as [`find`](crate::find) tells it.
@@ -183,11 +143,9 @@ pub fn str_of_body<A: Allocator>(alloc: A, body: &str, plain: bool) -> Result<St
         → HasContents Kind.Str (chars text) (Characters (chars (string_bytes s)))) }
     ensures memory { IfErr result (λ e. e ≡ memory_at nowhere) }
 {
-    match body_bytes(alloc, Kind::Str, body, plain) {
-        // SAFETY: the bytes are those of characters in UTF-8, which is proved.
-        Ok(value) => Ok(unsafe { String::from_utf8_unchecked(value) }),
-        Err(_) => Err(out_of_memory()),
-    }
+    let value = body_bytes(alloc, Kind::Str, body, plain)?;
+    // SAFETY: the bytes are those of characters in UTF-8, which is proved.
+    Ok(unsafe { String::from_utf8_unchecked(value) })
 }
 
 /// The bytes that a byte string or a C string literal with this body stands for, with no zero added at the end.
@@ -207,30 +165,10 @@ pub fn bytes_of_body<A: Allocator>(
         → HasContents kind text (Bytes bytes.items)) }
     ensures memory { IfErr result (λ e. e ≡ memory_at nowhere) }
 {
-    match body_bytes(alloc, kind, body, plain) {
-        Ok(value) => Ok(value),
-        Err(_) => Err(out_of_memory()),
-    }
+    Ok(body_bytes(alloc, kind, body, plain)?)
 }
 
-/// What the one unit of a character or a byte literal stands for.
-fn single_piece(kind: Kind, text: &str) -> Piece
-    requires single { IsTrue (is_single kind) }
-    requires reads { ReadsAsQuoted kind (chars text.now) }
-    ensures value { (v : Contents) (x : List ℕ) → ReadsQuoted (chars text.now) kind v x
-        → v ≡ quoted_contents kind (piece_value kind result) }
-    ensures one { (n : ℕ) × (piece_value kind result ≡ n ∷ []) }
-{
-    let Some((_, _, inside)) = front(text) else {
-        unreachable!()
-    };
-    let Some((piece, _)) = unit(kind, inside) else {
-        unreachable!()
-    };
-    piece
-}
-
-/// The same of the unit that stands between the quotes.
+/// What the one unit between the quotes of a character or a byte literal stands for.
 fn body_piece(kind: Kind, body: &str) -> Piece
     requires { (text : List ℕ) × HasSingleBody kind text body.now }
     ensures reads { (text : List ℕ) → HasSingleBody kind text body.now
@@ -273,7 +211,7 @@ pub fn byte_of(text: &str) -> u8
     ensures value { ContentsAre Kind.Byte (chars text.now) (Bytes (result ∷ [])) }
     ensures reads { HasContents Kind.Byte (chars text.now) (Bytes (result ∷ [])) }
 {
-    piece_byte(single_piece(Kind::Byte, text))
+    byte_of_body(found_in(text).parts(text).body)
 }
 
 /// The character that a character literal stands for. The text has to read as `Char`, as its shape tells.
@@ -282,7 +220,7 @@ pub fn char_of(text: &str) -> char
     ensures value { ContentsAre Kind.Char (chars text.now) (Characters (result ∷ [])) }
     ensures reads { HasContents Kind.Char (chars text.now) (Characters (result ∷ [])) }
 {
-    piece_char(single_piece(Kind::Char, text))
+    char_of_body(found_in(text).parts(text).body)
 }
 
 /// The byte that a byte literal stands for, of what stands between its quotes.

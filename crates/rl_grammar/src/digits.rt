@@ -12,8 +12,7 @@ ghost use Rattle.rl_grammar.specs.Founds.{IsFoundNumber};
 ghost use Rattle.rl_grammar.specs.NumberShapes.{AreDigits, IsNumber};
 ghost use Rattle.rl_grammar.specs.Mirrors.PlainAt.{is_plain_digits, is_plain_float, is_plain_integer};
 
-use crate::contents::out_of_memory;
-use crate::found::{Found, find_float, find_int};
+use crate::found::{Found, find_float, found_in};
 use crate::rows::{after_minus, is_negative};
 use crate::strict::words::is_some_text;
 use rl_tokens::scan::{Marks, next_mark};
@@ -60,19 +59,11 @@ fn found_number(kind: Kind, text: &str) -> Found
     ensures kind { result.kind ≡ kind }
 {
     match kind {
-        Kind::Int => {
-            let Some(integer) = find_int(text) else {
-                unreachable!()
-            };
-            let Some(found) = integer else { unreachable!() };
-            found
-        }
-        _ => {
-            let Some(found) = find_float(text) else {
-                unreachable!()
-            };
-            found
-        }
+        Kind::Int => found_in(text),
+        _ => match find_float(text) {
+            Some(found) => found,
+            None => unreachable!(),
+        },
     }
 }
 
@@ -92,10 +83,7 @@ pub fn digits_of_found<A: Allocator>(
         (λ s. AreDigits found.kind (chars text.now) (chars (string_bytes s))) }
     ensures memory { IfErr result (λ e. e ≡ memory_at nowhere) }
 {
-    match found_digits(alloc, text, found) {
-        Ok(digits) => Ok(digits),
-        Err(_) => Err(out_of_memory()),
-    }
+    Ok(found_digits(alloc, text, found)?)
 }
 
 /// The digits of a number that was found in the text.

@@ -9,11 +9,10 @@ ghost use Rattle.rl_grammar.specs.Mirrors.NumberAt.{after_exponent, after_fracti
 ghost use Rattle.rl_tokens.specs.Reading.{HasNoFloat};
 ghost use Rattle.rl_grammar.specs.NumberShapes.{HasOneFloat};
 
-use crate::classes::{Class, skip};
+use crate::cuts::{Class, skip};
+use crate::found::{Parts, find_float};
 use crate::integers::Head;
-use crate::parts::Parts;
-use crate::rows::{after_minus, begins_digit, cut_suffix, is_suffix, skip_row};
-use rl_tokens::Kind;
+use crate::rows::{after_minus, begins_digit, is_suffix, skip_row};
 use rl_tokens::text::split_char;
 
 /// What follows a dot and its digits, or the text.
@@ -115,6 +114,6 @@ pub fn float_shape(text: &str) -> Option<Parts<'_>>
     ensures behind { IfSome result (λ p. IsTail text.now p.suffix.now) }
     ensures once { HasOneFloat (chars text.now) }
 {
-    let suffix = float_suffix(text)?;
-    Some(cut_suffix(Kind::Float, text, suffix))
+    let found = find_float(text)?;
+    Some(found.parts(text))
 }

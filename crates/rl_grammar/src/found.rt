@@ -1,26 +1,53 @@
 //! What reading a text finds, told by places in it: nothing has to be read again to take a literal apart.
 
-ghost use Rattle.std.specs.Prelude.{◌≡◌, ◌≢◌, ◌∷◌, ◌⊎◌, ◌-◌, ◌≤◌, ℕ, List, IfNone, IfSome, length};
+ghost use Rattle.std.specs.Prelude.{◌≡◌, ◌∷◌, ◌⊎◌, ℕ, List, IfNone, IfSome};
 ghost use Rattle.std.specs.Str.{chars};
+ghost use Rattle.rl_tokens.specs.declared.kind.Kind.{Kind as AnyKind};
 ghost use Rattle.rl_tokens.specs.declared.kind.Kind.TheVariants.{Float, Int};
-ghost use Rattle.rl_tokens.specs.Numbers.{FloatReads};
-ghost use Rattle.rl_tokens.specs.Reading.{HasNoInteger};
+ghost use Rattle.rl_tokens.specs.Numbers.{FloatReads, NoSign};
+ghost use Rattle.rl_tokens.specs.Reading.{HasNoFloat, HasNoInteger, HasNoReading, HasNoTruth, HasReading, IsPast, ReadsAs};
 ghost use Rattle.rl_tokens.specs.Texts.{IsTail};
 ghost use Rattle.rl_grammar.specs.Founds.{IsFound, IsFoundFloat};
-ghost use Rattle.rl_tokens.specs.Reading.{HasNoFloat, HasNoReading, IsPast};
+ghost use Rattle.rl_grammar.specs.Mirrors.NumberAt.{sign_at};
 ghost use Rattle.rl_grammar.specs.NumberShapes.{HasNoNumber, HasOneFloat, HasOneInteger, HasMagnitude};
-ghost use Rattle.rl_grammar.specs.Shapes.{HasNoQuoted};
-ghost use Rattle.rl_tokens.specs.Reading.{HasNoTruth};
 
-use crate::bodies::{Body, quoted_body};
+use crate::cuts::before;
 use crate::digits::{is_plain_float, is_plain_integer};
 use crate::floats::float_suffix;
 use crate::integers::read_integer;
 use crate::numbers::{Number, read_number};
-use crate::quoted::quoted_parts;
+use crate::quoted::find_quoted;
 use crate::reading::{begins_number, truth_of};
-use crate::rows::{cut_suffix, is_negative};
+use crate::rows::is_negative;
 use rl_tokens::Kind;
+
+/// Where the parts of a literal stand in its text, in bytes, and whether the body is what it stands for, byte for byte.
+#[derive(Clone, Copy)]
+pub struct Body {
+    /// The place of the body's first byte.
+    pub at: usize,
+    /// The place behind the body's last byte.
+    pub end: usize,
+    /// The place of the suffix's first byte; the text's end where there is none.
+    pub suffix_at: usize,
+    /// Whether the body is what the literal stands for, byte for byte.
+    pub plain: bool,
+}
+
+impl Body {
+    /// A body that is all up to this place, where the suffix begins.
+    #[inline(always)]
+    pub(crate) fn up_to(end: usize, plain: bool) -> Body
+        ensures { result ≡ record { at = 0; end = end; suffix_at = end; plain = plain } }
+    {
+        Body {
+            at: 0,
+            end,
+            suffix_at: end,
+            plain,
+        }
+    }
+}
 
 /// What reading a text finds: the kind of the literal and where its parts stand.
 ///
@@ -37,22 +64,49 @@ pub struct Found {
     pub magnitude: u128,
 }
 
-/// Where the parts of a number stand that ends with this suffix.
-fn number_body(text: &str, suffix: &str, plain: bool) -> Body
-    requires { length suffix.now ≤ length text.now }
-    ensures { result ≡ record {
-      at = 0;
-      end = length text.now - length suffix.now;
-      suffix_at = length text.now - length suffix.now;
-      plain = plain;
-    } }
-{
-    let end = text.len() - suffix.len();
-    Body {
-        at: 0,
-        end,
-        suffix_at: end,
-        plain,
+/// A literal's kind and the two parts of its text that vary, as slices of it.
+///
+/// Of a quoted literal the body is what stands between its quotes. Of a number it is all that
+/// stands before the suffix, sign and prefix included, and of a truth value the whole text.
+///
+/// # Example
+///
+/// ```
+/// Some(parts) => {
+///     debug_word(&parts.kind, out)?;
+///     out.push_str(parts.body)?;
+///     out.push_str(".")?;
+///     line(parts.suffix, out)
+/// }
+/// ```
+#[derive(Clone, Copy, PartialEq, Eq, Debug)]
+pub struct Parts<'t> {
+    /// What the literal is.
+    pub kind: Kind,
+    /// What stands before the suffix; of a quoted literal, what stands between its quotes.
+    pub body: &'t str,
+    /// What stands behind; empty where there is none.
+    pub suffix: &'t str,
+}
+
+impl Found {
+    ghost use Rattle.rl_grammar.specs.Founds.{StandsIn, body_in, suffix_in};
+
+    /// The literal's parts, as slices of its text.
+    #[inline(always)]
+    #[tactic(auto, using(rl_tokens::proofs::Rests::behind_drop))]
+    pub(crate) fn parts<'t>(&self, text: &'t str) -> Parts<'t>
+        requires { StandsIn text.now self.now.body }
+        ensures kind { result.kind ≡ self.now.kind }
+        ensures body { result.body.now ≡ body_in text.now self.now.body }
+        ensures suffix { result.suffix.now ≡ suffix_in text.now self.now.body }
+        ensures behind { IsTail text.now result.suffix.now }
+    {
+        Parts {
+            kind: self.kind,
+            body: &text[self.body.at..self.body.end],
+            suffix: &text[self.body.suffix_at..],
+        }
     }
 }
 
@@ -64,11 +118,10 @@ fn integer_found<'t>(text: &'t str, suffix: &'t str, magnitude: u128) -> Found
     ensures found { IsFound text.now result }
     ensures kind { result.kind ≡ Int }
 {
-    let parts = cut_suffix(Kind::Int, text, suffix);
-    let plain = is_plain_integer(parts.body);
+    let body = before(text, suffix);
     Found {
         kind: Kind::Int,
-        body: number_body(text, suffix, plain),
+        body: Body::up_to(body.len(), is_plain_integer(body)),
         magnitude,
     }
 }
@@ -80,11 +133,10 @@ fn float_found<'t>(text: &'t str, suffix: &'t str) -> Found
     requires behind { IsTail text.now suffix.now }
     ensures { IsFoundFloat text.now result }
 {
-    let parts = cut_suffix(Kind::Float, text, suffix);
-    let plain = is_plain_float(parts.body);
+    let body = before(text, suffix);
     Found {
         kind: Kind::Float,
-        body: number_body(text, suffix, plain),
+        body: Body::up_to(body.len(), is_plain_float(body)),
         magnitude: 0,
     }
 }
@@ -128,6 +180,20 @@ fn find_number(text: &str) -> Option<Found>
     }
 }
 
+/// What reading the text as the number after a minus finds: one without a sign of its own.
+#[inline(always)]
+pub(crate) fn find_unsigned(text: &str) -> Option<Found>
+    ensures none { IfNone result (HasNoReading (45 ∷ chars text.now)) }
+    ensures found { IfSome result (IsFound text.now) }
+    ensures number { IfSome result (λ f. (f.kind ≡ Int) ⊎ (f.kind ≡ Float)) }
+    ensures unsigned { IfSome result (λ f. sign_at (chars text.now) ≡ NoSign) }
+{
+    if is_negative(text) {
+        return None;
+    }
+    find_number(text)
+}
+
 /// What reading a minus and the text finds; its places count in the text with the minus.
 ///
 /// `Some` exactly where the text with a minus before it reads as a literal; it is then an integer or a float.
@@ -136,34 +202,11 @@ pub fn find_negative(text: &str) -> Option<Found>
     ensures found { IfSome result (IsFound (45 ∷ text.now)) }
     ensures number { IfSome result (λ f. (f.kind ≡ Int) ⊎ (f.kind ≡ Float)) }
 {
-    if is_negative(text) {
-        return None;
-    }
-    let found = find_number(text)?;
-    let end = found.body.suffix_at + 1;
-    let body = Body {
-        at: 0,
-        end,
-        suffix_at: end,
-        plain: found.body.plain,
-    };
+    let found = find_unsigned(text)?;
     Some(Found {
         kind: found.kind,
-        body,
+        body: Body::up_to(found.body.suffix_at + 1, found.body.plain),
         magnitude: found.magnitude,
-    })
-}
-
-/// What reading the text as a quoted literal finds.
-fn find_quoted(text: &str) -> Option<Found>
-    ensures none { IfNone result (HasNoQuoted (chars text.now)) }
-    ensures found { IfSome result (IsFound text.now) }
-{
-    let (_, parts, plain) = quoted_parts(text)?;
-    Some(Found {
-        kind: parts.kind,
-        body: quoted_body(parts.kind, text, parts.body, parts.suffix, plain),
-        magnitude: 0,
     })
 }
 
@@ -173,17 +216,23 @@ fn find_truth(text: &str) -> Option<Found>
     ensures found { IfSome result (IsFound text.now) }
 {
     truth_of(text)?;
-    let body = Body {
-        at: 0,
-        end: text.len(),
-        suffix_at: text.len(),
-        plain: false,
-    };
     Some(Found {
         kind: Kind::Bool,
-        body,
+        body: Body::up_to(text.len(), false),
         magnitude: 0,
     })
+}
+
+/// What reading the text finds, which is a literal.
+pub(crate) fn found_in(text: &str) -> Found
+    requires { HasReading (chars text.now) }
+    ensures found { IsFound text.now result }
+    ensures kind { (kind : AnyKind) → ReadsAs kind (chars text.now) → result.kind ≡ kind }
+{
+    match find(text) {
+        Some(found) => found,
+        None => unreachable!(),
+    }
 }
 
 /// What reading the text finds: `None` where it is no literal, or an integer past 128 bits. No

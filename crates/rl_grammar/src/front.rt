@@ -6,11 +6,10 @@ ghost use Rattle.std.specs.Str.{chars};
 ghost use Rattle.rl_tokens.specs.declared.kind.Kind.TheVariants.{Bool as BoolKind};
 ghost use Rattle.rl_tokens.specs.Errors.{memory_at};
 ghost use Rattle.rl_tokens.specs.Trees.{IdentTree};
-ghost use Rattle.rl_tokens.specs.Reading.{Reads, ReadsAs, Truth};
+ghost use Rattle.rl_tokens.specs.Reading.{Reads, ReadsAs, Truth, HasNoReading};
 ghost use Rattle.rl_tokens.specs.Buffers.{trees_in, scope_of, IsRest};
 ghost use Rattle.rl_grammar.specs.Fronts.{IsFront, HasNoFront, HasFrontOf, RunsAs, joined, joined_span};
 ghost use Rattle.rl_grammar.specs.Founds.{IsFound};
-ghost use Rattle.rl_tokens.specs.Reading.{HasNoReading};
 ghost use Rattle.rl_grammar.specs.FrontTokens.{HasNoWord, HasNoMinus};
 
 use crate::found::{Found, find, find_negative};

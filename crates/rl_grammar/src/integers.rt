@@ -5,16 +5,12 @@ ghost use Rattle.std.specs.Char.{is_ascii_digit};
 ghost use Rattle.std.specs.Str.{chars};
 ghost use Rattle.rl_tokens.specs.declared.kind.Kind.TheVariants.{Int};
 ghost use Rattle.rl_tokens.specs.Texts.{IsTail, first_passes};
-ghost use Rattle.rl_tokens.specs.Reading.{Contents, HasNoInteger, ReadsInt};
+ghost use Rattle.rl_tokens.specs.Reading.{Contents, HasNoInteger, ReadsInt, IsPast};
 ghost use Rattle.rl_grammar.specs.Mirrors.NumberAt.{after_minus, capped_int, ended_at, int_at, IsHead, radix_at};
 ghost use Rattle.rl_grammar.specs.NumberShapes.{HasOneInteger};
-ghost use Rattle.rl_tokens.specs.Reading.{IsPast};
 
-use crate::parts::Parts;
-use crate::rows::{
-    DigitRow, after_minus, begins_digit, cut_suffix, is_exponent_suffix, is_suffix, read_row,
-};
-use rl_tokens::Kind;
+use crate::found::{Parts, find_int};
+use crate::rows::{DigitRow, after_minus, begins_digit, is_exponent_suffix, is_suffix, read_row};
 use rl_tokens::text::split_char;
 
 /// The base, and what follows its prefix.
@@ -132,9 +128,8 @@ pub fn int_shape(text: &str) -> Option<Option<Parts<'_>>>
     ensures behind { IfSome result (λ o. IfSome o (λ p. IsTail text.now p.suffix.now)) }
     ensures once { HasOneInteger (chars text.now) }
 {
-    let integer = read_integer(text)?;
-    match integer.magnitude {
-        Some(_) => Some(Some(cut_suffix(Kind::Int, text, integer.suffix))),
+    match find_int(text)? {
+        Some(found) => Some(Some(found.parts(text))),
         None => Some(None),
     }
 }

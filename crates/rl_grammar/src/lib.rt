@@ -2,8 +2,6 @@
 #![tactic(auto)]
 
 mod ascii;
-mod bodies;
-mod classes;
 mod contents;
 mod cuts;
 mod digits;
@@ -13,7 +11,6 @@ mod front;
 mod integers;
 pub mod laws;
 mod numbers;
-mod parts;
 mod plain;
 mod quoted;
 mod reading;
@@ -23,17 +20,15 @@ pub mod strict;
 mod tally;
 mod units;
 
-pub use crate::bodies::Body;
 pub use crate::contents::{
     byte_of, byte_of_body, bytes_of, bytes_of_body, char_of, char_of_body, str_of, str_of_body,
 };
 pub use crate::digits::{digits_of, digits_of_found};
 pub use crate::floats::float_shape;
-pub use crate::found::{Found, find, find_float, find_int, find_negative};
+pub use crate::found::{Body, Found, Parts, find, find_float, find_int, find_negative};
 pub use crate::front::{Front, Negative, next_is, take_kind};
 pub use crate::integers::int_shape;
 pub use crate::numbers::shape_negative;
-pub use crate::parts::Parts;
 pub use crate::plain::is_plain;
 pub use crate::reading::{shape, truth_of};
 pub use rl_tokens::Kind;

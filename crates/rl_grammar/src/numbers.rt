@@ -3,16 +3,13 @@
 ghost use Rattle.std.specs.Prelude.{◌≡◌, ◌++◌, ◌∷◌, ◌⊎◌, IfNone, IfSome};
 ghost use Rattle.std.specs.Str.{chars};
 ghost use Rattle.rl_tokens.specs.declared.kind.Kind.TheVariants.{Float, Int};
-ghost use Rattle.rl_tokens.specs.Reading.{Contents, Reads};
-ghost use Rattle.rl_grammar.specs.NumberShapes.{HasNoNumber, ReadsNumber};
-ghost use Rattle.rl_tokens.specs.Reading.{HasNoReading};
+ghost use Rattle.rl_tokens.specs.Reading.{Contents, HasNoReading, Reads};
+ghost use Rattle.rl_grammar.specs.NumberShapes.{HasNoNumber};
 ghost use Rattle.rl_grammar.specs.NumbersRead.{IsNumberOf};
 
 use crate::floats::head_suffix;
+use crate::found::{Parts, find_unsigned};
 use crate::integers::{integer_of, read_head};
-use crate::parts::Parts;
-use crate::rows::{cut_suffix, is_negative};
-use rl_tokens::Kind;
 
 /// A number, read: an integer within 128 bits, or a float where no integer of any magnitude stands.
 #[derive(Clone, Copy)]
@@ -34,20 +31,6 @@ pub(crate) fn read_number(text: &str) -> Option<Number<'_>>
     }
 }
 
-/// The parts of the number that the text is.
-#[inline(always)]
-pub(crate) fn number_shape(text: &str) -> Option<Parts<'_>>
-    ensures none { IfNone result (HasNoNumber (chars text.now)) }
-    ensures reads { IfSome result
-        (λ p. (v : Contents) × ReadsNumber (chars text.now) p.kind v (chars p.suffix.now)) }
-    ensures cut { IfSome result (λ p. text.now ≡ p.body.now ++ p.suffix.now) }
-{
-    match read_number(text)? {
-        Number::Integer(_, suffix) => Some(cut_suffix(Kind::Int, text, suffix)),
-        Number::Float(suffix) => Some(cut_suffix(Kind::Float, text, suffix)),
-    }
-}
-
 /// The parts of the number that a minus and the text make.
 ///
 /// `Some` exactly where the text with a minus before it reads as a literal; it is then an integer or a float. Body and
@@ -59,8 +42,6 @@ pub fn shape_negative(text: &str) -> Option<Parts<'_>>
     ensures number { IfSome result (λ p. (p.kind ≡ Int) ⊎ (p.kind ≡ Float)) }
     ensures cut { IfSome result (λ p. text.now ≡ p.body.now ++ p.suffix.now) }
 {
-    if is_negative(text) {
-        return None;
-    }
-    number_shape(text)
+    let found = find_unsigned(text)?;
+    Some(found.parts(text))
 }

@@ -1,11 +1,10 @@
 //! Whether a literal's body is what it stands for.
 
-ghost use Rattle.std.specs.Prelude.{◌↔◌, IsTrue};
-ghost use Rattle.rl_tokens.specs.declared.kind.Kind.TheVariants.{Float, Int};
+ghost use Rattle.std.specs.Prelude.{◌≢◌, ◌↔◌, IsTrue};
+ghost use Rattle.rl_tokens.specs.declared.kind.Kind.TheVariants.{Float};
 ghost use Rattle.rl_grammar.specs.WholeShapes.{IsPlain};
 
-use crate::contents::string_is_plain;
-use crate::found::{find_float, find_int};
+use crate::found::{find, find_float};
 use rl_tokens::Kind;
 
 /// Whether the text reads as the kind, and its body is what it stands for, byte for byte: a
@@ -28,22 +27,18 @@ pub fn is_plain(kind: Kind, text: &str) -> bool
     ensures { IsTrue result ↔ IsPlain kind text.now }
 {
     match kind {
-        Kind::Str | Kind::ByteStr | Kind::CStr => string_is_plain(kind, text),
-        Kind::Int => integer_is_plain(text),
         Kind::Float => float_is_plain(text),
-        Kind::Byte | Kind::Char | Kind::Bool => false,
+        _ => reads_plain(kind, text),
     }
 }
 
-/// Whether the text reads as an integer within 128 bits whose digits are its body, byte for byte.
-fn integer_is_plain(text: &str) -> bool
-    ensures { IsTrue result ↔ IsPlain Int text.now }
+/// Whether the text reads as the kind, and its body is what it stands for, byte for byte.
+fn reads_plain(kind: Kind, text: &str) -> bool
+    requires { kind ≢ Float }
+    ensures { IsTrue result ↔ IsPlain kind text.now }
 {
-    let Some(integer) = find_int(text) else {
-        return false;
-    };
-    match integer {
-        Some(found) => found.body.plain,
+    match find(text) {
+        Some(found) => found.body.plain && found.kind == kind,
         None => false,
     }
 }

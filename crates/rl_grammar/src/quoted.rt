@@ -1,21 +1,21 @@
-//! Whether a text is a quoted literal, and the parts of one.
+//! Whether a text is a quoted literal, and where the parts of one stand.
 
 ghost use Rattle.std.specs.Prelude.{◌≡◌, ◌≢◌, ◌==◌, ◌∷◌, ◌++◌, ℕ, List, None, option_map, IfSome, IfNone, IsTrue};
 ghost use Rattle.std.specs.List.{list_all};
 ghost use Rattle.std.specs.Str.{chars};
 ghost use Rattle.rl_tokens.specs.Texts.{IsTail};
 ghost use Rattle.rl_tokens.specs.Quoted.{is_string, is_single, is_raw};
-ghost use Rattle.rl_tokens.specs.Reading.{Contents, ReadsQuoted};
 ghost use Rattle.rl_grammar.specs.Mirrors.UnitAt.{unit_at};
+ghost use Rattle.rl_grammar.specs.Bodies.{IsInside};
+ghost use Rattle.rl_grammar.specs.Founds.{IsFound};
 ghost use Rattle.rl_grammar.specs.Rows.{BeginsRow};
-ghost use Rattle.rl_grammar.specs.Forms.{has_form, form_opener, PartsAre, HasNoParts, is_plain_body};
+ghost use Rattle.rl_grammar.specs.Forms.{has_form, form_opener, HasNoParts};
 ghost use Rattle.rl_grammar.specs.Mirrors.OpenerAt.{string_opener_at, byte_opener_at, opener_at, after_hashes};
-ghost use Rattle.rl_grammar.specs.Shapes.{IsQuotedSplit, HasNoQuoted};
+ghost use Rattle.rl_grammar.specs.Shapes.{HasNoQuoted};
 
 use crate::ascii::is_ascii;
-use crate::classes::{Class, skip};
-use crate::cuts::{before, behind_prefix, has_nul, split_last_quote};
-use crate::parts::Parts;
+use crate::cuts::{Class, before, behind_prefix, has_nul, skip, split_last_quote};
+use crate::found::{Body, Found};
 use crate::runs::split_plain;
 use crate::units::unit;
 use rl_tokens::Kind;
@@ -27,6 +27,17 @@ pub(crate) enum QuotedForm {
     Cooked,
     Raw,
     Single,
+}
+
+/// What is read of a quoted literal after its opener.
+#[derive(Clone, Copy)]
+pub(crate) struct Inside<'t> {
+    /// The text from the body on.
+    opened: &'t str,
+    body: &'t str,
+    suffix: &'t str,
+    /// Whether the body stands for itself.
+    plain: bool,
 }
 
 /// What a `"` or an `r` at the front tells of a string of the kind.
@@ -92,6 +103,7 @@ pub(crate) fn skip_hashes(text: &str) -> &str
 /// The text in front of a rest that begins with the quote, and the text behind that quote.
 fn cut_at_quote<'t>(quote: char, text: &'t str, rest: &'t str) -> Option<(&'t str, &'t str)>
     requires { IsTail text.now rest.now }
+    ensures cut { IfSome result (λ p. text.now ≡ p.0.now ++ rest.now) }
     ensures before { IfSome result (λ p. chars text.now ≡ chars p.0.now ++ chars rest.now) }
     ensures quote { IfSome result (λ p. chars rest.now ≡ quote ∷ chars p.1.now) }
     ensures none { IfNone result ((x : List ℕ) → chars rest.now ≢ quote ∷ x) }
@@ -104,42 +116,50 @@ fn cut_at_quote<'t>(quote: char, text: &'t str, rest: &'t str) -> Option<(&'t st
     }
 }
 
-/// The body and the suffix of a cooked string, from the text behind its opener, and whether the body stands for itself.
+/// A cooked string, from the text after its opener.
 #[inline(always)]
-fn cooked_parts(kind: Kind, text: &str) -> Option<(&str, &str, bool)>
+fn cooked_inside(kind: Kind, text: &str) -> Option<Inside<'_>>
     requires { IsTrue (is_string kind) }
-    ensures some { IfSome result (λ p. (v : List ℕ)
-        × PartsAre QuotedForm.Cooked kind (form_opener QuotedForm.Cooked kind ++ chars text.now) v
-        (chars p.0.now) (chars p.1.now)) }
-    ensures plain { IfSome result
-        (λ p. p.2 ≡ is_plain_body QuotedForm.Cooked kind (chars p.0.now)) }
+    ensures some { IfSome result (IsInside QuotedForm.Cooked kind text.now) }
     ensures none { IfNone result
         (HasNoParts QuotedForm.Cooked kind (form_opener QuotedForm.Cooked kind ++ chars text.now)) }
 {
     let (_, behind) = split_plain(kind, text);
     if let Some((body, suffix)) = cut_at_quote('"', text, behind) {
-        return Some((body, suffix, true));
+        return Some(Inside {
+            opened: text,
+            body,
+            suffix,
+            plain: true,
+        });
     }
     let (body, suffix) = cut_at_quote('"', text, skip_units(kind, behind))?;
-    Some((body, suffix, false))
+    Some(Inside {
+        opened: text,
+        body,
+        suffix,
+        plain: false,
+    })
 }
 
-/// The body and the suffix of a raw string, from its hashes on.
+/// A raw string, from its hashes on.
 #[inline(never)]
-fn raw_parts(kind: Kind, text: &str) -> Option<(&str, &str, bool)>
+fn raw_inside(kind: Kind, text: &str) -> Option<Inside<'_>>
     requires { IsTrue (is_string kind) }
-    ensures some { IfSome result (λ p. (v : List ℕ)
-        × PartsAre QuotedForm.Raw kind (form_opener QuotedForm.Raw kind ++ chars text.now) v
-        (chars p.0.now) (chars p.1.now)) }
-    ensures plain { IfSome result (λ p. p.2 ≡ is_plain_body QuotedForm.Raw kind (chars p.0.now)) }
+    ensures some { IfSome result (IsInside QuotedForm.Raw kind text.now) }
     ensures none { IfNone result
         (HasNoParts QuotedForm.Raw kind (form_opener QuotedForm.Raw kind ++ chars text.now)) }
 {
-    let (hashes, inside) = cut_at_quote('"', text, skip_hashes(text))?;
-    let (body, after) = split_last_quote(inside)?;
+    let (hashes, opened) = cut_at_quote('"', text, skip_hashes(text))?;
+    let (body, after) = split_last_quote(opened)?;
     let suffix = behind_prefix(hashes, after)?;
     if holds_all(kind, body) {
-        Some((body, suffix, true))
+        Some(Inside {
+            opened,
+            body,
+            suffix,
+            plain: true,
+        })
     } else {
         None
     }
@@ -156,61 +176,55 @@ fn holds_all(kind: Kind, text: &str) -> bool
     }
 }
 
-/// The body and the suffix of a character or a byte, from the text behind its opener.
+/// A character or a byte, from the text after its opener.
 #[inline(never)]
-fn single_parts(kind: Kind, text: &str) -> Option<(&str, &str, bool)>
+fn single_inside(kind: Kind, text: &str) -> Option<Inside<'_>>
     requires { IsTrue (is_single kind) }
-    ensures some { IfSome result (λ p. (v : List ℕ)
-        × PartsAre QuotedForm.Single kind (form_opener QuotedForm.Single kind ++ chars text.now) v
-        (chars p.0.now) (chars p.1.now)) }
-    ensures plain { IfSome result
-        (λ p. p.2 ≡ is_plain_body QuotedForm.Single kind (chars p.0.now)) }
+    ensures some { IfSome result (IsInside QuotedForm.Single kind text.now) }
     ensures none { IfNone result
         (HasNoParts QuotedForm.Single kind (form_opener QuotedForm.Single kind ++ chars text.now)) }
 {
     let (_, rest) = unit(kind, text)?;
     let (body, suffix) = cut_at_quote('\'', text, rest)?;
-    Some((body, suffix, false))
+    Some(Inside {
+        opened: text,
+        body,
+        suffix,
+        plain: false,
+    })
 }
 
-/// The body and the suffix of a literal of the form, from the text behind its opener.
+/// A literal of the form, from the text after its opener.
 #[inline(always)]
-fn parts_inside(form: QuotedForm, kind: Kind, text: &str) -> Option<(&str, &str, bool)>
+fn read_inside(form: QuotedForm, kind: Kind, text: &str) -> Option<Inside<'_>>
     requires { IsTrue (has_form form kind) }
-    ensures some { IfSome result (λ p. (v : List ℕ)
-        × PartsAre form kind (form_opener form kind ++ chars text.now) v
-        (chars p.0.now) (chars p.1.now)) }
-    ensures plain { IfSome result (λ p. p.2 ≡ is_plain_body form kind (chars p.0.now)) }
+    ensures some { IfSome result (IsInside form kind text.now) }
     ensures none { IfNone result (HasNoParts form kind (form_opener form kind ++ chars text.now)) }
 {
     match form {
-        QuotedForm::Cooked => cooked_parts(kind, text),
-        QuotedForm::Raw => raw_parts(kind, text),
-        QuotedForm::Single => single_parts(kind, text),
+        QuotedForm::Cooked => cooked_inside(kind, text),
+        QuotedForm::Raw => raw_inside(kind, text),
+        QuotedForm::Single => single_inside(kind, text),
     }
 }
 
-/// The form and the parts of a quoted literal, and whether its body stands for itself: `None` where the text is none.
-#[inline(always)]
-pub(crate) fn quoted_parts(text: &str) -> Option<(QuotedForm, Parts<'_>, bool)>
-    ensures some { IfSome result (λ p. (v : List ℕ)
-        × PartsAre p.0 p.1.kind (chars text.now) v (chars p.1.body.now) (chars p.1.suffix.now)) }
-    ensures plain { IfSome result (λ p. p.2 ≡ is_plain_body p.0 p.1.kind (chars p.1.body.now)) }
+/// What reading the text as a quoted literal finds.
+pub(crate) fn find_quoted(text: &str) -> Option<Found>
     ensures none { IfNone result (HasNoQuoted (chars text.now)) }
+    ensures found { IfSome result (IsFound text.now) }
 {
     let (form, kind, inside) = front(text)?;
-    let (body, suffix, plain) = parts_inside(form, kind, inside)?;
-    Some((form, Parts { kind, body, suffix }, plain))
-}
-
-/// The parts of a quoted literal: `None` where the text is none.
-pub(crate) fn quoted_shape(text: &str) -> Option<Parts<'_>>
-    ensures reads { IfSome result
-        (λ p. (v : Contents) × ReadsQuoted (chars text.now) p.kind v (chars p.suffix.now)) }
-    ensures cut { IfSome result (λ p. IsQuotedSplit p.kind text.now p.body.now p.suffix.now) }
-    ensures behind { IfSome result (λ p. IsTail text.now p.suffix.now) }
-    ensures none { IfNone result (HasNoQuoted (chars text.now)) }
-{
-    let quoted = quoted_parts(text)?;
-    Some(quoted.1)
+    let read = read_inside(form, kind, inside)?;
+    let at = text.len() - read.opened.len();
+    let body = Body {
+        at,
+        end: at + read.body.len(),
+        suffix_at: text.len() - read.suffix.len(),
+        plain: read.plain,
+    };
+    Some(Found {
+        kind,
+        body,
+        magnitude: 0,
+    })
 }

@@ -2,18 +2,12 @@
 
 ghost use Rattle.std.specs.Prelude.{◌≡◌, ◌≢◌, Bool, IfNone, IfSome};
 ghost use Rattle.std.specs.Str.{chars};
-ghost use Rattle.rl_tokens.specs.declared.kind.Kind.TheVariants.{Bool as BoolKind};
 ghost use Rattle.rl_tokens.specs.Texts.{IsTail, first_passes};
-ghost use Rattle.rl_tokens.specs.Reading.{Contents, Reads, ReadsBool, truth_text};
-ghost use Rattle.rl_tokens.specs.Reading.{HasNoReading};
+ghost use Rattle.rl_tokens.specs.Reading.{Contents, HasNoReading, Reads, truth_text};
 ghost use Rattle.rl_grammar.specs.StrictBytes.{KeepsBytesStrict};
-ghost use Rattle.rl_tokens.specs.Reading.{HasNoTruth};
 ghost use Rattle.rl_grammar.specs.WholeShapes.{IsSplit, is_number_front};
 
-use crate::numbers::number_shape;
-use crate::parts::Parts;
-use crate::quoted::quoted_shape;
-use rl_tokens::Kind;
+use crate::found::{Parts, find};
 
 /// The truth value that the text is, `true` or `false`; `None` for any other text.
 pub fn truth_of(text: &str) -> Option<bool>
@@ -26,23 +20,6 @@ pub fn truth_of(text: &str) -> Option<bool>
         "false" => Some(false),
         _ => None,
     }
-}
-
-/// The parts of a truth value.
-fn truth_shape(text: &str) -> Option<Parts<'_>>
-    ensures none { IfNone result (HasNoTruth (chars text.now)) }
-    ensures reads { IfSome result
-        (λ p. (v : Contents) × ReadsBool (chars text.now) v (chars p.suffix.now)) }
-    ensures kind { IfSome result (λ p. p.kind ≡ BoolKind) }
-    ensures cut { IfSome result (λ p. IsSplit BoolKind text.now p.body.now p.suffix.now) }
-    ensures behind { IfSome result (λ p. IsTail text.now p.suffix.now) }
-{
-    truth_of(text)?;
-    Some(Parts {
-        kind: Kind::Bool,
-        body: text,
-        suffix: &text[text.len()..],
-    })
 }
 
 /// Whether the first byte is a minus or a decimal digit.
@@ -90,11 +67,6 @@ pub fn shape(text: &str) -> Option<Parts<'_>>
     ensures behind { IfSome result (λ p. IsTail text.now p.suffix.now) }
     ensures strict_bytes { KeepsBytesStrict (chars text.now) }
 {
-    if begins_number(text) {
-        return number_shape(text);
-    }
-    if let Some(parts) = quoted_shape(text) {
-        return Some(parts);
-    }
-    truth_shape(text)
+    let found = find(text)?;
+    Some(found.parts(text))
 }

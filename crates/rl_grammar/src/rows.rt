@@ -1,15 +1,13 @@
 //! Rows of digits and underscores, and what may stand before and behind them.
 
-ghost use Rattle.std.specs.Prelude.{◌≡◌, ◌++◌, ◌<◌, ◌≤◌, None, Option, Some, drop, false, nat_lt, if◌then◌else◌};
+ghost use Rattle.std.specs.Prelude.{◌≡◌, ◌<◌, ◌≤◌, None, Option, Some, drop, false, nat_lt, if◌then◌else◌};
 ghost use Rattle.std.specs.Char.{digit_value, is_ascii_digit};
 ghost use Rattle.std.specs.Str.{IsCharBoundary, chars};
 ghost use Rattle.rl_tokens.specs.Texts.{IsTail, first_passes};
 ghost use Rattle.rl_tokens.specs.Numbers.{Minus, NoSign};
 ghost use Rattle.rl_grammar.specs.Mirrors.NumberAt.{after_digits, after_minus, append_digit, capped, has_digit_at, is_exponent_suffix, is_suffix, magnitude_at, row_from, sign_at};
 
-use crate::parts::Parts;
 use crate::tally::Tally;
-use rl_tokens::Kind;
 use rl_tokens::ident::xid_ok;
 use rl_tokens::text::split_char;
 
@@ -223,16 +221,4 @@ pub(crate) fn begins_digit(text: &str) -> bool
         Some((first, _)) => first.is_ascii_digit(),
         None => false,
     }
-}
-
-/// The parts of a number that ends with this suffix.
-pub(crate) fn cut_suffix<'t>(kind: Kind, text: &'t str, suffix: &'t str) -> Parts<'t>
-    requires { IsTail text.now suffix.now }
-    ensures kind { result.kind ≡ kind }
-    ensures suffix { result.suffix.now ≡ suffix.now }
-    ensures cut { text.now ≡ result.body.now ++ suffix.now }
-    ensures chars { chars text.now ≡ chars result.body.now ++ chars suffix.now }
-{
-    let body = &text[..text.len() - suffix.len()];
-    Parts { kind, body, suffix }
 }

@@ -12,7 +12,7 @@ use Rattle.rl_tokens.specs.Reading.{Bytes, ReadsAs, HasContents}
 use Rattle.rl_tokens.proofs.OneReading.{one_reading}
 use Rattle.rl_tokens.proofs.CStringLemmas.{zero_is_found}
 use Rattle.rl_tokens.proofs.CStringContents.{c_string_no_zero}
-use Rattle.rl_grammar.specs.declared.bodies.Body.{Body}
+use Rattle.rl_grammar.specs.declared.found.Body.{Body}
 use Rattle.rl_grammar.specs.declared.found.Found.{Found}
 use Rattle.rl_grammar.specs.Bodies.{HasBody, HasSingleBody}
 use Rattle.rl_grammar.specs.Founds.{IsFound, body_in}

@@ -103,11 +103,6 @@ unfoldable pub int_at : List ℕ → Option (Sign × ℕ × List ℕ)
 int_at t =
     with_sign (sign_at t) (based_at (radix_at (after_minus t)).0 (radix_at (after_minus t)).1)
 
--- the same, the magnitude within the limit
-abbrev pub capped_based : Option (ℕ × List ℕ) → Option (Option ℕ × List ℕ)
-capped_based None = None
-capped_based (Some p) = Some (capped p.0, p.1)
-
 abbrev pub capped_int : Option (Sign × ℕ × List ℕ) → Option (Option ℕ × List ℕ)
 capped_int None = None
 capped_int (Some p) = Some (capped p.1, p.2)

@@ -5,7 +5,7 @@ ghost use Rattle.std.specs.Str.{chars};
 ghost use Rattle.rl_tokens.specs.Strict.{Itself, is_strict_unit};
 ghost use Rattle.rl_grammar.specs.Mirrors.StrictAt.{escape_rest, unit_rest};
 
-use crate::classes::{Class, skip};
+use crate::cuts::{Class, skip};
 use crate::units::{is_bare_character, is_plain, unit};
 use rl_tokens::Kind;
 use rl_tokens::text::split_char;

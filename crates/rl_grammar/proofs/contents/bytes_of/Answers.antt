@@ -1,19 +1,36 @@
-use Rattle.std.proofs.Common.{refl, sym, ap, subst, ◌∙◌, inl, inr}
-use Rattle.std.specs.Str.{chars}
+use Rattle.std.proofs.Common.{inl, inr}
+use Rattle.std.proofs.lemmas.Result.{IfOk-weaker}
 use Rattle.rl_tokens.specs.declared.kind.Kind.TheVariants.{ByteStr, CStr}
-use Rattle.rl_tokens.specs.Reading.{Bytes, ReadsQuoted}
+use Rattle.rl_grammar.proofs.FoundContents.{bytes_body, contents_are, one_of_two}
 use Rattle.rl_grammar.proofs.contents.bytes_of.Goals as goal
 
-pub returns-in-Ok-clause-byte_string : goal.returns-in-Ok-clause-byte_string
-returns-in-Ok-clause-byte_string g c = λ v x r. r.contents_is ∙ ap Bytes (sym (c.in-Ok.ensures ByteStr v x refl r))
+pub found_in-found-requires : goal.found_in-found-requires
+found_in-found-requires g c = elim c.requires [ inl r ↦ (ByteStr, r) | inr r ↦ (CStr, r) ]
 
-pub returns-in-Ok-clause-c_string : goal.returns-in-Ok-clause-c_string
-returns-in-Ok-clause-c_string g c = λ v x r. r.contents_is ∙ ap Bytes (sym (c.in-Ok.ensures CStr v x refl r))
+pub bytes_of_body-requires-clause-kind : goal.bytes_of_body-requires-clause-kind
+bytes_of_body-requires-clause-kind g c =
+    let f = c.found_in-found.ensures in
+    elim c.requires [ inl r ↦ inl (f.kind ByteStr r) | inr r ↦ inr (f.kind CStr r) ]
 
-pub returns-in-Ok-clause-reads : goal.returns-in-Ok-clause-reads
-returns-in-Ok-clause-reads g c =
-    let t = chars c.args.text.now in
-    elim c.requires [
-      | inl r ↦ inl (r.1, subst (λ v. ReadsQuoted t ByteStr v r.1) (returns-in-Ok-clause-byte_string g c r.0 r.1 r.2) r.2)
-      | inr r ↦ inr (r.1, subst (λ v. ReadsQuoted t CStr v r.1) (returns-in-Ok-clause-c_string g c r.0 r.1 r.2) r.2)
-    ]
+pub bytes_of_body-requires-clause-body : goal.bytes_of_body-requires-clause-body
+bytes_of_body-requires-clause-body g c =
+    let f = c.found_in-found.ensures in
+    (_, bytes_body _ _ _ c.parts.ensures.body f.kind f.found c.requires)
+
+pub returns-clause-byte_string : goal.returns-clause-byte_string
+returns-clause-byte_string g c =
+    let f = c.found_in-found.ensures in
+    let has = bytes_body _ _ _ c.parts.ensures.body f.kind f.found c.requires in
+    IfOk-weaker c.bytes_of_body.result _ _ (λ b h. contents_are _ ByteStr _ _ (h _ has)) c.bytes_of_body.ensures.value
+
+pub returns-clause-c_string : goal.returns-clause-c_string
+returns-clause-c_string g c =
+    let f = c.found_in-found.ensures in
+    let has = bytes_body _ _ _ c.parts.ensures.body f.kind f.found c.requires in
+    IfOk-weaker c.bytes_of_body.result _ _ (λ b h. contents_are _ CStr _ _ (h _ has)) c.bytes_of_body.ensures.value
+
+pub returns-clause-reads : goal.returns-clause-reads
+returns-clause-reads g c =
+    let f = c.found_in-found.ensures in
+    let has = bytes_body _ _ _ c.parts.ensures.body f.kind f.found c.requires in
+    IfOk-weaker c.bytes_of_body.result _ _ (λ b h. one_of_two _ _ _ f.kind c.requires (h _ has)) c.bytes_of_body.ensures.value

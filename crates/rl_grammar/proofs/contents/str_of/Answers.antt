@@ -1,22 +1,22 @@
-use Rattle.std.proofs.Common.{◌≡◌, ap, subst, ◌∙◌, string_bytes, rules}
-use Rattle.std.specs.Str.{chars}
+use Rattle.std.proofs.Common.{refl}
+use Rattle.std.proofs.lemmas.Result.{IfOk-weaker}
 use Rattle.rl_tokens.specs.declared.kind.Kind.TheVariants.{Str}
-use Rattle.rl_tokens.specs.Reading.{Characters, ReadsQuoted}
-use Rattle.rl_grammar.proofs.ContentLemmas.{str_bytes}
+use Rattle.rl_grammar.proofs.FoundContents.{contents_are, string_body}
 use Rattle.rl_grammar.proofs.contents.str_of.Goals as goal
 
-pub from_utf8_unchecked-requires : goal.from_utf8_unchecked-requires
-from_utf8_unchecked-requires g c =
-    let r = c.requires in
-    (str_bytes _ _ r.0 r.1 c.utf8.text c.in-Ok.ensures r.2).0
+pub found_in-found-requires : goal.found_in-found-requires
+found_in-found-requires g c = (Str, c.requires)
 
-pub returns-in-Ok-clause-value : goal.returns-in-Ok-clause-value
-returns-in-Ok-clause-value g c = λ v x r.
-    let same : c.in-Ok.bytes.items ≡ string_bytes c.from_utf8_unchecked.result = search rules in
-    (str_bytes _ _ v x c.utf8.text c.in-Ok.ensures r).1 ∙ ap (λ z. Characters (chars z)) same
+pub str_of_body-requires : goal.str_of_body-requires
+str_of_body-requires g c =
+    let f = c.found_in-found.ensures in
+    (c.args.text.now, string_body Str _ _ _ c.parts.ensures.body (f.kind Str c.requires) refl f.found, c.utf8.text)
 
-pub returns-in-Ok-clause-reads : goal.returns-in-Ok-clause-reads
-returns-in-Ok-clause-reads g c =
-    let r = c.requires in
-    let t = chars c.args.text.now in
-    (r.1, subst (λ v. ReadsQuoted t Str v r.1) (returns-in-Ok-clause-value g c r.0 r.1 r.2) r.2)
+pub returns-clause-reads : goal.returns-clause-reads
+returns-clause-reads g c =
+    let f = c.found_in-found.ensures in
+    let has = string_body Str _ _ _ c.parts.ensures.body (f.kind Str c.requires) refl f.found in
+    IfOk-weaker c.str_of_body.result _ _ (λ s h. h c.args.text.now has c.utf8.text) c.str_of_body.ensures.value
+
+pub returns-clause-value : goal.returns-clause-value
+returns-clause-value g c = IfOk-weaker c.str_of_body.result _ _ (λ s h. contents_are Str Str _ _ h) (returns-clause-reads g c)

@@ -1,11 +1,18 @@
-use Rattle.rl_grammar.proofs.NumberFoundLemmas.{not_past, not_none, is_float}
+use Rattle.std.proofs.Common.{inl, sym, ◌∙◌}
+use Rattle.rl_tokens.specs.declared.kind.Kind.TheVariants.{Int}
+use Rattle.rl_grammar.proofs.NumberFoundLemmas.{int_number, is_float}
 use Rattle.rl_grammar.proofs.digits.found_number.Goals as goal
 
+pub found_in-requires : goal.found_in-requires
+found_in-requires c = (Int, int_number _ _ c.requires c.in-Int.is)
+
+pub returns-in-Int-clause-found : goal.returns-in-Int-clause-found
+returns-in-Int-clause-found c =
+    let f = c.found_in.ensures in
+    inl (f.found, inl (f.kind Int (int_number _ _ c.requires c.in-Int.is)))
+
+pub returns-in-Int-clause-kind : goal.returns-in-Int-clause-kind
+returns-in-Int-clause-kind c = c.found_in.ensures.kind Int (int_number _ _ c.requires c.in-Int.is) ∙ sym c.in-Int.is
+
 pub unreachable-requires : goal.unreachable-requires
-unreachable-requires c = not_none _ _ c.requires c.in-Int.is c.in_default-find_int.ensures.none
-
-pub unreachable-requires-in_default-integer : goal.unreachable-requires-in_default-integer
-unreachable-requires-in_default-integer c = not_past _ _ c.requires c.in-Int.is (rw c.in_default-integer.is at c.in-Some.ensures.past)
-
-pub unreachable-requires-in_default-find_float : goal.unreachable-requires-in_default-find_float
-unreachable-requires-in_default-find_float c = let (n, x, r) = is_float _ _ c.requires c.in_default.not-Int in c.in_default-find_float.ensures.none n x r
+unreachable-requires c = let (n, x, r) = is_float _ _ c.requires c.in_default.not-Int in c.in-None.ensures.none n x r

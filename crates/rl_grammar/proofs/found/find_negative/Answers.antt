@@ -1,14 +1,12 @@
-use Rattle.std.specs.Str.{chars}
-use Rattle.rl_tokens.proofs.BehindLemmas.{if_none}
-use Rattle.rl_grammar.proofs.MinusLemmas.{negative_none, negative_twice, negative_no_reading}
+use Rattle.std.proofs.Common.{◌∷◌, subst, sym}
+use Rattle.rl_grammar.specs.Founds.{IsFound}
+use Rattle.rl_grammar.proofs.FoundLemmas.{Of}
 use Rattle.rl_grammar.proofs.MinusFoundLemmas.{negative_found}
 use Rattle.rl_grammar.proofs.found.find_negative.Goals as goal
 
-pub returns-then-is_negative-clause-none : goal.returns-then-is_negative-clause-none
-returns-then-is_negative-clause-none c = negative_no_reading (chars c.args.text.now) (negative_twice (chars c.args.text.now) c.if-is_negative.ensures)
-
-pub returns-in_err-found-clause-none : goal.returns-in_err-found-clause-none
-returns-in_err-found-clause-none c = if_none _ (negative_no_reading (chars c.args.text.now) (negative_none (chars c.args.text.now) c.if-is_negative.ensures c.in_err-found.ensures.none))
-
 pub returns-clause-found : goal.returns-clause-found
-returns-clause-found c = negative_found _ _ c.utf8.text c.if-is_negative.ensures c.in_ok-found.ensures.found c.in_ok-found.ensures.number
+returns-clause-found c =
+    let t = c.args.text.now in
+    let f = c.in_ok-found.found in
+    let h = c.in_ok-found.ensures in
+    subst (λ body. IsFound (45 ∷ t) (Of f.kind body f.magnitude)) (sym c.up_to.ensures) (negative_found t f c.utf8.text h.unsigned h.found h.number)

@@ -1,19 +1,22 @@
-use Rattle.std.proofs.Common.{◌∷◌}
-use Rattle.std.proofs.lemmas.Option.{IfSome_then}
+use Rattle.std.proofs.Common.{ℕ, List, ◌∷◌, ◌++◌, ap₂, sym, subst, ◌∙◌}
 use Rattle.std.specs.Str.{chars}
-use Rattle.rl_grammar.proofs.NumberLemmas.{number_reads, number_kind}
-use Rattle.rl_grammar.proofs.MinusLemmas.{negative_none, negative_twice, negative_reads, negative_no_reading}
-use Rattle.rl_grammar.proofs.OptionLemmas.{none_then}
+use Rattle.rl_tokens.specs.declared.kind.Kind.{Kind}
+use Rattle.rl_tokens.specs.Reading.{Reads}
+use Rattle.rl_grammar.specs.Founds.{suffix_in}
+use Rattle.rl_grammar.proofs.MinusLemmas.{negative_reads, number_split}
 use Rattle.rl_grammar.proofs.numbers.shape_negative.Goals as goal
 
-pub returns-then-is_negative-clause-none : goal.returns-then-is_negative-clause-none
-returns-then-is_negative-clause-none c = negative_no_reading (chars c.args.text.now) (negative_twice (chars c.args.text.now) c.if-is_negative.ensures)
-
-pub returns-clause-none : goal.returns-clause-none
-returns-clause-none c = none_then c.number_shape.result (λ h. negative_no_reading (chars c.args.text.now) (negative_none (chars c.args.text.now) c.if-is_negative.ensures h)) c.number_shape.ensures.none
-
 pub returns-clause-reads : goal.returns-clause-reads
-returns-clause-reads c = IfSome_then c.number_shape.result c.number_shape.ensures.reads (λ p r. number_reads (45 ∷ chars c.args.text.now) (chars p.suffix.now) p.kind (negative_reads (chars c.args.text.now) (chars p.suffix.now) p.kind c.if-is_negative.ensures r))
+returns-clause-reads c =
+    let f = c.in_ok-found.ensures in
+    let p = c.parts.ensures in
+    let t = 45 ∷ chars c.args.text.now in
+    let x = suffix_in c.args.text.now c.in_ok-found.found.body in
+    let (v, r) = negative_reads _ _ _ f.unsigned f.number f.found.reads in
+    (v, subst (λ (y : List ℕ). Reads t c.parts.result.kind v (chars y)) (sym p.suffix) (subst (λ (k : Kind). Reads t k v (chars x)) (sym p.kind) r))
 
-pub returns-clause-number : goal.returns-clause-number
-returns-clause-number c = IfSome_then c.number_shape.result c.number_shape.ensures.reads (λ p r. number_kind (chars c.args.text.now) (chars p.suffix.now) p.kind r)
+pub returns-clause-cut : goal.returns-clause-cut
+returns-clause-cut c =
+    let f = c.in_ok-found.ensures in
+    let p = c.parts.ensures in
+    number_split _ _ _ _ f.number f.found.cut ∙ ap₂ (λ b x. b ++ x) (sym p.body) (sym p.suffix)

@@ -1,8 +1,7 @@
 use Rattle.rl_tokens.specs.Buffers.{trees_in, IsRest}
-use Rattle.std.proofs.Common.{subst}
+use Rattle.std.proofs.Common.{subst, sym, ◌∙◌}
 use Rattle.rl_grammar.proofs.FrontLemmas.{front_rest}
 use Rattle.rl_tokens.proofs.TreeRests.{rest_one}
-use Rattle.std.proofs.Common.{sym, ◌∙◌}
 use Rattle.rl_grammar.proofs.front.Front.take.Goals as goal
 
 pub returns-in-Some-clause-rest : goal.returns-in-Some-clause-rest
