@@ -1,5 +1,5 @@
 -- A source's next token, and what is lent of it.
-use Rattle.std.proofs.Common.{◌≡◌, ◌≢◌, ℕ, ◌+◌, ◌-◌, ◌⊎◌, inl, inr, Bool, true, false, ◌||◌, ◌==◌, List, [], ◌∷◌, ◌++◌, length, length-append, take, slice_index, slice_range, Option, Some, None, refl, sym, ◌∙◌, ap, subst, arith}
+use Rattle.std.proofs.Common.{◌≡◌, ◌≢◌, ℕ, ◌+◌, ◌-◌, ◌⊎◌, inl, inr, Bool, true, false, ◌||◌, ◌==◌, List, [], ◌∷◌, ◌++◌, length, length-append, take, slice_range, refl, sym, ◌∙◌, ap, subst, arith}
 use Rattle.std.specs.Prelude.{codes, if◌then◌else◌}
 use Rattle.std.proofs.lemmas.List.{append_cancel_right}
 use Rattle.std.proofs.lemmas.Str.{encodes-append, encodes-chars, chars_from_encodes}
@@ -10,7 +10,7 @@ use Rattle.rl_tokens.specs.Cursors.{CursorState, IsCursorState}
 use Rattle.rl_tokens.specs.Lexing.{BeginsQuote}
 use Rattle.rl_tokens.specs.Mirrors.LexemeAt.{begins_quote}
 use Rattle.rl_tokens.specs.Mirrors.SourceAt.{source_error_kind, opens}
-use Rattle.rl_tokens.specs.Sources.{is_apostrophe, StrayToken, source_text, BeginsProper, Opens, IsSource, SourceKind, StrayKind, kind_of, source_view, SourceBefore, BeginsNoSource, IsWithoutFront, CutSource, source_end, SourcesUpTo, IsCutUpTo, IsLentSource, TakesSource, SourceErrorAt, SourceError, IsFirstSourceError}
+use Rattle.rl_tokens.specs.Sources.{is_apostrophe, StrayToken, source_text, BeginsProper, Opens, IsSource, SourceKind, StrayKind, kind_of, source_view, SourceBefore, BeginsNoSource, IsWithoutFront, CutSource, source_end, SourcesUpTo, IsCutUpTo, TakesSource, SourceErrorAt, SourceError, IsFirstSourceError}
 use Rattle.rl_tokens.specs.declared.lex_error.LexError.{LexError}
 use Rattle.rl_tokens.specs.declared.lex_error.LexKind.{LexKind}
 use Rattle.rl_tokens.specs.declared.lex_error.LexKind.TheVariants.{UnclosedComment, UnclosedQuote}

@@ -1,18 +1,17 @@
 -- A source is cut in one way, and what the lexer cuts of a text is cut of it as a source too.
-use Rattle.std.proofs.Common.{◌≡◌, ℕ, ◌+◌, ◌⊎◌, inl, inr, Bool, true, false, not, ◌&&◌, ◌||◌, ◌==◌, cond, List, [], ◌∷◌, ◌++◌, map, Option, Some, None, slice_index, drop, refl, sym, ◌∙◌, ap, subst, arith, lit<}
+use Rattle.std.proofs.Common.{◌≡◌, ℕ, inl, inr, true, false, not, ◌&&◌, ◌==◌, cond, List, [], ◌∷◌, ◌++◌, map, Option, Some, None, slice_index, drop, refl, sym, ◌∙◌, ap, subst, arith, lit<}
 use Rattle.std.proofs.lemmas.List.{append_cancel_right}
 use Rattle.std.proofs.lemmas.Option.{none-some}
 use Rattle.std.specs.List.{list_all}
 use Rattle.std.specs.Option.{option_map}
 use Rattle.unicode_ident.proofs.IdentLemmas.{is_xid_continue-ascii}
 use Rattle.rl_tokens.specs.Texts.{first_passes, is_white, byte_len}
-use Rattle.rl_tokens.specs.Skipping.{Skipped}
 use Rattle.rl_tokens.specs.Trivia.{inside_text}
 use Rattle.rl_tokens.specs.Lexemes.{Lexeme, lexeme_text, IsLexeme, IsRow, LexemeForm, form_of, is_start, is_continue}
 use Rattle.rl_tokens.specs.Lexing.{LexedToken, end_of, LexesUpTo}
 use Rattle.rl_tokens.specs.Mirrors.LexemeAt.{after_run, after_apostrophe, after_suffix, after_single, is_hash, literal_at, raw_at, word_at, LetterRHead, ApostropheHead, SlashHead, lexeme_at}
 use Rattle.rl_tokens.specs.Mirrors.SourceAt.{other_at}
-use Rattle.rl_tokens.specs.Sources.{is_in_line, is_apostrophe, SourceLexeme, PlainToken, RawIdentifierToken, LifetimeToken, RawLifetimeToken, DocLineToken, DocBlockToken, StrayToken, source_text, IsProper, IsSource, SourceKind, PlainKind, kind_of, BeginsNoSource, without_mark, IsScriptLine, IsWithoutLine, IsWithoutFront, CutSource, source_end, SourcesUpTo, IsCutUpTo, told, OneCutting, plain_cut, HoldsLexemes}
+use Rattle.rl_tokens.specs.Sources.{is_in_line, is_apostrophe, SourceLexeme, PlainToken, RawIdentifierToken, LifetimeToken, RawLifetimeToken, DocLineToken, DocBlockToken, StrayToken, source_text, IsProper, IsSource, SourceKind, PlainKind, kind_of, BeginsNoSource, without_mark, IsScriptLine, IsWithoutLine, CutSource, source_end, SourcesUpTo, told, OneCutting, plain_cut, HoldsLexemes}
 use Rattle.rl_tokens.proofs.Comments.{same_Some}
 use Rattle.rl_tokens.proofs.LexemeFronts.{at_class, class39, class47, class114, lexeme_at-past, same_pair, start_ascii}
 use Rattle.rl_tokens.proofs.LexemeRows.{both_true, not_among, run_past}

@@ -1,9 +1,9 @@
 -- The tokens of a whole source, and how it is cut into them: the lexemes, and beside them raw
 -- identifiers, lifetimes and doc comments. A byte order mark and an interpreter's line may stand
 -- before them.
-use Rattle.std.specs.Prelude.{◌≡◌, ◌⊎◌, ℕ, ◌+◌, Bool, false, true, not, ◌==◌, List, [], ◌∷◌, ◌++◌, length, map, IsTrue, IsFalse, codes, encode_utf8_all, Option, MatchOption, if◌then◌else◌}
+use Rattle.std.specs.Prelude.{◌≡◌, ◌⊎◌, ℕ, ◌+◌, Bool, false, not, ◌==◌, List, [], ◌∷◌, ◌++◌, length, map, IsTrue, IsFalse, codes, encode_utf8_all, Option, MatchOption, if◌then◌else◌}
 use Prim.Native.Char.{code}
-use Rattle.std.specs.Str.{chars, IsUtf8}
+use Rattle.std.specs.Str.{chars}
 use Rattle.rl_tokens.specs.Texts.{first_passes, begins, byte_len, IsTail}
 use Rattle.rl_tokens.specs.Trivia.{Inside, inside_text, IsInside, is_plain_line, is_plain_block}
 use Rattle.rl_tokens.specs.Skipping.{Skipped}
