@@ -17,6 +17,9 @@ NOT_TEXT = b'error: input is not UTF-8'
 # How many bytes of sources are asked about at once.
 AT_ONCE = 4_000_000
 PLACED = re.compile(rb'(\d+)\.\.(\d+) (.*)', re.S)
+# What rl_scan is asked for beside all lines.
+WORDS = (('--lines',), ('--lines', '--no-stray', '--only', 'Int,Float,Verbatim'), ('--bad',))
+NO_CALLS = (('--x',), ('x',), ('--only',), ('--only', ''), ('--only', 'Str,'), ('--only', 'str'), ('--bad', '--only', 'Str'), ('--only', 'Str', '--bad'), ('--only', 'Str', '--only', 'Int'), ('--bad', '--bad'))
 # The edition that is asked about sources with prefixes that are reserved since.
 OLDER = '2018'
 
@@ -129,11 +132,12 @@ def moved(lines, by):
 
 
 def scanned(program, words, data):
-    """The lines of rl_scan, and the line of its error."""
+    """The lines of rl_scan, and the line of its error; another line where its status is another than these ask for."""
     ended = subprocess.run([program, *words], input=data, stdout=subprocess.PIPE, stderr=subprocess.PIPE)
     lines, error = ended.stdout.split(b'\n'), ended.stderr
-    if lines.pop() or ended.returncode != (1 if error else 0) or error and not error.endswith(b'\n'):
-        return [b'ended with the status %d and %s' % (ended.returncode, ended.stderr)]
+    status = 2 if error.startswith(b'usage: ') else 1 if error or '--bad' in words and len(lines) > 1 else 0
+    if lines.pop() or ended.returncode != status or error and not error.endswith(b'\n'):
+        return [b'ended with the status %d, and said %s' % (ended.returncode, ended.stderr)]
     return lines + ([error[:-1]] if error else [])
 
 
@@ -152,16 +156,29 @@ def line_places(data, lines):
     """The lines with the place of each as a line and a column, from 1, counted in characters."""
     out, line, begin, last = [], 1, 0, 0
     for told in lines:
-        placed = PLACED.fullmatch(told)
+        placed = re.fullmatch(rb'(error at |)(\d+)\.\.\d+(.*)', told, re.S)
         if placed:
-            at = int(placed[1])
+            at = int(placed[2])
             ends = data.count(b'\n', last, at)
             if ends:
                 line, begin = line + ends, data.rindex(b'\n', last, at) + 1
             last = at
-            told = b'%d:%d %s' % (line, len(data[begin:at].decode()) + 1, placed[3])
+            told = b'%s%d:%d%s' % (placed[1], line, len(data[begin:at].decode()) + 1, placed[3])
         out.append(told)
     return out
+
+
+def under(words, data, lines, cut):
+    """What rl_scan prints with these words, by what it prints without any."""
+    if '--no-stray' in words and cut:
+        stray = next((token for token in cut.tokens if token.form == 'stray'), None)
+        if stray:
+            lines = [line for line in lines if PLACED.fullmatch(line) and int(PLACED.fullmatch(line)[1]) < stray.lo]
+            lines.append(b'error at %d..%d: stray character' % (stray.lo, stray.lo))
+    if '--bad' in words or '--only' in words:
+        kinds = ['Verbatim'] if '--bad' in words else words[words.index('--only') + 1].split(',')
+        lines = [line for line in lines if not line[:1].isdigit() or line.split(b' ')[1].decode() in kinds]
+    return line_places(data, lines) if '--lines' in words else lines
 
 
 def entries(data, their, our):
@@ -270,19 +287,27 @@ class Sides:
 
     def compare(self, datas, names, each=False, rustc=True):
         """Compares the answers to these sources; by a process of rl_scan each, or in bulk."""
+        cuts = self.model.cuts(datas)
+        self.model.learn(cuts)
         our = self.ours(datas, each)
-        for name, data, wanted, answer in zip(names, datas, self.model.answers(datas), our):
-            judge_model(self.count, name, data, wanted, answer)
+        for name, data, cut, answer in zip(names, datas, cuts, our):
+            judge_model(self.count, name, data, self.model.lines(cut), answer)
         if each and not self.options.model:
-            for name, data, answer, lined in zip(names, datas, our, by_process(self.options, datas, '--lines')):
-                wanted = line_places(data, answer)
-                if wanted == lined:
-                    self.count.add('lines and columns', 'the same', 1, len(lined))
-                else:
-                    self.count.differs('lines and columns', name, data, wanted, lined)
+            for words in WORDS:
+                self.compare_words(words, datas, names, cuts, our)
         if rustc:
             for name, data, told, answer in zip(names, datas, self.rustc.answers(datas), our):
                 judge_rustc(self.count, name, data, told, answer)
+
+    def compare_words(self, words, datas, names, cuts, our):
+        """Compares what rl_scan prints with these words with what it prints without."""
+        side = 'rl_scan ' + ' '.join(words)
+        for name, data, cut, answer, lines in zip(names, datas, cuts, our, by_process(self.options, datas, *words)):
+            wanted = under(words, data, answer, cut)
+            if wanted == lines:
+                self.count.add(side, 'as without these words', 1, len(lines))
+            else:
+                self.count.differs(side, name, data, wanted, lines)
 
 
 def compare_files(options, tally):
@@ -308,6 +333,8 @@ def compare_texts(options, tally):
     sides.compare(cuts[::7], map(str, range(0, len(cuts), 7)), each=True, rustc=False)
     print('%d cuts' % len(cuts), flush=True)
     fronts(sides)
+    if not options.model:
+        calls(sides)
     seen = set()
     for batch in batches(text.encode() for text in source_texts.soups(options.seed, options.texts)):
         fresh = [data for data in dict.fromkeys(batch) if hash(data) not in seen]
@@ -332,3 +359,13 @@ def fronts(sides):
             sides.count.add('rustc', 'fronts: white space that the Reference has not', 1, 0)
         else:
             sides.count.differs('fronts', '', text.encode(), [told], [str(is_line).encode()])
+
+
+def calls(sides):
+    """What rl_scan says of words that ask for nothing, and with all words that go together."""
+    for words in NO_CALLS:
+        lines = scanned(sides.options.scan, words, b'1')
+        if len(lines) == 1 and lines[0].startswith(b'usage: rl_scan '):
+            sides.count.add('rl_scan', 'refuses words that ask for nothing', 1, 0)
+        else:
+            sides.count.differs('rl_scan', ' '.join(words), b'1', [b'usage: ..'], lines)
