@@ -9,7 +9,7 @@ joins_append IsPiece [] ys s t h k = subst (Joins IsPiece ys) (sym (ap (λ z. z 
 joins_append IsPiece (x ∷ xs) ys s t (first, rest, p, h, e) k = (first, rest ++ t, p, joins_append IsPiece xs ys rest t h k, ap (λ z. z ++ t) e ∙ append_assoc first rest t)
 
 -- one piece alone
-joins_one : {A : Type 0} (IsPiece : A → List ℕ → Type 0) (x : A) (t : List ℕ) → IsPiece x t → Joins IsPiece (x ∷ []) t
+pub joins_one : {A : Type 0} (IsPiece : A → List ℕ → Type 0) (x : A) (t : List ℕ) → IsPiece x t → Joins IsPiece (x ∷ []) t
 joins_one IsPiece x t p = (t, [], p, refl, sym (append-nil t))
 
 -- nothing more behind what stood there

@@ -1,5 +1,5 @@
 -- What the program prints: a line for a literal. Texts and lines are lists of characters.
-use Rattle.std.specs.Prelude.{◌≡◌, ◌⊎◌, ℕ, List, [], ◌∷◌, ◌++◌, codes, if◌then◌else◌}
+use Rattle.std.specs.Prelude.{◌≡◌, ◌⊎◌, ℕ, List, [], ◌∷◌, ◌++◌, codes, Option, Some, None, if◌then◌else◌}
 use Prim.Native.Char.{code}
 use Rattle.rl_tokens.specs.declared.kind.Kind.{Kind}
 use Rattle.rl_tokens.specs.declared.kind.Kind.TheVariants.{Str, ByteStr, CStr, Byte, Char, Int, Float, Bool}
@@ -13,6 +13,7 @@ use Rattle.rl_tokens.specs.Numbers.{FloatReads, float_digits}
 use Rattle.rl_tokens.specs.Reading.{Contents, Characters, Bytes, Digits, Truth, truth_text, Reads}
 use Rattle.rl_tokens.specs.Written.{written_text}
 use Rattle.rl_tokens.specs.Reading.{HasNoReading}
+use Rattle.rust_literals.specs.Literals.{IsReadAs}
 use Rattle.rust_literals.specs.declared.lit.Lit.{Lit}
 use Rattle.rust_literals.specs.declared.lit.Lit.TheVariants.{Str as StrLit, ByteStr as ByteStrLit, CStr as CStrLit, Byte as ByteLit, Char as CharLit, Int as IntLit, Float as FloatLit, Bool as BoolLit, Verbatim}
 
@@ -26,6 +27,15 @@ kind_label Char = codes "Char"
 kind_label Int = codes "Int"
 kind_label Float = codes "Float"
 kind_label Bool = codes "Bool"
+
+-- the word that a line begins with: the kind, or `Verbatim` where there is none
+abbrev pub label_of : Option Kind → List ℕ
+label_of (Some kind) = kind_label kind
+label_of None = codes "Verbatim"
+
+-- the word that the line of this text begins with
+abbrev pub IsLabelOf : List ℕ → List ℕ → Type 0
+IsLabelOf text label = (kind : Option Kind) × IsReadAs kind text × (label ≡ label_of kind)
 
 -- what a literal stands for: as a literal, a number by its digits, a truth value by its word
 abbrev pub payload : Kind → Contents → List ℕ

@@ -8,5 +8,5 @@ mod print;
 mod refusal;
 
 pub use crate::digits::decoded;
-pub use crate::print::{line_of, lines_of, push_literals};
+pub use crate::print::{label_of, line_of, lines_of, push_literal, push_literals};
 pub use crate::refusal::Refusal;

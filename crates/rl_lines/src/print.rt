@@ -4,7 +4,7 @@ ghost use Rattle.std.specs.Prelude.{◌≡◌, ◌++◌, [], OnOk, IfOk, string_
 ghost use Rattle.std.specs.Str.{chars};
 ghost use Rattle.rl_tokens.specs.declared.kind.Kind.TheVariants.{Str, ByteStr, CStr, Byte, Char, Int, Bool};
 ghost use Rattle.rl_tokens.specs.Reading.{Bytes, Characters, Truth, truth_text};
-ghost use Rattle.rl_lines.specs.Lines.{line, kind_label, literal_line, verbatim_line, IsLineOfKind, IsLineOfFloat, IsLineOfLit, AreLinesOfLits, Appends};
+ghost use Rattle.rl_lines.specs.Lines.{line, kind_label, label_of, literal_line, verbatim_line, IsLineOfKind, IsLineOfFloat, IsLineOfLit, AreLinesOfLits, Appends};
 
 use crate::line::push_line;
 use rl_tokens::{Kind, Literal};
@@ -230,8 +230,22 @@ fn push_verbatim<A: Allocator + Copy>(
     push_line(alloc, out, "Verbatim", shown.text(), "")
 }
 
-/// Writes a literal's line at the end.
-fn push_literal<A: Allocator + Copy>(
+/// The word that a line begins with: the literal's kind, or `Verbatim` for what has none.
+pub fn label_of(kind: Option<Kind>) -> &'static str
+    ensures { result.now ≡ label_of kind }
+{
+    match kind {
+        Some(kind) => word(kind),
+        None => "Verbatim",
+    }
+}
+
+/// Appends a literal's line.
+///
+/// # Errors
+///
+/// An allocation failure, as std reports it. A part of the line may have been appended then.
+pub fn push_literal<A: Allocator + Copy>(
     alloc: A,
     out: &mut String<A>,
     literal: &Lit<A>,

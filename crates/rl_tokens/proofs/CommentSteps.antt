@@ -99,7 +99,7 @@ run_inside m s i n e l = omega (arith, e ∙ ap (prefix_len (is_other m)) (rest_
 
 -- ---- lines
 
-one_line : (m : Marks) (s : List ℕ) → m.first ≡ 10 → list_all (is_other m) s ≡ true → OneLine s
+pub one_line : (m : Marks) (s : List ℕ) → m.first ≡ 10 → list_all (is_other m) s ≡ true → OneLine s
 one_line m [] is h = refl
 one_line m (c ∷ s) is h =
     let parts = and_parts (is_other m c) (list_all (is_other m) s) h in

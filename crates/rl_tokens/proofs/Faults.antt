@@ -69,7 +69,7 @@ here_place r groups at = go (begins_doc_comment r) (begins (codes "/*") r) (begi
     go false false false false true = refl
     go false false false false false = refl
 
-chars_some : (rest : List ℕ) → IsUtf8 rest → (length rest == 0) ≡ false → chars rest ≢ []
+pub chars_some : (rest : List ℕ) → IsUtf8 rest → (length rest == 0) ≡ false → chars rest ≢ []
 chars_some rest is some nil =
     let e : rest ≡ [] = sym (encodes-chars rest is) ∙ ap encode_utf8_all nil in
     let n : 0 < length rest = grind (arith, nat_tests) in

@@ -63,7 +63,7 @@ behind_delimiter c = cond (c == 47) SlashHead (behind_slash c)
 pub class34 : head_class 34 ≡ QuoteHead
 class34 = class_other 34 (start_ascii 34 (lit< tt))
 
-class39 : head_class 39 ≡ ApostropheHead
+pub class39 : head_class 39 ≡ ApostropheHead
 class39 = class_other 39 (start_ascii 39 (lit< tt))
 
 pub class47 : head_class 47 ≡ SlashHead
@@ -75,7 +75,7 @@ class98 = class_start 98 (start_ascii 98 (lit< tt))
 class99 : head_class 99 ≡ LetterCHead
 class99 = class_start 99 (start_ascii 99 (lit< tt))
 
-class114 : head_class 114 ≡ LetterRHead
+pub class114 : head_class 114 ≡ LetterRHead
 class114 = class_start 114 (start_ascii 114 (lit< tt))
 
 -- Quoted.
@@ -229,7 +229,7 @@ lexeme_at-past (IdentifierLexeme c more) t (is, row, other) = front_identifier c
 lexeme_at-past (DelimiterLexeme c) t is = front_delimiter c t is
 lexeme_at-past (MarkLexeme c) t is = front_mark c t is
 
-same_pair : (f g : LexemeForm) (x y : List ℕ) → ◌≡◌ {A = Option (LexemeForm × List ℕ)} (Some (f, x)) (Some (g, y)) → (f ≡ g) × (x ≡ y)
+pub same_pair : (f g : LexemeForm) (x y : List ℕ) → ◌≡◌ {A = Option (LexemeForm × List ℕ)} (Some (f, x)) (Some (g, y)) → (f ≡ g) × (x ≡ y)
 same_pair f g x y e = let q : ◌≡◌ {A = LexemeForm × List ℕ} (f, x) (g, y) = same_Some (f, x) (g, y) e in (ap (λ (z : LexemeForm × List ℕ). z.0) q, ap (λ (z : LexemeForm × List ℕ). z.1) q)
 
 same_front : (v w x : List ℕ) → v ++ x ≡ w ++ x → v ≡ w

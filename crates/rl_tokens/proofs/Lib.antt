@@ -32,6 +32,10 @@ pub mod BeginsLemmas
 pub mod NestLemmas
 pub mod CutLemmas
 pub mod CursorLemmas
+pub mod SourceFronts
+pub mod SourceCuts
+pub mod SourceLaws
+pub mod LineLemmas
 pub mod Faults
 pub mod LexLoop
 pub mod LexEnds

@@ -21,4 +21,6 @@ pub mod Scanning
 pub mod Whole
 pub mod PrintedTrees
 pub mod Skipping
+pub mod Sources
+pub mod Lines
 pub mod Mirrors

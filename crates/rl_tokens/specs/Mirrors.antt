@@ -2,5 +2,6 @@
 -- clause cites one.
 
 pub mod LexemeAt
+pub mod SourceAt
 pub mod SkippedAt
 pub mod TreeBuilders

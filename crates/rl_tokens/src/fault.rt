@@ -5,11 +5,13 @@ ghost use Rattle.std.specs.Str.{chars};
 ghost use Rattle.std.specs.List.{list_all};
 ghost use Rattle.rl_tokens.specs.Texts.{begins};
 ghost use Rattle.rl_tokens.specs.Mirrors.TreeBuilders.{fault_kind};
+ghost use Rattle.rl_tokens.specs.Mirrors.SourceAt.{source_error_kind, opens};
 ghost use Rattle.rl_tokens.specs.Lexing.{begins_doc_comment, begins_lifetime};
 ghost use Rattle.rl_tokens.specs.Mirrors.LexemeAt.{begins_quote, begins_raw};
 ghost use Rattle.rl_tokens.specs.Lexemes.{begins_raw_identifier};
 
 use crate::characters::is_start;
+use crate::front::begins_with;
 use crate::lex_error::LexKind;
 use crate::lexeme::{begins_hashed_quote, begins_marked_identifier};
 use crate::text::split_char;
@@ -31,6 +33,24 @@ pub(crate) fn fault_kind(rest: &str) -> LexKind
     } else {
         LexKind::StrayCharacter
     }
+}
+
+/// Why no token of a source begins the text, by its first characters.
+pub(crate) fn source_error_kind(rest: &str) -> LexKind
+    ensures { result ≡ source_error_kind (chars rest.now) }
+{
+    if begins(rest, "/*") {
+        LexKind::UnclosedComment
+    } else {
+        LexKind::UnclosedQuote
+    }
+}
+
+/// Whether the text begins as a quoted literal, or as a block comment.
+pub(crate) fn opens(text: &str) -> bool
+    ensures { result ≡ opens (chars text.now) }
+{
+    begins(text, "/*") || (begins_quote(text) || begins_with(text, '\''))
 }
 
 /// Whether the text begins with these characters, which are ASCII.
@@ -91,7 +111,7 @@ fn begins_lifetime(text: &str) -> bool
 }
 
 /// Whether `r#` and an identifier's start begin the text.
-fn begins_raw_identifier(text: &str) -> bool
+pub(crate) fn begins_raw_identifier(text: &str) -> bool
     ensures { result ≡ begins_raw_identifier (chars text.now) }
 {
     match split_char(text) {

@@ -11,6 +11,7 @@ ghost use Rattle.rl_tokens.specs.Written.{written_text};
 ghost use Rattle.rl_tokens.specs.Agreeing.{IsWithinLimit, IsQuotedValue};
 ghost use Rattle.rl_tokens.specs.Quoted.{is_number};
 ghost use Rattle.rl_tokens.specs.PrintedTrees.{PrintedLexes, ReprintedLexes};
+ghost use Rattle.rl_tokens.specs.Sources.{OneCutting, HoldsLexemes};
 
 /// A text has one reading at most: one kind, one value, one suffix.
 pub fn one_reading()
@@ -69,4 +70,16 @@ pub fn printed_lexes()
 /// A printed list of literals, as they were cut from any text, is cut into exactly its items.
 pub fn reprinted_lexes()
     ensures { ReprintedLexes }
+{}
+
+/// A whole source is cut in one way, as far as it can be cut: the same tokens at the same places,
+/// and the same rest.
+pub fn one_cutting()
+    ensures { OneCutting }
+{}
+
+/// The tokens that the lexer cuts a text into are also its tokens as a source, where neither a byte
+/// order mark nor an interpreter's line begins it.
+pub fn sources_hold_lexemes()
+    ensures { HoldsLexemes }
 {}

@@ -78,7 +78,7 @@ fn after_comment(text: &str) -> Option<&str>
 
 /// Whether a line comment is plain, by what stands behind its `//`.
 #[tactic(auto, using(crate::proofs::CommentBytes::wide_line))]
-fn is_plain_line(body: &str) -> bool
+pub(crate) fn is_plain_line(body: &str) -> bool
     ensures { result ≡ is_plain_line (chars body.now) }
 {
     match split_ascii(body) {
@@ -89,7 +89,7 @@ fn is_plain_line(body: &str) -> bool
 
 /// Whether a block is plain, by what stands behind its `/*`.
 #[tactic(auto, using(crate::proofs::CommentBytes::wide_block))]
-fn is_plain_block(inside: &str) -> bool
+pub(crate) fn is_plain_block(inside: &str) -> bool
     ensures { result ≡ is_plain_block (chars inside.now) }
 {
     match split_ascii(inside) {
@@ -114,7 +114,7 @@ fn after_line(text: &str) -> &str
 /// What follows a block comment, by what stands behind its `/*`. It is a loop over bytes, from mark
 /// to mark, with the number of blocks that are open inside it.
 #[inline(always)]
-fn after_block(text: &str) -> Option<&str>
+pub(crate) fn after_block(text: &str) -> Option<&str>
     ensures rest { option_map (λ rest. chars rest.now) result ≡ after_block 0 (chars text.now) }
     ensures behind { IfSome result (λ rest. IsTail text.now rest.now) }
 {

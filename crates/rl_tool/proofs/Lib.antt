@@ -1,3 +1,2 @@
-pub mod StreamLemmas
 pub mod RunLemmas
 pub mod ListLemmas

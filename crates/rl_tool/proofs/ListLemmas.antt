@@ -14,8 +14,8 @@ use Rattle.rl_lines.specs.Lines.{IsLineOfLit, AreLinesOfLits}
 use Rattle.rl_lines.proofs.JoinLemmas.{joins_append}
 use Rattle.rl_lines.proofs.ListLemmas.{lines_of_text}
 use Rattle.rl_tool.specs.declared.command.Command.TheVariants.{Read}
-use Rattle.rl_tool.specs.declared.fault.Fault.{Fault}
-use Rattle.rl_tool.specs.declared.fault.Fault.TheVariants.{Read as ReadFault, Write, NotText, Memory, Literal}
+use Rattle.rl_program.specs.declared.fault.Fault.{Fault}
+use Rattle.rl_program.specs.declared.fault.Fault.TheVariants.{Read as ReadFault, Write, NotText, Memory, Literal}
 use Rattle.rl_tool.specs.Runs.{Shows, TellsLiteral, IsRefusalOf}
 use Rattle.rl_tool.specs.Lists.{Lengthens, HasFirst}
 

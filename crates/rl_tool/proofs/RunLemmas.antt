@@ -6,9 +6,9 @@ use Rattle.std.specs.Io.KnownBytes.{Appends}
 use Rattle.std.proofs.KnownBytes.{Keeps-refl}
 use Rattle.std.proofs.lemmas.Str.{encodes-chars}
 use Rattle.rl_tool.specs.declared.command.Command.{Command}
-use Rattle.rl_tool.specs.declared.fault.Fault.{Fault}
-use Rattle.rl_tool.specs.declared.fault.Fault.TheVariants.{Read, Write, NotText, Memory, Literal}
-use Rattle.rl_tool.specs.Streams.{AppendsBeginning}
+use Rattle.rl_program.specs.declared.fault.Fault.{Fault}
+use Rattle.rl_program.specs.declared.fault.Fault.TheVariants.{Read, Write, NotText, Memory, Literal}
+use Rattle.rl_program.specs.Streams.{AppendsBeginning}
 use Rattle.rl_tool.specs.Runs.{Shows, Prints, PrintsBeginning, IsRefusalOf, IsFaultOf}
 
 -- a fact of the bytes that were read is one of the known bytes

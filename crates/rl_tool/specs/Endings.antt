@@ -5,7 +5,7 @@ use Rattle.rl_tool.specs.declared.command.Command.{Command}
 use Rattle.rl_tool.specs.declared.ending.Ending.{Ending}
 use Rattle.rl_tool.specs.declared.ending.Ending.TheVariants.{Done, Usage, Failed}
 use Rattle.rl_tool.specs.Commands.{AskFor}
-use Rattle.rl_tool.specs.Faults.{fault_line, fault_status}
+use Rattle.rl_program.specs.Faults.{fault_line, fault_status}
 use Rattle.rl_tool.specs.Runs.{Prints, IsFaultOf}
 
 -- the status that the program ends with

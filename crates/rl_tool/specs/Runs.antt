@@ -10,10 +10,10 @@ use Rattle.rust_literals.specs.declared.lit.Lit.{Lit}
 use Rattle.rust_literals.specs.Parsing.{AreRead, RefusesText}
 use Rattle.rl_tool.specs.declared.command.Command.{Command}
 use Rattle.rl_tool.specs.declared.command.Command.TheVariants.{Text, Read as ReadCommand, Attr}
-use Rattle.rl_tool.specs.declared.fault.Fault.{Fault}
-use Rattle.rl_tool.specs.declared.fault.Fault.TheVariants.{Read, Write, NotText, Memory, Literal}
+use Rattle.rl_program.specs.declared.fault.Fault.{Fault}
+use Rattle.rl_program.specs.declared.fault.Fault.TheVariants.{Read, Write, NotText, Memory, Literal}
 use Rattle.rl_lines.specs.Lines.{IsLineOf, AreLinesOfText}
-use Rattle.rl_tool.specs.Streams.{AppendsBeginning}
+use Rattle.rl_program.specs.Streams.{AppendsBeginning}
 use Rattle.rl_attributes.specs.Attributes.{Attribute, AreAttributesOf, RefusesAttributeText}
 use Rattle.rl_attributes.specs.EntryLines.{ShowsAttributes}
 

@@ -6,8 +6,8 @@ ghost use Rattle.rl_tool.specs.declared.command.Command.TheVariants.{Attr};
 ghost use Rattle.rl_tool.specs.Runs.{Shows, IsRefusalOf};
 
 use crate::attr::read;
-use crate::fault::Fault;
 use rl_attributes::entry_lines;
+use rl_program::Fault;
 use std::alloc::Allocator;
 
 /// The lines of the text's attributes.

@@ -4,8 +4,8 @@ ghost use Rattle.std.specs.Prelude.{◌≡◌, Some};
 ghost use Rattle.rl_tool.specs.Endings.{ending_line, status_of, EndsAs};
 
 use crate::command::Command;
-use crate::fault::Fault;
 use crate::run::run;
+use rl_program::Fault;
 use std::alloc::{Allocator, Global};
 use std::fmt;
 use std::io::{Read, Write};

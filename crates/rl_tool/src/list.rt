@@ -9,8 +9,8 @@ ghost use Rattle.rl_tool.specs.declared.command.Command.TheVariants.{Read};
 ghost use Rattle.rl_tool.specs.Runs.{Shows, TellsLiteral, IsRefusalOf};
 ghost use Rattle.rl_tool.specs.Lists.{Lengthens, AreFirstLines};
 
-use crate::fault::Fault;
 use rl_lines::push_literals;
+use rl_program::Fault;
 use rl_tokens::Tokens;
 use rust_literals::{Lit, read_behind, read_next};
 use std::alloc::Allocator;

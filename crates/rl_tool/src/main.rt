@@ -9,34 +9,21 @@ mod attr;
 mod attribute_lines;
 mod command;
 mod ending;
-mod fault;
 mod list;
 mod run;
-mod streams;
 #[cfg(test)]
 mod tests;
 
 use ending::{Ending, call};
-use std::env;
+use rl_program::{arguments, finish};
 use std::process::ExitCode;
 
-/// The program's arguments, its own name the first; none where they can't be had.
-fn arguments(rt: &HostRuntime) -> Vec<String> {
-    match env::args(rt) {
-        Ok(args) => args.collect(rt.alloc()).unwrap_or(Vec::new(rt.alloc())),
-        Err(_) => Vec::new(rt.alloc()),
-    }
-}
-
-/// Tells why the program failed, where it did, and ends it.
+/// Reports why the program failed, where it did, and ends it.
 fn tell(rt: &impl Eprint, ending: Ending) -> ExitCode
     ensures { exit_status result ≡ status_of ending }
 {
     let status = ending.status();
-    if status != 0 {
-        let _ = rt.eprintln(ending);
-    }
-    ExitCode::from(status)
+    finish(rt, status, (status != 0).then_some(ending))
 }
 
 fn main(rt: HostRuntime) -> ExitCode {

@@ -6,31 +6,17 @@ ghost use Rattle.rl_tool.specs.declared.command.Command.TheVariants.{Text};
 ghost use Rattle.rl_tokens.specs.Errors.{memory_at};
 ghost use Rattle.rust_literals.specs.Literals.{IsReadFrom};
 ghost use Rattle.rust_literals.specs.LitParts.{ReadsAsNumber};
-ghost use Rattle.rl_tool.specs.declared.fault.Fault.TheVariants.{NotText, Memory};
 ghost use Rattle.rl_tool.specs.Runs.{whole_token, Shows, Prints, TellsLiteral, IsFaultOf, IsRefusalOf};
 
 use crate::attribute_lines::attribute_lines;
 use crate::command::Command;
-use crate::fault::Fault;
 use crate::list::literal_lines;
-use crate::streams::{read_whole, write_whole};
 use rl_lines::line_of;
+use rl_program::{Fault, read_whole, text_of, write_whole};
 use rl_tokens::{Literal, Span};
 use rust_literals::Lit;
 use std::alloc::Allocator;
 use std::io::{Read, Write};
-
-/// The text of the bytes.
-fn text_of<A: Allocator>(bytes: &[u8]) -> Result<&str, Fault<A>>
-    ensures text { IfOk result (λ text. text.now ≡ bytes.now) }
-    ensures utf8 { OnOk result (IsUtf8 bytes.now) }
-    ensures refusal { IfErr result (λ fault. (fault ≡ NotText) × (IsUtf8 bytes.now → ⊥)) }
-{
-    match std::str::from_utf8(bytes) {
-        Ok(text) => Ok(text),
-        Err(_) => Err(Fault::NotText),
-    }
-}
 
 /// The whole input as one token. The input is let go.
 fn token_of<A: Allocator + Copy>(alloc: A, bytes: Vec<u8, A>) -> Result<Literal<A>, Fault<A>>

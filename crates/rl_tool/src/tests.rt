@@ -6,7 +6,7 @@ mod refused;
 
 use crate::command::Command;
 use crate::ending::{Ending, call};
-use crate::fault::Fault;
+use rl_program::Fault;
 use crate::run::run;
 use rl_tokens::{Error, ErrorKind, Span};
 use std::alloc::Global;

@@ -1,7 +1,7 @@
 //! Readers and writers that fail, or give and take few bytes a call.
 
 use crate::command::Command;
-use crate::fault::Fault;
+use rl_program::Fault;
 use crate::run::run;
 use std::io::{self, ErrorKind, Read, Write};
 use std::test::Fail;

@@ -1,0 +1,64 @@
+//! Why a run fails.
+
+ghost use Rattle.std.specs.Prelude.{◌≡◌, Some};
+ghost use Rattle.rl_program.specs.Faults.{fault_line, fault_status};
+
+use rl_lines::Refusal;
+use rl_tokens::Error;
+use std::alloc::{AllocError, Allocator, Global};
+use std::fmt;
+
+/// Why a run failed.
+#[derive(Drop)]
+#[derive_where(Debug)]
+pub enum Fault<A: Allocator = Global> {
+    /// A call of the reader failed, or its turns brought no end.
+    Read,
+    /// A call of the writer failed, or took no byte.
+    Write,
+    /// The input isn't UTF-8.
+    NotText,
+    /// An allocation failed, outside a literal.
+    Memory,
+    /// The text was rejected, at a place of it.
+    Literal(Error<A>),
+}
+
+impl<A: Allocator> Fault<A> {
+    /// The status that the program ends with: 2 where reading or writing failed, else 1.
+    pub fn status(&self) -> u8
+        ensures { result ≡ fault_status self.now }
+    {
+        match self {
+            Fault::Read | Fault::Write => 2,
+            _ => 1,
+        }
+    }
+}
+
+/// An allocation failure.
+impl<A: Allocator> From<AllocError> for Fault<A> {
+    ghost use Rattle.std.specs.Prelude.{◌≡◌};
+    ghost use Rattle.rl_program.specs.declared.fault.Fault.TheVariants.{Memory};
+
+    ghost from_gives = { λ refused fault. fault ≡ Memory };
+
+    fn from(_: AllocError) -> Self {
+        Self::Memory
+    }
+}
+
+/// The line that a program reports the fault by, with places in bytes.
+impl<A: Allocator> fmt::Display for Fault<A> {
+    ghost output = { λ fault. Some (fault_line fault) };
+
+    fn fmt<W: fmt::Write>(&self, f: &mut fmt::Formatter<W>) -> fmt::Result {
+        match self {
+            Fault::Read => write!(f, "error: read failed"),
+            Fault::Write => write!(f, "error: write failed"),
+            Fault::NotText => write!(f, "error: input is not UTF-8"),
+            Fault::Memory => write!(f, "error: out of memory"),
+            Fault::Literal(error) => write!(f, "{}", Refusal(error)),
+        }
+    }
+}

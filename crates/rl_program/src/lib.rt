@@ -1,0 +1,11 @@
+//! What the programs share: a whole input, whole lines written, why a run fails, and how a program
+//! ends.
+#![tactic(auto)]
+
+mod ending;
+mod fault;
+mod streams;
+
+pub use crate::ending::{arguments, finish};
+pub use crate::fault::Fault;
+pub use crate::streams::{read_whole, text_of, write_whole};

@@ -1,0 +1,83 @@
+//! Reading a whole input, its text, and writing whole lines.
+
+ghost use Rattle.std.specs.Prelude.{◌≡◌, ◌⊎◌, OnOk, IfOk, IfErr, IfSome};
+ghost use Rattle.std.specs.Str.{IsUtf8};
+ghost use Rattle.std.specs.Io.KnownBytes.{Appends};
+ghost use Rattle.rl_program.specs.Streams.{AppendsBeginning};
+ghost use Rattle.rl_program.specs.declared.fault.Fault.TheVariants.{Read, Write, NotText, Memory};
+
+use crate::fault::Fault;
+use std::alloc::Allocator;
+use std::io::{Read, Write};
+
+/// How many bytes a turn of reading asks for.
+const TURN: usize = 8192;
+
+/// How many turns of reading there are at most.
+const TURNS: u32 = u32::MAX;
+
+const _: () = prove!(TURNS == 4_294_967_295);
+
+/// All bytes of the input, read in at most 4,294,967,295 turns. An error of any kind counts as a
+/// failed call.
+///
+/// # Errors
+///
+/// `Read` where a call of the reader failed or the turns brought no end, `Memory` where an
+/// allocation failed.
+pub fn read_whole<A: Allocator, R: Read>(alloc: A, input: &mut R) -> Result<Vec<u8, A>, Fault<A>>
+    ensures bytes { IfOk result
+        (λ bytes. IfSome (R.remaining input.old) (λ all. bytes.items ≡ all)) }
+    ensures faults { IfErr result (λ fault. (fault ≡ Read) ⊎ (fault ≡ Memory)) }
+{
+    let mut bytes = Vec::new(alloc);
+    let mut turn = [0_u8; TURN];
+    for _ in 0..TURNS {
+        match input.read(&mut turn) {
+            Ok(0) => return Ok(bytes),
+            Ok(count) => {
+                if bytes.extend_from_slice(&turn[..count]).is_err() {
+                    return Err(Fault::Memory);
+                }
+            }
+            Err(_) => return Err(Fault::Read),
+        }
+    }
+    Err(Fault::Read)
+}
+
+/// The text of the bytes.
+///
+/// # Errors
+///
+/// `NotText` where they aren't UTF-8.
+pub fn text_of<A: Allocator>(bytes: &[u8]) -> Result<&str, Fault<A>>
+    ensures text { IfOk result (λ text. text.now ≡ bytes.now) }
+    ensures utf8 { OnOk result (IsUtf8 bytes.now) }
+    ensures refusal { IfErr result (λ fault. (fault ≡ NotText) × (IsUtf8 bytes.now → ⊥)) }
+{
+    match std::str::from_utf8(bytes) {
+        Ok(text) => Ok(text),
+        Err(_) => Err(Fault::NotText),
+    }
+}
+
+/// Writes all bytes. A write that takes none counts as failed.
+///
+/// # Errors
+///
+/// `Write` where a call of the writer failed. A beginning of the bytes may have been written then.
+pub fn write_whole<A: Allocator, W: Write>(out: &mut W, bytes: &[u8]) -> Result<(), Fault<A>>
+    ensures all { OnOk result (Appends (W.contents out.old) (W.contents out.new) bytes.now) }
+    ensures beginning { IfErr result (λ fault. (fault ≡ Write)
+        × AppendsBeginning (W.contents out.old) (W.contents out.new) bytes.now) }
+{
+    let mut rest = bytes;
+    while !rest.is_empty() {
+        match out.write(rest) {
+            Ok(count) if count > 0 => rest = &rest[count..],
+            _ => return Err(Fault::Write),
+        }
+    }
+    Ok(())
+}

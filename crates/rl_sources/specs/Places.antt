@@ -1,0 +1,19 @@
+-- Places of a source, as they are printed.
+use Rattle.std.specs.Prelude.{◌≡◌, ℕ, ◌+◌, Bool, false, true, List, ◌++◌, codes}
+use Rattle.std.specs.Fmt.{decimal}
+use Rattle.rl_tokens.specs.Texts.{byte_len}
+use Rattle.rl_tokens.specs.Lines.{BeginsAt}
+use Rattle.rl_sources.specs.declared.place.Place.{Place}
+use Rattle.rl_sources.specs.declared.place.Place.TheVariants.{Bytes, Line}
+
+-- `LO..HI`, in bytes, or `LINE:COLUMN`
+abbrev pub place_text : Place → List ℕ
+place_text (Bytes lo hi) = decimal lo ++ (codes ".." ++ decimal hi)
+place_text (Line at) = decimal at.line ++ (codes ":" ++ decimal at.column)
+
+-- the place of these bytes of a text: by its bytes, or by the line and column where it begins
+abbrev pub IsPlaceIn : Bool → List ℕ → ℕ → ℕ → Place → Type 0
+IsPlaceIn by_line text lo hi (Bytes from to) = (by_line ≡ false) × (from ≡ lo) × (to ≡ hi)
+IsPlaceIn by_line text lo hi (Line at) =
+    (by_line ≡ true)
+    × ((rest : List ℕ) × BeginsAt text rest at × (lo + byte_len rest ≡ byte_len text))

@@ -1,0 +1,104 @@
+-- What is shown of a source: a line for each of its literals, after its place. Texts and what is
+-- shown are lists of characters, what is written lists of bytes.
+use Rattle.std.specs.Prelude.{◌≡◌, ◌≢◌, ◌⊎◌, ◌↔◌, ℕ, ◌+◌, Bool, List, [], ◌∷◌, ◌++◌, IsTrue, encode_utf8_all, Option}
+use Prim.Native.Char.{code}
+use Rattle.std.specs.List.{All}
+use Rattle.std.specs.Io.KnownBytes.{Appends}
+use Rattle.rl_tokens.specs.Texts.{byte_len}
+use Rattle.rl_tokens.specs.Lexemes.{LiteralForm, IdentifierForm}
+use Rattle.rl_tokens.specs.Reading.{truth_text}
+use Rattle.rl_tokens.specs.Sources.{source_text, SourceKind, PlainKind, StrayKind, kind_of, CutSource, source_end, IsCutUpTo, SourceBefore, SourceErrorAt}
+use Rattle.rl_tokens.specs.declared.lex_error.LexKind.{LexKind}
+use Rattle.rl_tokens.specs.declared.lex_error.LexKind.TheVariants.{StrayCharacter}
+use Rattle.rl_lines.specs.Lines.{IsLineOf, IsLabelOf, Joins}
+use Rattle.rl_program.specs.Streams.{AppendsBeginning}
+use Rattle.rl_program.specs.declared.fault.Fault.TheVariants.{Write, Memory}
+use Rattle.rl_sources.specs.declared.options.Options.{Options}
+use Rattle.rl_sources.specs.declared.place.Place.{Place}
+use Rattle.rl_sources.specs.declared.scan.ScanError.{ScanError}
+use Rattle.rl_sources.specs.declared.scan.ScanError.TheVariants.{Fault, Source}
+use Rattle.rl_sources.specs.Options.{Picks}
+use Rattle.rl_sources.specs.Places.{place_text, IsPlaceIn}
+
+-- the line of a text as a literal, after its place in the whole source
+abbrev pub IsPlacedLine : Bool → List ℕ → List ℕ → ℕ → ℕ → List ℕ → Type 0
+IsPlacedLine by_line whole text lo hi shown =
+    (place : Place) × (line : List ℕ) × IsPlaceIn by_line whole lo hi place × IsLineOf text line
+    × (shown ≡ place_text place ++ (code " " ∷ line))
+
+-- what is shown of a literal: its line where it is picked, else nothing
+abbrev pub IsShownLiteral : Options → List ℕ → List ℕ → ℕ → ℕ → List ℕ → Type 0
+IsShownLiteral options whole text lo hi shown =
+    (label : List ℕ) × IsLabelOf text label
+    × ((Picks options.shown label × IsPlacedLine options.by_line whole text lo hi shown)
+    ⊎ ((Picks options.shown label → ⊥) × (shown ≡ [])))
+
+-- what is shown of a token: of a literal, and of the words `true` and `false`, what is shown of
+-- that literal; of anything else nothing
+abbrev pub IsShownToken : Options → List ℕ → SourceKind → List ℕ → ℕ → ℕ → List ℕ → Type 0
+IsShownToken options whole (PlainKind LiteralForm) text lo hi shown =
+    IsShownLiteral options whole text lo hi shown
+IsShownToken options whole (PlainKind IdentifierForm) text lo hi shown =
+    ((b : Bool) × (text ≡ truth_text b) × IsShownLiteral options whole text lo hi shown)
+    ⊎ (((b : Bool) → text ≢ truth_text b) × (shown ≡ []))
+IsShownToken options whole _ text lo hi shown = shown ≡ []
+
+abbrev pub IsShown : Options → List ℕ → CutSource → List ℕ → Type 0
+IsShown options whole w shown =
+    IsShownToken options whole (kind_of w.token) (source_text w.token) w.at (source_end w) shown
+
+-- the token isn't a stray character
+abbrev pub IsNoStray : CutSource → Type 0
+IsNoStray w = kind_of w.token ≢ StrayKind
+
+-- The source is cut into these tokens up to the rest, no stray among them where strays are
+-- rejected, and this is what is shown of them, in order.
+pub record ShowsUpTo (options : Options) (whole : List ℕ) (cuts : List CutSource) (rest shown : List ℕ)
+    : Type 0 where
+  pub are_cuts : IsCutUpTo whole cuts rest
+  pub accepted : IsTrue options.rejects_strays → All IsNoStray cuts
+  pub lines : Joins (IsShown options whole) cuts shown
+
+-- this is what is shown of a front of the source
+abbrev pub ShowsFront : Options → List ℕ → List ℕ → Type 0
+ShowsFront options whole shown =
+    (cuts : List CutSource) × (rest : List ℕ) × ShowsUpTo options whole cuts rest shown
+
+-- an error of this kind begins the rest: no token begins it, or a stray where strays are rejected
+abbrev pub IsErrorAt : Bool → LexKind → List ℕ → Type 0
+IsErrorAt rejects_strays kind rest =
+    SourceErrorAt kind rest
+    ⊎ (IsTrue rejects_strays × (kind ≡ StrayCharacter)
+    × ((after : List ℕ) × SourceBefore rest StrayKind after))
+
+-- This is what is shown of the source up to its first error, which is of this kind and stands at
+-- this place.
+pub record StopsAt (options : Options) (whole shown : List ℕ) (place : Place) (kind : LexKind)
+    : Type 0 where
+  pub cuts : List CutSource
+  pub rest : List ℕ
+  pub shows : ShowsUpTo options whole cuts rest shown
+  pub error : IsErrorAt options.rejects_strays kind rest
+  pub at : ℕ
+  pub rest_place : at + byte_len rest ≡ byte_len whole
+  pub place_is : IsPlaceIn options.by_line whole at at place
+
+-- What was written is what is shown of the whole source, and it says whether that is anything.
+abbrev pub Scans : Options → List ℕ → Option (List ℕ) → Option (List ℕ) → Bool → Type 0
+Scans options whole old new any =
+    (cuts : List CutSource) × (shown : List ℕ) × ShowsUpTo options whole cuts [] shown
+    × (IsTrue any ↔ (shown ≢ [])) × Appends old new (encode_utf8_all shown)
+
+-- What was written before an error: what is shown of the source up to the place of the error; of a
+-- front of it where an allocation failed; a beginning of that where a write failed.
+abbrev pub FailsScan : {A : Type 0} → Options → List ℕ → Option (List ℕ) → Option (List ℕ)
+    → ScanError A → Type 0
+FailsScan options whole old new (Source place kind) =
+    (shown : List ℕ) × StopsAt options whole shown place kind
+    × Appends old new (encode_utf8_all shown)
+FailsScan options whole old new (Fault Memory) =
+    (shown : List ℕ) × ShowsFront options whole shown × Appends old new (encode_utf8_all shown)
+FailsScan options whole old new (Fault Write) =
+    (shown : List ℕ) × ShowsFront options whole shown
+    × AppendsBeginning old new (encode_utf8_all shown)
+FailsScan options whole old new (Fault _) = ⊥

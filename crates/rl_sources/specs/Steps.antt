@@ -1,0 +1,52 @@
+-- Steps of a scan.
+use Rattle.std.specs.Prelude.{◌≡◌, ◌≢◌, ℕ, ◌+◌, ◌<◌, Bool, List, [], ◌∷◌, ◌++◌, length, IsTrue, Option, IfSome}
+use Rattle.std.specs.Str.{chars}
+use Rattle.rl_tokens.specs.Texts.{byte_len, IsTail}
+use Rattle.rl_tokens.specs.Cursors.{CursorState, IsCursorState}
+use Rattle.rl_tokens.specs.Sources.{CutSource, StrayKind, source_view}
+use Rattle.rl_tokens.specs.declared.sources.SourceToken.{SourceToken}
+use Rattle.rl_lines.specs.Lines.{IsLineOfLit}
+use Rattle.rust_literals.specs.declared.lit.Lit.{Lit}
+use Prim.Native.Char.{code}
+use Rattle.rl_sources.specs.declared.options.Options.{Options}
+use Rattle.rl_sources.specs.declared.place.Place.{Place}
+use Rattle.rl_sources.specs.declared.step.Step.{Step}
+use Rattle.rl_sources.specs.declared.step.Step.TheVariants.{More, End, Error}
+use Rattle.rl_sources.specs.Places.{place_text, IsPlaceIn}
+use Rattle.rl_sources.specs.Scans.{ShowsUpTo, IsErrorAt}
+
+-- a literal's line, after a place
+abbrev pub IsPlacedLit : {A : Type 0} → Place → Lit A → List ℕ → Type 0
+IsPlacedLit place literal shown =
+    (line : List ℕ) × IsLineOfLit literal line × (shown ≡ place_text place ++ (code " " ∷ line))
+
+-- where strays are rejected, no token is one
+abbrev pub IsAccepted : Bool → Option SourceToken → Type 0
+IsAccepted rejects_strays token =
+    IfSome token (λ l. IsTrue rejects_strays → source_view l.form ≢ StrayKind)
+
+-- The cursor over tokens and the one over places go over one text, the second not ahead.
+pub record StandsAt (tokens places : CursorState) : Type 0 where
+  pub cursor : IsCursorState tokens.text tokens.rest
+  pub text_is : places.text ≡ tokens.text
+  pub behind : IsTail places.rest tokens.rest
+
+-- Whatever is shown of the source up to the old rest: with this piece it is what is shown up to the
+-- new one.
+pub record Adds (options : Options) (whole old new piece : List ℕ) : Type 0 where
+  pub more : List CutSource
+  pub goes_on : (cuts : List CutSource) (shown : List ℕ) → ShowsUpTo options whole cuts old shown
+      → ShowsUpTo options whole (cuts ++ more) new (shown ++ piece)
+
+-- What was gathered is what is shown from the old cursor on: up to the new one, up to the end, or
+-- up to an error.
+abbrev pub IsStepOf : Options → CursorState → List ℕ → CursorState → Step → Type 0
+IsStepOf options old piece new More =
+    Adds options (chars old.text) (chars old.rest) (chars new.rest) piece
+    × (length new.rest < length old.rest)
+IsStepOf options old piece new End = Adds options (chars old.text) (chars old.rest) [] piece
+IsStepOf options old piece new (Error place kind) =
+    (at : ℕ) × (rest : List ℕ) × Adds options (chars old.text) (chars old.rest) rest piece
+    × IsErrorAt options.rejects_strays kind rest
+    × (at + byte_len rest ≡ byte_len (chars old.text))
+    × IsPlaceIn options.by_line (chars old.text) at at place

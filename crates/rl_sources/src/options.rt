@@ -1,0 +1,46 @@
+//! How a source is scanned.
+
+ghost use Rattle.std.specs.Prelude.{◌↔◌, IsTrue};
+ghost use Rattle.rl_sources.specs.Options.{Names, Picks};
+
+/// Which literals are shown.
+#[derive(Clone, Copy)]
+pub enum Shown<'a> {
+    /// All of them.
+    All,
+    /// Those whose lines begin with one of these words; commas separate the words.
+    Only(&'a str),
+    /// Those that have no reading.
+    Bad,
+}
+
+/// How a source is scanned.
+#[derive(Clone, Copy)]
+pub struct Options<'a> {
+    /// Which literals are shown.
+    pub shown: Shown<'a>,
+    /// Whether places are told as lines and columns, and not as bytes.
+    pub by_line: bool,
+    /// Whether a stray character is an error, as it is in Rust.
+    pub rejects_strays: bool,
+}
+
+/// Whether this is one of the words of a list; commas separate the words.
+fn names(list: &str, label: &str) -> bool
+    ensures { IsTrue result ↔ Names list.now label.now }
+{
+    list.split(',').any(|word| word == label)
+}
+
+impl Shown<'_> {
+    /// Whether a literal is shown whose line begins with this word.
+    pub fn picks(self, label: &str) -> bool
+        ensures { IsTrue result ↔ Picks self.entry label.now }
+    {
+        match self {
+            Shown::All => true,
+            Shown::Only(list) => names(list, label),
+            Shown::Bad => label == "Verbatim",
+        }
+    }
+}

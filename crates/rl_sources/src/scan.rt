@@ -1,0 +1,66 @@
+//! The lines of a whole source, written as they are made.
+
+ghost use Rattle.std.specs.Prelude.{IfOk, IfErr};
+ghost use Rattle.std.specs.Str.{chars};
+ghost use Rattle.rl_sources.specs.Scans.{Scans, FailsScan};
+
+use crate::options::Options;
+use crate::place::Place;
+use crate::step::{Step, gather};
+use rl_program::{Fault, write_whole};
+use rl_tokens::{LexKind, Lines, Sources};
+use std::alloc::{Allocator, Global};
+use std::fmt;
+use std::io::Write;
+
+/// Why a scan ended before the end of the source.
+#[derive(Drop)]
+pub enum ScanError<A: Allocator = Global> {
+    /// An allocation or a write failed; in a run also a read, or the input isn't UTF-8.
+    Fault(Fault<A>),
+    /// An error of the source, at a place: a quote or a comment that isn't closed, or a stray
+    /// character where these are rejected.
+    Source(Place, LexKind),
+}
+
+/// Writes a line for each literal of a source, in order: its place, and what `rl_lines` prints of
+/// its text. Tokens are cut by [`Sources`]; the words `true` and `false` are literals too. Lines are
+/// written as they are made, 64 KB at once. Returns whether any line was written.
+///
+/// # Errors
+///
+/// `Source` at the first error of the source, after the lines of all literals before it. `Memory`
+/// where an allocation failed, after the lines of some of the first. `Write` where a write failed;
+/// a beginning of the lines may have been written then.
+pub fn scan<A: Allocator + Copy, W: Write>(
+    alloc: A,
+    options: Options<'_>,
+    text: &str,
+    out: &mut W,
+) -> Result<bool, ScanError<A>>
+    ensures scans { IfOk result
+        (Scans options.entry (chars text.now) (W.contents out.old) (W.contents out.new)) }
+    ensures fails { IfErr result
+        (FailsScan options.entry (chars text.now) (W.contents out.old) (W.contents out.new)) }
+{
+    let mut tokens = Sources::new(text);
+    let mut places = Lines::new(text);
+    let mut lines = String::new(alloc);
+    let mut any = false;
+    loop {
+        let Ok(step) = gather(alloc, options, &mut tokens, &mut places, &mut lines) else {
+            return Err(ScanError::Fault(Fault::Memory));
+        };
+        match write_whole(out, lines.as_bytes()) {
+            Ok(()) => {}
+            Err(fault) => return Err(ScanError::Fault(fault)),
+        }
+        any = any || !lines.is_empty();
+        lines.clear();
+        match step {
+            Step::More => {}
+            Step::End => return Ok(any),
+            Step::Error(place, kind) => return Err(ScanError::Source(place, kind)),
+        }
+    }
+}

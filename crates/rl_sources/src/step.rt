@@ -1,0 +1,174 @@
+//! What is shown of the tokens of a source, one after another.
+
+ghost use Rattle.std.specs.Prelude.{◌≡◌, ◌+◌, [], length, IfOk, IfErr, OnOk, MatchOption, string_bytes};
+ghost use Rattle.std.specs.Str.{chars};
+ghost use Rattle.rl_lines.specs.Lines.{Appends};
+ghost use Rattle.rust_literals.specs.Literals.{IsReadFrom};
+ghost use Rattle.rl_tokens.specs.Texts.{IsTail};
+ghost use Rattle.rl_tokens.specs.Cursors.{IsCursorState};
+ghost use Rattle.rl_tokens.specs.Sources.{source_view, TakesSource};
+ghost use Rattle.rl_sources.specs.Scans.{IsShownLiteral, IsShownToken, IsErrorAt};
+ghost use Rattle.rl_sources.specs.Steps.{IsPlacedLit, IsAccepted, StandsAt, IsStepOf};
+
+use crate::options::Options;
+use crate::place::{Place, place_of};
+use rl_grammar::truth_of;
+use rl_lines::{label_of, push_literal};
+use rl_tokens::{Form, LexError, LexKind, Lines, Literal, SourceForm, SourceToken, Sources, Span};
+use rust_literals::Lit;
+use std::alloc::{AllocError, Allocator};
+
+/// How many bytes of lines are gathered before they are written.
+const FULL: usize = 65_536;
+
+/// The literal of a token's text.
+fn literal_of<A: Allocator + Copy>(alloc: A, token: SourceToken<'_>) -> Result<Lit<A>, AllocError>
+    ensures { IfOk result (IsReadFrom (record {
+      text = token.entry.text.now;
+      span = record { file = 0; lo = token.entry.lo; hi = token.entry.hi };
+    })) }
+{
+    let Ok(token) = Literal::from_text(alloc, token.text, Span::new(0, token.lo, token.hi)) else {
+        return Err(AllocError);
+    };
+    match Lit::new(alloc, token) {
+        Ok(literal) => Ok(literal),
+        Err(_) => Err(AllocError),
+    }
+}
+
+/// Appends a place, and the line of a literal.
+fn push_placed<A: Allocator + Copy>(
+    alloc: A,
+    out: &mut String<A>,
+    place: Place,
+    literal: &Lit<A>,
+) -> Result<(), AllocError>
+    ensures { OnOk result (Appends (IsPlacedLit place literal.now)
+        (chars (string_bytes out.old)) (chars (string_bytes out.new))) }
+{
+    write!(out, "{place} ")?;
+    push_literal(alloc, out, literal)
+}
+
+/// Appends what is shown of a literal.
+fn push_literal_token<'t, A: Allocator + Copy>(
+    alloc: A,
+    out: &mut String<A>,
+    options: Options<'_>,
+    token: SourceToken<'t>,
+    rest: &'t str,
+    places: &mut Lines<'t>,
+) -> Result<(), AllocError>
+    requires text { IsCursorState places.old.text rest.now }
+    requires behind { IsTail places.old.rest rest.now }
+    requires lo { token.entry.lo + length rest.now ≡ length places.old.text }
+    ensures shown { OnOk result (Appends
+        (IsShownLiteral options.entry (chars places.old.text) (chars token.entry.text.now)
+        token.entry.lo token.entry.hi)
+        (chars (string_bytes out.old)) (chars (string_bytes out.new))) }
+    ensures text { places.new.text ≡ places.old.text }
+    ensures behind { IsTail places.new.rest rest.now }
+{
+    let literal = literal_of(alloc, token)?;
+    if !options.shown.picks(label_of(literal.kind())) {
+        return Ok(());
+    }
+    let place = place_of(options.by_line, places, rest, token.lo, token.hi);
+    push_placed(alloc, out, place, &literal)
+}
+
+/// Appends what is shown of a token, at whose first byte the rest of the source begins.
+fn push_token<'t, A: Allocator + Copy>(
+    alloc: A,
+    out: &mut String<A>,
+    options: Options<'_>,
+    token: SourceToken<'t>,
+    rest: &'t str,
+    places: &mut Lines<'t>,
+) -> Result<(), AllocError>
+    requires text { IsCursorState places.old.text rest.now }
+    requires behind { IsTail places.old.rest rest.now }
+    requires lo { token.entry.lo + length rest.now ≡ length places.old.text }
+    ensures shown { OnOk result (Appends
+        (IsShownToken options.entry (chars places.old.text) (source_view token.entry.form)
+        (chars token.entry.text.now) token.entry.lo token.entry.hi)
+        (chars (string_bytes out.old)) (chars (string_bytes out.new))) }
+    ensures text { places.new.text ≡ places.old.text }
+    ensures behind { IsTail places.new.rest rest.now }
+{
+    match token.form {
+        SourceForm::Token(Form::Literal) => {
+            push_literal_token(alloc, out, options, token, rest, places)
+        }
+        SourceForm::Token(Form::Identifier) => match truth_of(token.text) {
+            Some(_) => push_literal_token(alloc, out, options, token, rest, places),
+            None => Ok(()),
+        },
+        _ => Ok(()),
+    }
+}
+
+/// Cuts off the next token: `None` at the end of the source.
+fn next_token<'t>(
+    rejects_strays: bool,
+    tokens: &mut Sources<'t>,
+) -> Result<Option<SourceToken<'t>>, LexError>
+    ensures token { IfOk result (λ token. MatchOption token (tokens.old.rest ≡ [])
+        (λ l. TakesSource tokens.old l tokens.new)) }
+    ensures accepted { IfOk result (IsAccepted rejects_strays) }
+    ensures error { IfErr result (λ e. IsErrorAt rejects_strays e.kind (chars tokens.old.rest)) }
+    ensures place { IfErr result (λ e. e.at + length tokens.old.rest ≡ length tokens.old.text) }
+{
+    match tokens.next() {
+        Some(token) if rejects_strays && matches!(token.form, SourceForm::Stray) => Err(LexError {
+            kind: LexKind::StrayCharacter,
+            at: token.lo,
+        }),
+        Some(token) => Ok(Some(token)),
+        None => match tokens.error() {
+            Some(error) => Err(error),
+            None => Ok(None),
+        },
+    }
+}
+
+/// What comes after the lines that were gathered.
+#[derive(Clone, Copy)]
+pub(crate) enum Step {
+    /// More tokens.
+    More,
+    /// The end of the source.
+    End,
+    /// An error, at a place.
+    Error(Place, LexKind),
+}
+
+/// Gathers the lines of tokens, as many as are to be written at once.
+pub(crate) fn gather<'t, A: Allocator + Copy>(
+    alloc: A,
+    options: Options<'_>,
+    tokens: &mut Sources<'t>,
+    places: &mut Lines<'t>,
+    out: &mut String<A>,
+) -> Result<Step, AllocError>
+    requires stands { StandsAt tokens.old places.old }
+    requires empty { string_bytes out.old ≡ [] }
+    ensures step { IfOk result
+        (IsStepOf options.entry tokens.old (chars (string_bytes out.new)) tokens.new) }
+    ensures stands { OnOk result (StandsAt tokens.new places.new) }
+    ensures text { OnOk result (tokens.new.text ≡ tokens.old.text) }
+{
+    while out.len() < FULL {
+        let rest = tokens.rest();
+        match next_token(options.rejects_strays, tokens) {
+            Ok(Some(token)) => push_token(alloc, out, options, token, rest, places)?,
+            Ok(None) => return Ok(Step::End),
+            Err(error) => {
+                let place = place_of(options.by_line, places, rest, error.at, error.at);
+                return Ok(Step::Error(place, error.kind));
+            }
+        }
+    }
+    Ok(Step::More)
+}

@@ -1,0 +1,8 @@
+use Rattle.std.proofs.Common.{sym, subst, ℕ, List}
+use Rattle.std.specs.Str.{chars}
+use Rattle.rl_tokens.specs.Sources.{IsWithoutLine}
+use Rattle.rl_tokens.proofs.source.without_front.Goals as goal
+
+pub returns-clause-front : goal.returns-clause-front
+returns-clause-front c =
+    subst (λ (x : List ℕ). IsWithoutLine x (chars c.without_line.result.now)) c.without_mark.ensures.rest c.without_line.ensures.front

@@ -1,0 +1,204 @@
+//! The token at the front of a source.
+#![tactic(auto, using(crate::proofs::BehindLemmas::behind_step))]
+
+ghost use Rattle.std.specs.Prelude.{◌≡◌, ◌<◌, length, option_map, IfSome, IfNone};
+ghost use Rattle.std.specs.Str.{chars};
+ghost use Rattle.rl_tokens.specs.Texts.{IsTail};
+ghost use Rattle.rl_tokens.specs.Lexemes.{is_continue};
+ghost use Rattle.rl_tokens.specs.Sources.{is_in_line, source_view, SourceBefore, BeginsNoSource, IsWithoutLine, IsWithoutFront, without_mark};
+ghost use Rattle.rl_tokens.specs.Mirrors.LexemeAt.{after_run};
+ghost use Rattle.rl_tokens.specs.Mirrors.SourceAt.{after_doc, after_name, after_marked, after_any_name, after_lifetime, other_at, stray_at, any_at};
+
+use crate::characters::is_start;
+use crate::fault::{begins_raw_identifier, opens};
+use crate::front::{begins_with, strip_byte, without_first};
+use crate::lexeme::{Form, RunClass, after_row, first_lexeme};
+use crate::scan::{Marks, split_before};
+use crate::text::split_char;
+use crate::whitespace::{after_block, is_plain_block, is_plain_line, skip};
+
+/// What a token of a source is: what [`Sources`](crate::Sources) cuts off.
+#[derive(Clone, Copy)]
+pub enum SourceForm {
+    /// What [`Tokens`](crate::Tokens) cuts off too.
+    Token(Form),
+    /// `r#` and an identifier.
+    RawIdentifier,
+    /// `'` and an identifier, which may be raw.
+    Lifetime,
+    /// A doc comment: a line without its LF, or a block.
+    DocComment,
+    /// A character at which nothing else begins.
+    Stray,
+}
+
+/// The form of the token that the text begins with, and the rest after it. `None` where none does.
+#[inline(always)]
+pub(crate) fn first_source(text: &str) -> Option<(SourceForm, &str)>
+    ensures found { IfSome result
+        (λ p. SourceBefore (chars text.now) (source_view p.0) (chars p.1.now)) }
+    ensures none { IfNone result (BeginsNoSource (chars text.now)) }
+    ensures behind { IfSome result (λ p. IsTail text.now p.1.now) }
+    ensures shorter { IfSome result (λ p. length p.1.now < length text.now) }
+{
+    if let Some((form, behind)) = first_lexeme(text) {
+        return Some((SourceForm::Token(form), behind));
+    }
+    other_source(text)
+}
+
+/// The same, where it is no lexeme.
+#[inline(never)]
+fn other_source(text: &str) -> Option<(SourceForm, &str)>
+    ensures rest { option_map (λ p. (source_view p.0, chars p.1.now)) result
+        ≡ any_at (chars text.now) }
+    ensures behind { IfSome result (λ p. IsTail text.now p.1.now) }
+    ensures shorter { IfSome result (λ p. length p.1.now < length text.now) }
+{
+    match other_token(text) {
+        Some((form, behind)) => Some((form, behind)),
+        None => stray(text),
+    }
+}
+
+/// The same, where it is nothing but a stray character, if that.
+fn stray(text: &str) -> Option<(SourceForm, &str)>
+    ensures rest { option_map (λ p. (source_view p.0, chars p.1.now)) result
+        ≡ stray_at (chars text.now) }
+    ensures behind { IfSome result (λ p. IsTail text.now p.1.now) }
+    ensures shorter { IfSome result (λ p. length p.1.now < length text.now) }
+{
+    let (_, behind) = split_char(text)?;
+    if opens(text) {
+        return None;
+    }
+    Some((SourceForm::Stray, behind))
+}
+
+/// The same, where it is neither a lexeme nor a stray character.
+fn other_token(text: &str) -> Option<(SourceForm, &str)>
+    ensures rest { option_map (λ p. (source_view p.0, chars p.1.now)) result
+        ≡ other_at (chars text.now) }
+    ensures behind { IfSome result (λ p. IsTail text.now p.1.now) }
+    ensures shorter { IfSome result (λ p. length p.1.now < length text.now) }
+{
+    match split_char(text) {
+        Some(('/', behind)) => Some((SourceForm::DocComment, after_doc(behind)?)),
+        Some(('\'', behind)) => Some((SourceForm::Lifetime, after_lifetime(behind)?)),
+        Some(('r', behind)) => Some((SourceForm::RawIdentifier, after_marked(behind)?)),
+        _ => None,
+    }
+}
+
+/// What follows a doc comment, by what stands after its first slash: of a line its LF.
+fn after_doc(text: &str) -> Option<&str>
+    ensures rest { option_map (λ rest. chars rest.now) result ≡ after_doc (chars text.now) }
+    ensures behind { IfSome result (λ rest. IsTail text.now rest.now) }
+{
+    let (second, behind) = split_char(text)?;
+    if second == '/' {
+        if is_plain_line(behind) {
+            return None;
+        }
+        Some(line_end(behind))
+    } else if second == '*' {
+        if is_plain_block(behind) {
+            return None;
+        }
+        after_block(behind)
+    } else {
+        None
+    }
+}
+
+/// The text from its first LF on.
+fn line_end(text: &str) -> &str
+    ensures rest { chars result.now ≡ after_run is_in_line (chars text.now) }
+    ensures behind { IsTail text.now result.now }
+{
+    let (_, rest) = split_before(Marks::two(b'\n', b'\n'), text);
+    rest
+}
+
+/// What follows an identifier.
+fn after_name(text: &str) -> Option<&str>
+    ensures rest { option_map (λ rest. chars rest.now) result ≡ after_name (chars text.now) }
+    ensures behind { IfSome result (λ rest. IsTail text.now rest.now) }
+{
+    match split_char(text) {
+        Some((c, behind)) if is_start(c) => Some(after_row(RunClass::Continue, behind)),
+        _ => None,
+    }
+}
+
+/// What follows a hash and an identifier.
+fn after_marked(text: &str) -> Option<&str>
+    ensures rest { option_map (λ rest. chars rest.now) result ≡ after_marked (chars text.now) }
+    ensures behind { IfSome result (λ rest. IsTail text.now rest.now) }
+{
+    match split_char(text) {
+        Some(('#', behind)) => after_name(behind),
+        _ => None,
+    }
+}
+
+/// What follows an identifier, which may be raw.
+fn after_any_name(text: &str) -> Option<&str>
+    ensures rest { option_map (λ rest. chars rest.now) result ≡ after_any_name (chars text.now) }
+    ensures behind { IfSome result (λ rest. IsTail text.now rest.now) }
+{
+    if begins_raw_identifier(text) {
+        return after_name(without_first(without_first(text)));
+    }
+    after_name(text)
+}
+
+/// What follows a lifetime, by what stands after its apostrophe.
+fn after_lifetime(text: &str) -> Option<&str>
+    ensures rest { option_map (λ rest. chars rest.now) result ≡ after_lifetime (chars text.now) }
+    ensures behind { IfSome result (λ rest. IsTail text.now rest.now) }
+{
+    let rest = after_any_name(text)?;
+    match split_char(rest) {
+        Some(('\'', _)) => None,
+        _ => Some(rest),
+    }
+}
+
+/// The text without what may stand before its first token: a byte order mark, and an interpreter's
+/// line.
+pub(crate) fn without_front(text: &str) -> &str
+    ensures front { IsWithoutFront (chars text.now) (chars result.now) }
+    ensures behind { IsTail text.now result.now }
+{
+    without_line(without_mark(text))
+}
+
+/// The text without a byte order mark at its front.
+fn without_mark(text: &str) -> &str
+    ensures rest { chars result.now ≡ without_mark (chars text.now) }
+    ensures behind { IsTail text.now result.now }
+{
+    match split_char(text) {
+        Some(('\u{feff}', behind)) => behind,
+        _ => text,
+    }
+}
+
+/// The text without an interpreter's line at its front: `#!`, but not where an attribute's `[`
+/// follows.
+fn without_line(text: &str) -> &str
+    ensures front { IsWithoutLine (chars text.now) (chars result.now) }
+    ensures behind { IsTail text.now result.now }
+{
+    let Some(second) = strip_byte(text, b'#') else {
+        return text;
+    };
+    let Some(behind) = strip_byte(second, b'!') else {
+        return text;
+    };
+    if begins_with(skip(behind), '[') {
+        return text;
+    }
+    line_end(behind)
+}

@@ -1,0 +1,127 @@
+//! A whole source cut into its tokens, one at a time.
+
+ghost use Rattle.std.specs.Prelude.{◌≡◌, ◌<◌, ◌+◌, ◌⊎◌, ℕ, List, [], length, IfSome, IfNone};
+ghost use Rattle.std.specs.Str.{chars};
+ghost use Rattle.rl_tokens.specs.Sources.{SourceKind, SourceBefore, BeginsNoSource, SourceErrorAt};
+
+use crate::fault::source_error_kind;
+use crate::lex_error::LexError;
+use crate::source::{SourceForm, first_source, without_front};
+use crate::whitespace::skip;
+use std::marker::Model;
+
+/// A token of a source, borrowed from it: what it is, and where it stands.
+#[derive(Clone, Copy)]
+pub struct SourceToken<'t> {
+    /// What it is.
+    pub form: SourceForm,
+    /// Its text, a slice of the whole source.
+    pub text: &'t str,
+    /// The place of its first byte in the source.
+    pub lo: usize,
+    /// The place after its last byte.
+    pub hi: usize,
+}
+
+/// A whole Rust source, cut into tokens as they are asked for: those of [`Tokens`], and lifetimes,
+/// raw identifiers, doc comments and stray characters. White space and plain comments between them
+/// are dropped, and so are a byte order mark and an interpreter's line before them. It takes no
+/// memory. A delimiter is a token like any other; groups aren't counted.
+///
+/// [`Tokens`]: crate::Tokens
+#[derive(Drop)]
+pub struct Sources<'t> {
+    text: &'t str,
+    // what is left, after white space and comments
+    rest: &'t str,
+}
+
+impl<'t> Model for Sources<'t> {
+    ghost use Rattle.rl_tokens.specs.Cursors.{CursorState, IsCursorState};
+
+    ghost Value = { CursorState };
+
+    ghost view = { λ t. record { text = t.text.now; rest = t.rest.now } };
+
+    ghost invariant = { λ t. IsCursorState t.text.now t.rest.now };
+}
+
+impl<'t> Sources<'t> {
+    ghost use Rattle.rl_tokens.specs.Cursors.{IsCursorState};
+    ghost use Rattle.rl_tokens.specs.Sources.{IsCutUpTo, TakesSource, IsFirstSourceError};
+
+    /// The tokens of a source, from its front. Only what may stand before the first is dropped.
+    pub fn new(text: &'t str) -> Sources<'t>
+        ensures text { result.text ≡ text.now }
+        ensures begun { IsCutUpTo (chars text.now) [] (chars result.rest) }
+        ensures behind { IsCursorState text.now result.rest }
+    {
+        Sources {
+            text,
+            rest: skip(without_front(text)),
+        }
+    }
+
+    /// Cuts off the token that begins what is left. `None` where no token begins it, at its end
+    /// too; it stays then.
+    #[inline(always)]
+    pub fn next(&mut self) -> Option<SourceToken<'t>>
+        // The token is the next cut of the source.
+        ensures next { IfSome result (λ l. TakesSource self.old l self.new) }
+        ensures shorter { IfSome result (λ l. length self.new.rest < length self.old.rest) }
+        ensures none { IfNone result (BeginsNoSource (chars self.old.rest)) }
+        ensures stays { IfNone result (self.new ≡ self.old) }
+    {
+        let (form, behind) = first_source(self.rest)?;
+        let lo = self.text.len() - self.rest.len();
+        let hi = self.text.len() - behind.len();
+        let text = &self.rest[..self.rest.len() - behind.len()];
+        self.rest = skip(behind);
+        Some(SourceToken { form, text, lo, hi })
+    }
+
+    /// Why no token begins what is left: the error, and the byte of the whole text where it stands.
+    /// `None` at the end of the text, and where a token begins what is left. The kind is
+    /// `UnclosedComment` or `UnclosedQuote`.
+    pub fn error(&self) -> Option<LexError>
+        ensures error { IfSome result (λ e. SourceErrorAt e.kind (chars self.now.rest)) }
+        ensures place { IfSome result (λ e. e.at + length self.now.rest ≡ length self.now.text) }
+        // It is the first error of the source, however that was cut up to here.
+        ensures first { IfSome result (λ e. IsFirstSourceError self.now e.kind e.at) }
+        // Else the text ends here, or a token begins what is left.
+        ensures none { IfNone result ((self.now.rest ≡ [])
+            ⊎ ((kind : SourceKind) × (after : List ℕ)
+            × SourceBefore (chars self.now.rest) kind after)) }
+    {
+        if self.rest.is_empty() || first_source(self.rest).is_some() {
+            return None;
+        }
+        let kind = source_error_kind(self.rest);
+        Some(LexError::new(kind, self.text.len() - self.rest.len()))
+    }
+
+    /// What is left of the text, after white space and comments: empty at its end, else a token or
+    /// an error begins it.
+    pub fn rest(&self) -> &'t str
+        ensures { result.now ≡ self.now.rest }
+    {
+        self.rest
+    }
+}
+
+/// The tokens up to the first place where none begins; [`Sources::error`] then says why.
+impl<'t> Iterator for Sources<'t> {
+    ghost use Rattle.std.specs.Iterator.{at_most};
+    ghost use Rattle.rl_tokens.specs.Sources.{GivesSource};
+
+    type Item = SourceToken<'t>;
+
+    ghost next_gives = { GivesSource };
+
+    ghost remaining = { λ t. at_most (length t.rest) };
+
+    #[inline(always)]
+    fn next(&mut self) -> Option<SourceToken<'t>> {
+        Sources::next(self)
+    }
+}
