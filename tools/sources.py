@@ -24,7 +24,7 @@ NO_CALLS = (('--x',), ('x',), ('--only',), ('--only', ''), ('--only', 'Str,'), (
 OLDER = '2018'
 
 
-def in_folders(folders, endings=('.rs',)):
+def in_folders(folders, endings=('.rs', '.rt')):
     """The files of these endings under the folders, each once."""
     return sorted({os.path.realpath(os.path.join(at, name)) for folder in folders for at, _, names in os.walk(folder)
                    if not {'target', 'out', '.git'} & set(at.split('/')) for name in names if name.endswith(endings)})
@@ -61,6 +61,12 @@ def text_of(data):
         return None
 
 
+def is_long_past(text):
+    """Whether the text is so long an integer past 128 bits that the other program would take too long."""
+    digits = re.fullmatch('(?:0x[0-9a-fA-F_]*|0o[0-7_]*|0b[01_]*|[0-9_]*)', text) if len(text) > 10_000 else None
+    return bool(digits) and len(re.sub('^0[xob]|_', '', text).lstrip('0')) > 128
+
+
 class Model:
     """The answers that the grammar asks for: tokens by the model, and of each literal's text the line that the program over
     `syn`'s reading code prints."""
@@ -78,8 +84,10 @@ class Model:
         if len(self.known) > 2_000_000:
             self.known = {}
         new = list({token.text: None for cut in cuts if cut for token in cut.literals() if token.text not in self.known})
-        datas = [text.encode() for text in new]
-        self.known.update(zip(new, readings.theirs(self.options, 'text', datas) if datas else []))
+        self.known.update({text: ('Verbatim %s -' % readings.written(text)).encode() for text in new if is_long_past(text)})
+        asked = [text for text in new if text not in self.known]
+        datas = [text.encode() for text in asked]
+        self.known.update(zip(asked, readings.theirs(self.options, 'text', datas) if datas else []))
 
     def lines(self, cut):
         if cut is None:
@@ -306,6 +314,8 @@ class Sides:
             wanted = under(words, data, answer, cut)
             if wanted == lines:
                 self.count.add(side, 'as without these words', 1, len(lines))
+            elif '--no-stray' in words and readings.newer(data.decode(errors='replace')):
+                self.count.add(side, 'characters newer than Unicode 14', 1, len(lines))
             else:
                 self.count.differs(side, name, data, wanted, lines)
 

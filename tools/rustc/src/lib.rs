@@ -63,7 +63,7 @@ pub fn tried(number: TokenStream) -> TokenStream {
         return TokenStream::new();
     }
     // Behind what rustc told, if it did: of groups that aren't closed it tells none.
-    "compile_error! { \"no trees\" }".parse().expect("a call")
+    "compile_error! { \"groups do not match\" }".parse().expect("a call")
 }
 
 /// The lines of each group's text by this function, and one with a point.
