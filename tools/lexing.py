@@ -65,10 +65,12 @@ class Rustc:
         begins, line, pieces = [], 2, [b'answers::%s!(\n' % command.encode()]
         for text in texts:
             begins.append(line)
-            # The space keeps a CR at the end of the text from standing before an LF.
-            pieces.append(b'{' + text + b' \n}\n')
+            # A CR at the end of the text doesn't stand before the LF.
+            pieces.append(b'{' + text + (b' ' if text.endswith(b'\r') else b'') + b'\n}\n')
             line += text.count(b'\n') + 2
         out, faults = self.expanded(b''.join(pieces) + b');', texts)
+        if 1 in faults and 'panicked' not in faults[1] and len(texts) == 1:
+            return [(b'unlexed', faults[1])]
         if 1 in faults:
             raise ValueError('rustc says of the macro: ' + faults[1])
         faulty = {bisect.bisect_right(begins, line) - 1: (b'unlexed', words) for line, words in faults.items()}

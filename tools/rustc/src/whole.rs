@@ -30,11 +30,10 @@ impl<'t> Whole<'t> {
         at + self.drops.partition_point(|drop| *drop < at)
     }
 
-    /// The text of a span as rustc has it, and its bytes in the file's text. A doc comment may reach past the text's end.
+    /// The text of a span as rustc has it, and its bytes in the file's text.
     fn place(&self, span: Span) -> (&str, usize, usize) {
         let range = span.byte_range();
-        let lo = range.start - self.base;
-        let hi = self.lexed.len().min(range.end - self.base);
+        let (lo, hi) = (range.start - self.base, range.end - self.base);
         (&self.lexed[lo..hi], self.in_file(lo), self.in_file(hi))
     }
 
