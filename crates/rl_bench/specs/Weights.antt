@@ -8,6 +8,7 @@ use Rattle.rl_tokens.specs.declared.error.Error.{Error}
 use Rattle.rl_tokens.specs.declared.error.ErrorKind.TheVariants.{Memory}
 use Rattle.rl_tokens.specs.Reading.{Contents, Characters, Bytes, Digits, Truth, Reads, HasContents, HasSuffix}
 use Rattle.rl_tokens.specs.Texts.{byte_len}
+use Rattle.rl_tokens.specs.Sources.{CutSource, IsCutUpTo, BeginsNoSource}
 use Rattle.rl_tokens.specs.Lexing.{LexedToken, LexesUpTo, BeginsNoLexeme, Lexes, Fault}
 use Rattle.rl_tokens.specs.Trees.{Tree}
 use Rattle.rl_tokens.specs.Reading.{HasNoReading}
@@ -76,6 +77,12 @@ abbrev pub HasTokenCount : List ℕ → ℕ → Type 0
 HasTokenCount text count =
     (cuts : List LexedToken) × (rest : List ℕ) × LexesUpTo 0 (chars text) cuts rest
     × BeginsNoLexeme rest × (count ≡ length cuts)
+
+-- this many tokens can be cut off the source, until none begins what is left
+abbrev pub HasSourceCount : List ℕ → ℕ → Type 0
+HasSourceCount text count =
+    (cuts : List CutSource) × (rest : List ℕ) × IsCutUpTo (chars text) cuts rest
+    × BeginsNoSource rest × (count ≡ length cuts)
 
 -- a text is cut into this many trees, groups as one; or it has a fault, and none
 abbrev pub HasTreeCount : List ℕ → ℕ → Type 0

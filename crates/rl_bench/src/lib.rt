@@ -13,6 +13,7 @@ ghost use Rattle.rl_bench.specs.Weights.{
   HasShapeWeight,
   HasValueWeight,
   HasTokenCount,
+  HasSourceCount,
   HasTreeCount,
   HasLiteralCount,
   HasAttributeCount,
@@ -21,6 +22,7 @@ ghost use Rattle.rl_bench.specs.Weights.{
 mod lent;
 mod lists;
 mod literals;
+mod sources;
 mod sums;
 mod tokens;
 mod value_refs;
@@ -30,6 +32,7 @@ mod weights;
 use crate::lent::ByLent;
 use crate::lists::{ByAttributes, ByList, ByTrees};
 use crate::literals::ByLiteral;
+use crate::sources::BySources;
 use crate::sums::sum;
 use crate::tokens::ByTokens;
 use crate::value_refs::ByValueRef;
@@ -115,6 +118,15 @@ pub extern "C" fn rl_bench_tokens(alloc: Global, corpus: &[u8], ends: &[usize]) 
     ensures { IsSum HasTokenCount corpus.now ends.now result }
 {
     certain(sum::<ByTokens>(alloc, corpus, ends))
+}
+
+/// How many tokens the texts are cut into as whole sources, each until no token begins what is left.
+/// It takes no memory.
+#[unsafe(no_mangle)]
+pub extern "C" fn rl_bench_source(alloc: Global, corpus: &[u8], ends: &[usize]) -> u64
+    ensures { IsSum HasSourceCount corpus.now ends.now result }
+{
+    certain(sum::<BySources>(alloc, corpus, ends))
 }
 
 /// Puts into `total` how many trees the texts are cut into, a group counted as one; a text that has

@@ -15,7 +15,7 @@ use Rattle.rl_grammar.specs.StrictShapes.{IsToken}
 use Rattle.rust_literals.specs.Parsing.{RefusesText}
 use Rattle.rl_lines.specs.Lines.{IsLineOf, AreLinesOfText, IsLineOfKind, IsLineOfFloat}
 use Rattle.rl_bulk.specs.declared.command.Command.{Command}
-use Rattle.rl_bulk.specs.declared.command.Command.TheVariants.{Text, Int, Float, Skip, Strict, Value, Read, Spans, Attr}
+use Rattle.rl_bulk.specs.declared.command.Command.TheVariants.{Text, Int, Float, Skip, Strict, Value, Read, Spans, Attr, Source}
 use Rattle.rl_lines.specs.Digits.{bytes_of}
 use Rattle.rl_attributes.specs.Attributes.{RefusesAttributeText}
 use Rattle.rl_attributes.specs.EntryLines.{ShowsAttributes}
@@ -23,6 +23,7 @@ use Rattle.rl_bulk.specs.Asked.{name_of}
 use Rattle.rl_bulk.specs.Refused.{refusal_lines}
 use Rattle.rl_bulk.specs.Lent.{IsLentAnswer}
 use Rattle.rl_bulk.specs.Spans.{IsSpansAnswer}
+use Rattle.rl_bulk.specs.Sources.{IsSourceAnswer}
 
 -- the line of the text as an integer, or why it is none
 abbrev pub IsIntegerAnswer : List ℕ → List ℕ → Type 0
@@ -69,6 +70,7 @@ Answers A Value bytes out = IsLentAnswer bytes out
 Answers A Read bytes out = IsReadAnswer A bytes out
 Answers A Spans bytes out = IsSpansAnswer A bytes out
 Answers A Attr bytes out = IsAttributesAnswer A bytes out
+Answers A Source bytes out = IsSourceAnswer bytes out
 
 -- the answer to bytes, where the digits stand for some: they may be no text
 abbrev pub AnswersBytes : Type 0 → Command → Option (List ℕ) → List ℕ → Type 0

@@ -1,7 +1,7 @@
 -- What a line of input can ask for.
 use Rattle.std.specs.Prelude.{ℕ, List, codes}
 use Rattle.rl_bulk.specs.declared.command.Command.{Command}
-use Rattle.rl_bulk.specs.declared.command.Command.TheVariants.{Text, Int, Float, Skip, Strict, Value, Read, Spans, Attr}
+use Rattle.rl_bulk.specs.declared.command.Command.TheVariants.{Text, Int, Float, Skip, Strict, Value, Read, Spans, Attr, Source}
 
 -- the word that asks for a command
 abbrev pub name_of : Command → List ℕ
@@ -14,3 +14,4 @@ name_of Value = codes "value"
 name_of Read = codes "read"
 name_of Spans = codes "spans"
 name_of Attr = codes "attr"
+name_of Source = codes "source"

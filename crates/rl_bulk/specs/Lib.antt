@@ -2,4 +2,5 @@ pub mod Asked
 pub mod Refused
 pub mod Lent
 pub mod Spans
+pub mod Sources
 pub mod Answers

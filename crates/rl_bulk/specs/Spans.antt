@@ -1,8 +1,7 @@
 -- Where the literals of a list stand, as lines. Lines are lists of bytes.
-use Rattle.std.specs.Prelude.{◌≡◌, ◌⊎◌, ℕ, List, [], ◌∷◌, ◌++◌, length, Option, Some, None, codes, encode_utf8_all}
+use Rattle.std.specs.Prelude.{◌≡◌, ◌⊎◌, ℕ, List, [], ◌∷◌, ◌++◌, length, codes, encode_utf8_all}
 use Rattle.std.specs.Str.{chars}
 use Rattle.std.specs.Fmt.{decimal}
-use Rattle.rl_tokens.specs.declared.kind.Kind.{Kind}
 use Rattle.rl_tokens.specs.declared.kind.Kind.TheVariants.{Str}
 use Rattle.rl_tokens.specs.declared.error.Error.{Error}
 use Rattle.rl_tokens.specs.Written.{written_text}
@@ -10,18 +9,13 @@ use Rattle.rust_literals.specs.declared.lit.Lit.{Lit}
 use Rattle.rust_literals.specs.Literals.{kind_of, token_of}
 use Rattle.rust_literals.specs.LitParts.{lit_span}
 use Rattle.rust_literals.specs.Parsing.{AreRead, RefusesText}
-use Rattle.rl_lines.specs.Lines.{kind_label}
+use Rattle.rl_lines.specs.Lines.{label_of}
 use Rattle.rl_bulk.specs.Refused.{refusal_lines}
-
--- the name of a kind; `Verbatim` for none
-abbrev pub kind_name : Option Kind → List ℕ
-kind_name (Some kind) = kind_label kind
-kind_name None = codes "Verbatim"
 
 -- a literal's kind, the bytes where it stands, and its text as a string literal
 abbrev pub span_line : {A : Type 0} → Lit A → List ℕ
 span_line l =
-    kind_name (kind_of l)
+    label_of (kind_of l)
     ++ (codes " "
     ++ (decimal (lit_span l).lo
     ++ (codes ".."

@@ -21,6 +21,7 @@ use crate::command::Command;
 use crate::ending::{ended, refused};
 use crate::lent::value_answer;
 use crate::literal::literal_of;
+use crate::sources::source_answer;
 use crate::spans::spans_answer;
 use rl_grammar::strict::is_token;
 use rl_lines::{decoded, line_of, lines_of};
@@ -113,6 +114,7 @@ fn text_asked(alloc: Global, command: Command, text: &str) -> Result<String, All
         Command::Read => read_answer(alloc, text),
         Command::Spans => spans_answer(alloc, text),
         Command::Attr => attributes_answer(alloc, text),
+        Command::Source => source_answer(alloc, text),
     }
 }
 
@@ -143,8 +145,8 @@ pub(crate) fn parts_of(line: &str) -> (&str, &str)
 
 /// What is printed for a line of input. Under `text` a literal's line; under `int` and `float` such a line, `None` where
 /// the text is no such number, or `TooLarge`; under `skip` how many bytes stand behind white space and comments; under
-/// `strict` whether the text is a strict token; under `value` what it lends, or `None`; under `read`, `spans` and `attr`
-/// lines up to one with a point. Another command, digits that aren't hexadecimal or come in no pairs, and bytes
+/// `strict` whether the text is a strict token; under `value` what it lends, or `None`; under `read`, `spans`, `attr` and
+/// `source` lines up to one with a point. Another command, digits that aren't hexadecimal or come in no pairs, and bytes
 /// that aren't UTF-8 are each answered by a line of their own.
 pub(crate) fn answer(alloc: Global, line: &str) -> Result<String, AllocError>
     ensures { IfOk result (λ out. IsAnswerOf Global line.now (string_bytes out)) }

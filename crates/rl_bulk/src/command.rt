@@ -21,6 +21,8 @@ pub(crate) enum Command {
     Spans,
     /// The text as attributes.
     Attr,
+    /// The literals of the text as a whole source.
+    Source,
 }
 
 impl Command {
@@ -43,6 +45,7 @@ impl Command {
             "read" => Some(Command::Read),
             "spans" => Some(Command::Spans),
             "attr" => Some(Command::Attr),
+            "source" => Some(Command::Source),
             _ => None,
         }
     }

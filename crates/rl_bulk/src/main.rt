@@ -8,6 +8,7 @@ mod ending;
 mod lent;
 mod line;
 mod literal;
+mod sources;
 mod spans;
 
 use std::io;

@@ -1,31 +1,14 @@
 //! Where the literals of a list stand.
 
-ghost use Rattle.std.specs.Prelude.{◌≡◌, ◌++◌, Option, OnOk, IfOk, string_bytes};
-ghost use Rattle.rl_bulk.specs.Spans.{kind_name, span_line, span_lines, IsSpansAnswer};
+ghost use Rattle.std.specs.Prelude.{◌≡◌, ◌++◌, OnOk, IfOk, string_bytes};
+ghost use Rattle.rl_bulk.specs.Spans.{span_line, span_lines, IsSpansAnswer};
 
 use crate::ending::{ended, refused};
-use rl_grammar::Kind;
+use rl_lines::label_of;
 use rl_tokens::{Literal, Span};
 use rust_literals::{Lit, read_all};
 use std::alloc::{AllocError, Global};
 use std::fmt::Write;
-
-/// A kind's name; `Verbatim` for none.
-fn kind_name(kind: Option<Kind>) -> &'static str
-    ensures { result.now ≡ kind_name kind }
-{
-    match kind {
-        Some(Kind::Str) => "Str",
-        Some(Kind::ByteStr) => "ByteStr",
-        Some(Kind::CStr) => "CStr",
-        Some(Kind::Byte) => "Byte",
-        Some(Kind::Char) => "Char",
-        Some(Kind::Int) => "Int",
-        Some(Kind::Float) => "Float",
-        Some(Kind::Bool) => "Bool",
-        None => "Verbatim",
-    }
-}
 
 /// Writes a literal's kind, the bytes where it stands, and its text as a string literal.
 fn push_span(alloc: Global, out: &mut String, literal: &Lit) -> Result<(), AllocError>
@@ -34,7 +17,7 @@ fn push_span(alloc: Global, out: &mut String, literal: &Lit) -> Result<(), Alloc
     let Ok(shown) = Literal::string(alloc, literal.text()) else {
         return Err(AllocError);
     };
-    let name = kind_name(literal.kind());
+    let name = label_of(literal.kind());
     let Span { lo, hi, .. } = literal.span();
     let text = shown.text();
     write!(out, "{name} {lo}..{hi} {text}\n")

@@ -12,6 +12,7 @@ mod inside;
 mod made;
 mod page;
 mod rows;
+mod sources;
 mod tell;
 mod tokens;
 mod trial;

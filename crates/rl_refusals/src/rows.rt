@@ -4,7 +4,7 @@ use crate::held::NO_CALL;
 use crate::page::Page;
 use crate::tokens::parsed;
 use crate::trial::{Scarce, Trial};
-use crate::{grammar, held, made, tokens};
+use crate::{grammar, held, made, sources, tokens};
 use rl_quoted::{ByteKind, ByteStrKind, CStrKind, CharKind, Quoted, QuotedKind, StrKind};
 use rl_refusing::Refusing;
 use rust_literals::{FloatKind, IntKind, Lit, LitBool, Number, NumberKind};
@@ -27,6 +27,7 @@ fn run_free<A: Scarce>(row: Row<'_>, trial: &Trial<'_, A>, page: &mut Page) {
     match row.call {
         "lex" => tokens::cut(trial, row.text, page),
         "read_all" => grammar::read(trial, row.text, page),
+        "scan" => sources::scanned(trial, row.text, page),
         "str_of" => grammar::text_of(trial, row.text, page),
         "bytes_of" => grammar::contents_of(trial, row.text, page),
         "digits_of" => grammar::numeral_of(trial, row.text, page),

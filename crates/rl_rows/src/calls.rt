@@ -1,8 +1,8 @@
 //! Calls of the libraries by name, each on a text or on bytes.
 
 use crate::{
-    bytes, copies, lists, literals, long, messages, numbers, parsers, refused, shapes, tokens,
-    trees, uses,
+    bytes, copies, lists, literals, long, messages, numbers, parsers, refused, scans, shapes,
+    tokens, trees, uses,
 };
 use std::alloc::{AllocError, Global};
 
@@ -13,7 +13,7 @@ pub(crate) fn tell(
     bytes: &[u8],
     out: &mut String,
 ) -> Result<(), AllocError> {
-    if bytes::told(alloc, name, bytes, out)? {
+    if bytes::told(alloc, name, bytes, out)? || scans::told(alloc, name, bytes, out)? {
         return Ok(());
     }
     let Ok(text) = std::str::from_utf8(bytes) else {

@@ -14,6 +14,7 @@ mod numbers;
 mod parsers;
 mod refused;
 mod row;
+mod scans;
 mod shapes;
 mod takers;
 mod tell;

@@ -4,7 +4,7 @@ use Rattle.std.specs.Io.KnownBytes.{Keeps}
 use Rattle.rl_tokens.specs.LexErrors.{lex_message}
 use Rattle.rl_program.specs.Faults.{fault_line, fault_status}
 use Rattle.rl_sources.specs.declared.options.Options.{Options}
-use Rattle.rl_sources.specs.declared.scan.ScanError.TheVariants.{Fault, Source}
+use Rattle.rl_sources.specs.declared.scanner.ScanError.TheVariants.{Fault, Source}
 use Rattle.rl_sources.specs.Places.{place_text}
 use Rattle.rl_sources.specs.declared.ending.Ending.{Ending}
 use Rattle.rl_sources.specs.declared.ending.Ending.TheVariants.{Done, FoundBad, Usage, Failed}

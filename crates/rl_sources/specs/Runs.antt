@@ -4,8 +4,8 @@ use Rattle.std.specs.Str.{chars, IsUtf8}
 use Rattle.std.specs.Io.KnownBytes.{Keeps}
 use Rattle.rl_program.specs.declared.fault.Fault.TheVariants.{Read, Write, NotText, Memory, Literal}
 use Rattle.rl_sources.specs.declared.options.Options.{Options}
-use Rattle.rl_sources.specs.declared.scan.ScanError.{ScanError}
-use Rattle.rl_sources.specs.declared.scan.ScanError.TheVariants.{Fault, Source}
+use Rattle.rl_sources.specs.declared.scanner.ScanError.{ScanError}
+use Rattle.rl_sources.specs.declared.scanner.ScanError.TheVariants.{Fault, Source}
 use Rattle.rl_sources.specs.Scans.{Scans, FailsScan}
 
 -- the bytes are a text, and the lines of its literals are what was written

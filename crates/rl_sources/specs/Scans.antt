@@ -15,8 +15,8 @@ use Rattle.rl_program.specs.Streams.{AppendsBeginning}
 use Rattle.rl_program.specs.declared.fault.Fault.TheVariants.{Write, Memory}
 use Rattle.rl_sources.specs.declared.options.Options.{Options}
 use Rattle.rl_sources.specs.declared.place.Place.{Place}
-use Rattle.rl_sources.specs.declared.scan.ScanError.{ScanError}
-use Rattle.rl_sources.specs.declared.scan.ScanError.TheVariants.{Fault, Source}
+use Rattle.rl_sources.specs.declared.scanner.ScanError.{ScanError}
+use Rattle.rl_sources.specs.declared.scanner.ScanError.TheVariants.{Fault, Source}
 use Rattle.rl_sources.specs.Options.{Picks}
 use Rattle.rl_sources.specs.Places.{place_text, IsPlaceIn}
 

@@ -4,8 +4,8 @@ ghost use Rattle.std.specs.Prelude.{◌≡◌, ◌↔◌, ◌≢◌, [], IsTrue,
 ghost use Rattle.rl_sources.specs.Endings.{ending_line, status_of, EndsAs};
 
 use crate::options::Shown;
-use crate::run::run;
-use crate::scan::ScanError;
+use crate::program::run;
+use crate::scanner::ScanError;
 use crate::words::options_of;
 use std::alloc::{Allocator, Global};
 use std::fmt;

@@ -5,14 +5,14 @@
 mod ending;
 mod options;
 mod place;
-mod run;
-mod scan;
+mod program;
+mod scanner;
 mod step;
 mod words;
 
 pub use crate::ending::{Ending, call};
 pub use crate::options::{Options, Shown};
 pub use crate::place::Place;
-pub use crate::run::run;
-pub use crate::scan::{ScanError, scan};
+pub use crate::program::run;
+pub use crate::scanner::{ScanError, scan};
 pub use crate::words::options_of;

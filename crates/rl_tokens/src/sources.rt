@@ -28,6 +28,16 @@ pub struct SourceToken<'t> {
 /// are dropped, and so are a byte order mark and an interpreter's line before them. It takes no
 /// memory. A delimiter is a token like any other; groups aren't counted.
 ///
+/// # Example
+///
+/// ```
+/// let mut tokens = Sources::new(text);
+/// let mut count = 0;
+/// while tokens.next().is_some() {
+///     count += 1;
+/// }
+/// ```
+///
 /// [`Tokens`]: crate::Tokens
 #[derive(Drop)]
 pub struct Sources<'t> {

@@ -4,7 +4,7 @@ ghost use Rattle.std.specs.Prelude.{IfErr, IfOk, IfSome};
 ghost use Rattle.rl_sources.specs.Runs.{Prints, FailsRun};
 
 use crate::options::Options;
-use crate::scan::{ScanError, scan};
+use crate::scanner::{ScanError, scan};
 use rl_program::{read_whole, text_of};
 use std::alloc::Allocator;
 use std::io::{Read, Write};

@@ -1,0 +1,38 @@
+//! Whole sources, scanned while memory is refused.
+
+use crate::page::Page;
+use crate::tell::Tell;
+use crate::trial::{Scarce, Trial};
+use rl_program::Fault;
+use rl_sources::{Options, ScanError, Shown, scan};
+use std::alloc::Allocator;
+
+impl Tell for bool {
+    fn tell(&self, page: &mut Page) {
+        page.put_debug(self);
+    }
+}
+
+impl<A: Allocator> Tell for ScanError<A> {
+    fn tell(&self, page: &mut Page) {
+        match self {
+            ScanError::Fault(Fault::Memory) => page.put("out of memory"),
+            ScanError::Fault(_) => page.put("another fault"),
+            ScanError::Source(_, _) => page.put("an error of the source"),
+        }
+    }
+}
+
+/// The scan of a source, and the bytes that it wrote.
+pub fn scanned<A: Scarce>(trial: &Trial<'_, A>, text: &str, page: &mut Page) {
+    let options = Options {
+        shown: Shown::All,
+        by_line: false,
+        rejects_strays: false,
+    };
+    let mut written = Vec::new(trial.alloc);
+    let answer = scan(trial.begins(), options, text, &mut written);
+    trial.ends_with(answer, page);
+    page.put("; wrote ");
+    page.put_number(written.len());
+}
