@@ -14,7 +14,9 @@ pub fn check() -> Result<(), String> {
 fn check_sources() -> Result<(), String> {
     let corpus = Corpus {
         name: "known sources",
-        bytes: "#!x\n'a r#b/// c\n\u{2261}/* d */#![e]\"#!f\"g'".as_bytes().to_vec(),
+        bytes: "#!x\n'a r#b/// c\n\u{2261}/* d */#![e]\"#!f\"g'"
+            .as_bytes()
+            .to_vec(),
         ends: vec![26, 31, 38],
     };
     // a lifetime, a raw identifier, a doc comment and a stray character; `#![e]`; a string

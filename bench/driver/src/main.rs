@@ -112,8 +112,7 @@ fn run_taken(work: &Work, corpus: &Corpus) -> Result<(), String> {
     Ok(())
 }
 
-const USAGE: &str =
-    "names | check BYTES | text CORPUS BYTES | once|none|taken CORPUS WORK BYTES";
+const USAGE: &str = "names | check BYTES | text CORPUS BYTES | once|none|taken CORPUS WORK BYTES";
 
 fn number(word: &str) -> Result<usize, String> {
     word.parse().map_err(|fault| format!("{word}: {fault}"))
