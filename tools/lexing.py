@@ -15,11 +15,11 @@ OTHER_WHITE = '\u00a0\u1680\u202f\u205f\u3000' + ''.join(map(chr, range(0x2000, 
 class Rustc:
     """rustc, with the package's library: `library` is its path."""
 
-    def __init__(self, library):
-        self.library = library
+    def __init__(self, library, edition='2021'):
+        self.library, self.edition = library, edition
 
     def expanded(self, source, texts):
-        """The answers that the macros of the source write, and the lines of it that rustc told an error at."""
+        """The answers that the macros of the source write, and the first error that rustc told at each line of it."""
         with tempfile.TemporaryDirectory() as folder:
             path = {name: os.path.join(folder, name) for name in ('call.rs', 'texts', 'out', 'made')}
             with open(path['call.rs'], 'wb') as file:
@@ -28,11 +28,15 @@ class Rustc:
                 file.write(b''.join(struct.pack('<I', len(t)) + t for t in texts))
             names = dict(os.environ, ANSWERS_TEXTS=path['texts'], ANSWERS_OUT=path['out'], RUSTC_BOOTSTRAP='1', RUSTC_ICE='0')
             ended = subprocess.run(
-                ['rustc', '--edition', '2021', '--crate-type', 'lib', '--emit', 'metadata', '--error-format', 'short', '-o', path['made'],
+                ['rustc', '--edition', self.edition, '--crate-type', 'lib', '--emit', 'metadata', '--error-format', 'short', '--cap-lints', 'allow', '-o', path['made'],
                  '--extern', 'answers=' + self.library, path['call.rs']], env=names, stdout=subprocess.DEVNULL, stderr=subprocess.PIPE)
-            told = re.findall(re.escape(path['call.rs']).encode() + rb':(\d+):\d+: error', ended.stderr)
+            told = {}
+            for line, words in re.findall(re.escape(path['call.rs']).encode() + rb':(\d+):\d+: error[^:]*: (.*)', ended.stderr):
+                told.setdefault(int(line), words.decode(errors='replace'))
+            if not os.path.exists(path['out']):
+                return b'', told
             with open(path['out'], 'rb') as file:
-                return file.read(), {int(line) for line in told}
+                return file.read(), told
 
     def judged(self, command, texts):
         lines = self.expanded(b'answers::judged!(%s);' % command.encode(), texts)[0].split(b'\n')[:-1]
@@ -48,31 +52,50 @@ class Rustc:
         sound = [b'\r' not in t and not t.startswith(b'\xef\xbb\xbf') for t in texts]
         lexed = self.judged('lexes', [b'\n' + t for t in texts])
         chosen = [at for at, line in enumerate(lexed) if line == b'true' and sound[at]]
-        told = self.told(command, [texts[at] for at in chosen])
         answers = [b'unlexed'] * len(texts)
-        for at, answer in zip(chosen, told):
+        for at, (answer, _) in zip(chosen, self.told(command, [texts[at] for at in chosen])):
             answers[at] = answer
         return answers
 
     def told(self, command, texts):
-        """The lines of texts that rustc cuts, which stand in one source, each in braces."""
+        """The lines of texts that rustc cuts, which stand in one source, each in braces, or `unlexed`, each with rustc's error
+        or None. Where an error ends rustc, the texts without one are asked again."""
+        if not texts:
+            return []
         begins, line, pieces = [], 2, [b'answers::%s!(\n' % command.encode()]
         for text in texts:
             begins.append(line)
-            pieces.append(b'{' + text + b'\n}\n')
+            # A CR at the end of the text doesn't stand before the LF.
+            pieces.append(b'{' + text + (b' ' if text.endswith(b'\r') else b'') + b'\n}\n')
             line += text.count(b'\n') + 2
         out, faults = self.expanded(b''.join(pieces) + b');', texts)
+        if 1 in faults and 'panicked' not in faults[1] and len(texts) == 1:
+            return [(b'unlexed', faults[1])]
+        if 1 in faults:
+            raise ValueError('rustc says of the macro: ' + faults[1])
+        faulty = {bisect.bisect_right(begins, line) - 1: (b'unlexed', words) for line, words in faults.items()}
         answers = pointed(out)
-        if len(answers) != len(texts):
+        if len(answers) == len(texts):
+            return [faulty.get(at) or (answer, None) for at, answer in enumerate(answers)]
+        if not faulty:
             raise ValueError('%d answers of rustc for %d texts' % (len(answers), len(texts)))
-        for line in faults:
-            answers[bisect.bisect_right(begins, line) - 1] = b'unlexed'
-        return answers
+        others = iter(self.told(command, [text for at, text in enumerate(texts) if at not in faulty]))
+        return [faulty.get(at) or next(others) for at in range(len(texts))]
 
-    def literals(self, sources):
-        """The literals of each source, or None where rustc refuses it."""
-        out = pointed(self.expanded(b'answers::literals!();', sources)[0])
-        return [None if told == b'unlexed' else [bytes.fromhex(line.decode()) for line in told.split(b'\n') if line] for told in out]
+    def errors(self, texts):
+        """The first error that rustc tells of each text, or None."""
+        calls = b''.join(b'answers::tried!(%d);\n' % at for at in range(len(texts)))
+        faults = self.expanded(calls, texts)[1]
+        return [faults.get(at + 1) for at in range(len(texts))]
+
+    def literals(self, texts):
+        """Of each whole source, without its front, the places and lines of its literals, or `unlexed`; and rustc's first
+        error, or None."""
+        answers = [(b'unlexed', words) for words in self.errors([b'\n' + t for t in texts])]
+        chosen = [at for at, (_, words) in enumerate(answers) if words is None]
+        for at, answer in zip(chosen, self.told('sources', [texts[at] for at in chosen])):
+            answers[at] = answer
+        return answers
 
 
 def pointed(out):

@@ -12,9 +12,9 @@ BUILD = os.path.join(DRIVER, 'target')
 CHECKED = 100_000
 
 # the forms of corpora that are good texts
-GOOD = ('literals', 'list', 'attributes')
-# the corpus's form (literals, list, attributes, spoiled, hostile), whose work it is (ours, other),
-# the corpus and the work
+GOOD = ('literals', 'list', 'attributes', 'source')
+# the corpus's form (literals, list, attributes, source, spoiled, hostile; program where a whole
+# program is the work), whose work it is (ours, other), the corpus and the work
 Row = collections.namedtuple('Row', 'form whose corpus work')
 
 

@@ -5,7 +5,7 @@ import re
 import subprocess
 import tempfile
 
-from measure import build, text
+from measure import build, sources, text
 
 # bytes of a corpus where instructions are counted
 SIZES = (1_000_000, 100_000, 10_000)
@@ -16,6 +16,8 @@ Count = collections.namedtuple('Count', 'bytes instructions own')
 def count(driver, row, size):
     """What one work takes on one corpus of this size."""
     with tempfile.NamedTemporaryFile() as out:
+        if row.form == 'program':
+            return Count(*sources.instructions(driver, size, out.name), functions(out.name))
         command = ['valgrind', '--tool=callgrind', '--toggle-collect=measured']
         command += ['--callgrind-out-file=' + out.name]
         command += [driver, 'once', row.corpus, row.work, str(size)]
@@ -62,7 +64,7 @@ def print_hottest(rows, found):
     columns = ('Corpus', 'work', 'a byte', 'first', 'second', 'third')
     text.begin('Where it goes', columns, note)
     for row, (whole, *_) in zip(rows, found):
-        if row.whose == 'ours' and row.form in build.GOOD:
+        if row.whose == 'ours' and row.form in build.GOOD + ('program',):
             most = whole.own.most_common(3)
             shown = ['`%s` %.1f' % (name, own / whole.bytes) for name, own in most]
             shown += [''] * (3 - len(shown))

@@ -1,7 +1,7 @@
 """The limits: for each corpus and work of ours the instructions a byte that it may take."""
 import os
 
-from measure import build, counts
+from measure import build, counts, sources
 
 PATH = os.path.join(build.BENCH, 'limits')
 HEAD = '# corpus, work, and the instructions a byte that it may take (bench/run --new-limits)\n'
@@ -31,6 +31,8 @@ def check(driver, jobs, rows, corpus):
     corpus where one is named."""
     ours = [row for row in rows if row.whose == 'ours']
     most = {name: limit for name, limit in read().items() if corpus in (None, name[0])}
+    if sources.CORPUS not in {row.corpus for row in rows}:
+        most = {name: limit for name, limit in most.items() if name[0] not in sources.CORPORA}
     idle = [name for name in most if name not in {(row.corpus, row.work) for row in ours}]
     faults = ['%s, %s: a limit of no row' % name for name in idle]
     for row, (found,) in zip(ours, counts.all_of(driver, jobs, ours, counts.SIZES[:1])):

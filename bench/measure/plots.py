@@ -4,8 +4,9 @@ import sys
 
 from measure import build, counts
 
-OURS = ('shape', 'lent', 'value', 'literal', 'tokens', 'lex', 'read', 'attr')
+OURS = ('shape', 'lent', 'value', 'literal', 'tokens', 'lex', 'read', 'attr', 'source', 'rl_scan')
 COLOURS = {True: '#2f6db3', False: '#d98a2b'}
+OF_SOURCES = ('source', 'rl_scan')
 BESIDE = (
     (('shape', 'lent', 'value', 'literal'), ('litrs, lent', 'litrs', 'syn')),
     (('tokens', 'lex', 'read', 'attr'), ('proc-macro2', 'proc-macro2 and syn')),
@@ -23,6 +24,7 @@ def corpora(taken):
 def bars(axes, taken, corpus):
     """The works of one corpus, a bar each."""
     names = [work for ours, theirs in BESIDE for work in ours + theirs if (corpus, work) in taken]
+    names = [work for work in OF_SOURCES if (corpus, work) in taken] + names
     each = [taken[corpus, work][0] for work in names]
     places = range(len(names))
     axes.barh(places, each, color=[COLOURS[work in OURS] for work in names], height=0.7)
@@ -40,8 +42,10 @@ def bars(axes, taken, corpus):
 def speed(pyplot, taken, path):
     """Ours beside the others, a panel for each corpus."""
     names = corpora(taken)
-    rows = {'height_ratios': [0.12, 1, 1, 1, 1]}
-    figure, grid = pyplot.subplots(5, 3, figsize=(12, 13), layout='constrained', gridspec_kw=rows)
+    count = -(-len(names) // 3)
+    rows = {'height_ratios': [0.12] + [1] * count}
+    shape = {'figsize': (12, 1 + 3 * count), 'layout': 'constrained', 'gridspec_kw': rows}
+    figure, grid = pyplot.subplots(count + 1, 3, **shape)
     top, *panels = [grid[0][1], *grid[1:].flat]
     for axes, corpus in zip(panels, names):
         bars(axes, taken, corpus)
@@ -57,7 +61,7 @@ def speed(pyplot, taken, path):
 def growth(pyplot, taken, path):
     """Each of our works on every corpus, at each size. What grows as the text does is level."""
     shared = {'sharex': True, 'sharey': True, 'layout': 'constrained'}
-    figure, grid = pyplot.subplots(2, 4, figsize=(12, 6), **shared)
+    figure, grid = pyplot.subplots(2, 5, figsize=(14, 6), **shared)
     style = {'color': COLOURS[True], 'alpha': 0.55, 'linewidth': 1.2}
     style |= {'marker': 'o', 'markersize': 3}
     panels = list(grid.flat)
@@ -74,7 +78,6 @@ def growth(pyplot, taken, path):
         axes.grid(color='#dddddd', linewidth=0.6)
     for axes in panels[len(OURS):]:
         axes.axis('off')
-    panels[3].tick_params(labelbottom=True)
     title = 'Instructions a byte by the size of the text, a line for each corpus; level is linear'
     figure.suptitle(title, fontsize=12)
     figure.savefig(path, **PLAIN)

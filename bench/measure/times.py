@@ -25,8 +25,9 @@ def print_table(driver, cpu, rounds, rows):
     note += 'each in a process of its own.'
     costs = ('ms', 'ns a byte', 'page faults', 'peak, bytes', 'a byte', 'of each in a list')
     text.begin('Times', ('Corpus', 'work') + costs, note % (SIZE, rounds))
-    for corpus in dict.fromkeys(row.corpus for row in rows if row.form in build.GOOD):
-        here = [row for row in rows if row.corpus == corpus]
+    good = [row for row in rows if row.form in build.GOOD]
+    for corpus in dict.fromkeys(row.corpus for row in good):
+        here = [row for row in good if row.corpus == corpus]
         for row, (size, made, time, faults, peak) in zip(here, least(driver, cpu, rounds, here)):
             each = '%.1f' % (peak / made) if row.form != 'literals' else ''
             spent = ('%.1f' % (time / 1000), '%.2f' % (time * 1000 / size), str(faults))

@@ -1,4 +1,6 @@
-//! The texts: made from a fixed seed, about as many bytes as asked.
+//! The texts: made from a fixed seed, about as many bytes as asked, or read from files.
+
+use crate::files;
 
 /// What the texts are.
 #[derive(Clone, Copy, PartialEq, Eq)]
@@ -13,6 +15,10 @@ pub enum Form {
     Spoiled,
     /// One, of one piece over and over.
     Hostile,
+    /// One, files of Rust.
+    Source,
+    /// Many, the literals of such files.
+    Found,
 }
 
 impl Form {
@@ -24,12 +30,18 @@ impl Form {
     /// What tables call it.
     pub fn word(self) -> &'static str {
         match self {
-            Form::Literals => "literals",
+            Form::Literals | Form::Found => "literals",
             Form::List => "list",
             Form::Attributes => "attributes",
             Form::Spoiled => "spoiled",
             Form::Hostile => "hostile",
+            Form::Source => "source",
         }
+    }
+
+    /// Whether its texts can be had: files may be missing.
+    fn is_there(self) -> bool {
+        !matches!(self, Form::Source | Form::Found) || files::are_there()
     }
 }
 
@@ -41,7 +53,7 @@ pub struct Corpus {
 }
 
 /// Every corpus.
-pub const ALL: [(&str, Form); 30] = [
+const ALL: [(&str, Form); 32] = [
     ("mixed literals", Form::Literals),
     ("short strings", Form::Literals),
     ("plain strings of 4 KB", Form::Literals),
@@ -54,6 +66,8 @@ pub const ALL: [(&str, Form); 30] = [
     ("comments alone", Form::List),
     ("list of short integers", Form::List),
     ("attributes", Form::Attributes),
+    ("rust sources", Form::Source),
+    ("literals of rust sources", Form::Found),
     ("short integers, a comma last", Form::Spoiled),
     ("short integers, a group last", Form::Spoiled),
     ("short integers, a fault last", Form::Spoiled),
@@ -73,6 +87,11 @@ pub const ALL: [(&str, Form); 30] = [
     ("b'", Form::Hostile),
     ("c\"", Form::Hostile),
 ];
+
+/// Every corpus whose texts can be had.
+pub fn all() -> impl Iterator<Item = (&'static str, Form)> {
+    ALL.into_iter().filter(|(_, form)| form.is_there())
+}
 
 impl Corpus {
     fn push(&mut self, text: &str) {
@@ -226,6 +245,12 @@ pub fn make(name: &'static str, form: Form, size: usize) -> Corpus {
     let mut numbers = Numbers(0x9E37_79B9_7F4A_7C15);
     match form {
         Form::Hostile => corpus.push(&name.repeat(size / name.len())),
+        Form::Source => corpus.push(&files::text(size)),
+        Form::Found => {
+            for literal in files::literals(size) {
+                corpus.push(&literal);
+            }
+        }
         Form::Literals => {
             while corpus.bytes.len() < size {
                 corpus.push(&numbers.piece(name));

@@ -6,7 +6,21 @@ use crate::ours;
 /// All of them.
 pub fn check() -> Result<(), String> {
     check_literals()?;
+    check_sources()?;
     check_attributes()
+}
+
+/// The sum of texts that are cut as whole sources, the last of them up to an open quote.
+fn check_sources() -> Result<(), String> {
+    let corpus = Corpus {
+        name: "known sources",
+        bytes: "#!x\n'a r#b/// c\n\u{2261}/* d */#![e]\"#!f\"g'"
+            .as_bytes()
+            .to_vec(),
+        ends: vec![26, 31, 38],
+    };
+    // a lifetime, a raw identifier, a doc comment and a stray character; `#![e]`; a string
+    wanted("source", ours::source(&corpus), 10)
 }
 
 /// The sum of texts some of which are attributes.

@@ -1,13 +1,15 @@
 //! Runs the same work by this repository's libraries and by others. bench/run builds and calls it.
 //!
 //! `driver names` prints each corpus with what runs on it; `driver check BYTES` compares the sums
-//! of works that weigh alike. The others print numbers: `driver once CORPUS WORK BYTES` runs one
-//! work once, in the function `measured`, and prints the corpus's bytes and texts and the sum;
-//! `driver none CORPUS WORK BYTES` does all but run it; `driver taken CORPUS WORK BYTES` prints,
-//! with bytes and sum, the microseconds of processor time, the page faults and the bytes of memory
-//! that it took. Each first tries the works on texts whose sums are known.
+//! of works that weigh alike; `driver text CORPUS BYTES` prints a corpus. The others print numbers:
+//! `driver once CORPUS WORK BYTES` runs one work once, in the function `measured`, and prints the
+//! corpus's bytes and texts and the sum; `driver none CORPUS WORK BYTES` does all but run it;
+//! `driver taken CORPUS WORK BYTES` prints, with bytes and sum, the microseconds of processor time,
+//! the page faults and the bytes of memory that it took. Each first tries the works on texts whose
+//! sums are known.
 
 mod corpus;
+mod files;
 mod known;
 mod others;
 mod ours;
@@ -15,8 +17,9 @@ mod process;
 mod weight;
 mod works;
 
-use corpus::Corpus;
+use corpus::{Corpus, Form};
 use std::hint::black_box;
+use std::io::Write;
 use std::process::ExitCode;
 use works::Work;
 
@@ -45,7 +48,7 @@ fn check_sums(works: &[Work], corpus: &Corpus) -> Result<(), String> {
 
 /// The same on every corpus that is good text.
 fn check_all(size: usize) -> Result<(), String> {
-    for (name, form) in corpus::ALL {
+    for (name, form) in corpus::all() {
         if !form.is_bad() {
             check_sums(works::of(form), &corpus::make(name, form, size))?;
         }
@@ -56,7 +59,7 @@ fn check_all(size: usize) -> Result<(), String> {
 /// Prints each corpus and work, with a word on whether the corpus is literals, a list or bad input
 /// and the work ours.
 fn print_names() {
-    for (name, form) in corpus::ALL {
+    for (name, form) in corpus::all() {
         for work in works::of(form) {
             let whose = if work.ours { "ours" } else { "other" };
             println!("{}\t{whose}\t{name}\t{}", form.word(), work.name);
@@ -64,12 +67,24 @@ fn print_names() {
     }
 }
 
+/// The name and form of a corpus.
+fn named(name: &str) -> Result<(&'static str, Form), String> {
+    corpus::all()
+        .find(|(known, _)| *known == name)
+        .ok_or_else(|| format!("no corpus {name}"))
+}
+
+/// Prints a corpus, its texts one after another.
+fn print_text(name: &str, size: usize) -> Result<(), String> {
+    let (name, form) = named(name)?;
+    let corpus = corpus::make(name, form, size);
+    let written = std::io::stdout().write_all(&corpus.bytes);
+    written.map_err(|fault| fault.to_string())
+}
+
 /// The work of this name, and the corpus of this name and size.
 fn found(name: &str, work_name: &str, size: usize) -> Result<(&'static Work, Corpus), String> {
-    let (name, form) = corpus::ALL
-        .into_iter()
-        .find(|(known, _)| *known == name)
-        .ok_or_else(|| format!("no corpus {name}"))?;
+    let (name, form) = named(name)?;
     let work = works::of(form)
         .iter()
         .find(|work| work.name == work_name)
@@ -97,6 +112,8 @@ fn run_taken(work: &Work, corpus: &Corpus) -> Result<(), String> {
     Ok(())
 }
 
+const USAGE: &str = "names | check BYTES | text CORPUS BYTES | once|none|taken CORPUS WORK BYTES";
+
 fn number(word: &str) -> Result<usize, String> {
     word.parse().map_err(|fault| format!("{word}: {fault}"))
 }
@@ -108,6 +125,7 @@ fn run() -> Result<(), String> {
     match words.as_slice() {
         ["names"] => print_names(),
         ["check", size] => check_all(number(size)?)?,
+        ["text", corpus, size] => print_text(corpus, number(size)?)?,
         [verb @ ("once" | "none" | "taken"), corpus, work, size] => {
             let (work, corpus) = found(corpus, work, number(size)?)?;
             match *verb {
@@ -115,7 +133,7 @@ fn run() -> Result<(), String> {
                 _ => run_once(work, &corpus, *verb == "once"),
             }
         }
-        _ => return Err("names | check BYTES | once|none|taken CORPUS WORK BYTES".to_string()),
+        _ => return Err(USAGE.to_string()),
     }
     Ok(())
 }

@@ -16,6 +16,7 @@ extern "C" {
         -> bool;
     fn rl_bench_lent(b: *const u8, n: usize, e: *const usize, m: usize, sum: &mut u64) -> bool;
     fn rl_bench_tokens(bytes: *const u8, len: usize, ends: *const usize, count: usize) -> u64;
+    fn rl_bench_source(bytes: *const u8, len: usize, ends: *const usize, count: usize) -> u64;
     fn rl_bench_lex(b: *const u8, n: usize, e: *const usize, m: usize, sum: &mut u64) -> bool;
     fn rl_bench_read(b: *const u8, n: usize, e: *const usize, m: usize, sum: &mut u64) -> bool;
     fn rl_bench_attr(b: *const u8, n: usize, e: *const usize, m: usize, sum: &mut u64) -> bool;
@@ -67,6 +68,10 @@ pub fn value_ref(corpus: &Corpus) -> u64 {
 
 pub fn tokens(corpus: &Corpus) -> u64 {
     call_certain(rl_bench_tokens, corpus)
+}
+
+pub fn source(corpus: &Corpus) -> u64 {
+    call_certain(rl_bench_source, corpus)
 }
 
 pub fn lex(corpus: &Corpus) -> u64 {

@@ -10,6 +10,7 @@ pub enum Sum {
     Lents,
     Values,
     Trees,
+    Cuts,
     Literals,
     Attributes,
 }
@@ -73,6 +74,12 @@ const OF_ATTRIBUTES: &[Work] = &[
     ours("attr", Sum::Attributes, ours::attr),
 ];
 
+/// The works of a text that is files of Rust.
+const OF_SOURCES: &[Work] = &[
+    ours("source", Sum::Cuts, ours::source),
+    other("proc-macro2", Sum::Trees, others::proc_macro2_lex),
+];
+
 /// The works of a list with something else in its last bytes.
 const OF_SPOILED: &[Work] = &[
     ours("tokens", Sum::Trees, ours::tokens),
@@ -85,6 +92,7 @@ const OF_HOSTILE: &[Work] = &[
     ours("shape", Sum::Shapes, ours::shape),
     ours("lent", Sum::Lents, ours::lent),
     ours("literal", Sum::Values, ours::literal),
+    ours("source", Sum::Cuts, ours::source),
     ours("tokens", Sum::Trees, ours::tokens),
     ours("lex", Sum::Trees, ours::lex),
     ours("read", Sum::Literals, ours::read),
@@ -93,7 +101,8 @@ const OF_HOSTILE: &[Work] = &[
 /// The works of a corpus of this form.
 pub fn of(form: Form) -> &'static [Work] {
     match form {
-        Form::Literals => OF_LITERALS,
+        Form::Literals | Form::Found => OF_LITERALS,
+        Form::Source => OF_SOURCES,
         Form::List => OF_LISTS,
         Form::Attributes => OF_ATTRIBUTES,
         Form::Spoiled => OF_SPOILED,

@@ -5,16 +5,17 @@
 #![feature(proc_macro_span)]
 
 mod attributes;
-mod found;
 mod literals;
 mod texts;
 mod trees;
+mod whole;
 
 use crate::texts::Refusal;
 use crate::trees::{Cut, lexes};
-use proc_macro::{TokenStream, TokenTree};
+use proc_macro::{Group, TokenStream, TokenTree};
 use std::io::{BufWriter, Write};
 use std::panic::catch_unwind;
+use std::sync::LazyLock;
 use std::{env, fs, panic};
 
 /// The value of a variable.
@@ -50,26 +51,34 @@ pub fn judged(command: TokenStream) -> TokenStream {
     TokenStream::new()
 }
 
-/// `literals!()`: of each text, a whole source, its literals in hexadecimal digits, a line each, and one with a point.
+/// `tried!(N)`: cuts the text of this number, so that rustc tells its errors of it at the line of the call; an error is told
+/// there wherever the text isn't cut.
 #[proc_macro]
-pub fn literals(_: TokenStream) -> TokenStream {
-    let data = fs::read(said("ANSWERS_TEXTS")).expect("texts");
+pub fn tried(number: TokenStream) -> TokenStream {
+    static DATA: LazyLock<Vec<u8>> = LazyLock::new(|| fs::read(said("ANSWERS_TEXTS")).expect("texts"));
+    static TEXTS: LazyLock<Vec<&str>> = LazyLock::new(|| texts::split(&DATA).collect());
+    let number: usize = number.to_string().parse().expect("a number");
     panic::set_hook(Box::new(|_| {}));
-    write_answers(texts::split(&data).map(|source| {
-        let told = catch_unwind(|| found::literals(source));
-        told.unwrap_or_else(|_| "unlexed\n.\n".to_string())
-    }));
-    TokenStream::new()
+    if catch_unwind(|| lexes(TEXTS[number])).unwrap_or(false) {
+        return TokenStream::new();
+    }
+    // Behind what rustc told, if it did: of groups that aren't closed it tells none.
+    "compile_error! { \"groups do not match\" }".parse().expect("a call")
 }
 
 /// The lines of each group's text by this function, and one with a point.
-fn write_lines(groups: TokenStream, lines: fn(&Cut<'_>) -> Result<String, Refusal>) {
+fn write_groups(groups: TokenStream, lines: impl Fn(&str, Group) -> Result<String, Refusal>) {
     let data = fs::read(said("ANSWERS_TEXTS")).expect("texts");
     let texts = texts::split(&data);
     write_answers(texts.zip(groups).map(|(text, tree)| match tree {
-        TokenTree::Group(group) => texts::pointed(Cut::of(text, group).and_then(|cut| lines(&cut))),
+        TokenTree::Group(group) => texts::pointed(lines(text, group)),
         _ => panic!("a text outside braces"),
     }));
+}
+
+/// The same of texts that are cut.
+fn write_lines(groups: TokenStream, lines: fn(&Cut<'_>) -> Result<String, Refusal>) {
+    write_groups(groups, |text, group| Cut::of(text, group).and_then(|cut| lines(&cut)));
 }
 
 /// `spans!({text} {text} ..)`, the texts as in the file: of each the lines of its literals' kinds, bytes and texts.
@@ -83,5 +92,12 @@ pub fn spans(groups: TokenStream) -> TokenStream {
 #[proc_macro]
 pub fn attr(groups: TokenStream) -> TokenStream {
     write_lines(groups, attributes::lines);
+    TokenStream::new()
+}
+
+/// `sources!({text} {text} ..)`, the texts as in the file: of each the lines of its literals.
+#[proc_macro]
+pub fn sources(groups: TokenStream) -> TokenStream {
+    write_groups(groups, whole::lines);
     TokenStream::new()
 }

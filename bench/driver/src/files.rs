@@ -1,0 +1,74 @@
+//! Files of Rust, in the folder that `RL_BENCH_SOURCES` names, and their literals.
+
+use proc_macro2::{TokenStream, TokenTree};
+use std::path::{Path, PathBuf};
+use std::{env, fs};
+
+/// Whether there is such a folder.
+pub fn are_there() -> bool {
+    env::var_os("RL_BENCH_SOURCES").is_some()
+}
+
+/// Adds the paths of the folder's files of Rust.
+fn add_paths(folder: &Path, paths: &mut Vec<PathBuf>) {
+    for entry in fs::read_dir(folder).expect("a folder") {
+        let path = entry.expect("an entry").path();
+        if path.is_dir() {
+            add_paths(&path, paths);
+        } else if path.extension().is_some_and(|ending| ending == "rs") {
+            paths.push(path);
+        }
+    }
+}
+
+/// The files one after another, in the order of their paths: each that still fits into so many
+/// bytes.
+pub fn text(size: usize) -> String {
+    let mut paths = Vec::new();
+    let folder = env::var_os("RL_BENCH_SOURCES").expect("the variable RL_BENCH_SOURCES");
+    add_paths(Path::new(&folder), &mut paths);
+    paths.sort();
+    let mut all = String::new();
+    for path in paths {
+        let text = fs::read_to_string(path).expect("a text");
+        if all.len() + text.len() <= size {
+            all.push_str(&text);
+        }
+    }
+    all
+}
+
+/// Whether these trees are what a doc comment is turned into.
+fn are_doc(trees: &[TokenTree]) -> bool {
+    match trees {
+        [TokenTree::Ident(word), TokenTree::Punct(mark), ..] => {
+            word == "doc" && mark.as_char() == '='
+        }
+        _ => false,
+    }
+}
+
+/// Adds the texts of literals, and of truth values.
+fn add_literals(trees: TokenStream, found: &mut Vec<String>) {
+    let trees: Vec<_> = trees.into_iter().collect();
+    if are_doc(&trees) {
+        return;
+    }
+    for tree in trees {
+        match tree {
+            TokenTree::Literal(literal) => found.push(literal.to_string()),
+            TokenTree::Ident(word) if word == "true" || word == "false" => {
+                found.push(word.to_string());
+            }
+            TokenTree::Group(group) => add_literals(group.stream(), found),
+            _ => {}
+        }
+    }
+}
+
+/// The literals of those files.
+pub fn literals(size: usize) -> Vec<String> {
+    let mut found = Vec::new();
+    add_literals(text(size).parse().expect("trees"), &mut found);
+    found
+}

@@ -1,0 +1,169 @@
+"""How a whole Rust source is cut into tokens, written from the part of docs/GRAMMAR.md on whole sources alone.
+
+It shares nothing with the programs that it is held against.
+"""
+import re
+import sys
+from typing import NamedTuple, Optional
+
+WHITE = '\t\n\v\f\r \u0085\u00a0\u1680\u2000-\u200a\u2028\u2029\u202f\u205f\u3000\u200e\u200f'
+
+
+def character_class(holds):
+    """The inside of a character class of the characters past ASCII that this holds of."""
+    ranges, begin = [], None
+    for code in range(0x80, sys.maxunicode + 2):
+        inside = code <= sys.maxunicode and not 0xD800 <= code < 0xE000 and holds(chr(code))
+        if inside and begin is None:
+            begin = code
+        elif not inside and begin is not None:
+            ranges.append('%s-%s' % (chr(begin), chr(code - 1)))
+            begin = None
+    return ''.join(ranges)
+
+
+START = '[A-Z_a-z%s]' % character_class(str.isidentifier)
+CONTINUE = '[0-9A-Z_a-z%s]' % character_class(lambda c: ('a' + c).isidentifier())
+WORD = START + CONTINUE + '*+'
+SUFFIX = '(?:%s)?+' % WORD
+
+
+def compiled(form):
+    return re.compile(form, re.S)
+
+
+# What is dropped between tokens, but for blocks.
+SPACE = compiled('(?:[%s]++|//(?![!/])[^\n]*+\n?|////[^\n]*+\n?)++' % WHITE)
+BLOCK_EDGE = compiled(r'/\*|\*/')
+DOC_BLOCK = compiled(r'/\*(?:!|\*(?![*/]))')
+# The front.
+INTERPRETER = compiled('#!')
+LINE = compiled('[^\n]*+')
+
+# Literals whose end a single form tells.
+PLAIN_LITERAL = compiled(
+    r'[bc]?"[^"\\]*+(?:\\.[^"\\]*+)*+"' + SUFFIX
+    + r"|b?'(?:[^\\]'|\\.[^'\n]*+')" + SUFFIX
+    + '|0[xob]' + CONTINUE + '*+'
+    + r'|[0-9][0-9_]*+(?:\.(?!\.|' + START + r')[0-9_]*+)?+(?:[eE][-+]?_*+[0-9][0-9_]*+)?+' + SUFFIX)
+RAW_OPENER = compiled('(?:r|br|cr)(#*+)"')
+BEHIND_RAW = compiled(SUFFIX)
+OPENER = compiled('[bc]?"|b?\'')
+OTHER = compiled(
+    '(?P<raw_identifier>r#' + WORD + ')|(?P<word>' + WORD + ')'
+    + "|(?P<lifetime>'(?:r#(?=" + START + '))?+' + WORD + "(?!'))"
+    + '|(?P<doc>//[^\n]*+)')
+MARKS = frozenset('~!@#$%^&*-=+|;:,<.>?/()[]{}')
+
+
+class Token(NamedTuple):
+    """A token, and the bytes where it stands."""
+    form: str
+    lo: int
+    hi: int
+    text: str
+
+    def is_literal(self):
+        return self.form == 'literal' or self.form == 'word' and self.text in ('true', 'false')
+
+
+class Fault(NamedTuple):
+    """What ends a source early, and the byte where it stands."""
+    at: int
+    kind: str
+
+
+class Cut(NamedTuple):
+    tokens: list
+    fault: Optional[Fault]
+
+    def literals(self):
+        return [token for token in self.tokens if token.is_literal()]
+
+
+def block_end(text, at):
+    """The place behind the block that begins here, or None where it isn't closed."""
+    depth, place = 1, at + 2
+    for edge in iter(lambda: BLOCK_EDGE.search(text, place), None):
+        depth += 1 if edge[0] == '/*' else -1
+        place = edge.end()
+        if not depth:
+            return place
+    return None
+
+
+def behind_trivia(text, at):
+    """The place behind white space and plain comments."""
+    while True:
+        space = SPACE.match(text, at)
+        end = space.end() if space else at
+        if text.startswith('/*', end) and not DOC_BLOCK.match(text, end):
+            end = block_end(text, end) or end
+        if end == at:
+            return at
+        at = end
+
+
+def behind_front(text):
+    """The place behind a byte order mark and a line for an interpreter."""
+    at = 1 if text.startswith('\ufeff') else 0
+    line = INTERPRETER.match(text, at)
+    if line and not text.startswith('[', behind_trivia(text, line.end())):
+        return LINE.match(text, at).end()
+    return at
+
+
+def raw_end(text, opener):
+    """The place behind a raw literal, or None where it isn't closed."""
+    closer = '"' + opener[1]
+    close = text.find(closer, opener.end())
+    return None if close < 0 else BEHIND_RAW.match(text, close + len(closer)).end()
+
+
+def cut_one(text, at):
+    """The form of the token at a place that isn't the end, and where it ends; or the fault, and None."""
+    raw = RAW_OPENER.match(text, at)
+    if raw:
+        end = raw_end(text, raw)
+        return ('literal', end) if end else ('unclosed quote', None)
+    literal = PLAIN_LITERAL.match(text, at)
+    if literal:
+        return 'literal', literal.end()
+    # A prefix with a quote is no word, but an apostrophe may begin a lifetime.
+    opener = OPENER.match(text, at)
+    other = None if opener and opener[0] != "'" else OTHER.match(text, at)
+    if other:
+        return other.lastgroup, other.end()
+    if opener:
+        return 'unclosed quote', None
+    if text.startswith('/*', at):
+        end = block_end(text, at)
+        return ('doc', end) if end else ('unclosed block comment', None)
+    return 'mark' if text[at] in MARKS else 'stray', at + 1
+
+
+def cut_source(text):
+    """The tokens of a source, up to its end or to its first fault."""
+    found, at, fault = [], behind_trivia(text, behind_front(text)), None
+    while at < len(text):
+        form, end = cut_one(text, at)
+        if end is None:
+            fault = (at, form)
+            break
+        found.append((form, at, end))
+        at = behind_trivia(text, end)
+    return in_bytes(text, found, fault)
+
+
+def in_bytes(text, found, fault):
+    """The tokens with their texts, at bytes instead of characters."""
+    tokens, ascii_alone, last, place = [], text.isascii(), 0, 0
+    for form, lo, hi in found:
+        begin = lo if ascii_alone else place + len(text[last:lo].encode())
+        end = hi if ascii_alone else begin + len(text[lo:hi].encode())
+        tokens.append(Token(form, begin, end, text[lo:hi]))
+        last, place = hi, end
+    if fault:
+        at, kind = fault
+        fault = Fault(at if ascii_alone else place + len(text[last:at].encode()), kind)
+    return Cut(tokens, fault)
