@@ -13,7 +13,7 @@ fn source_count(text: &str) -> usize
 {
     let mut tokens = Sources::new(text);
     let mut count = 0;
-    while let Some(_) = tokens.next() {
+    while tokens.next().is_some() {
         count += 1;
     }
     count
