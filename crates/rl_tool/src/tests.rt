@@ -6,8 +6,8 @@ mod refused;
 
 use crate::command::Command;
 use crate::ending::{Ending, call};
-use rl_program::Fault;
 use crate::run::run;
+use rl_program::Fault;
 use rl_tokens::{Error, ErrorKind, Span};
 use std::alloc::Global;
 use std::io::{self, Read};

@@ -1,8 +1,8 @@
 //! Readers and writers that fail, or give and take few bytes a call.
 
 use crate::command::Command;
-use rl_program::Fault;
 use crate::run::run;
+use rl_program::Fault;
 use std::io::{self, ErrorKind, Read, Write};
 use std::test::Fail;
 
