@@ -2,4 +2,3 @@ pub mod Attributes
 pub mod Entries
 pub mod AttributeParsing
 pub mod AttributeSteps
-pub mod EntryLines

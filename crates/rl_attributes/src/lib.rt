@@ -2,7 +2,5 @@
 #![tactic(auto)]
 
 mod attributes;
-mod lines;
 
 pub use crate::attributes::{Attrs, Entry, read};
-pub use crate::lines::entry_lines;
