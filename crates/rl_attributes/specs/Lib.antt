@@ -2,3 +2,4 @@ pub mod Attributes
 pub mod Entries
 pub mod AttributeParsing
 pub mod AttributeSteps
+pub mod Settings

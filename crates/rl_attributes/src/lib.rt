@@ -2,5 +2,7 @@
 #![tactic(auto)]
 
 mod attributes;
+mod settings;
 
 pub use crate::attributes::{Attrs, Entry, read};
+pub use crate::settings::{Setting, SettingError};

@@ -1,0 +1,39 @@
+-- What a server's settings are.
+use Rattle.std.specs.Prelude.{◌≡◌, ℕ, Bool as Truth, List, [], All, codes}
+use Rattle.std.specs.Str.{chars}
+use Rattle.rl_tokens.specs.declared.kind.Kind.TheVariants.{Str as StrKind}
+use Rattle.rl_tokens.specs.Reading.{Characters, HasContents}
+use Rattle.rust_literals.specs.declared.lit.Lit.{Lit}
+use Rattle.rust_literals.specs.declared.lit.Lit.TheVariants.{Str, Bool}
+use Rattle.rust_literals.specs.LitParts.{HasLitSuffix}
+use Rattle.rl_attributes.specs.declared.attributes.Entry.{Entry}
+use Rattle.rl_attributes.specs.Attributes.{AreAttributesOf}
+use Rattle.rl_attributes.specs.Entries.{HasName, attributes_of}
+
+-- the literal is this truth value
+abbrev pub IsTruth : {A : Type 0} → Lit A → Truth → Type 0
+IsTruth (Bool l) value = l.value ≡ value
+IsTruth _ value = ⊥
+
+-- the literal is a string of these contents
+abbrev pub IsText : {A : Type 0} → Lit A → List ℕ → Type 0
+IsText (Str l) value = HasContents StrKind (chars l.text) (Characters (chars value))
+IsText _ value = ⊥
+
+-- what is named `verbose` is set to this truth value
+abbrev pub IsVerbose : {A : Type 0} → List (Entry A) → Truth → Type 0
+IsVerbose entries value = All (λ e. HasName (codes "verbose") e → IsTruth e.value value) entries
+
+-- what is named `name` is set to this string
+abbrev pub IsName : {A : Type 0} → List (Entry A) → List ℕ → Type 0
+IsName entries name = All (λ e. HasName (codes "name") e → IsText e.value name) entries
+
+-- The text is settings, none of whose values has a suffix; `name` and `verbose` are these, where
+-- they are set.
+pub record IsConfigText (A : Type 0) (text : List ℕ) (file : ℕ) (name : List ℕ) (verbose : Truth)
+    : Type 0 where
+  pub entries : List (Entry A)
+  pub are : AreAttributesOf (chars text) file (attributes_of entries)
+  pub bare : All (λ e. HasLitSuffix e.value []) entries
+  pub name_is : IsName entries name
+  pub verbose_is : IsVerbose entries verbose
