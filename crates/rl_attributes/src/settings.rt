@@ -1,6 +1,6 @@
 //! What a reader asks of settings: which names are known, that no value has a suffix, and what a value has to be.
 
-ghost use Rattle.std.specs.Prelude.{◌≡◌, ◌≢◌, [], All, IfErr, OnOk, MatchBool};
+ghost use Rattle.std.specs.Prelude.{◌≡◌, ◌≢◌, [], All, IfErr, IsTrue, OnOk, MatchBool, string_bytes};
 ghost use Rattle.std.specs.Str.{chars};
 ghost use Rattle.rust_literals.specs.LitParts.{HasLitSuffix};
 ghost use Rattle.rl_attributes.specs.AttributeParsing.{entries_of};
@@ -151,7 +151,10 @@ impl<A: Allocator> Attrs<A> {
     /// else `Suffix` at its value.
     pub fn check(&self, settings: &[Setting]) -> Result<(), SettingError<A>>
         // Every name is known, and no value has a suffix.
-        ensures accepted { OnOk result (All (IsAccepted settings.now) (entries_of self.now)) }
+        ensures known { OnOk result (All (λ entry. IsTrue (knows settings.now (string_bytes entry.name)))
+            (entries_of self.now)) }
+        ensures bare { OnOk result
+            (All (λ entry. HasLitSuffix entry.value []) (entries_of self.now)) }
         // Else the first entry that isn't accepted, at its place.
         ensures first { IfErr result (RejectsFirst settings.now (entries_of self.now)) }
     {

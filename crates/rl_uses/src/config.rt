@@ -1,11 +1,14 @@
 //! A server's settings: three names, and what each is where it isn't set.
 
-ghost use Rattle.std.specs.Prelude.{IfOk, string_bytes};
+ghost use Rattle.std.specs.Prelude.{◌≡◌, List, ℕ, IfOk, string_bytes};
+ghost use Rattle.std.specs.Str.Parse.{digits_value, without_leading_plus};
+ghost use Rattle.rl_tokens.specs.declared.kind.Kind.TheVariants.{Int};
+ghost use Rattle.rust_literals.specs.Base10.{AreBase10Digits};
 ghost use Rattle.rl_attributes.specs.AttributeParsing.{entries_of};
-ghost use Rattle.rl_uses.specs.Configs.{IsVerbose, IsName, IsConfigText};
+ghost use Rattle.rl_uses.specs.Configs.{IsVerbose, IsName, IsPort, IsConfigText};
 
 use rl_attributes::{Attrs, Setting, SettingError, read};
-use rust_literals::Lit;
+use rust_literals::{Lit, LitInt};
 use std::alloc::{Allocator, Global};
 
 /// The port, 80 where it isn't set.
@@ -37,14 +40,28 @@ pub struct Config<A: Allocator = Global> {
     pub verbose: bool,
 }
 
+/// The number that a literal sets the port to.
+fn port_number<A: Allocator + Copy>(
+    alloc: A,
+    literal: &LitInt<A>,
+) -> Result<u16, SettingError<A>>
+    ensures { IfOk result (λ port. (digits : List ℕ)
+        × AreBase10Digits Int literal.now.text digits
+        × (port ≡ digits_value 10 (without_leading_plus digits))) }
+{
+    match literal.base10_parse(alloc) {
+        Ok(port) => Ok(port),
+        Err(error) => Err(SettingError::Value(PORT, error)),
+    }
+}
+
 /// The port that is set.
-fn port_of<A: Allocator + Copy>(alloc: A, attrs: &Attrs<A>) -> Result<u16, SettingError<A>> {
+fn port_of<A: Allocator + Copy>(alloc: A, attrs: &Attrs<A>) -> Result<u16, SettingError<A>>
+    ensures { IfOk result (IsPort (entries_of attrs.now)) }
+{
     match attrs.get(PORT.name) {
         None => Ok(80),
-        Some(Lit::Int(literal)) => match literal.base10_parse(alloc) {
-            Ok(port) => Ok(port),
-            Err(error) => Err(SettingError::Value(PORT, error)),
-        },
+        Some(Lit::Int(literal)) => port_number(alloc, literal),
         Some(other) => Err(SettingError::Kind(PORT, other.span())),
     }
 }
@@ -82,7 +99,7 @@ pub fn read_config<A: Allocator + Copy>(
     file: u32,
 ) -> Result<Config<A>, SettingError<A>>
     ensures set { IfOk result
-        (λ config. IsConfigText A text.now file (string_bytes config.name) config.verbose) }
+        (λ config. IsConfigText A text.now file config.port (string_bytes config.name) config.verbose) }
 {
     let attrs = read(alloc, text, file)?;
     attrs.check(&[PORT, NAME, VERBOSE])?;

@@ -30,7 +30,14 @@ loop-entry-preserved g c =
     let accepted = IsAccepted c.args.settings.now in
     subst (λ l. All accepted l) (sym grown) (All-push accepted (take i entries) c.entry-item.result c.loop-entry.invariant c.in_ok-check_entry.ensures.accepted)
 
-pub returns-clause-accepted : goal.returns-clause-accepted
-returns-clause-accepted g c =
+pub returns-clause-known : goal.returns-clause-known
+returns-clause-known g c k d h =
     let entries = c.args.self.now.entries.items in
-    subst (λ l. All (IsAccepted c.args.settings.now) l) (take_all c.loop-entry.entry-index entries (omega (arith, ap length c.entries-entry-items.ensures.entries))) c.loop-entry.invariant
+    let all = subst (λ l. All (IsAccepted c.args.settings.now) l) (take_all c.loop-entry.entry-index entries (omega (arith, ap length c.entries-entry-items.ensures.entries))) c.loop-entry.invariant in
+    (all k d h).known
+
+pub returns-clause-bare : goal.returns-clause-bare
+returns-clause-bare g c k d h =
+    let entries = c.args.self.now.entries.items in
+    let all = subst (λ l. All (IsAccepted c.args.settings.now) l) (take_all c.loop-entry.entry-index entries (omega (arith, ap length c.entries-entry-items.ensures.entries))) c.loop-entry.invariant in
+    (all k d h).bare
