@@ -41,10 +41,7 @@ pub struct Config<A: Allocator = Global> {
 }
 
 /// The number that a literal sets the port to.
-fn port_number<A: Allocator + Copy>(
-    alloc: A,
-    literal: &LitInt<A>,
-) -> Result<u16, SettingError<A>>
+fn port_number<A: Allocator + Copy>(alloc: A, literal: &LitInt<A>) -> Result<u16, SettingError<A>>
     ensures { IfOk result (λ port. (digits : List ℕ)
         × AreBase10Digits Int literal.now.text digits
         × (port ≡ digits_value 10 (without_leading_plus digits))) }
