@@ -1,11 +1,11 @@
 -- Entries, one after another, and the names that are kept beside them.
-use Rattle.std.proofs.Common.{◌≡◌, ◌≢◌, ◌⊎◌, inl, inr, ℕ, zero, suc, ◌+◌, ◌<◌, Bool, true, false, cond, get_or, List, [], ◌∷◌, ◌++◌, refl, sym, ◌∙◌, ap, subst, Bor, string_bytes, arith}
+use Rattle.std.proofs.Common.{◌≡◌, ◌≢◌, ◌⊎◌, inl, inr, ℕ, zero, suc, ◌+◌, ◌<◌, Bool, true, false, cond, get_or, take, drop, List, [], ◌∷◌, ◌++◌, refl, sym, ◌∙◌, ap, subst, Bor, string_bytes, arith}
 use Rattle.std.specs.Prelude.{IsFalse, codes, All, Result, Ok, Err, IfOk, IfErr, length}
 use Rattle.std.specs.HashSet.{HashSet, IsEmpty}
 use Rattle.std.specs.Str.{bytes_eq, chars}
 use Rattle.std.specs.Cmp.Lexicographic.{nat_list_eq_equiv}
 use Rattle.std.proofs.lemmas.Bool.{cases_lt, cases_order}
-use Rattle.std.proofs.lemmas.List.{map_push, get_or_default, length-map}
+use Rattle.std.proofs.lemmas.List.{map_push, get_or_default, length-map, take-append-drop, drop_more}
 use Rattle.std.proofs.lemmas.Map.Keys.{apart_from_distinct}
 use Rattle.std.proofs.lemmas.Slice.Eq.{bytes_eq-Decides}
 use Rattle.std.proofs.lemmas.List.Elements.{All-push, All-same}
@@ -260,3 +260,8 @@ none_more {A = A} entries name i entry below is other none k d h has =
           let same : get_or entries k d ≡ entry = ap (λ n. get_or entries n d) at ∙ get_or_default entries i d entry below ∙ sym is in
           other (subst (λ (x : Entry A). HasName name x) same has)
     ]
+
+-- a list, where an entry of it stands
+pub parted_at : {X : Type 0} (xs : List X) (i : ℕ) (x : X) → i < length xs → x ≡ get_or xs i x → xs ≡ take i xs ++ (x ∷ drop (i + 1) xs)
+parted_at xs i x below is =
+    sym (take-append-drop i xs) ∙ ap (λ z. take i xs ++ z) (drop_more xs i x below ∙ ap (λ z. z ∷ drop (i + 1) xs) (sym is))

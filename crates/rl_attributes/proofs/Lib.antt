@@ -1,3 +1,2 @@
 pub mod AttributeLemmas
 pub mod EntryLemmas
-pub mod EntryLineLemmas

@@ -2,4 +2,4 @@ pub mod Attributes
 pub mod Entries
 pub mod AttributeParsing
 pub mod AttributeSteps
-pub mod EntryLines
+pub mod Settings

@@ -2,7 +2,7 @@
 #![tactic(auto)]
 
 mod attributes;
-mod lines;
+mod settings;
 
 pub use crate::attributes::{Attrs, Entry, read};
-pub use crate::lines::entry_lines;
+pub use crate::settings::{Setting, SettingError};

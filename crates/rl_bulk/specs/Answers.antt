@@ -18,7 +18,7 @@ use Rattle.rl_bulk.specs.declared.command.Command.{Command}
 use Rattle.rl_bulk.specs.declared.command.Command.TheVariants.{Text, Int, Float, Skip, Strict, Value, Read, Spans, Attr, Source}
 use Rattle.rl_lines.specs.Digits.{bytes_of}
 use Rattle.rl_attributes.specs.Attributes.{RefusesAttributeText}
-use Rattle.rl_attributes.specs.EntryLines.{ShowsAttributes}
+use Rattle.rl_lines.specs.EntryLines.{ShowsAttributes}
 use Rattle.rl_bulk.specs.Asked.{name_of}
 use Rattle.rl_bulk.specs.Refused.{refusal_lines}
 use Rattle.rl_bulk.specs.Lent.{IsLentAnswer}

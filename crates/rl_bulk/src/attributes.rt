@@ -4,7 +4,8 @@ ghost use Rattle.std.specs.Prelude.{IfOk, string_bytes};
 ghost use Rattle.rl_bulk.specs.Answers.{IsAttributesAnswer};
 
 use crate::ending::{ended, refused};
-use rl_attributes::{entry_lines, read};
+use rl_attributes::read;
+use rl_lines::entry_lines;
 use std::alloc::{AllocError, Global};
 
 /// The lines of the text's attributes, or of its refusal, and one with a point.

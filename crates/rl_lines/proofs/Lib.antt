@@ -4,3 +4,4 @@ pub mod JoinLemmas
 pub mod PrintLemmas
 pub mod TextLemmas
 pub mod ListLemmas
+pub mod EntryLineLemmas

@@ -30,7 +30,7 @@ quoted_suffix s u n h = some_word (chars s) (λ e. absurd (nothing e)) h
     nothing : chars s ≡ [] → ⊥
     nothing e = let t : s ≡ [] = sym (encodes-chars s u) ∙ ap encode_utf8_all e in both_ways (eqb (length s) 0) n (ap (λ z. eqb (length z) 0) t)
 
-space : chars (32 ∷ []) ≡ 32 ∷ []
+pub space : chars (32 ∷ []) ≡ 32 ∷ []
 unfolding chars
 space = refl
 

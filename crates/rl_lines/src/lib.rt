@@ -1,12 +1,14 @@
-//! What the programs print: literals as lines (kind, contents as they are written, and suffix), and refusals; and what
+//! What the programs print: literals as lines (kind, contents as they are written, and suffix), attributes as lines, and refusals; and what
 //! those for development read, bytes as hexadecimal digits.
 #![tactic(auto)]
 
+mod attributes;
 mod digits;
 mod line;
 mod print;
 mod refusal;
 
+pub use crate::attributes::entry_lines;
 pub use crate::digits::decoded;
 pub use crate::print::{label_of, line_of, lines_of, push_literal, push_literals};
 pub use crate::refusal::Refusal;

@@ -11,7 +11,7 @@ use rl_tokens::ident::xid_ok;
 use std::alloc::{AllocError, Allocator};
 
 /// Writes a piece at the end.
-fn push<A: Allocator>(out: &mut String<A>, piece: &str) -> Result<(), AllocError>
+pub fn push<A: Allocator>(out: &mut String<A>, piece: &str) -> Result<(), AllocError>
     ensures { OnOk result
         (chars (string_bytes out.new) ≡ chars (string_bytes out.old) ++ chars piece.now) }
 {

@@ -4,7 +4,7 @@ use crate::tell::{At, debug_word, line, show, show_line, show_word, tell_error, 
 use rl_tokens::{Error, Parse, ParseBuffer, Span, parse_all};
 use rl_uses::{
     Attribute, Item, ItemList, control_strings, count_literals, format, read_attribute,
-    read_number, rewritten,
+    read_config, read_number, rewritten,
 };
 use rust_literals::{Lit, read_all};
 use std::alloc::{AllocError, Global};
@@ -40,6 +40,7 @@ fn of_literals(
         "format" => formatted(alloc, text, out)?,
         "counts" => counts(alloc, text, out)?,
         "settings" => settings(alloc, text, out)?,
+        "config" => config(alloc, text, out)?,
         _ => return Ok(false),
     }
     Ok(true)
@@ -250,4 +251,19 @@ fn tell_number<N: Display + Drop>(
 fn settings(alloc: Global, text: &str, out: &mut String) -> Result<(), AllocError> {
     tell_number(read_number::<u16, Global>(alloc, text, FILE), out)?;
     tell_number(read_number::<i64, Global>(alloc, text, FILE), out)
+}
+
+/// The text as a server's settings, or why there are none, and where.
+fn config(alloc: Global, text: &str, out: &mut String) -> Result<(), AllocError> {
+    match read_config(alloc, text, FILE) {
+        Ok(config) => {
+            show_word(&config.port, out)?;
+            show_word(&config.verbose, out)?;
+            line(config.name.as_str(), out)
+        }
+        Err(error) => {
+            show_word(&At(error.span()), out)?;
+            show_line(&error, out)
+        }
+    }
 }

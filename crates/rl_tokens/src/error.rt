@@ -5,7 +5,7 @@ ghost use Rattle.rl_tokens.specs.Errors.{message_of};
 
 use crate::lex_error::LexKind;
 use crate::span::Span;
-use std::alloc::{AllocError, Allocator, Global};
+use std::alloc::{AllocError, AllocFailed, Allocator, Global};
 use std::fmt;
 
 /// What was refused, and where. `Display` prints the message of the kind; the span is for who shows
@@ -109,6 +109,19 @@ impl<A: Allocator> From<AllocError> for Error<A> {
     ghost from_gives = { λ refused error. error ≡ memory_at nowhere };
 
     fn from(_refused: AllocError) -> Error<A> {
+        Error::memory(Span::call_site())
+    }
+}
+
+/// std's error for a value that couldn't be stored, as of `Vec::push`: `Memory` at [`Span::call_site`]. The value is let
+/// go.
+impl<T: Drop, A: Allocator> From<AllocFailed<T>> for Error<A> {
+    ghost use Rattle.std.specs.Prelude.{◌≡◌};
+    ghost use Rattle.rl_tokens.specs.Errors.{memory_at, nowhere};
+
+    ghost from_gives = { λ failed error. error ≡ memory_at nowhere };
+
+    fn from(_failed: AllocFailed<T>) -> Error<A> {
         Error::memory(Span::call_site())
     }
 }

@@ -6,7 +6,7 @@ ghost use Rattle.rl_tool.specs.declared.command.Command.TheVariants.{Attr};
 ghost use Rattle.rl_tool.specs.Runs.{Shows, IsRefusalOf};
 
 use crate::attr::read;
-use rl_attributes::entry_lines;
+use rl_lines::entry_lines;
 use rl_program::Fault;
 use std::alloc::Allocator;
 

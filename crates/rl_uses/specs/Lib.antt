@@ -5,3 +5,4 @@ pub mod Shortage
 pub mod Lints
 pub mod Rewrites
 pub mod Counts
+pub mod Configs

@@ -1,8 +1,9 @@
 //! Small callers of the libraries, as a user writes them, each with its contract: an attribute, a number as a setting, a
-//! list of literals, a linter, a formatter, and how often each literal stands in a text.
+//! server's settings, a list of literals, a linter, a formatter, and how often each literal stands in a text.
 #![tactic(auto)]
 
 mod attribute;
+mod config;
 mod count;
 mod lint;
 mod list;
@@ -10,6 +11,7 @@ mod rewrite;
 mod setting;
 
 pub use crate::attribute::{Attribute, read_attribute};
+pub use crate::config::{Config, read_config};
 pub use crate::count::{Counts, count_literals};
 pub use crate::lint::control_strings;
 pub use crate::list::{Item, ItemList};

@@ -2,7 +2,7 @@ use Rattle.std.proofs.Common.{inl, inr, string_bytes}
 use Rattle.std.specs.Str.{chars}
 use Rattle.std.proofs.lemmas.Result.{IfOk-weaker}
 use Rattle.std.proofs.lemmas.Str.{IsUtf8-string_bytes}
-use Rattle.rl_attributes.proofs.EntryLineLemmas.{shows_attributes}
+use Rattle.rl_lines.proofs.EntryLineLemmas.{shows_attributes}
 use Rattle.rl_bulk.proofs.AnswerLemmas.{point_pushed}
 use Rattle.rl_bulk.proofs.attributes.attributes_answer.Goals as goal
 

@@ -1,6 +1,6 @@
 use Rattle.std.proofs.Common.{string_bytes}
 use Rattle.std.specs.Str.{chars}
-use Rattle.rl_attributes.proofs.EntryLineLemmas.{shows_attributes}
+use Rattle.rl_lines.proofs.EntryLineLemmas.{shows_attributes}
 use Rattle.rl_tool.proofs.attribute_lines.attribute_lines.Goals as goal
 
 pub returns-clause-lines : goal.returns-clause-lines

@@ -2,9 +2,9 @@ use Rattle.std.proofs.Common.{◌≡◌, ◌+◌, ◌∷◌, [], ◌++◌, take,
 use Rattle.std.proofs.lemmas.Grind.{common_steps}
 use Rattle.std.specs.Str.{chars}
 use Rattle.std.proofs.lemmas.Str.{chars-nil}
-use Rattle.rl_attributes.specs.EntryLines.{IsLineOfEntry, AreLinesOfEntries}
+use Rattle.rl_lines.specs.EntryLines.{IsLineOfEntry, AreLinesOfEntries}
 use Rattle.rl_lines.proofs.JoinLemmas.{joins_more}
-use Rattle.rl_attributes.proofs.lines.entry_lines.Goals as goal
+use Rattle.rl_lines.proofs.attributes.entry_lines.Goals as goal
 
 pub loop-entry-init : goal.loop-entry-init
 loop-entry-init g c = ap chars c.new-lines.ensures.bytes ∙ chars-nil

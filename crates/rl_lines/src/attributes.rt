@@ -3,10 +3,11 @@
 ghost use Rattle.std.specs.Prelude.{OnOk, IfOk, string_bytes};
 ghost use Rattle.std.specs.Str.{chars};
 ghost use Rattle.rl_lines.specs.Lines.{Appends};
-ghost use Rattle.rl_attributes.specs.EntryLines.{IsLineOfEntry, AreLinesOfEntries};
+ghost use Rattle.rl_lines.specs.EntryLines.{IsLineOfEntry, AreLinesOfEntries};
 
-use crate::attributes::Entry;
-use rl_lines::line_of;
+use crate::line::push;
+use crate::print::push_literal;
+use rl_attributes::Entry;
 use std::alloc::{AllocError, Allocator};
 
 /// Writes an attribute's line at the end: its name, a space, and its literal's line.
@@ -18,11 +19,9 @@ fn push_entry<A: Allocator + Copy>(
     ensures { OnOk result (Appends (IsLineOfEntry entry.now)
         (chars (string_bytes out.old)) (chars (string_bytes out.new))) }
 {
-    let line = line_of(alloc, &entry.value)?;
-    out.push_str(entry.name.as_str())?;
-    out.push_str(" ")?;
-    out.push_str(line.as_str())?;
-    Ok(())
+    push(out, entry.name.as_str())?;
+    push(out, " ")?;
+    push_literal(alloc, out, &entry.value)
 }
 
 /// The lines of attributes, one after another: of each its name, a space, and its literal's line.

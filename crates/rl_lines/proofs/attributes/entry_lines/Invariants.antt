@@ -1,7 +1,7 @@
 use Rattle.std.proofs.Common.{string_bytes, take}
 use Rattle.std.specs.Str.{chars}
-use Rattle.rl_attributes.specs.EntryLines.{AreLinesOfEntries}
-use Rattle.rl_attributes.proofs.lines.entry_lines.Given as goal
+use Rattle.rl_lines.specs.EntryLines.{AreLinesOfEntries}
+use Rattle.rl_lines.proofs.attributes.entry_lines.Given as goal
 
 abbrev pub invariant-loop-entry : goal.invariant-loop-entry
 invariant-loop-entry g l = AreLinesOfEntries (take l.entry-index l.entries) (chars (string_bytes l.lines))

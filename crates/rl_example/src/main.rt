@@ -1,0 +1,54 @@
+//! Reads a server's settings from standard input, and prints them, or what is wrong and where.
+#![tactic(auto)]
+
+use rl_attributes::{Setting, SettingError, read};
+use rust_literals::Lit;
+use std::alloc::Global;
+use std::io;
+
+const PORT: Setting = Setting {
+    name: "port",
+    expected: "an integer from 0 to 65535",
+};
+
+const HOST: Setting = Setting {
+    name: "host",
+    expected: "a string",
+};
+
+#[derive(Drop)]
+struct Server {
+    host: String,
+    port: u16,
+}
+
+fn server_of(alloc: Global, text: &str) -> Result<Server, SettingError> {
+    let attrs = read(alloc, text, 4)?;
+    attrs.check(&[HOST, PORT])?;
+    let host = match attrs.get(HOST.name) {
+        None => String::from_str(alloc, "localhost")?,
+        Some(Lit::Str(literal)) => literal.value(alloc)?,
+        Some(other) => return Err(SettingError::Kind(HOST, other.span())),
+    };
+    let port = match attrs.get(PORT.name) {
+        None => 80,
+        Some(Lit::Int(literal)) => match literal.base10_parse(alloc) {
+            Ok(port) => port,
+            Err(error) => return Err(SettingError::Value(PORT, error)),
+        },
+        Some(other) => return Err(SettingError::Kind(PORT, other.span())),
+    };
+    Ok(Server { host, port })
+}
+
+fn main(rt: HostRuntime) -> io::Result<()> {
+    let alloc = rt.alloc();
+    let text = io::read_to_string(alloc, rt.stdin())?;
+    match server_of(alloc, text.as_str()) {
+        Ok(server) => println!(rt; "{}:{}", server.host, server.port),
+        Err(error) => {
+            let span = error.span();
+            println!(rt; "error at {}..{}: {error}", span.lo, span.hi)
+        }
+    }
+}
