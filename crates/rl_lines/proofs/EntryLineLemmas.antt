@@ -15,12 +15,12 @@ use Rattle.rl_lines.specs.EntryLines.{AreAttributeLines, ShowsAttributes, IsLine
 -- a name, a space and a line at the end
 pub entry_pushed : {A : Type 0} (entry : Entry A) (name a b c d : List ℕ) → name ≡ string_bytes entry.name → b ≡ a ++ chars name → c ≡ b ++ chars (32 ∷ []) → Appends (IsLineOfLit entry.value) c d → Appends (IsLineOfEntry entry) a d
 entry_pushed entry name a b c d e p q (line, prints, r) = (
-      chars name ++ (32 ∷ line),
-      (line, prints, ap (λ z. chars z ++ (32 ∷ line)) e),
-      r ∙ ap (λ z. z ++ line) (q ∙ ap (λ z. b ++ z) space ∙ ap (λ z. z ++ (32 ∷ [])) p)
-          ∙ append_assoc (a ++ chars name) (32 ∷ []) line
-          ∙ append_assoc a (chars name) (32 ∷ line),
-    )
+  chars name ++ (32 ∷ line),
+  (line, prints, ap (λ z. chars z ++ (32 ∷ line)) e),
+  r ∙ ap (λ z. z ++ line) (q ∙ ap (λ z. b ++ z) space ∙ ap (λ z. z ++ (32 ∷ [])) p)
+      ∙ append_assoc (a ++ chars name) (32 ∷ []) line
+      ∙ append_assoc a (chars name) (32 ∷ line),
+)
 
 -- the lines of entries that were read are those of their attributes
 lines_of_attributes : {A : Type 0} (es : List (Entry A)) (shown : List ℕ) → All IsReadEntry es → AreLinesOfEntries es shown → AreAttributeLines (attributes_of es) shown
