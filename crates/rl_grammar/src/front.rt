@@ -12,8 +12,7 @@ ghost use Rattle.rl_grammar.specs.Fronts.{IsFront, HasNoFront, HasFrontOf, RunsA
 ghost use Rattle.rl_grammar.specs.Founds.{IsFound};
 ghost use Rattle.rl_grammar.specs.FrontTokens.{HasNoWord, HasNoMinus};
 
-use crate::found::{Found, find, find_negative};
-use crate::reading::truth_of;
+use crate::found::{Found, find, find_negative, truth_of};
 use rl_tokens::{Error, Ident, Kind, Literal, ParseBuffer, Punct, Span};
 use std::alloc::Allocator;
 use std::marker::Model;
