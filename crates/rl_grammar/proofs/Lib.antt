@@ -7,6 +7,7 @@ pub mod RunLemmas
 pub mod IntegerLemmas
 pub mod FloatLemmas
 pub mod DigitLemmas
+pub mod DecLemmas
 pub mod NumberLemmas
 pub mod MinusLemmas
 pub mod OptionLemmas

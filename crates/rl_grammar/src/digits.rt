@@ -14,7 +14,7 @@ ghost use Rattle.rl_grammar.specs.Mirrors.PlainAt.{is_plain_digits, is_plain_flo
 
 use crate::found::{Found, find_float, found_in};
 use crate::rows::{after_minus, is_negative};
-use crate::strict::words::is_some_text;
+use crate::strict::is_some_text;
 use rl_tokens::scan::{Marks, next_mark};
 use rl_tokens::text::split_char;
 use rl_tokens::{Error, Kind};

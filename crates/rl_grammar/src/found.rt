@@ -1,24 +1,23 @@
-//! What reading a text finds, told by places in it: nothing has to be read again to take a literal apart.
+//! The one reading of a text: what it finds, told by places in it, so that nothing has to be read again to take a literal apart.
 
-ghost use Rattle.std.specs.Prelude.{◌≡◌, ◌∷◌, ◌⊎◌, ℕ, List, IfNone, IfSome};
+ghost use Rattle.std.specs.Prelude.{◌≡◌, ◌∷◌, ◌⊎◌, ℕ, List, IfNone, IfSome, ◌≢◌, Bool, ◌↔◌, IsTrue};
 ghost use Rattle.std.specs.Str.{chars};
 ghost use Rattle.rl_tokens.specs.declared.kind.Kind.{Kind as AnyKind};
 ghost use Rattle.rl_tokens.specs.declared.kind.Kind.TheVariants.{Float, Int};
 ghost use Rattle.rl_tokens.specs.Numbers.{FloatReads, NoSign};
-ghost use Rattle.rl_tokens.specs.Reading.{HasNoFloat, HasNoInteger, HasNoReading, HasNoTruth, HasReading, IsPast, ReadsAs};
-ghost use Rattle.rl_tokens.specs.Texts.{IsTail};
+ghost use Rattle.rl_tokens.specs.Reading.{HasNoFloat, HasNoInteger, HasNoReading, HasNoTruth, HasReading, IsPast, ReadsAs, Contents, Reads, truth_text};
+ghost use Rattle.rl_tokens.specs.Texts.{IsTail, first_passes};
 ghost use Rattle.rl_grammar.specs.Founds.{IsFound, IsFoundFloat};
 ghost use Rattle.rl_grammar.specs.Mirrors.NumberAt.{sign_at};
 ghost use Rattle.rl_grammar.specs.NumberShapes.{HasNoNumber, HasOneFloat, HasOneInteger, HasMagnitude};
+ghost use Rattle.rl_grammar.specs.StrictBytes.{KeepsBytesStrict};
+ghost use Rattle.rl_grammar.specs.WholeShapes.{IsSplit, is_number_front, IsPlain};
 
-use crate::cuts::before;
 use crate::digits::{is_plain_float, is_plain_integer};
-use crate::floats::float_suffix;
-use crate::integers::read_integer;
-use crate::numbers::{Number, read_number};
+use crate::numbers::{Number, float_suffix, read_integer, read_number};
 use crate::quoted::find_quoted;
-use crate::reading::{begins_number, truth_of};
 use crate::rows::is_negative;
+use crate::runs::before;
 use rl_tokens::Kind;
 
 /// Where the parts of a literal stand in its text, in bytes, and whether the body is what it stands for, byte for byte.
@@ -250,4 +249,113 @@ pub fn find(text: &str) -> Option<Found>
         return Some(found);
     }
     find_truth(text)
+}
+
+/// The truth value that the text is, `true` or `false`; `None` for any other text.
+pub fn truth_of(text: &str) -> Option<bool>
+    ensures some { IfSome result (λ b. chars text.now ≡ truth_text b) }
+    ensures bytes { IfSome result (λ b. text.now ≡ truth_text b) }
+    ensures none { IfNone result ((b : Bool) → chars text.now ≢ truth_text b) }
+{
+    match text {
+        "true" => Some(true),
+        "false" => Some(false),
+        _ => None,
+    }
+}
+
+/// Whether the first byte is a minus or a decimal digit.
+fn is_number_front(bytes: &[u8]) -> bool
+    ensures { result ≡ first_passes is_number_front bytes.now }
+{
+    !bytes.is_empty() && (bytes[0] == b'-' || bytes[0].is_ascii_digit())
+}
+
+/// Whether the text begins as numbers do, and no other literals.
+#[inline(always)]
+pub(crate) fn begins_number(text: &str) -> bool
+    ensures { result ≡ first_passes is_number_front (chars text.now) }
+{
+    is_number_front(text.as_bytes())
+}
+
+/// The kind of a literal and its parts: `None` where the text is no literal, or an integer past 128
+/// bits. No memory is taken.
+///
+/// Of a quoted literal the body is what stands between its quotes, of a number all that stands
+/// before its suffix, sign and prefix included, and of a truth value the whole text. Body and
+/// suffix are slices of the text.
+///
+/// A text without CR is a byte, or a byte string with escapes, and its suffix empty or a word,
+/// exactly where it is a strict one (`strict_bytes`).
+///
+/// # Example
+///
+/// ```
+/// match shape(text) {
+///     Some(parts) => {
+///         let (body, suffix) = (parts.body.len(), parts.suffix.len());
+///         Ok(weight(parts.kind, body as u64, suffix as u64))
+///     }
+///     None => Ok(0),
+/// }
+/// ```
+#[tactic(auto, using(crate::proofs::StrictBytesLemmas::bytes_are_strict))]
+pub fn shape(text: &str) -> Option<Parts<'_>>
+    ensures none { IfNone result (HasNoReading (chars text.now)) }
+    ensures reads { IfSome result
+        (λ p. (v : Contents) × Reads (chars text.now) p.kind v (chars p.suffix.now)) }
+    ensures cut { IfSome result (λ p. IsSplit p.kind text.now p.body.now p.suffix.now) }
+    ensures behind { IfSome result (λ p. IsTail text.now p.suffix.now) }
+    ensures strict_bytes { KeepsBytesStrict (chars text.now) }
+{
+    let found = find(text)?;
+    Some(found.parts(text))
+}
+
+/// Whether the text reads as the kind, and its body is what it stands for, byte for byte: a
+/// string's contents, or a number's digits in base ten. No memory is taken.
+///
+/// A string is plain where it is raw, or has neither an escape nor a line end of two characters; an
+/// integer within 128 bits where it is in base ten, with no underscore and no needless zero; a
+/// float, by the rule of floats alone, where it has no underscore, no plus and no `E`. Nothing else
+/// is: neither a text of another kind, nor a character, a byte or a truth value.
+///
+/// # Example
+///
+/// The kind's name stands on a line before the text:
+///
+/// ```
+/// let (name, text) = text.split_once('\n').unwrap_or(("", text));
+/// show_line(&is_plain(kind_of(name), text), out)
+/// ```
+pub fn is_plain(kind: Kind, text: &str) -> bool
+    ensures { IsTrue result ↔ IsPlain kind text.now }
+{
+    match kind {
+        Kind::Float => float_is_plain(text),
+        _ => reads_plain(kind, text),
+    }
+}
+
+/// Whether the text reads as the kind, and its body is what it stands for, byte for byte.
+fn reads_plain(kind: Kind, text: &str) -> bool
+    requires { kind ≢ Float }
+    ensures { IsTrue result ↔ IsPlain kind text.now }
+{
+    match find(text) {
+        Some(found) => found.body.plain && found.kind == kind,
+        None => false,
+    }
+}
+
+/// Whether the text reads as a float, whether or not an integer stands there too, whose digits are its body, byte for
+/// byte.
+fn float_is_plain(text: &str) -> bool
+    ensures { IsTrue result ↔ IsPlain Float text.now }
+{
+    match find_float(text) {
+        Some(found) => found.body.plain,
+        None => false,
+    }
 }

@@ -6,14 +6,13 @@ ghost use Rattle.std.specs.Str.{chars};
 ghost use Rattle.rl_tokens.specs.declared.kind.Kind.TheVariants.{Bool as BoolKind};
 ghost use Rattle.rl_tokens.specs.Errors.{memory_at};
 ghost use Rattle.rl_tokens.specs.Trees.{IdentTree};
-ghost use Rattle.rl_tokens.specs.Reading.{Reads, ReadsAs, Truth, HasNoReading};
+ghost use Rattle.rl_tokens.specs.Reading.{Reads, ReadsAs, Truth, truth_text, HasNoReading};
 ghost use Rattle.rl_tokens.specs.Buffers.{trees_in, scope_of, IsRest};
 ghost use Rattle.rl_grammar.specs.Fronts.{IsFront, HasNoFront, HasFrontOf, RunsAs, joined, joined_span};
 ghost use Rattle.rl_grammar.specs.Founds.{IsFound};
 ghost use Rattle.rl_grammar.specs.FrontTokens.{HasNoWord, HasNoMinus};
 
-use crate::found::{Found, find, find_negative};
-use crate::reading::truth_of;
+use crate::found::{Found, find, find_negative, truth_of};
 use rl_tokens::{Error, Ident, Kind, Literal, ParseBuffer, Punct, Span};
 use std::alloc::Allocator;
 use std::marker::Model;
@@ -170,6 +169,7 @@ impl<'a, A: Allocator> Front<'a, A> {
     pub fn truth(&self) -> Option<bool>
         ensures some { IfSome result
             (λ b. Reads (chars (front_token self.now).text) BoolKind (Truth b) []) }
+        ensures bytes { IfSome result (λ b. (front_token self.now).text ≡ truth_text b) }
         ensures none { IfNone result (ReadsAs BoolKind (chars (front_token self.now).text) → ⊥) }
     {
         match self {

@@ -1,6 +1,6 @@
 //! Whether a text is a quoted literal, and where the parts of one stand.
 
-ghost use Rattle.std.specs.Prelude.{◌≡◌, ◌≢◌, ◌==◌, ◌∷◌, ◌++◌, ℕ, List, None, option_map, IfSome, IfNone, IsTrue};
+ghost use Rattle.std.specs.Prelude.{◌≡◌, ◌≢◌, ◌==◌, ◌∷◌, ◌++◌, ℕ, List, None, option_map, IfSome, IfNone, IsTrue, ◌≤◌, length, not};
 ghost use Rattle.std.specs.List.{list_all};
 ghost use Rattle.std.specs.Str.{chars};
 ghost use Rattle.rl_tokens.specs.Texts.{IsTail};
@@ -12,11 +12,11 @@ ghost use Rattle.rl_grammar.specs.Rows.{BeginsRow};
 ghost use Rattle.rl_grammar.specs.Forms.{has_form, form_opener, HasNoParts};
 ghost use Rattle.rl_grammar.specs.Mirrors.OpenerAt.{string_opener_at, byte_opener_at, opener_at, after_hashes};
 ghost use Rattle.rl_grammar.specs.Shapes.{HasNoQuoted};
+ghost use Rattle.rl_grammar.specs.Mirrors.Classes.{class_test};
+ghost use Rattle.rl_grammar.specs.Mirrors.NumberAt.{after_run};
 
-use crate::ascii::is_ascii;
-use crate::cuts::{Class, before, behind_prefix, has_nul, skip, split_last_quote};
 use crate::found::{Body, Found};
-use crate::runs::split_plain;
+use crate::runs::{Class, before, is_ascii, skip, split_plain};
 use crate::units::unit;
 use rl_tokens::Kind;
 use rl_tokens::text::split_char;
@@ -98,6 +98,32 @@ pub(crate) fn skip_hashes(text: &str) -> &str
     ensures { chars result.now ≡ after_hashes (chars text.now) }
 {
     skip(Class::Hash, text)
+}
+
+/// The text in front of the last quote, and the text behind it.
+pub(crate) fn split_last_quote(text: &str) -> Option<(&str, &str)>
+    ensures some { IfSome result (λ p. (chars text.now ≡ chars p.0.now ++ (34 ∷ chars p.1.now))
+        × IsTrue (list_all (λ c. not (c == 34)) (chars p.1.now))) }
+    ensures none { IfNone result (IsTrue (list_all (λ c. not (c == 34)) (chars text.now))) }
+{
+    text.rsplit_once('"')
+}
+
+/// The text behind a prefix.
+#[tactic(auto, using(crate::proofs::CutLemmas::strip_prefix_some, crate::proofs::CutLemmas::strip_prefix_none))]
+pub(crate) fn behind_prefix<'t>(prefix: &str, text: &'t str) -> Option<&'t str>
+    ensures some { IfSome result (λ rest. chars text.now ≡ chars prefix.now ++ chars rest.now) }
+    ensures none { IfNone result ((x : List ℕ) → chars text.now ≢ chars prefix.now ++ x) }
+{
+    text.strip_prefix(prefix)
+}
+
+/// Whether the text holds a NUL.
+#[tactic(auto, using(crate::proofs::CutLemmas::contains_chars))]
+pub(crate) fn has_nul(text: &str) -> bool
+    ensures { not result ≡ list_all (λ c. not (c == 0)) (chars text.now) }
+{
+    text.contains('\0')
 }
 
 /// The text in front of a rest that begins with the quote, and the text behind that quote.

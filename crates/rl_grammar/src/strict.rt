@@ -1,20 +1,23 @@
 //! The strict grammar of literal tokens, that of the Rust Reference.
 
-ghost use Rattle.std.specs.Prelude.{◌↔◌, IsTrue};
+ghost use Rattle.std.specs.Prelude.{◌↔◌, IsTrue, ◌≡◌};
 ghost use Rattle.std.specs.Str.{chars};
 ghost use Rattle.rl_grammar.specs.Forms.{has_form};
 ghost use Rattle.rl_grammar.specs.StrictShapes.{Closes, IsToken};
+ghost use Rattle.std.specs.List.{list_all};
+ghost use Rattle.rl_grammar.specs.Mirrors.StrictAt.{is_number_suffix, is_some_text, is_strict_suffix};
+ghost use Rattle.rl_tokens.specs.Lexemes.{is_continue};
 
 mod numbers;
 pub(crate) mod quoted;
-pub(crate) mod units;
-pub(crate) mod words;
 
+use crate::found::truth_of;
 use crate::quoted::{QuotedForm, front};
-use crate::reading::truth_of;
 use crate::strict::numbers::is_number;
 use crate::strict::quoted::{closes_one, closes_raw, closes_string};
 use rl_tokens::Kind;
+use rl_tokens::characters::{is_continue, is_start};
+use rl_tokens::text::split_char;
 
 /// Whether the text is a literal token of the strict grammar, of any kind and with any suffix:
 /// `0xFF_u8` is one, `-1`, `1e` and `r"a"b"` are none. No memory is taken.
@@ -47,4 +50,37 @@ fn closes(form: QuotedForm, kind: Kind, text: &str) -> bool
         QuotedForm::Raw => closes_raw(kind, text),
         QuotedForm::Single => closes_one(kind, text),
     }
+}
+
+/// Whether each character may go on with an identifier token.
+fn all_continue(text: &str) -> bool
+    ensures { result ≡ list_all is_continue (chars text.now) }
+{
+    text.chars().all(|c| is_continue(c))
+}
+
+/// Whether the text is not empty.
+pub(crate) fn is_some_text(text: &str) -> bool
+    ensures { result ≡ is_some_text (chars text.now) }
+{
+    split_char(text).is_some()
+}
+
+/// Whether the text may be the suffix of a quoted literal: nothing, or a word.
+#[tactic(auto, unfolding(crate::specs::Mirrors::StrictAt::is_strict_suffix))]
+pub(crate) fn is_suffix(text: &str) -> bool
+    ensures { result ≡ is_strict_suffix (chars text.now) }
+{
+    match split_char(text) {
+        Some(('_', rest)) => is_some_text(rest) && all_continue(rest),
+        Some((first, rest)) => is_start(first) && all_continue(rest),
+        None => true,
+    }
+}
+
+/// Whether the text may be the suffix of a number: a suffix that doesn't begin with `_`.
+pub(crate) fn is_number_suffix(text: &str) -> bool
+    ensures { result ≡ is_number_suffix (chars text.now) }
+{
+    !matches!(split_char(text), Some(('_', _))) && is_suffix(text)
 }

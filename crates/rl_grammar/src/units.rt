@@ -7,7 +7,7 @@ ghost use Rattle.rl_tokens.specs.Quoted.{holds_characters, is_plain, allows_code
 ghost use Rattle.rl_tokens.specs.Strict.{is_bare_character};
 ghost use Rattle.rl_grammar.specs.Mirrors.UnitAt.{piece_value, IsPieceOf, named_in, digit_at, hex_at, unicode_digits_at, unicode_at, after_blanks, escape_at, unit_at};
 
-use crate::cuts::{Class, skip};
+use crate::runs::{Class, skip};
 use rl_tokens::Kind;
 use rl_tokens::text::{split_ascii, split_char};
 

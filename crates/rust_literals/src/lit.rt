@@ -5,8 +5,10 @@ ghost use Rattle.std.specs.Str.{chars};
 ghost use Rattle.rl_tokens.specs.Errors.{memory_at};
 ghost use Rattle.rl_tokens.specs.Reading.{HasSuffix};
 ghost use Rattle.rl_grammar.specs.Founds.{IsFound};
+ghost use Rattle.rl_grammar.specs.FrontTokens.{front_token};
 ghost use Rattle.rl_tokens.specs.Reading.{HasNoReading};
 ghost use Rattle.rust_literals.specs.Held.{HasOwnSuffix};
+ghost use Rattle.rust_literals.specs.Literals.{IsReadFrom};
 
 mod copies;
 
@@ -251,6 +253,22 @@ impl<A: Allocator> Lit<A> {
     }
 }
 
+/// The literal that was taken; `None` after an allocation failure. A truth value asks for no memory.
+fn of_front<A: Allocator + Copy>(alloc: A, front: &Front<'_, A>) -> Option<Lit<A>>
+    ensures { IfSome result (IsReadFrom (front_token front.now)) }
+{
+    if let Some(value) = front.truth() {
+        return Some(Lit::Bool(LitBool::new(value, front.span())));
+    }
+    let Ok(token) = front.token(alloc) else {
+        return None;
+    };
+    match Lit::of_found(alloc, token, front.find()) {
+        Ok(literal) => Some(literal),
+        Err(_) => None,
+    }
+}
+
 /// Takes the literal that stands next, of any kind, `Verbatim` too: a literal token, the word `true` or `false`, or a
 /// minus and a literal token that read together. Else it is refused with the word `literal`; a refusal leaves the
 /// buffer.
@@ -264,15 +282,12 @@ impl<A: Allocator + Copy> Parse<A> for Lit<A> {
         let Some(front) = Front::take(&mut ahead) else {
             return Err(input.error("literal"));
         };
-        let Ok(token) = front.token(alloc) else {
-            return Err(Error::memory(input.span()));
-        };
-        match Lit::of_found(alloc, token, front.find()) {
-            Ok(literal) => {
+        match of_front(alloc, &front) {
+            Some(literal) => {
                 *input = ahead;
                 Ok(literal)
             }
-            Err(_) => Err(Error::memory(input.span())),
+            None => Err(Error::memory(input.span())),
         }
     }
 }

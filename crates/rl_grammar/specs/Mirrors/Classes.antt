@@ -8,8 +8,8 @@ use Rattle.rl_tokens.specs.Quoted.{is_blank}
 use Rattle.rl_tokens.specs.Strict.{is_dropped_blank}
 use Rattle.rl_tokens.specs.declared.scan.Marks.{Marks}
 use Rattle.rl_tokens.specs.Scanning.{is_one_of, is_other}
-use Rattle.rl_grammar.specs.declared.cuts.Class.{Class}
-use Rattle.rl_grammar.specs.declared.cuts.Class.TheVariants.{Hash, Underscore, Blank, StrictBlank}
+use Rattle.rl_grammar.specs.declared.runs.Class.{Class}
+use Rattle.rl_grammar.specs.declared.runs.Class.TheVariants.{Hash, Underscore, Blank, StrictBlank}
 
 abbrev pub class_test : Class → ℕ → Bool
 class_test Hash = λ c. c == code "#"

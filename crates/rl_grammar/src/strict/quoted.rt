@@ -1,23 +1,72 @@
-//! How strict quoted literals end.
+//! Strict quoted literals: their units, and how they end.
 
-ghost use Rattle.std.specs.Prelude.{◌≡◌, ◌≢◌, ◌≤◌, ◌∷◌, ◌↔◌, ◌==◌, ◌&&◌, ◌++◌, IfNone, IfSome, IsFalse, IsTrue, List, None, length, ℕ};
-ghost use Rattle.std.specs.List.{list_all};
+ghost use Rattle.std.specs.Prelude.{◌≡◌, ◌<◌, ◌∷◌, IfSome, length, option_map, ◌≢◌, ◌≤◌, ◌↔◌, ◌==◌, ◌&&◌, ◌++◌, IfNone, IsFalse, IsTrue, List, None, ℕ};
 ghost use Rattle.std.specs.Str.{chars};
+ghost use Rattle.rl_tokens.specs.Strict.{Itself, is_strict_unit};
+ghost use Rattle.rl_grammar.specs.Mirrors.StrictAt.{escape_rest, unit_rest, ends_quoted, ends_raw, is_inside, is_raw_character};
+ghost use Rattle.std.specs.List.{list_all};
 ghost use Rattle.rl_tokens.specs.Texts.{begins};
 ghost use Rattle.rl_tokens.specs.Quoted.{is_single, is_string};
-ghost use Rattle.rl_tokens.specs.Strict.{Itself, is_strict_unit};
-ghost use Rattle.rl_grammar.specs.Mirrors.StrictAt.{ends_quoted, ends_raw, is_inside, is_raw_character, unit_rest};
 ghost use Rattle.rl_grammar.specs.StrictShapes.{ClosesRaw, ClosesUnits};
 
-use crate::ascii::split_ascii_run;
-use crate::cuts::{before, behind_prefix};
-use crate::quoted::skip_hashes;
-use crate::runs::split_plain;
-use crate::strict::units::skip_unit;
-use crate::strict::words::is_suffix;
+use crate::quoted::{behind_prefix, skip_hashes};
+use crate::runs::{Class, before, skip, split_ascii_run, split_plain};
+use crate::strict::is_suffix;
+use crate::units::{is_bare_character, is_plain, unit};
 use rl_tokens::Kind;
 use rl_tokens::scan::{Marks, split_before};
 use rl_tokens::text::split_char;
+
+/// Whether the kind takes the character as it is. But for characters this is what the lenient grammar says.
+fn is_bare(kind: Kind, c: char) -> bool
+    ensures { result ≡ is_strict_unit kind (Itself c) }
+{
+    match kind {
+        Kind::Char => is_bare_character(c),
+        _ => is_plain(kind, c),
+    }
+}
+
+/// The text behind an escape, whose backslash stands before the second text.
+///
+/// But for line breaks the lenient escapes are the strict ones.
+fn skip_escape<'t>(kind: Kind, text: &'t str, behind: &'t str) -> Option<&'t str>
+    requires backslash { chars text.now ≡ 92 ∷ chars behind.now }
+    requires shorter { length behind.now < length text.now }
+    ensures value { option_map (λ r. chars r.now) result ≡ escape_rest kind (chars behind.now) }
+    ensures shorter { IfSome result (λ r. length r.now < length text.now) }
+{
+    match split_char(behind)? {
+        ('\n', blanks) => {
+            if kind.is_string() {
+                Some(skip(Class::StrictBlank, blanks))
+            } else {
+                None
+            }
+        }
+        ('\r', _) => None,
+        _ => {
+            let (_, rest) = unit(kind, text)?;
+            Some(rest)
+        }
+    }
+}
+
+/// The text behind the unit at the front: `None` where no unit of the kind stands there.
+#[tactic(auto, unfolding(crate::specs::Mirrors::StrictAt::unit_rest))]
+pub(crate) fn skip_unit(kind: Kind, text: &str) -> Option<&str>
+    ensures value { option_map (λ r. chars r.now) result ≡ unit_rest kind (chars text.now) }
+    ensures shorter { IfSome result (λ r. length r.now < length text.now) }
+{
+    let (first, behind) = split_char(text)?;
+    if first == '\\' {
+        skip_escape(kind, text, behind)
+    } else if is_bare(kind, first) {
+        Some(behind)
+    } else {
+        None
+    }
+}
 
 /// What may close a raw C string, and what it doesn't hold.
 const INSIDE_C_STRING: Marks = Marks {
