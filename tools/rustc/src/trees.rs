@@ -5,7 +5,7 @@ use proc_macro::{Group, Literal, Spacing, Span, TokenStream, TokenTree};
 
 /// Whether the lexer told an error of the literal: of an escape, or of digits.
 fn is_faulty(literal: &Literal) -> bool {
-    format!("{literal:?}").contains("kind: Err")
+    format!("{literal:?}").starts_with("Literal { kind: Err")
 }
 
 /// Whether the literal is the text, without an error. Where a suffix is one, the literal lacks it.
