@@ -4,7 +4,7 @@ ghost use Rattle.std.specs.Prelude.{◌≡◌, ◌≢◌, [], All, IfErr, IsTrue
 ghost use Rattle.std.specs.Str.{chars};
 ghost use Rattle.rust_literals.specs.LitParts.{HasLitSuffix};
 ghost use Rattle.rl_attributes.specs.AttributeParsing.{entries_of};
-ghost use Rattle.rl_attributes.specs.Settings.{knows, HasSomeLitSuffix, IsAccepted, IsRejected, RejectsFirst, span_of, setting_message};
+ghost use Rattle.rl_attributes.specs.Settings.{knows, HasSomeLitSuffix, IsAccepted, IsRejected, RejectsFirst, span_of};
 
 use crate::attributes::{Attrs, Entry};
 use rl_tokens::{Error, Span};
