@@ -74,7 +74,7 @@ fn a_list(rt: HostRuntime) -> Result<(), Fail> {
 /// reported at the first tree: for the set of names, the name, the token, its digits and the list; then the line.
 #[test]
 fn attributes(rt: HostRuntime) -> Result<(), Fail> {
-    let answers = all_told(rt.alloc(), Command::Attr, "a = 0x1", 15)?;
+    let answers = all_told(rt.alloc(), Command::Attr, "a = 0x1", 14)?;
     let wanted = concat!(
         "done, 10 written\n",
         "error: out of memory, 0 written\n",
@@ -89,7 +89,6 @@ fn attributes(rt: HostRuntime) -> Result<(), Fail> {
         "error at 0..1: out of memory, 0 written\n",
         "error at 0..1: out of memory, 0 written\n",
         "error at 0..1: out of memory, 0 written\n",
-        "error: out of memory, 0 written\n",
         "error: out of memory, 0 written\n",
         "error: out of memory, 0 written\n",
     );
