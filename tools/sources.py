@@ -156,7 +156,7 @@ def by_process(options, datas, *words):
 
 
 def in_bulk(options, datas):
-    """The answers of rl_bulk."""
+    """The answers of rl_rows."""
     return [answer.split(b'\n') if answer else [] for answer in readings.ours(options, 'source', datas)]
 
 

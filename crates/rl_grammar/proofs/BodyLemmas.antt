@@ -26,7 +26,7 @@ use Rattle.rl_grammar.proofs.ShapeLemmas.{cooked_cut, parts_cut}
 -- ---- units and what they stand for
 
 -- a text is plain, or it is longer than its value
-record Shrinks (kind : Kind) (text value : List ℕ) : Type 0 where
+pub record Shrinks (kind : Kind) (text value : List ℕ) : Type 0 where
   pub no_longer : length (in_bytes kind value) ≤ length (encode_utf8_all text)
   pub which : (list_all (is_plain kind) text ≡ true) ⊎ (length (in_bytes kind value) < length (encode_utf8_all text))
 
@@ -75,7 +75,7 @@ join_shrinks kind s t v w a b =
       ];
     }
 
-row_shrinks : (kind : Kind) (us : List QuotedUnit) → AllByRecursion (IsUnit kind) us → Shrinks kind (texts us) (values kind us)
+pub row_shrinks : (kind : Kind) (us : List QuotedUnit) → AllByRecursion (IsUnit kind) us → Shrinks kind (texts us) (values kind us)
 row_shrinks kind [] each = record { no_longer = omega (arith, ap length (nothing_in_bytes kind)); which = inl refl }
 row_shrinks kind (u ∷ us) each = join_shrinks kind (unit_text u) (texts us) (unit_value kind u) (values kind us) (unit_shrinks kind u each.0) (row_shrinks kind us each.1)
 

@@ -1,5 +1,5 @@
 -- Runs of ASCII at the front of a text, which byte strings hold.
-use Rattle.std.proofs.Common.{◌≡◌, ◌+◌, ◌<◌, ◌≤◌, ◌⊎◌, inl, inr, ℕ, zero, suc, ◌==◌, ◌&&◌, ◌||◌, Bool, true, false, not, cond, eqb, List, [], ◌∷◌, ◌++◌, length, take, drop, get_or, nat_lt, nat_le, refl, sym, ap, subst, ◌∙◌, arith}
+use Rattle.std.proofs.Common.{◌≡◌, ◌+◌, ◌<◌, ◌≤◌, ◌⊎◌, inl, inr, ℕ, zero, suc, ◌==◌, ◌&&◌, ◌||◌, Bool, true, false, not, cond, eqb, List, [], ◌∷◌, ◌++◌, length, take, drop, get_or, nat_lt, refl, sym, ap, subst, ◌∙◌, arith}
 use Rattle.std.proofs.lemmas.Bool.{and_from, and_parts, cases_Bool, ltb-true, ne_eqb}
 use Rattle.std.proofs.lemmas.Bool.Decides.{nat_tests}
 use Rattle.std.proofs.lemmas.List.{take-append-drop}
@@ -12,30 +12,12 @@ use Rattle.rl_tokens.specs.declared.kind.Kind.{Kind}
 use Rattle.rl_tokens.specs.declared.kind.Kind.TheVariants.{Str, ByteStr, CStr, Byte, Char, Int, Float, Bool as BoolKind}
 use Rattle.rl_tokens.specs.declared.scan.Marks.{Marks}
 use Rattle.rl_tokens.specs.Quoted.{is_plain, is_string}
-use Rattle.rl_tokens.specs.Scanning.{is_one_of, is_other}
+use Rattle.rl_tokens.specs.Scanning.{is_ascii_other, is_other}
 use Rattle.rl_tokens.specs.Texts.{first_passes}
 use Rattle.rl_tokens.proofs.CommentBytes.{cases128, encode_is_high, low_front}
 use Rattle.rl_tokens.proofs.ScanLemmas.{PassesHigh, prefix_ends, prefix_passes, run_boundary, run_cut, run_plain, run_stop}
-use Rattle.rl_grammar.specs.Mirrors.Classes.{ends_low, is_low_other}
 use Rattle.rl_grammar.specs.Mirrors.StrictAt.{is_inside}
 use Rattle.rl_grammar.proofs.PlainLemmas.{plain_high, same_prefix}
-
--- ---- the lanes of a mask
-
--- past ASCII is not ASCII
-past_low : (c : ℕ) → not (nat_lt c 128) ≡ nat_le 128 c
-past_low c = grind (arith, nat_tests)
-
--- what ends a run is what doesn't go on with it
-ends_either : (a b d : Bool) → not a ≡ b → not (a && not d) ≡ b || d
-ends_either true true d h = absurd (cc)
-ends_either true false true h = refl
-ends_either true false false h = refl
-ends_either false true d h = refl
-ends_either false false d h = absurd (cc)
-
-pub ends_opposite : (m : Marks) (c : ℕ) → not (is_low_other m c) ≡ ends_low m c
-ends_opposite m c = ends_either (nat_lt c 128) (nat_le 128 c) (is_one_of m c) (past_low c)
 
 -- ---- a run of bytes that pass a test, told by characters
 
@@ -92,11 +74,11 @@ high_cut : (q : ℕ → Bool) → PassesHigh q → (bs : List ℕ) → IsUtf8 bs
 high_cut q high bs u = record { boundary = run_boundary q high bs; cut = run_cut q high bs u; plain = run_plain q high bs u; stops = run_stop q high bs u }
 
 -- ASCII without marks
-other_low : (m : Marks) → PassesLow (is_low_other m)
+other_low : (m : Marks) → PassesLow (is_ascii_other m)
 other_low m c h = ltb-true c 128 (and_parts (nat_lt c 128) (is_other m c) h).0
 
-pub other_cut : (m : Marks) (bs : List ℕ) → IsUtf8 bs → RunCut (is_low_other m) bs
-other_cut m bs u = low_cut (is_low_other m) (other_low m) bs u
+pub other_cut : (m : Marks) (bs : List ℕ) → IsUtf8 bs → RunCut (is_ascii_other m) bs
+other_cut m bs u = low_cut (is_ascii_other m) (other_low m) bs u
 
 -- what byte strings take as it is
 plain_low : PassesLow (is_plain ByteStr)
@@ -116,7 +98,7 @@ plain_cut BoolKind bs h u = absurd (cc)
 -- ---- what raw byte strings hold
 
 -- ASCII up to a quote or a CR
-inside_one : (c : ℕ) → is_low_other (record { first = 34; second = 13; third = 13; fourth = 13 }) c ≡ true → is_inside ByteStr c ≡ true
+inside_one : (c : ℕ) → is_ascii_other (record { first = 34; second = 13; third = 13; fourth = 13 }) c ≡ true → is_inside ByteStr c ≡ true
 inside_one c h = go (nat_lt c 128) (c == 34) (c == 13) h
   where
     go : (l q r : Bool) → (l && not (q || r || r || r)) ≡ true → (not q && (l && not r)) ≡ true
@@ -125,13 +107,13 @@ inside_one c h = go (nat_lt c 128) (c == 34) (c == 13) h
     go true false true h = absurd (cc)
     go false q r h = absurd (cc)
 
-pub inside_run : (m : Marks) (run : List ℕ) → m ≡ record { first = 34; second = 13; third = 13; fourth = 13 } → list_all (is_low_other m) run ≡ true → list_all (is_inside ByteStr) run ≡ true
-inside_run m run e each = go run (ap (λ n. list_all (is_low_other n) run) (sym e) ∙ each)
+pub inside_run : (m : Marks) (run : List ℕ) → m ≡ record { first = 34; second = 13; third = 13; fourth = 13 } → list_all (is_ascii_other m) run ≡ true → list_all (is_inside ByteStr) run ≡ true
+inside_run m run e each = go run (ap (λ n. list_all (is_ascii_other n) run) (sym e) ∙ each)
   where
-    go : (cs : List ℕ) → list_all (is_low_other (record { first = 34; second = 13; third = 13; fourth = 13 })) cs ≡ true → list_all (is_inside ByteStr) cs ≡ true
+    go : (cs : List ℕ) → list_all (is_ascii_other (record { first = 34; second = 13; third = 13; fourth = 13 })) cs ≡ true → list_all (is_inside ByteStr) cs ≡ true
     go [] h = refl
     go (c ∷ cs) h =
-        let b = and_parts (is_low_other (record { first = 34; second = 13; third = 13; fourth = 13 }) c) (list_all (is_low_other (record { first = 34; second = 13; third = 13; fourth = 13 })) cs) h in
+        let b = and_parts (is_ascii_other (record { first = 34; second = 13; third = 13; fourth = 13 }) c) (list_all (is_ascii_other (record { first = 34; second = 13; third = 13; fourth = 13 })) cs) h in
         and_from (is_inside ByteStr c) (list_all (is_inside ByteStr) cs) (inside_one c b.0) (go cs b.1)
 
 -- ---- texts of ASCII alone
@@ -172,16 +154,16 @@ and_true true = refl
 and_true false = refl
 
 -- a mark past ASCII is none
-no_mark : (m : Marks) → m ≡ record { first = 255; second = 255; third = 255; fourth = 255 } → (c : ℕ) → is_low_other m c ≡ is_ascii c
-no_mark m e c = ap (λ n. is_low_other n c) e ∙ go (cases128 c)
+no_mark : (m : Marks) → m ≡ record { first = 255; second = 255; third = 255; fourth = 255 } → (c : ℕ) → is_ascii_other m c ≡ is_ascii c
+no_mark m e c = ap (λ n. is_ascii_other n c) e ∙ go (cases128 c)
   where
-    go : (c < 128) ⊎ (128 ≤ c) → is_low_other (record { first = 255; second = 255; third = 255; fourth = 255 }) c ≡ is_ascii c
+    go : (c < 128) ⊎ (128 ≤ c) → is_ascii_other (record { first = 255; second = 255; third = 255; fourth = 255 }) c ≡ is_ascii c
     go (inl small) = rw (ne_eqb c 255 (λ e. omega arith)) (and_true (nat_lt c 128))
     go (inr past) = rw (high_fails c past) refl
 
-pub ascii_all : (m : Marks) (n : ℕ) (bs : List ℕ) → m ≡ record { first = 255; second = 255; third = 255; fourth = 255 } → IsUtf8 bs → n ≡ prefix_len (is_low_other m) bs → eqb n (length bs) ≡ list_all is_ascii (chars bs)
+pub ascii_all : (m : Marks) (n : ℕ) (bs : List ℕ) → m ≡ record { first = 255; second = 255; third = 255; fourth = 255 } → IsUtf8 bs → n ≡ prefix_len (is_ascii_other m) bs → eqb n (length bs) ≡ list_all is_ascii (chars bs)
 ascii_all m n bs e u len =
-    ap (λ k. eqb k (length bs)) (len ∙ same_prefix (is_low_other m) is_ascii bs (no_mark m e))
+    ap (λ k. eqb k (length bs)) (len ∙ same_prefix (is_ascii_other m) is_ascii bs (no_mark m e))
     ∙ sym (run_is_all is_ascii bs)
     ∙ ap (list_all is_ascii) (sym (encodes-chars bs u))
     ∙ all_bytes (chars bs)

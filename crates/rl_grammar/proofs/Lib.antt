@@ -39,3 +39,4 @@ pub mod FoundLemmas
 pub mod MinusFoundLemmas
 pub mod NumberFoundLemmas
 pub mod FoundContents
+pub mod RoomLemmas

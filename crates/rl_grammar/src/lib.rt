@@ -5,6 +5,7 @@ mod contents;
 mod digits;
 mod found;
 mod front;
+mod into;
 pub mod laws;
 mod numbers;
 mod quoted;
@@ -21,5 +22,6 @@ pub use crate::found::{
     Body, Found, Parts, find, find_float, find_int, find_negative, is_plain, shape, truth_of,
 };
 pub use crate::front::{Front, Negative, next_is, take_kind};
+pub use crate::into::{bytes_into, numeral_into, str_into};
 pub use crate::numbers::{float_shape, int_shape, shape_negative};
 pub use rl_tokens::Kind;

@@ -28,8 +28,12 @@ use rl_tokens::text::split_char;
 /// # Example
 ///
 /// ```
-/// // `true` of `0xFF_u8`, `false` of `-1`
-/// show_line(&is_token(text), out)
+/// // true of `0xFF_u8`, false of `-1`
+/// if is_token(text) {
+///     String::from_str(alloc, "true\n")
+/// } else {
+///     String::from_str(alloc, "false\n")
+/// }
 /// ```
 pub fn is_token(text: &str) -> bool
     ensures { IsTrue result ↔ IsToken (chars text.now) }

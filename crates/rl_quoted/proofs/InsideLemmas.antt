@@ -7,12 +7,16 @@ use Rattle.std.specs.Str.{chars}
 use Rattle.std.proofs.lemmas.Str.{chars-nil}
 use Rattle.rl_tokens.specs.declared.span.Span.{Span}
 use Rattle.rl_tokens.specs.declared.kind.Kind.TheVariants.{Str}
+use Rattle.rl_tokens.specs.declared.lex_error.LexKind.{LexKind}
+use Rattle.rl_tokens.specs.declared.lex_error.LexKind.TheVariants.{DocComment, UnclosedComment, UnclosedQuote, Lifetime, RawIdentifier, StrayCharacter, UnmatchedClose, UnclosedGroup, TooDeep, Memory as LexMemory}
 use Rattle.rl_tokens.specs.declared.error.Error.{Error}
 use Rattle.rl_tokens.specs.declared.error.ErrorKind.TheVariants.{Unexpected}
-use Rattle.rl_tokens.specs.Errors.{memory_at}
+use Rattle.rl_tokens.specs.Errors.{memory_at, lex_refusal}
 use Rattle.rl_tokens.specs.Texts.{SpannedText}
 use Rattle.rl_tokens.specs.Trees.{Tree}
-use Rattle.rl_tokens.specs.Reading.{HasSuffix}
+use Rattle.rl_tokens.specs.Reading.{Characters, HasContents, HasSuffix}
+use Rattle.rl_tokens.specs.Whole.{RefusesLexing, place_at}
+use Rattle.rl_tokens.specs.Lexing.{Refuses}
 use Rattle.rl_tokens.proofs.TreeRests.{run_moved}
 use Rattle.rl_quoted.specs.Inside.{AreInside, RefusesLexingInside, RunsInside, RefusesInside}
 
@@ -42,3 +46,27 @@ pub refuses_left : {T A : Type 0} (runs : List Tree → Span → Result T (Error
 refuses_left {A = A} runs token value rest at ran some place =
     let refusal : Span → Error A = λ s. record { span = s; kind = Unexpected } in
     inr (inr (inl (record { value = value; rest = rest; ran = ran; some = some; error = ap refusal place })))
+
+-- the lexer's error at the literal's span, made of one at a place inside it
+pub moved_refusal : {A : Type 0} (kind : LexKind) (place : Span) (at : Span) (e : Error A) → e ≡ lex_refusal kind place → record { span = at; kind = e.kind } ≡ lex_refusal kind at
+moved_refusal DocComment place at e q = ap (λ x. record { span = at; kind = x.kind }) q
+moved_refusal UnclosedComment place at e q = ap (λ x. record { span = at; kind = x.kind }) q
+moved_refusal UnclosedQuote place at e q = ap (λ x. record { span = at; kind = x.kind }) q
+moved_refusal Lifetime place at e q = ap (λ x. record { span = at; kind = x.kind }) q
+moved_refusal RawIdentifier place at e q = ap (λ x. record { span = at; kind = x.kind }) q
+moved_refusal StrayCharacter place at e q = ap (λ x. record { span = at; kind = x.kind }) q
+moved_refusal UnmatchedClose place at e q = ap (λ x. record { span = at; kind = x.kind }) q
+moved_refusal UnclosedGroup place at e q = ap (λ x. record { span = at; kind = x.kind }) q
+moved_refusal TooDeep place at e q = ap (λ x. record { span = at; kind = x.kind }) q
+moved_refusal LexMemory place at e q = ap (λ x. record { span = at; kind = x.kind }) q
+
+-- the lexer's error in the text that the literal stands for, reported at the literal
+pub refuses_lexing : {A : Type 0} (token : SpannedText) (value text : List ℕ) (file : ℕ) (at : Span) (e : Error A) → HasContents Str (chars token.text) (Characters value) → chars text ≡ value → file ≡ token.span.file → at ≡ token.span → RefusesLexing (chars text) file e → RefusesLexingInside token (record { span = at; kind = e.kind })
+refuses_lexing token value text file at e contents same where_from place lexing = record {
+  value = value;
+  contents = contents;
+  kind = lexing.kind;
+  at = lexing.at;
+  refused = subst (λ t. Refuses t lexing.kind lexing.at) same lexing.refused;
+  error = moved_refusal lexing.kind (place_at file lexing.at) at e lexing.error ∙ ap (lex_refusal lexing.kind) place;
+}

@@ -16,7 +16,7 @@ ghost use Rattle.rl_quoted.specs.Inside.{
 };
 
 use crate::lit_str::LitStr;
-use rl_tokens::{ByParse, Error, ErrorKind, Parse, ParseBuffer, Parser, TokenStream, lex};
+use rl_tokens::{ByParse, Error, ErrorKind, Parse, ParseBuffer, Parser, TokenStream, trees_of_text};
 use std::alloc::Allocator;
 
 impl<A: Allocator> LitStr<A> {
@@ -28,12 +28,15 @@ impl<A: Allocator> LitStr<A> {
     {
         let span = self.span();
         let value = self.value(alloc)?;
-        match lex(alloc, value.as_str(), span.file()) {
+        match trees_of_text(alloc, value.as_str(), span.file()) {
             Ok(mut stream) => {
                 stream.respan(span);
                 Ok(stream)
             }
-            Err(fault) => Err(Error::of_lexer(fault.kind, span)),
+            Err(error) => Err(Error {
+                span,
+                kind: error.kind,
+            }),
         }
     }
 

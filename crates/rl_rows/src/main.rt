@@ -1,7 +1,8 @@
-//! Rows of tests: reads lines of input, and prints of each what a call of the libraries answers to a text, to be compared
-//! with stored lines. No clause speaks of what is printed.
+//! Rows of tests: reads lines of input, and prints of each what a command or a call of the libraries answers to a text, to be
+//! compared with stored lines or, many texts at once, with what other programs say. What commands print is a clause.
 #![tactic(auto)]
 
+mod bulk;
 mod bytes;
 mod calls;
 mod copies;
@@ -29,8 +30,8 @@ use std::io::{BufRead, BufReader, BufWriter, Write};
 fn main(rt: HostRuntime) -> io::Result<()> {
     let alloc = rt.alloc();
     let mut out = BufWriter::new(alloc, io::writer(&rt))?;
-    for line in BufReader::new(alloc, rt.reader())?.lines(alloc) {
-        let answer = row::told(alloc, line?.as_str())?;
+    for line in BufReader::new(alloc, rt.reader())?.split(alloc, b'\n') {
+        let answer = row::told(alloc, line?.as_slice())?;
         out.write_all(answer.as_bytes())?;
     }
     out.flush()

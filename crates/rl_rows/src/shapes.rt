@@ -1,7 +1,6 @@
 //! What the grammars answer of one text.
 
 use crate::tell::{debug_line, debug_word, line, show_line};
-use rl_grammar::strict::is_token;
 use rl_grammar::{
     Kind, Parts, byte_of, bytes_of, char_of, digits_of, float_shape, int_shape, is_plain, shape,
     shape_negative, str_of,
@@ -21,7 +20,6 @@ pub(crate) fn told(
         "int_shape" => integer(text, out)?,
         "float_shape" => tell_parts(float_shape(text), out)?,
         "shape_negative" => tell_parts(shape_negative(text), out)?,
-        "strict" => show_line(&is_token(text), out)?,
         "skipped" => line(whitespace::skip(text), out)?,
         "contents" => contents(alloc, text, out)?,
         "plain" => plain(text, out)?,

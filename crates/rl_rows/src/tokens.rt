@@ -16,7 +16,7 @@ pub(crate) fn told(
     out: &mut String,
 ) -> Result<bool, AllocError> {
     match name {
-        "spans" => spans(out)?,
+        "joined" => spans(out)?,
         "word" => one_word(alloc, text, out)?,
         "token" => token(alloc, text, out)?,
         "string" => string(alloc, text, out)?,

@@ -1,11 +1,15 @@
 -- From the mask of sixteen bytes to the run of bytes that pass a test.
-use Rattle.std.proofs.Common.{◌≡◌, ℕ, ◌+◌, ◌*◌, ◌%◌, ◌^◌, ◌<◌, ◌≤◌, ◌||◌, Bool, true, false, not, cond, eqb, List, [], ◌∷◌, map, length, drop, refl, sym, ap, ap₂, ◌∙◌, arith}
+use Rattle.std.proofs.Common.{◌≡◌, ℕ, ◌+◌, ◌*◌, ◌%◌, ◌^◌, ◌<◌, ◌≤◌, ◌||◌, ◌&&◌, nat_eq, nat_lt, nat_le, Bool, true, false, not, cond, eqb, List, [], ◌∷◌, map, length, drop, refl, sym, ap, ap₂, ◌∙◌, arith}
 use Rattle.std.proofs.lemmas.Simd.{chunk-drop, length-chunk, leading_from_mask_l, trailing_mask_l, mask_l-mod}
 use Rattle.std.proofs.lemmas.List.{length-map}
 use Rattle.std.proofs.lemmas.List.Folds.{prefix_len-append}
 use Rattle.std.proofs.lemmas.List.Sums.{prefix_len-le-length}
 use Rattle.std.proofs.lemmas.Bool.{eq-eqb, ne_eqb}
+use Rattle.std.proofs.lemmas.Bool.Decides.{nat_tests}
 use Rattle.std.specs.List.{prefix_len}
+use Rattle.rl_tokens.specs.declared.scan.Marks.{Marks}
+use Rattle.rl_tokens.specs.Scanning.{is_one_of}
+use Rattle.rl_tokens.specs.Mirrors.StopsAt.{goes_on, stops}
 use lib.Bits.{bit_or}
 use lib.Lanes.{chunk, mask_l, zip2, top}
 use lib.Count.{count_trailing_zeros}
@@ -41,15 +45,36 @@ tops p (x ∷ xs) = ap₂ (λ a b. a ∷ b) (lane_top (p x)) (tops p xs)
 pub masked : (p : ℕ → Bool) (v : List ℕ) {a : List ℕ} → length v ≤ 64 → a ≡ map (λ x. lane (p x)) v → mask_l (map (top 7) a) % 2 ^ 64 ≡ mask_l (map p v)
 masked p v few e = ap (λ l. mask_l l % 2 ^ 64) (ap (map (top 7)) e ∙ tops p v) ∙ mask_l-mod (map p v) 64 (omega (arith, length-map v p))
 
+-- past ASCII is not ASCII
+past_low : (c : ℕ) → not (nat_lt c 128) ≡ nat_le 128 c
+past_low c = grind (arith, nat_tests)
+
+-- what ends a run is what doesn't go on with it
+ends_either : (a b d : Bool) → not a ≡ b → not (a && not d) ≡ b || d
+ends_either true true d h = absurd (cc)
+ends_either true false true h = refl
+ends_either true false false h = refl
+ends_either false true d h = refl
+ends_either false false d h = absurd (cc)
+
+pub not-not : (b : Bool) → b ≡ not (not b)
+not-not true = refl
+not-not false = refl
+
+-- a truth value that a constant says
+abbrev pub said : ℕ → Bool
+said n = not (nat_eq n 0)
+
+-- a walk stops at what it doesn't go on with
+pub stops_opposite : (high : Bool) (m : Marks) (c : ℕ) → not (goes_on high m c) ≡ stops high m c
+stops_opposite true m c = ends_either (nat_lt c 128) (nat_le 128 c) (is_one_of m c) (past_low c)
+stops_opposite false m c = sym (not-not (is_one_of m c))
+
 -- ---- the run of those that pass a test, by the mask of those that fail it
 
 none_fails : (b : Bool) (n l m : ℕ) → n ≤ l → cond (not b) (1 + n) 0 ≡ 1 + l → (n ≡ l → m ≡ 0) → cond b 1 0 + 2 * m ≡ 0
 none_fails true n l m le e ih = let no : ⊥ = omega arith in absurd no
 none_fails false n l m le e ih = let z = ih (omega arith) in omega arith
-
-pub not-not : (b : Bool) → b ≡ not (not b)
-not-not true = refl
-not-not false = refl
 
 module _ (p q : ℕ → Bool) (opposite : (x : ℕ) → not (q x) ≡ p x) where
   same_run : (xs : List ℕ) → prefix_len q xs ≡ prefix_len (λ x. not (p x)) xs

@@ -5,3 +5,4 @@ pub mod LexemeAt
 pub mod SourceAt
 pub mod SkippedAt
 pub mod TreeBuilders
+pub mod StopsAt

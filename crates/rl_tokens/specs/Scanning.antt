@@ -1,5 +1,5 @@
 -- Bytes that are looked for.
-use Rattle.std.specs.Prelude.{◌≡◌, ℕ, Bool, not, ◌||◌, ◌==◌, ◌<◌, List, ◌∷◌, ◌++◌, IsTrue}
+use Rattle.std.specs.Prelude.{◌≡◌, ℕ, Bool, not, ◌||◌, ◌&&◌, ◌==◌, ◌<◌, nat_lt, List, ◌∷◌, ◌++◌, IsTrue}
 use Rattle.std.specs.List.{list_all}
 use Rattle.rl_tokens.specs.declared.scan.Marks.{Marks}
 
@@ -9,6 +9,10 @@ is_one_of marks c = c == marks.first || c == marks.second || c == marks.third ||
 
 abbrev pub is_other : Marks → ℕ → Bool
 is_other marks c = not (is_one_of marks c)
+
+-- ASCII that is none of the marks
+abbrev pub is_ascii_other : Marks → ℕ → Bool
+is_ascii_other marks c = nat_lt c 128 && is_other marks c
 
 abbrev pub AreAscii : Marks → Type 0
 AreAscii marks =

@@ -5,12 +5,13 @@ mod number;
 mod quoted;
 mod rows;
 
-ghost use Rattle.std.specs.Prelude.{◌≡◌, ◌<◌, ◌&&◌, ◌==◌, List, ℕ, length, slice_index, drop, cond, option_map, IfSome, IfNone};
+ghost use Rattle.std.specs.Prelude.{◌≡◌, ◌<◌, ◌&&◌, ◌==◌, List, ℕ, length, slice_index, drop, cond, option_map, IfSome, IfNone, IsFalse, IsTrue};
+ghost use Rattle.std.specs.Char.{is_ascii, is_ascii_digit};
 ghost use Rattle.std.specs.Str.{chars};
 ghost use Rattle.rl_tokens.specs.Texts.{is_among, first_passes, IsTail};
 ghost use Rattle.rl_tokens.specs.Lexemes.{delimiters, LexemeBefore, is_start};
 ghost use Rattle.rl_tokens.specs.Cursors.{form_view};
-ghost use Rattle.rl_tokens.specs.Mirrors.LexemeAt.{start_class, other_class, rare_class, head_class, by_class, begins_hashed_quote, quoted_at, raw_at, single_at, literal_at, word_at, after_digit, lexeme_at, FormBefore, LetterBHead, LetterCHead, LetterRHead, SlashHead};
+ghost use Rattle.rl_tokens.specs.Mirrors.LexemeAt.{start_class, is_met_late, other_class, head_class, by_class, begins_hashed_quote, quoted_at, raw_at, single_at, literal_at, word_at, after_digit, lexeme_at, FormBefore, LetterBHead, LetterCHead, LetterRHead, SlashHead};
 
 use crate::characters::is_start;
 use crate::front::{begins_with, without_first};
@@ -67,6 +68,7 @@ fn lexeme_at(text: &str) -> Option<(Form, &str)>
 /// The same, where it is no number. A quote is told by its byte too.
 #[inline(never)]
 fn by_character(text: &str) -> Option<(Form, &str)>
+    requires { IsFalse (first_passes is_ascii_digit (chars text.now)) }
     ensures rest { option_map (λ p. (form_view p.0, chars p.1.now)) result
         ≡ lexeme_at (chars text.now) }
     ensures behind { IfSome result (λ p. IsTail text.now p.1.now) }
@@ -79,9 +81,10 @@ fn by_character(text: &str) -> Option<(Form, &str)>
     }
 }
 
-/// The same, where the first character is perhaps past ASCII.
+/// The same, where no character of ASCII begins the text.
 #[inline(never)]
 fn by_wide_character(text: &str) -> Option<(Form, &str)>
+    requires { IsFalse (first_passes is_ascii (chars text.now)) }
     ensures rest { option_map (λ p. (form_view p.0, chars p.1.now)) result
         ≡ lexeme_at (chars text.now) }
     ensures behind { IfSome result (λ p. IsTail text.now p.1.now) }
@@ -91,9 +94,10 @@ fn by_wide_character(text: &str) -> Option<(Form, &str)>
     by_first(c, behind)
 }
 
-/// By the first character, and what stands behind it.
+/// By the first character, which is neither a digit nor a `"`, and what stands behind it.
 #[inline(always)]
 fn by_first(c: char, text: &str) -> Option<(Form, &str)>
+    requires { IsTrue (is_met_late c) }
     ensures rest { option_map (λ p. (form_view p.0, chars p.1.now)) result
         ≡ by_class (head_class c) c (chars text.now) }
     ensures behind { IfSome result (λ p. IsTail text.now p.1.now) }
@@ -221,6 +225,7 @@ fn raw_literal(text: &str) -> Option<(Form, &str)>
 
 /// By a character that begins no identifier, and what stands behind it.
 fn after_other(c: char, text: &str) -> Option<(Form, &str)>
+    requires { IsTrue (is_met_late c) }
     ensures rest { option_map (λ p. (form_view p.0, chars p.1.now)) result
         ≡ by_class (other_class c) c (chars text.now) }
     ensures behind { IfSome result (λ p. IsTail text.now p.1.now) }
@@ -234,7 +239,10 @@ fn after_other(c: char, text: &str) -> Option<(Form, &str)>
     if Punct::is_char(c) {
         return Some((Form::Mark(c), text));
     }
-    after_rare(c, text)
+    if c == '\'' {
+        return character_literal(text);
+    }
+    None
 }
 
 /// Behind a slash, which is a mark where it begins no comment.
@@ -247,23 +255,6 @@ fn after_slash(text: &str) -> Option<(Form, &str)>
     match split_char(text) {
         Some(('/' | '*', _)) => None,
         _ => Some((Form::Mark('/'), text)),
-    }
-}
-
-/// By a character that begins neither an identifier nor a mark.
-#[inline(always)]
-fn after_rare(c: char, text: &str) -> Option<(Form, &str)>
-    ensures rest { option_map (λ p. (form_view p.0, chars p.1.now)) result
-        ≡ by_class (rare_class c) c (chars text.now) }
-    ensures behind { IfSome result (λ p. IsTail text.now p.1.now) }
-{
-    if c.is_ascii_digit() {
-        return Some((Form::Literal, after_digit(text)));
-    }
-    match c {
-        '"' => quoted_literal(text),
-        '\'' => character_literal(text),
-        _ => None,
     }
 }
 

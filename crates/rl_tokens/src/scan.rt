@@ -5,7 +5,8 @@ ghost use Rattle.std.specs.List.{list_all, prefix_len};
 ghost use Rattle.std.specs.Simd.Lanes.{chunk, mask_l};
 ghost use Rattle.std.specs.Str.{chars};
 ghost use Rattle.rl_tokens.specs.Texts.{first_passes, IsTail};
-ghost use Rattle.rl_tokens.specs.Scanning.{is_one_of, is_other, AreAscii, IsNextMark};
+ghost use Rattle.rl_tokens.specs.Scanning.{is_ascii_other, is_other, AreAscii, IsNextMark};
+ghost use Rattle.rl_tokens.specs.Mirrors.StopsAt.{goes_on, stops};
 
 use crate::text::split_ascii;
 use std::simd::prelude::*;
@@ -40,51 +41,78 @@ impl Marks {
     }
 }
 
-/// A bit for each of the N bytes from a place on, set where the byte is a mark.
-fn marked<const N: usize>(marks: Marks, bytes: &[u8], at: usize) -> u64
+/// A bit for each of the N bytes from a place on, set where the walk stops: at a mark, and where HIGH is said, at what is
+/// past ASCII too.
+fn stops_among<const HIGH: bool, const N: usize>(marks: Marks, bytes: &[u8], at: usize) -> u64
     requires { (N ≤ 64) × (at + N ≤ length bytes.now) }
-    ensures { result ≡ mask_l (map (is_one_of marks) (chunk at N bytes.now)) }
+    ensures { result ≡ mask_l (map (stops HIGH marks) (chunk at N bytes.now)) }
 {
     let lanes = Simd::<u8, N>::from_slice(&bytes[at..]);
     let first = lanes.simd_eq(Simd::splat(marks.first));
     let second = lanes.simd_eq(Simd::splat(marks.second));
     let third = lanes.simd_eq(Simd::splat(marks.third));
     let fourth = lanes.simd_eq(Simd::splat(marks.fourth));
-    (first | second | third | fourth).to_bitmask()
+    let among = first | second | third | fourth;
+    if HIGH {
+        (lanes.simd_ge(Simd::splat(128)) | among).to_bitmask()
+    } else {
+        among.to_bitmask()
+    }
 }
 
-/// Whether the byte is a mark.
-fn is_mark(marks: Marks, byte: u8) -> bool
-    ensures { result ≡ is_one_of marks byte }
+/// Whether the walk stops at the byte.
+fn is_stop<const HIGH: bool>(marks: Marks, byte: u8) -> bool
+    ensures { result ≡ stops HIGH marks byte }
 {
-    byte == marks.first || byte == marks.second || byte == marks.third || byte == marks.fourth
+    let is_mark = byte == marks.first
+        || byte == marks.second
+        || byte == marks.third
+        || byte == marks.fourth;
+    HIGH && byte >= 128 || is_mark
 }
 
-/// The place of the first mark from a place on, found byte by byte.
-fn mark_slowly(marks: Marks, bytes: &[u8], from: usize) -> usize
+/// The place where the walk stops, from a place on, found byte by byte.
+fn stop_slowly<const HIGH: bool>(marks: Marks, bytes: &[u8], from: usize) -> usize
     requires { from ≤ length bytes.now }
-    ensures { result ≡ from + prefix_len (is_other marks) (drop from bytes.now) }
+    ensures { result ≡ from + prefix_len (goes_on HIGH marks) (drop from bytes.now) }
 {
     let mut at = from;
-    while at < bytes.len() && !is_mark(marks, bytes[at]) {
+    while at < bytes.len() && !is_stop::<HIGH>(marks, bytes[at]) {
         at += 1;
     }
     at
 }
 
 /// The same for the last bytes, fewer than sixteen.
-fn mark_shortly(marks: Marks, bytes: &[u8], from: usize) -> usize
+fn stop_shortly<const HIGH: bool>(marks: Marks, bytes: &[u8], from: usize) -> usize
     requires { from ≤ length bytes.now }
-    ensures { result ≡ from + prefix_len (is_other marks) (drop from bytes.now) }
+    ensures { result ≡ from + prefix_len (goes_on HIGH marks) (drop from bytes.now) }
 {
     if bytes.len() - from < 8 {
-        return mark_slowly(marks, bytes, from);
+        return stop_slowly::<HIGH>(marks, bytes, from);
     }
-    let found = marked::<8>(marks, bytes, from);
+    let found = stops_among::<HIGH, 8>(marks, bytes, from);
     if found != 0 {
         return from + found.trailing_zeros() as usize;
     }
-    mark_slowly(marks, bytes, from + 8)
+    stop_slowly::<HIGH>(marks, bytes, from + 8)
+}
+
+/// How many bytes stand in front of where the walk stops; all where it doesn't. It is inlined for the marks that its
+/// caller names.
+#[inline(always)]
+fn stop<const HIGH: bool>(marks: Marks, bytes: &[u8]) -> usize
+    ensures { result ≡ prefix_len (goes_on HIGH marks) bytes.now }
+{
+    let mut at = 0;
+    while bytes.len() - at >= 16 {
+        let found = stops_among::<HIGH, 16>(marks, bytes, at);
+        if found != 0 {
+            return at + found.trailing_zeros() as usize;
+        }
+        at += 16;
+    }
+    stop_shortly::<HIGH>(marks, bytes, at)
 }
 
 /// How many bytes stand in front of the first mark; all where there is none. It is inlined for the
@@ -93,15 +121,16 @@ fn mark_shortly(marks: Marks, bytes: &[u8], from: usize) -> usize
 pub fn len_before(marks: Marks, bytes: &[u8]) -> usize
     ensures { result ≡ prefix_len (is_other marks) bytes.now }
 {
-    let mut at = 0;
-    while bytes.len() - at >= 16 {
-        let found = marked::<16>(marks, bytes, at);
-        if found != 0 {
-            return at + found.trailing_zeros() as usize;
-        }
-        at += 16;
-    }
-    mark_shortly(marks, bytes, at)
+    stop::<false>(marks, bytes)
+}
+
+/// How many bytes of ASCII stand in front of the first mark and of all that is past ASCII; all where there is neither.
+/// It is inlined for the marks that its caller names.
+#[inline(always)]
+pub fn ascii_len_before(marks: Marks, bytes: &[u8]) -> usize
+    ensures { result ≡ prefix_len (is_ascii_other marks) bytes.now }
+{
+    stop::<true>(marks, bytes)
 }
 
 /// The characters in front of the first mark, and the text from it on.

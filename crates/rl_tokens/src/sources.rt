@@ -72,6 +72,16 @@ impl<'t> Sources<'t> {
         }
     }
 
+    /// The tokens from a place on, where a cursor over the same text stood, whose
+    /// [`rest`](Sources::rest) this is. Nothing is dropped before the next.
+    #[inline(always)]
+    pub fn resume(text: &'t str, rest: &'t str) -> Sources<'t>
+        requires { IsCursorState text.now rest.now }
+        ensures { result ≡ record { text = text.now; rest = rest.now } }
+    {
+        Sources { text, rest }
+    }
+
     /// Cuts off the token that begins what is left. `None` where no token begins it, at its end
     /// too; it stays then.
     #[inline(always)]

@@ -77,6 +77,7 @@ fn after_comment(text: &str) -> Option<&str>
 }
 
 /// Whether a line comment is plain, by what stands behind its `//`.
+#[inline(always)]
 #[tactic(auto, using(crate::proofs::CommentBytes::wide_line))]
 pub(crate) fn is_plain_line(body: &str) -> bool
     ensures { result ≡ is_plain_line (chars body.now) }
@@ -88,6 +89,7 @@ pub(crate) fn is_plain_line(body: &str) -> bool
 }
 
 /// Whether a block is plain, by what stands behind its `/*`.
+#[inline(always)]
 #[tactic(auto, using(crate::proofs::CommentBytes::wide_block))]
 pub(crate) fn is_plain_block(inside: &str) -> bool
     ensures { result ≡ is_plain_block (chars inside.now) }

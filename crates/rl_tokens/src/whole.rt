@@ -1,4 +1,4 @@
-//! A whole text as one value.
+//! A whole text as token trees, or as one value.
 
 ghost use Rattle.std.specs.Prelude.{[], IfOk, IfErr, Ok};
 ghost use Rattle.std.specs.Str.{chars};
@@ -14,8 +14,20 @@ use crate::span::Span;
 use crate::token::TokenStream;
 use std::alloc::Allocator;
 
-/// The trees of a text.
-fn trees_of_text<A: Allocator + Copy>(
+/// The token trees of a text, as [`lex`] cuts them, with the lexer's error as an [`Error`] at its place.
+///
+/// # Errors
+///
+/// The lexer's, as `Lex` with the span of no bytes at its place; an allocation failure as `Memory` there. Spans have the
+/// file and bytes of the text.
+///
+/// # Example
+///
+/// ```
+/// let stream = trees_of_text(alloc, text, file)?;
+/// let end = Span::new(file, text.len(), text.len());
+/// ```
+pub fn trees_of_text<A: Allocator + Copy>(
     alloc: A,
     text: &str,
     file: u32,

@@ -16,7 +16,7 @@ use crate::span::Span;
 use std::alloc::{AllocError, Allocator};
 
 /// The quote that ends a literal of the kind.
-fn closer(kind: Kind) -> char
+pub(crate) fn closer(kind: Kind) -> char
     ensures value { result ≡ closer kind }
     ensures ascii { result < 128 }
 {
@@ -27,7 +27,7 @@ fn closer(kind: Kind) -> char
 }
 
 /// What stands before the characters of a literal of the kind.
-fn opener(kind: Kind) -> &'static str
+pub(crate) fn opener(kind: Kind) -> &'static str
     ensures { result.now ≡ opener kind }
 {
     match kind {
@@ -41,14 +41,14 @@ fn opener(kind: Kind) -> &'static str
 }
 
 /// Whether a character is written by its number.
-fn is_written_as_number(kind: Kind, c: char) -> bool
+pub(crate) fn is_written_as_number(kind: Kind, c: char) -> bool
     ensures { result ≡ is_written_as_number kind c }
 {
     c < ' ' || c == '\u{7f}' || ('\u{7f}' < c && !kind.holds_characters())
 }
 
 /// A hexadecimal digit in upper case.
-fn upper_digit(digit: u32) -> char
+pub(crate) fn upper_digit(digit: u32) -> char
     requires { digit < 16 }
     ensures value { result ≡ upper_digit digit }
     ensures ascii { result < 128 }

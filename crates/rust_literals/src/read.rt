@@ -2,7 +2,6 @@
 
 ghost use Rattle.std.specs.Prelude.{◌≡◌, ◌⊎◌, ℕ, List, [], ◌++◌, length, IfOk, IfErr};
 ghost use Rattle.std.specs.Str.{chars};
-ghost use Rattle.rl_tokens.specs.Errors.{lex_refusal};
 ghost use Rattle.rl_tokens.specs.Buffers.{trees_in, scope_of};
 ghost use Rattle.rl_tokens.specs.Trees.{Tree};
 ghost use Rattle.rl_tokens.specs.Printed.{Entry, Printed};
@@ -15,7 +14,7 @@ ghost use Rattle.rust_literals.specs.Reprints.{Spaced, lits_of, IsReprint, SameB
 use crate::flat::read_flat;
 use crate::lit::Lit;
 use rl_grammar::Front;
-use rl_tokens::{Error, LexError, ParseBuffer, Span, lex};
+use rl_tokens::{Error, ParseBuffer, Span, trees_of_text};
 use std::alloc::{Allocator, Global};
 
 /// Passes the trees of so many literals.
@@ -55,14 +54,6 @@ fn read_on<A: Allocator + Copy>(
     Ok(list)
 }
 
-/// Why a text isn't cut, as a refusal: the fault at its byte; running out of memory there too.
-fn refusal_of<A: Allocator>(fault: LexError, file: u32) -> Error<A>
-    ensures { result
-        ≡ lex_refusal fault.kind (record { file = file; lo = fault.at; hi = fault.at }) }
-{
-    Error::of_lexer(fault.kind, Span::new(file, fault.at, fault.at))
-}
-
 /// The literals of the list, and behind them those of the text behind so many: those that were let go, and the list's.
 fn read_from<A: Allocator + Copy>(
     alloc: A,
@@ -77,10 +68,7 @@ fn read_from<A: Allocator + Copy>(
         → AreFirst (chars text.now) file count (gone ++ list.items)
         → IfErr result (RefusesText (chars text.now) file (length text.now)) }
 {
-    let stream = match lex(alloc, text, file) {
-        Ok(stream) => stream,
-        Err(fault) => return Err(refusal_of(fault, file)),
-    };
+    let stream = trees_of_text(alloc, text, file)?;
     let end = Span::new(file, text.len(), text.len());
     let mut input = ParseBuffer::new(stream.trees(), end);
     pass(&mut input, count);

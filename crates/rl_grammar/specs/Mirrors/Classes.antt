@@ -1,5 +1,5 @@
 -- A mirror of the code, for proofs alone: classes of characters that are skipped as far as they go.
-use Rattle.std.specs.Prelude.{ℕ, Bool, ◌==◌, ◌&&◌, ◌||◌, nat_lt, nat_le}
+use Rattle.std.specs.Prelude.{ℕ, Bool, ◌==◌}
 use Prim.Native.Char.{code}
 use Rattle.rl_tokens.specs.declared.kind.Kind.{Kind}
 use Rattle.rl_tokens.specs.declared.kind.Kind.TheVariants.{ByteStr}
@@ -7,7 +7,7 @@ use Rattle.rl_tokens.specs.Texts.{is_underscore}
 use Rattle.rl_tokens.specs.Quoted.{is_blank}
 use Rattle.rl_tokens.specs.Strict.{is_dropped_blank}
 use Rattle.rl_tokens.specs.declared.scan.Marks.{Marks}
-use Rattle.rl_tokens.specs.Scanning.{is_one_of, is_other}
+use Rattle.rl_tokens.specs.Scanning.{is_ascii_other, is_other}
 use Rattle.rl_grammar.specs.declared.runs.Class.{Class}
 use Rattle.rl_grammar.specs.declared.runs.Class.TheVariants.{Hash, Underscore, Blank, StrictBlank}
 
@@ -17,15 +17,7 @@ class_test Underscore = is_underscore
 class_test Blank = is_blank
 class_test StrictBlank = is_dropped_blank
 
--- ASCII that is none of the marks
-abbrev pub is_low_other : Marks → ℕ → Bool
-is_low_other marks c = nat_lt c 128 && is_other marks c
-
--- where it ends
-abbrev pub ends_low : Marks → ℕ → Bool
-ends_low marks c = nat_le 128 c || is_one_of marks c
-
 -- what a run of plain characters goes on with: in a byte string ASCII alone
 abbrev pub is_in_run : Kind → Marks → ℕ → Bool
-is_in_run ByteStr marks = is_low_other marks
+is_in_run ByteStr marks = is_ascii_other marks
 is_in_run _ marks = is_other marks

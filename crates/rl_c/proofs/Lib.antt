@@ -1,0 +1,3 @@
+pub mod NextLemmas
+pub mod ReadingLemmas
+pub mod SourceLemmas

@@ -1,0 +1,64 @@
+-- The literal at the front of a list.
+use Rattle.std.proofs.Common.{◌≡◌, ◌≢◌, ◌⊎◌, inl, inr, ℕ, ◌+◌, ◌-◌, ◌≤◌, ◌==◌, true, List, [], length, refl, sym, ap, subst, ◌∙◌, arith}
+use Rattle.std.proofs.lemmas.Bool.Decides.{nat_tests}
+use Rattle.std.proofs.lemmas.List.{nil_from_length}
+use Rattle.std.proofs.lemmas.Str.{chars-nil}
+use Rattle.std.specs.Str.{chars}
+use Rattle.rl_tokens.specs.declared.cursor.Lexeme.{Lexeme}
+use Rattle.rl_tokens.specs.declared.lexeme.Form.{Form as FoundForm}
+use Rattle.rl_tokens.specs.declared.lexeme.Form.TheVariants as found
+use Rattle.rl_tokens.specs.Cursors.{CursorState, IsCursorState, TakesNext, form_view}
+use Rattle.rl_tokens.specs.Lexemes.{LexemeForm, LiteralForm, MarkForm}
+use Rattle.rl_tokens.specs.Skipping.{Skipped}
+use Rattle.rl_tokens.proofs.Rests.{behind_length}
+use Rattle.rl_c.specs.declared.next.Next.{Next}
+use Rattle.rl_c.specs.Lists.{TakesNextLiteral, BeginsLiteral, BeginsNone, HasNoNextLiteral}
+
+with_rest : (old new : CursorState) (n : Next) (r : ℕ) → TakesNextLiteral old n new → TakesNextLiteral old (record n { rest_at = r }) new
+with_rest old new n r (inl t) = inl (record { token = t.token; takes = t.takes; reads = t.reads; lo_is = t.lo_is; hi_is = t.hi_is; no_minus = t.no_minus })
+with_rest old new n r (inr t) = inr (record {
+  minus = t.minus;
+  between = t.between;
+  number = t.number;
+  takes_minus = t.takes_minus;
+  takes_number = t.takes_number;
+  is_minus = t.is_minus;
+  is_number = t.is_number;
+  reads = t.reads;
+  minus_is = t.minus_is;
+  lo_is = t.lo_is;
+  hi_is = t.hi_is;
+  with_minus = t.with_minus;
+})
+
+takes_less : (old new : CursorState) (n : Next) → TakesNextLiteral old n new → length new.rest ≤ length old.rest
+takes_less old new n (inl t) = behind_length _ _ t.takes.behind
+takes_less old new n (inr t) = omega (arith, behind_length _ _ t.takes_minus.behind, behind_length _ _ t.takes_number.behind)
+
+pub begins : (text lent : List ℕ) (start tokens new : CursorState) (n : Next) (rest : List ℕ) → lent ≡ text → start.text ≡ lent → Skipped (chars lent) (chars start.rest) → IsCursorState lent start.rest → tokens ≡ start → TakesNextLiteral tokens n new → rest ≡ new.rest → BeginsLiteral text (record n { rest_at = length lent - length rest })
+begins text lent start tokens new n rest same of skipped state is takes left =
+    let t : TakesNextLiteral start n new = subst (λ z. TakesNextLiteral z n new) is takes in
+    record {
+      start = start;
+      behind = new;
+      starts = record { text_is = of ∙ same; skipped = subst (λ z. Skipped (chars z) (chars start.rest)) same skipped };
+      takes = with_rest start new n (length lent - length rest) t;
+      rest_is = omega (arith, ap length same, ap length left, takes_less start new n t, behind_length _ _ state.behind);
+    }
+
+pub ends : (text lent rest left : List ℕ) → lent ≡ text → Skipped (chars lent) (chars rest) → left ≡ rest → (length left == 0) ≡ true → Skipped (chars text) []
+ends text lent rest left same skipped is empty =
+    let none : length left ≡ 0 = grind (arith, nat_tests) in
+    let nothing : rest ≡ [] = sym is ∙ nil_from_length left none in
+    subst (λ z. Skipped (chars z) []) same (subst (Skipped (chars lent)) (ap chars nothing ∙ chars-nil) skipped)
+
+other_form : (f : FoundForm) → (f ≡ found.Literal → ⊥) → form_view f ≡ LiteralForm → ⊥
+other_form found.Literal h e = h refl
+other_form found.Identifier h e = absurd (cc)
+other_form (found.Delimiter c) h e = absurd (cc)
+other_form (found.Mark c) h e = absurd (cc)
+
+-- a minus, and no literal token behind it
+pub no_number : (old between new : CursorState) (m l : Lexeme) → TakesNext old m between → form_view m.form ≡ MarkForm 45 → TakesNext between l new → (l.form ≡ found.Literal → ⊥) → HasNoNextLiteral old
+no_number old between new m l takes is next other =
+    inr (m, between, takes, subst (λ (f : LexemeForm). BeginsNone f m.text.now between) (sym is) (inr (inr (l, new, next, inl (other_form l.form other)))))

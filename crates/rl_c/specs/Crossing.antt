@@ -1,0 +1,48 @@
+-- What crosses to callers in other languages.
+use Rattle.std.specs.Prelude.{◌≡◌, ℕ, ◌+◌, ◌*◌, ◌^◌, false, List}
+use Rattle.std.specs.Char.{IsScalar}
+use Rattle.rl_tokens.specs.declared.kind.Kind.{Kind}
+use Rattle.rl_tokens.specs.declared.kind.Kind.TheVariants.{Str, ByteStr, CStr, Byte, Char, Int, Float, Bool}
+use Rattle.rl_grammar.specs.declared.found.Found.{Found}
+use Rattle.rl_grammar.specs.Founds.{IsFound}
+use Rattle.rl_c.specs.declared.reading.Reading.{Reading}
+
+-- a kind's number
+abbrev pub kind_number : Kind → ℕ
+kind_number Str = 1
+kind_number ByteStr = 2
+kind_number CStr = 3
+kind_number Byte = 4
+kind_number Char = 5
+kind_number Int = 6
+kind_number Float = 7
+kind_number Bool = 8
+
+-- The numbers tell what was found.
+pub record Tells (found : Found) (reading : Reading) : Type 0 where
+  pub kind_is : reading.kind ≡ kind_number found.kind
+  pub at_is : reading.at ≡ found.body.at
+  pub end_is : reading.end ≡ found.body.end
+  pub suffix_is : reading.suffix_at ≡ found.body.suffix_at
+  pub plain_is : reading.plain ≡ found.body.plain
+  pub magnitude_is : found.magnitude ≡ reading.high * 2 ^ 64 + reading.low
+
+-- The numbers tell what reading the text, in bytes, finds.
+abbrev pub TellsReading : List ℕ → Reading → Type 0
+TellsReading text reading = (found : Found) × IsFound text found × Tells found reading
+
+-- and that is a literal of the kind
+pub record IsOfKind (kind : Kind) (text : List ℕ) (reading : Reading) : Type 0 where
+  pub found : Found
+  pub is_found : IsFound text found
+  pub tells : Tells found reading
+  pub kind_is : found.kind ≡ kind
+
+-- whose body isn't plain
+pub record IsCooked (kind : Kind) (text : List ℕ) (reading : Reading) : Type 0 where
+  pub is_of : IsOfKind kind text reading
+  pub cooked : is_of.found.body.plain ≡ false
+
+-- the number is a character's
+abbrev pub IsCharacter : ℕ → Type 0
+IsCharacter n = IsScalar n

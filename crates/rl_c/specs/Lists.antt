@@ -1,0 +1,104 @@
+-- A list of literals, taken one by one from the front of what is left of it.
+use Rattle.std.specs.Prelude.{◌≡◌, ◌≢◌, ◌⊎◌, ℕ, ◌+◌, Bool, true, false, List, [], ◌∷◌, length, ⊤}
+use Rattle.std.specs.Str.{chars}
+use Prim.Native.Char.{code}
+use Rattle.rl_tokens.specs.declared.cursor.Lexeme.{Lexeme}
+use Rattle.rl_tokens.specs.declared.lex_error.LexKind.{LexKind}
+use Rattle.rl_tokens.specs.declared.lex_error.LexKind.TheVariants.{DocComment, UnclosedComment, UnclosedQuote, Lifetime, RawIdentifier, StrayCharacter, UnmatchedClose, UnclosedGroup, TooDeep, Memory}
+use Rattle.rl_tokens.specs.Cursors.{CursorState, TakesNext, form_view}
+use Rattle.rl_tokens.specs.Lexemes.{LexemeForm, LiteralForm, IdentifierForm, DelimiterForm, MarkForm}
+use Rattle.rl_tokens.specs.Lexing.{BeginsLexeme, BeginsNoLexeme, OpenGroup, FaultAt}
+use Rattle.rl_tokens.specs.Reading.{HasNoReading}
+use Rattle.rl_tokens.specs.Skipping.{Skipped}
+use Rattle.rl_c.specs.declared.next.Next.{Next}
+use Rattle.rl_c.specs.Crossing.{TellsReading}
+
+-- the text, in bytes, without the white space and comments at its front
+pub record Starts (text : List ℕ) (start : CursorState) : Type 0 where
+  pub text_is : start.text ≡ text
+  pub skipped : Skipped (chars text) (chars start.rest)
+
+-- The next token is the literal.
+pub record TakesLiteral (old : CursorState) (next : Next) (new : CursorState) : Type 0 where
+  pub token : Lexeme
+  pub takes : TakesNext old token new
+  pub reads : TellsReading token.text.now next.reading
+  pub lo_is : next.lo ≡ token.lo
+  pub hi_is : next.hi ≡ token.hi
+  pub no_minus : next.negative ≡ false
+
+-- The next two tokens are a minus and a number, and the literal is both.
+pub record TakesNegative (old : CursorState) (next : Next) (new : CursorState) : Type 0 where
+  pub minus : Lexeme
+  pub between : CursorState
+  pub number : Lexeme
+  pub takes_minus : TakesNext old minus between
+  pub takes_number : TakesNext between number new
+  pub is_minus : form_view minus.form ≡ MarkForm (code "-")
+  pub is_number : form_view number.form ≡ LiteralForm
+  pub reads : TellsReading (code "-" ∷ number.text.now) next.reading
+  pub minus_is : next.minus_at ≡ minus.lo
+  pub lo_is : next.lo ≡ number.lo
+  pub hi_is : next.hi ≡ number.hi
+  pub with_minus : next.negative ≡ true
+
+abbrev pub TakesNextLiteral : CursorState → Next → CursorState → Type 0
+TakesNextLiteral old next new = TakesLiteral old next new ⊎ TakesNegative old next new
+
+-- The text begins with the literal, behind white space and comments; what is left behind it, and
+-- behind such, begins at the place that is told.
+pub record BeginsLiteral (text : List ℕ) (next : Next) : Type 0 where
+  pub start : CursorState
+  pub behind : CursorState
+  pub starts : Starts text start
+  pub takes : TakesNextLiteral start next behind
+  pub rest_is : next.rest_at + length behind.rest ≡ length text
+
+-- no number behind a minus
+abbrev pub HasNoNumber : CursorState → Type 0
+HasNoNumber t =
+    BeginsNoLexeme (chars t.rest)
+    ⊎ ((l : Lexeme) × (new : CursorState) × TakesNext t l new
+    × ((form_view l.form ≢ LiteralForm) ⊎ HasNoReading (code "-" ∷ chars l.text.now)))
+
+-- the token, and what is left behind it, begin no literal
+abbrev pub BeginsNone : LexemeForm → List ℕ → CursorState → Type 0
+BeginsNone LiteralForm text behind = HasNoReading (chars text)
+BeginsNone IdentifierForm text behind = HasNoReading (chars text)
+BeginsNone (DelimiterForm c) text behind = ⊤
+BeginsNone (MarkForm c) text behind = (c ≢ code "-") ⊎ HasNoNumber behind
+
+-- no literal stands next
+abbrev pub HasNoNextLiteral : CursorState → Type 0
+HasNoNextLiteral t =
+    BeginsNoLexeme (chars t.rest)
+    ⊎ ((l : Lexeme) × (new : CursorState) × TakesNext t l new
+    × BeginsNone (form_view l.form) l.text.now new)
+
+-- the numbers of the lexer's faults
+abbrev pub fault_number : LexKind → ℕ
+fault_number DocComment = 3
+fault_number UnclosedComment = 4
+fault_number UnclosedQuote = 5
+fault_number Lifetime = 6
+fault_number RawIdentifier = 7
+fault_number StrayCharacter = 8
+fault_number UnmatchedClose = 9
+fault_number UnclosedGroup = 10
+fault_number TooDeep = 11
+fault_number Memory = 12
+
+-- The number tells the fault of what is left: 2 where it has none, since a token begins it.
+abbrev pub TellsFault : CursorState → ℕ → Type 0
+TellsFault t status =
+    ((kind : LexKind) × (status ≡ fault_number kind)
+    × ((groups : List OpenGroup) → FaultAt kind groups (chars t.rest)))
+    ⊎ ((status ≡ 2) × BeginsLexeme (chars t.rest))
+
+-- Behind white space and comments no literal begins the text, and why is told, with its byte.
+pub record BeginsNoLiteral (text : List ℕ) (status at : ℕ) : Type 0 where
+  pub start : CursorState
+  pub starts : Starts text start
+  pub none : HasNoNextLiteral start
+  pub tells : TellsFault start status
+  pub place : at + length start.rest ≡ length text

@@ -1,0 +1,83 @@
+//! How the structs that cross lie in memory, for the other side to compare once with its own.
+
+ghost use Rattle.std.specs.Prelude.{◌≡◌, true};
+
+use crate::next::Next;
+use crate::reading::Reading;
+
+/// The version of the exports and of the structs that cross: it goes up with every change of either.
+const VERSION: usize = 1;
+
+/// The version, and the sizes and alignments of the structs that cross, in bytes.
+#[derive(Clone, Copy)]
+#[repr(C)]
+pub struct Layout {
+    /// The version of the exports.
+    pub version: usize,
+    /// The size of [`Reading`].
+    pub reading_size: usize,
+    /// The alignment of [`Reading`].
+    pub reading_align: usize,
+    /// The size of [`Next`].
+    pub next_size: usize,
+    /// The alignment of [`Next`].
+    pub next_align: usize,
+}
+
+/// Tells the version, sizes and alignments.
+#[unsafe(no_mangle)]
+pub extern "C" fn rl_layout(layout: &mut Layout)
+    ensures { layout.new ≡ record {
+      version = 1;
+      reading_size = 48;
+      reading_align = 8;
+      next_size = 88;
+      next_align = 8;
+    } }
+{
+    *layout = Layout {
+        version: VERSION,
+        reading_size: size_of::<Reading>(),
+        reading_align: align_of::<Reading>(),
+        next_size: size_of::<Next>(),
+        next_align: align_of::<Next>(),
+    };
+}
+
+/// Puts a number of its own into each field, in the order of the fields, so that the other side sees where each lies.
+#[unsafe(no_mangle)]
+pub extern "C" fn rl_probe(next: &mut Next)
+    ensures { next.new ≡ record {
+      reading = record {
+        at = 1;
+        end = 2;
+        suffix_at = 3;
+        low = 4;
+        high = 5;
+        kind = 6;
+        plain = true;
+      };
+      minus_at = 8;
+      lo = 9;
+      hi = 10;
+      rest_at = 11;
+      negative = true;
+    } }
+{
+    *next = Next {
+        reading: Reading {
+            at: 1,
+            end: 2,
+            suffix_at: 3,
+            low: 4,
+            high: 5,
+            kind: 6,
+            plain: true,
+        },
+        minus_at: 8,
+        lo: 9,
+        hi: 10,
+        rest_at: 11,
+        negative: true,
+    };
+}

@@ -1,0 +1,174 @@
+//! The literals layer for callers in other languages: a static library that takes no memory.
+//!
+//! Each export takes texts as pointers and lengths, which have to be UTF-8, and writes into places
+//! that the caller lends. The Cargo package in `rust/` calls it.
+#![tactic(auto)]
+
+ghost use Rattle.std.specs.Prelude.{◌≡◌, ◌↔◌, ◌-◌, ◌≤◌, ◌<◌, [], ◌∷◌, false, length, take, IsTrue, IsFalse};
+ghost use Rattle.std.specs.Str.{chars, IsUtf8};
+ghost use Rattle.rl_tokens.specs.declared.kind.Kind.TheVariants.{Str, ByteStr, CStr, Byte as ByteKind, Char as CharKind, Float as FloatKind};
+ghost use Rattle.rl_tokens.specs.Reading.{Characters, Bytes, Digits, HasContents, HasNoReading};
+ghost use Rattle.rl_grammar.specs.StrictShapes.{IsToken};
+ghost use Rattle.rl_tokens.specs.Skipping.{Skipped};
+ghost use Rattle.rl_c.specs.Lists.{BeginsLiteral, BeginsNoLiteral};
+ghost use Rattle.rl_c.specs.Crossing.{TellsReading, Tells, IsOfKind, IsCooked};
+
+mod layout;
+mod next;
+mod reading;
+mod source;
+mod write;
+
+pub use crate::layout::{Layout, rl_layout, rl_probe};
+pub use crate::next::Next;
+use crate::next::{refusal, take_next};
+pub use crate::reading::Reading;
+use crate::reading::{numeral, single_body, string_body};
+pub use crate::source::{rl_source_next, rl_source_start};
+pub use crate::write::{
+    rl_write_byte, rl_write_byte_str, rl_write_c_str, rl_write_char, rl_write_str,
+};
+use rl_grammar::strict::is_token;
+use rl_grammar::{Kind, byte_of_body, bytes_into, char_of_body, find, numeral_into, str_into};
+use rl_tokens::Tokens;
+
+/// Whether the text reads as a literal; what was found goes into `reading`, which stays else.
+#[unsafe(no_mangle)]
+pub extern "C" fn rl_find(text: &[u8], reading: &mut Reading) -> bool
+    requires utf8 { IsUtf8 text.now }
+    ensures read { IsTrue result → TellsReading text.now reading.new }
+    ensures none { IsFalse result → HasNoReading (chars text.now) }
+    ensures stays { IsFalse result → reading.new ≡ reading.old }
+{
+    // SAFETY: the bytes are UTF-8, as the export requires.
+    match find(unsafe { std::str::from_utf8_unchecked(text) }) {
+        Some(found) => {
+            *reading = Reading::of(&found);
+            true
+        }
+        None => false,
+    }
+}
+
+/// Writes what a string literal stands for whose body isn't plain, and tells how long that is: no
+/// longer than the body.
+#[unsafe(no_mangle)]
+pub extern "C" fn rl_str_value(text: &[u8], reading: &Reading, out: &mut [u8]) -> usize
+    requires utf8 { IsUtf8 text.now }
+    requires read { IsCooked Str text.now reading.now }
+    requires room { reading.now.end - reading.now.at ≤ length out.old }
+    ensures value { HasContents Str (chars text.now) (Characters (chars (take result out.new))) }
+    ensures utf8 { IsUtf8 (take result out.new) }
+    ensures within { result ≤ reading.now.end - reading.now.at }
+{
+    // SAFETY: the bytes are UTF-8, as the export requires.
+    let text = unsafe { std::str::from_utf8_unchecked(text) };
+    str_into(string_body(text, reading), out)
+}
+
+/// The same of a byte string.
+#[unsafe(no_mangle)]
+pub extern "C" fn rl_byte_str_value(text: &[u8], reading: &Reading, out: &mut [u8]) -> usize
+    requires utf8 { IsUtf8 text.now }
+    requires read { IsCooked ByteStr text.now reading.now }
+    requires room { reading.now.end - reading.now.at ≤ length out.old }
+    ensures value { HasContents ByteStr (chars text.now) (Bytes (take result out.new)) }
+    ensures within { result ≤ reading.now.end - reading.now.at }
+{
+    // SAFETY: the bytes are UTF-8, as the export requires.
+    let text = unsafe { std::str::from_utf8_unchecked(text) };
+    bytes_into(Kind::ByteStr, string_body(text, reading), out)
+}
+
+/// The same of a C string, with no zero added at the end.
+#[unsafe(no_mangle)]
+pub extern "C" fn rl_c_str_value(text: &[u8], reading: &Reading, out: &mut [u8]) -> usize
+    requires utf8 { IsUtf8 text.now }
+    requires read { IsCooked CStr text.now reading.now }
+    requires room { reading.now.end - reading.now.at ≤ length out.old }
+    ensures value { HasContents CStr (chars text.now) (Bytes (take result out.new)) }
+    ensures within { result ≤ reading.now.end - reading.now.at }
+{
+    // SAFETY: the bytes are UTF-8, as the export requires.
+    let text = unsafe { std::str::from_utf8_unchecked(text) };
+    bytes_into(Kind::CStr, string_body(text, reading), out)
+}
+
+/// The byte that a byte literal stands for.
+#[unsafe(no_mangle)]
+pub extern "C" fn rl_byte_value(text: &[u8], reading: &Reading) -> u8
+    requires utf8 { IsUtf8 text.now }
+    requires read { IsOfKind ByteKind text.now reading.now }
+    ensures { HasContents ByteKind (chars text.now) (Bytes (result ∷ [])) }
+{
+    // SAFETY: the bytes are UTF-8, as the export requires.
+    let text = unsafe { std::str::from_utf8_unchecked(text) };
+    byte_of_body(single_body(text, reading))
+}
+
+/// The number of the character that a character literal stands for.
+#[unsafe(no_mangle)]
+pub extern "C" fn rl_char_value(text: &[u8], reading: &Reading) -> u32
+    requires utf8 { IsUtf8 text.now }
+    requires read { IsOfKind CharKind text.now reading.now }
+    ensures { HasContents CharKind (chars text.now) (Characters (result ∷ [])) }
+{
+    // SAFETY: the bytes are UTF-8, as the export requires.
+    let text = unsafe { std::str::from_utf8_unchecked(text) };
+    char_of_body(single_body(text, reading)) as u32
+}
+
+/// Writes the digits of a float, and tells how long they are: no longer than the body.
+#[unsafe(no_mangle)]
+pub extern "C" fn rl_float_digits(text: &[u8], reading: &Reading, out: &mut [u8]) -> usize
+    requires utf8 { IsUtf8 text.now }
+    requires read { IsOfKind FloatKind text.now reading.now }
+    requires room { reading.now.end - reading.now.at ≤ length out.old }
+    ensures value { HasContents FloatKind (chars text.now) (Digits (chars (take result out.new))) }
+    ensures utf8 { IsUtf8 (take result out.new) }
+    ensures within { result ≤ reading.now.end - reading.now.at }
+{
+    // SAFETY: the bytes are UTF-8, as the export requires.
+    let text = unsafe { std::str::from_utf8_unchecked(text) };
+    numeral_into(numeral(text, reading), out)
+}
+
+/// What begins the list, behind white space and comments: 0 where nothing does, 1 for a literal, 2
+/// for a token that begins none, else the number of the lexer's fault. `next` tells the literal, or
+/// by `lo` the place of what is none.
+#[unsafe(no_mangle)]
+pub extern "C" fn rl_next(text: &[u8], next: &mut Next) -> u8
+    requires utf8 { IsUtf8 text.now }
+    ensures end { result ≡ 0 → Skipped (chars text.now) [] }
+    ensures literal { result ≡ 1 → BeginsLiteral text.now next.new }
+    ensures none { 1 < result → BeginsNoLiteral text.now result next.new.lo }
+{
+    // SAFETY: the bytes are UTF-8, as the export requires.
+    let text = unsafe { std::str::from_utf8_unchecked(text) };
+    let start = Tokens::new(text);
+    if start.rest().is_empty() {
+        return 0;
+    }
+    let mut tokens = start.fork();
+    match take_next(&mut tokens) {
+        Some(found) => {
+            *next = found;
+            next.rest_at = text.len() - tokens.rest().len();
+            1
+        }
+        None => {
+            next.lo = text.len() - start.rest().len();
+            refusal(&start)
+        }
+    }
+}
+
+/// Whether the text is a literal token of the Rust Reference.
+#[unsafe(no_mangle)]
+pub extern "C" fn rl_is_token(text: &[u8]) -> bool
+    requires utf8 { IsUtf8 text.now }
+    ensures { IsTrue result ↔ IsToken (chars text.now) }
+{
+    // SAFETY: the bytes are UTF-8, as the export requires.
+    is_token(unsafe { std::str::from_utf8_unchecked(text) })
+}

@@ -1,0 +1,52 @@
+//! The commands, and what they are called.
+
+/// What a line of input asks for.
+#[derive(Clone, Copy, PartialEq, Eq)]
+pub(crate) enum Command {
+    /// The text as one literal.
+    Text,
+    /// The text as an integer.
+    Int,
+    /// The text as a float.
+    Float,
+    /// How much stands behind white space and comments.
+    Skip,
+    /// Whether the text is a token of the strict grammar.
+    Strict,
+    /// What the text stands for as a literal, where that is its body.
+    Value,
+    /// The text as literals, with white space and comments between them.
+    Read,
+    /// Where the literals of the text stand.
+    Spans,
+    /// The text as attributes.
+    Attr,
+    /// The literals of the text as a whole source.
+    Source,
+}
+
+impl Command {
+    ghost use Rattle.std.specs.Prelude.{◌≡◌, ◌≢◌, IfSome, IfNone};
+    ghost use Rattle.rl_rows.specs.declared.bulk.command.Command.{Command};
+    ghost use Rattle.rl_rows.specs.Asked.{name_of};
+
+    /// The command of this name.
+    pub(crate) fn from_name(name: &str) -> Option<Command>
+        ensures known { IfSome result (λ command. name.now ≡ name_of command) }
+        ensures unknown { IfNone result ((command : Command) → name.now ≢ name_of command) }
+    {
+        match name {
+            "text" => Some(Command::Text),
+            "int" => Some(Command::Int),
+            "float" => Some(Command::Float),
+            "skip" => Some(Command::Skip),
+            "strict" => Some(Command::Strict),
+            "value" => Some(Command::Value),
+            "read" => Some(Command::Read),
+            "spans" => Some(Command::Spans),
+            "attr" => Some(Command::Attr),
+            "source" => Some(Command::Source),
+            _ => None,
+        }
+    }
+}

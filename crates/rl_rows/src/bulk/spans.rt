@@ -1,0 +1,46 @@
+//! Where the literals of a list stand.
+
+ghost use Rattle.std.specs.Prelude.{◌≡◌, ◌++◌, OnOk, IfOk, string_bytes};
+ghost use Rattle.rl_rows.specs.Spans.{span_line, span_lines, IsSpansAnswer};
+
+use super::ending::{ended, refused};
+use rl_lines::label_of;
+use rl_tokens::{Literal, Span};
+use rust_literals::{Lit, read_all};
+use std::alloc::{AllocError, Global};
+use std::fmt::Write;
+
+/// Writes a literal's kind, the bytes where it stands, and its text as a string literal.
+fn push_span(alloc: Global, out: &mut String, literal: &Lit) -> Result<(), AllocError>
+    ensures { OnOk result (string_bytes out.new ≡ string_bytes out.old ++ span_line literal.now) }
+{
+    let Ok(shown) = Literal::string(alloc, literal.text()) else {
+        return Err(AllocError);
+    };
+    let name = label_of(literal.kind());
+    let Span { lo, hi, .. } = literal.span();
+    let text = shown.text();
+    write!(out, "{name} {lo}..{hi} {text}\n")
+}
+
+/// Of each literal its kind, the bytes where it stands, and its text, a line each.
+fn lines_of_spans(alloc: Global, literals: &[Lit]) -> Result<String, AllocError>
+    ensures { IfOk result (λ out. string_bytes out ≡ span_lines literals.now) }
+{
+    let mut lines = String::new(alloc);
+    for literal in literals {
+        push_span(alloc, &mut lines, literal)?;
+    }
+    Ok(lines)
+}
+
+/// Of each of the text's literals its kind, the bytes where it stands, and its text, a line each, or the line of its
+/// refusal; and one with a point.
+pub(crate) fn spans_answer(alloc: Global, text: &str) -> Result<String, AllocError>
+    ensures { IfOk result (λ out. IsSpansAnswer Global text.now (string_bytes out)) }
+{
+    match read_all(alloc, text, 0) {
+        Ok(literals) => ended(lines_of_spans(alloc, literals.as_slice())?),
+        Err(error) => refused(alloc, &error),
+    }
+}

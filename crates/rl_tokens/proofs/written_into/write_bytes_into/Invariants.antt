@@ -1,0 +1,13 @@
+-- What was passed stands in the slice as it is written, and the rest has room after it.
+use Rattle.std.proofs.Common.{◌≡◌, ◌+◌, ◌*◌, ◌≤◌, take, length}
+use Rattle.std.specs.Str.{IsUtf8}
+use Rattle.rl_tokens.proofs.WritingLemmas.{begun}
+use Rattle.rl_tokens.proofs.written_into.write_bytes_into.Given as goal
+
+abbrev pub invariant-loop-byte : goal.invariant-loop-byte
+invariant-loop-byte l = record {
+  passed : take l.at l.out ≡ begun l.kind (take l.byte-index l.value);
+  text : IsUtf8 (take l.at l.out);
+  room : l.at ≤ 4 * l.byte-index + 2;
+  len : length l.out ≡ length l.initial.out;
+}

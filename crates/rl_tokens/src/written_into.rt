@@ -1,0 +1,110 @@
+//! How values are written as literals into a slice that the caller lends: the forms of `writer`, and no memory is taken.
+
+ghost use Rattle.std.specs.Prelude.{◌≡◌, ◌⊎◌, ◌≤◌, ◌<◌, ◌+◌, ◌*◌, ◌/◌, ◌%◌, ◌++◌, [], ◌∷◌, IsTrue, length, take, encode_utf8, encode_utf8_all};
+ghost use Rattle.std.specs.Str.{chars, IsUtf8};
+ghost use Rattle.rl_tokens.specs.Quoted.{holds_characters, unit_text};
+ghost use Rattle.rl_tokens.specs.Written.{upper_digit, written_unit, IsWrittenForm};
+ghost use Rattle.rl_tokens.specs.Agreeing.{AreBytesOf};
+
+use crate::kind::Kind;
+use crate::room::{put_char, put_text};
+use crate::text::split_char;
+use crate::writer::{closer, is_written_as_number, opener, upper_digit};
+
+/// Puts `\x` and two digits there.
+fn put_number(out: &mut [u8], at: usize, code: u32) -> usize
+    requires code { code < 256 }
+    requires room { at + 4 ≤ length out.old }
+    ensures end { result ≡ at + 4 }
+    ensures bytes { take result out.new
+        ≡ take at out.old
+        ++ 92 ∷ 120 ∷ upper_digit (code / 16) ∷ upper_digit (code % 16) ∷ [] }
+    ensures utf8 { IsUtf8 (take at out.old) → IsUtf8 (take result out.new) }
+    ensures len { length out.new ≡ length out.old }
+{
+    let at = put_text(out, at, "\\x");
+    let at = put_char(out, at, upper_digit(code / 16));
+    put_char(out, at, upper_digit(code % 16))
+}
+
+/// Puts a backslash and the quote there that ends a literal of the kind.
+fn put_own_quote(out: &mut [u8], at: usize, quote: char) -> usize
+    requires quote { quote < 128 }
+    requires room { at + 2 ≤ length out.old }
+    ensures end { result ≡ at + 2 }
+    ensures bytes { take result out.new ≡ take at out.old ++ 92 ∷ quote ∷ [] }
+    ensures utf8 { IsUtf8 (take at out.old) → IsUtf8 (take result out.new) }
+    ensures len { length out.new ≡ length out.old }
+{
+    let at = put_text(out, at, "\\");
+    put_char(out, at, quote)
+}
+
+/// Puts a character or a byte there as it stands in a literal of the kind.
+#[tactic(auto, unfolding(crate::specs::Written::written_unit))]
+fn put_written(out: &mut [u8], at: usize, kind: Kind, c: char) -> usize
+    requires kind { IsTrue (holds_characters kind) ⊎ (c < 256) }
+    requires room { at + 4 ≤ length out.old }
+    ensures end { result ≤ at + 4 }
+    ensures bytes { take result out.new
+        ≡ take at out.old ++ encode_utf8_all (unit_text (written_unit kind c)) }
+    ensures utf8 { IsUtf8 (take at out.old) → IsUtf8 (take result out.new) }
+    ensures len { length out.new ≡ length out.old }
+{
+    match c {
+        '\0' => put_text(out, at, "\\0"),
+        '\t' => put_text(out, at, "\\t"),
+        '\n' => put_text(out, at, "\\n"),
+        '\r' => put_text(out, at, "\\r"),
+        '\\' => put_text(out, at, "\\\\"),
+        _ if c == closer(kind) => put_own_quote(out, at, c),
+        _ if is_written_as_number(kind, c) => put_number(out, at, c as u32),
+        _ => put_char(out, at, c),
+    }
+}
+
+/// Writes the string literal that stands for the text, as docs/GRAMMAR.md writes it, and returns how many bytes it is
+/// long: at most four for each byte of the text, and three.
+pub fn write_str_into(value: &str, out: &mut [u8]) -> usize
+    requires { 4 * length value.now + 3 ≤ length out.old }
+    ensures written { IsWrittenForm Kind.Str (chars value.now) (chars (take result out.new)) }
+    ensures utf8 { IsUtf8 (take result out.new) }
+    ensures within { result ≤ 4 * length value.now + 3 }
+{
+    let mut at = put_text(out, 0, opener(Kind::Str));
+    let mut rest = value;
+    while let Some((c, after)) = split_char(rest) {
+        at = put_written(out, at, Kind::Str, c);
+        rest = after;
+    }
+    put_char(out, at, closer(Kind::Str))
+}
+
+/// Writes the literal of the kind that stands for the bytes, as docs/GRAMMAR.md writes it, and returns how many bytes it
+/// is long: at most four for each, and three. The kind is a byte string, a C string, where no byte is 0, or a byte, of one byte.
+pub fn write_bytes_into(kind: Kind, value: &[u8], out: &mut [u8]) -> usize
+    requires bytes { AreBytesOf kind value.now }
+    requires room { 4 * length value.now + 3 ≤ length out.old }
+    ensures written { IsWrittenForm kind value.now (chars (take result out.new)) }
+    ensures utf8 { IsUtf8 (take result out.new) }
+    ensures within { result ≤ 4 * length value.now + 3 }
+{
+    let mut at = put_text(out, 0, opener(kind));
+    for byte in value {
+        at = put_written(out, at, kind, char::from(*byte));
+    }
+    put_char(out, at, closer(kind))
+}
+
+/// Writes the character literal that stands for the character, as docs/GRAMMAR.md writes it, and returns how many bytes
+/// it is long: at most seven.
+pub fn write_char_into(value: char, out: &mut [u8]) -> usize
+    requires { 7 ≤ length out.old }
+    ensures written { IsWrittenForm Kind.Char (value ∷ []) (chars (take result out.new)) }
+    ensures utf8 { IsUtf8 (take result out.new) }
+    ensures within { result ≤ 7 }
+{
+    let at = put_text(out, 0, opener(Kind::Char));
+    let at = put_written(out, at, Kind::Char, value);
+    put_char(out, at, closer(Kind::Char))
+}

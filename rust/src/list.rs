@@ -1,0 +1,78 @@
+//! Lists of literals.
+
+use crate::error::{ErrorKind, ParseError};
+use crate::ffi;
+use crate::lit::Lit;
+use crate::token::Token;
+use std::borrow::Cow;
+use std::iter::FusedIterator;
+use std::ops::Range;
+
+/// The literals of a text with white space and plain comments between them, each with its bytes; see [`literals`].
+#[derive(Clone, Debug)]
+pub struct Literals<'t> {
+    text: &'t str,
+    at: usize,
+    is_done: bool,
+}
+
+/// The literals of a text, one after another, until the first error.
+///
+/// A minus before a number belongs to the literal, also where something stands between them.
+///
+/// ```
+/// use navyspindle::{literals, ErrorKind, Lit};
+///
+/// let mut list = literals("0xFF_u8 - /* two */ 1.5 'a");
+/// let (range, literal) = list.next().unwrap()?;
+/// assert_eq!((range, literal.suffix()), (0..7, "u8"));
+/// let (range, literal) = list.next().unwrap()?;
+/// let Lit::Float(float) = literal else { panic!() };
+/// assert_eq!((range, &*float.base10_digits()), (8..23, "-1.5"));
+/// let error = list.next().unwrap().unwrap_err();
+/// assert_eq!((error.kind(), error.at()), (ErrorKind::Lifetime, 24));
+/// assert!(list.next().is_none());
+/// # Ok::<(), navyspindle::ParseError>(())
+/// ```
+pub fn literals(text: &str) -> Literals<'_> {
+    Literals {
+        text,
+        at: 0,
+        is_done: false,
+    }
+}
+
+impl<'t> Iterator for Literals<'t> {
+    type Item = Result<(Range<usize>, Lit<'t>), ParseError>;
+
+    fn next(&mut self) -> Option<Self::Item> {
+        if self.is_done {
+            return None;
+        }
+        let rest = &self.text[self.at..];
+        let (status, next) = ffi::next(rest);
+        if status != 1 {
+            self.is_done = true;
+            let error = ParseError {
+                kind: ErrorKind::of(status),
+                at: self.at + next.lo,
+            };
+            return (status != 0).then_some(Err(error));
+        }
+        let lo = if next.negative {
+            next.minus_at
+        } else {
+            next.lo
+        };
+        let text = if next.negative && next.minus_at + 1 != next.lo {
+            Cow::Owned(format!("-{}", &rest[next.lo..next.hi]))
+        } else {
+            Cow::Borrowed(&rest[lo..next.hi])
+        };
+        let range = self.at + lo..self.at + next.hi;
+        self.at += next.rest_at;
+        Some(Ok((range, Lit::of(Token::found(text, next.reading)))))
+    }
+}
+
+impl FusedIterator for Literals<'_> {}

@@ -1,0 +1,246 @@
+//! Literals by kind.
+
+use crate::error::ParseError;
+use crate::token::{Kind, Token};
+use std::borrow::Cow;
+use std::fmt;
+use std::str::FromStr;
+
+macro_rules! kinds {
+    ($($(#[$doc:meta])* $name:ident)*) => {$(
+        $(#[$doc])*
+        #[derive(Clone, Debug)]
+        pub struct $name<'t>(Token<'t>);
+
+        impl $name<'_> {
+            /// The text as it was read.
+            pub fn text(&self) -> &str {
+                self.0.text()
+            }
+
+            /// What stands after the literal proper; empty where nothing does.
+            pub fn suffix(&self) -> &str {
+                self.0.suffix()
+            }
+        }
+
+        impl fmt::Display for $name<'_> {
+            fn fmt(&self, f: &mut fmt::Formatter<'_>) -> fmt::Result {
+                f.write_str(self.text())
+            }
+        }
+    )*};
+}
+
+kinds! {
+    /// A string: `"a\n"`, `r#"b"#`.
+    LitStr
+    /// A byte string: `b"a\xFF"`, `br"b"`.
+    LitByteStr
+    /// A C string: `c"a"`, `cr"b"`.
+    LitCStr
+    /// A byte: `b'a'`.
+    LitByte
+    /// A character: `'a'`.
+    LitChar
+    /// An integer: `1_000`, `-0xFF_u8`.
+    LitInt
+    /// A float: `1.5e3`, `2f32`.
+    LitFloat
+    /// A truth value: `true`, `false`.
+    LitBool
+}
+
+impl LitStr<'_> {
+    /// The text that the literal stands for; borrowed where it has no escapes.
+    pub fn value(&self) -> Cow<'_, str> {
+        self.0.text_contents()
+    }
+}
+
+impl LitByteStr<'_> {
+    /// The bytes that the literal stands for; borrowed where it has no escapes.
+    pub fn value(&self) -> Cow<'_, [u8]> {
+        self.0.contents()
+    }
+}
+
+impl LitCStr<'_> {
+    /// The bytes that the literal stands for, none of which is 0, and none of which ends them; borrowed where it has no escapes.
+    pub fn value(&self) -> Cow<'_, [u8]> {
+        self.0.contents()
+    }
+}
+
+impl LitByte<'_> {
+    /// The byte that the literal stands for.
+    pub fn value(&self) -> u8 {
+        self.0.byte_value()
+    }
+}
+
+impl LitChar<'_> {
+    /// The character that the literal stands for.
+    pub fn value(&self) -> char {
+        self.0.char_value()
+    }
+}
+
+impl LitInt<'_> {
+    /// What the digits spell, without the sign.
+    pub fn magnitude(&self) -> u128 {
+        self.0.magnitude()
+    }
+
+    /// Whether a minus stands before it.
+    pub fn is_negative(&self) -> bool {
+        self.text().starts_with('-')
+    }
+
+    /// The digits in base ten, after a minus where one stands; borrowed where they stand so in the text.
+    ///
+    /// Of others the number is the proved one, and Rust's std writes it.
+    pub fn base10_digits(&self) -> Cow<'_, str> {
+        if let Some(digits) = self.0.plain() {
+            return Cow::Borrowed(digits);
+        }
+        let sign = if self.is_negative() { "-" } else { "" };
+        Cow::Owned(format!("{sign}{}", self.magnitude()))
+    }
+
+    /// The digits as a number type reads them.
+    ///
+    /// # Errors
+    ///
+    /// The type's own.
+    pub fn base10_parse<N: FromStr>(&self) -> Result<N, N::Err> {
+        self.base10_digits().parse()
+    }
+}
+
+impl LitFloat<'_> {
+    /// All before the suffix, without underscores and pluses and with `E` as `e`; borrowed where it stands so in the text.
+    pub fn base10_digits(&self) -> Cow<'_, str> {
+        self.0.text_contents()
+    }
+
+    /// The digits as a number type reads them.
+    ///
+    /// # Errors
+    ///
+    /// The type's own.
+    pub fn base10_parse<N: FromStr>(&self) -> Result<N, N::Err> {
+        self.base10_digits().parse()
+    }
+}
+
+impl LitBool<'_> {
+    /// The truth value.
+    pub fn value(&self) -> bool {
+        self.text() == "true"
+    }
+}
+
+/// A literal of any kind: what [`Lit::parse`] makes of a text.
+///
+/// ```
+/// use navyspindle::{Kind, Lit};
+///
+/// let literal: Lit = Lit::parse("1_000_u32")?;
+/// assert_eq!((literal.kind(), literal.suffix()), (Kind::Int, "u32"));
+/// let owned: Lit<'static> = "'x'".parse()?;
+/// assert_eq!(owned.text(), "'x'");
+/// # Ok::<(), navyspindle::ParseError>(())
+/// ```
+#[derive(Clone, Debug)]
+pub enum Lit<'t> {
+    /// A string.
+    Str(LitStr<'t>),
+    /// A byte string.
+    ByteStr(LitByteStr<'t>),
+    /// A C string.
+    CStr(LitCStr<'t>),
+    /// A byte.
+    Byte(LitByte<'t>),
+    /// A character.
+    Char(LitChar<'t>),
+    /// An integer.
+    Int(LitInt<'t>),
+    /// A float.
+    Float(LitFloat<'t>),
+    /// A truth value.
+    Bool(LitBool<'t>),
+}
+
+impl<'t> Lit<'t> {
+    /// The literal that the text is, all of it.
+    ///
+    /// # Errors
+    ///
+    /// The text is no literal, or an integer past 128 bits.
+    pub fn parse(text: &'t str) -> Result<Lit<'t>, ParseError> {
+        match Token::read(Cow::Borrowed(text)) {
+            Some(token) => Ok(Lit::of(token)),
+            None => Err(ParseError::none()),
+        }
+    }
+
+    /// What the literal is.
+    pub fn kind(&self) -> Kind {
+        self.token().kind()
+    }
+
+    pub(crate) fn of(token: Token<'t>) -> Lit<'t> {
+        match token.kind() {
+            Kind::Str => Lit::Str(LitStr(token)),
+            Kind::ByteStr => Lit::ByteStr(LitByteStr(token)),
+            Kind::CStr => Lit::CStr(LitCStr(token)),
+            Kind::Byte => Lit::Byte(LitByte(token)),
+            Kind::Char => Lit::Char(LitChar(token)),
+            Kind::Int => Lit::Int(LitInt(token)),
+            Kind::Float => Lit::Float(LitFloat(token)),
+            Kind::Bool => Lit::Bool(LitBool(token)),
+        }
+    }
+
+    fn token(&self) -> &Token<'t> {
+        match self {
+            Lit::Str(l) => &l.0,
+            Lit::ByteStr(l) => &l.0,
+            Lit::CStr(l) => &l.0,
+            Lit::Byte(l) => &l.0,
+            Lit::Char(l) => &l.0,
+            Lit::Int(l) => &l.0,
+            Lit::Float(l) => &l.0,
+            Lit::Bool(l) => &l.0,
+        }
+    }
+
+    /// The text as it was read.
+    pub fn text(&self) -> &str {
+        self.token().text()
+    }
+
+    /// What stands after the literal proper; empty where nothing does.
+    pub fn suffix(&self) -> &str {
+        self.token().suffix()
+    }
+}
+
+impl fmt::Display for Lit<'_> {
+    fn fmt(&self, f: &mut fmt::Formatter<'_>) -> fmt::Result {
+        f.write_str(self.text())
+    }
+}
+
+/// An owned literal, as [`Lit::parse`] reads it.
+impl FromStr for Lit<'static> {
+    type Err = ParseError;
+
+    fn from_str(text: &str) -> Result<Self, ParseError> {
+        match Token::read(Cow::Owned(text.to_owned())) {
+            Some(token) => Ok(Lit::of(token)),
+            None => Err(ParseError::none()),
+        }
+    }
+}

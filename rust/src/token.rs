@@ -1,0 +1,113 @@
+//! A text together with what reading it finds.
+
+use crate::ffi;
+use crate::layout::Reading;
+use std::borrow::Cow;
+
+/// What a literal is.
+#[derive(Clone, Copy, Debug, PartialEq, Eq, Hash)]
+pub enum Kind {
+    /// A string: `"a"`.
+    Str,
+    /// A byte string: `b"a"`.
+    ByteStr,
+    /// A C string: `c"a"`.
+    CStr,
+    /// A byte: `b'a'`.
+    Byte,
+    /// A character: `'a'`.
+    Char,
+    /// An integer: `1`.
+    Int,
+    /// A float: `1.5`.
+    Float,
+    /// A truth value: `true`.
+    Bool,
+}
+
+impl Kind {
+    /// The kind of this number in the library.
+    pub(crate) fn of(number: u8) -> Kind {
+        match number {
+            1 => Kind::Str,
+            2 => Kind::ByteStr,
+            3 => Kind::CStr,
+            4 => Kind::Byte,
+            5 => Kind::Char,
+            6 => Kind::Int,
+            7 => Kind::Float,
+            8 => Kind::Bool,
+            _ => unreachable!("the library has eight kinds"),
+        }
+    }
+}
+
+/// A text that reads as a literal. Neither field changes, so the reading stays that of the text.
+#[derive(Clone, Debug)]
+pub(crate) struct Token<'t> {
+    text: Cow<'t, str>,
+    reading: Reading,
+}
+
+impl<'t> Token<'t> {
+    /// The text, where it reads as a literal.
+    pub(crate) fn read(text: Cow<'t, str>) -> Option<Token<'t>> {
+        let reading = ffi::find(&text)?;
+        Some(Token { text, reading })
+    }
+
+    /// A text whose reading the library told together with it.
+    pub(crate) fn found(text: Cow<'t, str>, reading: Reading) -> Token<'t> {
+        Token { text, reading }
+    }
+
+    pub(crate) fn kind(&self) -> Kind {
+        Kind::of(self.reading.kind)
+    }
+
+    pub(crate) fn text(&self) -> &str {
+        &self.text
+    }
+
+    /// What stands between the quotes; of a number, all before its suffix.
+    fn body(&self) -> &str {
+        &self.text[self.reading.at..self.reading.end]
+    }
+
+    pub(crate) fn suffix(&self) -> &str {
+        &self.text[self.reading.suffix_at..]
+    }
+
+    pub(crate) fn magnitude(&self) -> u128 {
+        u128::from(self.reading.high) << 64 | u128::from(self.reading.low)
+    }
+
+    /// The body, where it is what the literal stands for.
+    pub(crate) fn plain(&self) -> Option<&str> {
+        self.reading.plain.then(|| self.body())
+    }
+
+    /// What a string stands for, or the digits of a float.
+    pub(crate) fn text_contents(&self) -> Cow<'_, str> {
+        match self.plain() {
+            Some(body) => Cow::Borrowed(body),
+            None => Cow::Owned(ffi::text_contents(&self.text, &self.reading)),
+        }
+    }
+
+    /// What a byte string or a C string stands for.
+    pub(crate) fn contents(&self) -> Cow<'_, [u8]> {
+        match self.plain() {
+            Some(body) => Cow::Borrowed(body.as_bytes()),
+            None => Cow::Owned(ffi::contents(&self.text, &self.reading)),
+        }
+    }
+
+    pub(crate) fn byte_value(&self) -> u8 {
+        ffi::byte_value(&self.text, &self.reading)
+    }
+
+    pub(crate) fn char_value(&self) -> char {
+        ffi::char_value(&self.text, &self.reading)
+    }
+}

@@ -1,0 +1,99 @@
+//! The stored cases of `tools/sample.jsonl`, where its inputs are single texts: kind, contents and suffix as `rl_tool text` prints them.
+
+use navyspindle::{write_byte_str, write_c_str, write_str, Lit};
+use std::ffi::CString;
+use std::fs;
+
+/// The value of a field that is a text without escapes.
+fn field<'t>(line: &'t str, name: &str) -> Option<&'t str> {
+    let (_, rest) = line.split_once(&format!("\"{name}\": \""))?;
+    Some(rest.split_once('"')?.0)
+}
+
+fn bytes(hex: &str) -> Vec<u8> {
+    let digits: Vec<u32> = hex.chars().filter_map(|c| c.to_digit(16)).collect();
+    digits
+        .chunks(2)
+        .map(|pair| (pair[0] * 16 + pair[1]) as u8)
+        .collect()
+}
+
+/// Whether a suffix is printed as it stands: where it is an identifier. `·` continues one, though it is no letter.
+fn is_word(suffix: &str) -> bool {
+    suffix.starts_with(|c: char| c == '_' || c.is_alphabetic())
+        && suffix
+            .chars()
+            .all(|c| matches!(c, '_' | '·') || c.is_alphanumeric())
+}
+
+/// The line that `rl_tool text` prints.
+fn line_of(text: &str) -> String {
+    let (kind, contents, suffix) = match Lit::parse(text) {
+        Ok(Lit::Str(l)) => ("Str", write_str(&l.value()), l.suffix().to_owned()),
+        Ok(Lit::ByteStr(l)) => ("ByteStr", write_byte_str(&l.value()), l.suffix().to_owned()),
+        Ok(Lit::CStr(l)) => {
+            let value = CString::new(l.value()).expect("a C string holds no zero");
+            ("CStr", write_c_str(&value), l.suffix().to_owned())
+        }
+        Ok(Lit::Byte(l)) => (
+            "Byte",
+            navyspindle::write_byte(l.value()),
+            l.suffix().to_owned(),
+        ),
+        Ok(Lit::Char(l)) => (
+            "Char",
+            navyspindle::write_char(l.value()),
+            l.suffix().to_owned(),
+        ),
+        Ok(Lit::Int(l)) => ("Int", l.base10_digits().into_owned(), l.suffix().to_owned()),
+        Ok(Lit::Float(l)) => (
+            "Float",
+            l.base10_digits().into_owned(),
+            l.suffix().to_owned(),
+        ),
+        Ok(Lit::Bool(l)) => ("Bool", l.value().to_string(), l.suffix().to_owned()),
+        Err(_) => ("Verbatim", write_str(text), String::new()),
+    };
+    let suffix = match suffix.as_str() {
+        "" => "-".to_owned(),
+        word if is_word(word) => word.to_owned(),
+        other => write_str(other),
+    };
+    format!("{kind} {contents} {suffix}")
+}
+
+#[test]
+fn stored_cases() {
+    let stored = concat!(env!("CARGO_MANIFEST_DIR"), "/../tools/sample.jsonl");
+    let (mut tried, mut wrong) = (0, Vec::new());
+    for line in fs::read_to_string(stored)
+        .expect("the stored cases")
+        .lines()
+    {
+        if !line.contains("\"args\": [\"text\"]") || !line.contains("\"status\": 0") {
+            continue;
+        }
+        let (Some(input), Some(stdout)) = (field(line, "input"), field(line, "stdout")) else {
+            continue;
+        };
+        let Ok(text) = String::from_utf8(bytes(input)) else {
+            continue;
+        };
+        let expected = String::from_utf8(bytes(stdout)).expect("lines are UTF-8");
+        tried += 1;
+        if line_of(&text) != expected.trim_end() {
+            wrong.push(format!(
+                "{text:?}: {} for {}",
+                line_of(&text),
+                expected.trim_end()
+            ));
+        }
+    }
+    assert!(tried > 100, "{tried} cases");
+    assert!(
+        wrong.is_empty(),
+        "{} of {tried}: {:#?}",
+        wrong.len(),
+        &wrong[..wrong.len().min(12)]
+    );
+}
