@@ -16,7 +16,9 @@ ghost use Rattle.rl_quoted.specs.Inside.{
 };
 
 use crate::lit_str::LitStr;
-use rl_tokens::{ByParse, Error, ErrorKind, Parse, ParseBuffer, Parser, TokenStream, trees_of_text};
+use rl_tokens::{
+    ByParse, Error, ErrorKind, Parse, ParseBuffer, Parser, TokenStream, trees_of_text,
+};
 use std::alloc::Allocator;
 
 impl<A: Allocator> LitStr<A> {
