@@ -52,7 +52,7 @@ one_attribute trees a b r s h k =
     let one = one_front k.at_literal a.literal b.literal r s (subst (λ (t : List Tree). IsFront t a.literal r) literals h.set) k.set in
     (ap (λ (n : SpannedText). attribute n a.literal) names ∙ ap (attribute b.name) one.0, one.1)
 
--- what stands behind an attribute is shorter
+-- what stands after an attribute is shorter
 behind_attribute : (trees : List Tree) (a : Attribute) (rest : List Tree) → IsAttribute trees a rest → length rest < length trees
 behind_attribute trees a rest h =
     let left = front_rest h.at_literal rest a.literal h.set in
@@ -80,7 +80,7 @@ stand_more : (trees : List Tree) (done : List Attribute) (rest : List Tree) (a :
 stand_more trees [] rest a behind next h i m = (behind, next, subst (λ (t : List Tree). IsAttribute t a behind) (sym h) i, m, refl)
 stand_more trees (x ∷ xs) rest a behind next (b, n, j, k, h) i m = (b, n, j, k, stand_more n xs rest a behind next h i m)
 
--- a list goes on behind the attribute and its comma, or ends with it
+-- a list goes on after the attribute and its comma, or ends with it
 listed_more : (rest : List Tree) (a : Attribute) (next : List Tree) (more : List Attribute) → IsNext rest a next → AreListed next more → AreListed rest (a ∷ more)
 listed_more rest a next more n h =
     elim n.comma [
@@ -126,7 +126,7 @@ named_more name done a =
     go false true e = rw (sym e) refl
     go false false e = rw (sym e) refl
 
--- a name that stands behind others is none of them
+-- a name that stands after others is none of them
 apart_from : (name y : List ℕ) (xs ys : List (List ℕ)) → AllByRecursion (λ z. bytes_eq y z ≡ false) (xs ++ (name ∷ ys)) → bytes_eq name y ≡ false
 apart_from name y [] ys h = nat_list_eq_equiv.symm name y ∙ h.0
 apart_from name y (x ∷ xs) ys h = apart_from name y xs ys h.1
@@ -157,7 +157,7 @@ one_listing trees (x ∷ xs) (y ∷ ys) (b, i, inr (r, m, k)) (c, j, inr (s, n, 
     let rests : r ≡ s = one_mark 44 c r s (subst (λ (t : List Tree). IsBehindMark 44 t r) one.1 m) n in
     ap (λ z. z ∷ xs) one.0 ∙ ap (λ zs. y ∷ zs) (one_listing s xs ys (subst (λ (t : List Tree). AreListed t xs) rests k) l)
 
--- ---- what is refused is no list
+-- ---- what is rejected is no list
 
 -- A list whose first attributes stand before a rest that isn't empty goes on there.
 record GoesOn (list done : List Attribute) (rest : List Tree) : Type 0 where
@@ -176,7 +176,7 @@ goes_on trees (x ∷ xs) rest (y ∷ ys) (b, n, i, m, h) some (c, j, inr (r, l, 
     let on = goes_on n xs rest ys h some (subst (λ (t : List Tree). AreListed t ys) rests k) in
     record { more = on.more; list_is = ap (λ z. z ∷ ys) (sym one.0) ∙ ap (λ zs. x ∷ zs) on.list_is; listed = on.listed }
 
--- a rest that a list goes on with isn't refused
+-- a rest that a list goes on with isn't rejected
 misses_name : {A : Type 0} (a : Attribute) (trees behind : List Tree) (scope : Span) (e : Error A) → IsAttribute trees a behind → MissesName trees scope e → ⊥
 misses_name a trees behind scope e i m = let none = rw i.named at m.none in absurd (cc)
 
@@ -225,7 +225,7 @@ never_refused done (a ∷ more) trees scope e some d h r =
       | inr (inr (inr (inr m))) ↦ misses_comma (λ name. is_named name done) a more trees scope e h m
     ]
 
--- attributes that differ were taken, and what is left is refused: the trees are
+-- attributes that differ were taken, and what is left is rejected: the trees are
 pub refused_next : {A : Type 0} (trees : List Tree) (done : List Attribute) (rest : List Tree) (scope : Span) (e : Error A) → AreTaken trees done rest → NamesDiffer done → rest ≢ [] → RefusesNextAttribute (λ name. is_named name done) rest scope e → RefusesAttributes trees scope e
 refused_next trees done rest scope e t d some r = record {
   earlier = done;
@@ -239,7 +239,7 @@ refused_next trees done rest scope e t d some r = record {
       never_refused done on.more rest scope e some (subst NamesDiffer on.list_is are.differ) on.listed r;
 }
 
--- the refusal is the same where what was seen is told otherwise
+-- the error is the same where what was seen is reported otherwise
 same_new : (s t : List ℕ → Bool) (trees : List Tree) (name : SpannedText) (behind : List Tree) → ((n : List ℕ) → s n ≡ t n) → HasNewName s trees name behind → HasNewName t trees name behind
 same_new s t trees name behind e h = record { named = h.named; anew = sym (e name.text) ∙ h.anew }
 

@@ -71,14 +71,14 @@ at_next trees entries more old new rest next entry at some n anew read adds left
 pub at_end : {A S : Type 0} (trees : List Tree) (entries : List (Entry A)) (names : HashSet (Bor (List ℕ)) S) (rest : List Tree) → IsAt trees entries names rest → rest ≡ [] → AreEntries trees entries
 at_end trees entries names rest at e = record { are = record { listed = taken_all trees (attributes_of entries) rest at.taken e; differ = at.differ }; read = at.read }
 
--- running out of memory for what a name begins
+-- an allocation failure for what a name begins
 pub at_memory : {A B S : Type 0} (trees : List Tree) (entries : List (Entry A)) (names : HashSet (Bor (List ℕ)) S) (rest : List Tree) (e : Error B) → IsAt trees entries names rest → rest ≢ [] → LacksMemoryInStep rest e → LacksMemoryInStep trees e
 at_memory trees entries names rest e at some w = record { begun = taken_begins trees (attributes_of entries) rest at.taken some w.begun; memory = w.memory }
 
 pub next_memory : {B : Type 0} (rest next : List Tree) (a : Attribute) (e : Error B) → IsNext rest a next → e.kind ≡ Memory → LacksMemoryInStep rest e
 next_memory rest next a e n m = record { begun = subst (λ (ts : List Tree). begins_ident ts ≡ true) (sym n.is.named) refl; memory = m }
 
--- what stops a step is refused of all trees
+-- what stops a step is rejected of all trees
 pub at_refusal : {A B S : Type 0} (trees : List Tree) (entries : List (Entry A)) (names : HashSet (Bor (List ℕ)) S) (rest : List Tree) (scope was : Span) (e : Error B) → IsAt trees entries names rest → rest ≢ [] → was ≡ scope → RefusesStep (has_name names) rest was e → LacksMemoryInStep trees e ⊎ RefusesAttributes trees scope e
 at_refusal trees entries names rest scope was e at some s (inl w) = inl (at_memory trees entries names rest e at some w)
 at_refusal trees entries names rest scope was e at some s (inr r) =
@@ -101,7 +101,7 @@ entry_taken seen trees at_equals at_literal rest name text span value text_is sp
 pub value_read : {A : Type 0} (trees : List Tree) (value : Lit A) (rest : List Tree) → IsLitFront trees value rest → IsReadAs (kind_of value) (chars (token_of value).text)
 value_read trees value rest front = subst (λ (t : SpannedText). IsReadAs (kind_of value) (chars t.text)) (sym front.read.0) front.read.1
 
--- behind a new name, what is no `=`
+-- after a new name, what is no `=`
 pub equals_refused : {A : Type 0} (seen : List ℕ → Bool) (trees behind : List Tree) (scope was : Span) (name : SpannedText) (e : Error A) → HasNewName seen trees name behind → IsFalse (begins_mark 61 behind) → was ≡ scope → IsRefusal behind was (codes "`=`") e → RefusesStep seen trees scope e
 equals_refused seen trees behind scope was name e begun none same refusal =
     inr (record {
@@ -114,7 +114,7 @@ equals_refused seen trees behind scope was name e begun none same refusal =
       })));
     })
 
--- behind an attribute with a new name, what is no comma
+-- after an attribute with a new name, what is no comma
 pub comma_refused : {A : Type 0} (seen : List ℕ → Bool) (trees behind : List Tree) (scope was : Span) (attribute : Attribute) (e : Error A) → IsAttribute trees attribute behind → IsFalse (seen attribute.name.text) → behind ≢ [] → IsFalse (begins_mark 44 behind) → was ≡ scope → IsRefusal behind was (codes "`,`") e → RefusesStep seen trees scope e
 comma_refused seen trees behind scope was attribute e is anew some none same refusal =
     inr (record {
@@ -129,7 +129,7 @@ comma_refused seen trees behind scope was attribute e is anew some none same ref
       }))));
     })
 
--- behind a new name and `=`, what the parser of literals refuses
+-- after a new name and `=`, what the parser of literals rejects
 pub value_refused : {A : Type 0} (seen : List ℕ → Bool) (trees at_equals at_literal after : List Tree) (scope was : Span) (name : SpannedText) (e : Error A) → HasNewName seen trees name at_equals → IsBehindMark 61 at_equals at_literal → was ≡ scope → RunsLit at_literal was (Err e) after → RefusesStep seen trees scope e
 value_refused {A = A} seen trees at_equals at_literal after scope was name e begun equals same (inl w) =
     inl (record { begun = subst (λ (ts : List Tree). begins_ident ts ≡ true) (sym begun.named) refl; memory = ap (λ (x : Error A). x.kind) w.1.error })
@@ -146,9 +146,9 @@ value_refused seen trees at_equals at_literal after scope was name e begun equal
       }))));
     })
 
--- ---- running out of memory is reported at the first tree
+-- ---- an allocation failure is reported at the first tree
 
--- no refusal by a missed word is for running out of memory
+-- no error by a missed word is an allocation failure
 no_word : (A : Type 0) (trees : List Tree) (word : List ℕ) → MissesWord {A = A} trees word Memory → ⊥
 no_word A [] word h = h
 no_word A (t ∷ ts) word h = h
@@ -166,7 +166,7 @@ no_memory {A = A} seen trees scope e r m =
       | inr (inr (inr (inr w))) ↦ no_refusal w.behind scope _ e w.refusal m
     ]
 
--- what isn't for running out of memory stays as it is
+-- what isn't an allocation failure stays as it is
 stays : {A : Type 0} (kind : ErrorKind A) (span place : Span) → (kind ≡ Memory → ⊥) → kind_reported_at kind span place ≡ record { span = span; kind = kind }
 stays (Expected w) span place h = refl
 stays (EndOfInput w) span place h = refl

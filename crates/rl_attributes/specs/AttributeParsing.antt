@@ -18,13 +18,13 @@ pub record AreEntries {A : Type 0} (trees : List Tree) (entries : List (Entry A)
   pub are : AreAttributes trees (attributes_of entries)
   pub read : All IsReadEntry entries
 
--- what the parser of attributes does: it takes all trees, or refuses them, and they stay
+-- what the parser of attributes does: it takes all trees, or rejects them, and they stay
 abbrev pub RunsAttrs : {A : Type 0} → List Tree → Span → Result (Attrs A) (Error A) → List Tree
     → Type 0
 RunsAttrs trees scope (Ok attrs) rest = AreEntries trees (entries_of attrs) × (rest ≡ [])
 RunsAttrs trees scope (Err e) rest = RefusesAttributeTrees trees scope e × (rest ≡ trees)
 
--- the answer is this list, or memory was refused
+-- the answer is this list, or an allocation failed
 abbrev pub IsListOrMemory : {A : Type 0} → List Attribute → Result (Attrs A) (Error A) → Type 0
 IsListOrMemory list (Ok attrs) = attributes_of (entries_of attrs) ≡ list
 IsListOrMemory list (Err e) = e.kind ≡ Memory

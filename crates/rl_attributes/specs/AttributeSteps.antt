@@ -23,22 +23,22 @@ abbrev pub AddsName : {S : Type 0} → HashSet (Bor (List ℕ)) S → HashSet (B
 AddsName old new name =
     (other : List ℕ) → has_name new other ≡ cond (bytes_eq name other) true (has_name old other)
 
--- The attribute begins the trees, and behind it stands a comma and the rest, or nothing.
+-- The attribute begins the trees, and after it stands a comma and the rest, or nothing.
 pub record IsNext (trees : List Tree) (attribute : Attribute) (rest : List Tree) : Type 0 where
   pub behind : List Tree
   pub is : IsAttribute trees attribute behind
   pub comma : IsBehindMark (code ",") behind rest ⊎ ((behind ≡ []) × (rest ≡ []))
 
--- A name begins the trees, and memory was refused, wherever this is told.
+-- A name begins the trees, and an allocation failed, wherever this is reported.
 pub record LacksMemoryInStep {A : Type 0} (trees : List Tree) (e : Error A) : Type 0 where
   pub begun : IsTrue (begins_ident trees)
   pub memory : e.kind ≡ Memory
 
--- what a step refuses, beside memory
+-- what a step rejects, beside memory
 abbrev pub RefusesStep : {A : Type 0} → (List ℕ → Bool) → List Tree → Span → Error A → Type 0
 RefusesStep seen trees scope e = LacksMemoryInStep trees e ⊎ RefusesNextAttribute seen trees scope e
 
--- the refusal of this kind and span, but running out of memory at that place
+-- the error of this kind and span, but an allocation failure at that place
 abbrev pub kind_reported_at : {A : Type 0} → ErrorKind A → Span → Span → Error A
 kind_reported_at Memory span place = memory_at place
 kind_reported_at kind span place = record { span = span; kind = kind }

@@ -21,7 +21,7 @@ pub record Attribute : Type 0 where
 
 -- ---- the grammar
 
--- The attribute begins the trees: an identifier, `=` and a literal. The rest stands behind it.
+-- The attribute begins the trees: an identifier, `=` and a literal. The rest stands after it.
 pub record IsAttribute (trees : List Tree) (attribute : Attribute) (rest : List Tree) : Type 0 where
   pub at_equals : List Tree
   pub at_literal : List Tree
@@ -61,7 +61,7 @@ pub record AreAttributesOf (text : List ℕ) (file : ℕ) (list : List Attribute
   pub lexes : Lexes text file trees
   pub are : AreAttributes trees list
 
--- ---- refusals, from left to right: an identifier, whether its name stood before, `=`, a literal,
+-- ---- errors, from left to right: an identifier, whether its name stood before, `=`, a literal,
 -- then the end or a comma. `seen` tells which names stood before.
 
 -- An identifier begins the trees, and its name is new.
@@ -84,7 +84,7 @@ pub record RepeatsName {A : Type 0} (seen : List ℕ → Bool) (trees : List Tre
   pub again : IsTrue (seen name.text)
   pub error : e ≡ record { span = name.span; kind = Repeated }
 
--- A new name begins the trees, and no `=` stands behind it.
+-- A new name begins the trees, and no `=` stands after it.
 pub record MissesEquals {A : Type 0} (seen : List ℕ → Bool) (trees : List Tree) (scope : Span)
     (e : Error A) : Type 0 where
   pub name : SpannedText
@@ -93,7 +93,7 @@ pub record MissesEquals {A : Type 0} (seen : List ℕ → Bool) (trees : List Tr
   pub none : IsFalse (begins_mark (code "=") behind)
   pub refusal : IsRefusal behind scope (codes "`=`") e
 
--- A new name and `=` begin the trees, and no literal stands behind them.
+-- A new name and `=` begin the trees, and no literal stands after them.
 pub record MissesLiteral {A : Type 0} (seen : List ℕ → Bool) (trees : List Tree) (scope : Span)
     (e : Error A) : Type 0 where
   pub name : SpannedText
@@ -104,7 +104,7 @@ pub record MissesLiteral {A : Type 0} (seen : List ℕ → Bool) (trees : List T
   pub none : HasNoFront at_literal
   pub refusal : IsRefusal at_literal scope (codes "literal") e
 
--- An attribute with a new name begins the trees, and something stands behind it that is no comma.
+-- An attribute with a new name begins the trees, and something stands after it that is no comma.
 pub record MissesComma {A : Type 0} (seen : List ℕ → Bool) (trees : List Tree) (scope : Span)
     (e : Error A) : Type 0 where
   pub attribute : Attribute
@@ -115,14 +115,14 @@ pub record MissesComma {A : Type 0} (seen : List ℕ → Bool) (trees : List Tre
   pub none : IsFalse (begins_mark (code ",") behind)
   pub refusal : IsRefusal behind scope (codes "`,`") e
 
--- The trees don't begin with an attribute whose name is new, and with a comma or the end behind it:
+-- The trees don't begin with an attribute whose name is new, and with a comma or the end after it:
 -- the first of these that is missed.
 pub record RefusesNextAttribute {A : Type 0} (seen : List ℕ → Bool) (trees : List Tree)
     (scope : Span) (e : Error A) : Type 0 where
   pub why : MissesName trees scope e ⊎ RepeatsName seen trees e ⊎ MissesEquals seen trees scope e
       ⊎ MissesLiteral seen trees scope e ⊎ MissesComma seen trees scope e
 
--- These attributes begin the trees, each with a comma behind it, and the rest stands behind them.
+-- These attributes begin the trees, each with a comma after it, and the rest stands after them.
 abbrev pub StandBefore : List Tree → List Attribute → List Tree → Type 0
 StandBefore trees [] rest = trees ≡ rest
 StandBefore trees (a ∷ others) rest =
@@ -141,25 +141,25 @@ pub record RefusesAttributes {A : Type 0} (trees : List Tree) (scope : Span) (e 
   pub refused : RefusesNextAttribute (λ name. is_named name earlier) rest scope e
   pub none : (list : List Attribute) → AreAttributes trees list → ⊥
 
--- A name begins the trees, and memory was refused: this is reported at the name.
+-- A name begins the trees, and an allocation failed: this is reported at the name.
 pub record LacksMemoryForName {A : Type 0} (trees : List Tree) (scope : Span) (e : Error A)
     : Type 0 where
   pub begun : IsTrue (begins_ident trees)
   pub error : e ≡ memory_at (first_span trees scope)
 
--- what is refused of trees
+-- what is rejected of trees
 abbrev pub RefusesAttributeTrees : {A : Type 0} → List Tree → Span → Error A → Type 0
 RefusesAttributeTrees trees scope e =
     LacksMemoryForName trees scope e ⊎ RefusesAttributes trees scope e
 
--- The text is cut into trees, and this is refused of them.
+-- The text is cut into trees, and this is rejected of them.
 pub record RefusesLexedAttributes {A : Type 0} (text : List ℕ) (file end : ℕ) (e : Error A)
     : Type 0 where
   pub trees : List Tree
   pub lexes : Lexes text file trees
   pub refused : RefusesAttributeTrees trees (place_at file end) e
 
--- what is refused of a text that ends at this byte
+-- what is rejected of a text that ends at this byte
 abbrev pub RefusesAttributeText : {A : Type 0} → List ℕ → ℕ → ℕ → Error A → Type 0
 RefusesAttributeText text file end e =
     RefusesLexing text file e ⊎ RefusesLexedAttributes text file end e

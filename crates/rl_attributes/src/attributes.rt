@@ -73,10 +73,10 @@ impl<A: Allocator> Attrs<A> {
     /// }
     /// ```
     pub fn get(&self, name: &str) -> Option<&Lit<A>>
-        // What is lent is the value of each entry with the name, of which there is one at most.
+        // What is borrowed is the value of each entry with the name, of which there is one at most.
         ensures lent { All (λ entry. HasName name.now entry
             → IsSomeAnd result (λ value. value.now ≡ entry.value)) (entries_of self.now) }
-        // Where something is lent, an entry has the name.
+        // Where something is borrowed, an entry has the name.
         ensures named { IfSome result
             (λ value. Any (λ entry. HasName name.now entry) (entries_of self.now)) }
     {

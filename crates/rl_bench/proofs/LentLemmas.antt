@@ -1,4 +1,4 @@
--- What is lent of a literal.
+-- What is borrowed of a literal.
 use Rattle.std.proofs.Common.{◌≡◌, ◌≢◌, ℕ, ◌%◌, ◌^◌, List, Bool, true, length, refl, sym, subst, ap, inl, inr}
 use Rattle.std.proofs.lemmas.Bool.{both_ways}
 use Rattle.std.specs.Str.{chars, IsUtf8}
@@ -39,7 +39,7 @@ lent_float text body found is f e =
     let cut : IsSplit FloatKind text (body_in text found.body) x = subst (λ k. IsSplit k text (body_in text found.body) x) is f.cut in
     subst (λ k. IsLent k text (length body)) (sym is) (body_in text found.body, x, reads, cut, ap length e)
 
--- what is lent of any other literal is its contents
+-- what is borrowed of any other literal is its contents
 pub lent_other : (kind : Kind) (text : List ℕ) (n : ℕ) → kind ≢ IntKind → kind ≢ FloatKind → HasSize kind (chars text) n → IsLent kind text n
 lent_other StrKind text n i f h = h
 lent_other ByteStrKind text n i f h = h

@@ -40,7 +40,7 @@ sum_more W corpus ends lo i total after less so_far (inr (none, e)) =
     weight_more W corpus ends lo i total after 0 less so_far (inr (none, refl))
     (e ∙ so_far.total_is ∙ ap (λ z. z % 2 ^ 64) (sym (add-zero so_far.before)))
 
--- behind the last text the sum so far is the sum of all
+-- after the last text the sum so far is the sum of all
 pub sum_done :
     (W : List ℕ → ℕ → Type 0) (corpus ends : List ℕ) (lo i total : ℕ) → length ends ≤ i → SumSoFar W corpus ends (drop i ends) lo total → IsSum W corpus ends total
 sum_done W corpus ends lo i total le so_far =

@@ -1,4 +1,4 @@
--- What is lent of a literal, and what it weighs by that.
+-- What is borrowed of a literal, and what it weighs by that.
 use Rattle.std.specs.Prelude.{◌≡◌, ◌⊎◌, ℕ, ◌%◌, ◌^◌, List, length}
 use Rattle.std.specs.Str.{chars}
 use Rattle.rl_tokens.specs.declared.kind.Kind.{Kind}
@@ -24,14 +24,14 @@ HasNumeral text n =
     (numeral : List ℕ) × (suffix : List ℕ) × HasSuffix Float (chars text) (chars suffix)
     × IsSplit Float text numeral suffix × (n ≡ length numeral)
 
--- What is lent of a literal of the kind: an integer's magnitude, a float's numeral, any other's
+-- What is borrowed of a literal of the kind: an integer's magnitude, a float's numeral, any other's
 -- contents.
 abbrev pub IsLent : Kind → List ℕ → ℕ → Type 0
 IsLent Int text n = HasLowMagnitude text n
 IsLent Float text n = HasNumeral text n
 IsLent kind text n = HasSize kind (chars text) n
 
--- The text, in bytes, reads as this kind of literal, of this weight by its kind, what is lent of
+-- The text, in bytes, reads as this kind of literal, of this weight by its kind, what is borrowed of
 -- it, and its suffix.
 pub record IsLentWeight (kind : Kind) (text : List ℕ) (weight : ℕ) : Type 0 where
   pub size : ℕ
@@ -40,7 +40,7 @@ pub record IsLentWeight (kind : Kind) (text : List ℕ) (weight : ℕ) : Type 0 
   pub ends : HasSuffix kind (chars text) suffix
   pub weight_is : weight ≡ weight_of kind size (byte_len suffix)
 
--- the weight of a text by what is lent; a text that is no literal weighs nothing
+-- the weight of a text by what is borrowed; a text that is no literal weighs nothing
 abbrev pub HasLentWeight : List ℕ → ℕ → Type 0
 HasLentWeight text weight =
     ((kind : Kind) × IsLentWeight kind text weight) ⊎ (HasNoReading (chars text) × (weight ≡ 0))

@@ -36,7 +36,7 @@ abbrev pub WeighsAt : (List ℕ → ℕ → Type 0) → List ℕ → ℕ → ℕ
 WeighsAt weighs corpus lo hi weight =
     HasWeightAt weighs corpus lo hi weight ⊎ (HasNoTextAt corpus lo hi × (weight ≡ 0))
 
--- the weights of the texts that end at these places, one behind another, the first from the place
+-- the weights of the texts that end at these places, one after another, the first from the place
 -- on
 abbrev pub AreWeights : (List ℕ → ℕ → Type 0) → List ℕ → ℕ → List ℕ → List ℕ → Type 0
 AreWeights weighs corpus lo [] weights = weights ≡ []

@@ -84,19 +84,19 @@ HasSourceCount text count =
     (cuts : List CutSource) × (rest : List ℕ) × IsCutUpTo (chars text) cuts rest
     × BeginsNoSource rest × (count ≡ length cuts)
 
--- a text is cut into this many trees, groups as one; or it has a fault, and none
+-- a text is cut into this many trees, groups as one; or it has an error, and none
 abbrev pub HasTreeCount : List ℕ → ℕ → Type 0
 HasTreeCount text count =
     ((trees : List Tree) × Lexes (chars text) 0 trees × (count ≡ length trees))
     ⊎ ((kind : LexKind) × (at : ℕ) × Fault (chars text) kind at × (count ≡ 0))
 
--- a text is read as this many literals; or it is refused, for another reason than memory, and none
+-- a text is read as this many literals; or it is rejected, for another reason than memory, and none
 abbrev pub HasLiteralCount : (A : Type 0) → List ℕ → ℕ → Type 0
 HasLiteralCount A text count =
     ((list : List (Lit A)) × AreRead (chars text) 0 list × (count ≡ length list))
     ⊎ ((e : Error A) × RefusesText (chars text) 0 (length text) e × (e.kind ≢ Memory) × (count ≡ 0))
 
--- a text is read as this many attributes; or it is refused, for another reason than memory, and
+-- a text is read as this many attributes; or it is rejected, for another reason than memory, and
 -- none
 abbrev pub HasAttributeCount : (A : Type 0) → List ℕ → ℕ → Type 0
 HasAttributeCount A text count =

@@ -1,4 +1,4 @@
-//! What literals weigh whose contents are lent from the text, where they stand in it.
+//! What literals weigh whose contents are borrowed from the text, where they stand in it.
 
 ghost use Rattle.std.specs.Prelude.{IfOk};
 ghost use Rattle.std.specs.Str.{chars};
@@ -28,7 +28,7 @@ fn lent_contents_size(alloc: Global, text: &str, found: &Found) -> Result<usize,
     }
 }
 
-/// How much is lent of the literal that was found in the text: of an integer what its digits spell,
+/// How much is borrowed of the literal that was found in the text: of an integer what its digits spell,
 /// modulo 2 to the 64th; of a float the length of its numeral; of any other the length of its
 /// contents.
 fn lent_size(alloc: Global, text: &str, found: &Found) -> Result<u64, AllocError>
@@ -42,7 +42,7 @@ fn lent_size(alloc: Global, text: &str, found: &Found) -> Result<u64, AllocError
     }
 }
 
-/// By kind, what is lent, and suffix, by way of what reading finds.
+/// By kind, what is borrowed, and suffix, by way of what reading finds.
 pub(crate) struct ByLent;
 
 impl Weigh for ByLent {

@@ -1,6 +1,6 @@
 //! Sums over many texts, to be called and timed by a program in another language. A static library.
 //!
-//! Each export takes a corpus: all texts behind one another, and the place where each ends. A text
+//! Each export takes a corpus: all texts one after another, and the place where each ends. A text
 //! begins where the one before ended. What stands between places that are out of order or past the
 //! end, or is no UTF-8, is skipped.
 #![tactic(auto)]
@@ -51,7 +51,7 @@ pub extern "C" fn rl_bench_shape(alloc: Global, corpus: &[u8], ends: &[usize]) -
 }
 
 /// Puts into `total` the sum of the values of the texts: of each literal its kind's number, and the
-/// lengths of contents and suffix in bytes. False where memory was refused; `total` stays then.
+/// lengths of contents and suffix in bytes. False where an allocation failed; `total` stays then.
 #[unsafe(no_mangle)]
 pub extern "C" fn rl_bench_value(
     alloc: Global,
@@ -65,10 +65,10 @@ pub extern "C" fn rl_bench_value(
     put(sum::<ByValue>(alloc, corpus, ends), total)
 }
 
-/// Puts into `total` the sum of what is lent of the texts: of each literal its kind's number, the
+/// Puts into `total` the sum of what is borrowed of the texts: of each literal its kind's number, the
 /// length of its suffix in bytes, and what its digits spell for an integer, the length of its
 /// numeral for a float, the length of its contents for any other. Nothing that stands in the text
-/// is copied. False where memory was refused; `total` stays then.
+/// is copied. False where an allocation failed; `total` stays then.
 #[unsafe(no_mangle)]
 pub extern "C" fn rl_bench_lent(
     alloc: Global,
@@ -83,7 +83,7 @@ pub extern "C" fn rl_bench_lent(
 }
 
 /// Puts into `total` the sum of the values of the texts, as [`rl_bench_value`] does, by way of
-/// `Lit::new`, the values, and the digits that it lends.
+/// `Lit::new`, the values, and the digits that can be borrowed.
 #[unsafe(no_mangle)]
 pub extern "C" fn rl_bench_literal(
     alloc: Global,
@@ -97,7 +97,7 @@ pub extern "C" fn rl_bench_literal(
     put(sum::<ByLiteral>(alloc, corpus, ends), total)
 }
 
-/// The same, by way of `Lit::new`, and each value lent where the literal lends it.
+/// The same, by way of `Lit::new`, and each value borrowed where it stands in the text.
 #[unsafe(no_mangle)]
 pub extern "C" fn rl_bench_value_ref(
     alloc: Global,
@@ -130,7 +130,7 @@ pub extern "C" fn rl_bench_source(alloc: Global, corpus: &[u8], ends: &[usize]) 
 }
 
 /// Puts into `total` how many trees the texts are cut into, a group counted as one; a text that has
-/// a fault counts as none. False where memory was refused; `total` stays then.
+/// an error counts as none. False where an allocation failed; `total` stays then.
 #[unsafe(no_mangle)]
 pub extern "C" fn rl_bench_lex(
     alloc: Global,
@@ -144,8 +144,8 @@ pub extern "C" fn rl_bench_lex(
     put(sum::<ByTrees>(alloc, corpus, ends), total)
 }
 
-/// Puts into `total` how many literals the texts are read as; a text that is refused counts as
-/// none. False where memory was refused; `total` stays then.
+/// Puts into `total` how many literals the texts are read as; a text that is rejected counts as
+/// none. False where an allocation failed; `total` stays then.
 #[unsafe(no_mangle)]
 pub extern "C" fn rl_bench_read(
     alloc: Global,
@@ -159,8 +159,8 @@ pub extern "C" fn rl_bench_read(
     put(sum::<ByList>(alloc, corpus, ends), total)
 }
 
-/// Puts into `total` how many attributes the texts are read as; a text that is refused counts as
-/// none. False where memory was refused; `total` stays then.
+/// Puts into `total` how many attributes the texts are read as; a text that is rejected counts as
+/// none. False where an allocation failed; `total` stays then.
 #[unsafe(no_mangle)]
 pub extern "C" fn rl_bench_attr(
     alloc: Global,

@@ -42,7 +42,7 @@ fn add<W: Weigh>(
     }
 }
 
-/// The sum of the numbers of all texts, modulo 2 to the 64th; or the first refusal.
+/// The sum of the numbers of all texts, modulo 2 to the 64th; or the first error.
 pub(crate) fn sum<W: Weigh>(alloc: Global, corpus: &[u8], ends: &[usize]) -> Result<u64, W::Refusal>
     ensures { IfOk result (IsSum W.weighs corpus.now ends.now) }
 {

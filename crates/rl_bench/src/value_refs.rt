@@ -1,4 +1,4 @@
-//! What literals weigh whose values are lent where they can be.
+//! What literals weigh whose values are borrowed where they can be.
 
 ghost use Rattle.std.specs.Prelude.{IfOk};
 ghost use Rattle.rl_bench.specs.Sizes.{HasLitWeight};
@@ -13,7 +13,7 @@ use rl_grammar::Kind;
 use rust_literals::Lit;
 use std::alloc::{AllocError, Global};
 
-/// The weight of a literal by its kind, value or digits, and suffix. A value is lent, and made
+/// The weight of a literal by its kind, value or digits, and suffix. A value is borrowed, and made
 /// where it can't be.
 fn value_ref_weight(alloc: Global, literal: &Lit) -> Result<u64, AllocError>
     ensures { IfOk result (HasLitWeight literal.now) }
@@ -35,7 +35,7 @@ fn value_ref_weight(alloc: Global, literal: &Lit) -> Result<u64, AllocError>
     }
 }
 
-/// By kind, value or digits, and suffix, by way of `Lit::new` and what it lends.
+/// By kind, value or digits, and suffix, by way of `Lit::new` and what it borrows out.
 pub(crate) struct ByValueRef;
 
 impl Weigh for ByValueRef {

@@ -23,7 +23,7 @@ pub(crate) fn body_in<'t>(text: &'t str, found: &Found) -> &'t str
     &text[found.body.at..found.body.end]
 }
 
-/// What stands behind the literal proper that was found in the text.
+/// What stands after the literal proper that was found in the text.
 pub(crate) fn suffix_in<'t>(text: &'t str, found: &Found) -> &'t str
     requires { IsFound text.now found.now }
     ensures { HasSuffix found.now.kind (chars text.now) (chars result.now) }

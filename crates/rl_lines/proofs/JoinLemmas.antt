@@ -12,19 +12,19 @@ joins_append IsPiece (x ∷ xs) ys s t (first, rest, p, h, e) k = (first, rest +
 pub joins_one : {A : Type 0} (IsPiece : A → List ℕ → Type 0) (x : A) (t : List ℕ) → IsPiece x t → Joins IsPiece (x ∷ []) t
 joins_one IsPiece x t p = (t, [], p, refl, sym (append-nil t))
 
--- nothing more behind what stood there
+-- nothing more after what stood there
 pub appends_none : (old : List ℕ) → Appends (λ piece. piece ≡ []) old old
 appends_none old = ([], refl, sym (append-nil old))
 
--- one piece more behind pieces that were appended
+-- one piece more after pieces that were appended
 pub appends_more : {A : Type 0} (IsPiece : A → List ℕ → Type 0) (xs : List A) (x : A) (a b c : List ℕ) → Appends (Joins IsPiece xs) a b → Appends (IsPiece x) b c → Appends (Joins IsPiece (xs ++ (x ∷ []))) a c
 appends_more IsPiece xs x a b c (s, h, e) (t, p, d) =
     (s ++ t, joins_append IsPiece xs (x ∷ []) s t h (joins_one IsPiece x t p), d ∙ ap (λ z. z ++ t) e ∙ append_assoc a s t)
 
--- one piece more behind pieces
+-- one piece more after pieces
 pub joins_more : {A : Type 0} (IsPiece : A → List ℕ → Type 0) (xs : List A) (x : A) (b c : List ℕ) → Joins IsPiece xs b → Appends (IsPiece x) b c → Joins IsPiece (xs ++ (x ∷ [])) c
 joins_more IsPiece xs x b c h (t, p, d) = subst (Joins IsPiece (xs ++ (x ∷ []))) (sym d) (joins_append IsPiece xs (x ∷ []) b t h (joins_one IsPiece x t p))
 
--- a piece behind nothing
+-- a piece after nothing
 pub appends_to_none : (IsPiece : List ℕ → Type 0) (old new : List ℕ) → old ≡ [] → Appends IsPiece old new → IsPiece new
 appends_to_none IsPiece old new o (t, p, e) = subst IsPiece (sym (e ∙ ap (λ z. z ++ t) o)) p

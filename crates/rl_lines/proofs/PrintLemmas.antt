@@ -47,6 +47,6 @@ prints_float text old new shown suffix d s h =
     let one = float_once text d.0 s.0 d.1 suffix d.2 s.1 in
     (literal_line Float (Digits (float_digits s.0)) suffix, (s.0, suffix, s.1, refl), h ∙ ap (λ z. old ++ line (kind_label Float) z suffix) (d.3 ∙ ap float_digits one.0))
 
--- an equation's right side behind what stood there
+-- an equation's right side after what stood there
 pub appends_is : (line old new : List ℕ) → new ≡ old ++ line → Appends (λ piece. piece ≡ line) old new
 appends_is line old new e = (line, refl, e)

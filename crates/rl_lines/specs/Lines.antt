@@ -122,6 +122,6 @@ IsLineOfLit (Verbatim l) shown = shown ≡ verbatim_line (chars l.text)
 abbrev pub AreLinesOfLits : {A : Type 0} → List (Lit A) → List ℕ → Type 0
 AreLinesOfLits literals shown = Joins IsLineOfLit literals shown
 
--- such a piece stands behind what stood there
+-- such a piece stands after what stood there
 abbrev pub Appends : (List ℕ → Type 0) → List ℕ → List ℕ → Type 0
 Appends IsPiece old new = (piece : List ℕ) × IsPiece piece × (new ≡ old ++ piece)

@@ -1,4 +1,4 @@
--- How a refusal is told.
+-- How an error is reported.
 use Rattle.std.specs.Prelude.{ℕ, List, ◌++◌, codes}
 use Rattle.std.specs.Fmt.{decimal}
 use Rattle.rl_tokens.specs.declared.error.Error.{Error}

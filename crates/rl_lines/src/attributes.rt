@@ -28,7 +28,7 @@ fn push_entry<A: Allocator + Copy>(
 ///
 /// # Errors
 ///
-/// Memory that was refused.
+/// An allocation failure.
 pub fn entry_lines<A: Allocator + Copy>(
     alloc: A,
     entries: &[Entry<A>],

@@ -26,7 +26,7 @@ fn byte_of(high: u8, low: u8) -> Option<u8>
     u8::try_from(16 * high + low).ok()
 }
 
-/// The first two bytes, and those behind them.
+/// The first two bytes, and those after them.
 fn split_pair(bytes: &[u8]) -> Option<(u8, u8, &[u8])>
     ensures some { IfSome result (λ p. bytes.now ≡ p.0 ∷ p.1 ∷ p.2.now) }
     ensures none { IfNone result (length bytes.now < 2) }
@@ -40,7 +40,7 @@ fn split_pair(bytes: &[u8]) -> Option<(u8, u8, &[u8])>
 ///
 /// # Errors
 ///
-/// Running out of memory, as std tells it, with no place.
+/// An allocation failure, as std tells it, with no place.
 pub fn decoded<A: Allocator>(alloc: A, digits: &[u8]) -> Result<Option<Vec<u8, A>>, AllocError>
     ensures { IfOk result (λ bytes. bytes_if_any bytes ≡ bytes_of digits.now) }
 {

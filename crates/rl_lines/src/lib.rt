@@ -1,4 +1,4 @@
-//! What the programs print: literals as lines (kind, contents as they are written, and suffix), attributes as lines, and refusals; and what
+//! What the programs print: literals as lines (kind, contents as they are written, and suffix), attributes as lines, and errors; and what
 //! those for development read, bytes as hexadecimal digits.
 #![tactic(auto)]
 

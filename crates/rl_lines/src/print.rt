@@ -266,11 +266,11 @@ pub fn push_literal<A: Allocator + Copy>(
     }
 }
 
-/// Writes the lines of the literals at the end. Where memory is refused, some of them may stand there.
+/// Writes the lines of the literals at the end. Where an allocation fails, some of them may stand there.
 ///
 /// # Errors
 ///
-/// Running out of memory, as std tells it. Some of the lines may stand there then.
+/// An allocation failure, as std tells it. Some of the lines may stand there then.
 pub fn push_literals<A: Allocator + Copy>(
     alloc: A,
     out: &mut String<A>,
@@ -285,11 +285,11 @@ pub fn push_literals<A: Allocator + Copy>(
     Ok(())
 }
 
-/// The line of a literal: its kind, its contents as they are written, and its suffix, with LF behind it.
+/// The line of a literal: its kind, its contents as they are written, and its suffix, with LF after it.
 ///
 /// # Errors
 ///
-/// Running out of memory, as std tells it, with no place.
+/// An allocation failure, as std tells it, with no place.
 pub fn line_of<A: Allocator + Copy>(alloc: A, literal: &Lit<A>) -> Result<String<A>, AllocError>
     ensures { IfOk result (λ line. IsLineOfLit literal.now (chars (string_bytes line))) }
 {
@@ -302,7 +302,7 @@ pub fn line_of<A: Allocator + Copy>(alloc: A, literal: &Lit<A>) -> Result<String
 ///
 /// # Errors
 ///
-/// Running out of memory, as std tells it, with no place.
+/// An allocation failure, as std tells it, with no place.
 pub fn lines_of<A: Allocator + Copy>(alloc: A, literals: &[Lit<A>]) -> Result<String<A>, AllocError>
     ensures { IfOk result (λ lines. AreLinesOfLits literals.now (chars (string_bytes lines))) }
 {

@@ -1,10 +1,10 @@
-//! The line of a refusal.
+//! The line of an error.
 
 use rl_tokens::Error;
 use std::alloc::{Allocator, Global};
 use std::fmt;
 
-/// A refusal that is lent, to be displayed as the programs tell it: its place in bytes, and its message.
+/// A borrowed error, to be displayed as the programs tell it: its place in bytes, and its message.
 #[derive(Drop)]
 pub struct Refusal<'a, A: Allocator = Global>(pub &'a Error<A>);
 

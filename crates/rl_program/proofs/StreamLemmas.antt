@@ -31,7 +31,7 @@ written_all a b all rest w e =
     let same : all ≡ w.front = w.all_is ∙ ap (λ z. w.front ++ z) e ∙ append-nil w.front in
     rw same w.appends
 
--- a beginning, where the write behind them failed
+-- a beginning, where the write after them failed
 pub written_beginning : (a b c : Option (List ℕ)) (all rest : List ℕ) → IsWritten a b all rest → Keeps b c → AppendsBeginning a c all
 written_beginning a b c all rest w k =
     let front : take (length w.front) all ≡ w.front = ap (take (length w.front)) w.all_is ∙ take-append_seam w.front rest in
@@ -43,7 +43,7 @@ none_kept None b bytes n e h = tt
 none_kept (Some xs) None bytes n e h = h
 none_kept (Some xs) (Some ys) bytes n e h = h ∙ ap (λ z. xs ++ take z bytes) e ∙ append-nil xs
 
--- a slice up to the end is what is behind its start
+-- a slice up to the end is what is after its start
 pub slice_rest : (n : ℕ) (xs : List ℕ) → xs ≡ take n xs ++ take (length xs - n) (drop n xs)
 slice_rest n xs =
     let all : take (length xs - n) (drop n xs) ≡ drop n xs = take_all (length xs - n) (drop n xs) (omega (arith, length-drop n xs)) in

@@ -48,7 +48,7 @@ impl<A: Allocator> From<AllocError> for Fault<A> {
     }
 }
 
-/// The line that a program reports the fault by, with places in bytes.
+/// The line that a program reports the error by, with places in bytes.
 impl<A: Allocator> fmt::Display for Fault<A> {
     ghost output = { λ fault. Some (fault_line fault) };
 

@@ -1,4 +1,4 @@
--- Parsing inside a literal, and a literal with nothing behind its closing quote.
+-- Parsing inside a literal, and a literal with nothing after its closing quote.
 use Rattle.std.proofs.Common.{◌≡◌, ◌≢◌, ◌⊎◌, inl, inr, ◌==◌, ℕ, true, List, [], length, subst, ap, ◌∙◌, arith}
 use Rattle.std.specs.Prelude.{Result, Ok, Err}
 use Rattle.std.proofs.lemmas.Bool.Decides.{nat_tests}

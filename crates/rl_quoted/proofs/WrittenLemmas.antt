@@ -173,7 +173,7 @@ between kind t v e body u ends =
       };
     }
 
--- ---- what is told
+-- ---- what is reported
 
 -- the opener and the quote are within what is written
 pub written_long : (kind : Kind) (t bytes : List ℕ) → IsUtf8 t → is_quoted kind ≡ true → IsWrittenAs kind bytes (chars t) → length (opener kind) + 1 ≤ length t

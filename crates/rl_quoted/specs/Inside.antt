@@ -37,8 +37,8 @@ pub record IsParsedInside {T E : Type 0} (runs : List Tree → Span → Result T
   pub ran : RunsInside runs token (Ok value) []
   pub no_suffix : HasSuffix Str (chars token.text) []
 
--- The text that the string stands for can't be cut: the refusal is its first fault, or running out
--- of memory, at the literal.
+-- The text that the string stands for can't be cut: the error is its first error, or an
+-- allocation failure, at the literal.
 pub record RefusesLexingInside {A : Type 0} (token : SpannedText) (e : Error A) : Type 0 where
   pub value : List ℕ
   pub contents : HasContents Str (chars token.text) (Characters value)
@@ -47,7 +47,7 @@ pub record RefusesLexingInside {A : Type 0} (token : SpannedText) (e : Error A) 
   pub refused : Refuses value kind at
   pub error : e ≡ lex_refusal kind token.span
 
--- The refusal is the parser's own.
+-- The error is the parser's own.
 pub record IsOwnRefusal {T E : Type 0} (runs : List Tree → Span → Result T E → List Tree → Type 0)
     (token : SpannedText) (e : E) : Type 0 where
   pub rest : List Tree
@@ -63,13 +63,13 @@ pub record LeavesTreesInside {T A : Type 0}
   pub some : rest ≢ []
   pub error : e ≡ record { span = token.span; kind = Unexpected }
 
--- the refusal is a suffix: that of the text, which isn't empty
+-- the error is a suffix: that of the text, which isn't empty
 abbrev pub TellsSuffix : {A : Type 0} → List ℕ → ErrorKind A → Type 0
 TellsSuffix text (Suffix suffix) =
     HasSuffix Str text (chars (string_bytes suffix)) × (string_bytes suffix ≢ [])
 TellsSuffix text _ = ⊥
 
--- The literal has a suffix, which is the refusal.
+-- The literal has a suffix, which is the error.
 pub record IsSuffixed {A : Type 0} (token : SpannedText) (e : Error A) : Type 0 where
   pub span : e.span ≡ token.span
   pub suffix : TellsSuffix (chars token.text) e.kind
@@ -82,8 +82,8 @@ pub record LeavesSuffix {T A : Type 0}
   pub ran : RunsInside runs token (Ok value) []
   pub suffixed : IsSuffixed token e
 
--- Why nothing is parsed, in the order in which it is told: a fault of the text, the parser's own
--- refusal, trees that are left over, a suffix; or running out of memory, at the literal.
+-- Why nothing is parsed, in the order in which it is reported: an error of the text, the parser's own
+-- error, trees that are left over, a suffix; or an allocation failure, at the literal.
 abbrev pub RefusesInside : {T A : Type 0}
     → (List Tree → Span → Result T (Error A) → List Tree → Type 0) → SpannedText → Error A → Type 0
 RefusesInside runs token e =

@@ -9,7 +9,7 @@ use Rattle.rl_grammar.specs.Decoded.{in_bytes}
 use Rattle.rl_grammar.specs.Founds.{IsQuotedAt, StandsIn, is_quoted, suffix_in}
 use Rattle.rl_grammar.specs.WholeShapes.{IsPlain}
 
--- The text, in bytes, is a literal of the kind whose parts stand at these places, and it is told
+-- The text, in bytes, is a literal of the kind whose parts stand at these places, and it is reported
 -- whether it is plain.
 pub record StandsAt (kind : Kind) (text : List ℕ) (body : Body) : Type 0 where
   pub reads : HasSuffix kind (chars text) (chars (suffix_in text body))

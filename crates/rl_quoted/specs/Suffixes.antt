@@ -3,7 +3,7 @@ use Rattle.std.specs.Prelude.{◌≢◌, ℕ, List, []}
 use Rattle.rl_tokens.specs.declared.kind.Kind.{Kind}
 use Rattle.rl_tokens.specs.Reading.{HasSuffix}
 
--- A suffix stands behind the literal.
+-- A suffix stands after the literal.
 pub record HasSomeSuffix (kind : Kind) (text : List ℕ) : Type 0 where
   pub suffix : List ℕ
   pub has : HasSuffix kind text suffix

@@ -95,7 +95,7 @@ impl<A: Allocator> LitStr<A> {
     ///
     /// In this order: the lexer's, as `Lex`; the parser's own; `Unexpected` where trees are left
     /// over; `Suffix` where the literal has one. All but the parser's own are reported at the
-    /// literal's span, and so is running out of memory.
+    /// literal's span, and so is an allocation failure.
     ///
     /// # Example
     ///

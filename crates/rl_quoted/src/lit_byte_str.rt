@@ -77,7 +77,7 @@ impl<A: Allocator> LitByteStr<A> {
         }
     }
 
-    /// The bytes that the literal stands for, lent: `None` where they aren't what stands between
+    /// The bytes that the literal stands for, borrowed: `None` where they aren't what stands between
     /// the quotes, byte for byte, that is where an escape or a line end of two characters stands
     /// there, and the string isn't raw. No memory is taken.
     ///

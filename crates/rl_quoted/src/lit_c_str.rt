@@ -77,7 +77,7 @@ impl<A: Allocator> LitCStr<A> {
         }
     }
 
-    /// The bytes that the literal stands for, lent: `None` where they aren't what stands between the quotes, that is
+    /// The bytes that the literal stands for, borrowed: `None` where they aren't what stands between the quotes, that is
     /// where an escape or a line end of two characters stands there, and the string isn't raw.
     pub fn value_ref(&self) -> Option<&[u8]>
         ensures some { IfSome result (λ v. HasContents CStr (chars self.now.text) (Bytes v.now)) }

@@ -26,7 +26,7 @@ impl QuotedKind for StrKind {
 ///
 /// # Example
 ///
-/// What it stands for, lent where it can be:
+/// What it stands for, borrowed where it can be:
 ///
 /// ```
 /// if let Some(value) = string.value_ref() {
@@ -87,7 +87,7 @@ impl<A: Allocator> LitStr<A> {
         }
     }
 
-    /// The text that the literal stands for, lent: `None` where it isn't what stands between the
+    /// The text that the literal stands for, borrowed: `None` where it isn't what stands between the
     /// quotes, byte for byte, that is where an escape or a line end of two characters stands there,
     /// and the string isn't raw. No memory is taken.
     ///

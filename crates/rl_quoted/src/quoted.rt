@@ -126,14 +126,14 @@ impl<K: QuotedKind, A: Allocator> Quoted<K, A> {
         &self.token.text()[body.at..body.end]
     }
 
-    /// What stands behind the closing quote, lent: empty, or any text.
+    /// What stands after the closing quote, borrowed: empty, or any text.
     pub fn suffix(&self) -> &str
         ensures { HasSuffix K.KIND (chars self.now.text) (chars result.now) }
     {
         &self.token.text()[self.body.suffix_at..]
     }
 
-    /// Whether anything stands behind the closing quote.
+    /// Whether anything stands after the closing quote.
     pub fn has_suffix(&self) -> bool
         ensures { MatchBool result (HasSomeSuffix K.KIND (chars self.now.text))
             (HasSuffix K.KIND (chars self.now.text) []) }
@@ -194,7 +194,7 @@ impl<K: QuotedKind, A: Allocator> Quoted<K, A> {
     }
 }
 
-/// Takes the literal of the kind that stands next. It is refused as [`take_kind`] says.
+/// Takes the literal of the kind that stands next. It is rejected as [`take_kind`] says.
 impl<K: QuotedKind, A: Allocator> Parse<A> for Quoted<K, A> {
     ghost use Rattle.rl_grammar.specs.Fronts.{RunsAs};
     ghost use Rattle.rl_tokens.specs.Words.{kind_word};

@@ -26,7 +26,7 @@ fn is_whole(kind: Kind, body: &[u8], value: &[u8]) -> bool
     kind.is_string() && body == value
 }
 
-/// The places of the parts of a text that the value with these bytes is written as: no suffix stands behind the closing
+/// The places of the parts of a text that the value with these bytes is written as: no suffix stands after the closing
 /// quote, and the body is the value where nothing had to be escaped.
 pub(crate) fn written_body(kind: Kind, text: &str, value: &[u8]) -> Body
     requires quoted { IsTrue (is_quoted kind) }

@@ -19,7 +19,7 @@ pub enum Shown<'a> {
 pub struct Options<'a> {
     /// Which literals are shown.
     pub shown: Shown<'a>,
-    /// Whether places are told as lines and columns, and not as bytes.
+    /// Whether places are printed as lines and columns, and not as bytes.
     pub by_line: bool,
     /// Whether a stray character is an error, as it is in Rust.
     pub rejects_strays: bool,

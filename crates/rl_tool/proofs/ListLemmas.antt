@@ -19,7 +19,7 @@ use Rattle.rl_program.specs.declared.fault.Fault.TheVariants.{Read as ReadFault,
 use Rattle.rl_tool.specs.Runs.{Shows, TellsLiteral, IsRefusalOf}
 use Rattle.rl_tool.specs.Lists.{Lengthens, HasFirst}
 
--- lines behind lines
+-- lines after lines
 pub lengthened : {A : Type 0} (lines longer : Option (String A)) (xs ys : List (Lit A)) → IfSome lines (λ l. AreLinesOfLits xs (chars (string_bytes l))) → IfSome longer (Lengthens lines ys) → IfSome longer (λ l. AreLinesOfLits (xs ++ ys) (chars (string_bytes l)))
 lengthened lines None xs ys h k = tt
 lengthened None (Some longer) xs ys h k = absurd k
@@ -47,7 +47,7 @@ first_more text old new lines longer count none one same nothing has adds pushed
       lines_are = lengthened lines longer has.list (lit ∷ []) has.lines_are (subst (λ ls. IfSome longer (Lengthens lines ls)) one_is pushed);
     }
 
--- the answer where the text is a list: its lines, or running out of memory for them
+-- the answer where the text is a list: its lines, or an allocation failure for them
 pub record Answers {A : Type 0} (text : List ℕ) (r : Result (String A) (Fault A)) : Type 0 where
   pub lines : IfOk r (λ lines. Shows Read (chars text) (chars (string_bytes lines)))
   pub refusal : IfErr r (IsRefusalOf Read text)
@@ -64,7 +64,7 @@ first_whole text rest lines count r has ends is =
 pub are_first : {A : Type 0} (text rest : List ℕ) (lines : Option (String A)) (count : ℕ) (has : HasFirst text rest lines count) → AreFirst (chars text) 0 count has.list
 are_first text rest lines count has = record { begun = record { rest = chars rest; read = has.read }; count_is = has.count_is }
 
--- the refusal of the literals behind
+-- the error of the literals after
 pub told_refusal : {A : Type 0} (text : List ℕ) (fault : Fault A) → IsUtf8 text → TellsLiteral (RefusesText (chars text) 0 (length text)) fault → IsRefusalOf Read text fault
 told_refusal text (Literal error) utf8 h = (utf8, h)
 told_refusal text ReadFault utf8 h = absurd h

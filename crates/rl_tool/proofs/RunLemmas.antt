@@ -16,7 +16,7 @@ known : (P : List ℕ → Type 0) (input : Option (List ℕ)) (bytes : List ℕ)
 known P None bytes e p = tt
 known P (Some all) bytes e p = subst P e p
 
--- a refused input writes nothing
+-- an input that is rejected writes nothing
 pub refusal_fault : {A : Type 0} (command : Command) (input old : Option (List ℕ)) (bytes : List ℕ) (fault : Fault A) → IfSome input (λ all. bytes ≡ all) → IsRefusalOf command bytes fault → IsFaultOf command input old old fault
 refusal_fault command input old bytes NotText e r = (Keeps-refl old, known (λ b. IsUtf8 b → ⊥) input bytes e r)
 refusal_fault command input old bytes Memory e r = Keeps-refl old

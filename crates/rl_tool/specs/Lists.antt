@@ -6,7 +6,7 @@ use Rattle.rust_literals.specs.Flat.{AreReadUpTo}
 use Rattle.rl_lines.specs.Lines.{AreLinesOfLits, Appends}
 use Rattle.rl_tool.specs.declared.list.FirstLines.{FirstLines}
 
--- the lines of these literals stand behind the lines
+-- the lines of these literals stand after the lines
 abbrev pub Lengthens : {A : Type 0} → Option (String A) → List (Lit A) → String A → Type 0
 Lengthens None literals longer = ⊥
 Lengthens (Some lines) literals longer =
@@ -21,7 +21,7 @@ pub record HasFirst {A : Type 0} (text rest : List ℕ) (lines : Option (String 
   pub count_is : length list ≡ count
   pub lines_are : IfSome lines (λ l. AreLinesOfLits list (chars (string_bytes l)))
 
--- The text begins with the literals of these lines; nothing stands behind them where it is said
+-- The text begins with the literals of these lines; nothing stands after them where it is said
 -- that they are the whole.
 pub record AreFirstLines {A : Type 0} (text : List ℕ) (first : FirstLines A) : Type 0 where
   pub rest : List ℕ

@@ -41,12 +41,12 @@ PrintsBeginning command bytes old new =
 abbrev pub whole_token : List ℕ → SpannedText
 whole_token bytes = record { text = bytes; span = record { file = 0; lo = 0; hi = length bytes } }
 
--- the fault is a literal's, and this is its error
+-- the error is a literal's, and this is its error
 abbrev pub TellsLiteral : {A : Type 0} → (Error A → Type 0) → Fault A → Type 0
 TellsLiteral refuses (Literal error) = refuses error
 TellsLiteral refuses _ = ⊥
 
--- what the call that reads the literals refuses of a text: running out of memory for a number's
+-- what the call that reads the literals rejects of a text: an allocation failure for a number's
 -- digits, or as `read_all` or `attr::read` does
 abbrev pub RefusesAsCommand : {A : Type 0} → Command → List ℕ → Error A → Type 0
 RefusesAsCommand Text bytes error =
@@ -55,13 +55,13 @@ RefusesAsCommand ReadCommand bytes error = RefusesText (chars bytes) 0 (length b
 RefusesAsCommand Attr bytes error = RefusesAttributeText (chars bytes) 0 (length bytes) error
 
 -- where memory may be wanted that is no literal's: under `text` for the token or its line, under
--- `read` and `attr` for the lines alone, behind literals or attributes that were read
+-- `read` and `attr` for the lines alone, after literals or attributes that were read
 abbrev pub MayWantMemory : Type 0 → Command → List ℕ → Type 0
 MayWantMemory A Text bytes = ⊤
 MayWantMemory A ReadCommand bytes = (list : List (Lit A)) × AreRead (chars bytes) 0 list
 MayWantMemory A Attr bytes = (list : List Attribute) × AreAttributesOf (chars bytes) 0 list
 
--- why the whole input was refused: it is no text, its literals were refused, or memory was,
+-- why the whole input was rejected: it is no text, its literals were rejected, an allocation failed,
 -- elsewhere
 abbrev pub IsRefusalOf : {A : Type 0} → Command → List ℕ → Fault A → Type 0
 IsRefusalOf command bytes NotText = IsUtf8 bytes → ⊥

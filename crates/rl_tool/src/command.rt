@@ -31,7 +31,7 @@ impl Command {
         }
     }
 
-    /// The command that the program's arguments ask for: behind the program's own name stands the command's, and
+    /// The command that the program's arguments ask for: after the program's own name stands the command's, and
     /// nothing else.
     pub fn asked_by<A: Allocator>(args: &[String<A>]) -> Option<Command>
         ensures asked { IfSome result (AskFor args.now) }

@@ -23,7 +23,7 @@ pub enum Ending<A: Allocator = Global> {
 
 impl<A: Allocator> Ending<A> {
     /// The status that the program ends with: 0 where all lines were written, 2 where the arguments ask for no command,
-    /// else the fault's.
+    /// else that of the error.
     pub fn status(&self) -> u8
         ensures { result ≡ status_of self.now }
     {
@@ -35,7 +35,7 @@ impl<A: Allocator> Ending<A> {
     }
 }
 
-/// The line that the program tells on standard error: how it is used, or the fault's; none where all was written.
+/// The line that the program tells on standard error: how it is used, or the error; none where all was written.
 impl<A: Allocator> fmt::Display for Ending<A> {
     ghost output = { λ ending. Some (ending_line ending) };
 

@@ -15,8 +15,8 @@ use rl_tokens::Tokens;
 use rust_literals::{Lit, read_behind, read_next};
 use std::alloc::Allocator;
 
-/// The first literals of a text: their lines, unless memory was refused for one; how many they are; whether nothing
-/// stands behind them.
+/// The first literals of a text: their lines, unless an allocation failed for one; how many they are; whether nothing
+/// stands after them.
 #[derive(Drop)]
 struct FirstLines<A: Allocator> {
     lines: Option<String<A>>,
@@ -24,7 +24,7 @@ struct FirstLines<A: Allocator> {
     whole: bool,
 }
 
-/// The lines, and behind them those of these literals. `None` where memory is refused, or was before.
+/// The lines, and after them those of these literals. `None` where an allocation fails, or was before.
 fn with_lines<A: Allocator + Copy>(
     alloc: A,
     lines: Option<String<A>>,
@@ -39,7 +39,7 @@ fn with_lines<A: Allocator + Copy>(
     }
 }
 
-/// The lines of a text's literals, up to what is none, or for which memory is refused.
+/// The lines of a text's literals, up to what is none, or for which an allocation fails.
 fn first_lines<A: Allocator + Copy>(alloc: A, text: &str) -> FirstLines<A>
     ensures { AreFirstLines text.now result }
 {
@@ -66,7 +66,7 @@ fn first_lines<A: Allocator + Copy>(alloc: A, text: &str) -> FirstLines<A>
     }
 }
 
-/// The literals behind the first ones. Running out of memory is the literals'.
+/// The literals after the first ones. An allocation failure is the literals'.
 fn literals_behind<A: Allocator + Copy>(
     alloc: A,
     text: &str,

@@ -32,7 +32,7 @@ fn token_of<A: Allocator + Copy>(alloc: A, bytes: Vec<u8, A>) -> Result<Literal<
     }
 }
 
-/// The literal that a token is. Running out of memory is the literal's.
+/// The literal that a token is. An allocation failure is the literal's.
 fn literal_of<A: Allocator + Copy>(alloc: A, token: Literal<A>) -> Result<Lit<A>, Fault<A>>
     ensures reads { IfOk result (IsReadFrom token) }
     ensures refusal { IfErr result
@@ -77,9 +77,9 @@ fn lines_of_input<A: Allocator + Copy>(
 
 /// Reads the whole input, and writes the lines of its literals or attributes.
 ///
-/// All lines are made before the first is written, so a refusal writes nothing; a write that fails leaves a beginning
+/// All lines are made before the first is written, so an error writes nothing; a write that fails leaves a beginning
 /// of the lines' bytes written. `NotText` comes exactly where the input was read whole and isn't UTF-8. `Literal` has
-/// the refusal of `Lit::new`, `read_all` or `attr::read`, and `Memory` is told of every other growth that was refused.
+/// the error of `Lit::new`, `read_all` or `attr::read`, and `Memory` is reported of every other growth that failed.
 /// `Read` and `Write` come where a call of the reader or the writer failed, or where 4,294,967,295 turns of reading
 /// brought no end.
 pub fn run<A: Allocator + Copy, R: Read, W: Write>(

@@ -1,4 +1,4 @@
-//! Calls of the program over texts in memory: statuses, what is written, and what is told.
+//! Calls of the program over texts in memory: statuses, what is written, and what is reported.
 
 mod attributes;
 mod failing;
@@ -13,7 +13,7 @@ use std::alloc::Global;
 use std::io::{self, Read};
 use std::test::Fail;
 
-/// What a call writes, and behind it its status and the line that it tells. A LF parts the arguments, of which the
+/// What a call writes, and after it its status and the line that it tells. A LF parts the arguments, of which the
 /// program's name is the first.
 fn called(alloc: Global, words: &str, mut input: &[u8]) -> Result<String, Fail> {
     let mut args = Vec::new(alloc);

@@ -5,13 +5,13 @@ use Rattle.rust_literals.specs.declared.lit.Lit.{Lit}
 use Rattle.rust_literals.specs.LitParts.{lit_span}
 use Rattle.rl_uses.specs.Lints.{TellsFault, AreFaults}
 
--- one literal more that is no fault
+-- one literal more that is no error
 pub faults_same : {A : Type 0} (ls : List (Lit A)) (l : Lit A) (spans : List Span) → AreFaults ls spans → TellsFault l false → AreFaults (ls ++ (l ∷ [])) spans
 faults_same [] l spans e t = inl (t, e)
 faults_same (x ∷ xs) l spans (inl (u, h)) t = inl (u, faults_same xs l spans h t)
 faults_same (x ∷ xs) l spans (inr (rest, u, e, h)) t = inr (rest, u, e, faults_same xs l rest h t)
 
--- one fault more
+-- one error more
 pub faults_more : {A : Type 0} (ls : List (Lit A)) (l : Lit A) (spans : List Span) → AreFaults ls spans → TellsFault l true → AreFaults (ls ++ (l ∷ [])) (spans ++ (lit_span l ∷ []))
 faults_more [] l spans e t = inr ([], t, ap (λ z. z ++ (lit_span l ∷ [])) e, refl)
 faults_more (x ∷ xs) l spans (inl (u, h)) t = inl (u, faults_more xs l spans h t)

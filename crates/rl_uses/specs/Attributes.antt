@@ -11,7 +11,7 @@ use Rattle.rl_tokens.specs.Buffers.{begins_ident, begins_mark, IsBehindMark, IsR
 use Rattle.rl_grammar.specs.Fronts.{IsFrontOf, RunsAs}
 use Rattle.rl_uses.specs.declared.attribute.Attribute.{Attribute}
 
--- The character `=` and a string literal begin the trees, and the rest stands behind them.
+-- The character `=` and a string literal begin the trees, and the rest stands after them.
 pub record IsAttributeValue (trees : List Tree) (value : SpannedText) (rest : List Tree)
     : Type 0 where
   pub behind : List Tree
@@ -24,7 +24,7 @@ pub record MissesValueEquals {A : Type 0} (trees : List Tree) (scope : Span) (e 
   pub none : IsFalse (begins_mark (code "=") trees)
   pub refusal : IsRefusal trees scope (codes "`=`") e
 
--- The parser of string literals refuses what stands behind the `=`.
+-- The parser of string literals rejects what stands after the `=`.
 pub record MissesString {A : Type 0} (trees : List Tree) (scope : Span) (e : Error A) : Type 0 where
   pub behind : List Tree
   pub after : List Tree
@@ -35,7 +35,7 @@ pub record MissesString {A : Type 0} (trees : List Tree) (scope : Span) (e : Err
 pub record RefusesValue {A : Type 0} (trees : List Tree) (scope : Span) (e : Error A) : Type 0 where
   pub why : MissesValueEquals trees scope e ⊎ MissesString trees scope e
 
--- An identifier, the character `=` and a string literal begin the trees, and the rest stands behind
+-- An identifier, the character `=` and a string literal begin the trees, and the rest stands after
 -- them.
 pub record IsStringAttribute (trees : List Tree) (name value : SpannedText) (rest : List Tree)
     : Type 0 where
@@ -49,27 +49,27 @@ pub record MissesAttributeName {A : Type 0} (trees : List Tree) (scope : Span) (
   pub none : IsFalse (begins_ident trees)
   pub refusal : IsRefusal trees scope (codes "identifier") e
 
--- An identifier begins the trees, and memory was refused for it.
+-- An identifier begins the trees, and an allocation failed for it.
 pub record LacksMemoryForIdentifier {A : Type 0} (trees : List Tree) (e : Error A) : Type 0 where
   pub name : SpannedText
   pub behind : List Tree
   pub named : trees ≡ IdentTree name ∷ behind
   pub error : e ≡ memory_at name.span
 
--- An identifier begins the trees, and no value stands behind it.
+-- An identifier begins the trees, and no value stands after it.
 pub record MissesValue {A : Type 0} (trees : List Tree) (scope : Span) (e : Error A) : Type 0 where
   pub name : SpannedText
   pub behind : List Tree
   pub named : trees ≡ IdentTree name ∷ behind
   pub refused : RefusesValue behind scope e
 
--- No attribute begins the trees: the first part that is missed, or running out of memory.
+-- No attribute begins the trees: the first part that is missed, or an allocation failure.
 pub record RefusesAttribute {A : Type 0} (trees : List Tree) (scope : Span) (e : Error A)
     : Type 0 where
   pub why : MissesAttributeName trees scope e ⊎ LacksMemoryForIdentifier trees e
       ⊎ MissesValue trees scope e
 
--- what the parser of attributes does; a refusal leaves the trees
+-- what the parser of attributes does; an error leaves the trees
 abbrev pub RunsAttribute : {A : Type 0} → List Tree → Span → Result (Attribute A) (Error A)
     → List Tree → Type 0
 RunsAttribute trees scope (Ok attribute) rest =

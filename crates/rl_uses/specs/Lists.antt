@@ -13,23 +13,23 @@ use Rattle.rl_uses.specs.declared.list.Item.{Item}
 use Rattle.rl_uses.specs.declared.list.Item.TheVariants.{Int, Str}
 use Rattle.rl_uses.specs.declared.list.ItemList.{ItemList}
 
--- the literal of the item begins the trees, and the rest stands behind it
+-- the literal of the item begins the trees, and the rest stands after it
 abbrev pub IsItemLiteral : {A : Type 0} → List Tree → Item A → List Tree → Type 0
 IsItemLiteral trees (Int literal) rest = IsFrontOf IntKind trees literal rest
 IsItemLiteral trees (Str literal) rest = IsFrontOf StrKind trees literal rest
 
--- The item begins the trees, and the rest stands behind it; the rest is shorter.
+-- The item begins the trees, and the rest stands after it; the rest is shorter.
 pub record IsItem {A : Type 0} (trees : List Tree) (item : Item A) (rest : List Tree) : Type 0 where
   pub literal : IsItemLiteral trees item rest
   pub shorter : length rest < length trees
 
--- Neither an integer nor a string begins the trees: this is told there, with the words of both.
+-- Neither an integer nor a string begins the trees: this is reported there, with the words of both.
 pub record MissesItem {A : Type 0} (trees : List Tree) (scope : Span) (e : Error A) : Type 0 where
   pub no_integer : HasFrontOf IntKind trees → ⊥
   pub no_string : HasFrontOf StrKind trees → ⊥
   pub refusal : IsRefusal trees scope (codes "integer literal or string literal") e
 
--- An integer or a string begins the trees, and memory was refused for it.
+-- An integer or a string begins the trees, and an allocation failed for it.
 pub record LacksMemoryForItem {A : Type 0} (trees : List Tree) (scope : Span) (e : Error A)
     : Type 0 where
   pub some : HasFrontOf IntKind trees ⊎ HasFrontOf StrKind trees
@@ -39,20 +39,20 @@ pub record LacksMemoryForItem {A : Type 0} (trees : List Tree) (scope : Span) (e
 pub record RefusesItem {A : Type 0} (trees : List Tree) (scope : Span) (e : Error A) : Type 0 where
   pub why : MissesItem trees scope e ⊎ LacksMemoryForItem trees scope e
 
--- what the parser of items does; a refusal leaves the trees
+-- what the parser of items does; an error leaves the trees
 abbrev pub RunsItem : {A : Type 0} → List Tree → Span → Result (Item A) (Error A) → List Tree
     → Type 0
 RunsItem trees scope (Ok item) rest = IsItem trees item rest
 RunsItem trees scope (Err e) rest = RefusesItem trees scope e × (rest ≡ trees)
 
--- The item begins the trees, and behind it stands a comma and the rest, or nothing.
+-- The item begins the trees, and after it stands a comma and the rest, or nothing.
 pub record IsListed {A : Type 0} (trees : List Tree) (item : Item A) (rest : List Tree)
     : Type 0 where
   pub behind : List Tree
   pub is : IsItem trees item behind
   pub comma : IsBehindMark (code ",") behind rest ⊎ ((behind ≡ []) × (rest ≡ []))
 
--- An item begins the trees, and something stands behind it that is no comma.
+-- An item begins the trees, and something stands after it that is no comma.
 pub record MissesItemComma {A : Type 0} (trees : List Tree) (scope : Span) (e : Error A)
     : Type 0 where
   pub item : Item A
@@ -62,12 +62,12 @@ pub record MissesItemComma {A : Type 0} (trees : List Tree) (scope : Span) (e : 
   pub none : IsFalse (begins_mark (code ",") behind)
   pub refusal : IsRefusal behind scope (codes "`,`") e
 
--- No item with a comma or the end behind it begins the trees.
+-- No item with a comma or the end after it begins the trees.
 pub record RefusesListed {A : Type 0} (trees : List Tree) (scope : Span) (e : Error A)
     : Type 0 where
   pub why : RefusesItem trees scope e ⊎ MissesItemComma trees scope e
 
--- these items begin the trees one after another, each as listed, and the rest stands behind them
+-- these items begin the trees one after another, each as listed, and the rest stands after them
 abbrev pub Lists : {A : Type 0} → List Tree → List (Item A) → List Tree → Type 0
 Lists trees [] rest = trees ≡ rest
 Lists trees (x ∷ xs) rest = (after : List Tree) × IsListed trees x after × Lists after xs rest
@@ -115,7 +115,7 @@ pub record MissesList {A : Type 0} (trees : List Tree) (scope : Span) (e : Error
   pub none : HasNoList trees
   pub refusal : IsRefusal trees scope (codes "square brackets") e
 
--- A group in square brackets begins the trees, and what is inside is refused; its end would be
+-- A group in square brackets begins the trees, and what is inside is rejected; its end would be
 -- reported at the closer.
 pub record RefusesInsideList {A : Type 0} (trees : List Tree) (e : Error A) : Type 0 where
   pub inside : List Tree
@@ -128,7 +128,7 @@ pub record RefusesInsideList {A : Type 0} (trees : List Tree) (e : Error A) : Ty
 abbrev pub RefusesList : {A : Type 0} → List Tree → Span → Error A → Type 0
 RefusesList trees scope e = MissesList trees scope e ⊎ RefusesInsideList trees e
 
--- what the parser of lists does; a refusal leaves the trees
+-- what the parser of lists does; an error leaves the trees
 abbrev pub RunsList : {A : Type 0} → List Tree → Span → Result (ItemList A) (Error A) → List Tree
     → Type 0
 RunsList trees scope (Ok list) rest = IsList trees list.items.items rest

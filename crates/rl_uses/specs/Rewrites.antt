@@ -19,12 +19,12 @@ pub record IsWrittenOf (kind : Kind) (old new : SpannedText) : Type 0 where
   pub written : IsWrittenForm kind value (chars new.text)
   pub span : new.span ≡ old.span
 
--- No suffix stands behind the old literal, and the new one is the written form of its value.
+-- No suffix stands after the old literal, and the new one is the written form of its value.
 pub record IsAnew (kind : Kind) (old new : SpannedText) : Type 0 where
   pub bare : HasSuffix kind (chars old.text) []
   pub written : IsWrittenOf kind old new
 
--- A suffix stands behind the old literal, and the new one is the same.
+-- A suffix stands after the old literal, and the new one is the same.
 pub record IsKept (kind : Kind) (old new : SpannedText) : Type 0 where
   pub suffix : HasSomeSuffix kind (chars old.text)
   pub same : new ≡ old
@@ -42,12 +42,12 @@ IsRewrite (Byte old) (Byte new) = IsQuotedRewrite ByteKind old new
 IsRewrite (Char old) (Char new) = IsQuotedRewrite CharKind old new
 IsRewrite old new = new ≡ old
 
--- the text of a literal's rewriting and LF, behind what was printed before
+-- the text of a literal's rewriting and LF, after what was printed before
 abbrev pub PrintsLine : {A : Type 0} → Lit A → List ℕ → List ℕ → Type 0
 PrintsLine {A} literal old new =
     (anew : Lit A) × IsRewrite literal anew × (new ≡ old ++ (text_of anew ++ (code "\n" ∷ [])))
 
--- The bytes are the texts of the literals' rewritings in order, LF behind each.
+-- The bytes are the texts of the literals' rewritings in order, LF after each.
 abbrev pub AreLines : {A : Type 0} → List (Lit A) → List ℕ → Type 0
 AreLines [] printed = printed ≡ []
 AreLines {A} (l ∷ ls) printed =

@@ -23,7 +23,7 @@ pub record IsSetTo {N E : Type 0} (gives : List ℕ → Result N E → Type 0) (
   pub one : IsOneInt text file literal
   pub made : IsMadeOf gives (AreBase10Digits Int literal.text) number
 
--- The text is one integer literal, and the number type refuses its digits: this is reported at the
+-- The text is one integer literal, and the number type rejects its digits: this is reported at the
 -- literal.
 pub record RefusesDigits {N E A : Type 0} (gives : List ℕ → Result N E → Type 0)
     (output : E → Option (List ℕ)) (text : List ℕ) (file : ℕ) (e : Error A) : Type 0 where
@@ -31,7 +31,7 @@ pub record RefusesDigits {N E A : Type 0} (gives : List ℕ → Result N E → T
   pub one : IsOneInt text file literal
   pub refused : IsRefusedBy gives output (AreBase10Digits Int literal.text) literal.span e
 
--- the text isn't one integer literal, or the number type refuses it
+-- the text isn't one integer literal, or the number type rejects it
 abbrev pub RefusesSetting : {N E A : Type 0} → (List ℕ → Result N E → Type 0)
     → (E → Option (List ℕ)) → List ℕ → ℕ → Error A → Type 0
 RefusesSetting gives output text file e =

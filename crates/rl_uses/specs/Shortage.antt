@@ -1,4 +1,4 @@
--- Running out of memory for the literals of a text. A text is its bytes here.
+-- An allocation failure for the literals of a text. A text is its bytes here.
 use Rattle.std.specs.Prelude.{◌≡◌, ◌⊎◌, ℕ, List, Any, length}
 use Rattle.std.specs.Str.{chars}
 use Rattle.rl_tokens.specs.declared.error.Error.{Error}
@@ -7,18 +7,18 @@ use Rattle.rust_literals.specs.declared.lit.Lit.{Lit}
 use Rattle.rust_literals.specs.LitParts.{lit_span}
 use Rattle.rust_literals.specs.Parsing.{AreRead, RefusesText}
 
--- memory was refused, and this is reported at one of the literals
+-- an allocation failed, and this is reported at one of the literals
 abbrev pub IsShortOf : {A B : Type 0} → List (Lit A) → Error B → Type 0
 IsShortOf list e = Any (λ literal. e ≡ memory_at (lit_span literal)) list
 
--- The text reads as literals, and memory was refused for one of them.
+-- The text reads as literals, and an allocation failed for one of them.
 pub record LacksMemoryForLiteral {A : Type 0} (text : List ℕ) (file : ℕ) (e : Error A)
     : Type 0 where
   pub list : List (Lit A)
   pub read : AreRead (chars text) file list
   pub short : IsShortOf list e
 
--- the refusal of `read_all`, or running out of memory behind it
+-- the error of `read_all`, or an allocation failure after it
 abbrev pub RefusesTextOrMemory : {A : Type 0} → List ℕ → ℕ → Error A → Type 0
 RefusesTextOrMemory text file e =
     RefusesText (chars text) file (length text) e ⊎ LacksMemoryForLiteral text file e

@@ -18,7 +18,7 @@ pub struct Attribute<A: Allocator = Global> {
     pub value: LitStr<A>,
 }
 
-/// Takes the character `=` and a string literal. A refusal may leave the buffer behind what was taken.
+/// Takes the character `=` and a string literal. An error may leave the buffer after what was taken.
 fn parse_value<A: Allocator>(
     alloc: A,
     input: &mut ParseBuffer<'_, A>,
@@ -32,7 +32,7 @@ fn parse_value<A: Allocator>(
     input.parse::<LitStr<A>>(alloc)
 }
 
-/// Takes an attribute. A refusal may leave the buffer behind what was taken.
+/// Takes an attribute. An error may leave the buffer after what was taken.
 fn parse_attribute<A: Allocator + Copy>(
     alloc: A,
     input: &mut ParseBuffer<'_, A>,
@@ -52,8 +52,8 @@ fn parse_attribute<A: Allocator + Copy>(
 }
 
 /// Takes an identifier, the character `=` and a string literal. The first of these that doesn't
-/// stand there is refused by its word: `identifier`, `` `=` `` or `string literal`. Running out of
-/// memory is reported where the token stands. A refusal leaves the buffer.
+/// stand there is rejected by its word: `identifier`, `` `=` `` or `string literal`. An allocation
+/// failure is reported where the token stands. An error leaves the buffer.
 impl<A: Allocator + Copy> Parse<A> for Attribute<A> {
     ghost use Rattle.rl_uses.specs.Attributes.{RunsAttribute};
 

@@ -37,8 +37,8 @@ fn tally<A: Allocator + Copy>(alloc: A, literals: Vec<Lit<A>, A>) -> Result<Coun
 ///
 /// # Errors
 ///
-/// What [`read_all`] refuses of the text, with the same error. `Memory` behind that at the literal
-/// that it was refused for.
+/// What [`read_all`] rejects of the text, with the same error. `Memory` after that at the literal
+/// whose allocation failed.
 pub fn count_literals<A: Allocator + Copy>(
     alloc: A,
     text: &str,
@@ -47,7 +47,7 @@ pub fn count_literals<A: Allocator + Copy>(
     // The text reads as literals. The map holds under each how often it stands there, and nothing else.
     ensures counts { IfOk result (λ counts. (list : List (Lit A))
         × AreRead (chars text.now) file list × AreCounts list counts) }
-    // What `read_all` refuses of the text, or memory was refused for one of its literals, which the
+    // What `read_all` rejects of the text, or an allocation failed for one of its literals, which the
     // error is reported at.
     ensures refused { IfErr result (RefusesTextOrMemory text.now file) }
 {

@@ -67,8 +67,8 @@ fn faults<A: Allocator + Copy>(alloc: A, literals: &[Lit<A>]) -> Result<Vec<Span
 ///
 /// # Errors
 ///
-/// What [`read_all`] refuses of the text, with the same error. `Memory` behind that at the literal
-/// that it was refused for.
+/// What [`read_all`] rejects of the text, with the same error. `Memory` after that at the literal
+/// whose allocation failed.
 pub fn control_strings<A: Allocator + Copy>(
     alloc: A,
     text: &str,
@@ -77,7 +77,7 @@ pub fn control_strings<A: Allocator + Copy>(
     // The text reads as literals, and these are the spans of the strings with control characters among them.
     ensures found { IfOk result (λ spans. (list : List (Lit A))
         × AreRead (chars text.now) file list × AreFaults list spans.items) }
-    // What `read_all` refuses of the text, or memory was refused for one of its literals, which the
+    // What `read_all` rejects of the text, or an allocation failed for one of its literals, which the
     // error is reported at.
     ensures refused { IfErr result (RefusesTextOrMemory text.now file) }
 {

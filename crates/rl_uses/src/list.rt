@@ -20,7 +20,7 @@ pub enum Item<A: Allocator = Global> {
     Str(LitStr<A>),
 }
 
-/// Takes the integer or string literal that stands next. Another token is refused with the words of both; a refusal
+/// Takes the integer or string literal that stands next. Another token is rejected with the words of both; an error
 /// leaves the buffer.
 impl<A: Allocator + Copy> Parse<A> for Item<A> {
     ghost use Rattle.rl_uses.specs.Lists.{RunsItem};
@@ -40,14 +40,14 @@ impl<A: Allocator + Copy> Parse<A> for Item<A> {
     }
 }
 
-/// A list in square brackets: `[1, "two", -3]`. A comma may stand behind the last item too.
+/// A list in square brackets: `[1, "two", -3]`. A comma may stand after the last item too.
 #[derive(Drop)]
 pub struct ItemList<A: Allocator = Global> {
     /// The items, in their order.
     pub items: Vec<Item<A>, A>,
 }
 
-/// Takes an item, and the comma behind it where anything stands there.
+/// Takes an item, and the comma after it where anything stands there.
 fn parse_listed<A: Allocator + Copy>(
     alloc: A,
     input: &mut ParseBuffer<'_, A>,
@@ -84,7 +84,7 @@ fn parse_items<A: Allocator + Copy>(
     Ok(items)
 }
 
-/// Takes a group in square brackets. Where none stands next, it is refused, and the buffer stays.
+/// Takes a group in square brackets. Where none stands next, it is rejected, and the buffer stays.
 fn take_brackets<'a, A: Allocator>(input: &mut ParseBuffer<'a, A>) -> Result<&'a Group<A>, Error<A>>
     ensures taken { IfOk result
         (λ g. trees_in input.old
@@ -107,7 +107,7 @@ fn take_brackets<'a, A: Allocator>(input: &mut ParseBuffer<'a, A>) -> Result<&'a
     }
 }
 
-/// Takes a list. A refusal may leave the buffer behind the group.
+/// Takes a list. An error may leave the buffer after the group.
 fn parse_list<A: Allocator + Copy>(
     alloc: A,
     input: &mut ParseBuffer<'_, A>,
@@ -124,8 +124,8 @@ fn parse_list<A: Allocator + Copy>(
 }
 
 /// Takes a group in square brackets, of items with commas between them. Refused is, at its place, what is no such group
-/// (`square brackets`), what is no item (`integer literal or string literal`), and what stands behind an item and is no
-/// comma (`` `,` ``). A refusal leaves the buffer.
+/// (`square brackets`), what is no item (`integer literal or string literal`), and what stands after an item and is no
+/// comma (`` `,` ``). An error leaves the buffer.
 impl<A: Allocator + Copy> Parse<A> for ItemList<A> {
     ghost use Rattle.rl_uses.specs.Lists.{RunsList};
 

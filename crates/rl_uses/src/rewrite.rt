@@ -173,13 +173,13 @@ fn lines<A: Allocator + Copy>(alloc: A, literals: &[Lit<A>]) -> Result<String<A>
 ///
 /// # Errors
 ///
-/// What [`read_all`] refuses of the text, with the same error. `Memory` behind that at the literal
-/// that it was refused for.
+/// What [`read_all`] rejects of the text, with the same error. `Memory` after that at the literal
+/// whose allocation failed.
 pub fn format<A: Allocator + Copy>(alloc: A, text: &str, file: u32) -> Result<String<A>, Error<A>>
-    // The text reads as literals, and the lines are their rewritings, each with LF behind it.
+    // The text reads as literals, and the lines are their rewritings, each with LF after it.
     ensures printed { IfOk result (λ printed. (list : List (Lit A))
         × AreRead (chars text.now) file list × AreLines list (string_bytes printed)) }
-    // What `read_all` refuses of the text, or memory was refused for one of its literals, which the
+    // What `read_all` rejects of the text, or an allocation failed for one of its literals, which the
     // error is reported at.
     ensures refused { IfErr result (RefusesTextOrMemory text.now file) }
 {

@@ -1,4 +1,4 @@
--- Where the trees of a text go on behind the literals at its front.
+-- Where the trees of a text go on after the literals at its front.
 use Rattle.std.proofs.Common.{arith, ◌≡◌, ◌<◌, ℕ, ◌+◌, suc, List, [], ◌∷◌, ◌++◌, length, get_or, drop, drop-cons, add-one, map, Option, Some, None, refl, sym, ◌∙◌, ap, subst}
 use Rattle.std.specs.Prelude.{IfSome, IfNone}
 use Rattle.std.specs.List.{AllByRecursion}
@@ -33,7 +33,7 @@ front_trees (LiteralTree i ∷ front) (LiteralTree j ∷ trees) more (_, h) e =
     (further.0, ap (λ x. LiteralTree x ∷ trees) same ∙ ap (λ xs. LiteralTree i ∷ xs) further.1)
 front_trees (tree ∷ front) trees more h e = absurd (cc)
 
--- The trees of a text that begins with these literals go on behind theirs.
+-- The trees of a text that begins with these literals go on after theirs.
 pub goes_on : {A : Type 0} (text : List ℕ) (file : ℕ) (list : List (Lit A)) (trees : List Tree) → AreBegun text file list → Lexes text file trees → (behind : List Tree) × ReadsLiterals trees list behind
 goes_on text file list trees begun lexes =
     let read = begun.read in

@@ -138,7 +138,7 @@ other_form (found.Mark c) h e = absurd (cc)
 pub none_number : (old new : CursorState) (l : Lent) → TakesNext old l new → (form_view l.form ≢ LiteralForm) ⊎ HasNoReading (45 ∷ chars l.text.now) → HasNoNumberNext old
 none_number old new l t h = inr (l, new, t, h)
 
--- a minus, and no number behind it
+-- a minus, and no number after it
 pub none_minus : (old between : CursorState) (m : Lent) → TakesNext old m between → form_view m.form ≡ MarkForm 45 → HasNoNumberNext between → HasNoNext old
 none_minus old between m t is h =
     inr (m, between, t, subst (λ (f : LexemeForm). BeginsNoLiteral f m.text.now between) (sym is) (inr h))

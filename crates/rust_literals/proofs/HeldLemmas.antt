@@ -51,7 +51,7 @@ of_kind Byte text found utf8 e h = not_both Byte (λ x. cc) (λ x. cc) text foun
 of_kind Char text found utf8 e h = not_both Char (λ x. cc) (λ x. cc) text found e h
 of_kind Bool text found utf8 e h = not_both Bool (λ x. cc) (λ x. cc) text found e h
 
--- its suffix, and the digits that are told of it
+-- its suffix, and the digits that are printed of it
 found_suffix : (kind : Kind) (text : List ℕ) (found : Found) → found.kind ≡ kind → IsOfKind kind text found → HasOwnSuffix kind (chars text) (chars (suffix_in text found.body))
 found_suffix Int text found e h = subst (λ k. HasSuffix k (chars text) (chars (suffix_in text found.body))) e h.reads
 found_suffix Float text found e h = (chars (body_in text found.body), h.reads)
@@ -108,7 +108,7 @@ holds_lent kind text found utf8 h e plain =
     subst (λ z. HoldsNumber kind text z found.body.suffix_at) body
     (holds_number kind text (body_in text found.body) found utf8 h e (plain_digits text found utf8 plain h))
 
--- it isn't where the number is told not to be plain
+-- it isn't where the number is reported not to be plain
 pub not_plain : (kind : Kind) (text : List ℕ) (found : Found) → IsFoundNumber text found → found.kind ≡ kind → found.body.plain ≡ false → IsPlain kind text → ⊥
 not_plain kind text found (inl (h, n)) e off p = let on : found.body.plain ≡ true = h.plain.1 (subst (λ k. IsPlain k text) (sym e) p) in absurd (cc)
 not_plain kind text found (inr h) e off p =
@@ -128,12 +128,12 @@ found_number kind text found utf8 h e = go kind e (of_kind kind text found utf8 
     go Char e h = absurd h
     go Bool e h = absurd h
 
--- running out of memory, as a refusal
+-- an allocation failure, as an error
 pub wants_memory : {A : Type 0} (kind : Kind) (text : List ℕ) (e : Error A) (span : Span) → e ≡ memory_at span → IsNumber kind text → (e.span ≡ span) × IsRefusedAs kind text e.kind
 wants_memory {A} kind text e span is number =
     let P : Error A → Type 0 = λ x. (x.span ≡ span) × IsRefusedAs kind text x.kind in subst P (sym is) (refl, number)
 
--- what is plain is no text that is refused
+-- what is plain is no text that is rejected
 pub no_number_plain : {A : Type 0} (kind : Kind) (text : List ℕ) (reason : ErrorKind A) → IsNoNumber kind (chars text) reason → IsPlain kind text → ⊥
 no_number_plain Int text NotInteger none p = none p.reads.sign p.reads.magnitude p.suffix p.reads.reads
 no_number_plain Int text TooLarge past p =
@@ -169,7 +169,7 @@ no_number_plain Byte text reason none p = absurd none
 no_number_plain Char text reason none p = absurd none
 no_number_plain Bool text reason none p = absurd none
 
--- why a text is no number, as a refusal
+-- why a text is no number, as an error
 pub no_number_refused : {A : Type 0} (kind : Kind) (text : List ℕ) (reason : ErrorKind A) → IsNoNumber kind text reason → IsRefusedAs kind text reason
 no_number_refused kind text (Expected w) none = none
 no_number_refused kind text (EndOfInput w) none = none
@@ -190,7 +190,7 @@ no_number_refused Byte text Memory none = absurd none
 no_number_refused Char text Memory none = absurd none
 no_number_refused Bool text Memory none = absurd none
 
--- where memory was refused for a number, it is told as that
+-- where an allocation failed for a number, it is reported as that
 pub memory_refused : {T A : Type 0} (kind : Kind) (text : List ℕ) (span : Span) (r : Result T (Kept SpannedText A)) → IfErr r (λ k. k.error ≡ memory_at span) → IsNumber kind text → IfErr r (λ k. (k.error.span ≡ span) × IsRefusedAs kind text k.error.kind)
 memory_refused kind text span (Ok x) memory number = tt
 memory_refused kind text span (Err k) memory number = wants_memory kind text k.error span memory number

@@ -45,7 +45,7 @@ word_reads false = truth_reads (chars (encode_utf8_all (truth_text false))) fals
 pub minus_bytes : (text : List ℕ) → encode_utf8_all (45 ∷ text) ≡ 45 ∷ encode_utf8_all text
 minus_bytes text = low_front 45 text (lit< tt)
 
--- a minus and the text behind it, as one token
+-- a minus and the text after it, as one token
 one_file : (file : ℕ) (a b : Span) → (if file == file then a else b) ≡ a
 one_file file a b = let same : (file == file) ≡ true = grind (arith, nat_tests) in ap (λ t. if t then a else b) same
 

@@ -15,7 +15,7 @@ one_lit_front trees a b r s h k =
     let one = one_front trees h.token k.token r s h.front k.front in
     (one_lit k.token a b (subst (λ (t : SpannedText). IsReadFrom t a) one.0 h.read) k.read, one.1)
 
--- what stands behind a literal is shorter
+-- what stands after a literal is shorter
 pub lit_shorter : {A : Type 0} (trees : List Tree) (lit : Lit A) (rest : List Tree) → IsLitFront trees lit rest → length rest < length trees
 lit_shorter trees lit rest h = front_shorter trees h.token rest h.front
 

@@ -25,7 +25,7 @@ use Rattle.rust_literals.specs.Literals.{kind_of, token_of, IsReadAs, IsReadFrom
 use Rattle.rust_literals.specs.LitParts.{ReadsPlain}
 use Rattle.rust_literals.specs.Copies.{tree_of}
 
--- ---- a literal is told by its kind and token
+-- ---- kind and token determine a literal
 
 -- the truth value of a word
 is_true_word : List ℕ → Truths
@@ -128,7 +128,7 @@ read_word token seen value span utf8 same (v, x, r) tested there =
 pub reads_as : (t x : List ℕ) (k kind : Kind) → HasSuffix k t x → k ≡ kind → ReadsAs kind t
 reads_as t x k kind r e = (r.0, x, subst (λ z. Reads t z r.0 x) e r.1)
 
--- what was found behind a minus has a reading there
+-- what was found after a minus has a reading there
 pub found_behind : (bytes : List ℕ) (found : Found) → IsFound (45 ∷ bytes) found → HasReading (45 ∷ chars bytes)
 found_behind bytes found h =
     subst HasReading (minus_chars bytes) (found.kind, (h.reads.0, chars (suffix_in (45 ∷ bytes) found.body), h.reads.1))

@@ -18,7 +18,7 @@ use Rattle.rust_literals.specs.declared.lit_bool.LitBool.{LitBool}
 use Rattle.rust_literals.specs.Parsing.{RunsLit, RunsTruth}
 use Rattle.rust_literals.specs.Peeking.{SucceedsOrMemory, PeekTells}
 
--- a refusal by a word isn't for running out of memory
+-- an error by a word isn't an allocation failure
 never_memory : (A : Type 0) (trees : List Tree) (word : List ℕ) → MissesWord {A = A} trees word Memory → ⊥
 never_memory A [] word h = h
 never_memory A (t ∷ ts) word h = h
@@ -26,7 +26,7 @@ never_memory A (t ∷ ts) word h = h
 word_is_not_memory : {A : Type 0} (trees : List Tree) (word : List ℕ) (kind : ErrorKind A) → MissesWord trees word kind → kind ≡ Memory → ⊥
 word_is_not_memory {A = A} trees word kind h e = never_memory A trees word (subst (λ (k : ErrorKind A). MissesWord trees word k) e h)
 
--- what a parser of one kind refuses for running out of memory, its peek is true of
+-- where a parser of one kind returns an allocation failure, its peek is true
 typed_wants : {A : Type 0} (kind : Kind) (word : List ℕ) (trees : List Tree) (scope : Span) (e : Error A) (rest : List Tree) → RunsAs kind word trees scope (Err e) rest → e.kind ≡ Memory → HasFrontOf kind trees
 typed_wants kind word trees scope e rest (inl m) is = m.0
 typed_wants kind word trees scope e rest (inr p) is = absurd (word_is_not_memory trees word e.kind p.refusal.kind is)

@@ -24,7 +24,7 @@ use Rattle.rust_literals.proofs.LitLemmas.{read_lit}
 use Rattle.rust_literals.proofs.ItemFronts.{IsFrontItem, AreReadAt, items_lead, spells_words}
 use Rattle.rust_literals.proofs.StrictLits.{lit_from, item_is}
 
--- A strict item reads, behind a minus too.
+-- A strict item reads, after a minus too.
 item_reads : (item : Item) → IsStrictItem item → HasReading (item_text item)
 item_reads (WordItem truth) is = (BoolKind, truth_reads (truth_text truth) truth refl)
 item_reads (LiteralItem text) (kind, other, strict, reads) = reads
@@ -71,7 +71,7 @@ items_read_at file at [] lits are = are
 items_read_at file at (e ∷ es) [] are = are
 items_read_at file at (e ∷ es) (l ∷ ls) (read, are) = (read.read, items_read_at file (at + byte_len e.gap + byte_len (item_text e.item)) es ls are)
 
--- A list of literals holds, and is the answer or memory was refused.
+-- A list of literals holds, and is the answer or an allocation failed.
 pub holds_exactly : {A B : Type 0} (holds : List (Lit A) → Type 0) (list : List (Lit A)) (r : Result (Vec (Lit A) B) (Error A)) → holds list → HoldsOrMemory (λ found. found ≡ list) r → HoldsOrMemory holds r
 holds_exactly holds list (Ok found) h same = subst holds (sym same) h
 holds_exactly holds list (Err e) h same = same
@@ -87,6 +87,6 @@ printed_read {A} text file r utf8 exactly entries last printed =
     } in
     holds_exactly (AreItems file 0 entries) lits r are (exactly lits read)
 
--- A refusal, as the answer to a print.
+-- An error, as the answer to a print.
 pub printed_refusal : {A : Type 0} (text : List ℕ) (file : ℕ) (e : Error A) → IsUtf8 text → ((list : List (Lit A)) → AreRead (chars text) file list → e.kind ≡ Memory) → (entries : List Entry) (last : List ℕ) → Printed (chars text) entries last → e.kind ≡ Memory
 printed_refusal {A} text file e = printed_read {A = A} {B = A} text file (Err e)

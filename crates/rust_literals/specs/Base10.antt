@@ -20,19 +20,19 @@ pub record IsMadeOf {N E : Type 0} (gives : List ℕ → Result N E → Type 0) 
   pub are : AreOf digits
   pub made : gives digits (Ok number)
 
--- a fault in its own words, where it has any that are stated; or running out of memory for them
+-- an error in its own words, where it has any that are stated; or an allocation failure for them
 abbrev pub IsInWords : {A : Type 0} → Option (List ℕ) → ErrorKind A → Type 0
 IsInWords words (Number told) = IfSome words (λ w. string_bytes told ≡ w)
 IsInWords words Memory = ⊤
 IsInWords words _ = ⊥
 
--- The fault is reported at a span.
+-- The error is reported at a span.
 pub record IsReported {A : Type 0} (words : Option (List ℕ)) (span : Span) (e : Error A)
     : Type 0 where
   pub span_is : e.span ≡ span
   pub kind_is : IsInWords words e.kind
 
--- The number type refuses the digits, and its fault is reported at the span.
+-- The number type rejects the digits, and its error is reported at the span.
 pub record IsRefusedBy {N E A : Type 0} (gives : List ℕ → Result N E → Type 0)
     (output : E → Option (List ℕ)) (AreOf : List ℕ → Type 0) (span : Span) (e : Error A)
     : Type 0 where

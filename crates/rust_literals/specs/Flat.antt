@@ -26,7 +26,7 @@ pub record LexesTreesUpTo (text : List ℕ) (file : ℕ) (trees : List Tree) (re
   pub flat_is : map (flat_token file) cuts ≡ flat_trees trees
   pub no_groups : AllByRecursion IsNoGroup trees
 
--- The trees that are cut off make the literal, whatever stands behind them.
+-- The trees that are cut off make the literal, whatever stands after them.
 pub record ReadsNext {A : Type 0} (file : ℕ) (old : CursorState) (lit : Lit A) (new : CursorState)
     : Type 0 where
   pub trees : List Tree
@@ -42,7 +42,7 @@ HasNoNumberNext t =
     ⊎ ((l : Lexeme) × (new : CursorState) × TakesNext t l new
     × ((form_view l.form ≢ LiteralForm) ⊎ HasNoReading (code "-" ∷ chars l.text.now)))
 
--- A token of this form and text, and what is left behind it, begin no literal: the token is none,
+-- A token of this form and text, and what is left after it, begin no literal: the token is none,
 -- no word of a truth value, and no minus before a number.
 abbrev pub BeginsNoLiteral : LexemeForm → List ℕ → CursorState → Type 0
 BeginsNoLiteral LiteralForm text behind = ⊥
@@ -64,7 +64,7 @@ pub record AddsNext {A : Type 0} (file : ℕ) (old : CursorState) (list : List (
   pub next : ReadsNext file old lit new
   pub longer_is : longer ≡ list ++ lit ∷ []
 
--- The text up to the rest is these literals, whatever trees stand behind.
+-- The text up to the rest is these literals, whatever trees stand after.
 pub record AreReadUpTo {A : Type 0} (text : List ℕ) (file : ℕ) (list : List (Lit A)) (rest : List ℕ)
     : Type 0 where
   pub trees : List Tree

@@ -48,7 +48,7 @@ KeepsStrict text =
     (kind : Kind) (contents : Contents) (suffix : List ℕ) → Strict text kind contents suffix
     → IsWithinLimit kind text → Reads text kind contents suffix
 
--- strict as a number, the text reads behind a minus as the same, with `-` before its digits
+-- strict as a number, the text reads after a minus as the same, with `-` before its digits
 abbrev pub KeepsStrictBehindMinus : List ℕ → Type 0
 KeepsStrictBehindMinus text =
     (kind : Kind) (digits suffix : List ℕ) → IsTrue (is_number kind)

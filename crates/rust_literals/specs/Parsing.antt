@@ -50,13 +50,13 @@ RunsTruth trees scope (Ok literal) rest = IsTruthFront trees literal rest
 RunsTruth trees scope (Err e) rest =
     PassesOther BoolKind (codes "boolean literal") trees scope e rest
 
--- These literals begin the trees one after another, and the rest stands behind them.
+-- These literals begin the trees one after another, and the rest stands after them.
 abbrev pub ReadsLiterals : {A : Type 0} → List Tree → List (Lit A) → List Tree → Type 0
 ReadsLiterals trees [] rest = trees ≡ rest
 ReadsLiterals trees (l ∷ ls) rest =
     (after : List Tree) × IsLitFront trees l after × ReadsLiterals after ls rest
 
--- Literals lead to trees that no literal begins: these are refused.
+-- Literals lead to trees that no literal begins: these are rejected.
 pub record RefusesNextLiteral {A : Type 0} (trees : List Tree) (scope : Span) (e : Error A)
     : Type 0 where
   pub list : List (Lit A)
@@ -66,7 +66,7 @@ pub record RefusesNextLiteral {A : Type 0} (trees : List Tree) (scope : Span) (e
   pub none : HasNoFront rest
   pub refusal : IsRefusal rest scope (codes "literal") e
 
--- Literals lead to one for which memory was refused, or to one that found no place in the list.
+-- Literals lead to one for which an allocation failed, or to one that found no place in the list.
 pub record LacksMemory {A : Type 0} (trees : List Tree) (scope : Span) (e : Error A) : Type 0 where
   pub list : List (Lit A)
   pub rest : List Tree
@@ -79,7 +79,7 @@ pub record AreRead {A : Type 0} (text : List ℕ) (file : ℕ) (list : List (Lit
   pub lexes : Lexes text file trees
   pub leads : ReadsLiterals trees list []
 
--- The text is cut into trees, and this is refused of them.
+-- The text is cut into trees, and this is rejected of them.
 pub record RefusesLiteralTrees {A : Type 0} (text : List ℕ) (file end : ℕ) (e : Error A)
     : Type 0 where
   pub trees : List Tree
@@ -87,6 +87,6 @@ pub record RefusesLiteralTrees {A : Type 0} (text : List ℕ) (file end : ℕ) (
   pub refused : RefusesNextLiteral trees (record { file = file; lo = end; hi = end }) e
       ⊎ LacksMemory trees (record { file = file; lo = end; hi = end }) e
 
--- what `read_all` refuses of a text of this length
+-- what `read_all` rejects of a text of this length
 abbrev pub RefusesText : {A : Type 0} → List ℕ → ℕ → ℕ → Error A → Type 0
 RefusesText text file end e = RefusesLexing text file e ⊎ RefusesLiteralTrees text file end e

@@ -5,7 +5,7 @@ use Rattle.rl_tokens.specs.declared.error.Error.{Error}
 use Rattle.rl_tokens.specs.declared.error.ErrorKind.TheVariants.{Memory}
 use Rattle.rl_tokens.specs.Trees.{Tree}
 
--- the answer is a value, or memory was refused
+-- the answer is a value, or an allocation failed
 abbrev pub SucceedsOrMemory : {T A : Type 0} → Result T (Error A) → Type 0
 SucceedsOrMemory (Ok value) = ⊤
 SucceedsOrMemory (Err e) = e.kind ≡ Memory

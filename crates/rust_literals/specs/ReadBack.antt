@@ -14,13 +14,13 @@ use Rattle.rust_literals.specs.Literals.{kind_of, IsReadFrom, IsLitOf}
 use Rattle.rl_tokens.specs.Strict.{Strict}
 use Rattle.rl_tokens.specs.Quoted.{is_number}
 
--- the answer is a list of which this holds, or memory was refused
+-- the answer is a list of which this holds, or an allocation failed
 abbrev pub HoldsOrMemory : {A B : Type 0} → (List (Lit A) → Type 0)
     → Result (Vec (Lit A) B) (Error A) → Type 0
 HoldsOrMemory holds (Ok found) = holds found.items
 HoldsOrMemory holds (Err e) = e.kind ≡ Memory
 
--- what the item is by the strict grammar: its word or text as it is strict, and behind a minus the
+-- what the item is by the strict grammar: its word or text as it is strict, and after a minus the
 -- number that is strict, with `-` before its digits
 abbrev pub IsItemOf : Kind → Contents → List ℕ → Item → Type 0
 IsItemOf kind contents suffix (WordItem truth) = Strict (truth_text truth) kind contents suffix

@@ -1,4 +1,4 @@
--- Why a text is refused as an integer or as a float. A text is a list of characters.
+-- Why a text is rejected as an integer or as a float. A text is a list of characters.
 use Rattle.std.specs.Prelude.{ℕ, List}
 use Rattle.rl_tokens.specs.declared.error.ErrorKind.{ErrorKind}
 use Rattle.rl_tokens.specs.declared.error.ErrorKind.TheVariants.{NotInteger, TooLarge, NotFloat, Memory}
@@ -16,7 +16,7 @@ IsNoNumber Int text TooLarge = IsPast text
 IsNoNumber Float text NotFloat = HasNoFloat text
 IsNoNumber _ text _ = ⊥
 
--- it is none of the kind, or memory was refused for one
+-- it is none of the kind, or an allocation failed for one
 abbrev pub IsRefusedAs : {A : Type 0} → Kind → List ℕ → ErrorKind A → Type 0
 IsRefusedAs kind text Memory = IsNumber kind text
 IsRefusedAs kind text reason = IsNoNumber kind text reason

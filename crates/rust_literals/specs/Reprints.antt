@@ -18,7 +18,7 @@ pub record Spaced (A : Type 0) : Type 0 where
   pub gap : List ℕ
   pub lit : Lit A
 
--- the literals' texts in turn, each behind its gap, and the last gap
+-- the literals' texts in turn, each after its gap, and the last gap
 abbrev pub spaced_text : {A : Type 0} → List (Spaced A) → List ℕ → List ℕ
 spaced_text [] last = last
 spaced_text (s ∷ ss) last = s.gap ++ (lit_text s.lit ++ spaced_text ss last)

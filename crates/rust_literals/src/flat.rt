@@ -65,7 +65,7 @@ fn negative_of<A: Allocator + Copy>(
 }
 
 /// The literal that the next tokens are, which are cut off. `None` where they are none; tokens may be cut off then too,
-/// and where memory is refused.
+/// and where an allocation fails.
 #[inline(always)]
 fn take_next<A: Allocator + Copy>(
     alloc: A,
@@ -119,12 +119,12 @@ fn take_next<A: Allocator + Copy>(
 /// }
 /// ```
 ///
-/// `false` says that the text is at its end, or that anything but a literal stands next (a fault, a group, another word
+/// `false` says that the text is at its end, or that anything but a literal stands next (an error, a group, another word
 /// or mark); [`read_behind`] says what. List and cursor stay then.
 ///
 /// # Errors
 ///
-/// Memory was refused, for the literal or for the list; both stay. [`read_behind`] tells it at its place.
+/// An allocation failed, for the literal or for the list; both stay. [`read_behind`] tells it at its place.
 ///
 /// [`read_behind`]: crate::read_behind
 pub fn read_next<A: Allocator + Copy>(
@@ -156,7 +156,7 @@ pub fn read_next<A: Allocator + Copy>(
 }
 
 /// The literals of a text, which is nothing but literals, white space and plain comments. Where it is anything else, and
-/// where memory is refused, those that were read before.
+/// where an allocation fails, those that were read before.
 pub(crate) fn read_flat<A: Allocator + Copy>(
     alloc: A,
     text: &str,

@@ -13,7 +13,7 @@ ghost use Rattle.rust_literals.specs.Peeking.{PeekTells};
 use std::alloc::Allocator;
 
 /// A peek of the nine types is true exactly where the type's parser answers a literal, if memory is found; elsewhere the
-/// parser refuses without memory.
+/// parser rejects after an allocation failure.
 pub fn peeks_tell<A: Allocator>()
     ensures literal { PeekTells (RunsLit {A = A}) HasFront }
     ensures truth { PeekTells (RunsTruth {A = A}) (HasFrontOf BoolKind) }
@@ -21,12 +21,12 @@ pub fn peeks_tell<A: Allocator>()
         → PeekTells (RunsAs {A = A} kind word) (HasFrontOf kind) }
 {}
 
-/// A literal is told by its kind and its token: a copy, and a literal at another place, is told by them whole.
+/// Its kind and its token determine a literal: a copy, and a literal at another place, too.
 pub fn kind_and_token_tell<A: Allocator>()
     ensures { (a b : Lit A) → kind_of a ≡ kind_of b → token_of a ≡ token_of b → a ≡ b }
 {}
 
-/// Behind a literal of any kind fewer trees stand than before it.
+/// After a literal of any kind fewer trees stand than before it.
 pub fn literal_is_taken<A: Allocator>()
     ensures { (trees : List Tree) (literal : Lit A) (rest : List Tree)
         → IsLitFront trees literal rest → length rest < length trees }

@@ -107,7 +107,7 @@ impl<A: Allocator> Lit<A> {
     ///
     /// Of a strict text, an integer within 128 bits, the literal is of the kind, contents and
     /// suffix that the text has there (`strict_found`): it reads so (`strict`), and a strict number
-    /// behind a minus too. A text without CR is a byte, or a byte string with escapes, and its
+    /// after a minus too. A text without CR is a byte, or a byte string with escapes, and its
     /// suffix empty or a word, exactly where it is a strict one (`strict_bytes`).
     ///
     /// # Errors
@@ -221,7 +221,7 @@ impl<A: Allocator> Lit<A> {
         self.view().text
     }
 
-    /// What stands behind the literal proper, lent: empty for a truth value and for `Verbatim`.
+    /// What stands after the literal proper, borrowed: empty for a truth value and for `Verbatim`.
     pub fn suffix(&self) -> &str
         ensures { HasLitSuffix self.now (chars result.now) }
     {
@@ -270,7 +270,7 @@ fn of_front<A: Allocator + Copy>(alloc: A, front: &Front<'_, A>) -> Option<Lit<A
 }
 
 /// Takes the literal that stands next, of any kind, `Verbatim` too: a literal token, the word `true` or `false`, or a
-/// minus and a literal token that read together. Else it is refused with the word `literal`; a refusal leaves the
+/// minus and a literal token that read together. Else it is rejected with the word `literal`; an error leaves the
 /// buffer.
 impl<A: Allocator + Copy> Parse<A> for Lit<A> {
     ghost use Rattle.rust_literals.specs.Parsing.{RunsLit};

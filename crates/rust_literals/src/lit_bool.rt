@@ -77,7 +77,7 @@ impl LitBool {
     }
 }
 
-/// Takes the truth value that stands next, a word or a token. It is refused as `rl_grammar::take_kind` says, and takes
+/// Takes the truth value that stands next, a word or a token. It is rejected as `rl_grammar::take_kind` says, and takes
 /// no memory.
 impl<A: Allocator> Parse<A> for LitBool {
     ghost use Rattle.rust_literals.specs.Parsing.{RunsTruth};

@@ -65,7 +65,7 @@ fn own_digits<A: Allocator>(
 pub struct Number<K: NumberKind, A: Allocator = Global> {
     token: Literal<A>,
     /// A text of their own where the body isn't the digits. `None` costs a number no more than a word of room, and says
-    /// plainly that the digits are lent; an empty text could say so too, but then each reader of this field has to know
+    /// plainly that the digits are borrowed; an empty text could say so too, but then each reader of this field has to know
     /// that no number is without digits.
     digits: Option<String<A>>,
     suffix_at: usize,
@@ -116,7 +116,7 @@ impl<K: NumberKind, A: Allocator + Copy> Number<K, A> {
 }
 
 impl<K: NumberKind, A: Allocator> Number<K, A> {
-    /// The literal of this token. A refused one is handed back as it was.
+    /// The literal of this token. A rejected one is handed back as it was.
     ///
     /// # Errors
     ///
@@ -145,8 +145,8 @@ impl<K: NumberKind, A: Allocator> Number<K, A> {
         }
     }
 
-    /// The literal of this token, in whose text this number of the kind was found. Running out of
-    /// memory for digits that aren't the body is reported at the token's span; the token is handed
+    /// The literal of this token, in whose text this number of the kind was found. An allocation
+    /// failure for digits that aren't the body is reported at the token's span; the token is handed
     /// back.
     #[inline(always)]
     pub(crate) fn of_found(
@@ -179,11 +179,11 @@ impl<K: NumberKind, A: Allocator> Number<K, A> {
         }
     }
 
-    /// The digits in base ten. Of an integer its magnitude without leading zeros, behind a minus
+    /// The digits in base ten. Of an integer its magnitude without leading zeros, after a minus
     /// where the text begins with one; of a float what stands before the suffix, without
     /// underscores and pluses, and with `E` as `e`.
     ///
-    /// They are lent from the text where they are all that stands before the suffix.
+    /// They are borrowed from the text where they are all that stands before the suffix.
     ///
     /// # Example
     ///
@@ -202,7 +202,7 @@ impl<K: NumberKind, A: Allocator> Number<K, A> {
         }
     }
 
-    /// What stands behind the digits, lent: empty, or a word.
+    /// What stands after the digits, borrowed: empty, or a word.
     pub fn suffix(&self) -> &str
         ensures { HasOwnSuffix K.KIND (chars self.now.text) (chars result.now) }
     {
@@ -252,7 +252,7 @@ impl<K: NumberKind, A: Allocator> fmt::Display for Number<K, A> {
     }
 }
 
-/// Takes the number of the kind that stands next. It is refused as [`take_kind`] says.
+/// Takes the number of the kind that stands next. It is rejected as [`take_kind`] says.
 impl<K: NumberKind, A: Allocator + Copy> Parse<A> for Number<K, A> {
     ghost use Rattle.rl_grammar.specs.Fronts.{RunsAs};
     ghost use Rattle.rl_tokens.specs.Words.{kind_word};

@@ -28,13 +28,13 @@ fn pass<A: Allocator>(input: &mut ParseBuffer<'_, A>, count: usize)
     }
 }
 
-/// The literals of the list, and behind them those that the trees are, one after another, up to their end.
+/// The literals of the list, and after them those that the trees are, one after another, up to their end.
 fn read_on<A: Allocator + Copy>(
     alloc: A,
     input: &mut ParseBuffer<'_, A>,
     mut list: Vec<Lit<A>, A>,
 ) -> Result<Vec<Lit<A>, A>, Error<A>>
-    // Whatever trees the list led through to these, behind literals that were let go.
+    // Whatever trees the list led through to these, after literals that were let go.
     ensures read { (all : List Tree) (gone : List (Lit A))
         → ReadsLiterals all (gone ++ list.items) (trees_in input.old)
         → IfOk result (λ found. ReadsLiterals all (gone ++ found.items) []) }
@@ -54,7 +54,7 @@ fn read_on<A: Allocator + Copy>(
     Ok(list)
 }
 
-/// The literals of the list, and behind them those of the text behind so many: those that were let go, and the list's.
+/// The literals of the list, and after them those of the text after so many: those that were let go, and the list's.
 fn read_from<A: Allocator + Copy>(
     alloc: A,
     text: &str,
@@ -75,7 +75,7 @@ fn read_from<A: Allocator + Copy>(
     read_on(alloc, &mut input, list)
 }
 
-/// The literals of a text behind its first `count`, which [`read_next`] has taken.
+/// The literals of a text after its first `count`, which [`read_next`] has taken.
 ///
 /// # Errors
 ///
@@ -99,12 +99,12 @@ pub fn read_behind<A: Allocator + Copy>(
 
 /// The literals of a text, which is nothing but literals, white space and plain comments. Each is
 /// what [`Lit::parse`] takes from the trees of the text, `Verbatim` too; its span is the file and
-/// the bytes of its text, of a number behind a minus from the minus to its last byte.
+/// the bytes of its text, of a number after a minus from the minus to its last byte.
 ///
 /// # Errors
 ///
-/// The first refusal is the answer: the lexer's fault as `Lex`, with the span of no bytes at its
-/// place; or `Expected` at the first tree that no literal begins. `Memory` is told where it was
+/// The first error is the answer: the lexer's error as `Lex`, with the span of no bytes at its
+/// place; or `Expected` at the first tree that no literal begins. `Memory` is reported where it was
 /// met, in the text or at a literal; and where the list itself can't grow, which is at no place of
 /// the text, at `Span::call_site`.
 ///
@@ -123,12 +123,12 @@ pub fn read_all<A: Allocator + Copy>(
 ) -> Result<Vec<Lit<A>, A>, Error<A>>
     // The text is cut into the trees of these literals, and nothing is left of it.
     ensures read { IfOk result (λ list. AreRead (chars text.now) file list.items) }
-    // Else the text's first fault; or, of its trees, the first that begins no literal; or memory was refused.
+    // Else the text's first error; or, of its trees, the first that begins no literal; or an allocation failed.
     ensures refused { IfErr result (RefusesText (chars text.now) file (length text.now)) }
-    // What a text reads as is the answer, or memory was refused.
+    // What a text reads as is the answer, or an allocation failed.
     ensures exactly { (list : List (Lit A)) → AreRead (chars text.now) file list
         → HoldsOrMemory (λ found. found ≡ list) result }
-    // A print of strict literals reads as its items, each at its range, or memory was refused.
+    // A print of strict literals reads as its items, each at its range, or an allocation failed.
     ensures printed { (entries : List Entry) (last : List ℕ) → Printed (chars text.now) entries last
         → HoldsOrMemory (AreItems file 0 entries) result }
     // The texts of literals that were read once, strict or not, read as the same, whatever trivia stands between them.

@@ -82,7 +82,7 @@ fn take_entry<'a, A: Allocator + Copy>(
     })
 }
 
-/// Takes an attribute whose name is none of the names, and the comma behind it where anything stands there.
+/// Takes an attribute whose name is none of the names, and the comma after it where anything stands there.
 fn take_next<'a, A: Allocator + Copy>(
     alloc: A,
     input: &mut ParseBuffer<'a, A>,
@@ -109,8 +109,8 @@ fn take_next<'a, A: Allocator + Copy>(
     Ok(entry)
 }
 
-/// Takes attributes up to the end. A refusal may leave the buffer behind what was taken, and
-/// reports running out of memory wherever it was met.
+/// Takes attributes up to the end. An error may leave the buffer after what was taken, and
+/// reports an allocation failure wherever it was met.
 fn take_all<A: Allocator + Copy>(
     alloc: A,
     input: &mut ParseBuffer<'_, A>,
@@ -136,7 +136,7 @@ fn take_all<A: Allocator + Copy>(
     Ok(Attrs { entries })
 }
 
-/// The refusal, but running out of memory at this place.
+/// The error, but an allocation failure at this place.
 fn told_at<A: Allocator>(error: Error<A>, place: Span) -> Error<A>
     ensures { result ≡ reported_at error place }
 {
@@ -146,13 +146,13 @@ fn told_at<A: Allocator>(error: Error<A>, place: Span) -> Error<A>
     }
 }
 
-/// Takes all trees as attributes: no trees; or an attribute; or an attribute, a comma, and the attributes behind it. An
+/// Takes all trees as attributes: no trees; or an attribute; or an attribute, a comma, and the attributes after it. An
 /// attribute is an identifier, `=` and a literal.
 ///
 /// # Errors
 ///
-/// Reading goes from left to right, and what is missed first is refused by its word: `identifier`, `` `=` ``,
-/// `literal`, or `` `,` ``; before its `=`, a name that stood before as `Repeated`, at the name. Running out of memory
+/// Reading goes from left to right, and what is missed first is rejected by its word: `identifier`, `` `=` ``,
+/// `literal`, or `` `,` ``; before its `=`, a name that stood before as `Repeated`, at the name. An allocation failure
 /// is reported at the first tree. The buffer stays.
 impl<A: Allocator + Copy> Parse<A> for Attrs<A> {
     ghost use Rattle.rl_attributes.specs.AttributeParsing.{RunsAttrs};
@@ -172,8 +172,8 @@ impl<A: Allocator + Copy> Parse<A> for Attrs<A> {
 ///
 /// # Errors
 ///
-/// The lexer's fault as `Lex`, with the span of no bytes at its place, and its running out of
-/// memory as `Memory` there; else what the parser of [`Attrs`] refuses, which tells the text's end
+/// The lexer's error as `Lex`, with the span of no bytes at its place, and its allocation
+/// failure as `Memory` there; else what the parser of [`Attrs`] rejects, which tells the text's end
 /// by the span of no bytes there.
 ///
 /// # Example
@@ -190,10 +190,10 @@ pub fn read<A: Allocator + Copy>(alloc: A, text: &str, file: u32) -> Result<Attr
         (λ attrs. AreAttributesOf (chars text.now) file (attributes_of (entries_of attrs))) }
     // Each value is what its literal reads as.
     ensures values { IfOk result (λ attrs. All IsReadEntry (entries_of attrs)) }
-    // Else the text's first fault; or, of its trees, what is missed first, or a name that stood before; or memory was
-    // refused.
+    // Else the text's first error; or, of its trees, what is missed first, or a name that stood before; or an
+    // allocation failed.
     ensures refused { IfErr result (RefusesAttributeText (chars text.now) file (length text.now)) }
-    // What attributes a text is, these are the answer, or memory was refused.
+    // What attributes a text is, these are the answer, or an allocation failed.
     ensures exactly { (list : List Attribute) → AreAttributesOf (chars text.now) file list
         → IsListOrMemory list result }
 {

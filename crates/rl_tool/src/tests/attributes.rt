@@ -20,7 +20,7 @@ fn told_inside(alloc: Global, text: &str) -> Result<String, Fail> {
     }
 }
 
-/// Rows of a string's contents, and what is told of them: a `␞` ends a row, a `␟` parts its two.
+/// Rows of a string's contents, and what is reported of them: a `␞` ends a row, a `␟` parts its two.
 const INSIDE: &str = concat!(
     "a = 1, b = 'x',␟2␞",
     "␟0␞",
@@ -68,7 +68,7 @@ fn values_of_names(rt: HostRuntime) -> Result<(), Fail> {
     Ok(())
 }
 
-/// A hundred thousand attributes, and more text behind them.
+/// A hundred thousand attributes, and more text after them.
 fn many(alloc: Global, more: &str) -> Result<String, AllocError> {
     let mut text = String::new(alloc);
     for n in 0..100_000_u32 {
@@ -96,10 +96,10 @@ fn many_names(rt: HostRuntime) -> Result<(), Fail> {
     Ok(())
 }
 
-/// An allocator that refuses when it is told to, lent.
+/// A borrowed allocator that fails where it is asked to.
 type Lent<'a> = &'a Refusing<Global>;
 
-/// What the parser answers with these requests refused.
+/// What the parser answers with these allocations failing.
 fn parsed_short<'a>(
     refusing: Lent<'a>,
     input: &mut ParseBuffer<'_, Lent<'a>>,
@@ -112,7 +112,7 @@ fn parsed_short<'a>(
     answer
 }
 
-/// A refusal with its place, and how many trees are left.
+/// An error with its place, and how many trees are left.
 fn told_refusal<A: Allocator>(
     alloc: Global,
     error: &Error<A>,
@@ -121,7 +121,7 @@ fn told_refusal<A: Allocator>(
     format!(in alloc; "{}, {left} left", Refusal(error))
 }
 
-/// What the parser tells with these requests refused, and how many trees are left.
+/// What the parser tells with these allocations failing, and how many trees are left.
 fn told_short(
     alloc: Global,
     refusing: Lent<'_>,

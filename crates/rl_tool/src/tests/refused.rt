@@ -1,4 +1,4 @@
-//! Runs whose requests for memory are refused, each in turn.
+//! Runs whose allocations fail, each in turn.
 
 use crate::command::Command;
 use crate::run::run;
@@ -23,7 +23,7 @@ fn told(
     }
 }
 
-/// What runs tell, with nothing refused, and then with each of so many requests and all behind it.
+/// What runs tell, with no failing allocation, and then with each of so many failing, and all after it.
 fn all_told(
     alloc: Global,
     command: Command,
@@ -39,7 +39,7 @@ fn all_told(
     Ok(out)
 }
 
-/// The input's bytes and the token, then the digits, which a literal is refused for, then the line.
+/// The input's bytes and the token, then the digits, without which a literal is an error, then the line.
 #[test]
 fn one_literal(rt: HostRuntime) -> Result<(), Fail> {
     let answers = all_told(rt.alloc(), Command::Text, "0x1", 4)?;
@@ -54,7 +54,7 @@ fn one_literal(rt: HostRuntime) -> Result<(), Fail> {
     Ok(())
 }
 
-/// The input's bytes, then the token, its digits and the list, which the literals are refused for, then the line.
+/// The input's bytes, then the token, its digits and the list, without which the literals are an error, then the line.
 #[test]
 fn a_list(rt: HostRuntime) -> Result<(), Fail> {
     let answers = all_told(rt.alloc(), Command::Read, "0x1", 5)?;

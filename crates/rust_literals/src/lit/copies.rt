@@ -114,7 +114,7 @@ impl<A: Allocator> fmt::Debug for Lit<A> {
     }
 }
 
-/// Puts a literal token with this text and span last. Where memory is wanted and refused, the stream stays, and that is
+/// Puts a literal token with this text and span last. Where an allocation fails, the stream stays, and that is
 /// reported at the span.
 fn append_text<A: Allocator>(
     alloc: A,

@@ -18,7 +18,7 @@ use std::fmt;
 use std::hash::{Hash, Hasher};
 
 impl LitBool {
-    /// The truth value once more. It takes no memory, so this is never refused.
+    /// The truth value once more. It takes no memory, so it never fails.
     ///
     /// # Errors
     ///

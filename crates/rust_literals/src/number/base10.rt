@@ -9,7 +9,7 @@ use std::alloc::Allocator;
 use std::fmt::Display;
 use std::str::FromStr;
 
-/// A number type's fault in its own words, reported at a span; running out of memory for the words
+/// A number type's error in its own words, reported at a span; an allocation failure for the words
 /// is reported there too.
 fn reported<F: Display, B: Allocator>(alloc: B, fault: &F, span: Span) -> Error<B>
     ensures { IsReported (F.output fault.now) span result }
@@ -29,8 +29,8 @@ impl<K: NumberKind, A: Allocator> Number<K, A> {
     ///
     /// # Errors
     ///
-    /// The type's fault is reported at the span, as `Number` in the fault's own words; running out
-    /// of memory for these is reported there too, and so is a fault that can't be put into words.
+    /// The type's error is reported at the span, as `Number` in the error's own words; an allocation
+    /// failure for these is reported there too, and so is an error that can't be put into words.
     ///
     /// # Example
     ///

@@ -34,7 +34,7 @@ fn copy_of<A: Allocator, B: Allocator>(
 
 impl<K: NumberKind, A: Allocator> Number<K, A> {
     /// The literal once more, with its memory from this allocator: for the token, and for the
-    /// digits where they aren't lent from it.
+    /// digits where they aren't borrowed from it.
     ///
     /// # Errors
     ///

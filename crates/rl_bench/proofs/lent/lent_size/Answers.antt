@@ -1,4 +1,4 @@
--- What is lent, by the kind.
+-- What is borrowed, by the kind.
 use Rattle.rl_bench.proofs.LentLemmas.{lent_integer, lent_float, lent_other}
 use Rattle.rl_bench.proofs.lent.lent_size.Goals as goal
 

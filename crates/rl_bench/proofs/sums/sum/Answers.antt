@@ -1,4 +1,4 @@
--- The next text is added; behind the last the sum so far is the sum of all.
+-- The next text is added; after the last the sum so far is the sum of all.
 use Rattle.rl_bench.proofs.SumLemmas.{sum_starts, sum_more, sum_done}
 use Rattle.rl_bench.proofs.sums.sum.Goals as goal
 

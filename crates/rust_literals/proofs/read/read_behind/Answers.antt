@@ -6,7 +6,7 @@ use Rattle.rust_literals.specs.Flat.{AreFirst}
 use Rattle.rust_literals.proofs.read.read_behind.Given as given
 use Rattle.rust_literals.proofs.read.read_behind.Goals as goal
 
--- behind them the list is empty
+-- after them the list is empty
 none_more : (g : given.Over) (c : goal.After-read_from g) (first : List (Lit g.row.A.Denot)) → AreFirst (chars c.args.text.now) c.args.file c.args.count first → AreFirst (chars c.args.text.now) c.args.file c.args.count (first ++ c.new.result.items)
 none_more g c first are =
     let none : first ++ c.new.result.items ≡ first = ap (λ xs. first ++ xs) c.new.ensures.items ∙ append-nil first in
