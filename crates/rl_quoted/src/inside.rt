@@ -42,7 +42,7 @@ impl<A: Allocator> LitStr<A> {
         }
     }
 
-    /// Refuses a suffix.
+    /// Rejects a suffix.
     fn refuse_suffix<B: Allocator>(&self, alloc: B) -> Result<(), Error<B>>
         ensures ok { OnOk result (HasSuffix Str (chars self.now.text) []) }
         ensures refused { IfErr result

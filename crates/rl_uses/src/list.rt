@@ -123,7 +123,7 @@ fn parse_list<A: Allocator + Copy>(
     Ok(ItemList { items })
 }
 
-/// Takes a group in square brackets, of items with commas between them. Refused is, at its place, what is no such group
+/// Takes a group in square brackets, of items with commas between them. Rejected is, at its place, what is no such group
 /// (`square brackets`), what is no item (`integer literal or string literal`), and what stands after an item and is no
 /// comma (`` `,` ``). An error leaves the buffer.
 impl<A: Allocator + Copy> Parse<A> for ItemList<A> {

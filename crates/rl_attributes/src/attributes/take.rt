@@ -29,7 +29,7 @@ use std::alloc::Allocator;
 use std::collections::HashSet;
 use std::hash::{BuildHasherDefault, FoldHasher};
 
-/// Names that were taken, as the trees lend them.
+/// Names that were taken, as they stand in the trees.
 type Names<'a, A> = HashSet<&'a str, BuildHasherDefault<FoldHasher>, A>;
 
 /// Takes an identifier that is none of the names, and adds it to them.
