@@ -35,7 +35,7 @@ fn value_ref_weight(alloc: Global, literal: &Lit) -> Result<u64, AllocError>
     }
 }
 
-/// By kind, value or digits, and suffix, by way of `Lit::new` and what it borrows out.
+/// By kind, value or digits, and suffix, by way of `Lit::new` and what it borrows.
 pub(crate) struct ByValueRef;
 
 impl Weigh for ByValueRef {

@@ -58,7 +58,7 @@ other_form found.Identifier h e = absurd (cc)
 other_form (found.Delimiter c) h e = absurd (cc)
 other_form (found.Mark c) h e = absurd (cc)
 
--- a minus, and no literal token behind it
+-- a minus, and no literal token after it
 pub no_number : (old between new : CursorState) (m l : Lexeme) → TakesNext old m between → form_view m.form ≡ MarkForm 45 → TakesNext between l new → (l.form ≡ found.Literal → ⊥) → HasNoNextLiteral old
 no_number old between new m l takes is next other =
     inr (m, between, takes, subst (λ (f : LexemeForm). BeginsNone f m.text.now between) (sym is) (inr (inr (l, new, next, inl (other_form l.form other)))))

@@ -47,7 +47,7 @@ pub stands_at : (text lent rest : List ℕ) (at : ℕ) (start : CursorState) →
 stands_at text lent rest at start same is cut =
     is ∙ ap (λ z. record { text = lent; rest = z }) cut ∙ ap (λ z. record { text = z; rest = drop at z }) same
 
--- the literal that was taken is the first from there on, and where what is left begins is told
+-- the literal that was taken is the first from there on, and where what is left begins is returned
 pub found_token : (text lent rest left : List ℕ) (at : ℕ) (start new : CursorState) (l : SourceToken) (next : Next) → lent ≡ text → start ≡ record { text = lent; rest = rest } → rest ≡ drop at lent → IsTail lent rest → TakesLiteralAfter start l new → left ≡ new.rest → next.lo ≡ l.lo → next.hi ≡ l.hi → next.rest_at ≡ length lent - length left → FindsToken text at next l
 found_token text lent rest left at start new l next same is cut tail takes left_is lo hi place =
     let t : TakesLiteralAfter (cursor_at text at) l new = subst (λ z. TakesLiteralAfter z l new) (stands_at text lent rest at start same is cut) takes in

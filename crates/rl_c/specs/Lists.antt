@@ -45,8 +45,8 @@ pub record TakesNegative (old : CursorState) (next : Next) (new : CursorState) :
 abbrev pub TakesNextLiteral : CursorState → Next → CursorState → Type 0
 TakesNextLiteral old next new = TakesLiteral old next new ⊎ TakesNegative old next new
 
--- The text begins with the literal, behind white space and comments; what is left behind it, and
--- behind such, begins at the place that is told.
+-- The text begins with the literal, after white space and comments; what is left after it, and
+-- after such, begins at the place that is returned.
 pub record BeginsLiteral (text : List ℕ) (next : Next) : Type 0 where
   pub start : CursorState
   pub behind : CursorState
@@ -54,14 +54,14 @@ pub record BeginsLiteral (text : List ℕ) (next : Next) : Type 0 where
   pub takes : TakesNextLiteral start next behind
   pub rest_is : next.rest_at + length behind.rest ≡ length text
 
--- no number behind a minus
+-- no number after a minus
 abbrev pub HasNoNumber : CursorState → Type 0
 HasNoNumber t =
     BeginsNoLexeme (chars t.rest)
     ⊎ ((l : Lexeme) × (new : CursorState) × TakesNext t l new
     × ((form_view l.form ≢ LiteralForm) ⊎ HasNoReading (code "-" ∷ chars l.text.now)))
 
--- the token, and what is left behind it, begin no literal
+-- the token, and what is left after it, begin no literal
 abbrev pub BeginsNone : LexemeForm → List ℕ → CursorState → Type 0
 BeginsNone LiteralForm text behind = HasNoReading (chars text)
 BeginsNone IdentifierForm text behind = HasNoReading (chars text)
@@ -75,7 +75,7 @@ HasNoNextLiteral t =
     ⊎ ((l : Lexeme) × (new : CursorState) × TakesNext t l new
     × BeginsNone (form_view l.form) l.text.now new)
 
--- the numbers of the lexer's faults
+-- the numbers of the lexer's errors
 abbrev pub fault_number : LexKind → ℕ
 fault_number DocComment = 3
 fault_number UnclosedComment = 4
@@ -88,14 +88,14 @@ fault_number UnclosedGroup = 10
 fault_number TooDeep = 11
 fault_number Memory = 12
 
--- The number tells the fault of what is left: 2 where it has none, since a token begins it.
+-- The number tells the error of what is left: 2 where it has none, since a token begins it.
 abbrev pub TellsFault : CursorState → ℕ → Type 0
 TellsFault t status =
     ((kind : LexKind) × (status ≡ fault_number kind)
     × ((groups : List OpenGroup) → FaultAt kind groups (chars t.rest)))
     ⊎ ((status ≡ 2) × BeginsLexeme (chars t.rest))
 
--- Behind white space and comments no literal begins the text, and why is told, with its byte.
+-- After white space and comments no literal begins the text, and why is returned, with its byte.
 pub record BeginsNoLiteral (text : List ℕ) (status at : ℕ) : Type 0 where
   pub start : CursorState
   pub starts : Starts text start

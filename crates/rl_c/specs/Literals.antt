@@ -50,7 +50,7 @@ abbrev pub EndsWithoutLiteral : List ℕ → ℕ → Type 0
 EndsWithoutLiteral text at =
     (end : CursorState) × PassesTo (cursor_at text at) end × (end.rest ≡ [])
 
--- The first literal from the byte on is this token, its place is told, and the place where what is
+-- The first literal from the byte on is this token, its place is returned, and the place where what is
 -- left begins after it.
 pub record FindsToken (text : List ℕ) (at : ℕ) (next : Next) (token : SourceToken)
     : Type 0 where
@@ -61,7 +61,7 @@ pub record FindsToken (text : List ℕ) (at : ℕ) (next : Next) (token : Source
   pub rest_is : drop next.rest_at text ≡ after.rest
   pub place : IsCharBoundary text next.rest_at
 
--- and its one reading is told
+-- and its one reading is returned
 abbrev pub FindsLiteral : List ℕ → ℕ → Next → Type 0
 FindsLiteral text at next =
     (token : SourceToken) × FindsToken text at next token

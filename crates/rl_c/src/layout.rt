@@ -24,7 +24,7 @@ pub struct Layout {
     pub next_align: usize,
 }
 
-/// Tells the version, sizes and alignments.
+/// Returns the version, sizes and alignments.
 #[unsafe(no_mangle)]
 pub extern "C" fn rl_layout(layout: &mut Layout)
     ensures { layout.new ≡ record {

@@ -1,7 +1,7 @@
 //! The literals layer for callers in other languages: a static library that takes no memory.
 //!
 //! Each export takes texts as pointers and lengths, which have to be UTF-8, and writes into places
-//! that the caller lends. The Cargo package in `rust/` calls it.
+//! that the caller passes. The Cargo package in `rust/` calls it.
 #![tactic(auto)]
 
 ghost use Rattle.std.specs.Prelude.{◌≡◌, ◌↔◌, ◌-◌, ◌≤◌, ◌<◌, [], ◌∷◌, false, length, take, IsTrue, IsFalse};
@@ -133,8 +133,8 @@ pub extern "C" fn rl_float_digits(text: &[u8], reading: &Reading, out: &mut [u8]
     numeral_into(numeral(text, reading), out)
 }
 
-/// What begins the list, behind white space and comments: 0 where nothing does, 1 for a literal, 2
-/// for a token that begins none, else the number of the lexer's fault. `next` tells the literal, or
+/// What begins the list, after white space and comments: 0 where nothing does, 1 for a literal, 2
+/// for a token that begins none, else the number of the lexer's error. `next` tells the literal, or
 /// by `lo` the place of what is none.
 #[unsafe(no_mangle)]
 pub extern "C" fn rl_next(text: &[u8], next: &mut Next) -> u8

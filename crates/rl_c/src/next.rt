@@ -19,9 +19,9 @@ pub struct Next {
     pub reading: Reading,
     /// The place of the minus, where one stands.
     pub minus_at: usize,
-    /// The place of the token's first byte; where none is a literal, of the fault.
+    /// The place of the token's first byte; where none is a literal, of the error.
     pub lo: usize,
-    /// The place behind its last byte.
+    /// The place after its last byte.
     pub hi: usize,
     /// Where what is left begins.
     pub rest_at: usize,
@@ -29,7 +29,7 @@ pub struct Next {
     pub negative: bool,
 }
 
-/// A fault's number.
+/// An error's number.
 pub(crate) fn fault_number(kind: LexKind) -> u8
     ensures value { result ≡ fault_number kind }
     ensures past { 2 < result }

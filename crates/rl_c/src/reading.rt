@@ -21,7 +21,7 @@ const PAST_64_BITS: u128 = 1 << 64;
 pub struct Reading {
     /// The place of the body's first byte.
     pub at: usize,
-    /// The place behind the body's last byte.
+    /// The place after the body's last byte.
     pub end: usize,
     /// The place of the suffix's first byte; the text's end where there is none.
     pub suffix_at: usize,

@@ -162,7 +162,7 @@ row_scalars (u ∷ us) each h =
     let parts = scalars_parts (unit_text u) (texts us) h in
     scalars_join (unit_value Str u) (values Str us) (unit_scalars u each.0 parts.0) (row_scalars us each.1 parts.1)
 
--- what stands behind the opener, up to what follows it
+-- what stands after the opener, up to what follows it
 inside_scalars : (t front inside after : List ℕ) → t ≡ front ++ (inside ++ after) → scalars t ≡ true → scalars inside ≡ true
 inside_scalars t front inside after e h = (scalars_parts inside after (scalars_parts front (inside ++ after) (ap scalars (sym e) ∙ h)).1).0
 

@@ -11,7 +11,7 @@ use Rattle.std.proofs.lemmas.Str.Pattern.{drop_at_char}
 use denote.Ref.{Bor}
 use Rattle.rl_tokens.specs.Texts.{IsTail}
 
--- what is behind by characters is behind by bytes
+-- what is after by characters is after by bytes
 pub behind_chars : (bs ys front : List ℕ) → IsUtf8 bs → IsUtf8 ys → chars bs ≡ front ++ chars ys → IsTail bs ys
 behind_chars bs ys front u w e = record {
   front = encode_utf8_all front;

@@ -64,13 +64,13 @@ times_one v r = simp unary_clauses (omega arith)
 at_end : (r : ℕ) (some : Bool) (v : ℕ) (x : List ℕ) → (some, capped v, x) ≡ At r some v [] x
 at_end r some v x = ap (λ b. (b, capped v, x)) (or_false some) ∙ ap (λ n. (some || false, capped n, x)) (times_one v r)
 
--- behind an underscore
+-- after an underscore
 at_mark : (r : ℕ) (some : Bool) (v : ℕ) (ds x : List ℕ) → r ≤ 36 → At r some v (95 ∷ ds) x ≡ At r some v ds x
 at_mark r some v ds x h =
     let e : nat_lt 36 r ≡ false = grind (arith, nat_tests) in
     ap (λ b. (some || (b || list_any (has_value r) ds), capped (v * r ^ length (without_underscores ds) + place_value r (without_underscores ds)), x)) e
 
--- behind a digit
+-- after a digit
 at_digit : (r : ℕ) (some : Bool) (v c : ℕ) (ds x : List ℕ) → (c == 95) ≡ false → nat_lt (digit_value c) r ≡ true → At r true (v * r + digit_value c) ds x ≡ At r some v (c ∷ ds) x
 at_digit r some v c ds x n d =
     let w : List ℕ = without_underscores ds in

@@ -68,7 +68,7 @@ digit_part : (a b : Bool) → (a || b) ≡ true → b ≡ false → a ≡ true
 digit_part true b p q = refl
 digit_part false b p q = absurd (cc)
 
--- digits behind underscores
+-- digits after underscores
 record Trimmed (row x : List ℕ) : Type 0 where
   more : List ℕ
   is : after_run is_underscore (row ++ x) ≡ more ++ x
@@ -76,7 +76,7 @@ record Trimmed (row x : List ℕ) : Type 0 where
   some : list_any (has_value 10) more ≡ true
   first : first_passes is_ascii_digit more ≡ true
 
--- behind its underscores a row with a digit begins with one
+-- after its underscores a row with a digit begins with one
 trimmed : (row x : List ℕ) → list_all (is_row_part (has_value 10)) row ≡ true → list_any (has_value 10) row ≡ true → Trimmed row x
 trimmed [] x h k = absurd (cc)
 trimmed (c ∷ cs) x h k = go (λ m. trimmed cs x (and_parts (is_row_part (has_value 10) c) (list_all (is_row_part (has_value 10)) cs) h).1 m) (c == 95) refl
@@ -103,14 +103,14 @@ digit_no_sign (c ∷ cs) h =
     let e : (c == 43 || c == 45) ≡ false = grind (arith, nat_tests) in
     ap (λ b. cond b cs (c ∷ cs)) e
 
--- the row behind the letter, underscores and sign
+-- the row after the letter, underscores and sign
 record Powered (t x : List ℕ) : Type 0 where
   more : List ℕ
   is : power_at t ≡ more ++ x
   each : list_all (is_row_part (has_value 10)) more ≡ true
   some : list_any (has_value 10) more ≡ true
 
--- a sign behind underscores is taken off
+-- a sign after underscores is taken off
 signed_past : (c : ℕ) (us w : List ℕ) → (c == 43 || c == 45) ≡ true → list_all is_underscore us ≡ true → power_at (us ++ (c ∷ w)) ≡ w
 unfolding power_at
 signed_past c us w h k =
@@ -140,7 +140,7 @@ power_past letter cs x l stops p =
     ap (λ b. cond b (after_digits 10 (power_at cs)) (letter ∷ cs)) (and_from (is_exponent_letter letter) _ l some)
     ∙ ap (after_digits 10) p.is ∙ y.1
 
--- what is left behind underscores goes on with an identifier too
+-- what is left after underscores goes on with an identifier too
 all_continue_run : (t : List ℕ) → list_all is_xid_continue t ≡ true → list_all is_xid_continue (after_run is_underscore t) ≡ true
 unfolding after_run
 all_continue_run [] h = refl
@@ -158,7 +158,7 @@ no_sign (c ∷ cs) h =
     let e : (c == 43 || c == 45) ≡ false = ap (λ z. z || (c == 45)) (continue_not 43 c (omega arith) refl b.0) ∙ continue_not 45 c (omega arith) refl b.0 in
     ap (λ z. cond z cs (c ∷ cs)) e
 
--- behind underscores a row with a digit begins with one
+-- after underscores a row with a digit begins with one
 first_digit : (t : List ℕ) → first_passes is_underscore t ≡ false → has_digit_at 10 t ≡ true → (d : ℕ) × (rest : List ℕ) × (is_ascii_digit d ≡ true) × (t ≡ d ∷ rest)
 unfolding run
 first_digit [] h k = absurd (cc)
@@ -256,7 +256,7 @@ abbrev power_sign : List ℕ → List ℕ
 power_sign [] = []
 power_sign (c ∷ cs) = cond (c == 43 || c == 45) (c ∷ []) []
 
--- a sign, and what stands behind it
+-- a sign, and what stands after it
 sign_splits : (v : List ℕ) → (v ≡ power_sign v ++ after_power_sign v) × (is_power_sign (power_sign v) ≡ true)
 sign_splits [] = (refl, refl)
 sign_splits (c ∷ cs) = go (c == 43 || c == 45) refl

@@ -158,7 +158,7 @@ single_once kind a v x w y s q =
     let same = some_pair (v, 39 ∷ x) (w, 39 ∷ y) (sym (single_at kind a v x s) ∙ single_at kind a w y q) in
     (same.0, let e : 39 ∷ x ≡ 39 ∷ y = same.1 in cc)
 
--- the body and the suffix round the quote behind the unit
+-- the body and the suffix round the quote after the unit
 pub single_found : (kind : Kind) (a : List ℕ) (q : List ℕ × List ℕ) (r : Cut) → is_single kind ≡ true → unit_at kind a ≡ Some q → IfSome r (λ p. a ≡ chars p.0.now ++ q.1) → IfSome r (λ p. q.1 ≡ 39 ∷ chars p.1.now) → IfSome r (λ p. (w : List ℕ) × PartsAre SingleForm kind (opener kind ++ a) w (chars p.0.now) (chars p.1.now))
 single_found kind a q None s h cut quote = tt
 single_found kind a q (Some p) s h cut quote =

@@ -30,7 +30,7 @@ one_front (PunctTree p ∷ PunctTree x ∷ trees) a b r s h k = absurd h
 one_front (PunctTree p ∷ GroupTree d inside at ∷ trees) a b r s h k = absurd h
 one_front (GroupTree d inside at ∷ trees) a b r s h k = absurd h
 
--- behind a literal the rest stands
+-- after a literal the rest stands
 pub front_rest : (trees rest : List Tree) (token : SpannedText) → IsFront trees token rest → IsRest trees rest
 front_rest [] rest token h = absurd h
 front_rest (LiteralTree x ∷ trees) rest token (_, f) = rest_one _ _ _ (ap (λ ts. LiteralTree x ∷ ts) (sym f))
@@ -80,7 +80,7 @@ other_of kind trees token rest h other has = other (same_front kind trees token 
 pub truth_reads : (t : List ℕ) (b : Bool) → t ≡ truth_text b → ReadsAs BoolKind t
 truth_reads t b e = (Truth b, [], record { truth = b; text_is = e; suffix_is = refl; contents_is = refl })
 
--- behind a minus no truth value stands
+-- after a minus no truth value stands
 pub no_negative_truth : (t : List ℕ) → ReadsAs BoolKind (45 ∷ t) → ⊥
 no_negative_truth t (v, x, r) = no_truth t x v r
 

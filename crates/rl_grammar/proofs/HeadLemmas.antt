@@ -35,7 +35,7 @@ no_base (z ∷ c ∷ cs) h = go (z == 48) refl
     go true e = let d : is_ascii_digit z ≡ true = ap is_ascii_digit (eqb-true z 48 e) in absurd (cc)
     go false e = refl
 
--- behind the sign of base ten there is no prefix
+-- after the sign of base ten there is no prefix
 ten_whole : (u : List ℕ) → (radix_at u).0 ≡ 10 → radix_at u ≡ ten u
 unfolding radix_at
 ten_whole [] h = refl
@@ -54,7 +54,7 @@ capped_cond : (s : Sign) (b : Bool) (n : ℕ) (x : List ℕ) → capped_int (wit
 capped_cond s true n x = refl
 capped_cond s false n x = refl
 
--- without a digit behind the sign no integer stands
+-- without a digit after the sign no integer stands
 pub no_head_int : (t : List ℕ) → first_passes is_ascii_digit (after_minus t) ≡ false → None ≡ capped_int (int_at t)
 unfolding int_at based_at
 no_head_int t h =

@@ -144,22 +144,22 @@ begins_is (k ∷ p) (c ∷ cs) h =
     let front : ℕ → List ℕ → List ℕ = λ a z. a ∷ z in
     (ih.0, ap (λ a. front a cs) (eqb-true c k b.0) ∙ ap (front k) ih.1)
 
--- behind `0b`
+-- after `0b`
 based_binary : (cs : List ℕ) → Based (48 ∷ 98 ∷ cs)
 unfolding radix_at
 based_binary cs = record { base = Binary; rest = cs; at = refl; text_is = refl; front = λ h. tt }
 
--- behind `0o`
+-- after `0o`
 based_octal : (cs : List ℕ) → Based (48 ∷ 111 ∷ cs)
 unfolding radix_at
 based_octal cs = record { base = Octal; rest = cs; at = refl; text_is = refl; front = λ h. tt }
 
--- behind `0x`
+-- after `0x`
 based_hexadecimal : (cs : List ℕ) → Based (48 ∷ 120 ∷ cs)
 unfolding radix_at
 based_hexadecimal cs = record { base = Hexadecimal; rest = cs; at = refl; text_is = refl; front = λ h. tt }
 
--- behind no prefix
+-- after no prefix
 based_decimal : (t : List ℕ) → begins_base t ≡ false → Based t
 based_decimal t h = record { base = Decimal; rest = t; at = not_based t h; text_is = refl; front = λ d. (d, h) }
 
@@ -182,7 +182,7 @@ sign_join (c ∷ cs) = go (c == 45) refl
     go true h = ap (λ z. z ∷ cs) (eqb-true c 45 h)
     go false h = refl
 
--- behind a row of base 16 no digit of it follows
+-- after a row of base 16 no digit of it follows
 pub hex_stops : (x : List ℕ) → first_passes (is_row_part (has_value 16)) x ≡ false → first_passes (has_value 16) x ≡ false
 hex_stops [] h = refl
 hex_stops (c ∷ cs) h = go (has_value 16 c) h
@@ -230,7 +230,7 @@ record Read (r : ℕ) (t : List ℕ) (p : ℕ × List ℕ) : Type 0 where
   ends : may_end r (after_digits r t) ≡ true
   is : (magnitude_at r t, after_digits r t) ≡ p
 
--- the tests behind a reading
+-- the tests after a reading
 based_sound : (r : ℕ) (t : List ℕ) (p : ℕ × List ℕ) → based_at r t ≡ Some p → Read r t p
 unfolding based_at
 based_sound r t p h =

@@ -1,4 +1,4 @@
--- A number that was found, behind a minus.
+-- A number that was found, after a minus.
 use Rattle.std.proofs.Common.{◌≡◌, ℕ, zero, suc, ◌+◌, ◌≤◌, ◌⊎◌, inl, inr, Bool, true, false, cond, ◌==◌, List, [], ◌∷◌, ◌++◌, length, take, drop, refl, sym, ap, subst, ◌∙◌, arith, length-take-le}
 use Rattle.std.proofs.lemmas.List.{take-append-drop, append_cancel_right}
 use Rattle.std.proofs.lemmas.Str.{IsUtf8-take, IsUtf8-drop, IsUtf8-append, IsUtf8-from_ascii, chars-append}
@@ -51,7 +51,7 @@ halves t f u h =
 abbrev Moved : Found → Found
 Moved f = Of f.kind (NumberBody (f.body.suffix_at + 1) f.body.plain) f.magnitude
 
--- what stands behind the minus, as it is told there
+-- what stands after the minus, as it is there
 record Behind (t : List ℕ) (n : ℕ) : Type 0 where
   pub text : IsUtf8 (45 ∷ t)
   pub front : IsUtf8 (45 ∷ take n t)

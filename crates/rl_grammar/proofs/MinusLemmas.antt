@@ -1,4 +1,4 @@
--- Literals behind a minus.
+-- Literals after a minus.
 use Rattle.std.proofs.Common.{◌≡◌, ℕ, ◌⊎◌, inl, inr, Bool, true, false, cond, ◌==◌, ◌&&◌, List, [], ◌∷◌, ◌++◌, Some, None, refl, sym, ap, subst, ◌∙◌}
 use Rattle.std.specs.Char.{is_ascii_digit}
 use Rattle.rl_tokens.specs.declared.kind.Kind.{Kind}
@@ -15,11 +15,11 @@ use Rattle.rl_tokens.proofs.StrictNumbers.{behind_minus, minus_int}
 use Rattle.rl_grammar.proofs.FloatLemmas.{float_past, float_sound}
 use Rattle.rl_grammar.proofs.DigitLemmas.{int_sign}
 
--- an integer without sign stays one behind a minus
+-- an integer without sign stays one after a minus
 pub int_on : (t : List ℕ) (s : Sign) (m : ℕ) (x : List ℕ) → sign_at t ≡ NoSign → IntReads t s m x → IntReads (45 ∷ t) Minus m x
 int_on t s m x e h = minus_int t x m (subst (λ (k : Sign). IntReads t k m x) (sym (int_sign t s m x h) ∙ e) h)
 
--- a float is told by what follows its minus
+-- a float is determined by what follows its minus
 pub float_at-minus : (t : List ℕ) → sign_at t ≡ NoSign → float_at (45 ∷ t) ≡ float_at t
 unfolding float_at
 float_at-minus [] h = refl
@@ -41,7 +41,7 @@ double_minus (c ∷ cs) h = go (c == 45) refl h
     go false e k = absurd (cc)
     go true e k = ap (λ z. float_at (45 ∷ z ∷ cs)) (eqb-true c 45 e)
 
--- where no number stands, none stands behind a minus
+-- where no number stands, none stands after a minus
 pub negative_none : (t : List ℕ) → sign_at t ≡ NoSign → HasNoNumber t → HasNoNumber (45 ∷ t)
 negative_none t e h Int c x r = h Int _ x (record { sign = NoSign; magnitude = r.magnitude; reads = (behind_minus t x r.sign r.magnitude r.reads).0; within = r.within; contents_is = refl })
 negative_none t e h Float c x r =
@@ -54,7 +54,7 @@ negative_none t e h Byte c x r = r
 negative_none t e h Char c x r = r
 negative_none t e h BoolKind c x r = r
 
--- no number stands behind two minuses
+-- no number stands after two minuses
 pub negative_twice : (t : List ℕ) → sign_at t ≡ Minus → HasNoNumber (45 ∷ t)
 negative_twice t e Int c x r =
     let q = int_sign t NoSign r.magnitude x ((behind_minus t x r.sign r.magnitude r.reads).0) in
@@ -70,7 +70,7 @@ negative_twice t e Byte c x r = r
 negative_twice t e Char c x r = r
 negative_twice t e BoolKind c x r = r
 
--- a number stays one behind a minus
+-- a number stays one after a minus
 negative_int : (t x : List ℕ) → sign_at t ≡ NoSign → HasSuffix Int t x → HasSuffix Int (45 ∷ t) x
 negative_int t x e (c, r) = (_, record { sign = Minus; magnitude = r.magnitude; reads = int_on t r.sign r.magnitude x e r.reads; within = r.within; contents_is = refl })
 
@@ -140,7 +140,7 @@ quoted_front t x k c r = elim r.form [
   ]
 ]
 
--- so none stands behind a minus
+-- so none stands after a minus
 no_quoted : (t x : List ℕ) (k : Kind) (c : Contents) → ReadsQuoted (45 ∷ t) k c x → ⊥
 no_quoted t x k c r = both_ways true (quoted_front (45 ∷ t) x k c r) refl
 
@@ -148,7 +148,7 @@ no_quoted t x k c r = both_ways true (quoted_front (45 ∷ t) x k c r) refl
 pub no_truth : (t x : List ℕ) (c : Contents) → ReadsBool (45 ∷ t) c x → ⊥
 no_truth t x c r = both_ways true (ap (first_passes is_minus) r.text_is ∙ truth_front r.truth) refl
 
--- behind a minus only numbers stand
+-- after a minus only numbers stand
 pub negative_no_reading : (t : List ℕ) → HasNoNumber (45 ∷ t) → HasNoReading (45 ∷ t)
 negative_no_reading t h Int c x r = h Int c x r
 negative_no_reading t h Float c x r = h Float c x r

@@ -147,7 +147,7 @@ digit_code c h = let e : (48 ≤ c) × (c ≤ 57) = grind (arith, nat_tests) in 
 spread : (v d q p : ℕ) → v * (q * 10) + (d * q + p) ≡ (v * 10 + d) * q + p
 spread v d q p = omega arith
 
--- digits behind a number above nothing
+-- digits after a number above nothing
 written_more : (ds : List ℕ) (v j k : ℕ) → 0 < v → v < 10 ^ suc j → list_all is_ascii_digit ds ≡ true → v * 10 ^ length ds + place_value 10 ds < 10 ^ suc k → digits_onto (suc k) 10 false (v * 10 ^ length ds + place_value 10 ds) [] ≡ digits_onto (suc j) 10 false v [] ++ ds
 written_more [] v j k l small all h =
     let e : v * 10 ^ 0 + 0 ≡ v = simp unary_clauses (omega arith) in
@@ -204,7 +204,7 @@ bare (d ∷ ds) h =
     let b = and_parts (is_ascii_digit d) (list_all is_ascii_digit ds) h in
     ap (λ m. cond (not m) (d ∷ without_underscores ds) (without_underscores ds)) (apart is_ascii_digit d 95 b.0 refl) ∙ ap (λ z. d ∷ z) (bare ds b.1)
 
--- it begins with a digit behind its sign
+-- it begins with a digit after its sign
 begins_at : (b : Base) (ds x : List ℕ) → IsBehindPrefix b (ds ++ x) → list_any (is_digit b) ds ≡ true → first_passes is_ascii_digit (prefix b ++ ds) ≡ true
 begins_at Binary ds x front some = refl
 begins_at Octal ds x front some = refl

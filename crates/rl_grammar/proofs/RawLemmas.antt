@@ -102,19 +102,19 @@ raw_once kind t v x w y r s =
 
 -- ---- the steps of the reader
 
--- what follows the hashes is behind the text
+-- what follows the hashes is after the text
 pub hashes_behind : (bs ys : List ℕ) → IsUtf8 bs → IsUtf8 ys → chars ys ≡ after_hashes (chars bs) → IsTail bs ys
 hashes_behind bs ys u w e =
     let front = hashes_sound (chars bs) in
     behind_chars bs ys (replicate front.0 35) u w (front.1 ∙ ap (λ z. replicate front.0 35 ++ z) (sym e))
 
--- no quote stands behind the hashes
+-- no quote stands after the hashes
 pub raw_unopened : (kind : Kind) (t rest : List ℕ) → rest ≡ after_hashes t → ((y : List ℕ) → rest ≢ 34 ∷ y) → HasNoParts RawForm kind (raw_opener kind ++ t)
 raw_unopened kind t rest e h v b x p =
     let front = hashes_sound t in
     h _ (e ∙ (raw_front kind t v x (replicate front.0 35) p.0 front.1).1)
 
--- `hashes` stand at the front of `t`, and `rest` behind them
+-- `hashes` stand at the front of `t`, and `rest` after them
 
 module _ (kind : Kind) (t hashes rest : List ℕ) (rest_is : rest ≡ after_hashes t) (text_is : t ≡ hashes ++ rest) where
   opens : (v x : List ℕ) (r : Raw kind (raw_opener kind ++ t) v x) → (hashes ≡ replicate r.hashes 35) × (rest ≡ 34 ∷ inner r.hashes r.inside x)
@@ -128,7 +128,7 @@ module _ (kind : Kind) (t hashes rest : List ℕ) (rest_is : rest ≡ after_hash
       let both : 34 ∷ inside ≡ 34 ∷ inner p.0.hashes p.0.inside x = sym e ∙ (opens v x p.0).1 in
       quote_inside inside p.0.inside (replicate p.0.hashes 35 ++ x) h (let both = both in cc)
 
-  -- the last quote cuts the text behind the first one into a body and what comes after
+  -- the last quote cuts the text after the first one into a body and what comes after
   module _ (inside body after : List ℕ) (inside_is : rest ≡ 34 ∷ inside) (last_is : inside ≡ body ++ (34 ∷ after)) (none_after : list_all no_quote after ≡ true) where
     closes : (v x : List ℕ) (r : Raw kind (raw_opener kind ++ t) v x) → (body ≡ r.inside) × (after ≡ hashes ++ x)
     closes v x r =

@@ -27,7 +27,7 @@ row_room kind text rest v bytes row are ut ur =
     let value : length bytes ≡ length (in_bytes kind (values kind row.units)) = ap length (are ∙ ap (in_bytes kind) row.value_is) in
     omega (arith, longer, value, shrinks.no_longer)
 
--- so many bytes stand in the buffer, those of the units that were passed, and the rest has room behind them
+-- so many bytes stand in the buffer, those of the units that were passed, and the rest has room after them
 pub record IsFilled (kind : Kind) (text rest out : List ℕ) (at : ℕ) : Type 0 where
   pub value : List ℕ
   pub row : BeginsRow kind (chars text) value (chars rest)

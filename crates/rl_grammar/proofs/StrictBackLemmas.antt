@@ -103,7 +103,7 @@ hex_escape BoolKind high low q u = absurd q
 
 -- ---- digits, each with how many underscores follow it
 
--- the digits of a text behind one digit and n underscores
+-- the digits of a text after one digit and n underscores
 abbrev group : ℕ → ℕ → List ℕ → List (ℕ × ℕ)
 group first n [] = (first, n) ∷ []
 group first n (c ∷ cs) = cond (eqb c 95) (group first (suc n) cs) ((first, n) ∷ group c 0 cs)

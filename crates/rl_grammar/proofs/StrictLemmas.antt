@@ -1,4 +1,4 @@
--- A strict token is a quoted form behind its opener, a number, or a truth value.
+-- A strict token is a quoted form after its opener, a number, or a truth value.
 use Rattle.std.proofs.Common.{◌≡◌, ◌≢◌, ℕ, ◌⊎◌, ◌||◌, Bool, true, false, ◌==◌, List, [], ◌∷◌, ◌++◌, Option, Some, None, refl, sym, ap, subst, ◌∙◌, inl, inr, append_assoc}
 use Rattle.std.proofs.lemmas.Bool.{both_ways}
 use Rattle.std.specs.Char.{is_ascii_digit}
@@ -63,7 +63,7 @@ quoted_strict t Int v x q s = absurd q
 quoted_strict t Float v x q s = absurd q
 quoted_strict t BoolKind v x q s = absurd q
 
--- units, a quote and a suffix behind an opener
+-- units, a quote and a suffix after an opener
 units_token : (k : Kind) (t inside : List ℕ) → IsQuotedKind k → t ≡ opener k ++ inside → ClosesUnits k inside → IsToken t
 units_token k t inside q text c =
     let v : Contents = strict_quoted_contents k (flat_map (strict_contents (strict_content_of k)) c.units) in
@@ -86,7 +86,7 @@ units_token k t inside q text c =
 raw_text : (o h i x : List ℕ) → ((((o ++ h) ++ (34 ∷ i)) ++ (34 ∷ h)) ++ x) ≡ o ++ (h ++ (34 ∷ (i ++ (34 ∷ (h ++ x)))))
 raw_text o h i x = simp append_assoc
 
--- hashes and what ends them behind an opener
+-- hashes and what ends them after an opener
 raw_token : (k : Kind) (t inside : List ℕ) → IsQuotedKind k → t ≡ raw_opener k ++ inside → ClosesRaw k inside → IsToken t
 raw_token k t inside q text c =
     let i = c.closes in
@@ -109,7 +109,7 @@ raw_token k t inside q text c =
       }));
     }
 
--- any form behind its opener
+-- any form after its opener
 close_token : (form : QuotedForm) (k : Kind) (t inside : List ℕ) → has_form form k ≡ true → t ≡ form_opener form k ++ inside → Closes form k inside → IsToken t
 close_token CookedForm k t inside h text c = units_token k t inside (quoted_string k h) text c
 close_token SingleForm k t inside h text c = units_token k t inside (quoted_single k h) text c
@@ -117,7 +117,7 @@ close_token RawForm k t inside h text c = raw_token k t inside (quoted_string k 
 
 -- ---- what a token is
 
--- a quoted form, behind its opener
+-- a quoted form, after its opener
 record Opened (t : List ℕ) : Type 0 where
   form : QuotedForm
   kind : Kind
@@ -130,7 +130,7 @@ record Opened (t : List ℕ) : Type 0 where
 abbrev Seen : List ℕ → Type 0
 Seen t = Opened t ⊎ (IsStrictNumber t ⊎ ((b : Bool) × (t ≡ truth_text b)))
 
--- what stands behind the opener of a form with escapes
+-- what stands after the opener of a form with escapes
 units_closed : (k : Kind) (t : List ℕ) (v : Contents) (x : List ℕ) (s : StrictCooked t k v x) → ClosesUnits k (flat_map strict_text s.units ++ (strict_closer k ++ x))
 units_closed k t v x s = record { units = s.units; suffix = x; count = s.count; each = s.each; blanks_end = s.blanks_end; is_suffix = s.suffix; text_is = refl }
 

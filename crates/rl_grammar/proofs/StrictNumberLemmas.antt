@@ -58,7 +58,7 @@ power_row row x each some s =
     let p = run_past (is_row_part (has_value 10)) row x each (suffix_no_part x (lenient_suffix x s)) in
     and_from (has_digit_at 10 (row ++ x)) (is_number_suffix (after_digits 10 (row ++ x))) (ap (list_any (has_value 10)) p.0 ∙ some) (ap is_number_suffix p.1 ∙ number_suffix_complete x s)
 
--- what stands behind the letter of an exponent
+-- what stands after the letter of an exponent
 power_complete : (sign row x : List ℕ) → ((sign ≡ []) ⊎ ((sign ≡ 43 ∷ []) ⊎ (sign ≡ 45 ∷ []))) → list_all (is_row_part (has_value 10)) row ≡ true → list_any (has_value 10) row ≡ true → IsNumberSuffix x → ends_power (sign ++ (row ++ x)) ≡ true
 unfolding ends_power
 power_complete sign row x sg each some s =
@@ -84,7 +84,7 @@ suffix_no_dot : (x : List ℕ) → IsNumberSuffix x → first_passes (λ c. c ==
 suffix_no_dot [] s = refl
 suffix_no_dot (c ∷ cs) s = not-true (c == 46) (and_parts (not (c == 46)) (list_all (λ c. not (c == 46)) cs) (suffix_without 46 (c ∷ cs) foreign_dot (lenient_suffix (c ∷ cs) s))).0
 
--- behind the whole part, where no dot follows
+-- after the whole part, where no dot follows
 whole_plain : (y : List ℕ) → first_passes (λ c. c == 46) y ≡ false → ends_digits y ≡ true → ends_whole y ≡ true
 whole_plain [] n h = refl
 whole_plain (c ∷ cs) n h = ap (λ b. cond b (ends_dot cs) (ends_digits (c ∷ cs))) n ∙ h
@@ -211,7 +211,7 @@ sign_split (c ∷ cs) =
       ]
     ]
 
--- behind the letter of an exponent
+-- after the letter of an exponent
 power_sound : (letter : ℕ) (t : List ℕ) → is_exponent_letter letter ≡ true → ends_power t ≡ true → (e x : List ℕ) × IsStrictExponent e × IsNumberSuffix x × (letter ∷ t ≡ e ++ x)
 unfolding ends_power
 power_sound letter t l h =
@@ -266,7 +266,7 @@ no_text : (t : List ℕ) → not (is_some_text t) ≡ true → t ≡ []
 no_text [] h = refl
 no_text (c ∷ cs) h = absurd (cc)
 
--- behind a whole part and a dot
+-- after a whole part and a dot
 dot_sound : (t d z : List ℕ) → IsDigits d → IsDecimalText t → t ≡ d ++ (46 ∷ z) → ends_dot z ≡ true → IsStrictNumber t
 unfolding ends_dot
 dot_sound t d z h n text k =
@@ -289,7 +289,7 @@ first_some : (d : List ℕ) → first_passes is_ascii_digit d ≡ true → list_
 first_some [] h = absurd (cc)
 first_some (c ∷ cs) h = or_left (has_value 10 c) (list_any (has_value 10) cs) (sym (digit_is_ten c) ∙ h)
 
--- behind a whole part
+-- after a whole part
 ended_sound : (t d y : List ℕ) → IsDigits d → IsDecimalText t → t ≡ d ++ y → ends_digits y ≡ true → IsStrictNumber t
 ended_sound t d y h n text k =
     elim (ending_sound y k) [
@@ -297,7 +297,7 @@ ended_sound t d y h n text k =
       | inr b ↦ float_of t (d ++ b.0) b.1 (inr (inr (d, b.0, h, b.2, inl refl))) n b.3 (text ∙ ap (λ q. d ++ q) b.4 ∙ sym (append_assoc d b.0 b.1))
     ]
 
--- behind a whole part, whatever follows
+-- after a whole part, whatever follows
 whole_sound : (t d y : List ℕ) → IsDigits d → IsDecimalText t → t ≡ d ++ y → ends_whole y ≡ true → IsStrictNumber t
 whole_sound t d [] h n text k = int_of t d [] h n (inl refl, refl) refl (first_some d h.0) text
 whole_sound t d (c ∷ cs) h n text k =
@@ -320,7 +320,7 @@ prefix_of Octal h = inr (inl (refl, refl))
 prefix_of Hexadecimal h = inr (inr (refl, refl))
 prefix_of Decimal h = absurd (cc)
 
--- behind a row of base 16 no digit of it follows
+-- after a row of base 16 no digit of it follows
 no_more_digits : (b : Base) (x : List ℕ) → first_passes (is_row_part (has_value (radix b))) x ≡ false → radix b ≡ 16 → first_passes is_ascii_hexdigit x ≡ false
 no_more_digits Hexadecimal x h e = passes_same is_ascii_hexdigit (has_value 16) hex_is_sixteen x ∙ hex_stops x h
 no_more_digits Binary x h e = absurd (omega arith)

@@ -1,4 +1,4 @@
--- Strict raw forms: hashes, contents up to the first closer, and the suffix behind it.
+-- Strict raw forms: hashes, contents up to the first closer, and the suffix after it.
 use Rattle.std.proofs.Common.{◌≡◌, ◌≢◌, ℕ, zero, suc, ◌<◌, ◌≤◌, ◌⊎◌, ◌&&◌, ◌||◌, Bool, true, false, not, ◌==◌, cond, List, [], ◌∷◌, ◌++◌, length, drop, replicate, refl, sym, ap, subst, ◌∙◌, inl, inr, arith, nat_lt}
 use Rattle.std.proofs.lemmas.Bool.{and_from, and_parts, both_ways, cases_Bool, eqb-true, false_from_ne_true, not-true}
 use Rattle.std.proofs.lemmas.List.{append_cancel_right, length-replicate}
@@ -216,7 +216,7 @@ raw_sound k hashes t s h =
 
 -- ---- turns of the loop
 
--- a quote without the hashes behind it is no closer
+-- a quote without the hashes after it is no closer
 pub quote_without_hashes : (hashes : List ℕ) (c : ℕ) (cs : List ℕ) → ((x : List ℕ) → cs ≢ hashes ++ x) → (c == 34 && begins hashes cs) ≡ false
 quote_without_hashes hashes c cs none = false_from_ne_true (c == 34 && begins hashes cs) (λ h. let b = begins_is hashes cs (and_parts (c == 34) (begins hashes cs) h).1 in none b.0 b.1)
 
@@ -233,7 +233,7 @@ record Hashes (hs : List ℕ) : Type 0 where
   chars_are : chars hs ≡ replicate count 35
   length_is : length hs ≡ count
 
--- what stands before the rest behind hashes is hashes
+-- what stands before the rest after hashes is hashes
 hashes_in : (t r hs : List ℕ) → IsUtf8 hs → r ≡ after_hashes t → t ≡ chars hs ++ r → Hashes hs
 hashes_in t r hs u rest text =
     let f = hashes_sound t in
@@ -284,6 +284,6 @@ raw_many k b t r hs u rest text many none =
           absurd (omega arith),
     )
 
--- no quote behind the hashes
+-- no quote after the hashes
 pub raw_unquoted : (k : Kind) (t r : List ℕ) → r ≡ after_hashes t → ((y : List ℕ) → r ≢ 34 ∷ y) → IsTrue false ↔ ClosesRaw k t
 raw_unquoted k t r rest n = (λ y. absurd (both_ways true (sym y) refl), λ c. absurd (n c.rest (rest ∙ ap after_hashes c.text_is ∙ hashes_complete c.hashes c.rest)))

@@ -1,4 +1,4 @@
--- Strict units up to a quote, and the suffix behind it.
+-- Strict units up to a quote, and the suffix after it.
 use Rattle.std.proofs.Common.{◌≡◌, ℕ, Bool, true, false, cond, ◌==◌, List, [], ◌∷◌, ◌++◌, length, Some, None, refl, sym, ap, subst, ◌∙◌, arith, append_assoc, append-nil}
 use Rattle.std.proofs.lemmas.Bool.{and_from, and_parts, both_ways, eqb-true}
 use Rattle.std.specs.List.{list_all, flat_map}
@@ -151,7 +151,7 @@ quote_sound quote (c ∷ cs) h =
 
 -- ---- units in a row
 
--- what stands behind the first of several units
+-- what stands after the first of several units
 row_behind : (k : Kind) (u : StrictUnit) (us : List StrictUnit) (q : ℕ) (x t : List ℕ) → list_all (is_strict_unit k) (u ∷ us) ≡ true → BlanksEnd (u ∷ us) → is_dropped_blank q ≡ false → t ≡ flat_map strict_text (u ∷ us) ++ (q ∷ x) → unit_rest k t ≡ Some (flat_map strict_text us ++ (q ∷ x))
 row_behind k u us q x t each b n text =
     let p = and_parts (is_strict_unit k u) (list_all (is_strict_unit k) us) each in
@@ -162,7 +162,7 @@ row_behind k u us q x t each b n text =
 string_text : (k : Kind) (t x : List ℕ) (us : List StrictUnit) → is_string k ≡ true → t ≡ flat_map strict_text us ++ (strict_closer k ++ x) → t ≡ flat_map strict_text us ++ (34 ∷ x)
 string_text k t x us s e = e ∙ ap (λ z. flat_map strict_text us ++ (z ++ x)) (string_ends k s)
 
--- behind the first unit the same end follows
+-- after the first unit the same end follows
 row_down : (k : Kind) (t r x : List ℕ) (us : List StrictUnit) → is_string k ≡ true → unit_rest k t ≡ Some r → list_all (is_strict_unit k) us ≡ true → BlanksEnd us → IsStrictSuffix x → t ≡ flat_map strict_text us ++ (34 ∷ x) → ClosesUnits k r
 row_down k t r x [] s h each b i e = absurd (let n : None ≡ Some r = sym (ap (unit_rest k) e ∙ quote_stops k x s) ∙ h in (cc))
 row_down k t r x (u ∷ us) s h each b i e =
@@ -273,7 +273,7 @@ one_unit [] h = absurd (omega arith)
 one_unit (u ∷ []) h = (u, refl)
 one_unit (u ∷ w ∷ us) h = absurd (omega arith)
 
--- what stands behind the one unit of a character or a byte
+-- what stands after the one unit of a character or a byte
 one_behind : (k : Kind) (t : List ℕ) (c : ClosesUnits k t) → is_single k ≡ true → unit_rest k t ≡ Some (39 ∷ c.suffix)
 one_behind k t c s =
     let o = one_unit c.units (single_length k c.units s c.count) in

@@ -30,7 +30,7 @@ pub record StrictFront (k : Kind) (t r : List ℕ) : Type 0 where
   pub may_end : MayEnd unit r
   pub text_is : t ≡ strict_text unit ++ r
 
--- ---- what is left stands behind a unit
+-- ---- what is left stands after a unit
 
 -- only a line break asks what follows
 pub no_break_ends : (u : StrictUnit) (r : List ℕ) → ((blanks : List ℕ) → u ≡ LineBreak blanks → ⊥) → MayEnd u r
@@ -61,7 +61,7 @@ plain_backslash BoolKind = refl
 abbrev is_backslash : ℕ → Bool
 is_backslash c = c == 92
 
--- what stands behind the first character
+-- what stands after the first character
 abbrev behind : List ℕ → List ℕ
 behind [] = []
 behind (c ∷ cs) = cs
@@ -126,7 +126,7 @@ behind_backslash k (c ∷ cs) r q h =
           ]
     ]
 
--- what is left stands behind a strict unit
+-- what is left stands after a strict unit
 pub unit_rest_sound : (k : Kind) (t r : List ℕ) → IsQuotedKind k → unit_rest k t ≡ Some r → StrictFront k t r
 unfolding unit_rest
 unit_rest_sound k [] r q h = absurd (cc)
@@ -139,7 +139,7 @@ unit_rest_sound k (c ∷ cs) r q h =
           record { unit = Itself c; is_unit = p.0; may_end = tt; text_is = ap (λ z. c ∷ z) p.1 }
     ]
 
--- ---- what stands behind a unit is left
+-- ---- what stands after a unit is left
 
 -- no kind takes a backslash as it is, strictly neither
 bare_backslash : (k : Kind) → is_strict_unit k (Itself 92) ≡ false

@@ -44,7 +44,7 @@ strict_suffix_complete (c ∷ cs) (inr w) =
     let q = and_parts (not (is_white c)) (list_all (λ c. not (is_white c)) cs) w.no_white in
     and_from (cond (c == 95) (is_some_text cs) (is_start c)) (list_all is_continue cs) (word_front c cs (and_from (c == 95 || is_xid_start c) (not (is_white c)) p.0 q.0) w.not_underscore) (all_both is_xid_continue (λ c. not (is_white c)) cs p.1 q.1)
 
--- what stands behind the first character
+-- what stands after the first character
 abbrev behind : List ℕ → List ℕ
 behind [] = []
 behind (c ∷ cs) = cs

@@ -9,7 +9,7 @@ use Rattle.rl_grammar.specs.declared.quoted.QuotedForm.{QuotedForm}
 use Rattle.rl_grammar.specs.declared.quoted.QuotedForm.TheVariants.{Single as SingleForm}
 use Rattle.rl_grammar.specs.Forms.{PartsAre, form_opener, is_plain_body}
 
--- The body, in bytes, stands between the quotes of the string, and it is told whether the body
+-- The body, in bytes, stands between the quotes of the string, and it is said whether the body
 -- stands for itself.
 pub record HasBody (kind : Kind) (text body : List ℕ) (plain : Bool) : Type 0 where
   pub string : IsTrue (is_string kind)

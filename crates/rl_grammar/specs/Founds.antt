@@ -30,7 +30,7 @@ pub record StandsIn (text : List ℕ) (body : Body) : Type 0 where
 abbrev pub is_quoted : Kind → Bool
 is_quoted kind = is_string kind || is_single kind
 
--- The parts of the quoted literal stand at these places, and it is told whether the body stands for
+-- The parts of the quoted literal stand at these places, and it is said whether the body stands for
 -- itself.
 pub record IsQuotedAt (kind : Kind) (text : List ℕ) (body : Body) : Type 0 where
   pub form : QuotedForm

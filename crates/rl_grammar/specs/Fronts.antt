@@ -18,11 +18,11 @@ abbrev pub joined_span : Span → Span → Span
 joined_span a b =
     if a.file == b.file then record { file = a.file; lo = min a.lo b.lo; hi = max a.hi b.hi } else a
 
--- a minus and the literal behind it, as one token: without what stands between
+-- a minus and the literal after it, as one token: without what stands between
 abbrev pub joined : Mark → SpannedText → SpannedText
 joined mark token = record { text = code "-" ∷ token.text; span = joined_span mark.span token.span }
 
--- A literal begins the trees, as this token, and these trees stand behind it: a literal token with
+-- A literal begins the trees, as this token, and these trees stand after it: a literal token with
 -- any text; the word `true` or `false`; a minus and a literal token that read together.
 abbrev pub IsFront : List Tree → SpannedText → List Tree → Type 0
 IsFront (LiteralTree l ∷ trees) token rest = (token ≡ l) × (rest ≡ trees)
@@ -56,13 +56,13 @@ pub record IsOtherFront (kind : Kind) (trees : List Tree) (rest : List Tree) : T
   pub front : IsFront trees token rest
   pub other : ReadsAs kind (chars token.text) → ⊥
 
--- Memory was refused for the literal that begins the trees; they stay.
+-- An allocation failed for the literal that begins the trees; they stay.
 pub record LacksMemoryAtFront {A : Type 0} (trees : List Tree) (scope : Span) (e : Error A)
     (rest : List Tree) : Type 0 where
   pub error : e ≡ memory_at (first_span trees scope)
   pub stays : rest ≡ trees
 
--- A parser of literals of one kind refuses what begins the trees, which is none of them: a literal
+-- A parser of literals of one kind rejects what begins the trees, which is none of them: a literal
 -- of another kind is passed, and else the trees stay.
 pub record PassesOther {A : Type 0} (kind : Kind) (word : List ℕ) (trees : List Tree) (scope : Span)
     (e : Error A) (rest : List Tree) : Type 0 where
@@ -70,7 +70,7 @@ pub record PassesOther {A : Type 0} (kind : Kind) (word : List ℕ) (trees : Lis
   pub none : HasFrontOf kind trees → ⊥
   pub passed : IsOtherFront kind trees rest ⊎ (HasNoFront trees × (rest ≡ trees))
 
--- What a parser of literals of one kind does. The word is that of its refusals.
+-- What a parser of literals of one kind does. The word is that of its errors.
 abbrev pub RunsAs : {A : Type 0} → Kind → List ℕ → List Tree → Span → Result SpannedText (Error A)
     → List Tree → Type 0
 RunsAs kind word trees scope (Ok token) rest = IsFrontOf kind trees token rest

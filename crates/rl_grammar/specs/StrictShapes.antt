@@ -21,7 +21,7 @@ IsStrictNumber text =
     (contents : Contents) × (suffix : List ℕ)
     × (StrictInt text contents suffix ⊎ StrictFloat text contents suffix)
 
--- what stands behind the opener of a strict form with escapes: units, the quote, and a suffix
+-- what stands after the opener of a strict form with escapes: units, the quote, and a suffix
 pub record ClosesUnits (kind : Kind) (text : List ℕ) : Type 0 where
   pub units : List StrictUnit
   pub suffix : List ℕ
@@ -31,7 +31,7 @@ pub record ClosesUnits (kind : Kind) (text : List ℕ) : Type 0 where
   pub is_suffix : IsStrictSuffix suffix
   pub text_is : text ≡ flat_map strict_text units ++ (strict_closer kind ++ suffix)
 
--- what stands behind the hashes and the quote of a strict raw form
+-- what stands after the hashes and the quote of a strict raw form
 pub record ClosesInside (kind : Kind) (hashes text : List ℕ) : Type 0 where
   pub inside : List ℕ
   pub suffix : List ℕ
@@ -41,7 +41,7 @@ pub record ClosesInside (kind : Kind) (hashes text : List ℕ) : Type 0 where
   pub is_suffix : IsStrictSuffix suffix
   pub text_is : text ≡ inside ++ (code "\"" ∷ (hashes ++ suffix))
 
--- what stands behind the opener of a strict raw form: hashes, a quote, and what ends it
+-- what stands after the opener of a strict raw form: hashes, a quote, and what ends it
 pub record ClosesRaw (kind : Kind) (text : List ℕ) : Type 0 where
   pub hashes : ℕ
   pub few : hashes < 256
@@ -49,7 +49,7 @@ pub record ClosesRaw (kind : Kind) (text : List ℕ) : Type 0 where
   pub closes : ClosesInside kind (replicate hashes (code "#")) rest
   pub text_is : text ≡ replicate hashes (code "#") ++ (code "\"" ∷ rest)
 
--- what stands behind the opener of a strict form
+-- what stands after the opener of a strict form
 abbrev pub Closes : QuotedForm → Kind → List ℕ → Type 0
 Closes CookedForm kind text = ClosesUnits kind text
 Closes SingleForm kind text = ClosesUnits kind text

@@ -90,7 +90,7 @@ fn body_bytes<A: Allocator>(
 ///
 /// # Errors
 ///
-/// `Memory` where memory is refused, reported at `Span::call_site`.
+/// `Memory` where an allocation fails, reported at `Span::call_site`.
 ///
 /// # Example
 ///
@@ -115,7 +115,7 @@ pub fn str_of<A: Allocator>(alloc: A, text: &str) -> Result<String<A>, Error<A>>
 ///
 /// # Errors
 ///
-/// `Memory` where memory is refused, reported at `Span::call_site`.
+/// `Memory` where an allocation fails, reported at `Span::call_site`.
 pub fn bytes_of<A: Allocator>(alloc: A, text: &str) -> Result<Vec<u8, A>, Error<A>>
     requires { ReadsAs Kind.ByteStr (chars text.now) ⊎ ReadsAs Kind.CStr (chars text.now) }
     ensures byte_string { IfOk result
@@ -135,7 +135,7 @@ pub fn bytes_of<A: Allocator>(alloc: A, text: &str) -> Result<Vec<u8, A>, Error<
 ///
 /// # Errors
 ///
-/// `Memory` where memory is refused, reported at `Span::call_site`.
+/// `Memory` where an allocation fails, reported at `Span::call_site`.
 pub fn str_of_body<A: Allocator>(alloc: A, body: &str, plain: bool) -> Result<String<A>, Error<A>>
     requires { (text : List ℕ) × HasBody Kind.Str (chars text) body.now plain × IsUtf8 text }
     ensures value { IfOk result
@@ -152,7 +152,7 @@ pub fn str_of_body<A: Allocator>(alloc: A, body: &str, plain: bool) -> Result<St
 ///
 /// # Errors
 ///
-/// `Memory` where memory is refused, reported at `Span::call_site`.
+/// `Memory` where an allocation fails, reported at `Span::call_site`.
 pub fn bytes_of_body<A: Allocator>(
     alloc: A,
     kind: Kind,

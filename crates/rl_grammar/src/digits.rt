@@ -34,7 +34,7 @@ const CHANGED: Marks = Marks {
 
 /// The digits of a number in base ten.
 ///
-/// Of an integer they are its magnitude in base ten, behind a minus where the text begins with one.
+/// Of an integer they are its magnitude in base ten, after a minus where the text begins with one.
 /// Of a float they are all that stands before its suffix, without underscores and pluses and with
 /// `E` as `e`.
 ///
@@ -43,7 +43,7 @@ const CHANGED: Marks = Marks {
 ///
 /// # Errors
 ///
-/// `Memory` where memory is refused, reported at `Span::call_site`.
+/// `Memory` where an allocation fails, reported at `Span::call_site`.
 pub fn digits_of<A: Allocator>(alloc: A, kind: Kind, text: &str) -> Result<String<A>, Error<A>>
     requires reads { IsNumber kind (chars text.now) }
     ensures value { IfOk result (λ s. AreDigits kind (chars text.now) (chars (string_bytes s))) }
@@ -72,7 +72,7 @@ fn found_number(kind: Kind, text: &str) -> Found
 ///
 /// # Errors
 ///
-/// `Memory` where memory is refused, reported at `Span::call_site`.
+/// `Memory` where an allocation fails, reported at `Span::call_site`.
 pub fn digits_of_found<A: Allocator>(
     alloc: A,
     text: &str,
@@ -101,7 +101,7 @@ fn found_digits<A: Allocator>(alloc: A, text: &str, found: Found) -> Result<Stri
     }
 }
 
-/// A magnitude in base ten, behind a minus where the text begins with one.
+/// A magnitude in base ten, after a minus where the text begins with one.
 fn signed_decimal<A: Allocator>(
     alloc: A,
     text: &str,
@@ -140,7 +140,7 @@ fn is_plain_digits(text: &str) -> bool
     }
 }
 
-/// The same, perhaps behind a minus.
+/// The same, perhaps after a minus.
 pub(crate) fn is_plain_integer(body: &str) -> bool
     ensures { result ≡ is_plain_integer (chars body.now) }
 {

@@ -25,7 +25,7 @@ use rl_tokens::Kind;
 pub struct Body {
     /// The place of the body's first byte.
     pub at: usize,
-    /// The place behind the body's last byte.
+    /// The place after the body's last byte.
     pub end: usize,
     /// The place of the suffix's first byte; the text's end where there is none.
     pub suffix_at: usize,
@@ -51,7 +51,7 @@ impl Body {
 /// What reading a text finds: the kind of the literal and where its parts stand.
 ///
 /// Of a quoted literal the body is what stands between its quotes, of a number all that stands before its suffix, sign
-/// and prefix included, and of a truth value the whole text. Nothing is lent: the text is cut at the places again.
+/// and prefix included, and of a truth value the whole text. Nothing is borrowed: the text is cut at the places again.
 #[derive(Clone, Copy)]
 pub struct Found {
     /// What the literal is.
@@ -84,7 +84,7 @@ pub struct Parts<'t> {
     pub kind: Kind,
     /// What stands before the suffix; of a quoted literal, what stands between its quotes.
     pub body: &'t str,
-    /// What stands behind; empty where there is none.
+    /// What stands after; empty where there is none.
     pub suffix: &'t str,
 }
 

@@ -1,4 +1,4 @@
-//! What strings stand for, and the digits of floats, written into a slice that the caller lends: no memory is taken.
+//! What strings stand for, and the digits of floats, written into a slice that the caller passes: no memory is taken.
 
 ghost use Rattle.std.specs.Prelude.{◌≡◌, ◌⊎◌, ◌≤◌, ◌+◌, ◌++◌, [], ◌∷◌, ℕ, List, false, take, length, encode_utf8, encode_utf8_all, IsTrue};
 ghost use Rattle.std.specs.Str.{chars, IsUtf8};

@@ -37,14 +37,14 @@ pub(crate) fn split_radix(text: &str) -> (u32, &str)
     (10, text)
 }
 
-/// What a number begins with: its base, and the row of digits behind sign and prefix.
+/// What a number begins with: its base, and the row of digits after sign and prefix.
 #[derive(Clone, Copy)]
 pub(crate) struct Head<'t> {
     pub radix: u32,
     pub row: DigitRow<'t>,
 }
 
-/// What a number begins with, by what stands behind its sign.
+/// What a number begins with, by what stands after its sign.
 #[inline(always)]
 #[tactic(auto, using(rl_tokens::proofs::BehindLemmas::behind_step))]
 fn head_of(unsigned: &str) -> Head<'_>
@@ -58,7 +58,7 @@ fn head_of(unsigned: &str) -> Head<'_>
     Head { radix, row }
 }
 
-/// What a number begins with; `None` where no digit stands behind the sign. That test is written into the callers.
+/// What a number begins with; `None` where no digit stands after the sign. That test is written into the callers.
 #[inline(always)]
 #[tactic(auto, using(rl_tokens::proofs::BehindLemmas::behind_step))]
 pub(crate) fn read_head(text: &str) -> Option<Head<'_>>
@@ -152,7 +152,7 @@ fn after_fraction(text: &str) -> &str
     }
 }
 
-/// The digits of a power, behind its letter.
+/// The digits of a power, after its letter.
 #[inline(always)]
 #[tactic(auto, using(rl_tokens::proofs::BehindLemmas::behind_step, rl_tokens::proofs::BehindLemmas::behind_self), unfolding(crate::specs::Mirrors::NumberAt::power_at))]
 fn power_digits(text: &str) -> &str
@@ -210,7 +210,7 @@ pub(crate) fn float_suffix(text: &str) -> Option<&str>
     tail_suffix(skip_row(whole).rest)
 }
 
-/// The suffix of the float that begins so: behind another base's prefix the whole part is its zero.
+/// The suffix of the float that begins so: after another base's prefix the whole part is its zero.
 #[inline(always)]
 pub(crate) fn head_suffix<'t>(text: &'t str, head: Head<'t>) -> Option<&'t str>
     requires head { IsHead (after_minus (chars text.now)) head.radix

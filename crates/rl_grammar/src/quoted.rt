@@ -53,7 +53,7 @@ fn string_front(kind: Kind, text: &str) -> Option<(QuotedForm, Kind, &str)>
     }
 }
 
-/// What the text behind a `b` tells.
+/// What the text after a `b` tells.
 fn byte_front(text: &str) -> Option<(QuotedForm, Kind, &str)>
     ensures { option_map (λ p. (p.0, p.1, chars p.2.now)) result ≡ byte_opener_at (chars text.now) }
 {
@@ -63,7 +63,7 @@ fn byte_front(text: &str) -> Option<(QuotedForm, Kind, &str)>
     }
 }
 
-/// What a text's front tells: the one form and the one kind that the text can have, and the text behind the opener.
+/// What a text's front tells: the one form and the one kind that the text can have, and the text after the opener.
 #[inline(always)]
 #[tactic(auto, unfolding(crate::specs::Mirrors::OpenerAt::opener_at))]
 pub(crate) fn front(text: &str) -> Option<(QuotedForm, Kind, &str)>
@@ -78,7 +78,7 @@ pub(crate) fn front(text: &str) -> Option<(QuotedForm, Kind, &str)>
     }
 }
 
-/// The text behind the units at its front, as far as they go.
+/// The text after the units at its front, as far as they go.
 #[inline(never)]
 fn skip_units(kind: Kind, text: &str) -> &str
     requires { IsTrue (is_string kind) }
@@ -93,14 +93,14 @@ fn skip_units(kind: Kind, text: &str) -> &str
     rest
 }
 
-/// The text behind the hashes at its front.
+/// The text after the hashes at its front.
 pub(crate) fn skip_hashes(text: &str) -> &str
     ensures { chars result.now ≡ after_hashes (chars text.now) }
 {
     skip(Class::Hash, text)
 }
 
-/// The text in front of the last quote, and the text behind it.
+/// The text in front of the last quote, and the text after it.
 pub(crate) fn split_last_quote(text: &str) -> Option<(&str, &str)>
     ensures some { IfSome result (λ p. (chars text.now ≡ chars p.0.now ++ (34 ∷ chars p.1.now))
         × IsTrue (list_all (λ c. not (c == 34)) (chars p.1.now))) }
@@ -109,7 +109,7 @@ pub(crate) fn split_last_quote(text: &str) -> Option<(&str, &str)>
     text.rsplit_once('"')
 }
 
-/// The text behind a prefix.
+/// The text after a prefix.
 #[tactic(auto, using(crate::proofs::CutLemmas::strip_prefix_some, crate::proofs::CutLemmas::strip_prefix_none))]
 pub(crate) fn behind_prefix<'t>(prefix: &str, text: &'t str) -> Option<&'t str>
     ensures some { IfSome result (λ rest. chars text.now ≡ chars prefix.now ++ chars rest.now) }
@@ -126,7 +126,7 @@ pub(crate) fn has_nul(text: &str) -> bool
     text.contains('\0')
 }
 
-/// The text in front of a rest that begins with the quote, and the text behind that quote.
+/// The text in front of a rest that begins with the quote, and the text after that quote.
 fn cut_at_quote<'t>(quote: char, text: &'t str, rest: &'t str) -> Option<(&'t str, &'t str)>
     requires { IsTail text.now rest.now }
     ensures cut { IfSome result (λ p. text.now ≡ p.0.now ++ rest.now) }

@@ -1,4 +1,4 @@
-//! Rows of digits and underscores, what their digits spell, and what may stand before and behind them.
+//! Rows of digits and underscores, what their digits spell, and what may stand before and after them.
 
 ghost use Rattle.std.specs.Prelude.{◌≡◌, ◌<◌, ◌≤◌, None, Option, Some, drop, false, nat_lt, if◌then◌else◌, ℕ};
 ghost use Rattle.std.specs.Char.{digit_value, is_ascii_digit};
@@ -42,7 +42,7 @@ fn digit_value(byte: u8) -> u32
     }
 }
 
-/// What 64 bits surely hold with one more digit behind it, in the bases up to 36, is below this.
+/// What 64 bits surely hold with one more digit after it, in the bases up to 36, is below this.
 const MAY_GROW: u64 = 1 << 58;
 
 /// Digits at the front of a row.
@@ -50,7 +50,7 @@ const MAY_GROW: u64 = 1 << 58;
 struct FirstDigits {
     /// What they spell.
     spelled: u64,
-    /// The place behind them.
+    /// The place after them.
     end: usize,
 }
 

@@ -95,7 +95,7 @@ fn plain_len(kind: Kind, bytes: &[u8]) -> usize
     }
 }
 
-/// The characters at the front that the kind takes as they are, and the text behind them.
+/// The characters at the front that the kind takes as they are, and the text after them.
 #[inline(always)]
 pub(crate) fn split_plain(kind: Kind, text: &str) -> (&str, &str)
     requires { IsTrue (is_string kind) }
@@ -131,7 +131,7 @@ fn is_of(class: Class, c: char) -> bool
     }
 }
 
-/// The text behind the characters of the class at its front. It is inlined for the class that its caller names.
+/// The text after the characters of the class at its front. It is inlined for the class that its caller names.
 #[inline(always)]
 #[tactic(auto, using(rl_tokens::proofs::BehindLemmas::behind_step, rl_tokens::proofs::BehindLemmas::behind_self), unfolding(crate::specs::Mirrors::NumberAt::after_run))]
 pub(crate) fn skip(class: Class, text: &str) -> &str

@@ -44,7 +44,7 @@ pub fn is_token(text: &str) -> bool
     }
 }
 
-/// Whether the text behind the opener of a quoted form ends it, and a suffix may follow.
+/// Whether the text after the opener of a quoted form ends it, and a suffix may follow.
 fn closes(form: QuotedForm, kind: Kind, text: &str) -> bool
     requires { IsTrue (has_form form kind) }
     ensures { IsTrue result ↔ Closes form kind (chars text.now) }

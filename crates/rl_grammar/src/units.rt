@@ -81,7 +81,7 @@ fn named_value(kind: Kind, letter: u8) -> Option<u8>
     }
 }
 
-/// A hexadecimal digit at the front, and the text behind it.
+/// A hexadecimal digit at the front, and the text after it.
 #[tactic(auto, using(crate::proofs::AsciiLemmas::no_digit))]
 #[inline(always)]
 fn digit(text: &str) -> Option<(u32, &str)>
@@ -92,7 +92,7 @@ fn digit(text: &str) -> Option<(u32, &str)>
     Some(((first as char).to_digit(16)?, rest))
 }
 
-/// The number of the two digits of `\x`, and the text behind them.
+/// The number of the two digits of `\x`, and the text after them.
 #[tactic(auto, unfolding(crate::specs::Mirrors::UnitAt::hex_at))]
 #[inline(always)]
 fn hex_escape(kind: Kind, text: &str) -> Option<(u8, &str)>
@@ -110,7 +110,7 @@ fn hex_escape(kind: Kind, text: &str) -> Option<(u8, &str)>
     }
 }
 
-/// What follows the first digit of `\u{`: the character of all the digits, and the text behind the brace.
+/// What follows the first digit of `\u{`: the character of all the digits, and the text after the brace.
 #[tactic(auto, unfolding(crate::specs::Mirrors::UnitAt::unicode_digits_at), using(crate::proofs::AsciiLemmas::no_digits))]
 #[inline(always)]
 fn more_digits(text: &str, first: u32) -> Option<(char, &str)>
@@ -139,7 +139,7 @@ fn more_digits(text: &str, first: u32) -> Option<(char, &str)>
     }
 }
 
-/// The character of `\u{..}` from its brace on, and the text behind it.
+/// The character of `\u{..}` from its brace on, and the text after it.
 #[tactic(auto, unfolding(crate::specs::Mirrors::UnitAt::unicode_at), using(crate::proofs::AsciiLemmas::no_brace))]
 #[inline(always)]
 fn unicode_escape(kind: Kind, text: &str) -> Option<(char, &str)>
@@ -160,7 +160,7 @@ fn unicode_escape(kind: Kind, text: &str) -> Option<(char, &str)>
     }
 }
 
-/// The text behind the spaces, TABs, LFs and CRs.
+/// The text after the spaces, TABs, LFs and CRs.
 fn skip_blanks(text: &str) -> &str
     ensures value { chars result.now ≡ after_blanks (chars text.now) }
     ensures shorter { length result.now ≤ length text.now }
@@ -168,7 +168,7 @@ fn skip_blanks(text: &str) -> &str
     skip(Class::Blank, text)
 }
 
-/// What the escape stands for whose backslash stands before the text, and the text behind it.
+/// What the escape stands for whose backslash stands before the text, and the text after it.
 #[tactic(auto, unfolding(crate::specs::Mirrors::UnitAt::escape_at), using(crate::proofs::AsciiLemmas::no_escape))]
 #[inline(always)]
 fn escape(kind: Kind, text: &str) -> Option<(Piece, &str)>
@@ -201,7 +201,7 @@ fn escape(kind: Kind, text: &str) -> Option<(Piece, &str)>
     }
 }
 
-/// What a character at the front stands for that is no backslash, or the two of a line end, and the text behind.
+/// What a character at the front stands for that is no backslash, or the two of a line end, and the text after.
 #[tactic(auto, unfolding(crate::specs::Mirrors::UnitAt::unit_at))]
 #[inline(always)]
 fn character(kind: Kind, text: &str) -> Option<(Piece, &str)>
@@ -226,7 +226,7 @@ fn character(kind: Kind, text: &str) -> Option<(Piece, &str)>
     }
 }
 
-/// What the unit at the front stands for, and the text behind it: `None` where no unit of the kind stands there.
+/// What the unit at the front stands for, and the text after it: `None` where no unit of the kind stands there.
 #[tactic(auto, unfolding(crate::specs::Mirrors::UnitAt::unit_at), using(crate::proofs::AsciiLemmas::no_backslash))]
 #[inline(always)]
 pub(crate) fn unit(kind: Kind, text: &str) -> Option<(Piece, &str)>

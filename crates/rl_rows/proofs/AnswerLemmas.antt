@@ -24,7 +24,7 @@ point : chars (46 ∷ 10 ∷ []) ≡ 46 ∷ 10 ∷ []
 unfolding chars
 point = refl
 
--- a point behind lines
+-- a point after lines
 pub point_pushed : (old new : List ℕ) → IsUtf8 old → new ≡ old ++ (46 ∷ 10 ∷ []) → chars new ≡ chars old ++ (46 ∷ 10 ∷ [])
 point_pushed old new u e = pushed old new (46 ∷ 10 ∷ []) u e ∙ ap (λ z. chars old ++ z) point
 

@@ -1,4 +1,4 @@
--- What a literal lends, from its kind.
+-- What a literal borrows, from its kind.
 use Rattle.std.proofs.Common.{◌≡◌, ℕ, List, refl, sym, subst}
 use Rattle.std.specs.Prelude.{Option, Some, None, IfSome, IfNone, OnSome}
 use denote.Ref.{Bor}
@@ -21,17 +21,17 @@ never_plain kind text reads none (other, r, plain) =
     let one = one_reading (chars text) other kind r.0 reads.0 r.1 reads.1 r.2 reads.2 in
     none (subst (λ k. IsPlain k text) one.0 plain)
 
--- what a text of this kind lends
+-- what a text of this kind borrows
 pub some_lent : (kind : Kind) (t text : List ℕ) (lent : Option (Bor (List ℕ))) → t ≡ text → OnSome lent (IsPlain kind text) → IfSome lent (λ l. HasContents kind (chars text) (lent_contents kind l.now)) → IfSome lent (λ l. IsLent t l.now)
 some_lent kind t text None e plain has = tt
 some_lent kind t text (Some l) e plain has = subst (λ z. IsLent z l.now) (sym e) (record { kind = kind; plain = plain; contents = has })
 
--- and that it lends nothing
+-- and that it borrows nothing
 pub none_lent : (kind : Kind) (t text : List ℕ) (lent : Option (Bor (List ℕ))) → t ≡ text → ReadsAs kind (chars text) → IfNone lent (IsPlain kind text → ⊥) → IfNone lent (ReadsPlain t → ⊥)
 none_lent kind t text (Some l) e reads none = tt
 none_lent kind t text None e reads none = subst (λ z. ReadsPlain z → ⊥) (sym e) (never_plain kind text reads none)
 
--- a literal of another kind than these five lends nothing
+-- a literal of another kind than these five borrows nothing
 pub others_lend_none : {A : Type 0} (l : Lit A) → IsHeld l → ((x : SpannedText) → l ≡ StrLit x → ⊥) → ((x : SpannedText) → l ≡ ByteStrLit x → ⊥) → ((x : SpannedText) → l ≡ CStrLit x → ⊥) → ((x : SpannedText) → l ≡ IntLit x → ⊥) → ((x : SpannedText) → l ≡ FloatLit x → ⊥) → ReadsPlain (token_of l).text → ⊥
 others_lend_none (StrLit x) h s b c i f p = s x refl
 others_lend_none (ByteStrLit x) h s b c i f p = b x refl

@@ -35,7 +35,7 @@ IsIntegerAnswer text out =
 abbrev pub IsFloatAnswer : List ℕ → List ℕ → Type 0
 IsFloatAnswer text out = IsLineOfFloat text (chars out) ⊎ (HasNoFloat text × (out ≡ codes "None\n"))
 
--- how many bytes stand behind white space and comments
+-- how many bytes stand after white space and comments
 abbrev pub IsSkipAnswer : List ℕ → List ℕ → Type 0
 IsSkipAnswer text out =
     (rest : List ℕ) × Skipped text rest × (out ≡ decimal (byte_len rest) ++ codes "\n")
@@ -45,14 +45,14 @@ abbrev pub IsStrictAnswer : List ℕ → List ℕ → Type 0
 IsStrictAnswer text out =
     (IsToken text × (out ≡ codes "true\n")) ⊎ ((IsToken text → ⊥) × (out ≡ codes "false\n"))
 
--- the lines of the literals that the bytes' text is, and one with a point, or those of its refusal
+-- the lines of the literals that the bytes' text is, and one with a point, or those of its error
 abbrev pub IsReadAnswer : Type 0 → List ℕ → List ℕ → Type 0
 IsReadAnswer A bytes out =
     ((lines : List ℕ) × AreLinesOfText (chars bytes) lines × (chars out ≡ lines ++ codes ".\n"))
     ⊎ ((e : Error A) × RefusesText (chars bytes) 0 (length bytes) e × (out ≡ refusal_lines e))
 
 -- the lines of the attributes that the bytes' text is, and one with a point, or those of its
--- refusal
+-- error
 abbrev pub IsAttributesAnswer : Type 0 → List ℕ → List ℕ → Type 0
 IsAttributesAnswer A bytes out =
     ((lines : List ℕ) × ShowsAttributes (chars bytes) lines × (chars out ≡ lines ++ codes ".\n"))

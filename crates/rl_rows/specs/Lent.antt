@@ -33,7 +33,7 @@ pub record IsLent (text lent : List ℕ) : Type 0 where
 abbrev pub lent_line : List ℕ → List ℕ
 lent_line bytes = encode_utf8_all (written_text ByteStr bytes) ++ codes "\n"
 
--- the line of what the text lends, or that it lends nothing
+-- the line of what the text borrows, or that it borrows nothing
 abbrev pub IsLentAnswer : List ℕ → List ℕ → Type 0
 IsLentAnswer text out =
     ((lent : List ℕ) × IsLent text lent × (out ≡ lent_line lent))

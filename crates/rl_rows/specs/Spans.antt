@@ -29,7 +29,7 @@ abbrev pub span_lines : {A : Type 0} → List (Lit A) → List ℕ
 span_lines [] = []
 span_lines (l ∷ ls) = span_line l ++ span_lines ls
 
--- the lines of the literals that the bytes' text is, or of its refusal, and one with a point
+-- the lines of the literals that the bytes' text is, or of its error, and one with a point
 abbrev pub IsSpansAnswer : Type 0 → List ℕ → List ℕ → Type 0
 IsSpansAnswer A bytes out =
     ((list : List (Lit A)) × AreRead (chars bytes) 0 list × (out ≡ span_lines list ++ codes ".\n"))

@@ -7,7 +7,7 @@ use rl_tokens::{CString, Literal, NulError};
 use rust_literals::{Lit, LitByte, LitByteStr, LitCStr};
 use std::alloc::{AllocError, Global};
 
-/// Tells what a call of this name answers; false where there is none.
+/// Prints what a call of this name answers; false where there is none.
 pub(crate) fn told(
     alloc: Global,
     name: &str,

@@ -6,7 +6,7 @@ use crate::{
 };
 use std::alloc::{AllocError, Global};
 
-/// Tells what a call of this name answers to the bytes; of a call that takes a text, that they are none.
+/// Prints what a call of this name answers to the bytes; of a call that takes a text, that they are none.
 pub(crate) fn tell(
     alloc: Global,
     name: &str,
@@ -26,7 +26,7 @@ pub(crate) fn tell(
     }
 }
 
-/// Tells what a call of this name answers about one text; false where there is none.
+/// Prints what a call of this name answers about one text; false where there is none.
 fn of_text(alloc: Global, name: &str, text: &str, out: &mut String) -> Result<bool, AllocError> {
     Ok(
         shapes::told(alloc, name, text, out)?
@@ -40,7 +40,7 @@ fn of_text(alloc: Global, name: &str, text: &str, out: &mut String) -> Result<bo
     )
 }
 
-/// Tells what a call of this name answers about a text with trees in it; false where there is none.
+/// Prints what a call of this name answers about a text with trees in it; false where there is none.
 fn of_trees(alloc: Global, name: &str, text: &str, out: &mut String) -> Result<bool, AllocError> {
     Ok(
         trees::told(alloc, name, text, out)?

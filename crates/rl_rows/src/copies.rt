@@ -7,7 +7,7 @@ use std::alloc::{AllocError, Global};
 use std::collections::HashMap;
 use std::hash::{DefaultHasher, Hash, Hasher};
 
-/// Tells what a call of this name answers; false where there is none.
+/// Prints what a call of this name answers; false where there is none.
 pub(crate) fn told(
     alloc: Global,
     name: &str,
@@ -63,7 +63,7 @@ fn put(
     Ok(map.insert(literal, at)?)
 }
 
-/// Tells which one stood there before.
+/// Prints which one stood there before.
 fn tell_before(at: usize, before: Option<usize>, out: &mut String) -> Result<(), AllocError> {
     show(&at, out)?;
     match before {

@@ -24,7 +24,7 @@ fn integer_inside(alloc: Global, string: &LitStr, out: &mut String) -> Result<()
     }
 }
 
-/// The spans of a group, of the literal in front in it, of the group behind that, and of the literal in this.
+/// The spans of a group, of the literal in front in it, of the group after that, and of the literal in this.
 #[derive(Drop)]
 struct Spans {
     outer: Span,
@@ -89,7 +89,7 @@ fn group_inside(alloc: Global, string: &LitStr, out: &mut String) -> Result<(), 
     }
 }
 
-/// Tells the four spans.
+/// Prints the four spans.
 fn tell_spans(spans: &Spans, out: &mut String) -> Result<(), AllocError> {
     show_word(&At(spans.outer), out)?;
     show_word(&At(spans.first), out)?;

@@ -7,7 +7,7 @@ use rl_tokens::{Error, Span};
 use rust_literals::{Lit, read_all};
 use std::alloc::{AllocError, Global};
 
-/// Tells what a call of this name answers; false where there is none.
+/// Prints what a call of this name answers; false where there is none.
 pub(crate) fn told(
     alloc: Global,
     name: &str,
@@ -23,7 +23,7 @@ pub(crate) fn told(
     Ok(true)
 }
 
-/// Each literal's bytes and line, or the refusal and its bytes.
+/// Each literal's bytes and line, or the error and its bytes.
 fn places(alloc: Global, text: &str, out: &mut String) -> Result<(), AllocError> {
     match read_all(alloc, text, 0) {
         Ok(literals) => tell_places(alloc, literals.as_slice(), out),
@@ -40,13 +40,13 @@ fn tell_places(alloc: Global, literals: &[Lit], out: &mut String) -> Result<(), 
     Ok(())
 }
 
-/// A refusal's bytes and message.
+/// An error's bytes and message.
 fn tell_refused(error: &Error, out: &mut String) -> Result<(), AllocError> {
     place(error.span, out)?;
     show_line(error, out)
 }
 
-/// Each literal as it is printed to programmers, or the refusal.
+/// Each literal as it is printed to programmers, or the error.
 fn texts(alloc: Global, text: &str, out: &mut String) -> Result<(), AllocError> {
     match read_all(alloc, text, 7) {
         Ok(literals) => tell_texts(literals.as_slice(), out),
@@ -63,7 +63,7 @@ fn tell_texts(literals: &[Lit], out: &mut String) -> Result<(), AllocError> {
     Ok(())
 }
 
-/// The line of a text as one literal, behind the bytes where it stands in a list.
+/// The line of a text as one literal, after the bytes where it stands in a list.
 fn tell_placed(alloc: Global, text: &str, span: Span, out: &mut String) -> Result<(), AllocError> {
     place(span, out)?;
     let literal = literal_of(alloc, text, span)?;
@@ -84,9 +84,9 @@ fn agrees(alloc: Global, first: &str, gap: &str, second: &str) -> Result<bool, A
     Ok(found == wanted)
 }
 
-/// How many of the texts read behind each of the others and a gap as they do by themselves; and those that don't.
+/// How many of the texts read after each of the others and a gap as they do by themselves; and those that don't.
 ///
-/// A U+001E parts the gap, the texts in front and those behind; a U+001F parts texts.
+/// A U+001E parts the gap, the texts in front and those after; a U+001F parts texts.
 fn pairs(alloc: Global, rows: &str, out: &mut String) -> Result<(), AllocError> {
     let (gap, texts) = rows.split_once('\u{1e}').unwrap_or(("", rows));
     let (fronts, backs) = texts.split_once('\u{1e}').unwrap_or((texts, ""));
@@ -98,7 +98,7 @@ fn pairs(alloc: Global, rows: &str, out: &mut String) -> Result<(), AllocError> 
     line("agree", out)
 }
 
-/// How many of the texts read behind this one and a gap as they do by themselves.
+/// How many of the texts read after this one and a gap as they do by themselves.
 fn agreeing(
     alloc: Global,
     first: &str,
@@ -117,7 +117,7 @@ fn agreeing(
     Ok(agreed)
 }
 
-/// Tells two texts that don't read as they do by themselves.
+/// Prints two texts that don't read as they do by themselves.
 fn tell_apart(first: &str, second: &str, out: &mut String) -> Result<(), AllocError> {
     word(first, out)?;
     word("and", out)?;

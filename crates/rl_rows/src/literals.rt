@@ -10,7 +10,7 @@ use rl_tokens::{Error, Ident, ParseBuffer, ToTokens, TokenStream};
 use rust_literals::{Lit, LitBool};
 use std::alloc::{AllocError, Global};
 
-/// Tells what a call of this name answers about the literal that the text is; false where there is none.
+/// Prints what a call of this name answers about the literal that the text is; false where there is none.
 pub(crate) fn told(
     alloc: Global,
     name: &str,
@@ -21,7 +21,7 @@ pub(crate) fn told(
     told_of(alloc, name, &mut literal, out)
 }
 
-/// Tells what a call of this name answers about the literal; false where there is none.
+/// Prints what a call of this name answers about the literal; false where there is none.
 fn told_of(
     alloc: Global,
     name: &str,
@@ -107,7 +107,7 @@ fn shown(literal: &Lit, out: &mut String) -> Result<(), AllocError> {
     }
 }
 
-/// What the literal lends of what it stands for, as text.
+/// What the literal borrows of what it stands for, as text.
 fn lends(literal: &Lit, out: &mut String) -> Result<(), AllocError> {
     match literal {
         Lit::Str(literal) => tell_lent(literal.value_ref(), out),
@@ -117,7 +117,7 @@ fn lends(literal: &Lit, out: &mut String) -> Result<(), AllocError> {
     }
 }
 
-/// Tells a text that is lent.
+/// Prints a text that is borrowed.
 fn tell_lent(lent: Option<&str>, out: &mut String) -> Result<(), AllocError> {
     match lent {
         Some(value) => debug_line(&value, out),
@@ -125,7 +125,7 @@ fn tell_lent(lent: Option<&str>, out: &mut String) -> Result<(), AllocError> {
     }
 }
 
-/// Tells bytes that are lent.
+/// Prints bytes that are borrowed.
 fn tell_lent_bytes(lent: Option<&[u8]>, out: &mut String) -> Result<(), AllocError> {
     match lent {
         Some(bytes) => match std::str::from_utf8(bytes) {

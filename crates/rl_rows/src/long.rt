@@ -4,7 +4,7 @@ use crate::tell::{HERE, line, literal_of, show, word};
 use rust_literals::Lit;
 use std::alloc::{AllocError, Global};
 
-/// Tells the number that a row of pieces spells; false where another call is meant.
+/// Prints the number that a row of pieces spells; false where another call is meant.
 pub(crate) fn told(
     alloc: Global,
     name: &str,
@@ -20,7 +20,7 @@ pub(crate) fn told(
     Ok(true)
 }
 
-/// The text that a row spells: pieces with a space between, each behind how often it stands there, as `1*0x 64*F`.
+/// The text that a row spells: pieces with a space between, each after how often it stands there, as `1*0x 64*F`.
 fn spelled(alloc: Global, row: &str) -> Result<String, AllocError> {
     let mut text = String::new(alloc);
     for part in row.split(' ') {
@@ -32,7 +32,7 @@ fn spelled(alloc: Global, row: &str) -> Result<String, AllocError> {
     Ok(text)
 }
 
-/// Tells a number's digits and its suffix, of any other literal its text.
+/// Prints a number's digits and its suffix, of any other literal its text.
 fn tell_number(literal: &Lit, out: &mut String) -> Result<(), AllocError> {
     match literal {
         Lit::Int(number) => tell_parts("Int", number.base10_digits(), number.suffix(), out),
@@ -51,7 +51,7 @@ fn tell_parts(kind: &str, digits: &str, suffix: &str, out: &mut String) -> Resul
     line("", out)
 }
 
-/// Tells a text of up to forty bytes; of a longer one its first eight, its last eight, and how many they are.
+/// Prints a text of up to forty bytes; of a longer one its first eight, its last eight, and how many they are.
 fn tell_brief(text: &str, out: &mut String) -> Result<(), AllocError> {
     if text.len() <= 40 {
         return out.push_str(text);

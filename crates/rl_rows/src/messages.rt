@@ -1,10 +1,10 @@
-//! The message of every kind of refusal.
+//! The message of every kind of error.
 
 use crate::tell::{HERE, debug, show_line, show_word, tell_error};
 use rl_tokens::{Error, ErrorKind, LexError, LexKind};
 use std::alloc::{AllocError, Global};
 
-/// Tells what a call of this name answers; false where there is none.
+/// Prints what a call of this name answers; false where there is none.
 pub(crate) fn told(alloc: Global, name: &str, out: &mut String) -> Result<bool, AllocError> {
     match name {
         "lex_kinds" => lex_kinds(out)?,
@@ -14,7 +14,7 @@ pub(crate) fn told(alloc: Global, name: &str, out: &mut String) -> Result<bool, 
     Ok(true)
 }
 
-/// Every kind of the lexer's refusals: as it is printed to programmers, and its message.
+/// Every kind of the lexer's errors: as it is printed to programmers, and its message.
 fn lex_kinds(out: &mut String) -> Result<(), AllocError> {
     tell_fault(LexKind::UnclosedComment, out)?;
     tell_fault(LexKind::DocComment, out)?;
@@ -28,14 +28,14 @@ fn lex_kinds(out: &mut String) -> Result<(), AllocError> {
     tell_fault(LexKind::Memory, out)
 }
 
-/// A kind of the lexer's refusals: as it is printed to programmers, and its message.
+/// A kind of the lexer's errors: as it is printed to programmers, and its message.
 fn tell_fault(kind: LexKind, out: &mut String) -> Result<(), AllocError> {
     debug(&LexError { kind, at: 3 }, out)?;
     out.push_str(": ")?;
     show_line(&kind, out)
 }
 
-/// Every kind of refusal: as it is printed to programmers, and its message.
+/// Every kind of error: as it is printed to programmers, and its message.
 fn kinds(alloc: Global, out: &mut String) -> Result<(), AllocError> {
     tell_kind(ErrorKind::Expected("a word"), out)?;
     tell_kind(ErrorKind::EndOfInput("a word"), out)?;
@@ -50,7 +50,7 @@ fn kinds(alloc: Global, out: &mut String) -> Result<(), AllocError> {
     tell_kind(ErrorKind::Memory, out)
 }
 
-/// A kind of refusal: as it is displayed, and as it is told.
+/// A kind of error: as it is displayed, and as it is reported.
 fn tell_kind(kind: ErrorKind, out: &mut String) -> Result<(), AllocError> {
     show_word(&kind, out)?;
     tell_error(&Error { span: HERE, kind }, out)

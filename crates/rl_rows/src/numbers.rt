@@ -10,7 +10,7 @@ use std::alloc::{AllocError, Global};
 use std::fmt::Display;
 use std::str::FromStr;
 
-/// Tells what a call of this name answers; false where there is none.
+/// Prints what a call of this name answers; false where there is none.
 pub(crate) fn told(
     alloc: Global,
     name: &str,
@@ -87,7 +87,7 @@ fn kept_of_float(alloc: Global, token: Literal, out: &mut String) -> Result<(), 
     }
 }
 
-/// Tells a token that was handed back, and why.
+/// Prints a token that was handed back, and why.
 fn handed_back(kept: Kept<Literal>, out: &mut String) -> Result<Literal, AllocError> {
     word(kept.value.text(), out)?;
     show_word(&At(kept.value.span()), out)?;
@@ -132,7 +132,7 @@ fn equals_float(
     }
 }
 
-/// The number that a type makes of an integer's digits, or where it is refused.
+/// The number that a type makes of an integer's digits, or where it is rejected.
 fn made<N: FromStr + Display + Drop>(
     alloc: Global,
     literal: &LitInt,
@@ -148,7 +148,7 @@ where
     }
 }
 
-/// Where a number is refused.
+/// Where a number is rejected.
 fn refused_number(error: &Error, out: &mut String) -> Result<(), AllocError> {
     match error.kind {
         ErrorKind::Number(_) => {

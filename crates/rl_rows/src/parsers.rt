@@ -9,7 +9,7 @@ use rust_literals::{
 };
 use std::alloc::{AllocError, Global};
 
-/// Tells what a call of this name answers; false where there is none.
+/// Prints what a call of this name answers; false where there is none.
 pub(crate) fn told(
     alloc: Global,
     name: &str,
@@ -29,7 +29,7 @@ pub(crate) fn told(
     Ok(true)
 }
 
-/// Tells what a further call of this name answers; false where there is none.
+/// Prints what a further call of this name answers; false where there is none.
 fn others(alloc: Global, name: &str, text: &str, out: &mut String) -> Result<bool, AllocError> {
     match name {
         "Lit" => parsed_as::<Lit>(alloc, text, out)?,

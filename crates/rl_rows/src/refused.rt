@@ -1,4 +1,4 @@
-//! Calls whose requests for memory are refused.
+//! Calls whose allocations fail.
 
 use crate::tell::{At, HERE, line, show_line, show_word, word};
 use rl_refusing::Refusing;
@@ -6,10 +6,10 @@ use rl_tokens::{Kept, Literal};
 use rust_literals::{Lit, LitStr};
 use std::alloc::{AllocError, Global};
 
-/// An allocator that refuses when it is told to, lent.
+/// A borrowed allocator that fails where it is asked to.
 type Lent<'a> = &'a Refusing<Global>;
 
-/// Tells what a call of this name answers to a text; false where there is none.
+/// Prints what a call of this name answers to a text; false where there is none.
 pub(crate) fn told(
     alloc: Global,
     name: &str,
@@ -25,7 +25,7 @@ pub(crate) fn told(
     Ok(true)
 }
 
-/// A token of the text, with its memory from an allocator that refuses nothing yet.
+/// A token of the text, with its memory from an allocator that fails on nothing yet.
 fn token_of<'a>(refusing: Lent<'a>, text: &str) -> Result<Literal<Lent<'a>>, AllocError> {
     match Literal::from_text(refusing, text, HERE) {
         Ok(token) => Ok(token),
@@ -33,7 +33,7 @@ fn token_of<'a>(refusing: Lent<'a>, text: &str) -> Result<Literal<Lent<'a>>, All
     }
 }
 
-/// The literal of a token, with every request refused: what it is, or why not, and the token that comes back.
+/// The literal of a token, with every allocation failing: what it is, or why not, and the token that comes back.
 fn all_refused(refusing: Lent<'_>, text: &str, out: &mut String) -> Result<(), AllocError> {
     let token = token_of(refusing, text)?;
     refusing.refuse(1, u64::MAX);
@@ -50,7 +50,7 @@ fn all_refused(refusing: Lent<'_>, text: &str, out: &mut String) -> Result<(), A
     }
 }
 
-/// Tells the digits of a number, and its suffix.
+/// Prints the digits of a number, and its suffix.
 fn tell_number(literal: &Lit<Lent<'_>>, out: &mut String) -> Result<(), AllocError> {
     match literal {
         Lit::Int(number) => {
@@ -76,7 +76,7 @@ fn long_string<'a>(refusing: Lent<'a>, text: &str) -> Result<Literal<Lent<'a>>, 
     token_of(refusing, quoted.as_str())
 }
 
-/// The value of a string whose contents are the text ten thousand times over, with all requests but the first refused.
+/// The value of a string whose contents are the text ten thousand times over, with all allocations but the first failing.
 fn second_refused(refusing: Lent<'_>, text: &str, out: &mut String) -> Result<(), AllocError> {
     match Lit::new(refusing, long_string(refusing, text)?) {
         Ok(Lit::Str(literal)) => refused_value(refusing, &literal, out),
@@ -84,7 +84,7 @@ fn second_refused(refusing: Lent<'_>, text: &str, out: &mut String) -> Result<()
     }
 }
 
-/// Whether the string lends its value, and what it answers with all requests but the first refused.
+/// Whether the string borrows its value, and what it answers with all allocations but the first failing.
 fn refused_value<'a>(
     refusing: Lent<'a>,
     literal: &LitStr<Lent<'a>>,

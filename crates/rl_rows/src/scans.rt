@@ -5,7 +5,7 @@ use std::alloc::{AllocError, Global};
 use std::fmt::Write as _;
 use std::io::{self, ErrorKind, Read, Write};
 
-/// Tells what a call of this name answers; false where there is none.
+/// Prints what a call of this name answers; false where there is none.
 pub(crate) fn told(
     alloc: Global,
     name: &str,
@@ -112,7 +112,7 @@ fn arguments(alloc: Global, words: &str) -> Result<Vec<String>, AllocError> {
     Ok(args)
 }
 
-/// Tells what a call writes, its status, and its line.
+/// Prints what a call writes, its status, and its line.
 fn scanned(
     alloc: Global,
     bytes: &[u8],

@@ -8,7 +8,7 @@ use rl_grammar::{
 use rl_tokens::{Error, whitespace};
 use std::alloc::{AllocError, Global};
 
-/// Tells what a call of this name answers; false where there is none.
+/// Prints what a call of this name answers; false where there is none.
 pub(crate) fn told(
     alloc: Global,
     name: &str,
@@ -28,7 +28,7 @@ pub(crate) fn told(
     Ok(true)
 }
 
-/// Tells a kind, and body and suffix with a point between, or that there is none.
+/// Prints a kind, and body and suffix with a point between, or that there is none.
 fn tell_parts(parts: Option<Parts<'_>>, out: &mut String) -> Result<(), AllocError> {
     match parts {
         Some(parts) => {
@@ -65,7 +65,7 @@ fn contents(alloc: Global, text: &str, out: &mut String) -> Result<(), AllocErro
     }
 }
 
-/// Tells a text's bytes.
+/// Prints a text's bytes.
 fn tell_text(text: Result<String, Error>, out: &mut String) -> Result<(), AllocError> {
     match text {
         Ok(text) => debug_line(&text.as_bytes(), out),
@@ -73,7 +73,7 @@ fn tell_text(text: Result<String, Error>, out: &mut String) -> Result<(), AllocE
     }
 }
 
-/// Tells bytes.
+/// Prints bytes.
 fn tell_bytes(bytes: Result<Vec<u8>, Error>, out: &mut String) -> Result<(), AllocError> {
     match bytes {
         Ok(bytes) => debug_line(&bytes.as_slice(), out),
@@ -81,7 +81,7 @@ fn tell_bytes(bytes: Result<Vec<u8>, Error>, out: &mut String) -> Result<(), All
     }
 }
 
-/// Tells digits.
+/// Prints digits.
 fn tell_digits(digits: Result<String, Error>, out: &mut String) -> Result<(), AllocError> {
     match digits {
         Ok(digits) => line(digits.as_str(), out),
@@ -103,7 +103,7 @@ fn kind_of(name: &str) -> Kind {
     }
 }
 
-/// Whether the contents of a text, behind a kind's name and a LF, stand in it as they are.
+/// Whether the contents of a text, after a kind's name and a LF, stand in it as they are.
 fn plain(text: &str, out: &mut String) -> Result<(), AllocError> {
     let (name, text) = text.split_once('\n').unwrap_or(("", text));
     show_line(&is_plain(kind_of(name), text), out)

@@ -52,7 +52,7 @@ fn tell_left(input: &ParseBuffer<'_>, out: &mut String) -> Result<(), AllocError
     out.push_str(":")
 }
 
-/// Tells a word where something holds.
+/// Prints a word where something holds.
 fn tell_if(holds: bool, word: &str, out: &mut String) -> Result<(), AllocError> {
     if holds { out.push_str(word) } else { Ok(()) }
 }

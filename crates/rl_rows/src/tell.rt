@@ -1,4 +1,4 @@
-//! How texts, values, spans, refusals, trees and literals are told.
+//! How texts, values, spans, errors, trees and literals are printed.
 
 use rl_lines::line_of;
 use rl_tokens::{Error, Literal, Span, TokenStream, TokenTree, lex};
@@ -32,49 +32,49 @@ impl fmt::Display for At {
     }
 }
 
-/// Tells a text, and a space.
+/// Prints a text, and a space.
 pub(crate) fn word(text: &str, out: &mut String) -> Result<(), AllocError> {
     out.push_str(text)?;
     out.push_str(" ")
 }
 
-/// Tells a text, and ends the line.
+/// Prints a text, and ends the line.
 pub(crate) fn line(text: &str, out: &mut String) -> Result<(), AllocError> {
     out.push_str(text)?;
     out.push_str("\n")
 }
 
-/// Tells a value as it is displayed.
+/// Prints a value as it is displayed.
 pub(crate) fn show<T: Display>(value: &T, out: &mut String) -> Result<(), AllocError> {
     write!(out, "{value}")
 }
 
-/// Tells a value as it is displayed, and a space.
+/// Prints a value as it is displayed, and a space.
 pub(crate) fn show_word<T: Display>(value: &T, out: &mut String) -> Result<(), AllocError> {
     write!(out, "{value} ")
 }
 
-/// Tells a value as it is displayed, and ends the line.
+/// Prints a value as it is displayed, and ends the line.
 pub(crate) fn show_line<T: Display>(value: &T, out: &mut String) -> Result<(), AllocError> {
     write!(out, "{value}\n")
 }
 
-/// Tells a value as it is printed to programmers.
+/// Prints a value as it is printed to programmers.
 pub(crate) fn debug<T: Debug>(value: &T, out: &mut String) -> Result<(), AllocError> {
     write!(out, "{value:?}")
 }
 
-/// Tells a value as it is printed to programmers, and a space.
+/// Prints a value as it is printed to programmers, and a space.
 pub(crate) fn debug_word<T: Debug>(value: &T, out: &mut String) -> Result<(), AllocError> {
     write!(out, "{value:?} ")
 }
 
-/// Tells where a span begins and ends, and a space.
+/// Prints where a span begins and ends, and a space.
 pub(crate) fn place(span: Span, out: &mut String) -> Result<(), AllocError> {
     write!(out, "{}..{} ", span.lo, span.hi)
 }
 
-/// Tells a refusal: its span, its kind as it is printed to programmers, and its message.
+/// Prints an error: its span, its kind as it is printed to programmers, and its message.
 pub(crate) fn tell_error(error: &Error, out: &mut String) -> Result<(), AllocError> {
     show_word(&At(error.span), out)?;
     debug(&error.kind, out)?;
@@ -82,13 +82,13 @@ pub(crate) fn tell_error(error: &Error, out: &mut String) -> Result<(), AllocErr
     show_line(error, out)
 }
 
-/// Tells a word, another and a space behind each.
+/// Prints a word, another and a space after each.
 fn words(first: &str, second: &str, out: &mut String) -> Result<(), AllocError> {
     word(first, out)?;
     word(second, out)
 }
 
-/// Tells a tree's form, and its text.
+/// Prints a tree's form, and its text.
 pub(crate) fn tell_form(tree: &TokenTree, out: &mut String) -> Result<(), AllocError> {
     match tree {
         TokenTree::Group(group) => debug_word(&group.delimiter(), out),
@@ -101,7 +101,7 @@ pub(crate) fn tell_form(tree: &TokenTree, out: &mut String) -> Result<(), AllocE
     }
 }
 
-/// Tells trees: each one's form, text and span.
+/// Prints trees: each one's form, text and span.
 pub(crate) fn tell_trees(trees: &[TokenTree], out: &mut String) -> Result<(), AllocError> {
     for tree in trees {
         tell_form(tree, out)?;
@@ -111,20 +111,20 @@ pub(crate) fn tell_trees(trees: &[TokenTree], out: &mut String) -> Result<(), Al
     out.push_str("\n")
 }
 
-/// Tells a literal's line.
+/// Prints a literal's line.
 pub(crate) fn tell_line(alloc: Global, literal: &Lit, out: &mut String) -> Result<(), AllocError> {
     let line = line_of(alloc, literal)?;
     out.push_str(line.as_str())
 }
 
-/// Tells a literal: as it is printed to programmers, with its span and its line.
+/// Prints a literal: as it is printed to programmers, with its span and its line.
 pub(crate) fn tell(alloc: Global, literal: &Lit, out: &mut String) -> Result<(), AllocError> {
     debug_word(literal, out)?;
     show_word(&At(literal.span()), out)?;
     tell_line(alloc, literal, out)
 }
 
-/// Tells an answer: the literal, or the refusal.
+/// Prints an answer: the literal, or the error.
 pub(crate) fn tell_answer(
     alloc: Global,
     answer: Result<Lit, Error>,
@@ -136,13 +136,13 @@ pub(crate) fn tell_answer(
     }
 }
 
-/// Tells a token: its text, and its span.
+/// Prints a token: its text, and its span.
 pub(crate) fn tell_token(token: &Literal, out: &mut String) -> Result<(), AllocError> {
     word(token.text(), out)?;
     show_line(&At(token.span()), out)
 }
 
-/// Tells a token that was written, as it is displayed, with its span.
+/// Prints a token that was written, as it is displayed, with its span.
 pub(crate) fn tell_written(
     written: Result<Literal, Error>,
     out: &mut String,
@@ -177,7 +177,7 @@ pub(crate) fn trees_of(alloc: Global, text: &str, file: u32) -> Option<TokenStre
     lex(alloc, text, file).ok()
 }
 
-/// Tells a value as it is printed to programmers, and ends the line.
+/// Prints a value as it is printed to programmers, and ends the line.
 pub(crate) fn debug_line<T: Debug>(value: &T, out: &mut String) -> Result<(), AllocError> {
     write!(out, "{value:?}\n")
 }

@@ -8,7 +8,7 @@ use rl_tokens::{Ident, Literal, Span};
 use rust_literals::{Lit, LitChar, LitStr};
 use std::alloc::{AllocError, Global};
 
-/// Tells what a call of this name answers; false where there is none.
+/// Prints what a call of this name answers; false where there is none.
 pub(crate) fn told(
     alloc: Global,
     name: &str,

@@ -4,7 +4,7 @@ use crate::tell::{HERE, debug_word, line, place, show, tell_form, token_of, word
 use rl_tokens::{Delimiter, Group, LexKind, Span, TokenStream, TokenTree, Tokens, lex};
 use std::alloc::{AllocError, Global};
 
-/// Tells what a call of this name answers; false where there is none.
+/// Prints what a call of this name answers; false where there is none.
 pub(crate) fn told(
     alloc: Global,
     name: &str,
@@ -20,7 +20,7 @@ pub(crate) fn told(
     Ok(true)
 }
 
-/// Tells each tree with its bytes: a group as its delimiter, with the trees inside between angle brackets.
+/// Prints each tree with its bytes: a group as its delimiter, with the trees inside between angle brackets.
 fn tell_all(trees: &[TokenTree], out: &mut String) -> Result<(), AllocError> {
     for tree in trees {
         tell_form(tree, out)?;
@@ -34,7 +34,7 @@ fn tell_all(trees: &[TokenTree], out: &mut String) -> Result<(), AllocError> {
     Ok(())
 }
 
-/// The trees of a text, or the fault and its byte.
+/// The trees of a text, or the error and its byte.
 fn cut(alloc: Global, text: &str, out: &mut String) -> Result<(), AllocError> {
     match lex(alloc, text, 7) {
         Ok(stream) => tell_all(stream.trees(), out)?,
@@ -43,13 +43,13 @@ fn cut(alloc: Global, text: &str, out: &mut String) -> Result<(), AllocError> {
     out.push_str("\n")
 }
 
-/// Tells a fault and its byte.
+/// Prints an error and its byte.
 fn tell_fault(kind: LexKind, at: usize, out: &mut String) -> Result<(), AllocError> {
     debug_word(&kind, out)?;
     show(&at, out)
 }
 
-/// Tells why the tokens stopped, where they did.
+/// Prints why the tokens stopped, where they did.
 fn tell_stop(tokens: &Tokens<'_>, out: &mut String) -> Result<(), AllocError> {
     match tokens.fault() {
         Some(fault) => {
@@ -60,7 +60,7 @@ fn tell_stop(tokens: &Tokens<'_>, out: &mut String) -> Result<(), AllocError> {
     }
 }
 
-/// Tells a token and its bytes.
+/// Prints a token and its bytes.
 fn tell_lent(text: &str, lo: usize, hi: usize, out: &mut String) -> Result<(), AllocError> {
     word(text, out)?;
     show(&lo, out)?;
@@ -69,7 +69,7 @@ fn tell_lent(text: &str, lo: usize, hi: usize, out: &mut String) -> Result<(), A
     out.push_str("; ")
 }
 
-/// The tokens of a text as they are lent, why they stopped, and what is left of it.
+/// The tokens of a text as they are borrowed, why they stopped, and what is left of it.
 fn lent(text: &str, out: &mut String) -> Result<(), AllocError> {
     let mut tokens = Tokens::new(text);
     for _ in 0..text.len() {

@@ -41,7 +41,7 @@ impl Token for Sign {
     }
 }
 
-/// Literals and signs in turn, up to the end or a refusal.
+/// Literals and signs in turn, up to the end or an error.
 pub(crate) fn turns(alloc: Global, text: &str, out: &mut String) -> Result<(), AllocError> {
     let Some(stream) = trees_of(alloc, text, 0) else {
         return line("no trees", out);
@@ -55,7 +55,7 @@ pub(crate) fn turns(alloc: Global, text: &str, out: &mut String) -> Result<(), A
     Ok(())
 }
 
-/// A literal and a sign; false where one of them is refused, and at the end.
+/// A literal and a sign; false where one of them is rejected, and at the end.
 fn turn(alloc: Global, input: &mut ParseBuffer<'_>, out: &mut String) -> Result<bool, AllocError> {
     if !next_literal(alloc, input, out)? || !next_sign(alloc, input, out)? {
         return Ok(false);
@@ -79,7 +79,7 @@ fn next_literal(
     Ok(is_there)
 }
 
-/// Tells a literal, or why there is none.
+/// Prints a literal, or why there is none.
 fn tell_literal(answer: Result<Lit, Error>, out: &mut String) -> Result<(), AllocError> {
     match answer {
         Ok(literal) => debug_word(&literal, out),
@@ -99,7 +99,7 @@ fn next_sign(
     Ok(is_there)
 }
 
-/// Tells a sign, or why there is none.
+/// Prints a sign, or why there is none.
 fn tell_sign(answer: Result<Sign, Error>, out: &mut String) -> Result<(), AllocError> {
     match answer {
         Ok(sign) => show_line(&sign.ch, out),

@@ -11,7 +11,7 @@ use std::alloc::{AllocError, Global};
 use std::collections::HashMap;
 use std::fmt::Display;
 
-/// Tells what a call of this name answers; false where there is none.
+/// Prints what a call of this name answers; false where there is none.
 pub(crate) fn told(
     alloc: Global,
     name: &str,
@@ -28,7 +28,7 @@ pub(crate) fn told(
     Ok(true)
 }
 
-/// Tells what a call of this name answers about the literals of a text; false where there is none.
+/// Prints what a call of this name answers about the literals of a text; false where there is none.
 fn of_literals(
     alloc: Global,
     name: &str,
@@ -54,7 +54,7 @@ fn attribute(alloc: Global, text: &str, out: &mut String) -> Result<(), AllocErr
     tell_parsed(alloc, read_attribute(alloc, text, FILE), out)
 }
 
-/// An attribute's name and value, each behind its bytes.
+/// An attribute's name and value, each after its bytes.
 fn tell_attribute(
     alloc: Global,
     attribute: &Attribute,
@@ -70,7 +70,7 @@ fn tell_attribute(
     line(value.as_str(), out)
 }
 
-/// Two attributes, one behind the other, and where the buffer stands behind each.
+/// Two attributes, one after the other, and where the buffer stands after each.
 fn attributes(alloc: Global, text: &str, out: &mut String) -> Result<(), AllocError> {
     let Some(stream) = trees_of(alloc, text, FILE) else {
         return line("no trees", out);
@@ -80,7 +80,7 @@ fn attributes(alloc: Global, text: &str, out: &mut String) -> Result<(), AllocEr
     next_attribute(alloc, &mut input, out)
 }
 
-/// The attribute that stands next, and where the buffer stands behind it.
+/// The attribute that stands next, and where the buffer stands after it.
 fn next_attribute(
     alloc: Global,
     input: &mut ParseBuffer<'_>,
@@ -134,7 +134,7 @@ fn tell_item(kind: &str, span: Span, out: &mut String) -> Result<(), AllocError>
     out.push_str(";")
 }
 
-/// Why a list and why an item are refused, and where the buffer stands then.
+/// Why a list and why an item are rejected, and where the buffer stands then.
 fn refused_list(alloc: Global, text: &str, out: &mut String) -> Result<(), AllocError> {
     let Some(stream) = trees_of(alloc, text, FILE) else {
         return line("no trees", out);
@@ -145,7 +145,7 @@ fn refused_list(alloc: Global, text: &str, out: &mut String) -> Result<(), Alloc
     tell_next(&input, out)
 }
 
-/// Why a parser refuses what stands next.
+/// Why a parser rejects what stands next.
 fn tell_refused<T: Parse<Global> + Drop>(
     alloc: Global,
     input: &mut ParseBuffer<'_>,
@@ -165,7 +165,7 @@ fn lint(alloc: Global, text: &str, out: &mut String) -> Result<(), AllocError> {
     }
 }
 
-/// Spans, one behind another.
+/// Spans, one after another.
 fn tell_spans(spans: &[Span], out: &mut String) -> Result<(), AllocError> {
     for span in spans {
         show_word(&At(*span), out)?;
@@ -236,7 +236,7 @@ fn tell_count(
     }
 }
 
-/// Tells a number, or why there is none.
+/// Prints a number, or why there is none.
 fn tell_number<N: Display + Drop>(
     answer: Result<N, Error>,
     out: &mut String,

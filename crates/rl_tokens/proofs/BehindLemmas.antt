@@ -1,4 +1,4 @@
--- What is behind the rest of a text is behind the text.
+-- What is after the rest of a text is after the text.
 use Rattle.std.proofs.Common.{◌≡◌, ℕ, ◌-◌, ◌<◌, List, [], ◌++◌, length, take, drop, refl, sym, ap, subst, ◌∙◌, arith, append_assoc, length-append}
 use Rattle.std.proofs.Math.Seq.{take-append_seam, drop-append_seam}
 use Rattle.std.specs.Str.{IsCharBoundary, chars}
@@ -53,7 +53,7 @@ if_none (Some x) p = tt
 pub cut_chars : (bs xs ys : List ℕ) → IsUtf8 xs → IsTail bs ys → xs ≡ take (length bs - length ys) bs → chars bs ≡ chars xs ++ chars ys
 cut_chars bs xs ys u b e = ap chars (cut_join bs ys b ∙ ap (λ z. z ++ ys) (sym e)) ∙ chars-append xs ys u
 
--- A rest is no longer than the text, so what is behind something shorter is shorter.
+-- A rest is no longer than the text, so what is after something shorter is shorter.
 pub nearer : (a b d : List ℕ) → length b < length a → IsTail b d → length d < length a
 nearer a b d s p = omega (arith, s, length-append p.front d, ap length p.text_is)
 

@@ -15,7 +15,7 @@ use Rattle.rl_tokens.proofs.Comments.{closed, after_block-step, block_goes_on, f
 use Rattle.rl_tokens.proofs.LexemeSteps.{only}
 use Rattle.rl_tokens.proofs.ScanLemmas.{drop_next, not_first, not_second}
 
--- The next character is told by its place, 0 at the end.
+-- The next character is given by its place, 0 at the end.
 abbrev Turns : ℕ → ℕ → ℕ → Option (List ℕ) → Option (List ℕ) → Option (List ℕ) → Option (List ℕ)
 Turns d c e x y z = cond (c == 42 && e == 47) x (cond (c == 47 && e == 42) y z)
 
@@ -63,7 +63,7 @@ pub closed-down : (d : ℕ) (t : List ℕ) → 0 < d → closed d t ≡ after_bl
 closed-down zero t l = absurd (omega arith)
 closed-down (suc d) t l = ap (λ n. after_block n t) (let e : d ≡ suc d - 1 = omega arith in e)
 
--- The place behind two bytes is inside the text where the second isn't 0.
+-- The place after two bytes is inside the text where the second isn't 0.
 pub next_inside : (s : List ℕ) (i n : ℕ) → get_or s i 0 ≡ n → 0 < n → i < length s
 next_inside [] i n e l = absurd (omega arith)
 next_inside (x ∷ s) zero n e l = omega arith

@@ -1,4 +1,4 @@
--- The token that is cut off next, and what is lent of it.
+-- The token that is cut off next, and what is borrowed of it.
 use Rattle.std.proofs.Common.{◌≡◌, ℕ, ◌+◌, ◌-◌, List, ◌++◌, length, length-append, take, slice_range, refl, sym, ◌∙◌, ap, arith}
 use Rattle.std.proofs.lemmas.List.{append_cancel_right}
 use Rattle.std.proofs.lemmas.Str.{encodes-append, encodes-chars, chars_from_encodes}
@@ -45,7 +45,7 @@ token_chars {token = token} at = sym (chars_from_encodes (lexeme_text at.front.l
 token_len : {text rest behind token : List ℕ} {form : LexemeForm} {lo hi : ℕ} → TokenAt text rest behind token form lo hi → lo + length token ≡ hi
 token_len {rest = rest} {behind = behind} {token = token} at = omega (arith, at.lo_place, at.hi_place, ap length at.rest_is, length-append token behind)
 
--- the token is the rest up to what is behind it
+-- the token is the rest up to what is after it
 token_at : (text rest behind token : List ℕ) (form : LexemeForm) → IsTail text rest → IsTail rest behind → FormBefore (chars rest) form (chars behind) → IsUtf8 token → token ≡ slice_range rest 0 (length rest - length behind) → TokenAt text rest behind token form (length text - length rest) (length text - length behind)
 token_at text rest behind token form in_text in_rest front is token_is =
     let taken : token ≡ take (length rest - length behind) rest = token_is ∙ ap (λ n. take n rest) (let q : length rest - length behind - 0 ≡ length rest - length behind = omega arith in q) in
@@ -59,7 +59,7 @@ token_at text rest behind token form in_text in_rest front is token_is =
       hi_place = omega (arith, behind_length text rest in_text, behind_length rest behind in_rest);
     }
 
--- the rest behind the next token is behind the text
+-- the rest after the next token is after the text
 pub still_cutting : (text rest behind next : List ℕ) → IsCursorState text rest → IsTail rest behind → IsTail behind next → IsCursorState text next
 still_cutting text rest behind next is in_rest in_behind = record {
   is_text = is.is_text;
@@ -84,7 +84,7 @@ takes text rest behind next l is in_rest in_behind skips at =
       behind = behind_step rest behind next in_rest in_behind;
     }
 
--- what is lent is the next token
+-- what is borrowed is the next token
 pub takes_next : (text rest behind next : List ℕ) (l : Lent) → IsCursorState text rest → FormBefore (chars rest) (form_view l.form) (chars behind) → IsTail rest behind → IsUtf8 l.text.now → l.text.now ≡ slice_range rest 0 (length rest - length behind) → l.lo ≡ length text - length rest → l.hi ≡ length text - length behind → Skipped (chars behind) (chars next) → IsTail behind next → TakesNext (record { text = text; rest = rest }) l (record { text = text; rest = next })
 takes_next text rest behind next l is front in_rest utf8 token_is lo hi skips in_behind =
     let at : TokenAt text rest behind l.text.now (form_view l.form) l.lo l.hi =

@@ -56,7 +56,7 @@ same_flat v w x y same file =
 same_behind : (groups : List OpenGroup) (v w : LexedToken) (x y : List ℕ) → SameFirst v w x y → behind_lexeme groups v.lexeme v.at ≡ behind_lexeme groups w.lexeme w.at
 same_behind groups v w x y same = ap (λ f. behind_form groups f v.at) same.form ∙ ap (λ n. behind_form groups (form_of w.lexeme) n) same.at
 
--- the groups behind the first token
+-- the groups after the first token
 opened : (o : Option (List OpenGroup)) (ws : List LexedToken) (h : List OpenGroup) → option_and_then (λ g. open_groups g ws) o ≡ Some h → (g : List OpenGroup) × (o ≡ Some g) × (open_groups g ws ≡ Some h)
 opened None ws h e = absurd (none-some h e)
 opened (Some g) ws h e = (g, refl, e)

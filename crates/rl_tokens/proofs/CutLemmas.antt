@@ -11,7 +11,7 @@ use Rattle.rl_tokens.specs.Texts.{byte_len}
 pub byte_len-append : (xs ys : List ℕ) → byte_len (xs ++ ys) ≡ byte_len xs + byte_len ys
 byte_len-append xs ys = ap length (encodes-append xs ys) ∙ length-append (encode_utf8_all xs) (encode_utf8_all ys)
 
--- behind a token its rest stands where the token ends
+-- after a token its rest stands where the token ends
 pub behind_place : (w : LexedToken) (after : List ℕ) (n : ℕ) → w.at + byte_len (lexeme_text w.lexeme ++ after) ≡ n → end_of w + byte_len after ≡ n
 behind_place w after n place = omega (arith, place, byte_len-append (lexeme_text w.lexeme) after)
 

@@ -1,4 +1,4 @@
--- Where a fault stands no token goes on, and it is one fault.
+-- Where an error stands no token goes on, and it is one error.
 use Rattle.std.proofs.Common.{◌≡◌, ◌≢◌, ℕ, Bool, true, false, not, ◌&&◌, ◌||◌, ◌==◌, cond, List, [], ◌∷◌, ◌++◌, length, slice_index, Option, Some, None, refl, sym, ◌∙◌, ap, subst, lit<}
 use Rattle.std.proofs.lemmas.Option.{none-some}
 use Rattle.std.specs.Prelude.{codes, nat_lt, if◌then◌else◌}
@@ -115,7 +115,7 @@ deep_stuck groups r h n =
 pub nothing_stuck : (groups : List OpenGroup) (r : List ℕ) → r ≡ [] → IsStuck groups r
 nothing_stuck groups r nil = stuck_unless groups r (ap lexeme_at nil)
 
--- no token goes on at a fault
+-- no token goes on at an error
 pub fault_stuck : (k : LexKind) (groups : List OpenGroup) (r : List ℕ) → FaultAt k groups r → IsStuck groups r
 fault_stuck DocComment groups r h = stuck_unless groups r (slash_none r (doc_slash r h))
 fault_stuck UnclosedComment groups r (h, other) = stuck_unless groups r (slash_none r (block_slash r h))
@@ -128,7 +128,7 @@ fault_stuck UnclosedGroup groups r (nil, some) = nothing_stuck groups r nil
 fault_stuck TooDeep groups r (h, n) = deep_stuck groups r h n
 fault_stuck Memory groups r h = absurd h
 
--- The kind of a fault is told by the rest.
+-- The rest determines the kind of an error.
 abbrev kind_by_form : LexemeForm → LexKind
 kind_by_form (DelimiterForm c) = if is_opener c then TooDeep else UnmatchedClose
 kind_by_form _ = StrayCharacter

@@ -1,4 +1,4 @@
--- Why no lexeme begins what is left of a text, and that this is the text's first fault.
+-- Why no lexeme begins what is left of a text, and that this is the text's first error.
 use Rattle.std.proofs.Common.{◌≡◌, ◌≢◌, ℕ, ◌+◌, ◌-◌, ◌<◌, Bool, true, false, ◌||◌, ◌==◌, List, [], length, Option, Some, None, refl, sym, ◌∙◌, ap, subst, arith}
 use Rattle.std.proofs.lemmas.Str.{encodes-chars}
 use Rattle.std.proofs.lemmas.Bool.Decides.{nat_tests}
@@ -57,7 +57,7 @@ fault_refuses t UnclosedGroup at h = h
 fault_refuses t TooDeep at h = h
 fault_refuses t Memory at h = absurd h.fault
 
--- the fault at a rest that isn't empty is told where the rest begins
+-- the error at a rest that isn't empty is reported where the rest begins
 here_place : (r : List ℕ) (groups : List OpenGroup) (at : ℕ) → at ≡ fault_place (fault_kind r) groups at
 here_place r groups at = go (begins_doc_comment r) (begins (codes "/*") r) (begins_quote r) (begins_lifetime r) (begins_raw_identifier r)
   where

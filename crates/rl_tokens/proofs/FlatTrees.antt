@@ -1,4 +1,4 @@
--- Trees written flat are told apart.
+-- Trees written flat can be told apart.
 use Rattle.std.proofs.Common.{◌≡◌, List, [], ◌∷◌, ◌++◌, refl, sym, ◌∙◌, ap, append_assoc}
 use Rattle.rl_tokens.specs.declared.span.Span.{Span}
 use Rattle.rl_tokens.specs.declared.token.Delimiter.{Delimiter}
@@ -37,7 +37,7 @@ same_span s r a b =
     ∙ ap (λ x. let k : Span = record { file = r.file; lo = x; hi = s.hi } in k) los
     ∙ ap (λ x. let k : Span = record { file = r.file; lo = r.lo; hi = x } in k) his
 
--- what stands behind a group's opener
+-- what stands after a group's opener
 group_rest : (inside : Trees) (d : Delimiter) (s : Span) (ts : Trees) (xs : List FlatToken) → ((flat_inside inside ++ (Closing d (closer_span s) ∷ [])) ++ flat_inside ts) ++ xs ≡ flat_inside inside ++ (Closing d (closer_span s) ∷ (flat_inside ts ++ xs))
 group_rest inside d s ts xs = simp append_assoc
 
@@ -95,7 +95,7 @@ flat_same (MoreTrees (GroupTree d inside s) ts) (MoreTrees (IdentTree j) us) xs 
 flat_same (MoreTrees (GroupTree d inside s) ts) (MoreTrees (PunctTree j) us) xs ys p q e = absurd (cc)
 flat_same (MoreTrees (GroupTree d inside s) ts) (MoreTrees (LiteralTree j) us) xs ys p q e = absurd (cc)
 
--- the trees inside a group are told by them
+-- the trees inside a group are determined by them
 inside_same : (xs ys : List Tree) → inside_of xs ≡ inside_of ys → xs ≡ ys
 inside_same [] [] e = refl
 inside_same [] (y ∷ ys) e = absurd (cc)

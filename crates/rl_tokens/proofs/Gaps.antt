@@ -12,7 +12,7 @@ abbrev pub BeginsGap : List ℕ → Type 0
 BeginsGap [] = ⊤
 BeginsGap (c ∷ t) = IsTrue (is_white c || c == 47)
 
--- What is told by its own characters: all but the marks.
+-- What is determined by its own characters: all but the marks.
 abbrev pub KeepsItsEnd : Lexeme → Type 0
 KeepsItsEnd (MarkLexeme c) = ⊥
 KeepsItsEnd _ = ⊤

@@ -88,7 +88,7 @@ module _ (p q : ℕ → Bool) (opposite : (x : ℕ) → not (q x) ≡ p x) where
   split : (d : List ℕ) (i n : ℕ) → prefix_len q (drop i d) ≡ cond (eqb (prefix_len q (chunk i n d)) (length (chunk i n d))) (length (chunk i n d) + prefix_len q (drop (i + n) d)) (prefix_len q (chunk i n d))
   split d i n = ap (prefix_len q) (chunk-drop i n d) ∙ prefix_len-append q (chunk i n d) (drop (i + n) d)
 
-  -- no byte fails, and the run goes on behind them
+  -- no byte fails, and the run goes on after them
   pub run_through : (d : List ℕ) (i n : ℕ) → i + n ≤ length d → mask_l (map p (chunk i n d)) ≡ 0 → prefix_len q (drop i d) ≡ n + prefix_len q (drop (i + n) d)
   run_through d i n room none =
       let c = chunk i n d in

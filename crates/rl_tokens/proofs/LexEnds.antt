@@ -1,4 +1,4 @@
--- How the lexer's loop ends: all is cut, or the first fault stands here.
+-- How the lexer's loop ends: all is cut, or the first error stands here.
 use Rattle.std.proofs.Common.{◌≡◌, ℕ, ◌+◌, ◌⊎◌, inl, inr, List, [], ◌++◌, length, Some, Result, Ok, Err, refl, sym, ◌∙◌, ap, subst, arith}
 use Rattle.std.proofs.lemmas.Str.{chars-nil}
 use Rattle.std.specs.Result.{IfOk}
@@ -94,7 +94,7 @@ refused_token text from to file nest l e is same has next at_is h =
     refused_lexeme text from.rest next.after file nest next.cut.lexeme e.kind e.at is has (omega (arith, next.place, ap length same, at_is)) next.begins next.is_lexeme
     (subst (λ (f : LexemeForm). RefusesForm (groups_of nest) f e.kind) (sym next.is_cut.form_is) h)
 
--- the cursor stays where no token begins what is left, and tells the fault
+-- the cursor stays where no token begins what is left, and tells the error
 pub fault_told : {A : Type 0} (text : List ℕ) (old new : CursorState) (file : ℕ) (nest : TreeBuilder A) (e : LexError) → old.text ≡ text → new ≡ old → HasCut text old.rest file nest → IsFirstFault new e.kind e.at → Refuses (chars text) e.kind e.at
 fault_told text old new file nest e same stays has first =
     let here : IsFirstFault old e.kind e.at = subst (λ (t : CursorState). IsFirstFault t e.kind e.at) stays first in

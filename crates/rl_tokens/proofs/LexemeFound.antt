@@ -336,7 +336,7 @@ none3 p q r a b d = ap (λ x. x || (q || r)) a ∙ ap (λ x. x || r) b ∙ d
 none2 : (p q : Bool) → p ≡ false → q ≡ false → (p || q) ≡ false
 none2 p q a b = ap (λ x. x || q) a ∙ b
 
--- a literal whose prefix is one character, behind which the text goes on with k
+-- a literal whose prefix is one character, after which the text goes on with k
 behind_prefix : (c k : ℕ) (t : List ℕ) (p : LexemeForm × List ℕ) → slice_index t 0 ≡ k → 0 < k → Found (c ∷ k ∷ drop 1 t) p → Found (c ∷ t) p
 behind_prefix c k t p e l found = subst (λ (s : List ℕ). Found (c ∷ s) p) (sym (prefixed k t e l)) found
 

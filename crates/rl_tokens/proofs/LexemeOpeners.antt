@@ -183,7 +183,7 @@ otherwise_here t (inl h) = prefixed_here t h
 otherwise_here t (inr (inl h)) = ap begins_otherwise h.text_is ∙ raw_otherwise h.prefix h.rest (hashed_here h.rest h.opens)
 otherwise_here t (inr (inr h)) = let (d, u, same, is) = raw_split t h in ap begins_otherwise same ∙ or_right _ _ is
 
--- what stands behind each prefix
+-- what stands after each prefix
 abbrev behind_b : List ℕ → Bool
 behind_b t = slice_index t 0 == 34 || (slice_index t 0 == 39 || (slice_index t 0 == 114 && begins_hashed_quote (drop 1 t)))
 

@@ -43,7 +43,7 @@ no_start c = not (is_start c)
 starts : (k : ℕ) → is_start k ≡ true → no_start k ≡ false
 starts k h = ap not h
 
--- what ends at once has no underscore behind its digits
+-- what ends at once has no underscore after its digits
 same_row : (t : List ℕ) → first_passes goes_on_none (after_run is_ascii_digit t) ≡ true → after_run (is_row_part is_ascii_digit) t ≡ after_run is_ascii_digit t
 same_row [] h = refl
 same_row (d ∷ u) h = go (is_ascii_digit d) refl h (same_row u)

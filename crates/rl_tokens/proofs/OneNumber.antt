@@ -100,7 +100,7 @@ sign_cases (c ∷ []) h =
     ]
 sign_cases (c ∷ d ∷ s) h = absurd (cc)
 
--- what is left behind the letter of an exponent, and its suffix
+-- what is left after the letter of an exponent, and its suffix
 same_power : (us s row vs z sow x y : List ℕ) → list_all is_underscore us ≡ true → is_power_sign s ≡ true → list_all (is_row_part (is_digit Decimal)) row ≡ true → list_all is_underscore vs ≡ true → is_power_sign z ≡ true → list_all (is_row_part (is_digit Decimal)) sow ≡ true → IsSuffix x → IsSuffix y → (us ++ (s ++ row)) ++ x ≡ (vs ++ (z ++ sow)) ++ y → (us ++ (s ++ row) ≡ vs ++ (z ++ sow)) × (x ≡ y)
 same_power us s row vs z sow x y hu hs hr hv hz hw sx sy e =
     let part = is_row_part (is_digit Decimal) in

@@ -9,7 +9,7 @@ use Rattle.rl_tokens.specs.Mirrors.SkippedAt.{after_block, after_line, after_com
 use Rattle.rl_tokens.proofs.Comments.{chosen, same_Some, false_unless, Closes, after_block-sound, after_block-past, OneLine, after_line-past, after_line-open, plain_line-same, plain_block-same}
 use Rattle.rl_tokens.specs.Mirrors.LexemeAt.{after_run}
 
--- What after_line gives: the text behind the first LF, or nothing.
+-- What after_line gives: the text after the first LF, or nothing.
 abbrev LineEnds : List ℕ → List ℕ → Type 0
 LineEnds t r = ((body : List ℕ) × OneLine body × (t ≡ body ++ 10 ∷ r)) ⊎ (OneLine t × (r ≡ []))
 

@@ -1,4 +1,4 @@
--- The lexer answers a print with the trees of its items, or refuses memory.
+-- The lexer answers a print with the trees of its items, or fails by an allocation.
 use Rattle.std.proofs.Common.{◌≡◌, ℕ, List, Result, Ok, Err, refl}
 use Rattle.std.specs.Str.{chars}
 use Rattle.std.specs.Result.{IfOk, IfErr}
@@ -13,7 +13,7 @@ use Rattle.rl_tokens.specs.PrintedTrees.{Reprinted, printed_trees}
 use Rattle.rl_tokens.proofs.LexLaws.{one_list, never_both}
 use Rattle.rl_tokens.proofs.PrintedLaws.{printed_lexes, reprinted_lexes}
 
--- a refusal without a fault is one of memory
+-- an error of a text with no error is an allocation failure
 refuses_memory : (t : List ℕ) (kind : LexKind) (at : ℕ) → (Fault t kind at → ⊥) → Refuses t kind at → kind ≡ Memory
 refuses_memory t Memory at none h = refl
 refuses_memory t DocComment at none h = absurd (none h)
@@ -26,11 +26,11 @@ refuses_memory t UnmatchedClose at none h = absurd (none h)
 refuses_memory t UnclosedGroup at none h = absurd (none h)
 refuses_memory t TooDeep at none h = absurd (none h)
 
--- where the text lexes, each refusal is one of memory
+-- where the text lexes, each error is an allocation failure
 only_memory : (t : List ℕ) (file : ℕ) (trees : List Tree) (e : LexError) → Lexes t file trees → Refuses t e.kind e.at → e.kind ≡ Memory
 only_memory t file trees e lexes refused = refuses_memory t e.kind e.at (λ f. never_both t file trees e.kind e.at lexes f) refused
 
--- These trees, or a refusal of memory.
+-- These trees, or an allocation failure.
 abbrev pub Answers : {A : Type 0} → Result (TokenStream A) LexError → List Tree → Type 0
 Answers r trees = IfOk r (λ s. stream_view s ≡ trees) × IfErr r (λ e. e.kind ≡ Memory)
 

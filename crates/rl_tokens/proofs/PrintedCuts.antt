@@ -114,7 +114,7 @@ LexedItem ends (WordItem truth) = (after : List ℕ) → ends after → IsLexeme
 LexedItem ends (LiteralItem text) = LexedBefore ends text
 LexedItem ends (MinusItem text) = LexedBefore ends text
 
--- Behind each item the text is of the family.
+-- After each item the text is of the family.
 abbrev pub EndsEach : (List ℕ → Type 0) → List Entry → List ℕ → Type 0
 EndsEach ends [] last = ⊤
 EndsEach ends (e ∷ es) last = ends (printed_text es last) × EndsEach ends es last

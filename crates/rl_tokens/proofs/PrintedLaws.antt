@@ -20,7 +20,7 @@ use Rattle.rl_tokens.proofs.LiteralEnds.{EndsLiteral, gap_ends, word_ends}
 use Rattle.rl_tokens.proofs.StrictQuotedLexemes.{quoted_lexed}
 use Rattle.rl_tokens.proofs.StrictNumberLexemes.{int_lexed, float_lexed}
 
--- What holds of each, and what holds behind the first.
+-- What holds of each, and what holds after the first.
 all_by : {A : Type 0} (P Q R : A → Type 0) → ((x : A) → P x → Q x → R x) → (xs : List A) → AllByRecursion P xs → AllByRecursion Q xs → AllByRecursion R xs
 all_by P Q R f [] ps qs = tt
 all_by P Q R f (x ∷ xs) (p, ps) (q, qs) = (f x p q, all_by P Q R f xs ps qs)
@@ -52,7 +52,7 @@ filled_gap gap rest is some = gap_begins gap rest is (λ h. absurd (some h))
 last_begins : (last : List ℕ) → IsTrivia last → BeginsGap last
 last_begins last is = subst (λ (x : List ℕ). BeginsGap x) (append-nil last) (gap_begins last [] is (λ h. tt))
 
--- Behind each item stands an entry, or the last gap.
+-- After each item stands an entry, or the last gap.
 abbrev Follows : (List ℕ → Type 0) → Entry → Type 0
 Follows ends e = (rest : List ℕ) → ends (e.gap ++ (item_text e.item ++ rest))
 

@@ -95,7 +95,7 @@ module _ (q : ℕ → Bool) (high : PassesHigh q) where
       let front = take (prefix_len q bs) bs in
       all_encoded (chars front) (ap (list_all q) (encodes-chars front (IsUtf8-take bs (prefix_len q bs) u (run_boundary bs))) ∙ prefix_passes q bs)
 
-  -- and the one behind it doesn't
+  -- and the one after it doesn't
   pub run_stop : (bs : List ℕ) → IsUtf8 bs → first_passes q (chars (drop (prefix_len q bs) bs)) ≡ false
   run_stop bs u =
       let rest = drop (prefix_len q bs) bs in

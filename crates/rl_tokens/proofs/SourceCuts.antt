@@ -1,4 +1,4 @@
--- A source's next token, and what is lent of it.
+-- A source's next token, and what is borrowed of it.
 use Rattle.std.proofs.Common.{◌≡◌, ◌≢◌, ℕ, ◌+◌, ◌-◌, ◌⊎◌, inl, inr, Bool, true, false, ◌||◌, ◌==◌, List, [], ◌∷◌, ◌++◌, length, length-append, take, slice_range, refl, sym, ◌∙◌, ap, subst, arith}
 use Rattle.std.specs.Prelude.{codes, if◌then◌else◌}
 use Rattle.std.proofs.lemmas.List.{append_cancel_right}
@@ -32,7 +32,7 @@ begun text front rest is behind is_front skipped = record {
   are_cuts = skipped;
 }
 
--- behind a token its rest stands where the token ends
+-- after a token its rest stands where the token ends
 behind_place : (w : CutSource) (after : List ℕ) (n : ℕ) → w.at + byte_len (source_text w.token ++ after) ≡ n → source_end w + byte_len after ≡ n
 behind_place w after n place = omega (arith, place, byte_len-append (source_text w.token) after)
 
@@ -114,7 +114,7 @@ takes text rest behind next l is in_rest in_behind skips at =
       behind = behind_step rest behind next in_rest in_behind;
     }
 
--- what is lent is the next token
+-- what is borrowed is the next token
 pub takes_source : (text rest behind next : List ℕ) (l : SourceToken) → IsCursorState text rest → SourceBefore (chars rest) (source_view l.form) (chars behind) → IsTail rest behind → IsUtf8 l.text.now → l.text.now ≡ slice_range rest 0 (length rest - length behind) → l.lo ≡ length text - length rest → l.hi ≡ length text - length behind → Skipped (chars behind) (chars next) → IsTail behind next → TakesSource (record { text = text; rest = rest }) l (record { text = text; rest = next })
 takes_source text rest behind next l is front in_rest utf8 token_is lo hi skips in_behind =
     let at : SourceAt text rest behind l.text.now (source_view l.form) l.lo l.hi =

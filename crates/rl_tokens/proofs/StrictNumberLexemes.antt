@@ -281,7 +281,7 @@ dot_alone t x d v s digits numeral none =
     float_from t x d v s (LexedDot []) NoLexedExponent digits numeral refl
     (ap (first_passes is_dot_or_start) none, refl, ap (first_passes (is_row_part is_ascii_digit)) none) (ap (first_passes is_letter) none)
 
--- behind a dot the digits begin neither as a dot does nor as an identifier
+-- after a dot the digits begin neither as a dot does nor as an identifier
 digits_behind_dot : (f s : List ℕ) → IsDigits f → first_passes is_dot_or_start (f ++ s) ≡ false
 digits_behind_dot f s digits =
     let r = digit_row f digits in

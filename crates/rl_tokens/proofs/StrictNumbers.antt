@@ -155,7 +155,7 @@ behind_minus t x Minus m r = (
   refl,
 )
 
--- a character that no integer has behind its sign
+-- a character that no integer has after its sign
 pub record IsForeign (k : ℕ) : Type 0 where
   pub small : k < 128
   pub no_word : (is_ascii_alphanumeric k || eqb k 95) ≡ false

@@ -256,7 +256,7 @@ single_lexed k t x v f s =
           ∙ sym (single_text f.is_byte (character_body_text w.inside) x);
     }
 
--- Raw strings: no quote inside has the hashes behind it.
+-- Raw strings: no quote inside has the hashes after it.
 hashes_front : (n : ℕ) (t : List ℕ) → begins_hashes n t ≡ true → (rest : List ℕ) × (t ≡ replicate n 35 ++ rest)
 hashes_front zero t h = (t, refl)
 hashes_front (suc n) [] h = absurd (cc)

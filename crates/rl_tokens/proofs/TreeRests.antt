@@ -8,15 +8,15 @@ use Rattle.rl_tokens.specs.Buffers.{first_span, IsRest, StaysRest}
 use Rattle.rl_tokens.specs.Whole.{RefusesParse}
 use Rattle.rl_tokens.specs.Trees.{Tree}
 
--- behind one tree
+-- after one tree
 pub rest_one : (before left : List Tree) (t : Tree) → before ≡ t ∷ left → IsRest before left
 rest_one before left t e = record { taken = t ∷ []; are = e }
 
--- behind two
+-- after two
 pub rest_two : (before left : List Tree) (t u : Tree) → before ≡ t ∷ (u ∷ left) → IsRest before left
 rest_two before left t u e = record { taken = t ∷ (u ∷ []); are = e }
 
--- behind none
+-- after none
 pub rest_none : (before left : List Tree) → left ≡ before → IsRest before left
 rest_none before left e = record { taken = []; are = sym e }
 

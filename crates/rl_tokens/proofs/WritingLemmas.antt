@@ -35,7 +35,7 @@ begun_more k a b xs c e h =
     let all : (opener k ++ inner) ++ unit_text (written_unit k c) ≡ opener k ++ texts (map (written_unit k) (xs ++ (c ∷ []))) = append_assoc (opener k) inner (unit_text (written_unit k c)) ∙ ap (λ z. opener k ++ z) (sym (texts_more k xs c)) in
     h ∙ ap (λ z. z ++ encode_utf8_all (unit_text (written_unit k c))) e ∙ sym (encodes-append (opener k ++ inner) (unit_text (written_unit k c))) ∙ ap encode_utf8_all all
 
--- the closer behind all of them
+-- the closer after all of them
 pub begun_whole : (k : Kind) (a b xs ys : List ℕ) → a ≡ begun k xs → b ≡ a ++ encode_utf8 (closer k) → xs ≡ ys → IsUtf8 b → chars b ≡ written_text k ys
 begun_whole k a b xs ys e h same u =
     let inner = texts (map (written_unit k) xs) in

@@ -12,7 +12,7 @@ use Rattle.rl_tokens.specs.Trees.{Tree, GroupTree, IdentTree, PunctTree, Literal
 abbrev pub trees_in : {A : Type 0} → ParseBuffer A → List Tree
 trees_in b = map tree_view b.trees.now
 
--- the span at which the end of the trees is told
+-- the span at which the end of the trees is reported
 abbrev pub scope_of : {A : Type 0} → ParseBuffer A → Span
 scope_of b = b.scope
 
@@ -55,7 +55,7 @@ begins_mark ch [] = false
 begins_mark ch (PunctTree m ∷ ts) = m.ch == ch
 begins_mark ch (_ ∷ ts) = false
 
--- The trees begin with this character of punctuation, and the rest stands behind it.
+-- The trees begin with this character of punctuation, and the rest stands after it.
 pub record IsBehindMark (ch : ℕ) (trees rest : List Tree) : Type 0 where
   pub mark : Mark
   pub trees_are : trees ≡ PunctTree mark ∷ rest
@@ -76,13 +76,13 @@ pub record IsPutBack {A : Type 0} (before after : ParseBuffer A) : Type 0 where
   pub scope : scope_of after ≡ scope_of before
   pub rest : IsRest (trees_in before) (trees_in after)
 
--- the kind of a refusal where this word was expected before these trees
+-- the kind of an error where this word was expected before these trees
 abbrev pub MissesWord : {A : Type 0} → List Tree → List ℕ → ErrorKind A → Type 0
 MissesWord [] word (EndOfInput w) = w.now ≡ word
 MissesWord (t ∷ ts) word (Expected w) = w.now ≡ word
 MissesWord _ word _ = ⊥
 
--- The refusal where this word was expected before these trees: at the first tree, at the end at the
+-- The error where this word was expected before these trees: at the first tree, at the end at the
 -- scope.
 pub record IsRefusal {A : Type 0} (trees : List Tree) (scope : Span) (word : List ℕ) (e : Error A)
     : Type 0 where

@@ -25,7 +25,7 @@ form_view found.Identifier = IdentifierForm
 form_view (found.Delimiter c) = DelimiterForm c
 form_view (found.Mark c) = MarkForm c
 
--- The form, the text and the place that are lent are those of the cut.
+-- The form, the text and the place that are borrowed are those of the cut.
 pub record IsLentToken (l : Lexeme) (w : LexedToken) : Type 0 where
   pub form_is : form_of w.lexeme ≡ form_view l.form
   pub bytes_are : encode_utf8_all (lexeme_text w.lexeme) ≡ l.text.now
@@ -47,7 +47,7 @@ pub record TakesNext (old : CursorState) (l : Lexeme) (new : CursorState) : Type
   pub behind : IsTail old.rest new.rest
 
 -- Where the text was cut into tokens whose groups open and close as they must, and this is left of
--- it, its first fault is of this kind and stands at this byte.
+-- it, its first error is of this kind and stands at this byte.
 abbrev pub IsFirstFault : CursorState → LexKind → ℕ → Type 0
 IsFirstFault t kind at =
     (cuts : List LexedToken) (groups : List OpenGroup)

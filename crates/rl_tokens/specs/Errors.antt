@@ -1,4 +1,4 @@
--- What refusals say.
+-- What errors say.
 use Rattle.std.specs.Prelude.{ℕ, List, ◌++◌, codes, string_bytes}
 use Rattle.rl_tokens.specs.declared.span.Span.{Span}
 use Rattle.rl_tokens.specs.declared.lex_error.LexKind.{LexKind}
@@ -8,7 +8,7 @@ use Rattle.rl_tokens.specs.declared.error.ErrorKind.TheVariants.{Expected, EndOf
 use Rattle.rl_tokens.specs.declared.error.Error.{Error}
 use Rattle.rl_tokens.specs.LexErrors.{lex_message}
 
--- the text of a refusal
+-- the text of an error
 abbrev pub message_of : {A : Type 0} → ErrorKind A → List ℕ
 message_of (Expected word) = codes "expected " ++ word.now
 message_of (EndOfInput word) = codes "unexpected end of input, expected " ++ word.now
@@ -23,11 +23,11 @@ message_of Repeated = codes "repeated name"
 message_of (Number words) = string_bytes words
 message_of Memory = codes "out of memory"
 
--- running out of memory, reported at a span
+-- an allocation failure, reported at a span
 abbrev pub memory_at : {A : Type 0} → Span → Error A
 memory_at at = record { span = at; kind = Memory }
 
--- the lexer's refusal, reported at a span; its running out of memory is `Memory`
+-- the lexer's error, reported at a span; its allocation failure is `Memory`
 abbrev pub lex_refusal : {A : Type 0} → LexKind → Span → Error A
 lex_refusal LexMemory at = memory_at at
 lex_refusal kind at = record { span = at; kind = Lex kind }

@@ -1,4 +1,4 @@
--- What the lexer's refusals say.
+-- What the lexer's errors say.
 use Rattle.std.specs.Prelude.{ℕ, List, codes}
 use Rattle.rl_tokens.specs.declared.lex_error.LexKind.{LexKind}
 use Rattle.rl_tokens.specs.declared.lex_error.LexKind.TheVariants.{DocComment, UnclosedComment, UnclosedQuote, Lifetime, RawIdentifier, StrayCharacter, UnmatchedClose, UnclosedGroup, TooDeep, Memory}

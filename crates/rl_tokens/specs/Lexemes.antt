@@ -19,7 +19,7 @@ is_start c = (c == code "_" || is_xid_start c) && not (is_white c)
 abbrev pub is_continue : ℕ → Bool
 is_continue c = is_xid_continue c && not (is_white c)
 
--- behind a zero: x, o or b
+-- after a zero: x, o or b
 abbrev pub is_base_letter : ℕ → Bool
 is_base_letter c = c == code "x" || c == code "o" || c == code "b"
 
@@ -36,7 +36,7 @@ begins_hashes zero t = true
 begins_hashes (suc n) [] = false
 begins_hashes (suc n) (c ∷ t) = c == code "#" && begins_hashes n t
 
--- A dot part begins the text: a dot, and behind it neither a dot nor an identifier.
+-- A dot part begins the text: a dot, and after it neither a dot nor an identifier.
 abbrev pub begins_dot : List ℕ → Bool
 begins_dot [] = false
 begins_dot (c ∷ t) = c == code "." && not (first_passes (λ d. d == code "." || is_start d) t)
@@ -193,7 +193,7 @@ abbrev pub IsLexedSuffix : List ℕ → List ℕ → Type 0
 IsLexedSuffix [] after = first_passes is_start after ≡ false
 IsLexedSuffix (c ∷ more) after = IsTrue (is_start c) × IsRow is_continue more after
 
--- No quote in the body has n hashes behind it.
+-- No quote in the body has n hashes after it.
 abbrev pub IsRawBody : ℕ → List ℕ → Type 0
 IsRawBody n [] = ⊤
 IsRawBody n (c ∷ body) = ((c == code "\"" && begins_hashes n body) ≡ false) × IsRawBody n body
@@ -234,7 +234,7 @@ IsLexeme (MarkLexeme c) after =
     IsTrue (is_among marks c)
     ⊎ ((c ≡ code "/") × (first_passes (λ d. d == code "/" || d == code "*") after ≡ false))
 
--- w is a lexeme with after behind it.
+-- w is a lexeme with after after it.
 abbrev pub LexemeWith : List ℕ → List ℕ → Type 0
 LexemeWith w after = (l : Lexeme) × IsLexeme l after × (w ≡ lexeme_text l)
 
@@ -252,6 +252,6 @@ form_of (DelimiterLexeme c) = DelimiterForm c
 form_of (MarkLexeme c) = MarkForm c
 form_of _ = LiteralForm
 
--- A lexeme stands at the front of the text, and the rest behind it.
+-- A lexeme stands at the front of the text, and the rest after it.
 abbrev pub LexemeBefore : List ℕ → List ℕ → Type 0
 LexemeBefore t after = (w : List ℕ) × LexemeWith w after × (t ≡ w ++ after)

@@ -1,4 +1,4 @@
--- How a whole text is cut into tokens, and the first fault of a text that can't be.
+-- How a whole text is cut into tokens, and the first error of a text that can't be.
 use Rattle.std.specs.Prelude.{◌≡◌, ◌≢◌, ◌⊎◌, ℕ, ◌+◌, Bool, false, not, ◌&&◌, ◌||◌, ◌==◌, nat_lt, List, [], ◌∷◌, ◌++◌, length, map, IsTrue, IsFalse, codes, encode_utf8_all, Option, Some, None, option_and_then, if◌then◌else◌}
 use Prim.Native.Char.{code}
 use Rattle.rl_tokens.specs.Texts.{is_among, first_passes, begins, byte_len}
@@ -53,7 +53,7 @@ abbrev pub popped : List OpenGroup → List OpenGroup
 popped [] = []
 popped (o ∷ os) = os
 
--- the groups that are open behind a delimiter, the innermost first; none where it closes wrongly or
+-- the groups that are open after a delimiter, the innermost first; none where it closes wrongly or
 -- opens too deep
 abbrev pub behind_delimiter : List OpenGroup → ℕ → ℕ → Option (List OpenGroup)
 behind_delimiter groups c at =
@@ -69,7 +69,7 @@ behind_form groups _ at = Some groups
 abbrev pub behind_lexeme : List OpenGroup → Lexeme → ℕ → Option (List OpenGroup)
 behind_lexeme groups l at = behind_form groups (form_of l) at
 
--- the groups that are open behind all these tokens
+-- the groups that are open after all these tokens
 abbrev pub open_groups : List OpenGroup → List LexedToken → Option (List OpenGroup)
 open_groups groups [] = Some groups
 open_groups groups (w ∷ ws) =
@@ -114,7 +114,7 @@ abbrev pub begins_lifetime : List ℕ → Bool
 begins_lifetime [] = false
 begins_lifetime (c ∷ cs) = c == code "'" && first_passes is_start cs
 
--- a quote that begins a literal: alone, behind a prefix, behind a raw literal's opener, or a
+-- a quote that begins a literal: alone, after a prefix, after a raw literal's opener, or a
 -- character's, which begins no lifetime
 abbrev pub BeginsQuote : List ℕ → Type 0
 BeginsQuote r =
@@ -128,7 +128,7 @@ BeginsLexeme r = (after : List ℕ) × LexemeBefore r after
 abbrev pub BeginsNoLexeme : List ℕ → Type 0
 BeginsNoLexeme r = (after : List ℕ) → LexemeBefore r after → ⊥
 
--- The fault of this kind stands at the rest r, with these groups open. Running out of memory is
+-- The error of this kind stands at the rest r, with these groups open. An allocation failure is
 -- none of the text.
 abbrev pub FaultAt : LexKind → List OpenGroup → List ℕ → Type 0
 FaultAt DocComment groups r = IsTrue (begins_doc_comment r)
@@ -155,7 +155,7 @@ abbrev pub fault_place : LexKind → List OpenGroup → ℕ → ℕ
 fault_place UnclosedGroup groups at = innermost groups at
 fault_place _ groups at = at
 
--- The first fault of the text: it is cut as far as it goes, and the fault stands there.
+-- The first error of the text: it is cut as far as it goes, and the error stands there.
 pub record Fault (t : List ℕ) (kind : LexKind) (at : ℕ) : Type 0 where
   pub cuts : List LexedToken
   pub rest : List ℕ
@@ -176,7 +176,7 @@ pub record LeavesRestAt (t : List ℕ) (at : ℕ) : Type 0 where
   pub begins : BeginsLexeme rest
   pub rest_place : at + byte_len rest ≡ byte_len t
 
--- What a refusal says of the text: its first fault, or the token for which memory was refused, a
+-- What an error says of the text: its first error, or the token for which an allocation failed, a
 -- group's closer too.
 abbrev pub Refuses : List ℕ → LexKind → ℕ → Type 0
 Refuses t Memory at = LeavesRestAt t at
@@ -186,7 +186,7 @@ Refuses t kind at = Fault t kind at
 abbrev pub OneList : Type 0
 OneList = (t : List ℕ) (file : ℕ) (xs ys : List Tree) → Lexes t file xs → Lexes t file ys → xs ≡ ys
 
--- A text has at most one first fault.
+-- A text has at most one first error.
 abbrev pub OneFault : Type 0
 OneFault = (t : List ℕ) (k l : LexKind) (m n : ℕ) → Fault t k m → Fault t l n → (k ≡ l) × (m ≡ n)
 

@@ -9,7 +9,7 @@ use Rattle.rl_tokens.specs.Lexemes.{marks}
 abbrev pub is_punct : ℕ → Bool
 is_punct c = is_among marks c || c == code "/"
 
--- what a character of punctuation is called in refusals: itself between two backticks
+-- what a character of punctuation is called in errors: itself between two backticks
 abbrev pub mark_word : ℕ → List ℕ
 mark_word c = code "`" ∷ (c ∷ (code "`" ∷ []))
 

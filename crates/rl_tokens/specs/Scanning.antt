@@ -18,7 +18,7 @@ abbrev pub AreAscii : Marks → Type 0
 AreAscii marks =
     (marks.first < 128) × (marks.second < 128) × (marks.third < 128) × (marks.fourth < 128)
 
--- The mark is the first in the text, and the rest stands behind it.
+-- The mark is the first in the text, and the rest stands after it.
 pub record IsNextMark (marks : Marks) (text : List ℕ) (mark : ℕ) (rest : List ℕ) : Type 0 where
   pub front : List ℕ
   pub others : IsTrue (list_all (is_other marks) front)

@@ -1,4 +1,4 @@
--- The rest of a text behind white space and plain comments.
+-- The rest of a text after white space and plain comments.
 use Rattle.std.specs.Prelude.{◌≡◌, ℕ, ◌⊎◌, List, [], ◌∷◌, ◌++◌}
 use Prim.Native.Char.{code}
 use Rattle.rl_tokens.specs.Trivia.{IsLineBody, IsTrivia, IsTriviaPiece, TriviaPiece, trivia_piece_text}
@@ -15,7 +15,7 @@ BeginsTrivia t =
     ((p : TriviaPiece) × (rest : List ℕ) × IsTriviaPiece p × (t ≡ trivia_piece_text p ++ rest))
     ⊎ IsOpenLine t
 
--- r is what stands behind all trivia at the front of t: with an open line there, nothing.
+-- r is what stands after all trivia at the front of t: with an open line there, nothing.
 pub record StopsBehindTrivia (t r : List ℕ) : Type 0 where
   pub front : List ℕ
   pub is_trivia : IsTrivia front
@@ -33,6 +33,6 @@ pub record StopsInOpenLine (t r : List ℕ) : Type 0 where
 abbrev pub Skipped : List ℕ → List ℕ → Type 0
 Skipped t r = StopsBehindTrivia t r ⊎ StopsInOpenLine t r
 
--- A text has at most one rest behind its trivia.
+-- A text has at most one rest after its trivia.
 abbrev pub OneRest : Type 0
 OneRest = (t r s : List ℕ) → Skipped t r → Skipped t s → r ≡ s

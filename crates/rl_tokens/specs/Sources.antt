@@ -110,7 +110,7 @@ source_view found.Lifetime = LifetimeKind
 source_view found.DocComment = DocCommentKind
 source_view found.Stray = StrayKind
 
--- A token of this kind begins the text, with the rest behind it.
+-- A token of this kind begins the text, with the rest after it.
 pub record SourceBefore (t : List ℕ) (kind : SourceKind) (rest : List ℕ) : Type 0 where
   pub token : SourceLexeme
   pub is_source : IsSource token rest
@@ -128,7 +128,7 @@ abbrev pub without_mark : List ℕ → List ℕ
 without_mark [] = []
 without_mark (c ∷ t) = if c == 0xfeff then t else c ∷ t
 
--- `#!` and the line's rest without its LF, where no `[` stands behind them, white space and plain
+-- `#!` and the line's rest without its LF, where no `[` stands after them, white space and plain
 -- comments: an interpreter's line, and no attribute
 pub record IsScriptLine (t rest : List ℕ) : Type 0 where
   pub line : List ℕ
@@ -171,7 +171,7 @@ pub record IsCutUpTo (t : List ℕ) (cuts : List CutSource) (r : List ℕ) : Typ
   pub place : at + byte_len body ≡ byte_len t
   pub are_cuts : SourcesUpTo at body cuts r
 
--- The form, the text and the place that are lent are those of the cut.
+-- The form, the text and the place that are borrowed are those of the cut.
 pub record IsLentSource (l : SourceToken) (w : CutSource) : Type 0 where
   pub kind_is : kind_of w.token ≡ source_view l.form
   pub bytes_are : encode_utf8_all (source_text w.token) ≡ l.text.now

@@ -15,7 +15,7 @@ use Rattle.rl_tokens.specs.Buffers.{first_span}
 abbrev pub place_at : ℕ → ℕ → Span
 place_at file at = record { file = file; lo = at; hi = at }
 
--- The text can't be cut: its first fault, or running out of memory for the token there, reported at
+-- The text can't be cut: its first error, or an allocation failure for the token there, reported at
 -- its place. Here a text is its characters.
 pub record RefusesLexing {A : Type 0} (text : List ℕ) (file : ℕ) (e : Error A) : Type 0 where
   pub kind : LexKind
@@ -34,7 +34,7 @@ pub record LeavesTrees {T A : Type 0}
   pub some : rest ≢ []
   pub error : e ≡ record { span = first_span rest scope; kind = Unexpected }
 
--- The trees aren't one value: the parser's own refusal, or trees that are left over.
+-- The trees aren't one value: the parser's own error, or trees that are left over.
 pub record RefusesParse {T A : Type 0}
     (runs : List Tree → Span → Result T (Error A) → List Tree → Type 0) (trees : List Tree)
     (scope : Span) (e : Error A) : Type 0 where

@@ -3,7 +3,7 @@ use Rattle.std.specs.Prelude.{ℕ, List, codes}
 use Rattle.rl_tokens.specs.declared.kind.Kind.{Kind}
 use Rattle.rl_tokens.specs.declared.kind.Kind.TheVariants.{Str, ByteStr, CStr, Byte, Char, Int, Float, Bool as BoolKind}
 
--- by refusals
+-- by errors
 abbrev pub kind_word : Kind → List ℕ
 kind_word Str = codes "string literal"
 kind_word ByteStr = codes "byte string literal"

@@ -46,7 +46,7 @@ pub fn append_ident<A: Allocator>(
     append_tree(TokenTree::Ident(ident), tokens)
 }
 
-/// Puts the tree last. Where memory is refused, the tree is dropped.
+/// Puts the tree last. Where an allocation fails, the tree is dropped.
 fn append_tree<A: Allocator>(
     tree: TokenTree<A>,
     tokens: &mut TokenStream<A>,

@@ -10,8 +10,8 @@ use crate::span::Span;
 use crate::token::{Group, TokenTree};
 use std::alloc::{Allocator, Global};
 
-/// Trees that are lent, and a scope: the span at which their end is told. Parsers take trees from
-/// the front; the trees themselves stay with their owner, who may lend them as often as is wanted.
+/// Trees that are borrowed, and a scope: the span at which their end is reported. Parsers take trees from
+/// the front; the trees themselves stay with their owner, who may hand them out as often as is wanted.
 ///
 /// # Example
 ///
@@ -92,14 +92,14 @@ impl<'a, A: Allocator> ParseBuffer<'a, A> {
         }
     }
 
-    /// The trees that are left, in their order, lent.
+    /// The trees that are left, in their order, borrowed.
     pub fn rest(&self) -> &'a [TokenTree<A>]
         ensures { map tree_view result.now ≡ trees_in self.now }
     {
         &self.trees[..]
     }
 
-    /// Takes the next tree where it is a literal token, and lends it; else the buffer stays. `true`
+    /// Takes the next tree where it is a literal token, and borrows it; else the buffer stays. `true`
     /// and `-1` are no literal tokens: the parser of `Lit` takes them.
     pub fn literal(&mut self) -> Option<&'a Literal<A>>
         ensures taken { IfSome result
@@ -120,7 +120,7 @@ impl<'a, A: Allocator> ParseBuffer<'a, A> {
         }
     }
 
-    /// Takes the next tree where it is an identifier, and lends it; else the buffer stays.
+    /// Takes the next tree where it is an identifier, and borrows it; else the buffer stays.
     pub fn ident(&mut self) -> Option<&'a Ident<A>>
         ensures taken { IfSome result
             (λ x. trees_in self.old ≡ IdentTree x.now ∷ trees_in self.new) }
@@ -140,7 +140,7 @@ impl<'a, A: Allocator> ParseBuffer<'a, A> {
         }
     }
 
-    /// Takes the next tree where it is a character of punctuation, whichever, and lends it; else
+    /// Takes the next tree where it is a character of punctuation, whichever, and borrows it; else
     /// the buffer stays.
     pub fn punct(&mut self) -> Option<&'a Punct>
         ensures taken { IfSome result
@@ -172,7 +172,7 @@ impl<'a, A: Allocator> ParseBuffer<'a, A> {
         }
     }
 
-    /// Takes this character of punctuation ([`Punct::is_char`] tells which are), and lends its
+    /// Takes this character of punctuation ([`Punct::is_char`] tells which are), and borrows its
     /// token.
     ///
     /// # Errors
@@ -216,7 +216,7 @@ impl<'a, A: Allocator> ParseBuffer<'a, A> {
         self.punct()
     }
 
-    /// Takes the next tree where it is a group, and lends it; else the buffer stays.
+    /// Takes the next tree where it is a group, and borrows it; else the buffer stays.
     /// [`Group::inside`] is a buffer of its trees.
     pub fn group(&mut self) -> Option<&'a Group<A>>
         ensures taken { IfSome result
@@ -240,7 +240,7 @@ impl<'a, A: Allocator> ParseBuffer<'a, A> {
         }
     }
 
-    /// The refusal of what stands next, where this word was expected: `Expected` at the next tree's
+    /// The error of what stands next, where this word was expected: `Expected` at the next tree's
     /// span, at the end `EndOfInput` at the scope. It takes no memory.
     pub fn error(&self, word: &'static str) -> Error<A>
         ensures { IsRefusal (trees_in self.now) (scope_of self.now) word.now result }

@@ -83,7 +83,7 @@ impl<A: Allocator> CString<A> {
         }
     }
 
-    /// The bytes, none of which is zero, lent.
+    /// The bytes, none of which is zero, borrowed.
     pub fn as_bytes(&self) -> &[u8]
         ensures bytes { result.now ≡ self.now }
         ensures none_is_zero { IsTrue (has_no_zero result.now) }

@@ -11,7 +11,7 @@ use crate::lexeme::{Form, first_lexeme};
 use crate::whitespace::skip;
 use std::marker::Model;
 
-/// A token of a text, lent from it: what it is to a parser, and where it stands.
+/// A token of a text, borrowed from it: what it is to a parser, and where it stands.
 ///
 /// # Example
 ///
@@ -27,7 +27,7 @@ pub struct Lexeme<'t> {
     pub text: &'t str,
     /// The place of its first byte in the whole.
     pub lo: usize,
-    /// The place behind its last byte.
+    /// The place after its last byte.
     pub hi: usize,
 }
 
@@ -50,7 +50,7 @@ pub struct Lexeme<'t> {
 #[derive(Drop)]
 pub struct Tokens<'t> {
     text: &'t str,
-    // what is left, behind white space and comments
+    // what is left, after white space and comments
     rest: &'t str,
 }
 
@@ -109,7 +109,7 @@ impl<'t> Tokens<'t> {
         }
     }
 
-    /// Why no token begins what is left: the lexer's fault, and the byte where it stands in the
+    /// Why no token begins what is left: the lexer's error, and the byte where it stands in the
     /// whole text. `None` at the end of the text, and where a token begins what is left. Groups
     /// aren't counted here, so the kind is the first six of [`LexKind`](crate::LexKind)'s alone.
     ///
@@ -122,11 +122,11 @@ impl<'t> Tokens<'t> {
     /// }
     /// ```
     pub fn fault(&self) -> Option<LexError>
-        // It is a fault of what is left, whatever groups are open, and stands where that begins.
+        // It is an error of what is left, whatever groups are open, and stands where that begins.
         ensures fault { IfSome result (λ e. (groups : List OpenGroup)
             → FaultAt e.kind groups (chars self.now.rest)) }
         ensures place { IfSome result (λ e. e.at + length self.now.rest ≡ length self.now.text) }
-        // It is the first fault of the text, however that was cut up to here.
+        // It is the first error of the text, however that was cut up to here.
         ensures first { IfSome result (λ e. IsFirstFault self.now e.kind e.at) }
         ensures stopped { IfSome result (λ e. BeginsNoLexeme (chars self.now.rest)) }
         // Else the text ends here, or a token begins what is left.
@@ -142,8 +142,8 @@ impl<'t> Tokens<'t> {
         Some(LexError::new(kind, self.text.len() - self.rest.len()))
     }
 
-    /// What is left of the text, behind white space and comments: empty at its end, or where a
-    /// token or a fault begins.
+    /// What is left of the text, after white space and comments: empty at its end, or where a
+    /// token or an error begins.
     pub fn rest(&self) -> &'t str
         ensures { result.now ≡ self.now.rest }
     {

@@ -1,4 +1,4 @@
-//! Refusals: what was refused, and where.
+//! Errors: what was rejected, and where.
 
 ghost use Rattle.std.specs.Prelude.{◌≡◌, Some};
 ghost use Rattle.rl_tokens.specs.Errors.{message_of};
@@ -8,12 +8,12 @@ use crate::span::Span;
 use std::alloc::{AllocError, AllocFailed, Allocator, Global};
 use std::fmt;
 
-/// What was refused, and where. `Display` prints the message of the kind; the span is for who shows
+/// What was rejected, and where. `Display` prints the message of the kind; the span is for who shows
 /// the text.
 ///
 /// # Example
 ///
-/// A refusal's bytes and its message:
+/// An error's bytes and its message:
 ///
 /// ```
 /// place(error.span, out)?;
@@ -22,13 +22,13 @@ use std::fmt;
 #[derive(Drop)]
 #[derive_where(PartialEq, Eq, Debug)]
 pub struct Error<A: Allocator = Global> {
-    /// Where the fault is told.
+    /// Where the error is reported.
     pub span: Span,
-    /// What the fault is.
+    /// What the error is.
     pub kind: ErrorKind<A>,
 }
 
-/// What can be refused. Match the kind to act on it: the words are for people.
+/// What can be rejected. Match the kind to act on it: the words are for people.
 ///
 /// # Example
 ///
@@ -60,23 +60,23 @@ pub enum ErrorKind<A: Allocator = Global> {
     NotFloat,
     /// The name stood before.
     Repeated,
-    /// A number type refused the digits, in these words of its own.
+    /// A number type rejected the digits, in these words of its own.
     Number(String<A>),
-    /// Memory was wanted and refused.
+    /// An allocation failed.
     Memory,
 }
 
 impl<A: Allocator> Error<A> {
     ghost use Rattle.rl_tokens.specs.Errors.{memory_at, lex_refusal};
 
-    /// The refusal of this kind, reported at this span.
+    /// The error of this kind, reported at this span.
     pub fn new(span: Span, kind: ErrorKind<A>) -> Error<A>
         ensures { result ≡ record { span = span; kind = kind } }
     {
         Error { span, kind }
     }
 
-    /// Running out of memory, reported at this span.
+    /// An allocation failure, reported at this span.
     pub fn memory(span: Span) -> Error<A>
         ensures { result ≡ memory_at span }
     {
@@ -86,7 +86,7 @@ impl<A: Allocator> Error<A> {
         }
     }
 
-    /// The lexer's refusal, reported at a span: as `Lex`, but its running out of memory as
+    /// The lexer's error, reported at a span: as `Lex`, but its allocation failure as
     /// `Memory`.
     pub fn of_lexer(kind: LexKind, span: Span) -> Error<A>
         ensures { result ≡ lex_refusal kind span }
@@ -101,7 +101,7 @@ impl<A: Allocator> Error<A> {
     }
 }
 
-/// std's error for running out of memory, which has no place: `Memory` at [`Span::call_site`].
+/// std's error for an allocation failure, which has no place: `Memory` at [`Span::call_site`].
 impl<A: Allocator> From<AllocError> for Error<A> {
     ghost use Rattle.std.specs.Prelude.{◌≡◌};
     ghost use Rattle.rl_tokens.specs.Errors.{memory_at, nowhere};

@@ -17,7 +17,7 @@ pub(crate) fn begins_with(text: &str, c: char) -> bool
     }
 }
 
-/// The text behind its first character.
+/// The text after its first character.
 pub(crate) fn without_first(text: &str) -> &str
     ensures rest { chars result.now ≡ drop 1 (chars text.now) }
     ensures behind { IsTail text.now result.now }
@@ -28,7 +28,7 @@ pub(crate) fn without_first(text: &str) -> &str
     }
 }
 
-/// The text behind a byte of ASCII, where the text begins with it.
+/// The text after a byte of ASCII, where the text begins with it.
 #[inline(always)]
 pub(crate) fn strip_byte(text: &str, byte: u8) -> Option<&str>
     requires { byte < 128 }

@@ -87,7 +87,7 @@ impl<A: Allocator> Ident<A> {
         }
     }
 
-    /// The text, an identifier ([`xid_ok`]), lent.
+    /// The text, an identifier ([`xid_ok`]), borrowed.
     pub fn text(&self) -> &str
         ensures text { result.now ≡ self.now.text }
         ensures identifier { IsTrue (xid_ok (chars result.now)) }

@@ -1,9 +1,9 @@
-//! Values that a refused call hands back.
+//! Values that a rejected call hands back.
 
 use crate::error::Error;
 use std::alloc::{Allocator, Global};
 
-/// A value that a refused call hands back as it was, and why the call was refused. `?` turns it
+/// A value that a rejected call hands back as it was, and why the call was rejected. `?` turns it
 /// into its [`Error`], and drops the value.
 ///
 /// # Example
@@ -19,7 +19,7 @@ use std::alloc::{Allocator, Global};
 pub struct Kept<T, A: Allocator = Global> {
     /// What the call was given.
     pub value: T,
-    /// Why it was refused.
+    /// Why it was rejected.
     pub error: Error<A>,
 }
 

@@ -4,7 +4,7 @@ ghost use Rattle.std.specs.Prelude.{◌≡◌};
 ghost use Rattle.rl_tokens.specs.Quoted.{holds_characters, is_string};
 ghost use Rattle.rl_tokens.specs.Words.{kind_name, kind_shown, kind_word};
 
-/// What a literal is: its kind, without its text. A refusal names it by [`word`](Kind::word).
+/// What a literal is: its kind, without its text. An error names it by [`word`](Kind::word).
 ///
 /// # Example
 ///
@@ -53,7 +53,7 @@ impl Kind {
         matches!(self, Kind::Str | Kind::Char)
     }
 
-    /// What refusals call a literal of the kind, as `string literal`.
+    /// What errors call a literal of the kind, as `string literal`.
     pub fn word(self) -> &'static str
         ensures { result.now ≡ kind_word self }
     {

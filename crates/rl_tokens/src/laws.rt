@@ -42,7 +42,7 @@ pub fn strict_reads()
         → Strict t k v x → IsWithinLimit k t → Reads t k v x }
 {}
 
-/// A strict number, an integer within the limit, reads behind a minus as that number with `-`
+/// A strict number, an integer within the limit, reads after a minus as that number with `-`
 /// before its digits.
 pub fn strict_minus()
     ensures { (t : List ℕ) (k : Kind) (ds x : List ℕ)

@@ -1,4 +1,4 @@
-//! What the lexer refuses.
+//! What the lexer rejects.
 
 ghost use Rattle.std.specs.Prelude.{◌≡◌, Some};
 ghost use Rattle.rl_tokens.specs.LexErrors.{lex_message};
@@ -17,13 +17,13 @@ use std::fmt;
 /// ```
 #[derive(Clone, Copy, PartialEq, Eq, Debug)]
 pub struct LexError {
-    /// What the fault is.
+    /// What the error is.
     pub kind: LexKind,
     /// The byte where it stands.
     pub at: usize,
 }
 
-/// What the lexer refuses, each reported at the byte that its line names. docs/REFUSALS.md has a
+/// What the lexer rejects, each reported at the byte that its line names. docs/REFUSALS.md has a
 /// text for each, and what to do.
 ///
 /// # Example
@@ -54,12 +54,12 @@ pub enum LexKind {
     UnclosedGroup,
     /// An opener where 128 groups are open: the opener.
     TooDeep,
-    /// Memory was wanted and refused: the first byte of the token.
+    /// An allocation failed: the first byte of the token.
     Memory,
 }
 
 impl LexError {
-    /// This fault at this byte.
+    /// This error at this byte.
     pub(crate) fn new(kind: LexKind, at: usize) -> LexError
         ensures { result ≡ record { kind = kind; at = at } }
     {
@@ -68,7 +68,7 @@ impl LexError {
 }
 
 impl LexKind {
-    /// The words of the refusal.
+    /// The words of the error.
     pub(crate) fn words(self) -> &'static str
         ensures { result.now ≡ lex_message self }
     {

@@ -36,7 +36,7 @@ pub enum Form {
     Mark(char),
 }
 
-/// The form of the lexeme that the text begins with, and the rest behind it. `None` where there is
+/// The form of the lexeme that the text begins with, and the rest after it. `None` where there is
 /// no such lexeme.
 #[inline(always)]
 pub(crate) fn first_lexeme(text: &str) -> Option<(Form, &str)>
@@ -49,7 +49,7 @@ pub(crate) fn first_lexeme(text: &str) -> Option<(Form, &str)>
     lexeme_at(text)
 }
 
-/// The same, as the first characters tell it. A digit is told by its byte, before all else.
+/// The same, as the first characters tell it. A digit is recognized by its byte, before all else.
 #[inline(always)]
 fn lexeme_at(text: &str) -> Option<(Form, &str)>
     ensures rest { option_map (λ p. (form_view p.0, chars p.1.now)) result
@@ -65,7 +65,7 @@ fn lexeme_at(text: &str) -> Option<(Form, &str)>
     by_character(text)
 }
 
-/// The same, where it is no number. A quote is told by its byte too.
+/// The same, where it is no number. A quote is recognized by its byte too.
 #[inline(never)]
 fn by_character(text: &str) -> Option<(Form, &str)>
     requires { IsFalse (first_passes is_ascii_digit (chars text.now)) }
@@ -94,7 +94,7 @@ fn by_wide_character(text: &str) -> Option<(Form, &str)>
     by_first(c, behind)
 }
 
-/// By the first character, which is neither a digit nor a `"`, and what stands behind it.
+/// By the first character, which is neither a digit nor a `"`, and what stands after it.
 #[inline(always)]
 fn by_first(c: char, text: &str) -> Option<(Form, &str)>
     requires { IsTrue (is_met_late c) }
@@ -109,7 +109,7 @@ fn by_first(c: char, text: &str) -> Option<(Form, &str)>
     }
 }
 
-/// By an identifier's start, and what stands behind it.
+/// By an identifier's start, and what stands after it.
 fn after_start(c: char, text: &str) -> Option<(Form, &str)>
     ensures rest { option_map (λ p. (form_view p.0, chars p.1.now)) result
         ≡ by_class (start_class c) c (chars text.now) }
@@ -123,7 +123,7 @@ fn after_start(c: char, text: &str) -> Option<(Form, &str)>
     }
 }
 
-/// Behind a `b`: the prefix of three kinds of literals, or the first letter of an identifier.
+/// After a `b`: the prefix of three kinds of literals, or the first letter of an identifier.
 #[inline(always)]
 fn after_b(text: &str) -> Option<(Form, &str)>
     ensures rest { option_map (λ p. (form_view p.0, chars p.1.now)) result
@@ -139,7 +139,7 @@ fn after_b(text: &str) -> Option<(Form, &str)>
     raw_or_word(text)
 }
 
-/// Behind a `c`: the prefix of two kinds of literals, or the first letter of an identifier.
+/// After a `c`: the prefix of two kinds of literals, or the first letter of an identifier.
 #[inline(always)]
 fn after_c(text: &str) -> Option<(Form, &str)>
     ensures rest { option_map (λ p. (form_view p.0, chars p.1.now)) result
@@ -152,7 +152,7 @@ fn after_c(text: &str) -> Option<(Form, &str)>
     raw_or_word(text)
 }
 
-/// Behind a `b` or `c`, where no quote follows.
+/// After a `b` or `c`, where no quote follows.
 #[inline(always)]
 fn raw_or_word(text: &str) -> Option<(Form, &str)>
     ensures rest { option_map (λ p. (form_view p.0, chars p.1.now)) result
@@ -167,7 +167,7 @@ fn raw_or_word(text: &str) -> Option<(Form, &str)>
     identifier(text)
 }
 
-/// Behind an `r`: a raw string, or an identifier that isn't raw.
+/// After an `r`: a raw string, or an identifier that isn't raw.
 #[inline(always)]
 fn after_r(text: &str) -> Option<(Form, &str)>
     ensures rest { option_map (λ p. (form_view p.0, chars p.1.now)) result
@@ -183,7 +183,7 @@ fn after_r(text: &str) -> Option<(Form, &str)>
     identifier(text)
 }
 
-/// An identifier, behind its first character.
+/// An identifier, after its first character.
 #[inline(always)]
 fn identifier(text: &str) -> Option<(Form, &str)>
     ensures rest { option_map (λ p. (form_view p.0, chars p.1.now)) result
@@ -193,7 +193,7 @@ fn identifier(text: &str) -> Option<(Form, &str)>
     Some((Form::Identifier, after_row(RunClass::Continue, text)))
 }
 
-/// A quoted literal, behind its opening quote.
+/// A quoted literal, after its opening quote.
 #[inline(always)]
 fn quoted_literal(text: &str) -> Option<(Form, &str)>
     ensures rest { option_map (λ p. (form_view p.0, chars p.1.now)) result
@@ -203,7 +203,7 @@ fn quoted_literal(text: &str) -> Option<(Form, &str)>
     Some((Form::Literal, after_quoted(text)?))
 }
 
-/// A character or a byte, behind its opening quote.
+/// A character or a byte, after its opening quote.
 #[inline(always)]
 fn character_literal(text: &str) -> Option<(Form, &str)>
     ensures rest { option_map (λ p. (form_view p.0, chars p.1.now)) result
@@ -213,7 +213,7 @@ fn character_literal(text: &str) -> Option<(Form, &str)>
     Some((Form::Literal, after_character(text)?))
 }
 
-/// A raw literal, behind its `r`.
+/// A raw literal, after its `r`.
 #[inline(always)]
 fn raw_literal(text: &str) -> Option<(Form, &str)>
     ensures rest { option_map (λ p. (form_view p.0, chars p.1.now)) result
@@ -223,7 +223,7 @@ fn raw_literal(text: &str) -> Option<(Form, &str)>
     Some((Form::Literal, after_raw_literal(text)?))
 }
 
-/// By a character that begins no identifier, and what stands behind it.
+/// By a character that begins no identifier, and what stands after it.
 fn after_other(c: char, text: &str) -> Option<(Form, &str)>
     requires { IsTrue (is_met_late c) }
     ensures rest { option_map (λ p. (form_view p.0, chars p.1.now)) result
@@ -245,7 +245,7 @@ fn after_other(c: char, text: &str) -> Option<(Form, &str)>
     None
 }
 
-/// Behind a slash, which is a mark where it begins no comment.
+/// After a slash, which is a mark where it begins no comment.
 #[inline(always)]
 fn after_slash(text: &str) -> Option<(Form, &str)>
     ensures rest { option_map (λ p. (form_view p.0, chars p.1.now)) result
@@ -258,8 +258,8 @@ fn after_slash(text: &str) -> Option<(Form, &str)>
     }
 }
 
-/// What follows the number behind whose first digit the text stands, whichever that is: the letter
-/// of a base, and the row behind it, are where a suffix would stand. Most numbers end behind a row
+/// What follows the number after whose first digit the text stands, whichever that is: the letter
+/// of a base, and the row after it, are where a suffix would stand. Most numbers end after a row
 /// of digits.
 #[inline(always)]
 fn after_digit(text: &str) -> &str

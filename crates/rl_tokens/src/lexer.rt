@@ -22,9 +22,9 @@ use std::alloc::Allocator;
 ///
 /// # Errors
 ///
-/// The text is read from its front, and the first fault is told, at the byte that [`LexKind`]
+/// The text is read from its front, and the first error is reported, at the byte that [`LexKind`]
 /// names; no more than 128 groups may be open at once. `Memory` comes at the first byte of the
-/// token for which it was refused.
+/// token whose allocation failed.
 ///
 /// # Example
 ///
@@ -39,13 +39,13 @@ use std::alloc::Allocator;
 pub fn lex<A: Allocator + Copy>(alloc: A, text: &str, file: u32) -> Result<TokenStream<A>, LexError>
     // The text is cut into these trees, and nothing is left of it.
     ensures trees { IfOk result (λ trees. Lexes (chars text.now) file (stream_view trees)) }
-    // Else the text's first fault, or the place of a token for which memory was refused.
+    // Else the text's first error, or the place of a token for which an allocation failed.
     ensures refused { IfErr result (λ e. Refuses (chars text.now) e.kind e.at) }
-    // A text has one list of trees at most, or one first fault, and never both.
+    // A text has one list of trees at most, or one first error, and never both.
     ensures one_list { OneList }
     ensures one_fault { OneFault }
     ensures never_both { NeverBoth }
-    // A print of strict literals is cut into exactly its items, or memory was refused.
+    // A print of strict literals is cut into exactly its items, or an allocation failed.
     ensures printed { (entries : List Entry) (last : List ℕ)
         → Printed (chars text.now) entries last
         → IfOk result (λ trees. stream_view trees ≡ printed_trees file 0 entries)
@@ -59,7 +59,7 @@ pub fn lex<A: Allocator + Copy>(alloc: A, text: &str, file: u32) -> Result<Token
     trees_of(alloc, text, file)
 }
 
-/// The trees that the text is cut into, or its first fault.
+/// The trees that the text is cut into, or its first error.
 #[inline(always)]
 fn trees_of<A: Allocator + Copy>(
     alloc: A,

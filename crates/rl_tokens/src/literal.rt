@@ -9,7 +9,7 @@ use std::alloc::{AllocError, Allocator, Global};
 use std::fmt;
 use std::marker::Model;
 
-/// A literal token: any text, and where it stands. Whether the text reads as a literal is told by
+/// A literal token: any text, and where it stands. Whether the text reads as a literal is said by
 /// `rl_grammar`, and what it reads as by `Lit::new` of `rust_literals`.
 ///
 /// # Example

@@ -58,7 +58,7 @@ impl<A: Allocator + Copy> TreeBuilder<A> {
     }
 
     /// Reads one token more, of this form and text, which stands from the byte `lo` to the byte
-    /// `hi`. A refusal is reported at `lo`.
+    /// `hi`. An error is reported at `lo`.
     pub(crate) fn add(
         &mut self,
         form: Form,
@@ -110,7 +110,7 @@ impl<A: Allocator + Copy> TreeBuilder<A> {
         }
     }
 
-    /// Puts a tree behind the others of its level. Running out of memory is reported at the byte.
+    /// Puts a tree after the others of its level. An allocation failure is reported at the byte.
     #[inline(always)]
     fn append(&mut self, tree: TokenTree<A>, at: usize) -> Result<(), LexError>
         ensures ok { OnOk result (TakesTree self.old self.new tree) }

@@ -20,7 +20,7 @@ use std::marker::PhantomData;
 ///
 /// # Example
 ///
-/// The members of a parser of several steps, which a function of their own takes; a refusal puts
+/// The members of a parser of several steps, which a function of their own takes; an error puts
 /// the buffer back:
 ///
 /// ```
@@ -39,8 +39,8 @@ pub trait Parse<A: Allocator>: Sized {
     ///
     /// # Errors
     ///
-    /// The implementation's own, as its `runs` says. The types of literals refuse by their word
-    /// where another token stands, and report running out of memory at the buffer's span, which
+    /// The implementation's own, as its `runs` says. The types of literals reject by their word
+    /// where another token stands, and report an allocation failure at the buffer's span, which
     /// leaves the buffer.
     fn parse(alloc: A, input: &mut ParseBuffer<'_, A>) -> Result<Self, Error<A>>
         ensures runs { runs (trees_in input.old) (scope_of input.old) result (trees_in input.new) }
@@ -152,7 +152,7 @@ pub trait ToTokens {
     ///
     /// # Errors
     ///
-    /// `Memory` where memory is refused; the stream stays.
+    /// `Memory` where an allocation fails; the stream stays.
     fn to_tokens<A: Allocator>(&self, alloc: A, tokens: &mut TokenStream<A>) -> Result<(), Error<A>>
         ensures ok { OnOk result
             (stream_view tokens.new ≡ stream_view tokens.old ++ appends self.now) }

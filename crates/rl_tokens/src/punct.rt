@@ -95,7 +95,7 @@ impl Punct {
     }
 }
 
-/// What a character of punctuation is called in refusals: itself between two backticks.
+/// What a character of punctuation is called in errors: itself between two backticks.
 pub(crate) fn word_of(ch: char) -> &'static str
     requires { IsTrue (is_punct ch) }
     ensures { result.now ≡ mark_word ch }

@@ -1,4 +1,4 @@
-//! Parsers that leave the buffer where they refuse.
+//! Parsers that leave the buffer where they reject.
 
 ghost use Rattle.std.specs.Prelude.{OnOk, OnErr};
 ghost use Rattle.std.specs.Fn.{FnOnceReturnsAtMut};
@@ -12,7 +12,7 @@ use std::alloc::Allocator;
 pub trait Rewind: Sized {
     ghost same: { Self → Self → Type 0 };
 
-    /// The value once more, where it stands now: what a refusal is put back to.
+    /// The value once more, where it stands now: what an error is put back to.
     fn here(&self) -> Self
         ensures { same self.now result };
 }
@@ -36,7 +36,7 @@ fn ran<B, T, E, F: FnOnce(&mut B) -> Result<T, E>>(input: &mut B, parser: F) -> 
     parser(input)
 }
 
-/// Runs a parser of one or more steps. Where it refuses, the buffer is put back to where it stood.
+/// Runs a parser of one or more steps. Where it rejects, the buffer is put back to where it stood.
 ///
 /// # Errors
 ///
@@ -55,10 +55,10 @@ pub fn attempt<B: Rewind + Drop, T, E, F: FnOnce(&mut B) -> Result<T, E>>(
     requires { F.IsAlwaysCallable parser }
     // The value is the parser's, and the buffer is left where the parser left it.
     ensures parsed { OnOk result (FnOnceReturnsAtMut F.FnOnce parser input.old result input.new) }
-    // The refusal is the parser's, wherever the parser left the buffer.
+    // The error is the parser's, wherever the parser left the buffer.
     ensures refused { OnErr result
         ((behind : _) × FnOnceReturnsAtMut F.FnOnce parser input.old result behind) }
-    // A refusal leaves the buffer where it stood.
+    // An error leaves the buffer where it stood.
     ensures left { OnErr result (B.same input.old input.new) }
 {
     let before = input.here();

@@ -1,4 +1,4 @@
-//! Bytes put into a slice that the caller lends, each after those that stand there.
+//! Bytes put into a slice that the caller passes, each after those that stand there.
 //!
 //! Each function takes how many bytes stand in the slice, and returns how many do then. No memory is taken.
 

@@ -146,7 +146,7 @@ pub fn split_before(marks: Marks, text: &str) -> (&str, &str)
     text.split_at(len_before(marks, text.as_bytes()))
 }
 
-/// The first mark in the text, and what stands behind it: `None` where there is none.
+/// The first mark in the text, and what stands after it: `None` where there is none.
 #[inline(always)]
 pub fn next_mark(marks: Marks, text: &str) -> Option<(u8, &str)>
     requires { AreAscii marks }

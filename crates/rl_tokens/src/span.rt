@@ -19,7 +19,7 @@ pub struct Span {
     pub file: u32,
     /// The place of the first byte.
     pub lo: usize,
-    /// The place behind the last byte.
+    /// The place after the last byte.
     pub hi: usize,
 }
 
@@ -57,7 +57,7 @@ impl Span {
         self.lo
     }
 
-    /// The place behind the last byte; of no bytes, `lo`.
+    /// The place after the last byte; of no bytes, `lo`.
     pub fn hi(self) -> usize
         ensures { result ≡ self.hi }
     {

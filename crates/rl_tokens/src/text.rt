@@ -5,7 +5,7 @@ ghost use Rattle.std.specs.Char.{is_ascii};
 ghost use Rattle.std.specs.Str.{chars};
 ghost use Rattle.rl_tokens.specs.Texts.{first_passes, IsTail};
 
-/// The first character, and the text behind it: `None` where the text is empty.
+/// The first character, and the text after it: `None` where the text is empty.
 pub fn split_char(text: &str) -> Option<(char, &str)>
     ensures chars { MatchOption result
         (chars text.now ≡ []) (λ p. chars text.now ≡ p.0 ∷ chars p.1.now) }
@@ -20,7 +20,7 @@ pub fn split_char(text: &str) -> Option<(char, &str)>
     Some((first, chars.as_str()))
 }
 
-/// The first character where it is one of ASCII, as its byte, and the text behind it.
+/// The first character where it is one of ASCII, as its byte, and the text after it.
 #[inline(always)]
 pub fn split_ascii(text: &str) -> Option<(u8, &str)>
     ensures some { IfSome result (λ p. chars text.now ≡ p.0 ∷ chars p.1.now) }

@@ -25,7 +25,7 @@ use crate::text::split_ascii;
 /// ```
 #[inline(always)]
 pub fn skip(text: &str) -> &str
-    // The rest behind all trivia at the front, by the characters of both.
+    // The rest after all trivia at the front, by the characters of both.
     ensures skipped { Skipped (chars text.now) (chars result.now) }
     // The rest is a slice at the end of the text.
     ensures behind { IsTail text.now result.now }
@@ -57,7 +57,7 @@ fn skip_comments(text: &str) -> &str
     rest
 }
 
-/// What follows a plain comment, by what stands behind its first slash.
+/// What follows a plain comment, by what stands after its first slash.
 #[inline(always)]
 #[tactic(auto, using(crate::proofs::CommentBytes::wide_comment, crate::proofs::BehindLemmas::behind_step, crate::proofs::BehindLemmas::some_behind))]
 fn after_comment(text: &str) -> Option<&str>
@@ -76,7 +76,7 @@ fn after_comment(text: &str) -> Option<&str>
     }
 }
 
-/// Whether a line comment is plain, by what stands behind its `//`.
+/// Whether a line comment is plain, by what stands after its `//`.
 #[inline(always)]
 #[tactic(auto, using(crate::proofs::CommentBytes::wide_line))]
 pub(crate) fn is_plain_line(body: &str) -> bool
@@ -88,7 +88,7 @@ pub(crate) fn is_plain_line(body: &str) -> bool
     }
 }
 
-/// Whether a block is plain, by what stands behind its `/*`.
+/// Whether a block is plain, by what stands after its `/*`.
 #[inline(always)]
 #[tactic(auto, using(crate::proofs::CommentBytes::wide_block))]
 pub(crate) fn is_plain_block(inside: &str) -> bool
@@ -113,7 +113,7 @@ fn after_line(text: &str) -> &str
     }
 }
 
-/// What follows a block comment, by what stands behind its `/*`. It is a loop over bytes, from mark
+/// What follows a block comment, by what stands after its `/*`. It is a loop over bytes, from mark
 /// to mark, with the number of blocks that are open inside it.
 #[inline(always)]
 pub(crate) fn after_block(text: &str) -> Option<&str>

@@ -142,8 +142,8 @@ fn token<A: Allocator>(text: Result<String<A>, AllocError>) -> Result<Literal<A>
     }
 }
 
-/// The literals that values are written as, at no place (`Span::call_site`), where running out of
-/// memory is told too.
+/// The literals that values are written as, at no place (`Span::call_site`), where an allocation
+/// failure is reported too.
 impl<A: Allocator> Literal<A> {
     /// The string literal that stands for the text, as docs/GRAMMAR.md writes it, at
     /// [`Span::call_site`].

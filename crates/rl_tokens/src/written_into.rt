@@ -1,4 +1,4 @@
-//! How values are written as literals into a slice that the caller lends: the forms of `writer`, and no memory is taken.
+//! How values are written as literals into a slice that the caller passes: the forms of `writer`, and no memory is taken.
 
 ghost use Rattle.std.specs.Prelude.{◌≡◌, ◌⊎◌, ◌≤◌, ◌<◌, ◌+◌, ◌*◌, ◌/◌, ◌%◌, ◌++◌, [], ◌∷◌, IsTrue, length, take, encode_utf8, encode_utf8_all};
 ghost use Rattle.std.specs.Str.{chars, IsUtf8};

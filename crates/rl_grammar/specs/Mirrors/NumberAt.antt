@@ -69,26 +69,26 @@ abbrev pub sign_at : List ℕ → Sign
 sign_at [] = NoSign
 sign_at (c ∷ cs) = if c == code "-" then Minus else NoSign
 
--- the base that a letter behind a zero names
+-- the base that a letter after a zero names
 abbrev pub radix_of : ℕ → ℕ
 radix_of c =
     if c == code "b" then 2 else (if c == code "o" then 8 else (if c == code "x" then 16 else 10))
 
--- the base, and what stands behind its prefix
+-- the base, and what stands after its prefix
 unfoldable pub radix_at : List ℕ → ℕ × List ℕ
 radix_at [] = (10, [])
 radix_at (z ∷ []) = (10, z ∷ [])
 radix_at (z ∷ c ∷ cs) =
     if z == code "0" && not (radix_of c == 10) then (radix_of c, cs) else (10, z ∷ c ∷ cs)
 
--- what base ten asks besides: a digit in front, and no exponent behind
+-- what base ten asks besides: a digit in front, and no exponent after
 abbrev pub may_begin : ℕ → List ℕ → Bool
 may_begin radix t = not (radix == 10) || first_passes is_ascii_digit t
 
 abbrev pub may_end : ℕ → List ℕ → Bool
 may_end radix x = is_suffix x && (not (radix == 10) || not (is_exponent_suffix x))
 
--- the magnitude and the suffix of an integer behind sign and prefix
+-- the magnitude and the suffix of an integer after sign and prefix
 unfoldable pub based_at : ℕ → List ℕ → Option (ℕ × List ℕ)
 based_at radix t =
     if may_begin radix t && (has_digit_at radix t && may_end radix (after_digits radix t))
@@ -107,7 +107,7 @@ abbrev pub capped_int : Option (Sign × ℕ × List ℕ) → Option (Option ℕ 
 capped_int None = None
 capped_int (Some p) = Some (capped p.1, p.2)
 
--- What stands behind the sign begins with a digit, has this base, and behind its prefix this row:
+-- What stands after the sign begins with a digit, has this base, and after its prefix this row:
 -- whether there is a digit, the number within the limit, and what follows.
 pub record IsHead (unsigned : List ℕ) (radix : ℕ) (some : Bool) (magnitude : Option ℕ)
     (rest : List ℕ) : Type 0 where
@@ -130,7 +130,7 @@ abbrev pub after_power_sign : List ℕ → List ℕ
 after_power_sign [] = []
 after_power_sign (c ∷ cs) = if c == code "+" || c == code "-" then cs else (c ∷ cs)
 
--- the digits of a power, behind its letter
+-- the digits of a power, after its letter
 unfoldable pub power_at : List ℕ → List ℕ
 power_at t = after_power_sign (after_run is_underscore t)
 

@@ -24,7 +24,7 @@ byte_opener_at [] = None
 byte_opener_at (c ∷ cs) =
     if c == code "'" then found_opener SingleForm Byte cs else string_opener_at ByteStr (c ∷ cs)
 
--- what a text's front tells: a form, a kind, and the text behind the opener
+-- what a text's front tells: a form, a kind, and the text after the opener
 unfoldable pub opener_at : List ℕ → FoundOpener
 opener_at [] = None
 opener_at (c ∷ cs) =
@@ -33,7 +33,7 @@ opener_at (c ∷ cs) =
     else (if c == code "c" then string_opener_at CStr cs
     else string_opener_at Str (c ∷ cs)))
 
--- what is left behind the hashes at the front
+-- what is left after the hashes at the front
 unfoldable pub after_hashes : List ℕ → List ℕ
 after_hashes [] = []
 after_hashes (c ∷ cs) = if c == code "#" then after_hashes cs else (c ∷ cs)

@@ -12,7 +12,7 @@ is_plain_digits [] = false
 is_plain_digits (d ∷ ds) =
     list_all is_ascii_digit (d ∷ ds) && (not (d == code "0") || not (is_some_text ds))
 
--- the same, perhaps behind a minus
+-- the same, perhaps after a minus
 abbrev pub is_plain_integer : List ℕ → Bool
 is_plain_integer body = is_plain_digits (after_minus body)
 

@@ -27,22 +27,22 @@ is_strict_suffix (c ∷ cs) =
 abbrev pub is_number_suffix : List ℕ → Bool
 is_number_suffix x = not (first_passes is_underscore x) && is_strict_suffix x
 
--- behind the letter of an exponent: a sign perhaps, a row with a digit, and a suffix
+-- after the letter of an exponent: a sign perhaps, a row with a digit, and a suffix
 unfoldable pub ends_power : List ℕ → Bool
 ends_power t =
     has_digit_at 10 (after_power_sign t) && is_number_suffix (after_digits 10 (after_power_sign t))
 
--- behind digits: an exponent and a suffix, or a suffix alone
+-- after digits: an exponent and a suffix, or a suffix alone
 unfoldable pub ends_digits : List ℕ → Bool
 ends_digits [] = is_number_suffix []
 ends_digits (c ∷ cs) = if is_exponent_letter c then ends_power cs else is_number_suffix (c ∷ cs)
 
--- behind a dot: nothing, or digits and what ends them
+-- after a dot: nothing, or digits and what ends them
 unfoldable pub ends_dot : List ℕ → Bool
 ends_dot t =
     not (is_some_text t) || (first_passes is_ascii_digit t && ends_digits (after_digits 10 t))
 
--- behind the whole part
+-- after the whole part
 abbrev pub ends_whole : List ℕ → Bool
 ends_whole [] = true
 ends_whole (c ∷ cs) = if c == code "." then ends_dot cs else ends_digits (c ∷ cs)
@@ -51,7 +51,7 @@ ends_whole (c ∷ cs) = if c == code "." then ends_dot cs else ends_digits (c �
 unfoldable pub is_decimal : List ℕ → Bool
 is_decimal t = first_passes is_ascii_digit t && ends_whole (after_digits 10 t)
 
--- an integer of another base, behind its prefix
+-- an integer of another base, after its prefix
 unfoldable pub is_based : ℕ → List ℕ → Bool
 is_based radix t =
     has_digit_at radix t
@@ -63,7 +63,7 @@ is_strict_number t =
     if (radix_at t).0 == 10 then is_decimal (radix_at t).1
     else is_based (radix_at t).0 (radix_at t).1
 
--- what is left behind a line break's backslash, or behind another escape
+-- what is left after a line break's backslash, or after another escape
 abbrev pub escape_rest : Kind → List ℕ → Option (List ℕ)
 escape_rest kind [] = None
 escape_rest kind (c ∷ cs) =
@@ -71,7 +71,7 @@ escape_rest kind (c ∷ cs) =
     else (if c == code "\r" then None
     else option_map (λ p. p.1) (unit_at kind (code "\\" ∷ c ∷ cs)))
 
--- what is left behind the unit at the front
+-- what is left after the unit at the front
 unfoldable pub unit_rest : Kind → List ℕ → Option (List ℕ)
 unit_rest kind [] = None
 unit_rest kind (c ∷ cs) =
@@ -94,7 +94,7 @@ is_raw_character _ c = false
 abbrev pub is_inside : Kind → ℕ → Bool
 is_inside kind c = not (c == code "\"") && is_raw_character kind c
 
--- characters up to the first quote with these hashes behind it, and a suffix
+-- characters up to the first quote with these hashes after it, and a suffix
 unfoldable pub ends_raw : Kind → List ℕ → List ℕ → Bool
 ends_raw kind hashes [] = false
 ends_raw kind hashes (c ∷ cs) =

@@ -24,11 +24,11 @@ infixl 10 ◌>>=◌
 abbrev pub ◌>>=◌ : {A B : Type 0} → Option A → (A → Option B) → Option B
 o >>= f = option_and_then f o
 
--- a number and the text behind it, where the number is allowed
+-- a number and the text after it, where the number is allowed
 abbrev pub number_if : Bool → ℕ → List ℕ → Option (ℕ × List ℕ)
 number_if allowed n rest = if allowed then Some (n, rest) else None
 
--- what a unit stands for, and the text behind it
+-- what a unit stands for, and the text after it
 abbrev pub found : List ℕ → List ℕ → Option (List ℕ × List ℕ)
 found value rest = Some (value, rest)
 
@@ -62,7 +62,7 @@ hex_at kind t = do
   low ← digit_at high.1
   number_if (may_be_hex kind (high.0 * 16 + low.0)) (high.0 * 16 + low.0) low.1
 
--- the digits and underscores up to the closing brace, behind n digits that spell v
+-- the digits and underscores up to the closing brace, after n digits that spell v
 unfoldable pub unicode_digits_at : ℕ → ℕ → List ℕ → Option (ℕ × List ℕ)
 unicode_digits_at v n [] = None
 unicode_digits_at v n (c ∷ cs) =
@@ -85,12 +85,12 @@ unicode_at kind t = do
   whole ← unicode_digits_at first.0 1 first.1
   number_if (has_unicode kind && allows_code kind whole.0) whole.0 whole.1
 
--- what is left behind the blanks at the front
+-- what is left after the blanks at the front
 unfoldable pub after_blanks : List ℕ → List ℕ
 after_blanks [] = []
 after_blanks (c ∷ cs) = if is_blank c then after_blanks cs else (c ∷ cs)
 
--- what stands behind a backslash
+-- what stands after a backslash
 unfoldable pub escape_at : Kind → List ℕ → Option (List ℕ × List ℕ)
 escape_at kind [] = None
 escape_at kind (c ∷ cs) =
@@ -105,7 +105,7 @@ line_feed_at kind [] = None
 line_feed_at kind (c ∷ cs) =
     if is_string kind && c == code "\n" then found (code "\n" ∷ []) cs else None
 
--- the unit at the front: what it stands for in a literal of the kind, and the text behind it
+-- the unit at the front: what it stands for in a literal of the kind, and the text after it
 unfoldable pub unit_at : Kind → List ℕ → Option (List ℕ × List ℕ)
 unit_at kind [] = None
 unit_at kind (c ∷ cs) =

@@ -22,7 +22,7 @@ fn after_sign(text: &str) -> &str
     }
 }
 
-/// Whether the text behind the letter of an exponent ends a float.
+/// Whether the text after the letter of an exponent ends a float.
 #[tactic(auto, unfolding(crate::specs::Mirrors::StrictAt::ends_power))]
 fn ends_power(text: &str) -> bool
     ensures { result ≡ ends_power (chars text.now) }
@@ -31,7 +31,7 @@ fn ends_power(text: &str) -> bool
     row.has_digit && is_number_suffix(row.rest)
 }
 
-/// Whether the text behind digits ends a number.
+/// Whether the text after digits ends a number.
 #[tactic(auto, unfolding(crate::specs::Mirrors::StrictAt::ends_digits))]
 fn ends_digits(text: &str) -> bool
     ensures { result ≡ ends_digits (chars text.now) }
@@ -42,7 +42,7 @@ fn ends_digits(text: &str) -> bool
     }
 }
 
-/// Whether the text behind a dot ends a float.
+/// Whether the text after a dot ends a float.
 #[tactic(auto, unfolding(crate::specs::Mirrors::StrictAt::ends_dot))]
 fn ends_dot(text: &str) -> bool
     ensures { result ≡ ends_dot (chars text.now) }
@@ -61,7 +61,7 @@ fn is_decimal(text: &str) -> bool
     begins_digit(text) && ends_whole(skip_row(text).rest)
 }
 
-/// Whether the text behind the whole part ends a number.
+/// Whether the text after the whole part ends a number.
 fn ends_whole(text: &str) -> bool
     ensures { result ≡ ends_whole (chars text.now) }
 {
@@ -72,7 +72,7 @@ fn ends_whole(text: &str) -> bool
     }
 }
 
-/// Whether the text behind the prefix of a base is an integer.
+/// Whether the text after the prefix of a base is an integer.
 #[tactic(auto, unfolding(crate::specs::Mirrors::StrictAt::is_based))]
 fn is_based(text: &str, radix: u32) -> bool
     requires { (2 ≤ radix) × (radix ≤ 16) }

@@ -27,7 +27,7 @@ fn is_bare(kind: Kind, c: char) -> bool
     }
 }
 
-/// The text behind an escape, whose backslash stands before the second text.
+/// The text after an escape, whose backslash stands before the second text.
 ///
 /// But for line breaks the lenient escapes are the strict ones.
 fn skip_escape<'t>(kind: Kind, text: &'t str, behind: &'t str) -> Option<&'t str>
@@ -52,7 +52,7 @@ fn skip_escape<'t>(kind: Kind, text: &'t str, behind: &'t str) -> Option<&'t str
     }
 }
 
-/// The text behind the unit at the front: `None` where no unit of the kind stands there.
+/// The text after the unit at the front: `None` where no unit of the kind stands there.
 #[tactic(auto, unfolding(crate::specs::Mirrors::StrictAt::unit_rest))]
 pub(crate) fn skip_unit(kind: Kind, text: &str) -> Option<&str>
     ensures value { option_map (λ r. chars r.now) result ≡ unit_rest kind (chars text.now) }
@@ -86,7 +86,7 @@ fn ends_quoted(quote: char, text: &str) -> bool
     }
 }
 
-/// The text behind characters at its front that a string of the kind takes as they are.
+/// The text after characters at its front that a string of the kind takes as they are.
 #[inline(always)]
 fn skip_bare(kind: Kind, text: &str) -> &str
     requires { IsTrue (is_string kind) }
@@ -98,7 +98,7 @@ fn skip_bare(kind: Kind, text: &str) -> &str
     rest
 }
 
-/// The text behind the units at its front, as far as they go.
+/// The text after the units at its front, as far as they go.
 fn skip_units(kind: Kind, text: &str) -> &str
     requires { IsTrue (is_string kind) }
     ensures same { ClosesUnits kind (chars result.now) ↔ ClosesUnits kind (chars text.now) }
@@ -142,7 +142,7 @@ fn is_raw_character(kind: Kind, c: char) -> bool
     }
 }
 
-/// The text behind the closer that begins with the character, if the hashes follow it.
+/// The text after the closer that begins with the character, if the hashes follow it.
 fn behind_closer<'t>(hashes: &str, c: char, after: &'t str) -> Option<&'t str>
     ensures some { IfSome result
         (λ r. (c ≡ 34) × (chars after.now ≡ chars hashes.now ++ chars r.now)) }
@@ -156,7 +156,7 @@ fn behind_closer<'t>(hashes: &str, c: char, after: &'t str) -> Option<&'t str>
     }
 }
 
-/// The text behind characters at its front that a raw string of the kind holds and that close none.
+/// The text after characters at its front that a raw string of the kind holds and that close none.
 #[inline(always)]
 fn skip_inside(kind: Kind, text: &str) -> &str
     ensures run { (run : List ℕ) × (chars text.now ≡ run ++ chars result.now)
@@ -171,7 +171,7 @@ fn skip_inside(kind: Kind, text: &str) -> &str
     }
 }
 
-/// Whether the contents of a raw string, the first quote with its hashes behind it, and a suffix follow.
+/// Whether the contents of a raw string, the first quote with its hashes after it, and a suffix follow.
 #[tactic(auto, unfolding(crate::specs::Mirrors::StrictAt::ends_raw))]
 fn ends_raw(kind: Kind, hashes: &str, text: &str) -> bool
     ensures { result ≡ ends_raw kind (chars hashes.now) (chars text.now) }
@@ -189,7 +189,7 @@ fn ends_raw(kind: Kind, hashes: &str, text: &str) -> bool
     false
 }
 
-/// The text behind the quote at its front.
+/// The text after the quote at its front.
 fn behind_quote(text: &str) -> Option<&str>
     ensures some { IfSome result (λ r. chars text.now ≡ 34 ∷ chars r.now) }
     ensures none { IfNone result ((x : List ℕ) → chars text.now ≢ 34 ∷ x) }

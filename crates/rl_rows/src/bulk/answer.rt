@@ -66,7 +66,7 @@ fn float_answer(alloc: Global, text: &str) -> Result<String, AllocError>
     }
 }
 
-/// How many bytes stand behind white space and comments.
+/// How many bytes stand after white space and comments.
 fn skip_answer(alloc: Global, text: &str) -> Result<String, AllocError>
     ensures { IfOk result (λ out. IsSkipAnswer (chars text.now) (string_bytes out)) }
 {
@@ -92,7 +92,7 @@ fn list_answer(alloc: Global, literals: &[Lit]) -> Result<String, AllocError>
     ended(lines_of(alloc, literals)?)
 }
 
-/// The lines of the text's literals, or of its refusal, and one with a point.
+/// The lines of the text's literals, or of its error, and one with a point.
 fn read_answer(alloc: Global, text: &str) -> Result<String, AllocError>
     ensures { IfOk result (λ out. IsReadAnswer Global text.now (string_bytes out)) }
 {

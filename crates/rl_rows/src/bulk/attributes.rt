@@ -8,7 +8,7 @@ use rl_attributes::read;
 use rl_lines::entry_lines;
 use std::alloc::{AllocError, Global};
 
-/// The lines of the text's attributes, or of its refusal, and one with a point.
+/// The lines of the text's attributes, or of its error, and one with a point.
 pub(crate) fn attributes_answer(alloc: Global, text: &str) -> Result<String, AllocError>
     ensures { IfOk result (λ out. IsAttributesAnswer Global text.now (string_bytes out)) }
 {

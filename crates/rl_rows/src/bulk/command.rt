@@ -9,7 +9,7 @@ pub(crate) enum Command {
     Int,
     /// The text as a float.
     Float,
-    /// How much stands behind white space and comments.
+    /// How much stands after white space and comments.
     Skip,
     /// Whether the text is a token of the strict grammar.
     Strict,

@@ -16,7 +16,7 @@ pub(crate) fn ended(lines: String) -> Result<String, AllocError>
     Ok(out)
 }
 
-/// The line of a refusal, and one with a point.
+/// The line of an error, and one with a point.
 pub(crate) fn refused(alloc: Global, error: &Error) -> Result<String, AllocError>
     ensures { IfOk result (λ out. string_bytes out ≡ refusal_lines error.now) }
 {

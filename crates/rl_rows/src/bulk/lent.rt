@@ -1,4 +1,4 @@
-//! What a literal lends of its text.
+//! What a literal borrows of its text.
 
 ghost use Rattle.std.specs.Prelude.{◌≡◌, IfOk, IfSome, IfNone, OnSome, string_bytes};
 ghost use Rattle.std.specs.Str.{chars};
@@ -57,7 +57,7 @@ fn lent(literal: &Lit) -> Option<&[u8]>
     }
 }
 
-/// The line of lent bytes: they are written as a byte string.
+/// The line of borrowed bytes: they are written as a byte string.
 fn lent_line(alloc: Global, bytes: &[u8]) -> Result<String, AllocError>
     ensures { IfOk result (λ out. string_bytes out ≡ lent_line bytes.now) }
 {

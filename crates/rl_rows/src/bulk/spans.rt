@@ -35,7 +35,7 @@ fn lines_of_spans(alloc: Global, literals: &[Lit]) -> Result<String, AllocError>
 }
 
 /// Of each of the text's literals its kind, the bytes where it stands, and its text, a line each, or the line of its
-/// refusal; and one with a point.
+/// error; and one with a point.
 pub(crate) fn spans_answer(alloc: Global, text: &str) -> Result<String, AllocError>
     ensures { IfOk result (λ out. IsSpansAnswer Global text.now (string_bytes out)) }
 {

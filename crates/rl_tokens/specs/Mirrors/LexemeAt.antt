@@ -1,5 +1,5 @@
 -- A mirror of the code, for proofs alone: the lexeme at the front of a text as the code finds it,
--- by the first characters: its form, and the rest behind it.
+-- by the first characters: its form, and the rest after it.
 use Rattle.std.specs.Prelude.{◌≡◌, ℕ, Bool, false, not, ◌&&◌, ◌||◌, ◌==◌, List, [], ◌∷◌, ◌++◌, slice_index, drop, cond, codes}
 use Rattle.std.proofs.Common.{suc, zero, Option, Some, None}
 use Rattle.std.specs.Char.{is_ascii_digit}
@@ -34,7 +34,7 @@ begins_raw (c ∷ cs) =
     (c == code "r" && begins_hashed_quote cs)
     || begins_raw_behind cs (c == code "b" || c == code "c")
 
--- a quoted or raw opener, `b'`, or `'` without an identifier start behind it
+-- a quoted or raw opener, `b'`, or `'` without an identifier start after it
 abbrev pub begins_quote : List ℕ → Bool
 begins_quote r =
     begins (codes "\"") r || begins (codes "b\"") r || begins (codes "c\"") r || begins_raw r
@@ -179,7 +179,7 @@ literal_at rest = option_map (λ r. (LiteralForm, r)) rest
 abbrev pub word_at : List ℕ → Option (LexemeForm × List ℕ)
 word_at t = Some (IdentifierForm, after_run is_continue t)
 
--- by the first character's class, the character, and what stands behind it
+-- by the first character's class, the character, and what stands after it
 abbrev pub by_class : HeadClass → ℕ → List ℕ → Option (LexemeForm × List ℕ)
 by_class LetterBHead c t =
     cond (slice_index t 0 == code "\"") (literal_at (quoted_at (drop 1 t)))
@@ -207,7 +207,7 @@ abbrev pub lexeme_at : List ℕ → Option (LexemeForm × List ℕ)
 lexeme_at [] = None
 lexeme_at (c ∷ t) = by_class (head_class c) c t
 
--- A lexeme of this form begins the text, with the rest behind it.
+-- A lexeme of this form begins the text, with the rest after it.
 pub record FormBefore (t : List ℕ) (form : LexemeForm) (rest : List ℕ) : Type 0 where
   pub lexeme : Lexeme
   pub is_lexeme : IsLexeme lexeme rest

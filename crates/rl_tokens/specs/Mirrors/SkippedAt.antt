@@ -23,7 +23,7 @@ abbrev pub after_line : List ℕ → List ℕ
 after_line [] = []
 after_line (c ∷ t) = cond (c == code "\n") t (after_line t)
 
--- What follows a comment, by what stands behind its first slash.
+-- What follows a comment, by what stands after its first slash.
 abbrev pub after_comment : List ℕ → Option (List ℕ)
 after_comment [] = None
 after_comment (c ∷ t) =

@@ -13,7 +13,7 @@ use Rattle.rl_tokens.specs.Mirrors.LexemeAt.{after_run, begins_quote}
 use Rattle.rl_tokens.specs.Mirrors.SkippedAt.{after_block}
 use Rattle.rl_tokens.specs.Sources.{is_in_line, is_apostrophe, SourceKind, RawIdentifierKind, LifetimeKind, DocCommentKind, StrayKind}
 
--- what follows a doc comment, by what stands behind its first slash
+-- what follows a doc comment, by what stands after its first slash
 abbrev pub after_doc : List ℕ → Option (List ℕ)
 after_doc [] = None
 after_doc (c ∷ t) =
@@ -38,7 +38,7 @@ after_any_name t = cond (begins_raw_identifier t) (after_name (drop 2 t)) (after
 abbrev pub unless_quoted : List ℕ → Option (List ℕ)
 unless_quoted r = cond (first_passes is_apostrophe r) None (Some r)
 
--- what follows a lifetime, by what stands behind its apostrophe
+-- what follows a lifetime, by what stands after its apostrophe
 abbrev pub after_lifetime : List ℕ → Option (List ℕ)
 after_lifetime t = option_and_then unless_quoted (after_any_name t)
 

@@ -46,7 +46,7 @@ flat_open file (o ∷ os) =
 abbrev pub flat_builder : {A : Type 0} → TreeBuilder A → List FlatToken
 flat_builder n = flat_open n.file n.opened.items ++ flat_trees (stream_view n.trees)
 
--- a tree more behind the others of its level
+-- a tree more after the others of its level
 pub record TakesTree {A : Type 0} (old new : TreeBuilder A) (tree : TokenTree A) : Type 0 where
   pub opened_same : new.opened ≡ old.opened
   pub file_same : new.file ≡ old.file

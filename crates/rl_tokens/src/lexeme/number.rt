@@ -13,7 +13,7 @@ use crate::characters::is_start;
 use crate::front::without_first;
 use crate::text::{split_ascii, split_char};
 
-/// What follows the decimal behind some of whose digits the text stands.
+/// What follows the decimal after some of whose digits the text stands.
 #[inline(never)]
 pub(crate) fn after_decimal(text: &str) -> &str
     ensures rest { chars result.now ≡ after_decimal (chars text.now) }
@@ -35,7 +35,7 @@ pub(crate) fn after_digits(text: &str) -> &str
     rest
 }
 
-/// The text behind its first character, where that is a digit.
+/// The text after its first character, where that is a digit.
 #[inline(always)]
 #[tactic(auto, using(crate::proofs::BehindLemmas::behind_step, crate::proofs::NumberEnds::no_digit))]
 fn without_digit(text: &str) -> Option<&str>

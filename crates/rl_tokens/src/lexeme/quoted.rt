@@ -11,7 +11,7 @@ use crate::front::{begins_with, without_first};
 use crate::scan::{Marks, next_mark};
 use crate::text::split_char;
 
-/// What follows the literal behind whose opening `"` the text stands.
+/// What follows the literal after whose opening `"` the text stands.
 pub(crate) fn after_quoted(text: &str) -> Option<&str>
     ensures rest { option_map (λ rest. chars rest.now) result ≡ quoted_at (chars text.now) }
     ensures behind { IfSome result (λ rest. IsTail text.now rest.now) }
@@ -20,7 +20,7 @@ pub(crate) fn after_quoted(text: &str) -> Option<&str>
     Some(after_suffix(rest))
 }
 
-/// What follows the character literal behind whose opening `'` the text stands.
+/// What follows the character literal after whose opening `'` the text stands.
 pub(crate) fn after_character(text: &str) -> Option<&str>
     ensures rest { option_map (λ rest. chars rest.now) result ≡ single_at (chars text.now) }
     ensures behind { IfSome result (λ rest. IsTail text.now rest.now) }
@@ -29,7 +29,7 @@ pub(crate) fn after_character(text: &str) -> Option<&str>
     Some(after_suffix(rest))
 }
 
-/// What follows the raw literal behind whose `r` the text stands.
+/// What follows the raw literal after whose `r` the text stands.
 pub(crate) fn after_raw_literal(text: &str) -> Option<&str>
     ensures rest { option_map (λ rest. chars rest.now) result ≡ raw_at (chars text.now) }
     ensures behind { IfSome result (λ rest. IsTail text.now rest.now) }
@@ -80,7 +80,7 @@ fn after_raw(count: usize, text: &str) -> Option<&str>
     None
 }
 
-/// What follows the `'` that ends a character, by what stands behind the opening one.
+/// What follows the `'` that ends a character, by what stands after the opening one.
 fn after_single(text: &str) -> Option<&str>
     ensures rest { option_map (λ rest. chars rest.now) result ≡ after_single (chars text.now) }
     ensures behind { IfSome result (λ rest. IsTail text.now rest.now) }
@@ -96,7 +96,7 @@ fn after_single(text: &str) -> Option<&str>
     }
 }
 
-/// What follows the `'` that ends an escaped character, by what stands behind the escaped one.
+/// What follows the `'` that ends an escaped character, by what stands after the escaped one.
 fn after_apostrophe(text: &str) -> Option<&str>
     ensures rest { option_map (λ rest. chars rest.now) result ≡ after_apostrophe (chars text.now) }
     ensures behind { IfSome result (λ rest. IsTail text.now rest.now) }

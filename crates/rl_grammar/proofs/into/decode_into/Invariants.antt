@@ -1,4 +1,4 @@
--- What was passed stands in the buffer, and the rest has room behind it.
+-- What was passed stands in the buffer, and the rest has room after it.
 use Rattle.std.proofs.Common.{◌≡◌, length}
 use denote.Text.{Utf8}
 use denote.Shadow.{shadow}

@@ -1,4 +1,4 @@
--- The digits of what was passed stand in the buffer, and the rest has room behind them.
+-- The digits of what was passed stand in the buffer, and the rest has room after them.
 use Rattle.std.proofs.Common.{◌≡◌, ◌+◌, ◌≤◌, ◌++◌, ℕ, List, take, length}
 use denote.Text.{Utf8}
 use denote.Shadow.{shadow}

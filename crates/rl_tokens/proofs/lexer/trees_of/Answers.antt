@@ -1,4 +1,4 @@
--- Each turn goes one token further; at the end all is cut, or the first fault stands here.
+-- Each turn goes one token further; at the end all is cut, or the first error stands here.
 use Rattle.std.proofs.Common.{◌≡◌, [], ◌∙◌}
 use Rattle.std.proofs.lemmas.Result.{IfErr-weaker, err_from_is_err_and}
 use Rattle.rl_tokens.specs.Mirrors.TreeBuilders.{groups_of, EndsInGroup}

@@ -1,4 +1,4 @@
--- What is skipped behind white space is skipped behind the text.
+-- What is skipped after white space is skipped after the text.
 use Rattle.std.specs.Str.{chars}
 use Rattle.rl_tokens.specs.Texts.{is_white}
 use Rattle.rl_tokens.proofs.BehindLemmas.{behind_step}

@@ -1,4 +1,4 @@
--- What is skipped behind a comment is skipped behind the text.
+-- What is skipped after a comment is skipped after the text.
 use Rattle.std.proofs.Common.{arith}
 use Rattle.std.proofs.lemmas.Grind.{common_steps}
 use Rattle.std.proofs.Common.{sym}

@@ -1,4 +1,4 @@
--- No lexeme begins what is left, so the fault is told.
+-- No lexeme begins what is left, so the error is reported.
 use Rattle.std.proofs.Common.{arith}
 use Rattle.std.proofs.lemmas.Grind.{common_steps}
 use Rattle.std.specs.Str.{chars}

@@ -1,4 +1,4 @@
--- The rest is behind the text, step by step.
+-- The rest is after the text, step by step.
 use Rattle.rl_tokens.proofs.BehindLemmas.{behind_step}
 use Rattle.rl_tokens.proofs.lexeme.number.after_decimal.Goals as goal
 
