@@ -1,0 +1,90 @@
+//! Answers lines as `rl_rows` does, under `text`, `value` and `strict`: a command and a text's bytes in hexadecimal. So
+//! `tools/compare` holds the package against what other programs say.
+
+use navyspindle::{is_token, write_byte, write_byte_str, write_char, write_str, Lit};
+use std::borrow::Cow;
+use std::io::{self, BufWriter, Write};
+
+/// The bytes that pairs of hexadecimal digits stand for.
+fn decoded(digits: &str) -> Option<Vec<u8>> {
+    (0..digits.len())
+        .step_by(2)
+        .map(|at| u8::from_str_radix(digits.get(at..at + 2)?, 16).ok())
+        .collect()
+}
+
+/// A suffix as the lines have it: itself where it is an identifier, else as a string literal.
+fn suffix_of(suffix: &str) -> String {
+    match suffix {
+        "" => "-".to_owned(),
+        "_" => "_".to_owned(),
+        _ if is_token(&format!("\"\"{suffix}")) => suffix.to_owned(),
+        _ => write_str(suffix),
+    }
+}
+
+/// The line of a text as one literal.
+fn line_of(text: &str) -> String {
+    let Ok(literal) = Lit::parse(text) else {
+        return format!("Verbatim {} -", write_str(text));
+    };
+    let contents = match &literal {
+        Lit::Str(string) => write_str(&string.value()),
+        Lit::ByteStr(string) => write_byte_str(&string.value()),
+        Lit::CStr(string) => write_byte_str(&string.value()).replacen('b', "c", 1),
+        Lit::Byte(byte) => write_byte(byte.value()),
+        Lit::Char(character) => write_char(character.value()),
+        Lit::Int(number) => number.base10_digits().into_owned(),
+        Lit::Float(number) => number.base10_digits().into_owned(),
+        Lit::Bool(truth) => truth.value().to_string(),
+    };
+    format!("{:?} {contents} {}", literal.kind(), suffix_of(literal.suffix()))
+}
+
+/// What is borrowed from a text as a literal, as a byte string; `None` where nothing is.
+fn borrowed_of(text: &str) -> String {
+    let literal = Lit::parse(text);
+    let bytes = match &literal {
+        Ok(Lit::Str(string)) => borrowed_text(string.value()),
+        Ok(Lit::ByteStr(string)) => borrowed(string.value()),
+        Ok(Lit::CStr(string)) => borrowed(string.value()),
+        Ok(Lit::Int(number)) => borrowed_text(number.base10_digits()),
+        Ok(Lit::Float(number)) => borrowed_text(number.base10_digits()),
+        _ => None,
+    };
+    bytes.map_or("None".to_owned(), write_byte_str)
+}
+
+fn borrowed(bytes: Cow<'_, [u8]>) -> Option<&[u8]> {
+    match bytes {
+        Cow::Borrowed(bytes) => Some(bytes),
+        Cow::Owned(_) => None,
+    }
+}
+
+fn borrowed_text(text: Cow<'_, str>) -> Option<&[u8]> {
+    match text {
+        Cow::Borrowed(text) => Some(text.as_bytes()),
+        Cow::Owned(_) => None,
+    }
+}
+
+fn main() -> io::Result<()> {
+    let mut out = BufWriter::new(io::stdout().lock());
+    for line in io::stdin().lines() {
+        let line = line?;
+        let (command, digits) = line.split_once(' ').unwrap_or((&line, ""));
+        let answer = match decoded(digits).map(String::from_utf8) {
+            None => "error: input is not hexadecimal".to_owned(),
+            Some(Err(_)) => "error: input is not UTF-8".to_owned(),
+            Some(Ok(text)) => match command {
+                "text" => line_of(&text),
+                "value" => borrowed_of(&text),
+                "strict" => is_token(&text).to_string(),
+                _ => "error: no command".to_owned(),
+            },
+        };
+        writeln!(out, "{answer}")?;
+    }
+    out.flush()
+}
