@@ -76,14 +76,14 @@ no_form kind t body s o q = elim (form_quoted q.form kind (chars t) q.value (cha
 ]
 
 abbrev pub Of : Kind → Body → ℕ → Found
-Of kind body magnitude = record { kind = kind; body = body; magnitude = magnitude }
+Of kind body magnitude = record { kind = kind; body = body; magnitude = magnitude; truth = false }
 
 pub quoted_found : (t : List ℕ) (kind : Kind) (body : Body) → IsUtf8 t → IsQuotedAt kind t body → IsFound t (Of kind body 0)
-quoted_found t Str body u q = record { reads = (_, quoted_reads Str t body q); cut = quoted_cut Str t body u q; stands = q.stands; plain = string_plain Str t body refl u q; quoted = λ h. q; integer = λ e. absurd (cc); no_magnitude = λ n. refl }
-quoted_found t ByteStr body u q = record { reads = (_, quoted_reads ByteStr t body q); cut = quoted_cut ByteStr t body u q; stands = q.stands; plain = string_plain ByteStr t body refl u q; quoted = λ h. q; integer = λ e. absurd (cc); no_magnitude = λ n. refl }
-quoted_found t CStr body u q = record { reads = (_, quoted_reads CStr t body q); cut = quoted_cut CStr t body u q; stands = q.stands; plain = string_plain CStr t body refl u q; quoted = λ h. q; integer = λ e. absurd (cc); no_magnitude = λ n. refl }
-quoted_found t Byte body u q = record { reads = (_, quoted_reads Byte t body q); cut = quoted_cut Byte t body u q; stands = q.stands; plain = single_plain Byte t body refl (λ p. p.reads) q; quoted = λ h. q; integer = λ e. absurd (cc); no_magnitude = λ n. refl }
-quoted_found t Char body u q = record { reads = (_, quoted_reads Char t body q); cut = quoted_cut Char t body u q; stands = q.stands; plain = single_plain Char t body refl (λ p. p.reads) q; quoted = λ h. q; integer = λ e. absurd (cc); no_magnitude = λ n. refl }
+quoted_found t Str body u q = record { reads = (_, quoted_reads Str t body q); cut = quoted_cut Str t body u q; stands = q.stands; plain = string_plain Str t body refl u q; quoted = λ h. q; integer = λ e. absurd (cc); no_magnitude = λ n. refl; truth = λ e. absurd (cc); no_truth = λ n. refl }
+quoted_found t ByteStr body u q = record { reads = (_, quoted_reads ByteStr t body q); cut = quoted_cut ByteStr t body u q; stands = q.stands; plain = string_plain ByteStr t body refl u q; quoted = λ h. q; integer = λ e. absurd (cc); no_magnitude = λ n. refl; truth = λ e. absurd (cc); no_truth = λ n. refl }
+quoted_found t CStr body u q = record { reads = (_, quoted_reads CStr t body q); cut = quoted_cut CStr t body u q; stands = q.stands; plain = string_plain CStr t body refl u q; quoted = λ h. q; integer = λ e. absurd (cc); no_magnitude = λ n. refl; truth = λ e. absurd (cc); no_truth = λ n. refl }
+quoted_found t Byte body u q = record { reads = (_, quoted_reads Byte t body q); cut = quoted_cut Byte t body u q; stands = q.stands; plain = single_plain Byte t body refl (λ p. p.reads) q; quoted = λ h. q; integer = λ e. absurd (cc); no_magnitude = λ n. refl; truth = λ e. absurd (cc); no_truth = λ n. refl }
+quoted_found t Char body u q = record { reads = (_, quoted_reads Char t body q); cut = quoted_cut Char t body u q; stands = q.stands; plain = single_plain Char t body refl (λ p. p.reads) q; quoted = λ h. q; integer = λ e. absurd (cc); no_magnitude = λ n. refl; truth = λ e. absurd (cc); no_truth = λ n. refl }
 quoted_found t Int body u q = absurd (no_form Int t body refl refl q)
 quoted_found t Float body u q = absurd (no_form Float t body refl refl q)
 quoted_found t BoolKind body u q = absurd (no_form BoolKind t body refl refl q)
@@ -130,6 +130,8 @@ integer_body t b x m n plain ut ub within behind e n_is plain_is =
       quoted = λ h. absurd (cc);
       integer = λ h. at;
       no_magnitude = λ h. absurd (h refl);
+      truth = λ e. absurd (cc);
+      no_truth = λ n. refl;
     }
 
 pub integer_found : (t b x : List ℕ) (m n : ℕ) (plain : Bool) (body : Body) → body ≡ NumberBody n plain → IsUtf8 t → IsUtf8 b → HasMagnitude (chars t) m (chars x) → IsTail t x → t ≡ b ++ x → n ≡ length b → plain ≡ is_plain_integer (chars b) → IsFound t (Of Int body m)
@@ -147,6 +149,7 @@ float_body t b x numeral n plain ut ub reads behind e n_is plain_is =
       stands = number_stands t n plain ut c.boundary;
       plain = whether_float t b (chars x) plain ut ub r plain_is;
       no_magnitude = refl;
+      no_truth = refl;
     }
 
 pub float_found : (t b x numeral : List ℕ) (n : ℕ) (plain : Bool) (body : Body) → body ≡ NumberBody n plain → IsUtf8 t → IsUtf8 b → FloatReads (chars t) numeral (chars x) → IsTail t x → t ≡ b ++ x → n ≡ length b → plain ≡ is_plain_float (chars b) → IsFoundFloat t (Of Float body 0)
@@ -164,12 +167,17 @@ float_alone t f none h =
       quoted = λ q. absurd (both_ways (is_quoted f.kind) (ap is_quoted h.kind) q);
       integer = λ e. absurd (cc);
       no_magnitude = λ n. h.no_magnitude;
+      truth = λ e. absurd (cc);
+      no_truth = λ n. h.no_truth;
     }
 
 -- ---- truth values
 
-pub truth_found : (t : List ℕ) (b : Bool) → IsUtf8 t → chars t ≡ truth_text b → IsFound t (Of BoolKind (NumberBody (length t) false) 0)
-truth_found t b u e =
+abbrev pub OfTruth : Body → Bool → Found
+OfTruth body b = record { kind = BoolKind; body = body; magnitude = 0; truth = b }
+
+pub truth_found : (t : List ℕ) (b : Bool) → IsUtf8 t → chars t ≡ truth_text b → t ≡ truth_text b → IsFound t (OfTruth (NumberBody (length t) false) b)
+truth_found t b u e bytes =
     let nothing : drop (length t) t ≡ [] = drop_all t in
     record {
       reads = (Truth b, record { truth = b; text_is = e; suffix_is = ap chars nothing ∙ chars-nil; contents_is = refl });
@@ -179,6 +187,8 @@ truth_found t b u e =
       quoted = λ h. absurd (cc);
       integer = λ h. absurd (cc);
       no_magnitude = λ h. refl;
+      truth = λ h. bytes;
+      no_truth = λ h. absurd (h refl);
     }
   where
     drop_all : (xs : List ℕ) → drop (length xs) xs ≡ []

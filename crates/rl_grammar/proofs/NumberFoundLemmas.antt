@@ -41,10 +41,14 @@ found_float t f u e h =
       stands = h.stands;
       plain = subst (λ k. Whether f.body.plain k t) e h.plain;
       no_magnitude = h.no_magnitude (λ i. other e i);
+      no_truth = h.no_truth (λ i. no_truth_value e i);
     }
   where
     other : f.kind ≡ Float → f.kind ≡ Int → ⊥
     other e g = absurd (cc)
+
+    no_truth_value : f.kind ≡ Float → f.kind ≡ BoolKind → ⊥
+    no_truth_value e g = absurd (cc)
 
 pub number_float : (t : List ℕ) (f : Found) → IsUtf8 t → f.kind ≢ Int → IsFoundNumber t f → IsFoundFloat t f
 number_float t f u n (inl (h, inl e)) = absurd (n e)

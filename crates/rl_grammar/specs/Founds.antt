@@ -1,11 +1,12 @@
--- What reading a text finds: the kind, where the parts stand, and what the digits spell.
-use Rattle.std.specs.Prelude.{◌≡◌, ◌≢◌, ◌↔◌, ◌⊎◌, ◌++◌, ◌-◌, ◌≤◌, ◌||◌, ℕ, Bool, List, take, drop, IsTrue}
+-- What reading a text finds: the kind, where the parts stand, what the digits spell, and the truth
+-- value.
+use Rattle.std.specs.Prelude.{◌≡◌, ◌≢◌, ◌↔◌, ◌⊎◌, ◌++◌, ◌-◌, ◌≤◌, ◌||◌, ℕ, Bool, false, List, take, drop, IsTrue}
 use Rattle.std.specs.Str.{chars, IsCharBoundary}
 use Rattle.rl_tokens.specs.declared.kind.Kind.{Kind}
-use Rattle.rl_tokens.specs.declared.kind.Kind.TheVariants.{Int, Float}
+use Rattle.rl_tokens.specs.declared.kind.Kind.TheVariants.{Int, Float, Bool as BoolKind}
 use Rattle.rl_tokens.specs.Numbers.{FloatReads}
 use Rattle.rl_tokens.specs.Quoted.{is_string, is_single}
-use Rattle.rl_tokens.specs.Reading.{HasSuffix}
+use Rattle.rl_tokens.specs.Reading.{HasSuffix, truth_text}
 use Rattle.rl_grammar.specs.declared.quoted.QuotedForm.{QuotedForm}
 use Rattle.rl_grammar.specs.declared.found.Body.{Body}
 use Rattle.rl_grammar.specs.declared.found.Found.{Found}
@@ -42,7 +43,7 @@ pub record IsQuotedAt (kind : Kind) (text : List ℕ) (body : Body) : Type 0 whe
   pub stands : StandsIn text body
 
 -- What reading the text finds, which is a literal: its kind, where its parts stand, whether the
--- body is what it stands for, and the magnitude of an integer.
+-- body is what it stands for, the magnitude of an integer, and a truth value.
 pub record IsFound (text : List ℕ) (found : Found) : Type 0 where
   pub reads : HasSuffix found.kind (chars text) (chars (suffix_in text found.body))
   pub cut : IsSplit found.kind text (body_in text found.body) (suffix_in text found.body)
@@ -52,6 +53,8 @@ pub record IsFound (text : List ℕ) (found : Found) : Type 0 where
   pub integer : found.kind ≡ Int
       → HasMagnitude (chars text) found.magnitude (chars (suffix_in text found.body))
   pub no_magnitude : found.kind ≢ Int → found.magnitude ≡ 0
+  pub truth : found.kind ≡ BoolKind → text ≡ truth_text found.truth
+  pub no_truth : found.kind ≢ BoolKind → found.truth ≡ false
 
 -- The same of a float, whether or not an integer stands there too.
 pub record IsFoundFloat (text : List ℕ) (found : Found) : Type 0 where
@@ -63,6 +66,7 @@ pub record IsFoundFloat (text : List ℕ) (found : Found) : Type 0 where
   pub stands : StandsIn text found.body
   pub plain : IsTrue found.body.plain ↔ IsPlain Float text
   pub no_magnitude : found.magnitude ≡ 0
+  pub no_truth : found.truth ≡ false
 
 -- What reading the text finds, which is a number: an integer within the limit, or a float, whether
 -- or not an integer stands there too.

@@ -61,6 +61,8 @@ pub struct Found {
     pub body: Body,
     /// What the digits of an integer spell; 0 for any other kind.
     pub magnitude: u128,
+    /// The truth value that the text is; `false` for any other kind.
+    pub truth: bool,
 }
 
 /// A literal's kind and the two parts of its text that vary, as slices of it.
@@ -122,6 +124,7 @@ fn integer_found<'t>(text: &'t str, suffix: &'t str, magnitude: u128) -> Found
         kind: Kind::Int,
         body: Body::up_to(body.len(), is_plain_integer(body)),
         magnitude,
+        truth: false,
     }
 }
 
@@ -137,6 +140,7 @@ fn float_found<'t>(text: &'t str, suffix: &'t str) -> Found
         kind: Kind::Float,
         body: Body::up_to(body.len(), is_plain_float(body)),
         magnitude: 0,
+        truth: false,
     }
 }
 
@@ -206,6 +210,7 @@ pub fn find_negative(text: &str) -> Option<Found>
         kind: found.kind,
         body: Body::up_to(found.body.suffix_at + 1, found.body.plain),
         magnitude: found.magnitude,
+        truth: false,
     })
 }
 
@@ -214,11 +219,12 @@ fn find_truth(text: &str) -> Option<Found>
     ensures none { IfNone result (HasNoTruth (chars text.now)) }
     ensures found { IfSome result (IsFound text.now) }
 {
-    truth_of(text)?;
+    let truth = truth_of(text)?;
     Some(Found {
         kind: Kind::Bool,
         body: Body::up_to(text.len(), false),
         magnitude: 0,
+        truth,
     })
 }
 

@@ -252,5 +252,6 @@ pub(crate) fn find_quoted(text: &str) -> Option<Found>
         kind,
         body,
         magnitude: 0,
+        truth: false,
     })
 }

@@ -1,23 +1,20 @@
 -- Literals by their kind and token.
 use Rattle.std.proofs.Common.{◌≡◌, ℕ, ◌==◌, Bool as Truths, true, false, List, [], ◌∷◌, Option, Some, None, refl, sym, ◌∙◌, ap, subst}
-use Rattle.std.specs.Cmp.Lexicographic.{pointwise}
 use Rattle.std.specs.Prelude.{Result, Ok, Err, IfOk, IfSome, OnOk, OnErr, OnSome}
 use Rattle.std.specs.Result.{result_ok}
 use Rattle.std.proofs.lemmas.Option.{MatchOption-at_some}
-use Rattle.std.specs.Str.{chars, IsUtf8}
+use Rattle.std.specs.Str.{chars}
 use Rattle.rl_tokens.specs.declared.kind.Kind.{Kind}
 use Rattle.rl_tokens.specs.declared.kind.Kind.TheVariants.{Str as StrKind, ByteStr as ByteStrKind, CStr as CStrKind, Byte as ByteKind, Char as CharKind, Int as IntKind, Float as FloatKind, Bool as BoolKind}
 use Rattle.rl_tokens.specs.declared.span.Span.{Span}
-use Rattle.rl_tokens.specs.Texts.{SpannedText}
-use Rattle.rl_tokens.specs.Texts.{first_passes}
+use Rattle.rl_tokens.specs.Texts.{SpannedText, first_passes}
 use Rattle.rl_tokens.specs.Trees.{LiteralTree}
-use Rattle.rl_tokens.specs.Reading.{Truth, Reads, ReadsAs, HasSuffix, truth_text}
-use Rattle.rl_tokens.specs.Reading.{HasReading}
+use Rattle.rl_tokens.specs.Reading.{Truth, Reads, ReadsAs, HasSuffix, HasReading, truth_text}
 use Rattle.rl_tokens.proofs.OneReading.{one_reading}
 use Rattle.rl_grammar.specs.declared.found.Found.{Found}
 use Rattle.rl_grammar.specs.Founds.{IsFound, suffix_in}
 use Rattle.rl_grammar.specs.WholeShapes.{IsPlain}
-use Rattle.rl_grammar.proofs.ReadingLemmas.{truth_chars, truth_bytes}
+use Rattle.rl_grammar.proofs.ReadingLemmas.{truth_chars}
 use Rattle.rl_grammar.proofs.FrontLemmas.{minus_chars}
 use Rattle.rust_literals.specs.declared.lit.Lit.{Lit}
 use Rattle.rust_literals.specs.declared.lit.Lit.TheVariants.{Str, ByteStr, CStr, Byte, Char, Int, Float, Bool, Verbatim}
@@ -110,17 +107,6 @@ read_truth token b span e s =
 -- and this is what was read
 pub truth_read : (token : SpannedText) (b : Truths) (span : Span) → (record { text = truth_text b; span = span } ≡ token) × ReadsAs BoolKind (chars token.text) → (span ≡ token.span) × Reads (chars token.text) BoolKind (Truth b) []
 truth_read token b span (is, r) = (ap (λ (t : SpannedText). t.span) is, truth_reads token.text b (ap (λ (t : SpannedText). t.text) (sym is)))
-
--- the value of a text that is one of the words, by comparing it with the first
-word_value : (b : Truths) → pointwise ◌==◌ (truth_text b) (truth_text true) ≡ b
-word_value true = refl
-word_value false = refl
-
-pub read_word : (token : SpannedText) (seen : List ℕ) (value : Truths) (span : Span) → IsUtf8 seen → seen ≡ token.text → ReadsAs BoolKind (chars token.text) → value ≡ pointwise ◌==◌ seen (truth_text true) → span ≡ token.span → (record { text = truth_text value; span = span } ≡ token) × ReadsAs BoolKind (chars token.text)
-read_word token seen value span utf8 same (v, x, r) tested there =
-    let word : seen ≡ truth_text r.truth = truth_bytes seen r.truth utf8 (ap chars same ∙ r.text_is) in
-    let value_is : value ≡ r.truth = tested ∙ ap (λ z. pointwise ◌==◌ z (truth_text true)) word ∙ word_value r.truth in
-    read_truth token value span (sym same ∙ word ∙ ap truth_text (sym value_is)) there
 
 -- ---- by the kind
 

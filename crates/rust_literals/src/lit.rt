@@ -3,10 +3,9 @@
 ghost use Rattle.std.specs.Prelude.{◌≡◌, IfOk, IfErr, IfSome, IfNone, Some};
 ghost use Rattle.std.specs.Str.{chars};
 ghost use Rattle.rl_tokens.specs.Errors.{memory_at};
-ghost use Rattle.rl_tokens.specs.Reading.{HasSuffix};
+ghost use Rattle.rl_tokens.specs.Reading.{HasNoReading, HasSuffix};
 ghost use Rattle.rl_grammar.specs.Founds.{IsFound};
 ghost use Rattle.rl_grammar.specs.FrontTokens.{front_token};
-ghost use Rattle.rl_tokens.specs.Reading.{HasNoReading};
 ghost use Rattle.rust_literals.specs.Held.{HasOwnSuffix};
 ghost use Rattle.rust_literals.specs.Literals.{IsReadFrom};
 
@@ -164,10 +163,7 @@ impl<A: Allocator> Lit<A> {
             Kind::Char => Ok(Lit::Char(LitChar::of_found(token, found))),
             Kind::Int => Ok(Lit::Int(LitInt::of_found(alloc, token, found)?)),
             Kind::Float => Ok(Lit::Float(LitFloat::of_found(alloc, token, found)?)),
-            Kind::Bool => {
-                let value = token.text() == "true";
-                Ok(Lit::Bool(LitBool::new(value, token.span())))
-            }
+            Kind::Bool => Ok(Lit::Bool(LitBool::new(found.truth, token.span()))),
         }
     }
 }

@@ -1,6 +1,7 @@
-use Rattle.std.proofs.Common.{ap, inl, inr, ◌∙◌}
-use Rattle.rl_tokens.specs.declared.kind.Kind.TheVariants.{Str, ByteStr, CStr, Byte, Char, Int, Float, Bool as BoolKind}
-use Rattle.rust_literals.proofs.LitLemmas.{found_as, found_lent, on_err, read_word, some_found}
+use Rattle.std.proofs.Common.{ap, inl, inr, sym, ◌∙◌}
+use Rattle.rl_tokens.specs.declared.kind.Kind.TheVariants.{Str, ByteStr, CStr, Byte, Char, Int, Float}
+use Rattle.rl_tokens.specs.Reading.{truth_text}
+use Rattle.rust_literals.proofs.LitLemmas.{found_as, found_lent, on_err, read_truth, some_found}
 use Rattle.rust_literals.proofs.lit.Lit.of_found.Goals as goal
 
 pub returns-in_err-of_found-in-Int-clause-lent : goal.returns-in_err-of_found-in-Int-clause-lent
@@ -22,9 +23,9 @@ returns-in_err-of_found-in-Float-clause-lent g c =
 pub returns-in-Bool-clause-reads : goal.returns-in-Bool-clause-reads
 returns-in-Bool-clause-reads g c =
     let token = c.args.token in
-    let reads = found_as BoolKind token.text _ c.in-Some.found c.in-Some.is c.requires.found c.in-Bool.is in
-    read_word token c.text.result.now c.new.result.value c.new.result.span c.text.utf8 c.text.ensures reads
-    (ap (λ l. l.value) c.new.ensures ∙ c.eq-value.ensures)
+    let word = (some_found _ _ _ c.in-Some.is c.requires.found).truth c.in-Bool.is in
+    read_truth token c.new.result.value c.new.result.span
+    (word ∙ ap truth_text (sym (ap (λ l. l.value) c.new.ensures)))
     (ap (λ l. l.span) c.new.ensures ∙ c.span.ensures)
 
 pub returns-in-Str-clause-reads : goal.returns-in-Str-clause-reads
