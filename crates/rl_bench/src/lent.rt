@@ -37,7 +37,7 @@ fn lent_size(alloc: Global, text: &str, found: &Found) -> Result<u64, AllocError
 {
     match found.kind {
         Kind::Int => Ok((found.magnitude % PAST_64_BITS) as u64),
-        Kind::Float => Ok(text[found.body.at..found.body.end].len() as u64),
+        Kind::Float => Ok(text[found.body.lo..found.body.hi].len() as u64),
         _ => Ok(lent_contents_size(alloc, text, found)? as u64),
     }
 }

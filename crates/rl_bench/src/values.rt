@@ -20,7 +20,7 @@ pub(crate) fn body_in<'t>(text: &'t str, found: &Found) -> &'t str
     requires found { IsFound text.now found.now }
     ensures { HasBody found.now.kind (chars text.now) result.now found.now.body.plain }
 {
-    &text[found.body.at..found.body.end]
+    &text[found.body.lo..found.body.hi]
 }
 
 /// What stands after the literal proper that was found in the text.

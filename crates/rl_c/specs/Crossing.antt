@@ -21,8 +21,8 @@ kind_number Bool = 8
 -- The numbers tell what was found.
 pub record Tells (found : Found) (reading : Reading) : Type 0 where
   pub kind_is : reading.kind ≡ kind_number found.kind
-  pub at_is : reading.at ≡ found.body.at
-  pub end_is : reading.end ≡ found.body.end
+  pub at_is : reading.at ≡ found.body.lo
+  pub end_is : reading.end ≡ found.body.hi
   pub suffix_is : reading.suffix_at ≡ found.body.suffix_at
   pub plain_is : reading.plain ≡ found.body.plain
   pub magnitude_is : found.magnitude ≡ reading.high * 2 ^ 64 + reading.low

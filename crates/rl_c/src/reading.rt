@@ -58,8 +58,8 @@ impl Reading {
         ensures { Tells found.now result }
     {
         Reading {
-            at: found.body.at,
-            end: found.body.end,
+            at: found.body.lo,
+            end: found.body.hi,
             suffix_at: found.body.suffix_at,
             low: (found.magnitude % PAST_64_BITS) as u64,
             high: (found.magnitude / PAST_64_BITS) as u64,

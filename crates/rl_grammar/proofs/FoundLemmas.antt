@@ -31,7 +31,7 @@ use Rattle.rl_grammar.proofs.ShapeLemmas.{parts_cut}
 
 -- the parts are texts
 pub body_text : (t : List ℕ) (body : Body) → IsUtf8 t → StandsIn t body → IsUtf8 (body_in t body)
-body_text t body u s = IsUtf8-between t body.at body.end u s.ordered s.begins s.ends
+body_text t body u s = IsUtf8-between t body.lo body.hi u s.ordered s.begins s.ends
 
 pub suffix_text : (t : List ℕ) (body : Body) → IsUtf8 t → StandsIn t body → IsUtf8 (suffix_in t body)
 suffix_text t body u s = IsUtf8-drop t body.suffix_at u s.behind
@@ -95,7 +95,7 @@ found_reads t f h = (h.reads.0, chars (suffix_in t f.body), h.reads.1)
 -- ---- numbers
 
 abbrev pub NumberBody : ℕ → Bool → Body
-NumberBody n plain = record { at = 0; end = n; suffix_at = n; plain = plain }
+NumberBody n plain = record { lo = 0; hi = n; suffix_at = n; plain = plain }
 
 -- where the parts of a number stand
 record Cut (t b x : List ℕ) (n : ℕ) : Type 0 where

@@ -76,7 +76,7 @@ lengths form kind t p s = record {
   suffix_in = behind_length t p.suffix.now s.suffix;
 }
 
-pub quoted_at : (form : QuotedForm) (kind : Kind) (t : List ℕ) (p : Inside) (at end_at suffix_at : ℕ) → at ≡ length t - length p.opened.now → end_at ≡ at + length p.body.now → suffix_at ≡ length t - length p.suffix.now → Stands form kind t p → IsQuotedAt kind t (record { at = at; end = end_at; suffix_at = suffix_at; plain = p.plain })
+pub quoted_at : (form : QuotedForm) (kind : Kind) (t : List ℕ) (p : Inside) (at end_at suffix_at : ℕ) → at ≡ length t - length p.opened.now → end_at ≡ at + length p.body.now → suffix_at ≡ length t - length p.suffix.now → Stands form kind t p → IsQuotedAt kind t (record { lo = at; hi = end_at; suffix_at = suffix_at; plain = p.plain })
 quoted_at form kind t p at end_at suffix_at at_is end_is suffix_is s =
     let b = p.body.now in
     let o = p.opened.now in

@@ -16,16 +16,16 @@ use Rattle.rl_grammar.specs.WholeShapes.{IsSplit, IsPlain}
 
 -- the parts at their places, in bytes
 abbrev pub body_in : List ℕ → Body → List ℕ
-body_in text body = take (body.end - body.at) (drop body.at text)
+body_in text body = take (body.hi - body.lo) (drop body.lo text)
 
 abbrev pub suffix_in : List ℕ → Body → List ℕ
 suffix_in text body = drop body.suffix_at text
 
 -- The places are within the text, and between its characters.
 pub record StandsIn (text : List ℕ) (body : Body) : Type 0 where
-  pub ordered : body.at ≤ body.end
-  pub begins : IsCharBoundary text body.at
-  pub ends : IsCharBoundary text body.end
+  pub ordered : body.lo ≤ body.hi
+  pub begins : IsCharBoundary text body.lo
+  pub ends : IsCharBoundary text body.hi
   pub behind : IsCharBoundary text body.suffix_at
 
 abbrev pub is_quoted : Kind → Bool

@@ -24,9 +24,9 @@ use rl_tokens::Kind;
 #[derive(Clone, Copy)]
 pub struct Body {
     /// The place of the body's first byte.
-    pub at: usize,
+    pub lo: usize,
     /// The place after the body's last byte.
-    pub end: usize,
+    pub hi: usize,
     /// The place of the suffix's first byte; the text's end where there is none.
     pub suffix_at: usize,
     /// Whether the body is what the literal stands for, byte for byte.
@@ -37,11 +37,11 @@ impl Body {
     /// A body that is all up to this place, where the suffix begins.
     #[inline(always)]
     pub(crate) fn up_to(end: usize, plain: bool) -> Body
-        ensures { result ≡ record { at = 0; end = end; suffix_at = end; plain = plain } }
+        ensures { result ≡ record { lo = 0; hi = end; suffix_at = end; plain = plain } }
     {
         Body {
-            at: 0,
-            end,
+            lo: 0,
+            hi: end,
             suffix_at: end,
             plain,
         }
@@ -105,7 +105,7 @@ impl Found {
     {
         Parts {
             kind: self.kind,
-            body: &text[self.body.at..self.body.end],
+            body: &text[self.body.lo..self.body.hi],
             suffix: &text[self.body.suffix_at..],
         }
     }

@@ -41,7 +41,7 @@ pub(crate) struct Inside<'t> {
 }
 
 /// What a `"` or an `r` at the front tells of a string of the kind.
-fn string_front(kind: Kind, text: &str) -> Option<(QuotedForm, Kind, &str)>
+fn split_string_opener(kind: Kind, text: &str) -> Option<(QuotedForm, Kind, &str)>
     ensures { option_map (λ p. (p.0, p.1, chars p.2.now)) result
         ≡ string_opener_at kind (chars text.now) }
 {
@@ -54,27 +54,27 @@ fn string_front(kind: Kind, text: &str) -> Option<(QuotedForm, Kind, &str)>
 }
 
 /// What the text after a `b` tells.
-fn byte_front(text: &str) -> Option<(QuotedForm, Kind, &str)>
+fn split_byte_opener(text: &str) -> Option<(QuotedForm, Kind, &str)>
     ensures { option_map (λ p. (p.0, p.1, chars p.2.now)) result ≡ byte_opener_at (chars text.now) }
 {
     match split_char(text) {
         Some(('\'', rest)) => Some((QuotedForm::Single, Kind::Byte, rest)),
-        _ => string_front(Kind::ByteStr, text),
+        _ => split_string_opener(Kind::ByteStr, text),
     }
 }
 
-/// What a text's front tells: the one form and the one kind that the text can have, and the text after the opener.
+/// What a text's opener tells: the one form and the one kind that the text can have, and the text after the opener.
 #[inline(always)]
 #[tactic(auto, unfolding(crate::specs::Mirrors::OpenerAt::opener_at))]
-pub(crate) fn front(text: &str) -> Option<(QuotedForm, Kind, &str)>
+pub(crate) fn split_opener(text: &str) -> Option<(QuotedForm, Kind, &str)>
     ensures { option_map (λ p. (p.0, p.1, chars p.2.now)) result ≡ opener_at (chars text.now) }
 {
     let (first, rest) = split_char(text)?;
     match first {
         '\'' => Some((QuotedForm::Single, Kind::Char, rest)),
-        'b' => byte_front(rest),
-        'c' => string_front(Kind::CStr, rest),
-        _ => string_front(Kind::Str, text),
+        'b' => split_byte_opener(rest),
+        'c' => split_string_opener(Kind::CStr, rest),
+        _ => split_string_opener(Kind::Str, text),
     }
 }
 
@@ -239,12 +239,12 @@ pub(crate) fn find_quoted(text: &str) -> Option<Found>
     ensures none { IfNone result (HasNoQuoted (chars text.now)) }
     ensures found { IfSome result (IsFound text.now) }
 {
-    let (form, kind, inside) = front(text)?;
+    let (form, kind, inside) = split_opener(text)?;
     let read = read_inside(form, kind, inside)?;
-    let at = text.len() - read.opened.len();
+    let lo = text.len() - read.opened.len();
     let body = Body {
-        at,
-        end: at + read.body.len(),
+        lo,
+        hi: lo + read.body.len(),
         suffix_at: text.len() - read.suffix.len(),
         plain: read.plain,
     };

@@ -12,7 +12,7 @@ mod numbers;
 pub(crate) mod quoted;
 
 use crate::found::truth_of;
-use crate::quoted::{QuotedForm, front};
+use crate::quoted::{QuotedForm, split_opener};
 use crate::strict::numbers::is_number;
 use crate::strict::quoted::{closes_one, closes_raw, closes_string};
 use rl_tokens::Kind;
@@ -38,7 +38,7 @@ use rl_tokens::text::split_char;
 pub fn is_token(text: &str) -> bool
     ensures { IsTrue result ↔ IsToken (chars text.now) }
 {
-    match front(text) {
+    match split_opener(text) {
         Some((form, kind, inside)) => closes(form, kind, inside),
         None => is_number(text) || truth_of(text).is_some(),
     }

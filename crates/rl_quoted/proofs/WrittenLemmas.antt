@@ -117,8 +117,8 @@ one_long c h = omega (arith, length-append {A = ℕ}, length-encode c, len_utf8_
 
 -- The places at the ends of what is written.
 record AtEnds (kind : Kind) (t : List ℕ) (body : Body) : Type 0 where
-  pub at : body.at ≡ length (opener kind)
-  pub end_at : body.end ≡ length t - 1
+  pub at : body.lo ≡ length (opener kind)
+  pub end_at : body.hi ≡ length t - 1
   pub suffix_at : body.suffix_at ≡ length t
 
 record Between (t inside : List ℕ) (body : Body) : Type 0 where
@@ -156,11 +156,11 @@ between kind t v e body u ends =
     let u_body : IsUtf8 l.body = (e.inside, (inner.0, refl)) in
     let u_back : IsUtf8 l.back = (quote, (inner.1, refl)) in
     let total : length t ≡ length l.front + (length l.body + length l.back) = omega (arith, ap length l.whole, length-append l.front (l.body ++ l.back), length-append l.body l.back) in
-    let at : body.at ≡ length l.front = omega (arith, ends.at, l.front_long) in
-    let end_at : body.end ≡ length (l.front ++ l.body) = omega (arith, ends.end_at, total, l.back_long, length-append l.front l.body) in
-    let long : body.end - body.at ≡ length l.body = omega (arith, at, end_at, length-append l.front l.body) in
-    let from_body : drop body.at t ≡ l.body ++ l.back = ap (λ z. drop body.at z) l.whole ∙ ap (λ n. drop n (l.front ++ (l.body ++ l.back))) at ∙ drop-append_seam l.front (l.body ++ l.back) in
-    let inside : body_in t body ≡ l.body = ap (λ z. take (body.end - body.at) z) from_body ∙ ap (λ n. take n (l.body ++ l.back)) long ∙ take-append_seam l.body l.back in
+    let at : body.lo ≡ length l.front = omega (arith, ends.at, l.front_long) in
+    let end_at : body.hi ≡ length (l.front ++ l.body) = omega (arith, ends.end_at, total, l.back_long, length-append l.front l.body) in
+    let long : body.hi - body.lo ≡ length l.body = omega (arith, at, end_at, length-append l.front l.body) in
+    let from_body : drop body.lo t ≡ l.body ++ l.back = ap (λ z. drop body.lo z) l.whole ∙ ap (λ n. drop n (l.front ++ (l.body ++ l.back))) at ∙ drop-append_seam l.front (l.body ++ l.back) in
+    let inside : body_in t body ≡ l.body = ap (λ z. take (body.hi - body.lo) z) from_body ∙ ap (λ n. take n (l.body ++ l.back)) long ∙ take-append_seam l.body l.back in
     let behind : suffix_in t body ≡ [] = ap (λ n. drop n t) ends.suffix_at ∙ drop-length t in
     record {
       body_is = ap chars inside ∙ chars-encodes e.inside inner.0;
@@ -198,7 +198,7 @@ single_of : (kind : Kind) → is_quoted kind ≡ true → is_string kind ≡ fal
 single_of kind q s = cc
 
 -- the places of what the value with these bytes is written as
-pub written_at : (kind : Kind) (t bytes : List ℕ) (body : Body) → IsUtf8 t → is_quoted kind ≡ true → IsWrittenAs kind bytes (chars t) → body.at ≡ length (opener kind) → body.end ≡ length t - 1 → body.suffix_at ≡ length t → Whole kind body.plain (body_in t body) bytes → StandsAt kind t body
+pub written_at : (kind : Kind) (t bytes : List ℕ) (body : Body) → IsUtf8 t → is_quoted kind ≡ true → IsWrittenAs kind bytes (chars t) → body.lo ≡ length (opener kind) → body.hi ≡ length t - 1 → body.suffix_at ≡ length t → Whole kind body.plain (body_in t body) bytes → StandsAt kind t body
 written_at kind t bytes body u q w at end_at suffix_at whole =
     let e = enclosed kind (chars t) w.value q w.written in
     let b = between kind t w.value e body u (record { at = at; end_at = end_at; suffix_at = suffix_at }) in

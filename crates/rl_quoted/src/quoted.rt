@@ -114,7 +114,7 @@ impl<K: QuotedKind, A: Allocator> Quoted<K, A> {
         ensures plain { IsTrue result.1 ↔ IsPlain K.KIND self.now.text }
     {
         let body = self.body;
-        (&self.token.text()[body.at..body.end], body.plain)
+        (&self.token.text()[body.lo..body.hi], body.plain)
     }
 
     /// What stands between the quotes of a character or a byte.
@@ -123,7 +123,7 @@ impl<K: QuotedKind, A: Allocator> Quoted<K, A> {
         ensures { HasSingleBody K.KIND (chars self.now.text) result.now }
     {
         let body = self.body;
-        &self.token.text()[body.at..body.end]
+        &self.token.text()[body.lo..body.hi]
     }
 
     /// What stands after the closing quote, borrowed: empty, or any text.

@@ -34,12 +34,12 @@ pub(crate) fn written_body(kind: Kind, text: &str, value: &[u8]) -> Body
     ensures { StandsAt kind text.now result }
 {
     let bytes = text.as_bytes();
-    let at = opener_length(kind);
-    let end = bytes.len() - 1;
+    let lo = opener_length(kind);
+    let hi = bytes.len() - 1;
     Body {
-        at,
-        end,
+        lo,
+        hi,
         suffix_at: bytes.len(),
-        plain: is_whole(kind, &bytes[at..end], value),
+        plain: is_whole(kind, &bytes[lo..hi], value),
     }
 }

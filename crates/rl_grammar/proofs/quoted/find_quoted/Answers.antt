@@ -23,8 +23,8 @@ returns-clause-found c =
     let s = stands _ _ _ _ _ c.utf8.text inside body suffix (sym c.in_ok-form.ensures) c.in_ok-read.ensures.some in
     quoted_found _ _ _ c.utf8.text (quoted_at _ _ _ _ _ _ _ refl refl refl s)
 
-pub overflow_sub-at : goal.overflow_sub-at
-overflow_sub-at c =
+pub overflow_sub-lo : goal.overflow_sub-lo
+overflow_sub-lo c =
     let inside : IsUtf8 c.in_ok-form.inside.now = search rules in
     let body : IsUtf8 c.in_ok-read.read.body.now = search rules in
     let suffix : IsUtf8 c.in_ok-read.read.suffix.now = search rules in
