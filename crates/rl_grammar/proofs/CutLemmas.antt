@@ -1,15 +1,16 @@
 -- From what std says of bytes to characters.
-use Rattle.std.proofs.Common.{◌≡◌, ◌≢◌, ℕ, ◌+◌, ◌<◌, ◌≤◌, ◌&&◌, Bool, true, false, not, eqb, List, [], ◌∷◌, ◌++◌, length, take, drop, take-append-drop, Option, Some, None, refl, sym, ap, subst, ◌∙◌, arith, length-drop}
+use Rattle.std.proofs.Common.{◌≡◌, ◌≢◌, ℕ, ◌+◌, ◌<◌, ◌≤◌, ◌&&◌, Bool, true, false, not, eqb, List, [], ◌∷◌, ◌++◌, length, take, drop, take-append-drop, Option, Some, None, refl, sym, ap, subst, ◌∙◌, arith, length-drop, ◌==◌}
 use Rattle.std.specs.Prelude.{encode_utf8_all, IfSome, IfNone, MatchOption, MatchBool}
 use Rattle.std.specs.List.{list_all}
 use Rattle.std.specs.Str.{chars, IsUtf8, IsCharBoundary, NoCharPasses, NonePass}
 use Rattle.std.specs.Str.Pattern.{FindsChar, RFindsChar, HasCharAt, FindsTextPrefix}
-use Rattle.std.proofs.lemmas.Bool.{and_from, and_right, eq-eqb, not_from_false}
+use Rattle.std.proofs.lemmas.Bool.{and_from, and_right, both_ways, eq-eqb, eqb-true, not_from_false}
 use Rattle.std.proofs.lemmas.List.Folds.{list_all-append}
-use Rattle.std.proofs.lemmas.Str.{encodes-chars, encodes-append, chars-append, chars_from_encodes, chars_past_char, IsUtf8-take, IsUtf8-drop, IsUtf8-past_char, IsCharBoundary-before_ascii}
+use Rattle.std.proofs.lemmas.Str.{encodes-chars, encodes-append, chars-append, chars-nil, chars_from_encodes, chars_past_char, IsUtf8-take, IsUtf8-drop, IsUtf8-past_char, IsCharBoundary-before_ascii}
 use Rattle.std.proofs.lemmas.Str.Pattern.{drop_at_char}
 use denote.Ref.{Bor}
 use Rattle.rl_tokens.specs.Texts.{IsTail}
+use Rattle.rl_grammar.specs.Mirrors.StrictAt.{is_some_text}
 
 -- what is after by characters is after by bytes
 pub behind_chars : (bs ys front : List ℕ) → IsUtf8 bs → IsUtf8 ys → chars bs ≡ front ++ chars ys → IsTail bs ys
@@ -90,3 +91,16 @@ pub strip_prefix_none : (n bs : List ℕ) (r : Option (Bor (List ℕ))) → Stri
 strip_prefix_none n bs (Some x) m u w = tt
 strip_prefix_none n bs None m u w = λ x e.
     m (encode_utf8_all x) (sym (encodes-chars bs w) ∙ ap encode_utf8_all e ∙ encodes-append (chars n) x ∙ ap (λ z. z ++ encode_utf8_all x) (encodes-chars n u))
+
+-- a text has characters where it has bytes
+pub some_text : (t : List ℕ) → IsUtf8 t → is_some_text (chars t) ≡ not (length t == 0)
+some_text t u = tested (length t == 0) t u refl
+  where
+    some : (cs : List ℕ) → cs ≢ [] → is_some_text cs ≡ true
+    some [] n = absurd (n refl)
+    some (c ∷ cs) n = refl
+
+    tested : (b : Bool) (t : List ℕ) → IsUtf8 t → (length t == 0) ≡ b → is_some_text (chars t) ≡ not b
+    tested true [] u e = ap is_some_text chars-nil
+    tested true (c ∷ cs) u e = absurd (let z = eqb-true (length (c ∷ cs)) 0 e in omega arith)
+    tested false t u e = some (chars t) (λ n. both_ways (length t == 0) e (ap (λ z. length z == 0) (sym (encodes-chars t u) ∙ ap encode_utf8_all n)))

@@ -14,7 +14,6 @@ ghost use Rattle.rl_grammar.specs.Mirrors.PlainAt.{is_plain_digits, is_plain_flo
 
 use crate::found::{Found, find_float, found_in};
 use crate::rows::{after_minus, is_negative};
-use crate::strict::is_some_text;
 use rl_tokens::scan::{Marks, next_mark};
 use rl_tokens::text::split_char;
 use rl_tokens::{Error, Kind};
@@ -131,11 +130,12 @@ fn all_digits(text: &str) -> bool
 }
 
 /// Whether the text is digits in base ten, with no needless zero in front.
+#[tactic(auto, using(crate::proofs::CutLemmas::some_text))]
 fn is_plain_digits(text: &str) -> bool
     ensures { result ≡ is_plain_digits (chars text.now) }
 {
     match split_char(text) {
-        Some((first, rest)) => all_digits(text) && (first != '0' || !is_some_text(rest)),
+        Some((first, rest)) => all_digits(text) && (first != '0' || rest.is_empty()),
         None => false,
     }
 }

@@ -5,7 +5,7 @@ ghost use Rattle.std.specs.Str.{chars};
 ghost use Rattle.rl_grammar.specs.Forms.{has_form};
 ghost use Rattle.rl_grammar.specs.StrictShapes.{Closes, IsToken};
 ghost use Rattle.std.specs.List.{list_all};
-ghost use Rattle.rl_grammar.specs.Mirrors.StrictAt.{is_number_suffix, is_some_text, is_strict_suffix};
+ghost use Rattle.rl_grammar.specs.Mirrors.StrictAt.{is_number_suffix, is_strict_suffix};
 ghost use Rattle.rl_tokens.specs.Lexemes.{is_continue};
 
 mod numbers;
@@ -63,20 +63,13 @@ fn all_continue(text: &str) -> bool
     text.chars().all(|c| is_continue(c))
 }
 
-/// Whether the text is not empty.
-pub(crate) fn is_some_text(text: &str) -> bool
-    ensures { result ≡ is_some_text (chars text.now) }
-{
-    split_char(text).is_some()
-}
-
 /// Whether the text may be the suffix of a quoted literal: nothing, or a word.
-#[tactic(auto, unfolding(crate::specs::Mirrors::StrictAt::is_strict_suffix))]
+#[tactic(auto, using(crate::proofs::CutLemmas::some_text), unfolding(crate::specs::Mirrors::StrictAt::is_strict_suffix))]
 pub(crate) fn is_suffix(text: &str) -> bool
     ensures { result ≡ is_strict_suffix (chars text.now) }
 {
     match split_char(text) {
-        Some(('_', rest)) => is_some_text(rest) && all_continue(rest),
+        Some(('_', rest)) => !rest.is_empty() && all_continue(rest),
         Some((first, rest)) => is_start(first) && all_continue(rest),
         None => true,
     }
