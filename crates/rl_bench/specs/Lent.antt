@@ -4,8 +4,7 @@ use Rattle.std.specs.Str.{chars}
 use Rattle.rl_tokens.specs.declared.kind.Kind.{Kind}
 use Rattle.rl_tokens.specs.declared.kind.Kind.TheVariants.{Int, Float}
 use Rattle.rl_tokens.specs.Texts.{byte_len}
-use Rattle.rl_tokens.specs.Reading.{HasSuffix}
-use Rattle.rl_tokens.specs.Reading.{HasNoReading}
+use Rattle.rl_tokens.specs.Reading.{HasSuffix, HasNoReading}
 use Rattle.rl_grammar.specs.NumberShapes.{HasMagnitude}
 use Rattle.rl_grammar.specs.WholeShapes.{IsSplit}
 use Rattle.rl_bench.specs.Sizes.{HasSize}

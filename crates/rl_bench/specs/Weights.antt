@@ -6,12 +6,11 @@ use Rattle.rl_tokens.specs.declared.kind.Kind.TheVariants.{Str, ByteStr, CStr, B
 use Rattle.rl_tokens.specs.declared.lex_error.LexKind.{LexKind}
 use Rattle.rl_tokens.specs.declared.error.Error.{Error}
 use Rattle.rl_tokens.specs.declared.error.ErrorKind.TheVariants.{Memory}
-use Rattle.rl_tokens.specs.Reading.{Contents, Characters, Bytes, Digits, Truth, Reads, HasContents, HasSuffix}
+use Rattle.rl_tokens.specs.Reading.{Contents, Characters, Bytes, Digits, Truth, Reads, HasContents, HasSuffix, HasNoReading}
 use Rattle.rl_tokens.specs.Texts.{byte_len}
 use Rattle.rl_tokens.specs.Sources.{CutSource, IsCutUpTo, BeginsNoSource}
 use Rattle.rl_tokens.specs.Lexing.{LexedToken, LexesUpTo, BeginsNoLexeme, Lexes, Fault}
 use Rattle.rl_tokens.specs.Trees.{Tree}
-use Rattle.rl_tokens.specs.Reading.{HasNoReading}
 use Rattle.rl_grammar.specs.WholeShapes.{IsSplit}
 use Rattle.rust_literals.specs.declared.lit.Lit.{Lit}
 use Rattle.rust_literals.specs.Parsing.{AreRead, RefusesText}

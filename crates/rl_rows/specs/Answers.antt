@@ -9,8 +9,7 @@ use Rattle.rl_tokens.specs.declared.kind.Kind.TheVariants.{Int as IntKind}
 use Rattle.rl_tokens.specs.declared.error.Error.{Error}
 use Rattle.rl_tokens.specs.Skipping.{Skipped}
 use Rattle.rl_tokens.specs.Texts.{byte_len}
-use Rattle.rl_tokens.specs.Reading.{HasNoInteger}
-use Rattle.rl_tokens.specs.Reading.{IsPast, HasNoFloat}
+use Rattle.rl_tokens.specs.Reading.{HasNoInteger, IsPast, HasNoFloat}
 use Rattle.rl_grammar.specs.StrictShapes.{IsToken}
 use Rattle.rust_literals.specs.Parsing.{RefusesText}
 use Rattle.rl_lines.specs.Lines.{IsLineOf, AreLinesOfText, IsLineOfKind, IsLineOfFloat}

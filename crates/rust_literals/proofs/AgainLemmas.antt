@@ -6,12 +6,11 @@ use Rattle.std.specs.Str.{chars, encode_utf8_all}
 use Rattle.std.proofs.lemmas.Str.{scalars-chars}
 use Rattle.rl_tokens.specs.declared.error.Error.{Error}
 use Rattle.rl_tokens.specs.declared.error.ErrorKind.TheVariants.{Memory}
-use Rattle.rl_tokens.specs.Texts.{SpannedText}
+use Rattle.rl_tokens.specs.Texts.{SpannedText, byte_len}
 use Rattle.rl_tokens.specs.Trivia.{IsTrivia}
 use Rattle.rl_tokens.specs.Trees.{Tree, GroupTree, IdentTree, PunctTree, LiteralTree}
 use Rattle.rl_tokens.specs.Reading.{HasReading}
 use Rattle.rl_grammar.specs.Fronts.{IsFront}
-use Rattle.rl_tokens.specs.Texts.{byte_len}
 use Rattle.rl_tokens.specs.Printed.{Item, WordItem, LiteralItem, MinusItem, item_text, Entry, printed_text, token_at}
 use Rattle.rl_tokens.specs.PrintedTrees.{printed_trees, IsLexedItem, Reprinted}
 use Rattle.rl_tokens.proofs.CutTrees.{IsCutTree, lexed_trees}

@@ -10,15 +10,13 @@ use Rattle.rl_tokens.specs.declared.cursor.Lexeme.{Lexeme as Lent}
 use Rattle.rl_tokens.specs.declared.lexeme.Form.{Form as FoundForm}
 use Rattle.rl_tokens.specs.declared.lexeme.Form.TheVariants as found
 use Rattle.rl_tokens.specs.Lexemes.{LexemeForm, LiteralForm, IdentifierForm, MarkForm}
-use Rattle.rl_tokens.specs.Cursors.{form_view}
+use Rattle.rl_tokens.specs.Cursors.{form_view, CursorState, TakesNext}
 use Rattle.rl_tokens.specs.Texts.{SpannedText}
 use Rattle.rl_tokens.specs.Puncts.{Mark}
-use Rattle.rl_tokens.specs.Reading.{truth_text}
+use Rattle.rl_tokens.specs.Reading.{truth_text, HasReading, HasNoReading, HasNoTruth}
 use Rattle.rl_tokens.specs.Trees.{Tree, IdentTree, PunctTree, LiteralTree, flat_trees}
 use Rattle.rl_tokens.specs.Skipping.{Skipped}
 use Rattle.rl_tokens.specs.Lexing.{LexesUpTo, behind_form, flat_form, flat_token}
-use Rattle.rl_tokens.specs.Cursors.{CursorState, TakesNext}
-use Rattle.rl_tokens.specs.Reading.{HasReading, HasNoReading, HasNoTruth}
 use Rattle.rl_grammar.specs.Fronts.{joined, joined_span}
 use Rattle.rl_tokens.proofs.CutLemmas.{open_more}
 use Rattle.rl_tokens.proofs.CursorLemmas.{flat_lent}

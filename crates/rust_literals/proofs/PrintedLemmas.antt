@@ -9,11 +9,10 @@ use Rattle.rl_tokens.specs.declared.kind.Kind.TheVariants.{Bool as BoolKind}
 use Rattle.rl_tokens.specs.declared.error.Error.{Error}
 use Rattle.rl_tokens.specs.declared.error.ErrorKind.TheVariants.{Memory}
 use Rattle.rl_tokens.specs.Trivia.{IsTrivia}
-use Rattle.rl_tokens.specs.Reading.{ReadsAs, truth_text, Reads}
+use Rattle.rl_tokens.specs.Reading.{ReadsAs, truth_text, Reads, HasReading}
 use Rattle.rl_tokens.specs.Texts.{byte_len}
 use Rattle.rl_tokens.specs.Printed.{Item, WordItem, LiteralItem, MinusItem, item_text, Entry, printed_text, token_at, IsStrictItem, Printed}
 use Rattle.rl_tokens.specs.PrintedTrees.{printed_trees}
-use Rattle.rl_tokens.specs.Reading.{HasReading}
 use Rattle.rl_tokens.proofs.CutTrees.{scalars_parts}
 use Rattle.rl_tokens.proofs.PrintedLaws.{printed_lexes}
 use Rattle.rl_grammar.proofs.FrontLemmas.{truth_reads}

@@ -4,8 +4,7 @@ use Rattle.rl_tokens.specs.declared.error.ErrorKind.{ErrorKind}
 use Rattle.rl_tokens.specs.declared.error.ErrorKind.TheVariants.{NotInteger, TooLarge, NotFloat, Memory}
 use Rattle.rl_tokens.specs.declared.kind.Kind.{Kind}
 use Rattle.rl_tokens.specs.declared.kind.Kind.TheVariants.{Int, Float}
-use Rattle.rl_tokens.specs.Reading.{HasNoInteger}
-use Rattle.rl_tokens.specs.Reading.{IsPast, HasNoFloat}
+use Rattle.rl_tokens.specs.Reading.{HasNoInteger, IsPast, HasNoFloat}
 use Rattle.rl_grammar.specs.NumberShapes.{IsNumber}
 
 -- why the text is no number of the kind: no integer stands there, or one past 128 bits does; no
