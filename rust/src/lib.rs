@@ -1,7 +1,7 @@
 //! Reads Rust's literals by proved code.
 //!
 //! What a text stands for is told by a static library whose functions are proved against a written
-//! grammar (`crates/rl_c`); this package lends it texts and room, and gives the answers types. Places are byte offsets.
+//! grammar (`crates/rl_c`); this package passes it texts and room, and gives the results types. Places are byte offsets.
 //!
 //! ```
 //! use navyspindle::Lit;

@@ -20,6 +20,9 @@ pub struct Literals<'t> {
 ///
 /// A minus before a number belongs to the literal, also where something stands between them.
 ///
+/// A token that begins no literal ends the list with [`ErrorKind::NoLiteral`](crate::ErrorKind::NoLiteral): a bracket, which
+/// isn't opened as a group; a mark; a word; and an integer past 128 bits.
+///
 /// ```
 /// use navyspindle::{literals, ErrorKind, Lit};
 ///
