@@ -7,6 +7,7 @@ BENCH = os.path.dirname(os.path.dirname(os.path.abspath(__file__)))
 TOP = os.path.dirname(BENCH)
 DRIVER = os.path.join(BENCH, 'driver')
 CRATE = os.path.join(TOP, 'crates/rl_bench')
+PACKAGED = os.path.join(TOP, 'crates/rl_c')
 BUILD = os.path.join(DRIVER, 'target')
 # bytes of a corpus on which the works' sums are compared
 CHECKED = 100_000
@@ -37,7 +38,7 @@ def with_oracle(path):
         if not os.path.islink(link):
             os.symlink(os.path.join(DRIVER, name), link)
     with open(os.path.join(DRIVER, 'Cargo.toml')) as manifest:
-        text = manifest.read()
+        text = manifest.read().replace('"../../rust"', '"%s"' % os.path.join(TOP, 'rust'))
     with open(os.path.join(folder, 'Cargo.toml'), 'w') as copy:
         dependency = '[dependencies.synval]\npath = "%s"\n' % os.path.abspath(path)
         copy.write('%s\n%s\n[workspace]\n' % (text, dependency))
@@ -46,7 +47,8 @@ def with_oracle(path):
 
 def driver(oracle):
     """The path of the built driver, whose works have made the same sums where they have to."""
-    subprocess.run(['rt', 'lib', '--jobs', '2'], cwd=CRATE, check=True, stdout=subprocess.DEVNULL)
+    for crate in (CRATE, PACKAGED):
+        subprocess.run(['rt', 'lib', '--jobs', '2'], cwd=crate, check=True, stdout=subprocess.DEVNULL)
     folder = with_oracle(oracle) if oracle else DRIVER
     command = ['cargo', 'build', '--release', '--offline', '--quiet', '--target-dir', BUILD]
     command += ['--manifest-path', os.path.join(folder, 'Cargo.toml')]

@@ -13,6 +13,7 @@ mod files;
 mod known;
 mod others;
 mod ours;
+mod package;
 mod process;
 mod weight;
 mod works;

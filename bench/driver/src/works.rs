@@ -1,7 +1,7 @@
 //! What runs on a corpus.
 
 use crate::corpus::{Corpus, Form};
-use crate::{others, ours};
+use crate::{others, ours, package};
 
 /// What is summed: works of one sum answer the same.
 #[derive(Clone, Copy, PartialEq, Eq)]
@@ -51,6 +51,7 @@ const OF_LITERALS: &[Work] = &[
     ours("value", Sum::Values, ours::value),
     ours("literal", Sum::Values, ours::literal),
     ours("value_ref", Sum::Values, ours::value_ref),
+    ours("package", Sum::Values, package::value),
     other("litrs", Sum::Values, others::litrs_value),
     #[cfg(feature = "oracle")]
     other("syn", Sum::Values, others::syn::value),

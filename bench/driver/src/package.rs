@@ -1,0 +1,40 @@
+//! The same work by the Cargo package in rust/, over crates/rl_c.
+
+use crate::corpus::Corpus;
+use crate::weight::{weight, Kind};
+use navyspindle::Lit;
+use std::hint::black_box;
+
+/// The number of digits in base ten.
+fn digit_count(value: u128) -> usize {
+    value.checked_ilog10().map_or(1, |log| log as usize + 1)
+}
+
+/// The weight of a text; 0 where it is no literal.
+fn weight_of(text: &str) -> u64 {
+    let Ok(literal) = Lit::parse(text) else {
+        return 0;
+    };
+    let suffix = literal.suffix().len();
+    match &literal {
+        Lit::Str(l) => weight(Kind::Str, l.value().len(), suffix),
+        Lit::ByteStr(l) => weight(Kind::ByteStr, l.value().len(), suffix),
+        Lit::CStr(l) => weight(Kind::CStr, l.value().len(), suffix),
+        Lit::Byte(l) => {
+            black_box(l.value());
+            weight(Kind::Byte, 1, suffix)
+        }
+        Lit::Char(l) => weight(Kind::Char, l.value().len_utf8(), suffix),
+        Lit::Int(l) => {
+            let sign = usize::from(l.is_negative());
+            weight(Kind::Int, sign + digit_count(l.magnitude()), suffix)
+        }
+        Lit::Float(l) => weight(Kind::Float, l.base10_digits().len(), suffix),
+        Lit::Bool(_) => weight(Kind::Bool, 0, 0),
+    }
+}
+
+/// By the values.
+pub fn value(corpus: &Corpus) -> u64 {
+    corpus.texts().map(weight_of).fold(0, u64::wrapping_add)
+}
