@@ -12,6 +12,8 @@ pub mod NumberLemmas
 pub mod MinusLemmas
 pub mod OptionLemmas
 pub mod ReadingLemmas
+pub mod StopLemmas
+pub mod UnitFlawLemmas
 pub mod UnitLemmas
 pub mod RowLemmas
 pub mod RawLemmas

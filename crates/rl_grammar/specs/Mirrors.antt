@@ -8,3 +8,4 @@ pub mod OpenerAt
 pub mod PlainAt
 pub mod StrictAt
 pub mod UnitAt
+pub mod UnitFlawAt
