@@ -80,4 +80,4 @@ ends_by reader front value c is no_blank h = record { ending = c ∷ []; value =
 
 -- two of them
 pub ends_by_two : {V : Type 0} (reader : Reader V) (front : List ℕ) (value : V) (c d : ℕ) → IsScalar c → IsScalar d → is_blank c ≡ false → ((r : List ℕ) → reader (front ++ (c ∷ d ∷ r)) ≡ given value r) → Completes reader front
-ends_by_two reader front value c d is js no_blank h = record { ending = c ∷ d ∷ []; value = value; are_characters = (is, js, tt); no_blank = λ r g. no_blank; reads = h }
+ends_by_two reader front value c d is js no_blank h = record { ending = c ∷ d ∷ []; value = value; are_characters = (is, (js, tt)); no_blank = λ r g. no_blank; reads = h }

@@ -1,10 +1,10 @@
 -- Where no unit of a quoted literal stands, the code's place is where the text stops being the front of one.
 use Rattle.std.proofs.Common.{◌≡◌, ℕ, suc, ◌+◌, ◌*◌, ◌^◌, ◌<◌, ◌≤◌, ◌||◌, ◌&&◌, Bool, true, false, not, cond, eqb, ltb, leb, List, [], ◌∷◌, ◌++◌, Option, Some, None, refl, sym, ap, subst, ◌∙◌, ◌⊎◌, inl, inr, arith}
 use Rattle.std.specs.Prelude.{option_and_then}
-use Rattle.std.specs.Char.{IsScalar, digit_value}
+use Rattle.std.specs.Char.{digit_value}
 use Rattle.std.proofs.Math.Nat.{pow-suc, pow-le-pow_right}
 use Rattle.std.proofs.Math.Utf8.{scalar}
-use Rattle.std.proofs.lemmas.Bool.{and_from, and_parts, both_ways, cases_Bool, eqb-true, ltb-true, ltb-false, lt-ltb, le-ltb, le-leb, leb-false, eq-eqb, not-true, ne_eqb, or_right}
+use Rattle.std.proofs.lemmas.Bool.{and_from, and_parts, and_right, both_ways, cases_Bool, eqb-true, ltb-true, ltb-false, lt-ltb, le-ltb, le-leb, leb-false, eq-eqb, not-true, ne_eqb, or_right}
 use Rattle.rl_tokens.specs.declared.kind.Kind.{Kind}
 use Rattle.rl_tokens.specs.declared.kind.Kind.TheVariants.{Str, ByteStr, CStr, Byte, Char, Int, Float, Bool as BoolKind}
 use Rattle.rl_tokens.specs.Quoted.{Hex, is_hex_digit, hex_value, holds_characters, content_of, is_string, is_single, is_plain, is_line_end, allows_code, may_be_hex, has_unicode}
@@ -18,6 +18,9 @@ use Rattle.rl_grammar.proofs.UnitLemmas.{holds_more, unicode_sound, plain_comple
 abbrev Went : Bool → Type 0
 Went b = (b ≡ true) ⊎ (b ≡ false)
 
+not_zero : (n : ℕ) → eqb (n + 1) 0 ≡ false
+not_zero n = ne_eqb (n + 1) 0 (λ e. omega (arith, e))
+
 -- ---- the two digits of \x
 
 hex_read : (kind : Kind) (c d : ℕ) (r : List ℕ) → is_hex_digit c ≡ true → is_hex_digit d ≡ true → hex_at kind (c ∷ d ∷ r) ≡ number_if (may_be_hex kind (digit_value c * 16 + digit_value d)) (digit_value c * 16 + digit_value d) r
@@ -30,7 +33,7 @@ hex_one kind =
     ends_by_two (hex_at kind) [] 65 52 49 refl refl refl (λ r. hex_read kind 52 49 r refl refl ∙ ap (λ b. number_if b 65 r) allowed)
 
 -- behind the first one
-second : Kind → ℕ → Reader ℕ
+abbrev pub second : Kind → ℕ → Reader ℕ
 second kind c t = hex_at kind (c ∷ t)
 
 low_allowed : (b : Bool) (v : ℕ) → (b && ltb 7 v) ≡ false → v < 16 → (not b || ltb (v * 16 + 1) 128) ≡ true
@@ -40,7 +43,7 @@ low_allowed true v h small = lt-ltb (v * 16 + 1) 128 (let few : v ≤ 7 = ltb-fa
 hex_second : (kind : Kind) (c : ℕ) → is_hex_digit c ≡ true → (holds_characters kind && ltb 7 (digit_value c)) ≡ false → Completes (second kind c) []
 hex_second kind c h low =
     let v = digit_value c in
-    let allowed : may_be_hex kind (v * 16 + 1) ≡ true = and_from (allows_code kind (v * 16 + 1)) (not (holds_characters kind) || ltb (v * 16 + 1) 128) (holds_more kind (v * 16 + 1) refl) (low_allowed (holds_characters kind) v low (ltb-true v 16 h)) in
+    let allowed : may_be_hex kind (v * 16 + 1) ≡ true = and_from (allows_code kind (v * 16 + 1)) (not (holds_characters kind) || ltb (v * 16 + 1) 128) (holds_more kind (v * 16 + 1) (not_zero (v * 16))) (low_allowed (holds_characters kind) v low (ltb-true v 16 h)) in
     ends_by (second kind c) [] (v * 16 + 1) 49 refl refl (λ r. hex_read kind c 49 r h refl ∙ ap (λ b. number_if b (v * 16 + 1) r) allowed)
 
 -- a number that isn't allowed isn't, whatever follows
@@ -74,13 +77,9 @@ past_hex kind c (d ∷ ds) h high =
     let n = digit_value c * 16 + digit_value d in
     let big : ltb n 128 ≡ false = le-ltb n 128 (let more : 7 < digit_value c = ltb-true 7 (digit_value c) parts.1 in omega arith) in
     let no_test : (not (holds_characters kind) || ltb n 128) ≡ false = ap (λ b. not b || ltb n 128) parts.0 ∙ big in
-    let never_allowed : may_be_hex kind n ≡ false = right_false (allows_code kind n) (not (holds_characters kind) || ltb n 128) no_test in
+    let never_allowed : may_be_hex kind n ≡ false = and_right (allows_code kind n) (not (holds_characters kind) || ltb n 128) no_test in
     go (is_hex_digit d) refl never_allowed
   where
-    right_false : (a b : Bool) → b ≡ false → (a && b) ≡ false
-    right_false true b h = h
-    right_false false b h = refl
-
     go : (b : Bool) → is_hex_digit d ≡ b → may_be_hex kind (digit_value c * 16 + digit_value d) ≡ false → hex_at kind (c ∷ d ∷ ds) ≡ None
     go true e bad = hex_read kind c d ds h e ∙ ap (λ b. number_if b (digit_value c * 16 + digit_value d) ds) bad
     go false e bad = no_low kind c d ds h e
@@ -101,10 +100,10 @@ hex_stops kind (c ∷ cs) none = go (is_hex_digit c) refl
 -- ---- the digits between braces
 
 -- behind n digits that spell v, the number that they all spell, where the kind allows it
-allowed : Kind → ℕ × List ℕ → Option (ℕ × List ℕ)
+abbrev pub allowed : Kind → ℕ × List ℕ → Option (ℕ × List ℕ)
 allowed kind p = number_if (has_unicode kind && allows_code kind p.0) p.0 p.1
 
-coded : Kind → ℕ → ℕ → Reader ℕ
+abbrev pub coded : Kind → ℕ → ℕ → Reader ℕ
 coded kind v n t = option_and_then (allowed kind) (unicode_digits_at v n t)
 
 closed : (kind : Kind) (v n : ℕ) (r : List ℕ) → coded kind v n (125 ∷ r) ≡ option_and_then (allowed kind) (number_if (scalar v) v r)
@@ -119,22 +118,21 @@ closed_code kind v n r u h =
 
 closed_none : (kind : Kind) (v n : ℕ) (r s : List ℕ) → coded kind v n (125 ∷ r) ≡ None → coded kind v n (125 ∷ s) ≡ None
 unfolding unicode_digits_at
-closed_none kind v n r s h = go (scalar v) (has_unicode kind && allows_code kind v) h
+closed_none kind v n r s h = go (scalar v) h
   where
-    go : (a b : Bool) → option_and_then (λ p. number_if b v p.1) (number_if a v r) ≡ None → option_and_then (λ p. number_if b v p.1) (number_if a v s) ≡ None
-    go true true h = absurd (cc)
-    go true false h = refl
-    go false b h = refl
+    go : (a : Bool) → option_and_then (allowed kind) (number_if a v r) ≡ None → option_and_then (allowed kind) (number_if a v s) ≡ None
+    go true h = never (has_unicode kind && allows_code kind v) v r s h
+    go false h = refl
 
 closed_bad : (kind : Kind) (v n : ℕ) (r : List ℕ) → is_code kind v ≡ false → coded kind v n (125 ∷ r) ≡ None
 unfolding unicode_digits_at
-closed_bad kind v n r h = go (scalar v) (allows_code kind v) (has_unicode kind) h
+closed_bad kind v n r h = go (scalar v) refl
   where
-    go : (a b d : Bool) → (a && b) ≡ false → option_and_then (λ p. number_if (d && b) v p.1) (number_if a v r) ≡ None
-    go true true d h = absurd (cc)
-    go true false true h = refl
-    go true false false h = refl
-    go false b d h = refl
+    go : (a : Bool) → scalar v ≡ a → option_and_then (allowed kind) (number_if a v r) ≡ None
+    go true e =
+        let no_code : allows_code kind v ≡ false = sym (ap (λ x. x && allows_code kind v) e) ∙ h in
+        ap (λ x. number_if x v r) (and_right (has_unicode kind) (allows_code kind v) no_code)
+    go false e = refl
 
 -- a digit is no brace and no underscore
 digit_apart : (c k : ℕ) → is_hex_digit c ≡ true → is_hex_digit k ≡ false → eqb c k ≡ false
@@ -232,7 +230,7 @@ room kind v n s bad =
     ]
 
 one_more : (kind : Kind) (v n : ℕ) → Spelled kind v n → is_code kind v ≡ false → is_code kind (v * 16 + 1) ≡ true
-one_more kind v n s bad = and_from (scalar (v * 16 + 1)) (allows_code kind (v * 16 + 1)) (whether (scalar v) (allows_code kind v) refl refl) (holds_more kind (v * 16 + 1) refl)
+one_more kind v n s bad = and_from (scalar (v * 16 + 1)) (allows_code kind (v * 16 + 1)) (whether (scalar v) (allows_code kind v) refl refl) (holds_more kind (v * 16 + 1) (not_zero (v * 16)))
   where
     whether : (a b : Bool) → scalar v ≡ a → allows_code kind v ≡ b → scalar (v * 16 + 1) ≡ true
     whether false b e g = grown v n (room kind v n s bad) s.small e
@@ -253,11 +251,12 @@ spelled_on kind v n c s h short good =
     let less : n < 6 = not_six n s.few short in
     let small = s.small in
     let digit : digit_value c < 16 = ltb-true (digit_value c) 16 h in
-    let power : 16 ^ suc n ≡ 16 ^ n * 16 = pow-suc 16 n in
+    let one : n + 1 ≡ suc n = omega arith in
+    let power : 16 ^ (n + 1) ≡ 16 ^ n * 16 = ap (λ k. 16 ^ k) one ∙ pow-suc 16 n in
     record {
       unicode = s.unicode;
       few = omega arith;
-      small = (let next : v * 16 + digit_value c < 16 ^ suc n = rw power (omega arith) in next);
+      small = rw power (omega arith);
       full = λ e. fifth (is_code kind (v * 16 + digit_value c)) (ap (λ b. b && not (is_code kind (v * 16 + digit_value c))) (sym (eq-eqb n 5 (let e = e in omega arith))) ∙ good);
     }
   where
@@ -279,7 +278,7 @@ abbrev pub NextStops : Kind → List ℕ → Type 0
 NextStops kind cs = (v n : ℕ) → Spelled kind v n → coded kind v n cs ≡ None → Stops (coded kind v n) cs (digits_flaw_at kind v n cs).1
 
 module _ (kind : Kind) (v n c : ℕ) (cs : List ℕ) (s : Spelled kind v n) (none : coded kind v n (c ∷ cs) ≡ None) (next_stops : NextStops kind cs) where
-  w : ℕ
+  abbrev pub w : ℕ
   w = v * 16 + digit_value c
 
   stuck : (k : FoundFlaw) → k.1 ≡ c ∷ cs → ((e : List ℕ) → coded kind v n (c ∷ e) ≡ None) → Stops (coded kind v n) (c ∷ cs) k.1
@@ -324,7 +323,7 @@ digits_stop kind (c ∷ cs) v n s none = digits_go kind v n c cs s none (digits_
 -- ---- an escape by its number
 
 -- behind the opening brace
-braced : Kind → Reader ℕ
+abbrev pub braced : Kind → Reader ℕ
 braced kind t = option_and_then (λ p. coded kind p.0 1 p.1) (digit_at t)
 
 braced_first : (kind : Kind) (c : ℕ) (t : List ℕ) → is_hex_digit c ≡ true → braced kind (c ∷ t) ≡ coded kind (digit_value c) 1 t
@@ -368,7 +367,7 @@ unicode_one : (kind : Kind) → has_unicode kind ≡ true → Completes (unicode
 unicode_one kind u = record {
   ending = 123 ∷ 49 ∷ 125 ∷ [];
   value = 1;
-  are_characters = (refl, refl, refl, tt);
+  are_characters = (refl, (refl, (refl, tt)));
   no_blank = λ r g. refl;
   reads = λ r. unicode_on kind (49 ∷ 125 ∷ r) ∙ closed_code kind 1 1 r u (holds_more kind 1 refl);
 }
@@ -396,12 +395,12 @@ unicode_never kind t h = go (unicode_at kind t) refl
 
 -- ---- an escape
 
+escaped_n : (kind : Kind) (r : List ℕ) → escape_at kind (110 ∷ r) ≡ found (10 ∷ []) r
+unfolding escape_at
+escaped_n kind r = rw (holds_more kind 10 refl) refl
+
 escape_n : (kind : Kind) → Completes (escape_at kind) []
 escape_n kind = ends_by (escape_at kind) [] (10 ∷ []) 110 refl refl (λ r. escaped_n kind r)
-  where
-    escaped_n : (kind : Kind) (r : List ℕ) → escape_at kind (110 ∷ r) ≡ found (10 ∷ []) r
-    unfolding escape_at
-    escaped_n kind r = rw (holds_more kind 10 refl) refl
 
 by_hex : (kind : Kind) (r : List ℕ) → escape_at kind (120 ∷ r) ≡ option_and_then (λ p. found (p.0 ∷ []) p.1) (hex_at kind r)
 unfolding escape_at
@@ -516,8 +515,8 @@ same_character kind c r s a b h =
     rw a (go (is_plain kind c) (eqb c 13) refl (rw a at h))
   where
     feed : (t : List ℕ) → is_string kind ≡ false → line_feed_at kind t ≡ None
-    feed [] no = refl
-    feed (d ∷ ds) no = rw no refl
+    feed [] off = refl
+    feed (d ∷ ds) off = rw off refl
 
     go : (p k : Bool) → eqb c 13 ≡ k → cond p (found (content_of kind (c ∷ [])) r) (cond k (line_feed_at kind r) None) ≡ None → cond p (found (content_of kind (c ∷ [])) s) (cond k (line_feed_at kind s) None) ≡ None
     go true k e h = absurd (cc)

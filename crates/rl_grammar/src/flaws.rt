@@ -1,5 +1,7 @@
 //! Why a text is no literal, and where.
 
+ghost use Rattle.std.specs.Prelude.{◌≡◌};
+
 /// Why a text is no literal.
 #[derive(Clone, Copy, PartialEq, Eq, Debug)]
 pub enum FlawKind {

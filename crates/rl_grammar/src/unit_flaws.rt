@@ -139,10 +139,9 @@ fn escape_flaw(kind: Kind, text: &str) -> FlawAt<'_>
 fn line_end_flaw(text: &str) -> FlawAt<'_>
     ensures { found_flaw result.kind (chars result.rest.now) ≡ line_end_flaw_at (chars text.now) }
 {
-    if text.is_empty() {
-        flaw(FlawKind::Unclosed, text)
-    } else {
-        flaw(FlawKind::LoneCr, text)
+    match split_char(text) {
+        None => flaw(FlawKind::Unclosed, text),
+        Some(_) => flaw(FlawKind::LoneCr, text),
     }
 }
 

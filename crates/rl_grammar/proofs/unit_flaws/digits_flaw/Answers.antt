@@ -14,5 +14,5 @@ pub overflow_add-value : goal.overflow_add-value
 overflow_add-value c =
     let five : c.loop-next.digits ≤ 5 = omega arith in
     let bound : 16 ^ c.loop-next.digits ≤ 16 ^ 5 = pow-le-pow_right (omega arith) five in
-    let digit_small : c.in-Some.digit < 16 = grind (arith, common_steps) in
+    let digit_small : c.in-Some-to_digit.digit < 16 = grind (arith, common_steps) in
     omega arith
