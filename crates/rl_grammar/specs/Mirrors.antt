@@ -9,3 +9,4 @@ pub mod PlainAt
 pub mod StrictAt
 pub mod UnitAt
 pub mod UnitFlawAt
+pub mod StopsInside
