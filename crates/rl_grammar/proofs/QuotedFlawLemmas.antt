@@ -2,7 +2,7 @@
 use Rattle.std.proofs.Common.{◌≡◌, ◌≢◌, ℕ, Bool, true, false, eqb, List, [], ◌∷◌, ◌++◌, Option, Some, None, refl, sym, ap, subst, ◌∙◌, inl, inr, append_assoc}
 use Rattle.std.specs.Char.{IsScalar}
 use Rattle.std.specs.List.{AllByRecursion}
-use Rattle.std.proofs.lemmas.Bool.{both_ways}
+use Rattle.std.proofs.lemmas.Bool.{both_ways, eqb-true}
 use Rattle.rl_tokens.specs.declared.kind.Kind.{Kind}
 use Rattle.rl_tokens.specs.Texts.{first_passes}
 use Rattle.rl_tokens.specs.Quoted.{QuotedUnit, Plain, CrLf, Named, Hex, Unicode, Continuation, Cooked, Single, IsUnit, EndsBefore, is_blank, is_string, is_single, opener, texts, unit_text}
@@ -14,6 +14,8 @@ use Rattle.rl_grammar.specs.Rows.{BeginsRow, RowEnds}
 use Rattle.rl_grammar.proofs.FormLemmas.{cooked_none, single_none, single_stuck, not_both}
 use Rattle.rl_grammar.proofs.RowLemmas.{row_ends_off, row_step}
 use Rattle.rl_grammar.proofs.StopLemmas.{Stops}
+use Rattle.rl_grammar.specs.Mirrors.UnitFlawAt.{unit_flaw_at}
+use Rattle.rl_grammar.proofs.UnitFlawLemmas.{unit_stops}
 use Rattle.rl_grammar.proofs.UnitLemmas.{unit_sound, unit_complete}
 
 -- ---- what follows a row of units may be another text with the same front
@@ -91,6 +93,30 @@ cooked_stops kind a v t rest s row no_quote stops =
           subst (λ w. HasNoParts CookedForm kind (opener kind ++ w)) (sym (append_assoc (texts us) front (c ∷ e))) none;
     }
 
+-- where the text is no string, no quote stands after its units
+no_closer : (kind : Kind) (a v t : List ℕ) → is_string kind ≡ true → BeginsRow kind a v t → HasNoParts CookedForm kind (opener kind ++ a) → first_passes (λ c. eqb c 34) t ≡ false
+no_closer kind a v [] s row none = refl
+no_closer kind a v (c ∷ cs) s row none = go (eqb c 34) refl
+  where
+    go : (b : Bool) → eqb c 34 ≡ b → eqb c 34 ≡ false
+    go true e =
+        let us = row.units in
+        let is : BeginsRow kind a v (34 ∷ cs) = subst (λ x. BeginsRow kind a v (x ∷ cs)) (eqb-true c 34 e) row in
+        let cooked : Cooked kind (opener kind ++ a) v cs = record {
+          units = is.units;
+          string = s;
+          each = is.each;
+          ends = row_ends_off is.units (34 ∷ cs) refl is.ends;
+          text_is = ap (λ z. opener kind ++ z) is.text_is;
+          value_is = is.value_is;
+        } in
+        absurd (none v (texts is.units) cs (cooked, refl))
+    go false e = e
+
+-- the code's place in a string
+pub cooked_place : (kind : Kind) (a v t rest : List ℕ) → is_string kind ≡ true → BeginsRow kind a v t → unit_at kind t ≡ None → HasNoParts CookedForm kind (opener kind ++ a) → (unit_flaw_at kind t).1 ≡ rest → StopsInside CookedForm kind a rest
+cooked_place kind a v t rest s row stuck none same = subst (StopsInside CookedForm kind a) same (cooked_stops kind a v t (unit_flaw_at kind t).1 s row (no_closer kind a v t s row none) (unit_stops kind t (inl s) stuck))
+
 -- ---- characters and bytes
 
 single_closed : (kind : Kind) (a v : List ℕ) → is_single kind ≡ true → unit_at kind a ≡ Some (v, 39 ∷ []) → HasParts SingleForm kind a
@@ -147,3 +173,28 @@ single_quote_stops kind a v rest s h no_quote =
       completes = single_closed kind (unit_text u ++ (39 ∷ [])) v s (reads (39 ∷ []));
       stuck = λ c cs e g. single_none kind (unit_text u ++ (c ∷ e)) (v, c ∷ e) None (reads (c ∷ e)) (λ x k. no_first 39 (c ∷ e) x (first_same (λ d. eqb d 39) [] rest rest c cs e refl g no_quote) refl k);
     }
+
+-- where the text is no character and no byte, no quote stands after its unit
+no_single_closer : (kind : Kind) (a v t : List ℕ) → is_single kind ≡ true → unit_at kind a ≡ Some (v, t) → HasNoParts SingleForm kind (opener kind ++ a) → first_passes (λ c. eqb c 39) t ≡ false
+no_single_closer kind a v [] s h none = refl
+no_single_closer kind a v (c ∷ cs) s h none = go (eqb c 39) refl
+  where
+    go : (b : Bool) → eqb c 39 ≡ b → eqb c 39 ≡ false
+    go true e =
+        let begun = unit_sound kind a (v, c ∷ cs) h in
+        let single : Single kind (opener kind ++ a) v cs = record {
+          unit = begun.unit;
+          single = s;
+          is_unit = begun.allowed;
+          text_is = ap (λ z. opener kind ++ z) (begun.text_is ∙ ap (λ x. unit_text begun.unit ++ (x ∷ cs)) (eqb-true c 39 e));
+          value_is = begun.value_is;
+        } in
+        absurd (none v (unit_text begun.unit) cs (single, refl))
+    go false e = e
+
+-- the code's places in a character or a byte
+pub single_unit_place : (kind : Kind) (a rest : List ℕ) → is_single kind ≡ true → unit_at kind a ≡ None → (unit_flaw_at kind a).1 ≡ rest → StopsInside SingleForm kind a rest
+single_unit_place kind a rest s stuck same = subst (StopsInside SingleForm kind a) same (single_unit_stops kind a (unit_flaw_at kind a).1 s (unit_stops kind a (inr s) stuck))
+
+pub single_quote_place : (kind : Kind) (a v rest : List ℕ) → is_single kind ≡ true → unit_at kind a ≡ Some (v, rest) → HasNoParts SingleForm kind (opener kind ++ a) → StopsInside SingleForm kind a rest
+single_quote_place kind a v rest s h none = single_quote_stops kind a v rest s h (no_single_closer kind a v rest s h none)

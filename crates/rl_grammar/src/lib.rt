@@ -10,6 +10,7 @@ mod into;
 pub mod laws;
 mod numbers;
 mod quoted;
+mod quoted_flaws;
 mod rows;
 mod runs;
 pub mod strict;

@@ -5,9 +5,10 @@ use Rattle.std.specs.Char.{digit_value}
 use Rattle.std.proofs.Math.Utf8.{scalar}
 use Prim.Native.Char.{code}
 use Rattle.rl_tokens.specs.declared.kind.Kind.{Kind}
+use Rattle.rl_tokens.specs.Texts.{first_passes}
 use Rattle.rl_tokens.specs.Quoted.{allows_code, has_unicode, holds_characters, is_string}
 use Rattle.rl_grammar.specs.declared.flaws.FlawKind.{FlawKind}
-use Rattle.rl_grammar.specs.declared.flaws.FlawKind.TheVariants.{Unclosed, UnknownEscape, NoUnicode, NoHexDigit, NoBrace, EmptyBraces, TooManyDigits, PastAscii, PastUnicode, Surrogate, Nul, NotAscii, LoneCr, MustEscape, NoCharacter}
+use Rattle.rl_grammar.specs.declared.flaws.FlawKind.TheVariants.{Unclosed, UnknownEscape, NoUnicode, NoHexDigit, NoBrace, EmptyBraces, TooManyDigits, PastAscii, PastUnicode, Surrogate, Nul, NotAscii, LoneCr, MustEscape, NoCharacter, TwoCharacters}
 
 abbrev pub FoundFlaw : Type 0
 FoundFlaw = FlawKind × List ℕ
@@ -93,3 +94,9 @@ unit_flaw_at kind (c ∷ cs) =
     if c == code "\\" then escape_flaw_at kind cs
     else (if c == code "\r" && is_string kind then line_end_flaw_at cs
     else found_flaw (character_flaw_of c) (c ∷ cs))
+
+-- of a character or a byte, by the text from its unit on and by what follows the unit
+abbrev pub after_unit_flaw_of : List ℕ → List ℕ → FlawKind
+after_unit_flaw_of text [] = Unclosed
+after_unit_flaw_of text (c ∷ cs) =
+    if first_passes (λ d. d == code "'") text then NoCharacter else TwoCharacters
