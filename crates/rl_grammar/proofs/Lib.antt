@@ -12,6 +12,9 @@ pub mod NumberLemmas
 pub mod MinusLemmas
 pub mod OptionLemmas
 pub mod ReadingLemmas
+pub mod StopLemmas
+pub mod UnitFlawLemmas
+pub mod QuotedFlawLemmas
 pub mod UnitLemmas
 pub mod RowLemmas
 pub mod RawLemmas

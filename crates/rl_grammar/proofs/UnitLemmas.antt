@@ -240,7 +240,7 @@ unicode_built kind t b d r c v w brace first digit v_is more allowed =
       value_is = value;
     }
 
-unicode_sound : (kind : Kind) (t : List ℕ) (p : ℕ × List ℕ) → unicode_at kind t ≡ Some p → UnicodeAt kind t p.0 p.1
+pub unicode_sound : (kind : Kind) (t : List ℕ) (p : ℕ × List ℕ) → unicode_at kind t ≡ Some p → UnicodeAt kind t p.0 p.1
 unfolding unicode_at
 unicode_sound kind t p h =
     let b = bind_some (brace_at t) _ p h in
@@ -465,13 +465,13 @@ quote_and_return Int h = absurd (cc)
 quote_and_return Float h = absurd (cc)
 quote_and_return BoolKind h = absurd (cc)
 
-plain_complete : (kind : Kind) (c : ℕ) (r : List ℕ) → is_plain kind c ≡ true → unit_at kind (c ∷ r) ≡ found (content_of kind (c ∷ [])) r
+pub plain_complete : (kind : Kind) (c : ℕ) (r : List ℕ) → is_plain kind c ≡ true → unit_at kind (c ∷ r) ≡ found (content_of kind (c ∷ [])) r
 unfolding unit_at
 plain_complete kind c r h =
     let no_backslash : eqb c 92 ≡ false = ne_eqb c 92 (λ e. both_ways (is_plain kind 92) (backslash_not_plain kind) (subst (λ x. is_plain kind x ≡ true) e h)) in
     rw (no_backslash, h) refl
 
-crlf_complete : (kind : Kind) (r : List ℕ) → is_string kind ≡ true → unit_at kind (13 ∷ 10 ∷ r) ≡ found (10 ∷ []) r
+pub crlf_complete : (kind : Kind) (r : List ℕ) → is_string kind ≡ true → unit_at kind (13 ∷ 10 ∷ r) ≡ found (10 ∷ []) r
 unfolding unit_at
 crlf_complete kind r h = rw ((quote_and_return kind h).1, h) refl
 

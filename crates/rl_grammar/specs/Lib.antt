@@ -1,3 +1,4 @@
+pub mod Flaws
 pub mod NumberShapes
 pub mod NumbersRead
 pub mod Rows

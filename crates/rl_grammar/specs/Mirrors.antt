@@ -8,3 +8,5 @@ pub mod OpenerAt
 pub mod PlainAt
 pub mod StrictAt
 pub mod UnitAt
+pub mod UnitFlawAt
+pub mod StopsInside

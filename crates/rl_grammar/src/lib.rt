@@ -3,21 +3,25 @@
 
 mod contents;
 mod digits;
+mod flaws;
 mod found;
 mod front;
 mod into;
 pub mod laws;
 mod numbers;
 mod quoted;
+mod quoted_flaws;
 mod rows;
 mod runs;
 pub mod strict;
+mod unit_flaws;
 mod units;
 
 pub use crate::contents::{
     byte_of, byte_of_body, bytes_of, bytes_of_body, char_of, char_of_body, str_of, str_of_body,
 };
 pub use crate::digits::{digits_of, digits_of_found};
+pub use crate::flaws::FlawKind;
 pub use crate::found::{
     Body, Found, Parts, find, find_float, find_int, find_negative, is_plain, shape, truth_of,
 };

@@ -80,7 +80,7 @@ pub(crate) fn split_opener(text: &str) -> Option<(QuotedForm, Kind, &str)>
 
 /// The text after the units at its front, as far as they go.
 #[inline(never)]
-fn skip_units(kind: Kind, text: &str) -> &str
+pub(crate) fn skip_units(kind: Kind, text: &str) -> &str
     requires { IsTrue (is_string kind) }
     ensures row { (v : List ℕ) × BeginsRow kind (chars text.now) v (chars result.now) }
     ensures stuck { unit_at kind (chars result.now) ≡ None }

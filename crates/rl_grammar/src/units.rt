@@ -42,7 +42,7 @@ pub(crate) fn is_plain(kind: Kind, c: char) -> bool
 }
 
 /// Whether the kind holds the number: a C string holds no zero.
-fn allows_code(kind: Kind, code: u32) -> bool
+pub(crate) fn allows_code(kind: Kind, code: u32) -> bool
     ensures { result ≡ allows_code kind code }
 {
     !matches!(kind, Kind::CStr) || code != 0
@@ -56,7 +56,7 @@ fn may_be_hex(kind: Kind, code: u32) -> bool
 }
 
 /// Whether the kind has escapes `\u{..}`.
-fn has_unicode(kind: Kind) -> bool
+pub(crate) fn has_unicode(kind: Kind) -> bool
     ensures { result ≡ has_unicode kind }
 {
     !matches!(kind, Kind::ByteStr | Kind::Byte)
