@@ -21,7 +21,6 @@ pub use crate::contents::{
     byte_of, byte_of_body, bytes_of, bytes_of_body, char_of, char_of_body, str_of, str_of_body,
 };
 pub use crate::digits::{digits_of, digits_of_found};
-pub use crate::flaws::FlawKind;
 pub use crate::found::{
     Body, Found, Parts, find, find_float, find_int, find_negative, is_plain, shape, truth_of,
 };
