@@ -13,8 +13,8 @@ fn main() {
     let library = folder.join("librl_c.a");
     println!("cargo:rerun-if-changed={}", library.display());
     if !library.is_file() {
-        println!(
-            "cargo:warning={} is missing: run ./build rl_c, or set RL_LIB_DIR to the folder that holds librl_c.a",
+        eprintln!(
+            "{} is missing: run ./build rl_c at the repository's top, or set RL_LIB_DIR to the folder that holds librl_c.a",
             library.display()
         );
         std::process::exit(1);
