@@ -12,8 +12,8 @@ use Rattle.rl_tokens.specs.declared.kind.Kind.TheVariants.{Str, ByteStr, CStr, B
 use Rattle.rl_tokens.specs.Quoted.{QuotedUnit, Letter, Plain, CrLf, Named, Hex, Unicode, Continuation, LowerN, LowerR, LowerT, Backslash, Apostrophe, Quote, Zero, letter_value, unit_text, unit_value, hex_value, unicode_value, content_of, holds_characters, is_string, is_single, is_plain, has_unicode, IsUnit, texts, values, opener, raw_opener, Cooked, Raw}
 use Rattle.rl_tokens.specs.Reading.{Contents, Characters, ReadsQuoted}
 use Rattle.rl_tokens.proofs.CutTrees.{scalars_parts}
-use Rattle.rl_grammar.specs.declared.quoted.QuotedForm.{QuotedForm}
-use Rattle.rl_grammar.specs.declared.quoted.QuotedForm.TheVariants.{Cooked as CookedForm, Raw as RawForm, Single as SingleForm}
+use Rattle.rl_grammar.specs.declared.quoted_forms.QuotedForm.{QuotedForm}
+use Rattle.rl_grammar.specs.declared.quoted_forms.QuotedForm.TheVariants.{Cooked as CookedForm, Raw as RawForm, Single as SingleForm}
 use Rattle.rl_grammar.specs.declared.units.Piece.{Piece}
 use Rattle.rl_grammar.specs.declared.units.Piece.TheVariants.{Character, Byte, Nothing}
 use Rattle.rl_grammar.specs.Mirrors.UnitAt.{piece_value, IsPieceOf, unit_at}

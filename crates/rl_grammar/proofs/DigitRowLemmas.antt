@@ -8,7 +8,8 @@ use Rattle.std.specs.Char.{digit_value}
 use Rattle.std.specs.List.{list_any}
 use Rattle.rl_tokens.specs.Quoted.{place_value, without_underscores}
 use Rattle.rl_tokens.specs.Numbers.{limit}
-use Rattle.rl_grammar.specs.Mirrors.NumberAt.{run, after_run, has_value, capped, append_digit, row_from, digit_row_at, has_digit_at, magnitude_at, after_digits}
+use Rattle.rl_grammar.specs.Mirrors.NumberAt.{run, has_value, capped, append_digit, row_from, digit_row_at, has_digit_at, magnitude_at, after_digits}
+use Rattle.rl_tokens.specs.Classes.{after_run}
 use Rattle.rl_tokens.specs.Texts.{is_row_part}
 
 -- within the limit nothing is cut
@@ -82,12 +83,12 @@ at_digit r some v c ds x n d =
 
 -- a run goes on with what passes
 pub run_yes : (test : ℕ → Bool) (c : ℕ) (cs : List ℕ) → test c ≡ true → (run test (c ∷ cs) ≡ c ∷ run test cs) × (after_run test (c ∷ cs) ≡ after_run test cs)
-unfolding run after_run
+unfolding run
 run_yes test c cs h = (ap (λ b. cond b (c ∷ run test cs) []) h, ap (λ b. cond b (after_run test cs) (c ∷ cs)) h)
 
 -- a run ends before what does not pass
 pub run_no : (test : ℕ → Bool) (c : ℕ) (cs : List ℕ) → test c ≡ false → (run test (c ∷ cs) ≡ []) × (after_run test (c ∷ cs) ≡ c ∷ cs)
-unfolding run after_run
+unfolding run
 run_no test c cs h = (ap (λ b. cond b (c ∷ run test cs) []) h, ap (λ b. cond b (after_run test cs) (c ∷ cs)) h)
 
 -- the same, by the parts of the text
@@ -112,7 +113,7 @@ part_none r c n h = ap (λ b. b || (c == 95)) h ∙ n
 
 -- the row read one character after another is the row that stands there
 pub row_is : (r : ℕ) (some : Bool) (v : ℕ) (t : List ℕ) → 1 ≤ r → r ≤ 36 → row_from r some (capped v) t ≡ At r some v (digit_row_at r t) (after_digits r t)
-unfolding row_from run after_run
+unfolding row_from run
 row_is r some v [] h k = at_end r some v []
 row_is r some v (c ∷ cs) h k = go (λ s w. row_is r s w cs h k) (c == 95) (nat_lt (digit_value c) r) refl refl
   where

@@ -9,7 +9,8 @@ use Rattle.rl_tokens.specs.Texts.{first_passes, is_underscore, xid_ok, is_row_pa
 use Rattle.rl_tokens.specs.Numbers.{sign_text, is_exponent_letter, Fraction, NoFraction, Dot, fraction_text, IsFraction, Exponent, NoExponent, Power, exponent_text, IsExponent, is_power_sign, BeginsExponent, FloatReads}
 use Rattle.rl_tokens.proofs.Basics.{any_same, continue_not, digit_is_ten, word_continues, word_without}
 use Rattle.rl_tokens.proofs.StrictNumbers.{letter_no_part, suffix_no_part}
-use Rattle.rl_grammar.specs.Mirrors.NumberAt.{run, after_run, has_value, is_suffix, digit_row_at, has_digit_at, after_digits, after_minus, sign_at, after_fraction, after_power_sign, power_at, after_exponent, float_at}
+use Rattle.rl_grammar.specs.Mirrors.NumberAt.{run, has_value, is_suffix, digit_row_at, has_digit_at, after_digits, after_minus, sign_at, after_fraction, after_power_sign, power_at, after_exponent, float_at}
+use Rattle.rl_tokens.specs.Classes.{after_run}
 use Rattle.rl_grammar.proofs.DigitRowLemmas.{run_yes, run_no}
 use Rattle.rl_grammar.proofs.RunLemmas.{run_all, run_ends, run_join, run_past, suffix_complete, suffix_sound}
 use Rattle.rl_grammar.proofs.IntegerLemmas.{minus_past, chosen_some, sign_join}
@@ -24,7 +25,6 @@ letter_no_dot c h = go (c == 101) refl
 
 -- Completeness.
 pub run_off : (test : ℕ → Bool) (row t : List ℕ) → list_all test row ≡ true → after_run test (row ++ t) ≡ after_run test t
-unfolding after_run
 run_off test [] t h = refl
 run_off test (c ∷ row) t h =
     let b = and_parts (test c) (list_all test row) h in
@@ -142,7 +142,6 @@ power_past letter cs x l stops p =
 
 -- what is left after underscores goes on with an identifier too
 all_continue_run : (t : List ℕ) → list_all is_xid_continue t ≡ true → list_all is_xid_continue (after_run is_underscore t) ≡ true
-unfolding after_run
 all_continue_run [] h = refl
 all_continue_run (c ∷ cs) h = go (all_continue_run cs (and_parts (is_xid_continue c) _ h).1) (c == 95)
   where

@@ -9,8 +9,8 @@ use Rattle.rl_tokens.specs.declared.kind.Kind.{Kind}
 use Rattle.rl_tokens.specs.declared.kind.Kind.TheVariants.{Str, ByteStr, CStr, Byte, Char, Int, Float, Bool as BoolKind}
 use Rattle.rl_tokens.specs.Quoted.{Cooked, Single, is_string, is_single, opener, raw_opener, texts, unit_text}
 use Rattle.rl_tokens.specs.Reading.{Contents, ReadsQuoted, quoted_contents}
-use Rattle.rl_grammar.specs.declared.quoted.QuotedForm.{QuotedForm}
-use Rattle.rl_grammar.specs.declared.quoted.QuotedForm.TheVariants.{Cooked as CookedForm, Raw as RawForm, Single as SingleForm}
+use Rattle.rl_grammar.specs.declared.quoted_forms.QuotedForm.{QuotedForm}
+use Rattle.rl_grammar.specs.declared.quoted_forms.QuotedForm.TheVariants.{Cooked as CookedForm, Raw as RawForm, Single as SingleForm}
 use Rattle.rl_grammar.specs.Mirrors.UnitAt.{found, unit_at}
 use Rattle.rl_grammar.specs.Rows.{BeginsRow, RowEnds}
 use Rattle.rl_grammar.specs.Forms.{has_form, form_opener, PartsAre, HasNoParts, is_plain_body}

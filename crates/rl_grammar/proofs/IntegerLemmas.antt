@@ -13,7 +13,8 @@ use Rattle.rl_tokens.specs.Reading.{Contents, Digits, HasNoInteger, ReadsInt, Is
 use Rattle.rl_tokens.proofs.Basics.{any_same, digit_is_ten}
 use Rattle.rl_tokens.proofs.StrictNumbers.{no_part}
 use Rattle.rl_grammar.specs.NumberShapes.{HasMagnitude}
-use Rattle.rl_grammar.specs.Mirrors.NumberAt.{run, after_run, has_value, is_suffix, digit_row_at, has_digit_at, magnitude_at, after_digits, is_exponent_suffix, after_minus, sign_at, radix_at, may_begin, may_end, based_at, with_sign, int_at, capped, capped_int}
+use Rattle.rl_grammar.specs.Mirrors.NumberAt.{run, has_value, is_suffix, digit_row_at, has_digit_at, magnitude_at, after_digits, is_exponent_suffix, after_minus, sign_at, radix_at, may_begin, may_end, based_at, with_sign, int_at, capped, capped_int}
+use Rattle.rl_tokens.specs.Classes.{after_run}
 use Rattle.rl_grammar.proofs.DigitRowLemmas.{within_or_past, capped_within, capped_past}
 use Rattle.rl_grammar.proofs.RunLemmas.{run_all, run_ends, run_join, run_past, suffix_complete, suffix_sound}
 

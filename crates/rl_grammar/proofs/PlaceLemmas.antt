@@ -7,8 +7,8 @@ use Rattle.rl_tokens.specs.Quoted.{opener, raw_opener}
 use Rattle.rl_tokens.specs.Texts.{IsTail}
 use Rattle.rl_tokens.proofs.BehindLemmas.{behind_step, cut_boundary, cut_drop}
 use Rattle.rl_tokens.proofs.Rests.{behind_length}
-use Rattle.rl_grammar.specs.declared.quoted.Inside.{Inside}
-use Rattle.rl_grammar.specs.declared.quoted.QuotedForm.{QuotedForm}
+use Rattle.rl_grammar.specs.declared.quoted_forms.Inside.{Inside}
+use Rattle.rl_grammar.specs.declared.quoted_forms.QuotedForm.{QuotedForm}
 use Rattle.rl_grammar.specs.Bodies.{IsInside}
 use Rattle.rl_grammar.specs.Forms.{PartsAre, form_opener, is_plain_body}
 use Rattle.rl_grammar.specs.Founds.{IsQuotedAt}

@@ -9,9 +9,9 @@ use Rattle.rl_tokens.specs.declared.kind.Kind.{Kind}
 use Rattle.rl_tokens.specs.declared.kind.Kind.TheVariants.{Str, ByteStr, CStr, Byte, Char, Int, Float, Bool as BoolKind}
 use Rattle.rl_tokens.specs.Texts.{IsTail}
 use Rattle.rl_tokens.specs.Quoted.{content_of, is_string, is_raw, raw_opener, Raw}
-use Rattle.rl_grammar.specs.declared.quoted.QuotedForm.TheVariants.{Raw as RawForm}
+use Rattle.rl_grammar.specs.declared.quoted_forms.QuotedForm.TheVariants.{Raw as RawForm}
 use Rattle.rl_grammar.specs.Forms.{PartsAre, HasNoParts}
-use Rattle.rl_grammar.specs.Mirrors.OpenerAt.{after_hashes}
+use Rattle.rl_tokens.specs.Classes.{after_run, is_hash}
 use Rattle.rl_grammar.proofs.CutLemmas.{behind_chars}
 
 abbrev no_quote : ℕ → Bool
@@ -56,8 +56,7 @@ hashes_no_quote (suc n) x = hashes_no_quote n x
 
 -- ---- the hashes at the front
 
-pub hashes_sound : (t : List ℕ) → (n : ℕ) × (t ≡ replicate n 35 ++ after_hashes t)
-unfolding after_hashes
+pub hashes_sound : (t : List ℕ) → (n : ℕ) × (t ≡ replicate n 35 ++ (after_run is_hash) t)
 hashes_sound [] = (0, refl)
 hashes_sound (c ∷ cs) =
     let more = hashes_sound cs in
@@ -66,8 +65,7 @@ hashes_sound (c ∷ cs) =
       | inr a ↦ rw a (0, refl)
     ]
 
-pub hashes_complete : (n : ℕ) (y : List ℕ) → after_hashes (replicate n 35 ++ (34 ∷ y)) ≡ 34 ∷ y
-unfolding after_hashes
+pub hashes_complete : (n : ℕ) (y : List ℕ) → (after_run is_hash) (replicate n 35 ++ (34 ∷ y)) ≡ 34 ∷ y
 hashes_complete zero y = refl
 hashes_complete (suc n) y = hashes_complete n y
 
@@ -76,12 +74,12 @@ abbrev inner : ℕ → List ℕ → List ℕ → List ℕ
 inner n inside suffix = inside ++ (34 ∷ (replicate n 35 ++ suffix))
 
 -- the hashes and the first quote of a raw string are those at its front
-raw_front : (kind : Kind) (t v x hashes : List ℕ) (r : Raw kind (raw_opener kind ++ t) v x) → t ≡ hashes ++ after_hashes t → (hashes ≡ replicate r.hashes 35) × (after_hashes t ≡ 34 ∷ inner r.hashes r.inside x)
+raw_front : (kind : Kind) (t v x hashes : List ℕ) (r : Raw kind (raw_opener kind ++ t) v x) → t ≡ hashes ++ (after_run is_hash) t → (hashes ≡ replicate r.hashes 35) × ((after_run is_hash) t ≡ 34 ∷ inner r.hashes r.inside x)
 raw_front kind t v x hashes r e =
     let n = r.hashes in
     let y = inner n r.inside x in
     let text : t ≡ replicate n 35 ++ (34 ∷ y) = append_cancel_left (raw_opener kind) t (replicate n 35 ++ (34 ∷ y)) r.text_is in
-    let rest : after_hashes t ≡ 34 ∷ y = ap after_hashes text ∙ hashes_complete n y in
+    let rest : (after_run is_hash) t ≡ 34 ∷ y = ap (after_run is_hash) text ∙ hashes_complete n y in
     (append_cancel_right hashes (replicate n 35) (34 ∷ y) (ap (λ z. hashes ++ z) (sym rest) ∙ sym e ∙ text), rest)
 
 -- what follows the first quote, cut at its last
@@ -103,20 +101,20 @@ raw_once kind t v x w y r s =
 -- ---- the steps of the reader
 
 -- what follows the hashes is after the text
-pub hashes_behind : (bs ys : List ℕ) → IsUtf8 bs → IsUtf8 ys → chars ys ≡ after_hashes (chars bs) → IsTail bs ys
+pub hashes_behind : (bs ys : List ℕ) → IsUtf8 bs → IsUtf8 ys → chars ys ≡ (after_run is_hash) (chars bs) → IsTail bs ys
 hashes_behind bs ys u w e =
     let front = hashes_sound (chars bs) in
     behind_chars bs ys (replicate front.0 35) u w (front.1 ∙ ap (λ z. replicate front.0 35 ++ z) (sym e))
 
 -- no quote stands after the hashes
-pub raw_unopened : (kind : Kind) (t rest : List ℕ) → rest ≡ after_hashes t → ((y : List ℕ) → rest ≢ 34 ∷ y) → HasNoParts RawForm kind (raw_opener kind ++ t)
+pub raw_unopened : (kind : Kind) (t rest : List ℕ) → rest ≡ (after_run is_hash) t → ((y : List ℕ) → rest ≢ 34 ∷ y) → HasNoParts RawForm kind (raw_opener kind ++ t)
 raw_unopened kind t rest e h v b x p =
     let front = hashes_sound t in
     h _ (e ∙ (raw_front kind t v x (replicate front.0 35) p.0 front.1).1)
 
 -- `hashes` stand at the front of `t`, and `rest` after them
 
-module _ (kind : Kind) (t hashes rest : List ℕ) (rest_is : rest ≡ after_hashes t) (text_is : t ≡ hashes ++ rest) where
+module _ (kind : Kind) (t hashes rest : List ℕ) (rest_is : rest ≡ (after_run is_hash) t) (text_is : t ≡ hashes ++ rest) where
   opens : (v x : List ℕ) (r : Raw kind (raw_opener kind ++ t) v x) → (hashes ≡ replicate r.hashes 35) × (rest ≡ 34 ∷ inner r.hashes r.inside x)
   opens v x r =
       let f = raw_front kind t v x hashes r (text_is ∙ ap (λ z. hashes ++ z) rest_is) in

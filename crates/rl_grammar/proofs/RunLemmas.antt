@@ -5,8 +5,8 @@ use Rattle.std.specs.List.{list_all}
 use Rattle.rl_tokens.specs.Texts.{first_passes, xid_ok}
 use Rattle.rl_tokens.specs.Numbers.{IsSuffix}
 use Rattle.rl_tokens.specs.Quoted.{is_blank}
-use Rattle.rl_grammar.specs.Mirrors.NumberAt.{run, after_run, is_suffix}
-use Rattle.rl_grammar.specs.Mirrors.OpenerAt.{after_hashes}
+use Rattle.rl_grammar.specs.Mirrors.NumberAt.{run, is_suffix}
+use Rattle.rl_tokens.specs.Classes.{after_run}
 use Rattle.rl_grammar.specs.Mirrors.UnitAt.{after_blanks}
 use Rattle.rl_grammar.proofs.DigitRowLemmas.{run_yes, run_no}
 
@@ -22,7 +22,6 @@ run_all test (c ∷ cs) = go (run_all test cs) (test c) refl
 
 -- what follows a run doesn't go on with it
 pub run_ends : (test : ℕ → Bool) (t : List ℕ) → first_passes test (after_run test t) ≡ false
-unfolding after_run
 run_ends test [] = refl
 run_ends test (c ∷ cs) = go (run_ends test cs) (test c) refl
   where
@@ -32,7 +31,7 @@ run_ends test (c ∷ cs) = go (run_ends test cs) (test c) refl
 
 -- a run and what follows it are the text
 pub run_join : (test : ℕ → Bool) (t : List ℕ) → t ≡ run test t ++ after_run test t
-unfolding run after_run
+unfolding run
 run_join test [] = refl
 run_join test (c ∷ cs) = go (run_join test cs) (test c)
   where
@@ -42,7 +41,7 @@ run_join test (c ∷ cs) = go (run_join test cs) (test c)
 
 -- a row that passes, before what doesn't, is the run
 pub run_past : (test : ℕ → Bool) (row x : List ℕ) → list_all test row ≡ true → first_passes test x ≡ false → (run test (row ++ x) ≡ row) × (after_run test (row ++ x) ≡ x)
-unfolding run after_run
+unfolding run
 run_past test [] [] h k = (refl, refl)
 run_past test [] (c ∷ cs) h k = run_no test c cs k
 run_past test (d ∷ row) x h k =
@@ -64,13 +63,8 @@ suffix_sound (c ∷ cs) h =
     let b = and_parts (not (c == 95)) (xid_ok (c ∷ cs)) h in
     (inr b.1, not-true (c == 95) b.0)
 
--- what follows hashes, and blanks
-pub run_is_hashes : (t : List ℕ) → after_run (λ c. c == 35) t ≡ after_hashes t
-unfolding after_run after_hashes
-run_is_hashes [] = refl
-run_is_hashes (c ∷ cs) = ap (λ z. cond (c == 35) z (c ∷ cs)) (run_is_hashes cs)
-
+-- what follows blanks
 pub run_is_blanks : (t : List ℕ) → after_run is_blank t ≡ after_blanks t
-unfolding after_run after_blanks
+unfolding after_blanks
 run_is_blanks [] = refl
 run_is_blanks (c ∷ cs) = ap (λ z. cond (is_blank c) z (c ∷ cs)) (run_is_blanks cs)

@@ -15,8 +15,8 @@ use Rattle.rl_tokens.proofs.Basics.{apart}
 use Rattle.rl_tokens.proofs.OneNumber.{begins_number, float_front, int_front}
 use Rattle.rl_tokens.proofs.StrictNumbers.{strict_int, float_strict_reads}
 use Rattle.rl_tokens.proofs.StrictQuoted.{between}
-use Rattle.rl_grammar.specs.declared.quoted.QuotedForm.{QuotedForm}
-use Rattle.rl_grammar.specs.declared.quoted.QuotedForm.TheVariants.{Cooked as CookedForm, Raw as RawForm, Single as SingleForm}
+use Rattle.rl_grammar.specs.declared.quoted_forms.QuotedForm.{QuotedForm}
+use Rattle.rl_grammar.specs.declared.quoted_forms.QuotedForm.TheVariants.{Cooked as CookedForm, Raw as RawForm, Single as SingleForm}
 use Rattle.rl_grammar.specs.Forms.{has_form, form_opener}
 use Rattle.rl_grammar.specs.Mirrors.OpenerAt.{opener_at}
 use Rattle.rl_grammar.specs.Mirrors.StrictAt.{is_strict_number}

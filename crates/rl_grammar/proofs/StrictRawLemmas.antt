@@ -15,7 +15,7 @@ use Rattle.rl_tokens.specs.Strict.{IsRawInside, IsStrictSuffix}
 use Rattle.rl_tokens.specs.declared.scan.Marks.{Marks}
 use Rattle.rl_tokens.specs.Scanning.{is_other}
 use Rattle.rl_tokens.proofs.StrictNumbers.{begins_front}
-use Rattle.rl_grammar.specs.Mirrors.OpenerAt.{after_hashes}
+use Rattle.rl_tokens.specs.Classes.{after_run, is_hash}
 use Rattle.rl_grammar.specs.Mirrors.StrictAt.{ends_raw, is_inside, is_raw_character, is_strict_suffix}
 use Rattle.rl_grammar.specs.StrictShapes.{ClosesInside, ClosesRaw}
 use Rattle.rl_grammar.proofs.IntegerLemmas.{begins_is}
@@ -234,7 +234,7 @@ record Hashes (hs : List ℕ) : Type 0 where
   length_is : length hs ≡ count
 
 -- what stands before the rest after hashes is hashes
-hashes_in : (t r hs : List ℕ) → IsUtf8 hs → r ≡ after_hashes t → t ≡ chars hs ++ r → Hashes hs
+hashes_in : (t r hs : List ℕ) → IsUtf8 hs → r ≡ (after_run is_hash) t → t ≡ chars hs ++ r → Hashes hs
 hashes_in t r hs u rest text =
     let f = hashes_sound t in
     let same : chars hs ≡ replicate f.0 35 = append_cancel_right (chars hs) (replicate f.0 35) r (sym text ∙ f.1 ∙ ap (λ z. replicate f.0 35 ++ z) (sym rest)) in
@@ -247,13 +247,13 @@ record SameHashes (k : Kind) (t r hs : List ℕ) (c : ClosesRaw k t) : Type 0 wh
   rest_is : r ≡ 34 ∷ c.rest
 
 -- the form has the hashes and the rest that were found
-same_hashes : (k : Kind) (t r hs : List ℕ) (c : ClosesRaw k t) → r ≡ after_hashes t → t ≡ chars hs ++ r → SameHashes k t r hs c
+same_hashes : (k : Kind) (t r hs : List ℕ) (c : ClosesRaw k t) → r ≡ (after_run is_hash) t → t ≡ chars hs ++ r → SameHashes k t r hs c
 same_hashes k t r hs c rest text =
-    let behind : r ≡ 34 ∷ c.rest = rest ∙ ap after_hashes c.text_is ∙ hashes_complete c.hashes c.rest in
+    let behind : r ≡ 34 ∷ c.rest = rest ∙ ap (after_run is_hash) c.text_is ∙ hashes_complete c.hashes c.rest in
     record { hashes_are = append_cancel_right (chars hs) (replicate c.hashes 35) (34 ∷ c.rest) (ap (λ z. chars hs ++ z) (sym behind) ∙ sym text ∙ c.text_is); rest_is = behind }
 
 -- few hashes, and a quote
-pub raw_opened : (k : Kind) (b : Bool) (t r hs inside : List ℕ) → is_string k ≡ true → IsUtf8 hs → r ≡ after_hashes t → t ≡ chars hs ++ r → r ≡ 34 ∷ inside → length hs < 256 → b ≡ ends_raw k (chars hs) inside → IsTrue b ↔ ClosesRaw k t
+pub raw_opened : (k : Kind) (b : Bool) (t r hs inside : List ℕ) → is_string k ≡ true → IsUtf8 hs → r ≡ (after_run is_hash) t → t ≡ chars hs ++ r → r ≡ 34 ∷ inside → length hs < 256 → b ≡ ends_raw k (chars hs) inside → IsTrue b ↔ ClosesRaw k t
 raw_opened k b t r hs inside s u rest text quote few is =
     let h = hashes_in t r hs u rest text in
     let Few : ℕ → Type 0 = λ n. n < 256 in (
@@ -272,7 +272,7 @@ raw_opened k b t r hs inside s u rest text quote few is =
     )
 
 -- too many hashes
-pub raw_many : (k : Kind) (b : Bool) (t r hs : List ℕ) → IsUtf8 hs → r ≡ after_hashes t → t ≡ chars hs ++ r → 256 ≤ length hs → b ≡ false → IsTrue b ↔ ClosesRaw k t
+pub raw_many : (k : Kind) (b : Bool) (t r hs : List ℕ) → IsUtf8 hs → r ≡ (after_run is_hash) t → t ≡ chars hs ++ r → 256 ≤ length hs → b ≡ false → IsTrue b ↔ ClosesRaw k t
 raw_many k b t r hs u rest text many none =
     let h = hashes_in t r hs u rest text in (
       λ y. absurd (both_ways b none y),
@@ -285,5 +285,5 @@ raw_many k b t r hs u rest text many none =
     )
 
 -- no quote after the hashes
-pub raw_unquoted : (k : Kind) (t r : List ℕ) → r ≡ after_hashes t → ((y : List ℕ) → r ≢ 34 ∷ y) → IsTrue false ↔ ClosesRaw k t
-raw_unquoted k t r rest n = (λ y. absurd (both_ways true (sym y) refl), λ c. absurd (n c.rest (rest ∙ ap after_hashes c.text_is ∙ hashes_complete c.hashes c.rest)))
+pub raw_unquoted : (k : Kind) (t r : List ℕ) → r ≡ (after_run is_hash) t → ((y : List ℕ) → r ≢ 34 ∷ y) → IsTrue false ↔ ClosesRaw k t
+raw_unquoted k t r rest n = (λ y. absurd (both_ways true (sym y) refl), λ c. absurd (n c.rest (rest ∙ ap (after_run is_hash) c.text_is ∙ hashes_complete c.hashes c.rest)))

@@ -10,7 +10,8 @@ use Rattle.rl_tokens.specs.Quoted.{QuotedUnit, Plain, CrLf, Named, Hex, Unicode,
 use Rattle.rl_tokens.specs.Strict.{StrictUnit, Itself, QuoteEscape, PlainEscape, AsciiEscape, ByteEscape, UnicodeEscape, LineBreak, strict_text, is_plain_letter, is_dropped_blank, is_strict_unit}
 use Rattle.rl_tokens.proofs.Basics.{apart}
 use Rattle.rl_tokens.proofs.StrictQuoted.{MayFollow, stands}
-use Rattle.rl_grammar.specs.Mirrors.NumberAt.{run, after_run}
+use Rattle.rl_grammar.specs.Mirrors.NumberAt.{run}
+use Rattle.rl_tokens.specs.Classes.{after_run}
 use Rattle.rl_grammar.specs.Mirrors.UnitAt.{unit_at}
 use Rattle.rl_grammar.specs.Mirrors.StrictAt.{escape_rest, unit_rest}
 use Rattle.rl_grammar.proofs.IntegerLemmas.{chosen_some}

@@ -4,9 +4,9 @@ use Rattle.std.specs.Str.{chars, IsUtf8}
 use Rattle.rl_tokens.specs.declared.kind.Kind.{Kind}
 use Rattle.rl_tokens.specs.Texts.{IsTail}
 use Rattle.rl_tokens.specs.Quoted.{is_string}
-use Rattle.rl_grammar.specs.declared.quoted.Inside.{Inside}
-use Rattle.rl_grammar.specs.declared.quoted.QuotedForm.{QuotedForm}
-use Rattle.rl_grammar.specs.declared.quoted.QuotedForm.TheVariants.{Single as SingleForm}
+use Rattle.rl_grammar.specs.declared.quoted_forms.Inside.{Inside}
+use Rattle.rl_grammar.specs.declared.quoted_forms.QuotedForm.{QuotedForm}
+use Rattle.rl_grammar.specs.declared.quoted_forms.QuotedForm.TheVariants.{Single as SingleForm}
 use Rattle.rl_grammar.specs.Forms.{PartsAre, form_opener, is_plain_body}
 
 -- The body, in bytes, stands between the quotes of the string, and it is said whether the body

@@ -4,8 +4,8 @@ use Rattle.std.specs.Str.{chars}
 use Rattle.rl_tokens.specs.Texts.{IsTail}
 use Rattle.rl_tokens.specs.Numbers.{FloatReads}
 use Rattle.rl_tokens.specs.Reading.{HasNoInteger}
-use Rattle.rl_grammar.specs.declared.numbers.Number.{Number}
-use Rattle.rl_grammar.specs.declared.numbers.Number.TheVariants.{Integer, Float}
+use Rattle.rl_grammar.specs.declared.number_forms.Number.{Number}
+use Rattle.rl_grammar.specs.declared.number_forms.Number.TheVariants.{Integer, Float}
 use Rattle.rl_grammar.specs.NumberShapes.{HasMagnitude}
 
 -- the number stands there, with this magnitude or none, and this suffix

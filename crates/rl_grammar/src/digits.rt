@@ -13,7 +13,7 @@ ghost use Rattle.rl_grammar.specs.NumberShapes.{AreDigits, IsNumber};
 ghost use Rattle.rl_grammar.specs.Mirrors.PlainAt.{is_plain_digits, is_plain_float, is_plain_integer};
 
 use crate::found::{Found, find_float, found_in};
-use crate::rows::{after_minus, is_negative};
+use crate::digit_rows::{after_minus, is_negative};
 use rl_tokens::scan::{Marks, next_mark};
 use rl_tokens::text::split_char;
 use rl_tokens::{Error, Kind};

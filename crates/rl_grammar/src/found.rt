@@ -14,9 +14,9 @@ ghost use Rattle.rl_grammar.specs.StrictBytes.{KeepsBytesStrict};
 ghost use Rattle.rl_grammar.specs.WholeShapes.{IsSplit, is_number_front, IsPlain};
 
 use crate::digits::{is_plain_float, is_plain_integer};
-use crate::numbers::{Number, float_suffix, read_integer, read_number};
-use crate::quoted::find_quoted;
-use crate::rows::is_negative;
+use crate::number_forms::{Number, float_suffix, read_integer, read_number};
+use crate::quoted_forms::find_quoted;
+use crate::digit_rows::is_negative;
 use crate::runs::before;
 use rl_tokens::Kind;
 

@@ -8,7 +8,7 @@ ghost use Rattle.rl_grammar.specs.Mirrors.StopsInside.{StopsInside};
 ghost use Rattle.rl_grammar.specs.Mirrors.UnitFlawAt.{after_unit_flaw_of};
 
 use crate::flaws::{FlawAt, FlawKind, flaw};
-use crate::quoted::{QuotedForm, skip_units};
+use crate::quoted_forms::{QuotedForm, skip_units};
 use crate::unit_flaws::unit_flaw;
 use crate::units::unit;
 use rl_tokens::Kind;

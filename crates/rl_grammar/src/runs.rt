@@ -1,4 +1,4 @@
-//! Runs of characters at the front of a text: of ASCII, of plain characters, of one class.
+//! Runs of characters at the front of a text: of ASCII, of plain characters.
 
 ghost use Rattle.std.specs.Prelude.{◌≡◌, ◌+◌, ◌≤◌, ◌++◌, length, drop, map, IsTrue, IsFalse, ◌≢◌, ℕ, ◌==◌, List, ◌∷◌, not, IfSome, IfNone};
 ghost use Rattle.std.specs.Char.{is_ascii};
@@ -6,13 +6,11 @@ ghost use Rattle.std.specs.List.{list_all, prefix_len};
 ghost use Rattle.std.specs.Str.{chars};
 ghost use Rattle.rl_tokens.specs.Texts.{first_passes, IsTail};
 ghost use Rattle.rl_tokens.specs.Scanning.{is_ascii_other};
-ghost use Rattle.rl_grammar.specs.Mirrors.Classes.{is_in_run, class_test};
+ghost use Rattle.rl_grammar.specs.Mirrors.Classes.{is_in_run};
 ghost use Rattle.rl_tokens.specs.Quoted.{is_string, is_plain};
-ghost use Rattle.rl_grammar.specs.Mirrors.NumberAt.{after_run};
 
 use rl_tokens::Kind;
 use rl_tokens::scan::{Marks, ascii_len_before, len_before};
-use rl_tokens::text::split_char;
 
 /// No mark: a byte that is none of ASCII.
 const NO_MARK: Marks = Marks {
@@ -105,48 +103,6 @@ pub(crate) fn split_plain(kind: Kind, text: &str) -> (&str, &str)
     ensures shorter { length result.1.now ≤ length text.now }
 {
     text.split_at(plain_len(kind, text.as_bytes()))
-}
-
-/// A class of characters, all of ASCII.
-#[derive(Clone, Copy)]
-pub(crate) enum Class {
-    /// Hashes of a raw form.
-    Hash,
-    Underscore,
-    /// What an escaped line end takes with it.
-    Blank,
-    /// The same in strict texts, where no CR stands.
-    StrictBlank,
-}
-
-/// Whether the character is of the class.
-fn is_of(class: Class, c: char) -> bool
-    ensures { result ≡ class_test class c }
-{
-    match class {
-        Class::Hash => c == '#',
-        Class::Underscore => c == '_',
-        Class::Blank => matches!(c, ' ' | '\t' | '\n' | '\r'),
-        Class::StrictBlank => matches!(c, ' ' | '\t' | '\n'),
-    }
-}
-
-/// The text after the characters of the class at its front. It is inlined for the class that its caller names.
-#[inline(always)]
-#[tactic(auto, using(rl_tokens::proofs::BehindLemmas::behind_step, rl_tokens::proofs::BehindLemmas::behind_self), unfolding(crate::specs::Mirrors::NumberAt::after_run))]
-pub(crate) fn skip(class: Class, text: &str) -> &str
-    ensures value { chars result.now ≡ after_run (class_test class) (chars text.now) }
-    ensures behind { IsTail text.now result.now }
-    ensures shorter { length result.now ≤ length text.now }
-{
-    let mut rest = text;
-    while let Some((c, after)) = split_char(rest) {
-        if !is_of(class, c) {
-            break;
-        }
-        rest = after;
-    }
-    rest
 }
 
 /// The text in front of a rest of it.

@@ -8,11 +8,11 @@ ghost use Rattle.std.specs.List.{list_all};
 ghost use Rattle.rl_grammar.specs.Mirrors.StrictAt.{is_number_suffix, is_strict_suffix};
 ghost use Rattle.rl_tokens.specs.Lexemes.{is_continue};
 
-mod numbers;
-pub(crate) mod quoted;
+mod number_tokens;
+pub(crate) mod quoted_tokens;
 
 use crate::found::truth_of;
-use crate::quoted::{QuotedForm, split_opener};
+use crate::quoted_forms::{QuotedForm, split_opener};
 use crate::strict::numbers::is_number;
 use crate::strict::quoted::{closes_one, closes_raw, closes_string};
 use rl_tokens::Kind;

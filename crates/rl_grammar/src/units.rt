@@ -7,8 +7,8 @@ ghost use Rattle.rl_tokens.specs.Quoted.{holds_characters, is_plain, allows_code
 ghost use Rattle.rl_tokens.specs.Strict.{is_bare_character};
 ghost use Rattle.rl_grammar.specs.Mirrors.UnitAt.{piece_value, IsPieceOf, named_in, digit_at, hex_at, unicode_digits_at, unicode_at, after_blanks, escape_at, unit_at};
 
-use crate::runs::{Class, skip};
 use rl_tokens::Kind;
+use rl_tokens::classes::{CharClass, skip_class};
 use rl_tokens::text::{split_ascii, split_char};
 
 /// What a unit stands for. A character counts as its UTF-8 bytes where the kind holds bytes.
@@ -165,7 +165,7 @@ fn skip_blanks(text: &str) -> &str
     ensures value { chars result.now ≡ after_blanks (chars text.now) }
     ensures shorter { length result.now ≤ length text.now }
 {
-    skip(Class::Blank, text)
+    skip_class(CharClass::Blank, text)
 }
 
 /// What the escape stands for whose backslash stands before the text, and the text after it.

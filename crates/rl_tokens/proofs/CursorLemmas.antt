@@ -3,15 +3,13 @@ use Rattle.std.proofs.Common.{◌≡◌, ℕ, ◌+◌, ◌-◌, List, ◌++◌, 
 use Rattle.std.proofs.lemmas.List.{append_cancel_right}
 use Rattle.std.proofs.lemmas.Str.{encodes-append, encodes-chars, chars_from_encodes}
 use Rattle.std.specs.Str.{chars, encode_utf8_all, IsUtf8}
-use Rattle.rl_tokens.specs.Texts.{IsTail}
+use Rattle.rl_tokens.specs.Texts.{IsTail, byte_len}
 use Rattle.rl_tokens.specs.Skipping.{Skipped}
 use Rattle.rl_tokens.specs.Lexemes.{lexeme_text, LexemeForm}
 use Rattle.rl_tokens.specs.Mirrors.LexemeAt.{FormBefore}
-use Rattle.rl_tokens.specs.Cursors.{form_view}
+use Rattle.rl_tokens.specs.Cursors.{form_view, IsCursorState, IsLentToken, TakesNext}
 use Rattle.rl_tokens.specs.declared.span.Span.{Span}
 use Rattle.rl_tokens.specs.Lexing.{LexedToken, end_of, flat_form, flat_token}
-use Rattle.rl_tokens.specs.Texts.{byte_len}
-use Rattle.rl_tokens.specs.Cursors.{IsCursorState, IsLentToken, TakesNext}
 use Rattle.rl_tokens.specs.declared.cursor.Lexeme.{Lexeme as Lent}
 use Rattle.rl_tokens.proofs.BehindLemmas.{behind_step, cut_join}
 use Rattle.rl_tokens.proofs.Rests.{behind_length}

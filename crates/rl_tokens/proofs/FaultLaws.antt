@@ -6,7 +6,8 @@ use Rattle.rl_tokens.specs.declared.lex_error.LexKind.{LexKind}
 use Rattle.rl_tokens.specs.declared.lex_error.LexKind.TheVariants.{DocComment, UnclosedComment, UnclosedQuote, Lifetime, RawIdentifier, StrayCharacter, UnmatchedClose, UnclosedGroup, TooDeep, Memory}
 use Rattle.rl_tokens.specs.Texts.{is_among, first_passes, begins}
 use Rattle.rl_tokens.specs.Lexemes.{Lexeme, lexeme_text, IsLexeme, LexemeForm, form_of, DelimiterForm, MarkForm, delimiters, is_start, begins_raw_identifier}
-use Rattle.rl_tokens.specs.Mirrors.LexemeAt.{lexeme_at, SlashHead, after_run, is_hash, begins_quote}
+use Rattle.rl_tokens.specs.Mirrors.LexemeAt.{lexeme_at, SlashHead, begins_quote}
+use Rattle.rl_tokens.specs.Classes.{after_run, is_hash}
 use Rattle.rl_tokens.specs.Lexing.{OpenGroup, is_opener, is_closer, closes, popped, behind_form, begins_doc_comment, begins_lifetime, BeginsNoLexeme, FaultAt}
 use Rattle.rl_tokens.specs.Mirrors.TreeBuilders.{fault_kind}
 use Rattle.rl_tokens.proofs.Comments.{false_unless, same_Some}

@@ -8,9 +8,8 @@ use Rattle.std.specs.Str.{chars, IsUtf8, encode_utf8_all}
 use Rattle.rl_tokens.specs.declared.lex_error.LexKind.{LexKind}
 use Rattle.rl_tokens.specs.declared.lex_error.LexKind.TheVariants.{DocComment, UnclosedComment, UnclosedQuote, Lifetime, RawIdentifier, StrayCharacter, UnmatchedClose, UnclosedGroup, TooDeep, Memory}
 use Rattle.rl_tokens.specs.declared.lex_error.LexError.{LexError}
-use Rattle.rl_tokens.specs.Texts.{begins}
+use Rattle.rl_tokens.specs.Texts.{begins, byte_len}
 use Rattle.rl_tokens.specs.Cursors.{CursorState, IsCursorState, IsFirstFault}
-use Rattle.rl_tokens.specs.Texts.{byte_len}
 use Rattle.rl_tokens.specs.Lexing.{LexedToken, LexesUpTo, open_groups, OpenGroup, fault_place, begins_doc_comment, begins_lifetime, BeginsNoLexeme, FaultAt, Fault, Refuses}
 use Rattle.rl_tokens.specs.Mirrors.TreeBuilders.{fault_kind}
 use Rattle.rl_tokens.proofs.LexemeOpeners.{quote_begins, no_quote_begins}

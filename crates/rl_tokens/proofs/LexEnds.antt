@@ -9,9 +9,8 @@ use Rattle.rl_tokens.specs.declared.lex_error.LexKind.{LexKind}
 use Rattle.rl_tokens.specs.declared.lex_error.LexKind.TheVariants.{UnmatchedClose, UnclosedGroup, TooDeep, Memory}
 use Rattle.rl_tokens.specs.declared.lex_error.LexError.{LexError}
 use Rattle.rl_tokens.specs.Lexemes.{LexemeBefore, Lexeme, QuotedLexeme, RawLexeme, CharacterLexeme, BasedLexeme, DecimalLexeme, IdentifierLexeme, DelimiterLexeme, MarkLexeme, lexeme_text, IsLexeme, LexemeForm, form_of}
-use Rattle.rl_tokens.specs.Cursors.{form_view}
+use Rattle.rl_tokens.specs.Cursors.{form_view, CursorState, TakesNext, IsFirstFault}
 use Rattle.rl_tokens.specs.declared.cursor.Lexeme.{Lexeme as Lent}
-use Rattle.rl_tokens.specs.Cursors.{CursorState, TakesNext, IsFirstFault}
 use Rattle.rl_tokens.specs.Trees.{Tree, stream_view, flat_trees}
 use Rattle.rl_tokens.specs.Lexing.{OpenGroup, LexesUpTo, fault_place, BeginsLexeme, BeginsNoLexeme, FaultAt, Fault, LeavesRestAt, Refuses, Lexes}
 use Rattle.rl_tokens.specs.Mirrors.TreeBuilders.{groups_of, flat_builder, EndsInGroup, ClosesWrong, OpensTooDeep, RefusesForm}

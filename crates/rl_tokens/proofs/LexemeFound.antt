@@ -9,7 +9,8 @@ use Rattle.rl_tokens.specs.Lexemes.{is_base_letter, delimiters, marks, begins_ha
 use Rattle.rl_tokens.proofs.Comments.{chosen, chosen3, same_Some}
 use Rattle.rl_tokens.proofs.Pieces.{is_equal}
 use Rattle.rl_tokens.specs.Puncts.{is_punct}
-use Rattle.rl_tokens.specs.Mirrors.LexemeAt.{after_suffix, after_quote, hashes, after_raw, after_apostrophe, after_single, after_lexed_fraction, after_lexed_exponent, after_decimal, HeadClass, LetterBHead, LetterCHead, LetterRHead, OtherLetterHead, QuoteHead, ApostropheHead, DigitHead, SlashHead, StrayHead, start_class, other_class, head_class, quoted_at, raw_at, single_at, word_at, by_class, lexeme_at, literal_at, DelimiterHead, MarkHead, after_digit, is_hash, after_run, begins_hashed_quote, begins_exponent, after_sign, begins_otherwise}
+use Rattle.rl_tokens.specs.Mirrors.LexemeAt.{after_suffix, after_quote, hashes, after_raw, after_apostrophe, after_single, after_lexed_fraction, after_lexed_exponent, after_decimal, HeadClass, LetterBHead, LetterCHead, LetterRHead, OtherLetterHead, QuoteHead, ApostropheHead, DigitHead, SlashHead, StrayHead, start_class, other_class, head_class, quoted_at, raw_at, single_at, word_at, by_class, lexeme_at, literal_at, DelimiterHead, MarkHead, after_digit, begins_hashed_quote, begins_exponent, after_sign, begins_otherwise}
+use Rattle.rl_tokens.specs.Classes.{is_hash, after_run}
 use Rattle.rl_tokens.proofs.LexemeRows.{both_true, hashes_inside, power_text}
 use Rattle.rl_tokens.proofs.LexemeOpeners.{opens_found, sign_found, underscores_found, passes_split, no_exponent_begins, none_otherwise}
 use Rattle.rl_tokens.proofs.LexemeFronts.{decimal_text, raw_text}

@@ -6,7 +6,8 @@ use Rattle.std.proofs.lemmas.Bool.{and_from, or_left, or_right}
 use Rattle.rl_tokens.specs.Texts.{is_underscore, first_passes, begins, is_row_part}
 use Rattle.rl_tokens.specs.Lexemes.{is_start, BeginsHashedQuote, LiteralPrefix, NoPrefix, BytePrefix, CPrefix, prefix_text, BeginsRaw, begins_prefixed_quote, begins_raw_identifier, BeginsOtherwise, LexedSign, NoLexedSign, LexedPlus, LexedMinus, lexed_sign_text, LexedExponent, NoLexedExponent, LexedPower, lexed_exponent_text, IsLexedExponent, BeginsLexedExponent}
 use Rattle.rl_tokens.specs.Lexing.{begins_lifetime, BeginsQuote}
-use Rattle.rl_tokens.specs.Mirrors.LexemeAt.{is_hash, hashes, after_run, begins_hashed_quote, begins_raw_behind, begins_raw, begins_quote, begins_otherwise, after_sign, begins_exponent, after_lexed_exponent}
+use Rattle.rl_tokens.specs.Mirrors.LexemeAt.{hashes, begins_hashed_quote, begins_raw_behind, begins_raw, begins_quote, begins_otherwise, after_sign, begins_exponent, after_lexed_exponent}
+use Rattle.rl_tokens.specs.Classes.{is_hash, after_run}
 use Rattle.rl_tokens.proofs.Comments.{false_unless}
 use Rattle.rl_tokens.proofs.Pieces.{is_equal}
 use Rattle.rl_tokens.proofs.LexemeRows.{both_true, not_true, hashes_past, underscores_past, digits_past, sign_past, power_text}

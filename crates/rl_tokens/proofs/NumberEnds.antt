@@ -5,7 +5,8 @@ use Rattle.rl_tokens.proofs.Comments.{false_unless}
 use Rattle.std.specs.Char.{is_ascii, is_ascii_digit}
 use Rattle.rl_tokens.specs.Texts.{is_underscore, first_passes, is_row_part}
 use Rattle.rl_tokens.specs.Lexemes.{LiteralForm, is_base_letter, is_start, is_continue}
-use Rattle.rl_tokens.specs.Mirrors.LexemeAt.{DigitHead, QuoteHead, literal_at, quoted_at, after_digit, after_suffix, after_lexed_exponent, after_lexed_fraction, after_decimal, lexeme_at, after_run, after_sign}
+use Rattle.rl_tokens.specs.Mirrors.LexemeAt.{DigitHead, QuoteHead, literal_at, quoted_at, after_digit, after_suffix, after_lexed_exponent, after_lexed_fraction, after_decimal, lexeme_at, after_sign}
+use Rattle.rl_tokens.specs.Classes.{after_run}
 use Rattle.rl_tokens.proofs.LexemeRows.{neither_true, not_among}
 use Rattle.rl_tokens.proofs.LexemeFronts.{at_class, class34, class_digit, start_ascii}
 

@@ -7,7 +7,7 @@ use Rattle.rl_tokens.specs.Trivia.{is_plain_line, is_plain_block, inside_text, T
 use Rattle.rl_tokens.specs.Skipping.{IsOpenLine, BeginsTrivia, Skipped, OneRest}
 use Rattle.rl_tokens.specs.Mirrors.SkippedAt.{after_block, after_line, after_comment, after_piece}
 use Rattle.rl_tokens.proofs.Comments.{chosen, same_Some, false_unless, Closes, after_block-sound, after_block-past, OneLine, after_line-past, after_line-open, plain_line-same, plain_block-same}
-use Rattle.rl_tokens.specs.Mirrors.LexemeAt.{after_run}
+use Rattle.rl_tokens.specs.Classes.{after_run}
 
 -- What after_line gives: the text after the first LF, or nothing.
 abbrev LineEnds : List ℕ → List ℕ → Type 0

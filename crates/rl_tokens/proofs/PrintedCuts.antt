@@ -8,14 +8,13 @@ use Rattle.std.specs.Char.{is_ascii_digit}
 use Rattle.std.proofs.lemmas.Option.{none-some}
 use Rattle.std.proofs.lemmas.Str.{encode_ascii}
 use Rattle.unicode_ident.specs.Ident.{is_xid_start}
-use Rattle.rl_tokens.specs.Texts.{is_white, is_among}
+use Rattle.rl_tokens.specs.Texts.{is_white, is_among, byte_len}
 use Rattle.rl_tokens.specs.Trivia.{White, Line, Block, IsTrivia}
 use Rattle.rl_tokens.specs.Skipping.{BeginsTrivia}
 use Rattle.rl_tokens.specs.Lexemes.{delimiters, marks, Lexeme, IdentifierLexeme, MarkLexeme, lexeme_text, IsLexeme, LiteralForm, form_of}
 use Rattle.rl_tokens.specs.Mirrors.LexemeAt.{DelimiterHead, MarkHead, SlashHead, DigitHead, QuoteHead, ApostropheHead, StrayHead, head_class, lexeme_at}
 use Rattle.rl_tokens.specs.Trees.{Tree, PunctTree, LiteralTree, flat, flat_trees}
 use Rattle.rl_tokens.specs.Lexing.{LexedToken, LexesUpTo, OpenGroup, behind_form, open_groups, flat_form, flat_token, Lexes}
-use Rattle.rl_tokens.specs.Texts.{byte_len}
 use Rattle.rl_tokens.specs.Printed.{Item, WordItem, LiteralItem, MinusItem, item_text, Entry, printed_text, token_at}
 use Rattle.rl_tokens.specs.PrintedTrees.{item_trees, printed_trees}
 use Rattle.rl_tokens.proofs.Comments.{false_unless}

@@ -2,7 +2,8 @@
 use Rattle.std.proofs.Common.{◌≡◌, ◌≢◌, ℕ, suc, zero, ◌+◌, ◌-◌, ◌<◌, Bool, true, false, ◌==◌, cond, List, ◌∷◌, Some, None, drop, sym, ◌∙◌, ap, arith}
 use Rattle.std.proofs.lemmas.Bool.Decides.{nat_tests}
 use Rattle.rl_tokens.specs.Lexemes.{begins_hashes}
-use Rattle.rl_tokens.specs.Mirrors.LexemeAt.{hashes, after_apostrophe, is_hash, after_run}
+use Rattle.rl_tokens.specs.Mirrors.LexemeAt.{hashes, after_apostrophe}
+use Rattle.rl_tokens.specs.Classes.{is_hash, after_run}
 
 pub row_step : (test : ℕ → Bool) (s t : List ℕ) (c : ℕ) → s ≡ c ∷ t → test c ≡ true → after_run test t ≡ after_run test s
 row_step test s t c e is = sym (ap (after_run test) e ∙ ap (λ b. cond b (after_run test t) (c ∷ t)) is)

@@ -11,7 +11,8 @@ use Rattle.rl_tokens.specs.Trivia.{Inside, inside_text, IsInside, is_plain_line,
 use Rattle.rl_tokens.specs.Skipping.{Skipped}
 use Rattle.rl_tokens.specs.Scanning.{is_one_of, is_other}
 use Rattle.rl_tokens.specs.Lexemes.{lexeme_text, IsRow, LexemeBefore, LexemeForm, is_start, is_continue, begins_raw_identifier}
-use Rattle.rl_tokens.specs.Mirrors.LexemeAt.{after_run, begins_quote, FormBefore}
+use Rattle.rl_tokens.specs.Mirrors.LexemeAt.{begins_quote, FormBefore}
+use Rattle.rl_tokens.specs.Classes.{after_run}
 use Rattle.rl_tokens.specs.Mirrors.SkippedAt.{after_block}
 use Rattle.rl_tokens.specs.Mirrors.SourceAt.{after_doc, after_name, after_marked, after_any_name, unless_quoted, after_lifetime, of_kind, other_at, opens, stray_at, or_stray, any_at}
 use Rattle.rl_tokens.specs.Sources.{is_in_line, is_apostrophe, SourceLexeme, PlainToken, RawIdentifierToken, LifetimeToken, RawLifetimeToken, DocLineToken, DocBlockToken, StrayToken, source_text, IsName, IsProper, BeginsProper, Opens, IsSource, SourceKind, PlainKind, RawIdentifierKind, LifetimeKind, DocCommentKind, StrayKind, kind_of, source_view, SourceBefore, BeginsNoSource, IsScriptLine}

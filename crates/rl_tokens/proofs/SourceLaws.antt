@@ -9,7 +9,8 @@ use Rattle.rl_tokens.specs.Texts.{first_passes, is_white, byte_len}
 use Rattle.rl_tokens.specs.Trivia.{inside_text}
 use Rattle.rl_tokens.specs.Lexemes.{Lexeme, lexeme_text, IsLexeme, IsRow, LexemeForm, form_of, is_start, is_continue}
 use Rattle.rl_tokens.specs.Lexing.{LexedToken, end_of, LexesUpTo}
-use Rattle.rl_tokens.specs.Mirrors.LexemeAt.{after_run, after_apostrophe, after_suffix, after_single, is_hash, literal_at, raw_at, word_at, LetterRHead, ApostropheHead, SlashHead, lexeme_at}
+use Rattle.rl_tokens.specs.Mirrors.LexemeAt.{after_apostrophe, after_suffix, after_single, literal_at, raw_at, word_at, LetterRHead, ApostropheHead, SlashHead, lexeme_at}
+use Rattle.rl_tokens.specs.Classes.{after_run, is_hash}
 use Rattle.rl_tokens.specs.Mirrors.SourceAt.{other_at}
 use Rattle.rl_tokens.specs.Sources.{is_in_line, is_apostrophe, SourceLexeme, PlainToken, RawIdentifierToken, LifetimeToken, RawLifetimeToken, DocLineToken, DocBlockToken, StrayToken, source_text, IsProper, IsSource, SourceKind, PlainKind, kind_of, BeginsNoSource, without_mark, IsScriptLine, IsWithoutLine, CutSource, source_end, SourcesUpTo, told, OneCutting, plain_cut, HoldsLexemes}
 use Rattle.rl_tokens.proofs.Comments.{same_Some}

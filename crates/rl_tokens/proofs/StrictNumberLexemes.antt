@@ -19,7 +19,8 @@ use Rattle.rl_tokens.proofs.LexemeFronts.{start_ascii, digit_not_start, decimal_
 use Rattle.rl_tokens.proofs.LexemeGaps.{and_false, and_more, continue_ascii}
 use Rattle.rl_tokens.proofs.PrintedCuts.{LexedBefore}
 use Rattle.rl_tokens.proofs.LiteralEnds.{EndsLiteral, Clear, clear_continue, clear_part, clear_dot, clear_base, clear_exponent, clear_code, ends_fails, front_fails, suffix_starts, suffix_continues, strict_suffix_lexed}
-use Rattle.rl_tokens.specs.Mirrors.LexemeAt.{begins_exponent, after_sign, after_run}
+use Rattle.rl_tokens.specs.Mirrors.LexemeAt.{begins_exponent, after_sign}
+use Rattle.rl_tokens.specs.Classes.{after_run}
 
 -- Decimals. What the parts of one are, apart from the text that follows.
 abbrev is_dot_or_start : ℕ → Bool

@@ -7,10 +7,9 @@ use Rattle.rl_tokens.specs.declared.kind.Kind.{Kind}
 use Rattle.rl_tokens.specs.declared.kind.Kind.TheVariants.{Str, ByteStr, CStr, Byte, Char, Int, Float, Bool as BoolKind}
 use Rattle.rl_tokens.specs.Reading.{Reads, quoted_contents}
 use Rattle.rl_tokens.specs.Strict.{Strict, strict_quoted_contents}
-use Rattle.rl_tokens.specs.Written.{written_text}
+use Rattle.rl_tokens.specs.Written.{written_text, IsWrittenForm}
 use Rattle.rl_tokens.specs.CStrings.{has_no_zero}
 use Rattle.rl_tokens.specs.Agreeing.{IsQuotedValue, AreBytesOf}
-use Rattle.rl_tokens.specs.Written.{IsWrittenForm}
 use Rattle.rl_tokens.proofs.WrittenLaws.{written_reads, written_strict}
 
 -- a value's written text has that form

@@ -10,6 +10,7 @@ pub mod Errors
 pub mod Trivia
 pub mod CStrings
 pub mod Lexemes
+pub mod Classes
 pub mod Puncts
 pub mod Trees
 pub mod LexErrors

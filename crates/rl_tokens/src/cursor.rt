@@ -5,9 +5,9 @@ ghost use Rattle.std.specs.Str.{chars};
 ghost use Rattle.rl_tokens.specs.Skipping.{Skipped};
 ghost use Rattle.rl_tokens.specs.Lexing.{BeginsLexeme, BeginsNoLexeme, OpenGroup, FaultAt};
 
-use crate::fault::fault_kind;
 use crate::lex_error::LexError;
 use crate::lexeme::{Form, first_lexeme};
+use crate::no_token::fault_kind;
 use crate::whitespace::skip;
 use std::marker::Model;
 

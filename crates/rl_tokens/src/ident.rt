@@ -60,8 +60,7 @@ pub struct Ident<A: Allocator = Global> {
 impl<A: Allocator> Model for Ident<A> {
     ghost use Rattle.std.specs.Prelude.{string_bytes, IsTrue};
     ghost use Rattle.std.specs.Str.{chars};
-    ghost use Rattle.rl_tokens.specs.Texts.{xid_ok};
-    ghost use Rattle.rl_tokens.specs.Texts.{SpannedText};
+    ghost use Rattle.rl_tokens.specs.Texts.{xid_ok, SpannedText};
 
     ghost Value = { SpannedText };
 

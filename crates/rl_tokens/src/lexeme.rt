@@ -2,8 +2,8 @@
 #![tactic(auto, using(crate::proofs::BehindLemmas::behind_step))]
 
 mod number;
-mod quoted;
-mod rows;
+mod quotes;
+mod suffix;
 
 ghost use Rattle.std.specs.Prelude.{◌≡◌, ◌<◌, ◌&&◌, ◌==◌, List, ℕ, length, slice_index, drop, cond, option_map, IfSome, IfNone, IsFalse, IsTrue};
 ghost use Rattle.std.specs.Char.{is_ascii, is_ascii_digit};
@@ -14,13 +14,12 @@ ghost use Rattle.rl_tokens.specs.Cursors.{form_view};
 ghost use Rattle.rl_tokens.specs.Mirrors.LexemeAt.{start_class, is_met_late, other_class, head_class, by_class, begins_hashed_quote, quoted_at, raw_at, single_at, literal_at, word_at, after_digit, lexeme_at, FormBefore, LetterBHead, LetterCHead, LetterRHead, SlashHead};
 
 use crate::characters::is_start;
-use crate::front::{begins_with, without_first};
+use crate::classes::{CharClass, skip_class};
 use crate::punct::Punct;
-use crate::text::{split_ascii, split_char};
+use crate::text::{begins_with, split_ascii, split_char, without_first};
 use number::{after_decimal, after_digits, ends_number};
-pub(crate) use quoted::begins_hashed_quote;
-use quoted::{after_character, after_quoted, after_raw_literal};
-pub(crate) use rows::{RunClass, after_row};
+pub(crate) use quotes::begins_hashed_quote;
+use quotes::{after_character, after_quoted, after_raw_literal};
 
 /// What a token is to a parser: what [`Tokens`](crate::Tokens) cuts off, told by its first
 /// characters. Whether a literal reads isn't judged.
@@ -190,7 +189,7 @@ fn identifier(text: &str) -> Option<(Form, &str)>
         ≡ word_at (chars text.now) }
     ensures behind { IfSome result (λ p. IsTail text.now p.1.now) }
 {
-    Some((Form::Identifier, after_row(RunClass::Continue, text)))
+    Some((Form::Identifier, skip_class(CharClass::Continue, text)))
 }
 
 /// A quoted literal, after its opening quote.

@@ -6,15 +6,15 @@ ghost use Rattle.std.specs.Str.{chars};
 ghost use Rattle.rl_tokens.specs.Texts.{IsTail};
 ghost use Rattle.rl_tokens.specs.Lexemes.{is_continue};
 ghost use Rattle.rl_tokens.specs.Sources.{is_in_line, source_view, SourceBefore, BeginsNoSource, IsWithoutLine, IsWithoutFront, without_mark};
-ghost use Rattle.rl_tokens.specs.Mirrors.LexemeAt.{after_run};
+ghost use Rattle.rl_tokens.specs.Classes.{after_run};
 ghost use Rattle.rl_tokens.specs.Mirrors.SourceAt.{after_doc, after_name, after_marked, after_any_name, after_lifetime, other_at, stray_at, any_at};
 
 use crate::characters::is_start;
-use crate::fault::{begins_raw_identifier, opens};
-use crate::front::{begins_with, strip_byte, without_first};
-use crate::lexeme::{Form, RunClass, after_row, first_lexeme};
+use crate::classes::{CharClass, skip_class};
+use crate::lexeme::{Form, first_lexeme};
+use crate::no_token::{begins_raw_identifier, opens};
 use crate::scan::{Marks, split_before};
-use crate::text::split_char;
+use crate::text::{begins_with, split_char, strip_byte, without_first};
 use crate::whitespace::{after_block, is_plain_block, is_plain_line, skip};
 
 /// What a token of a source is: what [`Sources`](crate::Sources) cuts off.
@@ -126,7 +126,7 @@ fn after_name(text: &str) -> Option<&str>
     ensures behind { IfSome result (λ rest. IsTail text.now rest.now) }
 {
     match split_char(text) {
-        Some((c, behind)) if is_start(c) => Some(after_row(RunClass::Continue, behind)),
+        Some((c, behind)) if is_start(c) => Some(skip_class(CharClass::Continue, behind)),
         _ => None,
     }
 }

@@ -4,8 +4,8 @@ ghost use Rattle.std.specs.Prelude.{◌≡◌, ◌<◌, ◌+◌, ◌⊎◌, ℕ,
 ghost use Rattle.std.specs.Str.{chars};
 ghost use Rattle.rl_tokens.specs.Sources.{SourceKind, SourceBefore, BeginsNoSource, SourceErrorAt};
 
-use crate::fault::source_error_kind;
 use crate::lex_error::LexError;
+use crate::no_token::source_error_kind;
 use crate::source::{SourceForm, first_source, without_front};
 use crate::whitespace::skip;
 use std::marker::Model;

@@ -7,10 +7,9 @@ ghost use Rattle.rl_tokens.specs.Trivia.{is_plain_line, is_plain_block};
 ghost use Rattle.rl_tokens.specs.Skipping.{Skipped, OneRest};
 ghost use Rattle.rl_tokens.specs.Mirrors.SkippedAt.{after_line, after_block, after_comment};
 
-use crate::front::{begins_with, strip_byte};
-use crate::lexeme::{RunClass, after_row};
+use crate::classes::{CharClass, skip_class};
 use crate::scan::{Marks, len_before, next_mark};
-use crate::text::split_ascii;
+use crate::text::{begins_with, split_ascii, strip_byte};
 
 /// The rest of the text after its leading white space and plain comments, as a slice of the text.
 ///
@@ -33,7 +32,7 @@ pub fn skip(text: &str) -> &str
     ensures only { OneRest }
     ensures again { Skipped (chars result.now) (chars result.now) }
 {
-    let rest = after_row(RunClass::White, text);
+    let rest = skip_class(CharClass::White, text);
     match strip_byte(rest, b'/') {
         Some(_) => skip_comments(rest),
         None => rest,
@@ -52,7 +51,7 @@ fn skip_comments(text: &str) -> &str
         let Some(behind) = after_comment(inside) else {
             return rest;
         };
-        rest = after_row(RunClass::White, behind);
+        rest = skip_class(CharClass::White, behind);
     }
     rest
 }

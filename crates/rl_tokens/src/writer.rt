@@ -3,9 +3,8 @@
 ghost use Rattle.std.specs.Prelude.{◌≡◌, ◌⊎◌, ◌<◌, ◌/◌, ◌%◌, ◌++◌, ◌∷◌, [], IsTrue, OnOk, IfOk, IfErr, MatchResult, string_bytes, encode_utf8_all};
 ghost use Rattle.std.specs.Str.{chars};
 ghost use Rattle.rl_tokens.specs.Quoted.{holds_characters, opener, unit_text};
-ghost use Rattle.rl_tokens.specs.Written.{closer, upper_digit, is_written_as_number, written_unit};
+ghost use Rattle.rl_tokens.specs.Written.{closer, upper_digit, is_written_as_number, written_unit, IsWrittenForm};
 ghost use Rattle.rl_tokens.specs.Agreeing.{AreBytesOf};
-ghost use Rattle.rl_tokens.specs.Written.{IsWrittenForm};
 ghost use Rattle.rl_tokens.specs.Errors.{memory_at, nowhere};
 
 use crate::c_string::CString;

@@ -3,18 +3,15 @@ use Rattle.std.specs.Prelude.{◌≡◌, IsTrue, ℕ, ◌+◌, ◌*◌, ◌==◌
 use Rattle.std.specs.Char.{digit_value, is_ascii_digit}
 use Rattle.std.specs.List.{list_any}
 use Prim.Native.Char.{code}
+use Rattle.rl_tokens.specs.Classes.{after_run}
 use Rattle.rl_tokens.specs.Texts.{first_passes, is_underscore, xid_ok, is_row_part}
 use Rattle.rl_tokens.specs.Quoted.{place_value, without_underscores}
 use Rattle.rl_tokens.specs.Numbers.{Sign, NoSign, Minus, limit, is_exponent_letter}
 
--- the characters at the front that pass the test, and what follows them
+-- the characters at the front that pass the test
 unfoldable pub run : (ℕ → Bool) → List ℕ → List ℕ
 run test [] = []
 run test (c ∷ cs) = if test c then (c ∷ run test cs) else []
-
-unfoldable pub after_run : (ℕ → Bool) → List ℕ → List ℕ
-after_run test [] = []
-after_run test (c ∷ cs) = if test c then after_run test cs else (c ∷ cs)
 
 abbrev pub has_value : ℕ → ℕ → Bool
 has_value radix c = nat_lt (digit_value c) radix

@@ -3,8 +3,8 @@ use Rattle.std.specs.Prelude.{ℕ, ◌==◌, List, [], ◌∷◌, Option, Some, 
 use Prim.Native.Char.{code}
 use Rattle.rl_tokens.specs.declared.kind.Kind.{Kind}
 use Rattle.rl_tokens.specs.declared.kind.Kind.TheVariants.{Str, ByteStr, CStr, Byte, Char}
-use Rattle.rl_grammar.specs.declared.quoted.QuotedForm.{QuotedForm}
-use Rattle.rl_grammar.specs.declared.quoted.QuotedForm.TheVariants.{Cooked as CookedForm, Raw as RawForm, Single as SingleForm}
+use Rattle.rl_grammar.specs.declared.quoted_forms.QuotedForm.{QuotedForm}
+use Rattle.rl_grammar.specs.declared.quoted_forms.QuotedForm.TheVariants.{Cooked as CookedForm, Raw as RawForm, Single as SingleForm}
 
 abbrev pub FoundOpener : Type 0
 FoundOpener = Option (QuotedForm × Kind × List ℕ)
@@ -32,8 +32,3 @@ opener_at (c ∷ cs) =
     else (if c == code "b" then byte_opener_at cs
     else (if c == code "c" then string_opener_at CStr cs
     else string_opener_at Str (c ∷ cs)))
-
--- what is left after the hashes at the front
-unfoldable pub after_hashes : List ℕ → List ℕ
-after_hashes [] = []
-after_hashes (c ∷ cs) = if c == code "#" then after_hashes cs else (c ∷ cs)

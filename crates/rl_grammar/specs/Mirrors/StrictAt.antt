@@ -8,7 +8,8 @@ use Rattle.rl_tokens.specs.declared.kind.Kind.TheVariants.{Str, ByteStr, CStr}
 use Rattle.rl_tokens.specs.Texts.{first_passes, begins, is_underscore}
 use Rattle.rl_tokens.specs.Quoted.{is_string}
 use Rattle.rl_tokens.specs.Strict.{Itself, is_strict_unit, is_dropped_blank}
-use Rattle.rl_grammar.specs.Mirrors.NumberAt.{after_run, has_digit_at, after_digits, after_power_sign, radix_at}
+use Rattle.rl_grammar.specs.Mirrors.NumberAt.{has_digit_at, after_digits, after_power_sign, radix_at}
+use Rattle.rl_tokens.specs.Classes.{after_run}
 use Rattle.rl_grammar.specs.Mirrors.UnitAt.{unit_at}
 use Rattle.rl_tokens.specs.Numbers.{is_exponent_letter}
 use Rattle.rl_tokens.specs.Lexemes.{is_start, is_continue}

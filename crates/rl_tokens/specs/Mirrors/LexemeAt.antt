@@ -9,16 +9,7 @@ use Rattle.rl_tokens.specs.Texts.{is_underscore, is_white, is_among, first_passe
 use Rattle.rl_tokens.specs.Lexemes.{is_base_letter, delimiters, begins_hashes, begins_dot, LexemeForm, LiteralForm, IdentifierForm, DelimiterForm, MarkForm, form_of, Lexeme, lexeme_text, IsLexeme, is_start, is_continue}
 use Rattle.rl_tokens.specs.Lexing.{begins_lifetime}
 use Rattle.rl_tokens.specs.Puncts.{is_punct}
-use Rattle.rl_tokens.specs.declared.lexeme.rows.RunClass.{RunClass}
-use Rattle.rl_tokens.specs.declared.lexeme.rows.RunClass.TheVariants.{Continue, Numeral, Underscores, White}
-
-abbrev pub is_hash : ℕ → Bool
-is_hash c = c == code "#"
-
--- what follows the longest row of such characters
-abbrev pub after_run : (ℕ → Bool) → List ℕ → List ℕ
-after_run test [] = []
-after_run test (c ∷ t) = cond (test c) (after_run test t) (c ∷ t)
+use Rattle.rl_tokens.specs.Classes.{after_run, is_hash}
 
 -- hashes, perhaps none, and a quote
 abbrev pub begins_hashed_quote : List ℕ → Bool
@@ -67,13 +58,6 @@ begins_exponent [] = false
 begins_exponent (c ∷ t) =
     (c == code "e" || c == code "E")
     && first_passes is_ascii_digit (after_run is_underscore (after_sign t))
-
--- the test of a row
-abbrev pub run_test : RunClass → ℕ → Bool
-run_test Continue = is_continue
-run_test Numeral = is_row_part is_ascii_digit
-run_test Underscores = is_underscore
-run_test White = is_white
 
 abbrev pub after_suffix : List ℕ → List ℕ
 after_suffix [] = []

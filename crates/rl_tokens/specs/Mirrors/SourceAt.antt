@@ -9,7 +9,8 @@ use Rattle.rl_tokens.specs.declared.lex_error.LexKind.{LexKind}
 use Rattle.rl_tokens.specs.declared.lex_error.LexKind.TheVariants.{UnclosedComment, UnclosedQuote}
 use Rattle.rl_tokens.specs.Trivia.{is_plain_line, is_plain_block}
 use Rattle.rl_tokens.specs.Lexemes.{is_start, is_continue, begins_raw_identifier}
-use Rattle.rl_tokens.specs.Mirrors.LexemeAt.{after_run, begins_quote}
+use Rattle.rl_tokens.specs.Mirrors.LexemeAt.{begins_quote}
+use Rattle.rl_tokens.specs.Classes.{after_run}
 use Rattle.rl_tokens.specs.Mirrors.SkippedAt.{after_block}
 use Rattle.rl_tokens.specs.Sources.{is_in_line, is_apostrophe, SourceKind, RawIdentifierKind, LifetimeKind, DocCommentKind, StrayKind}
 

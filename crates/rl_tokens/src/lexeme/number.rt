@@ -6,12 +6,13 @@ ghost use Rattle.std.specs.Char.{is_ascii_digit};
 ghost use Rattle.std.specs.Str.{chars};
 ghost use Rattle.rl_tokens.specs.Texts.{first_passes, IsTail};
 ghost use Rattle.rl_tokens.specs.Lexemes.{begins_dot, is_start};
-ghost use Rattle.rl_tokens.specs.Mirrors.LexemeAt.{after_lexed_fraction, after_lexed_exponent, after_decimal, after_run, after_sign};
+ghost use Rattle.rl_tokens.specs.Mirrors.LexemeAt.{after_lexed_fraction, after_lexed_exponent, after_decimal, after_sign};
+ghost use Rattle.rl_tokens.specs.Classes.{after_run};
 
-use super::rows::{RunClass, after_row, after_suffix};
+use super::suffix::after_suffix;
 use crate::characters::is_start;
-use crate::front::without_first;
-use crate::text::{split_ascii, split_char};
+use crate::classes::{CharClass, skip_class};
+use crate::text::{split_ascii, split_char, without_first};
 
 /// What follows the decimal after some of whose digits the text stands.
 #[inline(never)]
@@ -19,7 +20,7 @@ pub(crate) fn after_decimal(text: &str) -> &str
     ensures rest { chars result.now ≡ after_decimal (chars text.now) }
     ensures behind { IsTail text.now result.now }
 {
-    after_suffix(after_exponent(after_fraction(after_row(RunClass::Numeral, text))))
+    after_suffix(after_exponent(after_fraction(skip_class(CharClass::Numeral, text))))
 }
 
 /// What follows the longest row of digits, perhaps an empty one.
@@ -69,7 +70,7 @@ fn after_fraction(text: &str) -> &str
     ensures behind { IsTail text.now result.now }
 {
     if begins_dot(text) {
-        after_row(RunClass::Numeral, without_first(text))
+        skip_class(CharClass::Numeral, without_first(text))
     } else {
         text
     }
@@ -95,9 +96,9 @@ fn after_exponent(text: &str) -> &str
 {
     if let Some(('e' | 'E', behind)) = split_char(text) {
         let digits = after_sign(behind);
-        if let Some((d, _)) = split_char(after_row(RunClass::Underscores, digits)) {
+        if let Some((d, _)) = split_char(skip_class(CharClass::Underscore, digits)) {
             if d.is_ascii_digit() {
-                return after_row(RunClass::Numeral, digits);
+                return skip_class(CharClass::Numeral, digits);
             }
         }
     }

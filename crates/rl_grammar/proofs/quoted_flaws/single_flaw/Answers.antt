@@ -1,6 +1,6 @@
 use Rattle.std.proofs.Common.{sym, ap, subst}
 use Rattle.std.specs.Str.{chars}
-use Rattle.rl_grammar.specs.declared.quoted.QuotedForm.TheVariants.{Single as SingleForm}
+use Rattle.rl_grammar.specs.declared.quoted_forms.QuotedForm.TheVariants.{Single as SingleForm}
 use Rattle.rl_grammar.specs.Mirrors.StopsInside.{StopsInside}
 use Rattle.rl_grammar.proofs.QuotedFlawLemmas.{single_unit_place, single_quote_place}
 use Rattle.rl_grammar.proofs.quoted_flaws.single_flaw.Goals as goal

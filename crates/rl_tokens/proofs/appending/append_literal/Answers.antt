@@ -1,6 +1,5 @@
-use Rattle.std.proofs.Common.{arith}
+use Rattle.std.proofs.Common.{arith, ◌++◌, ◌∷◌, [], ◌∙◌, ap}
 use Rattle.std.proofs.lemmas.Grind.{common_steps}
-use Rattle.std.proofs.Common.{◌++◌, ◌∷◌, [], ◌∙◌, ap}
 use Rattle.rl_tokens.specs.Trees.{LiteralTree, stream_view}
 use Rattle.std.proofs.lemmas.Result.{on_ok_weaker}
 use Rattle.rl_tokens.proofs.TreeLemmas.{tree_view-literal}

@@ -1,6 +1,5 @@
-use Rattle.std.proofs.Common.{arith}
+use Rattle.std.proofs.Common.{arith, refl}
 use Rattle.std.proofs.lemmas.Grind.{common_steps}
-use Rattle.std.proofs.Common.{refl}
 use Rattle.rl_tokens.specs.Trees.{tree_view}
 use Rattle.rl_tokens.proofs.TreeLemmas.{stream_view-append}
 use Rattle.rl_tokens.proofs.appending.append_tree.Goals as goal

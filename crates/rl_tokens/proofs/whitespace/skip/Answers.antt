@@ -6,17 +6,17 @@ use Rattle.rl_tokens.proofs.Pieces.{one_rest, run_ends, skipped_again, skipped_n
 use Rattle.rl_tokens.proofs.whitespace.skip.Goals as goal
 
 pub skip_comments-requires : goal.skip_comments-requires
-skip_comments-requires c = run_ends is_white (chars c.args.text.now) _ c.after_row-rest.ensures.rest
+skip_comments-requires c = run_ends is_white (chars c.args.text.now) _ c.skip_class-rest.ensures.rest
 
 pub returns-in-Some : goal.returns-in-Some
 returns-in-Some c =
-    let run = c.after_row-rest.ensures in
+    let run = c.skip_class-rest.ensures in
     let more = c.skip_comments.ensures in
     let skipped = skipped_run (chars c.args.text.now) _ _ run.rest more.skipped in
     record { skipped = skipped; behind = behind_step _ _ _ run.behind more.behind; only = one_rest; again = skipped_again _ _ skipped }
 
 pub returns-in-None : goal.returns-in-None
 returns-in-None c =
-    let run = c.after_row-rest.ensures in
+    let run = c.skip_class-rest.ensures in
     let none = skipped_none _ (run_ends is_white (chars c.args.text.now) _ run.rest) c.in-None.ensures.rest in
     record { skipped = skipped_run (chars c.args.text.now) _ _ run.rest none; behind = run.behind; only = one_rest; again = none }

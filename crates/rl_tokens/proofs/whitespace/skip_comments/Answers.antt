@@ -1,7 +1,6 @@
 -- What is skipped after a comment is skipped after the text.
-use Rattle.std.proofs.Common.{arith}
+use Rattle.std.proofs.Common.{arith, sym}
 use Rattle.std.proofs.lemmas.Grind.{common_steps}
-use Rattle.std.proofs.Common.{sym}
 use Rattle.std.specs.Str.{chars}
 use Rattle.rl_tokens.specs.Texts.{is_white}
 use Rattle.rl_tokens.proofs.BehindLemmas.{behind_step}
@@ -10,7 +9,7 @@ use Rattle.rl_tokens.proofs.whitespace.skip_comments.Goals as goal
 
 pub loop-inside-preserved : goal.loop-inside-preserved
 loop-inside-preserved c =
-    let run = c.after_row-rest.ensures in
+    let run = c.skip_class-rest.ensures in
     let behind = c.in-Some-after_comment.behind.now in
     record {
       behind = behind_step _ _ _ (behind_step _ _ _ (behind_step _ _ _ c.loop-inside.invariant.behind c.in-Some.ensures.behind) c.in-Some-after_comment.ensures.behind) run.behind;

@@ -1,6 +1,5 @@
-use Rattle.std.proofs.Common.{arith}
+use Rattle.std.proofs.Common.{arith, ◌∙◌, sym, ap, string_bytes, rules, ◌≡◌, ◌++◌}
 use Rattle.std.proofs.lemmas.Grind.{common_steps}
-use Rattle.std.proofs.Common.{◌∙◌, sym, ap, string_bytes, rules, ◌≡◌, ◌++◌}
 use Rattle.std.specs.Str.{chars}
 use Rattle.std.specs.Prelude.{encode_utf8}
 use Rattle.std.proofs.lemmas.Str.{IsUtf8-string_bytes}

@@ -7,9 +7,9 @@ returns-then-is_ascii_digit-clause-behind c =
     let t = c.args.text.now in
     let signed = c.in-Some-e-default.behind.now in
     let digits = c.after_sign-digits.result.now in
-    behind_step t digits c.after_row-then-is_ascii_digit.result.now
+    behind_step t digits c.skip_class-then-is_ascii_digit.result.now
     (behind_step t signed digits c.in-Some-e-default.ensures.behind c.after_sign-digits.ensures.behind)
-    c.after_row-then-is_ascii_digit.ensures.behind
+    c.skip_class-then-is_ascii_digit.ensures.behind
 
 pub returns-in_default-split_char-clause-behind : goal.returns-in_default-split_char-clause-behind
 returns-in_default-split_char-clause-behind c = behind_self c.args.text.now c.utf8.text

@@ -1,0 +1,257 @@
+//! Whether a text is a quoted literal, and where the parts of one stand.
+
+ghost use Rattle.std.specs.Prelude.{◌≡◌, ◌≢◌, ◌==◌, ◌∷◌, ◌++◌, ℕ, List, None, option_map, IfSome, IfNone, IsTrue, ◌≤◌, length, not};
+ghost use Rattle.std.specs.List.{list_all};
+ghost use Rattle.std.specs.Str.{chars};
+ghost use Rattle.rl_tokens.specs.Texts.{IsTail};
+ghost use Rattle.rl_tokens.specs.Quoted.{is_string, is_single, is_raw};
+ghost use Rattle.rl_grammar.specs.Mirrors.UnitAt.{unit_at};
+ghost use Rattle.rl_grammar.specs.Bodies.{IsInside};
+ghost use Rattle.rl_grammar.specs.Founds.{IsFound};
+ghost use Rattle.rl_grammar.specs.Rows.{BeginsRow};
+ghost use Rattle.rl_grammar.specs.Forms.{has_form, form_opener, HasNoParts};
+ghost use Rattle.rl_grammar.specs.Mirrors.OpenerAt.{string_opener_at, byte_opener_at, opener_at};
+ghost use Rattle.rl_grammar.specs.Shapes.{HasNoQuoted};
+ghost use Rattle.rl_tokens.specs.Classes.{after_run, is_hash};
+
+use crate::found::{Body, Found};
+use crate::runs::{before, is_ascii, split_plain};
+use crate::units::unit;
+use rl_tokens::Kind;
+use rl_tokens::classes::{CharClass, skip_class};
+use rl_tokens::text::split_char;
+
+/// The forms of quoted literals: with escapes between `"`, as the text stands, and one unit between `'`.
+#[derive(Clone, Copy)]
+pub(crate) enum QuotedForm {
+    Cooked,
+    Raw,
+    Single,
+}
+
+/// What is read of a quoted literal after its opener.
+#[derive(Clone, Copy)]
+pub(crate) struct Inside<'t> {
+    /// The text from the body on.
+    opened: &'t str,
+    body: &'t str,
+    suffix: &'t str,
+    /// Whether the body stands for itself.
+    plain: bool,
+}
+
+/// What a `"` or an `r` at the front tells of a string of the kind.
+fn split_string_opener(kind: Kind, text: &str) -> Option<(QuotedForm, Kind, &str)>
+    ensures { option_map (λ p. (p.0, p.1, chars p.2.now)) result
+        ≡ string_opener_at kind (chars text.now) }
+{
+    let (first, rest) = split_char(text)?;
+    match first {
+        '"' => Some((QuotedForm::Cooked, kind, rest)),
+        'r' => Some((QuotedForm::Raw, kind, rest)),
+        _ => None,
+    }
+}
+
+/// What the text after a `b` tells.
+fn split_byte_opener(text: &str) -> Option<(QuotedForm, Kind, &str)>
+    ensures { option_map (λ p. (p.0, p.1, chars p.2.now)) result ≡ byte_opener_at (chars text.now) }
+{
+    match split_char(text) {
+        Some(('\'', rest)) => Some((QuotedForm::Single, Kind::Byte, rest)),
+        _ => split_string_opener(Kind::ByteStr, text),
+    }
+}
+
+/// What a text's opener tells: the one form and the one kind that the text can have, and the text after the opener.
+#[inline(always)]
+#[tactic(auto, unfolding(crate::specs::Mirrors::OpenerAt::opener_at))]
+pub(crate) fn split_opener(text: &str) -> Option<(QuotedForm, Kind, &str)>
+    ensures { option_map (λ p. (p.0, p.1, chars p.2.now)) result ≡ opener_at (chars text.now) }
+{
+    let (first, rest) = split_char(text)?;
+    match first {
+        '\'' => Some((QuotedForm::Single, Kind::Char, rest)),
+        'b' => split_byte_opener(rest),
+        'c' => split_string_opener(Kind::CStr, rest),
+        _ => split_string_opener(Kind::Str, text),
+    }
+}
+
+/// The text after the units at its front, as far as they go.
+#[inline(never)]
+pub(crate) fn skip_units(kind: Kind, text: &str) -> &str
+    requires { IsTrue (is_string kind) }
+    ensures row { (v : List ℕ) × BeginsRow kind (chars text.now) v (chars result.now) }
+    ensures stuck { unit_at kind (chars result.now) ≡ None }
+{
+    let mut rest = text;
+    while let Some((_, after)) = unit(kind, rest) {
+        let (_, behind) = split_plain(kind, after);
+        rest = behind;
+    }
+    rest
+}
+
+/// The text after the hashes at its front.
+pub(crate) fn skip_hashes(text: &str) -> &str
+    ensures { chars result.now ≡ after_run is_hash (chars text.now) }
+{
+    skip_class(CharClass::Hash, text)
+}
+
+/// The text in front of the last quote, and the text after it.
+pub(crate) fn split_last_quote(text: &str) -> Option<(&str, &str)>
+    ensures some { IfSome result (λ p. (chars text.now ≡ chars p.0.now ++ (34 ∷ chars p.1.now))
+        × IsTrue (list_all (λ c. not (c == 34)) (chars p.1.now))) }
+    ensures none { IfNone result (IsTrue (list_all (λ c. not (c == 34)) (chars text.now))) }
+{
+    text.rsplit_once('"')
+}
+
+/// The text after a prefix.
+#[tactic(auto, using(crate::proofs::CutLemmas::strip_prefix_some, crate::proofs::CutLemmas::strip_prefix_none))]
+pub(crate) fn behind_prefix<'t>(prefix: &str, text: &'t str) -> Option<&'t str>
+    ensures some { IfSome result (λ rest. chars text.now ≡ chars prefix.now ++ chars rest.now) }
+    ensures none { IfNone result ((x : List ℕ) → chars text.now ≢ chars prefix.now ++ x) }
+{
+    text.strip_prefix(prefix)
+}
+
+/// Whether the text holds a NUL.
+#[tactic(auto, using(crate::proofs::CutLemmas::contains_chars))]
+pub(crate) fn has_nul(text: &str) -> bool
+    ensures { not result ≡ list_all (λ c. not (c == 0)) (chars text.now) }
+{
+    text.contains('\0')
+}
+
+/// The text in front of a rest that begins with the quote, and the text after that quote.
+fn cut_at_quote<'t>(quote: char, text: &'t str, rest: &'t str) -> Option<(&'t str, &'t str)>
+    requires { IsTail text.now rest.now }
+    ensures cut { IfSome result (λ p. text.now ≡ p.0.now ++ rest.now) }
+    ensures before { IfSome result (λ p. chars text.now ≡ chars p.0.now ++ chars rest.now) }
+    ensures quote { IfSome result (λ p. chars rest.now ≡ quote ∷ chars p.1.now) }
+    ensures none { IfNone result ((x : List ℕ) → chars rest.now ≢ quote ∷ x) }
+{
+    let (next, after) = split_char(rest)?;
+    if next == quote {
+        Some((before(text, rest), after))
+    } else {
+        None
+    }
+}
+
+/// A cooked string, from the text after its opener.
+#[inline(always)]
+fn cooked_inside(kind: Kind, text: &str) -> Option<Inside<'_>>
+    requires { IsTrue (is_string kind) }
+    ensures some { IfSome result (IsInside QuotedForm.Cooked kind text.now) }
+    ensures none { IfNone result
+        (HasNoParts QuotedForm.Cooked kind (form_opener QuotedForm.Cooked kind ++ chars text.now)) }
+{
+    let (_, behind) = split_plain(kind, text);
+    if let Some((body, suffix)) = cut_at_quote('"', text, behind) {
+        return Some(Inside {
+            opened: text,
+            body,
+            suffix,
+            plain: true,
+        });
+    }
+    let (body, suffix) = cut_at_quote('"', text, skip_units(kind, behind))?;
+    Some(Inside {
+        opened: text,
+        body,
+        suffix,
+        plain: false,
+    })
+}
+
+/// A raw string, from its hashes on.
+#[inline(never)]
+fn raw_inside(kind: Kind, text: &str) -> Option<Inside<'_>>
+    requires { IsTrue (is_string kind) }
+    ensures some { IfSome result (IsInside QuotedForm.Raw kind text.now) }
+    ensures none { IfNone result
+        (HasNoParts QuotedForm.Raw kind (form_opener QuotedForm.Raw kind ++ chars text.now)) }
+{
+    let (hashes, opened) = cut_at_quote('"', text, skip_hashes(text))?;
+    let (body, after) = split_last_quote(opened)?;
+    let suffix = behind_prefix(hashes, after)?;
+    if holds_all(kind, body) {
+        Some(Inside {
+            opened,
+            body,
+            suffix,
+            plain: true,
+        })
+    } else {
+        None
+    }
+}
+
+/// Whether the raw form of the kind takes each character of the text.
+fn holds_all(kind: Kind, text: &str) -> bool
+    ensures { result ≡ list_all (is_raw kind) (chars text.now) }
+{
+    match kind {
+        Kind::ByteStr => is_ascii(text),
+        Kind::CStr => !has_nul(text),
+        _ => true,
+    }
+}
+
+/// A character or a byte, from the text after its opener.
+#[inline(never)]
+fn single_inside(kind: Kind, text: &str) -> Option<Inside<'_>>
+    requires { IsTrue (is_single kind) }
+    ensures some { IfSome result (IsInside QuotedForm.Single kind text.now) }
+    ensures none { IfNone result
+        (HasNoParts QuotedForm.Single kind (form_opener QuotedForm.Single kind ++ chars text.now)) }
+{
+    let (_, rest) = unit(kind, text)?;
+    let (body, suffix) = cut_at_quote('\'', text, rest)?;
+    Some(Inside {
+        opened: text,
+        body,
+        suffix,
+        plain: false,
+    })
+}
+
+/// A literal of the form, from the text after its opener.
+#[inline(always)]
+fn read_inside(form: QuotedForm, kind: Kind, text: &str) -> Option<Inside<'_>>
+    requires { IsTrue (has_form form kind) }
+    ensures some { IfSome result (IsInside form kind text.now) }
+    ensures none { IfNone result (HasNoParts form kind (form_opener form kind ++ chars text.now)) }
+{
+    match form {
+        QuotedForm::Cooked => cooked_inside(kind, text),
+        QuotedForm::Raw => raw_inside(kind, text),
+        QuotedForm::Single => single_inside(kind, text),
+    }
+}
+
+/// What reading the text as a quoted literal finds.
+pub(crate) fn find_quoted(text: &str) -> Option<Found>
+    ensures none { IfNone result (HasNoQuoted (chars text.now)) }
+    ensures found { IfSome result (IsFound text.now) }
+{
+    let (form, kind, inside) = split_opener(text)?;
+    let read = read_inside(form, kind, inside)?;
+    let lo = text.len() - read.opened.len();
+    let body = Body {
+        lo,
+        hi: lo + read.body.len(),
+        suffix_at: text.len() - read.suffix.len(),
+        plain: read.plain,
+    };
+    Some(Found {
+        kind,
+        body,
+        magnitude: 0,
+        truth: false,
+    })
+}

@@ -1,0 +1,14 @@
+use Rattle.std.proofs.Common.{◌≡◌, length}
+use Rattle.std.specs.Str.{chars}
+use Rattle.rl_tokens.specs.Classes.{class_test, after_run}
+use Rattle.rl_tokens.specs.Texts.{IsTail}
+use Rattle.rl_tokens.proofs.classes.skip_class.Given as goal
+
+abbrev pub invariant-loop-byte : goal.invariant-loop-byte
+invariant-loop-byte l = record {
+  behind : IsTail l.text l.rest;
+  same : after_run (class_test l.class) (chars l.rest) ≡ after_run (class_test l.class) (chars l.text);
+}
+
+abbrev pub decreases-loop-byte : goal.decreases-loop-byte
+decreases-loop-byte l = length l.rest

@@ -1,0 +1,14 @@
+use Rattle.std.proofs.Common.{◌≡◌, length}
+use Rattle.std.specs.Str.{chars}
+use Rattle.rl_tokens.specs.Classes.{class_test, after_run}
+use Rattle.rl_tokens.specs.Texts.{IsTail}
+use Rattle.rl_tokens.proofs.classes.skip_wide_class.Given as goal
+
+abbrev pub invariant-loop-c : goal.invariant-loop-c
+invariant-loop-c l = record {
+  behind : IsTail l.text l.rest;
+  same : after_run (class_test l.class) (chars l.rest) ≡ after_run (class_test l.class) (chars l.text);
+}
+
+abbrev pub decreases-loop-c : goal.decreases-loop-c
+decreases-loop-c l = length l.rest

@@ -1,9 +1,0 @@
-use Rattle.std.proofs.Common.{arith}
-use Rattle.std.proofs.lemmas.Grind.{common_steps}
-use Rattle.rl_tokens.proofs.fault.begins_doc_comment.Goals as goal
-
-pub returns-then-not-begins-2 : goal.returns-then-not-begins-2
-returns-then-not-begins-2 c = grind (arith, common_steps)
-
-pub returns-else-not-begins-2 : goal.returns-else-not-begins-2
-returns-else-not-begins-2 c = grind (arith, common_steps)

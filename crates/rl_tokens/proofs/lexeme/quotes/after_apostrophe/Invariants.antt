@@ -1,0 +1,14 @@
+use Rattle.std.proofs.Common.{◌≡◌, length}
+use Rattle.std.specs.Str.{chars}
+use Rattle.rl_tokens.specs.Mirrors.LexemeAt.{after_apostrophe}
+use Rattle.rl_tokens.specs.Texts.{IsTail}
+use Rattle.rl_tokens.proofs.lexeme.quotes.after_apostrophe.Given as goal
+
+abbrev pub invariant-loop-c : goal.invariant-loop-c
+invariant-loop-c l = record {
+  behind : IsTail l.text l.rest;
+  same : after_apostrophe (chars l.rest) ≡ after_apostrophe (chars l.text);
+}
+
+abbrev pub decreases-loop-c : goal.decreases-loop-c
+decreases-loop-c l = length l.rest

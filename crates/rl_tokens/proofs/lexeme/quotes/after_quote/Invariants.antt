@@ -1,0 +1,14 @@
+use Rattle.std.proofs.Common.{◌≡◌, length}
+use Rattle.std.specs.Str.{chars}
+use Rattle.rl_tokens.specs.Mirrors.LexemeAt.{after_quote}
+use Rattle.rl_tokens.specs.Texts.{IsTail}
+use Rattle.rl_tokens.proofs.lexeme.quotes.after_quote.Given as goal
+
+abbrev pub invariant-loop-mark : goal.invariant-loop-mark
+invariant-loop-mark l = record {
+  behind : IsTail l.text l.rest;
+  same : after_quote (chars l.rest) ≡ after_quote (chars l.text);
+}
+
+abbrev pub decreases-loop-mark : goal.decreases-loop-mark
+decreases-loop-mark l = length l.rest

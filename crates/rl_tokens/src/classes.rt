@@ -1,0 +1,81 @@
+//! Classes of characters, and the runs of one class at the front of a text.
+#![tactic(auto, using(crate::proofs::BehindLemmas::behind_step))]
+
+ghost use Rattle.std.specs.Prelude.{◌≡◌, ◌≤◌, length};
+ghost use Rattle.std.specs.Str.{chars};
+ghost use Rattle.rl_tokens.specs.Texts.{IsTail};
+ghost use Rattle.rl_tokens.specs.Classes.{after_run, class_test};
+
+use crate::characters::{is_continue, is_white};
+use crate::text::{split_ascii, split_char};
+
+/// A class of characters.
+#[derive(Clone, Copy)]
+pub enum CharClass {
+    /// What goes on with an identifier.
+    Continue,
+    /// Digits and underscores.
+    Numeral,
+    /// Underscores.
+    Underscore,
+    /// White space between tokens.
+    White,
+    /// Hashes of a raw form.
+    Hash,
+    /// What an escaped line end takes with it.
+    Blank,
+    /// The same in strict texts, where no CR stands.
+    StrictBlank,
+}
+
+/// Whether the character is of the class.
+#[inline(always)]
+fn is_of(class: CharClass, c: char) -> bool
+    ensures { result ≡ class_test class c }
+{
+    match class {
+        CharClass::Continue => is_continue(c),
+        CharClass::Numeral => c.is_ascii_digit() || c == '_',
+        CharClass::Underscore => c == '_',
+        CharClass::White => is_white(c),
+        CharClass::Hash => c == '#',
+        CharClass::Blank => matches!(c, ' ' | '\t' | '\n' | '\r'),
+        CharClass::StrictBlank => matches!(c, ' ' | '\t' | '\n'),
+    }
+}
+
+/// The text after the characters of the class at its front, perhaps none.
+///
+/// It is inlined for the class that its caller names, and goes by bytes up to the first character past ASCII.
+#[inline(always)]
+pub fn skip_class(class: CharClass, text: &str) -> &str
+    ensures rest { chars result.now ≡ after_run (class_test class) (chars text.now) }
+    ensures behind { IsTail text.now result.now }
+    ensures shorter { length result.now ≤ length text.now }
+{
+    let mut rest = text;
+    while let Some((byte, behind)) = split_ascii(rest) {
+        if !is_of(class, byte as char) {
+            return rest;
+        }
+        rest = behind;
+    }
+    skip_wide_class(class, rest)
+}
+
+/// The same, character by character.
+#[inline(never)]
+fn skip_wide_class(class: CharClass, text: &str) -> &str
+    ensures rest { chars result.now ≡ after_run (class_test class) (chars text.now) }
+    ensures behind { IsTail text.now result.now }
+    ensures shorter { length result.now ≤ length text.now }
+{
+    let mut rest = text;
+    while let Some((c, behind)) = split_char(rest) {
+        if !is_of(class, c) {
+            break;
+        }
+        rest = behind;
+    }
+    rest
+}

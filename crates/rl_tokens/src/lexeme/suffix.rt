@@ -1,0 +1,34 @@
+//! Suffixes of literals.
+
+ghost use Rattle.std.specs.Prelude.{◌≡◌};
+ghost use Rattle.std.specs.Str.{chars};
+ghost use Rattle.rl_tokens.specs.Texts.{IsTail};
+ghost use Rattle.rl_tokens.specs.Mirrors.LexemeAt.{after_suffix};
+
+use crate::characters::is_start;
+use crate::classes::{CharClass, skip_class};
+use crate::text::{split_ascii, split_char};
+
+/// What follows the suffix of a literal, perhaps an empty one.
+#[inline(always)]
+pub(crate) fn after_suffix(text: &str) -> &str
+    ensures rest { chars result.now ≡ after_suffix (chars text.now) }
+    ensures behind { IsTail text.now result.now }
+{
+    match split_ascii(text) {
+        Some((byte, _)) if !is_start(byte as char) => text,
+        _ => after_some_suffix(text),
+    }
+}
+
+/// The same, where one may stand.
+#[inline(never)]
+fn after_some_suffix(text: &str) -> &str
+    ensures rest { chars result.now ≡ after_suffix (chars text.now) }
+    ensures behind { IsTail text.now result.now }
+{
+    match split_char(text) {
+        Some((c, behind)) if is_start(c) => skip_class(CharClass::Continue, behind),
+        _ => text,
+    }
+}
