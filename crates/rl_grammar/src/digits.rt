@@ -12,8 +12,8 @@ ghost use Rattle.rl_grammar.specs.Founds.{IsFoundNumber};
 ghost use Rattle.rl_grammar.specs.NumberShapes.{AreDigits, IsNumber};
 ghost use Rattle.rl_grammar.specs.Mirrors.PlainAt.{is_plain_digits, is_plain_float, is_plain_integer};
 
-use crate::found::{Found, find_float, found_in};
 use crate::digit_rows::{after_minus, is_negative};
+use crate::found::{Found, find_float, found_in};
 use rl_tokens::scan::{Marks, next_mark};
 use rl_tokens::text::split_char;
 use rl_tokens::{Error, Kind};

@@ -13,10 +13,10 @@ ghost use Rattle.rl_grammar.specs.NumberShapes.{HasNoNumber, HasOneFloat, HasOne
 ghost use Rattle.rl_grammar.specs.StrictBytes.{KeepsBytesStrict};
 ghost use Rattle.rl_grammar.specs.WholeShapes.{IsSplit, is_number_front, IsPlain};
 
+use crate::digit_rows::is_negative;
 use crate::digits::{is_plain_float, is_plain_integer};
 use crate::number_forms::{Number, float_suffix, read_integer, read_number};
 use crate::quoted_forms::find_quoted;
-use crate::digit_rows::is_negative;
 use crate::runs::before;
 use rl_tokens::Kind;
 

@@ -2,6 +2,7 @@
 #![tactic(auto)]
 
 mod contents;
+mod digit_rows;
 mod digits;
 mod flaws;
 mod found;
@@ -9,9 +10,8 @@ mod front;
 mod into;
 pub mod laws;
 mod number_forms;
-mod quoted_forms;
 mod quoted_flaws;
-mod digit_rows;
+mod quoted_forms;
 mod runs;
 pub mod strict;
 mod unit_flaws;

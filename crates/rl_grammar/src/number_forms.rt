@@ -11,10 +11,10 @@ ghost use Rattle.rl_grammar.specs.NumberShapes.{HasOneInteger, HasOneFloat, HasN
 ghost use Rattle.rl_tokens.specs.Numbers.{FloatReads};
 ghost use Rattle.rl_grammar.specs.NumbersRead.{IsNumberOf};
 
-use crate::found::{Parts, find_float, find_int, find_unsigned};
 use crate::digit_rows::{
     DigitRow, after_minus, begins_digit, is_exponent_suffix, is_suffix, read_row, skip_row,
 };
+use crate::found::{Parts, find_float, find_int, find_unsigned};
 use rl_tokens::classes::{CharClass, skip_class};
 use rl_tokens::text::split_char;
 

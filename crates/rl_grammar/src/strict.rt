@@ -13,8 +13,8 @@ pub(crate) mod quoted_tokens;
 
 use crate::found::truth_of;
 use crate::quoted_forms::{QuotedForm, split_opener};
-use crate::strict::numbers::is_number;
-use crate::strict::quoted::{closes_one, closes_raw, closes_string};
+use crate::strict::number_tokens::is_number;
+use crate::strict::quoted_tokens::{closes_one, closes_raw, closes_string};
 use rl_tokens::Kind;
 use rl_tokens::characters::{is_continue, is_start};
 use rl_tokens::text::split_char;

@@ -7,8 +7,8 @@ ghost use Rattle.rl_grammar.specs.Mirrors.NumberAt.{after_power_sign};
 ghost use Rattle.rl_grammar.specs.Mirrors.StrictAt.{ends_digits, ends_dot, ends_power, ends_whole, is_based, is_decimal, is_strict_number};
 ghost use Rattle.rl_tokens.specs.Numbers.{is_exponent_letter};
 
-use crate::number_forms::split_radix;
 use crate::digit_rows::{begins_digit, read_row, skip_row};
+use crate::number_forms::split_radix;
 use crate::strict::is_number_suffix;
 use rl_tokens::text::split_char;
 

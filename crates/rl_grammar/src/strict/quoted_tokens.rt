@@ -14,8 +14,8 @@ use crate::runs::{before, split_ascii_run, split_plain};
 use crate::strict::is_suffix;
 use crate::units::{is_bare_character, is_plain, unit};
 use rl_tokens::Kind;
-use rl_tokens::scan::{Marks, split_before};
 use rl_tokens::classes::{CharClass, skip_class};
+use rl_tokens::scan::{Marks, split_before};
 use rl_tokens::text::split_char;
 
 /// Whether the kind takes the character as it is. But for characters this is what the lenient grammar says.
