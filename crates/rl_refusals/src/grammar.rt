@@ -1,6 +1,6 @@
 //! Calls of `rl_grammar` and the free calls above it.
 
-use crate::page::Page;
+use rl_refusing::Page;
 use crate::trial::{Scarce, Trial, UNFIT};
 use rl_grammar::{Kind, bytes_of, digits_of, shape, str_of};
 use rust_literals::read_all;

@@ -1,7 +1,7 @@
 //! Calls that are lent a value: a literal, or a token.
 
 use crate::inside;
-use crate::page::Page;
+use rl_refusing::Page;
 use crate::trial::{HERE, Scarce, Trial, UNFIT};
 use rl_grammar::shape;
 use rl_quoted::{Quoted, QuotedKind};

@@ -1,6 +1,6 @@
 //! Texts that are cut or long, given to five calls: `Lit::new`, `skip`, `lex`, `read_all` and `is_token`.
 
-use crate::page::Page;
+use rl_refusing::Page;
 use crate::tell::{Tell, tell_places};
 use rl_grammar::strict;
 use rl_lines::line_of;

@@ -3,7 +3,7 @@
 ghost use Rattle.std.specs.Prelude.{⊤};
 
 use crate::held::NO_CALL;
-use crate::page::Page;
+use rl_refusing::Page;
 use crate::trial::{Scarce, Trial};
 use rl_tokens::{Error, Literal, ParseBuffer, Parser};
 use rust_literals::{Lit, LitStr};

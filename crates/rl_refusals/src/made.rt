@@ -1,6 +1,6 @@
 //! Calls that make a literal of a value or a token.
 
-use crate::page::Page;
+use rl_refusing::Page;
 use crate::tokens::c_string_of;
 use crate::trial::{HERE, Scarce, Trial, UNFIT};
 use rust_literals::{

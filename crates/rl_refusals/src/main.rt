@@ -10,14 +10,13 @@ mod held;
 mod hostile;
 mod inside;
 mod made;
-mod page;
 mod rows;
 mod sources;
 mod tell;
 mod tokens;
 mod trial;
 
-use crate::page::Page;
+use rl_refusing::Page;
 use crate::rows::Row;
 use std::alloc::{AllocError, Global};
 use std::io;

@@ -1,7 +1,7 @@
 //! Calls whose requests for memory are refused: whose call it is, the call's name, and a text, with a space between.
 
 use crate::held::NO_CALL;
-use crate::page::Page;
+use rl_refusing::Page;
 use crate::tokens::parsed;
 use crate::trial::{Scarce, Trial};
 use crate::{grammar, held, made, sources, tokens};

@@ -1,6 +1,6 @@
 //! Whole sources, scanned while memory is refused.
 
-use crate::page::Page;
+use rl_refusing::Page;
 use crate::tell::Tell;
 use crate::trial::{Scarce, Trial};
 use rl_program::Fault;

@@ -1,7 +1,7 @@
 //! Calls of `rl_tokens`.
 
 use crate::held;
-use crate::page::Page;
+use rl_refusing::Page;
 use crate::tell::{Rest, Tell};
 use crate::trial::{HERE, Scarce, Trial, UNFIT};
 use rl_tokens::{CString, Ident, Literal, Parse, ParseBuffer, TokenTree, ident, lex};

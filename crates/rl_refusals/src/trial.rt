@@ -1,6 +1,6 @@
 //! One run of a call while memory is refused.
 
-use crate::page::Page;
+use rl_refusing::Page;
 use crate::tell::Tell;
 use rl_refusing::Refusing;
 use rl_tokens::{Error, Literal, Span, TokenStream, lex};

@@ -1,7 +1,13 @@
 //! An allocator that refuses chosen requests for memory, counts all of them, and counts the blocks that are out. For
 //! development: showing what a call does where memory is refused. No clause can tell what a cell holds, so what the counts
 //! say is shown by the runs that rest on them; that each block is a true one, and goes back as it came, is proved.
+//!
+//! Beside it, a text that is put together piece by piece, for what programs of rows print.
 #![tactic(auto)]
+
+mod page;
+
+pub use crate::page::Page;
 
 use std::alloc::{AllocError, Allocator};
 use std::cell::Cell;

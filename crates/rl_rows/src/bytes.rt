@@ -1,86 +1,84 @@
 //! Calls that take bytes: literals of them, and their values again.
 
 use crate::tell::{
-    At, HERE, debug_line, debug_word, show, show_word, tell_answer, tell_written, word,
+    HERE, at_word, debug_line, debug_word, show, show_word, tell_answer, tell_written, word,
 };
+use rl_refusing::Page;
 use rl_tokens::{CString, Literal, NulError};
 use rust_literals::{Lit, LitByte, LitByteStr, LitCStr};
-use std::alloc::{AllocError, Global};
+use std::alloc::Global;
 
 /// Prints what a call of this name answers; false where there is none.
-pub(crate) fn told(
-    alloc: Global,
-    name: &str,
-    bytes: &[u8],
-    out: &mut String,
-) -> Result<bool, AllocError> {
+pub(crate) fn told(alloc: Global, name: &str, bytes: &[u8], out: &mut Page) -> bool {
     match name {
-        "bytes" => each_byte(alloc, bytes, out)?,
-        "byte_string" => byte_string(alloc, bytes, out)?,
-        "c_string" => c_string(alloc, bytes, out)?,
-        _ => return Ok(false),
+        "bytes" => each_byte(alloc, bytes, out),
+        "byte_string" => byte_string(alloc, bytes, out),
+        "c_string" => c_string(alloc, bytes, out),
+        _ => return false,
     }
-    Ok(true)
+    true
 }
 
 /// Each byte as a literal, and its value again.
-fn each_byte(alloc: Global, bytes: &[u8], out: &mut String) -> Result<(), AllocError> {
+fn each_byte(alloc: Global, bytes: &[u8], out: &mut Page) {
     for byte in bytes {
-        one_byte(alloc, *byte, out)?;
-        tell_written(Literal::byte_character(alloc, *byte), out)?;
+        one_byte(alloc, *byte, out);
+        tell_written(Literal::byte_character(alloc, *byte), out);
     }
-    Ok(())
 }
 
 /// A byte as a literal, and its value again.
-fn one_byte(alloc: Global, byte: u8, out: &mut String) -> Result<(), AllocError> {
+fn one_byte(alloc: Global, byte: u8, out: &mut Page) {
     let Ok(literal) = LitByte::new(alloc, byte, HERE) else {
-        return Err(AllocError);
+        return out.fail();
     };
-    show(&literal.value(), out)?;
-    word(literal.suffix(), out)?;
-    show_word(&At(literal.span()), out)
+    show(&literal.value(), out);
+    word(literal.suffix(), out);
+    at_word(literal.span(), out)
 }
 
 /// The bytes as a byte string literal, and its value again.
-fn byte_string(alloc: Global, bytes: &[u8], out: &mut String) -> Result<(), AllocError> {
-    tell_written(Literal::byte_string(alloc, bytes), out)?;
+fn byte_string(alloc: Global, bytes: &[u8], out: &mut Page) {
+    tell_written(Literal::byte_string(alloc, bytes), out);
     let Ok(literal) = LitByteStr::new(alloc, bytes, HERE) else {
-        return Err(AllocError);
+        return out.fail();
     };
     let Ok(value) = literal.value(alloc) else {
-        return Err(AllocError);
+        return out.fail();
     };
-    debug_word(&value.as_slice(), out)?;
+    debug_word(&value.as_slice(), out);
     tell_answer(alloc, Ok(Lit::ByteStr(literal)), out)
 }
 
 /// The bytes as a C string, and it as a literal, and its value again.
-fn c_string(alloc: Global, bytes: &[u8], out: &mut String) -> Result<(), AllocError> {
-    match CString::new(bytes.to_vec(alloc)?) {
+fn c_string(alloc: Global, bytes: &[u8], out: &mut Page) {
+    let Ok(bytes) = bytes.to_vec(alloc) else {
+        return out.fail();
+    };
+    match CString::new(bytes) {
         Ok(held) => held_c_string(alloc, &held, out),
         Err(refused) => refused_c_string(refused, out),
     }
 }
 
 /// Where the zero stands, and the bytes.
-fn refused_c_string(refused: NulError, out: &mut String) -> Result<(), AllocError> {
-    out.push_str("zero at ")?;
-    show_word(&refused.nul_position(), out)?;
-    word("of", out)?;
+fn refused_c_string(refused: NulError, out: &mut Page) {
+    out.put("zero at ");
+    show_word(&refused.nul_position(), out);
+    word("of", out);
     debug_line(&refused.into_vec().as_slice(), out)
 }
 
 /// A C string as a literal, and its value again.
-fn held_c_string(alloc: Global, held: &CString, out: &mut String) -> Result<(), AllocError> {
-    debug_word(&held.as_bytes(), out)?;
-    tell_written(Literal::c_string(alloc, held), out)?;
+fn held_c_string(alloc: Global, held: &CString, out: &mut Page) {
+    debug_word(&held.as_bytes(), out);
+    tell_written(Literal::c_string(alloc, held), out);
     let Ok(literal) = LitCStr::new(alloc, held, HERE) else {
-        return Err(AllocError);
+        return out.fail();
     };
     let Ok(value) = literal.value(alloc) else {
-        return Err(AllocError);
+        return out.fail();
     };
-    show_word(&(value == *held), out)?;
+    show_word(&(value == *held), out);
     tell_answer(alloc, Ok(Lit::CStr(literal)), out)
 }

@@ -4,48 +4,38 @@ use crate::{
     bytes, copies, lists, literals, long, messages, numbers, parsers, refused, scans, shapes,
     tokens, trees, uses,
 };
-use std::alloc::{AllocError, Global};
+use rl_refusing::Page;
+use std::alloc::Global;
 
 /// Prints what a call of this name answers to the bytes; of a call that takes a text, that they are none.
-pub(crate) fn tell(
-    alloc: Global,
-    name: &str,
-    bytes: &[u8],
-    out: &mut String,
-) -> Result<(), AllocError> {
-    if bytes::told(alloc, name, bytes, out)? || scans::told(alloc, name, bytes, out)? {
-        return Ok(());
+pub(crate) fn tell(alloc: Global, name: &str, bytes: &[u8], out: &mut Page) {
+    if bytes::told(alloc, name, bytes, out) || scans::told(alloc, name, bytes, out) {
+        return;
     }
     let Ok(text) = std::str::from_utf8(bytes) else {
-        return out.push_str("no text\n");
+        return out.put("no text\n");
     };
-    if of_text(alloc, name, text, out)? || of_trees(alloc, name, text, out)? {
-        Ok(())
-    } else {
-        out.push_str("error: no call\n")
+    if !of_text(alloc, name, text, out) && !of_trees(alloc, name, text, out) {
+        out.put("error: no call\n");
     }
 }
 
 /// Prints what a call of this name answers about one text; false where there is none.
-fn of_text(alloc: Global, name: &str, text: &str, out: &mut String) -> Result<bool, AllocError> {
-    Ok(
-        shapes::told(alloc, name, text, out)?
-            || tokens::told(alloc, name, text, out)?
-            || literals::told(alloc, name, text, out)?
-            || copies::told(alloc, name, text, out)?
-            || numbers::told(alloc, name, text, out)?
-            || long::told(alloc, name, text, out)?
-            || refused::told(alloc, name, text, out)?
-            || messages::told(alloc, name, out)?,
-    )
+fn of_text(alloc: Global, name: &str, text: &str, out: &mut Page) -> bool {
+    shapes::told(alloc, name, text, out)
+        || tokens::told(alloc, name, text, out)
+        || literals::told(alloc, name, text, out)
+        || copies::told(alloc, name, text, out)
+        || numbers::told(alloc, name, text, out)
+        || long::told(alloc, name, text, out)
+        || refused::told(alloc, name, text, out)
+        || messages::told(alloc, name, out)
 }
 
 /// Prints what a call of this name answers about a text with trees in it; false where there is none.
-fn of_trees(alloc: Global, name: &str, text: &str, out: &mut String) -> Result<bool, AllocError> {
-    Ok(
-        trees::told(alloc, name, text, out)?
-            || lists::told(alloc, name, text, out)?
-            || parsers::told(alloc, name, text, out)?
-            || uses::told(alloc, name, text, out)?,
-    )
+fn of_trees(alloc: Global, name: &str, text: &str, out: &mut Page) -> bool {
+    trees::told(alloc, name, text, out)
+        || lists::told(alloc, name, text, out)
+        || parsers::told(alloc, name, text, out)
+        || uses::told(alloc, name, text, out)
 }

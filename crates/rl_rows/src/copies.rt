@@ -1,6 +1,7 @@
 //! Equality and hash of literals.
 
 use crate::tell::{HERE, THERE, line, literal_of, show, show_line, show_word};
+use rl_refusing::Page;
 use rl_tokens::Span;
 use rust_literals::Lit;
 use std::alloc::{AllocError, Global};
@@ -8,18 +9,13 @@ use std::collections::HashMap;
 use std::hash::{DefaultHasher, Hash, Hasher};
 
 /// Prints what a call of this name answers; false where there is none.
-pub(crate) fn told(
-    alloc: Global,
-    name: &str,
-    text: &str,
-    out: &mut String,
-) -> Result<bool, AllocError> {
+pub(crate) fn told(alloc: Global, name: &str, text: &str, out: &mut Page) -> bool {
     match name {
-        "equal" => equal(alloc, text, out)?,
-        "map" => map(alloc, text, out)?,
-        _ => return Ok(false),
+        "equal" => equal(alloc, text, out),
+        "map" => map(alloc, text, out),
+        _ => return false,
     }
-    Ok(true)
+    true
 }
 
 fn hash_of(literal: &Lit) -> u64 {
@@ -29,25 +25,31 @@ fn hash_of(literal: &Lit) -> u64 {
 }
 
 /// Whether two literals, a LF between their texts, are equal, and hash alike, at two spans.
-fn equal(alloc: Global, text: &str, out: &mut String) -> Result<(), AllocError> {
+fn equal(alloc: Global, text: &str, out: &mut Page) {
     let (first, second) = text.split_once('\n').unwrap_or((text, text));
-    let first = literal_of(alloc, first, HERE)?;
-    let second = literal_of(alloc, second, THERE)?;
+    let Ok(first) = literal_of(alloc, first, HERE) else {
+        return out.fail();
+    };
+    let Ok(second) = literal_of(alloc, second, THERE) else {
+        return out.fail();
+    };
     tell_equal(&first, &second, out)
 }
 
 /// Whether two literals are equal, and hash alike.
-fn tell_equal(first: &Lit, second: &Lit, out: &mut String) -> Result<(), AllocError> {
-    show_word(&(*first == *second), out)?;
+fn tell_equal(first: &Lit, second: &Lit, out: &mut Page) {
+    show_word(&(*first == *second), out);
     show_line(&(hash_of(first) == hash_of(second)), out)
 }
 
 /// Puts the literals of the text, which LF part, into a map, and tells of each which one stood there before.
-fn map(alloc: Global, text: &str, out: &mut String) -> Result<(), AllocError> {
+fn map(alloc: Global, text: &str, out: &mut Page) {
     let mut map = HashMap::new(alloc);
     for (at, text) in text.split('\n').enumerate() {
-        let before = put(alloc, at, text, &mut map)?;
-        tell_before(at, before, out)?;
+        match put(alloc, at, text, &mut map) {
+            Ok(before) => tell_before(at, before, out),
+            Err(_) => out.fail(),
+        }
     }
     show_line(&map.len(), out)
 }
@@ -64,11 +66,11 @@ fn put(
 }
 
 /// Prints which one stood there before.
-fn tell_before(at: usize, before: Option<usize>, out: &mut String) -> Result<(), AllocError> {
-    show(&at, out)?;
+fn tell_before(at: usize, before: Option<usize>, out: &mut Page) {
+    show(&at, out);
     match before {
         Some(before) => {
-            out.push_str(" as ")?;
+            out.put(" as ");
             show_line(&before, out)
         }
         None => line(" new", out),

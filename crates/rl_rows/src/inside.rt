@@ -1,12 +1,13 @@
 //! Parsing inside strings.
 
-use crate::tell::{At, THERE, line, show_line, show_word, tell_error};
+use crate::tell::{THERE, at_line, at_word, line, show_word, tell_error};
+use rl_refusing::Page;
 use rl_tokens::{Error, Group, ParseBuffer, Parser, Span};
 use rust_literals::{Lit, LitInt, LitStr};
-use std::alloc::{AllocError, Allocator, Global};
+use std::alloc::{Allocator, Global};
 
 /// The integer inside a string, or why there is none.
-pub(crate) fn inside(alloc: Global, literal: &Lit, out: &mut String) -> Result<(), AllocError> {
+pub(crate) fn inside(alloc: Global, literal: &Lit, out: &mut Page) {
     match literal {
         Lit::Str(string) => integer_inside(alloc, string, out),
         _ => line("no string", out),
@@ -14,11 +15,11 @@ pub(crate) fn inside(alloc: Global, literal: &Lit, out: &mut String) -> Result<(
 }
 
 /// The integer inside a string literal.
-fn integer_inside(alloc: Global, string: &LitStr, out: &mut String) -> Result<(), AllocError> {
+fn integer_inside(alloc: Global, string: &LitStr, out: &mut Page) {
     match string.parse::<LitInt, Global>(alloc) {
         Ok(integer) => {
-            show_word(&integer, out)?;
-            show_line(&At(integer.span()), out)
+            show_word(&integer, out);
+            at_line(integer.span(), out)
         }
         Err(error) => tell_error(&error, out),
     }
@@ -74,7 +75,7 @@ fn spans_of<A: Allocator>(group: &Group<A>) -> Result<Spans, Error<A>> {
 }
 
 /// The spans of the trees inside a string, by a user's own parser.
-pub(crate) fn group(alloc: Global, literal: &Lit, out: &mut String) -> Result<(), AllocError> {
+pub(crate) fn group(alloc: Global, literal: &Lit, out: &mut Page) {
     match literal {
         Lit::Str(string) => group_inside(alloc, string, out),
         _ => line("no string", out),
@@ -82,7 +83,7 @@ pub(crate) fn group(alloc: Global, literal: &Lit, out: &mut String) -> Result<()
 }
 
 /// The spans of the trees inside a string literal.
-fn group_inside(alloc: Global, string: &LitStr, out: &mut String) -> Result<(), AllocError> {
+fn group_inside(alloc: Global, string: &LitStr, out: &mut Page) {
     match string.parse_with(alloc, SpansOfGroup) {
         Ok(spans) => tell_spans(&spans, out),
         Err(error) => tell_error(&error, out),
@@ -90,10 +91,10 @@ fn group_inside(alloc: Global, string: &LitStr, out: &mut String) -> Result<(), 
 }
 
 /// Prints the four spans.
-fn tell_spans(spans: &Spans, out: &mut String) -> Result<(), AllocError> {
-    show_word(&At(spans.outer), out)?;
-    show_word(&At(spans.first), out)?;
-    show_word(&At(spans.inner), out)?;
-    show_word(&At(spans.last), out)?;
-    out.push_str("\n")
+fn tell_spans(spans: &Spans, out: &mut Page) {
+    at_word(spans.outer, out);
+    at_word(spans.first, out);
+    at_word(spans.inner, out);
+    at_word(spans.last, out);
+    out.put("\n")
 }

@@ -2,103 +2,97 @@
 
 use crate::inside::{group, inside};
 use crate::tell::{
-    At, HERE, THERE, debug_line, debug_word, line, literal_of, show_line, show_word, tell,
-    tell_answer, tell_error, tell_trees, word,
+    HERE, THERE, at_line, at_word, debug_line, debug_word, line, literal_of, show_line, show_word,
+    tell, tell_answer, tell_error, tell_trees, word,
 };
 use crate::uses::anew;
+use rl_refusing::Page;
 use rl_tokens::{Error, Ident, ParseBuffer, ToTokens, TokenStream};
 use rust_literals::{Lit, LitBool};
-use std::alloc::{AllocError, Global};
+use std::alloc::Global;
 
 /// Prints what a call of this name answers about the literal that the text is; false where there is none.
-pub(crate) fn told(
-    alloc: Global,
-    name: &str,
-    text: &str,
-    out: &mut String,
-) -> Result<bool, AllocError> {
-    let mut literal = literal_of(alloc, text, HERE)?;
+pub(crate) fn told(alloc: Global, name: &str, text: &str, out: &mut Page) -> bool {
+    let Ok(mut literal) = literal_of(alloc, text, HERE) else {
+        out.fail();
+        return true;
+    };
     told_of(alloc, name, &mut literal, out)
 }
 
 /// Prints what a call of this name answers about the literal; false where there is none.
-fn told_of(
-    alloc: Global,
-    name: &str,
-    literal: &mut Lit,
-    out: &mut String,
-) -> Result<bool, AllocError> {
+fn told_of(alloc: Global, name: &str, literal: &mut Lit, out: &mut Page) -> bool {
     match name {
-        "literal" => moved(alloc, literal, out)?,
-        "truth" => truth(alloc, out)?,
-        "shown" => shown(literal, out)?,
-        "lends" => lends(literal, out)?,
-        "inside" => inside(alloc, literal, out)?,
-        "group" => group(alloc, literal, out)?,
-        "anew" => anew(alloc, literal, out)?,
-        _ => return Ok(false),
+        "literal" => moved(alloc, literal, out),
+        "truth" => truth(alloc, out),
+        "shown" => shown(literal, out),
+        "lends" => lends(literal, out),
+        "inside" => inside(alloc, literal, out),
+        "group" => group(alloc, literal, out),
+        "anew" => anew(alloc, literal, out),
+        _ => return false,
     }
-    Ok(true)
+    true
 }
 
 /// The literal, its copy, its trees, what is parsed of them, and its suffix; then it is moved.
-fn moved(alloc: Global, literal: &mut Lit, out: &mut String) -> Result<(), AllocError> {
-    tell(alloc, literal, out)?;
-    push_copy(alloc, literal, out)?;
-    appended(alloc, literal, out)?;
-    debug_word(&literal.suffix(), out)?;
+fn moved(alloc: Global, literal: &mut Lit, out: &mut Page) {
+    tell(alloc, literal, out);
+    push_copy(alloc, literal, out);
+    appended(alloc, literal, out);
+    debug_word(&literal.suffix(), out);
     literal.set_span(THERE);
-    show_line(&At(literal.span()), out)
+    at_line(literal.span(), out)
 }
 
 /// A copy, and whether it is equal.
-fn push_copy(alloc: Global, literal: &Lit, out: &mut String) -> Result<(), AllocError> {
+fn push_copy(alloc: Global, literal: &Lit, out: &mut Page) {
     let Ok(copy) = literal.clone(alloc) else {
-        return Err(AllocError);
+        return out.fail();
     };
-    show_word(&(copy == *literal), out)?;
+    show_word(&(copy == *literal), out);
     tell(alloc, &copy, out)
 }
 
 /// The trees of a literal, and what is parsed of them.
-fn appended(alloc: Global, literal: &Lit, out: &mut String) -> Result<(), AllocError> {
+fn appended(alloc: Global, literal: &Lit, out: &mut Page) {
     let mut stream = TokenStream::new(alloc);
     if literal.to_tokens(alloc, &mut stream).is_err() {
-        return Err(AllocError);
+        return out.fail();
     }
-    tell_trees(stream.trees(), out)?;
+    tell_trees(stream.trees(), out);
     let mut input = ParseBuffer::new(stream.trees(), THERE);
     tell_answer(alloc, input.parse::<Lit>(alloc), out)
 }
 
 /// Both truth values: made, moved, and as a token.
-fn truth(alloc: Global, out: &mut String) -> Result<(), AllocError> {
-    one_truth(alloc, false, out)?;
+fn truth(alloc: Global, out: &mut Page) {
+    one_truth(alloc, false, out);
     one_truth(alloc, true, out)
 }
 
 /// A truth value, in the same way.
-fn one_truth(alloc: Global, value: bool, out: &mut String) -> Result<(), AllocError> {
+fn one_truth(alloc: Global, value: bool, out: &mut Page) {
     let mut literal = LitBool::new(value, HERE);
-    show_word(&literal.value(), out)?;
-    show_word(&At(literal.span()), out)?;
+    show_word(&literal.value(), out);
+    at_word(literal.span(), out);
     literal.set_span(THERE);
     tell_word(literal.token(alloc), out)
 }
 
 /// A truth value's token: its text and span.
-fn tell_word(own: Result<Ident, Error>, out: &mut String) -> Result<(), AllocError> {
+fn tell_word(own: Result<Ident, Error>, out: &mut Page) {
     match own {
         Ok(own) => {
-            word(own.text(), out)?;
-            show_line(&At(own.span()), out)
+            word(own.text(), out);
+            at_line(own.span(), out)
         }
         Err(error) => tell_error(&error, out),
     }
 }
 
 /// The text's number or token as it is displayed.
-fn shown(literal: &Lit, out: &mut String) -> Result<(), AllocError> {
+fn shown(literal: &Lit, out: &mut Page) {
     match literal {
         Lit::Int(literal) => show_line(literal, out),
         Lit::Float(literal) => show_line(literal, out),
@@ -108,7 +102,7 @@ fn shown(literal: &Lit, out: &mut String) -> Result<(), AllocError> {
 }
 
 /// What the literal borrows of what it stands for, as text.
-fn lends(literal: &Lit, out: &mut String) -> Result<(), AllocError> {
+fn lends(literal: &Lit, out: &mut Page) {
     match literal {
         Lit::Str(literal) => tell_lent(literal.value_ref(), out),
         Lit::ByteStr(literal) => tell_lent_bytes(literal.value_ref(), out),
@@ -118,7 +112,7 @@ fn lends(literal: &Lit, out: &mut String) -> Result<(), AllocError> {
 }
 
 /// Prints a text that is borrowed.
-fn tell_lent(lent: Option<&str>, out: &mut String) -> Result<(), AllocError> {
+fn tell_lent(lent: Option<&str>, out: &mut Page) {
     match lent {
         Some(value) => debug_line(&value, out),
         None => line("nothing", out),
@@ -126,7 +120,7 @@ fn tell_lent(lent: Option<&str>, out: &mut String) -> Result<(), AllocError> {
 }
 
 /// Prints bytes that are borrowed.
-fn tell_lent_bytes(lent: Option<&[u8]>, out: &mut String) -> Result<(), AllocError> {
+fn tell_lent_bytes(lent: Option<&[u8]>, out: &mut Page) {
     match lent {
         Some(bytes) => match std::str::from_utf8(bytes) {
             Ok(value) => debug_line(&value, out),

@@ -1,23 +1,25 @@
 //! Long numbers, told in brief.
 
 use crate::tell::{HERE, line, literal_of, show, word};
+use rl_refusing::Page;
 use rust_literals::Lit;
 use std::alloc::{AllocError, Global};
 
 /// Prints the number that a row of pieces spells; false where another call is meant.
-pub(crate) fn told(
-    alloc: Global,
-    name: &str,
-    row: &str,
-    out: &mut String,
-) -> Result<bool, AllocError> {
+pub(crate) fn told(alloc: Global, name: &str, row: &str, out: &mut Page) -> bool {
     if name != "long" {
-        return Ok(false);
+        return false;
     }
-    let text = spelled(alloc, row)?;
-    let literal = literal_of(alloc, text.as_str(), HERE)?;
-    tell_number(&literal, out)?;
-    Ok(true)
+    let Ok(text) = spelled(alloc, row) else {
+        out.fail();
+        return true;
+    };
+    let Ok(literal) = literal_of(alloc, text.as_str(), HERE) else {
+        out.fail();
+        return true;
+    };
+    tell_number(&literal, out);
+    true
 }
 
 /// The text that a row spells: pieces with a space between, each after how often it stands there, as `1*0x 64*F`.
@@ -33,7 +35,7 @@ fn spelled(alloc: Global, row: &str) -> Result<String, AllocError> {
 }
 
 /// Prints a number's digits and its suffix, of any other literal its text.
-fn tell_number(literal: &Lit, out: &mut String) -> Result<(), AllocError> {
+fn tell_number(literal: &Lit, out: &mut Page) {
     match literal {
         Lit::Int(number) => tell_parts("Int", number.base10_digits(), number.suffix(), out),
         Lit::Float(number) => tell_parts("Float", number.base10_digits(), number.suffix(), out),
@@ -41,23 +43,23 @@ fn tell_number(literal: &Lit, out: &mut String) -> Result<(), AllocError> {
     }
 }
 
-fn tell_parts(kind: &str, digits: &str, suffix: &str, out: &mut String) -> Result<(), AllocError> {
-    word(kind, out)?;
-    tell_brief(digits, out)?;
+fn tell_parts(kind: &str, digits: &str, suffix: &str, out: &mut Page) {
+    word(kind, out);
+    tell_brief(digits, out);
     if !suffix.is_empty() {
-        out.push_str(" ")?;
-        tell_brief(suffix, out)?;
+        out.put(" ");
+        tell_brief(suffix, out);
     }
     line("", out)
 }
 
 /// Prints a text of up to forty bytes; of a longer one its first eight, its last eight, and how many they are.
-fn tell_brief(text: &str, out: &mut String) -> Result<(), AllocError> {
+fn tell_brief(text: &str, out: &mut Page) {
     if text.len() <= 40 {
-        return out.push_str(text);
+        return out.put(text);
     }
-    out.push_str(text.get(..8).unwrap_or(""))?;
-    out.push_str("..")?;
-    word(text.get(text.len() - 8..).unwrap_or(""), out)?;
+    out.put(text.get(..8).unwrap_or(""));
+    out.put("..");
+    word(text.get(text.len() - 8..).unwrap_or(""), out);
     show(&text.len(), out)
 }

@@ -1,57 +1,64 @@
 //! The message of every kind of error.
 
 use crate::tell::{HERE, debug, show_line, show_word, tell_error};
+use rl_refusing::Page;
 use rl_tokens::{Error, ErrorKind, LexError, LexKind};
-use std::alloc::{AllocError, Global};
+use std::alloc::Global;
 
 /// Prints what a call of this name answers; false where there is none.
-pub(crate) fn told(alloc: Global, name: &str, out: &mut String) -> Result<bool, AllocError> {
+pub(crate) fn told(alloc: Global, name: &str, out: &mut Page) -> bool {
     match name {
-        "lex_kinds" => lex_kinds(out)?,
-        "kinds" => kinds(alloc, out)?,
-        _ => return Ok(false),
+        "lex_kinds" => lex_kinds(out),
+        "kinds" => kinds(alloc, out),
+        _ => return false,
     }
-    Ok(true)
+    true
 }
 
 /// Every kind of the lexer's errors: as it is printed to programmers, and its message.
-fn lex_kinds(out: &mut String) -> Result<(), AllocError> {
-    tell_fault(LexKind::UnclosedComment, out)?;
-    tell_fault(LexKind::DocComment, out)?;
-    tell_fault(LexKind::UnclosedQuote, out)?;
-    tell_fault(LexKind::UnclosedGroup, out)?;
-    tell_fault(LexKind::UnmatchedClose, out)?;
-    tell_fault(LexKind::Lifetime, out)?;
-    tell_fault(LexKind::RawIdentifier, out)?;
-    tell_fault(LexKind::StrayCharacter, out)?;
-    tell_fault(LexKind::TooDeep, out)?;
+fn lex_kinds(out: &mut Page) {
+    tell_fault(LexKind::UnclosedComment, out);
+    tell_fault(LexKind::DocComment, out);
+    tell_fault(LexKind::UnclosedQuote, out);
+    tell_fault(LexKind::UnclosedGroup, out);
+    tell_fault(LexKind::UnmatchedClose, out);
+    tell_fault(LexKind::Lifetime, out);
+    tell_fault(LexKind::RawIdentifier, out);
+    tell_fault(LexKind::StrayCharacter, out);
+    tell_fault(LexKind::TooDeep, out);
     tell_fault(LexKind::Memory, out)
 }
 
 /// A kind of the lexer's errors: as it is printed to programmers, and its message.
-fn tell_fault(kind: LexKind, out: &mut String) -> Result<(), AllocError> {
-    debug(&LexError { kind, at: 3 }, out)?;
-    out.push_str(": ")?;
+fn tell_fault(kind: LexKind, out: &mut Page) {
+    debug(&LexError { kind, at: 3 }, out);
+    out.put(": ");
     show_line(&kind, out)
 }
 
 /// Every kind of error: as it is printed to programmers, and its message.
-fn kinds(alloc: Global, out: &mut String) -> Result<(), AllocError> {
-    tell_kind(ErrorKind::Expected("a word"), out)?;
-    tell_kind(ErrorKind::EndOfInput("a word"), out)?;
-    tell_kind(ErrorKind::Unexpected, out)?;
-    tell_kind(ErrorKind::Lex(LexKind::Lifetime), out)?;
-    tell_kind(ErrorKind::Suffix(String::from_str(alloc, "u8")?), out)?;
-    tell_kind(ErrorKind::NotInteger, out)?;
-    tell_kind(ErrorKind::TooLarge, out)?;
-    tell_kind(ErrorKind::NotFloat, out)?;
-    tell_kind(ErrorKind::Repeated, out)?;
-    tell_kind(ErrorKind::Number(String::from_str(alloc, "too many")?), out)?;
+fn kinds(alloc: Global, out: &mut Page) {
+    let (Ok(suffix), Ok(number)) = (
+        String::from_str(alloc, "u8"),
+        String::from_str(alloc, "too many"),
+    ) else {
+        return out.fail();
+    };
+    tell_kind(ErrorKind::Expected("a word"), out);
+    tell_kind(ErrorKind::EndOfInput("a word"), out);
+    tell_kind(ErrorKind::Unexpected, out);
+    tell_kind(ErrorKind::Lex(LexKind::Lifetime), out);
+    tell_kind(ErrorKind::Suffix(suffix), out);
+    tell_kind(ErrorKind::NotInteger, out);
+    tell_kind(ErrorKind::TooLarge, out);
+    tell_kind(ErrorKind::NotFloat, out);
+    tell_kind(ErrorKind::Repeated, out);
+    tell_kind(ErrorKind::Number(number), out);
     tell_kind(ErrorKind::Memory, out)
 }
 
 /// A kind of error: as it is displayed, and as it is reported.
-fn tell_kind(kind: ErrorKind, out: &mut String) -> Result<(), AllocError> {
-    show_word(&kind, out)?;
+fn tell_kind(kind: ErrorKind, out: &mut Page) {
+    show_word(&kind, out);
     tell_error(&Error { span: HERE, kind }, out)
 }

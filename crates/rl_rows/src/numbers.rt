@@ -1,70 +1,66 @@
 //! Numbers of one text: what the structs of numbers make of it, and numbers by base ten.
 
 use crate::tell::{
-    At, HERE, THERE, debug_word, line, show, show_line, show_word, tell_answer, tell_error,
-    tell_token, token_of, word,
+    HERE, THERE, at, at_word, debug_word, line, show, show_line, show_word, tell_answer,
+    tell_error, tell_token, token_of, word,
 };
+use rl_refusing::Page;
 use rl_tokens::{Error, ErrorKind, Kept, Literal};
 use rust_literals::{Lit, LitFloat, LitInt};
-use std::alloc::{AllocError, Global};
+use std::alloc::Global;
 use std::fmt::Display;
 use std::str::FromStr;
 
 /// Prints what a call of this name answers; false where there is none.
-pub(crate) fn told(
-    alloc: Global,
-    name: &str,
-    text: &str,
-    out: &mut String,
-) -> Result<bool, AllocError> {
+pub(crate) fn told(alloc: Global, name: &str, text: &str, out: &mut Page) -> bool {
     match name {
-        "integer" => integer(alloc, text, out)?,
-        "real" => float(alloc, text, out)?,
-        "kept" => kept(alloc, text, out)?,
-        "across" => across(alloc, text, out)?,
-        "numbers" => numbers(alloc, text, out)?,
-        "float_byte" => float_byte(alloc, text, out)?,
-        _ => return Ok(false),
+        "integer" => integer(alloc, text, out),
+        "real" => float(alloc, text, out),
+        "kept" => kept(alloc, text, out),
+        "across" => across(alloc, text, out),
+        "numbers" => numbers(alloc, text, out),
+        "float_byte" => float_byte(alloc, text, out),
+        _ => return false,
     }
-    Ok(true)
+    true
 }
 
 /// The text as an integer: its digits, and itself moved, as text and as a token.
-fn integer(alloc: Global, text: &str, out: &mut String) -> Result<(), AllocError> {
+fn integer(alloc: Global, text: &str, out: &mut Page) {
     match LitInt::new(alloc, text, HERE) {
         Ok(mut literal) => moved_integer(alloc, &mut literal, out),
         Err(error) => tell_error(&error, out),
     }
 }
 
-fn moved_integer(alloc: Global, literal: &mut LitInt, out: &mut String) -> Result<(), AllocError> {
-    word(literal.base10_digits(), out)?;
-    debug_word(&literal.suffix(), out)?;
-    show_word(&At(literal.span()), out)?;
-    show_word(literal, out)?;
+fn moved_integer(alloc: Global, literal: &mut LitInt, out: &mut Page) {
+    word(literal.base10_digits(), out);
+    debug_word(&literal.suffix(), out);
+    at_word(literal.span(), out);
+    show_word(literal, out);
     literal.set_span(THERE);
     tell_own_token(literal.token(alloc), out)
 }
 
 /// The text as a float, in the same way.
-fn float(alloc: Global, text: &str, out: &mut String) -> Result<(), AllocError> {
+fn float(alloc: Global, text: &str, out: &mut Page) {
     match LitFloat::new(alloc, text, HERE) {
         Ok(mut literal) => moved_float(alloc, &mut literal, out),
         Err(error) => tell_error(&error, out),
     }
 }
 
-fn moved_float(alloc: Global, literal: &mut LitFloat, out: &mut String) -> Result<(), AllocError> {
-    word(literal.base10_digits(), out)?;
-    debug_word(&literal.suffix(), out)?;
-    show_word(&At(literal.span()), out)?;
-    show_word(literal, out)?;
+fn moved_float(alloc: Global, literal: &mut LitFloat, out: &mut Page) {
+    word(literal.base10_digits(), out);
+    debug_word(&literal.suffix(), out);
+    at_word(literal.span(), out);
+    show_word(literal, out);
     literal.set_span(THERE);
     tell_own_token(literal.token(alloc), out)
 }
 
 /// A literal's token: its text and span.
-fn tell_own_token(token: Result<Literal, Error>, out: &mut String) -> Result<(), AllocError> {
+fn tell_own_token(token: Result<Literal, Error>, out: &mut Page) {
     match token {
         Ok(token) => tell_token(&token, out),
         Err(error) => tell_error(&error, out),
@@ -72,15 +68,18 @@ fn tell_own_token(token: Result<Literal, Error>, out: &mut String) -> Result<(),
 }
 
 /// The text as a token that is made an integer, or handed back, and the same of a float.
-fn kept(alloc: Global, text: &str, out: &mut String) -> Result<(), AllocError> {
-    match LitInt::from_token(alloc, token_of(alloc, text, HERE)?) {
+fn kept(alloc: Global, text: &str, out: &mut Page) {
+    let Ok(token) = token_of(alloc, text, HERE) else {
+        return out.fail();
+    };
+    match LitInt::from_token(alloc, token) {
         Ok(literal) => tell_answer(alloc, Ok(Lit::Int(literal)), out),
-        Err(kept) => kept_of_float(alloc, handed_back(kept, out)?, out),
+        Err(kept) => kept_of_float(alloc, handed_back(kept, out), out),
     }
 }
 
 /// The token made a float, or why it is none.
-fn kept_of_float(alloc: Global, token: Literal, out: &mut String) -> Result<(), AllocError> {
+fn kept_of_float(alloc: Global, token: Literal, out: &mut Page) {
     match LitFloat::from_token(alloc, token) {
         Ok(literal) => tell_answer(alloc, Ok(Lit::Float(literal)), out),
         Err(kept) => tell_answer(alloc, Err(Error::from(kept)), out),
@@ -88,11 +87,11 @@ fn kept_of_float(alloc: Global, token: Literal, out: &mut String) -> Result<(), 
 }
 
 /// Prints a token that was handed back, and why.
-fn handed_back(kept: Kept<Literal>, out: &mut String) -> Result<Literal, AllocError> {
-    word(kept.value.text(), out)?;
-    show_word(&At(kept.value.span()), out)?;
-    tell_error(&kept.error, out)?;
-    Ok(kept.value)
+fn handed_back(kept: Kept<Literal>, out: &mut Page) -> Literal {
+    word(kept.value.text(), out);
+    at_word(kept.value.span(), out);
+    tell_error(&kept.error, out);
+    kept.value
 }
 
 /// The text as an integer literal.
@@ -112,7 +111,7 @@ fn float_of(alloc: Global, text: &str) -> Option<Lit> {
 }
 
 /// Whether the text as an integer equals it as a float.
-fn across(alloc: Global, text: &str, out: &mut String) -> Result<(), AllocError> {
+fn across(alloc: Global, text: &str, out: &mut Page) {
     match integer_of(alloc, text) {
         Some(integer) => equals_float(alloc, &integer, text, out),
         None => line("None", out),
@@ -120,12 +119,7 @@ fn across(alloc: Global, text: &str, out: &mut String) -> Result<(), AllocError>
 }
 
 /// Whether a literal equals the text as a float.
-fn equals_float(
-    alloc: Global,
-    literal: &Lit,
-    text: &str,
-    out: &mut String,
-) -> Result<(), AllocError> {
+fn equals_float(alloc: Global, literal: &Lit, text: &str, out: &mut Page) {
     match float_of(alloc, text) {
         Some(float) => show_line(&(*literal == float), out),
         None => line("None", out),
@@ -133,15 +127,11 @@ fn equals_float(
 }
 
 /// The number that a type makes of an integer's digits, or where it is rejected.
-fn made<N: FromStr + Display + Drop>(
-    alloc: Global,
-    literal: &LitInt,
-    out: &mut String,
-) -> Result<(), AllocError>
+fn made<N: FromStr + Display + Drop>(alloc: Global, literal: &LitInt, out: &mut Page)
 where
     N::Err: Display + Drop,
 {
-    out.push_str(" ")?;
+    out.put(" ");
     match literal.base10_parse::<N, Global>(alloc) {
         Ok(number) => show(&number, out),
         Err(error) => refused_number(&error, out),
@@ -149,21 +139,21 @@ where
 }
 
 /// Where a number is rejected.
-fn refused_number(error: &Error, out: &mut String) -> Result<(), AllocError> {
+fn refused_number(error: &Error, out: &mut Page) {
     match error.kind {
         ErrorKind::Number(_) => {
-            out.push_str("at ")?;
-            show(&At(error.span), out)
+            out.put("at ");
+            at(error.span, out)
         }
-        _ => Err(AllocError),
+        _ => out.fail(),
     }
 }
 
 /// The numbers of every size that the text makes.
-fn numbers(alloc: Global, text: &str, out: &mut String) -> Result<(), AllocError> {
+fn numbers(alloc: Global, text: &str, out: &mut Page) {
     match LitInt::new(alloc, text, HERE) {
         Ok(literal) => {
-            narrow(alloc, &literal, out)?;
+            narrow(alloc, &literal, out);
             wide(alloc, &literal, out)
         }
         Err(_) => line("no integer", out),
@@ -171,29 +161,29 @@ fn numbers(alloc: Global, text: &str, out: &mut String) -> Result<(), AllocError
 }
 
 /// The numbers of up to 32 bits.
-fn narrow(alloc: Global, literal: &LitInt, out: &mut String) -> Result<(), AllocError> {
-    made::<u8>(alloc, literal, out)?;
-    made::<i8>(alloc, literal, out)?;
-    made::<u16>(alloc, literal, out)?;
-    made::<i16>(alloc, literal, out)?;
-    made::<u32>(alloc, literal, out)?;
-    made::<i32>(alloc, literal, out)?;
-    out.push_str("\n")
+fn narrow(alloc: Global, literal: &LitInt, out: &mut Page) {
+    made::<u8>(alloc, literal, out);
+    made::<i8>(alloc, literal, out);
+    made::<u16>(alloc, literal, out);
+    made::<i16>(alloc, literal, out);
+    made::<u32>(alloc, literal, out);
+    made::<i32>(alloc, literal, out);
+    out.put("\n")
 }
 
 /// The numbers of more.
-fn wide(alloc: Global, literal: &LitInt, out: &mut String) -> Result<(), AllocError> {
-    made::<u64>(alloc, literal, out)?;
-    made::<i64>(alloc, literal, out)?;
-    made::<usize>(alloc, literal, out)?;
-    made::<isize>(alloc, literal, out)?;
-    made::<u128>(alloc, literal, out)?;
-    made::<i128>(alloc, literal, out)?;
-    out.push_str("\n")
+fn wide(alloc: Global, literal: &LitInt, out: &mut Page) {
+    made::<u64>(alloc, literal, out);
+    made::<i64>(alloc, literal, out);
+    made::<usize>(alloc, literal, out);
+    made::<isize>(alloc, literal, out);
+    made::<u128>(alloc, literal, out);
+    made::<i128>(alloc, literal, out);
+    out.put("\n")
 }
 
 /// The byte that the text makes as a float.
-fn float_byte(alloc: Global, text: &str, out: &mut String) -> Result<(), AllocError> {
+fn float_byte(alloc: Global, text: &str, out: &mut Page) {
     match LitFloat::new(alloc, text, HERE) {
         Ok(literal) => byte_of(alloc, &literal, out),
         Err(_) => line("no float", out),
@@ -201,7 +191,7 @@ fn float_byte(alloc: Global, text: &str, out: &mut String) -> Result<(), AllocEr
 }
 
 /// The byte that the float's digits make.
-fn byte_of(alloc: Global, literal: &LitFloat, out: &mut String) -> Result<(), AllocError> {
+fn byte_of(alloc: Global, literal: &LitFloat, out: &mut Page) {
     match literal.base10_parse::<u8, Global>(alloc) {
         Ok(number) => show_line(&number, out),
         Err(error) => tell_error(&error, out),

@@ -1,70 +1,62 @@
 //! Parsers and peeks over the trees of a text.
 
 use crate::takers::{takers, two_files};
-use crate::tell::{At, line, show, show_line, tell_error, trees_of, word};
+use crate::tell::{at_line, line, show, tell_error, trees_of, word};
 use crate::turns::{Sign, turns};
+use rl_refusing::Page;
 use rl_tokens::{Error, Parse, ParseBuffer, Span, Token};
 use rust_literals::{
     Lit, LitBool, LitByte, LitByteStr, LitCStr, LitChar, LitFloat, LitInt, LitStr,
 };
-use std::alloc::{AllocError, Global};
+use std::alloc::Global;
 
 /// Prints what a call of this name answers; false where there is none.
-pub(crate) fn told(
-    alloc: Global,
-    name: &str,
-    text: &str,
-    out: &mut String,
-) -> Result<bool, AllocError> {
+pub(crate) fn told(alloc: Global, name: &str, text: &str, out: &mut Page) -> bool {
     match name {
-        "LitStr" => parsed_as::<LitStr>(alloc, text, out)?,
-        "LitByteStr" => parsed_as::<LitByteStr>(alloc, text, out)?,
-        "LitCStr" => parsed_as::<LitCStr>(alloc, text, out)?,
-        "LitByte" => parsed_as::<LitByte>(alloc, text, out)?,
-        "LitChar" => parsed_as::<LitChar>(alloc, text, out)?,
-        "turns" => turns(alloc, text, out)?,
-        "takers" => takers(alloc, text, out)?,
+        "LitStr" => parsed_as::<LitStr>(alloc, text, out),
+        "LitByteStr" => parsed_as::<LitByteStr>(alloc, text, out),
+        "LitCStr" => parsed_as::<LitCStr>(alloc, text, out),
+        "LitByte" => parsed_as::<LitByte>(alloc, text, out),
+        "LitChar" => parsed_as::<LitChar>(alloc, text, out),
+        "turns" => turns(alloc, text, out),
+        "takers" => takers(alloc, text, out),
         _ => return others(alloc, name, text, out),
     }
-    Ok(true)
+    true
 }
 
 /// Prints what a further call of this name answers; false where there is none.
-fn others(alloc: Global, name: &str, text: &str, out: &mut String) -> Result<bool, AllocError> {
+fn others(alloc: Global, name: &str, text: &str, out: &mut Page) -> bool {
     match name {
-        "Lit" => parsed_as::<Lit>(alloc, text, out)?,
-        "LitInt" => parsed_as::<LitInt>(alloc, text, out)?,
-        "LitFloat" => parsed_as::<LitFloat>(alloc, text, out)?,
-        "LitBool" => parsed_as::<LitBool>(alloc, text, out)?,
-        "Sign" => parsed_as::<Sign>(alloc, text, out)?,
-        "two_files" => two_files(alloc, out)?,
-        "mark" => mark(alloc, text, out)?,
-        _ => return Ok(false),
+        "Lit" => parsed_as::<Lit>(alloc, text, out),
+        "LitInt" => parsed_as::<LitInt>(alloc, text, out),
+        "LitFloat" => parsed_as::<LitFloat>(alloc, text, out),
+        "LitBool" => parsed_as::<LitBool>(alloc, text, out),
+        "Sign" => parsed_as::<Sign>(alloc, text, out),
+        "two_files" => two_files(alloc, out),
+        "mark" => mark(alloc, text, out),
+        _ => return false,
     }
-    Ok(true)
+    true
 }
 
 /// The type's name in messages, whether such a token stands at the front, what its parser answers, and where the buffer
 /// stands then.
-fn parsed_as<T: Parse<Global> + Token + Drop>(
-    alloc: Global,
-    text: &str,
-    out: &mut String,
-) -> Result<(), AllocError> {
+fn parsed_as<T: Parse<Global> + Token + Drop>(alloc: Global, text: &str, out: &mut Page) {
     let Some(stream) = trees_of(alloc, text, 0) else {
         return line("no trees", out);
     };
     let end = Span::new(0, text.len(), text.len());
     let mut input = ParseBuffer::new(stream.trees(), end);
-    tell_peek(T::display(), input.peek::<T>(), out)?;
-    tell_parsed(input.parse::<T>(alloc), out)?;
-    word("next", out)?;
-    show_line(&At(input.span()), out)
+    tell_peek(T::display(), input.peek::<T>(), out);
+    tell_parsed(input.parse::<T>(alloc), out);
+    word("next", out);
+    at_line(input.span(), out)
 }
 
 /// Whether `=` stands at the front, or at the front of the group there, what taking it answers, and where the buffer
 /// stands then.
-fn mark(alloc: Global, text: &str, out: &mut String) -> Result<(), AllocError> {
+fn mark(alloc: Global, text: &str, out: &mut Page) {
     let Some(stream) = trees_of(alloc, text, 0) else {
         return line("no trees", out);
     };
@@ -73,22 +65,22 @@ fn mark(alloc: Global, text: &str, out: &mut String) -> Result<(), AllocError> {
     if let Some(group) = input.group() {
         input = group.inside();
     }
-    tell_peek("equals sign", input.peek_punct('='), out)?;
-    tell_parsed(input.take_punct('='), out)?;
-    word("next", out)?;
-    show_line(&At(input.span()), out)
+    tell_peek("equals sign", input.peek_punct('='), out);
+    tell_parsed(input.take_punct('='), out);
+    word("next", out);
+    at_line(input.span(), out)
 }
 
 /// A type's name in messages, and whether such a token stands at the front.
-fn tell_peek(name: &str, peek: bool, out: &mut String) -> Result<(), AllocError> {
-    out.push_str(name)?;
-    out.push_str(", ")?;
-    show(&peek, out)?;
-    out.push_str(": ")
+fn tell_peek(name: &str, peek: bool, out: &mut Page) {
+    out.put(name);
+    out.put(", ");
+    show(&peek, out);
+    out.put(": ")
 }
 
 /// Whether a value was parsed, or why there is none.
-fn tell_parsed<T: Drop>(answer: Result<T, Error>, out: &mut String) -> Result<(), AllocError> {
+fn tell_parsed<T: Drop>(answer: Result<T, Error>, out: &mut Page) {
     match answer {
         Ok(_) => line("ok", out),
         Err(error) => tell_error(&error, out),

@@ -1,7 +1,7 @@
 //! Calls whose allocations fail.
 
-use crate::tell::{At, HERE, line, show_line, show_word, word};
-use rl_refusing::Refusing;
+use crate::tell::{HERE, at_line, at_word, line, show_line, show_word, word};
+use rl_refusing::{Page, Refusing};
 use rl_tokens::{Kept, Literal};
 use rust_literals::{Lit, LitStr};
 use std::alloc::{AllocError, Global};
@@ -10,19 +10,14 @@ use std::alloc::{AllocError, Global};
 type Lent<'a> = &'a Refusing<Global>;
 
 /// Prints what a call of this name answers to a text; false where there is none.
-pub(crate) fn told(
-    alloc: Global,
-    name: &str,
-    text: &str,
-    out: &mut String,
-) -> Result<bool, AllocError> {
+pub(crate) fn told(alloc: Global, name: &str, text: &str, out: &mut Page) -> bool {
     let refusing = Refusing::new(alloc);
     match name {
-        "all_refused" => all_refused(&refusing, text, out)?,
-        "second_refused" => second_refused(&refusing, text, out)?,
-        _ => return Ok(false),
+        "all_refused" => all_refused(&refusing, text, out),
+        "second_refused" => second_refused(&refusing, text, out),
+        _ => return false,
     }
-    Ok(true)
+    true
 }
 
 /// A token of the text, with its memory from an allocator that fails on nothing yet.
@@ -34,34 +29,36 @@ fn token_of<'a>(refusing: Lent<'a>, text: &str) -> Result<Literal<Lent<'a>>, All
 }
 
 /// The literal of a token, with every allocation failing: what it is, or why not, and the token that comes back.
-fn all_refused(refusing: Lent<'_>, text: &str, out: &mut String) -> Result<(), AllocError> {
-    let token = token_of(refusing, text)?;
+fn all_refused(refusing: Lent<'_>, text: &str, out: &mut Page) {
+    let Ok(token) = token_of(refusing, text) else {
+        return out.fail();
+    };
     refusing.refuse(1, u64::MAX);
     let answer = Lit::new(refusing, token);
     refusing.allow();
     match answer {
         Ok(literal) => tell_number(&literal, out),
         Err(Kept { value, error }) => {
-            show_word(&error, out)?;
-            show_word(&At(error.span), out)?;
-            word(value.text(), out)?;
-            show_line(&At(value.span()), out)
+            show_word(&error, out);
+            at_word(error.span, out);
+            word(value.text(), out);
+            at_line(value.span(), out)
         }
     }
 }
 
 /// Prints the digits of a number, and its suffix.
-fn tell_number(literal: &Lit<Lent<'_>>, out: &mut String) -> Result<(), AllocError> {
+fn tell_number(literal: &Lit<Lent<'_>>, out: &mut Page) {
     match literal {
         Lit::Int(number) => {
-            word("Int", out)?;
-            word(number.base10_digits(), out)?;
+            word("Int", out);
+            word(number.base10_digits(), out);
         }
         Lit::Float(number) => {
-            word("Float", out)?;
-            word(number.base10_digits(), out)?;
+            word("Float", out);
+            word(number.base10_digits(), out);
         }
-        other => word(other.text(), out)?,
+        other => word(other.text(), out),
     }
     line(literal.suffix(), out)
 }
@@ -77,20 +74,19 @@ fn long_string<'a>(refusing: Lent<'a>, text: &str) -> Result<Literal<Lent<'a>>, 
 }
 
 /// The value of a string whose contents are the text ten thousand times over, with all allocations but the first failing.
-fn second_refused(refusing: Lent<'_>, text: &str, out: &mut String) -> Result<(), AllocError> {
-    match Lit::new(refusing, long_string(refusing, text)?) {
+fn second_refused(refusing: Lent<'_>, text: &str, out: &mut Page) {
+    let Ok(token) = long_string(refusing, text) else {
+        return out.fail();
+    };
+    match Lit::new(refusing, token) {
         Ok(Lit::Str(literal)) => refused_value(refusing, &literal, out),
         _ => line("no string", out),
     }
 }
 
 /// Whether the string borrows its value, and what it answers with all allocations but the first failing.
-fn refused_value<'a>(
-    refusing: Lent<'a>,
-    literal: &LitStr<Lent<'a>>,
-    out: &mut String,
-) -> Result<(), AllocError> {
-    show_word(&literal.value_ref().is_some(), out)?;
+fn refused_value<'a>(refusing: Lent<'a>, literal: &LitStr<Lent<'a>>, out: &mut Page) {
+    show_word(&literal.value_ref().is_some(), out);
     refusing.refuse(2, u64::MAX);
     let value = literal.value(refusing);
     refusing.allow();

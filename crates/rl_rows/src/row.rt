@@ -3,6 +3,7 @@
 use crate::bulk::{answer, parts_of};
 use crate::calls;
 use rl_lines::decoded;
+use rl_refusing::Page;
 use std::alloc::{AllocError, Global};
 
 /// What is printed for a line of input, all bytes up to a LF, a CR among them.
@@ -18,11 +19,11 @@ pub(crate) fn told(alloc: Global, line: &[u8]) -> Result<String, AllocError> {
 
 /// What is printed for a row that names a call.
 fn of_call(alloc: Global, row: &str) -> Result<String, AllocError> {
-    let mut out = String::new(alloc);
+    let mut out = Page::new(alloc);
     let (name, digits) = parts_of(row);
     match decoded(alloc, digits.as_bytes())? {
-        Some(bytes) => calls::tell(alloc, name, bytes.as_slice(), &mut out)?,
-        None => out.push_str("error: no bytes\n")?,
+        Some(bytes) => calls::tell(alloc, name, bytes.as_slice(), &mut out),
+        None => out.put("error: no bytes\n"),
     }
-    Ok(out)
+    out.finished()
 }

@@ -1,25 +1,21 @@
 //! Calls of the program over whole sources: its words, a US (0x1F), and its input.
 
+use crate::tell::{show_line, show_word};
+use rl_refusing::Page;
 use rl_sources::call;
 use std::alloc::{AllocError, Global};
-use std::fmt::Write as _;
 use std::io::{self, ErrorKind, Read, Write};
 
 /// Prints what a call of this name answers; false where there is none.
-pub(crate) fn told(
-    alloc: Global,
-    name: &str,
-    bytes: &[u8],
-    out: &mut String,
-) -> Result<bool, AllocError> {
+pub(crate) fn told(alloc: Global, name: &str, bytes: &[u8], out: &mut Page) -> bool {
     match name {
-        "scan" => scanned(alloc, bytes, Streams::WHOLE, out)?,
-        "scan_slow" => scanned(alloc, bytes, Streams::SLOW, out)?,
-        "scan_unread" => scanned(alloc, bytes, Streams::UNREAD, out)?,
-        "scan_unwritten" => scanned(alloc, bytes, Streams::UNWRITTEN, out)?,
-        _ => return Ok(false),
+        "scan" => scanned(alloc, bytes, Streams::WHOLE, out),
+        "scan_slow" => scanned(alloc, bytes, Streams::SLOW, out),
+        "scan_unread" => scanned(alloc, bytes, Streams::UNREAD, out),
+        "scan_unwritten" => scanned(alloc, bytes, Streams::UNWRITTEN, out),
+        _ => return false,
     }
-    Ok(true)
+    true
 }
 
 /// How the streams of a call behave: how many bytes they pass at once, and how many they pass before
@@ -113,15 +109,12 @@ fn arguments(alloc: Global, words: &str) -> Result<Vec<String>, AllocError> {
 }
 
 /// Prints what a call writes, its status, and its line.
-fn scanned(
-    alloc: Global,
-    bytes: &[u8],
-    streams: Streams,
-    out: &mut String,
-) -> Result<(), AllocError> {
+fn scanned(alloc: Global, bytes: &[u8], streams: Streams, out: &mut Page) {
     let at = bytes.iter().position(|b| *b == 0x1f).unwrap_or(bytes.len());
     let (words, input) = bytes.split_at(at);
-    let args = arguments(alloc, std::str::from_utf8(words).unwrap_or(""))?;
+    let Ok(args) = arguments(alloc, std::str::from_utf8(words).unwrap_or("")) else {
+        return out.fail();
+    };
     let mut held = Vec::new(alloc);
     let mut input = Input {
         bytes: input.get(1..).unwrap_or(&[]),
@@ -134,6 +127,7 @@ fn scanned(
         left: streams.writable,
     };
     let ending = call(alloc, args.as_slice(), &mut input, &mut output);
-    out.push_str(std::str::from_utf8(held.as_slice()).unwrap_or(""))?;
-    write!(out, "{} {}\n", ending.status(), ending)
+    out.put(std::str::from_utf8(held.as_slice()).unwrap_or(""));
+    show_word(&ending.status(), out);
+    show_line(&ending, out)
 }

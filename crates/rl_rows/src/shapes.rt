@@ -5,36 +5,32 @@ use rl_grammar::{
     Kind, Parts, byte_of, bytes_of, char_of, digits_of, float_shape, int_shape, is_plain, shape,
     shape_negative, str_of,
 };
+use rl_refusing::Page;
 use rl_tokens::{Error, whitespace};
-use std::alloc::{AllocError, Global};
+use std::alloc::Global;
 
 /// Prints what a call of this name answers; false where there is none.
-pub(crate) fn told(
-    alloc: Global,
-    name: &str,
-    text: &str,
-    out: &mut String,
-) -> Result<bool, AllocError> {
+pub(crate) fn told(alloc: Global, name: &str, text: &str, out: &mut Page) -> bool {
     match name {
-        "shape" => tell_parts(shape(text), out)?,
-        "int_shape" => integer(text, out)?,
-        "float_shape" => tell_parts(float_shape(text), out)?,
-        "shape_negative" => tell_parts(shape_negative(text), out)?,
-        "skipped" => line(whitespace::skip(text), out)?,
-        "contents" => contents(alloc, text, out)?,
-        "plain" => plain(text, out)?,
-        _ => return Ok(false),
+        "shape" => tell_parts(shape(text), out),
+        "int_shape" => integer(text, out),
+        "float_shape" => tell_parts(float_shape(text), out),
+        "shape_negative" => tell_parts(shape_negative(text), out),
+        "skipped" => line(whitespace::skip(text), out),
+        "contents" => contents(alloc, text, out),
+        "plain" => plain(text, out),
+        _ => return false,
     }
-    Ok(true)
+    true
 }
 
 /// Prints a kind, and body and suffix with a point between, or that there is none.
-fn tell_parts(parts: Option<Parts<'_>>, out: &mut String) -> Result<(), AllocError> {
+fn tell_parts(parts: Option<Parts<'_>>, out: &mut Page) {
     match parts {
         Some(parts) => {
-            debug_word(&parts.kind, out)?;
-            out.push_str(parts.body)?;
-            out.push_str(".")?;
+            debug_word(&parts.kind, out);
+            out.put(parts.body);
+            out.put(".");
             line(parts.suffix, out)
         }
         None => line("None", out),
@@ -42,7 +38,7 @@ fn tell_parts(parts: Option<Parts<'_>>, out: &mut String) -> Result<(), AllocErr
 }
 
 /// The text's shape as an integer of any magnitude.
-fn integer(text: &str, out: &mut String) -> Result<(), AllocError> {
+fn integer(text: &str, out: &mut Page) {
     match int_shape(text) {
         Some(Some(parts)) => tell_parts(Some(parts), out),
         Some(None) => line("past", out),
@@ -51,7 +47,7 @@ fn integer(text: &str, out: &mut String) -> Result<(), AllocError> {
 }
 
 /// The text's contents, by the decoder of its kind.
-fn contents(alloc: Global, text: &str, out: &mut String) -> Result<(), AllocError> {
+fn contents(alloc: Global, text: &str, out: &mut Page) {
     match shape(text) {
         Some(parts) => match parts.kind {
             Kind::Str => tell_text(str_of(alloc, text), out),
@@ -66,26 +62,26 @@ fn contents(alloc: Global, text: &str, out: &mut String) -> Result<(), AllocErro
 }
 
 /// Prints a text's bytes.
-fn tell_text(text: Result<String, Error>, out: &mut String) -> Result<(), AllocError> {
+fn tell_text(text: Result<String, Error>, out: &mut Page) {
     match text {
         Ok(text) => debug_line(&text.as_bytes(), out),
-        Err(_) => Err(AllocError),
+        Err(_) => out.fail(),
     }
 }
 
 /// Prints bytes.
-fn tell_bytes(bytes: Result<Vec<u8>, Error>, out: &mut String) -> Result<(), AllocError> {
+fn tell_bytes(bytes: Result<Vec<u8>, Error>, out: &mut Page) {
     match bytes {
         Ok(bytes) => debug_line(&bytes.as_slice(), out),
-        Err(_) => Err(AllocError),
+        Err(_) => out.fail(),
     }
 }
 
 /// Prints digits.
-fn tell_digits(digits: Result<String, Error>, out: &mut String) -> Result<(), AllocError> {
+fn tell_digits(digits: Result<String, Error>, out: &mut Page) {
     match digits {
         Ok(digits) => line(digits.as_str(), out),
-        Err(_) => Err(AllocError),
+        Err(_) => out.fail(),
     }
 }
 
@@ -104,7 +100,7 @@ fn kind_of(name: &str) -> Kind {
 }
 
 /// Whether the contents of a text, after a kind's name and a LF, stand in it as they are.
-fn plain(text: &str, out: &mut String) -> Result<(), AllocError> {
+fn plain(text: &str, out: &mut Page) {
     let (name, text) = text.split_once('\n').unwrap_or(("", text));
     show_line(&is_plain(kind_of(name), text), out)
 }

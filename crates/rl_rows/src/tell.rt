@@ -1,11 +1,11 @@
 //! How texts, values, spans, errors, trees and literals are printed.
 
 use rl_lines::line_of;
+use rl_refusing::Page;
 use rl_tokens::{Error, Literal, Span, TokenStream, TokenTree, lex};
 use rust_literals::Lit;
 use std::alloc::{AllocError, Global};
-use std::fmt;
-use std::fmt::{Debug, Display, Write};
+use std::fmt::{Debug, Display};
 
 /// A span that no call makes by itself.
 pub(crate) const HERE: Span = Span {
@@ -21,80 +21,95 @@ pub(crate) const THERE: Span = Span {
     hi: 2,
 };
 
-/// A span as its file and its bytes.
-#[derive(Drop)]
-pub(crate) struct At(pub(crate) Span);
+/// Prints a span as its file and its bytes.
+pub(crate) fn at(span: Span, out: &mut Page) {
+    show(&span.file, out);
+    out.put(":");
+    show(&span.lo, out);
+    out.put("..");
+    show(&span.hi, out);
+}
 
-impl fmt::Display for At {
-    fn fmt<W: fmt::Write>(&self, f: &mut fmt::Formatter<W>) -> fmt::Result {
-        let Span { file, lo, hi } = self.0;
-        write!(f, "{file}:{lo}..{hi}")
-    }
+/// Prints a span, and a space.
+pub(crate) fn at_word(span: Span, out: &mut Page) {
+    at(span, out);
+    out.put(" ");
+}
+
+/// Prints a span, and ends the line.
+pub(crate) fn at_line(span: Span, out: &mut Page) {
+    at(span, out);
+    out.put("\n");
 }
 
 /// Prints a text, and a space.
-pub(crate) fn word(text: &str, out: &mut String) -> Result<(), AllocError> {
-    out.push_str(text)?;
-    out.push_str(" ")
+pub(crate) fn word(text: &str, out: &mut Page) {
+    out.put(text);
+    out.put(" ")
 }
 
 /// Prints a text, and ends the line.
-pub(crate) fn line(text: &str, out: &mut String) -> Result<(), AllocError> {
-    out.push_str(text)?;
-    out.push_str("\n")
+pub(crate) fn line(text: &str, out: &mut Page) {
+    out.put(text);
+    out.put("\n")
 }
 
 /// Prints a value as it is displayed.
-pub(crate) fn show<T: Display>(value: &T, out: &mut String) -> Result<(), AllocError> {
-    write!(out, "{value}")
+pub(crate) fn show<T: Display>(value: &T, out: &mut Page) {
+    out.put_shown(value);
 }
 
 /// Prints a value as it is displayed, and a space.
-pub(crate) fn show_word<T: Display>(value: &T, out: &mut String) -> Result<(), AllocError> {
-    write!(out, "{value} ")
+pub(crate) fn show_word<T: Display>(value: &T, out: &mut Page) {
+    show(value, out);
+    out.put(" ");
 }
 
 /// Prints a value as it is displayed, and ends the line.
-pub(crate) fn show_line<T: Display>(value: &T, out: &mut String) -> Result<(), AllocError> {
-    write!(out, "{value}\n")
+pub(crate) fn show_line<T: Display>(value: &T, out: &mut Page) {
+    show(value, out);
+    out.put("\n");
 }
 
 /// Prints a value as it is printed to programmers.
-pub(crate) fn debug<T: Debug>(value: &T, out: &mut String) -> Result<(), AllocError> {
-    write!(out, "{value:?}")
+pub(crate) fn debug<T: Debug>(value: &T, out: &mut Page) {
+    out.put_debug(value);
 }
 
 /// Prints a value as it is printed to programmers, and a space.
-pub(crate) fn debug_word<T: Debug>(value: &T, out: &mut String) -> Result<(), AllocError> {
-    write!(out, "{value:?} ")
+pub(crate) fn debug_word<T: Debug>(value: &T, out: &mut Page) {
+    debug(value, out);
+    out.put(" ");
 }
 
 /// Prints where a span begins and ends, and a space.
-pub(crate) fn place(span: Span, out: &mut String) -> Result<(), AllocError> {
-    write!(out, "{}..{} ", span.lo, span.hi)
+pub(crate) fn place(span: Span, out: &mut Page) {
+    show(&span.lo, out);
+    out.put("..");
+    show_word(&span.hi, out);
 }
 
 /// Prints an error: its span, its kind as it is printed to programmers, and its message.
-pub(crate) fn tell_error(error: &Error, out: &mut String) -> Result<(), AllocError> {
-    show_word(&At(error.span), out)?;
-    debug(&error.kind, out)?;
-    out.push_str(": ")?;
+pub(crate) fn tell_error(error: &Error, out: &mut Page) {
+    at_word(error.span, out);
+    debug(&error.kind, out);
+    out.put(": ");
     show_line(error, out)
 }
 
 /// Prints a word, another and a space after each.
-fn words(first: &str, second: &str, out: &mut String) -> Result<(), AllocError> {
-    word(first, out)?;
+fn words(first: &str, second: &str, out: &mut Page) {
+    word(first, out);
     word(second, out)
 }
 
 /// Prints a tree's form, and its text.
-pub(crate) fn tell_form(tree: &TokenTree, out: &mut String) -> Result<(), AllocError> {
+pub(crate) fn tell_form(tree: &TokenTree, out: &mut Page) {
     match tree {
         TokenTree::Group(group) => debug_word(&group.delimiter(), out),
         TokenTree::Ident(ident) => words("Ident", ident.text(), out),
         TokenTree::Punct(punct) => {
-            word("Punct", out)?;
+            word("Punct", out);
             show_word(&punct.as_char(), out)
         }
         TokenTree::Literal(literal) => words("Literal", literal.text(), out),
@@ -102,34 +117,32 @@ pub(crate) fn tell_form(tree: &TokenTree, out: &mut String) -> Result<(), AllocE
 }
 
 /// Prints trees: each one's form, text and span.
-pub(crate) fn tell_trees(trees: &[TokenTree], out: &mut String) -> Result<(), AllocError> {
+pub(crate) fn tell_trees(trees: &[TokenTree], out: &mut Page) {
     for tree in trees {
-        tell_form(tree, out)?;
-        show(&At(tree.span()), out)?;
-        out.push_str("; ")?;
+        tell_form(tree, out);
+        at(tree.span(), out);
+        out.put("; ");
     }
-    out.push_str("\n")
+    out.put("\n")
 }
 
 /// Prints a literal's line.
-pub(crate) fn tell_line(alloc: Global, literal: &Lit, out: &mut String) -> Result<(), AllocError> {
-    let line = line_of(alloc, literal)?;
-    out.push_str(line.as_str())
+pub(crate) fn tell_line(alloc: Global, literal: &Lit, out: &mut Page) {
+    match line_of(alloc, literal) {
+        Ok(line) => out.put(line.as_str()),
+        Err(_) => out.fail(),
+    }
 }
 
 /// Prints a literal: as it is printed to programmers, with its span and its line.
-pub(crate) fn tell(alloc: Global, literal: &Lit, out: &mut String) -> Result<(), AllocError> {
-    debug_word(literal, out)?;
-    show_word(&At(literal.span()), out)?;
+pub(crate) fn tell(alloc: Global, literal: &Lit, out: &mut Page) {
+    debug_word(literal, out);
+    at_word(literal.span(), out);
     tell_line(alloc, literal, out)
 }
 
 /// Prints an answer: the literal, or the error.
-pub(crate) fn tell_answer(
-    alloc: Global,
-    answer: Result<Lit, Error>,
-    out: &mut String,
-) -> Result<(), AllocError> {
+pub(crate) fn tell_answer(alloc: Global, answer: Result<Lit, Error>, out: &mut Page) {
     match answer {
         Ok(literal) => tell(alloc, &literal, out),
         Err(error) => tell_error(&error, out),
@@ -137,20 +150,17 @@ pub(crate) fn tell_answer(
 }
 
 /// Prints a token: its text, and its span.
-pub(crate) fn tell_token(token: &Literal, out: &mut String) -> Result<(), AllocError> {
-    word(token.text(), out)?;
-    show_line(&At(token.span()), out)
+pub(crate) fn tell_token(token: &Literal, out: &mut Page) {
+    word(token.text(), out);
+    at_line(token.span(), out)
 }
 
 /// Prints a token that was written, as it is displayed, with its span.
-pub(crate) fn tell_written(
-    written: Result<Literal, Error>,
-    out: &mut String,
-) -> Result<(), AllocError> {
+pub(crate) fn tell_written(written: Result<Literal, Error>, out: &mut Page) {
     match written {
         Ok(token) => {
-            show_word(&token, out)?;
-            show_line(&At(token.span()), out)
+            show_word(&token, out);
+            at_line(token.span(), out)
         }
         Err(error) => tell_error(&error, out),
     }
@@ -178,6 +188,7 @@ pub(crate) fn trees_of(alloc: Global, text: &str, file: u32) -> Option<TokenStre
 }
 
 /// Prints a value as it is printed to programmers, and ends the line.
-pub(crate) fn debug_line<T: Debug>(value: &T, out: &mut String) -> Result<(), AllocError> {
-    write!(out, "{value:?}\n")
+pub(crate) fn debug_line<T: Debug>(value: &T, out: &mut Page) {
+    debug(value, out);
+    out.put("\n");
 }

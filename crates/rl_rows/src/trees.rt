@@ -1,81 +1,76 @@
 //! The trees of a text, and why it is cut into none.
 
 use crate::tell::{HERE, debug_word, line, place, show, tell_form, token_of, word};
+use rl_refusing::Page;
 use rl_tokens::{Delimiter, Group, LexKind, Span, TokenStream, TokenTree, Tokens, lex};
 use std::alloc::{AllocError, Global};
 
 /// Prints what a call of this name answers; false where there is none.
-pub(crate) fn told(
-    alloc: Global,
-    name: &str,
-    text: &str,
-    out: &mut String,
-) -> Result<bool, AllocError> {
+pub(crate) fn told(alloc: Global, name: &str, text: &str, out: &mut Page) -> bool {
     match name {
-        "lex" => cut(alloc, text, out)?,
-        "lent" => lent(text, out)?,
-        "built" => built(alloc, out)?,
-        _ => return Ok(false),
+        "lex" => cut(alloc, text, out),
+        "lent" => lent(text, out),
+        "built" => built(alloc, out),
+        _ => return false,
     }
-    Ok(true)
+    true
 }
 
 /// Prints each tree with its bytes: a group as its delimiter, with the trees inside between angle brackets.
-fn tell_all(trees: &[TokenTree], out: &mut String) -> Result<(), AllocError> {
+fn tell_all(trees: &[TokenTree], out: &mut Page) {
     for tree in trees {
-        tell_form(tree, out)?;
-        place(tree.span(), out)?;
+        tell_form(tree, out);
+        place(tree.span(), out);
         if let TokenTree::Group(group) = tree {
-            word("<", out)?;
-            tell_all(group.stream().trees(), out)?;
-            word(">", out)?;
+            word("<", out);
+            tell_all(group.stream().trees(), out);
+            word(">", out);
         }
     }
-    Ok(())
 }
 
 /// The trees of a text, or the error and its byte.
-fn cut(alloc: Global, text: &str, out: &mut String) -> Result<(), AllocError> {
+fn cut(alloc: Global, text: &str, out: &mut Page) {
     match lex(alloc, text, 7) {
-        Ok(stream) => tell_all(stream.trees(), out)?,
-        Err(fault) => tell_fault(fault.kind, fault.at, out)?,
+        Ok(stream) => tell_all(stream.trees(), out),
+        Err(fault) => tell_fault(fault.kind, fault.at, out),
     }
-    out.push_str("\n")
+    out.put("\n")
 }
 
 /// Prints an error and its byte.
-fn tell_fault(kind: LexKind, at: usize, out: &mut String) -> Result<(), AllocError> {
-    debug_word(&kind, out)?;
+fn tell_fault(kind: LexKind, at: usize, out: &mut Page) {
+    debug_word(&kind, out);
     show(&at, out)
 }
 
 /// Prints why the tokens stopped, where they did.
-fn tell_stop(tokens: &Tokens<'_>, out: &mut String) -> Result<(), AllocError> {
+fn tell_stop(tokens: &Tokens<'_>, out: &mut Page) {
     match tokens.fault() {
         Some(fault) => {
-            tell_fault(fault.kind, fault.at, out)?;
-            out.push_str("; ")
+            tell_fault(fault.kind, fault.at, out);
+            out.put("; ")
         }
-        None => Ok(()),
+        None => {},
     }
 }
 
 /// Prints a token and its bytes.
-fn tell_lent(text: &str, lo: usize, hi: usize, out: &mut String) -> Result<(), AllocError> {
-    word(text, out)?;
-    show(&lo, out)?;
-    out.push_str("..")?;
-    show(&hi, out)?;
-    out.push_str("; ")
+fn tell_lent(text: &str, lo: usize, hi: usize, out: &mut Page) {
+    word(text, out);
+    show(&lo, out);
+    out.put("..");
+    show(&hi, out);
+    out.put("; ")
 }
 
 /// The tokens of a text as they are borrowed, why they stopped, and what is left of it.
-fn lent(text: &str, out: &mut String) -> Result<(), AllocError> {
+fn lent(text: &str, out: &mut Page) {
     let mut tokens = Tokens::new(text);
     for _ in 0..text.len() {
-        tell_stop(&tokens, out)?;
+        tell_stop(&tokens, out);
         match tokens.next() {
-            Some(token) => tell_lent(token.text, token.lo, token.hi, out)?,
+            Some(token) => tell_lent(token.text, token.lo, token.hi, out),
             None => break,
         }
     }
@@ -83,15 +78,21 @@ fn lent(text: &str, out: &mut String) -> Result<(), AllocError> {
 }
 
 /// A stream that is built of a group and a literal, and set to another span.
-fn built(alloc: Global, out: &mut String) -> Result<(), AllocError> {
-    let first = token_of(alloc, "1", HERE)?;
-    let inside = stream_of(alloc, TokenTree::Literal(first))?;
+fn built(alloc: Global, out: &mut Page) {
+    let Ok(first) = token_of(alloc, "1", HERE) else {
+        return out.fail();
+    };
+    let Ok(inside) = stream_of(alloc, TokenTree::Literal(first)) else {
+        return out.fail();
+    };
     let group = Group::new(Delimiter::Brace, inside, HERE);
-    let mut stream = stream_of(alloc, TokenTree::Group(group))?;
-    tell_all(stream.trees(), out)?;
+    let Ok(mut stream) = stream_of(alloc, TokenTree::Group(group)) else {
+        return out.fail();
+    };
+    tell_all(stream.trees(), out);
     stream.respan(Span::new(0, 8, 9));
-    tell_all(stream.trees(), out)?;
-    out.push_str("\n")
+    tell_all(stream.trees(), out);
+    out.put("\n")
 }
 
 /// A stream of one tree.

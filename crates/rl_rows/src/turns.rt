@@ -1,9 +1,10 @@
 //! A user's own parser, in turn with that of literals.
 
 use crate::tell::{debug_word, line, show_line, tell_error, trees_of};
+use rl_refusing::Page;
 use rl_tokens::{Error, Parse, ParseBuffer, Span, Token};
 use rust_literals::Lit;
-use std::alloc::{AllocError, Allocator, Global};
+use std::alloc::{Allocator, Global};
 
 /// A user's own type: one mark.
 #[derive(Drop)]
@@ -42,45 +43,40 @@ impl Token for Sign {
 }
 
 /// Literals and signs in turn, up to the end or an error.
-pub(crate) fn turns(alloc: Global, text: &str, out: &mut String) -> Result<(), AllocError> {
+pub(crate) fn turns(alloc: Global, text: &str, out: &mut Page) {
     let Some(stream) = trees_of(alloc, text, 0) else {
         return line("no trees", out);
     };
     let mut input = ParseBuffer::new(stream.trees(), Span::call_site());
     for _ in 0..stream.trees().len() {
-        if !turn(alloc, &mut input, out)? {
-            return Ok(());
+        if !turn(alloc, &mut input, out) {
+            return;
         }
     }
-    Ok(())
 }
 
 /// A literal and a sign; false where one of them is rejected, and at the end.
-fn turn(alloc: Global, input: &mut ParseBuffer<'_>, out: &mut String) -> Result<bool, AllocError> {
-    if !next_literal(alloc, input, out)? || !next_sign(alloc, input, out)? {
-        return Ok(false);
+fn turn(alloc: Global, input: &mut ParseBuffer<'_>, out: &mut Page) -> bool {
+    if !next_literal(alloc, input, out) || !next_sign(alloc, input, out) {
+        return false;
     }
     if input.is_empty() {
-        line("end", out)?;
-        return Ok(false);
+        line("end", out);
+        return false;
     }
-    Ok(true)
+    true
 }
 
 /// The literal that stands next; false where there is none.
-fn next_literal(
-    alloc: Global,
-    input: &mut ParseBuffer<'_>,
-    out: &mut String,
-) -> Result<bool, AllocError> {
+fn next_literal(alloc: Global, input: &mut ParseBuffer<'_>, out: &mut Page) -> bool {
     let answer = input.parse::<Lit>(alloc);
     let is_there = answer.is_ok();
-    tell_literal(answer, out)?;
-    Ok(is_there)
+    tell_literal(answer, out);
+    is_there
 }
 
 /// Prints a literal, or why there is none.
-fn tell_literal(answer: Result<Lit, Error>, out: &mut String) -> Result<(), AllocError> {
+fn tell_literal(answer: Result<Lit, Error>, out: &mut Page) {
     match answer {
         Ok(literal) => debug_word(&literal, out),
         Err(error) => tell_error(&error, out),
@@ -88,19 +84,15 @@ fn tell_literal(answer: Result<Lit, Error>, out: &mut String) -> Result<(), Allo
 }
 
 /// The sign that stands next; false where there is none.
-fn next_sign(
-    alloc: Global,
-    input: &mut ParseBuffer<'_>,
-    out: &mut String,
-) -> Result<bool, AllocError> {
+fn next_sign(alloc: Global, input: &mut ParseBuffer<'_>, out: &mut Page) -> bool {
     let answer = input.parse::<Sign>(alloc);
     let is_there = answer.is_ok();
-    tell_sign(answer, out)?;
-    Ok(is_there)
+    tell_sign(answer, out);
+    is_there
 }
 
 /// Prints a sign, or why there is none.
-fn tell_sign(answer: Result<Sign, Error>, out: &mut String) -> Result<(), AllocError> {
+fn tell_sign(answer: Result<Sign, Error>, out: &mut Page) {
     match answer {
         Ok(sign) => show_line(&sign.ch, out),
         Err(error) => tell_error(&error, out),

@@ -3,7 +3,7 @@
 use std::alloc::{AllocError, Global};
 use std::fmt::{Debug, Display};
 
-/// A text that notes where memory for it was wanted and refused, so that the pieces can be put one after another.
+/// A text that notes a failed allocation, so that pieces can be put one after another.
 #[derive(Drop)]
 pub struct Page {
     alloc: Global,
@@ -64,7 +64,12 @@ impl Page {
         self.text.as_str()
     }
 
-    /// The whole text, if memory for it was there.
+    /// Notes that an allocation failed elsewhere.
+    pub fn fail(&mut self) {
+        self.is_short = true;
+    }
+
+    /// The whole text, if no allocation failed.
     pub fn finished(self) -> Result<String, AllocError> {
         if self.is_short {
             return Err(AllocError);
