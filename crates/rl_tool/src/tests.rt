@@ -8,23 +8,46 @@ use crate::command::Command;
 use crate::ending::{Ending, call};
 use crate::run::run;
 use rl_program::Fault;
+use rl_refusing::Page;
 use rl_tokens::{Error, ErrorKind, Span};
-use std::alloc::Global;
+use std::alloc::{AllocError, Global};
 use std::io::{self, Read};
 use std::test::Fail;
 
-/// What a call writes, and after it its status and the line that it tells. A LF parts the arguments, of which the
-/// program's name is the first.
-fn called(alloc: Global, words: &str, mut input: &[u8]) -> Result<String, Fail> {
+/// Arguments that LFs part, of which the program's name is the first.
+fn arguments(alloc: Global, words: &str) -> Result<Vec<String>, AllocError> {
     let mut args = Vec::new(alloc);
     for word in words.split('\n') {
         args.push(String::from_str(alloc, word)?)?;
     }
+    Ok(args)
+}
+
+/// Puts an ending last: its status and the line that it reports.
+fn put_ending(ending: &Ending, page: &mut Page) {
+    page.put_shown(&ending.status());
+    page.put(" ");
+    page.put_shown(ending);
+}
+
+/// Puts last what a call writes, and its ending.
+fn put_call(alloc: Global, words: &str, mut input: &[u8], page: &mut Page) {
+    let Ok(args) = arguments(alloc, words) else {
+        return page.fail();
+    };
     let mut out = Vec::new(alloc);
     let ending = call(alloc, args.as_slice(), &mut input, &mut out);
-    let written = String::from_utf8(out)?;
-    let status = ending.status();
-    Ok(format!(in alloc; "{written}{status} {ending}")?)
+    page.put(std::str::from_utf8(out.as_slice()).unwrap_or("no text"));
+    put_ending(&ending, page);
+}
+
+/// Puts a row last, with what came of it, where that isn't what was wanted.
+fn put_wrong(row: &str, told: &Page, wanted: &str, wrong: &mut Page) {
+    if told.text() != wanted {
+        wrong.put(row);
+        wrong.put(" gives ");
+        wrong.put(told.text());
+    }
 }
 
 /// Rows of arguments, an input, and what comes of the call: a `␞` ends a row, a `␟` parts its three.
@@ -67,70 +90,73 @@ const CALLS: &str = concat!(
     "text␟1␟2 usage: rl_tool text|read|attr␞",
 );
 
+/// Puts a row last, with what came of it, where that isn't what it says.
+fn put_wrong_call(alloc: Global, row: &str, wrong: &mut Page) {
+    let Some((words, rest)) = row.split_once('␟') else {
+        return wrong.put(row);
+    };
+    let (input, wanted) = rest.split_once('␟').unwrap_or((rest, ""));
+    let mut told = wrong.another();
+    put_call(alloc, words, input.as_bytes(), &mut told);
+    put_wrong(row, &told, wanted, wrong);
+}
+
 #[test]
 fn calls(rt: HostRuntime) -> Result<(), Fail> {
+    let mut wrong = Page::new(rt.alloc());
     for row in CALLS.split('␞') {
-        let mut parts = row.split('␟');
-        if let (Some(words), Some(input), Some(wanted)) = (
-            parts.next(),
-            parts.next(),
-            parts.next(),
-        ) {
-            let done = called(rt.alloc(), words, input.as_bytes())?;
-            assert_eq!(&rt; done.as_str(), wanted, "of {words:?} on {input:?}");
-        }
+        put_wrong_call(rt.alloc(), row, &mut wrong);
     }
+    assert_eq!(&rt; wrong.finished()?.as_str(), "");
     Ok(())
 }
+
+/// Inputs that are no text: a byte that begins no character, a second byte first, and half of a pair of UTF-16. A comma
+/// parts them.
+const NO_TEXTS: &[u8] = b"\xFF,\"\x80\",\xED\xA0\x80";
 
 #[test]
 fn inputs_that_are_no_text(rt: HostRuntime) -> Result<(), Fail> {
-    for input in [
-        b"\xFF".as_slice(),
-        b"\"\x80\"".as_slice(),
-        b"\xED\xA0\x80".as_slice(),
-    ] {
-        let done = called(rt.alloc(), "rl_tool\ntext", input)?;
-        assert_eq!(&rt; done.as_str(), "1 error: input is not UTF-8");
+    let mut told = Page::new(rt.alloc());
+    for input in NO_TEXTS.split(|byte| *byte == b',') {
+        put_call(rt.alloc(), "rl_tool\ntext", input, &mut told);
+        told.put("\n");
     }
+    let wanted = concat!(
+        "1 error: input is not UTF-8\n",
+        "1 error: input is not UTF-8\n",
+        "1 error: input is not UTF-8\n",
+    );
+    assert_eq!(&rt; told.finished()?.as_str(), wanted);
     Ok(())
 }
 
-/// The status and the line of a call whose run fails.
-fn failed(alloc: Global, fault: Fault) -> Result<String, Fail> {
-    let ending = Ending::Failed(fault);
-    let status = ending.status();
-    Ok(format!(in alloc; "{status} {ending}")?)
+/// Puts last how a call ends whose run fails.
+fn put_failed(fault: Fault, page: &mut Page) {
+    put_ending(&Ending::Failed(fault), page);
+    page.put("\n");
 }
 
 #[test]
 fn faults(rt: HostRuntime) -> Result<(), Fail> {
-    let alloc = rt.alloc();
+    let mut told = Page::new(rt.alloc());
+    put_failed(Fault::Read, &mut told);
+    put_failed(Fault::Write, &mut told);
+    put_failed(Fault::NotText, &mut told);
+    put_failed(Fault::Memory, &mut told);
     let error = Error {
         span: Span::new(0, 2, 5),
         kind: ErrorKind::TooLarge,
     };
-    let mut told = String::new(alloc);
-    for fault in [
-        Fault::Read,
-        Fault::Write,
-        Fault::NotText,
-        Fault::Memory,
-        Fault::Literal(error),
-    ] {
-        told.push_str(failed(alloc, fault)?.as_str())?;
-        told.push('\n')?;
-    }
-    assert_eq!(&rt;
-        told.as_str(),
-        concat!(
-            "2 error: read failed\n",
-            "2 error: write failed\n",
-            "1 error: input is not UTF-8\n",
-            "1 error: out of memory\n",
-            "1 error at 2..5: integer literal past 128 bits\n",
-        )
+    put_failed(Fault::Literal(error), &mut told);
+    let wanted = concat!(
+        "2 error: read failed\n",
+        "2 error: write failed\n",
+        "1 error: input is not UTF-8\n",
+        "1 error: out of memory\n",
+        "1 error at 2..5: integer literal past 128 bits\n",
     );
+    assert_eq!(&rt; told.finished()?.as_str(), wanted);
     Ok(())
 }
 
@@ -164,16 +190,23 @@ fn many_turns(rt: HostRuntime) -> Result<(), Fail> {
 /// An input of several turns, and lines longer than one.
 #[test]
 fn long_inputs(rt: HostRuntime) -> Result<(), Fail> {
-    let alloc = rt.alloc();
-    let mut text = String::from_str(alloc, "\"")?;
-    let mut line = String::from_str(alloc, "Str \"")?;
+    let mut text = Page::new(rt.alloc());
+    let mut line = text.another();
+    text.put("\"");
+    line.put("Str \"");
     for _ in 0..3000 {
-        text.push_str("a\\x41é")?;
-        line.push_str("aAé")?;
+        text.put("a\\x41é");
+        line.put("aAé");
     }
-    text.push_str("\"")?;
-    line.push_str("\" -\n0 ")?;
-    let done = called(alloc, "rl_tool\ntext", text.as_bytes())?;
-    assert!(&rt; done.as_str() == line.as_str());
+    text.put("\"");
+    line.put("\" -\n0 ");
+    let mut told = text.another();
+    put_call(
+        rt.alloc(),
+        "rl_tool\ntext",
+        text.text().as_bytes(),
+        &mut told,
+    );
+    assert!(&rt; told.finished()?.as_str() == line.finished()?.as_str());
     Ok(())
 }

@@ -3,6 +3,8 @@
 use crate::command::Command;
 use crate::run::run;
 use rl_program::Fault;
+use rl_refusing::Page;
+use std::alloc::Global;
 use std::io::{self, ErrorKind, Read, Write};
 use std::test::Fail;
 
@@ -67,48 +69,65 @@ fn a_reader_that_fails(rt: HostRuntime) {
     assert!(&rt; out.is_empty());
 }
 
+/// What a writer that fails after so many bytes, or answers zero then, has taken of the lines.
+fn held_by(alloc: Global, room: usize, fails: bool, told: &mut Page) {
+    let mut held = Vec::new(alloc);
+    let mut out = Room {
+        held: &mut held,
+        at_once: usize::MAX,
+        room,
+        fails,
+    };
+    match run(alloc, Command::Read, &mut LIST.as_bytes(), &mut out) {
+        Err(Fault::Write) => {}
+        _ => told.put("no write failed: "),
+    }
+    told.put(std::str::from_utf8(held.as_slice()).unwrap_or("no text"));
+    told.put(".");
+}
+
 #[test]
 fn writers_that_fail(rt: HostRuntime) -> Result<(), Fail> {
-    let alloc = rt.alloc();
-    for (room, fails, written) in [
-        (5, true, "Int 2"),
-        (0, true, ""),
-        (0, false, ""),
-        (5, false, "Int 2"),
-    ] {
-        let mut held = Vec::new(alloc);
-        let mut out = Room {
-            held: &mut held,
-            at_once: usize::MAX,
-            room,
-            fails,
-        };
-        let answer = run(alloc, Command::Read, &mut LIST.as_bytes(), &mut out);
-        assert!(&rt; matches!(answer, Err(Fault::Write)));
-        assert_eq!(&rt; held.as_slice(), written.as_bytes());
-    }
+    let mut told = Page::new(rt.alloc());
+    held_by(rt.alloc(), 5, true, &mut told);
+    held_by(rt.alloc(), 0, true, &mut told);
+    held_by(rt.alloc(), 0, false, &mut told);
+    held_by(rt.alloc(), 5, false, &mut told);
+    assert_eq!(&rt; told.finished()?.as_str(), "Int 2...Int 2.");
     Ok(())
+}
+
+/// The lines, read and written by so many bytes a call.
+fn read_by(alloc: Global, at_once: usize, told: &mut Page) {
+    let mut input = Source {
+        bytes: LIST.as_bytes(),
+        at_once,
+        calls: usize::MAX,
+    };
+    let mut held = Vec::new(alloc);
+    let mut out = Room {
+        held: &mut held,
+        at_once,
+        room: usize::MAX,
+        fails: true,
+    };
+    if run(alloc, Command::Read, &mut input, &mut out).is_err() {
+        told.put("the run failed: ");
+    }
+    told.put(std::str::from_utf8(held.as_slice()).unwrap_or("no text"));
 }
 
 #[test]
 fn a_few_bytes_a_call(rt: HostRuntime) -> Result<(), Fail> {
-    let alloc = rt.alloc();
-    for at_once in [1, 3, 7] {
-        let mut input = Source {
-            bytes: LIST.as_bytes(),
-            at_once,
-            calls: usize::MAX,
-        };
-        let mut held = Vec::new(alloc);
-        let mut out = Room {
-            held: &mut held,
-            at_once,
-            room: usize::MAX,
-            fails: true,
-        };
-        run(alloc, Command::Read, &mut input, &mut out)?;
-        let wanted = "Int 255 u8\nFloat -1.5 -\nBool true -\nChar 'x' -\n";
-        assert_eq!(&rt; held.as_slice(), wanted.as_bytes());
-    }
+    let mut told = Page::new(rt.alloc());
+    read_by(rt.alloc(), 1, &mut told);
+    read_by(rt.alloc(), 3, &mut told);
+    read_by(rt.alloc(), 7, &mut told);
+    let wanted = concat!(
+        "Int 255 u8\nFloat -1.5 -\nBool true -\nChar 'x' -\n",
+        "Int 255 u8\nFloat -1.5 -\nBool true -\nChar 'x' -\n",
+        "Int 255 u8\nFloat -1.5 -\nBool true -\nChar 'x' -\n",
+    );
+    assert_eq!(&rt; told.finished()?.as_str(), wanted);
     Ok(())
 }

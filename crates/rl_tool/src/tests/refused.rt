@@ -2,47 +2,45 @@
 
 use crate::command::Command;
 use crate::run::run;
-use rl_refusing::Refusing;
-use std::alloc::{AllocError, Global};
+use rl_refusing::{Page, Refusing};
+use std::alloc::Global;
 use std::test::Fail;
 
-/// What a run tells, and how many bytes it has written.
-fn told(
+/// Puts last what a run reports, and how many bytes it has written.
+fn put_run(
     alloc: Global,
     refusing: &Refusing<Global>,
     command: Command,
     text: &str,
-) -> Result<String, AllocError> {
+    page: &mut Page,
+) {
     let mut out = Vec::new(alloc);
     let answer = run(refusing, command, &mut text.as_bytes(), &mut out);
     refusing.allow();
-    let written = out.len();
     match answer {
-        Ok(()) => format!(in alloc; "done, {written} written\n"),
-        Err(fault) => format!(in alloc; "{fault}, {written} written\n"),
+        Ok(()) => page.put("done"),
+        Err(fault) => page.put_shown(&fault),
     }
+    page.put(", ");
+    page.put_number(out.len());
+    page.put(" written\n");
 }
 
-/// What runs tell, with no failing allocation, and then with each of so many failing, and all after it.
-fn all_told(
-    alloc: Global,
-    command: Command,
-    text: &str,
-    requests: u64,
-) -> Result<String, AllocError> {
+/// Puts last what runs report, with no failing allocation, and then with each of so many failing, and all after it.
+fn put_runs(alloc: Global, command: Command, text: &str, requests: u64, page: &mut Page) {
     let refusing = Refusing::new(alloc);
-    let mut out = told(alloc, &refusing, command, text)?;
+    put_run(alloc, &refusing, command, text, page);
     for n in 1..=requests {
         refusing.refuse(n, u64::MAX);
-        out.push_str(told(alloc, &refusing, command, text)?.as_str())?;
+        put_run(alloc, &refusing, command, text, page);
     }
-    Ok(out)
 }
 
 /// The input's bytes and the token, then the digits, without which a literal is an error, then the line.
 #[test]
 fn one_literal(rt: HostRuntime) -> Result<(), Fail> {
-    let answers = all_told(rt.alloc(), Command::Text, "0x1", 4)?;
+    let mut answers = Page::new(rt.alloc());
+    put_runs(rt.alloc(), Command::Text, "0x1", 4, &mut answers);
     let wanted = concat!(
         "done, 8 written\n",
         "error: out of memory, 0 written\n",
@@ -50,14 +48,15 @@ fn one_literal(rt: HostRuntime) -> Result<(), Fail> {
         "error at 0..3: out of memory, 0 written\n",
         "error: out of memory, 0 written\n",
     );
-    assert_eq!(&rt; answers.as_str(), wanted);
+    assert_eq!(&rt; answers.finished()?.as_str(), wanted);
     Ok(())
 }
 
 /// The input's bytes, then the token, its digits and the list, without which the literals are an error, then the line.
 #[test]
 fn a_list(rt: HostRuntime) -> Result<(), Fail> {
-    let answers = all_told(rt.alloc(), Command::Read, "0x1", 5)?;
+    let mut answers = Page::new(rt.alloc());
+    put_runs(rt.alloc(), Command::Read, "0x1", 5, &mut answers);
     let wanted = concat!(
         "done, 8 written\n",
         "error: out of memory, 0 written\n",
@@ -66,7 +65,7 @@ fn a_list(rt: HostRuntime) -> Result<(), Fail> {
         "error at 0..0: out of memory, 0 written\n",
         "error: out of memory, 0 written\n",
     );
-    assert_eq!(&rt; answers.as_str(), wanted);
+    assert_eq!(&rt; answers.finished()?.as_str(), wanted);
     Ok(())
 }
 
@@ -74,7 +73,8 @@ fn a_list(rt: HostRuntime) -> Result<(), Fail> {
 /// reported at the first tree: for the set of names, the name, the token, its digits and the list; then the line.
 #[test]
 fn attributes(rt: HostRuntime) -> Result<(), Fail> {
-    let answers = all_told(rt.alloc(), Command::Attr, "a = 0x1", 14)?;
+    let mut answers = Page::new(rt.alloc());
+    put_runs(rt.alloc(), Command::Attr, "a = 0x1", 14, &mut answers);
     let wanted = concat!(
         "done, 10 written\n",
         "error: out of memory, 0 written\n",
@@ -92,6 +92,6 @@ fn attributes(rt: HostRuntime) -> Result<(), Fail> {
         "error: out of memory, 0 written\n",
         "error: out of memory, 0 written\n",
     );
-    assert_eq!(&rt; answers.as_str(), wanted);
+    assert_eq!(&rt; answers.finished()?.as_str(), wanted);
     Ok(())
 }
