@@ -16,8 +16,11 @@ pub use take::read;
 ///
 /// ```
 /// match attrs.get(name) {
-///     Some(value) => line_of(alloc, value),
-///     None => String::from_str(alloc, "none\n"),
+///     Some(value) => match line_of(alloc, value) {
+///         Ok(line) => page.put(line.as_str()),
+///         Err(_) => page.fail(),
+///     },
+///     None => page.put("none\n"),
 /// }
 /// ```
 #[derive(Drop)]
@@ -35,12 +38,8 @@ pub struct Entry<A: Allocator = Global> {
 /// # Example
 ///
 /// ```
-/// let attrs = read(alloc, "a = 1, b = \"x\", true = 'y'", 4)?;
-///
-/// match attrs.get(name) {
-///     Some(value) => line_of(alloc, value),
-///     None => String::from_str(alloc, "none\n"),
-/// }
+/// let attrs = read(rt.alloc(), text.text(), 0)?;
+/// assert!(&rt; attrs.entries().len() == 100_000);
 /// ```
 #[derive(Drop)]
 pub struct Attrs<A: Allocator = Global> {
@@ -68,8 +67,11 @@ impl<A: Allocator> Attrs<A> {
     ///
     /// ```
     /// match attrs.get(name) {
-    ///     Some(value) => line_of(alloc, value),
-    ///     None => String::from_str(alloc, "none\n"),
+    ///     Some(value) => match line_of(alloc, value) {
+    ///         Ok(line) => page.put(line.as_str()),
+    ///         Err(_) => page.fail(),
+    ///     },
+    ///     None => page.put("none\n"),
     /// }
     /// ```
     pub fn get(&self, name: &str) -> Option<&Lit<A>>

@@ -74,9 +74,9 @@ pub struct Found {
 ///
 /// ```
 /// Some(parts) => {
-///     debug_word(&parts.kind, out)?;
-///     out.push_str(parts.body)?;
-///     out.push_str(".")?;
+///     debug_word(&parts.kind, out);
+///     out.put(parts.body);
+///     out.put(".");
 ///     line(parts.suffix, out)
 /// }
 /// ```

@@ -132,8 +132,8 @@ impl<A: Allocator> LitStr<A> {
     /// ```
     /// match string.parse::<LitInt, Global>(alloc) {
     ///     Ok(integer) => {
-    ///         show_word(&integer, out)?;
-    ///         show_line(&At(integer.span()), out)
+    ///         show_word(&integer, out);
+    ///         at_line(integer.span(), out)
     ///     }
     ///     Err(error) => tell_error(&error, out),
     /// }

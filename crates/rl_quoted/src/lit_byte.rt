@@ -55,9 +55,9 @@ impl<A: Allocator> LitByte<A> {
     /// # Example
     ///
     /// ```
-    /// show(&literal.value(), out)?;
-    /// word(literal.suffix(), out)?;
-    /// show_word(&At(literal.span()), out)
+    /// show(&literal.value(), out);
+    /// word(literal.suffix(), out);
+    /// at_word(literal.span(), out)
     /// ```
     pub fn value(&self) -> u8
         ensures { HasContents Byte (chars self.now.text) (Bytes (result ∷ [])) }

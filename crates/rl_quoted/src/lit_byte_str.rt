@@ -28,10 +28,10 @@ impl QuotedKind for ByteStrKind {
 ///
 /// ```
 /// let Ok(literal) = LitByteStr::new(alloc, bytes, HERE) else {
-///     return Err(AllocError);
+///     return out.fail();
 /// };
 /// let Ok(value) = literal.value(alloc) else {
-///     return Err(AllocError);
+///     return out.fail();
 /// };
 /// ```
 pub type LitByteStr<A = Global> = Quoted<ByteStrKind, A>;

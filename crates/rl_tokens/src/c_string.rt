@@ -17,7 +17,7 @@ use std::marker::Model;
 /// # Example
 ///
 /// ```
-/// match CString::new(bytes.to_vec(alloc)?) {
+/// match CString::new(bytes) {
 ///     Ok(held) => held_c_string(alloc, &held, out),
 ///     Err(refused) => refused_c_string(refused, out),
 /// }
@@ -43,8 +43,8 @@ impl<A: Allocator> Model for CString<A> {
 /// # Example
 ///
 /// ```
-/// show_word(&refused.nul_position(), out)?;
-/// word("of", out)?;
+/// show_word(&refused.nul_position(), out);
+/// word("of", out);
 /// debug_line(&refused.into_vec().as_slice(), out)
 /// ```
 #[derive(Drop)]

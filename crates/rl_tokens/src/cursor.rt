@@ -16,7 +16,7 @@ use std::marker::Model;
 /// # Example
 ///
 /// ```
-/// Some(token) => tell_lent(token.text, token.lo, token.hi, out)?,
+/// Some(token) => tell_lent(token.text, token.lo, token.hi, out),
 /// None => break,
 /// ```
 #[derive(Clone, Copy)]
@@ -41,7 +41,7 @@ pub struct Lexeme<'t> {
 /// let mut tokens = Tokens::new(text);
 ///
 /// match tokens.next() {
-///     Some(token) => tell_lent(token.text, token.lo, token.hi, out)?,
+///     Some(token) => tell_lent(token.text, token.lo, token.hi, out),
 ///     None => break,
 /// }
 /// ```

@@ -16,7 +16,7 @@ use std::fmt;
 /// An error's bytes and its message:
 ///
 /// ```
-/// place(error.span, out)?;
+/// place(error.span, out);
 /// show_line(error, out)
 /// ```
 #[derive(Drop)]

@@ -9,10 +9,10 @@ use std::alloc::{Allocator, Global};
 /// # Example
 ///
 /// ```
-/// word(kept.value.text(), out)?;
-/// show_word(&At(kept.value.span()), out)?;
-/// tell_error(&kept.error, out)?;
-/// Ok(kept.value)
+/// word(kept.value.text(), out);
+/// at_word(kept.value.span(), out);
+/// tell_error(&kept.error, out);
+/// kept.value
 /// ```
 #[derive(Drop)]
 #[derive_where(Debug; T)]

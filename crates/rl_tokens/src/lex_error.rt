@@ -11,8 +11,8 @@ use std::fmt;
 ///
 /// ```
 /// match lex(alloc, text, 7) {
-///     Ok(stream) => tell_all(stream.trees(), out)?,
-///     Err(fault) => tell_fault(fault.kind, fault.at, out)?,
+///     Ok(stream) => tell_all(stream.trees(), out),
+///     Err(fault) => tell_fault(fault.kind, fault.at, out),
 /// }
 /// ```
 #[derive(Clone, Copy, PartialEq, Eq, Debug)]

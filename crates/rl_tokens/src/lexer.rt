@@ -30,8 +30,8 @@ use std::alloc::Allocator;
 ///
 /// ```
 /// match lex(alloc, text, 7) {
-///     Ok(stream) => tell_all(stream.trees(), out)?,
-///     Err(fault) => tell_fault(fault.kind, fault.at, out)?,
+///     Ok(stream) => tell_all(stream.trees(), out),
+///     Err(fault) => tell_fault(fault.kind, fault.at, out),
 /// }
 /// ```
 ///

@@ -142,7 +142,7 @@ pub trait Token {
 /// ```
 /// let mut stream = TokenStream::new(alloc);
 /// if literal.to_tokens(alloc, &mut stream).is_err() {
-///     return Err(AllocError);
+///     return out.fail();
 /// }
 /// ```
 pub trait ToTokens {

@@ -70,7 +70,7 @@ impl Span {
     ///
     /// ```
     /// match first.join(second) {
-    ///     Some(joined) => show_line(&At(joined), out),
+    ///     Some(joined) => at_line(joined, out),
     ///     None => line("None", out),
     /// }
     /// ```

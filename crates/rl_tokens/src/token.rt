@@ -37,9 +37,9 @@ pub enum Delimiter {
 ///
 /// ```
 /// if let TokenTree::Group(group) = tree {
-///     word("<", out)?;
-///     tell_all(group.stream().trees(), out)?;
-///     word(">", out)?;
+///     word("<", out);
+///     tell_all(group.stream().trees(), out);
+///     word(">", out);
 /// }
 /// ```
 #[derive(Drop)]

@@ -16,8 +16,8 @@ use std::alloc::Allocator;
 ///
 /// ```
 /// let mut literal = LitBool::new(value, HERE);
-/// show_word(&literal.value(), out)?;
-/// show_word(&At(literal.span()), out)?;
+/// show_word(&literal.value(), out);
+/// at_word(literal.span(), out);
 /// ```
 #[derive(Drop)]
 pub struct LitBool {

@@ -22,9 +22,9 @@ pub struct IntKind;
 /// Digits in base ten, suffix and place:
 ///
 /// ```
-/// word(literal.base10_digits(), out)?;
-/// debug_word(&literal.suffix(), out)?;
-/// show_word(&At(literal.span()), out)?;
+/// word(literal.base10_digits(), out);
+/// debug_word(&literal.suffix(), out);
+/// at_word(literal.span(), out);
 /// ```
 pub type LitInt<A = Global> = Number<IntKind, A>;
 

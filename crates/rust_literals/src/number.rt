@@ -190,8 +190,8 @@ impl<K: NumberKind, A: Allocator> Number<K, A> {
     /// Of `0xFF_u8` they are `255`, and the suffix is `u8`:
     ///
     /// ```
-    /// word(literal.base10_digits(), out)?;
-    /// debug_word(&literal.suffix(), out)?;
+    /// word(literal.base10_digits(), out);
+    /// debug_word(&literal.suffix(), out);
     /// ```
     pub fn base10_digits(&self) -> &str
         ensures { HasDigits K.KIND (chars self.now.text) (chars result.now) }
