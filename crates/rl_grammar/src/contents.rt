@@ -1,71 +1,30 @@
 //! What quoted literals stand for.
 
-ghost use Rattle.std.specs.Prelude.{◌≡◌, ◌⊎◌, ◌++◌, [], ◌∷◌, ℕ, List, IsTrue, OnOk, IfOk, IfErr, string_bytes};
+ghost use Rattle.std.specs.Prelude.{◌≡◌, ◌⊎◌, [], ◌∷◌, ℕ, List, IsTrue, IfOk, IfErr, string_bytes};
 ghost use Rattle.std.specs.Str.{chars, IsUtf8};
 ghost use Rattle.rl_tokens.specs.Errors.{memory_at, nowhere};
 ghost use Rattle.rl_tokens.specs.Quoted.{is_string};
 ghost use Rattle.rl_tokens.specs.Reading.{Characters, Bytes, quoted_contents, ReadsQuoted, ReadsAs, HasContents};
 ghost use Rattle.rl_grammar.specs.Mirrors.UnitAt.{piece_value};
 ghost use Rattle.rl_grammar.specs.Bodies.{HasBody, HasSingleBody};
-ghost use Rattle.rl_grammar.specs.Decoded.{ContentsAre, piece_bytes, HoldsBytes};
+ghost use Rattle.rl_grammar.specs.Decoded.{ContentsAre, HoldsBytes};
 ghost use Rattle.rl_grammar.specs.Mirrors.Decodes.{Decodes};
 
 use crate::found::found_in;
-use crate::runs::split_plain;
+use crate::into::decode_into;
 use crate::units::{Piece, unit};
 use rl_tokens::{Error, Kind};
 use std::alloc::{AllocError, Allocator};
 
-/// Puts the few bytes at the end, each by itself.
-#[inline(always)]
-fn push_each<A: Allocator>(bytes: &mut Vec<u8, A>, few: &[u8]) -> Result<(), AllocError>
-    ensures { OnOk result (bytes.new.items ≡ bytes.old.items ++ few.now) }
-{
-    for byte in few {
-        bytes.push(*byte)?;
-    }
-    Ok(())
-}
-
-/// Puts a piece at the end, a character as its UTF-8 bytes.
-#[inline(always)]
-fn push_piece<A: Allocator>(bytes: &mut Vec<u8, A>, piece: Piece) -> Result<(), AllocError>
-    ensures { OnOk result (bytes.new.items ≡ bytes.old.items ++ piece_bytes piece) }
-{
-    match piece {
-        Piece::Character(c) => push_each(bytes, c.encode_utf8(&mut [0; 4]).as_bytes()),
-        Piece::Byte(b) => Ok(bytes.push(b)?),
-        Piece::Nothing => Ok(()),
-    }
-}
-
-/// Puts a run of characters at the end. It is often empty, between escapes.
-fn push_run<A: Allocator>(bytes: &mut Vec<u8, A>, run: &str) -> Result<(), AllocError>
-    ensures { OnOk result (bytes.new.items ≡ bytes.old.items ++ run.now) }
-{
-    if run.is_empty() {
-        return Ok(());
-    }
-    bytes.extend_from_slice(run.as_bytes())
-}
-
-/// The bytes of the units at the front of a text, in one allocation: they are never more than the text's own. A run of
-/// plain characters is copied at once.
+/// The bytes of the units at the front of a text, in one allocation: they are never more than the text's own.
 fn decode<A: Allocator>(alloc: A, kind: Kind, text: &str) -> Result<Vec<u8, A>, AllocError>
     requires { IsTrue (is_string kind) }
     ensures { IfOk result (λ bytes. Decodes kind (chars text.now) bytes.items) }
 {
-    let mut bytes = Vec::with_capacity(alloc, text.len())?;
-    let mut rest = text;
-    loop {
-        let (run, behind) = split_plain(kind, rest);
-        push_run(&mut bytes, run)?;
-        let Some((piece, after)) = unit(kind, behind) else {
-            return Ok(bytes);
-        };
-        push_piece(&mut bytes, piece)?;
-        rest = after;
-    }
+    let mut bytes = vec![in alloc; 0; text.len()]?;
+    let len = decode_into(kind, text, bytes.as_mut_slice());
+    bytes.truncate(len);
+    Ok(bytes)
 }
 
 /// The bytes that the body of a string stands for, those of characters in UTF-8: the body itself where it is plain.

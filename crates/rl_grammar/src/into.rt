@@ -46,7 +46,7 @@ fn put_run(out: &mut [u8], at: usize, run: &str) -> usize
 
 /// Writes the bytes of the units at the front of a text, never more than the text's own, and returns how many they
 /// are. A run of plain characters is copied at once.
-fn decode_into(kind: Kind, text: &str, out: &mut [u8]) -> usize
+pub(crate) fn decode_into(kind: Kind, text: &str, out: &mut [u8]) -> usize
     requires string { IsTrue (is_string kind) }
     requires room { length text.now ≤ length out.old }
     ensures decodes { Decodes kind (chars text.now) (take result out.new) }

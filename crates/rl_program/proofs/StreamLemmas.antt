@@ -25,12 +25,6 @@ written_more a b c all rest piece left w p e = record {
   appends = Appends-trans a b c w.front piece w.appends p;
 }
 
--- all of them
-pub written_all : (a b : Option (List ℕ)) (all rest : List ℕ) → IsWritten a b all rest → rest ≡ [] → Appends a b all
-written_all a b all rest w e =
-    let same : all ≡ w.front = w.all_is ∙ ap (λ z. w.front ++ z) e ∙ append-nil w.front in
-    rw same w.appends
-
 -- a beginning, where the write after them failed
 pub written_beginning : (a b c : Option (List ℕ)) (all rest : List ℕ) → IsWritten a b all rest → Keeps b c → AppendsBeginning a c all
 written_beginning a b c all rest w k =

@@ -46,10 +46,6 @@ cases128 c = grind arith
 pub low_front : (c : ℕ) (cs : List ℕ) → c < 128 → encode_utf8_all (c ∷ cs) ≡ c ∷ encode_utf8_all cs
 low_front c cs low = ap (λ x. x ++ encode_utf8_all cs) (encode_ascii c low)
 
--- Blocks.
-after_block-nil : (d x : ℕ) → after_block d (x ∷ []) ≡ None
-after_block-nil d x = refl
-
 block_past_high : (d x : ℕ) (s : List ℕ) → 128 ≤ x → after_block d (x ∷ s) ≡ after_block d s
 block_past_high d x [] high = refl
 block_past_high d x (e ∷ s) high = block_goes_on d x e s (false_unless (x == 42 && e == 47) (λ h. let q : (x ≡ 42) × (e ≡ 47) = both x 42 e 47 h in omega arith)) (false_unless (x == 47 && e == 42) (λ h. let q : (x ≡ 47) × (e ≡ 42) = both x 47 e 42 h in omega arith))

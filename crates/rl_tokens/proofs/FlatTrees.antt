@@ -44,9 +44,6 @@ group_rest inside d s ts xs = simp append_assoc
 abbrev Same : Trees → Trees → List FlatToken → List FlatToken → Type 0
 Same ts us xs ys = (ts ≡ us) × (xs ≡ ys)
 
-more_same : (t : Tree) (ts us : Trees) (xs ys : List FlatToken) → Same ts us xs ys → Same (MoreTrees t ts) (MoreTrees t us) xs ys
-more_same t ts us xs ys (e, f) = (ap (MoreTrees t) e, f)
-
 same_group : (d c : Delimiter) (inside other : Trees) (s r : Span) (ts us : Trees) (xs ys : List FlatToken) → d ≡ c → inside ≡ other → s ≡ r → Same ts us xs ys → Same (MoreTrees (GroupTree d inside s) ts) (MoreTrees (GroupTree c other r) us) xs ys
 same_group d c inside other s r ts us xs ys p q k (e, f) =
     (ap (λ x. MoreTrees (GroupTree x inside s) ts) p ∙ ap (λ x. MoreTrees (GroupTree c x s) ts) q ∙ ap (λ x. MoreTrees (GroupTree c other x) ts) k ∙ ap (MoreTrees (GroupTree c other r)) e, f)

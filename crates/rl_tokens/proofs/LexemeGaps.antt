@@ -97,12 +97,6 @@ sign_gap : (gap : List ℕ) → BeginsGap gap → after_sign gap ≡ gap
 sign_gap [] is = refl
 sign_gap (c ∷ t) is = no_sign c t (code_solid 43 refl refl c is) (code_solid 45 refl refl c is)
 
-sign_row : (m t : List ℕ) → list_all is_continue m ≡ true → after_sign t ≡ t → after_sign (m ++ t) ≡ m ++ t
-sign_row [] t is h = h
-sign_row (c ∷ m) t is h =
-    let k : is_continue c ≡ true = (both_true (is_continue c) (list_all is_continue m) is).0 in
-    no_sign c (m ++ t) (not_among c 43 is_continue k (continue_ascii 43 (lit< tt))) (not_among c 45 is_continue k (continue_ascii 45 (lit< tt)))
-
 pub and_more : (b x y : Bool) → (x ≡ false → y ≡ false) → (b && x) ≡ false → (b && y) ≡ false
 and_more true x y f h = f h
 and_more false x y f h = refl

@@ -19,14 +19,6 @@ quote_passes s t c e a b =
     go [] p q = ap (λ x. cond x (Some []) None) p
     go (e ∷ t) p q = ap (λ x. cond x (Some (e ∷ t)) (cond (c == 92) (after_quote t) (after_quote (e ∷ t)))) p ∙ ap (λ x. cond x (after_quote t) (after_quote (e ∷ t))) q
 
--- one hash fewer
-pub hashes_less : (s t : List ℕ) (n c : ℕ) → s ≡ c ∷ t → c ≡ 35 → 0 < n → (begins_hashes (n - 1) t ≡ begins_hashes n s) × (drop (n - 1) t ≡ drop n s)
-hashes_less s t zero c e q l = absurd (omega arith)
-hashes_less s t (suc n) c e q l =
-    let k : suc n - 1 ≡ n = omega arith in
-    let g : s ≡ 35 ∷ t = e ∙ ap (λ x. x ∷ t) q in
-    (ap (λ m. begins_hashes m t) k ∙ sym (ap (begins_hashes (suc n)) g), ap (λ m. drop m t) k ∙ sym (ap (drop (suc n)) g))
-
 -- ---- by the next mark
 
 quote_over : (m : Marks) (run s : List ℕ) → m.first ≡ 34 → m.second ≡ 92 → list_all (is_other m) run ≡ true → after_quote (run ++ s) ≡ after_quote s

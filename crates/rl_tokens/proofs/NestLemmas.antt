@@ -55,9 +55,6 @@ flat_open-push file (x ∷ xs) o =
     ap (λ z. f ++ (p ∷ z)) (flat_open-push file xs o)
     ∙ sym (append_assoc f (p ∷ flat_open file xs) (flat_trees (stream_view o.before) ++ (Opening o.delimiter (record { file = file; lo = o.at; hi = o.at + 1 }) ∷ [])))
 
-regroup : (a b c d : List FlatToken) → (a ++ (b ++ c)) ++ d ≡ (a ++ b) ++ (c ++ d)
-regroup a b c d = simp append_assoc
-
 -- a group was opened
 pub opens_group : {A : Type 0} (old new : TreeBuilder A) (o : GroupBuilder A) → new.opened.items ≡ old.opened.items ++ o ∷ [] → o.before ≡ old.trees → trees_of new.trees ≡ [] → new.file ≡ old.file → length old.opened.items < 128 → OpensGroup old new o.delimiter o.at
 opens_group old new o pushed before empty file shallow =

@@ -10,7 +10,3 @@ behind_drop t r n e u = record { front = take n t; text_is = sym (take-append-dr
 
 pub behind_length : (t r : List ℕ) → IsTail t r → length r ≤ length t
 behind_length t r b = omega (arith, ap length b.text_is, length-append b.front r)
-
-pub shorter_in : (t u : List ℕ) (r : Option (Bor (List ℕ))) → length u < length t → IfSome r (λ rest. IsTail u rest.now) → IfSome r (λ rest. length rest.now < length t)
-shorter_in t u None l h = tt
-shorter_in t u (Some x) l h = omega (arith, behind_length u x.now h)

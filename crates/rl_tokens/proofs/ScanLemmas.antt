@@ -136,20 +136,9 @@ none_left : (m : Marks) (cs : List ℕ) → AreAscii m → first_passes (is_othe
 none_left m [] a stops none = refl
 none_left m (c ∷ cs) a stops none = absurd (both_ways (is_other m c) stops (other_high m a c (ltb-false c 128 none)))
 
-pub all_other : (m : Marks) (t front rest : List ℕ) → AreAscii m → t ≡ front ++ rest → list_all (is_other m) front ≡ true → first_passes (is_other m) rest ≡ false → first_passes is_ascii rest ≡ false → list_all (is_other m) t ≡ true
-all_other m t front rest a cut others stops none = ap (list_all (is_other m)) (cut ∙ ap (λ z. front ++ z) (none_left m rest a stops none) ∙ append-nil front) ∙ others
-
 not_false : (b : Bool) → not b ≡ false → b ≡ true
 not_false true h = refl
 not_false false h = absurd (cc)
-
-pub mark_next : (m : Marks) (t front from : List ℕ) (k : ℕ) (rest : List ℕ) → t ≡ front ++ from → list_all (is_other m) front ≡ true → first_passes (is_other m) from ≡ false → from ≡ k ∷ rest → IsNextMark m t k rest
-mark_next m t front from k rest cut others stops first = record {
-  front = front;
-  others = others;
-  text_is = cut ∙ ap (λ z. front ++ z) first;
-  is_mark = not_false (is_one_of m k) (ap (first_passes (is_other m)) (sym first) ∙ stops);
-}
 
 -- ---- what is no mark
 

@@ -150,9 +150,6 @@ byte_escape BoolKind high low h = absurd (cc)
 abbrev pub hex_first : ℕ × ℕ → Bool
 hex_first d = is_ascii_hexdigit d.0
 
-digit_or_underscore : (c : ℕ) → Bool
-digit_or_underscore c = is_underscore c || is_hex_digit c
-
 underscores_between : (n : ℕ) → list_all (λ c. is_underscore c || is_hex_digit c) (replicate n 95) ≡ true
 underscores_between zero = refl
 underscores_between (suc n) = underscores_between n

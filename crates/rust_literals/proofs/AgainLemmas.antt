@@ -169,7 +169,3 @@ again_read text file r exactly spaced last again =
       lexes = reprinted_lexes (chars text) entries last file reprinted;
       leads = items_lead file 0 entries lits (items_front spaced cuts) are;
     }))
-
--- An error, as the answer to them.
-pub again_refusal : {A : Type 0} (text : List ℕ) (file : ℕ) (e : Error A) → ((list : List (Lit A)) → AreRead (chars text) file list → e.kind ≡ Memory) → (spaced : List (Spaced A)) (last : List ℕ) → IsReprint (chars text) spaced last → e.kind ≡ Memory
-again_refusal {A} text file e = again_read {A = A} {B = A} text file (Err e)

@@ -108,12 +108,6 @@ holds_lent kind text found utf8 h e plain =
     subst (λ z. HoldsNumber kind text z found.body.suffix_at) body
     (holds_number kind text (body_in text found.body) found utf8 h e (plain_digits text found utf8 plain h))
 
--- it isn't where the number is reported not to be plain
-pub not_plain : (kind : Kind) (text : List ℕ) (found : Found) → IsFoundNumber text found → found.kind ≡ kind → found.body.plain ≡ false → IsPlain kind text → ⊥
-not_plain kind text found (inl (h, n)) e off p = let on : found.body.plain ≡ true = h.plain.1 (subst (λ k. IsPlain k text) (sym e) p) in absurd (cc)
-not_plain kind text found (inr h) e off p =
-    let on : found.body.plain ≡ true = h.plain.1 (subst (λ k. IsPlain k text) (sym e ∙ h.kind) p) in absurd (cc)
-
 -- what was found is a number of the kind
 pub found_number : (kind : Kind) (text : List ℕ) (found : Found) → IsUtf8 text → IsFoundNumber text found → found.kind ≡ kind → IsNumber kind (chars text)
 found_number kind text found utf8 h e = go kind e (of_kind kind text found utf8 e h)

@@ -104,10 +104,6 @@ read_truth token b span e s =
     let is : record { text = truth_text b; span = span } ≡ token = ap (λ z. let t : SpannedText = record { text = z; span = span } in t) (sym e) ∙ ap (λ z. let t : SpannedText = record { text = token.text; span = z } in t) s in
     (is, (Truth b, [], truth_reads token.text b e))
 
--- and this is what was read
-pub truth_read : (token : SpannedText) (b : Truths) (span : Span) → (record { text = truth_text b; span = span } ≡ token) × ReadsAs BoolKind (chars token.text) → (span ≡ token.span) × Reads (chars token.text) BoolKind (Truth b) []
-truth_read token b span (is, r) = (ap (λ (t : SpannedText). t.span) is, truth_reads token.text b (ap (λ (t : SpannedText). t.text) (sym is)))
-
 -- ---- by the kind
 
 -- the reading that was found, by its kind
@@ -118,18 +114,6 @@ reads_as t x k kind r e = (r.0, x, subst (λ z. Reads t z r.0 x) e r.1)
 pub found_behind : (bytes : List ℕ) (found : Found) → IsFound (45 ∷ bytes) found → HasReading (45 ∷ chars bytes)
 found_behind bytes found h =
     subst HasReading (minus_chars bytes) (found.kind, (h.reads.0, chars (suffix_in (45 ∷ bytes) found.body), h.reads.1))
-
--- what is no truth value is appended as a literal
-pub literal_tree : {A : Type 0} (lit : Lit A) → ((l : _) → lit ≡ Bool l → ⊥) → tree_of lit ≡ LiteralTree (token_of lit)
-literal_tree (Str l) other = refl
-literal_tree (ByteStr l) other = refl
-literal_tree (CStr l) other = refl
-literal_tree (Byte l) other = refl
-literal_tree (Char l) other = refl
-literal_tree (Int l) other = refl
-literal_tree (Float l) other = refl
-literal_tree (Bool l) other = absurd (other l refl)
-literal_tree (Verbatim l) other = refl
 
 -- ---- a literal by what was found
 
@@ -146,11 +130,6 @@ pub found_as : (kind : Kind) (text : List ℕ) (o : Option Found) (found : Found
 found_as kind text o found is h e =
     reads_as (chars text) (chars (suffix_in text found.body)) found.kind kind (some_found text o found is h).reads e
 
--- what holds whatever the value is
-pub on_some : {T : Type 0} (o : Option T) (P : Type 0) → P → OnSome o P
-on_some (Some x) P h = h
-on_some None P h = tt
-
 pub on_ok : {T E : Type 0} (r : Result T E) (P : Type 0) → P → OnOk r P
 on_ok (Ok x) P h = h
 on_ok (Err e) P h = tt
@@ -158,8 +137,3 @@ on_ok (Err e) P h = tt
 pub on_err : {T E : Type 0} (r : Result T E) (P : Type 0) → P → OnErr r P
 on_err (Ok x) P h = tt
 on_err (Err e) P h = h
-
--- the value of an answer that is taken as an option
-pub ok_some : {T E : Type 0} (r : Result T E) (P : T → Type 0) → IfOk r P → IfSome (result_ok r) P
-ok_some (Ok x) P h = h
-ok_some (Err e) P h = tt

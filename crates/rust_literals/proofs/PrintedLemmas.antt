@@ -85,7 +85,3 @@ printed_read {A} text file r utf8 exactly entries last printed =
       leads = items_lead file 0 entries lits fronts (items_read_at file 0 entries lits are);
     } in
     holds_exactly (AreItems file 0 entries) lits r are (exactly lits read)
-
--- An error, as the answer to a print.
-pub printed_refusal : {A : Type 0} (text : List ℕ) (file : ℕ) (e : Error A) → IsUtf8 text → ((list : List (Lit A)) → AreRead (chars text) file list → e.kind ≡ Memory) → (entries : List Entry) (last : List ℕ) → Printed (chars text) entries last → e.kind ≡ Memory
-printed_refusal {A} text file e = printed_read {A = A} {B = A} text file (Err e)
