@@ -1,8 +1,8 @@
 //! Calls of `rl_grammar` and the free calls above it.
 
-use rl_refusing::Page;
 use crate::trial::{Scarce, Trial, UNFIT};
 use rl_grammar::{Kind, bytes_of, digits_of, shape, str_of};
+use rl_refusing::Page;
 use rust_literals::read_all;
 
 /// `str_of`.

@@ -1,10 +1,10 @@
 //! Calls that are lent a value: a literal, or a token.
 
 use crate::inside;
-use rl_refusing::Page;
 use crate::trial::{HERE, Scarce, Trial, UNFIT};
 use rl_grammar::shape;
 use rl_quoted::{Quoted, QuotedKind};
+use rl_refusing::Page;
 use rl_tokens::{Literal, ToTokens};
 use rust_literals::{Lit, LitBool, Number, NumberKind};
 

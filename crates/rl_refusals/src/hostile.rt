@@ -1,9 +1,9 @@
 //! Texts that are cut or long, given to five calls: `Lit::new`, `skip`, `lex`, `read_all` and `is_token`.
 
-use rl_refusing::Page;
 use crate::tell::{Tell, tell_places};
 use rl_grammar::strict;
 use rl_lines::line_of;
+use rl_refusing::Page;
 use rl_tokens::{Kept, Literal, Span, lex, whitespace};
 use rust_literals::{Lit, read_all};
 use std::alloc::{AllocError, Global};

@@ -1,8 +1,8 @@
 //! Calls that make a literal of a value or a token.
 
-use rl_refusing::Page;
 use crate::tokens::c_string_of;
 use crate::trial::{HERE, Scarce, Trial, UNFIT};
+use rl_refusing::Page;
 use rust_literals::{
     FloatKind, IntKind, Lit, LitByte, LitByteStr, LitCStr, LitChar, LitStr, Number, NumberKind,
 };

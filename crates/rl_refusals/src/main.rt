@@ -16,8 +16,8 @@ mod tell;
 mod tokens;
 mod trial;
 
-use rl_refusing::Page;
 use crate::rows::Row;
+use rl_refusing::Page;
 use std::alloc::{AllocError, Global};
 use std::io;
 use std::io::Write;

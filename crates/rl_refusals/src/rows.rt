@@ -1,12 +1,11 @@
 //! Calls whose requests for memory are refused: whose call it is, the call's name, and a text, with a space between.
 
 use crate::held::NO_CALL;
-use rl_refusing::Page;
 use crate::tokens::parsed;
 use crate::trial::{Scarce, Trial};
 use crate::{grammar, held, made, sources, tokens};
 use rl_quoted::{ByteKind, ByteStrKind, CStrKind, CharKind, Quoted, QuotedKind, StrKind};
-use rl_refusing::Refusing;
+use rl_refusing::{Page, Refusing};
 use rust_literals::{FloatKind, IntKind, Lit, LitBool, Number, NumberKind};
 use std::alloc::Global;
 use std::cell::Cell;

@@ -1,9 +1,9 @@
 //! Whole sources, scanned while memory is refused.
 
-use rl_refusing::Page;
 use crate::tell::Tell;
 use crate::trial::{Scarce, Trial};
 use rl_program::Fault;
+use rl_refusing::Page;
 use rl_sources::{Options, ScanError, Shown, scan};
 use std::alloc::Allocator;
 

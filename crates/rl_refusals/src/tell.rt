@@ -1,7 +1,7 @@
 //! What is printed of answers and of what is left.
 
-use rl_refusing::Page;
 use rl_quoted::{Quoted, QuotedKind};
+use rl_refusing::Page;
 use rl_tokens::{
     CString, Delimiter, Error, Group, Ident, Kept, LexError, LexKind, Literal, Span, TokenStream,
     TokenTree,

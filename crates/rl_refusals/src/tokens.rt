@@ -1,9 +1,9 @@
 //! Calls of `rl_tokens`.
 
 use crate::held;
-use rl_refusing::Page;
 use crate::tell::{Rest, Tell};
 use crate::trial::{HERE, Scarce, Trial, UNFIT};
+use rl_refusing::Page;
 use rl_tokens::{CString, Ident, Literal, Parse, ParseBuffer, TokenTree, ident, lex};
 use std::alloc::Global;
 

@@ -1,8 +1,7 @@
 //! One run of a call while memory is refused.
 
-use rl_refusing::Page;
 use crate::tell::Tell;
-use rl_refusing::Refusing;
+use rl_refusing::{Page, Refusing};
 use rl_tokens::{Error, Literal, Span, TokenStream, lex};
 use std::alloc::{Allocator, Global};
 use std::cell::Cell;
