@@ -1,5 +1,5 @@
 -- Where no unit of a quoted literal stands, the code's place is where the text stops being the front of one.
-use Rattle.std.proofs.Common.{◌≡◌, ℕ, suc, ◌+◌, ◌*◌, ◌^◌, ◌<◌, ◌≤◌, ◌||◌, ◌&&◌, Bool, true, false, not, cond, eqb, ltb, leb, List, [], ◌∷◌, ◌++◌, Option, Some, None, refl, sym, ap, subst, ◌∙◌, ◌⊎◌, inl, inr, arith}
+use Rattle.std.proofs.Common.{◌≡◌, ℕ, suc, ◌+◌, ◌*◌, ◌^◌, ◌<◌, ◌≤◌, ◌||◌, ◌&&◌, Bool, true, false, not, cond, eqb, ltb, leb, List, [], ◌∷◌, Option, Some, None, refl, sym, ap, subst, ◌∙◌, ◌⊎◌, inl, inr, arith}
 use Rattle.std.specs.Prelude.{option_and_then}
 use Rattle.std.specs.Char.{digit_value}
 use Rattle.std.proofs.Math.Nat.{pow-suc, pow-le-pow_right}
@@ -7,8 +7,8 @@ use Rattle.std.proofs.Math.Utf8.{scalar}
 use Rattle.std.proofs.lemmas.Bool.{and_from, and_parts, and_right, both_ways, cases_Bool, eqb-true, ltb-true, ltb-false, lt-ltb, le-ltb, le-leb, leb-false, eq-eqb, not-true, ne_eqb, or_right}
 use Rattle.rl_tokens.specs.declared.kind.Kind.{Kind}
 use Rattle.rl_tokens.specs.declared.kind.Kind.TheVariants.{Str, ByteStr, CStr, Byte, Char, Int, Float, Bool as BoolKind}
-use Rattle.rl_tokens.specs.Quoted.{Hex, is_hex_digit, hex_value, holds_characters, content_of, is_string, is_single, is_plain, is_line_end, allows_code, may_be_hex, has_unicode}
-use Rattle.rl_grammar.specs.declared.flaws.FlawKind.TheVariants.{Unclosed, UnknownEscape, NoUnicode, NoHexDigit, NoBrace, EmptyBraces, TooManyDigits, PastAscii, Nul, LoneCr}
+use Rattle.rl_tokens.specs.Quoted.{is_hex_digit, holds_characters, content_of, is_string, is_single, is_plain, is_line_end, allows_code, may_be_hex, has_unicode}
+use Rattle.rl_grammar.specs.declared.flaws.FlawKind.TheVariants.{UnknownEscape, NoUnicode, NoHexDigit, NoBrace, EmptyBraces, TooManyDigits, PastAscii, Nul}
 use Rattle.rl_grammar.specs.Mirrors.UnitAt.{found, number_if, digit_at, hex_at, unicode_digits_at, unicode_at, after_blanks, named_in, named_at, escape_at, line_feed_at, unit_at}
 use Rattle.rl_grammar.specs.Mirrors.UnitFlawAt.{FoundFlaw, found_flaw, low_digit_flaw_at, hex_flaw_at, is_code, code_flaw_of, digits_flaw_at, first_digit_flaw_at, unicode_flaw_at, escape_flaw_at, line_end_flaw_at, character_flaw_of, unit_flaw_at}
 use Rattle.rl_grammar.proofs.StopLemmas.{Reader, given, Completes, Stops, at_end, at_once, later_same, later, inner_none, ends_by, ends_by_two}

@@ -1,5 +1,4 @@
-use Rattle.std.proofs.Common.{◌≡◌, sym, refl}
-use Rattle.std.specs.Str.{chars}
+use Rattle.std.proofs.Common.{sym}
 use Rattle.rl_tokens.specs.declared.kind.Kind.TheVariants.{Str}
 use Rattle.rl_grammar.proofs.BodyContents.{str_of_has}
 use Rattle.rl_grammar.proofs.ContentLemmas.{cooked_bytes, not_raw}
