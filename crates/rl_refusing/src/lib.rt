@@ -8,7 +8,6 @@
 mod page;
 
 pub use crate::page::Page;
-
 use std::alloc::{AllocError, Allocator};
 use std::cell::Cell;
 
