@@ -1,54 +1,28 @@
 //! Why a text is no literal, no list and no source.
 
+use crate::numbered::numbered;
 use std::fmt;
 
-/// Why a text is no literal, or no list of literals.
-#[derive(Clone, Copy, Debug, PartialEq, Eq)]
-#[non_exhaustive]
-pub enum ErrorKind {
+numbered! {
+    /// Why a text is no literal, or no list of literals.
+    #[derive(Clone, Copy, Debug, PartialEq, Eq)]
+    #[non_exhaustive]
+    enum ErrorKind;
     /// No literal stands there, or an integer past 128 bits.
-    NoLiteral,
+    2 => NoLiteral: "not a literal, or an integer past 128 bits",
     /// A doc comment.
-    DocComment,
+    3 => DocComment: "doc comment",
     /// A block comment that isn't closed.
-    UnclosedComment,
+    4 => UnclosedComment: "block comment isn't closed",
     /// A quoted or raw literal that isn't closed.
-    UnclosedQuote,
+    5 => UnclosedQuote: "quoted literal isn't closed",
     /// A lifetime.
-    Lifetime,
+    6 => Lifetime: "lifetime",
     /// A raw identifier.
-    RawIdentifier,
+    7 => RawIdentifier: "raw identifier",
     /// A character that begins no token.
-    StrayCharacter,
-}
-
-impl ErrorKind {
-    /// The kind that a status of the library tells.
-    pub(crate) fn of(status: u8) -> ErrorKind {
-        match status {
-            3 => ErrorKind::DocComment,
-            4 => ErrorKind::UnclosedComment,
-            5 => ErrorKind::UnclosedQuote,
-            6 => ErrorKind::Lifetime,
-            7 => ErrorKind::RawIdentifier,
-            8 => ErrorKind::StrayCharacter,
-            _ => ErrorKind::NoLiteral,
-        }
-    }
-}
-
-impl fmt::Display for ErrorKind {
-    fn fmt(&self, f: &mut fmt::Formatter<'_>) -> fmt::Result {
-        f.write_str(match self {
-            ErrorKind::NoLiteral => "not a literal, or an integer past 128 bits",
-            ErrorKind::DocComment => "doc comment",
-            ErrorKind::UnclosedComment => "block comment isn't closed",
-            ErrorKind::UnclosedQuote => "quoted literal isn't closed",
-            ErrorKind::Lifetime => "lifetime",
-            ErrorKind::RawIdentifier => "raw identifier",
-            ErrorKind::StrayCharacter => "character that begins no token",
-        })
-    }
+    8 => StrayCharacter: "character that begins no token",
+    else => ErrorKind::NoLiteral,
 }
 
 /// What was rejected, and the byte where it stands.

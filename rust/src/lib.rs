@@ -24,6 +24,7 @@ mod ffi;
 mod layout;
 mod list;
 mod lit;
+mod numbered;
 mod source;
 mod token;
 mod write;

@@ -2,44 +2,30 @@
 
 use crate::ffi;
 use crate::layout::Reading;
+use crate::numbered::numbered;
 use std::borrow::Cow;
 
-/// What a literal is.
-#[derive(Clone, Copy, Debug, PartialEq, Eq, Hash)]
-pub enum Kind {
+numbered! {
+    /// What a literal is.
+    #[derive(Clone, Copy, Debug, PartialEq, Eq, Hash)]
+    enum Kind;
     /// A string: `"a"`.
-    Str,
+    1 => Str,
     /// A byte string: `b"a"`.
-    ByteStr,
+    2 => ByteStr,
     /// A C string: `c"a"`.
-    CStr,
+    3 => CStr,
     /// A byte: `b'a'`.
-    Byte,
+    4 => Byte,
     /// A character: `'a'`.
-    Char,
+    5 => Char,
     /// An integer: `1`.
-    Int,
+    6 => Int,
     /// A float: `1.5`.
-    Float,
+    7 => Float,
     /// A truth value: `true`.
-    Bool,
-}
-
-impl Kind {
-    /// The kind of this number in the library.
-    pub(crate) fn of(number: u8) -> Kind {
-        match number {
-            1 => Kind::Str,
-            2 => Kind::ByteStr,
-            3 => Kind::CStr,
-            4 => Kind::Byte,
-            5 => Kind::Char,
-            6 => Kind::Int,
-            7 => Kind::Float,
-            8 => Kind::Bool,
-            _ => unreachable!("the library has eight kinds"),
-        }
-    }
+    8 => Bool,
+    else => unreachable!("the library has eight kinds"),
 }
 
 /// A text that reads as a literal. Neither field changes, so the reading stays that of the text.
