@@ -42,7 +42,7 @@ pub(crate) fn is_xid_start(c: char) -> bool
 
 /// Whether the character has Unicode's property XID_Continue. Of ASCII no table is asked.
 #[tactic(auto, using(crate::proofs::AsciiLemmas::ascii_xid_continue))]
-pub(crate) fn is_xid_continue(c: char) -> bool
+pub fn is_xid_continue(c: char) -> bool
     ensures { result ≡ is_xid_continue c }
 {
     if c.is_ascii() {
