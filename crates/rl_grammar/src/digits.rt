@@ -1,10 +1,10 @@
 //! The digits of numbers.
 
-ghost use Rattle.std.specs.Prelude.{◌≡◌, ◌++◌, IfErr, IfOk, OnOk, encode_utf8_all, string_bytes, [], ◌∷◌};
+ghost use Rattle.std.specs.Prelude.{◌≡◌, ◌≤◌, ◌+◌, ◌++◌, IfErr, IfOk, OnOk, encode_utf8, encode_utf8_all, length, string_bytes, take, [], ◌∷◌};
 ghost use Rattle.std.specs.Char.{is_ascii_digit};
 ghost use Rattle.std.specs.Fmt.{decimal};
 ghost use Rattle.std.specs.List.{list_all};
-ghost use Rattle.std.specs.Str.{chars};
+ghost use Rattle.std.specs.Str.{chars, IsUtf8};
 ghost use Rattle.rl_tokens.specs.Errors.{memory_at, nowhere};
 ghost use Rattle.rl_tokens.specs.Numbers.{float_digits, sign_text};
 ghost use Rattle.rl_grammar.specs.Mirrors.NumberAt.{sign_at};
@@ -14,6 +14,7 @@ ghost use Rattle.rl_grammar.specs.Mirrors.PlainAt.{is_plain_digits, is_plain_flo
 
 use crate::digit_rows::{after_minus, is_negative};
 use crate::found::{Found, find_float, found_in};
+use rl_tokens::room::{put_byte, put_char};
 use rl_tokens::scan::{Marks, next_mark};
 use rl_tokens::text::split_char;
 use rl_tokens::{Error, Kind};
@@ -206,4 +207,37 @@ fn plain_numeral<A: Allocator>(alloc: A, numeral: &str) -> Result<String<A>, All
         push_plain(&mut digits, c)?;
     }
     Ok(digits)
+}
+
+/// Puts a character of a numeral there, if it belongs to the digits.
+#[inline(always)]
+fn put_digit(out: &mut [u8], at: usize, c: char) -> usize
+    requires { at + length (encode_utf8 c) ≤ length out.old }
+    ensures end { result ≤ at + length (encode_utf8 c) }
+    ensures bytes { take result out.new
+        ≡ take at out.old ++ encode_utf8_all (float_digits (c ∷ [])) }
+    ensures len { length out.new ≡ length out.old }
+{
+    match c {
+        '_' | '+' => at,
+        'E' => put_byte(out, at, b'e'),
+        _ => put_char(out, at, c),
+    }
+}
+
+/// Writes a float's digits, of its numeral, and returns how many bytes they are long. No memory is taken.
+pub fn numeral_into(numeral: &str, out: &mut [u8]) -> usize
+    requires { length numeral.now ≤ length out.old }
+    ensures digits { chars (take result out.new) ≡ float_digits (chars numeral.now) }
+    ensures utf8 { IsUtf8 (take result out.new) }
+    ensures within { result ≤ length numeral.now }
+    ensures len { length out.new ≡ length out.old }
+{
+    let mut at = 0;
+    let mut rest = numeral;
+    while let Some((c, after)) = split_char(rest) {
+        at = put_digit(out, at, c);
+        rest = after;
+    }
+    at
 }

@@ -7,7 +7,6 @@ mod digits;
 mod flaws;
 mod found;
 mod front;
-mod into;
 pub mod laws;
 mod number_forms;
 mod quoted_flaws;
@@ -18,13 +17,13 @@ mod unit_flaws;
 mod units;
 
 pub use crate::contents::{
-    byte_of, byte_of_body, bytes_of, bytes_of_body, char_of, char_of_body, str_of, str_of_body,
+    byte_of, byte_of_body, bytes_into, bytes_of, bytes_of_body, char_of, char_of_body, str_into,
+    str_of, str_of_body,
 };
-pub use crate::digits::{digits_of, digits_of_found};
+pub use crate::digits::{digits_of, digits_of_found, numeral_into};
 pub use crate::found::{
     Body, Found, Parts, find, find_float, find_int, find_negative, is_plain, shape, truth_of,
 };
 pub use crate::front::{Front, Negative, next_is, take_kind};
-pub use crate::into::{bytes_into, numeral_into, str_into};
 pub use crate::number_forms::{float_shape, int_shape, shape_negative};
 pub use rl_tokens::Kind;

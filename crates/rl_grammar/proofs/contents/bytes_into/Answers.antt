@@ -1,7 +1,7 @@
 use Rattle.std.proofs.Common.{sym}
 use Rattle.rl_grammar.proofs.BodyContents.{bytes_of_has}
 use Rattle.rl_grammar.proofs.ContentLemmas.{cooked_bytes, not_raw}
-use Rattle.rl_grammar.proofs.into.bytes_into.Goals as goal
+use Rattle.rl_grammar.proofs.contents.bytes_into.Goals as goal
 
 pub returns-clause-value : goal.returns-clause-value
 returns-clause-value c = λ t has.

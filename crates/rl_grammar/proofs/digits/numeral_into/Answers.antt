@@ -4,7 +4,7 @@ use Rattle.std.specs.Str.{chars}
 use Rattle.rl_tokens.specs.Numbers.{float_digits}
 use Rattle.rl_grammar.proofs.DigitLemmas.{plain_more}
 use Rattle.rl_grammar.proofs.RoomLemmas.{digits_text}
-use Rattle.rl_grammar.proofs.into.numeral_into.Goals as goal
+use Rattle.rl_grammar.proofs.digits.numeral_into.Goals as goal
 
 pub loop-c-preserved : goal.loop-c-preserved
 loop-c-preserved c =

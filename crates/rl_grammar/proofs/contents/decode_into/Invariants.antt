@@ -3,7 +3,7 @@ use Rattle.std.proofs.Common.{◌≡◌, length}
 use denote.Text.{Utf8}
 use denote.Shadow.{shadow}
 use Rattle.rl_grammar.proofs.RoomLemmas.{IsFilled}
-use Rattle.rl_grammar.proofs.into.decode_into.Given as goal
+use Rattle.rl_grammar.proofs.contents.decode_into.Given as goal
 
 abbrev pub invariant-loop-piece : goal.invariant-loop-piece
 invariant-loop-piece l = record {

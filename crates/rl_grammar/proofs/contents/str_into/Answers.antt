@@ -2,7 +2,7 @@ use Rattle.std.proofs.Common.{sym}
 use Rattle.rl_tokens.specs.declared.kind.Kind.TheVariants.{Str}
 use Rattle.rl_grammar.proofs.BodyContents.{str_of_has}
 use Rattle.rl_grammar.proofs.ContentLemmas.{cooked_bytes, not_raw}
-use Rattle.rl_grammar.proofs.into.str_into.Goals as goal
+use Rattle.rl_grammar.proofs.contents.str_into.Goals as goal
 
 pub returns-clause-value : goal.returns-clause-value
 returns-clause-value c = λ t has u.

@@ -2,7 +2,7 @@ use Rattle.std.proofs.Common.{◌≡◌, ◌∙◌, ◌≤◌, None, length, ari
 use Rattle.std.specs.Str.{chars, IsUtf8}
 use Rattle.rl_grammar.specs.Mirrors.UnitAt.{unit_at}
 use Rattle.rl_grammar.proofs.RoomLemmas.{run_room, run_filled, piece_room, piece_filled}
-use Rattle.rl_grammar.proofs.into.decode_into.Goals as goal
+use Rattle.rl_grammar.proofs.contents.decode_into.Goals as goal
 
 pub put_run-at-requires : goal.put_run-at-requires
 put_run-at-requires c =

@@ -5,7 +5,7 @@ use denote.Shadow.{shadow}
 use Rattle.std.specs.Prelude.{encode_utf8_all}
 use Rattle.std.specs.Str.{chars}
 use Rattle.rl_tokens.specs.Numbers.{float_digits}
-use Rattle.rl_grammar.proofs.into.numeral_into.Given as goal
+use Rattle.rl_grammar.proofs.digits.numeral_into.Given as goal
 
 abbrev pub invariant-loop-c : goal.invariant-loop-c
 invariant-loop-c l = record {
