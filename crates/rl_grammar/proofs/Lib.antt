@@ -13,6 +13,7 @@ pub mod MinusLemmas
 pub mod OptionLemmas
 pub mod ReadingLemmas
 pub mod StopLemmas
+pub mod ExplainLemmas
 pub mod UnitFlawLemmas
 pub mod QuotedFlawLemmas
 pub mod UnitLemmas

@@ -1,5 +1,5 @@
 -- Where a text stops being the front of a literal.
-use Rattle.std.specs.Prelude.{◌≡◌, ℕ, List, ◌∷◌, ◌++◌}
+use Rattle.std.specs.Prelude.{◌≡◌, ◌+◌, ℕ, List, [], ◌∷◌, ◌++◌, encode_utf8, length}
 use Rattle.std.specs.Char.{IsScalar}
 use Rattle.std.specs.List.{AllByRecursion}
 use Rattle.rl_tokens.specs.Reading.{HasReading}
@@ -20,8 +20,15 @@ pub record StopsBefore (text rest : List ℕ) : Type 0 where
   pub stuck :
       (c : ℕ) (cs ending : List ℕ) → rest ≡ c ∷ cs → HasReading (front ++ (c ∷ ending)) → ⊥
 
--- The place, in bytes, is where the longest front of the text ends that some literal begins with.
-pub record StopsAt (text : List ℕ) (place : ℕ) : Type 0 where
+-- how many bytes the first character of a text has
+abbrev pub first_len : List ℕ → ℕ
+first_len [] = 0
+first_len (c ∷ cs) = length (encode_utf8 c)
+
+-- At `lo`, in bytes, the longest front of the text ends that some literal begins with; `hi` is after
+-- the character there, or is the text's end too.
+pub record StopsAt (text : List ℕ) (lo hi : ℕ) : Type 0 where
   pub rest : List ℕ
   pub stops : StopsBefore text rest
-  pub place_is : place ≡ byte_len stops.front
+  pub lo_is : lo ≡ byte_len stops.front
+  pub hi_is : hi ≡ lo + first_len rest

@@ -1,6 +1,12 @@
 //! Why a text is no literal, and where.
 
-ghost use Rattle.std.specs.Prelude.{◌≡◌};
+ghost use Rattle.std.specs.Prelude.{◌≡◌, ◌≤◌, IfNone, IfSome, length};
+ghost use Rattle.std.specs.Str.{chars};
+ghost use Rattle.rl_tokens.specs.Reading.{HasNoReading, HasReading};
+ghost use Rattle.rl_grammar.specs.Flaws.{StopsAt, StopsBefore, first_len};
+
+use crate::found::find;
+use rl_tokens::text::split_char;
 
 /// Why a text is no literal.
 #[derive(Clone, Copy, PartialEq, Eq, Debug)]
@@ -65,8 +71,62 @@ pub(crate) struct FlawAt<'t> {
 }
 
 /// The flaw at the front of the text.
-pub(crate) fn flaw(kind: FlawKind, rest: &str) -> FlawAt<'_>
+pub(crate) fn make_flaw(kind: FlawKind, rest: &str) -> FlawAt<'_>
     ensures { (result.kind ≡ kind) × (result.rest.now ≡ rest.now) }
 {
     FlawAt { kind, rest }
+}
+
+/// Why a text is no literal, and where.
+///
+/// What stands before `lo` is the longest front of the text that some literal begins with: with
+/// another ending it is one, and with the text's next character it can't become one.
+#[derive(Clone, Copy, PartialEq, Eq, Debug)]
+pub struct Flaw {
+    /// What is wrong.
+    pub kind: FlawKind,
+    /// The place in bytes of the character that no literal goes on with; the text's end where the
+    /// text is too short.
+    pub lo: usize,
+    /// The place after that character.
+    pub hi: usize,
+}
+
+/// The flaw of a text without a reading, and the text from its place on.
+fn flaw_at(text: &str) -> FlawAt<'_>
+    requires { HasNoReading (chars text.now) }
+    ensures { StopsBefore (chars text.now) (chars result.rest.now) }
+{
+    make_flaw(FlawKind::Empty, text)
+}
+
+/// How many bytes the first character of the text has; 0 of an empty one.
+fn first_len(text: &str) -> usize
+    ensures len { result ≡ first_len (chars text.now) }
+    ensures within { result ≤ length text.now }
+{
+    match split_char(text) {
+        Some((_, after)) => text.len() - after.len(),
+        None => 0,
+    }
+}
+
+/// Why the text is no literal, and where; `None` exactly where it is one. No memory is taken.
+///
+/// An integer past 128 bits is none.
+pub fn explain(text: &str) -> Option<Flaw>
+    ensures none { IfNone result (HasReading (chars text.now)) }
+    ensures some { IfSome result (λ _. HasNoReading (chars text.now)) }
+    ensures place { IfSome result (λ flaw. StopsAt (chars text.now) flaw.lo flaw.hi) }
+{
+    if find(text).is_some() {
+        return None;
+    }
+    let found = flaw_at(text);
+    let lo = text.len() - found.rest.len();
+    Some(Flaw {
+        kind: found.kind,
+        lo,
+        hi: lo + first_len(found.rest),
+    })
 }

@@ -21,6 +21,7 @@ pub use crate::contents::{
     str_of, str_of_body,
 };
 pub use crate::digits::{digits_of, digits_of_found, numeral_into};
+pub use crate::flaws::{Flaw, FlawKind, explain};
 pub use crate::found::{
     Body, Found, Parts, find, find_float, find_int, find_negative, is_plain, shape, truth_of,
 };
