@@ -16,6 +16,7 @@ pub mod StopLemmas
 pub mod UnitFlawLemmas
 pub mod RawFlawLemmas
 pub mod QuotedFlawLemmas
+pub mod QuotedStopLemmas
 pub mod UnitLemmas
 pub mod RowLemmas
 pub mod RawLemmas
