@@ -1,5 +1,5 @@
 -- Places of flaws, in bytes.
-use Rattle.std.proofs.Common.{◌≡◌, ℕ, List, ◌++◌, length, sym, ap, ◌∙◌}
+use Rattle.std.proofs.Common.{◌≡◌, ℕ, List, ◌+◌, ◌++◌, length, sym, ap, ◌∙◌}
 use Rattle.std.specs.Prelude.{encode_utf8_all}
 use Rattle.std.specs.Str.{chars, IsUtf8}
 use Rattle.std.proofs.lemmas.Str.{encodes-append, encodes-chars}
@@ -20,4 +20,4 @@ front_bytes t rest ut ur s =
     ∙ ap (λ z. byte_len s.front + length z) (encodes-chars rest ur)
 
 pub found_reads : (t : List ℕ) (f : Found) → IsFound t f → HasReading (chars t)
-found_reads t f is = (f.kind, (is.reads.0, (_, is.reads.1)))
+found_reads t f is = (f.kind, (is.reads.0, _, is.reads.1))

@@ -15,7 +15,9 @@ pub mod ReadingLemmas
 pub mod StopLemmas
 pub mod ExplainLemmas
 pub mod UnitFlawLemmas
+pub mod RawFlawLemmas
 pub mod QuotedFlawLemmas
+pub mod QuotedStopLemmas
 pub mod UnitLemmas
 pub mod RowLemmas
 pub mod RawLemmas

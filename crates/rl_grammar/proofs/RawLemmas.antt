@@ -14,7 +14,7 @@ use Rattle.rl_grammar.specs.Forms.{PartsAre, HasNoParts}
 use Rattle.rl_tokens.specs.Classes.{after_run, is_hash}
 use Rattle.rl_grammar.proofs.CutLemmas.{behind_chars}
 
-abbrev no_quote : ℕ → Bool
+abbrev pub no_quote : ℕ → Bool
 no_quote c = not (eqb c 34)
 
 -- each kind but byte strings and C strings takes all
@@ -34,13 +34,13 @@ others_hold BoolKind n h cs = all_true cs
 
 -- ---- the last quote of a text
 
-quote_inside : (p b q : List ℕ) → list_all no_quote p ≡ true → p ≡ b ++ (34 ∷ q) → ⊥
+pub quote_inside : (p b q : List ℕ) → list_all no_quote p ≡ true → p ≡ b ++ (34 ∷ q) → ⊥
 quote_inside p b q h e =
     let r = and_parts (list_all no_quote b) (list_all no_quote (34 ∷ q)) (sym (list_all-append no_quote b (34 ∷ q)) ∙ ap (list_all no_quote) (sym e) ∙ h) in
     let f : false ≡ true = r.1 in
     absurd (cc)
 
-last_same : (a b p q : List ℕ) → list_all no_quote p ≡ true → list_all no_quote q ≡ true → a ++ (34 ∷ p) ≡ b ++ (34 ∷ q) → (a ≡ b) × (p ≡ q)
+pub last_same : (a b p q : List ℕ) → list_all no_quote p ≡ true → list_all no_quote q ≡ true → a ++ (34 ∷ p) ≡ b ++ (34 ∷ q) → (a ≡ b) × (p ≡ q)
 last_same [] [] p q hp hq e = (refl, cc)
 last_same [] (c ∷ b) p q hp hq e = absurd (quote_inside p b q hp (let e = e in cc))
 last_same (c ∷ a) [] p q hp hq e = absurd (quote_inside q a p hq (let e = e in cc))
@@ -50,7 +50,7 @@ last_same (c ∷ a) (d ∷ b) p q hp hq e =
     let r = last_same a b p q hp hq tail in
     (let e = r.0 in cc, r.1)
 
-hashes_no_quote : (n : ℕ) (x : List ℕ) → list_all no_quote (replicate n 35 ++ x) ≡ list_all no_quote x
+pub hashes_no_quote : (n : ℕ) (x : List ℕ) → list_all no_quote (replicate n 35 ++ x) ≡ list_all no_quote x
 hashes_no_quote zero x = refl
 hashes_no_quote (suc n) x = hashes_no_quote n x
 
@@ -70,11 +70,11 @@ hashes_complete zero y = refl
 hashes_complete (suc n) y = hashes_complete n y
 
 -- what follows the first quote of a raw string
-abbrev inner : ℕ → List ℕ → List ℕ → List ℕ
+abbrev pub inner : ℕ → List ℕ → List ℕ → List ℕ
 inner n inside suffix = inside ++ (34 ∷ (replicate n 35 ++ suffix))
 
 -- the hashes and the first quote of a raw string are those at its front
-raw_front : (kind : Kind) (t v x hashes : List ℕ) (r : Raw kind (raw_opener kind ++ t) v x) → t ≡ hashes ++ (after_run is_hash) t → (hashes ≡ replicate r.hashes 35) × ((after_run is_hash) t ≡ 34 ∷ inner r.hashes r.inside x)
+pub raw_front : (kind : Kind) (t v x hashes : List ℕ) (r : Raw kind (raw_opener kind ++ t) v x) → t ≡ hashes ++ (after_run is_hash) t → (hashes ≡ replicate r.hashes 35) × ((after_run is_hash) t ≡ 34 ∷ inner r.hashes r.inside x)
 raw_front kind t v x hashes r e =
     let n = r.hashes in
     let y = inner n r.inside x in

@@ -86,7 +86,7 @@ no_front_number t h = let d = no_digit t h in no_number t (no_int t (no_head_int
     no_digit (c ∷ cs) h = let e = or_parts (c == 45) (is_ascii_digit c) h in ap (λ z. first_passes is_ascii_digit (cond z cs (c ∷ cs))) e.0 ∙ e.1
 
 -- where one may begin there is nothing else
-front_not_quoted : (t : List ℕ) → first_passes is_number_front t ≡ true → opener_at t ≡ None
+pub front_not_quoted : (t : List ℕ) → first_passes is_number_front t ≡ true → opener_at t ≡ None
 unfolding opener_at
 front_not_quoted [] h = refl
 front_not_quoted (c ∷ cs) h =

@@ -11,6 +11,7 @@ pub mod laws;
 mod number_forms;
 mod quoted_flaws;
 mod quoted_forms;
+mod raw_flaws;
 mod runs;
 pub mod strict;
 mod unit_flaws;

@@ -3,12 +3,13 @@
 ghost use Rattle.std.specs.Prelude.{◌≡◌, ◌++◌, IsTrue};
 ghost use Rattle.std.specs.Str.{chars};
 ghost use Rattle.rl_tokens.specs.Quoted.{is_string, is_single};
-ghost use Rattle.rl_grammar.specs.Forms.{form_opener, HasNoParts};
+ghost use Rattle.rl_grammar.specs.Forms.{form_opener, has_form, HasNoParts};
 ghost use Rattle.rl_grammar.specs.Mirrors.StopsInside.{StopsInside};
 ghost use Rattle.rl_grammar.specs.Mirrors.UnitFlawAt.{after_unit_flaw_of};
 
 use crate::flaws::{FlawAt, FlawKind, make_flaw};
 use crate::quoted_forms::{QuotedForm, skip_units};
+use crate::raw_flaws::raw_flaw;
 use crate::unit_flaws::unit_flaw;
 use crate::units::unit;
 use rl_tokens::Kind;
@@ -45,5 +46,18 @@ pub(crate) fn single_flaw(kind: Kind, text: &str) -> FlawAt<'_>
     match unit(kind, text) {
         None => unit_flaw(kind, text),
         Some((_, rest)) => make_flaw(after_unit_flaw(text, rest), rest),
+    }
+}
+
+/// Of what follows the opener of a quoted literal.
+pub(crate) fn quoted_flaw(form: QuotedForm, kind: Kind, text: &str) -> FlawAt<'_>
+    requires form { IsTrue (has_form form kind) }
+    requires none { HasNoParts form kind (form_opener form kind ++ chars text.now) }
+    ensures { StopsInside form kind (chars text.now) (chars result.rest.now) }
+{
+    match form {
+        QuotedForm::Cooked => cooked_flaw(kind, text),
+        QuotedForm::Raw => raw_flaw(kind, text),
+        QuotedForm::Single => single_flaw(kind, text),
     }
 }

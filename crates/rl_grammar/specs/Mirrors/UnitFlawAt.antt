@@ -5,6 +5,7 @@ use Rattle.std.specs.Char.{digit_value}
 use Rattle.std.proofs.Math.Utf8.{scalar}
 use Prim.Native.Char.{code}
 use Rattle.rl_tokens.specs.declared.kind.Kind.{Kind}
+use Rattle.rl_tokens.specs.declared.kind.Kind.TheVariants.{CStr}
 use Rattle.rl_tokens.specs.Texts.{first_passes}
 use Rattle.rl_tokens.specs.Quoted.{allows_code, has_unicode, holds_characters, is_string}
 use Rattle.rl_grammar.specs.declared.flaws.FlawKind.{FlawKind}
@@ -100,3 +101,8 @@ abbrev pub after_unit_flaw_of : List ℕ → List ℕ → FlawKind
 after_unit_flaw_of text [] = Unclosed
 after_unit_flaw_of text (c ∷ cs) =
     if first_passes (λ d. d == code "'") text then NoCharacter else TwoCharacters
+
+-- of a raw string of the kind, by a character that it can't hold
+abbrev pub spoiled_flaw_of : Kind → FlawKind
+spoiled_flaw_of CStr = Nul
+spoiled_flaw_of _ = NotAscii

@@ -11,4 +11,4 @@ returns-in-None c = single_unit_place _ _ _ c.requires.single (sym c.in-None.ens
 pub returns-in-Some : goal.returns-in-Some
 returns-in-Some c =
     let stops = single_quote_place _ _ _ _ c.requires.single (sym c.in-Some.ensures.value) c.requires.none in
-    subst (λ t. StopsInside SingleForm c.args.kind (chars c.args.text.now) (chars t)) (sym c.flaw.ensures.1) stops
+    subst (λ t. StopsInside SingleForm c.args.kind (chars c.args.text.now) (chars t)) (sym c.make_flaw.ensures.1) stops

@@ -1,0 +1,86 @@
+-- Where the text after an opener stops being the front of a quoted literal, the whole text stops
+-- being that of any literal.
+use Rattle.std.proofs.Common.{◌≡◌, ℕ, Bool, true, false, List, ◌∷◌, ◌++◌, Some, None, refl, sym, ap, subst, ◌∙◌, inl, inr, append_assoc}
+use Rattle.std.proofs.lemmas.Bool.{both_ways}
+use Rattle.rl_tokens.specs.declared.kind.Kind.{Kind}
+use Rattle.rl_tokens.specs.declared.kind.Kind.TheVariants.{Str, ByteStr, CStr, Byte, Char, Int, Float, Bool as BoolKind}
+use Rattle.rl_tokens.specs.Texts.{first_passes}
+use Rattle.rl_tokens.specs.Quoted.{is_string, is_single}
+use Rattle.rl_tokens.specs.Reading.{Contents, HasNoReading, HasNoTruth, HasReading, Reads, ReadsQuoted, quoted_contents, truth_text}
+use Rattle.rl_grammar.specs.declared.quoted_forms.QuotedForm.{QuotedForm}
+use Rattle.rl_grammar.specs.Flaws.{StopsBefore}
+use Rattle.rl_grammar.specs.Forms.{HasNoParts, form_opener, has_form}
+use Rattle.rl_grammar.specs.Mirrors.OpenerAt.{found_opener, opener_at}
+use Rattle.rl_grammar.specs.Mirrors.StopsInside.{HasParts, StopsInside}
+use Rattle.rl_grammar.specs.Shapes.{HasNoQuoted}
+use Rattle.rl_grammar.specs.WholeShapes.{is_number_front}
+use Rattle.rl_grammar.proofs.FormLemmas.{front_complete, front_sound, no_parts, parts_at_front, parts_read}
+use Rattle.rl_grammar.proofs.ReadingLemmas.{front_not_quoted, no_front_number, no_reading}
+
+-- ---- a quoted reading is a reading
+
+neither : (t : List ℕ) (kind : Kind) (c : Contents) (x : List ℕ) → is_string kind ≡ false → is_single kind ≡ false → ReadsQuoted t kind c x → ⊥
+neither t kind c x s o r = elim r.form [
+  | inl a ↦ both_ways (is_string kind) s a.string
+  | inr b ↦ elim b [
+    | inl a ↦ both_ways (is_string kind) s a.string
+    | inr a ↦ both_ways (is_single kind) o a.single
+  ]
+]
+
+quoted_reading : (t : List ℕ) (kind : Kind) (c : Contents) (x : List ℕ) → ReadsQuoted t kind c x → Reads t kind c x
+quoted_reading t Str c x r = r
+quoted_reading t ByteStr c x r = r
+quoted_reading t CStr c x r = r
+quoted_reading t Byte c x r = r
+quoted_reading t Char c x r = r
+quoted_reading t Int c x r = absurd (neither t Int c x refl refl r)
+quoted_reading t Float c x r = absurd (neither t Float c x refl refl r)
+quoted_reading t BoolKind c x r = absurd (neither t BoolKind c x refl refl r)
+
+-- a text that is no literal has no parts of the form that its opener tells
+pub no_parts_of : (t : List ℕ) (form : QuotedForm) (kind : Kind) (inside : List ℕ) → opener_at t ≡ found_opener form kind inside → HasNoReading t → HasNoParts form kind (form_opener form kind ++ inside)
+no_parts_of t form kind inside h none v b x p =
+    let r = parts_read form kind t v b x (parts_at_front t form kind inside v b x h p) in
+    none kind (quoted_contents kind v) x (quoted_reading t kind (quoted_contents kind v) x r)
+
+-- ---- a text that has an opener is a quoted literal or none
+
+opener_no_number : (t : List ℕ) (form : QuotedForm) (kind : Kind) (inside : List ℕ) → opener_at t ≡ found_opener form kind inside → first_passes is_number_front t ≡ false
+opener_no_number t form kind inside h = go (first_passes is_number_front t) refl
+  where
+    go : (b : Bool) → first_passes is_number_front t ≡ b → b ≡ false
+    go true e = let h : None ≡ found_opener form kind inside = sym (front_not_quoted t e) ∙ h in absurd (cc)
+    go false e = refl
+
+word_has_none : (b : Bool) → opener_at (truth_text b) ≡ None
+unfolding opener_at
+word_has_none true = refl
+word_has_none false = refl
+
+opener_no_truth : (t : List ℕ) (form : QuotedForm) (kind : Kind) (inside : List ℕ) → opener_at t ≡ found_opener form kind inside → HasNoTruth t
+opener_no_truth t form kind inside h v x r = let e : None ≡ found_opener form kind inside = sym (word_has_none r.truth) ∙ ap opener_at (sym r.text_is) ∙ h in absurd (cc)
+
+only_quoted : (t : List ℕ) (form : QuotedForm) (kind : Kind) (inside : List ℕ) → opener_at t ≡ found_opener form kind inside → HasNoParts form kind (form_opener form kind ++ inside) → HasNoReading t
+only_quoted t form kind inside h none = no_reading t (no_parts t form kind inside h none) (no_front_number t (opener_no_number t form kind inside h)) (opener_no_truth t form kind inside h)
+
+parts_begin : (form : QuotedForm) (kind : Kind) (t : List ℕ) → HasParts form kind t → HasReading (form_opener form kind ++ t)
+parts_begin form kind t (v, b, x, p) = (kind, (quoted_contents kind v, x, quoted_reading (form_opener form kind ++ t) kind (quoted_contents kind v) x (parts_read form kind (form_opener form kind ++ t) v b x p)))
+
+pub stops_quoted : (t : List ℕ) (form : QuotedForm) (kind : Kind) (inside rest : List ℕ) → opener_at t ≡ found_opener form kind inside → StopsInside form kind inside rest → StopsBefore t rest
+stops_quoted t form kind inside rest h s =
+    let told = front_sound t (form, kind, inside) h in
+    let before = form_opener form kind in
+    let joined : (z : List ℕ) → (before ++ s.front) ++ z ≡ before ++ (s.front ++ z) = λ z. append_assoc before s.front z in
+    record {
+      front = before ++ s.front;
+      text_is = told.text_is ∙ ap (λ z. before ++ z) s.text_is ∙ sym (joined rest);
+      begins = record {
+        ending = s.ending;
+        are_characters = s.are_characters;
+        reads = subst HasReading (sym (joined s.ending)) (parts_begin form kind (s.front ++ s.ending) s.completes);
+      };
+      stuck = λ c cs e same r.
+          let (k, (v, x, read)) = subst HasReading (joined (c ∷ e)) r in
+          only_quoted (before ++ (s.front ++ (c ∷ e))) form kind (s.front ++ (c ∷ e)) (front_complete form kind (s.front ++ (c ∷ e)) told.has) (s.stuck c cs e same) k v x read;
+    }
