@@ -8,6 +8,7 @@ pub mod IntegerLemmas
 pub mod FloatLemmas
 pub mod DigitLemmas
 pub mod DecLemmas
+pub mod NumberFlawLemmas
 pub mod NumberLemmas
 pub mod MinusLemmas
 pub mod OptionLemmas

@@ -4,6 +4,7 @@
 pub mod Classes
 pub mod Decodes
 pub mod NumberAt
+pub mod NumberFlawAt
 pub mod OpenerAt
 pub mod PlainAt
 pub mod StrictAt

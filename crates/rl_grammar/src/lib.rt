@@ -9,6 +9,7 @@ mod found;
 mod front;
 mod into;
 pub mod laws;
+mod number_flaws;
 mod number_forms;
 mod quoted_flaws;
 mod quoted_forms;
