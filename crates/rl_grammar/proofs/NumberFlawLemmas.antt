@@ -2,7 +2,7 @@
 use Rattle.std.proofs.Common.{◌≡◌, ℕ, ◌≤◌, ◌<◌, Bool, true, false, not, cond, ◌&&◌, ◌||◌, ◌==◌, ltb, List, [], ◌∷◌, ◌++◌, refl, sym, ap, subst, ◌∙◌, arith, append_assoc, append-nil}
 use Rattle.std.specs.Char.{IsScalar, digit_value, is_ascii_digit, is_ascii_hexdigit, is_ascii_alphabetic, is_ascii_alphanumeric}
 use Rattle.std.specs.List.{AllByRecursion, list_all, list_any}
-use Rattle.std.proofs.lemmas.Bool.{and_from, and_left, and_parts, and_right, both_ways, cases_lt, eqb-true, lt-ltb, ltb-true, not-true, or_from, or_right}
+use Rattle.std.proofs.lemmas.Bool.{and_from, and_left, and_parts, and_right, both_ways, cases_lt, eqb-true, lt-ltb, ltb-true, not-true, or_from, or_parts, or_right}
 use Rattle.std.proofs.lemmas.Bool.Decides.{nat_tests}
 use Rattle.std.proofs.lemmas.List.Folds.{list_all-append, list_any-append}
 use Rattle.unicode_ident.specs.Ident.{is_xid_start, is_xid_continue}
@@ -12,10 +12,12 @@ use Rattle.rl_tokens.specs.Classes.{after_run}
 use Rattle.rl_tokens.specs.Numbers.{is_exponent_letter}
 use Rattle.rl_tokens.specs.Texts.{first_passes, is_row_part, is_underscore, xid_ok}
 use Rattle.rl_grammar.specs.Mirrors.NumberAt.{after_digits, after_exponent, after_fraction, after_power_sign, digit_row_at, has_digit_at, has_value, is_exponent_suffix, is_suffix, may_end, power_at, run}
+use Rattle.rl_grammar.specs.declared.flaws.FlawKind.TheVariants.{Unfinished, NoExponentDigit, BadSuffix, TooLarge}
+use Rattle.rl_grammar.specs.Mirrors.UnitFlawAt.{found_flaw}
 use Rattle.rl_grammar.specs.Mirrors.NumberFlawAt.{after_word, ends_or_passes, end_flaw_at, suffix_flaw_at, word_flaw_at, signed_flaw_at, unsigned_flaw_at, power_flaw_at, exponent_flaw_at, tail_flaw_at}
 use Rattle.rl_grammar.proofs.DigitRowLemmas.{run_yes, run_no}
 use Rattle.rl_grammar.proofs.RunLemmas.{run_all, run_ends, run_join, run_past}
-use Rattle.rl_grammar.proofs.FloatLemmas.{run_off, passes_more}
+use Rattle.rl_grammar.proofs.FloatLemmas.{digit_no_mark, digit_no_sign, run_off, signed_past}
 
 -- Up to the rest the text passes with some ending, and with the next character it doesn't, whatever
 -- follows. With the ending it begins as is asked.
@@ -35,12 +37,12 @@ first_goes test (x ∷ xs) rest t c cs e a b k = sym (ap (first_passes test) a) 
 
 -- what stands before changes nothing
 pub on : (first outer : ℕ → Bool) (inner reads : List ℕ → Bool) (pre t rest : List ℕ) → first_passes first t ≡ false → ((x : List ℕ) → first_passes first x ≡ false → reads (pre ++ x) ≡ inner x) → ((x : List ℕ) → first_passes outer (pre ++ x) ≡ false) → Halts first inner t rest → Halts outer reads (pre ++ t) rest
-on first outer inner reads pre t rest ok same open h = record {
+on first outer inner reads pre t rest ok same starts h = record {
   front = pre ++ h.front;
   text_is = ap (λ z. pre ++ z) h.text_is ∙ sym (append_assoc pre h.front rest);
   ending = h.ending;
   are_characters = h.are_characters;
-  opens = ap (first_passes outer) (append_assoc pre h.front h.ending) ∙ open (h.front ++ h.ending);
+  opens = ap (first_passes outer) (append_assoc pre h.front h.ending) ∙ starts (h.front ++ h.ending);
   completes = ap reads (append_assoc pre h.front h.ending) ∙ same (h.front ++ h.ending) h.opens ∙ h.completes;
   stuck = λ c cs e k. ap reads (append_assoc pre h.front (c ∷ e)) ∙ same (h.front ++ (c ∷ e)) (first_goes first h.front rest t c cs e h.text_is k ok) ∙ h.stuck c cs e k;
 }
@@ -155,3 +157,179 @@ word_halts first reads t ok whole none = record {
 -- a text that its first character stops
 pub here_halts : (first : ℕ → Bool) (reads : List ℕ → Bool) (t ending : List ℕ) → AllByRecursion IsScalar ending → first_passes first ending ≡ false → reads ending ≡ true → ((c : ℕ) (cs e : List ℕ) → t ≡ c ∷ cs → reads (c ∷ e) ≡ false) → Halts first reads t t
 here_halts first reads t ending are opens completes stuck = record { front = []; text_is = refl; ending = ending; are_characters = are; opens = opens; completes = completes; stuck = stuck }
+
+-- where a suffix is asked for after one character that begins none of its own
+suffix_after : (first : ℕ → Bool) (reads : List ℕ → Bool) (c : ℕ) (cs ending : List ℕ) → first c ≡ false → ((x : List ℕ) → reads (c ∷ x) ≡ is_suffix (c ∷ x)) → AllByRecursion IsScalar ending → first_passes first ending ≡ false → reads ending ≡ true → Halts first reads (c ∷ cs) (suffix_flaw_at false (c ∷ cs)).1
+unfolding suffix_flaw_at
+suffix_after first reads c cs ending ok same are opens completes = go (is_xid_start c) refl
+  where
+    yes_start : is_xid_start c ≡ true → Halts first reads (c ∷ cs) (after_word (c ∷ cs))
+    yes_start s =
+        let w = run_yes is_xid_continue c cs (is_xid_start-is_xid_continue c s) in
+        record {
+          front = c ∷ run is_xid_continue cs;
+          text_is = ap (λ z. c ∷ z) (run_join is_xid_continue cs) ∙ ap (λ z. c ∷ (run is_xid_continue cs ++ z)) (sym w.1);
+          ending = [];
+          are_characters = tt;
+          opens = ok;
+          completes = same (run is_xid_continue cs ++ []) ∙ suffix_is c (run is_xid_continue cs ++ []) s ∙ word_whole cs;
+          stuck = λ d ds e k. same (run is_xid_continue cs ++ (d ∷ e)) ∙ suffix_is c (run is_xid_continue cs ++ (d ∷ e)) s ∙ word_breaks cs d ds e (sym w.1 ∙ k);
+        }
+
+    no_start : is_xid_start c ≡ false → Halts first reads (c ∷ cs) (c ∷ cs)
+    no_start s = here_halts first reads (c ∷ cs) ending are opens completes (λ d ds e k.
+        let head : c ≡ d = cc in
+        subst (λ z. reads (z ∷ e) ≡ false) head (same e ∙ suffix_not c e s))
+
+    go : (b : Bool) → is_xid_start c ≡ b → Halts first reads (c ∷ cs) (cond b (found_flaw BadSuffix (after_word (c ∷ cs))) (found_flaw BadSuffix (c ∷ cs))).1
+    go true s = yes_start s
+    go false s = no_start s
+
+-- ---- the letter of an exponent, and what follows it
+
+-- Whether a number stands, by what follows its whole part or its fraction: an integer, where no
+-- fraction stands before it, or a float.
+abbrev pub ten_reads : Bool → Bool → List ℕ → Bool
+ten_reads integer past z = cond (integer && may_end 10 z) (not past) (is_suffix (after_exponent z))
+
+-- the same after the letter, by three tests
+abbrev power_reads : Bool → Bool → Bool → Bool → Bool → Bool
+power_reads integer past word power float = cond (integer && (word && not power)) (not past) float
+
+suffix_of_cond : (b : Bool) (x y : List ℕ) → is_suffix (cond b x y) ≡ cond b (is_suffix x) (is_suffix y)
+suffix_of_cond true x y = refl
+suffix_of_cond false x y = refl
+
+letter_reads : (i p : Bool) (l : ℕ) (t : List ℕ) → is_exponent_letter l ≡ true → ten_reads i p (l ∷ t) ≡ power_reads i p (list_all is_xid_continue t) (has_digit_at 10 t && is_suffix (after_digits 10 t)) (cond (has_digit_at 10 (power_at t)) (is_suffix (after_digits 10 (power_at t))) (list_all is_xid_continue t))
+unfolding after_exponent is_exponent_suffix
+letter_reads i p l t h =
+    let a = list_all is_xid_continue t in
+    let b = has_digit_at 10 t && is_suffix (after_digits 10 t) in
+    let k = has_digit_at 10 (power_at t) in
+    let y = after_digits 10 (power_at t) in
+    let s : is_suffix (l ∷ t) ≡ a = suffix_is l t (letter_starts l h) in
+    let F : Bool → Bool → Bool → Bool = λ w e f. cond (i && (w && not e)) (not p) f in
+    ap (λ z. F (is_suffix (l ∷ t)) (z && b) (is_suffix (cond (z && k) y (l ∷ t)))) h
+    ∙ ap (F (is_suffix (l ∷ t)) b) (suffix_of_cond k y (l ∷ t))
+    ∙ ap (λ z. F z b (cond k (is_suffix y) z)) s
+
+-- underscores hold no digit, and continue an identifier
+marks_no_digit : (us : List ℕ) → list_all is_underscore us ≡ true → list_any (has_value 10) us ≡ false
+marks_no_digit [] h = refl
+marks_no_digit (c ∷ cs) h =
+    let b = and_parts (c == 95) (list_all is_underscore cs) h in
+    or_from (has_value 10 c) (list_any (has_value 10) cs) (ap (has_value 10) (eqb-true c 95 b.0)) (marks_no_digit cs b.1)
+
+marks_are_row : (us : List ℕ) → list_all is_underscore us ≡ true → list_all (is_row_part (has_value 10)) us ≡ true
+marks_are_row us h = all_weaker is_underscore (is_row_part (has_value 10)) (λ c k. or_right (has_value 10 c) (c == 95) k) us h
+
+row_continues : (r : ℕ) (row : List ℕ) → r ≤ 16 → list_all (is_row_part (has_value r)) row ≡ true → list_all is_xid_continue row ≡ true
+row_continues r row small h = all_weaker (is_row_part (has_value r)) is_xid_continue (λ c k. part_continues r c small k) row h
+
+-- what an exponent gives after its sign
+signed_reads : (i p : Bool) (l c : ℕ) (us row x : List ℕ) → is_exponent_letter l ≡ true → (c == 43 || c == 45) ≡ true → list_all is_underscore us ≡ true → list_all (is_row_part (has_value 10)) row ≡ true → first_passes (is_row_part (has_value 10)) x ≡ false → ten_reads i p (l ∷ (us ++ (c ∷ (row ++ x)))) ≡ (list_any (has_value 10) row && is_suffix x)
+signed_reads i p l c us row x l_is c_is marks each stops =
+    let t = us ++ (c ∷ (row ++ x)) in
+    let b = has_digit_at 10 t && is_suffix (after_digits 10 t) in
+    let a : list_all is_xid_continue t ≡ false = all_breaks is_xid_continue us c (row ++ x) (sign_no_continue c c_is) in
+    let y = run_past (is_row_part (has_value 10)) row x each stops in
+    let P : List ℕ → Bool = λ z. cond (has_digit_at 10 z) (is_suffix (after_digits 10 z)) false in
+    let D : List ℕ → List ℕ → Bool = λ d z. cond (list_any (has_value 10) d) (is_suffix z) false in
+    letter_reads i p l t l_is
+    ∙ ap (λ w. power_reads i p w b (cond (has_digit_at 10 (power_at t)) (is_suffix (after_digits 10 (power_at t))) w)) a
+    ∙ no_integer i p (P (power_at t))
+    ∙ ap P (signed_past c us (row ++ x) c_is marks)
+    ∙ ap (λ d. D d (after_digits 10 (row ++ x))) y.0
+    ∙ ap (D row) y.1
+    ∙ as_and (list_any (has_value 10) row) (is_suffix x)
+  where
+    no_integer : (i p f : Bool) → cond (i && false) (not p) f ≡ f
+    no_integer true p f = refl
+    no_integer false p f = refl
+
+    as_and : (a b : Bool) → cond a b false ≡ (a && b)
+    as_and true b = refl
+    as_and false b = refl
+
+-- what it gives after digits without a sign
+abbrev pub digits_read : Bool → Bool → List ℕ → Bool
+digits_read integer past x = power_reads integer past (list_all is_xid_continue x) (is_suffix x) (is_suffix x)
+
+unsigned_past : (us row x : List ℕ) → list_all is_underscore us ≡ true → first_passes is_ascii_digit row ≡ true → power_at (us ++ (row ++ x)) ≡ row ++ x
+unfolding power_at
+unsigned_past us [] x h k = absurd (cc)
+unsigned_past us (c ∷ cs) x h k =
+    ap after_power_sign (run_off is_underscore us (c ∷ (cs ++ x)) h ∙ (run_no is_underscore c (cs ++ x) (digit_no_mark c k)).1)
+    ∙ digit_no_sign (c ∷ (cs ++ x)) k
+
+digit_reads : (i p : Bool) (l : ℕ) (us row x : List ℕ) → is_exponent_letter l ≡ true → list_all is_underscore us ≡ true → list_all (is_row_part (has_value 10)) row ≡ true → first_passes is_ascii_digit row ≡ true → first_passes (is_row_part (has_value 10)) x ≡ false → ten_reads i p (l ∷ (us ++ (row ++ x))) ≡ digits_read i p x
+digit_reads i p l us row x l_is marks each first stops =
+    let part = is_row_part (has_value 10) in
+    let t = us ++ (row ++ x) in
+    let some : list_any (has_value 10) row ≡ true = any_first row first in
+    let a : list_all is_xid_continue t ≡ list_all is_xid_continue x = all_off is_xid_continue us (row ++ x) (row_continues 10 us (omega arith) (marks_are_row us marks)) ∙ all_off is_xid_continue row x (row_continues 10 row (omega arith) each) in
+    let all : list_all part (us ++ row) ≡ true = all_off part us row (marks_are_row us marks) ∙ each in
+    let y = run_past part (us ++ row) x all stops in
+    let u = run_past part row x each stops in
+    let any : list_any (has_value 10) (us ++ row) ≡ true = list_any-append (has_value 10) us row ∙ or_right (list_any (has_value 10) us) (list_any (has_value 10) row) some in
+    let E : List ℕ → List ℕ → Bool = λ d z. list_any (has_value 10) d && is_suffix z in
+    let b : (has_digit_at 10 t && is_suffix (after_digits 10 t)) ≡ is_suffix x =
+    ap (λ z. has_digit_at 10 z && is_suffix (after_digits 10 z)) (sym (append_assoc us row x))
+    ∙ ap (λ d. E d (after_digits 10 ((us ++ row) ++ x))) y.0
+    ∙ ap (E (us ++ row)) y.1
+    ∙ ap (λ z. z && is_suffix x) any in
+    let power : power_at t ≡ row ++ x = unsigned_past us row x marks first in
+    let f : cond (has_digit_at 10 (power_at t)) (is_suffix (after_digits 10 (power_at t))) (list_all is_xid_continue t) ≡ is_suffix x =
+    ap (λ z. cond (has_digit_at 10 z) (is_suffix (after_digits 10 z)) (list_all is_xid_continue t)) power
+    ∙ ap (λ d. cond (list_any (has_value 10) d) (is_suffix (after_digits 10 (row ++ x))) (list_all is_xid_continue t)) u.0
+    ∙ ap (λ z. cond z (is_suffix (after_digits 10 (row ++ x))) (list_all is_xid_continue t)) some
+    ∙ ap is_suffix u.1 in
+    letter_reads i p l t l_is
+    ∙ ap (λ w. power_reads i p w (has_digit_at 10 t && is_suffix (after_digits 10 t)) (cond (has_digit_at 10 (power_at t)) (is_suffix (after_digits 10 (power_at t))) (list_all is_xid_continue t))) a
+    ∙ ap (λ w. power_reads i p (list_all is_xid_continue x) w (cond (has_digit_at 10 (power_at t)) (is_suffix (after_digits 10 (power_at t))) (list_all is_xid_continue t))) b
+    ∙ ap (power_reads i p (list_all is_xid_continue x) (is_suffix x)) f
+  where
+    any_first : (row : List ℕ) → first_passes is_ascii_digit row ≡ true → list_any (has_value 10) row ≡ true
+    any_first [] h = absurd (cc)
+    any_first (c ∷ cs) h = ap (λ z. z || list_any (has_value 10) cs) (sym (digit_is_ten c) ∙ h)
+
+
+-- no sign and no digit
+abbrev is_power_front : ℕ → Bool
+is_power_front c = (c == 43 || c == 45) || is_row_part (has_value 10) c
+
+other_past : (us x : List ℕ) → list_all is_underscore us ≡ true → first_passes is_power_front x ≡ false → power_at (us ++ x) ≡ x
+unfolding power_at
+other_past us [] h k = ap after_power_sign (run_off is_underscore us [] h)
+other_past us (c ∷ cs) h k =
+    let b = or_parts (c == 43 || c == 45) (is_row_part (has_value 10) c) k in
+    ap after_power_sign (run_off is_underscore us (c ∷ cs) h ∙ (run_no is_underscore c cs (or_parts (has_value 10 c) (c == 95) b.1).1).1)
+    ∙ ap (λ z. cond z cs (c ∷ cs)) b.0
+
+-- what it gives where neither sign nor digit follows
+other_reads : (i p : Bool) (l : ℕ) (us x : List ℕ) → is_exponent_letter l ≡ true → list_all is_underscore us ≡ true → first_passes is_power_front x ≡ false → ten_reads i p (l ∷ (us ++ x)) ≡ (list_all is_xid_continue x && not (i && p))
+other_reads i p l us x l_is marks no_front =
+    let t = us ++ x in
+    let no_part = front_part x no_front in
+    let a : list_all is_xid_continue t ≡ list_all is_xid_continue x = all_off is_xid_continue us x (row_continues 10 us (omega arith) (marks_are_row us marks)) in
+    let y = run_past (is_row_part (has_value 10)) us x (marks_are_row us marks) no_part in
+    let u = run_past (is_row_part (has_value 10)) [] x refl no_part in
+    let none : has_digit_at 10 t ≡ false = ap (list_any (has_value 10)) y.0 ∙ marks_no_digit us marks in
+    let power : power_at t ≡ x = other_past us x marks no_front in
+    let no_power : has_digit_at 10 (power_at t) ≡ false = ap (has_digit_at 10) power ∙ ap (list_any (has_value 10)) u.0 in
+    letter_reads i p l t l_is
+    ∙ ap (λ z. power_reads i p (list_all is_xid_continue t) (z && is_suffix (after_digits 10 t)) (cond (has_digit_at 10 (power_at t)) (is_suffix (after_digits 10 (power_at t))) (list_all is_xid_continue t))) none
+    ∙ ap (λ z. power_reads i p (list_all is_xid_continue t) false (cond z (is_suffix (after_digits 10 (power_at t))) (list_all is_xid_continue t))) no_power
+    ∙ ap (λ z. power_reads i p z false z) a
+    ∙ settled i p (list_all is_xid_continue x)
+  where
+    front_part : (x : List ℕ) → first_passes is_power_front x ≡ false → first_passes (is_row_part (has_value 10)) x ≡ false
+    front_part [] h = refl
+    front_part (c ∷ cs) h = (or_parts (c == 43 || c == 45) (is_row_part (has_value 10) c) h).1
+
+
+    settled : (i p a : Bool) → cond (i && (a && true)) (not p) a ≡ (a && not (i && p))
+    settled true p true = refl
+    settled true p false = refl
+    settled false p true = refl
+    settled false p false = refl
