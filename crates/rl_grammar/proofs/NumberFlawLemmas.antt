@@ -575,7 +575,7 @@ fraction_halts (c ∷ cs) ok = go (is_exponent_letter c) refl
     go false h = suffix_after (is_row_part (has_value 10)) (ten_reads false false) c cs [] ok (λ x. ap (λ b. is_suffix (cond (b && has_digit_at 10 (power_at x)) (after_digits 10 (power_at x)) (c ∷ x))) h) tt refl refl
 
 -- whether a number stands, by what follows its whole part
-pub tail_reads : Bool → List ℕ → Bool
+abbrev pub tail_reads : Bool → List ℕ → Bool
 tail_reads past z = cond (may_end 10 z) (not past) (is_suffix (after_exponent (after_fraction z)))
 
 dot_no_start : is_xid_start 46 ≡ false
@@ -583,7 +583,6 @@ dot_no_start = is_xid_start-ascii 46 (omega arith)
 
 -- after the dot
 dot_reads : (past : Bool) (row x : List ℕ) → list_all (is_row_part (has_value 10)) row ≡ true → first_passes (is_row_part (has_value 10)) x ≡ false → tail_reads past ((46 ∷ row) ++ x) ≡ ten_reads false false x
-unfolding tail_reads
 dot_reads past row x each stops =
     let z = row ++ x in
     ap (λ b. cond (b && not (is_exponent_suffix (46 ∷ z))) (not past) (is_suffix (after_exponent (after_digits 10 z)))) (suffix_not 46 z dot_no_start)
@@ -596,7 +595,6 @@ dot_stands past = dot_reads past [] [] refl refl
 
 -- elsewhere no fraction is
 undotted : (past : Bool) (c : ℕ) (x : List ℕ) → (c == 46) ≡ false → tail_reads past (c ∷ x) ≡ ten_reads true past (c ∷ x)
-unfolding tail_reads
 undotted past c x h = ap (λ b. cond (may_end 10 (c ∷ x)) (not past) (is_suffix (after_exponent (cond b (after_digits 10 x) (c ∷ x))))) h
 
 -- and without the letter no exponent
