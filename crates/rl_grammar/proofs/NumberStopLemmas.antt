@@ -2,12 +2,12 @@
 use Rattle.std.proofs.Common.{◌≡◌, ℕ, ◌<◌, ◌≤◌, Bool, true, false, not, cond, ◌&&◌, ◌||◌, ◌==◌, List, [], ◌∷◌, ◌++◌, Option, Some, None, is_none, refl, sym, ap, subst, ◌∙◌, arith, append_assoc, append-nil}
 use Rattle.std.specs.Char.{digit_value, is_ascii_digit}
 use Rattle.std.specs.List.{AllByRecursion, list_all, list_any}
-use Rattle.std.proofs.lemmas.Bool.{and_from, and_left, and_parts, and_right, both_ways, eqb-true, not-true, or_from, or_parts, or_right}
+use Rattle.std.proofs.lemmas.Bool.{and_from, and_left, and_parts, and_right, both_ways, eqb-true, le-ltb, not-true, or_from, or_parts, or_right}
 use Rattle.std.proofs.lemmas.List.Folds.{list_all-append}
 use Rattle.unicode_ident.specs.Ident.{is_xid_start, is_xid_continue}
 use Rattle.unicode_ident.proofs.Computing.{unicode_ident}
-use Rattle.unicode_ident.proofs.IdentLemmas.{is_xid_start-ascii, is_xid_continue-ascii}
-use Rattle.rl_tokens.proofs.Basics.{digit_is_ten}
+use Rattle.unicode_ident.proofs.IdentLemmas.{is_xid_start-ascii, is_xid_start-is_xid_continue}
+use Rattle.rl_tokens.proofs.Basics.{all_weaker, digit_is_ten}
 use Rattle.rl_tokens.specs.declared.kind.Kind.TheVariants.{Int, Float}
 use Rattle.rl_tokens.specs.Classes.{after_run}
 use Rattle.rl_tokens.specs.Numbers.{Base, Binary, Octal, Decimal, Hexadecimal, radix, prefix, Sign, NoSign, Minus, sign_text, is_exponent_letter, limit, float_digits}
@@ -16,11 +16,12 @@ use Rattle.rl_tokens.specs.Reading.{Digits, HasReading}
 use Rattle.rl_tokens.specs.Texts.{first_passes, is_row_part, is_underscore}
 use Rattle.rl_grammar.specs.Flaws.{BeginsLiteral, StopsBefore}
 use Rattle.rl_grammar.specs.WholeShapes.{is_number_front}
+use Rattle.rl_grammar.specs.declared.flaws.FlawKind.{FlawKind}
 use Rattle.rl_grammar.specs.declared.flaws.FlawKind.TheVariants.{Unfinished, NoNumber, BadSuffix, TooLarge}
 use Rattle.rl_grammar.specs.Mirrors.UnitFlawAt.{found_flaw}
 use Rattle.rl_grammar.specs.Mirrors.NumberAt.{after_digits, after_exponent, after_fraction, after_minus, append_digit, capped, capped_int, digit_row_at, ended_at, float_at, float_tail_at, has_digit_at, has_value, int_at, is_exponent_suffix, is_suffix, IsHead, magnitude_at, may_end, power_at, radix_at, radix_of, run, sign_at}
 use Rattle.rl_grammar.specs.Mirrors.NumberFlawAt.{after_word, based_flaw_at, end_flaw_at, ends_or_passes, is_past_at, number_flaw_at, tail_flaw_at, unsigned_number_flaw_at}
-use Rattle.rl_grammar.proofs.DigitRowLemmas.{capped_within, run_no}
+use Rattle.rl_grammar.proofs.DigitRowLemmas.{run_no, run_yes}
 use Rattle.rl_grammar.proofs.FloatLemmas.{float_sound, no_float, passes_more, run_first}
 use Rattle.rl_grammar.proofs.HeadLemmas.{head_float, head_int, head_read, no_head_float, no_head_int}
 use Rattle.rl_grammar.proofs.IntegerLemmas.{Based, based, is_past, is_within, minus_past, no_int, sign_join, within_reads}
@@ -221,9 +222,26 @@ hexadecimal : IsPrefixed 16 120
 unfolding radix_at
 hexadecimal = record { few = omega arith; some = omega arith; other = refl; starts = is_xid_start-ascii 120 (omega arith); no_part = refl; no_dot = refl; no_exponent = refl; base_is = λ y. refl }
 
+-- the float without its sign
+abbrev float_of : List ℕ → Option (List ℕ)
+float_of v = cond (first_passes is_ascii_digit v && is_suffix (after_exponent (after_fraction (after_digits 10 v)))) (Some (after_exponent (after_fraction (after_digits 10 v)))) None
+
+-- after the prefix it is zero, and all that follows its suffix
+zero_float : (r l : ℕ) (y : List ℕ) → IsPrefixed r l → float_of (48 ∷ l ∷ y) ≡ cond (list_all is_xid_continue y) (Some (l ∷ y)) None
+unfolding after_exponent
+zero_float r l y k =
+    let F : List ℕ → Option (List ℕ) = λ z. cond (is_suffix z) (Some z) None in
+    let rest : after_digits 10 (48 ∷ l ∷ y) ≡ l ∷ y = (run_no (is_row_part (has_value 10)) l y k.no_part).1 in
+    let fraction : after_fraction (l ∷ y) ≡ l ∷ y = ap (λ b. cond b (after_digits 10 y) (l ∷ y)) k.no_dot in
+    let power : after_exponent (l ∷ y) ≡ l ∷ y = ap (λ b. cond (b && has_digit_at 10 (power_at y)) (after_digits 10 (power_at y)) (l ∷ y)) k.no_exponent in
+    ap (λ z. F (after_exponent (after_fraction z))) rest
+    ∙ ap (λ z. F (after_exponent z)) fraction
+    ∙ ap F power
+    ∙ ap (λ b. cond b (Some (l ∷ y)) None) (suffix_is l y k.starts)
+
 -- the numbers with such a prefix
 based_numbers : (s : Sign) (r l : ℕ) (y : List ℕ) → IsPrefixed r l → Numbers (sign_text s ++ (48 ∷ l ∷ y)) (has_digit_at r y && is_suffix (after_digits r y)) (list_all is_xid_continue y) (capped (magnitude_at r y))
-unfolding float_at after_exponent
+unfolding float_at
 based_numbers s r l y k =
     let t = sign_text s ++ (48 ∷ l ∷ y) in
     let u = 48 ∷ l ∷ y in
@@ -234,14 +252,7 @@ based_numbers s r l y k =
     let head : IsHead u r d m x = head_read u y x r d m refl (sym (k.base_is y)) refl refl refl in
     let at : IsHead (after_minus t) r d m x = subst (λ v. IsHead v r d m x) (sym unsigned) head in
     let ends : may_end r x ≡ is_suffix x = ap (λ b. is_suffix x && (not b || not (is_exponent_suffix x))) k.other ∙ kept (is_suffix x) in
-    let row = run_no (is_row_part (has_value 10)) l y k.no_part in
-    let F : List ℕ → Option (List ℕ) = λ z. cond (is_suffix (after_exponent (after_fraction z))) (Some (after_exponent (after_fraction z))) None in
-    let float : float_at t ≡ cond (list_all is_xid_continue y) (Some (l ∷ y)) None =
-    ap (λ v. cond (first_passes is_ascii_digit v && is_suffix (after_exponent (after_fraction (after_digits 10 v)))) (Some (after_exponent (after_fraction (after_digits 10 v)))) None) unsigned
-    ∙ ap F row.1
-    ∙ ap (λ b. cond (is_suffix (after_exponent (cond b (after_digits 10 y) (l ∷ y)))) (Some (after_exponent (cond b (after_digits 10 y) (l ∷ y)))) None) k.no_dot
-    ∙ ap (λ b. cond (is_suffix (cond (b && has_digit_at 10 (power_at y)) (after_digits 10 (power_at y)) (l ∷ y))) (Some (cond (b && has_digit_at 10 (power_at y)) (after_digits 10 (power_at y)) (l ∷ y))) None) k.no_exponent
-    ∙ ap (λ b. cond b (Some (l ∷ y)) None) (suffix_is l y k.starts) in
+    let float : float_at t ≡ cond (list_all is_xid_continue y) (Some (l ∷ y)) None = ap float_of unsigned ∙ zero_float r l y k in
     record {
       suffix = x;
       other = l ∷ y;
@@ -259,3 +270,228 @@ based_fronted s r l k = record {
   good = λ y ok h. subst HasReading (sym (append_assoc (sign_text s) (48 ∷ l ∷ []) y)) (number_reads (sign_text s ++ (48 ∷ l ∷ y)) (has_digit_at r y && is_suffix (after_digits r y)) (list_all is_xid_continue y) (capped (magnitude_at r y)) (based_numbers s r l y k) h);
   bad = λ y ok h q. number_stuck (sign_text s ++ (48 ∷ l ∷ y)) (has_digit_at r y && is_suffix (after_digits r y)) (list_all is_xid_continue y) (capped (magnitude_at r y)) (signed_front s (48 ∷ l ∷ y) refl) (based_numbers s r l y k) h (subst HasReading (append_assoc (sign_text s) (48 ∷ l ∷ []) y) q);
 }
+
+-- what goes on with more than an identifier is no number
+based_none : (r : ℕ) (y : List ℕ) → r ≤ 16 → list_all is_xid_continue y ≡ false → based_reads r y ≡ false
+unfolding based_reads
+based_none r y few h =
+    let row = digit_row_at r y in
+    let x = after_digits r y in
+    let all : list_all is_xid_continue y ≡ list_all is_xid_continue x = ap (list_all is_xid_continue) (run_join (is_row_part (has_value r)) y) ∙ all_off is_xid_continue row x (all_weaker (is_row_part (has_value r)) is_xid_continue (λ c k. part_continues r c few k) row (run_all (is_row_part (has_value r)) y)) in
+    ap (λ b. cond (has_digit_at r y && b) (not (is_past_at r y)) (list_all is_xid_continue y)) (no_suffix x (sym all ∙ h))
+    ∙ ap (λ b. cond (has_digit_at r y && false) (not (is_past_at r y)) b) h
+    ∙ go (has_digit_at r y)
+  where
+    go : (b : Bool) → cond (b && false) (not (is_past_at r y)) false ≡ false
+    go true = refl
+    go false = refl
+
+-- without a digit nothing is past the limit
+no_digits : (r : ℕ) (row : List ℕ) → list_all (is_row_part (has_value r)) row ≡ true → list_any (has_value r) row ≡ false → without_underscores row ≡ []
+no_digits r [] h k = refl
+no_digits r (c ∷ cs) h k =
+    let a = and_parts (is_row_part (has_value r) c) (list_all (is_row_part (has_value r)) cs) h in
+    let b = or_parts (has_value r c) (list_any (has_value r) cs) k in
+    let mark : (c == 95) ≡ true = sym (ap (λ z. z || (c == 95)) b.0) ∙ a.0 in
+    ap (λ z. cond (not z) (c ∷ without_underscores cs) (without_underscores cs)) mark ∙ no_digits r cs a.1 b.1
+
+past_has_digit : (r : ℕ) (y : List ℕ) → is_past_at r y ≡ true → has_digit_at r y ≡ true
+past_has_digit r y h = go (has_digit_at r y) refl
+  where
+    go : (b : Bool) → has_digit_at r y ≡ b → b ≡ true
+    go true e = refl
+    go false e =
+        let zero_is : is_past_at r y ≡ false = ap (λ z. is_none (capped (place_value r z))) (no_digits r (digit_row_at r y) (run_all (is_row_part (has_value r)) y) e) in
+        absurd (both_ways (is_past_at r y) zero_is h)
+
+-- a row, and whether its number stands, by what follows it
+row_read : (r : ℕ) (y x : List ℕ) → first_passes (is_row_part (has_value r)) x ≡ false → based_reads r (digit_row_at r y ++ x) ≡ cond (has_digit_at r y && is_suffix x) (not (is_past_at r y)) (list_all is_xid_continue (digit_row_at r y ++ x))
+unfolding based_reads
+row_read r y x stops =
+    let row = digit_row_at r y in
+    let k = run_past (is_row_part (has_value r)) row x (run_all (is_row_part (has_value r)) y) stops in
+    let F : List ℕ → List ℕ → Bool = λ d z. cond (list_any (has_value r) d && is_suffix z) (not (is_none (capped (place_value r (without_underscores d))))) (list_all is_xid_continue (row ++ x)) in
+    ap (λ d. F d (after_digits r (row ++ x))) k.0 ∙ ap (F row) k.1
+
+dot_no_part : (r : ℕ) → r ≤ 16 → is_row_part (has_value r) 0xB7 ≡ false
+dot_no_part r few = or_from (has_value r 0xB7) false (le-ltb 36 r (omega arith)) refl
+
+dot_no_suffix : is_suffix (0xB7 ∷ []) ≡ false
+dot_no_suffix = suffix_not 0xB7 [] dot_begins_none
+
+all_dotted : (xs : List ℕ) → list_all is_xid_continue xs ≡ true → list_all is_xid_continue (xs ++ (0xB7 ∷ [])) ≡ true
+all_dotted xs h = all_off is_xid_continue xs (0xB7 ∷ []) h ∙ and_from (is_xid_continue 0xB7) true dot_goes_on refl
+
+never : (x : List ℕ) → first_passes (λ c. false) x ≡ false
+never [] = refl
+never (c ∷ cs) = refl
+
+no_integer : (b : Bool) (q : Bool) → cond (b && false) q true ≡ true
+no_integer true q = refl
+no_integer false q = refl
+
+-- an integer past the limit, which only a character that begins no suffix saves
+past_halts : (r : ℕ) (y : List ℕ) → r ≤ 16 → is_past_at r y ≡ true → ends_or_passes is_xid_start (after_digits r y) ≡ true → Halts (λ c. false) (based_reads r) y (after_digits r y)
+past_halts r y few past starts =
+    let row = digit_row_at r y in
+    let each = all_weaker (is_row_part (has_value r)) is_xid_continue (λ c k. part_continues r c few k) row (run_all (is_row_part (has_value r)) y) in
+    record {
+      front = row;
+      text_is = run_join (is_row_part (has_value r)) y;
+      ending = 0xB7 ∷ [];
+      are_characters = (refl, tt);
+      opens = never (row ++ (0xB7 ∷ []));
+      completes =
+          row_read r y (0xB7 ∷ []) (dot_no_part r few)
+          ∙ ap (λ b. cond (has_digit_at r y && b) (not (is_past_at r y)) (list_all is_xid_continue (row ++ (0xB7 ∷ [])))) dot_no_suffix
+          ∙ ap (λ b. cond (has_digit_at r y && false) (not (is_past_at r y)) b) (all_dotted row each)
+          ∙ no_integer (has_digit_at r y) (not (is_past_at r y));
+      stuck = λ c cs e k.
+          let start : is_xid_start c ≡ true = sym (ap (ends_or_passes is_xid_start) k) ∙ starts in
+          let stops : is_row_part (has_value r) c ≡ false = sym (ap (first_passes (is_row_part (has_value r))) k) ∙ run_ends (is_row_part (has_value r)) y in
+          let all : list_all is_xid_continue (row ++ (c ∷ e)) ≡ list_all is_xid_continue e = all_off is_xid_continue row (c ∷ e) each ∙ ap (λ b. b && list_all is_xid_continue e) (is_xid_start-is_xid_continue c start) in
+          row_read r y (c ∷ e) stops
+          ∙ ap (λ b. cond (b && is_suffix (c ∷ e)) (not (is_past_at r y)) (list_all is_xid_continue (row ++ (c ∷ e)))) (past_has_digit r y past)
+          ∙ ap (λ b. cond b (not (is_past_at r y)) (list_all is_xid_continue (row ++ (c ∷ e)))) (suffix_is c e start)
+          ∙ ap (λ b. cond (list_all is_xid_continue e) (not b) (list_all is_xid_continue (row ++ (c ∷ e)))) past
+          ∙ ap (λ b. cond (list_all is_xid_continue e) false b) all
+          ∙ lost (list_all is_xid_continue e);
+    }
+  where
+    lost : (b : Bool) → cond b false b ≡ false
+    lost true = refl
+    lost false = refl
+
+-- a run goes through what passes
+run_on : (test : ℕ → Bool) (row x : List ℕ) → list_all test row ≡ true → run test (row ++ x) ≡ row ++ run test x
+run_on test [] x h = refl
+run_on test (c ∷ cs) x h =
+    let b = and_parts (test c) (list_all test cs) h in
+    (run_yes test c (cs ++ x) b.0).0 ∙ ap (λ z. c ∷ z) (run_on test cs x b.1)
+
+-- what follows the row, as far as an identifier goes, and the dot
+dotted_first : (test : ℕ → Bool) (x : List ℕ) → test 0xB7 ≡ false → first_passes test x ≡ false → first_passes test (run is_xid_continue x ++ (0xB7 ∷ [])) ≡ false
+unfolding run
+dotted_first test [] d h = d
+dotted_first test (c ∷ cs) d h = go (is_xid_continue c)
+  where
+    go : (b : Bool) → first_passes test (cond b (c ∷ run is_xid_continue cs) [] ++ (0xB7 ∷ [])) ≡ false
+    go true = h
+    go false = d
+
+dotted_no_suffix : (x : List ℕ) → ends_or_passes is_xid_start x ≡ false → is_suffix (run is_xid_continue x ++ (0xB7 ∷ [])) ≡ false
+unfolding run
+dotted_no_suffix [] h = absurd (cc)
+dotted_no_suffix (c ∷ cs) h = go (is_xid_continue c)
+  where
+    go : (b : Bool) → is_suffix (cond b (c ∷ run is_xid_continue cs) [] ++ (0xB7 ∷ [])) ≡ false
+    go true = suffix_not c (run is_xid_continue cs ++ (0xB7 ∷ [])) h
+    go false = dot_no_suffix
+
+-- any other text: a float 0 with a suffix saves it as long as an identifier goes on
+based_word_halts : (r : ℕ) (y : List ℕ) → r ≤ 16 → (is_past_at r y && ends_or_passes is_xid_start (after_digits r y)) ≡ false → Halts (λ c. false) (based_reads r) y (after_word y)
+based_word_halts r y few h =
+    let row = digit_row_at r y in
+    let x = after_digits r y in
+    let z = run is_xid_continue x ++ (0xB7 ∷ []) in
+    let each = all_weaker (is_row_part (has_value r)) is_xid_continue (λ c k. part_continues r c few k) row (run_all (is_row_part (has_value r)) y) in
+    let is : run is_xid_continue y ++ (0xB7 ∷ []) ≡ row ++ z = ap (λ v. run is_xid_continue v ++ (0xB7 ∷ [])) (run_join (is_row_part (has_value r)) y) ∙ ap (λ v. v ++ (0xB7 ∷ [])) (run_on is_xid_continue row x each) ∙ append_assoc row (run is_xid_continue x) (0xB7 ∷ []) in
+    let all : list_all is_xid_continue (row ++ z) ≡ true = sym (ap (list_all is_xid_continue) is) ∙ all_dotted (run is_xid_continue y) (run_all is_xid_continue y) in
+    record {
+      front = run is_xid_continue y;
+      text_is = run_join is_xid_continue y;
+      ending = 0xB7 ∷ [];
+      are_characters = (refl, tt);
+      opens = never (run is_xid_continue y ++ (0xB7 ∷ []));
+      completes =
+          ap (based_reads r) is
+          ∙ row_read r y z (dotted_first (is_row_part (has_value r)) x (dot_no_part r few) (run_ends (is_row_part (has_value r)) y))
+          ∙ ap (λ b. cond (has_digit_at r y && is_suffix z) (not (is_past_at r y)) b) all
+          ∙ saved (is_past_at r y) (ends_or_passes is_xid_start x) refl h;
+      stuck = λ c cs e k. based_none r (run is_xid_continue y ++ (c ∷ e)) few (word_breaks y c cs e k);
+    }
+  where
+    saved : (p b : Bool) → ends_or_passes is_xid_start (after_digits r y) ≡ b → (p && b) ≡ false → cond (has_digit_at r y && is_suffix (run is_xid_continue (after_digits r y) ++ (0xB7 ∷ []))) (not p) true ≡ true
+    saved true true e k = absurd (cc)
+    saved true false e k = ap (λ b. cond (has_digit_at r y && b) false true) (dotted_no_suffix (after_digits r y) e) ∙ no_integer (has_digit_at r y) false
+    saved false b e k = settled (has_digit_at r y && is_suffix (run is_xid_continue (after_digits r y) ++ (0xB7 ∷ [])))
+      where
+        settled : (q : Bool) → cond q true true ≡ true
+        settled true = refl
+        settled false = refl
+
+based_halts : (r : ℕ) (y : List ℕ) → r ≤ 16 → Halts (λ c. false) (based_reads r) y (based_flaw_at r y).1
+unfolding based_flaw_at
+based_halts r y few = go (is_past_at r y && ends_or_passes is_xid_start (after_digits r y)) refl
+  where
+    go : (b : Bool) → (is_past_at r y && ends_or_passes is_xid_start (after_digits r y)) ≡ b → Halts (λ c. false) (based_reads r) y (cond b (found_flaw TooLarge (after_digits r y)) (found_flaw BadSuffix (after_word y))).1
+    go true h = let p = and_parts (is_past_at r y) (ends_or_passes is_xid_start (after_digits r y)) h in past_halts r y few p.0 p.1
+    go false h = based_word_halts r y few h
+
+based_stops : (t : List ℕ) (r l : ℕ) (y : List ℕ) → IsPrefixed r l → after_minus t ≡ 48 ∷ l ∷ y → StopsBefore t (based_flaw_at r y).1
+based_stops t r l y k e =
+    let s = sign_at t in
+    let is : (sign_text s ++ (48 ∷ l ∷ [])) ++ y ≡ t = append_assoc (sign_text s) (48 ∷ l ∷ []) y ∙ ap (λ v. sign_text s ++ v) (sym e) ∙ sym (sign_join t) in
+    subst (λ v. StopsBefore v (based_flaw_at r y).1) is (whole_stops (λ c. false) (based_reads r) (sign_text s ++ (48 ∷ l ∷ [])) y (based_flaw_at r y).1 (never y) (based_fronted s r l k) (based_halts r y k.few))
+
+-- ---- any number
+
+-- after the sign stands a digit
+digits_stop : (t : List ℕ) → first_passes is_ascii_digit (after_minus t) ≡ true → StopsBefore t (unsigned_number_flaw_at (after_minus t)).1
+unfolding unsigned_number_flaw_at
+digits_stop t first = go b.base b.rest b.at b.text_is
+  where
+    b : Based (after_minus t)
+    b = based (after_minus t)
+
+    At : ℕ × List ℕ → List ℕ
+    At p = (cond (p.0 == 10) (tail_flaw_at (is_past_at 10 p.1) (after_digits 10 p.1)) (based_flaw_at p.0 p.1)).1
+
+    go : (base : Base) (y : List ℕ) → radix_at (after_minus t) ≡ (radix base, y) → after_minus t ≡ prefix base ++ y → StopsBefore t (At (radix_at (after_minus t)))
+    go Binary y at e = subst (StopsBefore t) (sym (ap At at)) (based_stops t 2 98 y binary e)
+    go Octal y at e = subst (StopsBefore t) (sym (ap At at)) (based_stops t 8 111 y octal e)
+    go Hexadecimal y at e = subst (StopsBefore t) (sym (ap At at)) (based_stops t 16 120 y hexadecimal e)
+    go Decimal y at e =
+        let same : radix_at (after_minus t) ≡ (10, after_minus t) = at ∙ ap (λ z. (10, z)) (sym e) in
+        subst (StopsBefore t) (sym (ap At same)) (ten_stops t first same)
+
+one_is_ten : (radix_at (49 ∷ [])).0 ≡ 10
+unfolding radix_at
+one_is_ten = refl
+
+-- after a minus stands none
+minus_stops : (u : List ℕ) → first_passes is_ascii_digit u ≡ false → StopsBefore (45 ∷ u) u
+unfolding is_exponent_suffix
+minus_stops u h = record {
+  front = 45 ∷ [];
+  text_is = refl;
+  begins = record {
+    ending = 49 ∷ [];
+    are_characters = (refl, tt);
+    reads = (ten_fronted Minus (49 ∷ []) [] refl refl one_is_ten).good [] refl refl;
+  };
+  stuck = λ c cs e k r.
+      let no_digit : first_passes is_ascii_digit (c ∷ e) ≡ false = sym (ap (first_passes is_ascii_digit) k) ∙ h in
+      let t = 45 ∷ c ∷ e in
+      only_number t refl (no_number t (no_int t (no_head_int t no_digit)) (no_float t (no_head_float t no_digit))) r.0 r.1.0 r.1.1 r.1.2;
+}
+
+end_rest : (a b : FlawKind) (t : List ℕ) → (end_flaw_at a b t).1 ≡ t
+end_rest a b [] = refl
+end_rest a b (c ∷ cs) = refl
+
+pub number_stops : (t : List ℕ) → first_passes is_number_front t ≡ true → StopsBefore t (number_flaw_at t).1
+unfolding number_flaw_at
+number_stops [] h = absurd (cc)
+number_stops (c ∷ cs) h = go (first_passes is_ascii_digit (after_minus (c ∷ cs))) refl
+  where
+    undigited : first_passes is_ascii_digit (after_minus (c ∷ cs)) ≡ false → StopsBefore (c ∷ cs) (after_minus (c ∷ cs))
+    undigited e = minus (c == 45) refl e
+      where
+        minus : (m : Bool) → (c == 45) ≡ m → first_passes is_ascii_digit (cond m cs (c ∷ cs)) ≡ false → StopsBefore (c ∷ cs) (cond m cs (c ∷ cs))
+        minus true q k = subst (λ z. StopsBefore (z ∷ cs) cs) (sym (eqb-true c 45 q)) (minus_stops cs k)
+        minus false q k = absurd (both_ways (is_number_front c) (or_from (c == 45) (is_ascii_digit c) q k) h)
+
+    go : (b : Bool) → first_passes is_ascii_digit (after_minus (c ∷ cs)) ≡ b → StopsBefore (c ∷ cs) (cond b (unsigned_number_flaw_at (after_minus (c ∷ cs))) (end_flaw_at Unfinished NoNumber (after_minus (c ∷ cs)))).1
+    go true e = digits_stop (c ∷ cs) e
+    go false e = subst (StopsBefore (c ∷ cs)) (sym (end_rest Unfinished NoNumber (after_minus (c ∷ cs)))) (undigited e)
