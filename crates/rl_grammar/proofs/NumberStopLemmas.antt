@@ -20,7 +20,7 @@ use Rattle.rl_grammar.specs.declared.flaws.FlawKind.{FlawKind}
 use Rattle.rl_grammar.specs.declared.flaws.FlawKind.TheVariants.{Unfinished, NoNumber, BadSuffix, TooLarge}
 use Rattle.rl_grammar.specs.Mirrors.UnitFlawAt.{found_flaw}
 use Rattle.rl_grammar.specs.Mirrors.NumberAt.{after_digits, after_exponent, after_fraction, after_minus, append_digit, capped, capped_int, digit_row_at, ended_at, float_at, float_tail_at, has_digit_at, has_value, int_at, is_exponent_suffix, is_suffix, IsHead, magnitude_at, may_end, power_at, radix_at, radix_of, run, sign_at}
-use Rattle.rl_grammar.specs.Mirrors.NumberFlawAt.{after_word, based_flaw_at, end_flaw_at, ends_or_passes, is_past_at, number_flaw_at, tail_flaw_at, unsigned_number_flaw_at}
+use Rattle.rl_grammar.specs.Mirrors.NumberFlawAt.{after_word, based_flaw_at, end_flaw_at, ends_or_passes, is_past_at, tail_flaw_at, unsigned_number_flaw_at}
 use Rattle.rl_grammar.proofs.DigitRowLemmas.{run_no, run_yes}
 use Rattle.rl_grammar.proofs.FloatLemmas.{float_sound, no_float, passes_more, run_first}
 use Rattle.rl_grammar.proofs.HeadLemmas.{head_float, head_int, head_read, no_head_float, no_head_int}
@@ -480,18 +480,17 @@ end_rest : (a b : FlawKind) (t : List ℕ) → (end_flaw_at a b t).1 ≡ t
 end_rest a b [] = refl
 end_rest a b (c ∷ cs) = refl
 
-pub number_stops : (t : List ℕ) → first_passes is_number_front t ≡ true → StopsBefore t (number_flaw_at t).1
-unfolding number_flaw_at
-number_stops [] h = absurd (cc)
-number_stops (c ∷ cs) h = go (first_passes is_ascii_digit (after_minus (c ∷ cs))) refl
-  where
-    undigited : first_passes is_ascii_digit (after_minus (c ∷ cs)) ≡ false → StopsBefore (c ∷ cs) (after_minus (c ∷ cs))
-    undigited e = minus (c == 45) refl e
-      where
-        minus : (m : Bool) → (c == 45) ≡ m → first_passes is_ascii_digit (cond m cs (c ∷ cs)) ≡ false → StopsBefore (c ∷ cs) (cond m cs (c ∷ cs))
-        minus true q k = subst (λ z. StopsBefore (z ∷ cs) cs) (sym (eqb-true c 45 q)) (minus_stops cs k)
-        minus false q k = absurd (both_ways (is_number_front c) (or_from (c == 45) (is_ascii_digit c) q k) h)
+-- ---- the code's two ways
 
-    go : (b : Bool) → first_passes is_ascii_digit (after_minus (c ∷ cs)) ≡ b → StopsBefore (c ∷ cs) (cond b (unsigned_number_flaw_at (after_minus (c ∷ cs))) (end_flaw_at Unfinished NoNumber (after_minus (c ∷ cs)))).1
-    go true e = digits_stop (c ∷ cs) e
-    go false e = subst (StopsBefore (c ∷ cs)) (sym (end_rest Unfinished NoNumber (after_minus (c ∷ cs)))) (undigited e)
+pub digits_place : (t u rest : List ℕ) → u ≡ after_minus t → first_passes is_ascii_digit u ≡ true → rest ≡ (unsigned_number_flaw_at u).1 → StopsBefore t rest
+digits_place t u rest is first at = subst (StopsBefore t) (ap (λ v. (unsigned_number_flaw_at v).1) (sym is) ∙ sym at) (digits_stop t (ap (first_passes is_ascii_digit) (sym is) ∙ first))
+
+pub minus_place : (t u rest : List ℕ) → first_passes is_number_front t ≡ true → u ≡ after_minus t → first_passes is_ascii_digit u ≡ false → rest ≡ (end_flaw_at Unfinished NoNumber u).1 → StopsBefore t rest
+minus_place [] u rest front is first at = absurd (cc)
+minus_place (c ∷ cs) u rest front is first at = go (c == 45) refl is
+  where
+    go : (m : Bool) → (c == 45) ≡ m → u ≡ cond m cs (c ∷ cs) → StopsBefore (c ∷ cs) rest
+    go true q e =
+        let same : rest ≡ cs = at ∙ end_rest Unfinished NoNumber u ∙ e in
+        subst (λ z. StopsBefore (z ∷ cs) rest) (sym (eqb-true c 45 q)) (subst (StopsBefore (45 ∷ cs)) (sym same) (minus_stops cs (ap (first_passes is_ascii_digit) (sym e) ∙ first)))
+    go false q e = absurd (both_ways (is_number_front c) (or_from (c == 45) (is_ascii_digit c) q (ap (first_passes is_ascii_digit) (sym e) ∙ first)) front)

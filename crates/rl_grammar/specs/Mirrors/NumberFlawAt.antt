@@ -8,8 +8,8 @@ use Rattle.rl_tokens.specs.Classes.{after_run}
 use Rattle.rl_tokens.specs.Numbers.{is_exponent_letter}
 use Rattle.rl_tokens.specs.Texts.{first_passes, is_underscore}
 use Rattle.rl_grammar.specs.declared.flaws.FlawKind.{FlawKind}
-use Rattle.rl_grammar.specs.declared.flaws.FlawKind.TheVariants.{Unfinished, NoNumber, NoExponentDigit, BadSuffix, TooLarge}
-use Rattle.rl_grammar.specs.Mirrors.NumberAt.{after_digits, after_minus, capped, has_digit_at, magnitude_at, radix_at}
+use Rattle.rl_grammar.specs.declared.flaws.FlawKind.TheVariants.{Unfinished, NoExponentDigit, BadSuffix, TooLarge}
+use Rattle.rl_grammar.specs.Mirrors.NumberAt.{after_digits, capped, has_digit_at, magnitude_at, radix_at}
 use Rattle.rl_grammar.specs.Mirrors.UnitFlawAt.{FoundFlaw, found_flaw}
 
 -- what an identifier doesn't go on with
@@ -90,9 +90,3 @@ unsigned_number_flaw_at t =
     if (radix_at t).0 == 10
     then tail_flaw_at (is_past_at 10 (radix_at t).1) (after_digits 10 (radix_at t).1)
     else based_flaw_at (radix_at t).0 (radix_at t).1
-
--- of a text that begins as a number
-unfoldable pub number_flaw_at : List ℕ → FoundFlaw
-number_flaw_at t =
-    if first_passes is_ascii_digit (after_minus t) then unsigned_number_flaw_at (after_minus t)
-    else end_flaw_at Unfinished NoNumber (after_minus t)
