@@ -18,6 +18,7 @@ pub mod StopLemmas
 pub mod UnitFlawLemmas
 pub mod QuotedFlawLemmas
 pub mod UnitLemmas
+pub mod WordFlawLemmas
 pub mod RowLemmas
 pub mod RawLemmas
 pub mod FormLemmas

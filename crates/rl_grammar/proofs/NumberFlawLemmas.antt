@@ -294,7 +294,6 @@ digit_reads i p l us row x l_is marks each first stops =
     any_first [] h = absurd (cc)
     any_first (c ∷ cs) h = ap (λ z. z || list_any (has_value 10) cs) (sym (digit_is_ten c) ∙ h)
 
-
 -- no sign and no digit
 abbrev is_power_front : ℕ → Bool
 is_power_front c = (c == 43 || c == 45) || is_row_part (has_value 10) c
@@ -327,7 +326,6 @@ other_reads i p l us x l_is marks no_front =
     front_part : (x : List ℕ) → first_passes is_power_front x ≡ false → first_passes (is_row_part (has_value 10)) x ≡ false
     front_part [] h = refl
     front_part (c ∷ cs) h = (or_parts (c == 43 || c == 45) (is_row_part (has_value 10) c) h).1
-
 
     settled : (i p a : Bool) → cond (i && (a && true)) (not p) a ≡ (a && not (i && p))
     settled true p true = refl
@@ -502,9 +500,9 @@ digit_halts i p reads outer l us t k first marks =
     let each = run_all (is_row_part (has_value 10)) t in
     let Rest = (unsigned_flaw_at i p w).1 in
     let h = on (is_row_part (has_value 10)) outer (digits_read i p) reads (l ∷ (us ++ row)) w Rest ends (λ x stops.
-        ap (λ z. reads (l ∷ z)) (append_assoc us row x)
-        ∙ k.same (us ++ (row ++ x))
-        ∙ digit_reads i p l us row x k.is_letter marks each (run_first t first) stops) (λ x. k.starts) (unsigned_halts i p w ends) in
+    ap (λ z. reads (l ∷ z)) (append_assoc us row x)
+    ∙ k.same (us ++ (row ++ x))
+    ∙ digit_reads i p l us row x k.is_letter marks each (run_first t first) stops) (λ x. k.starts) (unsigned_halts i p w ends) in
     subst (λ z. Halts outer reads (l ∷ z) Rest) (append_assoc us row w ∙ ap (λ z. us ++ z) (sym (run_join (is_row_part (has_value 10)) t))) h
 
 -- where neither follows

@@ -38,7 +38,11 @@ fn letters_flaw<'t>(word: &str, text: &'t str) -> FlawAt<'t>
     ensures { found_flaw result.kind (chars result.rest.now)
         ≡ end_flaw_at Unfinished NoLiteral (after_letters (chars word.now) (chars text.now)) }
 {
-    end_flaw(FlawKind::Unfinished, FlawKind::NoLiteral, skip_letters(word, text))
+    end_flaw(
+        FlawKind::Unfinished,
+        FlawKind::NoLiteral,
+        skip_letters(word, text),
+    )
 }
 
 /// The flaw of a text that begins neither as a number nor as a quoted literal.
