@@ -93,11 +93,11 @@ trimmed (c ∷ cs) x h k = go (λ m. trimmed cs x (and_parts (is_row_part (has_v
         record { more = c ∷ cs; is = (run_no is_underscore c (cs ++ x) e).1; each = h; some = k; first = digit_is_ten c ∙ d }
 
 -- a digit is no underscore
-digit_no_mark : (c : ℕ) → is_ascii_digit c ≡ true → (c == 95) ≡ false
+pub digit_no_mark : (c : ℕ) → is_ascii_digit c ≡ true → (c == 95) ≡ false
 digit_no_mark c h = grind (arith, nat_tests)
 
 -- a digit is no sign
-digit_no_sign : (t : List ℕ) → first_passes is_ascii_digit t ≡ true → after_power_sign t ≡ t
+pub digit_no_sign : (t : List ℕ) → first_passes is_ascii_digit t ≡ true → after_power_sign t ≡ t
 digit_no_sign [] h = refl
 digit_no_sign (c ∷ cs) h =
     let e : (c == 43 || c == 45) ≡ false = grind (arith, nat_tests) in
@@ -111,7 +111,7 @@ record Powered (t x : List ℕ) : Type 0 where
   some : list_any (has_value 10) more ≡ true
 
 -- a sign after underscores is taken off
-signed_past : (c : ℕ) (us w : List ℕ) → (c == 43 || c == 45) ≡ true → list_all is_underscore us ≡ true → power_at (us ++ (c ∷ w)) ≡ w
+pub signed_past : (c : ℕ) (us w : List ℕ) → (c == 43 || c == 45) ≡ true → list_all is_underscore us ≡ true → power_at (us ++ (c ∷ w)) ≡ w
 unfolding power_at
 signed_past c us w h k =
     let n : (c == 95) ≡ false = grind (arith, nat_tests) in

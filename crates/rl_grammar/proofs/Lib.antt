@@ -8,7 +8,9 @@ pub mod IntegerLemmas
 pub mod FloatLemmas
 pub mod DigitLemmas
 pub mod DecLemmas
+pub mod NumberFlawLemmas
 pub mod NumberLemmas
+pub mod NumberStopLemmas
 pub mod MinusLemmas
 pub mod OptionLemmas
 pub mod ReadingLemmas
@@ -19,6 +21,7 @@ pub mod RawFlawLemmas
 pub mod QuotedFlawLemmas
 pub mod QuotedStopLemmas
 pub mod UnitLemmas
+pub mod WordFlawLemmas
 pub mod RowLemmas
 pub mod RawLemmas
 pub mod FormLemmas

@@ -4,9 +4,11 @@
 pub mod Classes
 pub mod Decodes
 pub mod NumberAt
+pub mod NumberFlawAt
 pub mod OpenerAt
 pub mod PlainAt
 pub mod StrictAt
 pub mod UnitAt
 pub mod UnitFlawAt
+pub mod WordFlawAt
 pub mod StopsInside
