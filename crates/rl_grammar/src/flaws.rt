@@ -5,7 +5,11 @@ ghost use Rattle.std.specs.Str.{chars};
 ghost use Rattle.rl_tokens.specs.Reading.{HasNoReading, HasReading};
 ghost use Rattle.rl_grammar.specs.Flaws.{StopsAt, StopsBefore, first_len};
 
-use crate::found::find;
+use crate::found::{begins_number, find};
+use crate::number_flaws::number_flaw;
+use crate::quoted_flaws::quoted_flaw;
+use crate::quoted_forms::split_opener;
+use crate::word_flaws::word_flaw;
 use rl_tokens::text::split_char;
 
 /// Why a text is no literal.
@@ -97,7 +101,13 @@ fn flaw_at(text: &str) -> FlawAt<'_>
     requires { HasNoReading (chars text.now) }
     ensures { StopsBefore (chars text.now) (chars result.rest.now) }
 {
-    make_flaw(FlawKind::Empty, text)
+    if begins_number(text) {
+        return number_flaw(text);
+    }
+    match split_opener(text) {
+        Some((form, kind, inside)) => quoted_flaw(form, kind, inside),
+        None => word_flaw(text),
+    }
 }
 
 /// How many bytes the first character of the text has; 0 of an empty one.

@@ -1,0 +1,20 @@
+use Rattle.std.proofs.Common.{rules, arith, ap, ◌+◌, ◌-◌, length}
+use Rattle.std.specs.Str.{chars, IsUtf8}
+use Rattle.rl_grammar.proofs.ExplainLemmas.{front_bytes}
+use Rattle.rl_grammar.proofs.flaws.explain.Goals as goal
+
+pub overflow_sub-lo : goal.overflow_sub-lo
+overflow_sub-lo c =
+    let rest : IsUtf8 c.flaw_at-found.result.rest.now = search rules in
+    omega (arith, front_bytes c.args.text.now c.flaw_at-found.result.rest.now c.utf8.text rest c.flaw_at-found.ensures)
+
+pub returns-clause-place : goal.returns-clause-place
+returns-clause-place c =
+    let rest : IsUtf8 c.flaw_at-found.result.rest.now = search rules in
+    let whole = front_bytes c.args.text.now c.flaw_at-found.result.rest.now c.utf8.text rest c.flaw_at-found.ensures in
+    record {
+      rest = chars c.flaw_at-found.result.rest.now;
+      stops = c.flaw_at-found.ensures;
+      lo_is = omega (arith, whole);
+      hi_is = ap (λ z. (length c.args.text.now - length c.flaw_at-found.result.rest.now) + z) c.first_len.ensures.len;
+    }
