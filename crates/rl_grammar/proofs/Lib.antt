@@ -14,6 +14,7 @@ pub mod OptionLemmas
 pub mod ReadingLemmas
 pub mod StopLemmas
 pub mod UnitFlawLemmas
+pub mod UnitKindLemmas
 pub mod RawFlawLemmas
 pub mod QuotedFlawLemmas
 pub mod QuotedStopLemmas
