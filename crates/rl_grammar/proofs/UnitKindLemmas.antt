@@ -1,5 +1,5 @@
 -- Where no unit of a quoted literal stands, the code's kind of flaw is the one that the text has.
-use Rattle.std.proofs.Common.{◌≡◌, ◌≢◌, ℕ, suc, ◌+◌, ◌*◌, ◌^◌, ◌<◌, ◌≤◌, ◌||◌, ◌&&◌, Bool, true, false, not, cond, eqb, ltb, List, [], ◌∷◌, ◌++◌, length, length-append, Option, Some, None, refl, sym, ap, subst, ◌∙◌, inl, inr, arith, append_assoc}
+use Rattle.std.proofs.Common.{◌≡◌, ◌≢◌, ℕ, suc, ◌+◌, ◌*◌, ◌<◌, ◌≤◌, ◌||◌, ◌&&◌, Bool, true, false, not, cond, eqb, ltb, List, [], ◌∷◌, ◌++◌, length, length-append, Option, Some, None, refl, sym, ap, subst, ◌∙◌, inl, inr, arith, append_assoc}
 use Rattle.std.specs.Prelude.{option_and_then}
 use Rattle.std.specs.List.{list_all}
 use Rattle.std.specs.Char.{digit_value}
@@ -14,7 +14,7 @@ use Rattle.rl_tokens.specs.Texts.{first_passes, is_underscore}
 use Rattle.rl_tokens.specs.Quoted.{Letter, Named, LowerN, LowerR, LowerT, Backslash, Apostrophe, Quote, Zero, letter_text, letter_value, hex_value, content_of, place_value, without_underscores, is_hex_digit, holds_characters, is_string, is_single, is_plain, is_line_end, allows_code, may_be_hex, has_unicode}
 use Rattle.rl_grammar.specs.declared.flaws.FlawKind.{FlawKind}
 use Rattle.rl_grammar.specs.declared.flaws.FlawKind.TheVariants.{UnknownEscape, NoUnicode, NoHexDigit, NoBrace, EmptyBraces, TooManyDigits, PastAscii, PastUnicode, Surrogate, Nul, NotAscii, MustEscape, NoCharacter}
-use Rattle.rl_grammar.specs.FlawKinds.{Begins, is_brace, BeginsNoEscape, IsBraced, digit_count, number_of, MissesDigit, FirstDigit, SecondDigit, AfterBrace, AfterDigits, IsNoCode, HasNoCode, AtBrace, AtSixth, IsNul, AsItIs, ByLetter, ByDigits, ByNumber, UnitFlaw}
+use Rattle.rl_grammar.specs.FlawKinds.{IsBraced, digit_count, number_of, FirstDigit, SecondDigit, AfterBrace, AfterDigits, IsNoCode, HasNoCode, AtBrace, AtSixth, AsItIs, ByLetter, ByDigits, ByNumber, UnitFlaw}
 use Rattle.rl_grammar.specs.Mirrors.UnitAt.{found, number_if, hex_at, unicode_at, after_blanks, named_at, escape_at, line_feed_at, unit_at}
 use Rattle.rl_grammar.specs.Mirrors.UnitFlawAt.{FoundFlaw, found_flaw, low_digit_flaw_at, hex_flaw_at, is_code, code_flaw_of, digits_flaw_at, first_digit_flaw_at, unicode_flaw_at, escape_flaw_at, line_end_flaw_at, character_flaw_of, unit_flaw_at}
 use Rattle.rl_grammar.proofs.StopLemmas.{inner_none}
