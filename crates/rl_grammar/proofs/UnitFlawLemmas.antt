@@ -219,7 +219,7 @@ pub record Spelled (kind : Kind) (v n : ℕ) : Type 0 where
   pub small : v < 16 ^ n
   pub full : n ≡ 6 → is_code kind v ≡ true
 
-room : (kind : Kind) (v n : ℕ) → Spelled kind v n → is_code kind v ≡ false → n ≤ 5
+pub room : (kind : Kind) (v n : ℕ) → Spelled kind v n → is_code kind v ≡ false → n ≤ 5
 room kind v n s bad =
     elim (cases_Bool (ltb n 6)) [
       | inl a ↦ (let less : n < 6 = ltb-true n 6 a in omega arith)
@@ -246,7 +246,7 @@ closing kind v n s = go (is_code kind v) refl
         let few = room kind v n s e in
         ends_by_two (coded kind v n) [] (v * 16 + 1) 49 125 refl refl refl (λ r. digit_on kind v n 49 (125 ∷ r) refl (omega (arith, few)) ∙ closed_code kind (v * 16 + 1) (n + 1) r s.unicode (one_more kind v n s e))
 
-spelled_on : (kind : Kind) (v n c : ℕ) → Spelled kind v n → is_hex_digit c ≡ true → eqb n 6 ≡ false → (eqb n 5 && not (is_code kind (v * 16 + digit_value c))) ≡ false → Spelled kind (v * 16 + digit_value c) (n + 1)
+pub spelled_on : (kind : Kind) (v n c : ℕ) → Spelled kind v n → is_hex_digit c ≡ true → eqb n 6 ≡ false → (eqb n 5 && not (is_code kind (v * 16 + digit_value c))) ≡ false → Spelled kind (v * 16 + digit_value c) (n + 1)
 spelled_on kind v n c s h short good =
     let less : n < 6 = not_six n s.few short in
     let small = s.small in
@@ -332,7 +332,7 @@ braced_first kind c t h = rw h refl
 braced_none : (kind : Kind) (c : ℕ) (t : List ℕ) → is_hex_digit c ≡ false → braced kind (c ∷ t) ≡ None
 braced_none kind c t h = rw h refl
 
-first_spelled : (kind : Kind) (c : ℕ) → has_unicode kind ≡ true → is_hex_digit c ≡ true → Spelled kind (digit_value c) 1
+pub first_spelled : (kind : Kind) (c : ℕ) → has_unicode kind ≡ true → is_hex_digit c ≡ true → Spelled kind (digit_value c) 1
 first_spelled kind c u h = record { unicode = u; few = omega arith; small = (let small : digit_value c < 16 = ltb-true (digit_value c) 16 h in small); full = λ e. absurd (cc) }
 
 braced_one : (kind : Kind) → has_unicode kind ≡ true → Completes (braced kind) []

@@ -18,7 +18,7 @@ use Rattle.rl_grammar.specs.FlawKinds.{IsBraced, digit_count, number_of, FirstDi
 use Rattle.rl_grammar.specs.Mirrors.UnitAt.{found, number_if, hex_at, unicode_at, after_blanks, named_at, escape_at, line_feed_at, unit_at}
 use Rattle.rl_grammar.specs.Mirrors.UnitFlawAt.{FoundFlaw, found_flaw, low_digit_flaw_at, hex_flaw_at, is_code, code_flaw_of, digits_flaw_at, first_digit_flaw_at, unicode_flaw_at, escape_flaw_at, line_end_flaw_at, character_flaw_of, unit_flaw_at}
 use Rattle.rl_grammar.proofs.StopLemmas.{inner_none}
-use Rattle.rl_grammar.proofs.UnitFlawLemmas.{IsQuotedKind, second, hex_read, coded, closed_code, digit_apart, digit_on, underscore_on, not_low, not_high, only_zero, braced, braced_first, unicode_on, by_hex, by_unicode, by_escape, line_feed}
+use Rattle.rl_grammar.proofs.UnitFlawLemmas.{IsQuotedKind, second, hex_read, coded, closed_code, digit_apart, digit_on, underscore_on, Spelled, first_spelled, room, spelled_on, not_low, not_high, only_zero, braced, braced_first, unicode_on, by_hex, by_unicode, by_escape, line_feed}
 use Rattle.rl_grammar.proofs.UnitLemmas.{holds_more, two_digits, unit_complete}
 
 -- the text has the flaw that is found
@@ -104,6 +104,9 @@ bare_same (d ∷ ds) c h = elim (cases_Bool (eqb d 95)) [
 number_more : (ds : List ℕ) (c : ℕ) → eqb c 95 ≡ false → number_of (ds ++ (c ∷ [])) ≡ number_of ds * 16 + digit_value c
 number_more ds c h = ap (place_value 16) (bare_digit ds c h) ∙ place_more (without_underscores ds) c
 
+number_digit : (ds : List ℕ) (v c : ℕ) → v ≡ number_of ds → is_hex_digit c ≡ true → v * 16 + digit_value c ≡ number_of (ds ++ (c ∷ []))
+number_digit ds v c e h = ap (λ x. x * 16 + digit_value c) e ∙ sym (number_more ds c (digit_apart c 95 h refl))
+
 count_more : (ds : List ℕ) (c : ℕ) → eqb c 95 ≡ false → digit_count (ds ++ (c ∷ [])) ≡ digit_count ds + 1
 count_more ds c h = ap length (bare_digit ds c h) ∙ length-append (without_underscores ds) (c ∷ [])
 
@@ -142,38 +145,38 @@ abbrev braced_text : List ℕ → List ℕ → List ℕ
 braced_text ds t = 92 ∷ 117 ∷ 123 ∷ (ds ++ t)
 
 -- what stands between the braces so far, its number, and how many digits
-pub record Stands (ds : List ℕ) (v n : ℕ) : Type 0 where
+pub record Stands (kind : Kind) (ds : List ℕ) (v n : ℕ) : Type 0 where
   pub begins : first_passes is_hex_digit ds ≡ true
   pub each : list_all is_part ds ≡ true
   pub value_is : v ≡ number_of ds
   pub count_is : n ≡ digit_count ds
-  pub few : n ≤ 6
+  pub spelled : Spelled kind v n
 
-stands_digit : (ds : List ℕ) (v n c : ℕ) → Stands ds v n → is_hex_digit c ≡ true → n < 6 → Stands (ds ++ (c ∷ [])) (v * 16 + digit_value c) (n + 1)
-stands_digit ds v n c s h room =
+stands_digit : (kind : Kind) (ds : List ℕ) (v n c : ℕ) → Stands kind ds v n → is_hex_digit c ≡ true → Spelled kind (v * 16 + digit_value c) (n + 1) → Stands kind (ds ++ (c ∷ [])) (v * 16 + digit_value c) (n + 1)
+stands_digit kind ds v n c s h spelled =
     let no_underscore = digit_apart c 95 h refl in
     record {
       begins = first_more is_hex_digit ds (c ∷ []) s.begins;
       each = list_all-append is_part ds (c ∷ []) ∙ and_from (list_all is_part ds) (list_all is_part (c ∷ [])) s.each (rw (no_underscore, h) refl);
-      value_is = ap (λ x. x * 16 + digit_value c) s.value_is ∙ sym (number_more ds c no_underscore);
+      value_is = number_digit ds v c s.value_is h;
       count_is = ap (λ x. x + 1) s.count_is ∙ sym (count_more ds c no_underscore);
-      few = omega arith;
+      spelled = spelled;
     }
 
-stands_underscore : (ds : List ℕ) (v n c : ℕ) → Stands ds v n → eqb c 95 ≡ true → Stands (ds ++ (c ∷ [])) v n
-stands_underscore ds v n c s e = record {
+stands_underscore : (kind : Kind) (ds : List ℕ) (v n c : ℕ) → Stands kind ds v n → eqb c 95 ≡ true → Stands kind (ds ++ (c ∷ [])) v n
+stands_underscore kind ds v n c s e = record {
   begins = first_more is_hex_digit ds (c ∷ []) s.begins;
   each = list_all-append is_part ds (c ∷ []) ∙ and_from (list_all is_part ds) (list_all is_part (c ∷ [])) s.each (rw e refl);
   value_is = s.value_is ∙ ap (place_value 16) (sym (bare_same ds c e));
   count_is = s.count_is ∙ ap length (sym (bare_same ds c e));
-  few = s.few;
+  spelled = s.spelled;
 }
 
 -- what follows the character, whatever stands before it
 abbrev pub NextHas : Kind → List ℕ → Type 0
-NextHas kind cs = (ds : List ℕ) (v n : ℕ) → Stands ds v n → coded kind v n cs ≡ None → Has kind (digits_flaw_at kind v n cs) (braced_text ds cs)
+NextHas kind cs = (ds : List ℕ) (v n : ℕ) → Stands kind ds v n → coded kind v n cs ≡ None → Has kind (digits_flaw_at kind v n cs) (braced_text ds cs)
 
-module _ (kind : Kind) (unicode : has_unicode kind ≡ true) (ds : List ℕ) (v n c : ℕ) (cs : List ℕ) (s : Stands ds v n) (none : coded kind v n (c ∷ cs) ≡ None) (next_has : NextHas kind cs) where
+module _ (kind : Kind) (ds : List ℕ) (v n c : ℕ) (cs : List ℕ) (s : Stands kind ds v n) (none : coded kind v n (c ∷ cs) ≡ None) (next_has : NextHas kind cs) where
   abbrev pub w : ℕ
   w = v * 16 + digit_value c
 
@@ -184,24 +187,15 @@ module _ (kind : Kind) (unicode : has_unicode kind ≡ true) (ds : List ℕ) (v 
   later_has : (k : FoundFlaw) → Has kind k (braced_text (ds ++ (c ∷ [])) cs) → Has kind k (braced_text ds (c ∷ cs))
   later_has k h = subst (λ z. Has kind k (92 ∷ 117 ∷ 123 ∷ z)) (append_assoc ds (c ∷ []) cs) h
 
-  less : eqb n 6 ≡ false → n < 6
-  less short = elim (cases_Bool (ltb n 6)) [
-    | inl a ↦ ltb-true n 6 a
-    | inr a ↦
-        let more : 6 ≤ n = ltb-false n 6 a in
-        let few = s.few in
-        let six : n ≡ 6 = omega (arith, few, more) in
-        absurd (both_ways (eqb n 6) short (ap (λ m. eqb m 6) six))
-  ]
-
   sixth : (b : Bool) → (eqb n 5 && not (is_code kind w)) ≡ b → is_hex_digit c ≡ true → eqb n 6 ≡ false → Has kind (cond b (found_flaw (code_flaw_of w) (c ∷ cs)) (digits_flaw_at kind w (n + 1) cs)) (braced_text ds (c ∷ cs))
   sixth true bad e short =
       let parts = and_parts (eqb n 5) (not (is_code kind w)) bad in
-      let next = stands_digit ds v n c s e (less short) in
-      code_has kind w (braced_text ds (c ∷ cs)) (c ∷ cs) (not-true (is_code kind w) parts.1) (λ k h. AtSixth ds c cs on (sym s.count_is ∙ eqb-true n 5 parts.0) refl e (subst (IsNoCode kind k) next.value_is h))
+      let value : w ≡ number_of (ds ++ (c ∷ [])) = number_digit ds v c s.value_is e in
+      code_has kind w (braced_text ds (c ∷ cs)) (c ∷ cs) (not-true (is_code kind w) parts.1) (λ k h. AtSixth ds c cs on (sym s.count_is ∙ eqb-true n 5 parts.0) refl e (subst (IsNoCode kind k) value h))
   sixth false good e short =
-      let next = stands_digit ds v n c s e (less short) in
-      later_has (digits_flaw_at kind w (n + 1) cs) (next_has (ds ++ (c ∷ [])) w (n + 1) next (sym (digit_on kind v n c cs e (less short)) ∙ none))
+      let next = spelled_on kind v n c s.spelled e short good in
+      let less : n < 6 = (let few = next.few in omega arith) in
+      later_has (digits_flaw_at kind w (n + 1) cs) (next_has (ds ++ (c ∷ [])) w (n + 1) (stands_digit kind ds v n c s e next) (sym (digit_on kind v n c cs e less) ∙ none))
 
   digit : (b : Bool) → eqb n 6 ≡ b → is_hex_digit c ≡ true → Has kind (cond b (found_flaw TooManyDigits (c ∷ cs)) (cond (eqb n 5 && not (is_code kind w)) (found_flaw (code_flaw_of w) (c ∷ cs)) (digits_flaw_at kind w (n + 1) cs))) (braced_text ds (c ∷ cs))
   digit true six e = (ds, on, sym s.count_is ∙ eqb-true n 6 six, e)
@@ -210,28 +204,31 @@ module _ (kind : Kind) (unicode : has_unicode kind ≡ true) (ds : List ℕ) (v 
   underscore : (b : Bool) → eqb c 95 ≡ b → is_hex_digit c ≡ false → eqb c 125 ≡ false → Has kind (cond b (digits_flaw_at kind v n cs) (found_flaw NoHexDigit (c ∷ cs))) (braced_text ds (c ∷ cs))
   underscore true e a b =
       let on_text = ap (λ x. coded kind v n (x ∷ cs)) (eqb-true c 95 e) ∙ underscore_on kind v n cs in
-      later_has (digits_flaw_at kind v n cs) (next_has (ds ++ (c ∷ [])) v n (stands_underscore ds v n c s e) (sym on_text ∙ none))
+      later_has (digits_flaw_at kind v n cs) (next_has (ds ++ (c ∷ [])) v n (stands_underscore kind ds v n c s e) (sym on_text ∙ none))
   underscore false e a b = AfterDigits ds on (rw (a, b, e) refl)
 
   no_code : (b : Bool) → is_code kind v ≡ b → c ≡ 125 → b ≡ false
-  no_code true e is = let h = sym none ∙ ap (λ x. coded kind v n (x ∷ cs)) is ∙ closed_code kind v n cs unicode e in absurd (cc)
+  no_code true e is = let h = sym none ∙ ap (λ x. coded kind v n (x ∷ cs)) is ∙ closed_code kind v n cs s.spelled.unicode e in absurd (cc)
   no_code false e is = refl
 
   brace : (b : Bool) → eqb c 125 ≡ b → is_hex_digit c ≡ false → Has kind (cond b (found_flaw (code_flaw_of v) (c ∷ cs)) (cond (eqb c 95) (digits_flaw_at kind v n cs) (found_flaw NoHexDigit (c ∷ cs)))) (braced_text ds (c ∷ cs))
-  brace true e a = code_has kind v (braced_text ds (c ∷ cs)) (c ∷ cs) (no_code (is_code kind v) refl (eqb-true c 125 e)) (λ k h. AtBrace ds on e (subst (IsNoCode kind k) s.value_is h))
+  brace true e a =
+      let bad = no_code (is_code kind v) refl (eqb-true c 125 e) in
+      let few : digit_count ds ≤ 5 = subst (λ m. m ≤ 5) s.count_is (room kind v n s.spelled bad) in
+      code_has kind v (braced_text ds (c ∷ cs)) (c ∷ cs) bad (λ k h. AtBrace ds on few e (subst (IsNoCode kind k) s.value_is h))
   brace false e a = underscore (eqb c 95) refl a e
 
   pub digits_go : (b : Bool) → is_hex_digit c ≡ b → Has kind (cond b (cond (eqb n 6) (found_flaw TooManyDigits (c ∷ cs)) (cond (eqb n 5 && not (is_code kind w)) (found_flaw (code_flaw_of w) (c ∷ cs)) (digits_flaw_at kind w (n + 1) cs))) (cond (eqb c 125) (found_flaw (code_flaw_of v) (c ∷ cs)) (cond (eqb c 95) (digits_flaw_at kind v n cs) (found_flaw NoHexDigit (c ∷ cs))))) (braced_text ds (c ∷ cs))
   digits_go true e = digit (eqb n 6) refl e
   digits_go false e = brace (eqb c 125) refl e
 
-digits_has : (kind : Kind) → has_unicode kind ≡ true → (t ds : List ℕ) (v n : ℕ) → Stands ds v n → coded kind v n t ≡ None → Has kind (digits_flaw_at kind v n t) (braced_text ds t)
+digits_has : (kind : Kind) (t ds : List ℕ) (v n : ℕ) → Stands kind ds v n → coded kind v n t ≡ None → Has kind (digits_flaw_at kind v n t) (braced_text ds t)
 unfolding digits_flaw_at
-digits_has kind u [] ds v n s none = refl
-digits_has kind u (c ∷ cs) ds v n s none = digits_go kind u ds v n c cs s none (digits_has kind u cs) (is_hex_digit c) refl
+digits_has kind [] ds v n s none = refl
+digits_has kind (c ∷ cs) ds v n s none = digits_go kind ds v n c cs s none (digits_has kind cs) (is_hex_digit c) refl
 
-first_stands : (c : ℕ) → is_hex_digit c ≡ true → Stands (c ∷ []) (digit_value c) 1
-first_stands c h =
+first_stands : (kind : Kind) (c : ℕ) → has_unicode kind ≡ true → is_hex_digit c ≡ true → Stands kind (c ∷ []) (digit_value c) 1
+first_stands kind c u h =
     let no_underscore = digit_apart c 95 h refl in
     let value = number_more [] c no_underscore in
     record {
@@ -239,7 +236,7 @@ first_stands c h =
       each = rw (no_underscore, h) refl;
       value_is = omega (arith, value);
       count_is = sym (count_more [] c no_underscore);
-      few = omega arith;
+      spelled = first_spelled kind c u h;
     }
 
 first_digit_has : (kind : Kind) (t : List ℕ) → has_unicode kind ≡ true → braced kind t ≡ None → Has kind (first_digit_flaw_at kind t) (92 ∷ 117 ∷ 123 ∷ t)
@@ -252,7 +249,7 @@ first_digit_has kind (c ∷ cs) u none = go (is_hex_digit c) refl
     brace false b e = AfterBrace refl (rw (e, b) refl)
 
     go : (b : Bool) → is_hex_digit c ≡ b → Has kind (cond b (digits_flaw_at kind (digit_value c) 1 cs) (cond (eqb c 125) (found_flaw EmptyBraces (c ∷ cs)) (found_flaw NoHexDigit (c ∷ cs)))) (92 ∷ 117 ∷ 123 ∷ c ∷ cs)
-    go true e = digits_has kind u cs (c ∷ []) (digit_value c) 1 (first_stands c e) (sym (braced_first kind c cs e) ∙ none)
+    go true e = digits_has kind cs (c ∷ []) (digit_value c) 1 (first_stands kind c u e) (sym (braced_first kind c cs e) ∙ none)
     go false e = brace (eqb c 125) refl e
 
 unicode_has : (kind : Kind) (t : List ℕ) → has_unicode kind ≡ true → unicode_at kind t ≡ None → Has kind (unicode_flaw_at kind t) (92 ∷ 117 ∷ t)

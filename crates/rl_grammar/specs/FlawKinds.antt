@@ -28,7 +28,7 @@ is_apostrophe c = c == code "'"
 abbrev pub is_brace : ℕ → Bool
 is_brace c = c == code "}"
 
--- ---- of a unit, with which `text` begins
+-- ---- of a unit
 
 -- The rest begins with a character that follows the backslash of no escape.
 pub record BeginsNoEscape (kind : Kind) (rest : List ℕ) : Type 0 where
@@ -71,10 +71,10 @@ IsNoCode kind Surrogate number = (0xD800 ≤ number) × (number ≤ 0xDFFF)
 IsNoCode kind Nul number = (kind ≡ CStr) × (number ≡ 0)
 IsNoCode kind _ number = ⊥
 
--- It is the number up to the closing brace, or up to the sixth digit.
+-- It is the number of up to five digits at the closing brace, or of six at the sixth.
 pub data HasNoCode (kind : Kind) (flaw : FlawKind) (text rest : List ℕ) : Type 0 where
-  AtBrace : (digits : List ℕ) → IsBraced digits text rest → Begins is_brace rest
-      → IsNoCode kind flaw (number_of digits) → HasNoCode kind flaw text rest
+  AtBrace : (digits : List ℕ) → IsBraced digits text rest → digit_count digits ≤ 5
+      → Begins is_brace rest → IsNoCode kind flaw (number_of digits) → HasNoCode kind flaw text rest
   AtSixth : (digits : List ℕ) (sixth : ℕ) (after : List ℕ) → IsBraced digits text rest
       → digit_count digits ≡ 5 → rest ≡ sixth ∷ after → IsTrue (is_hex_digit sixth)
       → IsNoCode kind flaw (number_of (digits ++ (sixth ∷ []))) → HasNoCode kind flaw text rest
@@ -88,6 +88,7 @@ pub data IsNul (kind : Kind) (text rest : List ℕ) : Type 0 where
       → hex_value high low ≡ 0 → IsNul kind text rest
   ByNumber : HasNoCode kind Nul text rest → IsNul kind text rest
 
+-- `text` from the unit on
 abbrev pub UnitFlaw : Kind → FlawKind → List ℕ → List ℕ → Type 0
 UnitFlaw kind Unclosed text rest = rest ≡ []
 UnitFlaw kind UnknownEscape text rest = (text ≡ codes "\\" ++ rest) × BeginsNoEscape kind rest
@@ -132,6 +133,7 @@ pub record IsNotClosed (kind : Kind) (text rest : List ℕ) : Type 0 where
   pub text_is : text ≡ unit_text unit ++ rest
   pub no_closer : IsFalse (first_passes is_apostrophe rest)
 
+-- `text` from the unit on
 abbrev pub CloserFlaw : Kind → FlawKind → List ℕ → List ℕ → Type 0
 CloserFlaw kind Unclosed text rest = IsNotClosed kind text rest × (rest ≡ [])
 CloserFlaw kind NoCharacter text rest =
@@ -167,7 +169,7 @@ pub record IsOpened (kind : Kind) (text rest : List ℕ) : Type 0 where
 pub record IsSpoiled (kind : Kind) (text rest : List ℕ) : Type 0 where
   pub opened : IsOpened kind text rest
   pub not_closed : Closes (replicate opened.hashes (code "#")) opened.body → ⊥
-  pub spoils : IsTrue (first_passes (λ c. not (is_raw kind c)) rest)
+  pub spoils : Begins (λ c. not (is_raw kind c)) rest
 
 -- Or the string was closed before such a character, and the rest begins with the next quote.
 pub record IsReopened (kind : Kind) (text rest : List ℕ) : Type 0 where
@@ -177,8 +179,9 @@ pub record IsReopened (kind : Kind) (text rest : List ℕ) : Type 0 where
   pub closed : Closes (replicate opened.hashes (code "#")) opened.body
   pub spoils : IsFalse (is_raw kind other)
   pub no_quote : IsTrue (list_all (λ c. not (is_quote c)) more)
-  pub quote : IsTrue (first_passes is_quote rest)
+  pub quote : Begins is_quote rest
 
+-- `text` from the hashes on
 abbrev pub RawFlaw : Kind → FlawKind → List ℕ → List ℕ → Type 0
 RawFlaw kind Unfinished text rest = IsUnopened text rest × (rest ≡ [])
 RawFlaw kind NoQuote text rest = IsUnopened text rest × (rest ≢ [])
