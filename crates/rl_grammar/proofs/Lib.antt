@@ -17,6 +17,7 @@ pub mod ReadingLemmas
 pub mod StopLemmas
 pub mod ExplainLemmas
 pub mod UnitFlawLemmas
+pub mod UnitKindLemmas
 pub mod RawFlawLemmas
 pub mod QuotedFlawLemmas
 pub mod QuotedStopLemmas

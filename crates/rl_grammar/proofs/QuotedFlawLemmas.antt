@@ -1,12 +1,15 @@
--- Where the text after an opener stops being the front of a quoted literal.
-use Rattle.std.proofs.Common.{◌≡◌, ℕ, Bool, true, false, eqb, List, [], ◌∷◌, ◌++◌, Some, None, refl, sym, ap, subst, ◌∙◌, inl, inr, append_assoc}
+-- Where the text after an opener stops being the front of a quoted literal, and why.
+use Rattle.std.proofs.Common.{◌≡◌, ℕ, Bool, true, false, cond, eqb, List, [], ◌∷◌, ◌++◌, Some, None, refl, sym, ap, subst, ◌∙◌, inl, inr, append_assoc}
 use Rattle.std.specs.Char.{IsScalar}
 use Rattle.std.specs.List.{AllByRecursion}
 use Rattle.std.proofs.lemmas.Bool.{both_ways, eqb-true}
 use Rattle.rl_tokens.specs.declared.kind.Kind.{Kind}
 use Rattle.rl_tokens.specs.Texts.{first_passes}
 use Rattle.rl_tokens.specs.Quoted.{QuotedUnit, Plain, CrLf, Named, Hex, Unicode, Continuation, Cooked, Single, IsUnit, EndsBefore, is_blank, is_string, is_single, opener, texts, unit_text}
+use Rattle.rl_grammar.specs.declared.flaws.FlawKind.{FlawKind}
+use Rattle.rl_grammar.specs.declared.flaws.FlawKind.TheVariants.{NoCharacter, TwoCharacters}
 use Rattle.rl_grammar.specs.declared.quoted_forms.QuotedForm.TheVariants.{Cooked as CookedForm, Single as SingleForm}
+use Rattle.rl_grammar.specs.FlawKinds.{AfterUnits, CloserFlaw, IsNotClosed, QuotedFlaw}
 use Rattle.rl_grammar.specs.Forms.{HasNoParts}
 use Rattle.rl_grammar.specs.Mirrors.StopsInside.{HasParts, StopsInside}
 use Rattle.rl_grammar.specs.Mirrors.UnitAt.{unit_at}
@@ -14,8 +17,9 @@ use Rattle.rl_grammar.specs.Rows.{BeginsRow, RowEnds}
 use Rattle.rl_grammar.proofs.FormLemmas.{cooked_none, single_none, single_stuck, not_both}
 use Rattle.rl_grammar.proofs.RowLemmas.{row_ends_off, row_step}
 use Rattle.rl_grammar.proofs.StopLemmas.{Stops}
-use Rattle.rl_grammar.specs.Mirrors.UnitFlawAt.{unit_flaw_at}
+use Rattle.rl_grammar.specs.Mirrors.UnitFlawAt.{after_unit_flaw_of, found_flaw, unit_flaw_at}
 use Rattle.rl_grammar.proofs.UnitFlawLemmas.{unit_stops}
+use Rattle.rl_grammar.proofs.UnitKindLemmas.{Has, unit_has}
 use Rattle.rl_grammar.proofs.UnitLemmas.{unit_sound, unit_complete}
 
 -- ---- what follows a row of units may be another text with the same front
@@ -198,3 +202,37 @@ single_unit_place kind a rest s stuck same = subst (StopsInside SingleForm kind 
 
 pub single_quote_place : (kind : Kind) (a v rest : List ℕ) → is_single kind ≡ true → unit_at kind a ≡ Some (v, rest) → HasNoParts SingleForm kind (opener kind ++ a) → StopsInside SingleForm kind a rest
 single_quote_place kind a v rest s h none = single_quote_stops kind a v rest s h (no_single_closer kind a v rest s h none)
+
+-- ---- the kinds
+
+pub cooked_kind : (kind : Kind) (a v t : List ℕ) (k : FlawKind) (rest : List ℕ) → is_string kind ≡ true → BeginsRow kind a v t → unit_at kind t ≡ None → HasNoParts CookedForm kind (opener kind ++ a) → found_flaw k rest ≡ unit_flaw_at kind t → AfterUnits kind k a rest
+cooked_kind kind a v t k rest s row stuck none same = record {
+  units = row.units;
+  each = row.each;
+  spoiled = t;
+  ends = row.ends;
+  text_is = row.text_is;
+  spoils = subst (λ p. Has kind p t) (sym same) (unit_has kind t (inl s) (λ h. no_closer kind a v t s row none) stuck);
+}
+
+pub single_unit_kind : (kind : Kind) (a : List ℕ) (k : FlawKind) (rest : List ℕ) → is_single kind ≡ true → unit_at kind a ≡ None → found_flaw k rest ≡ unit_flaw_at kind a → QuotedFlaw SingleForm kind k a rest
+single_unit_kind kind a k rest s stuck same = inl (subst (λ p. Has kind p a) (sym same) (unit_has kind a (inr s) (λ h. absurd (not_both kind h s)) stuck))
+
+closer_kind : (kind : Kind) (a rest : List ℕ) → IsNotClosed kind a rest → CloserFlaw kind (after_unit_flaw_of a rest) a rest
+closer_kind kind a [] n = (n, refl)
+closer_kind kind a (c ∷ cs) n = go (first_passes (λ d. eqb d 39) a) refl
+  where
+    go : (b : Bool) → first_passes (λ d. eqb d 39) a ≡ b → CloserFlaw kind (cond b NoCharacter TwoCharacters) a (c ∷ cs)
+    go true e = (n, (λ h. absurd (cc)), e)
+    go false e = (n, (λ h. absurd (cc)), e)
+
+pub single_quote_kind : (kind : Kind) (a v : List ℕ) (k : FlawKind) (rest x : List ℕ) → is_single kind ≡ true → unit_at kind a ≡ Some (v, rest) → HasNoParts SingleForm kind (opener kind ++ a) → k ≡ after_unit_flaw_of a rest → x ≡ rest → QuotedFlaw SingleForm kind k a x
+single_quote_kind kind a v k rest x s h none same there =
+    let begun = unit_sound kind a (v, rest) h in
+    let open_still : IsNotClosed kind a rest = record {
+      unit = begun.unit;
+      is_unit = begun.allowed;
+      text_is = begun.text_is;
+      no_closer = no_single_closer kind a v rest s h none;
+    } in
+    subst (λ z. QuotedFlaw SingleForm kind z a x) (sym same) (subst (QuotedFlaw SingleForm kind (after_unit_flaw_of a rest) a) (sym there) (inr (closer_kind kind a rest open_still)))

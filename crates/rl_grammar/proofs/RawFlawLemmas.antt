@@ -1,12 +1,12 @@
 -- Where the text after the opener of a raw string stops being the front of one, and why.
-use Rattle.std.proofs.Common.{◌≡◌, ◌≢◌, ℕ, zero, suc, Bool, true, false, cond, not, eqb, List, [], ◌∷◌, ◌++◌, replicate, Option, Some, None, refl, sym, ap, subst, ◌∙◌, append_assoc, append-nil}
+use Rattle.std.proofs.Common.{◌≡◌, ◌≢◌, ℕ, zero, suc, Bool, true, false, cond, not, eqb, ltb, List, [], ◌∷◌, ◌++◌, replicate, Option, Some, None, refl, sym, ap, subst, ◌∙◌, append_assoc, append-nil}
 use denote.Ref.{Bor}
 use Rattle.std.specs.Prelude.{IfSome, IfNone, MatchBool}
 use Rattle.std.specs.Option.{is_some}
 use Rattle.std.specs.Str.{chars}
 use Rattle.std.specs.Char.{IsScalar}
 use Rattle.std.specs.List.{list_all, AllByRecursion}
-use Rattle.std.proofs.lemmas.Bool.{both_ways, and_parts, and_from, eqb-true, not_from_false}
+use Rattle.std.proofs.lemmas.Bool.{both_ways, and_parts, and_from, eqb-true, ne_eqb, not_from_false}
 use Rattle.std.proofs.lemmas.List.{append_cancel_right}
 use Rattle.std.proofs.lemmas.List.Folds.{list_all-append}
 use Rattle.rl_tokens.specs.declared.kind.Kind.{Kind}
@@ -25,39 +25,23 @@ use Rattle.rl_grammar.proofs.RawLemmas.{no_quote, quote_inside, last_same, hashe
 
 -- ---- characters
 
-quote_is_raw : (kind : Kind) → is_raw kind 34 ≡ true
-quote_is_raw Str = refl
-quote_is_raw ByteStr = refl
-quote_is_raw CStr = refl
-quote_is_raw Byte = refl
-quote_is_raw Char = refl
-quote_is_raw Int = refl
-quote_is_raw Float = refl
-quote_is_raw BoolKind = refl
-
-hash_is_raw : (kind : Kind) → is_raw kind 35 ≡ true
-hash_is_raw Str = refl
-hash_is_raw ByteStr = refl
-hash_is_raw CStr = refl
-hash_is_raw Byte = refl
-hash_is_raw Char = refl
-hash_is_raw Int = refl
-hash_is_raw Float = refl
-hash_is_raw BoolKind = refl
+-- ASCII but NUL
+ascii_is_raw : (kind : Kind) (c : ℕ) → ltb c 128 ≡ true → eqb c 0 ≡ false → is_raw kind c ≡ true
+ascii_is_raw Str c low some = refl
+ascii_is_raw ByteStr c low some = low
+ascii_is_raw CStr c low some = not_from_false (eqb c 0) some
+ascii_is_raw Byte c low some = refl
+ascii_is_raw Char c low some = refl
+ascii_is_raw Int c low some = refl
+ascii_is_raw Float c low some = refl
+ascii_is_raw BoolKind c low some = refl
 
 -- what a kind doesn't take is none of what it takes
 other : (kind : Kind) (c k : ℕ) → is_raw kind c ≡ false → is_raw kind k ≡ true → c ≡ k → ⊥
 other kind c k bad good e = both_ways (is_raw kind k) (subst (λ z. is_raw kind z ≡ false) e bad) good
 
-differs : (c k : ℕ) → (c ≡ k → ⊥) → eqb c k ≡ false
-differs c k h = go (eqb c k) refl
-  where
-    go : (b : Bool) → eqb c k ≡ b → eqb c k ≡ false
-    go true e = absurd (h (eqb-true c k e))
-    go false e = e
-
 no_quote_of : (kind : Kind) (c : ℕ) → is_raw kind c ≡ false → no_quote c ≡ true
-no_quote_of kind c bad = not_from_false (eqb c 34) (differs c 34 (other kind c 34 bad (quote_is_raw kind)))
+no_quote_of kind c bad = not_from_false (eqb c 34) (ne_eqb c 34 (other kind c 34 bad (ascii_is_raw kind 34 refl refl)))
 
 first_is : (test : ℕ → Bool) (rest : List ℕ) (c : ℕ) (cs : List ℕ) (b : Bool) → rest ≡ c ∷ cs → first_passes test rest ≡ b → test c ≡ b
 first_is test rest c cs b e h = sym (ap (first_passes test) e) ∙ h
@@ -99,7 +83,7 @@ opens kind n y v x r =
 
 -- a character that the kind doesn't take stands after the last quote
 closes_before : (kind : Kind) (u v s e : List ℕ) (x : ℕ) → is_raw kind x ≡ false → list_all (is_raw kind) v ≡ true → v ++ (34 ∷ s) ≡ u ++ (x ∷ e) → (w : List ℕ) × (u ≡ v ++ (34 ∷ w)) × (s ≡ w ++ (x ∷ e))
-closes_before kind [] [] s e x bad each h = absurd (other kind x 34 bad (quote_is_raw kind) (let h = h in cc))
+closes_before kind [] [] s e x bad each h = absurd (other kind x 34 bad (ascii_is_raw kind 34 refl refl) (let h = h in cc))
 closes_before kind (d ∷ u) [] s e x bad each h =
     let head : d ≡ 34 = cc in
     let tail : s ≡ u ++ (x ∷ e) = cc in
@@ -174,7 +158,7 @@ spoiled_stops kind t rest s p =
     let r = q.0 in
     let bad = not_raw kind rest c cs p.spoils h in
     let (w, front, after) = closes_before kind o.body r.inside (replicate o.hashes 35 ++ x) e c bad r.each (sym (opens kind o.hashes (o.body ++ (c ∷ e)) v x r)) in
-    let (suffix, hashes, following) = hashes_before o.hashes x w e c (other kind c 35 bad (hash_is_raw kind)) after in
+    let (suffix, hashes, following) = hashes_before o.hashes x w e c (other kind c 35 bad (ascii_is_raw kind 35 refl refl)) after in
     let none = and_parts (list_all no_quote suffix) (list_all no_quote (c ∷ e)) (sym (list_all-append no_quote suffix (c ∷ e)) ∙ ap (list_all no_quote) (sym following) ∙ r.no_quote) in
     p.not_closed (record { inside = r.inside; suffix = suffix; no_quote = none.0; text_is = front ∙ ap (λ z. r.inside ++ (34 ∷ z)) hashes }))
 
@@ -376,7 +360,7 @@ pub unfinished_flaw : (kind : Kind) (t rest : List ℕ) → rest ≡ after_run i
 unfinished_flaw kind t rest e ended = (unopened t rest e (ap (first_passes is_quote) ended), ended)
 
 pub no_quote_flaw : (kind : Kind) (t rest : List ℕ) (c : ℕ) (cs : List ℕ) → rest ≡ after_run is_hash t → rest ≡ c ∷ cs → (c ≡ 34 → ⊥) → RawFlaw kind NoQuote t rest
-no_quote_flaw kind t rest c cs e first h = (unopened t rest e (ap (first_passes is_quote) first ∙ differs c 34 h), λ ended. let same : [] ≡ c ∷ cs = sym ended ∙ first in absurd (cc))
+no_quote_flaw kind t rest c cs e first h = (unopened t rest e (ap (first_passes is_quote) first ∙ ne_eqb c 34 h), λ ended. let same : [] ≡ c ∷ cs = sym ended ∙ first in absurd (cc))
 
 pub opened_text : (t hashes rest inside : List ℕ) (c : ℕ) → t ≡ hashes ++ rest → rest ≡ c ∷ inside → c ≡ 34 → t ≡ hashes ++ (34 ∷ inside)
 opened_text t hashes rest inside c cut first is = cut ∙ ap (λ z. hashes ++ z) (first ∙ ap (λ z. z ∷ inside) is)

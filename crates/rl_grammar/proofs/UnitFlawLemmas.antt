@@ -23,7 +23,7 @@ not_zero n = ne_eqb (n + 1) 0 (λ e. omega (arith, e))
 
 -- ---- the two digits of \x
 
-hex_read : (kind : Kind) (c d : ℕ) (r : List ℕ) → is_hex_digit c ≡ true → is_hex_digit d ≡ true → hex_at kind (c ∷ d ∷ r) ≡ number_if (may_be_hex kind (digit_value c * 16 + digit_value d)) (digit_value c * 16 + digit_value d) r
+pub hex_read : (kind : Kind) (c d : ℕ) (r : List ℕ) → is_hex_digit c ≡ true → is_hex_digit d ≡ true → hex_at kind (c ∷ d ∷ r) ≡ number_if (may_be_hex kind (digit_value c * 16 + digit_value d)) (digit_value c * 16 + digit_value d) r
 unfolding hex_at
 hex_read kind c d r a b = rw (a, b) refl
 
@@ -110,7 +110,7 @@ closed : (kind : Kind) (v n : ℕ) (r : List ℕ) → coded kind v n (125 ∷ r)
 unfolding unicode_digits_at
 closed kind v n r = refl
 
-closed_code : (kind : Kind) (v n : ℕ) (r : List ℕ) → has_unicode kind ≡ true → is_code kind v ≡ true → coded kind v n (125 ∷ r) ≡ given v r
+pub closed_code : (kind : Kind) (v n : ℕ) (r : List ℕ) → has_unicode kind ≡ true → is_code kind v ≡ true → coded kind v n (125 ∷ r) ≡ given v r
 unfolding unicode_digits_at
 closed_code kind v n r u h =
     let parts = and_parts (scalar v) (allows_code kind v) h in
@@ -135,10 +135,10 @@ closed_bad kind v n r h = go (scalar v) refl
     go false e = refl
 
 -- a digit is no brace and no underscore
-digit_apart : (c k : ℕ) → is_hex_digit c ≡ true → is_hex_digit k ≡ false → eqb c k ≡ false
+pub digit_apart : (c k : ℕ) → is_hex_digit c ≡ true → is_hex_digit k ≡ false → eqb c k ≡ false
 digit_apart c k h n = ne_eqb c k (λ e. both_ways (is_hex_digit k) n (subst (λ x. is_hex_digit x ≡ true) e h))
 
-digit_on : (kind : Kind) (v n c : ℕ) (t : List ℕ) → is_hex_digit c ≡ true → n < 6 → coded kind v n (c ∷ t) ≡ coded kind (v * 16 + digit_value c) (n + 1) t
+pub digit_on : (kind : Kind) (v n c : ℕ) (t : List ℕ) → is_hex_digit c ≡ true → n < 6 → coded kind v n (c ∷ t) ≡ coded kind (v * 16 + digit_value c) (n + 1) t
 unfolding unicode_digits_at
 digit_on kind v n c t h room = rw (digit_apart c 125 h refl, digit_apart c 95 h refl, h, lt-ltb n 6 room) refl
 
@@ -146,7 +146,7 @@ digit_past : (kind : Kind) (v n c : ℕ) (t : List ℕ) → is_hex_digit c ≡ t
 unfolding unicode_digits_at
 digit_past kind v n c t h full = rw (digit_apart c 125 h refl, digit_apart c 95 h refl, h, le-ltb n 6 full) refl
 
-underscore_on : (kind : Kind) (v n : ℕ) (t : List ℕ) → coded kind v n (95 ∷ t) ≡ coded kind v n t
+pub underscore_on : (kind : Kind) (v n : ℕ) (t : List ℕ) → coded kind v n (95 ∷ t) ≡ coded kind v n t
 unfolding unicode_digits_at
 underscore_on kind v n t = refl
 
@@ -174,16 +174,16 @@ full_none kind v (c ∷ cs) bad =
     ]
 
 -- the code so far, or one more digit, can be closed
-not_low : (v : ℕ) → scalar v ≡ false → 55296 ≤ v
+pub not_low : (v : ℕ) → scalar v ≡ false → 55296 ≤ v
 not_low v h = elim (cases_Bool (ltb v 55296)) [
   | inl a ↦ let e = rw a at h in absurd (cc)
   | inr a ↦ ltb-false v 55296 a
 ]
 
-not_high : (v : ℕ) → v < 1048576 → scalar v ≡ false → v < 57344
+pub not_high : (v : ℕ) → v < 1114112 → scalar v ≡ false → v < 57344
 not_high v within h =
     let e : (leb 57344 v && ltb v 1114112) ≡ false = rw (le-ltb v 55296 (not_low v h)) at h in
-    let top : ltb v 1114112 ≡ true = lt-ltb v 1114112 (omega arith) in
+    let top : ltb v 1114112 ≡ true = lt-ltb v 1114112 within in
     elim (cases_Bool (leb 57344 v)) [
       | inl a ↦ absurd (both_ways (leb 57344 v && ltb v 1114112) e (and_from (leb 57344 v) (ltb v 1114112) a top))
       | inr a ↦ leb-false 57344 v a
@@ -194,12 +194,12 @@ grown v n few small bad =
     let bound : 16 ^ n ≤ 16 ^ 5 = pow-le-pow_right (omega arith) few in
     let within : v < 1048576 = omega arith in
     let first : 55296 ≤ v = not_low v bad in
-    let last : v < 57344 = not_high v within bad in
+    let last : v < 57344 = not_high v (omega arith) bad in
     let low : ltb (v * 16 + 1) 55296 ≡ false = le-ltb (v * 16 + 1) 55296 (omega arith) in
     rw low (and_from (leb 57344 (v * 16 + 1)) (ltb (v * 16 + 1) 1114112) (le-leb 57344 (v * 16 + 1) (omega arith)) (lt-ltb (v * 16 + 1) 1114112 (omega arith)))
 
 -- a kind takes any number but 0
-only_zero : (kind : Kind) (v : ℕ) → allows_code kind v ≡ false → v ≡ 0
+pub only_zero : (kind : Kind) (v : ℕ) → allows_code kind v ≡ false → v ≡ 0
 only_zero CStr v h = elim (cases_Bool (eqb v 0)) [
   | inl a ↦ eqb-true v 0 a
   | inr a ↦ let e = rw a at h in absurd (cc)
@@ -219,7 +219,7 @@ pub record Spelled (kind : Kind) (v n : ℕ) : Type 0 where
   pub small : v < 16 ^ n
   pub full : n ≡ 6 → is_code kind v ≡ true
 
-room : (kind : Kind) (v n : ℕ) → Spelled kind v n → is_code kind v ≡ false → n ≤ 5
+pub room : (kind : Kind) (v n : ℕ) → Spelled kind v n → is_code kind v ≡ false → n ≤ 5
 room kind v n s bad =
     elim (cases_Bool (ltb n 6)) [
       | inl a ↦ (let less : n < 6 = ltb-true n 6 a in omega arith)
@@ -246,7 +246,7 @@ closing kind v n s = go (is_code kind v) refl
         let few = room kind v n s e in
         ends_by_two (coded kind v n) [] (v * 16 + 1) 49 125 refl refl refl (λ r. digit_on kind v n 49 (125 ∷ r) refl (omega (arith, few)) ∙ closed_code kind (v * 16 + 1) (n + 1) r s.unicode (one_more kind v n s e))
 
-spelled_on : (kind : Kind) (v n c : ℕ) → Spelled kind v n → is_hex_digit c ≡ true → eqb n 6 ≡ false → (eqb n 5 && not (is_code kind (v * 16 + digit_value c))) ≡ false → Spelled kind (v * 16 + digit_value c) (n + 1)
+pub spelled_on : (kind : Kind) (v n c : ℕ) → Spelled kind v n → is_hex_digit c ≡ true → eqb n 6 ≡ false → (eqb n 5 && not (is_code kind (v * 16 + digit_value c))) ≡ false → Spelled kind (v * 16 + digit_value c) (n + 1)
 spelled_on kind v n c s h short good =
     let less : n < 6 = not_six n s.few short in
     let small = s.small in
@@ -326,13 +326,13 @@ digits_stop kind (c ∷ cs) v n s none = digits_go kind v n c cs s none (digits_
 abbrev pub braced : Kind → Reader ℕ
 braced kind t = option_and_then (λ p. coded kind p.0 1 p.1) (digit_at t)
 
-braced_first : (kind : Kind) (c : ℕ) (t : List ℕ) → is_hex_digit c ≡ true → braced kind (c ∷ t) ≡ coded kind (digit_value c) 1 t
+pub braced_first : (kind : Kind) (c : ℕ) (t : List ℕ) → is_hex_digit c ≡ true → braced kind (c ∷ t) ≡ coded kind (digit_value c) 1 t
 braced_first kind c t h = rw h refl
 
 braced_none : (kind : Kind) (c : ℕ) (t : List ℕ) → is_hex_digit c ≡ false → braced kind (c ∷ t) ≡ None
 braced_none kind c t h = rw h refl
 
-first_spelled : (kind : Kind) (c : ℕ) → has_unicode kind ≡ true → is_hex_digit c ≡ true → Spelled kind (digit_value c) 1
+pub first_spelled : (kind : Kind) (c : ℕ) → has_unicode kind ≡ true → is_hex_digit c ≡ true → Spelled kind (digit_value c) 1
 first_spelled kind c u h = record { unicode = u; few = omega arith; small = (let small : digit_value c < 16 = ltb-true (digit_value c) 16 h in small); full = λ e. absurd (cc) }
 
 braced_one : (kind : Kind) → has_unicode kind ≡ true → Completes (braced kind) []
@@ -351,7 +351,7 @@ first_digit_stops kind (c ∷ cs) u none = go (is_hex_digit c) refl
     go true e = later_same (coded kind (digit_value c) 1) (braced kind) c cs (digits_flaw_at kind (digit_value c) 1 cs).1 (λ r. braced_first kind c r e) (digits_stop kind cs (digit_value c) 1 (first_spelled kind c u e) (sym (braced_first kind c cs e) ∙ none))
     go false e = brace (eqb c 125) e
 
-unicode_on : (kind : Kind) (t : List ℕ) → unicode_at kind (123 ∷ t) ≡ braced kind t
+pub unicode_on : (kind : Kind) (t : List ℕ) → unicode_at kind (123 ∷ t) ≡ braced kind t
 unfolding unicode_at
 unicode_on kind t = go (digit_at t)
   where
@@ -402,11 +402,11 @@ escaped_n kind r = rw (holds_more kind 10 refl) refl
 escape_n : (kind : Kind) → Completes (escape_at kind) []
 escape_n kind = ends_by (escape_at kind) [] (10 ∷ []) 110 refl refl (λ r. escaped_n kind r)
 
-by_hex : (kind : Kind) (r : List ℕ) → escape_at kind (120 ∷ r) ≡ option_and_then (λ p. found (p.0 ∷ []) p.1) (hex_at kind r)
+pub by_hex : (kind : Kind) (r : List ℕ) → escape_at kind (120 ∷ r) ≡ option_and_then (λ p. found (p.0 ∷ []) p.1) (hex_at kind r)
 unfolding escape_at
 by_hex kind r = refl
 
-by_unicode : (kind : Kind) (r : List ℕ) → escape_at kind (117 ∷ r) ≡ option_and_then (λ p. found (content_of kind (p.0 ∷ [])) p.1) (unicode_at kind r)
+pub by_unicode : (kind : Kind) (r : List ℕ) → escape_at kind (117 ∷ r) ≡ option_and_then (λ p. found (content_of kind (p.0 ∷ [])) p.1) (unicode_at kind r)
 unfolding escape_at
 by_unicode kind r = refl
 
@@ -475,12 +475,12 @@ plain_a BoolKind (inr h) = absurd (cc)
 unit_one : (kind : Kind) → IsQuotedKind kind → Completes (unit_at kind) []
 unit_one kind q = ends_by (unit_at kind) [] (content_of kind (97 ∷ [])) 97 refl refl (λ r. plain_complete kind 97 r (plain_a kind q))
 
-by_escape : (kind : Kind) (r : List ℕ) → unit_at kind (92 ∷ r) ≡ escape_at kind r
+pub by_escape : (kind : Kind) (r : List ℕ) → unit_at kind (92 ∷ r) ≡ escape_at kind r
 unfolding unit_at
 by_escape kind r = refl
 
 -- after a CR of a string
-line_feed : (kind : Kind) (r : List ℕ) → is_string kind ≡ true → unit_at kind (13 ∷ r) ≡ line_feed_at kind r
+pub line_feed : (kind : Kind) (r : List ℕ) → is_string kind ≡ true → unit_at kind (13 ∷ r) ≡ line_feed_at kind r
 unfolding unit_at
 line_feed kind r s = rw (quote_and_return kind s).1 refl
 

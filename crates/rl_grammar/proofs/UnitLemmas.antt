@@ -175,7 +175,7 @@ pub record HexAt (kind : Kind) (t : List ℕ) (w : ℕ) (r : List ℕ) : Type 0 
   pub text_is : t ≡ high ∷ low ∷ r
   pub value_is : w ≡ hex_value high low
 
-two_digits : (a b : ℕ) → a * 16 + b ≡ a * 16 ^ 1 + (b * 16 ^ 0 + 0)
+pub two_digits : (a b : ℕ) → a * 16 + b ≡ a * 16 ^ 1 + (b * 16 ^ 0 + 0)
 two_digits a b = omega arith
 
 hex_sound : (kind : Kind) (t : List ℕ) (p : ℕ × List ℕ) → hex_at kind t ≡ Some p → HexAt kind t p.0 p.1

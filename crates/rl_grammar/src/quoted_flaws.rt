@@ -3,6 +3,7 @@
 ghost use Rattle.std.specs.Prelude.{◌≡◌, ◌++◌, IsTrue};
 ghost use Rattle.std.specs.Str.{chars};
 ghost use Rattle.rl_tokens.specs.Quoted.{is_string, is_single};
+ghost use Rattle.rl_grammar.specs.FlawKinds.{QuotedFlaw};
 ghost use Rattle.rl_grammar.specs.Forms.{form_opener, has_form, HasNoParts};
 ghost use Rattle.rl_grammar.specs.Mirrors.StopsInside.{StopsInside};
 ghost use Rattle.rl_grammar.specs.Mirrors.UnitFlawAt.{after_unit_flaw_of};
@@ -19,7 +20,8 @@ use rl_tokens::text::split_char;
 pub(crate) fn cooked_flaw(kind: Kind, text: &str) -> FlawAt<'_>
     requires string { IsTrue (is_string kind) }
     requires none { HasNoParts QuotedForm.Cooked kind (form_opener QuotedForm.Cooked kind ++ chars text.now) }
-    ensures { StopsInside QuotedForm.Cooked kind (chars text.now) (chars result.rest.now) }
+    ensures place { StopsInside QuotedForm.Cooked kind (chars text.now) (chars result.rest.now) }
+    ensures kind { QuotedFlaw QuotedForm.Cooked kind result.kind (chars text.now) (chars result.rest.now) }
 {
     unit_flaw(kind, skip_units(kind, text))
 }
@@ -41,7 +43,8 @@ fn after_unit_flaw(text: &str, rest: &str) -> FlawKind
 pub(crate) fn single_flaw(kind: Kind, text: &str) -> FlawAt<'_>
     requires single { IsTrue (is_single kind) }
     requires none { HasNoParts QuotedForm.Single kind (form_opener QuotedForm.Single kind ++ chars text.now) }
-    ensures { StopsInside QuotedForm.Single kind (chars text.now) (chars result.rest.now) }
+    ensures place { StopsInside QuotedForm.Single kind (chars text.now) (chars result.rest.now) }
+    ensures kind { QuotedFlaw QuotedForm.Single kind result.kind (chars text.now) (chars result.rest.now) }
 {
     match unit(kind, text) {
         None => unit_flaw(kind, text),
@@ -53,7 +56,8 @@ pub(crate) fn single_flaw(kind: Kind, text: &str) -> FlawAt<'_>
 pub(crate) fn quoted_flaw(form: QuotedForm, kind: Kind, text: &str) -> FlawAt<'_>
     requires form { IsTrue (has_form form kind) }
     requires none { HasNoParts form kind (form_opener form kind ++ chars text.now) }
-    ensures { StopsInside form kind (chars text.now) (chars result.rest.now) }
+    ensures place { StopsInside form kind (chars text.now) (chars result.rest.now) }
+    ensures kind { QuotedFlaw form kind result.kind (chars text.now) (chars result.rest.now) }
 {
     match form {
         QuotedForm::Cooked => cooked_flaw(kind, text),

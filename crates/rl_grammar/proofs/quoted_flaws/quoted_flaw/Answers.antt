@@ -10,11 +10,20 @@ raw_flaw-requires-clause-none c = rw c.in-Raw.is at c.requires.none
 pub single_flaw-requires-clause-none : goal.single_flaw-requires-clause-none
 single_flaw-requires-clause-none c = rw c.in-Single.is at c.requires.none
 
-pub returns-in-Cooked : goal.returns-in-Cooked
-returns-in-Cooked c = rw c.in-Cooked.is c.cooked_flaw.ensures
+pub returns-in-Cooked-clause-place : goal.returns-in-Cooked-clause-place
+returns-in-Cooked-clause-place c = rw c.in-Cooked.is c.cooked_flaw.ensures.place
 
-pub returns-in-Raw : goal.returns-in-Raw
-returns-in-Raw c = rw c.in-Raw.is (raw_stops _ _ _ _ (rw c.in-Raw.is at c.requires.form) c.raw_flaw.ensures)
+pub returns-in-Cooked-clause-kind : goal.returns-in-Cooked-clause-kind
+returns-in-Cooked-clause-kind c = rw c.in-Cooked.is c.cooked_flaw.ensures.kind
 
-pub returns-in-Single : goal.returns-in-Single
-returns-in-Single c = rw c.in-Single.is c.single_flaw.ensures
+pub returns-in-Raw-clause-place : goal.returns-in-Raw-clause-place
+returns-in-Raw-clause-place c = rw c.in-Raw.is (raw_stops _ _ _ _ (rw c.in-Raw.is at c.requires.form) c.raw_flaw.ensures)
+
+pub returns-in-Raw-clause-kind : goal.returns-in-Raw-clause-kind
+returns-in-Raw-clause-kind c = rw c.in-Raw.is c.raw_flaw.ensures
+
+pub returns-in-Single-clause-place : goal.returns-in-Single-clause-place
+returns-in-Single-clause-place c = rw c.in-Single.is c.single_flaw.ensures.place
+
+pub returns-in-Single-clause-kind : goal.returns-in-Single-clause-kind
+returns-in-Single-clause-kind c = rw c.in-Single.is c.single_flaw.ensures.kind
