@@ -15,7 +15,7 @@ use Rattle.rl_tokens.specs.Texts.{first_passes}
 use Rattle.rl_tokens.specs.Quoted.{content_of, is_string, is_raw, raw_opener, Raw}
 use Rattle.rl_tokens.specs.Classes.{after_run, is_hash}
 use Rattle.rl_grammar.specs.declared.flaws.FlawKind.{FlawKind}
-use Rattle.rl_grammar.specs.declared.flaws.FlawKind.TheVariants.{Empty, NoLiteral, Unfinished, NoQuote, NoNumber, Unclosed, UnknownEscape, NoUnicode, NoHexDigit, NoBrace, EmptyBraces, TooManyDigits, PastAscii, PastUnicode, Surrogate, Nul, NotAscii, QuoteBehind, LoneCr, MustEscape, NoCharacter, TwoCharacters, NoExponentDigit, BadSuffix, TooLarge}
+use Rattle.rl_grammar.specs.declared.flaws.FlawKind.TheVariants.{Empty, NoLiteral, Unfinished, NoQuote, NoNumber, Unclosed, UnknownEscape, NoUnicode, NoHexDigit, NoBrace, EmptyBraces, TooManyDigits, PastAscii, PastUnicode, Surrogate, Nul, NotAscii, LateQuote, LoneCr, MustEscape, NoCharacter, TwoCharacters, NoExponentDigit, BadSuffix, TooLarge}
 use Rattle.rl_grammar.specs.declared.quoted_forms.QuotedForm.TheVariants.{Raw as RawForm}
 use Rattle.rl_grammar.specs.Forms.{HasNoParts}
 use Rattle.rl_grammar.specs.FlawKinds.{is_quote, IsUnopened, Closes, IsOpened, IsSpoiled, IsReopened, RawFlaw}
@@ -205,7 +205,7 @@ raw_stops kind NoQuote t rest s f = unopened_stops kind t rest s f.0
 raw_stops kind Unclosed t rest s f = unclosed_stops kind t rest s f.0 f.1
 raw_stops kind Nul t rest s f = spoiled_stops kind t rest s f.1
 raw_stops kind NotAscii t rest s f = spoiled_stops kind t rest s f.1
-raw_stops kind QuoteBehind t rest s f = reopened_stops kind t rest s f
+raw_stops kind LateQuote t rest s f = reopened_stops kind t rest s f
 raw_stops kind Empty t rest s f = absurd f
 raw_stops kind NoLiteral t rest s f = absurd f
 raw_stops kind NoNumber t rest s f = absurd f
@@ -322,7 +322,7 @@ module _ (kind : Kind) (n : ℕ) (hashes inside body rest : List ℕ) (hashes_ar
         is_true true h = refl
         is_true false h = absurd (cc)
 
-    pub reopened_flaw : is_string kind ≡ true → Closes hashes body → HasNoParts RawForm kind (raw_opener kind ++ (hashes ++ (34 ∷ inside))) → RawFlaw kind QuoteBehind (hashes ++ (34 ∷ inside)) (after_run no_quote after)
+    pub reopened_flaw : is_string kind ≡ true → Closes hashes body → HasNoParts RawForm kind (raw_opener kind ++ (hashes ++ (34 ∷ inside))) → RawFlaw kind LateQuote (hashes ++ (34 ∷ inside)) (after_run no_quote after)
     reopened_flaw s c none =
         let r = run_cut no_quote after in
         let closed = subst (λ z. Closes z body) hashes_are c in

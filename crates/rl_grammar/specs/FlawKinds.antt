@@ -10,7 +10,7 @@ use Rattle.rl_tokens.specs.Texts.{first_passes, is_among, is_underscore}
 use Rattle.rl_tokens.specs.Quoted.{QuotedUnit, Letter, letter_text, unit_text, texts, IsUnit, hex_value, place_value, without_underscores, is_hex_digit, is_line_end, is_raw, is_string, has_unicode, holds_characters}
 use Rattle.rl_tokens.specs.Classes.{is_hash}
 use Rattle.rl_grammar.specs.declared.flaws.FlawKind.{FlawKind}
-use Rattle.rl_grammar.specs.declared.flaws.FlawKind.TheVariants.{Unfinished, NoQuote, Unclosed, UnknownEscape, NoUnicode, NoHexDigit, NoBrace, EmptyBraces, TooManyDigits, PastAscii, PastUnicode, Surrogate, Nul, NotAscii, QuoteBehind, LoneCr, MustEscape, NoCharacter, TwoCharacters}
+use Rattle.rl_grammar.specs.declared.flaws.FlawKind.TheVariants.{Unfinished, NoQuote, Unclosed, UnknownEscape, NoUnicode, NoHexDigit, NoBrace, EmptyBraces, TooManyDigits, PastAscii, PastUnicode, Surrogate, Nul, NotAscii, LateQuote, LoneCr, MustEscape, NoCharacter, TwoCharacters}
 use Rattle.rl_grammar.specs.declared.quoted_forms.QuotedForm.{QuotedForm}
 use Rattle.rl_grammar.specs.declared.quoted_forms.QuotedForm.TheVariants.{Cooked as CookedForm, Raw as RawForm, Single as SingleForm}
 use Rattle.rl_grammar.specs.Rows.{RowEnds}
@@ -188,7 +188,7 @@ RawFlaw kind NoQuote text rest = IsUnopened text rest × (rest ≢ [])
 RawFlaw kind Unclosed text rest = IsOpened kind text rest × (rest ≡ [])
 RawFlaw kind Nul text rest = (kind ≡ CStr) × IsSpoiled kind text rest
 RawFlaw kind NotAscii text rest = (kind ≡ ByteStr) × IsSpoiled kind text rest
-RawFlaw kind QuoteBehind text rest = IsReopened kind text rest
+RawFlaw kind LateQuote text rest = IsReopened kind text rest
 RawFlaw kind _ text rest = ⊥
 
 -- ---- of each form

@@ -1,4 +1,5 @@
 pub mod Flaws
+pub mod FlawWords
 pub mod FlawKinds
 pub mod NumberShapes
 pub mod NumbersRead

@@ -11,6 +11,7 @@ use crate::quoted_flaws::quoted_flaw;
 use crate::quoted_forms::split_opener;
 use crate::word_flaws::word_flaw;
 use rl_tokens::text::split_char;
+use std::fmt;
 
 /// Why a text is no literal.
 #[derive(Clone, Copy, PartialEq, Eq, Debug)]
@@ -50,7 +51,7 @@ pub enum FlawKind {
     /// Bytes and byte strings hold ASCII alone.
     NotAscii,
     /// The quote moves the end of a raw string, which then holds a character that its kind doesn't take.
-    QuoteBehind,
+    LateQuote,
     /// A CR in a string without an LF after it.
     LoneCr,
     /// The byte can stand as an escape alone.
@@ -66,6 +67,57 @@ pub enum FlawKind {
     /// The integer is past 128 bits.
     TooLarge,
 }
+
+impl FlawKind {
+    ghost use Rattle.rl_grammar.specs.FlawWords.{flaw_message};
+
+    /// What is wrong, in words.
+    pub fn words(self) -> &'static str
+        ensures { result.now ≡ flaw_message self }
+    {
+        match self {
+            FlawKind::Empty => "empty text",
+            FlawKind::NoLiteral => "not a literal",
+            FlawKind::Unfinished => "incomplete literal",
+            FlawKind::NoQuote => "expected `\"`",
+            FlawKind::NoNumber => "expected a digit after `-`",
+            FlawKind::Unclosed => "missing closing quote",
+            FlawKind::UnknownEscape => "unknown escape",
+            FlawKind::NoUnicode => "no `\\u` in bytes",
+            FlawKind::NoHexDigit => "expected a hexadecimal digit",
+            FlawKind::NoBrace => "expected `{`",
+            FlawKind::EmptyBraces => "no digits between the braces",
+            FlawKind::TooManyDigits => "more than six digits between the braces",
+            FlawKind::PastAscii => "`\\x` is past 7F",
+            FlawKind::PastUnicode => "no character past 10FFFF",
+            FlawKind::Surrogate => "no character has the number of a surrogate",
+            FlawKind::Nul => "NUL in a C string",
+            FlawKind::NotAscii => "not ASCII",
+            FlawKind::LateQuote =>
+                "a later quote moves the end past a character that the string can't hold",
+            FlawKind::LoneCr => "CR without LF",
+            FlawKind::MustEscape => "must be escaped",
+            FlawKind::NoCharacter => "no character between the quotes",
+            FlawKind::TwoCharacters => "more than one character between the quotes",
+            FlawKind::NoExponentDigit => "no digit in the exponent",
+            FlawKind::BadSuffix => "not part of a number or its suffix",
+            FlawKind::TooLarge => "integer past 128 bits",
+        }
+    }
+}
+
+impl fmt::Display for FlawKind {
+    ghost use Rattle.std.specs.Prelude.{Some};
+    ghost use Rattle.rl_grammar.specs.FlawWords.{flaw_message};
+
+    ghost output = { λ kind. Some (flaw_message kind) };
+
+    fn fmt<W: fmt::Write>(&self, f: &mut fmt::Formatter<W>) -> fmt::Result {
+        f.write_str(self.words())
+    }
+}
+
+impl std::error::Error for FlawKind {}
 
 /// A kind of flaw, and the text from its place on.
 #[derive(Clone, Copy)]

@@ -102,7 +102,7 @@ fn opened_flaw<'t>(kind: Kind, hashes: &str, inside: &'t str) -> FlawAt<'t>
         return make_flaw(FlawKind::Unclosed, rest);
     };
     if closes(hashes, body) {
-        make_flaw(FlawKind::QuoteBehind, skip_to_quote(after))
+        make_flaw(FlawKind::LateQuote, skip_to_quote(after))
     } else {
         make_flaw(spoiled_flaw(kind), rest)
     }

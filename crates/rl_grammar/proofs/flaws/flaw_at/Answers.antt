@@ -10,4 +10,4 @@ pub quoted_flaw-requires-clause-none : goal.quoted_flaw-requires-clause-none
 quoted_flaw-requires-clause-none c = no_parts_of _ _ _ _ (sym c.in-Some.ensures) c.requires
 
 pub returns-in-Some : goal.returns-in-Some
-returns-in-Some c = stops_quoted _ _ _ _ _ (sym c.in-Some.ensures) c.quoted_flaw.ensures
+returns-in-Some c = stops_quoted _ _ _ _ _ (sym c.in-Some.ensures) c.quoted_flaw.ensures.place
