@@ -25,7 +25,7 @@ use Rattle.rl_grammar.proofs.DigitRowLemmas.{run_no, run_yes}
 use Rattle.rl_grammar.proofs.FloatLemmas.{float_sound, no_float, passes_more, run_first}
 use Rattle.rl_grammar.proofs.HeadLemmas.{head_float, head_int, head_read, no_head_float, no_head_int}
 use Rattle.rl_grammar.proofs.IntegerLemmas.{Based, based, is_past, is_within, minus_past, no_int, sign_join, within_reads}
-use Rattle.rl_grammar.proofs.NumberFlawLemmas.{Halts, all_breaks, all_off, here_halts, no_suffix, part_continues, suffix_is, suffix_not, tail_halts, tail_reads, word_breaks, word_halts}
+use Rattle.rl_grammar.proofs.NumberFlawLemmas.{Halts, all_breaks, all_off, goes_on, here_halts, no_suffix, part_continues, suffix_is, suffix_not, tail_halts, tail_reads, word_breaks, word_halts}
 use Rattle.rl_grammar.proofs.NumberLemmas.{no_number, past_number}
 use Rattle.rl_grammar.proofs.ReadingLemmas.{only_number}
 use Rattle.rl_grammar.proofs.RunLemmas.{run_all, run_ends, run_join, run_past}
@@ -63,10 +63,6 @@ number_stuck t false true m front n h r = absurd (cc)
 record Fronted (first : ℕ → Bool) (reads : List ℕ → Bool) (pre : List ℕ) : Type 0 where
   good : (x : List ℕ) → first_passes first x ≡ false → reads x ≡ true → HasReading (pre ++ x)
   bad : (x : List ℕ) → first_passes first x ≡ false → reads x ≡ false → HasReading (pre ++ x) → ⊥
-
-goes_on : (test : ℕ → Bool) (front rest t : List ℕ) (c : ℕ) (cs e : List ℕ) → t ≡ front ++ rest → rest ≡ c ∷ cs → first_passes test t ≡ false → first_passes test (front ++ (c ∷ e)) ≡ false
-goes_on test [] rest t c cs e a b k = sym (ap (first_passes test) (a ∙ b)) ∙ k
-goes_on test (x ∷ xs) rest t c cs e a b k = sym (ap (first_passes test) a) ∙ k
 
 whole_stops : (first : ℕ → Bool) (reads : List ℕ → Bool) (pre t rest : List ℕ) → first_passes first t ≡ false → Fronted first reads pre → Halts first reads t rest → StopsBefore (pre ++ t) rest
 whole_stops first reads pre t rest ok f h = record {

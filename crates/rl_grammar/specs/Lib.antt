@@ -1,4 +1,5 @@
 pub mod Flaws
+pub mod NumberFlaws
 pub mod NumberShapes
 pub mod NumbersRead
 pub mod Rows
