@@ -438,7 +438,7 @@ pub record IsPower (i p : Bool) (reads : List ℕ → Bool) (outer : ℕ → Boo
   pub may_be_past : (i ≡ false) → p ≡ false
 
 -- the parts of a power, joined
-power_parts : (l c : ℕ) (us row x : List ℕ) → (l ∷ (us ++ (c ∷ row))) ++ x ≡ l ∷ (us ++ (c ∷ (row ++ x)))
+pub power_parts : (l c : ℕ) (us row x : List ℕ) → (l ∷ (us ++ (c ∷ row))) ++ x ≡ l ∷ (us ++ (c ∷ (row ++ x)))
 power_parts l c us row x = ap (λ z. l ∷ z) (append_assoc us (c ∷ row) x)
 
 end_rest : (a b : FlawKind) (t : List ℕ) → (end_flaw_at a b t).1 ≡ t
