@@ -10,6 +10,7 @@ pub mod DigitLemmas
 pub mod DecLemmas
 pub mod NumberFlawLemmas
 pub mod NumberKindLemmas
+pub mod NumberFlawKinds
 pub mod NumberLemmas
 pub mod NumberStopLemmas
 pub mod MinusLemmas

@@ -36,11 +36,11 @@ pub record Tells (any : List ℕ → Bool) (signed : List ℕ → Type 0) (text 
   pub text_is : text ≡ front ++ flaw.1
   pub says : Says any signed flaw.0 front flaw.1
 
-abbrev Never : List ℕ → Type 0
+abbrev pub Never : List ℕ → Type 0
 Never x = ⊥
 
 -- the front of a text begins as the text does, or is empty
-front_passes : (test : ℕ → Bool) (front rest t : List ℕ) → t ≡ front ++ rest → first_passes test t ≡ false → first_passes test front ≡ false
+pub front_passes : (test : ℕ → Bool) (front rest t : List ℕ) → t ≡ front ++ rest → first_passes test t ≡ false → first_passes test front ≡ false
 front_passes test [] rest t e h = refl
 front_passes test (x ∷ xs) rest t e h = sym (ap (first_passes test) e) ∙ h
 
@@ -69,7 +69,7 @@ tell_on first inner any inside signed pre t (kind, rest) ok same power k = recor
 
 -- ---- leaves
 
-word_tells : (any : List ℕ → Bool) (signed : List ℕ → Type 0) (t : List ℕ) → any (run is_xid_continue t) ≡ true → ((x : List ℕ) → list_all is_xid_continue x ≡ false → any x ≡ false) → (list_all is_xid_continue t ≡ true → ⊥) → Tells any signed t (found_flaw BadSuffix (after_word t))
+pub word_tells : (any : List ℕ → Bool) (signed : List ℕ → Type 0) (t : List ℕ) → any (run is_xid_continue t) ≡ true → ((x : List ℕ) → list_all is_xid_continue x ≡ false → any x ≡ false) → (list_all is_xid_continue t ≡ true → ⊥) → Tells any signed t (found_flaw BadSuffix (after_word t))
 word_tells any signed t whole none ends = record {
   front = run is_xid_continue t;
   text_is = run_join is_xid_continue t;
@@ -177,11 +177,10 @@ unsigned_tells i p t none = go i p (first_passes is_xid_start t) refl none
     go false q false h n = stays q t h n
 
 -- what is known of the letter
-record IsLetter (i p : Bool) (any : List ℕ → Bool) (signed : List ℕ → Type 0) (l : ℕ) : Type 0 where
+record IsLetter (i : Bool) (any : List ℕ → Bool) (signed : List ℕ → Type 0) (l : ℕ) : Type 0 where
   is_letter : is_exponent_letter l ≡ true
   same : (x : List ℕ) → any (l ∷ x) ≡ ten_reads i false (l ∷ x)
   power : (x : List ℕ) → IsSignedPower x → signed x
-  may_be_past : (i ≡ false) → p ≡ false
 
 -- a row without a digit is of underscores
 only_marks : (row : List ℕ) → list_all (is_row_part (has_value 10)) row ≡ true → list_any (has_value 10) row ≡ false → list_all is_underscore row ≡ true
@@ -191,7 +190,7 @@ only_marks (c ∷ cs) h k =
     let b = or_parts (has_value 10 c) (list_any (has_value 10) cs) k in
     and_from (c == 95) (list_all is_underscore cs) (sym (ap (λ z. z || (c == 95)) b.0) ∙ a.0) (only_marks cs a.1 b.1)
 
-signed_tells : (i p : Bool) (any : List ℕ → Bool) (signed : List ℕ → Type 0) (l c : ℕ) (us t : List ℕ) → IsLetter i p any signed l → (c == 43 || c == 45) ≡ true → list_all is_underscore us ≡ true → ten_reads i p (l ∷ (us ++ (c ∷ t))) ≡ false → Tells any signed (l ∷ (us ++ (c ∷ t))) (signed_flaw_at t)
+signed_tells : (i p : Bool) (any : List ℕ → Bool) (signed : List ℕ → Type 0) (l c : ℕ) (us t : List ℕ) → IsLetter i any signed l → (c == 43 || c == 45) ≡ true → list_all is_underscore us ≡ true → ten_reads i p (l ∷ (us ++ (c ∷ t))) ≡ false → Tells any signed (l ∷ (us ++ (c ∷ t))) (signed_flaw_at t)
 unfolding signed_flaw_at
 signed_tells i p any signed l c us t k c_is marks none =
     subst (λ z. Tells any signed z (signed_flaw_at t)) (power_parts l c us row w ∙ ap (λ z. l ∷ (us ++ (c ∷ z))) (sym joined)) (go (has_digit_at 10 t) refl)
@@ -229,7 +228,7 @@ signed_tells i p any signed l c us t k c_is marks none =
         ∙ ap (λ z. z && is_suffix x) h) (λ x e. absurd e) (suffix_tells w (no_more h))
     go false h = stopped h w
 
-digit_tells : (i p : Bool) (any : List ℕ → Bool) (signed : List ℕ → Type 0) (l : ℕ) (us t : List ℕ) → IsLetter i p any signed l → first_passes is_ascii_digit t ≡ true → list_all is_underscore us ≡ true → ten_reads i p (l ∷ (us ++ t)) ≡ false → Tells any signed (l ∷ (us ++ t)) (unsigned_flaw_at i p (after_digits 10 t))
+digit_tells : (i p : Bool) (any : List ℕ → Bool) (signed : List ℕ → Type 0) (l : ℕ) (us t : List ℕ) → IsLetter i any signed l → first_passes is_ascii_digit t ≡ true → list_all is_underscore us ≡ true → ten_reads i p (l ∷ (us ++ t)) ≡ false → Tells any signed (l ∷ (us ++ t)) (unsigned_flaw_at i p (after_digits 10 t))
 digit_tells i p any signed l us t k first marks none =
     let row = digit_row_at 10 t in
     let w = after_digits 10 t in
@@ -243,7 +242,7 @@ digit_tells i p any signed l us t k first marks none =
         ∙ digit_reads i false l us row x k.is_letter marks each (run_first t first) stops) (λ x e. absurd e) (unsigned_tells i p w no_more) in
     subst (λ z. Tells any signed (l ∷ z) (unsigned_flaw_at i p w)) (append_assoc us row w ∙ ap (λ z. us ++ z) (sym joined)) h
 
-other_tells : (i p : Bool) (any : List ℕ → Bool) (signed : List ℕ → Type 0) (l : ℕ) (us t : List ℕ) → IsLetter i p any signed l → first_passes is_power_front t ≡ false → list_all is_underscore us ≡ true → ten_reads i p (l ∷ (us ++ t)) ≡ false → Tells any signed (l ∷ (us ++ t)) (word_flaw_at p t)
+other_tells : (i p : Bool) (any : List ℕ → Bool) (signed : List ℕ → Type 0) (l : ℕ) (us t : List ℕ) → IsLetter i any signed l → first_passes is_power_front t ≡ false → list_all is_underscore us ≡ true → ten_reads i p (l ∷ (us ++ t)) ≡ false → Tells any signed (l ∷ (us ++ t)) (word_flaw_at p t)
 other_tells i p any signed l us t k ok marks none =
     tell_on is_power_front (list_all is_xid_continue) any Never signed (l ∷ us) t (word_flaw_at p t) ok (λ x h. k.same (us ++ x) ∙ other_reads i false l us x k.is_letter marks h ∙ kept i (list_all is_xid_continue x)) (λ x e. absurd e) (go p t (λ e. sym (kept i (list_all is_xid_continue t)) ∙ ap (λ q. list_all is_xid_continue t && not (i && q)) (sym e) ∙ sym (other_reads i p l us t k.is_letter marks ok) ∙ none))
   where
@@ -258,7 +257,7 @@ other_tells i p any signed l us t k ok marks none =
     go true [] n = past_end (list_all is_xid_continue) refl
     go true (c ∷ cs) n = word_past_tells (list_all is_xid_continue) c cs refl (one_word c true) (one_word c false)
 
-row_tells : (i p : Bool) (any : List ℕ → Bool) (signed : List ℕ → Type 0) (l : ℕ) (us t : List ℕ) → IsLetter i p any signed l → list_all is_underscore us ≡ true → first_passes is_underscore t ≡ false → ten_reads i p (l ∷ (us ++ t)) ≡ false → Tells any signed (l ∷ (us ++ t)) (power_flaw_at i p t)
+row_tells : (i p : Bool) (any : List ℕ → Bool) (signed : List ℕ → Type 0) (l : ℕ) (us t : List ℕ) → IsLetter i any signed l → list_all is_underscore us ≡ true → first_passes is_underscore t ≡ false → ten_reads i p (l ∷ (us ++ t)) ≡ false → Tells any signed (l ∷ (us ++ t)) (power_flaw_at i p t)
 unfolding power_flaw_at
 row_tells i p any signed l us [] k marks ok none = other_tells i p any signed l us [] k refl marks none
 row_tells i p any signed l us (c ∷ cs) k marks ok none = go (c == 43 || c == 45) (is_ascii_digit c) refl refl
@@ -268,7 +267,7 @@ row_tells i p any signed l us (c ∷ cs) k marks ok none = go (c == 43 || c == 4
     go false true hs hd = digit_tells i p any signed l us (c ∷ cs) k hd marks none
     go false false hs hd = other_tells i p any signed l us (c ∷ cs) k (or_from (c == 43 || c == 45) (is_row_part (has_value 10) c) hs (or_from (has_value 10 c) (c == 95) (sym (digit_is_ten c) ∙ hd) ok)) marks none
 
-power_tells : (i p : Bool) (any : List ℕ → Bool) (signed : List ℕ → Type 0) (l : ℕ) (t : List ℕ) → IsLetter i p any signed l → ten_reads i p (l ∷ t) ≡ false → Tells any signed (l ∷ t) (power_flaw_at i p (after_run is_underscore t))
+power_tells : (i p : Bool) (any : List ℕ → Bool) (signed : List ℕ → Type 0) (l : ℕ) (t : List ℕ) → IsLetter i any signed l → ten_reads i p (l ∷ t) ≡ false → Tells any signed (l ∷ t) (power_flaw_at i p (after_run is_underscore t))
 power_tells i p any signed l t k none =
     let joined : t ≡ run is_underscore t ++ after_run is_underscore t = run_join is_underscore t in
     subst (λ z. Tells any signed (l ∷ z) (power_flaw_at i p (after_run is_underscore t))) (sym joined) (row_tells i p any signed l (run is_underscore t) (after_run is_underscore t) k (run_all is_underscore t) (run_ends is_underscore t) (ap (λ z. ten_reads i p (l ∷ z)) (sym joined) ∙ none))
@@ -286,7 +285,7 @@ fraction_tells [] none = absurd (both_ways (ten_reads false false []) none (no_l
 fraction_tells (c ∷ cs) none = go (is_exponent_letter c) refl
   where
     go : (b : Bool) → is_exponent_letter c ≡ b → Tells (ten_reads false false) IsSignedPower (c ∷ cs) (cond b (power_flaw_at false false (after_run is_underscore cs)) (suffix_flaw_at false (c ∷ cs)))
-    go true h = power_tells false false (ten_reads false false) IsSignedPower c cs (record { is_letter = h; same = λ x. refl; power = λ x k. k; may_be_past = λ e. refl }) none
+    go true h = power_tells false false (ten_reads false false) IsSignedPower c cs (record { is_letter = h; same = λ x. refl; power = λ x k. k}) none
     go false h = tell_on is_exponent_letter is_suffix (ten_reads false false) Never IsSignedPower [] (c ∷ cs) (suffix_flaw_at false (c ∷ cs)) h no_letter (λ x e. absurd e) (suffix_tells (c ∷ cs) (sym (no_letter (c ∷ cs) h) ∙ none))
 
 -- perhaps a fraction, and then a power up to its sign
@@ -351,5 +350,5 @@ tail_tells p (c ∷ cs) none = go (c == 46) (is_exponent_letter c) refl refl
 
     go : (d b : Bool) → (c == 46) ≡ d → is_exponent_letter c ≡ b → Tells (tail_reads false) IsSignedTail (c ∷ cs) (cond d (exponent_flaw_at false false w) (cond b (power_flaw_at true p (after_run is_underscore cs)) (suffix_flaw_at p (c ∷ cs))))
     go true b h k = dotted h
-    go false true h k = power_tells true p (tail_reads false) IsSignedTail c cs (record { is_letter = k; same = λ x. undotted false c x h; power = λ x j. record { fraction = NoFraction; power = x; is_fraction = tt; is_power = j; text_is = refl }; may_be_past = λ e. absurd (cc) }) (sym (undotted p c cs h) ∙ none)
+    go false true h k = power_tells true p (tail_reads false) IsSignedTail c cs (record { is_letter = k; same = λ x. undotted false c x h; power = λ x j. record { fraction = NoFraction; power = x; is_fraction = tt; is_power = j; text_is = refl }}) (sym (undotted p c cs h) ∙ none)
     go false false h k = plain p none h k
