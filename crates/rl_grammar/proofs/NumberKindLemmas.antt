@@ -237,9 +237,9 @@ digit_tells i p any signed l us t k first marks none =
     let joined : t ≡ row ++ w = run_join (is_row_part (has_value 10)) t in
     let no_more : digits_read i p w ≡ false = sym (digit_reads i p l us row w k.is_letter marks each (run_first t first) ends) ∙ sym (ap (λ z. ten_reads i p (l ∷ (us ++ z))) joined) ∙ none in
     let h = tell_on (is_row_part (has_value 10)) (digits_read i false) any Never signed (l ∷ (us ++ row)) w (unsigned_flaw_at i p w) ends (λ x stops.
-        ap (λ z. any (l ∷ z)) (append_assoc us row x)
-        ∙ k.same (us ++ (row ++ x))
-        ∙ digit_reads i false l us row x k.is_letter marks each (run_first t first) stops) (λ x e. absurd e) (unsigned_tells i p w no_more) in
+    ap (λ z. any (l ∷ z)) (append_assoc us row x)
+    ∙ k.same (us ++ (row ++ x))
+    ∙ digit_reads i false l us row x k.is_letter marks each (run_first t first) stops) (λ x e. absurd e) (unsigned_tells i p w no_more) in
     subst (λ z. Tells any signed (l ∷ z) (unsigned_flaw_at i p w)) (append_assoc us row w ∙ ap (λ z. us ++ z) (sym joined)) h
 
 other_tells : (i p : Bool) (any : List ℕ → Bool) (signed : List ℕ → Type 0) (l : ℕ) (us t : List ℕ) → IsLetter i any signed l → first_passes is_power_front t ≡ false → list_all is_underscore us ≡ true → ten_reads i p (l ∷ (us ++ t)) ≡ false → Tells any signed (l ∷ (us ++ t)) (word_flaw_at p t)
@@ -285,7 +285,7 @@ fraction_tells [] none = absurd (both_ways (ten_reads false false []) none (no_l
 fraction_tells (c ∷ cs) none = go (is_exponent_letter c) refl
   where
     go : (b : Bool) → is_exponent_letter c ≡ b → Tells (ten_reads false false) IsSignedPower (c ∷ cs) (cond b (power_flaw_at false false (after_run is_underscore cs)) (suffix_flaw_at false (c ∷ cs)))
-    go true h = power_tells false false (ten_reads false false) IsSignedPower c cs (record { is_letter = h; same = λ x. refl; power = λ x k. k}) none
+    go true h = power_tells false false (ten_reads false false) IsSignedPower c cs (record { is_letter = h; same = λ x. refl; power = λ x k. k }) none
     go false h = tell_on is_exponent_letter is_suffix (ten_reads false false) Never IsSignedPower [] (c ∷ cs) (suffix_flaw_at false (c ∷ cs)) h no_letter (λ x e. absurd e) (suffix_tells (c ∷ cs) (sym (no_letter (c ∷ cs) h) ∙ none))
 
 -- perhaps a fraction, and then a power up to its sign
@@ -350,5 +350,5 @@ tail_tells p (c ∷ cs) none = go (c == 46) (is_exponent_letter c) refl refl
 
     go : (d b : Bool) → (c == 46) ≡ d → is_exponent_letter c ≡ b → Tells (tail_reads false) IsSignedTail (c ∷ cs) (cond d (exponent_flaw_at false false w) (cond b (power_flaw_at true p (after_run is_underscore cs)) (suffix_flaw_at p (c ∷ cs))))
     go true b h k = dotted h
-    go false true h k = power_tells true p (tail_reads false) IsSignedTail c cs (record { is_letter = k; same = λ x. undotted false c x h; power = λ x j. record { fraction = NoFraction; power = x; is_fraction = tt; is_power = j; text_is = refl }}) (sym (undotted p c cs h) ∙ none)
+    go false true h k = power_tells true p (tail_reads false) IsSignedTail c cs (record { is_letter = k; same = λ x. undotted false c x h; power = λ x j. record { fraction = NoFraction; power = x; is_fraction = tt; is_power = j; text_is = refl } }) (sym (undotted p c cs h) ∙ none)
     go false false h k = plain p none h k

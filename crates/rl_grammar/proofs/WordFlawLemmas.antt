@@ -254,15 +254,18 @@ letter_kind c cs front letter is = go cs letter
     same : front ≡ c ∷ []
     same = sym (append_cancel_right (c ∷ []) front cs is)
 
+    some : front ≢ []
+    some n = let k : c ∷ [] ≡ [] = sym same ∙ n in absurd (cc)
+
     go : (rest : List ℕ) → (c ≡ 98) ⊎ (c ≡ 99) → IsWordFlaw (end_flaw_at Unfinished NoLiteral rest).0 front (end_flaw_at Unfinished NoLiteral rest).1
-    go [] (inl e) = ((λ n. absurd (cc)), inl (same ∙ ap (λ z. z ∷ []) e), refl)
-    go [] (inr e) = ((λ n. absurd (cc)), inr (inl (same ∙ ap (λ z. z ∷ []) e)), refl)
+    go [] (inl e) = (some, inl (same ∙ ap (λ z. z ∷ []) e), refl)
+    go [] (inr e) = (some, inr (inl (same ∙ ap (λ z. z ∷ []) e)), refl)
     go (d ∷ ds) (inl e) = (inl (same ∙ ap (λ z. z ∷ []) e), λ n. absurd (cc))
     go (d ∷ ds) (inr e) = (inr (inl (same ∙ ap (λ z. z ∷ []) e)), λ n. absurd (cc))
 
 word_kind : (t : List ℕ) → HasKind (IsWordFlaw (word_flaw_at t).0) t (word_flaw_at t).1
 unfolding word_flaw_at
-word_kind [] front is = (sym (is ∙ append-nil front), refl)
+word_kind [] = λ front is. (sym (is ∙ append-nil front), refl)
 word_kind (c ∷ cs) = go (c == 98) (c == 99) (c == 116) (c == 102) refl refl
   where
     Kind : FoundFlaw → Type 0
@@ -279,7 +282,7 @@ word_kind (c ∷ cs) = go (c == 98) (c == 99) (c == 116) (c == 102) refl refl
     go false true t f hb hk = lettered (inr (eqb-true c 99 hk))
     go false false true f hb hk = worded true
     go false false false true hb hk = worded false
-    go false false false false hb hk front is = (inr (inr (record { truth = true; more = truth_text true; word_is = ap (λ z. z ++ truth_text true) (append_cancel_right [] front (c ∷ cs) is) })), λ n. absurd (cc))
+    go false false false false hb hk = λ front is. (inr (inr (record { truth = true; more = truth_text true; word_is = ap (λ z. z ++ truth_text true) (append_cancel_right [] front (c ∷ cs) is) })), λ n. absurd (cc))
 
 -- the code's flaw
 pub record IsFlaw (t : List ℕ) (flaw : FoundFlaw) : Type 0 where
