@@ -22,7 +22,7 @@ use Rattle.rl_grammar.specs.Mirrors.UnitFlawAt.{FoundFlaw, found_flaw}
 use Rattle.rl_grammar.proofs.FloatLemmas.{passes_more, run_first}
 use Rattle.rl_grammar.proofs.IntegerLemmas.{Based, based, is_past, no_int, sign_join}
 use Rattle.rl_grammar.proofs.NumberFlawLemmas.{all_off, goes_on, no_suffix, part_continues, suffix_is, suffix_not, tail_reads}
-use Rattle.rl_grammar.proofs.NumberKindLemmas.{IsSignedTail, Never, Says, Tells, front_passes, tail_tells, word_tells}
+use Rattle.rl_grammar.proofs.NumberKindLemmas.{IsSignedTail, Never, Says, Reports, front_passes, tail_tells, word_tells}
 use Rattle.rl_grammar.proofs.NumberStopLemmas.{Fronted, IsPrefixed, Numbers, based_fronted, based_numbers, based_reads, based_stops, binary, both_fail, digits_stop, end_rest, hexadecimal, minus_stops, names, names_none, never, no_integer, number_reads, octal, past_has_digit, ten_first, ten_fronted, ten_numbers}
 use Rattle.rl_grammar.proofs.RunLemmas.{run_all, run_ends, run_join, run_past}
 
@@ -62,7 +62,7 @@ based_any_fronted s r l k = record {
 
 -- ---- what is told of the rest, told of the whole text
 
-whole_kind : (first : ℕ → Bool) (any : List ℕ → Bool) (signed : List ℕ → Type 0) (pre t : List ℕ) (flaw : FoundFlaw) → first_passes first t ≡ false → AnyFronted first any pre → ((x : List ℕ) → signed x → EndsInSign (pre ++ x)) → (HasReading (pre ++ t) → ⊥) → StopsBefore (pre ++ t) flaw.1 → Tells any signed t flaw → HasKind (IsNumberFlaw flaw.0) (pre ++ t) flaw.1
+whole_kind : (first : ℕ → Bool) (any : List ℕ → Bool) (signed : List ℕ → Type 0) (pre t : List ℕ) (flaw : FoundFlaw) → first_passes first t ≡ false → AnyFronted first any pre → ((x : List ℕ) → signed x → EndsInSign (pre ++ x)) → (HasReading (pre ++ t) → ⊥) → StopsBefore (pre ++ t) flaw.1 → Reports any signed t flaw → HasKind (IsNumberFlaw flaw.0) (pre ++ t) flaw.1
 whole_kind first any signed pre t (kind, rest) ok f power none stops k front is =
     subst (λ z. IsNumberFlaw kind z rest) (same front is) (go kind rest k.text_is (λ c cs e. stops.stuck c cs [] e) k.says)
   where
@@ -176,7 +176,7 @@ word_reads r y saved all = ap (cond (has_digit_at r y && is_suffix (after_digits
     go true [] h = absurd (cc)
     go true (c ∷ cs) h = ap (λ b. cond (has_digit_at r y && b) false true) (suffix_not c cs h) ∙ no_integer (has_digit_at r y) false
 
-based_tells : (r : ℕ) (y : List ℕ) → r ≤ 16 → based_reads r y ≡ false → Tells (based_any r) Never y (based_flaw_at r y)
+based_tells : (r : ℕ) (y : List ℕ) → r ≤ 16 → based_reads r y ≡ false → Reports (based_any r) Never y (based_flaw_at r y)
 unfolding based_flaw_at
 based_tells r y few none = go (is_past_at r y && ends_or_passes is_xid_start (after_digits r y)) refl
   where
@@ -187,7 +187,7 @@ based_tells r y few none = go (is_past_at r y && ends_or_passes is_xid_start (af
     large [] some starts stops = ap (based_any r) (sym (append-nil row)) ∙ row_any r y [] some refl refl
     large (c ∷ cs) some starts stops = row_any r y (c ∷ []) some stops (suffix_is c [] starts)
 
-    go : (b : Bool) → (is_past_at r y && ends_or_passes is_xid_start (after_digits r y)) ≡ b → Tells (based_any r) Never y (cond b (found_flaw TooLarge (after_digits r y)) (found_flaw BadSuffix (after_word y)))
+    go : (b : Bool) → (is_past_at r y && ends_or_passes is_xid_start (after_digits r y)) ≡ b → Reports (based_any r) Never y (cond b (found_flaw TooLarge (after_digits r y)) (found_flaw BadSuffix (after_word y)))
     go true h =
         let p = and_parts (is_past_at r y) (ends_or_passes is_xid_start (after_digits r y)) h in
         record { front = row; text_is = run_join (is_row_part (has_value r)) y; says = large (after_digits r y) (past_has_digit r y p.0) p.1 (run_ends (is_row_part (has_value r)) y) }

@@ -12,7 +12,7 @@ ghost use Rattle.rl_grammar.specs.Mirrors.NumberFlawAt.{after_word, based_flaw_a
 ghost use Rattle.rl_grammar.specs.Mirrors.UnitFlawAt.{found_flaw};
 
 use crate::digit_rows::{after_minus, begins_digit, read_row, skip_row};
-use crate::flaws::{FlawAt, FlawKind, flaw};
+use crate::flaws::{FlawAt, FlawKind, make_flaw};
 use crate::number_forms::split_radix;
 use rl_tokens::characters::is_xid_continue;
 use rl_tokens::classes::{CharClass, skip_class};
@@ -68,8 +68,8 @@ pub(crate) fn end_flaw(at_end: FlawKind, before: FlawKind, text: &str) -> FlawAt
         ≡ end_flaw_at at_end before (chars text.now) }
 {
     match split_char(text) {
-        None => flaw(at_end, text),
-        Some(_) => flaw(before, text),
+        None => make_flaw(at_end, text),
+        Some(_) => make_flaw(before, text),
     }
 }
 
@@ -79,11 +79,11 @@ fn suffix_flaw(past: bool, text: &str) -> FlawAt<'_>
     ensures { found_flaw result.kind (chars result.rest.now) ≡ suffix_flaw_at past (chars text.now) }
 {
     if past && ends_or_begins_suffix(text) {
-        flaw(FlawKind::TooLarge, text)
+        make_flaw(FlawKind::TooLarge, text)
     } else if begins_suffix(text) {
-        flaw(FlawKind::BadSuffix, skip_word(text))
+        make_flaw(FlawKind::BadSuffix, skip_word(text))
     } else {
-        flaw(FlawKind::BadSuffix, text)
+        make_flaw(FlawKind::BadSuffix, text)
     }
 }
 
@@ -93,9 +93,9 @@ fn word_flaw(past: bool, text: &str) -> FlawAt<'_>
     ensures { found_flaw result.kind (chars result.rest.now) ≡ word_flaw_at past (chars text.now) }
 {
     if past && ends_or_continues(text) {
-        flaw(FlawKind::TooLarge, text)
+        make_flaw(FlawKind::TooLarge, text)
     } else {
-        flaw(FlawKind::BadSuffix, skip_word(text))
+        make_flaw(FlawKind::BadSuffix, skip_word(text))
     }
 }
 
@@ -171,9 +171,9 @@ fn based_flaw(radix: u32, text: &str) -> FlawAt<'_>
 {
     let row = read_row(text, radix);
     if row.magnitude.is_none() && ends_or_begins_suffix(row.rest) {
-        flaw(FlawKind::TooLarge, row.rest)
+        make_flaw(FlawKind::TooLarge, row.rest)
     } else {
-        flaw(FlawKind::BadSuffix, skip_word(text))
+        make_flaw(FlawKind::BadSuffix, skip_word(text))
     }
 }
 

@@ -12,7 +12,7 @@ ghost use Rattle.rl_grammar.specs.Mirrors.OpenerAt.{opener_at};
 ghost use Rattle.rl_grammar.specs.Mirrors.UnitFlawAt.{found_flaw};
 ghost use Rattle.rl_grammar.specs.Mirrors.WordFlawAt.{after_letters, word_flaw_at};
 
-use crate::flaws::{FlawAt, FlawKind, flaw};
+use crate::flaws::{FlawAt, FlawKind, make_flaw};
 use crate::number_flaws::end_flaw;
 use rl_tokens::text::split_char;
 
@@ -52,11 +52,11 @@ fn first_flaw(text: &str) -> FlawAt<'_>
     ensures { found_flaw result.kind (chars result.rest.now) ≡ word_flaw_at (chars text.now) }
 {
     match split_char(text) {
-        None => flaw(FlawKind::Empty, text),
+        None => make_flaw(FlawKind::Empty, text),
         Some(('b' | 'c', rest)) => end_flaw(FlawKind::Unfinished, FlawKind::NoLiteral, rest),
         Some(('t', _)) => letters_flaw("true", text),
         Some(('f', _)) => letters_flaw("false", text),
-        Some(_) => flaw(FlawKind::NoLiteral, text),
+        Some(_) => make_flaw(FlawKind::NoLiteral, text),
     }
 }
 
