@@ -9,6 +9,8 @@ pub mod FloatLemmas
 pub mod DigitLemmas
 pub mod DecLemmas
 pub mod NumberFlawLemmas
+pub mod NumberKindLemmas
+pub mod NumberFlawKinds
 pub mod NumberLemmas
 pub mod NumberStopLemmas
 pub mod MinusLemmas

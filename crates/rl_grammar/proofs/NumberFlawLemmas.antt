@@ -32,9 +32,9 @@ pub record Halts (first : ℕ → Bool) (reads : List ℕ → Bool) (text rest :
   pub stuck : (c : ℕ) (cs e : List ℕ) → rest ≡ c ∷ cs → reads (front ++ (c ∷ e)) ≡ false
 
 -- what goes on as the text does begins as it does
-first_goes : (test : ℕ → Bool) (front rest t : List ℕ) (c : ℕ) (cs e : List ℕ) → t ≡ front ++ rest → rest ≡ c ∷ cs → first_passes test t ≡ false → first_passes test (front ++ (c ∷ e)) ≡ false
-first_goes test [] rest t c cs e a b k = sym (ap (first_passes test) (a ∙ b)) ∙ k
-first_goes test (x ∷ xs) rest t c cs e a b k = sym (ap (first_passes test) a) ∙ k
+pub goes_on : (test : ℕ → Bool) (front rest t : List ℕ) (c : ℕ) (cs e : List ℕ) → t ≡ front ++ rest → rest ≡ c ∷ cs → first_passes test t ≡ false → first_passes test (front ++ (c ∷ e)) ≡ false
+goes_on test [] rest t c cs e a b k = sym (ap (first_passes test) (a ∙ b)) ∙ k
+goes_on test (x ∷ xs) rest t c cs e a b k = sym (ap (first_passes test) a) ∙ k
 
 -- what stands before changes nothing
 pub on : (first outer : ℕ → Bool) (inner reads : List ℕ → Bool) (pre t rest : List ℕ) → first_passes first t ≡ false → ((x : List ℕ) → first_passes first x ≡ false → reads (pre ++ x) ≡ inner x) → ((x : List ℕ) → first_passes outer (pre ++ x) ≡ false) → Halts first inner t rest → Halts outer reads (pre ++ t) rest
@@ -45,7 +45,7 @@ on first outer inner reads pre t rest ok same starts h = record {
   are_characters = h.are_characters;
   opens = ap (first_passes outer) (append_assoc pre h.front h.ending) ∙ starts (h.front ++ h.ending);
   completes = ap reads (append_assoc pre h.front h.ending) ∙ same (h.front ++ h.ending) h.opens ∙ h.completes;
-  stuck = λ c cs e k. ap reads (append_assoc pre h.front (c ∷ e)) ∙ same (h.front ++ (c ∷ e)) (first_goes first h.front rest t c cs e h.text_is k ok) ∙ h.stuck c cs e k;
+  stuck = λ c cs e k. ap reads (append_assoc pre h.front (c ∷ e)) ∙ same (h.front ++ (c ∷ e)) (goes_on first h.front rest t c cs e h.text_is k ok) ∙ h.stuck c cs e k;
 }
 
 -- ---- characters
@@ -194,7 +194,7 @@ abbrev pub ten_reads : Bool → Bool → List ℕ → Bool
 ten_reads integer past z = cond (integer && may_end 10 z) (not past) (is_suffix (after_exponent z))
 
 -- the same after the letter, by three tests
-abbrev power_reads : Bool → Bool → Bool → Bool → Bool → Bool
+abbrev pub power_reads : Bool → Bool → Bool → Bool → Bool → Bool
 power_reads integer past word power float = cond (integer && (word && not power)) (not past) float
 
 suffix_of_cond : (b : Bool) (x y : List ℕ) → is_suffix (cond b x y) ≡ cond b (is_suffix x) (is_suffix y)
@@ -228,7 +228,7 @@ row_continues : (r : ℕ) (row : List ℕ) → r ≤ 16 → list_all (is_row_par
 row_continues r row small h = all_weaker (is_row_part (has_value r)) is_xid_continue (λ c k. part_continues r c small k) row h
 
 -- what an exponent gives after its sign
-signed_reads : (i p : Bool) (l c : ℕ) (us row x : List ℕ) → is_exponent_letter l ≡ true → (c == 43 || c == 45) ≡ true → list_all is_underscore us ≡ true → list_all (is_row_part (has_value 10)) row ≡ true → first_passes (is_row_part (has_value 10)) x ≡ false → ten_reads i p (l ∷ (us ++ (c ∷ (row ++ x)))) ≡ (list_any (has_value 10) row && is_suffix x)
+pub signed_reads : (i p : Bool) (l c : ℕ) (us row x : List ℕ) → is_exponent_letter l ≡ true → (c == 43 || c == 45) ≡ true → list_all is_underscore us ≡ true → list_all (is_row_part (has_value 10)) row ≡ true → first_passes (is_row_part (has_value 10)) x ≡ false → ten_reads i p (l ∷ (us ++ (c ∷ (row ++ x)))) ≡ (list_any (has_value 10) row && is_suffix x)
 signed_reads i p l c us row x l_is c_is marks each stops =
     let t = us ++ (c ∷ (row ++ x)) in
     let b = has_digit_at 10 t && is_suffix (after_digits 10 t) in
@@ -263,7 +263,7 @@ unsigned_past us (c ∷ cs) x h k =
     ap after_power_sign (run_off is_underscore us (c ∷ (cs ++ x)) h ∙ (run_no is_underscore c (cs ++ x) (digit_no_mark c k)).1)
     ∙ digit_no_sign (c ∷ (cs ++ x)) k
 
-digit_reads : (i p : Bool) (l : ℕ) (us row x : List ℕ) → is_exponent_letter l ≡ true → list_all is_underscore us ≡ true → list_all (is_row_part (has_value 10)) row ≡ true → first_passes is_ascii_digit row ≡ true → first_passes (is_row_part (has_value 10)) x ≡ false → ten_reads i p (l ∷ (us ++ (row ++ x))) ≡ digits_read i p x
+pub digit_reads : (i p : Bool) (l : ℕ) (us row x : List ℕ) → is_exponent_letter l ≡ true → list_all is_underscore us ≡ true → list_all (is_row_part (has_value 10)) row ≡ true → first_passes is_ascii_digit row ≡ true → first_passes (is_row_part (has_value 10)) x ≡ false → ten_reads i p (l ∷ (us ++ (row ++ x))) ≡ digits_read i p x
 digit_reads i p l us row x l_is marks each first stops =
     let part = is_row_part (has_value 10) in
     let t = us ++ (row ++ x) in
@@ -295,7 +295,7 @@ digit_reads i p l us row x l_is marks each first stops =
     any_first (c ∷ cs) h = ap (λ z. z || list_any (has_value 10) cs) (sym (digit_is_ten c) ∙ h)
 
 -- no sign and no digit
-abbrev is_power_front : ℕ → Bool
+abbrev pub is_power_front : ℕ → Bool
 is_power_front c = (c == 43 || c == 45) || is_row_part (has_value 10) c
 
 other_past : (us x : List ℕ) → list_all is_underscore us ≡ true → first_passes is_power_front x ≡ false → power_at (us ++ x) ≡ x
@@ -307,7 +307,7 @@ other_past us (c ∷ cs) h k =
     ∙ ap (λ z. cond z cs (c ∷ cs)) b.0
 
 -- what it gives where neither sign nor digit follows
-other_reads : (i p : Bool) (l : ℕ) (us x : List ℕ) → is_exponent_letter l ≡ true → list_all is_underscore us ≡ true → first_passes is_power_front x ≡ false → ten_reads i p (l ∷ (us ++ x)) ≡ (list_all is_xid_continue x && not (i && p))
+pub other_reads : (i p : Bool) (l : ℕ) (us x : List ℕ) → is_exponent_letter l ≡ true → list_all is_underscore us ≡ true → first_passes is_power_front x ≡ false → ten_reads i p (l ∷ (us ++ x)) ≡ (list_all is_xid_continue x && not (i && p))
 other_reads i p l us x l_is marks no_front =
     let t = us ++ x in
     let no_part = front_part x no_front in
@@ -377,14 +377,14 @@ suffix_halts first [] h = subst (Halts first is_suffix []) (sym (suffix_end fals
 suffix_halts first (c ∷ cs) h = suffix_after first is_suffix c cs [] h (λ x. refl) tt refl refl
 
 -- what no whole word passes, digits before it don't either
-digits_none : (i p : Bool) (x : List ℕ) → list_all is_xid_continue x ≡ false → digits_read i p x ≡ false
+pub digits_none : (i p : Bool) (x : List ℕ) → list_all is_xid_continue x ≡ false → digits_read i p x ≡ false
 digits_none i p x h = ap (λ z. cond (i && (z && not (is_suffix x))) (not p) (is_suffix x)) h ∙ ap (λ z. cond (i && false) (not p) z) (no_suffix x h) ∙ go i
   where
     go : (b : Bool) → cond (b && false) (not p) false ≡ false
     go true = refl
     go false = refl
 
-digits_suffix : (i p : Bool) (x : List ℕ) → is_suffix x ≡ true → digits_read i p x ≡ true
+pub digits_suffix : (i p : Bool) (x : List ℕ) → is_suffix x ≡ true → digits_read i p x ≡ true
 digits_suffix i p x h = ap (λ z. cond (i && (list_all is_xid_continue x && not z)) (not p) z) h ∙ go i (list_all is_xid_continue x)
   where
     go : (b w : Bool) → cond (b && (w && false)) (not p) true ≡ true
@@ -392,7 +392,7 @@ digits_suffix i p x h = ap (λ z. cond (i && (list_all is_xid_continue x && not 
     go true false = refl
     go false w = refl
 
-digits_word : (x : List ℕ) → list_all is_xid_continue x ≡ true → digits_read true false x ≡ true
+pub digits_word : (x : List ℕ) → list_all is_xid_continue x ≡ true → digits_read true false x ≡ true
 digits_word x h = ap (λ z. cond (z && not (is_suffix x)) true (is_suffix x)) h ∙ go (is_suffix x)
   where
     go : (b : Bool) → cond (not b) true b ≡ true
@@ -438,7 +438,7 @@ pub record IsPower (i p : Bool) (reads : List ℕ → Bool) (outer : ℕ → Boo
   pub may_be_past : (i ≡ false) → p ≡ false
 
 -- the parts of a power, joined
-power_parts : (l c : ℕ) (us row x : List ℕ) → (l ∷ (us ++ (c ∷ row))) ++ x ≡ l ∷ (us ++ (c ∷ (row ++ x)))
+pub power_parts : (l c : ℕ) (us row x : List ℕ) → (l ∷ (us ++ (c ∷ row))) ++ x ≡ l ∷ (us ++ (c ∷ (row ++ x)))
 power_parts l c us row x = ap (λ z. l ∷ z) (append_assoc us (c ∷ row) x)
 
 end_rest : (a b : FlawKind) (t : List ℕ) → (end_flaw_at a b t).1 ≡ t
@@ -580,7 +580,7 @@ dot_no_start : is_xid_start 46 ≡ false
 dot_no_start = is_xid_start-ascii 46 (omega arith)
 
 -- after the dot
-dot_reads : (past : Bool) (row x : List ℕ) → list_all (is_row_part (has_value 10)) row ≡ true → first_passes (is_row_part (has_value 10)) x ≡ false → tail_reads past ((46 ∷ row) ++ x) ≡ ten_reads false false x
+pub dot_reads : (past : Bool) (row x : List ℕ) → list_all (is_row_part (has_value 10)) row ≡ true → first_passes (is_row_part (has_value 10)) x ≡ false → tail_reads past ((46 ∷ row) ++ x) ≡ ten_reads false false x
 dot_reads past row x each stops =
     let z = row ++ x in
     ap (λ b. cond (b && not (is_exponent_suffix (46 ∷ z))) (not past) (is_suffix (after_exponent (after_digits 10 z)))) (suffix_not 46 z dot_no_start)
@@ -592,11 +592,11 @@ unfolding after_exponent
 dot_stands past = dot_reads past [] [] refl refl
 
 -- elsewhere no fraction is
-undotted : (past : Bool) (c : ℕ) (x : List ℕ) → (c == 46) ≡ false → tail_reads past (c ∷ x) ≡ ten_reads true past (c ∷ x)
+pub undotted : (past : Bool) (c : ℕ) (x : List ℕ) → (c == 46) ≡ false → tail_reads past (c ∷ x) ≡ ten_reads true past (c ∷ x)
 undotted past c x h = ap (λ b. cond (may_end 10 (c ∷ x)) (not past) (is_suffix (after_exponent (cond b (after_digits 10 x) (c ∷ x))))) h
 
 -- and without the letter no exponent
-plain_reads : (past : Bool) (c : ℕ) (x : List ℕ) → (c == 46) ≡ false → is_exponent_letter c ≡ false → tail_reads past (c ∷ x) ≡ cond (is_suffix (c ∷ x)) (not past) false
+pub plain_reads : (past : Bool) (c : ℕ) (x : List ℕ) → (c == 46) ≡ false → is_exponent_letter c ≡ false → tail_reads past (c ∷ x) ≡ cond (is_suffix (c ∷ x)) (not past) false
 unfolding after_exponent is_exponent_suffix
 plain_reads past c x dot letter =
     let s = is_suffix (c ∷ x) in

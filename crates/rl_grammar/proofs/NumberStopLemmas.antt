@@ -25,7 +25,7 @@ use Rattle.rl_grammar.proofs.DigitRowLemmas.{run_no, run_yes}
 use Rattle.rl_grammar.proofs.FloatLemmas.{float_sound, no_float, passes_more, run_first}
 use Rattle.rl_grammar.proofs.HeadLemmas.{head_float, head_int, head_read, no_head_float, no_head_int}
 use Rattle.rl_grammar.proofs.IntegerLemmas.{Based, based, is_past, is_within, minus_past, no_int, sign_join, within_reads}
-use Rattle.rl_grammar.proofs.NumberFlawLemmas.{Halts, all_breaks, all_off, here_halts, no_suffix, part_continues, suffix_is, suffix_not, tail_halts, tail_reads, word_breaks, word_halts}
+use Rattle.rl_grammar.proofs.NumberFlawLemmas.{Halts, all_breaks, all_off, goes_on, here_halts, no_suffix, part_continues, suffix_is, suffix_not, tail_halts, tail_reads, word_breaks, word_halts}
 use Rattle.rl_grammar.proofs.NumberLemmas.{no_number, past_number}
 use Rattle.rl_grammar.proofs.ReadingLemmas.{only_number}
 use Rattle.rl_grammar.proofs.RunLemmas.{run_all, run_ends, run_join, run_past}
@@ -33,14 +33,14 @@ use Rattle.rl_grammar.proofs.RunLemmas.{run_all, run_ends, run_join, run_past}
 -- ---- whether a number stands, by what the code reads
 
 -- what is read of the text as an integer, and as a float
-record Numbers (t : List ℕ) (integer float : Bool) (magnitude : Option ℕ) : Type 0 where
-  suffix : List ℕ
-  other : List ℕ
-  int_is : cond integer (Some (magnitude, suffix)) None ≡ capped_int (int_at t)
-  float_is : cond float (Some other) None ≡ float_at t
+pub record Numbers (t : List ℕ) (integer float : Bool) (magnitude : Option ℕ) : Type 0 where
+  pub suffix : List ℕ
+  pub other : List ℕ
+  pub int_is : cond integer (Some (magnitude, suffix)) None ≡ capped_int (int_at t)
+  pub float_is : cond float (Some other) None ≡ float_at t
 
 -- one stands
-number_reads : (t : List ℕ) (i f : Bool) (m : Option ℕ) → Numbers t i f m → cond i (not (is_none m)) f ≡ true → HasReading t
+pub number_reads : (t : List ℕ) (i f : Bool) (m : Option ℕ) → Numbers t i f m → cond i (not (is_none m)) f ≡ true → HasReading t
 number_reads t true f None n h = absurd (cc)
 number_reads t true f (Some m) n h =
     let r = within_reads t n.suffix m (is_within t n.suffix m n.int_is) in
@@ -60,13 +60,9 @@ number_stuck t false true m front n h r = absurd (cc)
 -- ---- from what follows some front to the whole text
 
 -- which numbers stand with this front
-record Fronted (first : ℕ → Bool) (reads : List ℕ → Bool) (pre : List ℕ) : Type 0 where
-  good : (x : List ℕ) → first_passes first x ≡ false → reads x ≡ true → HasReading (pre ++ x)
-  bad : (x : List ℕ) → first_passes first x ≡ false → reads x ≡ false → HasReading (pre ++ x) → ⊥
-
-goes_on : (test : ℕ → Bool) (front rest t : List ℕ) (c : ℕ) (cs e : List ℕ) → t ≡ front ++ rest → rest ≡ c ∷ cs → first_passes test t ≡ false → first_passes test (front ++ (c ∷ e)) ≡ false
-goes_on test [] rest t c cs e a b k = sym (ap (first_passes test) (a ∙ b)) ∙ k
-goes_on test (x ∷ xs) rest t c cs e a b k = sym (ap (first_passes test) a) ∙ k
+pub record Fronted (first : ℕ → Bool) (reads : List ℕ → Bool) (pre : List ℕ) : Type 0 where
+  pub good : (x : List ℕ) → first_passes first x ≡ false → reads x ≡ true → HasReading (pre ++ x)
+  pub bad : (x : List ℕ) → first_passes first x ≡ false → reads x ≡ false → HasReading (pre ++ x) → ⊥
 
 whole_stops : (first : ℕ → Bool) (reads : List ℕ → Bool) (pre t rest : List ℕ) → first_passes first t ≡ false → Fronted first reads pre → Halts first reads t rest → StopsBefore (pre ++ t) rest
 whole_stops first reads pre t rest ok f h = record {
@@ -84,7 +80,7 @@ whole_stops first reads pre t rest ok f h = record {
 -- ---- base ten
 
 -- a letter that names a base after this whole part
-names : List ℕ → ℕ → Bool
+abbrev pub names : List ℕ → ℕ → Bool
 names [] c = false
 names (a ∷ []) c = a == 48 && not (radix_of c == 10)
 names (a ∷ b ∷ ws) c = false
@@ -98,8 +94,8 @@ not_named true r cs u h = go (r == 10) refl h
     go false e k = let same : false ≡ true = sym e ∙ ap (λ z. z == 10) k in absurd (cc)
 
 -- what follows the whole part of a number in base ten names no base
-names_none : (w z : List ℕ) → (radix_at (w ++ z)).0 ≡ 10 → first_passes (names w) z ≡ false
-unfolding radix_at names
+pub names_none : (w z : List ℕ) → (radix_at (w ++ z)).0 ≡ 10 → first_passes (names w) z ≡ false
+unfolding radix_at
 names_none w [] h = refl
 names_none [] (c ∷ cs) h = refl
 names_none (a ∷ []) (c ∷ cs) h = not_named (a == 48) (radix_of c) cs (a ∷ c ∷ cs) h
@@ -107,17 +103,17 @@ names_none (a ∷ b ∷ ws) (c ∷ cs) h = refl
 
 -- and where no base is named, the number is in base ten
 ten_stays : (w z x : List ℕ) → first_passes is_ascii_digit w ≡ true → (radix_at (w ++ z)).0 ≡ 10 → first_passes (names w) x ≡ false → radix_at (w ++ x) ≡ (10, w ++ x)
-unfolding radix_at names
+unfolding radix_at
 ten_stays [] z x d h k = absurd (cc)
 ten_stays (a ∷ []) z [] d h k = refl
 ten_stays (a ∷ []) z (c ∷ cs) d h k = ap (λ b. cond {A = ℕ × List ℕ} b (radix_of c, cs) (10, a ∷ c ∷ cs)) k
 ten_stays (a ∷ b ∷ ws) z x d h k = ap (λ t. cond {A = ℕ × List ℕ} t (radix_of b, ws ++ x) (10, a ∷ b ∷ (ws ++ x))) (not_named (a == 48) (radix_of b) (ws ++ z) (a ∷ b ∷ (ws ++ z)) h)
 
 -- what may follow the whole part
-ten_first : List ℕ → ℕ → Bool
+abbrev pub ten_first : List ℕ → ℕ → Bool
 ten_first w c = is_row_part (has_value 10) c || names w c
 
-both_fail : (f g : ℕ → Bool) (z : List ℕ) → first_passes f z ≡ false → first_passes g z ≡ false → first_passes (λ c. f c || g c) z ≡ false
+pub both_fail : (f g : ℕ → Bool) (z : List ℕ) → first_passes f z ≡ false → first_passes g z ≡ false → first_passes (λ c. f c || g c) z ≡ false
 both_fail f g [] h k = refl
 both_fail f g (c ∷ cs) h k = or_from (f c) (g c) h k
 
@@ -125,8 +121,7 @@ each_fails : (f g : ℕ → Bool) (z : List ℕ) → first_passes (λ c. f c || 
 each_fails f g [] h = (refl, refl)
 each_fails f g (c ∷ cs) h = or_parts (f c) (g c) h
 
-names_no_dot : (w : List ℕ) → names w 46 ≡ false
-unfolding names
+pub names_no_dot : (w : List ℕ) → names w 46 ≡ false
 names_no_dot [] = refl
 names_no_dot (a ∷ []) = and_right (a == 48) false refl
 names_no_dot (a ∷ b ∷ ws) = refl
@@ -138,8 +133,7 @@ signed_front NoSign [] h = absurd (cc)
 signed_front NoSign (c ∷ cs) h = or_right (c == 45) (is_ascii_digit c) h
 
 -- the numbers with this whole part
-ten_numbers : (s : Sign) (w z x : List ℕ) → first_passes is_ascii_digit w ≡ true → list_all (is_row_part (has_value 10)) w ≡ true → (radix_at (w ++ z)).0 ≡ 10 → first_passes (ten_first w) x ≡ false → Numbers ((sign_text s ++ w) ++ x) (may_end 10 x) (is_suffix (after_exponent (after_fraction x))) (capped (place_value 10 (without_underscores w)))
-unfolding ten_first
+pub ten_numbers : (s : Sign) (w z x : List ℕ) → first_passes is_ascii_digit w ≡ true → list_all (is_row_part (has_value 10)) w ≡ true → (radix_at (w ++ z)).0 ≡ 10 → first_passes (ten_first w) x ≡ false → Numbers ((sign_text s ++ w) ++ x) (may_end 10 x) (is_suffix (after_exponent (after_fraction x))) (capped (place_value 10 (without_underscores w)))
 ten_numbers s w z x first each ten ok =
     let k = each_fails (is_row_part (has_value 10)) (names w) x ok in
     let t = (sign_text s ++ w) ++ x in
@@ -157,7 +151,7 @@ ten_numbers s w z x first each ten ok =
     any_digit [] h = absurd (cc)
     any_digit (c ∷ cs) h = ap (λ b. b || list_any (has_value 10) cs) (sym (digit_is_ten c) ∙ h)
 
-ten_fronted : (s : Sign) (w z : List ℕ) → first_passes is_ascii_digit w ≡ true → list_all (is_row_part (has_value 10)) w ≡ true → (radix_at (w ++ z)).0 ≡ 10 → Fronted (ten_first w) (tail_reads (is_none (capped (place_value 10 (without_underscores w))))) (sign_text s ++ w)
+pub ten_fronted : (s : Sign) (w z : List ℕ) → first_passes is_ascii_digit w ≡ true → list_all (is_row_part (has_value 10)) w ≡ true → (radix_at (w ++ z)).0 ≡ 10 → Fronted (ten_first w) (tail_reads (is_none (capped (place_value 10 (without_underscores w))))) (sign_text s ++ w)
 ten_fronted s w z first each ten =
     let m = capped (place_value 10 (without_underscores w)) in
     record {
@@ -169,7 +163,6 @@ ten_fronted s w z first each ten =
 
 -- the text after the sign is in base ten
 pub ten_stops : (t : List ℕ) → first_passes is_ascii_digit (after_minus t) ≡ true → radix_at (after_minus t) ≡ (10, after_minus t) → StopsBefore t (tail_flaw_at (is_past_at 10 (after_minus t)) (after_digits 10 (after_minus t))).1
-unfolding ten_first
 ten_stops t first at =
     let u = after_minus t in
     let s = sign_at t in
@@ -196,29 +189,29 @@ unfolding unicode_ident
 dot_begins_none = refl
 
 -- whether a number stands, by what follows the prefix: an integer, or the float 0 with a suffix
-based_reads : ℕ → List ℕ → Bool
+abbrev pub based_reads : ℕ → List ℕ → Bool
 based_reads r y = cond (has_digit_at r y && is_suffix (after_digits r y)) (not (is_past_at r y)) (list_all is_xid_continue y)
 
 -- the bases with a prefix, and their letters
-record IsPrefixed (r letter : ℕ) : Type 0 where
-  few : r ≤ 16
-  some : 1 ≤ r
-  other : (r == 10) ≡ false
-  starts : is_xid_start letter ≡ true
-  no_part : is_row_part (has_value 10) letter ≡ false
-  no_dot : (letter == 46) ≡ false
-  no_exponent : is_exponent_letter letter ≡ false
-  base_is : (y : List ℕ) → radix_at (48 ∷ letter ∷ y) ≡ (r, y)
+pub record IsPrefixed (r letter : ℕ) : Type 0 where
+  pub few : r ≤ 16
+  pub some : 1 ≤ r
+  pub other : (r == 10) ≡ false
+  pub starts : is_xid_start letter ≡ true
+  pub no_part : is_row_part (has_value 10) letter ≡ false
+  pub no_dot : (letter == 46) ≡ false
+  pub no_exponent : is_exponent_letter letter ≡ false
+  pub base_is : (y : List ℕ) → radix_at (48 ∷ letter ∷ y) ≡ (r, y)
 
-binary : IsPrefixed 2 98
+pub binary : IsPrefixed 2 98
 unfolding radix_at
 binary = record { few = omega arith; some = omega arith; other = refl; starts = is_xid_start-ascii 98 (omega arith); no_part = refl; no_dot = refl; no_exponent = refl; base_is = λ y. refl }
 
-octal : IsPrefixed 8 111
+pub octal : IsPrefixed 8 111
 unfolding radix_at
 octal = record { few = omega arith; some = omega arith; other = refl; starts = is_xid_start-ascii 111 (omega arith); no_part = refl; no_dot = refl; no_exponent = refl; base_is = λ y. refl }
 
-hexadecimal : IsPrefixed 16 120
+pub hexadecimal : IsPrefixed 16 120
 unfolding radix_at
 hexadecimal = record { few = omega arith; some = omega arith; other = refl; starts = is_xid_start-ascii 120 (omega arith); no_part = refl; no_dot = refl; no_exponent = refl; base_is = λ y. refl }
 
@@ -240,7 +233,7 @@ zero_float r l y k =
     ∙ ap (λ b. cond b (Some (l ∷ y)) None) (suffix_is l y k.starts)
 
 -- the numbers with such a prefix
-based_numbers : (s : Sign) (r l : ℕ) (y : List ℕ) → IsPrefixed r l → Numbers (sign_text s ++ (48 ∷ l ∷ y)) (has_digit_at r y && is_suffix (after_digits r y)) (list_all is_xid_continue y) (capped (magnitude_at r y))
+pub based_numbers : (s : Sign) (r l : ℕ) (y : List ℕ) → IsPrefixed r l → Numbers (sign_text s ++ (48 ∷ l ∷ y)) (has_digit_at r y && is_suffix (after_digits r y)) (list_all is_xid_continue y) (capped (magnitude_at r y))
 unfolding float_at
 based_numbers s r l y k =
     let t = sign_text s ++ (48 ∷ l ∷ y) in
@@ -264,8 +257,7 @@ based_numbers s r l y k =
     kept true = refl
     kept false = refl
 
-based_fronted : (s : Sign) (r l : ℕ) → IsPrefixed r l → Fronted (λ c. false) (based_reads r) (sign_text s ++ (48 ∷ l ∷ []))
-unfolding based_reads
+pub based_fronted : (s : Sign) (r l : ℕ) → IsPrefixed r l → Fronted (λ c. false) (based_reads r) (sign_text s ++ (48 ∷ l ∷ []))
 based_fronted s r l k = record {
   good = λ y ok h. subst HasReading (sym (append_assoc (sign_text s) (48 ∷ l ∷ []) y)) (number_reads (sign_text s ++ (48 ∷ l ∷ y)) (has_digit_at r y && is_suffix (after_digits r y)) (list_all is_xid_continue y) (capped (magnitude_at r y)) (based_numbers s r l y k) h);
   bad = λ y ok h q. number_stuck (sign_text s ++ (48 ∷ l ∷ y)) (has_digit_at r y && is_suffix (after_digits r y)) (list_all is_xid_continue y) (capped (magnitude_at r y)) (signed_front s (48 ∷ l ∷ y) refl) (based_numbers s r l y k) h (subst HasReading (append_assoc (sign_text s) (48 ∷ l ∷ []) y) q);
@@ -273,7 +265,6 @@ based_fronted s r l k = record {
 
 -- what goes on with more than an identifier is no number
 based_none : (r : ℕ) (y : List ℕ) → r ≤ 16 → list_all is_xid_continue y ≡ false → based_reads r y ≡ false
-unfolding based_reads
 based_none r y few h =
     let row = digit_row_at r y in
     let x = after_digits r y in
@@ -295,7 +286,7 @@ no_digits r (c ∷ cs) h k =
     let mark : (c == 95) ≡ true = sym (ap (λ z. z || (c == 95)) b.0) ∙ a.0 in
     ap (λ z. cond (not z) (c ∷ without_underscores cs) (without_underscores cs)) mark ∙ no_digits r cs a.1 b.1
 
-past_has_digit : (r : ℕ) (y : List ℕ) → is_past_at r y ≡ true → has_digit_at r y ≡ true
+pub past_has_digit : (r : ℕ) (y : List ℕ) → is_past_at r y ≡ true → has_digit_at r y ≡ true
 past_has_digit r y h = go (has_digit_at r y) refl
   where
     go : (b : Bool) → has_digit_at r y ≡ b → b ≡ true
@@ -306,7 +297,6 @@ past_has_digit r y h = go (has_digit_at r y) refl
 
 -- a row, and whether its number stands, by what follows it
 row_read : (r : ℕ) (y x : List ℕ) → first_passes (is_row_part (has_value r)) x ≡ false → based_reads r (digit_row_at r y ++ x) ≡ cond (has_digit_at r y && is_suffix x) (not (is_past_at r y)) (list_all is_xid_continue (digit_row_at r y ++ x))
-unfolding based_reads
 row_read r y x stops =
     let row = digit_row_at r y in
     let k = run_past (is_row_part (has_value r)) row x (run_all (is_row_part (has_value r)) y) stops in
@@ -322,11 +312,11 @@ dot_no_suffix = suffix_not 0xB7 [] dot_begins_none
 all_dotted : (xs : List ℕ) → list_all is_xid_continue xs ≡ true → list_all is_xid_continue (xs ++ (0xB7 ∷ [])) ≡ true
 all_dotted xs h = all_off is_xid_continue xs (0xB7 ∷ []) h ∙ and_from (is_xid_continue 0xB7) true dot_goes_on refl
 
-never : (x : List ℕ) → first_passes (λ c. false) x ≡ false
+pub never : (x : List ℕ) → first_passes (λ c. false) x ≡ false
 never [] = refl
 never (c ∷ cs) = refl
 
-no_integer : (b : Bool) (q : Bool) → cond (b && false) q true ≡ true
+pub no_integer : (b : Bool) (q : Bool) → cond (b && false) q true ≡ true
 no_integer true q = refl
 no_integer false q = refl
 
@@ -428,7 +418,7 @@ based_halts r y few = go (is_past_at r y && ends_or_passes is_xid_start (after_d
     go true h = let p = and_parts (is_past_at r y) (ends_or_passes is_xid_start (after_digits r y)) h in past_halts r y few p.0 p.1
     go false h = based_word_halts r y few h
 
-based_stops : (t : List ℕ) (r l : ℕ) (y : List ℕ) → IsPrefixed r l → after_minus t ≡ 48 ∷ l ∷ y → StopsBefore t (based_flaw_at r y).1
+pub based_stops : (t : List ℕ) (r l : ℕ) (y : List ℕ) → IsPrefixed r l → after_minus t ≡ 48 ∷ l ∷ y → StopsBefore t (based_flaw_at r y).1
 based_stops t r l y k e =
     let s = sign_at t in
     let is : (sign_text s ++ (48 ∷ l ∷ [])) ++ y ≡ t = append_assoc (sign_text s) (48 ∷ l ∷ []) y ∙ ap (λ v. sign_text s ++ v) (sym e) ∙ sym (sign_join t) in
@@ -437,7 +427,7 @@ based_stops t r l y k e =
 -- ---- any number
 
 -- after the sign stands a digit
-digits_stop : (t : List ℕ) → first_passes is_ascii_digit (after_minus t) ≡ true → StopsBefore t (unsigned_number_flaw_at (after_minus t)).1
+pub digits_stop : (t : List ℕ) → first_passes is_ascii_digit (after_minus t) ≡ true → StopsBefore t (unsigned_number_flaw_at (after_minus t)).1
 unfolding unsigned_number_flaw_at
 digits_stop t first = go b.base b.rest b.at b.text_is
   where
@@ -460,7 +450,7 @@ unfolding radix_at
 one_is_ten = refl
 
 -- after a minus stands none
-minus_stops : (u : List ℕ) → first_passes is_ascii_digit u ≡ false → StopsBefore (45 ∷ u) u
+pub minus_stops : (u : List ℕ) → first_passes is_ascii_digit u ≡ false → StopsBefore (45 ∷ u) u
 unfolding is_exponent_suffix
 minus_stops u h = record {
   front = 45 ∷ [];
@@ -476,21 +466,6 @@ minus_stops u h = record {
       only_number t refl (no_number t (no_int t (no_head_int t no_digit)) (no_float t (no_head_float t no_digit))) r.0 r.1.0 r.1.1 r.1.2;
 }
 
-end_rest : (a b : FlawKind) (t : List ℕ) → (end_flaw_at a b t).1 ≡ t
+pub end_rest : (a b : FlawKind) (t : List ℕ) → (end_flaw_at a b t).1 ≡ t
 end_rest a b [] = refl
 end_rest a b (c ∷ cs) = refl
-
--- ---- the code's two ways
-
-pub digits_place : (t u rest : List ℕ) → u ≡ after_minus t → first_passes is_ascii_digit u ≡ true → rest ≡ (unsigned_number_flaw_at u).1 → StopsBefore t rest
-digits_place t u rest is first at = subst (StopsBefore t) (ap (λ v. (unsigned_number_flaw_at v).1) (sym is) ∙ sym at) (digits_stop t (ap (first_passes is_ascii_digit) (sym is) ∙ first))
-
-pub minus_place : (t u rest : List ℕ) → first_passes is_number_front t ≡ true → u ≡ after_minus t → first_passes is_ascii_digit u ≡ false → rest ≡ (end_flaw_at Unfinished NoNumber u).1 → StopsBefore t rest
-minus_place [] u rest front is first at = absurd (cc)
-minus_place (c ∷ cs) u rest front is first at = go (c == 45) refl is
-  where
-    go : (m : Bool) → (c == 45) ≡ m → u ≡ cond m cs (c ∷ cs) → StopsBefore (c ∷ cs) rest
-    go true q e =
-        let same : rest ≡ cs = at ∙ end_rest Unfinished NoNumber u ∙ e in
-        subst (λ z. StopsBefore (z ∷ cs) rest) (sym (eqb-true c 45 q)) (subst (StopsBefore (45 ∷ cs)) (sym same) (minus_stops cs (ap (first_passes is_ascii_digit) (sym e) ∙ first)))
-    go false q e = absurd (both_ways (is_number_front c) (or_from (c == 45) (is_ascii_digit c) q (ap (first_passes is_ascii_digit) (sym e) ∙ first)) front)

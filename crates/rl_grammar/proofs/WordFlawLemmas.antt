@@ -1,16 +1,17 @@
 -- Where a text that begins neither as a number nor as a quoted literal stops being the front of a
 -- truth value.
-use Rattle.std.proofs.Common.{◌≡◌, ◌≢◌, ℕ, Bool, true, false, cond, ◌||◌, ◌==◌, List, [], ◌∷◌, ◌++◌, None, Some, inl, refl, sym, ap, subst, ◌∙◌}
+use Rattle.std.proofs.Common.{◌≡◌, ◌≢◌, ℕ, Bool, true, false, cond, ◌||◌, ◌==◌, List, [], ◌∷◌, ◌++◌, None, Some, inl, inr, ◌⊎◌, refl, sym, ap, subst, ◌∙◌, append-nil}
 use Rattle.std.specs.Char.{IsScalar, is_ascii_digit}
 use Rattle.std.specs.List.{AllByRecursion}
 use Rattle.std.proofs.lemmas.Bool.{both_ways, eq-eqb, eqb-true, or_parts}
-use Rattle.std.proofs.lemmas.List.{append_cancel_left}
+use Rattle.std.proofs.lemmas.List.{append_cancel_left, append_cancel_right}
 use Rattle.rl_tokens.specs.declared.kind.Kind.{Kind}
 use Rattle.rl_tokens.specs.declared.kind.Kind.TheVariants.{Bool as BoolKind, Byte, ByteStr, Char, CStr, Str}
 use Rattle.rl_tokens.specs.Quoted.{is_string, opener}
 use Rattle.rl_tokens.specs.Reading.{HasContents, HasNoTruth, HasReading, Truth, quoted_contents, truth_text}
 use Rattle.rl_tokens.specs.Texts.{first_passes}
 use Rattle.rl_grammar.specs.Flaws.{BeginsLiteral, StopsBefore}
+use Rattle.rl_grammar.specs.NumberFlaws.{BeginsTruth, HasKind, IsWordFlaw}
 use Rattle.rl_grammar.specs.declared.quoted_forms.QuotedForm.{QuotedForm}
 use Rattle.rl_grammar.specs.declared.quoted_forms.QuotedForm.TheVariants.{Cooked as CookedForm, Raw as RawForm, Single as SingleForm}
 use Rattle.rl_grammar.specs.WholeShapes.{is_number_front}
@@ -18,7 +19,7 @@ use Rattle.rl_grammar.specs.declared.flaws.FlawKind.{FlawKind}
 use Rattle.rl_grammar.specs.declared.flaws.FlawKind.TheVariants.{Empty, Unfinished, NoLiteral}
 use Rattle.rl_grammar.specs.Mirrors.NumberFlawAt.{end_flaw_at}
 use Rattle.rl_grammar.specs.Mirrors.OpenerAt.{FoundOpener, byte_opener_at, found_opener, opener_at, string_opener_at}
-use Rattle.rl_grammar.specs.Mirrors.UnitFlawAt.{found_flaw}
+use Rattle.rl_grammar.specs.Mirrors.UnitFlawAt.{FoundFlaw, found_flaw}
 use Rattle.rl_grammar.specs.Mirrors.WordFlawAt.{after_letters, word_flaw_at}
 use Rattle.rl_grammar.proofs.FormLemmas.{no_front}
 use Rattle.rl_grammar.proofs.ReadingLemmas.{no_front_number, no_reading}
@@ -207,7 +208,7 @@ end_rest : (a b : FlawKind) (t : List ℕ) → (end_flaw_at a b t).1 ≡ t
 end_rest a b [] = refl
 end_rest a b (c ∷ cs) = refl
 
-pub word_stops : (t : List ℕ) → first_passes is_number_front t ≡ false → opener_at t ≡ None → StopsBefore t (word_flaw_at t).1
+word_stops : (t : List ℕ) → first_passes is_number_front t ≡ false → opener_at t ≡ None → StopsBefore t (word_flaw_at t).1
 unfolding word_flaw_at
 word_stops [] number none = record {
   front = [];
@@ -232,6 +233,61 @@ word_stops (c ∷ cs) number none = go (c == 98) (c == 99) (c == 116) (c == 102)
     go false false false true hb hk ht hf = ends (after_letters (truth_text false) (c ∷ cs)) (subst (λ z. StopsBefore (z ∷ cs) (after_letters (truth_text false) (z ∷ cs))) (sym (eqb-true c 102 hf)) (false_stops cs))
     go false false false false hb hk ht hf = no_front_stops c cs (ap (λ z. z || (c == 99)) hb ∙ hk) ht hf none number
 
--- the code's place
-pub word_place : (t rest : List ℕ) → first_passes is_number_front t ≡ false → opener_at t ≡ None → rest ≡ (word_flaw_at t).1 → StopsBefore t rest
-word_place t rest number none same = subst (StopsBefore t) (sym same) (word_stops t number none)
+-- ---- what the kind says
+
+truth_kind : (b : Bool) (t front : List ℕ) → t ≢ [] → t ≡ front ++ after_letters (truth_text b) t → IsWordFlaw (end_flaw_at Unfinished NoLiteral (after_letters (truth_text b) t)).0 front (end_flaw_at Unfinished NoLiteral (after_letters (truth_text b) t)).1
+truth_kind b t front some is = go (after_letters (truth_text b) t) refl
+  where
+    k : Common (truth_text b) t
+    k = common (truth_text b) t
+
+    begins : BeginsTruth front
+    begins = record { truth = b; more = k.left; word_is = k.word_is ∙ ap (λ z. z ++ k.left) (append_cancel_right k.front front (after_letters (truth_text b) t) (sym k.text_is ∙ is)) }
+
+    go : (rest : List ℕ) → after_letters (truth_text b) t ≡ rest → IsWordFlaw (end_flaw_at Unfinished NoLiteral rest).0 front (end_flaw_at Unfinished NoLiteral rest).1
+    go [] e = ((λ n. some (is ∙ ap (λ z. front ++ z) e ∙ append-nil front ∙ n)), inr (inr begins), refl)
+    go (c ∷ cs) e = (inr (inr begins), λ n. absurd (cc))
+
+letter_kind : (c : ℕ) (cs front : List ℕ) → (c ≡ 98) ⊎ (c ≡ 99) → c ∷ cs ≡ front ++ cs → IsWordFlaw (end_flaw_at Unfinished NoLiteral cs).0 front (end_flaw_at Unfinished NoLiteral cs).1
+letter_kind c cs front letter is = go cs letter
+  where
+    same : front ≡ c ∷ []
+    same = sym (append_cancel_right (c ∷ []) front cs is)
+
+    some : front ≢ []
+    some n = let k : c ∷ [] ≡ [] = sym same ∙ n in absurd (cc)
+
+    go : (rest : List ℕ) → (c ≡ 98) ⊎ (c ≡ 99) → IsWordFlaw (end_flaw_at Unfinished NoLiteral rest).0 front (end_flaw_at Unfinished NoLiteral rest).1
+    go [] (inl e) = (some, inl (same ∙ ap (λ z. z ∷ []) e), refl)
+    go [] (inr e) = (some, inr (inl (same ∙ ap (λ z. z ∷ []) e)), refl)
+    go (d ∷ ds) (inl e) = (inl (same ∙ ap (λ z. z ∷ []) e), λ n. absurd (cc))
+    go (d ∷ ds) (inr e) = (inr (inl (same ∙ ap (λ z. z ∷ []) e)), λ n. absurd (cc))
+
+word_kind : (t : List ℕ) → HasKind (IsWordFlaw (word_flaw_at t).0) t (word_flaw_at t).1
+unfolding word_flaw_at
+word_kind [] = λ front is. (sym (is ∙ append-nil front), refl)
+word_kind (c ∷ cs) = go (c == 98) (c == 99) (c == 116) (c == 102) refl refl
+  where
+    Kind : FoundFlaw → Type 0
+    Kind f = HasKind (IsWordFlaw f.0) (c ∷ cs) f.1
+
+    worded : (b : Bool) (front : List ℕ) → c ∷ cs ≡ front ++ (end_flaw_at Unfinished NoLiteral (after_letters (truth_text b) (c ∷ cs))).1 → IsWordFlaw (end_flaw_at Unfinished NoLiteral (after_letters (truth_text b) (c ∷ cs))).0 front (end_flaw_at Unfinished NoLiteral (after_letters (truth_text b) (c ∷ cs))).1
+    worded b front is = truth_kind b (c ∷ cs) front (λ n. absurd (cc)) (is ∙ ap (λ z. front ++ z) (end_rest Unfinished NoLiteral (after_letters (truth_text b) (c ∷ cs))))
+
+    lettered : (c ≡ 98) ⊎ (c ≡ 99) → Kind (end_flaw_at Unfinished NoLiteral cs)
+    lettered letter front is = letter_kind c cs front letter (is ∙ ap (λ z. front ++ z) (end_rest Unfinished NoLiteral cs))
+
+    go : (b k t f : Bool) → (c == 98) ≡ b → (c == 99) ≡ k → Kind (cond (b || k) (end_flaw_at Unfinished NoLiteral cs) (cond t (end_flaw_at Unfinished NoLiteral (after_letters (truth_text true) (c ∷ cs))) (cond f (end_flaw_at Unfinished NoLiteral (after_letters (truth_text false) (c ∷ cs))) (found_flaw NoLiteral (c ∷ cs)))))
+    go true k t f hb hk = lettered (inl (eqb-true c 98 hb))
+    go false true t f hb hk = lettered (inr (eqb-true c 99 hk))
+    go false false true f hb hk = worded true
+    go false false false true hb hk = worded false
+    go false false false false hb hk = λ front is. (inr (inr (record { truth = true; more = truth_text true; word_is = ap (λ z. z ++ truth_text true) (append_cancel_right [] front (c ∷ cs) is) })), λ n. absurd (cc))
+
+-- the code's flaw
+pub record IsFlaw (t : List ℕ) (flaw : FoundFlaw) : Type 0 where
+  pub stops : StopsBefore t flaw.1
+  pub kind : HasKind (IsWordFlaw flaw.0) t flaw.1
+
+pub word_place : (t : List ℕ) (flaw : FoundFlaw) → first_passes is_number_front t ≡ false → opener_at t ≡ None → flaw ≡ word_flaw_at t → IsFlaw t flaw
+word_place t flaw number none same = subst (IsFlaw t) (sym same) (record { stops = word_stops t number none; kind = word_kind t })

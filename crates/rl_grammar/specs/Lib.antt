@@ -1,6 +1,5 @@
 pub mod Flaws
-pub mod FlawWords
-pub mod FlawKinds
+pub mod NumberFlaws
 pub mod NumberShapes
 pub mod NumbersRead
 pub mod Rows

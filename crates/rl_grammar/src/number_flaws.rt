@@ -4,7 +4,9 @@ ghost use Rattle.std.specs.Prelude.{◌≡◌, ◌≤◌, IsTrue};
 ghost use Rattle.std.specs.Str.{chars};
 ghost use Rattle.unicode_ident.specs.Ident.{is_xid_continue, is_xid_start};
 ghost use Rattle.rl_tokens.specs.Texts.{first_passes};
+ghost use Rattle.rl_tokens.specs.Reading.{HasNoReading};
 ghost use Rattle.rl_grammar.specs.Flaws.{StopsBefore};
+ghost use Rattle.rl_grammar.specs.NumberFlaws.{HasKind, IsNumberFlaw};
 ghost use Rattle.rl_grammar.specs.WholeShapes.{is_number_front};
 ghost use Rattle.rl_grammar.specs.Mirrors.NumberFlawAt.{after_word, based_flaw_at, end_flaw_at, ends_or_passes, exponent_flaw_at, power_flaw_at, signed_flaw_at, suffix_flaw_at, tail_flaw_at, unsigned_flaw_at, unsigned_number_flaw_at, word_flaw_at};
 ghost use Rattle.rl_grammar.specs.Mirrors.UnitFlawAt.{found_flaw};
@@ -190,10 +192,12 @@ fn unsigned_number_flaw(text: &str) -> FlawAt<'_>
     }
 }
 
-/// Why a text that begins as a number is none, where it is none, and the text from the place on.
+/// Why a text that begins as a number is none, and the text from the place on.
 pub(crate) fn number_flaw(text: &str) -> FlawAt<'_>
-    requires { IsTrue (first_passes is_number_front (chars text.now)) }
-    ensures { StopsBefore (chars text.now) (chars result.rest.now) }
+    requires number { IsTrue (first_passes is_number_front (chars text.now)) }
+    requires none { HasNoReading (chars text.now) }
+    ensures stops { StopsBefore (chars text.now) (chars result.rest.now) }
+    ensures kind { HasKind (IsNumberFlaw result.kind) (chars text.now) (chars result.rest.now) }
 {
     let unsigned = after_minus(text);
     if begins_digit(unsigned) {

@@ -4,6 +4,7 @@ ghost use Rattle.std.specs.Prelude.{◌≡◌, None, IsFalse};
 ghost use Rattle.std.specs.Str.{chars};
 ghost use Rattle.rl_tokens.specs.Texts.{first_passes};
 ghost use Rattle.rl_grammar.specs.Flaws.{StopsBefore};
+ghost use Rattle.rl_grammar.specs.NumberFlaws.{HasKind, IsWordFlaw};
 ghost use Rattle.rl_grammar.specs.WholeShapes.{is_number_front};
 ghost use Rattle.rl_grammar.specs.declared.flaws.FlawKind.TheVariants.{Unfinished, NoLiteral};
 ghost use Rattle.rl_grammar.specs.Mirrors.NumberFlawAt.{end_flaw_at};
@@ -64,7 +65,8 @@ fn first_flaw(text: &str) -> FlawAt<'_>
 pub(crate) fn word_flaw(text: &str) -> FlawAt<'_>
     requires no_number { IsFalse (first_passes is_number_front (chars text.now)) }
     requires no_opener { opener_at (chars text.now) ≡ None }
-    ensures { StopsBefore (chars text.now) (chars result.rest.now) }
+    ensures stops { StopsBefore (chars text.now) (chars result.rest.now) }
+    ensures kind { HasKind (IsWordFlaw result.kind) (chars text.now) (chars result.rest.now) }
 {
     first_flaw(text)
 }
