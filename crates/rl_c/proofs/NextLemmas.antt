@@ -32,18 +32,18 @@ with_rest old new n r (inr t) = inr (record {
 })
 
 takes_less : (old new : CursorState) (n : Next) → TakesNextLiteral old n new → length new.rest ≤ length old.rest
-takes_less old new n (inl t) = behind_length _ _ t.takes.behind
-takes_less old new n (inr t) = omega (arith, behind_length _ _ t.takes_minus.behind, behind_length _ _ t.takes_number.behind)
+takes_less old new n (inl t) = behind_length _ _ t.takes.following
+takes_less old new n (inr t) = omega (arith, behind_length _ _ t.takes_minus.following, behind_length _ _ t.takes_number.following)
 
 pub begins : (text lent : List ℕ) (start tokens new : CursorState) (n : Next) (rest : List ℕ) → lent ≡ text → start.text ≡ lent → Skipped (chars lent) (chars start.rest) → IsCursorState lent start.rest → tokens ≡ start → TakesNextLiteral tokens n new → rest ≡ new.rest → BeginsLiteral text (record n { rest_at = length lent - length rest })
 begins text lent start tokens new n rest same of skipped state is takes left =
     let t : TakesNextLiteral start n new = subst (λ z. TakesNextLiteral z n new) is takes in
     record {
       start = start;
-      behind = new;
+      following = new;
       starts = record { text_is = of ∙ same; skipped = subst (λ z. Skipped (chars z) (chars start.rest)) same skipped };
       takes = with_rest start new n (length lent - length rest) t;
-      rest_is = omega (arith, ap length same, ap length left, takes_less start new n t, behind_length _ _ state.behind);
+      rest_is = omega (arith, ap length same, ap length left, takes_less start new n t, behind_length _ _ state.following);
     }
 
 pub ends : (text lent rest left : List ℕ) → lent ≡ text → Skipped (chars lent) (chars rest) → left ≡ rest → (length left == 0) ≡ true → Skipped (chars text) []

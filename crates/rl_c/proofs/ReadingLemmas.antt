@@ -13,7 +13,7 @@ use Rattle.rl_grammar.proofs.NumberFoundLemmas.{found_float}
 use Rattle.rl_grammar.proofs.SingleBodies.{single_at}
 use Rattle.rl_tokens.proofs.OneNumber.{float_once}
 use Rattle.rl_c.specs.declared.reading.Reading.{Reading}
-use Rattle.rl_c.specs.Crossing.{Tells, IsOfKind}
+use Rattle.rl_c.specs.Crossing.{Reports, IsOfKind}
 
 -- the body of a byte or a character
 pub single_of : (kind : Kind) (t body : List ℕ) (reading : Reading) → is_single kind ≡ true → IsOfKind kind t reading → body ≡ slice_range t reading.at reading.end → HasSingleBody kind (chars t) body

@@ -19,7 +19,7 @@ kind_number Float = 7
 kind_number Bool = 8
 
 -- The numbers tell what was found.
-pub record Tells (found : Found) (reading : Reading) : Type 0 where
+pub record Reports (found : Found) (reading : Reading) : Type 0 where
   pub kind_is : reading.kind ≡ kind_number found.kind
   pub at_is : reading.at ≡ found.body.lo
   pub end_is : reading.end ≡ found.body.hi
@@ -28,14 +28,14 @@ pub record Tells (found : Found) (reading : Reading) : Type 0 where
   pub magnitude_is : found.magnitude ≡ reading.high * 2 ^ 64 + reading.low
 
 -- The numbers tell what reading the text, in bytes, finds.
-abbrev pub TellsReading : List ℕ → Reading → Type 0
-TellsReading text reading = (found : Found) × IsFound text found × Tells found reading
+abbrev pub ReportsReading : List ℕ → Reading → Type 0
+ReportsReading text reading = (found : Found) × IsFound text found × Reports found reading
 
 -- and that is a literal of the kind
 pub record IsOfKind (kind : Kind) (text : List ℕ) (reading : Reading) : Type 0 where
   pub found : Found
   pub is_found : IsFound text found
-  pub tells : Tells found reading
+  pub tells : Reports found reading
   pub kind_is : found.kind ≡ kind
 
 -- whose body isn't plain

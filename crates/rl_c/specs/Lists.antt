@@ -7,11 +7,11 @@ use Rattle.rl_tokens.specs.declared.lex_error.LexKind.{LexKind}
 use Rattle.rl_tokens.specs.declared.lex_error.LexKind.TheVariants.{DocComment, UnclosedComment, UnclosedQuote, Lifetime, RawIdentifier, StrayCharacter, UnmatchedClose, UnclosedGroup, TooDeep, Memory}
 use Rattle.rl_tokens.specs.Cursors.{CursorState, TakesNext, form_view}
 use Rattle.rl_tokens.specs.Lexemes.{LexemeForm, LiteralForm, IdentifierForm, DelimiterForm, MarkForm}
-use Rattle.rl_tokens.specs.Lexing.{BeginsLexeme, BeginsNoLexeme, OpenGroup, FaultAt}
+use Rattle.rl_tokens.specs.Lexing.{BeginsLexeme, BeginsNoLexeme, OpenGroup, ErrorAt}
 use Rattle.rl_tokens.specs.Reading.{HasNoReading}
 use Rattle.rl_tokens.specs.Skipping.{Skipped}
 use Rattle.rl_c.specs.declared.next.Next.{Next}
-use Rattle.rl_c.specs.Crossing.{TellsReading}
+use Rattle.rl_c.specs.Crossing.{ReportsReading}
 
 -- the text, in bytes, without the white space and comments at its front
 pub record Starts (text : List ℕ) (start : CursorState) : Type 0 where
@@ -22,7 +22,7 @@ pub record Starts (text : List ℕ) (start : CursorState) : Type 0 where
 pub record TakesLiteral (old : CursorState) (next : Next) (new : CursorState) : Type 0 where
   pub token : Lexeme
   pub takes : TakesNext old token new
-  pub reads : TellsReading token.text.now next.reading
+  pub reads : ReportsReading token.text.now next.reading
   pub lo_is : next.lo ≡ token.lo
   pub hi_is : next.hi ≡ token.hi
   pub no_minus : next.negative ≡ false
@@ -36,7 +36,7 @@ pub record TakesNegative (old : CursorState) (next : Next) (new : CursorState) :
   pub takes_number : TakesNext between number new
   pub is_minus : form_view minus.form ≡ MarkForm (code "-")
   pub is_number : form_view number.form ≡ LiteralForm
-  pub reads : TellsReading (code "-" ∷ number.text.now) next.reading
+  pub reads : ReportsReading (code "-" ∷ number.text.now) next.reading
   pub minus_is : next.minus_at ≡ minus.lo
   pub lo_is : next.lo ≡ number.lo
   pub hi_is : next.hi ≡ number.hi
@@ -49,10 +49,10 @@ TakesNextLiteral old next new = TakesLiteral old next new ⊎ TakesNegative old 
 -- after such, begins at the place that is returned.
 pub record BeginsLiteral (text : List ℕ) (next : Next) : Type 0 where
   pub start : CursorState
-  pub behind : CursorState
+  pub following : CursorState
   pub starts : Starts text start
-  pub takes : TakesNextLiteral start next behind
-  pub rest_is : next.rest_at + length behind.rest ≡ length text
+  pub takes : TakesNextLiteral start next following
+  pub rest_is : next.rest_at + length following.rest ≡ length text
 
 -- no number after a minus
 abbrev pub HasNoNumber : CursorState → Type 0
@@ -63,10 +63,10 @@ HasNoNumber t =
 
 -- the token, and what is left after it, begin no literal
 abbrev pub BeginsNone : LexemeForm → List ℕ → CursorState → Type 0
-BeginsNone LiteralForm text behind = HasNoReading (chars text)
-BeginsNone IdentifierForm text behind = HasNoReading (chars text)
-BeginsNone (DelimiterForm c) text behind = ⊤
-BeginsNone (MarkForm c) text behind = (c ≢ code "-") ⊎ HasNoNumber behind
+BeginsNone LiteralForm text following = HasNoReading (chars text)
+BeginsNone IdentifierForm text following = HasNoReading (chars text)
+BeginsNone (DelimiterForm c) text following = ⊤
+BeginsNone (MarkForm c) text following = (c ≢ code "-") ⊎ HasNoNumber following
 
 -- no literal stands next
 abbrev pub HasNoNextLiteral : CursorState → Type 0
@@ -76,23 +76,23 @@ HasNoNextLiteral t =
     × BeginsNone (form_view l.form) l.text.now new)
 
 -- the numbers of the lexer's errors
-abbrev pub fault_number : LexKind → ℕ
-fault_number DocComment = 3
-fault_number UnclosedComment = 4
-fault_number UnclosedQuote = 5
-fault_number Lifetime = 6
-fault_number RawIdentifier = 7
-fault_number StrayCharacter = 8
-fault_number UnmatchedClose = 9
-fault_number UnclosedGroup = 10
-fault_number TooDeep = 11
-fault_number Memory = 12
+abbrev pub error_number : LexKind → ℕ
+error_number DocComment = 3
+error_number UnclosedComment = 4
+error_number UnclosedQuote = 5
+error_number Lifetime = 6
+error_number RawIdentifier = 7
+error_number StrayCharacter = 8
+error_number UnmatchedClose = 9
+error_number UnclosedGroup = 10
+error_number TooDeep = 11
+error_number Memory = 12
 
 -- The number tells the error of what is left: 2 where it has none, since a token begins it.
-abbrev pub TellsFault : CursorState → ℕ → Type 0
-TellsFault t status =
-    ((kind : LexKind) × (status ≡ fault_number kind)
-    × ((groups : List OpenGroup) → FaultAt kind groups (chars t.rest)))
+abbrev pub ReportsError : CursorState → ℕ → Type 0
+ReportsError t status =
+    ((kind : LexKind) × (status ≡ error_number kind)
+    × ((groups : List OpenGroup) → ErrorAt kind groups (chars t.rest)))
     ⊎ ((status ≡ 2) × BeginsLexeme (chars t.rest))
 
 -- After white space and comments no literal begins the text, and why is returned, with its byte.
@@ -100,5 +100,5 @@ pub record BeginsNoLiteral (text : List ℕ) (status at : ℕ) : Type 0 where
   pub start : CursorState
   pub starts : Starts text start
   pub none : HasNoNextLiteral start
-  pub tells : TellsFault start status
+  pub tells : ReportsError start status
   pub place : at + length start.rest ≡ length text

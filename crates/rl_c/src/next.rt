@@ -3,7 +3,7 @@
 ghost use Rattle.std.specs.Prelude.{◌≡◌, ◌≢◌, ◌+◌, ◌<◌, [], length, IfSome, IfNone};
 ghost use Rattle.std.specs.Str.{chars};
 ghost use Rattle.rl_tokens.specs.Skipping.{Skipped};
-ghost use Rattle.rl_c.specs.Lists.{TakesNextLiteral, HasNoNextLiteral, TellsFault, fault_number};
+ghost use Rattle.rl_c.specs.Lists.{TakesNextLiteral, HasNoNextLiteral, ReportsError, error_number};
 
 use crate::reading::Reading;
 use rl_grammar::{find, find_negative};
@@ -30,8 +30,8 @@ pub struct Next {
 }
 
 /// An error's number.
-pub(crate) fn fault_number(kind: LexKind) -> u8
-    ensures value { result ≡ fault_number kind }
+pub(crate) fn error_number(kind: LexKind) -> u8
+    ensures value { result ≡ error_number kind }
     ensures past { 2 < result }
 {
     match kind {
@@ -91,12 +91,12 @@ pub(crate) fn take_next(tokens: &mut Tokens<'_>) -> Option<Next>
 }
 
 /// Why no literal begins what is left, which isn't empty.
-pub(crate) fn refusal(tokens: &Tokens<'_>) -> u8
+pub(crate) fn rejection(tokens: &Tokens<'_>) -> u8
     requires { tokens.now.rest ≢ [] }
-    ensures { TellsFault tokens.now result }
+    ensures { ReportsError tokens.now result }
 {
     match tokens.fault() {
-        Some(fault) => fault_number(fault.kind),
+        Some(fault) => error_number(fault.kind),
         None => 2,
     }
 }

@@ -158,8 +158,8 @@ spoiled_stops kind t rest s p =
     let r = q.0 in
     let bad = not_raw kind rest c cs p.spoils h in
     let (w, front, after) = closes_before kind o.body r.inside (replicate o.hashes 35 ++ x) e c bad r.each (sym (opens kind o.hashes (o.body ++ (c ∷ e)) v x r)) in
-    let (suffix, hashes, behind) = hashes_before o.hashes x w e c (other kind c 35 bad (ascii_is_raw kind 35 refl refl)) after in
-    let none = and_parts (list_all no_quote suffix) (list_all no_quote (c ∷ e)) (sym (list_all-append no_quote suffix (c ∷ e)) ∙ ap (list_all no_quote) (sym behind) ∙ r.no_quote) in
+    let (suffix, hashes, following) = hashes_before o.hashes x w e c (other kind c 35 bad (ascii_is_raw kind 35 refl refl)) after in
+    let none = and_parts (list_all no_quote suffix) (list_all no_quote (c ∷ e)) (sym (list_all-append no_quote suffix (c ∷ e)) ∙ ap (list_all no_quote) (sym following) ∙ r.no_quote) in
     p.not_closed (record { inside = r.inside; suffix = suffix; no_quote = none.0; text_is = front ∙ ap (λ z. r.inside ++ (34 ∷ z)) hashes }))
 
 -- a string that was closed before the character, up to the next quote

@@ -27,9 +27,9 @@ Has kind flaw text = UnitFlaw kind flaw.0 text flaw.1
 
 -- ---- the two digits of \x
 
-refused : (b : Bool) (n : ℕ) (r : List ℕ) → number_if b n r ≡ None → b ≡ false
-refused true n r h = absurd (cc)
-refused false n r h = refl
+rejected : (b : Bool) (n : ℕ) (r : List ℕ) → number_if b n r ≡ None → b ≡ false
+rejected true n r h = absurd (cc)
+rejected false n r h = refl
 
 c_string : (kind : Kind) (v : ℕ) → allows_code kind v ≡ false → kind ≡ CStr
 c_string CStr v h = refl
@@ -57,7 +57,7 @@ low_has kind c (d ∷ ds) h low none = go (is_hex_digit d) refl
     go : (b : Bool) → is_hex_digit d ≡ b → Has kind (cond b (found_flaw Nul (d ∷ ds)) (found_flaw NoHexDigit (d ∷ ds))) (92 ∷ 120 ∷ c ∷ d ∷ ds)
     go true e =
         let n = digit_value c * 16 + digit_value d in
-        let bad : may_be_hex kind n ≡ false = refused (may_be_hex kind n) n ds (sym (hex_read kind c d ds h e) ∙ none) in
+        let bad : may_be_hex kind n ≡ false = rejected (may_be_hex kind n) n ds (sym (hex_read kind c d ds h e) ∙ none) in
         let fits : (not (holds_characters kind) || ltb n 128) ≡ true = small_enough (holds_characters kind) (digit_value c) (digit_value d) low (ltb-true (digit_value d) 16 e) in
         let refuses : allows_code kind n ≡ false = left_false (allows_code kind n) (not (holds_characters kind) || ltb n 128) fits bad in
         let value : hex_value c d ≡ 0 = sym (two_digits (digit_value c) (digit_value d)) ∙ only_zero kind n refuses in

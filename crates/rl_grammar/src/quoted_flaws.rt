@@ -8,7 +8,7 @@ ghost use Rattle.rl_grammar.specs.Forms.{form_opener, has_form, HasNoParts};
 ghost use Rattle.rl_grammar.specs.Mirrors.StopsInside.{StopsInside};
 ghost use Rattle.rl_grammar.specs.Mirrors.UnitFlawAt.{after_unit_flaw_of};
 
-use crate::flaws::{FlawAt, FlawKind, flaw};
+use crate::flaws::{FlawAt, FlawKind, make_flaw};
 use crate::quoted_forms::{QuotedForm, skip_units};
 use crate::raw_flaws::raw_flaw;
 use crate::unit_flaws::unit_flaw;
@@ -48,7 +48,7 @@ pub(crate) fn single_flaw(kind: Kind, text: &str) -> FlawAt<'_>
 {
     match unit(kind, text) {
         None => unit_flaw(kind, text),
-        Some((_, rest)) => flaw(after_unit_flaw(text, rest), rest),
+        Some((_, rest)) => make_flaw(after_unit_flaw(text, rest), rest),
     }
 }
 

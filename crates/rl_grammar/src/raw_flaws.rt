@@ -10,7 +10,7 @@ ghost use Rattle.rl_grammar.specs.FlawKinds.{is_quote, Closes, RawFlaw};
 ghost use Rattle.rl_grammar.specs.Mirrors.UnitFlawAt.{spoiled_flaw_of};
 ghost use Rattle.rl_grammar.specs.Forms.{HasNoParts};
 
-use crate::flaws::{FlawAt, FlawKind, flaw};
+use crate::flaws::{FlawAt, FlawKind, make_flaw};
 use crate::quoted_forms::{QuotedForm, behind_prefix, skip_hashes, split_last_quote};
 use crate::runs::before;
 use rl_tokens::Kind;
@@ -30,7 +30,7 @@ fn is_raw(kind: Kind, c: char) -> bool
 /// The text after the characters at its front that a raw string of the kind may hold.
 fn skip_raw(kind: Kind, text: &str) -> &str
     ensures rest { chars result.now ≡ after_run (is_raw kind) (chars text.now) }
-    ensures behind { IsTail text.now result.now }
+    ensures following { IsTail text.now result.now }
 {
     let mut rest = text;
     while let Some((c, after)) = split_char(rest) {
@@ -99,12 +99,12 @@ fn opened_flaw<'t>(kind: Kind, hashes: &str, inside: &'t str) -> FlawAt<'t>
 {
     let (body, rest) = split_raw(kind, inside);
     let Some((_, after)) = split_char(rest) else {
-        return flaw(FlawKind::Unclosed, rest);
+        return make_flaw(FlawKind::Unclosed, rest);
     };
     if closes(hashes, body) {
-        flaw(FlawKind::QuoteBehind, skip_to_quote(after))
+        make_flaw(FlawKind::QuoteBehind, skip_to_quote(after))
     } else {
-        flaw(spoiled_flaw(kind), rest)
+        make_flaw(spoiled_flaw(kind), rest)
     }
 }
 
@@ -116,11 +116,11 @@ pub(crate) fn raw_flaw(kind: Kind, text: &str) -> FlawAt<'_>
 {
     let rest = skip_hashes(text);
     let Some((first, inside)) = split_char(rest) else {
-        return flaw(FlawKind::Unfinished, rest);
+        return make_flaw(FlawKind::Unfinished, rest);
     };
     if first == '"' {
         opened_flaw(kind, before(text, rest), inside)
     } else {
-        flaw(FlawKind::NoQuote, rest)
+        make_flaw(FlawKind::NoQuote, rest)
     }
 }

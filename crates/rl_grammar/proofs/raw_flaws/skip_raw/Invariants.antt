@@ -7,7 +7,7 @@ use Rattle.rl_grammar.proofs.raw_flaws.skip_raw.Given as goal
 
 abbrev pub invariant-loop-c : goal.invariant-loop-c
 invariant-loop-c l = record {
-  behind : IsTail l.text l.rest;
+  following : IsTail l.text l.rest;
   same : after_run (is_raw l.kind) (chars l.rest) ≡ after_run (is_raw l.kind) (chars l.text);
 }
 
