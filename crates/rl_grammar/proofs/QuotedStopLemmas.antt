@@ -7,7 +7,9 @@ use Rattle.rl_tokens.specs.declared.kind.Kind.TheVariants.{Str, ByteStr, CStr, B
 use Rattle.rl_tokens.specs.Texts.{first_passes}
 use Rattle.rl_tokens.specs.Quoted.{is_string, is_single}
 use Rattle.rl_tokens.specs.Reading.{Contents, HasNoReading, HasNoTruth, HasReading, Reads, ReadsQuoted, quoted_contents, truth_text}
+use Rattle.rl_grammar.specs.declared.flaws.FlawKind.{FlawKind}
 use Rattle.rl_grammar.specs.declared.quoted_forms.QuotedForm.{QuotedForm}
+use Rattle.rl_grammar.specs.FlawKinds.{HasQuotedFlaw, QuotedFlaw}
 use Rattle.rl_grammar.specs.Flaws.{StopsBefore}
 use Rattle.rl_grammar.specs.Forms.{HasNoParts, form_opener}
 use Rattle.rl_grammar.specs.Mirrors.OpenerAt.{found_opener, opener_at}
@@ -83,3 +85,8 @@ stops_quoted t form kind inside rest h s =
           let (k, (v, x, read)) = subst HasReading (joined (c ∷ e)) r in
           only_quoted (before ++ (s.front ++ (c ∷ e))) form kind (s.front ++ (c ∷ e)) (front_complete form kind (s.front ++ (c ∷ e)) told.has) (s.stuck c cs e same) k v x read;
     }
+
+pub quoted_has : (t : List ℕ) (form : QuotedForm) (kind : Kind) (inside : List ℕ) (k : FlawKind) (rest : List ℕ) → opener_at t ≡ found_opener form kind inside → QuotedFlaw form kind k inside rest → HasQuotedFlaw k t rest
+quoted_has t form kind inside k rest h f =
+    let told = front_sound t (form, kind, inside) h in
+    record { form = form; kind = kind; inside = inside; is_form = told.has; text_is = told.text_is; spoils = f }

@@ -1,5 +1,5 @@
--- What each kind of flaw says of a quoted literal. `text` is what follows its opener, of a raw
--- string from the hashes on, and `rest` is what stands from the flaw's place on.
+-- What each kind of flaw says of a quoted literal. `rest` is what stands from the flaw's place on,
+-- and `text` what follows the opener, of a raw string from the hashes on.
 use Rattle.std.specs.Prelude.{◌≡◌, ◌≢◌, ◌⊎◌, ℕ, ◌<◌, ◌≤◌, ◌==◌, ◌&&◌, ◌||◌, Bool, not, nat_lt, List, [], codes, ◌∷◌, ◌++◌, length, replicate, IsTrue, IsFalse}
 use Rattle.std.specs.Char.{digit_value}
 use Rattle.std.specs.List.{list_all, AllByRecursion}
@@ -13,6 +13,7 @@ use Rattle.rl_grammar.specs.declared.flaws.FlawKind.{FlawKind}
 use Rattle.rl_grammar.specs.declared.flaws.FlawKind.TheVariants.{Unfinished, NoQuote, Unclosed, UnknownEscape, NoUnicode, NoHexDigit, NoBrace, EmptyBraces, TooManyDigits, PastAscii, PastUnicode, Surrogate, Nul, NotAscii, LateQuote, LoneCr, MustEscape, NoCharacter, TwoCharacters}
 use Rattle.rl_grammar.specs.declared.quoted_forms.QuotedForm.{QuotedForm}
 use Rattle.rl_grammar.specs.declared.quoted_forms.QuotedForm.TheVariants.{Cooked as CookedForm, Raw as RawForm, Single as SingleForm}
+use Rattle.rl_grammar.specs.Forms.{form_opener, has_form}
 use Rattle.rl_grammar.specs.Rows.{RowEnds}
 
 -- the text begins with a character that passes the test
@@ -198,3 +199,12 @@ QuotedFlaw CookedForm kind flaw text rest = AfterUnits kind flaw text rest
 QuotedFlaw RawForm kind flaw text rest = RawFlaw kind flaw text rest
 QuotedFlaw SingleForm kind flaw text rest =
     UnitFlaw kind flaw text rest ⊎ CloserFlaw kind flaw text rest
+
+-- The text begins with the opener of a form, and has the flaw after it.
+pub record HasQuotedFlaw (flaw : FlawKind) (text rest : List ℕ) : Type 0 where
+  pub form : QuotedForm
+  pub kind : Kind
+  pub inside : List ℕ
+  pub is_form : IsTrue (has_form form kind)
+  pub text_is : text ≡ form_opener form kind ++ inside
+  pub spoils : QuotedFlaw form kind flaw inside rest

@@ -1,3 +1,5 @@
+pub mod FlawKinds
+pub mod FlawWords
 pub mod Flaws
 pub mod NumberFlaws
 pub mod NumberShapes
