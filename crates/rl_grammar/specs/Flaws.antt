@@ -1,9 +1,14 @@
 -- Where a text stops being the front of a literal.
-use Rattle.std.specs.Prelude.{◌≡◌, ◌+◌, ℕ, List, [], ◌∷◌, ◌++◌, encode_utf8, length}
+use Rattle.std.specs.Prelude.{◌≡◌, ◌⊎◌, ◌+◌, ℕ, List, [], ◌∷◌, ◌++◌, encode_utf8, length, IsTrue}
 use Rattle.std.specs.Char.{IsScalar}
 use Rattle.std.specs.List.{AllByRecursion}
-use Rattle.rl_tokens.specs.Reading.{HasReading}
-use Rattle.rl_tokens.specs.Texts.{byte_len}
+use Rattle.rl_tokens.specs.Reading.{HasNoReading, HasReading}
+use Rattle.rl_tokens.specs.Texts.{byte_len, first_passes}
+use Rattle.rl_grammar.specs.declared.flaws.Flaw.{Flaw}
+use Rattle.rl_grammar.specs.declared.flaws.FlawKind.{FlawKind}
+use Rattle.rl_grammar.specs.FlawKinds.{HasQuotedFlaw}
+use Rattle.rl_grammar.specs.NumberFlaws.{HasKind, IsNumberFlaw, IsWordFlaw}
+use Rattle.rl_grammar.specs.WholeShapes.{is_number_front}
 
 -- Some literal begins with the text: with some ending, perhaps none, it reads.
 pub record BeginsLiteral (text : List ℕ) : Type 0 where
@@ -32,3 +37,17 @@ pub record StopsAt (text : List ℕ) (lo hi : ℕ) : Type 0 where
   pub stops : StopsBefore text rest
   pub lo_is : lo ≡ byte_len stops.front
   pub hi_is : hi ≡ lo + first_len rest
+
+-- What its kind says of the text, whose place is before the rest.
+abbrev pub IsFlawOf : FlawKind → List ℕ → List ℕ → Type 0
+IsFlawOf kind text rest =
+    HasQuotedFlaw kind text rest
+    ⊎ (IsTrue (first_passes is_number_front text) × HasKind (IsNumberFlaw kind) text rest)
+    ⊎ HasKind (IsWordFlaw kind) text rest
+
+-- The text is no literal, stops being the front of one at the flaw's place, and is what its kind
+-- says.
+pub record Explains (text : List ℕ) (flaw : Flaw) : Type 0 where
+  pub unread : HasNoReading text
+  pub place : StopsAt text flaw.lo flaw.hi
+  pub kind : IsFlawOf flaw.kind text place.rest

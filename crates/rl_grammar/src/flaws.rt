@@ -3,7 +3,7 @@
 ghost use Rattle.std.specs.Prelude.{◌≡◌, ◌≤◌, IfNone, IfSome, length};
 ghost use Rattle.std.specs.Str.{chars};
 ghost use Rattle.rl_tokens.specs.Reading.{HasNoReading, HasReading};
-ghost use Rattle.rl_grammar.specs.Flaws.{StopsAt, StopsBefore, first_len};
+ghost use Rattle.rl_grammar.specs.Flaws.{Explains, IsFlawOf, StopsBefore, first_len};
 
 use crate::found::{begins_number, find};
 use crate::number_flaws::number_flaw;
@@ -151,7 +151,8 @@ pub struct Flaw {
 /// The flaw of a text without a reading, and the text from its place on.
 fn flaw_at(text: &str) -> FlawAt<'_>
     requires { HasNoReading (chars text.now) }
-    ensures { StopsBefore (chars text.now) (chars result.rest.now) }
+    ensures stops { StopsBefore (chars text.now) (chars result.rest.now) }
+    ensures kind { IsFlawOf result.kind (chars text.now) (chars result.rest.now) }
 {
     if begins_number(text) {
         return number_flaw(text);
@@ -178,8 +179,7 @@ fn first_len(text: &str) -> usize
 /// An integer past 128 bits is none.
 pub fn explain(text: &str) -> Option<Flaw>
     ensures none { IfNone result (HasReading (chars text.now)) }
-    ensures some { IfSome result (λ _. HasNoReading (chars text.now)) }
-    ensures place { IfSome result (λ flaw. StopsAt (chars text.now) flaw.lo flaw.hi) }
+    ensures some { IfSome result (Explains (chars text.now)) }
 {
     if find(text).is_some() {
         return None;

@@ -3,7 +3,8 @@
 ghost use Rattle.std.specs.Prelude.{◌≡◌, IfOk, IfErr, IfSome, IfNone, Some};
 ghost use Rattle.std.specs.Str.{chars};
 ghost use Rattle.rl_tokens.specs.Errors.{memory_at};
-ghost use Rattle.rl_tokens.specs.Reading.{HasNoReading, HasSuffix};
+ghost use Rattle.rl_tokens.specs.Reading.{HasNoReading, HasReading, HasSuffix};
+ghost use Rattle.rl_grammar.specs.Flaws.{Explains};
 ghost use Rattle.rl_grammar.specs.Founds.{IsFound};
 ghost use Rattle.rl_grammar.specs.FrontTokens.{front_token};
 ghost use Rattle.rust_literals.specs.Held.{HasOwnSuffix};
@@ -15,7 +16,7 @@ use crate::lit_bool::{LitBool, word};
 use crate::lit_float::LitFloat;
 use crate::lit_int::LitInt;
 use crate::number::{Number, NumberKind};
-use rl_grammar::{Found, Front, Kind, find};
+use rl_grammar::{Flaw, Found, Front, Kind, explain, find};
 use rl_quoted::{LitByte, LitByteStr, LitCStr, LitChar, LitStr, Quoted, QuotedKind};
 use rl_tokens::{Error, Kept, Literal, Parse, ParseBuffer, Span, Token};
 use std::alloc::{Allocator, Global};
@@ -229,6 +230,23 @@ impl<A: Allocator> Lit<A> {
         ensures { result ≡ lit_span self.now }
     {
         self.view().span
+    }
+
+    /// Why the literal's text is no literal, and where, in bytes of the text; `None` exactly where it is one. So of
+    /// `Verbatim` it is the reason. [`Flaw::in_span`] gives the place in the file. No memory is taken.
+    ///
+    /// # Example
+    ///
+    /// ```
+    /// if let Some(flaw) = literal.explain() {
+    ///     push_flaw(alloc, out, flaw.in_span(literal.span()), flaw.kind)?;
+    /// }
+    /// ```
+    pub fn explain(&self) -> Option<Flaw>
+        ensures none { IfNone result (HasReading (chars (token_of self.now).text)) }
+        ensures some { IfSome result (Explains (chars (token_of self.now).text)) }
+    {
+        explain(self.text())
     }
 
     /// Puts the literal elsewhere: its span becomes this one, and all else stays.

@@ -6,15 +6,19 @@ use Rattle.rl_grammar.proofs.flaws.explain.Goals as goal
 pub overflow_sub-lo : goal.overflow_sub-lo
 overflow_sub-lo c =
     let rest : IsUtf8 c.flaw_at-found.result.rest.now = search rules in
-    omega (arith, front_bytes c.args.text.now c.flaw_at-found.result.rest.now c.utf8.text rest c.flaw_at-found.ensures)
+    omega (arith, front_bytes c.args.text.now c.flaw_at-found.result.rest.now c.utf8.text rest c.flaw_at-found.ensures.stops)
 
-pub returns-clause-place : goal.returns-clause-place
-returns-clause-place c =
+pub returns-clause-some : goal.returns-clause-some
+returns-clause-some c =
     let rest : IsUtf8 c.flaw_at-found.result.rest.now = search rules in
-    let whole = front_bytes c.args.text.now c.flaw_at-found.result.rest.now c.utf8.text rest c.flaw_at-found.ensures in
+    let whole = front_bytes c.args.text.now c.flaw_at-found.result.rest.now c.utf8.text rest c.flaw_at-found.ensures.stops in
     record {
-      rest = chars c.flaw_at-found.result.rest.now;
-      stops = c.flaw_at-found.ensures;
-      lo_is = omega (arith, whole);
-      hi_is = ap (λ z. (length c.args.text.now - length c.flaw_at-found.result.rest.now) + z) c.first_len.ensures.len;
+      unread = search rules;
+      place = record {
+        rest = chars c.flaw_at-found.result.rest.now;
+        stops = c.flaw_at-found.ensures.stops;
+        lo_is = omega (arith, whole);
+        hi_is = ap (λ z. (length c.args.text.now - length c.flaw_at-found.result.rest.now) + z) c.first_len.ensures.len;
+      };
+      kind = c.flaw_at-found.ensures.kind;
     }
