@@ -1,9 +1,10 @@
 -- Where a text stops being the front of a literal.
-use Rattle.std.specs.Prelude.{◌≡◌, ◌⊎◌, ◌+◌, ℕ, List, [], ◌∷◌, ◌++◌, encode_utf8, length, IsTrue}
+use Rattle.std.specs.Prelude.{◌≡◌, ◌⊎◌, ◌+◌, ℕ, List, [], ◌∷◌, ◌++◌, encode_utf8, length, min, IsTrue}
 use Rattle.std.specs.Char.{IsScalar}
 use Rattle.std.specs.List.{AllByRecursion}
 use Rattle.rl_tokens.specs.Reading.{HasNoReading, HasReading}
 use Rattle.rl_tokens.specs.Texts.{byte_len, first_passes}
+use Rattle.rl_tokens.specs.declared.span.Span.{Span}
 use Rattle.rl_grammar.specs.declared.flaws.Flaw.{Flaw}
 use Rattle.rl_grammar.specs.declared.flaws.FlawKind.{FlawKind}
 use Rattle.rl_grammar.specs.FlawKinds.{HasQuotedFlaw}
@@ -51,3 +52,7 @@ pub record Explains (text : List ℕ) (flaw : Flaw) : Type 0 where
   pub unread : HasNoReading text
   pub place : StopsAt text flaw.lo flaw.hi
   pub kind : IsFlawOf flaw.kind text place.rest
+
+-- so many bytes after the span's first, but not beyond its last
+abbrev pub place_in : Span → ℕ → ℕ
+place_in span at = min (span.lo + at) span.hi

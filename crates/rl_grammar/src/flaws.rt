@@ -3,15 +3,22 @@
 ghost use Rattle.std.specs.Prelude.{◌≡◌, ◌≤◌, IfNone, IfSome, length};
 ghost use Rattle.std.specs.Str.{chars};
 ghost use Rattle.rl_tokens.specs.Reading.{HasNoReading, HasReading};
-ghost use Rattle.rl_grammar.specs.Flaws.{Explains, IsFlawOf, StopsBefore, first_len};
+ghost use Rattle.rl_grammar.specs.Flaws.{Explains, IsFlawOf, StopsBefore, first_len, place_in};
+
+mod number;
+mod quoted;
+mod raw;
+mod unit;
+mod word;
 
 use crate::found::{begins_number, find};
-use crate::number_flaws::number_flaw;
-use crate::quoted_flaws::quoted_flaw;
 use crate::quoted_forms::split_opener;
-use crate::word_flaws::word_flaw;
+use number::number_flaw;
+use quoted::quoted_flaw;
+use rl_tokens::Span;
 use rl_tokens::text::split_char;
 use std::fmt;
+use word::word_flaw;
 
 /// Why a text is no literal.
 #[derive(Clone, Copy, PartialEq, Eq, Debug)]
@@ -146,6 +153,30 @@ pub struct Flaw {
     pub lo: usize,
     /// The place after that character.
     pub hi: usize,
+}
+
+impl Flaw {
+    /// The place in the file of a flaw of a token's text, by the token's span: from its first byte on, and not beyond
+    /// its last.
+    pub fn in_span(self, span: Span) -> Span
+        ensures { result ≡ record {
+          file = span.file;
+          lo = place_in span self.lo;
+          hi = place_in span self.hi;
+        } }
+    {
+        Span::new(span.file, place_in(span, self.lo), place_in(span, self.hi))
+    }
+}
+
+/// The place so many bytes after the span's first, but not beyond its last.
+fn place_in(span: Span, at: usize) -> usize
+    ensures { result ≡ place_in span at }
+{
+    match span.lo.checked_add(at) {
+        Some(place) if place < span.hi => place,
+        _ => span.hi,
+    }
 }
 
 /// The flaw of a text without a reading, and the text from its place on.

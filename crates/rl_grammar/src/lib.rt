@@ -8,16 +8,11 @@ mod flaws;
 mod found;
 mod front;
 pub mod laws;
-mod number_flaws;
 mod number_forms;
-mod quoted_flaws;
 mod quoted_forms;
-mod raw_flaws;
 mod runs;
 pub mod strict;
-mod unit_flaws;
 mod units;
-mod word_flaws;
 
 pub use crate::contents::{
     byte_of, byte_of_body, bytes_into, bytes_of, bytes_of_body, char_of, char_of_body, str_into,

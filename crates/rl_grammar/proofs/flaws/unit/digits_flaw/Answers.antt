@@ -1,0 +1,18 @@
+-- At most five digits stand before the next one, so the value is below 16 to the fifth.
+use Rattle.std.proofs.Common.{◌<◌, ◌≤◌, ◌^◌, arith}
+use Rattle.std.proofs.Math.Nat.{pow-le-pow_right}
+use Rattle.std.proofs.lemmas.Grind.{common_steps}
+use Rattle.rl_grammar.proofs.flaws.unit.digits_flaw.Goals as goal
+
+pub overflow_mul-value : goal.overflow_mul-value
+overflow_mul-value c =
+    let five : c.loop-next.digits ≤ 5 = omega arith in
+    let bound : 16 ^ c.loop-next.digits ≤ 16 ^ 5 = pow-le-pow_right (omega arith) five in
+    omega arith
+
+pub overflow_add-value : goal.overflow_add-value
+overflow_add-value c =
+    let five : c.loop-next.digits ≤ 5 = omega arith in
+    let bound : 16 ^ c.loop-next.digits ≤ 16 ^ 5 = pow-le-pow_right (omega arith) five in
+    let digit_small : c.in-Some-to_digit.digit < 16 = grind (arith, common_steps) in
+    omega arith
