@@ -9,7 +9,7 @@ use Rattle.rl_tokens.specs.Quoted.{QuotedUnit, Plain, CrLf, Named, Hex, Unicode,
 use Rattle.rl_grammar.specs.declared.flaws.FlawKind.{FlawKind}
 use Rattle.rl_grammar.specs.declared.flaws.FlawKind.TheVariants.{NoCharacter, TwoCharacters}
 use Rattle.rl_grammar.specs.declared.quoted_forms.QuotedForm.TheVariants.{Cooked as CookedForm, Single as SingleForm}
-use Rattle.rl_grammar.specs.FlawKinds.{AfterUnits, CloserFlaw, IsNotClosed, QuotedFlaw}
+use Rattle.rl_grammar.specs.FlawKinds.{AfterUnits, BeginsUnits, CloserFlaw, IsNotClosed, QuotedFlaw}
 use Rattle.rl_grammar.specs.Forms.{HasNoParts}
 use Rattle.rl_grammar.specs.Mirrors.StopsInside.{HasParts, StopsInside}
 use Rattle.rl_grammar.specs.Mirrors.UnitAt.{unit_at}
@@ -236,3 +236,16 @@ single_quote_kind kind a v k rest x s h none same there =
       no_closer = no_single_closer kind a v rest s h none;
     } in
     subst (λ z. QuotedFlaw SingleForm kind z a x) (sym same) (subst (QuotedFlaw SingleForm kind (after_unit_flaw_of a rest) a) (sym there) (inr (closer_kind kind a rest open_still)))
+
+-- ---- the piece
+
+pub cooked_piece : (kind : Kind) (a v t : List ℕ) → BeginsRow kind a v t → unit_at kind t ≡ None → BeginsUnits kind a t
+cooked_piece kind a v t row stuck = record {
+  units = row.units;
+  each = row.each;
+  ends = row.ends;
+  text_is = row.text_is;
+  no_more = λ u z is ends same.
+      let found = sym stuck ∙ ap (unit_at kind) same ∙ unit_complete kind u z is ends in
+      absurd (cc);
+}

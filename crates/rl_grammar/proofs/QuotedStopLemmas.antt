@@ -9,7 +9,7 @@ use Rattle.rl_tokens.specs.Quoted.{is_string, is_single}
 use Rattle.rl_tokens.specs.Reading.{Contents, HasNoReading, HasNoTruth, HasReading, Reads, ReadsQuoted, quoted_contents, truth_text}
 use Rattle.rl_grammar.specs.declared.flaws.FlawKind.{FlawKind}
 use Rattle.rl_grammar.specs.declared.quoted_forms.QuotedForm.{QuotedForm}
-use Rattle.rl_grammar.specs.FlawKinds.{HasQuotedFlaw, QuotedFlaw}
+use Rattle.rl_grammar.specs.FlawKinds.{HasNoOpener, HasQuotedFlaw, HasQuotedPiece, IsPiece, QuotedFlaw}
 use Rattle.rl_grammar.specs.Flaws.{StopsBefore}
 use Rattle.rl_grammar.specs.Forms.{HasNoParts, form_opener}
 use Rattle.rl_grammar.specs.Mirrors.OpenerAt.{found_opener, opener_at}
@@ -90,3 +90,14 @@ pub quoted_has : (t : List ℕ) (form : QuotedForm) (kind : Kind) (inside : List
 quoted_has t form kind inside k rest h f =
     let told = front_sound t (form, kind, inside) h in
     record { form = form; kind = kind; inside = inside; is_form = told.has; text_is = told.text_is; spoils = f }
+
+pub quoted_piece : (t : List ℕ) (form : QuotedForm) (kind : Kind) (inside piece rest : List ℕ) → opener_at t ≡ found_opener form kind inside → IsPiece form kind inside piece rest → HasQuotedPiece t piece rest
+quoted_piece t form kind inside piece rest h p =
+    let told = front_sound t (form, kind, inside) h in
+    record { form = form; kind = kind; inside = inside; is_form = told.has; text_is = told.text_is; piece_is = p }
+
+-- without an opener a flaw spoils all of the text
+pub no_opener_piece : (t : List ℕ) → opener_at t ≡ None → HasNoOpener t
+no_opener_piece t h form kind inside has same =
+    let found = sym h ∙ ap opener_at same ∙ front_complete form kind inside has in
+    absurd (cc)

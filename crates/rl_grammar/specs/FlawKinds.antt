@@ -7,7 +7,7 @@ use Prim.Native.Char.{code}
 use Rattle.rl_tokens.specs.declared.kind.Kind.{Kind}
 use Rattle.rl_tokens.specs.declared.kind.Kind.TheVariants.{Byte, ByteStr, CStr}
 use Rattle.rl_tokens.specs.Texts.{first_passes, is_among, is_underscore}
-use Rattle.rl_tokens.specs.Quoted.{QuotedUnit, Letter, letter_text, unit_text, texts, IsUnit, hex_value, place_value, without_underscores, is_hex_digit, is_line_end, is_raw, is_string, has_unicode, holds_characters}
+use Rattle.rl_tokens.specs.Quoted.{QuotedUnit, EndsBefore, Letter, letter_text, unit_text, texts, IsUnit, hex_value, place_value, without_underscores, is_hex_digit, is_line_end, is_raw, is_string, has_unicode, holds_characters}
 use Rattle.rl_tokens.specs.Classes.{is_hash}
 use Rattle.rl_grammar.specs.declared.flaws.FlawKind.{FlawKind}
 use Rattle.rl_grammar.specs.declared.flaws.FlawKind.TheVariants.{Unfinished, NoQuote, Unclosed, UnknownEscape, NoUnicode, NoHexDigit, NoBrace, EmptyBraces, TooManyDigits, PastAscii, PastUnicode, Surrogate, Nul, NotAscii, LateQuote, LoneCr, MustEscape, NoCharacter, TwoCharacters}
@@ -199,6 +199,41 @@ QuotedFlaw CookedForm kind flaw text rest = AfterUnits kind flaw text rest
 QuotedFlaw RawForm kind flaw text rest = RawFlaw kind flaw text rest
 QuotedFlaw SingleForm kind flaw text rest =
     UnitFlaw kind flaw text rest ⊎ CloserFlaw kind flaw text rest
+
+-- ---- the piece that a flaw spoils
+
+-- Whole units stand before the piece, and none begins it.
+pub record BeginsUnits (kind : Kind) (text piece : List ℕ) : Type 0 where
+  pub units : List QuotedUnit
+  pub each : AllByRecursion (IsUnit kind) units
+  pub ends : RowEnds units piece
+  pub text_is : text ≡ texts units ++ piece
+  pub no_more :
+      (u : QuotedUnit) (z : List ℕ) → IsUnit kind u → EndsBefore u z → piece ≡ unit_text u ++ z → ⊥
+
+-- of a string with escapes the unit; of a raw one what stands from the flaw's place on; of a
+-- character or a byte all that follows its opener
+abbrev pub IsPiece : QuotedForm → Kind → List ℕ → List ℕ → List ℕ → Type 0
+IsPiece CookedForm kind text piece rest = BeginsUnits kind text piece
+IsPiece RawForm kind text piece rest = piece ≡ rest
+IsPiece SingleForm kind text piece rest = piece ≡ text
+
+-- The text begins with the opener of a form, and this is the piece after it.
+pub record HasQuotedPiece (text piece rest : List ℕ) : Type 0 where
+  pub form : QuotedForm
+  pub kind : Kind
+  pub inside : List ℕ
+  pub is_form : IsTrue (has_form form kind)
+  pub text_is : text ≡ form_opener form kind ++ inside
+  pub piece_is : IsPiece form kind inside piece rest
+
+-- no opener of a quoted literal begins the text
+abbrev pub HasNoOpener : List ℕ → Type 0
+HasNoOpener text =
+    (form : QuotedForm) (kind : Kind) (inside : List ℕ) → IsTrue (has_form form kind)
+    → text ≡ form_opener form kind ++ inside → ⊥
+
+-- ---- in the whole text
 
 -- The text begins with the opener of a form, and has the flaw after it.
 pub record HasQuotedFlaw (flaw : FlawKind) (text rest : List ℕ) : Type 0 where

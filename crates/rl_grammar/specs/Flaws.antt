@@ -7,7 +7,7 @@ use Rattle.rl_tokens.specs.Texts.{byte_len, first_passes}
 use Rattle.rl_tokens.specs.declared.span.Span.{Span}
 use Rattle.rl_grammar.specs.declared.flaws.Flaw.{Flaw}
 use Rattle.rl_grammar.specs.declared.flaws.FlawKind.{FlawKind}
-use Rattle.rl_grammar.specs.FlawKinds.{HasQuotedFlaw}
+use Rattle.rl_grammar.specs.FlawKinds.{HasNoOpener, HasQuotedFlaw, HasQuotedPiece}
 use Rattle.rl_grammar.specs.NumberFlaws.{HasKind, IsNumberFlaw, IsWordFlaw}
 use Rattle.rl_grammar.specs.WholeShapes.{is_number_front}
 
@@ -46,12 +46,26 @@ IsFlawOf kind text rest =
     ⊎ (IsTrue (first_passes is_number_front text) × HasKind (IsNumberFlaw kind) text rest)
     ⊎ HasKind (IsWordFlaw kind) text rest
 
+-- The piece that the flaw spoils: of a number and a word all of the text.
+abbrev pub IsPieceOf : List ℕ → List ℕ → List ℕ → Type 0
+IsPieceOf text piece rest =
+    HasQuotedPiece text piece rest ⊎ (HasNoOpener text × (piece ≡ text))
+
+-- At this place, in bytes, the piece begins.
+pub record BeginsPiece (text rest : List ℕ) (from : ℕ) : Type 0 where
+  pub before : List ℕ
+  pub piece : List ℕ
+  pub text_is : text ≡ before ++ piece
+  pub from_is : from ≡ byte_len before
+  pub piece_is : IsPieceOf text piece rest
+
 -- The text is no literal, stops being the front of one at the flaw's place, and is what its kind
 -- says.
 pub record Explains (text : List ℕ) (flaw : Flaw) : Type 0 where
   pub unread : HasNoReading text
   pub place : StopsAt text flaw.lo flaw.hi
   pub kind : IsFlawOf flaw.kind text place.rest
+  pub piece : BeginsPiece text place.rest flaw.from
 
 -- so many bytes after the span's first, but not beyond its last
 abbrev pub place_in : Span → ℕ → ℕ

@@ -3,7 +3,7 @@
 ghost use Rattle.std.specs.Prelude.{◌≡◌, ◌≤◌, IfNone, IfSome, length};
 ghost use Rattle.std.specs.Str.{chars};
 ghost use Rattle.rl_tokens.specs.Reading.{HasNoReading, HasReading};
-ghost use Rattle.rl_grammar.specs.Flaws.{Explains, IsFlawOf, StopsBefore, first_len, place_in};
+ghost use Rattle.rl_grammar.specs.Flaws.{Explains, IsFlawOf, IsPieceOf, StopsBefore, first_len, place_in};
 
 mod number;
 mod quoted;
@@ -130,14 +130,34 @@ impl std::error::Error for FlawKind {}
 #[derive(Clone, Copy)]
 pub(crate) struct FlawAt<'t> {
     pub kind: FlawKind,
+    /// The text from the piece on that the flaw spoils.
+    pub piece: &'t str,
     pub rest: &'t str,
 }
 
 /// The flaw at the front of the text.
 pub(crate) fn make_flaw(kind: FlawKind, rest: &str) -> FlawAt<'_>
-    ensures { (result.kind ≡ kind) × (result.rest.now ≡ rest.now) }
+    ensures { (result.kind ≡ kind) × (result.rest.now ≡ rest.now) × (result.piece.now ≡ rest.now) }
 {
-    FlawAt { kind, rest }
+    FlawAt {
+        kind,
+        piece: rest,
+        rest,
+    }
+}
+
+impl<'t> FlawAt<'t> {
+    /// The same, which spoils this piece.
+    pub(crate) fn in_piece(self, piece: &'t str) -> FlawAt<'t>
+        ensures { (result.kind ≡ self.entry.kind) × (result.rest.now ≡ self.entry.rest.now)
+            × (result.piece.now ≡ piece.now) }
+    {
+        FlawAt {
+            kind: self.kind,
+            piece,
+            rest: self.rest,
+        }
+    }
 }
 
 /// Why a text is no literal, and where.
@@ -148,6 +168,9 @@ pub(crate) fn make_flaw(kind: FlawKind, rest: &str) -> FlawAt<'_>
 pub struct Flaw {
     /// What is wrong.
     pub kind: FlawKind,
+    /// The place in bytes where the piece begins that it spoils: an escape's backslash, a character,
+    /// what follows the quote of a character or byte literal, a number or word as a whole.
+    pub from: usize,
     /// The place in bytes of the character that no literal goes on with; the text's end where the
     /// text is too short.
     pub lo: usize,
@@ -184,13 +207,14 @@ fn flaw_at(text: &str) -> FlawAt<'_>
     requires { HasNoReading (chars text.now) }
     ensures stops { StopsBefore (chars text.now) (chars result.rest.now) }
     ensures kind { IsFlawOf result.kind (chars text.now) (chars result.rest.now) }
+    ensures piece { IsPieceOf (chars text.now) (chars result.piece.now) (chars result.rest.now) }
 {
     if begins_number(text) {
-        return number_flaw(text);
+        return number_flaw(text).in_piece(text);
     }
     match split_opener(text) {
         Some((form, kind, inside)) => quoted_flaw(form, kind, inside),
-        None => word_flaw(text),
+        None => word_flaw(text).in_piece(text),
     }
 }
 
@@ -219,6 +243,7 @@ pub fn explain(text: &str) -> Option<Flaw>
     let lo = text.len() - found.rest.len();
     Some(Flaw {
         kind: found.kind,
+        from: text.len() - found.piece.len(),
         lo,
         hi: lo + first_len(found.rest),
     })

@@ -3,7 +3,7 @@
 ghost use Rattle.std.specs.Prelude.{◌≡◌, ◌++◌, IsTrue};
 ghost use Rattle.std.specs.Str.{chars};
 ghost use Rattle.rl_tokens.specs.Quoted.{is_string, is_single};
-ghost use Rattle.rl_grammar.specs.FlawKinds.{QuotedFlaw};
+ghost use Rattle.rl_grammar.specs.FlawKinds.{IsPiece, QuotedFlaw};
 ghost use Rattle.rl_grammar.specs.Forms.{form_opener, has_form, HasNoParts};
 ghost use Rattle.rl_grammar.specs.Mirrors.StopsInside.{StopsInside};
 ghost use Rattle.rl_grammar.specs.Mirrors.UnitFlawAt.{after_unit_flaw_of};
@@ -22,8 +22,10 @@ pub(crate) fn cooked_flaw(kind: Kind, text: &str) -> FlawAt<'_>
     requires none { HasNoParts QuotedForm.Cooked kind (form_opener QuotedForm.Cooked kind ++ chars text.now) }
     ensures place { StopsInside QuotedForm.Cooked kind (chars text.now) (chars result.rest.now) }
     ensures kind { QuotedFlaw QuotedForm.Cooked kind result.kind (chars text.now) (chars result.rest.now) }
+    ensures piece { IsPiece QuotedForm.Cooked kind (chars text.now) (chars result.piece.now) (chars result.rest.now) }
 {
-    unit_flaw(kind, skip_units(kind, text))
+    let piece = skip_units(kind, text);
+    unit_flaw(kind, piece).in_piece(piece)
 }
 
 /// Why a character or a byte isn't closed after its unit.
@@ -45,10 +47,11 @@ pub(crate) fn single_flaw(kind: Kind, text: &str) -> FlawAt<'_>
     requires none { HasNoParts QuotedForm.Single kind (form_opener QuotedForm.Single kind ++ chars text.now) }
     ensures place { StopsInside QuotedForm.Single kind (chars text.now) (chars result.rest.now) }
     ensures kind { QuotedFlaw QuotedForm.Single kind result.kind (chars text.now) (chars result.rest.now) }
+    ensures piece { IsPiece QuotedForm.Single kind (chars text.now) (chars result.piece.now) (chars result.rest.now) }
 {
     match unit(kind, text) {
-        None => unit_flaw(kind, text),
-        Some((_, rest)) => make_flaw(after_unit_flaw(text, rest), rest),
+        None => unit_flaw(kind, text).in_piece(text),
+        Some((_, rest)) => make_flaw(after_unit_flaw(text, rest), rest).in_piece(text),
     }
 }
 
@@ -58,6 +61,7 @@ pub(crate) fn quoted_flaw(form: QuotedForm, kind: Kind, text: &str) -> FlawAt<'_
     requires none { HasNoParts form kind (form_opener form kind ++ chars text.now) }
     ensures place { StopsInside form kind (chars text.now) (chars result.rest.now) }
     ensures kind { QuotedFlaw form kind result.kind (chars text.now) (chars result.rest.now) }
+    ensures piece { IsPiece form kind (chars text.now) (chars result.piece.now) (chars result.rest.now) }
 {
     match form {
         QuotedForm::Cooked => cooked_flaw(kind, text),

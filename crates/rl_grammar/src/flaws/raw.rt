@@ -94,8 +94,9 @@ fn opened_flaw<'t>(kind: Kind, hashes: &str, inside: &'t str) -> FlawAt<'t>
     requires hashes { (n : ℕ) × (chars hashes.now ≡ replicate n 35) }
     requires none { HasNoParts QuotedForm.Raw kind
         (raw_opener kind ++ (chars hashes.now ++ (34 ∷ chars inside.now))) }
-    ensures { RawFlaw kind result.kind
+    ensures kind { RawFlaw kind result.kind
         (chars hashes.now ++ (34 ∷ chars inside.now)) (chars result.rest.now) }
+    ensures piece { result.piece.now ≡ result.rest.now }
 {
     let (body, rest) = split_raw(kind, inside);
     let Some((_, after)) = split_char(rest) else {
@@ -112,7 +113,8 @@ fn opened_flaw<'t>(kind: Kind, hashes: &str, inside: &'t str) -> FlawAt<'t>
 pub(crate) fn raw_flaw(kind: Kind, text: &str) -> FlawAt<'_>
     requires string { IsTrue (is_string kind) }
     requires none { HasNoParts QuotedForm.Raw kind (raw_opener kind ++ chars text.now) }
-    ensures { RawFlaw kind result.kind (chars text.now) (chars result.rest.now) }
+    ensures kind { RawFlaw kind result.kind (chars text.now) (chars result.rest.now) }
+    ensures piece { result.piece.now ≡ result.rest.now }
 {
     let rest = skip_hashes(text);
     let Some((first, inside)) = split_char(rest) else {

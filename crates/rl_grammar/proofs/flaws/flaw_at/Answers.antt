@@ -1,6 +1,7 @@
-use Rattle.std.proofs.Common.{sym, inl}
+use Rattle.std.proofs.Common.{sym, ap, inl, inr}
+use Rattle.std.specs.Str.{chars}
 use Rattle.rl_grammar.proofs.FormLemmas.{front_sound}
-use Rattle.rl_grammar.proofs.QuotedStopLemmas.{no_parts_of, quoted_has, stops_quoted}
+use Rattle.rl_grammar.proofs.QuotedStopLemmas.{no_opener_piece, no_parts_of, quoted_has, quoted_piece, stops_quoted}
 use Rattle.rl_grammar.proofs.flaws.flaw_at.Goals as goal
 
 pub quoted_flaw-requires-clause-form : goal.quoted_flaw-requires-clause-form
@@ -13,4 +14,8 @@ pub returns-in-Some : goal.returns-in-Some
 returns-in-Some c = record {
   stops = stops_quoted _ _ _ _ _ (sym c.in-Some.ensures) c.quoted_flaw.ensures.place;
   kind = inl (quoted_has _ _ _ _ _ _ (sym c.in-Some.ensures) c.quoted_flaw.ensures.kind);
+  piece = inl (quoted_piece _ _ _ _ _ _ (sym c.in-Some.ensures) c.quoted_flaw.ensures.piece);
 }
+
+pub returns-in-None-clause-piece : goal.returns-in-None-clause-piece
+returns-in-None-clause-piece c = inr (no_opener_piece _ (sym c.in-None.ensures), ap chars c.in_piece-in-None.ensures.2)

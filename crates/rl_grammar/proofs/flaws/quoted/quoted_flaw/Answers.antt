@@ -1,3 +1,5 @@
+use Rattle.std.proofs.Common.{ap}
+use Rattle.std.specs.Str.{chars}
 use Rattle.rl_grammar.proofs.RawFlawLemmas.{raw_stops}
 use Rattle.rl_grammar.proofs.flaws.quoted.quoted_flaw.Goals as goal
 
@@ -17,13 +19,22 @@ pub returns-in-Cooked-clause-kind : goal.returns-in-Cooked-clause-kind
 returns-in-Cooked-clause-kind c = rw c.in-Cooked.is c.cooked_flaw.ensures.kind
 
 pub returns-in-Raw-clause-place : goal.returns-in-Raw-clause-place
-returns-in-Raw-clause-place c = rw c.in-Raw.is (raw_stops _ _ _ _ (rw c.in-Raw.is at c.requires.form) c.raw_flaw.ensures)
+returns-in-Raw-clause-place c = rw c.in-Raw.is (raw_stops _ _ _ _ (rw c.in-Raw.is at c.requires.form) c.raw_flaw.ensures.kind)
 
 pub returns-in-Raw-clause-kind : goal.returns-in-Raw-clause-kind
-returns-in-Raw-clause-kind c = rw c.in-Raw.is c.raw_flaw.ensures
+returns-in-Raw-clause-kind c = rw c.in-Raw.is c.raw_flaw.ensures.kind
 
 pub returns-in-Single-clause-place : goal.returns-in-Single-clause-place
 returns-in-Single-clause-place c = rw c.in-Single.is c.single_flaw.ensures.place
 
 pub returns-in-Single-clause-kind : goal.returns-in-Single-clause-kind
 returns-in-Single-clause-kind c = rw c.in-Single.is c.single_flaw.ensures.kind
+
+pub returns-in-Cooked-clause-piece : goal.returns-in-Cooked-clause-piece
+returns-in-Cooked-clause-piece c = rw c.in-Cooked.is c.cooked_flaw.ensures.piece
+
+pub returns-in-Raw-clause-piece : goal.returns-in-Raw-clause-piece
+returns-in-Raw-clause-piece c = rw c.in-Raw.is (ap chars c.raw_flaw.ensures.piece)
+
+pub returns-in-Single-clause-piece : goal.returns-in-Single-clause-piece
+returns-in-Single-clause-piece c = rw c.in-Single.is c.single_flaw.ensures.piece

@@ -1,4 +1,4 @@
-use Rattle.std.proofs.Common.{◌++◌, ap, subst, sym}
+use Rattle.std.proofs.Common.{◌++◌, ◌∙◌, ap, subst, sym}
 use Rattle.std.specs.Str.{chars}
 use Rattle.rl_tokens.specs.Quoted.{raw_opener}
 use Rattle.rl_grammar.specs.declared.quoted_forms.QuotedForm.TheVariants.{Raw as RawForm}
@@ -22,14 +22,23 @@ opened_flaw-requires-clause-none c =
 pub returns-then-first-eq34 : goal.returns-then-first-eq34
 returns-then-first-eq34 c =
     let same = opened_text _ _ _ _ _ c.before-then-first-eq34.ensures.chars c.in-Some.ensures.chars c.if-first-eq34.true in
-    subst (λ z. RawFlaw c.args.kind c.opened_flaw.result.kind z (chars c.opened_flaw.result.rest.now)) (sym same) c.opened_flaw.ensures
+    record {
+      kind = subst (λ z. RawFlaw c.args.kind c.opened_flaw.result.kind z (chars c.opened_flaw.result.rest.now)) (sym same) c.opened_flaw.ensures.kind;
+      piece = c.opened_flaw.ensures.piece;
+    }
 
 pub returns-in_default : goal.returns-in_default
 returns-in_default c =
     let given = unfinished_flaw c.args.kind _ _ c.skip_hashes-rest.ensures c.in_default.ensures.chars in
-    flaw_as _ _ _ _ _ _ c.make_flaw.ensures.0 (ap chars c.make_flaw.ensures.1) given
+    record {
+      kind = flaw_as _ _ _ _ _ _ c.make_flaw.ensures.0 (ap chars c.make_flaw.ensures.1) given;
+      piece = c.make_flaw.ensures.2 ∙ sym c.make_flaw.ensures.1;
+    }
 
 pub returns-else-first-eq34 : goal.returns-else-first-eq34
 returns-else-first-eq34 c =
     let given = no_quote_flaw c.args.kind _ _ _ _ c.skip_hashes-rest.ensures c.in-Some.ensures.chars c.if-first-eq34.false in
-    flaw_as _ _ _ _ _ _ c.make_flaw-else-first-eq34.ensures.0 (ap chars c.make_flaw-else-first-eq34.ensures.1) given
+    record {
+      kind = flaw_as _ _ _ _ _ _ c.make_flaw-else-first-eq34.ensures.0 (ap chars c.make_flaw-else-first-eq34.ensures.1) given;
+      piece = c.make_flaw-else-first-eq34.ensures.2 ∙ sym c.make_flaw-else-first-eq34.ensures.1;
+    }
