@@ -1,15 +1,14 @@
 -- What the kind of flaw says of a text that begins as a number and has no reading.
-use Rattle.std.proofs.Common.{◌≡◌, ◌≢◌, ◌⊎◌, inl, inr, ℕ, ◌≤◌, Bool, true, false, not, cond, ◌&&◌, ◌==◌, List, [], ◌∷◌, ◌++◌, Option, Some, None, is_none, refl, sym, ap, subst, ◌∙◌, append_assoc, append-nil}
+use Rattle.std.proofs.Common.{◌≡◌, inl, inr, ℕ, ◌≤◌, Bool, true, false, not, cond, ◌&&◌, ◌==◌, List, [], ◌∷◌, ◌++◌, Option, Some, None, refl, sym, ap, subst, ◌∙◌, append_assoc, append-nil}
 use Rattle.std.specs.Char.{is_ascii_digit}
 use Rattle.std.specs.List.{list_all, list_any}
 use Rattle.std.proofs.lemmas.Bool.{and_from, and_parts, both_ways, eqb-true, false_from_ne_true, or_from}
 use Rattle.std.proofs.lemmas.List.{append_cancel_right}
 use Rattle.unicode_ident.specs.Ident.{is_xid_start, is_xid_continue}
-use Rattle.unicode_ident.proofs.IdentLemmas.{is_xid_start-is_xid_continue}
 use Rattle.rl_tokens.proofs.Basics.{all_weaker}
 use Rattle.rl_tokens.specs.Numbers.{Base, Binary, Octal, Decimal, Hexadecimal, radix, prefix, Sign, sign_text}
 use Rattle.rl_tokens.specs.Quoted.{place_value, without_underscores}
-use Rattle.rl_tokens.specs.Reading.{HasNoReading, HasReading, IsPast}
+use Rattle.rl_tokens.specs.Reading.{HasReading, IsPast}
 use Rattle.rl_tokens.specs.Texts.{first_passes, is_row_part}
 use Rattle.rl_grammar.specs.Flaws.{StopsBefore}
 use Rattle.rl_grammar.specs.NumberFlaws.{EndsInSign, HasKind, IsAnyNumber, IsNumberFlaw}
@@ -19,11 +18,11 @@ use Rattle.rl_grammar.specs.declared.flaws.FlawKind.TheVariants.{BadSuffix, NoEx
 use Rattle.rl_grammar.specs.Mirrors.NumberAt.{after_digits, after_exponent, after_fraction, after_minus, capped, digit_row_at, has_digit_at, has_value, is_suffix, magnitude_at, may_end, radix_at, run, sign_at}
 use Rattle.rl_grammar.specs.Mirrors.NumberFlawAt.{after_word, based_flaw_at, end_flaw_at, ends_or_passes, is_past_at, tail_flaw_at, unsigned_number_flaw_at}
 use Rattle.rl_grammar.specs.Mirrors.UnitFlawAt.{FoundFlaw, found_flaw}
-use Rattle.rl_grammar.proofs.FloatLemmas.{passes_more, run_first}
+use Rattle.rl_grammar.proofs.FloatLemmas.{run_first}
 use Rattle.rl_grammar.proofs.IntegerLemmas.{Based, based, is_past, no_int, sign_join}
-use Rattle.rl_grammar.proofs.NumberFlawLemmas.{all_off, goes_on, no_suffix, part_continues, suffix_is, suffix_not, tail_reads}
+use Rattle.rl_grammar.proofs.NumberFlawLemmas.{all_off, end_rest, goes_on, no_suffix, part_continues, suffix_is, suffix_not, tail_reads}
 use Rattle.rl_grammar.proofs.NumberKindLemmas.{IsSignedTail, Never, Says, Reports, front_passes, tail_tells, word_tells}
-use Rattle.rl_grammar.proofs.NumberStopLemmas.{Fronted, IsPrefixed, Numbers, based_fronted, based_numbers, based_reads, based_stops, binary, both_fail, digits_stop, end_rest, hexadecimal, minus_stops, names, names_none, never, no_integer, number_reads, octal, past_has_digit, ten_first, ten_fronted, ten_numbers}
+use Rattle.rl_grammar.proofs.NumberStopLemmas.{IsPrefixed, Numbers, based_fronted, based_numbers, based_reads, based_stops, binary, both_fail, digits_stop, hexadecimal, minus_stops, names, names_none, never, no_integer, number_reads, octal, past_has_digit, ten_first, ten_fronted, ten_numbers}
 use Rattle.rl_grammar.proofs.RunLemmas.{run_all, run_ends, run_join, run_past}
 
 -- ---- numbers of any magnitude

@@ -1,21 +1,21 @@
 -- Where what follows the whole part of a number in base ten stops being the front of such a text.
-use Rattle.std.proofs.Common.{◌≡◌, ℕ, ◌≤◌, ◌<◌, Bool, true, false, not, cond, ◌&&◌, ◌||◌, ◌==◌, ltb, List, [], ◌∷◌, ◌++◌, refl, sym, ap, subst, ◌∙◌, arith, append_assoc, append-nil}
-use Rattle.std.specs.Char.{IsScalar, digit_value, is_ascii_digit, is_ascii_hexdigit, is_ascii_alphabetic, is_ascii_alphanumeric}
+use Rattle.std.proofs.Common.{◌≡◌, ℕ, ◌≤◌, ◌<◌, Bool, true, false, not, cond, ◌&&◌, ◌||◌, ◌==◌, List, [], ◌∷◌, ◌++◌, refl, sym, ap, subst, ◌∙◌, arith, append_assoc, append-nil}
+use Rattle.std.specs.Char.{IsScalar, digit_value, is_ascii_digit, is_ascii_hexdigit, is_ascii_alphanumeric}
 use Rattle.std.specs.List.{AllByRecursion, list_all, list_any}
-use Rattle.std.proofs.lemmas.Bool.{and_from, and_left, and_parts, and_right, both_ways, cases_lt, eqb-true, lt-ltb, ltb-true, not-true, or_from, or_parts, or_right}
+use Rattle.std.proofs.lemmas.Bool.{and_left, and_parts, and_right, both_ways, eqb-true, lt-ltb, ltb-true, or_from, or_parts, or_right}
 use Rattle.std.proofs.lemmas.Bool.Decides.{nat_tests}
 use Rattle.std.proofs.lemmas.List.Folds.{list_all-append, list_any-append}
 use Rattle.unicode_ident.specs.Ident.{is_xid_start, is_xid_continue}
 use Rattle.unicode_ident.proofs.IdentLemmas.{is_xid_start-ascii, is_xid_continue-ascii, is_xid_start-is_xid_continue}
-use Rattle.rl_tokens.proofs.Basics.{agree, all_weaker, apart, continue_not, digit_is_ten, hex_is_sixteen, range_past, word_continues}
+use Rattle.rl_tokens.proofs.Basics.{agree, all_weaker, apart, digit_is_ten, hex_is_sixteen, range_past, word_continues}
 use Rattle.rl_tokens.specs.Classes.{after_run}
 use Rattle.rl_tokens.specs.Numbers.{is_exponent_letter}
 use Rattle.rl_tokens.specs.Texts.{first_passes, is_row_part, is_underscore, xid_ok}
 use Rattle.rl_grammar.specs.Mirrors.NumberAt.{after_digits, after_exponent, after_fraction, after_power_sign, digit_row_at, has_digit_at, has_value, is_exponent_suffix, is_suffix, may_end, power_at, run}
 use Rattle.rl_grammar.specs.declared.flaws.FlawKind.{FlawKind}
 use Rattle.rl_grammar.specs.declared.flaws.FlawKind.TheVariants.{Unfinished, NoExponentDigit, BadSuffix, TooLarge}
-use Rattle.rl_grammar.specs.Mirrors.UnitFlawAt.{found_flaw}
-use Rattle.rl_grammar.specs.Mirrors.NumberFlawAt.{after_word, ends_or_passes, end_flaw_at, suffix_flaw_at, word_flaw_at, signed_flaw_at, unsigned_flaw_at, power_flaw_at, exponent_flaw_at, tail_flaw_at}
+use Rattle.rl_grammar.specs.Mirrors.UnitFlawAt.{FoundFlaw, found_flaw}
+use Rattle.rl_grammar.specs.Mirrors.NumberFlawAt.{after_word, end_flaw_at, suffix_flaw_at, suffix_word_flaw_at, signed_flaw_at, unsigned_flaw_at, power_flaw_at, exponent_flaw_at, tail_flaw_at}
 use Rattle.rl_grammar.proofs.DigitRowLemmas.{run_yes, run_no}
 use Rattle.rl_grammar.proofs.RunLemmas.{run_all, run_ends, run_join, run_past}
 use Rattle.rl_grammar.proofs.FloatLemmas.{digit_no_mark, digit_no_sign, run_first, run_off, signed_past}
@@ -108,7 +108,7 @@ part_continues r c small h = go (has_value r c) refl h
         is_xid_continue-ascii c (hex_low c hex) ∙ (and_parts (is_ascii_hexdigit c) (is_ascii_alphanumeric c || (c == 95)) (sym (hex_is_plain c) ∙ hex)).1
     go false e k = mark_continues c k
 
-sign_no_continue : (c : ℕ) → (c == 43 || c == 45) ≡ true → is_xid_continue c ≡ false
+pub sign_no_continue : (c : ℕ) → (c == 43 || c == 45) ≡ true → is_xid_continue c ≡ false
 sign_no_continue c h = go (c == 43) refl
   where
     go : (b : Bool) → (c == 43) ≡ b → is_xid_continue c ≡ false
@@ -215,13 +215,13 @@ letter_reads i p l t h =
     ∙ ap (λ z. F z b (cond k (is_suffix y) z)) s
 
 -- underscores hold no digit, and continue an identifier
-marks_no_digit : (us : List ℕ) → list_all is_underscore us ≡ true → list_any (has_value 10) us ≡ false
+pub marks_no_digit : (us : List ℕ) → list_all is_underscore us ≡ true → list_any (has_value 10) us ≡ false
 marks_no_digit [] h = refl
 marks_no_digit (c ∷ cs) h =
     let b = and_parts (c == 95) (list_all is_underscore cs) h in
     or_from (has_value 10 c) (list_any (has_value 10) cs) (ap (has_value 10) (eqb-true c 95 b.0)) (marks_no_digit cs b.1)
 
-marks_are_row : (us : List ℕ) → list_all is_underscore us ≡ true → list_all (is_row_part (has_value 10)) us ≡ true
+pub marks_are_row : (us : List ℕ) → list_all is_underscore us ≡ true → list_all (is_row_part (has_value 10)) us ≡ true
 marks_are_row us h = all_weaker is_underscore (is_row_part (has_value 10)) (λ c k. or_right (has_value 10 c) (c == 95) k) us h
 
 row_continues : (r : ℕ) (row : List ℕ) → r ≤ 16 → list_all (is_row_part (has_value r)) row ≡ true → list_all is_xid_continue row ≡ true
@@ -335,9 +335,13 @@ other_reads i p l us x l_is marks no_front =
 
 -- ---- where what follows the letter stops
 
+-- where a flaw is
+abbrev place : FoundFlaw → List ℕ
+place flaw = flaw.1
+
 -- past the limit nothing goes on
-word_past : (t : List ℕ) → (word_flaw_at true t).1 ≡ t
-unfolding word_flaw_at
+word_past : (t : List ℕ) → (suffix_word_flaw_at true t).1 ≡ t
+unfolding suffix_word_flaw_at
 word_past [] = refl
 word_past (c ∷ cs) = go (is_xid_continue c) refl
   where
@@ -345,9 +349,9 @@ word_past (c ∷ cs) = go (is_xid_continue c) refl
     go true e = refl
     go false e = refl
 
-word_here : (t : List ℕ) → (word_flaw_at false t).1 ≡ after_word t
-unfolding word_flaw_at
-word_here t = refl
+pub word_goes : (t : List ℕ) → suffix_word_flaw_at false t ≡ found_flaw BadSuffix (after_word t)
+unfolding suffix_word_flaw_at
+word_goes t = refl
 
 suffix_past : (t : List ℕ) → (suffix_flaw_at true t).1 ≡ t
 unfolding suffix_flaw_at
@@ -363,13 +367,13 @@ unfolding suffix_flaw_at
 suffix_end true = refl
 suffix_end false = refl
 
-suffix_goes : (t : List ℕ) → first_passes is_xid_start t ≡ true → (suffix_flaw_at false t).1 ≡ after_word t
+pub suffix_goes : (t : List ℕ) → first_passes is_xid_start t ≡ true → suffix_flaw_at false t ≡ found_flaw BadSuffix (after_word t)
 unfolding suffix_flaw_at
-suffix_goes t h = ap (λ b. (cond b (found_flaw BadSuffix (after_word t)) (found_flaw BadSuffix t)).1) h
+suffix_goes t h = ap (λ b. cond b (found_flaw BadSuffix (after_word t)) (found_flaw BadSuffix t)) h
 
-suffix_here : (t : List ℕ) → first_passes is_xid_start t ≡ false → (suffix_flaw_at false t).1 ≡ t
+pub suffix_stays : (t : List ℕ) → first_passes is_xid_start t ≡ false → suffix_flaw_at false t ≡ found_flaw BadSuffix t
 unfolding suffix_flaw_at
-suffix_here t h = ap (λ b. (cond b (found_flaw BadSuffix (after_word t)) (found_flaw BadSuffix t)).1) h
+suffix_stays t h = ap (λ b. cond b (found_flaw BadSuffix (after_word t)) (found_flaw BadSuffix t)) h
 
 -- a text that a suffix alone may go on
 pub suffix_halts : (first : ℕ → Bool) (t : List ℕ) → first_passes first t ≡ false → Halts first is_suffix t (suffix_flaw_at false t).1
@@ -411,24 +415,26 @@ digits_stay i p t no_word h = here_halts (is_row_part (has_value 10)) (digits_re
     go true false w n = absurd (cc)
     go false q w n = refl
 
+pub whole_start : (t : List ℕ) → first_passes is_xid_start t ≡ true → is_suffix (run is_xid_continue t) ≡ true
+whole_start [] h = absurd (cc)
+whole_start (c ∷ cs) h =
+    ap is_suffix (run_yes is_xid_continue c cs (is_xid_start-is_xid_continue c h)).0
+    ∙ suffix_is c (run is_xid_continue cs) h
+    ∙ run_all is_xid_continue cs
+
 whole_suffix : (t : List ℕ) → first_passes is_xid_start t ≡ true → is_suffix (run is_xid_continue t ++ []) ≡ true
-unfolding run
-whole_suffix [] h = absurd (cc)
-whole_suffix (c ∷ cs) h =
-    ap (λ z. is_suffix (z ++ [])) (run_yes is_xid_continue c cs (is_xid_start-is_xid_continue c h)).0
-    ∙ suffix_is c (run is_xid_continue cs ++ []) h
-    ∙ word_whole cs
+whole_suffix t h = ap is_suffix (append-nil (run is_xid_continue t)) ∙ whole_start t h
 
 unsigned_halts : (i p : Bool) (t : List ℕ) → first_passes (is_row_part (has_value 10)) t ≡ false → Halts (is_row_part (has_value 10)) (digits_read i p) t (unsigned_flaw_at i p t).1
 unfolding unsigned_flaw_at
 unsigned_halts i p t ok = go i p (first_passes is_xid_start t) refl
   where
-    go : (b q s : Bool) → first_passes is_xid_start t ≡ s → Halts (is_row_part (has_value 10)) (digits_read b q) t (cond (b && not s) (word_flaw_at q t) (suffix_flaw_at false t)).1
-    go true q true h = subst (Halts (is_row_part (has_value 10)) (digits_read true q) t) (sym (suffix_goes t h)) (word_halts (is_row_part (has_value 10)) (digits_read true q) t ok (digits_suffix true q (run is_xid_continue t ++ []) (whole_suffix t h)) (digits_none true q))
-    go false q true h = subst (Halts (is_row_part (has_value 10)) (digits_read false q) t) (sym (suffix_goes t h)) (word_halts (is_row_part (has_value 10)) (digits_read false q) t ok (digits_suffix false q (run is_xid_continue t ++ []) (whole_suffix t h)) (digits_none false q))
+    go : (b q s : Bool) → first_passes is_xid_start t ≡ s → Halts (is_row_part (has_value 10)) (digits_read b q) t (cond (b && not s) (suffix_word_flaw_at q t) (suffix_flaw_at false t)).1
+    go true q true h = subst (Halts (is_row_part (has_value 10)) (digits_read true q) t) (ap place (sym (suffix_goes t h))) (word_halts (is_row_part (has_value 10)) (digits_read true q) t ok (digits_suffix true q (run is_xid_continue t ++ []) (whole_suffix t h)) (digits_none true q))
+    go false q true h = subst (Halts (is_row_part (has_value 10)) (digits_read false q) t) (ap place (sym (suffix_goes t h))) (word_halts (is_row_part (has_value 10)) (digits_read false q) t ok (digits_suffix false q (run is_xid_continue t ++ []) (whole_suffix t h)) (digits_none false q))
     go true true false h = subst (Halts (is_row_part (has_value 10)) (digits_read true true) t) (sym (word_past t)) (digits_stay true true t refl h)
-    go true false false h = subst (Halts (is_row_part (has_value 10)) (digits_read true false) t) (sym (word_here t)) (word_halts (is_row_part (has_value 10)) (digits_read true false) t ok (digits_word (run is_xid_continue t ++ []) (word_whole t)) (digits_none true false))
-    go false q false h = subst (Halts (is_row_part (has_value 10)) (digits_read false q) t) (sym (suffix_here t h)) (digits_stay false q t refl h)
+    go true false false h = subst (Halts (is_row_part (has_value 10)) (digits_read true false) t) (ap place (sym (word_goes t))) (word_halts (is_row_part (has_value 10)) (digits_read true false) t ok (digits_word (run is_xid_continue t ++ []) (word_whole t)) (digits_none true false))
+    go false q false h = subst (Halts (is_row_part (has_value 10)) (digits_read false q) t) (ap place (sym (suffix_stays t h))) (digits_stay false q t refl h)
 
 -- what is known of the letter, and of the numbers that it begins
 pub record IsPower (i p : Bool) (reads : List ℕ → Bool) (outer : ℕ → Bool) (l : ℕ) : Type 0 where
@@ -441,7 +447,8 @@ pub record IsPower (i p : Bool) (reads : List ℕ → Bool) (outer : ℕ → Boo
 pub power_parts : (l c : ℕ) (us row x : List ℕ) → (l ∷ (us ++ (c ∷ row))) ++ x ≡ l ∷ (us ++ (c ∷ (row ++ x)))
 power_parts l c us row x = ap (λ z. l ∷ z) (append_assoc us (c ∷ row) x)
 
-end_rest : (a b : FlawKind) (t : List ℕ) → (end_flaw_at a b t).1 ≡ t
+-- what a flaw of two kinds leaves
+pub end_rest : (a b : FlawKind) (t : List ℕ) → (end_flaw_at a b t).1 ≡ t
 end_rest a b [] = refl
 end_rest a b (c ∷ cs) = refl
 
@@ -506,7 +513,7 @@ digit_halts i p reads outer l us t k first marks =
     subst (λ z. Halts outer reads (l ∷ z) Rest) (append_assoc us row w ∙ ap (λ z. us ++ z) (sym (run_join (is_row_part (has_value 10)) t))) h
 
 -- where neither follows
-other_halts : (i p : Bool) (reads : List ℕ → Bool) (outer : ℕ → Bool) (l : ℕ) (us t : List ℕ) → IsPower i p reads outer l → first_passes is_power_front t ≡ false → list_all is_underscore us ≡ true → Halts outer reads (l ∷ (us ++ t)) (word_flaw_at p t).1
+other_halts : (i p : Bool) (reads : List ℕ → Bool) (outer : ℕ → Bool) (l : ℕ) (us t : List ℕ) → IsPower i p reads outer l → first_passes is_power_front t ≡ false → list_all is_underscore us ≡ true → Halts outer reads (l ∷ (us ++ t)) (suffix_word_flaw_at p t).1
 other_halts i p reads outer l us t k ok marks = go p refl
   where
     Reads : (x : List ℕ) → first_passes is_power_front x ≡ false → reads (l ∷ (us ++ x)) ≡ (list_all is_xid_continue x && not (i && p))
@@ -528,10 +535,10 @@ other_halts i p reads outer l us t k ok marks = go p refl
     lost true = refl
     lost false = refl
 
-    go : (q : Bool) → p ≡ q → Halts outer reads (l ∷ (us ++ t)) (word_flaw_at q t).1
+    go : (q : Bool) → p ≡ q → Halts outer reads (l ∷ (us ++ t)) (suffix_word_flaw_at q t).1
     go false e =
         let same : (x : List ℕ) → first_passes is_power_front x ≡ false → reads ((l ∷ us) ++ x) ≡ list_all is_xid_continue x = λ x h. Reads x h ∙ ap (λ z. list_all is_xid_continue x && not z) (not_past i p e) ∙ kept (list_all is_xid_continue x) in
-        subst (Halts outer reads (l ∷ (us ++ t))) (sym (word_here t))
+        subst (Halts outer reads (l ∷ (us ++ t))) (ap place (sym (word_goes t)))
         (on is_power_front outer (list_all is_xid_continue) reads (l ∷ us) t (after_word t) ok same (λ x. k.starts) (word_halts is_power_front (list_all is_xid_continue) t ok (word_whole t) (λ x h. h)))
     go true e = subst (Halts outer reads (l ∷ (us ++ t))) (sym (word_past t)) (record {
       front = l ∷ us;
@@ -551,7 +558,7 @@ unfolding power_flaw_at
 row_halts i p reads outer l us [] k marks ok = other_halts i p reads outer l us [] k refl marks
 row_halts i p reads outer l us (c ∷ cs) k marks ok = go (c == 43 || c == 45) (is_ascii_digit c) refl refl
   where
-    go : (s d : Bool) → (c == 43 || c == 45) ≡ s → is_ascii_digit c ≡ d → Halts outer reads (l ∷ (us ++ (c ∷ cs))) (cond s (signed_flaw_at cs) (cond d (unsigned_flaw_at i p (after_digits 10 (c ∷ cs))) (word_flaw_at p (c ∷ cs)))).1
+    go : (s d : Bool) → (c == 43 || c == 45) ≡ s → is_ascii_digit c ≡ d → Halts outer reads (l ∷ (us ++ (c ∷ cs))) (cond s (signed_flaw_at cs) (cond d (unsigned_flaw_at i p (after_digits 10 (c ∷ cs))) (suffix_word_flaw_at p (c ∷ cs)))).1
     go true d hs hd = signed_halts i p reads outer l c us cs k hs marks
     go false true hs hd = digit_halts i p reads outer l us (c ∷ cs) k hd marks
     go false false hs hd = other_halts i p reads outer l us (c ∷ cs) k (or_from (c == 43 || c == 45) (is_row_part (has_value 10) c) hs (or_from (has_value 10 c) (c == 95) (sym (digit_is_ten c) ∙ hd) ok)) marks

@@ -13,11 +13,10 @@ use Rattle.rl_grammar.specs.NumberFlaws.{IsSignedPower}
 use Rattle.rl_grammar.specs.declared.flaws.FlawKind.{FlawKind}
 use Rattle.rl_grammar.specs.declared.flaws.FlawKind.TheVariants.{BadSuffix, NoExponentDigit, TooLarge, Unfinished}
 use Rattle.rl_grammar.specs.Mirrors.NumberAt.{after_digits, after_exponent, digit_row_at, has_digit_at, has_value, is_exponent_suffix, is_suffix, power_at, run}
-use Rattle.rl_grammar.specs.Mirrors.NumberFlawAt.{after_word, ends_or_passes, end_flaw_at, exponent_flaw_at, power_flaw_at, signed_flaw_at, suffix_flaw_at, tail_flaw_at, unsigned_flaw_at, word_flaw_at}
+use Rattle.rl_grammar.specs.Mirrors.NumberFlawAt.{after_word, end_flaw_at, exponent_flaw_at, power_flaw_at, signed_flaw_at, suffix_flaw_at, tail_flaw_at, unsigned_flaw_at, suffix_word_flaw_at}
 use Rattle.rl_grammar.specs.Mirrors.UnitFlawAt.{FoundFlaw, found_flaw}
-use Rattle.rl_grammar.proofs.DigitRowLemmas.{run_yes}
 use Rattle.rl_grammar.proofs.FloatLemmas.{run_first}
-use Rattle.rl_grammar.proofs.NumberFlawLemmas.{digit_reads, digits_none, digits_read, digits_suffix, digits_word, dot_reads, goes_on, is_power_front, no_suffix, other_reads, plain_reads, power_parts, signed_reads, suffix_is, suffix_not, tail_reads, ten_reads, undotted, word_breaks}
+use Rattle.rl_grammar.proofs.NumberFlawLemmas.{digit_reads, digits_none, digits_read, digits_suffix, digits_word, dot_reads, goes_on, is_power_front, no_suffix, other_reads, plain_reads, power_parts, signed_reads, suffix_goes, suffix_is, suffix_not, suffix_stays, tail_reads, ten_reads, undotted, whole_start, word_breaks, word_goes}
 use Rattle.rl_grammar.proofs.RunLemmas.{run_all, run_ends, run_join}
 
 -- What a kind says, by whether a number of any magnitude stands, and by what ends in a sign.
@@ -89,8 +88,8 @@ large_tells any signed c cs h = record { front = []; text_is = refl; says = h }
 large_end : (any : List ℕ → Bool) (signed : List ℕ → Type 0) → any [] ≡ true → Reports any signed [] (found_flaw TooLarge [])
 large_end any signed h = record { front = []; text_is = refl; says = h }
 
-past_end : (any : List ℕ → Bool) → any [] ≡ true → Reports any Never [] (word_flaw_at true [])
-unfolding word_flaw_at
+past_end : (any : List ℕ → Bool) → any [] ≡ true → Reports any Never [] (suffix_word_flaw_at true [])
+unfolding suffix_word_flaw_at
 past_end any h = large_end any Never h
 
 suffix_past_end : (any : List ℕ → Bool) (signed : List ℕ → Type 0) → any [] ≡ true → Reports any signed [] (suffix_flaw_at true [])
@@ -101,25 +100,6 @@ suffix_past_end any signed h = large_end any signed h
 start_suffix : (t : List ℕ) → first_passes is_xid_start t ≡ true → is_suffix t ≡ list_all is_xid_continue t
 start_suffix [] h = refl
 start_suffix (c ∷ cs) h = suffix_is c cs h ∙ ap (λ b. b && list_all is_xid_continue cs) (sym (is_xid_start-is_xid_continue c h))
-
-whole_start : (t : List ℕ) → first_passes is_xid_start t ≡ true → is_suffix (run is_xid_continue t) ≡ true
-whole_start [] h = absurd (cc)
-whole_start (c ∷ cs) h =
-    ap is_suffix (run_yes is_xid_continue c cs (is_xid_start-is_xid_continue c h)).0
-    ∙ suffix_is c (run is_xid_continue cs) h
-    ∙ run_all is_xid_continue cs
-
-suffix_goes : (t : List ℕ) → first_passes is_xid_start t ≡ true → suffix_flaw_at false t ≡ found_flaw BadSuffix (after_word t)
-unfolding suffix_flaw_at
-suffix_goes t h = ap (λ b. cond b (found_flaw BadSuffix (after_word t)) (found_flaw BadSuffix t)) h
-
-suffix_stays : (t : List ℕ) → first_passes is_xid_start t ≡ false → suffix_flaw_at false t ≡ found_flaw BadSuffix t
-unfolding suffix_flaw_at
-suffix_stays t h = ap (λ b. cond b (found_flaw BadSuffix (after_word t)) (found_flaw BadSuffix t)) h
-
-word_goes : (t : List ℕ) → word_flaw_at false t ≡ found_flaw BadSuffix (after_word t)
-unfolding word_flaw_at
-word_goes t = refl
 
 -- where a suffix alone may stand
 suffix_tells : (t : List ℕ) → is_suffix t ≡ false → Reports is_suffix Never t (suffix_flaw_at false t)
@@ -140,8 +120,8 @@ suffix_past_tells c cs = go (is_xid_start c) refl
     go false h = here_tells is_suffix Never c cs refl (suffix_not c [] h)
 
 -- where a word goes on with an integer that is past the limit
-word_past_tells : (any : List ℕ → Bool) (c : ℕ) (cs : List ℕ) → any [] ≡ true → (is_xid_continue c ≡ true → any (c ∷ []) ≡ true) → (is_xid_continue c ≡ false → any (c ∷ []) ≡ false) → Reports any Never (c ∷ cs) (word_flaw_at true (c ∷ cs))
-unfolding word_flaw_at
+word_past_tells : (any : List ℕ → Bool) (c : ℕ) (cs : List ℕ) → any [] ≡ true → (is_xid_continue c ≡ true → any (c ∷ []) ≡ true) → (is_xid_continue c ≡ false → any (c ∷ []) ≡ false) → Reports any Never (c ∷ cs) (suffix_word_flaw_at true (c ∷ cs))
+unfolding suffix_word_flaw_at
 word_past_tells any c cs whole more none = go (is_xid_continue c) refl
   where
     go : (b : Bool) → is_xid_continue c ≡ b → Reports any Never (c ∷ cs) (cond b (found_flaw TooLarge (c ∷ cs)) (found_flaw BadSuffix (cond b (after_word cs) (c ∷ cs))))
@@ -161,7 +141,7 @@ unsigned_tells i p t none = go i p (first_passes is_xid_start t) refl none
     started : (b q : Bool) → first_passes is_xid_start t ≡ true → digits_read b q t ≡ false → Reports (digits_read b false) Never t (suffix_flaw_at false t)
     started b q h n = subst (Reports (digits_read b false) Never t) (sym (suffix_goes t h)) (word_tells (digits_read b false) Never t (digits_suffix b false (run is_xid_continue t) (whole_start t h)) (digits_none b false) (λ a. both_ways (digits_read b q t) n (digits_suffix b q t (start_suffix t h ∙ a))))
 
-    past : (u : List ℕ) → digits_read true true u ≡ false → Reports (digits_read true false) Never u (word_flaw_at true u)
+    past : (u : List ℕ) → digits_read true true u ≡ false → Reports (digits_read true false) Never u (suffix_word_flaw_at true u)
     past [] n = absurd (both_ways (digits_read true true []) n (digits_suffix true true [] refl))
     past (c ∷ cs) n = word_past_tells (digits_read true false) c cs (digits_suffix true false [] refl) (λ h. digits_word (c ∷ []) (one_word c true h)) (λ h. digits_none true false (c ∷ []) (one_word c false h))
 
@@ -169,7 +149,7 @@ unsigned_tells i p t none = go i p (first_passes is_xid_start t) refl none
     stays q [] h n = absurd (both_ways (digits_read false q []) n (digits_suffix false q [] refl))
     stays q (c ∷ cs) h n = subst (Reports (digits_read false false) Never (c ∷ cs)) (sym (suffix_stays (c ∷ cs) h)) (here_tells (digits_read false false) Never c cs (digits_suffix false false [] refl) (suffix_not c [] h))
 
-    go : (b q s : Bool) → first_passes is_xid_start t ≡ s → digits_read b q t ≡ false → Reports (digits_read b false) Never t (cond (b && not s) (word_flaw_at q t) (suffix_flaw_at false t))
+    go : (b q s : Bool) → first_passes is_xid_start t ≡ s → digits_read b q t ≡ false → Reports (digits_read b false) Never t (cond (b && not s) (suffix_word_flaw_at q t) (suffix_flaw_at false t))
     go true q true h n = started true q h n
     go false q true h n = started false q h n
     go true true false h n = past t n
@@ -242,9 +222,9 @@ digit_tells i p any signed l us t k first marks none =
     ∙ digit_reads i false l us row x k.is_letter marks each (run_first t first) stops) (λ x e. absurd e) (unsigned_tells i p w no_more) in
     subst (λ z. Reports any signed (l ∷ z) (unsigned_flaw_at i p w)) (append_assoc us row w ∙ ap (λ z. us ++ z) (sym joined)) h
 
-other_tells : (i p : Bool) (any : List ℕ → Bool) (signed : List ℕ → Type 0) (l : ℕ) (us t : List ℕ) → IsLetter i any signed l → first_passes is_power_front t ≡ false → list_all is_underscore us ≡ true → ten_reads i p (l ∷ (us ++ t)) ≡ false → Reports any signed (l ∷ (us ++ t)) (word_flaw_at p t)
+other_tells : (i p : Bool) (any : List ℕ → Bool) (signed : List ℕ → Type 0) (l : ℕ) (us t : List ℕ) → IsLetter i any signed l → first_passes is_power_front t ≡ false → list_all is_underscore us ≡ true → ten_reads i p (l ∷ (us ++ t)) ≡ false → Reports any signed (l ∷ (us ++ t)) (suffix_word_flaw_at p t)
 other_tells i p any signed l us t k ok marks none =
-    tell_on is_power_front (list_all is_xid_continue) any Never signed (l ∷ us) t (word_flaw_at p t) ok (λ x h. k.same (us ++ x) ∙ other_reads i false l us x k.is_letter marks h ∙ kept i (list_all is_xid_continue x)) (λ x e. absurd e) (go p t (λ e. sym (kept i (list_all is_xid_continue t)) ∙ ap (λ q. list_all is_xid_continue t && not (i && q)) (sym e) ∙ sym (other_reads i p l us t k.is_letter marks ok) ∙ none))
+    tell_on is_power_front (list_all is_xid_continue) any Never signed (l ∷ us) t (suffix_word_flaw_at p t) ok (λ x h. k.same (us ++ x) ∙ other_reads i false l us x k.is_letter marks h ∙ kept i (list_all is_xid_continue x)) (λ x e. absurd e) (go p t (λ e. sym (kept i (list_all is_xid_continue t)) ∙ ap (λ q. list_all is_xid_continue t && not (i && q)) (sym e) ∙ sym (other_reads i p l us t k.is_letter marks ok) ∙ none))
   where
     kept : (b a : Bool) → (a && not (b && false)) ≡ a
     kept true true = refl
@@ -252,7 +232,7 @@ other_tells i p any signed l us t k ok marks none =
     kept false true = refl
     kept false false = refl
 
-    go : (q : Bool) (u : List ℕ) → (q ≡ false → list_all is_xid_continue u ≡ false) → Reports (list_all is_xid_continue) Never u (word_flaw_at q u)
+    go : (q : Bool) (u : List ℕ) → (q ≡ false → list_all is_xid_continue u ≡ false) → Reports (list_all is_xid_continue) Never u (suffix_word_flaw_at q u)
     go false u n = subst (Reports (list_all is_xid_continue) Never u) (sym (word_goes u)) (word_tells (list_all is_xid_continue) Never u (run_all is_xid_continue u) (λ x h. h) (λ a. both_ways (list_all is_xid_continue u) (n refl) a))
     go true [] n = past_end (list_all is_xid_continue) refl
     go true (c ∷ cs) n = word_past_tells (list_all is_xid_continue) c cs refl (one_word c true) (one_word c false)
@@ -262,7 +242,7 @@ unfolding power_flaw_at
 row_tells i p any signed l us [] k marks ok none = other_tells i p any signed l us [] k refl marks none
 row_tells i p any signed l us (c ∷ cs) k marks ok none = go (c == 43 || c == 45) (is_ascii_digit c) refl refl
   where
-    go : (s d : Bool) → (c == 43 || c == 45) ≡ s → is_ascii_digit c ≡ d → Reports any signed (l ∷ (us ++ (c ∷ cs))) (cond s (signed_flaw_at cs) (cond d (unsigned_flaw_at i p (after_digits 10 (c ∷ cs))) (word_flaw_at p (c ∷ cs))))
+    go : (s d : Bool) → (c == 43 || c == 45) ≡ s → is_ascii_digit c ≡ d → Reports any signed (l ∷ (us ++ (c ∷ cs))) (cond s (signed_flaw_at cs) (cond d (unsigned_flaw_at i p (after_digits 10 (c ∷ cs))) (suffix_word_flaw_at p (c ∷ cs))))
     go true d hs hd = signed_tells i p any signed l c us cs k hs marks none
     go false true hs hd = digit_tells i p any signed l us (c ∷ cs) k hd marks none
     go false false hs hd = other_tells i p any signed l us (c ∷ cs) k (or_from (c == 43 || c == 45) (is_row_part (has_value 10) c) hs (or_from (has_value 10 c) (c == 95) (sym (digit_is_ten c) ∙ hd) ok)) marks none

@@ -1,31 +1,28 @@
 -- Where a text that begins as a number stops being the front of a literal.
-use Rattle.std.proofs.Common.{◌≡◌, ℕ, ◌<◌, ◌≤◌, Bool, true, false, not, cond, ◌&&◌, ◌||◌, ◌==◌, List, [], ◌∷◌, ◌++◌, Option, Some, None, is_none, refl, sym, ap, subst, ◌∙◌, arith, append_assoc, append-nil}
-use Rattle.std.specs.Char.{digit_value, is_ascii_digit}
-use Rattle.std.specs.List.{AllByRecursion, list_all, list_any}
-use Rattle.std.proofs.lemmas.Bool.{and_from, and_left, and_parts, and_right, both_ways, eqb-true, le-ltb, not-true, or_from, or_parts, or_right}
-use Rattle.std.proofs.lemmas.List.Folds.{list_all-append}
+use Rattle.std.proofs.Common.{◌≡◌, ℕ, ◌≤◌, Bool, true, false, not, cond, ◌&&◌, ◌||◌, ◌==◌, List, [], ◌∷◌, ◌++◌, Option, Some, None, is_none, refl, sym, ap, subst, ◌∙◌, arith, append_assoc}
+use Rattle.std.specs.Char.{is_ascii_digit}
+use Rattle.std.specs.List.{list_all, list_any}
+use Rattle.std.proofs.lemmas.Bool.{and_from, and_parts, and_right, both_ways, le-ltb, or_from, or_parts, or_right}
 use Rattle.unicode_ident.specs.Ident.{is_xid_start, is_xid_continue}
 use Rattle.unicode_ident.proofs.Computing.{unicode_ident}
 use Rattle.unicode_ident.proofs.IdentLemmas.{is_xid_start-ascii, is_xid_start-is_xid_continue}
 use Rattle.rl_tokens.proofs.Basics.{all_weaker, digit_is_ten}
 use Rattle.rl_tokens.specs.declared.kind.Kind.TheVariants.{Int, Float}
-use Rattle.rl_tokens.specs.Classes.{after_run}
-use Rattle.rl_tokens.specs.Numbers.{Base, Binary, Octal, Decimal, Hexadecimal, radix, prefix, Sign, NoSign, Minus, sign_text, is_exponent_letter, limit, float_digits}
+use Rattle.rl_tokens.specs.Numbers.{Base, Binary, Octal, Decimal, Hexadecimal, radix, prefix, Sign, NoSign, Minus, sign_text, is_exponent_letter, float_digits}
 use Rattle.rl_tokens.specs.Quoted.{place_value, without_underscores}
 use Rattle.rl_tokens.specs.Reading.{Digits, HasReading}
-use Rattle.rl_tokens.specs.Texts.{first_passes, is_row_part, is_underscore}
-use Rattle.rl_grammar.specs.Flaws.{BeginsLiteral, StopsBefore}
+use Rattle.rl_tokens.specs.Texts.{first_passes, is_row_part}
+use Rattle.rl_grammar.specs.Flaws.{StopsBefore}
 use Rattle.rl_grammar.specs.WholeShapes.{is_number_front}
-use Rattle.rl_grammar.specs.declared.flaws.FlawKind.{FlawKind}
-use Rattle.rl_grammar.specs.declared.flaws.FlawKind.TheVariants.{Unfinished, NoNumber, BadSuffix, TooLarge}
+use Rattle.rl_grammar.specs.declared.flaws.FlawKind.TheVariants.{BadSuffix, TooLarge}
 use Rattle.rl_grammar.specs.Mirrors.UnitFlawAt.{found_flaw}
-use Rattle.rl_grammar.specs.Mirrors.NumberAt.{after_digits, after_exponent, after_fraction, after_minus, append_digit, capped, capped_int, digit_row_at, ended_at, float_at, float_tail_at, has_digit_at, has_value, int_at, is_exponent_suffix, is_suffix, IsHead, magnitude_at, may_end, power_at, radix_at, radix_of, run, sign_at}
-use Rattle.rl_grammar.specs.Mirrors.NumberFlawAt.{after_word, based_flaw_at, end_flaw_at, ends_or_passes, is_past_at, tail_flaw_at, unsigned_number_flaw_at}
+use Rattle.rl_grammar.specs.Mirrors.NumberAt.{after_digits, after_exponent, after_fraction, after_minus, capped, capped_int, digit_row_at, float_at, has_digit_at, has_value, int_at, is_exponent_suffix, is_suffix, IsHead, magnitude_at, may_end, power_at, radix_at, radix_of, run, sign_at}
+use Rattle.rl_grammar.specs.Mirrors.NumberFlawAt.{after_word, based_flaw_at, ends_or_passes, is_past_at, tail_flaw_at, unsigned_number_flaw_at}
 use Rattle.rl_grammar.proofs.DigitRowLemmas.{run_no, run_yes}
 use Rattle.rl_grammar.proofs.FloatLemmas.{float_sound, no_float, passes_more, run_first}
 use Rattle.rl_grammar.proofs.HeadLemmas.{head_float, head_int, head_read, no_head_float, no_head_int}
 use Rattle.rl_grammar.proofs.IntegerLemmas.{Based, based, is_past, is_within, minus_past, no_int, sign_join, within_reads}
-use Rattle.rl_grammar.proofs.NumberFlawLemmas.{Halts, all_breaks, all_off, goes_on, here_halts, no_suffix, part_continues, suffix_is, suffix_not, tail_halts, tail_reads, word_breaks, word_halts}
+use Rattle.rl_grammar.proofs.NumberFlawLemmas.{Halts, all_off, goes_on, no_suffix, part_continues, suffix_is, suffix_not, tail_halts, tail_reads, word_breaks}
 use Rattle.rl_grammar.proofs.NumberLemmas.{no_number, past_number}
 use Rattle.rl_grammar.proofs.ReadingLemmas.{only_number}
 use Rattle.rl_grammar.proofs.RunLemmas.{run_all, run_ends, run_join, run_past}
@@ -465,7 +462,3 @@ minus_stops u h = record {
       let t = 45 ∷ c ∷ e in
       only_number t refl (no_number t (no_int t (no_head_int t no_digit)) (no_float t (no_head_float t no_digit))) r.0 r.1.0 r.1.1 r.1.2;
 }
-
-pub end_rest : (a b : FlawKind) (t : List ℕ) → (end_flaw_at a b t).1 ≡ t
-end_rest a b [] = refl
-end_rest a b (c ∷ cs) = refl

@@ -1,7 +1,7 @@
 -- Where a text that begins neither as a number nor as a quoted literal stops being the front of a
 -- truth value.
 use Rattle.std.proofs.Common.{◌≡◌, ◌≢◌, ℕ, Bool, true, false, cond, ◌||◌, ◌==◌, List, [], ◌∷◌, ◌++◌, None, Some, inl, inr, ◌⊎◌, refl, sym, ap, subst, ◌∙◌, append-nil}
-use Rattle.std.specs.Char.{IsScalar, is_ascii_digit}
+use Rattle.std.specs.Char.{IsScalar}
 use Rattle.std.specs.List.{AllByRecursion}
 use Rattle.std.proofs.lemmas.Bool.{both_ways, eq-eqb, eqb-true, or_parts}
 use Rattle.std.proofs.lemmas.List.{append_cancel_left, append_cancel_right}
@@ -10,18 +10,18 @@ use Rattle.rl_tokens.specs.declared.kind.Kind.TheVariants.{Bool as BoolKind, Byt
 use Rattle.rl_tokens.specs.Quoted.{is_string, opener}
 use Rattle.rl_tokens.specs.Reading.{HasContents, HasNoTruth, HasReading, Truth, quoted_contents, truth_text}
 use Rattle.rl_tokens.specs.Texts.{first_passes}
-use Rattle.rl_grammar.specs.Flaws.{BeginsLiteral, StopsBefore}
+use Rattle.rl_grammar.specs.Flaws.{StopsBefore}
 use Rattle.rl_grammar.specs.NumberFlaws.{BeginsTruth, HasKind, IsWordFlaw}
 use Rattle.rl_grammar.specs.declared.quoted_forms.QuotedForm.{QuotedForm}
 use Rattle.rl_grammar.specs.declared.quoted_forms.QuotedForm.TheVariants.{Cooked as CookedForm, Raw as RawForm, Single as SingleForm}
 use Rattle.rl_grammar.specs.WholeShapes.{is_number_front}
-use Rattle.rl_grammar.specs.declared.flaws.FlawKind.{FlawKind}
-use Rattle.rl_grammar.specs.declared.flaws.FlawKind.TheVariants.{Empty, Unfinished, NoLiteral}
+use Rattle.rl_grammar.specs.declared.flaws.FlawKind.TheVariants.{Unfinished, NoLiteral}
 use Rattle.rl_grammar.specs.Mirrors.NumberFlawAt.{end_flaw_at}
 use Rattle.rl_grammar.specs.Mirrors.OpenerAt.{FoundOpener, byte_opener_at, found_opener, opener_at, string_opener_at}
 use Rattle.rl_grammar.specs.Mirrors.UnitFlawAt.{FoundFlaw, found_flaw}
 use Rattle.rl_grammar.specs.Mirrors.WordFlawAt.{after_letters, word_flaw_at}
 use Rattle.rl_grammar.proofs.FormLemmas.{no_front}
+use Rattle.rl_grammar.proofs.NumberFlawLemmas.{end_rest}
 use Rattle.rl_grammar.proofs.ReadingLemmas.{no_front_number, no_reading}
 
 -- ---- the code's two words
@@ -204,10 +204,6 @@ no_front_stops c cs p t f none number =
           nothing_reads (c ∷ e) (other_opener c cs e prefix.0 prefix.1 none) number (other_first c e t f) (subst (λ z. HasReading (z ∷ e)) (sym same) r);
     }
 
-end_rest : (a b : FlawKind) (t : List ℕ) → (end_flaw_at a b t).1 ≡ t
-end_rest a b [] = refl
-end_rest a b (c ∷ cs) = refl
-
 word_stops : (t : List ℕ) → first_passes is_number_front t ≡ false → opener_at t ≡ None → StopsBefore t (word_flaw_at t).1
 unfolding word_flaw_at
 word_stops [] number none = record {
@@ -245,7 +241,7 @@ truth_kind b t front some is = go (after_letters (truth_text b) t) refl
     begins = record { truth = b; more = k.left; word_is = k.word_is ∙ ap (λ z. z ++ k.left) (append_cancel_right k.front front (after_letters (truth_text b) t) (sym k.text_is ∙ is)) }
 
     go : (rest : List ℕ) → after_letters (truth_text b) t ≡ rest → IsWordFlaw (end_flaw_at Unfinished NoLiteral rest).0 front (end_flaw_at Unfinished NoLiteral rest).1
-    go [] e = ((λ n. some (is ∙ ap (λ z. front ++ z) e ∙ append-nil front ∙ n)), inr (inr begins), refl)
+    go [] e = (inr (inr begins), (λ n. some (is ∙ ap (λ z. front ++ z) e ∙ append-nil front ∙ n)), refl)
     go (c ∷ cs) e = (inr (inr begins), λ n. absurd (cc))
 
 letter_kind : (c : ℕ) (cs front : List ℕ) → (c ≡ 98) ⊎ (c ≡ 99) → c ∷ cs ≡ front ++ cs → IsWordFlaw (end_flaw_at Unfinished NoLiteral cs).0 front (end_flaw_at Unfinished NoLiteral cs).1
@@ -258,8 +254,8 @@ letter_kind c cs front letter is = go cs letter
     some n = let k : c ∷ [] ≡ [] = sym same ∙ n in absurd (cc)
 
     go : (rest : List ℕ) → (c ≡ 98) ⊎ (c ≡ 99) → IsWordFlaw (end_flaw_at Unfinished NoLiteral rest).0 front (end_flaw_at Unfinished NoLiteral rest).1
-    go [] (inl e) = (some, inl (same ∙ ap (λ z. z ∷ []) e), refl)
-    go [] (inr e) = (some, inr (inl (same ∙ ap (λ z. z ∷ []) e)), refl)
+    go [] (inl e) = (inl (same ∙ ap (λ z. z ∷ []) e), some, refl)
+    go [] (inr e) = (inr (inl (same ∙ ap (λ z. z ∷ []) e)), some, refl)
     go (d ∷ ds) (inl e) = (inl (same ∙ ap (λ z. z ∷ []) e), λ n. absurd (cc))
     go (d ∷ ds) (inr e) = (inr (inl (same ∙ ap (λ z. z ∷ []) e)), λ n. absurd (cc))
 

@@ -37,7 +37,10 @@ pub record EndsInSign (text : List ℕ) : Type 0 where
   pub is_power : IsSignedPower power
   pub text_is : text ≡ sign_text sign ++ (whole ++ (fraction_text fraction ++ power))
 
--- The kinds of texts that begin as a number. Where a character follows, it is the rest's first.
+-- The kinds of texts that begin as a number and have no reading. In turn: a minus, and no digit; an
+-- exponent up to its sign, and no digit; either at the end of the text; an integer past the limit,
+-- at the end of the text or with the next character; a number, and a character that goes on with
+-- none.
 abbrev pub IsNumberFlaw : FlawKind → List ℕ → List ℕ → Type 0
 IsNumberFlaw NoNumber front rest = (front ≡ codes "-") × (rest ≢ [])
 IsNumberFlaw NoExponentDigit front rest = EndsInSign front × (rest ≢ [])
@@ -54,13 +57,16 @@ pub record BeginsTruth (text : List ℕ) : Type 0 where
   pub more : List ℕ
   pub word_is : truth_text truth ≡ text ++ more
 
--- The kinds of texts that begin neither as a number nor as a quoted literal.
+-- what the prefixes and the truth values begin with
+abbrev pub BeginsWord : List ℕ → Type 0
+BeginsWord text = (text ≡ codes "b") ⊎ (text ≡ codes "c") ⊎ BeginsTruth text
+
+-- The kinds of texts that begin neither as a number nor as a quoted literal. In turn: no text; a
+-- text that ends too soon; a character that goes on with no literal.
 abbrev pub IsWordFlaw : FlawKind → List ℕ → List ℕ → Type 0
 IsWordFlaw Empty front rest = (front ≡ []) × (rest ≡ [])
-IsWordFlaw Unfinished front rest =
-    (front ≢ []) × ((front ≡ codes "b") ⊎ (front ≡ codes "c") ⊎ BeginsTruth front) × (rest ≡ [])
-IsWordFlaw NoLiteral front rest =
-    ((front ≡ codes "b") ⊎ (front ≡ codes "c") ⊎ BeginsTruth front) × (rest ≢ [])
+IsWordFlaw Unfinished front rest = BeginsWord front × (front ≢ []) × (rest ≡ [])
+IsWordFlaw NoLiteral front rest = BeginsWord front × (rest ≢ [])
 IsWordFlaw kind front rest = ⊥
 
 -- the kind says so of the text up to this rest of it

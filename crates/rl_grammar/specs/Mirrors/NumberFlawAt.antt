@@ -34,8 +34,8 @@ suffix_flaw_at past t =
     else found_flaw BadSuffix t)
 
 -- of what follows the first characters of a suffix
-unfoldable pub word_flaw_at : Bool → List ℕ → FoundFlaw
-word_flaw_at past t =
+unfoldable pub suffix_word_flaw_at : Bool → List ℕ → FoundFlaw
+suffix_word_flaw_at past t =
     if past && ends_or_passes is_xid_continue t then found_flaw TooLarge t
     else found_flaw BadSuffix (after_word t)
 
@@ -48,16 +48,16 @@ signed_flaw_at t =
 -- of what follows the digits of an exponent without a sign
 unfoldable pub unsigned_flaw_at : Bool → Bool → List ℕ → FoundFlaw
 unsigned_flaw_at integer past t =
-    if integer && not (first_passes is_xid_start t) then word_flaw_at past t
+    if integer && not (first_passes is_xid_start t) then suffix_word_flaw_at past t
     else suffix_flaw_at false t
 
 -- of what follows the letter of an exponent and its underscores
 unfoldable pub power_flaw_at : Bool → Bool → List ℕ → FoundFlaw
-power_flaw_at integer past [] = word_flaw_at past []
+power_flaw_at integer past [] = suffix_word_flaw_at past []
 power_flaw_at integer past (c ∷ cs) =
     if c == code "+" || c == code "-" then signed_flaw_at cs
     else (if is_ascii_digit c then unsigned_flaw_at integer past (after_digits 10 (c ∷ cs))
-    else word_flaw_at past (c ∷ cs))
+    else suffix_word_flaw_at past (c ∷ cs))
 
 -- of what follows the whole part, where no fraction begins, or the fraction
 unfoldable pub exponent_flaw_at : Bool → Bool → List ℕ → FoundFlaw

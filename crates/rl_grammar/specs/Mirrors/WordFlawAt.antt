@@ -1,6 +1,6 @@
 -- A mirror of the code, for proofs alone: why a text that begins neither as a number nor as a
 -- quoted literal is no truth value, and the text from that place on.
-use Rattle.std.specs.Prelude.{ℕ, Bool, true, false, ◌==◌, ◌||◌, List, [], ◌∷◌, if◌then◌else◌}
+use Rattle.std.specs.Prelude.{ℕ, true, false, ◌==◌, ◌||◌, List, [], ◌∷◌, if◌then◌else◌}
 use Prim.Native.Char.{code}
 use Rattle.rl_tokens.specs.Reading.{truth_text}
 use Rattle.rl_grammar.specs.declared.flaws.FlawKind.TheVariants.{Empty, Unfinished, NoLiteral}

@@ -8,7 +8,7 @@ ghost use Rattle.rl_tokens.specs.Reading.{HasNoReading};
 ghost use Rattle.rl_grammar.specs.Flaws.{StopsBefore};
 ghost use Rattle.rl_grammar.specs.NumberFlaws.{HasKind, IsNumberFlaw};
 ghost use Rattle.rl_grammar.specs.WholeShapes.{is_number_front};
-ghost use Rattle.rl_grammar.specs.Mirrors.NumberFlawAt.{after_word, based_flaw_at, end_flaw_at, ends_or_passes, exponent_flaw_at, power_flaw_at, signed_flaw_at, suffix_flaw_at, tail_flaw_at, unsigned_flaw_at, unsigned_number_flaw_at, word_flaw_at};
+ghost use Rattle.rl_grammar.specs.Mirrors.NumberFlawAt.{after_word, based_flaw_at, end_flaw_at, ends_or_passes, exponent_flaw_at, power_flaw_at, signed_flaw_at, suffix_flaw_at, tail_flaw_at, unsigned_flaw_at, unsigned_number_flaw_at, suffix_word_flaw_at};
 ghost use Rattle.rl_grammar.specs.Mirrors.UnitFlawAt.{found_flaw};
 
 use crate::digit_rows::{after_minus, begins_digit, read_row, skip_row};
@@ -88,9 +88,9 @@ fn suffix_flaw(past: bool, text: &str) -> FlawAt<'_>
 }
 
 /// Of what follows the first characters of a suffix.
-#[tactic(auto, unfolding(crate::specs::Mirrors::NumberFlawAt::word_flaw_at))]
-fn word_flaw(past: bool, text: &str) -> FlawAt<'_>
-    ensures { found_flaw result.kind (chars result.rest.now) ≡ word_flaw_at past (chars text.now) }
+#[tactic(auto, unfolding(crate::specs::Mirrors::NumberFlawAt::suffix_word_flaw_at))]
+fn suffix_word_flaw(past: bool, text: &str) -> FlawAt<'_>
+    ensures { found_flaw result.kind (chars result.rest.now) ≡ suffix_word_flaw_at past (chars text.now) }
 {
     if past && ends_or_continues(text) {
         make_flaw(FlawKind::TooLarge, text)
@@ -119,7 +119,7 @@ fn unsigned_flaw(integer: bool, past: bool, text: &str) -> FlawAt<'_>
         ≡ unsigned_flaw_at integer past (chars text.now) }
 {
     if integer && !begins_suffix(text) {
-        word_flaw(past, text)
+        suffix_word_flaw(past, text)
     } else {
         suffix_flaw(false, text)
     }
@@ -134,7 +134,7 @@ fn power_flaw(integer: bool, past: bool, text: &str) -> FlawAt<'_>
     match split_char(text) {
         Some(('+' | '-', digits)) => signed_flaw(digits),
         Some(('0'..='9', _)) => unsigned_flaw(integer, past, skip_row(text).rest),
-        _ => word_flaw(past, text),
+        _ => suffix_word_flaw(past, text),
     }
 }
 
