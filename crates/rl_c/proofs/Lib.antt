@@ -1,3 +1,5 @@
 pub mod NextLemmas
+pub mod NoListLemmas
 pub mod ReadingLemmas
 pub mod SourceLemmas
+pub mod StepLemmas

@@ -13,6 +13,7 @@ ghost use Rattle.rl_tokens.specs.Skipping.{Skipped};
 ghost use Rattle.rl_c.specs.Lists.{BeginsLiteral, BeginsNoLiteral};
 ghost use Rattle.rl_c.specs.Crossing.{TellsReading, Tells, IsOfKind, IsCooked};
 
+pub mod laws;
 mod layout;
 mod next;
 mod reading;
@@ -134,8 +135,9 @@ pub extern "C" fn rl_float_digits(text: &[u8], reading: &Reading, out: &mut [u8]
 }
 
 /// What begins the list, after white space and comments: 0 where nothing does, 1 for a literal, 2
-/// for a token that begins none, else the number of the lexer's error. `next` tells the literal, or
-/// by `lo` the place of what is none.
+/// for a word or mark that begins none, 13 for an opening delimiter, else the number of the lexer's
+/// error, which a closing delimiter is too. `next` tells the literal, or by `lo` the place of what is
+/// none.
 #[unsafe(no_mangle)]
 pub extern "C" fn rl_next(text: &[u8], next: &mut Next) -> u8
     requires utf8 { IsUtf8 text.now }

@@ -1,13 +1,14 @@
 //! The literal at the front of a list.
 
-ghost use Rattle.std.specs.Prelude.{◌≡◌, ◌≢◌, ◌+◌, ◌<◌, [], length, IfSome, IfNone};
+ghost use Rattle.std.specs.Prelude.{◌≡◌, ◌≢◌, ◌+◌, ◌<◌, [], false, length, IfSome, IfNone};
 ghost use Rattle.std.specs.Str.{chars};
+ghost use Rattle.rl_tokens.specs.Cursors.{form_view};
 ghost use Rattle.rl_tokens.specs.Skipping.{Skipped};
-ghost use Rattle.rl_c.specs.Lists.{TakesNextLiteral, HasNoNextLiteral, TellsFault, fault_number};
+ghost use Rattle.rl_c.specs.Lists.{TakesNextLiteral, HasNoNextLiteral, TellsFault, fault_number, token_number};
 
 use crate::reading::Reading;
 use rl_grammar::{find, find_negative};
-use rl_tokens::{Form, LexKind, Tokens};
+use rl_tokens::{Form, LexKind, Lexeme, Tokens};
 
 /// The literal at the front of a list, and where what is left begins. Places count in the text that
 /// was handed in.
@@ -17,7 +18,7 @@ pub struct Next {
     /// What reading the literal finds; its places count in the literal, with the minus directly
     /// before the number.
     pub reading: Reading,
-    /// The place of the minus, where one stands.
+    /// The place of the literal's first byte, of the minus where one stands. `rl_source_next` leaves it.
     pub minus_at: usize,
     /// The place of the token's first byte; where none is a literal, of the error.
     pub lo: usize,
@@ -48,6 +49,39 @@ pub(crate) fn fault_number(kind: LexKind) -> u8
     }
 }
 
+/// The number of a token that begins no literal.
+fn token_number(form: Form) -> u8
+    ensures value { result ≡ token_number (form_view form) }
+    ensures past { 1 < result }
+{
+    match form {
+        Form::Delimiter('(' | '[' | '{') => 13,
+        Form::Delimiter(_) => fault_number(LexKind::UnmatchedClose),
+        _ => 2,
+    }
+}
+
+/// The token, without a minus, as the literal of this reading.
+fn alone(token: Lexeme<'_>, reading: Reading) -> Next
+    ensures { result ≡ record {
+      reading = reading;
+      minus_at = token.entry.lo;
+      lo = token.entry.lo;
+      hi = token.entry.hi;
+      rest_at = 0;
+      negative = false;
+    } }
+{
+    Next {
+        reading,
+        minus_at: token.lo,
+        lo: token.lo,
+        hi: token.hi,
+        rest_at: 0,
+        negative: false,
+    }
+}
+
 /// The literal that the next tokens are, which are cut off; what is left isn't told.
 pub(crate) fn take_next(tokens: &mut Tokens<'_>) -> Option<Next>
     ensures some { IfSome result (λ next. TakesNextLiteral tokens.old next tokens.new) }
@@ -58,16 +92,10 @@ pub(crate) fn take_next(tokens: &mut Tokens<'_>) -> Option<Next>
         return None;
     };
     match token.form {
-        Form::Literal | Form::Identifier => {
+        Form::Literal => Some(alone(token, Reading::of_token(token.text))),
+        Form::Identifier => {
             let found = find(token.text)?;
-            Some(Next {
-                reading: Reading::of(&found),
-                minus_at: token.lo,
-                lo: token.lo,
-                hi: token.hi,
-                rest_at: 0,
-                negative: false,
-            })
+            Some(alone(token, Reading::of(&found)))
         }
         Form::Mark('-') => {
             let Some(number) = tokens.next() else {
@@ -93,10 +121,14 @@ pub(crate) fn take_next(tokens: &mut Tokens<'_>) -> Option<Next>
 /// Why no literal begins what is left, which isn't empty.
 pub(crate) fn refusal(tokens: &Tokens<'_>) -> u8
     requires { tokens.now.rest ≢ [] }
-    ensures { TellsFault tokens.now result }
+    ensures tells { TellsFault tokens.now result }
+    ensures past { 1 < result }
 {
-    match tokens.fault() {
-        Some(fault) => fault_number(fault.kind),
-        None => 2,
+    if let Some(fault) = tokens.fault() {
+        return fault_number(fault.kind);
+    }
+    match tokens.fork().next() {
+        Some(token) => token_number(token.form),
+        None => unreachable!(),
     }
 }
