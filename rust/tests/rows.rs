@@ -13,6 +13,7 @@ fn text_of(text: &str) -> Option<String> {
         Lit::Int(l) => format!("Int {} {}", l.base10_digits(), l.suffix()),
         Lit::Float(l) => format!("Float {} {}", l.base10_digits(), l.suffix()),
         Lit::Bool(l) => format!("Bool {} {}", l.value(), l.suffix()),
+        Lit::Verbatim(l) => format!("Verbatim {l}"),
     })
 }
 
