@@ -14,7 +14,6 @@ use Rattle.rl_tokens.specs.Reading.{HasNoReading}
 use Rattle.rl_tokens.specs.Skipping.{Skipped}
 use Rattle.rl_tokens.proofs.Rests.{behind_length}
 use Rattle.rl_c.specs.declared.next.Next.{Next}
-use Rattle.rl_c.specs.declared.reading.Reading.{Reading}
 use Rattle.rl_c.specs.Crossing.{TellsLiteral}
 use Rattle.rl_c.specs.Lists.{Starts, TellsToken, TakesNextLiteral, BeginsLiteral, BeginsNone, HasNoNextLiteral, TellsFault, BeginsNoLiteral}
 
@@ -72,15 +71,15 @@ ends text lent rest left same skipped is empty =
     subst (λ z. Skipped (chars z) []) same (subst (Skipped (chars lent)) (ap chars nothing ∙ chars-nil) skipped)
 
 -- a literal token
-pub takes_token : (old new : CursorState) (l : Lexeme) (r : Reading) → TakesNext old l new → l.form ≡ found.Literal → TellsLiteral l.text.now r → TakesNextLiteral old (record { reading = r; minus_at = l.lo; lo = l.lo; hi = l.hi; rest_at = 0; negative = false }) new
-takes_token old new l r takes is tells = inl (record {
+pub takes_token : (old new : CursorState) (l : Lexeme) (n : Next) → TakesNext old l new → l.form ≡ found.Literal → TellsLiteral l.text.now n.reading → n.minus_at ≡ l.lo → n.lo ≡ l.lo → n.hi ≡ l.hi → n.negative ≡ false → TakesNextLiteral old n new
+takes_token old new l n takes is tells begins lo hi no_minus = inl (record {
   token = l;
   takes = takes;
-  tells = subst (λ (f : FoundForm). TellsToken (form_view f) l.text.now r) (sym is) tells;
-  begins = refl;
-  lo_is = refl;
-  hi_is = refl;
-  no_minus = refl;
+  tells = subst (λ (f : FoundForm). TellsToken (form_view f) l.text.now n.reading) (sym is) tells;
+  begins = begins;
+  lo_is = lo;
+  hi_is = hi;
+  no_minus = no_minus;
 })
 
 -- a word that is no literal

@@ -152,17 +152,12 @@ pub extern "C" fn rl_next(text: &[u8], next: &mut Next) -> u8
         return 0;
     }
     let mut tokens = start.fork();
-    match take_next(&mut tokens) {
-        Some(found) => {
-            *next = found;
-            next.rest_at = text.len() - tokens.rest().len();
-            1
-        }
-        None => {
-            next.lo = text.len() - start.rest().len();
-            refusal(&start)
-        }
+    if take_next(&mut tokens, next) {
+        next.rest_at = text.len() - tokens.rest().len();
+        return 1;
     }
+    next.lo = text.len() - start.rest().len();
+    refusal(&start)
 }
 
 /// Whether the text is a literal token of the Rust Reference.

@@ -1,6 +1,6 @@
 //! The literal at the front of a list.
 
-ghost use Rattle.std.specs.Prelude.{◌≡◌, ◌≢◌, ◌+◌, ◌<◌, [], false, length, IfSome, IfNone};
+ghost use Rattle.std.specs.Prelude.{◌≡◌, ◌≢◌, ◌<◌, [], false, IsTrue, IsFalse};
 ghost use Rattle.std.specs.Str.{chars};
 ghost use Rattle.rl_tokens.specs.Cursors.{form_view};
 ghost use Rattle.rl_tokens.specs.Skipping.{Skipped};
@@ -61,60 +61,64 @@ fn token_number(form: Form) -> u8
     }
 }
 
-/// The token, without a minus, as the literal of this reading.
-fn alone(token: Lexeme<'_>, reading: Reading) -> Next
-    ensures { result ≡ record {
-      reading = reading;
-      minus_at = token.entry.lo;
-      lo = token.entry.lo;
-      hi = token.entry.hi;
-      rest_at = 0;
-      negative = false;
-    } }
-{
-    Next {
-        reading,
-        minus_at: token.lo,
-        lo: token.lo,
-        hi: token.hi,
-        rest_at: 0,
-        negative: false,
+impl Next {
+    /// Tells the token, without a minus, as a literal; its reading is told apart.
+    fn tell_alone(&mut self, token: Lexeme<'_>)
+        ensures { self.new ≡ record (self.old) {
+          minus_at = token.entry.lo;
+          lo = token.entry.lo;
+          hi = token.entry.hi;
+          negative = false;
+        } }
+    {
+        self.minus_at = token.lo;
+        self.lo = token.lo;
+        self.hi = token.hi;
+        self.negative = false;
     }
 }
 
-/// The literal that the next tokens are, which are cut off; what is left isn't told.
-pub(crate) fn take_next(tokens: &mut Tokens<'_>) -> Option<Next>
-    ensures some { IfSome result (λ next. TakesNextLiteral tokens.old next tokens.new) }
+/// Cuts off the next tokens where they are a literal, which is told but for what is left, and says whether they are.
+pub(crate) fn take_next(tokens: &mut Tokens<'_>, next: &mut Next) -> bool
+    ensures some { IsTrue result → TakesNextLiteral tokens.old next.new tokens.new }
     ensures same { tokens.new.text ≡ tokens.old.text }
-    ensures none { IfNone result (HasNoNextLiteral tokens.old) }
+    ensures none { IsFalse result → HasNoNextLiteral tokens.old }
 {
     let Some(token) = tokens.next() else {
-        return None;
+        return false;
     };
     match token.form {
-        Form::Literal => Some(alone(token, Reading::of_token(token.text))),
+        Form::Literal => {
+            next.reading.tell_token(token.text);
+            next.tell_alone(token);
+            true
+        }
         Form::Identifier => {
-            let found = find(token.text)?;
-            Some(alone(token, Reading::of(&found)))
+            let Some(found) = find(token.text) else {
+                return false;
+            };
+            next.reading = Reading::of(&found);
+            next.tell_alone(token);
+            true
         }
         Form::Mark('-') => {
             let Some(number) = tokens.next() else {
-                return None;
+                return false;
             };
             let Form::Literal = number.form else {
-                return None;
+                return false;
             };
-            let found = find_negative(number.text)?;
-            Some(Next {
-                reading: Reading::of(&found),
-                minus_at: token.lo,
-                lo: number.lo,
-                hi: number.hi,
-                rest_at: 0,
-                negative: true,
-            })
+            let Some(found) = find_negative(number.text) else {
+                return false;
+            };
+            next.reading = Reading::of(&found);
+            next.minus_at = token.lo;
+            next.lo = number.lo;
+            next.hi = number.hi;
+            next.negative = true;
+            true
         }
-        _ => None,
+        _ => false,
     }
 }
 

@@ -95,13 +95,13 @@ impl Reading {
         }
     }
 
-    /// What reading a literal token finds, or that it has no reading.
-    pub(crate) fn of_token(text: &str) -> Reading
-        ensures { TellsLiteral text.now result }
+    /// Tells what reading a literal token finds, or that it has no reading.
+    pub(crate) fn tell_token(&mut self, text: &str)
+        ensures { TellsLiteral text.now self.new }
     {
         match find(text) {
-            Some(found) => Reading::of(&found),
-            None => Reading::verbatim(text.len()),
+            Some(found) => *self = Reading::of(&found),
+            None => *self = Reading::verbatim(text.len()),
         }
     }
 }
