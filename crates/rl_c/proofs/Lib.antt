@@ -3,3 +3,4 @@ pub mod NoListLemmas
 pub mod ReadingLemmas
 pub mod SourceLemmas
 pub mod StepLemmas
+pub mod TreeLemmas

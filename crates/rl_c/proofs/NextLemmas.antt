@@ -1,5 +1,5 @@
 -- The literal at the front of a list.
-use Rattle.std.proofs.Common.{◌≡◌, ◌≢◌, ◌⊎◌, inl, inr, ℕ, ◌-◌, ◌≤◌, ◌==◌, true, false, List, [], length, refl, sym, ap, subst, ◌∙◌, arith}
+use Rattle.std.proofs.Common.{◌≡◌, ◌≢◌, ◌⊎◌, inl, inr, ℕ, ◌-◌, ◌≤◌, ◌==◌, Bool, true, false, List, [], length, refl, sym, ap, subst, ◌∙◌, arith}
 use Rattle.std.proofs.lemmas.Bool.Decides.{nat_tests}
 use Rattle.std.proofs.lemmas.List.{nil_from_length}
 use Rattle.std.proofs.lemmas.Str.{chars-nil}
@@ -10,11 +10,14 @@ use Rattle.rl_tokens.specs.declared.lexeme.Form.TheVariants as found
 use Rattle.rl_tokens.specs.Cursors.{CursorState, IsCursorState, TakesNext, form_view}
 use Rattle.rl_tokens.specs.Lexemes.{LexemeForm, LiteralForm, MarkForm}
 use Rattle.rl_tokens.specs.Lexing.{BeginsLexeme, BeginsNoLexeme}
-use Rattle.rl_tokens.specs.Reading.{HasNoReading}
+use Rattle.rl_tokens.specs.declared.kind.Kind.TheVariants.{Bool as BoolKind}
+use Rattle.rl_tokens.specs.Reading.{truth_text}
+use Rattle.rl_grammar.proofs.FrontLemmas.{truth_reads}
 use Rattle.rl_tokens.specs.Skipping.{Skipped}
 use Rattle.rl_tokens.proofs.Rests.{behind_length}
 use Rattle.rl_c.specs.declared.next.Next.{Next}
-use Rattle.rl_c.specs.Crossing.{TellsLiteral}
+use Rattle.rl_c.specs.declared.reading.Reading.{Reading}
+use Rattle.rl_c.specs.Crossing.{TellsReading, TellsLiteral}
 use Rattle.rl_c.specs.Lists.{Starts, TellsToken, TakesNextLiteral, BeginsLiteral, BeginsNone, HasNoNextLiteral, TellsFault, BeginsNoLiteral}
 
 with_rest : (old new : CursorState) (n : Next) (r : ℕ) → TakesNextLiteral old n new → TakesNextLiteral old (record n { rest_at = r }) new
@@ -70,21 +73,25 @@ ends text lent rest left same skipped is empty =
     let nothing : rest ≡ [] = sym is ∙ nil_from_length left none in
     subst (λ z. Skipped (chars z) []) same (subst (Skipped (chars lent)) (ap chars nothing ∙ chars-nil) skipped)
 
--- a literal token
-pub takes_token : (old new : CursorState) (l : Lexeme) (n : Next) → TakesNext old l new → l.form ≡ found.Literal → TellsLiteral l.text.now n.reading → n.minus_at ≡ l.lo → n.lo ≡ l.lo → n.hi ≡ l.hi → n.negative ≡ false → TakesNextLiteral old n new
-takes_token old new l n takes is tells begins lo hi no_minus = inl (record {
-  token = l;
-  takes = takes;
-  tells = subst (λ (f : FoundForm). TellsToken (form_view f) l.text.now n.reading) (sym is) tells;
-  begins = begins;
-  lo_is = lo;
-  hi_is = hi;
-  no_minus = no_minus;
-})
+-- a token without a minus
+pub takes_alone : (old new : CursorState) (l : Lexeme) (n : Next) → TakesNext old l new → TellsToken (form_view l.form) l.text.now n.reading → n.minus_at ≡ l.lo → n.lo ≡ l.lo → n.hi ≡ l.hi → n.negative ≡ false → TakesNextLiteral old n new
+takes_alone old new l n takes tells begins lo hi no_minus =
+    inl (record { token = l; takes = takes; tells = tells; begins = begins; lo_is = lo; hi_is = hi; no_minus = no_minus })
 
--- a word that is no literal
-pub no_word : (old new : CursorState) (l : Lexeme) → TakesNext old l new → l.form ≡ found.Identifier → HasNoReading (chars l.text.now) → HasNoNextLiteral old
-no_word old new l takes is none = inr (l, new, takes, subst (λ (f : FoundForm). BeginsNone (form_view f) l.text.now new) (sym is) none)
+pub token_told : (l : Lexeme) (r : Reading) → l.form ≡ found.Literal → TellsLiteral l.text.now r → TellsToken (form_view l.form) l.text.now r
+token_told l r is tells = subst (λ (f : FoundForm). TellsToken (form_view f) l.text.now r) (sym is) tells
+
+-- a word that is a literal has a reading
+pub word_told : (l : Lexeme) (r : Reading) (b : Bool) → l.form ≡ found.Identifier → chars l.text.now ≡ truth_text b → TellsLiteral l.text.now r → TellsToken (form_view l.form) l.text.now r
+word_told l r b is word tells = subst (λ (f : FoundForm). TellsToken (form_view f) l.text.now r) (sym is) ((b, word), reading tells)
+  where
+    reading : TellsLiteral l.text.now r → TellsReading l.text.now r
+    reading (inl told) = told
+    reading (inr none) = let (contents, suffix, reads) = truth_reads (chars l.text.now) b word in absurd (none.none BoolKind contents suffix reads)
+
+-- a word that is none
+pub no_word : (old new : CursorState) (l : Lexeme) → TakesNext old l new → l.form ≡ found.Identifier → ((b : Bool) → chars l.text.now ≢ truth_text b) → HasNoNextLiteral old
+no_word old new l takes is none = inr (l, new, takes, subst (λ (f : FoundForm). BeginsNone (form_view f) l.text.now new) (sym is) (λ word. none word.0 word.1))
 
 -- a token begins what is left, or an error stands there
 pub nothing_else : (t ahead : CursorState) → t.rest ≢ [] → ahead ≡ t → BeginsNoLexeme (chars ahead.rest) → ((t.rest ≡ []) ⊎ BeginsLexeme (chars t.rest)) → ⊥

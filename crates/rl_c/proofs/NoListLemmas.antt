@@ -92,7 +92,7 @@ some_left t status (inr (l, new, takes, _)) e = no_token takes.cut.lexeme takes.
 -- a token that begins no literal is none
 never : (f : LexemeForm) (text : List ℕ) (new : CursorState) (reading : Reading) → BeginsNone f text new → TellsToken f text reading → ⊥
 never LiteralForm text new reading none tells = none
-never IdentifierForm text new reading none (found, is_found, _) = none found.kind is_found.reads.0 _ is_found.reads.1
+never IdentifierForm text new reading none (word, _) = none word
 never (DelimiterForm c) text new reading none tells = tells
 never (MarkForm c) text new reading none tells = tells
 

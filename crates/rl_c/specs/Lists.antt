@@ -1,5 +1,5 @@
 -- A list of literals, taken one by one from the front of what is left of it.
-use Rattle.std.specs.Prelude.{◌≡◌, ◌≢◌, ◌⊎◌, ℕ, ◌+◌, true, false, List, ◌∷◌, length, ⊤, if◌then◌else◌}
+use Rattle.std.specs.Prelude.{◌≡◌, ◌≢◌, ◌⊎◌, ℕ, ◌+◌, Bool, true, false, List, ◌∷◌, length, ⊤, if◌then◌else◌}
 use Rattle.std.specs.Str.{chars}
 use Prim.Native.Char.{code}
 use Rattle.rl_tokens.specs.declared.cursor.Lexeme.{Lexeme}
@@ -8,7 +8,7 @@ use Rattle.rl_tokens.specs.declared.lex_error.LexKind.TheVariants.{DocComment, U
 use Rattle.rl_tokens.specs.Cursors.{CursorState, IsCursorState, TakesNext, form_view}
 use Rattle.rl_tokens.specs.Lexemes.{LexemeForm, LiteralForm, IdentifierForm, DelimiterForm, MarkForm}
 use Rattle.rl_tokens.specs.Lexing.{BeginsNoLexeme, OpenGroup, FaultAt, is_opener}
-use Rattle.rl_tokens.specs.Reading.{HasNoReading}
+use Rattle.rl_tokens.specs.Reading.{HasNoReading, truth_text}
 use Rattle.rl_tokens.specs.Skipping.{Skipped}
 use Rattle.rl_c.specs.declared.next.Next.{Next}
 use Rattle.rl_c.specs.declared.reading.Reading.{Reading}
@@ -20,11 +20,15 @@ pub record Starts (text : List ℕ) (start : CursorState) : Type 0 where
   pub state : IsCursorState text start.rest
   pub skipped : Skipped (chars text) (chars start.rest)
 
+-- the text is one of the words `true` and `false`
+abbrev pub IsTruthWord : List ℕ → Type 0
+IsTruthWord text = (b : Bool) × (chars text ≡ truth_text b)
+
 -- What is told of a token alone, by its form: of a literal token its reading, or that it has none; of
--- a word its reading. Other tokens are no literals.
+-- the words `true` and `false` their reading. Other tokens are no literals.
 abbrev pub TellsToken : LexemeForm → List ℕ → Reading → Type 0
 TellsToken LiteralForm text reading = TellsLiteral text reading
-TellsToken IdentifierForm text reading = TellsReading text reading
+TellsToken IdentifierForm text reading = IsTruthWord text × TellsReading text reading
 TellsToken _ text reading = ⊥
 
 -- The next token is the literal.
@@ -75,7 +79,7 @@ HasNoNumber t =
 -- also where it has no reading.
 abbrev pub BeginsNone : LexemeForm → List ℕ → CursorState → Type 0
 BeginsNone LiteralForm text behind = ⊥
-BeginsNone IdentifierForm text behind = HasNoReading (chars text)
+BeginsNone IdentifierForm text behind = IsTruthWord text → ⊥
 BeginsNone (DelimiterForm c) text behind = ⊤
 BeginsNone (MarkForm c) text behind = (c ≢ code "-") ⊎ HasNoNumber behind
 

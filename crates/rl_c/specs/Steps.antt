@@ -3,11 +3,14 @@ use Rattle.std.specs.Prelude.{◌≡◌, ◌⊎◌, ℕ, ◌+◌, List, [], ◌�
 use Rattle.std.specs.Str.{chars}
 use Prim.Native.Char.{code}
 use Rattle.rl_tokens.specs.Lexemes.{lexeme_text, form_of, LiteralForm, MarkForm}
-use Rattle.rl_tokens.specs.Lexing.{LexedToken, end_of, LexesUpTo}
+use Rattle.rl_tokens.specs.Lexing.{LexedToken, end_of, LexesUpTo, Lexes}
 use Rattle.rl_tokens.specs.Skipping.{Skipped}
+use Rattle.rl_tokens.specs.Texts.{SpannedText}
+use Rattle.rl_tokens.specs.Trees.{Tree}
+use Rattle.rl_grammar.specs.Fronts.{IsFront}
 use Rattle.rl_c.specs.declared.next.Next.{Next}
 use Rattle.rl_c.specs.declared.reading.Reading.{Reading}
-use Rattle.rl_c.specs.Crossing.{TellsReading}
+use Rattle.rl_c.specs.Crossing.{TellsReading, TellsLiteral}
 use Rattle.rl_c.specs.Lists.{TellsToken, BeginsLiteral, BeginsNoLiteral}
 
 -- A literal of a list: where it stands in the whole list, from its minus on where one stands, and
@@ -53,6 +56,21 @@ pub record IsList (text : List ℕ) (list : List ListLiteral) : Type 0 where
   pub cuts : List LexedToken
   pub are_cuts : LexesUpTo 0 (chars text) cuts []
   pub are_literals : AreLiterals cuts list
+
+-- The trees are these literals, one after another: what `IsFront` calls the first literal of trees is
+-- one token, at the literal's place, and its text is told.
+abbrev pub AreFronts : ℕ → List Tree → List ListLiteral → Type 0
+AreFronts file trees [] = trees ≡ []
+AreFronts file trees (l ∷ ls) =
+    (token : SpannedText) × (rest : List Tree) × IsFront trees token rest
+    × (token.span ≡ record { file = file; lo = l.lo; hi = l.hi })
+    × TellsLiteral token.text l.reading × AreFronts file rest ls
+
+-- The text is cut into the trees of these literals, with nothing left.
+pub record IsListOfTrees (text : List ℕ) (file : ℕ) (list : List ListLiteral) : Type 0 where
+  pub trees : List Tree
+  pub lexes : Lexes (chars text) file trees
+  pub fronts : AreFronts file trees list
 
 -- The first call is given the text, and each later one what the call before left of it; each returns
 -- a literal, and this holds of what the last one left.

@@ -7,7 +7,7 @@ ghost use Rattle.rl_tokens.specs.Skipping.{Skipped};
 ghost use Rattle.rl_c.specs.Lists.{TakesNextLiteral, HasNoNextLiteral, TellsFault, fault_number, token_number};
 
 use crate::reading::Reading;
-use rl_grammar::{find, find_negative};
+use rl_grammar::{find_negative, truth_of};
 use rl_tokens::{Form, LexKind, Lexeme, Tokens};
 
 /// The literal at the front of a list, and where what is left begins. Places count in the text that
@@ -94,10 +94,10 @@ pub(crate) fn take_next(tokens: &mut Tokens<'_>, next: &mut Next) -> bool
             true
         }
         Form::Identifier => {
-            let Some(found) = find(token.text) else {
+            let Some(_) = truth_of(token.text) else {
                 return false;
             };
-            next.reading = Reading::of(&found);
+            next.reading.tell_token(token.text);
             next.tell_alone(token);
             true
         }
