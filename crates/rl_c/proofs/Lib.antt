@@ -1,3 +1,4 @@
+pub mod FrontLemmas
 pub mod NextLemmas
 pub mod NoListLemmas
 pub mod ReadingLemmas

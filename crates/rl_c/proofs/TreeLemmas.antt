@@ -21,13 +21,13 @@ use Rattle.rl_c.specs.Lists.{TellsToken}
 use Rattle.rl_c.specs.Steps.{ListLiteral, AreLiterals, IsList, AreFronts, IsListOfTrees}
 
 -- the text of a token, its place, and both
-abbrev text_of : LexedToken → List ℕ
+abbrev pub text_of : LexedToken → List ℕ
 text_of w = encode_utf8_all (lexeme_text w.lexeme)
 
-abbrev span_of : ℕ → LexedToken → Span
+abbrev pub span_of : ℕ → LexedToken → Span
 span_of file w = record { file = file; lo = w.at; hi = end_of w }
 
-abbrev token_of : ℕ → LexedToken → SpannedText
+abbrev pub token_of : ℕ → LexedToken → SpannedText
 token_of file w = record { text = text_of w; span = span_of file w }
 
 -- The tree of a token that is a literal.
@@ -61,12 +61,12 @@ stay : (w : LexedToken) (ws : List LexedToken) → behind_form [] (form_of w.lex
 stay w ws one more = ap (option_and_then (λ g. open_groups g ws)) one ∙ more
 
 -- what stands after white space and comments is no longer
-no_longer : (t r : List ℕ) → Skipped t r → byte_len r ≤ byte_len t
+pub no_longer : (t r : List ℕ) → Skipped t r → byte_len r ≤ byte_len t
 no_longer t r (inl s) = omega (arith, ap byte_len s.text, byte_len-append s.front r)
 no_longer t r (inr s) = let none : byte_len [] ≡ 0 = refl in omega (arith, ap byte_len s.nothing, none)
 
 -- a minus and a number after it are one token
-one_span : (file : ℕ) (m l : LexedToken) → end_of m ≤ l.at → joined_span (span_of file m) (span_of file l) ≡ record { file = file; lo = m.at; hi = end_of l }
+pub one_span : (file : ℕ) (m l : LexedToken) → end_of m ≤ l.at → joined_span (span_of file m) (span_of file l) ≡ record { file = file; lo = m.at; hi = end_of l }
 one_span file m l after =
     let same : (file == file) ≡ true = grind (arith, nat_tests) in
     let lo : min m.at l.at ≡ m.at = omega (arith, after) in
