@@ -11,10 +11,10 @@ use Rattle.rl_tokens.specs.declared.span.Span.{Span}
 use Rattle.rl_tokens.specs.declared.error.Error.{Error}
 use Rattle.rl_tokens.specs.Texts.{SpannedText}
 use Rattle.rl_tokens.specs.Trees.{Tree}
-use Rattle.rl_tokens.specs.Buffers.{begins_ident, begins_mark, IsBehindMark}
+use Rattle.rl_tokens.specs.Buffers.{begins_ident, begins_mark, IsAfterMark}
 use Rattle.rl_grammar.specs.Fronts.{IsFront}
 use Rattle.rl_grammar.proofs.FrontLemmas.{one_front, front_rest}
-use Rattle.rl_attributes.specs.Attributes.{Attribute, IsAttribute, AreListed, names_of, is_named, NamesDiffer, MissesName, RepeatsName, MissesEquals, MissesLiteral, MissesComma, RefusesNextAttribute, StandBefore, RefusesAttributes, HasNewName}
+use Rattle.rl_attributes.specs.Attributes.{Attribute, IsAttribute, AreListed, names_of, is_named, NamesDiffer, MissesName, RepeatsName, MissesEquals, MissesLiteral, MissesComma, RejectsNextAttribute, StandBefore, RejectsAttributes, HasNewName}
 use Rattle.rl_attributes.specs.AttributeSteps.{IsNext}
 
 -- ---- one attribute
@@ -28,14 +28,14 @@ none_listed [] h = refl
 none_listed (a ∷ others) (b, i, c) = absurd (no_attribute a b i)
 
 -- a character of punctuation leaves one rest
-one_mark : (ch : ℕ) (trees a b : List Tree) → IsBehindMark ch trees a → IsBehindMark ch trees b → a ≡ b
+one_mark : (ch : ℕ) (trees a b : List Tree) → IsAfterMark ch trees a → IsAfterMark ch trees b → a ≡ b
 one_mark ch trees a b h k = let e = h.trees_are in let f = k.trees_are in cc
 
 -- where it stands, the test says so
-mark_begins : (ch : ℕ) (trees rest : List Tree) → IsBehindMark ch trees rest → begins_mark ch trees ≡ true
+mark_begins : (ch : ℕ) (trees rest : List Tree) → IsAfterMark ch trees rest → begins_mark ch trees ≡ true
 mark_begins ch trees rest h = rw (h.trees_are, h.is) (search arith)
 
-no_behind : (ch : ℕ) (trees rest : List Tree) → IsBehindMark ch trees rest → trees ≡ [] → ⊥
+no_behind : (ch : ℕ) (trees rest : List Tree) → IsAfterMark ch trees rest → trees ≡ [] → ⊥
 no_behind ch trees rest h e = let f = h.trees_are in absurd (cc)
 
 abbrev attribute : SpannedText → SpannedText → Attribute
@@ -48,7 +48,7 @@ one_attribute trees a b r s h k =
     let kn = k.named in
     let names : a.name ≡ b.name = cc in
     let equals : h.at_equals ≡ k.at_equals = cc in
-    let literals : h.at_literal ≡ k.at_literal = one_mark 61 k.at_equals h.at_literal k.at_literal (subst (λ (t : List Tree). IsBehindMark 61 t h.at_literal) equals h.equals) k.equals in
+    let literals : h.at_literal ≡ k.at_literal = one_mark 61 k.at_equals h.at_literal k.at_literal (subst (λ (t : List Tree). IsAfterMark 61 t h.at_literal) equals h.equals) k.equals in
     let one = one_front k.at_literal a.literal b.literal r s (subst (λ (t : List Tree). IsFront t a.literal r) literals h.set) k.set in
     (ap (λ (n : SpannedText). attribute n a.literal) names ∙ ap (attribute b.name) one.0, one.1)
 
@@ -60,7 +60,7 @@ behind_attribute trees a rest h =
 
 pub next_shorter : (trees : List Tree) (a : Attribute) (rest : List Tree) → IsNext trees a rest → length rest < length trees
 next_shorter trees a rest h =
-    let b : length h.behind < length trees = behind_attribute trees a h.behind h.is in
+    let b : length h.following < length trees = behind_attribute trees a h.following h.is in
     elim h.comma [
       | inl m ↦ omega (arith, ap length m.trees_are)
       | inr n ↦ omega (arith, ap length n.0, ap length n.1)
@@ -76,22 +76,22 @@ pub record AreTaken (trees : List Tree) (done : List Attribute) (rest : List Tre
 pub taken_none : (trees : List Tree) → AreTaken trees [] trees
 taken_none trees = record { stand = λ some. refl; on = λ more h. h }
 
-stand_more : (trees : List Tree) (done : List Attribute) (rest : List Tree) (a : Attribute) (behind next : List Tree) → StandBefore trees done rest → IsAttribute rest a behind → IsBehindMark 44 behind next → StandBefore trees (done ++ a ∷ []) next
-stand_more trees [] rest a behind next h i m = (behind, next, subst (λ (t : List Tree). IsAttribute t a behind) (sym h) i, m, refl)
-stand_more trees (x ∷ xs) rest a behind next (b, n, j, k, h) i m = (b, n, j, k, stand_more n xs rest a behind next h i m)
+stand_more : (trees : List Tree) (done : List Attribute) (rest : List Tree) (a : Attribute) (following next : List Tree) → StandBefore trees done rest → IsAttribute rest a following → IsAfterMark 44 following next → StandBefore trees (done ++ a ∷ []) next
+stand_more trees [] rest a following next h i m = (following, next, subst (λ (t : List Tree). IsAttribute t a following) (sym h) i, m, refl)
+stand_more trees (x ∷ xs) rest a following next (b, n, j, k, h) i m = (b, n, j, k, stand_more n xs rest a following next h i m)
 
 -- a list goes on after the attribute and its comma, or ends with it
 listed_more : (rest : List Tree) (a : Attribute) (next : List Tree) (more : List Attribute) → IsNext rest a next → AreListed next more → AreListed rest (a ∷ more)
 listed_more rest a next more n h =
     elim n.comma [
-      | inl m ↦ (n.behind, n.is, inr (next, m, h))
-      | inr e ↦ (n.behind, n.is, inl (e.0, none_listed more (subst (λ (t : List Tree). AreListed t more) e.1 h)))
+      | inl m ↦ (n.following, n.is, inr (next, m, h))
+      | inr e ↦ (n.following, n.is, inl (e.0, none_listed more (subst (λ (t : List Tree). AreListed t more) e.1 h)))
     ]
 
 stands : (trees : List Tree) (done : List Attribute) (rest : List Tree) (a : Attribute) (next : List Tree) → StandBefore trees done rest → IsNext rest a next → next ≢ [] → StandBefore trees (done ++ a ∷ []) next
 stands trees done rest a next s n some =
     elim n.comma [
-      | inl m ↦ stand_more trees done rest a n.behind next s n.is m
+      | inl m ↦ stand_more trees done rest a n.following next s n.is m
       | inr e ↦ absurd (some e.1)
     ]
 
@@ -154,7 +154,7 @@ one_listing trees (x ∷ xs) (y ∷ ys) (b, i, inr (r, m, k)) (c, j, inl (e, f))
     let one = one_attribute trees x y b c i j in absurd (no_behind 44 b r m (one.1 ∙ e))
 one_listing trees (x ∷ xs) (y ∷ ys) (b, i, inr (r, m, k)) (c, j, inr (s, n, l)) =
     let one = one_attribute trees x y b c i j in
-    let rests : r ≡ s = one_mark 44 c r s (subst (λ (t : List Tree). IsBehindMark 44 t r) one.1 m) n in
+    let rests : r ≡ s = one_mark 44 c r s (subst (λ (t : List Tree). IsAfterMark 44 t r) one.1 m) n in
     ap (λ z. z ∷ xs) one.0 ∙ ap (λ zs. y ∷ zs) (one_listing s xs ys (subst (λ (t : List Tree). AreListed t xs) rests k) l)
 
 -- ---- what is rejected is no list
@@ -172,19 +172,19 @@ goes_on trees (x ∷ xs) rest (y ∷ ys) (b, n, i, m, h) some (c, j, inl (e, f))
     let one = one_attribute trees x y b c i j in absurd (no_behind 44 b n m (one.1 ∙ e))
 goes_on trees (x ∷ xs) rest (y ∷ ys) (b, n, i, m, h) some (c, j, inr (r, l, k)) =
     let one = one_attribute trees x y b c i j in
-    let rests : r ≡ n = one_mark 44 b r n (subst (λ (t : List Tree). IsBehindMark 44 t r) (sym one.1) l) m in
+    let rests : r ≡ n = one_mark 44 b r n (subst (λ (t : List Tree). IsAfterMark 44 t r) (sym one.1) l) m in
     let on = goes_on n xs rest ys h some (subst (λ (t : List Tree). AreListed t ys) rests k) in
     record { more = on.more; list_is = ap (λ z. z ∷ ys) (sym one.0) ∙ ap (λ zs. x ∷ zs) on.list_is; listed = on.listed }
 
 -- a rest that a list goes on with isn't rejected
-misses_name : {A : Type 0} (a : Attribute) (trees behind : List Tree) (scope : Span) (e : Error A) → IsAttribute trees a behind → MissesName trees scope e → ⊥
-misses_name a trees behind scope e i m = let none = rw i.named at m.none in absurd (cc)
+misses_name : {A : Type 0} (a : Attribute) (trees following : List Tree) (scope : Span) (e : Error A) → IsAttribute trees a following → MissesName trees scope e → ⊥
+misses_name a trees following scope e i m = let none = rw i.named at m.none in absurd (cc)
 
-misses_mark : (ch : ℕ) (trees rest : List Tree) → IsBehindMark ch trees rest → begins_mark ch trees ≡ false → ⊥
+misses_mark : (ch : ℕ) (trees rest : List Tree) → IsAfterMark ch trees rest → begins_mark ch trees ≡ false → ⊥
 misses_mark ch trees rest m none = let begins = mark_begins ch trees rest m in absurd (cc)
 
-repeats_name : {A : Type 0} (done : List Attribute) (a : Attribute) (more : List Attribute) (trees behind : List Tree) (e : Error A) → NamesDiffer (done ++ (a ∷ more)) → IsAttribute trees a behind → RepeatsName (λ name. is_named name done) trees e → ⊥
-repeats_name done a more trees behind e d i r =
+repeats_name : {A : Type 0} (done : List Attribute) (a : Attribute) (more : List Attribute) (trees following : List Tree) (e : Error A) → NamesDiffer (done ++ (a ∷ more)) → IsAttribute trees a following → RepeatsName (λ name. is_named name done) trees e → ⊥
+repeats_name done a more trees following e d i r =
     let p = r.named in
     let q = i.named in
     let same : r.name ≡ a.name = cc in
@@ -192,29 +192,29 @@ repeats_name done a more trees behind e d i r =
     let before = names_before done a more d in
     absurd (cc)
 
-misses_equals : {A : Type 0} (seen : List ℕ → Bool) (a : Attribute) (trees behind : List Tree) (scope : Span) (e : Error A) → IsAttribute trees a behind → MissesEquals seen trees scope e → ⊥
-misses_equals seen a trees behind scope e i m =
+misses_equals : {A : Type 0} (seen : List ℕ → Bool) (a : Attribute) (trees following : List Tree) (scope : Span) (e : Error A) → IsAttribute trees a following → MissesEquals seen trees scope e → ⊥
+misses_equals seen a trees following scope e i m =
     let p = m.begun.named in
     let q = i.named in
-    let same : m.behind ≡ i.at_equals = cc in
+    let same : m.following ≡ i.at_equals = cc in
     misses_mark 61 i.at_equals i.at_literal i.equals (subst (λ (t : List Tree). begins_mark 61 t ≡ false) same m.none)
 
-misses_literal : {A : Type 0} (seen : List ℕ → Bool) (a : Attribute) (trees behind : List Tree) (scope : Span) (e : Error A) → IsAttribute trees a behind → MissesLiteral seen trees scope e → ⊥
-misses_literal seen a trees behind scope e i m =
+misses_literal : {A : Type 0} (seen : List ℕ → Bool) (a : Attribute) (trees following : List Tree) (scope : Span) (e : Error A) → IsAttribute trees a following → MissesLiteral seen trees scope e → ⊥
+misses_literal seen a trees following scope e i m =
     let p = m.begun.named in
     let q = i.named in
     let equals : m.at_equals ≡ i.at_equals = cc in
-    let literals : m.at_literal ≡ i.at_literal = one_mark 61 i.at_equals m.at_literal i.at_literal (subst (λ (t : List Tree). IsBehindMark 61 t m.at_literal) equals m.equals) i.equals in
-    m.none a.literal behind (subst (λ (t : List Tree). IsFront t a.literal behind) (sym literals) i.set)
+    let literals : m.at_literal ≡ i.at_literal = one_mark 61 i.at_equals m.at_literal i.at_literal (subst (λ (t : List Tree). IsAfterMark 61 t m.at_literal) equals m.equals) i.equals in
+    m.none a.literal following (subst (λ (t : List Tree). IsFront t a.literal following) (sym literals) i.set)
 
 misses_comma : {A : Type 0} (seen : List ℕ → Bool) (a : Attribute) (more : List Attribute) (trees : List Tree) (scope : Span) (e : Error A) → AreListed trees (a ∷ more) → MissesComma seen trees scope e → ⊥
 misses_comma seen a more trees scope e (b, i, inl (n, f)) m =
-    let one = one_attribute trees m.attribute a m.behind b m.is i in m.some (one.1 ∙ n)
+    let one = one_attribute trees m.attribute a m.following b m.is i in m.some (one.1 ∙ n)
 misses_comma seen a more trees scope e (b, i, inr (r, k, l)) m =
-    let one = one_attribute trees m.attribute a m.behind b m.is i in
+    let one = one_attribute trees m.attribute a m.following b m.is i in
     misses_mark 44 b r k (subst (λ (t : List Tree). begins_mark 44 t ≡ false) one.1 m.none)
 
-never_refused : {A : Type 0} (done more : List Attribute) (trees : List Tree) (scope : Span) (e : Error A) → trees ≢ [] → NamesDiffer (done ++ more) → AreListed trees more → RefusesNextAttribute (λ name. is_named name done) trees scope e → ⊥
+never_refused : {A : Type 0} (done more : List Attribute) (trees : List Tree) (scope : Span) (e : Error A) → trees ≢ [] → NamesDiffer (done ++ more) → AreListed trees more → RejectsNextAttribute (λ name. is_named name done) trees scope e → ⊥
 never_refused done [] trees scope e some d h r = some h
 never_refused done (a ∷ more) trees scope e some d h r =
     elim r.why [
@@ -226,31 +226,31 @@ never_refused done (a ∷ more) trees scope e some d h r =
     ]
 
 -- attributes that differ were taken, and what is left is rejected: the trees are
-pub refused_next : {A : Type 0} (trees : List Tree) (done : List Attribute) (rest : List Tree) (scope : Span) (e : Error A) → AreTaken trees done rest → NamesDiffer done → rest ≢ [] → RefusesNextAttribute (λ name. is_named name done) rest scope e → RefusesAttributes trees scope e
+pub refused_next : {A : Type 0} (trees : List Tree) (done : List Attribute) (rest : List Tree) (scope : Span) (e : Error A) → AreTaken trees done rest → NamesDiffer done → rest ≢ [] → RejectsNextAttribute (λ name. is_named name done) rest scope e → RejectsAttributes trees scope e
 refused_next trees done rest scope e t d some r = record {
   earlier = done;
   rest = rest;
   stand = t.stand some;
   differ = d;
   some = some;
-  refused = r;
+  rejected = r;
   none = λ list are.
       let on = goes_on trees done rest list (t.stand some) some are.listed in
       never_refused done on.more rest scope e some (subst NamesDiffer on.list_is are.differ) on.listed r;
 }
 
 -- the error is the same where what was seen is reported otherwise
-same_new : (s t : List ℕ → Bool) (trees : List Tree) (name : SpannedText) (behind : List Tree) → ((n : List ℕ) → s n ≡ t n) → HasNewName s trees name behind → HasNewName t trees name behind
-same_new s t trees name behind e h = record { named = h.named; anew = sym (e name.text) ∙ h.anew }
+same_new : (s t : List ℕ → Bool) (trees : List Tree) (name : SpannedText) (following : List Tree) → ((n : List ℕ) → s n ≡ t n) → HasNewName s trees name following → HasNewName t trees name following
+same_new s t trees name following e h = record { named = h.named; anew = sym (e name.text) ∙ h.anew }
 
-pub same_seen : {A : Type 0} (s t : List ℕ → Bool) (trees : List Tree) (scope : Span) (e : Error A) → ((n : List ℕ) → s n ≡ t n) → RefusesNextAttribute s trees scope e → RefusesNextAttribute t trees scope e
+pub same_seen : {A : Type 0} (s t : List ℕ → Bool) (trees : List Tree) (scope : Span) (e : Error A) → ((n : List ℕ) → s n ≡ t n) → RejectsNextAttribute s trees scope e → RejectsNextAttribute t trees scope e
 same_seen s t trees scope e same r = record {
   why = elim r.why [
     | inl m ↦ inl m
-    | inr (inl m) ↦ inr (inl (record { name = m.name; behind = m.behind; named = m.named; again = sym (same m.name.text) ∙ m.again; error = m.error }))
-    | inr (inr (inl m)) ↦ inr (inr (inl (record { name = m.name; behind = m.behind; begun = same_new s t trees m.name m.behind same m.begun; none = m.none; refusal = m.refusal })))
-    | inr (inr (inr (inl m))) ↦ inr (inr (inr (inl (record { name = m.name; at_equals = m.at_equals; at_literal = m.at_literal; begun = same_new s t trees m.name m.at_equals same m.begun; equals = m.equals; none = m.none; refusal = m.refusal }))))
-    | inr (inr (inr (inr m))) ↦ inr (inr (inr (inr (record { attribute = m.attribute; behind = m.behind; is = m.is; anew = sym (same m.attribute.name.text) ∙ m.anew; some = m.some; none = m.none; refusal = m.refusal }))))
+    | inr (inl m) ↦ inr (inl (record { name = m.name; following = m.following; named = m.named; again = sym (same m.name.text) ∙ m.again; error = m.error }))
+    | inr (inr (inl m)) ↦ inr (inr (inl (record { name = m.name; following = m.following; begun = same_new s t trees m.name m.following same m.begun; none = m.none; rejection = m.rejection })))
+    | inr (inr (inr (inl m))) ↦ inr (inr (inr (inl (record { name = m.name; at_equals = m.at_equals; at_literal = m.at_literal; begun = same_new s t trees m.name m.at_equals same m.begun; equals = m.equals; none = m.none; rejection = m.rejection }))))
+    | inr (inr (inr (inr m))) ↦ inr (inr (inr (inr (record { attribute = m.attribute; following = m.following; is = m.is; anew = sym (same m.attribute.name.text) ∙ m.anew; some = m.some; none = m.none; rejection = m.rejection }))))
   ];
 }
 

@@ -16,8 +16,8 @@ use Rattle.rl_tokens.specs.declared.error.ErrorKind.TheVariants.{Expected, EndOf
 use Rattle.rl_tokens.specs.Errors.{memory_at}
 use Rattle.rl_tokens.specs.Texts.{SpannedText}
 use Rattle.rl_tokens.specs.Trees.{Tree, IdentTree}
-use Rattle.rl_tokens.specs.Buffers.{begins_ident, begins_mark, first_span, IsRest, IsBehindMark, StaysRest, MissesWord, IsRefusal}
-use Rattle.rl_tokens.specs.Whole.{place_at, RefusesAll, LeavesTrees}
+use Rattle.rl_tokens.specs.Buffers.{begins_ident, begins_mark, first_span, IsRest, IsAfterMark, StaysRest, MissesWord, IsRejection}
+use Rattle.rl_tokens.specs.Whole.{place_at, RejectsAll, LeavesTrees}
 use Rattle.rl_tokens.proofs.LexLaws.{one_list, never_both}
 use Rattle.rl_tokens.proofs.TreeRests.{rest_self}
 use Rattle.rust_literals.specs.Parsing.{RunsLit, IsLitFront}
@@ -27,10 +27,10 @@ use Rattle.rust_literals.specs.Literals.{kind_of, token_of, IsReadAs}
 use Rattle.rust_literals.proofs.ReadLemmas.{lex_memory}
 use Rattle.rl_attributes.specs.declared.attributes.Entry.{Entry}
 use Rattle.rl_attributes.specs.declared.attributes.Attrs.{Attrs}
-use Rattle.rl_attributes.specs.Attributes.{Attribute, IsAttribute, HasNewName, AreListed, names_of, is_named, NamesDiffer, AreAttributes, AreAttributesOf, RefusesNextAttribute, RefusesAttributes, RefusesAttributeTrees, RefusesAttributeText}
+use Rattle.rl_attributes.specs.Attributes.{Attribute, IsAttribute, HasNewName, AreListed, names_of, is_named, NamesDiffer, AreAttributes, AreAttributesOf, RejectsNextAttribute, RejectsAttributes, RejectsAttributeTrees, RejectsAttributeText}
 use Rattle.rl_attributes.specs.Entries.{attribute_of, attributes_of, IsReadEntry, HasName, EntriesDiffer}
 use Rattle.rl_attributes.specs.AttributeParsing.{entries_of, AreEntries, RunsAttrs, IsListOrMemory}
-use Rattle.rl_attributes.specs.AttributeSteps.{has_name, AddsName, IsNext, LacksMemoryInStep, RefusesStep, reported_at, kind_reported_at}
+use Rattle.rl_attributes.specs.AttributeSteps.{has_name, AddsName, IsNext, LacksMemoryInStep, RejectsStep, reported_at, kind_reported_at}
 use Rattle.rl_attributes.proofs.AttributeLemmas.{AreTaken, taken_none, taken_more, taken_all, taken_begins, differ_more, differ_none, named_more, refused_next, same_seen, one_listing}
 
 -- The entries that were taken of the trees, the names that are kept of them, and what is left.
@@ -79,14 +79,14 @@ pub next_memory : {B : Type 0} (rest next : List Tree) (a : Attribute) (e : Erro
 next_memory rest next a e n m = record { begun = subst (λ (ts : List Tree). begins_ident ts ≡ true) (sym n.is.named) refl; memory = m }
 
 -- what stops a step is rejected of all trees
-pub at_refusal : {A B S : Type 0} (trees : List Tree) (entries : List (Entry A)) (names : HashSet (Bor (List ℕ)) S) (rest : List Tree) (scope was : Span) (e : Error B) → IsAt trees entries names rest → rest ≢ [] → was ≡ scope → RefusesStep (has_name names) rest was e → LacksMemoryInStep trees e ⊎ RefusesAttributes trees scope e
+pub at_refusal : {A B S : Type 0} (trees : List Tree) (entries : List (Entry A)) (names : HashSet (Bor (List ℕ)) S) (rest : List Tree) (scope was : Span) (e : Error B) → IsAt trees entries names rest → rest ≢ [] → was ≡ scope → RejectsStep (has_name names) rest was e → LacksMemoryInStep trees e ⊎ RejectsAttributes trees scope e
 at_refusal trees entries names rest scope was e at some s (inl w) = inl (at_memory trees entries names rest e at some w)
 at_refusal trees entries names rest scope was e at some s (inr r) =
     let seen = same_seen (has_name names) (λ name. is_named name (attributes_of entries)) rest was e at.knows r in
-    inr (subst (λ (z : Span). RefusesAttributes trees z e) s (refused_next trees (attributes_of entries) rest was e at.taken at.differ some seen))
+    inr (subst (λ (z : Span). RejectsAttributes trees z e) s (refused_next trees (attributes_of entries) rest was e at.taken at.differ some seen))
 
 -- a new name, `=` and a literal are an attribute
-pub entry_taken : {A : Type 0} (seen : List ℕ → Bool) (trees at_equals at_literal rest : List Tree) (name : SpannedText) (text : List ℕ) (span : Span) (value : Lit A) → text ≡ name.text → span ≡ name.span → HasNewName seen trees name at_equals → IsBehindMark 61 at_equals at_literal → IsLitFront at_literal value rest → IsAttribute trees (record { name = record { text = text; span = span }; literal = token_of value }) rest
+pub entry_taken : {A : Type 0} (seen : List ℕ → Bool) (trees at_equals at_literal rest : List Tree) (name : SpannedText) (text : List ℕ) (span : Span) (value : Lit A) → text ≡ name.text → span ≡ name.span → HasNewName seen trees name at_equals → IsAfterMark 61 at_equals at_literal → IsLitFront at_literal value rest → IsAttribute trees (record { name = record { text = text; span = span }; literal = token_of value }) rest
 entry_taken seen trees at_equals at_literal rest name text span value text_is span_is begun equals front =
     let spanned : List ℕ → Span → SpannedText = λ t s. record { text = t; span = s } in
     let same : name ≡ spanned text span = ap (λ t. spanned t name.span) (sym text_is) ∙ ap (spanned text) (sym span_is) in
@@ -102,35 +102,35 @@ pub value_read : {A : Type 0} (trees : List Tree) (value : Lit A) (rest : List T
 value_read trees value rest front = subst (λ (t : SpannedText). IsReadAs (kind_of value) (chars t.text)) (sym front.read.0) front.read.1
 
 -- after a new name, what is no `=`
-pub equals_refused : {A : Type 0} (seen : List ℕ → Bool) (trees behind : List Tree) (scope was : Span) (name : SpannedText) (e : Error A) → HasNewName seen trees name behind → IsFalse (begins_mark 61 behind) → was ≡ scope → IsRefusal behind was (codes "`=`") e → RefusesStep seen trees scope e
-equals_refused seen trees behind scope was name e begun none same refusal =
+pub equals_refused : {A : Type 0} (seen : List ℕ → Bool) (trees following : List Tree) (scope was : Span) (name : SpannedText) (e : Error A) → HasNewName seen trees name following → IsFalse (begins_mark 61 following) → was ≡ scope → IsRejection following was (codes "`=`") e → RejectsStep seen trees scope e
+equals_refused seen trees following scope was name e begun none same rejection =
     inr (record {
       why = inr (inr (inl (record {
         name = name;
-        behind = behind;
+        following = following;
         begun = begun;
         none = none;
-        refusal = subst (λ (z : Span). IsRefusal behind z (codes "`=`") e) same refusal;
+        rejection = subst (λ (z : Span). IsRejection following z (codes "`=`") e) same rejection;
       })));
     })
 
 -- after an attribute with a new name, what is no comma
-pub comma_refused : {A : Type 0} (seen : List ℕ → Bool) (trees behind : List Tree) (scope was : Span) (attribute : Attribute) (e : Error A) → IsAttribute trees attribute behind → IsFalse (seen attribute.name.text) → behind ≢ [] → IsFalse (begins_mark 44 behind) → was ≡ scope → IsRefusal behind was (codes "`,`") e → RefusesStep seen trees scope e
-comma_refused seen trees behind scope was attribute e is anew some none same refusal =
+pub comma_refused : {A : Type 0} (seen : List ℕ → Bool) (trees following : List Tree) (scope was : Span) (attribute : Attribute) (e : Error A) → IsAttribute trees attribute following → IsFalse (seen attribute.name.text) → following ≢ [] → IsFalse (begins_mark 44 following) → was ≡ scope → IsRejection following was (codes "`,`") e → RejectsStep seen trees scope e
+comma_refused seen trees following scope was attribute e is anew some none same rejection =
     inr (record {
       why = inr (inr (inr (inr (record {
         attribute = attribute;
-        behind = behind;
+        following = following;
         is = is;
         anew = anew;
         some = some;
         none = none;
-        refusal = subst (λ (z : Span). IsRefusal behind z (codes "`,`") e) same refusal;
+        rejection = subst (λ (z : Span). IsRejection following z (codes "`,`") e) same rejection;
       }))));
     })
 
 -- after a new name and `=`, what the parser of literals rejects
-pub value_refused : {A : Type 0} (seen : List ℕ → Bool) (trees at_equals at_literal after : List Tree) (scope was : Span) (name : SpannedText) (e : Error A) → HasNewName seen trees name at_equals → IsBehindMark 61 at_equals at_literal → was ≡ scope → RunsLit at_literal was (Err e) after → RefusesStep seen trees scope e
+pub value_refused : {A : Type 0} (seen : List ℕ → Bool) (trees at_equals at_literal after : List Tree) (scope was : Span) (name : SpannedText) (e : Error A) → HasNewName seen trees name at_equals → IsAfterMark 61 at_equals at_literal → was ≡ scope → RunsLit at_literal was (Err e) after → RejectsStep seen trees scope e
 value_refused {A = A} seen trees at_equals at_literal after scope was name e begun equals same (inl w) =
     inl (record { begun = subst (λ (ts : List Tree). begins_ident ts ≡ true) (sym begun.named) refl; memory = ap (λ (x : Error A). x.kind) w.1.error })
 value_refused seen trees at_equals at_literal after scope was name e begun equals same (inr n) =
@@ -142,7 +142,7 @@ value_refused seen trees at_equals at_literal after scope was name e begun equal
         begun = begun;
         equals = equals;
         none = n.none;
-        refusal = subst (λ (z : Span). IsRefusal at_literal z (codes "literal") e) same n.refusal;
+        rejection = subst (λ (z : Span). IsRejection at_literal z (codes "literal") e) same n.rejection;
       }))));
     })
 
@@ -153,17 +153,17 @@ no_word : (A : Type 0) (trees : List Tree) (word : List ℕ) → MissesWord {A =
 no_word A [] word h = h
 no_word A (t ∷ ts) word h = h
 
-no_refusal : {A : Type 0} (trees : List Tree) (scope : Span) (word : List ℕ) (e : Error A) → IsRefusal trees scope word e → e.kind ≡ Memory → ⊥
+no_refusal : {A : Type 0} (trees : List Tree) (scope : Span) (word : List ℕ) (e : Error A) → IsRejection trees scope word e → e.kind ≡ Memory → ⊥
 no_refusal {A = A} trees scope word e r m = no_word A trees word (subst (λ (k : ErrorKind A). MissesWord trees word k) m r.kind)
 
-no_memory : {A : Type 0} (seen : List ℕ → Bool) (trees : List Tree) (scope : Span) (e : Error A) → RefusesNextAttribute seen trees scope e → e.kind ≡ Memory → ⊥
+no_memory : {A : Type 0} (seen : List ℕ → Bool) (trees : List Tree) (scope : Span) (e : Error A) → RejectsNextAttribute seen trees scope e → e.kind ≡ Memory → ⊥
 no_memory {A = A} seen trees scope e r m =
     elim r.why [
-      | inl w ↦ no_refusal trees scope _ e w.refusal m
+      | inl w ↦ no_refusal trees scope _ e w.rejection m
       | inr (inl w) ↦ (let k : e.kind ≡ Repeated = ap (λ (x : Error A). x.kind) w.error in absurd (cc))
-      | inr (inr (inl w)) ↦ no_refusal w.behind scope _ e w.refusal m
-      | inr (inr (inr (inl w))) ↦ no_refusal w.at_literal scope _ e w.refusal m
-      | inr (inr (inr (inr w))) ↦ no_refusal w.behind scope _ e w.refusal m
+      | inr (inr (inl w)) ↦ no_refusal w.following scope _ e w.rejection m
+      | inr (inr (inr (inl w))) ↦ no_refusal w.at_literal scope _ e w.rejection m
+      | inr (inr (inr (inr w))) ↦ no_refusal w.following scope _ e w.rejection m
     ]
 
 -- what isn't an allocation failure stays as it is
@@ -180,20 +180,20 @@ stays Repeated span place h = refl
 stays (Number x) span place h = refl
 stays Memory span place h = absurd (h refl)
 
-pub told_refusal : {A : Type 0} (trees : List Tree) (scope place : Span) (e told : Error A) → LacksMemoryInStep trees e ⊎ RefusesAttributes trees scope e → place ≡ first_span trees scope → told ≡ reported_at e place → RefusesAttributeTrees trees scope told
+pub told_refusal : {A : Type 0} (trees : List Tree) (scope place : Span) (e told : Error A) → LacksMemoryInStep trees e ⊎ RejectsAttributes trees scope e → place ≡ first_span trees scope → told ≡ reported_at e place → RejectsAttributeTrees trees scope told
 told_refusal trees scope place e told (inl w) p t =
     inl (record { begun = w.begun; error = t ∙ ap (λ k. kind_reported_at k e.span place) w.memory ∙ ap memory_at p })
 told_refusal trees scope place e told (inr r) p t =
-    let same : told ≡ e = t ∙ stays e.kind e.span place (no_memory (λ name. is_named name r.earlier) r.rest scope e r.refused) in
-    inr (subst (RefusesAttributes trees scope) (sym same) r)
+    let same : told ≡ e = t ∙ stays e.kind e.span place (no_memory (λ name. is_named name r.earlier) r.rest scope e r.rejected) in
+    inr (subst (RejectsAttributes trees scope) (sym same) r)
 
 -- ---- a whole text
 
-pub text_refused : {A : Type 0} (text : List ℕ) (file : ℕ) (e : Error A) → RefusesAll (RunsAttrs {A = A}) text file e → RefusesAttributeText (chars text) file (length text) e
+pub text_refused : {A : Type 0} (text : List ℕ) (file : ℕ) (e : Error A) → RejectsAll (RunsAttrs {A = A}) text file e → RejectsAttributeText (chars text) file (length text) e
 text_refused text file e (inl u) = inl u
-text_refused {A = A} text file e (inr c) = inr (record { trees = c.trees; lexes = c.lexes; refused = go c.refused.why })
+text_refused {A = A} text file e (inr c) = inr (record { trees = c.trees; lexes = c.lexes; rejected = go c.rejected.why })
   where
-    go : ((rest : List Tree) × RunsAttrs c.trees (place_at file (length text)) (Err e) rest) ⊎ LeavesTrees (RunsAttrs {A = A}) c.trees (place_at file (length text)) e → RefusesAttributeTrees c.trees (place_at file (length text)) e
+    go : ((rest : List Tree) × RunsAttrs c.trees (place_at file (length text)) (Err e) rest) ⊎ LeavesTrees (RunsAttrs {A = A}) c.trees (place_at file (length text)) e → RejectsAttributeTrees c.trees (place_at file (length text)) e
     go (inl (rest, ran)) = ran.0
     go (inr l) = absurd (l.some l.ran.1)
 
@@ -201,12 +201,12 @@ one_text : (text : List ℕ) (file : ℕ) (xs ys : List Attribute) → AreAttrib
 one_text text file xs ys a b =
     one_listing b.trees xs ys (subst (λ (t : List Tree). AreListed t xs) (one_list text file a.trees b.trees a.lexes b.lexes) a.are.listed) b.are.listed
 
-pub exactly : {A : Type 0} (text : List ℕ) (file end : ℕ) (r : Result (Attrs A) (Error A)) → IfOk r (λ attrs. AreAttributesOf text file (attributes_of (entries_of attrs))) → IfErr r (RefusesAttributeText text file end) → (list : List Attribute) → AreAttributesOf text file list → IsListOrMemory list r
-exactly text file end (Ok attrs) read refused list a = one_text text file (attributes_of (entries_of attrs)) list read a
-exactly text file end (Err e) read (inl u) list a = lex_memory text file a.trees u.kind u.at e never_both a.lexes u.error u.refused
-exactly {A = A} text file end (Err e) read (inr c) list a = go c.refused
+pub exactly : {A : Type 0} (text : List ℕ) (file end : ℕ) (r : Result (Attrs A) (Error A)) → IfOk r (λ attrs. AreAttributesOf text file (attributes_of (entries_of attrs))) → IfErr r (RejectsAttributeText text file end) → (list : List Attribute) → AreAttributesOf text file list → IsListOrMemory list r
+exactly text file end (Ok attrs) read rejected list a = one_text text file (attributes_of (entries_of attrs)) list read a
+exactly text file end (Err e) read (inl u) list a = lex_memory text file a.trees u.kind u.at e never_both a.lexes u.error u.rejected
+exactly {A = A} text file end (Err e) read (inr c) list a = go c.rejected
   where
-    go : RefusesAttributeTrees c.trees (place_at file end) e → e.kind ≡ Memory
+    go : RejectsAttributeTrees c.trees (place_at file end) e → e.kind ≡ Memory
     go (inl s) = ap (λ (x : Error A). x.kind) s.error
     go (inr r) = absurd (r.none list (subst (λ (t : List Tree). AreAttributes t list) (one_list text file a.trees c.trees a.lexes c.lexes) a.are))
 

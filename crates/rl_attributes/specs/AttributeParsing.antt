@@ -6,7 +6,7 @@ use Rattle.rl_tokens.specs.declared.error.ErrorKind.TheVariants.{Memory}
 use Rattle.rl_tokens.specs.Trees.{Tree}
 use Rattle.rl_attributes.specs.declared.attributes.Entry.{Entry}
 use Rattle.rl_attributes.specs.declared.attributes.Attrs.{Attrs}
-use Rattle.rl_attributes.specs.Attributes.{Attribute, AreAttributes, RefusesAttributeTrees}
+use Rattle.rl_attributes.specs.Attributes.{Attribute, AreAttributes, RejectsAttributeTrees}
 use Rattle.rl_attributes.specs.Entries.{attributes_of, IsReadEntry}
 
 -- the entries, in their order
@@ -22,7 +22,7 @@ pub record AreEntries {A : Type 0} (trees : List Tree) (entries : List (Entry A)
 abbrev pub RunsAttrs : {A : Type 0} → List Tree → Span → Result (Attrs A) (Error A) → List Tree
     → Type 0
 RunsAttrs trees scope (Ok attrs) rest = AreEntries trees (entries_of attrs) × (rest ≡ [])
-RunsAttrs trees scope (Err e) rest = RefusesAttributeTrees trees scope e × (rest ≡ trees)
+RunsAttrs trees scope (Err e) rest = RejectsAttributeTrees trees scope e × (rest ≡ trees)
 
 -- the answer is this list, or an allocation failed
 abbrev pub IsListOrMemory : {A : Type 0} → List Attribute → Result (Attrs A) (Error A) → Type 0

@@ -10,8 +10,8 @@ use Rattle.rl_tokens.specs.declared.error.ErrorKind.TheVariants.{Memory}
 use Rattle.rl_tokens.specs.declared.error.Error.{Error}
 use Rattle.rl_tokens.specs.Errors.{memory_at}
 use Rattle.rl_tokens.specs.Trees.{Tree}
-use Rattle.rl_tokens.specs.Buffers.{begins_ident, IsBehindMark}
-use Rattle.rl_attributes.specs.Attributes.{Attribute, IsAttribute, RefusesNextAttribute}
+use Rattle.rl_tokens.specs.Buffers.{begins_ident, IsAfterMark}
+use Rattle.rl_attributes.specs.Attributes.{Attribute, IsAttribute, RejectsNextAttribute}
 
 -- whether the set has this name
 abbrev pub has_name : {S : Type 0} → HashSet (Bor (List ℕ)) S → List ℕ → Bool
@@ -25,9 +25,9 @@ AddsName old new name =
 
 -- The attribute begins the trees, and after it stands a comma and the rest, or nothing.
 pub record IsNext (trees : List Tree) (attribute : Attribute) (rest : List Tree) : Type 0 where
-  pub behind : List Tree
-  pub is : IsAttribute trees attribute behind
-  pub comma : IsBehindMark (code ",") behind rest ⊎ ((behind ≡ []) × (rest ≡ []))
+  pub following : List Tree
+  pub is : IsAttribute trees attribute following
+  pub comma : IsAfterMark (code ",") following rest ⊎ ((following ≡ []) × (rest ≡ []))
 
 -- A name begins the trees, and an allocation failed, wherever this is reported.
 pub record LacksMemoryInStep {A : Type 0} (trees : List Tree) (e : Error A) : Type 0 where
@@ -35,8 +35,8 @@ pub record LacksMemoryInStep {A : Type 0} (trees : List Tree) (e : Error A) : Ty
   pub memory : e.kind ≡ Memory
 
 -- what a step rejects, beside memory
-abbrev pub RefusesStep : {A : Type 0} → (List ℕ → Bool) → List Tree → Span → Error A → Type 0
-RefusesStep seen trees scope e = LacksMemoryInStep trees e ⊎ RefusesNextAttribute seen trees scope e
+abbrev pub RejectsStep : {A : Type 0} → (List ℕ → Bool) → List Tree → Span → Error A → Type 0
+RejectsStep seen trees scope e = LacksMemoryInStep trees e ⊎ RejectsNextAttribute seen trees scope e
 
 -- the error of this kind and span, but an allocation failure at that place
 abbrev pub kind_reported_at : {A : Type 0} → ErrorKind A → Span → Span → Error A

@@ -9,10 +9,10 @@ use Rattle.rl_tokens.specs.declared.error.Error.{Error}
 use Rattle.rl_tokens.specs.Errors.{memory_at}
 use Rattle.rl_tokens.specs.Texts.{SpannedText}
 use Rattle.rl_tokens.specs.Trees.{Tree, IdentTree}
-use Rattle.rl_tokens.specs.Buffers.{first_span, begins_ident, begins_mark, IsBehindMark, IsRefusal}
+use Rattle.rl_tokens.specs.Buffers.{first_span, begins_ident, begins_mark, IsAfterMark, IsRejection}
 use Rattle.rl_grammar.specs.Fronts.{IsFront, HasNoFront}
 use Rattle.rl_tokens.specs.Lexing.{Lexes}
-use Rattle.rl_tokens.specs.Whole.{place_at, RefusesLexing}
+use Rattle.rl_tokens.specs.Whole.{place_at, RejectsLexing}
 
 -- An attribute as tokens: its name, and the literal that it is set to.
 pub record Attribute : Type 0 where
@@ -26,7 +26,7 @@ pub record IsAttribute (trees : List Tree) (attribute : Attribute) (rest : List 
   pub at_equals : List Tree
   pub at_literal : List Tree
   pub named : trees ≡ IdentTree attribute.name ∷ at_equals
-  pub equals : IsBehindMark (code "=") at_equals at_literal
+  pub equals : IsAfterMark (code "=") at_equals at_literal
   pub set : IsFront at_literal attribute.literal rest
 
 -- The trees are these attributes, whatever their names: no trees; or an attribute; or an attribute,
@@ -34,9 +34,9 @@ pub record IsAttribute (trees : List Tree) (attribute : Attribute) (rest : List 
 abbrev pub AreListed : List Tree → List Attribute → Type 0
 AreListed trees [] = trees ≡ []
 AreListed trees (a ∷ others) =
-    (behind : List Tree) × IsAttribute trees a behind
-    × (((behind ≡ []) × (others ≡ []))
-    ⊎ ((rest : List Tree) × IsBehindMark (code ",") behind rest × AreListed rest others))
+    (following : List Tree) × IsAttribute trees a following
+    × (((following ≡ []) × (others ≡ []))
+    ⊎ ((rest : List Tree) × IsAfterMark (code ",") following rest × AreListed rest others))
 
 -- the texts of the names
 abbrev pub names_of : List Attribute → List (List ℕ)
@@ -66,21 +66,21 @@ pub record AreAttributesOf (text : List ℕ) (file : ℕ) (list : List Attribute
 
 -- An identifier begins the trees, and its name is new.
 pub record HasNewName (seen : List ℕ → Bool) (trees : List Tree) (name : SpannedText)
-    (behind : List Tree) : Type 0 where
-  pub named : trees ≡ IdentTree name ∷ behind
+    (following : List Tree) : Type 0 where
+  pub named : trees ≡ IdentTree name ∷ following
   pub anew : IsFalse (seen name.text)
 
 -- No identifier begins the trees.
 pub record MissesName {A : Type 0} (trees : List Tree) (scope : Span) (e : Error A) : Type 0 where
   pub none : IsFalse (begins_ident trees)
-  pub refusal : IsRefusal trees scope (codes "identifier") e
+  pub rejection : IsRejection trees scope (codes "identifier") e
 
 -- An identifier begins the trees whose name stood before: this is reported at it.
 pub record RepeatsName {A : Type 0} (seen : List ℕ → Bool) (trees : List Tree) (e : Error A)
     : Type 0 where
   pub name : SpannedText
-  pub behind : List Tree
-  pub named : trees ≡ IdentTree name ∷ behind
+  pub following : List Tree
+  pub named : trees ≡ IdentTree name ∷ following
   pub again : IsTrue (seen name.text)
   pub error : e ≡ record { span = name.span; kind = Repeated }
 
@@ -88,10 +88,10 @@ pub record RepeatsName {A : Type 0} (seen : List ℕ → Bool) (trees : List Tre
 pub record MissesEquals {A : Type 0} (seen : List ℕ → Bool) (trees : List Tree) (scope : Span)
     (e : Error A) : Type 0 where
   pub name : SpannedText
-  pub behind : List Tree
-  pub begun : HasNewName seen trees name behind
-  pub none : IsFalse (begins_mark (code "=") behind)
-  pub refusal : IsRefusal behind scope (codes "`=`") e
+  pub following : List Tree
+  pub begun : HasNewName seen trees name following
+  pub none : IsFalse (begins_mark (code "=") following)
+  pub rejection : IsRejection following scope (codes "`=`") e
 
 -- A new name and `=` begin the trees, and no literal stands after them.
 pub record MissesLiteral {A : Type 0} (seen : List ℕ → Bool) (trees : List Tree) (scope : Span)
@@ -100,24 +100,24 @@ pub record MissesLiteral {A : Type 0} (seen : List ℕ → Bool) (trees : List T
   pub at_equals : List Tree
   pub at_literal : List Tree
   pub begun : HasNewName seen trees name at_equals
-  pub equals : IsBehindMark (code "=") at_equals at_literal
+  pub equals : IsAfterMark (code "=") at_equals at_literal
   pub none : HasNoFront at_literal
-  pub refusal : IsRefusal at_literal scope (codes "literal") e
+  pub rejection : IsRejection at_literal scope (codes "literal") e
 
 -- An attribute with a new name begins the trees, and something stands after it that is no comma.
 pub record MissesComma {A : Type 0} (seen : List ℕ → Bool) (trees : List Tree) (scope : Span)
     (e : Error A) : Type 0 where
   pub attribute : Attribute
-  pub behind : List Tree
-  pub is : IsAttribute trees attribute behind
+  pub following : List Tree
+  pub is : IsAttribute trees attribute following
   pub anew : IsFalse (seen attribute.name.text)
-  pub some : behind ≢ []
-  pub none : IsFalse (begins_mark (code ",") behind)
-  pub refusal : IsRefusal behind scope (codes "`,`") e
+  pub some : following ≢ []
+  pub none : IsFalse (begins_mark (code ",") following)
+  pub rejection : IsRejection following scope (codes "`,`") e
 
 -- The trees don't begin with an attribute whose name is new, and with a comma or the end after it:
 -- the first of these that is missed.
-pub record RefusesNextAttribute {A : Type 0} (seen : List ℕ → Bool) (trees : List Tree)
+pub record RejectsNextAttribute {A : Type 0} (seen : List ℕ → Bool) (trees : List Tree)
     (scope : Span) (e : Error A) : Type 0 where
   pub why : MissesName trees scope e ⊎ RepeatsName seen trees e ⊎ MissesEquals seen trees scope e
       ⊎ MissesLiteral seen trees scope e ⊎ MissesComma seen trees scope e
@@ -126,19 +126,19 @@ pub record RefusesNextAttribute {A : Type 0} (seen : List ℕ → Bool) (trees :
 abbrev pub StandBefore : List Tree → List Attribute → List Tree → Type 0
 StandBefore trees [] rest = trees ≡ rest
 StandBefore trees (a ∷ others) rest =
-    (behind next : List Tree) × IsAttribute trees a behind × IsBehindMark (code ",") behind next
+    (following next : List Tree) × IsAttribute trees a following × IsAfterMark (code ",") following next
     × StandBefore next others rest
 
 -- The trees are no attributes: attributes, whose names differ, lead to trees that don't go on as
 -- attributes do.
-pub record RefusesAttributes {A : Type 0} (trees : List Tree) (scope : Span) (e : Error A)
+pub record RejectsAttributes {A : Type 0} (trees : List Tree) (scope : Span) (e : Error A)
     : Type 0 where
   pub earlier : List Attribute
   pub rest : List Tree
   pub stand : StandBefore trees earlier rest
   pub differ : NamesDiffer earlier
   pub some : rest ≢ []
-  pub refused : RefusesNextAttribute (λ name. is_named name earlier) rest scope e
+  pub rejected : RejectsNextAttribute (λ name. is_named name earlier) rest scope e
   pub none : (list : List Attribute) → AreAttributes trees list → ⊥
 
 -- A name begins the trees, and an allocation failed: this is reported at the name.
@@ -148,18 +148,18 @@ pub record LacksMemoryForName {A : Type 0} (trees : List Tree) (scope : Span) (e
   pub error : e ≡ memory_at (first_span trees scope)
 
 -- what is rejected of trees
-abbrev pub RefusesAttributeTrees : {A : Type 0} → List Tree → Span → Error A → Type 0
-RefusesAttributeTrees trees scope e =
-    LacksMemoryForName trees scope e ⊎ RefusesAttributes trees scope e
+abbrev pub RejectsAttributeTrees : {A : Type 0} → List Tree → Span → Error A → Type 0
+RejectsAttributeTrees trees scope e =
+    LacksMemoryForName trees scope e ⊎ RejectsAttributes trees scope e
 
 -- The text is cut into trees, and this is rejected of them.
-pub record RefusesLexedAttributes {A : Type 0} (text : List ℕ) (file end : ℕ) (e : Error A)
+pub record RejectsLexedAttributes {A : Type 0} (text : List ℕ) (file end : ℕ) (e : Error A)
     : Type 0 where
   pub trees : List Tree
   pub lexes : Lexes text file trees
-  pub refused : RefusesAttributeTrees trees (place_at file end) e
+  pub rejected : RejectsAttributeTrees trees (place_at file end) e
 
 -- what is rejected of a text that ends at this byte
-abbrev pub RefusesAttributeText : {A : Type 0} → List ℕ → ℕ → ℕ → Error A → Type 0
-RefusesAttributeText text file end e =
-    RefusesLexing text file e ⊎ RefusesLexedAttributes text file end e
+abbrev pub RejectsAttributeText : {A : Type 0} → List ℕ → ℕ → ℕ → Error A → Type 0
+RejectsAttributeText text file end e =
+    RejectsLexing text file e ⊎ RejectsLexedAttributes text file end e

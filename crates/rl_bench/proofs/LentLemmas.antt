@@ -14,7 +14,7 @@ use Rattle.rl_grammar.specs.WholeShapes.{IsSplit}
 use Rattle.rl_grammar.proofs.BodyContents.{plain_contents}
 use Rattle.rl_quoted.proofs.PlaceLemmas.{plain_contents_bytes}
 use Rattle.rl_bench.specs.Sizes.{HasSize}
-use Rattle.rl_bench.specs.Lent.{IsLent}
+use Rattle.rl_bench.specs.Lent.{IsBorrowed}
 
 -- a plain body of a string is as long as the contents
 pub plain_size : (kind : Kind) (t body : List ℕ) (plain : Bool) → plain ≡ true → HasBody kind (chars t) body plain → IsUtf8 t → IsUtf8 body → HasSize kind (chars t) (length body)
@@ -28,19 +28,19 @@ plain_size FloatKind t body plain is has ut ub = absurd (both_ways (is_string Fl
 plain_size BoolKind t body plain is has ut ub = absurd (both_ways (is_string BoolKind) refl has.string)
 
 -- what an integer's digits spell
-pub lent_integer : (text : List ℕ) (found : Found) → found.kind ≡ IntKind → IsFound text found → IsLent found.kind text (found.magnitude % 2 ^ 64)
-lent_integer text found is f = subst (λ k. IsLent k text (found.magnitude % 2 ^ 64)) (sym is) (found.magnitude, chars (suffix_in text found.body), f.integer is, refl)
+pub lent_integer : (text : List ℕ) (found : Found) → found.kind ≡ IntKind → IsFound text found → IsBorrowed found.kind text (found.magnitude % 2 ^ 64)
+lent_integer text found is f = subst (λ k. IsBorrowed k text (found.magnitude % 2 ^ 64)) (sym is) (found.magnitude, chars (suffix_in text found.body), f.integer is, refl)
 
 -- a float's numeral
-pub lent_float : (text body : List ℕ) (found : Found) → found.kind ≡ FloatKind → IsFound text found → body ≡ body_in text found.body → IsLent found.kind text (length body)
+pub lent_float : (text body : List ℕ) (found : Found) → found.kind ≡ FloatKind → IsFound text found → body ≡ body_in text found.body → IsBorrowed found.kind text (length body)
 lent_float text body found is f e =
     let x = suffix_in text found.body in
     let reads : HasSuffix FloatKind (chars text) (chars x) = subst (λ k. HasSuffix k (chars text) (chars x)) is f.reads in
     let cut : IsSplit FloatKind text (body_in text found.body) x = subst (λ k. IsSplit k text (body_in text found.body) x) is f.cut in
-    subst (λ k. IsLent k text (length body)) (sym is) (body_in text found.body, x, reads, cut, ap length e)
+    subst (λ k. IsBorrowed k text (length body)) (sym is) (body_in text found.body, x, reads, cut, ap length e)
 
 -- what is borrowed of any other literal is its contents
-pub lent_other : (kind : Kind) (text : List ℕ) (n : ℕ) → kind ≢ IntKind → kind ≢ FloatKind → HasSize kind (chars text) n → IsLent kind text n
+pub lent_other : (kind : Kind) (text : List ℕ) (n : ℕ) → kind ≢ IntKind → kind ≢ FloatKind → HasSize kind (chars text) n → IsBorrowed kind text n
 lent_other StrKind text n i f h = h
 lent_other ByteStrKind text n i f h = h
 lent_other CStrKind text n i f h = h

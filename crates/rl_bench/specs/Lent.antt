@@ -25,17 +25,17 @@ HasNumeral text n =
 
 -- What is borrowed of a literal of the kind: an integer's magnitude, a float's numeral, any other's
 -- contents.
-abbrev pub IsLent : Kind → List ℕ → ℕ → Type 0
-IsLent Int text n = HasLowMagnitude text n
-IsLent Float text n = HasNumeral text n
-IsLent kind text n = HasSize kind (chars text) n
+abbrev pub IsBorrowed : Kind → List ℕ → ℕ → Type 0
+IsBorrowed Int text n = HasLowMagnitude text n
+IsBorrowed Float text n = HasNumeral text n
+IsBorrowed kind text n = HasSize kind (chars text) n
 
 -- The text, in bytes, reads as this kind of literal, of this weight by its kind, what is borrowed of
 -- it, and its suffix.
 pub record IsLentWeight (kind : Kind) (text : List ℕ) (weight : ℕ) : Type 0 where
   pub size : ℕ
   pub suffix : List ℕ
-  pub lent : IsLent kind text size
+  pub lent : IsBorrowed kind text size
   pub ends : HasSuffix kind (chars text) suffix
   pub weight_is : weight ≡ weight_of kind size (byte_len suffix)
 

@@ -13,9 +13,9 @@ use Rattle.rl_tokens.specs.Lexing.{LexedToken, LexesUpTo, BeginsNoLexeme, Lexes,
 use Rattle.rl_tokens.specs.Trees.{Tree}
 use Rattle.rl_grammar.specs.WholeShapes.{IsSplit}
 use Rattle.rust_literals.specs.declared.lit.Lit.{Lit}
-use Rattle.rust_literals.specs.Parsing.{AreRead, RefusesText}
+use Rattle.rust_literals.specs.Parsing.{AreRead, RejectsText}
 use Rattle.rl_attributes.specs.declared.attributes.Entry.{Entry}
-use Rattle.rl_attributes.specs.Attributes.{AreAttributesOf, RefusesAttributeText as RefusesAttributes}
+use Rattle.rl_attributes.specs.Attributes.{AreAttributesOf, RejectsAttributeText as RejectsAttributes}
 use Rattle.rl_attributes.specs.Entries.{attributes_of, IsReadEntry}
 use Rattle.rl_bench.specs.Sums.{added}
 
@@ -93,7 +93,7 @@ HasTreeCount text count =
 abbrev pub HasLiteralCount : (A : Type 0) → List ℕ → ℕ → Type 0
 HasLiteralCount A text count =
     ((list : List (Lit A)) × AreRead (chars text) 0 list × (count ≡ length list))
-    ⊎ ((e : Error A) × RefusesText (chars text) 0 (length text) e × (e.kind ≢ Memory) × (count ≡ 0))
+    ⊎ ((e : Error A) × RejectsText (chars text) 0 (length text) e × (e.kind ≢ Memory) × (count ≡ 0))
 
 -- a text is read as this many attributes; or it is rejected, for another reason than memory, and
 -- none
@@ -101,5 +101,5 @@ abbrev pub HasAttributeCount : (A : Type 0) → List ℕ → ℕ → Type 0
 HasAttributeCount A text count =
     ((entries : List (Entry A)) × AreAttributesOf (chars text) 0 (attributes_of entries)
     × All IsReadEntry entries × (count ≡ length entries))
-    ⊎ ((e : Error A) × RefusesAttributes (chars text) 0 (length text) e × (e.kind ≢ Memory)
+    ⊎ ((e : Error A) × RejectsAttributes (chars text) 0 (length text) e × (e.kind ≢ Memory)
     × (count ≡ 0))

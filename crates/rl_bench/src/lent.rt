@@ -3,7 +3,7 @@
 ghost use Rattle.std.specs.Prelude.{IfOk};
 ghost use Rattle.std.specs.Str.{chars};
 ghost use Rattle.rl_grammar.specs.Founds.{IsFound};
-ghost use Rattle.rl_bench.specs.Lent.{IsLent};
+ghost use Rattle.rl_bench.specs.Lent.{IsBorrowed};
 ghost use Rattle.rl_bench.specs.Sizes.{HasSize};
 
 use crate::sums::Weigh;
@@ -33,7 +33,7 @@ fn lent_contents_size(alloc: Global, text: &str, found: &Found) -> Result<usize,
 /// contents.
 fn lent_size(alloc: Global, text: &str, found: &Found) -> Result<u64, AllocError>
     requires { IsFound text.now found.now }
-    ensures { IfOk result (IsLent found.now.kind text.now) }
+    ensures { IfOk result (IsBorrowed found.now.kind text.now) }
 {
     match found.kind {
         Kind::Int => Ok((found.magnitude % PAST_64_BITS) as u64),

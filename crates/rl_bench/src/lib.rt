@@ -60,7 +60,7 @@ pub extern "C" fn rl_bench_value(
     total: &mut u64,
 ) -> bool
     ensures sum { IsTrue result → IsSum HasValueWeight corpus.now ends.now total.new }
-    ensures refused { IsFalse result → total.new ≡ total.old }
+    ensures rejected { IsFalse result → total.new ≡ total.old }
 {
     put(sum::<ByValue>(alloc, corpus, ends), total)
 }
@@ -77,7 +77,7 @@ pub extern "C" fn rl_bench_lent(
     total: &mut u64,
 ) -> bool
     ensures sum { IsTrue result → IsSum HasLentWeight corpus.now ends.now total.new }
-    ensures refused { IsFalse result → total.new ≡ total.old }
+    ensures rejected { IsFalse result → total.new ≡ total.old }
 {
     put(sum::<ByLent>(alloc, corpus, ends), total)
 }
@@ -92,7 +92,7 @@ pub extern "C" fn rl_bench_literal(
     total: &mut u64,
 ) -> bool
     ensures sum { IsTrue result → IsSum HasValueWeight corpus.now ends.now total.new }
-    ensures refused { IsFalse result → total.new ≡ total.old }
+    ensures rejected { IsFalse result → total.new ≡ total.old }
 {
     put(sum::<ByLiteral>(alloc, corpus, ends), total)
 }
@@ -106,7 +106,7 @@ pub extern "C" fn rl_bench_value_ref(
     total: &mut u64,
 ) -> bool
     ensures sum { IsTrue result → IsSum HasValueWeight corpus.now ends.now total.new }
-    ensures refused { IsFalse result → total.new ≡ total.old }
+    ensures rejected { IsFalse result → total.new ≡ total.old }
 {
     put(sum::<ByValueRef>(alloc, corpus, ends), total)
 }
@@ -139,7 +139,7 @@ pub extern "C" fn rl_bench_lex(
     total: &mut u64,
 ) -> bool
     ensures sum { IsTrue result → IsSum HasTreeCount corpus.now ends.now total.new }
-    ensures refused { IsFalse result → total.new ≡ total.old }
+    ensures rejected { IsFalse result → total.new ≡ total.old }
 {
     put(sum::<ByTrees>(alloc, corpus, ends), total)
 }
@@ -154,7 +154,7 @@ pub extern "C" fn rl_bench_read(
     total: &mut u64,
 ) -> bool
     ensures sum { IsTrue result → IsSum (HasLiteralCount Global) corpus.now ends.now total.new }
-    ensures refused { IsFalse result → total.new ≡ total.old }
+    ensures rejected { IsFalse result → total.new ≡ total.old }
 {
     put(sum::<ByList>(alloc, corpus, ends), total)
 }
@@ -169,7 +169,7 @@ pub extern "C" fn rl_bench_attr(
     total: &mut u64,
 ) -> bool
     ensures sum { IsTrue result → IsSum (HasAttributeCount Global) corpus.now ends.now total.new }
-    ensures refused { IsFalse result → total.new ≡ total.old }
+    ensures rejected { IsFalse result → total.new ≡ total.old }
 {
     put(sum::<ByAttributes>(alloc, corpus, ends), total)
 }
@@ -187,7 +187,7 @@ fn certain(sum: Result<u64, Infallible>) -> u64
 /// Puts a sum into its place, where there is one.
 fn put(sum: Result<u64, AllocError>, total: &mut u64) -> bool
     ensures sum { IsTrue result → sum ≡ Ok total.new }
-    ensures refused { IsFalse result → total.new ≡ total.old }
+    ensures rejected { IsFalse result → total.new ≡ total.old }
 {
     match sum {
         Ok(found) => {

@@ -13,7 +13,7 @@ use Rattle.rl_tokens.specs.Trees.{Tree, GroupTree, IdentTree, PunctTree, Literal
 use Rattle.rl_grammar.specs.Fronts.{IsFront, joined_span}
 use Rattle.rl_grammar.proofs.FrontLemmas.{minus_chars}
 use Rattle.rl_c.specs.declared.reading.Reading.{Reading}
-use Rattle.rl_c.specs.Crossing.{TellsReading, TellsLiteral}
+use Rattle.rl_c.specs.Crossing.{ReportsReading, ReportsLiteral}
 use Rattle.rl_c.specs.Lists.{TellsToken}
 use Rattle.rl_c.specs.Steps.{ListLiteral, IsOneToken, IsMinusAndNumber, AreLiterals, IsList, AreFronts, IsListOfTrees}
 use Rattle.rl_c.proofs.TreeLemmas.{text_of, span_of, token_of, no_longer, one_span}
@@ -60,7 +60,7 @@ place_of file lo hi l span p q =
     (ap (λ (s : Span). s.lo) (sym p ∙ q), ap (λ (s : Span). s.hi) (sym p ∙ q))
 
 -- a word or a number after a minus that reads is told by its reading
-told : (text : List ℕ) (reading : Reading) → HasReading (chars text) → TellsLiteral text reading → TellsReading text reading
+told : (text : List ℕ) (reading : Reading) → HasReading (chars text) → ReportsLiteral text reading → ReportsReading text reading
 told text reading reads (inl found) = found
 told text reading (kind, (contents, suffix, reads)) (inr none) = absurd (none.none kind contents suffix reads)
 
@@ -84,10 +84,10 @@ begun_one file at t w ws l token trees rest (after, _, _, _, cut) tail same left
       flat_is = tail ∙ sym (ap flat_trees left);
     }
 
-begun_two : (file at : ℕ) (t : List ℕ) (w v : LexedToken) (ws : List LexedToken) (l : ListLiteral) (m : Mark) (x : SpannedText) (trees rest : List Tree) → LexesUpTo at t (w ∷ v ∷ ws) [] → map (flat_token file) ws ≡ flat_trees trees → form_of w.lexeme ≡ MarkForm 45 → span_of file w ≡ m.span → form_of v.lexeme ≡ LiteralForm → token_of file v ≡ x → rest ≡ trees → joined_span m.span x.span ≡ record { file = file; lo = l.lo; hi = l.hi } → TellsReading (45 ∷ x.text) l.reading → Begun file (w ∷ v ∷ ws) l rest
+begun_two : (file at : ℕ) (t : List ℕ) (w v : LexedToken) (ws : List LexedToken) (l : ListLiteral) (m : Mark) (x : SpannedText) (trees rest : List Tree) → LexesUpTo at t (w ∷ v ∷ ws) [] → map (flat_token file) ws ≡ flat_trees trees → form_of w.lexeme ≡ MarkForm 45 → span_of file w ≡ m.span → form_of v.lexeme ≡ LiteralForm → token_of file v ≡ x → rest ≡ trees → joined_span m.span x.span ≡ record { file = file; lo = l.lo; hi = l.hi } → ReportsReading (45 ∷ x.text) l.reading → Begun file (w ∷ v ∷ ws) l rest
 begun_two file at t w v ws l m x trees rest (after, _, _, _, number) tail is_minus mark is_number same left span tells =
-    let (behind, gap, _, here, cut) = number in
-    let later : end_of w ≤ v.at = omega (arith, here, no_longer after (lexeme_text v.lexeme ++ behind) gap) in
+    let (following, gap, _, here, cut) = number in
+    let later : end_of w ≤ v.at = omega (arith, here, no_longer after (lexeme_text v.lexeme ++ following) gap) in
     let both : joined_span m.span x.span ≡ record { file = file; lo = w.at; hi = end_of v } =
     ap (λ s. joined_span s x.span) (sym mark) ∙ ap (λ (z : SpannedText). joined_span (span_of file w) z.span) (sym same) ∙ one_span file w v later in
     let place = place_of file w.at (end_of v) l (joined_span m.span x.span) span both in record {
@@ -98,31 +98,31 @@ begun_two file at t w v ws l m x trees rest (after, _, _, _, number) tail is_min
         cuts_are = refl;
         is_minus = is_minus;
         is_number = is_number;
-        tells = subst (λ (z : SpannedText). TellsReading (45 ∷ z.text) l.reading) (sym same) tells;
+        tells = subst (λ (z : SpannedText). ReportsReading (45 ∷ z.text) l.reading) (sym same) tells;
         lo_is = place.0;
         hi_is = place.1;
       });
       at = end_of v;
-      text = behind;
+      text = following;
       cut = cut;
       flat_is = tail ∙ sym (ap flat_trees left);
     }
 
-begun : (file at : ℕ) (t : List ℕ) (cuts : List LexedToken) (l : ListLiteral) (trees : List Tree) (token : SpannedText) (rest : List Tree) → LexesUpTo at t cuts [] → map (flat_token file) cuts ≡ flat_trees trees → IsFront trees token rest → token.span ≡ record { file = file; lo = l.lo; hi = l.hi } → TellsLiteral token.text l.reading → Begun file cuts l rest
+begun : (file at : ℕ) (t : List ℕ) (cuts : List LexedToken) (l : ListLiteral) (trees : List Tree) (token : SpannedText) (rest : List Tree) → LexesUpTo at t cuts [] → map (flat_token file) cuts ≡ flat_trees trees → IsFront trees token rest → token.span ≡ record { file = file; lo = l.lo; hi = l.hi } → ReportsLiteral token.text l.reading → Begun file cuts l rest
 begun file at t cuts l [] token rest cut e front span tells = absurd front
 begun file at t [] l (LiteralTree x ∷ trees) token rest cut e front span tells = absurd (no_head (FlatLiteral x) (flat_trees trees) e)
 begun file at t (w ∷ ws) l (LiteralTree x ∷ trees) token rest cut e (is, left) span tells =
     let h = heads (flat_token file w) (FlatLiteral x) (map (flat_token file) ws) (flat_trees trees) e in
     let f = literal_form (form_of w.lexeme) (text_of w) (span_of file w) x h.0 in
     let same : token_of file w ≡ token = f.1 ∙ sym is in
-    begun_one file at t w ws l token trees rest cut h.1 same left span (subst (λ (g : LexemeForm). TellsToken g (text_of w) l.reading) (sym f.0) (subst (λ (z : SpannedText). TellsLiteral z.text l.reading) (sym same) tells))
+    begun_one file at t w ws l token trees rest cut h.1 same left span (subst (λ (g : LexemeForm). TellsToken g (text_of w) l.reading) (sym f.0) (subst (λ (z : SpannedText). ReportsLiteral z.text l.reading) (sym same) tells))
 begun file at t [] l (IdentTree x ∷ trees) token rest cut e front span tells = absurd (no_head (FlatIdent x) (flat_trees trees) e)
 begun file at t (w ∷ ws) l (IdentTree x ∷ trees) token rest cut e (reads, is, left) span tells =
     let h = heads (flat_token file w) (FlatIdent x) (map (flat_token file) ws) (flat_trees trees) e in
     let f = word_form (form_of w.lexeme) (text_of w) (span_of file w) x h.0 in
     let same : token_of file w ≡ token = f.1 ∙ sym is in
     let (contents, suffix, truth) = subst (λ (z : SpannedText). ReadsAs BoolKind (chars z.text)) (sym f.1) reads in
-    let literal : TellsLiteral (text_of w) l.reading = subst (λ (z : SpannedText). TellsLiteral z.text l.reading) (sym same) tells in
+    let literal : ReportsLiteral (text_of w) l.reading = subst (λ (z : SpannedText). ReportsLiteral z.text l.reading) (sym same) tells in
     let word : TellsToken IdentifierForm (text_of w) l.reading = ((truth.truth, truth.text_is), told (text_of w) l.reading (BoolKind, (contents, suffix, truth)) literal) in
     begun_one file at t w ws l token trees rest cut h.1 same left span (subst (λ (g : LexemeForm). TellsToken g (text_of w) l.reading) (sym f.0) word)
 begun file at t cuts l (PunctTree m ∷ []) token rest cut e front span tells = absurd front
@@ -137,7 +137,7 @@ begun file at t (w ∷ v ∷ ws) l (PunctTree m ∷ LiteralTree x ∷ trees) tok
     let k = heads (flat_token file v) (FlatLiteral x) (map (flat_token file) ws) (flat_trees trees) h.1 in
     let mark = mark_form (form_of w.lexeme) (text_of w) (span_of file w) m h.0 in
     let number = literal_form (form_of v.lexeme) (text_of v) (span_of file v) x k.0 in
-    let literal : TellsLiteral (45 ∷ x.text) l.reading = subst (λ (z : SpannedText). TellsLiteral z.text l.reading) is tells in
+    let literal : ReportsLiteral (45 ∷ x.text) l.reading = subst (λ (z : SpannedText). ReportsLiteral z.text l.reading) is tells in
     begun_two file at t w v ws l m x trees rest cut k.1 (mark.0 ∙ ap MarkForm is_minus) mark.1 number.0 number.1 left (sym (ap (λ (z : SpannedText). z.span) is) ∙ span) (told (45 ∷ x.text) l.reading (subst HasReading (sym (minus_chars x.text)) reads) literal)
 begun file at t cuts l (GroupTree d inside s ∷ trees) token rest cut e front span tells = absurd front
 

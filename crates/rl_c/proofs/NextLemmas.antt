@@ -17,8 +17,8 @@ use Rattle.rl_tokens.specs.Skipping.{Skipped}
 use Rattle.rl_tokens.proofs.Rests.{behind_length}
 use Rattle.rl_c.specs.declared.next.Next.{Next}
 use Rattle.rl_c.specs.declared.reading.Reading.{Reading}
-use Rattle.rl_c.specs.Crossing.{TellsReading, TellsLiteral}
-use Rattle.rl_c.specs.Lists.{Starts, TellsToken, TakesNextLiteral, BeginsLiteral, BeginsNone, HasNoNextLiteral, TellsFault, BeginsNoLiteral}
+use Rattle.rl_c.specs.Crossing.{ReportsReading, ReportsLiteral}
+use Rattle.rl_c.specs.Lists.{Starts, TellsToken, TakesNextLiteral, BeginsLiteral, BeginsNone, HasNoNextLiteral, ReportsError, BeginsNoLiteral}
 
 with_rest : (old new : CursorState) (n : Next) (r : ℕ) → TakesNextLiteral old n new → TakesNextLiteral old (record n { rest_at = r }) new
 with_rest old new n r (inl t) = inl (record {
@@ -46,8 +46,8 @@ with_rest old new n r (inr t) = inr (record {
 })
 
 takes_less : (old new : CursorState) (n : Next) → TakesNextLiteral old n new → length new.rest ≤ length old.rest
-takes_less old new n (inl t) = behind_length _ _ t.takes.behind
-takes_less old new n (inr t) = omega (arith, behind_length _ _ t.takes_minus.behind, behind_length _ _ t.takes_number.behind)
+takes_less old new n (inl t) = behind_length _ _ t.takes.following
+takes_less old new n (inr t) = omega (arith, behind_length _ _ t.takes_minus.following, behind_length _ _ t.takes_number.following)
 
 starts_in : (text lent : List ℕ) (start : CursorState) → lent ≡ text → start.text ≡ lent → Skipped (chars lent) (chars start.rest) → IsCursorState lent start.rest → Starts text start
 starts_in text lent start same of skipped state = record {
@@ -61,10 +61,10 @@ begins text lent start tokens new n rest same of skipped state is takes left =
     let t : TakesNextLiteral start n new = subst (λ z. TakesNextLiteral z n new) is takes in
     record {
       start = start;
-      behind = new;
+      following = new;
       starts = starts_in text lent start same of skipped state;
       takes = with_rest start new n (length lent - length rest) t;
-      rest_is = omega (arith, ap length same, ap length left, takes_less start new n t, behind_length _ _ state.behind);
+      rest_is = omega (arith, ap length same, ap length left, takes_less start new n t, behind_length _ _ state.following);
     }
 
 pub ends : (text lent rest left : List ℕ) → lent ≡ text → Skipped (chars lent) (chars rest) → left ≡ rest → (length left == 0) ≡ true → Skipped (chars text) []
@@ -78,14 +78,14 @@ pub takes_alone : (old new : CursorState) (l : Lexeme) (n : Next) → TakesNext 
 takes_alone old new l n takes tells begins lo hi no_minus =
     inl (record { token = l; takes = takes; tells = tells; begins = begins; lo_is = lo; hi_is = hi; no_minus = no_minus })
 
-pub token_told : (l : Lexeme) (r : Reading) → l.form ≡ found.Literal → TellsLiteral l.text.now r → TellsToken (form_view l.form) l.text.now r
+pub token_told : (l : Lexeme) (r : Reading) → l.form ≡ found.Literal → ReportsLiteral l.text.now r → TellsToken (form_view l.form) l.text.now r
 token_told l r is tells = subst (λ (f : FoundForm). TellsToken (form_view f) l.text.now r) (sym is) tells
 
 -- a word that is a literal has a reading
-pub word_told : (l : Lexeme) (r : Reading) (b : Bool) → l.form ≡ found.Identifier → chars l.text.now ≡ truth_text b → TellsLiteral l.text.now r → TellsToken (form_view l.form) l.text.now r
+pub word_told : (l : Lexeme) (r : Reading) (b : Bool) → l.form ≡ found.Identifier → chars l.text.now ≡ truth_text b → ReportsLiteral l.text.now r → TellsToken (form_view l.form) l.text.now r
 word_told l r b is word tells = subst (λ (f : FoundForm). TellsToken (form_view f) l.text.now r) (sym is) ((b, word), reading tells)
   where
-    reading : TellsLiteral l.text.now r → TellsReading l.text.now r
+    reading : ReportsLiteral l.text.now r → ReportsReading l.text.now r
     reading (inl told) = told
     reading (inr none) = let (contents, suffix, reads) = truth_reads (chars l.text.now) b word in absurd (none.none BoolKind contents suffix reads)
 
@@ -98,13 +98,13 @@ pub nothing_else : (t ahead : CursorState) → t.rest ≢ [] → ahead ≡ t →
 nothing_else t ahead some is none (inl nothing) = some nothing
 nothing_else t ahead some is none (inr (after, token)) = subst (λ (z : CursorState). BeginsNoLexeme (chars z.rest)) is none after token
 
-pub begins_none : (text lent : List ℕ) (start ahead : CursorState) (rest : List ℕ) (status : ℕ) → lent ≡ text → start.text ≡ lent → Skipped (chars lent) (chars start.rest) → IsCursorState lent start.rest → ahead ≡ start → HasNoNextLiteral ahead → rest ≡ start.rest → TellsFault start status → BeginsNoLiteral text status (length lent - length rest)
+pub begins_none : (text lent : List ℕ) (start ahead : CursorState) (rest : List ℕ) (status : ℕ) → lent ≡ text → start.text ≡ lent → Skipped (chars lent) (chars start.rest) → IsCursorState lent start.rest → ahead ≡ start → HasNoNextLiteral ahead → rest ≡ start.rest → ReportsError start status → BeginsNoLiteral text status (length lent - length rest)
 begins_none text lent start ahead rest status same of skipped state is none left tells = record {
   start = start;
   starts = starts_in text lent start same of skipped state;
   none = subst HasNoNextLiteral is none;
   tells = tells;
-  place = omega (arith, ap length same, ap length left, behind_length _ _ state.behind);
+  place = omega (arith, ap length same, ap length left, behind_length _ _ state.following);
 }
 
 other_form : (f : FoundForm) → (f ≡ found.Literal → ⊥) → form_view f ≡ LiteralForm → ⊥

@@ -5,7 +5,7 @@ use Rattle.std.proofs.lemmas.Option.{none-some}
 use Rattle.rl_tokens.specs.Skipping.{Skipped}
 use Rattle.rl_tokens.specs.Reading.{HasNoReading}
 use Rattle.rl_tokens.specs.Lexemes.{Lexeme, LexemeForm, LiteralForm, IdentifierForm, DelimiterForm, MarkForm, lexeme_text, IsLexeme, form_of}
-use Rattle.rl_tokens.specs.Lexing.{LexedToken, end_of, LexesUpTo, FaultAt}
+use Rattle.rl_tokens.specs.Lexing.{LexedToken, end_of, LexesUpTo, ErrorAt}
 use Rattle.rl_tokens.specs.Cursors.{CursorState, form_view}
 use Rattle.rl_tokens.specs.Mirrors.LexemeAt.{lexeme_at}
 use Rattle.rl_tokens.specs.declared.cursor.Lexeme.{Lexeme as Lent}
@@ -15,8 +15,8 @@ use Rattle.rl_tokens.proofs.Pieces.{one_rest, skipped_again}
 use Rattle.rl_grammar.proofs.FrontLemmas.{minus_chars}
 use Rattle.rl_c.specs.declared.next.Next.{Next}
 use Rattle.rl_c.specs.declared.reading.Reading.{Reading}
-use Rattle.rl_c.specs.Crossing.{TellsReading}
-use Rattle.rl_c.specs.Lists.{Starts, TellsToken, BeginsNone, HasNoNumber, HasNoNextLiteral, TellsFault, BeginsNoLiteral}
+use Rattle.rl_c.specs.Crossing.{ReportsReading}
+use Rattle.rl_c.specs.Lists.{Starts, TellsToken, BeginsNone, HasNoNumber, HasNoNextLiteral, ReportsError, BeginsNoLiteral}
 use Rattle.rl_c.specs.Steps.{ListLiteral, AreLiterals, IsList, CallsToError}
 use Rattle.rl_c.proofs.StepLemmas.{BeginsWith, CutsOff, returned, cuts_off, left_is, one_cut}
 
@@ -85,8 +85,8 @@ same_literal t own cuts more l m r (inr a) (inr b) one other =
     past_gap g.after r more [] g.one g.other
 
 -- something is left where an error stands
-some_left : (t : CursorState) (status : ℕ) → TellsFault t status → chars t.rest ≡ [] → ⊥
-some_left t status (inl (kind, _, fault)) e = no_fault kind (subst (FaultAt kind []) e (fault []))
+some_left : (t : CursorState) (status : ℕ) → ReportsError t status → chars t.rest ≡ [] → ⊥
+some_left t status (inl (kind, _, fault)) e = no_fault kind (subst (ErrorAt kind []) e (fault []))
 some_left t status (inr (l, new, takes, _)) e = no_token takes.cut.lexeme takes.after takes.is_lexeme (sym e ∙ takes.begins)
 
 -- a token that begins no literal is none
@@ -96,18 +96,18 @@ never IdentifierForm text new reading none (word, _) = none word
 never (DelimiterForm c) text new reading none tells = tells
 never (MarkForm c) text new reading none tells = tells
 
-no_reading : (bytes : List ℕ) (reading : Reading) → HasNoReading (45 ∷ chars bytes) → TellsReading (45 ∷ bytes) reading → ⊥
+no_reading : (bytes : List ℕ) (reading : Reading) → HasNoReading (45 ∷ chars bytes) → ReportsReading (45 ∷ bytes) reading → ⊥
 no_reading bytes reading none (found, is_found, _) = subst HasNoReading (sym (minus_chars bytes)) none found.kind is_found.reads.0 _ is_found.reads.1
 
 -- no number after the minus
-never_number : (new : CursorState) (number : LexedToken) (after : List ℕ) (reading : Reading) → HasNoNumber new → IsLexeme number.lexeme after → chars new.rest ≡ lexeme_text number.lexeme ++ after → form_of number.lexeme ≡ LiteralForm → TellsReading (45 ∷ encode_utf8_all (lexeme_text number.lexeme)) reading → ⊥
+never_number : (new : CursorState) (number : LexedToken) (after : List ℕ) (reading : Reading) → HasNoNumber new → IsLexeme number.lexeme after → chars new.rest ≡ lexeme_text number.lexeme ++ after → form_of number.lexeme ≡ LiteralForm → ReportsReading (45 ∷ encode_utf8_all (lexeme_text number.lexeme)) reading → ⊥
 never_number new number after reading (inl none) is e form tells = none after (lexeme_text number.lexeme, (number.lexeme, is, refl), e)
 never_number new number after reading (inr (l, next, takes, bad)) is e form tells =
     let same : SameToken takes.cut.lexeme number.lexeme takes.after after = same_token takes.cut.lexeme number.lexeme takes.after after takes.is_lexeme is (sym takes.begins ∙ e) in
     let bytes : encode_utf8_all (lexeme_text number.lexeme) ≡ l.text.now = ap encode_utf8_all (sym same.text) ∙ takes.is_cut.bytes_are in
-    wrong l bad (sym takes.is_cut.form_is ∙ same.form ∙ form) (subst (λ z. TellsReading (45 ∷ z) reading) bytes tells)
+    wrong l bad (sym takes.is_cut.form_is ∙ same.form ∙ form) (subst (λ z. ReportsReading (45 ∷ z) reading) bytes tells)
   where
-    wrong : (l : Lent) → (((form_view l.form ≡ LiteralForm) → ⊥) ⊎ HasNoReading (45 ∷ chars l.text.now)) → form_view l.form ≡ LiteralForm → TellsReading (45 ∷ l.text.now) reading → ⊥
+    wrong : (l : Lent) → (((form_view l.form ≡ LiteralForm) → ⊥) ⊎ HasNoReading (45 ∷ chars l.text.now)) → form_view l.form ≡ LiteralForm → ReportsReading (45 ∷ l.text.now) reading → ⊥
     wrong l (inl other) is_literal reads = other is_literal
     wrong l (inr none) is_literal reads = no_reading l.text.now reading none reads
 

@@ -17,7 +17,7 @@ passes_start t u = record {
   others = tt;
   goes_on = λ done cut. subst (λ z. IsCutUpTo (chars t.text) z (chars t.rest)) (sym (append-nil done)) cut;
   same = refl;
-  behind = behind_self t.rest u;
+  following = behind_self t.rest u;
 }
 
 one_more : (ws : List CutSource) (w : CutSource) → AllByRecursion IsOther ws → IsOther w → AllByRecursion IsOther (ws ++ (w ∷ []))
@@ -38,7 +38,7 @@ passes_more a b d l p t other = record {
       let more = subst (λ z. IsCutUpTo (chars z) ((done ++ p.cuts) ++ (t.cut ∷ [])) (chars d.rest)) p.same (t.goes_on (done ++ p.cuts) before) in
       subst (λ z. IsCutUpTo (chars a.text) z (chars d.rest)) (append_assoc done p.cuts (t.cut ∷ [])) more;
   same = t.same ∙ p.same;
-  behind = behind_step a.rest b.rest d.rest p.behind t.behind;
+  following = behind_step a.rest b.rest d.rest p.following t.following;
 }
 
 -- the cursor that is taken up again stands at the byte
@@ -51,7 +51,7 @@ pub found_token : (text lent rest left : List ℕ) (at : ℕ) (start new : Curso
 found_token text lent rest left at start new l next same is cut tail takes left_is lo hi place =
     let t : TakesLiteralAfter (cursor_at text at) l new = subst (λ z. TakesLiteralAfter z l new) (stands_at text lent rest at start same is cut) takes in
     let from : IsTail text (drop at text) = subst (λ z. IsTail z (drop at z)) same (subst (IsTail lent) cut tail) in
-    let whole : IsTail text new.rest = behind_step text (drop at text) new.rest from (behind_step (drop at text) t.between.rest new.rest t.passes.behind t.takes.behind) in
+    let whole : IsTail text new.rest = behind_step text (drop at text) new.rest from (behind_step (drop at text) t.between.rest new.rest t.passes.following t.takes.following) in
     let at_is : next.rest_at ≡ length text - length new.rest = place ∙ ap (λ z. length z - length left) same ∙ ap (λ z. length text - length z) left_is in
     record {
       after = new;

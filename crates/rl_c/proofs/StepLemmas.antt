@@ -7,13 +7,13 @@ use Rattle.rl_tokens.specs.Texts.{IsTail, byte_len}
 use Rattle.rl_tokens.specs.Skipping.{Skipped}
 use Rattle.rl_tokens.specs.Lexemes.{LexemeForm, lexeme_text, form_of}
 use Rattle.rl_tokens.specs.Lexing.{LexedToken, end_of, LexesUpTo}
-use Rattle.rl_tokens.specs.Cursors.{CursorState, TakesNext, IsLentToken, form_view}
+use Rattle.rl_tokens.specs.Cursors.{CursorState, TakesNext, IsBorrowedToken, form_view}
 use Rattle.rl_tokens.specs.declared.cursor.Lexeme.{Lexeme}
 use Rattle.rl_tokens.proofs.BehindLemmas.{behind_step, cut_drop}
 use Rattle.rl_tokens.proofs.CutLemmas.{behind_place}
 use Rattle.rl_tokens.proofs.Pieces.{one_rest, skipped_again}
 use Rattle.rl_c.specs.declared.next.Next.{Next}
-use Rattle.rl_c.specs.Crossing.{TellsReading}
+use Rattle.rl_c.specs.Crossing.{ReportsReading}
 use Rattle.rl_c.specs.Lists.{Starts, TellsToken, TakesNegative, TakesNextLiteral, BeginsLiteral}
 use Rattle.rl_c.specs.Steps.{ListLiteral, IsOneToken, IsMinusAndNumber, AreLiterals, IsList, CallsToEnd, placed}
 
@@ -78,10 +78,10 @@ pub record CutsOff (text : List ℕ) (n : Next) : Type 0 where
   pub cut : LexesUpTo 0 (chars text) own (chars rest)
   pub literal : BeginsWith own (returned n) []
   pub is_text : IsUtf8 text
-  pub behind : IsTail text rest
+  pub following : IsTail text rest
   pub place : n.rest_at + length rest ≡ length text
 
-one_literal : (w : LexedToken) (l : Lexeme) (n : Next) → IsLentToken l w → TellsToken (form_view l.form) l.text.now n.reading → n.minus_at ≡ l.lo → n.hi ≡ l.hi → IsOneToken (w ∷ []) (returned n) []
+one_literal : (w : LexedToken) (l : Lexeme) (n : Next) → IsBorrowedToken l w → TellsToken (form_view l.form) l.text.now n.reading → n.minus_at ≡ l.lo → n.hi ≡ l.hi → IsOneToken (w ∷ []) (returned n) []
 one_literal w l n is tells lo hi = record {
   token = w;
   cuts_are = refl;
@@ -90,14 +90,14 @@ one_literal w l n is tells lo hi = record {
   hi_is = hi ∙ sym is.hi_is;
 }
 
-two_literal : (start behind : CursorState) (n : Next) → (t : TakesNegative start n behind) → IsMinusAndNumber (t.takes_minus.cut ∷ t.takes_number.cut ∷ []) (returned n) []
-two_literal start behind n t = record {
+two_literal : (start following : CursorState) (n : Next) → (t : TakesNegative start n following) → IsMinusAndNumber (t.takes_minus.cut ∷ t.takes_number.cut ∷ []) (returned n) []
+two_literal start following n t = record {
   minus = t.takes_minus.cut;
   number = t.takes_number.cut;
   cuts_are = refl;
   is_minus = t.takes_minus.is_cut.form_is ∙ t.is_minus;
   is_number = t.takes_number.is_cut.form_is ∙ t.is_number;
-  tells = subst (λ z. TellsReading (45 ∷ z) n.reading) (sym t.takes_number.is_cut.bytes_are) t.reads;
+  tells = subst (λ z. ReportsReading (45 ∷ z) n.reading) (sym t.takes_number.is_cut.bytes_are) t.reads;
   lo_is = t.minus_is ∙ sym t.takes_minus.is_cut.lo_is;
   hi_is = t.hi_is ∙ sym t.takes_number.is_cut.hi_is;
 }
@@ -122,7 +122,7 @@ cuts_by text n start new s place (inl t) = record {
   cut = one_cut text start new t.token s t.takes;
   literal = inl (one_literal t.takes.cut t.token n t.takes.is_cut t.tells t.begins t.hi_is);
   is_text = s.state.is_text;
-  behind = behind_step text start.rest new.rest s.state.behind t.takes.behind;
+  following = behind_step text start.rest new.rest s.state.following t.takes.following;
   place = place;
 }
 cuts_by text n start new s place (inr t) = record {
@@ -131,18 +131,18 @@ cuts_by text n start new s place (inr t) = record {
   cut = two_cut text start t.between new t.minus t.number s t.takes_minus t.takes_number;
   literal = inr (two_literal start new n t);
   is_text = s.state.is_text;
-  behind = behind_step text start.rest new.rest s.state.behind (behind_step start.rest t.between.rest new.rest t.takes_minus.behind t.takes_number.behind);
+  following = behind_step text start.rest new.rest s.state.following (behind_step start.rest t.between.rest new.rest t.takes_minus.following t.takes_number.following);
   place = place;
 }
 
 pub cuts_off : (text : List ℕ) (n : Next) → BeginsLiteral text n → CutsOff text n
-cuts_off text n b = cuts_by text n b.start b.behind b.starts b.rest_is b.takes
+cuts_off text n b = cuts_by text n b.start b.following b.starts b.rest_is b.takes
 
 -- the next call is given what is left
 pub left_is : (text : List ℕ) (n : Next) → (s : CutsOff text n) → drop n.rest_at text ≡ s.rest
 left_is text n s =
     let at : n.rest_at ≡ length text - length s.rest = omega (arith, s.place) in
-    ap (λ k. drop k text) at ∙ cut_drop text s.rest s.behind
+    ap (λ k. drop k text) at ∙ cut_drop text s.rest s.following
 
 -- the calls cut the text, which begins at a byte of the list
 whole_from : (at : ℕ) (text : List ℕ) (ns : List Next) → CallsToEnd text ns → (cuts : List LexedToken) × LexesUpTo at (chars text) cuts [] × AreLiterals cuts (placed at ns)
@@ -153,7 +153,7 @@ whole_from at text (n ∷ ns) (begins, calls) =
     let mine = map (shifted at) s.own in
     let none : at + 0 ≡ at = omega arith in
     let first : LexesUpTo at (chars text) mine (chars s.rest) = subst (λ k. LexesUpTo k (chars text) mine (chars s.rest)) none (shifts at 0 (chars text) s.own (chars s.rest) s.cut) in
-    let place : at + byte_len (chars text) ≡ (at + n.rest_at) + byte_len (chars s.rest) = omega (arith, s.place, ap length (encodes-chars text s.is_text), ap length (encodes-chars s.rest s.behind.is_text)) in
+    let place : at + byte_len (chars text) ≡ (at + n.rest_at) + byte_len (chars s.rest) = omega (arith, s.place, ap length (encodes-chars text s.is_text), ap length (encodes-chars s.rest s.following.is_text)) in
     (mine ++ cuts, joins at (at + n.rest_at) (chars text) (chars s.rest) mine cuts [] first place cut, (cuts, shifts_literal at s.own (returned n) cuts s.literal, are))
 
 pub whole : (text : List ℕ) (ns : List Next) → CallsToEnd text ns → IsList text (placed 0 ns)

@@ -10,13 +10,13 @@ use Rattle.rl_tokens.specs.Puncts.{Mark}
 use Rattle.rl_tokens.specs.Skipping.{Skipped}
 use Rattle.rl_tokens.specs.Reading.{HasReading}
 use Rattle.rl_tokens.specs.Lexemes.{LexemeForm, LiteralForm, IdentifierForm, DelimiterForm, MarkForm, lexeme_text, form_of}
-use Rattle.rl_tokens.specs.Lexing.{LexedToken, end_of, LexesUpTo, behind_form, open_groups, flat_form, flat_token}
+use Rattle.rl_tokens.specs.Lexing.{LexedToken, end_of, LexesUpTo, after_form, open_groups, flat_form, flat_token}
 use Rattle.rl_tokens.specs.Trees.{Tree, IdentTree, PunctTree, LiteralTree, flat, flat_trees}
 use Rattle.rl_tokens.proofs.CutLemmas.{byte_len-append}
 use Rattle.rl_grammar.specs.Fronts.{IsFront, joined, joined_span}
 use Rattle.rl_grammar.proofs.FrontLemmas.{minus_chars, truth_reads}
 use Rattle.rl_c.specs.declared.reading.Reading.{Reading}
-use Rattle.rl_c.specs.Crossing.{TellsReading, TellsLiteral}
+use Rattle.rl_c.specs.Crossing.{ReportsReading, ReportsLiteral}
 use Rattle.rl_c.specs.Lists.{TellsToken}
 use Rattle.rl_c.specs.Steps.{ListLiteral, AreLiterals, IsList, AreFronts, IsListOfTrees}
 
@@ -34,22 +34,22 @@ token_of file w = record { text = text_of w; span = span_of file w }
 record TreeOf (file : ℕ) (w : LexedToken) (reading : Reading) : Type 0 where
   pub tree : Tree
   pub flat_is : flat_token file w ∷ [] ≡ flat tree
-  pub stays : behind_form [] (form_of w.lexeme) w.at ≡ Some []
+  pub stays : after_form [] (form_of w.lexeme) w.at ≡ Some []
   pub front : (rest : List Tree) → IsFront (tree ∷ rest) (token_of file w) rest
-  pub tells : TellsLiteral (text_of w) reading
+  pub tells : ReportsLiteral (text_of w) reading
 
 tree_of : (file : ℕ) (w : LexedToken) (reading : Reading) (f : LexemeForm) → form_of w.lexeme ≡ f → TellsToken f (text_of w) reading → TreeOf file w reading
 tree_of file w reading LiteralForm is tells = record {
   tree = LiteralTree (token_of file w);
   flat_is = ap (λ g. flat_form g (text_of w) (span_of file w) ∷ []) is;
-  stays = ap (λ g. behind_form [] g w.at) is;
+  stays = ap (λ g. after_form [] g w.at) is;
   front = λ rest. (refl, refl);
   tells = tells;
 }
 tree_of file w reading IdentifierForm is (word, told) = record {
   tree = IdentTree (token_of file w);
   flat_is = ap (λ g. flat_form g (text_of w) (span_of file w) ∷ []) is;
-  stays = ap (λ g. behind_form [] g w.at) is;
+  stays = ap (λ g. after_form [] g w.at) is;
   front = λ rest. (truth_reads (chars (text_of w)) word.0 word.1, refl, refl);
   tells = inl told;
 }
@@ -57,7 +57,7 @@ tree_of file w reading (DelimiterForm c) is tells = absurd tells
 tree_of file w reading (MarkForm c) is tells = absurd tells
 
 -- the groups stay as they are
-stay : (w : LexedToken) (ws : List LexedToken) → behind_form [] (form_of w.lexeme) w.at ≡ Some [] → open_groups [] ws ≡ Some [] → open_groups [] (w ∷ ws) ≡ Some []
+stay : (w : LexedToken) (ws : List LexedToken) → after_form [] (form_of w.lexeme) w.at ≡ Some [] → open_groups [] ws ≡ Some [] → open_groups [] (w ∷ ws) ≡ Some []
 stay w ws one more = ap (option_and_then (λ g. open_groups g ws)) one ∙ more
 
 -- what stands after white space and comments is no longer
@@ -75,7 +75,7 @@ one_span file m l after =
     ∙ ap (λ n. let s : Span = record { file = file; lo = n; hi = max (end_of m) (end_of l) } in s) lo
     ∙ ap (λ n. let s : Span = record { file = file; lo = m.at; hi = n } in s) hi
 
-together : (bytes : List ℕ) (reading : Reading) → TellsReading (45 ∷ bytes) reading → HasReading (45 ∷ chars bytes)
+together : (bytes : List ℕ) (reading : Reading) → ReportsReading (45 ∷ bytes) reading → HasReading (45 ∷ chars bytes)
 together bytes reading (found, is, _) = subst HasReading (minus_chars bytes) (found.kind, (is.reads.0, _, is.reads.1))
 
 record TreesOf (file : ℕ) (cuts : List LexedToken) (ls : List ListLiteral) : Type 0 where
@@ -99,7 +99,7 @@ one_more file w more l ls t lo hi ts = record {
   );
 }
 
-two_more : (file : ℕ) (m w : LexedToken) (more : List LexedToken) (l : ListLiteral) (ls : List ListLiteral) → form_of m.lexeme ≡ MarkForm 45 → form_of w.lexeme ≡ LiteralForm → TellsReading (45 ∷ text_of w) l.reading → l.lo ≡ m.at → l.hi ≡ end_of w → end_of m ≤ w.at → TreesOf file more ls → TreesOf file (m ∷ w ∷ more) (l ∷ ls)
+two_more : (file : ℕ) (m w : LexedToken) (more : List LexedToken) (l : ListLiteral) (ls : List ListLiteral) → form_of m.lexeme ≡ MarkForm 45 → form_of w.lexeme ≡ LiteralForm → ReportsReading (45 ∷ text_of w) l.reading → l.lo ≡ m.at → l.hi ≡ end_of w → end_of m ≤ w.at → TreesOf file more ls → TreesOf file (m ∷ w ∷ more) (l ∷ ls)
 two_more file m w more l ls is_minus is_number tells lo hi after ts =
     let mark : Mark = record { ch = 45; span = span_of file m } in
     record {
@@ -108,7 +108,7 @@ two_more file m w more l ls is_minus is_number tells lo hi after ts =
           ap (λ g. flat_form g (text_of m) (span_of file m) ∷ flat_token file w ∷ map (flat_token file) more) is_minus
           ∙ ap (λ g. flat_form (MarkForm 45) (text_of m) (span_of file m) ∷ flat_form g (text_of w) (span_of file w) ∷ map (flat_token file) more) is_number
           ∙ ap (λ z. flat_form (MarkForm 45) (text_of m) (span_of file m) ∷ flat_form LiteralForm (text_of w) (span_of file w) ∷ z) ts.flat_is;
-      none_open = stay m (w ∷ more) (ap (λ g. behind_form [] g m.at) is_minus) (stay w more (ap (λ g. behind_form [] g w.at) is_number) ts.none_open);
+      none_open = stay m (w ∷ more) (ap (λ g. after_form [] g m.at) is_minus) (stay w more (ap (λ g. after_form [] g w.at) is_number) ts.none_open);
       fronts = (
         joined mark (token_of file w),
         ts.trees,
@@ -131,9 +131,9 @@ trees_of file at t cuts (l ∷ ls) cut (more, inr two, are) =
     let m = two.minus in
     let w = two.number in
     let (after, _, _, _, number) = subst (λ z. LexesUpTo at t z []) two.cuts_are cut in
-    let (behind, gap, _, place, rest) = number in
-    let ts : TreesOf file more ls = trees_of file (end_of w) behind more ls rest are in
-    let later : end_of m ≤ w.at = omega (arith, place, no_longer after (lexeme_text w.lexeme ++ behind) gap) in
+    let (following, gap, _, place, rest) = number in
+    let ts : TreesOf file more ls = trees_of file (end_of w) following more ls rest are in
+    let later : end_of m ≤ w.at = omega (arith, place, no_longer after (lexeme_text w.lexeme ++ following) gap) in
     subst (λ z. TreesOf file z (l ∷ ls)) (sym two.cuts_are) (two_more file m w more l ls two.is_minus two.is_number two.tells two.lo_is two.hi_is later ts)
 
 pub list_of_trees : (text : List ℕ) (file : ℕ) (ls : List ListLiteral) → IsList text ls → IsListOfTrees text file ls

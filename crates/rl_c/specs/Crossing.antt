@@ -21,7 +21,7 @@ kind_number Float = 7
 kind_number Bool = 8
 
 -- The numbers tell what was found.
-pub record Tells (found : Found) (reading : Reading) : Type 0 where
+pub record Reports (found : Found) (reading : Reading) : Type 0 where
   pub kind_is : reading.kind ≡ kind_number found.kind
   pub at_is : reading.at ≡ found.body.lo
   pub end_is : reading.end ≡ found.body.hi
@@ -30,8 +30,8 @@ pub record Tells (found : Found) (reading : Reading) : Type 0 where
   pub magnitude_is : found.magnitude ≡ reading.high * 2 ^ 64 + reading.low
 
 -- The numbers tell what reading the text, in bytes, finds.
-abbrev pub TellsReading : List ℕ → Reading → Type 0
-TellsReading text reading = (found : Found) × IsFound text found × Tells found reading
+abbrev pub ReportsReading : List ℕ → Reading → Type 0
+ReportsReading text reading = (found : Found) × IsFound text found × Reports found reading
 
 -- The text, in bytes, has no reading, and the numbers tell that: the kind is 9, and all of the text
 -- is the body.
@@ -49,14 +49,14 @@ pub record TellsVerbatim (text : List ℕ) (reading : Reading) : Type 0 where
       }
 
 -- The numbers tell what reading the text finds, or that it has no reading.
-abbrev pub TellsLiteral : List ℕ → Reading → Type 0
-TellsLiteral text reading = TellsReading text reading ⊎ TellsVerbatim text reading
+abbrev pub ReportsLiteral : List ℕ → Reading → Type 0
+ReportsLiteral text reading = ReportsReading text reading ⊎ TellsVerbatim text reading
 
 -- What reading the text finds is told, and that is a literal of the kind.
 pub record IsOfKind (kind : Kind) (text : List ℕ) (reading : Reading) : Type 0 where
   pub found : Found
   pub is_found : IsFound text found
-  pub tells : Tells found reading
+  pub tells : Reports found reading
   pub kind_is : found.kind ≡ kind
 
 -- whose body isn't plain

@@ -7,12 +7,12 @@ use Rattle.rl_tokens.specs.declared.lex_error.LexKind.{LexKind}
 use Rattle.rl_tokens.specs.declared.lex_error.LexKind.TheVariants.{DocComment, UnclosedComment, UnclosedQuote, Lifetime, RawIdentifier, StrayCharacter, UnmatchedClose, UnclosedGroup, TooDeep, Memory}
 use Rattle.rl_tokens.specs.Cursors.{CursorState, IsCursorState, TakesNext, form_view}
 use Rattle.rl_tokens.specs.Lexemes.{LexemeForm, LiteralForm, IdentifierForm, DelimiterForm, MarkForm}
-use Rattle.rl_tokens.specs.Lexing.{BeginsNoLexeme, OpenGroup, FaultAt, is_opener}
+use Rattle.rl_tokens.specs.Lexing.{BeginsNoLexeme, OpenGroup, ErrorAt, is_opener}
 use Rattle.rl_tokens.specs.Reading.{HasNoReading, truth_text}
 use Rattle.rl_tokens.specs.Skipping.{Skipped}
 use Rattle.rl_c.specs.declared.next.Next.{Next}
 use Rattle.rl_c.specs.declared.reading.Reading.{Reading}
-use Rattle.rl_c.specs.Crossing.{TellsReading, TellsLiteral}
+use Rattle.rl_c.specs.Crossing.{ReportsReading, ReportsLiteral}
 
 -- the text, in bytes, without the white space and comments at its front
 pub record Starts (text : List ℕ) (start : CursorState) : Type 0 where
@@ -27,8 +27,8 @@ IsTruthWord text = (b : Bool) × (chars text ≡ truth_text b)
 -- What is told of a token alone, by its form: of a literal token its reading, or that it has none; of
 -- the words `true` and `false` their reading. Other tokens are no literals.
 abbrev pub TellsToken : LexemeForm → List ℕ → Reading → Type 0
-TellsToken LiteralForm text reading = TellsLiteral text reading
-TellsToken IdentifierForm text reading = IsTruthWord text × TellsReading text reading
+TellsToken LiteralForm text reading = ReportsLiteral text reading
+TellsToken IdentifierForm text reading = IsTruthWord text × ReportsReading text reading
 TellsToken _ text reading = ⊥
 
 -- The next token is the literal.
@@ -50,7 +50,7 @@ pub record TakesNegative (old : CursorState) (next : Next) (new : CursorState) :
   pub takes_number : TakesNext between number new
   pub is_minus : form_view minus.form ≡ MarkForm (code "-")
   pub is_number : form_view number.form ≡ LiteralForm
-  pub reads : TellsReading (code "-" ∷ number.text.now) next.reading
+  pub reads : ReportsReading (code "-" ∷ number.text.now) next.reading
   pub minus_is : next.minus_at ≡ minus.lo
   pub lo_is : next.lo ≡ number.lo
   pub hi_is : next.hi ≡ number.hi
@@ -63,10 +63,10 @@ TakesNextLiteral old next new = TakesLiteral old next new ⊎ TakesNegative old 
 -- after such, begins at the place that is returned.
 pub record BeginsLiteral (text : List ℕ) (next : Next) : Type 0 where
   pub start : CursorState
-  pub behind : CursorState
+  pub following : CursorState
   pub starts : Starts text start
-  pub takes : TakesNextLiteral start next behind
-  pub rest_is : next.rest_at + length behind.rest ≡ length text
+  pub takes : TakesNextLiteral start next following
+  pub rest_is : next.rest_at + length following.rest ≡ length text
 
 -- no number after a minus
 abbrev pub HasNoNumber : CursorState → Type 0
@@ -78,10 +78,10 @@ HasNoNumber t =
 -- A token of this form and text, and what is left after it, begin no literal. A literal token is one,
 -- also where it has no reading.
 abbrev pub BeginsNone : LexemeForm → List ℕ → CursorState → Type 0
-BeginsNone LiteralForm text behind = ⊥
-BeginsNone IdentifierForm text behind = IsTruthWord text → ⊥
-BeginsNone (DelimiterForm c) text behind = ⊤
-BeginsNone (MarkForm c) text behind = (c ≢ code "-") ⊎ HasNoNumber behind
+BeginsNone LiteralForm text following = ⊥
+BeginsNone IdentifierForm text following = IsTruthWord text → ⊥
+BeginsNone (DelimiterForm c) text following = ⊤
+BeginsNone (MarkForm c) text following = (c ≢ code "-") ⊎ HasNoNumber following
 
 -- no literal stands next
 abbrev pub HasNoNextLiteral : CursorState → Type 0
@@ -91,30 +91,30 @@ HasNoNextLiteral t =
     × BeginsNone (form_view l.form) l.text.now new)
 
 -- the numbers of the lexer's errors
-abbrev pub fault_number : LexKind → ℕ
-fault_number DocComment = 3
-fault_number UnclosedComment = 4
-fault_number UnclosedQuote = 5
-fault_number Lifetime = 6
-fault_number RawIdentifier = 7
-fault_number StrayCharacter = 8
-fault_number UnmatchedClose = 9
-fault_number UnclosedGroup = 10
-fault_number TooDeep = 11
-fault_number Memory = 12
+abbrev pub error_number : LexKind → ℕ
+error_number DocComment = 3
+error_number UnclosedComment = 4
+error_number UnclosedQuote = 5
+error_number Lifetime = 6
+error_number RawIdentifier = 7
+error_number StrayCharacter = 8
+error_number UnmatchedClose = 9
+error_number UnclosedGroup = 10
+error_number TooDeep = 11
+error_number Memory = 12
 
 -- the numbers of the tokens that begin no literal: of a closing delimiter that of the lexer's error,
 -- since no group is open; of an opening one 13
 abbrev pub token_number : LexemeForm → ℕ
-token_number (DelimiterForm c) = if is_opener c then 13 else fault_number UnmatchedClose
+token_number (DelimiterForm c) = if is_opener c then 13 else error_number UnmatchedClose
 token_number _ = 2
 
 -- The number tells why no literal begins what is left, which isn't empty: the error that stands
 -- there, or the token.
-abbrev pub TellsFault : CursorState → ℕ → Type 0
-TellsFault t status =
-    ((kind : LexKind) × (status ≡ fault_number kind)
-    × ((groups : List OpenGroup) → FaultAt kind groups (chars t.rest)))
+abbrev pub ReportsError : CursorState → ℕ → Type 0
+ReportsError t status =
+    ((kind : LexKind) × (status ≡ error_number kind)
+    × ((groups : List OpenGroup) → ErrorAt kind groups (chars t.rest)))
     ⊎ ((l : Lexeme) × (new : CursorState) × TakesNext t l new
     × (status ≡ token_number (form_view l.form)))
 
@@ -123,5 +123,5 @@ pub record BeginsNoLiteral (text : List ℕ) (status at : ℕ) : Type 0 where
   pub start : CursorState
   pub starts : Starts text start
   pub none : HasNoNextLiteral start
-  pub tells : TellsFault start status
+  pub tells : ReportsError start status
   pub place : at + length start.rest ≡ length text

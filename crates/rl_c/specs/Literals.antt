@@ -10,8 +10,8 @@ use Rattle.rl_tokens.specs.Sources.{SourceKind, PlainKind, CutSource, kind_of, s
 use Rattle.rl_tokens.specs.declared.lex_error.LexKind.{LexKind}
 use Rattle.rl_tokens.specs.declared.sources.SourceToken.{SourceToken}
 use Rattle.rl_c.specs.declared.next.Next.{Next}
-use Rattle.rl_c.specs.Crossing.{TellsReading}
-use Rattle.rl_c.specs.Lists.{fault_number}
+use Rattle.rl_c.specs.Crossing.{ReportsReading}
+use Rattle.rl_c.specs.Lists.{error_number}
 
 -- a token of the source is a literal by its form, or one of the words `true` and `false`
 abbrev pub IsLiteralText : SourceKind → List ℕ → Type 0
@@ -31,7 +31,7 @@ pub record PassesTo (old new : CursorState) : Type 0 where
   pub goes_on : (done : List CutSource) → IsCutUpTo (chars old.text) done (chars old.rest)
       → IsCutUpTo (chars old.text) (done ++ cuts) (chars new.rest)
   pub same : new.text ≡ old.text
-  pub behind : IsTail old.rest new.rest
+  pub following : IsTail old.rest new.rest
 
 -- After tokens that are no literals comes this one, which is one.
 pub record TakesLiteralAfter (old : CursorState) (l : SourceToken) (new : CursorState)
@@ -65,7 +65,7 @@ pub record FindsToken (text : List ℕ) (at : ℕ) (next : Next) (token : Source
 abbrev pub FindsLiteral : List ℕ → ℕ → Next → Type 0
 FindsLiteral text at next =
     (token : SourceToken) × FindsToken text at next token
-    × TellsReading token.text.now next.reading
+    × ReportsReading token.text.now next.reading
 
 -- and it has none
 abbrev pub FindsNoReading : List ℕ → ℕ → Next → Type 0
@@ -77,5 +77,5 @@ FindsNoReading text at next =
 abbrev pub FindsError : List ℕ → ℕ → ℕ → ℕ → Type 0
 FindsError text at status place =
     (end : CursorState) × (kind : LexKind) × PassesTo (cursor_at text at) end
-    × (status ≡ fault_number kind) × SourceErrorAt kind (chars end.rest)
+    × (status ≡ error_number kind) × SourceErrorAt kind (chars end.rest)
     × (place + length end.rest ≡ length text)

@@ -10,7 +10,7 @@ use Rattle.rl_tokens.specs.Trees.{Tree}
 use Rattle.rl_grammar.specs.Fronts.{IsFront}
 use Rattle.rl_c.specs.declared.next.Next.{Next}
 use Rattle.rl_c.specs.declared.reading.Reading.{Reading}
-use Rattle.rl_c.specs.Crossing.{TellsReading, TellsLiteral}
+use Rattle.rl_c.specs.Crossing.{ReportsReading, ReportsLiteral}
 use Rattle.rl_c.specs.Lists.{TellsToken, BeginsLiteral, BeginsNoLiteral}
 
 -- A literal of a list: where it stands in the whole list, from its minus on where one stands, and
@@ -39,7 +39,7 @@ pub record IsMinusAndNumber (cuts : List LexedToken) (l : ListLiteral) (more : L
   pub is_minus : form_of minus.lexeme ≡ MarkForm (code "-")
   pub is_number : form_of number.lexeme ≡ LiteralForm
   pub tells :
-      TellsReading (code "-" ∷ encode_utf8_all (lexeme_text number.lexeme)) l.reading
+      ReportsReading (code "-" ∷ encode_utf8_all (lexeme_text number.lexeme)) l.reading
   pub lo_is : l.lo ≡ minus.at
   pub hi_is : l.hi ≡ end_of number
 
@@ -64,7 +64,7 @@ AreFronts file trees [] = trees ≡ []
 AreFronts file trees (l ∷ ls) =
     (token : SpannedText) × (rest : List Tree) × IsFront trees token rest
     × (token.span ≡ record { file = file; lo = l.lo; hi = l.hi })
-    × TellsLiteral token.text l.reading × AreFronts file rest ls
+    × ReportsLiteral token.text l.reading × AreFronts file rest ls
 
 -- The text is cut into the trees of these literals, with nothing left.
 pub record IsListOfTrees (text : List ℕ) (file : ℕ) (list : List ListLiteral) : Type 0 where

@@ -11,7 +11,7 @@ ghost use Rattle.rl_tokens.specs.Reading.{Characters, Bytes, Digits, HasContents
 ghost use Rattle.rl_grammar.specs.StrictShapes.{IsToken};
 ghost use Rattle.rl_tokens.specs.Skipping.{Skipped};
 ghost use Rattle.rl_c.specs.Lists.{BeginsLiteral, BeginsNoLiteral};
-ghost use Rattle.rl_c.specs.Crossing.{TellsReading, Tells, IsOfKind, IsCooked};
+ghost use Rattle.rl_c.specs.Crossing.{ReportsReading, Reports, IsOfKind, IsCooked};
 
 pub mod laws;
 mod layout;
@@ -22,7 +22,7 @@ mod write;
 
 pub use crate::layout::{Layout, rl_layout, rl_probe};
 pub use crate::next::Next;
-use crate::next::{refusal, take_next};
+use crate::next::{rejection, take_next};
 pub use crate::reading::Reading;
 use crate::reading::{numeral, single_body, string_body};
 pub use crate::source::{rl_source_next, rl_source_start};
@@ -37,7 +37,7 @@ use rl_tokens::Tokens;
 #[unsafe(no_mangle)]
 pub extern "C" fn rl_find(text: &[u8], reading: &mut Reading) -> bool
     requires utf8 { IsUtf8 text.now }
-    ensures read { IsTrue result → TellsReading text.now reading.new }
+    ensures read { IsTrue result → ReportsReading text.now reading.new }
     ensures none { IsFalse result → HasNoReading (chars text.now) }
     ensures stays { IsFalse result → reading.new ≡ reading.old }
 {
@@ -157,7 +157,7 @@ pub extern "C" fn rl_next(text: &[u8], next: &mut Next) -> u8
         return 1;
     }
     next.lo = text.len() - start.rest().len();
-    refusal(&start)
+    rejection(&start)
 }
 
 /// Whether the text is a literal token of the Rust Reference.

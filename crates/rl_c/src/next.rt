@@ -4,7 +4,7 @@ ghost use Rattle.std.specs.Prelude.{◌≡◌, ◌≢◌, ◌<◌, [], false, Is
 ghost use Rattle.std.specs.Str.{chars};
 ghost use Rattle.rl_tokens.specs.Cursors.{form_view};
 ghost use Rattle.rl_tokens.specs.Skipping.{Skipped};
-ghost use Rattle.rl_c.specs.Lists.{TakesNextLiteral, HasNoNextLiteral, TellsFault, fault_number, token_number};
+ghost use Rattle.rl_c.specs.Lists.{TakesNextLiteral, HasNoNextLiteral, ReportsError, error_number, token_number};
 
 use crate::reading::Reading;
 use rl_grammar::{find_negative, truth_of};
@@ -31,8 +31,8 @@ pub struct Next {
 }
 
 /// An error's number.
-pub(crate) fn fault_number(kind: LexKind) -> u8
-    ensures value { result ≡ fault_number kind }
+pub(crate) fn error_number(kind: LexKind) -> u8
+    ensures value { result ≡ error_number kind }
     ensures past { 2 < result }
 {
     match kind {
@@ -56,7 +56,7 @@ fn token_number(form: Form) -> u8
 {
     match form {
         Form::Delimiter('(' | '[' | '{') => 13,
-        Form::Delimiter(_) => fault_number(LexKind::UnmatchedClose),
+        Form::Delimiter(_) => error_number(LexKind::UnmatchedClose),
         _ => 2,
     }
 }
@@ -123,13 +123,13 @@ pub(crate) fn take_next(tokens: &mut Tokens<'_>, next: &mut Next) -> bool
 }
 
 /// Why no literal begins what is left, which isn't empty.
-pub(crate) fn refusal(tokens: &Tokens<'_>) -> u8
+pub(crate) fn rejection(tokens: &Tokens<'_>) -> u8
     requires { tokens.now.rest ≢ [] }
-    ensures tells { TellsFault tokens.now result }
+    ensures tells { ReportsError tokens.now result }
     ensures past { 1 < result }
 {
     if let Some(fault) = tokens.fault() {
-        return fault_number(fault.kind);
+        return error_number(fault.kind);
     }
     match tokens.fork().next() {
         Some(token) => token_number(token.form),

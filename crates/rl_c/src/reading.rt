@@ -8,7 +8,7 @@ ghost use Rattle.rl_tokens.specs.Numbers.{float_digits};
 ghost use Rattle.rl_tokens.specs.Quoted.{is_string, is_single};
 ghost use Rattle.rl_tokens.specs.Reading.{Digits, HasContents};
 ghost use Rattle.rl_grammar.specs.Bodies.{HasBody, HasSingleBody};
-ghost use Rattle.rl_c.specs.Crossing.{kind_number, Tells, TellsLiteral, IsOfKind, IsCooked};
+ghost use Rattle.rl_c.specs.Crossing.{kind_number, Reports, ReportsLiteral, IsOfKind, IsCooked};
 
 use rl_grammar::{Found, Kind, find};
 
@@ -59,7 +59,7 @@ pub(crate) fn kind_number(kind: Kind) -> u8
 impl Reading {
     /// What was found, as it crosses.
     pub(crate) fn of(found: &Found) -> Reading
-        ensures { Tells found.now result }
+        ensures { Reports found.now result }
     {
         Reading {
             at: found.body.lo,
@@ -97,7 +97,7 @@ impl Reading {
 
     /// Tells what reading a literal token finds, or that it has no reading.
     pub(crate) fn tell_token(&mut self, text: &str)
-        ensures { TellsLiteral text.now self.new }
+        ensures { ReportsLiteral text.now self.new }
     {
         match find(text) {
             Some(found) => *self = Reading::of(&found),

@@ -5,7 +5,7 @@ ghost use Rattle.std.specs.Str.{chars, IsUtf8, IsCharBoundary};
 ghost use Rattle.rl_tokens.specs.Sources.{source_view, IsCutUpTo, BeginsNoSource};
 ghost use Rattle.rl_c.specs.Literals.{IsLiteralText, PassesTo, TakesLiteralAfter, EndsWithoutLiteral, FindsLiteral, FindsNoReading, FindsError};
 
-use crate::next::{Next, fault_number};
+use crate::next::{Next, error_number};
 use crate::reading::Reading;
 use rl_grammar::{find, truth_of};
 use rl_tokens::{Form, SourceForm, SourceToken, Sources};
@@ -71,7 +71,7 @@ pub extern "C" fn rl_source_next(text: &[u8], at: usize, next: &mut Next) -> u8
         return match tokens.error() {
             Some(error) => {
                 next.lo = error.at;
-                fault_number(error.kind)
+                error_number(error.kind)
             }
             None => 0,
         };

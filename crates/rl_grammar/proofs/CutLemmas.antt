@@ -35,7 +35,7 @@ chars_lack c bs u p = subst (λ z. lacks c z ≡ true) (chars_from_encodes p.0 b
 -- round a character of ASCII the text is cut in two texts
 pub record Around (c : ℕ) (bs : List ℕ) (i j : ℕ) : Type 0 where
   pub chars_are : chars bs ≡ chars (take i bs) ++ (c ∷ chars (drop j bs))
-  pub behind : IsUtf8 (drop j bs)
+  pub following : IsUtf8 (drop j bs)
 
 around : (c : ℕ) (bs : List ℕ) (i j : ℕ) → IsUtf8 bs → c < 128 → HasCharAt c bs i j → Around c bs i j
 around c bs i j u small at =
@@ -49,7 +49,7 @@ around c bs i j u small at =
           ap chars (sym (take-append-drop i bs))
           ∙ chars-append (take i bs) (drop i bs) (IsUtf8-take bs i u boundary)
           ∙ ap (λ z. chars (take i bs) ++ z) (chars_past_char (drop i bs) (drop j bs) c back at.split);
-      behind = IsUtf8-past_char (drop i bs) (drop j bs) c back at.split;
+      following = IsUtf8-past_char (drop i bs) (drop j bs) c back at.split;
     }
 
 -- ---- each takes the clause of the method that it is named for
@@ -64,8 +64,8 @@ pub rsplit_once_some : (bs : List ℕ) (r : Option (Bor (List ℕ) × Bor (List 
 rsplit_once_some bs None m u = tt
 rsplit_once_some bs (Some x) m u =
     let a = around 34 bs m.0 m.1 u (omega arith) m.2.1 in
-    let behind : lacks 34 (chars (drop m.1 bs)) ≡ true = chars_lack 34 (drop m.1 bs) a.behind m.2.0 in
-    subst (λ y. CutAtLast bs y x.1.now) (sym m.3) (subst (CutAtLast bs (take m.0 bs)) (sym m.4) (a.chars_are, behind))
+    let following : lacks 34 (chars (drop m.1 bs)) ≡ true = chars_lack 34 (drop m.1 bs) a.following m.2.0 in
+    subst (λ y. CutAtLast bs y x.1.now) (sym m.3) (subst (CutAtLast bs (take m.0 bs)) (sym m.4) (a.chars_are, following))
 
 pub rsplit_once_none : (bs : List ℕ) (r : Option (Bor (List ℕ) × Bor (List ℕ))) → SplitLastQuote bs r → IsUtf8 bs → IfNone r (lacks 34 (chars bs) ≡ true)
 rsplit_once_none bs None m u = chars_lack 34 bs u m

@@ -27,54 +27,54 @@ Cut = Option (Bor (List ℕ) × Bor (List ℕ))
 -- ---- the front
 
 -- what a front tells is so
-pub record Tells (t : List ℕ) (p : QuotedForm × Kind × List ℕ) : Type 0 where
+pub record Reports (t : List ℕ) (p : QuotedForm × Kind × List ℕ) : Type 0 where
   pub has : has_form p.0 p.1 ≡ true
   pub text_is : t ≡ form_opener p.0 p.1 ++ p.2
 
-string_tells : (kind : Kind) (pre t : List ℕ) (p : QuotedForm × Kind × List ℕ) → is_string kind ≡ true → opener kind ≡ pre ++ (34 ∷ []) → raw_opener kind ≡ pre ++ (114 ∷ []) → string_opener_at kind t ≡ Some p → Tells (pre ++ t) p
+string_tells : (kind : Kind) (pre t : List ℕ) (p : QuotedForm × Kind × List ℕ) → is_string kind ≡ true → opener kind ≡ pre ++ (34 ∷ []) → raw_opener kind ≡ pre ++ (114 ∷ []) → string_opener_at kind t ≡ Some p → Reports (pre ++ t) p
 string_tells kind pre [] p s o r h = absurd (cc)
 string_tells kind pre (c ∷ cs) p s o r h =
-    let behind : (q : ℕ) → eqb c q ≡ true → pre ++ (c ∷ cs) ≡ (pre ++ (q ∷ [])) ++ cs = λ q e. ap (λ z. pre ++ (z ∷ cs)) (eqb-true c q e) ∙ sym (append_assoc pre (q ∷ []) cs) in
+    let following : (q : ℕ) → eqb c q ≡ true → pre ++ (c ∷ cs) ≡ (pre ++ (q ∷ [])) ++ cs = λ q e. ap (λ z. pre ++ (z ∷ cs)) (eqb-true c q e) ∙ sym (append_assoc pre (q ∷ []) cs) in
     elim (cases_Bool (eqb c 34)) [
       | inl a ↦
           let same : (CookedForm, kind, cs) ≡ p = let e = rw a at h in cc in
-          subst (Tells (pre ++ (c ∷ cs))) same (record { has = s; text_is = behind 34 a ∙ ap (λ z. z ++ cs) (sym o) })
+          subst (Reports (pre ++ (c ∷ cs))) same (record { has = s; text_is = following 34 a ∙ ap (λ z. z ++ cs) (sym o) })
       | inr a ↦
           let h1 = rw a at h in
           elim (cases_Bool (eqb c 114)) [
             | inl b ↦
                 let same : (RawForm, kind, cs) ≡ p = let e = rw b at h1 in cc in
-                subst (Tells (pre ++ (c ∷ cs))) same (record { has = s; text_is = behind 114 b ∙ ap (λ z. z ++ cs) (sym r) })
+                subst (Reports (pre ++ (c ∷ cs))) same (record { has = s; text_is = following 114 b ∙ ap (λ z. z ++ cs) (sym r) })
             | inr b ↦ let h2 = rw b at h1 in absurd (cc)
           ]
     ]
 
-byte_tells : (t : List ℕ) (p : QuotedForm × Kind × List ℕ) → byte_opener_at t ≡ Some p → Tells (98 ∷ t) p
+byte_tells : (t : List ℕ) (p : QuotedForm × Kind × List ℕ) → byte_opener_at t ≡ Some p → Reports (98 ∷ t) p
 byte_tells [] p h = absurd (cc)
 byte_tells (c ∷ cs) p h =
     elim (cases_Bool (eqb c 39)) [
       | inl a ↦
           let same : (SingleForm, Byte, cs) ≡ p = let e = rw a at h in cc in
-          subst (Tells (98 ∷ c ∷ cs)) same (record { has = refl; text_is = ap (λ z. 98 ∷ z ∷ cs) (eqb-true c 39 a) })
+          subst (Reports (98 ∷ c ∷ cs)) same (record { has = refl; text_is = ap (λ z. 98 ∷ z ∷ cs) (eqb-true c 39 a) })
       | inr a ↦ string_tells ByteStr (98 ∷ []) (c ∷ cs) p refl refl refl (rw a at h)
     ]
 
-pub front_sound : (t : List ℕ) (p : QuotedForm × Kind × List ℕ) → opener_at t ≡ Some p → Tells t p
+pub front_sound : (t : List ℕ) (p : QuotedForm × Kind × List ℕ) → opener_at t ≡ Some p → Reports t p
 unfolding opener_at
 front_sound [] p h = absurd (cc)
 front_sound (c ∷ cs) p h =
     elim (cases_Bool (eqb c 39)) [
       | inl a ↦
           let same : (SingleForm, Char, cs) ≡ p = let e = rw a at h in cc in
-          subst (Tells (c ∷ cs)) same (record { has = refl; text_is = ap (λ z. z ∷ cs) (eqb-true c 39 a) })
+          subst (Reports (c ∷ cs)) same (record { has = refl; text_is = ap (λ z. z ∷ cs) (eqb-true c 39 a) })
       | inr a ↦
           let h1 = rw a at h in
           elim (cases_Bool (eqb c 98)) [
-            | inl b ↦ subst (λ z. Tells (z ∷ cs) p) (sym (eqb-true c 98 b)) (byte_tells cs p (rw b at h1))
+            | inl b ↦ subst (λ z. Reports (z ∷ cs) p) (sym (eqb-true c 98 b)) (byte_tells cs p (rw b at h1))
             | inr b ↦
                 let h2 = rw b at h1 in
                 elim (cases_Bool (eqb c 99)) [
-                  | inl d ↦ subst (λ z. Tells (z ∷ cs) p) (sym (eqb-true c 99 d)) (string_tells CStr (99 ∷ []) cs p refl refl refl (rw d at h2))
+                  | inl d ↦ subst (λ z. Reports (z ∷ cs) p) (sym (eqb-true c 99 d)) (string_tells CStr (99 ∷ []) cs p refl refl refl (rw d at h2))
                   | inr d ↦ string_tells Str [] (c ∷ cs) p refl refl refl (rw d at h2)
                 ]
           ]

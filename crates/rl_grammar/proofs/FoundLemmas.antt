@@ -34,7 +34,7 @@ pub body_text : (t : List ℕ) (body : Body) → IsUtf8 t → StandsIn t body �
 body_text t body u s = IsUtf8-between t body.lo body.hi u s.ordered s.begins s.ends
 
 pub suffix_text : (t : List ℕ) (body : Body) → IsUtf8 t → StandsIn t body → IsUtf8 (suffix_in t body)
-suffix_text t body u s = IsUtf8-drop t body.suffix_at u s.behind
+suffix_text t body u s = IsUtf8-drop t body.suffix_at u s.following
 
 pub quoted_cut : (kind : Kind) (t : List ℕ) (body : Body) → IsUtf8 t → IsQuotedAt kind t body → IsQuotedSplit kind t (body_in t body) (suffix_in t body)
 quoted_cut kind t body u q = parts_cut q.form kind t q.value (body_in t body) (suffix_in t body) u (body_text t body u q.stands) (suffix_text t body u q.stands) q.parts
@@ -105,21 +105,21 @@ record Cut (t b x : List ℕ) (n : ℕ) : Type 0 where
   pub chars_cut : chars t ≡ chars b ++ chars x
 
 number_cut : (t b x : List ℕ) (n : ℕ) → IsUtf8 b → IsTail t x → t ≡ b ++ x → n ≡ length b → Cut t b x n
-number_cut t b x n ub behind e n_is =
+number_cut t b x n ub following e n_is =
     let long : n - 0 ≡ length b = omega (arith, n_is) in
     record {
       body_is = ap (λ k. take k (drop 0 t)) long ∙ ap (λ z. take (length b) (drop 0 z)) e ∙ take-append_seam b x;
       suffix_is = ap (λ k. drop k t) n_is ∙ ap (drop (length b)) e ∙ drop-append_seam b x;
-      boundary = subst (λ k. IsCharBoundary t k) (sym n_is) (IsCharBoundary-at_seam t b x e behind.is_text);
+      boundary = subst (λ k. IsCharBoundary t k) (sym n_is) (IsCharBoundary-at_seam t b x e following.is_text);
       chars_cut = ap chars e ∙ chars-append b x ub;
     }
 
 number_stands : (t : List ℕ) (n : ℕ) (plain : Bool) → IsUtf8 t → IsCharBoundary t n → StandsIn t (NumberBody n plain)
-number_stands t n plain u h = record { ordered = omega arith; begins = IsCharBoundary-start t u; ends = h; behind = h }
+number_stands t n plain u h = record { ordered = omega arith; begins = IsCharBoundary-start t u; ends = h; following = h }
 
 integer_body : (t b x : List ℕ) (m n : ℕ) (plain : Bool) → IsUtf8 t → IsUtf8 b → HasMagnitude (chars t) m (chars x) → IsTail t x → t ≡ b ++ x → n ≡ length b → plain ≡ is_plain_integer (chars b) → IsFound t (Of Int (NumberBody n plain) m)
-integer_body t b x m n plain ut ub within behind e n_is plain_is =
-    let c = number_cut t b x n ub behind e n_is in
+integer_body t b x m n plain ut ub within following e n_is plain_is =
+    let c = number_cut t b x n ub following e n_is in
     let at : HasMagnitude (chars t) m (chars (drop n t)) = subst (λ z. HasMagnitude (chars t) m (chars z)) (sym c.suffix_is) within in
     let cut : IsSplitInteger (chars t) m (chars b) = record { suffix = chars x; within = within; cut = c.chars_cut } in
     record {
@@ -135,11 +135,11 @@ integer_body t b x m n plain ut ub within behind e n_is plain_is =
     }
 
 pub integer_found : (t b x : List ℕ) (m n : ℕ) (plain : Bool) (body : Body) → body ≡ NumberBody n plain → IsUtf8 t → IsUtf8 b → HasMagnitude (chars t) m (chars x) → IsTail t x → t ≡ b ++ x → n ≡ length b → plain ≡ is_plain_integer (chars b) → IsFound t (Of Int body m)
-integer_found t b x m n plain body body_is ut ub within behind e n_is plain_is = subst (λ z. IsFound t (Of Int z m)) (sym body_is) (integer_body t b x m n plain ut ub within behind e n_is plain_is)
+integer_found t b x m n plain body body_is ut ub within following e n_is plain_is = subst (λ z. IsFound t (Of Int z m)) (sym body_is) (integer_body t b x m n plain ut ub within following e n_is plain_is)
 
 float_body : (t b x numeral : List ℕ) (n : ℕ) (plain : Bool) → IsUtf8 t → IsUtf8 b → FloatReads (chars t) numeral (chars x) → IsTail t x → t ≡ b ++ x → n ≡ length b → plain ≡ is_plain_float (chars b) → IsFoundFloat t (Of Float (NumberBody n plain) 0)
-float_body t b x numeral n plain ut ub reads behind e n_is plain_is =
-    let c = number_cut t b x n ub behind e n_is in
+float_body t b x numeral n plain ut ub reads following e n_is plain_is =
+    let c = number_cut t b x n ub following e n_is in
     let same : numeral ≡ chars b = append_cancel_right numeral (chars b) (chars x) (sym reads.text_is ∙ c.chars_cut) in
     let r : FloatReads (chars t) (chars b) (chars x) = subst (λ z. FloatReads (chars t) z (chars x)) same reads in
     record {
@@ -153,7 +153,7 @@ float_body t b x numeral n plain ut ub reads behind e n_is plain_is =
     }
 
 pub float_found : (t b x numeral : List ℕ) (n : ℕ) (plain : Bool) (body : Body) → body ≡ NumberBody n plain → IsUtf8 t → IsUtf8 b → FloatReads (chars t) numeral (chars x) → IsTail t x → t ≡ b ++ x → n ≡ length b → plain ≡ is_plain_float (chars b) → IsFoundFloat t (Of Float body 0)
-float_found t b x numeral n plain body body_is ut ub reads behind e n_is plain_is = subst (λ z. IsFoundFloat t (Of Float z 0)) (sym body_is) (float_body t b x numeral n plain ut ub reads behind e n_is plain_is)
+float_found t b x numeral n plain body body_is ut ub reads following e n_is plain_is = subst (λ z. IsFoundFloat t (Of Float z 0)) (sym body_is) (float_body t b x numeral n plain ut ub reads following e n_is plain_is)
 
 -- a float is found where no integer stands
 pub float_alone : (t : List ℕ) (f : Found) → HasNoInteger (chars t) → IsFoundFloat t f → IsFound t f

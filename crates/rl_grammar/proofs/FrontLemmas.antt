@@ -91,7 +91,7 @@ minus_chars [] = refl
 minus_chars (b ∷ bs) = refl
 
 -- a minus and a literal that read together begin the trees
-pub negative_front : (trees behind rest : List Tree) (m : Mark) (l : SpannedText) (f : Found) → trees ≡ PunctTree m ∷ behind → behind ≡ LiteralTree l ∷ rest → m.ch ≡ 45 → IsFound (45 ∷ l.text) f → IsFront trees (joined m l) rest
-negative_front trees behind rest m l f first second minus found =
+pub negative_front : (trees following rest : List Tree) (m : Mark) (l : SpannedText) (f : Found) → trees ≡ PunctTree m ∷ following → following ≡ LiteralTree l ∷ rest → m.ch ≡ 45 → IsFound (45 ∷ l.text) f → IsFront trees (joined m l) rest
+negative_front trees following rest m l f first second minus found =
     subst (λ ts. IsFront ts (joined m l) rest) (sym (first ∙ ap (λ ts. PunctTree m ∷ ts) second))
     (minus, (f.kind, subst (ReadsAs f.kind) (minus_chars l.text) (found_reads (45 ∷ l.text) f found)), refl, refl)

@@ -7,7 +7,7 @@ use Rattle.std.specs.List.{list_all, list_any}
 use Rattle.std.specs.Prelude.{IsTrue}
 use Rattle.rl_tokens.specs.Texts.{first_passes, begins, xid_ok, is_row_part}
 use Rattle.rl_tokens.specs.Quoted.{place_value, without_underscores}
-use Rattle.rl_tokens.specs.Numbers.{Base, Binary, Octal, Decimal, Hexadecimal, radix, prefix, Sign, NoSign, Minus, sign_text, begins_base, IsBehindPrefix, IsSuffix, is_exponent_letter, IsExponentSuffix, AllowsSuffix, IntReads, limit}
+use Rattle.rl_tokens.specs.Numbers.{Base, Binary, Octal, Decimal, Hexadecimal, radix, prefix, Sign, NoSign, Minus, sign_text, begins_base, IsAfterPrefix, IsSuffix, is_exponent_letter, IsExponentSuffix, AllowsSuffix, IntReads, limit}
 use Rattle.std.specs.Fmt.{decimal}
 use Rattle.rl_tokens.specs.Reading.{Contents, Digits, HasNoInteger, ReadsInt, IsPast}
 use Rattle.rl_tokens.proofs.Basics.{any_same, digit_is_ten}
@@ -78,7 +78,7 @@ not_based (z ∷ c ∷ cs) h = go (z == 48) (c == 98) (c == 111) (c == 120) h
     go true false false false e = refl
 
 -- the prefix of each base is taken off
-pub radix_past : (base : Base) (w : List ℕ) → IsBehindPrefix base w → (radix_at (prefix base ++ w) ≡ (radix base, w)) × (first_passes is_ascii_digit (prefix base ++ w) ≡ true)
+pub radix_past : (base : Base) (w : List ℕ) → IsAfterPrefix base w → (radix_at (prefix base ++ w) ≡ (radix base, w)) × (first_passes is_ascii_digit (prefix base ++ w) ≡ true)
 unfolding radix_at
 radix_past Binary w h = (refl, refl)
 radix_past Octal w h = (refl, refl)
@@ -86,7 +86,7 @@ radix_past Hexadecimal w h = (refl, refl)
 radix_past Decimal w h = (not_based w h.1, h.0)
 
 -- what the base asks of the front
-base_begins : (base : Base) (w : List ℕ) → IsBehindPrefix base w → may_begin (radix base) w ≡ true
+base_begins : (base : Base) (w : List ℕ) → IsAfterPrefix base w → may_begin (radix base) w ≡ true
 base_begins Binary w h = refl
 base_begins Octal w h = refl
 base_begins Decimal w h = h.0
@@ -133,7 +133,7 @@ pub record Based (t : List ℕ) : Type 0 where
   pub rest : List ℕ
   pub at : radix_at t ≡ (radix base, rest)
   pub text_is : t ≡ prefix base ++ rest
-  pub front : may_begin (radix base) rest ≡ true → IsBehindPrefix base rest
+  pub front : may_begin (radix base) rest ≡ true → IsAfterPrefix base rest
 
 -- what a text begins with is its front
 pub begins_is : (p t : List ℕ) → begins p t ≡ true → (rest : List ℕ) × (t ≡ p ++ rest)
@@ -210,7 +210,7 @@ int_built t b front some ends =
     record {
       base = b.base;
       digits = run part b.rest;
-      front = subst (λ (z : List ℕ). IsBehindPrefix b.base z) (run_join part b.rest) (b.front front);
+      front = subst (λ (z : List ℕ). IsAfterPrefix b.base z) (run_join part b.rest) (b.front front);
       each = run_all part b.rest;
       some = some;
       is_suffix = suffix_sound (after_run part b.rest) (end_suffix (radix b.base) (after_run part b.rest) ends);

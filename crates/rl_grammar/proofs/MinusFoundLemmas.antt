@@ -44,9 +44,9 @@ record Halves (t : List ℕ) (n : ℕ) : Type 0 where
 halves : (t : List ℕ) (f : Found) → IsUtf8 t → IsFound t f → Halves t f.body.suffix_at
 halves t f u h =
     let n = f.body.suffix_at in
-    let front = IsUtf8-take t n u h.stands.behind in
+    let front = IsUtf8-take t n u h.stands.following in
     let whole = sym (take-append-drop n t) in
-    record { whole = whole; front = front; back = IsUtf8-drop t n u h.stands.behind; chars_cut = ap chars whole ∙ chars-append (take n t) (drop n t) front }
+    record { whole = whole; front = front; back = IsUtf8-drop t n u h.stands.following; chars_cut = ap chars whole ∙ chars-append (take n t) (drop n t) front }
 
 abbrev Moved : Found → Found
 Moved f = Of f.kind (NumberBody (f.body.suffix_at + 1) f.body.plain) f.magnitude
@@ -55,7 +55,7 @@ Moved f = Of f.kind (NumberBody (f.body.suffix_at + 1) f.body.plain) f.magnitude
 record Behind (t : List ℕ) (n : ℕ) : Type 0 where
   pub text : IsUtf8 (45 ∷ t)
   pub front : IsUtf8 (45 ∷ take n t)
-  pub behind : IsTail (45 ∷ t) (drop n t)
+  pub following : IsTail (45 ∷ t) (drop n t)
   pub cut : 45 ∷ t ≡ (45 ∷ take n t) ++ drop n t
   pub place : n + 1 ≡ length (45 ∷ take n t)
 
@@ -66,11 +66,11 @@ minus_ascii (suc i) = omega arith
 minus : IsUtf8 (45 ∷ [])
 minus = IsUtf8-from_ascii (45 ∷ []) minus_ascii
 
-behind : (t : List ℕ) (n : ℕ) → n ≤ length t → IsUtf8 t → Halves t n → Behind t n
-behind t n within u h = record {
+following : (t : List ℕ) (n : ℕ) → n ≤ length t → IsUtf8 t → Halves t n → Behind t n
+following t n within u h = record {
   text = IsUtf8-append (45 ∷ []) t minus u;
   front = IsUtf8-append (45 ∷ []) (take n t) minus h.front;
-  behind = record { front = 45 ∷ take n t; text_is = ap (λ z. 45 ∷ z) h.whole; is_text = h.back };
+  following = record { front = 45 ∷ take n t; text_is = ap (λ z. 45 ∷ z) h.whole; is_text = h.back };
   cut = ap (λ z. 45 ∷ z) h.whole;
   place = omega (arith, length-take-le n t within);
 }
@@ -80,7 +80,7 @@ negative_integer t f u sign h is =
     let n = f.body.suffix_at in
     let x = drop n t in
     let c = halves t f u h in
-    let b = behind t n h.stands.behind.0 u c in
+    let b = following t n h.stands.following.0 u c in
     let w = h.integer is in
     let cut : IsSplitInteger (chars t) f.magnitude (chars (take n t)) = record { suffix = chars x; within = w; cut = c.chars_cut } in
     let plain : f.body.plain ≡ is_plain_integer (chars (take n t)) =
@@ -88,14 +88,14 @@ negative_integer t f u sign h is =
     let signed : is_plain_integer (45 ∷ chars (take n t)) ≡ is_plain_integer (chars (take n t)) = minus_plain (chars (take n t)) (chars x) (ap sign_at (sym c.chars_cut) ∙ sign) in
     let within : HasMagnitude (chars (45 ∷ t)) f.magnitude (chars x) = subst (λ z. HasMagnitude z f.magnitude (chars x)) (sym (minus_chars t)) (record { sign = Minus; reads = int_on (chars t) w.sign f.magnitude (chars x) sign w.reads; within = w.within }) in
     subst (λ k. IsFound (45 ∷ t) (Of k (NumberBody (n + 1) f.body.plain) f.magnitude)) (sym is)
-    (integer_found (45 ∷ t) (45 ∷ take n t) x f.magnitude (n + 1) f.body.plain (NumberBody (n + 1) f.body.plain) refl b.text b.front within b.behind b.cut b.place (plain ∙ sym signed ∙ ap is_plain_integer (sym (minus_chars (take n t)))))
+    (integer_found (45 ∷ t) (45 ∷ take n t) x f.magnitude (n + 1) f.body.plain (NumberBody (n + 1) f.body.plain) refl b.text b.front within b.following b.cut b.place (plain ∙ sym signed ∙ ap is_plain_integer (sym (minus_chars (take n t)))))
 
 pub negative_float : (t : List ℕ) (f : Found) → IsUtf8 t → sign_at (chars t) ≡ NoSign → IsFound t f → f.kind ≡ Float → IsFound (45 ∷ t) (Moved f)
 negative_float t f u sign h is =
     let n = f.body.suffix_at in
     let x = drop n t in
     let c = halves t f u h in
-    let b = behind t n h.stands.behind.0 u c in
+    let b = following t n h.stands.following.0 u c in
     let (v, reads) : HasSuffix Float (chars t) (chars x) = subst (λ k. HasSuffix k (chars t) (chars x)) is h.reads in
     let same : reads.numeral ≡ chars (take n t) = append_cancel_right reads.numeral (chars (take n t)) (chars x) (sym reads.reads.text_is ∙ c.chars_cut) in
     let r : FloatReads (chars t) (chars (take n t)) (chars x) = subst (λ z. FloatReads (chars t) z (chars x)) same reads.reads in
@@ -105,7 +105,7 @@ negative_float t f u sign h is =
     let none : HasNoInteger (45 ∷ chars t) = λ s k y i. reads.no_integer NoSign k y ((behind_minus (chars t) y s k i).0) in
     let zero_is : f.magnitude ≡ 0 = h.no_magnitude (λ e. other is e) in
     let to = sym (minus_chars t) in
-    let found = float_found (45 ∷ t) (45 ∷ take n t) x m (n + 1) f.body.plain (NumberBody (n + 1) f.body.plain) refl b.text b.front (subst (λ z. FloatReads z m (chars x)) to q) b.behind b.cut b.place (plain ∙ ap is_plain_float (sym (minus_chars (take n t)))) in
+    let found = float_found (45 ∷ t) (45 ∷ take n t) x m (n + 1) f.body.plain (NumberBody (n + 1) f.body.plain) refl b.text b.front (subst (λ z. FloatReads z m (chars x)) to q) b.following b.cut b.place (plain ∙ ap is_plain_float (sym (minus_chars (take n t)))) in
     subst (λ k. IsFound (45 ∷ t) (Of k (NumberBody (n + 1) f.body.plain) f.magnitude)) (sym is)
     (subst (λ k. IsFound (45 ∷ t) (Of Float (NumberBody (n + 1) f.body.plain) k)) (sym zero_is) (float_alone (45 ∷ t) (Of Float (NumberBody (n + 1) f.body.plain) 0) (subst HasNoInteger to none) found))
   where

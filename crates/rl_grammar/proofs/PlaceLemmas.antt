@@ -96,6 +96,6 @@ quoted_at form kind t p at end_at suffix_at at_is end_is suffix_is s =
         ordered = omega (arith, end_is);
         begins = subst (λ n. IsCharBoundary t n) (sym at_is) (cut_boundary t o s.opened);
         ends = subst (λ n. IsCharBoundary t n) (sym closes) (cut_boundary t s.closer s.closed);
-        behind = subst (λ n. IsCharBoundary t n) (sym suffix_is) (cut_boundary t p.suffix.now s.suffix);
+        following = subst (λ n. IsCharBoundary t n) (sym suffix_is) (cut_boundary t p.suffix.now s.suffix);
       };
     }

@@ -16,7 +16,7 @@ use Rattle.rl_tokens.proofs.Dec.{room}
 use Rattle.rl_tokens.proofs.OneNumber.{int_once, float_once}
 use Rattle.rl_tokens.specs.declared.kind.Kind.{Kind}
 use Rattle.rl_tokens.specs.declared.kind.Kind.TheVariants.{Float, Int}
-use Rattle.rl_tokens.specs.Numbers.{Base, Binary, Octal, Decimal, Hexadecimal, radix, is_digit, prefix, IsBehindPrefix, Sign, sign_text, IntReads, limit, FloatReads, float_digits}
+use Rattle.rl_tokens.specs.Numbers.{Base, Binary, Octal, Decimal, Hexadecimal, radix, is_digit, prefix, IsAfterPrefix, Sign, sign_text, IntReads, limit, FloatReads, float_digits}
 use Rattle.rl_tokens.specs.Quoted.{place_value, without_underscores}
 use Rattle.rl_tokens.specs.Reading.{Digits, HasNoFloat}
 use Rattle.rl_tokens.specs.Texts.{first_passes}
@@ -205,7 +205,7 @@ bare (d ∷ ds) h =
     ap (λ m. cond (not m) (d ∷ without_underscores ds) (without_underscores ds)) (apart is_ascii_digit d 95 b.0 refl) ∙ ap (λ z. d ∷ z) (bare ds b.1)
 
 -- it begins with a digit after its sign
-begins_at : (b : Base) (ds x : List ℕ) → IsBehindPrefix b (ds ++ x) → list_any (is_digit b) ds ≡ true → first_passes is_ascii_digit (prefix b ++ ds) ≡ true
+begins_at : (b : Base) (ds x : List ℕ) → IsAfterPrefix b (ds ++ x) → list_any (is_digit b) ds ≡ true → first_passes is_ascii_digit (prefix b ++ ds) ≡ true
 begins_at Binary ds x front some = refl
 begins_at Octal ds x front some = refl
 begins_at Hexadecimal ds x front some = refl

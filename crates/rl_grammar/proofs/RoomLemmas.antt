@@ -38,17 +38,17 @@ filled : (kind : Kind) (text rest new bytes v : List ℕ) (end : ℕ) → Begins
 filled kind text rest new bytes v end row are ut ur long is =
     record { value = v; row = row; bytes = is ∙ are; room = omega (arith, long, row_room kind text rest v bytes row are ut ur) }
 
-pub run_room : (kind : Kind) (text rest out run behind : List ℕ) (at : ℕ) → IsFilled kind text rest out at → chars rest ≡ chars run ++ chars behind → list_all (is_plain kind) (chars run) ≡ true → IsUtf8 text → IsUtf8 run → IsUtf8 behind → length text ≤ length out → at + length run + length behind ≤ length text
-run_room kind text rest out run behind at f cut plain ut ur ub room =
-    let (w, row, are) = decode_run kind (chars text) f.value (chars rest) (chars behind) (take at out) (take at out ++ run) run f.row f.bytes cut plain ur refl in
+pub run_room : (kind : Kind) (text rest out run following : List ℕ) (at : ℕ) → IsFilled kind text rest out at → chars rest ≡ chars run ++ chars following → list_all (is_plain kind) (chars run) ≡ true → IsUtf8 text → IsUtf8 run → IsUtf8 following → length text ≤ length out → at + length run + length following ≤ length text
+run_room kind text rest out run following at f cut plain ut ur ub room =
+    let (w, row, are) = decode_run kind (chars text) f.value (chars rest) (chars following) (take at out) (take at out ++ run) run f.row f.bytes cut plain ur refl in
     let long = length-take-le at out (omega (arith, f.room)) in
-    omega (arith, row_room kind text behind w (take at out ++ run) row are ut ub, length-append (take at out) run, long)
+    omega (arith, row_room kind text following w (take at out ++ run) row are ut ub, length-append (take at out) run, long)
 
-pub run_filled : (kind : Kind) (text rest out new run behind : List ℕ) (at end : ℕ) → IsFilled kind text rest out at → chars rest ≡ chars run ++ chars behind → list_all (is_plain kind) (chars run) ≡ true → IsUtf8 text → IsUtf8 run → IsUtf8 behind → length text ≤ length out → end ≡ at + length run → take end new ≡ take at out ++ run → IsFilled kind text behind new end
-run_filled kind text rest out new run behind at end f cut plain ut ur ub room moved is =
-    let (w, row, are) = decode_run kind (chars text) f.value (chars rest) (chars behind) (take at out) (take at out ++ run) run f.row f.bytes cut plain ur refl in
+pub run_filled : (kind : Kind) (text rest out new run following : List ℕ) (at end : ℕ) → IsFilled kind text rest out at → chars rest ≡ chars run ++ chars following → list_all (is_plain kind) (chars run) ≡ true → IsUtf8 text → IsUtf8 run → IsUtf8 following → length text ≤ length out → end ≡ at + length run → take end new ≡ take at out ++ run → IsFilled kind text following new end
+run_filled kind text rest out new run following at end f cut plain ut ur ub room moved is =
+    let (w, row, are) = decode_run kind (chars text) f.value (chars rest) (chars following) (take at out) (take at out ++ run) run f.row f.bytes cut plain ur refl in
     let long = length-take-le at out (omega (arith, f.room)) in
-    filled kind text behind new (take at out ++ run) w end row are ut ub (omega (arith, moved, length-append (take at out) run, long)) is
+    filled kind text following new (take at out ++ run) w end row are ut ub (omega (arith, moved, length-append (take at out) run, long)) is
 
 pub piece_room : (kind : Kind) (text rest out after : List ℕ) (at : ℕ) (piece : Piece) → IsFilled kind text rest out at → Some (piece_value kind piece, chars after) ≡ unit_at kind (chars rest) → IsPieceOf kind piece → IsUtf8 text → IsUtf8 after → length text ≤ length out → at + length (piece_bytes piece) + length after ≤ length text
 piece_room kind text rest out after at piece f unit fits ut ua room =

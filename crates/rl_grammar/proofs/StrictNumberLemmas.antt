@@ -4,7 +4,7 @@ use Rattle.std.proofs.lemmas.Bool.{and_from, and_parts, cases_Bool, eqb-true, no
 use Rattle.std.specs.Char.{is_ascii_digit, is_ascii_hexdigit}
 use Rattle.std.specs.List.{list_all, list_any}
 use Rattle.rl_tokens.specs.Texts.{first_passes, is_row_part}
-use Rattle.rl_tokens.specs.Numbers.{Base, Binary, Octal, Decimal, Hexadecimal, radix, prefix, IsBehindPrefix, AllowsSuffix, is_exponent_letter}
+use Rattle.rl_tokens.specs.Numbers.{Base, Binary, Octal, Decimal, Hexadecimal, radix, prefix, IsAfterPrefix, AllowsSuffix, is_exponent_letter}
 use Rattle.rl_tokens.specs.Reading.{Contents}
 use Rattle.rl_tokens.specs.Strict.{is_row, IsDigits, IsDecimalText, IsNumberSuffix, BasedPrefix, StrictInt, IsStrictExponent, IsDotAlone, IsPointed, IsScientific, StrictFloat}
 use Rattle.rl_tokens.proofs.Basics.{all_same, any_same, apart, digit_is_ten, hex_is_sixteen, passes_same}
@@ -163,7 +163,7 @@ based_row b row x each some n s stops =
     (and_from (not (first_passes is_exponent_letter (after_digits (radix b) (row ++ x)))) _ (ap (λ z. not (first_passes is_exponent_letter z)) p.1 ∙ not_from_false (first_passes is_exponent_letter x) n) (ap is_number_suffix p.1 ∙ number_suffix_complete x s))
 
 -- an integer of another base passes
-based_number : (b : Base) (t x : List ℕ) (v : Contents) (s : StrictInt t v x) → IsBehindPrefix b (s.row ++ x) → (radix b == 10) ≡ false → s.prefix ≡ prefix b → s.base ≡ radix b → AllowsSuffix b x → is_strict_number t ≡ true
+based_number : (b : Base) (t x : List ℕ) (v : Contents) (s : StrictInt t v x) → IsAfterPrefix b (s.row ++ x) → (radix b == 10) ≡ false → s.prefix ≡ prefix b → s.base ≡ radix b → AllowsSuffix b x → is_strict_number t ≡ true
 unfolding is_strict_number
 based_number b t x v s front other p base of =
     let All : ℕ → Type 0 = λ n. list_all (is_row_part (has_value n)) s.row ≡ true in
@@ -353,7 +353,7 @@ based_sound b t w other text h =
     )
 
 -- a number of any base
-by_base : (b : Base) (t w : List ℕ) → t ≡ prefix b ++ w → ((not (radix b == 10) || first_passes is_ascii_digit w) ≡ true → IsBehindPrefix b w) → cond (radix b == 10) (is_decimal w) (is_based (radix b) w) ≡ true → IsStrictNumber t
+by_base : (b : Base) (t w : List ℕ) → t ≡ prefix b ++ w → ((not (radix b == 10) || first_passes is_ascii_digit w) ≡ true → IsAfterPrefix b w) → cond (radix b == 10) (is_decimal w) (is_based (radix b) w) ≡ true → IsStrictNumber t
 by_base Decimal t w text front h = subst IsStrictNumber (sym text) (decimal_sound w (λ d. (front d).1) h)
 by_base Binary t w text front h = based_sound Binary t w refl text h
 by_base Octal t w text front h = based_sound Octal t w refl text h

@@ -249,8 +249,8 @@ record SameHashes (k : Kind) (t r hs : List ℕ) (c : ClosesRaw k t) : Type 0 wh
 -- the form has the hashes and the rest that were found
 same_hashes : (k : Kind) (t r hs : List ℕ) (c : ClosesRaw k t) → r ≡ (after_run is_hash) t → t ≡ chars hs ++ r → SameHashes k t r hs c
 same_hashes k t r hs c rest text =
-    let behind : r ≡ 34 ∷ c.rest = rest ∙ ap (after_run is_hash) c.text_is ∙ hashes_complete c.hashes c.rest in
-    record { hashes_are = append_cancel_right (chars hs) (replicate c.hashes 35) (34 ∷ c.rest) (ap (λ z. chars hs ++ z) (sym behind) ∙ sym text ∙ c.text_is); rest_is = behind }
+    let following : r ≡ 34 ∷ c.rest = rest ∙ ap (after_run is_hash) c.text_is ∙ hashes_complete c.hashes c.rest in
+    record { hashes_are = append_cancel_right (chars hs) (replicate c.hashes 35) (34 ∷ c.rest) (ap (λ z. chars hs ++ z) (sym following) ∙ sym text ∙ c.text_is); rest_is = following }
 
 -- few hashes, and a quote
 pub raw_opened : (k : Kind) (b : Bool) (t r hs inside : List ℕ) → is_string k ≡ true → IsUtf8 hs → r ≡ (after_run is_hash) t → t ≡ chars hs ++ r → r ≡ 34 ∷ inside → length hs < 256 → b ≡ ends_raw k (chars hs) inside → IsTrue b ↔ ClosesRaw k t

@@ -63,9 +63,9 @@ abbrev is_backslash : ℕ → Bool
 is_backslash c = c == 92
 
 -- what stands after the first character
-abbrev behind : List ℕ → List ℕ
-behind [] = []
-behind (c ∷ cs) = cs
+abbrev following : List ℕ → List ℕ
+following [] = []
+following (c ∷ cs) = cs
 
 -- a lenient escape that is no line break is strict
 lenient_front : (k : Kind) (u : QuotedUnit) (c : ℕ) (cs r : List ℕ) → IsQuotedKind k → (c == 10) ≡ false → (c == 13) ≡ false → IsUnit k u → 92 ∷ c ∷ cs ≡ unit_text u ++ r → StrictFront k (92 ∷ c ∷ cs) r
@@ -78,7 +78,7 @@ lenient_front k (Named l) c cs r q n m u e = escape_front k (92 ∷ c ∷ cs) (N
 lenient_front k (Hex high low) c cs r q n m u e = escape_front k (92 ∷ c ∷ cs) (Hex high low) r (hex_escape k high low q u) e
 lenient_front k (Unicode first more) c cs r q n m u e = escape_front k (92 ∷ c ∷ cs) (Unicode first more) r (unicode_escape k first more q u) e
 lenient_front k (Continuation d run) c cs r q n m u e =
-    absurd (both_ways (is_line_end c) (or_from (c == 10) (c == 13) n m) (ap (λ z. first_passes is_line_end (behind z)) e ∙ u.1))
+    absurd (both_ways (is_line_end c) (or_from (c == 10) (c == 13) n m) (ap (λ z. first_passes is_line_end (following z)) e ∙ u.1))
 
 -- the kinds of strings have line breaks
 pub line_allowed : (k : Kind) (blanks : List ℕ) → is_string k ≡ true → list_all is_dropped_blank blanks ≡ true → is_strict_unit k (LineBreak blanks) ≡ true

@@ -45,9 +45,9 @@ strict_suffix_complete (c ∷ cs) (inr w) =
     and_from (cond (c == 95) (is_some_text cs) (is_start c)) (list_all is_continue cs) (word_front c cs (and_from (c == 95 || is_xid_start c) (not (is_white c)) p.0 q.0) w.not_underscore) (all_both is_xid_continue (λ c. not (is_white c)) cs p.1 q.1)
 
 -- what stands after the first character
-abbrev behind : List ℕ → List ℕ
-behind [] = []
-behind (c ∷ cs) = cs
+abbrev following : List ℕ → List ℕ
+following [] = []
+following (c ∷ cs) = cs
 
 -- a word, from its parts
 word_of : (c : ℕ) (cs : List ℕ) → is_start c ≡ true → list_all is_continue cs ≡ true → c ∷ cs ≢ 95 ∷ [] → IsWord (c ∷ cs)
@@ -70,7 +70,7 @@ strict_suffix_sound (c ∷ cs) h =
       | inl a ↦
           let some : is_some_text cs ≡ true = ap (λ b. cond b (is_some_text cs) (is_start c)) (sym a) ∙ p.0 in
           let At : ℕ → Type 0 = λ z. is_start z ≡ true in
-          inr (word_of c cs (subst At (sym (eqb-true c 95 a)) refl) p.1 (λ e. both_ways (is_some_text cs) (ap (λ z. is_some_text (behind z)) e) some))
+          inr (word_of c cs (subst At (sym (eqb-true c 95 a)) refl) p.1 (λ e. both_ways (is_some_text cs) (ap (λ z. is_some_text (following z)) e) some))
       | inr a ↦
           let start : is_start c ≡ true = ap (λ b. cond b (is_some_text cs) (is_start c)) (sym a) ∙ p.0 in
           inr (word_of c cs start p.1 (λ e. both_ways (c == 95) a (ap (λ z. first_passes is_underscore z) e)))

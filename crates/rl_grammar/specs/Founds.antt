@@ -26,7 +26,7 @@ pub record StandsIn (text : List ℕ) (body : Body) : Type 0 where
   pub ordered : body.lo ≤ body.hi
   pub begins : IsCharBoundary text body.lo
   pub ends : IsCharBoundary text body.hi
-  pub behind : IsCharBoundary text body.suffix_at
+  pub following : IsCharBoundary text body.suffix_at
 
 abbrev pub is_quoted : Kind → Bool
 is_quoted kind = is_string kind || is_single kind

@@ -11,7 +11,7 @@ use Rattle.rl_tokens.specs.Texts.{SpannedText}
 use Rattle.rl_tokens.specs.Puncts.{Mark}
 use Rattle.rl_tokens.specs.Trees.{Tree, IdentTree, PunctTree, LiteralTree}
 use Rattle.rl_tokens.specs.Reading.{ReadsAs, HasReading}
-use Rattle.rl_tokens.specs.Buffers.{first_span, IsRefusal}
+use Rattle.rl_tokens.specs.Buffers.{first_span, IsRejection}
 
 -- from the first of both to the last of both where they stand in one file, else the first alone
 abbrev pub joined_span : Span → Span → Span
@@ -66,7 +66,7 @@ pub record LacksMemoryAtFront {A : Type 0} (trees : List Tree) (scope : Span) (e
 -- of another kind is passed, and else the trees stay.
 pub record PassesOther {A : Type 0} (kind : Kind) (word : List ℕ) (trees : List Tree) (scope : Span)
     (e : Error A) (rest : List Tree) : Type 0 where
-  pub refusal : IsRefusal trees scope word e
+  pub rejection : IsRejection trees scope word e
   pub none : HasFrontOf kind trees → ⊥
   pub passed : IsOtherFront kind trees rest ⊎ (HasNoFront trees × (rest ≡ trees))
 

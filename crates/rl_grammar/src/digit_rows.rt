@@ -89,7 +89,7 @@ fn read_row_in(text: &str, radix: u32) -> DigitRow<'_>
     ensures has_digit { result.has_digit ≡ has_digit_at radix (chars text.now) }
     ensures magnitude { result.magnitude ≡ capped (magnitude_at radix (chars text.now)) }
     ensures rest { chars result.rest.now ≡ after_digits radix (chars text.now) }
-    ensures behind { IsTail text.now result.rest.now }
+    ensures following { IsTail text.now result.rest.now }
 {
     let bytes = text.as_bytes();
     let first = first_digits(text, radix);
@@ -121,7 +121,7 @@ pub(crate) fn read_row(text: &str, radix: u32) -> DigitRow<'_>
     ensures has_digit { result.has_digit ≡ has_digit_at radix (chars text.now) }
     ensures magnitude { result.magnitude ≡ capped (magnitude_at radix (chars text.now)) }
     ensures rest { chars result.rest.now ≡ after_digits radix (chars text.now) }
-    ensures behind { IsTail text.now result.rest.now }
+    ensures following { IsTail text.now result.rest.now }
 {
     if radix == 10 {
         read_row_in(text, 10)
@@ -150,7 +150,7 @@ fn digits_len(text: &str) -> usize
 pub(crate) fn skip_row(text: &str) -> Skipped<'_>
     ensures has_digit { result.has_digit ≡ has_digit_at 10 (chars text.now) }
     ensures rest { chars result.rest.now ≡ after_digits 10 (chars text.now) }
-    ensures behind { IsTail text.now result.rest.now }
+    ensures following { IsTail text.now result.rest.now }
 {
     let bytes = text.as_bytes();
     let mut at = digits_len(text);
@@ -205,7 +205,7 @@ pub(crate) fn is_negative(text: &str) -> bool
 /// What follows a minus, or the text.
 pub(crate) fn after_minus(text: &str) -> &str
     ensures value { chars result.now ≡ after_minus (chars text.now) }
-    ensures behind { IsTail text.now result.now }
+    ensures following { IsTail text.now result.now }
 {
     match split_char(text) {
         Some(('-', rest)) => rest,

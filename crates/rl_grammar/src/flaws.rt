@@ -65,7 +65,7 @@ pub(crate) struct FlawAt<'t> {
 }
 
 /// The flaw at the front of the text.
-pub(crate) fn flaw(kind: FlawKind, rest: &str) -> FlawAt<'_>
+pub(crate) fn make_flaw(kind: FlawKind, rest: &str) -> FlawAt<'_>
     ensures { (result.kind ≡ kind) × (result.rest.now ≡ rest.now) }
 {
     FlawAt { kind, rest }

@@ -101,7 +101,7 @@ impl Found {
         ensures kind { result.kind ≡ self.now.kind }
         ensures body { result.body.now ≡ body_in text.now self.now.body }
         ensures suffix { result.suffix.now ≡ suffix_in text.now self.now.body }
-        ensures behind { IsTail text.now result.suffix.now }
+        ensures following { IsTail text.now result.suffix.now }
     {
         Parts {
             kind: self.kind,
@@ -115,7 +115,7 @@ impl Found {
 #[inline(always)]
 fn integer_found<'t>(text: &'t str, suffix: &'t str, magnitude: u128) -> Found
     requires within { HasMagnitude (chars text.now) magnitude (chars suffix.now) }
-    requires behind { IsTail text.now suffix.now }
+    requires following { IsTail text.now suffix.now }
     ensures found { IsFound text.now result }
     ensures kind { result.kind ≡ Int }
 {
@@ -132,7 +132,7 @@ fn integer_found<'t>(text: &'t str, suffix: &'t str, magnitude: u128) -> Found
 #[inline(always)]
 fn float_found<'t>(text: &'t str, suffix: &'t str) -> Found
     requires reads { (numeral : List ℕ) × FloatReads (chars text.now) numeral (chars suffix.now) }
-    requires behind { IsTail text.now suffix.now }
+    requires following { IsTail text.now suffix.now }
     ensures { IsFoundFloat text.now result }
 {
     let body = before(text, suffix);
@@ -312,7 +312,7 @@ pub fn shape(text: &str) -> Option<Parts<'_>>
     ensures reads { IfSome result
         (λ p. (v : Contents) × Reads (chars text.now) p.kind v (chars p.suffix.now)) }
     ensures cut { IfSome result (λ p. IsSplit p.kind text.now p.body.now p.suffix.now) }
-    ensures behind { IfSome result (λ p. IsTail text.now p.suffix.now) }
+    ensures following { IfSome result (λ p. IsTail text.now p.suffix.now) }
     ensures strict_bytes { KeepsBytesStrict (chars text.now) }
 {
     let found = find(text)?;

@@ -24,7 +24,7 @@ use rl_tokens::text::split_char;
 pub(crate) fn split_radix(text: &str) -> (u32, &str)
     ensures value { (result.0, chars result.1.now) ≡ radix_at (chars text.now) }
     ensures within { (2 ≤ result.0) × (result.0 ≤ 16) }
-    ensures behind { IsTail text.now result.1.now }
+    ensures following { IsTail text.now result.1.now }
 {
     if let Some(('0', letter)) = split_char(text) {
         match split_char(letter) {
@@ -51,7 +51,7 @@ fn head_of(unsigned: &str) -> Head<'_>
     requires { IsTrue (first_passes is_ascii_digit (chars unsigned.now)) }
     ensures head { IsHead (chars unsigned.now) result.radix
         result.row.has_digit result.row.magnitude (chars result.row.rest.now) }
-    ensures behind { IsTail unsigned.now result.row.rest.now }
+    ensures following { IsTail unsigned.now result.row.rest.now }
 {
     let (radix, digits) = split_radix(unsigned);
     let row = read_row(digits, radix);
@@ -66,7 +66,7 @@ pub(crate) fn read_head(text: &str) -> Option<Head<'_>>
         (first_passes is_ascii_digit (after_minus (chars text.now)) ≡ false) }
     ensures head { IfSome result (λ h. IsHead (after_minus (chars text.now)) h.radix
         h.row.has_digit h.row.magnitude (chars h.row.rest.now)) }
-    ensures behind { IfSome result (λ h. IsTail text.now h.row.rest.now) }
+    ensures following { IfSome result (λ h. IsTail text.now h.row.rest.now) }
 {
     let unsigned = after_minus(text);
     if begins_digit(unsigned) {
@@ -112,7 +112,7 @@ pub(crate) fn read_integer(text: &str) -> Option<Integer<'_>>
     ensures value { option_map {U = Option ℕ × List ℕ}
         (λ i. (i.magnitude, chars i.suffix.now)) result
         ≡ capped_int (int_at (chars text.now)) }
-    ensures behind { IfSome result (λ i. IsTail text.now i.suffix.now) }
+    ensures following { IfSome result (λ i. IsTail text.now i.suffix.now) }
 {
     match read_head(text) {
         Some(head) => integer_of(head),
@@ -130,7 +130,7 @@ pub fn int_shape(text: &str) -> Option<Option<Parts<'_>>>
         (λ p. (v : Contents) × ReadsInt (chars text.now) v (chars p.suffix.now))) }
     ensures kind { IfSome result (λ o. IfSome o (λ p. p.kind ≡ Int)) }
     ensures cut { IfSome result (λ o. IfSome o (λ p. text.now ≡ p.body.now ++ p.suffix.now)) }
-    ensures behind { IfSome result (λ o. IfSome o (λ p. IsTail text.now p.suffix.now)) }
+    ensures following { IfSome result (λ o. IfSome o (λ p. IsTail text.now p.suffix.now)) }
     ensures once { HasOneInteger (chars text.now) }
 {
     match find_int(text)? {
@@ -144,7 +144,7 @@ pub fn int_shape(text: &str) -> Option<Option<Parts<'_>>>
 #[tactic(auto, using(rl_tokens::proofs::BehindLemmas::behind_step, rl_tokens::proofs::BehindLemmas::behind_self))]
 fn after_fraction(text: &str) -> &str
     ensures value { chars result.now ≡ after_fraction (chars text.now) }
-    ensures behind { IsTail text.now result.now }
+    ensures following { IsTail text.now result.now }
 {
     match split_char(text) {
         Some(('.', digits)) => skip_row(digits).rest,
@@ -157,7 +157,7 @@ fn after_fraction(text: &str) -> &str
 #[tactic(auto, using(rl_tokens::proofs::BehindLemmas::behind_step, rl_tokens::proofs::BehindLemmas::behind_self), unfolding(crate::specs::Mirrors::NumberAt::power_at))]
 fn power_digits(text: &str) -> &str
     ensures value { chars result.now ≡ power_at (chars text.now) }
-    ensures behind { IsTail text.now result.now }
+    ensures following { IsTail text.now result.now }
 {
     let signed = skip_class(CharClass::Underscore, text);
     match split_char(signed) {
@@ -171,7 +171,7 @@ fn power_digits(text: &str) -> &str
 #[tactic(auto, using(rl_tokens::proofs::BehindLemmas::behind_step, rl_tokens::proofs::BehindLemmas::behind_self), unfolding(crate::specs::Mirrors::NumberAt::after_exponent))]
 fn after_exponent(text: &str) -> &str
     ensures value { chars result.now ≡ after_exponent (chars text.now) }
-    ensures behind { IsTail text.now result.now }
+    ensures following { IsTail text.now result.now }
 {
     if let Some(('e' | 'E', power)) = split_char(text) {
         let row = skip_row(power_digits(power));
@@ -187,7 +187,7 @@ fn after_exponent(text: &str) -> &str
 #[tactic(auto, using(rl_tokens::proofs::BehindLemmas::behind_step, rl_tokens::proofs::BehindLemmas::behind_self))]
 fn tail_suffix(text: &str) -> Option<&str>
     ensures value { option_map (λ x. chars x.now) result ≡ float_tail_at (chars text.now) }
-    ensures behind { IfSome result (λ x. IsTail text.now x.now) }
+    ensures following { IfSome result (λ x. IsTail text.now x.now) }
 {
     let suffix = after_exponent(after_fraction(text));
     if is_suffix(suffix) {
@@ -201,7 +201,7 @@ fn tail_suffix(text: &str) -> Option<&str>
 #[tactic(auto, using(rl_tokens::proofs::BehindLemmas::behind_step, rl_tokens::proofs::BehindLemmas::behind_self), unfolding(crate::specs::Mirrors::NumberAt::float_at))]
 pub(crate) fn float_suffix(text: &str) -> Option<&str>
     ensures value { option_map (λ x. chars x.now) result ≡ float_at (chars text.now) }
-    ensures behind { IfSome result (λ x. IsTail text.now x.now) }
+    ensures following { IfSome result (λ x. IsTail text.now x.now) }
 {
     let whole = after_minus(text);
     if !begins_digit(whole) {
@@ -215,9 +215,9 @@ pub(crate) fn float_suffix(text: &str) -> Option<&str>
 pub(crate) fn head_suffix<'t>(text: &'t str, head: Head<'t>) -> Option<&'t str>
     requires head { IsHead (after_minus (chars text.now)) head.radix
         head.row.has_digit head.row.magnitude (chars head.row.rest.now) }
-    requires behind { IsTail text.now head.row.rest.now }
+    requires following { IsTail text.now head.row.rest.now }
     ensures value { option_map (λ x. chars x.now) result ≡ float_at (chars text.now) }
-    ensures behind { IfSome result (λ x. IsTail text.now x.now) }
+    ensures following { IfSome result (λ x. IsTail text.now x.now) }
 {
     if head.radix == 10 {
         tail_suffix(head.row.rest)
@@ -235,7 +235,7 @@ pub fn float_shape(text: &str) -> Option<Parts<'_>>
         (λ p. FloatReads (chars text.now) (chars p.body.now) (chars p.suffix.now)) }
     ensures kind { IfSome result (λ p. p.kind ≡ Float) }
     ensures cut { IfSome result (λ p. text.now ≡ p.body.now ++ p.suffix.now) }
-    ensures behind { IfSome result (λ p. IsTail text.now p.suffix.now) }
+    ensures following { IfSome result (λ p. IsTail text.now p.suffix.now) }
     ensures once { HasOneFloat (chars text.now) }
 {
     let found = find_float(text)?;

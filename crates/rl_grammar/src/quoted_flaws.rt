@@ -7,7 +7,7 @@ ghost use Rattle.rl_grammar.specs.Forms.{form_opener, HasNoParts};
 ghost use Rattle.rl_grammar.specs.Mirrors.StopsInside.{StopsInside};
 ghost use Rattle.rl_grammar.specs.Mirrors.UnitFlawAt.{after_unit_flaw_of};
 
-use crate::flaws::{FlawAt, FlawKind, flaw};
+use crate::flaws::{FlawAt, FlawKind, make_flaw};
 use crate::quoted_forms::{QuotedForm, skip_units};
 use crate::unit_flaws::unit_flaw;
 use crate::units::unit;
@@ -44,6 +44,6 @@ pub(crate) fn single_flaw(kind: Kind, text: &str) -> FlawAt<'_>
 {
     match unit(kind, text) {
         None => unit_flaw(kind, text),
-        Some((_, rest)) => flaw(after_unit_flaw(text, rest), rest),
+        Some((_, rest)) => make_flaw(after_unit_flaw(text, rest), rest),
     }
 }

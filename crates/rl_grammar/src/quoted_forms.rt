@@ -87,8 +87,8 @@ pub(crate) fn skip_units(kind: Kind, text: &str) -> &str
 {
     let mut rest = text;
     while let Some((_, after)) = unit(kind, rest) {
-        let (_, behind) = split_plain(kind, after);
-        rest = behind;
+        let (_, following) = split_plain(kind, after);
+        rest = following;
     }
     rest
 }
@@ -150,8 +150,8 @@ fn cooked_inside(kind: Kind, text: &str) -> Option<Inside<'_>>
     ensures none { IfNone result
         (HasNoParts QuotedForm.Cooked kind (form_opener QuotedForm.Cooked kind ++ chars text.now)) }
 {
-    let (_, behind) = split_plain(kind, text);
-    if let Some((body, suffix)) = cut_at_quote('"', text, behind) {
+    let (_, following) = split_plain(kind, text);
+    if let Some((body, suffix)) = cut_at_quote('"', text, following) {
         return Some(Inside {
             opened: text,
             body,
@@ -159,7 +159,7 @@ fn cooked_inside(kind: Kind, text: &str) -> Option<Inside<'_>>
             plain: true,
         });
     }
-    let (body, suffix) = cut_at_quote('"', text, skip_units(kind, behind))?;
+    let (body, suffix) = cut_at_quote('"', text, skip_units(kind, following))?;
     Some(Inside {
         opened: text,
         body,

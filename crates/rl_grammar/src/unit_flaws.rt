@@ -4,7 +4,7 @@ ghost use Rattle.std.specs.Prelude.{◌≡◌, ◌<◌};
 ghost use Rattle.std.specs.Str.{chars};
 ghost use Rattle.rl_grammar.specs.Mirrors.UnitFlawAt.{character_flaw_of, code_flaw_of, digits_flaw_at, escape_flaw_at, first_digit_flaw_at, found_flaw, hex_flaw_at, is_code, line_end_flaw_at, low_digit_flaw_at, unicode_flaw_at, unit_flaw_at};
 
-use crate::flaws::{FlawAt, FlawKind, flaw};
+use crate::flaws::{FlawAt, FlawKind, make_flaw};
 use crate::units::{allows_code, has_unicode};
 use rl_tokens::Kind;
 use rl_tokens::text::split_char;
@@ -14,9 +14,9 @@ fn low_digit_flaw(text: &str) -> FlawAt<'_>
     ensures { found_flaw result.kind (chars result.rest.now) ≡ low_digit_flaw_at (chars text.now) }
 {
     match split_char(text) {
-        None => flaw(FlawKind::Unclosed, text),
-        Some((c, _)) if c.is_ascii_hexdigit() => flaw(FlawKind::Nul, text),
-        Some(_) => flaw(FlawKind::NoHexDigit, text),
+        None => make_flaw(FlawKind::Unclosed, text),
+        Some((c, _)) if c.is_ascii_hexdigit() => make_flaw(FlawKind::Nul, text),
+        Some(_) => make_flaw(FlawKind::NoHexDigit, text),
     }
 }
 
@@ -26,12 +26,12 @@ fn hex_flaw(kind: Kind, text: &str) -> FlawAt<'_>
     ensures { found_flaw result.kind (chars result.rest.now) ≡ hex_flaw_at kind (chars text.now) }
 {
     let Some((first, rest)) = split_char(text) else {
-        return flaw(FlawKind::Unclosed, text);
+        return make_flaw(FlawKind::Unclosed, text);
     };
     match first.to_digit(16) {
-        Some(high) if kind.holds_characters() && high > 7 => flaw(FlawKind::PastAscii, text),
+        Some(high) if kind.holds_characters() && high > 7 => make_flaw(FlawKind::PastAscii, text),
         Some(_) => low_digit_flaw(rest),
-        None => flaw(FlawKind::NoHexDigit, text),
+        None => make_flaw(FlawKind::NoHexDigit, text),
     }
 }
 
@@ -68,21 +68,21 @@ fn digits_flaw(kind: Kind, text: &str, first: u32) -> FlawAt<'_>
     while let Some((next, after)) = split_char(rest) {
         if let Some(digit) = next.to_digit(16) {
             if digits == 6 {
-                return flaw(FlawKind::TooManyDigits, rest);
+                return make_flaw(FlawKind::TooManyDigits, rest);
             }
             value = value * 16 + digit;
             if digits == 5 && !is_code(kind, value) {
-                return flaw(code_flaw(value), rest);
+                return make_flaw(code_flaw(value), rest);
             }
             digits += 1;
         } else if next == '}' {
-            return flaw(code_flaw(value), rest);
+            return make_flaw(code_flaw(value), rest);
         } else if next != '_' {
-            return flaw(FlawKind::NoHexDigit, rest);
+            return make_flaw(FlawKind::NoHexDigit, rest);
         }
         rest = after;
     }
-    flaw(FlawKind::Unclosed, rest)
+    make_flaw(FlawKind::Unclosed, rest)
 }
 
 /// Of what follows `\u{`.
@@ -92,12 +92,12 @@ fn first_digit_flaw(kind: Kind, text: &str) -> FlawAt<'_>
         ≡ first_digit_flaw_at kind (chars text.now) }
 {
     let Some((first, rest)) = split_char(text) else {
-        return flaw(FlawKind::Unclosed, text);
+        return make_flaw(FlawKind::Unclosed, text);
     };
     match first.to_digit(16) {
         Some(digit) => digits_flaw(kind, rest, digit),
-        None if first == '}' => flaw(FlawKind::EmptyBraces, text),
-        None => flaw(FlawKind::NoHexDigit, text),
+        None if first == '}' => make_flaw(FlawKind::EmptyBraces, text),
+        None => make_flaw(FlawKind::NoHexDigit, text),
     }
 }
 
@@ -108,9 +108,9 @@ fn unicode_flaw(kind: Kind, text: &str) -> FlawAt<'_>
         ≡ unicode_flaw_at kind (chars text.now) }
 {
     match split_char(text) {
-        None => flaw(FlawKind::Unclosed, text),
+        None => make_flaw(FlawKind::Unclosed, text),
         Some(('{', inside)) => first_digit_flaw(kind, inside),
-        Some(_) => flaw(FlawKind::NoBrace, text),
+        Some(_) => make_flaw(FlawKind::NoBrace, text),
     }
 }
 
@@ -121,17 +121,17 @@ fn escape_flaw(kind: Kind, text: &str) -> FlawAt<'_>
         ≡ escape_flaw_at kind (chars text.now) }
 {
     match split_char(text) {
-        None => flaw(FlawKind::Unclosed, text),
+        None => make_flaw(FlawKind::Unclosed, text),
         Some(('x', digits)) => hex_flaw(kind, digits),
         Some(('u', braces)) => {
             if has_unicode(kind) {
                 unicode_flaw(kind, braces)
             } else {
-                flaw(FlawKind::NoUnicode, text)
+                make_flaw(FlawKind::NoUnicode, text)
             }
         }
-        Some(('0', _)) => flaw(FlawKind::Nul, text),
-        Some(_) => flaw(FlawKind::UnknownEscape, text),
+        Some(('0', _)) => make_flaw(FlawKind::Nul, text),
+        Some(_) => make_flaw(FlawKind::UnknownEscape, text),
     }
 }
 
@@ -140,8 +140,8 @@ fn line_end_flaw(text: &str) -> FlawAt<'_>
     ensures { found_flaw result.kind (chars result.rest.now) ≡ line_end_flaw_at (chars text.now) }
 {
     match split_char(text) {
-        None => flaw(FlawKind::Unclosed, text),
-        Some(_) => flaw(FlawKind::LoneCr, text),
+        None => make_flaw(FlawKind::Unclosed, text),
+        Some(_) => make_flaw(FlawKind::LoneCr, text),
     }
 }
 
@@ -163,9 +163,9 @@ pub(crate) fn unit_flaw(kind: Kind, text: &str) -> FlawAt<'_>
     ensures { found_flaw result.kind (chars result.rest.now) ≡ unit_flaw_at kind (chars text.now) }
 {
     match split_char(text) {
-        None => flaw(FlawKind::Unclosed, text),
+        None => make_flaw(FlawKind::Unclosed, text),
         Some(('\\', rest)) => escape_flaw(kind, rest),
         Some(('\r', rest)) if kind.is_string() => line_end_flaw(rest),
-        Some((first, _)) => flaw(character_flaw(first), text),
+        Some((first, _)) => make_flaw(character_flaw(first), text),
     }
 }

@@ -16,15 +16,15 @@ front_twice a b (Some bytes) = ap Some (sym (append_assoc a (b ∷ []) bytes))
 front_twice a b None = refl
 
 -- one pair more
-pub front_grows : (digits rest behind bytes : List ℕ) (high low byte : ℕ) → bytes_of digits ≡ with_front bytes (bytes_of rest) → rest ≡ high ∷ low ∷ behind → byte ≡ hex_value high low → IsTrue (is_hex_digit high && is_hex_digit low) → bytes_of digits ≡ with_front (bytes ++ (byte ∷ [])) (bytes_of behind)
-front_grows digits rest behind bytes high low byte h r b t =
-    let step : bytes_of (high ∷ low ∷ behind) ≡ with_front (hex_value high low ∷ []) (bytes_of behind) = rw t refl in
-    h ∙ ap (λ z. with_front bytes (bytes_of z)) r ∙ ap (with_front bytes) step ∙ ap (λ z. with_front bytes (with_front (z ∷ []) (bytes_of behind))) (sym b) ∙ front_twice bytes byte (bytes_of behind)
+pub front_grows : (digits rest following bytes : List ℕ) (high low byte : ℕ) → bytes_of digits ≡ with_front bytes (bytes_of rest) → rest ≡ high ∷ low ∷ following → byte ≡ hex_value high low → IsTrue (is_hex_digit high && is_hex_digit low) → bytes_of digits ≡ with_front (bytes ++ (byte ∷ [])) (bytes_of following)
+front_grows digits rest following bytes high low byte h r b t =
+    let step : bytes_of (high ∷ low ∷ following) ≡ with_front (hex_value high low ∷ []) (bytes_of following) = rw t refl in
+    h ∙ ap (λ z. with_front bytes (bytes_of z)) r ∙ ap (with_front bytes) step ∙ ap (λ z. with_front bytes (with_front (z ∷ []) (bytes_of following))) (sym b) ∙ front_twice bytes byte (bytes_of following)
 
 -- a pair that is none
-pub no_pair : (digits rest behind bytes : List ℕ) (high low : ℕ) → bytes_of digits ≡ with_front bytes (bytes_of rest) → rest ≡ high ∷ low ∷ behind → IsFalse (is_hex_digit high && is_hex_digit low) → None ≡ bytes_of digits
-no_pair digits rest behind bytes high low h r f =
-    let step : bytes_of (high ∷ low ∷ behind) ≡ None = rw f refl in
+pub no_pair : (digits rest following bytes : List ℕ) (high low : ℕ) → bytes_of digits ≡ with_front bytes (bytes_of rest) → rest ≡ high ∷ low ∷ following → IsFalse (is_hex_digit high && is_hex_digit low) → None ≡ bytes_of digits
+no_pair digits rest following bytes high low h r f =
+    let step : bytes_of (high ∷ low ∷ following) ≡ None = rw f refl in
     sym (h ∙ ap (λ z. with_front bytes (bytes_of z)) r ∙ ap (with_front bytes) step)
 
 -- the end

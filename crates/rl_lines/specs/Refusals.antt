@@ -5,8 +5,8 @@ use Rattle.rl_tokens.specs.declared.error.Error.{Error}
 use Rattle.rl_tokens.specs.Errors.{message_of}
 
 -- its place in bytes, and its message
-abbrev pub refusal_line : {A : Type 0} → Error A → List ℕ
-refusal_line e =
+abbrev pub rejection_line : {A : Type 0} → Error A → List ℕ
+rejection_line e =
     codes "error at "
     ++ (decimal e.span.lo
     ++ (codes ".." ++ (decimal e.span.hi ++ (codes ": " ++ message_of e.kind))))

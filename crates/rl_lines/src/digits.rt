@@ -46,12 +46,12 @@ pub fn decoded<A: Allocator>(alloc: A, digits: &[u8]) -> Result<Option<Vec<u8, A
 {
     let mut bytes = Vec::new(alloc);
     let mut rest = digits;
-    while let Some((high, low, behind)) = split_pair(rest) {
+    while let Some((high, low, following)) = split_pair(rest) {
         let Some(byte) = byte_of(high, low) else {
             return Ok(None);
         };
         bytes.push(byte)?;
-        rest = behind;
+        rest = following;
     }
     if rest.is_empty() {
         Ok(Some(bytes))

@@ -6,9 +6,9 @@ mod attributes;
 mod digits;
 mod line;
 mod print;
-mod refusal;
+mod rejection;
 
 pub use crate::attributes::entry_lines;
 pub use crate::digits::decoded;
 pub use crate::print::{label_of, line_of, lines_of, push_literal, push_literals};
-pub use crate::refusal::Refusal;
+pub use crate::rejection::Refusal;

@@ -1,7 +1,7 @@
 //! Why a run fails.
 
 ghost use Rattle.std.specs.Prelude.{◌≡◌, Some};
-ghost use Rattle.rl_program.specs.Faults.{fault_line, fault_status};
+ghost use Rattle.rl_program.specs.Faults.{error_line, error_status};
 
 use rl_lines::Refusal;
 use rl_tokens::Error;
@@ -27,7 +27,7 @@ pub enum Fault<A: Allocator = Global> {
 impl<A: Allocator> Fault<A> {
     /// The status that the program ends with: 2 where reading or writing failed, else 1.
     pub fn status(&self) -> u8
-        ensures { result ≡ fault_status self.now }
+        ensures { result ≡ error_status self.now }
     {
         match self {
             Fault::Read | Fault::Write => 2,
@@ -41,7 +41,7 @@ impl<A: Allocator> From<AllocError> for Fault<A> {
     ghost use Rattle.std.specs.Prelude.{◌≡◌};
     ghost use Rattle.rl_program.specs.declared.fault.Fault.TheVariants.{Memory};
 
-    ghost from_gives = { λ refused fault. fault ≡ Memory };
+    ghost from_gives = { λ rejected fault. fault ≡ Memory };
 
     fn from(_: AllocError) -> Self {
         Self::Memory
@@ -50,7 +50,7 @@ impl<A: Allocator> From<AllocError> for Fault<A> {
 
 /// The line that a program reports the error by, with places in bytes.
 impl<A: Allocator> fmt::Display for Fault<A> {
-    ghost output = { λ fault. Some (fault_line fault) };
+    ghost output = { λ fault. Some (error_line fault) };
 
     fn fmt<W: fmt::Write>(&self, f: &mut fmt::Formatter<W>) -> fmt::Result {
         match self {

@@ -54,7 +54,7 @@ pub fn read_whole<A: Allocator, R: Read>(alloc: A, input: &mut R) -> Result<Vec<
 pub fn text_of<A: Allocator>(bytes: &[u8]) -> Result<&str, Fault<A>>
     ensures text { IfOk result (λ text. text.now ≡ bytes.now) }
     ensures utf8 { OnOk result (IsUtf8 bytes.now) }
-    ensures refusal { IfErr result (λ fault. (fault ≡ NotText) × (IsUtf8 bytes.now → ⊥)) }
+    ensures rejection { IfErr result (λ fault. (fault ≡ NotText) × (IsUtf8 bytes.now → ⊥)) }
 {
     match std::str::from_utf8(bytes) {
         Ok(text) => Ok(text),

@@ -161,15 +161,15 @@ between kind t v e body u ends =
     let long : body.hi - body.lo ≡ length l.body = omega (arith, at, end_at, length-append l.front l.body) in
     let from_body : drop body.lo t ≡ l.body ++ l.back = ap (λ z. drop body.lo z) l.whole ∙ ap (λ n. drop n (l.front ++ (l.body ++ l.back))) at ∙ drop-append_seam l.front (l.body ++ l.back) in
     let inside : body_in t body ≡ l.body = ap (λ z. take (body.hi - body.lo) z) from_body ∙ ap (λ n. take n (l.body ++ l.back)) long ∙ take-append_seam l.body l.back in
-    let behind : suffix_in t body ≡ [] = ap (λ n. drop n t) ends.suffix_at ∙ drop-length t in
+    let following : suffix_in t body ≡ [] = ap (λ n. drop n t) ends.suffix_at ∙ drop-length t in
     record {
       body_is = ap chars inside ∙ chars-encodes e.inside inner.0;
-      suffix_is = ap chars behind ∙ chars-nil;
+      suffix_is = ap chars following ∙ chars-nil;
       stands = record {
         ordered = omega (arith, at, end_at, length-append l.front l.body);
         begins = subst (IsCharBoundary t) (sym at) (IsCharBoundary-at_seam t l.front (l.body ++ l.back) l.whole (IsUtf8-append l.body l.back u_body u_back));
         ends = subst (IsCharBoundary t) (sym end_at) (IsCharBoundary-at_seam t (l.front ++ l.body) l.back (l.whole ∙ sym (append_assoc l.front l.body l.back)) u_back);
-        behind = subst (IsCharBoundary t) (sym ends.suffix_at) (IsCharBoundary-end t);
+        following = subst (IsCharBoundary t) (sym ends.suffix_at) (IsCharBoundary-end t);
       };
     }
 
@@ -204,9 +204,9 @@ written_at kind t bytes body u q w at end_at suffix_at whole =
     let b = between kind t w.value e body u (record { at = at; end_at = end_at; suffix_at = suffix_at }) in
     let f = e.has in
     let inside = body_in t body in
-    let behind = suffix_in t body in
-    let parts : PartsAre f.form kind (chars t) w.value (chars inside) (chars behind) =
-    subst (λ z. PartsAre f.form kind (chars t) w.value z (chars behind)) (sym b.body_is) (subst (λ z. PartsAre f.form kind (chars t) w.value e.inside z) (sym b.suffix_is) f.parts) in
+    let following = suffix_in t body in
+    let parts : PartsAre f.form kind (chars t) w.value (chars inside) (chars following) =
+    subst (λ z. PartsAre f.form kind (chars t) w.value z (chars following)) (sym b.body_is) (subst (λ z. PartsAre f.form kind (chars t) w.value e.inside z) (sym b.suffix_is) f.parts) in
     let told : body.plain ≡ is_plain_body f.form kind (chars inside) = go e parts (body_text t body u b.stands) (is_string kind) refl in
     let quoted : IsQuotedAt kind t body = record { form = f.form; value = w.value; parts = parts; plain_is = told; stands = b.stands } in
     stands_at kind t _ refl (quoted_found t kind body u quoted)

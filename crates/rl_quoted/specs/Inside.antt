@@ -8,11 +8,11 @@ use Rattle.rl_tokens.specs.declared.lex_error.LexKind.{LexKind}
 use Rattle.rl_tokens.specs.declared.error.ErrorKind.{ErrorKind}
 use Rattle.rl_tokens.specs.declared.error.ErrorKind.TheVariants.{Unexpected, Suffix}
 use Rattle.rl_tokens.specs.declared.error.Error.{Error}
-use Rattle.rl_tokens.specs.Errors.{memory_at, lex_refusal}
+use Rattle.rl_tokens.specs.Errors.{memory_at, lex_rejection}
 use Rattle.rl_tokens.specs.Texts.{SpannedText}
 use Rattle.rl_tokens.specs.Trees.{Tree, respanned}
 use Rattle.rl_tokens.specs.Reading.{Characters, HasContents, HasSuffix}
-use Rattle.rl_tokens.specs.Lexing.{Lexes, Refuses}
+use Rattle.rl_tokens.specs.Lexing.{Lexes, Rejects}
 
 -- The text that the string stands for is cut into these trees, and each span is the literal's, also
 -- inside groups.
@@ -39,16 +39,16 @@ pub record IsParsedInside {T E : Type 0} (runs : List Tree → Span → Result T
 
 -- The text that the string stands for can't be cut: the error is its first error, or an
 -- allocation failure, at the literal.
-pub record RefusesLexingInside {A : Type 0} (token : SpannedText) (e : Error A) : Type 0 where
+pub record RejectsLexingInside {A : Type 0} (token : SpannedText) (e : Error A) : Type 0 where
   pub value : List ℕ
   pub contents : HasContents Str (chars token.text) (Characters value)
   pub kind : LexKind
   pub at : ℕ
-  pub refused : Refuses value kind at
-  pub error : e ≡ lex_refusal kind token.span
+  pub rejected : Rejects value kind at
+  pub error : e ≡ lex_rejection kind token.span
 
 -- The error is the parser's own.
-pub record IsOwnRefusal {T E : Type 0} (runs : List Tree → Span → Result T E → List Tree → Type 0)
+pub record IsOwnRejection {T E : Type 0} (runs : List Tree → Span → Result T E → List Tree → Type 0)
     (token : SpannedText) (e : E) : Type 0 where
   pub rest : List Tree
   pub ran : RunsInside runs token (Err e) rest
@@ -64,15 +64,15 @@ pub record LeavesTreesInside {T A : Type 0}
   pub error : e ≡ record { span = token.span; kind = Unexpected }
 
 -- the error is a suffix: that of the text, which isn't empty
-abbrev pub TellsSuffix : {A : Type 0} → List ℕ → ErrorKind A → Type 0
-TellsSuffix text (Suffix suffix) =
+abbrev pub ReportsSuffix : {A : Type 0} → List ℕ → ErrorKind A → Type 0
+ReportsSuffix text (Suffix suffix) =
     HasSuffix Str text (chars (string_bytes suffix)) × (string_bytes suffix ≢ [])
-TellsSuffix text _ = ⊥
+ReportsSuffix text _ = ⊥
 
 -- The literal has a suffix, which is the error.
 pub record IsSuffixed {A : Type 0} (token : SpannedText) (e : Error A) : Type 0 where
   pub span : e.span ≡ token.span
-  pub suffix : TellsSuffix (chars token.text) e.kind
+  pub suffix : ReportsSuffix (chars token.text) e.kind
 
 -- The parser makes a value of all the trees, and the literal has a suffix.
 pub record LeavesSuffix {T A : Type 0}
@@ -84,8 +84,8 @@ pub record LeavesSuffix {T A : Type 0}
 
 -- Why nothing is parsed, in the order in which it is reported: an error of the text, the parser's own
 -- error, trees that are left over, a suffix; or an allocation failure, at the literal.
-abbrev pub RefusesInside : {T A : Type 0}
+abbrev pub RejectsInside : {T A : Type 0}
     → (List Tree → Span → Result T (Error A) → List Tree → Type 0) → SpannedText → Error A → Type 0
-RefusesInside runs token e =
-    RefusesLexingInside token e ⊎ IsOwnRefusal runs token e ⊎ LeavesTreesInside runs token e
+RejectsInside runs token e =
+    RejectsLexingInside token e ⊎ IsOwnRejection runs token e ⊎ LeavesTreesInside runs token e
     ⊎ LeavesSuffix runs token e ⊎ (e ≡ memory_at token.span)

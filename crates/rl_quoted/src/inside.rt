@@ -8,11 +8,11 @@ ghost use Rattle.rl_tokens.specs.Reading.{HasSuffix};
 ghost use Rattle.rl_tokens.specs.Trees.{stream_view};
 ghost use Rattle.rl_quoted.specs.Inside.{
   AreInside,
-  RefusesLexingInside,
+  RejectsLexingInside,
   IsSuffixed,
   IsParsedInside,
   RunsInside,
-  RefusesInside,
+  RejectsInside,
 };
 
 use crate::lit_str::LitStr;
@@ -25,8 +25,8 @@ impl<A: Allocator> LitStr<A> {
     /// The trees of the text that the literal stands for, each at the literal's span.
     fn trees_inside<B: Allocator + Copy>(&self, alloc: B) -> Result<TokenStream<B>, Error<B>>
         ensures ok { IfOk result (λ s. AreInside self.now (stream_view s)) }
-        ensures refused { IfErr result
-            (λ e. RefusesLexingInside self.now e ⊎ (e ≡ memory_at self.now.span)) }
+        ensures rejected { IfErr result
+            (λ e. RejectsLexingInside self.now e ⊎ (e ≡ memory_at self.now.span)) }
     {
         let span = self.span();
         let value = self.value(alloc)?;
@@ -45,7 +45,7 @@ impl<A: Allocator> LitStr<A> {
     /// Rejects a suffix.
     fn refuse_suffix<B: Allocator>(&self, alloc: B) -> Result<(), Error<B>>
         ensures ok { OnOk result (HasSuffix Str (chars self.now.text) []) }
-        ensures refused { IfErr result
+        ensures rejected { IfErr result
             (λ e. IsSuffixed self.now e ⊎ (e ≡ memory_at self.now.span)) }
     {
         let suffix = self.suffix();
@@ -72,7 +72,7 @@ impl<A: Allocator> LitStr<A> {
         P: Drop,
         P::Output: Drop,
         ensures ran { IfOk result (λ x. RunsInside (P.runs parser) self.now (Ok x) []) }
-        ensures refused { IfErr result (RefusesInside (P.runs parser) self.now) }
+        ensures rejected { IfErr result (RejectsInside (P.runs parser) self.now) }
     {
         let stream = self.trees_inside(alloc)?;
         let mut inside = ParseBuffer::new(stream.trees(), self.span());
@@ -114,7 +114,7 @@ impl<A: Allocator> LitStr<A> {
         P: Drop,
         P::Output: Drop,
         ensures parsed { IfOk result (IsParsedInside (P.runs parser) self.now) }
-        ensures refused { IfErr result (RefusesInside (P.runs parser) self.now) }
+        ensures rejected { IfErr result (RejectsInside (P.runs parser) self.now) }
     {
         let parsed = self.parse_whole(alloc, parser)?;
         self.refuse_suffix(alloc)?;
@@ -140,7 +140,7 @@ impl<A: Allocator> LitStr<A> {
     /// ```
     pub fn parse<T: Parse<B> + Drop, B: Allocator + Copy>(&self, alloc: B) -> Result<T, Error<B>>
         ensures parsed { IfOk result (IsParsedInside T.runs self.now) }
-        ensures refused { IfErr result (RefusesInside T.runs self.now) }
+        ensures rejected { IfErr result (RejectsInside T.runs self.now) }
     {
         self.parse_with(alloc, ByParse::<T>::new())
     }

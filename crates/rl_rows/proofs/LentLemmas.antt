@@ -13,7 +13,7 @@ use Rattle.rust_literals.specs.Literals.{token_of}
 use Rattle.rust_literals.specs.LitParts.{ReadsPlain}
 use Rattle.rust_literals.specs.declared.lit.Lit.{Lit}
 use Rattle.rust_literals.specs.declared.lit.Lit.TheVariants.{Str as StrLit, ByteStr as ByteStrLit, CStr as CStrLit, Byte as ByteLit, Char as CharLit, Int as IntLit, Float as FloatLit, Bool as BoolLit, Verbatim}
-use Rattle.rl_rows.specs.Lent.{IsHeld, IsLent, lent_contents}
+use Rattle.rl_rows.specs.Lent.{IsHeld, IsBorrowed, lent_contents}
 
 -- a text of this kind that isn't plain by it is plain by none
 pub never_plain : (kind : Kind) (text : List ℕ) → ReadsAs kind (chars text) → (IsPlain kind text → ⊥) → ReadsPlain text → ⊥
@@ -22,9 +22,9 @@ never_plain kind text reads none (other, r, plain) =
     none (subst (λ k. IsPlain k text) one.0 plain)
 
 -- what a text of this kind borrows
-pub some_lent : (kind : Kind) (t text : List ℕ) (lent : Option (Bor (List ℕ))) → t ≡ text → OnSome lent (IsPlain kind text) → IfSome lent (λ l. HasContents kind (chars text) (lent_contents kind l.now)) → IfSome lent (λ l. IsLent t l.now)
+pub some_lent : (kind : Kind) (t text : List ℕ) (lent : Option (Bor (List ℕ))) → t ≡ text → OnSome lent (IsPlain kind text) → IfSome lent (λ l. HasContents kind (chars text) (lent_contents kind l.now)) → IfSome lent (λ l. IsBorrowed t l.now)
 some_lent kind t text None e plain has = tt
-some_lent kind t text (Some l) e plain has = subst (λ z. IsLent z l.now) (sym e) (record { kind = kind; plain = plain; contents = has })
+some_lent kind t text (Some l) e plain has = subst (λ z. IsBorrowed z l.now) (sym e) (record { kind = kind; plain = plain; contents = has })
 
 -- and that it borrows nothing
 pub none_lent : (kind : Kind) (t text : List ℕ) (lent : Option (Bor (List ℕ))) → t ≡ text → ReadsAs kind (chars text) → IfNone lent (IsPlain kind text → ⊥) → IfNone lent (ReadsPlain t → ⊥)

@@ -11,16 +11,16 @@ use Rattle.rl_tokens.specs.Skipping.{Skipped}
 use Rattle.rl_tokens.specs.Texts.{byte_len}
 use Rattle.rl_tokens.specs.Reading.{HasNoInteger, IsPast, HasNoFloat}
 use Rattle.rl_grammar.specs.StrictShapes.{IsToken}
-use Rattle.rust_literals.specs.Parsing.{RefusesText}
+use Rattle.rust_literals.specs.Parsing.{RejectsText}
 use Rattle.rl_lines.specs.Lines.{IsLineOf, AreLinesOfText, IsLineOfKind, IsLineOfFloat}
 use Rattle.rl_rows.specs.declared.bulk.command.Command.{Command}
 use Rattle.rl_rows.specs.declared.bulk.command.Command.TheVariants.{Text, Int, Float, Skip, Strict, Value, Read, Spans, Attr, Source}
 use Rattle.rl_lines.specs.Digits.{bytes_of}
-use Rattle.rl_attributes.specs.Attributes.{RefusesAttributeText}
+use Rattle.rl_attributes.specs.Attributes.{RejectsAttributeText}
 use Rattle.rl_lines.specs.EntryLines.{ShowsAttributes}
 use Rattle.rl_rows.specs.Asked.{name_of}
-use Rattle.rl_rows.specs.Refused.{refusal_lines}
-use Rattle.rl_rows.specs.Lent.{IsLentAnswer}
+use Rattle.rl_rows.specs.Refused.{rejection_lines}
+use Rattle.rl_rows.specs.Lent.{IsBorrowedAnswer}
 use Rattle.rl_rows.specs.Spans.{IsSpansAnswer}
 use Rattle.rl_rows.specs.Sources.{IsSourceAnswer}
 
@@ -48,15 +48,15 @@ IsStrictAnswer text out =
 abbrev pub IsReadAnswer : Type 0 → List ℕ → List ℕ → Type 0
 IsReadAnswer A bytes out =
     ((lines : List ℕ) × AreLinesOfText (chars bytes) lines × (chars out ≡ lines ++ codes ".\n"))
-    ⊎ ((e : Error A) × RefusesText (chars bytes) 0 (length bytes) e × (out ≡ refusal_lines e))
+    ⊎ ((e : Error A) × RejectsText (chars bytes) 0 (length bytes) e × (out ≡ rejection_lines e))
 
 -- the lines of the attributes that the bytes' text is, and one with a point, or those of its
 -- error
 abbrev pub IsAttributesAnswer : Type 0 → List ℕ → List ℕ → Type 0
 IsAttributesAnswer A bytes out =
     ((lines : List ℕ) × ShowsAttributes (chars bytes) lines × (chars out ≡ lines ++ codes ".\n"))
-    ⊎ ((e : Error A) × RefusesAttributeText (chars bytes) 0 (length bytes) e
-    × (out ≡ refusal_lines e))
+    ⊎ ((e : Error A) × RejectsAttributeText (chars bytes) 0 (length bytes) e
+    × (out ≡ rejection_lines e))
 
 -- what a command answers to the bytes of a text
 abbrev pub Answers : Type 0 → Command → List ℕ → List ℕ → Type 0
@@ -65,7 +65,7 @@ Answers A Int bytes out = IsIntegerAnswer (chars bytes) out
 Answers A Float bytes out = IsFloatAnswer (chars bytes) out
 Answers A Skip bytes out = IsSkipAnswer (chars bytes) out
 Answers A Strict bytes out = IsStrictAnswer (chars bytes) out
-Answers A Value bytes out = IsLentAnswer bytes out
+Answers A Value bytes out = IsBorrowedAnswer bytes out
 Answers A Read bytes out = IsReadAnswer A bytes out
 Answers A Spans bytes out = IsSpansAnswer A bytes out
 Answers A Attr bytes out = IsAttributesAnswer A bytes out

@@ -24,7 +24,7 @@ lent_contents _ bytes = Bytes bytes
 
 -- The text reads as a kind by which its body is what it stands for, byte for byte, and these are
 -- the bytes of that.
-pub record IsLent (text lent : List ℕ) : Type 0 where
+pub record IsBorrowed (text lent : List ℕ) : Type 0 where
   pub kind : Kind
   pub plain : IsPlain kind text
   pub contents : HasContents kind (chars text) (lent_contents kind lent)
@@ -34,7 +34,7 @@ abbrev pub lent_line : List ℕ → List ℕ
 lent_line bytes = encode_utf8_all (written_text ByteStr bytes) ++ codes "\n"
 
 -- the line of what the text borrows, or that it borrows nothing
-abbrev pub IsLentAnswer : List ℕ → List ℕ → Type 0
-IsLentAnswer text out =
-    ((lent : List ℕ) × IsLent text lent × (out ≡ lent_line lent))
+abbrev pub IsBorrowedAnswer : List ℕ → List ℕ → Type 0
+IsBorrowedAnswer text out =
+    ((lent : List ℕ) × IsBorrowed text lent × (out ≡ lent_line lent))
     ⊎ ((ReadsPlain text → ⊥) × (out ≡ codes "None\n"))

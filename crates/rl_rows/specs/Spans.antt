@@ -8,9 +8,9 @@ use Rattle.rl_tokens.specs.Written.{written_text}
 use Rattle.rust_literals.specs.declared.lit.Lit.{Lit}
 use Rattle.rust_literals.specs.Literals.{kind_of, token_of}
 use Rattle.rust_literals.specs.LitParts.{lit_span}
-use Rattle.rust_literals.specs.Parsing.{AreRead, RefusesText}
+use Rattle.rust_literals.specs.Parsing.{AreRead, RejectsText}
 use Rattle.rl_lines.specs.Lines.{label_of}
-use Rattle.rl_rows.specs.Refused.{refusal_lines}
+use Rattle.rl_rows.specs.Refused.{rejection_lines}
 
 -- a literal's kind, the bytes where it stands, and its text as a string literal
 abbrev pub span_line : {A : Type 0} → Lit A → List ℕ
@@ -33,4 +33,4 @@ span_lines (l ∷ ls) = span_line l ++ span_lines ls
 abbrev pub IsSpansAnswer : Type 0 → List ℕ → List ℕ → Type 0
 IsSpansAnswer A bytes out =
     ((list : List (Lit A)) × AreRead (chars bytes) 0 list × (out ≡ span_lines list ++ codes ".\n"))
-    ⊎ ((e : Error A) × RefusesText (chars bytes) 0 (length bytes) e × (out ≡ refusal_lines e))
+    ⊎ ((e : Error A) × RejectsText (chars bytes) 0 (length bytes) e × (out ≡ rejection_lines e))

@@ -57,16 +57,16 @@ fn c_string(alloc: Global, bytes: &[u8], out: &mut Page) {
     };
     match CString::new(bytes) {
         Ok(held) => held_c_string(alloc, &held, out),
-        Err(refused) => refused_c_string(refused, out),
+        Err(rejected) => refused_c_string(rejected, out),
     }
 }
 
 /// Where the zero stands, and the bytes.
-fn refused_c_string(refused: NulError, out: &mut Page) {
+fn refused_c_string(rejected: NulError, out: &mut Page) {
     out.put("zero at ");
-    show_word(&refused.nul_position(), out);
+    show_word(&rejected.nul_position(), out);
     word("of", out);
-    debug_line(&refused.into_vec().as_slice(), out)
+    debug_line(&rejected.into_vec().as_slice(), out)
 }
 
 /// A C string as a literal, and its value again.

@@ -1,7 +1,7 @@
 //! Calls of the libraries by name, each on a text or on bytes.
 
 use crate::{
-    bytes, copies, lists, literals, long, messages, numbers, parsers, refused, scans, shapes,
+    bytes, copies, lists, literals, long, messages, numbers, parsers, rejected, scans, shapes,
     tokens, trees, uses,
 };
 use rl_refusing::Page;
@@ -28,7 +28,7 @@ fn of_text(alloc: Global, name: &str, text: &str, out: &mut Page) -> bool {
         || copies::told(alloc, name, text, out)
         || numbers::told(alloc, name, text, out)
         || long::told(alloc, name, text, out)
-        || refused::told(alloc, name, text, out)
+        || rejected::told(alloc, name, text, out)
         || messages::told(alloc, name, out)
 }
 

@@ -13,7 +13,7 @@ mod long;
 mod messages;
 mod numbers;
 mod parsers;
-mod refused;
+mod rejected;
 mod row;
 mod scans;
 mod shapes;

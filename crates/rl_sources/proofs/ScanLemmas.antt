@@ -11,7 +11,7 @@ use Rattle.std.proofs.lemmas.List.{append-nil}
 use Rattle.std.proofs.lemmas.List.Elements.{All-nil, All-push}
 use Rattle.rl_tokens.specs.Texts.{IsTail, byte_len}
 use Rattle.rl_tokens.specs.Cursors.{CursorState, IsCursorState}
-use Rattle.rl_tokens.specs.Sources.{source_text, source_end, source_view, SourceKind, StrayKind, kind_of, CutSource, IsCutUpTo, IsLentSource, TakesSource}
+use Rattle.rl_tokens.specs.Sources.{source_text, source_end, source_view, SourceKind, StrayKind, kind_of, CutSource, IsCutUpTo, IsBorrowedSource, TakesSource}
 use Rattle.rl_tokens.specs.declared.sources.SourceToken.{SourceToken}
 use Rattle.rl_tokens.specs.declared.lex_error.LexError.{LexError}
 use Rattle.rl_tokens.proofs.BehindLemmas.{behind_step}
@@ -37,7 +37,7 @@ adds_none options whole rest piece nothing = record {
 }
 
 -- what is shown of a token, by its cut
-shown_cut : (options : Options) (whole : List ℕ) (l : SourceToken) (w : CutSource) (shown : List ℕ) → IsLentSource l w → IsShownToken options whole (source_view l.form) (chars l.text.now) l.lo l.hi shown → IsShown options whole w shown
+shown_cut : (options : Options) (whole : List ℕ) (l : SourceToken) (w : CutSource) (shown : List ℕ) → IsBorrowedSource l w → IsShownToken options whole (source_view l.form) (chars l.text.now) l.lo l.hi shown → IsShown options whole w shown
 shown_cut options whole l w shown is h =
     subst (λ (k : SourceKind). IsShownToken options whole k (source_text w.token) w.at (source_end w) shown) (sym is.kind_is)
     (subst (λ t. IsShownToken options whole (source_view l.form) t w.at (source_end w) shown) (sym is.chars_are)
@@ -73,12 +73,12 @@ adds_token options text start old new places l piece longer same seen adds takes
 
 -- the cursors after a token
 pub stands_on : (tokens places next : CursorState) (later : CursorState) (l : SourceToken) → StandsAt tokens places → TakesSource tokens l next → later.text ≡ places.text → IsTail later.rest tokens.rest → StandsAt next later
-stands_on tokens places next later l stands takes same behind =
-    let tail : IsTail tokens.text next.rest = behind_step tokens.text tokens.rest next.rest stands.cursor.behind takes.behind in
+stands_on tokens places next later l stands takes same following =
+    let tail : IsTail tokens.text next.rest = behind_step tokens.text tokens.rest next.rest stands.cursor.following takes.following in
     record {
-      cursor = subst (λ t. IsCursorState t next.rest) (sym takes.same) (record { is_text = stands.cursor.is_text; behind = tail });
+      cursor = subst (λ t. IsCursorState t next.rest) (sym takes.same) (record { is_text = stands.cursor.is_text; following = tail });
       text_is = same ∙ stands.text_is ∙ sym takes.same;
-      behind = behind_step later.rest tokens.rest next.rest behind takes.behind;
+      following = behind_step later.rest tokens.rest next.rest following takes.following;
     }
 
 -- the source stops at an error
@@ -88,7 +88,7 @@ stops options text old places start piece e place same stands adds error at is_p
   chars old.rest,
   adds,
   error,
-  omega (arith, at, ap length same, ap (λ t. byte_len (chars t)) same, char_len old.rest stands.cursor.behind.is_text, char_len old.text stands.cursor.is_text),
+  omega (arith, at, ap length same, ap (λ t. byte_len (chars t)) same, char_len old.rest stands.cursor.following.is_text, char_len old.text stands.cursor.is_text),
   subst (λ (t : List ℕ). IsPlaceIn options.by_line (chars t) e.at e.at place) (stands.text_is ∙ same) is_place,
 )
 

@@ -2,7 +2,7 @@
 use Rattle.std.specs.Prelude.{◌≡◌, ◌≢◌, ℕ, Bool, true, false, List, [], ◌∷◌, ◌++◌, map, codes, String, string_bytes, Option, IfSome}
 use Rattle.std.specs.Io.KnownBytes.{Keeps}
 use Rattle.rl_tokens.specs.LexErrors.{lex_message}
-use Rattle.rl_program.specs.Faults.{fault_line, fault_status}
+use Rattle.rl_program.specs.Faults.{error_line, error_status}
 use Rattle.rl_sources.specs.declared.options.Options.{Options}
 use Rattle.rl_sources.specs.declared.scanner.ScanError.TheVariants.{Fault, Source}
 use Rattle.rl_sources.specs.Places.{place_text}
@@ -16,7 +16,7 @@ abbrev pub status_of : {A : Type 0} → Ending A → ℕ
 status_of Done = 0
 status_of FoundBad = 1
 status_of Usage = 2
-status_of (Failed (Fault fault)) = fault_status fault
+status_of (Failed (Fault fault)) = error_status fault
 status_of (Failed (Source place kind)) = 1
 
 -- the line on standard error; none where all lines were written
@@ -24,7 +24,7 @@ abbrev pub ending_line : {A : Type 0} → Ending A → List ℕ
 ending_line Done = []
 ending_line FoundBad = []
 ending_line Usage = codes "usage: rl_scan [--lines] [--no-stray] [--bad | --only KIND[,KIND..]]"
-ending_line (Failed (Fault fault)) = fault_line fault
+ending_line (Failed (Fault fault)) = error_line fault
 ending_line (Failed (Source place kind)) =
     codes "error at " ++ (place_text place ++ (codes ": " ++ lex_message kind))
 

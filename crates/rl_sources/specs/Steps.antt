@@ -39,7 +39,7 @@ IsAccepted rejects_strays token =
 pub record StandsAt (tokens places : CursorState) : Type 0 where
   pub cursor : IsCursorState tokens.text tokens.rest
   pub text_is : places.text ≡ tokens.text
-  pub behind : IsTail places.rest tokens.rest
+  pub following : IsTail places.rest tokens.rest
 
 -- Whatever is shown of the source up to the old rest: with this piece it is what is shown up to the
 -- new one.

@@ -38,11 +38,11 @@ pub(crate) fn place_of<'t>(
     hi: usize,
 ) -> Place
     requires text { IsCursorState lines.old.text rest.now }
-    requires behind { IsTail lines.old.rest rest.now }
+    requires following { IsTail lines.old.rest rest.now }
     requires lo { lo + length rest.now ≡ length lines.old.text }
     ensures place { IsPlaceIn by_line (chars lines.old.text) lo hi result }
     ensures text { lines.new.text ≡ lines.old.text }
-    ensures behind { IsTail lines.new.rest rest.now }
+    ensures following { IsTail lines.new.rest rest.now }
 {
     if by_line {
         return Place::Line(lines.at(rest));

@@ -62,13 +62,13 @@ fn push_picked<'t, A: Allocator + Copy>(
     places: &mut Lines<'t>,
 ) -> Result<(), AllocError>
     requires text { IsCursorState places.old.text rest.now }
-    requires behind { IsTail places.old.rest rest.now }
+    requires following { IsTail places.old.rest rest.now }
     requires lo { token.lo + length rest.now ≡ length places.old.text }
     ensures shown { OnOk result (Appends
         (IsShownLit options.entry (chars places.old.text) literal.now token.entry.lo token.entry.hi)
         (chars (string_bytes out.old)) (chars (string_bytes out.new))) }
     ensures text { places.new.text ≡ places.old.text }
-    ensures behind { IsTail places.new.rest rest.now }
+    ensures following { IsTail places.new.rest rest.now }
 {
     if !options.shown.picks(label_of(literal.kind())) {
         return Ok(());
@@ -87,14 +87,14 @@ fn push_literal_token<'t, A: Allocator + Copy>(
     places: &mut Lines<'t>,
 ) -> Result<(), AllocError>
     requires text { IsCursorState places.old.text rest.now }
-    requires behind { IsTail places.old.rest rest.now }
+    requires following { IsTail places.old.rest rest.now }
     requires lo { token.lo + length rest.now ≡ length places.old.text }
     ensures shown { OnOk result (Appends
         (IsShownLiteral options.entry (chars places.old.text) (chars token.entry.text.now)
         token.entry.lo token.entry.hi)
         (chars (string_bytes out.old)) (chars (string_bytes out.new))) }
     ensures text { places.new.text ≡ places.old.text }
-    ensures behind { IsTail places.new.rest rest.now }
+    ensures following { IsTail places.new.rest rest.now }
 {
     let literal = literal_of(alloc, token)?;
     push_picked(alloc, out, options, &literal, token, rest, places)
@@ -110,14 +110,14 @@ fn push_token<'t, A: Allocator + Copy>(
     places: &mut Lines<'t>,
 ) -> Result<(), AllocError>
     requires text { IsCursorState places.old.text rest.now }
-    requires behind { IsTail places.old.rest rest.now }
+    requires following { IsTail places.old.rest rest.now }
     requires lo { token.lo + length rest.now ≡ length places.old.text }
     ensures shown { OnOk result (Appends
         (IsShownToken options.entry (chars places.old.text) (source_view token.entry.form)
         (chars token.entry.text.now) token.entry.lo token.entry.hi)
         (chars (string_bytes out.old)) (chars (string_bytes out.new))) }
     ensures text { places.new.text ≡ places.old.text }
-    ensures behind { IsTail places.new.rest rest.now }
+    ensures following { IsTail places.new.rest rest.now }
 {
     match token.form {
         SourceForm::Token(Form::Literal) => {

@@ -8,7 +8,7 @@ use Rattle.std.specs.Str.{chars, encode_utf8_all, IsUtf8}
 use Rattle.std.specs.Option.{option_map}
 use Rattle.std.proofs.lemmas.Str.{encode_ascii, length-encode, len_utf8_bounds, inside_one, encodes-chars, chars_from_encodes}
 use Rattle.rl_tokens.specs.Texts.{first_passes}
-use Rattle.rl_tokens.specs.Trivia.{is_plain_line, is_plain_block}
+use Rattle.rl_tokens.specs.Trivia.{is_comment_line, is_comment_block}
 use Rattle.rl_tokens.specs.Mirrors.SkippedAt.{after_block, after_comment}
 use Rattle.rl_tokens.proofs.Comments.{closed, after_block-step, block_goes_on, both, false_unless}
 
@@ -128,10 +128,10 @@ pub wide_comment : (t : List ℕ) → first_passes is_ascii t ≡ false → None
 wide_comment [] h = refl
 wide_comment (c ∷ t) h = rw (not_equal c 47 (omega arith) (ltb-false c 128 h), not_equal c 42 (omega arith) (ltb-false c 128 h)) refl
 
-pub wide_line : (t : List ℕ) → first_passes is_ascii t ≡ false → true ≡ is_plain_line t
+pub wide_line : (t : List ℕ) → first_passes is_ascii t ≡ false → true ≡ is_comment_line t
 wide_line [] h = refl
 wide_line (c ∷ t) h = rw (not_equal c 33 (omega arith) (ltb-false c 128 h), not_equal c 47 (omega arith) (ltb-false c 128 h)) refl
 
-pub wide_block : (t : List ℕ) → first_passes is_ascii t ≡ false → true ≡ is_plain_block t
+pub wide_block : (t : List ℕ) → first_passes is_ascii t ≡ false → true ≡ is_comment_block t
 wide_block [] h = refl
 wide_block (c ∷ t) h = rw (not_equal c 33 (omega arith) (ltb-false c 128 h), not_equal c 42 (omega arith) (ltb-false c 128 h)) refl

@@ -1,7 +1,7 @@
 -- Where block and line comments end: what the functions on lists give is what the definitions say.
 use Rattle.std.proofs.Common.{◌≡◌, ℕ, suc, zero, ◌⊎◌, inl, inr, Bool, true, false, not, ◌&&◌, ◌==◌, cond, List, [], ◌∷◌, ◌++◌, Option, Some, refl, sym, ◌∙◌, ap, arith, append_assoc}
 use Rattle.std.proofs.lemmas.Bool.Decides.{nat_tests}
-use Rattle.rl_tokens.specs.Trivia.{is_plain_line, is_plain_block, Inside, End, Other, Nested, inside_text, IsInside, BeginsNoMark}
+use Rattle.rl_tokens.specs.Trivia.{is_comment_line, is_comment_block, Inside, End, Other, Nested, inside_text, IsInside, BeginsNoMark}
 use Rattle.rl_tokens.specs.Mirrors.SkippedAt.{after_block, after_line}
 use Rattle.std.specs.List.{list_all}
 use Rattle.std.specs.Prelude.{IsTrue}
@@ -111,12 +111,12 @@ pub after_line-open : (body : List ℕ) → OneLine body → after_line body ≡
 after_line-open [] h = refl
 after_line-open (c ∷ body) h = grind (arith, nat_tests, after_line-open body)
 
-pub plain_line-same : (body t : List ℕ) → is_plain_line (body ++ 10 ∷ t) ≡ is_plain_line body
+pub plain_line-same : (body t : List ℕ) → is_comment_line (body ++ 10 ∷ t) ≡ is_comment_line body
 plain_line-same [] t = refl
 plain_line-same (c ∷ []) t = refl
 plain_line-same (c ∷ d ∷ body) t = refl
 
-pub plain_block-same : (i : Inside) (t : List ℕ) → is_plain_block (inside_text i ++ t) ≡ is_plain_block (inside_text i)
+pub plain_block-same : (i : Inside) (t : List ℕ) → is_comment_block (inside_text i ++ t) ≡ is_comment_block (inside_text i)
 plain_block-same End t = refl
 plain_block-same (Other c End) t = refl
 plain_block-same (Other c (Other d i)) t = refl

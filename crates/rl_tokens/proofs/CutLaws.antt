@@ -6,7 +6,7 @@ use Rattle.std.proofs.lemmas.Option.{none-some}
 use Rattle.rl_tokens.specs.Skipping.{Skipped}
 use Rattle.rl_tokens.specs.Lexemes.{Lexeme, lexeme_text, IsLexeme, LexemeForm, form_of}
 use Rattle.rl_tokens.specs.Mirrors.LexemeAt.{lexeme_at}
-use Rattle.rl_tokens.specs.Lexing.{LexedToken, end_of, LexesUpTo, OpenGroup, behind_form, behind_lexeme, open_groups, flat_form, flat_token}
+use Rattle.rl_tokens.specs.Lexing.{LexedToken, end_of, LexesUpTo, OpenGroup, after_form, after_lexeme, open_groups, flat_form, flat_token}
 use Rattle.rl_tokens.specs.Texts.{byte_len}
 use Rattle.rl_tokens.proofs.Comments.{same_Some}
 use Rattle.rl_tokens.proofs.Pieces.{one_rest}
@@ -14,7 +14,7 @@ use Rattle.rl_tokens.proofs.LexemeFronts.{lexeme_at-past, one_front}
 
 -- with these groups open, no token goes on here
 abbrev pub IsStuck : List OpenGroup → List ℕ → Type 0
-IsStuck groups r = (l : Lexeme) (after : List ℕ) (at : ℕ) → IsLexeme l after → r ≡ lexeme_text l ++ after → behind_lexeme groups l at ≡ None
+IsStuck groups r = (l : Lexeme) (after : List ℕ) (at : ℕ) → IsLexeme l after → r ≡ lexeme_text l ++ after → after_lexeme groups l at ≡ None
 
 -- two cuts are one, seen as tokens
 pub record SameCut (vs ws : List LexedToken) (r s : List ℕ) (g h : List OpenGroup) : Type 0 where
@@ -53,8 +53,8 @@ same_flat v w x y same file =
     ∙ ap (λ n. flat_form (form_of w.lexeme) (encode_utf8_all (lexeme_text w.lexeme)) (record { file = file; lo = n; hi = end_of v })) same.at
     ∙ ap (λ n. flat_form (form_of w.lexeme) (encode_utf8_all (lexeme_text w.lexeme)) (record { file = file; lo = w.at; hi = n })) (same_end v w x y same)
 
-same_behind : (groups : List OpenGroup) (v w : LexedToken) (x y : List ℕ) → SameFirst v w x y → behind_lexeme groups v.lexeme v.at ≡ behind_lexeme groups w.lexeme w.at
-same_behind groups v w x y same = ap (λ f. behind_form groups f v.at) same.form ∙ ap (λ n. behind_form groups (form_of w.lexeme) n) same.at
+same_behind : (groups : List OpenGroup) (v w : LexedToken) (x y : List ℕ) → SameFirst v w x y → after_lexeme groups v.lexeme v.at ≡ after_lexeme groups w.lexeme w.at
+same_behind groups v w x y same = ap (λ f. after_form groups f v.at) same.form ∙ ap (λ n. after_form groups (form_of w.lexeme) n) same.at
 
 -- the groups after the first token
 opened : (o : Option (List OpenGroup)) (ws : List LexedToken) (h : List OpenGroup) → option_and_then (λ g. open_groups g ws) o ≡ Some h → (g : List OpenGroup) × (o ≡ Some g) × (open_groups g ws ≡ Some h)
@@ -70,15 +70,15 @@ same_cut at t gs [] [] r s g h a p stuck b q stuck' =
 same_cut at t gs [] (w ∷ ws) r s g h a p stuck (y, b, js, n, more) q stuck' =
     let e : r ≡ lexeme_text w.lexeme ++ y = one_rest t r (lexeme_text w.lexeme ++ y) a b in
     let k : g ≡ gs = sym (same_Some gs g p) in
-    absurd (nothing_behind (behind_lexeme gs w.lexeme w.at) ws h (ap (λ x. behind_lexeme x w.lexeme w.at) (sym k) ∙ stuck w.lexeme y w.at js e) q)
+    absurd (nothing_behind (after_lexeme gs w.lexeme w.at) ws h (ap (λ x. after_lexeme x w.lexeme w.at) (sym k) ∙ stuck w.lexeme y w.at js e) q)
 same_cut at t gs (v ∷ vs) [] r s g h (x, a, is, m, more) p stuck b q stuck' =
     let e : s ≡ lexeme_text v.lexeme ++ x = one_rest t s (lexeme_text v.lexeme ++ x) b a in
     let k : h ≡ gs = sym (same_Some gs h q) in
-    absurd (nothing_behind (behind_lexeme gs v.lexeme v.at) vs g (ap (λ z. behind_lexeme z v.lexeme v.at) (sym k) ∙ stuck' v.lexeme x v.at is e) p)
+    absurd (nothing_behind (after_lexeme gs v.lexeme v.at) vs g (ap (λ z. after_lexeme z v.lexeme v.at) (sym k) ∙ stuck' v.lexeme x v.at is e) p)
 same_cut at t gs (v ∷ vs) (w ∷ ws) r s g h (x, a, is, m, more) p stuck (y, b, js, n, more') q stuck' =
     let same : SameFirst v w x y = same_first at t v w x y a is m b js n in
-    let (g1, g1_is, p1) = opened (behind_lexeme gs v.lexeme v.at) vs g p in
-    let (h1, h1_is, q1) = opened (behind_lexeme gs w.lexeme w.at) ws h q in
+    let (g1, g1_is, p1) = opened (after_lexeme gs v.lexeme v.at) vs g p in
+    let (h1, h1_is, q1) = opened (after_lexeme gs w.lexeme w.at) ws h q in
     let same_groups : h1 ≡ g1 = same_Some h1 g1 (sym h1_is ∙ sym (same_behind gs v w x y same) ∙ g1_is) in
     let more1 : LexesUpTo (end_of v) x ws s =
     subst (λ (k : ℕ). LexesUpTo k x ws s) (sym (same_end v w x y same)) (subst (λ (z : List ℕ). LexesUpTo (end_of w) z ws s) (sym same.rest) more') in
@@ -97,9 +97,9 @@ begins_cut at t (v ∷ vs) [] r (x, a, is, m, more) b =
     absurd (none-some (form_of v.lexeme, x) (ap lexeme_at e ∙ lexeme_at-past v.lexeme x is))
 begins_cut at t (v ∷ vs) (w ∷ ws) r (x, a, is, m, more) (y, b, js, n, more') =
     let same : SameFirst v w x y = same_first at t v w x y a is m b js n in
-    let behind : LexesUpTo (end_of v) x ws [] =
+    let following : LexesUpTo (end_of v) x ws [] =
     subst (λ (k : ℕ). LexesUpTo k x ws []) (sym (same_end v w x y same)) (subst (λ (z : List ℕ). LexesUpTo (end_of w) z ws []) (sym same.rest) more') in
-    let rec = begins_cut (end_of v) x vs ws r more behind in (
+    let rec = begins_cut (end_of v) x vs ws r more following in (
       rec.0,
       λ file. ap (λ f. f ∷ map (flat_token file) ws) (sym (same_flat v w x y same file)) ∙ ap (λ fs. flat_token file v ∷ fs) (rec.1 file),
     )

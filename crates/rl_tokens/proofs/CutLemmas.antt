@@ -5,7 +5,7 @@ use Rattle.std.specs.Str.{encode_utf8_all}
 use Rattle.std.specs.Option.{option_and_then}
 use Rattle.rl_tokens.specs.Skipping.{Skipped}
 use Rattle.rl_tokens.specs.Lexemes.{lexeme_text, IsLexeme}
-use Rattle.rl_tokens.specs.Lexing.{LexedToken, end_of, LexesUpTo, OpenGroup, behind_lexeme, open_groups}
+use Rattle.rl_tokens.specs.Lexing.{LexedToken, end_of, LexesUpTo, OpenGroup, after_lexeme, open_groups}
 use Rattle.rl_tokens.specs.Texts.{byte_len}
 
 pub byte_len-append : (xs ys : List ℕ) → byte_len (xs ++ ys) ≡ byte_len xs + byte_len ys
@@ -26,8 +26,8 @@ cuts_more at t (d ∷ done) u w after r (rest, first, first_is, first_place, mor
   cuts_more (end_of d) rest done u w after r more same is (place ∙ sym (behind_place d rest (at + byte_len t) first_place)) skipped,
 )
 
-pub open_more : (groups : List OpenGroup) (done : List LexedToken) (w : LexedToken) (between : List OpenGroup) → open_groups groups done ≡ Some between → open_groups groups (done ++ w ∷ []) ≡ behind_lexeme between w.lexeme w.at
-open_more groups [] w between h = last (behind_lexeme groups w.lexeme w.at) ∙ ap (λ g. behind_lexeme g w.lexeme w.at) (some_inner groups between h)
+pub open_more : (groups : List OpenGroup) (done : List LexedToken) (w : LexedToken) (between : List OpenGroup) → open_groups groups done ≡ Some between → open_groups groups (done ++ w ∷ []) ≡ after_lexeme between w.lexeme w.at
+open_more groups [] w between h = last (after_lexeme groups w.lexeme w.at) ∙ ap (λ g. after_lexeme g w.lexeme w.at) (some_inner groups between h)
   where
     last : (o : Option (List OpenGroup)) → option_and_then (λ g. Some g) o ≡ o
     last None = refl
@@ -35,8 +35,8 @@ open_more groups [] w between h = last (behind_lexeme groups w.lexeme w.at) ∙ 
 
     some_inner : (x y : List OpenGroup) → Some x ≡ Some y → x ≡ y
     some_inner x y e = cc
-open_more groups (d ∷ done) w between h = go (behind_lexeme groups d.lexeme d.at) (λ g. open_more g done w between) h
+open_more groups (d ∷ done) w between h = go (after_lexeme groups d.lexeme d.at) (λ g. open_more g done w between) h
   where
-    go : (o : Option (List OpenGroup)) → ((g : List OpenGroup) → open_groups g done ≡ Some between → open_groups g (done ++ w ∷ []) ≡ behind_lexeme between w.lexeme w.at) → option_and_then (λ g. open_groups g done) o ≡ Some between → option_and_then (λ g. open_groups g (done ++ w ∷ [])) o ≡ behind_lexeme between w.lexeme w.at
+    go : (o : Option (List OpenGroup)) → ((g : List OpenGroup) → open_groups g done ≡ Some between → open_groups g (done ++ w ∷ []) ≡ after_lexeme between w.lexeme w.at) → option_and_then (λ g. open_groups g done) o ≡ Some between → option_and_then (λ g. open_groups g (done ++ w ∷ [])) o ≡ after_lexeme between w.lexeme w.at
     go None more h = absurd (cc)
     go (Some g) more h = more g h

@@ -8,8 +8,8 @@ use Rattle.rl_tokens.specs.Texts.{is_among, first_passes, begins}
 use Rattle.rl_tokens.specs.Lexemes.{Lexeme, lexeme_text, IsLexeme, LexemeForm, form_of, DelimiterForm, MarkForm, delimiters, is_start, begins_raw_identifier}
 use Rattle.rl_tokens.specs.Mirrors.LexemeAt.{lexeme_at, SlashHead, begins_quote}
 use Rattle.rl_tokens.specs.Classes.{after_run, is_hash}
-use Rattle.rl_tokens.specs.Lexing.{OpenGroup, is_opener, is_closer, closes, popped, behind_form, begins_doc_comment, begins_lifetime, BeginsNoLexeme, FaultAt}
-use Rattle.rl_tokens.specs.Mirrors.TreeBuilders.{fault_kind}
+use Rattle.rl_tokens.specs.Lexing.{OpenGroup, is_opener, is_closer, closes, popped, after_form, begins_doc_comment, begins_lifetime, BeginsNoLexeme, ErrorAt}
+use Rattle.rl_tokens.specs.Mirrors.TreeBuilders.{error_kind}
 use Rattle.rl_tokens.proofs.Comments.{false_unless, same_Some}
 use Rattle.rl_tokens.proofs.Pieces.{is_equal}
 use Rattle.rl_tokens.proofs.LexemeRows.{both_true, not_true, not_among}
@@ -79,11 +79,11 @@ block_slash (c ∷ d ∷ t) h = slash_and c d t (two (c == 47) (d == 47) (d == 4
     two true false false h = absurd (cc)
 
 -- delimiters
-delimiter_stuck : (groups : List OpenGroup) (c : ℕ) (t : List ℕ) → is_among delimiters c ≡ true → ((at : ℕ) → behind_form groups (DelimiterForm c) at ≡ None) → IsStuck groups (c ∷ t)
+delimiter_stuck : (groups : List OpenGroup) (c : ℕ) (t : List ℕ) → is_among delimiters c ≡ true → ((at : ℕ) → after_form groups (DelimiterForm c) at ≡ None) → IsStuck groups (c ∷ t)
 delimiter_stuck groups c t is none l after at is_l same =
     let p : ◌≡◌ {A = Option (LexemeForm × List ℕ)} (Some (form_of l, after)) (Some (DelimiterForm c, t)) = sym (found_form l after (c ∷ t) is_l same) ∙ front_delimiter c t is in
     let form : form_of l ≡ DelimiterForm c = ap (λ (q : LexemeForm × List ℕ). q.0) (same_Some (form_of l, after) (DelimiterForm c, t) p) in
-    ap (λ f. behind_form groups f at) form ∙ none at
+    ap (λ f. after_form groups f at) form ∙ none at
 
 closer_among : (c : ℕ) → is_closer c ≡ true → (is_among delimiters c ≡ true) × (is_opener c ≡ false)
 closer_among c h = (among (codes ")]}") (is_among delimiters) c refl h, not_true (is_opener c) (among (codes ")]}") (λ k. not (is_opener k)) c refl h))
@@ -117,7 +117,7 @@ pub nothing_stuck : (groups : List OpenGroup) (r : List ℕ) → r ≡ [] → Is
 nothing_stuck groups r nil = stuck_unless groups r (ap lexeme_at nil)
 
 -- no token goes on at an error
-pub fault_stuck : (k : LexKind) (groups : List OpenGroup) (r : List ℕ) → FaultAt k groups r → IsStuck groups r
+pub fault_stuck : (k : LexKind) (groups : List OpenGroup) (r : List ℕ) → ErrorAt k groups r → IsStuck groups r
 fault_stuck DocComment groups r h = stuck_unless groups r (slash_none r (doc_slash r h))
 fault_stuck UnclosedComment groups r (h, other) = stuck_unless groups r (slash_none r (block_slash r h))
 fault_stuck UnclosedQuote groups r (none, h) = stuck_without groups r none
@@ -136,10 +136,10 @@ kind_by_form _ = StrayCharacter
 
 abbrev pub kind_at : Option (LexemeForm × List ℕ) → List ℕ → LexKind
 kind_at None [] = UnclosedGroup
-kind_at None (c ∷ t) = fault_kind (c ∷ t)
+kind_at None (c ∷ t) = error_kind (c ∷ t)
 kind_at (Some p) r = kind_by_form p.0
 
-no_lexeme_kind : (r : List ℕ) (k : LexKind) → lexeme_at r ≡ None → r ≢ [] → fault_kind r ≡ k → k ≡ kind_at (lexeme_at r) r
+no_lexeme_kind : (r : List ℕ) (k : LexKind) → lexeme_at r ≡ None → r ≢ [] → error_kind r ≡ k → k ≡ kind_at (lexeme_at r) r
 no_lexeme_kind [] k none some e = absurd (some refl)
 no_lexeme_kind (c ∷ t) k none some e = sym (ap (λ o. kind_at o (c ∷ t)) none ∙ e)
 
@@ -163,7 +163,7 @@ not_comment test r fails h = (
 abbrev Choice : Bool → Bool → Bool → Bool → Bool → LexKind
 Choice doc block quote life raw = if doc then DocComment else (if block then UnclosedComment else (if quote then UnclosedQuote else (if life then Lifetime else (if raw then RawIdentifier else StrayCharacter))))
 
-chosen_kind : (r : List ℕ) (doc block quote life raw : Bool) → begins_doc_comment r ≡ doc → begins (codes "/*") r ≡ block → begins_quote r ≡ quote → begins_lifetime r ≡ life → begins_raw_identifier r ≡ raw → fault_kind r ≡ Choice doc block quote life raw
+chosen_kind : (r : List ℕ) (doc block quote life raw : Bool) → begins_doc_comment r ≡ doc → begins (codes "/*") r ≡ block → begins_quote r ≡ quote → begins_lifetime r ≡ life → begins_raw_identifier r ≡ raw → error_kind r ≡ Choice doc block quote life raw
 chosen_kind r doc block quote life raw a b c d e =
     ap (λ x. Choice x (begins (codes "/*") r) (begins_quote r) (begins_lifetime r) (begins_raw_identifier r)) a
     ∙ ap (λ x. Choice doc x (begins_quote r) (begins_lifetime r) (begins_raw_identifier r)) b
@@ -241,7 +241,7 @@ deep_kind r h =
     let (c, t, same, is) = first_passed is_opener r h in
     delimiter_kind TooDeep c t r same (opener_among c is) (ap (λ b. if b then TooDeep else UnmatchedClose) is)
 
-pub fault_kind_at : (k : LexKind) (groups : List OpenGroup) (r : List ℕ) → FaultAt k groups r → k ≡ kind_at (lexeme_at r) r
+pub fault_kind_at : (k : LexKind) (groups : List OpenGroup) (r : List ℕ) → ErrorAt k groups r → k ≡ kind_at (lexeme_at r) r
 fault_kind_at DocComment groups r h =
     no_lexeme_kind r DocComment (slash_none r (doc_slash r h)) (slash_some r (doc_slash r h))
     (chosen_kind r true (begins (codes "/*") r) (begins_quote r) (begins_lifetime r) (begins_raw_identifier r) h refl refl refl refl)
@@ -258,7 +258,7 @@ fault_kind_at TooDeep groups r (h, n) = deep_kind r h
 fault_kind_at Memory groups r h = absurd h
 
 -- nothing is wrong where nothing is left and no group is open
-pub no_fault : (k : LexKind) → FaultAt k [] [] → ⊥
+pub no_fault : (k : LexKind) → ErrorAt k [] [] → ⊥
 no_fault DocComment h = absurd (cc)
 no_fault UnclosedComment (h, _) = absurd (cc)
 no_fault UnclosedQuote (_, h) = let q : false ≡ true = quote_here [] h in absurd (cc)

@@ -9,9 +9,9 @@ use Rattle.rl_tokens.specs.declared.lex_error.LexKind.{LexKind}
 use Rattle.rl_tokens.specs.declared.lex_error.LexKind.TheVariants.{DocComment, UnclosedComment, UnclosedQuote, Lifetime, RawIdentifier, StrayCharacter, UnmatchedClose, UnclosedGroup, TooDeep, Memory}
 use Rattle.rl_tokens.specs.declared.lex_error.LexError.{LexError}
 use Rattle.rl_tokens.specs.Texts.{begins, byte_len}
-use Rattle.rl_tokens.specs.Cursors.{CursorState, IsCursorState, IsFirstFault}
-use Rattle.rl_tokens.specs.Lexing.{LexedToken, LexesUpTo, open_groups, OpenGroup, fault_place, begins_doc_comment, begins_lifetime, BeginsNoLexeme, FaultAt, Fault, Refuses}
-use Rattle.rl_tokens.specs.Mirrors.TreeBuilders.{fault_kind}
+use Rattle.rl_tokens.specs.Cursors.{CursorState, IsCursorState, IsFirstError}
+use Rattle.rl_tokens.specs.Lexing.{LexedToken, LexesUpTo, open_groups, OpenGroup, error_place, begins_doc_comment, begins_lifetime, BeginsNoLexeme, ErrorAt, Fault, Rejects}
+use Rattle.rl_tokens.specs.Mirrors.TreeBuilders.{error_kind}
 use Rattle.rl_tokens.proofs.LexemeOpeners.{quote_begins, no_quote_begins}
 use Rattle.rl_tokens.proofs.Rests.{behind_length}
 use Rattle.rl_tokens.specs.Mirrors.LexemeAt.{begins_quote}
@@ -29,11 +29,11 @@ rest_place text rest at is is_rest place = omega (arith, char_len text is, char_
 or_none : (a b : Bool) → a ≡ false → b ≡ false → (a || b) ≡ false
 or_none a b p q = ap (λ x. x || b) p ∙ q
 
-kind_here : (groups : List OpenGroup) (r : List ℕ) → r ≢ [] → BeginsNoLexeme r → FaultAt (fault_kind r) groups r
+kind_here : (groups : List OpenGroup) (r : List ℕ) → r ≢ [] → BeginsNoLexeme r → ErrorAt (error_kind r) groups r
 kind_here groups r some none =
     go (begins_doc_comment r) (begins (codes "/*") r) (begins_quote r) (begins_lifetime r) (begins_raw_identifier r) refl refl refl refl refl
   where
-    go : (doc block quote life raw : Bool) → begins_doc_comment r ≡ doc → begins (codes "/*") r ≡ block → begins_quote r ≡ quote → begins_lifetime r ≡ life → begins_raw_identifier r ≡ raw → FaultAt (if doc then DocComment else (if block then UnclosedComment else (if quote then UnclosedQuote else (if life then Lifetime else (if raw then RawIdentifier else StrayCharacter))))) groups r
+    go : (doc block quote life raw : Bool) → begins_doc_comment r ≡ doc → begins (codes "/*") r ≡ block → begins_quote r ≡ quote → begins_lifetime r ≡ life → begins_raw_identifier r ≡ raw → ErrorAt (if doc then DocComment else (if block then UnclosedComment else (if quote then UnclosedQuote else (if life then Lifetime else (if raw then RawIdentifier else StrayCharacter))))) groups r
     go true block quote life raw a b c d e = a
     go false true quote life raw a b c d e = (b, a)
     go false false true life raw a b c d e = (none, quote_begins r c)
@@ -44,7 +44,7 @@ kind_here groups r some none =
         none_of_these : begins_doc_comment r ≡ false → begins (codes "/*") r ≡ false → begins_lifetime r ≡ false → begins_raw_identifier r ≡ false → (begins_doc_comment r || begins (codes "/*") r || begins_lifetime r || begins_raw_identifier r) ≡ false
         none_of_these a b d e = or_none _ _ (or_none _ _ (or_none _ _ a b) d) e
 
-pub fault_refuses : (t : List ℕ) (k : LexKind) (at : ℕ) → Fault t k at → Refuses t k at
+pub fault_refuses : (t : List ℕ) (k : LexKind) (at : ℕ) → Fault t k at → Rejects t k at
 fault_refuses t DocComment at h = h
 fault_refuses t UnclosedComment at h = h
 fault_refuses t UnclosedQuote at h = h
@@ -57,10 +57,10 @@ fault_refuses t TooDeep at h = h
 fault_refuses t Memory at h = absurd h.fault
 
 -- the error at a rest that isn't empty is reported where the rest begins
-here_place : (r : List ℕ) (groups : List OpenGroup) (at : ℕ) → at ≡ fault_place (fault_kind r) groups at
+here_place : (r : List ℕ) (groups : List OpenGroup) (at : ℕ) → at ≡ error_place (error_kind r) groups at
 here_place r groups at = go (begins_doc_comment r) (begins (codes "/*") r) (begins_quote r) (begins_lifetime r) (begins_raw_identifier r)
   where
-    go : (doc block quote life raw : Bool) → at ≡ fault_place (if doc then DocComment else (if block then UnclosedComment else (if quote then UnclosedQuote else (if life then Lifetime else (if raw then RawIdentifier else StrayCharacter))))) groups at
+    go : (doc block quote life raw : Bool) → at ≡ error_place (if doc then DocComment else (if block then UnclosedComment else (if quote then UnclosedQuote else (if life then Lifetime else (if raw then RawIdentifier else StrayCharacter))))) groups at
     go true block quote life raw = refl
     go false true quote life raw = refl
     go false false true life raw = refl
@@ -76,16 +76,16 @@ chars_some rest is some nil =
 
 -- What the cursor tells where no lexeme begins what is left.
 pub record Stops (t : CursorState) (e : LexError) : Type 0 where
-  pub fault : (groups : List OpenGroup) → FaultAt e.kind groups (chars t.rest)
-  pub first : IsFirstFault t e.kind e.at
+  pub fault : (groups : List OpenGroup) → ErrorAt e.kind groups (chars t.rest)
+  pub first : IsFirstError t e.kind e.at
 
-pub stops_here : (text rest : List ℕ) (e : LexError) (kind : LexKind) → IsCursorState text rest → (empty : Bool) → empty ≡ (length rest == 0) → empty ≡ false → BeginsNoLexeme (chars rest) → kind ≡ fault_kind (chars rest) → e ≡ record { kind = kind; at = length text - length rest } → Stops (record { text = text; rest = rest }) e
+pub stops_here : (text rest : List ℕ) (e : LexError) (kind : LexKind) → IsCursorState text rest → (empty : Bool) → empty ≡ (length rest == 0) → empty ≡ false → BeginsNoLexeme (chars rest) → kind ≡ error_kind (chars rest) → e ≡ record { kind = kind; at = length text - length rest } → Stops (record { text = text; rest = rest }) e
 stops_here text rest e kind is empty empty_is some none kind_is e_is =
     let t : CursorState = record { text = text; rest = rest } in
     let place : ℕ = length text - length rest in
-    let here : place + length rest ≡ length text = omega (arith, behind_length text rest is.behind) in
-    let fault : (groups : List OpenGroup) → FaultAt kind groups (chars rest) =
-    λ groups. rw kind_is (kind_here groups (chars rest) (chars_some rest is.behind.is_text (sym empty_is ∙ some)) none) in
+    let here : place + length rest ≡ length text = omega (arith, behind_length text rest is.following) in
+    let fault : (groups : List OpenGroup) → ErrorAt kind groups (chars rest) =
+    λ groups. rw kind_is (kind_here groups (chars rest) (chars_some rest is.following.is_text (sym empty_is ∙ some)) none) in
     let first : (cuts : List LexedToken) (groups : List OpenGroup) → LexesUpTo 0 (chars text) cuts (chars rest) → open_groups [] cuts ≡ Some groups → Fault (chars text) kind place =
     λ cuts groups are open_now. record {
       cuts = cuts;
@@ -95,7 +95,7 @@ stops_here text rest e kind is empty empty_is some none kind_is e_is =
       are_cuts = are;
       are_open = open_now;
       fault = fault groups;
-      rest_place = rest_place text rest place is.is_text is.behind.is_text here;
+      rest_place = rest_place text rest place is.is_text is.following.is_text here;
       at_is = rw kind_is (here_place (chars rest) groups place);
     } in
     subst (λ (x : LexError). Stops t x) (sym e_is) (record { fault = fault; first = first })

@@ -69,9 +69,9 @@ flat_same (MoreTrees (LiteralTree i) ts) (MoreTrees (LiteralTree j) us) xs ys p 
     (ap (λ x. MoreTrees (LiteralTree x) ts) h ∙ ap (MoreTrees (LiteralTree j)) r.0, r.1)
 flat_same (MoreTrees (GroupTree d inside s) ts) (MoreTrees (GroupTree c other r) us) xs ys p q e =
     let opening : ◌≡◌ {A = FlatToken} (Opening d (opener_span s)) (Opening c (opener_span r)) = cc in
-    let behind : ((flat_inside inside ++ (Closing d (closer_span s) ∷ [])) ++ flat_inside ts) ++ xs ≡ ((flat_inside other ++ (Closing c (closer_span r) ∷ [])) ++ flat_inside us) ++ ys = cc in
+    let following : ((flat_inside inside ++ (Closing d (closer_span s) ∷ [])) ++ flat_inside ts) ++ xs ≡ ((flat_inside other ++ (Closing c (closer_span r) ∷ [])) ++ flat_inside us) ++ ys = cc in
     let f : flat_inside inside ++ (Closing d (closer_span s) ∷ (flat_inside ts ++ xs)) ≡ flat_inside other ++ (Closing c (closer_span r) ∷ (flat_inside us ++ ys)) =
-    sym (group_rest inside d s ts xs) ∙ behind ∙ group_rest other c r us ys in
+    sym (group_rest inside d s ts xs) ∙ following ∙ group_rest other c r us ys in
     let k = flat_same inside other (Closing d (closer_span s) ∷ (flat_inside ts ++ xs)) (Closing c (closer_span r) ∷ (flat_inside us ++ ys)) tt tt f in
     let closings : Closing d (closer_span s) ∷ (flat_inside ts ++ xs) ≡ Closing c (closer_span r) ∷ (flat_inside us ++ ys) = k.1 in
     let opens : opener_span s ≡ opener_span r = cc in

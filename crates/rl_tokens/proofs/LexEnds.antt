@@ -9,15 +9,15 @@ use Rattle.rl_tokens.specs.declared.lex_error.LexKind.{LexKind}
 use Rattle.rl_tokens.specs.declared.lex_error.LexKind.TheVariants.{UnmatchedClose, UnclosedGroup, TooDeep, Memory}
 use Rattle.rl_tokens.specs.declared.lex_error.LexError.{LexError}
 use Rattle.rl_tokens.specs.Lexemes.{LexemeBefore, Lexeme, QuotedLexeme, RawLexeme, CharacterLexeme, BasedLexeme, DecimalLexeme, IdentifierLexeme, DelimiterLexeme, MarkLexeme, lexeme_text, IsLexeme, LexemeForm, form_of}
-use Rattle.rl_tokens.specs.Cursors.{form_view, CursorState, TakesNext, IsFirstFault}
+use Rattle.rl_tokens.specs.Cursors.{form_view, CursorState, TakesNext, IsFirstError}
 use Rattle.rl_tokens.specs.declared.cursor.Lexeme.{Lexeme as Lent}
 use Rattle.rl_tokens.specs.Trees.{Tree, stream_view, flat_trees}
-use Rattle.rl_tokens.specs.Lexing.{OpenGroup, LexesUpTo, fault_place, BeginsLexeme, BeginsNoLexeme, FaultAt, Fault, LeavesRestAt, Refuses, Lexes}
-use Rattle.rl_tokens.specs.Mirrors.TreeBuilders.{groups_of, flat_builder, EndsInGroup, ClosesWrong, OpensTooDeep, RefusesForm}
+use Rattle.rl_tokens.specs.Lexing.{OpenGroup, LexesUpTo, error_place, BeginsLexeme, BeginsNoLexeme, ErrorAt, Fault, LeavesRestAt, Rejects, Lexes}
+use Rattle.rl_tokens.specs.Mirrors.TreeBuilders.{groups_of, flat_builder, EndsInGroup, ClosesWrong, OpensTooDeep, RejectsForm}
 use Rattle.rl_tokens.proofs.LexLoop.{HasCut}
 use Rattle.rl_tokens.proofs.Faults.{rest_place, fault_refuses}
 
-fault_here : {A : Type 0} (text rest : List ℕ) (file : ℕ) (nest : TreeBuilder A) (kind : LexKind) (at place : ℕ) → IsUtf8 text → IsUtf8 rest → HasCut text rest file nest → place + length rest ≡ length text → FaultAt kind (groups_of nest) (chars rest) → at ≡ fault_place kind (groups_of nest) place → Fault (chars text) kind at
+fault_here : {A : Type 0} (text rest : List ℕ) (file : ℕ) (nest : TreeBuilder A) (kind : LexKind) (at place : ℕ) → IsUtf8 text → IsUtf8 rest → HasCut text rest file nest → place + length rest ≡ length text → ErrorAt kind (groups_of nest) (chars rest) → at ≡ error_place kind (groups_of nest) place → Fault (chars text) kind at
 fault_here text rest file nest kind at place is is_rest has here fault at_is = record {
   cuts = has.cuts;
   rest = chars rest;
@@ -49,16 +49,16 @@ all_cut text rest file nest trees has ends none flat_is = record {
 }
 
 -- a group is open at the end
-pub ends_open : {A : Type 0} (text rest : List ℕ) (file : ℕ) (nest : TreeBuilder A) (e : LexError) → IsUtf8 text → HasCut text rest file nest → rest ≡ [] → EndsInGroup (groups_of nest) e → Refuses (chars text) e.kind e.at
+pub ends_open : {A : Type 0} (text rest : List ℕ) (file : ℕ) (nest : TreeBuilder A) (e : LexError) → IsUtf8 text → HasCut text rest file nest → rest ≡ [] → EndsInGroup (groups_of nest) e → Rejects (chars text) e.kind e.at
 ends_open text rest file nest e is has nothing ends =
-    let P : LexKind → Type 0 = λ k. Refuses (chars text) k e.at in
-    let u : IsUtf8 rest = has.behind.is_text in
+    let P : LexKind → Type 0 = λ k. Rejects (chars text) k e.at in
+    let u : IsUtf8 rest = has.following.is_text in
     subst P (sym ends.kind)
     (fault_here text rest file nest UnclosedGroup e.at (length text) is u has (omega (arith, ap length nothing))
     (ap chars nothing ∙ chars-nil, ends.some_open) (ends.place (length text)))
 
 -- the lexeme at the front of the rest can't be read
-closes_wrong : (groups : List OpenGroup) (l : Lexeme) (after : List ℕ) → ClosesWrong groups (form_of l) → FaultAt UnmatchedClose groups (lexeme_text l ++ after)
+closes_wrong : (groups : List OpenGroup) (l : Lexeme) (after : List ℕ) → ClosesWrong groups (form_of l) → ErrorAt UnmatchedClose groups (lexeme_text l ++ after)
 closes_wrong groups (DelimiterLexeme c) after h = h
 closes_wrong groups (QuotedLexeme p parts x) after h = absurd h
 closes_wrong groups (RawLexeme p n body x) after h = absurd h
@@ -68,7 +68,7 @@ closes_wrong groups (DecimalLexeme d m f x s) after h = absurd h
 closes_wrong groups (IdentifierLexeme c more) after h = absurd h
 closes_wrong groups (MarkLexeme c) after h = absurd h
 
-opens_deep : (groups : List OpenGroup) (l : Lexeme) (after : List ℕ) → OpensTooDeep groups (form_of l) → FaultAt TooDeep groups (lexeme_text l ++ after)
+opens_deep : (groups : List OpenGroup) (l : Lexeme) (after : List ℕ) → OpensTooDeep groups (form_of l) → ErrorAt TooDeep groups (lexeme_text l ++ after)
 opens_deep groups (DelimiterLexeme c) after h = h
 opens_deep groups (QuotedLexeme p parts x) after h = absurd h
 opens_deep groups (RawLexeme p n body x) after h = absurd h
@@ -78,25 +78,25 @@ opens_deep groups (DecimalLexeme d m f x s) after h = absurd h
 opens_deep groups (IdentifierLexeme c more) after h = absurd h
 opens_deep groups (MarkLexeme c) after h = absurd h
 
-refused_lexeme : {A : Type 0} (text rest after : List ℕ) (file : ℕ) (nest : TreeBuilder A) (l : Lexeme) (kind : LexKind) (at : ℕ) → IsUtf8 text → HasCut text rest file nest → at + length rest ≡ length text → chars rest ≡ lexeme_text l ++ after → IsLexeme l after → RefusesForm (groups_of nest) (form_of l) kind → Refuses (chars text) kind at
+refused_lexeme : {A : Type 0} (text rest after : List ℕ) (file : ℕ) (nest : TreeBuilder A) (l : Lexeme) (kind : LexKind) (at : ℕ) → IsUtf8 text → HasCut text rest file nest → at + length rest ≡ length text → chars rest ≡ lexeme_text l ++ after → IsLexeme l after → RejectsForm (groups_of nest) (form_of l) kind → Rejects (chars text) kind at
 refused_lexeme text rest after file nest l UnmatchedClose at is has place same whole h =
-    let here : FaultAt UnmatchedClose (groups_of nest) (chars rest) = subst (λ (r : List ℕ). FaultAt UnmatchedClose (groups_of nest) r) (sym same) (closes_wrong (groups_of nest) l after h) in
-    fault_here text rest file nest UnmatchedClose at at is has.behind.is_text has place here refl
+    let here : ErrorAt UnmatchedClose (groups_of nest) (chars rest) = subst (λ (r : List ℕ). ErrorAt UnmatchedClose (groups_of nest) r) (sym same) (closes_wrong (groups_of nest) l after h) in
+    fault_here text rest file nest UnmatchedClose at at is has.following.is_text has place here refl
 refused_lexeme text rest after file nest l TooDeep at is has place same whole h =
-    let here : FaultAt TooDeep (groups_of nest) (chars rest) = subst (λ (r : List ℕ). FaultAt TooDeep (groups_of nest) r) (sym same) (opens_deep (groups_of nest) l after h) in
-    fault_here text rest file nest TooDeep at at is has.behind.is_text has place here refl
-refused_lexeme text rest after file nest l Memory at is has place same whole h = leaves_here text rest file nest at is has.behind.is_text has place (after, (lexeme_text l, (l, whole, refl), same))
+    let here : ErrorAt TooDeep (groups_of nest) (chars rest) = subst (λ (r : List ℕ). ErrorAt TooDeep (groups_of nest) r) (sym same) (opens_deep (groups_of nest) l after h) in
+    fault_here text rest file nest TooDeep at at is has.following.is_text has place here refl
+refused_lexeme text rest after file nest l Memory at is has place same whole h = leaves_here text rest file nest at is has.following.is_text has place (after, (lexeme_text l, (l, whole, refl), same))
 refused_lexeme text rest after file nest l _ at is has place same whole h = absurd h
 
-pub refused_token : {A : Type 0} (text : List ℕ) (from to : CursorState) (file : ℕ) (nest : TreeBuilder A) (l : Lent) (e : LexError) → IsUtf8 text → from.text ≡ text → HasCut text from.rest file nest → TakesNext from l to → e.at ≡ l.lo → RefusesForm (groups_of nest) (form_view l.form) e.kind → Refuses (chars text) e.kind e.at
+pub refused_token : {A : Type 0} (text : List ℕ) (from to : CursorState) (file : ℕ) (nest : TreeBuilder A) (l : Lent) (e : LexError) → IsUtf8 text → from.text ≡ text → HasCut text from.rest file nest → TakesNext from l to → e.at ≡ l.lo → RejectsForm (groups_of nest) (form_view l.form) e.kind → Rejects (chars text) e.kind e.at
 refused_token text from to file nest l e is same has next at_is h =
     refused_lexeme text from.rest next.after file nest next.cut.lexeme e.kind e.at is has (omega (arith, next.place, ap length same, at_is)) next.begins next.is_lexeme
-    (subst (λ (f : LexemeForm). RefusesForm (groups_of nest) f e.kind) (sym next.is_cut.form_is) h)
+    (subst (λ (f : LexemeForm). RejectsForm (groups_of nest) f e.kind) (sym next.is_cut.form_is) h)
 
 -- the cursor stays where no token begins what is left, and tells the error
-pub fault_told : {A : Type 0} (text : List ℕ) (old new : CursorState) (file : ℕ) (nest : TreeBuilder A) (e : LexError) → old.text ≡ text → new ≡ old → HasCut text old.rest file nest → IsFirstFault new e.kind e.at → Refuses (chars text) e.kind e.at
+pub fault_told : {A : Type 0} (text : List ℕ) (old new : CursorState) (file : ℕ) (nest : TreeBuilder A) (e : LexError) → old.text ≡ text → new ≡ old → HasCut text old.rest file nest → IsFirstError new e.kind e.at → Rejects (chars text) e.kind e.at
 fault_told text old new file nest e same stays has first =
-    let here : IsFirstFault old e.kind e.at = subst (λ (t : CursorState). IsFirstFault t e.kind e.at) stays first in
+    let here : IsFirstError old e.kind e.at = subst (λ (t : CursorState). IsFirstError t e.kind e.at) stays first in
     let cuts : LexesUpTo 0 (chars old.text) has.cuts (chars old.rest) = subst (λ (t : List ℕ). LexesUpTo 0 (chars t) has.cuts (chars old.rest)) (sym same) has.are_cuts in
     fault_refuses (chars text) e.kind e.at (subst (λ (t : List ℕ). Fault (chars t) e.kind e.at) same (here has.cuts (groups_of nest) cuts has.are_open))
 

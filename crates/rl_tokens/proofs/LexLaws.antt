@@ -2,7 +2,7 @@
 use Rattle.std.proofs.Common.{◌≡◌, ℕ, List, [], refl, sym, ◌∙◌, ap, subst, arith}
 use Rattle.rl_tokens.specs.Mirrors.LexemeAt.{lexeme_at}
 use Rattle.rl_tokens.specs.Texts.{byte_len}
-use Rattle.rl_tokens.specs.Lexing.{OpenGroup, FaultAt, fault_place, OneList, OneFault, NeverBoth}
+use Rattle.rl_tokens.specs.Lexing.{OpenGroup, ErrorAt, error_place, OneList, OneError, NeverBoth}
 use Rattle.rl_tokens.proofs.FlatTrees.{flat_trees_same}
 use Rattle.rl_tokens.proofs.CutLaws.{same_cut}
 use Rattle.rl_tokens.proofs.FaultLaws.{nothing_stuck, fault_stuck, kind_at, fault_kind_at, no_fault}
@@ -12,20 +12,20 @@ one_list t file xs ys a b =
     let same = same_cut 0 t [] a.cuts b.cuts [] [] [] [] a.are_cuts a.none_open (nothing_stuck [] [] refl) b.are_cuts b.none_open (nothing_stuck [] [] refl) in
     flat_trees_same xs ys (sym a.flat_is ∙ same.flat file ∙ b.flat_is)
 
-pub one_fault : OneFault
-one_fault t k l m n a b =
+pub one_error : OneError
+one_error t k l m n a b =
     let same = same_cut 0 t [] a.cuts b.cuts a.rest b.rest a.groups b.groups a.are_cuts a.are_open (fault_stuck k a.groups a.rest a.fault) b.are_cuts b.are_open (fault_stuck l b.groups b.rest b.fault) in
     let kinds : k ≡ l = fault_kind_at k a.groups a.rest a.fault ∙ ap (λ r. kind_at (lexeme_at r) r) same.rest ∙ sym (fault_kind_at l b.groups b.rest b.fault) in
     let places : a.rest_at ≡ b.rest_at = omega (arith, a.rest_place, b.rest_place, ap byte_len same.rest) in (
       kinds,
       a.at_is
-          ∙ ap (λ x. fault_place x a.groups a.rest_at) kinds
-          ∙ ap (λ g. fault_place l g a.rest_at) same.groups
-          ∙ ap (λ p. fault_place l b.groups p) places
+          ∙ ap (λ x. error_place x a.groups a.rest_at) kinds
+          ∙ ap (λ g. error_place l g a.rest_at) same.groups
+          ∙ ap (λ p. error_place l b.groups p) places
           ∙ sym b.at_is,
     )
 
 pub never_both : NeverBoth
 never_both t file trees k at a b =
     let same = same_cut 0 t [] a.cuts b.cuts [] b.rest [] b.groups a.are_cuts a.none_open (nothing_stuck [] [] refl) b.are_cuts b.are_open (fault_stuck k b.groups b.rest b.fault) in
-    no_fault k (subst (λ (g : List OpenGroup). FaultAt k g []) (sym same.groups) (subst (λ (r : List ℕ). FaultAt k b.groups r) (sym same.rest) b.fault))
+    no_fault k (subst (λ (g : List OpenGroup). ErrorAt k g []) (sym same.groups) (subst (λ (r : List ℕ). ErrorAt k b.groups r) (sym same.rest) b.fault))

@@ -12,7 +12,7 @@ use Rattle.rl_tokens.specs.Lexemes.{Lexeme, QuotedLexeme, RawLexeme, CharacterLe
 use Rattle.rl_tokens.specs.Cursors.{form_view, CursorState, TakesNext}
 use Rattle.rl_tokens.specs.declared.nest.TreeBuilder.{TreeBuilder}
 use Rattle.rl_tokens.specs.declared.cursor.Lexeme.{Lexeme as Lent}
-use Rattle.rl_tokens.specs.Lexing.{LexedToken, LexesUpTo, open_groups, behind_form, flat_form, flat_token}
+use Rattle.rl_tokens.specs.Lexing.{LexedToken, LexesUpTo, open_groups, after_form, flat_form, flat_token}
 use Rattle.rl_tokens.specs.Mirrors.TreeBuilders.{groups_of, flat_builder, IsFitting, TakesToken}
 use Rattle.rl_tokens.proofs.BehindLemmas.{behind_step}
 use Rattle.rl_tokens.proofs.LexemeRows.{both_true}
@@ -27,7 +27,7 @@ pub record HasCut {A : Type 0} (text rest : List ℕ) (file : ℕ) (nest : TreeB
   pub are_open : open_groups [] cuts ≡ Some (groups_of nest)
   pub flat : map (flat_token file) cuts ≡ flat_builder nest
   pub file_is : nest.file ≡ file
-  pub behind : IsTail text rest
+  pub following : IsTail text rest
 
 -- what the nest asks of a token
 start_continues : (c : ℕ) → is_start c ≡ true → (c == 95 || is_xid_start c) ≡ true
@@ -71,8 +71,8 @@ has_more text from to file old new l same has next takes =
       are_cuts = goes_on has.cuts has.are_cuts;
       are_open =
           open_more [] has.cuts w (groups_of old) has.are_open
-          ∙ ap (λ f. behind_form (groups_of old) f w.at) next.is_cut.form_is
-          ∙ ap (λ n. behind_form (groups_of old) (form_view l.form) n) next.is_cut.lo_is
+          ∙ ap (λ f. after_form (groups_of old) f w.at) next.is_cut.form_is
+          ∙ ap (λ n. after_form (groups_of old) (form_view l.form) n) next.is_cut.lo_is
           ∙ takes.groups;
       flat =
           map-append (flat_token file) has.cuts (w ∷ [])
@@ -80,16 +80,16 @@ has_more text from to file old new l same has next takes =
           ∙ ap (λ z. flat_builder old ++ z ∷ []) (flat_lent file l w next.is_cut ∙ ap (λ n. flat_form (form_view l.form) l.text.now (record { file = n; lo = l.lo; hi = l.hi })) (sym has.file_is))
           ∙ sym takes.flat;
       file_is = takes.file ∙ has.file_is;
-      behind = behind_step text from.rest to.rest has.behind next.behind;
+      following = behind_step text from.rest to.rest has.following next.following;
     }
 
 -- before the first turn
 pub has_none : {A : Type 0} (text rest : List ℕ) (file : ℕ) (nest : TreeBuilder A) → Skipped (chars text) (chars rest) → IsTail text rest → groups_of nest ≡ [] → flat_builder nest ≡ [] → nest.file ≡ file → HasCut text rest file nest
-has_none text rest file nest skips behind groups flat_is file_is = record {
+has_none text rest file nest skips following groups flat_is file_is = record {
   cuts = [];
   are_cuts = skips;
   are_open = ap Some (sym groups);
   flat = sym flat_is;
   file_is = file_is;
-  behind = behind;
+  following = following;
 }

@@ -57,8 +57,8 @@ behind_punct c = cond (is_ascii_digit c) DigitHead (cond (c == 34) QuoteHead (co
 abbrev behind_slash : ℕ → HeadClass
 behind_slash c = cond (is_punct c) MarkHead (behind_punct c)
 
-abbrev behind_delimiter : ℕ → HeadClass
-behind_delimiter c = cond (c == 47) SlashHead (behind_slash c)
+abbrev after_delimiter : ℕ → HeadClass
+after_delimiter c = cond (c == 47) SlashHead (behind_slash c)
 
 pub class34 : head_class 34 ≡ QuoteHead
 class34 = class_other 34 (start_ascii 34 (lit< tt))
@@ -102,7 +102,7 @@ not_delimiter : (codes : List ℕ) (c : ℕ) → list_all (λ k. not (is_among d
 not_delimiter codes c all is = not_true (is_among delimiters c) (among codes (λ k. not (is_among delimiters k)) c all is)
 
 pub front_delimiter : (c : ℕ) (t : List ℕ) → IsTrue (is_among delimiters c) → lexeme_at (c ∷ t) ≡ Some (DelimiterForm c, t)
-front_delimiter c t is = at_class c t DelimiterHead (class_other c (not_start_among delimiters c refl refl is) ∙ ap (λ b. cond b DelimiterHead (behind_delimiter c)) is)
+front_delimiter c t is = at_class c t DelimiterHead (class_other c (not_start_among delimiters c refl refl is) ∙ ap (λ b. cond b DelimiterHead (after_delimiter c)) is)
 
 front_slash : (t : List ℕ) → first_passes (λ d. d == 47 || d == 42) t ≡ false → lexeme_at (47 ∷ t) ≡ Some (MarkForm 47, t)
 front_slash t h = at_class 47 t SlashHead class47 ∙ ap (λ b. cond b None (Some (MarkForm 47, t))) h
@@ -111,7 +111,7 @@ front_mark : (c : ℕ) (t : List ℕ) → IsLexeme (MarkLexeme c) t → lexeme_a
 front_mark c t (inl is) =
     at_class c t MarkHead
     (class_other c (not_start_among marks c refl refl is)
-    ∙ ap (λ b. cond b DelimiterHead (behind_delimiter c)) (not_delimiter marks c refl is)
+    ∙ ap (λ b. cond b DelimiterHead (after_delimiter c)) (not_delimiter marks c refl is)
     ∙ ap (λ b. cond b SlashHead (behind_slash c)) (not_among c 47 (is_among marks) is refl)
     ∙ ap (λ b. cond (b || c == 47) MarkHead (behind_punct c)) is)
 front_mark c t (inr (e, h)) = ap (λ x. lexeme_at (x ∷ t)) e ∙ front_slash t h ∙ ap (λ x. Some (MarkForm x, t)) (sym e)
@@ -169,7 +169,7 @@ not_digit_among codes d all is = false_unless (is_among codes d) (λ h. let k : 
 pub class_digit : (d : ℕ) → is_ascii_digit d ≡ true → head_class d ≡ DigitHead
 class_digit d is =
     class_other d (digit_not_start d is)
-    ∙ ap (λ b. cond b DelimiterHead (behind_delimiter d)) (not_digit_among delimiters d refl is)
+    ∙ ap (λ b. cond b DelimiterHead (after_delimiter d)) (not_digit_among delimiters d refl is)
     ∙ ap (λ b. cond b SlashHead (behind_slash d)) (not_among d 47 is_ascii_digit is refl)
     ∙ ap (λ b. cond (b || d == 47) MarkHead (behind_punct d)) (not_digit_among marks d refl is)
     ∙ ap (λ b. cond b MarkHead (behind_punct d)) (not_among d 47 is_ascii_digit is refl)

@@ -6,7 +6,7 @@ use Rattle.std.proofs.lemmas.Bool.{and_from, or_left, or_right}
 use Rattle.rl_tokens.specs.Texts.{is_underscore, first_passes, begins, is_row_part}
 use Rattle.rl_tokens.specs.Lexemes.{is_start, BeginsHashedQuote, LiteralPrefix, NoPrefix, BytePrefix, CPrefix, prefix_text, BeginsRaw, begins_prefixed_quote, begins_raw_identifier, BeginsOtherwise, LexedSign, NoLexedSign, LexedPlus, LexedMinus, lexed_sign_text, LexedExponent, NoLexedExponent, LexedPower, lexed_exponent_text, IsLexedExponent, BeginsLexedExponent}
 use Rattle.rl_tokens.specs.Lexing.{begins_lifetime, BeginsQuote}
-use Rattle.rl_tokens.specs.Mirrors.LexemeAt.{hashes, begins_hashed_quote, begins_raw_behind, begins_raw, begins_quote, begins_otherwise, after_sign, begins_exponent, after_lexed_exponent}
+use Rattle.rl_tokens.specs.Mirrors.LexemeAt.{hashes, begins_hashed_quote, begins_raw_after, begins_raw, begins_quote, begins_otherwise, after_sign, begins_exponent, after_lexed_exponent}
 use Rattle.rl_tokens.specs.Classes.{is_hash, after_run}
 use Rattle.rl_tokens.proofs.Comments.{false_unless}
 use Rattle.rl_tokens.proofs.Pieces.{is_equal}
@@ -70,14 +70,14 @@ raw_by p t u same h = record { prefix = p; rest = u; opens = hashed_begins u h; 
 raw_begins : (t : List ℕ) → begins_raw t ≡ true → BeginsRaw t
 raw_begins [] h = absurd (cc)
 raw_begins (c ∷ cs) h =
-    elim (or_cases (c == 114 && begins_hashed_quote cs) (begins_raw_behind cs (c == 98 || c == 99)) h) [
+    elim (or_cases (c == 114 && begins_hashed_quote cs) (begins_raw_after cs (c == 98 || c == 99)) h) [
       | inl a ↦ let p = both_true (c == 114) (begins_hashed_quote cs) a in raw_by NoPrefix (c ∷ cs) cs (ap (λ x. x ∷ cs) (is_equal c 114 p.0)) p.1
-      | inr a ↦ behind cs a
+      | inr a ↦ following cs a
     ]
   where
-    behind : (cs : List ℕ) → begins_raw_behind cs (c == 98 || c == 99) ≡ true → BeginsRaw (c ∷ cs)
-    behind [] h = absurd (cc)
-    behind (d ∷ ds) h =
+    following : (cs : List ℕ) → begins_raw_after cs (c == 98 || c == 99) ≡ true → BeginsRaw (c ∷ cs)
+    following [] h = absurd (cc)
+    following (d ∷ ds) h =
         let p = both_true ((c == 98 || c == 99) && d == 114) (begins_hashed_quote ds) h in
         let q = both_true (c == 98 || c == 99) (d == 114) p.0 in
         let d_is : d ≡ 114 = is_equal d 114 q.1 in

@@ -11,7 +11,7 @@ use Rattle.rl_tokens.specs.declared.token.Delimiter.{Delimiter}
 use Rattle.rl_tokens.specs.declared.token.Delimiter.TheVariants.{Parenthesis, Brace, Bracket}
 use Rattle.rl_tokens.specs.declared.lex_error.LexKind.TheVariants.{UnclosedGroup}
 use Rattle.rl_tokens.specs.Trees.{Tree, FlatToken, Opening, Closing, FlatPunct, FlatLiteral, FlatIdent, opener_span, closer_span, trees_of, delimiter_of, stream_of, group_span, tree_view, stream_view, flat, flat_trees}
-use Rattle.rl_tokens.specs.Lexing.{closer_for, closes, popped, innermost, behind_form, flat_form}
+use Rattle.rl_tokens.specs.Lexing.{closer_for, closes, popped, innermost, after_form, flat_form}
 use Rattle.rl_tokens.specs.Mirrors.TreeBuilders.{opener_of, closer_of, group_of, groups_of, flat_open, flat_builder, TakesToken, TakesTree, OpensGroup, ClosesGroup, EndsInGroup}
 use Rattle.rl_tokens.specs.Puncts.{Mark}
 use Rattle.rl_tokens.specs.Texts.{SpannedText}
@@ -171,7 +171,7 @@ takes_mark {A} old new p form c text lo hi form_is p_is takes =
     let span : Span = record { file = old.file; lo = lo; hi = hi } in
     let token : flat_form form text span ≡ FlatPunct p = ap (λ f. flat_form f text span) form_is ∙ ap FlatPunct (sym p_is) in
     record {
-      groups = ap (λ f. behind_form (groups_of old) f lo) form_is ∙ ap Some (sym groups);
+      groups = ap (λ f. after_form (groups_of old) f lo) form_is ∙ ap Some (sym groups);
       flat = flat_new ∙ ap (λ f. flat_builder old ++ f ∷ []) (sym token);
       file = file;
     }
@@ -182,7 +182,7 @@ takes_literal {A} old new l form text lo hi form_is l_is takes =
     let span : Span = record { file = old.file; lo = lo; hi = hi } in
     let token : flat_form form text span ≡ FlatLiteral l = ap (λ f. flat_form f text span) form_is ∙ ap FlatLiteral (sym l_is) in
     record {
-      groups = ap (λ f. behind_form (groups_of old) f lo) form_is ∙ ap Some (sym groups);
+      groups = ap (λ f. after_form (groups_of old) f lo) form_is ∙ ap Some (sym groups);
       flat = flat_new ∙ ap (λ f. flat_builder old ++ f ∷ []) (sym token);
       file = file;
     }
@@ -193,7 +193,7 @@ takes_ident {A} old new i form text lo hi form_is i_is takes =
     let span : Span = record { file = old.file; lo = lo; hi = hi } in
     let token : flat_form form text span ≡ FlatIdent i = ap (λ f. flat_form f text span) form_is ∙ ap FlatIdent (sym i_is) in
     record {
-      groups = ap (λ f. behind_form (groups_of old) f lo) form_is ∙ ap Some (sym groups);
+      groups = ap (λ f. after_form (groups_of old) f lo) form_is ∙ ap Some (sym groups);
       flat = flat_new ∙ ap (λ f. flat_builder old ++ f ∷ []) (sym token);
       file = file;
     }

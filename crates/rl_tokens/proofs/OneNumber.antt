@@ -6,7 +6,7 @@ use Rattle.std.proofs.lemmas.List.Folds.{list_all-append}
 use Rattle.std.proofs.lemmas.Bool.{eqb-true, both_ways, and_parts, and_from, or_parts, or_cases, or_left, or_right, cases_Bool, not-true}
 use Rattle.rl_tokens.specs.Texts.{first_passes, begins, is_underscore, is_row_part}
 use Rattle.rl_tokens.specs.Quoted.{place_value, without_underscores}
-use Rattle.rl_tokens.specs.Numbers.{Base, Binary, Octal, Decimal, Hexadecimal, radix, prefix, is_digit, Sign, NoSign, Minus, sign_text, IsBehindPrefix, IsSuffix, is_exponent_letter, AllowsSuffix, IntReads, Fraction, NoFraction, Dot, fraction_text, IsFraction, Exponent, NoExponent, Power, exponent_text, is_power_sign, BeginsExponent, IsExponent, FloatReads, float_digits}
+use Rattle.rl_tokens.specs.Numbers.{Base, Binary, Octal, Decimal, Hexadecimal, radix, prefix, is_digit, Sign, NoSign, Minus, sign_text, IsAfterPrefix, IsSuffix, is_exponent_letter, AllowsSuffix, IntReads, Fraction, NoFraction, Dot, fraction_text, IsFraction, Exponent, NoExponent, Power, exponent_text, is_power_sign, BeginsExponent, IsExponent, FloatReads, float_digits}
 use Rattle.rl_tokens.specs.Reading.{Contents, Digits, ReadsInt, ReadsFloat}
 use Rattle.rl_tokens.specs.Strict.{dec}
 use Rattle.rl_tokens.proofs.Dec.{dec_is_decimal}
@@ -27,7 +27,7 @@ same_sign Minus NoSign a b ha hb e = let h : true ≡ false = sym hb ∙ ap (fir
 base_at : List ℕ → Base
 base_at t = cond (begins (prefix Binary) t) Binary (cond (begins (prefix Octal) t) Octal (cond (begins (prefix Hexadecimal) t) Hexadecimal Decimal))
 
-base_is : (b : Base) (r : List ℕ) → IsBehindPrefix b r → base_at (prefix b ++ r) ≡ b
+base_is : (b : Base) (r : List ℕ) → IsAfterPrefix b r → base_at (prefix b ++ r) ≡ b
 unfolding base_at
 base_is Binary r f = refl
 base_is Octal r f = refl
@@ -42,13 +42,13 @@ base_is Decimal r f =
 
 at_base : (b : Base) (ds es x y : List ℕ) → list_all (is_row_part (is_digit b)) ds ≡ true → list_all (is_row_part (is_digit b)) es ≡ true → IsSuffix x → AllowsSuffix b x → IsSuffix y → AllowsSuffix b y → prefix b ++ (ds ++ x) ≡ prefix b ++ (es ++ y) → (ds ≡ es) × (x ≡ y)
 at_base b ds es x y hd he sx ox sy oy e =
-    same_run (is_row_part (is_digit b)) ds es x y hd he (no_part b x sx ox) (no_part b y sy oy) (behind b e)
+    same_run (is_row_part (is_digit b)) ds es x y hd he (no_part b x sx ox) (no_part b y sy oy) (following b e)
   where
-    behind : (b : Base) → prefix b ++ (ds ++ x) ≡ prefix b ++ (es ++ y) → ds ++ x ≡ es ++ y
-    behind Binary e = cc
-    behind Octal e = cc
-    behind Decimal e = e
-    behind Hexadecimal e = cc
+    following : (b : Base) → prefix b ++ (ds ++ x) ≡ prefix b ++ (es ++ y) → ds ++ x ≡ es ++ y
+    following Binary e = cc
+    following Octal e = cc
+    following Decimal e = e
+    following Hexadecimal e = cc
 
 pub int_once : (t x y : List ℕ) (s z : Sign) (m n : ℕ) → IntReads t s m x → IntReads t z n y → (s ≡ z) × (m ≡ n) × (x ≡ y)
 int_once t x y s z m n a b =

@@ -3,7 +3,7 @@ use Rattle.std.proofs.Common.{◌≡◌, ℕ, suc, zero, ◌+◌, ◌⊎◌, inl
 use Rattle.std.proofs.lemmas.Bool.Decides.{nat_tests}
 use Rattle.std.specs.List.{AllByRecursion}
 use Rattle.rl_tokens.specs.Texts.{is_white, first_passes}
-use Rattle.rl_tokens.specs.Trivia.{is_plain_line, is_plain_block, inside_text, TriviaPiece, White, Line, Block, trivia_piece_text, IsTriviaPiece, trivia_text, IsTrivia}
+use Rattle.rl_tokens.specs.Trivia.{is_comment_line, is_comment_block, inside_text, TriviaPiece, White, Line, Block, trivia_piece_text, IsTriviaPiece, trivia_text, IsTrivia}
 use Rattle.rl_tokens.specs.Skipping.{IsOpenLine, BeginsTrivia, Skipped, OneRest}
 use Rattle.rl_tokens.specs.Mirrors.SkippedAt.{after_block, after_line, after_comment, after_piece}
 use Rattle.rl_tokens.proofs.Comments.{chosen, same_Some, false_unless, Closes, after_block-sound, after_block-past, OneLine, after_line-past, after_line-open, plain_line-same, plain_block-same}
@@ -32,16 +32,16 @@ TakesOff t r = ((p : TriviaPiece) × IsTriviaPiece p × (t ≡ trivia_piece_text
 none-some : {A : Type 0} (x : A) → None ≡ Some x → ⊥
 none-some x e = cc
 
-takes_line : (t r : List ℕ) → is_plain_line t ≡ true → LineEnds t r → TakesOff (47 ∷ 47 ∷ t) r
+takes_line : (t r : List ℕ) → is_comment_line t ≡ true → LineEnds t r → TakesOff (47 ∷ 47 ∷ t) r
 takes_line t r plain (inl (body, one, same)) =
-    inl (Line body, record { plain = sym (plain_line-same body r) ∙ ap is_plain_line (sym same) ∙ plain; one_line = one }, ap (λ x. 47 ∷ 47 ∷ x) (same ∙ sym (append_assoc body (10 ∷ []) r)))
+    inl (Line body, record { plain = sym (plain_line-same body r) ∙ ap is_comment_line (sym same) ∙ plain; one_line = one }, ap (λ x. 47 ∷ 47 ∷ x) (same ∙ sym (append_assoc body (10 ∷ []) r)))
 takes_line t r plain (inr (one, nothing)) =
     inr (record { body = t; is_body = record { plain = plain; one_line = one }; text = refl }, nothing)
 
-takes_block : (t r : List ℕ) → is_plain_block t ≡ true → Closes 1 t r → TakesOff (47 ∷ 42 ∷ t) r
+takes_block : (t r : List ℕ) → is_comment_block t ≡ true → Closes 1 t r → TakesOff (47 ∷ 42 ∷ t) r
 takes_block t r plain (i, m, is, same, more) =
     let e : t ≡ inside_text i ++ r = same ∙ ap (λ x. inside_text i ++ x) more in
-    inl (Block i, (is, sym (plain_block-same i r) ∙ ap is_plain_block (sym e) ∙ plain), ap (λ x. 47 ∷ 42 ∷ x) e)
+    inl (Block i, (is, sym (plain_block-same i r) ∙ ap is_comment_block (sym e) ∙ plain), ap (λ x. 47 ∷ 42 ∷ x) e)
 
 pub is_equal : (c k : ℕ) → (c == k) ≡ true → c ≡ k
 is_equal c k h = grind (arith, nat_tests)
@@ -49,13 +49,13 @@ is_equal c k h = grind (arith, nat_tests)
 takes_comment : (t r : List ℕ) → after_comment t ≡ Some r → TakesOff (47 ∷ t) r
 takes_comment [] r h = absurd (none-some r h)
 takes_comment (c ∷ t) r h =
-    elim (chosen (c == 47) (cond (is_plain_line t) (Some (after_line t)) None) (cond (c == 42) (cond (is_plain_block t) (after_block 0 t) None) None) (Some r) h) [
-      | inl (a, x) ↦ elim (chosen (is_plain_line t) (Some (after_line t)) None (Some r) x) [
+    elim (chosen (c == 47) (cond (is_comment_line t) (Some (after_line t)) None) (cond (c == 42) (cond (is_comment_block t) (after_block 0 t) None) None) (Some r) h) [
+      | inl (a, x) ↦ elim (chosen (is_comment_line t) (Some (after_line t)) None (Some r) x) [
         | inl (p, y) ↦ subst (λ (z : List ℕ × List ℕ). TakesOff z.0 z.1) (let q : c ≡ 47 = is_equal c 47 a in let s : after_line t ≡ r = same_Some (after_line t) r y in let g : ◌≡◌ {A = List ℕ × List ℕ} (47 ∷ 47 ∷ t, after_line t) (47 ∷ c ∷ t, r) = cc in g) (takes_line t (after_line t) p (after_line-sound t))
         | inr (p, y) ↦ absurd (none-some r y)
       ]
-      | inr (a, x) ↦ elim (chosen (c == 42) (cond (is_plain_block t) (after_block 0 t) None) None (Some r) x) [
-        | inl (b, y) ↦ elim (chosen (is_plain_block t) (after_block 0 t) None (Some r) y) [
+      | inr (a, x) ↦ elim (chosen (c == 42) (cond (is_comment_block t) (after_block 0 t) None) None (Some r) x) [
+        | inl (b, y) ↦ elim (chosen (is_comment_block t) (after_block 0 t) None (Some r) y) [
           | inl (p, z) ↦ subst (λ (x : ℕ). TakesOff (47 ∷ x ∷ t) r) (sym (is_equal c 42 b)) (takes_block t r p (after_block-sound 0 t r z))
           | inr (p, z) ↦ absurd (none-some r z)
         ]
@@ -82,7 +82,7 @@ pub after_piece-past : (p : TriviaPiece) (r : List ℕ) → IsTriviaPiece p → 
 after_piece-past (White c) r w =
     ap (λ x. cond x (after_comment r) (cond (is_white c) (Some r) None)) (white_not_slash c w) ∙ ap (λ x. cond x (Some r) None) w
 after_piece-past (Line body) r is =
-    ap (λ x. cond (is_plain_line x) (Some (after_line x)) None) (append_assoc body (10 ∷ []) r)
+    ap (λ x. cond (is_comment_line x) (Some (after_line x)) None) (append_assoc body (10 ∷ []) r)
     ∙ ap (λ x. cond x (Some (after_line (body ++ 10 ∷ r))) None) (plain_line-same body r ∙ is.plain)
     ∙ ap Some (after_line-past body r is.one_line)
 after_piece-past (Block i) r (is, plain) =

@@ -14,7 +14,7 @@ use Rattle.rl_tokens.specs.Skipping.{BeginsTrivia}
 use Rattle.rl_tokens.specs.Lexemes.{delimiters, marks, Lexeme, IdentifierLexeme, MarkLexeme, lexeme_text, IsLexeme, LiteralForm, form_of}
 use Rattle.rl_tokens.specs.Mirrors.LexemeAt.{DelimiterHead, MarkHead, SlashHead, DigitHead, QuoteHead, ApostropheHead, StrayHead, head_class, lexeme_at}
 use Rattle.rl_tokens.specs.Trees.{Tree, PunctTree, LiteralTree, flat, flat_trees}
-use Rattle.rl_tokens.specs.Lexing.{LexedToken, LexesUpTo, OpenGroup, behind_form, open_groups, flat_form, flat_token, Lexes}
+use Rattle.rl_tokens.specs.Lexing.{LexedToken, LexesUpTo, OpenGroup, after_form, open_groups, flat_form, flat_token, Lexes}
 use Rattle.rl_tokens.specs.Printed.{Item, WordItem, LiteralItem, MinusItem, item_text, Entry, printed_text, token_at}
 use Rattle.rl_tokens.specs.PrintedTrees.{item_trees, printed_trees}
 use Rattle.rl_tokens.proofs.Comments.{false_unless}
@@ -66,7 +66,7 @@ last_cut file at last is = record {
 }
 
 -- a gap and a token of no delimiter
-token_cut : (file at : ℕ) (gap : List ℕ) (l : Lexeme) (after : List ℕ) (tree : Tree) (trees : List Tree) → IsTrivia gap → IsLexeme l after → ((groups : List OpenGroup) (n : ℕ) → behind_form groups (form_of l) n ≡ Some groups) → flat tree ≡ flat_token file (record { lexeme = l; at = at + byte_len gap }) ∷ [] → CutInto file (at + byte_len gap + byte_len (lexeme_text l)) after trees → CutInto file at (gap ++ (lexeme_text l ++ after)) (tree ∷ trees)
+token_cut : (file at : ℕ) (gap : List ℕ) (l : Lexeme) (after : List ℕ) (tree : Tree) (trees : List Tree) → IsTrivia gap → IsLexeme l after → ((groups : List OpenGroup) (n : ℕ) → after_form groups (form_of l) n ≡ Some groups) → flat tree ≡ flat_token file (record { lexeme = l; at = at + byte_len gap }) ∷ [] → CutInto file (at + byte_len gap + byte_len (lexeme_text l)) after trees → CutInto file at (gap ++ (lexeme_text l ++ after)) (tree ∷ trees)
 token_cut file at gap l after tree trees is_gap is_lexeme neutral is_flat rest = record {
   cuts = record { lexeme = l; at = at + byte_len gap } ∷ rest.cuts;
   are_cuts = (
@@ -86,8 +86,8 @@ literal_flat file at l text form same =
     ap (λ x. flat (LiteralTree (token_at file at x))) same
     ∙ ap (λ f. flat_form f (encode_utf8_all (lexeme_text l)) (record { file = file; lo = at; hi = at + byte_len (lexeme_text l) }) ∷ []) (sym form)
 
-literal_neutral : (l : Lexeme) → form_of l ≡ LiteralForm → (groups : List OpenGroup) (n : ℕ) → behind_form groups (form_of l) n ≡ Some groups
-literal_neutral l form groups n = ap (λ f. behind_form groups f n) form
+literal_neutral : (l : Lexeme) → form_of l ≡ LiteralForm → (groups : List OpenGroup) (n : ℕ) → after_form groups (form_of l) n ≡ Some groups
+literal_neutral l form groups n = ap (λ f. after_form groups f n) form
 
 minus_len : byte_len (45 ∷ []) ≡ 1
 minus_len = ap (λ z. length (z ++ [])) (encode_ascii 45 (lit< tt))

@@ -10,7 +10,7 @@ use Rattle.rl_tokens.specs.Cursors.{CursorState, IsCursorState}
 use Rattle.rl_tokens.specs.Lexing.{BeginsQuote}
 use Rattle.rl_tokens.specs.Mirrors.LexemeAt.{begins_quote}
 use Rattle.rl_tokens.specs.Mirrors.SourceAt.{source_error_kind, opens}
-use Rattle.rl_tokens.specs.Sources.{is_apostrophe, StrayToken, source_text, BeginsProper, Opens, IsSource, SourceKind, StrayKind, kind_of, source_view, SourceBefore, BeginsNoSource, IsWithoutFront, CutSource, source_end, SourcesUpTo, IsCutUpTo, TakesSource, SourceErrorAt, SourceError, IsFirstSourceError}
+use Rattle.rl_tokens.specs.Sources.{is_apostrophe, StrayToken, source_text, BeginsProper, Opens, IsSource, SourceKind, StrayKind, kind_of, source_view, SourceBefore, BeginsNoSource, IsWithoutPreamble, CutSource, source_end, SourcesUpTo, IsCutUpTo, TakesSource, SourceErrorAt, SourceError, IsFirstSourceError}
 use Rattle.rl_tokens.specs.declared.lex_error.LexError.{LexError}
 use Rattle.rl_tokens.specs.declared.lex_error.LexKind.{LexKind}
 use Rattle.rl_tokens.specs.declared.lex_error.LexKind.TheVariants.{UnclosedComment, UnclosedQuote}
@@ -23,12 +23,12 @@ use Rattle.rl_tokens.proofs.SourceFronts.{proper_source, apostrophe, closed_here
 use Rattle.rl_tokens.proofs.Rests.{behind_length}
 
 -- nothing is cut yet
-pub begun : (text front rest : List ℕ) → IsUtf8 text → IsTail text front → IsWithoutFront (chars text) (chars front) → Skipped (chars front) (chars rest) → IsCutUpTo (chars text) [] (chars rest)
-begun text front rest is behind is_front skipped = record {
+pub begun : (text front rest : List ℕ) → IsUtf8 text → IsTail text front → IsWithoutPreamble (chars text) (chars front) → Skipped (chars front) (chars rest) → IsCutUpTo (chars text) [] (chars rest)
+begun text front rest is following is_front skipped = record {
   at = length text - length front;
   body = chars front;
   front = is_front;
-  place = omega (arith, char_len text is, char_len front behind.is_text, behind_length text front behind);
+  place = omega (arith, char_len text is, char_len front following.is_text, behind_length text front following);
   are_cuts = skipped;
 }
 
@@ -57,47 +57,47 @@ cut_more t done u w after r cut same is place skipped = record {
 }
 
 -- The token at the front of the rest, by its bytes.
-record SourceAt (text rest behind token : List ℕ) (kind : SourceKind) (lo hi : ℕ) : Type 0 where
-  pub front : SourceBefore (chars rest) kind (chars behind)
+record SourceAt (text rest following token : List ℕ) (kind : SourceKind) (lo hi : ℕ) : Type 0 where
+  pub front : SourceBefore (chars rest) kind (chars following)
   pub rest_text : IsUtf8 rest
-  pub behind_text : IsUtf8 behind
+  pub behind_text : IsUtf8 following
   pub token_text : IsUtf8 token
-  pub rest_is : rest ≡ token ++ behind
+  pub rest_is : rest ≡ token ++ following
   pub lo_place : lo + length rest ≡ length text
-  pub hi_place : hi + length behind ≡ length text
+  pub hi_place : hi + length following ≡ length text
 
-token_is : {text rest behind token : List ℕ} {kind : SourceKind} {lo hi : ℕ} (at : SourceAt text rest behind token kind lo hi) → encode_utf8_all (source_text at.front.token) ≡ token
-token_is {rest = rest} {behind = behind} {token = token} at =
+token_is : {text rest following token : List ℕ} {kind : SourceKind} {lo hi : ℕ} (at : SourceAt text rest following token kind lo hi) → encode_utf8_all (source_text at.front.token) ≡ token
+token_is {rest = rest} {following = following} {token = token} at =
     let l = source_text at.front.token in
-    let e : encode_utf8_all l ++ behind ≡ token ++ behind =
-    ap (λ x. encode_utf8_all l ++ x) (sym (encodes-chars behind at.behind_text))
-    ∙ sym (encodes-append l (chars behind))
+    let e : encode_utf8_all l ++ following ≡ token ++ following =
+    ap (λ x. encode_utf8_all l ++ x) (sym (encodes-chars following at.behind_text))
+    ∙ sym (encodes-append l (chars following))
     ∙ ap encode_utf8_all (sym at.front.text_is)
     ∙ encodes-chars rest at.rest_text
     ∙ at.rest_is in
-    append_cancel_right (encode_utf8_all l) token behind e
+    append_cancel_right (encode_utf8_all l) token following e
 
-token_chars : {text rest behind token : List ℕ} {kind : SourceKind} {lo hi : ℕ} (at : SourceAt text rest behind token kind lo hi) → chars token ≡ source_text at.front.token
+token_chars : {text rest following token : List ℕ} {kind : SourceKind} {lo hi : ℕ} (at : SourceAt text rest following token kind lo hi) → chars token ≡ source_text at.front.token
 token_chars {token = token} at = sym (chars_from_encodes (source_text at.front.token) token at.token_text (token_is at))
 
-token_len : {text rest behind token : List ℕ} {kind : SourceKind} {lo hi : ℕ} → SourceAt text rest behind token kind lo hi → lo + length token ≡ hi
-token_len {rest = rest} {behind = behind} {token = token} at = omega (arith, at.lo_place, at.hi_place, ap length at.rest_is, length-append token behind)
+token_len : {text rest following token : List ℕ} {kind : SourceKind} {lo hi : ℕ} → SourceAt text rest following token kind lo hi → lo + length token ≡ hi
+token_len {rest = rest} {following = following} {token = token} at = omega (arith, at.lo_place, at.hi_place, ap length at.rest_is, length-append token following)
 
-source_at : (text rest behind token : List ℕ) (kind : SourceKind) → IsTail text rest → IsTail rest behind → SourceBefore (chars rest) kind (chars behind) → IsUtf8 token → token ≡ slice_range rest 0 (length rest - length behind) → SourceAt text rest behind token kind (length text - length rest) (length text - length behind)
-source_at text rest behind token kind in_text in_rest front is token_is =
-    let taken : token ≡ take (length rest - length behind) rest = token_is ∙ ap (λ n. take n rest) (let q : length rest - length behind - 0 ≡ length rest - length behind = omega arith in q) in
+source_at : (text rest following token : List ℕ) (kind : SourceKind) → IsTail text rest → IsTail rest following → SourceBefore (chars rest) kind (chars following) → IsUtf8 token → token ≡ slice_range rest 0 (length rest - length following) → SourceAt text rest following token kind (length text - length rest) (length text - length following)
+source_at text rest following token kind in_text in_rest front is token_is =
+    let taken : token ≡ take (length rest - length following) rest = token_is ∙ ap (λ n. take n rest) (let q : length rest - length following - 0 ≡ length rest - length following = omega arith in q) in
     record {
       front = front;
       rest_text = in_text.is_text;
       behind_text = in_rest.is_text;
       token_text = is;
-      rest_is = cut_join rest behind in_rest ∙ ap (λ z. z ++ behind) (sym taken);
+      rest_is = cut_join rest following in_rest ∙ ap (λ z. z ++ following) (sym taken);
       lo_place = omega (arith, behind_length text rest in_text);
-      hi_place = omega (arith, behind_length text rest in_text, behind_length rest behind in_rest);
+      hi_place = omega (arith, behind_length text rest in_text, behind_length rest following in_rest);
     }
 
-takes : (text rest behind next : List ℕ) (l : SourceToken) → IsCursorState text rest → IsTail rest behind → IsTail behind next → Skipped (chars behind) (chars next) → SourceAt text rest behind l.text.now (source_view l.form) l.lo l.hi → TakesSource (record { text = text; rest = rest }) l (record { text = text; rest = next })
-takes text rest behind next l is in_rest in_behind skips at =
+takes : (text rest following next : List ℕ) (l : SourceToken) → IsCursorState text rest → IsTail rest following → IsTail following next → Skipped (chars following) (chars next) → SourceAt text rest following l.text.now (source_view l.form) l.lo l.hi → TakesSource (record { text = text; rest = rest }) l (record { text = text; rest = next })
+takes text rest following next l is in_rest in_behind skips at =
     let w : CutSource = record { token = at.front.token; at = l.lo } in
     let rest_len : byte_len (chars rest) ≡ length rest = char_len rest at.rest_text in
     let text_len : byte_len (chars text) ≡ length text = char_len text is.is_text in
@@ -105,21 +105,21 @@ takes text rest behind next l is in_rest in_behind skips at =
     record {
       cut = w;
       is_cut = record { kind_is = at.front.kind_is; bytes_are = token_is at; chars_are = sym (token_chars at); lo_is = refl; hi_is = ends };
-      after = chars behind;
+      after = chars following;
       begins = at.front.text_is;
       is_source = at.front.is_source;
       place = at.lo_place;
-      goes_on = λ done cuts. cut_more (chars text) done (chars rest) w (chars behind) (chars next) cuts at.front.text_is at.front.is_source (omega (arith, rest_len, text_len, at.lo_place)) skips;
+      goes_on = λ done cuts. cut_more (chars text) done (chars rest) w (chars following) (chars next) cuts at.front.text_is at.front.is_source (omega (arith, rest_len, text_len, at.lo_place)) skips;
       same = refl;
-      behind = behind_step rest behind next in_rest in_behind;
+      following = behind_step rest following next in_rest in_behind;
     }
 
 -- what is borrowed is the next token
-pub takes_source : (text rest behind next : List ℕ) (l : SourceToken) → IsCursorState text rest → SourceBefore (chars rest) (source_view l.form) (chars behind) → IsTail rest behind → IsUtf8 l.text.now → l.text.now ≡ slice_range rest 0 (length rest - length behind) → l.lo ≡ length text - length rest → l.hi ≡ length text - length behind → Skipped (chars behind) (chars next) → IsTail behind next → TakesSource (record { text = text; rest = rest }) l (record { text = text; rest = next })
-takes_source text rest behind next l is front in_rest utf8 token_is lo hi skips in_behind =
-    let at : SourceAt text rest behind l.text.now (source_view l.form) l.lo l.hi =
-    rw (lo, hi) (source_at text rest behind l.text.now (source_view l.form) is.behind in_rest front utf8 token_is) in
-    takes text rest behind next l is in_rest in_behind skips at
+pub takes_source : (text rest following next : List ℕ) (l : SourceToken) → IsCursorState text rest → SourceBefore (chars rest) (source_view l.form) (chars following) → IsTail rest following → IsUtf8 l.text.now → l.text.now ≡ slice_range rest 0 (length rest - length following) → l.lo ≡ length text - length rest → l.hi ≡ length text - length following → Skipped (chars following) (chars next) → IsTail following next → TakesSource (record { text = text; rest = rest }) l (record { text = text; rest = next })
+takes_source text rest following next l is front in_rest utf8 token_is lo hi skips in_behind =
+    let at : SourceAt text rest following l.text.now (source_view l.form) l.lo l.hi =
+    rw (lo, hi) (source_at text rest following l.text.now (source_view l.form) is.following in_rest front utf8 token_is) in
+    takes text rest following next l is in_rest in_behind skips at
 
 -- ---- errors
 
@@ -170,14 +170,14 @@ pub stops_source : (text rest : List ℕ) (e : LexError) (kind : LexKind) → Is
 stops_source text rest e kind is empty empty_is some none kind_is e_is =
     let t : CursorState = record { text = text; rest = rest } in
     let place : ℕ = length text - length rest in
-    let here : place + length rest ≡ length text = omega (arith, behind_length text rest is.behind) in
-    let error : SourceErrorAt kind (chars rest) = rw kind_is (error_here (chars rest) (chars_some rest is.behind.is_text (sym empty_is ∙ some)) none) in
+    let here : place + length rest ≡ length text = omega (arith, behind_length text rest is.following) in
+    let error : SourceErrorAt kind (chars rest) = rw kind_is (error_here (chars rest) (chars_some rest is.following.is_text (sym empty_is ∙ some)) none) in
     let first : (cuts : List CutSource) → IsCutUpTo (chars text) cuts (chars rest) → SourceError (chars text) kind place =
     λ cuts are. record {
       cuts = cuts;
       rest = chars rest;
       are_cuts = are;
       error = error;
-      rest_place = rest_place text rest place is.is_text is.behind.is_text here;
+      rest_place = rest_place text rest place is.is_text is.following.is_text here;
     } in
     subst (λ (x : LexError). StopsSource t x) (sym e_is) (record { error = error; place = here; first = first })

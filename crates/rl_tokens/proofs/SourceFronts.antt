@@ -7,7 +7,7 @@ use Rattle.std.specs.List.{list_all}
 use Rattle.std.specs.Option.{IfSome, IfNone, option_map, option_and_then}
 use Rattle.std.specs.Str.{chars}
 use Rattle.rl_tokens.specs.Texts.{first_passes, begins}
-use Rattle.rl_tokens.specs.Trivia.{Inside, inside_text, IsInside, is_plain_line, is_plain_block}
+use Rattle.rl_tokens.specs.Trivia.{Inside, inside_text, IsInside, is_comment_line, is_comment_block}
 use Rattle.rl_tokens.specs.Skipping.{Skipped}
 use Rattle.rl_tokens.specs.Scanning.{is_one_of, is_other}
 use Rattle.rl_tokens.specs.Lexemes.{lexeme_text, IsRow, LexemeBefore, LexemeForm, is_start, is_continue, begins_raw_identifier}
@@ -42,9 +42,9 @@ line_ends m t a r is cut others stops =
     sym (ap (after_run is_in_line) cut ∙ run_past is_in_line a r row)
 
 -- what ends a line doesn't change whether it is plain
-line_plain : (body t : List ℕ) → first_passes is_in_line t ≡ false → is_plain_line (body ++ t) ≡ is_plain_line body
-line_plain body [] h = ap is_plain_line (append-nil body)
-line_plain body (c ∷ t) h = ap (λ x. is_plain_line (body ++ x ∷ t)) (is_equal c 10 (not_false (c == 10) h)) ∙ plain_line-same body t
+line_plain : (body t : List ℕ) → first_passes is_in_line t ≡ false → is_comment_line (body ++ t) ≡ is_comment_line body
+line_plain body [] h = ap is_comment_line (append-nil body)
+line_plain body (c ∷ t) h = ap (λ x. is_comment_line (body ++ x ∷ t)) (is_equal c 10 (not_false (c == 10) h)) ∙ plain_line-same body t
 
 -- ---- the front of a whole source
 
@@ -52,15 +52,15 @@ first_not : (s : List ℕ) → (slice_index s 0 == 91) ≡ false → first_passe
 first_not [] h = refl
 first_not (c ∷ s) h = h
 
-pub script_line : (t second behind s r : List ℕ) → t ≡ 35 ∷ second → second ≡ 33 ∷ behind → Skipped behind s → (slice_index s 0 == 91) ≡ false → r ≡ after_run is_in_line behind → IsScriptLine t r
-script_line t second behind s r a b skipped other rest =
-    let (row, is, same) = run_found is_in_line behind in
-    let e : behind ≡ row ++ r = same ∙ ap (λ x. row ++ x) (sym rest) in
+pub script_line : (t second following s r : List ℕ) → t ≡ 35 ∷ second → second ≡ 33 ∷ following → Skipped following s → (slice_index s 0 == 91) ≡ false → r ≡ after_run is_in_line following → IsScriptLine t r
+script_line t second following s r a b skipped other rest =
+    let (row, is, same) = run_found is_in_line following in
+    let e : following ≡ row ++ r = same ∙ ap (λ x. row ++ x) (sym rest) in
     record {
       line = row;
       text_is = a ∙ ap (λ x. 35 ∷ x) b ∙ ap (λ x. 35 ∷ 33 ∷ x) e;
       is_line = subst (λ (x : List ℕ). IsRow is_in_line row x) (sym rest) is;
-      no_attribute = λ u v. let q : u ≡ s = one_rest behind u s (subst (λ (x : List ℕ). Skipped x u) (sym e) v) skipped in ap (first_passes (λ c. c == 91)) q ∙ first_not s other;
+      no_attribute = λ u v. let q : u ≡ s = one_rest following u s (subst (λ (x : List ℕ). Skipped x u) (sym e) v) skipped in ap (first_passes (λ c. c == 91)) q ∙ first_not s other;
     }
 
 -- ---- each token is taken off
@@ -83,12 +83,12 @@ raw_lifetime_past c more t is free =
     ∙ ap (option_and_then unless_quoted) (name_past c more t is)
     ∙ quoted_past t free
 
-doc_line_past : (body t : List ℕ) → IsRow is_in_line body t → is_plain_line body ≡ false → after_doc (47 ∷ body ++ t) ≡ Some t
+doc_line_past : (body t : List ℕ) → IsRow is_in_line body t → is_comment_line body ≡ false → after_doc (47 ∷ body ++ t) ≡ Some t
 doc_line_past body t row doc =
     ap (λ b. cond b None (Some (after_run is_in_line (body ++ t)))) (line_plain body t row.ends ∙ doc)
     ∙ ap Some (run_past is_in_line body t row)
 
-doc_block_past : (i : Inside) (t : List ℕ) → IsInside i → is_plain_block (inside_text i) ≡ false → after_doc (42 ∷ inside_text i ++ t) ≡ Some t
+doc_block_past : (i : Inside) (t : List ℕ) → IsInside i → is_comment_block (inside_text i) ≡ false → after_doc (42 ∷ inside_text i ++ t) ≡ Some t
 doc_block_past i t is doc =
     ap (λ b. cond b None (after_block 0 (inside_text i ++ t))) (plain_block-same i t ∙ doc) ∙ after_block-past i 0 t is
 
@@ -166,28 +166,28 @@ lifetime_found t r h = go (after_any_name t) refl h
           | inr (a, x) ↦ here m e a (same_Some m r x)
         ]
 
-doc_line_found : (t r : List ℕ) → is_plain_line t ≡ false → after_run is_in_line t ≡ r → SourceBefore (47 ∷ 47 ∷ t) DocCommentKind r
+doc_line_found : (t r : List ℕ) → is_comment_line t ≡ false → after_run is_in_line t ≡ r → SourceBefore (47 ∷ 47 ∷ t) DocCommentKind r
 doc_line_found t r doc e =
     let (row, is, same) = run_found is_in_line t in
     let is_row : IsRow is_in_line row r = subst (λ (x : List ℕ). IsRow is_in_line row x) e is in
     let whole : t ≡ row ++ r = same ∙ ap (λ x. row ++ x) e in
-    record { token = DocLineToken row; is_source = (is_row, sym (line_plain row r is_row.ends) ∙ ap is_plain_line (sym whole) ∙ doc); text_is = ap (λ x. 47 ∷ 47 ∷ x) whole; kind_is = refl }
+    record { token = DocLineToken row; is_source = (is_row, sym (line_plain row r is_row.ends) ∙ ap is_comment_line (sym whole) ∙ doc); text_is = ap (λ x. 47 ∷ 47 ∷ x) whole; kind_is = refl }
 
-doc_block_found : (t r : List ℕ) → is_plain_block t ≡ false → Closes 1 t r → SourceBefore (47 ∷ 42 ∷ t) DocCommentKind r
+doc_block_found : (t r : List ℕ) → is_comment_block t ≡ false → Closes 1 t r → SourceBefore (47 ∷ 42 ∷ t) DocCommentKind r
 doc_block_found t r doc (i, m, is, same, more) =
     let whole : t ≡ inside_text i ++ r = same ∙ ap (λ x. inside_text i ++ x) more in
-    record { token = DocBlockToken i; is_source = (is, sym (plain_block-same i r) ∙ ap is_plain_block (sym whole) ∙ doc); text_is = ap (λ x. 47 ∷ 42 ∷ x) whole; kind_is = refl }
+    record { token = DocBlockToken i; is_source = (is, sym (plain_block-same i r) ∙ ap is_comment_block (sym whole) ∙ doc); text_is = ap (λ x. 47 ∷ 42 ∷ x) whole; kind_is = refl }
 
 doc_found : (t r : List ℕ) → after_doc t ≡ Some r → SourceBefore (47 ∷ t) DocCommentKind r
 doc_found [] r h = absurd (none-some r h)
 doc_found (c ∷ t) r h =
-    elim (chosen (c == 47) (cond (is_plain_line t) None (Some (after_run is_in_line t))) (cond (c == 42) (cond (is_plain_block t) None (after_block 0 t)) None) (Some r) h) [
-      | inl (a, x) ↦ elim (chosen (is_plain_line t) None (Some (after_run is_in_line t)) (Some r) x) [
+    elim (chosen (c == 47) (cond (is_comment_line t) None (Some (after_run is_in_line t))) (cond (c == 42) (cond (is_comment_block t) None (after_block 0 t)) None) (Some r) h) [
+      | inl (a, x) ↦ elim (chosen (is_comment_line t) None (Some (after_run is_in_line t)) (Some r) x) [
         | inl (p, y) ↦ absurd (none-some r y)
         | inr (p, y) ↦ subst (λ (x : ℕ). SourceBefore (47 ∷ x ∷ t) DocCommentKind r) (sym (is_equal c 47 a)) (doc_line_found t r p (same_Some (after_run is_in_line t) r y))
       ]
-      | inr (a, x) ↦ elim (chosen (c == 42) (cond (is_plain_block t) None (after_block 0 t)) None (Some r) x) [
-        | inl (b, y) ↦ elim (chosen (is_plain_block t) None (after_block 0 t) (Some r) y) [
+      | inr (a, x) ↦ elim (chosen (c == 42) (cond (is_comment_block t) None (after_block 0 t)) None (Some r) x) [
+        | inl (b, y) ↦ elim (chosen (is_comment_block t) None (after_block 0 t) (Some r) y) [
           | inl (p, z) ↦ absurd (none-some r z)
           | inr (p, z) ↦ subst (λ (x : ℕ). SourceBefore (47 ∷ x ∷ t) DocCommentKind r) (sym (is_equal c 42 b)) (doc_block_found t r p (after_block-sound 0 t r z))
         ]

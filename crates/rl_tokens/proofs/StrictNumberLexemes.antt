@@ -289,9 +289,9 @@ digits_behind_dot f s digits =
     ap (λ z. first_passes is_dot_or_start (z ++ s)) r.text ∙ or_from (r.digit == 46) (is_start r.digit) (not_among r.digit 46 is_ascii_digit r.is_digit refl) (digit_not_start r.digit r.is_digit)
 
 pointed : (t x d f : List ℕ) (v : Contents) (s : StrictFloat t v x) → IsDigits d → IsDigits f → s.numeral ≡ d ++ (46 ∷ f) → first_passes is_letter x ≡ false → LexedBefore EndsLiteral t
-pointed t x d f v s digits behind numeral no_letter =
+pointed t x d f v s digits following numeral no_letter =
     float_from t x d v s (LexedDot f) NoLexedExponent digits (numeral ∙ ap (λ z. d ++ (46 ∷ z)) (sym (append-nil f))) refl
-    (digits_behind_dot f x behind, behind.1, suffix_no_numeral x s.suffix) no_letter
+    (digits_behind_dot f x following, following.1, suffix_no_numeral x s.suffix) no_letter
 
 whole_power : (t x d e : List ℕ) (v : Contents) (s : StrictFloat t v x) → IsDigits d → PowerFacts e → s.numeral ≡ d ++ e → LexedBefore EndsLiteral t
 whole_power t x d e v s digits p numeral =
@@ -301,10 +301,10 @@ whole_power t x d e v s digits p numeral =
     (p.is_letter, p.power.is_digit, p.power.each, suffix_no_numeral x s.suffix)
 
 pointed_power : (t x d f e : List ℕ) (v : Contents) (s : StrictFloat t v x) → IsDigits d → IsDigits f → PowerFacts e → s.numeral ≡ (d ++ (46 ∷ f)) ++ e → LexedBefore EndsLiteral t
-pointed_power t x d f e v s digits behind p numeral =
+pointed_power t x d f e v s digits following p numeral =
     float_from t x d v s (LexedDot f) (LexedPower p.letter p.sign p.power.underscores p.power.digit p.power.more) digits
     (numeral ∙ append_assoc d (46 ∷ f) e ∙ ap (λ z. d ++ ((46 ∷ f) ++ z)) p.text) refl
-    (digits_behind_dot f _ behind, behind.1, letter_fails (is_row_part is_ascii_digit) p.letter refl refl p.is_letter)
+    (digits_behind_dot f _ following, following.1, letter_fails (is_row_part is_ascii_digit) p.letter refl refl p.is_letter)
     (p.is_letter, p.power.is_digit, p.power.each, suffix_no_numeral x s.suffix)
 
 -- A strict float is one lexeme before what may follow it.

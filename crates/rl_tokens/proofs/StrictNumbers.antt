@@ -9,7 +9,7 @@ use Rattle.unicode_ident.specs.Ident.{is_xid_start, is_xid_continue}
 use Rattle.unicode_ident.proofs.IdentLemmas.{is_xid_start-ascii}
 use Rattle.rl_tokens.specs.Texts.{first_passes, begins, is_underscore, is_row_part}
 use Rattle.rl_tokens.specs.Quoted.{place_value, without_underscores}
-use Rattle.rl_tokens.specs.Numbers.{Base, Binary, Octal, Decimal, Hexadecimal, radix, prefix, is_digit, Sign, NoSign, Minus, sign_text, begins_base, IsBehindPrefix, IsSuffix, is_exponent_letter, IsExponentSuffix, AllowsSuffix, IntReads, limit, Fraction, NoFraction, Dot, fraction_text, IsFraction, Exponent, NoExponent, Power, exponent_text, is_power_sign, BeginsExponent, IsExponent, float_digits}
+use Rattle.rl_tokens.specs.Numbers.{Base, Binary, Octal, Decimal, Hexadecimal, radix, prefix, is_digit, Sign, NoSign, Minus, sign_text, begins_base, IsAfterPrefix, IsSuffix, is_exponent_letter, IsExponentSuffix, AllowsSuffix, IntReads, limit, Fraction, NoFraction, Dot, fraction_text, IsFraction, Exponent, NoExponent, Power, exponent_text, is_power_sign, BeginsExponent, IsExponent, float_digits}
 use Rattle.rl_tokens.specs.Reading.{Contents, Digits, ReadsInt, HasNoInteger, ReadsFloat}
 use Rattle.rl_tokens.specs.Strict.{dec, is_row, bare, spelled_number, IsDigits, IsDecimalText, IsNumberSuffix, StrictInt, IsStrictExponent, StrictFloat}
 use Rattle.rl_tokens.proofs.Dec.{dec_is_decimal}
@@ -76,7 +76,7 @@ pub record IsInt (t : List ℕ) (v : Contents) (x : List ℕ) : Type 0 where
   pub reads : IntReads t NoSign magnitude x
   pub contents_is : v ≡ Digits (dec magnitude)
 
-int_at : (b : Base) (t x : List ℕ) (v : Contents) (s : StrictInt t v x) → s.base ≡ radix b → s.prefix ≡ prefix b → IsBehindPrefix b (s.row ++ x) → AllowsSuffix b x → IsInt t v x
+int_at : (b : Base) (t x : List ℕ) (v : Contents) (s : StrictInt t v x) → s.base ≡ radix b → s.prefix ≡ prefix b → IsAfterPrefix b (s.row ++ x) → AllowsSuffix b x → IsInt t v x
 int_at b t x v s base front is_front is_suffix_of =
     let All : ℕ → Type 0 = λ n. list_all (is_row (λ c. nat_lt (digit_value c) n)) s.row ≡ true in
     let Any : ℕ → Type 0 = λ n. list_any (λ c. nat_lt (digit_value c) n) s.row ≡ true in
@@ -128,7 +128,7 @@ minus_int t x m r = record {
 -- ---- where no integer stands
 
 -- an integer's text without its sign begins with a digit
-pub digit_front : (b : Base) (digits x : List ℕ) → IsBehindPrefix b (digits ++ x) → first_passes is_ascii_digit (prefix b ++ (digits ++ x)) ≡ true
+pub digit_front : (b : Base) (digits x : List ℕ) → IsAfterPrefix b (digits ++ x) → first_passes is_ascii_digit (prefix b ++ (digits ++ x)) ≡ true
 digit_front Binary digits x f = refl
 digit_front Octal digits x f = refl
 digit_front Decimal digits x f = f.0

@@ -56,7 +56,7 @@ begins_mark ch (PunctTree m ∷ ts) = m.ch == ch
 begins_mark ch (_ ∷ ts) = false
 
 -- The trees begin with this character of punctuation, and the rest stands after it.
-pub record IsBehindMark (ch : ℕ) (trees rest : List Tree) : Type 0 where
+pub record IsAfterMark (ch : ℕ) (trees rest : List Tree) : Type 0 where
   pub mark : Mark
   pub trees_are : trees ≡ PunctTree mark ∷ rest
   pub is : mark.ch ≡ ch
@@ -84,7 +84,7 @@ MissesWord _ word _ = ⊥
 
 -- The error where this word was expected before these trees: at the first tree, at the end at the
 -- scope.
-pub record IsRefusal {A : Type 0} (trees : List Tree) (scope : Span) (word : List ℕ) (e : Error A)
+pub record IsRejection {A : Type 0} (trees : List Tree) (scope : Span) (word : List ℕ) (e : Error A)
     : Type 0 where
   pub span : e.span ≡ first_span trees scope
   pub kind : MissesWord trees word e.kind

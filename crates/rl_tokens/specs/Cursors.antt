@@ -16,7 +16,7 @@ pub record CursorState : Type 0 where
 
 pub record IsCursorState (text rest : List ℕ) : Type 0 where
   pub is_text : IsUtf8 text
-  pub behind : IsTail text rest
+  pub following : IsTail text rest
 
 -- the form that the code tells
 abbrev pub form_view : FoundForm → LexemeForm
@@ -26,7 +26,7 @@ form_view (found.Delimiter c) = DelimiterForm c
 form_view (found.Mark c) = MarkForm c
 
 -- The form, the text and the place that are borrowed are those of the cut.
-pub record IsLentToken (l : Lexeme) (w : LexedToken) : Type 0 where
+pub record IsBorrowedToken (l : Lexeme) (w : LexedToken) : Type 0 where
   pub form_is : form_of w.lexeme ≡ form_view l.form
   pub bytes_are : encode_utf8_all (lexeme_text w.lexeme) ≡ l.text.now
   pub chars_are : lexeme_text w.lexeme ≡ chars l.text.now
@@ -36,7 +36,7 @@ pub record IsLentToken (l : Lexeme) (w : LexedToken) : Type 0 where
 -- The token begins what is left, and whatever was cut of the text before, it is cut next.
 pub record TakesNext (old : CursorState) (l : Lexeme) (new : CursorState) : Type 0 where
   pub cut : LexedToken
-  pub is_cut : IsLentToken l cut
+  pub is_cut : IsBorrowedToken l cut
   pub after : List ℕ
   pub begins : chars old.rest ≡ lexeme_text cut.lexeme ++ after
   pub is_lexeme : IsLexeme cut.lexeme after
@@ -44,12 +44,12 @@ pub record TakesNext (old : CursorState) (l : Lexeme) (new : CursorState) : Type
   pub goes_on : (done : List LexedToken) → LexesUpTo 0 (chars old.text) done (chars old.rest)
       → LexesUpTo 0 (chars old.text) (done ++ cut ∷ []) (chars new.rest)
   pub same : new.text ≡ old.text
-  pub behind : IsTail old.rest new.rest
+  pub following : IsTail old.rest new.rest
 
 -- Where the text was cut into tokens whose groups open and close as they must, and this is left of
 -- it, its first error is of this kind and stands at this byte.
-abbrev pub IsFirstFault : CursorState → LexKind → ℕ → Type 0
-IsFirstFault t kind at =
+abbrev pub IsFirstError : CursorState → LexKind → ℕ → Type 0
+IsFirstError t kind at =
     (cuts : List LexedToken) (groups : List OpenGroup)
     → LexesUpTo 0 (chars t.text) cuts (chars t.rest) → open_groups [] cuts ≡ Some groups
     → Fault (chars t.text) kind at

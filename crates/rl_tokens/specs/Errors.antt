@@ -28,9 +28,9 @@ abbrev pub memory_at : {A : Type 0} → Span → Error A
 memory_at at = record { span = at; kind = Memory }
 
 -- the lexer's error, reported at a span; its allocation failure is `Memory`
-abbrev pub lex_refusal : {A : Type 0} → LexKind → Span → Error A
-lex_refusal LexMemory at = memory_at at
-lex_refusal kind at = record { span = at; kind = Lex kind }
+abbrev pub lex_rejection : {A : Type 0} → LexKind → Span → Error A
+lex_rejection LexMemory at = memory_at at
+lex_rejection kind at = record { span = at; kind = Lex kind }
 
 -- the span of what stands in no text
 abbrev pub nowhere : Span

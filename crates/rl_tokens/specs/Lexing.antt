@@ -55,25 +55,25 @@ popped (o ∷ os) = os
 
 -- the groups that are open after a delimiter, the innermost first; none where it closes wrongly or
 -- opens too deep
-abbrev pub behind_delimiter : List OpenGroup → ℕ → ℕ → Option (List OpenGroup)
-behind_delimiter groups c at =
+abbrev pub after_delimiter : List OpenGroup → ℕ → ℕ → Option (List OpenGroup)
+after_delimiter groups c at =
     if is_opener c
     then (if nat_lt (length groups) 128 then Some (record { opener = c; at = at } ∷ groups)
     else None)
     else (if closes groups c then Some (popped groups) else None)
 
-abbrev pub behind_form : List OpenGroup → LexemeForm → ℕ → Option (List OpenGroup)
-behind_form groups (DelimiterForm c) at = behind_delimiter groups c at
-behind_form groups _ at = Some groups
+abbrev pub after_form : List OpenGroup → LexemeForm → ℕ → Option (List OpenGroup)
+after_form groups (DelimiterForm c) at = after_delimiter groups c at
+after_form groups _ at = Some groups
 
-abbrev pub behind_lexeme : List OpenGroup → Lexeme → ℕ → Option (List OpenGroup)
-behind_lexeme groups l at = behind_form groups (form_of l) at
+abbrev pub after_lexeme : List OpenGroup → Lexeme → ℕ → Option (List OpenGroup)
+after_lexeme groups l at = after_form groups (form_of l) at
 
 -- the groups that are open after all these tokens
 abbrev pub open_groups : List OpenGroup → List LexedToken → Option (List OpenGroup)
 open_groups groups [] = Some groups
 open_groups groups (w ∷ ws) =
-    option_and_then (λ g. open_groups g ws) (behind_lexeme groups w.lexeme w.at)
+    option_and_then (λ g. open_groups g ws) (after_lexeme groups w.lexeme w.at)
 
 -- which delimiter it is
 abbrev pub delimiter_for : ℕ → Delimiter
@@ -130,30 +130,30 @@ BeginsNoLexeme r = (after : List ℕ) → LexemeBefore r after → ⊥
 
 -- The error of this kind stands at the rest r, with these groups open. An allocation failure is
 -- none of the text.
-abbrev pub FaultAt : LexKind → List OpenGroup → List ℕ → Type 0
-FaultAt DocComment groups r = IsTrue (begins_doc_comment r)
-FaultAt UnclosedComment groups r = IsTrue (begins (codes "/*") r) × IsFalse (begins_doc_comment r)
-FaultAt UnclosedQuote groups r = BeginsNoLexeme r × BeginsQuote r
-FaultAt Lifetime groups r = BeginsNoLexeme r × IsTrue (begins_lifetime r)
-FaultAt RawIdentifier groups r = BeginsNoLexeme r × IsTrue (begins_raw_identifier r)
-FaultAt StrayCharacter groups r =
+abbrev pub ErrorAt : LexKind → List OpenGroup → List ℕ → Type 0
+ErrorAt DocComment groups r = IsTrue (begins_doc_comment r)
+ErrorAt UnclosedComment groups r = IsTrue (begins (codes "/*") r) × IsFalse (begins_doc_comment r)
+ErrorAt UnclosedQuote groups r = BeginsNoLexeme r × BeginsQuote r
+ErrorAt Lifetime groups r = BeginsNoLexeme r × IsTrue (begins_lifetime r)
+ErrorAt RawIdentifier groups r = BeginsNoLexeme r × IsTrue (begins_raw_identifier r)
+ErrorAt StrayCharacter groups r =
     (r ≢ []) × BeginsNoLexeme r × (BeginsQuote r → ⊥)
     × IsFalse (begins_doc_comment r || begins (codes "/*") r || begins_lifetime r
     || begins_raw_identifier r)
-FaultAt UnmatchedClose groups r =
+ErrorAt UnmatchedClose groups r =
     IsTrue (first_passes (λ c. is_closer c && not (closes groups c)) r)
-FaultAt UnclosedGroup groups r = (r ≡ []) × (groups ≢ [])
-FaultAt TooDeep groups r = IsTrue (first_passes is_opener r) × (length groups ≡ 128)
-FaultAt Memory groups r = ⊥
+ErrorAt UnclosedGroup groups r = (r ≡ []) × (groups ≢ [])
+ErrorAt TooDeep groups r = IsTrue (first_passes is_opener r) × (length groups ≡ 128)
+ErrorAt Memory groups r = ⊥
 
 abbrev pub innermost : List OpenGroup → ℕ → ℕ
 innermost [] at = at
 innermost (o ∷ os) at = o.at
 
 -- at the innermost opener for a group that isn't closed, else where the rest begins
-abbrev pub fault_place : LexKind → List OpenGroup → ℕ → ℕ
-fault_place UnclosedGroup groups at = innermost groups at
-fault_place _ groups at = at
+abbrev pub error_place : LexKind → List OpenGroup → ℕ → ℕ
+error_place UnclosedGroup groups at = innermost groups at
+error_place _ groups at = at
 
 -- The first error of the text: it is cut as far as it goes, and the error stands there.
 pub record Fault (t : List ℕ) (kind : LexKind) (at : ℕ) : Type 0 where
@@ -163,9 +163,9 @@ pub record Fault (t : List ℕ) (kind : LexKind) (at : ℕ) : Type 0 where
   pub rest_at : ℕ
   pub are_cuts : LexesUpTo 0 t cuts rest
   pub are_open : open_groups [] cuts ≡ Some groups
-  pub fault : FaultAt kind groups rest
+  pub fault : ErrorAt kind groups rest
   pub rest_place : rest_at + byte_len rest ≡ byte_len t
-  pub at_is : at ≡ fault_place kind groups rest_at
+  pub at_is : at ≡ error_place kind groups rest_at
 
 -- The text is cut into tokens up to the rest that begins at this byte, and a token begins that
 -- rest.
@@ -178,17 +178,17 @@ pub record LeavesRestAt (t : List ℕ) (at : ℕ) : Type 0 where
 
 -- What an error says of the text: its first error, or the token for which an allocation failed, a
 -- group's closer too.
-abbrev pub Refuses : List ℕ → LexKind → ℕ → Type 0
-Refuses t Memory at = LeavesRestAt t at
-Refuses t kind at = Fault t kind at
+abbrev pub Rejects : List ℕ → LexKind → ℕ → Type 0
+Rejects t Memory at = LeavesRestAt t at
+Rejects t kind at = Fault t kind at
 
 -- A text has at most one list of trees.
 abbrev pub OneList : Type 0
 OneList = (t : List ℕ) (file : ℕ) (xs ys : List Tree) → Lexes t file xs → Lexes t file ys → xs ≡ ys
 
 -- A text has at most one first error.
-abbrev pub OneFault : Type 0
-OneFault = (t : List ℕ) (k l : LexKind) (m n : ℕ) → Fault t k m → Fault t l n → (k ≡ l) × (m ≡ n)
+abbrev pub OneError : Type 0
+OneError = (t : List ℕ) (k l : LexKind) (m n : ℕ) → Fault t k m → Fault t l n → (k ≡ l) × (m ≡ n)
 
 -- No text has both.
 abbrev pub NeverBoth : Type 0

@@ -16,7 +16,7 @@ BeginsTrivia t =
     ⊎ IsOpenLine t
 
 -- r is what stands after all trivia at the front of t: with an open line there, nothing.
-pub record StopsBehindTrivia (t r : List ℕ) : Type 0 where
+pub record StopsAfterTrivia (t r : List ℕ) : Type 0 where
   pub front : List ℕ
   pub is_trivia : IsTrivia front
   pub text : t ≡ front ++ r
@@ -31,7 +31,7 @@ pub record StopsInOpenLine (t r : List ℕ) : Type 0 where
   pub nothing : r ≡ []
 
 abbrev pub Skipped : List ℕ → List ℕ → Type 0
-Skipped t r = StopsBehindTrivia t r ⊎ StopsInOpenLine t r
+Skipped t r = StopsAfterTrivia t r ⊎ StopsInOpenLine t r
 
 -- A text has at most one rest after its trivia.
 abbrev pub OneRest : Type 0

@@ -5,7 +5,7 @@ use Rattle.std.specs.Prelude.{◌≡◌, ◌⊎◌, ℕ, ◌+◌, Bool, false, n
 use Prim.Native.Char.{code}
 use Rattle.std.specs.Str.{chars}
 use Rattle.rl_tokens.specs.Texts.{first_passes, begins, byte_len, IsTail}
-use Rattle.rl_tokens.specs.Trivia.{Inside, inside_text, IsInside, is_plain_line, is_plain_block}
+use Rattle.rl_tokens.specs.Trivia.{Inside, inside_text, IsInside, is_comment_line, is_comment_block}
 use Rattle.rl_tokens.specs.Skipping.{Skipped}
 use Rattle.rl_tokens.specs.Lexemes.{Lexeme, lexeme_text, IsLexeme, IsRow, LexemeForm, form_of, is_start, is_continue, begins_raw_identifier}
 use Rattle.rl_tokens.specs.Lexing.{BeginsQuote, LexedToken, LexesUpTo}
@@ -59,9 +59,9 @@ IsProper (LifetimeToken c more) after =
     × (begins_raw_identifier (c ∷ more ++ after) ≡ false)
 IsProper (RawLifetimeToken c more) after =
     IsName c more after × (first_passes is_apostrophe after ≡ false)
-IsProper (DocLineToken body) after = IsRow is_in_line body after × IsFalse (is_plain_line body)
+IsProper (DocLineToken body) after = IsRow is_in_line body after × IsFalse (is_comment_line body)
 IsProper (DocBlockToken inside) after =
-    IsInside inside × IsFalse (is_plain_block (inside_text inside))
+    IsInside inside × IsFalse (is_comment_block (inside_text inside))
 IsProper (StrayToken c) after = ⊥
 
 -- A token begins the text, strays aside.
@@ -141,8 +141,8 @@ pub record IsScriptLine (t rest : List ℕ) : Type 0 where
 abbrev pub IsWithoutLine : List ℕ → List ℕ → Type 0
 IsWithoutLine t rest = IsScriptLine t rest ⊎ ((rest ≡ t) × ((r : List ℕ) → IsScriptLine t r → ⊥))
 
-abbrev pub IsWithoutFront : List ℕ → List ℕ → Type 0
-IsWithoutFront t rest = IsWithoutLine (without_mark t) rest
+abbrev pub IsWithoutPreamble : List ℕ → List ℕ → Type 0
+IsWithoutPreamble t rest = IsWithoutLine (without_mark t) rest
 
 -- ---- cuts
 
@@ -167,12 +167,12 @@ SourcesUpTo at t (w ∷ ws) r =
 pub record IsCutUpTo (t : List ℕ) (cuts : List CutSource) (r : List ℕ) : Type 0 where
   pub at : ℕ
   pub body : List ℕ
-  pub front : IsWithoutFront t body
+  pub front : IsWithoutPreamble t body
   pub place : at + byte_len body ≡ byte_len t
   pub are_cuts : SourcesUpTo at body cuts r
 
 -- The form, the text and the place that are borrowed are those of the cut.
-pub record IsLentSource (l : SourceToken) (w : CutSource) : Type 0 where
+pub record IsBorrowedSource (l : SourceToken) (w : CutSource) : Type 0 where
   pub kind_is : kind_of w.token ≡ source_view l.form
   pub bytes_are : encode_utf8_all (source_text w.token) ≡ l.text.now
   pub chars_are : source_text w.token ≡ chars l.text.now
@@ -182,7 +182,7 @@ pub record IsLentSource (l : SourceToken) (w : CutSource) : Type 0 where
 -- The token begins what is left, and whatever was cut of the source before, it is cut next.
 pub record TakesSource (old : CursorState) (l : SourceToken) (new : CursorState) : Type 0 where
   pub cut : CutSource
-  pub is_cut : IsLentSource l cut
+  pub is_cut : IsBorrowedSource l cut
   pub after : List ℕ
   pub begins : chars old.rest ≡ source_text cut.token ++ after
   pub is_source : IsSource cut.token after
@@ -190,7 +190,7 @@ pub record TakesSource (old : CursorState) (l : SourceToken) (new : CursorState)
   pub goes_on : (done : List CutSource) → IsCutUpTo (chars old.text) done (chars old.rest)
       → IsCutUpTo (chars old.text) (done ++ cut ∷ []) (chars new.rest)
   pub same : new.text ≡ old.text
-  pub behind : IsTail old.rest new.rest
+  pub following : IsTail old.rest new.rest
 
 -- What the cursor gives: the next token, or nothing where none begins what is left, and then it
 -- stays.
@@ -242,5 +242,5 @@ plain_cut w = record { token = PlainToken w.lexeme; at = w.at }
 -- first token, is cut of it as a source too.
 abbrev pub HoldsLexemes : Type 0
 HoldsLexemes =
-    (t : List ℕ) (cuts : List LexedToken) (r : List ℕ) → IsWithoutFront t t → LexesUpTo 0 t cuts r
+    (t : List ℕ) (cuts : List LexedToken) (r : List ℕ) → IsWithoutPreamble t t → LexesUpTo 0 t cuts r
     → IsCutUpTo t (map plain_cut cuts) r

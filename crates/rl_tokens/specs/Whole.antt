@@ -6,9 +6,9 @@ use Rattle.rl_tokens.specs.declared.span.Span.{Span}
 use Rattle.rl_tokens.specs.declared.lex_error.LexKind.{LexKind}
 use Rattle.rl_tokens.specs.declared.error.ErrorKind.TheVariants.{Unexpected}
 use Rattle.rl_tokens.specs.declared.error.Error.{Error}
-use Rattle.rl_tokens.specs.Errors.{lex_refusal}
+use Rattle.rl_tokens.specs.Errors.{lex_rejection}
 use Rattle.rl_tokens.specs.Trees.{Tree}
-use Rattle.rl_tokens.specs.Lexing.{Lexes, Refuses}
+use Rattle.rl_tokens.specs.Lexing.{Lexes, Rejects}
 use Rattle.rl_tokens.specs.Buffers.{first_span}
 
 -- the span of no bytes at a place
@@ -17,11 +17,11 @@ place_at file at = record { file = file; lo = at; hi = at }
 
 -- The text can't be cut: its first error, or an allocation failure for the token there, reported at
 -- its place. Here a text is its characters.
-pub record RefusesLexing {A : Type 0} (text : List ℕ) (file : ℕ) (e : Error A) : Type 0 where
+pub record RejectsLexing {A : Type 0} (text : List ℕ) (file : ℕ) (e : Error A) : Type 0 where
   pub kind : LexKind
   pub at : ℕ
-  pub refused : Refuses text kind at
-  pub error : e ≡ lex_refusal kind (place_at file at)
+  pub rejected : Rejects text kind at
+  pub error : e ≡ lex_rejection kind (place_at file at)
 
 -- The parser, by what it means, makes a value of the first trees and leaves others: this is
 -- reported at the first of them.
@@ -35,7 +35,7 @@ pub record LeavesTrees {T A : Type 0}
   pub error : e ≡ record { span = first_span rest scope; kind = Unexpected }
 
 -- The trees aren't one value: the parser's own error, or trees that are left over.
-pub record RefusesParse {T A : Type 0}
+pub record RejectsParse {T A : Type 0}
     (runs : List Tree → Span → Result T (Error A) → List Tree → Type 0) (trees : List Tree)
     (scope : Span) (e : Error A) : Type 0 where
   pub why : ((rest : List Tree) × runs trees scope (Err e) rest) ⊎ LeavesTrees runs trees scope e
@@ -48,14 +48,14 @@ pub record ParsesAll {T E : Type 0} (runs : List Tree → Span → Result T E �
   pub ran : runs trees (place_at file (length text)) (Ok value) []
 
 -- The text is cut into trees, and these aren't one value.
-pub record RefusesLexed {T A : Type 0}
+pub record RejectsLexed {T A : Type 0}
     (runs : List Tree → Span → Result T (Error A) → List Tree → Type 0) (text : List ℕ) (file : ℕ)
     (e : Error A) : Type 0 where
   pub trees : List Tree
   pub lexes : Lexes (chars text) file trees
-  pub refused : RefusesParse runs trees (place_at file (length text)) e
+  pub rejected : RejectsParse runs trees (place_at file (length text)) e
 
 -- why a text isn't parsed
-abbrev pub RefusesAll : {T A : Type 0}
+abbrev pub RejectsAll : {T A : Type 0}
     → (List Tree → Span → Result T (Error A) → List Tree → Type 0) → List ℕ → ℕ → Error A → Type 0
-RefusesAll runs text file e = RefusesLexing (chars text) file e ⊎ RefusesLexed runs text file e
+RejectsAll runs text file e = RejectsLexing (chars text) file e ⊎ RejectsLexed runs text file e

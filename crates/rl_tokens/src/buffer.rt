@@ -47,8 +47,8 @@ impl<'a, A: Allocator> ParseBuffer<'a, A> {
       begins_punct,
       begins_group,
       begins_mark,
-      IsBehindMark,
-      IsRefusal,
+      IsAfterMark,
+      IsRejection,
       IsRest,
       StaysRest,
     };
@@ -182,13 +182,13 @@ impl<'a, A: Allocator> ParseBuffer<'a, A> {
     /// stays.
     pub fn take_punct(&mut self, ch: char) -> Result<&'a Punct, Error<A>>
         requires { IsTrue (is_punct ch) }
-        ensures taken { OnOk result (IsBehindMark ch (trees_in self.old) (trees_in self.new)) }
+        ensures taken { OnOk result (IsAfterMark ch (trees_in self.old) (trees_in self.new)) }
         ensures lent { IfOk result
             (λ x. trees_in self.old ≡ PunctTree x.now ∷ trees_in self.new) }
         ensures left { OnErr result (trees_in self.new ≡ trees_in self.old) }
         ensures other { OnErr result (IsFalse (begins_mark ch (trees_in self.old))) }
-        ensures refused { IfErr result
-            (IsRefusal (trees_in self.old) (scope_of self.old) (mark_word ch)) }
+        ensures rejected { IfErr result
+            (IsRejection (trees_in self.old) (scope_of self.old) (mark_word ch)) }
         ensures rest { IsRest (trees_in self.old) (trees_in self.new) }
         ensures onward { StaysRest (trees_in self.old) (trees_in self.new) }
         ensures scope { scope_of self.new ≡ scope_of self.old }
@@ -243,7 +243,7 @@ impl<'a, A: Allocator> ParseBuffer<'a, A> {
     /// The error of what stands next, where this word was expected: `Expected` at the next tree's
     /// span, at the end `EndOfInput` at the scope. It takes no memory.
     pub fn error(&self, word: &'static str) -> Error<A>
-        ensures { IsRefusal (trees_in self.now) (scope_of self.now) word.now result }
+        ensures { IsRejection (trees_in self.now) (scope_of self.now) word.now result }
     {
         let span = self.span();
         let kind = if self.trees.is_empty() {

@@ -19,7 +19,7 @@ use std::marker::Model;
 /// ```
 /// match CString::new(bytes) {
 ///     Ok(held) => held_c_string(alloc, &held, out),
-///     Err(refused) => refused_c_string(refused, out),
+///     Err(rejected) => refused_c_string(rejected, out),
 /// }
 /// ```
 #[derive(Drop)]
@@ -43,9 +43,9 @@ impl<A: Allocator> Model for CString<A> {
 /// # Example
 ///
 /// ```
-/// show_word(&refused.nul_position(), out);
+/// show_word(&rejected.nul_position(), out);
 /// word("of", out);
-/// debug_line(&refused.into_vec().as_slice(), out)
+/// debug_line(&rejected.into_vec().as_slice(), out)
 /// ```
 #[derive(Drop)]
 pub struct NulError<A: Allocator = Global> {
@@ -74,7 +74,7 @@ impl<A: Allocator> CString<A> {
     pub fn new(bytes: Vec<u8, A>) -> Result<CString<A>, NulError<A>>
         ensures ok { IfOk result (λ c. c ≡ bytes.items) }
         ensures none_is_zero { IfOk result (λ c. IsTrue (has_no_zero bytes.items)) }
-        ensures refused { IfErr result (λ e. e.bytes ≡ bytes.items) }
+        ensures rejected { IfErr result (λ e. e.bytes ≡ bytes.items) }
         ensures first { IfErr result (λ e. position is_zero bytes.items ≡ Some e.place) }
     {
         match first_zero(bytes.as_slice()) {

@@ -50,15 +50,15 @@ fn is_of(class: CharClass, c: char) -> bool
 #[inline(always)]
 pub fn skip_class(class: CharClass, text: &str) -> &str
     ensures rest { chars result.now ≡ after_run (class_test class) (chars text.now) }
-    ensures behind { IsTail text.now result.now }
+    ensures following { IsTail text.now result.now }
     ensures shorter { length result.now ≤ length text.now }
 {
     let mut rest = text;
-    while let Some((byte, behind)) = split_ascii(rest) {
+    while let Some((byte, following)) = split_ascii(rest) {
         if !is_of(class, byte as char) {
             return rest;
         }
-        rest = behind;
+        rest = following;
     }
     skip_wide_class(class, rest)
 }
@@ -67,15 +67,15 @@ pub fn skip_class(class: CharClass, text: &str) -> &str
 #[inline(never)]
 fn skip_wide_class(class: CharClass, text: &str) -> &str
     ensures rest { chars result.now ≡ after_run (class_test class) (chars text.now) }
-    ensures behind { IsTail text.now result.now }
+    ensures following { IsTail text.now result.now }
     ensures shorter { length result.now ≤ length text.now }
 {
     let mut rest = text;
-    while let Some((c, behind)) = split_char(rest) {
+    while let Some((c, following)) = split_char(rest) {
         if !is_of(class, c) {
             break;
         }
-        rest = behind;
+        rest = following;
     }
     rest
 }

@@ -3,11 +3,11 @@
 ghost use Rattle.std.specs.Prelude.{◌≡◌, ◌<◌, ◌+◌, ◌⊎◌, List, [], length, IfSome, IfNone};
 ghost use Rattle.std.specs.Str.{chars};
 ghost use Rattle.rl_tokens.specs.Skipping.{Skipped};
-ghost use Rattle.rl_tokens.specs.Lexing.{BeginsLexeme, BeginsNoLexeme, OpenGroup, FaultAt};
+ghost use Rattle.rl_tokens.specs.Lexing.{BeginsLexeme, BeginsNoLexeme, OpenGroup, ErrorAt};
 
 use crate::lex_error::LexError;
 use crate::lexeme::{Form, first_lexeme};
-use crate::no_token::fault_kind;
+use crate::no_token::error_kind;
 use crate::whitespace::skip;
 use std::marker::Model;
 
@@ -65,13 +65,13 @@ impl<'t> Model for Tokens<'t> {
 }
 
 impl<'t> Tokens<'t> {
-    ghost use Rattle.rl_tokens.specs.Cursors.{IsCursorState, TakesNext, IsFirstFault};
+    ghost use Rattle.rl_tokens.specs.Cursors.{IsCursorState, TakesNext, IsFirstError};
 
     /// The tokens of a text, from its front. Nothing is cut yet but white space and comments.
     pub fn new(text: &'t str) -> Tokens<'t>
         ensures text { result.text ≡ text.now }
         ensures skipped { Skipped (chars text.now) (chars result.rest) }
-        ensures behind { IsCursorState text.now result.rest }
+        ensures following { IsCursorState text.now result.rest }
     {
         Tokens {
             text,
@@ -89,11 +89,11 @@ impl<'t> Tokens<'t> {
         ensures none { IfNone result (BeginsNoLexeme (chars self.old.rest)) }
         ensures stays { IfNone result (self.new ≡ self.old) }
     {
-        let (form, behind) = first_lexeme(self.rest)?;
+        let (form, following) = first_lexeme(self.rest)?;
         let lo = self.text.len() - self.rest.len();
-        let hi = self.text.len() - behind.len();
-        let text = &self.rest[..self.rest.len() - behind.len()];
-        self.rest = skip(behind);
+        let hi = self.text.len() - following.len();
+        let text = &self.rest[..self.rest.len() - following.len()];
+        self.rest = skip(following);
         Some(Lexeme { form, text, lo, hi })
     }
 
@@ -124,10 +124,10 @@ impl<'t> Tokens<'t> {
     pub fn fault(&self) -> Option<LexError>
         // It is an error of what is left, whatever groups are open, and stands where that begins.
         ensures fault { IfSome result (λ e. (groups : List OpenGroup)
-            → FaultAt e.kind groups (chars self.now.rest)) }
+            → ErrorAt e.kind groups (chars self.now.rest)) }
         ensures place { IfSome result (λ e. e.at + length self.now.rest ≡ length self.now.text) }
         // It is the first error of the text, however that was cut up to here.
-        ensures first { IfSome result (λ e. IsFirstFault self.now e.kind e.at) }
+        ensures first { IfSome result (λ e. IsFirstError self.now e.kind e.at) }
         ensures stopped { IfSome result (λ e. BeginsNoLexeme (chars self.now.rest)) }
         // Else the text ends here, or a token begins what is left.
         ensures none { IfNone result ((self.now.rest ≡ []) ⊎ BeginsLexeme (chars self.now.rest)) }
@@ -138,7 +138,7 @@ impl<'t> Tokens<'t> {
         if first_lexeme(self.rest).is_some() {
             return None;
         }
-        let kind = fault_kind(self.rest);
+        let kind = error_kind(self.rest);
         Some(LexError::new(kind, self.text.len() - self.rest.len()))
     }
 

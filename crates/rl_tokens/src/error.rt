@@ -67,7 +67,7 @@ pub enum ErrorKind<A: Allocator = Global> {
 }
 
 impl<A: Allocator> Error<A> {
-    ghost use Rattle.rl_tokens.specs.Errors.{memory_at, lex_refusal};
+    ghost use Rattle.rl_tokens.specs.Errors.{memory_at, lex_rejection};
 
     /// The error of this kind, reported at this span.
     pub fn new(span: Span, kind: ErrorKind<A>) -> Error<A>
@@ -89,7 +89,7 @@ impl<A: Allocator> Error<A> {
     /// The lexer's error, reported at a span: as `Lex`, but its allocation failure as
     /// `Memory`.
     pub fn of_lexer(kind: LexKind, span: Span) -> Error<A>
-        ensures { result ≡ lex_refusal kind span }
+        ensures { result ≡ lex_rejection kind span }
     {
         match kind {
             LexKind::Memory => Error::memory(span),
@@ -106,7 +106,7 @@ impl<A: Allocator> From<AllocError> for Error<A> {
     ghost use Rattle.std.specs.Prelude.{◌≡◌};
     ghost use Rattle.rl_tokens.specs.Errors.{memory_at, nowhere};
 
-    ghost from_gives = { λ refused error. error ≡ memory_at nowhere };
+    ghost from_gives = { λ rejected error. error ≡ memory_at nowhere };
 
     fn from(_refused: AllocError) -> Error<A> {
         Error::memory(Span::call_site())

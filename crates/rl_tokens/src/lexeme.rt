@@ -42,7 +42,7 @@ pub(crate) fn first_lexeme(text: &str) -> Option<(Form, &str)>
     ensures found { IfSome result
         (λ p. FormBefore (chars text.now) (form_view p.0) (chars p.1.now)) }
     ensures none { IfNone result ((after : List ℕ) → LexemeBefore (chars text.now) after → ⊥) }
-    ensures behind { IfSome result (λ p. IsTail text.now p.1.now) }
+    ensures following { IfSome result (λ p. IsTail text.now p.1.now) }
     ensures shorter { IfSome result (λ p. length p.1.now < length text.now) }
 {
     lexeme_at(text)
@@ -53,12 +53,12 @@ pub(crate) fn first_lexeme(text: &str) -> Option<(Form, &str)>
 fn lexeme_at(text: &str) -> Option<(Form, &str)>
     ensures rest { option_map (λ p. (form_view p.0, chars p.1.now)) result
         ≡ lexeme_at (chars text.now) }
-    ensures behind { IfSome result (λ p. IsTail text.now p.1.now) }
+    ensures following { IfSome result (λ p. IsTail text.now p.1.now) }
     ensures shorter { IfSome result (λ p. length p.1.now < length text.now) }
 {
-    if let Some((byte, behind)) = split_ascii(text) {
+    if let Some((byte, following)) = split_ascii(text) {
         if (byte as char).is_ascii_digit() {
-            return Some((Form::Literal, after_digit(behind)));
+            return Some((Form::Literal, after_digit(following)));
         }
     }
     by_character(text)
@@ -70,12 +70,12 @@ fn by_character(text: &str) -> Option<(Form, &str)>
     requires { IsFalse (first_passes is_ascii_digit (chars text.now)) }
     ensures rest { option_map (λ p. (form_view p.0, chars p.1.now)) result
         ≡ lexeme_at (chars text.now) }
-    ensures behind { IfSome result (λ p. IsTail text.now p.1.now) }
+    ensures following { IfSome result (λ p. IsTail text.now p.1.now) }
     ensures shorter { IfSome result (λ p. length p.1.now < length text.now) }
 {
     match split_ascii(text) {
-        Some((b'"', behind)) => quoted_literal(behind),
-        Some((byte, behind)) => by_first(byte as char, behind),
+        Some((b'"', following)) => quoted_literal(following),
+        Some((byte, following)) => by_first(byte as char, following),
         None => by_wide_character(text),
     }
 }
@@ -86,11 +86,11 @@ fn by_wide_character(text: &str) -> Option<(Form, &str)>
     requires { IsFalse (first_passes is_ascii (chars text.now)) }
     ensures rest { option_map (λ p. (form_view p.0, chars p.1.now)) result
         ≡ lexeme_at (chars text.now) }
-    ensures behind { IfSome result (λ p. IsTail text.now p.1.now) }
+    ensures following { IfSome result (λ p. IsTail text.now p.1.now) }
     ensures shorter { IfSome result (λ p. length p.1.now < length text.now) }
 {
-    let (c, behind) = split_char(text)?;
-    by_first(c, behind)
+    let (c, following) = split_char(text)?;
+    by_first(c, following)
 }
 
 /// By the first character, which is neither a digit nor a `"`, and what stands after it.
@@ -99,7 +99,7 @@ fn by_first(c: char, text: &str) -> Option<(Form, &str)>
     requires { IsTrue (is_met_late c) }
     ensures rest { option_map (λ p. (form_view p.0, chars p.1.now)) result
         ≡ by_class (head_class c) c (chars text.now) }
-    ensures behind { IfSome result (λ p. IsTail text.now p.1.now) }
+    ensures following { IfSome result (λ p. IsTail text.now p.1.now) }
 {
     if is_start(c) {
         after_start(c, text)
@@ -112,7 +112,7 @@ fn by_first(c: char, text: &str) -> Option<(Form, &str)>
 fn after_start(c: char, text: &str) -> Option<(Form, &str)>
     ensures rest { option_map (λ p. (form_view p.0, chars p.1.now)) result
         ≡ by_class (start_class c) c (chars text.now) }
-    ensures behind { IfSome result (λ p. IsTail text.now p.1.now) }
+    ensures following { IfSome result (λ p. IsTail text.now p.1.now) }
 {
     match c {
         'b' => after_b(text),
@@ -127,7 +127,7 @@ fn after_start(c: char, text: &str) -> Option<(Form, &str)>
 fn after_b(text: &str) -> Option<(Form, &str)>
     ensures rest { option_map (λ p. (form_view p.0, chars p.1.now)) result
         ≡ by_class LetterBHead 98 (chars text.now) }
-    ensures behind { IfSome result (λ p. IsTail text.now p.1.now) }
+    ensures following { IfSome result (λ p. IsTail text.now p.1.now) }
 {
     if begins_with(text, '"') {
         return quoted_literal(without_first(text));
@@ -143,7 +143,7 @@ fn after_b(text: &str) -> Option<(Form, &str)>
 fn after_c(text: &str) -> Option<(Form, &str)>
     ensures rest { option_map (λ p. (form_view p.0, chars p.1.now)) result
         ≡ by_class LetterCHead 99 (chars text.now) }
-    ensures behind { IfSome result (λ p. IsTail text.now p.1.now) }
+    ensures following { IfSome result (λ p. IsTail text.now p.1.now) }
 {
     if begins_with(text, '"') {
         return quoted_literal(without_first(text));
@@ -158,7 +158,7 @@ fn raw_or_word(text: &str) -> Option<(Form, &str)>
         ≡ cond (slice_index (chars text.now) 0 == 114
         && begins_hashed_quote (drop 1 (chars text.now)))
         (literal_at (raw_at (drop 1 (chars text.now)))) (word_at (chars text.now)) }
-    ensures behind { IfSome result (λ p. IsTail text.now p.1.now) }
+    ensures following { IfSome result (λ p. IsTail text.now p.1.now) }
 {
     if begins_with(text, 'r') && begins_hashed_quote(without_first(text)) {
         return raw_literal(without_first(text));
@@ -171,7 +171,7 @@ fn raw_or_word(text: &str) -> Option<(Form, &str)>
 fn after_r(text: &str) -> Option<(Form, &str)>
     ensures rest { option_map (λ p. (form_view p.0, chars p.1.now)) result
         ≡ by_class LetterRHead 114 (chars text.now) }
-    ensures behind { IfSome result (λ p. IsTail text.now p.1.now) }
+    ensures following { IfSome result (λ p. IsTail text.now p.1.now) }
 {
     if begins_hashed_quote(text) {
         return raw_literal(text);
@@ -187,7 +187,7 @@ fn after_r(text: &str) -> Option<(Form, &str)>
 fn identifier(text: &str) -> Option<(Form, &str)>
     ensures rest { option_map (λ p. (form_view p.0, chars p.1.now)) result
         ≡ word_at (chars text.now) }
-    ensures behind { IfSome result (λ p. IsTail text.now p.1.now) }
+    ensures following { IfSome result (λ p. IsTail text.now p.1.now) }
 {
     Some((Form::Identifier, skip_class(CharClass::Continue, text)))
 }
@@ -197,7 +197,7 @@ fn identifier(text: &str) -> Option<(Form, &str)>
 fn quoted_literal(text: &str) -> Option<(Form, &str)>
     ensures rest { option_map (λ p. (form_view p.0, chars p.1.now)) result
         ≡ literal_at (quoted_at (chars text.now)) }
-    ensures behind { IfSome result (λ p. IsTail text.now p.1.now) }
+    ensures following { IfSome result (λ p. IsTail text.now p.1.now) }
 {
     Some((Form::Literal, after_quoted(text)?))
 }
@@ -207,7 +207,7 @@ fn quoted_literal(text: &str) -> Option<(Form, &str)>
 fn character_literal(text: &str) -> Option<(Form, &str)>
     ensures rest { option_map (λ p. (form_view p.0, chars p.1.now)) result
         ≡ literal_at (single_at (chars text.now)) }
-    ensures behind { IfSome result (λ p. IsTail text.now p.1.now) }
+    ensures following { IfSome result (λ p. IsTail text.now p.1.now) }
 {
     Some((Form::Literal, after_character(text)?))
 }
@@ -217,7 +217,7 @@ fn character_literal(text: &str) -> Option<(Form, &str)>
 fn raw_literal(text: &str) -> Option<(Form, &str)>
     ensures rest { option_map (λ p. (form_view p.0, chars p.1.now)) result
         ≡ literal_at (raw_at (chars text.now)) }
-    ensures behind { IfSome result (λ p. IsTail text.now p.1.now) }
+    ensures following { IfSome result (λ p. IsTail text.now p.1.now) }
 {
     Some((Form::Literal, after_raw_literal(text)?))
 }
@@ -227,7 +227,7 @@ fn after_other(c: char, text: &str) -> Option<(Form, &str)>
     requires { IsTrue (is_met_late c) }
     ensures rest { option_map (λ p. (form_view p.0, chars p.1.now)) result
         ≡ by_class (other_class c) c (chars text.now) }
-    ensures behind { IfSome result (λ p. IsTail text.now p.1.now) }
+    ensures following { IfSome result (λ p. IsTail text.now p.1.now) }
 {
     if is_delimiter(c) {
         return Some((Form::Delimiter(c), text));
@@ -249,7 +249,7 @@ fn after_other(c: char, text: &str) -> Option<(Form, &str)>
 fn after_slash(text: &str) -> Option<(Form, &str)>
     ensures rest { option_map (λ p. (form_view p.0, chars p.1.now)) result
         ≡ by_class SlashHead 47 (chars text.now) }
-    ensures behind { IfSome result (λ p. IsTail text.now p.1.now) }
+    ensures following { IfSome result (λ p. IsTail text.now p.1.now) }
 {
     match split_char(text) {
         Some(('/' | '*', _)) => None,
@@ -263,7 +263,7 @@ fn after_slash(text: &str) -> Option<(Form, &str)>
 #[inline(always)]
 fn after_digit(text: &str) -> &str
     ensures rest { (digit : ℕ) → chars result.now ≡ after_digit digit (chars text.now) }
-    ensures behind { IsTail text.now result.now }
+    ensures following { IsTail text.now result.now }
 {
     let rest = after_digits(text);
     if ends_number(rest) {
@@ -279,7 +279,7 @@ pub(crate) fn begins_marked_identifier(text: &str) -> bool
         && first_passes is_start (drop 1 (chars text.now))) }
 {
     match split_char(text) {
-        Some(('#', behind)) => match split_char(behind) {
+        Some(('#', following)) => match split_char(following) {
             Some((next, _)) => is_start(next),
             None => false,
         },

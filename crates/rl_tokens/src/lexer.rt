@@ -3,7 +3,7 @@
 ghost use Rattle.std.specs.Prelude.{List, ℕ, ◌≡◌, IfOk, IfErr};
 ghost use Rattle.std.specs.Str.{chars};
 ghost use Rattle.rl_tokens.specs.declared.lex_error.LexKind.{LexKind};
-ghost use Rattle.rl_tokens.specs.Lexing.{Lexes, Refuses, OneList, OneFault, NeverBoth};
+ghost use Rattle.rl_tokens.specs.Lexing.{Lexes, Rejects, OneList, OneError, NeverBoth};
 ghost use Rattle.rl_tokens.specs.Printed.{Entry, Printed};
 ghost use Rattle.rl_tokens.specs.PrintedTrees.{Reprinted, printed_trees};
 ghost use Rattle.rl_tokens.specs.Trees.{stream_view};
@@ -40,10 +40,10 @@ pub fn lex<A: Allocator + Copy>(alloc: A, text: &str, file: u32) -> Result<Token
     // The text is cut into these trees, and nothing is left of it.
     ensures trees { IfOk result (λ trees. Lexes (chars text.now) file (stream_view trees)) }
     // Else the text's first error, or the place of a token for which an allocation failed.
-    ensures refused { IfErr result (λ e. Refuses (chars text.now) e.kind e.at) }
+    ensures rejected { IfErr result (λ e. Rejects (chars text.now) e.kind e.at) }
     // A text has one list of trees at most, or one first error, and never both.
     ensures one_list { OneList }
-    ensures one_fault { OneFault }
+    ensures one_error { OneError }
     ensures never_both { NeverBoth }
     // A print of strict literals is cut into exactly its items, or an allocation failed.
     ensures printed { (entries : List Entry) (last : List ℕ)
@@ -67,7 +67,7 @@ fn trees_of<A: Allocator + Copy>(
     file: u32,
 ) -> Result<TokenStream<A>, LexError>
     ensures trees { IfOk result (λ trees. Lexes (chars text.now) file (stream_view trees)) }
-    ensures refused { IfErr result (λ e. Refuses (chars text.now) e.kind e.at) }
+    ensures rejected { IfErr result (λ e. Rejects (chars text.now) e.kind e.at) }
 {
     let mut nest = TreeBuilder::new(alloc, file);
     let mut tokens = Tokens::new(text);

@@ -41,7 +41,7 @@ pub(crate) struct TreeBuilder<A: Allocator> {
 
 impl<A: Allocator + Copy> TreeBuilder<A> {
     ghost use Rattle.rl_tokens.specs.Trees.{stream_view, flat_trees};
-    ghost use Rattle.rl_tokens.specs.Mirrors.TreeBuilders.{groups_of, flat_builder, IsFitting, TakesToken, TakesTree, OpensGroup, ClosesGroup, RefusesForm, RefusesOpener, RefusesCloser, EndsInGroup};
+    ghost use Rattle.rl_tokens.specs.Mirrors.TreeBuilders.{groups_of, flat_builder, IsFitting, TakesToken, TakesTree, OpensGroup, ClosesGroup, RejectsForm, RejectsOpener, RejectsCloser, EndsInGroup};
 
     /// Nothing was read yet.
     pub(crate) fn new(alloc: A, file: u32) -> TreeBuilder<A>
@@ -70,7 +70,7 @@ impl<A: Allocator + Copy> TreeBuilder<A> {
         ensures ok { OnOk result (TakesToken self.old self.new (form_view form) text.now lo hi) }
         ensures at { IfErr result (λ e. e.at ≡ lo) }
         ensures kind { IfErr result
-            (λ e. RefusesForm (groups_of self.old) (form_view form) e.kind) }
+            (λ e. RejectsForm (groups_of self.old) (form_view form) e.kind) }
     {
         let span = Span::new(self.file, lo, hi);
         match form {
@@ -127,7 +127,7 @@ impl<A: Allocator + Copy> TreeBuilder<A> {
     fn open_group(&mut self, delimiter: Delimiter, at: usize) -> Result<(), LexError>
         ensures ok { OnOk result (OpensGroup self.old self.new delimiter at) }
         ensures at { IfErr result (λ e. e.at ≡ at) }
-        ensures kind { IfErr result (λ e. RefusesOpener (groups_of self.old) e.kind) }
+        ensures kind { IfErr result (λ e. RejectsOpener (groups_of self.old) e.kind) }
     {
         if self.opened.len() >= MAX_OPEN {
             return Err(LexError::new(LexKind::TooDeep, at));
@@ -150,7 +150,7 @@ impl<A: Allocator + Copy> TreeBuilder<A> {
         requires { hi ≡ lo + 1 }
         ensures ok { OnOk result (ClosesGroup self.old self.new delimiter lo hi) }
         ensures at { IfErr result (λ e. e.at ≡ lo) }
-        ensures kind { IfErr result (λ e. RefusesCloser (groups_of self.old) delimiter e.kind) }
+        ensures kind { IfErr result (λ e. RejectsCloser (groups_of self.old) delimiter e.kind) }
     {
         let Some(open) = self.opened.pop() else {
             return Err(LexError::new(LexKind::UnmatchedClose, lo));

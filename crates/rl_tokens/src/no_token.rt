@@ -4,7 +4,7 @@ ghost use Rattle.std.specs.Prelude.{◌≡◌, nat_lt, IsTrue};
 ghost use Rattle.std.specs.Str.{chars};
 ghost use Rattle.std.specs.List.{list_all};
 ghost use Rattle.rl_tokens.specs.Texts.{begins};
-ghost use Rattle.rl_tokens.specs.Mirrors.TreeBuilders.{fault_kind};
+ghost use Rattle.rl_tokens.specs.Mirrors.TreeBuilders.{error_kind};
 ghost use Rattle.rl_tokens.specs.Mirrors.SourceAt.{source_error_kind, opens};
 ghost use Rattle.rl_tokens.specs.Lexing.{begins_doc_comment, begins_lifetime};
 ghost use Rattle.rl_tokens.specs.Mirrors.LexemeAt.{begins_quote, begins_raw};
@@ -16,8 +16,8 @@ use crate::lexeme::{begins_hashed_quote, begins_marked_identifier};
 use crate::text::{begins_with, split_char};
 
 /// Why no token begins the text, by its first characters.
-pub(crate) fn fault_kind(rest: &str) -> LexKind
-    ensures { result ≡ fault_kind (chars rest.now) }
+pub(crate) fn error_kind(rest: &str) -> LexKind
+    ensures { result ≡ error_kind (chars rest.now) }
 {
     if begins_doc_comment(rest) {
         LexKind::DocComment
@@ -87,8 +87,8 @@ fn begins_raw(text: &str) -> bool
     ensures { result ≡ begins_raw (chars text.now) }
 {
     match split_char(text) {
-        Some(('r', behind)) => begins_hashed_quote(behind),
-        Some(('b' | 'c', behind)) => match split_char(behind) {
+        Some(('r', following)) => begins_hashed_quote(following),
+        Some(('b' | 'c', following)) => match split_char(following) {
             Some(('r', hashes)) => begins_hashed_quote(hashes),
             _ => false,
         },
@@ -101,7 +101,7 @@ fn begins_lifetime(text: &str) -> bool
     ensures { result ≡ begins_lifetime (chars text.now) }
 {
     match split_char(text) {
-        Some(('\'', behind)) => match split_char(behind) {
+        Some(('\'', following)) => match split_char(following) {
             Some((c, _)) => is_start(c),
             None => false,
         },
@@ -114,7 +114,7 @@ pub(crate) fn begins_raw_identifier(text: &str) -> bool
     ensures { result ≡ begins_raw_identifier (chars text.now) }
 {
     match split_char(text) {
-        Some(('r', behind)) => begins_marked_identifier(behind),
+        Some(('r', following)) => begins_marked_identifier(following),
         _ => false,
     }
 }

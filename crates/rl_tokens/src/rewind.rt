@@ -56,8 +56,8 @@ pub fn attempt<B: Rewind + Drop, T, E, F: FnOnce(&mut B) -> Result<T, E>>(
     // The value is the parser's, and the buffer is left where the parser left it.
     ensures parsed { OnOk result (FnOnceReturnsAtMut F.FnOnce parser input.old result input.new) }
     // The error is the parser's, wherever the parser left the buffer.
-    ensures refused { OnErr result
-        ((behind : _) × FnOnceReturnsAtMut F.FnOnce parser input.old result behind) }
+    ensures rejected { OnErr result
+        ((following : _) × FnOnceReturnsAtMut F.FnOnce parser input.old result following) }
     // An error leaves the buffer where it stood.
     ensures left { OnErr result (B.same input.old input.new) }
 {

@@ -140,7 +140,7 @@ pub fn split_before(marks: Marks, text: &str) -> (&str, &str)
     ensures cut { chars text.now ≡ chars result.0.now ++ chars result.1.now }
     ensures others { IsTrue (list_all (is_other marks) (chars result.0.now)) }
     ensures stops { IsFalse (first_passes (is_other marks) (chars result.1.now)) }
-    ensures behind { IsTail text.now result.1.now }
+    ensures following { IsTail text.now result.1.now }
     ensures shorter { length result.1.now ≤ length text.now }
 {
     text.split_at(len_before(marks, text.as_bytes()))
@@ -152,7 +152,7 @@ pub fn next_mark(marks: Marks, text: &str) -> Option<(u8, &str)>
     requires { AreAscii marks }
     ensures some { IfSome result (λ p. IsNextMark marks (chars text.now) p.0 (chars p.1.now)) }
     ensures none { IfNone result (IsTrue (list_all (is_other marks) (chars text.now))) }
-    ensures behind { IfSome result (λ p. IsTail text.now p.1.now) }
+    ensures following { IfSome result (λ p. IsTail text.now p.1.now) }
     ensures shorter { IfSome result (λ p. length p.1.now < length text.now) }
 {
     let (_, from) = split_before(marks, text);

@@ -5,7 +5,7 @@ ghost use Rattle.std.specs.Prelude.{◌≡◌, ◌<◌, length, option_map, IfSo
 ghost use Rattle.std.specs.Str.{chars};
 ghost use Rattle.rl_tokens.specs.Texts.{IsTail};
 ghost use Rattle.rl_tokens.specs.Lexemes.{is_continue};
-ghost use Rattle.rl_tokens.specs.Sources.{is_in_line, source_view, SourceBefore, BeginsNoSource, IsWithoutLine, IsWithoutFront, without_mark};
+ghost use Rattle.rl_tokens.specs.Sources.{is_in_line, source_view, SourceBefore, BeginsNoSource, IsWithoutLine, IsWithoutPreamble, without_mark};
 ghost use Rattle.rl_tokens.specs.Classes.{after_run};
 ghost use Rattle.rl_tokens.specs.Mirrors.SourceAt.{after_doc, after_name, after_marked, after_any_name, after_lifetime, other_at, stray_at, any_at};
 
@@ -15,7 +15,7 @@ use crate::lexeme::{Form, first_lexeme};
 use crate::no_token::{begins_raw_identifier, opens};
 use crate::scan::{Marks, split_before};
 use crate::text::{begins_with, split_char, strip_byte, without_first};
-use crate::whitespace::{after_block, is_plain_block, is_plain_line, skip};
+use crate::whitespace::{after_block, is_comment_block, is_comment_line, skip};
 
 /// What a token of a source is: what [`Sources`](crate::Sources) cuts off.
 #[derive(Clone, Copy)]
@@ -38,11 +38,11 @@ pub(crate) fn first_source(text: &str) -> Option<(SourceForm, &str)>
     ensures found { IfSome result
         (λ p. SourceBefore (chars text.now) (source_view p.0) (chars p.1.now)) }
     ensures none { IfNone result (BeginsNoSource (chars text.now)) }
-    ensures behind { IfSome result (λ p. IsTail text.now p.1.now) }
+    ensures following { IfSome result (λ p. IsTail text.now p.1.now) }
     ensures shorter { IfSome result (λ p. length p.1.now < length text.now) }
 {
-    if let Some((form, behind)) = first_lexeme(text) {
-        return Some((SourceForm::Token(form), behind));
+    if let Some((form, following)) = first_lexeme(text) {
+        return Some((SourceForm::Token(form), following));
     }
     other_source(text)
 }
@@ -52,11 +52,11 @@ pub(crate) fn first_source(text: &str) -> Option<(SourceForm, &str)>
 fn other_source(text: &str) -> Option<(SourceForm, &str)>
     ensures rest { option_map (λ p. (source_view p.0, chars p.1.now)) result
         ≡ any_at (chars text.now) }
-    ensures behind { IfSome result (λ p. IsTail text.now p.1.now) }
+    ensures following { IfSome result (λ p. IsTail text.now p.1.now) }
     ensures shorter { IfSome result (λ p. length p.1.now < length text.now) }
 {
     match other_token(text) {
-        Some((form, behind)) => Some((form, behind)),
+        Some((form, following)) => Some((form, following)),
         None => stray(text),
     }
 }
@@ -65,27 +65,27 @@ fn other_source(text: &str) -> Option<(SourceForm, &str)>
 fn stray(text: &str) -> Option<(SourceForm, &str)>
     ensures rest { option_map (λ p. (source_view p.0, chars p.1.now)) result
         ≡ stray_at (chars text.now) }
-    ensures behind { IfSome result (λ p. IsTail text.now p.1.now) }
+    ensures following { IfSome result (λ p. IsTail text.now p.1.now) }
     ensures shorter { IfSome result (λ p. length p.1.now < length text.now) }
 {
-    let (_, behind) = split_char(text)?;
+    let (_, following) = split_char(text)?;
     if opens(text) {
         return None;
     }
-    Some((SourceForm::Stray, behind))
+    Some((SourceForm::Stray, following))
 }
 
 /// The same, where it is neither a lexeme nor a stray character.
 fn other_token(text: &str) -> Option<(SourceForm, &str)>
     ensures rest { option_map (λ p. (source_view p.0, chars p.1.now)) result
         ≡ other_at (chars text.now) }
-    ensures behind { IfSome result (λ p. IsTail text.now p.1.now) }
+    ensures following { IfSome result (λ p. IsTail text.now p.1.now) }
     ensures shorter { IfSome result (λ p. length p.1.now < length text.now) }
 {
     match split_char(text) {
-        Some(('/', behind)) => Some((SourceForm::DocComment, after_doc(behind)?)),
-        Some(('\'', behind)) => Some((SourceForm::Lifetime, after_lifetime(behind)?)),
-        Some(('r', behind)) => Some((SourceForm::RawIdentifier, after_marked(behind)?)),
+        Some(('/', following)) => Some((SourceForm::DocComment, after_doc(following)?)),
+        Some(('\'', following)) => Some((SourceForm::Lifetime, after_lifetime(following)?)),
+        Some(('r', following)) => Some((SourceForm::RawIdentifier, after_marked(following)?)),
         _ => None,
     }
 }
@@ -93,19 +93,19 @@ fn other_token(text: &str) -> Option<(SourceForm, &str)>
 /// What follows a doc comment, by what stands after its first slash: of a line its LF.
 fn after_doc(text: &str) -> Option<&str>
     ensures rest { option_map (λ rest. chars rest.now) result ≡ after_doc (chars text.now) }
-    ensures behind { IfSome result (λ rest. IsTail text.now rest.now) }
+    ensures following { IfSome result (λ rest. IsTail text.now rest.now) }
 {
-    let (second, behind) = split_char(text)?;
+    let (second, following) = split_char(text)?;
     if second == '/' {
-        if is_plain_line(behind) {
+        if is_comment_line(following) {
             return None;
         }
-        Some(line_end(behind))
+        Some(line_end(following))
     } else if second == '*' {
-        if is_plain_block(behind) {
+        if is_comment_block(following) {
             return None;
         }
-        after_block(behind)
+        after_block(following)
     } else {
         None
     }
@@ -114,7 +114,7 @@ fn after_doc(text: &str) -> Option<&str>
 /// The text from its first LF on.
 fn line_end(text: &str) -> &str
     ensures rest { chars result.now ≡ after_run is_in_line (chars text.now) }
-    ensures behind { IsTail text.now result.now }
+    ensures following { IsTail text.now result.now }
 {
     let (_, rest) = split_before(Marks::two(b'\n', b'\n'), text);
     rest
@@ -123,10 +123,10 @@ fn line_end(text: &str) -> &str
 /// What follows an identifier.
 fn after_name(text: &str) -> Option<&str>
     ensures rest { option_map (λ rest. chars rest.now) result ≡ after_name (chars text.now) }
-    ensures behind { IfSome result (λ rest. IsTail text.now rest.now) }
+    ensures following { IfSome result (λ rest. IsTail text.now rest.now) }
 {
     match split_char(text) {
-        Some((c, behind)) if is_start(c) => Some(skip_class(CharClass::Continue, behind)),
+        Some((c, following)) if is_start(c) => Some(skip_class(CharClass::Continue, following)),
         _ => None,
     }
 }
@@ -134,10 +134,10 @@ fn after_name(text: &str) -> Option<&str>
 /// What follows a hash and an identifier.
 fn after_marked(text: &str) -> Option<&str>
     ensures rest { option_map (λ rest. chars rest.now) result ≡ after_marked (chars text.now) }
-    ensures behind { IfSome result (λ rest. IsTail text.now rest.now) }
+    ensures following { IfSome result (λ rest. IsTail text.now rest.now) }
 {
     match split_char(text) {
-        Some(('#', behind)) => after_name(behind),
+        Some(('#', following)) => after_name(following),
         _ => None,
     }
 }
@@ -145,7 +145,7 @@ fn after_marked(text: &str) -> Option<&str>
 /// What follows an identifier, which may be raw.
 fn after_any_name(text: &str) -> Option<&str>
     ensures rest { option_map (λ rest. chars rest.now) result ≡ after_any_name (chars text.now) }
-    ensures behind { IfSome result (λ rest. IsTail text.now rest.now) }
+    ensures following { IfSome result (λ rest. IsTail text.now rest.now) }
 {
     if begins_raw_identifier(text) {
         return after_name(without_first(without_first(text)));
@@ -156,7 +156,7 @@ fn after_any_name(text: &str) -> Option<&str>
 /// What follows a lifetime, by what stands after its apostrophe.
 fn after_lifetime(text: &str) -> Option<&str>
     ensures rest { option_map (λ rest. chars rest.now) result ≡ after_lifetime (chars text.now) }
-    ensures behind { IfSome result (λ rest. IsTail text.now rest.now) }
+    ensures following { IfSome result (λ rest. IsTail text.now rest.now) }
 {
     let rest = after_any_name(text)?;
     match split_char(rest) {
@@ -167,9 +167,9 @@ fn after_lifetime(text: &str) -> Option<&str>
 
 /// The text without what may stand before its first token: a byte order mark, and an interpreter's
 /// line.
-pub(crate) fn without_front(text: &str) -> &str
-    ensures front { IsWithoutFront (chars text.now) (chars result.now) }
-    ensures behind { IsTail text.now result.now }
+pub(crate) fn without_preamble(text: &str) -> &str
+    ensures front { IsWithoutPreamble (chars text.now) (chars result.now) }
+    ensures following { IsTail text.now result.now }
 {
     without_line(without_mark(text))
 }
@@ -177,10 +177,10 @@ pub(crate) fn without_front(text: &str) -> &str
 /// The text without a byte order mark at its front.
 fn without_mark(text: &str) -> &str
     ensures rest { chars result.now ≡ without_mark (chars text.now) }
-    ensures behind { IsTail text.now result.now }
+    ensures following { IsTail text.now result.now }
 {
     match split_char(text) {
-        Some(('\u{feff}', behind)) => behind,
+        Some(('\u{feff}', following)) => following,
         _ => text,
     }
 }
@@ -189,16 +189,16 @@ fn without_mark(text: &str) -> &str
 /// follows.
 fn without_line(text: &str) -> &str
     ensures front { IsWithoutLine (chars text.now) (chars result.now) }
-    ensures behind { IsTail text.now result.now }
+    ensures following { IsTail text.now result.now }
 {
     let Some(second) = strip_byte(text, b'#') else {
         return text;
     };
-    let Some(behind) = strip_byte(second, b'!') else {
+    let Some(following) = strip_byte(second, b'!') else {
         return text;
     };
-    if begins_with(skip(behind), '[') {
+    if begins_with(skip(following), '[') {
         return text;
     }
-    line_end(behind)
+    line_end(following)
 }

@@ -6,7 +6,7 @@ ghost use Rattle.rl_tokens.specs.Sources.{SourceKind, SourceBefore, BeginsNoSour
 
 use crate::lex_error::LexError;
 use crate::no_token::source_error_kind;
-use crate::source::{SourceForm, first_source, without_front};
+use crate::source::{SourceForm, first_source, without_preamble};
 use crate::whitespace::skip;
 use std::marker::Model;
 
@@ -64,11 +64,11 @@ impl<'t> Sources<'t> {
     pub fn new(text: &'t str) -> Sources<'t>
         ensures text { result.text ≡ text.now }
         ensures begun { IsCutUpTo (chars text.now) [] (chars result.rest) }
-        ensures behind { IsCursorState text.now result.rest }
+        ensures following { IsCursorState text.now result.rest }
     {
         Sources {
             text,
-            rest: skip(without_front(text)),
+            rest: skip(without_preamble(text)),
         }
     }
 
@@ -92,11 +92,11 @@ impl<'t> Sources<'t> {
         ensures none { IfNone result (BeginsNoSource (chars self.old.rest)) }
         ensures stays { IfNone result (self.new ≡ self.old) }
     {
-        let (form, behind) = first_source(self.rest)?;
+        let (form, following) = first_source(self.rest)?;
         let lo = self.text.len() - self.rest.len();
-        let hi = self.text.len() - behind.len();
-        let text = &self.rest[..self.rest.len() - behind.len()];
-        self.rest = skip(behind);
+        let hi = self.text.len() - following.len();
+        let text = &self.rest[..self.rest.len() - following.len()];
+        self.rest = skip(following);
         Some(SourceToken { form, text, lo, hi })
     }
 

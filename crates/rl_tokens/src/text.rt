@@ -11,7 +11,7 @@ pub fn split_char(text: &str) -> Option<(char, &str)>
         (chars text.now ≡ []) (λ p. chars text.now ≡ p.0 ∷ chars p.1.now) }
     ensures bytes { MatchOption result
         (text.now ≡ []) (λ p. text.now ≡ encode_utf8 p.0 ++ p.1.now) }
-    ensures behind { IfSome result (λ p. IsTail text.now p.1.now) }
+    ensures following { IfSome result (λ p. IsTail text.now p.1.now) }
     ensures shorter { MatchOption result
         (length text.now ≡ 0) (λ p. length p.1.now < length text.now) }
 {
@@ -26,7 +26,7 @@ pub fn split_ascii(text: &str) -> Option<(u8, &str)>
     ensures some { IfSome result (λ p. chars text.now ≡ p.0 ∷ chars p.1.now) }
     ensures ascii { IfSome result (λ p. p.0 < 128) }
     ensures none { IfNone result (IsFalse (first_passes is_ascii (chars text.now))) }
-    ensures behind { IfSome result (λ p. IsTail text.now p.1.now) }
+    ensures following { IfSome result (λ p. IsTail text.now p.1.now) }
     ensures shorter { IfSome result (λ p. length p.1.now < length text.now) }
 {
     let bytes = text.as_bytes();
@@ -50,7 +50,7 @@ pub(crate) fn begins_with(text: &str, c: char) -> bool
 /// The text after its first character.
 pub(crate) fn without_first(text: &str) -> &str
     ensures rest { chars result.now ≡ drop 1 (chars text.now) }
-    ensures behind { IsTail text.now result.now }
+    ensures following { IsTail text.now result.now }
 {
     match split_char(text) {
         Some((_, rest)) => rest,
@@ -65,11 +65,11 @@ pub(crate) fn strip_byte(text: &str, byte: u8) -> Option<&str>
     ensures rest { MatchOption result
         (IsFalse (first_passes (λ c. c == byte) (chars text.now)))
         (λ rest. chars text.now ≡ byte ∷ chars rest.now) }
-    ensures behind { IfSome result (λ rest. IsTail text.now rest.now) }
+    ensures following { IfSome result (λ rest. IsTail text.now rest.now) }
     ensures shorter { IfSome result (λ rest. length rest.now < length text.now) }
 {
     match split_ascii(text) {
-        Some((first, behind)) if first == byte => Some(behind),
+        Some((first, following)) if first == byte => Some(following),
         _ => None,
     }
 }

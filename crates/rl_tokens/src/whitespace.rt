@@ -3,7 +3,7 @@
 ghost use Rattle.std.specs.Prelude.{◌≡◌, slice_index, option_map, IfSome, IsFalse};
 ghost use Rattle.std.specs.Str.{chars};
 ghost use Rattle.rl_tokens.specs.Texts.{is_white, first_passes, IsTail};
-ghost use Rattle.rl_tokens.specs.Trivia.{is_plain_line, is_plain_block};
+ghost use Rattle.rl_tokens.specs.Trivia.{is_comment_line, is_comment_block};
 ghost use Rattle.rl_tokens.specs.Skipping.{Skipped, OneRest};
 ghost use Rattle.rl_tokens.specs.Mirrors.SkippedAt.{after_line, after_block, after_comment};
 
@@ -19,7 +19,7 @@ use crate::text::{begins_with, split_ascii, strip_byte};
 /// # Example
 ///
 /// ```
-/// // How many bytes stand behind them: of `/* one */ two` 3.
+/// // How many bytes stand following them: of `/* one */ two` 3.
 /// format!(in alloc; "{}\n", whitespace::skip(text).len())
 /// ```
 #[inline(always)]
@@ -27,7 +27,7 @@ pub fn skip(text: &str) -> &str
     // The rest after all trivia at the front, by the characters of both.
     ensures skipped { Skipped (chars text.now) (chars result.now) }
     // The rest is a slice at the end of the text.
-    ensures behind { IsTail text.now result.now }
+    ensures following { IsTail text.now result.now }
     // There is no other rest, and to skip it once more changes nothing.
     ensures only { OneRest }
     ensures again { Skipped (chars result.now) (chars result.now) }
@@ -44,14 +44,14 @@ pub fn skip(text: &str) -> &str
 fn skip_comments(text: &str) -> &str
     requires { IsFalse (first_passes is_white (chars text.now)) }
     ensures skipped { Skipped (chars text.now) (chars result.now) }
-    ensures behind { IsTail text.now result.now }
+    ensures following { IsTail text.now result.now }
 {
     let mut rest = text;
     while let Some(inside) = strip_byte(rest, b'/') {
-        let Some(behind) = after_comment(inside) else {
+        let Some(following) = after_comment(inside) else {
             return rest;
         };
-        rest = skip_class(CharClass::White, behind);
+        rest = skip_class(CharClass::White, following);
     }
     rest
 }
@@ -61,15 +61,15 @@ fn skip_comments(text: &str) -> &str
 #[tactic(auto, using(crate::proofs::CommentBytes::wide_comment, crate::proofs::BehindLemmas::behind_step, crate::proofs::BehindLemmas::some_behind))]
 fn after_comment(text: &str) -> Option<&str>
     ensures rest { option_map (λ rest. chars rest.now) result ≡ after_comment (chars text.now) }
-    ensures behind { IfSome result (λ rest. IsTail text.now rest.now) }
+    ensures following { IfSome result (λ rest. IsTail text.now rest.now) }
 {
-    let Some((second, behind)) = split_ascii(text) else {
+    let Some((second, following)) = split_ascii(text) else {
         return None;
     };
-    if second == b'/' && is_plain_line(behind) {
-        Some(after_line(behind))
-    } else if second == b'*' && is_plain_block(behind) {
-        after_block(behind)
+    if second == b'/' && is_comment_line(following) {
+        Some(after_line(following))
+    } else if second == b'*' && is_comment_block(following) {
+        after_block(following)
     } else {
         None
     }
@@ -78,11 +78,11 @@ fn after_comment(text: &str) -> Option<&str>
 /// Whether a line comment is plain, by what stands after its `//`.
 #[inline(always)]
 #[tactic(auto, using(crate::proofs::CommentBytes::wide_line))]
-pub(crate) fn is_plain_line(body: &str) -> bool
-    ensures { result ≡ is_plain_line (chars body.now) }
+pub(crate) fn is_comment_line(body: &str) -> bool
+    ensures { result ≡ is_comment_line (chars body.now) }
 {
     match split_ascii(body) {
-        Some((first, behind)) => first != b'!' && (first != b'/' || begins_with(behind, '/')),
+        Some((first, following)) => first != b'!' && (first != b'/' || begins_with(following, '/')),
         None => true,
     }
 }
@@ -90,12 +90,12 @@ pub(crate) fn is_plain_line(body: &str) -> bool
 /// Whether a block is plain, by what stands after its `/*`.
 #[inline(always)]
 #[tactic(auto, using(crate::proofs::CommentBytes::wide_block))]
-pub(crate) fn is_plain_block(inside: &str) -> bool
-    ensures { result ≡ is_plain_block (chars inside.now) }
+pub(crate) fn is_comment_block(inside: &str) -> bool
+    ensures { result ≡ is_comment_block (chars inside.now) }
 {
     match split_ascii(inside) {
-        Some((first, behind)) => {
-            first != b'!' && (first != b'*' || begins_with(behind, '/') || begins_with(behind, '*'))
+        Some((first, following)) => {
+            first != b'!' && (first != b'*' || begins_with(following, '/') || begins_with(following, '*'))
         }
         None => true,
     }
@@ -104,10 +104,10 @@ pub(crate) fn is_plain_block(inside: &str) -> bool
 /// What follows the LF that ends a line comment; nothing where the text ends in the comment.
 fn after_line(text: &str) -> &str
     ensures rest { chars result.now ≡ after_line (chars text.now) }
-    ensures behind { IsTail text.now result.now }
+    ensures following { IsTail text.now result.now }
 {
     match next_mark(Marks::two(b'\n', b'\n'), text) {
-        Some((_, behind)) => behind,
+        Some((_, following)) => following,
         None => "",
     }
 }
@@ -117,7 +117,7 @@ fn after_line(text: &str) -> &str
 #[inline(always)]
 pub(crate) fn after_block(text: &str) -> Option<&str>
     ensures rest { option_map (λ rest. chars rest.now) result ≡ after_block 0 (chars text.now) }
-    ensures behind { IfSome result (λ rest. IsTail text.now rest.now) }
+    ensures following { IfSome result (λ rest. IsTail text.now rest.now) }
 {
     let bytes = text.as_bytes();
     let mut depth: usize = 0;

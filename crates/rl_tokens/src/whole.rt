@@ -4,7 +4,7 @@ ghost use Rattle.std.specs.Prelude.{[], IfOk, IfErr, Ok};
 ghost use Rattle.std.specs.Str.{chars};
 ghost use Rattle.rl_tokens.specs.Lexing.{Lexes};
 ghost use Rattle.rl_tokens.specs.Trees.{stream_view};
-ghost use Rattle.rl_tokens.specs.Whole.{RefusesLexing, RefusesParse, ParsesAll, RefusesAll};
+ghost use Rattle.rl_tokens.specs.Whole.{RejectsLexing, RejectsParse, ParsesAll, RejectsAll};
 
 use crate::buffer::ParseBuffer;
 use crate::error::{Error, ErrorKind};
@@ -33,7 +33,7 @@ pub fn trees_of_text<A: Allocator + Copy>(
     file: u32,
 ) -> Result<TokenStream<A>, Error<A>>
     ensures ok { IfOk result (λ s. Lexes (chars text.now) file (stream_view s)) }
-    ensures refused { IfErr result (RefusesLexing (chars text.now) file) }
+    ensures rejected { IfErr result (RejectsLexing (chars text.now) file) }
 {
     match lex(alloc, text, file) {
         Ok(stream) => Ok(stream),
@@ -51,7 +51,7 @@ fn parse_trees<T: Parse<A> + Drop, A: Allocator>(
     scope: Span,
 ) -> Result<T, Error<A>>
     ensures parsed { IfOk result (λ x. T.runs (stream_view stream.now) scope (Ok x) []) }
-    ensures refused { IfErr result (RefusesParse T.runs (stream_view stream.now) scope) }
+    ensures rejected { IfErr result (RejectsParse T.runs (stream_view stream.now) scope) }
 {
     let mut input = ParseBuffer::new(stream.trees(), scope);
     let value = T::parse(alloc, &mut input)?;
@@ -84,7 +84,7 @@ pub fn parse_all<T: Parse<A> + Drop, A: Allocator + Copy>(
     file: u32,
 ) -> Result<T, Error<A>>
     ensures parsed { IfOk result (ParsesAll T.runs text.now file) }
-    ensures refused { IfErr result (RefusesAll T.runs text.now file) }
+    ensures rejected { IfErr result (RejectsAll T.runs text.now file) }
 {
     let stream = trees_of_text(alloc, text, file)?;
     let end = Span::new(file, text.len(), text.len());

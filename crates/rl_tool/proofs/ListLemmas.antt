@@ -7,7 +7,7 @@ use Rattle.std.proofs.lemmas.Str.{chars-nil}
 use Rattle.rl_tokens.specs.Skipping.{Skipped}
 use Rattle.rl_tokens.specs.Cursors.{CursorState}
 use Rattle.rust_literals.specs.declared.lit.Lit.{Lit}
-use Rattle.rust_literals.specs.Parsing.{AreRead, RefusesText}
+use Rattle.rust_literals.specs.Parsing.{AreRead, RejectsText}
 use Rattle.rust_literals.specs.Flat.{AddsNext, AreFirst}
 use Rattle.rust_literals.proofs.FlatLemmas.{read_none, read_more, read_whole}
 use Rattle.rl_lines.specs.Lines.{IsLineOfLit, AreLinesOfLits}
@@ -16,7 +16,7 @@ use Rattle.rl_lines.proofs.ListLemmas.{lines_of_text}
 use Rattle.rl_tool.specs.declared.command.Command.TheVariants.{Read}
 use Rattle.rl_program.specs.declared.fault.Fault.{Fault}
 use Rattle.rl_program.specs.declared.fault.Fault.TheVariants.{Read as ReadFault, Write, NotText, Memory, Literal}
-use Rattle.rl_tool.specs.Runs.{Shows, TellsLiteral, IsRefusalOf}
+use Rattle.rl_tool.specs.Runs.{Shows, ReportsLiteral, IsRejectionOf}
 use Rattle.rl_tool.specs.Lists.{Lengthens, HasFirst}
 
 -- lines after lines
@@ -50,11 +50,11 @@ first_more text old new lines longer count none one same nothing has adds pushed
 -- the answer where the text is a list: its lines, or an allocation failure for them
 pub record Answers {A : Type 0} (text : List ℕ) (r : Result (String A) (Fault A)) : Type 0 where
   pub lines : IfOk r (λ lines. Shows Read (chars text) (chars (string_bytes lines)))
-  pub refusal : IfErr r (IsRefusalOf Read text)
+  pub rejection : IfErr r (IsRejectionOf Read text)
 
 pub answers : {A : Type 0} (text : List ℕ) (list : List (Lit A)) (lines : Option (String A)) (r : Result (String A) (Fault A)) → AreRead (chars text) 0 list → IfSome lines (λ l. AreLinesOfLits list (chars (string_bytes l))) → r ≡ ok_or lines Memory → Answers text r
-answers text list None r read lines is = subst (Answers text) (sym is) (record { lines = tt; refusal = (list, read) })
-answers text list (Some l) r read lines is = subst (Answers text) (sym is) (record { lines = lines_of_text (chars text) list (chars (string_bytes l)) read lines; refusal = tt })
+answers text list None r read lines is = subst (Answers text) (sym is) (record { lines = tt; rejection = (list, read) })
+answers text list (Some l) r read lines is = subst (Answers text) (sym is) (record { lines = lines_of_text (chars text) list (chars (string_bytes l)) read lines; rejection = tt })
 
 -- the first literals are all of the text
 pub first_whole : {A : Type 0} (text rest : List ℕ) (lines : Option (String A)) (count : ℕ) (r : Result (String A) (Fault A)) → HasFirst text rest lines count → rest ≡ [] → r ≡ ok_or lines Memory → Answers text r
@@ -65,7 +65,7 @@ pub are_first : {A : Type 0} (text rest : List ℕ) (lines : Option (String A)) 
 are_first text rest lines count has = record { begun = record { rest = chars rest; read = has.read }; count_is = has.count_is }
 
 -- the error of the literals after
-pub told_refusal : {A : Type 0} (text : List ℕ) (fault : Fault A) → IsUtf8 text → TellsLiteral (RefusesText (chars text) 0 (length text)) fault → IsRefusalOf Read text fault
+pub told_refusal : {A : Type 0} (text : List ℕ) (fault : Fault A) → IsUtf8 text → ReportsLiteral (RejectsText (chars text) 0 (length text)) fault → IsRejectionOf Read text fault
 told_refusal text (Literal error) utf8 h = (utf8, h)
 told_refusal text ReadFault utf8 h = absurd h
 told_refusal text Write utf8 h = absurd h

@@ -7,14 +7,14 @@ use Rattle.rl_tokens.specs.Errors.{memory_at}
 use Rattle.rl_tokens.specs.Texts.{SpannedText}
 use Rattle.rust_literals.specs.LitParts.{ReadsAsNumber}
 use Rattle.rust_literals.specs.declared.lit.Lit.{Lit}
-use Rattle.rust_literals.specs.Parsing.{AreRead, RefusesText}
+use Rattle.rust_literals.specs.Parsing.{AreRead, RejectsText}
 use Rattle.rl_tool.specs.declared.command.Command.{Command}
 use Rattle.rl_tool.specs.declared.command.Command.TheVariants.{Text, Read as ReadCommand, Attr}
 use Rattle.rl_program.specs.declared.fault.Fault.{Fault}
 use Rattle.rl_program.specs.declared.fault.Fault.TheVariants.{Read, Write, NotText, Memory, Literal}
 use Rattle.rl_lines.specs.Lines.{IsLineOf, AreLinesOfText}
 use Rattle.rl_program.specs.Streams.{AppendsBeginning}
-use Rattle.rl_attributes.specs.Attributes.{Attribute, AreAttributesOf, RefusesAttributeText}
+use Rattle.rl_attributes.specs.Attributes.{Attribute, AreAttributesOf, RejectsAttributeText}
 use Rattle.rl_lines.specs.EntryLines.{ShowsAttributes}
 
 -- what a command prints of a text
@@ -42,17 +42,17 @@ abbrev pub whole_token : List ℕ → SpannedText
 whole_token bytes = record { text = bytes; span = record { file = 0; lo = 0; hi = length bytes } }
 
 -- the error is a literal's, and this is its error
-abbrev pub TellsLiteral : {A : Type 0} → (Error A → Type 0) → Fault A → Type 0
-TellsLiteral refuses (Literal error) = refuses error
-TellsLiteral refuses _ = ⊥
+abbrev pub ReportsLiteral : {A : Type 0} → (Error A → Type 0) → Fault A → Type 0
+ReportsLiteral refuses (Literal error) = refuses error
+ReportsLiteral refuses _ = ⊥
 
 -- what the call that reads the literals rejects of a text: an allocation failure for a number's
 -- digits, or as `read_all` or `attr::read` does
-abbrev pub RefusesAsCommand : {A : Type 0} → Command → List ℕ → Error A → Type 0
-RefusesAsCommand Text bytes error =
+abbrev pub RejectsAsCommand : {A : Type 0} → Command → List ℕ → Error A → Type 0
+RejectsAsCommand Text bytes error =
     (error ≡ memory_at (whole_token bytes).span) × ReadsAsNumber (chars bytes)
-RefusesAsCommand ReadCommand bytes error = RefusesText (chars bytes) 0 (length bytes) error
-RefusesAsCommand Attr bytes error = RefusesAttributeText (chars bytes) 0 (length bytes) error
+RejectsAsCommand ReadCommand bytes error = RejectsText (chars bytes) 0 (length bytes) error
+RejectsAsCommand Attr bytes error = RejectsAttributeText (chars bytes) 0 (length bytes) error
 
 -- where memory may be wanted that is no literal's: under `text` for the token or its line, under
 -- `read` and `attr` for the lines alone, after literals or attributes that were read
@@ -63,20 +63,20 @@ MayWantMemory A Attr bytes = (list : List Attribute) × AreAttributesOf (chars b
 
 -- why the whole input was rejected: it is no text, its literals were rejected, an allocation failed,
 -- elsewhere
-abbrev pub IsRefusalOf : {A : Type 0} → Command → List ℕ → Fault A → Type 0
-IsRefusalOf command bytes NotText = IsUtf8 bytes → ⊥
-IsRefusalOf command bytes (Literal error) = IsUtf8 bytes × RefusesAsCommand command bytes error
-IsRefusalOf {A} command bytes Memory = MayWantMemory A command bytes
-IsRefusalOf command bytes Read = ⊥
-IsRefusalOf command bytes Write = ⊥
+abbrev pub IsRejectionOf : {A : Type 0} → Command → List ℕ → Fault A → Type 0
+IsRejectionOf command bytes NotText = IsUtf8 bytes → ⊥
+IsRejectionOf command bytes (Literal error) = IsUtf8 bytes × RejectsAsCommand command bytes error
+IsRejectionOf {A} command bytes Memory = MayWantMemory A command bytes
+IsRejectionOf command bytes Read = ⊥
+IsRejectionOf command bytes Write = ⊥
 
 -- why a run failed, and what it wrote: nothing, but where a write failed
-abbrev pub IsFaultOf : {A : Type 0} → Command → Option (List ℕ) → Option (List ℕ) → Option (List ℕ)
+abbrev pub IsErrorOf : {A : Type 0} → Command → Option (List ℕ) → Option (List ℕ) → Option (List ℕ)
     → Fault A → Type 0
-IsFaultOf command input old new Read = Keeps old new
-IsFaultOf command input old new Write =
+IsErrorOf command input old new Read = Keeps old new
+IsErrorOf command input old new Write =
     IfSome input (λ bytes. PrintsBeginning command bytes old new)
-IsFaultOf command input old new NotText = Keeps old new × IfSome input (λ bytes. IsUtf8 bytes → ⊥)
-IsFaultOf command input old new Memory = Keeps old new
-IsFaultOf command input old new (Literal error) =
-    Keeps old new × IfSome input (λ bytes. IsRefusalOf command bytes (Literal error))
+IsErrorOf command input old new NotText = Keeps old new × IfSome input (λ bytes. IsUtf8 bytes → ⊥)
+IsErrorOf command input old new Memory = Keeps old new
+IsErrorOf command input old new (Literal error) =
+    Keeps old new × IfSome input (λ bytes. IsRejectionOf command bytes (Literal error))

@@ -3,7 +3,7 @@
 ghost use Rattle.std.specs.Prelude.{IfOk, IfErr, string_bytes};
 ghost use Rattle.std.specs.Str.{chars};
 ghost use Rattle.rl_tool.specs.declared.command.Command.TheVariants.{Attr};
-ghost use Rattle.rl_tool.specs.Runs.{Shows, IsRefusalOf};
+ghost use Rattle.rl_tool.specs.Runs.{Shows, IsRejectionOf};
 
 use crate::attr::read;
 use rl_lines::entry_lines;
@@ -14,7 +14,7 @@ use std::alloc::Allocator;
 pub fn attribute_lines<A: Allocator + Copy>(alloc: A, text: &str) -> Result<String<A>, Fault<A>>
     ensures lines { IfOk result
         (λ lines. Shows Attr (chars text.now) (chars (string_bytes lines))) }
-    ensures refusal { IfErr result (IsRefusalOf Attr text.now) }
+    ensures rejection { IfErr result (IsRejectionOf Attr text.now) }
 {
     let attrs = match read(alloc, text, 0) {
         Ok(attrs) => attrs,

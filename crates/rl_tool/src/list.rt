@@ -3,10 +3,10 @@
 ghost use Rattle.std.specs.Prelude.{List, ◌++◌, length, IfErr, IfOk, IfSome, string_bytes};
 ghost use Rattle.std.specs.Str.{chars};
 ghost use Rattle.rust_literals.specs.declared.lit.Lit.{Lit};
-ghost use Rattle.rust_literals.specs.Parsing.{AreRead, RefusesText};
+ghost use Rattle.rust_literals.specs.Parsing.{AreRead, RejectsText};
 ghost use Rattle.rust_literals.specs.Flat.{AreFirst};
 ghost use Rattle.rl_tool.specs.declared.command.Command.TheVariants.{Read};
-ghost use Rattle.rl_tool.specs.Runs.{Shows, TellsLiteral, IsRefusalOf};
+ghost use Rattle.rl_tool.specs.Runs.{Shows, ReportsLiteral, IsRejectionOf};
 ghost use Rattle.rl_tool.specs.Lists.{Lengthens, AreFirstLines};
 
 use rl_lines::push_literals;
@@ -74,8 +74,8 @@ fn literals_behind<A: Allocator + Copy>(
 ) -> Result<Vec<Lit<A>, A>, Fault<A>>
     ensures read { (first : List (Lit A)) → AreFirst (chars text.now) 0 count first
         → IfOk result (λ more. AreRead (chars text.now) 0 (first ++ more.items)) }
-    ensures refusal { (first : List (Lit A)) → AreFirst (chars text.now) 0 count first
-        → IfErr result (TellsLiteral (RefusesText (chars text.now) 0 (length text.now))) }
+    ensures rejection { (first : List (Lit A)) → AreFirst (chars text.now) 0 count first
+        → IfErr result (ReportsLiteral (RejectsText (chars text.now) 0 (length text.now))) }
 {
     match read_behind(alloc, text, 0, count) {
         Ok(literals) => Ok(literals),
@@ -87,7 +87,7 @@ fn literals_behind<A: Allocator + Copy>(
 pub fn literal_lines<A: Allocator + Copy>(alloc: A, text: &str) -> Result<String<A>, Fault<A>>
     ensures lines { IfOk result
         (λ lines. Shows Read (chars text.now) (chars (string_bytes lines))) }
-    ensures refusal { IfErr result (IsRefusalOf Read text.now) }
+    ensures rejection { IfErr result (IsRejectionOf Read text.now) }
 {
     let FirstLines {
         lines,

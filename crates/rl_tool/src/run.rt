@@ -6,7 +6,7 @@ ghost use Rattle.rl_tool.specs.declared.command.Command.TheVariants.{Text};
 ghost use Rattle.rl_tokens.specs.Errors.{memory_at};
 ghost use Rattle.rust_literals.specs.Literals.{IsReadFrom};
 ghost use Rattle.rust_literals.specs.LitParts.{ReadsAsNumber};
-ghost use Rattle.rl_tool.specs.Runs.{whole_token, Shows, Prints, TellsLiteral, IsFaultOf, IsRefusalOf};
+ghost use Rattle.rl_tool.specs.Runs.{whole_token, Shows, Prints, ReportsLiteral, IsErrorOf, IsRejectionOf};
 
 use crate::attribute_lines::attribute_lines;
 use crate::command::Command;
@@ -22,7 +22,7 @@ use std::io::{Read, Write};
 fn token_of<A: Allocator + Copy>(alloc: A, bytes: Vec<u8, A>) -> Result<Literal<A>, Fault<A>>
     ensures utf8 { OnOk result (IsUtf8 bytes.items) }
     ensures token { IfOk result (λ token. token ≡ whole_token bytes.items) }
-    ensures refusal { IfErr result (IsRefusalOf Text bytes.items) }
+    ensures rejection { IfErr result (IsRejectionOf Text bytes.items) }
 {
     let text = text_of(bytes.as_slice())?;
     let span = Span::new(0, 0, text.len());
@@ -35,8 +35,8 @@ fn token_of<A: Allocator + Copy>(alloc: A, bytes: Vec<u8, A>) -> Result<Literal<
 /// The literal that a token is. An allocation failure is the literal's.
 fn literal_of<A: Allocator + Copy>(alloc: A, token: Literal<A>) -> Result<Lit<A>, Fault<A>>
     ensures reads { IfOk result (IsReadFrom token) }
-    ensures refusal { IfErr result
-        (TellsLiteral (λ e. (e ≡ memory_at token.span) × ReadsAsNumber (chars token.text))) }
+    ensures rejection { IfErr result
+        (ReportsLiteral (λ e. (e ≡ memory_at token.span) × ReadsAsNumber (chars token.text))) }
 {
     match Lit::new(alloc, token) {
         Ok(literal) => Ok(literal),
@@ -49,7 +49,7 @@ fn literal_line<A: Allocator + Copy>(alloc: A, bytes: Vec<u8, A>) -> Result<Stri
     ensures utf8 { OnOk result (IsUtf8 bytes.items) }
     ensures line { IfOk result
         (λ line. Shows Text (chars bytes.items) (chars (string_bytes line))) }
-    ensures refusal { IfErr result (IsRefusalOf Text bytes.items) }
+    ensures rejection { IfErr result (IsRejectionOf Text bytes.items) }
 {
     let token = token_of(alloc, bytes)?;
     let literal = literal_of(alloc, token)?;
@@ -66,7 +66,7 @@ fn lines_of_input<A: Allocator + Copy>(
     ensures utf8 { OnOk result (IsUtf8 bytes.items) }
     ensures lines { IfOk result
         (λ lines. Shows command (chars bytes.items) (chars (string_bytes lines))) }
-    ensures refusal { IfErr result (IsRefusalOf command bytes.items) }
+    ensures rejection { IfErr result (IsRejectionOf command bytes.items) }
 {
     match command {
         Command::Text => literal_line(alloc, bytes),
@@ -91,7 +91,7 @@ pub fn run<A: Allocator + Copy, R: Read, W: Write>(
     ensures printed { OnOk result (IfSome (R.remaining input.old)
         (λ bytes. Prints command bytes (W.contents out.old) (W.contents out.new))) }
     ensures fault { IfErr result
-        (IsFaultOf command (R.remaining input.old) (W.contents out.old) (W.contents out.new)) }
+        (IsErrorOf command (R.remaining input.old) (W.contents out.old) (W.contents out.new)) }
 {
     let bytes = read_whole(alloc, input)?;
     let lines = match lines_of_input(alloc, command, bytes) {

@@ -2,7 +2,7 @@
 
 mod attributes;
 mod failing;
-mod refused;
+mod rejected;
 
 use crate::command::Command;
 use crate::ending::{Ending, call};

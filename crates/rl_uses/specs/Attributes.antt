@@ -7,64 +7,64 @@ use Rattle.rl_tokens.specs.declared.error.Error.{Error}
 use Rattle.rl_tokens.specs.Errors.{memory_at}
 use Rattle.rl_tokens.specs.Texts.{SpannedText}
 use Rattle.rl_tokens.specs.Trees.{Tree, IdentTree}
-use Rattle.rl_tokens.specs.Buffers.{begins_ident, begins_mark, IsBehindMark, IsRefusal}
+use Rattle.rl_tokens.specs.Buffers.{begins_ident, begins_mark, IsAfterMark, IsRejection}
 use Rattle.rl_grammar.specs.Fronts.{IsFrontOf, RunsAs}
 use Rattle.rl_uses.specs.declared.attribute.Attribute.{Attribute}
 
 -- The character `=` and a string literal begin the trees, and the rest stands after them.
 pub record IsAttributeValue (trees : List Tree) (value : SpannedText) (rest : List Tree)
     : Type 0 where
-  pub behind : List Tree
-  pub equals : IsBehindMark (code "=") trees behind
-  pub string : IsFrontOf Str behind value rest
+  pub following : List Tree
+  pub equals : IsAfterMark (code "=") trees following
+  pub string : IsFrontOf Str following value rest
 
 -- No `=` begins the trees.
 pub record MissesValueEquals {A : Type 0} (trees : List Tree) (scope : Span) (e : Error A)
     : Type 0 where
   pub none : IsFalse (begins_mark (code "=") trees)
-  pub refusal : IsRefusal trees scope (codes "`=`") e
+  pub rejection : IsRejection trees scope (codes "`=`") e
 
 -- The parser of string literals rejects what stands after the `=`.
 pub record MissesString {A : Type 0} (trees : List Tree) (scope : Span) (e : Error A) : Type 0 where
-  pub behind : List Tree
+  pub following : List Tree
   pub after : List Tree
-  pub equals : IsBehindMark (code "=") trees behind
-  pub refused : RunsAs Str (codes "string literal") behind scope (Err e) after
+  pub equals : IsAfterMark (code "=") trees following
+  pub rejected : RunsAs Str (codes "string literal") following scope (Err e) after
 
 -- No `=` and string literal begin the trees.
-pub record RefusesValue {A : Type 0} (trees : List Tree) (scope : Span) (e : Error A) : Type 0 where
+pub record RejectsValue {A : Type 0} (trees : List Tree) (scope : Span) (e : Error A) : Type 0 where
   pub why : MissesValueEquals trees scope e ⊎ MissesString trees scope e
 
 -- An identifier, the character `=` and a string literal begin the trees, and the rest stands after
 -- them.
 pub record IsStringAttribute (trees : List Tree) (name value : SpannedText) (rest : List Tree)
     : Type 0 where
-  pub behind : List Tree
-  pub named : trees ≡ IdentTree name ∷ behind
-  pub set : IsAttributeValue behind value rest
+  pub following : List Tree
+  pub named : trees ≡ IdentTree name ∷ following
+  pub set : IsAttributeValue following value rest
 
 -- No identifier begins the trees.
 pub record MissesAttributeName {A : Type 0} (trees : List Tree) (scope : Span) (e : Error A)
     : Type 0 where
   pub none : IsFalse (begins_ident trees)
-  pub refusal : IsRefusal trees scope (codes "identifier") e
+  pub rejection : IsRejection trees scope (codes "identifier") e
 
 -- An identifier begins the trees, and an allocation failed for it.
 pub record LacksMemoryForIdentifier {A : Type 0} (trees : List Tree) (e : Error A) : Type 0 where
   pub name : SpannedText
-  pub behind : List Tree
-  pub named : trees ≡ IdentTree name ∷ behind
+  pub following : List Tree
+  pub named : trees ≡ IdentTree name ∷ following
   pub error : e ≡ memory_at name.span
 
 -- An identifier begins the trees, and no value stands after it.
 pub record MissesValue {A : Type 0} (trees : List Tree) (scope : Span) (e : Error A) : Type 0 where
   pub name : SpannedText
-  pub behind : List Tree
-  pub named : trees ≡ IdentTree name ∷ behind
-  pub refused : RefusesValue behind scope e
+  pub following : List Tree
+  pub named : trees ≡ IdentTree name ∷ following
+  pub rejected : RejectsValue following scope e
 
 -- No attribute begins the trees: the first part that is missed, or an allocation failure.
-pub record RefusesAttribute {A : Type 0} (trees : List Tree) (scope : Span) (e : Error A)
+pub record RejectsAttribute {A : Type 0} (trees : List Tree) (scope : Span) (e : Error A)
     : Type 0 where
   pub why : MissesAttributeName trees scope e ⊎ LacksMemoryForIdentifier trees e
       ⊎ MissesValue trees scope e
@@ -74,4 +74,4 @@ abbrev pub RunsAttribute : {A : Type 0} → List Tree → Span → Result (Attri
     → List Tree → Type 0
 RunsAttribute trees scope (Ok attribute) rest =
     IsStringAttribute trees attribute.name attribute.value rest
-RunsAttribute trees scope (Err e) rest = RefusesAttribute trees scope e × (rest ≡ trees)
+RunsAttribute trees scope (Err e) rest = RejectsAttribute trees scope e × (rest ≡ trees)

@@ -12,19 +12,19 @@ use Rattle.rust_literals.specs.declared.lit.Lit.TheVariants.{Str}
 use Rattle.rust_literals.specs.LitParts.{lit_span}
 
 -- The answer tells whether the string's value has a control character.
-abbrev pub TellsControl : SpannedText → Bool → Type 0
-TellsControl string answer =
+abbrev pub ReportsControl : SpannedText → Bool → Type 0
+ReportsControl string answer =
     (value : List ℕ) × HasContents StrKind (chars string.text) (Characters value)
     × (answer ≡ list_any is_control value)
 
 -- The answer tells whether the literal is a string whose value has a control character.
-abbrev pub TellsFault : {A : Type 0} → Lit A → Bool → Type 0
-TellsFault (Str string) answer = TellsControl string answer
-TellsFault other answer = answer ≡ false
+abbrev pub ReportsError : {A : Type 0} → Lit A → Bool → Type 0
+ReportsError (Str string) answer = ReportsControl string answer
+ReportsError other answer = answer ≡ false
 
 -- The spans are those of the literals that are such strings, in order.
-abbrev pub AreFaults : {A : Type 0} → List (Lit A) → List Span → Type 0
-AreFaults [] spans = spans ≡ []
-AreFaults (l ∷ ls) spans =
-    (TellsFault l false × AreFaults ls spans)
-    ⊎ ((rest : List Span) × TellsFault l true × (spans ≡ lit_span l ∷ rest) × AreFaults ls rest)
+abbrev pub AreErrors : {A : Type 0} → List (Lit A) → List Span → Type 0
+AreErrors [] spans = spans ≡ []
+AreErrors (l ∷ ls) spans =
+    (ReportsError l false × AreErrors ls spans)
+    ⊎ ((rest : List Span) × ReportsError l true × (spans ≡ lit_span l ∷ rest) × AreErrors ls rest)

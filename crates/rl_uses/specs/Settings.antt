@@ -7,8 +7,8 @@ use Rattle.rl_tokens.specs.Texts.{SpannedText}
 use Rattle.rl_tokens.specs.Trees.{Tree}
 use Rattle.rl_tokens.specs.Lexing.{Lexes}
 use Rattle.rl_grammar.specs.Fronts.{IsFrontOf, RunsAs}
-use Rattle.rl_tokens.specs.Whole.{RefusesAll}
-use Rattle.rust_literals.specs.Base10.{AreBase10Digits, IsMadeOf, IsRefusedBy}
+use Rattle.rl_tokens.specs.Whole.{RejectsAll}
+use Rattle.rust_literals.specs.Base10.{AreBase10Digits, IsMadeOf, IsRejectedBy}
 
 -- The text is cut into the trees of one integer literal, and nothing else.
 pub record IsOneInt (text : List ℕ) (file : ℕ) (literal : SpannedText) : Type 0 where
@@ -25,15 +25,15 @@ pub record IsSetTo {N E : Type 0} (gives : List ℕ → Result N E → Type 0) (
 
 -- The text is one integer literal, and the number type rejects its digits: this is reported at the
 -- literal.
-pub record RefusesDigits {N E A : Type 0} (gives : List ℕ → Result N E → Type 0)
+pub record RejectsDigits {N E A : Type 0} (gives : List ℕ → Result N E → Type 0)
     (output : E → Option (List ℕ)) (text : List ℕ) (file : ℕ) (e : Error A) : Type 0 where
   pub literal : SpannedText
   pub one : IsOneInt text file literal
-  pub refused : IsRefusedBy gives output (AreBase10Digits Int literal.text) literal.span e
+  pub rejected : IsRejectedBy gives output (AreBase10Digits Int literal.text) literal.span e
 
 -- the text isn't one integer literal, or the number type rejects it
-abbrev pub RefusesSetting : {N E A : Type 0} → (List ℕ → Result N E → Type 0)
+abbrev pub RejectsSetting : {N E A : Type 0} → (List ℕ → Result N E → Type 0)
     → (E → Option (List ℕ)) → List ℕ → ℕ → Error A → Type 0
-RefusesSetting gives output text file e =
-    RefusesAll (RunsAs Int (codes "integer literal")) text file e
-    ⊎ RefusesDigits gives output text file e
+RejectsSetting gives output text file e =
+    RejectsAll (RunsAs Int (codes "integer literal")) text file e
+    ⊎ RejectsDigits gives output text file e

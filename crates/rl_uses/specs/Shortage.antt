@@ -5,7 +5,7 @@ use Rattle.rl_tokens.specs.declared.error.Error.{Error}
 use Rattle.rl_tokens.specs.Errors.{memory_at}
 use Rattle.rust_literals.specs.declared.lit.Lit.{Lit}
 use Rattle.rust_literals.specs.LitParts.{lit_span}
-use Rattle.rust_literals.specs.Parsing.{AreRead, RefusesText}
+use Rattle.rust_literals.specs.Parsing.{AreRead, RejectsText}
 
 -- an allocation failed, and this is reported at one of the literals
 abbrev pub IsShortOf : {A B : Type 0} → List (Lit A) → Error B → Type 0
@@ -19,6 +19,6 @@ pub record LacksMemoryForLiteral {A : Type 0} (text : List ℕ) (file : ℕ) (e 
   pub short : IsShortOf list e
 
 -- the error of `read_all`, or an allocation failure after it
-abbrev pub RefusesTextOrMemory : {A : Type 0} → List ℕ → ℕ → Error A → Type 0
-RefusesTextOrMemory text file e =
-    RefusesText (chars text) file (length text) e ⊎ LacksMemoryForLiteral text file e
+abbrev pub RejectsTextOrMemory : {A : Type 0} → List ℕ → ℕ → Error A → Type 0
+RejectsTextOrMemory text file e =
+    RejectsText (chars text) file (length text) e ⊎ LacksMemoryForLiteral text file e

@@ -2,8 +2,8 @@
 
 ghost use Rattle.std.specs.Prelude.{◌≡◌, IfOk, IfErr};
 ghost use Rattle.rl_tokens.specs.Buffers.{trees_in, scope_of, IsRest, StaysRest};
-ghost use Rattle.rl_uses.specs.Attributes.{IsAttributeValue, RefusesValue, IsStringAttribute, RefusesAttribute, RunsAttribute};
-ghost use Rattle.rl_tokens.specs.Whole.{ParsesAll, RefusesAll};
+ghost use Rattle.rl_uses.specs.Attributes.{IsAttributeValue, RejectsValue, IsStringAttribute, RejectsAttribute, RunsAttribute};
+ghost use Rattle.rl_tokens.specs.Whole.{ParsesAll, RejectsAll};
 
 use rl_quoted::LitStr;
 use rl_tokens::{Error, Ident, Parse, ParseBuffer, attempt, parse_all};
@@ -24,7 +24,7 @@ fn parse_value<A: Allocator>(
     input: &mut ParseBuffer<'_, A>,
 ) -> Result<LitStr<A>, Error<A>>
     ensures ok { IfOk result (λ v. IsAttributeValue (trees_in input.old) v (trees_in input.new)) }
-    ensures refused { IfErr result (RefusesValue (trees_in input.old) (scope_of input.old)) }
+    ensures rejected { IfErr result (RejectsValue (trees_in input.old) (scope_of input.old)) }
     ensures onward { StaysRest (trees_in input.old) (trees_in input.new) }
     ensures scope { scope_of input.new ≡ scope_of input.old }
 {
@@ -39,7 +39,7 @@ fn parse_attribute<A: Allocator + Copy>(
 ) -> Result<Attribute<A>, Error<A>>
     ensures ok { IfOk result
         (λ a. IsStringAttribute (trees_in input.old) a.name a.value (trees_in input.new)) }
-    ensures refused { IfErr result (RefusesAttribute (trees_in input.old) (scope_of input.old)) }
+    ensures rejected { IfErr result (RejectsAttribute (trees_in input.old) (scope_of input.old)) }
     ensures rest { IsRest (trees_in input.old) (trees_in input.new) }
     ensures scope { scope_of input.new ≡ scope_of input.old }
 {
@@ -76,7 +76,7 @@ pub fn read_attribute<A: Allocator + Copy>(
     file: u32,
 ) -> Result<Attribute<A>, Error<A>>
     ensures read { IfOk result (ParsesAll RunsAttribute text.now file) }
-    ensures refused { IfErr result (RefusesAll RunsAttribute text.now file) }
+    ensures rejected { IfErr result (RejectsAll RunsAttribute text.now file) }
 {
     parse_all::<Attribute<A>, A>(alloc, text, file)
 }

@@ -4,7 +4,7 @@ ghost use Rattle.std.specs.Prelude.{List, IfOk, IfErr};
 ghost use Rattle.std.specs.Str.{chars};
 ghost use Rattle.rust_literals.specs.declared.lit.Lit.{Lit};
 ghost use Rattle.rust_literals.specs.Parsing.{AreRead};
-ghost use Rattle.rl_uses.specs.Shortage.{IsShortOf, RefusesTextOrMemory};
+ghost use Rattle.rl_uses.specs.Shortage.{IsShortOf, RejectsTextOrMemory};
 ghost use Rattle.rl_uses.specs.Counts.{AreCounts};
 
 use rl_tokens::Error;
@@ -49,7 +49,7 @@ pub fn count_literals<A: Allocator + Copy>(
         × AreRead (chars text.now) file list × AreCounts list counts) }
     // What `read_all` rejects of the text, or an allocation failed for one of its literals, which the
     // error is reported at.
-    ensures refused { IfErr result (RefusesTextOrMemory text.now file) }
+    ensures rejected { IfErr result (RejectsTextOrMemory text.now file) }
 {
     tally(alloc, read_all(alloc, text, file)?)
 }

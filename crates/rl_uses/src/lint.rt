@@ -8,8 +8,8 @@ ghost use Rattle.rl_tokens.specs.Errors.{memory_at};
 ghost use Rattle.rust_literals.specs.declared.lit.Lit.{Lit};
 ghost use Rattle.rust_literals.specs.Parsing.{AreRead};
 ghost use Rattle.rust_literals.specs.LitParts.{lit_span};
-ghost use Rattle.rl_uses.specs.Shortage.{IsShortOf, RefusesTextOrMemory};
-ghost use Rattle.rl_uses.specs.Lints.{TellsControl, TellsFault, AreFaults};
+ghost use Rattle.rl_uses.specs.Shortage.{IsShortOf, RejectsTextOrMemory};
+ghost use Rattle.rl_uses.specs.Lints.{ReportsControl, ReportsError, AreErrors};
 
 use rl_tokens::{Error, Span};
 use rust_literals::{Lit, LitStr, read_all};
@@ -24,7 +24,7 @@ fn holds_control(text: &str) -> bool
 
 /// Whether the string's value has a control character.
 fn has_control<A: Allocator + Copy>(alloc: A, string: &LitStr<A>) -> Result<bool, Error<A>>
-    ensures tells { IfOk result (TellsControl string.now) }
+    ensures tells { IfOk result (ReportsControl string.now) }
     ensures memory { IfErr result (λ e. e ≡ memory_at string.now.span) }
 {
     if let Some(value) = string.value_ref() {
@@ -36,7 +36,7 @@ fn has_control<A: Allocator + Copy>(alloc: A, string: &LitStr<A>) -> Result<bool
 
 /// Whether the literal is a string whose value has a control character.
 fn is_fault<A: Allocator + Copy>(alloc: A, literal: &Lit<A>) -> Result<bool, Error<A>>
-    ensures tells { IfOk result (TellsFault literal.now) }
+    ensures tells { IfOk result (ReportsError literal.now) }
     ensures memory { IfErr result (λ e. e ≡ memory_at (lit_span literal.now)) }
 {
     match literal {
@@ -47,7 +47,7 @@ fn is_fault<A: Allocator + Copy>(alloc: A, literal: &Lit<A>) -> Result<bool, Err
 
 /// The spans of the literals that are strings with control characters.
 fn faults<A: Allocator + Copy>(alloc: A, literals: &[Lit<A>]) -> Result<Vec<Span, A>, Error<A>>
-    ensures found { IfOk result (λ spans. AreFaults literals.now spans.items) }
+    ensures found { IfOk result (λ spans. AreErrors literals.now spans.items) }
     ensures memory { IfErr result (IsShortOf literals.now) }
 {
     let mut spans = Vec::new(alloc);
@@ -76,10 +76,10 @@ pub fn control_strings<A: Allocator + Copy>(
 ) -> Result<Vec<Span, A>, Error<A>>
     // The text reads as literals, and these are the spans of the strings with control characters among them.
     ensures found { IfOk result (λ spans. (list : List (Lit A))
-        × AreRead (chars text.now) file list × AreFaults list spans.items) }
+        × AreRead (chars text.now) file list × AreErrors list spans.items) }
     // What `read_all` rejects of the text, or an allocation failed for one of its literals, which the
     // error is reported at.
-    ensures refused { IfErr result (RefusesTextOrMemory text.now file) }
+    ensures rejected { IfErr result (RejectsTextOrMemory text.now file) }
 {
     let literals = read_all(alloc, text, file)?;
     faults(alloc, literals.as_slice())

@@ -3,8 +3,8 @@
 ghost use Rattle.std.specs.Prelude.{◌≡◌, ◌∷◌, [], ◌<◌, length, OnOk, OnErr, IfOk, IfErr, codes};
 ghost use Rattle.rl_tokens.specs.declared.token.Delimiter.TheVariants.{Bracket};
 ghost use Rattle.rl_tokens.specs.Trees.{GroupTree, inside_of, stream_of, stream_view, group_span};
-ghost use Rattle.rl_tokens.specs.Buffers.{trees_in, scope_of, IsRest, IsRefusal};
-ghost use Rattle.rl_uses.specs.Lists.{IsListed, RefusesListed, Lists, RefusesItems, HasNoList, IsList, RefusesList};
+ghost use Rattle.rl_tokens.specs.Buffers.{trees_in, scope_of, IsRest, IsRejection};
+ghost use Rattle.rl_uses.specs.Lists.{IsListed, RejectsListed, Lists, RejectsItems, HasNoList, IsList, RejectsList};
 
 use rl_quoted::LitStr;
 use rl_tokens::{Delimiter, Error, Group, Parse, ParseBuffer, attempt};
@@ -53,7 +53,7 @@ fn parse_listed<A: Allocator + Copy>(
     input: &mut ParseBuffer<'_, A>,
 ) -> Result<Item<A>, Error<A>>
     ensures ok { IfOk result (λ x. IsListed (trees_in input.old) x (trees_in input.new)) }
-    ensures refused { IfErr result (RefusesListed (trees_in input.old) (scope_of input.old)) }
+    ensures rejected { IfErr result (RejectsListed (trees_in input.old) (scope_of input.old)) }
     ensures shorter { OnOk result (length (trees_in input.new) < length (trees_in input.old)) }
     ensures scope { scope_of input.new ≡ scope_of input.old }
 {
@@ -71,7 +71,7 @@ fn parse_items<A: Allocator + Copy>(
     input: &mut ParseBuffer<'_, A>,
 ) -> Result<Vec<Item<A>, A>, Error<A>>
     ensures ok { IfOk result (λ items. Lists (trees_in input.old) items.items []) }
-    ensures refused { IfErr result (RefusesItems (trees_in input.old) (scope_of input.old)) }
+    ensures rejected { IfErr result (RejectsItems (trees_in input.old) (scope_of input.old)) }
 {
     let mut items = Vec::new(alloc);
     while !input.is_empty() {
@@ -91,8 +91,8 @@ fn take_brackets<'a, A: Allocator>(input: &mut ParseBuffer<'a, A>) -> Result<&'a
         ≡ GroupTree Bracket (inside_of (stream_view (stream_of g.now))) (group_span g.now)
         ∷ trees_in input.new) }
     ensures none { OnErr result (HasNoList (trees_in input.old)) }
-    ensures refused { IfErr result
-        (IsRefusal (trees_in input.old) (scope_of input.old) (codes "square brackets")) }
+    ensures rejected { IfErr result
+        (IsRejection (trees_in input.old) (scope_of input.old) (codes "square brackets")) }
     ensures left { OnErr result (trees_in input.new ≡ trees_in input.old) }
     ensures rest { IsRest (trees_in input.old) (trees_in input.new) }
     ensures scope { scope_of input.new ≡ scope_of input.old }
@@ -114,7 +114,7 @@ fn parse_list<A: Allocator + Copy>(
 ) -> Result<ItemList<A>, Error<A>>
     ensures ok { IfOk result
         (λ list. IsList (trees_in input.old) list.items.items (trees_in input.new)) }
-    ensures refused { IfErr result (RefusesList (trees_in input.old) (scope_of input.old)) }
+    ensures rejected { IfErr result (RejectsList (trees_in input.old) (scope_of input.old)) }
     ensures rest { IsRest (trees_in input.old) (trees_in input.new) }
     ensures scope { scope_of input.new ≡ scope_of input.old }
 {

@@ -7,7 +7,7 @@ ghost use Rattle.rl_tokens.specs.Errors.{memory_at};
 ghost use Rattle.rust_literals.specs.declared.lit.Lit.{Lit};
 ghost use Rattle.rust_literals.specs.Parsing.{AreRead};
 ghost use Rattle.rust_literals.specs.LitParts.{lit_span};
-ghost use Rattle.rl_uses.specs.Shortage.{IsShortOf, RefusesTextOrMemory};
+ghost use Rattle.rl_uses.specs.Shortage.{IsShortOf, RejectsTextOrMemory};
 ghost use Rattle.rl_uses.specs.Rewrites.{IsQuotedRewrite, IsWrittenOf, IsRewrite, PrintsLine, AreLines};
 
 use rl_tokens::Error;
@@ -181,7 +181,7 @@ pub fn format<A: Allocator + Copy>(alloc: A, text: &str, file: u32) -> Result<St
         × AreRead (chars text.now) file list × AreLines list (string_bytes printed)) }
     // What `read_all` rejects of the text, or an allocation failed for one of its literals, which the
     // error is reported at.
-    ensures refused { IfErr result (RefusesTextOrMemory text.now file) }
+    ensures rejected { IfErr result (RejectsTextOrMemory text.now file) }
 {
     let literals = read_all(alloc, text, file)?;
     lines(alloc, literals.as_slice())

@@ -1,7 +1,7 @@
 //! A number that is set by a text, as in a configuration.
 
 ghost use Rattle.std.specs.Prelude.{IfOk, IfErr};
-ghost use Rattle.rl_uses.specs.Settings.{IsSetTo, RefusesSetting};
+ghost use Rattle.rl_uses.specs.Settings.{IsSetTo, RejectsSetting};
 
 use rl_tokens::{Error, parse_all};
 use rust_literals::LitInt;
@@ -25,7 +25,7 @@ pub fn read_number<N: FromStr, A: Allocator + Copy>(
 where
     N::Err: Display + Drop,
     ensures read { IfOk result (IsSetTo N.from_str_gives text.now file) }
-    ensures refused { IfErr result (RefusesSetting N.from_str_gives N.Err.output text.now file) }
+    ensures rejected { IfErr result (RejectsSetting N.from_str_gives N.Err.output text.now file) }
 {
     parse_all::<LitInt<A>, A>(alloc, text, file)?.base10_parse(alloc)
 }

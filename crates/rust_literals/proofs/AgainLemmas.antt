@@ -104,8 +104,8 @@ front_cut trees lit rest cut h = go trees cut h.front
 leads_cut : {A : Type 0} (trees : List Tree) (lits : List (Lit A)) → AllByRecursion IsCutTree trees → ReadsLiterals trees lits [] → AllByRecursion IsCutLit lits
 leads_cut trees [] cut leads = tt
 leads_cut trees (l ∷ ls) cut (after, front, leads) =
-    let (first, behind) = front_cut trees l after cut front in
-    (first, leads_cut after ls behind leads)
+    let (first, following) = front_cut trees l after cut front in
+    (first, leads_cut after ls following leads)
 
 -- The items of literals, each with its gap.
 entries_of : {A : Type 0} (spaced : List (Spaced A)) → AllByRecursion IsCutLit (lits_of spaced) → List Entry

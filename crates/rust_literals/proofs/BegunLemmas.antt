@@ -13,7 +13,7 @@ use Rattle.rust_literals.specs.Parsing.{ReadsLiterals}
 use Rattle.rust_literals.specs.Flat.{IsNoGroup, AreBegun}
 
 -- trees that begin with tokens, seen flat, begin with their trees
-front_trees : (front trees : List Tree) (more : List FlatToken) → AllByRecursion IsNoGroup front → flat_trees trees ≡ flat_trees front ++ more → (behind : List Tree) × (trees ≡ front ++ behind)
+front_trees : (front trees : List Tree) (more : List FlatToken) → AllByRecursion IsNoGroup front → flat_trees trees ≡ flat_trees front ++ more → (following : List Tree) × (trees ≡ front ++ following)
 front_trees [] trees more h e = (trees, refl)
 front_trees (GroupTree d inside span ∷ front) trees more (none, h) e = absurd none
 front_trees (IdentTree i ∷ front) (IdentTree j ∷ trees) more (_, h) e =
@@ -34,14 +34,14 @@ front_trees (LiteralTree i ∷ front) (LiteralTree j ∷ trees) more (_, h) e =
 front_trees (tree ∷ front) trees more h e = absurd (cc)
 
 -- The trees of a text that begins with these literals go on after theirs.
-pub goes_on : {A : Type 0} (text : List ℕ) (file : ℕ) (list : List (Lit A)) (trees : List Tree) → AreBegun text file list → Lexes text file trees → (behind : List Tree) × ReadsLiterals trees list behind
+pub goes_on : {A : Type 0} (text : List ℕ) (file : ℕ) (list : List (Lit A)) (trees : List Tree) → AreBegun text file list → Lexes text file trees → (following : List Tree) × ReadsLiterals trees list following
 goes_on text file list trees begun lexes =
     let read = begun.read in
     let (more, same) = begins_cut 0 text read.cuts.cuts lexes.cuts begun.rest read.cuts.are_cuts lexes.are_cuts in
     let flat : flat_trees trees ≡ flat_trees read.trees ++ map (flat_token file) more =
     sym lexes.flat_is ∙ same file ∙ ap (λ z. z ++ map (flat_token file) more) read.cuts.flat_is in
-    let (behind, is) = front_trees read.trees trees (map (flat_token file) more) read.cuts.no_groups flat in
-    (behind, subst (λ (ts : List Tree). ReadsLiterals ts list behind) (sym is) (read.leads behind))
+    let (following, is) = front_trees read.trees trees (map (flat_token file) more) read.cuts.no_groups flat in
+    (following, subst (λ (ts : List Tree). ReadsLiterals ts list following) (sym is) (read.leads following))
 
 -- One of the literals that lead on is passed.
 pub pass_one : {A : Type 0} {F : Type 0} (token_in : F → SpannedText) (old new : List Tree) (literals : List (Lit A)) (i : ℕ) (rest : List Tree) (front : Option F) → i < length literals → IfSome front (λ f. IsFront old (token_in f) new) → IfNone front (HasNoFront old) → ReadsLiterals old (drop i literals) rest → ReadsLiterals new (drop (i + 1) literals) rest

@@ -16,7 +16,7 @@ use Rattle.rl_tokens.specs.Puncts.{Mark}
 use Rattle.rl_tokens.specs.Reading.{truth_text, HasReading, HasNoReading, HasNoTruth}
 use Rattle.rl_tokens.specs.Trees.{Tree, IdentTree, PunctTree, LiteralTree, flat_trees}
 use Rattle.rl_tokens.specs.Skipping.{Skipped}
-use Rattle.rl_tokens.specs.Lexing.{LexesUpTo, behind_form, flat_form, flat_token}
+use Rattle.rl_tokens.specs.Lexing.{LexesUpTo, after_form, flat_form, flat_token}
 use Rattle.rl_grammar.specs.Fronts.{joined, joined_span}
 use Rattle.rl_tokens.proofs.CutLemmas.{open_more}
 use Rattle.rl_tokens.proofs.CursorLemmas.{flat_lent}
@@ -46,15 +46,15 @@ all_more P [] tree h p = (p, tt)
 all_more P (t ∷ trees) tree (q, h) p = (q, all_more P trees tree h p)
 
 -- one tree more, which is no group
-tree_more : (file : ℕ) (old new : CursorState) (l : Lent) (form : LexemeForm) (tree : Tree) (done : List Tree) → TakesNext old l new → form_view l.form ≡ form → behind_form [] form l.lo ≡ Some [] → flat_trees (tree ∷ []) ≡ flat_form form l.text.now (span_at file l) ∷ [] → IsNoGroup tree → LexesTreesUpTo (chars old.text) file done (chars old.rest) → LexesTreesUpTo (chars old.text) file (done ++ tree ∷ []) (chars new.rest)
+tree_more : (file : ℕ) (old new : CursorState) (l : Lent) (form : LexemeForm) (tree : Tree) (done : List Tree) → TakesNext old l new → form_view l.form ≡ form → after_form [] form l.lo ≡ Some [] → flat_trees (tree ∷ []) ≡ flat_form form l.text.now (span_at file l) ∷ [] → IsNoGroup tree → LexesTreesUpTo (chars old.text) file done (chars old.rest) → LexesTreesUpTo (chars old.text) file (done ++ tree ∷ []) (chars new.rest)
 tree_more file old new l form tree done t form_is none flat_is no_group c =
     let w = t.cut in record {
       cuts = c.cuts ++ w ∷ [];
       are_cuts = t.goes_on c.cuts c.are_cuts;
       none_open =
           open_more [] c.cuts w [] c.none_open
-          ∙ ap (λ f. behind_form [] f w.at) (t.is_cut.form_is ∙ form_is)
-          ∙ ap (λ n. behind_form [] form n) t.is_cut.lo_is
+          ∙ ap (λ f. after_form [] f w.at) (t.is_cut.form_is ∙ form_is)
+          ∙ ap (λ n. after_form [] form n) t.is_cut.lo_is
           ∙ none;
       flat_is =
           map-append (flat_token file) c.cuts (w ∷ [])
@@ -71,7 +71,7 @@ literal_next file old new l lit t form_is read =
     let tree : Tree = LiteralTree (token_at file l) in record {
       trees = tree ∷ [];
       cuts = λ done c. tree_more file old new l LiteralForm tree done t form_is refl refl tt c;
-      front = λ behind. record { token = token_at file l; front = (refl, refl); read = read };
+      front = λ following. record { token = token_at file l; front = (refl, refl); read = read };
       same = t.same;
     }
 
@@ -83,7 +83,7 @@ truth_next {A} file old new l lit b t form_is word_is lit_is =
     let read : IsReadFrom (token_at file l) word = read_truth (token_at file l) b (span_at file l) word_is refl in record {
       trees = tree ∷ [];
       cuts = λ done c. tree_more file old new l IdentifierForm tree done t form_is refl refl tt c;
-      front = λ behind. record { token = token_at file l; front = (read.1, refl, refl); read = subst (λ (x : Lit A). IsReadFrom (token_at file l) x) (sym lit_is) read };
+      front = λ following. record { token = token_at file l; front = (read.1, refl, refl); read = subst (λ (x : Lit A). IsReadFrom (token_at file l) x) (sym lit_is) read };
       same = t.same;
     }
 
@@ -101,7 +101,7 @@ negative_next file old between new m l lit span t u m_is l_is span_is together r
           let first : From old.text (done ++ minus ∷ []) = tree_more file old between m (MarkForm 45) minus done t m_is refl refl tt c in
           let second : Into between.text ((done ++ minus ∷ []) ++ number ∷ []) = tree_more file between new l LiteralForm number (done ++ minus ∷ []) u l_is refl refl tt (subst (λ (x : List ℕ). From x (done ++ minus ∷ [])) (sym t.same) first) in
           subst (λ (trees : List Tree). Into old.text trees) (append_assoc done (minus ∷ []) (number ∷ [])) (subst (λ (x : List ℕ). Into x ((done ++ minus ∷ []) ++ number ∷ [])) t.same second);
-      front = λ behind. record {
+      front = λ following. record {
         token = joined mark (token_at file l);
         front = (refl, together, refl, refl);
         read = subst (λ (s : Span). IsReadFrom (record { text = 45 ∷ l.text.now; span = s }) lit) span_is read;
@@ -163,7 +163,7 @@ pub read_none : {A : Type 0} (text : List ℕ) (file : ℕ) (rest : List ℕ) �
 read_none text file rest skips = record {
   trees = [];
   cuts = record { cuts = []; are_cuts = skips; none_open = refl; flat_is = refl; no_groups = tt };
-  leads = λ behind. refl;
+  leads = λ following. refl;
 }
 
 pub read_start : {A : Type 0} (text : List ℕ) (file : ℕ) (rest : List ℕ) (list : List (Lit A)) → list ≡ [] → Skipped (chars text) (chars rest) → AreReadUpTo (chars text) file list (chars rest)
@@ -181,9 +181,9 @@ read_more text file old new list longer same read added =
     (record {
       trees = read.trees ++ next.trees;
       cuts = goes read.trees read.cuts;
-      leads = λ behind.
-          subst (λ (ts : List Tree). ReadsLiterals ts (list ++ lit ∷ []) behind) (sym (append_assoc read.trees next.trees behind))
-          (leads_step (read.trees ++ (next.trees ++ behind)) list (next.trees ++ behind) lit behind (read.leads (next.trees ++ behind)) (next.front behind));
+      leads = λ following.
+          subst (λ (ts : List Tree). ReadsLiterals ts (list ++ lit ∷ []) following) (sym (append_assoc read.trees next.trees following))
+          (leads_step (read.trees ++ (next.trees ++ following)) list (next.trees ++ following) lit following (read.leads (next.trees ++ following)) (next.front following));
     })
 
 -- all is read

@@ -10,7 +10,7 @@ use Rattle.rl_tokens.specs.Errors.{memory_at}
 use Rattle.rl_tokens.specs.Texts.{SpannedText}
 use Rattle.rl_tokens.specs.Trees.{Tree}
 use Rattle.rl_tokens.specs.Reading.{Reads, ReadsAs, Truth}
-use Rattle.rl_tokens.specs.Buffers.{first_span, IsRefusal}
+use Rattle.rl_tokens.specs.Buffers.{first_span, IsRejection}
 use Rattle.rl_grammar.specs.Fronts.{IsFront, HasNoFront, PassesOther}
 use Rattle.rl_grammar.proofs.FrontLemmas.{other_of}
 use Rattle.rust_literals.specs.declared.lit.Lit.{Lit}
@@ -47,18 +47,18 @@ truth_front trees copy rest token literal value at same front reads is place = r
   span = ap (λ (l : LitBool). l.span) is ∙ place;
 }
 
-pub none_passed : {A : Type 0} (kind : Kind) (word : List ℕ) (trees copy : List Tree) (scope : Span) (e : Error A) → copy ≡ trees → HasNoFront copy → IsRefusal trees scope word e → PassesOther kind word trees scope e trees
-none_passed kind word trees copy scope e same none refusal =
+pub none_passed : {A : Type 0} (kind : Kind) (word : List ℕ) (trees copy : List Tree) (scope : Span) (e : Error A) → copy ≡ trees → HasNoFront copy → IsRejection trees scope word e → PassesOther kind word trees scope e trees
+none_passed kind word trees copy scope e same none rejection =
     let here = none_here trees copy same none in record {
-      refusal = refusal;
+      rejection = rejection;
       none = λ has. here has.0 has.1 has.2.front;
       passed = inr (here, refl);
     }
 
-pub other_passed : {A : Type 0} (kind : Kind) (word : List ℕ) (trees copy rest : List Tree) (token : SpannedText) (scope : Span) (e : Error A) → copy ≡ trees → IsFront copy token rest → (ReadsAs kind (chars token.text) → ⊥) → IsRefusal trees scope word e → PassesOther kind word trees scope e rest
-other_passed kind word trees copy rest token scope e same front other refusal =
+pub other_passed : {A : Type 0} (kind : Kind) (word : List ℕ) (trees copy rest : List Tree) (token : SpannedText) (scope : Span) (e : Error A) → copy ≡ trees → IsFront copy token rest → (ReadsAs kind (chars token.text) → ⊥) → IsRejection trees scope word e → PassesOther kind word trees scope e rest
+other_passed kind word trees copy rest token scope e same front other rejection =
     let here = front_here trees copy rest token same front in record {
-      refusal = refusal;
+      rejection = rejection;
       none = other_of kind trees token rest here other;
       passed = inl (record { token = token; front = here; other = other });
     }

@@ -20,7 +20,7 @@ use Rattle.rl_grammar.specs.NumberShapes.{AreDigits, IsNumber}
 use Rattle.rl_grammar.specs.WholeShapes.{IsSplit, IsPlain}
 use Rattle.rl_grammar.proofs.NumberFoundLemmas.{number_integer, number_float, number_stands, plain_digits}
 use Rattle.rust_literals.specs.Held.{HasDigits, HasOwnSuffix, HoldsNumber}
-use Rattle.rust_literals.specs.Refusals.{IsNoNumber, IsRefusedAs}
+use Rattle.rust_literals.specs.Refusals.{IsNoNumber, IsRejectedAs}
 
 -- a number that was found, by its kind: an integer, or a float by the rule of floats
 abbrev IsOfKind : Kind → List ℕ → Found → Type 0
@@ -84,7 +84,7 @@ holds_number kind text digits found utf8 h e d =
     let of = of_kind kind text found utf8 e h in record {
       digits_are = found_digits kind text (chars digits) found e of (subst (λ k. AreDigits k (chars text) (chars digits)) e d);
       suffix = found_suffix kind text found e of;
-      boundary = (number_stands text found h).behind;
+      boundary = (number_stands text found h).following;
     }
 
 -- a body is all that stands before the suffix
@@ -123,9 +123,9 @@ found_number kind text found utf8 h e = go kind e (of_kind kind text found utf8 
     go Bool e h = absurd h
 
 -- an allocation failure, as an error
-pub wants_memory : {A : Type 0} (kind : Kind) (text : List ℕ) (e : Error A) (span : Span) → e ≡ memory_at span → IsNumber kind text → (e.span ≡ span) × IsRefusedAs kind text e.kind
+pub wants_memory : {A : Type 0} (kind : Kind) (text : List ℕ) (e : Error A) (span : Span) → e ≡ memory_at span → IsNumber kind text → (e.span ≡ span) × IsRejectedAs kind text e.kind
 wants_memory {A} kind text e span is number =
-    let P : Error A → Type 0 = λ x. (x.span ≡ span) × IsRefusedAs kind text x.kind in subst P (sym is) (refl, number)
+    let P : Error A → Type 0 = λ x. (x.span ≡ span) × IsRejectedAs kind text x.kind in subst P (sym is) (refl, number)
 
 -- what is plain is no text that is rejected
 pub no_number_plain : {A : Type 0} (kind : Kind) (text : List ℕ) (reason : ErrorKind A) → IsNoNumber kind (chars text) reason → IsPlain kind text → ⊥
@@ -164,7 +164,7 @@ no_number_plain Char text reason none p = absurd none
 no_number_plain Bool text reason none p = absurd none
 
 -- why a text is no number, as an error
-pub no_number_refused : {A : Type 0} (kind : Kind) (text : List ℕ) (reason : ErrorKind A) → IsNoNumber kind text reason → IsRefusedAs kind text reason
+pub no_number_refused : {A : Type 0} (kind : Kind) (text : List ℕ) (reason : ErrorKind A) → IsNoNumber kind text reason → IsRejectedAs kind text reason
 no_number_refused kind text (Expected w) none = none
 no_number_refused kind text (EndOfInput w) none = none
 no_number_refused kind text Unexpected none = none
@@ -185,6 +185,6 @@ no_number_refused Char text Memory none = absurd none
 no_number_refused Bool text Memory none = absurd none
 
 -- where an allocation failed for a number, it is reported as that
-pub memory_refused : {T A : Type 0} (kind : Kind) (text : List ℕ) (span : Span) (r : Result T (Kept SpannedText A)) → IfErr r (λ k. k.error ≡ memory_at span) → IsNumber kind text → IfErr r (λ k. (k.error.span ≡ span) × IsRefusedAs kind text k.error.kind)
+pub memory_refused : {T A : Type 0} (kind : Kind) (text : List ℕ) (span : Span) (r : Result T (Kept SpannedText A)) → IfErr r (λ k. k.error ≡ memory_at span) → IsNumber kind text → IfErr r (λ k. (k.error.span ≡ span) × IsRejectedAs kind text k.error.kind)
 memory_refused kind text span (Ok x) memory number = tt
 memory_refused kind text span (Err k) memory number = wants_memory kind text k.error span memory number

@@ -16,7 +16,7 @@ use Rattle.rl_grammar.proofs.FrontLemmas.{front_of}
 use Rattle.rust_literals.specs.declared.lit.Lit.{Lit}
 use Rattle.rust_literals.specs.declared.lit_bool.LitBool.{LitBool}
 use Rattle.rust_literals.specs.Parsing.{RunsLit, RunsTruth}
-use Rattle.rust_literals.specs.Peeking.{SucceedsOrMemory, PeekTells}
+use Rattle.rust_literals.specs.Peeking.{SucceedsOrMemory, PeekReports}
 
 -- an error by a word isn't an allocation failure
 never_memory : (A : Type 0) (trees : List Tree) (word : List ℕ) → MissesWord {A = A} trees word Memory → ⊥
@@ -29,14 +29,14 @@ word_is_not_memory {A = A} trees word kind h e = never_memory A trees word (subs
 -- where a parser of one kind returns an allocation failure, its peek is true
 typed_wants : {A : Type 0} (kind : Kind) (word : List ℕ) (trees : List Tree) (scope : Span) (e : Error A) (rest : List Tree) → RunsAs kind word trees scope (Err e) rest → e.kind ≡ Memory → HasFrontOf kind trees
 typed_wants kind word trees scope e rest (inl m) is = m.0
-typed_wants kind word trees scope e rest (inr p) is = absurd (word_is_not_memory trees word e.kind p.refusal.kind is)
+typed_wants kind word trees scope e rest (inr p) is = absurd (word_is_not_memory trees word e.kind p.rejection.kind is)
 
 typed_finds : {A : Type 0} (kind : Kind) (word : List ℕ) (trees : List Tree) (scope : Span) (answer : Result SpannedText (Error A)) (rest : List Tree) → RunsAs kind word trees scope answer rest → HasFrontOf kind trees → SucceedsOrMemory answer
 typed_finds kind word trees scope (Ok token) rest runs has = tt
 typed_finds kind word trees scope (Err e) rest (inl m) has = ap (λ x. x.kind) m.1.error
 typed_finds kind word trees scope (Err e) rest (inr p) has = absurd (p.none has)
 
-pub typed_tells : {A : Type 0} (kind : Kind) (word : List ℕ) → PeekTells (RunsAs {A = A} kind word) (HasFrontOf kind)
+pub typed_tells : {A : Type 0} (kind : Kind) (word : List ℕ) → PeekReports (RunsAs {A = A} kind word) (HasFrontOf kind)
 typed_tells kind word = record {
   finds = typed_finds kind word;
   only = λ trees scope token rest runs. (token, rest, runs);
@@ -49,9 +49,9 @@ truth_finds trees scope (Ok literal) rest runs has = tt
 truth_finds trees scope (Err e) rest p has = absurd (p.none has)
 
 truth_wants : {A : Type 0} (trees : List Tree) (scope : Span) (e : Error A) (rest : List Tree) → RunsTruth trees scope (Err e) rest → e.kind ≡ Memory → HasFrontOf BoolKind trees
-truth_wants trees scope e rest p is = absurd (word_is_not_memory trees _ e.kind p.refusal.kind is)
+truth_wants trees scope e rest p is = absurd (word_is_not_memory trees _ e.kind p.rejection.kind is)
 
-pub truth_tells : {A : Type 0} → PeekTells (RunsTruth {A = A}) (HasFrontOf BoolKind)
+pub truth_tells : {A : Type 0} → PeekReports (RunsTruth {A = A}) (HasFrontOf BoolKind)
 truth_tells = record {
   finds = truth_finds;
   only = λ trees scope literal rest runs. (runs.token, rest, front_of _ _ _ _ runs.front (Truth literal.value, [], runs.reads));
@@ -66,9 +66,9 @@ literal_finds trees scope (Err e) rest (inr n) has = absurd (n.none has.0 has.1 
 
 literal_wants : {A : Type 0} (trees : List Tree) (scope : Span) (e : Error A) (rest : List Tree) → RunsLit trees scope (Err e) rest → e.kind ≡ Memory → HasFront trees
 literal_wants trees scope e rest (inl m) is = m.0
-literal_wants trees scope e rest (inr n) is = absurd (word_is_not_memory trees _ e.kind n.refusal.kind is)
+literal_wants trees scope e rest (inr n) is = absurd (word_is_not_memory trees _ e.kind n.rejection.kind is)
 
-pub literal_tells : {A : Type 0} → PeekTells (RunsLit {A = A}) HasFront
+pub literal_tells : {A : Type 0} → PeekReports (RunsLit {A = A}) HasFront
 literal_tells = record {
   finds = literal_finds;
   only = λ trees scope literal rest runs. (runs.token, rest, runs.front);

@@ -33,11 +33,11 @@ pub record IsReported {A : Type 0} (words : Option (List ℕ)) (span : Span) (e 
   pub kind_is : IsInWords words e.kind
 
 -- The number type rejects the digits, and its error is reported at the span.
-pub record IsRefusedBy {N E A : Type 0} (gives : List ℕ → Result N E → Type 0)
+pub record IsRejectedBy {N E A : Type 0} (gives : List ℕ → Result N E → Type 0)
     (output : E → Option (List ℕ)) (AreOf : List ℕ → Type 0) (span : Span) (e : Error A)
     : Type 0 where
   pub digits : List ℕ
   pub are : AreOf digits
   pub fault : E
-  pub refused : gives digits (Err fault)
+  pub rejected : gives digits (Err fault)
   pub told : IsReported (output fault) span e

@@ -32,7 +32,7 @@ pub record ReadsNext {A : Type 0} (file : ℕ) (old : CursorState) (lit : Lit A)
   pub trees : List Tree
   pub cuts : (done : List Tree) → LexesTreesUpTo (chars old.text) file done (chars old.rest)
       → LexesTreesUpTo (chars old.text) file (done ++ trees) (chars new.rest)
-  pub front : (behind : List Tree) → IsLitFront (trees ++ behind) lit behind
+  pub front : (following : List Tree) → IsLitFront (trees ++ following) lit following
   pub same : new.text ≡ old.text
 
 -- No token stands next that makes a literal with a minus before it.
@@ -45,10 +45,10 @@ HasNoNumberNext t =
 -- A token of this form and text, and what is left after it, begin no literal: the token is none,
 -- no word of a truth value, and no minus before a number.
 abbrev pub BeginsNoLiteral : LexemeForm → List ℕ → CursorState → Type 0
-BeginsNoLiteral LiteralForm text behind = ⊥
-BeginsNoLiteral IdentifierForm text behind = HasNoTruth (chars text)
-BeginsNoLiteral (DelimiterForm c) text behind = ⊤
-BeginsNoLiteral (MarkForm c) text behind = (c ≢ code "-") ⊎ HasNoNumberNext behind
+BeginsNoLiteral LiteralForm text following = ⊥
+BeginsNoLiteral IdentifierForm text following = HasNoTruth (chars text)
+BeginsNoLiteral (DelimiterForm c) text following = ⊤
+BeginsNoLiteral (MarkForm c) text following = (c ≢ code "-") ⊎ HasNoNumberNext following
 
 -- No literal stands next: no token does, or one that begins none.
 abbrev pub HasNoNext : CursorState → Type 0
@@ -69,7 +69,7 @@ pub record AreReadUpTo {A : Type 0} (text : List ℕ) (file : ℕ) (list : List 
     : Type 0 where
   pub trees : List Tree
   pub cuts : LexesTreesUpTo text file trees rest
-  pub leads : (behind : List Tree) → ReadsLiterals (trees ++ behind) list behind
+  pub leads : (following : List Tree) → ReadsLiterals (trees ++ following) list following
 
 -- The text begins with these literals.
 pub record AreBegun {A : Type 0} (text : List ℕ) (file : ℕ) (list : List (Lit A)) : Type 0 where

@@ -49,8 +49,8 @@ KeepsStrict text =
     → IsWithinLimit kind text → Reads text kind contents suffix
 
 -- strict as a number, the text reads after a minus as the same, with `-` before its digits
-abbrev pub KeepsStrictBehindMinus : List ℕ → Type 0
-KeepsStrictBehindMinus text =
+abbrev pub KeepsStrictAfterMinus : List ℕ → Type 0
+KeepsStrictAfterMinus text =
     (kind : Kind) (digits suffix : List ℕ) → IsTrue (is_number kind)
     → Strict text kind (Digits digits) suffix → IsWithinLimit kind text
     → Reads (code "-" ∷ text) kind (Digits (code "-" ∷ digits)) suffix

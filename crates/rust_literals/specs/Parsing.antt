@@ -9,9 +9,9 @@ use Rattle.rl_tokens.specs.Texts.{SpannedText}
 use Rattle.rl_tokens.specs.Trees.{Tree}
 use Rattle.rl_tokens.specs.Reading.{Reads, Truth}
 use Rattle.rl_tokens.specs.Lexing.{Lexes}
-use Rattle.rl_tokens.specs.Buffers.{first_span, IsRefusal}
+use Rattle.rl_tokens.specs.Buffers.{first_span, IsRejection}
 use Rattle.rl_grammar.specs.Fronts.{IsFront, HasFront, HasNoFront, PassesOther, LacksMemoryAtFront}
-use Rattle.rl_tokens.specs.Whole.{RefusesLexing}
+use Rattle.rl_tokens.specs.Whole.{RejectsLexing}
 use Rattle.rust_literals.specs.declared.lit.Lit.{Lit}
 use Rattle.rust_literals.specs.declared.lit_bool.LitBool.{LitBool}
 use Rattle.rust_literals.specs.Literals.{IsReadFrom}
@@ -33,7 +33,7 @@ pub record IsTruthFront (trees : List Tree) (literal : LitBool) (rest : List Tre
 -- No literal begins the trees, and they stay.
 pub record FindsNone {A : Type 0} (trees : List Tree) (scope : Span) (e : Error A)
     (rest : List Tree) : Type 0 where
-  pub refusal : IsRefusal trees scope (codes "literal") e
+  pub rejection : IsRejection trees scope (codes "literal") e
   pub none : HasNoFront trees
   pub stays : rest ≡ trees
 
@@ -57,14 +57,14 @@ ReadsLiterals trees (l ∷ ls) rest =
     (after : List Tree) × IsLitFront trees l after × ReadsLiterals after ls rest
 
 -- Literals lead to trees that no literal begins: these are rejected.
-pub record RefusesNextLiteral {A : Type 0} (trees : List Tree) (scope : Span) (e : Error A)
+pub record RejectsNextLiteral {A : Type 0} (trees : List Tree) (scope : Span) (e : Error A)
     : Type 0 where
   pub list : List (Lit A)
   pub rest : List Tree
   pub leads : ReadsLiterals trees list rest
   pub some : rest ≢ []
   pub none : HasNoFront rest
-  pub refusal : IsRefusal rest scope (codes "literal") e
+  pub rejection : IsRejection rest scope (codes "literal") e
 
 -- Literals lead to one for which an allocation failed, or to one that found no place in the list.
 pub record LacksMemory {A : Type 0} (trees : List Tree) (scope : Span) (e : Error A) : Type 0 where
@@ -80,13 +80,13 @@ pub record AreRead {A : Type 0} (text : List ℕ) (file : ℕ) (list : List (Lit
   pub leads : ReadsLiterals trees list []
 
 -- The text is cut into trees, and this is rejected of them.
-pub record RefusesLiteralTrees {A : Type 0} (text : List ℕ) (file end : ℕ) (e : Error A)
+pub record RejectsLiteralTrees {A : Type 0} (text : List ℕ) (file end : ℕ) (e : Error A)
     : Type 0 where
   pub trees : List Tree
   pub lexes : Lexes text file trees
-  pub refused : RefusesNextLiteral trees (record { file = file; lo = end; hi = end }) e
+  pub rejected : RejectsNextLiteral trees (record { file = file; lo = end; hi = end }) e
       ⊎ LacksMemory trees (record { file = file; lo = end; hi = end }) e
 
 -- what `read_all` rejects of a text of this length
-abbrev pub RefusesText : {A : Type 0} → List ℕ → ℕ → ℕ → Error A → Type 0
-RefusesText text file end e = RefusesLexing text file e ⊎ RefusesLiteralTrees text file end e
+abbrev pub RejectsText : {A : Type 0} → List ℕ → ℕ → ℕ → Error A → Type 0
+RejectsText text file end e = RejectsLexing text file e ⊎ RejectsLiteralTrees text file end e

@@ -12,7 +12,7 @@ SucceedsOrMemory (Err e) = e.kind ≡ Memory
 
 -- A peek is true exactly before the trees on which the parser answers a value, if memory is found;
 -- before others the parser wants no memory.
-pub record PeekTells {T A : Type 0}
+pub record PeekReports {T A : Type 0}
     (runs : List Tree → Span → Result T (Error A) → List Tree → Type 0) (peeks : List Tree → Type 0)
     : Type 0 where
   pub finds : (trees : List Tree) (scope : Span) (answer : Result T (Error A)) (rest : List Tree)

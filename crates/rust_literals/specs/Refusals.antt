@@ -16,6 +16,6 @@ IsNoNumber Float text NotFloat = HasNoFloat text
 IsNoNumber _ text _ = ⊥
 
 -- it is none of the kind, or an allocation failed for one
-abbrev pub IsRefusedAs : {A : Type 0} → Kind → List ℕ → ErrorKind A → Type 0
-IsRefusedAs kind text Memory = IsNumber kind text
-IsRefusedAs kind text reason = IsNoNumber kind text reason
+abbrev pub IsRejectedAs : {A : Type 0} → Kind → List ℕ → ErrorKind A → Type 0
+IsRejectedAs kind text Memory = IsNumber kind text
+IsRejectedAs kind text reason = IsNoNumber kind text reason

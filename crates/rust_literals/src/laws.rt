@@ -8,17 +8,17 @@ ghost use Rattle.rust_literals.specs.declared.lit.Lit.{Lit};
 ghost use Rattle.rust_literals.specs.Literals.{kind_of, token_of};
 ghost use Rattle.rl_tokens.specs.Trees.{Tree};
 ghost use Rattle.rust_literals.specs.Parsing.{IsLitFront, RunsLit, RunsTruth};
-ghost use Rattle.rust_literals.specs.Peeking.{PeekTells};
+ghost use Rattle.rust_literals.specs.Peeking.{PeekReports};
 
 use std::alloc::Allocator;
 
 /// A peek of the nine types is true exactly where the type's parser answers a literal, if memory is found; elsewhere the
 /// parser rejects after an allocation failure.
 pub fn peeks_tell<A: Allocator>()
-    ensures literal { PeekTells (RunsLit {A = A}) HasFront }
-    ensures truth { PeekTells (RunsTruth {A = A}) (HasFrontOf BoolKind) }
+    ensures literal { PeekReports (RunsLit {A = A}) HasFront }
+    ensures truth { PeekReports (RunsTruth {A = A}) (HasFrontOf BoolKind) }
     ensures typed { (kind : Kind) (word : List ℕ)
-        → PeekTells (RunsAs {A = A} kind word) (HasFrontOf kind) }
+        → PeekReports (RunsAs {A = A} kind word) (HasFrontOf kind) }
 {}
 
 /// Its kind and its token determine a literal: a copy, and a literal at another place, too.

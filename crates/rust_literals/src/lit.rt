@@ -98,7 +98,7 @@ impl<'a> View<'a> {
 
 impl<A: Allocator> Lit<A> {
     ghost use Rattle.rust_literals.specs.Literals.{IsReadFrom};
-    ghost use Rattle.rust_literals.specs.LitParts.{ReadsAsNumber, ReadsPlain, KeepsStrict, KeepsStrictBehindMinus, AgreesWithStrict};
+    ghost use Rattle.rust_literals.specs.LitParts.{ReadsAsNumber, ReadsPlain, KeepsStrict, KeepsStrictAfterMinus, AgreesWithStrict};
     ghost use Rattle.rl_grammar.specs.StrictBytes.{KeepsBytesStrict};
 
     /// The literal that the token's text reads as; `Verbatim` exactly where it has no reading. The
@@ -130,7 +130,7 @@ impl<A: Allocator> Lit<A> {
         ensures numbers_alone { IfErr result (λ k. ReadsAsNumber (chars token.text)) }
         ensures lent { IfErr result (λ k. ReadsPlain token.text → ⊥) }
         ensures strict { KeepsStrict (chars token.text) }
-        ensures strict_behind_minus { KeepsStrictBehindMinus (chars token.text) }
+        ensures strict_after_minus { KeepsStrictAfterMinus (chars token.text) }
         ensures strict_bytes { KeepsBytesStrict (chars token.text) }
     {
         let found = find(token.text());

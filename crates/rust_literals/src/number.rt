@@ -9,7 +9,7 @@ ghost use Rattle.rl_grammar.specs.Founds.{IsFoundNumber};
 ghost use Rattle.rl_grammar.specs.NumberShapes.{IsNumber};
 ghost use Rattle.rl_grammar.specs.WholeShapes.{IsPlain};
 ghost use Rattle.rust_literals.specs.Held.{HasDigits, HasOwnSuffix, HoldsNumber, digits_in};
-ghost use Rattle.rust_literals.specs.Refusals.{IsNoNumber, IsRefusedAs};
+ghost use Rattle.rust_literals.specs.Refusals.{IsNoNumber, IsRejectedAs};
 
 mod base10;
 mod copies;
@@ -98,7 +98,7 @@ impl<K: NumberKind, A: Allocator + Copy> Number<K, A> {
         ensures ok { IfOk result (λ l. l ≡ record { text = repr.now; span = span }) }
         ensures reads { OnOk result (IsNumber K.KIND (chars repr.now)) }
         ensures err { IfErr result
-            (λ e. (e.span ≡ span) × IsRefusedAs K.KIND (chars repr.now) e.kind) }
+            (λ e. (e.span ≡ span) × IsRejectedAs K.KIND (chars repr.now) e.kind) }
     {
         let found = match K::find(repr) {
             Ok(found) => found,
@@ -127,7 +127,7 @@ impl<K: NumberKind, A: Allocator> Number<K, A> {
         ensures kept { IfErr result (λ k. k.value ≡ token) }
         ensures err { IfErr result
             (λ k. (k.error.span ≡ token.span)
-            × IsRefusedAs K.KIND (chars token.text) k.error.kind) }
+            × IsRejectedAs K.KIND (chars token.text) k.error.kind) }
         ensures lent { IfErr result (λ k. IsPlain K.KIND token.text → ⊥) }
     {
         match K::find(token.text()) {

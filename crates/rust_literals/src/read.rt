@@ -6,7 +6,7 @@ ghost use Rattle.rl_tokens.specs.Buffers.{trees_in, scope_of};
 ghost use Rattle.rl_tokens.specs.Trees.{Tree};
 ghost use Rattle.rl_tokens.specs.Printed.{Entry, Printed};
 ghost use Rattle.rust_literals.specs.declared.lit.Lit.{Lit};
-ghost use Rattle.rust_literals.specs.Parsing.{ReadsLiterals, RefusesNextLiteral, LacksMemory, AreRead, RefusesText};
+ghost use Rattle.rust_literals.specs.Parsing.{ReadsLiterals, RejectsNextLiteral, LacksMemory, AreRead, RejectsText};
 ghost use Rattle.rust_literals.specs.Flat.{AreFirst};
 ghost use Rattle.rust_literals.specs.ReadBack.{HoldsOrMemory, AreItems};
 ghost use Rattle.rust_literals.specs.Reprints.{Spaced, lits_of, IsReprint, SameButSpans};
@@ -38,9 +38,9 @@ fn read_on<A: Allocator + Copy>(
     ensures read { (all : List Tree) (gone : List (Lit A))
         → ReadsLiterals all (gone ++ list.items) (trees_in input.old)
         → IfOk result (λ found. ReadsLiterals all (gone ++ found.items) []) }
-    ensures refused { (all : List Tree) (gone : List (Lit A))
+    ensures rejected { (all : List Tree) (gone : List (Lit A))
         → ReadsLiterals all (gone ++ list.items) (trees_in input.old)
-        → IfErr result (λ e. RefusesNextLiteral all (scope_of input.old) e
+        → IfErr result (λ e. RejectsNextLiteral all (scope_of input.old) e
         ⊎ LacksMemory all (scope_of input.old) e) }
 {
     while !input.is_empty() {
@@ -64,9 +64,9 @@ fn read_from<A: Allocator + Copy>(
 ) -> Result<Vec<Lit<A>, A>, Error<A>>
     ensures read { (gone : List (Lit A)) → AreFirst (chars text.now) file count (gone ++ list.items)
         → IfOk result (λ found. AreRead (chars text.now) file (gone ++ found.items)) }
-    ensures refused { (gone : List (Lit A))
+    ensures rejected { (gone : List (Lit A))
         → AreFirst (chars text.now) file count (gone ++ list.items)
-        → IfErr result (RefusesText (chars text.now) file (length text.now)) }
+        → IfErr result (RejectsText (chars text.now) file (length text.now)) }
 {
     let stream = trees_of_text(alloc, text, file)?;
     let end = Span::new(file, text.len(), text.len());
@@ -91,8 +91,8 @@ pub fn read_behind<A: Allocator + Copy>(
     // The text is the first literals and these.
     ensures read { (first : List (Lit A)) → AreFirst (chars text.now) file count first
         → IfOk result (λ more. AreRead (chars text.now) file (first ++ more.items)) }
-    ensures refused { (first : List (Lit A)) → AreFirst (chars text.now) file count first
-        → IfErr result (RefusesText (chars text.now) file (length text.now)) }
+    ensures rejected { (first : List (Lit A)) → AreFirst (chars text.now) file count first
+        → IfErr result (RejectsText (chars text.now) file (length text.now)) }
 {
     read_from(alloc, text, file, count, Vec::new(alloc))
 }
@@ -124,7 +124,7 @@ pub fn read_all<A: Allocator + Copy>(
     // The text is cut into the trees of these literals, and nothing is left of it.
     ensures read { IfOk result (λ list. AreRead (chars text.now) file list.items) }
     // Else the text's first error; or, of its trees, the first that begins no literal; or an allocation failed.
-    ensures refused { IfErr result (RefusesText (chars text.now) file (length text.now)) }
+    ensures rejected { IfErr result (RejectsText (chars text.now) file (length text.now)) }
     // What a text reads as is the answer, or an allocation failed.
     ensures exactly { (list : List (Lit A)) → AreRead (chars text.now) file list
         → HoldsOrMemory (λ found. found ≡ list) result }

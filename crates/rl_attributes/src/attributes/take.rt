@@ -8,8 +8,8 @@ ghost use Rattle.rl_attributes.specs.Attributes.{
   IsAttribute,
   HasNewName,
   AreAttributesOf,
-  RefusesAttributes,
-  RefusesAttributeText,
+  RejectsAttributes,
+  RejectsAttributeText,
 };
 ghost use Rattle.rl_attributes.specs.Entries.{attribute_of, attributes_of, IsReadEntry};
 ghost use Rattle.rl_attributes.specs.AttributeParsing.{entries_of, AreEntries, RunsAttrs, IsListOrMemory};
@@ -18,7 +18,7 @@ ghost use Rattle.rl_attributes.specs.AttributeSteps.{
   AddsName,
   IsNext,
   LacksMemoryInStep,
-  RefusesStep,
+  RejectsStep,
   reported_at,
 };
 
@@ -40,8 +40,8 @@ fn take_name<'a, A: Allocator + Copy>(
     ensures taken { IfOk result (λ name.
         HasNewName (has_name names.old) (trees_in input.old) name.now (trees_in input.new)) }
     ensures adds { IfOk result (λ name. AddsName names.old names.new name.now.text) }
-    ensures refused { IfErr result
-        (RefusesStep (has_name names.old) (trees_in input.old) (scope_of input.old)) }
+    ensures rejected { IfErr result
+        (RejectsStep (has_name names.old) (trees_in input.old) (scope_of input.old)) }
     ensures onward { StaysRest (trees_in input.old) (trees_in input.new) }
     ensures scope { scope_of input.new ≡ scope_of input.old }
 {
@@ -66,8 +66,8 @@ fn take_entry<'a, A: Allocator + Copy>(
     ensures anew { IfOk result (λ entry. IsFalse (has_name names.old (string_bytes entry.name))) }
     ensures read { IfOk result IsReadEntry }
     ensures adds { IfOk result (λ entry. AddsName names.old names.new (string_bytes entry.name)) }
-    ensures refused { IfErr result
-        (RefusesStep (has_name names.old) (trees_in input.old) (scope_of input.old)) }
+    ensures rejected { IfErr result
+        (RejectsStep (has_name names.old) (trees_in input.old) (scope_of input.old)) }
     ensures onward { StaysRest (trees_in input.old) (trees_in input.new) }
     ensures scope { scope_of input.new ≡ scope_of input.old }
 {
@@ -93,8 +93,8 @@ fn take_next<'a, A: Allocator + Copy>(
     ensures anew { IfOk result (λ entry. IsFalse (has_name names.old (string_bytes entry.name))) }
     ensures read { IfOk result IsReadEntry }
     ensures adds { IfOk result (λ entry. AddsName names.old names.new (string_bytes entry.name)) }
-    ensures refused { IfErr result
-        (RefusesStep (has_name names.old) (trees_in input.old) (scope_of input.old)) }
+    ensures rejected { IfErr result
+        (RejectsStep (has_name names.old) (trees_in input.old) (scope_of input.old)) }
     ensures onward { StaysRest (trees_in input.old) (trees_in input.new) }
     ensures scope { scope_of input.new ≡ scope_of input.old }
 {
@@ -117,8 +117,8 @@ fn take_all<A: Allocator + Copy>(
 ) -> Result<Attrs<A>, Error<A>>
     ensures taken { IfOk result (λ attrs. AreEntries (trees_in input.old) (entries_of attrs)) }
     ensures ended { OnOk result (trees_in input.new ≡ []) }
-    ensures refused { IfErr result (λ e. LacksMemoryInStep (trees_in input.old) e
-        ⊎ RefusesAttributes (trees_in input.old) (scope_of input.old) e) }
+    ensures rejected { IfErr result (λ e. LacksMemoryInStep (trees_in input.old) e
+        ⊎ RejectsAttributes (trees_in input.old) (scope_of input.old) e) }
     ensures rest { IsRest (trees_in input.old) (trees_in input.new) }
     ensures scope { scope_of input.new ≡ scope_of input.old }
 {
@@ -181,7 +181,7 @@ impl<A: Allocator + Copy> Parse<A> for Attrs<A> {
 /// ```
 /// match read(alloc, text, 0) {
 ///     Ok(attrs) => ended(entry_lines(alloc, attrs.entries())?),
-///     Err(error) => refused(alloc, &error),
+///     Err(error) => rejected(alloc, &error),
 /// }
 /// ```
 pub fn read<A: Allocator + Copy>(alloc: A, text: &str, file: u32) -> Result<Attrs<A>, Error<A>>
@@ -192,7 +192,7 @@ pub fn read<A: Allocator + Copy>(alloc: A, text: &str, file: u32) -> Result<Attr
     ensures values { IfOk result (λ attrs. All IsReadEntry (entries_of attrs)) }
     // Else the text's first error; or, of its trees, what is missed first, or a name that stood before; or an
     // allocation failed.
-    ensures refused { IfErr result (RefusesAttributeText (chars text.now) file (length text.now)) }
+    ensures rejected { IfErr result (RejectsAttributeText (chars text.now) file (length text.now)) }
     // What attributes a text is, these are the answer, or an allocation failed.
     ensures exactly { (list : List Attribute) → AreAttributesOf (chars text.now) file list
         → IsListOrMemory list result }

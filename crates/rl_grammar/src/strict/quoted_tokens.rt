@@ -31,13 +31,13 @@ fn is_bare(kind: Kind, c: char) -> bool
 /// The text after an escape, whose backslash stands before the second text.
 ///
 /// But for line breaks the lenient escapes are the strict ones.
-fn skip_escape<'t>(kind: Kind, text: &'t str, behind: &'t str) -> Option<&'t str>
-    requires backslash { chars text.now ≡ 92 ∷ chars behind.now }
-    requires shorter { length behind.now < length text.now }
-    ensures value { option_map (λ r. chars r.now) result ≡ escape_rest kind (chars behind.now) }
+fn skip_escape<'t>(kind: Kind, text: &'t str, following: &'t str) -> Option<&'t str>
+    requires backslash { chars text.now ≡ 92 ∷ chars following.now }
+    requires shorter { length following.now < length text.now }
+    ensures value { option_map (λ r. chars r.now) result ≡ escape_rest kind (chars following.now) }
     ensures shorter { IfSome result (λ r. length r.now < length text.now) }
 {
-    match split_char(behind)? {
+    match split_char(following)? {
         ('\n', blanks) => {
             if kind.is_string() {
                 Some(skip_class(CharClass::StrictBlank, blanks))
@@ -59,11 +59,11 @@ pub(crate) fn skip_unit(kind: Kind, text: &str) -> Option<&str>
     ensures value { option_map (λ r. chars r.now) result ≡ unit_rest kind (chars text.now) }
     ensures shorter { IfSome result (λ r. length r.now < length text.now) }
 {
-    let (first, behind) = split_char(text)?;
+    let (first, following) = split_char(text)?;
     if first == '\\' {
-        skip_escape(kind, text, behind)
+        skip_escape(kind, text, following)
     } else if is_bare(kind, first) {
-        Some(behind)
+        Some(following)
     } else {
         None
     }

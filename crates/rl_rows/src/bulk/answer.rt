@@ -20,7 +20,7 @@ ghost use Rattle.rl_rows.specs.Answers.{
 
 use super::attributes::attributes_answer;
 use super::command::Command;
-use super::ending::{ended, refused};
+use super::ending::{ended, rejected};
 use super::lent::value_answer;
 use super::literal::literal_of;
 use super::sources::source_answer;
@@ -98,7 +98,7 @@ fn read_answer(alloc: Global, text: &str) -> Result<String, AllocError>
 {
     match read_all(alloc, text, 0) {
         Ok(literals) => list_answer(alloc, literals.as_slice()),
-        Err(error) => refused(alloc, &error),
+        Err(error) => rejected(alloc, &error),
     }
 }
 

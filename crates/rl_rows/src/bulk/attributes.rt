@@ -3,7 +3,7 @@
 ghost use Rattle.std.specs.Prelude.{IfOk, string_bytes};
 ghost use Rattle.rl_rows.specs.Answers.{IsAttributesAnswer};
 
-use super::ending::{ended, refused};
+use super::ending::{ended, rejected};
 use rl_attributes::read;
 use rl_lines::entry_lines;
 use std::alloc::{AllocError, Global};
@@ -14,6 +14,6 @@ pub(crate) fn attributes_answer(alloc: Global, text: &str) -> Result<String, All
 {
     match read(alloc, text, 0) {
         Ok(attrs) => ended(entry_lines(alloc, attrs.entries())?),
-        Err(error) => refused(alloc, &error),
+        Err(error) => rejected(alloc, &error),
     }
 }

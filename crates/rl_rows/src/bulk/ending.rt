@@ -1,7 +1,7 @@
 //! Answers of several lines: they end in a line with a point.
 
 ghost use Rattle.std.specs.Prelude.{◌≡◌, ◌++◌, IfOk, codes, string_bytes};
-ghost use Rattle.rl_rows.specs.Refused.{refusal_lines};
+ghost use Rattle.rl_rows.specs.Refused.{rejection_lines};
 
 use rl_lines::Refusal;
 use rl_tokens::Error;
@@ -17,8 +17,8 @@ pub(crate) fn ended(lines: String) -> Result<String, AllocError>
 }
 
 /// The line of an error, and one with a point.
-pub(crate) fn refused(alloc: Global, error: &Error) -> Result<String, AllocError>
-    ensures { IfOk result (λ out. string_bytes out ≡ refusal_lines error.now) }
+pub(crate) fn rejected(alloc: Global, error: &Error) -> Result<String, AllocError>
+    ensures { IfOk result (λ out. string_bytes out ≡ rejection_lines error.now) }
 {
     format!(in alloc; "{}\n.\n", Refusal(error))
 }

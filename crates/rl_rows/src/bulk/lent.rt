@@ -7,7 +7,7 @@ ghost use Rattle.rl_tokens.specs.Reading.{Characters, HasContents};
 ghost use Rattle.rl_grammar.specs.WholeShapes.{IsPlain};
 ghost use Rattle.rust_literals.specs.Literals.{token_of};
 ghost use Rattle.rust_literals.specs.LitParts.{ReadsPlain};
-ghost use Rattle.rl_rows.specs.Lent.{IsLent, IsHeld, lent_line, IsLentAnswer};
+ghost use Rattle.rl_rows.specs.Lent.{IsBorrowed, IsHeld, lent_line, IsBorrowedAnswer};
 
 use super::literal::literal_of;
 use rl_grammar::{Kind, is_plain};
@@ -44,7 +44,7 @@ fn lent_digits<'a>(kind: Kind, text: &str, digits: &'a str) -> Option<&'a [u8]>
 /// What a literal stands for, where that is its body, byte for byte.
 fn lent(literal: &Lit) -> Option<&[u8]>
     requires { IsHeld literal.now }
-    ensures some { IfSome result (λ lent. IsLent (token_of literal.now).text lent.now) }
+    ensures some { IfSome result (λ lent. IsBorrowed (token_of literal.now).text lent.now) }
     ensures none { IfNone result (ReadsPlain (token_of literal.now).text → ⊥) }
 {
     match literal {
@@ -70,7 +70,7 @@ fn lent_line(alloc: Global, bytes: &[u8]) -> Result<String, AllocError>
 
 /// What the text stands for as a literal, where that is its body, byte for byte, written as a byte string; else `None`.
 pub(crate) fn value_answer(alloc: Global, text: &str) -> Result<String, AllocError>
-    ensures { IfOk result (λ out. IsLentAnswer text.now (string_bytes out)) }
+    ensures { IfOk result (λ out. IsBorrowedAnswer text.now (string_bytes out)) }
 {
     let literal = literal_of(alloc, text)?;
     match lent(&literal) {

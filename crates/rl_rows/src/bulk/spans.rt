@@ -3,7 +3,7 @@
 ghost use Rattle.std.specs.Prelude.{◌≡◌, ◌++◌, OnOk, IfOk, string_bytes};
 ghost use Rattle.rl_rows.specs.Spans.{span_line, span_lines, IsSpansAnswer};
 
-use super::ending::{ended, refused};
+use super::ending::{ended, rejected};
 use rl_lines::label_of;
 use rl_tokens::{Literal, Span};
 use rust_literals::{Lit, read_all};
@@ -41,6 +41,6 @@ pub(crate) fn spans_answer(alloc: Global, text: &str) -> Result<String, AllocErr
 {
     match read_all(alloc, text, 0) {
         Ok(literals) => ended(lines_of_spans(alloc, literals.as_slice())?),
-        Err(error) => refused(alloc, &error),
+        Err(error) => rejected(alloc, &error),
     }
 }

@@ -15,15 +15,15 @@ use Rattle.rl_tokens.specs.Classes.{after_run, is_hash}
 abbrev pub begins_hashed_quote : List ℕ → Bool
 begins_hashed_quote t = slice_index (after_run is_hash t) 0 == code "\""
 
-abbrev pub begins_raw_behind : List ℕ → Bool → Bool
-begins_raw_behind [] b = false
-begins_raw_behind (c ∷ cs) b = b && c == code "r" && begins_hashed_quote cs
+abbrev pub begins_raw_after : List ℕ → Bool → Bool
+begins_raw_after [] b = false
+begins_raw_after (c ∷ cs) b = b && c == code "r" && begins_hashed_quote cs
 
 abbrev pub begins_raw : List ℕ → Bool
 begins_raw [] = false
 begins_raw (c ∷ cs) =
     (c == code "r" && begins_hashed_quote cs)
-    || begins_raw_behind cs (c == code "b" || c == code "c")
+    || begins_raw_after cs (c == code "b" || c == code "c")
 
 -- a quoted or raw opener, `b'`, or `'` without an identifier start after it
 abbrev pub begins_quote : List ℕ → Bool

@@ -4,7 +4,7 @@ use Rattle.std.specs.Prelude.{ℕ, ◌&&◌, ◌==◌, List, [], ◌∷◌, cond
 use Rattle.std.proofs.Common.{suc, zero, Option, Some, None}
 use Prim.Native.Char.{code}
 use Rattle.rl_tokens.specs.Texts.{is_white}
-use Rattle.rl_tokens.specs.Trivia.{is_plain_line, is_plain_block}
+use Rattle.rl_tokens.specs.Trivia.{is_comment_line, is_comment_block}
 
 -- What follows the end of a block comment at this depth.
 abbrev pub after_block : ℕ → List ℕ → Option (List ℕ)
@@ -27,8 +27,8 @@ after_line (c ∷ t) = cond (c == code "\n") t (after_line t)
 abbrev pub after_comment : List ℕ → Option (List ℕ)
 after_comment [] = None
 after_comment (c ∷ t) =
-    cond (c == code "/") (cond (is_plain_line t) (Some (after_line t)) None)
-    (cond (c == code "*") (cond (is_plain_block t) (after_block 0 t) None) None)
+    cond (c == code "/") (cond (is_comment_line t) (Some (after_line t)) None)
+    (cond (c == code "*") (cond (is_comment_block t) (after_block 0 t) None) None)
 
 abbrev pub after_piece : List ℕ → Option (List ℕ)
 after_piece [] = None

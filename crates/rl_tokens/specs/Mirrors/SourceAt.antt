@@ -7,7 +7,7 @@ use Prim.Native.Char.{code}
 use Rattle.rl_tokens.specs.Texts.{first_passes, begins}
 use Rattle.rl_tokens.specs.declared.lex_error.LexKind.{LexKind}
 use Rattle.rl_tokens.specs.declared.lex_error.LexKind.TheVariants.{UnclosedComment, UnclosedQuote}
-use Rattle.rl_tokens.specs.Trivia.{is_plain_line, is_plain_block}
+use Rattle.rl_tokens.specs.Trivia.{is_comment_line, is_comment_block}
 use Rattle.rl_tokens.specs.Lexemes.{is_start, is_continue, begins_raw_identifier}
 use Rattle.rl_tokens.specs.Mirrors.LexemeAt.{begins_quote}
 use Rattle.rl_tokens.specs.Classes.{after_run}
@@ -18,8 +18,8 @@ use Rattle.rl_tokens.specs.Sources.{is_in_line, is_apostrophe, SourceKind, RawId
 abbrev pub after_doc : List ℕ → Option (List ℕ)
 after_doc [] = None
 after_doc (c ∷ t) =
-    cond (c == code "/") (cond (is_plain_line t) None (Some (after_run is_in_line t)))
-    (cond (c == code "*") (cond (is_plain_block t) None (after_block 0 t)) None)
+    cond (c == code "/") (cond (is_comment_line t) None (Some (after_run is_in_line t)))
+    (cond (c == code "*") (cond (is_comment_block t) None (after_block 0 t)) None)
 
 -- what follows an identifier
 abbrev pub after_name : List ℕ → Option (List ℕ)

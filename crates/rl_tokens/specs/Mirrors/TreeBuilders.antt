@@ -15,7 +15,7 @@ use Rattle.rl_tokens.specs.Texts.{is_among, begins, xid_ok}
 use Rattle.rl_tokens.specs.Puncts.{is_punct}
 use Rattle.rl_tokens.specs.Lexemes.{LexemeForm, LiteralForm, IdentifierForm, DelimiterForm, MarkForm, delimiters, begins_raw_identifier}
 use Rattle.rl_tokens.specs.Trees.{FlatToken, Opening, Closing, tree_view, stream_view, flat, flat_trees}
-use Rattle.rl_tokens.specs.Lexing.{OpenGroup, is_opener, is_closer, closes, popped, innermost, behind_form, flat_form, begins_doc_comment, begins_lifetime}
+use Rattle.rl_tokens.specs.Lexing.{OpenGroup, is_opener, is_closer, closes, popped, innermost, after_form, flat_form, begins_doc_comment, begins_lifetime}
 use Rattle.rl_tokens.specs.Mirrors.LexemeAt.{begins_quote}
 
 abbrev pub opener_of : Delimiter → ℕ
@@ -72,15 +72,15 @@ pub record ClosesGroup {A : Type 0} (old new : TreeBuilder A) (delimiter : Delim
       ++ (Closing delimiter (record { file = old.file; lo = lo; hi = hi }) ∷ [])
 
 -- why a group can't be opened, and why it can't be closed
-abbrev pub RefusesOpener : List OpenGroup → LexKind → Type 0
-RefusesOpener groups TooDeep = length groups ≡ 128
-RefusesOpener groups Memory = ⊤
-RefusesOpener groups _ = ⊥
+abbrev pub RejectsOpener : List OpenGroup → LexKind → Type 0
+RejectsOpener groups TooDeep = length groups ≡ 128
+RejectsOpener groups Memory = ⊤
+RejectsOpener groups _ = ⊥
 
-abbrev pub RefusesCloser : List OpenGroup → Delimiter → LexKind → Type 0
-RefusesCloser groups delimiter UnmatchedClose = closes groups (closer_of delimiter) ≡ false
-RefusesCloser groups delimiter Memory = ⊤
-RefusesCloser groups delimiter _ = ⊥
+abbrev pub RejectsCloser : List OpenGroup → Delimiter → LexKind → Type 0
+RejectsCloser groups delimiter UnmatchedClose = closes groups (closer_of delimiter) ≡ false
+RejectsCloser groups delimiter Memory = ⊤
+RejectsCloser groups delimiter _ = ⊥
 
 -- a group is open where the text ends
 pub record EndsInGroup (groups : List OpenGroup) (e : LexError) : Type 0 where
@@ -98,7 +98,7 @@ IsFitting (MarkForm c) text lo hi = IsTrue (is_punct c)
 -- one token more was read
 pub record TakesToken {A : Type 0} (old new : TreeBuilder A) (form : LexemeForm) (text : List ℕ)
     (lo hi : ℕ) : Type 0 where
-  pub groups : behind_form (groups_of old) form lo ≡ Some (groups_of new)
+  pub groups : after_form (groups_of old) form lo ≡ Some (groups_of new)
   pub flat : flat_builder new ≡ flat_builder old
       ++ (flat_form form text (record { file = old.file; lo = lo; hi = hi }) ∷ [])
   pub file : new.file ≡ old.file
@@ -113,15 +113,15 @@ OpensTooDeep groups (DelimiterForm c) = IsTrue (is_opener c) × (length groups �
 OpensTooDeep groups _ = ⊥
 
 -- why a token of this form can't be read
-abbrev pub RefusesForm : List OpenGroup → LexemeForm → LexKind → Type 0
-RefusesForm groups form UnmatchedClose = ClosesWrong groups form
-RefusesForm groups form TooDeep = OpensTooDeep groups form
-RefusesForm groups form Memory = ⊤
-RefusesForm groups form _ = ⊥
+abbrev pub RejectsForm : List OpenGroup → LexemeForm → LexKind → Type 0
+RejectsForm groups form UnmatchedClose = ClosesWrong groups form
+RejectsForm groups form TooDeep = OpensTooDeep groups form
+RejectsForm groups form Memory = ⊤
+RejectsForm groups form _ = ⊥
 
 -- why no lexeme begins the text
-abbrev pub fault_kind : List ℕ → LexKind
-fault_kind r =
+abbrev pub error_kind : List ℕ → LexKind
+error_kind r =
     if begins_doc_comment r then DocComment else
     (if begins (codes "/*") r then UnclosedComment else
     (if begins_quote r then UnclosedQuote else

@@ -18,7 +18,7 @@ use crate::text::{split_ascii, split_char, without_first};
 #[inline(never)]
 pub(crate) fn after_decimal(text: &str) -> &str
     ensures rest { chars result.now ≡ after_decimal (chars text.now) }
-    ensures behind { IsTail text.now result.now }
+    ensures following { IsTail text.now result.now }
 {
     after_suffix(after_exponent(after_fraction(skip_class(CharClass::Numeral, text))))
 }
@@ -27,11 +27,11 @@ pub(crate) fn after_decimal(text: &str) -> &str
 #[inline(always)]
 pub(crate) fn after_digits(text: &str) -> &str
     ensures rest { chars result.now ≡ after_run is_ascii_digit (chars text.now) }
-    ensures behind { IsTail text.now result.now }
+    ensures following { IsTail text.now result.now }
 {
     let mut rest = text;
-    while let Some(behind) = without_digit(rest) {
-        rest = behind;
+    while let Some(following) = without_digit(rest) {
+        rest = following;
     }
     rest
 }
@@ -43,11 +43,11 @@ fn without_digit(text: &str) -> Option<&str>
     ensures some { IfSome result (λ rest. after_run is_ascii_digit (chars text.now)
         ≡ after_run is_ascii_digit (chars rest.now)) }
     ensures none { IfNone result (after_run is_ascii_digit (chars text.now) ≡ chars text.now) }
-    ensures behind { IfSome result (λ rest. IsTail text.now rest.now) }
+    ensures following { IfSome result (λ rest. IsTail text.now rest.now) }
     ensures shorter { IfSome result (λ rest. length rest.now < length text.now) }
 {
     match split_ascii(text) {
-        Some((byte, behind)) if (byte as char).is_ascii_digit() => Some(behind),
+        Some((byte, following)) if (byte as char).is_ascii_digit() => Some(following),
         _ => None,
     }
 }
@@ -67,7 +67,7 @@ pub(crate) fn ends_number(text: &str) -> bool
 /// What follows the dot part, where there is one.
 fn after_fraction(text: &str) -> &str
     ensures rest { chars result.now ≡ after_lexed_fraction (chars text.now) }
-    ensures behind { IsTail text.now result.now }
+    ensures following { IsTail text.now result.now }
 {
     if begins_dot(text) {
         skip_class(CharClass::Numeral, without_first(text))
@@ -81,7 +81,7 @@ fn begins_dot(text: &str) -> bool
     ensures { result ≡ begins_dot (chars text.now) }
 {
     match split_char(text) {
-        Some(('.', behind)) => match split_char(behind) {
+        Some(('.', following)) => match split_char(following) {
             Some((next, _)) => !(next == '.' || is_start(next)),
             None => true,
         },
@@ -92,10 +92,10 @@ fn begins_dot(text: &str) -> bool
 /// What follows the exponent, where there is one.
 fn after_exponent(text: &str) -> &str
     ensures rest { chars result.now ≡ after_lexed_exponent (chars text.now) }
-    ensures behind { IsTail text.now result.now }
+    ensures following { IsTail text.now result.now }
 {
-    if let Some(('e' | 'E', behind)) = split_char(text) {
-        let digits = after_sign(behind);
+    if let Some(('e' | 'E', following)) = split_char(text) {
+        let digits = after_sign(following);
         if let Some((d, _)) = split_char(skip_class(CharClass::Underscore, digits)) {
             if d.is_ascii_digit() {
                 return skip_class(CharClass::Numeral, digits);
@@ -108,10 +108,10 @@ fn after_exponent(text: &str) -> &str
 /// What follows the sign, where there is one.
 fn after_sign(text: &str) -> &str
     ensures rest { chars result.now ≡ after_sign (chars text.now) }
-    ensures behind { IsTail text.now result.now }
+    ensures following { IsTail text.now result.now }
 {
     match split_char(text) {
-        Some(('+' | '-', behind)) => behind,
+        Some(('+' | '-', following)) => following,
         _ => text,
     }
 }

@@ -15,7 +15,7 @@ use crate::text::{begins_with, split_char, without_first};
 /// What follows the literal after whose opening `"` the text stands.
 pub(crate) fn after_quoted(text: &str) -> Option<&str>
     ensures rest { option_map (λ rest. chars rest.now) result ≡ quoted_at (chars text.now) }
-    ensures behind { IfSome result (λ rest. IsTail text.now rest.now) }
+    ensures following { IfSome result (λ rest. IsTail text.now rest.now) }
 {
     let rest = after_quote(text)?;
     Some(after_suffix(rest))
@@ -24,7 +24,7 @@ pub(crate) fn after_quoted(text: &str) -> Option<&str>
 /// What follows the character literal after whose opening `'` the text stands.
 pub(crate) fn after_character(text: &str) -> Option<&str>
     ensures rest { option_map (λ rest. chars rest.now) result ≡ single_at (chars text.now) }
-    ensures behind { IfSome result (λ rest. IsTail text.now rest.now) }
+    ensures following { IfSome result (λ rest. IsTail text.now rest.now) }
 {
     let rest = after_single(text)?;
     Some(after_suffix(rest))
@@ -33,7 +33,7 @@ pub(crate) fn after_character(text: &str) -> Option<&str>
 /// What follows the raw literal after whose `r` the text stands.
 pub(crate) fn after_raw_literal(text: &str) -> Option<&str>
     ensures rest { option_map (λ rest. chars rest.now) result ≡ raw_at (chars text.now) }
-    ensures behind { IfSome result (λ rest. IsTail text.now rest.now) }
+    ensures following { IfSome result (λ rest. IsTail text.now rest.now) }
 {
     let (count, opener) = split_hashes(text);
     let rest = after_raw(count, without_first(opener))?;
@@ -52,14 +52,14 @@ pub(crate) fn begins_hashed_quote(text: &str) -> bool
 #[inline(never)]
 fn after_quote(text: &str) -> Option<&str>
     ensures rest { option_map (λ rest. chars rest.now) result ≡ after_quote (chars text.now) }
-    ensures behind { IfSome result (λ rest. IsTail text.now rest.now) }
+    ensures following { IfSome result (λ rest. IsTail text.now rest.now) }
 {
     let mut rest = text;
-    while let Some((mark, behind)) = next_mark(Marks::two(b'"', b'\\'), rest) {
+    while let Some((mark, following)) = next_mark(Marks::two(b'"', b'\\'), rest) {
         if mark == b'"' {
-            return Some(behind);
+            return Some(following);
         }
-        let (_, more) = split_char(behind)?;
+        let (_, more) = split_char(following)?;
         rest = more;
     }
     None
@@ -69,14 +69,14 @@ fn after_quote(text: &str) -> Option<&str>
 #[inline(never)]
 fn after_raw(count: usize, text: &str) -> Option<&str>
     ensures rest { option_map (λ rest. chars rest.now) result ≡ after_raw count (chars text.now) }
-    ensures behind { IfSome result (λ rest. IsTail text.now rest.now) }
+    ensures following { IfSome result (λ rest. IsTail text.now rest.now) }
 {
     let mut rest = text;
-    while let Some((_, behind)) = next_mark(Marks::two(b'"', b'"'), rest) {
-        if let Some(end) = strip_hashes(behind, count) {
+    while let Some((_, following)) = next_mark(Marks::two(b'"', b'"'), rest) {
+        if let Some(end) = strip_hashes(following, count) {
             return Some(end);
         }
-        rest = behind;
+        rest = following;
     }
     None
 }
@@ -84,10 +84,10 @@ fn after_raw(count: usize, text: &str) -> Option<&str>
 /// What follows the `'` that ends a character, by what stands after the opening one.
 fn after_single(text: &str) -> Option<&str>
     ensures rest { option_map (λ rest. chars rest.now) result ≡ after_single (chars text.now) }
-    ensures behind { IfSome result (λ rest. IsTail text.now rest.now) }
+    ensures following { IfSome result (λ rest. IsTail text.now rest.now) }
 {
-    let (c, behind) = split_char(text)?;
-    let (second, more) = split_char(behind)?;
+    let (c, following) = split_char(text)?;
+    let (second, more) = split_char(following)?;
     if c == '\\' {
         after_apostrophe(more)
     } else if second == '\'' {
@@ -100,17 +100,17 @@ fn after_single(text: &str) -> Option<&str>
 /// What follows the `'` that ends an escaped character, by what stands after the escaped one.
 fn after_apostrophe(text: &str) -> Option<&str>
     ensures rest { option_map (λ rest. chars rest.now) result ≡ after_apostrophe (chars text.now) }
-    ensures behind { IfSome result (λ rest. IsTail text.now rest.now) }
+    ensures following { IfSome result (λ rest. IsTail text.now rest.now) }
 {
     let mut rest = text;
-    while let Some((c, behind)) = split_char(rest) {
+    while let Some((c, following)) = split_char(rest) {
         if c == '\'' {
-            return Some(behind);
+            return Some(following);
         }
         if c == '\n' {
             return None;
         }
-        rest = behind;
+        rest = following;
     }
     None
 }
@@ -119,16 +119,16 @@ fn after_apostrophe(text: &str) -> Option<&str>
 pub(crate) fn split_hashes(text: &str) -> (usize, &str)
     ensures count { result.0 ≡ hashes (chars text.now) }
     ensures rest { chars result.1.now ≡ after_run is_hash (chars text.now) }
-    ensures behind { IsTail text.now result.1.now }
+    ensures following { IsTail text.now result.1.now }
 {
     let mut count: usize = 0;
     let mut rest = text;
-    while let Some((c, behind)) = split_char(rest) {
+    while let Some((c, following)) = split_char(rest) {
         if c != '#' {
             break;
         }
         count += 1;
-        rest = behind;
+        rest = following;
     }
     (count, rest)
 }
@@ -138,13 +138,13 @@ pub(crate) fn strip_hashes(text: &str, count: usize) -> Option<&str>
     ensures rest { MatchOption result (begins_hashes count (chars text.now) ≡ false)
         (λ rest. chars rest.now ≡ drop count (chars text.now)) }
     ensures stands { IfSome result (λ rest. begins_hashes count (chars text.now) ≡ true) }
-    ensures behind { IfSome result (λ rest. IsTail text.now rest.now) }
+    ensures following { IfSome result (λ rest. IsTail text.now rest.now) }
 {
     let mut rest = text;
     let mut left = count;
     while left > 0 {
         match split_char(rest) {
-            Some(('#', behind)) => rest = behind,
+            Some(('#', following)) => rest = following,
             _ => return None,
         }
         left -= 1;

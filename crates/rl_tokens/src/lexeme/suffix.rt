@@ -13,7 +13,7 @@ use crate::text::{split_ascii, split_char};
 #[inline(always)]
 pub(crate) fn after_suffix(text: &str) -> &str
     ensures rest { chars result.now ≡ after_suffix (chars text.now) }
-    ensures behind { IsTail text.now result.now }
+    ensures following { IsTail text.now result.now }
 {
     match split_ascii(text) {
         Some((byte, _)) if !is_start(byte as char) => text,
@@ -25,10 +25,10 @@ pub(crate) fn after_suffix(text: &str) -> &str
 #[inline(never)]
 fn after_some_suffix(text: &str) -> &str
     ensures rest { chars result.now ≡ after_suffix (chars text.now) }
-    ensures behind { IsTail text.now result.now }
+    ensures following { IsTail text.now result.now }
 {
     match split_char(text) {
-        Some((c, behind)) if is_start(c) => skip_class(CharClass::Continue, behind),
+        Some((c, following)) if is_start(c) => skip_class(CharClass::Continue, following),
         _ => text,
     }
 }

@@ -1,7 +1,7 @@
 //! Number types that are made from the digits of a number.
 
 ghost use Rattle.std.specs.Prelude.{IfOk, IfErr};
-ghost use Rattle.rust_literals.specs.Base10.{AreBase10Digits, IsMadeOf, IsRefusedBy, IsReported};
+ghost use Rattle.rust_literals.specs.Base10.{AreBase10Digits, IsMadeOf, IsRejectedBy, IsReported};
 
 use crate::number::{Number, NumberKind};
 use rl_tokens::{Error, ErrorKind, Span};
@@ -45,8 +45,8 @@ impl<K: NumberKind, A: Allocator> Number<K, A> {
         N::Err: Display + Drop,
         ensures ok { IfOk result
             (IsMadeOf N.from_str_gives (AreBase10Digits K.KIND self.now.text)) }
-        ensures refused { IfErr result
-            (IsRefusedBy N.from_str_gives N.Err.output (AreBase10Digits K.KIND self.now.text)
+        ensures rejected { IfErr result
+            (IsRejectedBy N.from_str_gives N.Err.output (AreBase10Digits K.KIND self.now.text)
             self.now.span) }
     {
         match N::from_str(self.base10_digits()) {

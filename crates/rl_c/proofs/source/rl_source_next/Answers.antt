@@ -6,7 +6,7 @@ use Rattle.rl_c.proofs.SourceLemmas.{stands_at, at_end, found_token}
 use Rattle.rl_c.proofs.source.rl_source_next.Goals as goal
 
 pub resume-tokens-requires : goal.resume-tokens-requires
-resume-tokens-requires c = record { is_text = c.from_utf8_unchecked-text.utf8; behind = behind_drop c.from_utf8_unchecked-text.result.now c.range_from.result.now c.args.at c.range_from.ensures.value c.range_from.utf8 }
+resume-tokens-requires c = record { is_text = c.from_utf8_unchecked-text.utf8; following = behind_drop c.from_utf8_unchecked-text.result.now c.range_from.result.now c.args.at c.range_from.ensures.value c.range_from.utf8 }
 
 pub returns-in-None-clause-end : goal.returns-in-None-clause-end
 returns-in-None-clause-end c = λ _.

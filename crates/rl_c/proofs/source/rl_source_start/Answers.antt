@@ -8,4 +8,4 @@ returns-clause-place c =
     let lent = c.from_utf8_unchecked-text.result.now in
     let at = length lent - length c.rest.result.now in
     subst (λ z. IsCharBoundary z at) c.from_utf8_unchecked-text.ensures
-    (subst (λ z. IsCharBoundary lent (length lent - length z)) (sym c.rest.ensures) (cut_boundary lent c.new.result.rest c.new.ensures.behind.behind))
+    (subst (λ z. IsCharBoundary lent (length lent - length z)) (sym c.rest.ensures) (cut_boundary lent c.new.result.rest c.new.ensures.following.following))

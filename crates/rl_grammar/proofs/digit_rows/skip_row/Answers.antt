@@ -58,5 +58,5 @@ returns c =
     record {
       has_digit = ap (λ p. p.0) passed;
       rest = ap (λ p. p.2) passed;
-      behind = behind_drop t rest i c.range_from.ensures.value c.range_from.utf8;
+      following = behind_drop t rest i c.range_from.ensures.value c.range_from.utf8;
     }

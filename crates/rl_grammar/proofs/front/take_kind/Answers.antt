@@ -9,7 +9,7 @@ pub returns-in_default-find_as-clause-runs : goal.returns-in_default-find_as-cla
 returns-in_default-find_as-clause-runs g c =
     let front : IsFront (trees_in c.args.input.now) (front_token c.in-Some.front) (trees_in c.take.new.input) = search rules in
     inr (record {
-      refusal = search rules;
+      rejection = search rules;
       none = other_of c.args.kind (trees_in c.args.input.now) (front_token c.in-Some.front) (trees_in c.take.new.input) front (search rules);
       passed = search rules;
     })

@@ -9,9 +9,9 @@ put_run-at-requires c =
     let l = c.loop-piece in
     let cut = c.split_plain.ensures in
     let run : IsUtf8 c.split_plain.result.0.now = search rules in
-    let behind : IsUtf8 c.split_plain.result.1.now = search rules in
+    let following : IsUtf8 c.split_plain.result.1.now = search rules in
     let room : length c.args.text.now ≤ length l.out = omega (arith, l.invariant.len, c.requires.room) in
-    omega (arith, room, run_room _ _ _ _ _ _ _ l.invariant.filled cut.cut cut.plain c.utf8.text run behind room)
+    omega (arith, room, run_room _ _ _ _ _ _ _ l.invariant.filled cut.cut cut.plain c.utf8.text run following room)
 
 pub returns-in_default-clause-decodes : goal.returns-in_default-clause-decodes
 returns-in_default-clause-decodes c =
@@ -19,9 +19,9 @@ returns-in_default-clause-decodes c =
     let cut = c.split_plain.ensures in
     let put = c.put_run-at.ensures in
     let run : IsUtf8 c.split_plain.result.0.now = search rules in
-    let behind : IsUtf8 c.split_plain.result.1.now = search rules in
+    let following : IsUtf8 c.split_plain.result.1.now = search rules in
     let room : length c.args.text.now ≤ length l.out = omega (arith, l.invariant.len, c.requires.room) in
-    let f = run_filled _ _ _ _ _ _ _ _ _ l.invariant.filled cut.cut cut.plain c.utf8.text run behind room put.end put.bytes in
+    let f = run_filled _ _ _ _ _ _ _ _ _ l.invariant.filled cut.cut cut.plain c.utf8.text run following room put.end put.bytes in
     let none : unit_at c.args.kind (chars c.split_plain.result.1.now) ≡ None = search rules in
     record { value = f.value; rest = _; row = f.row; stuck = none; bytes_are = f.bytes }
 
@@ -31,9 +31,9 @@ returns-in_default-clause-within c =
     let cut = c.split_plain.ensures in
     let put = c.put_run-at.ensures in
     let run : IsUtf8 c.split_plain.result.0.now = search rules in
-    let behind : IsUtf8 c.split_plain.result.1.now = search rules in
+    let following : IsUtf8 c.split_plain.result.1.now = search rules in
     let room : length c.args.text.now ≤ length l.out = omega (arith, l.invariant.len, c.requires.room) in
-    omega (arith, put.end, run_room _ _ _ _ _ _ _ l.invariant.filled cut.cut cut.plain c.utf8.text run behind room)
+    omega (arith, put.end, run_room _ _ _ _ _ _ _ l.invariant.filled cut.cut cut.plain c.utf8.text run following room)
 
 pub put_piece-at-requires : goal.put_piece-at-requires
 put_piece-at-requires c =
@@ -41,10 +41,10 @@ put_piece-at-requires c =
     let cut = c.split_plain.ensures in
     let put = c.put_run-at.ensures in
     let run : IsUtf8 c.split_plain.result.0.now = search rules in
-    let behind : IsUtf8 c.split_plain.result.1.now = search rules in
+    let following : IsUtf8 c.split_plain.result.1.now = search rules in
     let after : IsUtf8 c.in-Some.after.now = search rules in
     let room : length c.args.text.now ≤ length l.out = omega (arith, l.invariant.len, c.requires.room) in
-    let f = run_filled _ _ _ _ _ _ _ _ _ l.invariant.filled cut.cut cut.plain c.utf8.text run behind room put.end put.bytes in
+    let f = run_filled _ _ _ _ _ _ _ _ _ l.invariant.filled cut.cut cut.plain c.utf8.text run following room put.end put.bytes in
     let more : length c.args.text.now ≤ length c.put_run-at.new.out = omega (arith, room, put.len) in
     let unit = c.in-Some.ensures in
     omega (arith, more, piece_room _ _ _ _ _ _ c.in-Some.piece f unit.value unit.piece c.utf8.text after more)
@@ -55,10 +55,10 @@ loop-piece-preserved c =
     let cut = c.split_plain.ensures in
     let put = c.put_run-at.ensures in
     let run : IsUtf8 c.split_plain.result.0.now = search rules in
-    let behind : IsUtf8 c.split_plain.result.1.now = search rules in
+    let following : IsUtf8 c.split_plain.result.1.now = search rules in
     let after : IsUtf8 c.in-Some.after.now = search rules in
     let room : length c.args.text.now ≤ length l.out = omega (arith, l.invariant.len, c.requires.room) in
-    let f = run_filled _ _ _ _ _ _ _ _ _ l.invariant.filled cut.cut cut.plain c.utf8.text run behind room put.end put.bytes in
+    let f = run_filled _ _ _ _ _ _ _ _ _ l.invariant.filled cut.cut cut.plain c.utf8.text run following room put.end put.bytes in
     let more : length c.args.text.now ≤ length c.put_run-at.new.out = omega (arith, room, put.len) in
     let unit = c.in-Some.ensures in
     let last = c.put_piece-at.ensures in

@@ -11,8 +11,8 @@ use Rattle.rl_grammar.proofs.quoted_forms.cooked_inside.Goals as goal
 
 pub cut_at_quote-requires : goal.cut_at_quote-requires
 cut_at_quote-requires c =
-    let behind : IsUtf8 c.split_plain.result.1.now = search rules in
-    behind_chars _ _ _ c.utf8.text behind c.split_plain.ensures.cut
+    let following : IsUtf8 c.split_plain.result.1.now = search rules in
+    behind_chars _ _ _ c.utf8.text following c.split_plain.ensures.cut
 
 pub cut_at_quote-requires-2 : goal.cut_at_quote-requires-2
 cut_at_quote-requires-2 c =
@@ -23,9 +23,9 @@ cut_at_quote-requires-2 c =
 pub returns-in-Some-clause-some : goal.returns-in-Some-clause-some
 returns-in-Some-clause-some c =
     let cut = c.split_plain.ensures in
-    let behind = chars c.split_plain.result.1.now in
-    let (w, row) = row_behind _ _ _ _ _ cut.plain (row_start c.args.kind behind) in
-    let whole = subst (λ t. BeginsRow c.args.kind t w behind) (sym cut.cut) row in
+    let following = chars c.split_plain.result.1.now in
+    let (w, row) = row_behind _ _ _ _ _ cut.plain (row_start c.args.kind following) in
+    let whole = subst (λ t. BeginsRow c.args.kind t w following) (sym cut.cut) row in
     let found = c.in-Some.ensures in
     let (v, parts) = cooked_found _ _ _ _ (Some (c.in-Some.body, c.in-Some.suffix)) c.requires whole found.before found.quote in
     record {

@@ -6,7 +6,7 @@ use Rattle.rl_tokens.proofs.classes.skip_class.Given as goal
 
 abbrev pub invariant-loop-byte : goal.invariant-loop-byte
 invariant-loop-byte l = record {
-  behind : IsTail l.text l.rest;
+  following : IsTail l.text l.rest;
   same : after_run (class_test l.class) (chars l.rest) ≡ after_run (class_test l.class) (chars l.text);
 }
 

@@ -7,6 +7,6 @@ use Rattle.rl_tokens.proofs.classes.skip_wide_class.Goals as goal
 
 pub loop-c-preserved : goal.loop-c-preserved
 loop-c-preserved c = record {
-  behind = behind_step c.args.text.now c.loop-c.rest.now c.in-Some.behind.now c.loop-c.invariant.behind c.in-Some.ensures.behind;
-  same = row_step (class_test c.args.class) (chars c.loop-c.rest.now) (chars c.in-Some.behind.now) c.in-Some.c c.in-Some.ensures.chars (sym c.if-not-is_of.ensures) ∙ c.loop-c.invariant.same;
+  following = behind_step c.args.text.now c.loop-c.rest.now c.in-Some.following.now c.loop-c.invariant.following c.in-Some.ensures.following;
+  same = row_step (class_test c.args.class) (chars c.loop-c.rest.now) (chars c.in-Some.following.now) c.in-Some.c c.in-Some.ensures.chars (sym c.if-not-is_of.ensures) ∙ c.loop-c.invariant.same;
 }

@@ -6,7 +6,7 @@ use Rattle.rl_tokens.proofs.classes.skip_wide_class.Given as goal
 
 abbrev pub invariant-loop-c : goal.invariant-loop-c
 invariant-loop-c l = record {
-  behind : IsTail l.text l.rest;
+  following : IsTail l.text l.rest;
   same : after_run (class_test l.class) (chars l.rest) ≡ after_run (class_test l.class) (chars l.text);
 }
 

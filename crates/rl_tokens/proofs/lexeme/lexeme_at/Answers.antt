@@ -10,10 +10,10 @@ pub returns-then-is_ascii_digit-clause-rest : goal.returns-then-is_ascii_digit-c
 returns-then-is_ascii_digit-clause-rest c =
     let is : is_ascii_digit c.in-Some.byte ≡ true = search rules in
     ap (λ r. Some (LiteralForm, r)) (c.after_digit.ensures.rest c.in-Some.byte)
-    ∙ sym (digit_first (chars c.args.text.now) (chars c.in-Some.behind.now) c.in-Some.byte c.in-Some.ensures.some is)
+    ∙ sym (digit_first (chars c.args.text.now) (chars c.in-Some.following.now) c.in-Some.byte c.in-Some.ensures.some is)
 
-pub returns-then-is_ascii_digit-clause-behind : goal.returns-then-is_ascii_digit-clause-behind
-returns-then-is_ascii_digit-clause-behind c = behind_step _ _ _ c.in-Some.ensures.behind c.after_digit.ensures.behind
+pub returns-then-is_ascii_digit-clause-following : goal.returns-then-is_ascii_digit-clause-following
+returns-then-is_ascii_digit-clause-following c = behind_step _ _ _ c.in-Some.ensures.following c.after_digit.ensures.following
 
 pub returns-then-is_ascii_digit-clause-shorter : goal.returns-then-is_ascii_digit-clause-shorter
-returns-then-is_ascii_digit-clause-shorter c = nearer _ _ _ c.in-Some.ensures.shorter c.after_digit.ensures.behind
+returns-then-is_ascii_digit-clause-shorter c = nearer _ _ _ c.in-Some.ensures.shorter c.after_digit.ensures.following

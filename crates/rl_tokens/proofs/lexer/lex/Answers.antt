@@ -1,18 +1,18 @@
-use Rattle.rl_tokens.proofs.LexLaws.{one_list, one_fault, never_both}
+use Rattle.rl_tokens.proofs.LexLaws.{one_list, one_error, never_both}
 use Rattle.rl_tokens.proofs.PrintedAnswers.{printed_answer, reprinted_answer}
 use Rattle.rl_tokens.proofs.lexer.lex.Goals as goal
 
 pub returns-clause-one_list : goal.returns-clause-one_list
 returns-clause-one_list g c = one_list
 
-pub returns-clause-one_fault : goal.returns-clause-one_fault
-returns-clause-one_fault g c = one_fault
+pub returns-clause-one_error : goal.returns-clause-one_error
+returns-clause-one_error g c = one_error
 
 pub returns-clause-never_both : goal.returns-clause-never_both
 returns-clause-never_both g c = never_both
 
 pub returns-clause-printed : goal.returns-clause-printed
-returns-clause-printed g c = printed_answer c.args.text.now c.args.file c.trees_of.result c.trees_of.ensures.trees c.trees_of.ensures.refused
+returns-clause-printed g c = printed_answer c.args.text.now c.args.file c.trees_of.result c.trees_of.ensures.trees c.trees_of.ensures.rejected
 
 pub returns-clause-reprinted : goal.returns-clause-reprinted
-returns-clause-reprinted g c = reprinted_answer c.args.text.now c.args.file c.trees_of.result c.trees_of.ensures.trees c.trees_of.ensures.refused
+returns-clause-reprinted g c = reprinted_answer c.args.text.now c.args.file c.trees_of.result c.trees_of.ensures.trees c.trees_of.ensures.rejected

@@ -25,6 +25,6 @@ returns c =
       cut = run_cut q high t c.utf8.text ∙ ap₂ (λ a b. chars a ++ chars b) front back;
       others = ap (λ a. list_all q (chars a)) (sym front) ∙ run_plain q high t c.utf8.text;
       stops = ap (λ b. first_passes q (chars b)) (sym back) ∙ run_stop q high t c.utf8.text;
-      behind = subst (IsTail t) back (run_behind q high t c.utf8.text);
+      following = subst (IsTail t) back (run_behind q high t c.utf8.text);
       shorter = search rules;
     }

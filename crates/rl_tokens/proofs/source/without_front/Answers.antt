@@ -1,7 +1,7 @@
 use Rattle.std.proofs.Common.{subst, ℕ, List}
 use Rattle.std.specs.Str.{chars}
 use Rattle.rl_tokens.specs.Sources.{IsWithoutLine}
-use Rattle.rl_tokens.proofs.source.without_front.Goals as goal
+use Rattle.rl_tokens.proofs.source.without_preamble.Goals as goal
 
 pub returns-clause-front : goal.returns-clause-front
 returns-clause-front c =

@@ -30,5 +30,5 @@ returns-clause-some c =
     let rest : drop 1 t ≡ c.range_from.result.now = sym c.range_from.ensures.value in
     ascii_first t c.utf8.text some (omega (arith, first)) ∙ ap (λ x. x ∷ chars (drop 1 t)) first ∙ ap (λ x. get_or c.as_bytes-bytes.result.now 0 0 ∷ chars x) rest
 
-pub returns-clause-behind : goal.returns-clause-behind
-returns-clause-behind c = behind_drop c.args.text.now c.range_from.result.now 1 c.range_from.ensures.value c.range_from.utf8
+pub returns-clause-following : goal.returns-clause-following
+returns-clause-following c = behind_drop c.args.text.now c.range_from.result.now 1 c.range_from.ensures.value c.range_from.utf8

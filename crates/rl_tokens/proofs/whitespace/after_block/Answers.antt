@@ -84,8 +84,8 @@ returns-then-depth-eq0-clause-rest c =
     ap (after_block 0) (sym c.as_bytes-bytes.ensures.value) ∙ sym c.loop-at.invariant.same ∙ stops ∙ at_zero ∙ ap Some cut in
     block_of_bytes c.args.text.now c.range_from.result.now c.utf8.text c.range_from.utf8 found
 
-pub returns-then-depth-eq0-clause-behind : goal.returns-then-depth-eq0-clause-behind
-returns-then-depth-eq0-clause-behind c =
+pub returns-then-depth-eq0-clause-following : goal.returns-then-depth-eq0-clause-following
+returns-then-depth-eq0-clause-following c =
     behind_drop c.args.text.now c.range_from.result.now (c.loop-at.at + 1 + 1) c.range_from.ensures.value c.range_from.utf8
 
 pub returns-clause-rest : goal.returns-clause-rest

@@ -13,10 +13,10 @@ returns-in-Some c =
     let run = c.skip_class-rest.ensures in
     let more = c.skip_comments.ensures in
     let skipped = skipped_run (chars c.args.text.now) _ _ run.rest more.skipped in
-    record { skipped = skipped; behind = behind_step _ _ _ run.behind more.behind; only = one_rest; again = skipped_again _ _ skipped }
+    record { skipped = skipped; following = behind_step _ _ _ run.following more.following; only = one_rest; again = skipped_again _ _ skipped }
 
 pub returns-in-None : goal.returns-in-None
 returns-in-None c =
     let run = c.skip_class-rest.ensures in
     let none = skipped_none _ (run_ends is_white (chars c.args.text.now) _ run.rest) c.in-None.ensures.rest in
-    record { skipped = skipped_run (chars c.args.text.now) _ _ run.rest none; behind = run.behind; only = one_rest; again = none }
+    record { skipped = skipped_run (chars c.args.text.now) _ _ run.rest none; following = run.following; only = one_rest; again = none }

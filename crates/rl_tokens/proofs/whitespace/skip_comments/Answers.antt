@@ -10,11 +10,11 @@ use Rattle.rl_tokens.proofs.whitespace.skip_comments.Goals as goal
 pub loop-inside-preserved : goal.loop-inside-preserved
 loop-inside-preserved c =
     let run = c.skip_class-rest.ensures in
-    let behind = c.in-Some-after_comment.behind.now in
+    let following = c.in-Some-after_comment.following.now in
     record {
-      behind = behind_step _ _ _ (behind_step _ _ _ (behind_step _ _ _ c.loop-inside.invariant.behind c.in-Some.ensures.behind) c.in-Some-after_comment.ensures.behind) run.behind;
-      dark = run_ends is_white (chars behind) _ run.rest;
-      skipped = λ r s. c.loop-inside.invariant.skipped r (skipped_comment _ _ (chars behind) r c.in-Some.ensures.rest (sym c.in-Some-after_comment.ensures.rest) (skipped_run (chars behind) _ r run.rest s));
+      following = behind_step _ _ _ (behind_step _ _ _ (behind_step _ _ _ c.loop-inside.invariant.following c.in-Some.ensures.following) c.in-Some-after_comment.ensures.following) run.following;
+      dark = run_ends is_white (chars following) _ run.rest;
+      skipped = λ r s. c.loop-inside.invariant.skipped r (skipped_comment _ _ (chars following) r c.in-Some.ensures.rest (sym c.in-Some-after_comment.ensures.rest) (skipped_run (chars following) _ r run.rest s));
     }
 
 pub returns-in_default-after_comment-clause-skipped : goal.returns-in_default-after_comment-clause-skipped

@@ -6,7 +6,7 @@ use Rattle.rl_tokens.proofs.whitespace.skip_comments.Given as goal
 
 abbrev pub invariant-loop-inside : goal.invariant-loop-inside
 invariant-loop-inside l = record {
-  behind : IsTail l.text l.rest;
+  following : IsTail l.text l.rest;
   dark : first_passes is_white (chars l.rest) ≡ false;
   skipped : (r : List ℕ) → Skipped (chars l.rest) r → Skipped (chars l.text) r;
 }

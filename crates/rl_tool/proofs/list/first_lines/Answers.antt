@@ -11,7 +11,7 @@ loop-tokens-init g c = record {
   has = first_none c.args.text.now c.new-tokens.result.rest c.new.result c.new.ensures.bytes c.new-tokens.ensures.skipped;
   same = c.new-tokens.ensures.text;
   empty = c.new-one.ensures.items;
-  room = omega (arith, behind_length c.args.text.now c.new-tokens.result.rest c.new-tokens.ensures.behind.behind);
+  room = omega (arith, behind_length c.args.text.now c.new-tokens.result.rest c.new-tokens.ensures.following.following);
 }
 
 pub overflow_add-count : goal.overflow_add-count

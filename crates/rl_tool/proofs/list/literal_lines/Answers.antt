@@ -15,20 +15,20 @@ whole g c =
 pub returns-then-whole-clause-lines : goal.returns-then-whole-clause-lines
 returns-then-whole-clause-lines g c = (whole g c).lines
 
-pub returns-then-whole-clause-refusal : goal.returns-then-whole-clause-refusal
-returns-then-whole-clause-refusal g c = (whole g c).refusal
+pub returns-then-whole-clause-rejection : goal.returns-then-whole-clause-rejection
+returns-then-whole-clause-rejection g c = (whole g c).rejection
 
-pub returns-in_err-more-clause-refusal : goal.returns-in_err-more-clause-refusal
-returns-in_err-more-clause-refusal g c =
+pub returns-in_err-more-clause-rejection : goal.returns-in_err-more-clause-rejection
+returns-in_err-more-clause-rejection g c =
     let first = c.first_lines-lines.result in
     let are = c.first_lines-lines.ensures in
     let p = err_from_is_err_and c.from_residual.result c.from_residual.ensures.1 in
     rw (p.1, p.2)
     (told_refusal c.args.text.now c.in_err-more.field-0.0 c.utf8.text
-    (c.in_err-more.ensures.refusal are.has.list (are_first c.args.text.now are.rest first.lines first.count are.has)))
+    (c.in_err-more.ensures.rejection are.has.list (are_first c.args.text.now are.rest first.lines first.count are.has)))
 
-behind : (g : given.Over) (c : goal.After-drop-more g) → Answers c.args.text.now c.ok_or-2.result
-behind g c =
+following : (g : given.Over) (c : goal.After-drop-more g) → Answers c.args.text.now c.ok_or-2.result
+following g c =
     let first = c.first_lines-lines.result in
     let are = c.first_lines-lines.ensures in
     answers c.args.text.now (are.has.list ++ c.in_ok-more.more.items) c.with_lines.result c.ok_or-2.result
@@ -38,7 +38,7 @@ behind g c =
     c.ok_or-2.ensures.value
 
 pub returns-clause-lines : goal.returns-clause-lines
-returns-clause-lines g c = (behind g c).lines
+returns-clause-lines g c = (following g c).lines
 
-pub returns-clause-refusal : goal.returns-clause-refusal
-returns-clause-refusal g c = (behind g c).refusal
+pub returns-clause-rejection : goal.returns-clause-rejection
+returns-clause-rejection g c = (following g c).rejection

@@ -5,7 +5,7 @@ use Rattle.rl_tool.proofs.RunLemmas.{refusal_fault, prints_known, begins_known}
 use Rattle.rl_tool.proofs.run.run.Goals as goal
 
 pub returns-in-Err-clause-fault : goal.returns-in-Err-clause-fault
-returns-in-Err-clause-fault g c = refusal_fault c.args.command _ _ c.in_ok-bytes.bytes.items c.in-Err.fault c.in_ok-bytes.ensures.bytes c.in-Err.ensures.refusal
+returns-in-Err-clause-fault g c = refusal_fault c.args.command _ _ c.in_ok-bytes.bytes.items c.in-Err.fault c.in_ok-bytes.ensures.bytes c.in-Err.ensures.rejection
 
 pub returns-clause-printed : goal.returns-clause-printed
 returns-clause-printed g c =

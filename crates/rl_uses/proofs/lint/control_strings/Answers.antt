@@ -1,16 +1,16 @@
 use Rattle.std.proofs.Common.{inr, subst}
 use Rattle.std.proofs.lemmas.Result.{IfOk-weaker, IfErr-weaker}
 use Rattle.rl_uses.specs.Shortage.{IsShortOf}
-use Rattle.rl_uses.specs.Lints.{AreFaults}
+use Rattle.rl_uses.specs.Lints.{AreErrors}
 use Rattle.rl_uses.proofs.lint.control_strings.Goals as goal
 
 pub returns-clause-found : goal.returns-clause-found
 returns-clause-found g c =
     let list = c.in_ok-literals.literals.items in
-    IfOk-weaker c.faults.result _ _ (λ spans h. (list, c.in_ok-literals.ensures.read, subst (λ ls. AreFaults ls spans.items) c.as_slice.ensures.value h)) c.faults.ensures.found
+    IfOk-weaker c.faults.result _ _ (λ spans h. (list, c.in_ok-literals.ensures.read, subst (λ ls. AreErrors ls spans.items) c.as_slice.ensures.value h)) c.faults.ensures.found
 
-pub returns-clause-refused : goal.returns-clause-refused
-returns-clause-refused g c =
+pub returns-clause-rejected : goal.returns-clause-rejected
+returns-clause-rejected g c =
     IfErr-weaker c.faults.result _ _ (λ e h. inr (record {
       list = c.in_ok-literals.literals.items;
       read = c.in_ok-literals.ensures.read;

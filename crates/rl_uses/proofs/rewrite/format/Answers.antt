@@ -9,8 +9,8 @@ returns-clause-printed g c =
     let list = c.in_ok-literals.literals.items in
     IfOk-weaker c.lines.result _ _ (λ printed h. (list, c.in_ok-literals.ensures.read, subst (λ ls. AreLines ls (string_bytes printed)) c.as_slice.ensures.value h)) c.lines.ensures.lines
 
-pub returns-clause-refused : goal.returns-clause-refused
-returns-clause-refused g c =
+pub returns-clause-rejected : goal.returns-clause-rejected
+returns-clause-rejected g c =
     IfErr-weaker c.lines.result _ _ (λ e h. inr (record {
       list = c.in_ok-literals.literals.items;
       read = c.in_ok-literals.ensures.read;

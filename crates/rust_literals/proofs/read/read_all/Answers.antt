@@ -18,12 +18,12 @@ returns-in-Ok-clause-again g c = again_read c.args.text.now c.args.file (Ok c.in
 pub returns-in-Err-clause-read : goal.returns-in-Err-clause-read
 returns-in-Err-clause-read g c = c.read_from.ensures.read [] (record { begun = c.in-Err.ensures.begun; count_is = search rules })
 
-pub returns-in-Err-clause-refused : goal.returns-in-Err-clause-refused
-returns-in-Err-clause-refused g c = c.read_from.ensures.refused [] (record { begun = c.in-Err.ensures.begun; count_is = search rules })
+pub returns-in-Err-clause-rejected : goal.returns-in-Err-clause-rejected
+returns-in-Err-clause-rejected g c = c.read_from.ensures.rejected [] (record { begun = c.in-Err.ensures.begun; count_is = search rules })
 
 pub returns-in-Err-clause-exactly : goal.returns-in-Err-clause-exactly
 returns-in-Err-clause-exactly g c =
-    text_exactly (chars c.args.text.now) c.args.file (length c.args.text.now) c.read_from.result (returns-in-Err-clause-read g c) (returns-in-Err-clause-refused g c)
+    text_exactly (chars c.args.text.now) c.args.file (length c.args.text.now) c.read_from.result (returns-in-Err-clause-read g c) (returns-in-Err-clause-rejected g c)
 
 pub returns-in-Err-clause-printed : goal.returns-in-Err-clause-printed
 returns-in-Err-clause-printed g c = printed_read c.args.text.now c.args.file c.read_from.result c.utf8.text (returns-in-Err-clause-exactly g c)

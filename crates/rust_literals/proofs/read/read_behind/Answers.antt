@@ -15,5 +15,5 @@ none_more g c first are =
 pub returns-clause-read : goal.returns-clause-read
 returns-clause-read g c = λ first are. c.read_from.ensures.read first (none_more g c first are)
 
-pub returns-clause-refused : goal.returns-clause-refused
-returns-clause-refused g c = λ first are. c.read_from.ensures.refused first (none_more g c first are)
+pub returns-clause-rejected : goal.returns-clause-rejected
+returns-clause-rejected g c = λ first are. c.read_from.ensures.rejected first (none_more g c first are)

@@ -3,7 +3,7 @@ use Rattle.std.proofs.lemmas.Result.{err_from_is_err_and}
 use Rattle.rl_tokens.specs.declared.span.Span.{Span}
 use Rattle.rl_tokens.specs.Errors.{memory_at}
 use Rattle.rl_tokens.specs.Buffers.{trees_in, scope_of}
-use Rattle.rust_literals.specs.Parsing.{ReadsLiterals, RefusesNextLiteral, LacksMemory}
+use Rattle.rust_literals.specs.Parsing.{ReadsLiterals, RejectsNextLiteral, LacksMemory}
 use Rattle.rust_literals.proofs.ReadLemmas.{refused_next}
 use Rattle.rust_literals.proofs.LeadsLemmas.{lit_shorter, leads_step}
 use Rattle.rust_literals.proofs.read.read_on.Goals as goal
@@ -24,16 +24,16 @@ loop-alloc-preserved g c =
       scope = c.in_ok-literal.ensures.scope ∙ c.loop-alloc.invariant.scope;
     }
 
-pub returns-in_err-literal-clause-refused : goal.returns-in_err-literal-clause-refused
-returns-in_err-literal-clause-refused g c = λ all gone h.
+pub returns-in_err-literal-clause-rejected : goal.returns-in_err-literal-clause-rejected
+returns-in_err-literal-clause-rejected g c = λ all gone h.
     let p = err_from_is_err_and c.from_residual.result c.from_residual.ensures.1 in
     let some : trees_in c.loop-alloc.input ≢ [] = λ e. absurd (let full = c.is_empty.ensures.1 e in cc) in
     rw (p.1, p.2)
-    (subst (λ (s : Span). RefusesNextLiteral all s c.in_err-literal.field-0.0 ⊎ LacksMemory all s c.in_err-literal.field-0.0) c.loop-alloc.invariant.scope
+    (subst (λ (s : Span). RejectsNextLiteral all s c.in_err-literal.field-0.0 ⊎ LacksMemory all s c.in_err-literal.field-0.0) c.loop-alloc.invariant.scope
     (refused_next all (trees_in c.loop-alloc.input) (trees_in c.parse.new.self) (scope_of c.loop-alloc.input) (gone ++ c.loop-alloc.list.items) c.in_err-literal.field-0.0 (c.loop-alloc.invariant.leads all gone h) some c.in_err-literal.ensures.runs))
 
-pub returns-in-Err-clause-refused : goal.returns-in-Err-clause-refused
-returns-in-Err-clause-refused g c = λ all gone h. inr (record {
+pub returns-in-Err-clause-rejected : goal.returns-in-Err-clause-rejected
+returns-in-Err-clause-rejected g c = λ all gone h. inr (record {
   list = gone ++ c.loop-alloc.list.items;
   rest = trees_in c.loop-alloc.input;
   leads = c.loop-alloc.invariant.leads all gone h;

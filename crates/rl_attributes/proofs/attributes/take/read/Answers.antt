@@ -10,8 +10,8 @@ returns-clause-attributes g c = IfOk-weaker c.parse_all.result _ _ (λ attrs p. 
 pub returns-clause-values : goal.returns-clause-values
 returns-clause-values g c = IfOk-weaker c.parse_all.result _ _ (λ attrs p. p.ran.0.read) c.parse_all.ensures.parsed
 
-pub returns-clause-refused : goal.returns-clause-refused
-returns-clause-refused g c = IfErr-weaker c.parse_all.result _ _ (text_refused c.args.text.now c.args.file) c.parse_all.ensures.refused
+pub returns-clause-rejected : goal.returns-clause-rejected
+returns-clause-rejected g c = IfErr-weaker c.parse_all.result _ _ (text_refused c.args.text.now c.args.file) c.parse_all.ensures.rejected
 
 pub returns-clause-exactly : goal.returns-clause-exactly
-returns-clause-exactly g c = exactly (chars c.args.text.now) c.args.file (length c.args.text.now) c.parse_all.result (returns-clause-attributes g c) (returns-clause-refused g c)
+returns-clause-exactly g c = exactly (chars c.args.text.now) c.args.file (length c.args.text.now) c.parse_all.result (returns-clause-attributes g c) (returns-clause-rejected g c)

@@ -6,7 +6,7 @@ use Rattle.rl_attributes.proofs.attributes.take.take_name.Goals as goal
 pub returns-in-Ok-true-clause-adds : goal.returns-in-Ok-true-clause-adds
 returns-in-Ok-true-clause-adds g c other = rw (sym c.text.ensures.text) (c.in-Ok-true.ensures.updates.0 (record { ref_ptr = (0, 0); now = other }))
 
-pub returns-in-Ok-false-clause-refused : goal.returns-in-Ok-false-clause-refused
-returns-in-Ok-false-clause-refused g c =
+pub returns-in-Ok-false-clause-rejected : goal.returns-in-Ok-false-clause-rejected
+returns-in-Ok-false-clause-rejected g c =
     let again : has_name c.args.names.now c.in-Some.name.now.text ≡ true = search rules in
-    inr (record { why = inr (inl (record { name = c.in-Some.name.now; behind = trees_in c.ident.new.self; named = c.in-Some.ensures.taken; again = again; error = search rules })) })
+    inr (record { why = inr (inl (record { name = c.in-Some.name.now; following = trees_in c.ident.new.self; named = c.in-Some.ensures.taken; again = again; error = search rules })) })

@@ -6,13 +6,13 @@ use Rattle.rl_tokens.specs.Buffers.{trees_in, scope_of}
 use Rattle.rl_quoted.proofs.InsideLemmas.{ran_inside, refuses_trees, refuses_parser, refuses_left}
 use Rattle.rl_quoted.proofs.inside.LitStr+A.parse_whole.Goals as goal
 
-pub returns-in_err-stream-clause-refused : goal.returns-in_err-stream-clause-refused
-returns-in_err-stream-clause-refused g c =
+pub returns-in_err-stream-clause-rejected : goal.returns-in_err-stream-clause-rejected
+returns-in_err-stream-clause-rejected g c =
     let p = err_from_is_err_and c.from_residual.result c.from_residual.ensures.1 in
-    rw (p.1, p.2) (refuses_trees (g.P.Parser.runs c.args.parser) c.args.self.now c.in_err-stream.field-0.0 c.in_err-stream.ensures.refused)
+    rw (p.1, p.2) (refuses_trees (g.P.Parser.runs c.args.parser) c.args.self.now c.in_err-stream.field-0.0 c.in_err-stream.ensures.rejected)
 
-pub returns-in_err-parsed-clause-refused : goal.returns-in_err-parsed-clause-refused
-returns-in_err-parsed-clause-refused g c =
+pub returns-in_err-parsed-clause-rejected : goal.returns-in_err-parsed-clause-rejected
+returns-in_err-parsed-clause-rejected g c =
     let p = err_from_is_err_and c.from_residual-in_err-parsed.result c.from_residual-in_err-parsed.ensures.1 in
     let e = c.in_err-parsed.field-0.0 in
     rw (p.1, p.2)
@@ -20,8 +20,8 @@ returns-in_err-parsed-clause-refused g c =
     (ran_inside (g.P.Parser.runs c.args.parser) c.args.self.now (trees_in c.new-inside.result) (stream_view c.in_ok-stream.stream) (trees_in c.parse.new.input) (trees_in c.parse.new.input) (scope_of c.new-inside.result) (Err e)
     c.in_ok-stream.ensures.ok (c.new-inside.ensures.trees ∙ ap (map tree_view) c.trees.ensures) (c.new-inside.ensures.scope ∙ c.span.ensures) refl c.in_err-parsed.ensures.runs))
 
-pub returns-then-not-is_empty-clause-refused : goal.returns-then-not-is_empty-clause-refused
-returns-then-not-is_empty-clause-refused g c =
+pub returns-then-not-is_empty-clause-rejected : goal.returns-then-not-is_empty-clause-rejected
+returns-then-not-is_empty-clause-rejected g c =
     refuses_left (g.P.Parser.runs c.args.parser) c.args.self.now c.in_ok-parsed.parsed (trees_in c.parse.new.input) c.span-then-not-is_empty.result
     (ran_inside (g.P.Parser.runs c.args.parser) c.args.self.now (trees_in c.new-inside.result) (stream_view c.in_ok-stream.stream) (trees_in c.parse.new.input) (trees_in c.parse.new.input) (scope_of c.new-inside.result) (Ok c.in_ok-parsed.parsed)
     c.in_ok-stream.ensures.ok (c.new-inside.ensures.trees ∙ ap (map tree_view) c.trees.ensures) (c.new-inside.ensures.scope ∙ c.span.ensures) refl c.in_ok-parsed.ensures.runs)

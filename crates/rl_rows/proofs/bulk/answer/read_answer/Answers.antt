@@ -7,4 +7,4 @@ pub returns-in-Ok : goal.returns-in-Ok
 returns-in-Ok c = IfOk-weaker c.list_answer.result _ _ (λ out p. read_lines c.args.text.now c.in-Ok.literals.items (string_bytes out) c.in-Ok.ensures.read (rw c.as_slice.ensures.value at p)) c.list_answer.ensures
 
 pub returns-in-Err : goal.returns-in-Err
-returns-in-Err c = IfOk-weaker c.refused.result _ _ (λ out p. inr (c.in-Err.error, c.in-Err.ensures.refused, p)) c.refused.ensures
+returns-in-Err c = IfOk-weaker c.rejected.result _ _ (λ out p. inr (c.in-Err.error, c.in-Err.ensures.rejected, p)) c.rejected.ensures

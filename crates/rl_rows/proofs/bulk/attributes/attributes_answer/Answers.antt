@@ -13,4 +13,4 @@ returns-in_ok-entry_lines-in-Ok c =
     IfOk-weaker c.ended.result _ _ (λ out p. inl (chars lines, shows, point_pushed lines (string_bytes out) (IsUtf8-string_bytes c.in_ok-entry_lines-in-Ok.field-0) p)) c.ended.ensures
 
 pub returns-in-Err : goal.returns-in-Err
-returns-in-Err c = IfOk-weaker c.refused.result _ _ (λ out p. inr (c.in-Err.error, c.in-Err.ensures.refused, p)) c.refused.ensures
+returns-in-Err c = IfOk-weaker c.rejected.result _ _ (λ out p. inr (c.in-Err.error, c.in-Err.ensures.rejected, p)) c.rejected.ensures

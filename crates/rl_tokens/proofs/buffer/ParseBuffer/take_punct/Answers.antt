@@ -8,5 +8,5 @@ returns-in-Some-clause-lent g c = grind (arith, common_steps)
 pub returns-in-None-clause-left : goal.returns-in-None-clause-left
 returns-in-None-clause-left g c = grind (arith, common_steps)
 
-pub returns-in-None-clause-refused : goal.returns-in-None-clause-refused
-returns-in-None-clause-refused g c = grind (arith, common_steps)
+pub returns-in-None-clause-rejected : goal.returns-in-None-clause-rejected
+returns-in-None-clause-rejected g c = grind (arith, common_steps)

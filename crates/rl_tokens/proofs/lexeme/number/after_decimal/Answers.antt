@@ -2,12 +2,12 @@
 use Rattle.rl_tokens.proofs.BehindLemmas.{behind_step}
 use Rattle.rl_tokens.proofs.lexeme.number.after_decimal.Goals as goal
 
-pub returns-clause-behind : goal.returns-clause-behind
-returns-clause-behind c =
+pub returns-clause-following : goal.returns-clause-following
+returns-clause-following c =
     let t = c.args.text.now in
     let whole = c.skip_class.result.now in
     let fraction = c.after_fraction.result.now in
     let exponent = c.after_exponent.result.now in
     behind_step t exponent c.after_suffix.result.now
-    (behind_step t fraction exponent (behind_step t whole fraction c.skip_class.ensures.behind c.after_fraction.ensures.behind) c.after_exponent.ensures.behind)
-    c.after_suffix.ensures.behind
+    (behind_step t fraction exponent (behind_step t whole fraction c.skip_class.ensures.following c.after_fraction.ensures.following) c.after_exponent.ensures.following)
+    c.after_suffix.ensures.following

@@ -3,5 +3,5 @@ use Rattle.std.proofs.lemmas.Grind.{common_steps}
 use Rattle.rl_tokens.proofs.BehindLemmas.{behind_step}
 use Rattle.rl_tokens.proofs.lexeme.number.after_digits.Goals as goal
 
-pub loop-behind-preserved : goal.loop-behind-preserved
-loop-behind-preserved c = grind (arith, common_steps, behind_step)
+pub loop-following-preserved : goal.loop-following-preserved
+loop-following-preserved c = grind (arith, common_steps, behind_step)

@@ -5,11 +5,11 @@ use Rattle.rl_tokens.specs.Texts.{IsTail}
 use Rattle.rl_tokens.specs.Classes.{after_run}
 use Rattle.rl_tokens.proofs.lexeme.number.after_digits.Given as goal
 
-abbrev pub invariant-loop-behind : goal.invariant-loop-behind
-invariant-loop-behind l = record {
-  behind : IsTail l.text l.rest;
+abbrev pub invariant-loop-following : goal.invariant-loop-following
+invariant-loop-following l = record {
+  following : IsTail l.text l.rest;
   same : after_run is_ascii_digit (chars l.rest) ≡ after_run is_ascii_digit (chars l.text);
 }
 
-abbrev pub decreases-loop-behind : goal.decreases-loop-behind
-decreases-loop-behind l = length l.rest
+abbrev pub decreases-loop-following : goal.decreases-loop-following
+decreases-loop-following l = length l.rest

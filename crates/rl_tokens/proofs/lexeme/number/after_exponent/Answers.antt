@@ -2,17 +2,17 @@
 use Rattle.rl_tokens.proofs.BehindLemmas.{behind_self, behind_step}
 use Rattle.rl_tokens.proofs.lexeme.number.after_exponent.Goals as goal
 
-pub returns-then-is_ascii_digit-clause-behind : goal.returns-then-is_ascii_digit-clause-behind
-returns-then-is_ascii_digit-clause-behind c =
+pub returns-then-is_ascii_digit-clause-following : goal.returns-then-is_ascii_digit-clause-following
+returns-then-is_ascii_digit-clause-following c =
     let t = c.args.text.now in
-    let signed = c.in-Some-e-default.behind.now in
+    let signed = c.in-Some-e-default.following.now in
     let digits = c.after_sign-digits.result.now in
     behind_step t digits c.skip_class-then-is_ascii_digit.result.now
-    (behind_step t signed digits c.in-Some-e-default.ensures.behind c.after_sign-digits.ensures.behind)
-    c.skip_class-then-is_ascii_digit.ensures.behind
+    (behind_step t signed digits c.in-Some-e-default.ensures.following c.after_sign-digits.ensures.following)
+    c.skip_class-then-is_ascii_digit.ensures.following
 
-pub returns-in_default-split_char-clause-behind : goal.returns-in_default-split_char-clause-behind
-returns-in_default-split_char-clause-behind c = behind_self c.args.text.now c.utf8.text
+pub returns-in_default-split_char-clause-following : goal.returns-in_default-split_char-clause-following
+returns-in_default-split_char-clause-following c = behind_self c.args.text.now c.utf8.text
 
-pub returns-else-is_ascii_digit-clause-behind : goal.returns-else-is_ascii_digit-clause-behind
-returns-else-is_ascii_digit-clause-behind c = behind_self c.args.text.now c.utf8.text
+pub returns-else-is_ascii_digit-clause-following : goal.returns-else-is_ascii_digit-clause-following
+returns-else-is_ascii_digit-clause-following c = behind_self c.args.text.now c.utf8.text

@@ -3,5 +3,5 @@ use Rattle.std.proofs.lemmas.Grind.{common_steps}
 use Rattle.rl_tokens.proofs.BehindLemmas.{behind_step}
 use Rattle.rl_tokens.proofs.lexeme.number.after_fraction.Goals as goal
 
-pub returns-then-begins_dot-clause-behind : goal.returns-then-begins_dot-clause-behind
-returns-then-begins_dot-clause-behind c = grind (arith, common_steps, behind_step)
+pub returns-then-begins_dot-clause-following : goal.returns-then-begins_dot-clause-following
+returns-then-begins_dot-clause-following c = grind (arith, common_steps, behind_step)

@@ -4,11 +4,11 @@ use Rattle.rl_tokens.proofs.BehindLemmas.{behind_step}
 use Rattle.rl_tokens.proofs.RowSteps.{apostrophe_step}
 use Rattle.rl_tokens.proofs.lexeme.quotes.after_apostrophe.Goals as goal
 
-pub returns-then-c-eq39-clause-behind : goal.returns-then-c-eq39-clause-behind
-returns-then-c-eq39-clause-behind c = behind_step _ _ _ c.loop-c.invariant.behind c.in-Some.ensures.behind
+pub returns-then-c-eq39-clause-following : goal.returns-then-c-eq39-clause-following
+returns-then-c-eq39-clause-following c = behind_step _ _ _ c.loop-c.invariant.following c.in-Some.ensures.following
 
 pub loop-c-preserved : goal.loop-c-preserved
 loop-c-preserved c = record {
-  behind = behind_step c.args.text.now c.loop-c.rest.now c.in-Some.behind.now c.loop-c.invariant.behind c.in-Some.ensures.behind;
-  same = apostrophe_step (chars c.loop-c.rest.now) (chars c.in-Some.behind.now) c.in-Some.c c.in-Some.ensures.chars c.if-c-eq39.false c.if-c-eq10.false ∙ c.loop-c.invariant.same;
+  following = behind_step c.args.text.now c.loop-c.rest.now c.in-Some.following.now c.loop-c.invariant.following c.in-Some.ensures.following;
+  same = apostrophe_step (chars c.loop-c.rest.now) (chars c.in-Some.following.now) c.in-Some.c c.in-Some.ensures.chars c.if-c-eq39.false c.if-c-eq10.false ∙ c.loop-c.invariant.same;
 }

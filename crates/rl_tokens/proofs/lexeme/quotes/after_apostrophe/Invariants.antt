@@ -6,7 +6,7 @@ use Rattle.rl_tokens.proofs.lexeme.quotes.after_apostrophe.Given as goal
 
 abbrev pub invariant-loop-c : goal.invariant-loop-c
 invariant-loop-c l = record {
-  behind : IsTail l.text l.rest;
+  following : IsTail l.text l.rest;
   same : after_apostrophe (chars l.rest) ≡ after_apostrophe (chars l.text);
 }
 

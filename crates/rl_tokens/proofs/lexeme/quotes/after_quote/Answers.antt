@@ -26,7 +26,7 @@ loop-mark-preserved c =
     let next = c.in-Some.ensures in
     let more = c.in_ok-more.ensures in
     record {
-      behind = behind_step _ _ _ (behind_step _ _ _ c.loop-mark.invariant.behind next.behind) more.behind;
+      following = behind_step _ _ _ (behind_step _ _ _ c.loop-mark.invariant.following next.following) more.following;
       same = elim (which _ 34 92 _ m next.some.is_mark) [
         | inl quote ↦ absurd (c.if-mark-eq34.false quote)
         | inr backslash ↦ sym (quote_taken _ _ _ _ _ _ (ap (λ z. z.first) m) (ap (λ z. z.second) m) next.some backslash more.chars) ∙ c.loop-mark.invariant.same

@@ -6,7 +6,7 @@ use Rattle.rl_tokens.proofs.lexeme.quotes.after_quote.Given as goal
 
 abbrev pub invariant-loop-mark : goal.invariant-loop-mark
 invariant-loop-mark l = record {
-  behind : IsTail l.text l.rest;
+  following : IsTail l.text l.rest;
   same : after_quote (chars l.rest) ≡ after_quote (chars l.text);
 }
 

@@ -8,22 +8,22 @@ returns-in-Some-strip_hashes-clause-rest c =
     let m = c.two.ensures in
     let next = c.in-Some.ensures.some in
     let end = c.in-Some-strip_hashes.ensures in
-    ap Some end.rest ∙ sym (sym c.loop-behind.invariant.same ∙ raw_found _ _ _ _ _ (ap (λ z. z.first) m) next (only _ 34 _ m next.is_mark) end.stands)
+    ap Some end.rest ∙ sym (sym c.loop-following.invariant.same ∙ raw_found _ _ _ _ _ (ap (λ z. z.first) m) next (only _ 34 _ m next.is_mark) end.stands)
 
-pub loop-behind-preserved : goal.loop-behind-preserved
-loop-behind-preserved c =
+pub loop-following-preserved : goal.loop-following-preserved
+loop-following-preserved c =
     let m = c.two.ensures in
     let next = c.in-Some.ensures in
     record {
-      behind = behind_step _ _ _ c.loop-behind.invariant.behind next.behind;
-      same = sym (raw_passes _ _ _ _ _ (ap (λ z. z.first) m) next.some (only _ 34 _ m next.some.is_mark) c.in_default-strip_hashes.ensures.rest) ∙ c.loop-behind.invariant.same;
+      following = behind_step _ _ _ c.loop-following.invariant.following next.following;
+      same = sym (raw_passes _ _ _ _ _ (ap (λ z. z.first) m) next.some (only _ 34 _ m next.some.is_mark) c.in_default-strip_hashes.ensures.rest) ∙ c.loop-following.invariant.same;
     }
 
 pub returns-clause-rest : goal.returns-clause-rest
 returns-clause-rest c =
     let m = c.two.ensures in
-    sym (sym c.loop-behind.invariant.same ∙ raw_none _ _ _ (ap (λ z. z.first) m) c.in_default.ensures.none)
+    sym (sym c.loop-following.invariant.same ∙ raw_none _ _ _ (ap (λ z. z.first) m) c.in_default.ensures.none)
 
-pub returns-in-Some-strip_hashes-clause-behind : goal.returns-in-Some-strip_hashes-clause-behind
-returns-in-Some-strip_hashes-clause-behind c =
-    behind_step _ _ _ (behind_step _ _ _ c.loop-behind.invariant.behind c.in-Some.ensures.behind) c.in-Some-strip_hashes.ensures.behind
+pub returns-in-Some-strip_hashes-clause-following : goal.returns-in-Some-strip_hashes-clause-following
+returns-in-Some-strip_hashes-clause-following c =
+    behind_step _ _ _ (behind_step _ _ _ c.loop-following.invariant.following c.in-Some.ensures.following) c.in-Some-strip_hashes.ensures.following

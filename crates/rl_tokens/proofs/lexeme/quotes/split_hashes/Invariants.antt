@@ -7,7 +7,7 @@ use Rattle.rl_tokens.proofs.lexeme.quotes.split_hashes.Given as goal
 
 abbrev pub invariant-loop-c : goal.invariant-loop-c
 invariant-loop-c l = record {
-  behind : IsTail l.text l.rest;
+  following : IsTail l.text l.rest;
   same : after_run is_hash (chars l.rest) ≡ after_run is_hash (chars l.text);
   count : l.count + hashes (chars l.rest) ≡ hashes (chars l.text);
   fits : l.count + length l.rest ≤ length l.text;

@@ -6,7 +6,7 @@ use Rattle.rl_tokens.proofs.lexeme.quotes.strip_hashes.Given as goal
 
 abbrev pub invariant-loop-left : goal.invariant-loop-left
 invariant-loop-left l = record {
-  behind : IsTail l.text l.rest;
+  following : IsTail l.text l.rest;
   same : begins_hashes l.left (chars l.rest) ≡ begins_hashes l.count (chars l.text);
   dropped : drop l.left (chars l.rest) ≡ drop l.count (chars l.text);
 }

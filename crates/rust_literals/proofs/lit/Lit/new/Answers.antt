@@ -10,8 +10,8 @@ returns-clause-strict_found g c = found_agrees c.args.token c.of_found.result c.
 pub returns-clause-strict : goal.returns-clause-strict
 returns-clause-strict g c = strict_reads (chars c.args.token.text)
 
-pub returns-clause-strict_behind_minus : goal.returns-clause-strict_behind_minus
-returns-clause-strict_behind_minus g c = strict_minus (chars c.args.token.text)
+pub returns-clause-strict_after_minus : goal.returns-clause-strict_after_minus
+returns-clause-strict_after_minus g c = strict_minus (chars c.args.token.text)
 
 pub returns-clause-strict_bytes : goal.returns-clause-strict_bytes
 returns-clause-strict_bytes g c = bytes_are_strict (chars c.args.token.text)

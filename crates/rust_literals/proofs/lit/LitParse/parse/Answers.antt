@@ -8,7 +8,7 @@ use Rattle.rust_literals.proofs.lit.LitParse.parse.Goals as goal
 pub returns-in_default-clause-runs : goal.returns-in_default-clause-runs
 returns-in_default-clause-runs g c =
     inr (record {
-      refusal = c.error.ensures;
+      rejection = c.error.ensures;
       none = subst HasNoFront c.fork-ahead.ensures.trees c.in_default.ensures.none;
       stays = refl;
     })

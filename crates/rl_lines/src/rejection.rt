@@ -10,9 +10,9 @@ pub struct Refusal<'a, A: Allocator = Global>(pub &'a Error<A>);
 
 impl<A: Allocator> fmt::Display for Refusal<'_, A> {
     ghost use Rattle.std.specs.Prelude.{Some};
-    ghost use Rattle.rl_lines.specs.Refusals.{refusal_line};
+    ghost use Rattle.rl_lines.specs.Refusals.{rejection_line};
 
-    ghost output = { λ refusal. Some (refusal_line refusal.0.now) };
+    ghost output = { λ rejection. Some (rejection_line rejection.0.now) };
 
     fn fmt<W: fmt::Write>(&self, f: &mut fmt::Formatter<W>) -> fmt::Result {
         let error = self.0;
