@@ -37,6 +37,7 @@ fn line_of(text: &str) -> String {
         Lit::Int(number) => number.base10_digits().into_owned(),
         Lit::Float(number) => number.base10_digits().into_owned(),
         Lit::Bool(truth) => truth.value().to_string(),
+        Lit::Verbatim(literal) => write_str(literal.text()),
     };
     format!("{:?} {contents} {}", literal.kind(), suffix_of(literal.suffix()))
 }

@@ -8,7 +8,7 @@ numbered! {
     #[derive(Clone, Copy, Debug, PartialEq, Eq)]
     #[non_exhaustive]
     enum ErrorKind;
-    /// No literal stands there, or an integer past 128 bits.
+    /// No literal stands there: in a list a word or a mark; of a single text, an integer past 128 bits too.
     2 => NoLiteral: "not a literal, or an integer past 128 bits",
     /// A doc comment.
     3 => DocComment: "doc comment",
@@ -22,6 +22,10 @@ numbered! {
     7 => RawIdentifier: "raw identifier",
     /// A character that begins no token.
     8 => StrayCharacter: "character that begins no token",
+    /// A closing delimiter in a list, in which no group is open.
+    9 => UnmatchedClose: "unmatched closing delimiter",
+    /// An opening delimiter in a list: a group is no literal.
+    13 => Group: "opening delimiter, and a group is no literal",
     else => ErrorKind::NoLiteral,
 }
 

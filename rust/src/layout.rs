@@ -40,7 +40,7 @@ pub(crate) struct Layout {
 
 /// The layout that this package was written for.
 pub(crate) const LAYOUT: Layout = Layout {
-    version: 1,
+    version: 2,
     reading_size: size_of::<Reading>(),
     reading_align: align_of::<Reading>(),
     next_size: size_of::<Next>(),

@@ -31,7 +31,9 @@ mod write;
 
 pub use error::{ErrorKind, ParseError};
 pub use list::{literals, Literals};
-pub use lit::{Lit, LitBool, LitByte, LitByteStr, LitCStr, LitChar, LitFloat, LitInt, LitStr};
+pub use lit::{
+    Lit, LitBool, LitByte, LitByteStr, LitCStr, LitChar, LitFloat, LitInt, LitStr, LitVerbatim,
+};
 pub use source::{source, Source};
 pub use token::Kind;
 pub use write::{write_byte, write_byte_str, write_c_str, write_char, write_str};

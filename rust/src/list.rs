@@ -20,8 +20,11 @@ pub struct Literals<'t> {
 ///
 /// A minus before a number belongs to the literal, also where something stands between them.
 ///
-/// A token that begins no literal ends the list with [`ErrorKind::NoLiteral`](crate::ErrorKind::NoLiteral): a bracket, which
-/// isn't opened as a group; a mark; a word; and an integer past 128 bits.
+/// A literal token that has no reading, as `'\q'` and an integer past 128 bits, comes as [`Lit::Verbatim`]; after a minus
+/// it is an error. A token that begins no literal ends the list: a word or a mark with
+/// [`ErrorKind::NoLiteral`](crate::ErrorKind::NoLiteral), an opening delimiter with
+/// [`ErrorKind::Group`](crate::ErrorKind::Group), a closing one with
+/// [`ErrorKind::UnmatchedClose`](crate::ErrorKind::UnmatchedClose).
 ///
 /// ```
 /// use navyspindle::{literals, ErrorKind, Lit};
@@ -62,17 +65,12 @@ impl<'t> Iterator for Literals<'t> {
             };
             return (status != 0).then_some(Err(error));
         }
-        let lo = if next.negative {
-            next.minus_at
-        } else {
-            next.lo
-        };
         let text = if next.negative && next.minus_at + 1 != next.lo {
             Cow::Owned(format!("-{}", &rest[next.lo..next.hi]))
         } else {
-            Cow::Borrowed(&rest[lo..next.hi])
+            Cow::Borrowed(&rest[next.minus_at..next.hi])
         };
-        let range = self.at + lo..self.at + next.hi;
+        let range = self.at + next.minus_at..self.at + next.hi;
         self.at += next.rest_at;
         Some(Ok((range, Lit::of(Token::found(text, next.reading)))))
     }

@@ -49,6 +49,8 @@ kinds! {
     LitFloat
     /// A truth value: `true`, `false`.
     LitBool
+    /// A literal token of a list that has no reading, so no value and no suffix: `'\q'`, or an integer past 128 bits.
+    LitVerbatim
 }
 
 impl LitStr<'_> {
@@ -170,6 +172,8 @@ pub enum Lit<'t> {
     Float(LitFloat<'t>),
     /// A truth value.
     Bool(LitBool<'t>),
+    /// A literal token of a list that has no reading. [`Lit::parse`] and [`source`](crate::source) return none.
+    Verbatim(LitVerbatim<'t>),
 }
 
 impl<'t> Lit<'t> {
@@ -200,6 +204,7 @@ impl<'t> Lit<'t> {
             Kind::Int => Lit::Int(LitInt(token)),
             Kind::Float => Lit::Float(LitFloat(token)),
             Kind::Bool => Lit::Bool(LitBool(token)),
+            Kind::Verbatim => Lit::Verbatim(LitVerbatim(token)),
         }
     }
 
@@ -213,6 +218,7 @@ impl<'t> Lit<'t> {
             Lit::Int(l) => &l.0,
             Lit::Float(l) => &l.0,
             Lit::Bool(l) => &l.0,
+            Lit::Verbatim(l) => &l.0,
         }
     }
 

@@ -25,10 +25,13 @@ numbered! {
     7 => Float,
     /// A truth value: `true`.
     8 => Bool,
-    else => unreachable!("the library has eight kinds"),
+    /// A literal token of a list that has no reading: `'\q'`, or an integer past 128 bits.
+    9 => Verbatim,
+    else => unreachable!("the library has nine kinds"),
 }
 
-/// A text that reads as a literal. Neither field changes, so the reading stays that of the text.
+/// A text that reads as a literal, or a literal token that has no reading. Neither field changes, so the reading stays
+/// that of the text.
 #[derive(Clone, Debug)]
 pub(crate) struct Token<'t> {
     text: Cow<'t, str>,

@@ -1,6 +1,6 @@
 //! Rows of texts and what they stand for.
 
-use navyspindle::{is_token, literals, source, write_str, ErrorKind, Lit};
+use navyspindle::{is_token, literals, source, write_str, ErrorKind, Kind, Lit};
 use std::borrow::Cow;
 
 fn text_of(text: &str) -> Option<String> {
@@ -13,6 +13,7 @@ fn text_of(text: &str) -> Option<String> {
         Lit::Int(l) => format!("Int {} {}", l.base10_digits(), l.suffix()),
         Lit::Float(l) => format!("Float {} {}", l.base10_digits(), l.suffix()),
         Lit::Bool(l) => format!("Bool {} {}", l.value(), l.suffix()),
+        Lit::Verbatim(l) => format!("Verbatim {l}"),
     })
 }
 
@@ -99,12 +100,39 @@ fn a_list() {
     assert_eq!(read("1, 2"), Err((ErrorKind::NoLiteral, 1)));
     assert_eq!(read("1 word"), Err((ErrorKind::NoLiteral, 2)));
     assert_eq!(read("1 -"), Err((ErrorKind::NoLiteral, 2)));
+    assert_eq!(read("1 (2)"), Err((ErrorKind::Group, 2)));
+    assert_eq!(read("[1"), Err((ErrorKind::Group, 0)));
+    assert_eq!(read("1 -{"), Err((ErrorKind::NoLiteral, 2)));
+    assert_eq!(read("1 )"), Err((ErrorKind::UnmatchedClose, 2)));
+    assert_eq!(read("]"), Err((ErrorKind::UnmatchedClose, 0)));
     assert_eq!(read("1 /* "), Err((ErrorKind::UnclosedComment, 2)));
     assert_eq!(read("1 /// d"), Err((ErrorKind::DocComment, 2)));
     assert_eq!(read("1 \"a"), Err((ErrorKind::UnclosedQuote, 2)));
     assert_eq!(read("1 'a"), Err((ErrorKind::Lifetime, 2)));
     assert_eq!(read("1 r#a"), Err((ErrorKind::RawIdentifier, 2)));
     assert_eq!(read("1 \u{0}"), Err((ErrorKind::StrayCharacter, 2)));
+}
+
+#[test]
+fn what_has_no_reading() {
+    let most = "340282366920938463463374607431768211455";
+    let past = "340282366920938463463374607431768211456";
+    let text = format!("{most} {past}u8 '\\q' \"\\q\"x");
+    let found: Vec<_> = literals(&text).collect::<Result<_, _>>().unwrap();
+    let lines: Vec<_> = found
+        .iter()
+        .map(|(range, literal)| (range.clone(), literal.kind(), literal.text(), literal.suffix()))
+        .collect();
+    assert_eq!(lines[0], (0..39, Kind::Int, most, ""));
+    assert_eq!(lines[1].1, Kind::Verbatim);
+    assert_eq!(lines[1].2, format!("{past}u8"));
+    assert_eq!(lines[2], (82..86, Kind::Verbatim, "'\\q'", ""));
+    assert_eq!(lines[3], (87..92, Kind::Verbatim, "\"\\q\"x", ""));
+    assert!(matches!(&found[1].1, Lit::Verbatim(literal) if literal.to_string() == lines[1].2));
+    assert!(Lit::parse(past).is_err());
+    let negative = format!("-{past}");
+    let error = literals(&negative).next().unwrap().unwrap_err();
+    assert_eq!((error.kind(), error.at()), (ErrorKind::NoLiteral, 0));
 }
 
 #[test]

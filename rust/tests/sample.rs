@@ -52,7 +52,7 @@ fn line_of(text: &str) -> String {
             l.suffix().to_owned(),
         ),
         Ok(Lit::Bool(l)) => ("Bool", l.value().to_string(), l.suffix().to_owned()),
-        Err(_) => ("Verbatim", write_str(text), String::new()),
+        Ok(Lit::Verbatim(_)) | Err(_) => ("Verbatim", write_str(text), String::new()),
     };
     let suffix = match suffix.as_str() {
         "" => "-".to_owned(),

@@ -31,6 +31,7 @@ fn weight_of(text: &str) -> u64 {
         }
         Lit::Float(l) => weight(Kind::Float, l.base10_digits().len(), suffix),
         Lit::Bool(_) => weight(Kind::Bool, 0, 0),
+        Lit::Verbatim(_) => 0,
     }
 }
 

@@ -1,5 +1,5 @@
 -- The literal at the front of a list.
-use Rattle.std.proofs.Common.{◌≡◌, ◌≢◌, ◌⊎◌, inl, inr, ℕ, ◌+◌, ◌-◌, ◌≤◌, ◌==◌, true, List, [], length, refl, sym, ap, subst, ◌∙◌, arith}
+use Rattle.std.proofs.Common.{◌≡◌, ◌≢◌, ◌⊎◌, inl, inr, ℕ, ◌-◌, ◌≤◌, ◌==◌, Bool, true, false, List, [], length, refl, sym, ap, subst, ◌∙◌, arith}
 use Rattle.std.proofs.lemmas.Bool.Decides.{nat_tests}
 use Rattle.std.proofs.lemmas.List.{nil_from_length}
 use Rattle.std.proofs.lemmas.Str.{chars-nil}
@@ -9,13 +9,27 @@ use Rattle.rl_tokens.specs.declared.lexeme.Form.{Form as FoundForm}
 use Rattle.rl_tokens.specs.declared.lexeme.Form.TheVariants as found
 use Rattle.rl_tokens.specs.Cursors.{CursorState, IsCursorState, TakesNext, form_view}
 use Rattle.rl_tokens.specs.Lexemes.{LexemeForm, LiteralForm, MarkForm}
+use Rattle.rl_tokens.specs.Lexing.{BeginsLexeme, BeginsNoLexeme}
+use Rattle.rl_tokens.specs.declared.kind.Kind.TheVariants.{Bool as BoolKind}
+use Rattle.rl_tokens.specs.Reading.{truth_text}
+use Rattle.rl_grammar.proofs.FrontLemmas.{truth_reads}
 use Rattle.rl_tokens.specs.Skipping.{Skipped}
 use Rattle.rl_tokens.proofs.Rests.{behind_length}
 use Rattle.rl_c.specs.declared.next.Next.{Next}
-use Rattle.rl_c.specs.Lists.{TakesNextLiteral, BeginsLiteral, BeginsNone, HasNoNextLiteral}
+use Rattle.rl_c.specs.declared.reading.Reading.{Reading}
+use Rattle.rl_c.specs.Crossing.{ReportsReading, ReportsLiteral}
+use Rattle.rl_c.specs.Lists.{Starts, TellsToken, TakesNextLiteral, BeginsLiteral, BeginsNone, HasNoNextLiteral, ReportsError, BeginsNoLiteral}
 
 with_rest : (old new : CursorState) (n : Next) (r : ℕ) → TakesNextLiteral old n new → TakesNextLiteral old (record n { rest_at = r }) new
-with_rest old new n r (inl t) = inl (record { token = t.token; takes = t.takes; reads = t.reads; lo_is = t.lo_is; hi_is = t.hi_is; no_minus = t.no_minus })
+with_rest old new n r (inl t) = inl (record {
+  token = t.token;
+  takes = t.takes;
+  tells = t.tells;
+  begins = t.begins;
+  lo_is = t.lo_is;
+  hi_is = t.hi_is;
+  no_minus = t.no_minus;
+})
 with_rest old new n r (inr t) = inr (record {
   minus = t.minus;
   between = t.between;
@@ -35,13 +49,20 @@ takes_less : (old new : CursorState) (n : Next) → TakesNextLiteral old n new �
 takes_less old new n (inl t) = behind_length _ _ t.takes.following
 takes_less old new n (inr t) = omega (arith, behind_length _ _ t.takes_minus.following, behind_length _ _ t.takes_number.following)
 
+starts_in : (text lent : List ℕ) (start : CursorState) → lent ≡ text → start.text ≡ lent → Skipped (chars lent) (chars start.rest) → IsCursorState lent start.rest → Starts text start
+starts_in text lent start same of skipped state = record {
+  text_is = of ∙ same;
+  state = subst (λ z. IsCursorState z start.rest) same state;
+  skipped = subst (λ z. Skipped (chars z) (chars start.rest)) same skipped;
+}
+
 pub begins : (text lent : List ℕ) (start tokens new : CursorState) (n : Next) (rest : List ℕ) → lent ≡ text → start.text ≡ lent → Skipped (chars lent) (chars start.rest) → IsCursorState lent start.rest → tokens ≡ start → TakesNextLiteral tokens n new → rest ≡ new.rest → BeginsLiteral text (record n { rest_at = length lent - length rest })
 begins text lent start tokens new n rest same of skipped state is takes left =
     let t : TakesNextLiteral start n new = subst (λ z. TakesNextLiteral z n new) is takes in
     record {
       start = start;
       following = new;
-      starts = record { text_is = of ∙ same; skipped = subst (λ z. Skipped (chars z) (chars start.rest)) same skipped };
+      starts = starts_in text lent start same of skipped state;
       takes = with_rest start new n (length lent - length rest) t;
       rest_is = omega (arith, ap length same, ap length left, takes_less start new n t, behind_length _ _ state.following);
     }
@@ -51,6 +72,40 @@ ends text lent rest left same skipped is empty =
     let none : length left ≡ 0 = grind (arith, nat_tests) in
     let nothing : rest ≡ [] = sym is ∙ nil_from_length left none in
     subst (λ z. Skipped (chars z) []) same (subst (Skipped (chars lent)) (ap chars nothing ∙ chars-nil) skipped)
+
+-- a token without a minus
+pub takes_alone : (old new : CursorState) (l : Lexeme) (n : Next) → TakesNext old l new → TellsToken (form_view l.form) l.text.now n.reading → n.minus_at ≡ l.lo → n.lo ≡ l.lo → n.hi ≡ l.hi → n.negative ≡ false → TakesNextLiteral old n new
+takes_alone old new l n takes tells begins lo hi no_minus =
+    inl (record { token = l; takes = takes; tells = tells; begins = begins; lo_is = lo; hi_is = hi; no_minus = no_minus })
+
+pub token_told : (l : Lexeme) (r : Reading) → l.form ≡ found.Literal → ReportsLiteral l.text.now r → TellsToken (form_view l.form) l.text.now r
+token_told l r is tells = subst (λ (f : FoundForm). TellsToken (form_view f) l.text.now r) (sym is) tells
+
+-- a word that is a literal has a reading
+pub word_told : (l : Lexeme) (r : Reading) (b : Bool) → l.form ≡ found.Identifier → chars l.text.now ≡ truth_text b → ReportsLiteral l.text.now r → TellsToken (form_view l.form) l.text.now r
+word_told l r b is word tells = subst (λ (f : FoundForm). TellsToken (form_view f) l.text.now r) (sym is) ((b, word), reading tells)
+  where
+    reading : ReportsLiteral l.text.now r → ReportsReading l.text.now r
+    reading (inl told) = told
+    reading (inr none) = let (contents, suffix, reads) = truth_reads (chars l.text.now) b word in absurd (none.none BoolKind contents suffix reads)
+
+-- a word that is none
+pub no_word : (old new : CursorState) (l : Lexeme) → TakesNext old l new → l.form ≡ found.Identifier → ((b : Bool) → chars l.text.now ≢ truth_text b) → HasNoNextLiteral old
+no_word old new l takes is none = inr (l, new, takes, subst (λ (f : FoundForm). BeginsNone (form_view f) l.text.now new) (sym is) (λ word. none word.0 word.1))
+
+-- a token begins what is left, or an error stands there
+pub nothing_else : (t ahead : CursorState) → t.rest ≢ [] → ahead ≡ t → BeginsNoLexeme (chars ahead.rest) → ((t.rest ≡ []) ⊎ BeginsLexeme (chars t.rest)) → ⊥
+nothing_else t ahead some is none (inl nothing) = some nothing
+nothing_else t ahead some is none (inr (after, token)) = subst (λ (z : CursorState). BeginsNoLexeme (chars z.rest)) is none after token
+
+pub begins_none : (text lent : List ℕ) (start ahead : CursorState) (rest : List ℕ) (status : ℕ) → lent ≡ text → start.text ≡ lent → Skipped (chars lent) (chars start.rest) → IsCursorState lent start.rest → ahead ≡ start → HasNoNextLiteral ahead → rest ≡ start.rest → ReportsError start status → BeginsNoLiteral text status (length lent - length rest)
+begins_none text lent start ahead rest status same of skipped state is none left tells = record {
+  start = start;
+  starts = starts_in text lent start same of skipped state;
+  none = subst HasNoNextLiteral is none;
+  tells = tells;
+  place = omega (arith, ap length same, ap length left, behind_length _ _ state.following);
+}
 
 other_form : (f : FoundForm) → (f ≡ found.Literal → ⊥) → form_view f ≡ LiteralForm → ⊥
 other_form found.Literal h e = h refl

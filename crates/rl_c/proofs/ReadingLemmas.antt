@@ -1,5 +1,5 @@
 -- Where the parts stand that a reading tells.
-use Rattle.std.proofs.Common.{◌≡◌, ℕ, ◌-◌, List, Bool, true, ◌||◌, take, drop, slice_range, refl, sym, ap, subst, ◌∙◌}
+use Rattle.std.proofs.Common.{◌≡◌, ℕ, ◌-◌, List, true, take, drop, slice_range, sym, ap, subst, ◌∙◌}
 use Rattle.std.specs.Str.{chars, IsUtf8}
 use Rattle.std.proofs.lemmas.Bool.{or_right}
 use Rattle.rl_tokens.specs.declared.kind.Kind.{Kind}
@@ -13,7 +13,7 @@ use Rattle.rl_grammar.proofs.NumberFoundLemmas.{found_float}
 use Rattle.rl_grammar.proofs.SingleBodies.{single_at}
 use Rattle.rl_tokens.proofs.OneNumber.{float_once}
 use Rattle.rl_c.specs.declared.reading.Reading.{Reading}
-use Rattle.rl_c.specs.Crossing.{Reports, IsOfKind}
+use Rattle.rl_c.specs.Crossing.{IsOfKind}
 
 -- the body of a byte or a character
 pub single_of : (kind : Kind) (t body : List ℕ) (reading : Reading) → is_single kind ≡ true → IsOfKind kind t reading → body ≡ slice_range t reading.at reading.end → HasSingleBody kind (chars t) body

@@ -2,11 +2,10 @@
 use Rattle.std.proofs.Common.{◌≡◌, ◌⊎◌, inl, inr, ℕ, ◌-◌, List, drop, [], ◌∷◌, ◌++◌, length, refl, sym, ap, subst, ◌∙◌, append_assoc, append-nil}
 use Rattle.std.specs.List.{AllByRecursion}
 use Rattle.std.specs.Str.{chars, IsUtf8, IsCharBoundary}
-use Rattle.rl_tokens.specs.Cursors.{CursorState, IsCursorState}
+use Rattle.rl_tokens.specs.Cursors.{CursorState}
 use Rattle.rl_tokens.specs.Sources.{CutSource, SourceKind, kind_of, source_view, IsCutUpTo, TakesSource, SourceBefore, BeginsNoSource}
 use Rattle.rl_tokens.specs.declared.sources.SourceToken.{SourceToken}
 use Rattle.rl_tokens.proofs.BehindLemmas.{behind_self, behind_step, cut_boundary, cut_drop}
-use Rattle.rl_tokens.proofs.Rests.{behind_drop}
 use Rattle.rl_tokens.specs.Texts.{IsTail}
 use Rattle.rl_c.specs.declared.next.Next.{Next}
 use Rattle.rl_c.specs.Literals.{IsLiteralText, IsOther, PassesTo, TakesLiteralAfter, FindsToken, cursor_at}

@@ -1,8 +1,10 @@
 -- What crosses to callers in other languages.
-use Rattle.std.specs.Prelude.{◌≡◌, ℕ, ◌+◌, ◌*◌, ◌^◌, false, List}
+use Rattle.std.specs.Prelude.{◌≡◌, ◌⊎◌, ℕ, ◌+◌, ◌*◌, ◌^◌, false, List, length}
 use Rattle.std.specs.Char.{IsScalar}
+use Rattle.std.specs.Str.{chars}
 use Rattle.rl_tokens.specs.declared.kind.Kind.{Kind}
 use Rattle.rl_tokens.specs.declared.kind.Kind.TheVariants.{Str, ByteStr, CStr, Byte, Char, Int, Float, Bool}
+use Rattle.rl_tokens.specs.Reading.{HasNoReading}
 use Rattle.rl_grammar.specs.declared.found.Found.{Found}
 use Rattle.rl_grammar.specs.Founds.{IsFound}
 use Rattle.rl_c.specs.declared.reading.Reading.{Reading}
@@ -31,7 +33,26 @@ pub record Reports (found : Found) (reading : Reading) : Type 0 where
 abbrev pub ReportsReading : List ℕ → Reading → Type 0
 ReportsReading text reading = (found : Found) × IsFound text found × Reports found reading
 
--- and that is a literal of the kind
+-- The text, in bytes, has no reading, and the numbers tell that: the kind is 9, and all of the text
+-- is the body.
+pub record TellsVerbatim (text : List ℕ) (reading : Reading) : Type 0 where
+  pub none : HasNoReading (chars text)
+  pub reading_is :
+      reading ≡ record {
+        at = 0;
+        end = length text;
+        suffix_at = length text;
+        low = 0;
+        high = 0;
+        kind = 9;
+        plain = false;
+      }
+
+-- The numbers tell what reading the text finds, or that it has no reading.
+abbrev pub ReportsLiteral : List ℕ → Reading → Type 0
+ReportsLiteral text reading = ReportsReading text reading ⊎ TellsVerbatim text reading
+
+-- What reading the text finds is told, and that is a literal of the kind.
 pub record IsOfKind (kind : Kind) (text : List ℕ) (reading : Reading) : Type 0 where
   pub found : Found
   pub is_found : IsFound text found

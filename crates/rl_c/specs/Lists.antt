@@ -1,28 +1,42 @@
 -- A list of literals, taken one by one from the front of what is left of it.
-use Rattle.std.specs.Prelude.{◌≡◌, ◌≢◌, ◌⊎◌, ℕ, ◌+◌, Bool, true, false, List, [], ◌∷◌, length, ⊤}
+use Rattle.std.specs.Prelude.{◌≡◌, ◌≢◌, ◌⊎◌, ℕ, ◌+◌, Bool, true, false, List, ◌∷◌, length, ⊤, if◌then◌else◌}
 use Rattle.std.specs.Str.{chars}
 use Prim.Native.Char.{code}
 use Rattle.rl_tokens.specs.declared.cursor.Lexeme.{Lexeme}
 use Rattle.rl_tokens.specs.declared.lex_error.LexKind.{LexKind}
 use Rattle.rl_tokens.specs.declared.lex_error.LexKind.TheVariants.{DocComment, UnclosedComment, UnclosedQuote, Lifetime, RawIdentifier, StrayCharacter, UnmatchedClose, UnclosedGroup, TooDeep, Memory}
-use Rattle.rl_tokens.specs.Cursors.{CursorState, TakesNext, form_view}
+use Rattle.rl_tokens.specs.Cursors.{CursorState, IsCursorState, TakesNext, form_view}
 use Rattle.rl_tokens.specs.Lexemes.{LexemeForm, LiteralForm, IdentifierForm, DelimiterForm, MarkForm}
-use Rattle.rl_tokens.specs.Lexing.{BeginsLexeme, BeginsNoLexeme, OpenGroup, ErrorAt}
-use Rattle.rl_tokens.specs.Reading.{HasNoReading}
+use Rattle.rl_tokens.specs.Lexing.{BeginsNoLexeme, OpenGroup, ErrorAt, is_opener}
+use Rattle.rl_tokens.specs.Reading.{HasNoReading, truth_text}
 use Rattle.rl_tokens.specs.Skipping.{Skipped}
 use Rattle.rl_c.specs.declared.next.Next.{Next}
-use Rattle.rl_c.specs.Crossing.{ReportsReading}
+use Rattle.rl_c.specs.declared.reading.Reading.{Reading}
+use Rattle.rl_c.specs.Crossing.{ReportsReading, ReportsLiteral}
 
 -- the text, in bytes, without the white space and comments at its front
 pub record Starts (text : List ℕ) (start : CursorState) : Type 0 where
   pub text_is : start.text ≡ text
+  pub state : IsCursorState text start.rest
   pub skipped : Skipped (chars text) (chars start.rest)
+
+-- the text is one of the words `true` and `false`
+abbrev pub IsTruthWord : List ℕ → Type 0
+IsTruthWord text = (b : Bool) × (chars text ≡ truth_text b)
+
+-- What is told of a token alone, by its form: of a literal token its reading, or that it has none; of
+-- the words `true` and `false` their reading. Other tokens are no literals.
+abbrev pub TellsToken : LexemeForm → List ℕ → Reading → Type 0
+TellsToken LiteralForm text reading = ReportsLiteral text reading
+TellsToken IdentifierForm text reading = IsTruthWord text × ReportsReading text reading
+TellsToken _ text reading = ⊥
 
 -- The next token is the literal.
 pub record TakesLiteral (old : CursorState) (next : Next) (new : CursorState) : Type 0 where
   pub token : Lexeme
   pub takes : TakesNext old token new
-  pub reads : ReportsReading token.text.now next.reading
+  pub tells : TellsToken (form_view token.form) token.text.now next.reading
+  pub begins : next.minus_at ≡ token.lo
   pub lo_is : next.lo ≡ token.lo
   pub hi_is : next.hi ≡ token.hi
   pub no_minus : next.negative ≡ false
@@ -61,10 +75,11 @@ HasNoNumber t =
     ⊎ ((l : Lexeme) × (new : CursorState) × TakesNext t l new
     × ((form_view l.form ≢ LiteralForm) ⊎ HasNoReading (code "-" ∷ chars l.text.now)))
 
--- the token, and what is left after it, begin no literal
+-- A token of this form and text, and what is left after it, begin no literal. A literal token is one,
+-- also where it has no reading.
 abbrev pub BeginsNone : LexemeForm → List ℕ → CursorState → Type 0
-BeginsNone LiteralForm text following = HasNoReading (chars text)
-BeginsNone IdentifierForm text following = HasNoReading (chars text)
+BeginsNone LiteralForm text following = ⊥
+BeginsNone IdentifierForm text following = IsTruthWord text → ⊥
 BeginsNone (DelimiterForm c) text following = ⊤
 BeginsNone (MarkForm c) text following = (c ≢ code "-") ⊎ HasNoNumber following
 
@@ -88,12 +103,20 @@ error_number UnclosedGroup = 10
 error_number TooDeep = 11
 error_number Memory = 12
 
--- The number tells the error of what is left: 2 where it has none, since a token begins it.
+-- the numbers of the tokens that begin no literal: of a closing delimiter that of the lexer's error,
+-- since no group is open; of an opening one 13
+abbrev pub token_number : LexemeForm → ℕ
+token_number (DelimiterForm c) = if is_opener c then 13 else error_number UnmatchedClose
+token_number _ = 2
+
+-- The number tells why no literal begins what is left, which isn't empty: the error that stands
+-- there, or the token.
 abbrev pub ReportsError : CursorState → ℕ → Type 0
 ReportsError t status =
     ((kind : LexKind) × (status ≡ error_number kind)
     × ((groups : List OpenGroup) → ErrorAt kind groups (chars t.rest)))
-    ⊎ ((status ≡ 2) × BeginsLexeme (chars t.rest))
+    ⊎ ((l : Lexeme) × (new : CursorState) × TakesNext t l new
+    × (status ≡ token_number (form_view l.form)))
 
 -- After white space and comments no literal begins the text, and why is returned, with its byte.
 pub record BeginsNoLiteral (text : List ℕ) (status at : ℕ) : Type 0 where

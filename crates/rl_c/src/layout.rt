@@ -6,7 +6,7 @@ use crate::next::Next;
 use crate::reading::Reading;
 
 /// The version of the exports and of the structs that cross: it goes up with every change of either.
-const VERSION: usize = 1;
+const VERSION: usize = 2;
 
 /// The version, and the sizes and alignments of the structs that cross, in bytes.
 #[derive(Clone, Copy)]
@@ -28,7 +28,7 @@ pub struct Layout {
 #[unsafe(no_mangle)]
 pub extern "C" fn rl_layout(layout: &mut Layout)
     ensures { layout.new ≡ record {
-      version = 1;
+      version = 2;
       reading_size = 48;
       reading_align = 8;
       next_size = 88;

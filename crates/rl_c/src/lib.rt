@@ -13,6 +13,7 @@ ghost use Rattle.rl_tokens.specs.Skipping.{Skipped};
 ghost use Rattle.rl_c.specs.Lists.{BeginsLiteral, BeginsNoLiteral};
 ghost use Rattle.rl_c.specs.Crossing.{ReportsReading, Reports, IsOfKind, IsCooked};
 
+pub mod laws;
 mod layout;
 mod next;
 mod reading;
@@ -134,8 +135,9 @@ pub extern "C" fn rl_float_digits(text: &[u8], reading: &Reading, out: &mut [u8]
 }
 
 /// What begins the list, after white space and comments: 0 where nothing does, 1 for a literal, 2
-/// for a token that begins none, else the number of the lexer's error. `next` tells the literal, or
-/// by `lo` the place of what is none.
+/// for a word or mark that begins none, 13 for an opening delimiter, else the number of the lexer's
+/// error, which a closing delimiter is too. `next` tells the literal, or by `lo` the place of what is
+/// none.
 #[unsafe(no_mangle)]
 pub extern "C" fn rl_next(text: &[u8], next: &mut Next) -> u8
     requires utf8 { IsUtf8 text.now }
@@ -150,17 +152,12 @@ pub extern "C" fn rl_next(text: &[u8], next: &mut Next) -> u8
         return 0;
     }
     let mut tokens = start.fork();
-    match take_next(&mut tokens) {
-        Some(found) => {
-            *next = found;
-            next.rest_at = text.len() - tokens.rest().len();
-            1
-        }
-        None => {
-            next.lo = text.len() - start.rest().len();
-            rejection(&start)
-        }
+    if take_next(&mut tokens, next) {
+        next.rest_at = text.len() - tokens.rest().len();
+        return 1;
     }
+    next.lo = text.len() - start.rest().len();
+    rejection(&start)
 }
 
 /// Whether the text is a literal token of the Rust Reference.

@@ -1,13 +1,14 @@
 //! The literal at the front of a list.
 
-ghost use Rattle.std.specs.Prelude.{◌≡◌, ◌≢◌, ◌+◌, ◌<◌, [], length, IfSome, IfNone};
+ghost use Rattle.std.specs.Prelude.{◌≡◌, ◌≢◌, ◌<◌, [], false, IsTrue, IsFalse};
 ghost use Rattle.std.specs.Str.{chars};
+ghost use Rattle.rl_tokens.specs.Cursors.{form_view};
 ghost use Rattle.rl_tokens.specs.Skipping.{Skipped};
-ghost use Rattle.rl_c.specs.Lists.{TakesNextLiteral, HasNoNextLiteral, ReportsError, error_number};
+ghost use Rattle.rl_c.specs.Lists.{TakesNextLiteral, HasNoNextLiteral, ReportsError, error_number, token_number};
 
 use crate::reading::Reading;
-use rl_grammar::{find, find_negative};
-use rl_tokens::{Form, LexKind, Tokens};
+use rl_grammar::{find_negative, truth_of};
+use rl_tokens::{Form, LexKind, Lexeme, Tokens};
 
 /// The literal at the front of a list, and where what is left begins. Places count in the text that
 /// was handed in.
@@ -17,7 +18,7 @@ pub struct Next {
     /// What reading the literal finds; its places count in the literal, with the minus directly
     /// before the number.
     pub reading: Reading,
-    /// The place of the minus, where one stands.
+    /// The place of the literal's first byte, of the minus where one stands. `rl_source_next` leaves it.
     pub minus_at: usize,
     /// The place of the token's first byte; where none is a literal, of the error.
     pub lo: usize,
@@ -48,55 +49,90 @@ pub(crate) fn error_number(kind: LexKind) -> u8
     }
 }
 
-/// The literal that the next tokens are, which are cut off; what is left isn't told.
-pub(crate) fn take_next(tokens: &mut Tokens<'_>) -> Option<Next>
-    ensures some { IfSome result (λ next. TakesNextLiteral tokens.old next tokens.new) }
+/// The number of a token that begins no literal.
+fn token_number(form: Form) -> u8
+    ensures value { result ≡ token_number (form_view form) }
+    ensures past { 1 < result }
+{
+    match form {
+        Form::Delimiter('(' | '[' | '{') => 13,
+        Form::Delimiter(_) => error_number(LexKind::UnmatchedClose),
+        _ => 2,
+    }
+}
+
+impl Next {
+    /// Tells the token, without a minus, as a literal; its reading is told apart.
+    fn tell_alone(&mut self, token: Lexeme<'_>)
+        ensures { self.new ≡ record (self.old) {
+          minus_at = token.entry.lo;
+          lo = token.entry.lo;
+          hi = token.entry.hi;
+          negative = false;
+        } }
+    {
+        self.minus_at = token.lo;
+        self.lo = token.lo;
+        self.hi = token.hi;
+        self.negative = false;
+    }
+}
+
+/// Cuts off the next tokens where they are a literal, which is told but for what is left, and says whether they are.
+pub(crate) fn take_next(tokens: &mut Tokens<'_>, next: &mut Next) -> bool
+    ensures some { IsTrue result → TakesNextLiteral tokens.old next.new tokens.new }
     ensures same { tokens.new.text ≡ tokens.old.text }
-    ensures none { IfNone result (HasNoNextLiteral tokens.old) }
+    ensures none { IsFalse result → HasNoNextLiteral tokens.old }
 {
     let Some(token) = tokens.next() else {
-        return None;
+        return false;
     };
     match token.form {
-        Form::Literal | Form::Identifier => {
-            let found = find(token.text)?;
-            Some(Next {
-                reading: Reading::of(&found),
-                minus_at: token.lo,
-                lo: token.lo,
-                hi: token.hi,
-                rest_at: 0,
-                negative: false,
-            })
+        Form::Literal => {
+            next.reading.tell_token(token.text);
+            next.tell_alone(token);
+            true
+        }
+        Form::Identifier => {
+            let Some(_) = truth_of(token.text) else {
+                return false;
+            };
+            next.reading.tell_token(token.text);
+            next.tell_alone(token);
+            true
         }
         Form::Mark('-') => {
             let Some(number) = tokens.next() else {
-                return None;
+                return false;
             };
             let Form::Literal = number.form else {
-                return None;
+                return false;
             };
-            let found = find_negative(number.text)?;
-            Some(Next {
-                reading: Reading::of(&found),
-                minus_at: token.lo,
-                lo: number.lo,
-                hi: number.hi,
-                rest_at: 0,
-                negative: true,
-            })
+            let Some(found) = find_negative(number.text) else {
+                return false;
+            };
+            next.reading = Reading::of(&found);
+            next.minus_at = token.lo;
+            next.lo = number.lo;
+            next.hi = number.hi;
+            next.negative = true;
+            true
         }
-        _ => None,
+        _ => false,
     }
 }
 
 /// Why no literal begins what is left, which isn't empty.
 pub(crate) fn rejection(tokens: &Tokens<'_>) -> u8
     requires { tokens.now.rest ≢ [] }
-    ensures { ReportsError tokens.now result }
+    ensures tells { ReportsError tokens.now result }
+    ensures past { 1 < result }
 {
-    match tokens.fault() {
-        Some(fault) => error_number(fault.kind),
-        None => 2,
+    if let Some(fault) = tokens.fault() {
+        return error_number(fault.kind);
+    }
+    match tokens.fork().next() {
+        Some(token) => token_number(token.form),
+        None => unreachable!(),
     }
 }

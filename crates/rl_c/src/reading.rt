@@ -8,12 +8,15 @@ ghost use Rattle.rl_tokens.specs.Numbers.{float_digits};
 ghost use Rattle.rl_tokens.specs.Quoted.{is_string, is_single};
 ghost use Rattle.rl_tokens.specs.Reading.{Digits, HasContents};
 ghost use Rattle.rl_grammar.specs.Bodies.{HasBody, HasSingleBody};
-ghost use Rattle.rl_c.specs.Crossing.{kind_number, Reports, IsOfKind, IsCooked};
+ghost use Rattle.rl_c.specs.Crossing.{kind_number, Reports, ReportsLiteral, IsOfKind, IsCooked};
 
-use rl_grammar::{Found, Kind};
+use rl_grammar::{Found, Kind, find};
 
 /// The least number that 64 bits don't hold.
 const PAST_64_BITS: u128 = 1 << 64;
+
+/// The kind of a literal token without a reading: its text is all that is known of it.
+const VERBATIM: u8 = 9;
 
 /// What reading a text finds, with the kind as a number and the magnitude in two halves.
 #[derive(Clone, Copy)]
@@ -30,7 +33,8 @@ pub struct Reading {
     /// Its high 64 bits.
     pub high: u64,
     /// What the literal is: 1 for a string, 2 for a byte string, 3 for a C string, 4 for a byte, 5 for
-    /// a character, 6 for an integer, 7 for a float, 8 for a truth value.
+    /// a character, 6 for an integer, 7 for a float, 8 for a truth value, 9 for a literal token
+    /// without a reading.
     pub kind: u8,
     /// Whether the body is what the literal stands for, byte for byte.
     pub plain: bool,
@@ -65,6 +69,39 @@ impl Reading {
             high: (found.magnitude / PAST_64_BITS) as u64,
             kind: kind_number(found.kind),
             plain: found.body.plain,
+        }
+    }
+
+    /// That a text of this many bytes has no reading.
+    fn verbatim(len: usize) -> Reading
+        ensures { result ≡ record {
+          at = 0;
+          end = len;
+          suffix_at = len;
+          low = 0;
+          high = 0;
+          kind = 9;
+          plain = false;
+        } }
+    {
+        Reading {
+            at: 0,
+            end: len,
+            suffix_at: len,
+            low: 0,
+            high: 0,
+            kind: VERBATIM,
+            plain: false,
+        }
+    }
+
+    /// Tells what reading a literal token finds, or that it has no reading.
+    pub(crate) fn tell_token(&mut self, text: &str)
+        ensures { ReportsLiteral text.now self.new }
+    {
+        match find(text) {
+            Some(found) => *self = Reading::of(&found),
+            None => *self = Reading::verbatim(text.len()),
         }
     }
 }

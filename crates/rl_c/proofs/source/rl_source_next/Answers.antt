@@ -1,7 +1,5 @@
-use Rattle.std.proofs.Common.{◌≡◌, [], ◌-◌, length, drop, refl, sym, subst, ◌∙◌, rules}
-use Rattle.std.specs.Str.{chars}
+use Rattle.std.proofs.Common.{refl, subst}
 use Rattle.rl_tokens.specs.Texts.{IsTail}
-use Rattle.rl_tokens.specs.Cursors.{IsCursorState}
 use Rattle.rl_tokens.proofs.Rests.{behind_drop}
 use Rattle.rl_c.specs.Literals.{PassesTo}
 use Rattle.rl_c.proofs.SourceLemmas.{stands_at, at_end, found_token}

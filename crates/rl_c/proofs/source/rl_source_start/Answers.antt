@@ -1,4 +1,4 @@
-use Rattle.std.proofs.Common.{◌-◌, length, sym, ap, subst, ◌∙◌}
+use Rattle.std.proofs.Common.{◌-◌, length, sym, subst}
 use Rattle.std.specs.Str.{IsCharBoundary}
 use Rattle.rl_tokens.proofs.BehindLemmas.{cut_boundary}
 use Rattle.rl_c.proofs.source.rl_source_start.Goals as goal
