@@ -14,7 +14,7 @@ use Rattle.rl_grammar.specs.Fronts.{IsFront, joined_span}
 use Rattle.rl_grammar.proofs.FrontLemmas.{minus_chars}
 use Rattle.rl_c.specs.declared.reading.Reading.{Reading}
 use Rattle.rl_c.specs.Crossing.{ReportsReading, ReportsLiteral}
-use Rattle.rl_c.specs.Lists.{TellsToken}
+use Rattle.rl_c.specs.Lists.{ReportsToken}
 use Rattle.rl_c.specs.Steps.{ListLiteral, IsOneToken, IsMinusAndNumber, AreLiterals, IsList, AreFronts, IsListOfTrees}
 use Rattle.rl_c.proofs.TreeLemmas.{text_of, span_of, token_of, no_longer, one_span}
 
@@ -73,7 +73,7 @@ record Begun (file : ℕ) (cuts : List LexedToken) (l : ListLiteral) (rest : Lis
   pub cut : LexesUpTo at text more []
   pub flat_is : map (flat_token file) more ≡ flat_trees rest
 
-begun_one : (file at : ℕ) (t : List ℕ) (w : LexedToken) (ws : List LexedToken) (l : ListLiteral) (token : SpannedText) (trees rest : List Tree) → LexesUpTo at t (w ∷ ws) [] → map (flat_token file) ws ≡ flat_trees trees → token_of file w ≡ token → rest ≡ trees → token.span ≡ record { file = file; lo = l.lo; hi = l.hi } → TellsToken (form_of w.lexeme) (text_of w) l.reading → Begun file (w ∷ ws) l rest
+begun_one : (file at : ℕ) (t : List ℕ) (w : LexedToken) (ws : List LexedToken) (l : ListLiteral) (token : SpannedText) (trees rest : List Tree) → LexesUpTo at t (w ∷ ws) [] → map (flat_token file) ws ≡ flat_trees trees → token_of file w ≡ token → rest ≡ trees → token.span ≡ record { file = file; lo = l.lo; hi = l.hi } → ReportsToken (form_of w.lexeme) (text_of w) l.reading → Begun file (w ∷ ws) l rest
 begun_one file at t w ws l token trees rest (after, _, _, _, cut) tail same left span tells =
     let place = place_of file w.at (end_of w) l token.span span (sym (ap (λ (x : SpannedText). x.span) same)) in record {
       more = ws;
@@ -115,7 +115,7 @@ begun file at t (w ∷ ws) l (LiteralTree x ∷ trees) token rest cut e (is, lef
     let h = heads (flat_token file w) (FlatLiteral x) (map (flat_token file) ws) (flat_trees trees) e in
     let f = literal_form (form_of w.lexeme) (text_of w) (span_of file w) x h.0 in
     let same : token_of file w ≡ token = f.1 ∙ sym is in
-    begun_one file at t w ws l token trees rest cut h.1 same left span (subst (λ (g : LexemeForm). TellsToken g (text_of w) l.reading) (sym f.0) (subst (λ (z : SpannedText). ReportsLiteral z.text l.reading) (sym same) tells))
+    begun_one file at t w ws l token trees rest cut h.1 same left span (subst (λ (g : LexemeForm). ReportsToken g (text_of w) l.reading) (sym f.0) (subst (λ (z : SpannedText). ReportsLiteral z.text l.reading) (sym same) tells))
 begun file at t [] l (IdentTree x ∷ trees) token rest cut e front span tells = absurd (no_head (FlatIdent x) (flat_trees trees) e)
 begun file at t (w ∷ ws) l (IdentTree x ∷ trees) token rest cut e (reads, is, left) span tells =
     let h = heads (flat_token file w) (FlatIdent x) (map (flat_token file) ws) (flat_trees trees) e in
@@ -123,8 +123,8 @@ begun file at t (w ∷ ws) l (IdentTree x ∷ trees) token rest cut e (reads, is
     let same : token_of file w ≡ token = f.1 ∙ sym is in
     let (contents, suffix, truth) = subst (λ (z : SpannedText). ReadsAs BoolKind (chars z.text)) (sym f.1) reads in
     let literal : ReportsLiteral (text_of w) l.reading = subst (λ (z : SpannedText). ReportsLiteral z.text l.reading) (sym same) tells in
-    let word : TellsToken IdentifierForm (text_of w) l.reading = ((truth.truth, truth.text_is), told (text_of w) l.reading (BoolKind, (contents, suffix, truth)) literal) in
-    begun_one file at t w ws l token trees rest cut h.1 same left span (subst (λ (g : LexemeForm). TellsToken g (text_of w) l.reading) (sym f.0) word)
+    let word : ReportsToken IdentifierForm (text_of w) l.reading = ((truth.truth, truth.text_is), told (text_of w) l.reading (BoolKind, (contents, suffix, truth)) literal) in
+    begun_one file at t w ws l token trees rest cut h.1 same left span (subst (λ (g : LexemeForm). ReportsToken g (text_of w) l.reading) (sym f.0) word)
 begun file at t cuts l (PunctTree m ∷ []) token rest cut e front span tells = absurd front
 begun file at t cuts l (PunctTree m ∷ IdentTree x ∷ trees) token rest cut e front span tells = absurd front
 begun file at t cuts l (PunctTree m ∷ PunctTree x ∷ trees) token rest cut e front span tells = absurd front

@@ -18,7 +18,7 @@ use Rattle.rl_tokens.proofs.Rests.{behind_length}
 use Rattle.rl_c.specs.declared.next.Next.{Next}
 use Rattle.rl_c.specs.declared.reading.Reading.{Reading}
 use Rattle.rl_c.specs.Crossing.{ReportsReading, ReportsLiteral}
-use Rattle.rl_c.specs.Lists.{Starts, TellsToken, TakesNextLiteral, BeginsLiteral, BeginsNone, HasNoNextLiteral, ReportsError, BeginsNoLiteral}
+use Rattle.rl_c.specs.Lists.{Starts, ReportsToken, TakesNextLiteral, BeginsLiteral, BeginsNone, HasNoNextLiteral, ReportsError, BeginsNoLiteral}
 
 with_rest : (old new : CursorState) (n : Next) (r : ℕ) → TakesNextLiteral old n new → TakesNextLiteral old (record n { rest_at = r }) new
 with_rest old new n r (inl t) = inl (record {
@@ -74,16 +74,16 @@ ends text lent rest left same skipped is empty =
     subst (λ z. Skipped (chars z) []) same (subst (Skipped (chars lent)) (ap chars nothing ∙ chars-nil) skipped)
 
 -- a token without a minus
-pub takes_alone : (old new : CursorState) (l : Lexeme) (n : Next) → TakesNext old l new → TellsToken (form_view l.form) l.text.now n.reading → n.minus_at ≡ l.lo → n.lo ≡ l.lo → n.hi ≡ l.hi → n.negative ≡ false → TakesNextLiteral old n new
+pub takes_alone : (old new : CursorState) (l : Lexeme) (n : Next) → TakesNext old l new → ReportsToken (form_view l.form) l.text.now n.reading → n.minus_at ≡ l.lo → n.lo ≡ l.lo → n.hi ≡ l.hi → n.negative ≡ false → TakesNextLiteral old n new
 takes_alone old new l n takes tells begins lo hi no_minus =
     inl (record { token = l; takes = takes; tells = tells; begins = begins; lo_is = lo; hi_is = hi; no_minus = no_minus })
 
-pub token_told : (l : Lexeme) (r : Reading) → l.form ≡ found.Literal → ReportsLiteral l.text.now r → TellsToken (form_view l.form) l.text.now r
-token_told l r is tells = subst (λ (f : FoundForm). TellsToken (form_view f) l.text.now r) (sym is) tells
+pub token_told : (l : Lexeme) (r : Reading) → l.form ≡ found.Literal → ReportsLiteral l.text.now r → ReportsToken (form_view l.form) l.text.now r
+token_told l r is tells = subst (λ (f : FoundForm). ReportsToken (form_view f) l.text.now r) (sym is) tells
 
 -- a word that is a literal has a reading
-pub word_told : (l : Lexeme) (r : Reading) (b : Bool) → l.form ≡ found.Identifier → chars l.text.now ≡ truth_text b → ReportsLiteral l.text.now r → TellsToken (form_view l.form) l.text.now r
-word_told l r b is word tells = subst (λ (f : FoundForm). TellsToken (form_view f) l.text.now r) (sym is) ((b, word), reading tells)
+pub word_told : (l : Lexeme) (r : Reading) (b : Bool) → l.form ≡ found.Identifier → chars l.text.now ≡ truth_text b → ReportsLiteral l.text.now r → ReportsToken (form_view l.form) l.text.now r
+word_told l r b is word tells = subst (λ (f : FoundForm). ReportsToken (form_view f) l.text.now r) (sym is) ((b, word), reading tells)
   where
     reading : ReportsLiteral l.text.now r → ReportsReading l.text.now r
     reading (inl told) = told

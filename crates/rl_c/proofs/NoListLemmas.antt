@@ -16,7 +16,7 @@ use Rattle.rl_grammar.proofs.FrontLemmas.{minus_chars}
 use Rattle.rl_c.specs.declared.next.Next.{Next}
 use Rattle.rl_c.specs.declared.reading.Reading.{Reading}
 use Rattle.rl_c.specs.Crossing.{ReportsReading}
-use Rattle.rl_c.specs.Lists.{Starts, TellsToken, BeginsNone, HasNoNumber, HasNoNextLiteral, ReportsError, BeginsNoLiteral}
+use Rattle.rl_c.specs.Lists.{Starts, ReportsToken, BeginsNone, HasNoNumber, HasNoNextLiteral, ReportsError, BeginsNoLiteral}
 use Rattle.rl_c.specs.Steps.{ListLiteral, AreLiterals, IsList, CallsToError}
 use Rattle.rl_c.proofs.StepLemmas.{BeginsWith, CutsOff, returned, cuts_off, left_is, one_cut}
 
@@ -65,8 +65,8 @@ same_first t v w vs ws r s (x, p, is, one) (y, q, js, other) =
     record { form = same.form; after = x; one = one; other = subst (λ z. Follow z ws s) (sym same.rest) other }
 
 -- no minus is told as a token alone
-no_minus : (f g : LexemeForm) (text : List ℕ) (reading : Reading) → TellsToken f text reading → f ≡ g → g ≡ MarkForm 45 → ⊥
-no_minus f g text reading tells e minus = subst (λ (h : LexemeForm). TellsToken h text reading) (e ∙ minus) tells
+no_minus : (f g : LexemeForm) (text : List ℕ) (reading : Reading) → ReportsToken f text reading → f ≡ g → g ≡ MarkForm 45 → ⊥
+no_minus f g text reading tells e minus = subst (λ (h : LexemeForm). ReportsToken h text reading) (e ∙ minus) tells
 
 -- Both cuts begin with a literal: the same tokens.
 same_literal : (t : List ℕ) (own cuts more : List LexedToken) (l m : ListLiteral) (r : List ℕ) → BeginsWith own l [] → BeginsWith cuts m more → Follow t own r → Follow t cuts [] → Follow r more []
@@ -90,7 +90,7 @@ some_left t status (inl (kind, _, fault)) e = no_fault kind (subst (ErrorAt kind
 some_left t status (inr (l, new, takes, _)) e = no_token takes.cut.lexeme takes.after takes.is_lexeme (sym e ∙ takes.begins)
 
 -- a token that begins no literal is none
-never : (f : LexemeForm) (text : List ℕ) (new : CursorState) (reading : Reading) → BeginsNone f text new → TellsToken f text reading → ⊥
+never : (f : LexemeForm) (text : List ℕ) (new : CursorState) (reading : Reading) → BeginsNone f text new → ReportsToken f text reading → ⊥
 never LiteralForm text new reading none tells = none
 never IdentifierForm text new reading none (word, _) = none word
 never (DelimiterForm c) text new reading none tells = tells
@@ -125,7 +125,7 @@ none_begins text start cuts more l s (inr (lent, new, takes, none)) (inl one) cu
     let same : SameToken takes.cut.lexeme w takes.after after = same_token takes.cut.lexeme w takes.after after takes.is_lexeme is (sym takes.begins ∙ one_rest (chars text) (chars start.rest) (lexeme_text w ++ after) s.skipped first) in
     let form : form_of w ≡ form_view lent.form = sym same.form ∙ takes.is_cut.form_is in
     let bytes : encode_utf8_all (lexeme_text w) ≡ lent.text.now = ap encode_utf8_all (sym same.text) ∙ takes.is_cut.bytes_are in
-    never (form_view lent.form) lent.text.now new l.reading none (subst (λ z. TellsToken (form_view lent.form) z l.reading) bytes (subst (λ (f : LexemeForm). TellsToken f (encode_utf8_all (lexeme_text w)) l.reading) form one.tells))
+    never (form_view lent.form) lent.text.now new l.reading none (subst (λ z. ReportsToken (form_view lent.form) z l.reading) bytes (subst (λ (f : LexemeForm). ReportsToken f (encode_utf8_all (lexeme_text w)) l.reading) form one.tells))
 none_begins text start cuts more l s (inr (lent, new, takes, none)) (inr two) cut =
     let mine : Follow (chars text) (takes.cut ∷ []) (chars new.rest) = follow 0 (chars text) (takes.cut ∷ []) (chars new.rest) (one_cut text start new lent s takes) in
     let f : SameFirst takes.cut two.minus [] (two.number ∷ more) (chars new.rest) [] = same_first (chars text) takes.cut two.minus [] (two.number ∷ more) (chars new.rest) [] mine (subst (λ z. Follow (chars text) z []) two.cuts_are cut) in

@@ -14,7 +14,7 @@ use Rattle.rl_tokens.proofs.CutLemmas.{behind_place}
 use Rattle.rl_tokens.proofs.Pieces.{one_rest, skipped_again}
 use Rattle.rl_c.specs.declared.next.Next.{Next}
 use Rattle.rl_c.specs.Crossing.{ReportsReading}
-use Rattle.rl_c.specs.Lists.{Starts, TellsToken, TakesNegative, TakesNextLiteral, BeginsLiteral}
+use Rattle.rl_c.specs.Lists.{Starts, ReportsToken, TakesNegative, TakesNextLiteral, BeginsLiteral}
 use Rattle.rl_c.specs.Steps.{ListLiteral, IsOneToken, IsMinusAndNumber, AreLiterals, IsList, CallsToEnd, placed}
 
 -- the tokens are the literal's
@@ -81,11 +81,11 @@ pub record CutsOff (text : List ℕ) (n : Next) : Type 0 where
   pub following : IsTail text rest
   pub place : n.rest_at + length rest ≡ length text
 
-one_literal : (w : LexedToken) (l : Lexeme) (n : Next) → IsBorrowedToken l w → TellsToken (form_view l.form) l.text.now n.reading → n.minus_at ≡ l.lo → n.hi ≡ l.hi → IsOneToken (w ∷ []) (returned n) []
+one_literal : (w : LexedToken) (l : Lexeme) (n : Next) → IsBorrowedToken l w → ReportsToken (form_view l.form) l.text.now n.reading → n.minus_at ≡ l.lo → n.hi ≡ l.hi → IsOneToken (w ∷ []) (returned n) []
 one_literal w l n is tells lo hi = record {
   token = w;
   cuts_are = refl;
-  tells = subst (λ z. TellsToken (form_of w.lexeme) z n.reading) (sym is.bytes_are) (subst (λ (f : LexemeForm). TellsToken f l.text.now n.reading) (sym is.form_is) tells);
+  tells = subst (λ z. ReportsToken (form_of w.lexeme) z n.reading) (sym is.bytes_are) (subst (λ (f : LexemeForm). ReportsToken f l.text.now n.reading) (sym is.form_is) tells);
   lo_is = lo ∙ sym is.lo_is;
   hi_is = hi ∙ sym is.hi_is;
 }

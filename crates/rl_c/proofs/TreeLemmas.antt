@@ -17,7 +17,7 @@ use Rattle.rl_grammar.specs.Fronts.{IsFront, joined, joined_span}
 use Rattle.rl_grammar.proofs.FrontLemmas.{minus_chars, truth_reads}
 use Rattle.rl_c.specs.declared.reading.Reading.{Reading}
 use Rattle.rl_c.specs.Crossing.{ReportsReading, ReportsLiteral}
-use Rattle.rl_c.specs.Lists.{TellsToken}
+use Rattle.rl_c.specs.Lists.{ReportsToken}
 use Rattle.rl_c.specs.Steps.{ListLiteral, AreLiterals, IsList, AreFronts, IsListOfTrees}
 
 -- the text of a token, its place, and both
@@ -38,7 +38,7 @@ record TreeOf (file : ℕ) (w : LexedToken) (reading : Reading) : Type 0 where
   pub front : (rest : List Tree) → IsFront (tree ∷ rest) (token_of file w) rest
   pub tells : ReportsLiteral (text_of w) reading
 
-tree_of : (file : ℕ) (w : LexedToken) (reading : Reading) (f : LexemeForm) → form_of w.lexeme ≡ f → TellsToken f (text_of w) reading → TreeOf file w reading
+tree_of : (file : ℕ) (w : LexedToken) (reading : Reading) (f : LexemeForm) → form_of w.lexeme ≡ f → ReportsToken f (text_of w) reading → TreeOf file w reading
 tree_of file w reading LiteralForm is tells = record {
   tree = LiteralTree (token_of file w);
   flat_is = ap (λ g. flat_form g (text_of w) (span_of file w) ∷ []) is;

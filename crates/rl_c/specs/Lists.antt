@@ -26,16 +26,16 @@ IsTruthWord text = (b : Bool) × (chars text ≡ truth_text b)
 
 -- What is told of a token alone, by its form: of a literal token its reading, or that it has none; of
 -- the words `true` and `false` their reading. Other tokens are no literals.
-abbrev pub TellsToken : LexemeForm → List ℕ → Reading → Type 0
-TellsToken LiteralForm text reading = ReportsLiteral text reading
-TellsToken IdentifierForm text reading = IsTruthWord text × ReportsReading text reading
-TellsToken _ text reading = ⊥
+abbrev pub ReportsToken : LexemeForm → List ℕ → Reading → Type 0
+ReportsToken LiteralForm text reading = ReportsLiteral text reading
+ReportsToken IdentifierForm text reading = IsTruthWord text × ReportsReading text reading
+ReportsToken _ text reading = ⊥
 
 -- The next token is the literal.
 pub record TakesLiteral (old : CursorState) (next : Next) (new : CursorState) : Type 0 where
   pub token : Lexeme
   pub takes : TakesNext old token new
-  pub tells : TellsToken (form_view token.form) token.text.now next.reading
+  pub tells : ReportsToken (form_view token.form) token.text.now next.reading
   pub begins : next.minus_at ≡ token.lo
   pub lo_is : next.lo ≡ token.lo
   pub hi_is : next.hi ≡ token.hi

@@ -11,7 +11,7 @@ use Rattle.rl_grammar.specs.Fronts.{IsFront}
 use Rattle.rl_c.specs.declared.next.Next.{Next}
 use Rattle.rl_c.specs.declared.reading.Reading.{Reading}
 use Rattle.rl_c.specs.Crossing.{ReportsReading, ReportsLiteral}
-use Rattle.rl_c.specs.Lists.{TellsToken, BeginsLiteral, BeginsNoLiteral}
+use Rattle.rl_c.specs.Lists.{ReportsToken, BeginsLiteral, BeginsNoLiteral}
 
 -- A literal of a list: where it stands in the whole list, from its minus on where one stands, and
 -- what is told of it.
@@ -26,7 +26,7 @@ pub record IsOneToken (cuts : List LexedToken) (l : ListLiteral) (more : List Le
   pub token : LexedToken
   pub cuts_are : cuts ≡ token ∷ more
   pub tells :
-      TellsToken (form_of token.lexeme) (encode_utf8_all (lexeme_text token.lexeme)) l.reading
+      ReportsToken (form_of token.lexeme) (encode_utf8_all (lexeme_text token.lexeme)) l.reading
   pub lo_is : l.lo ≡ token.at
   pub hi_is : l.hi ≡ end_of token
 
