@@ -35,7 +35,7 @@ ReportsReading text reading = (found : Found) × IsFound text found × Reports f
 
 -- The text, in bytes, has no reading, and the numbers tell that: the kind is 9, and all of the text
 -- is the body.
-pub record TellsVerbatim (text : List ℕ) (reading : Reading) : Type 0 where
+pub record ReportsVerbatim (text : List ℕ) (reading : Reading) : Type 0 where
   pub none : HasNoReading (chars text)
   pub reading_is :
       reading ≡ record {
@@ -50,7 +50,7 @@ pub record TellsVerbatim (text : List ℕ) (reading : Reading) : Type 0 where
 
 -- The numbers tell what reading the text finds, or that it has no reading.
 abbrev pub ReportsLiteral : List ℕ → Reading → Type 0
-ReportsLiteral text reading = ReportsReading text reading ⊎ TellsVerbatim text reading
+ReportsLiteral text reading = ReportsReading text reading ⊎ ReportsVerbatim text reading
 
 -- What reading the text finds is told, and that is a literal of the kind.
 pub record IsOfKind (kind : Kind) (text : List ℕ) (reading : Reading) : Type 0 where
