@@ -97,13 +97,13 @@ impl FlawKind {
             FlawKind::TooManyDigits => "more than six digits between the braces",
             FlawKind::PastAscii => "`\\x` is past 7F",
             FlawKind::PastUnicode => "no character past 10FFFF",
-            FlawKind::Surrogate => "no character has the number of a surrogate",
+            FlawKind::Surrogate => "surrogates are no characters",
             FlawKind::Nul => "NUL in a C string",
-            FlawKind::NotAscii => "not ASCII",
+            FlawKind::NotAscii => "not an ASCII character",
             FlawKind::LateQuote =>
                 "a later quote moves the end past a character that the string can't hold",
             FlawKind::LoneCr => "CR without LF",
-            FlawKind::MustEscape => "must be escaped",
+            FlawKind::MustEscape => "must be written as an escape",
             FlawKind::NoCharacter => "no character between the quotes",
             FlawKind::TwoCharacters => "more than one character between the quotes",
             FlawKind::NoExponentDigit => "no digit in the exponent",
@@ -163,7 +163,8 @@ impl<'t> FlawAt<'t> {
 /// Why a text is no literal, and where.
 ///
 /// What stands before `lo` is the longest front of the text that some literal begins with: with
-/// another ending it is one, and with the text's next character it can't become one.
+/// another ending it is one, and with the text's next character it can't become one. A compiler
+/// would mark `from..hi`.
 #[derive(Clone, Copy, PartialEq, Eq, Debug)]
 pub struct Flaw {
     /// What is wrong.
@@ -179,8 +180,8 @@ pub struct Flaw {
 }
 
 impl Flaw {
-    /// The place in the file of a flaw of a token's text, by the token's span: from its first byte on, and not beyond
-    /// its last.
+    /// The place `lo..hi` in the file, by the span of the token whose text it is: counted from the span's first byte, and
+    /// not beyond its last.
     pub fn in_span(self, span: Span) -> Span
         ensures { result ≡ record {
           file = span.file;
@@ -189,6 +190,21 @@ impl Flaw {
         } }
     {
         Span::new(span.file, place_in(span, self.lo), place_in(span, self.hi))
+    }
+
+    /// The place `from..hi` in the file, by the span of the token whose text it is: what a compiler would mark.
+    pub fn piece_in_span(self, span: Span) -> Span
+        ensures { result ≡ record {
+          file = span.file;
+          lo = place_in span self.from;
+          hi = place_in span self.hi;
+        } }
+    {
+        Span::new(
+            span.file,
+            place_in(span, self.from),
+            place_in(span, self.hi),
+        )
     }
 }
 
@@ -231,7 +247,9 @@ fn first_len(text: &str) -> usize
 
 /// Why the text is no literal, and where; `None` exactly where it is one. No memory is taken.
 ///
-/// An integer past 128 bits is none.
+/// The grammar is that of [`find`], which is `syn`'s and wider than Rust's: `0b102`, `1e` and `'''` are literals there, so
+/// they have no flaw. Whether Rust has such a token, [`is_token`](crate::strict::is_token) says, without a place. An
+/// integer past 128 bits is no literal.
 pub fn explain(text: &str) -> Option<Flaw>
     ensures none { IfNone result (HasReading (chars text.now)) }
     ensures some { IfSome result (Explains (chars text.now)) }

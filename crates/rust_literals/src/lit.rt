@@ -211,7 +211,8 @@ impl<A: Allocator> Lit<A> {
         self.view().kind
     }
 
-    /// The token's text, suffix included; of a truth value its word.
+    /// The token's text, suffix included; of a truth value its word. Of a number after a minus it is shorter than the
+    /// span where white space or comments stand between them.
     pub fn text(&self) -> &str
         ensures { result.now ≡ (token_of self.now).text }
     {

@@ -101,6 +101,9 @@ pub fn read_behind<A: Allocator + Copy>(
 /// what [`Lit::parse`] takes from the trees of the text, `Verbatim` too; its span is the file and
 /// the bytes of its text, of a number after a minus from the minus to its last byte.
 ///
+/// One error, and there are no literals: who wants those before it, or each error of a list, goes over
+/// [`Tokens`](rl_tokens::Tokens) by [`read_next`](crate::read_next).
+///
 /// # Errors
 ///
 /// The first error is the answer: the lexer's error as `Lex`, with the span of no bytes at its
