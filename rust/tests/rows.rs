@@ -114,6 +114,32 @@ fn a_list() {
 }
 
 #[test]
+fn literals_between_gaps() {
+    let literals_of = [
+        ("0xFF_u8", "0xFF_u8"),
+        ("\"é\\n\"", "\"é\\n\""),
+        ("- 1.5", "-1.5"),
+        ("-/* a */7", "-7"),
+        ("'\\q'", "'\\q'"),
+        ("true", "true"),
+    ];
+    let gaps = [" ", "\n", " /* é */ ", " // \"a\n"];
+    let (mut state, mut text, mut expected) = (1_usize, String::new(), Vec::new());
+    for _ in 0..500 {
+        state = state.wrapping_mul(1103515245).wrapping_add(12345) % (1 << 31);
+        let (written, shown) = literals_of[(state >> 8) % literals_of.len()];
+        text += gaps[(state >> 16) % gaps.len()];
+        expected.push((text.len()..text.len() + written.len(), shown.to_owned()));
+        text += written;
+    }
+    let found: Vec<_> = literals(&text)
+        .map(|item| item.map(|(range, literal)| (range, literal.to_string())))
+        .collect::<Result<_, _>>()
+        .unwrap();
+    assert_eq!(found, expected);
+}
+
+#[test]
 fn what_has_no_reading() {
     let most = "340282366920938463463374607431768211455";
     let past = "340282366920938463463374607431768211456";
@@ -121,7 +147,14 @@ fn what_has_no_reading() {
     let found: Vec<_> = literals(&text).collect::<Result<_, _>>().unwrap();
     let lines: Vec<_> = found
         .iter()
-        .map(|(range, literal)| (range.clone(), literal.kind(), literal.text(), literal.suffix()))
+        .map(|(range, literal)| {
+            (
+                range.clone(),
+                literal.kind(),
+                literal.text(),
+                literal.suffix(),
+            )
+        })
         .collect();
     assert_eq!(lines[0], (0..39, Kind::Int, most, ""));
     assert_eq!(lines[1].1, Kind::Verbatim);
