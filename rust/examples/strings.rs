@@ -8,7 +8,7 @@ fn print_strings(name: &str) -> Result<(), Box<dyn Error>> {
     let text = fs::read_to_string(name)?;
     for item in source(&text) {
         let (range, literal) = item.map_err(|error| format!("{name}: {error}"))?;
-        if let Some(Lit::Str(string)) = literal {
+        if let Lit::Str(string) = literal {
             println!("{name}:{}..{} {}", range.start, range.end, string.value());
         }
     }

@@ -1,14 +1,14 @@
-//! Why a text is no literal, no list and no source.
+//! Why a text is no list of literals, and no source.
 
 use crate::numbered::numbered;
 use std::fmt;
 
 numbered! {
-    /// Why a text is no literal, or no list of literals.
+    /// Why a text is no list of literals, or no source.
     #[derive(Clone, Copy, Debug, PartialEq, Eq)]
     #[non_exhaustive]
     enum ErrorKind;
-    /// No literal stands there: in a list a word or a mark; of a single text, an integer past 128 bits too.
+    /// No literal stands there: a word or a mark; after a minus, what reads as no number within 128 bits.
     2 => NoLiteral: "not a literal, or an integer past 128 bits",
     /// A doc comment.
     3 => DocComment: "doc comment",
@@ -29,37 +29,29 @@ numbered! {
     else => ErrorKind::NoLiteral,
 }
 
-/// What was rejected, and the byte where it stands.
+/// What ends a list or a source, and the byte where it stands.
 #[derive(Clone, Copy, Debug, PartialEq, Eq)]
-pub struct ParseError {
+pub struct ListError {
     pub(crate) kind: ErrorKind,
     pub(crate) at: usize,
 }
 
-impl ParseError {
-    /// No literal, in a single text.
-    pub(crate) fn none() -> ParseError {
-        ParseError {
-            kind: ErrorKind::NoLiteral,
-            at: 0,
-        }
-    }
-
+impl ListError {
     /// What was rejected.
     pub fn kind(&self) -> ErrorKind {
         self.kind
     }
 
-    /// The byte where it stands; of one literal's text 0.
+    /// The byte where it stands.
     pub fn at(&self) -> usize {
         self.at
     }
 }
 
-impl fmt::Display for ParseError {
+impl fmt::Display for ListError {
     fn fmt(&self, f: &mut fmt::Formatter<'_>) -> fmt::Result {
         write!(f, "{} at byte {}", self.kind, self.at)
     }
 }
 
-impl std::error::Error for ParseError {}
+impl std::error::Error for ListError {}

@@ -1,6 +1,6 @@
 //! The exports of `crates/rl_c`, as `CALLING.md` of that crate has them. Only `ffi` calls them.
 
-use crate::layout::{Layout, Next, Reading};
+use crate::layout::{Explanation, Layout, Next, Reading};
 
 /// An export that writes what a literal stands for.
 pub(crate) type Value = unsafe extern "C" fn(*const u8, usize, &Reading, *mut u8, usize) -> usize;
@@ -9,8 +9,9 @@ pub(crate) type Write = unsafe extern "C" fn(*const u8, usize, *mut u8, usize) -
 
 extern "C" {
     pub(crate) fn rl_layout(layout: &mut Layout);
-    pub(crate) fn rl_probe(next: &mut Next);
+    pub(crate) fn rl_probe(next: &mut Next, explanation: &mut Explanation);
     pub(crate) fn rl_find(text: *const u8, len: usize, reading: &mut Reading) -> bool;
+    pub(crate) fn rl_explain(text: *const u8, len: usize, explanation: &mut Explanation) -> bool;
     pub(crate) fn rl_is_token(text: *const u8, len: usize) -> bool;
     pub(crate) fn rl_str_value(
         t: *const u8,

@@ -3,7 +3,7 @@
 #![allow(unsafe_code)]
 
 use crate::exports::*;
-use crate::layout::{Layout, Next, Reading, LAYOUT, PROBE};
+use crate::layout::{Explanation, Layout, Next, Reading, EXPLANATION_PROBE, LAYOUT, NEXT_PROBE};
 use crate::token::Kind;
 use std::sync::Once;
 
@@ -11,13 +11,18 @@ use std::sync::Once;
 fn check_layout() {
     static CHECKED: Once = Once::new();
     CHECKED.call_once(|| {
-        let (mut layout, mut next) = (Layout::default(), Next::default());
-        // SAFETY: `rl_layout` writes five words into a struct of five words; it requires nothing.
+        let mut layout = Layout::default();
+        // SAFETY: `rl_layout` writes seven words into a struct of seven words; it requires nothing.
         unsafe { rl_layout(&mut layout) };
         assert_eq!(layout, LAYOUT, "librl_c.a is of another version");
-        // SAFETY: the library's `Next` is as large as ours, by the line before; it requires nothing.
-        unsafe { rl_probe(&mut next) };
-        assert_eq!(next, PROBE, "librl_c.a has another layout");
+        let (mut next, mut explanation) = (Next::default(), Explanation::default());
+        // SAFETY: the library's structs are as large as ours, by the lines before; it requires nothing.
+        unsafe { rl_probe(&mut next, &mut explanation) };
+        assert_eq!(next, NEXT_PROBE, "librl_c.a has another layout");
+        assert_eq!(
+            explanation, EXPLANATION_PROBE,
+            "librl_c.a has another layout"
+        );
     });
 }
 
@@ -38,6 +43,15 @@ pub(crate) fn find(text: &str) -> Option<Reading> {
     // SAFETY: `utf8`: every `&str` is.
     let found = unsafe { rl_find(text.as_ptr(), text.len(), &mut reading) };
     found.then_some(reading)
+}
+
+/// Why a text has no reading; `None` where it has one.
+pub(crate) fn explain(text: &str) -> Option<Explanation> {
+    check_layout();
+    let mut explanation = Explanation::default();
+    // SAFETY: `utf8`.
+    let is_flawed = unsafe { rl_explain(text.as_ptr(), text.len(), &mut explanation) };
+    is_flawed.then_some(explanation)
 }
 
 /// Whether the text is a strict token.

@@ -27,6 +27,16 @@ pub(crate) struct Next {
     pub(crate) negative: bool,
 }
 
+/// Why a text is no literal, and where: `Explanation` of `crates/rl_c/src/explain.rt`.
+#[repr(C)]
+#[derive(Clone, Copy, Debug, Default, PartialEq, Eq)]
+pub(crate) struct Explanation {
+    pub(crate) from: usize,
+    pub(crate) lo: usize,
+    pub(crate) hi: usize,
+    pub(crate) kind: u8,
+}
+
 /// The version, sizes and alignments: `Layout` of `crates/rl_c/src/layout.rt`.
 #[repr(C)]
 #[derive(Clone, Copy, Debug, Default, PartialEq, Eq)]
@@ -36,19 +46,23 @@ pub(crate) struct Layout {
     reading_align: usize,
     next_size: usize,
     next_align: usize,
+    explanation_size: usize,
+    explanation_align: usize,
 }
 
 /// The layout that this package was written for.
 pub(crate) const LAYOUT: Layout = Layout {
-    version: 2,
+    version: 3,
     reading_size: size_of::<Reading>(),
     reading_align: align_of::<Reading>(),
     next_size: size_of::<Next>(),
     next_align: align_of::<Next>(),
+    explanation_size: size_of::<Explanation>(),
+    explanation_align: align_of::<Explanation>(),
 };
 
-/// What `rl_probe` puts into the fields.
-pub(crate) const PROBE: Next = Next {
+/// What `rl_probe` puts into the fields of a `Next`.
+pub(crate) const NEXT_PROBE: Next = Next {
     reading: Reading {
         at: 1,
         end: 2,
@@ -65,6 +79,14 @@ pub(crate) const PROBE: Next = Next {
     negative: true,
 };
 
+/// What it puts into those of an `Explanation`.
+pub(crate) const EXPLANATION_PROBE: Explanation = Explanation {
+    from: 1,
+    lo: 2,
+    hi: 3,
+    kind: 4,
+};
+
 const _: () = assert!(size_of::<usize>() == 8, "the library has 64-bit places");
 const _: () = assert!(size_of::<Reading>() == 48 && align_of::<Reading>() == 8);
 const _: () = assert!(size_of::<Next>() == 88 && align_of::<Next>() == 8);
@@ -75,3 +97,6 @@ const _: () = assert!(offset_of!(Reading, plain) == 41 && offset_of!(Next, readi
 const _: () = assert!(offset_of!(Next, minus_at) == 48 && offset_of!(Next, lo) == 56);
 const _: () = assert!(offset_of!(Next, hi) == 64 && offset_of!(Next, rest_at) == 72);
 const _: () = assert!(offset_of!(Next, negative) == 80);
+const _: () = assert!(size_of::<Explanation>() == 32 && align_of::<Explanation>() == 8);
+const _: () = assert!(offset_of!(Explanation, from) == 0 && offset_of!(Explanation, lo) == 8);
+const _: () = assert!(offset_of!(Explanation, hi) == 16 && offset_of!(Explanation, kind) == 24);

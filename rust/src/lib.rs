@@ -21,6 +21,7 @@
 mod error;
 mod exports;
 mod ffi;
+mod flaw;
 mod layout;
 mod list;
 mod lit;
@@ -29,7 +30,8 @@ mod source;
 mod token;
 mod write;
 
-pub use error::{ErrorKind, ParseError};
+pub use error::{ErrorKind, ListError};
+pub use flaw::{FlawKind, ParseError};
 pub use list::{literals, Literals};
 pub use lit::{
     Lit, LitBool, LitByte, LitByteStr, LitCStr, LitChar, LitFloat, LitInt, LitStr, LitVerbatim,

@@ -1,6 +1,6 @@
 //! Lists of literals.
 
-use crate::error::{ErrorKind, ParseError};
+use crate::error::{ErrorKind, ListError};
 use crate::ffi;
 use crate::lit::Lit;
 use crate::token::Token;
@@ -20,8 +20,8 @@ pub struct Literals<'t> {
 ///
 /// A minus before a number belongs to the literal, also where something stands between them.
 ///
-/// A literal token that has no reading, as `'\q'` and an integer past 128 bits, comes as [`Lit::Verbatim`]; after a minus
-/// it is an error. A token that begins no literal ends the list: a word or a mark with
+/// A literal token that has no reading, as `'\q'` and an integer past 128 bits, comes as [`Lit::Verbatim`], which
+/// explains why; after a minus it is an error. A token that begins no literal ends the list: a word or a mark with
 /// [`ErrorKind::NoLiteral`](crate::ErrorKind::NoLiteral), an opening delimiter with
 /// [`ErrorKind::Group`](crate::ErrorKind::Group), a closing one with
 /// [`ErrorKind::UnmatchedClose`](crate::ErrorKind::UnmatchedClose).
@@ -38,7 +38,7 @@ pub struct Literals<'t> {
 /// let error = list.next().unwrap().unwrap_err();
 /// assert_eq!((error.kind(), error.at()), (ErrorKind::Lifetime, 24));
 /// assert!(list.next().is_none());
-/// # Ok::<(), navyspindle::ParseError>(())
+/// # Ok::<(), navyspindle::ListError>(())
 /// ```
 pub fn literals(text: &str) -> Literals<'_> {
     Literals {
@@ -49,7 +49,7 @@ pub fn literals(text: &str) -> Literals<'_> {
 }
 
 impl<'t> Iterator for Literals<'t> {
-    type Item = Result<(Range<usize>, Lit<'t>), ParseError>;
+    type Item = Result<(Range<usize>, Lit<'t>), ListError>;
 
     fn next(&mut self) -> Option<Self::Item> {
         if self.is_done {
@@ -59,7 +59,7 @@ impl<'t> Iterator for Literals<'t> {
         let (status, next) = ffi::next(rest);
         if status != 1 {
             self.is_done = true;
-            let error = ParseError {
+            let error = ListError {
                 kind: ErrorKind::of(status),
                 at: self.at + next.lo,
             };

@@ -1,6 +1,6 @@
 //! Literals by kind.
 
-use crate::error::ParseError;
+use crate::flaw::ParseError;
 use crate::token::{Kind, Token};
 use std::borrow::Cow;
 use std::fmt;
@@ -49,7 +49,7 @@ kinds! {
     LitFloat
     /// A truth value: `true`, `false`.
     LitBool
-    /// A literal token of a list that has no reading, so no value and no suffix: `'\q'`, or an integer past 128 bits.
+    /// A literal token of a list or a source that has no reading, so no value and no suffix: `'\q'`, or an integer past 128 bits.
     LitVerbatim
 }
 
@@ -143,6 +143,23 @@ impl LitBool<'_> {
     }
 }
 
+impl LitVerbatim<'_> {
+    /// Why it is no literal, and where.
+    ///
+    /// ```
+    /// use navyspindle::{literals, FlawKind, Lit};
+    ///
+    /// let (range, literal) = literals(r"1 '\q'").nth(1).unwrap()?;
+    /// let Lit::Verbatim(literal) = literal else { panic!() };
+    /// let error = literal.explain();
+    /// assert_eq!((range.start, error.kind(), error.range()), (2, FlawKind::UnknownEscape, 2..3));
+    /// # Ok::<(), navyspindle::ListError>(())
+    /// ```
+    pub fn explain(&self) -> ParseError {
+        ParseError::of(self.text())
+    }
+}
+
 /// A literal of any kind: what [`Lit::parse`] makes of a text.
 ///
 /// ```
@@ -172,7 +189,7 @@ pub enum Lit<'t> {
     Float(LitFloat<'t>),
     /// A truth value.
     Bool(LitBool<'t>),
-    /// A literal token of a list that has no reading. [`Lit::parse`] and [`source`](crate::source) return none.
+    /// A literal token of a list or a source that has no reading. [`Lit::parse`] returns none.
     Verbatim(LitVerbatim<'t>),
 }
 
@@ -181,11 +198,11 @@ impl<'t> Lit<'t> {
     ///
     /// # Errors
     ///
-    /// The text is no literal, or an integer past 128 bits.
+    /// The text is no literal, or an integer past 128 bits: why, and where.
     pub fn parse(text: &'t str) -> Result<Lit<'t>, ParseError> {
         match Token::read(Cow::Borrowed(text)) {
             Some(token) => Ok(Lit::of(token)),
-            None => Err(ParseError::none()),
+            None => Err(ParseError::of(text)),
         }
     }
 
@@ -246,7 +263,7 @@ impl FromStr for Lit<'static> {
     fn from_str(text: &str) -> Result<Self, ParseError> {
         match Token::read(Cow::Owned(text.to_owned())) {
             Some(token) => Ok(Lit::of(token)),
-            None => Err(ParseError::none()),
+            None => Err(ParseError::of(text)),
         }
     }
 }

@@ -1,6 +1,6 @@
 //! The literals of whole sources.
 
-use crate::error::{ErrorKind, ParseError};
+use crate::error::{ErrorKind, ListError};
 use crate::ffi;
 use crate::lit::Lit;
 use crate::token::Token;
@@ -19,7 +19,7 @@ pub struct Source<'t> {
 /// Every literal of a whole Rust source, in order, up to the first error: a quote or a comment that isn't closed.
 ///
 /// What stands in comments is no literal, a minus is no part of one, and the words `true` and `false` are literals. A
-/// token that is a literal by its form and has no reading comes as `None`, as `'\q'` does.
+/// token that is a literal by its form and has no reading comes as [`Lit::Verbatim`], as `'\q'` does.
 ///
 /// ```
 /// use navyspindle::{source, Lit};
@@ -27,10 +27,10 @@ pub struct Source<'t> {
 /// let text = r#"fn f() { g("a\n", 1.5) } // "b""#;
 /// let found: Vec<_> = source(text).collect::<Result<_, _>>()?;
 /// assert_eq!(found[0].0, 11..16);
-/// let Some(Lit::Str(literal)) = &found[0].1 else { panic!() };
+/// let Lit::Str(literal) = &found[0].1 else { panic!() };
 /// assert_eq!(literal.value(), "a\n");
 /// assert_eq!((found[1].0.clone(), found.len()), (18..21, 2));
-/// # Ok::<(), navyspindle::ParseError>(())
+/// # Ok::<(), navyspindle::ListError>(())
 /// ```
 pub fn source(text: &str) -> Source<'_> {
     Source {
@@ -41,7 +41,7 @@ pub fn source(text: &str) -> Source<'_> {
 }
 
 impl<'t> Iterator for Source<'t> {
-    type Item = Result<(Range<usize>, Option<Lit<'t>>), ParseError>;
+    type Item = Result<(Range<usize>, Lit<'t>), ListError>;
 
     fn next(&mut self) -> Option<Self::Item> {
         if self.is_done {
@@ -51,12 +51,15 @@ impl<'t> Iterator for Source<'t> {
         if !matches!(status, 1 | 2) {
             self.is_done = true;
             let (kind, at) = (ErrorKind::of(status), next.lo);
-            return (status != 0).then_some(Err(ParseError { kind, at }));
+            return (status != 0).then_some(Err(ListError { kind, at }));
         }
         self.at = next.rest_at;
         let text = Cow::Borrowed(&self.text[next.lo..next.hi]);
-        let literal = (status == 1).then(|| Lit::of(Token::found(text, next.reading)));
-        Some(Ok((next.lo..next.hi, literal)))
+        let token = match status {
+            1 => Token::found(text, next.reading),
+            _ => Token::verbatim(text),
+        };
+        Some(Ok((next.lo..next.hi, Lit::of(token))))
     }
 }
 

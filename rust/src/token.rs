@@ -25,7 +25,7 @@ numbered! {
     7 => Float,
     /// A truth value: `true`.
     8 => Bool,
-    /// A literal token of a list that has no reading: `'\q'`, or an integer past 128 bits.
+    /// A literal token of a list or a source that has no reading: `'\q'`, or an integer past 128 bits.
     9 => Verbatim,
     else => unreachable!("the library has nine kinds"),
 }
@@ -47,6 +47,17 @@ impl<'t> Token<'t> {
 
     /// A text whose reading the library told together with it.
     pub(crate) fn found(text: Cow<'t, str>, reading: Reading) -> Token<'t> {
+        Token { text, reading }
+    }
+
+    /// A literal token without a reading: all of it is the body.
+    pub(crate) fn verbatim(text: Cow<'t, str>) -> Token<'t> {
+        let reading = Reading {
+            end: text.len(),
+            suffix_at: text.len(),
+            kind: 9,
+            ..Reading::default()
+        };
         Token { text, reading }
     }
 

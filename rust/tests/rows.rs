@@ -210,8 +210,8 @@ fn a_source() {
     let rows = |text: &str| -> Vec<String> {
         source(text)
             .map(|item| match item {
-                Ok((range, Some(literal))) => format!("{range:?} {literal}"),
-                Ok((range, None)) => format!("{range:?} no reading"),
+                Ok((range, Lit::Verbatim(_))) => format!("{range:?} no reading"),
+                Ok((range, literal)) => format!("{range:?} {literal}"),
                 Err(error) => error.to_string(),
             })
             .collect()

@@ -1,4 +1,5 @@
 pub mod Crossing
+pub mod Explanations
 pub mod Lists
 pub mod Literals
 pub mod Steps

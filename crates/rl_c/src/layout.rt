@@ -2,11 +2,12 @@
 
 ghost use Rattle.std.specs.Prelude.{◌≡◌, true};
 
+use crate::explain::Explanation;
 use crate::next::Next;
 use crate::reading::Reading;
 
 /// The version of the exports and of the structs that cross: it goes up with every change of either.
-const VERSION: usize = 2;
+const VERSION: usize = 3;
 
 /// The version, and the sizes and alignments of the structs that cross, in bytes.
 #[derive(Clone, Copy)]
@@ -22,17 +23,23 @@ pub struct Layout {
     pub next_size: usize,
     /// The alignment of [`Next`].
     pub next_align: usize,
+    /// The size of [`Explanation`].
+    pub explanation_size: usize,
+    /// The alignment of [`Explanation`].
+    pub explanation_align: usize,
 }
 
 /// Returns the version, sizes and alignments.
 #[unsafe(no_mangle)]
 pub extern "C" fn rl_layout(layout: &mut Layout)
     ensures { layout.new ≡ record {
-      version = 2;
+      version = 3;
       reading_size = 48;
       reading_align = 8;
       next_size = 88;
       next_align = 8;
+      explanation_size = 32;
+      explanation_align = 8;
     } }
 {
     *layout = Layout {
@@ -41,13 +48,15 @@ pub extern "C" fn rl_layout(layout: &mut Layout)
         reading_align: align_of::<Reading>(),
         next_size: size_of::<Next>(),
         next_align: align_of::<Next>(),
+        explanation_size: size_of::<Explanation>(),
+        explanation_align: align_of::<Explanation>(),
     };
 }
 
 /// Puts a number of its own into each field, in the order of the fields, so that the other side sees where each lies.
 #[unsafe(no_mangle)]
-pub extern "C" fn rl_probe(next: &mut Next)
-    ensures { next.new ≡ record {
+pub extern "C" fn rl_probe(next: &mut Next, explanation: &mut Explanation)
+    ensures next { next.new ≡ record {
       reading = record {
         at = 1;
         end = 2;
@@ -62,6 +71,12 @@ pub extern "C" fn rl_probe(next: &mut Next)
       hi = 10;
       rest_at = 11;
       negative = true;
+    } }
+    ensures explanation { explanation.new ≡ record {
+      from = 1;
+      lo = 2;
+      hi = 3;
+      kind = 4;
     } }
 {
     *next = Next {
@@ -79,5 +94,11 @@ pub extern "C" fn rl_probe(next: &mut Next)
         hi: 10,
         rest_at: 11,
         negative: true,
+    };
+    *explanation = Explanation {
+        from: 1,
+        lo: 2,
+        hi: 3,
+        kind: 4,
     };
 }

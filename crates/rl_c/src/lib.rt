@@ -13,6 +13,7 @@ ghost use Rattle.rl_tokens.specs.Skipping.{Skipped};
 ghost use Rattle.rl_c.specs.Lists.{BeginsLiteral, BeginsNoLiteral};
 ghost use Rattle.rl_c.specs.Crossing.{ReportsReading, Reports, IsOfKind, IsCooked};
 
+mod explain;
 pub mod laws;
 mod layout;
 mod next;
@@ -20,6 +21,7 @@ mod reading;
 mod source;
 mod write;
 
+pub use crate::explain::{Explanation, rl_explain};
 pub use crate::layout::{Layout, rl_layout, rl_probe};
 pub use crate::next::Next;
 use crate::next::{rejection, take_next};

@@ -1,0 +1,45 @@
+-- Why a text has no reading, as it crosses to callers in other languages.
+use Rattle.std.specs.Prelude.{◌≡◌, ℕ, List}
+use Rattle.std.specs.Str.{chars}
+use Rattle.rl_grammar.specs.declared.flaws.Flaw.{Flaw}
+use Rattle.rl_grammar.specs.declared.flaws.FlawKind.{FlawKind}
+use Rattle.rl_grammar.specs.declared.flaws.FlawKind.TheVariants.{Empty, NoLiteral, Unfinished, NoQuote, NoNumber, Unclosed, UnknownEscape, NoUnicode, NoHexDigit, NoBrace, EmptyBraces, TooManyDigits, PastAscii, PastUnicode, Surrogate, Nul, NotAscii, LateQuote, LoneCr, MustEscape, NoCharacter, TwoCharacters, NoExponentDigit, BadSuffix, TooLarge}
+use Rattle.rl_grammar.specs.Flaws.{Explains}
+use Rattle.rl_c.specs.declared.explain.Explanation.{Explanation}
+
+-- the numbers of the kinds of flaws
+abbrev pub flaw_number : FlawKind → ℕ
+flaw_number Empty = 1
+flaw_number NoLiteral = 2
+flaw_number Unfinished = 3
+flaw_number NoQuote = 4
+flaw_number NoNumber = 5
+flaw_number Unclosed = 6
+flaw_number UnknownEscape = 7
+flaw_number NoUnicode = 8
+flaw_number NoHexDigit = 9
+flaw_number NoBrace = 10
+flaw_number EmptyBraces = 11
+flaw_number TooManyDigits = 12
+flaw_number PastAscii = 13
+flaw_number PastUnicode = 14
+flaw_number Surrogate = 15
+flaw_number Nul = 16
+flaw_number NotAscii = 17
+flaw_number LateQuote = 18
+flaw_number LoneCr = 19
+flaw_number MustEscape = 20
+flaw_number NoCharacter = 21
+flaw_number TwoCharacters = 22
+flaw_number NoExponentDigit = 23
+flaw_number BadSuffix = 24
+flaw_number TooLarge = 25
+
+-- The numbers report a flaw that explains why the text, in bytes, has no reading.
+pub record ReportsFlaw (text : List ℕ) (explanation : Explanation) : Type 0 where
+  pub flaw : Flaw
+  pub explains : Explains (chars text) flaw
+  pub kind_is : explanation.kind ≡ flaw_number flaw.kind
+  pub from_is : explanation.from ≡ flaw.from
+  pub lo_is : explanation.lo ≡ flaw.lo
+  pub hi_is : explanation.hi ≡ flaw.hi

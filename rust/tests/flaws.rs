@@ -1,0 +1,126 @@
+//! Why texts are no literals, and where: for each kind of flaw the byte where the piece begins that it spoils, and the
+//! bytes of the character that no literal goes on with.
+
+use navyspindle::{literals, source, FlawKind, Lit};
+use std::collections::HashSet;
+use std::fs;
+
+/// The least integer past 128 bits.
+const PAST: &str = "340282366920938463463374607431768211456";
+
+/// A text, its kind of flaw, the byte where the piece begins, that of the character, and the one after it.
+type Row<'t> = (&'t str, FlawKind, usize, usize, usize);
+
+/// A row for each kind.
+const ROWS: &[Row] = &[
+    ("", FlawKind::Empty, 0, 0, 0),
+    ("truex", FlawKind::NoLiteral, 0, 4, 5),
+    ("r#", FlawKind::Unfinished, 2, 2, 2),
+    ("r#x", FlawKind::NoQuote, 2, 2, 3),
+    ("--1", FlawKind::NoNumber, 0, 1, 2),
+    (r#""a"#, FlawKind::Unclosed, 2, 2, 2),
+    (r#""\q""#, FlawKind::UnknownEscape, 1, 2, 3),
+    (r#"b"\u{1}""#, FlawKind::NoUnicode, 2, 3, 4),
+    (r#""\xg""#, FlawKind::NoHexDigit, 1, 3, 4),
+    (r#""\u1""#, FlawKind::NoBrace, 1, 3, 4),
+    (r#""\u{}""#, FlawKind::EmptyBraces, 1, 4, 5),
+    (r#""\u{0000001}""#, FlawKind::TooManyDigits, 1, 10, 11),
+    (r#""\x80""#, FlawKind::PastAscii, 1, 3, 4),
+    (r#""\u{110000}""#, FlawKind::PastUnicode, 1, 9, 10),
+    (r#""\u{D800}""#, FlawKind::Surrogate, 1, 8, 9),
+    (r#"c"\0""#, FlawKind::Nul, 2, 3, 4),
+    ("b\"é\"", FlawKind::NotAscii, 2, 2, 4),
+    (r#"br"a"é""#, FlawKind::LateQuote, 7, 7, 8),
+    ("\"a\rb\"", FlawKind::LoneCr, 2, 3, 4),
+    ("b'\t'", FlawKind::MustEscape, 2, 2, 3),
+    ("''x", FlawKind::NoCharacter, 1, 2, 3),
+    ("'ab'", FlawKind::TwoCharacters, 1, 2, 3),
+    ("1e+x", FlawKind::NoExponentDigit, 0, 3, 4),
+    ("1.5.", FlawKind::BadSuffix, 0, 3, 4),
+    (PAST, FlawKind::TooLarge, 0, 39, 39),
+];
+
+#[test]
+fn each_kind() {
+    for &(text, kind, from, lo, hi) in ROWS {
+        let error = Lit::parse(text).unwrap_err();
+        assert_eq!(error.kind(), kind, "{text}");
+        assert_eq!((error.piece(), error.range()), (from..hi, lo..hi), "{text}");
+        assert_eq!(error.to_string(), format!("{kind} at byte {lo}"));
+        assert_eq!(text.parse::<Lit>().unwrap_err(), error);
+    }
+    let kinds: HashSet<FlawKind> = ROWS.iter().map(|row| row.1).collect();
+    assert_eq!((kinds.len(), ROWS.len()), (25, 25));
+}
+
+#[test]
+fn the_words_are_the_programs() {
+    let path = concat!(
+        env!("CARGO_MANIFEST_DIR"),
+        "/../crates/rl_grammar/specs/FlawWords.antt"
+    );
+    let table = fs::read_to_string(path).expect("the table of words");
+    for (_, kind, ..) in ROWS {
+        let line = format!("flaw_message {kind:?} = codes {:?}", kind.to_string());
+        assert!(table.lines().any(|it| it == line), "{line}");
+    }
+}
+
+#[test]
+fn other_places() {
+    let rows: &[Row] = &[
+        ("#", FlawKind::NoLiteral, 0, 0, 1),
+        ("bx", FlawKind::NoLiteral, 0, 1, 2),
+        ("b", FlawKind::Unfinished, 0, 1, 1),
+        ("1e+", FlawKind::Unfinished, 0, 3, 3),
+        (r#""a\x4"#, FlawKind::Unclosed, 2, 5, 5),
+        (r##"r#"a""##, FlawKind::Unclosed, 5, 5, 5),
+        (r#""\u{00D800}""#, FlawKind::Surrogate, 1, 9, 10),
+        (r#"c"\x00""#, FlawKind::Nul, 2, 5, 6),
+        ("b''", FlawKind::NoCharacter, 2, 2, 3),
+        ("é", FlawKind::NoLiteral, 0, 0, 2),
+        ("1 ", FlawKind::BadSuffix, 0, 1, 2),
+        ("0x1.5", FlawKind::BadSuffix, 0, 3, 4),
+        (&format!("{PAST}u8"), FlawKind::TooLarge, 0, 39, 40),
+    ];
+    for &(text, kind, from, lo, hi) in rows {
+        let error = Lit::parse(text).unwrap_err();
+        let found = (error.kind(), error.piece(), error.range());
+        assert_eq!(found, (kind, from..hi, lo..hi), "{text}");
+    }
+}
+
+/// The reason and the place in the whole text of each literal that has no reading.
+fn flaws<'t>(literals: impl Iterator<Item = (usize, Lit<'t>)>) -> Vec<(usize, FlawKind)> {
+    literals
+        .filter_map(|(at, literal)| match literal {
+            Lit::Verbatim(literal) => {
+                let error = literal.explain();
+                assert_eq!(Lit::parse(literal.text()).unwrap_err(), error);
+                Some((at + error.range().start, error.kind()))
+            }
+            _ => None,
+        })
+        .collect()
+}
+
+#[test]
+fn of_lists_and_sources() {
+    let text = format!("1 '\\q' \"a\\x4\" /* 'b */ 2 {PAST}u8 b\"é\"");
+    let expected = [
+        (4, FlawKind::UnknownEscape),
+        (12, FlawKind::NoHexDigit),
+        (64, FlawKind::TooLarge),
+        (69, FlawKind::NotAscii),
+    ];
+    let in_list = literals(&text).map(|item| item.unwrap());
+    assert_eq!(
+        flaws(in_list.map(|(bytes, it)| (bytes.start, it))),
+        expected
+    );
+    let in_source = source(&text).map(|item| item.unwrap());
+    assert_eq!(
+        flaws(in_source.map(|(bytes, it)| (bytes.start, it))),
+        expected
+    );
+}
