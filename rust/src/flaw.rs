@@ -39,17 +39,17 @@ numbered! {
     /// The number between the braces is past 10FFFF.
     14 => PastUnicode: "no character past 10FFFF",
     /// The number between the braces is that of a surrogate.
-    15 => Surrogate: "no character has the number of a surrogate",
+    15 => Surrogate: "surrogates are no characters",
     /// A C string holds no NUL.
     16 => Nul: "NUL in a C string",
     /// Bytes and byte strings hold ASCII alone.
-    17 => NotAscii: "not ASCII",
+    17 => NotAscii: "not an ASCII character",
     /// The quote moves the end of a raw string, which then holds a character that its kind doesn't take.
     18 => LateQuote: "a later quote moves the end past a character that the string can't hold",
     /// A CR in a string without an LF after it.
     19 => LoneCr: "CR without LF",
     /// The byte can stand as an escape alone.
-    20 => MustEscape: "must be escaped",
+    20 => MustEscape: "must be written as an escape",
     /// No character stands between the quotes.
     21 => NoCharacter: "no character between the quotes",
     /// More than one character stands between the quotes.
@@ -72,7 +72,7 @@ numbered! {
 /// let error = Lit::parse(text).unwrap_err();
 /// assert_eq!(error.kind(), FlawKind::Surrogate);
 /// assert_eq!((&text[error.range()], &text[error.piece()]), ("}", r"\u{D800}"));
-/// assert_eq!(error.to_string(), "no character has the number of a surrogate at byte 9");
+/// assert_eq!(error.to_string(), "surrogates are no characters at byte 9");
 /// ```
 #[derive(Clone, Copy, Debug, PartialEq, Eq)]
 pub struct ParseError {
