@@ -5,6 +5,7 @@ mod answer;
 mod attributes;
 mod command;
 mod ending;
+mod flaws;
 mod lent;
 mod literal;
 mod sources;
