@@ -39,9 +39,9 @@ def endings_of(text, after, source):
     return ENDINGS + raw + [after] + [source.choice(MAKERS)(source) for _ in range(RANDOM_ENDINGS)]
 
 
-def chunks(rows):
-    for at in range(0, len(rows), CHUNK):
-        yield rows[at:at + CHUNK]
+def chunks(rows, count=CHUNK):
+    for at in range(0, len(rows), count):
+        yield rows[at:at + count]
 
 
 def any_reads(options, rows, source):
@@ -123,12 +123,17 @@ RUSTC = {
     'null characters in C string literals are not supported': (['Nul'], 'same or inside'),
     'character literal may only contain one codepoint': (['TwoCharacters'], 'inside'),
 }
-# What no ending saves stands here before rustc's own place: `\u` in bytes, and a number of six digits.
-EARLIER = ['NoUnicode', 'PastUnicode', 'Surrogate', 'Nul', 'PastAscii']
-# What reads here, or begins a literal: characters that are a lone quote or TAB, and `''`.
+# What no ending saves stands here before rustc's own place: `\u` in bytes, a number of six or seven digits, and a first
+# digit past 7.
+EARLIER = ['NoUnicode', 'PastUnicode', 'Surrogate', 'Nul', 'TooManyDigits', 'PastAscii']
+# What rustc rejects, and reads here or begins a literal: characters that are a lone quote or TAB, and `''`. Then our flaw, if
+# there is one, is that another character follows.
 LOOSER = ['character constant must be escaped', 'empty character literal']
 
-ONE_LITERAL = re.compile(r"""[bc]?"(?:[^"\\\r\n]|\\[^\r\n])*"|b?'(?:[^'\\\r\n]|\\[^\r\n])*'|b?'''|(?:br|cr|r)"[^"\r\n]*\"""")
+# What rustc's lexer takes for one token: a quote and a letter may begin a lifetime, and a slash ends a character.
+ONE_LITERAL = re.compile(r"""[bc]?"(?:[^"\\\r\n]|\\[^\r\n])*"|(?:br|cr|r)"[^"\r\n]*"|b?'''|b'(?:[^'/\\\r\n]|\\[^\r\n])*'|
+'(?:\w|[A-Za-z_]\w*|(?:(?:[^'/\\\r\n\w]|\\[^\r\n])(?:[^'/\\\r\n]|\\[^\r\n])*)?)'""", re.VERBOSE)
+RUSTC_TEXTS = 400
 
 
 def lies(rule, low, high, begin, end):
@@ -163,7 +168,7 @@ def compare_rustc_places(options, tally, answers):
     """Compares the flaws of texts that are one token to rustc's lexer; `answers` maps texts to our lines."""
     chosen = [text for text in answers if ONE_LITERAL.fullmatch(text) and '\0' not in text[:2] and '\ufeff' not in text]
     ways, silent = {}, 0
-    for chunk in chunks(chosen):
+    for chunk in chunks(chosen, RUSTC_TEXTS):
         errors = rustc_errors(options, chunk)
         for at, text in enumerate(chunk):
             line, error = answers[text], errors.get(at)
@@ -187,7 +192,7 @@ def rustc_way(line, error):
     begin, end, words = error
     message = words.split(':')[0]
     kind, _, place = line.partition(' ')
-    if message in LOOSER and (line == 'None' or kind == 'Unclosed'):
+    if message in LOOSER and kind in ('None', 'Unclosed', 'TwoCharacters'):
         return message, kind, 'looser here'
     low, high = map(int, place.split('..')) if place else (0, 0)
     kinds, rules = RUSTC.get(message, ([], ''))

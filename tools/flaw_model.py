@@ -11,9 +11,9 @@ WORD = '(?:%s%s*)?' % (START, CONTINUE)
 WHOLE = '-?[0-9]%s' % ROW
 POWER = '[eE]_*[+-]?[0-9_]*[0-9]%s' % ROW
 
-EXPONENT_WORD = re.compile('[eE](?=[0-9_]*[0-9])[0-9_]+(?:$|%s)' % START)
+EXPONENT_WORD = re.compile('[eE](?=[0-9_]*[0-9])[0-9_]+(?:\\Z|%s)' % START)
 DECIMAL = re.compile('(%s)(%s)' % (WHOLE, WORD))
-BASED = re.compile('-?0(?:x([0-9A-Fa-f_]*)|o([0-7_]*)|b([01_]*))(%s)' % WORD)
+BASED = re.compile('-?0(?:x([0-9A-Fa-f_]*)(?![0-9A-Fa-f])|o([0-7_]*)|b([01_]*))(%s)' % WORD)
 FLOAT_WITH_POWER = re.compile(r'%s(?:\.%s)?%s%s' % (WHOLE, ROW, POWER, WORD))
 FLOAT_WITHOUT = re.compile(r'%s(?:\.%s)?(?![eE]_*[0-9])(?:%s%s*)?' % (WHOLE, ROW, START, CONTINUE))
 SIGNED = re.compile(r'%s(?:\.%s)?[eE]_*[+-]_*' % (WHOLE, ROW))
