@@ -18,6 +18,7 @@ ENDINGS = [inside + quote for quote in '"\'' for inside in CLOSERS] + [
     'rue', 'ue', 'e', 'alse', 'lse', 'se', '""', "'a'", 'r""', "''", '#""#', 'r#""#', '\u00e9', ' ',
 ]
 RANDOM_ENDINGS = 4
+NEWER = 'explain', 'characters newer than Unicode 14'
 # Fronts beyond this many bytes are left to the model.
 LONGEST = 200
 CHUNK = 20_000
@@ -216,7 +217,7 @@ def compare_texts(options, tally, places, answers, texts):
         answers[text] = line
         kind = line.split(b' ')[0].decode()
         if newer(text) and (model != line or read != (line == b'None')):
-            tally.entries['explain', 'characters newer than Unicode 14'] = tally.entries.get(('explain', 'characters newer than Unicode 14'), 0) + 1
+            tally.entries[NEWER] = tally.entries.get(NEWER, 0) + 1
             continue
         if model != line:
             tally.differs('model', data, model, line)
