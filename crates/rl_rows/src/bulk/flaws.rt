@@ -2,7 +2,7 @@
 
 ghost use Rattle.std.specs.Prelude.{◌≡◌, IfOk, string_bytes};
 ghost use Rattle.std.specs.Str.{chars};
-ghost use Rattle.rl_rows.specs.Flaws.{flaw_name, IsFlawAnswer};
+ghost use Rattle.rl_rows.specs.Flaws.{flaw_line, flaw_name, IsFlawAnswer};
 
 use rl_grammar::{Flaw, FlawKind, explain};
 use std::alloc::{AllocError, Global};
@@ -40,13 +40,21 @@ fn flaw_name(kind: FlawKind) -> &'static str
     }
 }
 
-/// The kind of the text's flaw and the bytes where it stands; `None` where the text is a literal.
+/// The line of a flaw: its kind, and the bytes where it stands.
+fn flaw_line(alloc: Global, flaw: Flaw) -> Result<String, AllocError>
+    ensures { IfOk result (λ out. string_bytes out ≡ flaw_line flaw) }
+{
+    let name = flaw_name(flaw.kind);
+    let Flaw { lo, hi, .. } = flaw;
+    format!(in alloc; "{name} {lo}..{hi}\n")
+}
+
+/// The line of the text's flaw; `None` where the text is a literal.
 pub(crate) fn flaw_answer(alloc: Global, text: &str) -> Result<String, AllocError>
     ensures { IfOk result (λ out. IsFlawAnswer (chars text.now) (string_bytes out)) }
 {
-    let Some(Flaw { kind, lo, hi }) = explain(text) else {
-        return String::from_str(alloc, "None\n");
-    };
-    let name = flaw_name(kind);
-    format!(in alloc; "{name} {lo}..{hi}\n")
+    match explain(text) {
+        Some(flaw) => flaw_line(alloc, flaw),
+        None => String::from_str(alloc, "None\n"),
+    }
 }
