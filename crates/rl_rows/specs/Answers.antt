@@ -14,7 +14,7 @@ use Rattle.rl_grammar.specs.StrictShapes.{IsToken}
 use Rattle.rust_literals.specs.Parsing.{RejectsText}
 use Rattle.rl_lines.specs.Lines.{IsLineOf, AreLinesOfText, IsLineOfKind, IsLineOfFloat}
 use Rattle.rl_rows.specs.declared.bulk.command.Command.{Command}
-use Rattle.rl_rows.specs.declared.bulk.command.Command.TheVariants.{Text, Int, Float, Skip, Strict, Value, Read, Spans, Attr, Source}
+use Rattle.rl_rows.specs.declared.bulk.command.Command.TheVariants.{Text, Int, Float, Skip, Strict, Value, Read, Spans, Attr, Source, Explain}
 use Rattle.rl_lines.specs.Digits.{bytes_of}
 use Rattle.rl_attributes.specs.Attributes.{RejectsAttributeText}
 use Rattle.rl_lines.specs.EntryLines.{ShowsAttributes}
@@ -23,6 +23,7 @@ use Rattle.rl_rows.specs.Refused.{rejection_lines}
 use Rattle.rl_rows.specs.Lent.{IsBorrowedAnswer}
 use Rattle.rl_rows.specs.Spans.{IsSpansAnswer}
 use Rattle.rl_rows.specs.Sources.{IsSourceAnswer}
+use Rattle.rl_rows.specs.Flaws.{IsFlawAnswer}
 
 -- the line of the text as an integer, or why it is none
 abbrev pub IsIntegerAnswer : List ℕ → List ℕ → Type 0
@@ -70,6 +71,7 @@ Answers A Read bytes out = IsReadAnswer A bytes out
 Answers A Spans bytes out = IsSpansAnswer A bytes out
 Answers A Attr bytes out = IsAttributesAnswer A bytes out
 Answers A Source bytes out = IsSourceAnswer bytes out
+Answers A Explain bytes out = IsFlawAnswer (chars bytes) out
 
 -- the answer to bytes, where the digits stand for some: they may be no text
 abbrev pub AnswersBytes : Type 0 → Command → Option (List ℕ) → List ℕ → Type 0

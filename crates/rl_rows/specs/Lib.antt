@@ -3,4 +3,5 @@ pub mod Refused
 pub mod Lent
 pub mod Spans
 pub mod Sources
+pub mod Flaws
 pub mod Answers

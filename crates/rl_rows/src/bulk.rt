@@ -1,10 +1,11 @@
-//! Commands whose answers a clause pins: texts as literals, numbers, lists, attributes and sources. `tools/compare` asks
-//! them of many texts at once.
+//! Commands whose answers a clause pins: texts as literals, numbers, lists, attributes and sources, and why texts are no
+//! literals. `tools/compare` asks them of many texts at once.
 
 mod answer;
 mod attributes;
 mod command;
 mod ending;
+mod flaws;
 mod lent;
 mod literal;
 mod sources;

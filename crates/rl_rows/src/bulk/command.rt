@@ -23,6 +23,8 @@ pub(crate) enum Command {
     Attr,
     /// The literals of the text as a whole source.
     Source,
+    /// Why the text is no literal, and where.
+    Explain,
 }
 
 impl Command {
@@ -46,6 +48,7 @@ impl Command {
             "spans" => Some(Command::Spans),
             "attr" => Some(Command::Attr),
             "source" => Some(Command::Source),
+            "explain" => Some(Command::Explain),
             _ => None,
         }
     }
