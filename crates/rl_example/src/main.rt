@@ -5,6 +5,7 @@ use rl_attributes::{Setting, SettingError, read};
 use rust_literals::Lit;
 use std::alloc::Global;
 use std::io;
+use std::process::ExitCode;
 
 const PORT: Setting = Setting {
     name: "port",
@@ -41,14 +42,18 @@ fn server_of(alloc: Global, text: &str) -> Result<Server, SettingError> {
     Ok(Server { host, port })
 }
 
-fn main(rt: HostRuntime) -> io::Result<()> {
+fn main(rt: HostRuntime) -> io::Result<ExitCode> {
     let alloc = rt.alloc();
     let text = io::read_to_string(alloc, rt.stdin())?;
     match server_of(alloc, text.as_str()) {
-        Ok(server) => println!(rt; "{}:{}", server.host, server.port),
+        Ok(server) => {
+            println!(rt; "{}:{}", server.host, server.port)?;
+            Ok(ExitCode::SUCCESS)
+        }
         Err(error) => {
             let span = error.span();
-            println!(rt; "error at {}..{}: {error}", span.lo, span.hi)
+            eprintln!(rt; "error at {}..{}: {error}", span.lo, span.hi)?;
+            Ok(ExitCode::FAILURE)
         }
     }
 }

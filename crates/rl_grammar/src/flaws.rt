@@ -126,6 +126,19 @@ impl fmt::Display for FlawKind {
 
 impl std::error::Error for FlawKind {}
 
+impl fmt::Display for Flaw {
+    ghost use Rattle.std.specs.Prelude.{Some};
+    ghost use Rattle.rl_grammar.specs.FlawWords.{flaw_message};
+
+    ghost output = { λ flaw. Some (flaw_message flaw.kind) };
+
+    fn fmt<W: fmt::Write>(&self, f: &mut fmt::Formatter<W>) -> fmt::Result {
+        f.write_str(self.kind.words())
+    }
+}
+
+impl std::error::Error for Flaw {}
+
 /// A kind of flaw, and the text from its place on.
 #[derive(Clone, Copy)]
 pub(crate) struct FlawAt<'t> {
