@@ -17,8 +17,9 @@ use Rattle.rl_lines.proofs.TextLemmas.{line_of_text, label_of_text}
 use Rattle.rl_sources.specs.declared.options.Options.{Options}
 use Rattle.rl_sources.specs.declared.place.Place.{Place}
 use Rattle.rl_sources.specs.declared.place.Place.TheVariants.{Bytes, Line}
-use Rattle.rl_sources.specs.Places.{place_text}
-use Rattle.rl_sources.specs.Scans.{IsShownLiteral}
+use Rattle.rl_sources.specs.Options.{Picks}
+use Rattle.rl_sources.specs.Places.{place_text, IsPlaceIn}
+use Rattle.rl_sources.specs.Scans.{IsReason, IsShownLiteral}
 use Rattle.rl_sources.specs.Steps.{IsPlacedLit, IsShownLit}
 
 -- ---- places are ASCII
@@ -41,7 +42,7 @@ decimal_ascii : (n : ℕ) → IsAscii (decimal n)
 unfolding digits
 decimal_ascii n = onto_ascii 64 n [] IsAscii-nil
 
-place_ascii : (place : Place) → IsAscii (place_text place)
+pub place_ascii : (place : Place) → IsAscii (place_text place)
 place_ascii (Bytes lo hi) =
     IsAscii-append (decimal lo) (46 ∷ 46 ∷ decimal hi) (decimal_ascii lo) (IsAscii-cons 46 (46 ∷ decimal hi) (lit< tt) (IsAscii-cons 46 (decimal hi) (lit< tt) (decimal_ascii hi)))
 place_ascii (Line at) =
@@ -60,11 +61,16 @@ placed place literal old mid new utf8 written (line, is_line, e) =
     (shown, (line, is_line, refl), e ∙ ap (λ z. z ++ line) before ∙ joined)
 
 -- what is shown of a literal is what is shown of the text that it was read from
-pub shown_text : {A : Type 0} (options : Options) (whole : List ℕ) (token : SpannedText) (literal : Lit A) (lo hi : ℕ) (old new : List ℕ) → IsReadFrom token literal → Appends (IsShownLit options whole literal lo hi) old new → Appends (IsShownLiteral options whole (chars token.text) lo hi) old new
-shown_text options whole token literal lo hi old new reads (shown, inl (picked, (place, is_place, (line, is_line, shown_is))), e) =
-    (shown, (label_of (kind_of literal), label_of_text token literal token.text reads refl, inl (picked, (place, line, is_place, line_of_text token literal token.text line reads refl is_line, shown_is))), e)
+pub shown_text : {A : Type 0} (options : Options) (whole : List ℕ) (token : SpannedText) (literal : Lit A) (lo hi : ℕ) (old new : List ℕ) → IsReadFrom token literal → Appends (IsShownLit options whole literal (chars token.text) lo hi) old new → Appends (IsShownLiteral options whole (chars token.text) lo hi) old new
+shown_text options whole token literal lo hi old new reads (shown, inl (picked, (place, first, reason, is_place, (line, is_line, first_is), is_reason, shown_is)), e) =
+    (shown, (label_of (kind_of literal), label_of_text token literal token.text reads refl, inl (picked, (first, reason, (place, line, is_place, line_of_text token literal token.text line reads refl is_line, first_is), is_reason, shown_is))), e)
 shown_text options whole token literal lo hi old new reads (shown, inr (passed, nothing), e) =
     (shown, (label_of (kind_of literal), label_of_text token literal token.text reads refl, inr (passed, nothing)), e)
+
+-- a literal's line, and what follows it
+pub explained : {A : Type 0} (options : Options) (whole : List ℕ) (literal : Lit A) (place : Place) (text : List ℕ) (lo hi : ℕ) (old mid new : List ℕ) → Picks options.shown (label_of (kind_of literal)) → IsPlaceIn options.by_line whole lo hi place → Appends (IsPlacedLit place literal) old mid → Appends (IsReason options whole text lo) mid new → Appends (IsShownLit options whole literal text lo hi) old new
+explained options whole literal place text lo hi old mid new picked is_place (line, is_line, e) (reason, is_reason, f) =
+    (line ++ reason, inl (picked, (place, line, reason, is_place, is_line, is_reason, refl)), f ∙ ap (λ z. z ++ reason) e ∙ append_assoc old line reason)
 
 -- no token begins what is left, and no error stands there: it is the end
 pub at_end : (old new : CursorState) → BeginsNoSource (chars old.rest) → new ≡ old → (new.rest ≡ []) ⊎ ((kind : SourceKind) × (after : List ℕ) × SourceBefore (chars new.rest) kind after) → old.rest ≡ []
