@@ -1,17 +1,30 @@
 -- The place of a flaw in the source, and its line.
-use Rattle.std.proofs.Common.{◌≡◌, ℕ, ◌+◌, ◌≤◌, ◌<◌, List, [], ◌∷◌, ◌++◌, length, drop, refl, sym, ap, subst, ◌∙◌, append_assoc, arith, lit<, length-append}
-use Rattle.std.specs.Prelude.{encode_utf8_all, codes}
-use Rattle.std.specs.Str.{chars, IsUtf8, IsAscii, IsCharBoundary}
-use Rattle.std.specs.List.{AllByRecursion}
+use Rattle.std.proofs.Common.{◌≡◌, ℕ, ◌+◌, ◌≤◌, List, [], ◌∷◌, ◌++◌, length, drop, refl, sym, ap, subst, ◌∙◌, append_assoc, arith, length-append, true, inl, inr}
+use Rattle.std.specs.Prelude.{encode_utf8_all, codes, IsTrue}
+use Rattle.std.specs.Char.{is_ascii}
+use Rattle.std.specs.Str.{chars, IsUtf8, IsAscii}
+use Rattle.std.specs.List.{list_all}
 use Rattle.std.proofs.Math.Seq.{drop-append_seam}
-use Rattle.std.proofs.lemmas.Str.{encodes-append, encodes-chars, chars-IsAscii, IsUtf8-past_char, IsCharBoundary-at_seam, IsAscii-append}
+use Rattle.std.proofs.lemmas.Bool.{and_parts, ltb-true}
+use Rattle.std.proofs.lemmas.List.{append-nil}
+use Rattle.std.proofs.lemmas.Str.{encodes-append, encodes-chars, chars-IsAscii, IsUtf8-past_char, IsAscii-append}
 use Rattle.std.proofs.lemmas.Str.Ascii.{IsAscii-nil, IsAscii-cons}
+use Rattle.rl_tokens.specs.Reading.{HasReading}
 use Rattle.rl_tokens.specs.Texts.{IsTail, byte_len}
-use Rattle.rl_tokens.specs.Cursors.{IsCursorState}
 use Rattle.rl_tokens.specs.declared.sources.SourceToken.{SourceToken}
 use Rattle.rl_grammar.specs.declared.flaws.Flaw.{Flaw}
+use Rattle.rl_grammar.specs.declared.flaws.FlawKind.{FlawKind}
+use Rattle.rl_grammar.specs.declared.flaws.FlawKind.TheVariants.{Empty, NoLiteral, Unfinished, NoQuote, NoNumber, Unclosed, UnknownEscape, NoUnicode, NoHexDigit, NoBrace, EmptyBraces, TooManyDigits, PastAscii, PastUnicode, Surrogate, Nul, NotAscii, LateQuote, LoneCr, MustEscape, NoCharacter, TwoCharacters, NoExponentDigit, BadSuffix, TooLarge}
 use Rattle.rl_grammar.specs.Flaws.{Explains, first_len}
+use Rattle.rl_grammar.specs.FlawWords.{flaw_message}
+use Rattle.rl_lines.specs.Lines.{Appends}
+use Rattle.rl_lines.proofs.LineLemmas.{pushed}
+use Rattle.rl_sources.specs.declared.options.Options.{Options}
+use Rattle.rl_sources.specs.declared.place.Place.{Place}
+use Rattle.rl_sources.specs.Places.{place_text, IsPlaceIn}
+use Rattle.rl_sources.specs.Scans.{IsReason}
 use Rattle.rl_sources.specs.Steps.{BeginsRest}
+use Rattle.rl_sources.proofs.StepLemmas.{place_ascii}
 
 -- a rest that isn't longer stands after another
 tail_by : (x y a b : List ℕ) → x ++ a ≡ y ++ b → length b ≤ length a → (z : List ℕ) × (a ≡ z ++ b)
@@ -59,3 +72,57 @@ flaw_within token text rest flaw begins explains =
       ordered = omega (arith, explains.place.hi_is);
       within = omega (arith, explains.place.hi_is, explains.place.lo_is, first_within inside, ap length bytes, length-append (encode_utf8_all stops.front) (encode_utf8_all back), ap length (encodes-append inside begins.after), length-append (encode_utf8_all inside) (encode_utf8_all begins.after));
     }
+
+-- ---- the line
+
+-- what ASCII passes
+low_text : (cs : List ℕ) → list_all is_ascii cs ≡ true → IsAscii cs
+low_text [] h = IsAscii-nil
+low_text (c ∷ cs) h =
+    let both = and_parts (is_ascii c) (list_all is_ascii cs) h in
+    IsAscii-cons c cs (ltb-true c 128 both.0) (low_text cs both.1)
+
+message_low : (kind : FlawKind) → list_all is_ascii (flaw_message kind) ≡ true
+message_low Empty = refl
+message_low NoLiteral = refl
+message_low Unfinished = refl
+message_low NoQuote = refl
+message_low NoNumber = refl
+message_low Unclosed = refl
+message_low UnknownEscape = refl
+message_low NoUnicode = refl
+message_low NoHexDigit = refl
+message_low NoBrace = refl
+message_low EmptyBraces = refl
+message_low TooManyDigits = refl
+message_low PastAscii = refl
+message_low PastUnicode = refl
+message_low Surrogate = refl
+message_low Nul = refl
+message_low NotAscii = refl
+message_low LateQuote = refl
+message_low LoneCr = refl
+message_low MustEscape = refl
+message_low NoCharacter = refl
+message_low TwoCharacters = refl
+message_low NoExponentDigit = refl
+message_low BadSuffix = refl
+message_low TooLarge = refl
+
+abbrev pub flaw_line : Place → FlawKind → List ℕ
+flaw_line place kind = place_text place ++ (codes " error: " ++ (flaw_message kind ++ codes "\n"))
+
+line_ascii : (place : Place) (kind : FlawKind) → IsAscii (flaw_line place kind)
+line_ascii place kind =
+    let after : IsAscii (flaw_message kind ++ codes "\n") = IsAscii-append (flaw_message kind) (codes "\n") (low_text (flaw_message kind) (message_low kind)) (low_text (codes "\n") refl) in
+    IsAscii-append (place_text place) (codes " error: " ++ (flaw_message kind ++ codes "\n")) (place_ascii place) (IsAscii-append (codes " error: ") (flaw_message kind ++ codes "\n") (low_text (codes " error: ") refl) after)
+
+-- the line was appended
+pub explains_why : (options : Options) (whole text : List ℕ) (lo : ℕ) (flaw : Flaw) (place : Place) (old new : List ℕ) → IsUtf8 old → IsTrue options.explains → Explains text flaw → IsPlaceIn options.by_line whole (lo + flaw.lo) (lo + flaw.hi) place → new ≡ old ++ flaw_line place flaw.kind → Appends (IsReason options whole text lo) (chars old) (chars new)
+explains_why options whole text lo flaw place old new utf8 asked explains is_place written =
+    let line = flaw_line place flaw.kind in
+    (line, inl (asked, (flaw, place, explains, is_place, refl)), pushed old new line utf8 written ∙ ap (λ z. chars old ++ z) (chars-IsAscii line (line_ascii place flaw.kind)))
+
+-- nothing was appended
+pub explains_nothing : (options : Options) (whole text : List ℕ) (lo : ℕ) (old : List ℕ) → (IsTrue options.explains → HasReading text) → Appends (IsReason options whole text lo) old old
+explains_nothing options whole text lo old reads = ([], inr (reads, refl), sym (append-nil old))
