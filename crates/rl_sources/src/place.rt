@@ -70,7 +70,9 @@ impl<'t> Places<'t> {
         ensures same { self.new ≡ self.old }
     {
         if rest.len() > self.rest.len() {
+            self.rest = rest;
             self.lines = Lines::new(self.text);
+            return self.lines.at(rest);
         }
         self.rest = rest;
         self.lines.at(rest)
