@@ -1,17 +1,18 @@
 -- The place of a flaw in the source, and its line.
 use Rattle.std.proofs.Common.{◌≡◌, ℕ, ◌+◌, ◌≤◌, List, [], ◌∷◌, ◌++◌, length, drop, refl, sym, ap, subst, ◌∙◌, append_assoc, arith, length-append, true, inl, inr}
-use Rattle.std.specs.Prelude.{encode_utf8_all, codes, IsTrue}
+use Rattle.std.specs.Prelude.{encode_utf8, encode_utf8_all, codes, IsTrue}
 use Rattle.std.specs.Char.{is_ascii}
-use Rattle.std.specs.Str.{chars, IsUtf8, IsAscii}
+use Rattle.std.specs.Str.{chars, IsUtf8, IsAscii, IsCharBoundary}
 use Rattle.std.specs.List.{list_all}
 use Rattle.std.proofs.Math.Seq.{drop-append_seam}
 use Rattle.std.proofs.lemmas.Bool.{and_parts, ltb-true}
 use Rattle.std.proofs.lemmas.List.{append-nil}
-use Rattle.std.proofs.lemmas.Str.{encodes-append, encodes-chars, chars-IsAscii, IsUtf8-past_char, IsAscii-append}
+use Rattle.std.proofs.lemmas.Str.{encodes-append, encodes-chars, chars-IsAscii, IsUtf8-past_char, IsCharBoundary-from_drop, IsAscii-append}
 use Rattle.std.proofs.lemmas.Str.Ascii.{IsAscii-nil, IsAscii-cons}
 use Rattle.rl_tokens.specs.Reading.{HasReading}
 use Rattle.rl_tokens.specs.Texts.{IsTail, byte_len}
 use Rattle.rl_tokens.specs.declared.sources.SourceToken.{SourceToken}
+use Rattle.rl_tokens.proofs.CutLemmas.{byte_len-append}
 use Rattle.rl_grammar.specs.declared.flaws.Flaw.{Flaw}
 use Rattle.rl_grammar.specs.declared.flaws.FlawKind.{FlawKind}
 use Rattle.rl_grammar.specs.declared.flaws.FlawKind.TheVariants.{Empty, NoLiteral, Unfinished, NoQuote, NoNumber, Unclosed, UnknownEscape, NoUnicode, NoHexDigit, NoBrace, EmptyBraces, TooManyDigits, PastAscii, PastUnicode, Surrogate, Nul, NotAscii, LateQuote, LoneCr, MustEscape, NoCharacter, TwoCharacters, NoExponentDigit, BadSuffix, TooLarge}
@@ -45,11 +46,15 @@ back_utf8 (c ∷ cs) back u = back_utf8 cs back (IsUtf8-past_char (encode_utf8_a
 -- the first character is within the text
 first_within : (cs : List ℕ) → first_len cs ≤ byte_len cs
 first_within [] = omega arith
-first_within (c ∷ cs) = omega (arith, ap length (encodes-append (c ∷ []) cs))
+first_within (c ∷ cs) =
+    let whole : byte_len (c ∷ cs) ≡ length (encode_utf8 c) + byte_len cs = length-append (encode_utf8 c) (encode_utf8_all cs) in
+    omega (arith, whole)
 
 -- The place of a flaw of the token's text is one of the rest.
 pub record StandsWithin (rest : List ℕ) (lo hi : ℕ) : Type 0 where
   pub following : IsTail rest (drop lo rest)
+  pub boundary : IsCharBoundary rest lo
+  pub left : lo + length (drop lo rest) ≡ length rest
   pub ordered : lo ≤ hi
   pub within : hi ≤ length rest
 
@@ -63,14 +68,19 @@ flaw_within token text rest flaw begins explains =
     let bytes : rest ≡ encode_utf8_all stops.front ++ encode_utf8_all back = sym (encodes-chars rest u) ∙ ap encode_utf8_all cut ∙ encodes-append stops.front back in
     let is_text : IsUtf8 (encode_utf8_all back) = back_utf8 stops.front back (subst IsUtf8 (sym (encodes-chars rest u) ∙ ap encode_utf8_all cut) u) in
     let dropped : drop flaw.lo rest ≡ encode_utf8_all back = ap (λ n. drop n rest) explains.place.lo_is ∙ ap (drop (byte_len stops.front)) bytes ∙ drop-append_seam (encode_utf8_all stops.front) (encode_utf8_all back) in
+    let is_rest : IsUtf8 (drop flaw.lo rest) = subst IsUtf8 (sym dropped) is_text in
+    let long : length rest ≡ byte_len stops.front + byte_len back = ap length bytes ∙ length-append (encode_utf8_all stops.front) (encode_utf8_all back) in
+    let inner : byte_len back ≡ byte_len inside + byte_len begins.after = byte_len-append inside begins.after in
     record {
       following = record {
         front = encode_utf8_all stops.front;
         text_is = bytes ∙ ap (λ z. encode_utf8_all stops.front ++ z) (sym dropped);
-        is_text = subst IsUtf8 (sym dropped) is_text;
+        is_text = is_rest;
       };
+      boundary = IsCharBoundary-from_drop rest flaw.lo (omega (arith, explains.place.lo_is, long)) is_rest;
+      left = omega (arith, explains.place.lo_is, long, ap length dropped);
       ordered = omega (arith, explains.place.hi_is);
-      within = omega (arith, explains.place.hi_is, explains.place.lo_is, first_within inside, ap length bytes, length-append (encode_utf8_all stops.front) (encode_utf8_all back), ap length (encodes-append inside begins.after), length-append (encode_utf8_all inside) (encode_utf8_all begins.after));
+      within = omega (arith, explains.place.hi_is, explains.place.lo_is, first_within inside, long, inner);
     }
 
 -- ---- the line

@@ -27,8 +27,10 @@ fn flaw_place<'t>(
     ensures place { IsPlaceIn by_line (chars places.old) (token.lo + flaw.lo) (token.lo + flaw.hi) result }
     ensures same { places.new ≡ places.old }
 {
-    let (lo, hi) = (token.lo + flaw.lo, token.lo + flaw.hi);
-    place_of(by_line, places, &rest[flaw.lo..], lo, hi)
+    let lo = token.lo + flaw.lo;
+    let hi = token.lo + flaw.hi;
+    let inside = &rest[flaw.lo..];
+    place_of(by_line, places, inside, lo, hi)
 }
 
 /// Appends the line that says why a token's text is no literal, and where; nothing where it is one, or the line isn't
