@@ -11,6 +11,7 @@ use Rattle.std.proofs.lemmas.Str.{encodes-append, encodes-chars, chars-IsAscii, 
 use Rattle.std.proofs.lemmas.Str.Ascii.{IsAscii-nil, IsAscii-cons}
 use Rattle.rl_tokens.specs.Reading.{HasReading}
 use Rattle.rl_tokens.specs.Texts.{IsTail, byte_len}
+use Rattle.rl_tokens.specs.Cursors.{CursorState, IsCursorState}
 use Rattle.rl_tokens.specs.declared.sources.SourceToken.{SourceToken}
 use Rattle.rl_tokens.proofs.CutLemmas.{byte_len-append}
 use Rattle.rl_grammar.specs.declared.flaws.Flaw.{Flaw}
@@ -22,7 +23,7 @@ use Rattle.rl_lines.specs.Lines.{Appends}
 use Rattle.rl_lines.proofs.LineLemmas.{pushed}
 use Rattle.rl_sources.specs.declared.options.Options.{Options}
 use Rattle.rl_sources.specs.declared.place.Place.{Place}
-use Rattle.rl_sources.specs.Places.{place_text, IsPlaceIn}
+use Rattle.rl_sources.specs.Places.{place_text, HoldsPlaces, IsPlaceIn}
 use Rattle.rl_sources.specs.Scans.{IsReason}
 use Rattle.rl_sources.specs.Steps.{BeginsRest}
 use Rattle.rl_sources.proofs.StepLemmas.{place_ascii}
@@ -37,6 +38,11 @@ pub later_tail : (text a b : List ℕ) → IsTail text a → IsTail text b → l
 later_tail text a b p q le =
     let found = tail_by p.front q.front a b (sym p.text_is ∙ q.text_is) le in
     record { front = found.0; text_is = found.1; is_text = q.is_text }
+
+-- the cursor over lines isn't ahead of a rest that isn't longer
+pub places_on : (text rest next : List ℕ) (lines : CursorState) → HoldsPlaces text rest lines → IsCursorState text next → length next ≤ length rest → IsTail lines.rest next
+places_on text rest next lines holds cursor le =
+    subst (λ (r : List ℕ). IsTail r next) (sym holds.rest_is) (later_tail text rest next holds.cursor.following cursor.following le)
 
 -- what is left after the front of a text is a text
 back_utf8 : (front back : List ℕ) → IsUtf8 (encode_utf8_all (front ++ back)) → IsUtf8 (encode_utf8_all back)

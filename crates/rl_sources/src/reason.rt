@@ -1,6 +1,6 @@
 //! Why a token of a source is no literal.
 
-ghost use Rattle.std.specs.Prelude.{◌+◌, OnOk, string_bytes};
+ghost use Rattle.std.specs.Prelude.{◌≡◌, ◌+◌, OnOk, string_bytes};
 ghost use Rattle.std.specs.Str.{chars};
 ghost use Rattle.rl_lines.specs.Lines.{Appends};
 ghost use Rattle.rl_grammar.specs.Flaws.{Explains};
@@ -24,7 +24,8 @@ fn flaw_place<'t>(
 ) -> Place
     requires rest { BeginsRest token places.old rest.now }
     requires flaw { Explains (chars token.text.now) flaw }
-    ensures place { IsPlaceIn by_line (chars places.old) (token.lo + flaw.lo) (token.lo + flaw.hi) result }
+    ensures place { IsPlaceIn by_line (chars places.old)
+        (token.entry.lo + flaw.lo) (token.entry.lo + flaw.hi) result }
     ensures same { places.new ≡ places.old }
 {
     let lo = token.lo + flaw.lo;
