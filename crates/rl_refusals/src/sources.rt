@@ -29,6 +29,7 @@ pub fn scanned<A: Scarce>(trial: &Trial<'_, A>, text: &str, page: &mut Page) {
         shown: Shown::All,
         by_line: false,
         rejects_strays: false,
+        explains: false,
     };
     let mut written = Vec::new(trial.alloc);
     let answer = scan(trial.begins(), options, text, &mut written);

@@ -14,7 +14,8 @@ use Rattle.rl_sources.specs.Scans.{ShowsUpTo, StopsAt}
 
 -- all literals are shown, with their bytes
 abbrev pub all_by_bytes : Options
-all_by_bytes = record { shown = All; by_line = false; rejects_strays = false }
+all_by_bytes =
+    record { shown = All; by_line = false; rejects_strays = false; explains = false }
 
 -- the line of a source's error, and one with a point
 abbrev pub error_lines : Place → LexKind → List ℕ

@@ -6,8 +6,8 @@ use crate::tell::{
 use rl_refusing::Page;
 use rl_tokens::{Error, Parse, ParseBuffer, Span, parse_all};
 use rl_uses::{
-    Attribute, Item, ItemList, control_strings, count_literals, format, read_attribute,
-    read_config, read_number, rewritten,
+    Attribute, Item, ItemList, Reason, bad_literals, control_strings, count_literals, format,
+    read_attribute, read_config, read_number, rewritten,
 };
 use rust_literals::{Lit, read_all};
 use std::alloc::Global;
@@ -30,6 +30,7 @@ pub(crate) fn told(alloc: Global, name: &str, text: &str, out: &mut Page) -> boo
 fn of_literals(alloc: Global, name: &str, text: &str, out: &mut Page) -> bool {
     match name {
         "lint" => lint(alloc, text, out),
+        "reasons" => reasons(alloc, text, out),
         "format" => formatted(alloc, text, out),
         "counts" => counts(alloc, text, out),
         "settings" => settings(alloc, text, out),
@@ -152,6 +153,23 @@ fn tell_spans(spans: &[Span], out: &mut Page) {
         at_word(*span, out);
     }
     out.put("\n")
+}
+
+/// How many literals have no reading, and why each has none.
+fn reasons(alloc: Global, text: &str, out: &mut Page) {
+    match bad_literals(alloc, text, FILE) {
+        Ok(reasons) => tell_reasons(reasons.as_slice(), out),
+        Err(error) => tell_error(&error, out),
+    }
+}
+
+/// How many reasons there are, and each after its place.
+fn tell_reasons(reasons: &[Reason], out: &mut Page) {
+    show_line(&reasons.len(), out);
+    for reason in reasons {
+        at_word(reason.span, out);
+        show_line(&reason.kind, out)
+    }
 }
 
 /// The literals' lines as the formatter writes them.

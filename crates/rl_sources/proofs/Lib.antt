@@ -1,4 +1,5 @@
 pub mod ScanLemmas
 pub mod OptionLemmas
 pub mod StepLemmas
+pub mod ReasonLemmas
 pub mod WriteLemmas

@@ -25,7 +25,7 @@ use Rattle.rl_sources.specs.declared.step.Step.{Step}
 use Rattle.rl_sources.specs.declared.step.Step.TheVariants.{More, End, Error}
 use Rattle.rl_sources.specs.Places.{IsPlaceIn}
 use Rattle.rl_sources.specs.Scans.{IsShownToken, IsShown, IsNoStray, ShowsUpTo, ShowsFront, IsErrorAt}
-use Rattle.rl_sources.specs.Steps.{StandsAt, Adds, IsStepOf}
+use Rattle.rl_sources.specs.Steps.{BeginsRest, StandsAt, Adds, IsStepOf}
 
 -- nothing more
 pub adds_none : (options : Options) (whole rest piece : List ℕ) → piece ≡ [] → Adds options whole rest rest piece
@@ -64,25 +64,35 @@ adds_one options start old new l piece longer adds takes accepted (last, is_last
     }
 
 -- the same, with the text as the loop's start and the cursor over places have it
-pub adds_token : (options : Options) (text start : List ℕ) (old new places : CursorState) (l : SourceToken) (piece longer : List ℕ) → old.text ≡ text → places.text ≡ old.text → Adds options (chars text) start (chars old.rest) piece → TakesSource old l new → (IsTrue options.rejects_strays → source_view l.form ≢ StrayKind) → Appends (IsShownToken options (chars places.text) (source_view l.form) (chars l.text.now) l.lo l.hi) piece longer → Adds options (chars text) start (chars new.rest) longer
+pub adds_token : (options : Options) (text start : List ℕ) (old new : CursorState) (places : List ℕ) (l : SourceToken) (piece longer : List ℕ) → old.text ≡ text → places ≡ old.text → Adds options (chars text) start (chars old.rest) piece → TakesSource old l new → (IsTrue options.rejects_strays → source_view l.form ≢ StrayKind) → Appends (IsShownToken options (chars places) (source_view l.form) (chars l.text.now) l.lo l.hi) piece longer → Adds options (chars text) start (chars new.rest) longer
 adds_token options text start old new places l piece longer same seen adds takes accepted shown =
     let Here : List ℕ → Type 0 = λ t. Adds options (chars t) start (chars new.rest) longer in
     let Shown : List ℕ → Type 0 = λ t. Appends (IsShownToken options (chars t) (source_view l.form) (chars l.text.now) l.lo l.hi) piece longer in
     let Before : List ℕ → Type 0 = λ t. Adds options (chars t) start (chars old.rest) piece in
     subst Here same (adds_one options start old new l piece longer (subst Before (sym same) adds) takes accepted (subst Shown seen shown))
 
--- the cursors after a token
-pub stands_on : (tokens places next : CursorState) (later : CursorState) (l : SourceToken) → StandsAt tokens places → TakesSource tokens l next → later.text ≡ places.text → IsTail later.rest tokens.rest → StandsAt next later
-stands_on tokens places next later l stands takes same following =
+-- the cursor after a token
+pub stands_on : (tokens next : CursorState) (places later : List ℕ) (l : SourceToken) → StandsAt tokens places → TakesSource tokens l next → later ≡ places → StandsAt next later
+stands_on tokens next places later l stands takes same =
     let tail : IsTail tokens.text next.rest = behind_step tokens.text tokens.rest next.rest stands.cursor.following takes.following in
     record {
       cursor = subst (λ t. IsCursorState t next.rest) (sym takes.same) (record { is_text = stands.cursor.is_text; following = tail });
       text_is = same ∙ stands.text_is ∙ sym takes.same;
-      following = behind_step later.rest tokens.rest next.rest following takes.following;
     }
 
+-- the token begins what was left before it
+pub begins_rest : (tokens next : CursorState) (places rest : List ℕ) (l : SourceToken) → StandsAt tokens places → TakesSource tokens l next → rest ≡ tokens.rest → BeginsRest l places rest
+begins_rest tokens next places rest l stands takes same =
+    let whole : (t : List ℕ) → t ≡ tokens.text → BeginsRest l t tokens.rest = λ t e. subst (λ (t : List ℕ). BeginsRest l t tokens.rest) (sym e) (record {
+      cursor = stands.cursor;
+      lo_is = takes.place;
+      after = takes.after;
+      begins = takes.begins ∙ ap (λ z. z ++ takes.after) takes.is_cut.chars_are;
+    }) in
+    subst (λ (r : List ℕ). BeginsRest l places r) (sym same) (whole places stands.text_is)
+
 -- the source stops at an error
-pub stops : (options : Options) (text : List ℕ) (old places : CursorState) (start piece : List ℕ) (e : LexError) (place : Place) → old.text ≡ text → StandsAt old places → Adds options (chars text) start (chars old.rest) piece → IsErrorAt options.rejects_strays e.kind (chars old.rest) → e.at + length old.rest ≡ length old.text → IsPlaceIn options.by_line (chars places.text) e.at e.at place → (at : ℕ) × (rest : List ℕ) × Adds options (chars text) start rest piece × IsErrorAt options.rejects_strays e.kind rest × (at + byte_len rest ≡ byte_len (chars text)) × IsPlaceIn options.by_line (chars text) at at place
+pub stops : (options : Options) (text : List ℕ) (old : CursorState) (places : List ℕ) (start piece : List ℕ) (e : LexError) (place : Place) → old.text ≡ text → StandsAt old places → Adds options (chars text) start (chars old.rest) piece → IsErrorAt options.rejects_strays e.kind (chars old.rest) → e.at + length old.rest ≡ length old.text → IsPlaceIn options.by_line (chars places) e.at e.at place → (at : ℕ) × (rest : List ℕ) × Adds options (chars text) start rest piece × IsErrorAt options.rejects_strays e.kind rest × (at + byte_len rest ≡ byte_len (chars text)) × IsPlaceIn options.by_line (chars text) at at place
 stops options text old places start piece e place same stands adds error at is_place = (
   e.at,
   chars old.rest,
@@ -164,7 +174,7 @@ written_beginning options whole rest next lines any old mid new has adds utf8 (c
 )
 
 -- a front of the source, whatever the step
-pub step_adds : (options : Options) (old : CursorState) (piece : List ℕ) (new places : CursorState) (step : Step) → IsStepOf options old piece new places step → (rest : List ℕ) × Adds options (chars old.text) (chars old.rest) rest piece
+pub step_adds : (options : Options) (old : CursorState) (piece : List ℕ) (new : CursorState) (places : List ℕ) (step : Step) → IsStepOf options old piece new places step → (rest : List ℕ) × Adds options (chars old.text) (chars old.rest) rest piece
 step_adds options old piece new places More goes = (chars new.rest, goes.adds)
 step_adds options old piece new places End adds = ([], adds)
 step_adds options old piece new places (Error place kind) (at, rest, adds, error, rest_place, is_place) = (rest, adds)

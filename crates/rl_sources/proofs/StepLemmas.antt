@@ -2,12 +2,17 @@
 use Rattle.std.proofs.Common.{◌≡◌, ◌≢◌, ◌⊎◌, inl, inr, ℕ, suc, zero, ◌+◌, ◌<◌, ◌/◌, ◌%◌, Bool, true, false, ◌==◌, cond, List, [], ◌∷◌, ◌++◌, length, refl, sym, ap, subst, ◌∙◌, append_assoc, arith, lit<}
 use Rattle.std.specs.Fmt.{digits, decimal, digits_onto, digit_glyph}
 use Rattle.std.specs.Str.{chars, IsUtf8, IsAscii}
+use Rattle.std.proofs.lemmas.List.{append-nil}
 use Rattle.std.proofs.lemmas.Str.{chars-nil, chars-IsAscii, IsAscii-append}
 use Rattle.std.proofs.lemmas.Str.Ascii.{IsAscii-nil, IsAscii-cons}
 use Rattle.std.proofs.lemmas.Bool.Decides.{nat_tests}
 use Rattle.rl_tokens.specs.Texts.{SpannedText, byte_len, IsTail}
 use Rattle.rl_tokens.specs.Reading.{truth_text}
-use Rattle.rl_tokens.specs.Sources.{SourceKind, SourceBefore, BeginsNoSource}
+use Rattle.rl_tokens.specs.declared.lexeme.Form.{Form}
+use Rattle.rl_tokens.specs.declared.lexeme.Form.TheVariants.{Identifier}
+use Rattle.rl_tokens.specs.declared.source.SourceForm.{SourceForm}
+use Rattle.rl_tokens.specs.declared.source.SourceForm.TheVariants.{Token}
+use Rattle.rl_tokens.specs.Sources.{source_view, SourceKind, SourceBefore, BeginsNoSource}
 use Rattle.rl_tokens.specs.Cursors.{CursorState}
 use Rattle.rust_literals.specs.declared.lit.Lit.{Lit}
 use Rattle.rust_literals.specs.Literals.{kind_of, IsReadFrom}
@@ -17,8 +22,9 @@ use Rattle.rl_lines.proofs.TextLemmas.{line_of_text, label_of_text}
 use Rattle.rl_sources.specs.declared.options.Options.{Options}
 use Rattle.rl_sources.specs.declared.place.Place.{Place}
 use Rattle.rl_sources.specs.declared.place.Place.TheVariants.{Bytes, Line}
-use Rattle.rl_sources.specs.Places.{place_text}
-use Rattle.rl_sources.specs.Scans.{IsShownLiteral}
+use Rattle.rl_sources.specs.Options.{Picks}
+use Rattle.rl_sources.specs.Places.{place_text, IsPlaceIn}
+use Rattle.rl_sources.specs.Scans.{IsReason, IsShownLiteral, IsShownToken}
 use Rattle.rl_sources.specs.Steps.{IsPlacedLit, IsShownLit}
 
 -- ---- places are ASCII
@@ -41,7 +47,7 @@ decimal_ascii : (n : ℕ) → IsAscii (decimal n)
 unfolding digits
 decimal_ascii n = onto_ascii 64 n [] IsAscii-nil
 
-place_ascii : (place : Place) → IsAscii (place_text place)
+pub place_ascii : (place : Place) → IsAscii (place_text place)
 place_ascii (Bytes lo hi) =
     IsAscii-append (decimal lo) (46 ∷ 46 ∷ decimal hi) (decimal_ascii lo) (IsAscii-cons 46 (46 ∷ decimal hi) (lit< tt) (IsAscii-cons 46 (decimal hi) (lit< tt) (decimal_ascii hi)))
 place_ascii (Line at) =
@@ -60,11 +66,23 @@ placed place literal old mid new utf8 written (line, is_line, e) =
     (shown, (line, is_line, refl), e ∙ ap (λ z. z ++ line) before ∙ joined)
 
 -- what is shown of a literal is what is shown of the text that it was read from
-pub shown_text : {A : Type 0} (options : Options) (whole : List ℕ) (token : SpannedText) (literal : Lit A) (lo hi : ℕ) (old new : List ℕ) → IsReadFrom token literal → Appends (IsShownLit options whole literal lo hi) old new → Appends (IsShownLiteral options whole (chars token.text) lo hi) old new
-shown_text options whole token literal lo hi old new reads (shown, inl (picked, (place, is_place, (line, is_line, shown_is))), e) =
-    (shown, (label_of (kind_of literal), label_of_text token literal token.text reads refl, inl (picked, (place, line, is_place, line_of_text token literal token.text line reads refl is_line, shown_is))), e)
+pub shown_text : {A : Type 0} (options : Options) (whole : List ℕ) (token : SpannedText) (literal : Lit A) (lo hi : ℕ) (old new : List ℕ) → IsReadFrom token literal → Appends (IsShownLit options whole literal (chars token.text) lo hi) old new → Appends (IsShownLiteral options whole (chars token.text) lo hi) old new
+shown_text options whole token literal lo hi old new reads (shown, inl (picked, (place, first, reason, is_place, (line, is_line, first_is), is_reason, shown_is)), e) =
+    (shown, (label_of (kind_of literal), label_of_text token literal token.text reads refl, inl (picked, (first, reason, (place, line, is_place, line_of_text token literal token.text line reads refl is_line, first_is), is_reason, shown_is))), e)
 shown_text options whole token literal lo hi old new reads (shown, inr (passed, nothing), e) =
     (shown, (label_of (kind_of literal), label_of_text token literal token.text reads refl, inr (passed, nothing)), e)
+
+-- a literal's line, and what follows it
+pub explained : {A : Type 0} (options : Options) (whole : List ℕ) (literal : Lit A) (place : Place) (text : List ℕ) (lo hi : ℕ) (old mid new : List ℕ) → Picks options.shown (label_of (kind_of literal)) → IsPlaceIn options.by_line whole lo hi place → Appends (IsPlacedLit place literal) old mid → Appends (IsReason options whole text lo) mid new → Appends (IsShownLit options whole literal text lo hi) old new
+explained options whole literal place text lo hi old mid new picked is_place (line, is_line, e) (reason, is_reason, f) =
+    (line ++ reason, inl (picked, (place, line, reason, is_place, is_line, is_reason, refl)), f ∙ ap (λ z. z ++ reason) e ∙ append_assoc old line reason)
+
+-- of an identifier that is no truth value nothing is shown
+pub no_truth : (options : Options) (whole text : List ℕ) (form : SourceForm) (inner : Form) (lo hi : ℕ) (old : List ℕ) → form ≡ Token inner → inner ≡ Identifier → ((b : Bool) → text ≢ truth_text b) → Appends (IsShownToken options whole (source_view form) text lo hi) old old
+no_truth options whole text form inner lo hi old is inner_is none =
+    let Shown : SourceForm → Type 0 = λ f. IsShownToken options whole (source_view f) text lo hi [] in
+    let here : Shown (Token Identifier) = inr (none, refl) in
+    ([], subst Shown (sym (is ∙ ap Token inner_is)) here, sym (append-nil old))
 
 -- no token begins what is left, and no error stands there: it is the end
 pub at_end : (old new : CursorState) → BeginsNoSource (chars old.rest) → new ≡ old → (new.rest ≡ []) ⊎ ((kind : SourceKind) × (after : List ℕ) × SourceBefore (chars new.rest) kind after) → old.rest ≡ []

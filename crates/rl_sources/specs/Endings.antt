@@ -23,7 +23,7 @@ status_of (Failed (Source place kind)) = 1
 abbrev pub ending_line : {A : Type 0} → Ending A → List ℕ
 ending_line Done = []
 ending_line FoundBad = []
-ending_line Usage = codes "usage: rl_scan [--lines] [--no-stray] [--bad | --only KIND[,KIND..]]"
+ending_line Usage = codes "usage: rl_scan [--lines] [--no-stray] [--why] [--bad | --only KIND[,KIND..]]"
 ending_line (Failed (Fault fault)) = error_line fault
 ending_line (Failed (Source place kind)) =
     codes "error at " ++ (place_text place ++ (codes ": " ++ lex_message kind))

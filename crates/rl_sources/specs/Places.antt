@@ -2,6 +2,7 @@
 use Rattle.std.specs.Prelude.{◌≡◌, ℕ, ◌+◌, Bool, false, true, List, ◌++◌, codes}
 use Rattle.std.specs.Fmt.{decimal}
 use Rattle.rl_tokens.specs.Texts.{byte_len}
+use Rattle.rl_tokens.specs.Cursors.{CursorState, IsCursorState}
 use Rattle.rl_tokens.specs.Lines.{BeginsAt}
 use Rattle.rl_sources.specs.declared.place.Place.{Place}
 use Rattle.rl_sources.specs.declared.place.Place.TheVariants.{Bytes, Line}
@@ -17,3 +18,9 @@ IsPlaceIn by_line text lo hi (Bytes from to) = (by_line ≡ false) × (from ≡ 
 IsPlaceIn by_line text lo hi (Line at) =
     (by_line ≡ true)
     × ((rest : List ℕ) × BeginsAt text rest at × (lo + byte_len rest ≡ byte_len text))
+
+-- The rest stands in the text, and the cursor over lines stands there.
+pub record HoldsPlaces (text rest : List ℕ) (lines : CursorState) : Type 0 where
+  pub cursor : IsCursorState text rest
+  pub text_is : lines.text ≡ text
+  pub rest_is : lines.rest ≡ rest

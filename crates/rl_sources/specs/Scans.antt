@@ -1,15 +1,19 @@
--- What is shown of a source: a line for each of its literals, after its place. Texts and what is
--- shown are lists of characters, what is written lists of bytes.
-use Rattle.std.specs.Prelude.{◌≡◌, ◌≢◌, ◌⊎◌, ◌↔◌, ℕ, ◌+◌, Bool, List, [], ◌∷◌, ◌++◌, IsTrue, encode_utf8_all, Option}
+-- What is shown of a source: a line for each of its literals, after its place, and where it is asked
+-- for one more that says why it has no reading. Texts and what is shown are lists of characters, what
+-- is written lists of bytes.
+use Rattle.std.specs.Prelude.{◌≡◌, ◌≢◌, ◌⊎◌, ◌↔◌, ℕ, ◌+◌, Bool, List, [], ◌∷◌, ◌++◌, IsTrue, codes, encode_utf8_all, Option}
 use Prim.Native.Char.{code}
 use Rattle.std.specs.List.{All}
 use Rattle.std.specs.Io.KnownBytes.{Appends}
 use Rattle.rl_tokens.specs.Texts.{byte_len}
 use Rattle.rl_tokens.specs.Lexemes.{LiteralForm, IdentifierForm}
-use Rattle.rl_tokens.specs.Reading.{truth_text}
+use Rattle.rl_tokens.specs.Reading.{HasReading, truth_text}
 use Rattle.rl_tokens.specs.Sources.{source_text, SourceKind, PlainKind, StrayKind, kind_of, CutSource, source_end, IsCutUpTo, SourceBefore, SourceErrorAt}
 use Rattle.rl_tokens.specs.declared.lex_error.LexKind.{LexKind}
 use Rattle.rl_tokens.specs.declared.lex_error.LexKind.TheVariants.{StrayCharacter}
+use Rattle.rl_grammar.specs.declared.flaws.Flaw.{Flaw}
+use Rattle.rl_grammar.specs.Flaws.{Explains}
+use Rattle.rl_grammar.specs.FlawWords.{flaw_message}
 use Rattle.rl_lines.specs.Lines.{IsLineOf, IsLabelOf, Joins}
 use Rattle.rl_program.specs.Streams.{AppendsBeginning}
 use Rattle.rl_program.specs.declared.fault.Fault.TheVariants.{Write, Memory}
@@ -26,11 +30,32 @@ IsPlacedLine by_line whole text lo hi shown =
     (place : Place) × (line : List ℕ) × IsPlaceIn by_line whole lo hi place × IsLineOf text line
     × (shown ≡ place_text place ++ (code " " ∷ line))
 
--- what is shown of a literal: its line where it is picked, else nothing
+-- the line that says why a text, which begins at this byte of the whole source, is no literal: the
+-- place of a flaw that explains it, and what is wrong
+abbrev pub IsFlawLine : Bool → List ℕ → List ℕ → ℕ → List ℕ → Type 0
+IsFlawLine by_line whole text lo shown =
+    (flaw : Flaw) × (place : Place) × Explains text flaw
+    × IsPlaceIn by_line whole (lo + flaw.lo) (lo + flaw.hi) place
+    × (shown ≡ place_text place ++ (codes " error: " ++ (flaw_message flaw.kind ++ codes "\n")))
+
+-- what follows the line of a text: where it is asked for, and the text is no literal, the line that
+-- says why; else nothing
+abbrev pub IsReason : Options → List ℕ → List ℕ → ℕ → List ℕ → Type 0
+IsReason options whole text lo shown =
+    (IsTrue options.explains × IsFlawLine options.by_line whole text lo shown)
+    ⊎ ((IsTrue options.explains → HasReading text) × (shown ≡ []))
+
+-- the line of a text as a literal, after its place, and what follows it
+abbrev pub IsExplainedLine : Options → List ℕ → List ℕ → ℕ → ℕ → List ℕ → Type 0
+IsExplainedLine options whole text lo hi shown =
+    (line reason : List ℕ) × IsPlacedLine options.by_line whole text lo hi line
+    × IsReason options whole text lo reason × (shown ≡ line ++ reason)
+
+-- what is shown of a literal: its line, and what follows it, where it is picked, else nothing
 abbrev pub IsShownLiteral : Options → List ℕ → List ℕ → ℕ → ℕ → List ℕ → Type 0
 IsShownLiteral options whole text lo hi shown =
     (label : List ℕ) × IsLabelOf text label
-    × ((Picks options.shown label × IsPlacedLine options.by_line whole text lo hi shown)
+    × ((Picks options.shown label × IsExplainedLine options whole text lo hi shown)
     ⊎ ((Picks options.shown label → ⊥) × (shown ≡ [])))
 
 -- what is shown of a token: of a literal, and of the words `true` and `false`, what is shown of

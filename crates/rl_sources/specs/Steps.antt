@@ -1,7 +1,7 @@
 -- Steps of a scan.
 use Rattle.std.specs.Prelude.{◌≡◌, ◌≢◌, ◌⊎◌, ℕ, ◌+◌, ◌<◌, Bool, List, [], ◌∷◌, ◌++◌, length, IsTrue, Option, IfSome}
 use Rattle.std.specs.Str.{chars}
-use Rattle.rl_tokens.specs.Texts.{byte_len, IsTail}
+use Rattle.rl_tokens.specs.Texts.{byte_len}
 use Rattle.rl_tokens.specs.Cursors.{CursorState, IsCursorState}
 use Rattle.rl_tokens.specs.Sources.{CutSource, StrayKind, source_view}
 use Rattle.rl_tokens.specs.declared.sources.SourceToken.{SourceToken}
@@ -15,19 +15,27 @@ use Rattle.rl_sources.specs.declared.step.Step.{Step}
 use Rattle.rl_sources.specs.declared.step.Step.TheVariants.{More, End, Error}
 use Rattle.rl_sources.specs.Options.{Picks}
 use Rattle.rl_sources.specs.Places.{place_text, IsPlaceIn}
-use Rattle.rl_sources.specs.Scans.{ShowsUpTo, IsErrorAt}
+use Rattle.rl_sources.specs.Scans.{IsReason, ShowsUpTo, IsErrorAt}
 
 -- a literal's line, after a place
 abbrev pub IsPlacedLit : {A : Type 0} → Place → Lit A → List ℕ → Type 0
 IsPlacedLit place literal shown =
     (line : List ℕ) × IsLineOfLit literal line × (shown ≡ place_text place ++ (code " " ∷ line))
 
--- what is shown of a literal: its line after its place where it is picked, else nothing
-abbrev pub IsShownLit : {A : Type 0} → Options → List ℕ → Lit A → ℕ → ℕ → List ℕ → Type 0
-IsShownLit options whole literal lo hi shown =
+-- a literal's line after its place, and what follows it
+abbrev pub IsExplainedLit : {A : Type 0} → Options → List ℕ → Lit A → List ℕ → ℕ → ℕ → List ℕ
+    → Type 0
+IsExplainedLit options whole literal text lo hi shown =
+    (place : Place) × (line reason : List ℕ) × IsPlaceIn options.by_line whole lo hi place
+    × IsPlacedLit place literal line × IsReason options whole text lo reason
+    × (shown ≡ line ++ reason)
+
+-- what is shown of a literal, whose token has this text: its line, and what follows it, where it is
+-- picked, else nothing
+abbrev pub IsShownLit : {A : Type 0} → Options → List ℕ → Lit A → List ℕ → ℕ → ℕ → List ℕ → Type 0
+IsShownLit options whole literal text lo hi shown =
     (Picks options.shown (label_of (kind_of literal))
-    × ((place : Place) × IsPlaceIn options.by_line whole lo hi place
-    × IsPlacedLit place literal shown))
+    × IsExplainedLit options whole literal text lo hi shown)
     ⊎ ((Picks options.shown (label_of (kind_of literal)) → ⊥) × (shown ≡ []))
 
 -- where strays are rejected, no token is one
@@ -35,11 +43,17 @@ abbrev pub IsAccepted : Bool → Option SourceToken → Type 0
 IsAccepted rejects_strays token =
     IfSome token (λ l. IsTrue rejects_strays → source_view l.form ≢ StrayKind)
 
--- The cursor over tokens and the one over places go over one text, the second not ahead.
-pub record StandsAt (tokens places : CursorState) : Type 0 where
+-- The token begins the rest of the text, at its place.
+pub record BeginsRest (token : SourceToken) (text rest : List ℕ) : Type 0 where
+  pub cursor : IsCursorState text rest
+  pub lo_is : token.lo + length rest ≡ length text
+  pub after : List ℕ
+  pub begins : chars rest ≡ chars token.text.now ++ after
+
+-- The cursor over tokens goes over the text whose places are looked for.
+pub record StandsAt (tokens : CursorState) (places : List ℕ) : Type 0 where
   pub cursor : IsCursorState tokens.text tokens.rest
-  pub text_is : places.text ≡ tokens.text
-  pub following : IsTail places.rest tokens.rest
+  pub text_is : places ≡ tokens.text
 
 -- Whatever is shown of the source up to the old rest: with this piece it is what is shown up to the
 -- new one.
@@ -50,8 +64,8 @@ pub record Adds (options : Options) (whole old new piece : List ℕ) : Type 0 wh
 
 -- What was gathered is what is shown from the old cursor on, up to the new one, where there is
 -- more to gather.
-pub record GoesOn (options : Options) (old : CursorState) (piece : List ℕ) (new places : CursorState)
-    : Type 0 where
+pub record GoesOn (options : Options) (old : CursorState) (piece : List ℕ) (new : CursorState)
+    (places : List ℕ) : Type 0 where
   pub adds : Adds options (chars old.text) (chars old.rest) (chars new.rest) piece
   pub stands : StandsAt new places
   pub text_is : new.text ≡ old.text
@@ -59,7 +73,7 @@ pub record GoesOn (options : Options) (old : CursorState) (piece : List ℕ) (ne
 
 -- What was gathered is what is shown from the old cursor on: up to the new one, up to the end, or
 -- up to an error.
-abbrev pub IsStepOf : Options → CursorState → List ℕ → CursorState → CursorState → Step → Type 0
+abbrev pub IsStepOf : Options → CursorState → List ℕ → CursorState → List ℕ → Step → Type 0
 IsStepOf options old piece new places More = GoesOn options old piece new places
 IsStepOf options old piece new places End =
     Adds options (chars old.text) (chars old.rest) [] piece

@@ -8,7 +8,7 @@ use Rattle.rl_sources.specs.declared.options.Options.{Options}
 use Rattle.rl_sources.specs.declared.options.Shown.{Shown}
 use Rattle.rl_sources.specs.declared.options.Shown.TheVariants as shown
 use Rattle.rl_sources.specs.declared.words.Flag.{Flag}
-use Rattle.rl_sources.specs.declared.words.Flag.TheVariants.{Lines, NoStray, Bad, Only}
+use Rattle.rl_sources.specs.declared.words.Flag.TheVariants.{Lines, NoStray, Bad, Only, Why}
 
 -- a line may begin with this word
 abbrev pub IsKindWord : List ℕ → Type 0
@@ -23,6 +23,7 @@ flag_word Lines = codes "--lines"
 flag_word NoStray = codes "--no-stray"
 flag_word Bad = codes "--bad"
 flag_word Only = codes "--only"
+flag_word Why = codes "--why"
 
 -- which literals are wanted: all, those of a list's kinds, those without a reading
 pub data Wanted : Type 0 where
@@ -35,10 +36,12 @@ pub record Wishes : Type 0 where
   pub wanted : Wanted
   pub by_line : Bool
   pub rejects_strays : Bool
+  pub explains : Bool
 
 -- what is asked for where no option is given
 abbrev pub first_wishes : Wishes
-first_wishes = record { wanted = AllWanted; by_line = false; rejects_strays = false }
+first_wishes =
+    record { wanted = AllWanted; by_line = false; rejects_strays = false; explains = false }
 
 abbrev pub wanted_of : Shown → Wanted
 wanted_of shown.All = AllWanted
@@ -47,8 +50,12 @@ wanted_of shown.Bad = BadWanted
 
 -- the options that the code holds
 abbrev pub wishes_of : Options → Wishes
-wishes_of o =
-    record { wanted = wanted_of o.shown; by_line = o.by_line; rejects_strays = o.rejects_strays }
+wishes_of o = record {
+  wanted = wanted_of o.shown;
+  by_line = o.by_line;
+  rejects_strays = o.rejects_strays;
+  explains = o.explains;
+}
 
 -- only one option may say which literals are wanted
 abbrev pub IsAllowed : Flag → Wishes → Type 0
@@ -56,12 +63,14 @@ IsAllowed Lines w = ⊤
 IsAllowed NoStray w = ⊤
 IsAllowed Bad w = w.wanted ≡ AllWanted
 IsAllowed Only w = w.wanted ≡ AllWanted
+IsAllowed Why w = ⊤
 
 abbrev pub with_flag : Flag → Wishes → Wishes
 with_flag Lines w = record w { by_line = true }
 with_flag NoStray w = record w { rejects_strays = true }
 with_flag Bad w = record w { wanted = BadWanted }
 with_flag Only w = w
+with_flag Why w = record w { explains = true }
 
 -- a list of kinds follows
 abbrev pub wants_list : Flag → Bool

@@ -61,7 +61,7 @@ impl<A: Allocator> fmt::Display for Ending<A> {
             Ending::Done | Ending::FoundBad => Ok(()),
             Ending::Usage => write!(
                 f,
-                "usage: rl_scan [--lines] [--no-stray] [--bad | --only KIND[,KIND..]]"
+                "usage: rl_scan [--lines] [--no-stray] [--why] [--bad | --only KIND[,KIND..]]"
             ),
             Ending::Failed(ScanError::Fault(fault)) => write!(f, "{fault}"),
             Ending::Failed(ScanError::Source(place, kind)) => write!(f, "error at {place}: {kind}"),

@@ -6,6 +6,7 @@ mod ending;
 mod options;
 mod place;
 mod program;
+mod reason;
 mod scanner;
 mod step;
 mod words;

@@ -23,6 +23,8 @@ pub struct Options<'a> {
     pub by_line: bool,
     /// Whether a stray character is an error, as it is in Rust.
     pub rejects_strays: bool,
+    /// Whether the line of a literal without a reading is followed by one that says why it has none.
+    pub explains: bool,
 }
 
 /// Whether this is one of the words of a list; commas separate the words.

@@ -2,12 +2,13 @@
 
 ghost use Rattle.std.specs.Prelude.{◌≡◌, ◌+◌, length, Some};
 ghost use Rattle.std.specs.Str.{chars};
-ghost use Rattle.rl_tokens.specs.Texts.{IsTail};
 ghost use Rattle.rl_tokens.specs.Cursors.{IsCursorState};
+ghost use Rattle.rl_tokens.specs.Lines.{BeginsAt};
 ghost use Rattle.rl_sources.specs.Places.{place_text, IsPlaceIn};
 
 use rl_tokens::{LineColumn, Lines};
 use std::fmt;
+use std::marker::Model;
 
 /// A place of a source, as it is printed: `LO..HI` or `LINE:COLUMN`.
 #[derive(Clone, Copy)]
@@ -29,23 +30,70 @@ impl fmt::Display for Place {
     }
 }
 
+/// The lines and columns of places in a text. From one place to a later one only what stands between them is gone over;
+/// an earlier one is looked for from the front.
+#[derive(Drop)]
+pub(crate) struct Places<'t> {
+    text: &'t str,
+    // what is left of the text at the last place
+    rest: &'t str,
+    lines: Lines<'t>,
+}
+
+impl<'t> Model for Places<'t> {
+    ghost use Rattle.std.specs.Prelude.{List, ℕ};
+    ghost use Rattle.rl_sources.specs.Places.{HoldsPlaces};
+
+    ghost Value = { List ℕ };
+
+    ghost view = { λ p. p.text.now };
+
+    ghost invariant = { λ p. HoldsPlaces p.text.now p.rest.now p.lines };
+}
+
+impl<'t> Places<'t> {
+    /// Of a text.
+    pub(crate) fn new(text: &'t str) -> Places<'t>
+        ensures { result ≡ text.now }
+    {
+        Places {
+            text,
+            rest: text,
+            lines: Lines::new(text),
+        }
+    }
+
+    /// The line and column where a rest of the text begins.
+    fn at(&mut self, rest: &'t str) -> LineColumn
+        requires { IsCursorState self.old rest.now }
+        ensures place { BeginsAt (chars self.old) (chars rest.now) result }
+        ensures same { self.new ≡ self.old }
+    {
+        if rest.len() > self.rest.len() {
+            self.rest = rest;
+            self.lines = Lines::new(self.text);
+            return self.lines.at(rest);
+        }
+        self.rest = rest;
+        self.lines.at(rest)
+    }
+}
+
 /// The place of the bytes from `lo` to `hi`, where the rest of the text begins at the first.
 pub(crate) fn place_of<'t>(
     by_line: bool,
-    lines: &mut Lines<'t>,
+    places: &mut Places<'t>,
     rest: &'t str,
     lo: usize,
     hi: usize,
 ) -> Place
-    requires text { IsCursorState lines.old.text rest.now }
-    requires following { IsTail lines.old.rest rest.now }
-    requires lo { lo + length rest.now ≡ length lines.old.text }
-    ensures place { IsPlaceIn by_line (chars lines.old.text) lo hi result }
-    ensures text { lines.new.text ≡ lines.old.text }
-    ensures following { IsTail lines.new.rest rest.now }
+    requires text { IsCursorState places.old rest.now }
+    requires lo { lo + length rest.now ≡ length places.old }
+    ensures place { IsPlaceIn by_line (chars places.old) lo hi result }
+    ensures same { places.new ≡ places.old }
 {
     if by_line {
-        return Place::Line(lines.at(rest));
+        return Place::Line(places.at(rest));
     }
     Place::Bytes(lo, hi)
 }

@@ -5,10 +5,10 @@ ghost use Rattle.std.specs.Str.{chars};
 ghost use Rattle.rl_sources.specs.Scans.{Scans, FailsScan};
 
 use crate::options::Options;
-use crate::place::Place;
+use crate::place::{Place, Places};
 use crate::step::{Step, gather};
 use rl_program::{Fault, write_whole};
-use rl_tokens::{LexKind, Lines, Sources};
+use rl_tokens::{LexKind, Sources};
 use std::alloc::{Allocator, Global};
 use std::fmt;
 use std::io::Write;
@@ -31,7 +31,8 @@ fn is_any(before: bool, lines: &[u8]) -> bool
 }
 
 /// Writes a line for each literal of a source, in order: its place, and what `rl_lines` prints of
-/// its text. Tokens are cut by [`Sources`]; the words `true` and `false` are literals too. Lines are
+/// its text; with `explains` a line follows that of a literal without a reading, with the place and
+/// the reason of its flaw, as `rl_grammar` explains it. Tokens are cut by [`Sources`]; the words `true` and `false` are literals too. Lines are
 /// written as they are made, 64 KB at once. Returns whether any line was written.
 ///
 /// # Errors
@@ -51,7 +52,7 @@ pub fn scan<A: Allocator + Copy, W: Write>(
         (FailsScan options.entry (chars text.now) (W.contents out.old) (W.contents out.new)) }
 {
     let mut tokens = Sources::new(text);
-    let mut places = Lines::new(text);
+    let mut places = Places::new(text);
     let mut lines = String::new(alloc);
     let mut any = false;
     loop {

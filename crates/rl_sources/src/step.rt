@@ -4,17 +4,16 @@ ghost use Rattle.std.specs.Prelude.{◌≡◌, ◌+◌, ◌<◌, [], length, IfS
 ghost use Rattle.std.specs.Str.{chars};
 ghost use Rattle.rl_lines.specs.Lines.{Appends};
 ghost use Rattle.rust_literals.specs.Literals.{IsReadFrom};
-ghost use Rattle.rl_tokens.specs.Texts.{IsTail};
-ghost use Rattle.rl_tokens.specs.Cursors.{IsCursorState};
 ghost use Rattle.rl_tokens.specs.Sources.{source_view, TakesSource};
 ghost use Rattle.rl_sources.specs.Scans.{IsShownLiteral, IsShownToken, IsErrorAt};
-ghost use Rattle.rl_sources.specs.Steps.{IsPlacedLit, IsShownLit, IsAccepted, StandsAt, IsStepOf};
+ghost use Rattle.rl_sources.specs.Steps.{IsPlacedLit, IsShownLit, IsAccepted, BeginsRest, StandsAt, IsStepOf};
 
 use crate::options::Options;
-use crate::place::{Place, place_of};
+use crate::place::{Place, Places, place_of};
+use crate::reason::push_reason;
 use rl_grammar::truth_of;
 use rl_lines::{label_of, push_literal};
-use rl_tokens::{Form, LexError, LexKind, Lines, Literal, SourceForm, SourceToken, Sources, Span};
+use rl_tokens::{Form, LexError, LexKind, Literal, SourceForm, SourceToken, Sources, Span};
 use rust_literals::Lit;
 use std::alloc::{AllocError, Allocator};
 
@@ -51,7 +50,7 @@ fn push_placed<A: Allocator + Copy>(
     push_literal(alloc, out, literal)
 }
 
-/// Appends a literal's line after its place, where it is picked.
+/// Appends a literal's line after its place, and what follows it, where it is picked.
 fn push_picked<'t, A: Allocator + Copy>(
     alloc: A,
     out: &mut String<A>,
@@ -59,22 +58,21 @@ fn push_picked<'t, A: Allocator + Copy>(
     literal: &Lit<A>,
     token: SourceToken<'t>,
     rest: &'t str,
-    places: &mut Lines<'t>,
+    places: &mut Places<'t>,
 ) -> Result<(), AllocError>
-    requires text { IsCursorState places.old.text rest.now }
-    requires following { IsTail places.old.rest rest.now }
-    requires lo { token.lo + length rest.now ≡ length places.old.text }
+    requires { BeginsRest token places.old rest.now }
     ensures shown { OnOk result (Appends
-        (IsShownLit options.entry (chars places.old.text) literal.now token.entry.lo token.entry.hi)
+        (IsShownLit options.entry (chars places.old) literal.now (chars token.entry.text.now)
+        token.entry.lo token.entry.hi)
         (chars (string_bytes out.old)) (chars (string_bytes out.new))) }
-    ensures text { places.new.text ≡ places.old.text }
-    ensures following { IsTail places.new.rest rest.now }
+    ensures same { places.new ≡ places.old }
 {
     if !options.shown.picks(label_of(literal.kind())) {
         return Ok(());
     }
     let place = place_of(options.by_line, places, rest, token.lo, token.hi);
-    push_placed(alloc, out, place, literal)
+    push_placed(alloc, out, place, literal)?;
+    push_reason(out, options, token, rest, places)
 }
 
 /// Appends what is shown of a literal.
@@ -84,17 +82,14 @@ fn push_literal_token<'t, A: Allocator + Copy>(
     options: Options<'_>,
     token: SourceToken<'t>,
     rest: &'t str,
-    places: &mut Lines<'t>,
+    places: &mut Places<'t>,
 ) -> Result<(), AllocError>
-    requires text { IsCursorState places.old.text rest.now }
-    requires following { IsTail places.old.rest rest.now }
-    requires lo { token.lo + length rest.now ≡ length places.old.text }
+    requires { BeginsRest token places.old rest.now }
     ensures shown { OnOk result (Appends
-        (IsShownLiteral options.entry (chars places.old.text) (chars token.entry.text.now)
+        (IsShownLiteral options.entry (chars places.old) (chars token.entry.text.now)
         token.entry.lo token.entry.hi)
         (chars (string_bytes out.old)) (chars (string_bytes out.new))) }
-    ensures text { places.new.text ≡ places.old.text }
-    ensures following { IsTail places.new.rest rest.now }
+    ensures same { places.new ≡ places.old }
 {
     let literal = literal_of(alloc, token)?;
     push_picked(alloc, out, options, &literal, token, rest, places)
@@ -107,17 +102,14 @@ fn push_token<'t, A: Allocator + Copy>(
     options: Options<'_>,
     token: SourceToken<'t>,
     rest: &'t str,
-    places: &mut Lines<'t>,
+    places: &mut Places<'t>,
 ) -> Result<(), AllocError>
-    requires text { IsCursorState places.old.text rest.now }
-    requires following { IsTail places.old.rest rest.now }
-    requires lo { token.lo + length rest.now ≡ length places.old.text }
+    requires { BeginsRest token places.old rest.now }
     ensures shown { OnOk result (Appends
-        (IsShownToken options.entry (chars places.old.text) (source_view token.entry.form)
+        (IsShownToken options.entry (chars places.old) (source_view token.entry.form)
         (chars token.entry.text.now) token.entry.lo token.entry.hi)
         (chars (string_bytes out.old)) (chars (string_bytes out.new))) }
-    ensures text { places.new.text ≡ places.old.text }
-    ensures following { IsTail places.new.rest rest.now }
+    ensures same { places.new ≡ places.old }
 {
     match token.form {
         SourceForm::Token(Form::Literal) => {
@@ -173,7 +165,7 @@ pub(crate) fn gather<'t, A: Allocator + Copy>(
     alloc: A,
     options: Options<'_>,
     tokens: &mut Sources<'t>,
-    places: &mut Lines<'t>,
+    places: &mut Places<'t>,
     out: &mut String<A>,
 ) -> Result<Step, AllocError>
     requires stands { StandsAt tokens.old places.old }

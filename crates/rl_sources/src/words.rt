@@ -21,6 +21,8 @@ enum Flag {
     Bad,
     /// Literals of some kinds alone; the next word lists these.
     Only,
+    /// Why a literal has no reading is printed.
+    Why,
 }
 
 /// The flag that a word is.
@@ -33,6 +35,7 @@ fn flag_of(word: &str) -> Option<Flag>
         "--no-stray" => Some(Flag::NoStray),
         "--bad" => Some(Flag::Bad),
         "--only" => Some(Flag::Only),
+        "--why" => Some(Flag::Why),
         _ => None,
     }
 }
@@ -80,6 +83,7 @@ fn with_flag(options: Options<'_>, flag: Flag) -> Option<Options<'_>>
     match (flag, options.shown) {
         (Flag::Lines, _) => next.by_line = true,
         (Flag::NoStray, _) => next.rejects_strays = true,
+        (Flag::Why, _) => next.explains = true,
         (Flag::Bad, Shown::All) => next.shown = Shown::Bad,
         (Flag::Only, Shown::All) => {}
         _ => return None,
@@ -111,6 +115,7 @@ fn with_word<'a>(asked: Asked<'a>, word: &'a str) -> Option<Asked<'a>>
             shown: Shown::Only(word),
             by_line: asked.options.by_line,
             rejects_strays: asked.options.rejects_strays,
+            explains: asked.options.explains,
         };
         return Some(Asked {
             options,
@@ -136,6 +141,7 @@ pub fn options_of<A: Allocator>(words: &[String<A>]) -> Option<Options<'_>>
         shown: Shown::All,
         by_line: false,
         rejects_strays: false,
+        explains: false,
     };
     let mut asked = Asked {
         options,

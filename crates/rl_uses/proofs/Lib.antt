@@ -1,5 +1,6 @@
 pub mod ItemLemmas
 pub mod LintLemmas
+pub mod ReasonLemmas
 pub mod RewriteLemmas
 pub mod CountLemmas
 pub mod ShortageLemmas

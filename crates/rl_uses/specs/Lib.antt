@@ -3,6 +3,7 @@ pub mod Settings
 pub mod Lists
 pub mod Shortage
 pub mod Lints
+pub mod Reasons
 pub mod Rewrites
 pub mod Counts
 pub mod Configs

@@ -239,9 +239,11 @@ impl<A: Allocator> Lit<A> {
     /// # Example
     ///
     /// ```
-    /// if let Some(flaw) = literal.explain() {
-    ///     push_flaw(alloc, out, flaw.in_span(literal.span()), flaw.kind)?;
-    /// }
+    /// let flaw = literal.explain()?;
+    /// Some(Reason {
+    ///     span: flaw.in_span(literal.span()),
+    ///     kind: flaw.kind,
+    /// })
     /// ```
     pub fn explain(&self) -> Option<Flaw>
         ensures none { IfNone result (HasReading (chars (token_of self.now).text)) }

@@ -28,6 +28,7 @@ pub(crate) fn source_answer(alloc: Global, text: &str) -> Result<String, AllocEr
         shown: Shown::All,
         by_line: false,
         rejects_strays: false,
+        explains: false,
     };
     let mut lines = Vec::new(alloc);
     let answer = scan(alloc, options, text, &mut lines);

@@ -1,7 +1,6 @@
 use Rattle.std.proofs.Common.{◌≡◌, ◌∙◌, ap, sym, subst, refl, inl, inr, arith, ℕ, List, string_bytes, rules}
 use Rattle.std.specs.Str.{chars}
 use Rattle.std.proofs.lemmas.Str.{chars-nil}
-use Rattle.rl_tokens.specs.Texts.{IsTail}
 use Rattle.rl_sources.specs.Steps.{Adds}
 use Rattle.rl_sources.proofs.ScanLemmas.{adds_none, adds_token, stands_on, stops}
 use Rattle.rl_sources.proofs.step.gather.Goals as goal
@@ -22,7 +21,7 @@ loop-alloc-preserved g c =
     let accepted = rw c.in-Ok-Some.field-0-is at c.in-Ok-Some.ensures.accepted in
     let shorter = rw c.in-Ok-Some.field-0-is at c.in-Ok-Some.ensures.shorter in
     record {
-      stands = stands_on c.loop-alloc.tokens c.loop-alloc.places c.next_token.new.tokens c.push_token.new.places c.in-Ok-Some.token before.stands takes c.push_token.ensures.text (subst (IsTail c.push_token.new.places.rest) c.rest-rest.ensures c.push_token.ensures.following);
+      stands = stands_on c.loop-alloc.tokens c.next_token.new.tokens c.loop-alloc.places c.push_token.new.places c.in-Ok-Some.token before.stands takes c.push_token.ensures.same;
       text_is = takes.same ∙ before.text_is;
       adds = adds_token c.args.options c.args.tokens.now.text _ c.loop-alloc.tokens c.next_token.new.tokens c.loop-alloc.places c.in-Ok-Some.token _ _ before.text_is before.stands.text_is before.adds takes accepted c.in_ok-push_token-in-Ok-Some.ensures.shown;
       not_longer = omega (arith, shorter, before.not_longer);

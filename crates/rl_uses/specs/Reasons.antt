@@ -1,0 +1,29 @@
+-- Why literals without a reading have none.
+use Rattle.std.specs.Prelude.{◌≡◌, ◌⊎◌, List, [], ◌∷◌}
+use Rattle.std.specs.Str.{chars}
+use Rattle.rl_tokens.specs.Reading.{HasReading}
+use Rattle.rl_grammar.specs.declared.flaws.Flaw.{Flaw}
+use Rattle.rl_grammar.specs.Flaws.{Explains, place_in}
+use Rattle.rust_literals.specs.declared.lit.Lit.{Lit}
+use Rattle.rust_literals.specs.Literals.{token_of}
+use Rattle.rust_literals.specs.LitParts.{lit_span}
+use Rattle.rl_uses.specs.declared.reasons.Reason.{Reason}
+
+-- The reason is a flaw that explains the literal's text, at its place in the file.
+abbrev pub IsReasonOf : {A : Type 0} → Lit A → Reason → Type 0
+IsReasonOf literal reason =
+    (flaw : Flaw) × Explains (chars (token_of literal).text) flaw
+    × (reason.kind ≡ flaw.kind)
+    × (reason.span ≡ record {
+      file = (lit_span literal).file;
+      lo = place_in (lit_span literal) flaw.lo;
+      hi = place_in (lit_span literal) flaw.hi;
+    })
+
+-- The reasons are those of the literals that have no reading, in order.
+abbrev pub AreReasons : {A : Type 0} → List (Lit A) → List Reason → Type 0
+AreReasons [] reasons = reasons ≡ []
+AreReasons (l ∷ ls) reasons =
+    (HasReading (chars (token_of l).text) × AreReasons ls reasons)
+    ⊎ ((first : Reason) × (rest : List Reason) × IsReasonOf l first × (reasons ≡ first ∷ rest)
+    × AreReasons ls rest)
