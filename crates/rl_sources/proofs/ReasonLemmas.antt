@@ -13,6 +13,7 @@ use Rattle.rl_tokens.specs.Reading.{HasReading}
 use Rattle.rl_tokens.specs.Texts.{IsTail, byte_len}
 use Rattle.rl_tokens.specs.Cursors.{CursorState, IsCursorState}
 use Rattle.rl_tokens.specs.declared.sources.SourceToken.{SourceToken}
+use Rattle.rl_tokens.proofs.BehindLemmas.{behind_step}
 use Rattle.rl_tokens.proofs.CutLemmas.{byte_len-append}
 use Rattle.rl_grammar.specs.declared.flaws.Flaw.{Flaw}
 use Rattle.rl_grammar.specs.declared.flaws.FlawKind.{FlawKind}
@@ -57,14 +58,14 @@ first_within (c ∷ cs) =
     omega (arith, whole)
 
 -- The place of a flaw of the token's text is one of the rest.
-pub record StandsWithin (rest : List ℕ) (lo hi : ℕ) : Type 0 where
+pub record StandsWithin (rest : List ℕ) (lo hi size : ℕ) : Type 0 where
   pub following : IsTail rest (drop lo rest)
   pub boundary : IsCharBoundary rest lo
   pub left : lo + length (drop lo rest) ≡ length rest
   pub ordered : lo ≤ hi
-  pub within : hi ≤ length rest
+  pub within : hi ≤ size
 
-pub flaw_within : (token : SourceToken) (text rest : List ℕ) (flaw : Flaw) → BeginsRest token text rest → Explains (chars token.text.now) flaw → StandsWithin rest flaw.lo flaw.hi
+pub flaw_within : (token : SourceToken) (text rest : List ℕ) (flaw : Flaw) → BeginsRest token text rest → Explains (chars token.text.now) flaw → StandsWithin rest flaw.lo flaw.hi (byte_len (chars token.text.now))
 flaw_within token text rest flaw begins explains =
     let stops = explains.place.stops in
     let inside = explains.place.rest in
@@ -76,7 +77,7 @@ flaw_within token text rest flaw begins explains =
     let dropped : drop flaw.lo rest ≡ encode_utf8_all back = ap (λ n. drop n rest) explains.place.lo_is ∙ ap (drop (byte_len stops.front)) bytes ∙ drop-append_seam (encode_utf8_all stops.front) (encode_utf8_all back) in
     let is_rest : IsUtf8 (drop flaw.lo rest) = subst IsUtf8 (sym dropped) is_text in
     let long : length rest ≡ byte_len stops.front + byte_len back = ap length bytes ∙ length-append (encode_utf8_all stops.front) (encode_utf8_all back) in
-    let inner : byte_len back ≡ byte_len inside + byte_len begins.after = byte_len-append inside begins.after in
+    let whole : byte_len (chars token.text.now) ≡ byte_len stops.front + byte_len inside = ap byte_len stops.text_is ∙ byte_len-append stops.front inside in
     record {
       following = record {
         front = encode_utf8_all stops.front;
@@ -86,7 +87,7 @@ flaw_within token text rest flaw begins explains =
       boundary = IsCharBoundary-from_drop rest flaw.lo (omega (arith, explains.place.lo_is, long)) is_rest;
       left = omega (arith, explains.place.lo_is, long, ap length dropped);
       ordered = omega (arith, explains.place.hi_is);
-      within = omega (arith, explains.place.hi_is, explains.place.lo_is, first_within inside, long, inner);
+      within = omega (arith, explains.place.hi_is, explains.place.lo_is, first_within inside, whole);
     }
 
 -- ---- the line
@@ -142,3 +143,18 @@ explains_why options whole text lo flaw place old new utf8 asked explains is_pla
 -- nothing was appended
 pub explains_nothing : (options : Options) (whole text : List ℕ) (lo : ℕ) (old : List ℕ) → (IsTrue options.explains → HasReading text) → Appends (IsReason options whole text lo) old old
 explains_nothing options whole text lo old reads = ([], inr (reads, refl), sym (append-nil old))
+
+-- ---- the steps
+
+pub flaw_fits : (token : SourceToken) (text rest : List ℕ) (flaw : Flaw) → BeginsRest token text rest → Explains (chars token.text.now) flaw → (token.lo + flaw.lo ≤ token.hi) × (token.lo + flaw.hi ≤ token.hi)
+flaw_fits token text rest flaw begins explains =
+    let within = flaw_within token text rest flaw begins explains in
+    (omega (arith, within.ordered, within.within, begins.hi_is), omega (arith, within.within, begins.hi_is))
+
+pub flaw_rest : (token : SourceToken) (text rest inside : List ℕ) (flaw : Flaw) → BeginsRest token text rest → Explains (chars token.text.now) flaw → inside ≡ drop flaw.lo rest → IsCursorState text inside
+flaw_rest token text rest inside flaw begins explains is =
+    let within = flaw_within token text rest flaw begins explains in
+    subst (IsCursorState text) (sym is) (record {
+      is_text = begins.cursor.is_text;
+      following = behind_step text rest (drop flaw.lo rest) begins.cursor.following within.following;
+    })

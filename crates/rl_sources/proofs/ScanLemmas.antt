@@ -86,6 +86,7 @@ begins_rest tokens next places rest l stands takes same =
     let whole : (t : List ℕ) → t ≡ tokens.text → BeginsRest l t tokens.rest = λ t e. subst (λ (t : List ℕ). BeginsRest l t tokens.rest) (sym e) (record {
       cursor = stands.cursor;
       lo_is = takes.place;
+      hi_is = omega (arith, takes.is_cut.lo_is, takes.is_cut.hi_is, ap byte_len takes.is_cut.chars_are);
       after = takes.after;
       begins = takes.begins ∙ ap (λ z. z ++ takes.after) takes.is_cut.chars_are;
     }) in

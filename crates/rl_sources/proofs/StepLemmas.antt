@@ -8,7 +8,8 @@ use Rattle.std.proofs.lemmas.Str.Ascii.{IsAscii-nil, IsAscii-cons}
 use Rattle.std.proofs.lemmas.Bool.Decides.{nat_tests}
 use Rattle.rl_tokens.specs.Texts.{SpannedText, byte_len, IsTail}
 use Rattle.rl_tokens.specs.Reading.{truth_text}
-use Rattle.rl_tokens.specs.declared.lexeme.Form.{Form}
+use Rattle.std.specs.Prelude.{Option}
+use Rattle.rl_tokens.specs.declared.kind.Kind.{Kind}
 use Rattle.rl_tokens.specs.declared.lexeme.Form.TheVariants.{Identifier}
 use Rattle.rl_tokens.specs.declared.source.SourceForm.{SourceForm}
 use Rattle.rl_tokens.specs.declared.source.SourceForm.TheVariants.{Token}
@@ -77,12 +78,21 @@ pub explained : {A : Type 0} (options : Options) (whole : List ℕ) (literal : L
 explained options whole literal place text lo hi old mid new picked is_place (line, is_line, e) (reason, is_reason, f) =
     (line ++ reason, inl (picked, (place, line, reason, is_place, is_line, is_reason, refl)), f ∙ ap (λ z. z ++ reason) e ∙ append_assoc old line reason)
 
+-- the label that the code asks about is the literal's
+pub picked_by : {A : Type 0} (options : Options) (label : List ℕ) (kind : Option Kind) (literal : Lit A) → label ≡ label_of kind → kind ≡ kind_of literal → Picks options.shown label → Picks options.shown (label_of (kind_of literal))
+picked_by options label kind literal e f p = subst (Picks options.shown) (e ∙ ap label_of f) p
+
+-- nothing of a literal that isn't picked
+pub not_picked : {A : Type 0} (options : Options) (whole : List ℕ) (label : List ℕ) (kind : Option Kind) (literal : Lit A) (text : List ℕ) (lo hi : ℕ) (old : List ℕ) → label ≡ label_of kind → kind ≡ kind_of literal → (Picks options.shown label → ⊥) → Appends (IsShownLit options whole literal text lo hi) old old
+not_picked options whole label kind literal text lo hi old e f none =
+    ([], inr ((λ p. none (subst (Picks options.shown) (sym (e ∙ ap label_of f)) p)), refl), sym (append-nil old))
+
 -- of an identifier that is no truth value nothing is shown
-pub no_truth : (options : Options) (whole text : List ℕ) (form : SourceForm) (inner : Form) (lo hi : ℕ) (old : List ℕ) → form ≡ Token inner → inner ≡ Identifier → ((b : Bool) → text ≢ truth_text b) → Appends (IsShownToken options whole (source_view form) text lo hi) old old
-no_truth options whole text form inner lo hi old is inner_is none =
+pub no_truth : (options : Options) (whole text : List ℕ) (form : SourceForm) (lo hi : ℕ) (old : List ℕ) → form ≡ Token Identifier → ((b : Bool) → text ≢ truth_text b) → Appends (IsShownToken options whole (source_view form) text lo hi) old old
+no_truth options whole text form lo hi old is none =
     let Shown : SourceForm → Type 0 = λ f. IsShownToken options whole (source_view f) text lo hi [] in
     let here : Shown (Token Identifier) = inr (none, refl) in
-    ([], subst Shown (sym (is ∙ ap Token inner_is)) here, sym (append-nil old))
+    ([], subst Shown (sym is) here, sym (append-nil old))
 
 -- no token begins what is left, and no error stands there: it is the end
 pub at_end : (old new : CursorState) → BeginsNoSource (chars old.rest) → new ≡ old → (new.rest ≡ []) ⊎ ((kind : SourceKind) × (after : List ℕ) × SourceBefore (chars new.rest) kind after) → old.rest ≡ []

@@ -47,6 +47,7 @@ IsAccepted rejects_strays token =
 pub record BeginsRest (token : SourceToken) (text rest : List ℕ) : Type 0 where
   pub cursor : IsCursorState text rest
   pub lo_is : token.lo + length rest ≡ length text
+  pub hi_is : token.lo + byte_len (chars token.text.now) ≡ token.hi
   pub after : List ℕ
   pub begins : chars rest ≡ chars token.text.now ++ after
 
