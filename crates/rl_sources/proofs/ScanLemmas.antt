@@ -11,13 +11,13 @@ use Rattle.std.proofs.lemmas.List.{append-nil}
 use Rattle.std.proofs.lemmas.List.Elements.{All-nil, All-push}
 use Rattle.rl_tokens.specs.Texts.{IsTail, byte_len}
 use Rattle.rl_tokens.specs.Cursors.{CursorState, IsCursorState}
-use Rattle.rl_tokens.specs.Sources.{source_text, source_end, source_view, SourceKind, StrayKind, kind_of, CutSource, IsCutUpTo, IsBorrowedSource, TakesSource}
+use Rattle.rl_tokens.specs.Sources.{source_text, source_end, source_view, SourceKind, StrayKind, CutSource, IsCutUpTo, IsBorrowedSource, TakesSource}
 use Rattle.rl_tokens.specs.declared.sources.SourceToken.{SourceToken}
 use Rattle.rl_tokens.specs.declared.lex_error.LexError.{LexError}
 use Rattle.rl_tokens.proofs.BehindLemmas.{behind_step}
 use Rattle.rl_tokens.proofs.Faults.{char_len, chars_some}
 use Rattle.rl_program.specs.Streams.{AppendsBeginning}
-use Rattle.rl_lines.specs.Lines.{Joins, Appends}
+use Rattle.rl_lines.specs.Lines.{Appends}
 use Rattle.rl_lines.proofs.JoinLemmas.{joins_append, joins_one}
 use Rattle.rl_sources.specs.declared.options.Options.{Options}
 use Rattle.rl_sources.specs.declared.place.Place.{Place}

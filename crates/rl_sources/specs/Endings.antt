@@ -8,7 +8,7 @@ use Rattle.rl_sources.specs.declared.scanner.ScanError.TheVariants.{Fault, Sourc
 use Rattle.rl_sources.specs.Places.{place_text}
 use Rattle.rl_sources.specs.declared.ending.Ending.{Ending}
 use Rattle.rl_sources.specs.declared.ending.Ending.TheVariants.{Done, FoundBad, Usage, Failed}
-use Rattle.rl_sources.specs.Words.{Wanted, BadWanted, Wishes, wishes_of, first_wishes, Asks}
+use Rattle.rl_sources.specs.Words.{BadWanted, Wishes, wishes_of, first_wishes, Asks}
 use Rattle.rl_sources.specs.Runs.{Prints, FailsRun}
 
 -- the status that the program ends with

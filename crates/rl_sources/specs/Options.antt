@@ -1,5 +1,5 @@
 -- Which literals are shown.
-use Rattle.std.specs.Prelude.{◌≡◌, ℕ, ◌==◌, List, codes, ⊤, None}
+use Rattle.std.specs.Prelude.{◌≡◌, ℕ, ◌==◌, List, ⊤, None}
 use Prim.Native.Char.{code}
 use Rattle.std.specs.List.{slice_split, Contains}
 use Rattle.rl_lines.specs.Lines.{label_of}
