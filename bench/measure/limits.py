@@ -34,13 +34,13 @@ def check(driver, jobs, rows, corpus):
     if sources.CORPUS not in {row.corpus for row in rows}:
         most = {name: limit for name, limit in most.items() if name[0] not in sources.CORPORA}
     idle = [name for name in most if name not in {(row.corpus, row.work) for row in ours}]
-    faults = ['%s, %s: a limit of no row' % name for name in idle]
+    errors = ['%s, %s: a limit of no row' % name for name in idle]
     for row, (found,) in zip(ours, counts.all_of(driver, jobs, ours, counts.SIZES[:1])):
         each, limit = found.instructions / found.bytes, most.get((row.corpus, row.work))
         if limit is None:
-            faults.append('%s, %s: no limit' % (row.corpus, row.work))
+            errors.append('%s, %s: no limit' % (row.corpus, row.work))
         elif each > limit:
             words = '%s, %s: %.3f instructions a byte, past its limit of %.3f'
-            faults.append(words % (row.corpus, row.work, each, limit))
-    print('\n'.join(faults + ['%d rows, %d faults' % (len(ours), len(faults))]))
-    return 1 if faults else 0
+            errors.append(words % (row.corpus, row.work, each, limit))
+    print('\n'.join(errors + ['%d rows, %d past their limit or without one' % (len(ours), len(errors))]))
+    return 1 if errors else 0
