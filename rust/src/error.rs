@@ -26,7 +26,6 @@ numbered! {
     9 => UnmatchedClose: "unmatched closing delimiter",
     /// An opening delimiter in a list: a group is no literal.
     13 => Group: "opening delimiter, and a group is no literal",
-    else => ErrorKind::NoLiteral,
 }
 
 /// What ends a list or a source, and the byte where it stands.

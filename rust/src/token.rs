@@ -27,7 +27,6 @@ numbered! {
     8 => Bool,
     /// A literal token of a list or a source that has no reading: `'\q'`, or an integer past 128 bits.
     9 => Verbatim,
-    else => unreachable!("the library has nine kinds"),
 }
 
 /// A text that reads as a literal, or a literal token that has no reading. Neither field changes, so the reading stays
@@ -45,19 +44,8 @@ impl<'t> Token<'t> {
         Some(Token { text, reading })
     }
 
-    /// A text whose reading the library told together with it.
+    /// A text whose reading the library returned together with it.
     pub(crate) fn found(text: Cow<'t, str>, reading: Reading) -> Token<'t> {
-        Token { text, reading }
-    }
-
-    /// A literal token without a reading: all of it is the body.
-    pub(crate) fn verbatim(text: Cow<'t, str>) -> Token<'t> {
-        let reading = Reading {
-            end: text.len(),
-            suffix_at: text.len(),
-            kind: 9,
-            ..Reading::default()
-        };
         Token { text, reading }
     }
 
@@ -108,6 +96,7 @@ impl<'t> Token<'t> {
     }
 
     pub(crate) fn char_value(&self) -> char {
-        ffi::char_value(&self.text, &self.reading)
+        let number = ffi::char_value(&self.text, &self.reading);
+        char::from_u32(number).expect("the library returns a character's number")
     }
 }
