@@ -5,7 +5,7 @@ use std::fmt;
 
 numbered! {
     /// Why a text is no list of literals, or no source.
-    #[derive(Clone, Copy, Debug, PartialEq, Eq)]
+    #[derive(Clone, Copy, Debug, PartialEq, Eq, Hash)]
     #[non_exhaustive]
     enum ErrorKind;
     /// No literal stands there: a word or a mark; after a minus, what reads as no number within 128 bits.

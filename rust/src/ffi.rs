@@ -3,7 +3,7 @@
 #![allow(unsafe_code)]
 
 use crate::exports::*;
-use crate::layout::{mismatch, Explanation, Next, Reading};
+use crate::layout::{mismatch, Explanation, Reading};
 use crate::step::Step;
 use crate::token::Kind;
 use crate::write::Value;
@@ -31,56 +31,50 @@ fn check_library() {
     });
 }
 
-/// A text as it crosses.
-fn crossing(text: &str) -> (*const u8, usize) {
-    check_library();
-    (text.as_ptr(), text.len())
-}
-
 /// The one reading of a text.
 pub(crate) fn find(text: &str) -> Option<Reading> {
-    let (at, len) = crossing(text);
+    check_library();
     // SAFETY: `utf8`: every `&str` is.
-    let (found, reading) = placed(|it| unsafe { rl_find(at, len, it) });
+    let (found, reading) = placed(|it| unsafe { rl_find(text.as_ptr(), text.len(), it) });
     found.then_some(reading)
 }
 
 /// Why a text has no reading; `None` where it has one.
 pub(crate) fn explain(text: &str) -> Option<Explanation> {
-    let (at, len) = crossing(text);
+    check_library();
     // SAFETY: `utf8`.
-    let (is_flawed, explanation) = placed(|it| unsafe { rl_explain(at, len, it) });
-    is_flawed.then_some(explanation)
+    let (found, flaw) = placed(|it| unsafe { rl_explain(text.as_ptr(), text.len(), it) });
+    found.then_some(flaw)
 }
 
 /// Whether the text is a strict token.
 pub(crate) fn is_token(text: &str) -> bool {
-    let (at, len) = crossing(text);
+    check_library();
     // SAFETY: `utf8`.
-    unsafe { rl_is_token(at, len) }
+    unsafe { rl_is_token(text.as_ptr(), text.len()) }
 }
 
 /// What begins a list.
 pub(crate) fn next(list: &str) -> Step {
-    let (at, len) = crossing(list);
+    check_library();
     // SAFETY: `utf8`.
-    let (status, next) = placed(|it| unsafe { rl_next(at, len, it) });
+    let (status, next) = placed(|it| unsafe { rl_next(list.as_ptr(), list.len(), it) });
     Step::of_list(status, next)
 }
 
 /// The byte where the tokens of a source begin.
 pub(crate) fn source_start(text: &str) -> usize {
-    let (at, len) = crossing(text);
+    check_library();
     // SAFETY: `utf8`.
-    unsafe { rl_source_start(at, len) }
+    unsafe { rl_source_start(text.as_ptr(), text.len()) }
 }
 
 /// The next literal of a source from a byte on.
-pub(crate) fn source_next(text: &str, from: usize) -> Step {
-    assert!(text.is_char_boundary(from));
-    let (at, len) = crossing(text);
+pub(crate) fn source_next(text: &str, at: usize) -> Step {
+    assert!(text.is_char_boundary(at));
+    check_library();
     // SAFETY: `utf8`; `place`: the first line.
-    let (status, next) = placed(|it| unsafe { rl_source_next(at, len, from, it) });
+    let (status, next) = placed(|it| unsafe { rl_source_next(text.as_ptr(), text.len(), at, it) });
     Step::of_source(status, next)
 }
 
@@ -122,9 +116,8 @@ pub(crate) fn contents(text: &str, reading: &Reading) -> Vec<u8> {
         kind => unreachable!("{kind:?} has no contents that are written"),
     };
     assert!(!reading.plain);
-    let (at, len) = crossing(text);
     // SAFETY: `utf8`; `read`: a `Token` holds a reading with its own text; it isn't plain; `room`: as long as the body.
-    let write = |out, room| unsafe { export(at, len, reading, out, room) };
+    let write = |out, room| unsafe { export(text.as_ptr(), text.len(), reading, out, room) };
     // SAFETY: what it requires.
     unsafe { filled(reading.end - reading.at, write) }
 }
