@@ -16,6 +16,7 @@ fn placed<T: Default, R>(export: impl FnOnce(&mut T) -> R) -> (R, T) {
 }
 
 /// Compares the library with what this package was written for, once, before anything else of it is called.
+#[inline]
 fn check_library() {
     static CHECKED: Once = Once::new();
     CHECKED.call_once(|| {
@@ -32,10 +33,12 @@ fn check_library() {
 }
 
 /// The one reading of a text.
+#[inline]
 pub(crate) fn find(text: &str) -> Option<Reading> {
     check_library();
+    let mut reading = Reading::default();
     // SAFETY: `utf8`: every `&str` is.
-    let (found, reading) = placed(|it| unsafe { rl_find(text.as_ptr(), text.len(), it) });
+    let found = unsafe { rl_find(text.as_ptr(), text.len(), &mut reading) };
     found.then_some(reading)
 }
 

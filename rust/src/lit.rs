@@ -19,6 +19,7 @@ macro_rules! kinds {
             }
 
             /// What stands after the literal proper; empty where nothing does.
+            #[inline]
             pub fn suffix(&self) -> &str {
                 self.0.suffix()
             }
@@ -55,6 +56,7 @@ kinds! {
 
 impl LitStr<'_> {
     /// The text that the literal stands for; borrowed where it has no escapes.
+    #[inline]
     pub fn value(&self) -> Cow<'_, str> {
         self.0.text_contents()
     }
@@ -199,6 +201,7 @@ impl<'t> Lit<'t> {
     /// # Errors
     ///
     /// The text is no literal, or an integer past 128 bits: why, and where.
+    #[inline]
     pub fn parse(text: &'t str) -> Result<Lit<'t>, ParseError> {
         match Token::read(Cow::Borrowed(text)) {
             Some(token) => Ok(Lit::of(token)),
@@ -211,6 +214,7 @@ impl<'t> Lit<'t> {
         self.token().kind()
     }
 
+    #[inline]
     pub(crate) fn of(token: Token<'t>) -> Lit<'t> {
         match token.kind() {
             Kind::Str => Lit::Str(LitStr(token)),
@@ -225,6 +229,7 @@ impl<'t> Lit<'t> {
         }
     }
 
+    #[inline]
     fn token(&self) -> &Token<'t> {
         match self {
             Lit::Str(l) => &l.0,
@@ -245,6 +250,7 @@ impl<'t> Lit<'t> {
     }
 
     /// What stands after the literal proper; empty where nothing does.
+    #[inline]
     pub fn suffix(&self) -> &str {
         self.token().suffix()
     }

@@ -19,6 +19,7 @@ macro_rules! numbered {
                 &[$(($number, stringify!($variant)),)+];
 
             /// The variant of this number in the library.
+            #[inline]
             pub(crate) fn of(number: u8) -> $name {
                 match number {
                     $($number => $name::$variant,)+

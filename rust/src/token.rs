@@ -39,6 +39,7 @@ pub(crate) struct Token<'t> {
 
 impl<'t> Token<'t> {
     /// The text, where it reads as a literal.
+    #[inline]
     pub(crate) fn read(text: Cow<'t, str>) -> Option<Token<'t>> {
         let reading = ffi::find(&text)?;
         Some(Token { text, reading })
@@ -49,6 +50,7 @@ impl<'t> Token<'t> {
         Token { text, reading }
     }
 
+    #[inline]
     pub(crate) fn kind(&self) -> Kind {
         Kind::of(self.reading.kind)
     }
@@ -58,10 +60,12 @@ impl<'t> Token<'t> {
     }
 
     /// What stands between the quotes; of a number, all before its suffix.
+    #[inline]
     fn body(&self) -> &str {
         &self.text[self.reading.at..self.reading.end]
     }
 
+    #[inline]
     pub(crate) fn suffix(&self) -> &str {
         &self.text[self.reading.suffix_at..]
     }
@@ -71,11 +75,13 @@ impl<'t> Token<'t> {
     }
 
     /// The body, where it is what the literal stands for.
+    #[inline]
     pub(crate) fn plain(&self) -> Option<&str> {
         self.reading.plain.then(|| self.body())
     }
 
     /// What a string stands for, or the digits of a float.
+    #[inline]
     pub(crate) fn text_contents(&self) -> Cow<'_, str> {
         match self.plain() {
             Some(body) => Cow::Borrowed(body),
