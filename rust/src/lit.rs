@@ -9,7 +9,7 @@ use std::str::FromStr;
 macro_rules! kinds {
     ($($(#[$doc:meta])* $name:ident)*) => {$(
         $(#[$doc])*
-        #[derive(Clone, Debug)]
+        #[derive(Clone, Debug, PartialEq, Eq, Hash)]
         pub struct $name<'t>(Token<'t>);
 
         impl $name<'_> {
@@ -162,7 +162,7 @@ impl LitVerbatim<'_> {
     }
 }
 
-/// A literal of any kind: what [`Lit::parse`] makes of a text.
+/// A literal of any kind: what [`Lit::parse`] makes of a text. Two are equal where their texts are.
 ///
 /// ```
 /// use navyspindle::{Kind, Lit};
@@ -173,7 +173,7 @@ impl LitVerbatim<'_> {
 /// assert_eq!(owned.text(), "'x'");
 /// # Ok::<(), navyspindle::ParseError>(())
 /// ```
-#[derive(Clone, Debug)]
+#[derive(Clone, Debug, PartialEq, Eq, Hash)]
 pub enum Lit<'t> {
     /// A string.
     Str(LitStr<'t>),

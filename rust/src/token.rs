@@ -4,6 +4,7 @@ use crate::ffi;
 use crate::layout::Reading;
 use crate::numbered::numbered;
 use std::borrow::Cow;
+use std::hash::{Hash, Hasher};
 
 numbered! {
     /// What a literal is.
@@ -35,6 +36,21 @@ numbered! {
 pub(crate) struct Token<'t> {
     text: Cow<'t, str>,
     reading: Reading,
+}
+
+/// By text, of which the reading is one.
+impl PartialEq for Token<'_> {
+    fn eq(&self, other: &Self) -> bool {
+        self.text == other.text
+    }
+}
+
+impl Eq for Token<'_> {}
+
+impl Hash for Token<'_> {
+    fn hash<H: Hasher>(&self, state: &mut H) {
+        self.text.hash(state);
+    }
 }
 
 impl<'t> Token<'t> {

@@ -113,6 +113,18 @@ fn each_error() {
 }
 
 #[test]
+fn equal_by_text() {
+    let found: HashSet<Lit> = literals("- /* a */ 1 -1 1 '\\q' true 1.0")
+        .chain(source("'\\q' 1 true"))
+        .map(|item| item.unwrap().1)
+        .collect();
+    let mut texts: Vec<_> = found.iter().map(Lit::text).collect();
+    texts.sort_unstable();
+    assert_eq!(texts, [r"'\q'", "-1", "1", "1.0", "true"]);
+    assert!(found.contains(&"-1".parse().unwrap()));
+}
+
+#[test]
 fn plain_bodies_are_borrowed() {
     let Lit::Str(literal) = Lit::parse("\"plain\"").unwrap() else {
         panic!()
