@@ -99,12 +99,12 @@ pub(crate) fn char_value(text: &str, reading: &Reading) -> u32 {
 ///
 /// # Safety
 ///
-/// `write` has written as many bytes as it returns: what the clauses `value`, `written` and `within` of the exports say.
+/// `write` writes as many bytes as it returns: `value` or `written`, and `within`, that an export ensures.
 unsafe fn filled(room: usize, write: impl FnOnce(*mut u8, usize) -> usize) -> Vec<u8> {
     let mut out = Vec::with_capacity(room);
     let len = write(out.as_mut_ptr(), room);
     assert!(len <= room);
-    // SAFETY: the caller sees to it.
+    // SAFETY: `value` or `written`: so many bytes are written, as the caller sees to; `within`: the line before.
     unsafe { out.set_len(len) };
     out
 }
@@ -121,14 +121,14 @@ pub(crate) fn contents(text: &str, reading: &Reading) -> Vec<u8> {
     assert!(!reading.plain);
     // SAFETY: `utf8`; `read`: a `Token` holds a reading with its own text; it isn't plain; `room`: as long as the body.
     let write = |out, room| unsafe { export(text.as_ptr(), text.len(), reading, out, room) };
-    // SAFETY: what it requires.
+    // SAFETY: `value` and `within`, that the four exports ensure.
     unsafe { filled(reading.end - reading.at, write) }
 }
 
 /// The same where it is a text: of a string, or of a float.
 pub(crate) fn text_contents(text: &str, reading: &Reading) -> String {
     assert!(matches!(Kind::of(reading.kind), Kind::Str | Kind::Float));
-    // SAFETY: the clause `utf8` that `rl_str_value` and `rl_float_digits` ensure.
+    // SAFETY: `utf8` of what is written, that `rl_str_value` and `rl_float_digits` ensure.
     unsafe { String::from_utf8_unchecked(contents(text, reading)) }
 }
 
@@ -145,6 +145,6 @@ pub(crate) fn written(value: Value<'_>) -> String {
             Value::Char(character) => rl_write_char(character.into(), out, room),
         }
     };
-    // SAFETY: what it requires; and the clause `utf8` that the exports ensure.
+    // SAFETY: `written` and `within`, and `utf8` of what is written, that the five exports ensure.
     unsafe { String::from_utf8_unchecked(filled(value.room(), write)) }
 }
