@@ -2,6 +2,7 @@
 
 use navyspindle::Lit;
 use std::error::Error;
+use std::process::ExitCode;
 use std::{env, fs};
 
 #[derive(Debug, Default)]
@@ -35,17 +36,28 @@ fn read(text: &str) -> Result<Config, Box<dyn Error>> {
     let mut config = Config::default();
     for (number, line) in text.lines().enumerate() {
         let (name, value) = line.split_once('=').ok_or("expected `NAME = LITERAL`")?;
-        let literal = Lit::parse(value.trim());
-        literal
+        let (name, value) = (name.trim(), value.trim());
+        Lit::parse(value)
             .map_err(Box::from)
-            .and_then(|literal| config.set(name.trim(), &literal))
-            .map_err(|error| format!("line {}: {}: {error}", number + 1, name.trim()))?;
+            .and_then(|literal| config.set(name, &literal))
+            .map_err(|error| format!("line {}: {name} = {value}: {error}", number + 1))?;
     }
     Ok(config)
 }
 
-fn main() -> Result<(), Box<dyn Error>> {
+/// The settings of the file that the command line names.
+fn config() -> Result<Config, Box<dyn Error>> {
     let name = env::args().nth(1).ok_or("usage: config FILE")?;
-    println!("{:?}", read(&fs::read_to_string(name)?)?);
-    Ok(())
+    read(&fs::read_to_string(name)?)
+}
+
+fn main() -> ExitCode {
+    match config() {
+        Ok(config) => println!("{config:?}"),
+        Err(error) => {
+            eprintln!("{error}");
+            return ExitCode::FAILURE;
+        }
+    }
+    ExitCode::SUCCESS
 }

@@ -1,4 +1,4 @@
-//! Answers lines as `rl_rows` does, under `text`, `value` and `strict`: a command and a text's bytes in hexadecimal. So
+//! Prints for each line, a command and a text's bytes in hexadecimal, what `rl_rows` does under `text`, `value` and `strict`. So
 //! `tools/compare` holds the package against what other programs say.
 
 use navyspindle::{is_token, write_byte, write_byte_str, write_char, write_str, Lit};
@@ -39,7 +39,11 @@ fn line_of(text: &str) -> String {
         Lit::Bool(truth) => truth.value().to_string(),
         Lit::Verbatim(literal) => write_str(literal.text()),
     };
-    format!("{:?} {contents} {}", literal.kind(), suffix_of(literal.suffix()))
+    format!(
+        "{:?} {contents} {}",
+        literal.kind(),
+        suffix_of(literal.suffix())
+    )
 }
 
 /// What is borrowed from a text as a literal, as a byte string; `None` where nothing is.
@@ -75,7 +79,7 @@ fn main() -> io::Result<()> {
     for line in io::stdin().lines() {
         let line = line?;
         let (command, digits) = line.split_once(' ').unwrap_or((&line, ""));
-        let answer = match decoded(digits).map(String::from_utf8) {
+        let printed = match decoded(digits).map(String::from_utf8) {
             None => "error: input is not hexadecimal".to_owned(),
             Some(Err(_)) => "error: input is not UTF-8".to_owned(),
             Some(Ok(text)) => match command {
@@ -85,7 +89,7 @@ fn main() -> io::Result<()> {
                 _ => "error: no command".to_owned(),
             },
         };
-        writeln!(out, "{answer}")?;
+        writeln!(out, "{printed}")?;
     }
     out.flush()
 }

@@ -5,7 +5,7 @@ use std::fmt;
 
 numbered! {
     /// Why a text is no list of literals, or no source.
-    #[derive(Clone, Copy, Debug, PartialEq, Eq)]
+    #[derive(Clone, Copy, Debug, PartialEq, Eq, Hash)]
     #[non_exhaustive]
     enum ErrorKind;
     /// No literal stands there: a word or a mark; after a minus, what reads as no number within 128 bits.
@@ -26,7 +26,6 @@ numbered! {
     9 => UnmatchedClose: "unmatched closing delimiter",
     /// An opening delimiter in a list: a group is no literal.
     13 => Group: "opening delimiter, and a group is no literal",
-    else => ErrorKind::NoLiteral,
 }
 
 /// What ends a list or a source, and the byte where it stands.

@@ -2,12 +2,8 @@
 
 use crate::layout::{Explanation, Layout, Next, Reading};
 
-/// An export that writes what a literal stands for.
-pub(crate) type Value = unsafe extern "C" fn(*const u8, usize, &Reading, *mut u8, usize) -> usize;
-/// An export that writes a value as a literal.
-pub(crate) type Write = unsafe extern "C" fn(*const u8, usize, *mut u8, usize) -> usize;
-
 extern "C" {
+    pub(crate) fn rl_version() -> usize;
     pub(crate) fn rl_layout(layout: &mut Layout);
     pub(crate) fn rl_probe(next: &mut Next, explanation: &mut Explanation);
     pub(crate) fn rl_find(text: *const u8, len: usize, reading: &mut Reading) -> bool;

@@ -3,42 +3,39 @@
 #![allow(unsafe_code)]
 
 use crate::exports::*;
-use crate::layout::{Explanation, Layout, Next, Reading, EXPLANATION_PROBE, LAYOUT, NEXT_PROBE};
+use crate::layout::{mismatch, Explanation, Reading};
+use crate::step::Step;
 use crate::token::Kind;
+use crate::write::Value;
 use std::sync::Once;
 
-/// Compares the structs that cross with the library's, once, before the first call that passes one.
-fn check_layout() {
+/// What an export returns, and what it writes into a place of this side.
+fn placed<T: Default, R>(export: impl FnOnce(&mut T) -> R) -> (R, T) {
+    let mut place = T::default();
+    (export(&mut place), place)
+}
+
+/// Compares the library with what this package was written for, once, before anything else of it is called.
+#[inline]
+fn check_library() {
     static CHECKED: Once = Once::new();
     CHECKED.call_once(|| {
-        let mut layout = Layout::default();
-        // SAFETY: `rl_layout` writes seven words into a struct of seven words; it requires nothing.
-        unsafe { rl_layout(&mut layout) };
-        assert_eq!(layout, LAYOUT, "librl_c.a is of another version");
-        let (mut next, mut explanation) = (Next::default(), Explanation::default());
-        // SAFETY: the library's structs are as large as ours, by the lines before; it requires nothing.
-        unsafe { rl_probe(&mut next, &mut explanation) };
-        assert_eq!(next, NEXT_PROBE, "librl_c.a has another layout");
-        assert_eq!(
-            explanation, EXPLANATION_PROBE,
-            "librl_c.a has another layout"
-        );
+        // SAFETY: `rl_version` requires nothing, and writes nothing, of whatever version it is.
+        let version = unsafe { rl_version() };
+        // SAFETY: it requires nothing; it is called where the version is ours, so it writes a `Layout`.
+        let layout = || placed(|it| unsafe { rl_layout(it) }).1;
+        // SAFETY: it requires nothing; it is called where the structs are as large as ours.
+        let probe = || placed(|(next, why)| unsafe { rl_probe(next, why) }).1;
+        if let Some(mismatch) = mismatch(version, layout, probe) {
+            panic!("librl_c.a {mismatch}");
+        }
     });
 }
 
-/// The bytes that are written into this much room, which isn't zeroed before.
-fn filled(room: usize, write: impl FnOnce(*mut u8, usize) -> usize) -> Vec<u8> {
-    let mut out = Vec::<u8>::with_capacity(room);
-    let len = write(out.spare_capacity_mut().as_mut_ptr().cast(), room);
-    assert!(len <= room);
-    // SAFETY: the first `len` bytes were written: clauses `value`, `written`, `within` of the exports below.
-    unsafe { out.set_len(len) };
-    out
-}
-
 /// The one reading of a text.
+#[inline]
 pub(crate) fn find(text: &str) -> Option<Reading> {
-    check_layout();
+    check_library();
     let mut reading = Reading::default();
     // SAFETY: `utf8`: every `&str` is.
     let found = unsafe { rl_find(text.as_ptr(), text.len(), &mut reading) };
@@ -47,40 +44,41 @@ pub(crate) fn find(text: &str) -> Option<Reading> {
 
 /// Why a text has no reading; `None` where it has one.
 pub(crate) fn explain(text: &str) -> Option<Explanation> {
-    check_layout();
-    let mut explanation = Explanation::default();
+    check_library();
     // SAFETY: `utf8`.
-    let is_flawed = unsafe { rl_explain(text.as_ptr(), text.len(), &mut explanation) };
-    is_flawed.then_some(explanation)
+    let (found, flaw) = placed(|it| unsafe { rl_explain(text.as_ptr(), text.len(), it) });
+    found.then_some(flaw)
 }
 
 /// Whether the text is a strict token.
 pub(crate) fn is_token(text: &str) -> bool {
+    check_library();
     // SAFETY: `utf8`.
     unsafe { rl_is_token(text.as_ptr(), text.len()) }
 }
 
-/// What a string, a byte string or a C string stands for, or the digits of a float, where the body isn't it.
-pub(crate) fn contents(text: &str, reading: &Reading) -> Vec<u8> {
-    let export: Value = match Kind::of(reading.kind) {
-        Kind::Str => rl_str_value,
-        Kind::ByteStr => rl_byte_str_value,
-        Kind::CStr => rl_c_str_value,
-        Kind::Float => rl_float_digits,
-        kind => unreachable!("{kind:?} has no contents that are written"),
-    };
-    assert!(!reading.plain);
-    // SAFETY: `utf8`; `read`: a `Token` holds a reading with its own text; it isn't plain; `room`: as long as the body.
-    filled(reading.end - reading.at, |out, room| unsafe {
-        export(text.as_ptr(), text.len(), reading, out, room)
-    })
+/// What begins a list.
+pub(crate) fn next(list: &str) -> Step {
+    check_library();
+    // SAFETY: `utf8`.
+    let (status, next) = placed(|it| unsafe { rl_next(list.as_ptr(), list.len(), it) });
+    Step::of_list(status, next)
 }
 
-/// The same where it is a text: of a string, or of a float.
-pub(crate) fn text_contents(text: &str, reading: &Reading) -> String {
-    assert!(matches!(Kind::of(reading.kind), Kind::Str | Kind::Float));
-    // SAFETY: the clause `utf8` that `rl_str_value` and `rl_float_digits` ensure.
-    unsafe { String::from_utf8_unchecked(contents(text, reading)) }
+/// The byte where the tokens of a source begin.
+pub(crate) fn source_start(text: &str) -> usize {
+    check_library();
+    // SAFETY: `utf8`.
+    unsafe { rl_source_start(text.as_ptr(), text.len()) }
+}
+
+/// The next literal of a source from a byte on.
+pub(crate) fn source_next(text: &str, at: usize) -> Step {
+    assert!(text.is_char_boundary(at));
+    check_library();
+    // SAFETY: `utf8`; `place`: the first line.
+    let (status, next) = placed(|it| unsafe { rl_source_next(text.as_ptr(), text.len(), at, it) });
+    Step::of_source(status, next)
 }
 
 /// The byte that a byte literal stands for.
@@ -90,75 +88,63 @@ pub(crate) fn byte_value(text: &str, reading: &Reading) -> u8 {
     unsafe { rl_byte_value(text.as_ptr(), text.len(), reading) }
 }
 
-/// The character that a character literal stands for.
-pub(crate) fn char_value(text: &str, reading: &Reading) -> char {
+/// The number of the character that a character literal stands for.
+pub(crate) fn char_value(text: &str, reading: &Reading) -> u32 {
     assert!(Kind::of(reading.kind) == Kind::Char);
     // SAFETY: `utf8`; `read`, as for a byte.
-    let code = unsafe { rl_char_value(text.as_ptr(), text.len(), reading) };
-    char::from_u32(code).expect("the export returns a character's number")
+    unsafe { rl_char_value(text.as_ptr(), text.len(), reading) }
 }
 
-/// What begins a list: the export's status, and the literal or the place of the error.
-pub(crate) fn next(list: &str) -> (u8, Next) {
-    check_layout();
-    let mut next = Next::default();
-    // SAFETY: `utf8`.
-    let status = unsafe { rl_next(list.as_ptr(), list.len(), &mut next) };
-    (status, next)
+/// The bytes that are written into this much room, which isn't zeroed before.
+///
+/// # Safety
+///
+/// `write` writes as many bytes as it returns: `value` or `written`, and `within`, that an export ensures.
+unsafe fn filled(room: usize, write: impl FnOnce(*mut u8, usize) -> usize) -> Vec<u8> {
+    let mut out = Vec::with_capacity(room);
+    let len = write(out.as_mut_ptr(), room);
+    assert!(len <= room);
+    // SAFETY: `value` or `written`: so many bytes are written, as the caller sees to; `within`: the line before.
+    unsafe { out.set_len(len) };
+    out
 }
 
-/// The byte where the tokens of a source begin.
-pub(crate) fn source_start(text: &str) -> usize {
-    // SAFETY: `utf8`.
-    unsafe { rl_source_start(text.as_ptr(), text.len()) }
+/// What a string, a byte string or a C string stands for, or the digits of a float, where the body isn't it.
+pub(crate) fn contents(text: &str, reading: &Reading) -> Vec<u8> {
+    let export = match Kind::of(reading.kind) {
+        Kind::Str => rl_str_value,
+        Kind::ByteStr => rl_byte_str_value,
+        Kind::CStr => rl_c_str_value,
+        Kind::Float => rl_float_digits,
+        kind => unreachable!("{kind:?} has no contents that are written"),
+    };
+    assert!(!reading.plain);
+    // SAFETY: `utf8`; `read`: a `Token` holds a reading with its own text; it isn't plain; `room`: as long as the body.
+    let write = |out, room| unsafe { export(text.as_ptr(), text.len(), reading, out, room) };
+    // SAFETY: `value` and `within`, that the four exports ensure.
+    unsafe { filled(reading.end - reading.at, write) }
 }
 
-/// The next literal of a source from a byte on: the export's status, and the literal or the place of the error.
-pub(crate) fn source_next(text: &str, at: usize) -> (u8, Next) {
-    check_layout();
-    assert!(text.is_char_boundary(at));
-    let mut next = Next::default();
-    // SAFETY: `utf8`; `place`: the line before.
-    let status = unsafe { rl_source_next(text.as_ptr(), text.len(), at, &mut next) };
-    (status, next)
+/// The same where it is a text: of a string, or of a float.
+pub(crate) fn text_contents(text: &str, reading: &Reading) -> String {
+    assert!(matches!(Kind::of(reading.kind), Kind::Str | Kind::Float));
+    // SAFETY: `utf8` of what is written, that `rl_str_value` and `rl_float_digits` ensure.
+    unsafe { String::from_utf8_unchecked(contents(text, reading)) }
 }
 
-/// The literal that stands for the value; UTF-8 of a string, no zero in a C string are the caller's to see to.
-fn written(export: Write, value: &[u8]) -> String {
-    let room = value
-        .len()
-        .checked_mul(4)
-        .and_then(|len| len.checked_add(3));
-    // SAFETY: `utf8` and `no_zero` by the callers below; `room`: four bytes for each, and three.
-    let text = filled(room.expect("a literal's length"), |out, room| unsafe {
-        export(value.as_ptr(), value.len(), out, room)
-    });
-    // SAFETY: the clause `utf8` that the exports ensure.
-    unsafe { String::from_utf8_unchecked(text) }
-}
-
-pub(crate) fn write_str(value: &str) -> String {
-    written(rl_write_str, value.as_bytes())
-}
-
-pub(crate) fn write_byte_str(value: &[u8]) -> String {
-    written(rl_write_byte_str, value)
-}
-
-pub(crate) fn write_c_str(value: &std::ffi::CStr) -> String {
-    written(rl_write_c_str, value.to_bytes())
-}
-
-pub(crate) fn write_byte(value: u8) -> String {
-    // SAFETY: `room`: seven bytes; then the clause `utf8` that the export ensures.
-    unsafe { String::from_utf8_unchecked(filled(7, |out, room| rl_write_byte(value, out, room))) }
-}
-
-pub(crate) fn write_char(value: char) -> String {
-    // SAFETY: `character`: a `char`'s number; `room`: seven bytes; then the clause `utf8` that the export ensures.
-    unsafe {
-        String::from_utf8_unchecked(filled(7, |out, room| {
-            rl_write_char(value.into(), out, room)
-        }))
-    }
+/// The literal that stands for the value.
+pub(crate) fn written(value: Value<'_>) -> String {
+    check_library();
+    // SAFETY: `utf8` of a `&str`; `no_zero` of a `CStr` without its end; `character` of a `char`; `room`: `value.room()`.
+    let write = |out, room| unsafe {
+        match value {
+            Value::Str(text) => rl_write_str(text.as_ptr(), text.len(), out, room),
+            Value::ByteStr(bytes) => rl_write_byte_str(bytes.as_ptr(), bytes.len(), out, room),
+            Value::CStr(it) => rl_write_c_str(it.as_ptr().cast(), it.to_bytes().len(), out, room),
+            Value::Byte(byte) => rl_write_byte(byte, out, room),
+            Value::Char(character) => rl_write_char(character.into(), out, room),
+        }
+    };
+    // SAFETY: `written` and `within`, and `utf8` of what is written, that the five exports ensure.
+    unsafe { String::from_utf8_unchecked(filled(value.room(), write)) }
 }

@@ -60,7 +60,6 @@ numbered! {
     24 => BadSuffix: "not part of a number or its suffix",
     /// The integer is past 128 bits.
     25 => TooLarge: "integer past 128 bits",
-    else => unreachable!("the library has 25 kinds of flaws"),
 }
 
 /// Why a text is no literal, and where, in bytes of the text.

@@ -37,11 +37,13 @@ pub(crate) struct Explanation {
     pub(crate) kind: u8,
 }
 
-/// The version, sizes and alignments: `Layout` of `crates/rl_c/src/layout.rt`.
+/// The version of the library that this package was written for: `VERSION` of `crates/rl_c/src/layout.rt`.
+pub(crate) const VERSION: usize = 4;
+
+/// The sizes and alignments: `Layout` of `crates/rl_c/src/layout.rt`.
 #[repr(C)]
 #[derive(Clone, Copy, Debug, Default, PartialEq, Eq)]
 pub(crate) struct Layout {
-    version: usize,
     reading_size: usize,
     reading_align: usize,
     next_size: usize,
@@ -50,9 +52,8 @@ pub(crate) struct Layout {
     explanation_align: usize,
 }
 
-/// The layout that this package was written for.
-pub(crate) const LAYOUT: Layout = Layout {
-    version: 3,
+/// The sizes and alignments of this side.
+const LAYOUT: Layout = Layout {
     reading_size: size_of::<Reading>(),
     reading_align: align_of::<Reading>(),
     next_size: size_of::<Next>(),
@@ -62,7 +63,7 @@ pub(crate) const LAYOUT: Layout = Layout {
 };
 
 /// What `rl_probe` puts into the fields of a `Next`.
-pub(crate) const NEXT_PROBE: Next = Next {
+const NEXT_PROBE: Next = Next {
     reading: Reading {
         at: 1,
         end: 2,
@@ -80,12 +81,33 @@ pub(crate) const NEXT_PROBE: Next = Next {
 };
 
 /// What it puts into those of an `Explanation`.
-pub(crate) const EXPLANATION_PROBE: Explanation = Explanation {
+const EXPLANATION_PROBE: Explanation = Explanation {
     from: 1,
     lo: 2,
     hi: 3,
     kind: 4,
 };
+
+/// Why the library can't be called.
+///
+/// Its sizes are asked for only where the version is this package's, and what it writes only where the sizes are: of
+/// another version it might write more than there is room for.
+pub(crate) fn mismatch(
+    version: usize,
+    layout: impl FnOnce() -> Layout,
+    probe: impl FnOnce() -> (Next, Explanation),
+) -> Option<String> {
+    if version != VERSION {
+        return Some(format!("is of version {version}, and not {VERSION}"));
+    }
+    let layout = layout();
+    if layout != LAYOUT {
+        return Some(format!("has structs of other sizes: {layout:?}"));
+    }
+    let written = probe();
+    (written != (NEXT_PROBE, EXPLANATION_PROBE))
+        .then(|| format!("has structs of another layout: {written:?}"))
+}
 
 const _: () = assert!(size_of::<usize>() == 8, "the library has 64-bit places");
 const _: () = assert!(size_of::<Reading>() == 48 && align_of::<Reading>() == 8);
@@ -100,3 +122,46 @@ const _: () = assert!(offset_of!(Next, negative) == 80);
 const _: () = assert!(size_of::<Explanation>() == 32 && align_of::<Explanation>() == 8);
 const _: () = assert!(offset_of!(Explanation, from) == 0 && offset_of!(Explanation, lo) == 8);
 const _: () = assert!(offset_of!(Explanation, hi) == 16 && offset_of!(Explanation, kind) == 24);
+
+#[cfg(test)]
+mod tests {
+    use super::*;
+
+    #[test]
+    fn another_version_is_asked_nothing() {
+        for version in [0, VERSION - 1, VERSION + 1, usize::MAX] {
+            let found = mismatch(version, || unreachable!(), || unreachable!());
+            assert_eq!(
+                found,
+                Some(format!("is of version {version}, and not {VERSION}"))
+            );
+        }
+    }
+
+    #[test]
+    fn other_sizes_are_not_written_to() {
+        let layout = Layout {
+            next_size: LAYOUT.next_size + 8,
+            ..LAYOUT
+        };
+        let found = mismatch(VERSION, || layout, || unreachable!()).expect("a mismatch");
+        assert!(found.starts_with("has structs of other sizes"), "{found}");
+    }
+
+    #[test]
+    fn fields_are_compared() {
+        let probe = (NEXT_PROBE, EXPLANATION_PROBE);
+        assert_eq!(mismatch(VERSION, || LAYOUT, || probe), None);
+        let mut swapped = probe;
+        std::mem::swap(&mut swapped.0.lo, &mut swapped.0.hi);
+        let mut moved = probe;
+        moved.1.kind = 0;
+        for other in [swapped, moved] {
+            let found = mismatch(VERSION, || LAYOUT, || other).expect("a mismatch");
+            assert!(
+                found.starts_with("has structs of another layout"),
+                "{found}"
+            );
+        }
+    }
+}

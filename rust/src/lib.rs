@@ -1,6 +1,6 @@
 //! Reads Rust's literals by proved code.
 //!
-//! What a text stands for is told by a static library whose functions are proved against a written
+//! What a text stands for is returned by a static library whose functions are proved against a written
 //! grammar (`crates/rl_c`); this package passes it texts and room, and gives the results types. Places are byte offsets.
 //!
 //! ```
@@ -27,6 +27,7 @@ mod list;
 mod lit;
 mod numbered;
 mod source;
+mod step;
 mod token;
 mod write;
 

@@ -1,8 +1,10 @@
 //! Lists of literals.
 
-use crate::error::{ErrorKind, ListError};
+use crate::error::ListError;
 use crate::ffi;
+use crate::layout::Next;
 use crate::lit::Lit;
+use crate::step::Step;
 use crate::token::Token;
 use std::borrow::Cow;
 use std::iter::FusedIterator;
@@ -48,23 +50,10 @@ pub fn literals(text: &str) -> Literals<'_> {
     }
 }
 
-impl<'t> Iterator for Literals<'t> {
-    type Item = Result<(Range<usize>, Lit<'t>), ListError>;
-
-    fn next(&mut self) -> Option<Self::Item> {
-        if self.is_done {
-            return None;
-        }
+impl<'t> Literals<'t> {
+    /// The literal that begins what is left, which then begins after it.
+    fn take(&mut self, next: Next) -> (Range<usize>, Lit<'t>) {
         let rest = &self.text[self.at..];
-        let (status, next) = ffi::next(rest);
-        if status != 1 {
-            self.is_done = true;
-            let error = ListError {
-                kind: ErrorKind::of(status),
-                at: self.at + next.lo,
-            };
-            return (status != 0).then_some(Err(error));
-        }
         let text = if next.negative && next.minus_at + 1 != next.lo {
             Cow::Owned(format!("-{}", &rest[next.lo..next.hi]))
         } else {
@@ -72,7 +61,27 @@ impl<'t> Iterator for Literals<'t> {
         };
         let range = self.at + next.minus_at..self.at + next.hi;
         self.at += next.rest_at;
-        Some(Ok((range, Lit::of(Token::found(text, next.reading)))))
+        (range, Lit::of(Token::found(text, next.reading)))
+    }
+}
+
+impl<'t> Iterator for Literals<'t> {
+    type Item = Result<(Range<usize>, Lit<'t>), ListError>;
+
+    fn next(&mut self) -> Option<Self::Item> {
+        if self.is_done {
+            return None;
+        }
+        match ffi::next(&self.text[self.at..]) {
+            Step::Literal(next) => return Some(Ok(self.take(next))),
+            Step::End => self.is_done = true,
+            Step::Error(error) => {
+                self.is_done = true;
+                let at = self.at + error.at;
+                return Some(Err(ListError { at, ..error }));
+            }
+        }
+        None
     }
 }
 

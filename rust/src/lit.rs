@@ -9,7 +9,7 @@ use std::str::FromStr;
 macro_rules! kinds {
     ($($(#[$doc:meta])* $name:ident)*) => {$(
         $(#[$doc])*
-        #[derive(Clone, Debug)]
+        #[derive(Clone, Debug, PartialEq, Eq, Hash)]
         pub struct $name<'t>(Token<'t>);
 
         impl $name<'_> {
@@ -19,6 +19,7 @@ macro_rules! kinds {
             }
 
             /// What stands after the literal proper; empty where nothing does.
+            #[inline]
             pub fn suffix(&self) -> &str {
                 self.0.suffix()
             }
@@ -55,6 +56,7 @@ kinds! {
 
 impl LitStr<'_> {
     /// The text that the literal stands for; borrowed where it has no escapes.
+    #[inline]
     pub fn value(&self) -> Cow<'_, str> {
         self.0.text_contents()
     }
@@ -160,7 +162,7 @@ impl LitVerbatim<'_> {
     }
 }
 
-/// A literal of any kind: what [`Lit::parse`] makes of a text.
+/// A literal of any kind: what [`Lit::parse`] makes of a text. Two are equal where their texts are.
 ///
 /// ```
 /// use navyspindle::{Kind, Lit};
@@ -171,7 +173,7 @@ impl LitVerbatim<'_> {
 /// assert_eq!(owned.text(), "'x'");
 /// # Ok::<(), navyspindle::ParseError>(())
 /// ```
-#[derive(Clone, Debug)]
+#[derive(Clone, Debug, PartialEq, Eq, Hash)]
 pub enum Lit<'t> {
     /// A string.
     Str(LitStr<'t>),
@@ -199,6 +201,7 @@ impl<'t> Lit<'t> {
     /// # Errors
     ///
     /// The text is no literal, or an integer past 128 bits: why, and where.
+    #[inline]
     pub fn parse(text: &'t str) -> Result<Lit<'t>, ParseError> {
         match Token::read(Cow::Borrowed(text)) {
             Some(token) => Ok(Lit::of(token)),
@@ -211,6 +214,7 @@ impl<'t> Lit<'t> {
         self.token().kind()
     }
 
+    #[inline]
     pub(crate) fn of(token: Token<'t>) -> Lit<'t> {
         match token.kind() {
             Kind::Str => Lit::Str(LitStr(token)),
@@ -225,6 +229,7 @@ impl<'t> Lit<'t> {
         }
     }
 
+    #[inline]
     fn token(&self) -> &Token<'t> {
         match self {
             Lit::Str(l) => &l.0,
@@ -245,6 +250,7 @@ impl<'t> Lit<'t> {
     }
 
     /// What stands after the literal proper; empty where nothing does.
+    #[inline]
     pub fn suffix(&self) -> &str {
         self.token().suffix()
     }

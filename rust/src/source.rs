@@ -1,8 +1,10 @@
 //! The literals of whole sources.
 
-use crate::error::{ErrorKind, ListError};
+use crate::error::ListError;
 use crate::ffi;
+use crate::layout::Next;
 use crate::lit::Lit;
+use crate::step::Step;
 use crate::token::Token;
 use std::borrow::Cow;
 use std::iter::FusedIterator;
@@ -40,6 +42,16 @@ pub fn source(text: &str) -> Source<'_> {
     }
 }
 
+impl<'t> Source<'t> {
+    /// The next literal, after which is gone on.
+    fn take(&mut self, next: Next) -> (Range<usize>, Lit<'t>) {
+        self.at = next.rest_at;
+        let range = next.lo..next.hi;
+        let text = Cow::Borrowed(&self.text[range.clone()]);
+        (range, Lit::of(Token::found(text, next.reading)))
+    }
+}
+
 impl<'t> Iterator for Source<'t> {
     type Item = Result<(Range<usize>, Lit<'t>), ListError>;
 
@@ -47,19 +59,15 @@ impl<'t> Iterator for Source<'t> {
         if self.is_done {
             return None;
         }
-        let (status, next) = ffi::source_next(self.text, self.at);
-        if !matches!(status, 1 | 2) {
-            self.is_done = true;
-            let (kind, at) = (ErrorKind::of(status), next.lo);
-            return (status != 0).then_some(Err(ListError { kind, at }));
+        match ffi::source_next(self.text, self.at) {
+            Step::Literal(next) => return Some(Ok(self.take(next))),
+            Step::End => self.is_done = true,
+            Step::Error(error) => {
+                self.is_done = true;
+                return Some(Err(error));
+            }
         }
-        self.at = next.rest_at;
-        let text = Cow::Borrowed(&self.text[next.lo..next.hi]);
-        let token = match status {
-            1 => Token::found(text, next.reading),
-            _ => Token::verbatim(text),
-        };
-        Some(Ok((next.lo..next.hi, Lit::of(token))))
+        None
     }
 }
 

@@ -4,6 +4,7 @@ use crate::ffi;
 use crate::layout::Reading;
 use crate::numbered::numbered;
 use std::borrow::Cow;
+use std::hash::{Hash, Hasher};
 
 numbered! {
     /// What a literal is.
@@ -27,7 +28,6 @@ numbered! {
     8 => Bool,
     /// A literal token of a list or a source that has no reading: `'\q'`, or an integer past 128 bits.
     9 => Verbatim,
-    else => unreachable!("the library has nine kinds"),
 }
 
 /// A text that reads as a literal, or a literal token that has no reading. Neither field changes, so the reading stays
@@ -38,29 +38,35 @@ pub(crate) struct Token<'t> {
     reading: Reading,
 }
 
+/// By text, of which the reading is one.
+impl PartialEq for Token<'_> {
+    fn eq(&self, other: &Self) -> bool {
+        self.text == other.text
+    }
+}
+
+impl Eq for Token<'_> {}
+
+impl Hash for Token<'_> {
+    fn hash<H: Hasher>(&self, state: &mut H) {
+        self.text.hash(state);
+    }
+}
+
 impl<'t> Token<'t> {
     /// The text, where it reads as a literal.
+    #[inline]
     pub(crate) fn read(text: Cow<'t, str>) -> Option<Token<'t>> {
         let reading = ffi::find(&text)?;
         Some(Token { text, reading })
     }
 
-    /// A text whose reading the library told together with it.
+    /// A text whose reading the library returned together with it.
     pub(crate) fn found(text: Cow<'t, str>, reading: Reading) -> Token<'t> {
         Token { text, reading }
     }
 
-    /// A literal token without a reading: all of it is the body.
-    pub(crate) fn verbatim(text: Cow<'t, str>) -> Token<'t> {
-        let reading = Reading {
-            end: text.len(),
-            suffix_at: text.len(),
-            kind: 9,
-            ..Reading::default()
-        };
-        Token { text, reading }
-    }
-
+    #[inline]
     pub(crate) fn kind(&self) -> Kind {
         Kind::of(self.reading.kind)
     }
@@ -70,10 +76,12 @@ impl<'t> Token<'t> {
     }
 
     /// What stands between the quotes; of a number, all before its suffix.
+    #[inline]
     fn body(&self) -> &str {
         &self.text[self.reading.at..self.reading.end]
     }
 
+    #[inline]
     pub(crate) fn suffix(&self) -> &str {
         &self.text[self.reading.suffix_at..]
     }
@@ -83,11 +91,13 @@ impl<'t> Token<'t> {
     }
 
     /// The body, where it is what the literal stands for.
+    #[inline]
     pub(crate) fn plain(&self) -> Option<&str> {
         self.reading.plain.then(|| self.body())
     }
 
     /// What a string stands for, or the digits of a float.
+    #[inline]
     pub(crate) fn text_contents(&self) -> Cow<'_, str> {
         match self.plain() {
             Some(body) => Cow::Borrowed(body),
@@ -108,6 +118,7 @@ impl<'t> Token<'t> {
     }
 
     pub(crate) fn char_value(&self) -> char {
-        ffi::char_value(&self.text, &self.reading)
+        let number = ffi::char_value(&self.text, &self.reading);
+        char::from_u32(number).expect("the library returns a character's number")
     }
 }

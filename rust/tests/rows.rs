@@ -2,6 +2,7 @@
 
 use navyspindle::{is_token, literals, source, write_str, ErrorKind, Kind, Lit};
 use std::borrow::Cow;
+use std::collections::HashSet;
 
 fn text_of(text: &str) -> Option<String> {
     Some(match Lit::parse(text).ok()? {
@@ -58,7 +59,73 @@ fn one_literal() {
 }
 
 #[test]
-fn plain_bodies_are_lent() {
+fn each_kind() {
+    let rows = [
+        (r#""a""#, Kind::Str),
+        (r#"b"a""#, Kind::ByteStr),
+        (r#"c"a""#, Kind::CStr),
+        ("b'a'", Kind::Byte),
+        ("'a'", Kind::Char),
+        ("1", Kind::Int),
+        ("1.5", Kind::Float),
+        ("true", Kind::Bool),
+        (r"'\q'", Kind::Verbatim),
+    ];
+    for (text, kind) in rows {
+        let alone = Lit::parse(text).ok().map(|literal| literal.kind());
+        assert_eq!(
+            alone,
+            Some(kind).filter(|it| *it != Kind::Verbatim),
+            "{text}"
+        );
+        for item in literals(text).chain(source(text)) {
+            let (range, literal) = item.unwrap();
+            assert_eq!((range, literal.kind()), (0..text.len(), kind), "{text}");
+            assert_eq!((literal.text(), literal.suffix()), (text, ""));
+        }
+        assert_eq!((literals(text).count(), source(text).count()), (1, 1));
+    }
+    assert_eq!(HashSet::from(rows.map(|row| row.1)).len(), 9);
+}
+
+#[test]
+fn each_error() {
+    let rows = [
+        ("word", ErrorKind::NoLiteral),
+        ("/// d", ErrorKind::DocComment),
+        ("/* ", ErrorKind::UnclosedComment),
+        ("\"a", ErrorKind::UnclosedQuote),
+        ("'a", ErrorKind::Lifetime),
+        ("r#a", ErrorKind::RawIdentifier),
+        ("\u{0}", ErrorKind::StrayCharacter),
+        (")", ErrorKind::UnmatchedClose),
+        ("(", ErrorKind::Group),
+    ];
+    for (text, kind) in rows {
+        let text = format!("1 {text}");
+        let error = literals(&text).nth(1).unwrap().unwrap_err();
+        assert_eq!((error.kind(), error.at()), (kind, 2), "{text}");
+        let in_source = source(&text).find_map(Result::err);
+        let stays = matches!(kind, ErrorKind::UnclosedComment | ErrorKind::UnclosedQuote);
+        assert_eq!(in_source, stays.then_some(error), "{text}");
+    }
+    assert_eq!(HashSet::from(rows.map(|row| row.1)).len(), 9);
+}
+
+#[test]
+fn equal_by_text() {
+    let found: HashSet<Lit> = literals("- /* a */ 1 -1 1 '\\q' true 1.0")
+        .chain(source("'\\q' 1 true"))
+        .map(|item| item.unwrap().1)
+        .collect();
+    let mut texts: Vec<_> = found.iter().map(Lit::text).collect();
+    texts.sort_unstable();
+    assert_eq!(texts, [r"'\q'", "-1", "1", "1.0", "true"]);
+    assert!(found.contains(&"-1".parse().unwrap()));
+}
+
+#[test]
+fn plain_bodies_are_borrowed() {
     let Lit::Str(literal) = Lit::parse("\"plain\"").unwrap() else {
         panic!()
     };

@@ -59,10 +59,10 @@ place_of : (file lo hi : ℕ) (l : ListLiteral) (span : Span) → span ≡ recor
 place_of file lo hi l span p q =
     (ap (λ (s : Span). s.lo) (sym p ∙ q), ap (λ (s : Span). s.hi) (sym p ∙ q))
 
--- a word or a number after a minus that reads is told by its reading
-told : (text : List ℕ) (reading : Reading) → HasReading (chars text) → ReportsLiteral text reading → ReportsReading text reading
-told text reading reads (inl found) = found
-told text reading (kind, (contents, suffix, reads)) (inr none) = absurd (none.none kind contents suffix reads)
+-- of a word or a number after a minus that reads its reading is reported
+its_reading : (text : List ℕ) (reading : Reading) → HasReading (chars text) → ReportsLiteral text reading → ReportsReading text reading
+its_reading text reading reads (inl found) = found
+its_reading text reading (kind, (contents, suffix, reads)) (inr none) = absurd (none.none kind contents suffix reads)
 
 -- The tokens begin with those of the literal, and the others are those of the other trees.
 record Begun (file : ℕ) (cuts : List LexedToken) (l : ListLiteral) (rest : List Tree) : Type 0 where
@@ -74,10 +74,10 @@ record Begun (file : ℕ) (cuts : List LexedToken) (l : ListLiteral) (rest : Lis
   pub flat_is : map (flat_token file) more ≡ flat_trees rest
 
 begun_one : (file at : ℕ) (t : List ℕ) (w : LexedToken) (ws : List LexedToken) (l : ListLiteral) (token : SpannedText) (trees rest : List Tree) → LexesUpTo at t (w ∷ ws) [] → map (flat_token file) ws ≡ flat_trees trees → token_of file w ≡ token → rest ≡ trees → token.span ≡ record { file = file; lo = l.lo; hi = l.hi } → ReportsToken (form_of w.lexeme) (text_of w) l.reading → Begun file (w ∷ ws) l rest
-begun_one file at t w ws l token trees rest (after, _, _, _, cut) tail same left span tells =
+begun_one file at t w ws l token trees rest (after, _, _, _, cut) tail same left span reported =
     let place = place_of file w.at (end_of w) l token.span span (sym (ap (λ (x : SpannedText). x.span) same)) in record {
       more = ws;
-      begins = inl (record { token = w; cuts_are = refl; tells = tells; lo_is = place.0; hi_is = place.1 });
+      begins = inl (record { token = w; cuts_are = refl; reported = reported; lo_is = place.0; hi_is = place.1 });
       at = end_of w;
       text = after;
       cut = cut;
@@ -85,7 +85,7 @@ begun_one file at t w ws l token trees rest (after, _, _, _, cut) tail same left
     }
 
 begun_two : (file at : ℕ) (t : List ℕ) (w v : LexedToken) (ws : List LexedToken) (l : ListLiteral) (m : Mark) (x : SpannedText) (trees rest : List Tree) → LexesUpTo at t (w ∷ v ∷ ws) [] → map (flat_token file) ws ≡ flat_trees trees → form_of w.lexeme ≡ MarkForm 45 → span_of file w ≡ m.span → form_of v.lexeme ≡ LiteralForm → token_of file v ≡ x → rest ≡ trees → joined_span m.span x.span ≡ record { file = file; lo = l.lo; hi = l.hi } → ReportsReading (45 ∷ x.text) l.reading → Begun file (w ∷ v ∷ ws) l rest
-begun_two file at t w v ws l m x trees rest (after, _, _, _, number) tail is_minus mark is_number same left span tells =
+begun_two file at t w v ws l m x trees rest (after, _, _, _, number) tail is_minus mark is_number same left span reported =
     let (following, gap, _, here, cut) = number in
     let later : end_of w ≤ v.at = omega (arith, here, no_longer after (lexeme_text v.lexeme ++ following) gap) in
     let both : joined_span m.span x.span ≡ record { file = file; lo = w.at; hi = end_of v } =
@@ -98,7 +98,7 @@ begun_two file at t w v ws l m x trees rest (after, _, _, _, number) tail is_min
         cuts_are = refl;
         is_minus = is_minus;
         is_number = is_number;
-        tells = subst (λ (z : SpannedText). ReportsReading (45 ∷ z.text) l.reading) (sym same) tells;
+        reported = subst (λ (z : SpannedText). ReportsReading (45 ∷ z.text) l.reading) (sym same) reported;
         lo_is = place.0;
         hi_is = place.1;
       });
@@ -109,43 +109,43 @@ begun_two file at t w v ws l m x trees rest (after, _, _, _, number) tail is_min
     }
 
 begun : (file at : ℕ) (t : List ℕ) (cuts : List LexedToken) (l : ListLiteral) (trees : List Tree) (token : SpannedText) (rest : List Tree) → LexesUpTo at t cuts [] → map (flat_token file) cuts ≡ flat_trees trees → IsFront trees token rest → token.span ≡ record { file = file; lo = l.lo; hi = l.hi } → ReportsLiteral token.text l.reading → Begun file cuts l rest
-begun file at t cuts l [] token rest cut e front span tells = absurd front
-begun file at t [] l (LiteralTree x ∷ trees) token rest cut e front span tells = absurd (no_head (FlatLiteral x) (flat_trees trees) e)
-begun file at t (w ∷ ws) l (LiteralTree x ∷ trees) token rest cut e (is, left) span tells =
+begun file at t cuts l [] token rest cut e front span reported = absurd front
+begun file at t [] l (LiteralTree x ∷ trees) token rest cut e front span reported = absurd (no_head (FlatLiteral x) (flat_trees trees) e)
+begun file at t (w ∷ ws) l (LiteralTree x ∷ trees) token rest cut e (is, left) span reported =
     let h = heads (flat_token file w) (FlatLiteral x) (map (flat_token file) ws) (flat_trees trees) e in
     let f = literal_form (form_of w.lexeme) (text_of w) (span_of file w) x h.0 in
     let same : token_of file w ≡ token = f.1 ∙ sym is in
-    begun_one file at t w ws l token trees rest cut h.1 same left span (subst (λ (g : LexemeForm). ReportsToken g (text_of w) l.reading) (sym f.0) (subst (λ (z : SpannedText). ReportsLiteral z.text l.reading) (sym same) tells))
-begun file at t [] l (IdentTree x ∷ trees) token rest cut e front span tells = absurd (no_head (FlatIdent x) (flat_trees trees) e)
-begun file at t (w ∷ ws) l (IdentTree x ∷ trees) token rest cut e (reads, is, left) span tells =
+    begun_one file at t w ws l token trees rest cut h.1 same left span (subst (λ (g : LexemeForm). ReportsToken g (text_of w) l.reading) (sym f.0) (subst (λ (z : SpannedText). ReportsLiteral z.text l.reading) (sym same) reported))
+begun file at t [] l (IdentTree x ∷ trees) token rest cut e front span reported = absurd (no_head (FlatIdent x) (flat_trees trees) e)
+begun file at t (w ∷ ws) l (IdentTree x ∷ trees) token rest cut e (reads, is, left) span reported =
     let h = heads (flat_token file w) (FlatIdent x) (map (flat_token file) ws) (flat_trees trees) e in
     let f = word_form (form_of w.lexeme) (text_of w) (span_of file w) x h.0 in
     let same : token_of file w ≡ token = f.1 ∙ sym is in
     let (contents, suffix, truth) = subst (λ (z : SpannedText). ReadsAs BoolKind (chars z.text)) (sym f.1) reads in
-    let literal : ReportsLiteral (text_of w) l.reading = subst (λ (z : SpannedText). ReportsLiteral z.text l.reading) (sym same) tells in
-    let word : ReportsToken IdentifierForm (text_of w) l.reading = ((truth.truth, truth.text_is), told (text_of w) l.reading (BoolKind, (contents, suffix, truth)) literal) in
+    let literal : ReportsLiteral (text_of w) l.reading = subst (λ (z : SpannedText). ReportsLiteral z.text l.reading) (sym same) reported in
+    let word : ReportsToken IdentifierForm (text_of w) l.reading = ((truth.truth, truth.text_is), its_reading (text_of w) l.reading (BoolKind, (contents, suffix, truth)) literal) in
     begun_one file at t w ws l token trees rest cut h.1 same left span (subst (λ (g : LexemeForm). ReportsToken g (text_of w) l.reading) (sym f.0) word)
-begun file at t cuts l (PunctTree m ∷ []) token rest cut e front span tells = absurd front
-begun file at t cuts l (PunctTree m ∷ IdentTree x ∷ trees) token rest cut e front span tells = absurd front
-begun file at t cuts l (PunctTree m ∷ PunctTree x ∷ trees) token rest cut e front span tells = absurd front
-begun file at t cuts l (PunctTree m ∷ GroupTree d inside s ∷ trees) token rest cut e front span tells = absurd front
-begun file at t [] l (PunctTree m ∷ LiteralTree x ∷ trees) token rest cut e front span tells = absurd (no_head (FlatPunct m) (FlatLiteral x ∷ flat_trees trees) e)
-begun file at t (w ∷ []) l (PunctTree m ∷ LiteralTree x ∷ trees) token rest cut e front span tells =
+begun file at t cuts l (PunctTree m ∷ []) token rest cut e front span reported = absurd front
+begun file at t cuts l (PunctTree m ∷ IdentTree x ∷ trees) token rest cut e front span reported = absurd front
+begun file at t cuts l (PunctTree m ∷ PunctTree x ∷ trees) token rest cut e front span reported = absurd front
+begun file at t cuts l (PunctTree m ∷ GroupTree d inside s ∷ trees) token rest cut e front span reported = absurd front
+begun file at t [] l (PunctTree m ∷ LiteralTree x ∷ trees) token rest cut e front span reported = absurd (no_head (FlatPunct m) (FlatLiteral x ∷ flat_trees trees) e)
+begun file at t (w ∷ []) l (PunctTree m ∷ LiteralTree x ∷ trees) token rest cut e front span reported =
     absurd (no_head (FlatLiteral x) (flat_trees trees) (heads (flat_token file w) (FlatPunct m) [] (FlatLiteral x ∷ flat_trees trees) e).1)
-begun file at t (w ∷ v ∷ ws) l (PunctTree m ∷ LiteralTree x ∷ trees) token rest cut e (is_minus, reads, is, left) span tells =
+begun file at t (w ∷ v ∷ ws) l (PunctTree m ∷ LiteralTree x ∷ trees) token rest cut e (is_minus, reads, is, left) span reported =
     let h = heads (flat_token file w) (FlatPunct m) (map (flat_token file) (v ∷ ws)) (FlatLiteral x ∷ flat_trees trees) e in
     let k = heads (flat_token file v) (FlatLiteral x) (map (flat_token file) ws) (flat_trees trees) h.1 in
     let mark = mark_form (form_of w.lexeme) (text_of w) (span_of file w) m h.0 in
     let number = literal_form (form_of v.lexeme) (text_of v) (span_of file v) x k.0 in
-    let literal : ReportsLiteral (45 ∷ x.text) l.reading = subst (λ (z : SpannedText). ReportsLiteral z.text l.reading) is tells in
-    begun_two file at t w v ws l m x trees rest cut k.1 (mark.0 ∙ ap MarkForm is_minus) mark.1 number.0 number.1 left (sym (ap (λ (z : SpannedText). z.span) is) ∙ span) (told (45 ∷ x.text) l.reading (subst HasReading (sym (minus_chars x.text)) reads) literal)
-begun file at t cuts l (GroupTree d inside s ∷ trees) token rest cut e front span tells = absurd front
+    let literal : ReportsLiteral (45 ∷ x.text) l.reading = subst (λ (z : SpannedText). ReportsLiteral z.text l.reading) is reported in
+    begun_two file at t w v ws l m x trees rest cut k.1 (mark.0 ∙ ap MarkForm is_minus) mark.1 number.0 number.1 left (sym (ap (λ (z : SpannedText). z.span) is) ∙ span) (its_reading (45 ∷ x.text) l.reading (subst HasReading (sym (minus_chars x.text)) reads) literal)
+begun file at t cuts l (GroupTree d inside s ∷ trees) token rest cut e front span reported = absurd front
 
 literals_of : (file at : ℕ) (t : List ℕ) (cuts : List LexedToken) (trees : List Tree) (ls : List ListLiteral) → LexesUpTo at t cuts [] → map (flat_token file) cuts ≡ flat_trees trees → AreFronts file trees ls → AreLiterals cuts ls
 literals_of file at t [] trees [] cut e nothing = refl
 literals_of file at t (w ∷ ws) trees [] cut e nothing = absurd (no_head (flat_token file w) (map (flat_token file) ws) (sym (e ∙ ap flat_trees nothing)))
-literals_of file at t cuts trees (l ∷ ls) cut e (token, rest, front, span, tells, fronts) =
-    let b : Begun file cuts l rest = begun file at t cuts l trees token rest cut e front span tells in
+literals_of file at t cuts trees (l ∷ ls) cut e (token, rest, front, span, reported, fronts) =
+    let b : Begun file cuts l rest = begun file at t cuts l trees token rest cut e front span reported in
     (b.more, b.begins, literals_of file b.at b.text b.more rest ls b.cut b.flat_is fronts)
 
 pub list_from_trees : (text : List ℕ) (file : ℕ) (ls : List ListLiteral) → IsListOfTrees text file ls → IsList text ls

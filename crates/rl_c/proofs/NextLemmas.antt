@@ -24,7 +24,7 @@ with_rest : (old new : CursorState) (n : Next) (r : ℕ) → TakesNextLiteral ol
 with_rest old new n r (inl t) = inl (record {
   token = t.token;
   takes = t.takes;
-  tells = t.tells;
+  reported = t.reported;
   begins = t.begins;
   lo_is = t.lo_is;
   hi_is = t.hi_is;
@@ -49,44 +49,44 @@ takes_less : (old new : CursorState) (n : Next) → TakesNextLiteral old n new �
 takes_less old new n (inl t) = behind_length _ _ t.takes.following
 takes_less old new n (inr t) = omega (arith, behind_length _ _ t.takes_minus.following, behind_length _ _ t.takes_number.following)
 
-starts_in : (text lent : List ℕ) (start : CursorState) → lent ≡ text → start.text ≡ lent → Skipped (chars lent) (chars start.rest) → IsCursorState lent start.rest → Starts text start
-starts_in text lent start same of skipped state = record {
+starts_in : (text borrowed : List ℕ) (start : CursorState) → borrowed ≡ text → start.text ≡ borrowed → Skipped (chars borrowed) (chars start.rest) → IsCursorState borrowed start.rest → Starts text start
+starts_in text borrowed start same of skipped state = record {
   text_is = of ∙ same;
   state = subst (λ z. IsCursorState z start.rest) same state;
   skipped = subst (λ z. Skipped (chars z) (chars start.rest)) same skipped;
 }
 
-pub begins : (text lent : List ℕ) (start tokens new : CursorState) (n : Next) (rest : List ℕ) → lent ≡ text → start.text ≡ lent → Skipped (chars lent) (chars start.rest) → IsCursorState lent start.rest → tokens ≡ start → TakesNextLiteral tokens n new → rest ≡ new.rest → BeginsLiteral text (record n { rest_at = length lent - length rest })
-begins text lent start tokens new n rest same of skipped state is takes left =
+pub begins : (text borrowed : List ℕ) (start tokens new : CursorState) (n : Next) (rest : List ℕ) → borrowed ≡ text → start.text ≡ borrowed → Skipped (chars borrowed) (chars start.rest) → IsCursorState borrowed start.rest → tokens ≡ start → TakesNextLiteral tokens n new → rest ≡ new.rest → BeginsLiteral text (record n { rest_at = length borrowed - length rest })
+begins text borrowed start tokens new n rest same of skipped state is takes left =
     let t : TakesNextLiteral start n new = subst (λ z. TakesNextLiteral z n new) is takes in
     record {
       start = start;
       following = new;
-      starts = starts_in text lent start same of skipped state;
-      takes = with_rest start new n (length lent - length rest) t;
+      starts = starts_in text borrowed start same of skipped state;
+      takes = with_rest start new n (length borrowed - length rest) t;
       rest_is = omega (arith, ap length same, ap length left, takes_less start new n t, behind_length _ _ state.following);
     }
 
-pub ends : (text lent rest left : List ℕ) → lent ≡ text → Skipped (chars lent) (chars rest) → left ≡ rest → (length left == 0) ≡ true → Skipped (chars text) []
-ends text lent rest left same skipped is empty =
+pub ends : (text borrowed rest left : List ℕ) → borrowed ≡ text → Skipped (chars borrowed) (chars rest) → left ≡ rest → (length left == 0) ≡ true → Skipped (chars text) []
+ends text borrowed rest left same skipped is empty =
     let none : length left ≡ 0 = grind (arith, nat_tests) in
     let nothing : rest ≡ [] = sym is ∙ nil_from_length left none in
-    subst (λ z. Skipped (chars z) []) same (subst (Skipped (chars lent)) (ap chars nothing ∙ chars-nil) skipped)
+    subst (λ z. Skipped (chars z) []) same (subst (Skipped (chars borrowed)) (ap chars nothing ∙ chars-nil) skipped)
 
 -- a token without a minus
 pub takes_alone : (old new : CursorState) (l : Lexeme) (n : Next) → TakesNext old l new → ReportsToken (form_view l.form) l.text.now n.reading → n.minus_at ≡ l.lo → n.lo ≡ l.lo → n.hi ≡ l.hi → n.negative ≡ false → TakesNextLiteral old n new
-takes_alone old new l n takes tells begins lo hi no_minus =
-    inl (record { token = l; takes = takes; tells = tells; begins = begins; lo_is = lo; hi_is = hi; no_minus = no_minus })
+takes_alone old new l n takes reported begins lo hi no_minus =
+    inl (record { token = l; takes = takes; reported = reported; begins = begins; lo_is = lo; hi_is = hi; no_minus = no_minus })
 
-pub token_told : (l : Lexeme) (r : Reading) → l.form ≡ found.Literal → ReportsLiteral l.text.now r → ReportsToken (form_view l.form) l.text.now r
-token_told l r is tells = subst (λ (f : FoundForm). ReportsToken (form_view f) l.text.now r) (sym is) tells
+pub token_reported : (l : Lexeme) (r : Reading) → l.form ≡ found.Literal → ReportsLiteral l.text.now r → ReportsToken (form_view l.form) l.text.now r
+token_reported l r is reported = subst (λ (f : FoundForm). ReportsToken (form_view f) l.text.now r) (sym is) reported
 
 -- a word that is a literal has a reading
-pub word_told : (l : Lexeme) (r : Reading) (b : Bool) → l.form ≡ found.Identifier → chars l.text.now ≡ truth_text b → ReportsLiteral l.text.now r → ReportsToken (form_view l.form) l.text.now r
-word_told l r b is word tells = subst (λ (f : FoundForm). ReportsToken (form_view f) l.text.now r) (sym is) ((b, word), reading tells)
+pub word_reported : (l : Lexeme) (r : Reading) (b : Bool) → l.form ≡ found.Identifier → chars l.text.now ≡ truth_text b → ReportsLiteral l.text.now r → ReportsToken (form_view l.form) l.text.now r
+word_reported l r b is word reported = subst (λ (f : FoundForm). ReportsToken (form_view f) l.text.now r) (sym is) ((b, word), reading reported)
   where
     reading : ReportsLiteral l.text.now r → ReportsReading l.text.now r
-    reading (inl told) = told
+    reading (inl reported) = reported
     reading (inr none) = let (contents, suffix, reads) = truth_reads (chars l.text.now) b word in absurd (none.none BoolKind contents suffix reads)
 
 -- a word that is none
@@ -98,12 +98,12 @@ pub nothing_else : (t ahead : CursorState) → t.rest ≢ [] → ahead ≡ t →
 nothing_else t ahead some is none (inl nothing) = some nothing
 nothing_else t ahead some is none (inr (after, token)) = subst (λ (z : CursorState). BeginsNoLexeme (chars z.rest)) is none after token
 
-pub begins_none : (text lent : List ℕ) (start ahead : CursorState) (rest : List ℕ) (status : ℕ) → lent ≡ text → start.text ≡ lent → Skipped (chars lent) (chars start.rest) → IsCursorState lent start.rest → ahead ≡ start → HasNoNextLiteral ahead → rest ≡ start.rest → ReportsError start status → BeginsNoLiteral text status (length lent - length rest)
-begins_none text lent start ahead rest status same of skipped state is none left tells = record {
+pub begins_none : (text borrowed : List ℕ) (start ahead : CursorState) (rest : List ℕ) (status : ℕ) → borrowed ≡ text → start.text ≡ borrowed → Skipped (chars borrowed) (chars start.rest) → IsCursorState borrowed start.rest → ahead ≡ start → HasNoNextLiteral ahead → rest ≡ start.rest → ReportsError start status → BeginsNoLiteral text status (length borrowed - length rest)
+begins_none text borrowed start ahead rest status same of skipped state is none left reported = record {
   start = start;
-  starts = starts_in text lent start same of skipped state;
+  starts = starts_in text borrowed start same of skipped state;
   none = subst HasNoNextLiteral is none;
-  tells = tells;
+  reported = reported;
   place = omega (arith, ap length same, ap length left, behind_length _ _ state.following);
 }
 

@@ -1,4 +1,4 @@
--- Where the parts stand that a reading tells.
+-- Where the parts stand that a reading has them.
 use Rattle.std.proofs.Common.{◌≡◌, ℕ, ◌-◌, List, true, take, drop, slice_range, sym, ap, subst, ◌∙◌}
 use Rattle.std.specs.Str.{chars, IsUtf8}
 use Rattle.std.proofs.lemmas.Bool.{or_right}
@@ -21,14 +21,14 @@ single_of kind t body reading s r is =
     let f = r.found in
     let quoted : is_quoted kind ≡ true = or_right (is_string kind) (is_single kind) s in
     let stands : IsQuotedAt kind t f.body = subst (λ k. IsQuotedAt k t f.body) r.kind_is (r.is_found.quoted (ap is_quoted r.kind_is ∙ quoted)) in
-    let same : body_in t f.body ≡ body = ap (λ at. take (f.body.hi - at) (drop at t)) (sym r.tells.at_is) ∙ ap (λ end. take (end - reading.at) (drop reading.at t)) (sym r.tells.end_is) ∙ sym is in
+    let same : body_in t f.body ≡ body = ap (λ at. take (f.body.hi - at) (drop at t)) (sym r.reported.at_is) ∙ ap (λ end. take (end - reading.at) (drop reading.at t)) (sym r.reported.end_is) ∙ sym is in
     subst (HasSingleBody kind (chars t)) same (single_at kind t f.body s stands)
 
 -- the digits of a float
 pub numeral_of : (t body digits : List ℕ) (reading : Reading) → IsUtf8 t → IsOfKind Float t reading → body ≡ slice_range t reading.at reading.end → digits ≡ float_digits (chars body) → HasContents Float (chars t) (Digits digits)
 numeral_of t body digits reading u r is e =
     let f = r.found in
-    let same : body_in t f.body ≡ body = ap (λ at. take (f.body.hi - at) (drop at t)) (sym r.tells.at_is) ∙ ap (λ end. take (end - reading.at) (drop reading.at t)) (sym r.tells.end_is) ∙ sym is in
+    let same : body_in t f.body ≡ body = ap (λ at. take (f.body.hi - at) (drop at t)) (sym r.reported.at_is) ∙ ap (λ end. take (end - reading.at) (drop reading.at t)) (sym r.reported.end_is) ∙ sym is in
     let x = chars (suffix_in t f.body) in
     let (contents, reads) : HasSuffix Float (chars t) x = subst (λ k. HasSuffix k (chars t) x) r.kind_is r.is_found.reads in
     let found = found_float t f u r.kind_is r.is_found in

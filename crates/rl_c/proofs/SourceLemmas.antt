@@ -42,15 +42,15 @@ passes_more a b d l p t other = record {
 }
 
 -- the cursor that is taken up again stands at the byte
-pub stands_at : (text lent rest : List ℕ) (at : ℕ) (start : CursorState) → lent ≡ text → start ≡ record { text = lent; rest = rest } → rest ≡ drop at lent → start ≡ cursor_at text at
-stands_at text lent rest at start same is cut =
-    is ∙ ap (λ z. record { text = lent; rest = z }) cut ∙ ap (λ z. record { text = z; rest = drop at z }) same
+pub stands_at : (text borrowed rest : List ℕ) (at : ℕ) (start : CursorState) → borrowed ≡ text → start ≡ record { text = borrowed; rest = rest } → rest ≡ drop at borrowed → start ≡ cursor_at text at
+stands_at text borrowed rest at start same is cut =
+    is ∙ ap (λ z. record { text = borrowed; rest = z }) cut ∙ ap (λ z. record { text = z; rest = drop at z }) same
 
 -- the literal that was taken is the first from there on, and where what is left begins is returned
-pub found_token : (text lent rest left : List ℕ) (at : ℕ) (start new : CursorState) (l : SourceToken) (next : Next) → lent ≡ text → start ≡ record { text = lent; rest = rest } → rest ≡ drop at lent → IsTail lent rest → TakesLiteralAfter start l new → left ≡ new.rest → next.lo ≡ l.lo → next.hi ≡ l.hi → next.rest_at ≡ length lent - length left → FindsToken text at next l
-found_token text lent rest left at start new l next same is cut tail takes left_is lo hi place =
-    let t : TakesLiteralAfter (cursor_at text at) l new = subst (λ z. TakesLiteralAfter z l new) (stands_at text lent rest at start same is cut) takes in
-    let from : IsTail text (drop at text) = subst (λ z. IsTail z (drop at z)) same (subst (IsTail lent) cut tail) in
+pub found_token : (text borrowed rest left : List ℕ) (at : ℕ) (start new : CursorState) (l : SourceToken) (next : Next) → borrowed ≡ text → start ≡ record { text = borrowed; rest = rest } → rest ≡ drop at borrowed → IsTail borrowed rest → TakesLiteralAfter start l new → left ≡ new.rest → next.lo ≡ l.lo → next.hi ≡ l.hi → next.rest_at ≡ length borrowed - length left → FindsToken text at next l
+found_token text borrowed rest left at start new l next same is cut tail takes left_is lo hi place =
+    let t : TakesLiteralAfter (cursor_at text at) l new = subst (λ z. TakesLiteralAfter z l new) (stands_at text borrowed rest at start same is cut) takes in
+    let from : IsTail text (drop at text) = subst (λ z. IsTail z (drop at z)) same (subst (IsTail borrowed) cut tail) in
     let whole : IsTail text new.rest = behind_step text (drop at text) new.rest from (behind_step (drop at text) t.between.rest new.rest t.passes.following t.takes.following) in
     let at_is : next.rest_at ≡ length text - length new.rest = place ∙ ap (λ z. length z - length left) same ∙ ap (λ z. length text - length z) left_is in
     record {

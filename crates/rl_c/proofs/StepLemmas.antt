@@ -56,7 +56,7 @@ shifts_literal : (k : ℕ) (own : List LexedToken) (l : ListLiteral) (more : Lis
 shifts_literal k own l more (inl one) = inl (record {
   token = shifted k one.token;
   cuts_are = ap (λ z. map (shifted k) z ++ more) one.cuts_are;
-  tells = one.tells;
+  reported = one.reported;
   lo_is = ap (λ n. k + n) one.lo_is;
   hi_is = omega (arith, one.hi_is);
 })
@@ -66,7 +66,7 @@ shifts_literal k own l more (inr two) = inr (record {
   cuts_are = ap (λ z. map (shifted k) z ++ more) two.cuts_are;
   is_minus = two.is_minus;
   is_number = two.is_number;
-  tells = two.tells;
+  reported = two.reported;
   lo_is = ap (λ n. k + n) two.lo_is;
   hi_is = omega (arith, two.hi_is);
 })
@@ -82,10 +82,10 @@ pub record CutsOff (text : List ℕ) (n : Next) : Type 0 where
   pub place : n.rest_at + length rest ≡ length text
 
 one_literal : (w : LexedToken) (l : Lexeme) (n : Next) → IsBorrowedToken l w → ReportsToken (form_view l.form) l.text.now n.reading → n.minus_at ≡ l.lo → n.hi ≡ l.hi → IsOneToken (w ∷ []) (returned n) []
-one_literal w l n is tells lo hi = record {
+one_literal w l n is reported lo hi = record {
   token = w;
   cuts_are = refl;
-  tells = subst (λ z. ReportsToken (form_of w.lexeme) z n.reading) (sym is.bytes_are) (subst (λ (f : LexemeForm). ReportsToken f l.text.now n.reading) (sym is.form_is) tells);
+  reported = subst (λ z. ReportsToken (form_of w.lexeme) z n.reading) (sym is.bytes_are) (subst (λ (f : LexemeForm). ReportsToken f l.text.now n.reading) (sym is.form_is) reported);
   lo_is = lo ∙ sym is.lo_is;
   hi_is = hi ∙ sym is.hi_is;
 }
@@ -97,7 +97,7 @@ two_literal start following n t = record {
   cuts_are = refl;
   is_minus = t.takes_minus.is_cut.form_is ∙ t.is_minus;
   is_number = t.takes_number.is_cut.form_is ∙ t.is_number;
-  tells = subst (λ z. ReportsReading (45 ∷ z) n.reading) (sym t.takes_number.is_cut.bytes_are) t.reads;
+  reported = subst (λ z. ReportsReading (45 ∷ z) n.reading) (sym t.takes_number.is_cut.bytes_are) t.reads;
   lo_is = t.minus_is ∙ sym t.takes_minus.is_cut.lo_is;
   hi_is = t.hi_is ∙ sym t.takes_number.is_cut.hi_is;
 }
@@ -120,7 +120,7 @@ cuts_by text n start new s place (inl t) = record {
   rest = new.rest;
   own = t.takes.cut ∷ [];
   cut = one_cut text start new t.token s t.takes;
-  literal = inl (one_literal t.takes.cut t.token n t.takes.is_cut t.tells t.begins t.hi_is);
+  literal = inl (one_literal t.takes.cut t.token n t.takes.is_cut t.reported t.begins t.hi_is);
   is_text = s.state.is_text;
   following = behind_step text start.rest new.rest s.state.following t.takes.following;
   place = place;

@@ -36,25 +36,25 @@ record TreeOf (file : ℕ) (w : LexedToken) (reading : Reading) : Type 0 where
   pub flat_is : flat_token file w ∷ [] ≡ flat tree
   pub stays : after_form [] (form_of w.lexeme) w.at ≡ Some []
   pub front : (rest : List Tree) → IsFront (tree ∷ rest) (token_of file w) rest
-  pub tells : ReportsLiteral (text_of w) reading
+  pub reported : ReportsLiteral (text_of w) reading
 
 tree_of : (file : ℕ) (w : LexedToken) (reading : Reading) (f : LexemeForm) → form_of w.lexeme ≡ f → ReportsToken f (text_of w) reading → TreeOf file w reading
-tree_of file w reading LiteralForm is tells = record {
+tree_of file w reading LiteralForm is reported = record {
   tree = LiteralTree (token_of file w);
   flat_is = ap (λ g. flat_form g (text_of w) (span_of file w) ∷ []) is;
   stays = ap (λ g. after_form [] g w.at) is;
   front = λ rest. (refl, refl);
-  tells = tells;
+  reported = reported;
 }
-tree_of file w reading IdentifierForm is (word, told) = record {
+tree_of file w reading IdentifierForm is (word, reported) = record {
   tree = IdentTree (token_of file w);
   flat_is = ap (λ g. flat_form g (text_of w) (span_of file w) ∷ []) is;
   stays = ap (λ g. after_form [] g w.at) is;
   front = λ rest. (truth_reads (chars (text_of w)) word.0 word.1, refl, refl);
-  tells = inl told;
+  reported = inl reported;
 }
-tree_of file w reading (DelimiterForm c) is tells = absurd tells
-tree_of file w reading (MarkForm c) is tells = absurd tells
+tree_of file w reading (DelimiterForm c) is reported = absurd reported
+tree_of file w reading (MarkForm c) is reported = absurd reported
 
 -- the groups stay as they are
 stay : (w : LexedToken) (ws : List LexedToken) → after_form [] (form_of w.lexeme) w.at ≡ Some [] → open_groups [] ws ≡ Some [] → open_groups [] (w ∷ ws) ≡ Some []
@@ -94,13 +94,13 @@ one_more file w more l ls t lo hi ts = record {
     ts.trees,
     t.front ts.trees,
     ap (λ n. let s : Span = record { file = file; lo = n; hi = end_of w } in s) (sym lo) ∙ ap (λ n. let s : Span = record { file = file; lo = l.lo; hi = n } in s) (sym hi),
-    t.tells,
+    t.reported,
     ts.fronts,
   );
 }
 
 two_more : (file : ℕ) (m w : LexedToken) (more : List LexedToken) (l : ListLiteral) (ls : List ListLiteral) → form_of m.lexeme ≡ MarkForm 45 → form_of w.lexeme ≡ LiteralForm → ReportsReading (45 ∷ text_of w) l.reading → l.lo ≡ m.at → l.hi ≡ end_of w → end_of m ≤ w.at → TreesOf file more ls → TreesOf file (m ∷ w ∷ more) (l ∷ ls)
-two_more file m w more l ls is_minus is_number tells lo hi after ts =
+two_more file m w more l ls is_minus is_number reported lo hi after ts =
     let mark : Mark = record { ch = 45; span = span_of file m } in
     record {
       trees = PunctTree mark ∷ LiteralTree (token_of file w) ∷ ts.trees;
@@ -112,9 +112,9 @@ two_more file m w more l ls is_minus is_number tells lo hi after ts =
       fronts = (
         joined mark (token_of file w),
         ts.trees,
-        (refl, together (text_of w) l.reading tells, refl, refl),
+        (refl, together (text_of w) l.reading reported, refl, refl),
         one_span file m w after ∙ ap (λ n. let s : Span = record { file = file; lo = n; hi = end_of w } in s) (sym lo) ∙ ap (λ n. let s : Span = record { file = file; lo = l.lo; hi = n } in s) (sym hi),
-        inl tells,
+        inl reported,
         ts.fronts,
       );
     }
@@ -126,7 +126,7 @@ trees_of file at t cuts (l ∷ ls) cut (more, inl one, are) =
     let w = one.token in
     let (after, _, _, _, rest) = subst (λ z. LexesUpTo at t z []) one.cuts_are cut in
     let ts : TreesOf file more ls = trees_of file (end_of w) after more ls rest are in
-    subst (λ z. TreesOf file z (l ∷ ls)) (sym one.cuts_are) (one_more file w more l ls (tree_of file w l.reading (form_of w.lexeme) refl one.tells) one.lo_is one.hi_is ts)
+    subst (λ z. TreesOf file z (l ∷ ls)) (sym one.cuts_are) (one_more file w more l ls (tree_of file w l.reading (form_of w.lexeme) refl one.reported) one.lo_is one.hi_is ts)
 trees_of file at t cuts (l ∷ ls) cut (more, inr two, are) =
     let m = two.minus in
     let w = two.number in
@@ -134,7 +134,7 @@ trees_of file at t cuts (l ∷ ls) cut (more, inr two, are) =
     let (following, gap, _, place, rest) = number in
     let ts : TreesOf file more ls = trees_of file (end_of w) following more ls rest are in
     let later : end_of m ≤ w.at = omega (arith, place, no_longer after (lexeme_text w.lexeme ++ following) gap) in
-    subst (λ z. TreesOf file z (l ∷ ls)) (sym two.cuts_are) (two_more file m w more l ls two.is_minus two.is_number two.tells two.lo_is two.hi_is later ts)
+    subst (λ z. TreesOf file z (l ∷ ls)) (sym two.cuts_are) (two_more file m w more l ls two.is_minus two.is_number two.reported two.lo_is two.hi_is later ts)
 
 pub list_of_trees : (text : List ℕ) (file : ℕ) (ls : List ListLiteral) → IsList text ls → IsListOfTrees text file ls
 list_of_trees text file ls is =

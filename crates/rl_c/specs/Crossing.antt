@@ -20,7 +20,7 @@ kind_number Int = 6
 kind_number Float = 7
 kind_number Bool = 8
 
--- The numbers tell what was found.
+-- The numbers report what was found.
 pub record Reports (found : Found) (reading : Reading) : Type 0 where
   pub kind_is : reading.kind ≡ kind_number found.kind
   pub at_is : reading.at ≡ found.body.lo
@@ -29,11 +29,11 @@ pub record Reports (found : Found) (reading : Reading) : Type 0 where
   pub plain_is : reading.plain ≡ found.body.plain
   pub magnitude_is : found.magnitude ≡ reading.high * 2 ^ 64 + reading.low
 
--- The numbers tell what reading the text, in bytes, finds.
+-- The numbers report what reading the text, in bytes, finds.
 abbrev pub ReportsReading : List ℕ → Reading → Type 0
 ReportsReading text reading = (found : Found) × IsFound text found × Reports found reading
 
--- The text, in bytes, has no reading, and the numbers tell that: the kind is 9, and all of the text
+-- The text, in bytes, has no reading, and the numbers report that: the kind is 9, and all of the text
 -- is the body.
 pub record ReportsVerbatim (text : List ℕ) (reading : Reading) : Type 0 where
   pub none : HasNoReading (chars text)
@@ -48,15 +48,15 @@ pub record ReportsVerbatim (text : List ℕ) (reading : Reading) : Type 0 where
         plain = false;
       }
 
--- The numbers tell what reading the text finds, or that it has no reading.
+-- The numbers report what reading the text finds, or that it has no reading.
 abbrev pub ReportsLiteral : List ℕ → Reading → Type 0
 ReportsLiteral text reading = ReportsReading text reading ⊎ ReportsVerbatim text reading
 
--- What reading the text finds is told, and that is a literal of the kind.
+-- The numbers report what reading the text finds, and that is a literal of the kind.
 pub record IsOfKind (kind : Kind) (text : List ℕ) (reading : Reading) : Type 0 where
   pub found : Found
   pub is_found : IsFound text found
-  pub tells : Reports found reading
+  pub reported : Reports found reading
   pub kind_is : found.kind ≡ kind
 
 -- whose body isn't plain

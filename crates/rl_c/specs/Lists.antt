@@ -24,7 +24,7 @@ pub record Starts (text : List ℕ) (start : CursorState) : Type 0 where
 abbrev pub IsTruthWord : List ℕ → Type 0
 IsTruthWord text = (b : Bool) × (chars text ≡ truth_text b)
 
--- What is told of a token alone, by its form: of a literal token its reading, or that it has none; of
+-- What is reported of a token alone, by its form: of a literal token its reading, or that it has none; of
 -- the words `true` and `false` their reading. Other tokens are no literals.
 abbrev pub ReportsToken : LexemeForm → List ℕ → Reading → Type 0
 ReportsToken LiteralForm text reading = ReportsLiteral text reading
@@ -35,7 +35,7 @@ ReportsToken _ text reading = ⊥
 pub record TakesLiteral (old : CursorState) (next : Next) (new : CursorState) : Type 0 where
   pub token : Lexeme
   pub takes : TakesNext old token new
-  pub tells : ReportsToken (form_view token.form) token.text.now next.reading
+  pub reported : ReportsToken (form_view token.form) token.text.now next.reading
   pub begins : next.minus_at ≡ token.lo
   pub lo_is : next.lo ≡ token.lo
   pub hi_is : next.hi ≡ token.hi
@@ -109,7 +109,7 @@ abbrev pub token_number : LexemeForm → ℕ
 token_number (DelimiterForm c) = if is_opener c then 13 else error_number UnmatchedClose
 token_number _ = 2
 
--- The number tells why no literal begins what is left, which isn't empty: the error that stands
+-- The number says why no literal begins what is left, which isn't empty: the error that stands
 -- there, or the token.
 abbrev pub ReportsError : CursorState → ℕ → Type 0
 ReportsError t status =
@@ -123,5 +123,5 @@ pub record BeginsNoLiteral (text : List ℕ) (status at : ℕ) : Type 0 where
   pub start : CursorState
   pub starts : Starts text start
   pub none : HasNoNextLiteral start
-  pub tells : ReportsError start status
+  pub reported : ReportsError start status
   pub place : at + length start.rest ≡ length text

@@ -5,12 +5,12 @@ use Rattle.std.specs.Str.{chars, IsCharBoundary}
 use Rattle.rl_tokens.specs.Texts.{IsTail}
 use Rattle.rl_tokens.specs.Cursors.{CursorState}
 use Rattle.rl_tokens.specs.Lexemes.{LiteralForm, IdentifierForm}
-use Rattle.rl_tokens.specs.Reading.{HasNoReading, truth_text}
+use Rattle.rl_tokens.specs.Reading.{truth_text}
 use Rattle.rl_tokens.specs.Sources.{SourceKind, PlainKind, CutSource, kind_of, source_text, source_view, IsCutUpTo, TakesSource, SourceErrorAt}
 use Rattle.rl_tokens.specs.declared.lex_error.LexKind.{LexKind}
 use Rattle.rl_tokens.specs.declared.sources.SourceToken.{SourceToken}
 use Rattle.rl_c.specs.declared.next.Next.{Next}
-use Rattle.rl_c.specs.Crossing.{ReportsReading}
+use Rattle.rl_c.specs.Crossing.{ReportsReading, ReportsVerbatim}
 use Rattle.rl_c.specs.Lists.{error_number}
 
 -- a token of the source is a literal by its form, or one of the words `true` and `false`
@@ -67,11 +67,11 @@ FindsLiteral text at next =
     (token : SourceToken) × FindsToken text at next token
     × ReportsReading token.text.now next.reading
 
--- and it has none
+-- and it has none, which is returned
 abbrev pub FindsNoReading : List ℕ → ℕ → Next → Type 0
 FindsNoReading text at next =
     (token : SourceToken) × FindsToken text at next token
-    × HasNoReading (chars token.text.now)
+    × ReportsVerbatim token.text.now next.reading
 
 -- From the byte on stands no literal, up to an error, of this number, at this place.
 abbrev pub FindsError : List ℕ → ℕ → ℕ → ℕ → Type 0

@@ -14,7 +14,7 @@ use Rattle.rl_c.specs.Crossing.{ReportsReading, ReportsLiteral}
 use Rattle.rl_c.specs.Lists.{ReportsToken, BeginsLiteral, BeginsNoLiteral}
 
 -- A literal of a list: where it stands in the whole list, from its minus on where one stands, and
--- what is told of it.
+-- what is reported of it.
 pub record ListLiteral : Type 0 where
   pub lo : ℕ
   pub hi : ℕ
@@ -25,7 +25,7 @@ pub record IsOneToken (cuts : List LexedToken) (l : ListLiteral) (more : List Le
     : Type 0 where
   pub token : LexedToken
   pub cuts_are : cuts ≡ token ∷ more
-  pub tells :
+  pub reported :
       ReportsToken (form_of token.lexeme) (encode_utf8_all (lexeme_text token.lexeme)) l.reading
   pub lo_is : l.lo ≡ token.at
   pub hi_is : l.hi ≡ end_of token
@@ -38,7 +38,7 @@ pub record IsMinusAndNumber (cuts : List LexedToken) (l : ListLiteral) (more : L
   pub cuts_are : cuts ≡ minus ∷ number ∷ more
   pub is_minus : form_of minus.lexeme ≡ MarkForm (code "-")
   pub is_number : form_of number.lexeme ≡ LiteralForm
-  pub tells :
+  pub reported :
       ReportsReading (code "-" ∷ encode_utf8_all (lexeme_text number.lexeme)) l.reading
   pub lo_is : l.lo ≡ minus.at
   pub hi_is : l.hi ≡ end_of number
@@ -58,7 +58,7 @@ pub record IsList (text : List ℕ) (list : List ListLiteral) : Type 0 where
   pub are_literals : AreLiterals cuts list
 
 -- The trees are these literals, one after another: what `IsFront` calls the first literal of trees is
--- one token, at the literal's place, and its text is told.
+-- one token, at the literal's place, and its reading is reported.
 abbrev pub AreFronts : ℕ → List Tree → List ListLiteral → Type 0
 AreFronts file trees [] = trees ≡ []
 AreFronts file trees (l ∷ ls) =

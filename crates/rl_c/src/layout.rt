@@ -7,14 +7,21 @@ use crate::next::Next;
 use crate::reading::Reading;
 
 /// The version of the exports and of the structs that cross: it goes up with every change of either.
-const VERSION: usize = 3;
+const VERSION: usize = 4;
 
-/// The version, and the sizes and alignments of the structs that cross, in bytes.
+/// Returns the version. It is the one export that a caller of any version may call: all others, the two below too, only
+/// where the version is the one that the caller was written for.
+#[unsafe(no_mangle)]
+pub extern "C" fn rl_version() -> usize
+    ensures { result ≡ 4 }
+{
+    VERSION
+}
+
+/// The sizes and alignments of the structs that cross, in bytes.
 #[derive(Clone, Copy)]
 #[repr(C)]
 pub struct Layout {
-    /// The version of the exports.
-    pub version: usize,
     /// The size of [`Reading`].
     pub reading_size: usize,
     /// The alignment of [`Reading`].
@@ -29,11 +36,10 @@ pub struct Layout {
     pub explanation_align: usize,
 }
 
-/// Returns the version, sizes and alignments.
+/// Returns the sizes and alignments.
 #[unsafe(no_mangle)]
 pub extern "C" fn rl_layout(layout: &mut Layout)
     ensures { layout.new ≡ record {
-      version = 3;
       reading_size = 48;
       reading_align = 8;
       next_size = 88;
@@ -43,7 +49,6 @@ pub extern "C" fn rl_layout(layout: &mut Layout)
     } }
 {
     *layout = Layout {
-        version: VERSION,
         reading_size: size_of::<Reading>(),
         reading_align: align_of::<Reading>(),
         next_size: size_of::<Next>(),

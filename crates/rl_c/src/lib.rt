@@ -22,9 +22,9 @@ mod source;
 mod write;
 
 pub use crate::explain::{Explanation, rl_explain};
-pub use crate::layout::{Layout, rl_layout, rl_probe};
+pub use crate::layout::{Layout, rl_layout, rl_probe, rl_version};
 pub use crate::next::Next;
-use crate::next::{rejection, take_next};
+use crate::next::{END, LITERAL, rejection, take_next};
 pub use crate::reading::Reading;
 use crate::reading::{numeral, single_body, string_body};
 pub use crate::source::{rl_source_next, rl_source_start};
@@ -53,7 +53,7 @@ pub extern "C" fn rl_find(text: &[u8], reading: &mut Reading) -> bool
     }
 }
 
-/// Writes what a string literal stands for whose body isn't plain, and tells how long that is: no
+/// Writes what a string literal stands for whose body isn't plain, and returns how long that is: no
 /// longer than the body.
 #[unsafe(no_mangle)]
 pub extern "C" fn rl_str_value(text: &[u8], reading: &Reading, out: &mut [u8]) -> usize
@@ -121,7 +121,7 @@ pub extern "C" fn rl_char_value(text: &[u8], reading: &Reading) -> u32
     char_of_body(single_body(text, reading)) as u32
 }
 
-/// Writes the digits of a float, and tells how long they are: no longer than the body.
+/// Writes the digits of a float, and returns how long they are: no longer than the body.
 #[unsafe(no_mangle)]
 pub extern "C" fn rl_float_digits(text: &[u8], reading: &Reading, out: &mut [u8]) -> usize
     requires utf8 { IsUtf8 text.now }
@@ -138,8 +138,8 @@ pub extern "C" fn rl_float_digits(text: &[u8], reading: &Reading, out: &mut [u8]
 
 /// What begins the list, after white space and comments: 0 where nothing does, 1 for a literal, 2
 /// for a word or mark that begins none, 13 for an opening delimiter, else the number of the lexer's
-/// error, which a closing delimiter is too. `next` tells the literal, or by `lo` the place of what is
-/// none.
+/// error, which a closing delimiter is too. `next` then holds the literal, or in `lo` the place of what
+/// is none.
 #[unsafe(no_mangle)]
 pub extern "C" fn rl_next(text: &[u8], next: &mut Next) -> u8
     requires utf8 { IsUtf8 text.now }
@@ -151,12 +151,12 @@ pub extern "C" fn rl_next(text: &[u8], next: &mut Next) -> u8
     let text = unsafe { std::str::from_utf8_unchecked(text) };
     let start = Tokens::new(text);
     if start.rest().is_empty() {
-        return 0;
+        return END;
     }
     let mut tokens = start.fork();
     if take_next(&mut tokens, next) {
         next.rest_at = text.len() - tokens.rest().len();
-        return 1;
+        return LITERAL;
     }
     next.lo = text.len() - start.rest().len();
     rejection(&start)

@@ -10,6 +10,12 @@ use crate::reading::Reading;
 use rl_grammar::{find_negative, truth_of};
 use rl_tokens::{Form, LexKind, Lexeme, Tokens};
 
+/// The status where no literal comes any more, of lists and sources.
+pub(crate) const END: u8 = 0;
+
+/// The status of a literal.
+pub(crate) const LITERAL: u8 = 1;
+
 /// The literal at the front of a list, and where what is left begins. Places count in the text that
 /// was handed in.
 #[derive(Clone, Copy)]
@@ -62,8 +68,8 @@ fn token_number(form: Form) -> u8
 }
 
 impl Next {
-    /// Tells the token, without a minus, as a literal; its reading is told apart.
-    fn tell_alone(&mut self, token: Lexeme<'_>)
+    /// Holds the token, without a minus, as a literal from now on; its reading stays.
+    fn report_alone(&mut self, token: Lexeme<'_>)
         ensures { self.new ≡ record (self.old) {
           minus_at = token.entry.lo;
           lo = token.entry.lo;
@@ -78,7 +84,8 @@ impl Next {
     }
 }
 
-/// Cuts off the next tokens where they are a literal, which is told but for what is left, and says whether they are.
+/// Cuts off the next tokens where they are a literal, which `next` then holds but for what is left, and returns whether
+/// they are.
 pub(crate) fn take_next(tokens: &mut Tokens<'_>, next: &mut Next) -> bool
     ensures some { IsTrue result → TakesNextLiteral tokens.old next.new tokens.new }
     ensures same { tokens.new.text ≡ tokens.old.text }
@@ -89,16 +96,16 @@ pub(crate) fn take_next(tokens: &mut Tokens<'_>, next: &mut Next) -> bool
     };
     match token.form {
         Form::Literal => {
-            next.reading.tell_token(token.text);
-            next.tell_alone(token);
+            next.reading.report_token(token.text);
+            next.report_alone(token);
             true
         }
         Form::Identifier => {
             let Some(_) = truth_of(token.text) else {
                 return false;
             };
-            next.reading.tell_token(token.text);
-            next.tell_alone(token);
+            next.reading.report_token(token.text);
+            next.report_alone(token);
             true
         }
         Form::Mark('-') => {
@@ -125,11 +132,11 @@ pub(crate) fn take_next(tokens: &mut Tokens<'_>, next: &mut Next) -> bool
 /// Why no literal begins what is left, which isn't empty.
 pub(crate) fn rejection(tokens: &Tokens<'_>) -> u8
     requires { tokens.now.rest ≢ [] }
-    ensures tells { ReportsError tokens.now result }
+    ensures reported { ReportsError tokens.now result }
     ensures past { 1 < result }
 {
-    if let Some(fault) = tokens.fault() {
-        return error_number(fault.kind);
+    if let Some(error) = tokens.fault() {
+        return error_number(error.kind);
     }
     match tokens.fork().next() {
         Some(token) => token_number(token.form),

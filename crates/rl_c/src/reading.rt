@@ -73,7 +73,7 @@ impl Reading {
     }
 
     /// That a text of this many bytes has no reading.
-    fn verbatim(len: usize) -> Reading
+    pub(crate) fn verbatim(len: usize) -> Reading
         ensures { result ≡ record {
           at = 0;
           end = len;
@@ -95,8 +95,8 @@ impl Reading {
         }
     }
 
-    /// Tells what reading a literal token finds, or that it has no reading.
-    pub(crate) fn tell_token(&mut self, text: &str)
+    /// Becomes what reading a literal token finds, or that it has no reading.
+    pub(crate) fn report_token(&mut self, text: &str)
         ensures { ReportsLiteral text.now self.new }
     {
         match find(text) {
@@ -106,7 +106,7 @@ impl Reading {
     }
 }
 
-/// What stands between the quotes of the string that the reading tells, which isn't plain.
+/// What stands between the quotes of the string of this reading, which isn't plain.
 pub(crate) fn string_body<'t>(text: &'t str, reading: &Reading) -> &'t str
     requires { (kind : AnyKind) × IsTrue (is_string kind) × IsCooked kind text.now reading.now }
     ensures body { (kind : AnyKind) → IsTrue (is_string kind) → IsCooked kind text.now reading.now
@@ -116,7 +116,7 @@ pub(crate) fn string_body<'t>(text: &'t str, reading: &Reading) -> &'t str
     &text[reading.at..reading.end]
 }
 
-/// What stands between the quotes of the byte or the character that the reading tells.
+/// What stands between the quotes of the byte or the character of this reading.
 pub(crate) fn single_body<'t>(text: &'t str, reading: &Reading) -> &'t str
     requires { (kind : AnyKind) × IsTrue (is_single kind) × IsOfKind kind text.now reading.now }
     ensures { (kind : AnyKind) → IsTrue (is_single kind) → IsOfKind kind text.now reading.now
@@ -125,7 +125,7 @@ pub(crate) fn single_body<'t>(text: &'t str, reading: &Reading) -> &'t str
     &text[reading.at..reading.end]
 }
 
-/// All that stands before the suffix of the float that the reading tells.
+/// All that stands before the suffix of the float of this reading.
 pub(crate) fn numeral<'t>(text: &'t str, reading: &Reading) -> &'t str
     requires { IsOfKind Float text.now reading.now }
     ensures digits { (digits : List ℕ) → digits ≡ float_digits (chars result.now)

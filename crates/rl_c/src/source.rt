@@ -5,10 +5,13 @@ ghost use Rattle.std.specs.Str.{chars, IsUtf8, IsCharBoundary};
 ghost use Rattle.rl_tokens.specs.Sources.{source_view, IsCutUpTo, BeginsNoSource};
 ghost use Rattle.rl_c.specs.Literals.{IsLiteralText, PassesTo, TakesLiteralAfter, EndsWithoutLiteral, FindsLiteral, FindsNoReading, FindsError};
 
-use crate::next::{Next, error_number};
+use crate::next::{END, LITERAL, Next, error_number};
 use crate::reading::Reading;
 use rl_grammar::{find, truth_of};
 use rl_tokens::{Form, SourceForm, SourceToken, Sources};
+
+/// The status of a literal token without a reading, of sources alone: of lists 2 says that no literal stands there.
+const NO_READING: u8 = 2;
 
 /// Whether the token is a literal, or one of the words `true` and `false`.
 fn is_literal(token: SourceToken<'_>) -> bool
@@ -53,8 +56,9 @@ pub extern "C" fn rl_source_start(text: &[u8]) -> usize
 }
 
 /// The next literal of a source, from the byte `at` on, to which it was cut: 0 where none comes any more, 1 for a
-/// literal, 2 for a token that is one by its form and has no reading, else the number of the error that comes first.
-/// `next` tells the literal or that token, and where what is left begins; by `lo` the place of the error.
+/// literal, 2 for a token that is one by its form and has no reading, as `reading` then says, else the number of the
+/// error that comes first.
+/// `next` then holds the literal or that token, and where what is left begins; in `lo` the place of the error.
 #[unsafe(no_mangle)]
 pub extern "C" fn rl_source_next(text: &[u8], at: usize, next: &mut Next) -> u8
     requires utf8 { IsUtf8 text.now }
@@ -73,7 +77,7 @@ pub extern "C" fn rl_source_next(text: &[u8], at: usize, next: &mut Next) -> u8
                 next.lo = error.at;
                 error_number(error.kind)
             }
-            None => 0,
+            None => END,
         };
     };
     next.lo = token.lo;
@@ -83,8 +87,11 @@ pub extern "C" fn rl_source_next(text: &[u8], at: usize, next: &mut Next) -> u8
     match find(token.text) {
         Some(found) => {
             next.reading = Reading::of(&found);
-            1
+            LITERAL
         }
-        None => 2,
+        None => {
+            next.reading = Reading::verbatim(token.text.len());
+            NO_READING
+        }
     }
 }

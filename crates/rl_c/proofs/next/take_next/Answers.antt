@@ -3,7 +3,7 @@ use Rattle.rl_tokens.specs.Cursors.{form_view}
 use Rattle.rl_tokens.specs.Lexemes.{MarkForm}
 use Rattle.rl_c.specs.declared.next.Next.{Next}
 use Rattle.rl_c.specs.Lists.{TakesNextLiteral}
-use Rattle.rl_c.proofs.NextLemmas.{no_number, no_word, takes_alone, token_told, word_told}
+use Rattle.rl_c.proofs.NextLemmas.{no_number, no_word, takes_alone, token_reported, word_reported}
 use Rattle.rl_c.proofs.next.take_next.Goals as goal
 
 pub returns-in_default-form-2 : goal.returns-in_default-form-2
@@ -20,10 +20,10 @@ returns-in_default-truth_of-clause-none c = λ _. no_word c.args.tokens.now c.ne
 
 pub returns-in-Some-truth_of-clause-some : goal.returns-in-Some-truth_of-clause-some
 returns-in-Some-truth_of-clause-some c = λ _.
-    let told = word_told c.in-Some.token c.tell_token-in-Identifier.new.self c.in-Some-truth_of.field-0 c.in-Identifier.is c.in-Some-truth_of.ensures.some c.tell_token-in-Identifier.ensures in
-    subst (λ (n : Next). TakesNextLiteral c.args.tokens.now n c.next.new.self) (sym c.tell_alone-in-Identifier.ensures) (takes_alone c.args.tokens.now c.next.new.self c.in-Some.token _ c.in-Some.ensures.next told refl refl refl refl)
+    let reported = word_reported c.in-Some.token c.report_token-in-Identifier.new.self c.in-Some-truth_of.field-0 c.in-Identifier.is c.in-Some-truth_of.ensures.some c.report_token-in-Identifier.ensures in
+    subst (λ (n : Next). TakesNextLiteral c.args.tokens.now n c.next.new.self) (sym c.report_alone-in-Identifier.ensures) (takes_alone c.args.tokens.now c.next.new.self c.in-Some.token _ c.in-Some.ensures.next reported refl refl refl refl)
 
 pub returns-in-Literal-clause-some : goal.returns-in-Literal-clause-some
 returns-in-Literal-clause-some c = λ _.
-    let told = token_told c.in-Some.token c.tell_token.new.self c.in-Literal.is c.tell_token.ensures in
-    subst (λ (n : Next). TakesNextLiteral c.args.tokens.now n c.next.new.self) (sym c.tell_alone.ensures) (takes_alone c.args.tokens.now c.next.new.self c.in-Some.token _ c.in-Some.ensures.next told refl refl refl refl)
+    let reported = token_reported c.in-Some.token c.report_token.new.self c.in-Literal.is c.report_token.ensures in
+    subst (λ (n : Next). TakesNextLiteral c.args.tokens.now n c.next.new.self) (sym c.report_alone.ensures) (takes_alone c.args.tokens.now c.next.new.self c.in-Some.token _ c.in-Some.ensures.next reported refl refl refl refl)
