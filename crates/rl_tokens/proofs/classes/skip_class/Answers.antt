@@ -1,4 +1,4 @@
-use Rattle.std.proofs.Common.{◌∙◌, sym}
+use Rattle.std.proofs.Common.{◌∙◌, sym, rules}
 use Rattle.std.specs.Str.{chars}
 use Rattle.rl_tokens.specs.Classes.{class_test}
 use Rattle.rl_tokens.proofs.BehindLemmas.{behind_step}
@@ -13,3 +13,6 @@ loop-byte-preserved c = record {
 
 pub returns-clause-following : goal.returns-clause-following
 returns-clause-following c = behind_step c.args.text.now c.loop-byte.rest.now c.skip_wide_class.result.now c.loop-byte.invariant.following c.skip_wide_class.ensures.following
+
+pub returns-then-not-is_of-clause-rest : goal.returns-then-not-is_of-clause-rest
+returns-then-not-is_of-clause-rest c = search rules steps 300000

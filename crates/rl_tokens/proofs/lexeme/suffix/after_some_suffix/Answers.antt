@@ -1,3 +1,4 @@
+use Rattle.std.proofs.Common.{rules}
 use Rattle.rl_tokens.proofs.BehindLemmas.{behind_self, behind_step}
 use Rattle.rl_tokens.proofs.lexeme.suffix.after_some_suffix.Goals as goal
 
@@ -6,3 +7,6 @@ returns-in-Some-clause-following c = behind_step c.args.text.now c.in-Some.follo
 
 pub returns-in_default-clause-following : goal.returns-in_default-clause-following
 returns-in_default-clause-following c = behind_self c.args.text.now c.utf8.text
+
+pub returns-in_default-clause-rest : goal.returns-in_default-clause-rest
+returns-in_default-clause-rest c = search rules steps 300000

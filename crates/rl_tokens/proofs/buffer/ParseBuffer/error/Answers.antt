@@ -1,0 +1,6 @@
+use Rattle.std.proofs.lemmas.Grind.{common_steps}
+use Rattle.std.proofs.Common.{arith}
+use Rattle.rl_tokens.proofs.buffer.ParseBuffer.error.Goals as goal
+
+pub returns : goal.returns
+returns g c = grind (arith, common_steps) steps 300000
