@@ -1,3 +1,5 @@
+use Rattle.std.proofs.lemmas.Grind.{common_steps}
+use Rattle.std.proofs.Common.{arith}
 use Rattle.rl_quoted.proofs.lit_str.LitStr+A.value.Goals as goal
 
 pub str_of_body-requires : goal.str_of_body-requires
@@ -5,3 +7,6 @@ str_of_body-requires g c = let body = c.body-plain.ensures in (_, body.stands, b
 
 pub returns-in-Ok-clause-value : goal.returns-in-Ok-clause-value
 returns-in-Ok-clause-value g c = let body = c.body-plain.ensures in c.in-Ok.ensures.value _ body.stands body.text
+
+pub returns-clause-memory : goal.returns-clause-memory
+returns-clause-memory g c = grind (arith, common_steps) steps 400000

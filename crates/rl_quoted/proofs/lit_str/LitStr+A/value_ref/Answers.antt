@@ -7,3 +7,9 @@ pub returns-then-plain-clause-some : goal.returns-then-plain-clause-some
 returns-then-plain-clause-some g c =
     let body : IsUtf8 c.body-plain.result.0.now = search rules in
     plain_contents _ _ _ c.if-plain.true c.body-plain.ensures.stands c.body-plain.ensures.text body
+
+pub returns-else-plain-clause-some : goal.returns-else-plain-clause-some
+returns-else-plain-clause-some g c = search rules steps 400000
+
+pub returns-else-plain-clause-plain : goal.returns-else-plain-clause-plain
+returns-else-plain-clause-plain g c = search rules steps 400000
