@@ -1,0 +1,14 @@
+//! The commands of `rl_tool`: a text as one literal, a list of literals, attributes; each between a
+//! reader and a writer. And the command line of the program that does them.
+#![tactic(auto)]
+
+pub mod attr;
+mod attribute_lines;
+mod command;
+mod ending;
+mod list;
+mod run;
+
+pub use crate::command::Command;
+pub use crate::ending::{Ending, call};
+pub use crate::run::run;
