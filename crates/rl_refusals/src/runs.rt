@@ -9,8 +9,8 @@ use rl_refusing::{Page, Refusing};
 use rl_tokens::{Error, Parse, ParseBuffer, Span, lex};
 use std::alloc::Global;
 
-/// A borrowed allocator that refuses where it is asked to.
-type Lent<'a> = &'a Refusing<Global>;
+/// A borrowed allocator that fails where it is asked to.
+type Borrowed<'a> = &'a Refusing<Global>;
 
 /// Puts last what comes of a run, with ample memory, and then with each request and all behind it refused. A row is the
 /// command's name, a space and the input.
@@ -26,11 +26,11 @@ pub fn of_command(alloc: Global, row: &str, page: &mut Page) {
     }
 }
 
-/// Puts last what a run reports while the requests from this one on are refused, and how many bytes it has written. Tells
+/// Puts last what a run reports while the requests from this one on are refused, and how many bytes it has written. Returns
 /// how many requests came.
 fn put_run(
     alloc: Global,
-    refusing: Lent<'_>,
+    refusing: Borrowed<'_>,
     first: u64,
     command: Command,
     text: &str,
@@ -62,9 +62,9 @@ pub fn attributes(alloc: Global, text: &str, page: &mut Page) {
     }
 }
 
-/// Puts last what the parser reports while these requests are refused, and how many trees are left. Tells how many requests
+/// Puts last what the parser reports while these requests are refused, and how many trees are left. Returns how many requests
 /// came.
-fn put_parsed(refusing: Lent<'_>, first: u64, last: u64, text: &str, page: &mut Page) -> u64 {
+fn put_parsed(refusing: Borrowed<'_>, first: u64, last: u64, text: &str, page: &mut Page) -> u64 {
     let Ok(stream) = lex(refusing, text, 0) else {
         page.fail();
         return 0;
@@ -82,7 +82,7 @@ fn put_parsed(refusing: Lent<'_>, first: u64, last: u64, text: &str, page: &mut 
 }
 
 /// Puts last how many attributes were parsed, or why none were.
-fn put_answer(answer: Result<Attrs<Lent<'_>>, Error<Lent<'_>>>, page: &mut Page) {
+fn put_answer(answer: Result<Attrs<Borrowed<'_>>, Error<Borrowed<'_>>>, page: &mut Page) {
     match answer {
         Ok(attrs) => {
             page.put_number(attrs.entries().len());
