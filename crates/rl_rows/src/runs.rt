@@ -81,12 +81,18 @@ fn put_call(alloc: Global, words: &str, input: &[u8], streams: Streams, out: &mu
         return out.fail();
     };
     let mut held = Vec::new(alloc);
-    let ending = call(
-        alloc,
-        args.as_slice(),
-        &mut Input::new(input, streams),
-        &mut Output::new(&mut held, streams),
-    );
+    let mut input = Input {
+        bytes: input,
+        at_once: streams.at_once,
+        left: streams.readable,
+    };
+    let mut output = Output {
+        held: &mut held,
+        at_once: streams.at_once,
+        left: streams.writable,
+        is_full: streams.is_full,
+    };
+    let ending = call(alloc, args.as_slice(), &mut input, &mut output);
     out.put(text_of(held.as_slice()));
     put_ending(&ending, out)
 }

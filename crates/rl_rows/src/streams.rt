@@ -47,20 +47,12 @@ fn limit_of(word: &str) -> usize {
 /// An input that gives few bytes at once, and fails after some.
 #[derive(Drop)]
 pub(crate) struct Input<'a> {
-    bytes: &'a [u8],
-    at_once: usize,
-    left: usize,
-}
-
-impl<'a> Input<'a> {
-    /// One over these bytes.
-    pub(crate) fn new(bytes: &'a [u8], streams: Streams) -> Input<'a> {
-        Input {
-            bytes,
-            at_once: streams.at_once,
-            left: streams.readable,
-        }
-    }
+    /// What is still to be read.
+    pub(crate) bytes: &'a [u8],
+    /// How many bytes a call gives at most.
+    pub(crate) at_once: usize,
+    /// After how many bytes reading fails.
+    pub(crate) left: usize,
 }
 
 impl Read for Input<'_> {
@@ -77,22 +69,14 @@ impl Read for Input<'_> {
 /// An output that takes few bytes at once, and fails, or takes none, after some.
 #[derive(Drop)]
 pub(crate) struct Output<'a> {
-    held: &'a mut Vec<u8>,
-    at_once: usize,
-    left: usize,
-    is_full: bool,
-}
-
-impl<'a> Output<'a> {
-    /// One that puts into the list what it takes.
-    pub(crate) fn new(held: &'a mut Vec<u8>, streams: Streams) -> Output<'a> {
-        Output {
-            held,
-            at_once: streams.at_once,
-            left: streams.writable,
-            is_full: streams.is_full,
-        }
-    }
+    /// What was taken.
+    pub(crate) held: &'a mut Vec<u8>,
+    /// How many bytes a call takes at most.
+    pub(crate) at_once: usize,
+    /// After how many bytes writing fails.
+    pub(crate) left: usize,
+    /// Whether then no byte is taken, in place of an error.
+    pub(crate) is_full: bool,
 }
 
 impl Write for Output<'_> {
