@@ -7,8 +7,7 @@ mod attribute_lines;
 mod command;
 mod ending;
 mod list;
-mod run;
+pub mod run;
 
 pub use crate::command::Command;
 pub use crate::ending::{Ending, call};
-pub use crate::run::run;

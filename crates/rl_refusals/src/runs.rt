@@ -3,7 +3,8 @@
 
 use crate::held::NO_CALL;
 use rl_attributes::Attrs;
-use rl_commands::{Command, run};
+use rl_commands::Command;
+use rl_commands::run::run;
 use rl_lines::Refusal;
 use rl_refusing::{Page, Refusing};
 use rl_tokens::{Error, Parse, ParseBuffer, Span, lex};
