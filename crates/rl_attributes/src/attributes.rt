@@ -38,8 +38,8 @@ pub struct Entry<A: Allocator = Global> {
 /// # Example
 ///
 /// ```
-/// let attrs = read(rt.alloc(), text.text(), 0)?;
-/// assert!(&rt; attrs.entries().len() == 100_000);
+/// let attrs = read(alloc, text, file)?;
+/// attrs.check(&[PORT, NAME, VERBOSE])?;
 /// ```
 #[derive(Drop)]
 pub struct Attrs<A: Allocator = Global> {

@@ -1,8 +1,9 @@
 //! Tries the libraries where they are refused something. For development.
 //!
-//! A line of input begins with `cut`, `long` or a type's name. Behind a type's name stand a call of it and a text: the
-//! requests for memory of the call are refused, each in turn. Behind `cut` stands a text that is cut at each place. Behind
-//! `long` stand the parts of a long text.
+//! A line of input begins with `cut`, `long`, `run`, `attributes` or a type's name. Behind a type's name stand a call of it and
+//! a text: the requests for memory of the call are refused, each in turn. So are those of a run behind `run` and a command's
+//! name, and those of the parser of attributes behind `attributes`. Behind `cut` stands a text that is cut at each place.
+//! Behind `long` stand the parts of a long text.
 #![tactic(auto)]
 
 mod grammar;
@@ -11,6 +12,7 @@ mod hostile;
 mod inside;
 mod made;
 mod rows;
+mod runs;
 mod sources;
 mod tell;
 mod tokens;
@@ -31,6 +33,8 @@ fn answer(alloc: Global, line: &str) -> Result<String, AllocError> {
     match of {
         "cut" => hostile::cuts(alloc, rest, &mut page),
         "long" => hostile::long(alloc, rest, &mut page),
+        "run" => runs::of_command(alloc, rest, &mut page),
+        "attributes" => runs::attributes(alloc, rest, &mut page),
         _ => {
             let (call, text) = rest.split_once(' ').unwrap_or((rest, ""));
             rows::answer(alloc, Row { of, call, text }, &mut page);

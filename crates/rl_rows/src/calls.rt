@@ -1,15 +1,18 @@
 //! Calls of the libraries by name, each on a text or on bytes.
 
 use crate::{
-    bytes, copies, lists, literals, long, messages, numbers, parsers, rejected, scans, shapes,
-    tokens, trees, uses,
+    attributes, bytes, copies, lists, literals, long, messages, numbers, parsers, rejected, runs,
+    scans, shapes, tokens, trees, uses,
 };
 use rl_refusing::Page;
 use std::alloc::Global;
 
 /// Prints what a call of this name answers to the bytes; of a call that takes a text, that they are none.
 pub(crate) fn tell(alloc: Global, name: &str, bytes: &[u8], out: &mut Page) {
-    if bytes::told(alloc, name, bytes, out) || scans::told(alloc, name, bytes, out) {
+    if bytes::told(alloc, name, bytes, out)
+        || scans::told(alloc, name, bytes, out)
+        || runs::told(alloc, name, bytes, out)
+    {
         return;
     }
     let Ok(text) = std::str::from_utf8(bytes) else {
@@ -38,4 +41,5 @@ fn of_trees(alloc: Global, name: &str, text: &str, out: &mut Page) -> bool {
         || lists::told(alloc, name, text, out)
         || parsers::told(alloc, name, text, out)
         || uses::told(alloc, name, text, out)
+        || attributes::told(alloc, name, text, out)
 }

@@ -2,6 +2,7 @@
 //! compared with stored lines or, many texts at once, with what other programs say. What commands print is a clause.
 #![tactic(auto)]
 
+mod attributes;
 mod bulk;
 mod bytes;
 mod calls;
@@ -15,8 +16,10 @@ mod numbers;
 mod parsers;
 mod rejected;
 mod row;
+mod runs;
 mod scans;
 mod shapes;
+mod streams;
 mod takers;
 mod tell;
 mod tokens;

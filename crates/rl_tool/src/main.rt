@@ -3,18 +3,9 @@
 
 ghost use Rattle.std.specs.Prelude.{◌≡◌};
 ghost use Rattle.std.specs.Process.{exit_status};
-ghost use Rattle.rl_tool.specs.Endings.{status_of};
+ghost use Rattle.rl_commands.specs.Endings.{status_of};
 
-mod attr;
-mod attribute_lines;
-mod command;
-mod ending;
-mod list;
-mod run;
-#[cfg(test)]
-mod tests;
-
-use ending::{Ending, call};
+use rl_commands::{Ending, call};
 use rl_program::{arguments, finish};
 use std::process::ExitCode;
 

@@ -1,0 +1,8 @@
+use Rattle.std.proofs.Common.{string_bytes}
+use Rattle.std.specs.Str.{chars}
+use Rattle.rl_lines.proofs.EntryLineLemmas.{shows_attributes}
+use Rattle.rl_commands.proofs.attribute_lines.attribute_lines.Goals as goal
+
+pub returns-clause-lines : goal.returns-clause-lines
+returns-clause-lines g c =
+    shows_attributes (chars c.args.text.now) c.entries.result.now (chars (string_bytes c.in_ok-lines.lines)) (rw c.entries.ensures.entries c.in-Ok.ensures.attributes) (rw c.entries.ensures.entries c.in-Ok.ensures.values) c.in_ok-lines.ensures

@@ -1,0 +1,13 @@
+//! The commands of `rl_tool`: a text as one literal, a list of literals, attributes; each between a
+//! reader and a writer. And the command line of the program that does them.
+#![tactic(auto)]
+
+pub mod attr;
+mod attribute_lines;
+mod command;
+mod ending;
+mod list;
+pub mod run;
+
+pub use crate::command::Command;
+pub use crate::ending::{Ending, call};

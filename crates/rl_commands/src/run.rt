@@ -1,0 +1,105 @@
+//! A run of the program, over any reader and writer.
+
+ghost use Rattle.std.specs.Prelude.{◌≡◌, IfErr, IfOk, IfSome, OnOk, string_bytes};
+ghost use Rattle.std.specs.Str.{chars, IsUtf8};
+ghost use Rattle.rl_commands.specs.declared.command.Command.TheVariants.{Text};
+ghost use Rattle.rl_tokens.specs.Errors.{memory_at};
+ghost use Rattle.rust_literals.specs.Literals.{IsReadFrom};
+ghost use Rattle.rust_literals.specs.LitParts.{ReadsAsNumber};
+ghost use Rattle.rl_commands.specs.Runs.{whole_token, Shows, Prints, ReportsLiteral, IsErrorOf, IsRejectionOf};
+
+use crate::attribute_lines::attribute_lines;
+use crate::command::Command;
+use crate::list::literal_lines;
+use rl_lines::line_of;
+use rl_program::{Fault, read_whole, text_of, write_whole};
+use rl_tokens::{Literal, Span};
+use rust_literals::Lit;
+use std::alloc::Allocator;
+use std::io::{Read, Write};
+
+/// The whole input as one token. The input is let go.
+fn token_of<A: Allocator + Copy>(alloc: A, bytes: Vec<u8, A>) -> Result<Literal<A>, Fault<A>>
+    ensures utf8 { OnOk result (IsUtf8 bytes.items) }
+    ensures token { IfOk result (λ token. token ≡ whole_token bytes.items) }
+    ensures rejection { IfErr result (IsRejectionOf Text bytes.items) }
+{
+    let text = text_of(bytes.as_slice())?;
+    let span = Span::new(0, 0, text.len());
+    match Literal::from_text(alloc, text, span) {
+        Ok(token) => Ok(token),
+        Err(_) => Err(Fault::Memory),
+    }
+}
+
+/// The literal that a token is. An allocation failure is the literal's.
+fn literal_of<A: Allocator + Copy>(alloc: A, token: Literal<A>) -> Result<Lit<A>, Fault<A>>
+    ensures reads { IfOk result (IsReadFrom token) }
+    ensures rejection { IfErr result
+        (ReportsLiteral (λ e. (e ≡ memory_at token.span) × ReadsAsNumber (chars token.text))) }
+{
+    match Lit::new(alloc, token) {
+        Ok(literal) => Ok(literal),
+        Err(kept) => Err(Fault::Literal(kept.error)),
+    }
+}
+
+/// The line of the whole input as one literal.
+fn literal_line<A: Allocator + Copy>(alloc: A, bytes: Vec<u8, A>) -> Result<String<A>, Fault<A>>
+    ensures utf8 { OnOk result (IsUtf8 bytes.items) }
+    ensures line { IfOk result
+        (λ line. Shows Text (chars bytes.items) (chars (string_bytes line))) }
+    ensures rejection { IfErr result (IsRejectionOf Text bytes.items) }
+{
+    let token = token_of(alloc, bytes)?;
+    let literal = literal_of(alloc, token)?;
+    let line = line_of(alloc, &literal)?;
+    Ok(line)
+}
+
+/// All lines of the input.
+fn lines_of_input<A: Allocator + Copy>(
+    alloc: A,
+    command: Command,
+    bytes: Vec<u8, A>,
+) -> Result<String<A>, Fault<A>>
+    ensures utf8 { OnOk result (IsUtf8 bytes.items) }
+    ensures lines { IfOk result
+        (λ lines. Shows command (chars bytes.items) (chars (string_bytes lines))) }
+    ensures rejection { IfErr result (IsRejectionOf command bytes.items) }
+{
+    match command {
+        Command::Text => literal_line(alloc, bytes),
+        Command::Read => literal_lines(alloc, text_of(bytes.as_slice())?),
+        Command::Attr => attribute_lines(alloc, text_of(bytes.as_slice())?),
+    }
+}
+
+/// Reads the whole input, and writes the lines of its literals or attributes.
+///
+/// All lines are made before the first is written, so an error writes nothing; a write that fails leaves a beginning
+/// of the lines' bytes written.
+///
+/// # Errors
+///
+/// `NotText` exactly where the input was read whole and isn't UTF-8. `Literal` has the error of `Lit::new`,
+/// `read_all` or `attr::read`, and `Memory` is reported of every other growth that failed. `Read` and `Write` come
+/// where a call of the reader or the writer failed, or where 4,294,967,295 turns of reading brought no end.
+pub fn run<A: Allocator + Copy, R: Read, W: Write>(
+    alloc: A,
+    command: Command,
+    input: &mut R,
+    out: &mut W,
+) -> Result<(), Fault<A>>
+    ensures printed { OnOk result (IfSome (R.remaining input.old)
+        (λ bytes. Prints command bytes (W.contents out.old) (W.contents out.new))) }
+    ensures fault { IfErr result
+        (IsErrorOf command (R.remaining input.old) (W.contents out.old) (W.contents out.new)) }
+{
+    let bytes = read_whole(alloc, input)?;
+    let lines = match lines_of_input(alloc, command, bytes) {
+        Ok(lines) => lines,
+        Err(fault) => return Err(fault),
+    };
+    write_whole(out, lines.as_bytes())
+}

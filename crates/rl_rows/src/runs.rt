@@ -1,0 +1,122 @@
+//! Calls of the program for texts, lists and attributes. A US (0x1F) parts its words, with a LF between them, from its
+//! input, and what its streams are like from the words.
+
+use crate::streams::{Input, Output, Streams};
+use crate::tell::{show_line, show_word};
+use rl_commands::{Ending, call};
+use rl_program::Fault;
+use rl_refusing::Page;
+use rl_tokens::{Error, ErrorKind, Span};
+use std::alloc::{AllocError, Global};
+
+/// Prints what a call of this name answers; false where there is none.
+pub(crate) fn told(alloc: Global, name: &str, bytes: &[u8], out: &mut Page) -> bool {
+    match name {
+        "call" => called(alloc, bytes, out),
+        "call_by" => called_by(alloc, bytes, out),
+        "endings" => endings(out),
+        _ => return false,
+    }
+    true
+}
+
+/// The bytes before the first US, and those after it.
+fn parts_of(bytes: &[u8]) -> (&[u8], &[u8]) {
+    let at = bytes.iter().position(|b| *b == 0x1f).unwrap_or(bytes.len());
+    let (front, rest) = bytes.split_at(at);
+    (front, rest.get(1..).unwrap_or(&[]))
+}
+
+/// The bytes as a text, which is empty where they are none.
+fn text_of(bytes: &[u8]) -> &str {
+    std::str::from_utf8(bytes).unwrap_or("")
+}
+
+/// Prints a call over streams that pass all bytes.
+fn called(alloc: Global, bytes: &[u8], out: &mut Page) {
+    let (words, input) = parts_of(bytes);
+    put_call(alloc, text_of(words), input, Streams::WHOLE, out)
+}
+
+/// Prints a call whose input is spelled by pieces, over streams that words ask for.
+fn called_by(alloc: Global, bytes: &[u8], out: &mut Page) {
+    let (streams, rest) = parts_of(bytes);
+    let (words, pieces) = parts_of(rest);
+    let mut input = out.another();
+    put_pieces(text_of(pieces), &mut input);
+    let Ok(input) = input.finished() else {
+        return out.fail();
+    };
+    let streams = Streams::of_words(text_of(streams));
+    put_call(alloc, text_of(words), input.as_bytes(), streams, out)
+}
+
+/// Puts pieces last that a RS (0x1E) parts, each after how often it stands there, as `3*a`.
+fn put_pieces(pieces: &str, text: &mut Page) {
+    for part in pieces.split('\u{1e}') {
+        let (count, piece) = part.split_once('*').unwrap_or(("1", part));
+        put_often(count.parse::<u32>().unwrap_or(0), piece, text);
+    }
+}
+
+/// Puts a piece last so many times.
+fn put_often(count: u32, piece: &str, text: &mut Page) {
+    for _ in 0..count {
+        text.put(piece);
+    }
+}
+
+/// The arguments: words with a LF between them, of which the first is the program's own name.
+fn arguments(alloc: Global, words: &str) -> Result<Vec<String>, AllocError> {
+    let mut args = Vec::new(alloc);
+    for word in words.split('\n') {
+        args.push(String::from_str(alloc, word)?)?;
+    }
+    Ok(args)
+}
+
+/// Prints what a call writes, its status, and the line that it reports.
+fn put_call(alloc: Global, words: &str, input: &[u8], streams: Streams, out: &mut Page) {
+    let Ok(args) = arguments(alloc, words) else {
+        return out.fail();
+    };
+    let mut held = Vec::new(alloc);
+    let mut input = Input {
+        bytes: input,
+        at_once: streams.at_once,
+        left: streams.readable,
+    };
+    let mut output = Output {
+        held: &mut held,
+        at_once: streams.at_once,
+        left: streams.writable,
+        is_full: streams.is_full,
+    };
+    let ending = call(alloc, args.as_slice(), &mut input, &mut output);
+    out.put(text_of(held.as_slice()));
+    put_ending(&ending, out)
+}
+
+/// Prints the status of an ending, and the line that it reports.
+fn put_ending(ending: &Ending, out: &mut Page) {
+    show_word(&ending.status(), out);
+    show_line(ending, out)
+}
+
+/// Prints how a call ends whose run fails.
+fn put_failed(fault: Fault, out: &mut Page) {
+    put_ending(&Ending::Failed(fault), out)
+}
+
+/// Prints how a call ends whose run fails, of each kind of error.
+fn endings(out: &mut Page) {
+    put_failed(Fault::Read, out);
+    put_failed(Fault::Write, out);
+    put_failed(Fault::NotText, out);
+    put_failed(Fault::Memory, out);
+    let error = Error {
+        span: Span::new(0, 2, 5),
+        kind: ErrorKind::TooLarge,
+    };
+    put_failed(Fault::Literal(error), out)
+}
