@@ -1,13 +1,10 @@
 //! Calls on the literal that a text is.
 
 use crate::inside::{group, inside};
-use crate::tell::{
-    HERE, THERE, at_line, at_word, debug_line, debug_word, line, literal_of, show_line, show_word,
-    tell, tell_answer, tell_error, tell_trees, word,
-};
+use crate::tell::{HERE, THERE, ToRow, at, literal_of, tell, tell_trees};
 use crate::uses::anew;
 use rl_refusing::Page;
-use rl_tokens::{Error, Ident, ParseBuffer, ToTokens, TokenStream};
+use rl_tokens::{Ident, ParseBuffer, ToTokens, TokenStream};
 use rust_literals::{Lit, LitBool};
 use std::alloc::Global;
 
@@ -24,7 +21,10 @@ pub(crate) fn told(alloc: Global, name: &str, text: &str, out: &mut Page) -> boo
 fn told_of(alloc: Global, name: &str, literal: &mut Lit, out: &mut Page) -> bool {
     match name {
         "literal" => moved(alloc, literal, out),
-        "truth" => truth(alloc, out),
+        "truth" => {
+            truth(alloc, false, out);
+            truth(alloc, true, out)
+        }
         "shown" => shown(literal, out),
         "lends" => lends(literal, out),
         "inside" => inside(alloc, literal, out),
@@ -37,21 +37,23 @@ fn told_of(alloc: Global, name: &str, literal: &mut Lit, out: &mut Page) -> bool
 
 /// The literal, its copy, its trees, what is parsed of them, and its suffix; then it is moved.
 fn moved(alloc: Global, literal: &mut Lit, out: &mut Page) {
-    tell(alloc, literal, out);
+    literal.put_in(out);
     push_copy(alloc, literal, out);
     appended(alloc, literal, out);
-    debug_word(&literal.suffix(), out);
+    out.debug(&literal.suffix(), " ");
     literal.set_span(THERE);
-    at_line(literal.span(), out)
+    at(literal.span(), "\n", out)
 }
 
 /// A copy, and whether it is equal.
 fn push_copy(alloc: Global, literal: &Lit, out: &mut Page) {
-    let Ok(copy) = literal.clone(alloc) else {
-        return out.fail();
-    };
-    show_word(&(copy == *literal), out);
-    tell(alloc, &copy, out)
+    match literal.clone(alloc) {
+        Ok(copy) => {
+            out.show(&(copy == *literal), " ");
+            copy.put_in(out)
+        }
+        Err(_) => out.fail(),
+    }
 }
 
 /// The trees of a literal, and what is parsed of them.
@@ -62,42 +64,33 @@ fn appended(alloc: Global, literal: &Lit, out: &mut Page) {
     }
     tell_trees(stream.trees(), out);
     let mut input = ParseBuffer::new(stream.trees(), THERE);
-    tell_answer(alloc, input.parse::<Lit>(alloc), out)
+    tell(input.parse::<Lit>(alloc), out)
 }
 
-/// Both truth values: made, moved, and as a token.
-fn truth(alloc: Global, out: &mut Page) {
-    one_truth(alloc, false, out);
-    one_truth(alloc, true, out)
-}
-
-/// A truth value, in the same way.
-fn one_truth(alloc: Global, value: bool, out: &mut Page) {
+/// A truth value: made, moved, and as a token.
+fn truth(alloc: Global, value: bool, out: &mut Page) {
     let mut literal = LitBool::new(value, HERE);
-    show_word(&literal.value(), out);
-    at_word(literal.span(), out);
+    out.show(&literal.value(), " ");
+    at(literal.span(), " ", out);
     literal.set_span(THERE);
-    tell_word(literal.token(alloc), out)
+    tell(literal.token(alloc), out)
 }
 
-/// A truth value's token: its text and span.
-fn tell_word(own: Result<Ident, Error>, out: &mut Page) {
-    match own {
-        Ok(own) => {
-            word(own.text(), out);
-            at_line(own.span(), out)
-        }
-        Err(error) => tell_error(&error, out),
+/// Its text and span.
+impl ToRow for Ident {
+    fn put_in(&self, out: &mut Page) {
+        out.say(self.text(), " ");
+        at(self.span(), "\n", out)
     }
 }
 
 /// The text's number or token as it is displayed.
 fn shown(literal: &Lit, out: &mut Page) {
     match literal {
-        Lit::Int(literal) => show_line(literal, out),
-        Lit::Float(literal) => show_line(literal, out),
-        Lit::Verbatim(token) => show_line(token, out),
-        _ => line("another literal", out),
+        Lit::Int(literal) => out.show(literal, "\n"),
+        Lit::Float(literal) => out.show(literal, "\n"),
+        Lit::Verbatim(token) => out.show(token, "\n"),
+        _ => out.put("another literal\n"),
     }
 }
 
@@ -107,15 +100,15 @@ fn lends(literal: &Lit, out: &mut Page) {
         Lit::Str(literal) => tell_lent(literal.value_ref(), out),
         Lit::ByteStr(literal) => tell_lent_bytes(literal.value_ref(), out),
         Lit::CStr(literal) => tell_lent_bytes(literal.value_ref(), out),
-        _ => line("no string", out),
+        _ => out.put("no string\n"),
     }
 }
 
 /// Prints a text that is borrowed.
 fn tell_lent(lent: Option<&str>, out: &mut Page) {
     match lent {
-        Some(value) => debug_line(&value, out),
-        None => line("nothing", out),
+        Some(value) => out.debug(&value, "\n"),
+        None => out.put("nothing\n"),
     }
 }
 
@@ -123,9 +116,9 @@ fn tell_lent(lent: Option<&str>, out: &mut Page) {
 fn tell_lent_bytes(lent: Option<&[u8]>, out: &mut Page) {
     match lent {
         Some(bytes) => match std::str::from_utf8(bytes) {
-            Ok(value) => debug_line(&value, out),
-            Err(_) => line("no text", out),
+            Ok(value) => out.debug(&value, "\n"),
+            Err(_) => out.put("no text\n"),
         },
-        None => line("nothing", out),
+        None => out.put("nothing\n"),
     }
 }

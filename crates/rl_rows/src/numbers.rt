@@ -1,12 +1,9 @@
 //! Numbers of one text: what the structs of numbers make of it, and numbers by base ten.
 
-use crate::tell::{
-    HERE, THERE, at, at_word, debug_word, line, show, show_line, show_word, tell_answer,
-    tell_error, tell_token, token_of, word,
-};
+use crate::tell::{HERE, THERE, ToRow, at, tell, tell_error, tell_shown, token_of};
 use rl_refusing::Page;
 use rl_tokens::{Error, ErrorKind, Kept, Literal};
-use rust_literals::{Lit, LitFloat, LitInt};
+use rust_literals::{FloatKind, IntKind, Lit, LitFloat, LitInt, Number, NumberKind};
 use std::alloc::Global;
 use std::fmt::Display;
 use std::str::FromStr;
@@ -14,8 +11,8 @@ use std::str::FromStr;
 /// Prints what a call of this name answers; false where there is none.
 pub(crate) fn told(alloc: Global, name: &str, text: &str, out: &mut Page) -> bool {
     match name {
-        "integer" => integer(alloc, text, out),
-        "real" => float(alloc, text, out),
+        "integer" => number(Number::<IntKind, Global>::new(alloc, text, HERE), out),
+        "real" => number(Number::<FloatKind, Global>::new(alloc, text, HERE), out),
         "kept" => kept(alloc, text, out),
         "across" => across(alloc, text, out),
         "numbers" => numbers(alloc, text, out),
@@ -25,46 +22,22 @@ pub(crate) fn told(alloc: Global, name: &str, text: &str, out: &mut Page) -> boo
     true
 }
 
-/// The text as an integer: its digits, and itself moved, as text and as a token.
-fn integer(alloc: Global, text: &str, out: &mut Page) {
-    match LitInt::new(alloc, text, HERE) {
-        Ok(mut literal) => moved_integer(alloc, &mut literal, out),
+/// A number, or why there is none.
+fn number<K: NumberKind>(made: Result<Number<K>, Error>, out: &mut Page) {
+    match made {
+        Ok(mut literal) => moved(&mut literal, out),
         Err(error) => tell_error(&error, out),
     }
 }
 
-fn moved_integer(alloc: Global, literal: &mut LitInt, out: &mut Page) {
-    word(literal.base10_digits(), out);
-    debug_word(&literal.suffix(), out);
-    at_word(literal.span(), out);
-    show_word(literal, out);
+/// A number's digits, and itself moved, as text and as a token.
+fn moved<K: NumberKind>(literal: &mut Number<K>, out: &mut Page) {
+    out.say(literal.base10_digits(), " ");
+    out.debug(&literal.suffix(), " ");
+    at(literal.span(), " ", out);
+    out.show(literal, " ");
     literal.set_span(THERE);
-    tell_own_token(literal.token(alloc), out)
-}
-
-/// The text as a float, in the same way.
-fn float(alloc: Global, text: &str, out: &mut Page) {
-    match LitFloat::new(alloc, text, HERE) {
-        Ok(mut literal) => moved_float(alloc, &mut literal, out),
-        Err(error) => tell_error(&error, out),
-    }
-}
-
-fn moved_float(alloc: Global, literal: &mut LitFloat, out: &mut Page) {
-    word(literal.base10_digits(), out);
-    debug_word(&literal.suffix(), out);
-    at_word(literal.span(), out);
-    show_word(literal, out);
-    literal.set_span(THERE);
-    tell_own_token(literal.token(alloc), out)
-}
-
-/// A literal's token: its text and span.
-fn tell_own_token(token: Result<Literal, Error>, out: &mut Page) {
-    match token {
-        Ok(token) => tell_token(&token, out),
-        Err(error) => tell_error(&error, out),
-    }
+    tell(literal.token(out.alloc()), out)
 }
 
 /// The text as a token that is made an integer, or handed back, and the same of a float.
@@ -73,7 +46,7 @@ fn kept(alloc: Global, text: &str, out: &mut Page) {
         return out.fail();
     };
     match LitInt::from_token(alloc, token) {
-        Ok(literal) => tell_answer(alloc, Ok(Lit::Int(literal)), out),
+        Ok(literal) => Lit::Int(literal).put_in(out),
         Err(kept) => kept_of_float(alloc, handed_back(kept, out), out),
     }
 }
@@ -81,48 +54,27 @@ fn kept(alloc: Global, text: &str, out: &mut Page) {
 /// The token made a float, or why it is none.
 fn kept_of_float(alloc: Global, token: Literal, out: &mut Page) {
     match LitFloat::from_token(alloc, token) {
-        Ok(literal) => tell_answer(alloc, Ok(Lit::Float(literal)), out),
-        Err(kept) => tell_answer(alloc, Err(Error::from(kept)), out),
+        Ok(literal) => Lit::Float(literal).put_in(out),
+        Err(kept) => tell_error(&Error::from(kept), out),
     }
 }
 
 /// Prints a token that was handed back, and why.
 fn handed_back(kept: Kept<Literal>, out: &mut Page) -> Literal {
-    word(kept.value.text(), out);
-    at_word(kept.value.span(), out);
+    out.say(kept.value.text(), " ");
+    at(kept.value.span(), " ", out);
     tell_error(&kept.error, out);
     kept.value
 }
 
-/// The text as an integer literal.
-fn integer_of(alloc: Global, text: &str) -> Option<Lit> {
-    match LitInt::new(alloc, text, HERE) {
-        Ok(literal) => Some(Lit::Int(literal)),
-        Err(_) => None,
-    }
-}
-
-/// The text as a float literal.
-fn float_of(alloc: Global, text: &str) -> Option<Lit> {
-    match LitFloat::new(alloc, text, HERE) {
-        Ok(literal) => Some(Lit::Float(literal)),
-        Err(_) => None,
-    }
-}
-
 /// Whether the text as an integer equals it as a float.
 fn across(alloc: Global, text: &str, out: &mut Page) {
-    match integer_of(alloc, text) {
-        Some(integer) => equals_float(alloc, &integer, text, out),
-        None => line("None", out),
-    }
-}
-
-/// Whether a literal equals the text as a float.
-fn equals_float(alloc: Global, literal: &Lit, text: &str, out: &mut Page) {
-    match float_of(alloc, text) {
-        Some(float) => show_line(&(*literal == float), out),
-        None => line("None", out),
+    let Ok(integer) = LitInt::new(alloc, text, HERE) else {
+        return out.put("None\n");
+    };
+    match LitFloat::new(alloc, text, HERE) {
+        Ok(float) => out.show(&(Lit::Int(integer) == Lit::Float(float)), "\n"),
+        Err(_) => out.put("None\n"),
     }
 }
 
@@ -131,9 +83,11 @@ fn made<N: FromStr + Display + Drop>(alloc: Global, literal: &LitInt, out: &mut 
 where
     N::Err: Display + Drop,
 {
-    out.put(" ");
     match literal.base10_parse::<N, Global>(alloc) {
-        Ok(number) => show(&number, out),
+        Ok(number) => {
+            out.put(" ");
+            out.put_shown(&number)
+        }
         Err(error) => refused_number(&error, out),
     }
 }
@@ -142,8 +96,8 @@ where
 fn refused_number(error: &Error, out: &mut Page) {
     match error.kind {
         ErrorKind::Number(_) => {
-            out.put("at ");
-            at(error.span, out)
+            out.put(" at ");
+            at(error.span, "", out)
         }
         _ => out.fail(),
     }
@@ -156,7 +110,7 @@ fn numbers(alloc: Global, text: &str, out: &mut Page) {
             narrow(alloc, &literal, out);
             wide(alloc, &literal, out)
         }
-        Err(_) => line("no integer", out),
+        Err(_) => out.put("no integer\n"),
     }
 }
 
@@ -185,15 +139,7 @@ fn wide(alloc: Global, literal: &LitInt, out: &mut Page) {
 /// The byte that the text makes as a float.
 fn float_byte(alloc: Global, text: &str, out: &mut Page) {
     match LitFloat::new(alloc, text, HERE) {
-        Ok(literal) => byte_of(alloc, &literal, out),
-        Err(_) => line("no float", out),
-    }
-}
-
-/// The byte that the float's digits make.
-fn byte_of(alloc: Global, literal: &LitFloat, out: &mut Page) {
-    match literal.base10_parse::<u8, Global>(alloc) {
-        Ok(number) => show_line(&number, out),
-        Err(error) => tell_error(&error, out),
+        Ok(literal) => tell_shown(literal.base10_parse::<u8, Global>(alloc), out),
+        Err(_) => out.put("no float\n"),
     }
 }

@@ -1,9 +1,10 @@
 //! The trees of a text, and why it is cut into none.
 
-use crate::tell::{HERE, debug_word, line, place, show, tell_form, token_of, word};
+use crate::takers::append;
+use crate::tell::{HERE, place, tell_form, token_of};
 use rl_refusing::Page;
 use rl_tokens::{Delimiter, Group, LexKind, Span, TokenStream, TokenTree, Tokens, lex};
-use std::alloc::{AllocError, Global};
+use std::alloc::Global;
 
 /// Prints what a call of this name answers; false where there is none.
 pub(crate) fn told(alloc: Global, name: &str, text: &str, out: &mut Page) -> bool {
@@ -20,11 +21,11 @@ pub(crate) fn told(alloc: Global, name: &str, text: &str, out: &mut Page) -> boo
 fn tell_all(trees: &[TokenTree], out: &mut Page) {
     for tree in trees {
         tell_form(tree, out);
-        place(tree.span(), out);
+        place(tree.span(), " ", out);
         if let TokenTree::Group(group) = tree {
-            word("<", out);
+            out.put("< ");
             tell_all(group.stream().trees(), out);
-            word(">", out);
+            out.put("> ");
         }
     }
 }
@@ -40,28 +41,16 @@ fn cut(alloc: Global, text: &str, out: &mut Page) {
 
 /// Prints an error and its byte.
 fn tell_fault(kind: LexKind, at: usize, out: &mut Page) {
-    debug_word(&kind, out);
-    show(&at, out)
+    out.debug(&kind, " ");
+    out.put_shown(&at)
 }
 
 /// Prints why the tokens stopped, where they did.
 fn tell_stop(tokens: &Tokens<'_>, out: &mut Page) {
-    match tokens.fault() {
-        Some(fault) => {
-            tell_fault(fault.kind, fault.at, out);
-            out.put("; ")
-        }
-        None => {},
+    if let Some(fault) = tokens.fault() {
+        tell_fault(fault.kind, fault.at, out);
+        out.put("; ")
     }
-}
-
-/// Prints a token and its bytes.
-fn tell_lent(text: &str, lo: usize, hi: usize, out: &mut Page) {
-    word(text, out);
-    show(&lo, out);
-    out.put("..");
-    show(&hi, out);
-    out.put("; ")
 }
 
 /// The tokens of a text as they are borrowed, why they stopped, and what is left of it.
@@ -69,12 +58,14 @@ fn lent(text: &str, out: &mut Page) {
     let mut tokens = Tokens::new(text);
     for _ in 0..text.len() {
         tell_stop(&tokens, out);
-        match tokens.next() {
-            Some(token) => tell_lent(token.text, token.lo, token.hi, out),
-            None => break,
-        }
+        let Some(token) = tokens.next() else {
+            break;
+        };
+        out.say(token.text, " ");
+        out.show(&token.lo, "..");
+        out.show(&token.hi, "; ");
     }
-    line(tokens.rest(), out)
+    out.say(tokens.rest(), "\n")
 }
 
 /// A stream that is built of a group and a literal, and set to another span.
@@ -82,24 +73,13 @@ fn built(alloc: Global, out: &mut Page) {
     let Ok(first) = token_of(alloc, "1", HERE) else {
         return out.fail();
     };
-    let Ok(inside) = stream_of(alloc, TokenTree::Literal(first)) else {
-        return out.fail();
-    };
+    let mut inside = TokenStream::new(alloc);
+    append(TokenTree::Literal(first), &mut inside, out);
     let group = Group::new(Delimiter::Brace, inside, HERE);
-    let Ok(mut stream) = stream_of(alloc, TokenTree::Group(group)) else {
-        return out.fail();
-    };
+    let mut stream = TokenStream::new(alloc);
+    append(TokenTree::Group(group), &mut stream, out);
     tell_all(stream.trees(), out);
     stream.respan(Span::new(0, 8, 9));
     tell_all(stream.trees(), out);
     out.put("\n")
-}
-
-/// A stream of one tree.
-fn stream_of(alloc: Global, tree: TokenTree) -> Result<TokenStream, AllocError> {
-    let mut stream = TokenStream::new(alloc);
-    match stream.append(tree) {
-        Ok(()) => Ok(stream),
-        Err(_) => Err(AllocError),
-    }
 }
