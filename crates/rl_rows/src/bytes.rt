@@ -1,6 +1,8 @@
 //! Calls that take bytes: literals of them, and their values again.
 
-use crate::tell::{HERE, ToRow, at, tell, tell_error};
+use crate::tell::{
+    HERE, ToRow, at_word, debug_line, debug_word, show, show_word, tell, tell_error, word,
+};
 use rl_refusing::Page;
 use rl_tokens::{CString, Error, Literal, NulError};
 use rust_literals::{Lit, LitByte, LitByteStr, LitCStr};
@@ -10,10 +12,7 @@ use std::alloc::Global;
 pub(crate) fn told(alloc: Global, name: &str, bytes: &[u8], out: &mut Page) -> bool {
     match name {
         "bytes" => each_byte(alloc, bytes, out),
-        "byte_string" => {
-            tell(Literal::byte_string(alloc, bytes), out);
-            byte_string(LitByteStr::new(alloc, bytes, HERE), out)
-        }
+        "byte_string" => byte_string(alloc, bytes, out),
         "c_string" => c_string(alloc, bytes, out),
         _ => return false,
     }
@@ -23,37 +22,32 @@ pub(crate) fn told(alloc: Global, name: &str, bytes: &[u8], out: &mut Page) -> b
 /// Each byte as a literal, and its value again.
 fn each_byte(alloc: Global, bytes: &[u8], out: &mut Page) {
     for byte in bytes {
-        tell(LitByte::new(alloc, *byte, HERE), out);
+        one_byte(alloc, *byte, out);
         tell(Literal::byte_character(alloc, *byte), out);
     }
 }
 
-/// Its value, suffix and span.
-impl ToRow for LitByte {
-    fn put_in(&self, out: &mut Page) {
-        out.show(&self.value(), self.suffix());
-        out.put(" ");
-        at(self.span(), " ", out)
-    }
+/// A byte as a literal, and its value again.
+fn one_byte(alloc: Global, byte: u8, out: &mut Page) {
+    let Ok(literal) = LitByte::new(alloc, byte, HERE) else {
+        return out.fail();
+    };
+    show(&literal.value(), out);
+    word(literal.suffix(), out);
+    at_word(literal.span(), out)
 }
 
-/// A byte string literal, and its value again.
-fn byte_string(made: Result<LitByteStr, Error>, out: &mut Page) {
-    match made {
-        Ok(literal) => {
-            tell_value(literal.value(out.alloc()), out);
-            Lit::ByteStr(literal).put_in(out)
-        }
-        Err(error) => tell_error(&error, out),
-    }
-}
-
-/// The bytes that a literal stands for.
-fn tell_value(value: Result<Vec<u8>, Error>, out: &mut Page) {
-    match value {
-        Ok(value) => out.debug(&value.as_slice(), " "),
-        Err(_) => out.fail(),
-    }
+/// The bytes as a byte string literal, and its value again.
+fn byte_string(alloc: Global, bytes: &[u8], out: &mut Page) {
+    tell(Literal::byte_string(alloc, bytes), out);
+    let Ok(literal) = LitByteStr::new(alloc, bytes, HERE) else {
+        return out.fail();
+    };
+    let Ok(value) = literal.value(alloc) else {
+        return out.fail();
+    };
+    debug_word(&value.as_slice(), out);
+    Lit::ByteStr(literal).put_in(out)
 }
 
 /// The bytes as a C string, and it as a literal, and its value again.
@@ -70,13 +64,14 @@ fn c_string(alloc: Global, bytes: &[u8], out: &mut Page) {
 /// Where the zero stands, and the bytes.
 fn refused_c_string(rejected: NulError, out: &mut Page) {
     out.put("zero at ");
-    out.show(&rejected.nul_position(), " of ");
-    out.debug(&rejected.into_vec().as_slice(), "\n")
+    show_word(&rejected.nul_position(), out);
+    word("of", out);
+    debug_line(&rejected.into_vec().as_slice(), out)
 }
 
 /// A C string as a literal, and its value again.
 fn held_c_string(alloc: Global, held: &CString, out: &mut Page) {
-    out.debug(&held.as_bytes(), " ");
+    debug_word(&held.as_bytes(), out);
     tell(Literal::c_string(alloc, held), out);
     match LitCStr::new(alloc, held, HERE) {
         Ok(literal) => {
@@ -90,7 +85,7 @@ fn held_c_string(alloc: Global, held: &CString, out: &mut Page) {
 /// Whether the C string that a literal stands for is the one that it was made of.
 fn tell_held(value: Result<CString, Error>, held: &CString, out: &mut Page) {
     match value {
-        Ok(value) => out.show(&(value == *held), " "),
+        Ok(value) => show_word(&(value == *held), out),
         Err(_) => out.fail(),
     }
 }

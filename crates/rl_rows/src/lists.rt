@@ -1,8 +1,8 @@
 //! Lists of literals: where each stands, and pairs of them with a gap between.
 
-use crate::tell::{ToRow, at, literal_of, place, tell, tell_line};
+use crate::tell::{ToRow, at_line, debug_word, literal_of, place, show_line, tell, tell_line};
 use rl_refusing::Page;
-use rl_tokens::Span;
+use rl_tokens::{Error, Span};
 use rust_literals::{Lit, read_all};
 use std::alloc::Global;
 
@@ -20,19 +20,22 @@ pub(crate) fn told(alloc: Global, name: &str, text: &str, out: &mut Page) -> boo
 /// Each literal's bytes and line, or the error and its bytes.
 fn places(alloc: Global, text: &str, out: &mut Page) {
     match read_all(alloc, text, 0) {
-        Ok(literals) => tell_places(literals.as_slice(), out),
-        Err(error) => {
-            place(error.span, " ", out);
-            out.show(&error, "\n")
-        }
+        Ok(literals) => tell_places(alloc, literals.as_slice(), out),
+        Err(error) => tell_refused(&error, out),
     }
 }
 
+/// An error's bytes and message.
+fn tell_refused(error: &Error, out: &mut Page) {
+    place(error.span, out);
+    show_line(error, out)
+}
+
 /// Each literal's bytes and line.
-fn tell_places(literals: &[Lit], out: &mut Page) {
+fn tell_places(alloc: Global, literals: &[Lit], out: &mut Page) {
     for literal in literals {
-        place(literal.span(), " ", out);
-        tell_line(literal, out);
+        place(literal.span(), out);
+        tell_line(alloc, literal, out);
     }
 }
 
@@ -40,17 +43,17 @@ fn tell_places(literals: &[Lit], out: &mut Page) {
 impl ToRow for Vec<Lit> {
     fn put_in(&self, out: &mut Page) {
         for literal in self.as_slice() {
-            out.debug(literal, " ");
-            at(literal.span(), "\n", out);
+            debug_word(literal, out);
+            at_line(literal.span(), out);
         }
     }
 }
 
 /// The line of a text as one literal, after the bytes where it stands in a list.
 fn tell_placed(alloc: Global, text: &str, span: Span, out: &mut Page) {
-    place(span, " ", out);
+    place(span, out);
     match literal_of(alloc, text, span) {
-        Ok(literal) => tell_line(&literal, out),
+        Ok(literal) => tell_line(alloc, &literal, out),
         Err(_) => out.fail(),
     }
 }

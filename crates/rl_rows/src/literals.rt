@@ -1,7 +1,10 @@
 //! Calls on the literal that a text is.
 
 use crate::inside::{group, inside};
-use crate::tell::{HERE, THERE, ToRow, at, literal_of, tell, tell_trees};
+use crate::tell::{
+    HERE, THERE, ToRow, at_line, at_word, debug_line, debug_word, line, literal_of, show_line,
+    show_word, tell, tell_trees, word,
+};
 use crate::uses::anew;
 use rl_refusing::Page;
 use rl_tokens::{Ident, ParseBuffer, ToTokens, TokenStream};
@@ -40,16 +43,16 @@ fn moved(alloc: Global, literal: &mut Lit, out: &mut Page) {
     literal.put_in(out);
     push_copy(alloc, literal, out);
     appended(alloc, literal, out);
-    out.debug(&literal.suffix(), " ");
+    debug_word(&literal.suffix(), out);
     literal.set_span(THERE);
-    at(literal.span(), "\n", out)
+    at_line(literal.span(), out)
 }
 
 /// A copy, and whether it is equal.
 fn push_copy(alloc: Global, literal: &Lit, out: &mut Page) {
     match literal.clone(alloc) {
         Ok(copy) => {
-            out.show(&(copy == *literal), " ");
+            show_word(&(copy == *literal), out);
             copy.put_in(out)
         }
         Err(_) => out.fail(),
@@ -70,8 +73,8 @@ fn appended(alloc: Global, literal: &Lit, out: &mut Page) {
 /// A truth value: made, moved, and as a token.
 fn truth(alloc: Global, value: bool, out: &mut Page) {
     let mut literal = LitBool::new(value, HERE);
-    out.show(&literal.value(), " ");
-    at(literal.span(), " ", out);
+    show_word(&literal.value(), out);
+    at_word(literal.span(), out);
     literal.set_span(THERE);
     tell(literal.token(alloc), out)
 }
@@ -79,18 +82,18 @@ fn truth(alloc: Global, value: bool, out: &mut Page) {
 /// Its text and span.
 impl ToRow for Ident {
     fn put_in(&self, out: &mut Page) {
-        out.say(self.text(), " ");
-        at(self.span(), "\n", out)
+        word(self.text(), out);
+        at_line(self.span(), out)
     }
 }
 
 /// The text's number or token as it is displayed.
 fn shown(literal: &Lit, out: &mut Page) {
     match literal {
-        Lit::Int(literal) => out.show(literal, "\n"),
-        Lit::Float(literal) => out.show(literal, "\n"),
-        Lit::Verbatim(token) => out.show(token, "\n"),
-        _ => out.put("another literal\n"),
+        Lit::Int(literal) => show_line(literal, out),
+        Lit::Float(literal) => show_line(literal, out),
+        Lit::Verbatim(token) => show_line(token, out),
+        _ => line("another literal", out),
     }
 }
 
@@ -100,15 +103,15 @@ fn lends(literal: &Lit, out: &mut Page) {
         Lit::Str(literal) => tell_lent(literal.value_ref(), out),
         Lit::ByteStr(literal) => tell_lent_bytes(literal.value_ref(), out),
         Lit::CStr(literal) => tell_lent_bytes(literal.value_ref(), out),
-        _ => out.put("no string\n"),
+        _ => line("no string", out),
     }
 }
 
 /// Prints a text that is borrowed.
 fn tell_lent(lent: Option<&str>, out: &mut Page) {
     match lent {
-        Some(value) => out.debug(&value, "\n"),
-        None => out.put("nothing\n"),
+        Some(value) => debug_line(&value, out),
+        None => line("nothing", out),
     }
 }
 
@@ -116,9 +119,9 @@ fn tell_lent(lent: Option<&str>, out: &mut Page) {
 fn tell_lent_bytes(lent: Option<&[u8]>, out: &mut Page) {
     match lent {
         Some(bytes) => match std::str::from_utf8(bytes) {
-            Ok(value) => out.debug(&value, "\n"),
-            Err(_) => out.put("no text\n"),
+            Ok(value) => debug_line(&value, out),
+            Err(_) => line("no text", out),
         },
-        None => out.put("nothing\n"),
+        None => line("nothing", out),
     }
 }

@@ -1,9 +1,12 @@
 //! Numbers of one text: what the structs of numbers make of it, and numbers by base ten.
 
-use crate::tell::{HERE, THERE, ToRow, at, tell, tell_error, tell_shown, token_of};
+use crate::tell::{
+    HERE, THERE, ToRow, at, at_word, debug_word, line, show, show_line, show_word, tell,
+    tell_error, tell_shown, token_of, word,
+};
 use rl_refusing::Page;
 use rl_tokens::{Error, ErrorKind, Kept, Literal};
-use rust_literals::{FloatKind, IntKind, Lit, LitFloat, LitInt, Number, NumberKind};
+use rust_literals::{Lit, LitFloat, LitInt};
 use std::alloc::Global;
 use std::fmt::Display;
 use std::str::FromStr;
@@ -11,8 +14,8 @@ use std::str::FromStr;
 /// Prints what a call of this name answers; false where there is none.
 pub(crate) fn told(alloc: Global, name: &str, text: &str, out: &mut Page) -> bool {
     match name {
-        "integer" => number(Number::<IntKind, Global>::new(alloc, text, HERE), out),
-        "real" => number(Number::<FloatKind, Global>::new(alloc, text, HERE), out),
+        "integer" => integer(alloc, text, out),
+        "real" => float(alloc, text, out),
         "kept" => kept(alloc, text, out),
         "across" => across(alloc, text, out),
         "numbers" => numbers(alloc, text, out),
@@ -22,22 +25,38 @@ pub(crate) fn told(alloc: Global, name: &str, text: &str, out: &mut Page) -> boo
     true
 }
 
-/// A number, or why there is none.
-fn number<K: NumberKind>(made: Result<Number<K>, Error>, out: &mut Page) {
-    match made {
-        Ok(mut literal) => moved(&mut literal, out),
+/// The text as an integer: its digits, and itself moved, as text and as a token.
+fn integer(alloc: Global, text: &str, out: &mut Page) {
+    match LitInt::new(alloc, text, HERE) {
+        Ok(mut literal) => moved_integer(alloc, &mut literal, out),
         Err(error) => tell_error(&error, out),
     }
 }
 
-/// A number's digits, and itself moved, as text and as a token.
-fn moved<K: NumberKind>(literal: &mut Number<K>, out: &mut Page) {
-    out.say(literal.base10_digits(), " ");
-    out.debug(&literal.suffix(), " ");
-    at(literal.span(), " ", out);
-    out.show(literal, " ");
+fn moved_integer(alloc: Global, literal: &mut LitInt, out: &mut Page) {
+    word(literal.base10_digits(), out);
+    debug_word(&literal.suffix(), out);
+    at_word(literal.span(), out);
+    show_word(literal, out);
     literal.set_span(THERE);
-    tell(literal.token(out.alloc()), out)
+    tell(literal.token(alloc), out)
+}
+
+/// The text as a float, in the same way.
+fn float(alloc: Global, text: &str, out: &mut Page) {
+    match LitFloat::new(alloc, text, HERE) {
+        Ok(mut literal) => moved_float(alloc, &mut literal, out),
+        Err(error) => tell_error(&error, out),
+    }
+}
+
+fn moved_float(alloc: Global, literal: &mut LitFloat, out: &mut Page) {
+    word(literal.base10_digits(), out);
+    debug_word(&literal.suffix(), out);
+    at_word(literal.span(), out);
+    show_word(literal, out);
+    literal.set_span(THERE);
+    tell(literal.token(alloc), out)
 }
 
 /// The text as a token that is made an integer, or handed back, and the same of a float.
@@ -61,8 +80,8 @@ fn kept_of_float(alloc: Global, token: Literal, out: &mut Page) {
 
 /// Prints a token that was handed back, and why.
 fn handed_back(kept: Kept<Literal>, out: &mut Page) -> Literal {
-    out.say(kept.value.text(), " ");
-    at(kept.value.span(), " ", out);
+    word(kept.value.text(), out);
+    at_word(kept.value.span(), out);
     tell_error(&kept.error, out);
     kept.value
 }
@@ -70,11 +89,11 @@ fn handed_back(kept: Kept<Literal>, out: &mut Page) -> Literal {
 /// Whether the text as an integer equals it as a float.
 fn across(alloc: Global, text: &str, out: &mut Page) {
     let Ok(integer) = LitInt::new(alloc, text, HERE) else {
-        return out.put("None\n");
+        return line("None", out);
     };
     match LitFloat::new(alloc, text, HERE) {
-        Ok(float) => out.show(&(Lit::Int(integer) == Lit::Float(float)), "\n"),
-        Err(_) => out.put("None\n"),
+        Ok(float) => show_line(&(Lit::Int(integer) == Lit::Float(float)), out),
+        Err(_) => line("None", out),
     }
 }
 
@@ -83,11 +102,9 @@ fn made<N: FromStr + Display + Drop>(alloc: Global, literal: &LitInt, out: &mut 
 where
     N::Err: Display + Drop,
 {
+    out.put(" ");
     match literal.base10_parse::<N, Global>(alloc) {
-        Ok(number) => {
-            out.put(" ");
-            out.put_shown(&number)
-        }
+        Ok(number) => show(&number, out),
         Err(error) => refused_number(&error, out),
     }
 }
@@ -96,7 +113,7 @@ where
 fn refused_number(error: &Error, out: &mut Page) {
     match error.kind {
         ErrorKind::Number(_) => {
-            out.put(" at ");
+            out.put("at ");
             at(error.span, "", out)
         }
         _ => out.fail(),
@@ -110,7 +127,7 @@ fn numbers(alloc: Global, text: &str, out: &mut Page) {
             narrow(alloc, &literal, out);
             wide(alloc, &literal, out)
         }
-        Err(_) => out.put("no integer\n"),
+        Err(_) => line("no integer", out),
     }
 }
 
@@ -140,6 +157,6 @@ fn wide(alloc: Global, literal: &LitInt, out: &mut Page) {
 fn float_byte(alloc: Global, text: &str, out: &mut Page) {
     match LitFloat::new(alloc, text, HERE) {
         Ok(literal) => tell_shown(literal.base10_parse::<u8, Global>(alloc), out),
-        Err(_) => out.put("no float\n"),
+        Err(_) => line("no float", out),
     }
 }

@@ -1,6 +1,8 @@
 //! What the four takers of a buffer take, and a minus and a number of two files.
 
-use crate::tell::{at, tell_error, tell_trees, token_of, trees_of};
+use crate::tell::{
+    at, at_line, debug_word, line, show_line, show_word, tell_error, tell_trees, token_of, trees_of,
+};
 use rl_refusing::Page;
 use rl_tokens::{ParseBuffer, Punct, Span, TokenStream, TokenTree};
 use rust_literals::Lit;
@@ -9,14 +11,14 @@ use std::alloc::Global;
 /// What the four takers of a buffer take, tree by tree, to the end and once more.
 pub(crate) fn takers(alloc: Global, text: &str, out: &mut Page) {
     let Some(stream) = trees_of(alloc, text, 0) else {
-        return out.put("no trees\n");
+        return line("no trees", out);
     };
     let end = Span::new(0, text.len(), text.len());
     let mut input = ParseBuffer::new(stream.trees(), end);
     for _ in 0..stream.trees().len() {
         take_next(&mut input, out);
     }
-    out.show(&input.is_empty(), " ");
+    show_word(&input.is_empty(), out);
     take_next(&mut input, out)
 }
 
@@ -25,17 +27,17 @@ fn take_next(input: &mut ParseBuffer<'_>, out: &mut Page) {
     tell_left(input, out);
     tell_forks(input, out);
     if let Some(ident) = input.ident() {
-        return out.say(ident.text(), "\n");
+        return line(ident.text(), out);
     }
     if let Some(punct) = input.punct() {
-        return out.show(&punct.as_char(), "\n");
+        return show_line(&punct.as_char(), out);
     }
     if let Some(literal) = input.literal() {
-        return out.say(literal.text(), "\n");
+        return line(literal.text(), out);
     }
     match input.group() {
         Some(group) => out.show(&group.stream().trees().len(), " inside\n"),
-        None => out.put("nothing\n"),
+        None => line("nothing", out),
     }
 }
 
@@ -77,7 +79,7 @@ pub(crate) fn two_files(alloc: Global, out: &mut Page) {
 }
 
 /// Puts a tree at a stream's end.
-pub(crate) fn append(tree: TokenTree, stream: &mut TokenStream, out: &mut Page) {
+fn append(tree: TokenTree, stream: &mut TokenStream, out: &mut Page) {
     if stream.append(tree).is_err() {
         out.fail();
     }
@@ -87,8 +89,8 @@ pub(crate) fn append(tree: TokenTree, stream: &mut TokenStream, out: &mut Page) 
 fn tell_first(alloc: Global, trees: &[TokenTree], out: &mut Page) {
     match ParseBuffer::new(trees, Span::call_site()).parse::<Lit>(alloc) {
         Ok(literal) => {
-            out.debug(&literal, " ");
-            at(literal.span(), "\n", out)
+            debug_word(&literal, out);
+            at_line(literal.span(), out)
         }
         Err(error) => tell_error(&error, out),
     }

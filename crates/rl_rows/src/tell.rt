@@ -5,7 +5,7 @@ use rl_refusing::Page;
 use rl_tokens::{Error, Literal, Span, TokenStream, TokenTree, lex};
 use rust_literals::Lit;
 use std::alloc::{AllocError, Global};
-use std::fmt::Display;
+use std::fmt::{Debug, Display};
 
 /// A span that no call makes by itself.
 pub(crate) const HERE: Span = Span {
@@ -35,14 +35,6 @@ pub(crate) fn tell<T: ToRow + Drop>(answer: Result<T, Error>, out: &mut Page) {
     }
 }
 
-/// Prints what a call returned, or that it found nothing.
-pub(crate) fn tell_found<T: ToRow + Drop>(answer: Option<T>, out: &mut Page) {
-    match answer {
-        Some(value) => value.put_in(out),
-        None => out.put("None\n"),
-    }
-}
-
 /// Prints a value as it is displayed, or why there is none.
 pub(crate) fn tell_shown<T: Display + Drop>(answer: Result<T, Error>, out: &mut Page) {
     match answer {
@@ -54,13 +46,59 @@ pub(crate) fn tell_shown<T: Display + Drop>(answer: Result<T, Error>, out: &mut 
 /// Prints a span as its file and its bytes, and what ends it.
 pub(crate) fn at(span: Span, ending: &str, out: &mut Page) {
     out.show(&span.file, ":");
-    place(span, ending, out)
-}
-
-/// Prints where a span begins and ends, and what ends it.
-pub(crate) fn place(span: Span, ending: &str, out: &mut Page) {
     out.show(&span.lo, "..");
     out.show(&span.hi, ending)
+}
+
+/// Prints a span, and a space.
+pub(crate) fn at_word(span: Span, out: &mut Page) {
+    at(span, " ", out)
+}
+
+/// Prints a span, and ends the line.
+pub(crate) fn at_line(span: Span, out: &mut Page) {
+    at(span, "\n", out)
+}
+
+/// Prints where a span begins and ends, and a space.
+pub(crate) fn place(span: Span, out: &mut Page) {
+    out.show(&span.lo, "..");
+    out.show(&span.hi, " ")
+}
+
+/// Prints a text, and a space.
+pub(crate) fn word(text: &str, out: &mut Page) {
+    out.say(text, " ")
+}
+
+/// Prints a text, and ends the line.
+pub(crate) fn line(text: &str, out: &mut Page) {
+    out.say(text, "\n")
+}
+
+/// Prints a value as it is displayed.
+pub(crate) fn show<T: Display>(value: &T, out: &mut Page) {
+    out.put_shown(value)
+}
+
+/// Prints a value as it is displayed, and a space.
+pub(crate) fn show_word<T: Display>(value: &T, out: &mut Page) {
+    out.show(value, " ")
+}
+
+/// Prints a value as it is displayed, and ends the line.
+pub(crate) fn show_line<T: Display>(value: &T, out: &mut Page) {
+    out.show(value, "\n")
+}
+
+/// Prints a value as it is printed to programmers, and a space.
+pub(crate) fn debug_word<T: Debug>(value: &T, out: &mut Page) {
+    out.debug(value, " ")
+}
+
+/// Prints a value as it is printed to programmers, and ends the line.
+pub(crate) fn debug_line<T: Debug>(value: &T, out: &mut Page) {
+    out.debug(value, "\n")
 }
 
 /// Prints an error: its span, its kind as it is printed to programmers, and its message.
@@ -99,8 +137,8 @@ pub(crate) fn tell_trees(trees: &[TokenTree], out: &mut Page) {
 }
 
 /// Prints a literal's line.
-pub(crate) fn tell_line(literal: &Lit, out: &mut Page) {
-    match line_of(out.alloc(), literal) {
+pub(crate) fn tell_line(alloc: Global, literal: &Lit, out: &mut Page) {
+    match line_of(alloc, literal) {
         Ok(line) => out.put(line.as_str()),
         Err(_) => out.fail(),
     }
@@ -111,7 +149,7 @@ impl ToRow for Lit {
     fn put_in(&self, out: &mut Page) {
         out.debug(self, " ");
         at(self.span(), " ", out);
-        tell_line(self, out)
+        tell_line(out.alloc(), self, out)
     }
 }
 
@@ -120,12 +158,6 @@ impl ToRow for Literal {
     fn put_in(&self, out: &mut Page) {
         out.show(self, " ");
         at(self.span(), "\n", out)
-    }
-}
-
-impl ToRow for Span {
-    fn put_in(&self, out: &mut Page) {
-        at(*self, "\n", out)
     }
 }
 

@@ -1,6 +1,9 @@
 //! Spans, words, tokens, and what writers make of texts.
 
-use crate::tell::{HERE, THERE, ToRow, at, tell, tell_error, tell_found, token_of};
+use crate::tell::{
+    HERE, THERE, ToRow, at_line, at_word, line, show_line, show_word, tell, tell_error, token_of,
+    word,
+};
 use rl_refusing::Page;
 use rl_tokens::ident::xid_ok;
 use rl_tokens::{Error, Ident, Literal, Span};
@@ -25,26 +28,34 @@ pub(crate) fn told(alloc: Global, name: &str, text: &str, out: &mut Page) -> boo
 
 /// A span's parts, and a span joined with two more.
 fn spans(out: &mut Page) {
-    at(Span::call_site(), " ", out);
-    out.show(&HERE.file(), " ");
-    out.show(&HERE.lo(), " ");
-    out.show(&HERE.hi(), "\n");
-    tell_found(HERE.join(Span::new(7, 1, 4)), out);
-    tell_found(Span::new(7, 1, 4).join(Span::new(7, 6, 8)), out);
-    tell_found(HERE.join(Span::new(8, 1, 4)), out)
+    at_word(Span::call_site(), out);
+    show_word(&HERE.file(), out);
+    show_word(&HERE.lo(), out);
+    show_line(&HERE.hi(), out);
+    tell_joined(HERE, Span::new(7, 1, 4), out);
+    tell_joined(Span::new(7, 1, 4), Span::new(7, 6, 8), out);
+    tell_joined(HERE, Span::new(8, 1, 4), out)
+}
+
+/// Two spans joined.
+fn tell_joined(first: Span, second: Span, out: &mut Page) {
+    match first.join(second) {
+        Some(joined) => at_line(joined, out),
+        None => line("None", out),
+    }
 }
 
 /// Whether the text is a word, and an identifier that is made of it and moved.
 fn one_word(alloc: Global, text: &str, out: &mut Page) {
     if !xid_ok(text) {
-        return out.put("no word\n");
+        return line("no word", out);
     }
     match Ident::new(alloc, text, HERE) {
         Ok(mut ident) => {
-            out.say(ident.text(), " ");
-            at(ident.span(), " ", out);
+            word(ident.text(), out);
+            at_word(ident.span(), out);
             ident.set_span(THERE);
-            at(ident.span(), "\n", out)
+            at_line(ident.span(), out)
         }
         Err(_) => out.fail(),
     }
@@ -54,11 +65,11 @@ fn one_word(alloc: Global, text: &str, out: &mut Page) {
 fn token(alloc: Global, text: &str, out: &mut Page) {
     match token_of(alloc, text, HERE) {
         Ok(mut token) => {
-            out.show(&token, " ");
-            out.say(token.text(), " ");
-            at(token.span(), " ", out);
+            show_word(&token, out);
+            word(token.text(), out);
+            at_word(token.span(), out);
             token.set_span(THERE);
-            at(token.span(), "\n", out)
+            at_line(token.span(), out)
         }
         Err(_) => out.fail(),
     }

@@ -1,10 +1,9 @@
 //! The trees of a text, and why it is cut into none.
 
-use crate::takers::append;
-use crate::tell::{HERE, place, tell_form, token_of};
+use crate::tell::{HERE, debug_word, line, place, tell_form, token_of, word};
 use rl_refusing::Page;
 use rl_tokens::{Delimiter, Group, LexKind, Span, TokenStream, TokenTree, Tokens, lex};
-use std::alloc::Global;
+use std::alloc::{AllocError, Global};
 
 /// Prints what a call of this name answers; false where there is none.
 pub(crate) fn told(alloc: Global, name: &str, text: &str, out: &mut Page) -> bool {
@@ -21,11 +20,11 @@ pub(crate) fn told(alloc: Global, name: &str, text: &str, out: &mut Page) -> boo
 fn tell_all(trees: &[TokenTree], out: &mut Page) {
     for tree in trees {
         tell_form(tree, out);
-        place(tree.span(), " ", out);
+        place(tree.span(), out);
         if let TokenTree::Group(group) = tree {
-            out.put("< ");
+            word("<", out);
             tell_all(group.stream().trees(), out);
-            out.put("> ");
+            word(">", out);
         }
     }
 }
@@ -41,7 +40,7 @@ fn cut(alloc: Global, text: &str, out: &mut Page) {
 
 /// Prints an error and its byte.
 fn tell_fault(kind: LexKind, at: usize, out: &mut Page) {
-    out.debug(&kind, " ");
+    debug_word(&kind, out);
     out.put_shown(&at)
 }
 
@@ -53,19 +52,24 @@ fn tell_stop(tokens: &Tokens<'_>, out: &mut Page) {
     }
 }
 
+/// Prints a token and its bytes.
+fn tell_lent(text: &str, lo: usize, hi: usize, out: &mut Page) {
+    word(text, out);
+    out.show(&lo, "..");
+    out.show(&hi, "; ")
+}
+
 /// The tokens of a text as they are borrowed, why they stopped, and what is left of it.
 fn lent(text: &str, out: &mut Page) {
     let mut tokens = Tokens::new(text);
     for _ in 0..text.len() {
         tell_stop(&tokens, out);
-        let Some(token) = tokens.next() else {
-            break;
-        };
-        out.say(token.text, " ");
-        out.show(&token.lo, "..");
-        out.show(&token.hi, "; ");
+        match tokens.next() {
+            Some(token) => tell_lent(token.text, token.lo, token.hi, out),
+            None => break,
+        }
     }
-    out.say(tokens.rest(), "\n")
+    line(tokens.rest(), out)
 }
 
 /// A stream that is built of a group and a literal, and set to another span.
@@ -73,13 +77,24 @@ fn built(alloc: Global, out: &mut Page) {
     let Ok(first) = token_of(alloc, "1", HERE) else {
         return out.fail();
     };
-    let mut inside = TokenStream::new(alloc);
-    append(TokenTree::Literal(first), &mut inside, out);
+    let Ok(inside) = stream_of(alloc, TokenTree::Literal(first)) else {
+        return out.fail();
+    };
     let group = Group::new(Delimiter::Brace, inside, HERE);
-    let mut stream = TokenStream::new(alloc);
-    append(TokenTree::Group(group), &mut stream, out);
+    let Ok(mut stream) = stream_of(alloc, TokenTree::Group(group)) else {
+        return out.fail();
+    };
     tell_all(stream.trees(), out);
     stream.respan(Span::new(0, 8, 9));
     tell_all(stream.trees(), out);
     out.put("\n")
+}
+
+/// A stream of one tree.
+fn stream_of(alloc: Global, tree: TokenTree) -> Result<TokenStream, AllocError> {
+    let mut stream = TokenStream::new(alloc);
+    match stream.append(tree) {
+        Ok(()) => Ok(stream),
+        Err(_) => Err(AllocError),
+    }
 }

@@ -1,6 +1,6 @@
 //! A user's own parser, in turn with that of literals.
 
-use crate::tell::{tell_error, trees_of};
+use crate::tell::{debug_word, line, show_line, tell_error, trees_of};
 use rl_refusing::Page;
 use rl_tokens::{Error, Parse, ParseBuffer, Span, Token};
 use rust_literals::Lit;
@@ -45,7 +45,7 @@ impl Token for Sign {
 /// Literals and signs in turn, up to the end or an error.
 pub(crate) fn turns(alloc: Global, text: &str, out: &mut Page) {
     let Some(stream) = trees_of(alloc, text, 0) else {
-        return out.put("no trees\n");
+        return line("no trees", out);
     };
     let mut input = ParseBuffer::new(stream.trees(), Span::call_site());
     for _ in 0..stream.trees().len() {
@@ -57,12 +57,13 @@ pub(crate) fn turns(alloc: Global, text: &str, out: &mut Page) {
 
 /// A literal and a sign; false where one of them is rejected, and at the end.
 fn turn(alloc: Global, input: &mut ParseBuffer<'_>, out: &mut Page) -> bool {
-    if !tell_literal(input.parse::<Lit>(alloc), out) || !tell_sign(input.parse::<Sign>(alloc), out)
+    if !tell_literal(input.parse::<Lit>(alloc), out)
+        || !tell_sign(input.parse::<Sign>(alloc), out)
     {
         return false;
     }
     if input.is_empty() {
-        out.put("end\n");
+        line("end", out);
         return false;
     }
     true
@@ -72,7 +73,7 @@ fn turn(alloc: Global, input: &mut ParseBuffer<'_>, out: &mut Page) -> bool {
 fn tell_literal(answer: Result<Lit, Error>, out: &mut Page) -> bool {
     match answer {
         Ok(literal) => {
-            out.debug(&literal, " ");
+            debug_word(&literal, out);
             true
         }
         Err(error) => {
@@ -86,7 +87,7 @@ fn tell_literal(answer: Result<Lit, Error>, out: &mut Page) -> bool {
 fn tell_sign(answer: Result<Sign, Error>, out: &mut Page) -> bool {
     match answer {
         Ok(sign) => {
-            out.show(&sign.ch, "\n");
+            show_line(&sign.ch, out);
             true
         }
         Err(error) => {

@@ -1,7 +1,10 @@
 //! What the small callers of `rl_uses` make of a text.
 
 use crate::parsers::{tell_next, tell_parsed};
-use crate::tell::{ToRow, at, tell, tell_error, tell_shown, trees_of};
+use crate::tell::{
+    ToRow, at, at_word, debug_word, line, show_line, show_word, tell, tell_error, tell_shown,
+    trees_of,
+};
 use rl_refusing::Page;
 use rl_tokens::{ParseBuffer, Span, parse_all};
 use rl_uses::{
@@ -20,7 +23,7 @@ pub(crate) fn told(alloc: Global, name: &str, text: &str, out: &mut Page) -> boo
     match name {
         "attribute" => tell(read_attribute(alloc, text, FILE), out),
         "attributes" => attributes(alloc, text, out),
-        "list" => tell(parse_all::<ItemList, Global>(alloc, text, FILE), out),
+        "list" => list(alloc, text, out),
         "refused_list" => refused_list(alloc, text, out),
         _ => return of_literals(alloc, name, text, out),
     }
@@ -47,12 +50,12 @@ fn of_literals(alloc: Global, name: &str, text: &str, out: &mut Page) -> bool {
 /// An attribute's name and value, each after its bytes.
 impl ToRow for Attribute {
     fn put_in(&self, out: &mut Page) {
-        at(self.name.span(), " ", out);
+        at_word(self.name.span(), out);
         out.say(self.name.text(), ", ");
         match self.value.value(out.alloc()) {
             Ok(value) => {
-                at(self.value.span(), " ", out);
-                out.say(value.as_str(), "\n")
+                at_word(self.value.span(), out);
+                line(value.as_str(), out)
             }
             Err(_) => out.fail(),
         }
@@ -62,7 +65,7 @@ impl ToRow for Attribute {
 /// Two attributes, one after the other, and where the buffer stands after each.
 fn attributes(alloc: Global, text: &str, out: &mut Page) {
     let Some(stream) = trees_of(alloc, text, FILE) else {
-        return out.put("no trees\n");
+        return line("no trees", out);
     };
     let mut input = ParseBuffer::new(stream.trees(), Span::call_site());
     tell(input.parse::<Attribute>(alloc), out);
@@ -71,17 +74,23 @@ fn attributes(alloc: Global, text: &str, out: &mut Page) {
     tell_next(&input, out)
 }
 
-/// Each item's kind and span.
-impl ToRow for ItemList {
-    fn put_in(&self, out: &mut Page) {
-        for item in self.items.as_slice() {
-            match item {
-                Item::Int(literal) => tell_item("int ", literal.span(), out),
-                Item::Str(literal) => tell_item("str ", literal.span(), out),
-            }
-        }
-        out.put("\n")
+/// The items of a list, or why there is none.
+fn list(alloc: Global, text: &str, out: &mut Page) {
+    match parse_all::<ItemList, Global>(alloc, text, FILE) {
+        Ok(list) => tell_items(list.items.as_slice(), out),
+        Err(error) => tell_error(&error, out),
     }
+}
+
+/// Each item's kind and span.
+fn tell_items(items: &[Item], out: &mut Page) {
+    for item in items {
+        match item {
+            Item::Int(literal) => tell_item("int ", literal.span(), out),
+            Item::Str(literal) => tell_item("str ", literal.span(), out),
+        }
+    }
+    out.put("\n")
 }
 
 /// An item's kind and span.
@@ -93,7 +102,7 @@ fn tell_item(kind: &str, span: Span, out: &mut Page) {
 /// Why a list and why an item are rejected, and where the buffer stands then.
 fn refused_list(alloc: Global, text: &str, out: &mut Page) {
     let Some(stream) = trees_of(alloc, text, FILE) else {
-        return out.put("no trees\n");
+        return line("no trees", out);
     };
     let mut input = ParseBuffer::new(stream.trees(), Span::call_site());
     tell_parsed(input.parse::<ItemList>(alloc), out);
@@ -105,7 +114,7 @@ fn refused_list(alloc: Global, text: &str, out: &mut Page) {
 impl ToRow for Vec<Span> {
     fn put_in(&self, out: &mut Page) {
         for span in self.as_slice() {
-            at(*span, " ", out);
+            at_word(*span, out);
         }
         out.put("\n")
     }
@@ -114,10 +123,10 @@ impl ToRow for Vec<Span> {
 /// How many reasons there are, and each after its place.
 impl ToRow for Vec<Reason> {
     fn put_in(&self, out: &mut Page) {
-        out.show(&self.len(), "\n");
+        show_line(&self.len(), out);
         for reason in self.as_slice() {
-            at(reason.span, " ", out);
-            out.show(&reason.kind, "\n")
+            at_word(reason.span, out);
+            show_line(&reason.kind, out)
         }
     }
 }
@@ -134,9 +143,9 @@ pub(crate) fn anew(alloc: Global, literal: &mut Lit, out: &mut Page) {
     literal.set_span(Span::new(3, 5, 9));
     match rewritten(alloc, literal) {
         Ok(anew) => {
-            out.debug(&anew, " ");
-            at(anew.span(), " ", out);
-            out.show(&(anew == *literal), "\n")
+            debug_word(&anew, out);
+            at_word(anew.span(), out);
+            show_line(&(anew == *literal), out)
         }
         Err(error) => tell_error(&error, out),
     }
@@ -157,24 +166,24 @@ fn tell_counts(alloc: Global, counts: &HashMap<Lit, usize>, text: &str, out: &mu
     };
     for literal in &literals {
         if let Some((first, times)) = counts.get_key_value(literal) {
-            at(first.span(), " ", out);
-            out.show(times, "\n")
+            at_word(first.span(), out);
+            show_line(times, out)
         }
     }
-    out.show(&counts.len(), "\n")
+    show_line(&counts.len(), out)
 }
 
 /// The text as a server's settings, or why there are none, and where.
 fn config(alloc: Global, text: &str, out: &mut Page) {
     match read_config(alloc, text, FILE) {
         Ok(config) => {
-            out.show(&config.port, " ");
-            out.show(&config.verbose, " ");
-            out.say(config.name.as_str(), "\n")
+            show_word(&config.port, out);
+            show_word(&config.verbose, out);
+            line(config.name.as_str(), out)
         }
         Err(error) => {
-            at(error.span(), " ", out);
-            out.show(&error, "\n")
+            at_word(error.span(), out);
+            show_line(&error, out)
         }
     }
 }

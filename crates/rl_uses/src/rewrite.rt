@@ -1,6 +1,6 @@
 //! A formatter: quoted literals are written anew from their values.
 
-ghost use Rattle.std.specs.Prelude.{◌≡◌, List, OnOk, IfOk, IfErr, string_bytes};
+ghost use Rattle.std.specs.Prelude.{◌≡◌, ◌++◌, List, OnOk, IfOk, IfErr, codes, string_bytes};
 ghost use Rattle.std.specs.Str.{chars};
 ghost use Rattle.rl_tokens.specs.declared.kind.Kind.TheVariants.{Str as StrKind, ByteStr as ByteStrKind, CStr as CStrKind, Byte as ByteKind, Char as CharKind};
 ghost use Rattle.rl_tokens.specs.Errors.{memory_at};
@@ -10,7 +10,7 @@ ghost use Rattle.rust_literals.specs.LitParts.{lit_span};
 ghost use Rattle.rl_uses.specs.Shortage.{IsShortOf, RejectsTextOrMemory};
 ghost use Rattle.rl_uses.specs.Rewrites.{IsQuotedRewrite, IsWrittenOf, IsRewrite, PrintsLine, AreLines};
 
-use rl_tokens::Error;
+use rl_tokens::{Error, Span};
 use rust_literals::{Lit, LitByte, LitByteStr, LitCStr, LitChar, LitStr, read_all};
 use std::alloc::Allocator;
 
@@ -139,6 +139,18 @@ pub fn rewritten<A: Allocator + Copy>(alloc: A, literal: &Lit<A>) -> Result<Lit<
     })
 }
 
+/// Writes the text and LF at the end. An allocation failure is reported at the span.
+fn push_text<A: Allocator>(out: &mut String<A>, text: &str, span: Span) -> Result<(), Error<A>>
+    ensures line { OnOk result
+        (string_bytes out.new ≡ string_bytes out.old ++ (text.now ++ codes "\n")) }
+    ensures memory { IfErr result (λ e. e ≡ memory_at span) }
+{
+    if out.push_str(text).is_err() || out.push('\n').is_err() {
+        return Err(Error::memory(span));
+    }
+    Ok(())
+}
+
 /// Writes the literal's rewriting and LF at the end.
 fn push_line<A: Allocator + Copy>(
     alloc: A,
@@ -150,10 +162,7 @@ fn push_line<A: Allocator + Copy>(
     ensures memory { IfErr result (λ e. e ≡ memory_at (lit_span literal.now)) }
 {
     let anew = rewritten(alloc, literal)?;
-    if out.push_str(anew.text()).is_err() || out.push('\n').is_err() {
-        return Err(Error::memory(literal.span()));
-    }
-    Ok(())
+    push_text(out, anew.text(), literal.span())
 }
 
 /// Writes the literals' lines.
