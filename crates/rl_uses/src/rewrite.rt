@@ -162,7 +162,9 @@ fn push_line<A: Allocator + Copy>(
     ensures memory { IfErr result (λ e. e ≡ memory_at (lit_span literal.now)) }
 {
     let anew = rewritten(alloc, literal)?;
-    push_text(out, anew.text(), literal.span())
+    let pushed = push_text(out, anew.text(), literal.span());
+    drop(anew);
+    pushed
 }
 
 /// Writes the literals' lines.
