@@ -126,17 +126,17 @@ pub fn rewritten<A: Allocator + Copy>(alloc: A, literal: &Lit<A>) -> Result<Lit<
     ensures rewritten { IfOk result (IsRewrite literal.now) }
     ensures memory { IfErr result (λ e. e ≡ memory_at (lit_span literal.now)) }
 {
-    Ok(match literal {
-        Lit::Str(literal) => Lit::Str(string_rewritten(alloc, literal)?),
-        Lit::ByteStr(literal) => Lit::ByteStr(byte_string_rewritten(alloc, literal)?),
-        Lit::CStr(literal) => Lit::CStr(c_string_rewritten(alloc, literal)?),
-        Lit::Byte(literal) => Lit::Byte(byte_rewritten(alloc, literal)?),
-        Lit::Char(literal) => Lit::Char(character_rewritten(alloc, literal)?),
-        Lit::Int(literal) => Lit::Int(literal.clone(alloc)?),
-        Lit::Float(literal) => Lit::Float(literal.clone(alloc)?),
-        Lit::Bool(literal) => Lit::Bool(literal.clone(alloc)?),
-        Lit::Verbatim(token) => Lit::Verbatim(token.clone(alloc)?),
-    })
+    match literal {
+        Lit::Str(literal) => Ok(Lit::Str(string_rewritten(alloc, literal)?)),
+        Lit::ByteStr(literal) => Ok(Lit::ByteStr(byte_string_rewritten(alloc, literal)?)),
+        Lit::CStr(literal) => Ok(Lit::CStr(c_string_rewritten(alloc, literal)?)),
+        Lit::Byte(literal) => Ok(Lit::Byte(byte_rewritten(alloc, literal)?)),
+        Lit::Char(literal) => Ok(Lit::Char(character_rewritten(alloc, literal)?)),
+        Lit::Int(literal) => Ok(Lit::Int(literal.clone(alloc)?)),
+        Lit::Float(literal) => Ok(Lit::Float(literal.clone(alloc)?)),
+        Lit::Bool(literal) => Ok(Lit::Bool(literal.clone(alloc)?)),
+        Lit::Verbatim(token) => Ok(Lit::Verbatim(token.clone(alloc)?)),
+    }
 }
 
 /// Writes the text and LF at the end. An allocation failure is reported at the span.
