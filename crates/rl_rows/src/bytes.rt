@@ -1,7 +1,7 @@
 //! Calls that take bytes: literals of them, and their values again.
 
 use crate::tell::{
-    HERE, ToRow, at_word, debug_line, debug_word, show, show_word, tell, tell_error, word,
+    HERE, at_word, debug_line, debug_word, put, show, show_word, tell, tell_error, word,
 };
 use rl_refusing::Page;
 use rl_tokens::{CString, Error, Literal, NulError};
@@ -47,7 +47,7 @@ fn byte_string(alloc: Global, bytes: &[u8], out: &mut Page) {
         return out.fail();
     };
     debug_word(&value.as_slice(), out);
-    Lit::ByteStr(literal).put_in(out)
+    put(Lit::ByteStr(literal), out)
 }
 
 /// The bytes as a C string, and it as a literal, and its value again.
@@ -76,7 +76,7 @@ fn held_c_string(alloc: Global, held: &CString, out: &mut Page) {
     match LitCStr::new(alloc, held, HERE) {
         Ok(literal) => {
             tell_held(literal.value(alloc), held, out);
-            Lit::CStr(literal).put_in(out)
+            put(Lit::CStr(literal), out)
         }
         Err(error) => tell_error(&error, out),
     }

@@ -53,7 +53,10 @@ impl ToRow for Vec<Lit> {
 fn tell_placed(alloc: Global, text: &str, span: Span, out: &mut Page) {
     place(span, out);
     match literal_of(alloc, text, span) {
-        Ok(literal) => tell_line(alloc, &literal, out),
+        Ok(literal) => {
+            tell_line(alloc, &literal, out);
+            drop(literal)
+        }
         Err(_) => out.fail(),
     }
 }

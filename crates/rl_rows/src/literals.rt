@@ -2,7 +2,7 @@
 
 use crate::inside::{group, inside};
 use crate::tell::{
-    HERE, THERE, ToRow, at_line, at_word, debug_line, debug_word, line, literal_of, show_line,
+    HERE, THERE, ToRow, at_line, at_word, debug_line, debug_word, line, literal_of, put, show_line,
     show_word, tell, tell_trees, word,
 };
 use crate::uses::anew;
@@ -17,7 +17,9 @@ pub(crate) fn told(alloc: Global, name: &str, text: &str, out: &mut Page) -> boo
         out.fail();
         return true;
     };
-    told_of(alloc, name, &mut literal, out)
+    let is_call = told_of(alloc, name, &mut literal, out);
+    drop(literal);
+    is_call
 }
 
 /// Prints what a call of this name answers about the literal; false where there is none.
@@ -53,7 +55,7 @@ fn push_copy(alloc: Global, literal: &Lit, out: &mut Page) {
     match literal.clone(alloc) {
         Ok(copy) => {
             show_word(&(copy == *literal), out);
-            copy.put_in(out)
+            put(copy, out)
         }
         Err(_) => out.fail(),
     }

@@ -1,8 +1,8 @@
 //! Numbers of one text: what the structs of numbers make of it, and numbers by base ten.
 
 use crate::tell::{
-    HERE, THERE, ToRow, at, at_word, debug_word, line, show, show_line, show_word, tell,
-    tell_error, tell_shown, token_of, word,
+    HERE, THERE, at, at_word, debug_word, line, put, show, show_line, show_word, tell, tell_error,
+    tell_shown, token_of, word,
 };
 use rl_refusing::Page;
 use rl_tokens::{Error, ErrorKind, Kept, Literal};
@@ -65,7 +65,7 @@ fn kept(alloc: Global, text: &str, out: &mut Page) {
         return out.fail();
     };
     match LitInt::from_token(alloc, token) {
-        Ok(literal) => Lit::Int(literal).put_in(out),
+        Ok(literal) => put(Lit::Int(literal), out),
         Err(kept) => kept_of_float(alloc, handed_back(kept, out), out),
     }
 }
@@ -73,7 +73,7 @@ fn kept(alloc: Global, text: &str, out: &mut Page) {
 /// The token made a float, or why it is none.
 fn kept_of_float(alloc: Global, token: Literal, out: &mut Page) {
     match LitFloat::from_token(alloc, token) {
-        Ok(literal) => Lit::Float(literal).put_in(out),
+        Ok(literal) => put(Lit::Float(literal), out),
         Err(kept) => tell_error(&Error::from(kept), out),
     }
 }

@@ -35,6 +35,11 @@ pub(crate) fn tell<T: ToRow + Drop>(answer: Result<T, Error>, out: &mut Page) {
     }
 }
 
+/// Prints a value, and lets it go.
+pub(crate) fn put<T: ToRow + Drop>(value: T, out: &mut Page) {
+    value.put_in(out)
+}
+
 /// Prints a value as it is displayed, or why there is none.
 pub(crate) fn tell_shown<T: Display + Drop>(answer: Result<T, Error>, out: &mut Page) {
     match answer {

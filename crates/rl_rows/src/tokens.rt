@@ -1,7 +1,7 @@
 //! Spans, words, tokens, and what writers make of texts.
 
 use crate::tell::{
-    HERE, THERE, ToRow, at_line, at_word, line, show_line, show_word, tell, tell_error, token_of,
+    HERE, THERE, at_line, at_word, line, put, show_line, show_word, tell, tell_error, token_of,
     word,
 };
 use rl_refusing::Page;
@@ -78,7 +78,7 @@ fn token(alloc: Global, text: &str, out: &mut Page) {
 /// A string literal, or why there is none.
 fn string(made: Result<LitStr, Error>, out: &mut Page) {
     match made {
-        Ok(literal) => Lit::Str(literal).put_in(out),
+        Ok(literal) => put(Lit::Str(literal), out),
         Err(error) => tell_error(&error, out),
     }
 }
@@ -94,7 +94,7 @@ fn characters(alloc: Global, text: &str, out: &mut Page) {
 /// A character as a literal.
 fn character(made: Result<LitChar, Error>, out: &mut Page) {
     match made {
-        Ok(literal) => Lit::Char(literal).put_in(out),
+        Ok(literal) => put(Lit::Char(literal), out),
         Err(error) => tell_error(&error, out),
     }
 }
