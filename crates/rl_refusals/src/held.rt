@@ -1,6 +1,7 @@
-//! Calls that are lent a value: a literal, or a token.
+//! Calls that borrow a value: a literal, or a token.
 
 use crate::inside;
+use crate::tell::Tell;
 use crate::trial::{HERE, Scarce, Trial, UNFIT};
 use rl_grammar::shape;
 use rl_quoted::{Quoted, QuotedKind};
@@ -11,144 +12,107 @@ use rust_literals::{Lit, LitBool, Number, NumberKind};
 /// What no row should name.
 pub const NO_CALL: &str = "no such call";
 
-/// Calls of a token of the text, and what is left of it.
-pub fn token<A: Scarce>(name: &str, trial: &Trial<'_, A>, text: &str, page: &mut Page) {
-    match trial.token(text) {
-        Some(token) => {
-            let before = trial.lends(&token);
-            call_token(&token, name, trial, page);
-            trial.leaves(&token, before, page);
-        }
-        None => page.put(UNFIT),
-    }
+/// A value that calls borrow.
+pub trait Held<A: Scarce> {
+    /// Makes the call of this name, and puts its answer last.
+    fn call(&self, name: &str, trial: &Trial<'_, A>, page: &mut Page);
 }
 
-fn call_token<A: Scarce>(token: &Literal<A>, name: &str, trial: &Trial<'_, A>, page: &mut Page) {
-    match name {
-        "clone" => trial.ends(token.clone(trial.begins()), page),
-        "behind_minus" => trial.ends(token.behind_minus(trial.begins(), HERE), page),
-        _ => page.put(NO_CALL),
-    }
-}
-
-/// Calls of a quoted literal that the text is, and what is left of it.
-pub fn quoted<K: QuotedKind, A: Scarce>(
+/// The call of this name of a value, if the text is one, and what is left of the value.
+pub fn run_held<T: Held<A> + Tell + Drop, A: Scarce>(
+    value: Option<T>,
     name: &str,
     trial: &Trial<'_, A>,
-    text: &str,
     page: &mut Page,
 ) {
-    match quoted_of::<K, A>(trial.token(text)) {
-        Some(literal) => {
-            let before = trial.lends(&literal);
-            call_quoted(&literal, name, trial, page);
-            trial.leaves(&literal, before, page);
+    match value {
+        Some(value) => {
+            let before = trial.lends(&value);
+            value.call(name, trial, page);
+            trial.leaves(&value, before, page);
         }
         None => page.put(UNFIT),
     }
 }
 
-/// The quoted literal that the token is, if it is one of the kind.
-fn quoted_of<K: QuotedKind, A: Scarce>(token: Option<Literal<A>>) -> Option<Quoted<K, A>> {
-    let token = token?;
+impl<A: Scarce> Held<A> for Literal<A> {
+    fn call(&self, name: &str, trial: &Trial<'_, A>, page: &mut Page) {
+        match name {
+            "clone" => trial.ends(self.clone(trial.begins()), page),
+            "behind_minus" => trial.ends(self.behind_minus(trial.begins(), HERE), page),
+            _ => page.put(NO_CALL),
+        }
+    }
+}
+
+/// The quoted literal that the text is, if it is one of the kind.
+pub fn quoted_of<K: QuotedKind, A: Scarce>(
+    trial: &Trial<'_, A>,
+    text: &str,
+) -> Option<Quoted<K, A>> {
+    let token = trial.token(text)?;
     match shape(token.text()) {
         Some(parts) if parts.kind == K::KIND => Some(Quoted::of_token(token)),
         _ => None,
     }
 }
 
-fn call_quoted<K: QuotedKind, A: Scarce>(
-    literal: &Quoted<K, A>,
-    name: &str,
-    trial: &Trial<'_, A>,
-    page: &mut Page,
-) {
-    match name {
-        "clone" => trial.ends(literal.clone(trial.begins()), page),
-        "token" => trial.ends(literal.token(trial.begins()), page),
-        "to_tokens" => appended(literal, trial, page),
-        _ => page.put(NO_CALL),
-    }
-}
-
-/// Calls of a number that the text is, and what is left of it.
-pub fn number<K: NumberKind, A: Scarce>(
-    name: &str,
-    trial: &Trial<'_, A>,
-    text: &str,
-    page: &mut Page,
-) {
-    match number_of::<K, A>(trial, text) {
-        Some(literal) => {
-            let before = trial.lends(&literal);
-            call_number(&literal, name, trial, page);
-            trial.leaves(&literal, before, page);
+impl<K: QuotedKind, A: Scarce> Held<A> for Quoted<K, A> {
+    fn call(&self, name: &str, trial: &Trial<'_, A>, page: &mut Page) {
+        match name {
+            "clone" => trial.ends(self.clone(trial.begins()), page),
+            "token" => trial.ends(self.token(trial.begins()), page),
+            "to_tokens" => appended(self, trial, page),
+            _ => page.put(NO_CALL),
         }
-        None => page.put(UNFIT),
     }
 }
 
 /// The number that the text is, if it is one of the kind.
-fn number_of<K: NumberKind, A: Scarce>(trial: &Trial<'_, A>, text: &str) -> Option<Number<K, A>> {
+pub fn number_of<K: NumberKind, A: Scarce>(
+    trial: &Trial<'_, A>,
+    text: &str,
+) -> Option<Number<K, A>> {
     let token = trial.token(text)?;
     Number::from_token(trial.scant, token).ok()
 }
 
-fn call_number<K: NumberKind, A: Scarce>(
-    literal: &Number<K, A>,
-    name: &str,
-    trial: &Trial<'_, A>,
-    page: &mut Page,
-) {
-    match name {
-        "clone" => trial.ends(literal.clone(trial.begins()), page),
-        "token" => trial.ends(literal.token(trial.begins()), page),
-        "to_tokens" => appended(literal, trial, page),
-        "base10_parse" => trial.ends(literal.base10_parse::<i8, A>(trial.begins()), page),
-        _ => page.put(NO_CALL),
-    }
-}
-
-/// Calls of a truth value, which is true where the text is `true`, and what is left of it.
-pub fn truth<A: Scarce>(name: &str, trial: &Trial<'_, A>, text: &str, page: &mut Page) {
-    let literal = LitBool::new(text == "true", HERE);
-    let before = trial.lends(&literal);
-    call_truth(&literal, name, trial, page);
-    trial.leaves(&literal, before, page);
-}
-
-fn call_truth<A: Scarce>(literal: &LitBool, name: &str, trial: &Trial<'_, A>, page: &mut Page) {
-    match name {
-        "clone" => trial.ends(literal.clone(trial.begins()), page),
-        "token" => trial.ends(literal.token(trial.begins()), page),
-        "to_tokens" => appended(literal, trial, page),
-        _ => page.put(NO_CALL),
-    }
-}
-
-/// Calls of a literal of any kind, and what is left of it.
-pub fn literal<A: Scarce>(name: &str, trial: &Trial<'_, A>, text: &str, page: &mut Page) {
-    match literal_of(trial, text) {
-        Some(literal) => {
-            let before = trial.lends(&literal);
-            call_literal(&literal, name, trial, page);
-            trial.leaves(&literal, before, page);
+impl<K: NumberKind, A: Scarce> Held<A> for Number<K, A> {
+    fn call(&self, name: &str, trial: &Trial<'_, A>, page: &mut Page) {
+        match name {
+            "clone" => trial.ends(self.clone(trial.begins()), page),
+            "token" => trial.ends(self.token(trial.begins()), page),
+            "to_tokens" => appended(self, trial, page),
+            "base10_parse" => trial.ends(self.base10_parse::<i8, A>(trial.begins()), page),
+            _ => page.put(NO_CALL),
         }
-        None => page.put(UNFIT),
+    }
+}
+
+impl<A: Scarce> Held<A> for LitBool {
+    fn call(&self, name: &str, trial: &Trial<'_, A>, page: &mut Page) {
+        match name {
+            "clone" => trial.ends(self.clone(trial.begins()), page),
+            "token" => trial.ends(self.token(trial.begins()), page),
+            "to_tokens" => appended(self, trial, page),
+            _ => page.put(NO_CALL),
+        }
     }
 }
 
 /// The literal that the text is.
-fn literal_of<A: Scarce>(trial: &Trial<'_, A>, text: &str) -> Option<Lit<A>> {
+pub fn literal_of<A: Scarce>(trial: &Trial<'_, A>, text: &str) -> Option<Lit<A>> {
     let token = trial.token(text)?;
     Lit::new(trial.scant, token).ok()
 }
 
-fn call_literal<A: Scarce>(literal: &Lit<A>, name: &str, trial: &Trial<'_, A>, page: &mut Page) {
-    match name {
-        "clone" => trial.ends(literal.clone(trial.begins()), page),
-        "to_tokens" => appended(literal, trial, page),
-        _ => inside::call(literal, name, trial, page),
+impl<A: Scarce> Held<A> for Lit<A> {
+    fn call(&self, name: &str, trial: &Trial<'_, A>, page: &mut Page) {
+        match name {
+            "clone" => trial.ends(self.clone(trial.begins()), page),
+            "to_tokens" => appended(self, trial, page),
+            _ => inside::call(self, name, trial, page),
+        }
     }
 }
 

@@ -63,7 +63,7 @@ fn number<K: NumberKind, A: Scarce>(trial: &Trial<'_, A>, text: &str, page: &mut
 /// `Lit::new` of a token of the text.
 fn literal<A: Scarce>(trial: &Trial<'_, A>, text: &str, page: &mut Page) {
     match trial.token(text) {
-        Some(token) => trial.ends_with(Lit::new(trial.begins(), token), page),
+        Some(token) => trial.ends(Lit::new(trial.begins(), token), page),
         None => page.put(UNFIT),
     }
 }
@@ -71,7 +71,7 @@ fn literal<A: Scarce>(trial: &Trial<'_, A>, text: &str, page: &mut Page) {
 /// `LitInt::from_token` or `LitFloat::from_token` of a token of the text, by the kind.
 pub fn from_token<K: NumberKind, A: Scarce>(trial: &Trial<'_, A>, text: &str, page: &mut Page) {
     match trial.token(text) {
-        Some(token) => trial.ends_with(Number::<K, A>::from_token(trial.begins(), token), page),
+        Some(token) => trial.ends(Number::<K, A>::from_token(trial.begins(), token), page),
         None => page.put(UNFIT),
     }
 }

@@ -1,14 +1,105 @@
 //! Calls whose requests for memory are refused: whose call it is, the call's name, and a text, with a space between.
 
-use crate::held::NO_CALL;
+use crate::held::{NO_CALL, literal_of, number_of, quoted_of, run_held};
 use crate::tokens::parsed;
-use crate::trial::{Scarce, Trial};
-use crate::{grammar, held, made, sources, tokens};
+use crate::trial::{HERE, Scarce, Trial};
+use crate::{grammar, made, sources, tokens};
 use rl_quoted::{ByteKind, ByteStrKind, CStrKind, CharKind, Quoted, QuotedKind, StrKind};
 use rl_refusing::{Page, Refusing};
 use rust_literals::{FloatKind, IntKind, Lit, LitBool, Number, NumberKind};
 use std::alloc::Global;
 use std::cell::Cell;
+
+/// Runs a call that is no type's.
+fn run_free<A: Scarce>(call: &str, trial: &Trial<'_, A>, text: &str, page: &mut Page) {
+    match call {
+        "lex" => tokens::cut(trial, text, page),
+        "read_all" => grammar::read(trial, text, page),
+        "scan" => sources::scanned(trial, text, page),
+        "str_of" => grammar::text_of(trial, text, page),
+        "bytes_of" => grammar::contents_of(trial, text, page),
+        "digits_of" => grammar::numeral_of(trial, text, page),
+        _ => page.put(NO_CALL),
+    }
+}
+
+/// Runs a call of a quoted literal, by its kind.
+fn run_kind<K: QuotedKind, A: Scarce>(
+    call: &str,
+    trial: &Trial<'_, A>,
+    text: &str,
+    page: &mut Page,
+) {
+    match call {
+        "Parse::parse" => parsed::<Quoted<K, A>, A>(trial, text, page),
+        _ => run_held(quoted_of::<K, A>(trial, text), call, trial, page),
+    }
+}
+
+/// Runs a call of a number, by its kind.
+fn run_number<K: NumberKind, A: Scarce>(
+    call: &str,
+    trial: &Trial<'_, A>,
+    text: &str,
+    page: &mut Page,
+) {
+    match call {
+        "Parse::parse" => parsed::<Number<K, A>, A>(trial, text, page),
+        "from_token" => made::from_token::<K, A>(trial, text, page),
+        _ => run_held(number_of::<K, A>(trial, text), call, trial, page),
+    }
+}
+
+/// Runs a call of a truth value, which is true where the text is `true`.
+fn run_truth<A: Scarce>(call: &str, trial: &Trial<'_, A>, text: &str, page: &mut Page) {
+    match call {
+        "Parse::parse" => parsed::<LitBool, A>(trial, text, page),
+        _ => run_held(Some(LitBool::new(text == "true", HERE)), call, trial, page),
+    }
+}
+
+/// Runs a call of a literal of any kind.
+fn run_any<A: Scarce>(call: &str, trial: &Trial<'_, A>, text: &str, page: &mut Page) {
+    match call {
+        "Parse::parse" => parsed::<Lit<A>, A>(trial, text, page),
+        _ => run_held(literal_of(trial, text), call, trial, page),
+    }
+}
+
+/// Runs a call of a literal of this type.
+fn run_literal<A: Scarce>(of: &str, call: &str, trial: &Trial<'_, A>, text: &str, page: &mut Page) {
+    match of {
+        "LitInt" => run_number::<IntKind, A>(call, trial, text, page),
+        "LitFloat" => run_number::<FloatKind, A>(call, trial, text, page),
+        "LitBool" => run_truth(call, trial, text, page),
+        "LitStr" => run_kind::<StrKind, A>(call, trial, text, page),
+        "LitByteStr" => run_kind::<ByteStrKind, A>(call, trial, text, page),
+        "LitCStr" => run_kind::<CStrKind, A>(call, trial, text, page),
+        "LitByte" => run_kind::<ByteKind, A>(call, trial, text, page),
+        "LitChar" => run_kind::<CharKind, A>(call, trial, text, page),
+        _ => run_any(call, trial, text, page),
+    }
+}
+
+/// Runs a call of a literal, by its name.
+fn run_named<A: Scarce>(of: &str, call: &str, trial: &Trial<'_, A>, text: &str, page: &mut Page) {
+    match call {
+        "new" => made::new(of, trial, text, page),
+        "value" | "parse" | "parse_with" => run_held(literal_of(trial, text), call, trial, page),
+        _ => run_literal(of, call, trial, text, page),
+    }
+}
+
+/// Runs the call once, and puts last what came of it.
+fn run<A: Scarce>(of: &str, call: &str, trial: &Trial<'_, A>, text: &str, page: &mut Page) {
+    match of {
+        "free" => run_free(call, trial, text, page),
+        "Literal" => tokens::literal_call(call, trial, text, page),
+        "Ident" => tokens::word(trial, text, page),
+        "TokenStream" => tokens::append(trial, text, page),
+        _ => run_named(of, call, trial, text, page),
+    }
+}
 
 /// A call, and the text that it is tried on.
 #[derive(Clone, Copy)]
@@ -19,94 +110,6 @@ pub struct Row<'t> {
     pub call: &'t str,
     /// The text.
     pub text: &'t str,
-}
-
-/// Runs a call that is no type's.
-fn run_free<A: Scarce>(row: Row<'_>, trial: &Trial<'_, A>, page: &mut Page) {
-    match row.call {
-        "lex" => tokens::cut(trial, row.text, page),
-        "read_all" => grammar::read(trial, row.text, page),
-        "scan" => sources::scanned(trial, row.text, page),
-        "str_of" => grammar::text_of(trial, row.text, page),
-        "bytes_of" => grammar::contents_of(trial, row.text, page),
-        "digits_of" => grammar::numeral_of(trial, row.text, page),
-        _ => page.put(NO_CALL),
-    }
-}
-
-/// Runs a call of one of the five quoted kinds, or of a literal of any kind.
-fn run_quoted<A: Scarce>(row: Row<'_>, trial: &Trial<'_, A>, page: &mut Page) {
-    match row.of {
-        "LitStr" => run_kind::<StrKind, A>(row, trial, page),
-        "LitByteStr" => run_kind::<ByteStrKind, A>(row, trial, page),
-        "LitCStr" => run_kind::<CStrKind, A>(row, trial, page),
-        "LitByte" => run_kind::<ByteKind, A>(row, trial, page),
-        "LitChar" => run_kind::<CharKind, A>(row, trial, page),
-        _ => run_any(row, trial, page),
-    }
-}
-
-/// Runs a call of a quoted literal, by its kind.
-fn run_kind<K: QuotedKind, A: Scarce>(row: Row<'_>, trial: &Trial<'_, A>, page: &mut Page) {
-    match row.call {
-        "Parse::parse" => parsed::<Quoted<K, A>, A>(trial, row.text, page),
-        _ => held::quoted::<K, A>(row.call, trial, row.text, page),
-    }
-}
-
-/// Runs a call of a number, by its kind.
-fn run_number<K: NumberKind, A: Scarce>(row: Row<'_>, trial: &Trial<'_, A>, page: &mut Page) {
-    match row.call {
-        "Parse::parse" => parsed::<Number<K, A>, A>(trial, row.text, page),
-        "from_token" => made::from_token::<K, A>(trial, row.text, page),
-        _ => held::number::<K, A>(row.call, trial, row.text, page),
-    }
-}
-
-/// Runs a call of a truth value.
-fn run_truth<A: Scarce>(row: Row<'_>, trial: &Trial<'_, A>, page: &mut Page) {
-    match row.call {
-        "Parse::parse" => parsed::<LitBool, A>(trial, row.text, page),
-        _ => held::truth(row.call, trial, row.text, page),
-    }
-}
-
-/// Runs a call of a literal of any kind.
-fn run_any<A: Scarce>(row: Row<'_>, trial: &Trial<'_, A>, page: &mut Page) {
-    match row.call {
-        "Parse::parse" => parsed::<Lit<A>, A>(trial, row.text, page),
-        _ => held::literal(row.call, trial, row.text, page),
-    }
-}
-
-/// Runs a call of a literal.
-fn run_literal<A: Scarce>(row: Row<'_>, trial: &Trial<'_, A>, page: &mut Page) {
-    match row.of {
-        "LitInt" => run_number::<IntKind, A>(row, trial, page),
-        "LitFloat" => run_number::<FloatKind, A>(row, trial, page),
-        "LitBool" => run_truth(row, trial, page),
-        _ => run_quoted(row, trial, page),
-    }
-}
-
-/// Runs a call of a literal, by its name.
-fn run_named<A: Scarce>(row: Row<'_>, trial: &Trial<'_, A>, page: &mut Page) {
-    match row.call {
-        "new" => made::new(row.of, trial, row.text, page),
-        "value" | "parse" | "parse_with" => held::literal(row.call, trial, row.text, page),
-        _ => run_literal(row, trial, page),
-    }
-}
-
-/// Runs the call once, and puts last what came of it.
-fn run<A: Scarce>(row: Row<'_>, trial: &Trial<'_, A>, page: &mut Page) {
-    match row.of {
-        "free" => run_free(row, trial, page),
-        "Literal" => tokens::literal_call(row.call, trial, row.text, page),
-        "Ident" => tokens::word(trial, row.text, page),
-        "TokenStream" => tokens::append(trial, row.text, page),
-        _ => run_named(row, trial, page),
-    }
 }
 
 /// What came of the call while these requests were refused, and how many came.
@@ -121,7 +124,7 @@ fn tried(alloc: Global, row: Row<'_>, first: u64, last: u64) -> (Page, u64) {
         last,
         asked: &asked,
     };
-    run(row, &trial, &mut page);
+    run(row.of, row.call, &trial, row.text, &mut page);
     if refusing.held() > 0 {
         page.put("; kept memory");
     }

@@ -33,7 +33,7 @@ pub fn scanned<A: Scarce>(trial: &Trial<'_, A>, text: &str, page: &mut Page) {
     };
     let mut written = Vec::new(trial.alloc);
     let answer = scan(trial.begins(), options, text, &mut written);
-    trial.ends_with(answer, page);
+    trial.ends(answer, page);
     page.put("; wrote ");
     page.put_number(written.len());
 }

@@ -1,6 +1,6 @@
 //! Calls of `rl_tokens`.
 
-use crate::held;
+use crate::held::run_held;
 use crate::tell::{Rest, Tell};
 use crate::trial::{HERE, Scarce, Trial, UNFIT};
 use rl_refusing::Page;
@@ -24,7 +24,7 @@ fn literal_of_value<A: Scarce>(name: &str, trial: &Trial<'_, A>, text: &str, pag
         "c_string" => c_string(trial, text, page),
         "byte_character" => byte_character(trial, text, page),
         "character" => character(trial, text, page),
-        _ => held::token(name, trial, text, page),
+        _ => run_held(trial.token(text), name, trial, page),
     }
 }
 
@@ -86,7 +86,7 @@ fn append_last<A: Scarce>(trial: &Trial<'_, A>, text: &str, last: Literal<A>, pa
         Some(mut stream) => {
             let before = trial.lends(&stream);
             trial.begins();
-            trial.ends_with(stream.append(TokenTree::Literal(last)), page);
+            trial.ends(stream.append(TokenTree::Literal(last)), page);
             trial.leaves(&stream, before, page);
         }
         None => page.put(UNFIT),
@@ -95,7 +95,7 @@ fn append_last<A: Scarce>(trial: &Trial<'_, A>, text: &str, last: Literal<A>, pa
 
 /// `lex`, in the file 7.
 pub fn cut<A: Scarce>(trial: &Trial<'_, A>, text: &str, page: &mut Page) {
-    trial.ends_with(lex(trial.begins(), text, 7), page);
+    trial.ends(lex(trial.begins(), text, 7), page);
 }
 
 /// The parser of a type over the trees of the text, and what is left of the buffer.

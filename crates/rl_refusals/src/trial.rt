@@ -2,7 +2,7 @@
 
 use crate::tell::Tell;
 use rl_refusing::{Page, Refusing};
-use rl_tokens::{Error, Literal, Span, TokenStream, lex};
+use rl_tokens::{Literal, Span, TokenStream, lex};
 use std::alloc::{Allocator, Global};
 use std::cell::Cell;
 
@@ -58,12 +58,7 @@ impl<A: Scarce> Trial<'_, A> {
     }
 
     /// The call has ended with this answer, which is put last.
-    pub fn ends<T: Tell + Drop>(&self, answer: Result<T, Error<A>>, page: &mut Page) {
-        self.ends_with(answer, page);
-    }
-
-    /// The same of a call whose refusals are of another type.
-    pub fn ends_with<T: Tell + Drop, E: Tell + Drop>(&self, answer: Result<T, E>, page: &mut Page) {
+    pub fn ends<T: Tell + Drop, E: Tell + Drop>(&self, answer: Result<T, E>, page: &mut Page) {
         self.asked.set(self.scant.allow());
         match answer {
             Ok(value) => value.tell(page),

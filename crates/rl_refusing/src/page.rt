@@ -33,6 +33,12 @@ impl Page {
         }
     }
 
+    /// Puts two texts last.
+    pub fn say(&mut self, text: &str, ending: &str) {
+        self.put(text);
+        self.put(ending);
+    }
+
     /// Puts the character last.
     pub fn put_char(&mut self, c: char) {
         if self.text.push(c).is_err() {
@@ -57,6 +63,23 @@ impl Page {
         if write!(self.text, "{value}").is_err() {
             self.is_short = true;
         }
+    }
+
+    /// Puts the value last, as it is shown to developers, and a text.
+    pub fn debug<T: Debug>(&mut self, value: &T, ending: &str) {
+        self.put_debug(value);
+        self.put(ending);
+    }
+
+    /// Puts the value last, as it is shown to users, and a text.
+    pub fn show<T: Display>(&mut self, value: &T, ending: &str) {
+        self.put_shown(value);
+        self.put(ending);
+    }
+
+    /// Where its memory comes from.
+    pub fn alloc(&self) -> Global {
+        self.alloc
     }
 
     /// What stands there so far.

@@ -1,10 +1,10 @@
 //! Calls that take bytes: literals of them, and their values again.
 
 use crate::tell::{
-    HERE, at_word, debug_line, debug_word, show, show_word, tell_answer, tell_written, word,
+    HERE, at_word, debug_line, debug_word, put, show, show_word, tell, tell_error, word,
 };
 use rl_refusing::Page;
-use rl_tokens::{CString, Literal, NulError};
+use rl_tokens::{CString, Error, Literal, NulError};
 use rust_literals::{Lit, LitByte, LitByteStr, LitCStr};
 use std::alloc::Global;
 
@@ -23,7 +23,7 @@ pub(crate) fn told(alloc: Global, name: &str, bytes: &[u8], out: &mut Page) -> b
 fn each_byte(alloc: Global, bytes: &[u8], out: &mut Page) {
     for byte in bytes {
         one_byte(alloc, *byte, out);
-        tell_written(Literal::byte_character(alloc, *byte), out);
+        tell(Literal::byte_character(alloc, *byte), out);
     }
 }
 
@@ -39,7 +39,7 @@ fn one_byte(alloc: Global, byte: u8, out: &mut Page) {
 
 /// The bytes as a byte string literal, and its value again.
 fn byte_string(alloc: Global, bytes: &[u8], out: &mut Page) {
-    tell_written(Literal::byte_string(alloc, bytes), out);
+    tell(Literal::byte_string(alloc, bytes), out);
     let Ok(literal) = LitByteStr::new(alloc, bytes, HERE) else {
         return out.fail();
     };
@@ -47,7 +47,7 @@ fn byte_string(alloc: Global, bytes: &[u8], out: &mut Page) {
         return out.fail();
     };
     debug_word(&value.as_slice(), out);
-    tell_answer(alloc, Ok(Lit::ByteStr(literal)), out)
+    put(Lit::ByteStr(literal), out)
 }
 
 /// The bytes as a C string, and it as a literal, and its value again.
@@ -72,13 +72,20 @@ fn refused_c_string(rejected: NulError, out: &mut Page) {
 /// A C string as a literal, and its value again.
 fn held_c_string(alloc: Global, held: &CString, out: &mut Page) {
     debug_word(&held.as_bytes(), out);
-    tell_written(Literal::c_string(alloc, held), out);
-    let Ok(literal) = LitCStr::new(alloc, held, HERE) else {
-        return out.fail();
-    };
-    let Ok(value) = literal.value(alloc) else {
-        return out.fail();
-    };
-    show_word(&(value == *held), out);
-    tell_answer(alloc, Ok(Lit::CStr(literal)), out)
+    tell(Literal::c_string(alloc, held), out);
+    match LitCStr::new(alloc, held, HERE) {
+        Ok(literal) => {
+            tell_held(literal.value(alloc), held, out);
+            put(Lit::CStr(literal), out)
+        }
+        Err(error) => tell_error(&error, out),
+    }
+}
+
+/// Whether the C string that a literal stands for is the one that it was made of.
+fn tell_held(value: Result<CString, Error>, held: &CString, out: &mut Page) {
+    match value {
+        Ok(value) => show_word(&(value == *held), out),
+        Err(_) => out.fail(),
+    }
 }

@@ -1,6 +1,6 @@
 //! Equality and hash of literals.
 
-use crate::tell::{HERE, THERE, line, literal_of, show, show_line, show_word};
+use crate::tell::{HERE, THERE, line, literal_of, show_line, show_word};
 use rl_refusing::Page;
 use rl_tokens::Span;
 use rust_literals::Lit;
@@ -33,13 +33,8 @@ fn equal(alloc: Global, text: &str, out: &mut Page) {
     let Ok(second) = literal_of(alloc, second, THERE) else {
         return out.fail();
     };
-    tell_equal(&first, &second, out)
-}
-
-/// Whether two literals are equal, and hash alike.
-fn tell_equal(first: &Lit, second: &Lit, out: &mut Page) {
-    show_word(&(*first == *second), out);
-    show_line(&(hash_of(first) == hash_of(second)), out)
+    show_word(&(first == second), out);
+    show_line(&(hash_of(&first) == hash_of(&second)), out)
 }
 
 /// Puts the literals of the text, which LF part, into a map, and tells of each which one stood there before.
@@ -67,7 +62,7 @@ fn put(
 
 /// Prints which one stood there before.
 fn tell_before(at: usize, before: Option<usize>, out: &mut Page) {
-    show(&at, out);
+    out.put_shown(&at);
     match before {
         Some(before) => {
             out.put(" as ");

@@ -1,6 +1,6 @@
 //! Parsing inside strings.
 
-use crate::tell::{THERE, at_line, at_word, line, show_word, tell_error};
+use crate::tell::{THERE, at, at_line, at_word, line, show_word, tell_error};
 use rl_refusing::Page;
 use rl_tokens::{Error, Group, ParseBuffer, Parser, Span};
 use rust_literals::{Lit, LitInt, LitStr};
@@ -25,6 +25,22 @@ fn integer_inside(alloc: Global, string: &LitStr, out: &mut Page) {
     }
 }
 
+/// The spans of the trees inside a string, by a user's own parser.
+pub(crate) fn group(alloc: Global, literal: &Lit, out: &mut Page) {
+    match literal {
+        Lit::Str(string) => group_inside(alloc, string, out),
+        _ => line("no string", out),
+    }
+}
+
+/// The spans of the trees inside a string literal.
+fn group_inside(alloc: Global, string: &LitStr, out: &mut Page) {
+    match string.parse_with(alloc, SpansOfGroup) {
+        Ok(spans) => tell_spans(&spans, out),
+        Err(error) => tell_error(&error, out),
+    }
+}
+
 /// The spans of a group, of the literal in front in it, of the group after that, and of the literal in this.
 #[derive(Drop)]
 struct Spans {
@@ -32,6 +48,14 @@ struct Spans {
     first: Span,
     inner: Span,
     last: Span,
+}
+
+/// Prints the four spans.
+fn tell_spans(spans: &Spans, out: &mut Page) {
+    at_word(spans.outer, out);
+    at_word(spans.first, out);
+    at_word(spans.inner, out);
+    at(spans.last, " \n", out)
 }
 
 /// Takes a group of a literal and a group of a literal, and tells the four spans.
@@ -72,29 +96,4 @@ fn spans_of<A: Allocator>(group: &Group<A>) -> Result<Spans, Error<A>> {
         }),
         None => Err(last.error("literal")),
     }
-}
-
-/// The spans of the trees inside a string, by a user's own parser.
-pub(crate) fn group(alloc: Global, literal: &Lit, out: &mut Page) {
-    match literal {
-        Lit::Str(string) => group_inside(alloc, string, out),
-        _ => line("no string", out),
-    }
-}
-
-/// The spans of the trees inside a string literal.
-fn group_inside(alloc: Global, string: &LitStr, out: &mut Page) {
-    match string.parse_with(alloc, SpansOfGroup) {
-        Ok(spans) => tell_spans(&spans, out),
-        Err(error) => tell_error(&error, out),
-    }
-}
-
-/// Prints the four spans.
-fn tell_spans(spans: &Spans, out: &mut Page) {
-    at_word(spans.outer, out);
-    at_word(spans.first, out);
-    at_word(spans.inner, out);
-    at_word(spans.last, out);
-    out.put("\n")
 }

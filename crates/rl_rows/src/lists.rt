@@ -1,8 +1,6 @@
 //! Lists of literals: where each stands, and pairs of them with a gap between.
 
-use crate::tell::{
-    at_line, debug_word, line, literal_of, place, show_line, show_word, tell_error, tell_line, word,
-};
+use crate::tell::{ToRow, at_line, debug_word, literal_of, place, show_line, tell, tell_line};
 use rl_refusing::Page;
 use rl_tokens::{Error, Span};
 use rust_literals::{Lit, read_all};
@@ -12,7 +10,7 @@ use std::alloc::Global;
 pub(crate) fn told(alloc: Global, name: &str, text: &str, out: &mut Page) -> bool {
     match name {
         "places" => places(alloc, text, out),
-        "texts" => texts(alloc, text, out),
+        "texts" => tell(read_all(alloc, text, 7), out),
         "pairs" => pairs(alloc, text, out),
         _ => return false,
     }
@@ -27,6 +25,12 @@ fn places(alloc: Global, text: &str, out: &mut Page) {
     }
 }
 
+/// An error's bytes and message.
+fn tell_refused(error: &Error, out: &mut Page) {
+    place(error.span, out);
+    show_line(error, out)
+}
+
 /// Each literal's bytes and line.
 fn tell_places(alloc: Global, literals: &[Lit], out: &mut Page) {
     for literal in literals {
@@ -35,42 +39,32 @@ fn tell_places(alloc: Global, literals: &[Lit], out: &mut Page) {
     }
 }
 
-/// An error's bytes and message.
-fn tell_refused(error: &Error, out: &mut Page) {
-    place(error.span, out);
-    show_line(error, out)
-}
-
-/// Each literal as it is printed to programmers, or the error.
-fn texts(alloc: Global, text: &str, out: &mut Page) {
-    match read_all(alloc, text, 7) {
-        Ok(literals) => tell_texts(literals.as_slice(), out),
-        Err(error) => tell_error(&error, out),
-    }
-}
-
-/// Each literal as it is printed to programmers.
-fn tell_texts(literals: &[Lit], out: &mut Page) {
-    for literal in literals {
-        debug_word(literal, out);
-        at_line(literal.span(), out);
+/// Each literal as it is printed to programmers, with its span.
+impl ToRow for Vec<Lit> {
+    fn put_in(&self, out: &mut Page) {
+        for literal in self.as_slice() {
+            debug_word(literal, out);
+            at_line(literal.span(), out);
+        }
     }
 }
 
 /// The line of a text as one literal, after the bytes where it stands in a list.
 fn tell_placed(alloc: Global, text: &str, span: Span, out: &mut Page) {
     place(span, out);
-    let Ok(literal) = literal_of(alloc, text, span) else {
-        return out.fail();
-    };
-    tell_line(alloc, &literal, out)
+    match literal_of(alloc, text, span) {
+        Ok(literal) => {
+            tell_line(alloc, &literal, out);
+            drop(literal)
+        }
+        Err(_) => out.fail(),
+    }
 }
 
 /// Whether two texts with a gap between them read as each reads by itself.
 fn agrees(alloc: Global, first: &str, gap: &str, second: &str) -> bool {
     let mut whole = Page::new(alloc);
-    whole.put(first);
-    whole.put(gap);
+    whole.say(first, gap);
     let at = whole.text().len();
     whole.put(second);
     let end = whole.text().len();
@@ -92,8 +86,7 @@ fn pairs(alloc: Global, rows: &str, out: &mut Page) {
     for first in fronts.split('\u{1f}') {
         agreed = agreed.wrapping_add(agreeing(alloc, first, gap, backs, out));
     }
-    show_word(&agreed, out);
-    line("agree", out)
+    out.show(&agreed, " agree\n")
 }
 
 /// How many of the texts read after this one and a gap as they do by themselves.
@@ -103,16 +96,9 @@ fn agreeing(alloc: Global, first: &str, gap: &str, backs: &str, out: &mut Page) 
         if agrees(alloc, first, gap, second) {
             agreed = agreed.wrapping_add(1);
         } else {
-            tell_apart(first, second, out);
+            out.say(first, " and ");
+            out.say(second, " don't\n");
         }
     }
     agreed
-}
-
-/// Prints two texts that don't read as they do by themselves.
-fn tell_apart(first: &str, second: &str, out: &mut Page) {
-    word(first, out);
-    word("and", out);
-    word(second, out);
-    line("don't", out)
 }

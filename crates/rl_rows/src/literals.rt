@@ -2,12 +2,12 @@
 
 use crate::inside::{group, inside};
 use crate::tell::{
-    HERE, THERE, at_line, at_word, debug_line, debug_word, line, literal_of, show_line, show_word,
-    tell, tell_answer, tell_error, tell_trees, word,
+    HERE, THERE, ToRow, at_line, at_word, debug_line, debug_word, line, literal_of, put, show_line,
+    show_word, tell, tell_trees, word,
 };
 use crate::uses::anew;
 use rl_refusing::Page;
-use rl_tokens::{Error, Ident, ParseBuffer, ToTokens, TokenStream};
+use rl_tokens::{Ident, ParseBuffer, ToTokens, TokenStream};
 use rust_literals::{Lit, LitBool};
 use std::alloc::Global;
 
@@ -17,14 +17,19 @@ pub(crate) fn told(alloc: Global, name: &str, text: &str, out: &mut Page) -> boo
         out.fail();
         return true;
     };
-    told_of(alloc, name, &mut literal, out)
+    let is_call = told_of(alloc, name, &mut literal, out);
+    drop(literal);
+    is_call
 }
 
 /// Prints what a call of this name answers about the literal; false where there is none.
 fn told_of(alloc: Global, name: &str, literal: &mut Lit, out: &mut Page) -> bool {
     match name {
         "literal" => moved(alloc, literal, out),
-        "truth" => truth(alloc, out),
+        "truth" => {
+            truth(alloc, false, out);
+            truth(alloc, true, out)
+        }
         "shown" => shown(literal, out),
         "lends" => lends(literal, out),
         "inside" => inside(alloc, literal, out),
@@ -37,7 +42,7 @@ fn told_of(alloc: Global, name: &str, literal: &mut Lit, out: &mut Page) -> bool
 
 /// The literal, its copy, its trees, what is parsed of them, and its suffix; then it is moved.
 fn moved(alloc: Global, literal: &mut Lit, out: &mut Page) {
-    tell(alloc, literal, out);
+    literal.put_in(out);
     push_copy(alloc, literal, out);
     appended(alloc, literal, out);
     debug_word(&literal.suffix(), out);
@@ -47,11 +52,13 @@ fn moved(alloc: Global, literal: &mut Lit, out: &mut Page) {
 
 /// A copy, and whether it is equal.
 fn push_copy(alloc: Global, literal: &Lit, out: &mut Page) {
-    let Ok(copy) = literal.clone(alloc) else {
-        return out.fail();
-    };
-    show_word(&(copy == *literal), out);
-    tell(alloc, &copy, out)
+    match literal.clone(alloc) {
+        Ok(copy) => {
+            show_word(&(copy == *literal), out);
+            put(copy, out)
+        }
+        Err(_) => out.fail(),
+    }
 }
 
 /// The trees of a literal, and what is parsed of them.
@@ -62,32 +69,23 @@ fn appended(alloc: Global, literal: &Lit, out: &mut Page) {
     }
     tell_trees(stream.trees(), out);
     let mut input = ParseBuffer::new(stream.trees(), THERE);
-    tell_answer(alloc, input.parse::<Lit>(alloc), out)
+    tell(input.parse::<Lit>(alloc), out)
 }
 
-/// Both truth values: made, moved, and as a token.
-fn truth(alloc: Global, out: &mut Page) {
-    one_truth(alloc, false, out);
-    one_truth(alloc, true, out)
-}
-
-/// A truth value, in the same way.
-fn one_truth(alloc: Global, value: bool, out: &mut Page) {
+/// A truth value: made, moved, and as a token.
+fn truth(alloc: Global, value: bool, out: &mut Page) {
     let mut literal = LitBool::new(value, HERE);
     show_word(&literal.value(), out);
     at_word(literal.span(), out);
     literal.set_span(THERE);
-    tell_word(literal.token(alloc), out)
+    tell(literal.token(alloc), out)
 }
 
-/// A truth value's token: its text and span.
-fn tell_word(own: Result<Ident, Error>, out: &mut Page) {
-    match own {
-        Ok(own) => {
-            word(own.text(), out);
-            at_line(own.span(), out)
-        }
-        Err(error) => tell_error(&error, out),
+/// Its text and span.
+impl ToRow for Ident {
+    fn put_in(&self, out: &mut Page) {
+        word(self.text(), out);
+        at_line(self.span(), out)
     }
 }
 

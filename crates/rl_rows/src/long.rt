@@ -1,6 +1,6 @@
 //! Long numbers, told in brief.
 
-use crate::tell::{HERE, line, literal_of, show, word};
+use crate::tell::{HERE, literal_of, word};
 use rl_refusing::Page;
 use rust_literals::Lit;
 use std::alloc::{AllocError, Global};
@@ -50,7 +50,7 @@ fn tell_parts(kind: &str, digits: &str, suffix: &str, out: &mut Page) {
         out.put(" ");
         tell_brief(suffix, out);
     }
-    line("", out)
+    out.put("\n")
 }
 
 /// Prints a text of up to forty bytes; of a longer one its first eight, its last eight, and how many they are.
@@ -58,8 +58,7 @@ fn tell_brief(text: &str, out: &mut Page) {
     if text.len() <= 40 {
         return out.put(text);
     }
-    out.put(text.get(..8).unwrap_or(""));
-    out.put("..");
+    out.say(text.get(..8).unwrap_or(""), "..");
     word(text.get(text.len() - 8..).unwrap_or(""), out);
-    show(&text.len(), out)
+    out.put_shown(&text.len())
 }

@@ -1,6 +1,6 @@
 //! The message of every kind of error.
 
-use crate::tell::{HERE, debug, show_line, show_word, tell_error};
+use crate::tell::{HERE, show_line, show_word, tell_error};
 use rl_refusing::Page;
 use rl_tokens::{Error, ErrorKind, LexError, LexKind};
 use std::alloc::Global;
@@ -31,29 +31,28 @@ fn lex_kinds(out: &mut Page) {
 
 /// A kind of the lexer's errors: as it is printed to programmers, and its message.
 fn tell_fault(kind: LexKind, out: &mut Page) {
-    debug(&LexError { kind, at: 3 }, out);
-    out.put(": ");
+    out.debug(&LexError { kind, at: 3 }, ": ");
     show_line(&kind, out)
 }
 
 /// Every kind of error: as it is printed to programmers, and its message.
 fn kinds(alloc: Global, out: &mut Page) {
-    let (Ok(suffix), Ok(number)) = (
-        String::from_str(alloc, "u8"),
-        String::from_str(alloc, "too many"),
-    ) else {
-        return out.fail();
-    };
     tell_kind(ErrorKind::Expected("a word"), out);
     tell_kind(ErrorKind::EndOfInput("a word"), out);
     tell_kind(ErrorKind::Unexpected, out);
     tell_kind(ErrorKind::Lex(LexKind::Lifetime), out);
-    tell_kind(ErrorKind::Suffix(suffix), out);
+    match String::from_str(alloc, "u8") {
+        Ok(suffix) => tell_kind(ErrorKind::Suffix(suffix), out),
+        Err(_) => out.fail(),
+    }
     tell_kind(ErrorKind::NotInteger, out);
     tell_kind(ErrorKind::TooLarge, out);
     tell_kind(ErrorKind::NotFloat, out);
     tell_kind(ErrorKind::Repeated, out);
-    tell_kind(ErrorKind::Number(number), out);
+    match String::from_str(alloc, "too many") {
+        Ok(number) => tell_kind(ErrorKind::Number(number), out),
+        Err(_) => out.fail(),
+    }
     tell_kind(ErrorKind::Memory, out)
 }
 

@@ -1,8 +1,8 @@
 //! Numbers of one text: what the structs of numbers make of it, and numbers by base ten.
 
 use crate::tell::{
-    HERE, THERE, at, at_word, debug_word, line, show, show_line, show_word, tell_answer,
-    tell_error, tell_token, token_of, word,
+    HERE, THERE, at, at_word, debug_word, line, put, show, show_line, show_word, tell, tell_error,
+    tell_shown, token_of, word,
 };
 use rl_refusing::Page;
 use rl_tokens::{Error, ErrorKind, Kept, Literal};
@@ -39,7 +39,7 @@ fn moved_integer(alloc: Global, literal: &mut LitInt, out: &mut Page) {
     at_word(literal.span(), out);
     show_word(literal, out);
     literal.set_span(THERE);
-    tell_own_token(literal.token(alloc), out)
+    tell(literal.token(alloc), out)
 }
 
 /// The text as a float, in the same way.
@@ -56,15 +56,7 @@ fn moved_float(alloc: Global, literal: &mut LitFloat, out: &mut Page) {
     at_word(literal.span(), out);
     show_word(literal, out);
     literal.set_span(THERE);
-    tell_own_token(literal.token(alloc), out)
-}
-
-/// A literal's token: its text and span.
-fn tell_own_token(token: Result<Literal, Error>, out: &mut Page) {
-    match token {
-        Ok(token) => tell_token(&token, out),
-        Err(error) => tell_error(&error, out),
-    }
+    tell(literal.token(alloc), out)
 }
 
 /// The text as a token that is made an integer, or handed back, and the same of a float.
@@ -73,7 +65,7 @@ fn kept(alloc: Global, text: &str, out: &mut Page) {
         return out.fail();
     };
     match LitInt::from_token(alloc, token) {
-        Ok(literal) => tell_answer(alloc, Ok(Lit::Int(literal)), out),
+        Ok(literal) => put(Lit::Int(literal), out),
         Err(kept) => kept_of_float(alloc, handed_back(kept, out), out),
     }
 }
@@ -81,8 +73,8 @@ fn kept(alloc: Global, text: &str, out: &mut Page) {
 /// The token made a float, or why it is none.
 fn kept_of_float(alloc: Global, token: Literal, out: &mut Page) {
     match LitFloat::from_token(alloc, token) {
-        Ok(literal) => tell_answer(alloc, Ok(Lit::Float(literal)), out),
-        Err(kept) => tell_answer(alloc, Err(Error::from(kept)), out),
+        Ok(literal) => put(Lit::Float(literal), out),
+        Err(kept) => tell_error(&Error::from(kept), out),
     }
 }
 
@@ -94,35 +86,14 @@ fn handed_back(kept: Kept<Literal>, out: &mut Page) -> Literal {
     kept.value
 }
 
-/// The text as an integer literal.
-fn integer_of(alloc: Global, text: &str) -> Option<Lit> {
-    match LitInt::new(alloc, text, HERE) {
-        Ok(literal) => Some(Lit::Int(literal)),
-        Err(_) => None,
-    }
-}
-
-/// The text as a float literal.
-fn float_of(alloc: Global, text: &str) -> Option<Lit> {
-    match LitFloat::new(alloc, text, HERE) {
-        Ok(literal) => Some(Lit::Float(literal)),
-        Err(_) => None,
-    }
-}
-
 /// Whether the text as an integer equals it as a float.
 fn across(alloc: Global, text: &str, out: &mut Page) {
-    match integer_of(alloc, text) {
-        Some(integer) => equals_float(alloc, &integer, text, out),
-        None => line("None", out),
-    }
-}
-
-/// Whether a literal equals the text as a float.
-fn equals_float(alloc: Global, literal: &Lit, text: &str, out: &mut Page) {
-    match float_of(alloc, text) {
-        Some(float) => show_line(&(*literal == float), out),
-        None => line("None", out),
+    let Ok(integer) = LitInt::new(alloc, text, HERE) else {
+        return line("None", out);
+    };
+    match LitFloat::new(alloc, text, HERE) {
+        Ok(float) => show_line(&(Lit::Int(integer) == Lit::Float(float)), out),
+        Err(_) => line("None", out),
     }
 }
 
@@ -143,7 +114,7 @@ fn refused_number(error: &Error, out: &mut Page) {
     match error.kind {
         ErrorKind::Number(_) => {
             out.put("at ");
-            at(error.span, out)
+            at(error.span, "", out)
         }
         _ => out.fail(),
     }
@@ -185,15 +156,7 @@ fn wide(alloc: Global, literal: &LitInt, out: &mut Page) {
 /// The byte that the text makes as a float.
 fn float_byte(alloc: Global, text: &str, out: &mut Page) {
     match LitFloat::new(alloc, text, HERE) {
-        Ok(literal) => byte_of(alloc, &literal, out),
+        Ok(literal) => tell_shown(literal.base10_parse::<u8, Global>(alloc), out),
         Err(_) => line("no float", out),
-    }
-}
-
-/// The byte that the float's digits make.
-fn byte_of(alloc: Global, literal: &LitFloat, out: &mut Page) {
-    match literal.base10_parse::<u8, Global>(alloc) {
-        Ok(number) => show_line(&number, out),
-        Err(error) => tell_error(&error, out),
     }
 }

@@ -1,7 +1,7 @@
 //! Parsers and peeks over the trees of a text.
 
 use crate::takers::{takers, two_files};
-use crate::tell::{at_line, line, show, tell_error, trees_of, word};
+use crate::tell::{at_line, line, tell_error, trees_of};
 use crate::turns::{Sign, turns};
 use rl_refusing::Page;
 use rl_tokens::{Error, Parse, ParseBuffer, Span, Token};
@@ -48,10 +48,10 @@ fn parsed_as<T: Parse<Global> + Token + Drop>(alloc: Global, text: &str, out: &m
     };
     let end = Span::new(0, text.len(), text.len());
     let mut input = ParseBuffer::new(stream.trees(), end);
-    tell_peek(T::display(), input.peek::<T>(), out);
+    out.say(T::display(), ", ");
+    out.show(&input.peek::<T>(), ": ");
     tell_parsed(input.parse::<T>(alloc), out);
-    word("next", out);
-    at_line(input.span(), out)
+    tell_next(&input, out)
 }
 
 /// Whether `=` stands at the front, or at the front of the group there, what taking it answers, and where the buffer
@@ -65,24 +65,22 @@ fn mark(alloc: Global, text: &str, out: &mut Page) {
     if let Some(group) = input.group() {
         input = group.inside();
     }
-    tell_peek("equals sign", input.peek_punct('='), out);
+    out.put("equals sign, ");
+    out.show(&input.peek_punct('='), ": ");
     tell_parsed(input.take_punct('='), out);
-    word("next", out);
-    at_line(input.span(), out)
-}
-
-/// A type's name in messages, and whether such a token stands at the front.
-fn tell_peek(name: &str, peek: bool, out: &mut Page) {
-    out.put(name);
-    out.put(", ");
-    show(&peek, out);
-    out.put(": ")
+    tell_next(&input, out)
 }
 
 /// Whether a value was parsed, or why there is none.
-fn tell_parsed<T: Drop>(answer: Result<T, Error>, out: &mut Page) {
+pub(crate) fn tell_parsed<T: Drop>(answer: Result<T, Error>, out: &mut Page) {
     match answer {
         Ok(_) => line("ok", out),
         Err(error) => tell_error(&error, out),
     }
+}
+
+/// Where the buffer stands.
+pub(crate) fn tell_next(input: &ParseBuffer<'_>, out: &mut Page) {
+    out.put("next ");
+    at_line(input.span(), out)
 }

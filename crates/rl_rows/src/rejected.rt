@@ -38,25 +38,28 @@ fn all_refused(refusing: Lent<'_>, text: &str, out: &mut Page) {
     refusing.allow();
     match answer {
         Ok(literal) => tell_number(&literal, out),
-        Err(Kept { value, error }) => {
-            show_word(&error, out);
-            at_word(error.span, out);
-            word(value.text(), out);
-            at_line(value.span(), out)
-        }
+        Err(kept) => tell_kept(&kept, out),
     }
+}
+
+/// Why a token is no literal, and the token.
+fn tell_kept<'a>(kept: &Kept<Literal<Lent<'a>>, Lent<'a>>, out: &mut Page) {
+    show_word(&kept.error, out);
+    at_word(kept.error.span, out);
+    word(kept.value.text(), out);
+    at_line(kept.value.span(), out)
 }
 
 /// Prints the digits of a number, and its suffix.
 fn tell_number(literal: &Lit<Lent<'_>>, out: &mut Page) {
     match literal {
         Lit::Int(number) => {
-            word("Int", out);
-            word(number.base10_digits(), out);
+            out.put("Int ");
+            word(number.base10_digits(), out)
         }
         Lit::Float(number) => {
-            word("Float", out);
-            word(number.base10_digits(), out);
+            out.put("Float ");
+            word(number.base10_digits(), out)
         }
         other => word(other.text(), out),
     }

@@ -48,16 +48,16 @@ fn integer(text: &str, out: &mut Page) {
 
 /// The text's contents, by the decoder of its kind.
 fn contents(alloc: Global, text: &str, out: &mut Page) {
-    match shape(text) {
-        Some(parts) => match parts.kind {
-            Kind::Str => tell_text(str_of(alloc, text), out),
-            Kind::ByteStr | Kind::CStr => tell_bytes(bytes_of(alloc, text), out),
-            Kind::Byte => show_line(&byte_of(text), out),
-            Kind::Char => show_line(&(char_of(text) as u32), out),
-            Kind::Int | Kind::Float => tell_digits(digits_of(alloc, parts.kind, text), out),
-            Kind::Bool => line(text, out),
-        },
-        None => line("None", out),
+    let Some(parts) = shape(text) else {
+        return line("None", out);
+    };
+    match parts.kind {
+        Kind::Str => tell_text(str_of(alloc, text), out),
+        Kind::ByteStr | Kind::CStr => tell_bytes(bytes_of(alloc, text), out),
+        Kind::Byte => show_line(&byte_of(text), out),
+        Kind::Char => show_line(&(char_of(text) as u32), out),
+        Kind::Int | Kind::Float => tell_digits(digits_of(alloc, parts.kind, text), out),
+        Kind::Bool => line(text, out),
     }
 }
 

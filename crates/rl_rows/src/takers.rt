@@ -1,13 +1,12 @@
 //! What the four takers of a buffer take, and a minus and a number of two files.
 
 use crate::tell::{
-    at_line, at_word, debug_word, line, show, show_line, show_word, tell_error, tell_trees,
-    token_of, trees_of, word,
+    at, at_line, debug_word, line, show_line, show_word, tell_error, tell_trees, token_of, trees_of,
 };
 use rl_refusing::Page;
 use rl_tokens::{ParseBuffer, Punct, Span, TokenStream, TokenTree};
 use rust_literals::Lit;
-use std::alloc::{AllocError, Global};
+use std::alloc::Global;
 
 /// What the four takers of a buffer take, tree by tree, to the end and once more.
 pub(crate) fn takers(alloc: Global, text: &str, out: &mut Page) {
@@ -27,13 +26,19 @@ pub(crate) fn takers(alloc: Global, text: &str, out: &mut Page) {
 fn take_next(input: &mut ParseBuffer<'_>, out: &mut Page) {
     tell_left(input, out);
     tell_forks(input, out);
-    if tell_ident(input, out) || tell_punct(input, out) {
-        return;
+    if let Some(ident) = input.ident() {
+        return line(ident.text(), out);
     }
-    if tell_literal(input, out) || tell_group(input, out) {
-        return;
+    if let Some(punct) = input.punct() {
+        return show_line(&punct.as_char(), out);
     }
-    line("nothing", out)
+    if let Some(literal) = input.literal() {
+        return line(literal.text(), out);
+    }
+    match input.group() {
+        Some(group) => out.show(&group.stream().trees().len(), " inside\n"),
+        None => line("nothing", out),
+    }
 }
 
 /// Which of the four takers take what stands next.
@@ -47,10 +52,8 @@ fn tell_forks(input: &ParseBuffer<'_>, out: &mut Page) {
 
 /// Where the buffer stands, and how many trees are left.
 fn tell_left(input: &ParseBuffer<'_>, out: &mut Page) {
-    at_word(input.span(), out);
-    word("of", out);
-    show(&input.rest().len(), out);
-    out.put(":")
+    at(input.span(), " of ", out);
+    out.show(&input.rest().len(), ":")
 }
 
 /// Prints a word where something holds.
@@ -60,86 +63,35 @@ fn tell_if(holds: bool, word: &str, out: &mut Page) {
     }
 }
 
-/// The identifier that stands next, taken; false where there is none.
-fn tell_ident(input: &mut ParseBuffer<'_>, out: &mut Page) -> bool {
-    match input.ident() {
-        Some(ident) => {
-            line(ident.text(), out);
-            true
-        }
-        None => false,
-    }
-}
-
-/// The mark that stands next.
-fn tell_punct(input: &mut ParseBuffer<'_>, out: &mut Page) -> bool {
-    match input.punct() {
-        Some(punct) => {
-            show_line(&punct.as_char(), out);
-            true
-        }
-        None => false,
-    }
-}
-
-/// The literal that stands next.
-fn tell_literal(input: &mut ParseBuffer<'_>, out: &mut Page) -> bool {
-    match input.literal() {
-        Some(literal) => {
-            line(literal.text(), out);
-            true
-        }
-        None => false,
-    }
-}
-
-/// The group that stands next: how many trees are in it.
-fn tell_group(input: &mut ParseBuffer<'_>, out: &mut Page) -> bool {
-    match input.group() {
-        Some(group) => {
-            show_word(&group.stream().trees().len(), out);
-            line("inside", out);
-            true
-        }
-        None => false,
-    }
-}
-
 /// A minus and a number of two files, as one literal.
 pub(crate) fn two_files(alloc: Global, out: &mut Page) {
-    let Ok(stream) = minus_and_one(alloc) else {
+    let Ok(number) = token_of(alloc, "1", Span::new(1, 0, 1)) else {
         return out.fail();
     };
-    tell_trees(stream.trees(), out);
-    let mut input = ParseBuffer::new(stream.trees(), Span::call_site());
-    match input.parse::<Lit>(alloc) {
-        Ok(literal) => tell_placed(&literal, out),
-        Err(error) => tell_error(&error, out),
-    }
-}
-
-/// A literal, and its span.
-fn tell_placed(literal: &Lit, out: &mut Page) {
-    debug_word(literal, out);
-    at_line(literal.span(), out)
-}
-
-/// A minus, and a number of another file.
-fn minus_and_one(alloc: Global) -> Result<TokenStream, AllocError> {
     let mut stream = TokenStream::new(alloc);
     if Punct::is_char('-') {
         let minus = Punct::new('-', Span::new(0, 3, 4));
-        append(&mut stream, TokenTree::Punct(minus))?;
+        append(TokenTree::Punct(minus), &mut stream, out);
     }
-    let number = token_of(alloc, "1", Span::new(1, 0, 1))?;
-    append(&mut stream, TokenTree::Literal(number))?;
-    Ok(stream)
+    append(TokenTree::Literal(number), &mut stream, out);
+    tell_trees(stream.trees(), out);
+    tell_first(alloc, stream.trees(), out)
 }
 
 /// Puts a tree at a stream's end.
-fn append(stream: &mut TokenStream, tree: TokenTree) -> Result<(), AllocError> {
-    match stream.append(tree) {
-        Ok(()) => Ok(()),
-        Err(_) => Err(AllocError),
+fn append(tree: TokenTree, stream: &mut TokenStream, out: &mut Page) {
+    if stream.append(tree).is_err() {
+        out.fail();
+    }
+}
+
+/// The literal in front, and its span.
+fn tell_first(alloc: Global, trees: &[TokenTree], out: &mut Page) {
+    match ParseBuffer::new(trees, Span::call_site()).parse::<Lit>(alloc) {
+        Ok(literal) => {
+            debug_word(&literal, out);
+            at_line(literal.span(), out)
+        }
+        Err(error) => tell_error(&error, out),
     }
 }

@@ -21,107 +21,122 @@ pub(crate) const THERE: Span = Span {
     hi: 2,
 };
 
-/// Prints a span as its file and its bytes.
-pub(crate) fn at(span: Span, out: &mut Page) {
-    show(&span.file, out);
-    out.put(":");
-    show(&span.lo, out);
-    out.put("..");
-    show(&span.hi, out);
+/// What a call returns, and how it is printed.
+pub(crate) trait ToRow {
+    /// Prints the value.
+    fn put_in(&self, out: &mut Page);
+}
+
+/// Prints what a call returned, or why it rejects what it was given.
+pub(crate) fn tell<T: ToRow + Drop>(answer: Result<T, Error>, out: &mut Page) {
+    match answer {
+        Ok(value) => value.put_in(out),
+        Err(error) => tell_error(&error, out),
+    }
+}
+
+/// Prints a value, and lets it go.
+pub(crate) fn put<T: ToRow + Drop>(value: T, out: &mut Page) {
+    value.put_in(out)
+}
+
+/// Prints a value as it is displayed, or why there is none.
+pub(crate) fn tell_shown<T: Display + Drop>(answer: Result<T, Error>, out: &mut Page) {
+    match answer {
+        Ok(value) => out.show(&value, "\n"),
+        Err(error) => tell_error(&error, out),
+    }
+}
+
+/// Prints a span as its file and its bytes, and what ends it.
+pub(crate) fn at(span: Span, ending: &str, out: &mut Page) {
+    out.show(&span.file, ":");
+    out.show(&span.lo, "..");
+    out.show(&span.hi, ending)
 }
 
 /// Prints a span, and a space.
 pub(crate) fn at_word(span: Span, out: &mut Page) {
-    at(span, out);
-    out.put(" ");
+    at(span, " ", out)
 }
 
 /// Prints a span, and ends the line.
 pub(crate) fn at_line(span: Span, out: &mut Page) {
-    at(span, out);
-    out.put("\n");
-}
-
-/// Prints a text, and a space.
-pub(crate) fn word(text: &str, out: &mut Page) {
-    out.put(text);
-    out.put(" ")
-}
-
-/// Prints a text, and ends the line.
-pub(crate) fn line(text: &str, out: &mut Page) {
-    out.put(text);
-    out.put("\n")
-}
-
-/// Prints a value as it is displayed.
-pub(crate) fn show<T: Display>(value: &T, out: &mut Page) {
-    out.put_shown(value);
-}
-
-/// Prints a value as it is displayed, and a space.
-pub(crate) fn show_word<T: Display>(value: &T, out: &mut Page) {
-    show(value, out);
-    out.put(" ");
-}
-
-/// Prints a value as it is displayed, and ends the line.
-pub(crate) fn show_line<T: Display>(value: &T, out: &mut Page) {
-    show(value, out);
-    out.put("\n");
-}
-
-/// Prints a value as it is printed to programmers.
-pub(crate) fn debug<T: Debug>(value: &T, out: &mut Page) {
-    out.put_debug(value);
-}
-
-/// Prints a value as it is printed to programmers, and a space.
-pub(crate) fn debug_word<T: Debug>(value: &T, out: &mut Page) {
-    debug(value, out);
-    out.put(" ");
+    at(span, "\n", out)
 }
 
 /// Prints where a span begins and ends, and a space.
 pub(crate) fn place(span: Span, out: &mut Page) {
-    show(&span.lo, out);
-    out.put("..");
-    show_word(&span.hi, out);
+    out.show(&span.lo, "..");
+    out.show(&span.hi, " ")
+}
+
+/// Prints a text, and a space.
+pub(crate) fn word(text: &str, out: &mut Page) {
+    out.say(text, " ")
+}
+
+/// Prints a text, and ends the line.
+pub(crate) fn line(text: &str, out: &mut Page) {
+    out.say(text, "\n")
+}
+
+/// Prints a value as it is displayed.
+pub(crate) fn show<T: Display>(value: &T, out: &mut Page) {
+    out.put_shown(value)
+}
+
+/// Prints a value as it is displayed, and a space.
+pub(crate) fn show_word<T: Display>(value: &T, out: &mut Page) {
+    out.show(value, " ")
+}
+
+/// Prints a value as it is displayed, and ends the line.
+pub(crate) fn show_line<T: Display>(value: &T, out: &mut Page) {
+    out.show(value, "\n")
+}
+
+/// Prints a value as it is printed to programmers, and a space.
+pub(crate) fn debug_word<T: Debug>(value: &T, out: &mut Page) {
+    out.debug(value, " ")
+}
+
+/// Prints a value as it is printed to programmers, and ends the line.
+pub(crate) fn debug_line<T: Debug>(value: &T, out: &mut Page) {
+    out.debug(value, "\n")
 }
 
 /// Prints an error: its span, its kind as it is printed to programmers, and its message.
 pub(crate) fn tell_error(error: &Error, out: &mut Page) {
-    at_word(error.span, out);
-    debug(&error.kind, out);
-    out.put(": ");
-    show_line(error, out)
-}
-
-/// Prints a word, another and a space after each.
-fn words(first: &str, second: &str, out: &mut Page) {
-    word(first, out);
-    word(second, out)
+    at(error.span, " ", out);
+    out.debug(&error.kind, ": ");
+    out.show(error, "\n")
 }
 
 /// Prints a tree's form, and its text.
 pub(crate) fn tell_form(tree: &TokenTree, out: &mut Page) {
     match tree {
-        TokenTree::Group(group) => debug_word(&group.delimiter(), out),
-        TokenTree::Ident(ident) => words("Ident", ident.text(), out),
+        TokenTree::Group(group) => out.debug(&group.delimiter(), " "),
+        TokenTree::Ident(ident) => tell_word("Ident ", ident.text(), out),
         TokenTree::Punct(punct) => {
-            word("Punct", out);
-            show_word(&punct.as_char(), out)
+            out.put("Punct ");
+            out.show(&punct.as_char(), " ")
         }
-        TokenTree::Literal(literal) => words("Literal", literal.text(), out),
+        TokenTree::Literal(literal) => tell_word("Literal ", literal.text(), out),
     }
+}
+
+/// Prints a form, a text, and a space.
+fn tell_word(form: &str, text: &str, out: &mut Page) {
+    out.put(form);
+    out.say(text, " ")
 }
 
 /// Prints trees: each one's form, text and span.
 pub(crate) fn tell_trees(trees: &[TokenTree], out: &mut Page) {
     for tree in trees {
         tell_form(tree, out);
-        at(tree.span(), out);
-        out.put("; ");
+        at(tree.span(), "; ", out);
     }
     out.put("\n")
 }
@@ -134,35 +149,20 @@ pub(crate) fn tell_line(alloc: Global, literal: &Lit, out: &mut Page) {
     }
 }
 
-/// Prints a literal: as it is printed to programmers, with its span and its line.
-pub(crate) fn tell(alloc: Global, literal: &Lit, out: &mut Page) {
-    debug_word(literal, out);
-    at_word(literal.span(), out);
-    tell_line(alloc, literal, out)
-}
-
-/// Prints an answer: the literal, or the error.
-pub(crate) fn tell_answer(alloc: Global, answer: Result<Lit, Error>, out: &mut Page) {
-    match answer {
-        Ok(literal) => tell(alloc, &literal, out),
-        Err(error) => tell_error(&error, out),
+/// As it is printed to programmers, with its span and its line.
+impl ToRow for Lit {
+    fn put_in(&self, out: &mut Page) {
+        out.debug(self, " ");
+        at(self.span(), " ", out);
+        tell_line(out.alloc(), self, out)
     }
 }
 
-/// Prints a token: its text, and its span.
-pub(crate) fn tell_token(token: &Literal, out: &mut Page) {
-    word(token.text(), out);
-    at_line(token.span(), out)
-}
-
-/// Prints a token that was written, as it is displayed, with its span.
-pub(crate) fn tell_written(written: Result<Literal, Error>, out: &mut Page) {
-    match written {
-        Ok(token) => {
-            show_word(&token, out);
-            at_line(token.span(), out)
-        }
-        Err(error) => tell_error(&error, out),
+/// As it is displayed, with its span.
+impl ToRow for Literal {
+    fn put_in(&self, out: &mut Page) {
+        out.show(self, " ");
+        at(self.span(), "\n", out)
     }
 }
 
@@ -185,10 +185,4 @@ pub(crate) fn literal_of(alloc: Global, text: &str, span: Span) -> Result<Lit, A
 /// The trees of the text, where it has some.
 pub(crate) fn trees_of(alloc: Global, text: &str, file: u32) -> Option<TokenStream> {
     lex(alloc, text, file).ok()
-}
-
-/// Prints a value as it is printed to programmers, and ends the line.
-pub(crate) fn debug_line<T: Debug>(value: &T, out: &mut Page) {
-    debug(value, out);
-    out.put("\n");
 }

@@ -1,12 +1,12 @@
 //! Spans, words, tokens, and what writers make of texts.
 
 use crate::tell::{
-    HERE, THERE, at_line, at_word, line, show_line, show_word, tell_answer, tell_written, token_of,
+    HERE, THERE, at_line, at_word, line, put, show_line, show_word, tell, tell_error, token_of,
     word,
 };
 use rl_refusing::Page;
 use rl_tokens::ident::xid_ok;
-use rl_tokens::{Ident, Literal, Span};
+use rl_tokens::{Error, Ident, Literal, Span};
 use rust_literals::{Lit, LitChar, LitStr};
 use std::alloc::Global;
 
@@ -16,7 +16,10 @@ pub(crate) fn told(alloc: Global, name: &str, text: &str, out: &mut Page) -> boo
         "joined" => spans(out),
         "word" => one_word(alloc, text, out),
         "token" => token(alloc, text, out),
-        "string" => string(alloc, text, out),
+        "string" => {
+            tell(Literal::string(alloc, text), out);
+            string(LitStr::new(alloc, text, HERE), out)
+        }
         "characters" => characters(alloc, text, out),
         _ => return false,
     }
@@ -47,48 +50,51 @@ fn one_word(alloc: Global, text: &str, out: &mut Page) {
     if !xid_ok(text) {
         return line("no word", out);
     }
-    let Ok(mut ident) = Ident::new(alloc, text, HERE) else {
-        return out.fail();
-    };
-    word(ident.text(), out);
-    at_word(ident.span(), out);
-    ident.set_span(THERE);
-    at_line(ident.span(), out)
+    match Ident::new(alloc, text, HERE) {
+        Ok(mut ident) => {
+            word(ident.text(), out);
+            at_word(ident.span(), out);
+            ident.set_span(THERE);
+            at_line(ident.span(), out)
+        }
+        Err(_) => out.fail(),
+    }
 }
 
 /// A token that is made of the text and moved.
 fn token(alloc: Global, text: &str, out: &mut Page) {
-    let Ok(mut token) = token_of(alloc, text, HERE) else {
-        return out.fail();
-    };
-    show_word(&token, out);
-    word(token.text(), out);
-    at_word(token.span(), out);
-    token.set_span(THERE);
-    at_line(token.span(), out)
+    match token_of(alloc, text, HERE) {
+        Ok(mut token) => {
+            show_word(&token, out);
+            word(token.text(), out);
+            at_word(token.span(), out);
+            token.set_span(THERE);
+            at_line(token.span(), out)
+        }
+        Err(_) => out.fail(),
+    }
 }
 
-/// The text as a string literal.
-fn string(alloc: Global, text: &str, out: &mut Page) {
-    tell_written(Literal::string(alloc, text), out);
-    match LitStr::new(alloc, text, HERE) {
-        Ok(literal) => tell_answer(alloc, Ok(Lit::Str(literal)), out),
-        Err(error) => tell_answer(alloc, Err(error), out),
+/// A string literal, or why there is none.
+fn string(made: Result<LitStr, Error>, out: &mut Page) {
+    match made {
+        Ok(literal) => put(Lit::Str(literal), out),
+        Err(error) => tell_error(&error, out),
     }
 }
 
 /// The text's characters as literals.
 fn characters(alloc: Global, text: &str, out: &mut Page) {
     for c in text.chars() {
-        tell_written(Literal::character(alloc, c), out);
-        character(alloc, c, out);
+        tell(Literal::character(alloc, c), out);
+        character(LitChar::new(alloc, c, HERE), out);
     }
 }
 
 /// A character as a literal.
-fn character(alloc: Global, c: char, out: &mut Page) {
-    match LitChar::new(alloc, c, HERE) {
-        Ok(literal) => tell_answer(alloc, Ok(Lit::Char(literal)), out),
-        Err(error) => tell_answer(alloc, Err(error), out),
+fn character(made: Result<LitChar, Error>, out: &mut Page) {
+    match made {
+        Ok(literal) => put(Lit::Char(literal), out),
+        Err(error) => tell_error(&error, out),
     }
 }

@@ -1,6 +1,6 @@
 //! The trees of a text, and why it is cut into none.
 
-use crate::tell::{HERE, debug_word, line, place, show, tell_form, token_of, word};
+use crate::tell::{HERE, debug_word, line, place, tell_form, token_of, word};
 use rl_refusing::Page;
 use rl_tokens::{Delimiter, Group, LexKind, Span, TokenStream, TokenTree, Tokens, lex};
 use std::alloc::{AllocError, Global};
@@ -41,27 +41,22 @@ fn cut(alloc: Global, text: &str, out: &mut Page) {
 /// Prints an error and its byte.
 fn tell_fault(kind: LexKind, at: usize, out: &mut Page) {
     debug_word(&kind, out);
-    show(&at, out)
+    out.put_shown(&at)
 }
 
 /// Prints why the tokens stopped, where they did.
 fn tell_stop(tokens: &Tokens<'_>, out: &mut Page) {
-    match tokens.fault() {
-        Some(fault) => {
-            tell_fault(fault.kind, fault.at, out);
-            out.put("; ")
-        }
-        None => {},
+    if let Some(fault) = tokens.fault() {
+        tell_fault(fault.kind, fault.at, out);
+        out.put("; ")
     }
 }
 
 /// Prints a token and its bytes.
 fn tell_lent(text: &str, lo: usize, hi: usize, out: &mut Page) {
     word(text, out);
-    show(&lo, out);
-    out.put("..");
-    show(&hi, out);
-    out.put("; ")
+    out.show(&lo, "..");
+    out.show(&hi, "; ")
 }
 
 /// The tokens of a text as they are borrowed, why they stopped, and what is left of it.

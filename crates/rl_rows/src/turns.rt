@@ -57,7 +57,9 @@ pub(crate) fn turns(alloc: Global, text: &str, out: &mut Page) {
 
 /// A literal and a sign; false where one of them is rejected, and at the end.
 fn turn(alloc: Global, input: &mut ParseBuffer<'_>, out: &mut Page) -> bool {
-    if !next_literal(alloc, input, out) || !next_sign(alloc, input, out) {
+    if !tell_literal(input.parse::<Lit>(alloc), out)
+        || !tell_sign(input.parse::<Sign>(alloc), out)
+    {
         return false;
     }
     if input.is_empty() {
@@ -67,34 +69,30 @@ fn turn(alloc: Global, input: &mut ParseBuffer<'_>, out: &mut Page) -> bool {
     true
 }
 
-/// The literal that stands next; false where there is none.
-fn next_literal(alloc: Global, input: &mut ParseBuffer<'_>, out: &mut Page) -> bool {
-    let answer = input.parse::<Lit>(alloc);
-    let is_there = answer.is_ok();
-    tell_literal(answer, out);
-    is_there
-}
-
-/// Prints a literal, or why there is none.
-fn tell_literal(answer: Result<Lit, Error>, out: &mut Page) {
+/// Prints a literal, or why there is none; false there.
+fn tell_literal(answer: Result<Lit, Error>, out: &mut Page) -> bool {
     match answer {
-        Ok(literal) => debug_word(&literal, out),
-        Err(error) => tell_error(&error, out),
+        Ok(literal) => {
+            debug_word(&literal, out);
+            true
+        }
+        Err(error) => {
+            tell_error(&error, out);
+            false
+        }
     }
 }
 
-/// The sign that stands next; false where there is none.
-fn next_sign(alloc: Global, input: &mut ParseBuffer<'_>, out: &mut Page) -> bool {
-    let answer = input.parse::<Sign>(alloc);
-    let is_there = answer.is_ok();
-    tell_sign(answer, out);
-    is_there
-}
-
-/// Prints a sign, or why there is none.
-fn tell_sign(answer: Result<Sign, Error>, out: &mut Page) {
+/// Prints a sign, or why there is none; false there.
+fn tell_sign(answer: Result<Sign, Error>, out: &mut Page) -> bool {
     match answer {
-        Ok(sign) => show_line(&sign.ch, out),
-        Err(error) => tell_error(&error, out),
+        Ok(sign) => {
+            show_line(&sign.ch, out);
+            true
+        }
+        Err(error) => {
+            tell_error(&error, out);
+            false
+        }
     }
 }

@@ -1,6 +1,6 @@
 //! A formatter: quoted literals are written anew from their values.
 
-ghost use Rattle.std.specs.Prelude.{◌≡◌, List, OnOk, IfOk, IfErr, string_bytes};
+ghost use Rattle.std.specs.Prelude.{◌≡◌, ◌++◌, List, OnOk, IfOk, IfErr, codes, string_bytes};
 ghost use Rattle.std.specs.Str.{chars};
 ghost use Rattle.rl_tokens.specs.declared.kind.Kind.TheVariants.{Str as StrKind, ByteStr as ByteStrKind, CStr as CStrKind, Byte as ByteKind, Char as CharKind};
 ghost use Rattle.rl_tokens.specs.Errors.{memory_at};
@@ -10,7 +10,7 @@ ghost use Rattle.rust_literals.specs.LitParts.{lit_span};
 ghost use Rattle.rl_uses.specs.Shortage.{IsShortOf, RejectsTextOrMemory};
 ghost use Rattle.rl_uses.specs.Rewrites.{IsQuotedRewrite, IsWrittenOf, IsRewrite, PrintsLine, AreLines};
 
-use rl_tokens::Error;
+use rl_tokens::{Error, Span};
 use rust_literals::{Lit, LitByte, LitByteStr, LitCStr, LitChar, LitStr, read_all};
 use std::alloc::Allocator;
 
@@ -126,17 +126,29 @@ pub fn rewritten<A: Allocator + Copy>(alloc: A, literal: &Lit<A>) -> Result<Lit<
     ensures rewritten { IfOk result (IsRewrite literal.now) }
     ensures memory { IfErr result (λ e. e ≡ memory_at (lit_span literal.now)) }
 {
-    Ok(match literal {
-        Lit::Str(literal) => Lit::Str(string_rewritten(alloc, literal)?),
-        Lit::ByteStr(literal) => Lit::ByteStr(byte_string_rewritten(alloc, literal)?),
-        Lit::CStr(literal) => Lit::CStr(c_string_rewritten(alloc, literal)?),
-        Lit::Byte(literal) => Lit::Byte(byte_rewritten(alloc, literal)?),
-        Lit::Char(literal) => Lit::Char(character_rewritten(alloc, literal)?),
-        Lit::Int(literal) => Lit::Int(literal.clone(alloc)?),
-        Lit::Float(literal) => Lit::Float(literal.clone(alloc)?),
-        Lit::Bool(literal) => Lit::Bool(literal.clone(alloc)?),
-        Lit::Verbatim(token) => Lit::Verbatim(token.clone(alloc)?),
-    })
+    match literal {
+        Lit::Str(literal) => Ok(Lit::Str(string_rewritten(alloc, literal)?)),
+        Lit::ByteStr(literal) => Ok(Lit::ByteStr(byte_string_rewritten(alloc, literal)?)),
+        Lit::CStr(literal) => Ok(Lit::CStr(c_string_rewritten(alloc, literal)?)),
+        Lit::Byte(literal) => Ok(Lit::Byte(byte_rewritten(alloc, literal)?)),
+        Lit::Char(literal) => Ok(Lit::Char(character_rewritten(alloc, literal)?)),
+        Lit::Int(literal) => Ok(Lit::Int(literal.clone(alloc)?)),
+        Lit::Float(literal) => Ok(Lit::Float(literal.clone(alloc)?)),
+        Lit::Bool(literal) => Ok(Lit::Bool(literal.clone(alloc)?)),
+        Lit::Verbatim(token) => Ok(Lit::Verbatim(token.clone(alloc)?)),
+    }
+}
+
+/// Writes the text and LF at the end. An allocation failure is reported at the span.
+fn push_text<A: Allocator>(out: &mut String<A>, text: &str, span: Span) -> Result<(), Error<A>>
+    ensures line { OnOk result
+        (string_bytes out.new ≡ string_bytes out.old ++ (text.now ++ codes "\n")) }
+    ensures memory { IfErr result (λ e. e ≡ memory_at span) }
+{
+    if out.push_str(text).is_err() || out.push('\n').is_err() {
+        return Err(Error::memory(span));
+    }
+    Ok(())
 }
 
 /// Writes the literal's rewriting and LF at the end.
@@ -150,10 +162,9 @@ fn push_line<A: Allocator + Copy>(
     ensures memory { IfErr result (λ e. e ≡ memory_at (lit_span literal.now)) }
 {
     let anew = rewritten(alloc, literal)?;
-    if out.push_str(anew.text()).is_err() || out.push('\n').is_err() {
-        return Err(Error::memory(literal.span()));
-    }
-    Ok(())
+    let pushed = push_text(out, anew.text(), literal.span());
+    drop(anew);
+    pushed
 }
 
 /// Writes the literals' lines.
