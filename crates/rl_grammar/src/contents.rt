@@ -106,8 +106,16 @@ fn body_bytes<A: Allocator>(
 /// # Example
 ///
 /// ```
-/// Kind::Str => tell_text(str_of(alloc, text), out),
-/// Kind::ByteStr | Kind::CStr => tell_bytes(bytes_of(alloc, text), out),
+/// use rl_grammar::{Kind, shape, str_of};
+/// use std::alloc::Global;
+///
+/// pub fn contents(alloc: Global, text: &str) -> Option<String> {
+///     match shape(text)?.kind {
+///         Kind::Str => str_of(alloc, text).ok(),
+///         _ => None,
+///     }
+/// }
+/// // contents(alloc, "\"a\\x41\"") == Some("aA")
 /// ```
 pub fn str_of<A: Allocator>(alloc: A, text: &str) -> Result<String<A>, Error<A>>
     requires { ReadsAs Kind.Str (chars text.now) }

@@ -91,20 +91,13 @@ impl<A: Allocator> LitStr<A> {
     /// The text is cut into tokens, each of them gets the literal's span, also inside groups, and
     /// the parser runs on them with that span as scope.
     ///
+    /// See the example of [`Parser`].
+    ///
     /// # Errors
     ///
     /// In this order: the lexer's, as `Lex`; the parser's own; `Unexpected` where trees are left
     /// over; `Suffix` where the literal has one. All but the parser's own are reported at the
     /// literal's span, and so is an allocation failure.
-    ///
-    /// # Example
-    ///
-    /// ```
-    /// match string.parse_with(alloc, SpansOfGroup) {
-    ///     Ok(spans) => tell_spans(&spans, out),
-    ///     Err(error) => tell_error(&error, out),
-    /// }
-    /// ```
     pub fn parse_with<P: Parser<B>, B: Allocator + Copy>(
         &self,
         alloc: B,
@@ -130,13 +123,17 @@ impl<A: Allocator> LitStr<A> {
     /// # Example
     ///
     /// ```
-    /// match string.parse::<LitInt, Global>(alloc) {
-    ///     Ok(integer) => {
-    ///         show_word(&integer, out);
-    ///         at_line(integer.span(), out)
-    ///     }
-    ///     Err(error) => tell_error(&error, out),
+    /// use rl_quoted::LitStr;
+    /// use rl_tokens::parse_all;
+    /// use rust_literals::LitInt;
+    /// use std::alloc::Global;
+    ///
+    /// pub fn number_in_string(alloc: Global, text: &str) -> Option<u64> {
+    ///     let literal = parse_all::<LitStr, Global>(alloc, text, 0).ok()?;
+    ///     let number = literal.parse::<LitInt, Global>(alloc).ok()?;
+    ///     number.base10_parse(alloc).ok()
     /// }
+    /// // number_in_string(alloc, "\"0x1F\"") == Some(31)
     /// ```
     pub fn parse<T: Parse<B> + Drop, B: Allocator + Copy>(&self, alloc: B) -> Result<T, Error<B>>
         ensures parsed { IfOk result (IsParsedInside T.runs self.now) }

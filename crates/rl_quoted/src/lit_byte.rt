@@ -26,10 +26,15 @@ impl QuotedKind for ByteKind {
 /// # Example
 ///
 /// ```
-/// if literal.has_suffix() {
-///     return literal.clone(alloc);
+/// use rl_quoted::LitByte;
+/// use rl_tokens::parse_all;
+/// use std::alloc::Global;
+///
+/// pub fn byte_value(alloc: Global, text: &str) -> Option<u8> {
+///     let literal = parse_all::<LitByte, Global>(alloc, text, 0).ok()?;
+///     Some(literal.value())
 /// }
-/// LitByte::new(alloc, literal.value(), literal.span())
+/// // byte_value(alloc, "b'a'") == Some(97)
 /// ```
 pub type LitByte<A = Global> = Quoted<ByteKind, A>;
 
@@ -52,13 +57,7 @@ impl<A: Allocator> LitByte<A> {
 
     /// The byte that the literal stands for. No memory is taken.
     ///
-    /// # Example
-    ///
-    /// ```
-    /// show(&literal.value(), out);
-    /// word(literal.suffix(), out);
-    /// at_word(literal.span(), out)
-    /// ```
+    /// See the example of [`LitByte`].
     pub fn value(&self) -> u8
         ensures { HasContents Byte (chars self.now.text) (Bytes (result ∷ [])) }
     {

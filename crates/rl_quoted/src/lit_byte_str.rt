@@ -27,12 +27,15 @@ impl QuotedKind for ByteStrKind {
 /// # Example
 ///
 /// ```
-/// let Ok(literal) = LitByteStr::new(alloc, bytes, HERE) else {
-///     return out.fail();
-/// };
-/// let Ok(value) = literal.value(alloc) else {
-///     return out.fail();
-/// };
+/// use rl_quoted::LitByteStr;
+/// use rl_tokens::parse_all;
+/// use std::alloc::Global;
+///
+/// pub fn bytes_value(alloc: Global, text: &str) -> Option<Vec<u8>> {
+///     let literal = parse_all::<LitByteStr, Global>(alloc, text, 0).ok()?;
+///     literal.value(alloc).ok()
+/// }
+/// // bytes_value(alloc, "b\"a\\xFF\"") == Some([97, 255])
 /// ```
 pub type LitByteStr<A = Global> = Quoted<ByteStrKind, A>;
 
@@ -55,16 +58,11 @@ impl<A: Allocator> LitByteStr<A> {
 
     /// The bytes that the literal stands for, as a copy.
     ///
+    /// See the example of [`LitByteStr`].
+    ///
     /// # Errors
     ///
     /// `Memory` at the literal's span.
-    ///
-    /// # Example
-    ///
-    /// ```
-    /// let value = literal.value(alloc)?;
-    /// LitByteStr::new(alloc, value.as_slice(), literal.span())
-    /// ```
     pub fn value<B: Allocator>(&self, alloc: B) -> Result<Vec<u8, B>, Error<B>>
         ensures value { IfOk result
             (λ v. HasContents ByteStr (chars self.now.text) (Bytes v.items)) }
@@ -84,10 +82,15 @@ impl<A: Allocator> LitByteStr<A> {
     /// # Example
     ///
     /// ```
-    /// match literal.value_ref() {
-    ///     Some(value) => LitByteStr::new(alloc, value, literal.span()),
-    ///     None => byte_string_of_value(alloc, literal),
+    /// use rl_quoted::LitByteStr;
+    /// use rl_tokens::parse_all;
+    /// use std::alloc::Global;
+    ///
+    /// pub fn len_without_escapes(alloc: Global, text: &str) -> Option<usize> {
+    ///     let literal = parse_all::<LitByteStr, Global>(alloc, text, 0).ok()?;
+    ///     Some(literal.value_ref()?.len())
     /// }
+    /// // len_without_escapes(alloc, "b\"abc\"") == Some(3)
     /// ```
     pub fn value_ref(&self) -> Option<&[u8]>
         ensures some { IfSome result

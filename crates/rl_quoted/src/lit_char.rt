@@ -26,10 +26,15 @@ impl QuotedKind for CharKind {
 /// # Example
 ///
 /// ```
-/// if literal.has_suffix() {
-///     return literal.clone(alloc);
+/// use rl_quoted::LitChar;
+/// use rl_tokens::parse_all;
+/// use std::alloc::Global;
+///
+/// pub fn char_value(alloc: Global, text: &str) -> Option<char> {
+///     let literal = parse_all::<LitChar, Global>(alloc, text, 0).ok()?;
+///     Some(literal.value())
 /// }
-/// LitChar::new(alloc, literal.value(), literal.span())
+/// // char_value(alloc, "'\\u{e9}'") == Some('é')
 /// ```
 pub type LitChar<A = Global> = Quoted<CharKind, A>;
 
@@ -56,12 +61,7 @@ impl<A: Allocator> LitChar<A> {
 
     /// The character that the literal stands for. No memory is taken.
     ///
-    /// # Example
-    ///
-    /// ```
-    /// let size = literal.value().len_utf8();
-    /// Ok(value_weight(Kind::Char, size, literal.suffix()))
-    /// ```
+    /// See the example of [`LitChar`].
     pub fn value(&self) -> char
         ensures { HasContents Char (chars self.now.text) (Characters (result ∷ [])) }
     {

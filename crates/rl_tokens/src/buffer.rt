@@ -16,8 +16,16 @@ use std::alloc::{Allocator, Global};
 /// # Example
 ///
 /// ```
-/// let end = Span::new(0, text.len(), text.len());
-/// let mut input = ParseBuffer::new(stream.trees(), end);
+/// use rl_tokens::{ParseBuffer, Span, lex};
+/// use std::alloc::Global;
+///
+/// pub fn first_name(alloc: Global, text: &str) -> Option<String> {
+///     let stream = lex(alloc, text, 0).ok()?;
+///     let mut input = ParseBuffer::new(stream.trees(), Span::call_site());
+///     let name = input.ident()?;
+///     String::from_str(alloc, name.text()).ok()
+/// }
+/// // first_name(alloc, "port = 80") == Some("port")
 /// ```
 #[derive(Drop)]
 pub struct ParseBuffer<'a, A: Allocator = Global> {

@@ -17,10 +17,14 @@ use std::marker::Model;
 /// # Example
 ///
 /// ```
-/// match CString::new(bytes) {
-///     Ok(held) => held_c_string(alloc, &held, out),
-///     Err(rejected) => refused_c_string(rejected, out),
+/// use rl_tokens::CString;
+/// use std::alloc::Global;
+///
+/// pub fn first_nul(alloc: Global, text: &str) -> Option<usize> {
+///     let bytes = String::from_str(alloc, text).ok()?.into_bytes();
+///     Some(CString::new(bytes).err()?.nul_position())
 /// }
+/// // first_nul(alloc, "ab\0") == Some(2)
 /// ```
 #[derive(Drop)]
 pub struct CString<A: Allocator = Global> {
@@ -40,13 +44,7 @@ impl<A: Allocator> Model for CString<A> {
 
 /// Bytes that are no C string, since a zero stands among them.
 ///
-/// # Example
-///
-/// ```
-/// show_word(&rejected.nul_position(), out);
-/// word("of", out);
-/// debug_line(&rejected.into_vec().as_slice(), out)
-/// ```
+/// See the example of [`CString`].
 #[derive(Drop)]
 pub struct NulError<A: Allocator = Global> {
     bytes: Vec<u8, A>,

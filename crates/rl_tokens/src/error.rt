@@ -13,11 +13,16 @@ use std::fmt;
 ///
 /// # Example
 ///
-/// An error's bytes and its message:
-///
 /// ```
-/// place(error.span, out);
-/// show_line(error, out)
+/// use rl_tokens::parse_all;
+/// use rust_literals::LitInt;
+/// use std::alloc::Global;
+///
+/// pub fn message(alloc: Global, text: &str) -> Option<String> {
+///     let error = parse_all::<LitInt, Global>(alloc, text, 0).err()?;
+///     format!(in alloc; "{}..{}: {error}", error.span.lo, error.span.hi).ok()
+/// }
+/// // message(alloc, "1 'a'") == Some("2..5: unexpected token")
 /// ```
 #[derive(Drop)]
 #[derive_where(PartialEq, Eq, Debug)]
@@ -33,11 +38,17 @@ pub struct Error<A: Allocator = Global> {
 /// # Example
 ///
 /// ```
-/// match error.kind {
-///     ErrorKind::NotInteger => String::from_str(alloc, "None\n"),
-///     ErrorKind::TooLarge => String::from_str(alloc, "TooLarge\n"),
-///     _ => Err(AllocError),
+/// use rl_tokens::{ErrorKind, Span};
+/// use rust_literals::LitInt;
+/// use std::alloc::Global;
+///
+/// pub fn is_too_large(alloc: Global, text: &str) -> bool {
+///     match LitInt::new(alloc, text, Span::call_site()) {
+///         Ok(_) => false,
+///         Err(error) => matches!(error.kind, ErrorKind::TooLarge),
+///     }
 /// }
+/// // is_too_large(alloc, "0x1_00000000_00000000_00000000_00000000") == true
 /// ```
 #[derive(Drop)]
 #[derive_where(PartialEq, Eq, Debug)]

@@ -20,9 +20,13 @@ use std::marker::Model;
 /// # Example
 ///
 /// ```
-/// if !xid_ok(text) {
-///     return line("no word", out);
+/// use rl_tokens::ident::xid_ok;
+///
+/// pub fn is_name(text: &str) -> bool {
+///     xid_ok(text)
 /// }
+/// // is_name("port") == true
+/// // is_name("1st") == false
 /// ```
 #[inline(always)]
 pub fn xid_ok(text: &str) -> bool
@@ -43,14 +47,7 @@ fn all_continue(text: &str) -> bool
 
 /// An identifier token, `true` and `false` among them, and where it stands.
 ///
-/// # Example
-///
-/// ```
-/// let Some(name) = input.ident() else {
-///     return Err(input.error("identifier"));
-/// };
-/// let name = name.clone(alloc)?;
-/// ```
+/// See the example of [`ParseBuffer`].
 #[derive(Drop)]
 pub struct Ident<A: Allocator = Global> {
     text: String<A>,

@@ -9,10 +9,16 @@ use std::alloc::{Allocator, Global};
 /// # Example
 ///
 /// ```
-/// word(kept.value.text(), out);
-/// at_word(kept.value.span(), out);
-/// tell_error(&kept.error, out);
-/// kept.value
+/// use rl_tokens::{Literal, Span};
+/// use rust_literals::LitInt;
+/// use std::alloc::Global;
+///
+/// pub fn no_integer(alloc: Global, text: &str) -> Option<String> {
+///     let token = Literal::from_text(alloc, text, Span::call_site()).ok()?;
+///     let kept = LitInt::from_token(alloc, token).err()?;
+///     String::from_str(alloc, kept.value.text()).ok()
+/// }
+/// // no_integer(alloc, "1.5") == Some("1.5")
 /// ```
 #[derive(Drop)]
 #[derive_where(Debug; T)]

@@ -29,10 +29,15 @@ use std::alloc::Allocator;
 /// # Example
 ///
 /// ```
-/// match lex(alloc, text, 7) {
-///     Ok(stream) => tell_all(stream.trees(), out),
-///     Err(fault) => tell_fault(fault.kind, fault.at, out),
+/// use rl_tokens::{LexError, lex};
+/// use std::alloc::Global;
+///
+/// pub fn count_trees(alloc: Global, text: &str) -> Result<usize, LexError> {
+///     let stream = lex(alloc, text, 0)?;
+///     Ok(stream.trees().len())
 /// }
+/// // count_trees(alloc, "f(1, 2) + 3") == Ok(4)
+/// // count_trees(alloc, "f(1") == Err(LexError { kind: UnclosedGroup, at: 1 })
 /// ```
 ///
 /// [`LexKind`]: crate::LexKind

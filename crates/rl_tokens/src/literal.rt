@@ -15,9 +15,14 @@ use std::marker::Model;
 /// # Example
 ///
 /// ```
-/// let Ok(token) = Literal::from_text(alloc, text, span) else {
-///     return Err(AllocError);
-/// };
+/// use rl_tokens::Literal;
+/// use std::alloc::Global;
+///
+/// pub fn written(alloc: Global, value: &str) -> Option<String> {
+///     let token = Literal::string(alloc, value).ok()?;
+///     String::from_str(alloc, token.text()).ok()
+/// }
+/// // written(alloc, "a\"b") == Some("\"a\\\"b\"")
 /// ```
 #[derive(Drop)]
 pub struct Literal<A: Allocator = Global> {

@@ -20,16 +20,32 @@ use std::marker::PhantomData;
 ///
 /// # Example
 ///
-/// The members of a parser of several steps, which a function of their own takes; an error puts
-/// the buffer back:
-///
 /// ```
-/// ghost runs = { RunsAttribute };
+/// use rl_tokens::{Error, Parse, ParseBuffer, parse_all};
+/// use rust_literals::LitInt;
+/// use std::alloc::Global;
 ///
-/// fn parse(alloc: A, input: &mut ParseBuffer<'_, A>) -> Result<Attribute<A>, Error<A>> {
-///     let attribute = attempt(input, |input| parse_attribute(alloc, input))?;
-///     Ok(attribute)
+/// #[derive(Drop)]
+/// pub struct Value(LitInt);
+///
+/// impl Parse<Global> for Value {
+///     ghost use Rattle.std.specs.Prelude.{⊤};
+///
+///     // The contract says nothing of the value.
+///     ghost runs = { λ trees scope answer rest. ⊤ };
+///
+///     fn parse(alloc: Global, input: &mut ParseBuffer<'_>) -> Result<Value, Error> {
+///         input.take_punct('=')?;
+///         let number = input.parse::<LitInt>(alloc)?;
+///         Ok(Value(number))
+///     }
 /// }
+///
+/// pub fn set_value(alloc: Global, text: &str) -> Result<u16, Error> {
+///     let value = parse_all::<Value, Global>(alloc, text, 0)?;
+///     value.0.base10_parse(alloc)
+/// }
+/// // set_value(alloc, "= 80") == Ok(80)
 /// ```
 pub trait Parse<A: Allocator>: Sized {
     ghost runs: { List Tree → Span → Result Self (Error A) → List Tree → Type 0 };
@@ -53,16 +69,35 @@ pub trait Parse<A: Allocator>: Sized {
 ///
 /// # Example
 ///
-/// The members of [`ByParse`]:
-///
 /// ```
-/// type Output = T;
+/// use rl_tokens::{Error, ParseBuffer, Parser, parse_all};
+/// use rust_literals::LitStr;
+/// use std::alloc::Global;
 ///
-/// ghost runs = { λ parser. T.runs };
+/// #[derive(Drop)]
+/// pub struct Mark;
 ///
-/// fn parse(self, alloc: A, input: &mut ParseBuffer<'_, A>) -> Result<T, Error<A>> {
-///     T::parse(alloc, input)
+/// impl Parser<Global> for Mark {
+///     ghost use Rattle.std.specs.Prelude.{⊤};
+///
+///     type Output = char;
+///
+///     // The contract says nothing of the mark.
+///     ghost runs = { λ parser trees scope answer rest. ⊤ };
+///
+///     fn parse(self, _alloc: Global, input: &mut ParseBuffer<'_>) -> Result<char, Error> {
+///         match input.punct() {
+///             Some(mark) => Ok(mark.as_char()),
+///             None => Err(input.error("mark")),
+///         }
+///     }
 /// }
+///
+/// pub fn mark_in_string(alloc: Global, text: &str) -> Option<char> {
+///     let string = parse_all::<LitStr, Global>(alloc, text, 0).ok()?;
+///     string.parse_with(alloc, Mark).ok()
+/// }
+/// // mark_in_string(alloc, "\"+\"") == Some('+')
 /// ```
 pub trait Parser<A: Allocator>: Sized {
     /// What is parsed.
@@ -112,15 +147,7 @@ impl<A: Allocator, T: Parse<A>> Parser<A> for ByParse<T> {
 ///
 /// The member `peeks` says before which trees `peek` is true, and `shown` what `display` answers.
 ///
-/// # Example
-///
-/// ```
-/// ghost peeks = { λ trees. IsTrue (begins_punct trees) };
-///
-/// fn peek<A: Allocator>(input: &ParseBuffer<'_, A>) -> bool {
-///     input.fork().punct().is_some()
-/// }
-/// ```
+/// See the example of [`ParseBuffer::peek`].
 pub trait Token {
     ghost peeks: { List Tree → Type 0 };
 
@@ -140,10 +167,17 @@ pub trait Token {
 /// # Example
 ///
 /// ```
-/// let mut stream = TokenStream::new(alloc);
-/// if literal.to_tokens(alloc, &mut stream).is_err() {
-///     return out.fail();
+/// use rl_tokens::{Span, TokenStream};
+/// use rust_literals::LitInt;
+/// use std::alloc::Global;
+///
+/// pub fn trees_of(alloc: Global, text: &str) -> Option<usize> {
+///     let number = LitInt::new(alloc, text, Span::call_site()).ok()?;
+///     let mut stream = TokenStream::new(alloc);
+///     number.to_tokens(alloc, &mut stream).ok()?;
+///     Some(stream.trees().len())
 /// }
+/// // trees_of(alloc, "12") == Some(1)
 /// ```
 pub trait ToTokens {
     ghost appends: { Self → List Tree };
@@ -170,8 +204,18 @@ impl<'a, A: Allocator> ParseBuffer<'a, A> {
     /// # Example
     ///
     /// ```
-    /// input.take_punct('=')?;
-    /// input.parse::<LitStr<A>>(alloc)
+    /// use rl_tokens::{ParseBuffer, Span, lex};
+    /// use rust_literals::LitInt;
+    /// use std::alloc::Global;
+    ///
+    /// pub fn first_in_group(alloc: Global, text: &str) -> Option<u64> {
+    ///     let stream = lex(alloc, text, 0).ok()?;
+    ///     let mut input = ParseBuffer::new(stream.trees(), Span::call_site());
+    ///     let mut inside = input.group()?.inside();
+    ///     let number = inside.parse::<LitInt>(alloc).ok()?;
+    ///     number.base10_parse(alloc).ok()
+    /// }
+    /// // first_in_group(alloc, "(0x10, 2)") == Some(16)
     /// ```
     #[tactic(auto, using(crate::proofs::TreeRests::rest_step))]
     pub fn parse<T: Parse<A>>(&mut self, alloc: A) -> Result<T, Error<A>>
@@ -189,10 +233,25 @@ impl<'a, A: Allocator> ParseBuffer<'a, A> {
     /// # Example
     ///
     /// ```
-    /// if input.peek::<LitInt<A>>() {
-    ///     let literal = input.parse::<LitInt<A>>(alloc)?;
-    ///     return Ok(Item::Int(literal));
+    /// use rl_tokens::{Parse, ParseBuffer, Span, Token, lex};
+    /// use rust_literals::LitInt;
+    /// use std::alloc::Global;
+    ///
+    /// pub fn take_if<T: Token + Parse<Global>>(alloc: Global, input: &mut ParseBuffer<'_>) -> Option<T> {
+    ///     if !input.peek::<T>() {
+    ///         return None;
+    ///     }
+    ///     input.parse::<T>(alloc).ok()
     /// }
+    ///
+    /// pub fn trees_after(alloc: Global, text: &str) -> Option<usize> {
+    ///     let stream = lex(alloc, text, 0).ok()?;
+    ///     let mut input = ParseBuffer::new(stream.trees(), Span::call_site());
+    ///     take_if::<LitInt>(alloc, &mut input)?;
+    ///     Some(input.rest().len())
+    /// }
+    /// // trees_after(alloc, "1, 2") == Some(2)
+    /// // trees_after(alloc, "a, 2") == None
     /// ```
     pub fn peek<T: Token>(&self) -> bool
         ensures { IsTrue result ↔ T.peeks (trees_in self.now) }

@@ -11,10 +11,15 @@ use std::marker::Model;
 /// # Example
 ///
 /// ```
-/// match input.punct() {
-///     Some(mark) => Ok(Sign { ch: mark.as_char() }),
-///     None => Err(input.error("sign")),
+/// use rl_tokens::{ParseBuffer, Span, lex};
+/// use std::alloc::Global;
+///
+/// pub fn first_mark(alloc: Global, text: &str) -> Option<char> {
+///     let stream = lex(alloc, text, 0).ok()?;
+///     let mut input = ParseBuffer::new(stream.trees(), Span::call_site());
+///     Some(input.punct()?.as_char())
 /// }
+/// // first_mark(alloc, "+= 1") == Some('+')
 /// ```
 #[derive(Drop)]
 pub struct Punct {

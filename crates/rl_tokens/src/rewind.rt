@@ -45,8 +45,25 @@ fn ran<B, T, E, F: FnOnce(&mut B) -> Result<T, E>>(input: &mut B, parser: F) -> 
 /// # Example
 ///
 /// ```
-/// let attribute = attempt(input, |input| parse_attribute(alloc, input))?;
-/// Ok(attribute)
+/// use rl_tokens::{Error, ParseBuffer, Span, attempt, lex};
+/// use rust_literals::LitInt;
+/// use std::alloc::Global;
+///
+/// pub fn take_value(alloc: Global, input: &mut ParseBuffer<'_>) -> Result<LitInt, Error> {
+///     attempt(input, |input| {
+///         input.take_punct('=')?;
+///         input.parse::<LitInt>(alloc)
+///     })
+/// }
+///
+/// pub fn trees_after_value(alloc: Global, text: &str) -> Option<usize> {
+///     let stream = lex(alloc, text, 0).ok()?;
+///     let mut input = ParseBuffer::new(stream.trees(), Span::call_site());
+///     let _value = take_value(alloc, &mut input);
+///     Some(input.rest().len())
+/// }
+/// // trees_after_value(alloc, "= 80") == Some(0)
+/// // trees_after_value(alloc, "= a") == Some(2)
 /// ```
 pub fn attempt<B: Rewind + Drop, T, E, F: FnOnce(&mut B) -> Result<T, E>>(
     input: &mut B,

@@ -26,10 +26,22 @@ use std::alloc::{Allocator, Global};
 /// # Example
 ///
 /// ```
-/// match literal {
-///     Lit::Str(string) => has_control(alloc, string),
-///     _ => Ok(false),
+/// use rl_tokens::{Literal, Span};
+/// use rust_literals::Lit;
+/// use std::alloc::Global;
+///
+/// pub fn literal_of(alloc: Global, text: &str) -> Option<Lit> {
+///     let token = Literal::from_text(alloc, text, Span::call_site()).ok()?;
+///     Lit::new(alloc, token).ok()
 /// }
+///
+/// pub fn truth_of(alloc: Global, text: &str) -> Option<bool> {
+///     match literal_of(alloc, text)? {
+///         Lit::Bool(truth) => Some(truth.value()),
+///         _ => None,
+///     }
+/// }
+/// // truth_of(alloc, "true") == Some(true)
 /// ```
 #[derive(Drop)]
 pub enum Lit<A: Allocator = Global> {
@@ -110,19 +122,12 @@ impl<A: Allocator> Lit<A> {
     /// after a minus too. A text without CR is a byte, or a byte string with escapes, and its
     /// suffix empty or a word, exactly where it is a strict one (`strict_bytes`).
     ///
+    /// See the example of [`Lit`].
+    ///
     /// # Errors
     ///
     /// `Memory` alone, at the token's span, where there is none for the digits of a number whose
     /// body isn't its digits; the token is handed back. Other texts take no memory.
-    ///
-    /// # Example
-    ///
-    /// ```
-    /// match Lit::new(alloc, token_of(alloc, text, span)?) {
-    ///     Ok(literal) => Ok(literal),
-    ///     Err(_) => Err(AllocError),
-    /// }
-    /// ```
     pub fn new(alloc: A, token: Literal<A>) -> Result<Lit<A>, Kept<Literal<A>, A>>
         ensures strict_found { IfOk result (AgreesWithStrict (chars token.text)) }
         ensures reads { IfOk result (IsReadFrom token) }
@@ -239,11 +244,16 @@ impl<A: Allocator> Lit<A> {
     /// # Example
     ///
     /// ```
-    /// let flaw = literal.explain()?;
-    /// Some(Reason {
-    ///     span: flaw.in_span(literal.span()),
-    ///     kind: flaw.kind,
-    /// })
+    /// use rust_literals::read_all;
+    /// use std::alloc::Global;
+    ///
+    /// pub fn first_flaw(alloc: Global, text: &str) -> Option<(&'static str, usize)> {
+    ///     let literals = read_all(alloc, text, 0).ok()?;
+    ///     let literal = literals.as_slice().first()?;
+    ///     let flaw = literal.explain()?;
+    ///     Some((flaw.kind.words(), flaw.in_span(literal.span()).lo))
+    /// }
+    /// // first_flaw(alloc, "\"a\\q\" 1") == Some(("unknown escape", 3))
     /// ```
     pub fn explain(&self) -> Option<Flaw>
         ensures none { IfNone result (HasReading (chars (token_of self.now).text)) }

@@ -15,9 +15,15 @@ use std::alloc::Allocator;
 /// # Example
 ///
 /// ```
-/// let mut literal = LitBool::new(value, HERE);
-/// show_word(&literal.value(), out);
-/// at_word(literal.span(), out);
+/// use rl_tokens::parse_all;
+/// use rust_literals::LitBool;
+/// use std::alloc::Global;
+///
+/// pub fn truth_value(alloc: Global, text: &str) -> Option<bool> {
+///     let literal = parse_all::<LitBool, Global>(alloc, text, 0).ok()?;
+///     Some(literal.value())
+/// }
+/// // truth_value(alloc, "false") == Some(false)
 /// ```
 #[derive(Drop)]
 pub struct LitBool {

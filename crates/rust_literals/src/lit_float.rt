@@ -23,10 +23,15 @@ pub struct FloatKind;
 /// # Example
 ///
 /// ```
-/// match LitFloat::new(alloc, text, HERE) {
-///     Ok(mut literal) => moved_float(alloc, &mut literal, out),
-///     Err(error) => tell_error(&error, out),
+/// use rl_tokens::Span;
+/// use rust_literals::LitFloat;
+/// use std::alloc::Global;
+///
+/// pub fn float_digits(alloc: Global, text: &str) -> Option<String> {
+///     let literal = LitFloat::new(alloc, text, Span::call_site()).ok()?;
+///     String::from_str(alloc, literal.base10_digits()).ok()
 /// }
+/// // float_digits(alloc, "1_0.5e3_f64") == Some("10.5e3")
 /// ```
 pub type LitFloat<A = Global> = Number<FloatKind, A>;
 

@@ -19,12 +19,16 @@ pub struct IntKind;
 ///
 /// # Example
 ///
-/// Digits in base ten, suffix and place:
-///
 /// ```
-/// word(literal.base10_digits(), out);
-/// debug_word(&literal.suffix(), out);
-/// at_word(literal.span(), out);
+/// use rl_tokens::Span;
+/// use rust_literals::LitInt;
+/// use std::alloc::Global;
+///
+/// pub fn integer_value(alloc: Global, text: &str) -> Option<u8> {
+///     let literal = LitInt::new(alloc, text, Span::call_site()).ok()?;
+///     literal.base10_parse(alloc).ok()
+/// }
+/// // integer_value(alloc, "0xFF_u8") == Some(255)
 /// ```
 pub type LitInt<A = Global> = Number<IntKind, A>;
 

@@ -114,10 +114,15 @@ pub fn read_behind<A: Allocator + Copy>(
 /// # Example
 ///
 /// ```
-/// match read_all(alloc, text, 0) {
-///     Ok(literals) => tell_places(alloc, literals.as_slice(), out),
-///     Err(error) => tell_refused(&error, out),
+/// use rl_tokens::Error;
+/// use rust_literals::read_all;
+/// use std::alloc::Global;
+///
+/// pub fn count(alloc: Global, text: &str) -> Result<usize, Error> {
+///     Ok(read_all(alloc, text, 0)?.len())
 /// }
+/// // count(alloc, "1 'a' true") == Ok(3)
+/// // count(alloc, "1, 2") == Err(Error { span: Span { file: 0, lo: 1, hi: 2 }, kind: Expected("literal") })
 /// ```
 pub fn read_all<A: Allocator + Copy>(
     alloc: A,

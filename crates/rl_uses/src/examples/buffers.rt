@@ -47,6 +47,10 @@ pub fn trees_after(alloc: Global, text: &str) -> Option<usize> {
 }
 
 /// The port that all of a text is.
+///
+/// # Errors
+///
+/// As [`parse_all`] reports them, or by the number type.
 pub fn port(alloc: Global, text: &str) -> Result<u16, Error> {
     parse_all::<LitInt, Global>(alloc, text, 0)?.base10_parse(alloc)
 }

@@ -52,6 +52,10 @@ pub fn no_integer(alloc: Global, text: &str) -> Option<String> {
 }
 
 /// How many literals a text has.
+///
+/// # Errors
+///
+/// As [`read_all`] reports them.
 pub fn count(alloc: Global, text: &str) -> Result<usize, Error> {
     Ok(read_all(alloc, text, 0)?.len())
 }

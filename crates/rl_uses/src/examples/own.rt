@@ -22,12 +22,20 @@ impl Parse<Global> for Value {
 }
 
 /// The number that a text sets.
+///
+/// # Errors
+///
+/// As [`parse_all`] reports them, or by the number type.
 pub fn set_value(alloc: Global, text: &str) -> Result<u16, Error> {
     let value = parse_all::<Value, Global>(alloc, text, 0)?;
     value.0.base10_parse(alloc)
 }
 
-/// Takes `=` and an integer; the buffer stays where one of them is missing.
+/// Takes `=` and an integer.
+///
+/// # Errors
+///
+/// What is missing, by its word; the buffer stays.
 pub fn take_value(alloc: Global, input: &mut ParseBuffer<'_>) -> Result<LitInt, Error> {
     attempt(input, |input| {
         input.take_punct('=')?;

@@ -44,6 +44,10 @@ pub fn is_name(text: &str) -> bool {
 }
 
 /// How many token trees a text has.
+///
+/// # Errors
+///
+/// As [`lex`] reports them.
 pub fn count_trees(alloc: Global, text: &str) -> Result<usize, LexError> {
     let stream = lex(alloc, text, 0)?;
     Ok(stream.trees().len())
