@@ -167,7 +167,7 @@ pub trait Token {
 /// # Example
 ///
 /// ```
-/// use rl_tokens::{Span, TokenStream};
+/// use rl_tokens::{Span, ToTokens, TokenStream};
 /// use rust_literals::LitInt;
 /// use std::alloc::Global;
 ///
