@@ -1,4 +1,4 @@
-//! The one reading of a text: what it finds, told by places in it, so that nothing has to be read again to take a literal apart.
+//! The one reading of a text: what it finds, as places in it, so that nothing has to be read again to take a literal apart.
 
 ghost use Rattle.std.specs.Prelude.{◌≡◌, ◌∷◌, ◌⊎◌, ℕ, List, IfNone, IfSome, ◌≢◌, Bool, ◌↔◌, IsTrue};
 ghost use Rattle.std.specs.Str.{chars};
@@ -57,7 +57,7 @@ pub struct Found {
     /// What the literal is.
     pub kind: Kind,
     /// Where body and suffix stand, and whether the body is what the literal stands for, as
-    /// [`is_plain`](crate::is_plain) tells.
+    /// [`is_plain`](crate::is_plain) says.
     pub body: Body,
     /// What the digits of an integer spell; 0 for any other kind.
     pub magnitude: u128,

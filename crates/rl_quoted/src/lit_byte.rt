@@ -12,7 +12,7 @@ use rl_grammar::{Kind, byte_of_body};
 use rl_tokens::{Error, Literal, Span};
 use std::alloc::{Allocator, Global};
 
-/// The kind of bytes, as a type: what tells `LitByte` from its siblings.
+/// The kind of bytes, as a type: what parts `LitByte` from its siblings.
 pub struct ByteKind;
 
 impl QuotedKind for ByteKind {

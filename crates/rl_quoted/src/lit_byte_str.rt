@@ -13,7 +13,7 @@ use rl_grammar::{Kind, bytes_of_body};
 use rl_tokens::{Error, Literal, Span};
 use std::alloc::{Allocator, Global};
 
-/// The kind of byte strings, as a type: what tells `LitByteStr` from its siblings.
+/// The kind of byte strings, as a type: what parts `LitByteStr` from its siblings.
 pub struct ByteStrKind;
 
 impl QuotedKind for ByteStrKind {

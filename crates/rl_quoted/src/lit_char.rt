@@ -12,7 +12,7 @@ use rl_grammar::{Kind, char_of_body};
 use rl_tokens::{Error, Literal, Span};
 use std::alloc::{Allocator, Global};
 
-/// The kind of characters, as a type: what tells `LitChar` from its siblings.
+/// The kind of characters, as a type: what parts `LitChar` from its siblings.
 pub struct CharKind;
 
 impl QuotedKind for CharKind {

@@ -13,7 +13,7 @@ use rl_grammar::{Kind, str_of_body};
 use rl_tokens::{Error, Literal, Span};
 use std::alloc::{Allocator, Global};
 
-/// The kind of strings, as a type: what tells `LitStr` from its siblings.
+/// The kind of strings, as a type: what parts `LitStr` from its siblings.
 pub struct StrKind;
 
 impl QuotedKind for StrKind {

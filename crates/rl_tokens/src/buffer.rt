@@ -180,7 +180,7 @@ impl<'a, A: Allocator> ParseBuffer<'a, A> {
         }
     }
 
-    /// Takes this character of punctuation ([`Punct::is_char`] tells which are), and borrows its
+    /// Takes this character of punctuation ([`Punct::is_char`] says which are), and borrows its
     /// token.
     ///
     /// # Errors

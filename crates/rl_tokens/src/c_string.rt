@@ -67,7 +67,7 @@ impl<A: Allocator> CString<A> {
     ///
     /// # Errors
     ///
-    /// Where a zero stands among them: the [`NulError`] tells the place of the first, and hands the
+    /// Where a zero stands among them: the [`NulError`] has the place of the first, and the
     /// bytes back.
     pub fn new(bytes: Vec<u8, A>) -> Result<CString<A>, NulError<A>>
         ensures ok { IfOk result (λ c. c ≡ bytes.items) }

@@ -150,7 +150,7 @@ impl<'t> Tokens<'t> {
     }
 }
 
-/// The tokens up to the first place where none begins; [`Tokens::fault`] then tells why.
+/// The tokens up to the first place where none begins; [`Tokens::fault`] then says why.
 impl<'t> Iterator for Tokens<'t> {
     ghost use Rattle.std.specs.Iterator.{at_most};
     ghost use Rattle.rl_tokens.specs.Cursors.{GivesNext};

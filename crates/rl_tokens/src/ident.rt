@@ -67,7 +67,7 @@ impl<A: Allocator> Model for Ident<A> {
 }
 
 impl<A: Allocator> Ident<A> {
-    /// The token with this text, which has to be an identifier ([`xid_ok`] tells), and this span.
+    /// The token with this text, which has to be an identifier ([`xid_ok`] says whether it is), and this span.
     ///
     /// # Errors
     ///

@@ -16,7 +16,7 @@ use std::marker::PhantomData;
 /// A type whose values are parsed from the front of a buffer.
 ///
 /// The member `runs` says what an implementation means: it relates the trees before and the scope
-/// to the answer and the trees after.
+/// to the result and the trees after.
 ///
 /// # Example
 ///
@@ -145,7 +145,7 @@ impl<A: Allocator, T: Parse<A>> Parser<A> for ByParse<T> {
 
 /// A type that can be seen to stand next, without parsing it: what [`ParseBuffer::peek`] asks.
 ///
-/// The member `peeks` says before which trees `peek` is true, and `shown` what `display` answers.
+/// The member `peeks` says before which trees `peek` is true, and `shown` what `display` returns.
 ///
 /// See the example of [`ParseBuffer::peek`].
 pub trait Token {

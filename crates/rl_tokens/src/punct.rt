@@ -39,7 +39,7 @@ impl Model for Punct {
 }
 
 impl Punct {
-    /// The token of this character, which is punctuation ([`Punct::is_char`] tells), with this
+    /// The token of this character, which is punctuation ([`Punct::is_char`] says whether it is), with this
     /// span.
     pub fn new(ch: char, span: Span) -> Punct
         requires { IsTrue (is_punct ch) }

@@ -111,7 +111,7 @@ fn take_next<A: Allocator + Copy>(
 ///
 /// # Errors
 ///
-/// An allocation failed, for the literal or for the list; both stay. [`read_behind`] tells it at its place.
+/// An allocation failed, for the literal or for the list; both stay. [`read_behind`] reports it at its place.
 ///
 /// # Example
 ///

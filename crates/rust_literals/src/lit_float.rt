@@ -12,7 +12,7 @@ use rl_grammar::{Found, Kind, find_float};
 use rl_tokens::ErrorKind;
 use std::alloc::{Allocator, Global};
 
-/// The kind of floats, as a type: what tells `LitFloat` from `LitInt`.
+/// The kind of floats, as a type: what parts `LitFloat` from `LitInt`.
 pub struct FloatKind;
 
 /// A float literal: `1.5`, `1e5`, `2.0f32`. Its size isn't judged.

@@ -12,7 +12,7 @@ use rl_grammar::{Found, Kind, find_int};
 use rl_tokens::ErrorKind;
 use std::alloc::{Allocator, Global};
 
-/// The kind of integers, as a type: what tells `LitInt` from `LitFloat`.
+/// The kind of integers, as a type: what parts `LitInt` from `LitFloat`.
 pub struct IntKind;
 
 /// An integer literal: `1`, `-0x1F`, `1_000u16`. Its magnitude is at most 2 to the 128th, less 1.

@@ -106,7 +106,7 @@ pub fn read_behind<A: Allocator + Copy>(
 ///
 /// # Errors
 ///
-/// The first error is the answer: the lexer's error as `Lex`, with the span of no bytes at its
+/// The first error is returned: the lexer's error as `Lex`, with the span of no bytes at its
 /// place; or `Expected` at the first tree that no literal begins. `Memory` is reported where it was
 /// met, in the text or at a literal; and where the list itself can't grow, which is at no place of
 /// the text, at `Span::call_site`.

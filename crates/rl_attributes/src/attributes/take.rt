@@ -175,7 +175,7 @@ impl<A: Allocator + Copy> Parse<A> for Attrs<A> {
 /// # Errors
 ///
 /// The lexer's error as `Lex`, with the span of no bytes at its place, and its allocation
-/// failure as `Memory` there; else what the parser of [`Attrs`] rejects, which tells the text's end
+/// failure as `Memory` there; else what the parser of [`Attrs`] rejects, which reports the text's end
 /// by the span of no bytes there.
 pub fn read<A: Allocator + Copy>(alloc: A, text: &str, file: u32) -> Result<Attrs<A>, Error<A>>
     // The text is cut into the trees of these attributes.
