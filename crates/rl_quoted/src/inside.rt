@@ -116,25 +116,11 @@ impl<A: Allocator> LitStr<A> {
 
     /// What the parser of a type makes of the text that the literal stands for.
     ///
+    /// See the example of [`Parser`].
+    ///
     /// # Errors
     ///
     /// As [`parse_with`](LitStr::parse_with).
-    ///
-    /// # Example
-    ///
-    /// ```
-    /// use rl_quoted::LitStr;
-    /// use rl_tokens::parse_all;
-    /// use rust_literals::LitInt;
-    /// use std::alloc::Global;
-    ///
-    /// pub fn number_in_string(alloc: Global, text: &str) -> Option<u64> {
-    ///     let literal = parse_all::<LitStr, Global>(alloc, text, 0).ok()?;
-    ///     let number = literal.parse::<LitInt, Global>(alloc).ok()?;
-    ///     number.base10_parse(alloc).ok()
-    /// }
-    /// // number_in_string(alloc, "\"0x1F\"") == Some(31)
-    /// ```
     pub fn parse<T: Parse<B> + Drop, B: Allocator + Copy>(&self, alloc: B) -> Result<T, Error<B>>
         ensures parsed { IfOk result (IsParsedInside T.runs self.now) }
         ensures rejected { IfErr result (RejectsInside T.runs self.now) }

@@ -12,7 +12,7 @@ use rl_grammar::{Kind, byte_of_body};
 use rl_tokens::{Error, Literal, Span};
 use std::alloc::{Allocator, Global};
 
-/// The kind of bytes, as a type: what parts `LitByte` from its siblings.
+/// The kind of bytes, as a type: what distinguishes `LitByte` from its siblings.
 pub struct ByteKind;
 
 impl QuotedKind for ByteKind {
@@ -23,19 +23,7 @@ impl QuotedKind for ByteKind {
 
 /// A byte literal: `b'a'`.
 ///
-/// # Example
-///
-/// ```
-/// use rl_quoted::LitByte;
-/// use rl_tokens::parse_all;
-/// use std::alloc::Global;
-///
-/// pub fn byte_value(alloc: Global, text: &str) -> Option<u8> {
-///     let literal = parse_all::<LitByte, Global>(alloc, text, 0).ok()?;
-///     Some(literal.value())
-/// }
-/// // byte_value(alloc, "b'a'") == Some(97)
-/// ```
+/// See the example of [`Lit`].
 pub type LitByte<A = Global> = Quoted<ByteKind, A>;
 
 impl<A: Allocator> LitByte<A> {
@@ -57,7 +45,7 @@ impl<A: Allocator> LitByte<A> {
 
     /// The byte that the literal stands for. No memory is taken.
     ///
-    /// See the example of [`LitByte`].
+    /// See the example of [`Lit`].
     pub fn value(&self) -> u8
         ensures { HasContents Byte (chars self.now.text) (Bytes (result ∷ [])) }
     {

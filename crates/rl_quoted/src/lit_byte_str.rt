@@ -13,7 +13,7 @@ use rl_grammar::{Kind, bytes_of_body};
 use rl_tokens::{Error, Literal, Span};
 use std::alloc::{Allocator, Global};
 
-/// The kind of byte strings, as a type: what parts `LitByteStr` from its siblings.
+/// The kind of byte strings, as a type: what distinguishes `LitByteStr` from its siblings.
 pub struct ByteStrKind;
 
 impl QuotedKind for ByteStrKind {
@@ -31,11 +31,14 @@ impl QuotedKind for ByteStrKind {
 /// use rl_tokens::parse_all;
 /// use std::alloc::Global;
 ///
-/// pub fn bytes_value(alloc: Global, text: &str) -> Option<Vec<u8>> {
+/// pub fn bytes_len(alloc: Global, text: &str) -> Option<usize> {
 ///     let literal = parse_all::<LitByteStr, Global>(alloc, text, 0).ok()?;
-///     literal.value(alloc).ok()
+///     match literal.value_ref() {
+///         Some(value) => Some(value.len()),
+///         None => Some(literal.value(alloc).ok()?.len()),
+///     }
 /// }
-/// // bytes_value(alloc, "b\"a\\xFF\"") == Some([97, 255])
+/// // bytes_len(alloc, "b\"a\\xFF\"") == Some(2)
 /// ```
 pub type LitByteStr<A = Global> = Quoted<ByteStrKind, A>;
 
@@ -79,19 +82,7 @@ impl<A: Allocator> LitByteStr<A> {
     /// the quotes, byte for byte, that is where an escape or a line end of two characters stands
     /// there, and the string isn't raw. No memory is taken.
     ///
-    /// # Example
-    ///
-    /// ```
-    /// use rl_quoted::LitByteStr;
-    /// use rl_tokens::parse_all;
-    /// use std::alloc::Global;
-    ///
-    /// pub fn len_without_escapes(alloc: Global, text: &str) -> Option<usize> {
-    ///     let literal = parse_all::<LitByteStr, Global>(alloc, text, 0).ok()?;
-    ///     Some(literal.value_ref()?.len())
-    /// }
-    /// // len_without_escapes(alloc, "b\"abc\"") == Some(3)
-    /// ```
+    /// See the example of [`LitByteStr`].
     pub fn value_ref(&self) -> Option<&[u8]>
         ensures some { IfSome result
             (λ v. HasContents ByteStr (chars self.now.text) (Bytes v.now)) }

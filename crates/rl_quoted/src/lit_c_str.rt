@@ -13,7 +13,7 @@ use rl_grammar::{Kind, bytes_of_body};
 use rl_tokens::{CString, Error, Literal, Span};
 use std::alloc::{Allocator, Global};
 
-/// The kind of C strings, as a type: what parts `LitCStr` from its siblings.
+/// The kind of C strings, as a type: what distinguishes `LitCStr` from its siblings.
 pub struct CStrKind;
 
 impl QuotedKind for CStrKind {

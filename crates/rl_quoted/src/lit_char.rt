@@ -12,7 +12,7 @@ use rl_grammar::{Kind, char_of_body};
 use rl_tokens::{Error, Literal, Span};
 use std::alloc::{Allocator, Global};
 
-/// The kind of characters, as a type: what parts `LitChar` from its siblings.
+/// The kind of characters, as a type: what distinguishes `LitChar` from its siblings.
 pub struct CharKind;
 
 impl QuotedKind for CharKind {
@@ -23,19 +23,7 @@ impl QuotedKind for CharKind {
 
 /// A character literal: `'a'`.
 ///
-/// # Example
-///
-/// ```
-/// use rl_quoted::LitChar;
-/// use rl_tokens::parse_all;
-/// use std::alloc::Global;
-///
-/// pub fn char_value(alloc: Global, text: &str) -> Option<char> {
-///     let literal = parse_all::<LitChar, Global>(alloc, text, 0).ok()?;
-///     Some(literal.value())
-/// }
-/// // char_value(alloc, "'\\u{e9}'") == Some('é')
-/// ```
+/// See the example of [`Lit`].
 pub type LitChar<A = Global> = Quoted<CharKind, A>;
 
 impl<A: Allocator> LitChar<A> {
@@ -61,7 +49,7 @@ impl<A: Allocator> LitChar<A> {
 
     /// The character that the literal stands for. No memory is taken.
     ///
-    /// See the example of [`LitChar`].
+    /// See the example of [`Lit`].
     pub fn value(&self) -> char
         ensures { HasContents Char (chars self.now.text) (Characters (result ∷ [])) }
     {

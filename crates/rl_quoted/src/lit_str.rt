@@ -13,7 +13,7 @@ use rl_grammar::{Kind, str_of_body};
 use rl_tokens::{Error, Literal, Span};
 use std::alloc::{Allocator, Global};
 
-/// The kind of strings, as a type: what parts `LitStr` from its siblings.
+/// The kind of strings, as a type: what distinguishes `LitStr` from its siblings.
 pub struct StrKind;
 
 impl QuotedKind for StrKind {
@@ -33,7 +33,10 @@ impl QuotedKind for StrKind {
 ///
 /// pub fn string_value(alloc: Global, text: &str) -> Option<String> {
 ///     let literal = parse_all::<LitStr, Global>(alloc, text, 0).ok()?;
-///     literal.value(alloc).ok()
+///     match literal.value_ref() {
+///         Some(value) => String::from_str(alloc, value).ok(),
+///         None => literal.value(alloc).ok(),
+///     }
 /// }
 /// // string_value(alloc, "\"a\\x41\"") == Some("aA")
 /// ```
@@ -95,20 +98,7 @@ impl<A: Allocator> LitStr<A> {
     /// quotes, byte for byte, that is where an escape or a line end of two characters stands there,
     /// and the string isn't raw. No memory is taken.
     ///
-    /// # Example
-    ///
-    /// ```
-    /// use rl_quoted::LitStr;
-    /// use rl_tokens::parse_all;
-    /// use std::alloc::Global;
-    ///
-    /// pub fn value_without_escapes(alloc: Global, text: &str) -> Option<String> {
-    ///     let literal = parse_all::<LitStr, Global>(alloc, text, 0).ok()?;
-    ///     String::from_str(alloc, literal.value_ref()?).ok()
-    /// }
-    /// // value_without_escapes(alloc, "\"a\"") == Some("a")
-    /// // value_without_escapes(alloc, "\"\\n\"") == None
-    /// ```
+    /// See the example of [`LitStr`].
     pub fn value_ref(&self) -> Option<&str>
         ensures some { IfSome result
             (λ v. HasContents Str (chars self.now.text) (Characters (chars v.now))) }

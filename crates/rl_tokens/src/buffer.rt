@@ -17,15 +17,20 @@ use std::alloc::{Allocator, Global};
 ///
 /// ```
 /// use rl_tokens::{ParseBuffer, Span, lex};
+/// use rust_literals::LitInt;
 /// use std::alloc::Global;
 ///
-/// pub fn first_name(alloc: Global, text: &str) -> Option<String> {
+/// pub fn first_in_group(alloc: Global, text: &str) -> Option<u64> {
 ///     let stream = lex(alloc, text, 0).ok()?;
 ///     let mut input = ParseBuffer::new(stream.trees(), Span::call_site());
-///     let name = input.ident()?;
-///     String::from_str(alloc, name.text()).ok()
+///     let mut inside = input.group()?.inside();
+///     if !inside.peek::<LitInt>() {
+///         return None;
+///     }
+///     let number = inside.parse::<LitInt>(alloc).ok()?;
+///     number.base10_parse(alloc).ok()
 /// }
-/// // first_name(alloc, "port = 80") == Some("port")
+/// // first_in_group(alloc, "(0x10, 2)") == Some(16)
 /// ```
 #[derive(Drop)]
 pub struct ParseBuffer<'a, A: Allocator = Global> {

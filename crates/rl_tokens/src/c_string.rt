@@ -14,18 +14,7 @@ use std::marker::Model;
 
 /// The bytes of a C string: any but zero, and none added at the end. Equal where the bytes are.
 ///
-/// # Example
-///
-/// ```
-/// use rl_tokens::CString;
-/// use std::alloc::Global;
-///
-/// pub fn first_nul(alloc: Global, text: &str) -> Option<usize> {
-///     let bytes = String::from_str(alloc, text).ok()?.into_bytes();
-///     Some(CString::new(bytes).err()?.nul_position())
-/// }
-/// // first_nul(alloc, "ab\0") == Some(2)
-/// ```
+/// See the example of [`LitCStr`].
 #[derive(Drop)]
 pub struct CString<A: Allocator = Global> {
     bytes: Vec<u8, A>,

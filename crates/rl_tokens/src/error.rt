@@ -11,19 +11,7 @@ use std::fmt;
 /// What was rejected, and where. `Display` prints the message of the kind; the span is for who shows
 /// the text.
 ///
-/// # Example
-///
-/// ```
-/// use rl_tokens::parse_all;
-/// use rust_literals::LitInt;
-/// use std::alloc::Global;
-///
-/// pub fn message(alloc: Global, text: &str) -> Option<String> {
-///     let error = parse_all::<LitInt, Global>(alloc, text, 0).err()?;
-///     format!(in alloc; "{}..{}: {error}", error.span.lo, error.span.hi).ok()
-/// }
-/// // message(alloc, "1 'a'") == Some("2..5: unexpected token")
-/// ```
+/// See the example of [`parse_all`].
 #[derive(Drop)]
 #[derive_where(PartialEq, Eq, Debug)]
 pub struct Error<A: Allocator = Global> {
@@ -35,21 +23,7 @@ pub struct Error<A: Allocator = Global> {
 
 /// What can be rejected. Match the kind to act on it: the words are for people.
 ///
-/// # Example
-///
-/// ```
-/// use rl_tokens::{ErrorKind, Span};
-/// use rust_literals::LitInt;
-/// use std::alloc::Global;
-///
-/// pub fn is_too_large(alloc: Global, text: &str) -> bool {
-///     match LitInt::new(alloc, text, Span::call_site()) {
-///         Ok(_) => false,
-///         Err(error) => matches!(error.kind, ErrorKind::TooLarge),
-///     }
-/// }
-/// // is_too_large(alloc, "0x1_00000000_00000000_00000000_00000000") == true
-/// ```
+/// See the example of [`parse_all`].
 #[derive(Drop)]
 #[derive_where(PartialEq, Eq, Debug)]
 pub enum ErrorKind<A: Allocator = Global> {

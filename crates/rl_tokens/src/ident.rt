@@ -26,7 +26,6 @@ use std::marker::Model;
 ///     xid_ok(text)
 /// }
 /// // is_name("port") == true
-/// // is_name("1st") == false
 /// ```
 #[inline(always)]
 pub fn xid_ok(text: &str) -> bool
@@ -47,7 +46,7 @@ fn all_continue(text: &str) -> bool
 
 /// An identifier token, `true` and `false` among them, and where it stands.
 ///
-/// See the example of [`ParseBuffer`].
+/// See the example of [`Punct`].
 #[derive(Drop)]
 pub struct Ident<A: Allocator = Global> {
     text: String<A>,

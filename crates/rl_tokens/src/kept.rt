@@ -10,15 +10,18 @@ use std::alloc::{Allocator, Global};
 ///
 /// ```
 /// use rl_tokens::{Literal, Span};
-/// use rust_literals::LitInt;
+/// use rust_literals::LitFloat;
 /// use std::alloc::Global;
 ///
-/// pub fn no_integer(alloc: Global, text: &str) -> Option<String> {
+/// pub fn digits_or_text(alloc: Global, text: &str) -> Option<String> {
 ///     let token = Literal::from_text(alloc, text, Span::call_site()).ok()?;
-///     let kept = LitInt::from_token(alloc, token).err()?;
-///     String::from_str(alloc, kept.value.text()).ok()
+///     match LitFloat::from_token(alloc, token) {
+///         Ok(literal) => String::from_str(alloc, literal.base10_digits()).ok(),
+///         Err(kept) => String::from_str(alloc, kept.value.text()).ok(),
+///     }
 /// }
-/// // no_integer(alloc, "1.5") == Some("1.5")
+/// // digits_or_text(alloc, "1_0.5e3_f64") == Some("10.5e3")
+/// // digits_or_text(alloc, "abc") == Some("abc")
 /// ```
 #[derive(Drop)]
 #[derive_where(Debug; T)]

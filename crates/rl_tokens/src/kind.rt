@@ -9,13 +9,16 @@ ghost use Rattle.rl_tokens.specs.Words.{kind_name, kind_shown, kind_word};
 /// # Example
 ///
 /// ```
-/// use rl_grammar::{Kind, shape};
+/// use rl_grammar::{Kind, shape, str_of};
+/// use std::alloc::Global;
 ///
-/// pub fn kind_of(text: &str) -> Option<Kind> {
-///     Some(shape(text)?.kind)
+/// pub fn contents(alloc: Global, text: &str) -> Option<String> {
+///     match shape(text)?.kind {
+///         Kind::Str => str_of(alloc, text).ok(),
+///         _ => None,
+///     }
 /// }
-/// // kind_of("b'a'") == Some(Byte)
-/// // kind_of("b'ab'") == None
+/// // contents(alloc, "\"a\\x41\"") == Some("aA")
 /// ```
 #[derive(Clone, Copy, PartialEq, Eq, Debug)]
 pub enum Kind {

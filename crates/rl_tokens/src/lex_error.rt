@@ -7,7 +7,7 @@ use std::fmt;
 
 /// Why a text was not cut into trees, and where.
 ///
-/// See the example of [`lex`].
+/// See the example of [`Tokens::fault`].
 #[derive(Clone, Copy, PartialEq, Eq, Debug)]
 pub struct LexError {
     /// What the error is.

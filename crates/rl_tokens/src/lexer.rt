@@ -20,25 +20,13 @@ use std::alloc::Allocator;
 /// White space and plain comments are dropped. Escapes aren't judged: what a literal token reads as
 /// is asked of it later.
 ///
+/// See the example of [`TokenTree`].
+///
 /// # Errors
 ///
 /// The text is read from its front, and the first error is reported, at the byte that [`LexKind`]
 /// names; no more than 128 groups may be open at once. `Memory` comes at the first byte of the
 /// token whose allocation failed.
-///
-/// # Example
-///
-/// ```
-/// use rl_tokens::{LexError, lex};
-/// use std::alloc::Global;
-///
-/// pub fn count_trees(alloc: Global, text: &str) -> Result<usize, LexError> {
-///     let stream = lex(alloc, text, 0)?;
-///     Ok(stream.trees().len())
-/// }
-/// // count_trees(alloc, "f(1, 2) + 3") == Ok(4)
-/// // count_trees(alloc, "f(1") == Err(LexError { kind: UnclosedGroup, at: 1 })
-/// ```
 ///
 /// [`LexKind`]: crate::LexKind
 pub fn lex<A: Allocator + Copy>(alloc: A, text: &str, file: u32) -> Result<TokenStream<A>, LexError>

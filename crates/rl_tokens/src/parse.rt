@@ -147,7 +147,7 @@ impl<A: Allocator, T: Parse<A>> Parser<A> for ByParse<T> {
 ///
 /// The member `peeks` says before which trees `peek` is true, and `shown` what `display` returns.
 ///
-/// See the example of [`ParseBuffer::peek`].
+/// See the example of [`ParseBuffer`].
 pub trait Token {
     ghost peeks: { List Tree → Type 0 };
 
@@ -197,26 +197,11 @@ pub trait ToTokens {
 impl<'a, A: Allocator> ParseBuffer<'a, A> {
     /// Parses a value of a type that says how.
     ///
+    /// See the example of [`ParseBuffer`].
+    ///
     /// # Errors
     ///
     /// Those of `T::parse`, which also says where the buffer stands then.
-    ///
-    /// # Example
-    ///
-    /// ```
-    /// use rl_tokens::{ParseBuffer, Span, lex};
-    /// use rust_literals::LitInt;
-    /// use std::alloc::Global;
-    ///
-    /// pub fn first_in_group(alloc: Global, text: &str) -> Option<u64> {
-    ///     let stream = lex(alloc, text, 0).ok()?;
-    ///     let mut input = ParseBuffer::new(stream.trees(), Span::call_site());
-    ///     let mut inside = input.group()?.inside();
-    ///     let number = inside.parse::<LitInt>(alloc).ok()?;
-    ///     number.base10_parse(alloc).ok()
-    /// }
-    /// // first_in_group(alloc, "(0x10, 2)") == Some(16)
-    /// ```
     #[tactic(auto, using(crate::proofs::TreeRests::rest_step))]
     pub fn parse<T: Parse<A>>(&mut self, alloc: A) -> Result<T, Error<A>>
         ensures runs { T.runs (trees_in self.old) (scope_of self.old) result (trees_in self.new) }
@@ -230,29 +215,7 @@ impl<'a, A: Allocator> ParseBuffer<'a, A> {
     /// Whether such a token stands next. The buffer stays, and no memory is taken. Of the types of
     /// literals it is true exactly where `parse` would succeed with memory found.
     ///
-    /// # Example
-    ///
-    /// ```
-    /// use rl_tokens::{Parse, ParseBuffer, Span, Token, lex};
-    /// use rust_literals::LitInt;
-    /// use std::alloc::Global;
-    ///
-    /// pub fn take_if<T: Token + Parse<Global>>(alloc: Global, input: &mut ParseBuffer<'_>) -> Option<T> {
-    ///     if !input.peek::<T>() {
-    ///         return None;
-    ///     }
-    ///     input.parse::<T>(alloc).ok()
-    /// }
-    ///
-    /// pub fn trees_after(alloc: Global, text: &str) -> Option<usize> {
-    ///     let stream = lex(alloc, text, 0).ok()?;
-    ///     let mut input = ParseBuffer::new(stream.trees(), Span::call_site());
-    ///     take_if::<LitInt>(alloc, &mut input)?;
-    ///     Some(input.rest().len())
-    /// }
-    /// // trees_after(alloc, "1, 2") == Some(2)
-    /// // trees_after(alloc, "a, 2") == None
-    /// ```
+    /// See the example of [`ParseBuffer`].
     pub fn peek<T: Token>(&self) -> bool
         ensures { IsTrue result ↔ T.peeks (trees_in self.now) }
     {

@@ -14,12 +14,13 @@ use std::marker::Model;
 /// use rl_tokens::{ParseBuffer, Span, lex};
 /// use std::alloc::Global;
 ///
-/// pub fn first_mark(alloc: Global, text: &str) -> Option<char> {
+/// pub fn mark_after_name(alloc: Global, text: &str) -> Option<char> {
 ///     let stream = lex(alloc, text, 0).ok()?;
 ///     let mut input = ParseBuffer::new(stream.trees(), Span::call_site());
+///     input.ident()?;
 ///     Some(input.punct()?.as_char())
 /// }
-/// // first_mark(alloc, "+= 1") == Some('+')
+/// // mark_after_name(alloc, "port = 80") == Some('=')
 /// ```
 #[derive(Drop)]
 pub struct Punct {

@@ -45,25 +45,21 @@ fn ran<B, T, E, F: FnOnce(&mut B) -> Result<T, E>>(input: &mut B, parser: F) -> 
 /// # Example
 ///
 /// ```
-/// use rl_tokens::{Error, ParseBuffer, Span, attempt, lex};
+/// use rl_tokens::{ParseBuffer, Span, attempt, lex};
 /// use rust_literals::LitInt;
 /// use std::alloc::Global;
 ///
-/// pub fn take_value(alloc: Global, input: &mut ParseBuffer<'_>) -> Result<LitInt, Error> {
-///     attempt(input, |input| {
-///         input.take_punct('=')?;
-///         input.parse::<LitInt>(alloc)
-///     })
-/// }
-///
-/// pub fn trees_after_value(alloc: Global, text: &str) -> Option<usize> {
+/// pub fn trees_left(alloc: Global, text: &str) -> Option<usize> {
 ///     let stream = lex(alloc, text, 0).ok()?;
 ///     let mut input = ParseBuffer::new(stream.trees(), Span::call_site());
-///     let _value = take_value(alloc, &mut input);
+///     let _taken = attempt(&mut input, |input| {
+///         input.take_punct('=')?;
+///         input.parse::<LitInt>(alloc)
+///     });
 ///     Some(input.rest().len())
 /// }
-/// // trees_after_value(alloc, "= 80") == Some(0)
-/// // trees_after_value(alloc, "= a") == Some(2)
+/// // trees_left(alloc, "= 80") == Some(0)
+/// // trees_left(alloc, "= a") == Some(2)
 /// ```
 pub fn attempt<B: Rewind + Drop, T, E, F: FnOnce(&mut B) -> Result<T, E>>(
     input: &mut B,

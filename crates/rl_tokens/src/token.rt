@@ -56,7 +56,7 @@ pub enum TokenTree<A: Allocator = Global> {
 
 /// Trees between an opener and its closer.
 ///
-/// See the example of [`ParseBuffer::parse`].
+/// See the example of [`ParseBuffer`].
 #[derive(Drop)]
 #[cycle(tree)]
 pub struct Group<A: Allocator = Global> {

@@ -74,6 +74,7 @@ fn parse_trees<T: Parse<A> + Drop, A: Allocator>(
 ///     parse_all::<LitInt, Global>(alloc, text, 0)?.base10_parse(alloc)
 /// }
 /// // port(alloc, "8_080") == Ok(8080)
+/// // port(alloc, "1 'a'") == Err(Error { span: Span { file: 0, lo: 2, hi: 5 }, kind: Unexpected })
 /// ```
 pub fn parse_all<T: Parse<A> + Drop, A: Allocator + Copy>(
     alloc: A,

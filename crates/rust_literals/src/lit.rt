@@ -30,18 +30,17 @@ use std::alloc::{Allocator, Global};
 /// use rust_literals::Lit;
 /// use std::alloc::Global;
 ///
-/// pub fn literal_of(alloc: Global, text: &str) -> Option<Lit> {
+/// pub fn code_of(alloc: Global, text: &str) -> Option<u32> {
 ///     let token = Literal::from_text(alloc, text, Span::call_site()).ok()?;
-///     Lit::new(alloc, token).ok()
-/// }
-///
-/// pub fn truth_of(alloc: Global, text: &str) -> Option<bool> {
-///     match literal_of(alloc, text)? {
-///         Lit::Bool(truth) => Some(truth.value()),
+///     match Lit::new(alloc, token).ok()? {
+///         Lit::Byte(byte) => Some(byte.value() as u32),
+///         Lit::Char(character) => Some(character.value() as u32),
+///         Lit::Bool(truth) => Some(truth.value() as u32),
 ///         _ => None,
 ///     }
 /// }
-/// // truth_of(alloc, "true") == Some(true)
+/// // code_of(alloc, "b'a'") == Some(97)
+/// // code_of(alloc, "true") == Some(1)
 /// ```
 #[derive(Drop)]
 pub enum Lit<A: Allocator = Global> {
@@ -241,20 +240,7 @@ impl<A: Allocator> Lit<A> {
     /// Why the literal's text is no literal, and where, in bytes of the text; `None` exactly where it is one. So of
     /// `Verbatim` it is the reason. [`Flaw::in_span`] gives the place in the file. No memory is taken.
     ///
-    /// # Example
-    ///
-    /// ```
-    /// use rust_literals::read_all;
-    /// use std::alloc::Global;
-    ///
-    /// pub fn first_flaw(alloc: Global, text: &str) -> Option<(&'static str, usize)> {
-    ///     let literals = read_all(alloc, text, 0).ok()?;
-    ///     let literal = literals.as_slice().first()?;
-    ///     let flaw = literal.explain()?;
-    ///     Some((flaw.kind.words(), flaw.in_span(literal.span()).lo))
-    /// }
-    /// // first_flaw(alloc, "\"a\\q\" 1") == Some(("unknown escape", 3))
-    /// ```
+    /// See the example of [`read_all`].
     pub fn explain(&self) -> Option<Flaw>
         ensures none { IfNone result (HasReading (chars (token_of self.now).text)) }
         ensures some { IfSome result (Explains (chars (token_of self.now).text)) }

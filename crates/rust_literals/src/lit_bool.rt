@@ -12,19 +12,7 @@ use std::alloc::Allocator;
 
 /// A truth value: `true` or `false`. It takes no memory.
 ///
-/// # Example
-///
-/// ```
-/// use rl_tokens::parse_all;
-/// use rust_literals::LitBool;
-/// use std::alloc::Global;
-///
-/// pub fn truth_value(alloc: Global, text: &str) -> Option<bool> {
-///     let literal = parse_all::<LitBool, Global>(alloc, text, 0).ok()?;
-///     Some(literal.value())
-/// }
-/// // truth_value(alloc, "false") == Some(false)
-/// ```
+/// See the example of [`Lit`].
 #[derive(Drop)]
 pub struct LitBool {
     /// The truth value.

@@ -12,24 +12,12 @@ use rl_grammar::{Found, Kind, find_int};
 use rl_tokens::ErrorKind;
 use std::alloc::{Allocator, Global};
 
-/// The kind of integers, as a type: what parts `LitInt` from `LitFloat`.
+/// The kind of integers, as a type: what distinguishes `LitInt` from `LitFloat`.
 pub struct IntKind;
 
 /// An integer literal: `1`, `-0x1F`, `1_000u16`. Its magnitude is at most 2 to the 128th, less 1.
 ///
-/// # Example
-///
-/// ```
-/// use rl_tokens::Span;
-/// use rust_literals::LitInt;
-/// use std::alloc::Global;
-///
-/// pub fn integer_value(alloc: Global, text: &str) -> Option<u8> {
-///     let literal = LitInt::new(alloc, text, Span::call_site()).ok()?;
-///     literal.base10_parse(alloc).ok()
-/// }
-/// // integer_value(alloc, "0xFF_u8") == Some(255)
-/// ```
+/// See the example of [`parse_all`].
 pub type LitInt<A = Global> = Number<IntKind, A>;
 
 impl NumberKind for IntKind {

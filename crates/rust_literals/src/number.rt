@@ -116,7 +116,7 @@ impl<K: NumberKind, A: Allocator + Copy> Number<K, A> {
 }
 
 impl<K: NumberKind, A: Allocator> Number<K, A> {
-    /// The literal of this token. A rejected one is handed back as it was.
+    /// The literal of this token. A rejected one is returned as it was.
     ///
     /// # Errors
     ///

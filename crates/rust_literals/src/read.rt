@@ -114,15 +114,16 @@ pub fn read_behind<A: Allocator + Copy>(
 /// # Example
 ///
 /// ```
-/// use rl_tokens::Error;
 /// use rust_literals::read_all;
 /// use std::alloc::Global;
 ///
-/// pub fn count(alloc: Global, text: &str) -> Result<usize, Error> {
-///     Ok(read_all(alloc, text, 0)?.len())
+/// pub fn first_flaw(alloc: Global, text: &str) -> Option<(&'static str, usize)> {
+///     let literals = read_all(alloc, text, 0).ok()?;
+///     let literal = literals.as_slice().first()?;
+///     let flaw = literal.explain()?;
+///     Some((flaw.kind.words(), flaw.in_span(literal.span()).lo))
 /// }
-/// // count(alloc, "1 'a' true") == Ok(3)
-/// // count(alloc, "1, 2") == Err(Error { span: Span { file: 0, lo: 1, hi: 2 }, kind: Expected("literal") })
+/// // first_flaw(alloc, "\"a\\q\" 1") == Some(("unknown escape", 3))
 /// ```
 pub fn read_all<A: Allocator + Copy>(
     alloc: A,

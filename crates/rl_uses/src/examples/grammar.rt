@@ -9,11 +9,6 @@ pub fn is_rust(text: &str) -> bool {
     is_token(text)
 }
 
-/// The kind of the literal that a text is.
-pub fn kind_of(text: &str) -> Option<Kind> {
-    Some(shape(text)?.kind)
-}
-
 /// The suffix of the literal that a text is.
 pub fn suffix_of(text: &str) -> Option<&str> {
     Some(shape(text)?.suffix)

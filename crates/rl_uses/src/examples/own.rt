@@ -1,6 +1,6 @@
 //! Examples of `rl_tokens`: parsers of one's own.
 
-use rl_tokens::{Error, Parse, ParseBuffer, Parser, Span, attempt, lex, parse_all};
+use rl_tokens::{Error, Parse, ParseBuffer, Parser, parse_all};
 use rust_literals::{LitInt, LitStr};
 use std::alloc::Global;
 
@@ -29,26 +29,6 @@ impl Parse<Global> for Value {
 pub fn set_value(alloc: Global, text: &str) -> Result<u16, Error> {
     let value = parse_all::<Value, Global>(alloc, text, 0)?;
     value.0.base10_parse(alloc)
-}
-
-/// Takes `=` and an integer.
-///
-/// # Errors
-///
-/// What is missing, by its word; the buffer stays.
-pub fn take_value(alloc: Global, input: &mut ParseBuffer<'_>) -> Result<LitInt, Error> {
-    attempt(input, |input| {
-        input.take_punct('=')?;
-        input.parse::<LitInt>(alloc)
-    })
-}
-
-/// How many trees are left when the value that a text begins with is taken.
-pub fn trees_after_value(alloc: Global, text: &str) -> Option<usize> {
-    let stream = lex(alloc, text, 0).ok()?;
-    let mut input = ParseBuffer::new(stream.trees(), Span::call_site());
-    let _value = take_value(alloc, &mut input);
-    Some(input.rest().len())
 }
 
 /// Takes a mark.

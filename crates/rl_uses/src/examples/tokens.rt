@@ -2,8 +2,7 @@
 
 use rl_tokens::ident::xid_ok;
 use rl_tokens::{
-    CString, Delimiter, LexError, LexKind, Literal, SourceForm, Sources, Span, TokenTree, Tokens,
-    lex, whitespace,
+    Delimiter, LexKind, SourceForm, Sources, Span, TokenTree, Tokens, lex, whitespace,
 };
 use std::alloc::Global;
 
@@ -43,16 +42,6 @@ pub fn is_name(text: &str) -> bool {
     xid_ok(text)
 }
 
-/// How many token trees a text has.
-///
-/// # Errors
-///
-/// As [`lex`] reports them.
-pub fn count_trees(alloc: Global, text: &str) -> Result<usize, LexError> {
-    let stream = lex(alloc, text, 0)?;
-    Ok(stream.trees().len())
-}
-
 /// What encloses the group that a text begins with.
 pub fn first_delimiter(alloc: Global, text: &str) -> Option<Delimiter> {
     let stream = lex(alloc, text, 0).ok()?;
@@ -60,16 +49,4 @@ pub fn first_delimiter(alloc: Global, text: &str) -> Option<Delimiter> {
         TokenTree::Group(group) => Some(group.delimiter()),
         _ => None,
     }
-}
-
-/// A value as a string literal.
-pub fn written(alloc: Global, value: &str) -> Option<String> {
-    let token = Literal::string(alloc, value).ok()?;
-    String::from_str(alloc, token.text()).ok()
-}
-
-/// Where the first NUL stands, which C strings can't hold.
-pub fn first_nul(alloc: Global, text: &str) -> Option<usize> {
-    let bytes = String::from_str(alloc, text).ok()?.into_bytes();
-    Some(CString::new(bytes).err()?.nul_position())
 }

@@ -27,7 +27,7 @@ impl<K: NumberKind, A: Allocator> Number<K, A> {
     /// The number that the type makes of the digits, by its own `from_str`: of `0xFF` as a `u8`
     /// 255.
     ///
-    /// See the example of [`LitInt`].
+    /// See the example of [`parse_all`].
     ///
     /// # Errors
     ///
