@@ -11,18 +11,6 @@ use std::alloc::{Allocator, Global};
 pub use take::read;
 
 /// An attribute: a name, and the literal that it is set to.
-///
-/// # Example
-///
-/// ```
-/// match attrs.get(name) {
-///     Some(value) => match line_of(alloc, value) {
-///         Ok(line) => page.put(line.as_str()),
-///         Err(_) => page.fail(),
-///     },
-///     None => page.put("none\n"),
-/// }
-/// ```
 #[derive(Drop)]
 pub struct Entry<A: Allocator = Global> {
     /// The name.
@@ -35,12 +23,7 @@ pub struct Entry<A: Allocator = Global> {
 
 /// Attributes in their order. No two have one name.
 ///
-/// # Example
-///
-/// ```
-/// let attrs = read(alloc, text, file)?;
-/// attrs.check(&[PORT, NAME, VERBOSE])?;
-/// ```
+/// See the example of [`Attrs::get`].
 #[derive(Drop)]
 pub struct Attrs<A: Allocator = Global> {
     entries: Vec<Entry<A>, A>,
@@ -66,13 +49,18 @@ impl<A: Allocator> Attrs<A> {
     /// # Example
     ///
     /// ```
-    /// match attrs.get(name) {
-    ///     Some(value) => match line_of(alloc, value) {
-    ///         Ok(line) => page.put(line.as_str()),
-    ///         Err(_) => page.fail(),
-    ///     },
-    ///     None => page.put("none\n"),
+    /// use rl_attributes::read;
+    /// use rust_literals::Lit;
+    /// use std::alloc::Global;
+    ///
+    /// pub fn string_setting(alloc: Global, text: &str, name: &str) -> Option<String> {
+    ///     let attrs = read(alloc, text, 0).ok()?;
+    ///     match attrs.get(name)? {
+    ///         Lit::Str(literal) => literal.value(alloc).ok(),
+    ///         _ => None,
+    ///     }
     /// }
+    /// // string_setting(alloc, "host = \"a\", port = 80", "host") == Some("a")
     /// ```
     pub fn get(&self, name: &str) -> Option<&Lit<A>>
         // What is borrowed is the value of each entry with the name, of which there is one at most.

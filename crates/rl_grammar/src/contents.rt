@@ -97,7 +97,7 @@ fn body_bytes<A: Allocator>(
     }
 }
 
-/// The text that a string literal stands for. The text has to read as `Str`, as its shape tells.
+/// The text that a string literal stands for. The text has to read as `Str`, as [`shape`](crate::shape) says.
 ///
 /// # Errors
 ///
@@ -106,8 +106,16 @@ fn body_bytes<A: Allocator>(
 /// # Example
 ///
 /// ```
-/// Kind::Str => tell_text(str_of(alloc, text), out),
-/// Kind::ByteStr | Kind::CStr => tell_bytes(bytes_of(alloc, text), out),
+/// use rl_grammar::{Kind, shape, str_of};
+/// use std::alloc::Global;
+///
+/// pub fn contents(alloc: Global, text: &str) -> Option<String> {
+///     match shape(text)?.kind {
+///         Kind::Str => str_of(alloc, text).ok(),
+///         _ => None,
+///     }
+/// }
+/// // contents(alloc, "\"a\\x41\"") == Some("aA")
 /// ```
 pub fn str_of<A: Allocator>(alloc: A, text: &str) -> Result<String<A>, Error<A>>
     requires { ReadsAs Kind.Str (chars text.now) }
@@ -122,7 +130,7 @@ pub fn str_of<A: Allocator>(alloc: A, text: &str) -> Result<String<A>, Error<A>>
 }
 
 /// The bytes that a byte string or a C string literal stands for, with no zero added at the end. The text has to
-/// read as `ByteStr` or `CStr`, as its shape tells.
+/// read as `ByteStr` or `CStr`, as [`shape`](crate::shape) says.
 ///
 /// # Errors
 ///
@@ -142,7 +150,7 @@ pub fn bytes_of<A: Allocator>(alloc: A, text: &str) -> Result<Vec<u8, A>, Error<
     bytes_of_body(alloc, found.kind, found.parts(text).body, found.body.plain)
 }
 
-/// The text that a string literal with this body stands for, as [`find`](crate::find) tells it.
+/// The text that a string literal with this body stands for, as [`find`](crate::find) returned it.
 ///
 /// # Errors
 ///
@@ -244,7 +252,7 @@ fn piece_char(piece: Piece) -> char
     }
 }
 
-/// The byte that a byte literal stands for. The text has to read as `Byte`, as its shape tells.
+/// The byte that a byte literal stands for. The text has to read as `Byte`, as [`shape`](crate::shape) says.
 pub fn byte_of(text: &str) -> u8
     requires { ReadsAs Kind.Byte (chars text.now) }
     ensures value { ContentsAre Kind.Byte (chars text.now) (Bytes (result ∷ [])) }
@@ -253,7 +261,7 @@ pub fn byte_of(text: &str) -> u8
     byte_of_body(found_in(text).parts(text).body)
 }
 
-/// The character that a character literal stands for. The text has to read as `Char`, as its shape tells.
+/// The character that a character literal stands for. The text has to read as `Char`, as [`shape`](crate::shape) says.
 pub fn char_of(text: &str) -> char
     requires { ReadsAs Kind.Char (chars text.now) }
     ensures value { ContentsAre Kind.Char (chars text.now) (Characters (result ∷ [])) }

@@ -67,7 +67,7 @@ fn found_number(kind: Kind, text: &str) -> Found
     }
 }
 
-/// The digits of a number that was found in the text, in base ten, as [`digits_of`] tells them. Nothing is read again:
+/// The digits of a number that was found in the text, in base ten, as [`digits_of`] returns them. Nothing is read again:
 /// a plain body is copied, and an integer's magnitude is written.
 ///
 /// # Errors

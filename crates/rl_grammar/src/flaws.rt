@@ -263,6 +263,17 @@ fn first_len(text: &str) -> usize
 /// The grammar is that of [`find`], which is `syn`'s and wider than Rust's: `0b102`, `1e` and `'''` are literals there, so
 /// they have no flaw. Whether Rust has such a token, [`is_token`](crate::strict::is_token) says, without a place. An
 /// integer past 128 bits is no literal.
+///
+/// # Example
+///
+/// ```
+/// use rl_grammar::explain;
+///
+/// pub fn reason(text: &str) -> Option<&'static str> {
+///     Some(explain(text)?.kind.words())
+/// }
+/// // reason("\"a\\q\"") == Some("unknown escape")
+/// ```
 pub fn explain(text: &str) -> Option<Flaw>
     ensures none { IfNone result (HasReading (chars text.now)) }
     ensures some { IfSome result (Explains (chars text.now)) }

@@ -1,4 +1,4 @@
-//! The one reading of a text: what it finds, told by places in it, so that nothing has to be read again to take a literal apart.
+//! The one reading of a text: what it finds, as places in it, so that nothing has to be read again to take a literal apart.
 
 ghost use Rattle.std.specs.Prelude.{◌≡◌, ◌∷◌, ◌⊎◌, ℕ, List, IfNone, IfSome, ◌≢◌, Bool, ◌↔◌, IsTrue};
 ghost use Rattle.std.specs.Str.{chars};
@@ -57,7 +57,7 @@ pub struct Found {
     /// What the literal is.
     pub kind: Kind,
     /// Where body and suffix stand, and whether the body is what the literal stands for, as
-    /// [`is_plain`](crate::is_plain) tells.
+    /// [`is_plain`](crate::is_plain) says.
     pub body: Body,
     /// What the digits of an integer spell; 0 for any other kind.
     pub magnitude: u128,
@@ -73,12 +73,12 @@ pub struct Found {
 /// # Example
 ///
 /// ```
-/// Some(parts) => {
-///     debug_word(&parts.kind, out);
-///     out.put(parts.body);
-///     out.put(".");
-///     line(parts.suffix, out)
+/// use rl_grammar::shape;
+///
+/// pub fn suffix_of(text: &str) -> Option<&str> {
+///     Some(shape(text)?.suffix)
 /// }
+/// // suffix_of("0xFF_u8") == Some("u8")
 /// ```
 #[derive(Clone, Copy, PartialEq, Eq, Debug)]
 pub struct Parts<'t> {
@@ -295,17 +295,7 @@ pub(crate) fn begins_number(text: &str) -> bool
 /// A text without CR is a byte, or a byte string with escapes, and its suffix empty or a word,
 /// exactly where it is a strict one (`strict_bytes`).
 ///
-/// # Example
-///
-/// ```
-/// match shape(text) {
-///     Some(parts) => {
-///         let (body, suffix) = (parts.body.len(), parts.suffix.len());
-///         Ok(weight(parts.kind, body as u64, suffix as u64))
-///     }
-///     None => Ok(0),
-/// }
-/// ```
+/// See the example of [`Parts`].
 #[tactic(auto, using(crate::proofs::StrictBytesLemmas::bytes_are_strict))]
 pub fn shape(text: &str) -> Option<Parts<'_>>
     ensures none { IfNone result (HasNoReading (chars text.now)) }
@@ -329,11 +319,14 @@ pub fn shape(text: &str) -> Option<Parts<'_>>
 ///
 /// # Example
 ///
-/// The kind's name stands on a line before the text:
-///
 /// ```
-/// let (name, text) = text.split_once('\n').unwrap_or(("", text));
-/// show_line(&is_plain(kind_of(name), text), out)
+/// use rl_grammar::{Kind, is_plain};
+///
+/// pub fn is_plain_string(text: &str) -> bool {
+///     is_plain(Kind::Str, text)
+/// }
+/// // is_plain_string("\"a\"") == true
+/// // is_plain_string("\"\\n\"") == false
 /// ```
 pub fn is_plain(kind: Kind, text: &str) -> bool
     ensures { IsTrue result ↔ IsPlain kind text.now }

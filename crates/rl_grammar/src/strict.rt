@@ -28,12 +28,13 @@ use rl_tokens::text::split_char;
 /// # Example
 ///
 /// ```
-/// // true of `0xFF_u8`, false of `-1`
-/// if is_token(text) {
-///     String::from_str(alloc, "true\n")
-/// } else {
-///     String::from_str(alloc, "false\n")
+/// use rl_grammar::strict::is_token;
+///
+/// pub fn is_rust(text: &str) -> bool {
+///     is_token(text)
 /// }
+/// // is_rust("0xFF_u8") == true
+/// // is_rust("-1") == false
 /// ```
 pub fn is_token(text: &str) -> bool
     ensures { IsTrue result ↔ IsToken (chars text.now) }

@@ -91,20 +91,13 @@ impl<A: Allocator> LitStr<A> {
     /// The text is cut into tokens, each of them gets the literal's span, also inside groups, and
     /// the parser runs on them with that span as scope.
     ///
+    /// See the example of [`Parser`].
+    ///
     /// # Errors
     ///
     /// In this order: the lexer's, as `Lex`; the parser's own; `Unexpected` where trees are left
     /// over; `Suffix` where the literal has one. All but the parser's own are reported at the
     /// literal's span, and so is an allocation failure.
-    ///
-    /// # Example
-    ///
-    /// ```
-    /// match string.parse_with(alloc, SpansOfGroup) {
-    ///     Ok(spans) => tell_spans(&spans, out),
-    ///     Err(error) => tell_error(&error, out),
-    /// }
-    /// ```
     pub fn parse_with<P: Parser<B>, B: Allocator + Copy>(
         &self,
         alloc: B,
@@ -123,21 +116,11 @@ impl<A: Allocator> LitStr<A> {
 
     /// What the parser of a type makes of the text that the literal stands for.
     ///
+    /// See the example of [`Parser`].
+    ///
     /// # Errors
     ///
     /// As [`parse_with`](LitStr::parse_with).
-    ///
-    /// # Example
-    ///
-    /// ```
-    /// match string.parse::<LitInt, Global>(alloc) {
-    ///     Ok(integer) => {
-    ///         show_word(&integer, out);
-    ///         at_line(integer.span(), out)
-    ///     }
-    ///     Err(error) => tell_error(&error, out),
-    /// }
-    /// ```
     pub fn parse<T: Parse<B> + Drop, B: Allocator + Copy>(&self, alloc: B) -> Result<T, Error<B>>
         ensures parsed { IfOk result (IsParsedInside T.runs self.now) }
         ensures rejected { IfErr result (RejectsInside T.runs self.now) }

@@ -12,7 +12,7 @@ use rl_grammar::{Kind, byte_of_body};
 use rl_tokens::{Error, Literal, Span};
 use std::alloc::{Allocator, Global};
 
-/// The kind of bytes, as a type: what tells `LitByte` from its siblings.
+/// The kind of bytes, as a type: what distinguishes `LitByte` from its siblings.
 pub struct ByteKind;
 
 impl QuotedKind for ByteKind {
@@ -23,14 +23,7 @@ impl QuotedKind for ByteKind {
 
 /// A byte literal: `b'a'`.
 ///
-/// # Example
-///
-/// ```
-/// if literal.has_suffix() {
-///     return literal.clone(alloc);
-/// }
-/// LitByte::new(alloc, literal.value(), literal.span())
-/// ```
+/// See the example of [`Lit`].
 pub type LitByte<A = Global> = Quoted<ByteKind, A>;
 
 impl<A: Allocator> LitByte<A> {
@@ -52,13 +45,7 @@ impl<A: Allocator> LitByte<A> {
 
     /// The byte that the literal stands for. No memory is taken.
     ///
-    /// # Example
-    ///
-    /// ```
-    /// show(&literal.value(), out);
-    /// word(literal.suffix(), out);
-    /// at_word(literal.span(), out)
-    /// ```
+    /// See the example of [`Lit`].
     pub fn value(&self) -> u8
         ensures { HasContents Byte (chars self.now.text) (Bytes (result ∷ [])) }
     {

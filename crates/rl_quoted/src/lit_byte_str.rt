@@ -13,7 +13,7 @@ use rl_grammar::{Kind, bytes_of_body};
 use rl_tokens::{Error, Literal, Span};
 use std::alloc::{Allocator, Global};
 
-/// The kind of byte strings, as a type: what tells `LitByteStr` from its siblings.
+/// The kind of byte strings, as a type: what distinguishes `LitByteStr` from its siblings.
 pub struct ByteStrKind;
 
 impl QuotedKind for ByteStrKind {
@@ -27,12 +27,18 @@ impl QuotedKind for ByteStrKind {
 /// # Example
 ///
 /// ```
-/// let Ok(literal) = LitByteStr::new(alloc, bytes, HERE) else {
-///     return out.fail();
-/// };
-/// let Ok(value) = literal.value(alloc) else {
-///     return out.fail();
-/// };
+/// use rl_quoted::LitByteStr;
+/// use rl_tokens::parse_all;
+/// use std::alloc::Global;
+///
+/// pub fn bytes_len(alloc: Global, text: &str) -> Option<usize> {
+///     let literal = parse_all::<LitByteStr, Global>(alloc, text, 0).ok()?;
+///     match literal.value_ref() {
+///         Some(value) => Some(value.len()),
+///         None => Some(literal.value(alloc).ok()?.len()),
+///     }
+/// }
+/// // bytes_len(alloc, "b\"a\\xFF\"") == Some(2)
 /// ```
 pub type LitByteStr<A = Global> = Quoted<ByteStrKind, A>;
 
@@ -55,16 +61,11 @@ impl<A: Allocator> LitByteStr<A> {
 
     /// The bytes that the literal stands for, as a copy.
     ///
+    /// See the example of [`LitByteStr`].
+    ///
     /// # Errors
     ///
     /// `Memory` at the literal's span.
-    ///
-    /// # Example
-    ///
-    /// ```
-    /// let value = literal.value(alloc)?;
-    /// LitByteStr::new(alloc, value.as_slice(), literal.span())
-    /// ```
     pub fn value<B: Allocator>(&self, alloc: B) -> Result<Vec<u8, B>, Error<B>>
         ensures value { IfOk result
             (λ v. HasContents ByteStr (chars self.now.text) (Bytes v.items)) }
@@ -81,14 +82,7 @@ impl<A: Allocator> LitByteStr<A> {
     /// the quotes, byte for byte, that is where an escape or a line end of two characters stands
     /// there, and the string isn't raw. No memory is taken.
     ///
-    /// # Example
-    ///
-    /// ```
-    /// match literal.value_ref() {
-    ///     Some(value) => LitByteStr::new(alloc, value, literal.span()),
-    ///     None => byte_string_of_value(alloc, literal),
-    /// }
-    /// ```
+    /// See the example of [`LitByteStr`].
     pub fn value_ref(&self) -> Option<&[u8]>
         ensures some { IfSome result
             (λ v. HasContents ByteStr (chars self.now.text) (Bytes v.now)) }

@@ -13,7 +13,7 @@ use rl_grammar::{Kind, bytes_of_body};
 use rl_tokens::{CString, Error, Literal, Span};
 use std::alloc::{Allocator, Global};
 
-/// The kind of C strings, as a type: what tells `LitCStr` from its siblings.
+/// The kind of C strings, as a type: what distinguishes `LitCStr` from its siblings.
 pub struct CStrKind;
 
 impl QuotedKind for CStrKind {
@@ -27,8 +27,15 @@ impl QuotedKind for CStrKind {
 /// # Example
 ///
 /// ```
-/// let value = literal.value(alloc)?;
-/// LitCStr::new(alloc, &value, literal.span())
+/// use rl_quoted::LitCStr;
+/// use rl_tokens::parse_all;
+/// use std::alloc::Global;
+///
+/// pub fn c_string_len(alloc: Global, text: &str) -> Option<usize> {
+///     let literal = parse_all::<LitCStr, Global>(alloc, text, 0).ok()?;
+///     Some(literal.value(alloc).ok()?.as_bytes().len())
+/// }
+/// // c_string_len(alloc, "c\"a\\n\"") == Some(2)
 /// ```
 pub type LitCStr<A = Global> = Quoted<CStrKind, A>;
 
@@ -56,16 +63,11 @@ impl<A: Allocator> LitCStr<A> {
     /// The bytes that the literal stands for, as a copy: characters in UTF-8, and no zero at the
     /// end.
     ///
+    /// See the example of [`LitCStr`].
+    ///
     /// # Errors
     ///
     /// `Memory` at the literal's span.
-    ///
-    /// # Example
-    ///
-    /// ```
-    /// let value = literal.value(alloc)?;
-    /// LitCStr::new(alloc, &value, literal.span())
-    /// ```
     pub fn value<B: Allocator>(&self, alloc: B) -> Result<CString<B>, Error<B>>
         ensures value { IfOk result (λ v. HasContents CStr (chars self.now.text) (Bytes v)) }
         ensures memory { IfErr result (λ e. e ≡ memory_at self.now.span) }

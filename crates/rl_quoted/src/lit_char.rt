@@ -12,7 +12,7 @@ use rl_grammar::{Kind, char_of_body};
 use rl_tokens::{Error, Literal, Span};
 use std::alloc::{Allocator, Global};
 
-/// The kind of characters, as a type: what tells `LitChar` from its siblings.
+/// The kind of characters, as a type: what distinguishes `LitChar` from its siblings.
 pub struct CharKind;
 
 impl QuotedKind for CharKind {
@@ -23,14 +23,7 @@ impl QuotedKind for CharKind {
 
 /// A character literal: `'a'`.
 ///
-/// # Example
-///
-/// ```
-/// if literal.has_suffix() {
-///     return literal.clone(alloc);
-/// }
-/// LitChar::new(alloc, literal.value(), literal.span())
-/// ```
+/// See the example of [`Lit`].
 pub type LitChar<A = Global> = Quoted<CharKind, A>;
 
 impl<A: Allocator> LitChar<A> {
@@ -56,12 +49,7 @@ impl<A: Allocator> LitChar<A> {
 
     /// The character that the literal stands for. No memory is taken.
     ///
-    /// # Example
-    ///
-    /// ```
-    /// let size = literal.value().len_utf8();
-    /// Ok(value_weight(Kind::Char, size, literal.suffix()))
-    /// ```
+    /// See the example of [`Lit`].
     pub fn value(&self) -> char
         ensures { HasContents Char (chars self.now.text) (Characters (result ∷ [])) }
     {

@@ -13,7 +13,7 @@ use rl_grammar::{Kind, str_of_body};
 use rl_tokens::{Error, Literal, Span};
 use std::alloc::{Allocator, Global};
 
-/// The kind of strings, as a type: what tells `LitStr` from its siblings.
+/// The kind of strings, as a type: what distinguishes `LitStr` from its siblings.
 pub struct StrKind;
 
 impl QuotedKind for StrKind {
@@ -26,14 +26,19 @@ impl QuotedKind for StrKind {
 ///
 /// # Example
 ///
-/// What it stands for, borrowed where it can be:
-///
 /// ```
-/// if let Some(value) = string.value_ref() {
-///     return Ok(holds_control(value));
+/// use rl_quoted::LitStr;
+/// use rl_tokens::parse_all;
+/// use std::alloc::Global;
+///
+/// pub fn string_value(alloc: Global, text: &str) -> Option<String> {
+///     let literal = parse_all::<LitStr, Global>(alloc, text, 0).ok()?;
+///     match literal.value_ref() {
+///         Some(value) => String::from_str(alloc, value).ok(),
+///         None => literal.value(alloc).ok(),
+///     }
 /// }
-/// let value = string.value(alloc)?;
-/// Ok(holds_control(value.as_str()))
+/// // string_value(alloc, "\"a\\x41\"") == Some("aA")
 /// ```
 pub type LitStr<A = Global> = Quoted<StrKind, A>;
 
@@ -48,8 +53,15 @@ impl<A: Allocator> LitStr<A> {
     /// # Example
     ///
     /// ```
-    /// let value = literal.value(alloc)?;
-    /// LitStr::new(alloc, value.as_str(), literal.span())
+    /// use rl_quoted::LitStr;
+    /// use rl_tokens::Span;
+    /// use std::alloc::Global;
+    ///
+    /// pub fn string_of(alloc: Global, value: &str) -> Option<String> {
+    ///     let literal = LitStr::new(alloc, value, Span::call_site()).ok()?;
+    ///     String::from_str(alloc, literal.text()).ok()
+    /// }
+    /// // string_of(alloc, "a\tb") == Some("\"a\\tb\"")
     /// ```
     pub fn new(alloc: A, value: &str, span: Span) -> Result<LitStr<A>, Error<A>>
         ensures text { IfOk result (λ l. IsWrittenForm Str (chars value.now) (chars l.text)) }
@@ -65,16 +77,11 @@ impl<A: Allocator> LitStr<A> {
     /// The text that the literal stands for, as a copy: unless it is raw, escapes are decoded and
     /// CR LF is LF. The suffix is no part of it.
     ///
+    /// See the example of [`LitStr`].
+    ///
     /// # Errors
     ///
     /// `Memory` at the literal's span.
-    ///
-    /// # Example
-    ///
-    /// ```
-    /// let value = string.value(alloc)?;
-    /// Ok(holds_control(value.as_str()))
-    /// ```
     pub fn value<B: Allocator>(&self, alloc: B) -> Result<String<B>, Error<B>>
         ensures value { IfOk result
             (λ v. HasContents Str (chars self.now.text) (Characters (chars (string_bytes v)))) }
@@ -91,14 +98,7 @@ impl<A: Allocator> LitStr<A> {
     /// quotes, byte for byte, that is where an escape or a line end of two characters stands there,
     /// and the string isn't raw. No memory is taken.
     ///
-    /// # Example
-    ///
-    /// ```
-    /// match literal.value_ref() {
-    ///     Some(value) => LitStr::new(alloc, value, literal.span()),
-    ///     None => string_of_value(alloc, literal),
-    /// }
-    /// ```
+    /// See the example of [`LitStr`].
     pub fn value_ref(&self) -> Option<&str>
         ensures some { IfSome result
             (λ v. HasContents Str (chars self.now.text) (Characters (chars v.now))) }

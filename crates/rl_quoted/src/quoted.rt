@@ -68,7 +68,7 @@ impl<K: QuotedKind, A: Allocator> Model for Quoted<K, A> {
 
 impl<K: QuotedKind, A: Allocator> Quoted<K, A> {
     /// The literal of this token, whose text has to read as the kind, as `shape` of `rl_grammar`
-    /// tells. `Lit::new` of `rust_literals` takes any token.
+    /// says. `Lit::new` of `rust_literals` takes any token.
     pub fn of_token(token: Literal<A>) -> Quoted<K, A>
         requires { ReadsAs K.KIND (chars token.text) }
         ensures { result ≡ token }

@@ -1,8 +1,8 @@
 //! Calls of the libraries by name, each on a text or on bytes.
 
 use crate::{
-    attributes, bytes, copies, lists, literals, long, messages, numbers, parsers, rejected, runs,
-    scans, shapes, tokens, trees, uses,
+    attributes, bytes, copies, examples, lists, literals, long, messages, numbers, parsers,
+    rejected, runs, scans, shapes, tokens, trees, uses,
 };
 use rl_refusing::Page;
 use std::alloc::Global;
@@ -33,6 +33,7 @@ fn of_text(alloc: Global, name: &str, text: &str, out: &mut Page) -> bool {
         || long::told(alloc, name, text, out)
         || rejected::told(alloc, name, text, out)
         || messages::told(alloc, name, out)
+        || examples::told(alloc, name, out)
 }
 
 /// Prints what a call of this name answers about a text with trees in it; false where there is none.

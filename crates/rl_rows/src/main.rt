@@ -7,6 +7,7 @@ mod bulk;
 mod bytes;
 mod calls;
 mod copies;
+mod examples;
 mod inside;
 mod lists;
 mod literals;

@@ -16,8 +16,21 @@ use std::alloc::{Allocator, Global};
 /// # Example
 ///
 /// ```
-/// let end = Span::new(0, text.len(), text.len());
-/// let mut input = ParseBuffer::new(stream.trees(), end);
+/// use rl_tokens::{ParseBuffer, Span, lex};
+/// use rust_literals::LitInt;
+/// use std::alloc::Global;
+///
+/// pub fn first_in_group(alloc: Global, text: &str) -> Option<u64> {
+///     let stream = lex(alloc, text, 0).ok()?;
+///     let mut input = ParseBuffer::new(stream.trees(), Span::call_site());
+///     let mut inside = input.group()?.inside();
+///     if !inside.peek::<LitInt>() {
+///         return None;
+///     }
+///     let number = inside.parse::<LitInt>(alloc).ok()?;
+///     number.base10_parse(alloc).ok()
+/// }
+/// // first_in_group(alloc, "(0x10, 2)") == Some(16)
 /// ```
 #[derive(Drop)]
 pub struct ParseBuffer<'a, A: Allocator = Global> {
@@ -172,7 +185,7 @@ impl<'a, A: Allocator> ParseBuffer<'a, A> {
         }
     }
 
-    /// Takes this character of punctuation ([`Punct::is_char`] tells which are), and borrows its
+    /// Takes this character of punctuation ([`Punct::is_char`] says which are), and borrows its
     /// token.
     ///
     /// # Errors

@@ -14,14 +14,7 @@ use std::marker::Model;
 
 /// The bytes of a C string: any but zero, and none added at the end. Equal where the bytes are.
 ///
-/// # Example
-///
-/// ```
-/// match CString::new(bytes) {
-///     Ok(held) => held_c_string(alloc, &held, out),
-///     Err(rejected) => refused_c_string(rejected, out),
-/// }
-/// ```
+/// See the example of [`LitCStr`].
 #[derive(Drop)]
 pub struct CString<A: Allocator = Global> {
     bytes: Vec<u8, A>,
@@ -40,13 +33,7 @@ impl<A: Allocator> Model for CString<A> {
 
 /// Bytes that are no C string, since a zero stands among them.
 ///
-/// # Example
-///
-/// ```
-/// show_word(&rejected.nul_position(), out);
-/// word("of", out);
-/// debug_line(&rejected.into_vec().as_slice(), out)
-/// ```
+/// See the example of [`CString`].
 #[derive(Drop)]
 pub struct NulError<A: Allocator = Global> {
     bytes: Vec<u8, A>,
@@ -69,7 +56,7 @@ impl<A: Allocator> CString<A> {
     ///
     /// # Errors
     ///
-    /// Where a zero stands among them: the [`NulError`] tells the place of the first, and hands the
+    /// Where a zero stands among them: the [`NulError`] has the place of the first, and the
     /// bytes back.
     pub fn new(bytes: Vec<u8, A>) -> Result<CString<A>, NulError<A>>
         ensures ok { IfOk result (λ c. c ≡ bytes.items) }

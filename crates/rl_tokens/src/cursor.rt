@@ -13,12 +13,7 @@ use std::marker::Model;
 
 /// A token of a text, borrowed from it: what it is to a parser, and where it stands.
 ///
-/// # Example
-///
-/// ```
-/// Some(token) => tell_lent(token.text, token.lo, token.hi, out),
-/// None => break,
-/// ```
+/// See the example of [`Tokens`].
 #[derive(Clone, Copy)]
 pub struct Lexeme<'t> {
     /// What it is to a parser.
@@ -38,12 +33,14 @@ pub struct Lexeme<'t> {
 /// # Example
 ///
 /// ```
-/// let mut tokens = Tokens::new(text);
+/// use rl_tokens::Tokens;
 ///
-/// match tokens.next() {
-///     Some(token) => tell_lent(token.text, token.lo, token.hi, out),
-///     None => break,
+/// pub fn second_token(text: &str) -> Option<&str> {
+///     let mut tokens = Tokens::new(text);
+///     tokens.next()?;
+///     Some(tokens.next()?.text)
 /// }
+/// // second_token("a /* b */ 1.5") == Some("1.5")
 /// ```
 ///
 /// [`lex`]: crate::lex
@@ -116,10 +113,12 @@ impl<'t> Tokens<'t> {
     /// # Example
     ///
     /// ```
-    /// match tokens.fault() {
-    ///     Some(fault) => Err(fault),
-    ///     None => nest.finish(),
+    /// use rl_tokens::{LexKind, Tokens};
+    ///
+    /// pub fn no_token(text: &str) -> Option<LexKind> {
+    ///     Some(Tokens::new(text).fault()?.kind)
     /// }
+    /// // no_token("\"a") == Some(UnclosedQuote)
     /// ```
     pub fn fault(&self) -> Option<LexError>
         // It is an error of what is left, whatever groups are open, and stands where that begins.
@@ -151,7 +150,7 @@ impl<'t> Tokens<'t> {
     }
 }
 
-/// The tokens up to the first place where none begins; [`Tokens::fault`] then tells why.
+/// The tokens up to the first place where none begins; [`Tokens::fault`] then says why.
 impl<'t> Iterator for Tokens<'t> {
     ghost use Rattle.std.specs.Iterator.{at_most};
     ghost use Rattle.rl_tokens.specs.Cursors.{GivesNext};

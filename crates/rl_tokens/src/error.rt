@@ -11,14 +11,7 @@ use std::fmt;
 /// What was rejected, and where. `Display` prints the message of the kind; the span is for who shows
 /// the text.
 ///
-/// # Example
-///
-/// An error's bytes and its message:
-///
-/// ```
-/// place(error.span, out);
-/// show_line(error, out)
-/// ```
+/// See the example of [`parse_all`].
 #[derive(Drop)]
 #[derive_where(PartialEq, Eq, Debug)]
 pub struct Error<A: Allocator = Global> {
@@ -30,15 +23,7 @@ pub struct Error<A: Allocator = Global> {
 
 /// What can be rejected. Match the kind to act on it: the words are for people.
 ///
-/// # Example
-///
-/// ```
-/// match error.kind {
-///     ErrorKind::NotInteger => String::from_str(alloc, "None\n"),
-///     ErrorKind::TooLarge => String::from_str(alloc, "TooLarge\n"),
-///     _ => Err(AllocError),
-/// }
-/// ```
+/// See the example of [`parse_all`].
 #[derive(Drop)]
 #[derive_where(PartialEq, Eq, Debug)]
 pub enum ErrorKind<A: Allocator = Global> {

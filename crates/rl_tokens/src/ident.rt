@@ -20,9 +20,12 @@ use std::marker::Model;
 /// # Example
 ///
 /// ```
-/// if !xid_ok(text) {
-///     return line("no word", out);
+/// use rl_tokens::ident::xid_ok;
+///
+/// pub fn is_name(text: &str) -> bool {
+///     xid_ok(text)
 /// }
+/// // is_name("port") == true
 /// ```
 #[inline(always)]
 pub fn xid_ok(text: &str) -> bool
@@ -43,14 +46,7 @@ fn all_continue(text: &str) -> bool
 
 /// An identifier token, `true` and `false` among them, and where it stands.
 ///
-/// # Example
-///
-/// ```
-/// let Some(name) = input.ident() else {
-///     return Err(input.error("identifier"));
-/// };
-/// let name = name.clone(alloc)?;
-/// ```
+/// See the example of [`Punct`].
 #[derive(Drop)]
 pub struct Ident<A: Allocator = Global> {
     text: String<A>,
@@ -70,7 +66,7 @@ impl<A: Allocator> Model for Ident<A> {
 }
 
 impl<A: Allocator> Ident<A> {
-    /// The token with this text, which has to be an identifier ([`xid_ok`] tells), and this span.
+    /// The token with this text, which has to be an identifier ([`xid_ok`] says whether it is), and this span.
     ///
     /// # Errors
     ///

@@ -9,10 +9,19 @@ use std::alloc::{Allocator, Global};
 /// # Example
 ///
 /// ```
-/// word(kept.value.text(), out);
-/// at_word(kept.value.span(), out);
-/// tell_error(&kept.error, out);
-/// kept.value
+/// use rl_tokens::{Literal, Span};
+/// use rust_literals::LitFloat;
+/// use std::alloc::Global;
+///
+/// pub fn digits_or_text(alloc: Global, text: &str) -> Option<String> {
+///     let token = Literal::from_text(alloc, text, Span::call_site()).ok()?;
+///     match LitFloat::from_token(alloc, token) {
+///         Ok(literal) => String::from_str(alloc, literal.base10_digits()).ok(),
+///         Err(kept) => String::from_str(alloc, kept.value.text()).ok(),
+///     }
+/// }
+/// // digits_or_text(alloc, "1_0.5e3_f64") == Some("10.5e3")
+/// // digits_or_text(alloc, "abc") == Some("abc")
 /// ```
 #[derive(Drop)]
 #[derive_where(Debug; T)]

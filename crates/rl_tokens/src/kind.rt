@@ -8,14 +8,17 @@ ghost use Rattle.rl_tokens.specs.Words.{kind_name, kind_shown, kind_word};
 ///
 /// # Example
 ///
-/// The decoder of each kind of a text:
-///
 /// ```
-/// Kind::Str => tell_text(str_of(alloc, text), out),
-/// Kind::ByteStr | Kind::CStr => tell_bytes(bytes_of(alloc, text), out),
-/// Kind::Byte => show_line(&byte_of(text), out),
-/// Kind::Char => show_line(&(char_of(text) as u32), out),
-/// Kind::Int | Kind::Float => tell_digits(digits_of(alloc, parts.kind, text), out),
+/// use rl_grammar::{Kind, shape, str_of};
+/// use std::alloc::Global;
+///
+/// pub fn contents(alloc: Global, text: &str) -> Option<String> {
+///     match shape(text)?.kind {
+///         Kind::Str => str_of(alloc, text).ok(),
+///         _ => None,
+///     }
+/// }
+/// // contents(alloc, "\"a\\x41\"") == Some("aA")
 /// ```
 #[derive(Clone, Copy, PartialEq, Eq, Debug)]
 pub enum Kind {

@@ -7,14 +7,7 @@ use std::fmt;
 
 /// Why a text was not cut into trees, and where.
 ///
-/// # Example
-///
-/// ```
-/// match lex(alloc, text, 7) {
-///     Ok(stream) => tell_all(stream.trees(), out),
-///     Err(fault) => tell_fault(fault.kind, fault.at, out),
-/// }
-/// ```
+/// See the example of [`Tokens::fault`].
 #[derive(Clone, Copy, PartialEq, Eq, Debug)]
 pub struct LexError {
     /// What the error is.
@@ -26,14 +19,7 @@ pub struct LexError {
 /// What the lexer rejects, each reported at the byte that its line names. docs/REFUSALS.md has a
 /// text for each, and what to do.
 ///
-/// # Example
-///
-/// ```
-/// Err(fault) => match fault.kind {
-///     LexKind::Memory => Err(AllocError),
-///     _ => Ok(0),
-/// },
-/// ```
+/// See the example of [`Tokens::fault`].
 #[derive(Clone, Copy, PartialEq, Eq, Debug)]
 pub enum LexKind {
     /// A doc comment, closed or not: its first slash.

@@ -21,7 +21,7 @@ use number::{after_decimal, after_digits, ends_number};
 pub(crate) use quotes::begins_hashed_quote;
 use quotes::{after_character, after_quoted, after_raw_literal};
 
-/// What a token is to a parser: what [`Tokens`](crate::Tokens) cuts off, told by its first
+/// What a token is to a parser: what [`Tokens`](crate::Tokens) cuts off, by its first
 /// characters. Whether a literal reads isn't judged.
 #[derive(Clone, Copy)]
 pub enum Form {

@@ -20,20 +20,13 @@ use std::alloc::Allocator;
 /// White space and plain comments are dropped. Escapes aren't judged: what a literal token reads as
 /// is asked of it later.
 ///
+/// See the example of [`TokenTree`].
+///
 /// # Errors
 ///
 /// The text is read from its front, and the first error is reported, at the byte that [`LexKind`]
 /// names; no more than 128 groups may be open at once. `Memory` comes at the first byte of the
 /// token whose allocation failed.
-///
-/// # Example
-///
-/// ```
-/// match lex(alloc, text, 7) {
-///     Ok(stream) => tell_all(stream.trees(), out),
-///     Err(fault) => tell_fault(fault.kind, fault.at, out),
-/// }
-/// ```
 ///
 /// [`LexKind`]: crate::LexKind
 pub fn lex<A: Allocator + Copy>(alloc: A, text: &str, file: u32) -> Result<TokenStream<A>, LexError>

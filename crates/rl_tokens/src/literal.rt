@@ -15,9 +15,21 @@ use std::marker::Model;
 /// # Example
 ///
 /// ```
-/// let Ok(token) = Literal::from_text(alloc, text, span) else {
-///     return Err(AllocError);
-/// };
+/// use rl_tokens::{Literal, Span};
+/// use rust_literals::Lit;
+/// use std::alloc::Global;
+///
+/// pub fn code_of(alloc: Global, text: &str) -> Option<u32> {
+///     let token = Literal::from_text(alloc, text, Span::call_site()).ok()?;
+///     match Lit::new(alloc, token).ok()? {
+///         Lit::Byte(byte) => Some(byte.value() as u32),
+///         Lit::Char(character) => Some(character.value() as u32),
+///         Lit::Bool(truth) => Some(truth.value() as u32),
+///         _ => None,
+///     }
+/// }
+/// // code_of(alloc, "b'a'") == Some(97)
+/// // code_of(alloc, "true") == Some(1)
 /// ```
 #[derive(Drop)]
 pub struct Literal<A: Allocator = Global> {

@@ -16,20 +16,36 @@ use std::marker::PhantomData;
 /// A type whose values are parsed from the front of a buffer.
 ///
 /// The member `runs` says what an implementation means: it relates the trees before and the scope
-/// to the answer and the trees after.
+/// to the result and the trees after.
 ///
 /// # Example
 ///
-/// The members of a parser of several steps, which a function of their own takes; an error puts
-/// the buffer back:
-///
 /// ```
-/// ghost runs = { RunsAttribute };
+/// use rl_tokens::{Error, Parse, ParseBuffer, parse_all};
+/// use rust_literals::LitInt;
+/// use std::alloc::Global;
 ///
-/// fn parse(alloc: A, input: &mut ParseBuffer<'_, A>) -> Result<Attribute<A>, Error<A>> {
-///     let attribute = attempt(input, |input| parse_attribute(alloc, input))?;
-///     Ok(attribute)
+/// #[derive(Drop)]
+/// pub struct Value(LitInt);
+///
+/// impl Parse<Global> for Value {
+///     ghost use Rattle.std.specs.Prelude.{⊤};
+///
+///     // The contract says nothing of the value.
+///     ghost runs = { λ trees scope answer rest. ⊤ };
+///
+///     fn parse(alloc: Global, input: &mut ParseBuffer<'_>) -> Result<Value, Error> {
+///         input.take_punct('=')?;
+///         let number = input.parse::<LitInt>(alloc)?;
+///         Ok(Value(number))
+///     }
 /// }
+///
+/// pub fn set_value(alloc: Global, text: &str) -> Result<u16, Error> {
+///     let value = parse_all::<Value, Global>(alloc, text, 0)?;
+///     value.0.base10_parse(alloc)
+/// }
+/// // set_value(alloc, "= 80") == Ok(80)
 /// ```
 pub trait Parse<A: Allocator>: Sized {
     ghost runs: { List Tree → Span → Result Self (Error A) → List Tree → Type 0 };
@@ -53,16 +69,35 @@ pub trait Parse<A: Allocator>: Sized {
 ///
 /// # Example
 ///
-/// The members of [`ByParse`]:
-///
 /// ```
-/// type Output = T;
+/// use rl_tokens::{Error, ParseBuffer, Parser, parse_all};
+/// use rust_literals::LitStr;
+/// use std::alloc::Global;
 ///
-/// ghost runs = { λ parser. T.runs };
+/// #[derive(Drop)]
+/// pub struct Mark;
 ///
-/// fn parse(self, alloc: A, input: &mut ParseBuffer<'_, A>) -> Result<T, Error<A>> {
-///     T::parse(alloc, input)
+/// impl Parser<Global> for Mark {
+///     ghost use Rattle.std.specs.Prelude.{⊤};
+///
+///     type Output = char;
+///
+///     // The contract says nothing of the mark.
+///     ghost runs = { λ parser trees scope answer rest. ⊤ };
+///
+///     fn parse(self, _alloc: Global, input: &mut ParseBuffer<'_>) -> Result<char, Error> {
+///         match input.punct() {
+///             Some(mark) => Ok(mark.as_char()),
+///             None => Err(input.error("mark")),
+///         }
+///     }
 /// }
+///
+/// pub fn mark_in_string(alloc: Global, text: &str) -> Option<char> {
+///     let string = parse_all::<LitStr, Global>(alloc, text, 0).ok()?;
+///     string.parse_with(alloc, Mark).ok()
+/// }
+/// // mark_in_string(alloc, "\"+\"") == Some('+')
 /// ```
 pub trait Parser<A: Allocator>: Sized {
     /// What is parsed.
@@ -110,17 +145,9 @@ impl<A: Allocator, T: Parse<A>> Parser<A> for ByParse<T> {
 
 /// A type that can be seen to stand next, without parsing it: what [`ParseBuffer::peek`] asks.
 ///
-/// The member `peeks` says before which trees `peek` is true, and `shown` what `display` answers.
+/// The member `peeks` says before which trees `peek` is true, and `shown` what `display` returns.
 ///
-/// # Example
-///
-/// ```
-/// ghost peeks = { λ trees. IsTrue (begins_punct trees) };
-///
-/// fn peek<A: Allocator>(input: &ParseBuffer<'_, A>) -> bool {
-///     input.fork().punct().is_some()
-/// }
-/// ```
+/// See the example of [`ParseBuffer`].
 pub trait Token {
     ghost peeks: { List Tree → Type 0 };
 
@@ -140,10 +167,17 @@ pub trait Token {
 /// # Example
 ///
 /// ```
-/// let mut stream = TokenStream::new(alloc);
-/// if literal.to_tokens(alloc, &mut stream).is_err() {
-///     return out.fail();
+/// use rl_tokens::{Span, ToTokens, TokenStream};
+/// use rust_literals::LitInt;
+/// use std::alloc::Global;
+///
+/// pub fn trees_of(alloc: Global, text: &str) -> Option<usize> {
+///     let number = LitInt::new(alloc, text, Span::call_site()).ok()?;
+///     let mut stream = TokenStream::new(alloc);
+///     number.to_tokens(alloc, &mut stream).ok()?;
+///     Some(stream.trees().len())
 /// }
+/// // trees_of(alloc, "12") == Some(1)
 /// ```
 pub trait ToTokens {
     ghost appends: { Self → List Tree };
@@ -163,16 +197,11 @@ pub trait ToTokens {
 impl<'a, A: Allocator> ParseBuffer<'a, A> {
     /// Parses a value of a type that says how.
     ///
+    /// See the example of [`ParseBuffer`].
+    ///
     /// # Errors
     ///
     /// Those of `T::parse`, which also says where the buffer stands then.
-    ///
-    /// # Example
-    ///
-    /// ```
-    /// input.take_punct('=')?;
-    /// input.parse::<LitStr<A>>(alloc)
-    /// ```
     #[tactic(auto, using(crate::proofs::TreeRests::rest_step))]
     pub fn parse<T: Parse<A>>(&mut self, alloc: A) -> Result<T, Error<A>>
         ensures runs { T.runs (trees_in self.old) (scope_of self.old) result (trees_in self.new) }
@@ -186,14 +215,7 @@ impl<'a, A: Allocator> ParseBuffer<'a, A> {
     /// Whether such a token stands next. The buffer stays, and no memory is taken. Of the types of
     /// literals it is true exactly where `parse` would succeed with memory found.
     ///
-    /// # Example
-    ///
-    /// ```
-    /// if input.peek::<LitInt<A>>() {
-    ///     let literal = input.parse::<LitInt<A>>(alloc)?;
-    ///     return Ok(Item::Int(literal));
-    /// }
-    /// ```
+    /// See the example of [`ParseBuffer`].
     pub fn peek<T: Token>(&self) -> bool
         ensures { IsTrue result ↔ T.peeks (trees_in self.now) }
     {

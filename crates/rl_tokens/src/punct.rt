@@ -11,10 +11,16 @@ use std::marker::Model;
 /// # Example
 ///
 /// ```
-/// match input.punct() {
-///     Some(mark) => Ok(Sign { ch: mark.as_char() }),
-///     None => Err(input.error("sign")),
+/// use rl_tokens::{ParseBuffer, Span, lex};
+/// use std::alloc::Global;
+///
+/// pub fn mark_after_name(alloc: Global, text: &str) -> Option<char> {
+///     let stream = lex(alloc, text, 0).ok()?;
+///     let mut input = ParseBuffer::new(stream.trees(), Span::call_site());
+///     input.ident()?;
+///     Some(input.punct()?.as_char())
 /// }
+/// // mark_after_name(alloc, "port = 80") == Some('=')
 /// ```
 #[derive(Drop)]
 pub struct Punct {
@@ -34,7 +40,7 @@ impl Model for Punct {
 }
 
 impl Punct {
-    /// The token of this character, which is punctuation ([`Punct::is_char`] tells), with this
+    /// The token of this character, which is punctuation ([`Punct::is_char`] says whether it is), with this
     /// span.
     pub fn new(ch: char, span: Span) -> Punct
         requires { IsTrue (is_punct ch) }

@@ -45,8 +45,21 @@ fn ran<B, T, E, F: FnOnce(&mut B) -> Result<T, E>>(input: &mut B, parser: F) -> 
 /// # Example
 ///
 /// ```
-/// let attribute = attempt(input, |input| parse_attribute(alloc, input))?;
-/// Ok(attribute)
+/// use rl_tokens::{ParseBuffer, Span, attempt, lex};
+/// use rust_literals::LitInt;
+/// use std::alloc::Global;
+///
+/// pub fn trees_left(alloc: Global, text: &str) -> Option<usize> {
+///     let stream = lex(alloc, text, 0).ok()?;
+///     let mut input = ParseBuffer::new(stream.trees(), Span::call_site());
+///     let _taken = attempt(&mut input, |input| {
+///         input.take_punct('=')?;
+///         input.parse::<LitInt>(alloc)
+///     });
+///     Some(input.rest().len())
+/// }
+/// // trees_left(alloc, "= 80") == Some(0)
+/// // trees_left(alloc, "= a") == Some(2)
 /// ```
 pub fn attempt<B: Rewind + Drop, T, E, F: FnOnce(&mut B) -> Result<T, E>>(
     input: &mut B,

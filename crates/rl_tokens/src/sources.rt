@@ -31,11 +31,16 @@ pub struct SourceToken<'t> {
 /// # Example
 ///
 /// ```
-/// let mut tokens = Sources::new(text);
-/// let mut count = 0;
-/// while tokens.next().is_some() {
-///     count += 1;
+/// use rl_tokens::{SourceForm, Sources};
+///
+/// pub fn first_docs(source: &str) -> Option<&str> {
+///     let token = Sources::new(source).next()?;
+///     match token.form {
+///         SourceForm::DocComment => Some(token.text),
+///         _ => None,
+///     }
 /// }
+/// // first_docs("/// Docs.") == Some("/// Docs.")
 /// ```
 ///
 /// [`Tokens`]: crate::Tokens

@@ -7,11 +7,13 @@ ghost use Rattle.std.specs.Prelude.{◌≡◌, ◌↔◌, min, max, IsSome, IfSo
 ///
 /// # Example
 ///
-/// The end of a text, where a parser tells that something is missing:
-///
 /// ```
-/// let end = Span::new(0, text.len(), text.len());
-/// let mut input = ParseBuffer::new(stream.trees(), end);
+/// use rl_tokens::Span;
+///
+/// pub fn text_at(text: &str, span: Span) -> Option<&str> {
+///     text.get(span.lo..span.hi)
+/// }
+/// // text_at("let a = 12;", Span::new(0, 8, 10)) == Some("12")
 /// ```
 #[derive(Clone, Copy, PartialEq, Eq, Debug)]
 pub struct Span {
@@ -65,15 +67,6 @@ impl Span {
     }
 
     /// From the first byte of both to the last of both, where they stand in one file; else `None`.
-    ///
-    /// # Example
-    ///
-    /// ```
-    /// match first.join(second) {
-    ///     Some(joined) => at_line(joined, out),
-    ///     None => line("None", out),
-    /// }
-    /// ```
     pub fn join(self, other: Span) -> Option<Span>
         ensures one_file { IsSome result ↔ (self.file ≡ other.file) }
         ensures range { IfSome result

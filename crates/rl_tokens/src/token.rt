@@ -13,14 +13,7 @@ use std::alloc::{Allocator, Global};
 
 /// How a group is delimited.
 ///
-/// # Example
-///
-/// ```
-/// Some(group) if group.delimiter() == Delimiter::Bracket => {
-///     *input = ahead;
-///     Ok(group)
-/// }
-/// ```
+/// See the example of [`TokenTree`].
 #[derive(Clone, Copy, PartialEq, Eq, Debug)]
 pub enum Delimiter {
     /// `( .. )`
@@ -36,11 +29,17 @@ pub enum Delimiter {
 /// # Example
 ///
 /// ```
-/// if let TokenTree::Group(group) = tree {
-///     word("<", out);
-///     tell_all(group.stream().trees(), out);
-///     word(">", out);
+/// use rl_tokens::{Delimiter, TokenTree, lex};
+/// use std::alloc::Global;
+///
+/// pub fn first_delimiter(alloc: Global, text: &str) -> Option<Delimiter> {
+///     let stream = lex(alloc, text, 0).ok()?;
+///     match stream.trees().first()? {
+///         TokenTree::Group(group) => Some(group.delimiter()),
+///         _ => None,
+///     }
 /// }
+/// // first_delimiter(alloc, "[1, 2]") == Some(Bracket)
 /// ```
 #[derive(Drop)]
 #[cycle(tree)]
@@ -57,15 +56,7 @@ pub enum TokenTree<A: Allocator = Global> {
 
 /// Trees between an opener and its closer.
 ///
-/// # Example
-///
-/// The items between brackets, by a parser of one's own:
-///
-/// ```
-/// let group = take_brackets(input)?;
-/// let items = parse_items(alloc, &mut group.inside())?;
-/// Ok(ItemList { items })
-/// ```
+/// See the example of [`ParseBuffer`].
 #[derive(Drop)]
 #[cycle(tree)]
 pub struct Group<A: Allocator = Global> {
@@ -76,17 +67,7 @@ pub struct Group<A: Allocator = Global> {
 
 /// A sequence of trees. It keeps the allocator that it was made with.
 ///
-/// # Example
-///
-/// A stream of one tree:
-///
-/// ```
-/// let mut stream = TokenStream::new(alloc);
-/// match stream.append(tree) {
-///     Ok(()) => Ok(stream),
-///     Err(_) => Err(AllocError),
-/// }
-/// ```
+/// See the example of [`ToTokens`].
 #[derive(Drop)]
 #[cycle(tree)]
 pub struct TokenStream<A: Allocator = Global> {

@@ -19,8 +19,12 @@ use crate::text::{begins_with, split_ascii, strip_byte};
 /// # Example
 ///
 /// ```
-/// // How many bytes follow them: of `/* one */ two` 3.
-/// format!(in alloc; "{}\n", whitespace::skip(text).len())
+/// use rl_tokens::whitespace;
+///
+/// pub fn after_comments(text: &str) -> &str {
+///     whitespace::skip(text)
+/// }
+/// // after_comments("/* one */ two") == "two"
 /// ```
 #[inline(always)]
 pub fn skip(text: &str) -> &str

@@ -20,13 +20,6 @@ use std::alloc::Allocator;
 ///
 /// The lexer's, as `Lex` with the span of no bytes at its place; an allocation failure as `Memory` there. Spans have the
 /// file and bytes of the text.
-///
-/// # Example
-///
-/// ```
-/// let stream = trees_of_text(alloc, text, file)?;
-/// let end = Span::new(file, text.len(), text.len());
-/// ```
 pub fn trees_of_text<A: Allocator + Copy>(
     alloc: A,
     text: &str,
@@ -73,10 +66,15 @@ fn parse_trees<T: Parse<A> + Drop, A: Allocator>(
 /// # Example
 ///
 /// ```
-/// match parse_all::<ItemList, Global>(alloc, text, FILE) {
-///     Ok(list) => tell_items(list.items.as_slice(), out),
-///     Err(error) => tell_error(&error, out),
+/// use rl_tokens::{Error, parse_all};
+/// use rust_literals::LitInt;
+/// use std::alloc::Global;
+///
+/// pub fn port(alloc: Global, text: &str) -> Result<u16, Error> {
+///     parse_all::<LitInt, Global>(alloc, text, 0)?.base10_parse(alloc)
 /// }
+/// // port(alloc, "8_080") == Ok(8080)
+/// // port(alloc, "1 'a'") == Err(Error { span: Span { file: 0, lo: 2, hi: 5 }, kind: Unexpected })
 /// ```
 pub fn parse_all<T: Parse<A> + Drop, A: Allocator + Copy>(
     alloc: A,

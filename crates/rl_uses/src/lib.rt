@@ -5,6 +5,7 @@
 mod attribute;
 mod config;
 mod count;
+pub mod examples;
 mod lint;
 mod list;
 mod reasons;

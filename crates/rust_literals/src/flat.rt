@@ -109,22 +109,25 @@ fn take_next<A: Allocator + Copy>(
 /// Puts the literal that the next tokens are at the list's end, and says whether one stood there. So a long list needn't
 /// be held: where each literal is let go before the next is taken, the memory is that of one.
 ///
+/// # Errors
+///
+/// An allocation failed, for the literal or for the list; both stay. [`read_behind`] reports it at its place.
+///
 /// # Example
 ///
 /// ```
-/// while !tokens.rest().is_empty() {
-///     let Ok(true) = read_next(alloc, &mut tokens, file, &mut list) else {
-///         return Err(list);
-///     };
+/// use rl_tokens::Tokens;
+/// use rust_literals::{Lit, read_next};
+/// use std::alloc::Global;
+///
+/// pub fn after_literal(alloc: Global, text: &str) -> Option<&str> {
+///     let mut tokens = Tokens::new(text);
+///     let mut list: Vec<Lit> = Vec::new(alloc);
+///     let is_read = read_next(alloc, &mut tokens, 0, &mut list).ok()?;
+///     is_read.then_some(tokens.rest())
 /// }
+/// // after_literal(alloc, "1.5, 2") == Some(", 2")
 /// ```
-///
-/// `false` says that the text is at its end, or that anything but a literal stands next (an error, a group, another word
-/// or mark); [`read_behind`] says what. List and cursor stay then.
-///
-/// # Errors
-///
-/// An allocation failed, for the literal or for the list; both stay. [`read_behind`] tells it at its place.
 ///
 /// [`read_behind`]: crate::read_behind
 pub fn read_next<A: Allocator + Copy>(

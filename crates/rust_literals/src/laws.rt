@@ -12,7 +12,7 @@ ghost use Rattle.rust_literals.specs.Peeking.{PeekReports};
 
 use std::alloc::Allocator;
 
-/// A peek of the nine types is true exactly where the type's parser answers a literal, if memory is found; elsewhere the
+/// A peek of the nine types is true exactly where the type's parser returns a literal, if memory is found; elsewhere the
 /// parser rejects after an allocation failure.
 pub fn peeks_tell<A: Allocator>()
     ensures literal { PeekReports (RunsLit {A = A}) HasFront }

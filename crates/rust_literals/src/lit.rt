@@ -26,10 +26,21 @@ use std::alloc::{Allocator, Global};
 /// # Example
 ///
 /// ```
-/// match literal {
-///     Lit::Str(string) => has_control(alloc, string),
-///     _ => Ok(false),
+/// use rl_tokens::{Literal, Span};
+/// use rust_literals::Lit;
+/// use std::alloc::Global;
+///
+/// pub fn code_of(alloc: Global, text: &str) -> Option<u32> {
+///     let token = Literal::from_text(alloc, text, Span::call_site()).ok()?;
+///     match Lit::new(alloc, token).ok()? {
+///         Lit::Byte(byte) => Some(byte.value() as u32),
+///         Lit::Char(character) => Some(character.value() as u32),
+///         Lit::Bool(truth) => Some(truth.value() as u32),
+///         _ => None,
+///     }
 /// }
+/// // code_of(alloc, "b'a'") == Some(97)
+/// // code_of(alloc, "true") == Some(1)
 /// ```
 #[derive(Drop)]
 pub enum Lit<A: Allocator = Global> {
@@ -110,19 +121,12 @@ impl<A: Allocator> Lit<A> {
     /// after a minus too. A text without CR is a byte, or a byte string with escapes, and its
     /// suffix empty or a word, exactly where it is a strict one (`strict_bytes`).
     ///
+    /// See the example of [`Lit`].
+    ///
     /// # Errors
     ///
     /// `Memory` alone, at the token's span, where there is none for the digits of a number whose
     /// body isn't its digits; the token is handed back. Other texts take no memory.
-    ///
-    /// # Example
-    ///
-    /// ```
-    /// match Lit::new(alloc, token_of(alloc, text, span)?) {
-    ///     Ok(literal) => Ok(literal),
-    ///     Err(_) => Err(AllocError),
-    /// }
-    /// ```
     pub fn new(alloc: A, token: Literal<A>) -> Result<Lit<A>, Kept<Literal<A>, A>>
         ensures strict_found { IfOk result (AgreesWithStrict (chars token.text)) }
         ensures reads { IfOk result (IsReadFrom token) }
@@ -236,15 +240,7 @@ impl<A: Allocator> Lit<A> {
     /// Why the literal's text is no literal, and where, in bytes of the text; `None` exactly where it is one. So of
     /// `Verbatim` it is the reason. [`Flaw::in_span`] gives the place in the file. No memory is taken.
     ///
-    /// # Example
-    ///
-    /// ```
-    /// let flaw = literal.explain()?;
-    /// Some(Reason {
-    ///     span: flaw.in_span(literal.span()),
-    ///     kind: flaw.kind,
-    /// })
-    /// ```
+    /// See the example of [`read_all`].
     pub fn explain(&self) -> Option<Flaw>
         ensures none { IfNone result (HasReading (chars (token_of self.now).text)) }
         ensures some { IfSome result (Explains (chars (token_of self.now).text)) }

@@ -12,13 +12,7 @@ use std::alloc::Allocator;
 
 /// A truth value: `true` or `false`. It takes no memory.
 ///
-/// # Example
-///
-/// ```
-/// let mut literal = LitBool::new(value, HERE);
-/// show_word(&literal.value(), out);
-/// at_word(literal.span(), out);
-/// ```
+/// See the example of [`Lit`].
 #[derive(Drop)]
 pub struct LitBool {
     /// The truth value.

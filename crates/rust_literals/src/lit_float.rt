@@ -12,7 +12,7 @@ use rl_grammar::{Found, Kind, find_float};
 use rl_tokens::ErrorKind;
 use std::alloc::{Allocator, Global};
 
-/// The kind of floats, as a type: what tells `LitFloat` from `LitInt`.
+/// The kind of floats, as a type: what distinguishes `LitFloat` from `LitInt`.
 pub struct FloatKind;
 
 /// A float literal: `1.5`, `1e5`, `2.0f32`. Its size isn't judged.
@@ -23,10 +23,19 @@ pub struct FloatKind;
 /// # Example
 ///
 /// ```
-/// match LitFloat::new(alloc, text, HERE) {
-///     Ok(mut literal) => moved_float(alloc, &mut literal, out),
-///     Err(error) => tell_error(&error, out),
+/// use rl_tokens::{Literal, Span};
+/// use rust_literals::LitFloat;
+/// use std::alloc::Global;
+///
+/// pub fn digits_or_text(alloc: Global, text: &str) -> Option<String> {
+///     let token = Literal::from_text(alloc, text, Span::call_site()).ok()?;
+///     match LitFloat::from_token(alloc, token) {
+///         Ok(literal) => String::from_str(alloc, literal.base10_digits()).ok(),
+///         Err(kept) => String::from_str(alloc, kept.value.text()).ok(),
+///     }
 /// }
+/// // digits_or_text(alloc, "1_0.5e3_f64") == Some("10.5e3")
+/// // digits_or_text(alloc, "abc") == Some("abc")
 /// ```
 pub type LitFloat<A = Global> = Number<FloatKind, A>;
 

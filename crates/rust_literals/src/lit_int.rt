@@ -12,20 +12,12 @@ use rl_grammar::{Found, Kind, find_int};
 use rl_tokens::ErrorKind;
 use std::alloc::{Allocator, Global};
 
-/// The kind of integers, as a type: what tells `LitInt` from `LitFloat`.
+/// The kind of integers, as a type: what distinguishes `LitInt` from `LitFloat`.
 pub struct IntKind;
 
 /// An integer literal: `1`, `-0x1F`, `1_000u16`. Its magnitude is at most 2 to the 128th, less 1.
 ///
-/// # Example
-///
-/// Digits in base ten, suffix and place:
-///
-/// ```
-/// word(literal.base10_digits(), out);
-/// debug_word(&literal.suffix(), out);
-/// at_word(literal.span(), out);
-/// ```
+/// See the example of [`parse_all`].
 pub type LitInt<A = Global> = Number<IntKind, A>;
 
 impl NumberKind for IntKind {

@@ -116,7 +116,7 @@ impl<K: NumberKind, A: Allocator + Copy> Number<K, A> {
 }
 
 impl<K: NumberKind, A: Allocator> Number<K, A> {
-    /// The literal of this token. A rejected one is handed back as it was.
+    /// The literal of this token. A rejected one is returned as it was.
     ///
     /// # Errors
     ///
@@ -185,14 +185,7 @@ impl<K: NumberKind, A: Allocator> Number<K, A> {
     ///
     /// They are borrowed from the text where they are all that stands before the suffix.
     ///
-    /// # Example
-    ///
-    /// Of `0xFF_u8` they are `255`, and the suffix is `u8`:
-    ///
-    /// ```
-    /// word(literal.base10_digits(), out);
-    /// debug_word(&literal.suffix(), out);
-    /// ```
+    /// See the example of [`LitFloat`].
     pub fn base10_digits(&self) -> &str
         ensures { HasDigits K.KIND (chars self.now.text) (chars result.now) }
     {

@@ -106,7 +106,7 @@ pub fn read_behind<A: Allocator + Copy>(
 ///
 /// # Errors
 ///
-/// The first error is the answer: the lexer's error as `Lex`, with the span of no bytes at its
+/// The first error is returned: the lexer's error as `Lex`, with the span of no bytes at its
 /// place; or `Expected` at the first tree that no literal begins. `Memory` is reported where it was
 /// met, in the text or at a literal; and where the list itself can't grow, which is at no place of
 /// the text, at `Span::call_site`.
@@ -114,10 +114,16 @@ pub fn read_behind<A: Allocator + Copy>(
 /// # Example
 ///
 /// ```
-/// match read_all(alloc, text, 0) {
-///     Ok(literals) => tell_places(alloc, literals.as_slice(), out),
-///     Err(error) => tell_refused(&error, out),
+/// use rust_literals::read_all;
+/// use std::alloc::Global;
+///
+/// pub fn first_flaw(alloc: Global, text: &str) -> Option<(&'static str, usize)> {
+///     let literals = read_all(alloc, text, 0).ok()?;
+///     let literal = literals.as_slice().first()?;
+///     let flaw = literal.explain()?;
+///     Some((flaw.kind.words(), flaw.in_span(literal.span()).lo))
 /// }
+/// // first_flaw(alloc, "\"a\\q\" 1") == Some(("unknown escape", 3))
 /// ```
 pub fn read_all<A: Allocator + Copy>(
     alloc: A,

@@ -170,20 +170,13 @@ impl<A: Allocator + Copy> Parse<A> for Attrs<A> {
 
 /// The attributes that a text is. Spans have the file and the bytes of the text.
 ///
+/// See the example of [`Attrs::get`].
+///
 /// # Errors
 ///
 /// The lexer's error as `Lex`, with the span of no bytes at its place, and its allocation
-/// failure as `Memory` there; else what the parser of [`Attrs`] rejects, which tells the text's end
+/// failure as `Memory` there; else what the parser of [`Attrs`] rejects, which reports the text's end
 /// by the span of no bytes there.
-///
-/// # Example
-///
-/// ```
-/// match read(alloc, text, 0) {
-///     Ok(attrs) => ended(entry_lines(alloc, attrs.entries())?),
-///     Err(error) => rejected(alloc, &error),
-/// }
-/// ```
 pub fn read<A: Allocator + Copy>(alloc: A, text: &str, file: u32) -> Result<Attrs<A>, Error<A>>
     // The text is cut into the trees of these attributes.
     ensures attributes { IfOk result

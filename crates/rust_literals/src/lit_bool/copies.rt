@@ -22,7 +22,7 @@ impl LitBool {
     ///
     /// # Errors
     ///
-    /// None: the answer is always `Ok`.
+    /// None: the result is always `Ok`.
     pub fn clone<B: Allocator>(&self, _alloc: B) -> Result<LitBool, Error<B>>
         ensures { result ≡ Ok self.now }
     {

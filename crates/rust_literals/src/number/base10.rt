@@ -27,19 +27,12 @@ impl<K: NumberKind, A: Allocator> Number<K, A> {
     /// The number that the type makes of the digits, by its own `from_str`: of `0xFF` as a `u8`
     /// 255.
     ///
+    /// See the example of [`parse_all`].
+    ///
     /// # Errors
     ///
     /// The type's error is reported at the span, as `Number` in the error's own words; an allocation
     /// failure for these is reported there too, and so is an error that can't be put into words.
-    ///
-    /// # Example
-    ///
-    /// ```
-    /// match literal.base10_parse::<N, Global>(alloc) {
-    ///     Ok(number) => show(&number, out),
-    ///     Err(error) => refused_number(&error, out),
-    /// }
-    /// ```
     pub fn base10_parse<N: FromStr, B: Allocator>(&self, alloc: B) -> Result<N, Error<B>>
     where
         N::Err: Display + Drop,

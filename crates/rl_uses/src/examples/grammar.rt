@@ -1,0 +1,33 @@
+//! Examples of `rl_grammar`: what a text is, with no memory taken.
+
+use rl_grammar::strict::is_token;
+use rl_grammar::{Kind, explain, is_plain, shape, str_of};
+use std::alloc::Global;
+
+/// Whether a text is a literal of Rust.
+pub fn is_rust(text: &str) -> bool {
+    is_token(text)
+}
+
+/// The suffix of the literal that a text is.
+pub fn suffix_of(text: &str) -> Option<&str> {
+    Some(shape(text)?.suffix)
+}
+
+/// Why a text is no literal.
+pub fn reason(text: &str) -> Option<&'static str> {
+    Some(explain(text)?.kind.words())
+}
+
+/// Whether a text is a string without escapes.
+pub fn is_plain_string(text: &str) -> bool {
+    is_plain(Kind::Str, text)
+}
+
+/// What the string that a text is stands for.
+pub fn contents(alloc: Global, text: &str) -> Option<String> {
+    match shape(text)?.kind {
+        Kind::Str => str_of(alloc, text).ok(),
+        _ => None,
+    }
+}

@@ -1,0 +1,14 @@
+//! Reads texts as literals, or says why one is none: `cargo run --example reason 0x1F '"a\qb"'`
+
+use navyspindle::Lit;
+use std::env;
+
+fn main() {
+    for text in env::args().skip(1) {
+        match Lit::parse(&text) {
+            Ok(Lit::Int(number)) => println!("{}", number.base10_digits()),
+            Ok(literal) => println!("{:?}", literal.kind()),
+            Err(error) => println!("{error}: {}", &text[error.piece()]),
+        }
+    }
+}
