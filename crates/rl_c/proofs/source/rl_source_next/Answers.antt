@@ -1,4 +1,4 @@
-use Rattle.std.proofs.Common.{refl, subst}
+use Rattle.std.proofs.Common.{refl, subst, rules}
 use Rattle.rl_tokens.specs.Texts.{IsTail}
 use Rattle.rl_tokens.proofs.Rests.{behind_drop}
 use Rattle.rl_c.specs.Literals.{PassesTo}
@@ -24,3 +24,6 @@ returns-in-None-find-clause-bad c = λ _.
     let borrowed = c.from_utf8_unchecked-text.result.now in
     let tail : IsTail borrowed c.range_from.result.now = behind_drop borrowed c.range_from.result.now c.args.at c.range_from.ensures.value c.range_from.utf8 in
     (c.in-Some.token, found_token c.args.text.now borrowed c.range_from.result.now c.rest.result.now c.args.at c.resume-tokens.result c.next_literal.new.tokens c.in-Some.token _ c.from_utf8_unchecked-text.ensures c.resume-tokens.ensures c.range_from.ensures.value tail c.in-Some.ensures.found c.rest.ensures refl refl refl, record { none = c.in-None-find.ensures.none; reading_is = c.verbatim-next.ensures })
+
+pub returns-in-Some-error-clause-end : goal.returns-in-Some-error-clause-end
+returns-in-Some-error-clause-end c = search rules steps 300000
