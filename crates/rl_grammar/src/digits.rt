@@ -209,8 +209,9 @@ fn plain_numeral<A: Allocator>(alloc: A, numeral: &str) -> Result<String<A>, All
     Ok(digits)
 }
 
-/// Puts a character of a numeral there, if it belongs to the digits.
+/// Puts a character of a numeral there, if it belongs to the digits. One of ASCII is a byte, and nothing is called.
 #[inline(always)]
+#[tactic(auto, using(std::proofs::lemmas::Str::encode_ascii))]
 fn put_digit(out: &mut [u8], at: usize, c: char) -> usize
     requires { at + length (encode_utf8 c) ≤ length out.old }
     ensures end { result ≤ at + length (encode_utf8 c) }
@@ -221,6 +222,7 @@ fn put_digit(out: &mut [u8], at: usize, c: char) -> usize
     match c {
         '_' | '+' => at,
         'E' => put_byte(out, at, b'e'),
+        _ if c.is_ascii() => put_byte(out, at, c as u8),
         _ => put_char(out, at, c),
     }
 }
