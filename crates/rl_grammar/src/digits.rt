@@ -196,7 +196,7 @@ fn plain_numeral<A: Allocator>(alloc: A, numeral: &str) -> Result<String<A>, All
     Ok(unsafe { String::from_utf8_unchecked(digits) })
 }
 
-/// Puts a character of a numeral there, if it belongs to the digits. One of ASCII is a byte, and nothing is called.
+/// Puts a character of a numeral there, if it belongs to the digits. One of ASCII is put as a byte.
 #[inline(always)]
 #[tactic(auto, using(std::proofs::lemmas::Str::encode_ascii))]
 fn put_digit(out: &mut [u8], at: usize, c: char) -> usize

@@ -248,7 +248,7 @@ pub fn find(text: &str) -> Option<Found>
     ensures none { IfNone result (HasNoReading (chars text.now)) }
     ensures found { IfSome result (IsFound text.now) }
 {
-    // Each arm returns: where what was found meets the other's first, its padding is copied twice.
+    // Each arm returns by itself: a value that both arms make would be copied once more, padding included.
     if begins_number(text) {
         match read_number(text)? {
             Number::Integer(magnitude, suffix) => {

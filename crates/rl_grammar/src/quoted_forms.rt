@@ -227,7 +227,7 @@ fn read_inside(form: QuotedForm, kind: Kind, text: &str) -> Option<Inside<'_>>
     ensures some { IfSome result (IsInside form kind text.now) }
     ensures none { IfNone result (HasNoParts form kind (form_opener form kind ++ chars text.now)) }
 {
-    // Each arm copies what it finds, so that what a cooked string has stays out of memory.
+    // Each arm takes out what was read, so that the parts of a cooked string stay in registers.
     let inside = match form {
         QuotedForm::Cooked => cooked_inside(kind, text)?,
         QuotedForm::Raw => raw_inside(kind, text)?,
