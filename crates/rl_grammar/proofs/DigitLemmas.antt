@@ -1,11 +1,11 @@
 -- The digits of numbers.
 use Rattle.std.proofs.Common.{◌≡◌, ℕ, suc, zero, ◌<◌, ◌≤◌, ◌^◌, List, [], ◌∷◌, ◌++◌, sym, ap, ◌∙◌, arith}
-use Rattle.std.proofs.lemmas.Str.{chars_from_encodes, encodes-append, chars-IsAscii}
+use Rattle.std.proofs.lemmas.Str.{encodes-append, chars-IsAscii}
 use Rattle.std.proofs.lemmas.List.{map-append}
 use Rattle.std.proofs.lemmas.List.Elements.{filter-append}
 use Rattle.std.proofs.lemmas.Fmt.{IsAscii-decimal_wide}
 use Rattle.std.specs.Fmt.{decimal}
-use Rattle.std.specs.Str.{chars, IsUtf8, IsAscii}
+use Rattle.std.specs.Str.{chars, IsAscii}
 use Rattle.std.specs.Prelude.{encode_utf8_all}
 use Rattle.rl_tokens.specs.Numbers.{Sign, NoSign, Minus, sign_text, IntReads, limit, float_digits, FloatReads}
 use Rattle.rl_tokens.specs.Reading.{Contents, Digits, ReadsInt}
@@ -23,10 +23,6 @@ pub plain_more : (a b xs : List ℕ) (c : ℕ) → a ≡ encode_utf8_all (float_
 plain_more a b xs c e h =
     h ∙ ap (λ z. z ++ encode_utf8_all (float_digits (c ∷ []))) e
     ∙ sym (ap encode_utf8_all (float_digits-append xs (c ∷ [])) ∙ encodes-append (float_digits xs) (float_digits (c ∷ [])))
-
--- the whole numeral written
-pub plain_whole : (a xs ys : List ℕ) → a ≡ encode_utf8_all (float_digits xs) → xs ≡ ys → IsUtf8 a → chars a ≡ float_digits ys
-plain_whole a xs ys e same u = sym (chars_from_encodes (float_digits xs) a u (sym e)) ∙ ap float_digits same
 
 -- a text has one numeral, and its digits are the digits
 pub same_numeral : (t b y ds n x : List ℕ) → FloatReads t b y → ds ≡ float_digits b → FloatReads t n x → ds ≡ float_digits n

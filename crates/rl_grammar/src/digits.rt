@@ -185,32 +185,20 @@ fn push_decimal<A: Allocator>(digits: &mut String<A>, number: u128) -> Result<()
     }
 }
 
-/// Writes a character of a numeral, if it belongs to the digits.
-fn push_plain<A: Allocator>(digits: &mut String<A>, c: char) -> Result<(), AllocError>
-    ensures { OnOk result
-        (string_bytes digits.new ≡ string_bytes digits.old
-        ++ encode_utf8_all (float_digits (c ∷ []))) }
-{
-    match c {
-        '_' | '+' => Ok(()),
-        'E' => digits.push('e'),
-        _ => digits.push(c),
-    }
-}
-
 /// A numeral without its underscores and pluses, and with a small `e`.
 fn plain_numeral<A: Allocator>(alloc: A, numeral: &str) -> Result<String<A>, AllocError>
     ensures { IfOk result (λ s. chars (string_bytes s) ≡ float_digits (chars numeral.now)) }
 {
-    let mut digits = String::with_capacity(alloc, numeral.len())?;
-    for c in numeral.chars() {
-        push_plain(&mut digits, c)?;
-    }
-    Ok(digits)
+    let mut digits = vec![in alloc; 0; numeral.len()]?;
+    let len = numeral_into(numeral, digits.as_mut_slice());
+    digits.truncate(len);
+    // SAFETY: the digits are characters in UTF-8, which is proved.
+    Ok(unsafe { String::from_utf8_unchecked(digits) })
 }
 
-/// Puts a character of a numeral there, if it belongs to the digits.
+/// Puts a character of a numeral there, if it belongs to the digits. One of ASCII is put as a byte.
 #[inline(always)]
+#[tactic(auto, using(std::proofs::lemmas::Str::encode_ascii))]
 fn put_digit(out: &mut [u8], at: usize, c: char) -> usize
     requires { at + length (encode_utf8 c) ≤ length out.old }
     ensures end { result ≤ at + length (encode_utf8 c) }
@@ -221,6 +209,7 @@ fn put_digit(out: &mut [u8], at: usize, c: char) -> usize
     match c {
         '_' | '+' => at,
         'E' => put_byte(out, at, b'e'),
+        _ if c.is_ascii() => put_byte(out, at, c as u8),
         _ => put_char(out, at, c),
     }
 }

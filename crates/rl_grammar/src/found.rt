@@ -248,8 +248,14 @@ pub fn find(text: &str) -> Option<Found>
     ensures none { IfNone result (HasNoReading (chars text.now)) }
     ensures found { IfSome result (IsFound text.now) }
 {
+    // Each arm returns by itself: a value that both arms make would be copied once more, padding included.
     if begins_number(text) {
-        return find_number(text);
+        match read_number(text)? {
+            Number::Integer(magnitude, suffix) => {
+                return Some(integer_found(text, suffix, magnitude));
+            }
+            Number::Float(suffix) => return Some(float_found(text, suffix)),
+        }
     }
     if let Some(found) = find_quoted(text) {
         return Some(found);

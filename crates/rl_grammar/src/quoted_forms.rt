@@ -227,11 +227,13 @@ fn read_inside(form: QuotedForm, kind: Kind, text: &str) -> Option<Inside<'_>>
     ensures some { IfSome result (IsInside form kind text.now) }
     ensures none { IfNone result (HasNoParts form kind (form_opener form kind ++ chars text.now)) }
 {
-    match form {
-        QuotedForm::Cooked => cooked_inside(kind, text),
-        QuotedForm::Raw => raw_inside(kind, text),
-        QuotedForm::Single => single_inside(kind, text),
-    }
+    // Each arm takes out what was read, so that the parts of a cooked string stay in registers.
+    let inside = match form {
+        QuotedForm::Cooked => cooked_inside(kind, text)?,
+        QuotedForm::Raw => raw_inside(kind, text)?,
+        QuotedForm::Single => single_inside(kind, text)?,
+    };
+    Some(inside)
 }
 
 /// What reading the text as a quoted literal finds.

@@ -1,8 +1,6 @@
 use Rattle.std.proofs.Common.{◌∙◌, sym, ap, subst}
 use Rattle.std.specs.Str.{chars}
-use Rattle.rl_grammar.specs.declared.quoted_forms.QuotedForm.TheVariants.{Cooked as CookedForm}
-use Rattle.rl_grammar.specs.FlawKinds.{BeginsUnits, QuotedFlaw}
-use Rattle.rl_grammar.specs.Mirrors.StopsInside.{StopsInside}
+use Rattle.rl_grammar.specs.FlawKinds.{BeginsUnits}
 use Rattle.rl_grammar.specs.Mirrors.UnitFlawAt.{found_flaw}
 use Rattle.rl_grammar.proofs.QuotedFlawLemmas.{cooked_kind, cooked_piece, cooked_place}
 use Rattle.rl_grammar.proofs.flaws.quoted.cooked_flaw.Goals as goal
