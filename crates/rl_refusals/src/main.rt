@@ -1,9 +1,9 @@
 //! Tries the libraries where they are refused something. For development.
 //!
-//! A line of input begins with `cut`, `long`, `run`, `attributes` or a type's name. Behind a type's name stand a call of it and
-//! a text: the requests for memory of the call are refused, each in turn. So are those of a run behind `run` and a command's
-//! name, and those of the parser of attributes behind `attributes`. Behind `cut` stands a text that is cut at each place.
-//! Behind `long` stand the parts of a long text.
+//! A line of input begins with `cut`, `long`, `run`, `attributes` or a type's name. After a type's name stand a call of it and
+//! a text: the requests for memory of the call are refused, each in turn. So are those of a run after `run` and a command's
+//! name, and those of the parser of attributes after `attributes`. After `cut` stands a text that is cut at each place.
+//! After `long` stand the parts of a long text.
 #![tactic(auto)]
 
 mod grammar;

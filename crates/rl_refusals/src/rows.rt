@@ -155,7 +155,7 @@ fn judge(told: &str, ample: &str, page: &mut Page) {
 }
 
 /// What is printed for a row: what came of the call with ample memory, and then with each request refused in turn, alone and
-/// with all behind it, each answer once.
+/// with all after it, each answer once.
 pub fn answer(alloc: Global, row: Row<'_>, page: &mut Page) {
     let (ample, asked) = tried(alloc, row, 1, 0);
     page.put("  ample: ");

@@ -13,7 +13,7 @@ use std::alloc::Global;
 /// A borrowed allocator that fails where it is asked to.
 type Borrowed<'a> = &'a Refusing<Global>;
 
-/// Puts last what comes of a run, with ample memory, and then with each request and all behind it refused. A row is the
+/// Puts last what comes of a run, with ample memory, and then with each request and all after it refused. A row is the
 /// command's name, a space and the input.
 pub fn of_command(alloc: Global, row: &str, page: &mut Page) {
     let (name, text) = row.split_once(' ').unwrap_or((row, ""));
@@ -53,7 +53,7 @@ fn put_run(
 }
 
 /// Puts last what comes of the parser of attributes, with ample memory, and then with each request refused, alone and with
-/// all behind it.
+/// all after it.
 pub fn attributes(alloc: Global, text: &str, page: &mut Page) {
     let refusing = Refusing::new(alloc);
     let asked = put_parsed(&refusing, u64::MAX, u64::MAX, text, page);
