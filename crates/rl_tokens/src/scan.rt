@@ -1,4 +1,4 @@
-//! Where bytes stand, looked for sixteen at a time.
+//! Where bytes stand, looked for thirty-two at a time.
 
 ghost use Rattle.std.specs.Prelude.{◌≡◌, ◌+◌, ◌<◌, ◌≤◌, ◌++◌, length, drop, map, IfSome, IfNone, IsTrue, IsFalse};
 ghost use Rattle.std.specs.List.{list_all, prefix_len};
@@ -98,6 +98,22 @@ fn stop_shortly<const HIGH: bool>(marks: Marks, bytes: &[u8], from: usize) -> us
     stop_slowly::<HIGH>(marks, bytes, from + 8)
 }
 
+/// The same for the last bytes, fewer than thirty-two.
+#[inline(always)]
+fn stop_soon<const HIGH: bool>(marks: Marks, bytes: &[u8], from: usize) -> usize
+    requires { from ≤ length bytes.now }
+    ensures { result ≡ from + prefix_len (goes_on HIGH marks) (drop from bytes.now) }
+{
+    if bytes.len() - from < 16 {
+        return stop_shortly::<HIGH>(marks, bytes, from);
+    }
+    let found = stops_among::<HIGH, 16>(marks, bytes, from);
+    if found != 0 {
+        return from + found.trailing_zeros() as usize;
+    }
+    stop_shortly::<HIGH>(marks, bytes, from + 16)
+}
+
 /// How many bytes stand in front of where the walk stops; all where it doesn't. It is inlined for the marks that its
 /// caller names.
 #[inline(always)]
@@ -105,14 +121,14 @@ fn stop<const HIGH: bool>(marks: Marks, bytes: &[u8]) -> usize
     ensures { result ≡ prefix_len (goes_on HIGH marks) bytes.now }
 {
     let mut at = 0;
-    while bytes.len() - at >= 16 {
-        let found = stops_among::<HIGH, 16>(marks, bytes, at);
+    while bytes.len() - at >= 32 {
+        let found = stops_among::<HIGH, 32>(marks, bytes, at);
         if found != 0 {
             return at + found.trailing_zeros() as usize;
         }
-        at += 16;
+        at += 32;
     }
-    stop_shortly::<HIGH>(marks, bytes, at)
+    stop_soon::<HIGH>(marks, bytes, at)
 }
 
 /// How many bytes stand in front of the first mark; all where there is none. It is inlined for the
