@@ -1,6 +1,6 @@
-//! Where bytes stand, looked for sixteen at a time.
+//! Where bytes stand, looked for sixty-four at a time.
 
-ghost use Rattle.std.specs.Prelude.{◌≡◌, ◌+◌, ◌<◌, ◌≤◌, ◌++◌, length, drop, map, IfSome, IfNone, IsTrue, IsFalse};
+ghost use Rattle.std.specs.Prelude.{◌≡◌, ◌+◌, ◌<◌, ◌≤◌, ◌++◌, length, drop, map, IfOk, IfErr, IfSome, IfNone, IsTrue, IsFalse};
 ghost use Rattle.std.specs.List.{list_all, prefix_len};
 ghost use Rattle.std.specs.Simd.Lanes.{chunk, mask_l};
 ghost use Rattle.std.specs.Str.{chars};
@@ -83,19 +83,52 @@ fn stop_slowly<const HIGH: bool>(marks: Marks, bytes: &[u8], from: usize) -> usi
     at
 }
 
-/// The same for the last bytes, fewer than sixteen.
+/// Where the walk stops, from a place on, found N bytes at a time; an error is the place from which fewer are left.
+#[inline(always)]
+fn stop_by<const HIGH: bool, const N: usize>(
+    marks: Marks,
+    bytes: &[u8],
+    from: usize,
+) -> Result<usize, usize>
+    requires { (0 < N) × (N ≤ 64) × (from ≤ length bytes.now) }
+    ensures stop { IfOk result
+        (λ at. at ≡ from + prefix_len (goes_on HIGH marks) (drop from bytes.now)) }
+    ensures left { IfErr result (λ at. (at ≤ length bytes.now)
+        × (at + prefix_len (goes_on HIGH marks) (drop at bytes.now)
+        ≡ from + prefix_len (goes_on HIGH marks) (drop from bytes.now))) }
+{
+    let mut at = from;
+    while bytes.len() - at >= N {
+        let found = stops_among::<HIGH, N>(marks, bytes, at);
+        if found != 0 {
+            return Ok(at + found.trailing_zeros() as usize);
+        }
+        at += N;
+    }
+    Err(at)
+}
+
+/// The same for the last bytes: eight at once, the others by themselves.
 fn stop_shortly<const HIGH: bool>(marks: Marks, bytes: &[u8], from: usize) -> usize
     requires { from ≤ length bytes.now }
     ensures { result ≡ from + prefix_len (goes_on HIGH marks) (drop from bytes.now) }
 {
-    if bytes.len() - from < 8 {
-        return stop_slowly::<HIGH>(marks, bytes, from);
+    match stop_by::<HIGH, 8>(marks, bytes, from) {
+        Ok(at) => at,
+        Err(from) => stop_slowly::<HIGH>(marks, bytes, from),
     }
-    let found = stops_among::<HIGH, 8>(marks, bytes, from);
-    if found != 0 {
-        return from + found.trailing_zeros() as usize;
+}
+
+/// The same for fewer than sixty-four bytes: sixteen at a time.
+#[inline(always)]
+fn stop_soon<const HIGH: bool>(marks: Marks, bytes: &[u8], from: usize) -> usize
+    requires { from ≤ length bytes.now }
+    ensures { result ≡ from + prefix_len (goes_on HIGH marks) (drop from bytes.now) }
+{
+    match stop_by::<HIGH, 16>(marks, bytes, from) {
+        Ok(at) => at,
+        Err(from) => stop_shortly::<HIGH>(marks, bytes, from),
     }
-    stop_slowly::<HIGH>(marks, bytes, from + 8)
 }
 
 /// How many bytes stand in front of where the walk stops; all where it doesn't. It is inlined for the marks that its
@@ -104,15 +137,10 @@ fn stop_shortly<const HIGH: bool>(marks: Marks, bytes: &[u8], from: usize) -> us
 fn stop<const HIGH: bool>(marks: Marks, bytes: &[u8]) -> usize
     ensures { result ≡ prefix_len (goes_on HIGH marks) bytes.now }
 {
-    let mut at = 0;
-    while bytes.len() - at >= 16 {
-        let found = stops_among::<HIGH, 16>(marks, bytes, at);
-        if found != 0 {
-            return at + found.trailing_zeros() as usize;
-        }
-        at += 16;
+    match stop_by::<HIGH, 64>(marks, bytes, 0) {
+        Ok(at) => at,
+        Err(from) => stop_soon::<HIGH>(marks, bytes, from),
     }
-    stop_shortly::<HIGH>(marks, bytes, at)
 }
 
 /// How many bytes stand in front of the first mark; all where there is none. It is inlined for the

@@ -2,11 +2,11 @@ use Rattle.std.proofs.Common.{◌≡◌, ◌+◌, ◌-◌, ◌≤◌, length, dr
 use Rattle.std.specs.List.{prefix_len}
 use Rattle.rl_tokens.specs.Mirrors.StopsAt.{goes_on}
 use Rattle.rl_tokens.proofs.LaneLemmas.{said}
-use Rattle.rl_tokens.proofs.scan.stop.Given as goal
+use Rattle.rl_tokens.proofs.scan.stop_by.Given as goal
 
 abbrev pub invariant-loop-at : goal.invariant-loop-at
 invariant-loop-at g l = record {
-  run : prefix_len (goes_on (said g.row.HIGH) l.marks) l.bytes ≡ l.at + prefix_len (goes_on (said g.row.HIGH) l.marks) (drop l.at l.bytes);
+  run : l.from + prefix_len (goes_on (said g.row.HIGH) l.marks) (drop l.from l.bytes) ≡ l.at + prefix_len (goes_on (said g.row.HIGH) l.marks) (drop l.at l.bytes);
   in_range : l.at ≤ length l.bytes;
 }
 
