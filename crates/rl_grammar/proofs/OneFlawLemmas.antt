@@ -31,11 +31,13 @@ data Meets (f g r s : List ℕ) : Type 0 where
   Before : (c : ℕ) (more : List ℕ) → g ≡ f ++ (c ∷ more) → r ≡ c ∷ (more ++ s) → Meets f g r s
   After : (c : ℕ) (more : List ℕ) → f ≡ g ++ (c ∷ more) → s ≡ c ∷ (more ++ r) → Meets f g r s
 
+-- the same character before both
 meets_on : (c : ℕ) (f g r s : List ℕ) → Meets f g r s → Meets (c ∷ f) (c ∷ g) r s
 meets_on c f g r s (Same a b) = Same (ap (λ z. c ∷ z) a) b
 meets_on c f g r s (Before d more a b) = Before d more (ap (λ z. c ∷ z) a) b
 meets_on c f g r s (After d more a b) = After d more (ap (λ z. c ∷ z) a) b
 
+-- the ends of two fronts are one, or one is in the other
 meets : (f g r s : List ℕ) → f ++ r ≡ g ++ s → Meets f g r s
 meets [] [] r s e = Same refl e
 meets [] (c ∷ g) r s e = Before c g refl e
@@ -49,6 +51,7 @@ meets (c ∷ f) (d ∷ g) r s e =
 not_before : (text r s : List ℕ) (a : StopsBefore text r) (b : StopsBefore text s) (c : ℕ) (more : List ℕ) → b.front ≡ a.front ++ (c ∷ more) → r ≡ c ∷ (more ++ s) → ⊥
 not_before text r s a b c more e h = a.stuck c (more ++ s) (more ++ b.begins.ending) h (subst HasReading (ap (λ z. z ++ b.begins.ending) e ∙ append_assoc a.front (c ∷ more) b.begins.ending) b.begins.reads)
 
+-- a text stops at one place
 stops_once : (text r s : List ℕ) (a : StopsBefore text r) (b : StopsBefore text s) → (a.front ≡ b.front) × (r ≡ s)
 stops_once text r s a b = go (meets a.front b.front r s (sym a.text_is ∙ b.text_is))
   where
@@ -71,24 +74,29 @@ opener_same t f g k l x y a b =
     let e : Some p ≡ Some q = sym a ∙ b in
     cc
 
+-- the opener of a flaw
 quoted_opener : (k : FlawKind) (t rest : List ℕ) (q : HasQuotedFlaw k t rest) → opener_at t ≡ found_opener q.form q.kind q.inside
 quoted_opener k t rest q = ap opener_at q.text_is ∙ front_complete q.form q.kind q.inside q.is_form
 
+-- the opener of a piece
 piece_opener : (t p rest : List ℕ) (q : HasQuotedPiece t p rest) → opener_at t ≡ found_opener q.form q.kind q.inside
 piece_opener t p rest q = ap opener_at q.text_is ∙ front_complete q.form q.kind q.inside q.is_form
 
 -- ---- quoted literals
 
+-- in each form one kind fits
 form_once : (form : QuotedForm) (kind : Kind) (k l : FlawKind) (inside rest : List ℕ) → QuotedFlaw form kind k inside rest → QuotedFlaw form kind l inside rest → k ≡ l
 form_once CookedForm kind k l inside rest p q = after_units_once kind k l inside rest p q
 form_once RawForm kind k l inside rest p q = raw_once kind k l inside rest p q
 form_once SingleForm kind k l inside rest p q = single_once kind k l inside rest p q
 
+-- after the opener
 quoted_once : (k l : FlawKind) (t rest : List ℕ) → HasQuotedFlaw k t rest → HasQuotedFlaw l t rest → k ≡ l
 quoted_once k l t rest p q =
     let same = opener_same t q.form p.form q.kind p.kind q.inside p.inside (quoted_opener l t rest q) (quoted_opener k t rest p) in
     form_once p.form p.kind k l p.inside rest p.spoils (subst (λ z. QuotedFlaw z.0 z.1 l z.2 rest) same q.spoils)
 
+-- in each form the place is after the opener
 form_cut : (form : QuotedForm) (kind : Kind) (k : FlawKind) (inside rest : List ℕ) → QuotedFlaw form kind k inside rest → (m : List ℕ) × (inside ≡ m ++ rest)
 form_cut CookedForm kind k inside rest p = after_units_cut kind k inside rest p
 form_cut RawForm kind k inside rest p = raw_cut kind k inside rest p
@@ -105,11 +113,13 @@ front_opened k t front rest e q none =
 
 -- ---- words
 
+-- the kind, by what stands before the place and by the rest
 word_of : List ℕ → List ℕ → FlawKind
 word_of [] [] = Empty
 word_of (c ∷ cs) [] = Unfinished
 word_of front (d ∷ ds) = NoLiteral
 
+-- a word has that kind
 word_is : (k : FlawKind) (front rest : List ℕ) → IsWordFlaw k front rest → k ≡ word_of front rest
 unfolding word_of
 word_is Empty [] [] h = refl
@@ -128,6 +138,7 @@ record IsFront (front : List ℕ) : Type 0 where
   no_opener : opener_at front ≡ None
   no_number : first_passes is_number_front front ≡ false
 
+-- of a truth value
 truth_front : (b : Bool) (front more : List ℕ) → truth_text b ≡ front ++ more → IsFront front
 unfolding opener_at
 truth_front b [] more e = record { no_opener = refl; no_number = refl }
@@ -138,19 +149,23 @@ truth_front false (c ∷ cs) more e =
     let same : 102 ≡ c = cc in
     subst (λ z. IsFront (z ∷ cs)) same (record { no_opener = refl; no_number = refl })
 
+-- of `b`
 letter_front : IsFront (98 ∷ [])
 unfolding opener_at
 letter_front = record { no_opener = refl; no_number = refl }
 
+-- of `c`
 other_front : IsFront (99 ∷ [])
 unfolding opener_at
 other_front = record { no_opener = refl; no_number = refl }
 
+-- of any of these
 begins_front : (front : List ℕ) → BeginsWord front → IsFront front
 begins_front front (inl e) = subst IsFront (sym e) letter_front
 begins_front front (inr (inl e)) = subst IsFront (sym e) other_front
 begins_front front (inr (inr w)) = truth_front w.truth front w.more w.word_is
 
+-- what stands before the place is so
 word_front : (k : FlawKind) (front rest : List ℕ) → IsWordFlaw k front rest → IsFront front
 word_front Empty front rest (e, h) = subst IsFront (sym e) (truth_front true [] (truth_text true) refl)
 word_front Unfinished front rest (w, some, h) = begins_front front w
@@ -170,6 +185,7 @@ number_goes_on t [] (c ∷ cs) e stuck h =
 abbrev HasNumberFlaw : FlawKind → List ℕ → List ℕ → Type 0
 HasNumberFlaw k t rest = (first_passes is_number_front t ≡ true) × HasKind (IsNumberFlaw k) t rest
 
+-- at one place one kind fits
 kinds_once : (k l : FlawKind) (t rest : List ℕ) → StopsBefore t rest → IsFlawOf k t rest → IsFlawOf l t rest → k ≡ l
 kinds_once k l t rest s p q = go p q
   where
@@ -195,11 +211,13 @@ kinds_once k l t rest s p q = go p q
 
 -- ---- the piece
 
+-- in each form one piece is spoiled
 form_piece : (form : QuotedForm) (kind : Kind) (inside p q rest : List ℕ) → IsPiece form kind inside p rest → IsPiece form kind inside q rest → p ≡ q
 form_piece CookedForm kind inside p q rest a b = pieces_once kind inside p q a b
 form_piece RawForm kind inside p q rest a b = a ∙ sym b
 form_piece SingleForm kind inside p q rest a b = a ∙ sym b
 
+-- one piece is spoiled
 piece_once : (t p q rest : List ℕ) → IsPieceOf t p rest → IsPieceOf t q rest → p ≡ q
 piece_once t p q rest (inl a) (inl b) =
     let same = opener_same t b.form a.form b.kind a.kind b.inside a.inside (piece_opener t q rest b) (piece_opener t p rest a) in
@@ -208,6 +226,7 @@ piece_once t p q rest (inl a) (inr b) = absurd (b.0 a.form a.kind a.inside a.is_
 piece_once t p q rest (inr a) (inl b) = absurd (a.0 b.form b.kind b.inside b.is_form b.text_is)
 piece_once t p q rest (inr a) (inr b) = a.1 ∙ sym b.1
 
+-- and begins at one place
 begins_once : (t rest : List ℕ) (x y : ℕ) → BeginsPiece t rest x → BeginsPiece t rest y → x ≡ y
 begins_once t rest x y a b =
     let same = piece_once t a.piece b.piece rest a.piece_is b.piece_is in
@@ -216,9 +235,11 @@ begins_once t rest x y a b =
 
 -- ---- the flaw
 
+-- a flaw, by its fields
 make : FlawKind → ℕ → ℕ → ℕ → Flaw
 make kind from lo hi = record { kind = kind; from = from; lo = lo; hi = hi }
 
+-- flaws of the same fields are the same
 flaw_same : (a b : Flaw) → a.kind ≡ b.kind → a.from ≡ b.from → a.lo ≡ b.lo → a.hi ≡ b.hi → a ≡ b
 unfolding make
 flaw_same a b kind from lo hi =
@@ -227,6 +248,7 @@ flaw_same a b kind from lo hi =
     ∙ ap (λ z. make b.kind b.from z a.hi) lo
     ∙ ap (λ z. make b.kind b.from b.lo z) hi
 
+-- one flaw explains the text
 pub one_flaw : (text : List ℕ) → HasOneFlaw text
 one_flaw text a b p q =
     let same = stops_once text p.place.rest q.place.rest p.place.stops q.place.stops in

@@ -37,6 +37,7 @@ digit_begins s c h =
     let each : list_all (is_row_part (has_value 10)) (c ∷ []) ≡ true = and_from (is_row_part (has_value 10) c) true (ap (λ b. b || (c == 95)) (sym (digit_is_ten c) ∙ h)) refl in
     (ten_fronted s (c ∷ []) [] h each (ten_alone c)).good (46 ∷ []) (names_no_dot (c ∷ [])) (dot_stands (is_none (capped (place_value 10 (without_underscores (c ∷ []))))))
 
+-- so some literal begins with each first character of a number
 pub front_begins : (c : ℕ) → is_number_front c ≡ true → (e : List ℕ) × HasReading (c ∷ e)
 front_begins c h = go (c == 45) refl
   where
@@ -50,9 +51,11 @@ front_begins c h = go (c == 45) refl
 no_integer_after : (t : List ℕ) → first_passes is_ascii_digit t ≡ false → HasNoInteger (45 ∷ t)
 no_integer_after t h = no_int (45 ∷ t) (no_head_int (45 ∷ t) h)
 
+-- it is no literal
 minus_reads : HasReading (45 ∷ []) → ⊥
 minus_reads r = only_number (45 ∷ []) refl (no_number (45 ∷ []) (no_integer_after [] refl) (no_float (45 ∷ []) (no_head_float (45 ∷ []) refl))) r.0 r.1.0 r.1.1 r.1.2
 
+-- and no number of any magnitude
 minus_any : (front : List ℕ) → front ≡ 45 ∷ [] → IsAnyNumber front → ⊥
 minus_any front e (inl r) = minus_reads (subst HasReading e r)
 minus_any front e (inr p) = no_integer_after [] refl p.sign p.magnitude p.suffix (subst (λ z. IntReads z p.sign p.magnitude p.suffix) e p.reads)
@@ -71,6 +74,7 @@ minus_past_none front c e stuck p = go (is_ascii_digit c) refl
 abbrev unsigned : (t : List ℕ) → EndsInSign t → List ℕ
 unsigned t e = e.whole ++ (fraction_text e.fraction ++ e.power)
 
+-- nor has it an exponent
 minus_power : (front : List ℕ) → front ≡ 45 ∷ [] → EndsInSign front → ⊥
 minus_power front e k =
     let starts : first_passes is_ascii_digit (unsigned front k) ≡ true = passes_more is_ascii_digit k.whole (fraction_text k.fraction ++ k.power) k.first in
@@ -84,6 +88,7 @@ prefix_continues Octal = and_from (is_xid_continue 48) (is_xid_continue 111 && t
 prefix_continues Decimal = refl
 prefix_continues Hexadecimal = and_from (is_xid_continue 48) (is_xid_continue 120 && true) (is_xid_continue-ascii 48 (omega arith)) (and_from (is_xid_continue 120) true (is_xid_continue-ascii 120 (omega arith)) refl)
 
+-- no base has more than sixteen digits
 few : (base : Base) → radix base ≤ 16
 few Binary = omega arith
 few Octal = omega arith
@@ -116,6 +121,7 @@ power_no_integer t x k s m y r =
     ∙ append_assoc before (p.sign ∷ p.more) x in
     both_ways (list_all is_xid_continue (after_minus (t ++ x))) (ap (list_all is_xid_continue) (is ∙ cut) ∙ all_breaks is_xid_continue before p.sign (p.more ++ x) (sign_no_continue p.sign p.is_sign)) (integer_continues (t ++ x) s m y r)
 
+-- and none is past the limit
 power_past : (t x : List ℕ) → EndsInSign t → IsPast (t ++ x) → ⊥
 power_past t x k p = power_no_integer t x k p.sign p.magnitude p.suffix p.reads
 
@@ -139,11 +145,13 @@ record IsLetter (l : ℕ) : Type 0 where
   no_dot : (l == 46) ≡ false
   no_base : (w : List ℕ) → names w l ≡ false
 
+-- what names base ten names no other
 names_ten : (l : ℕ) → radix_of l ≡ 10 → (w : List ℕ) → names w l ≡ false
 names_ten l h [] = refl
 names_ten l h (a ∷ []) = and_right (a == 48) (not (radix_of l == 10)) (ap (λ r. not (r == 10)) h)
 names_ten l h (a ∷ b ∷ ws) = refl
 
+-- both letters are so
 is_letter : (l : ℕ) → is_exponent_letter l ≡ true → IsLetter l
 is_letter l h = go (l == 101) refl
   where
@@ -158,6 +166,7 @@ signed_fails i p x k =
     ∙ signed_reads i p k.letter k.sign k.underscores k.more [] k.is_letter k.is_sign k.all_underscores (marks_are_row k.more k.more_underscores) refl
     ∙ ap (λ z. z && true) (marks_no_digit k.more k.more_underscores)
 
+-- nor after a fraction, or without one
 tail_fails : (past : Bool) (f : Fraction) (x : List ℕ) → IsFraction f → IsSignedPower x → tail_reads past (fraction_text f ++ x) ≡ false
 tail_fails past NoFraction x is k =
     ap (tail_reads past) k.text_is
@@ -166,12 +175,14 @@ tail_fails past NoFraction x is k =
     ∙ signed_fails true past x k
 tail_fails past (Dot row) x is k = dot_reads past row x is (ap (first_passes (is_row_part (has_value 10))) k.text_is ∙ (is_letter k.letter k.is_letter).no_part) ∙ signed_fails false false x k
 
+-- what follows the whole part doesn't go on with it
 tail_first : (w : List ℕ) (f : Fraction) (x : List ℕ) → IsSignedPower x → first_passes (ten_first w) (fraction_text f ++ x) ≡ false
 tail_first w NoFraction x k =
     let l = is_letter k.letter k.is_letter in
     ap (first_passes (ten_first w)) k.text_is ∙ or_from (is_row_part (has_value 10) k.letter) (names w k.letter) l.no_part (l.no_base w)
 tail_first w (Dot row) x k = names_no_dot w
 
+-- so there is no reading
 power_reads_none : (t : List ℕ) → EndsInSign t → HasReading t → ⊥
 power_reads_none t k r =
     let past = is_none (capped (place_value 10 (without_underscores k.whole))) in
@@ -179,6 +190,7 @@ power_reads_none t k r =
     let is : t ≡ (sign_text k.sign ++ k.whole) ++ tail = k.text_is ∙ sym (append_assoc (sign_text k.sign) k.whole tail) in
     (ten_fronted k.sign k.whole [] k.first k.each (row_is_ten k.whole k.each)).bad tail (tail_first k.whole k.fraction k.power k.is_power) (tail_fails past k.fraction k.power k.is_fraction k.is_power) (subst HasReading is r)
 
+-- and no number of any magnitude
 power_any : (t : List ℕ) → EndsInSign t → IsAnyNumber t → ⊥
 power_any t k (inl r) = power_reads_none t k r
 power_any t k (inr p) = power_past t [] k (subst IsPast (sym (append-nil t)) p)
@@ -189,6 +201,7 @@ power_any t k (inr p) = power_past t [] k (subst IsPast (sym (append-nil t)) p)
 abbrev EndsSo : FlawKind → List ℕ → Type 0
 EndsSo k front = (((front ≡ 45 ∷ []) ⊎ EndsInSign front) × (k ≡ Unfinished)) ⊎ (IsPast front × (k ≡ TooLarge))
 
+-- each kind says so
 ends_so : (k : FlawKind) (front : List ℕ) → IsNumberFlaw k front [] → EndsSo k front
 ends_so NoNumber front (e, some) = absurd (some refl)
 ends_so NoExponentDigit front (e, some) = absurd (some refl)
@@ -196,10 +209,12 @@ ends_so Unfinished front (e, none) = inl (e, refl)
 ends_so TooLarge front h = inr (h, refl)
 ends_so k front h = absurd h
 
+-- what ends too soon is not past the limit
 short_past : (front : List ℕ) → (front ≡ 45 ∷ []) ⊎ EndsInSign front → IsPast front → ⊥
 short_past front (inl e) p = minus_any front e (inr p)
 short_past front (inr k) p = power_any front k (inr p)
 
+-- one kind says so
 end_once : (k l : FlawKind) (front : List ℕ) → EndsSo k front → EndsSo l front → k ≡ l
 end_once k l front (inl (p, a)) (inl (q, b)) = a ∙ sym b
 end_once k l front (inl (p, a)) (inr (q, b)) = absurd (short_past front p q)
@@ -213,6 +228,7 @@ data StopsSo (k : FlawKind) (front : List ℕ) (c : ℕ) : Type 0 where
   Large : k ≡ TooLarge → IsPast (front ++ (c ∷ [])) → StopsSo k front c
   Other : k ≡ BadSuffix → IsAnyNumber front → (IsPast (front ++ (c ∷ [])) → ⊥) → StopsSo k front c
 
+-- each kind says so
 stops_so : (k : FlawKind) (front : List ℕ) (c : ℕ) (cs : List ℕ) → IsNumberFlaw k front (c ∷ cs) → StopsSo k front c
 stops_so NoNumber front c cs (e, some) = Lone refl e
 stops_so NoExponentDigit front c cs (e, some) = Power refl e
@@ -221,6 +237,7 @@ stops_so TooLarge front c cs h = Large refl h
 stops_so BadSuffix front c cs (n, p) = Other refl n p
 stops_so k front c cs h = absurd h
 
+-- one kind says so
 stop_once : (k l : FlawKind) (front : List ℕ) (c : ℕ) → ((e : List ℕ) → HasReading (front ++ (c ∷ e)) → ⊥) → StopsSo k front c → StopsSo l front c → k ≡ l
 stop_once k l front c stuck (Lone a e) (Lone b f) = a ∙ sym b
 stop_once k l front c stuck (Lone a e) (Power b f) = absurd (minus_power front e f)
@@ -239,6 +256,7 @@ stop_once k l front c stuck (Other a n p) (Power b f) = absurd (power_any front 
 stop_once k l front c stuck (Other a n p) (Large b q) = absurd (p q)
 stop_once k l front c stuck (Other a n p) (Other b m q) = a ∙ sym b
 
+-- where nothing reads with the next character, one kind fits
 pub number_once : (k l : FlawKind) (front rest : List ℕ) → ((c : ℕ) (cs e : List ℕ) → rest ≡ c ∷ cs → HasReading (front ++ (c ∷ e)) → ⊥) → IsNumberFlaw k front rest → IsNumberFlaw l front rest → k ≡ l
 number_once k l front [] stuck p q = end_once k l front (ends_so k front p) (ends_so l front q)
 number_once k l front (c ∷ cs) stuck p q = stop_once k l front c (λ e. stuck c cs e refl) (stops_so k front c cs p) (stops_so l front c cs q)

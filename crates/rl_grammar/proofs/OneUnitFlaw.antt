@@ -19,9 +19,11 @@ use Rattle.rl_grammar.proofs.UnitLemmas.{quote_and_return, some_pair, unit_compl
 
 -- ---- the kind, by what stands before the place and by the character there
 
+-- after digits between braces
 abbrev digits_flaw : List ℕ → ℕ → FlawKind
 digits_flaw ds c = cond (is_hex_digit c) (cond (eqb (digit_count ds) 6) TooManyDigits (code_flaw_of (number_of (ds ++ (c ∷ []))))) (cond (eqb c 125) (code_flaw_of (number_of ds)) NoHexDigit)
 
+-- after any front of a unit
 abbrev flaw_of : List ℕ → ℕ → FlawKind
 flaw_of [] c = character_flaw_of c
 flaw_of (a ∷ []) c = cond (eqb a 13) LoneCr (cond (eqb c 117) NoUnicode (cond (eqb c 48) Nul UnknownEscape))
@@ -38,30 +40,37 @@ record Spoils (kind : Kind) (k : FlawKind) (t : List ℕ) (c : ℕ) (cs : List �
 
 -- ---- fronts of units, which are none
 
+-- a CR
 no_cr : (kind : Kind) → is_string kind ≡ true → unit_at kind (13 ∷ []) ≡ None
 unfolding unit_at
 no_cr kind s = rw (quote_and_return kind s).1 refl
 
+-- a backslash
 no_escape : (kind : Kind) → unit_at kind (92 ∷ []) ≡ None
 unfolding unit_at escape_at
 no_escape kind = refl
 
+-- the two characters before the digits of a byte
 no_hex : (kind : Kind) → unit_at kind (92 ∷ 120 ∷ []) ≡ None
 unfolding unit_at escape_at hex_at
 no_hex kind = refl
 
+-- and the first digit
 no_low : (kind : Kind) (high : ℕ) → is_hex_digit high ≡ true → unit_at kind (92 ∷ 120 ∷ high ∷ []) ≡ None
 unfolding unit_at escape_at hex_at
 no_low kind high h = rw h refl
 
+-- the two characters before a brace
 no_brace : (kind : Kind) → unit_at kind (92 ∷ 117 ∷ []) ≡ None
 unfolding unit_at escape_at unicode_at
 no_brace kind = refl
 
+-- and the brace
 no_digit : (kind : Kind) → unit_at kind (92 ∷ 117 ∷ 123 ∷ []) ≡ None
 unfolding unit_at escape_at unicode_at
 no_digit kind = refl
 
+-- what stands between braces
 abbrev is_part : ℕ → Bool
 is_part c = is_underscore c || is_hex_digit c
 
@@ -78,6 +87,7 @@ not_closed v n (c ∷ cs) h =
     go false true h k = k
     go false false h k = refl
 
+-- with what stands before them
 no_end : (kind : Kind) (ds : List ℕ) → first_passes is_hex_digit ds ≡ true → list_all is_part ds ≡ true → unit_at kind (92 ∷ 117 ∷ 123 ∷ ds) ≡ None
 unfolding unit_at escape_at unicode_at
 no_end kind [] first each = absurd (cc)
@@ -87,6 +97,7 @@ no_end kind (c ∷ cs) first each =
 
 -- ---- the kinds
 
+-- the kind of a number of no character
 code_of : (kind : Kind) (k : FlawKind) (n : ℕ) → IsNoCode kind k n → k ≡ code_flaw_of n
 code_of kind PastUnicode n h = rw (lt-ltb 1114111 n h) refl
 code_of kind Surrogate n h = rw (le-ltb 1114111 n (let high = h.1 in omega arith), ne_eqb n 0 (λ e. let low = h.0 in omega (arith, e))) refl
@@ -108,6 +119,7 @@ code_spoils kind k t c cs (AtSixth ds sixth after b five rest digit is) =
     let count : eqb (digit_count ds) 6 ≡ false = ap (λ n. eqb n 6) five in
     behind_digits kind k t ds c cs b (subst (λ z. k ≡ digits_flaw ds z) (sym same) (rw (digit, count) (code_of kind k (number_of (ds ++ (sixth ∷ []))) is)))
 
+-- a NUL
 nul_spoils : (kind : Kind) (t : List ℕ) (c : ℕ) (cs : List ℕ) → UnitFlaw kind Nul t (c ∷ cs) → Spoils kind Nul t c cs
 nul_spoils kind t c cs (k, AsItIs e zero) = record { front = []; text_is = e; no_unit = unit_nil kind; kind_is = rw zero refl }
 nul_spoils kind t c cs (k, ByLetter e zero) = record { front = 92 ∷ []; text_is = e; no_unit = no_escape kind; kind_is = ap (flaw_of (92 ∷ [])) (sym (eqb-true c 48 zero)) }
@@ -117,6 +129,7 @@ nul_spoils kind t c cs (k, ByDigits high low after e rest h l zero) =
     record { front = 92 ∷ 120 ∷ high ∷ []; text_is = e; no_unit = no_low kind high h; kind_is = rw digit refl }
 nul_spoils kind t c cs (k, ByNumber n) = code_spoils kind Nul t c cs n
 
+-- a digit that is missing
 digit_spoils : (kind : Kind) (t : List ℕ) (c : ℕ) (cs : List ℕ) → UnitFlaw kind NoHexDigit t (c ∷ cs) → Spoils kind NoHexDigit t c cs
 digit_spoils kind t c cs (FirstDigit e h) = record { front = 92 ∷ 120 ∷ []; text_is = e; no_unit = no_hex kind; kind_is = rw (not-true (is_hex_digit c) h) refl }
 digit_spoils kind t c cs (SecondDigit high d e h) = record { front = 92 ∷ 120 ∷ high ∷ []; text_is = e; no_unit = no_low kind high d; kind_is = rw (not-true (is_hex_digit c) h) refl }
@@ -141,9 +154,11 @@ must_escape c h = go (eqb c 10) (eqb c 13) (eqb c 9) refl refl refl h
     go false false true a b d h = at 9 d refl
     go false false false a b d h = absurd (cc)
 
+-- a character that isn't ASCII
 not_ascii : (c : ℕ) → not (ltb c 128) ≡ true → NotAscii ≡ character_flaw_of c
 not_ascii c h = rw (apart (λ x. not (ltb x 128)) c 0 h refl, apart (λ x. not (ltb x 128)) c 39 h refl, not-true (ltb c 128) h) refl
 
+-- each kind, at a character
 spoils : (kind : Kind) (k : FlawKind) (t : List ℕ) (c : ℕ) (cs : List ℕ) → UnitFlaw kind k t (c ∷ cs) → Spoils kind k t c cs
 spoils kind Unclosed t c cs h = absurd (cc)
 spoils kind UnknownEscape t c cs (e, b) =
@@ -235,40 +250,47 @@ after_first kind u w us ws s t iu eu iw ew e =
     let first = λ (v : QuotedUnit) (vs : List QuotedUnit) (r : List ℕ) (i : IsUnit kind v) (n : EndsBefore v (texts vs ++ r)). ap (unit_at kind) (append_assoc (unit_text v) (texts vs) r) ∙ unit_complete kind v (texts vs ++ r) i n in
     (some_pair (unit_value kind u, texts us ++ s) (unit_value kind w, texts ws ++ t) (sym (first u us s iu eu) ∙ ap (unit_at kind) e ∙ first w ws t iw ew)).1
 
+-- two rows of units, with the same rest
 rows_same : (kind : Kind) (k l : FlawKind) (us ws : List QuotedUnit) (s t : List ℕ) (c : ℕ) (cs : List ℕ) → AllByRecursion (IsUnit kind) us → RowEnds us s → AllByRecursion (IsUnit kind) ws → RowEnds ws t → Spoils kind k s c cs → Spoils kind l t c cs → texts us ++ s ≡ texts ws ++ t → k ≡ l
 rows_same kind k l [] [] s t c cs iu eu iw ew p q e = same_kind kind k l t c cs (subst (λ z. Spoils kind k z c cs) e p) q
 rows_same kind k l [] (w ∷ ws) s t c cs iu eu iw ew p q e = absurd (unit_first kind k l w ws s t c cs iw.0 ew.0 p q e)
 rows_same kind k l (u ∷ us) [] s t c cs iu eu iw ew p q e = absurd (unit_first kind l k u us t s c cs iu.0 eu.0 q p (sym e))
 rows_same kind k l (u ∷ us) (w ∷ ws) s t c cs iu eu iw ew p q e = rows_same kind k l us ws s t c cs iu.1 eu.1 iw.1 ew.1 p q (after_first kind u w us ws s t iu.0 eu.0 iw.0 ew.0 e)
 
+-- after units one kind fits
 pub after_units_once : (kind : Kind) (k l : FlawKind) (text rest : List ℕ) → AfterUnits kind k text rest → AfterUnits kind l text rest → k ≡ l
 after_units_once kind k l text [] p q = at_end kind k p.spoiled p.spoils ∙ sym (at_end kind l q.spoiled q.spoils)
 after_units_once kind k l text (c ∷ cs) p q = rows_same kind k l p.units q.units p.spoiled q.spoiled c cs p.each p.ends q.each q.ends (spoils kind k p.spoiled c cs p.spoils) (spoils kind l q.spoiled c cs q.spoils) (sym p.text_is ∙ q.text_is)
 
 -- ---- a character or a byte
 
+-- at the end of the text
 closer_end : (kind : Kind) (k : FlawKind) (t : List ℕ) → CloserFlaw kind k t [] → k ≡ Unclosed
 closer_end kind Unclosed t h = refl
 closer_end kind NoCharacter t (n, some, b) = absurd (some refl)
 closer_end kind TwoCharacters t (n, some, b) = absurd (some refl)
 closer_end kind k t h = absurd h
 
+-- before a character
 closer_open : (kind : Kind) (k : FlawKind) (t : List ℕ) (c : ℕ) (cs : List ℕ) → CloserFlaw kind k t (c ∷ cs) → IsNotClosed kind t (c ∷ cs) × (k ≡ cond (first_passes is_apostrophe t) NoCharacter TwoCharacters)
 closer_open kind Unclosed t c cs (n, e) = absurd (cc)
 closer_open kind NoCharacter t c cs (n, some, b) = (n, sym (ap (λ z. cond z NoCharacter TwoCharacters) b))
 closer_open kind TwoCharacters t c cs (n, some, b) = (n, sym (ap (λ z. cond z NoCharacter TwoCharacters) b))
 closer_open kind k t c cs h = absurd h
 
+-- either the unit has the flaw, or what follows it
 not_both : (kind : Kind) (k : FlawKind) (t : List ℕ) (c : ℕ) (cs : List ℕ) → UnitFlaw kind k t (c ∷ cs) → IsNotClosed kind t (c ∷ cs) → ⊥
 not_both kind k t c cs h n = no_unit_before kind k n.unit [] t c cs (spoils kind k t c cs h) n.is_unit (ends_before n.unit [] refl) n.text_is
 
 abbrev pub SingleFlaw : Kind → FlawKind → List ℕ → List ℕ → Type 0
 SingleFlaw kind k t rest = UnitFlaw kind k t rest ⊎ CloserFlaw kind k t rest
 
+-- both, at the end of the text
 single_end : (kind : Kind) (k : FlawKind) (t : List ℕ) → SingleFlaw kind k t [] → k ≡ Unclosed
 single_end kind k t (inl a) = at_end kind k t a
 single_end kind k t (inr b) = closer_end kind k t b
 
+-- at one place one kind fits
 pub single_once : (kind : Kind) (k l : FlawKind) (t rest : List ℕ) → SingleFlaw kind k t rest → SingleFlaw kind l t rest → k ≡ l
 single_once kind k l t [] p q = single_end kind k t p ∙ sym (single_end kind l t q)
 single_once kind k l t (c ∷ cs) (inl p) (inl q) = same_kind kind k l t c cs (spoils kind k t c cs p) (spoils kind l t c cs q)
@@ -281,30 +303,36 @@ single_once kind k l t (c ∷ cs) (inr p) (inr q) = (closer_open kind k t c cs p
 abbrev NoMore : Kind → List ℕ → Type 0
 NoMore kind piece = (u : QuotedUnit) (z : List ℕ) → IsUnit kind u → EndsBefore u z → piece ≡ unit_text u ++ z → ⊥
 
+-- two rows of units, each as far as units go
 pieces_same : (kind : Kind) (us ws : List QuotedUnit) (s t : List ℕ) → AllByRecursion (IsUnit kind) us → RowEnds us s → AllByRecursion (IsUnit kind) ws → RowEnds ws t → NoMore kind s → NoMore kind t → texts us ++ s ≡ texts ws ++ t → s ≡ t
 pieces_same kind [] [] s t iu eu iw ew p q e = e
 pieces_same kind [] (w ∷ ws) s t iu eu iw ew p q e = absurd (p w (texts ws ++ t) iw.0 ew.0 (e ∙ append_assoc (unit_text w) (texts ws) t))
 pieces_same kind (u ∷ us) [] s t iu eu iw ew p q e = absurd (q u (texts us ++ s) iu.0 eu.0 (sym e ∙ append_assoc (unit_text u) (texts us) s))
 pieces_same kind (u ∷ us) (w ∷ ws) s t iu eu iw ew p q e = pieces_same kind us ws s t iu.1 eu.1 iw.1 ew.1 p q (after_first kind u w us ws s t iu.0 eu.0 iw.0 ew.0 e)
 
+-- one piece is spoiled
 pub pieces_once : (kind : Kind) (text s t : List ℕ) → BeginsUnits kind text s → BeginsUnits kind text t → s ≡ t
 pieces_once kind text s t p q = pieces_same kind p.units q.units s t p.each p.ends q.each q.ends p.no_more q.no_more (sym p.text_is ∙ q.text_is)
 
 -- ---- the place is in the text
 
+-- of a unit
 unit_cut : (kind : Kind) (k : FlawKind) (t rest : List ℕ) → UnitFlaw kind k t rest → (m : List ℕ) × (t ≡ m ++ rest)
 unit_cut kind k t [] h = (t, sym (append-nil t))
 unit_cut kind k t (c ∷ cs) h = let p = spoils kind k t c cs h in (p.front, p.text_is)
 
+-- after units
 pub after_units_cut : (kind : Kind) (k : FlawKind) (t rest : List ℕ) → AfterUnits kind k t rest → (m : List ℕ) × (t ≡ m ++ rest)
 after_units_cut kind k t rest p =
     let (m, e) = unit_cut kind k p.spoiled rest p.spoils in
     (texts p.units ++ m, p.text_is ∙ ap (λ z. texts p.units ++ z) e ∙ sym (append_assoc (texts p.units) m rest))
 
+-- after one unit
 closer_cut : (kind : Kind) (k : FlawKind) (t rest : List ℕ) → CloserFlaw kind k t rest → (m : List ℕ) × (t ≡ m ++ rest)
 closer_cut kind k t [] h = (t, sym (append-nil t))
 closer_cut kind k t (c ∷ cs) h = let n = (closer_open kind k t c cs h).0 in (unit_text n.unit, n.text_is)
 
+-- of a character or a byte
 pub single_cut : (kind : Kind) (k : FlawKind) (t rest : List ℕ) → SingleFlaw kind k t rest → (m : List ℕ) × (t ≡ m ++ rest)
 single_cut kind k t rest (inl a) = unit_cut kind k t rest a
 single_cut kind k t rest (inr b) = closer_cut kind k t rest b
