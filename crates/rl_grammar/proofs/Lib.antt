@@ -52,3 +52,7 @@ pub mod MinusFoundLemmas
 pub mod NumberFoundLemmas
 pub mod FoundContents
 pub mod RoomLemmas
+pub mod OneUnitFlaw
+pub mod OneRawFlaw
+pub mod OneNumberFlaw
+pub mod OneFlawLemmas

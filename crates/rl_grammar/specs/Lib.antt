@@ -1,6 +1,7 @@
 pub mod FlawKinds
 pub mod FlawWords
 pub mod Flaws
+pub mod OneFlaw
 pub mod NumberFlaws
 pub mod NumberShapes
 pub mod NumbersRead

@@ -5,6 +5,7 @@ ghost use Rattle.std.specs.Char.{is_ascii_digit};
 ghost use Rattle.std.specs.List.{list_all};
 ghost use Rattle.rl_tokens.specs.Strict.{dec, spelled_number};
 ghost use Rattle.rl_tokens.specs.Texts.{first_passes};
+ghost use Rattle.rl_grammar.specs.OneFlaw.{HasOneFlaw};
 ghost use Rattle.rl_grammar.specs.StrictBytes.{KeepsBytesStrict};
 
 /// A text without CR reads as a byte, or as a byte string by the form with escapes, with a suffix that is empty or a
@@ -20,4 +21,10 @@ pub fn dec_spells_the_number()
     ensures digits { (n : ℕ) → IsTrue (list_all is_ascii_digit (dec n)) }
     ensures no_zero { (n : ℕ) → 0 < n → IsFalse (first_passes (λ c. c == 48) (dec n)) }
     ensures zero { dec 0 ≡ 48 ∷ [] }
+{}
+
+/// One flaw at most explains why a text is no literal: the kinds exclude each other, and the piece and the place are the
+/// only ones. So whatever explains a text is the flaw that [`explain`](crate::explain) returns.
+pub fn a_text_has_one_flaw()
+    ensures { (text : List ℕ) → HasOneFlaw text }
 {}
