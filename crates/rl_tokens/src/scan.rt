@@ -152,6 +152,14 @@ pub fn len_before(marks: Marks, bytes: &[u8]) -> usize
     stop::<false>(marks, bytes)
 }
 
+/// The same for a mark that is likely near, as in the tokens of a source.
+#[inline(always)]
+pub(crate) fn near_len_before(marks: Marks, bytes: &[u8]) -> usize
+    ensures { result ≡ prefix_len (is_other marks) bytes.now }
+{
+    stop_soon::<false>(marks, bytes, 0)
+}
+
 /// How many bytes of ASCII stand in front of the first mark and of all that is past ASCII; all where there is neither.
 /// It is inlined for the marks that its caller names.
 #[inline(always)]
@@ -171,7 +179,7 @@ pub fn split_before(marks: Marks, text: &str) -> (&str, &str)
     ensures following { IsTail text.now result.1.now }
     ensures shorter { length result.1.now ≤ length text.now }
 {
-    text.split_at(len_before(marks, text.as_bytes()))
+    text.split_at(near_len_before(marks, text.as_bytes()))
 }
 
 /// The first mark in the text, and what stands after it: `None` where there is none.

@@ -8,7 +8,7 @@ ghost use Rattle.rl_tokens.specs.Skipping.{Skipped, OneRest};
 ghost use Rattle.rl_tokens.specs.Mirrors.SkippedAt.{after_line, after_block, after_comment};
 
 use crate::classes::{CharClass, skip_class};
-use crate::scan::{Marks, len_before, next_mark};
+use crate::scan::{Marks, near_len_before, next_mark};
 use crate::text::{begins_with, split_ascii, strip_byte};
 
 /// The rest of the text after its leading white space and plain comments, as a slice of the text.
@@ -144,7 +144,7 @@ pub(crate) fn after_block(text: &str) -> Option<&str>
                 depth += 1;
             }
         } else {
-            at += len_before(Marks::two(b'*', b'/'), &bytes[at..]);
+            at += near_len_before(Marks::two(b'*', b'/'), &bytes[at..]);
         }
     }
     None
