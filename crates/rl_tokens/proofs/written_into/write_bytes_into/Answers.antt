@@ -2,7 +2,7 @@ use Rattle.std.proofs.Common.{◌≡◌, ◌++◌, ◌∙◌, sym, ap, subst, Li
 use Rattle.std.specs.Prelude.{encode_utf8, encode_utf8_all}
 use Rattle.std.proofs.lemmas.List.{take_more, take_all}
 use Rattle.rl_tokens.specs.Quoted.{unit_text}
-use Rattle.rl_tokens.specs.Written.{closer, written_unit}
+use Rattle.rl_tokens.specs.Written.{written_unit}
 use Rattle.rl_tokens.proofs.WrittenForms.{written_form, all_bytes, bytes_value}
 use Rattle.rl_tokens.proofs.WritingLemmas.{begun, begun_more, begun_whole}
 use Rattle.rl_tokens.proofs.written_into.write_bytes_into.Goals as goal

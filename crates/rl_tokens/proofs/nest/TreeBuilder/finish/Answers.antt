@@ -1,4 +1,3 @@
-use Rattle.rl_tokens.specs.Mirrors.TreeBuilders.{groups_of}
 use Rattle.rl_tokens.proofs.NestLemmas.{ends_in_group}
 use Rattle.rl_tokens.proofs.nest.TreeBuilder.finish.Goals as goal
 
