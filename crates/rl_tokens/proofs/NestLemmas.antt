@@ -1,7 +1,5 @@
 -- The groups that are open, and what was read with them, as trees and groups come and go.
-use Rattle.std.proofs.Common.{◌≡◌, ◌≢◌, ℕ, suc, ◌+◌, ◌-◌, ◌<◌, true, false, ◌==◌, List, [], ◌∷◌, ◌++◌, length, map, reverse, Some, Result, Ok, Err, refl, sym, subst, ◌∙◌, ap, arith, append_assoc}
-use Rattle.std.specs.Result.{IfOk, OnOk, is_ok}
-use Rattle.std.specs.Bool.{if◌then◌else◌}
+use Rattle.std.proofs.Common.{◌≡◌, ◌≢◌, ℕ, suc, ◌+◌, ◌-◌, ◌<◌, true, false, ◌==◌, List, [], ◌∷◌, ◌++◌, length, map, reverse, Some, refl, sym, ◌∙◌, ap, arith, append_assoc}
 use Rattle.std.proofs.lemmas.List.{map-append, reverse-append, length-reverse}
 use Rattle.rl_tokens.specs.declared.span.Span.{Span}
 use Rattle.rl_tokens.specs.declared.nest.GroupBuilder.{GroupBuilder}
@@ -28,17 +26,12 @@ nil_behind : {X : Type 0} (xs : List X) → xs ++ [] ≡ xs
 nil_behind [] = refl
 nil_behind (x ∷ xs) = ap (λ t. x ∷ t) (nil_behind xs)
 
--- what was made is there, where memory wasn't refused
-pub made_then : {T E F P Q : Type 0} (made : Result T E) (result : Result T F) → IfOk result (λ v. made ≡ Ok v) → (P → Q) → OnOk made P → OnOk result Q
-made_then {P = P} made (Ok v) same f p = f (subst (λ r. OnOk r P) same p)
-made_then made (Err e) same f p = tt
-
-pub when_made : {T E X : Type 0} (made : Result T E) (now after before : X) → now ≡ (if is_ok made then after else before) → OnOk made (now ≡ after)
-when_made (Ok v) now after before same = same
-when_made (Err e) now after before same = tt
-
-pub made_value : {T E : Type 0} (P : T → Type 0) (made : Result T E) (value : T) → made ≡ Ok value → IfOk made P → P value
-made_value P made value same p = subst (λ r. IfOk r P) same p
+-- a token by the bytes and the span that it was made of
+pub spanned : (l : SpannedText) (bytes text : List ℕ) (s at : Span) → l ≡ record { text = bytes; span = s } → bytes ≡ text → s ≡ at → l ≡ record { text = text; span = at }
+spanned l bytes text s at e b p =
+    e
+    ∙ ap (λ z. let t : SpannedText = record { text = z; span = s } in t) b
+    ∙ ap (λ z. let t : SpannedText = record { text = text; span = z } in t) p
 
 pub takes_tree : {A : Type 0} (old new : TreeBuilder A) (tree : TokenTree A) → new.opened ≡ old.opened → new.file ≡ old.file → trees_of new.trees ≡ trees_of old.trees ++ tree ∷ [] → TakesTree old new tree
 takes_tree old new tree o f t = record {

@@ -1,6 +1,6 @@
 //! The trees of a text as they grow.
 
-ghost use Rattle.std.specs.Prelude.{◌≡◌, ◌≤◌, ◌+◌, [], vec_len, Ok, OnOk, IfErr, IfOk};
+ghost use Rattle.std.specs.Prelude.{◌≡◌, ◌≤◌, ◌+◌, [], vec_len, OnOk, IfErr, IfOk};
 ghost use Rattle.rl_tokens.specs.Cursors.{form_view};
 ghost use Rattle.rl_tokens.specs.Lexing.{is_opener, delimiter_for};
 
@@ -74,13 +74,19 @@ impl<A: Allocator + Copy> TreeBuilder<A> {
     {
         let span = Span::new(self.file, lo, hi);
         match form {
-            Form::Literal => match or_memory(Literal::from_text(self.alloc, text, span), lo) {
-                Ok(literal) => self.append(TokenTree::Literal(literal), lo),
-                Err(refused) => Err(refused),
+            Form::Literal => match String::from_str(self.alloc, text) {
+                Ok(text) => self.append(TokenTree::Literal(Literal::of_string(text, span)), lo),
+                Err(_) => Err(LexError {
+                    kind: LexKind::Memory,
+                    at: lo,
+                }),
             },
-            Form::Identifier => match or_memory(Ident::new(self.alloc, text, span), lo) {
-                Ok(ident) => self.append(TokenTree::Ident(ident), lo),
-                Err(refused) => Err(refused),
+            Form::Identifier => match String::from_str(self.alloc, text) {
+                Ok(text) => self.append(TokenTree::Ident(Ident::of_string(text, span)), lo),
+                Err(_) => Err(LexError {
+                    kind: LexKind::Memory,
+                    at: lo,
+                }),
             },
             Form::Mark(c) => self.append(TokenTree::Punct(Punct::new(c, span)), lo),
             Form::Delimiter(c) => {
@@ -119,7 +125,13 @@ impl<A: Allocator + Copy> TreeBuilder<A> {
         ensures ok { OnOk result (TakesTree self.old self.new tree) }
         ensures err { IfErr result (λ e. e ≡ record { kind = LexKind.Memory; at = at }) }
     {
-        or_memory(self.trees.append(tree), at)
+        if let Err(_refused) = self.trees.push(tree) {
+            return Err(LexError {
+                kind: LexKind::Memory,
+                at,
+            });
+        }
+        Ok(())
     }
 
     /// The trees that follow stand in a new group, whose opener is at the byte.
@@ -141,7 +153,13 @@ impl<A: Allocator + Copy> TreeBuilder<A> {
             at,
             before,
         };
-        or_memory(self.opened.push(opened), at)
+        if let Err(_refused) = self.opened.push(opened) {
+            return Err(LexError {
+                kind: LexKind::Memory,
+                at,
+            });
+        }
+        Ok(())
     }
 
     /// The innermost group ends with this closer: it is the next tree of the level around it.
@@ -167,20 +185,6 @@ impl<A: Allocator + Copy> TreeBuilder<A> {
         let inside = mem::replace(&mut self.trees, open.before);
         let span = Span::new(self.file, open.at, hi);
         self.append(TokenTree::Group(Group::new(delimiter, inside, span)), lo)
-    }
-}
-
-/// What was made, or that memory for it was refused, reported at the byte; why it was is let go.
-fn or_memory<T, E: Drop>(made: Result<T, E>, at: usize) -> Result<T, LexError>
-    ensures ok { IfOk result (λ value. made ≡ Ok value) }
-    ensures err { IfErr result (λ e. e ≡ record { kind = LexKind.Memory; at = at }) }
-{
-    match made {
-        Ok(value) => Ok(value),
-        Err(_) => Err(LexError {
-            kind: LexKind::Memory,
-            at,
-        }),
     }
 }
 

@@ -158,7 +158,7 @@ fn token<A: Allocator>(text: Result<String<A>, AllocError>) -> Result<Literal<A>
         (λ _. result ≡ Err (memory_at nowhere)) }
 {
     match text {
-        Ok(text) => Ok(Literal::from_string(text)),
+        Ok(text) => Ok(Literal::of_string(text, Span::call_site())),
         Err(_) => Err(Error::memory(Span::call_site())),
     }
 }

@@ -22,13 +22,13 @@ returns-clause-next c =
     c.self.invariant c.in_ok-form.ensures.found c.in_ok-form.ensures.following c.range-text.utf8 c.range-text.ensures.value refl refl c.skip-self-inside.ensures.skipped c.skip-self-inside.ensures.following)
 
 pub overflow_sub-lo : goal.overflow_sub-lo
-overflow_sub-lo c = grind (arith, common_steps)
+overflow_sub-lo c = grind (arith, common_steps) steps 300000
 
 pub overflow_sub-hi : goal.overflow_sub-hi
-overflow_sub-hi c = grind (arith, common_steps)
+overflow_sub-hi c = grind (arith, common_steps) steps 300000
 
 pub overflow_sub-self-inside : goal.overflow_sub-self-inside
-overflow_sub-self-inside c = grind (arith, common_steps)
+overflow_sub-self-inside c = grind (arith, common_steps) steps 300000
 
 pub returns-clause-shorter : goal.returns-clause-shorter
-returns-clause-shorter c = grind (arith, common_steps)
+returns-clause-shorter c = grind (arith, common_steps) steps 300000
