@@ -1,4 +1,5 @@
-use Rattle.std.proofs.Common.{◌∙◌, ap}
+use Rattle.std.proofs.lemmas.Grind.{common_steps}
+use Rattle.std.proofs.Common.{◌∙◌, ap, arith, rules}
 use Rattle.std.proofs.lemmas.Result.{on_ok_weaker}
 use Rattle.rl_tokens.specs.Cursors.{form_view}
 use Rattle.rl_tokens.specs.Puncts.{Mark}
@@ -25,3 +26,30 @@ returns-in-Ok-from_str-clause-ok g c =
     (takes_ident c.args.self.now c.append-in-Ok-from_str.new.self c.of_string-in-Ok-from_str.result (form_view c.args.form) c.args.text.now c.args.lo c.args.hi
     (ap form_view c.in-Identifier.is) (spanned _ _ _ _ _ c.of_string-in-Ok-from_str.ensures c.in-Ok-from_str.ensures.ok c.new-span.ensures))
     c.append-in-Ok-from_str.ensures.ok
+
+pub returns-in-Ok-clause-at : goal.returns-in-Ok-clause-at
+returns-in-Ok-clause-at g c = grind (arith, common_steps) steps 300000
+
+pub returns-in-Ok-clause-kind : goal.returns-in-Ok-clause-kind
+returns-in-Ok-clause-kind g c = grind (arith, common_steps) steps 300000
+
+pub returns-in-Ok-from_str-clause-at : goal.returns-in-Ok-from_str-clause-at
+returns-in-Ok-from_str-clause-at g c = grind (arith, common_steps) steps 300000
+
+pub returns-in-Ok-from_str-clause-kind : goal.returns-in-Ok-from_str-clause-kind
+returns-in-Ok-from_str-clause-kind g c = grind (arith, common_steps) steps 300000
+
+pub returns-then-is_opener-clause-kind : goal.returns-then-is_opener-clause-kind
+returns-then-is_opener-clause-kind g c = grind (arith, common_steps) steps 300000
+
+pub returns-in-Mark-clause-at : goal.returns-in-Mark-clause-at
+returns-in-Mark-clause-at g c = search rules steps 300000
+
+pub returns-in-Mark-clause-kind : goal.returns-in-Mark-clause-kind
+returns-in-Mark-clause-kind g c = search rules steps 300000
+
+pub returns-else-is_opener-clause-ok : goal.returns-else-is_opener-clause-ok
+returns-else-is_opener-clause-ok g c = search rules steps 300000
+
+pub returns-else-is_opener-clause-kind : goal.returns-else-is_opener-clause-kind
+returns-else-is_opener-clause-kind g c = search rules steps 300000
