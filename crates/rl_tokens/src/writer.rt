@@ -4,7 +4,7 @@ ghost use Rattle.std.specs.Prelude.{◌≡◌, ◌⊎◌, ◌<◌, ◌/◌, ◌%
 ghost use Rattle.std.specs.Str.{chars};
 ghost use Rattle.rl_tokens.specs.Quoted.{Hex, Plain, holds_characters, opener, unit_text};
 ghost use Rattle.rl_tokens.specs.Written.{closer, own_quote, upper_digit, is_written_as_number, written_unit, IsWrittenForm};
-ghost use Rattle.rl_tokens.specs.Agreeing.{AreBytesOf};
+ghost use Rattle.rl_tokens.specs.Agreeing.{AreBytesOf, IsQuotedValue};
 ghost use Rattle.rl_tokens.specs.Errors.{memory_at, nowhere};
 
 use crate::c_string::CString;
@@ -116,15 +116,21 @@ fn push_written<A: Allocator>(out: &mut String<A>, kind: Kind, c: char) -> Resul
     }
 }
 
-/// The text of the literal that holds these characters.
-fn text_of_characters<A: Allocator>(alloc: A, value: &str) -> Result<String<A>, AllocError>
-    ensures { IfOk result (λ s. IsWrittenForm Kind.Str (chars value.now) (chars (string_bytes s))) }
+/// The text of a literal that holds characters.
+fn text_of_characters<A: Allocator>(
+    alloc: A,
+    kind: Kind,
+    value: &str,
+) -> Result<String<A>, AllocError>
+    requires kind { IsTrue (holds_characters kind) }
+    requires value { IsQuotedValue kind (chars value.now) }
+    ensures { IfOk result (λ s. IsWrittenForm kind (chars value.now) (chars (string_bytes s))) }
 {
-    let mut text = String::from_str(alloc, opener(Kind::Str))?;
+    let mut text = String::from_str(alloc, opener(kind))?;
     for c in value.chars() {
-        push_written(&mut text, Kind::Str, c)?;
+        push_written(&mut text, kind, c)?;
     }
-    text.push(closer(Kind::Str))?;
+    text.push(closer(kind))?;
     Ok(text)
 }
 
@@ -138,16 +144,6 @@ fn text_of_bytes<A: Allocator>(alloc: A, kind: Kind, value: &[u8]) -> Result<Str
         push_written(&mut text, kind, char::from(*byte))?;
     }
     text.push(closer(kind))?;
-    Ok(text)
-}
-
-/// The text of a literal that holds one character.
-fn text_of_character<A: Allocator>(alloc: A, value: char) -> Result<String<A>, AllocError>
-    ensures { IfOk result (λ s. IsWrittenForm Kind.Char (value ∷ []) (chars (string_bytes s))) }
-{
-    let mut text = String::from_str(alloc, opener(Kind::Char))?;
-    push_written(&mut text, Kind::Char, value)?;
-    text.push(closer(Kind::Char))?;
     Ok(text)
 }
 
@@ -177,7 +173,7 @@ impl<A: Allocator> Literal<A> {
         ensures span { IfOk result (λ l. l.span ≡ nowhere) }
         ensures memory { IfErr result (λ e. e ≡ memory_at nowhere) }
     {
-        token(text_of_characters(alloc, value))
+        token(text_of_characters(alloc, Kind::Str, value))
     }
 
     /// The byte string literal that stands for the bytes, as docs/GRAMMAR.md writes it, at
@@ -233,6 +229,7 @@ impl<A: Allocator> Literal<A> {
         ensures span { IfOk result (λ l. l.span ≡ nowhere) }
         ensures memory { IfErr result (λ e. e ≡ memory_at nowhere) }
     {
-        token(text_of_character(alloc, value))
+        let mut room = [0; 4];
+        token(text_of_characters(alloc, Kind::Char, value.encode_utf8(&mut room)))
     }
 }
