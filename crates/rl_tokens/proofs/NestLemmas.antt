@@ -26,6 +26,13 @@ nil_behind : {X : Type 0} (xs : List X) → xs ++ [] ≡ xs
 nil_behind [] = refl
 nil_behind (x ∷ xs) = ap (λ t. x ∷ t) (nil_behind xs)
 
+-- a token by the bytes and the span that it was made of
+pub spanned : (l : SpannedText) (bytes text : List ℕ) (s at : Span) → l ≡ record { text = bytes; span = s } → bytes ≡ text → s ≡ at → l ≡ record { text = text; span = at }
+spanned l bytes text s at e b p =
+    e
+    ∙ ap (λ z. let t : SpannedText = record { text = z; span = s } in t) b
+    ∙ ap (λ z. let t : SpannedText = record { text = text; span = z } in t) p
+
 pub takes_tree : {A : Type 0} (old new : TreeBuilder A) (tree : TokenTree A) → new.opened ≡ old.opened → new.file ≡ old.file → trees_of new.trees ≡ trees_of old.trees ++ tree ∷ [] → TakesTree old new tree
 takes_tree old new tree o f t = record {
   opened_same = o;

@@ -2,11 +2,15 @@
 use Rattle.std.proofs.Common.{◌≡◌, ℕ, List, [], ◌∷◌, ◌++◌, map, sym, ap, ◌∙◌, append_assoc, append-nil}
 use Rattle.std.specs.Prelude.{encode_utf8, encode_utf8_all}
 use Rattle.std.specs.Str.{chars, IsUtf8}
-use Rattle.std.proofs.lemmas.Str.{encodes-append, chars_from_encodes}
+use Rattle.std.proofs.lemmas.Str.{encodes-append, chars_from_encodes, chars_past_char, chars-nil}
 use Rattle.rl_tokens.specs.declared.kind.Kind.{Kind}
 use Rattle.rl_tokens.specs.declared.kind.Kind.TheVariants.{Str, ByteStr, CStr, Byte, Char, Int, Float, Bool as BoolKind}
 use Rattle.rl_tokens.specs.Quoted.{opener, unit_text, texts}
 use Rattle.rl_tokens.specs.Written.{closer, written_unit, written_text}
+
+-- the bytes of one character spell it
+pub one_character : (c : ℕ) (bytes : List ℕ) → IsUtf8 bytes → bytes ≡ encode_utf8 c → chars bytes ≡ c ∷ []
+one_character c bytes u e = chars_past_char bytes [] c u (e ∙ sym (append-nil (encode_utf8 c))) ∙ ap (λ z. c ∷ z) chars-nil
 
 -- the opener, and these characters as they are written
 abbrev pub begun : Kind → List ℕ → List ℕ

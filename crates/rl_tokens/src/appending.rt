@@ -25,8 +25,10 @@ pub fn append_literal<A: Allocator, B: Allocator>(
     ensures unchanged { OnErr result (stream_view tokens.new ≡ stream_view tokens.old) }
     ensures memory { IfErr result (λ e. e ≡ memory_at token.now.span) }
 {
-    let copy = token.clone(alloc)?;
-    append_tree(TokenTree::Literal(copy), tokens)
+    match token.clone(alloc) {
+        Ok(copy) => append_tree(TokenTree::Literal(copy), tokens),
+        Err(refused) => Err(refused),
+    }
 }
 
 /// Puts the identifier last.

@@ -138,7 +138,8 @@ impl<'t> Tokens<'t> {
             return None;
         }
         let kind = error_kind(self.rest);
-        Some(LexError::new(kind, self.text.len() - self.rest.len()))
+        let at = self.text.len() - self.rest.len();
+        Some(LexError { kind, at })
     }
 
     /// What is left of the text, after white space and comments: empty at its end, or where a

@@ -1,6 +1,6 @@
 //! Identifiers.
 
-ghost use Rattle.std.specs.Prelude.{◌≡◌, IsTrue, IfOk, IfErr};
+ghost use Rattle.std.specs.Prelude.{◌≡◌, IsTrue, IfOk, IfErr, string_bytes};
 ghost use Rattle.std.specs.Str.{chars};
 ghost use Rattle.unicode_ident.specs.Ident.{is_xid_start, is_xid_continue};
 ghost use Rattle.std.specs.List.{list_all};
@@ -80,6 +80,14 @@ impl<A: Allocator> Ident<A> {
             Ok(text) => Ok(Ident { text, span }),
             Err(_) => Err(Error::memory(span)),
         }
+    }
+
+    /// The token of this text, which is an identifier, and span.
+    pub(crate) fn of_string(text: String<A>, span: Span) -> Ident<A>
+        requires { IsTrue (xid_ok (chars (string_bytes text))) }
+        ensures { result ≡ record { text = string_bytes text; span = span } }
+    {
+        Ident { text, span }
     }
 
     /// The text, an identifier ([`xid_ok`]), borrowed.

@@ -44,15 +44,6 @@ pub enum LexKind {
     Memory,
 }
 
-impl LexError {
-    /// This error at this byte.
-    pub(crate) fn new(kind: LexKind, at: usize) -> LexError
-        ensures { result ≡ record { kind = kind; at = at } }
-    {
-        LexError { kind, at }
-    }
-}
-
 impl LexKind {
     /// The words of the error.
     pub(crate) fn words(self) -> &'static str

@@ -1,7 +1,7 @@
 //! Literal tokens.
 
 ghost use Rattle.std.specs.Prelude.{◌≡◌, ◌∷◌, IfOk, IfErr, Some, string_bytes};
-ghost use Rattle.rl_tokens.specs.Errors.{memory_at, nowhere};
+ghost use Rattle.rl_tokens.specs.Errors.{memory_at};
 
 use crate::error::Error;
 use crate::span::Span;
@@ -77,14 +77,11 @@ impl<A: Allocator> Literal<A> {
         Ok(Literal { text, span })
     }
 
-    /// The token with this text, at no place.
-    pub(crate) fn from_string(text: String<A>) -> Literal<A>
-        ensures { result ≡ record { text = string_bytes text; span = nowhere } }
+    /// The token of this text and span.
+    pub(crate) fn of_string(text: String<A>, span: Span) -> Literal<A>
+        ensures { result ≡ record { text = string_bytes text; span = span } }
     {
-        Literal {
-            text,
-            span: Span::call_site(),
-        }
+        Literal { text, span }
     }
 
     /// The text as it was given, quotes and suffix included.

@@ -74,13 +74,19 @@ impl<A: Allocator + Copy> TreeBuilder<A> {
     {
         let span = Span::new(self.file, lo, hi);
         match form {
-            Form::Literal => match Literal::from_text(self.alloc, text, span) {
-                Ok(literal) => self.append(TokenTree::Literal(literal), lo),
-                Err(_) => Err(LexError::new(LexKind::Memory, lo)),
+            Form::Literal => match String::from_str(self.alloc, text) {
+                Ok(text) => self.append(TokenTree::Literal(Literal::of_string(text, span)), lo),
+                Err(_) => Err(LexError {
+                    kind: LexKind::Memory,
+                    at: lo,
+                }),
             },
-            Form::Identifier => match Ident::new(self.alloc, text, span) {
-                Ok(ident) => self.append(TokenTree::Ident(ident), lo),
-                Err(_) => Err(LexError::new(LexKind::Memory, lo)),
+            Form::Identifier => match String::from_str(self.alloc, text) {
+                Ok(text) => self.append(TokenTree::Ident(Ident::of_string(text, span)), lo),
+                Err(_) => Err(LexError {
+                    kind: LexKind::Memory,
+                    at: lo,
+                }),
             },
             Form::Mark(c) => self.append(TokenTree::Punct(Punct::new(c, span)), lo),
             Form::Delimiter(c) => {
@@ -105,7 +111,10 @@ impl<A: Allocator + Copy> TreeBuilder<A> {
             ..
         } = self;
         match opened.pop() {
-            Some(innermost) => Err(LexError::new(LexKind::UnclosedGroup, innermost.at)),
+            Some(innermost) => Err(LexError {
+                kind: LexKind::UnclosedGroup,
+                at: innermost.at,
+            }),
             None => Ok(trees),
         }
     }
@@ -116,8 +125,11 @@ impl<A: Allocator + Copy> TreeBuilder<A> {
         ensures ok { OnOk result (TakesTree self.old self.new tree) }
         ensures err { IfErr result (λ e. e ≡ record { kind = LexKind.Memory; at = at }) }
     {
-        if let Err(_refused) = self.trees.append(tree) {
-            return Err(LexError::new(LexKind::Memory, at));
+        if let Err(_refused) = self.trees.push(tree) {
+            return Err(LexError {
+                kind: LexKind::Memory,
+                at,
+            });
         }
         Ok(())
     }
@@ -130,7 +142,10 @@ impl<A: Allocator + Copy> TreeBuilder<A> {
         ensures kind { IfErr result (λ e. RejectsOpener (groups_of self.old) e.kind) }
     {
         if self.opened.len() >= MAX_OPEN {
-            return Err(LexError::new(LexKind::TooDeep, at));
+            return Err(LexError {
+                kind: LexKind::TooDeep,
+                at,
+            });
         }
         let before = mem::replace(&mut self.trees, TokenStream::new(self.alloc));
         let opened = GroupBuilder {
@@ -139,7 +154,10 @@ impl<A: Allocator + Copy> TreeBuilder<A> {
             before,
         };
         if let Err(_refused) = self.opened.push(opened) {
-            return Err(LexError::new(LexKind::Memory, at));
+            return Err(LexError {
+                kind: LexKind::Memory,
+                at,
+            });
         }
         Ok(())
     }
@@ -153,10 +171,16 @@ impl<A: Allocator + Copy> TreeBuilder<A> {
         ensures kind { IfErr result (λ e. RejectsCloser (groups_of self.old) delimiter e.kind) }
     {
         let Some(open) = self.opened.pop() else {
-            return Err(LexError::new(LexKind::UnmatchedClose, lo));
+            return Err(LexError {
+                kind: LexKind::UnmatchedClose,
+                at: lo,
+            });
         };
         if open.delimiter != delimiter {
-            return Err(LexError::new(LexKind::UnmatchedClose, lo));
+            return Err(LexError {
+                kind: LexKind::UnmatchedClose,
+                at: lo,
+            });
         }
         let inside = mem::replace(&mut self.trees, open.before);
         let span = Span::new(self.file, open.at, hi);

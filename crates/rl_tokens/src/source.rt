@@ -83,11 +83,18 @@ fn other_token(text: &str) -> Option<(SourceForm, &str)>
     ensures shorter { IfSome result (λ p. length p.1.now < length text.now) }
 {
     match split_char(text) {
-        Some(('/', following)) => Some((SourceForm::DocComment, after_doc(following)?)),
-        Some(('\'', following)) => Some((SourceForm::Lifetime, after_lifetime(following)?)),
-        Some(('r', following)) => Some((SourceForm::RawIdentifier, after_marked(following)?)),
+        Some(('/', following)) => ended(SourceForm::DocComment, after_doc(following)),
+        Some(('\'', following)) => ended(SourceForm::Lifetime, after_lifetime(following)),
+        Some(('r', following)) => ended(SourceForm::RawIdentifier, after_marked(following)),
         _ => None,
     }
+}
+
+/// A token of the form, with what follows it, where its end was found.
+fn ended(form: SourceForm, following: Option<&str>) -> Option<(SourceForm, &str)>
+    ensures { result ≡ option_map (λ rest. (form, rest)) following.entry }
+{
+    Some((form, following?))
 }
 
 /// What follows a doc comment, by what stands after its first slash: of a line its LF.

@@ -122,7 +122,8 @@ impl<'t> Sources<'t> {
             return None;
         }
         let kind = source_error_kind(self.rest);
-        Some(LexError::new(kind, self.text.len() - self.rest.len()))
+        let at = self.text.len() - self.rest.len();
+        Some(LexError { kind, at })
     }
 
     /// What is left of the text, after white space and comments: empty at its end, else a token or

@@ -9,7 +9,7 @@ use crate::kept::Kept;
 use crate::literal::Literal;
 use crate::punct::Punct;
 use crate::span::Span;
-use std::alloc::{Allocator, Global};
+use std::alloc::{AllocFailed, Allocator, Global};
 
 /// How a group is delimited.
 ///
@@ -215,7 +215,7 @@ impl<A: Allocator> TokenStream<A> {
         ensures kept { IfErr result (λ kept. kept.value ≡ tree) }
         ensures memory { IfErr result (λ kept. kept.error ≡ memory_at (token_tree_span tree)) }
     {
-        match self.trees.push(tree) {
+        match self.push(tree) {
             Ok(()) => Ok(()),
             Err(failed) => {
                 let value = failed.value;
@@ -223,6 +223,15 @@ impl<A: Allocator> TokenStream<A> {
                 Err(Kept { value, error })
             }
         }
+    }
+
+    /// Puts the tree last. Where an allocation fails, the stream stays, and the tree is handed back.
+    pub(crate) fn push(&mut self, tree: TokenTree<A>) -> Result<(), AllocFailed<TokenTree<A>>>
+        ensures ok { OnOk result (trees_of self.new ≡ trees_of self.old ++ tree ∷ []) }
+        ensures unchanged { OnErr result (trees_of self.new ≡ trees_of self.old) }
+        ensures kept { IfErr result (λ failed. failed.value ≡ tree) }
+    {
+        self.trees.push(tree)
     }
 
     /// The trees, in their order.

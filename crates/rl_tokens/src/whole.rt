@@ -84,7 +84,9 @@ pub fn parse_all<T: Parse<A> + Drop, A: Allocator + Copy>(
     ensures parsed { IfOk result (ParsesAll T.runs text.now file) }
     ensures rejected { IfErr result (RejectsAll T.runs text.now file) }
 {
-    let stream = trees_of_text(alloc, text, file)?;
     let end = Span::new(file, text.len(), text.len());
-    parse_trees(alloc, &stream, end)
+    match trees_of_text(alloc, text, file) {
+        Ok(stream) => parse_trees(alloc, &stream, end),
+        Err(error) => Err(error),
+    }
 }

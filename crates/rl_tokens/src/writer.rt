@@ -1,10 +1,10 @@
 //! How values are written as literals.
 
-ghost use Rattle.std.specs.Prelude.{◌≡◌, ◌⊎◌, ◌<◌, ◌/◌, ◌%◌, ◌++◌, ◌∷◌, [], IsTrue, OnOk, IfOk, IfErr, MatchResult, string_bytes, encode_utf8_all};
+ghost use Rattle.std.specs.Prelude.{◌≡◌, ◌⊎◌, ◌<◌, ◌/◌, ◌%◌, ◌++◌, ◌∷◌, [], length, IsTrue, if◌then◌else◌, OnOk, IfOk, IfErr, IfSome, IfNone, MatchResult, string_bytes, encode_utf8_all};
 ghost use Rattle.std.specs.Str.{chars};
-ghost use Rattle.rl_tokens.specs.Quoted.{holds_characters, opener, unit_text};
-ghost use Rattle.rl_tokens.specs.Written.{closer, upper_digit, is_written_as_number, written_unit, IsWrittenForm};
-ghost use Rattle.rl_tokens.specs.Agreeing.{AreBytesOf};
+ghost use Rattle.rl_tokens.specs.Quoted.{Hex, Plain, holds_characters, opener, unit_text};
+ghost use Rattle.rl_tokens.specs.Written.{closer, own_quote, upper_digit, is_written_as_number, written_unit, IsWrittenForm};
+ghost use Rattle.rl_tokens.specs.Agreeing.{AreBytesOf, IsQuotedValue};
 ghost use Rattle.rl_tokens.specs.Errors.{memory_at, nowhere};
 
 use crate::c_string::CString;
@@ -36,6 +36,37 @@ pub(crate) fn opener(kind: Kind) -> &'static str
         Kind::Byte => "b'",
         Kind::Char => "'",
         _ => "",
+    }
+}
+
+/// The quote that ends a literal of the kind, behind a backslash.
+fn escaped_closer(kind: Kind) -> &'static str
+    ensures { result.now ≡ unit_text (own_quote kind) }
+{
+    match kind {
+        Kind::Byte | Kind::Char => "\\'",
+        _ => "\\\"",
+    }
+}
+
+/// What a character or a byte is written as in a literal of the kind, where that is a backslash and one character.
+#[inline(always)]
+#[tactic(auto, unfolding(crate::specs::Written::written_unit))]
+pub(crate) fn escaped(kind: Kind, c: char) -> Option<&'static str>
+    ensures some { IfSome result
+        (λ text. text.now ≡ encode_utf8_all (unit_text (written_unit kind c))) }
+    ensures two { IfSome result (λ text. length text.now ≡ 2) }
+    ensures none { IfNone result (written_unit kind c
+        ≡ (if is_written_as_number kind c then Hex (upper_digit (c / 16)) (upper_digit (c % 16)) else Plain c)) }
+{
+    match c {
+        '\0' => Some("\\0"),
+        '\t' => Some("\\t"),
+        '\n' => Some("\\n"),
+        '\r' => Some("\\r"),
+        '\\' => Some("\\\\"),
+        _ if c == closer(kind) => Some(escaped_closer(kind)),
+        _ => None,
     }
 }
 
@@ -73,36 +104,33 @@ fn push_number<A: Allocator>(out: &mut String<A>, code: u32) -> Result<(), Alloc
 }
 
 /// Writes a character or a byte as it stands in a literal of the kind.
-#[tactic(auto, unfolding(crate::specs::Written::written_unit))]
 fn push_written<A: Allocator>(out: &mut String<A>, kind: Kind, c: char) -> Result<(), AllocError>
     requires { IsTrue (holds_characters kind) ⊎ (c < 256) }
     ensures { OnOk result (string_bytes out.new
         ≡ string_bytes out.old ++ encode_utf8_all (unit_text (written_unit kind c))) }
 {
-    match c {
-        '\0' => out.push_str("\\0"),
-        '\t' => out.push_str("\\t"),
-        '\n' => out.push_str("\\n"),
-        '\r' => out.push_str("\\r"),
-        '\\' => out.push_str("\\\\"),
-        _ if c == closer(kind) => {
-            out.push('\\')?;
-            out.push(c)
-        }
-        _ if is_written_as_number(kind, c) => push_number(out, c as u32),
-        _ => out.push(c),
+    match escaped(kind, c) {
+        Some(text) => out.push_str(text),
+        None if is_written_as_number(kind, c) => push_number(out, c as u32),
+        None => out.push(c),
     }
 }
 
-/// The text of the literal that holds these characters.
-fn text_of_characters<A: Allocator>(alloc: A, value: &str) -> Result<String<A>, AllocError>
-    ensures { IfOk result (λ s. IsWrittenForm Kind.Str (chars value.now) (chars (string_bytes s))) }
+/// The text of a literal that holds characters.
+fn text_of_characters<A: Allocator>(
+    alloc: A,
+    kind: Kind,
+    value: &str,
+) -> Result<String<A>, AllocError>
+    requires kind { IsTrue (holds_characters kind) }
+    requires value { IsQuotedValue kind (chars value.now) }
+    ensures { IfOk result (λ s. IsWrittenForm kind (chars value.now) (chars (string_bytes s))) }
 {
-    let mut text = String::from_str(alloc, opener(Kind::Str))?;
+    let mut text = String::from_str(alloc, opener(kind))?;
     for c in value.chars() {
-        push_written(&mut text, Kind::Str, c)?;
+        push_written(&mut text, kind, c)?;
     }
-    text.push(closer(Kind::Str))?;
+    text.push(closer(kind))?;
     Ok(text)
 }
 
@@ -119,16 +147,6 @@ fn text_of_bytes<A: Allocator>(alloc: A, kind: Kind, value: &[u8]) -> Result<Str
     Ok(text)
 }
 
-/// The text of a literal that holds one character.
-fn text_of_character<A: Allocator>(alloc: A, value: char) -> Result<String<A>, AllocError>
-    ensures { IfOk result (λ s. IsWrittenForm Kind.Char (value ∷ []) (chars (string_bytes s))) }
-{
-    let mut text = String::from_str(alloc, opener(Kind::Char))?;
-    push_written(&mut text, Kind::Char, value)?;
-    text.push(closer(Kind::Char))?;
-    Ok(text)
-}
-
 /// The token of a written text, at no place.
 fn token<A: Allocator>(text: Result<String<A>, AllocError>) -> Result<Literal<A>, Error<A>>
     ensures value { MatchResult text
@@ -136,7 +154,7 @@ fn token<A: Allocator>(text: Result<String<A>, AllocError>) -> Result<Literal<A>
         (λ _. result ≡ Err (memory_at nowhere)) }
 {
     match text {
-        Ok(text) => Ok(Literal::from_string(text)),
+        Ok(text) => Ok(Literal::of_string(text, Span::call_site())),
         Err(_) => Err(Error::memory(Span::call_site())),
     }
 }
@@ -155,7 +173,7 @@ impl<A: Allocator> Literal<A> {
         ensures span { IfOk result (λ l. l.span ≡ nowhere) }
         ensures memory { IfErr result (λ e. e ≡ memory_at nowhere) }
     {
-        token(text_of_characters(alloc, value))
+        token(text_of_characters(alloc, Kind::Str, value))
     }
 
     /// The byte string literal that stands for the bytes, as docs/GRAMMAR.md writes it, at
@@ -211,6 +229,7 @@ impl<A: Allocator> Literal<A> {
         ensures span { IfOk result (λ l. l.span ≡ nowhere) }
         ensures memory { IfErr result (λ e. e ≡ memory_at nowhere) }
     {
-        token(text_of_character(alloc, value))
+        let mut room = [0; 4];
+        token(text_of_characters(alloc, Kind::Char, value.encode_utf8(&mut room)))
     }
 }

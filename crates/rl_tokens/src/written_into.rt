@@ -9,7 +9,7 @@ ghost use Rattle.rl_tokens.specs.Agreeing.{AreBytesOf};
 use crate::kind::Kind;
 use crate::room::{put_char, put_text};
 use crate::text::split_char;
-use crate::writer::{closer, is_written_as_number, opener, upper_digit};
+use crate::writer::{closer, escaped, is_written_as_number, opener, upper_digit};
 
 /// Puts `\x` and two digits there.
 fn put_number(out: &mut [u8], at: usize, code: u32) -> usize
@@ -27,21 +27,7 @@ fn put_number(out: &mut [u8], at: usize, code: u32) -> usize
     put_char(out, at, upper_digit(code % 16))
 }
 
-/// Puts a backslash and the quote there that ends a literal of the kind.
-fn put_own_quote(out: &mut [u8], at: usize, quote: char) -> usize
-    requires quote { quote < 128 }
-    requires room { at + 2 ≤ length out.old }
-    ensures end { result ≡ at + 2 }
-    ensures bytes { take result out.new ≡ take at out.old ++ 92 ∷ quote ∷ [] }
-    ensures utf8 { IsUtf8 (take at out.old) → IsUtf8 (take result out.new) }
-    ensures len { length out.new ≡ length out.old }
-{
-    let at = put_text(out, at, "\\");
-    put_char(out, at, quote)
-}
-
 /// Puts a character or a byte there as it stands in a literal of the kind.
-#[tactic(auto, unfolding(crate::specs::Written::written_unit))]
 fn put_written(out: &mut [u8], at: usize, kind: Kind, c: char) -> usize
     requires kind { IsTrue (holds_characters kind) ⊎ (c < 256) }
     requires room { at + 4 ≤ length out.old }
@@ -51,15 +37,10 @@ fn put_written(out: &mut [u8], at: usize, kind: Kind, c: char) -> usize
     ensures utf8 { IsUtf8 (take at out.old) → IsUtf8 (take result out.new) }
     ensures len { length out.new ≡ length out.old }
 {
-    match c {
-        '\0' => put_text(out, at, "\\0"),
-        '\t' => put_text(out, at, "\\t"),
-        '\n' => put_text(out, at, "\\n"),
-        '\r' => put_text(out, at, "\\r"),
-        '\\' => put_text(out, at, "\\\\"),
-        _ if c == closer(kind) => put_own_quote(out, at, c),
-        _ if is_written_as_number(kind, c) => put_number(out, at, c as u32),
-        _ => put_char(out, at, c),
+    match escaped(kind, c) {
+        Some(text) => put_text(out, at, text),
+        None if is_written_as_number(kind, c) => put_number(out, at, c as u32),
+        None => put_char(out, at, c),
     }
 }
 

@@ -5,7 +5,7 @@ use Rattle.std.proofs.Common.{suc, zero, Option, Some, None}
 use Rattle.std.specs.Char.{is_ascii_digit}
 use Rattle.std.specs.Option.{option_map}
 use Prim.Native.Char.{code}
-use Rattle.rl_tokens.specs.Texts.{is_underscore, is_white, is_among, first_passes, begins, is_row_part}
+use Rattle.rl_tokens.specs.Texts.{is_underscore, is_among, first_passes, begins, is_row_part}
 use Rattle.rl_tokens.specs.Lexemes.{is_base_letter, delimiters, begins_hashes, begins_dot, LexemeForm, LiteralForm, IdentifierForm, DelimiterForm, MarkForm, form_of, Lexeme, lexeme_text, IsLexeme, is_start, is_continue}
 use Rattle.rl_tokens.specs.Lexing.{begins_lifetime}
 use Rattle.rl_tokens.specs.Puncts.{is_punct}

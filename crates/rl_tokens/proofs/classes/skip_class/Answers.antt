@@ -1,4 +1,5 @@
-use Rattle.std.proofs.Common.{◌∙◌, sym, rules}
+use Rattle.std.proofs.lemmas.Grind.{common_steps}
+use Rattle.std.proofs.Common.{◌∙◌, sym, rules, arith}
 use Rattle.std.specs.Str.{chars}
 use Rattle.rl_tokens.specs.Classes.{class_test}
 use Rattle.rl_tokens.proofs.BehindLemmas.{behind_step}
@@ -16,3 +17,9 @@ returns-clause-following c = behind_step c.args.text.now c.loop-byte.rest.now c.
 
 pub returns-then-not-is_of-clause-rest : goal.returns-then-not-is_of-clause-rest
 returns-then-not-is_of-clause-rest c = search rules steps 300000
+
+pub returns-then-not-is_of-clause-shorter : goal.returns-then-not-is_of-clause-shorter
+returns-then-not-is_of-clause-shorter c = grind (arith, common_steps) steps 300000
+
+pub returns-clause-shorter : goal.returns-clause-shorter
+returns-clause-shorter c = grind (arith, common_steps) steps 300000

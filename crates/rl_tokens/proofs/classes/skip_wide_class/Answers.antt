@@ -1,4 +1,5 @@
-use Rattle.std.proofs.Common.{◌∙◌, sym}
+use Rattle.std.proofs.lemmas.Grind.{common_steps}
+use Rattle.std.proofs.Common.{◌∙◌, sym, arith}
 use Rattle.std.specs.Str.{chars}
 use Rattle.rl_tokens.specs.Classes.{class_test}
 use Rattle.rl_tokens.proofs.BehindLemmas.{behind_step}
@@ -10,3 +11,6 @@ loop-c-preserved c = record {
   following = behind_step c.args.text.now c.loop-c.rest.now c.in-Some.following.now c.loop-c.invariant.following c.in-Some.ensures.following;
   same = row_step (class_test c.args.class) (chars c.loop-c.rest.now) (chars c.in-Some.following.now) c.in-Some.c c.in-Some.ensures.chars (sym c.if-not-is_of.ensures) ∙ c.loop-c.invariant.same;
 }
+
+pub returns-then-not-is_of-clause-shorter : goal.returns-then-not-is_of-clause-shorter
+returns-then-not-is_of-clause-shorter c = grind (arith, common_steps) steps 300000

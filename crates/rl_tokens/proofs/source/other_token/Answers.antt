@@ -1,8 +1,20 @@
-use Rattle.std.proofs.Common.{arith}
-use Rattle.std.proofs.lemmas.Grind.{common_steps}
+use Rattle.rl_tokens.proofs.BehindLemmas.{mapped, mapped_behind, some_nearer}
 use Rattle.rl_tokens.proofs.source.other_token.Goals as goal
-use Rattle.rl_tokens.proofs.source.other_token.Goals.{in_default-via-in-Some+in_default, in_default-via-in_default}
 
-pub returns-in_default-clause-rest : goal.returns-in_default-clause-rest
-returns-in_default-clause-rest c =
-    elim c.in_default.branch [ in_default-via-in-Some+in_default w ↦ grind (arith, common_steps) | in_default-via-in_default w ↦ grind (arith, common_steps) ]
+pub returns-in-Some-eq47-default-clause-following : goal.returns-in-Some-eq47-default-clause-following
+returns-in-Some-eq47-default-clause-following c = mapped_behind _ _ c.args.text.now c.in-Some-eq47-default.following.now c.after_doc.result c.ended.result c.ended.ensures c.in-Some-eq47-default.ensures.following c.after_doc.ensures.following
+
+pub returns-in-Some-eq47-default-clause-shorter : goal.returns-in-Some-eq47-default-clause-shorter
+returns-in-Some-eq47-default-clause-shorter c = some_nearer _ c.args.text.now c.in-Some-eq47-default.following.now c.ended.result c.in-Some-eq47-default.ensures.shorter (mapped _ _ c.after_doc.result c.ended.result c.ended.ensures c.after_doc.ensures.following)
+
+pub returns-in-Some-eq39-default-clause-following : goal.returns-in-Some-eq39-default-clause-following
+returns-in-Some-eq39-default-clause-following c = mapped_behind _ _ c.args.text.now c.in-Some-eq39-default.following.now c.after_lifetime.result c.ended-in-Some-eq39-default.result c.ended-in-Some-eq39-default.ensures c.in-Some-eq39-default.ensures.following c.after_lifetime.ensures.following
+
+pub returns-in-Some-eq39-default-clause-shorter : goal.returns-in-Some-eq39-default-clause-shorter
+returns-in-Some-eq39-default-clause-shorter c = some_nearer _ c.args.text.now c.in-Some-eq39-default.following.now c.ended-in-Some-eq39-default.result c.in-Some-eq39-default.ensures.shorter (mapped _ _ c.after_lifetime.result c.ended-in-Some-eq39-default.result c.ended-in-Some-eq39-default.ensures c.after_lifetime.ensures.following)
+
+pub returns-in-Some-r-default-clause-following : goal.returns-in-Some-r-default-clause-following
+returns-in-Some-r-default-clause-following c = mapped_behind _ _ c.args.text.now c.in-Some-r-default.following.now c.after_marked.result c.ended-in-Some-r-default.result c.ended-in-Some-r-default.ensures c.in-Some-r-default.ensures.following c.after_marked.ensures.following
+
+pub returns-in-Some-r-default-clause-shorter : goal.returns-in-Some-r-default-clause-shorter
+returns-in-Some-r-default-clause-shorter c = some_nearer _ c.args.text.now c.in-Some-r-default.following.now c.ended-in-Some-r-default.result c.in-Some-r-default.ensures.shorter (mapped _ _ c.after_marked.result c.ended-in-Some-r-default.result c.ended-in-Some-r-default.ensures c.after_marked.ensures.following)

@@ -1,8 +1,9 @@
+use Rattle.std.proofs.lemmas.Grind.{common_steps}
 use Rattle.std.proofs.Common.{◌≡◌, ◌++◌, ◌∙◌, sym, ap, subst, List, ℕ, take, get_or, rules, arith}
 use Rattle.std.specs.Prelude.{encode_utf8, encode_utf8_all}
 use Rattle.std.proofs.lemmas.List.{take_more, take_all}
 use Rattle.rl_tokens.specs.Quoted.{unit_text}
-use Rattle.rl_tokens.specs.Written.{closer, written_unit}
+use Rattle.rl_tokens.specs.Written.{written_unit}
 use Rattle.rl_tokens.proofs.WrittenForms.{written_form, all_bytes, bytes_value}
 use Rattle.rl_tokens.proofs.WritingLemmas.{begun, begun_more, begun_whole}
 use Rattle.rl_tokens.proofs.written_into.write_bytes_into.Goals as goal
@@ -30,3 +31,18 @@ returns-clause-written c =
     let pushed = c.put_char.ensures.bytes ∙ ap (λ z. take l.at l.out ++ encode_utf8 z) c.closer.ensures.value in
     written_form c.args.kind _ _ (bytes_value c.args.kind value c.requires.bytes (all_bytes value (λ i l. omega (arith, c.type_inv.value i))))
     (begun_whole _ _ _ (take l.byte-index value) value l.invariant.passed pushed (take_all l.byte-index value (omega arith)) (c.put_char.ensures.utf8 l.invariant.text))
+
+pub loop-byte-init : goal.loop-byte-init
+loop-byte-init c = grind (arith, common_steps) steps 300000
+
+pub put_written-at-requires-clause-kind : goal.put_written-at-requires-clause-kind
+put_written-at-requires-clause-kind c = grind (arith, common_steps) steps 300000
+
+pub put_char-requires : goal.put_char-requires
+put_char-requires c = grind (arith, common_steps) steps 300000
+
+pub returns-clause-utf8 : goal.returns-clause-utf8
+returns-clause-utf8 c = grind (arith, common_steps) steps 300000
+
+pub returns-clause-within : goal.returns-clause-within
+returns-clause-within c = grind (arith, common_steps) steps 300000

@@ -1,9 +1,6 @@
-use Rattle.std.proofs.Common.{sym, subst}
-use Rattle.rl_tokens.specs.declared.lex_error.LexError.{LexError}
-use Rattle.rl_tokens.specs.Mirrors.TreeBuilders.{groups_of, EndsInGroup}
 use Rattle.rl_tokens.proofs.NestLemmas.{ends_in_group}
 use Rattle.rl_tokens.proofs.nest.TreeBuilder.finish.Goals as goal
 
 pub returns-in-Some-clause-err : goal.returns-in-Some-clause-err
 returns-in-Some-clause-err g c =
-    subst (λ (e : LexError). EndsInGroup (groups_of c.args.self) e) (sym c.new.ensures) (ends_in_group c.args.self c.pop.new.self.items c.in-Some.innermost c.in-Some.ensures.items)
+    ends_in_group c.args.self c.pop.new.self.items c.in-Some.innermost c.in-Some.ensures.items

@@ -1,4 +1,5 @@
-use Rattle.std.proofs.Common.{refl}
+use Rattle.std.proofs.lemmas.Grind.{common_steps}
+use Rattle.std.proofs.Common.{refl, arith}
 use Rattle.rl_tokens.proofs.BehindLemmas.{cut_boundary, if_none}
 use Rattle.rl_tokens.proofs.CursorLemmas.{still_cutting}
 use Rattle.rl_tokens.proofs.SourceCuts.{takes_source}
@@ -19,3 +20,15 @@ returns-clause-next c =
     rw (← c.self.view_is)
     (takes_source c.self.inside.text.now c.self.inside.rest.now c.in_ok-form.following.now c.skip-self-inside.result.now _
     c.self.invariant c.in_ok-form.ensures.found c.in_ok-form.ensures.following c.range-text.utf8 c.range-text.ensures.value refl refl c.skip-self-inside.ensures.skipped c.skip-self-inside.ensures.following)
+
+pub overflow_sub-lo : goal.overflow_sub-lo
+overflow_sub-lo c = grind (arith, common_steps) steps 300000
+
+pub overflow_sub-hi : goal.overflow_sub-hi
+overflow_sub-hi c = grind (arith, common_steps) steps 300000
+
+pub overflow_sub-self-inside : goal.overflow_sub-self-inside
+overflow_sub-self-inside c = grind (arith, common_steps) steps 300000
+
+pub returns-clause-shorter : goal.returns-clause-shorter
+returns-clause-shorter c = grind (arith, common_steps) steps 300000
