@@ -74,3 +74,12 @@ loop-next-preserved c = let l = c.loop-next in record {
   small = l.invariant.small;
   shorter = omega (arith, l.invariant.shorter, c.in-Some.ensures.shorter);
 }
+
+pub loop-next-smaller-in-Some-to_digit : goal.loop-next-smaller-in-Some-to_digit
+loop-next-smaller-in-Some-to_digit c = c.in-Some.ensures.shorter
+
+pub loop-next-smaller : goal.loop-next-smaller
+loop-next-smaller c = c.in-Some.ensures.shorter
+
+pub overflow_add-digits : goal.overflow_add-digits
+overflow_add-digits c = omega (arith, c.loop-next.invariant.few)

@@ -1,5 +1,5 @@
-use Rattle.rl_grammar.specs.Mirrors.UnitFlawAt.{digits_flaw_at}
 -- At most five digits stand before the next one, so the value is below 16 to the fifth.
+use Rattle.rl_grammar.specs.Mirrors.UnitFlawAt.{digits_flaw_at}
 use Rattle.std.proofs.Common.{◌≡◌, ◌≢◌, ℕ, ◌+◌, ◌*◌, ◌<◌, ◌≤◌, ◌^◌, Bool, true, false, List, ◌∷◌, refl, sym, ap, ap₂, ◌∙◌, arith, rules}
 use Rattle.std.proofs.Math.Nat.{pow-le-pow_right}
 use Rattle.std.proofs.lemmas.Grind.{common_steps}
@@ -41,6 +41,14 @@ other_here : (kind : Kind) (v n c : ℕ) (cs : List ℕ) → (digit_value c < 16
 unfolding digits_flaw_at
 other_here kind v n c cs none brace mark = rw (le-ltb (digit_value c) 16 (omega arith), ne_eqb c 125 brace, ne_eqb c 95 mark) refl
 
+mark_here : (kind : Kind) (v n c : ℕ) (cs : List ℕ) → (digit_value c < 16 → ⊥) → c ≡ 95 → digits_flaw_at kind v n (c ∷ cs) ≡ digits_flaw_at kind v n cs
+unfolding digits_flaw_at
+mark_here kind v n c cs none mark = rw (le-ltb (digit_value c) 16 (omega arith), mark) refl
+
+brace_here : (kind : Kind) (v n c : ℕ) (cs : List ℕ) → (digit_value c < 16 → ⊥) → c ≡ 125 → digits_flaw_at kind v n (c ∷ cs) ≡ found_flaw (code_flaw_of v) (c ∷ cs)
+unfolding digits_flaw_at
+brace_here kind v n c cs none brace = rw (le-ltb (digit_value c) 16 (omega arith), brace) refl
+
 grows : (v n d : ℕ) → v < 16 ^ n → d < 16 → v * 16 + d < 16 ^ (n + 1)
 grows v n d small digit = grind (arith, common_steps)
 
@@ -56,22 +64,6 @@ overflow_add-value c =
     let bound : 16 ^ c.loop-next.digits ≤ 16 ^ 5 = pow-le-pow_right (omega arith) five in
     let digit_small : c.in-Some-to_digit.digit < 16 = grind (arith, common_steps) in
     omega arith
-
-pub returns-then-next-eq125 : goal.returns-then-next-eq125
-unfolding digits_flaw_at
-returns-then-next-eq125 c = grind (arith, common_steps) steps 200000
-
-pub loop-next-smaller-else-digits-eq5 : goal.loop-next-smaller-else-digits-eq5
-unfolding digits_flaw_at
-loop-next-smaller-else-digits-eq5 c = grind (arith, common_steps) steps 200000
-
-pub loop-next-smaller : goal.loop-next-smaller
-unfolding digits_flaw_at
-loop-next-smaller c = grind (arith, common_steps) steps 200000
-
-pub loop-next-preserved : goal.loop-next-preserved
-unfolding digits_flaw_at
-loop-next-preserved c = grind (arith, common_steps) steps 200000
 
 pub returns-then-digits-eq6 : goal.returns-then-digits-eq6
 returns-then-digits-eq6 c = flaw_here _ _ _ _ _ _ _ _ _ _ _ c.in-Some.ensures.chars c.loop-next.invariant.same c.make_flaw.ensures.0 (ap chars c.make_flaw.ensures.1) (digit_past _ _ _ _ _ c.in-Some-to_digit.ensures.value.0 c.if-digits-eq6.true)
@@ -98,3 +90,23 @@ loop-next-preserved-else-digits-eq5 c = let l = c.loop-next in
       some = omega arith;
       small = grows _ _ _ l.invariant.small below;
     }
+
+pub loop-next-smaller-else-digits-eq5 : goal.loop-next-smaller-else-digits-eq5
+loop-next-smaller-else-digits-eq5 c = c.in-Some.ensures.shorter
+
+pub loop-next-smaller : goal.loop-next-smaller
+loop-next-smaller c = c.in-Some.ensures.shorter
+
+pub loop-next-preserved : goal.loop-next-preserved
+loop-next-preserved c = let l = c.loop-next in
+    let mark = mark_here _ _ _ _ _ c.in_default-to_digit.ensures.value c.if-next-ne95.false in
+    record {
+      utf8 = search rules steps 300000;
+      same = sym mark ∙ ap (digits_flaw_at c.args.kind l.value l.digits) (sym c.in-Some.ensures.chars) ∙ l.invariant.same;
+      few = l.invariant.few;
+      some = l.invariant.some;
+      small = l.invariant.small;
+    }
+
+pub returns-then-next-eq125 : goal.returns-then-next-eq125
+returns-then-next-eq125 c = flaw_here _ _ _ _ _ _ _ _ _ _ _ c.in-Some.ensures.chars c.loop-next.invariant.same (c.make_flaw-then-next-eq125.ensures.0 ∙ c.code_flaw-then-next-eq125.ensures) (ap chars c.make_flaw-then-next-eq125.ensures.1) (brace_here _ _ _ _ _ c.in_default-to_digit.ensures.value c.if-next-eq125.true)
