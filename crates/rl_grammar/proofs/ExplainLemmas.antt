@@ -1,6 +1,7 @@
 -- Places of flaws, in bytes.
-use Rattle.std.proofs.Common.{◌≡◌, ℕ, List, [], ◌+◌, ◌++◌, length, sym, ap, ◌∙◌, inl, inr, append_assoc}
-use Rattle.std.specs.Prelude.{encode_utf8_all}
+use Rattle.std.proofs.Common.{◌≡◌, ℕ, true, List, [], ◌+◌, ◌++◌, length, sym, ap, ◌∙◌, inl, inr, append_assoc}
+use Rattle.std.specs.Prelude.{Option, Some, None, IfSome, encode_utf8_all}
+use Rattle.std.specs.Option.{is_some}
 use Rattle.std.specs.Str.{chars, IsUtf8}
 use Rattle.std.proofs.lemmas.Str.{encodes-append, encodes-chars}
 use Rattle.std.proofs.lemmas.List.{length-append}
@@ -43,3 +44,8 @@ piece_bytes t piece rest ut up s p = let cut = piece_front (chars t) (chars piec
 
 pub found_reads : (t : List ℕ) (f : Found) → IsFound t f → HasReading (chars t)
 found_reads t f is = (f.kind, (is.reads.0, _, is.reads.1))
+
+-- so does a text in which something was found
+pub some_reads : (t : List ℕ) (o : Option Found) → IfSome o (IsFound t) → is_some o ≡ true → HasReading (chars t)
+some_reads t (Some f) found h = found_reads t f found
+some_reads t None found h = absurd (cc)

@@ -1,10 +1,12 @@
 -- What reading a text finds, from its parts.
-use Rattle.std.proofs.Common.{◌≡◌, ℕ, ◌-◌, ◌⊎◌, inl, inr, Bool, true, false, List, [], ◌∷◌, ◌++◌, length, take, drop, refl, sym, ap, ap₂, subst, ◌∙◌, arith}
+use Rattle.std.proofs.Common.{◌≡◌, ℕ, ◌-◌, ◌⊎◌, inl, inr, Bool, true, false, List, [], ◌∷◌, ◌++◌, length, take, drop, refl, sym, ap, ap₂, subst, ◌∙◌, arith, rules}
 use Rattle.std.proofs.Math.Seq.{drop-append_seam, take-append_seam}
 use Rattle.std.proofs.lemmas.Bool.{both_ways}
 use Rattle.std.proofs.lemmas.List.{append_cancel_right}
 use Rattle.std.proofs.lemmas.Str.{IsCharBoundary-at_seam, IsCharBoundary-start, IsCharBoundary-end, IsUtf8-between, IsUtf8-drop, chars-append, chars-nil}
 use Rattle.std.specs.Str.{chars, IsUtf8, IsCharBoundary}
+use denote.Enum.Bare.{sameb, same_true, true_same}
+use Rattle.rl_tokens.specs.contracts.kind.Kind.{the_type}
 use Rattle.rl_tokens.specs.declared.kind.Kind.{Kind}
 use Rattle.rl_tokens.specs.declared.kind.Kind.TheVariants.{Str, ByteStr, CStr, Byte, Char, Int, Float, Bool as BoolKind}
 use Rattle.rl_tokens.specs.Texts.{IsTail}
@@ -203,3 +205,11 @@ truth_found t b u e bytes =
     take_all xs =
         let n : length xs - 0 ≡ length xs = omega arith in
         ap (λ k. take k (drop 0 xs)) n ∙ take_whole xs
+
+-- two kinds that compare as equal are one
+pub kinds_same : (a b : Kind) (r : Bool) → r ≡ sameb the_type a b → r ≡ true → a ≡ b
+kinds_same a b r is true_r = same_true the_type (search rules) a b (sym is ∙ true_r)
+
+-- and one kind compares as equal
+pub kinds_differ : (a b : Kind) (r : Bool) → r ≡ sameb the_type a b → r ≡ false → a ≡ b → ⊥
+kinds_differ a b r is false_r same = let true_r : r ≡ true = is ∙ true_same the_type a b same in absurd (cc)

@@ -1,16 +1,21 @@
 -- At most one literal begins the trees.
-use Rattle.std.proofs.Common.{◌≡◌, ℕ, ◌<◌, Bool, List, [], ◌∷◌, length, refl, sym, ap, ◌∙◌, subst, arith}
+use Rattle.std.proofs.Common.{◌≡◌, ◌≢◌, ℕ, ◌<◌, Bool, false, List, [], ◌∷◌, length, refl, sym, ap, ap₂, ◌∙◌, subst, arith}
 use Rattle.std.specs.Prelude.{◌↔◌, IsTrue, Option, Some, None, IfSome, IfNone}
 use Rattle.std.specs.Option.{is_some}
 use Rattle.std.specs.Str.{chars}
 use Rattle.rl_tokens.specs.declared.kind.Kind.{Kind}
 use Rattle.rl_tokens.specs.declared.kind.Kind.TheVariants.{Bool as BoolKind}
 use Rattle.rl_tokens.specs.Puncts.{Mark}
+use Rattle.rl_tokens.specs.declared.error.Error.{Error}
+use Rattle.rl_tokens.specs.declared.error.ErrorKind.{ErrorKind}
+use Rattle.rl_tokens.specs.declared.span.Span.{Span}
+use Rattle.rl_tokens.specs.Errors.{memory_at}
 use Rattle.rl_tokens.specs.Texts.{SpannedText}
 use Rattle.rl_tokens.specs.Trees.{Tree, GroupTree, IdentTree, PunctTree, LiteralTree}
-use Rattle.rl_tokens.specs.Reading.{Truth, ReadsAs, truth_text}
+use Rattle.rl_tokens.specs.Reading.{Truth, ReadsAs, HasNoReading, Reads, truth_text}
 use Rattle.rl_tokens.specs.Buffers.{IsRest}
-use Rattle.rl_grammar.specs.Fronts.{IsFront, IsFrontOf, HasFrontOf, joined}
+use Rattle.rl_grammar.specs.Fronts.{IsFront, IsFrontOf, HasFrontOf, HasNoFront, joined}
+use Rattle.rl_grammar.specs.FrontTokens.{HasNoWord, HasNoMinus}
 use Rattle.rl_tokens.proofs.OneReading.{one_reading}
 use Rattle.rl_tokens.proofs.TreeRests.{rest_one, rest_two}
 use Rattle.rl_grammar.specs.declared.found.Found.{Found}
@@ -95,3 +100,21 @@ pub negative_front : (trees following rest : List Tree) (m : Mark) (l : SpannedT
 negative_front trees following rest m l f first second minus found =
     subst (λ ts. IsFront ts (joined m l) rest) (sym (first ∙ ap (λ ts. PunctTree m ∷ ts) second))
     (minus, (f.kind, subst (ReadsAs f.kind) (minus_chars l.text) (found_reads (45 ∷ l.text) f found)), refl, refl)
+
+-- a word that is no truth value is none of the two at the front
+pub no_word_at : (trees rest : List Tree) (i : SpannedText) (t : List ℕ) → trees ≡ IdentTree i ∷ rest → t ≡ i.text → ((b : Bool) → chars t ≢ truth_text b) → HasNoWord trees
+no_word_at trees rest i t first text none = λ j other e (v, x, r).
+    let same : t ≡ j.text = cc in none r.truth (ap chars same ∙ r.text_is)
+
+-- a minus and a literal that don't read together are none at the front
+pub no_minus_at : (trees following rest : List Tree) (m : Mark) (l : SpannedText) (t : List ℕ) → trees ≡ PunctTree m ∷ following → following ≡ LiteralTree l ∷ rest → t ≡ l.text → HasNoReading (45 ∷ chars t) → HasNoMinus trees
+no_minus_at trees following rest m l t first second text none = λ n k other e minus (kind, (v, x, r)).
+    let same : t ≡ k.text = cc in none kind v x (subst (λ z. Reads (45 ∷ chars z) kind v x) (sym same) r)
+
+-- an error of memory, reported elsewhere
+pub memory_moved : {A : Type 0} (e f : Error A) (at to from : Span) → e ≡ record { span = at; kind = f.kind } → at ≡ to → f ≡ memory_at from → e ≡ memory_at to
+memory_moved {A} e f at to from made there is = made ∙ ap₂ (λ (s : Span) (k : ErrorKind A). record { span = s; kind = k }) there (ap (λ (x : Error A). x.kind) is)
+
+-- where none begins the trees, none of any kind does
+pub none_of_kind : (kind : Kind) (trees : List Tree) → HasNoFront trees → IsTrue false ↔ HasFrontOf kind trees
+none_of_kind kind trees none = ((λ e. absurd (cc)), (λ (token, rest, of). absurd (none token rest of.front)))

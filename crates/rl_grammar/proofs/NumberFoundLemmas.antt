@@ -108,3 +108,14 @@ is_float BoolKind t h n = absurd h
 
 pub float_not_plain : (t : List ℕ) → HasNoFloat (chars t) → Whether false Float t
 float_not_plain t n = no_plain_float t n
+
+-- and its kind is that of floats
+pub float_kind : (k : Kind) (t : List ℕ) → IsNumber k t → k ≢ Int → k ≡ Float
+float_kind Int t h n = absurd (n refl)
+float_kind Float t h n = refl
+float_kind Str t h n = absurd h
+float_kind ByteStr t h n = absurd h
+float_kind CStr t h n = absurd h
+float_kind Byte t h n = absurd h
+float_kind Char t h n = absurd h
+float_kind BoolKind t h n = absurd h

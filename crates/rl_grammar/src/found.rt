@@ -302,7 +302,6 @@ pub(crate) fn begins_number(text: &str) -> bool
 /// exactly where it is a strict one (`strict_bytes`).
 ///
 /// See the example of [`Parts`].
-#[tactic(auto, using(crate::proofs::StrictBytesLemmas::bytes_are_strict))]
 pub fn shape(text: &str) -> Option<Parts<'_>>
     ensures none { IfNone result (HasNoReading (chars text.now)) }
     ensures reads { IfSome result

@@ -251,6 +251,6 @@ pub fn take_kind<A: Allocator>(
             *input = ahead;
             Ok((token, found))
         }
-        Err(_) => Err(Error::memory(input.span())),
+        Err(error) => Err(Error::new(input.span(), error.kind)),
     }
 }

@@ -133,9 +133,10 @@ pub fn int_shape(text: &str) -> Option<Option<Parts<'_>>>
     ensures following { IfSome result (λ o. IfSome o (λ p. IsTail text.now p.suffix.now)) }
     ensures once { HasOneInteger (chars text.now) }
 {
-    match find_int(text)? {
-        Some(found) => Some(Some(found.parts(text))),
-        None => Some(None),
+    match find_int(text) {
+        Some(Some(found)) => Some(Some(found.parts(text))),
+        Some(None) => Some(None),
+        None => None,
     }
 }
 

@@ -45,10 +45,9 @@ fn split_string_opener(kind: Kind, text: &str) -> Option<(QuotedForm, Kind, &str
     ensures { option_map (λ p. (p.0, p.1, chars p.2.now)) result
         ≡ string_opener_at kind (chars text.now) }
 {
-    let (first, rest) = split_char(text)?;
-    match first {
-        '"' => Some((QuotedForm::Cooked, kind, rest)),
-        'r' => Some((QuotedForm::Raw, kind, rest)),
+    match split_char(text) {
+        Some(('"', rest)) => Some((QuotedForm::Cooked, kind, rest)),
+        Some(('r', rest)) => Some((QuotedForm::Raw, kind, rest)),
         _ => None,
     }
 }
@@ -69,12 +68,12 @@ fn split_byte_opener(text: &str) -> Option<(QuotedForm, Kind, &str)>
 pub(crate) fn split_opener(text: &str) -> Option<(QuotedForm, Kind, &str)>
     ensures { option_map (λ p. (p.0, p.1, chars p.2.now)) result ≡ opener_at (chars text.now) }
 {
-    let (first, rest) = split_char(text)?;
-    match first {
-        '\'' => Some((QuotedForm::Single, Kind::Char, rest)),
-        'b' => split_byte_opener(rest),
-        'c' => split_string_opener(Kind::CStr, rest),
-        _ => split_string_opener(Kind::Str, text),
+    match split_char(text) {
+        Some(('\'', rest)) => Some((QuotedForm::Single, Kind::Char, rest)),
+        Some(('b', rest)) => split_byte_opener(rest),
+        Some(('c', rest)) => split_string_opener(Kind::CStr, rest),
+        Some(_) => split_string_opener(Kind::Str, text),
+        None => None,
     }
 }
 
@@ -134,11 +133,9 @@ fn cut_at_quote<'t>(quote: char, text: &'t str, rest: &'t str) -> Option<(&'t st
     ensures quote { IfSome result (λ p. chars rest.now ≡ quote ∷ chars p.1.now) }
     ensures none { IfNone result ((x : List ℕ) → chars rest.now ≢ quote ∷ x) }
 {
-    let (next, after) = split_char(rest)?;
-    if next == quote {
-        Some((before(text, rest), after))
-    } else {
-        None
+    match split_char(rest) {
+        Some((next, after)) if next == quote => Some((before(text, rest), after)),
+        _ => None,
     }
 }
 

@@ -122,8 +122,7 @@ fn more_digits(text: &str, first: u32) -> Option<(char, &str)>
     let mut value = first;
     let mut digits = 1_u32;
     let mut rest = text;
-    loop {
-        let (next, after) = split_ascii(rest)?;
+    while let Some((next, after)) = split_ascii(rest) {
         rest = after;
         if let Some(digit) = (next as char).to_digit(16) {
             if digits == 6 {
@@ -137,6 +136,7 @@ fn more_digits(text: &str, first: u32) -> Option<(char, &str)>
             return None;
         }
     }
+    None
 }
 
 /// The character of `\u{..}` from its brace on, and the text after it.
@@ -147,10 +147,9 @@ fn unicode_escape(kind: Kind, text: &str) -> Option<(char, &str)>
         ≡ unicode_at kind (chars text.now) }
     ensures shorter { IfSome result (λ p. length p.1.now < length text.now) }
 {
-    let (brace, inside) = split_ascii(text)?;
-    if brace != b'{' {
+    let Some((b'{', inside)) = split_ascii(text) else {
         return None;
-    }
+    };
     let (first, rest) = digit(inside)?;
     let (c, rest) = more_digits(rest, first)?;
     if has_unicode(kind) && allows_code(kind, c as u32) {
@@ -211,17 +210,12 @@ fn character(kind: Kind, text: &str) -> Option<(Piece, &str)>
     ensures piece { IfSome result (λ p. IsPieceOf kind p.0) }
     ensures shorter { IfSome result (λ p. length p.1.now < length text.now) }
 {
-    let (first, rest) = split_char(text)?;
-    match first {
-        c if is_plain(kind, c) => Some((Piece::Character(c), rest)),
-        '\r' => {
-            let (next, rest) = split_char(rest)?;
-            if kind.is_string() && next == '\n' {
-                Some((Piece::Byte(b'\n'), rest))
-            } else {
-                None
-            }
-        }
+    match split_char(text) {
+        Some((c, rest)) if is_plain(kind, c) => Some((Piece::Character(c), rest)),
+        Some(('\r', rest)) if kind.is_string() => match split_char(rest) {
+            Some(('\n', rest)) => Some((Piece::Byte(b'\n'), rest)),
+            _ => None,
+        },
         _ => None,
     }
 }

@@ -37,16 +37,12 @@ fn skip_escape<'t>(kind: Kind, text: &'t str, following: &'t str) -> Option<&'t 
     ensures value { option_map (λ r. chars r.now) result ≡ escape_rest kind (chars following.now) }
     ensures shorter { IfSome result (λ r. length r.now < length text.now) }
 {
-    match split_char(following)? {
-        ('\n', blanks) => {
-            if kind.is_string() {
-                Some(skip_class(CharClass::StrictBlank, blanks))
-            } else {
-                None
-            }
+    match split_char(following) {
+        Some(('\n', blanks)) if kind.is_string() => {
+            Some(skip_class(CharClass::StrictBlank, blanks))
         }
-        ('\r', _) => None,
-        _ => {
+        Some(('\n' | '\r', _)) | None => None,
+        Some(_) => {
             let (_, rest) = unit(kind, text)?;
             Some(rest)
         }
@@ -59,13 +55,10 @@ pub(crate) fn skip_unit(kind: Kind, text: &str) -> Option<&str>
     ensures value { option_map (λ r. chars r.now) result ≡ unit_rest kind (chars text.now) }
     ensures shorter { IfSome result (λ r. length r.now < length text.now) }
 {
-    let (first, following) = split_char(text)?;
-    if first == '\\' {
-        skip_escape(kind, text, following)
-    } else if is_bare(kind, first) {
-        Some(following)
-    } else {
-        None
+    match split_char(text) {
+        Some(('\\', following)) => skip_escape(kind, text, following),
+        Some((first, following)) if is_bare(kind, first) => Some(following),
+        _ => None,
     }
 }
 
@@ -195,8 +188,10 @@ fn behind_quote(text: &str) -> Option<&str>
     ensures some { IfSome result (λ r. chars text.now ≡ 34 ∷ chars r.now) }
     ensures none { IfNone result ((x : List ℕ) → chars text.now ≢ 34 ∷ x) }
 {
-    let (next, rest) = split_char(text)?;
-    if next == '"' { Some(rest) } else { None }
+    match split_char(text) {
+        Some(('"', rest)) => Some(rest),
+        _ => None,
+    }
 }
 
 /// Whether hashes, a quote and what ends a raw string follow.

@@ -1,3 +1,4 @@
+use Rattle.std.proofs.lemmas.Grind.{common_steps}
 use Rattle.std.proofs.Common.{◌≡◌, ◌<◌, ◌*◌, Some, true, nat_lt, arith, ap, sym, subst, refl, ◌∙◌, drop, ◌+◌}
 use Rattle.std.proofs.lemmas.Bool.Decides.{nat_tests}
 use Rattle.std.proofs.lemmas.Str.{IsCharBoundary-start}
@@ -32,3 +33,15 @@ loop-end-preserved c =
           ∙ c.loop-end.invariant.same;
       small = subst (λ n. n < 18446744073709551615) (sym next) small;
     }
+
+pub overflow_mul-spelled : goal.overflow_mul-spelled
+overflow_mul-spelled c = grind (arith, common_steps) steps 200000
+
+pub overflow_add-spelled : goal.overflow_add-spelled
+overflow_add-spelled c = grind (arith, common_steps) steps 200000
+
+pub returns-else-spelled-lt-MAY_GROW-clause-boundary : goal.returns-else-spelled-lt-MAY_GROW-clause-boundary
+returns-else-spelled-lt-MAY_GROW-clause-boundary c = grind (arith, common_steps) steps 200000
+
+pub returns-then-digit-radix-clause-boundary : goal.returns-then-digit-radix-clause-boundary
+returns-then-digit-radix-clause-boundary c = grind (arith, common_steps) steps 200000

@@ -1,6 +1,6 @@
-use Rattle.std.proofs.Common.{inl, sym, ◌∙◌}
+use Rattle.std.proofs.Common.{inl, sym, ◌∙◌, inr}
 use Rattle.rl_tokens.specs.declared.kind.Kind.TheVariants.{Int}
-use Rattle.rl_grammar.proofs.NumberFoundLemmas.{int_number, is_float}
+use Rattle.rl_grammar.proofs.NumberFoundLemmas.{int_number, is_float, float_kind}
 use Rattle.rl_grammar.proofs.digits.found_number.Goals as goal
 
 pub found_in-requires : goal.found_in-requires
@@ -16,3 +16,6 @@ returns-in-Int-clause-kind c = c.found_in.ensures.kind Int (int_number _ _ c.req
 
 pub unreachable-requires : goal.unreachable-requires
 unreachable-requires c = let (n, x, r) = is_float _ _ c.requires c.in_default.not-Int in c.in-None.ensures.none n x r
+
+pub returns-in-Some : goal.returns-in-Some
+returns-in-Some c = record { found = inr c.in-Some.ensures.found; kind = c.in-Some.ensures.found.kind ∙ sym (float_kind _ _ c.requires c.in_default.not-Int) }

@@ -1,6 +1,6 @@
-use Rattle.std.proofs.Common.{rules, arith, ap, ◌+◌, ◌-◌, length}
+use Rattle.std.proofs.Common.{rules, arith, ap, ◌+◌, ◌-◌, length, sym, ◌∙◌}
 use Rattle.std.specs.Str.{chars, IsUtf8}
-use Rattle.rl_grammar.proofs.ExplainLemmas.{front_bytes, piece_bytes, piece_front}
+use Rattle.rl_grammar.proofs.ExplainLemmas.{front_bytes, piece_bytes, piece_front, some_reads}
 use Rattle.rl_grammar.proofs.flaws.explain.Goals as goal
 
 pub overflow_sub-lo : goal.overflow_sub-lo
@@ -37,3 +37,6 @@ returns-clause-some c =
         piece_is = c.flaw_at-found.ensures.piece;
       };
     }
+
+pub returns-then-is_some-clause-none : goal.returns-then-is_some-clause-none
+returns-then-is_some-clause-none c = some_reads _ _ c.find.ensures.found (sym c.is_some.ensures ∙ c.if-is_some.true)

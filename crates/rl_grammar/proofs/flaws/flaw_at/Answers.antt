@@ -1,4 +1,5 @@
-use Rattle.std.proofs.Common.{sym, ap, inl, inr}
+use Rattle.std.proofs.lemmas.Grind.{common_steps}
+use Rattle.std.proofs.Common.{sym, ap, inl, inr, arith, ◌∙◌}
 use Rattle.std.specs.Str.{chars}
 use Rattle.rl_grammar.proofs.FormLemmas.{front_sound}
 use Rattle.rl_grammar.proofs.QuotedStopLemmas.{no_opener_piece, no_parts_of, quoted_has, quoted_piece, stops_quoted}
@@ -19,3 +20,27 @@ returns-in-Some c = record {
 
 pub returns-in-None-clause-piece : goal.returns-in-None-clause-piece
 returns-in-None-clause-piece c = inr (no_opener_piece _ (sym c.in-None.ensures), ap chars c.in_piece-in-None.ensures.2)
+
+pub returns-then-begins_number-clause-stops : goal.returns-then-begins_number-clause-stops
+returns-then-begins_number-clause-stops c = grind (arith, common_steps) steps 200000
+
+pub returns-then-begins_number-clause-kind : goal.returns-then-begins_number-clause-kind
+returns-then-begins_number-clause-kind c = grind (arith, common_steps) steps 200000
+
+pub returns-then-begins_number-clause-piece : goal.returns-then-begins_number-clause-piece
+returns-then-begins_number-clause-piece c = grind (arith, common_steps) steps 200000
+
+pub returns-in-None-clause-stops : goal.returns-in-None-clause-stops
+returns-in-None-clause-stops c = grind (arith, common_steps) steps 200000
+
+pub returns-in-None-clause-kind : goal.returns-in-None-clause-kind
+returns-in-None-clause-kind c = grind (arith, common_steps) steps 200000
+
+pub number_flaw-requires-clause-number : goal.number_flaw-requires-clause-number
+number_flaw-requires-clause-number c = sym c.begins_number.ensures ∙ c.if-begins_number.true
+
+pub word_flaw-requires-clause-no_number : goal.word_flaw-requires-clause-no_number
+word_flaw-requires-clause-no_number c = sym c.begins_number.ensures ∙ c.if-begins_number.false
+
+pub word_flaw-requires-clause-no_opener : goal.word_flaw-requires-clause-no_opener
+word_flaw-requires-clause-no_opener c = sym c.in-None.ensures

@@ -22,3 +22,6 @@ returns-in-None-clause-past c = is_past_at (chars c.args.text.now) _ _ c.in_ok-i
 
 pub returns-in-None-clause-once : goal.returns-in-None-clause-once
 returns-in-None-clause-once c = int_once (chars c.args.text.now)
+
+pub integer_found-requires-clause-following : goal.integer_found-requires-clause-following
+integer_found-requires-clause-following c = c.in_ok-integer.ensures.following

@@ -1,8 +1,9 @@
-use Rattle.std.proofs.Common.{◌≡◌, sym, subst, ◌∙◌, rules}
-use denote.Enum.Bare.{same_true, true_same}
+use Rattle.std.proofs.Common.{◌≡◌, sym, subst, ◌∙◌}
+use denote.Enum.Bare.{true_same}
 use Rattle.rl_tokens.specs.contracts.kind.Kind.{the_type}
 use Rattle.rl_tokens.specs.declared.kind.Kind.{Kind}
 use Rattle.rl_grammar.specs.WholeShapes.{IsPlain}
+use Rattle.rl_grammar.proofs.FoundLemmas.{kinds_same}
 use Rattle.rl_grammar.proofs.FoundContents.{plain_found, plain_none}
 use Rattle.rl_grammar.proofs.found.reads_plain.Goals as goal
 
@@ -10,7 +11,7 @@ pub returns-then-found : goal.returns-then-found
 returns-then-found c =
     let f = c.in-Some.ensures.found in (
       (λ e.
-          let same : c.in-Some.found.kind ≡ c.args.kind = same_true the_type (search rules) _ _ (sym c.eq.ensures ∙ e) in
+          let same : c.in-Some.found.kind ≡ c.args.kind = kinds_same _ _ _ c.eq.ensures e in
           subst (λ (k : Kind). IsPlain k c.args.text.now) same (f.plain.0 c.if-found.true)),
       (λ p. c.eq.ensures ∙ true_same the_type _ _ (plain_found _ _ _ c.requires f p)),
     )

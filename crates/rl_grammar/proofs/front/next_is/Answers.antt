@@ -1,8 +1,9 @@
+use Rattle.rl_grammar.specs.Fronts.{HasNoFront}
 use Rattle.std.proofs.Common.{subst}
 use Rattle.rl_tokens.specs.Buffers.{trees_in}
 use Rattle.rl_grammar.specs.Fronts.{IsFront}
 use Rattle.rl_grammar.specs.FrontTokens.{front_token}
-use Rattle.rl_grammar.proofs.FrontLemmas.{front_of, same_front}
+use Rattle.rl_grammar.proofs.FrontLemmas.{front_of, none_of_kind, same_front}
 use Rattle.rl_grammar.proofs.front.next_is.Goals as goal
 
 pub returns-in-Some : goal.returns-in-Some
@@ -12,3 +13,6 @@ returns-in-Some g c =
       (λ h. (front_token c.in-Some.front, trees_in c.take.new.input, front_of _ _ _ _ f (c.is_of.ensures.0 h))),
       (λ h. c.is_of.ensures.1 (same_front c.args.kind (trees_in c.args.input.now) (front_token c.in-Some.front) (trees_in c.take.new.input) f h)),
     )
+
+pub returns-in-None : goal.returns-in-None
+returns-in-None g c = none_of_kind _ _ (subst HasNoFront c.fork-ahead.ensures.trees c.in-None.ensures.none)

@@ -20,3 +20,6 @@ returns-clause-cut c =
     let f = c.in_ok-found.ensures in
     let p = c.parts.ensures in
     number_split _ _ _ _ f.number f.found.cut ∙ ap₂ (λ b x. b ++ x) (sym p.body) (sym p.suffix)
+
+pub parts-requires : goal.parts-requires
+parts-requires c = c.in_ok-found.ensures.found.stands

@@ -1,3 +1,4 @@
+use Rattle.std.proofs.lemmas.Grind.{common_steps}
 use Rattle.std.proofs.Common.{◌+◌, ◌*◌, ap, ◌∙◌, arith}
 use Rattle.rl_grammar.specs.Mirrors.NumberAt.{append_digit}
 use Rattle.rl_grammar.proofs.TallyLemmas.{append_last}
@@ -13,3 +14,9 @@ returns-in-Some c =
     ∙ ap (λ d. append_digit (t.scale * r) t.front (t.last * r + d)) c.from-in-Some-2.ensures
     ∙ append_last t.scale r t.front t.last c.args.digit (omega arith)
     ∙ ap (λ m. append_digit r m c.args.digit) c.self.view_is
+
+pub overflow_mul-self-inside : goal.overflow_mul-self-inside
+overflow_mul-self-inside c = grind (arith, common_steps) steps 200000
+
+pub overflow_add-self-inside : goal.overflow_add-self-inside
+overflow_add-self-inside c = grind (arith, common_steps) steps 200000

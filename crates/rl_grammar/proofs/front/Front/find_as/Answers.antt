@@ -1,4 +1,6 @@
-use Rattle.std.proofs.Common.{rules, ◌≡◌}
+use Rattle.rl_grammar.proofs.FoundLemmas.{kinds_same, kinds_differ}
+use Rattle.std.proofs.lemmas.Grind.{common_steps}
+use Rattle.std.proofs.Common.{arith}
 use Rattle.std.specs.Str.{chars}
 use Rattle.rl_grammar.specs.FrontTokens.{front_token}
 use Rattle.rl_grammar.proofs.FrontLemmas.{one_kind}
@@ -6,5 +8,13 @@ use Rattle.rl_grammar.proofs.FoundLemmas.{found_reads}
 use Rattle.rl_grammar.proofs.front.Front.find_as.Goals as goal
 
 pub returns-else-eq-clause-none : goal.returns-else-eq-clause-none
-returns-else-eq-clause-none g c = λ r.
-    let same : c.in_ok-found.found.kind ≡ c.args.kind = one_kind (chars (front_token c.args.self.now).text) _ _ (found_reads _ _ c.in_ok-found.ensures.found) r in search rules
+returns-else-eq-clause-none g c = λ r. kinds_differ _ _ _ c.eq.ensures c.if-eq.false (one_kind (chars (front_token c.args.self.now).text) _ _ (found_reads _ _ c.in_ok-found.ensures.found) r)
+
+pub returns-in_err-found-clause-none : goal.returns-in_err-found-clause-none
+returns-in_err-found-clause-none g c = grind (arith, common_steps) steps 200000
+
+pub returns-then-eq-clause-found : goal.returns-then-eq-clause-found
+returns-then-eq-clause-found g c = grind (arith, common_steps) steps 200000
+
+pub returns-then-eq-clause-kind : goal.returns-then-eq-clause-kind
+returns-then-eq-clause-kind g c = kinds_same _ _ _ c.eq.ensures c.if-eq.true

@@ -1,0 +1,9 @@
+use Rattle.std.proofs.lemmas.Grind.{common_steps}
+use Rattle.std.proofs.Common.{arith}
+use Rattle.rl_grammar.proofs.contents.decode.Goals as goal
+
+pub returns-in_err-bytes : goal.returns-in_err-bytes
+returns-in_err-bytes g c = grind (arith, common_steps) steps 200000
+
+pub returns : goal.returns
+returns g c = grind (arith, common_steps) steps 200000

@@ -1,0 +1,9 @@
+use Rattle.std.proofs.lemmas.Grind.{common_steps}
+use Rattle.std.proofs.Common.{arith}
+use Rattle.rl_grammar.proofs.digits.plain_numeral.Goals as goal
+
+pub returns-in_err-digits : goal.returns-in_err-digits
+returns-in_err-digits g c = grind (arith, common_steps) steps 200000
+
+pub returns : goal.returns
+returns g c = grind (arith, common_steps) steps 200000

@@ -1,0 +1,16 @@
+use Rattle.rl_tokens.proofs.BehindLemmas.{behind_step}
+use Rattle.std.proofs.lemmas.Grind.{common_steps}
+use Rattle.std.proofs.Common.{arith}
+use Rattle.rl_grammar.specs.Mirrors.NumberAt.{after_exponent}
+use Rattle.rl_grammar.proofs.number_forms.after_exponent.Goals as goal
+
+pub returns-else-row-clause-following : goal.returns-else-row-clause-following
+unfolding after_exponent
+returns-else-row-clause-following c = grind (arith, common_steps) steps 200000
+
+pub returns-clause-following : goal.returns-clause-following
+unfolding after_exponent
+returns-clause-following c = grind (arith, common_steps) steps 200000
+
+pub returns-then-row-clause-following : goal.returns-then-row-clause-following
+returns-then-row-clause-following c = behind_step _ _ _ c.in-Some-e-default.ensures.following (behind_step _ _ _ c.power_digits.ensures.following c.skip_row-row.ensures.following)
