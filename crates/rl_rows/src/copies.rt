@@ -1,6 +1,6 @@
 //! Equality and hash of literals.
 
-use crate::tell::{HERE, THERE, line, literal_of, show_line, show_word};
+use crate::tell::{HERE, THERE, literal_of};
 use rl_refusing::Page;
 use rl_tokens::Span;
 use rust_literals::Lit;
@@ -33,8 +33,8 @@ fn equal(alloc: Global, text: &str, out: &mut Page) {
     let Ok(second) = literal_of(alloc, second, THERE) else {
         return out.fail();
     };
-    show_word(&(first == second), out);
-    show_line(&(hash_of(&first) == hash_of(&second)), out)
+    out.show(&(first == second), " ");
+    out.show(&(hash_of(&first) == hash_of(&second)), "\n")
 }
 
 /// Puts the literals of the text, which LF part, into a map, and tells of each which one stood there before.
@@ -46,7 +46,7 @@ fn map(alloc: Global, text: &str, out: &mut Page) {
             Err(_) => out.fail(),
         }
     }
-    show_line(&map.len(), out)
+    out.show(&map.len(), "\n")
 }
 
 /// Puts the literal that a text is into the map; which one stood there before.
@@ -66,8 +66,8 @@ fn tell_before(at: usize, before: Option<usize>, out: &mut Page) {
     match before {
         Some(before) => {
             out.put(" as ");
-            show_line(&before, out)
+            out.show(&before, "\n")
         }
-        None => line(" new", out),
+        None => out.put(" new\n"),
     }
 }

@@ -17,7 +17,7 @@ use std::fmt::Debug;
 /// Prints a call, and what it returns.
 macro_rules! shown {
     ($out:expr, $call:expr) => {
-        put(stringify!($call), &$call, $out)
+        put(stringify!($call), $call, $out)
     };
 }
 
@@ -34,10 +34,10 @@ pub(crate) fn told(alloc: Global, name: &str, out: &mut Page) -> bool {
 }
 
 /// Prints a call and its value.
-fn put<T: Debug>(call: &str, value: &T, out: &mut Page) {
+fn put<T: Debug + Drop>(call: &str, value: T, out: &mut Page) {
     out.put(call);
     out.put(" == ");
-    out.put_debug(value);
+    out.put_debug(&value);
     out.put("\n")
 }
 

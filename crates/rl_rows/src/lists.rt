@@ -1,6 +1,6 @@
 //! Lists of literals: where each stands, and pairs of them with a gap between.
 
-use crate::tell::{ToRow, at_line, debug_word, literal_of, place, show_line, tell, tell_line};
+use crate::tell::{ToRow, literal_of, place, tell, tell_line, tell_spanned};
 use rl_refusing::Page;
 use rl_tokens::{Error, Span};
 use rust_literals::{Lit, read_all};
@@ -28,7 +28,7 @@ fn places(alloc: Global, text: &str, out: &mut Page) {
 /// An error's bytes and message.
 fn tell_refused(error: &Error, out: &mut Page) {
     place(error.span, out);
-    show_line(error, out)
+    out.show(error, "\n")
 }
 
 /// Each literal's bytes and line.
@@ -43,8 +43,7 @@ fn tell_places(alloc: Global, literals: &[Lit], out: &mut Page) {
 impl ToRow for Vec<Lit> {
     fn put_in(&self, out: &mut Page) {
         for literal in self.as_slice() {
-            debug_word(literal, out);
-            at_line(literal.span(), out);
+            tell_spanned(literal, "\n", out);
         }
     }
 }
@@ -53,12 +52,14 @@ impl ToRow for Vec<Lit> {
 fn tell_placed(alloc: Global, text: &str, span: Span, out: &mut Page) {
     place(span, out);
     match literal_of(alloc, text, span) {
-        Ok(literal) => {
-            tell_line(alloc, &literal, out);
-            drop(literal)
-        }
+        Ok(literal) => tell_own_line(literal, out),
         Err(_) => out.fail(),
     }
+}
+
+/// The line of a literal that is let go.
+fn tell_own_line(literal: Lit, out: &mut Page) {
+    tell_line(out.alloc(), &literal, out)
 }
 
 /// Whether two texts with a gap between them read as each reads by itself.

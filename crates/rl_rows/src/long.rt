@@ -1,6 +1,6 @@
 //! Long numbers, told in brief.
 
-use crate::tell::{HERE, literal_of, word};
+use crate::tell::{HERE, literal_of};
 use rl_refusing::Page;
 use rust_literals::Lit;
 use std::alloc::{AllocError, Global};
@@ -44,7 +44,7 @@ fn tell_number(literal: &Lit, out: &mut Page) {
 }
 
 fn tell_parts(kind: &str, digits: &str, suffix: &str, out: &mut Page) {
-    word(kind, out);
+    out.say(kind, " ");
     tell_brief(digits, out);
     if !suffix.is_empty() {
         out.put(" ");
@@ -59,6 +59,6 @@ fn tell_brief(text: &str, out: &mut Page) {
         return out.put(text);
     }
     out.say(text.get(..8).unwrap_or(""), "..");
-    word(text.get(text.len() - 8..).unwrap_or(""), out);
+    out.say(text.get(text.len() - 8..).unwrap_or(""), " ");
     out.put_shown(&text.len())
 }

@@ -1,6 +1,6 @@
 //! The message of every kind of error.
 
-use crate::tell::{HERE, show_line, show_word, tell_error};
+use crate::tell::{HERE, tell_error};
 use rl_refusing::Page;
 use rl_tokens::{Error, ErrorKind, LexError, LexKind};
 use std::alloc::Global;
@@ -32,7 +32,7 @@ fn lex_kinds(out: &mut Page) {
 /// A kind of the lexer's errors: as it is printed to programmers, and its message.
 fn tell_fault(kind: LexKind, out: &mut Page) {
     out.debug(&LexError { kind, at: 3 }, ": ");
-    show_line(&kind, out)
+    out.show(&kind, "\n")
 }
 
 /// Every kind of error: as it is printed to programmers, and its message.
@@ -58,6 +58,6 @@ fn kinds(alloc: Global, out: &mut Page) {
 
 /// A kind of error: as it is displayed, and as it is reported.
 fn tell_kind(kind: ErrorKind, out: &mut Page) {
-    show_word(&kind, out);
-    tell_error(&Error { span: HERE, kind }, out)
+    out.show(&kind, " ");
+    tell_error(Error { span: HERE, kind }, out)
 }

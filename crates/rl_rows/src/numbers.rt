@@ -1,12 +1,9 @@
 //! Numbers of one text: what the structs of numbers make of it, and numbers by base ten.
 
-use crate::tell::{
-    HERE, THERE, at, at_word, debug_word, line, put, show, show_line, show_word, tell, tell_error,
-    tell_shown, token_of, word,
-};
+use crate::tell::{HERE, THERE, at, put, tell, tell_error, tell_shown, token_of};
 use rl_refusing::Page;
 use rl_tokens::{Error, ErrorKind, Kept, Literal};
-use rust_literals::{Lit, LitFloat, LitInt};
+use rust_literals::{FloatKind, IntKind, Lit, LitFloat, LitInt, Number, NumberKind};
 use std::alloc::Global;
 use std::fmt::Display;
 use std::str::FromStr;
@@ -14,8 +11,8 @@ use std::str::FromStr;
 /// Prints what a call of this name answers; false where there is none.
 pub(crate) fn told(alloc: Global, name: &str, text: &str, out: &mut Page) -> bool {
     match name {
-        "integer" => integer(alloc, text, out),
-        "real" => float(alloc, text, out),
+        "integer" => number(Number::<IntKind, Global>::new(alloc, text, HERE), out),
+        "real" => number(Number::<FloatKind, Global>::new(alloc, text, HERE), out),
         "kept" => kept(alloc, text, out),
         "across" => across(alloc, text, out),
         "numbers" => numbers(alloc, text, out),
@@ -25,38 +22,23 @@ pub(crate) fn told(alloc: Global, name: &str, text: &str, out: &mut Page) -> boo
     true
 }
 
-/// The text as an integer: its digits, and itself moved, as text and as a token.
-fn integer(alloc: Global, text: &str, out: &mut Page) {
-    match LitInt::new(alloc, text, HERE) {
-        Ok(mut literal) => moved_integer(alloc, &mut literal, out),
-        Err(error) => tell_error(&error, out),
+/// A number, or why there is none.
+fn number<K: NumberKind>(made: Result<Number<K>, Error>, out: &mut Page) {
+    match made {
+        Ok(literal) => moved(literal, out),
+        Err(error) => tell_error(error, out),
     }
 }
 
-fn moved_integer(alloc: Global, literal: &mut LitInt, out: &mut Page) {
-    word(literal.base10_digits(), out);
-    debug_word(&literal.suffix(), out);
-    at_word(literal.span(), out);
-    show_word(literal, out);
+/// A number's digits, and itself moved, as text and as a token.
+fn moved<K: NumberKind>(literal: Number<K>, out: &mut Page) {
+    let mut literal = literal;
+    out.say(literal.base10_digits(), " ");
+    out.debug(&literal.suffix(), " ");
+    at(literal.span(), " ", out);
+    out.show(&literal, " ");
     literal.set_span(THERE);
-    tell(literal.token(alloc), out)
-}
-
-/// The text as a float, in the same way.
-fn float(alloc: Global, text: &str, out: &mut Page) {
-    match LitFloat::new(alloc, text, HERE) {
-        Ok(mut literal) => moved_float(alloc, &mut literal, out),
-        Err(error) => tell_error(&error, out),
-    }
-}
-
-fn moved_float(alloc: Global, literal: &mut LitFloat, out: &mut Page) {
-    word(literal.base10_digits(), out);
-    debug_word(&literal.suffix(), out);
-    at_word(literal.span(), out);
-    show_word(literal, out);
-    literal.set_span(THERE);
-    tell(literal.token(alloc), out)
+    tell(literal.token(out.alloc()), out)
 }
 
 /// The text as a token that is made an integer, or handed back, and the same of a float.
@@ -74,27 +56,37 @@ fn kept(alloc: Global, text: &str, out: &mut Page) {
 fn kept_of_float(alloc: Global, token: Literal, out: &mut Page) {
     match LitFloat::from_token(alloc, token) {
         Ok(literal) => put(Lit::Float(literal), out),
-        Err(kept) => tell_error(&Error::from(kept), out),
+        Err(kept) => tell_error(Error::from(kept), out),
     }
 }
 
 /// Prints a token that was handed back, and why.
 fn handed_back(kept: Kept<Literal>, out: &mut Page) -> Literal {
-    word(kept.value.text(), out);
-    at_word(kept.value.span(), out);
-    tell_error(&kept.error, out);
+    out.say(kept.value.text(), " ");
+    at(kept.value.span(), " ", out);
+    tell_error(kept.error, out);
     kept.value
 }
 
 /// Whether the text as an integer equals it as a float.
 fn across(alloc: Global, text: &str, out: &mut Page) {
-    let Ok(integer) = LitInt::new(alloc, text, HERE) else {
-        return line("None", out);
-    };
-    match LitFloat::new(alloc, text, HERE) {
-        Ok(float) => show_line(&(Lit::Int(integer) == Lit::Float(float)), out),
-        Err(_) => line("None", out),
+    match LitInt::new(alloc, text, HERE) {
+        Ok(integer) => equals_float(integer, LitFloat::new(alloc, text, HERE), out),
+        Err(_) => out.put("None\n"),
     }
+}
+
+/// Whether an integer equals a float, if there is one.
+fn equals_float(integer: LitInt, float: Result<LitFloat, Error>, out: &mut Page) {
+    match float {
+        Ok(float) => out.show(&are_equal(Lit::Int(integer), Lit::Float(float)), "\n"),
+        Err(_) => out.put("None\n"),
+    }
+}
+
+/// Whether two values are equal.
+fn are_equal<T: PartialEq + Drop>(first: T, second: T) -> bool {
+    first == second
 }
 
 /// The number that a type makes of an integer's digits, or where it is rejected.
@@ -104,7 +96,7 @@ where
 {
     out.put(" ");
     match literal.base10_parse::<N, Global>(alloc) {
-        Ok(number) => show(&number, out),
+        Ok(number) => out.put_shown(&number),
         Err(error) => refused_number(&error, out),
     }
 }
@@ -127,7 +119,7 @@ fn numbers(alloc: Global, text: &str, out: &mut Page) {
             narrow(alloc, &literal, out);
             wide(alloc, &literal, out)
         }
-        Err(_) => line("no integer", out),
+        Err(_) => out.put("no integer\n"),
     }
 }
 
@@ -157,6 +149,6 @@ fn wide(alloc: Global, literal: &LitInt, out: &mut Page) {
 fn float_byte(alloc: Global, text: &str, out: &mut Page) {
     match LitFloat::new(alloc, text, HERE) {
         Ok(literal) => tell_shown(literal.base10_parse::<u8, Global>(alloc), out),
-        Err(_) => line("no float", out),
+        Err(_) => out.put("no float\n"),
     }
 }

@@ -1,6 +1,6 @@
 //! Calls whose allocations fail.
 
-use crate::tell::{HERE, at_line, at_word, line, show_line, show_word, word};
+use crate::tell::{HERE, at};
 use rl_refusing::{Page, Refusing};
 use rl_tokens::{Kept, Literal};
 use rust_literals::{Lit, LitStr};
@@ -44,10 +44,10 @@ fn all_refused(refusing: Lent<'_>, text: &str, out: &mut Page) {
 
 /// Why a token is no literal, and the token.
 fn tell_kept<'a>(kept: &Kept<Literal<Lent<'a>>, Lent<'a>>, out: &mut Page) {
-    show_word(&kept.error, out);
-    at_word(kept.error.span, out);
-    word(kept.value.text(), out);
-    at_line(kept.value.span(), out)
+    out.show(&kept.error, " ");
+    at(kept.error.span, " ", out);
+    out.say(kept.value.text(), " ");
+    at(kept.value.span(), "\n", out)
 }
 
 /// Prints the digits of a number, and its suffix.
@@ -55,15 +55,15 @@ fn tell_number(literal: &Lit<Lent<'_>>, out: &mut Page) {
     match literal {
         Lit::Int(number) => {
             out.put("Int ");
-            word(number.base10_digits(), out)
+            out.say(number.base10_digits(), " ")
         }
         Lit::Float(number) => {
             out.put("Float ");
-            word(number.base10_digits(), out)
+            out.say(number.base10_digits(), " ")
         }
-        other => word(other.text(), out),
+        other => out.say(other.text(), " "),
     }
-    line(literal.suffix(), out)
+    out.say(literal.suffix(), "\n")
 }
 
 /// The text ten thousand times over, as a string's token.
@@ -83,18 +83,18 @@ fn second_refused(refusing: Lent<'_>, text: &str, out: &mut Page) {
     };
     match Lit::new(refusing, token) {
         Ok(Lit::Str(literal)) => refused_value(refusing, &literal, out),
-        _ => line("no string", out),
+        _ => out.put("no string\n"),
     }
 }
 
 /// Whether the string borrows its value, and what it answers with all allocations but the first failing.
 fn refused_value<'a>(refusing: Lent<'a>, literal: &LitStr<Lent<'a>>, out: &mut Page) {
-    show_word(&literal.value_ref().is_some(), out);
+    out.show(&literal.value_ref().is_some(), " ");
     refusing.refuse(2, u64::MAX);
     let value = literal.value(refusing);
     refusing.allow();
     match value {
-        Ok(value) => show_line(&value.len(), out),
-        Err(error) => show_line(&error, out),
+        Ok(value) => out.show(&value.len(), "\n"),
+        Err(error) => out.show(&error, "\n"),
     }
 }

@@ -2,7 +2,6 @@
 //! input, and what its streams are like from the words.
 
 use crate::streams::{Input, Output, Streams};
-use crate::tell::{show_line, show_word};
 use rl_commands::{Ending, call};
 use rl_program::Fault;
 use rl_refusing::Page;
@@ -99,8 +98,8 @@ fn put_call(alloc: Global, words: &str, input: &[u8], streams: Streams, out: &mu
 
 /// Prints the status of an ending, and the line that it reports.
 fn put_ending(ending: &Ending, out: &mut Page) {
-    show_word(&ending.status(), out);
-    show_line(ending, out)
+    out.show(&ending.status(), " ");
+    out.show(ending, "\n")
 }
 
 /// Prints how a call ends whose run fails.

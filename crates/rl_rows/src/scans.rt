@@ -1,7 +1,6 @@
 //! Calls of the program over whole sources: its words, a US (0x1F), and its input.
 
 use crate::streams::{Input, Output, Streams};
-use crate::tell::{show_line, show_word};
 use rl_refusing::Page;
 use rl_sources::call;
 use std::alloc::{AllocError, Global};
@@ -75,6 +74,6 @@ fn scanned(alloc: Global, bytes: &[u8], streams: Streams, out: &mut Page) {
     };
     let ending = call(alloc, args.as_slice(), &mut input, &mut output);
     out.put(std::str::from_utf8(held.as_slice()).unwrap_or(""));
-    show_word(&ending.status(), out);
-    show_line(&ending, out)
+    out.show(&ending.status(), " ");
+    out.show(&ending, "\n")
 }

@@ -30,8 +30,8 @@ pub(crate) trait ToRow {
 /// Prints what a call returned, or why it rejects what it was given.
 pub(crate) fn tell<T: ToRow + Drop>(answer: Result<T, Error>, out: &mut Page) {
     match answer {
-        Ok(value) => value.put_in(out),
-        Err(error) => tell_error(&error, out),
+        Ok(value) => put(value, out),
+        Err(error) => tell_error(error, out),
     }
 }
 
@@ -44,7 +44,15 @@ pub(crate) fn put<T: ToRow + Drop>(value: T, out: &mut Page) {
 pub(crate) fn tell_shown<T: Display + Drop>(answer: Result<T, Error>, out: &mut Page) {
     match answer {
         Ok(value) => out.show(&value, "\n"),
-        Err(error) => tell_error(&error, out),
+        Err(error) => tell_error(error, out),
+    }
+}
+
+/// Prints a value as it is printed to programmers, where there is one.
+pub(crate) fn tell_debug<T: Debug + Drop>(answer: Result<T, Error>, ending: &str, out: &mut Page) {
+    match answer {
+        Ok(value) => out.debug(&value, ending),
+        Err(error) => tell_error(error, out),
     }
 }
 
@@ -55,62 +63,17 @@ pub(crate) fn at(span: Span, ending: &str, out: &mut Page) {
     out.show(&span.hi, ending)
 }
 
-/// Prints a span, and a space.
-pub(crate) fn at_word(span: Span, out: &mut Page) {
-    at(span, " ", out)
-}
-
-/// Prints a span, and ends the line.
-pub(crate) fn at_line(span: Span, out: &mut Page) {
-    at(span, "\n", out)
-}
-
 /// Prints where a span begins and ends, and a space.
 pub(crate) fn place(span: Span, out: &mut Page) {
     out.show(&span.lo, "..");
     out.show(&span.hi, " ")
 }
 
-/// Prints a text, and a space.
-pub(crate) fn word(text: &str, out: &mut Page) {
-    out.say(text, " ")
-}
-
-/// Prints a text, and ends the line.
-pub(crate) fn line(text: &str, out: &mut Page) {
-    out.say(text, "\n")
-}
-
-/// Prints a value as it is displayed.
-pub(crate) fn show<T: Display>(value: &T, out: &mut Page) {
-    out.put_shown(value)
-}
-
-/// Prints a value as it is displayed, and a space.
-pub(crate) fn show_word<T: Display>(value: &T, out: &mut Page) {
-    out.show(value, " ")
-}
-
-/// Prints a value as it is displayed, and ends the line.
-pub(crate) fn show_line<T: Display>(value: &T, out: &mut Page) {
-    out.show(value, "\n")
-}
-
-/// Prints a value as it is printed to programmers, and a space.
-pub(crate) fn debug_word<T: Debug>(value: &T, out: &mut Page) {
-    out.debug(value, " ")
-}
-
-/// Prints a value as it is printed to programmers, and ends the line.
-pub(crate) fn debug_line<T: Debug>(value: &T, out: &mut Page) {
-    out.debug(value, "\n")
-}
-
 /// Prints an error: its span, its kind as it is printed to programmers, and its message.
-pub(crate) fn tell_error(error: &Error, out: &mut Page) {
+pub(crate) fn tell_error(error: Error, out: &mut Page) {
     at(error.span, " ", out);
     out.debug(&error.kind, ": ");
-    out.show(error, "\n")
+    out.show(&error, "\n")
 }
 
 /// Prints a tree's form, and its text.
@@ -149,11 +112,16 @@ pub(crate) fn tell_line(alloc: Global, literal: &Lit, out: &mut Page) {
     }
 }
 
+/// Prints a literal as it is printed to programmers, with its span.
+pub(crate) fn tell_spanned(literal: &Lit, ending: &str, out: &mut Page) {
+    out.debug(literal, " ");
+    at(literal.span(), ending, out)
+}
+
 /// As it is printed to programmers, with its span and its line.
 impl ToRow for Lit {
     fn put_in(&self, out: &mut Page) {
-        out.debug(self, " ");
-        at(self.span(), " ", out);
+        tell_spanned(self, " ", out);
         tell_line(out.alloc(), self, out)
     }
 }
@@ -179,6 +147,13 @@ pub(crate) fn literal_of(alloc: Global, text: &str, span: Span) -> Result<Lit, A
     match Lit::new(alloc, token_of(alloc, text, span)?) {
         Ok(literal) => Ok(literal),
         Err(_) => Err(AllocError),
+    }
+}
+
+/// Puts a tree at a stream's end.
+pub(crate) fn append(tree: TokenTree, stream: &mut TokenStream, out: &mut Page) {
+    if stream.append(tree).is_err() {
+        out.fail();
     }
 }
 

@@ -1,9 +1,6 @@
 //! Spans, words, tokens, and what writers make of texts.
 
-use crate::tell::{
-    HERE, THERE, at_line, at_word, line, put, show_line, show_word, tell, tell_error, token_of,
-    word,
-};
+use crate::tell::{HERE, THERE, at, put, tell, tell_error, token_of};
 use rl_refusing::Page;
 use rl_tokens::ident::xid_ok;
 use rl_tokens::{Error, Ident, Literal, Span};
@@ -28,10 +25,10 @@ pub(crate) fn told(alloc: Global, name: &str, text: &str, out: &mut Page) -> boo
 
 /// A span's parts, and a span joined with two more.
 fn spans(out: &mut Page) {
-    at_word(Span::call_site(), out);
-    show_word(&HERE.file(), out);
-    show_word(&HERE.lo(), out);
-    show_line(&HERE.hi(), out);
+    at(Span::call_site(), " ", out);
+    out.show(&HERE.file(), " ");
+    out.show(&HERE.lo(), " ");
+    out.show(&HERE.hi(), "\n");
     tell_joined(HERE, Span::new(7, 1, 4), out);
     tell_joined(Span::new(7, 1, 4), Span::new(7, 6, 8), out);
     tell_joined(HERE, Span::new(8, 1, 4), out)
@@ -40,22 +37,22 @@ fn spans(out: &mut Page) {
 /// Two spans joined.
 fn tell_joined(first: Span, second: Span, out: &mut Page) {
     match first.join(second) {
-        Some(joined) => at_line(joined, out),
-        None => line("None", out),
+        Some(joined) => at(joined, "\n", out),
+        None => out.put("None\n"),
     }
 }
 
 /// Whether the text is a word, and an identifier that is made of it and moved.
 fn one_word(alloc: Global, text: &str, out: &mut Page) {
     if !xid_ok(text) {
-        return line("no word", out);
+        return out.put("no word\n");
     }
     match Ident::new(alloc, text, HERE) {
         Ok(mut ident) => {
-            word(ident.text(), out);
-            at_word(ident.span(), out);
+            out.say(ident.text(), " ");
+            at(ident.span(), " ", out);
             ident.set_span(THERE);
-            at_line(ident.span(), out)
+            at(ident.span(), "\n", out)
         }
         Err(_) => out.fail(),
     }
@@ -65,11 +62,11 @@ fn one_word(alloc: Global, text: &str, out: &mut Page) {
 fn token(alloc: Global, text: &str, out: &mut Page) {
     match token_of(alloc, text, HERE) {
         Ok(mut token) => {
-            show_word(&token, out);
-            word(token.text(), out);
-            at_word(token.span(), out);
+            out.show(&token, " ");
+            out.say(token.text(), " ");
+            at(token.span(), " ", out);
             token.set_span(THERE);
-            at_line(token.span(), out)
+            at(token.span(), "\n", out)
         }
         Err(_) => out.fail(),
     }
@@ -79,7 +76,7 @@ fn token(alloc: Global, text: &str, out: &mut Page) {
 fn string(made: Result<LitStr, Error>, out: &mut Page) {
     match made {
         Ok(literal) => put(Lit::Str(literal), out),
-        Err(error) => tell_error(&error, out),
+        Err(error) => tell_error(error, out),
     }
 }
 
@@ -95,6 +92,6 @@ fn characters(alloc: Global, text: &str, out: &mut Page) {
 fn character(made: Result<LitChar, Error>, out: &mut Page) {
     match made {
         Ok(literal) => put(Lit::Char(literal), out),
-        Err(error) => tell_error(&error, out),
+        Err(error) => tell_error(error, out),
     }
 }

@@ -1,6 +1,6 @@
 //! A user's own parser, in turn with that of literals.
 
-use crate::tell::{debug_word, line, show_line, tell_error, trees_of};
+use crate::tell::{tell_error, trees_of};
 use rl_refusing::Page;
 use rl_tokens::{Error, Parse, ParseBuffer, Span, Token};
 use rust_literals::Lit;
@@ -45,7 +45,7 @@ impl Token for Sign {
 /// Literals and signs in turn, up to the end or an error.
 pub(crate) fn turns(alloc: Global, text: &str, out: &mut Page) {
     let Some(stream) = trees_of(alloc, text, 0) else {
-        return line("no trees", out);
+        return out.put("no trees\n");
     };
     let mut input = ParseBuffer::new(stream.trees(), Span::call_site());
     for _ in 0..stream.trees().len() {
@@ -63,7 +63,7 @@ fn turn(alloc: Global, input: &mut ParseBuffer<'_>, out: &mut Page) -> bool {
         return false;
     }
     if input.is_empty() {
-        line("end", out);
+        out.put("end\n");
         return false;
     }
     true
@@ -73,11 +73,11 @@ fn turn(alloc: Global, input: &mut ParseBuffer<'_>, out: &mut Page) -> bool {
 fn tell_literal(answer: Result<Lit, Error>, out: &mut Page) -> bool {
     match answer {
         Ok(literal) => {
-            debug_word(&literal, out);
+            out.debug(&literal, " ");
             true
         }
         Err(error) => {
-            tell_error(&error, out);
+            tell_error(error, out);
             false
         }
     }
@@ -87,11 +87,11 @@ fn tell_literal(answer: Result<Lit, Error>, out: &mut Page) -> bool {
 fn tell_sign(answer: Result<Sign, Error>, out: &mut Page) -> bool {
     match answer {
         Ok(sign) => {
-            show_line(&sign.ch, out);
+            out.show(&sign.ch, "\n");
             true
         }
         Err(error) => {
-            tell_error(&error, out);
+            tell_error(error, out);
             false
         }
     }
