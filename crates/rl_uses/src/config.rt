@@ -103,7 +103,10 @@ fn config_of<A: Allocator + Copy>(alloc: A, attrs: &Attrs<A>) -> Result<Config<A
             name,
             verbose,
         }),
-        Err(error) => Err(error),
+        Err(error) => {
+            drop(name);
+            Err(error)
+        }
     }
 }
 
@@ -121,5 +124,7 @@ pub fn read_config<A: Allocator + Copy>(
         (λ config. IsConfigText A text.now file config.port (string_bytes config.name) config.verbose) }
 {
     let attrs = read(alloc, text, file)?;
-    config_of(alloc, &attrs)
+    let config = config_of(alloc, &attrs);
+    drop(attrs);
+    config
 }

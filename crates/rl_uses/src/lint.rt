@@ -31,7 +31,9 @@ fn has_control<A: Allocator + Copy>(alloc: A, string: &LitStr<A>) -> Result<bool
         return Ok(holds_control(value));
     }
     let value = string.value(alloc)?;
-    Ok(holds_control(value.as_str()))
+    let holds = holds_control(value.as_str());
+    drop(value);
+    Ok(holds)
 }
 
 /// Whether the literal is a string whose value has a control character.
@@ -82,5 +84,7 @@ pub fn control_strings<A: Allocator + Copy>(
     ensures rejected { IfErr result (RejectsTextOrMemory text.now file) }
 {
     let literals = read_all(alloc, text, file)?;
-    faults(alloc, literals.as_slice())
+    let spans = faults(alloc, literals.as_slice());
+    drop(literals);
+    spans
 }

@@ -71,5 +71,7 @@ pub fn bad_literals<A: Allocator + Copy>(
     ensures rejected { IfErr result (RejectsTextOrMemory text.now file) }
 {
     let literals = read_all(alloc, text, file)?;
-    reasons_of(alloc, literals.as_slice())
+    let reasons = reasons_of(alloc, literals.as_slice());
+    drop(literals);
+    reasons
 }

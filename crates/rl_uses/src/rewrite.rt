@@ -26,7 +26,9 @@ fn string_rewritten<A: Allocator + Copy>(
         return literal.clone(alloc);
     }
     let value = literal.value(alloc)?;
-    LitStr::new(alloc, value.as_str(), literal.span())
+    let anew = LitStr::new(alloc, value.as_str(), literal.span());
+    drop(value);
+    anew
 }
 
 /// The byte string, written anew where it has no suffix.
@@ -41,7 +43,9 @@ fn byte_string_rewritten<A: Allocator + Copy>(
         return literal.clone(alloc);
     }
     let value = literal.value(alloc)?;
-    LitByteStr::new(alloc, value.as_slice(), literal.span())
+    let anew = LitByteStr::new(alloc, value.as_slice(), literal.span());
+    drop(value);
+    anew
 }
 
 /// The C string, written anew where it has no suffix.
@@ -56,7 +60,9 @@ fn c_string_rewritten<A: Allocator + Copy>(
         return literal.clone(alloc);
     }
     let value = literal.value(alloc)?;
-    LitCStr::new(alloc, &value, literal.span())
+    let anew = LitCStr::new(alloc, &value, literal.span());
+    drop(value);
+    anew
 }
 
 /// The byte, written anew where it has no suffix.
@@ -167,5 +173,7 @@ pub fn format<A: Allocator + Copy>(alloc: A, text: &str, file: u32) -> Result<St
     ensures rejected { IfErr result (RejectsTextOrMemory text.now file) }
 {
     let literals = read_all(alloc, text, file)?;
-    lines(alloc, literals.as_slice())
+    let printed = lines(alloc, literals.as_slice());
+    drop(literals);
+    printed
 }
