@@ -31,9 +31,7 @@ fn has_control<A: Allocator + Copy>(alloc: A, string: &LitStr<A>) -> Result<bool
         return Ok(holds_control(value));
     }
     let value = string.value(alloc)?;
-    let holds = holds_control(value.as_str());
-    drop(value);
-    Ok(holds)
+    Ok(holds_control(value.as_str()))
 }
 
 /// Whether the literal is a string whose value has a control character.
