@@ -103,10 +103,7 @@ fn config_of<A: Allocator + Copy>(alloc: A, attrs: &Attrs<A>) -> Result<Config<A
             name,
             verbose,
         }),
-        Err(error) => {
-            drop(name);
-            Err(error)
-        }
+        Err(error) => Err(error),
     }
 }
 
@@ -124,7 +121,5 @@ pub fn read_config<A: Allocator + Copy>(
         (λ config. IsConfigText A text.now file config.port (string_bytes config.name) config.verbose) }
 {
     let attrs = read(alloc, text, file)?;
-    let config = config_of(alloc, &attrs);
-    drop(attrs);
-    config
+    config_of(alloc, &attrs)
 }

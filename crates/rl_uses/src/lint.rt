@@ -82,7 +82,5 @@ pub fn control_strings<A: Allocator + Copy>(
     ensures rejected { IfErr result (RejectsTextOrMemory text.now file) }
 {
     let literals = read_all(alloc, text, file)?;
-    let spans = faults(alloc, literals.as_slice());
-    drop(literals);
-    spans
+    faults(alloc, literals.as_slice())
 }

@@ -71,7 +71,5 @@ pub fn bad_literals<A: Allocator + Copy>(
     ensures rejected { IfErr result (RejectsTextOrMemory text.now file) }
 {
     let literals = read_all(alloc, text, file)?;
-    let reasons = reasons_of(alloc, literals.as_slice());
-    drop(literals);
-    reasons
+    reasons_of(alloc, literals.as_slice())
 }

@@ -26,9 +26,7 @@ fn string_rewritten<A: Allocator + Copy>(
         return literal.clone(alloc);
     }
     let value = literal.value(alloc)?;
-    let anew = LitStr::new(alloc, value.as_str(), literal.span());
-    drop(value);
-    anew
+    LitStr::new(alloc, value.as_str(), literal.span())
 }
 
 /// The byte string, written anew where it has no suffix.
@@ -43,9 +41,7 @@ fn byte_string_rewritten<A: Allocator + Copy>(
         return literal.clone(alloc);
     }
     let value = literal.value(alloc)?;
-    let anew = LitByteStr::new(alloc, value.as_slice(), literal.span());
-    drop(value);
-    anew
+    LitByteStr::new(alloc, value.as_slice(), literal.span())
 }
 
 /// The C string, written anew where it has no suffix.
@@ -60,9 +56,7 @@ fn c_string_rewritten<A: Allocator + Copy>(
         return literal.clone(alloc);
     }
     let value = literal.value(alloc)?;
-    let anew = LitCStr::new(alloc, &value, literal.span());
-    drop(value);
-    anew
+    LitCStr::new(alloc, &value, literal.span())
 }
 
 /// The byte, written anew where it has no suffix.
@@ -173,7 +167,5 @@ pub fn format<A: Allocator + Copy>(alloc: A, text: &str, file: u32) -> Result<St
     ensures rejected { IfErr result (RejectsTextOrMemory text.now file) }
 {
     let literals = read_all(alloc, text, file)?;
-    let printed = lines(alloc, literals.as_slice());
-    drop(literals);
-    printed
+    lines(alloc, literals.as_slice())
 }
