@@ -8,17 +8,6 @@ use rl_tokens::Error;
 use rust_literals::LitStr;
 use std::alloc::Global;
 
-/// Prints what a call of this name answers; false where there is none.
-pub(crate) fn told(alloc: Global, name: &str, text: &str, page: &mut Page) -> bool {
-    match name {
-        "attr_inside" => inside(alloc, text, page),
-        "attr_values" => values(alloc, text, page),
-        "attr_many" => many(alloc, text, page),
-        _ => return false,
-    }
-    true
-}
-
 /// How many they are.
 impl ToRow for Attrs {
     fn put_in(&self, out: &mut Page) {
@@ -27,7 +16,7 @@ impl ToRow for Attrs {
 }
 
 /// What a string's parser reports of attributes inside it.
-fn inside(alloc: Global, text: &str, page: &mut Page) {
+pub(crate) fn inside(alloc: Global, text: &str, page: &mut Page) {
     match LitStr::new(alloc, text, HERE) {
         Ok(literal) => tell_inside(literal.parse::<Attrs, Global>(alloc), page),
         Err(error) => tell_error(error, page),
@@ -38,15 +27,21 @@ fn inside(alloc: Global, text: &str, page: &mut Page) {
 fn tell_inside(answer: Result<Attrs, Error>, page: &mut Page) {
     match answer {
         Ok(attrs) => put(attrs, page),
-        Err(error) => page.show(&Refusal(&error), "\n"),
+        Err(error) => {
+            page.show(&Refusal(&error), "\n");
+            drop(error)
+        }
     }
 }
 
 /// The line of what each name is set to: names with a comma between them, a US (0x1F), and attributes.
-fn values(alloc: Global, row: &str, page: &mut Page) {
+pub(crate) fn values(alloc: Global, row: &str, page: &mut Page) {
     let (names, text) = row.split_once('\u{1f}').unwrap_or((row, ""));
     match read(alloc, text, 4) {
-        Ok(attrs) => put_values(alloc, &attrs, names, page),
+        Ok(attrs) => {
+            put_values(alloc, &attrs, names, page);
+            drop(attrs)
+        }
         Err(error) => tell_error(error, page),
     }
 }
@@ -62,7 +57,7 @@ fn put_values(alloc: Global, attrs: &Attrs, names: &str, page: &mut Page) {
 }
 
 /// How many attributes are read where so many are set, and why none are where the first is set once more.
-fn many(alloc: Global, count: &str, page: &mut Page) {
+pub(crate) fn many(alloc: Global, count: &str, page: &mut Page) {
     let mut text = page.another();
     put_many(count.parse::<usize>().unwrap_or(0), &mut text);
     tell(read(alloc, text.text(), 0), page);

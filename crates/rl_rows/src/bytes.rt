@@ -54,7 +54,10 @@ fn c_string(alloc: Global, bytes: &[u8], out: &mut Page) {
         return out.fail();
     };
     match CString::new(bytes) {
-        Ok(held) => held_c_string(alloc, &held, out),
+        Ok(held) => {
+            held_c_string(alloc, &held, out);
+            drop(held)
+        }
         Err(rejected) => refused_c_string(rejected, out),
     }
 }
@@ -63,7 +66,9 @@ fn c_string(alloc: Global, bytes: &[u8], out: &mut Page) {
 fn refused_c_string(rejected: NulError, out: &mut Page) {
     out.put("zero at ");
     out.show(&rejected.nul_position(), " of ");
-    out.debug(&rejected.into_vec().as_slice(), "\n")
+    let bytes = rejected.into_vec();
+    out.debug(&bytes.as_slice(), "\n");
+    drop(bytes)
 }
 
 /// A C string as a literal, and its value again.
@@ -82,7 +87,10 @@ fn held_c_string(alloc: Global, held: &CString, out: &mut Page) {
 /// Whether the C string that a literal stands for is the one that it was made of.
 fn tell_held(value: Result<CString, Error>, held: &CString, out: &mut Page) {
     match value {
-        Ok(value) => out.show(&(value == *held), " "),
-        Err(_) => out.fail(),
+        Ok(value) => {
+            out.show(&(value == *held), " ");
+            drop(value)
+        }
+        Err(error) => tell_error(error, out),
     }
 }

@@ -21,16 +21,12 @@ macro_rules! shown {
     };
 }
 
-/// Prints what the examples return, where that is asked for; false where it isn't.
-pub(crate) fn told(alloc: Global, name: &str, out: &mut Page) -> bool {
-    if name != "examples" {
-        return false;
-    }
+/// Prints what the examples return.
+pub(crate) fn examples(alloc: Global, out: &mut Page) {
     of_tokens(alloc, out);
     of_buffers(alloc, out);
     of_grammar(alloc, out);
-    of_literals(alloc, out);
-    true
+    of_literals(alloc, out)
 }
 
 /// Prints a call and its value.

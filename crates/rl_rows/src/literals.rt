@@ -1,7 +1,7 @@
 //! Calls on the literal that a text is.
 
 use crate::inside::{group, inside};
-use crate::tell::{HERE, THERE, ToRow, at, literal_of, put, tell, tell_trees};
+use crate::tell::{HERE, THERE, ToRow, at, literal_of, put, tell, tell_error, tell_trees};
 use crate::uses::anew;
 use rl_refusing::Page;
 use rl_tokens::{Ident, ParseBuffer, ToTokens, TokenStream};
@@ -10,13 +10,17 @@ use std::alloc::Global;
 
 /// Prints what a call of this name answers about the literal that the text is; false where there is none.
 pub(crate) fn told(alloc: Global, name: &str, text: &str, out: &mut Page) -> bool {
-    let Ok(mut literal) = literal_of(alloc, text, HERE) else {
-        out.fail();
-        return true;
-    };
-    let is_call = told_of(alloc, name, &mut literal, out);
-    drop(literal);
-    is_call
+    match literal_of(alloc, text, HERE) {
+        Ok(mut literal) => {
+            let is_call = told_of(alloc, name, &mut literal, out);
+            drop(literal);
+            is_call
+        }
+        Err(error) => {
+            tell_error(error, out);
+            true
+        }
+    }
 }
 
 /// Prints what a call of this name answers about the literal; false where there is none.
@@ -54,7 +58,7 @@ fn push_copy(alloc: Global, literal: &Lit, out: &mut Page) {
             out.show(&(copy == *literal), " ");
             put(copy, out)
         }
-        Err(_) => out.fail(),
+        Err(error) => tell_error(error, out),
     }
 }
 

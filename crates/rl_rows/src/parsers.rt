@@ -20,14 +20,6 @@ pub(crate) fn told(alloc: Global, name: &str, text: &str, out: &mut Page) -> boo
         "LitChar" => parsed_as::<LitChar>(alloc, text, out),
         "turns" => turns(alloc, text, out),
         "takers" => takers(alloc, text, out),
-        _ => return others(alloc, name, text, out),
-    }
-    true
-}
-
-/// Prints what a further call of this name answers; false where there is none.
-fn others(alloc: Global, name: &str, text: &str, out: &mut Page) -> bool {
-    match name {
         "Lit" => parsed_as::<Lit>(alloc, text, out),
         "LitInt" => parsed_as::<LitInt>(alloc, text, out),
         "LitFloat" => parsed_as::<LitFloat>(alloc, text, out),

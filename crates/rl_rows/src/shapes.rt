@@ -1,6 +1,6 @@
 //! What the grammars answer of one text.
 
-use crate::tell::{tell_debug, tell_shown};
+use crate::tell::{tell, tell_debug, tell_error};
 use rl_grammar::{
     Kind, Parts, byte_of, bytes_of, char_of, digits_of, float_shape, int_shape, is_plain, shape,
     shape_negative, str_of,
@@ -56,7 +56,10 @@ fn contents(alloc: Global, text: &str, out: &mut Page) {
         Kind::ByteStr | Kind::CStr => tell_debug(bytes_of(alloc, text), "\n", out),
         Kind::Byte => out.show(&byte_of(text), "\n"),
         Kind::Char => out.show(&(char_of(text) as u32), "\n"),
-        Kind::Int | Kind::Float => tell_shown(digits_of(alloc, parts.kind, text), out),
+        Kind::Int | Kind::Float => {
+            tell(digits_of(alloc, parts.kind, text), out);
+            out.put("\n")
+        }
         Kind::Bool => out.say(text, "\n"),
     }
 }
@@ -64,8 +67,11 @@ fn contents(alloc: Global, text: &str, out: &mut Page) {
 /// Prints a text's bytes.
 fn tell_text(text: Result<String, Error>, out: &mut Page) {
     match text {
-        Ok(text) => out.debug(&text.as_bytes(), "\n"),
-        Err(_) => out.fail(),
+        Ok(text) => {
+            out.debug(&text.as_bytes(), "\n");
+            drop(text)
+        }
+        Err(error) => tell_error(error, out),
     }
 }
 

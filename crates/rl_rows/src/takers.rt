@@ -1,6 +1,6 @@
 //! What the four takers of a buffer take, and a minus and a number of two files.
 
-use crate::tell::{append, at, tell_error, tell_spanned, tell_trees, token_of, trees_of};
+use crate::tell::{append, at, tell_error, tell_spanned, tell_trees, trees_of};
 use rl_refusing::Page;
 use rl_tokens::{Error, Literal, ParseBuffer, Punct, Span, TokenStream, TokenTree};
 use rust_literals::Lit;
@@ -63,9 +63,9 @@ fn tell_if(holds: bool, word: &str, out: &mut Page) {
 
 /// A minus and a number of two files, as one literal.
 pub(crate) fn two_files(alloc: Global, out: &mut Page) {
-    match token_of(alloc, "1", Span::new(1, 0, 1)) {
+    match Literal::from_text(alloc, "1", Span::new(1, 0, 1)) {
         Ok(number) => two_trees(number, out),
-        Err(_) => out.fail(),
+        Err(error) => tell_error(error, out),
     }
 }
 
@@ -86,7 +86,10 @@ fn two_trees(number: Literal, out: &mut Page) {
 /// The literal in front, and its span.
 fn tell_first(first: Result<Lit, Error>, out: &mut Page) {
     match first {
-        Ok(literal) => tell_spanned(&literal, "\n", out),
+        Ok(literal) => {
+            tell_spanned(&literal, "\n", out);
+            drop(literal)
+        }
         Err(error) => tell_error(error, out),
     }
 }

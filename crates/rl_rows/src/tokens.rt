@@ -1,10 +1,10 @@
 //! Spans, words, tokens, and what writers make of texts.
 
-use crate::tell::{HERE, THERE, at, put, tell, tell_error, token_of};
+use crate::tell::{HERE, THERE, at, tell, tell_as_literal, tell_error};
 use rl_refusing::Page;
 use rl_tokens::ident::xid_ok;
-use rl_tokens::{Error, Ident, Literal, Span};
-use rust_literals::{Lit, LitChar, LitStr};
+use rl_tokens::{Ident, Literal, Span};
+use rust_literals::{LitChar, LitStr};
 use std::alloc::Global;
 
 /// Prints what a call of this name answers; false where there is none.
@@ -15,7 +15,7 @@ pub(crate) fn told(alloc: Global, name: &str, text: &str, out: &mut Page) -> boo
         "token" => token(alloc, text, out),
         "string" => {
             tell(Literal::string(alloc, text), out);
-            string(LitStr::new(alloc, text, HERE), out)
+            tell_as_literal(LitStr::new(alloc, text, HERE), out)
         }
         "characters" => characters(alloc, text, out),
         _ => return false,
@@ -54,13 +54,13 @@ fn one_word(alloc: Global, text: &str, out: &mut Page) {
             ident.set_span(THERE);
             at(ident.span(), "\n", out)
         }
-        Err(_) => out.fail(),
+        Err(error) => tell_error(error, out),
     }
 }
 
 /// A token that is made of the text and moved.
 fn token(alloc: Global, text: &str, out: &mut Page) {
-    match token_of(alloc, text, HERE) {
+    match Literal::from_text(alloc, text, HERE) {
         Ok(mut token) => {
             out.show(&token, " ");
             out.say(token.text(), " ");
@@ -68,14 +68,6 @@ fn token(alloc: Global, text: &str, out: &mut Page) {
             token.set_span(THERE);
             at(token.span(), "\n", out)
         }
-        Err(_) => out.fail(),
-    }
-}
-
-/// A string literal, or why there is none.
-fn string(made: Result<LitStr, Error>, out: &mut Page) {
-    match made {
-        Ok(literal) => put(Lit::Str(literal), out),
         Err(error) => tell_error(error, out),
     }
 }
@@ -84,14 +76,6 @@ fn string(made: Result<LitStr, Error>, out: &mut Page) {
 fn characters(alloc: Global, text: &str, out: &mut Page) {
     for c in text.chars() {
         tell(Literal::character(alloc, c), out);
-        character(LitChar::new(alloc, c, HERE), out);
-    }
-}
-
-/// A character as a literal.
-fn character(made: Result<LitChar, Error>, out: &mut Page) {
-    match made {
-        Ok(literal) => put(Lit::Char(literal), out),
-        Err(error) => tell_error(error, out),
+        tell_as_literal(LitChar::new(alloc, c, HERE), out);
     }
 }

@@ -1,6 +1,6 @@
 //! The trees of a text, and why it is cut into none.
 
-use crate::tell::{HERE, append, place, tell_form, token_of};
+use crate::tell::{HERE, append, place, tell_error, tell_form};
 use rl_refusing::Page;
 use rl_tokens::{Delimiter, Group, LexKind, Literal, Span, TokenStream, TokenTree, Tokens, lex};
 use std::alloc::Global;
@@ -74,9 +74,9 @@ fn lent(text: &str, out: &mut Page) {
 
 /// A stream that is built of a group and a literal, and set to another span.
 fn built(alloc: Global, out: &mut Page) {
-    match token_of(alloc, "1", HERE) {
+    match Literal::from_text(alloc, "1", HERE) {
         Ok(first) => built_of(first, out),
-        Err(_) => out.fail(),
+        Err(error) => tell_error(error, out),
     }
 }
 

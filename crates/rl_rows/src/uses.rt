@@ -1,7 +1,7 @@
 //! What the small callers of `rl_uses` make of a text.
 
 use crate::parsers::{tell_next, tell_parsed};
-use crate::tell::{ToRow, at, put, tell, tell_error, tell_shown, tell_spanned, trees_of};
+use crate::tell::{ToRow, at, put, tell, tell_debug, tell_error, tell_spanned, trees_of};
 use rl_refusing::Page;
 use rl_tokens::{ParseBuffer, Span, parse_all};
 use rl_uses::{
@@ -22,21 +22,13 @@ pub(crate) fn told(alloc: Global, name: &str, text: &str, out: &mut Page) -> boo
         "attributes" => attributes(alloc, text, out),
         "list" => tell(parse_all::<ItemList, Global>(alloc, text, FILE), out),
         "refused_list" => refused_list(alloc, text, out),
-        _ => return of_literals(alloc, name, text, out),
-    }
-    true
-}
-
-/// Prints what a call of this name answers about the literals of a text; false where there is none.
-fn of_literals(alloc: Global, name: &str, text: &str, out: &mut Page) -> bool {
-    match name {
         "lint" => tell(control_strings(alloc, text, FILE), out),
         "reasons" => tell(bad_literals(alloc, text, FILE), out),
         "format" => tell(format(alloc, text, FILE), out),
         "counts" => counts(alloc, text, out),
         "settings" => {
-            tell_shown(read_number::<u16, Global>(alloc, text, FILE), out);
-            tell_shown(read_number::<i64, Global>(alloc, text, FILE), out)
+            tell_debug(read_number::<u16, Global>(alloc, text, FILE), "\n", out);
+            tell_debug(read_number::<i64, Global>(alloc, text, FILE), "\n", out)
         }
         "config" => config(alloc, text, out),
         _ => return false,
@@ -52,9 +44,10 @@ impl ToRow for Attribute {
         match self.value.value(out.alloc()) {
             Ok(value) => {
                 at(self.value.span(), " ", out);
-                out.say(value.as_str(), "\n")
+                out.say(value.as_str(), "\n");
+                drop(value)
             }
-            Err(_) => out.fail(),
+            Err(error) => tell_error(error, out),
         }
     }
 }
@@ -135,7 +128,8 @@ pub(crate) fn anew(alloc: Global, literal: &mut Lit, out: &mut Page) {
     match rewritten(alloc, literal) {
         Ok(anew) => {
             tell_spanned(&anew, " ", out);
-            out.show(&(anew == *literal), "\n")
+            out.show(&(anew == *literal), "\n");
+            drop(anew)
         }
         Err(error) => tell_error(error, out),
     }
