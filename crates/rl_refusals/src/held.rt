@@ -30,6 +30,7 @@ pub fn run_held<T: Held<A> + Tell + Drop, A: Scarce>(
             let before = trial.lends(&value);
             value.call(name, trial, page);
             trial.leaves(&value, before, page);
+            drop(value);
         }
         None => page.put(UNFIT),
     }

@@ -6,7 +6,7 @@ use rl_lines::line_of;
 use rl_refusing::Page;
 use rl_tokens::{Kept, Literal, Span, lex, whitespace};
 use rust_literals::{Lit, read_all};
-use std::alloc::{AllocError, Global};
+use std::alloc::Global;
 
 /// Lines longer than this are told by their lengths.
 const LONGEST: usize = 100;
@@ -46,27 +46,20 @@ fn tell_line(alloc: Global, literal: &Lit, page: &mut Page) {
 /// Puts last what `Lit::new` answers to a token of the text.
 fn tell_literal(alloc: Global, text: &str, page: &mut Page) {
     match Literal::from_text(alloc, text, Span::call_site()) {
-        Ok(token) => tell_new(alloc, token, page),
+        Ok(token) => tell_new(Lit::new(alloc, token), page),
         Err(_) => page.put(NO_MEMORY),
     }
 }
 
-/// Puts last what `Lit::new` answers.
-fn tell_new(alloc: Global, token: Literal, page: &mut Page) {
-    match Lit::new(alloc, token) {
-        Ok(literal) => tell_literal_line(alloc, literal, page),
-        Err(kept) => tell_kept(kept, page),
+/// Puts last what `Lit::new` answered.
+fn tell_new(made: Result<Lit, Kept<Literal>>, page: &mut Page) {
+    match made {
+        Ok(literal) => {
+            tell_line(page.alloc(), &literal, page);
+            drop(literal);
+        }
+        Err(kept) => page.put_shown(&kept.error),
     }
-}
-
-/// Puts the line of a literal that `Lit::new` made last.
-fn tell_literal_line(alloc: Global, literal: Lit, page: &mut Page) {
-    tell_line(alloc, &literal, page);
-}
-
-/// Puts a refusal of `Lit::new` last.
-fn tell_kept(kept: Kept<Literal, Global>, page: &mut Page) {
-    page.put_shown(&kept.error);
 }
 
 /// Puts last what `lex` answers: how many trees, or a fault and its place.
@@ -127,13 +120,11 @@ fn unpictured(c: char) -> char {
     }
 }
 
-/// The text whose line ends, tabs and zeros are written as pictures.
-fn without_pictures(alloc: Global, text: &str) -> Result<String, AllocError> {
-    let mut out = String::new(alloc);
+/// Puts a text last whose line ends, tabs and zeros are written as pictures.
+fn put_unpictured(text: &str, out: &mut Page) {
     for c in text.chars() {
-        out.push(unpictured(c))?;
+        out.put_char(unpictured(c));
     }
-    Ok(out)
 }
 
 /// Puts last what the five calls answer to the text, cut at each place between two characters.
@@ -146,34 +137,25 @@ fn tell_cuts(alloc: Global, text: &str, page: &mut Page) {
 
 /// Puts last what the five calls answer to the text with pictures in it, cut at each place.
 pub fn cuts(alloc: Global, text: &str, page: &mut Page) {
-    match without_pictures(alloc, text) {
-        Ok(text) => tell_cuts(alloc, text.as_str(), page),
-        Err(_) => page.put(NO_MEMORY),
-    }
+    let mut whole = page.another();
+    put_unpictured(text, &mut whole);
+    tell_cuts(alloc, whole.text(), page);
 }
 
 /// Puts the piece last, so many times.
-fn put_times(count: u32, piece: &str, text: &mut String) -> Result<(), AllocError> {
+fn put_times(count: u32, piece: &str, text: &mut Page) {
     for _ in 0..count {
-        text.push_str(piece)?;
+        text.put(piece);
     }
-    Ok(())
 }
 
-/// The text of these parts: each a number, a space, and a piece that stands so many times; tabs between them.
-fn put_together(alloc: Global, parts: &str) -> Result<String, AllocError> {
-    let mut text = String::new(alloc);
+/// Puts last what the five calls answer to the text of these parts: each a number, a space, and a piece that stands so many
+/// times; tabs between them.
+pub fn long(alloc: Global, parts: &str, page: &mut Page) {
+    let mut whole = page.another();
     for part in parts.split('\t') {
         let (count, piece) = part.split_once(' ').unwrap_or(("", part));
-        put_times(count.parse::<u32>().unwrap_or(1), piece, &mut text)?;
+        put_times(count.parse::<u32>().unwrap_or(1), piece, &mut whole);
     }
-    Ok(text)
-}
-
-/// Puts last what the five calls answer to the text of these parts.
-pub fn long(alloc: Global, parts: &str, page: &mut Page) {
-    match put_together(alloc, parts) {
-        Ok(text) => tell_text(alloc, text.as_str(), page),
-        Err(_) => page.put(NO_MEMORY),
-    }
+    tell_text(alloc, whole.text(), page);
 }

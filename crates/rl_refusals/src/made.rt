@@ -1,34 +1,26 @@
 //! Calls that make a literal of a value or a token.
 
-use crate::tokens::c_string_of;
+use crate::tokens::{c_string_of, first_byte, first_character};
 use crate::trial::{HERE, Scarce, Trial, UNFIT};
 use rl_refusing::Page;
-use rust_literals::{
-    FloatKind, IntKind, Lit, LitByte, LitByteStr, LitCStr, LitChar, LitStr, Number, NumberKind,
-};
+use rl_tokens::Literal;
+use rust_literals::{Lit, LitByte, LitByteStr, LitCStr, LitChar, LitFloat, LitInt, LitStr};
 
 /// `new` of the type of this name: of the text, its bytes, its first byte or character, or a token of it.
 pub fn new<A: Scarce>(of: &str, trial: &Trial<'_, A>, text: &str, page: &mut Page) {
     match of {
-        "LitStr" => string(trial, text, page),
-        "LitByteStr" => byte_string(trial, text.as_bytes(), page),
+        "LitStr" => trial.ends(LitStr::new(trial.begins(), text, HERE), page),
+        "LitByteStr" => trial.ends(LitByteStr::new(trial.begins(), text.as_bytes(), HERE), page),
         "LitCStr" => c_string(trial, text, page),
-        "LitByte" => byte(trial, text, page),
-        "LitChar" => character(trial, text, page),
-        "LitInt" => number::<IntKind, A>(trial, text, page),
-        "LitFloat" => number::<FloatKind, A>(trial, text, page),
-        _ => literal(trial, text, page),
+        "LitByte" => trial.ends(LitByte::new(trial.begins(), first_byte(text), HERE), page),
+        "LitChar" => trial.ends(
+            LitChar::new(trial.begins(), first_character(text), HERE),
+            page,
+        ),
+        "LitInt" => trial.ends(LitInt::new(trial.begins(), text, HERE), page),
+        "LitFloat" => trial.ends(LitFloat::new(trial.begins(), text, HERE), page),
+        _ => from_token(of, trial, text, page),
     }
-}
-
-/// `LitStr::new`.
-fn string<A: Scarce>(trial: &Trial<'_, A>, text: &str, page: &mut Page) {
-    trial.ends(LitStr::new(trial.begins(), text, HERE), page);
-}
-
-/// `LitByteStr::new`.
-fn byte_string<A: Scarce>(trial: &Trial<'_, A>, bytes: &[u8], page: &mut Page) {
-    trial.ends(LitByteStr::new(trial.begins(), bytes, HERE), page);
 }
 
 /// `LitCStr::new` of the text's bytes.
@@ -39,39 +31,19 @@ fn c_string<A: Scarce>(trial: &Trial<'_, A>, text: &str, page: &mut Page) {
     }
 }
 
-/// `LitByte::new` of the text's first byte.
-fn byte<A: Scarce>(trial: &Trial<'_, A>, text: &str, page: &mut Page) {
-    match text.as_bytes().first() {
-        Some(byte) => trial.ends(LitByte::new(trial.begins(), *byte, HERE), page),
-        None => page.put(UNFIT),
-    }
-}
-
-/// `LitChar::new` of the text's first character.
-fn character<A: Scarce>(trial: &Trial<'_, A>, text: &str, page: &mut Page) {
-    match text.chars().next() {
-        Some(c) => trial.ends(LitChar::new(trial.begins(), c, HERE), page),
-        None => page.put(UNFIT),
-    }
-}
-
-/// `LitInt::new` or `LitFloat::new`, by the kind.
-fn number<K: NumberKind, A: Scarce>(trial: &Trial<'_, A>, text: &str, page: &mut Page) {
-    trial.ends(Number::<K, A>::new(trial.begins(), text, HERE), page);
-}
-
-/// `Lit::new` of a token of the text.
-fn literal<A: Scarce>(trial: &Trial<'_, A>, text: &str, page: &mut Page) {
+/// `Lit::new`, `LitInt::from_token` or `LitFloat::from_token` of a token of the text.
+pub fn from_token<A: Scarce>(of: &str, trial: &Trial<'_, A>, text: &str, page: &mut Page) {
     match trial.token(text) {
-        Some(token) => trial.ends(Lit::new(trial.begins(), token), page),
+        Some(token) => of_token(of, trial, token, page),
         None => page.put(UNFIT),
     }
 }
 
-/// `LitInt::from_token` or `LitFloat::from_token` of a token of the text, by the kind.
-pub fn from_token<K: NumberKind, A: Scarce>(trial: &Trial<'_, A>, text: &str, page: &mut Page) {
-    match trial.token(text) {
-        Some(token) => trial.ends(Number::<K, A>::from_token(trial.begins(), token), page),
-        None => page.put(UNFIT),
+/// `Lit::new`, `LitInt::from_token` or `LitFloat::from_token` of this token.
+fn of_token<A: Scarce>(of: &str, trial: &Trial<'_, A>, token: Literal<A>, page: &mut Page) {
+    match of {
+        "LitInt" => trial.ends(LitInt::from_token(trial.begins(), token), page),
+        "LitFloat" => trial.ends(LitFloat::from_token(trial.begins(), token), page),
+        _ => trial.ends(Lit::new(trial.begins(), token), page),
     }
 }

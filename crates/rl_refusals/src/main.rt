@@ -43,13 +43,19 @@ fn answer(alloc: Global, line: &str) -> Result<String, AllocError> {
     page.finished()
 }
 
+/// Writes what is printed for a line of input.
+fn answer_to<W: Write>(alloc: Global, line: &str, out: &mut W) -> io::Result<()> {
+    let answer = answer(alloc, line)?;
+    out.write_all(answer.as_bytes())?;
+    Ok(())
+}
+
 fn main(rt: HostRuntime) -> io::Result<()> {
     let alloc = rt.alloc();
     let input = io::read_to_string(alloc, rt.stdin())?;
     let mut out = rt.stdout();
     for line in input.as_str().lines() {
-        let answer = answer(alloc, line)?;
-        out.write_all(answer.as_bytes())?;
+        answer_to(alloc, line, &mut out)?;
     }
     Ok(())
 }

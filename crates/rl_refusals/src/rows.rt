@@ -1,83 +1,103 @@
 //! Calls whose requests for memory are refused: whose call it is, the call's name, and a text, with a space between.
 
-use crate::held::{NO_CALL, literal_of, number_of, quoted_of, run_held};
+use crate::held::{Held, NO_CALL, literal_of, number_of, quoted_of, run_held};
+use crate::tell::Tell;
 use crate::tokens::parsed;
 use crate::trial::{HERE, Scarce, Trial};
 use crate::{grammar, made, sources, tokens};
-use rl_quoted::{ByteKind, ByteStrKind, CStrKind, CharKind, Quoted, QuotedKind, StrKind};
+use rl_quoted::{ByteKind, ByteStrKind, CStrKind, CharKind, StrKind};
 use rl_refusing::{Page, Refusing};
-use rust_literals::{FloatKind, IntKind, Lit, LitBool, Number, NumberKind};
+use rl_tokens::{Parse, lex};
+use rust_literals::{FloatKind, IntKind, LitBool, read_all};
 use std::alloc::Global;
 use std::cell::Cell;
 
-/// Runs a call that is no type's.
+/// Runs a call that is no type's, in the file 7.
 fn run_free<A: Scarce>(call: &str, trial: &Trial<'_, A>, text: &str, page: &mut Page) {
     match call {
-        "lex" => tokens::cut(trial, text, page),
-        "read_all" => grammar::read(trial, text, page),
+        "lex" => trial.ends(lex(trial.begins(), text, 7), page),
+        "read_all" => trial.ends(read_all(trial.begins(), text, 7), page),
         "scan" => sources::scanned(trial, text, page),
-        "str_of" => grammar::text_of(trial, text, page),
-        "bytes_of" => grammar::contents_of(trial, text, page),
-        "digits_of" => grammar::numeral_of(trial, text, page),
+        "str_of" | "bytes_of" | "digits_of" => grammar::contents_of(trial, text, page),
         _ => page.put(NO_CALL),
     }
 }
 
-/// Runs a call of a quoted literal, by its kind.
-fn run_kind<K: QuotedKind, A: Scarce>(
+/// Runs a call of a literal of one type, of which the text may be one.
+fn run_type<T: Held<A> + Parse<A> + Tell + Drop, A: Scarce>(
+    value: Option<T>,
     call: &str,
     trial: &Trial<'_, A>,
     text: &str,
     page: &mut Page,
 ) {
-    match call {
-        "Parse::parse" => parsed::<Quoted<K, A>, A>(trial, text, page),
-        _ => run_held(quoted_of::<K, A>(trial, text), call, trial, page),
+    if call == "Parse::parse" {
+        parsed::<T, A>(trial, text, page);
+    } else {
+        run_held(value, call, trial, page);
     }
 }
 
-/// Runs a call of a number, by its kind.
-fn run_number<K: NumberKind, A: Scarce>(
-    call: &str,
-    trial: &Trial<'_, A>,
-    text: &str,
-    page: &mut Page,
-) {
-    match call {
-        "Parse::parse" => parsed::<Number<K, A>, A>(trial, text, page),
-        "from_token" => made::from_token::<K, A>(trial, text, page),
-        _ => run_held(number_of::<K, A>(trial, text), call, trial, page),
-    }
-}
-
-/// Runs a call of a truth value, which is true where the text is `true`.
-fn run_truth<A: Scarce>(call: &str, trial: &Trial<'_, A>, text: &str, page: &mut Page) {
-    match call {
-        "Parse::parse" => parsed::<LitBool, A>(trial, text, page),
-        _ => run_held(Some(LitBool::new(text == "true", HERE)), call, trial, page),
-    }
-}
-
-/// Runs a call of a literal of any kind.
-fn run_any<A: Scarce>(call: &str, trial: &Trial<'_, A>, text: &str, page: &mut Page) {
-    match call {
-        "Parse::parse" => parsed::<Lit<A>, A>(trial, text, page),
-        _ => run_held(literal_of(trial, text), call, trial, page),
-    }
-}
-
-/// Runs a call of a literal of this type.
+/// Runs a call of a literal of this type; a truth value is true where the text is `true`.
 fn run_literal<A: Scarce>(of: &str, call: &str, trial: &Trial<'_, A>, text: &str, page: &mut Page) {
     match of {
-        "LitInt" => run_number::<IntKind, A>(call, trial, text, page),
-        "LitFloat" => run_number::<FloatKind, A>(call, trial, text, page),
-        "LitBool" => run_truth(call, trial, text, page),
-        "LitStr" => run_kind::<StrKind, A>(call, trial, text, page),
-        "LitByteStr" => run_kind::<ByteStrKind, A>(call, trial, text, page),
-        "LitCStr" => run_kind::<CStrKind, A>(call, trial, text, page),
-        "LitByte" => run_kind::<ByteKind, A>(call, trial, text, page),
-        "LitChar" => run_kind::<CharKind, A>(call, trial, text, page),
-        _ => run_any(call, trial, text, page),
+        "LitInt" => run_type(
+            number_of::<IntKind, A>(trial, text),
+            call,
+            trial,
+            text,
+            page,
+        ),
+        "LitFloat" => run_type(
+            number_of::<FloatKind, A>(trial, text),
+            call,
+            trial,
+            text,
+            page,
+        ),
+        "LitBool" => run_type(
+            Some(LitBool::new(text == "true", HERE)),
+            call,
+            trial,
+            text,
+            page,
+        ),
+        "LitStr" => run_type(
+            quoted_of::<StrKind, A>(trial, text),
+            call,
+            trial,
+            text,
+            page,
+        ),
+        "LitByteStr" => run_type(
+            quoted_of::<ByteStrKind, A>(trial, text),
+            call,
+            trial,
+            text,
+            page,
+        ),
+        "LitCStr" => run_type(
+            quoted_of::<CStrKind, A>(trial, text),
+            call,
+            trial,
+            text,
+            page,
+        ),
+        "LitByte" => run_type(
+            quoted_of::<ByteKind, A>(trial, text),
+            call,
+            trial,
+            text,
+            page,
+        ),
+        "LitChar" => run_type(
+            quoted_of::<CharKind, A>(trial, text),
+            call,
+            trial,
+            text,
+            page,
+        ),
+        _ => run_type(literal_of(trial, text), call, trial, text, page),
     }
 }
 
@@ -85,6 +105,7 @@ fn run_literal<A: Scarce>(of: &str, call: &str, trial: &Trial<'_, A>, text: &str
 fn run_named<A: Scarce>(of: &str, call: &str, trial: &Trial<'_, A>, text: &str, page: &mut Page) {
     match call {
         "new" => made::new(of, trial, text, page),
+        "from_token" => made::from_token(of, trial, text, page),
         "value" | "parse" | "parse_with" => run_held(literal_of(trial, text), call, trial, page),
         _ => run_literal(of, call, trial, text, page),
     }
@@ -112,23 +133,22 @@ pub struct Row<'t> {
     pub text: &'t str,
 }
 
-/// What came of the call while these requests were refused, and how many came.
-fn tried(alloc: Global, row: Row<'_>, first: u64, last: u64) -> (Page, u64) {
+/// What came of the call while these requests were refused; how many came is stored.
+fn tried(alloc: Global, row: Row<'_>, first: u64, last: u64, asked: &Cell<u64>) -> Page {
     let refusing = Refusing::new(alloc);
-    let asked = Cell::new(0);
     let mut page = Page::new(alloc);
     let trial = Trial {
         alloc,
         scant: &refusing,
         first,
         last,
-        asked: &asked,
+        asked,
     };
     run(row.of, row.call, &trial, row.text, &mut page);
     if refusing.held() > 0 {
         page.put("; kept memory");
     }
-    (page, asked.get())
+    page
 }
 
 /// Whether it is told that memory is wanted, and that all is left as it was.
@@ -136,19 +156,25 @@ fn is_refusal(told: &str) -> bool {
     told.starts_with("out of memory") && !told.contains("; now") && !told.contains("; kept")
 }
 
-/// Puts last what is printed of a refused call, where the call with ample memory told the other text; but not again.
+/// Puts last what is printed of a refused call, where the call with ample memory told the other text.
 fn judge(told: &str, ample: &str, page: &mut Page) {
-    let (word, shown) = if told == ample {
-        ("  refused: ", "the same answer")
-    } else if is_refusal(told) {
-        ("  refused: ", told)
+    if told == ample {
+        page.put("  refused: the same answer\n");
     } else {
-        ("  OTHER: ", told)
-    };
+        page.put(if is_refusal(told) {
+            "  refused: "
+        } else {
+            "  OTHER: "
+        });
+        page.say(told, "\n");
+    }
+}
+
+/// Puts last what is printed of the call while these requests are refused, but not again.
+fn put_tried(alloc: Global, row: Row<'_>, first: u64, last: u64, ample: &Page, page: &mut Page) {
+    let told = tried(alloc, row, first, last, &Cell::new(0));
     let mut line = page.another();
-    line.put(word);
-    line.put(shown);
-    line.put("\n");
+    judge(told.text(), ample.text(), &mut line);
     if !page.text().contains(line.text()) {
         page.put(line.text());
     }
@@ -157,14 +183,12 @@ fn judge(told: &str, ample: &str, page: &mut Page) {
 /// What is printed for a row: what came of the call with ample memory, and then with each request refused in turn, alone and
 /// with all after it, each answer once.
 pub fn answer(alloc: Global, row: Row<'_>, page: &mut Page) {
-    let (ample, asked) = tried(alloc, row, 1, 0);
+    let asked = Cell::new(0);
+    let ample = tried(alloc, row, 1, 0, &asked);
     page.put("  ample: ");
-    page.put(ample.text());
-    page.put("\n");
-    for n in 1..=asked.max(1) {
-        let (alone, _) = tried(alloc, row, n, n);
-        judge(alone.text(), ample.text(), page);
-        let (on, _) = tried(alloc, row, n, u64::MAX);
-        judge(on.text(), ample.text(), page);
+    page.say(ample.text(), "\n");
+    for n in 1..=asked.get().max(1) {
+        put_tried(alloc, row, n, n, &ample, page);
+        put_tried(alloc, row, n, u64::MAX, &ample, page);
     }
 }

@@ -3,8 +3,7 @@
 use rl_quoted::{Quoted, QuotedKind};
 use rl_refusing::Page;
 use rl_tokens::{
-    CString, Delimiter, Error, Group, Ident, Kept, LexError, LexKind, Literal, Span, TokenStream,
-    TokenTree,
+    CString, Error, Ident, Kept, LexError, Literal, ParseBuffer, Span, TokenStream, TokenTree,
 };
 use rust_literals::{Lit, LitBool, Number, NumberKind};
 use std::alloc::Allocator;
@@ -184,12 +183,9 @@ impl<A: Allocator> Tell for TokenStream<A> {
     }
 }
 
-/// What is left of a buffer.
-#[derive(Drop)]
-pub struct Rest<'t, A: Allocator>(pub &'t [TokenTree<A>]);
-
-impl<A: Allocator> Tell for Rest<'_, A> {
+/// What is left of it.
+impl<A: Allocator> Tell for ParseBuffer<'_, A> {
     fn tell(&self, page: &mut Page) {
-        tell_trees(self.0, page);
+        tell_trees(self.rest(), page);
     }
 }

@@ -1,10 +1,10 @@
 //! Calls of `rl_tokens`.
 
 use crate::held::run_held;
-use crate::tell::{Rest, Tell};
+use crate::tell::Tell;
 use crate::trial::{HERE, Scarce, Trial, UNFIT};
 use rl_refusing::Page;
-use rl_tokens::{CString, Ident, Literal, Parse, ParseBuffer, TokenTree, ident, lex};
+use rl_tokens::{CString, Ident, Literal, Parse, ParseBuffer, TokenTree, ident};
 use std::alloc::Global;
 
 /// Calls of `Literal`.
@@ -20,17 +20,20 @@ pub fn literal_call<A: Scarce>(name: &str, trial: &Trial<'_, A>, text: &str, pag
 /// Calls of `Literal` that make one of bytes or a character, and those of a token that is at hand.
 fn literal_of_value<A: Scarce>(name: &str, trial: &Trial<'_, A>, text: &str, page: &mut Page) {
     match name {
-        "byte_string" => byte_string(trial, text.as_bytes(), page),
+        "byte_string" => trial.ends(Literal::byte_string(trial.begins(), text.as_bytes()), page),
         "c_string" => c_string(trial, text, page),
-        "byte_character" => byte_character(trial, text, page),
-        "character" => character(trial, text, page),
+        "byte_character" => {
+            trial.ends(
+                Literal::byte_character(trial.begins(), first_byte(text)),
+                page,
+            );
+        }
+        "character" => trial.ends(
+            Literal::character(trial.begins(), first_character(text)),
+            page,
+        ),
         _ => run_held(trial.token(text), name, trial, page),
     }
-}
-
-/// `Literal::byte_string`.
-fn byte_string<A: Scarce>(trial: &Trial<'_, A>, bytes: &[u8], page: &mut Page) {
-    trial.ends(Literal::byte_string(trial.begins(), bytes), page);
 }
 
 /// A C string of the text's bytes.
@@ -47,20 +50,14 @@ fn c_string<A: Scarce>(trial: &Trial<'_, A>, text: &str, page: &mut Page) {
     }
 }
 
-/// `Literal::byte_character` of the text's first byte.
-fn byte_character<A: Scarce>(trial: &Trial<'_, A>, text: &str, page: &mut Page) {
-    match text.as_bytes().first() {
-        Some(byte) => trial.ends(Literal::byte_character(trial.begins(), *byte), page),
-        None => page.put(UNFIT),
-    }
+/// The text's first byte, or zero.
+pub fn first_byte(text: &str) -> u8 {
+    text.as_bytes().first().copied().unwrap_or(0)
 }
 
-/// `Literal::character` of the text's first character.
-fn character<A: Scarce>(trial: &Trial<'_, A>, text: &str, page: &mut Page) {
-    match text.chars().next() {
-        Some(c) => trial.ends(Literal::character(trial.begins(), c), page),
-        None => page.put(UNFIT),
-    }
+/// The text's first character, or NUL.
+pub fn first_character(text: &str) -> char {
+    text.chars().next().unwrap_or('\0')
 }
 
 /// `Ident::new`.
@@ -93,11 +90,6 @@ fn append_last<A: Scarce>(trial: &Trial<'_, A>, text: &str, last: Literal<A>, pa
     }
 }
 
-/// `lex`, in the file 7.
-pub fn cut<A: Scarce>(trial: &Trial<'_, A>, text: &str, page: &mut Page) {
-    trial.ends(lex(trial.begins(), text, 7), page);
-}
-
 /// The parser of a type over the trees of the text, and what is left of the buffer.
 pub fn parsed<T: Parse<A> + Tell + Drop, A: Scarce>(
     trial: &Trial<'_, A>,
@@ -109,7 +101,7 @@ pub fn parsed<T: Parse<A> + Tell + Drop, A: Scarce>(
             let before = trial.lends(&stream);
             let mut input = ParseBuffer::new(stream.trees(), HERE);
             trial.ends(input.parse::<T>(trial.begins()), page);
-            trial.leaves(&Rest(input.rest()), before, page);
+            trial.leaves(&input, before, page);
         }
         None => page.put(UNFIT),
     }

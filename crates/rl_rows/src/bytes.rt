@@ -1,8 +1,6 @@
 //! Calls that take bytes: literals of them, and their values again.
 
-use crate::tell::{
-    HERE, at_word, debug_line, debug_word, put, show, show_word, tell, tell_error, word,
-};
+use crate::tell::{HERE, ToRow, at, put, tell, tell_debug, tell_error};
 use rl_refusing::Page;
 use rl_tokens::{CString, Error, Literal, NulError};
 use rust_literals::{Lit, LitByte, LitByteStr, LitCStr};
@@ -12,7 +10,10 @@ use std::alloc::Global;
 pub(crate) fn told(alloc: Global, name: &str, bytes: &[u8], out: &mut Page) -> bool {
     match name {
         "bytes" => each_byte(alloc, bytes, out),
-        "byte_string" => byte_string(alloc, bytes, out),
+        "byte_string" => {
+            tell(Literal::byte_string(alloc, bytes), out);
+            byte_string(LitByteStr::new(alloc, bytes, HERE), out)
+        }
         "c_string" => c_string(alloc, bytes, out),
         _ => return false,
     }
@@ -22,32 +23,29 @@ pub(crate) fn told(alloc: Global, name: &str, bytes: &[u8], out: &mut Page) -> b
 /// Each byte as a literal, and its value again.
 fn each_byte(alloc: Global, bytes: &[u8], out: &mut Page) {
     for byte in bytes {
-        one_byte(alloc, *byte, out);
+        tell(LitByte::new(alloc, *byte, HERE), out);
         tell(Literal::byte_character(alloc, *byte), out);
     }
 }
 
-/// A byte as a literal, and its value again.
-fn one_byte(alloc: Global, byte: u8, out: &mut Page) {
-    let Ok(literal) = LitByte::new(alloc, byte, HERE) else {
-        return out.fail();
-    };
-    show(&literal.value(), out);
-    word(literal.suffix(), out);
-    at_word(literal.span(), out)
+/// Its value, suffix and span.
+impl ToRow for LitByte {
+    fn put_in(&self, out: &mut Page) {
+        out.show(&self.value(), self.suffix());
+        out.put(" ");
+        at(self.span(), " ", out)
+    }
 }
 
-/// The bytes as a byte string literal, and its value again.
-fn byte_string(alloc: Global, bytes: &[u8], out: &mut Page) {
-    tell(Literal::byte_string(alloc, bytes), out);
-    let Ok(literal) = LitByteStr::new(alloc, bytes, HERE) else {
-        return out.fail();
-    };
-    let Ok(value) = literal.value(alloc) else {
-        return out.fail();
-    };
-    debug_word(&value.as_slice(), out);
-    put(Lit::ByteStr(literal), out)
+/// A byte string literal, and its value again.
+fn byte_string(made: Result<LitByteStr, Error>, out: &mut Page) {
+    match made {
+        Ok(literal) => {
+            tell_debug(literal.value(out.alloc()), " ", out);
+            put(Lit::ByteStr(literal), out)
+        }
+        Err(error) => tell_error(error, out),
+    }
 }
 
 /// The bytes as a C string, and it as a literal, and its value again.
@@ -56,7 +54,10 @@ fn c_string(alloc: Global, bytes: &[u8], out: &mut Page) {
         return out.fail();
     };
     match CString::new(bytes) {
-        Ok(held) => held_c_string(alloc, &held, out),
+        Ok(held) => {
+            held_c_string(alloc, &held, out);
+            drop(held)
+        }
         Err(rejected) => refused_c_string(rejected, out),
     }
 }
@@ -64,28 +65,32 @@ fn c_string(alloc: Global, bytes: &[u8], out: &mut Page) {
 /// Where the zero stands, and the bytes.
 fn refused_c_string(rejected: NulError, out: &mut Page) {
     out.put("zero at ");
-    show_word(&rejected.nul_position(), out);
-    word("of", out);
-    debug_line(&rejected.into_vec().as_slice(), out)
+    out.show(&rejected.nul_position(), " of ");
+    let bytes = rejected.into_vec();
+    out.debug(&bytes.as_slice(), "\n");
+    drop(bytes)
 }
 
 /// A C string as a literal, and its value again.
 fn held_c_string(alloc: Global, held: &CString, out: &mut Page) {
-    debug_word(&held.as_bytes(), out);
+    out.debug(&held.as_bytes(), " ");
     tell(Literal::c_string(alloc, held), out);
     match LitCStr::new(alloc, held, HERE) {
         Ok(literal) => {
             tell_held(literal.value(alloc), held, out);
             put(Lit::CStr(literal), out)
         }
-        Err(error) => tell_error(&error, out),
+        Err(error) => tell_error(error, out),
     }
 }
 
 /// Whether the C string that a literal stands for is the one that it was made of.
 fn tell_held(value: Result<CString, Error>, held: &CString, out: &mut Page) {
     match value {
-        Ok(value) => show_word(&(value == *held), out),
-        Err(_) => out.fail(),
+        Ok(value) => {
+            out.show(&(value == *held), " ");
+            drop(value)
+        }
+        Err(error) => tell_error(error, out),
     }
 }

@@ -1,22 +1,12 @@
 //! Equality and hash of literals.
 
-use crate::tell::{HERE, THERE, line, literal_of, show_line, show_word};
+use crate::tell::{HERE, THERE, literal_of, tell_error};
 use rl_refusing::Page;
-use rl_tokens::Span;
+use rl_tokens::{Error, Span};
 use rust_literals::Lit;
-use std::alloc::{AllocError, Global};
+use std::alloc::Global;
 use std::collections::HashMap;
 use std::hash::{DefaultHasher, Hash, Hasher};
-
-/// Prints what a call of this name answers; false where there is none.
-pub(crate) fn told(alloc: Global, name: &str, text: &str, out: &mut Page) -> bool {
-    match name {
-        "equal" => equal(alloc, text, out),
-        "map" => map(alloc, text, out),
-        _ => return false,
-    }
-    true
-}
 
 fn hash_of(literal: &Lit) -> u64 {
     let mut state = DefaultHasher::new();
@@ -25,39 +15,52 @@ fn hash_of(literal: &Lit) -> u64 {
 }
 
 /// Whether two literals, a LF between their texts, are equal, and hash alike, at two spans.
-fn equal(alloc: Global, text: &str, out: &mut Page) {
+pub(crate) fn equal(alloc: Global, text: &str, out: &mut Page) {
     let (first, second) = text.split_once('\n').unwrap_or((text, text));
-    let Ok(first) = literal_of(alloc, first, HERE) else {
-        return out.fail();
-    };
-    let Ok(second) = literal_of(alloc, second, THERE) else {
-        return out.fail();
-    };
-    show_word(&(first == second), out);
-    show_line(&(hash_of(&first) == hash_of(&second)), out)
+    match literal_of(alloc, first, HERE) {
+        Ok(first) => {
+            equals(&first, literal_of(alloc, second, THERE), out);
+            drop(first)
+        }
+        Err(error) => tell_error(error, out),
+    }
+}
+
+/// Whether two literals are equal, and hash alike.
+fn equals(first: &Lit, second: Result<Lit, Error>, out: &mut Page) {
+    match second {
+        Ok(second) => {
+            out.show(&(*first == second), " ");
+            out.show(&(hash_of(first) == hash_of(&second)), "\n");
+            drop(second)
+        }
+        Err(error) => tell_error(error, out),
+    }
 }
 
 /// Puts the literals of the text, which LF part, into a map, and tells of each which one stood there before.
-fn map(alloc: Global, text: &str, out: &mut Page) {
+pub(crate) fn map(alloc: Global, text: &str, out: &mut Page) {
     let mut map = HashMap::new(alloc);
     for (at, text) in text.split('\n').enumerate() {
-        match put(alloc, at, text, &mut map) {
-            Ok(before) => tell_before(at, before, out),
-            Err(_) => out.fail(),
-        }
+        put(alloc, at, text, &mut map, out);
     }
-    show_line(&map.len(), out)
+    out.show(&map.len(), "\n")
 }
 
-/// Puts the literal that a text is into the map; which one stood there before.
-fn put(
-    alloc: Global,
-    at: usize,
-    text: &str,
-    map: &mut HashMap<Lit, usize>,
-) -> Result<Option<usize>, AllocError> {
-    let literal = literal_of(alloc, text, Span::new(0, at, at))?;
-    Ok(map.insert(literal, at)?)
+/// Puts the literal that a text is into the map, and tells which one stood there before.
+fn put(alloc: Global, at: usize, text: &str, map: &mut HashMap<Lit, usize>, out: &mut Page) {
+    match literal_of(alloc, text, Span::new(0, at, at)) {
+        Ok(literal) => put_literal(at, literal, map, out),
+        Err(error) => tell_error(error, out),
+    }
+}
+
+/// Puts a literal into the map, and tells which one stood there before.
+fn put_literal(at: usize, literal: Lit, map: &mut HashMap<Lit, usize>, out: &mut Page) {
+    match map.insert(literal, at) {
+        Ok(before) => tell_before(at, before, out),
+        Err(_) => out.fail(),
+    }
 }
 
 /// Prints which one stood there before.
@@ -66,8 +69,8 @@ fn tell_before(at: usize, before: Option<usize>, out: &mut Page) {
     match before {
         Some(before) => {
             out.put(" as ");
-            show_line(&before, out)
+            out.show(&before, "\n")
         }
-        None => line(" new", out),
+        None => out.put(" new\n"),
     }
 }

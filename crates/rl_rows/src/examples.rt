@@ -17,27 +17,23 @@ use std::fmt::Debug;
 /// Prints a call, and what it returns.
 macro_rules! shown {
     ($out:expr, $call:expr) => {
-        put(stringify!($call), &$call, $out)
+        put(stringify!($call), $call, $out)
     };
 }
 
-/// Prints what the examples return, where that is asked for; false where it isn't.
-pub(crate) fn told(alloc: Global, name: &str, out: &mut Page) -> bool {
-    if name != "examples" {
-        return false;
-    }
+/// Prints what the examples return.
+pub(crate) fn examples(alloc: Global, out: &mut Page) {
     of_tokens(alloc, out);
     of_buffers(alloc, out);
     of_grammar(alloc, out);
-    of_literals(alloc, out);
-    true
+    of_literals(alloc, out)
 }
 
 /// Prints a call and its value.
-fn put<T: Debug>(call: &str, value: &T, out: &mut Page) {
+fn put<T: Debug + Drop>(call: &str, value: T, out: &mut Page) {
     out.put(call);
     out.put(" == ");
-    out.put_debug(value);
+    out.put_debug(&value);
     out.put("\n")
 }
 

@@ -1,43 +1,32 @@
 //! Parsing inside strings.
 
-use crate::tell::{THERE, at, at_line, at_word, line, show_word, tell_error};
+use crate::tell::{THERE, ToRow, at, tell};
 use rl_refusing::Page;
 use rl_tokens::{Error, Group, ParseBuffer, Parser, Span};
-use rust_literals::{Lit, LitInt, LitStr};
+use rust_literals::{Lit, LitInt};
 use std::alloc::{Allocator, Global};
 
 /// The integer inside a string, or why there is none.
 pub(crate) fn inside(alloc: Global, literal: &Lit, out: &mut Page) {
     match literal {
-        Lit::Str(string) => integer_inside(alloc, string, out),
-        _ => line("no string", out),
+        Lit::Str(string) => tell(string.parse::<LitInt, Global>(alloc), out),
+        _ => out.put("no string\n"),
     }
 }
 
-/// The integer inside a string literal.
-fn integer_inside(alloc: Global, string: &LitStr, out: &mut Page) {
-    match string.parse::<LitInt, Global>(alloc) {
-        Ok(integer) => {
-            show_word(&integer, out);
-            at_line(integer.span(), out)
-        }
-        Err(error) => tell_error(&error, out),
+/// As it is displayed, with its span.
+impl ToRow for LitInt {
+    fn put_in(&self, out: &mut Page) {
+        out.show(self, " ");
+        at(self.span(), "\n", out)
     }
 }
 
 /// The spans of the trees inside a string, by a user's own parser.
 pub(crate) fn group(alloc: Global, literal: &Lit, out: &mut Page) {
     match literal {
-        Lit::Str(string) => group_inside(alloc, string, out),
-        _ => line("no string", out),
-    }
-}
-
-/// The spans of the trees inside a string literal.
-fn group_inside(alloc: Global, string: &LitStr, out: &mut Page) {
-    match string.parse_with(alloc, SpansOfGroup) {
-        Ok(spans) => tell_spans(&spans, out),
-        Err(error) => tell_error(&error, out),
+        Lit::Str(string) => tell(string.parse_with(alloc, SpansOfGroup), out),
+        _ => out.put("no string\n"),
     }
 }
 
@@ -50,12 +39,13 @@ struct Spans {
     last: Span,
 }
 
-/// Prints the four spans.
-fn tell_spans(spans: &Spans, out: &mut Page) {
-    at_word(spans.outer, out);
-    at_word(spans.first, out);
-    at_word(spans.inner, out);
-    at(spans.last, " \n", out)
+impl ToRow for Spans {
+    fn put_in(&self, out: &mut Page) {
+        at(self.outer, " ", out);
+        at(self.first, " ", out);
+        at(self.inner, " ", out);
+        at(self.last, " \n", out)
+    }
 }
 
 /// Takes a group of a literal and a group of a literal, and tells the four spans.

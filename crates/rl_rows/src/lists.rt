@@ -1,34 +1,23 @@
 //! Lists of literals: where each stands, and pairs of them with a gap between.
 
-use crate::tell::{ToRow, at_line, debug_word, literal_of, place, show_line, tell, tell_line};
+use crate::tell::{ToRow, literal_of, place, tell, tell_error, tell_line, tell_spanned};
 use rl_refusing::Page;
 use rl_tokens::{Error, Span};
 use rust_literals::{Lit, read_all};
 use std::alloc::Global;
 
-/// Prints what a call of this name answers; false where there is none.
-pub(crate) fn told(alloc: Global, name: &str, text: &str, out: &mut Page) -> bool {
-    match name {
-        "places" => places(alloc, text, out),
-        "texts" => tell(read_all(alloc, text, 7), out),
-        "pairs" => pairs(alloc, text, out),
-        _ => return false,
-    }
-    true
-}
-
 /// Each literal's bytes and line, or the error and its bytes.
-fn places(alloc: Global, text: &str, out: &mut Page) {
+pub(crate) fn places(alloc: Global, text: &str, out: &mut Page) {
     match read_all(alloc, text, 0) {
         Ok(literals) => tell_places(alloc, literals.as_slice(), out),
-        Err(error) => tell_refused(&error, out),
+        Err(error) => tell_refused(error, out),
     }
 }
 
 /// An error's bytes and message.
-fn tell_refused(error: &Error, out: &mut Page) {
+fn tell_refused(error: Error, out: &mut Page) {
     place(error.span, out);
-    show_line(error, out)
+    out.show(&error, "\n")
 }
 
 /// Each literal's bytes and line.
@@ -43,8 +32,7 @@ fn tell_places(alloc: Global, literals: &[Lit], out: &mut Page) {
 impl ToRow for Vec<Lit> {
     fn put_in(&self, out: &mut Page) {
         for literal in self.as_slice() {
-            debug_word(literal, out);
-            at_line(literal.span(), out);
+            tell_spanned(literal, "\n", out);
         }
     }
 }
@@ -53,12 +41,15 @@ impl ToRow for Vec<Lit> {
 fn tell_placed(alloc: Global, text: &str, span: Span, out: &mut Page) {
     place(span, out);
     match literal_of(alloc, text, span) {
-        Ok(literal) => {
-            tell_line(alloc, &literal, out);
-            drop(literal)
-        }
-        Err(_) => out.fail(),
+        Ok(literal) => tell_own_line(literal, out),
+        Err(error) => tell_error(error, out),
     }
+}
+
+/// The line of a literal that is let go.
+fn tell_own_line(literal: Lit, out: &mut Page) {
+    tell_line(out.alloc(), &literal, out);
+    drop(literal)
 }
 
 /// Whether two texts with a gap between them read as each reads by itself.
@@ -79,7 +70,7 @@ fn agrees(alloc: Global, first: &str, gap: &str, second: &str) -> bool {
 /// How many of the texts read after each of the others and a gap as they do by themselves; and those that don't.
 ///
 /// A U+001E parts the gap, the texts in front and those after; a U+001F parts texts.
-fn pairs(alloc: Global, rows: &str, out: &mut Page) {
+pub(crate) fn pairs(alloc: Global, rows: &str, out: &mut Page) {
     let (gap, texts) = rows.split_once('\u{1e}').unwrap_or(("", rows));
     let (fronts, backs) = texts.split_once('\u{1e}').unwrap_or((texts, ""));
     let mut agreed = 0_u64;

@@ -1,10 +1,7 @@
 //! Calls on the literal that a text is.
 
 use crate::inside::{group, inside};
-use crate::tell::{
-    HERE, THERE, ToRow, at_line, at_word, debug_line, debug_word, line, literal_of, put, show_line,
-    show_word, tell, tell_trees, word,
-};
+use crate::tell::{HERE, THERE, ToRow, at, literal_of, put, tell, tell_error, tell_trees};
 use crate::uses::anew;
 use rl_refusing::Page;
 use rl_tokens::{Ident, ParseBuffer, ToTokens, TokenStream};
@@ -13,13 +10,17 @@ use std::alloc::Global;
 
 /// Prints what a call of this name answers about the literal that the text is; false where there is none.
 pub(crate) fn told(alloc: Global, name: &str, text: &str, out: &mut Page) -> bool {
-    let Ok(mut literal) = literal_of(alloc, text, HERE) else {
-        out.fail();
-        return true;
-    };
-    let is_call = told_of(alloc, name, &mut literal, out);
-    drop(literal);
-    is_call
+    match literal_of(alloc, text, HERE) {
+        Ok(mut literal) => {
+            let is_call = told_of(alloc, name, &mut literal, out);
+            drop(literal);
+            is_call
+        }
+        Err(error) => {
+            tell_error(error, out);
+            true
+        }
+    }
 }
 
 /// Prints what a call of this name answers about the literal; false where there is none.
@@ -45,19 +46,19 @@ fn moved(alloc: Global, literal: &mut Lit, out: &mut Page) {
     literal.put_in(out);
     push_copy(alloc, literal, out);
     appended(alloc, literal, out);
-    debug_word(&literal.suffix(), out);
+    out.debug(&literal.suffix(), " ");
     literal.set_span(THERE);
-    at_line(literal.span(), out)
+    at(literal.span(), "\n", out)
 }
 
 /// A copy, and whether it is equal.
 fn push_copy(alloc: Global, literal: &Lit, out: &mut Page) {
     match literal.clone(alloc) {
         Ok(copy) => {
-            show_word(&(copy == *literal), out);
+            out.show(&(copy == *literal), " ");
             put(copy, out)
         }
-        Err(_) => out.fail(),
+        Err(error) => tell_error(error, out),
     }
 }
 
@@ -75,8 +76,8 @@ fn appended(alloc: Global, literal: &Lit, out: &mut Page) {
 /// A truth value: made, moved, and as a token.
 fn truth(alloc: Global, value: bool, out: &mut Page) {
     let mut literal = LitBool::new(value, HERE);
-    show_word(&literal.value(), out);
-    at_word(literal.span(), out);
+    out.show(&literal.value(), " ");
+    at(literal.span(), " ", out);
     literal.set_span(THERE);
     tell(literal.token(alloc), out)
 }
@@ -84,18 +85,18 @@ fn truth(alloc: Global, value: bool, out: &mut Page) {
 /// Its text and span.
 impl ToRow for Ident {
     fn put_in(&self, out: &mut Page) {
-        word(self.text(), out);
-        at_line(self.span(), out)
+        out.say(self.text(), " ");
+        at(self.span(), "\n", out)
     }
 }
 
 /// The text's number or token as it is displayed.
 fn shown(literal: &Lit, out: &mut Page) {
     match literal {
-        Lit::Int(literal) => show_line(literal, out),
-        Lit::Float(literal) => show_line(literal, out),
-        Lit::Verbatim(token) => show_line(token, out),
-        _ => line("another literal", out),
+        Lit::Int(literal) => out.show(literal, "\n"),
+        Lit::Float(literal) => out.show(literal, "\n"),
+        Lit::Verbatim(token) => out.show(token, "\n"),
+        _ => out.put("another literal\n"),
     }
 }
 
@@ -105,15 +106,15 @@ fn lends(literal: &Lit, out: &mut Page) {
         Lit::Str(literal) => tell_lent(literal.value_ref(), out),
         Lit::ByteStr(literal) => tell_lent_bytes(literal.value_ref(), out),
         Lit::CStr(literal) => tell_lent_bytes(literal.value_ref(), out),
-        _ => line("no string", out),
+        _ => out.put("no string\n"),
     }
 }
 
 /// Prints a text that is borrowed.
 fn tell_lent(lent: Option<&str>, out: &mut Page) {
     match lent {
-        Some(value) => debug_line(&value, out),
-        None => line("nothing", out),
+        Some(value) => out.debug(&value, "\n"),
+        None => out.put("nothing\n"),
     }
 }
 
@@ -121,9 +122,9 @@ fn tell_lent(lent: Option<&str>, out: &mut Page) {
 fn tell_lent_bytes(lent: Option<&[u8]>, out: &mut Page) {
     match lent {
         Some(bytes) => match std::str::from_utf8(bytes) {
-            Ok(value) => debug_line(&value, out),
-            Err(_) => line("no text", out),
+            Ok(value) => out.debug(&value, "\n"),
+            Err(_) => out.put("no text\n"),
         },
-        None => line("nothing", out),
+        None => out.put("nothing\n"),
     }
 }

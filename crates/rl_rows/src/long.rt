@@ -1,50 +1,33 @@
 //! Long numbers, told in brief.
 
-use crate::tell::{HERE, literal_of, word};
+use crate::runs::put_pieces;
+use crate::tell::{HERE, literal_of, tell_error};
 use rl_refusing::Page;
 use rust_literals::Lit;
-use std::alloc::{AllocError, Global};
+use std::alloc::Global;
 
-/// Prints the number that a row of pieces spells; false where another call is meant.
-pub(crate) fn told(alloc: Global, name: &str, row: &str, out: &mut Page) -> bool {
-    if name != "long" {
-        return false;
+/// Prints the number that a row of pieces spells.
+pub(crate) fn number(alloc: Global, row: &str, out: &mut Page) {
+    let mut text = out.another();
+    put_pieces(row, ' ', &mut text);
+    match literal_of(alloc, text.text(), HERE) {
+        Ok(literal) => tell_number(literal, out),
+        Err(error) => tell_error(error, out),
     }
-    let Ok(text) = spelled(alloc, row) else {
-        out.fail();
-        return true;
-    };
-    let Ok(literal) = literal_of(alloc, text.as_str(), HERE) else {
-        out.fail();
-        return true;
-    };
-    tell_number(&literal, out);
-    true
-}
-
-/// The text that a row spells: pieces with a space between, each after how often it stands there, as `1*0x 64*F`.
-fn spelled(alloc: Global, row: &str) -> Result<String, AllocError> {
-    let mut text = String::new(alloc);
-    for part in row.split(' ') {
-        let (count, piece) = part.split_once('*').unwrap_or(("1", part));
-        for _ in 0..count.parse::<u32>().unwrap_or(0) {
-            text.push_str(piece)?;
-        }
-    }
-    Ok(text)
 }
 
 /// Prints a number's digits and its suffix, of any other literal its text.
-fn tell_number(literal: &Lit, out: &mut Page) {
-    match literal {
+fn tell_number(literal: Lit, out: &mut Page) {
+    match &literal {
         Lit::Int(number) => tell_parts("Int", number.base10_digits(), number.suffix(), out),
         Lit::Float(number) => tell_parts("Float", number.base10_digits(), number.suffix(), out),
         other => tell_parts("Verbatim", other.text(), "", out),
     }
+    drop(literal)
 }
 
 fn tell_parts(kind: &str, digits: &str, suffix: &str, out: &mut Page) {
-    word(kind, out);
+    out.say(kind, " ");
     tell_brief(digits, out);
     if !suffix.is_empty() {
         out.put(" ");
@@ -59,6 +42,6 @@ fn tell_brief(text: &str, out: &mut Page) {
         return out.put(text);
     }
     out.say(text.get(..8).unwrap_or(""), "..");
-    word(text.get(text.len() - 8..).unwrap_or(""), out);
+    out.say(text.get(text.len() - 8..).unwrap_or(""), " ");
     out.put_shown(&text.len())
 }

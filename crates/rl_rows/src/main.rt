@@ -18,7 +18,6 @@ mod parsers;
 mod rejected;
 mod row;
 mod runs;
-mod scans;
 mod shapes;
 mod streams;
 mod takers;
@@ -28,6 +27,7 @@ mod trees;
 mod turns;
 mod uses;
 
+use std::alloc::Global;
 use std::io;
 use std::io::{BufRead, BufReader, BufWriter, Write};
 
@@ -35,8 +35,21 @@ fn main(rt: HostRuntime) -> io::Result<()> {
     let alloc = rt.alloc();
     let mut out = BufWriter::new(alloc, io::writer(&rt))?;
     for line in BufReader::new(alloc, rt.reader())?.split(alloc, b'\n') {
-        let answer = row::told(alloc, line?.as_slice())?;
-        out.write_all(answer.as_bytes())?;
+        answer_to(alloc, line?, &mut out)?;
     }
     out.flush()
+}
+
+/// Writes what is printed for a line of input.
+fn answer_to<W: Write>(alloc: Global, line: Vec<u8>, out: &mut W) -> io::Result<()> {
+    let answer = row::told(alloc, line.as_slice());
+    drop(line);
+    write_answer(answer?, out)
+}
+
+/// Writes an answer.
+fn write_answer<W: Write>(answer: String, out: &mut W) -> io::Result<()> {
+    let written = out.write_all(answer.as_bytes());
+    drop(answer);
+    written
 }

@@ -1,7 +1,7 @@
 //! Parsers and peeks over the trees of a text.
 
 use crate::takers::{takers, two_files};
-use crate::tell::{at_line, line, tell_error, trees_of};
+use crate::tell::{at, tell_error, trees_of};
 use crate::turns::{Sign, turns};
 use rl_refusing::Page;
 use rl_tokens::{Error, Parse, ParseBuffer, Span, Token};
@@ -20,14 +20,6 @@ pub(crate) fn told(alloc: Global, name: &str, text: &str, out: &mut Page) -> boo
         "LitChar" => parsed_as::<LitChar>(alloc, text, out),
         "turns" => turns(alloc, text, out),
         "takers" => takers(alloc, text, out),
-        _ => return others(alloc, name, text, out),
-    }
-    true
-}
-
-/// Prints what a further call of this name answers; false where there is none.
-fn others(alloc: Global, name: &str, text: &str, out: &mut Page) -> bool {
-    match name {
         "Lit" => parsed_as::<Lit>(alloc, text, out),
         "LitInt" => parsed_as::<LitInt>(alloc, text, out),
         "LitFloat" => parsed_as::<LitFloat>(alloc, text, out),
@@ -44,7 +36,7 @@ fn others(alloc: Global, name: &str, text: &str, out: &mut Page) -> bool {
 /// stands then.
 fn parsed_as<T: Parse<Global> + Token + Drop>(alloc: Global, text: &str, out: &mut Page) {
     let Some(stream) = trees_of(alloc, text, 0) else {
-        return line("no trees", out);
+        return out.put("no trees\n");
     };
     let end = Span::new(0, text.len(), text.len());
     let mut input = ParseBuffer::new(stream.trees(), end);
@@ -58,7 +50,7 @@ fn parsed_as<T: Parse<Global> + Token + Drop>(alloc: Global, text: &str, out: &m
 /// stands then.
 fn mark(alloc: Global, text: &str, out: &mut Page) {
     let Some(stream) = trees_of(alloc, text, 0) else {
-        return line("no trees", out);
+        return out.put("no trees\n");
     };
     let end = Span::new(0, text.len(), text.len());
     let mut input = ParseBuffer::new(stream.trees(), end);
@@ -74,13 +66,13 @@ fn mark(alloc: Global, text: &str, out: &mut Page) {
 /// Whether a value was parsed, or why there is none.
 pub(crate) fn tell_parsed<T: Drop>(answer: Result<T, Error>, out: &mut Page) {
     match answer {
-        Ok(_) => line("ok", out),
-        Err(error) => tell_error(&error, out),
+        Ok(_) => out.put("ok\n"),
+        Err(error) => tell_error(error, out),
     }
 }
 
 /// Where the buffer stands.
 pub(crate) fn tell_next(input: &ParseBuffer<'_>, out: &mut Page) {
     out.put("next ");
-    at_line(input.span(), out)
+    at(input.span(), "\n", out)
 }

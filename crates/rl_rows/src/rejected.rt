@@ -1,10 +1,11 @@
 //! Calls whose allocations fail.
 
-use crate::tell::{HERE, at_line, at_word, line, show_line, show_word, word};
+use crate::runs::put_often;
+use crate::tell::{HERE, at, literal_of};
 use rl_refusing::{Page, Refusing};
-use rl_tokens::{Kept, Literal};
+use rl_tokens::{Error, Kept, Literal};
 use rust_literals::{Lit, LitStr};
-use std::alloc::{AllocError, Global};
+use std::alloc::Global;
 
 /// A borrowed allocator that fails where it is asked to.
 type Lent<'a> = &'a Refusing<Global>;
@@ -20,81 +21,89 @@ pub(crate) fn told(alloc: Global, name: &str, text: &str, out: &mut Page) -> boo
     true
 }
 
-/// A token of the text, with its memory from an allocator that fails on nothing yet.
-fn token_of<'a>(refusing: Lent<'a>, text: &str) -> Result<Literal<Lent<'a>>, AllocError> {
+/// The literal of a token, with every allocation failing.
+fn all_refused(refusing: Lent<'_>, text: &str, out: &mut Page) {
     match Literal::from_text(refusing, text, HERE) {
-        Ok(token) => Ok(token),
-        Err(_) => Err(AllocError),
+        Ok(token) => refused_literal(refusing, token, out),
+        Err(error) => failed(error, out),
     }
 }
 
-/// The literal of a token, with every allocation failing: what it is, or why not, and the token that comes back.
-fn all_refused(refusing: Lent<'_>, text: &str, out: &mut Page) {
-    let Ok(token) = token_of(refusing, text) else {
-        return out.fail();
-    };
+/// What a token is with every allocation failing, or why not, and the token that comes back.
+fn refused_literal<'a>(refusing: Lent<'a>, token: Literal<Lent<'a>>, out: &mut Page) {
     refusing.refuse(1, u64::MAX);
     let answer = Lit::new(refusing, token);
     refusing.allow();
     match answer {
-        Ok(literal) => tell_number(&literal, out),
-        Err(kept) => tell_kept(&kept, out),
+        Ok(literal) => tell_number(literal, out),
+        Err(kept) => tell_kept(kept, out),
     }
 }
 
 /// Why a token is no literal, and the token.
-fn tell_kept<'a>(kept: &Kept<Literal<Lent<'a>>, Lent<'a>>, out: &mut Page) {
-    show_word(&kept.error, out);
-    at_word(kept.error.span, out);
-    word(kept.value.text(), out);
-    at_line(kept.value.span(), out)
+fn tell_kept<'a>(kept: Kept<Literal<Lent<'a>>, Lent<'a>>, out: &mut Page) {
+    out.show(&kept.error, " ");
+    at(kept.error.span, " ", out);
+    out.say(kept.value.text(), " ");
+    at(kept.value.span(), "\n", out);
+    drop(kept)
 }
 
 /// Prints the digits of a number, and its suffix.
-fn tell_number(literal: &Lit<Lent<'_>>, out: &mut Page) {
-    match literal {
+fn tell_number(literal: Lit<Lent<'_>>, out: &mut Page) {
+    match &literal {
         Lit::Int(number) => {
             out.put("Int ");
-            word(number.base10_digits(), out)
+            out.say(number.base10_digits(), " ")
         }
         Lit::Float(number) => {
             out.put("Float ");
-            word(number.base10_digits(), out)
+            out.say(number.base10_digits(), " ")
         }
-        other => word(other.text(), out),
+        other => out.say(other.text(), " "),
     }
-    line(literal.suffix(), out)
-}
-
-/// The text ten thousand times over, as a string's token.
-fn long_string<'a>(refusing: Lent<'a>, text: &str) -> Result<Literal<Lent<'a>>, AllocError> {
-    let mut quoted = String::from_str(refusing, "\"")?;
-    for _ in 0..10_000 {
-        quoted.push_str(text)?;
-    }
-    quoted.push_str("\"")?;
-    token_of(refusing, quoted.as_str())
+    out.say(literal.suffix(), "\n");
+    drop(literal)
 }
 
 /// The value of a string whose contents are the text ten thousand times over, with all allocations but the first failing.
 fn second_refused(refusing: Lent<'_>, text: &str, out: &mut Page) {
-    let Ok(token) = long_string(refusing, text) else {
-        return out.fail();
-    };
-    match Lit::new(refusing, token) {
-        Ok(Lit::Str(literal)) => refused_value(refusing, &literal, out),
-        _ => line("no string", out),
+    let mut quoted = out.another();
+    quoted.put("\"");
+    put_often(10_000, text, &mut quoted);
+    quoted.put("\"");
+    match literal_of(refusing, quoted.text(), HERE) {
+        Ok(literal) => refused_string(refusing, literal, out),
+        Err(error) => failed(error, out),
     }
+}
+
+/// The value of a string, with all allocations but the first failing.
+fn refused_string<'a>(refusing: Lent<'a>, literal: Lit<Lent<'a>>, out: &mut Page) {
+    match &literal {
+        Lit::Str(string) => refused_value(refusing, string, out),
+        _ => out.put("no string\n"),
+    }
+    drop(literal)
 }
 
 /// Whether the string borrows its value, and what it answers with all allocations but the first failing.
 fn refused_value<'a>(refusing: Lent<'a>, literal: &LitStr<Lent<'a>>, out: &mut Page) {
-    show_word(&literal.value_ref().is_some(), out);
+    out.show(&literal.value_ref().is_some(), " ");
     refusing.refuse(2, u64::MAX);
     let value = literal.value(refusing);
     refusing.allow();
     match value {
-        Ok(value) => show_line(&value.len(), out),
-        Err(error) => show_line(&error, out),
+        Ok(value) => {
+            out.show(&value.len(), "\n");
+            drop(value)
+        }
+        Err(error) => failed(error, out),
     }
+}
+
+/// Prints an error.
+fn failed<'a>(error: Error<Lent<'a>>, out: &mut Page) {
+    out.show(&error, "\n");
+    drop(error)
 }

@@ -22,7 +22,7 @@ fn of_call(alloc: Global, row: &str) -> Result<String, AllocError> {
     let mut out = Page::new(alloc);
     let (name, digits) = parts_of(row);
     match decoded(alloc, digits.as_bytes())? {
-        Some(bytes) => calls::tell(alloc, name, bytes.as_slice(), &mut out),
+        Some(bytes) => calls::answer(alloc, name, bytes.as_slice(), &mut out),
         None => out.put("error: no bytes\n"),
     }
     out.finished()

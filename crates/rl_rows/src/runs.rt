@@ -1,13 +1,15 @@
-//! Calls of the program for texts, lists and attributes. A US (0x1F) parts its words, with a LF between them, from its
-//! input, and what its streams are like from the words.
+//! Calls of the two programs, for texts, lists and attributes and for whole sources. A US (0x1F) parts a program's words from
+//! its input, and what its streams are like from the words. Between the words stands a LF, or a space where the program is
+//! that for sources, whose own name is left out.
 
 use crate::streams::{Input, Output, Streams};
-use crate::tell::{show_line, show_word};
 use rl_commands::{Ending, call};
 use rl_program::Fault;
 use rl_refusing::Page;
+use rl_sources::call as call_of_sources;
 use rl_tokens::{Error, ErrorKind, Span};
 use std::alloc::{AllocError, Global};
+use std::fmt::Display;
 
 /// Prints what a call of this name answers; false where there is none.
 pub(crate) fn told(alloc: Global, name: &str, bytes: &[u8], out: &mut Page) -> bool {
@@ -15,6 +17,10 @@ pub(crate) fn told(alloc: Global, name: &str, bytes: &[u8], out: &mut Page) -> b
         "call" => called(alloc, bytes, out),
         "call_by" => called_by(alloc, bytes, out),
         "endings" => endings(out),
+        "scan" => scanned(alloc, bytes, "", out),
+        "scan_slow" => scanned(alloc, bytes, "3", out),
+        "scan_unread" => scanned(alloc, bytes, "3 6", out),
+        "scan_unwritten" => scanned(alloc, bytes, "3 all 6", out),
         _ => return false,
     }
     true
@@ -22,9 +28,19 @@ pub(crate) fn told(alloc: Global, name: &str, bytes: &[u8], out: &mut Page) -> b
 
 /// The bytes before the first US, and those after it.
 fn parts_of(bytes: &[u8]) -> (&[u8], &[u8]) {
-    let at = bytes.iter().position(|b| *b == 0x1f).unwrap_or(bytes.len());
-    let (front, rest) = bytes.split_at(at);
-    (front, rest.get(1..).unwrap_or(&[]))
+    let at = place_of_mark(bytes);
+    let front = bytes.get(..at).unwrap_or(bytes);
+    (front, bytes.get(at.saturating_add(1)..).unwrap_or(&[]))
+}
+
+/// Where the first US stands, or the end.
+fn place_of_mark(bytes: &[u8]) -> usize {
+    for (at, byte) in bytes.iter().enumerate() {
+        if *byte == 0x1f {
+            return at;
+        }
+    }
+    bytes.len()
 }
 
 /// The bytes as a text, which is empty where they are none.
@@ -35,7 +51,7 @@ fn text_of(bytes: &[u8]) -> &str {
 /// Prints a call over streams that pass all bytes.
 fn called(alloc: Global, bytes: &[u8], out: &mut Page) {
     let (words, input) = parts_of(bytes);
-    put_call(alloc, text_of(words), input, Streams::WHOLE, out)
+    put_call(alloc, text_of(words), input, "", out)
 }
 
 /// Prints a call whose input is spelled by pieces, over streams that words ask for.
@@ -43,24 +59,44 @@ fn called_by(alloc: Global, bytes: &[u8], out: &mut Page) {
     let (streams, rest) = parts_of(bytes);
     let (words, pieces) = parts_of(rest);
     let mut input = out.another();
-    put_pieces(text_of(pieces), &mut input);
-    let Ok(input) = input.finished() else {
-        return out.fail();
-    };
-    let streams = Streams::of_words(text_of(streams));
-    put_call(alloc, text_of(words), input.as_bytes(), streams, out)
+    put_pieces(text_of(pieces), '\u{1e}', &mut input);
+    put_call(
+        alloc,
+        text_of(words),
+        input.text().as_bytes(),
+        text_of(streams),
+        out,
+    )
 }
 
-/// Puts pieces last that a RS (0x1E) parts, each after how often it stands there, as `3*a`.
-fn put_pieces(pieces: &str, text: &mut Page) {
-    for part in pieces.split('\u{1e}') {
+/// Prints a call of the program for sources, over streams that words ask for.
+fn scanned(alloc: Global, bytes: &[u8], streams: &str, out: &mut Page) {
+    let (words, input) = parts_of(bytes);
+    let mut args = out.another();
+    args.put(SCAN);
+    for word in text_of(words).split(' ') {
+        put_word(word, &mut args);
+    }
+    put_call(alloc, args.text(), input, streams, out)
+}
+
+/// Puts a word last, after a LF; nothing where it is empty.
+fn put_word(word: &str, args: &mut Page) {
+    if !word.is_empty() {
+        args.say("\n", word);
+    }
+}
+
+/// Puts pieces last that a character parts, each after how often it stands there, as `3*a`.
+pub(crate) fn put_pieces(pieces: &str, between: char, text: &mut Page) {
+    for part in pieces.split(between) {
         let (count, piece) = part.split_once('*').unwrap_or(("1", part));
         put_often(count.parse::<u32>().unwrap_or(0), piece, text);
     }
 }
 
 /// Puts a piece last so many times.
-fn put_often(count: u32, piece: &str, text: &mut Page) {
+pub(crate) fn put_often(count: u32, piece: &str, text: &mut Page) {
     for _ in 0..count {
         text.put(piece);
     }
@@ -75,11 +111,20 @@ fn arguments(alloc: Global, words: &str) -> Result<Vec<String>, AllocError> {
     Ok(args)
 }
 
+/// Prints what a call writes, its status, and the line that it reports, over streams that words ask for.
+fn put_call(alloc: Global, words: &str, input: &[u8], streams: &str, out: &mut Page) {
+    match arguments(alloc, words) {
+        Ok(args) => {
+            put_call_of(args.as_slice(), input, Streams::of_words(streams), out);
+            drop(args)
+        }
+        Err(_) => out.fail(),
+    }
+}
+
 /// Prints what a call writes, its status, and the line that it reports.
-fn put_call(alloc: Global, words: &str, input: &[u8], streams: Streams, out: &mut Page) {
-    let Ok(args) = arguments(alloc, words) else {
-        return out.fail();
-    };
+fn put_call_of(args: &[String], input: &[u8], streams: Streams, out: &mut Page) {
+    let alloc = out.alloc();
     let mut held = Vec::new(alloc);
     let mut input = Input {
         bytes: input,
@@ -92,20 +137,38 @@ fn put_call(alloc: Global, words: &str, input: &[u8], streams: Streams, out: &mu
         left: streams.writable,
         is_full: streams.is_full,
     };
-    let ending = call(alloc, args.as_slice(), &mut input, &mut output);
-    out.put(text_of(held.as_slice()));
-    put_ending(&ending, out)
+    if is_scan(args) {
+        let ending = call_of_sources(alloc, args, &mut input, &mut output);
+        put_ending(held.as_slice(), ending.status(), ending, out)
+    } else {
+        let ending = call(alloc, args, &mut input, &mut output);
+        put_ending(held.as_slice(), ending.status(), ending, out)
+    }
+    drop(held)
 }
 
-/// Prints the status of an ending, and the line that it reports.
-fn put_ending(ending: &Ending, out: &mut Page) {
-    show_word(&ending.status(), out);
-    show_line(ending, out)
+/// The name of the program for sources.
+const SCAN: &str = "rl_scan";
+
+/// Whether the program for sources is called.
+fn is_scan(args: &[String]) -> bool {
+    match args.first() {
+        Some(name) => name.as_str() == SCAN,
+        None => false,
+    }
+}
+
+/// Prints what was written, the status of an ending, and the line that it reports.
+fn put_ending<E: Display + Drop>(held: &[u8], status: u8, ending: E, out: &mut Page) {
+    out.put(text_of(held));
+    out.show(&status, " ");
+    out.show(&ending, "\n")
 }
 
 /// Prints how a call ends whose run fails.
 fn put_failed(fault: Fault, out: &mut Page) {
-    put_ending(&Ending::Failed(fault), out)
+    let ending: Ending = Ending::Failed(fault);
+    put_ending(&[], ending.status(), ending, out)
 }
 
 /// Prints how a call ends whose run fails, of each kind of error.

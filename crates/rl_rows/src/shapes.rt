@@ -1,6 +1,6 @@
 //! What the grammars answer of one text.
 
-use crate::tell::{debug_line, debug_word, line, show_line};
+use crate::tell::{tell, tell_debug, tell_error};
 use rl_grammar::{
     Kind, Parts, byte_of, bytes_of, char_of, digits_of, float_shape, int_shape, is_plain, shape,
     shape_negative, str_of,
@@ -16,7 +16,7 @@ pub(crate) fn told(alloc: Global, name: &str, text: &str, out: &mut Page) -> boo
         "int_shape" => integer(text, out),
         "float_shape" => tell_parts(float_shape(text), out),
         "shape_negative" => tell_parts(shape_negative(text), out),
-        "skipped" => line(whitespace::skip(text), out),
+        "skipped" => out.say(whitespace::skip(text), "\n"),
         "contents" => contents(alloc, text, out),
         "plain" => plain(text, out),
         _ => return false,
@@ -28,12 +28,12 @@ pub(crate) fn told(alloc: Global, name: &str, text: &str, out: &mut Page) -> boo
 fn tell_parts(parts: Option<Parts<'_>>, out: &mut Page) {
     match parts {
         Some(parts) => {
-            debug_word(&parts.kind, out);
+            out.debug(&parts.kind, " ");
             out.put(parts.body);
             out.put(".");
-            line(parts.suffix, out)
+            out.say(parts.suffix, "\n")
         }
-        None => line("None", out),
+        None => out.put("None\n"),
     }
 }
 
@@ -41,47 +41,37 @@ fn tell_parts(parts: Option<Parts<'_>>, out: &mut Page) {
 fn integer(text: &str, out: &mut Page) {
     match int_shape(text) {
         Some(Some(parts)) => tell_parts(Some(parts), out),
-        Some(None) => line("past", out),
-        None => line("None", out),
+        Some(None) => out.put("past\n"),
+        None => out.put("None\n"),
     }
 }
 
 /// The text's contents, by the decoder of its kind.
 fn contents(alloc: Global, text: &str, out: &mut Page) {
     let Some(parts) = shape(text) else {
-        return line("None", out);
+        return out.put("None\n");
     };
     match parts.kind {
         Kind::Str => tell_text(str_of(alloc, text), out),
-        Kind::ByteStr | Kind::CStr => tell_bytes(bytes_of(alloc, text), out),
-        Kind::Byte => show_line(&byte_of(text), out),
-        Kind::Char => show_line(&(char_of(text) as u32), out),
-        Kind::Int | Kind::Float => tell_digits(digits_of(alloc, parts.kind, text), out),
-        Kind::Bool => line(text, out),
+        Kind::ByteStr | Kind::CStr => tell_debug(bytes_of(alloc, text), "\n", out),
+        Kind::Byte => out.show(&byte_of(text), "\n"),
+        Kind::Char => out.show(&(char_of(text) as u32), "\n"),
+        Kind::Int | Kind::Float => {
+            tell(digits_of(alloc, parts.kind, text), out);
+            out.put("\n")
+        }
+        Kind::Bool => out.say(text, "\n"),
     }
 }
 
 /// Prints a text's bytes.
 fn tell_text(text: Result<String, Error>, out: &mut Page) {
     match text {
-        Ok(text) => debug_line(&text.as_bytes(), out),
-        Err(_) => out.fail(),
-    }
-}
-
-/// Prints bytes.
-fn tell_bytes(bytes: Result<Vec<u8>, Error>, out: &mut Page) {
-    match bytes {
-        Ok(bytes) => debug_line(&bytes.as_slice(), out),
-        Err(_) => out.fail(),
-    }
-}
-
-/// Prints digits.
-fn tell_digits(digits: Result<String, Error>, out: &mut Page) {
-    match digits {
-        Ok(digits) => line(digits.as_str(), out),
-        Err(_) => out.fail(),
+        Ok(text) => {
+            out.debug(&text.as_bytes(), "\n");
+            drop(text)
+        }
+        Err(error) => tell_error(error, out),
     }
 }
 
@@ -102,5 +92,5 @@ fn kind_of(name: &str) -> Kind {
 /// Whether the contents of a text, after a kind's name and a LF, stand in it as they are.
 fn plain(text: &str, out: &mut Page) {
     let (name, text) = text.split_once('\n').unwrap_or(("", text));
-    show_line(&is_plain(kind_of(name), text), out)
+    out.show(&is_plain(kind_of(name), text), "\n")
 }

@@ -16,14 +16,6 @@ pub(crate) struct Streams {
 }
 
 impl Streams {
-    /// Streams that pass all bytes.
-    pub(crate) const WHOLE: Streams = Streams {
-        at_once: usize::MAX,
-        readable: usize::MAX,
-        writable: usize::MAX,
-        is_full: false,
-    };
-
     /// The streams that words with a space between them ask for: three numbers, each without a limit where no number
     /// stands, and `full`.
     pub(crate) fn of_words(words: &str) -> Streams {

@@ -1,24 +1,22 @@
 //! What the four takers of a buffer take, and a minus and a number of two files.
 
-use crate::tell::{
-    at, at_line, debug_word, line, show_line, show_word, tell_error, tell_trees, token_of, trees_of,
-};
+use crate::tell::{append, at, tell_error, tell_spanned, tell_trees, trees_of};
 use rl_refusing::Page;
-use rl_tokens::{ParseBuffer, Punct, Span, TokenStream, TokenTree};
+use rl_tokens::{Error, Literal, ParseBuffer, Punct, Span, TokenStream, TokenTree};
 use rust_literals::Lit;
 use std::alloc::Global;
 
 /// What the four takers of a buffer take, tree by tree, to the end and once more.
 pub(crate) fn takers(alloc: Global, text: &str, out: &mut Page) {
     let Some(stream) = trees_of(alloc, text, 0) else {
-        return line("no trees", out);
+        return out.put("no trees\n");
     };
     let end = Span::new(0, text.len(), text.len());
     let mut input = ParseBuffer::new(stream.trees(), end);
     for _ in 0..stream.trees().len() {
         take_next(&mut input, out);
     }
-    show_word(&input.is_empty(), out);
+    out.show(&input.is_empty(), " ");
     take_next(&mut input, out)
 }
 
@@ -27,17 +25,17 @@ fn take_next(input: &mut ParseBuffer<'_>, out: &mut Page) {
     tell_left(input, out);
     tell_forks(input, out);
     if let Some(ident) = input.ident() {
-        return line(ident.text(), out);
+        return out.say(ident.text(), "\n");
     }
     if let Some(punct) = input.punct() {
-        return show_line(&punct.as_char(), out);
+        return out.show(&punct.as_char(), "\n");
     }
     if let Some(literal) = input.literal() {
-        return line(literal.text(), out);
+        return out.say(literal.text(), "\n");
     }
     match input.group() {
         Some(group) => out.show(&group.stream().trees().len(), " inside\n"),
-        None => line("nothing", out),
+        None => out.put("nothing\n"),
     }
 }
 
@@ -65,9 +63,15 @@ fn tell_if(holds: bool, word: &str, out: &mut Page) {
 
 /// A minus and a number of two files, as one literal.
 pub(crate) fn two_files(alloc: Global, out: &mut Page) {
-    let Ok(number) = token_of(alloc, "1", Span::new(1, 0, 1)) else {
-        return out.fail();
-    };
+    match Literal::from_text(alloc, "1", Span::new(1, 0, 1)) {
+        Ok(number) => two_trees(number, out),
+        Err(error) => tell_error(error, out),
+    }
+}
+
+/// A minus and a number, as one literal.
+fn two_trees(number: Literal, out: &mut Page) {
+    let alloc = out.alloc();
     let mut stream = TokenStream::new(alloc);
     if Punct::is_char('-') {
         let minus = Punct::new('-', Span::new(0, 3, 4));
@@ -75,23 +79,17 @@ pub(crate) fn two_files(alloc: Global, out: &mut Page) {
     }
     append(TokenTree::Literal(number), &mut stream, out);
     tell_trees(stream.trees(), out);
-    tell_first(alloc, stream.trees(), out)
-}
-
-/// Puts a tree at a stream's end.
-fn append(tree: TokenTree, stream: &mut TokenStream, out: &mut Page) {
-    if stream.append(tree).is_err() {
-        out.fail();
-    }
+    let mut input = ParseBuffer::new(stream.trees(), Span::call_site());
+    tell_first(input.parse::<Lit>(alloc), out)
 }
 
 /// The literal in front, and its span.
-fn tell_first(alloc: Global, trees: &[TokenTree], out: &mut Page) {
-    match ParseBuffer::new(trees, Span::call_site()).parse::<Lit>(alloc) {
+fn tell_first(first: Result<Lit, Error>, out: &mut Page) {
+    match first {
         Ok(literal) => {
-            debug_word(&literal, out);
-            at_line(literal.span(), out)
+            tell_spanned(&literal, "\n", out);
+            drop(literal)
         }
-        Err(error) => tell_error(&error, out),
+        Err(error) => tell_error(error, out),
     }
 }

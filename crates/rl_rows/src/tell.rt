@@ -4,8 +4,8 @@ use rl_lines::line_of;
 use rl_refusing::Page;
 use rl_tokens::{Error, Literal, Span, TokenStream, TokenTree, lex};
 use rust_literals::Lit;
-use std::alloc::{AllocError, Global};
-use std::fmt::{Debug, Display};
+use std::alloc::{Allocator, Global};
+use std::fmt::Debug;
 
 /// A span that no call makes by itself.
 pub(crate) const HERE: Span = Span {
@@ -30,8 +30,16 @@ pub(crate) trait ToRow {
 /// Prints what a call returned, or why it rejects what it was given.
 pub(crate) fn tell<T: ToRow + Drop>(answer: Result<T, Error>, out: &mut Page) {
     match answer {
-        Ok(value) => value.put_in(out),
-        Err(error) => tell_error(&error, out),
+        Ok(value) => put(value, out),
+        Err(error) => tell_error(error, out),
+    }
+}
+
+/// Prints what a call returned as a literal of any kind, or why it rejects what it was given.
+pub(crate) fn tell_as_literal<T: Into<Lit> + Drop>(answer: Result<T, Error>, out: &mut Page) {
+    match answer {
+        Ok(value) => put(value.into(), out),
+        Err(error) => tell_error(error, out),
     }
 }
 
@@ -40,11 +48,11 @@ pub(crate) fn put<T: ToRow + Drop>(value: T, out: &mut Page) {
     value.put_in(out)
 }
 
-/// Prints a value as it is displayed, or why there is none.
-pub(crate) fn tell_shown<T: Display + Drop>(answer: Result<T, Error>, out: &mut Page) {
+/// Prints a value as it is printed to programmers, or why there is none.
+pub(crate) fn tell_debug<T: Debug + Drop>(answer: Result<T, Error>, ending: &str, out: &mut Page) {
     match answer {
-        Ok(value) => out.show(&value, "\n"),
-        Err(error) => tell_error(&error, out),
+        Ok(value) => out.debug(&value, ending),
+        Err(error) => tell_error(error, out),
     }
 }
 
@@ -55,81 +63,32 @@ pub(crate) fn at(span: Span, ending: &str, out: &mut Page) {
     out.show(&span.hi, ending)
 }
 
-/// Prints a span, and a space.
-pub(crate) fn at_word(span: Span, out: &mut Page) {
-    at(span, " ", out)
-}
-
-/// Prints a span, and ends the line.
-pub(crate) fn at_line(span: Span, out: &mut Page) {
-    at(span, "\n", out)
-}
-
 /// Prints where a span begins and ends, and a space.
 pub(crate) fn place(span: Span, out: &mut Page) {
     out.show(&span.lo, "..");
     out.show(&span.hi, " ")
 }
 
-/// Prints a text, and a space.
-pub(crate) fn word(text: &str, out: &mut Page) {
-    out.say(text, " ")
-}
-
-/// Prints a text, and ends the line.
-pub(crate) fn line(text: &str, out: &mut Page) {
-    out.say(text, "\n")
-}
-
-/// Prints a value as it is displayed.
-pub(crate) fn show<T: Display>(value: &T, out: &mut Page) {
-    out.put_shown(value)
-}
-
-/// Prints a value as it is displayed, and a space.
-pub(crate) fn show_word<T: Display>(value: &T, out: &mut Page) {
-    out.show(value, " ")
-}
-
-/// Prints a value as it is displayed, and ends the line.
-pub(crate) fn show_line<T: Display>(value: &T, out: &mut Page) {
-    out.show(value, "\n")
-}
-
-/// Prints a value as it is printed to programmers, and a space.
-pub(crate) fn debug_word<T: Debug>(value: &T, out: &mut Page) {
-    out.debug(value, " ")
-}
-
-/// Prints a value as it is printed to programmers, and ends the line.
-pub(crate) fn debug_line<T: Debug>(value: &T, out: &mut Page) {
-    out.debug(value, "\n")
-}
-
 /// Prints an error: its span, its kind as it is printed to programmers, and its message.
-pub(crate) fn tell_error(error: &Error, out: &mut Page) {
+pub(crate) fn tell_error(error: Error, out: &mut Page) {
     at(error.span, " ", out);
     out.debug(&error.kind, ": ");
-    out.show(error, "\n")
+    out.show(&error, "\n");
+    drop(error)
 }
 
 /// Prints a tree's form, and its text.
 pub(crate) fn tell_form(tree: &TokenTree, out: &mut Page) {
     match tree {
-        TokenTree::Group(group) => out.debug(&group.delimiter(), " "),
-        TokenTree::Ident(ident) => tell_word("Ident ", ident.text(), out),
+        TokenTree::Group(group) => out.put_debug(&group.delimiter()),
+        TokenTree::Ident(ident) => out.say("Ident ", ident.text()),
         TokenTree::Punct(punct) => {
             out.put("Punct ");
-            out.show(&punct.as_char(), " ")
+            out.put_char(punct.as_char())
         }
-        TokenTree::Literal(literal) => tell_word("Literal ", literal.text(), out),
+        TokenTree::Literal(literal) => out.say("Literal ", literal.text()),
     }
-}
-
-/// Prints a form, a text, and a space.
-fn tell_word(form: &str, text: &str, out: &mut Page) {
-    out.put(form);
-    out.say(text, " ")
+    out.put(" ")
 }
 
 /// Prints trees: each one's form, text and span.
@@ -144,16 +103,21 @@ pub(crate) fn tell_trees(trees: &[TokenTree], out: &mut Page) {
 /// Prints a literal's line.
 pub(crate) fn tell_line(alloc: Global, literal: &Lit, out: &mut Page) {
     match line_of(alloc, literal) {
-        Ok(line) => out.put(line.as_str()),
+        Ok(line) => put(line, out),
         Err(_) => out.fail(),
     }
+}
+
+/// Prints a literal as it is printed to programmers, with its span.
+pub(crate) fn tell_spanned(literal: &Lit, ending: &str, out: &mut Page) {
+    out.debug(literal, " ");
+    at(literal.span(), ending, out)
 }
 
 /// As it is printed to programmers, with its span and its line.
 impl ToRow for Lit {
     fn put_in(&self, out: &mut Page) {
-        out.debug(self, " ");
-        at(self.span(), " ", out);
+        tell_spanned(self, " ", out);
         tell_line(out.alloc(), self, out)
     }
 }
@@ -166,19 +130,29 @@ impl ToRow for Literal {
     }
 }
 
-/// A token of the text.
-pub(crate) fn token_of(alloc: Global, text: &str, span: Span) -> Result<Literal, AllocError> {
-    match Literal::from_text(alloc, text, span) {
-        Ok(token) => Ok(token),
-        Err(_) => Err(AllocError),
+/// The literal that the text reads as.
+pub(crate) fn literal_of<A: Allocator + Copy>(
+    alloc: A,
+    text: &str,
+    span: Span,
+) -> Result<Lit<A>, Error<A>> {
+    let token = Literal::from_text(alloc, text, span)?;
+    match Lit::new(alloc, token) {
+        Ok(literal) => Ok(literal),
+        Err(kept) => Err(Error::from(kept)),
     }
 }
 
-/// The literal that the text reads as.
-pub(crate) fn literal_of(alloc: Global, text: &str, span: Span) -> Result<Lit, AllocError> {
-    match Lit::new(alloc, token_of(alloc, text, span)?) {
-        Ok(literal) => Ok(literal),
-        Err(_) => Err(AllocError),
+/// Prints a line in place of a value, which is let go.
+pub(crate) fn instead<T: Drop>(value: T, line: &str, out: &mut Page) {
+    drop(value);
+    out.put(line)
+}
+
+/// Puts a tree at a stream's end.
+pub(crate) fn append(tree: TokenTree, stream: &mut TokenStream, out: &mut Page) {
+    if stream.append(tree).is_err() {
+        out.fail();
     }
 }
 

@@ -1,13 +1,10 @@
 //! Spans, words, tokens, and what writers make of texts.
 
-use crate::tell::{
-    HERE, THERE, at_line, at_word, line, put, show_line, show_word, tell, tell_error, token_of,
-    word,
-};
+use crate::tell::{HERE, THERE, at, tell, tell_as_literal, tell_error};
 use rl_refusing::Page;
 use rl_tokens::ident::xid_ok;
-use rl_tokens::{Error, Ident, Literal, Span};
-use rust_literals::{Lit, LitChar, LitStr};
+use rl_tokens::{Ident, Literal, Span};
+use rust_literals::{LitChar, LitStr};
 use std::alloc::Global;
 
 /// Prints what a call of this name answers; false where there is none.
@@ -18,7 +15,7 @@ pub(crate) fn told(alloc: Global, name: &str, text: &str, out: &mut Page) -> boo
         "token" => token(alloc, text, out),
         "string" => {
             tell(Literal::string(alloc, text), out);
-            string(LitStr::new(alloc, text, HERE), out)
+            tell_as_literal(LitStr::new(alloc, text, HERE), out)
         }
         "characters" => characters(alloc, text, out),
         _ => return false,
@@ -28,10 +25,10 @@ pub(crate) fn told(alloc: Global, name: &str, text: &str, out: &mut Page) -> boo
 
 /// A span's parts, and a span joined with two more.
 fn spans(out: &mut Page) {
-    at_word(Span::call_site(), out);
-    show_word(&HERE.file(), out);
-    show_word(&HERE.lo(), out);
-    show_line(&HERE.hi(), out);
+    at(Span::call_site(), " ", out);
+    out.show(&HERE.file(), " ");
+    out.show(&HERE.lo(), " ");
+    out.show(&HERE.hi(), "\n");
     tell_joined(HERE, Span::new(7, 1, 4), out);
     tell_joined(Span::new(7, 1, 4), Span::new(7, 6, 8), out);
     tell_joined(HERE, Span::new(8, 1, 4), out)
@@ -40,46 +37,38 @@ fn spans(out: &mut Page) {
 /// Two spans joined.
 fn tell_joined(first: Span, second: Span, out: &mut Page) {
     match first.join(second) {
-        Some(joined) => at_line(joined, out),
-        None => line("None", out),
+        Some(joined) => at(joined, "\n", out),
+        None => out.put("None\n"),
     }
 }
 
 /// Whether the text is a word, and an identifier that is made of it and moved.
 fn one_word(alloc: Global, text: &str, out: &mut Page) {
     if !xid_ok(text) {
-        return line("no word", out);
+        return out.put("no word\n");
     }
     match Ident::new(alloc, text, HERE) {
         Ok(mut ident) => {
-            word(ident.text(), out);
-            at_word(ident.span(), out);
+            out.say(ident.text(), " ");
+            at(ident.span(), " ", out);
             ident.set_span(THERE);
-            at_line(ident.span(), out)
+            at(ident.span(), "\n", out)
         }
-        Err(_) => out.fail(),
+        Err(error) => tell_error(error, out),
     }
 }
 
 /// A token that is made of the text and moved.
 fn token(alloc: Global, text: &str, out: &mut Page) {
-    match token_of(alloc, text, HERE) {
+    match Literal::from_text(alloc, text, HERE) {
         Ok(mut token) => {
-            show_word(&token, out);
-            word(token.text(), out);
-            at_word(token.span(), out);
+            out.show(&token, " ");
+            out.say(token.text(), " ");
+            at(token.span(), " ", out);
             token.set_span(THERE);
-            at_line(token.span(), out)
+            at(token.span(), "\n", out)
         }
-        Err(_) => out.fail(),
-    }
-}
-
-/// A string literal, or why there is none.
-fn string(made: Result<LitStr, Error>, out: &mut Page) {
-    match made {
-        Ok(literal) => put(Lit::Str(literal), out),
-        Err(error) => tell_error(&error, out),
+        Err(error) => tell_error(error, out),
     }
 }
 
@@ -87,14 +76,6 @@ fn string(made: Result<LitStr, Error>, out: &mut Page) {
 fn characters(alloc: Global, text: &str, out: &mut Page) {
     for c in text.chars() {
         tell(Literal::character(alloc, c), out);
-        character(LitChar::new(alloc, c, HERE), out);
-    }
-}
-
-/// A character as a literal.
-fn character(made: Result<LitChar, Error>, out: &mut Page) {
-    match made {
-        Ok(literal) => put(Lit::Char(literal), out),
-        Err(error) => tell_error(&error, out),
+        tell_as_literal(LitChar::new(alloc, c, HERE), out);
     }
 }

@@ -1,9 +1,9 @@
 //! The trees of a text, and why it is cut into none.
 
-use crate::tell::{HERE, debug_word, line, place, tell_form, token_of, word};
+use crate::tell::{HERE, append, place, tell_error, tell_form};
 use rl_refusing::Page;
-use rl_tokens::{Delimiter, Group, LexKind, Span, TokenStream, TokenTree, Tokens, lex};
-use std::alloc::{AllocError, Global};
+use rl_tokens::{Delimiter, Group, LexKind, Literal, Span, TokenStream, TokenTree, Tokens, lex};
+use std::alloc::Global;
 
 /// Prints what a call of this name answers; false where there is none.
 pub(crate) fn told(alloc: Global, name: &str, text: &str, out: &mut Page) -> bool {
@@ -22,9 +22,9 @@ fn tell_all(trees: &[TokenTree], out: &mut Page) {
         tell_form(tree, out);
         place(tree.span(), out);
         if let TokenTree::Group(group) = tree {
-            word("<", out);
+            out.put("< ");
             tell_all(group.stream().trees(), out);
-            word(">", out);
+            out.put("> ");
         }
     }
 }
@@ -40,7 +40,7 @@ fn cut(alloc: Global, text: &str, out: &mut Page) {
 
 /// Prints an error and its byte.
 fn tell_fault(kind: LexKind, at: usize, out: &mut Page) {
-    debug_word(&kind, out);
+    out.debug(&kind, " ");
     out.put_shown(&at)
 }
 
@@ -54,7 +54,7 @@ fn tell_stop(tokens: &Tokens<'_>, out: &mut Page) {
 
 /// Prints a token and its bytes.
 fn tell_lent(text: &str, lo: usize, hi: usize, out: &mut Page) {
-    word(text, out);
+    out.say(text, " ");
     out.show(&lo, "..");
     out.show(&hi, "; ")
 }
@@ -69,21 +69,22 @@ fn lent(text: &str, out: &mut Page) {
             None => break,
         }
     }
-    line(tokens.rest(), out)
+    out.say(tokens.rest(), "\n")
 }
 
 /// A stream that is built of a group and a literal, and set to another span.
 fn built(alloc: Global, out: &mut Page) {
-    let Ok(first) = token_of(alloc, "1", HERE) else {
-        return out.fail();
-    };
-    let Ok(inside) = stream_of(alloc, TokenTree::Literal(first)) else {
-        return out.fail();
-    };
+    match Literal::from_text(alloc, "1", HERE) {
+        Ok(first) => built_of(first, out),
+        Err(error) => tell_error(error, out),
+    }
+}
+
+/// A stream of a group of this literal, set to another span.
+fn built_of(first: Literal, out: &mut Page) {
+    let inside = stream_of(TokenTree::Literal(first), out);
     let group = Group::new(Delimiter::Brace, inside, HERE);
-    let Ok(mut stream) = stream_of(alloc, TokenTree::Group(group)) else {
-        return out.fail();
-    };
+    let mut stream = stream_of(TokenTree::Group(group), out);
     tell_all(stream.trees(), out);
     stream.respan(Span::new(0, 8, 9));
     tell_all(stream.trees(), out);
@@ -91,10 +92,8 @@ fn built(alloc: Global, out: &mut Page) {
 }
 
 /// A stream of one tree.
-fn stream_of(alloc: Global, tree: TokenTree) -> Result<TokenStream, AllocError> {
-    let mut stream = TokenStream::new(alloc);
-    match stream.append(tree) {
-        Ok(()) => Ok(stream),
-        Err(_) => Err(AllocError),
-    }
+fn stream_of(tree: TokenTree, out: &mut Page) -> TokenStream {
+    let mut stream = TokenStream::new(out.alloc());
+    append(tree, &mut stream, out);
+    stream
 }

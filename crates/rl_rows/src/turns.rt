@@ -1,6 +1,6 @@
 //! A user's own parser, in turn with that of literals.
 
-use crate::tell::{debug_word, line, show_line, tell_error, trees_of};
+use crate::tell::{ToRow, tell, tell_debug, trees_of};
 use rl_refusing::Page;
 use rl_tokens::{Error, Parse, ParseBuffer, Span, Token};
 use rust_literals::Lit;
@@ -25,6 +25,12 @@ impl<A: Allocator> Parse<A> for Sign {
     }
 }
 
+impl ToRow for Sign {
+    fn put_in(&self, out: &mut Page) {
+        out.show(&self.ch, "\n")
+    }
+}
+
 impl Token for Sign {
     ghost use Rattle.std.specs.Prelude.{IsTrue, codes};
     ghost use Rattle.rl_tokens.specs.Buffers.{begins_punct};
@@ -45,7 +51,7 @@ impl Token for Sign {
 /// Literals and signs in turn, up to the end or an error.
 pub(crate) fn turns(alloc: Global, text: &str, out: &mut Page) {
     let Some(stream) = trees_of(alloc, text, 0) else {
-        return line("no trees", out);
+        return out.put("no trees\n");
     };
     let mut input = ParseBuffer::new(stream.trees(), Span::call_site());
     for _ in 0..stream.trees().len() {
@@ -57,42 +63,20 @@ pub(crate) fn turns(alloc: Global, text: &str, out: &mut Page) {
 
 /// A literal and a sign; false where one of them is rejected, and at the end.
 fn turn(alloc: Global, input: &mut ParseBuffer<'_>, out: &mut Page) -> bool {
-    if !tell_literal(input.parse::<Lit>(alloc), out)
-        || !tell_sign(input.parse::<Sign>(alloc), out)
-    {
-        return false;
-    }
-    if input.is_empty() {
-        line("end", out);
-        return false;
-    }
-    true
+    let literal = input.parse::<Lit>(alloc);
+    let is_literal = literal.is_ok();
+    tell_debug(literal, " ", out);
+    is_literal && take_sign(alloc, input, out)
 }
 
-/// Prints a literal, or why there is none; false there.
-fn tell_literal(answer: Result<Lit, Error>, out: &mut Page) -> bool {
-    match answer {
-        Ok(literal) => {
-            debug_word(&literal, out);
-            true
-        }
-        Err(error) => {
-            tell_error(&error, out);
-            false
-        }
+/// A sign; false where it is rejected, and at the end.
+fn take_sign(alloc: Global, input: &mut ParseBuffer<'_>, out: &mut Page) -> bool {
+    let sign = input.parse::<Sign>(alloc);
+    let is_sign = sign.is_ok();
+    tell(sign, out);
+    if is_sign && input.is_empty() {
+        out.put("end\n");
+        return false;
     }
-}
-
-/// Prints a sign, or why there is none; false there.
-fn tell_sign(answer: Result<Sign, Error>, out: &mut Page) -> bool {
-    match answer {
-        Ok(sign) => {
-            show_line(&sign.ch, out);
-            true
-        }
-        Err(error) => {
-            tell_error(&error, out);
-            false
-        }
-    }
+    is_sign
 }

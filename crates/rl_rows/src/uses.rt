@@ -1,15 +1,12 @@
 //! What the small callers of `rl_uses` make of a text.
 
 use crate::parsers::{tell_next, tell_parsed};
-use crate::tell::{
-    ToRow, at, at_word, debug_word, line, show_line, show_word, tell, tell_error, tell_shown,
-    trees_of,
-};
+use crate::tell::{ToRow, at, put, tell, tell_debug, tell_error, tell_spanned, trees_of};
 use rl_refusing::Page;
 use rl_tokens::{ParseBuffer, Span, parse_all};
 use rl_uses::{
-    Attribute, Item, ItemList, Reason, bad_literals, control_strings, count_literals, format,
-    read_attribute, read_config, read_number, rewritten,
+    Attribute, Config, Item, ItemList, Reason, bad_literals, control_strings, count_literals,
+    format, read_attribute, read_config, read_number, rewritten,
 };
 use rust_literals::{Lit, read_all};
 use std::alloc::Global;
@@ -23,23 +20,15 @@ pub(crate) fn told(alloc: Global, name: &str, text: &str, out: &mut Page) -> boo
     match name {
         "attribute" => tell(read_attribute(alloc, text, FILE), out),
         "attributes" => attributes(alloc, text, out),
-        "list" => list(alloc, text, out),
+        "list" => tell(parse_all::<ItemList, Global>(alloc, text, FILE), out),
         "refused_list" => refused_list(alloc, text, out),
-        _ => return of_literals(alloc, name, text, out),
-    }
-    true
-}
-
-/// Prints what a call of this name answers about the literals of a text; false where there is none.
-fn of_literals(alloc: Global, name: &str, text: &str, out: &mut Page) -> bool {
-    match name {
         "lint" => tell(control_strings(alloc, text, FILE), out),
         "reasons" => tell(bad_literals(alloc, text, FILE), out),
         "format" => tell(format(alloc, text, FILE), out),
         "counts" => counts(alloc, text, out),
         "settings" => {
-            tell_shown(read_number::<u16, Global>(alloc, text, FILE), out);
-            tell_shown(read_number::<i64, Global>(alloc, text, FILE), out)
+            tell_debug(read_number::<u16, Global>(alloc, text, FILE), "\n", out);
+            tell_debug(read_number::<i64, Global>(alloc, text, FILE), "\n", out)
         }
         "config" => config(alloc, text, out),
         _ => return false,
@@ -50,14 +39,15 @@ fn of_literals(alloc: Global, name: &str, text: &str, out: &mut Page) -> bool {
 /// An attribute's name and value, each after its bytes.
 impl ToRow for Attribute {
     fn put_in(&self, out: &mut Page) {
-        at_word(self.name.span(), out);
+        at(self.name.span(), " ", out);
         out.say(self.name.text(), ", ");
         match self.value.value(out.alloc()) {
             Ok(value) => {
-                at_word(self.value.span(), out);
-                line(value.as_str(), out)
+                at(self.value.span(), " ", out);
+                out.say(value.as_str(), "\n");
+                drop(value)
             }
-            Err(_) => out.fail(),
+            Err(error) => tell_error(error, out),
         }
     }
 }
@@ -65,7 +55,7 @@ impl ToRow for Attribute {
 /// Two attributes, one after the other, and where the buffer stands after each.
 fn attributes(alloc: Global, text: &str, out: &mut Page) {
     let Some(stream) = trees_of(alloc, text, FILE) else {
-        return line("no trees", out);
+        return out.put("no trees\n");
     };
     let mut input = ParseBuffer::new(stream.trees(), Span::call_site());
     tell(input.parse::<Attribute>(alloc), out);
@@ -74,23 +64,17 @@ fn attributes(alloc: Global, text: &str, out: &mut Page) {
     tell_next(&input, out)
 }
 
-/// The items of a list, or why there is none.
-fn list(alloc: Global, text: &str, out: &mut Page) {
-    match parse_all::<ItemList, Global>(alloc, text, FILE) {
-        Ok(list) => tell_items(list.items.as_slice(), out),
-        Err(error) => tell_error(&error, out),
-    }
-}
-
 /// Each item's kind and span.
-fn tell_items(items: &[Item], out: &mut Page) {
-    for item in items {
-        match item {
-            Item::Int(literal) => tell_item("int ", literal.span(), out),
-            Item::Str(literal) => tell_item("str ", literal.span(), out),
+impl ToRow for ItemList {
+    fn put_in(&self, out: &mut Page) {
+        for item in self.items.as_slice() {
+            match item {
+                Item::Int(literal) => tell_item("int ", literal.span(), out),
+                Item::Str(literal) => tell_item("str ", literal.span(), out),
+            }
         }
+        out.put("\n")
     }
-    out.put("\n")
 }
 
 /// An item's kind and span.
@@ -102,7 +86,7 @@ fn tell_item(kind: &str, span: Span, out: &mut Page) {
 /// Why a list and why an item are rejected, and where the buffer stands then.
 fn refused_list(alloc: Global, text: &str, out: &mut Page) {
     let Some(stream) = trees_of(alloc, text, FILE) else {
-        return line("no trees", out);
+        return out.put("no trees\n");
     };
     let mut input = ParseBuffer::new(stream.trees(), Span::call_site());
     tell_parsed(input.parse::<ItemList>(alloc), out);
@@ -114,7 +98,7 @@ fn refused_list(alloc: Global, text: &str, out: &mut Page) {
 impl ToRow for Vec<Span> {
     fn put_in(&self, out: &mut Page) {
         for span in self.as_slice() {
-            at_word(*span, out);
+            at(*span, " ", out);
         }
         out.put("\n")
     }
@@ -123,10 +107,10 @@ impl ToRow for Vec<Span> {
 /// How many reasons there are, and each after its place.
 impl ToRow for Vec<Reason> {
     fn put_in(&self, out: &mut Page) {
-        show_line(&self.len(), out);
+        out.show(&self.len(), "\n");
         for reason in self.as_slice() {
-            at_word(reason.span, out);
-            show_line(&reason.kind, out)
+            at(reason.span, " ", out);
+            out.show(&reason.kind, "\n")
         }
     }
 }
@@ -143,11 +127,11 @@ pub(crate) fn anew(alloc: Global, literal: &mut Lit, out: &mut Page) {
     literal.set_span(Span::new(3, 5, 9));
     match rewritten(alloc, literal) {
         Ok(anew) => {
-            debug_word(&anew, out);
-            at_word(anew.span(), out);
-            show_line(&(anew == *literal), out)
+            tell_spanned(&anew, " ", out);
+            out.show(&(anew == *literal), "\n");
+            drop(anew)
         }
-        Err(error) => tell_error(&error, out),
+        Err(error) => tell_error(error, out),
     }
 }
 
@@ -155,35 +139,45 @@ pub(crate) fn anew(alloc: Global, literal: &mut Lit, out: &mut Page) {
 fn counts(alloc: Global, text: &str, out: &mut Page) {
     match count_literals(alloc, text, FILE) {
         Ok(counts) => tell_counts(alloc, &counts, text, out),
-        Err(error) => tell_error(&error, out),
+        Err(error) => tell_error(error, out),
     }
 }
 
 /// The counts of the literals of a text, and how many there are.
 fn tell_counts(alloc: Global, counts: &HashMap<Lit, usize>, text: &str, out: &mut Page) {
-    let Ok(literals) = read_all(alloc, text, FILE) else {
-        return out.fail();
-    };
-    for literal in &literals {
+    match read_all(alloc, text, FILE) {
+        Ok(literals) => tell_counted(counts, literals.as_slice(), out),
+        Err(error) => tell_error(error, out),
+    }
+    out.show(&counts.len(), "\n")
+}
+
+/// Of each literal the first that equals it, and how often it stands in the text.
+fn tell_counted(counts: &HashMap<Lit, usize>, literals: &[Lit], out: &mut Page) {
+    for literal in literals {
         if let Some((first, times)) = counts.get_key_value(literal) {
-            at_word(first.span(), out);
-            show_line(times, out)
+            at(first.span(), " ", out);
+            out.show(times, "\n")
         }
     }
-    show_line(&counts.len(), out)
 }
 
 /// The text as a server's settings, or why there are none, and where.
 fn config(alloc: Global, text: &str, out: &mut Page) {
     match read_config(alloc, text, FILE) {
-        Ok(config) => {
-            show_word(&config.port, out);
-            show_word(&config.verbose, out);
-            line(config.name.as_str(), out)
-        }
+        Ok(config) => put(config, out),
         Err(error) => {
-            at_word(error.span(), out);
-            show_line(&error, out)
+            at(error.span(), " ", out);
+            out.show(&error, "\n")
         }
+    }
+}
+
+/// The port, whether more is reported, and the name.
+impl ToRow for Config {
+    fn put_in(&self, out: &mut Page) {
+        out.show(&self.port, " ");
+        out.show(&self.verbose, " ");
+        out.say(self.name.as_str(), "\n")
     }
 }

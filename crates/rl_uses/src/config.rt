@@ -1,9 +1,10 @@
 //! A server's settings: three names, and what each is where it isn't set.
 
-ghost use Rattle.std.specs.Prelude.{◌≡◌, List, ℕ, IfOk, string_bytes};
+ghost use Rattle.std.specs.Prelude.{◌≡◌, List, [], ℕ, All, IfOk, string_bytes};
 ghost use Rattle.std.specs.Str.Parse.{digits_value, without_leading_plus};
 ghost use Rattle.rl_tokens.specs.declared.kind.Kind.TheVariants.{Int};
 ghost use Rattle.rust_literals.specs.Base10.{AreBase10Digits};
+ghost use Rattle.rust_literals.specs.LitParts.{HasLitSuffix};
 ghost use Rattle.rl_attributes.specs.AttributeParsing.{entries_of};
 ghost use Rattle.rl_uses.specs.Configs.{IsVerbose, IsName, IsPort, IsConfigText};
 
@@ -85,6 +86,27 @@ fn is_verbose<A: Allocator>(attrs: &Attrs<A>) -> Result<bool, SettingError<A>>
     }
 }
 
+/// The settings that attributes are.
+fn config_of<A: Allocator + Copy>(alloc: A, attrs: &Attrs<A>) -> Result<Config<A>, SettingError<A>>
+    ensures bare { IfOk result
+        (λ config. All (λ e. HasLitSuffix e.value []) (entries_of attrs.now)) }
+    ensures port { IfOk result (λ config. IsPort (entries_of attrs.now) config.port) }
+    ensures name { IfOk result (λ config. IsName (entries_of attrs.now) (string_bytes config.name)) }
+    ensures verbose { IfOk result (λ config. IsVerbose (entries_of attrs.now) config.verbose) }
+{
+    attrs.check(&[PORT, NAME, VERBOSE])?;
+    let port = port_of(alloc, attrs)?;
+    let name = name_of(alloc, attrs)?;
+    match is_verbose(attrs) {
+        Ok(verbose) => Ok(Config {
+            port,
+            name,
+            verbose,
+        }),
+        Err(error) => Err(error),
+    }
+}
+
 /// The settings that all of a text is.
 ///
 /// # Errors
@@ -99,13 +121,5 @@ pub fn read_config<A: Allocator + Copy>(
         (λ config. IsConfigText A text.now file config.port (string_bytes config.name) config.verbose) }
 {
     let attrs = read(alloc, text, file)?;
-    attrs.check(&[PORT, NAME, VERBOSE])?;
-    let port = port_of(alloc, &attrs)?;
-    let name = name_of(alloc, &attrs)?;
-    let verbose = is_verbose(&attrs)?;
-    Ok(Config {
-        port,
-        name,
-        verbose,
-    })
+    config_of(alloc, &attrs)
 }

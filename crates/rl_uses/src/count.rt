@@ -51,5 +51,6 @@ pub fn count_literals<A: Allocator + Copy>(
     // error is reported at.
     ensures rejected { IfErr result (RejectsTextOrMemory text.now file) }
 {
-    tally(alloc, read_all(alloc, text, file)?)
+    let literals = read_all(alloc, text, file)?;
+    tally(alloc, literals)
 }

@@ -8,23 +8,11 @@ ghost use Rattle.rust_literals.specs.declared.lit.Lit.{Lit};
 ghost use Rattle.rust_literals.specs.Parsing.{AreRead};
 ghost use Rattle.rust_literals.specs.LitParts.{lit_span};
 ghost use Rattle.rl_uses.specs.Shortage.{IsShortOf, RejectsTextOrMemory};
-ghost use Rattle.rl_uses.specs.Rewrites.{IsQuotedRewrite, IsWrittenOf, IsRewrite, PrintsLine, AreLines};
+ghost use Rattle.rl_uses.specs.Rewrites.{IsQuotedRewrite, IsRewrite, PrintsLine, AreLines};
 
 use rl_tokens::{Error, Span};
 use rust_literals::{Lit, LitByte, LitByteStr, LitCStr, LitChar, LitStr, read_all};
 use std::alloc::Allocator;
-
-/// The string that is written of a copy of this one's value.
-fn string_of_value<A: Allocator + Copy>(
-    alloc: A,
-    literal: &LitStr<A>,
-) -> Result<LitStr<A>, Error<A>>
-    ensures written { IfOk result (IsWrittenOf StrKind literal.now) }
-    ensures memory { IfErr result (λ e. e ≡ memory_at literal.now.span) }
-{
-    let value = literal.value(alloc)?;
-    LitStr::new(alloc, value.as_str(), literal.span())
-}
 
 /// The string, written anew where it has no suffix.
 fn string_rewritten<A: Allocator + Copy>(
@@ -37,22 +25,8 @@ fn string_rewritten<A: Allocator + Copy>(
     if literal.has_suffix() {
         return literal.clone(alloc);
     }
-    match literal.value_ref() {
-        Some(value) => LitStr::new(alloc, value, literal.span()),
-        None => string_of_value(alloc, literal),
-    }
-}
-
-/// The byte string that is written of a copy of this one's value.
-fn byte_string_of_value<A: Allocator + Copy>(
-    alloc: A,
-    literal: &LitByteStr<A>,
-) -> Result<LitByteStr<A>, Error<A>>
-    ensures written { IfOk result (IsWrittenOf ByteStrKind literal.now) }
-    ensures memory { IfErr result (λ e. e ≡ memory_at literal.now.span) }
-{
     let value = literal.value(alloc)?;
-    LitByteStr::new(alloc, value.as_slice(), literal.span())
+    LitStr::new(alloc, value.as_str(), literal.span())
 }
 
 /// The byte string, written anew where it has no suffix.
@@ -66,10 +40,8 @@ fn byte_string_rewritten<A: Allocator + Copy>(
     if literal.has_suffix() {
         return literal.clone(alloc);
     }
-    match literal.value_ref() {
-        Some(value) => LitByteStr::new(alloc, value, literal.span()),
-        None => byte_string_of_value(alloc, literal),
-    }
+    let value = literal.value(alloc)?;
+    LitByteStr::new(alloc, value.as_slice(), literal.span())
 }
 
 /// The C string, written anew where it has no suffix.

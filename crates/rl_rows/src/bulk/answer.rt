@@ -37,7 +37,9 @@ fn text_answer(alloc: Global, text: &str) -> Result<String, AllocError>
     ensures { IfOk result (λ out. IsLineOf (chars text.now) (chars (string_bytes out))) }
 {
     let literal = literal_of(alloc, text)?;
-    line_of(alloc, &literal)
+    let line = line_of(alloc, &literal);
+    drop(literal);
+    line
 }
 
 /// The line of the text as an integer.
@@ -45,11 +47,25 @@ fn integer_answer(alloc: Global, text: &str) -> Result<String, AllocError>
     ensures { IfOk result (λ out. IsIntegerAnswer (chars text.now) (string_bytes out)) }
 {
     match LitInt::new(alloc, text, Span::call_site()) {
-        Ok(literal) => line_of(alloc, &Lit::Int(literal)),
+        Ok(literal) => {
+            let whole = Lit::Int(literal);
+            let line = line_of(alloc, &whole);
+            drop(whole);
+            line
+        }
         Err(error) => match error.kind {
-            ErrorKind::NotInteger => String::from_str(alloc, "None\n"),
-            ErrorKind::TooLarge => String::from_str(alloc, "TooLarge\n"),
-            _ => Err(AllocError),
+            ErrorKind::NotInteger => {
+                drop(error);
+                String::from_str(alloc, "None\n")
+            }
+            ErrorKind::TooLarge => {
+                drop(error);
+                String::from_str(alloc, "TooLarge\n")
+            }
+            _ => {
+                drop(error);
+                Err(AllocError)
+            }
         },
     }
 }
@@ -59,10 +75,21 @@ fn float_answer(alloc: Global, text: &str) -> Result<String, AllocError>
     ensures { IfOk result (λ out. IsFloatAnswer (chars text.now) (string_bytes out)) }
 {
     match LitFloat::new(alloc, text, Span::call_site()) {
-        Ok(literal) => line_of(alloc, &Lit::Float(literal)),
+        Ok(literal) => {
+            let whole = Lit::Float(literal);
+            let line = line_of(alloc, &whole);
+            drop(whole);
+            line
+        }
         Err(error) => match error.kind {
-            ErrorKind::NotFloat => String::from_str(alloc, "None\n"),
-            _ => Err(AllocError),
+            ErrorKind::NotFloat => {
+                drop(error);
+                String::from_str(alloc, "None\n")
+            }
+            _ => {
+                drop(error);
+                Err(AllocError)
+            }
         },
     }
 }

@@ -1,7 +1,7 @@
 //! The commands, and what they are called.
 
 /// What a line of input asks for.
-#[derive(Clone, Copy, PartialEq, Eq)]
+#[derive(Clone, Copy)]
 pub(crate) enum Command {
     /// The text as one literal.
     Text,

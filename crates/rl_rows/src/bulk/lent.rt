@@ -74,7 +74,14 @@ pub(crate) fn value_answer(alloc: Global, text: &str) -> Result<String, AllocErr
 {
     let literal = literal_of(alloc, text)?;
     match lent(&literal) {
-        Some(bytes) => lent_line(alloc, bytes),
-        None => String::from_str(alloc, "None\n"),
+        Some(bytes) => {
+            let line = lent_line(alloc, bytes);
+            drop(literal);
+            line
+        }
+        None => {
+            drop(literal);
+            String::from_str(alloc, "None\n")
+        }
     }
 }

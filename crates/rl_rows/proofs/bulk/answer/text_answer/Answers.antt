@@ -7,4 +7,4 @@ use Rattle.rl_rows.proofs.AnswerLemmas.{held_read}
 use Rattle.rl_rows.proofs.bulk.answer.text_answer.Goals as goal
 
 pub returns : goal.returns
-returns c = IfOk-weaker c.line_of.result _ _ (λ line p. line_of_text (token_of c.in_ok-literal.literal) c.in_ok-literal.literal c.args.text.now (chars (string_bytes line)) (held_read c.in_ok-literal.literal c.in_ok-literal.ensures.reads) c.in_ok-literal.ensures.text p) c.line_of.ensures
+returns c = IfOk-weaker c.line_of-line.result _ _ (λ line p. line_of_text (token_of c.in_ok-literal.literal) c.in_ok-literal.literal c.args.text.now (chars (string_bytes line)) (held_read c.in_ok-literal.literal c.in_ok-literal.ensures.reads) c.in_ok-literal.ensures.text p) c.line_of-line.ensures
