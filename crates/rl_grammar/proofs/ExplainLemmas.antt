@@ -1,6 +1,6 @@
 -- Places of flaws, in bytes.
-use Rattle.std.proofs.Common.{◌≡◌, ℕ, List, [], ◌+◌, ◌++◌, length, sym, ap, ◌∙◌, inl, inr, append_assoc}
-use Rattle.std.specs.Prelude.{encode_utf8_all}
+use Rattle.std.proofs.Common.{◌≡◌, ℕ, Bool, true, Option, Some, None, is_some, List, [], ◌+◌, ◌++◌, length, sym, ap, ◌∙◌, inl, inr, append_assoc}
+use Rattle.std.specs.Prelude.{encode_utf8_all, IfSome}
 use Rattle.std.specs.Str.{chars, IsUtf8}
 use Rattle.std.proofs.lemmas.Str.{encodes-append, encodes-chars}
 use Rattle.std.proofs.lemmas.List.{length-append}
@@ -43,3 +43,8 @@ piece_bytes t piece rest ut up s p = let cut = piece_front (chars t) (chars piec
 
 pub found_reads : (t : List ℕ) (f : Found) → IsFound t f → HasReading (chars t)
 found_reads t f is = (f.kind, (is.reads.0, _, is.reads.1))
+
+-- a text in which something is found has a reading
+pub some_reads : (t : List ℕ) (r : Option Found) (some : Bool) → some ≡ is_some r → some ≡ true → IfSome r (IsFound t) → HasReading (chars t)
+some_reads t (Some f) some is e found = found_reads t f found
+some_reads t None some is e found = absurd (cc)

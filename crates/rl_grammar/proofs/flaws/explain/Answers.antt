@@ -1,7 +1,10 @@
 use Rattle.std.proofs.Common.{rules, arith, ap, ◌+◌, ◌-◌, length}
 use Rattle.std.specs.Str.{chars, IsUtf8}
-use Rattle.rl_grammar.proofs.ExplainLemmas.{front_bytes, piece_bytes, piece_front}
+use Rattle.rl_grammar.proofs.ExplainLemmas.{front_bytes, piece_bytes, piece_front, some_reads}
 use Rattle.rl_grammar.proofs.flaws.explain.Goals as goal
+
+pub returns-then-is_some-clause-none : goal.returns-then-is_some-clause-none
+returns-then-is_some-clause-none c = some_reads c.args.text.now c.find.result c.is_some.result c.is_some.ensures c.if-is_some.true c.find.ensures.found
 
 pub overflow_sub-lo : goal.overflow_sub-lo
 overflow_sub-lo c =
