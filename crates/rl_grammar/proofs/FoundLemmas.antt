@@ -91,15 +91,38 @@ UnitFound kind t n = (is_single kind ≡ true → IsUnitOf kind t n) × (kind �
 pub unit_found : (kind : Kind) (t : List ℕ) (p : Inside) (form : QuotedForm) → Stands form kind t p → UnitFound kind (chars t) p.unit
 unit_found kind t p form s = ((λ h. unit_reads form kind (chars t) s.value (chars p.body.now) (chars p.suffix.now) p.unit h s.parts s.unit_is), s.unit_is.none)
 
+-- what the parts of a quoted literal say of the text
+pub record Whole (t : List ℕ) (kind : Kind) (body : Body) : Type 0 where
+  pub reads : HasSuffix kind (chars t) (chars (suffix_in t body))
+  pub cut : IsSplit kind t (body_in t body) (suffix_in t body)
+  pub plain : Whether body.plain kind t
+
+pub quoted_whole : (t : List ℕ) (kind : Kind) (body : Body) → IsUtf8 t → IsQuotedAt kind t body → Whole t kind body
+quoted_whole t Str body u q = record { reads = (_, quoted_reads Str t body q); cut = quoted_cut Str t body u q; plain = string_plain Str t body refl u q }
+quoted_whole t ByteStr body u q = record { reads = (_, quoted_reads ByteStr t body q); cut = quoted_cut ByteStr t body u q; plain = string_plain ByteStr t body refl u q }
+quoted_whole t CStr body u q = record { reads = (_, quoted_reads CStr t body q); cut = quoted_cut CStr t body u q; plain = string_plain CStr t body refl u q }
+quoted_whole t Byte body u q = record { reads = (_, quoted_reads Byte t body q); cut = quoted_cut Byte t body u q; plain = single_plain Byte t body refl (λ p. p.reads) q }
+quoted_whole t Char body u q = record { reads = (_, quoted_reads Char t body q); cut = quoted_cut Char t body u q; plain = single_plain Char t body refl (λ p. p.reads) q }
+quoted_whole t Int body u q = absurd (no_form Int t body refl refl q)
+quoted_whole t Float body u q = absurd (no_form Float t body refl refl q)
+quoted_whole t BoolKind body u q = absurd (no_form BoolKind t body refl refl q)
+
 pub quoted_found : (t : List ℕ) (kind : Kind) (body : Body) (n : ℕ) → IsUtf8 t → IsQuotedAt kind t body → UnitFound kind (chars t) n → IsFound t (OfUnit kind body n)
-quoted_found t Str body n u q h = record { reads = (_, quoted_reads Str t body q); cut = quoted_cut Str t body u q; stands = q.stands; plain = string_plain Str t body refl u q; quoted = λ e. q; integer = λ e. absurd (cc); no_magnitude = λ e. refl; truth = λ e. absurd (cc); no_truth = λ e. refl; unit = h.0; no_unit = h.1 }
-quoted_found t ByteStr body n u q h = record { reads = (_, quoted_reads ByteStr t body q); cut = quoted_cut ByteStr t body u q; stands = q.stands; plain = string_plain ByteStr t body refl u q; quoted = λ e. q; integer = λ e. absurd (cc); no_magnitude = λ e. refl; truth = λ e. absurd (cc); no_truth = λ e. refl; unit = h.0; no_unit = h.1 }
-quoted_found t CStr body n u q h = record { reads = (_, quoted_reads CStr t body q); cut = quoted_cut CStr t body u q; stands = q.stands; plain = string_plain CStr t body refl u q; quoted = λ e. q; integer = λ e. absurd (cc); no_magnitude = λ e. refl; truth = λ e. absurd (cc); no_truth = λ e. refl; unit = h.0; no_unit = h.1 }
-quoted_found t Byte body n u q h = record { reads = (_, quoted_reads Byte t body q); cut = quoted_cut Byte t body u q; stands = q.stands; plain = single_plain Byte t body refl (λ p. p.reads) q; quoted = λ e. q; integer = λ e. absurd (cc); no_magnitude = λ e. refl; truth = λ e. absurd (cc); no_truth = λ e. refl; unit = h.0; no_unit = h.1 }
-quoted_found t Char body n u q h = record { reads = (_, quoted_reads Char t body q); cut = quoted_cut Char t body u q; stands = q.stands; plain = single_plain Char t body refl (λ p. p.reads) q; quoted = λ e. q; integer = λ e. absurd (cc); no_magnitude = λ e. refl; truth = λ e. absurd (cc); no_truth = λ e. refl; unit = h.0; no_unit = h.1 }
-quoted_found t Int body n u q h = absurd (no_form Int t body refl refl q)
-quoted_found t Float body n u q h = absurd (no_form Float t body refl refl q)
-quoted_found t BoolKind body n u q h = absurd (no_form BoolKind t body refl refl q)
+quoted_found t kind body n u q h =
+    let w = quoted_whole t kind body u q in
+    record {
+      reads = w.reads;
+      cut = w.cut;
+      stands = q.stands;
+      plain = w.plain;
+      quoted = λ e. q;
+      integer = λ e. absurd (no_form kind t body (ap is_string e) (ap is_single e) q);
+      no_magnitude = λ e. refl;
+      truth = λ e. absurd (no_form kind t body (ap is_string e) (ap is_single e) q);
+      no_truth = λ e. refl;
+      unit = h.0;
+      no_unit = h.1;
+    }
 
 -- what is found is a reading of its kind
 pub found_reads : (t : List ℕ) (f : Found) → IsFound t f → ReadsAs f.kind (chars t)
