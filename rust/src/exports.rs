@@ -37,8 +37,6 @@ extern "C" {
         out: *mut u8,
         room: usize,
     ) -> usize;
-    pub(crate) fn rl_byte_value(text: *const u8, len: usize, reading: &Reading) -> u8;
-    pub(crate) fn rl_char_value(text: *const u8, len: usize, reading: &Reading) -> u32;
     pub(crate) fn rl_next(text: *const u8, len: usize, next: &mut Next) -> u8;
     pub(crate) fn rl_source_start(text: *const u8, len: usize) -> usize;
     pub(crate) fn rl_source_next(text: *const u8, len: usize, at: usize, next: &mut Next) -> u8;

@@ -81,20 +81,6 @@ pub(crate) fn source_next(text: &str, at: usize) -> Step {
     Step::of_source(status, next)
 }
 
-/// The byte that a byte literal stands for.
-pub(crate) fn byte_value(text: &str, reading: &Reading) -> u8 {
-    assert!(Kind::of(reading.kind) == Kind::Byte);
-    // SAFETY: `utf8`; `read`: a `Token` holds a reading with its own text, and it is a byte's.
-    unsafe { rl_byte_value(text.as_ptr(), text.len(), reading) }
-}
-
-/// The number of the character that a character literal stands for.
-pub(crate) fn char_value(text: &str, reading: &Reading) -> u32 {
-    assert!(Kind::of(reading.kind) == Kind::Char);
-    // SAFETY: `utf8`; `read`, as for a byte.
-    unsafe { rl_char_value(text.as_ptr(), text.len(), reading) }
-}
-
 /// The bytes that are written into this much room, which isn't zeroed before.
 ///
 /// # Safety

@@ -13,6 +13,7 @@ pub(crate) struct Reading {
     pub(crate) high: u64,
     pub(crate) kind: u8,
     pub(crate) plain: bool,
+    pub(crate) unit: u32,
 }
 
 /// The literal at the front of a list or a source: `Next` of `crates/rl_c/src/next.rt`.
@@ -38,7 +39,7 @@ pub(crate) struct Explanation {
 }
 
 /// The version of the library that this package was written for: `VERSION` of `crates/rl_c/src/layout.rt`.
-pub(crate) const VERSION: usize = 4;
+pub(crate) const VERSION: usize = 5;
 
 /// The sizes and alignments: `Layout` of `crates/rl_c/src/layout.rt`.
 #[repr(C)]
@@ -72,6 +73,7 @@ const NEXT_PROBE: Next = Next {
         high: 5,
         kind: 6,
         plain: true,
+        unit: 7,
     },
     minus_at: 8,
     lo: 9,
@@ -115,10 +117,10 @@ const _: () = assert!(size_of::<Next>() == 88 && align_of::<Next>() == 8);
 const _: () = assert!(offset_of!(Reading, at) == 0 && offset_of!(Reading, end) == 8);
 const _: () = assert!(offset_of!(Reading, suffix_at) == 16 && offset_of!(Reading, low) == 24);
 const _: () = assert!(offset_of!(Reading, high) == 32 && offset_of!(Reading, kind) == 40);
-const _: () = assert!(offset_of!(Reading, plain) == 41 && offset_of!(Next, reading) == 0);
-const _: () = assert!(offset_of!(Next, minus_at) == 48 && offset_of!(Next, lo) == 56);
-const _: () = assert!(offset_of!(Next, hi) == 64 && offset_of!(Next, rest_at) == 72);
-const _: () = assert!(offset_of!(Next, negative) == 80);
+const _: () = assert!(offset_of!(Reading, plain) == 41 && offset_of!(Reading, unit) == 44);
+const _: () = assert!(offset_of!(Next, reading) == 0 && offset_of!(Next, minus_at) == 48);
+const _: () = assert!(offset_of!(Next, lo) == 56 && offset_of!(Next, hi) == 64);
+const _: () = assert!(offset_of!(Next, rest_at) == 72 && offset_of!(Next, negative) == 80);
 const _: () = assert!(size_of::<Explanation>() == 32 && align_of::<Explanation>() == 8);
 const _: () = assert!(offset_of!(Explanation, from) == 0 && offset_of!(Explanation, lo) == 8);
 const _: () = assert!(offset_of!(Explanation, hi) == 16 && offset_of!(Explanation, kind) == 24);

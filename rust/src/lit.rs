@@ -79,14 +79,14 @@ impl LitCStr<'_> {
 impl LitByte<'_> {
     /// The byte that the literal stands for.
     pub fn value(&self) -> u8 {
-        self.0.byte_value()
+        u8::try_from(self.0.unit()).expect("the library returns a byte")
     }
 }
 
 impl LitChar<'_> {
     /// The character that the literal stands for.
     pub fn value(&self) -> char {
-        self.0.char_value()
+        char::from_u32(self.0.unit()).expect("the library returns a character's number")
     }
 }
 

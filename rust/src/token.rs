@@ -113,12 +113,9 @@ impl<'t> Token<'t> {
         }
     }
 
-    pub(crate) fn byte_value(&self) -> u8 {
-        ffi::byte_value(&self.text, &self.reading)
-    }
-
-    pub(crate) fn char_value(&self) -> char {
-        let number = ffi::char_value(&self.text, &self.reading);
-        char::from_u32(number).expect("the library returns a character's number")
+    /// What a byte stands for; of a character, its number.
+    #[inline]
+    pub(crate) fn unit(&self) -> u32 {
+        self.reading.unit
     }
 }

@@ -1,28 +1,14 @@
 -- Where the parts stand that a reading has them.
-use Rattle.std.proofs.Common.{◌≡◌, ℕ, ◌-◌, List, true, take, drop, slice_range, sym, ap, subst, ◌∙◌}
+use Rattle.std.proofs.Common.{◌≡◌, ℕ, ◌-◌, List, take, drop, slice_range, sym, ap, subst, ◌∙◌}
 use Rattle.std.specs.Str.{chars, IsUtf8}
-use Rattle.std.proofs.lemmas.Bool.{or_right}
-use Rattle.rl_tokens.specs.declared.kind.Kind.{Kind}
 use Rattle.rl_tokens.specs.declared.kind.Kind.TheVariants.{Float}
 use Rattle.rl_tokens.specs.Numbers.{float_digits}
-use Rattle.rl_tokens.specs.Quoted.{is_string, is_single}
 use Rattle.rl_tokens.specs.Reading.{Digits, ReadsFloat, HasContents, HasSuffix}
-use Rattle.rl_grammar.specs.Bodies.{HasSingleBody}
-use Rattle.rl_grammar.specs.Founds.{IsQuotedAt, is_quoted, body_in, suffix_in}
+use Rattle.rl_grammar.specs.Founds.{body_in, suffix_in}
 use Rattle.rl_grammar.proofs.NumberFoundLemmas.{found_float}
-use Rattle.rl_grammar.proofs.SingleBodies.{single_at}
 use Rattle.rl_tokens.proofs.OneNumber.{float_once}
 use Rattle.rl_c.specs.declared.reading.Reading.{Reading}
 use Rattle.rl_c.specs.Crossing.{IsOfKind}
-
--- the body of a byte or a character
-pub single_of : (kind : Kind) (t body : List ℕ) (reading : Reading) → is_single kind ≡ true → IsOfKind kind t reading → body ≡ slice_range t reading.at reading.end → HasSingleBody kind (chars t) body
-single_of kind t body reading s r is =
-    let f = r.found in
-    let quoted : is_quoted kind ≡ true = or_right (is_string kind) (is_single kind) s in
-    let stands : IsQuotedAt kind t f.body = subst (λ k. IsQuotedAt k t f.body) r.kind_is (r.is_found.quoted (ap is_quoted r.kind_is ∙ quoted)) in
-    let same : body_in t f.body ≡ body = ap (λ at. take (f.body.hi - at) (drop at t)) (sym r.reported.at_is) ∙ ap (λ end. take (end - reading.at) (drop reading.at t)) (sym r.reported.end_is) ∙ sym is in
-    subst (HasSingleBody kind (chars t)) same (single_at kind t f.body s stands)
 
 -- the digits of a float
 pub numeral_of : (t body digits : List ℕ) (reading : Reading) → IsUtf8 t → IsOfKind Float t reading → body ≡ slice_range t reading.at reading.end → digits ≡ float_digits (chars body) → HasContents Float (chars t) (Digits digits)

@@ -28,6 +28,7 @@ pub record Reports (found : Found) (reading : Reading) : Type 0 where
   pub suffix_is : reading.suffix_at ≡ found.body.suffix_at
   pub plain_is : reading.plain ≡ found.body.plain
   pub magnitude_is : found.magnitude ≡ reading.high * 2 ^ 64 + reading.low
+  pub unit_is : reading.unit ≡ found.unit
 
 -- The numbers report what reading the text, in bytes, finds.
 abbrev pub ReportsReading : List ℕ → Reading → Type 0
@@ -46,6 +47,7 @@ pub record ReportsVerbatim (text : List ℕ) (reading : Reading) : Type 0 where
         high = 0;
         kind = 9;
         plain = false;
+        unit = 0;
       }
 
 -- The numbers report what reading the text finds, or that it has no reading.

@@ -7,13 +7,13 @@ use crate::next::Next;
 use crate::reading::Reading;
 
 /// The version of the exports and of the structs that cross: it goes up with every change of either.
-const VERSION: usize = 4;
+const VERSION: usize = 5;
 
 /// Returns the version. It is the one export that a caller of any version may call: all others, the two below too, only
 /// where the version is the one that the caller was written for.
 #[unsafe(no_mangle)]
 pub extern "C" fn rl_version() -> usize
-    ensures { result ≡ 4 }
+    ensures { result ≡ 5 }
 {
     VERSION
 }
@@ -70,6 +70,7 @@ pub extern "C" fn rl_probe(next: &mut Next, explanation: &mut Explanation)
         high = 5;
         kind = 6;
         plain = true;
+        unit = 7;
       };
       minus_at = 8;
       lo = 9;
@@ -93,6 +94,7 @@ pub extern "C" fn rl_probe(next: &mut Next, explanation: &mut Explanation)
             high: 5,
             kind: 6,
             plain: true,
+            unit: 7,
         },
         minus_at: 8,
         lo: 9,

@@ -4,9 +4,9 @@
 //! that the caller passes. The Cargo package in `rust/` calls it.
 #![tactic(auto)]
 
-ghost use Rattle.std.specs.Prelude.{◌≡◌, ◌↔◌, ◌-◌, ◌≤◌, ◌<◌, [], ◌∷◌, false, length, take, IsTrue, IsFalse};
+ghost use Rattle.std.specs.Prelude.{◌≡◌, ◌↔◌, ◌-◌, ◌≤◌, ◌<◌, [], false, length, take, IsTrue, IsFalse};
 ghost use Rattle.std.specs.Str.{chars, IsUtf8};
-ghost use Rattle.rl_tokens.specs.declared.kind.Kind.TheVariants.{Str, ByteStr, CStr, Byte as ByteKind, Char as CharKind, Float as FloatKind};
+ghost use Rattle.rl_tokens.specs.declared.kind.Kind.TheVariants.{Str, ByteStr, CStr, Float as FloatKind};
 ghost use Rattle.rl_tokens.specs.Reading.{Characters, Bytes, Digits, HasContents, HasNoReading};
 ghost use Rattle.rl_grammar.specs.StrictShapes.{IsToken};
 ghost use Rattle.rl_tokens.specs.Skipping.{Skipped};
@@ -26,13 +26,13 @@ pub use crate::layout::{Layout, rl_layout, rl_probe, rl_version};
 pub use crate::next::Next;
 use crate::next::{END, LITERAL, rejection, take_next};
 pub use crate::reading::Reading;
-use crate::reading::{numeral, single_body, string_body};
+use crate::reading::{numeral, string_body};
 pub use crate::source::{rl_source_next, rl_source_start};
 pub use crate::write::{
     rl_write_byte, rl_write_byte_str, rl_write_c_str, rl_write_char, rl_write_str,
 };
 use rl_grammar::strict::is_token;
-use rl_grammar::{Kind, byte_of_body, bytes_into, char_of_body, find, numeral_into, str_into};
+use rl_grammar::{Kind, bytes_into, find, numeral_into, str_into};
 use rl_tokens::Tokens;
 
 /// Whether the text reads as a literal; what was found goes into `reading`, which stays else.
@@ -95,30 +95,6 @@ pub extern "C" fn rl_c_str_value(text: &[u8], reading: &Reading, out: &mut [u8])
     // SAFETY: the bytes are UTF-8, as the export requires.
     let text = unsafe { std::str::from_utf8_unchecked(text) };
     bytes_into(Kind::CStr, string_body(text, reading), out)
-}
-
-/// The byte that a byte literal stands for.
-#[unsafe(no_mangle)]
-pub extern "C" fn rl_byte_value(text: &[u8], reading: &Reading) -> u8
-    requires utf8 { IsUtf8 text.now }
-    requires read { IsOfKind ByteKind text.now reading.now }
-    ensures { HasContents ByteKind (chars text.now) (Bytes (result ∷ [])) }
-{
-    // SAFETY: the bytes are UTF-8, as the export requires.
-    let text = unsafe { std::str::from_utf8_unchecked(text) };
-    byte_of_body(single_body(text, reading))
-}
-
-/// The number of the character that a character literal stands for.
-#[unsafe(no_mangle)]
-pub extern "C" fn rl_char_value(text: &[u8], reading: &Reading) -> u32
-    requires utf8 { IsUtf8 text.now }
-    requires read { IsOfKind CharKind text.now reading.now }
-    ensures { HasContents CharKind (chars text.now) (Characters (result ∷ [])) }
-{
-    // SAFETY: the bytes are UTF-8, as the export requires.
-    let text = unsafe { std::str::from_utf8_unchecked(text) };
-    char_of_body(single_body(text, reading)) as u32
 }
 
 /// Writes the digits of a float, and returns how long they are: no longer than the body.

@@ -5,9 +5,9 @@ ghost use Rattle.std.specs.Str.{chars};
 ghost use Rattle.rl_tokens.specs.declared.kind.Kind.{Kind as AnyKind};
 ghost use Rattle.rl_tokens.specs.declared.kind.Kind.TheVariants.{Float};
 ghost use Rattle.rl_tokens.specs.Numbers.{float_digits};
-ghost use Rattle.rl_tokens.specs.Quoted.{is_string, is_single};
+ghost use Rattle.rl_tokens.specs.Quoted.{is_string};
 ghost use Rattle.rl_tokens.specs.Reading.{Digits, HasContents};
-ghost use Rattle.rl_grammar.specs.Bodies.{HasBody, HasSingleBody};
+ghost use Rattle.rl_grammar.specs.Bodies.{HasBody};
 ghost use Rattle.rl_c.specs.Crossing.{kind_number, Reports, ReportsLiteral, IsOfKind, IsCooked};
 
 use rl_grammar::{Found, Kind, find};
@@ -38,6 +38,8 @@ pub struct Reading {
     pub kind: u8,
     /// Whether the body is what the literal stands for, byte for byte.
     pub plain: bool,
+    /// What a byte or a character stands for, as a number; 0 for any other kind.
+    pub unit: u32,
 }
 
 /// A kind's number.
@@ -69,6 +71,7 @@ impl Reading {
             high: (found.magnitude / PAST_64_BITS) as u64,
             kind: kind_number(found.kind),
             plain: found.body.plain,
+            unit: found.unit,
         }
     }
 
@@ -82,6 +85,7 @@ impl Reading {
           high = 0;
           kind = 9;
           plain = false;
+          unit = 0;
         } }
     {
         Reading {
@@ -92,6 +96,7 @@ impl Reading {
             high: 0,
             kind: VERBATIM,
             plain: false,
+            unit: 0,
         }
     }
 
@@ -112,15 +117,6 @@ pub(crate) fn string_body<'t>(text: &'t str, reading: &Reading) -> &'t str
     ensures body { (kind : AnyKind) → IsTrue (is_string kind) → IsCooked kind text.now reading.now
         → HasBody kind (chars text.now) result.now false }
     ensures len { length result.now ≡ reading.now.end - reading.now.at }
-{
-    &text[reading.at..reading.end]
-}
-
-/// What stands between the quotes of the byte or the character of this reading.
-pub(crate) fn single_body<'t>(text: &'t str, reading: &Reading) -> &'t str
-    requires { (kind : AnyKind) × IsTrue (is_single kind) × IsOfKind kind text.now reading.now }
-    ensures { (kind : AnyKind) → IsTrue (is_single kind) → IsOfKind kind text.now reading.now
-        → HasSingleBody kind (chars text.now) result.now }
 {
     &text[reading.at..reading.end]
 }

@@ -159,22 +159,19 @@ single_once kind a v x w y s q =
     (same.0, let e : 39 ∷ x ≡ 39 ∷ y = same.1 in cc)
 
 -- the body and the suffix round the quote after the unit
-pub single_found : (kind : Kind) (a : List ℕ) (q : List ℕ × List ℕ) (r : Cut) → is_single kind ≡ true → unit_at kind a ≡ Some q → IfSome r (λ p. a ≡ chars p.0.now ++ q.1) → IfSome r (λ p. q.1 ≡ 39 ∷ chars p.1.now) → IfSome r (λ p. (w : List ℕ) × PartsAre SingleForm kind (opener kind ++ a) w (chars p.0.now) (chars p.1.now))
+pub single_found : (kind : Kind) (a : List ℕ) (q : List ℕ × List ℕ) (r : Cut) → is_single kind ≡ true → unit_at kind a ≡ Some q → IfSome r (λ p. a ≡ chars p.0.now ++ q.1) → IfSome r (λ p. q.1 ≡ 39 ∷ chars p.1.now) → IfSome r (λ p. PartsAre SingleForm kind (opener kind ++ a) q.0 (chars p.0.now) (chars p.1.now))
 single_found kind a q None s h cut quote = tt
 single_found kind a q (Some p) s h cut quote =
     let begun = unit_sound kind a q h in
     let u = begun.unit in (
-      q.0,
-      (
-        record {
-          unit = u;
-          single = s;
-          is_unit = begun.allowed;
-          text_is = ap (λ z. opener kind ++ z) (begun.text_is ∙ ap (λ z. unit_text u ++ z) quote);
-          value_is = begun.value_is;
-        },
-        append_cancel_right (chars p.0.now) (unit_text u) q.1 (sym cut ∙ begun.text_is),
-      ),
+      record {
+        unit = u;
+        single = s;
+        is_unit = begun.allowed;
+        text_is = ap (λ z. opener kind ++ z) (begun.text_is ∙ ap (λ z. unit_text u ++ z) quote);
+        value_is = begun.value_is;
+      },
+      append_cancel_right (chars p.0.now) (unit_text u) q.1 (sym cut ∙ begun.text_is),
     )
 
 pub single_none : (kind : Kind) (a : List ℕ) (q : List ℕ × List ℕ) (r : Cut) → unit_at kind a ≡ Some q → IfNone r ((x : List ℕ) → q.1 ≢ 39 ∷ x) → IfNone r (HasNoParts SingleForm kind (opener kind ++ a))

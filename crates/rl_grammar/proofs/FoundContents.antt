@@ -1,6 +1,6 @@
 -- What a text that reads as a kind is found to be, and what it stands for.
 use Rattle.std.proofs.Common.{◌≡◌, ℕ, ◌⊎◌, inl, inr, List, true, refl, sym, ap, subst, ◌∙◌}
-use Rattle.std.proofs.lemmas.Bool.{or_left, or_right}
+use Rattle.std.proofs.lemmas.Bool.{or_left}
 use Rattle.std.specs.Str.{chars}
 use Rattle.rl_tokens.specs.declared.kind.Kind.{Kind}
 use Rattle.rl_tokens.specs.declared.kind.Kind.TheVariants.{Str, ByteStr, CStr, Byte, Char, Int, Float, Bool as BoolKind}
@@ -8,11 +8,10 @@ use Rattle.rl_tokens.specs.Quoted.{is_string, is_single}
 use Rattle.rl_tokens.specs.Reading.{Contents, HasContents, HasNoReading, ReadsAs}
 use Rattle.rl_tokens.proofs.OneReading.{one_reading}
 use Rattle.rl_grammar.specs.declared.found.Found.{Found}
-use Rattle.rl_grammar.specs.Bodies.{HasBody, HasSingleBody}
+use Rattle.rl_grammar.specs.Bodies.{HasBody}
 use Rattle.rl_grammar.specs.Decoded.{ContentsAre}
-use Rattle.rl_grammar.specs.Founds.{IsFound, IsQuotedAt, body_in, is_quoted}
+use Rattle.rl_grammar.specs.Founds.{IsFound, IsQuotedAt, IsUnitOf, body_in, is_quoted}
 use Rattle.rl_grammar.specs.WholeShapes.{IsPlain}
-use Rattle.rl_grammar.proofs.SingleBodies.{single_at}
 
 -- what is found is of the kind that the text reads as
 pub found_kind : (kind : Kind) (t : List ℕ) (found : Found) → ReadsAs kind (chars t) → IsFound t found → found.kind ≡ kind
@@ -41,11 +40,9 @@ pub one_of_two : (found : Kind) (t : List ℕ) (contents : Contents) → ((kind 
 one_of_two found t contents kind (inl r) h = inl (subst (λ (k : Kind). HasContents k t contents) (kind ByteStr r) h)
 one_of_two found t contents kind (inr r) h = inr (subst (λ (k : Kind). HasContents k t contents) (kind CStr r) h)
 
--- the body of a character or a byte
-pub single_body : (kind : Kind) (t body : List ℕ) (found : Found) → body ≡ body_in t found.body → found.kind ≡ kind → is_single kind ≡ true → IsFound t found → HasSingleBody kind (chars t) body
-single_body kind t body found is same s f =
-    subst (λ z. HasSingleBody kind (chars t) z) (sym is)
-    (single_at kind t found.body s (quoted_at kind t found same (or_right (is_string kind) (is_single kind) s) f))
+-- the character or the byte
+pub unit_of : (kind : Kind) (t : List ℕ) (found : Found) → found.kind ≡ kind → is_single kind ≡ true → IsFound t found → IsUnitOf kind (chars t) found.unit
+unit_of kind t found same s f = subst (λ (k : Kind). IsUnitOf k (chars t) found.unit) same (f.unit (ap is_single same ∙ s))
 
 -- a text with a plain body reads as the kind, but for a float, which an integer may be too
 plain_reads : (kind : Kind) (t : List ℕ) → (kind ≡ Float → ⊥) → IsPlain kind t → ReadsAs kind (chars t)

@@ -1,5 +1,5 @@
 -- What reading a text finds, from its parts.
-use Rattle.std.proofs.Common.{◌≡◌, ℕ, ◌-◌, ◌⊎◌, inl, inr, Bool, true, false, List, [], ◌∷◌, ◌++◌, length, take, drop, refl, sym, ap, ap₂, subst, ◌∙◌, arith, rules}
+use Rattle.std.proofs.Common.{◌≡◌, ◌≢◌, ℕ, ◌-◌, ◌⊎◌, inl, inr, Bool, true, false, List, [], ◌∷◌, ◌++◌, length, take, drop, refl, sym, ap, ap₂, subst, ◌∙◌, arith, rules}
 use Rattle.std.proofs.Math.Seq.{drop-append_seam, take-append_seam}
 use Rattle.std.proofs.lemmas.Bool.{both_ways}
 use Rattle.std.proofs.lemmas.List.{append_cancel_right}
@@ -13,12 +13,13 @@ use Rattle.rl_tokens.specs.Texts.{IsTail}
 use Rattle.rl_tokens.specs.Numbers.{FloatReads, float_digits}
 use Rattle.rl_tokens.specs.Quoted.{is_string, is_single}
 use Rattle.rl_tokens.specs.Reading.{Digits, Truth, HasNoInteger, HasSuffix, ReadsAs, ReadsQuoted, quoted_contents, truth_text}
+use Rattle.rl_grammar.specs.declared.quoted_forms.Inside.{Inside}
 use Rattle.rl_grammar.specs.declared.quoted_forms.QuotedForm.{QuotedForm}
 use Rattle.rl_grammar.specs.declared.quoted_forms.QuotedForm.TheVariants.{Cooked as CookedForm, Raw as RawForm, Single as SingleForm}
 use Rattle.rl_grammar.specs.declared.found.Body.{Body}
 use Rattle.rl_grammar.specs.declared.found.Found.{Found}
 use Rattle.rl_grammar.specs.Forms.{PartsAre, is_plain_body}
-use Rattle.rl_grammar.specs.Founds.{IsFound, IsFoundFloat, IsQuotedAt, StandsIn, body_in, suffix_in, is_quoted}
+use Rattle.rl_grammar.specs.Founds.{IsFound, IsFoundFloat, IsQuotedAt, IsUnitOf, StandsIn, body_in, suffix_in, is_quoted}
 use Rattle.rl_grammar.specs.NumberShapes.{HasMagnitude, IsSplitInteger}
 use Rattle.rl_grammar.specs.Mirrors.PlainAt.{is_plain_integer, is_plain_float}
 use Rattle.rl_grammar.specs.Shapes.{IsQuotedSplit}
@@ -27,7 +28,9 @@ use Rattle.rl_grammar.proofs.BodyLemmas.{plain_parts, parts_plain}
 use Rattle.rl_grammar.proofs.FormLemmas.{not_both, parts_read}
 use Rattle.rl_grammar.proofs.IntegerLemmas.{within_reads}
 use Rattle.rl_grammar.proofs.PlainNumberLemmas.{whether_integer, whether_float}
+use Rattle.rl_grammar.proofs.PlaceLemmas.{Stands}
 use Rattle.rl_grammar.proofs.ShapeLemmas.{parts_cut}
+use Rattle.rl_grammar.proofs.SingleBodies.{unit_reads}
 
 -- ---- quoted literals
 
@@ -78,17 +81,50 @@ no_form kind t body s o q = elim (form_quoted q.form kind (chars t) q.value (cha
 ]
 
 abbrev pub Of : Kind → Body → ℕ → Found
-Of kind body magnitude = record { kind = kind; body = body; magnitude = magnitude; truth = false }
+Of kind body magnitude = record { kind = kind; body = body; magnitude = magnitude; truth = false; unit = 0 }
 
-pub quoted_found : (t : List ℕ) (kind : Kind) (body : Body) → IsUtf8 t → IsQuotedAt kind t body → IsFound t (Of kind body 0)
-quoted_found t Str body u q = record { reads = (_, quoted_reads Str t body q); cut = quoted_cut Str t body u q; stands = q.stands; plain = string_plain Str t body refl u q; quoted = λ h. q; integer = λ e. absurd (cc); no_magnitude = λ n. refl; truth = λ e. absurd (cc); no_truth = λ n. refl }
-quoted_found t ByteStr body u q = record { reads = (_, quoted_reads ByteStr t body q); cut = quoted_cut ByteStr t body u q; stands = q.stands; plain = string_plain ByteStr t body refl u q; quoted = λ h. q; integer = λ e. absurd (cc); no_magnitude = λ n. refl; truth = λ e. absurd (cc); no_truth = λ n. refl }
-quoted_found t CStr body u q = record { reads = (_, quoted_reads CStr t body q); cut = quoted_cut CStr t body u q; stands = q.stands; plain = string_plain CStr t body refl u q; quoted = λ h. q; integer = λ e. absurd (cc); no_magnitude = λ n. refl; truth = λ e. absurd (cc); no_truth = λ n. refl }
-quoted_found t Byte body u q = record { reads = (_, quoted_reads Byte t body q); cut = quoted_cut Byte t body u q; stands = q.stands; plain = single_plain Byte t body refl (λ p. p.reads) q; quoted = λ h. q; integer = λ e. absurd (cc); no_magnitude = λ n. refl; truth = λ e. absurd (cc); no_truth = λ n. refl }
-quoted_found t Char body u q = record { reads = (_, quoted_reads Char t body q); cut = quoted_cut Char t body u q; stands = q.stands; plain = single_plain Char t body refl (λ p. p.reads) q; quoted = λ h. q; integer = λ e. absurd (cc); no_magnitude = λ n. refl; truth = λ e. absurd (cc); no_truth = λ n. refl }
-quoted_found t Int body u q = absurd (no_form Int t body refl refl q)
-quoted_found t Float body u q = absurd (no_form Float t body refl refl q)
-quoted_found t BoolKind body u q = absurd (no_form BoolKind t body refl refl q)
+abbrev pub OfUnit : Kind → Body → ℕ → Found
+OfUnit kind body n = record { kind = kind; body = body; magnitude = 0; truth = false; unit = n }
+
+-- what a character or a byte stands for, and 0 for a string
+abbrev pub UnitFound : Kind → List ℕ → ℕ → Type 0
+UnitFound kind t n = (is_single kind ≡ true → IsUnitOf kind t n) × (kind ≢ Byte → kind ≢ Char → n ≡ 0)
+
+pub unit_found : (kind : Kind) (t : List ℕ) (p : Inside) (form : QuotedForm) → Stands form kind t p → UnitFound kind (chars t) p.unit
+unit_found kind t p form s = ((λ h. unit_reads form kind (chars t) s.value (chars p.body.now) (chars p.suffix.now) p.unit h s.parts s.unit_is), s.unit_is.none)
+
+-- what the parts of a quoted literal say of the text
+pub record Whole (t : List ℕ) (kind : Kind) (body : Body) : Type 0 where
+  pub reads : HasSuffix kind (chars t) (chars (suffix_in t body))
+  pub cut : IsSplit kind t (body_in t body) (suffix_in t body)
+  pub plain : Whether body.plain kind t
+
+pub quoted_whole : (t : List ℕ) (kind : Kind) (body : Body) → IsUtf8 t → IsQuotedAt kind t body → Whole t kind body
+quoted_whole t Str body u q = record { reads = (_, quoted_reads Str t body q); cut = quoted_cut Str t body u q; plain = string_plain Str t body refl u q }
+quoted_whole t ByteStr body u q = record { reads = (_, quoted_reads ByteStr t body q); cut = quoted_cut ByteStr t body u q; plain = string_plain ByteStr t body refl u q }
+quoted_whole t CStr body u q = record { reads = (_, quoted_reads CStr t body q); cut = quoted_cut CStr t body u q; plain = string_plain CStr t body refl u q }
+quoted_whole t Byte body u q = record { reads = (_, quoted_reads Byte t body q); cut = quoted_cut Byte t body u q; plain = single_plain Byte t body refl (λ p. p.reads) q }
+quoted_whole t Char body u q = record { reads = (_, quoted_reads Char t body q); cut = quoted_cut Char t body u q; plain = single_plain Char t body refl (λ p. p.reads) q }
+quoted_whole t Int body u q = absurd (no_form Int t body refl refl q)
+quoted_whole t Float body u q = absurd (no_form Float t body refl refl q)
+quoted_whole t BoolKind body u q = absurd (no_form BoolKind t body refl refl q)
+
+pub quoted_found : (t : List ℕ) (kind : Kind) (body : Body) (n : ℕ) → IsUtf8 t → IsQuotedAt kind t body → UnitFound kind (chars t) n → IsFound t (OfUnit kind body n)
+quoted_found t kind body n u q h =
+    let w = quoted_whole t kind body u q in
+    record {
+      reads = w.reads;
+      cut = w.cut;
+      stands = q.stands;
+      plain = w.plain;
+      quoted = λ e. q;
+      integer = λ e. absurd (no_form kind t body (ap is_string e) (ap is_single e) q);
+      no_magnitude = λ e. refl;
+      truth = λ e. absurd (no_form kind t body (ap is_string e) (ap is_single e) q);
+      no_truth = λ e. refl;
+      unit = h.0;
+      no_unit = h.1;
+    }
 
 -- what is found is a reading of its kind
 pub found_reads : (t : List ℕ) (f : Found) → IsFound t f → ReadsAs f.kind (chars t)
@@ -134,6 +170,8 @@ integer_body t b x m n plain ut ub within following e n_is plain_is =
       no_magnitude = λ h. absurd (h refl);
       truth = λ e. absurd (cc);
       no_truth = λ n. refl;
+      unit = λ s. absurd (cc);
+      no_unit = λ b c. refl;
     }
 
 pub integer_found : (t b x : List ℕ) (m n : ℕ) (plain : Bool) (body : Body) → body ≡ NumberBody n plain → IsUtf8 t → IsUtf8 b → HasMagnitude (chars t) m (chars x) → IsTail t x → t ≡ b ++ x → n ≡ length b → plain ≡ is_plain_integer (chars b) → IsFound t (Of Int body m)
@@ -152,6 +190,7 @@ float_body t b x numeral n plain ut ub reads following e n_is plain_is =
       plain = whether_float t b (chars x) plain ut ub r plain_is;
       no_magnitude = refl;
       no_truth = refl;
+      no_unit = refl;
     }
 
 pub float_found : (t b x numeral : List ℕ) (n : ℕ) (plain : Bool) (body : Body) → body ≡ NumberBody n plain → IsUtf8 t → IsUtf8 b → FloatReads (chars t) numeral (chars x) → IsTail t x → t ≡ b ++ x → n ≡ length b → plain ≡ is_plain_float (chars b) → IsFoundFloat t (Of Float body 0)
@@ -171,12 +210,14 @@ float_alone t f none h =
       no_magnitude = λ n. h.no_magnitude;
       truth = λ e. absurd (cc);
       no_truth = λ n. h.no_truth;
+      unit = λ s. absurd (both_ways (is_single f.kind) (ap is_single h.kind) s);
+      no_unit = λ b c. h.no_unit;
     }
 
 -- ---- truth values
 
 abbrev pub OfTruth : Body → Bool → Found
-OfTruth body b = record { kind = BoolKind; body = body; magnitude = 0; truth = b }
+OfTruth body b = record { kind = BoolKind; body = body; magnitude = 0; truth = b; unit = 0 }
 
 pub truth_found : (t : List ℕ) (b : Bool) → IsUtf8 t → chars t ≡ truth_text b → t ≡ truth_text b → IsFound t (OfTruth (NumberBody (length t) false) b)
 truth_found t b u e bytes =
@@ -191,6 +232,8 @@ truth_found t b u e bytes =
       no_magnitude = λ h. refl;
       truth = λ h. bytes;
       no_truth = λ h. absurd (h refl);
+      unit = λ h. absurd (cc);
+      no_unit = λ b c. refl;
     }
   where
     drop_all : (xs : List ℕ) → drop (length xs) xs ≡ []

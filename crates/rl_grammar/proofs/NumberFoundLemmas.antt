@@ -42,6 +42,7 @@ found_float t f u e h =
       plain = subst (λ k. Whether f.body.plain k t) e h.plain;
       no_magnitude = h.no_magnitude (λ i. other e i);
       no_truth = h.no_truth (λ i. no_truth_value e i);
+      no_unit = h.no_unit (λ i. no_byte e i) (λ i. no_character e i);
     }
   where
     other : f.kind ≡ Float → f.kind ≡ Int → ⊥
@@ -49,6 +50,12 @@ found_float t f u e h =
 
     no_truth_value : f.kind ≡ Float → f.kind ≡ BoolKind → ⊥
     no_truth_value e g = absurd (cc)
+
+    no_byte : f.kind ≡ Float → f.kind ≡ Byte → ⊥
+    no_byte e g = absurd (cc)
+
+    no_character : f.kind ≡ Float → f.kind ≡ Char → ⊥
+    no_character e g = absurd (cc)
 
 pub number_float : (t : List ℕ) (f : Found) → IsUtf8 t → f.kind ≢ Int → IsFoundNumber t f → IsFoundFloat t f
 number_float t f u n (inl (h, inl e)) = absurd (n e)

@@ -9,7 +9,7 @@ use Rattle.rl_tokens.proofs.BehindLemmas.{behind_step, cut_boundary, cut_drop}
 use Rattle.rl_tokens.proofs.Rests.{behind_length}
 use Rattle.rl_grammar.specs.declared.quoted_forms.Inside.{Inside}
 use Rattle.rl_grammar.specs.declared.quoted_forms.QuotedForm.{QuotedForm}
-use Rattle.rl_grammar.specs.Bodies.{IsInside}
+use Rattle.rl_grammar.specs.Bodies.{IsInside, IsUnitValue}
 use Rattle.rl_grammar.specs.Forms.{PartsAre, form_opener, is_plain_body}
 use Rattle.rl_grammar.specs.Founds.{IsQuotedAt}
 use Rattle.rl_grammar.specs.Mirrors.OpenerAt.{found_opener, opener_at}
@@ -46,6 +46,7 @@ pub record Stands (form : QuotedForm) (kind : Kind) (t : List ℕ) (p : Inside) 
   pub cut : p.opened.now ≡ p.body.now ++ closer
   pub closed : IsTail t closer
   pub suffix : IsTail t p.suffix.now
+  pub unit_is : IsUnitValue kind value p.unit
 
 pub stands : (form : QuotedForm) (kind : Kind) (t inside : List ℕ) (p : Inside) → IsUtf8 t → IsUtf8 inside → IsUtf8 p.body.now → IsUtf8 p.suffix.now → opener_at (chars t) ≡ found_opener form kind (chars inside) → IsInside form kind inside p → Stands form kind t p
 stands form kind t inside p ut ui ub ux front h =
@@ -61,6 +62,7 @@ stands form kind t inside p ut ui ub ux front h =
       cut = h.cut;
       closed = behind_step t p.opened.now h.closer opened (record { front = p.body.now; text_is = h.cut; is_text = h.is_text });
       suffix = quoted_behind kind t p.body.now p.suffix.now (parts_cut form kind t h.value p.body.now p.suffix.now ut ub ux parts) ux;
+      unit_is = h.unit_is;
     }
 
 -- their lengths

@@ -1,20 +1,82 @@
 -- What the body of a character or a byte stands for.
-use Rattle.std.proofs.Common.{◌≡◌, ℕ, List, [], ◌∷◌, true, Some, None, refl, sym, ap, subst, ◌∙◌, append-nil}
+use Rattle.std.proofs.Common.{◌≡◌, ◌<◌, ℕ, List, [], ◌∷◌, true, Some, None, refl, sym, ap, subst, ◌∙◌, arith, append-nil}
+use Rattle.std.proofs.lemmas.Bool.Decides.{nat_tests}
+use Rattle.std.specs.Prelude.{encode_utf8_all}
+use Rattle.std.specs.Char.{IsScalar}
 use Rattle.std.specs.Str.{chars}
 use Rattle.rl_tokens.specs.declared.kind.Kind.{Kind}
-use Rattle.rl_tokens.specs.Quoted.{is_single, unit_text}
-use Rattle.rl_tokens.specs.Reading.{quoted_contents, ReadsQuoted}
+use Rattle.rl_tokens.specs.declared.kind.Kind.TheVariants.{Str, ByteStr, CStr, Byte, Char, Int, Float, Bool as BoolKind}
+use Rattle.rl_tokens.specs.Quoted.{is_single, is_string, unit_text}
+use Rattle.rl_tokens.specs.Reading.{Bytes, Characters, ReadsQuoted}
 use Rattle.rl_grammar.specs.declared.found.Body.{Body}
+use Rattle.rl_grammar.specs.declared.units.Piece.TheVariants.{Character}
 use Rattle.rl_grammar.specs.declared.quoted_forms.QuotedForm.{QuotedForm}
 use Rattle.rl_grammar.specs.declared.quoted_forms.QuotedForm.TheVariants.{Cooked as CookedForm, Raw as RawForm, Single as SingleForm}
-use Rattle.rl_grammar.specs.Bodies.{HasSingleBody}
+use Rattle.rl_grammar.specs.Bodies.{HasSingleBody, IsUnitValue}
 use Rattle.rl_grammar.specs.Forms.{PartsAre}
-use Rattle.rl_grammar.specs.Founds.{IsQuotedAt, body_in}
-use Rattle.rl_grammar.specs.Mirrors.UnitAt.{found, unit_at}
-use Rattle.rl_grammar.proofs.ContentLemmas.{one_value}
+use Rattle.rl_grammar.specs.Founds.{IsQuotedAt, IsUnitOf, body_in}
+use Rattle.rl_grammar.specs.Mirrors.UnitAt.{found, piece_value, unit_at}
+use Rattle.rl_grammar.proofs.ContentLemmas.{ascii_byte, one_byte, one_value}
 use Rattle.rl_grammar.proofs.FormLemmas.{not_both, parts_read}
 use Rattle.rl_grammar.proofs.RowLemmas.{ends_before}
-use Rattle.rl_grammar.proofs.UnitLemmas.{some_pair, unit_complete}
+use Rattle.rl_grammar.proofs.UnitLemmas.{some_pair, unit_complete, unit_sound}
+
+-- ---- what one unit stands for
+
+-- a kind of one unit is that of bytes or of characters
+by_single : (P : Kind → Type 0) (kind : Kind) → is_single kind ≡ true → P Byte → P Char → P kind
+by_single P Byte s b c = b
+by_single P Char s b c = c
+by_single P Str s b c = absurd (cc)
+by_single P ByteStr s b c = absurd (cc)
+by_single P CStr s b c = absurd (cc)
+by_single P Int s b c = absurd (cc)
+by_single P Float s b c = absurd (cc)
+by_single P BoolKind s b c = absurd (cc)
+
+-- one number
+pub unit_one : (kind : Kind) (a : List ℕ) (p : List ℕ × List ℕ) → is_single kind ≡ true → unit_at kind a ≡ Some p → (n : ℕ) × (p.0 ≡ n ∷ [])
+unit_one kind a p s unit =
+    let begun = unit_sound kind a p unit in
+    let one = one_value kind begun.unit s begun.allowed in (one.0, begun.value_is ∙ one.1)
+
+-- of a character that stands for itself, or is escaped
+pub character_unit : (kind : Kind) (c n : ℕ) → is_single kind ≡ true → IsScalar c → piece_value kind (Character c) ≡ n ∷ [] → IsUnitValue kind (piece_value kind (Character c)) c
+character_unit kind c n s scalar one = by_single (λ k. piece_value k (Character c) ≡ n ∷ [] → IsUnitValue k (piece_value k (Character c)) c) kind s of_byte of_character one
+  where
+    of_byte : encode_utf8_all (c ∷ []) ≡ n ∷ [] → IsUnitValue Byte (encode_utf8_all (c ∷ [])) c
+    of_byte e =
+        let small : c < 128 = one_byte c n e in
+        record { one = λ h. ascii_byte c small; byte = λ h. omega (arith, small); character = λ h. absurd (cc); none = λ h k. absurd (h refl) }
+
+    of_character : c ∷ [] ≡ n ∷ [] → IsUnitValue Char (c ∷ []) c
+    of_character e = record { one = λ h. refl; byte = λ h. absurd (cc); character = λ h. scalar; none = λ h k. absurd (k refl) }
+
+-- of a byte
+pub byte_unit : (kind : Kind) (b : ℕ) → is_single kind ≡ true → b < 256 → IsUnitValue kind (b ∷ []) b
+byte_unit kind b s small = by_single (λ k. IsUnitValue k (b ∷ []) b) kind s of_byte of_character
+  where
+    of_byte : IsUnitValue Byte (b ∷ []) b
+    of_byte = record { one = λ h. refl; byte = λ h. small; character = λ h. absurd (cc); none = λ h k. absurd (h refl) }
+
+    of_character : IsUnitValue Char (b ∷ []) b
+    of_character = record { one = λ h. refl; byte = λ h. absurd (cc); character = λ h. grind (arith, nat_tests); none = λ h k. absurd (k refl) }
+
+-- none of a string
+pub no_unit : (kind : Kind) (v : List ℕ) → is_string kind ≡ true → IsUnitValue kind v 0
+no_unit kind v s = record { one = λ h. absurd (not_both kind s h); byte = λ h. omega arith; character = λ h. refl; none = λ h k. refl }
+
+-- it is the contents
+pub unit_reads : (form : QuotedForm) (kind : Kind) (t v body x : List ℕ) (n : ℕ) → is_single kind ≡ true → PartsAre form kind t v body x → IsUnitValue kind v n → IsUnitOf kind t n
+unit_reads form kind t v body x n s parts is = by_single (λ k. PartsAre form k t v body x → IsUnitValue k v n → IsUnitOf k t n) kind s of_byte of_character parts is
+  where
+    of_byte : PartsAre form Byte t v body x → IsUnitValue Byte v n → IsUnitOf Byte t n
+    of_byte p u = record { reads = (x, subst (λ w. ReadsQuoted t Byte (Bytes w) x) (u.one refl) (parts_read form Byte t v body x p)); byte = u.byte; character = u.character }
+
+    of_character : PartsAre form Char t v body x → IsUnitValue Char v n → IsUnitOf Char t n
+    of_character p u = record { reads = (x, subst (λ w. ReadsQuoted t Char (Characters w) x) (u.one refl) (parts_read form Char t v body x p)); byte = u.byte; character = u.character }
+
+-- ---- the body
 
 -- it is one unit
 body_unit : (kind : Kind) (t body : List ℕ) (has : HasSingleBody kind t body) → unit_at kind (chars body) ≡ found has.value []
@@ -28,19 +90,15 @@ body_stands kind t body has none =
     let e : None ≡ found has.value [] = sym none ∙ body_unit kind t body has in
     absurd (cc)
 
--- which is the contents
-pub body_reads : (kind : Kind) (t body : List ℕ) (p : List ℕ × List ℕ) → HasSingleBody kind t body → unit_at kind (chars body) ≡ Some p → (x : List ℕ) × ReadsQuoted t kind (quoted_contents kind p.0) x
-body_reads kind t body p has unit =
-    let same = some_pair (has.value, []) p (sym (body_unit kind t body has) ∙ unit) in
-    (has.suffix, subst (λ v. ReadsQuoted t kind (quoted_contents kind v) has.suffix) same.0 (parts_read SingleForm kind t has.value (chars body) has.suffix has.parts))
-
--- and one number
+-- and what it stands for is one number
 pub body_one : (kind : Kind) (t body : List ℕ) (p : List ℕ × List ℕ) → HasSingleBody kind t body → unit_at kind (chars body) ≡ Some p → (n : ℕ) × (p.0 ≡ n ∷ [])
-body_one kind t body p has unit =
-    let s = has.parts.0 in
+body_one kind t body p has unit = unit_one kind (chars body) p has.parts.0.single unit
+
+-- which is the contents
+pub body_reads : (kind : Kind) (t body : List ℕ) (p : List ℕ × List ℕ) (n : ℕ) → HasSingleBody kind t body → unit_at kind (chars body) ≡ Some p → IsUnitValue kind p.0 n → IsUnitOf kind t n
+body_reads kind t body p n has unit is =
     let same = some_pair (has.value, []) p (sym (body_unit kind t body has) ∙ unit) in
-    let one = one_value kind s.unit s.single s.is_unit in
-    (one.0, sym same.0 ∙ (s.value_is ∙ one.1))
+    unit_reads SingleForm kind t has.value (chars body) has.suffix n has.parts.0.single has.parts (subst (λ v. IsUnitValue kind v n) (sym same.0) is)
 
 -- ---- where it stands
 

@@ -1,12 +1,13 @@
--- What reading a text finds: the kind, where the parts stand, what the digits spell, and the truth
--- value.
-use Rattle.std.specs.Prelude.{◌≡◌, ◌≢◌, ◌↔◌, ◌⊎◌, ◌++◌, ◌-◌, ◌≤◌, ◌||◌, ℕ, Bool, false, List, take, drop, IsTrue}
+-- What reading a text finds: the kind, where the parts stand, what the digits spell, the truth value,
+-- and the character or byte.
+use Rattle.std.specs.Prelude.{◌≡◌, ◌≢◌, ◌↔◌, ◌⊎◌, ◌++◌, ◌-◌, ◌≤◌, ◌<◌, ◌∷◌, [], ◌||◌, ℕ, Bool, false, List, take, drop, IsTrue}
+use Rattle.std.specs.Char.{IsScalar}
 use Rattle.std.specs.Str.{chars, IsCharBoundary}
 use Rattle.rl_tokens.specs.declared.kind.Kind.{Kind}
-use Rattle.rl_tokens.specs.declared.kind.Kind.TheVariants.{Int, Float, Bool as BoolKind}
+use Rattle.rl_tokens.specs.declared.kind.Kind.TheVariants.{Byte, Char, Int, Float, Bool as BoolKind}
 use Rattle.rl_tokens.specs.Numbers.{FloatReads}
 use Rattle.rl_tokens.specs.Quoted.{is_string, is_single}
-use Rattle.rl_tokens.specs.Reading.{HasSuffix, truth_text}
+use Rattle.rl_tokens.specs.Reading.{HasContents, HasSuffix, quoted_contents, truth_text}
 use Rattle.rl_grammar.specs.declared.quoted_forms.QuotedForm.{QuotedForm}
 use Rattle.rl_grammar.specs.declared.found.Body.{Body}
 use Rattle.rl_grammar.specs.declared.found.Found.{Found}
@@ -42,8 +43,15 @@ pub record IsQuotedAt (kind : Kind) (text : List ℕ) (body : Body) : Type 0 whe
   pub plain_is : body.plain ≡ is_plain_body form kind (chars (body_in text body))
   pub stands : StandsIn text body
 
+-- The number is the one character or byte that the text stands for, as a literal of the kind.
+pub record IsUnitOf (kind : Kind) (text : List ℕ) (unit : ℕ) : Type 0 where
+  pub reads : HasContents kind text (quoted_contents kind (unit ∷ []))
+  pub byte : kind ≡ Byte → unit < 256
+  pub character : kind ≡ Char → IsScalar unit
+
 -- What reading the text finds, which is a literal: its kind, where its parts stand, whether the
--- body is what it stands for, the magnitude of an integer, and a truth value.
+-- body is what it stands for, the magnitude of an integer, a truth value, and what a character or a
+-- byte stands for.
 pub record IsFound (text : List ℕ) (found : Found) : Type 0 where
   pub reads : HasSuffix found.kind (chars text) (chars (suffix_in text found.body))
   pub cut : IsSplit found.kind text (body_in text found.body) (suffix_in text found.body)
@@ -55,6 +63,8 @@ pub record IsFound (text : List ℕ) (found : Found) : Type 0 where
   pub no_magnitude : found.kind ≢ Int → found.magnitude ≡ 0
   pub truth : found.kind ≡ BoolKind → text ≡ truth_text found.truth
   pub no_truth : found.kind ≢ BoolKind → found.truth ≡ false
+  pub unit : IsTrue (is_single found.kind) → IsUnitOf found.kind (chars text) found.unit
+  pub no_unit : found.kind ≢ Byte → found.kind ≢ Char → found.unit ≡ 0
 
 -- The same of a float, whether or not an integer stands there too.
 pub record IsFoundFloat (text : List ℕ) (found : Found) : Type 0 where
@@ -67,6 +77,7 @@ pub record IsFoundFloat (text : List ℕ) (found : Found) : Type 0 where
   pub plain : IsTrue found.body.plain ↔ IsPlain Float text
   pub no_magnitude : found.magnitude ≡ 0
   pub no_truth : found.truth ≡ false
+  pub no_unit : found.unit ≡ 0
 
 -- What reading the text finds, which is a number: an integer within the limit, or a float, whether
 -- or not an integer stands there too.

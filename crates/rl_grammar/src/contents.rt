@@ -4,15 +4,15 @@ ghost use Rattle.std.specs.Prelude.{◌≡◌, ◌⊎◌, ◌≤◌, ◌+◌, �
 ghost use Rattle.std.specs.Str.{chars, IsUtf8};
 ghost use Rattle.rl_tokens.specs.Errors.{memory_at, nowhere};
 ghost use Rattle.rl_tokens.specs.Quoted.{is_string};
-ghost use Rattle.rl_tokens.specs.Reading.{Characters, Bytes, quoted_contents, ReadsQuoted, ReadsAs, HasContents};
-ghost use Rattle.rl_grammar.specs.Mirrors.UnitAt.{piece_value};
+ghost use Rattle.rl_tokens.specs.Reading.{Characters, Bytes, ReadsAs, HasContents};
 ghost use Rattle.rl_grammar.specs.Bodies.{HasBody, HasSingleBody};
+ghost use Rattle.rl_grammar.specs.Founds.{IsUnitOf};
 ghost use Rattle.rl_grammar.specs.Decoded.{ContentsAre, HoldsBytes, piece_bytes};
 ghost use Rattle.rl_grammar.specs.Mirrors.Decodes.{Decodes};
 
 use crate::found::found_in;
 use crate::runs::split_plain;
-use crate::units::{Piece, unit};
+use crate::units::{Piece, piece_unit, unit};
 use rl_tokens::room::{put, put_byte, put_char};
 use rl_tokens::{Error, Kind};
 use std::alloc::{AllocError, Allocator};
@@ -216,40 +216,14 @@ pub fn bytes_into(kind: Kind, body: &str, out: &mut [u8]) -> usize
 }
 
 /// What the one unit between the quotes of a character or a byte literal stands for.
-fn body_piece(kind: Kind, body: &str) -> Piece
+fn body_unit(kind: Kind, body: &str) -> u32
     requires { (text : List ℕ) × HasSingleBody kind text body.now }
-    ensures reads { (text : List ℕ) → HasSingleBody kind text body.now
-        → (x : List ℕ) × ReadsQuoted text kind (quoted_contents kind (piece_value kind result)) x }
-    ensures one { (n : ℕ) × (piece_value kind result ≡ n ∷ []) }
+    ensures { (text : List ℕ) → HasSingleBody kind text body.now → IsUnitOf kind text result }
 {
     let Some((piece, _)) = unit(kind, body) else {
         unreachable!()
     };
-    piece
-}
-
-/// The byte that the piece of a byte literal is.
-fn piece_byte(piece: Piece) -> u8
-    requires { (n : ℕ) × (piece_value Kind.Byte piece ≡ n ∷ []) }
-    ensures { piece_value Kind.Byte piece ≡ result ∷ [] }
-{
-    match piece {
-        Piece::Byte(b) => b,
-        Piece::Character(c) => c as u8,
-        Piece::Nothing => unreachable!(),
-    }
-}
-
-/// The character that the piece of a character literal is.
-fn piece_char(piece: Piece) -> char
-    requires { (n : ℕ) × (piece_value Kind.Char piece ≡ n ∷ []) }
-    ensures { piece_value Kind.Char piece ≡ result ∷ [] }
-{
-    match piece {
-        Piece::Character(c) => c,
-        Piece::Byte(b) => b as char,
-        Piece::Nothing => unreachable!(),
-    }
+    piece_unit(kind, piece)
 }
 
 /// The byte that a byte literal stands for. The text has to read as `Byte`, as [`shape`](crate::shape) says.
@@ -258,7 +232,7 @@ pub fn byte_of(text: &str) -> u8
     ensures value { ContentsAre Kind.Byte (chars text.now) (Bytes (result ∷ [])) }
     ensures reads { HasContents Kind.Byte (chars text.now) (Bytes (result ∷ [])) }
 {
-    byte_of_body(found_in(text).parts(text).body)
+    found_in(text).unit as u8
 }
 
 /// The character that a character literal stands for. The text has to read as `Char`, as [`shape`](crate::shape) says.
@@ -267,7 +241,8 @@ pub fn char_of(text: &str) -> char
     ensures value { ContentsAre Kind.Char (chars text.now) (Characters (result ∷ [])) }
     ensures reads { HasContents Kind.Char (chars text.now) (Characters (result ∷ [])) }
 {
-    char_of_body(found_in(text).parts(text).body)
+    // SAFETY: what a character literal stands for is a character, which is proved.
+    unsafe { char::from_u32_unchecked(found_in(text).unit) }
 }
 
 /// The byte that a byte literal stands for, of what stands between its quotes.
@@ -276,7 +251,7 @@ pub fn byte_of_body(body: &str) -> u8
     ensures { (text : List ℕ) → HasSingleBody Kind.Byte text body.now
         → HasContents Kind.Byte text (Bytes (result ∷ [])) }
 {
-    piece_byte(body_piece(Kind::Byte, body))
+    body_unit(Kind::Byte, body) as u8
 }
 
 /// The character that a character literal stands for, of what stands between its quotes.
@@ -285,5 +260,6 @@ pub fn char_of_body(body: &str) -> char
     ensures { (text : List ℕ) → HasSingleBody Kind.Char text body.now
         → HasContents Kind.Char text (Characters (result ∷ [])) }
 {
-    piece_char(body_piece(Kind::Char, body))
+    // SAFETY: what a character literal stands for is a character, which is proved.
+    unsafe { char::from_u32_unchecked(body_unit(Kind::Char, body)) }
 }

@@ -63,6 +63,8 @@ pub struct Found {
     pub magnitude: u128,
     /// The truth value that the text is; `false` for any other kind.
     pub truth: bool,
+    /// What the one character or byte of a character or byte literal stands for; 0 for any other kind.
+    pub unit: u32,
 }
 
 /// A literal's kind and the two parts of its text that vary, as slices of it.
@@ -125,6 +127,7 @@ fn integer_found<'t>(text: &'t str, suffix: &'t str, magnitude: u128) -> Found
         body: Body::up_to(body.len(), is_plain_integer(body)),
         magnitude,
         truth: false,
+        unit: 0,
     }
 }
 
@@ -141,6 +144,7 @@ fn float_found<'t>(text: &'t str, suffix: &'t str) -> Found
         body: Body::up_to(body.len(), is_plain_float(body)),
         magnitude: 0,
         truth: false,
+        unit: 0,
     }
 }
 
@@ -211,6 +215,7 @@ pub fn find_negative(text: &str) -> Option<Found>
         body: Body::up_to(found.body.suffix_at + 1, found.body.plain),
         magnitude: found.magnitude,
         truth: false,
+        unit: 0,
     })
 }
 
@@ -225,6 +230,7 @@ fn find_truth(text: &str) -> Option<Found>
         body: Body::up_to(text.len(), false),
         magnitude: 0,
         truth,
+        unit: 0,
     })
 }
 

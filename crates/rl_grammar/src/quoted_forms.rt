@@ -16,7 +16,7 @@ ghost use Rattle.rl_tokens.specs.Classes.{after_run, is_hash};
 
 use crate::found::{Body, Found};
 use crate::runs::{before, is_ascii, split_plain};
-use crate::units::unit;
+use crate::units::{piece_unit, unit};
 use rl_tokens::Kind;
 use rl_tokens::classes::{CharClass, skip_class};
 use rl_tokens::text::split_char;
@@ -38,6 +38,8 @@ pub(crate) struct Inside<'t> {
     suffix: &'t str,
     /// Whether the body stands for itself.
     plain: bool,
+    /// What the one character or byte stands for; 0 for a string.
+    unit: u32,
 }
 
 /// What a `"` or an `r` at the front tells of a string of the kind.
@@ -154,6 +156,7 @@ fn cooked_inside(kind: Kind, text: &str) -> Option<Inside<'_>>
             body,
             suffix,
             plain: true,
+            unit: 0,
         });
     }
     let (body, suffix) = cut_at_quote('"', text, skip_units(kind, following))?;
@@ -162,6 +165,7 @@ fn cooked_inside(kind: Kind, text: &str) -> Option<Inside<'_>>
         body,
         suffix,
         plain: false,
+        unit: 0,
     })
 }
 
@@ -182,6 +186,7 @@ fn raw_inside(kind: Kind, text: &str) -> Option<Inside<'_>>
             body,
             suffix,
             plain: true,
+            unit: 0,
         })
     } else {
         None
@@ -207,13 +212,14 @@ fn single_inside(kind: Kind, text: &str) -> Option<Inside<'_>>
     ensures none { IfNone result
         (HasNoParts QuotedForm.Single kind (form_opener QuotedForm.Single kind ++ chars text.now)) }
 {
-    let (_, rest) = unit(kind, text)?;
+    let (piece, rest) = unit(kind, text)?;
     let (body, suffix) = cut_at_quote('\'', text, rest)?;
     Some(Inside {
         opened: text,
         body,
         suffix,
         plain: false,
+        unit: piece_unit(kind, piece),
     })
 }
 
@@ -252,5 +258,6 @@ pub(crate) fn find_quoted(text: &str) -> Option<Found>
         body,
         magnitude: 0,
         truth: false,
+        unit: read.unit,
     })
 }

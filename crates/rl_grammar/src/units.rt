@@ -1,10 +1,11 @@
 //! The units that stand between the quotes of a literal: characters and escapes.
 
-ghost use Rattle.std.specs.Prelude.{◌≡◌, ◌==◌, ◌<◌, ◌≤◌, length, option_map, IfSome, IsTrue, IsFalse};
+ghost use Rattle.std.specs.Prelude.{◌≡◌, ◌==◌, ◌<◌, ◌≤◌, ◌∷◌, [], ℕ, length, option_map, IfSome, IsTrue, IsFalse};
 ghost use Rattle.std.specs.Str.{chars};
 ghost use Rattle.rl_tokens.specs.Texts.{first_passes};
-ghost use Rattle.rl_tokens.specs.Quoted.{holds_characters, is_plain, allows_code, may_be_hex, has_unicode};
+ghost use Rattle.rl_tokens.specs.Quoted.{holds_characters, is_plain, is_single, allows_code, may_be_hex, has_unicode};
 ghost use Rattle.rl_tokens.specs.Strict.{is_bare_character};
+ghost use Rattle.rl_grammar.specs.Bodies.{IsUnitValue};
 ghost use Rattle.rl_grammar.specs.Mirrors.UnitAt.{piece_value, IsPieceOf, named_in, digit_at, hex_at, unicode_digits_at, unicode_at, after_blanks, escape_at, unit_at};
 
 use rl_tokens::Kind;
@@ -17,6 +18,20 @@ pub(crate) enum Piece {
     Character(char),
     Byte(u8),
     Nothing,
+}
+
+/// The number of the one character or byte that the piece of a character or a byte literal is.
+#[inline(always)]
+pub(crate) fn piece_unit(kind: Kind, piece: Piece) -> u32
+    requires single { IsTrue (is_single kind) }
+    requires one { (n : ℕ) × (piece_value kind piece ≡ n ∷ []) }
+    ensures { IsUnitValue kind (piece_value kind piece) result }
+{
+    match piece {
+        Piece::Character(c) => c as u32,
+        Piece::Byte(b) => b as u32,
+        Piece::Nothing => unreachable!(),
+    }
 }
 
 /// Whether the character may stand for itself between single quotes: in both grammars a byte, in the strict one a

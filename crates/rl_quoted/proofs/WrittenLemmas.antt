@@ -19,9 +19,8 @@ use Rattle.rl_grammar.specs.Forms.{PartsAre, is_plain_body}
 use Rattle.rl_grammar.proofs.BodyLemmas.{openers_differ, cooked_other, cooked_shortens}
 use Rattle.rl_grammar.proofs.ContentLemmas.{plain_bytes}
 use Rattle.rl_grammar.proofs.FormLemmas.{HasParts, cooked_has, single_has}
-use Rattle.rl_grammar.proofs.FoundLemmas.{body_text, quoted_found}
+use Rattle.rl_grammar.proofs.FoundLemmas.{body_text, quoted_whole}
 use Rattle.rl_quoted.specs.Places.{IsWrittenAs, StandsAt}
-use Rattle.rl_quoted.proofs.PlaceLemmas.{stands_at}
 
 -- ---- by characters
 
@@ -209,7 +208,8 @@ written_at kind t bytes body u q w at end_at suffix_at whole =
     subst (λ z. PartsAre f.form kind (chars t) w.value z (chars following)) (sym b.body_is) (subst (λ z. PartsAre f.form kind (chars t) w.value e.inside z) (sym b.suffix_is) f.parts) in
     let told : body.plain ≡ is_plain_body f.form kind (chars inside) = go e parts (body_text t body u b.stands) (is_string kind) refl in
     let quoted : IsQuotedAt kind t body = record { form = f.form; value = w.value; parts = parts; plain_is = told; stands = b.stands } in
-    stands_at kind t _ refl (quoted_found t kind body u quoted)
+    let all = quoted_whole t kind body u quoted in
+    record { reads = all.reads; stands = quoted.stands; plain = all.plain; quoted = λ h. quoted }
   where
     go : (e : Enclosed kind (chars t) w.value) → PartsAre e.has.form kind (chars t) w.value (chars (body_in t body)) (chars (suffix_in t body)) → IsUtf8 (body_in t body) → (s : Bool) → is_string kind ≡ s → body.plain ≡ is_plain_body e.has.form kind (chars (body_in t body))
     go e p ub true s = same_bools _ _

@@ -1,21 +1,19 @@
-use Rattle.std.proofs.Common.{refl}
-use Rattle.std.specs.Str.{chars}
+use Rattle.std.proofs.Common.{◌<◌, arith, refl}
 use Rattle.rl_tokens.specs.declared.kind.Kind.TheVariants.{Byte}
-use Rattle.rl_grammar.proofs.FoundContents.{contents_are, single_body}
+use Rattle.rl_grammar.proofs.FoundContents.{contents_are, unit_of}
 use Rattle.rl_grammar.proofs.contents.byte_of.Goals as goal
 
 pub found_in-requires : goal.found_in-requires
 found_in-requires c = (Byte, c.requires)
 
-pub byte_of_body-requires : goal.byte_of_body-requires
-byte_of_body-requires c =
+pub overflow_cast-result : goal.overflow_cast-result
+overflow_cast-result c =
     let f = c.found_in.ensures in
-    (chars c.args.text.now, single_body Byte _ _ _ c.parts.ensures.body (f.kind Byte c.requires) refl f.found)
+    let small : c.found_in.result.unit < 256 = (unit_of Byte _ _ (f.kind Byte c.requires) refl f.found).byte refl in omega arith
 
 pub returns-clause-reads : goal.returns-clause-reads
 returns-clause-reads c =
-    let f = c.found_in.ensures in
-    c.byte_of_body.ensures (chars c.args.text.now) (single_body Byte _ _ _ c.parts.ensures.body (f.kind Byte c.requires) refl f.found)
+    let f = c.found_in.ensures in (unit_of Byte _ _ (f.kind Byte c.requires) refl f.found).reads
 
 pub returns-clause-value : goal.returns-clause-value
 returns-clause-value c = contents_are Byte Byte _ _ (returns-clause-reads c)

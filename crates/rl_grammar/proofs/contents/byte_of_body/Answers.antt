@@ -1,8 +1,9 @@
-use Rattle.std.proofs.Common.{subst}
-use Rattle.rl_tokens.specs.declared.kind.Kind.TheVariants.{Byte}
-use Rattle.rl_tokens.specs.Reading.{Bytes, ReadsQuoted}
+use Rattle.std.proofs.Common.{◌<◌, arith, refl}
 use Rattle.rl_grammar.proofs.contents.byte_of_body.Goals as goal
 
+pub overflow_cast-result : goal.overflow_cast-result
+overflow_cast-result c =
+    let small : c.body_unit.result < 256 = (c.body_unit.ensures c.requires.0 c.requires.1).byte refl in omega arith
+
 pub returns : goal.returns
-returns c = λ t has.
-    let r = c.body_piece.ensures.reads t has in (r.0, subst (λ v. ReadsQuoted t Byte (Bytes v) r.0) c.piece_byte.ensures r.1)
+returns c = λ t has. (c.body_unit.ensures t has).reads

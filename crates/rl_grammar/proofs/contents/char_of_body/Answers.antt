@@ -1,8 +1,10 @@
-use Rattle.std.proofs.Common.{subst}
+use Rattle.std.proofs.Common.{[], ◌∷◌, refl, subst, sym}
 use Rattle.rl_tokens.specs.declared.kind.Kind.TheVariants.{Char}
-use Rattle.rl_tokens.specs.Reading.{Characters, ReadsQuoted}
+use Rattle.rl_tokens.specs.Reading.{Characters, HasContents}
 use Rattle.rl_grammar.proofs.contents.char_of_body.Goals as goal
 
+pub from_u32_unchecked-requires : goal.from_u32_unchecked-requires
+from_u32_unchecked-requires c = (c.body_unit.ensures c.requires.0 c.requires.1).character refl
+
 pub returns : goal.returns
-returns c = λ t has.
-    let r = c.body_piece.ensures.reads t has in (r.0, subst (λ v. ReadsQuoted t Char (Characters v) r.0) c.piece_char.ensures r.1)
+returns c = λ t has. subst (λ n. HasContents Char t (Characters (n ∷ []))) (sym c.from_u32_unchecked.ensures) (c.body_unit.ensures t has).reads

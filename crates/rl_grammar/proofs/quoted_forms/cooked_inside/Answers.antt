@@ -7,6 +7,7 @@ use Rattle.rl_grammar.proofs.CutLemmas.{behind_chars}
 use Rattle.rl_grammar.proofs.FormLemmas.{cooked_found, cooked_none}
 use Rattle.rl_grammar.proofs.RowLemmas.{row_start, row_behind}
 use Rattle.rl_grammar.proofs.PlainLemmas.{one_run, no_run}
+use Rattle.rl_grammar.proofs.SingleBodies.{no_unit}
 use Rattle.rl_grammar.proofs.quoted_forms.cooked_inside.Goals as goal
 
 pub cut_at_quote-requires : goal.cut_at_quote-requires
@@ -36,6 +37,7 @@ returns-in-Some-clause-some c =
       closer = _;
       cut = found.cut;
       is_text = search rules;
+      unit_is = no_unit _ _ c.requires;
     }
 
 pub returns-in_err-body-clause-none : goal.returns-in_err-body-clause-none
@@ -60,4 +62,5 @@ returns-clause-some c =
       closer = _;
       cut = found.cut;
       is_text = c.skip_units.utf8;
+      unit_is = no_unit _ _ c.requires;
     }

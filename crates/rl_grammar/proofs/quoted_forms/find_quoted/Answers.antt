@@ -2,7 +2,7 @@ use Rattle.std.proofs.Common.{sym, refl, rules}
 use Rattle.std.specs.Str.{IsUtf8}
 use Rattle.rl_tokens.proofs.BehindLemmas.{if_none}
 use Rattle.rl_grammar.proofs.FormLemmas.{front_sound, no_front, no_parts}
-use Rattle.rl_grammar.proofs.FoundLemmas.{quoted_found}
+use Rattle.rl_grammar.proofs.FoundLemmas.{quoted_found, unit_found}
 use Rattle.rl_grammar.proofs.PlaceLemmas.{lengths, quoted_at, stands}
 use Rattle.rl_grammar.proofs.quoted_forms.find_quoted.Goals as goal
 
@@ -21,7 +21,7 @@ returns-clause-found c =
     let body : IsUtf8 c.in_ok-read.read.body.now = search rules in
     let suffix : IsUtf8 c.in_ok-read.read.suffix.now = search rules in
     let s = stands _ _ _ _ _ c.utf8.text inside body suffix (sym c.in_ok-form.ensures) c.in_ok-read.ensures.some in
-    quoted_found _ _ _ c.utf8.text (quoted_at _ _ _ _ _ _ _ refl refl refl s)
+    quoted_found _ _ _ _ c.utf8.text (quoted_at _ _ _ _ _ _ _ refl refl refl s) (unit_found _ _ _ _ s)
 
 pub overflow_sub-lo : goal.overflow_sub-lo
 overflow_sub-lo c =

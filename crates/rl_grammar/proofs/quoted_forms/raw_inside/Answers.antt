@@ -4,6 +4,7 @@ use Rattle.rl_tokens.proofs.BehindLemmas.{behind_step, if_none}
 use Rattle.rl_grammar.proofs.CutLemmas.{behind_chars}
 use Rattle.rl_grammar.proofs.ShapeLemmas.{closed_cut}
 use Rattle.rl_grammar.proofs.RawLemmas.{hashes_behind, raw_unopened, raw_unclosed, raw_other_hashes, raw_not_held, raw_found}
+use Rattle.rl_grammar.proofs.SingleBodies.{no_unit}
 use Rattle.rl_grammar.proofs.quoted_forms.raw_inside.Goals as goal
 
 pub cut_at_quote-requires : goal.cut_at_quote-requires
@@ -41,6 +42,7 @@ returns-then-holds_all-clause-some c =
       closer = _;
       cut = closed.0;
       is_text = closed.1;
+      unit_is = no_unit _ _ c.requires;
     }
 
 pub returns-else-holds_all-clause-none : goal.returns-else-holds_all-clause-none
