@@ -120,7 +120,7 @@ fn signed_decimal<A: Allocator>(
 fn are_digits(bytes: &[u8]) -> bool
     ensures { result ≡ list_all is_ascii_digit bytes.now }
 {
-    bytes.iter().all(|byte| byte.is_ascii_digit())
+    bytes.iter().all(u8::is_ascii_digit)
 }
 
 /// Whether all characters are decimal digits.

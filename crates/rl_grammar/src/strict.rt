@@ -61,7 +61,7 @@ fn closes(form: QuotedForm, kind: Kind, text: &str) -> bool
 fn all_continue(text: &str) -> bool
     ensures { result ≡ list_all is_continue (chars text.now) }
 {
-    text.chars().all(|c| is_continue(c))
+    text.chars().all(is_continue)
 }
 
 /// Whether the text may be the suffix of a quoted literal: nothing, or a word.

@@ -11,31 +11,31 @@ returns-clause-taken g c = let minus : c.in_ok-minus.minus.now.ch ≡ 45 = sym c
     (rw c.text.ensures at c.in_ok-found.ensures.found)
 
 pub returns-in_err-minus-clause-none : goal.returns-in_err-minus-clause-none
-returns-in_err-minus-clause-none g c = grind (arith, common_steps)
+returns-in_err-minus-clause-none g c = grind (arith, common_steps) steps 300000
 
 pub returns-then-as_char-ne45-clause-none : goal.returns-then-as_char-ne45-clause-none
-returns-then-as_char-ne45-clause-none g c = grind (arith, common_steps)
+returns-then-as_char-ne45-clause-none g c = grind (arith, common_steps) steps 300000
 
 pub returns-in_err-number-clause-taken : goal.returns-in_err-number-clause-taken
-returns-in_err-number-clause-taken g c = grind (arith, common_steps)
+returns-in_err-number-clause-taken g c = grind (arith, common_steps) steps 300000
 
 pub returns-in_err-number-clause-none : goal.returns-in_err-number-clause-none
-returns-in_err-number-clause-none g c = grind (arith, common_steps)
+returns-in_err-number-clause-none g c = grind (arith, common_steps) steps 300000
 
 pub returns-in_err-number-clause-left : goal.returns-in_err-number-clause-left
-returns-in_err-number-clause-left g c = grind (arith, common_steps)
+returns-in_err-number-clause-left g c = grind (arith, common_steps) steps 300000
 
 pub returns-in_err-found-clause-taken : goal.returns-in_err-found-clause-taken
-returns-in_err-found-clause-taken g c = grind (arith, common_steps)
+returns-in_err-found-clause-taken g c = grind (arith, common_steps) steps 300000
 
 pub returns-in_err-found-clause-left : goal.returns-in_err-found-clause-left
-returns-in_err-found-clause-left g c = grind (arith, common_steps)
+returns-in_err-found-clause-left g c = grind (arith, common_steps) steps 300000
 
 pub invariant_of-result : goal.invariant_of-result
-invariant_of-result g c = grind (arith, common_steps)
+invariant_of-result g c = grind (arith, common_steps) steps 300000
 
 pub returns-clause-scope : goal.returns-clause-scope
-returns-clause-scope g c = grind (arith, common_steps)
+returns-clause-scope g c = grind (arith, common_steps) steps 300000
 
 pub returns-in_err-minus-clause-taken : goal.returns-in_err-minus-clause-taken
 returns-in_err-minus-clause-taken g c = grind (arith, common_steps) steps 200000
