@@ -27,10 +27,7 @@ pub(crate) fn inside(alloc: Global, text: &str, page: &mut Page) {
 fn tell_inside(answer: Result<Attrs, Error>, page: &mut Page) {
     match answer {
         Ok(attrs) => put(attrs, page),
-        Err(error) => {
-            page.show(&Refusal(&error), "\n");
-            drop(error)
-        }
+        Err(error) => page.show(&Refusal(&error), "\n"),
     }
 }
 
@@ -38,10 +35,7 @@ fn tell_inside(answer: Result<Attrs, Error>, page: &mut Page) {
 pub(crate) fn values(alloc: Global, row: &str, page: &mut Page) {
     let (names, text) = row.split_once('\u{1f}').unwrap_or((row, ""));
     match read(alloc, text, 4) {
-        Ok(attrs) => {
-            put_values(alloc, &attrs, names, page);
-            drop(attrs)
-        }
+        Ok(attrs) => put_values(alloc, &attrs, names, page),
         Err(error) => tell_error(error, page),
     }
 }

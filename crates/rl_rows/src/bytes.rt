@@ -54,10 +54,7 @@ fn c_string(alloc: Global, bytes: &[u8], out: &mut Page) {
         return out.fail();
     };
     match CString::new(bytes) {
-        Ok(held) => {
-            held_c_string(alloc, &held, out);
-            drop(held)
-        }
+        Ok(held) => held_c_string(alloc, &held, out),
         Err(rejected) => refused_c_string(rejected, out),
     }
 }
@@ -66,9 +63,7 @@ fn c_string(alloc: Global, bytes: &[u8], out: &mut Page) {
 fn refused_c_string(rejected: NulError, out: &mut Page) {
     out.put("zero at ");
     out.show(&rejected.nul_position(), " of ");
-    let bytes = rejected.into_vec();
-    out.debug(&bytes.as_slice(), "\n");
-    drop(bytes)
+    out.debug(&rejected.into_vec().as_slice(), "\n")
 }
 
 /// A C string as a literal, and its value again.
@@ -87,10 +82,7 @@ fn held_c_string(alloc: Global, held: &CString, out: &mut Page) {
 /// Whether the C string that a literal stands for is the one that it was made of.
 fn tell_held(value: Result<CString, Error>, held: &CString, out: &mut Page) {
     match value {
-        Ok(value) => {
-            out.show(&(value == *held), " ");
-            drop(value)
-        }
+        Ok(value) => out.show(&(value == *held), " "),
         Err(error) => tell_error(error, out),
     }
 }

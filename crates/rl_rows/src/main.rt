@@ -42,14 +42,10 @@ fn main(rt: HostRuntime) -> io::Result<()> {
 
 /// Writes what is printed for a line of input.
 fn answer_to<W: Write>(alloc: Global, line: Vec<u8>, out: &mut W) -> io::Result<()> {
-    let answer = row::told(alloc, line.as_slice());
-    drop(line);
-    write_answer(answer?, out)
+    write_answer(row::told(alloc, line.as_slice())?, out)
 }
 
 /// Writes an answer.
 fn write_answer<W: Write>(answer: String, out: &mut W) -> io::Result<()> {
-    let written = out.write_all(answer.as_bytes());
-    drop(answer);
-    written
+    out.write_all(answer.as_bytes())
 }

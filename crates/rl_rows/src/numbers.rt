@@ -107,15 +107,12 @@ where
     out.put(" ");
     match literal.base10_parse::<N, Global>(out.alloc()) {
         Ok(number) => out.put_shown(&number),
-        Err(error) => {
-            refused_number(&error, out);
-            drop(error)
-        }
+        Err(error) => refused_number(error, out),
     }
 }
 
 /// Where a number is rejected.
-fn refused_number(error: &Error, out: &mut Page) {
+fn refused_number(error: Error, out: &mut Page) {
     match error.kind {
         ErrorKind::Number(_) => {
             out.put("at ");

@@ -45,8 +45,7 @@ fn tell_kept<'a>(kept: Kept<Literal<Lent<'a>>, Lent<'a>>, out: &mut Page) {
     out.show(&kept.error, " ");
     at(kept.error.span, " ", out);
     out.say(kept.value.text(), " ");
-    at(kept.value.span(), "\n", out);
-    drop(kept)
+    at(kept.value.span(), "\n", out)
 }
 
 /// Prints the digits of a number, and its suffix.
@@ -94,16 +93,12 @@ fn refused_value<'a>(refusing: Lent<'a>, literal: &LitStr<Lent<'a>>, out: &mut P
     let value = literal.value(refusing);
     refusing.allow();
     match value {
-        Ok(value) => {
-            out.show(&value.len(), "\n");
-            drop(value)
-        }
+        Ok(value) => out.show(&value.len(), "\n"),
         Err(error) => failed(error, out),
     }
 }
 
 /// Prints an error.
 fn failed<'a>(error: Error<Lent<'a>>, out: &mut Page) {
-    out.show(&error, "\n");
-    drop(error)
+    out.show(&error, "\n")
 }

@@ -114,10 +114,7 @@ fn arguments(alloc: Global, words: &str) -> Result<Vec<String>, AllocError> {
 /// Prints what a call writes, its status, and the line that it reports, over streams that words ask for.
 fn put_call(alloc: Global, words: &str, input: &[u8], streams: &str, out: &mut Page) {
     match arguments(alloc, words) {
-        Ok(args) => {
-            put_call_of(args.as_slice(), input, Streams::of_words(streams), out);
-            drop(args)
-        }
+        Ok(args) => put_call_of(args.as_slice(), input, Streams::of_words(streams), out),
         Err(_) => out.fail(),
     }
 }
@@ -144,7 +141,6 @@ fn put_call_of(args: &[String], input: &[u8], streams: Streams, out: &mut Page) 
         let ending = call(alloc, args, &mut input, &mut output);
         put_ending(held.as_slice(), ending.status(), ending, out)
     }
-    drop(held)
 }
 
 /// The name of the program for sources.

@@ -67,10 +67,7 @@ fn contents(alloc: Global, text: &str, out: &mut Page) {
 /// Prints a text's bytes.
 fn tell_text(text: Result<String, Error>, out: &mut Page) {
     match text {
-        Ok(text) => {
-            out.debug(&text.as_bytes(), "\n");
-            drop(text)
-        }
+        Ok(text) => out.debug(&text.as_bytes(), "\n"),
         Err(error) => tell_error(error, out),
     }
 }

@@ -73,8 +73,7 @@ pub(crate) fn place(span: Span, out: &mut Page) {
 pub(crate) fn tell_error(error: Error, out: &mut Page) {
     at(error.span, " ", out);
     out.debug(&error.kind, ": ");
-    out.show(&error, "\n");
-    drop(error)
+    out.show(&error, "\n")
 }
 
 /// Prints a tree's form, and its text.
@@ -103,7 +102,7 @@ pub(crate) fn tell_trees(trees: &[TokenTree], out: &mut Page) {
 /// Prints a literal's line.
 pub(crate) fn tell_line(alloc: Global, literal: &Lit, out: &mut Page) {
     match line_of(alloc, literal) {
-        Ok(line) => put(line, out),
+        Ok(line) => out.put(line.as_str()),
         Err(_) => out.fail(),
     }
 }

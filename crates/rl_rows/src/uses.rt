@@ -44,8 +44,7 @@ impl ToRow for Attribute {
         match self.value.value(out.alloc()) {
             Ok(value) => {
                 at(self.value.span(), " ", out);
-                out.say(value.as_str(), "\n");
-                drop(value)
+                out.say(value.as_str(), "\n")
             }
             Err(error) => tell_error(error, out),
         }
