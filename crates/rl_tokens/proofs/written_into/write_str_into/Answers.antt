@@ -1,5 +1,4 @@
-use Rattle.std.proofs.lemmas.Grind.{common_steps}
-use Rattle.std.proofs.Common.{◌∙◌, ◌∷◌, [], ◌++◌, take, ap, sym, append_assoc, append-nil, arith, rules}
+use Rattle.std.proofs.Common.{◌≡◌, ◌∙◌, ◌∷◌, [], ◌++◌, take, ap, sym, append_assoc, append-nil, arith, rules}
 use Rattle.std.specs.Prelude.{encode_utf8}
 use Rattle.std.specs.Str.{chars}
 use Rattle.rl_tokens.specs.declared.kind.Kind.TheVariants.{Str}
@@ -29,21 +28,3 @@ returns-clause-written c =
     let whole = cut ∙ ap (λ z. xs ++ z) c.in_default.ensures.chars ∙ append-nil xs in
     let pushed = c.put_char.ensures.bytes ∙ ap (λ z. take l.at l.out ++ encode_utf8 z) c.closer.ensures.value in
     written_form Str _ _ tt (begun_whole Str _ _ xs (chars c.args.value.now) bytes pushed (sym whole) (c.put_char.ensures.utf8 l.invariant.text))
-
-pub loop-c-init : goal.loop-c-init
-loop-c-init c = grind (arith, common_steps) steps 300000
-
-pub put_written-at-requires-clause-room : goal.put_written-at-requires-clause-room
-put_written-at-requires-clause-room c = grind (arith, common_steps) steps 300000
-
-pub loop-c-smaller : goal.loop-c-smaller
-loop-c-smaller c = grind (arith, common_steps) steps 300000
-
-pub put_char-requires : goal.put_char-requires
-put_char-requires c = grind (arith, common_steps) steps 300000
-
-pub returns-clause-utf8 : goal.returns-clause-utf8
-returns-clause-utf8 c = grind (arith, common_steps) steps 300000
-
-pub returns-clause-within : goal.returns-clause-within
-returns-clause-within c = grind (arith, common_steps) steps 300000

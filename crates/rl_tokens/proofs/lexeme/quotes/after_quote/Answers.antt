@@ -1,5 +1,4 @@
-use Rattle.std.proofs.lemmas.Grind.{common_steps}
-use Rattle.std.proofs.Common.{◌≡◌, ◌∙◌, sym, ap, inl, inr, None, rules, arith}
+use Rattle.std.proofs.Common.{◌≡◌, ◌∙◌, sym, ap, inl, inr, None, rules}
 use Rattle.std.specs.Option.{option_map}
 use Rattle.std.specs.Str.{chars}
 use Rattle.rl_tokens.proofs.BehindLemmas.{behind_step}
@@ -38,6 +37,3 @@ pub returns-clause-rest : goal.returns-clause-rest
 returns-clause-rest c =
     let m = c.two.ensures in
     sym (sym c.loop-mark.invariant.same ∙ quote_none _ _ (ap (λ z. z.first) m) (ap (λ z. z.second) m) c.in_default.ensures.none)
-
-pub loop-mark-smaller : goal.loop-mark-smaller
-loop-mark-smaller c = grind (arith, common_steps) steps 300000
