@@ -1,5 +1,5 @@
 -- Runs of bytes that pass a test, told as runs of characters.
-use Rattle.std.proofs.Common.{◌≡◌, ◌≢◌, ◌==◌, append-nil, ℕ, suc, ◌+◌, ◌<◌, ◌≤◌, ◌⊎◌, inl, inr, ◌||◌, Bool, true, false, not, cond, List, [], ◌∷◌, ◌++◌, length, take, drop, get_or, refl, sym, ap, subst, ◌∙◌, arith}
+use Rattle.std.proofs.Common.{◌≡◌, ◌≢◌, ◌==◌, ℕ, suc, ◌+◌, ◌<◌, ◌≤◌, ◌⊎◌, inl, inr, ◌||◌, Bool, true, false, not, cond, List, [], ◌∷◌, ◌++◌, length, take, drop, get_or, refl, sym, ap, subst, ◌∙◌, arith}
 use Rattle.std.proofs.lemmas.Bool.{and_from, and_parts, both_ways, cond-false, eq-eqb, ltb-false, ltb-true}
 use Rattle.std.proofs.lemmas.List.Sums.{prefix_len-le-length, prefix_len_stops}
 use Rattle.std.proofs.lemmas.List.{take-append-drop}
@@ -9,7 +9,7 @@ use Rattle.std.specs.Char.{encode_utf8, is_ascii}
 use Rattle.std.specs.Str.{chars, encode_utf8_all, IsUtf8, IsCharBoundary}
 use Rattle.rl_tokens.specs.declared.scan.Marks.{Marks}
 use Rattle.rl_tokens.specs.Texts.{first_passes, IsTail}
-use Rattle.rl_tokens.specs.Scanning.{is_one_of, is_other, AreAscii, IsNextMark}
+use Rattle.rl_tokens.specs.Scanning.{is_other, AreAscii}
 use Rattle.rl_tokens.proofs.CommentBytes.{not_equal, cases128, low_front, encode_is_high}
 use Rattle.rl_tokens.proofs.Comments.{false_unless}
 
