@@ -1,5 +1,4 @@
-use Rattle.std.proofs.lemmas.Grind.{common_steps}
-use Rattle.std.proofs.Common.{sym, subst, arith}
+use Rattle.std.proofs.Common.{sym, subst}
 use Rattle.std.specs.Str.{chars}
 use Rattle.rl_grammar.specs.NumbersRead.{IsNumberOf}
 use Rattle.rl_grammar.proofs.FoundLemmas.{float_alone}
@@ -20,18 +19,3 @@ pub returns-clause-none : goal.returns-clause-none
 returns-clause-none c =
     let t = chars c.args.text.now in
     none_then c.find_truth.result (no_reading t c.in_default.ensures.none (no_front_number t (sym c.if-begins_number.ensures))) c.find_truth.ensures.none
-
-pub returns-in-Some-clause-found : goal.returns-in-Some-clause-found
-returns-in-Some-clause-found c = grind (arith, common_steps) steps 200000
-
-pub integer_found-requires-clause-within : goal.integer_found-requires-clause-within
-integer_found-requires-clause-within c = (rw c.in-Integer.is at c.in_ok-magnitude.ensures.reads).0
-
-pub integer_found-requires-clause-following : goal.integer_found-requires-clause-following
-integer_found-requires-clause-following c = (rw c.in-Integer.is at c.in_ok-magnitude.ensures.reads).1
-
-pub float_found-requires-clause-reads : goal.float_found-requires-clause-reads
-float_found-requires-clause-reads c = (rw c.in-Float.is at c.in_ok-magnitude.ensures.reads).0
-
-pub float_found-requires-clause-following : goal.float_found-requires-clause-following
-float_found-requires-clause-following c = (rw c.in-Float.is at c.in_ok-magnitude.ensures.reads).2
