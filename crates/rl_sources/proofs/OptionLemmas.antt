@@ -1,5 +1,5 @@
 -- Words of a list, and words of the command line.
-use Rattle.std.proofs.Common.{◌≡◌, ◌≢◌, ℕ, ◌+◌, ◌<◌, ◌≤◌, Bool, true, false, List, [], ◌∷◌, length, get_or, drop, refl, ap, ◌∙◌, subst, sym, arith, MatchBool}
+use Rattle.std.proofs.Common.{◌≡◌, ◌≢◌, ℕ, ◌+◌, ◌<◌, Bool, true, false, List, [], ◌∷◌, length, get_or, drop, refl, ap, ◌∙◌, subst, sym, arith, MatchBool}
 use Rattle.std.specs.Prelude.{IsTrue, ◌↔◌, map}
 use Rattle.std.proofs.lemmas.Grind.{common_steps}
 use Rattle.rl_sources.specs.Words.{Wishes}

@@ -1,14 +1,12 @@
 -- Literals by their kind and token.
 use Rattle.std.proofs.Common.{◌≡◌, ℕ, ◌==◌, Bool as Truths, true, false, List, [], ◌∷◌, Option, Some, None, refl, sym, ◌∙◌, ap, subst}
-use Rattle.std.specs.Prelude.{Result, Ok, Err, IfOk, IfSome, OnOk, OnErr, OnSome}
-use Rattle.std.specs.Result.{result_ok}
+use Rattle.std.specs.Prelude.{Result, Ok, Err, IfSome, OnOk, OnErr}
 use Rattle.std.proofs.lemmas.Option.{MatchOption-at_some}
 use Rattle.std.specs.Str.{chars}
 use Rattle.rl_tokens.specs.declared.kind.Kind.{Kind}
 use Rattle.rl_tokens.specs.declared.kind.Kind.TheVariants.{Str as StrKind, ByteStr as ByteStrKind, CStr as CStrKind, Byte as ByteKind, Char as CharKind, Int as IntKind, Float as FloatKind, Bool as BoolKind}
 use Rattle.rl_tokens.specs.declared.span.Span.{Span}
 use Rattle.rl_tokens.specs.Texts.{SpannedText, first_passes}
-use Rattle.rl_tokens.specs.Trees.{LiteralTree}
 use Rattle.rl_tokens.specs.Reading.{Truth, Reads, ReadsAs, HasSuffix, HasReading, truth_text}
 use Rattle.rl_tokens.proofs.OneReading.{one_reading}
 use Rattle.rl_grammar.specs.declared.found.Found.{Found}
@@ -20,7 +18,6 @@ use Rattle.rust_literals.specs.declared.lit.Lit.{Lit}
 use Rattle.rust_literals.specs.declared.lit.Lit.TheVariants.{Str, ByteStr, CStr, Byte, Char, Int, Float, Bool, Verbatim}
 use Rattle.rust_literals.specs.Literals.{kind_of, token_of, IsReadAs, IsReadFrom}
 use Rattle.rust_literals.specs.LitParts.{ReadsPlain}
-use Rattle.rust_literals.specs.Copies.{tree_of}
 
 -- ---- kind and token determine a literal
 

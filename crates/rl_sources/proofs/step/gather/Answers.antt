@@ -1,4 +1,4 @@
-use Rattle.std.proofs.Common.{◌≡◌, ◌∙◌, ap, subst, refl, inl, inr, arith, ℕ, List, string_bytes}
+use Rattle.std.proofs.Common.{◌∙◌, ap, subst, refl, inl, inr, arith, ℕ, List, string_bytes}
 use Rattle.std.specs.Str.{chars}
 use Rattle.std.proofs.lemmas.Str.{chars-nil}
 use Rattle.rl_sources.specs.Steps.{Adds}

@@ -1,4 +1,4 @@
-use Rattle.std.proofs.Common.{ℕ, string_bytes}
+use Rattle.std.proofs.Common.{string_bytes}
 use Rattle.std.specs.Prelude.{map, false}
 use Rattle.rl_tokens.proofs.BehindLemmas.{if_none}
 use Rattle.rl_sources.specs.Words.{wishes_of, first_wishes, Asks}

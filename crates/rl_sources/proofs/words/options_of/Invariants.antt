@@ -1,4 +1,4 @@
-use Rattle.std.proofs.Common.{ℕ, drop, string_bytes}
+use Rattle.std.proofs.Common.{drop, string_bytes}
 use Rattle.std.specs.Prelude.{map, false, ◌↔◌}
 use Rattle.rl_sources.specs.Words.{Wishes, wishes_of, first_wishes, Asks}
 use Rattle.rl_sources.proofs.words.options_of.Given as goal
