@@ -137,6 +137,9 @@ fn stop_soon<const HIGH: bool>(marks: Marks, bytes: &[u8], from: usize) -> usize
 fn stop<const HIGH: bool>(marks: Marks, bytes: &[u8]) -> usize
     ensures { result ≡ prefix_len (goes_on HIGH marks) bytes.now }
 {
+    if bytes.len() < 16 {
+        return stop_shortly::<HIGH>(marks, bytes, 0);
+    }
     match stop_by::<HIGH, 64>(marks, bytes, 0) {
         Ok(at) => at,
         Err(from) => stop_soon::<HIGH>(marks, bytes, from),
