@@ -39,7 +39,7 @@ pub(crate) fn opener(kind: Kind) -> &'static str
     }
 }
 
-/// The quote that ends a literal of the kind, behind a backslash.
+/// The quote that ends a literal of the kind, after a backslash.
 fn escaped_closer(kind: Kind) -> &'static str
     ensures { result.now ≡ unit_text (own_quote kind) }
 {
