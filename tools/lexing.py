@@ -157,13 +157,31 @@ def refused_at(our):
     return told and (int(told[1]), told[2])
 
 
+def after_gap(text):
+    """What follows white space and comments, which may be nested, at the front."""
+    while text:
+        if comment := re.match(r'//[^\n]*', text):
+            text = text[comment.end():]
+        elif text.startswith('/*'):
+            depth = 0
+            for mark in re.finditer(r'/\*|\*/', text):
+                depth += 1 if mark[0] == '/*' else -1
+                if depth == 0:
+                    break
+            text = text[mark.end():]
+        elif re.match(r'[\s\u200e\u200f]', text):
+            text = text[1:]
+        else:
+            return text
+    return text
+
+
 def is_minus_before_past(data, our):
     """Whether ours refuses a minus before an integer past 128 bits."""
     told = refused_at(our)
     if not told or told[1] != 'expected literal' or data[told[0]:told[0] + 1] != b'-':
         return False
-    behind = re.sub(r'^(?:\s|\u200e|\u200f|//[^\n]*\n|/\*.*?\*/)*', '', data[told[0] + 1:].decode(), flags=re.S)
-    return is_past(behind)
+    return is_past(after_gap(data[told[0] + 1:].decode()))
 
 
 def is_emoji(data, our):
