@@ -7,6 +7,7 @@ import functools
 import os
 import re
 import subprocess
+import unicodedata
 
 import lexing
 import readings
@@ -208,6 +209,11 @@ def entries(data, their, our):
     return found
 
 
+def is_symbol_in_word(text):
+    """Whether a symbol stands right before a word, as rustc takes it into the word."""
+    return any(unicodedata.category(c) == 'So' and word.isidentifier() for c, word in zip(text, text[1:]))
+
+
 def cut_entry(data, edition, their, our):
     """The row of docs/DIFFERENCES.md by which a source that rustc takes is cut in another place, or None."""
     ended = re.fullmatch(rb'error at (\d+)\.\..*: unclosed quote', our[-1]) if our else None
@@ -215,6 +221,8 @@ def cut_entry(data, edition, their, our):
         return 'a raw lifetime right before a quote: unclosed here'
     if edition == OLDER and re.search('c(?:"|r#*")', data.decode()):
         return 'edition %s, in which c"a" are two tokens' % edition
+    if is_symbol_in_word(data.decode()):
+        return 'a symbol that rustc takes into a word: a stray character here'
     return None
 
 
