@@ -1,4 +1,4 @@
-//! Where bytes stand, looked for sixty-four at a time.
+//! Where bytes stand, looked for sixteen at a time, or sixty-four.
 
 ghost use Rattle.std.specs.Prelude.{◌≡◌, ◌+◌, ◌<◌, ◌≤◌, ◌++◌, length, drop, map, IfOk, IfErr, IfSome, IfNone, IsTrue, IsFalse};
 ghost use Rattle.std.specs.List.{list_all, prefix_len};
@@ -119,7 +119,7 @@ fn stop_shortly<const HIGH: bool>(marks: Marks, bytes: &[u8], from: usize) -> us
     }
 }
 
-/// The same for fewer than sixty-four bytes: sixteen at a time.
+/// The same by sixteen bytes at a time.
 #[inline(always)]
 fn stop_soon<const HIGH: bool>(marks: Marks, bytes: &[u8], from: usize) -> usize
     requires { from ≤ length bytes.now }
