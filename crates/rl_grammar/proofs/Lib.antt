@@ -15,6 +15,7 @@ pub mod NumberLemmas
 pub mod NumberStopLemmas
 pub mod MinusLemmas
 pub mod OptionLemmas
+pub mod BareCharacters
 pub mod ReadingLemmas
 pub mod StopLemmas
 pub mod ExplainLemmas

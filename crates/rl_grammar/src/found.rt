@@ -10,13 +10,14 @@ ghost use Rattle.rl_tokens.specs.Texts.{IsTail, first_passes};
 ghost use Rattle.rl_grammar.specs.Founds.{IsFound, IsFoundFloat};
 ghost use Rattle.rl_grammar.specs.Mirrors.NumberAt.{sign_at};
 ghost use Rattle.rl_grammar.specs.NumberShapes.{HasNoNumber, HasOneFloat, HasOneInteger, HasMagnitude};
+ghost use Rattle.rl_grammar.specs.Shapes.{HasNoQuoted};
 ghost use Rattle.rl_grammar.specs.StrictBytes.{KeepsBytesStrict};
 ghost use Rattle.rl_grammar.specs.WholeShapes.{IsSplit, is_number_front, IsPlain};
 
 use crate::digit_rows::is_negative;
 use crate::digits::{is_plain_float, is_plain_integer};
 use crate::number_forms::{Number, float_suffix, read_integer, read_number};
-use crate::quoted_forms::find_quoted;
+use crate::quoted_forms::{find_bare_character, find_quoted};
 use crate::runs::before;
 use rl_tokens::Kind;
 
@@ -175,15 +176,18 @@ pub fn find_float(text: &str) -> Option<Found>
 }
 
 /// What reading the text as a number finds, an integer before a float.
-#[inline(always)]
+#[inline(never)]
 fn find_number(text: &str) -> Option<Found>
     ensures none { IfNone result (HasNoNumber (chars text.now)) }
     ensures found { IfSome result (IsFound text.now) }
     ensures number { IfSome result (λ f. (f.kind ≡ Int) ⊎ (f.kind ≡ Float)) }
 {
+    // Each arm returns by itself: a value that both arms make would be copied once more, padding included.
     match read_number(text)? {
-        Number::Integer(magnitude, suffix) => Some(integer_found(text, suffix, magnitude)),
-        Number::Float(suffix) => Some(float_found(text, suffix)),
+        Number::Integer(magnitude, suffix) => {
+            return Some(integer_found(text, suffix, magnitude));
+        }
+        Number::Float(suffix) => return Some(float_found(text, suffix)),
     }
 }
 
@@ -250,19 +254,28 @@ pub(crate) fn found_in(text: &str) -> Found
 /// memory is taken.
 ///
 /// It is the reading of [`shape`](crate::shape), with all that was learned on the way.
+#[inline(always)]
 pub fn find(text: &str) -> Option<Found>
     ensures none { IfNone result (HasNoReading (chars text.now)) }
     ensures found { IfSome result (IsFound text.now) }
 {
-    // Each arm returns by itself: a value that both arms make would be copied once more, padding included.
+    // Each kind's function returns by itself. A character is found here, since a call costs as much as its reading.
     if begins_number(text) {
-        match read_number(text)? {
-            Number::Integer(magnitude, suffix) => {
-                return Some(integer_found(text, suffix, magnitude));
-            }
-            Number::Float(suffix) => return Some(float_found(text, suffix)),
-        }
+        return find_number(text);
     }
+    if let Some(found) = find_bare_character(text) {
+        return Some(found);
+    }
+    find_word_or_quoted(text)
+}
+
+/// What reading the text as a quoted literal or a truth value finds.
+#[inline(never)]
+fn find_word_or_quoted(text: &str) -> Option<Found>
+    ensures no_quoted { IfNone result (HasNoQuoted (chars text.now)) }
+    ensures no_truth { IfNone result (HasNoTruth (chars text.now)) }
+    ensures found { IfSome result (IsFound text.now) }
+{
     if let Some(found) = find_quoted(text) {
         return Some(found);
     }

@@ -239,6 +239,32 @@ fn read_inside(form: QuotedForm, kind: Kind, text: &str) -> Option<Inside<'_>>
     Some(inside)
 }
 
+/// A character of ASCII between single quotes, which isn't a backslash: `'a'`. It stands for itself.
+#[inline(always)]
+pub(crate) fn find_bare_character(text: &str) -> Option<Found>
+    ensures { IfSome result (IsFound text.now) }
+{
+    let bytes = text.as_bytes();
+    if bytes.len() < 3 || bytes[0] != b'\'' || bytes[2] != b'\'' {
+        return None;
+    }
+    if bytes[1] == b'\\' || bytes[1] >= 128 {
+        return None;
+    }
+    Some(Found {
+        kind: Kind::Char,
+        body: Body {
+            lo: 1,
+            hi: 2,
+            suffix_at: 3,
+            plain: false,
+        },
+        magnitude: 0,
+        truth: false,
+        unit: bytes[1] as u32,
+    })
+}
+
 /// What reading the text as a quoted literal finds.
 pub(crate) fn find_quoted(text: &str) -> Option<Found>
     ensures none { IfNone result (HasNoQuoted (chars text.now)) }
