@@ -1,10 +1,10 @@
 -- A character of ASCII that stands for itself between single quotes.
-use Rattle.std.proofs.Common.{◌≡◌, ◌<◌, ◌≤◌, ℕ, suc, zero, true, false, not, eqb, List, [], ◌∷◌, ◌++◌, length, get_or, refl, sym, ap, subst, ◌∙◌, arith, inl, inr}
+use Rattle.std.proofs.Common.{◌≡◌, ◌<◌, ◌≤◌, ℕ, suc, zero, false, not, eqb, List, [], ◌∷◌, ◌++◌, length, get_or, refl, sym, ap, subst, ◌∙◌, arith, inl, inr}
 use Rattle.std.proofs.lemmas.Bool.{eqb-true, cases_Bool}
 use Rattle.std.proofs.lemmas.Str.{IsCharBoundary-after_ascii, IsUtf8-past_char, chars_past_char, chars-IsAscii, encode_ascii}
 use Rattle.std.specs.Str.{chars, IsAscii, IsUtf8}
 use Rattle.rl_tokens.specs.declared.kind.Kind.TheVariants.{Char}
-use Rattle.rl_tokens.specs.Quoted.{Plain, Single}
+use Rattle.rl_tokens.specs.Quoted.{Plain}
 use Rattle.rl_grammar.specs.declared.found.Body.{Body}
 use Rattle.rl_grammar.specs.declared.quoted_forms.QuotedForm.TheVariants.{Single as SingleForm}
 use Rattle.rl_grammar.specs.Forms.{PartsAre}
@@ -33,8 +33,7 @@ bare_parts : (c : ℕ) (x : List ℕ) → c < 128 → eqb c 92 ≡ false → IsU
 bare_parts c x small other u =
     let quote = after 39 (c ∷ 39 ∷ x) (omega arith) u in
     let bare = after c (39 ∷ x) small quote.is_text in
-    let closer = after 39 x (omega arith) bare.is_text in
-    (
+    let closer = after 39 x (omega arith) bare.is_text in (
       record {
         unit = Plain c;
         single = refl;
@@ -74,6 +73,6 @@ bare_text t b same u long first last other small = subst (λ z. IsFound z (OfUni
     of_bytes (a ∷ b ∷ []) u long first last other small = absurd (omega arith)
     of_bytes (a ∷ b ∷ c ∷ x) u long first last other small =
         let At : ℕ → ℕ → List ℕ = λ p q. p ∷ b ∷ q ∷ x in
-        let not_backslash : eqb b 92 ≡ false = elim (cases_Bool (eqb b 92)) [ | inl e ↦ absurd (other (eqb-true b 92 e)) | inr e ↦ e ] in
+        let not_backslash : eqb b 92 ≡ false = elim (cases_Bool (eqb b 92)) [ inl e ↦ absurd (other (eqb-true b 92 e)) | inr e ↦ e ] in
         let text : IsUtf8 (At 39 39) = subst (λ q. IsUtf8 (At 39 q)) last (subst (λ p. IsUtf8 (At p c)) first u) in
         subst (λ p. IsFound (At p c) (OfUnit Char BareBody b)) (sym first) (subst (λ q. IsFound (At 39 q) (OfUnit Char BareBody b)) (sym last) (bare_found b x small not_backslash text))

@@ -259,12 +259,12 @@ pub fn find(text: &str) -> Option<Found>
     ensures none { IfNone result (HasNoReading (chars text.now)) }
     ensures found { IfSome result (IsFound text.now) }
 {
-    // Each kind's function returns by itself. A character is found here, since a call costs as much as its reading.
-    if begins_number(text) {
-        return find_number(text);
-    }
+    // A character is found here, since a call costs as much as its reading.
     if let Some(found) = find_bare_character(text) {
         return Some(found);
+    }
+    if begins_number(text) {
+        return find_number(text);
     }
     find_word_or_quoted(text)
 }

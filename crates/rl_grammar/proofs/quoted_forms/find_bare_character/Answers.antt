@@ -1,4 +1,3 @@
-use Rattle.std.proofs.Common.{sym}
 use Rattle.rl_grammar.proofs.BareCharacters.{bare_text}
 use Rattle.rl_grammar.proofs.quoted_forms.find_bare_character.Goals as goal
 

@@ -1,38 +1,7 @@
-use Rattle.std.proofs.Common.{sym, refl, rules}
-use Rattle.std.specs.Str.{IsUtf8}
+use Rattle.std.proofs.Common.{sym}
 use Rattle.rl_tokens.proofs.BehindLemmas.{if_none}
-use Rattle.rl_grammar.proofs.FormLemmas.{front_sound, no_front, no_parts}
-use Rattle.rl_grammar.proofs.FoundLemmas.{quoted_found, unit_found}
-use Rattle.rl_grammar.proofs.PlaceLemmas.{lengths, quoted_at, stands}
+use Rattle.rl_grammar.proofs.FormLemmas.{no_front}
 use Rattle.rl_grammar.proofs.quoted_forms.find_quoted.Goals as goal
 
 pub returns-in_err-form-clause-none : goal.returns-in_err-form-clause-none
 returns-in_err-form-clause-none c = if_none _ (no_front _ (sym c.in_err-form.ensures))
-
-pub read_inside-requires : goal.read_inside-requires
-read_inside-requires c = (front_sound _ _ (sym c.in_ok-form.ensures)).has
-
-pub returns-in_err-read-clause-none : goal.returns-in_err-read-clause-none
-returns-in_err-read-clause-none c = if_none _ (no_parts _ _ _ _ (sym c.in_ok-form.ensures) c.in_err-read.ensures.none)
-
-pub returns-clause-found : goal.returns-clause-found
-returns-clause-found c =
-    let inside : IsUtf8 c.in_ok-form.inside.now = search rules in
-    let body : IsUtf8 c.in_ok-read.read.body.now = search rules in
-    let suffix : IsUtf8 c.in_ok-read.read.suffix.now = search rules in
-    let s = stands _ _ _ _ _ c.utf8.text inside body suffix (sym c.in_ok-form.ensures) c.in_ok-read.ensures.some in
-    quoted_found _ _ _ _ c.utf8.text (quoted_at _ _ _ _ _ _ _ refl refl refl s) (unit_found _ _ _ _ s)
-
-pub overflow_sub-lo : goal.overflow_sub-lo
-overflow_sub-lo c =
-    let inside : IsUtf8 c.in_ok-form.inside.now = search rules in
-    let body : IsUtf8 c.in_ok-read.read.body.now = search rules in
-    let suffix : IsUtf8 c.in_ok-read.read.suffix.now = search rules in
-    (lengths _ _ _ _ (stands _ _ _ _ _ c.utf8.text inside body suffix (sym c.in_ok-form.ensures) c.in_ok-read.ensures.some)).opened_in
-
-pub overflow_sub-body : goal.overflow_sub-body
-overflow_sub-body c =
-    let inside : IsUtf8 c.in_ok-form.inside.now = search rules in
-    let body : IsUtf8 c.in_ok-read.read.body.now = search rules in
-    let suffix : IsUtf8 c.in_ok-read.read.suffix.now = search rules in
-    (lengths _ _ _ _ (stands _ _ _ _ _ c.utf8.text inside body suffix (sym c.in_ok-form.ensures) c.in_ok-read.ensures.some)).suffix_in
