@@ -17,7 +17,7 @@ ghost use Rattle.rl_grammar.specs.WholeShapes.{IsSplit, is_number_front, IsPlain
 use crate::digit_rows::is_negative;
 use crate::digits::{is_plain_float, is_plain_integer};
 use crate::number_forms::{Number, float_suffix, read_integer, read_number};
-use crate::quoted_forms::{find_bare_character, find_quoted};
+use crate::quoted_forms::{QuotedForm, find_bare_character, find_form, split_opener};
 use crate::runs::before;
 use rl_tokens::Kind;
 
@@ -276,10 +276,15 @@ fn find_word_or_quoted(text: &str) -> Option<Found>
     ensures no_truth { IfNone result (HasNoTruth (chars text.now)) }
     ensures found { IfSome result (IsFound text.now) }
 {
-    if let Some(found) = find_quoted(text) {
-        return Some(found);
+    let Some((form, kind, inside)) = split_opener(text) else {
+        return find_truth(text);
+    };
+    // Each form returns by itself, as each number does.
+    match form {
+        QuotedForm::Cooked => return find_form(QuotedForm::Cooked, kind, text, inside),
+        QuotedForm::Single => return find_form(QuotedForm::Single, kind, text, inside),
+        QuotedForm::Raw => return find_form(QuotedForm::Raw, kind, text, inside),
     }
-    find_truth(text)
 }
 
 /// The truth value that the text is, `true` or `false`; `None` for any other text.

@@ -12,6 +12,7 @@ ghost use Rattle.rl_grammar.specs.Rows.{BeginsRow};
 ghost use Rattle.rl_grammar.specs.Forms.{has_form, form_opener, HasNoParts};
 ghost use Rattle.rl_grammar.specs.Mirrors.OpenerAt.{found_opener, string_opener_at, byte_opener_at, opener_at};
 ghost use Rattle.rl_grammar.specs.Shapes.{HasNoQuoted};
+ghost use Rattle.rl_tokens.specs.Reading.{HasNoTruth};
 ghost use Rattle.rl_tokens.specs.Classes.{after_run, is_hash};
 
 use crate::found::{Body, Found};
@@ -267,9 +268,10 @@ pub(crate) fn find_bare_character(text: &str) -> Option<Found>
 
 /// What reading the text finds as a quoted literal of the form, from the text after its opener.
 #[inline(always)]
-fn find_form(form: QuotedForm, kind: Kind, text: &str, inside: &str) -> Option<Found>
+pub(crate) fn find_form(form: QuotedForm, kind: Kind, text: &str, inside: &str) -> Option<Found>
     requires { opener_at (chars text.now) ≡ found_opener form kind (chars inside.now) }
     ensures none { IfNone result (HasNoQuoted (chars text.now)) }
+    ensures no_truth { HasNoTruth (chars text.now) }
     ensures found { IfSome result (IsFound text.now) }
 {
     let read = read_inside(form, kind, inside)?;
@@ -287,18 +289,4 @@ fn find_form(form: QuotedForm, kind: Kind, text: &str, inside: &str) -> Option<F
         truth: false,
         unit: read.unit,
     })
-}
-
-/// What reading the text as a quoted literal finds.
-pub(crate) fn find_quoted(text: &str) -> Option<Found>
-    ensures none { IfNone result (HasNoQuoted (chars text.now)) }
-    ensures found { IfSome result (IsFound text.now) }
-{
-    let (form, kind, inside) = split_opener(text)?;
-    // Each form returns by itself: a value that all arms make would be copied once more, padding included.
-    match form {
-        QuotedForm::Cooked => return find_form(QuotedForm::Cooked, kind, text, inside),
-        QuotedForm::Single => return find_form(QuotedForm::Single, kind, text, inside),
-        QuotedForm::Raw => return find_form(QuotedForm::Raw, kind, text, inside),
-    }
 }
