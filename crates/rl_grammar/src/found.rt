@@ -55,13 +55,13 @@ impl Body {
 /// and prefix included, and of a truth value the whole text. Nothing is borrowed: the text is cut at the places again.
 #[derive(Clone, Copy)]
 pub struct Found {
-    /// What the literal is.
-    pub kind: Kind,
+    /// What the digits of an integer spell; 0 for any other kind.
+    pub magnitude: u128,
     /// Where body and suffix stand, and whether the body is what the literal stands for, as
     /// [`is_plain`](crate::is_plain) says.
     pub body: Body,
-    /// What the digits of an integer spell; 0 for any other kind.
-    pub magnitude: u128,
+    /// What the literal is.
+    pub kind: Kind,
     /// The truth value that the text is; `false` for any other kind.
     pub truth: bool,
     /// What the one character or byte of a character or byte literal stands for; 0 for any other kind.
