@@ -1,10 +1,12 @@
 -- Where no character of ASCII stands at the front.
-use Rattle.std.proofs.Common.{◌≡◌, ℕ, ◌≤◌, false, ltb, eqb, List, [], ◌∷◌, None, refl, arith}
+use Rattle.std.proofs.Common.{◌≡◌, ℕ, ◌≤◌, ◌<◌, false, ltb, eqb, List, [], ◌∷◌, None, refl, arith}
 use Rattle.std.proofs.lemmas.Bool.{ltb-false, le-ltb}
 use Rattle.std.specs.Char.{is_ascii, digit_value}
 use Rattle.rl_tokens.specs.declared.kind.Kind.{Kind}
+use Rattle.rl_tokens.specs.declared.kind.Kind.TheVariants.{Str, ByteStr}
 use Rattle.rl_tokens.specs.Texts.{first_passes}
 use Rattle.rl_tokens.proofs.CommentBytes.{not_equal}
+use Rattle.rl_grammar.specs.Mirrors.OpenerAt.{string_opener_at, byte_opener_at, opener_at}
 use Rattle.rl_grammar.specs.Mirrors.UnitAt.{digit_at, unicode_digits_at, brace_at, escape_at}
 
 not_below : (c k : ℕ) → k ≤ c → ltb c k ≡ false
@@ -39,3 +41,20 @@ no_escape kind (c ∷ cs) h =
 pub no_backslash : (t : List ℕ) → first_passes is_ascii t ≡ false → first_passes (λ c. eqb c 92) t ≡ false
 no_backslash [] h = refl
 no_backslash (c ∷ cs) h = not_equal c 92 (omega arith) (past c h)
+
+pub no_string_opener : (kind : Kind) (t : List ℕ) → first_passes is_ascii t ≡ false → string_opener_at kind t ≡ None
+no_string_opener kind [] h = refl
+no_string_opener kind (c ∷ cs) h = let high = past c h in rw (not_equal c 34 (omega arith) high, not_equal c 114 (omega arith) high) refl
+
+pub no_byte_opener : (t : List ℕ) → first_passes is_ascii t ≡ false → byte_opener_at t ≡ None
+no_byte_opener [] h = refl
+no_byte_opener (c ∷ cs) h = rw (not_equal c 39 (omega arith) (past c h)) (no_string_opener ByteStr (c ∷ cs) h)
+
+pub no_opener : (t : List ℕ) → first_passes is_ascii t ≡ false → opener_at t ≡ None
+unfolding opener_at
+no_opener [] h = refl
+no_opener (c ∷ cs) h = let high = past c h in rw (not_equal c 39 (omega arith) high, not_equal c 98 (omega arith) high, not_equal c 99 (omega arith) high) (no_string_opener Str (c ∷ cs) h)
+
+pub no_quote : (q : ℕ) (t x : List ℕ) → q < 128 → first_passes is_ascii t ≡ false → t ≡ q ∷ x → ⊥
+no_quote q [] x low h e = absurd (cc)
+no_quote q (c ∷ cs) x low h e = let same : c ≡ q = cc in omega (arith, same, past c h)

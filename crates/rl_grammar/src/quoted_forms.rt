@@ -1,6 +1,6 @@
 //! Whether a text is a quoted literal, and where the parts of one stand.
 
-ghost use Rattle.std.specs.Prelude.{◌≡◌, ◌≢◌, ◌==◌, ◌∷◌, ◌++◌, ℕ, List, None, option_map, IfSome, IfNone, IsTrue, ◌≤◌, length, not};
+ghost use Rattle.std.specs.Prelude.{◌≡◌, ◌≢◌, ◌==◌, ◌∷◌, ◌++◌, ℕ, List, None, option_map, IfSome, IfNone, IsTrue, ◌≤◌, ◌<◌, length, not};
 ghost use Rattle.std.specs.List.{list_all};
 ghost use Rattle.std.specs.Str.{chars};
 ghost use Rattle.rl_tokens.specs.Texts.{IsTail};
@@ -20,7 +20,7 @@ use crate::runs::{before, is_ascii, split_plain};
 use crate::units::{piece_unit, unit};
 use rl_tokens::Kind;
 use rl_tokens::classes::{CharClass, skip_class};
-use rl_tokens::text::split_char;
+use rl_tokens::text::split_ascii;
 
 /// The forms of quoted literals: with escapes between `"`, as the text stands, and one unit between `'`.
 #[derive(Clone, Copy)]
@@ -44,37 +44,39 @@ pub(crate) struct Inside<'t> {
 }
 
 /// What a `"` or an `r` at the front tells of a string of the kind.
+#[tactic(auto, using(crate::proofs::AsciiLemmas::no_string_opener))]
 fn split_string_opener(kind: Kind, text: &str) -> Option<(QuotedForm, Kind, &str)>
     ensures { option_map (λ p. (p.0, p.1, chars p.2.now)) result
         ≡ string_opener_at kind (chars text.now) }
 {
-    match split_char(text) {
-        Some(('"', rest)) => Some((QuotedForm::Cooked, kind, rest)),
-        Some(('r', rest)) => Some((QuotedForm::Raw, kind, rest)),
+    match split_ascii(text) {
+        Some((b'"', rest)) => Some((QuotedForm::Cooked, kind, rest)),
+        Some((b'r', rest)) => Some((QuotedForm::Raw, kind, rest)),
         _ => None,
     }
 }
 
 /// What the text after a `b` tells.
+#[tactic(auto, using(crate::proofs::AsciiLemmas::no_byte_opener))]
 fn split_byte_opener(text: &str) -> Option<(QuotedForm, Kind, &str)>
     ensures { option_map (λ p. (p.0, p.1, chars p.2.now)) result ≡ byte_opener_at (chars text.now) }
 {
-    match split_char(text) {
-        Some(('\'', rest)) => Some((QuotedForm::Single, Kind::Byte, rest)),
+    match split_ascii(text) {
+        Some((b'\'', rest)) => Some((QuotedForm::Single, Kind::Byte, rest)),
         _ => split_string_opener(Kind::ByteStr, text),
     }
 }
 
 /// What a text's opener tells: the one form and the one kind that the text can have, and the text after the opener.
 #[inline(always)]
-#[tactic(auto, unfolding(crate::specs::Mirrors::OpenerAt::opener_at))]
+#[tactic(auto, unfolding(crate::specs::Mirrors::OpenerAt::opener_at), using(crate::proofs::AsciiLemmas::no_opener))]
 pub(crate) fn split_opener(text: &str) -> Option<(QuotedForm, Kind, &str)>
     ensures { option_map (λ p. (p.0, p.1, chars p.2.now)) result ≡ opener_at (chars text.now) }
 {
-    match split_char(text) {
-        Some(('\'', rest)) => Some((QuotedForm::Single, Kind::Char, rest)),
-        Some(('b', rest)) => split_byte_opener(rest),
-        Some(('c', rest)) => split_string_opener(Kind::CStr, rest),
+    match split_ascii(text) {
+        Some((b'\'', rest)) => Some((QuotedForm::Single, Kind::Char, rest)),
+        Some((b'b', rest)) => split_byte_opener(rest),
+        Some((b'c', rest)) => split_string_opener(Kind::CStr, rest),
         Some(_) => split_string_opener(Kind::Str, text),
         None => None,
     }
@@ -129,14 +131,16 @@ pub(crate) fn has_nul(text: &str) -> bool
 }
 
 /// The text in front of a rest that begins with the quote, and the text after that quote.
-fn cut_at_quote<'t>(quote: char, text: &'t str, rest: &'t str) -> Option<(&'t str, &'t str)>
-    requires { IsTail text.now rest.now }
+#[tactic(auto, using(crate::proofs::AsciiLemmas::no_quote))]
+fn cut_at_quote<'t>(quote: u8, text: &'t str, rest: &'t str) -> Option<(&'t str, &'t str)>
+    requires ascii { quote < 128 }
+    requires rest { IsTail text.now rest.now }
     ensures cut { IfSome result (λ p. text.now ≡ p.0.now ++ rest.now) }
     ensures before { IfSome result (λ p. chars text.now ≡ chars p.0.now ++ chars rest.now) }
     ensures quote { IfSome result (λ p. chars rest.now ≡ quote ∷ chars p.1.now) }
     ensures none { IfNone result ((x : List ℕ) → chars rest.now ≢ quote ∷ x) }
 {
-    match split_char(rest) {
+    match split_ascii(rest) {
         Some((next, after)) if next == quote => Some((before(text, rest), after)),
         _ => None,
     }
@@ -151,7 +155,7 @@ fn cooked_inside(kind: Kind, text: &str) -> Option<Inside<'_>>
         (HasNoParts QuotedForm.Cooked kind (form_opener QuotedForm.Cooked kind ++ chars text.now)) }
 {
     let (_, following) = split_plain(kind, text);
-    if let Some((body, suffix)) = cut_at_quote('"', text, following) {
+    if let Some((body, suffix)) = cut_at_quote(b'"', text, following) {
         return Some(Inside {
             opened: text,
             body,
@@ -160,7 +164,7 @@ fn cooked_inside(kind: Kind, text: &str) -> Option<Inside<'_>>
             unit: 0,
         });
     }
-    let (body, suffix) = cut_at_quote('"', text, skip_units(kind, following))?;
+    let (body, suffix) = cut_at_quote(b'"', text, skip_units(kind, following))?;
     Some(Inside {
         opened: text,
         body,
@@ -178,7 +182,7 @@ fn raw_inside(kind: Kind, text: &str) -> Option<Inside<'_>>
     ensures none { IfNone result
         (HasNoParts QuotedForm.Raw kind (form_opener QuotedForm.Raw kind ++ chars text.now)) }
 {
-    let (hashes, opened) = cut_at_quote('"', text, skip_hashes(text))?;
+    let (hashes, opened) = cut_at_quote(b'"', text, skip_hashes(text))?;
     let (body, after) = split_last_quote(opened)?;
     let suffix = behind_prefix(hashes, after)?;
     if holds_all(kind, body) {
@@ -214,7 +218,7 @@ fn single_inside(kind: Kind, text: &str) -> Option<Inside<'_>>
         (HasNoParts QuotedForm.Single kind (form_opener QuotedForm.Single kind ++ chars text.now)) }
 {
     let (piece, rest) = unit(kind, text)?;
-    let (body, suffix) = cut_at_quote('\'', text, rest)?;
+    let (body, suffix) = cut_at_quote(b'\'', text, rest)?;
     Some(Inside {
         opened: text,
         body,
@@ -266,11 +270,22 @@ pub(crate) fn find_bare_character(text: &str) -> Option<Found>
     })
 }
 
+/// What reading the text finds as a character, from the text after its quote.
+#[inline(never)]
+pub(crate) fn find_character(text: &str, inside: &str) -> Option<Found>
+    requires { chars text.now ≡ 39 ∷ chars inside.now }
+    ensures no_quoted { IfNone result (HasNoQuoted (chars text.now)) }
+    ensures no_truth { HasNoTruth (chars text.now) }
+    ensures found { IfSome result (IsFound text.now) }
+{
+    find_form(QuotedForm::Single, Kind::Char, text, inside)
+}
+
 /// What reading the text finds as a quoted literal of the form, from the text after its opener.
 #[inline(always)]
 pub(crate) fn find_form(form: QuotedForm, kind: Kind, text: &str, inside: &str) -> Option<Found>
     requires { opener_at (chars text.now) ≡ found_opener form kind (chars inside.now) }
-    ensures none { IfNone result (HasNoQuoted (chars text.now)) }
+    ensures no_quoted { IfNone result (HasNoQuoted (chars text.now)) }
     ensures no_truth { HasNoTruth (chars text.now) }
     ensures found { IfSome result (IsFound text.now) }
 {

@@ -10,13 +10,13 @@ use Rattle.rl_grammar.proofs.PlainLemmas.{one_run, no_run}
 use Rattle.rl_grammar.proofs.SingleBodies.{no_unit}
 use Rattle.rl_grammar.proofs.quoted_forms.cooked_inside.Goals as goal
 
-pub cut_at_quote-requires : goal.cut_at_quote-requires
-cut_at_quote-requires c =
+pub cut_at_quote-requires-clause-rest : goal.cut_at_quote-requires-clause-rest
+cut_at_quote-requires-clause-rest c =
     let following : IsUtf8 c.split_plain.result.1.now = search rules in
     behind_chars _ _ _ c.utf8.text following c.split_plain.ensures.cut
 
-pub cut_at_quote-requires-2 : goal.cut_at_quote-requires-2
-cut_at_quote-requires-2 c =
+pub cut_at_quote-requires-2-clause-rest : goal.cut_at_quote-requires-2-clause-rest
+cut_at_quote-requires-2-clause-rest c =
     let cut = c.split_plain.ensures in
     let (w, row) = row_behind _ _ _ _ _ cut.plain c.skip_units.ensures.row.1 in
     behind_chars _ _ _ c.utf8.text c.skip_units.utf8 (cut.cut ∙ row.text_is)

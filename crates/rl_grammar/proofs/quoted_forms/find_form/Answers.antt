@@ -10,8 +10,8 @@ use Rattle.rl_grammar.proofs.quoted_forms.find_form.Goals as goal
 pub read_inside-requires : goal.read_inside-requires
 read_inside-requires c = (front_sound _ _ c.requires).has
 
-pub returns-in_err-read-clause-none : goal.returns-in_err-read-clause-none
-returns-in_err-read-clause-none c = if_none _ (no_parts _ _ _ _ c.requires c.in_err-read.ensures.none)
+pub returns-in_err-read-clause-no_quoted : goal.returns-in_err-read-clause-no_quoted
+returns-in_err-read-clause-no_quoted c = if_none _ (no_parts _ _ _ _ c.requires c.in_err-read.ensures.none)
 
 pub returns-clause-found : goal.returns-clause-found
 returns-clause-found c =

@@ -7,8 +7,8 @@ use Rattle.rl_grammar.proofs.RawLemmas.{hashes_behind, raw_unopened, raw_unclose
 use Rattle.rl_grammar.proofs.SingleBodies.{no_unit}
 use Rattle.rl_grammar.proofs.quoted_forms.raw_inside.Goals as goal
 
-pub cut_at_quote-requires : goal.cut_at_quote-requires
-cut_at_quote-requires c = hashes_behind _ _ c.utf8.text c.skip_hashes.utf8 c.skip_hashes.ensures
+pub cut_at_quote-requires-clause-rest : goal.cut_at_quote-requires-clause-rest
+cut_at_quote-requires-clause-rest c = hashes_behind _ _ c.utf8.text c.skip_hashes.utf8 c.skip_hashes.ensures
 
 pub returns-in_err-hashes-clause-none : goal.returns-in_err-hashes-clause-none
 returns-in_err-hashes-clause-none c = if_none _ (raw_unopened _ _ _ c.skip_hashes.ensures c.in_err-hashes.ensures.none)

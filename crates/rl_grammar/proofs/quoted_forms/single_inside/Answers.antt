@@ -10,8 +10,8 @@ use Rattle.rl_grammar.proofs.quoted_forms.single_inside.Goals as goal
 pub returns-in_err-piece-clause-none : goal.returns-in_err-piece-clause-none
 returns-in_err-piece-clause-none c = if_none _ (single_stuck _ _ (sym c.in_err-piece.ensures.value))
 
-pub cut_at_quote-requires : goal.cut_at_quote-requires
-cut_at_quote-requires c =
+pub cut_at_quote-requires-clause-rest : goal.cut_at_quote-requires-clause-rest
+cut_at_quote-requires-clause-rest c =
     let u : IsUtf8 c.in_ok-piece.rest.now = search rules in
     behind_chars _ _ _ c.utf8.text u (unit_sound _ _ _ (sym c.in_ok-piece.ensures.value)).text_is
 
