@@ -1,11 +1,14 @@
 -- Where no character of ASCII stands at the front.
 use Rattle.std.proofs.Common.{◌≡◌, ℕ, ◌≤◌, ◌<◌, false, ltb, eqb, List, [], ◌∷◌, None, refl, arith}
 use Rattle.std.proofs.lemmas.Bool.{ltb-false, le-ltb}
-use Rattle.std.specs.Char.{is_ascii, digit_value}
+use Rattle.std.proofs.lemmas.Bool.Decides.{nat_tests}
+use Rattle.std.specs.Char.{is_ascii, is_ascii_digit, digit_value}
 use Rattle.rl_tokens.specs.declared.kind.Kind.{Kind}
 use Rattle.rl_tokens.specs.declared.kind.Kind.TheVariants.{Str, ByteStr}
 use Rattle.rl_tokens.specs.Texts.{first_passes}
+use Rattle.rl_tokens.specs.Numbers.{NoSign}
 use Rattle.rl_tokens.proofs.CommentBytes.{not_equal}
+use Rattle.rl_grammar.specs.Mirrors.NumberAt.{after_minus, radix_at, sign_at}
 use Rattle.rl_grammar.specs.Mirrors.OpenerAt.{string_opener_at, byte_opener_at, opener_at}
 use Rattle.rl_grammar.specs.Mirrors.UnitAt.{digit_at, unicode_digits_at, brace_at, escape_at}
 
@@ -58,3 +61,26 @@ no_opener (c ∷ cs) h = let high = past c h in rw (not_equal c 39 (omega arith)
 pub no_quote : (q : ℕ) (t x : List ℕ) → q < 128 → first_passes is_ascii t ≡ false → t ≡ q ∷ x → ⊥
 no_quote q [] x low h e = absurd (cc)
 no_quote q (c ∷ cs) x low h e = let same : c ≡ q = cc in omega (arith, same, past c h)
+
+pub no_minus : (t : List ℕ) → first_passes is_ascii t ≡ false → after_minus t ≡ t
+no_minus [] h = refl
+no_minus (c ∷ cs) h = rw (not_equal c 45 (omega arith) (past c h)) refl
+
+pub no_sign : (t : List ℕ) → first_passes is_ascii t ≡ false → sign_at t ≡ NoSign
+no_sign [] h = refl
+no_sign (c ∷ cs) h = rw (not_equal c 45 (omega arith) (past c h)) refl
+
+pub no_decimal : (t : List ℕ) → first_passes is_ascii t ≡ false → first_passes is_ascii_digit t ≡ false
+no_decimal [] h = refl
+no_decimal (c ∷ cs) h = let high = past c h in grind (arith, nat_tests)
+
+pub no_zero : (t : List ℕ) → first_passes is_ascii t ≡ false → ◌≡◌ {A = ℕ × List ℕ} (radix_at t) (10, t)
+unfolding radix_at
+no_zero [] h = refl
+no_zero (c ∷ []) h = refl
+no_zero (c ∷ d ∷ ds) h = rw (not_equal c 48 (omega arith) (past c h)) refl
+
+pub no_radix_letter : (t : List ℕ) → first_passes is_ascii t ≡ false → ◌≡◌ {A = ℕ × List ℕ} (radix_at (48 ∷ t)) (10, 48 ∷ t)
+unfolding radix_at
+no_radix_letter [] h = refl
+no_radix_letter (c ∷ cs) h = let high = past c h in rw (not_equal c 98 (omega arith) high, not_equal c 111 (omega arith) high, not_equal c 120 (omega arith) high) refl

@@ -8,7 +8,7 @@ ghost use Rattle.rl_tokens.specs.Numbers.{Minus, NoSign};
 ghost use Rattle.rl_grammar.specs.Mirrors.NumberAt.{after_digits, after_minus, append_digit, capped, has_digit_at, is_exponent_suffix, is_suffix, magnitude_at, row_from, sign_at};
 
 use rl_tokens::ident::xid_ok;
-use rl_tokens::text::split_char;
+use rl_tokens::text::{split_ascii, split_char};
 use std::marker::Model;
 
 /// A row of digits and underscores, read.
@@ -196,29 +196,32 @@ pub(crate) fn is_exponent_suffix(text: &str) -> bool
 }
 
 /// Whether the text begins with a minus.
+#[tactic(auto, using(crate::proofs::AsciiLemmas::no_sign))]
 pub(crate) fn is_negative(text: &str) -> bool
     ensures { sign_at (chars text.now) ≡ (if result then Minus else NoSign) }
 {
-    matches!(split_char(text), Some(('-', _)))
+    matches!(split_ascii(text), Some((b'-', _)))
 }
 
 /// What follows a minus, or the text.
+#[tactic(auto, using(crate::proofs::AsciiLemmas::no_minus))]
 pub(crate) fn after_minus(text: &str) -> &str
     ensures value { chars result.now ≡ after_minus (chars text.now) }
     ensures following { IsTail text.now result.now }
 {
-    match split_char(text) {
-        Some(('-', rest)) => rest,
+    match split_ascii(text) {
+        Some((b'-', rest)) => rest,
         _ => text,
     }
 }
 
 /// Whether the text begins with a decimal digit.
+#[tactic(auto, using(crate::proofs::AsciiLemmas::no_decimal))]
 pub(crate) fn begins_digit(text: &str) -> bool
     ensures { result ≡ first_passes is_ascii_digit (chars text.now) }
 {
-    match split_char(text) {
-        Some((first, _)) => first.is_ascii_digit(),
+    match split_ascii(text) {
+        Some((first, _)) => (first as char).is_ascii_digit(),
         None => false,
     }
 }

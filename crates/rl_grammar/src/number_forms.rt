@@ -16,21 +16,21 @@ use crate::digit_rows::{
 };
 use crate::found::{Parts, find_float, find_int, find_unsigned};
 use rl_tokens::classes::{CharClass, skip_class};
-use rl_tokens::text::split_char;
+use rl_tokens::text::{split_ascii, split_char};
 
 /// The base, and what follows its prefix.
 #[inline(always)]
-#[tactic(auto, using(rl_tokens::proofs::BehindLemmas::behind_step, rl_tokens::proofs::BehindLemmas::behind_self), unfolding(crate::specs::Mirrors::NumberAt::radix_at))]
+#[tactic(auto, using(rl_tokens::proofs::BehindLemmas::behind_step, rl_tokens::proofs::BehindLemmas::behind_self, crate::proofs::AsciiLemmas::no_zero, crate::proofs::AsciiLemmas::no_radix_letter), unfolding(crate::specs::Mirrors::NumberAt::radix_at))]
 pub(crate) fn split_radix(text: &str) -> (u32, &str)
     ensures value { (result.0, chars result.1.now) ≡ radix_at (chars text.now) }
     ensures within { (2 ≤ result.0) × (result.0 ≤ 16) }
     ensures following { IsTail text.now result.1.now }
 {
-    if let Some(('0', letter)) = split_char(text) {
-        match split_char(letter) {
-            Some(('b', digits)) => return (2, digits),
-            Some(('o', digits)) => return (8, digits),
-            Some(('x', digits)) => return (16, digits),
+    if let Some((b'0', letter)) = split_ascii(text) {
+        match split_ascii(letter) {
+            Some((b'b', digits)) => return (2, digits),
+            Some((b'o', digits)) => return (8, digits),
+            Some((b'x', digits)) => return (16, digits),
             _ => {}
         }
     }
