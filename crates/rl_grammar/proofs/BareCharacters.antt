@@ -1,10 +1,13 @@
 -- A character of ASCII that stands for itself between single quotes.
-use Rattle.std.proofs.Common.{◌≡◌, ◌<◌, ◌≤◌, ℕ, suc, zero, false, not, eqb, List, [], ◌∷◌, ◌++◌, length, get_or, refl, sym, ap, subst, ◌∙◌, arith, inl, inr}
+use Rattle.std.proofs.Common.{◌≡◌, ◌<◌, ◌≤◌, ℕ, true, suc, zero, false, not, eqb, List, [], ◌∷◌, ◌++◌, length, get_or, refl, sym, ap, subst, ◌∙◌, arith, inl, inr}
 use Rattle.std.proofs.lemmas.Bool.{eqb-true, cases_Bool}
 use Rattle.std.proofs.lemmas.Str.{IsCharBoundary-after_ascii, IsUtf8-past_char, chars_past_char, chars-IsAscii, encode_ascii}
+use Rattle.std.specs.Char.{is_ascii}
 use Rattle.std.specs.Str.{chars, IsAscii, IsUtf8}
 use Rattle.rl_tokens.specs.declared.kind.Kind.TheVariants.{Char}
 use Rattle.rl_tokens.specs.Quoted.{Plain}
+use Rattle.rl_tokens.specs.Texts.{first_passes}
+use Rattle.rl_tokens.proofs.ScanLemmas.{ascii_first}
 use Rattle.rl_grammar.specs.declared.found.Body.{Body}
 use Rattle.rl_grammar.specs.declared.quoted_forms.QuotedForm.TheVariants.{Single as SingleForm}
 use Rattle.rl_grammar.specs.Forms.{PartsAre}
@@ -76,3 +79,22 @@ bare_text t b same u long first last other small = subst (λ z. IsFound z (OfUni
         let not_backslash : eqb b 92 ≡ false = elim (cases_Bool (eqb b 92)) [ inl e ↦ absurd (other (eqb-true b 92 e)) | inr e ↦ e ] in
         let text : IsUtf8 (At 39 39) = subst (λ q. IsUtf8 (At 39 q)) last (subst (λ p. IsUtf8 (At p c)) first u) in
         subst (λ p. IsFound (At p c) (OfUnit Char BareBody b)) (sym first) (subst (λ q. IsFound (At 39 q) (OfUnit Char BareBody b)) (sym last) (bare_found b x small not_backslash text))
+
+-- ---- the quote in front
+
+abbrev pub IsQuoteFirst : List ℕ → Type 0
+IsQuoteFirst t = first_passes (λ c. eqb c 39) t ≡ true
+
+pub quote_first : (t b : List ℕ) → b ≡ t → IsUtf8 t → 3 ≤ length b → eqb (get_or b 0 0) 39 ≡ true → IsQuoteFirst (chars t)
+quote_first t b same u long e =
+    let ub = subst IsUtf8 (sym same) u in
+    let first = eqb-true (get_or b 0 0) 39 e in
+    let whole = ascii_first b ub (omega (arith, long)) (omega (arith, first)) in
+    subst (λ z. IsQuoteFirst (chars z)) same (subst IsQuoteFirst (sym whole) e)
+
+pub quote_is : (t : List ℕ) (c : ℕ) (x : List ℕ) → t ≡ c ∷ x → IsQuoteFirst t → t ≡ 39 ∷ x
+quote_is t c x e h = e ∙ ap (λ z. z ∷ x) (eqb-true c 39 (subst IsQuoteFirst e h))
+
+pub quote_ascii : (t : List ℕ) → IsQuoteFirst t → first_passes is_ascii t ≡ false → ⊥
+quote_ascii [] h none = absurd (cc)
+quote_ascii (c ∷ cs) h none = let e = subst (λ z. is_ascii z ≡ false) (eqb-true c 39 h) none in absurd (cc)

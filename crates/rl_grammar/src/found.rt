@@ -18,11 +18,10 @@ use crate::digit_rows::is_negative;
 use crate::digits::{is_plain_float, is_plain_integer};
 use crate::number_forms::{Number, float_suffix, read_integer, read_number};
 use crate::quoted_forms::{
-    QuotedForm, find_bare_character, find_character, find_form, split_opener,
+    QuotedForm, begins_character, find_bare_character, find_character, find_form, split_opener,
 };
 use crate::runs::before;
 use rl_tokens::Kind;
-use rl_tokens::text::split_ascii;
 
 /// Where the parts of a literal stand in its text, in bytes, and whether the body is what it stands for, byte for byte.
 #[derive(Clone, Copy)]
@@ -262,12 +261,12 @@ pub fn find(text: &str) -> Option<Found>
     ensures none { IfNone result (HasNoReading (chars text.now)) }
     ensures found { IfSome result (IsFound text.now) }
 {
-    if let Some((b'\'', inside)) = split_ascii(text) {
-        // A bare character is found here, since a call costs as much as its reading.
+    if begins_character(text) {
+        // A bare one is found here, since a call costs as much as its reading.
         if let Some(found) = find_bare_character(text) {
             return Some(found);
         }
-        return find_character(text, inside);
+        return find_character(text);
     }
     if begins_number(text) {
         return find_number(text);

@@ -3,7 +3,7 @@
 ghost use Rattle.std.specs.Prelude.{◌≡◌, ◌≢◌, ◌==◌, ◌∷◌, ◌++◌, ℕ, List, None, option_map, IfSome, IfNone, IsTrue, ◌≤◌, ◌<◌, length, not};
 ghost use Rattle.std.specs.List.{list_all};
 ghost use Rattle.std.specs.Str.{chars};
-ghost use Rattle.rl_tokens.specs.Texts.{IsTail};
+ghost use Rattle.rl_tokens.specs.Texts.{IsTail, first_passes};
 ghost use Rattle.rl_tokens.specs.Quoted.{is_string, is_single, is_raw};
 ghost use Rattle.rl_grammar.specs.Mirrors.UnitAt.{unit_at};
 ghost use Rattle.rl_grammar.specs.Bodies.{IsInside};
@@ -270,14 +270,26 @@ pub(crate) fn find_bare_character(text: &str) -> Option<Found>
     })
 }
 
-/// What reading the text finds as a character, from the text after its quote.
+/// Whether a `'` begins the text, and as many bytes follow as a character has.
+#[inline(always)]
+pub(crate) fn begins_character(text: &str) -> bool
+    ensures { IsTrue result → IsTrue (first_passes (λ c. c == 39) (chars text.now)) }
+{
+    let bytes = text.as_bytes();
+    bytes.len() >= 3 && bytes[0] == b'\''
+}
+
+/// What reading the text as a character finds, which a `'` begins.
 #[inline(never)]
-pub(crate) fn find_character(text: &str, inside: &str) -> Option<Found>
-    requires { chars text.now ≡ 39 ∷ chars inside.now }
+pub(crate) fn find_character(text: &str) -> Option<Found>
+    requires { IsTrue (first_passes (λ c. c == 39) (chars text.now)) }
     ensures no_quoted { IfNone result (HasNoQuoted (chars text.now)) }
     ensures no_truth { HasNoTruth (chars text.now) }
     ensures found { IfSome result (IsFound text.now) }
 {
+    let Some((_, inside)) = split_ascii(text) else {
+        unreachable!()
+    };
     find_form(QuotedForm::Single, Kind::Char, text, inside)
 }
 
