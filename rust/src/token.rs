@@ -76,11 +76,12 @@ impl<'t> Token<'t> {
         &self.text[self.reading.at..self.reading.end]
     }
 
-    /// What stands after the literal proper; for the most part nothing, which is looked for first.
+    /// What stands after the literal proper. That most have none is asked first: the text's end needs no other test.
     #[inline]
     pub(crate) fn suffix(&self) -> &str {
+        let end = self.text.len();
         match self.reading.suffix_at {
-            at if at == self.text.len() => "",
+            at if at == end => &self.text[end..],
             at => &self.text[at..],
         }
     }
