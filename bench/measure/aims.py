@@ -4,13 +4,16 @@ import collections
 from measure import text
 
 # a work of ours, the other's, and how many times the other's instructions it may take; elsewhere,
-# on these corpora
+# on these corpora; None where there is no aim
 Aim = collections.namedtuple('Aim', 'work beside most but')
 AIMS = (
-    Aim('shape', 'litrs', 0.6, {'short strings': 0.85, 'floats': 0.85}),
-    Aim('lent', 'litrs, lent', 1, {}),
-    Aim('value', 'litrs', 1.5, {}),
-    Aim('literal', 'syn', 1 / 3, {'floats': 0.5, 'strings of escapes': 0.5}),
+    Aim('shape', 'litrs', 0.6, {'short strings': 0.85, 'floats': 0.85, 'characters': None}),
+    Aim('lent', 'litrs, lent', 1, {'characters': None}),
+    Aim('value', 'litrs', 1.5, {'characters': None}),
+    Aim('literal', 'syn', 1 / 3,
+        {'floats': 0.5, 'strings of escapes': 0.5, 'characters': None}),
+    Aim('package', 'litrs', None,
+        {'short strings': 1.5, 'floats': 1.5, 'characters': 1.5, 'plain strings of 4 KB': 0.1}),
     Aim('lex', 'proc-macro2', 0.5, {}),
     Aim('read', 'proc-macro2 and syn', 1 / 3, {}),
     Aim('rl_scan', 'proc-macro2', 1 / 3, {}),
@@ -22,9 +25,9 @@ def each(taken):
     the instructions a byte by corpus and work."""
     for corpus, work in taken:
         for aim in AIMS:
-            beside = taken.get((corpus, aim.beside))
-            if aim.work == work and beside:
-                yield corpus, aim, aim.but.get(corpus, aim.most), taken[corpus, work], beside
+            beside, most = taken.get((corpus, aim.beside)), aim.but.get(corpus, aim.most)
+            if aim.work == work and beside and most is not None:
+                yield corpus, aim, most, taken[corpus, work], beside
 
 
 def print_table(rows, found):

@@ -5,8 +5,10 @@
 use crate::exports::*;
 use crate::layout::{mismatch, Explanation, Reading};
 use crate::step::Step;
-use crate::token::Kind;
+use crate::token::{Kind, Token};
 use crate::write::Value;
+use std::borrow::Cow;
+use std::mem::MaybeUninit;
 use std::sync::Once;
 
 /// What an export returns, and what it writes into a place of this side.
@@ -32,14 +34,15 @@ fn check_library() {
     });
 }
 
-/// The one reading of a text.
+/// The text with its reading, where it has one.
 #[inline]
-pub(crate) fn find(text: &str) -> Option<Reading> {
+pub(crate) fn find(text: Cow<'_, str>) -> Option<Token<'_>> {
     check_library();
-    let mut reading = Reading::default();
+    let mut reading = MaybeUninit::uninit();
     // SAFETY: `utf8`: every `&str` is.
     let found = unsafe { rl_find(text.as_ptr(), text.len(), &mut reading) };
-    found.then_some(reading)
+    // SAFETY: `read`: where it is found, each field is what the text makes it, whatever stood there before.
+    found.then(|| Token::found(text, unsafe { reading.assume_init() }))
 }
 
 /// Why a text has no reading; `None` where it has one.
@@ -96,7 +99,7 @@ unsafe fn filled(room: usize, write: impl FnOnce(*mut u8, usize) -> usize) -> Ve
 }
 
 /// What a string, a byte string or a C string stands for, or the digits of a float, where the body isn't it.
-pub(crate) fn contents(text: &str, reading: &Reading) -> Vec<u8> {
+pub(crate) fn contents(text: &str, reading: Reading) -> Vec<u8> {
     let export = match Kind::of(reading.kind) {
         Kind::Str => rl_str_value,
         Kind::ByteStr => rl_byte_str_value,
@@ -106,13 +109,13 @@ pub(crate) fn contents(text: &str, reading: &Reading) -> Vec<u8> {
     };
     assert!(!reading.plain);
     // SAFETY: `utf8`; `read`: a `Token` holds a reading with its own text; it isn't plain; `room`: as long as the body.
-    let write = |out, room| unsafe { export(text.as_ptr(), text.len(), reading, out, room) };
+    let write = |out, room| unsafe { export(text.as_ptr(), text.len(), &reading, out, room) };
     // SAFETY: `value` and `within`, that the four exports ensure.
     unsafe { filled(reading.end - reading.at, write) }
 }
 
 /// The same where it is a text: of a string, or of a float.
-pub(crate) fn text_contents(text: &str, reading: &Reading) -> String {
+pub(crate) fn text_contents(text: &str, reading: Reading) -> String {
     assert!(matches!(Kind::of(reading.kind), Kind::Str | Kind::Float));
     // SAFETY: `utf8` of what is written, that `rl_str_value` and `rl_float_digits` ensure.
     unsafe { String::from_utf8_unchecked(contents(text, reading)) }

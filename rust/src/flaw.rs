@@ -83,6 +83,7 @@ pub struct ParseError {
 
 impl ParseError {
     /// Why the text is no literal, which has no reading.
+    #[cold]
     pub(crate) fn of(text: &str) -> ParseError {
         let flaw = ffi::explain(text).expect("the text has no reading");
         ParseError {

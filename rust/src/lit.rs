@@ -1,5 +1,6 @@
 //! Literals by kind.
 
+use crate::ffi;
 use crate::flaw::ParseError;
 use crate::token::{Kind, Token};
 use std::borrow::Cow;
@@ -14,6 +15,7 @@ macro_rules! kinds {
 
         impl $name<'_> {
             /// The text as it was read.
+            #[inline]
             pub fn text(&self) -> &str {
                 self.0.text()
             }
@@ -64,6 +66,7 @@ impl LitStr<'_> {
 
 impl LitByteStr<'_> {
     /// The bytes that the literal stands for; borrowed where it has no escapes.
+    #[inline]
     pub fn value(&self) -> Cow<'_, [u8]> {
         self.0.contents()
     }
@@ -71,6 +74,7 @@ impl LitByteStr<'_> {
 
 impl LitCStr<'_> {
     /// The bytes that the literal stands for, none of which is 0, and none of which ends them; borrowed where it has no escapes.
+    #[inline]
     pub fn value(&self) -> Cow<'_, [u8]> {
         self.0.contents()
     }
@@ -78,6 +82,7 @@ impl LitCStr<'_> {
 
 impl LitByte<'_> {
     /// The byte that the literal stands for.
+    #[inline]
     pub fn value(&self) -> u8 {
         u8::try_from(self.0.unit()).expect("the library returns a byte")
     }
@@ -85,18 +90,27 @@ impl LitByte<'_> {
 
 impl LitChar<'_> {
     /// The character that the literal stands for.
+    #[inline]
     pub fn value(&self) -> char {
         char::from_u32(self.0.unit()).expect("the library returns a character's number")
     }
 }
 
+/// The digits in base ten, after a minus where the number is negative.
+fn decimal(is_negative: bool, magnitude: u128) -> String {
+    let sign = if is_negative { "-" } else { "" };
+    format!("{sign}{magnitude}")
+}
+
 impl LitInt<'_> {
     /// What the digits spell, without the sign.
+    #[inline]
     pub fn magnitude(&self) -> u128 {
         self.0.magnitude()
     }
 
     /// Whether a minus stands before it.
+    #[inline]
     pub fn is_negative(&self) -> bool {
         self.text().starts_with('-')
     }
@@ -104,12 +118,12 @@ impl LitInt<'_> {
     /// The digits in base ten, after a minus where one stands; borrowed where they stand so in the text.
     ///
     /// Of others the number is the proved one, and Rust's std writes it.
+    #[inline]
     pub fn base10_digits(&self) -> Cow<'_, str> {
-        if let Some(digits) = self.0.plain() {
-            return Cow::Borrowed(digits);
+        match self.0.plain() {
+            Some(digits) => Cow::Borrowed(digits),
+            None => Cow::Owned(decimal(self.is_negative(), self.magnitude())),
         }
-        let sign = if self.is_negative() { "-" } else { "" };
-        Cow::Owned(format!("{sign}{}", self.magnitude()))
     }
 
     /// The digits as a number type reads them.
@@ -124,6 +138,7 @@ impl LitInt<'_> {
 
 impl LitFloat<'_> {
     /// All before the suffix, without underscores and pluses and with `E` as `e`; borrowed where it stands so in the text.
+    #[inline]
     pub fn base10_digits(&self) -> Cow<'_, str> {
         self.0.text_contents()
     }
@@ -140,6 +155,7 @@ impl LitFloat<'_> {
 
 impl LitBool<'_> {
     /// The truth value.
+    #[inline]
     pub fn value(&self) -> bool {
         self.text() == "true"
     }
@@ -203,13 +219,14 @@ impl<'t> Lit<'t> {
     /// The text is no literal, or an integer past 128 bits: why, and where.
     #[inline]
     pub fn parse(text: &'t str) -> Result<Lit<'t>, ParseError> {
-        match Token::read(Cow::Borrowed(text)) {
+        match ffi::find(Cow::Borrowed(text)) {
             Some(token) => Ok(Lit::of(token)),
             None => Err(ParseError::of(text)),
         }
     }
 
     /// What the literal is.
+    #[inline]
     pub fn kind(&self) -> Kind {
         self.token().kind()
     }
@@ -245,6 +262,7 @@ impl<'t> Lit<'t> {
     }
 
     /// The text as it was read.
+    #[inline]
     pub fn text(&self) -> &str {
         self.token().text()
     }
@@ -267,7 +285,7 @@ impl FromStr for Lit<'static> {
     type Err = ParseError;
 
     fn from_str(text: &str) -> Result<Self, ParseError> {
-        match Token::read(Cow::Owned(text.to_owned())) {
+        match ffi::find(Cow::Owned(text.to_owned())) {
             Some(token) => Ok(Lit::of(token)),
             None => Err(ParseError::of(text)),
         }

@@ -23,7 +23,7 @@ macro_rules! numbered {
             pub(crate) fn of(number: u8) -> $name {
                 match number {
                     $($number => $name::$variant,)+
-                    _ => unreachable!("the library has no {} of number {number}", stringify!($name)),
+                    _ => crate::numbered::unknown(stringify!($name), number),
                 }
             }
         }
@@ -42,6 +42,13 @@ macro_rules! numbered {
     (@words $name:ident; $($variant:ident,)+) => {};
 }
 pub(crate) use numbered;
+
+/// The library has no such number.
+#[cold]
+#[inline(never)]
+pub(crate) fn unknown(name: &str, number: u8) -> ! {
+    unreachable!("the library has no {name} of number {number}")
+}
 
 /// Each list beside the table of the library's contracts, which say what number each export returns.
 #[cfg(test)]

@@ -54,14 +54,8 @@ impl Hash for Token<'_> {
 }
 
 impl<'t> Token<'t> {
-    /// The text, where it reads as a literal.
+    /// A text whose reading the library returned.
     #[inline]
-    pub(crate) fn read(text: Cow<'t, str>) -> Option<Token<'t>> {
-        let reading = ffi::find(&text)?;
-        Some(Token { text, reading })
-    }
-
-    /// A text whose reading the library returned together with it.
     pub(crate) fn found(text: Cow<'t, str>, reading: Reading) -> Token<'t> {
         Token { text, reading }
     }
@@ -71,6 +65,7 @@ impl<'t> Token<'t> {
         Kind::of(self.reading.kind)
     }
 
+    #[inline]
     pub(crate) fn text(&self) -> &str {
         &self.text
     }
@@ -81,11 +76,17 @@ impl<'t> Token<'t> {
         &self.text[self.reading.at..self.reading.end]
     }
 
+    /// What stands after the literal proper. That most have none is asked first: the text's end needs no other test.
     #[inline]
     pub(crate) fn suffix(&self) -> &str {
-        &self.text[self.reading.suffix_at..]
+        let end = self.text.len();
+        match self.reading.suffix_at {
+            at if at == end => &self.text[end..],
+            at => &self.text[at..],
+        }
     }
 
+    #[inline]
     pub(crate) fn magnitude(&self) -> u128 {
         u128::from(self.reading.high) << 64 | u128::from(self.reading.low)
     }
@@ -101,15 +102,16 @@ impl<'t> Token<'t> {
     pub(crate) fn text_contents(&self) -> Cow<'_, str> {
         match self.plain() {
             Some(body) => Cow::Borrowed(body),
-            None => Cow::Owned(ffi::text_contents(&self.text, &self.reading)),
+            None => Cow::Owned(ffi::text_contents(&self.text, self.reading)),
         }
     }
 
     /// What a byte string or a C string stands for.
+    #[inline]
     pub(crate) fn contents(&self) -> Cow<'_, [u8]> {
         match self.plain() {
             Some(body) => Cow::Borrowed(body.as_bytes()),
-            None => Cow::Owned(ffi::contents(&self.text, &self.reading)),
+            None => Cow::Owned(ffi::contents(&self.text, self.reading)),
         }
     }
 

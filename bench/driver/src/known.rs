@@ -1,13 +1,30 @@
 //! Sums that were worked out by hand, of every export.
 
 use crate::corpus::Corpus;
-use crate::ours;
+use crate::{ours, package};
 
 /// All of them.
 pub fn check() -> Result<(), String> {
     check_literals()?;
+    check_characters()?;
     check_sources()?;
     check_attributes()
+}
+
+/// The sums of characters and a byte, with and without escapes and a suffix.
+fn check_characters() -> Result<(), String> {
+    let corpus = Corpus {
+        name: "known characters",
+        bytes: "'a''\\u{e9}'xb'\\n''\u{1F600}'".as_bytes().to_vec(),
+        ends: vec![3, 12, 17, 23],
+    };
+    // 5 + 1, 5 + 6 + 1, 4 + 2, 5 + 4
+    wanted("shape", ours::shape(&corpus), 33)?;
+    // 5 + 1, 5 + 2 + 1, 4 + 1, 5 + 4
+    wanted("lent", ours::lent(&corpus), 28)?;
+    wanted("value", ours::value(&corpus), 28)?;
+    wanted("literal", ours::literal(&corpus), 28)?;
+    wanted("package", package::value(&corpus), 28)
 }
 
 /// The sum of texts that are cut as whole sources, the last of them up to an open quote.

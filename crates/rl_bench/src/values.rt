@@ -11,7 +11,7 @@ ghost use Rattle.rl_bench.specs.Weights.{IsValueWeight};
 
 use crate::sums::Weigh;
 use crate::weights::{text_size, weight};
-use rl_grammar::{Found, Kind, bytes_of_body, char_of, digits_of_found, find, str_of_body};
+use rl_grammar::{Found, Kind, bytes_of_body, digits_of_found, find, str_of_body};
 use std::alloc::{AllocError, Global};
 
 /// What stands between the quotes of the string that was found in the text.
@@ -50,7 +50,8 @@ pub(crate) fn contents_size(alloc: Global, text: &str, found: &Found) -> Result<
         }
         // A byte is one byte, whichever it is.
         Kind::Byte => Ok(1),
-        Kind::Char => Ok(char_of(text).len_utf8()),
+        // SAFETY: what a character literal stands for is a character (`unit` of `IsFound`).
+        Kind::Char => Ok(unsafe { char::from_u32_unchecked(found.unit) }.len_utf8()),
         Kind::Int | Kind::Float => match digits_of_found(alloc, text, *found) {
             Ok(digits) => Ok(text_size(digits.as_str())),
             Err(_) => Err(AllocError),
