@@ -7,7 +7,7 @@ use Rattle.std.proofs.lemmas.Str.{chars-append, encodes-chars}
 use Rattle.rl_tokens.specs.declared.kind.Kind.TheVariants.{Str}
 use Rattle.rl_tokens.specs.Texts.{xid_ok}
 use Rattle.rl_tokens.specs.Written.{written_text}
-use Rattle.rl_lines.specs.Lines.{line, suffix_word}
+use Rattle.rl_lines.specs.Lines.{line, line_end, suffix_word}
 
 -- a piece at the end
 pub pushed : (old new piece : List ℕ) → IsUtf8 old → new ≡ old ++ piece → chars new ≡ chars old ++ chars piece
@@ -38,14 +38,16 @@ line_feed : chars (10 ∷ []) ≡ 10 ∷ []
 unfolding chars
 line_feed = refl
 
--- the six pieces of a line
-pub line_joined : (a b d e f g h word shown suffix : List ℕ) → b ≡ a ++ word → d ≡ b ++ chars (32 ∷ []) → e ≡ d ++ shown → f ≡ e ++ chars (32 ∷ []) → g ≡ f ++ suffix_word suffix → h ≡ g ++ chars (10 ∷ []) → h ≡ a ++ line word shown suffix
-line_joined a b d e f g h word shown suffix p q r s t u =
-    let s1 = 32 ∷ [] in
-    let tail = suffix_word suffix ++ (10 ∷ []) in
-    let last : h ≡ (f ++ suffix_word suffix) ++ (10 ∷ []) = u ∙ ap (λ z. g ++ z) line_feed ∙ ap (λ z. z ++ (10 ∷ [])) t in
-    let five : h ≡ f ++ tail = last ∙ append_assoc f (suffix_word suffix) (10 ∷ []) in
-    let four : h ≡ e ++ (32 ∷ tail) = five ∙ ap (λ z. z ++ tail) (s ∙ ap (λ z. e ++ z) space) ∙ append_assoc e s1 tail in
-    let three : h ≡ d ++ (shown ++ (32 ∷ tail)) = four ∙ ap (λ z. z ++ (32 ∷ tail)) r ∙ append_assoc d shown (32 ∷ tail) in
-    let two : h ≡ b ++ (32 ∷ (shown ++ (32 ∷ tail))) = three ∙ ap (λ z. z ++ (shown ++ (32 ∷ tail))) (q ∙ ap (λ z. b ++ z) space) ∙ append_assoc b s1 (shown ++ (32 ∷ tail)) in
-    two ∙ ap (λ z. z ++ (32 ∷ (shown ++ (32 ∷ tail)))) p ∙ append_assoc a word (32 ∷ (shown ++ (32 ∷ tail)))
+-- the three pieces of a line's end
+pub end_joined : (e f g h suffix : List ℕ) → f ≡ e ++ chars (32 ∷ []) → g ≡ f ++ suffix_word suffix → h ≡ g ++ chars (10 ∷ []) → h ≡ e ++ line_end suffix
+end_joined e f g h suffix s t u =
+    u ∙ ap (λ z. g ++ z) line_feed ∙ ap (λ z. z ++ (10 ∷ [])) t ∙ append_assoc f (suffix_word suffix) (10 ∷ [])
+    ∙ ap (λ z. z ++ (suffix_word suffix ++ (10 ∷ []))) (s ∙ ap (λ z. e ++ z) space) ∙ append_assoc e (32 ∷ []) (suffix_word suffix ++ (10 ∷ []))
+
+-- the four pieces of a line
+pub line_joined : (a b d e h word shown suffix : List ℕ) → b ≡ a ++ word → d ≡ b ++ chars (32 ∷ []) → e ≡ d ++ shown → h ≡ e ++ line_end suffix → h ≡ a ++ line word shown suffix
+line_joined a b d e h word shown suffix p q r s =
+    let tail = shown ++ line_end suffix in
+    s ∙ ap (λ z. z ++ line_end suffix) r ∙ append_assoc d shown (line_end suffix)
+    ∙ ap (λ z. z ++ tail) (q ∙ ap (λ z. b ++ z) space) ∙ append_assoc b (32 ∷ []) tail
+    ∙ ap (λ z. z ++ (32 ∷ tail)) p ∙ append_assoc a word (32 ∷ tail)

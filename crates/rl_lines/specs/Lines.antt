@@ -47,10 +47,13 @@ abbrev pub suffix_word : List ℕ → List ℕ
 suffix_word [] = codes "-"
 suffix_word (c ∷ cs) = if xid_ok (c ∷ cs) then (c ∷ cs) else written_text Str (c ∷ cs)
 
+-- a suffix after a space, and LF
+abbrev pub line_end : List ℕ → List ℕ
+line_end suffix = code " " ∷ (suffix_word suffix ++ (code "\n" ∷ []))
+
 -- a word, a payload and a suffix, with a space between, and LF
 abbrev pub line : List ℕ → List ℕ → List ℕ → List ℕ
-line word shown suffix =
-    word ++ (code " " ∷ (shown ++ (code " " ∷ (suffix_word suffix ++ (code "\n" ∷ [])))))
+line word shown suffix = word ++ (code " " ∷ (shown ++ line_end suffix))
 
 -- the line of a literal of this kind, contents and suffix
 abbrev pub literal_line : Kind → Contents → List ℕ → List ℕ

@@ -4,10 +4,10 @@ ghost use Rattle.std.specs.Prelude.{◌≡◌, ◌++◌, OnOk, string_bytes};
 ghost use Rattle.std.specs.Str.{chars};
 ghost use Rattle.rl_tokens.specs.declared.kind.Kind.TheVariants.{Str};
 ghost use Rattle.rl_tokens.specs.Written.{written_text};
-ghost use Rattle.rl_lines.specs.Lines.{line, suffix_word};
+ghost use Rattle.rl_lines.specs.Lines.{line, line_end, suffix_word};
 
-use rl_tokens::Literal;
 use rl_tokens::ident::xid_ok;
+use rl_tokens::push_str_literal;
 use std::alloc::{AllocError, Allocator};
 
 /// Writes a piece at the end.
@@ -19,28 +19,8 @@ pub fn push<A: Allocator>(out: &mut String<A>, piece: &str) -> Result<(), AllocE
     Ok(())
 }
 
-/// Writes a text as a string literal.
-fn push_quoted<A: Allocator + Copy>(
-    alloc: A,
-    out: &mut String<A>,
-    text: &str,
-) -> Result<(), AllocError>
-    ensures { OnOk result
-        (chars (string_bytes out.new) ≡ chars (string_bytes out.old)
-        ++ written_text Str (chars text.now)) }
-{
-    match Literal::string(alloc, text) {
-        Ok(literal) => push(out, literal.text()),
-        Err(_) => Err(AllocError),
-    }
-}
-
 /// Writes a suffix.
-fn push_suffix<A: Allocator + Copy>(
-    alloc: A,
-    out: &mut String<A>,
-    suffix: &str,
-) -> Result<(), AllocError>
+fn push_suffix<A: Allocator>(out: &mut String<A>, suffix: &str) -> Result<(), AllocError>
     ensures { OnOk result
         (chars (string_bytes out.new) ≡ chars (string_bytes out.old)
         ++ suffix_word (chars suffix.now)) }
@@ -50,13 +30,22 @@ fn push_suffix<A: Allocator + Copy>(
     } else if xid_ok(suffix) {
         push(out, suffix)
     } else {
-        push_quoted(alloc, out, suffix)
+        push_str_literal(out, suffix)
     }
 }
 
+/// Writes the end of a line: a suffix, after a space.
+fn push_end<A: Allocator>(out: &mut String<A>, suffix: &str) -> Result<(), AllocError>
+    ensures { OnOk result (chars (string_bytes out.new)
+        ≡ chars (string_bytes out.old) ++ line_end (chars suffix.now)) }
+{
+    push(out, " ")?;
+    push_suffix(out, suffix)?;
+    push(out, "\n")
+}
+
 /// Writes a line: a word, a payload and a suffix.
-pub fn push_line<A: Allocator + Copy>(
-    alloc: A,
+pub fn push_line<A: Allocator>(
     out: &mut String<A>,
     word: &str,
     shown: &str,
@@ -69,7 +58,22 @@ pub fn push_line<A: Allocator + Copy>(
     push(out, word)?;
     push(out, " ")?;
     push(out, shown)?;
+    push_end(out, suffix)
+}
+
+/// Writes a line: a word, a text as a string literal, and a suffix.
+pub fn push_quoted<A: Allocator>(
+    out: &mut String<A>,
+    word: &str,
+    text: &str,
+    suffix: &str,
+) -> Result<(), AllocError>
+    ensures { OnOk result (chars (string_bytes out.new)
+        ≡ chars (string_bytes out.old)
+        ++ line (chars word.now) (written_text Str (chars text.now)) (chars suffix.now)) }
+{
+    push(out, word)?;
     push(out, " ")?;
-    push_suffix(alloc, out, suffix)?;
-    push(out, "\n")
+    push_str_literal(out, text)?;
+    push_end(out, suffix)
 }

@@ -6,7 +6,7 @@ ghost use Rattle.rl_tokens.specs.declared.kind.Kind.TheVariants.{Str, ByteStr, C
 ghost use Rattle.rl_tokens.specs.Reading.{Bytes, Characters, Truth, truth_text};
 ghost use Rattle.rl_lines.specs.Lines.{line, kind_label, label_of, literal_line, verbatim_line, IsLineOfKind, IsLineOfFloat, IsLineOfLit, AreLinesOfLits, Appends};
 
-use crate::line::push_line;
+use crate::line::{push_line, push_quoted};
 use rl_tokens::{Kind, Literal};
 use rust_literals::{
     Lit, LitBool, LitByte, LitByteStr, LitCStr, LitChar, LitFloat, LitInt, LitStr,
@@ -30,8 +30,7 @@ fn word(kind: Kind) -> &'static str
 }
 
 /// Writes the line of a literal of the kind.
-fn push_kind<A: Allocator + Copy>(
-    alloc: A,
+fn push_kind<A: Allocator>(
     out: &mut String<A>,
     kind: Kind,
     shown: &str,
@@ -41,23 +40,15 @@ fn push_kind<A: Allocator + Copy>(
         ≡ chars (string_bytes out.old)
         ++ line (kind_label kind) (chars shown.now) (chars suffix.now)) }
 {
-    push_line(alloc, out, word(kind), shown, suffix)
+    push_line(out, word(kind), shown, suffix)
 }
 
 /// Writes the line of a string that stands for this text.
-fn push_text<A: Allocator + Copy>(
-    alloc: A,
-    out: &mut String<A>,
-    value: &str,
-    suffix: &str,
-) -> Result<(), AllocError>
+fn push_text<A: Allocator>(out: &mut String<A>, value: &str, suffix: &str) -> Result<(), AllocError>
     ensures { OnOk result (chars (string_bytes out.new) ≡ chars (string_bytes out.old)
         ++ literal_line Str (Characters (chars value.now)) (chars suffix.now)) }
 {
-    let Ok(shown) = Literal::string(alloc, value) else {
-        return Err(AllocError);
-    };
-    push_kind(alloc, out, Kind::Str, shown.text(), suffix)
+    push_quoted(out, word(Kind::Str), value, suffix)
 }
 
 /// Writes the line of a string. Its value is copied only where it isn't what stands between the quotes.
@@ -70,12 +61,12 @@ fn push_string<A: Allocator + Copy>(
         (chars (string_bytes out.old)) (chars (string_bytes out.new))) }
 {
     if let Some(value) = literal.value_ref() {
-        return push_text(alloc, out, value, literal.suffix());
+        return push_text(out, value, literal.suffix());
     }
     let Ok(value) = literal.value(alloc) else {
         return Err(AllocError);
     };
-    push_text(alloc, out, value.as_str(), literal.suffix())
+    push_text(out, value.as_str(), literal.suffix())
 }
 
 /// Writes the line of a byte string that stands for these bytes.
@@ -91,7 +82,7 @@ fn push_bytes<A: Allocator + Copy>(
     let Ok(shown) = Literal::byte_string(alloc, value) else {
         return Err(AllocError);
     };
-    push_kind(alloc, out, Kind::ByteStr, shown.text(), suffix)
+    push_kind(out, Kind::ByteStr, shown.text(), suffix)
 }
 
 /// Writes the line of a byte string. Its value is copied only where it isn't what stands between the quotes.
@@ -127,7 +118,7 @@ fn push_c_string<A: Allocator + Copy>(
     let Ok(shown) = Literal::c_string(alloc, &value) else {
         return Err(AllocError);
     };
-    push_kind(alloc, out, Kind::CStr, shown.text(), literal.suffix())
+    push_kind(out, Kind::CStr, shown.text(), literal.suffix())
 }
 
 /// Writes the line of a byte.
@@ -142,7 +133,7 @@ fn push_byte<A: Allocator + Copy>(
     let Ok(shown) = Literal::byte_character(alloc, literal.value()) else {
         return Err(AllocError);
     };
-    push_kind(alloc, out, Kind::Byte, shown.text(), literal.suffix())
+    push_kind(out, Kind::Byte, shown.text(), literal.suffix())
 }
 
 /// Writes the line of a character.
@@ -157,43 +148,23 @@ fn push_character<A: Allocator + Copy>(
     let Ok(shown) = Literal::character(alloc, literal.value()) else {
         return Err(AllocError);
     };
-    push_kind(alloc, out, Kind::Char, shown.text(), literal.suffix())
+    push_kind(out, Kind::Char, shown.text(), literal.suffix())
 }
 
 /// Writes the line of an integer.
-fn push_integer<A: Allocator + Copy>(
-    alloc: A,
-    out: &mut String<A>,
-    literal: &LitInt<A>,
-) -> Result<(), AllocError>
+fn push_integer<A: Allocator>(out: &mut String<A>, literal: &LitInt<A>) -> Result<(), AllocError>
     ensures { OnOk result (Appends (IsLineOfKind Int (chars literal.now.text))
         (chars (string_bytes out.old)) (chars (string_bytes out.new))) }
 {
-    push_kind(
-        alloc,
-        out,
-        Kind::Int,
-        literal.base10_digits(),
-        literal.suffix(),
-    )
+    push_kind(out, Kind::Int, literal.base10_digits(), literal.suffix())
 }
 
 /// Writes the line of a float.
-fn push_float<A: Allocator + Copy>(
-    alloc: A,
-    out: &mut String<A>,
-    literal: &LitFloat<A>,
-) -> Result<(), AllocError>
+fn push_float<A: Allocator>(out: &mut String<A>, literal: &LitFloat<A>) -> Result<(), AllocError>
     ensures { OnOk result (Appends (IsLineOfFloat (chars literal.now.text))
         (chars (string_bytes out.old)) (chars (string_bytes out.new))) }
 {
-    push_kind(
-        alloc,
-        out,
-        Kind::Float,
-        literal.base10_digits(),
-        literal.suffix(),
-    )
+    push_kind(out, Kind::Float, literal.base10_digits(), literal.suffix())
 }
 
 /// The word of a truth value.
@@ -204,30 +175,19 @@ fn truth_word(value: bool) -> &'static str
 }
 
 /// Writes the line of a truth value.
-fn push_truth<A: Allocator + Copy>(
-    alloc: A,
-    out: &mut String<A>,
-    literal: &LitBool,
-) -> Result<(), AllocError>
+fn push_truth<A: Allocator>(out: &mut String<A>, literal: &LitBool) -> Result<(), AllocError>
     ensures { OnOk result (Appends (λ line. line ≡ literal_line Bool (Truth literal.now.value) [])
         (chars (string_bytes out.old)) (chars (string_bytes out.new))) }
 {
-    push_kind(alloc, out, Kind::Bool, truth_word(literal.value()), "")
+    push_kind(out, Kind::Bool, truth_word(literal.value()), "")
 }
 
 /// Writes the line of a text that is no literal.
-fn push_verbatim<A: Allocator + Copy>(
-    alloc: A,
-    out: &mut String<A>,
-    token: &Literal<A>,
-) -> Result<(), AllocError>
+fn push_verbatim<A: Allocator>(out: &mut String<A>, token: &Literal<A>) -> Result<(), AllocError>
     ensures { OnOk result (Appends (λ line. line ≡ verbatim_line (chars token.now.text))
         (chars (string_bytes out.old)) (chars (string_bytes out.new))) }
 {
-    let Ok(shown) = Literal::string(alloc, token.text()) else {
-        return Err(AllocError);
-    };
-    push_line(alloc, out, "Verbatim", shown.text(), "")
+    push_quoted(out, "Verbatim", token.text(), "")
 }
 
 /// The word that a line begins with: the literal's kind, or `Verbatim` for what has none.
@@ -259,10 +219,10 @@ pub fn push_literal<A: Allocator + Copy>(
         Lit::CStr(literal) => push_c_string(alloc, out, literal),
         Lit::Byte(literal) => push_byte(alloc, out, literal),
         Lit::Char(literal) => push_character(alloc, out, literal),
-        Lit::Int(literal) => push_integer(alloc, out, literal),
-        Lit::Float(literal) => push_float(alloc, out, literal),
-        Lit::Bool(literal) => push_truth(alloc, out, literal),
-        Lit::Verbatim(token) => push_verbatim(alloc, out, token),
+        Lit::Int(literal) => push_integer(out, literal),
+        Lit::Float(literal) => push_float(out, literal),
+        Lit::Bool(literal) => push_truth(out, literal),
+        Lit::Verbatim(token) => push_verbatim(out, token),
     }
 }
 

@@ -1,9 +1,11 @@
 -- What a writer has written so far, from its opener on.
-use Rattle.std.proofs.Common.{◌≡◌, ◌<◌, ◌+◌, ◌/◌, ◌%◌, ℕ, Bool, true, false, arith, List, [], ◌∷◌, ◌++◌, map, sym, ap, ◌∙◌, append_assoc, append-nil}
+use Rattle.std.proofs.Common.{◌≡◌, ◌<◌, ◌+◌, ◌/◌, ◌%◌, ℕ, Bool, true, false, arith, List, [], ◌∷◌, ◌++◌, map, length, take, refl, sym, ap, subst, ◌≤◌, ◌∙◌, append_assoc, append-nil, length-take}
 use Rattle.std.specs.Prelude.{nat_lt, encode_utf8, encode_utf8_all}
 use Rattle.std.specs.Str.{chars, IsUtf8}
 use Rattle.std.specs.Bool.{if◌then◌else◌}
-use Rattle.std.proofs.lemmas.Str.{encode_ascii, encodes-append, chars_from_encodes, chars_past_char, chars-nil}
+use Rattle.std.specs.String.Boundary.{IsSplitPoint}
+use Rattle.std.proofs.Math.Seq.{take-append_seam}
+use Rattle.std.proofs.lemmas.Str.{encode_ascii, encodes-append, encodes-chars, chars_from_encodes, chars_past_char, chars-nil, IsUtf8-nil, IsCharBoundary-from_take}
 use Rattle.rl_tokens.specs.declared.kind.Kind.{Kind}
 use Rattle.rl_tokens.specs.declared.kind.Kind.TheVariants.{Str, ByteStr, CStr, Byte, Char, Int, Float, Bool as BoolKind}
 use Rattle.rl_tokens.specs.Quoted.{Hex, Plain, opener, unit_text, texts}
@@ -58,13 +60,39 @@ begun_more k a b xs c e h =
     let all : (opener k ++ inner) ++ unit_text (written_unit k c) ≡ opener k ++ texts (map (written_unit k) (xs ++ (c ∷ []))) = append_assoc (opener k) inner (unit_text (written_unit k c)) ∙ ap (λ z. opener k ++ z) (sym (texts_more k xs c)) in
     h ∙ ap (λ z. z ++ encode_utf8_all (unit_text (written_unit k c))) e ∙ sym (encodes-append (opener k ++ inner) (unit_text (written_unit k c))) ∙ ap encode_utf8_all all
 
--- the closer after all of them
-pub begun_whole : (k : Kind) (a b xs ys : List ℕ) → a ≡ begun k xs → b ≡ a ++ encode_utf8 (closer k) → xs ≡ ys → IsUtf8 b → chars b ≡ written_text k ys
-begun_whole k a b xs ys e h same u =
+-- the same where something stands before
+pub begun_more_after : (k : Kind) (p a b xs : List ℕ) (c : ℕ) → a ≡ p ++ begun k xs → b ≡ a ++ encode_utf8_all (unit_text (written_unit k c)) → b ≡ p ++ begun k (xs ++ (c ∷ []))
+begun_more_after k p a b xs c e h =
+    let one = encode_utf8_all (unit_text (written_unit k c)) in
+    h ∙ ap (λ z. z ++ one) e ∙ append_assoc p (begun k xs) one ∙ ap (λ z. p ++ z) (begun_more k (begun k xs) (begun k xs ++ one) xs c refl refl)
+
+-- what stood before is still in front
+pub begun_front : (k : Kind) (p a b xs : List ℕ) → a ≡ p ++ begun k xs → b ≡ a → take (length p) b ≡ p
+begun_front k p a b xs e same = ap (take (length p)) (same ∙ e) ∙ take-append_seam p (begun k xs)
+
+-- characters in UTF-8 that were appended
+appended : (p b w : List ℕ) → IsUtf8 p → IsUtf8 b → b ≡ p ++ encode_utf8_all w → chars b ≡ chars p ++ w
+appended p b w u v e = sym (chars_from_encodes (chars p ++ w) b v (encodes-append (chars p) w ∙ ap (λ z. z ++ encode_utf8_all w) (encodes-chars p u) ∙ sym e))
+
+-- the closer after all of them, where something stands before
+pub begun_whole_after : (k : Kind) (p a b xs ys : List ℕ) → a ≡ p ++ begun k xs → b ≡ a ++ encode_utf8 (closer k) → xs ≡ ys → IsUtf8 p → IsUtf8 b → chars b ≡ chars p ++ written_text k ys
+begun_whole_after k p a b xs ys e h same u v =
     let inner = texts (map (written_unit k) xs) in
     let one : encode_utf8_all (closer k ∷ []) ≡ encode_utf8 (closer k) = append-nil (encode_utf8 (closer k)) in
-    let all : encode_utf8_all (opener k ++ (inner ++ (closer k ∷ []))) ≡ b =
+    let all : encode_utf8_all (written_text k xs) ≡ begun k xs ++ encode_utf8 (closer k) =
     ap encode_utf8_all (sym (append_assoc (opener k) inner (closer k ∷ [])))
     ∙ encodes-append (opener k ++ inner) (closer k ∷ [])
-    ∙ ap (λ z. encode_utf8_all (opener k ++ inner) ++ z) one ∙ ap (λ z. z ++ encode_utf8 (closer k)) (sym e) ∙ sym h in
-    sym (chars_from_encodes (opener k ++ (inner ++ (closer k ∷ []))) b u all) ∙ ap (written_text k) same
+    ∙ ap (λ z. encode_utf8_all (opener k ++ inner) ++ z) one in
+    appended p b (written_text k xs) u v (h ∙ ap (λ z. z ++ encode_utf8 (closer k)) e ∙ append_assoc p (begun k xs) (encode_utf8 (closer k)) ∙ ap (λ z. p ++ z) (sym all))
+    ∙ ap (λ z. chars p ++ written_text k z) same
+
+-- the closer after all of them
+pub begun_whole : (k : Kind) (a b xs ys : List ℕ) → a ≡ begun k xs → b ≡ a ++ encode_utf8 (closer k) → xs ≡ ys → IsUtf8 b → chars b ≡ written_text k ys
+begun_whole k a b xs ys e h same u = begun_whole_after k [] a b xs ys e h same IsUtf8-nil u ∙ ap (λ z. z ++ written_text k ys) chars-nil
+
+-- a text that was lengthened may be cut where it ended
+pub cut_back : (old new : List ℕ) → IsUtf8 old → IsUtf8 new → take (length old) new ≡ old → IsSplitPoint new (length old)
+cut_back old new u v e =
+    let within : length old ≤ length new = omega (arith, length-take (length old) new, ap length e) in
+    let b = IsCharBoundary-from_take new (length old) v within (subst IsUtf8 (sym e) u) in
+    (within, λ _. b.1)

@@ -56,4 +56,5 @@ pub use crate::sources::{SourceToken, Sources};
 pub use crate::span::Span;
 pub use crate::token::{Delimiter, Group, TokenStream, TokenTree};
 pub use crate::whole::{parse_all, trees_of_text};
+pub use crate::writer::push_str_literal;
 pub use crate::written_into::{write_bytes_into, write_char_into, write_str_into};

@@ -1,9 +1,9 @@
 //! How values are written as literals.
 
-ghost use Rattle.std.specs.Prelude.{◌≡◌, ◌⊎◌, ◌<◌, ◌/◌, ◌%◌, ◌++◌, ◌∷◌, [], length, IsTrue, if◌then◌else◌, OnOk, IfOk, IfErr, IfSome, IfNone, MatchResult, string_bytes, encode_utf8_all};
+ghost use Rattle.std.specs.Prelude.{◌≡◌, ◌⊎◌, ◌<◌, ◌/◌, ◌%◌, ◌++◌, ◌∷◌, [], length, take, is_ok, IsTrue, if◌then◌else◌, OnOk, OnErr, IfOk, IfErr, IfSome, IfNone, MatchResult, string_bytes, encode_utf8_all};
 ghost use Rattle.std.specs.Str.{chars};
 ghost use Rattle.rl_tokens.specs.Quoted.{Hex, Plain, holds_characters, opener, unit_text};
-ghost use Rattle.rl_tokens.specs.Written.{closer, own_quote, upper_digit, is_written_as_number, written_unit, IsWrittenForm};
+ghost use Rattle.rl_tokens.specs.Written.{closer, own_quote, upper_digit, is_written_as_number, written_text, written_unit, IsWrittenForm};
 ghost use Rattle.rl_tokens.specs.Agreeing.{AreBytesOf, IsQuotedValue};
 ghost use Rattle.rl_tokens.specs.Errors.{memory_at, nowhere};
 
@@ -91,28 +91,75 @@ pub(crate) fn upper_digit(digit: u32) -> char
     }
 }
 
-/// Writes `\x` and two digits.
+/// Appends `\x` and two digits, or nothing where an allocation fails.
 fn push_number<A: Allocator>(out: &mut String<A>, code: u32) -> Result<(), AllocError>
     requires { code < 256 }
-    ensures { OnOk result (string_bytes out.new
-        ≡ string_bytes out.old
-        ++ 92 ∷ 120 ∷ upper_digit (code / 16) ∷ upper_digit (code % 16) ∷ []) }
+    ensures { string_bytes out.new ≡ (if is_ok result
+        then string_bytes out.old
+        ++ 92 ∷ 120 ∷ upper_digit (code / 16) ∷ upper_digit (code % 16) ∷ []
+        else string_bytes out.old) }
 {
+    out.reserve(4)?;
     out.push_str("\\x")?;
     out.push(upper_digit(code / 16))?;
     out.push(upper_digit(code % 16))
 }
 
-/// Writes a character or a byte as it stands in a literal of the kind.
+/// Appends a character or a byte as it stands in a literal of the kind, or nothing where an allocation fails.
 fn push_written<A: Allocator>(out: &mut String<A>, kind: Kind, c: char) -> Result<(), AllocError>
     requires { IsTrue (holds_characters kind) ⊎ (c < 256) }
-    ensures { OnOk result (string_bytes out.new
-        ≡ string_bytes out.old ++ encode_utf8_all (unit_text (written_unit kind c))) }
+    ensures { string_bytes out.new ≡ (if is_ok result
+        then string_bytes out.old ++ encode_utf8_all (unit_text (written_unit kind c))
+        else string_bytes out.old) }
 {
     match escaped(kind, c) {
         Some(text) => out.push_str(text),
         None if is_written_as_number(kind, c) => push_number(out, c as u32),
         None => out.push(c),
+    }
+}
+
+/// Appends the literal of the kind, which holds characters, that stands for the text. Where an allocation fails, a front of it
+/// may stand there.
+fn push_characters<A: Allocator>(
+    out: &mut String<A>,
+    kind: Kind,
+    value: &str,
+) -> Result<(), AllocError>
+    requires { IsTrue (holds_characters kind) }
+    ensures text { OnOk result (chars (string_bytes out.new)
+        ≡ chars (string_bytes out.old) ++ written_text kind (chars value.now)) }
+    ensures front { OnErr result (take (length (string_bytes out.old)) (string_bytes out.new)
+        ≡ string_bytes out.old) }
+{
+    out.push_str(opener(kind))?;
+    for c in value.chars() {
+        push_written(out, kind, c)?;
+    }
+    out.push(closer(kind))?;
+    Ok(())
+}
+
+/// Appends the string literal that stands for the text, as docs/GRAMMAR.md writes it: what [`Literal::string`] makes, with
+/// no text between.
+///
+/// # Errors
+///
+/// An allocation failure. Nothing is appended then.
+pub fn push_str_literal<A: Allocator>(out: &mut String<A>, value: &str) -> Result<(), AllocError>
+    ensures text { OnOk result (chars (string_bytes out.new)
+        ≡ chars (string_bytes out.old) ++ written_text Kind.Str (chars value.now)) }
+    ensures form { OnOk result (IsWrittenForm Kind.Str (chars value.now)
+        (written_text Kind.Str (chars value.now))) }
+    ensures same { OnErr result (string_bytes out.new ≡ string_bytes out.old) }
+{
+    let len = out.as_str().len();
+    match push_characters(out, Kind::Str, value) {
+        Ok(()) => Ok(()),
+        Err(error) => {
+            out.truncate(len);
+            Err(error)
+        }
     }
 }
 
@@ -126,11 +173,8 @@ fn text_of_characters<A: Allocator>(
     requires value { IsQuotedValue kind (chars value.now) }
     ensures { IfOk result (λ s. IsWrittenForm kind (chars value.now) (chars (string_bytes s))) }
 {
-    let mut text = String::from_str(alloc, opener(kind))?;
-    for c in value.chars() {
-        push_written(&mut text, kind, c)?;
-    }
-    text.push(closer(kind))?;
+    let mut text = String::new(alloc);
+    push_characters(&mut text, kind, value)?;
     Ok(text)
 }
 

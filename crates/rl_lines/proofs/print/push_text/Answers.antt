@@ -1,10 +1,11 @@
 use Rattle.std.proofs.Common.{◌≡◌, ap, ◌∙◌}
 use Rattle.std.specs.Str.{chars}
 use Rattle.rl_tokens.specs.declared.kind.Kind.TheVariants.{Str}
-use Rattle.rl_tokens.specs.Written.{written_text}
+use Rattle.rl_lines.specs.Lines.{kind_label}
+use Rattle.rl_lines.proofs.PrintLemmas.{word_chars}
 use Rattle.rl_lines.proofs.print.push_text.Goals as goal
 
 pub returns : goal.returns
 returns g c =
-    let shown : chars c.text.result.now ≡ written_text Str (chars c.args.value.now) = ap chars c.text.ensures ∙ c.in-Ok.ensures.text.text_is in
-    rw shown at c.push_kind.ensures
+    let w : chars c.word.result.now ≡ kind_label Str = ap chars c.word.ensures ∙ word_chars Str in
+    rw w at c.push_quoted.ensures

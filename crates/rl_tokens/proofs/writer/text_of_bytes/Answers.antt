@@ -16,7 +16,8 @@ loop-byte-preserved g c =
     let value = c.args.value.now in
     let i = c.loop-byte.byte-index in
     let same : c.from.result ≡ get_or value i 0 = search rules in
-    let pushed : string_bytes c.push_written.new.out ≡ string_bytes c.loop-byte.text ++ encode_utf8_all (unit_text (written_unit c.args.kind (get_or value i 0))) = c.in_ok-push_written.ensures ∙ ap (λ z. string_bytes c.loop-byte.text ++ encode_utf8_all (unit_text (written_unit c.args.kind z))) same in
+    let written : string_bytes c.push_written.new.out ≡ string_bytes c.loop-byte.text ++ encode_utf8_all (unit_text (written_unit c.args.kind c.from.result)) = c.in_ok-push_written.ensures in
+    let pushed : string_bytes c.push_written.new.out ≡ string_bytes c.loop-byte.text ++ encode_utf8_all (unit_text (written_unit c.args.kind (get_or value i 0))) = written ∙ ap (λ z. string_bytes c.loop-byte.text ++ encode_utf8_all (unit_text (written_unit c.args.kind z))) same in
     let At : List ℕ → Type 0 = λ xs. string_bytes c.push_written.new.out ≡ begun c.args.kind xs in
     subst At (sym (take_more value i 0 (omega arith))) (begun_more _ _ _ (take i value) (get_or value i 0) c.loop-byte.invariant pushed)
 
