@@ -1,13 +1,12 @@
 //! The exports of `crates/rl_c`, as `CALLING.md` of that crate has them. Only `ffi` calls them.
 
 use crate::layout::{Explanation, Layout, Next, Reading};
-use std::mem::MaybeUninit;
 
 extern "C" {
     pub(crate) fn rl_version() -> usize;
     pub(crate) fn rl_layout(layout: &mut Layout);
     pub(crate) fn rl_probe(next: &mut Next, explanation: &mut Explanation);
-    pub(crate) fn rl_find(t: *const u8, len: usize, reading: &mut MaybeUninit<Reading>) -> bool;
+    pub(crate) fn rl_find(text: *const u8, len: usize, reading: &mut Reading) -> bool;
     pub(crate) fn rl_explain(text: *const u8, len: usize, explanation: &mut Explanation) -> bool;
     pub(crate) fn rl_is_token(text: *const u8, len: usize) -> bool;
     pub(crate) fn rl_str_value(

@@ -8,7 +8,6 @@ use crate::step::Step;
 use crate::token::{Kind, Token};
 use crate::write::Value;
 use std::borrow::Cow;
-use std::mem::MaybeUninit;
 use std::sync::Once;
 
 /// What an export returns, and what it writes into a place of this side.
@@ -38,11 +37,10 @@ fn check_library() {
 #[inline]
 pub(crate) fn find(text: Cow<'_, str>) -> Option<Token<'_>> {
     check_library();
-    let mut reading = MaybeUninit::uninit();
+    let mut reading = Reading::default();
     // SAFETY: `utf8`: every `&str` is.
     let found = unsafe { rl_find(text.as_ptr(), text.len(), &mut reading) };
-    // SAFETY: `read`: where it is found, each field is what the text makes it, whatever stood there before.
-    found.then(|| Token::found(text, unsafe { reading.assume_init() }))
+    found.then(|| Token::found(text, reading))
 }
 
 /// Why a text has no reading; `None` where it has one.
