@@ -5,3 +5,4 @@ pub mod PrintLemmas
 pub mod TextLemmas
 pub mod ListLemmas
 pub mod EntryLineLemmas
+pub mod FoundLineLemmas

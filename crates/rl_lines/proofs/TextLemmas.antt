@@ -1,5 +1,5 @@
 -- A whole text's line.
-use Rattle.std.proofs.Common.{◌≡◌, ℕ, List, [], refl, sym, ap, subst, ◌∙◌, inl, inr}
+use Rattle.std.proofs.Common.{◌≡◌, ℕ, List, [], sym, ap, subst, ◌∙◌, inl, inr}
 use Rattle.std.specs.Str.{chars}
 use Rattle.rl_tokens.specs.Texts.{SpannedText}
 use Rattle.rl_tokens.specs.declared.kind.Kind.{Kind}
@@ -9,9 +9,9 @@ use Rattle.rl_tokens.specs.Reading.{Digits, Truth, Reads, ReadsAs, truth_text}
 use Rattle.rl_tokens.proofs.OneNumber.{float_once}
 use Rattle.rust_literals.specs.declared.lit.Lit.{Lit}
 use Rattle.rust_literals.specs.declared.lit.Lit.TheVariants.{Str as StrLit, ByteStr as ByteStrLit, CStr as CStrLit, Byte as ByteLit, Char as CharLit, Int as IntLit, Float as FloatLit, Bool as BoolLit, Verbatim}
-use Rattle.rust_literals.specs.Literals.{kind_of, IsReadAs, IsReadFrom}
+use Rattle.rust_literals.specs.Literals.{IsReadFrom}
 use Rattle.rust_literals.proofs.LitLemmas.{truth_reads}
-use Rattle.rl_lines.specs.Lines.{label_of, literal_line, verbatim_line, IsLabelOf, IsLineOf, IsLineOfKind, IsLineOfFloat, IsLineOfLit}
+use Rattle.rl_lines.specs.Lines.{literal_line, verbatim_line, IsLineOf, IsLineOfKind, IsLineOfFloat, IsLineOfLit}
 
 -- the token's characters, where the literal keeps the token
 same_text : (l token : SpannedText) (t : List ℕ) → l ≡ token → token.text ≡ t → chars l.text ≡ chars t
@@ -44,6 +44,3 @@ line_of_text token (Verbatim l) t shown r k p =
     let same : chars l.text ≡ chars t = same_text l token t r.0 k in
     inr (rw (ap chars (sym k)) r.1, p ∙ ap verbatim_line same)
 
--- the word of a literal that was read from a token is that of the token's text
-pub label_of_text : {A : Type 0} (token : SpannedText) (literal : Lit A) (t : List ℕ) → IsReadFrom token literal → token.text ≡ t → IsLabelOf (chars t) (label_of (kind_of literal))
-label_of_text token literal t r k = (kind_of literal, subst (λ z. IsReadAs (kind_of literal) (chars z)) k r.1, refl)

@@ -2,3 +2,4 @@ pub mod Lines
 pub mod Digits
 pub mod Refusals
 pub mod EntryLines
+pub mod FoundLines

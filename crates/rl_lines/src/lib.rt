@@ -4,11 +4,13 @@
 
 mod attributes;
 mod digits;
+mod found_line;
 mod line;
 mod print;
 mod rejection;
 
 pub use crate::attributes::entry_lines;
 pub use crate::digits::decoded;
+pub use crate::found_line::push_found;
 pub use crate::print::{label_of, line_of, lines_of, push_literal, push_literals};
 pub use crate::rejection::Refusal;

@@ -30,7 +30,7 @@ fn word(kind: Kind) -> &'static str
 }
 
 /// Writes the line of a literal of the kind.
-fn push_kind<A: Allocator>(
+pub(crate) fn push_kind<A: Allocator>(
     out: &mut String<A>,
     kind: Kind,
     shown: &str,
@@ -44,7 +44,11 @@ fn push_kind<A: Allocator>(
 }
 
 /// Writes the line of a string that stands for this text.
-fn push_text<A: Allocator>(out: &mut String<A>, value: &str, suffix: &str) -> Result<(), AllocError>
+pub(crate) fn push_text<A: Allocator>(
+    out: &mut String<A>,
+    value: &str,
+    suffix: &str,
+) -> Result<(), AllocError>
     ensures { OnOk result (chars (string_bytes out.new) ≡ chars (string_bytes out.old)
         ++ literal_line Str (Characters (chars value.now)) (chars suffix.now)) }
 {
@@ -168,7 +172,7 @@ fn push_float<A: Allocator>(out: &mut String<A>, literal: &LitFloat<A>) -> Resul
 }
 
 /// The word of a truth value.
-fn truth_word(value: bool) -> &'static str
+pub(crate) fn truth_word(value: bool) -> &'static str
     ensures { result.now ≡ truth_text value }
 {
     if value { "true" } else { "false" }
@@ -183,11 +187,11 @@ fn push_truth<A: Allocator>(out: &mut String<A>, literal: &LitBool) -> Result<()
 }
 
 /// Writes the line of a text that is no literal.
-fn push_verbatim<A: Allocator>(out: &mut String<A>, token: &Literal<A>) -> Result<(), AllocError>
-    ensures { OnOk result (Appends (λ line. line ≡ verbatim_line (chars token.now.text))
+pub(crate) fn push_verbatim<A: Allocator>(out: &mut String<A>, text: &str) -> Result<(), AllocError>
+    ensures { OnOk result (Appends (λ line. line ≡ verbatim_line (chars text.now))
         (chars (string_bytes out.old)) (chars (string_bytes out.new))) }
 {
-    push_quoted(out, "Verbatim", token.text(), "")
+    push_quoted(out, "Verbatim", text, "")
 }
 
 /// The word that a line begins with: the literal's kind, or `Verbatim` for what has none.
@@ -222,7 +226,7 @@ pub fn push_literal<A: Allocator + Copy>(
         Lit::Int(literal) => push_integer(out, literal),
         Lit::Float(literal) => push_float(out, literal),
         Lit::Bool(literal) => push_truth(out, literal),
-        Lit::Verbatim(token) => push_verbatim(out, token),
+        Lit::Verbatim(token) => push_verbatim(out, token.text()),
     }
 }
 

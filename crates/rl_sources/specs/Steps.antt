@@ -1,42 +1,23 @@
 -- Steps of a scan.
-use Rattle.std.specs.Prelude.{◌≡◌, ◌≢◌, ◌⊎◌, ℕ, ◌+◌, ◌<◌, Bool, List, [], ◌∷◌, ◌++◌, length, IsTrue, Option, IfSome}
+use Rattle.std.specs.Prelude.{◌≡◌, ◌≢◌, ℕ, ◌+◌, ◌<◌, Bool, List, [], ◌∷◌, ◌++◌, length, IsTrue, Option, IfSome}
 use Rattle.std.specs.Str.{chars}
 use Rattle.rl_tokens.specs.Texts.{byte_len}
 use Rattle.rl_tokens.specs.Cursors.{CursorState, IsCursorState}
 use Rattle.rl_tokens.specs.Sources.{CutSource, StrayKind, source_view}
 use Rattle.rl_tokens.specs.declared.sources.SourceToken.{SourceToken}
-use Rattle.rl_lines.specs.Lines.{label_of, IsLineOfLit}
-use Rattle.rust_literals.specs.Literals.{kind_of}
-use Rattle.rust_literals.specs.declared.lit.Lit.{Lit}
+use Rattle.rl_lines.specs.Lines.{IsLineOf}
 use Prim.Native.Char.{code}
 use Rattle.rl_sources.specs.declared.options.Options.{Options}
 use Rattle.rl_sources.specs.declared.place.Place.{Place}
 use Rattle.rl_sources.specs.declared.step.Step.{Step}
 use Rattle.rl_sources.specs.declared.step.Step.TheVariants.{More, End, Error}
-use Rattle.rl_sources.specs.Options.{Picks}
 use Rattle.rl_sources.specs.Places.{place_text, IsPlaceIn}
-use Rattle.rl_sources.specs.Scans.{IsReason, ShowsUpTo, IsErrorAt}
+use Rattle.rl_sources.specs.Scans.{ShowsUpTo, IsErrorAt}
 
--- a literal's line, after a place
-abbrev pub IsPlacedLit : {A : Type 0} → Place → Lit A → List ℕ → Type 0
-IsPlacedLit place literal shown =
-    (line : List ℕ) × IsLineOfLit literal line × (shown ≡ place_text place ++ (code " " ∷ line))
-
--- a literal's line after its place, and what follows it
-abbrev pub IsExplainedLit : {A : Type 0} → Options → List ℕ → Lit A → List ℕ → ℕ → ℕ → List ℕ
-    → Type 0
-IsExplainedLit options whole literal text lo hi shown =
-    (place : Place) × (line reason : List ℕ) × IsPlaceIn options.by_line whole lo hi place
-    × IsPlacedLit place literal line × IsReason options whole text lo reason
-    × (shown ≡ line ++ reason)
-
--- what is shown of a literal, whose token has this text: its line, and what follows it, where it is
--- picked, else nothing
-abbrev pub IsShownLit : {A : Type 0} → Options → List ℕ → Lit A → List ℕ → ℕ → ℕ → List ℕ → Type 0
-IsShownLit options whole literal text lo hi shown =
-    (Picks options.shown (label_of (kind_of literal))
-    × IsExplainedLit options whole literal text lo hi shown)
-    ⊎ ((Picks options.shown (label_of (kind_of literal)) → ⊥) × (shown ≡ []))
+-- the line of a text, after a place
+abbrev pub IsPlacedText : Place → List ℕ → List ℕ → Type 0
+IsPlacedText place text shown =
+    (line : List ℕ) × IsLineOf text line × (shown ≡ place_text place ++ (code " " ∷ line))
 
 -- where strays are rejected, no token is one
 abbrev pub IsAccepted : Bool → Option SourceToken → Type 0

@@ -1,81 +1,53 @@
 //! What is shown of the tokens of a source, one after another.
 
-ghost use Rattle.std.specs.Prelude.{◌≡◌, ◌+◌, ◌<◌, [], length, IfSome, IfOk, IfErr, OnOk, MatchOption, string_bytes};
+ghost use Rattle.std.specs.Prelude.{◌≡◌, ◌+◌, ◌<◌, [], length, Some, None, IfSome, IfNone, IfOk, IfErr, OnOk, MatchOption, string_bytes};
 ghost use Rattle.std.specs.Str.{chars};
-ghost use Rattle.rl_lines.specs.Lines.{Appends};
-ghost use Rattle.rust_literals.specs.Literals.{IsReadFrom};
+ghost use Rattle.rl_tokens.specs.Reading.{HasNoReading};
 ghost use Rattle.rl_tokens.specs.Sources.{source_view, TakesSource};
+ghost use Rattle.rl_grammar.specs.Founds.{IsFound};
+ghost use Rattle.rl_lines.specs.Lines.{Appends};
 ghost use Rattle.rl_sources.specs.Scans.{IsShownLiteral, IsShownToken, IsErrorAt};
-ghost use Rattle.rl_sources.specs.Steps.{IsPlacedLit, IsShownLit, IsAccepted, BeginsRest, StandsAt, IsStepOf};
+ghost use Rattle.rl_sources.specs.Steps.{IsPlacedText, IsAccepted, BeginsRest, StandsAt, IsStepOf};
 
 use crate::options::Options;
 use crate::place::{Place, Places, place_of};
 use crate::reason::push_reason;
-use rl_grammar::truth_of;
-use rl_lines::{label_of, push_literal};
-use rl_tokens::{Form, LexError, LexKind, Literal, SourceForm, SourceToken, Sources, Span};
-use rust_literals::Lit;
+use rl_grammar::{Found, Kind, find, truth_of};
+use rl_lines::{label_of, push_found};
+use rl_tokens::{Form, LexError, LexKind, SourceForm, SourceToken, Sources};
 use std::alloc::{AllocError, Allocator};
 
 /// How many bytes of lines are gathered before they are written.
 const FULL: usize = 65_536;
 
-/// The literal of a token's text.
-fn literal_of<A: Allocator + Copy>(alloc: A, token: SourceToken<'_>) -> Result<Lit<A>, AllocError>
-    ensures { IfOk result (IsReadFrom (record {
-      text = token.entry.text.now;
-      span = record { file = 0; lo = token.entry.lo; hi = token.entry.hi };
-    })) }
+/// The kind of what was found.
+fn kind_of(found: &Option<Found>) -> Option<Kind>
+    ensures { MatchOption found.now (result ≡ None) (λ f. result ≡ Some f.kind) }
 {
-    let Ok(token) = Literal::from_text(alloc, token.text, Span::new(0, token.lo, token.hi)) else {
-        return Err(AllocError);
-    };
-    match Lit::new(alloc, token) {
-        Ok(literal) => Ok(literal),
-        Err(_) => Err(AllocError),
+    match found {
+        Some(found) => Some(found.kind),
+        None => None,
     }
 }
 
-/// Appends a place, and the line of a literal.
+/// Appends a place, and the line of a text, of what reading it found.
 fn push_placed<A: Allocator + Copy>(
     alloc: A,
     out: &mut String<A>,
     place: Place,
-    literal: &Lit<A>,
+    text: &str,
+    found: Option<Found>,
 ) -> Result<(), AllocError>
-    ensures { OnOk result (Appends (IsPlacedLit place literal.now)
+    requires none { IfNone found (HasNoReading (chars text.now)) }
+    requires found { IfSome found (IsFound text.now) }
+    ensures { OnOk result (Appends (IsPlacedText place (chars text.now))
         (chars (string_bytes out.old)) (chars (string_bytes out.new))) }
 {
     write!(out, "{place} ")?;
-    push_literal(alloc, out, literal)
+    push_found(alloc, out, text, found)
 }
 
-/// Appends a literal's line after its place, and what follows it, where it is picked.
-fn push_picked<'t, A: Allocator + Copy>(
-    alloc: A,
-    out: &mut String<A>,
-    options: Options<'_>,
-    literal: &Lit<A>,
-    token: SourceToken<'t>,
-    rest: &'t str,
-    places: &mut Places<'t>,
-) -> Result<(), AllocError>
-    requires { BeginsRest token places.old rest.now }
-    ensures shown { OnOk result (Appends
-        (IsShownLit options.entry (chars places.old) literal.now (chars token.entry.text.now)
-        token.entry.lo token.entry.hi)
-        (chars (string_bytes out.old)) (chars (string_bytes out.new))) }
-    ensures same { places.new ≡ places.old }
-{
-    if !options.shown.picks(label_of(literal.kind())) {
-        return Ok(());
-    }
-    let place = place_of(options.by_line, places, rest, token.lo, token.hi);
-    push_placed(alloc, out, place, literal)?;
-    push_reason(out, options, token, rest, places)
-}
-
-/// Appends what is shown of a literal.
+/// Appends what is shown of a literal: its line after its place, and what follows it, where it is picked.
 fn push_literal_token<'t, A: Allocator + Copy>(
     alloc: A,
     out: &mut String<A>,
@@ -91,8 +63,13 @@ fn push_literal_token<'t, A: Allocator + Copy>(
         (chars (string_bytes out.old)) (chars (string_bytes out.new))) }
     ensures same { places.new ≡ places.old }
 {
-    let literal = literal_of(alloc, token)?;
-    push_picked(alloc, out, options, &literal, token, rest, places)
+    let found = find(token.text);
+    if !options.shown.picks(label_of(kind_of(&found))) {
+        return Ok(());
+    }
+    let place = place_of(options.by_line, places, rest, token.lo, token.hi);
+    push_placed(alloc, out, place, token.text, found)?;
+    push_reason(out, options, token, rest, places)
 }
 
 /// Appends what is shown of a token, at whose first byte the rest of the source begins.

@@ -1,4 +1,3 @@
-use Rattle.std.proofs.Common.{◌≡◌, ap}
 use Rattle.std.specs.Str.{chars}
 use Rattle.std.proofs.lemmas.Result.{on_ok_weaker}
 use Rattle.rl_lines.specs.Lines.{verbatim_line}
@@ -7,5 +6,4 @@ use Rattle.rl_lines.proofs.print.push_verbatim.Goals as goal
 
 pub returns : goal.returns
 returns g c =
-    let text : chars c.text.result.now ≡ chars c.args.token.now.text = ap chars c.text.ensures in
-    on_ok_weaker c.push_quoted.result (λ e. appends_is (verbatim_line (chars c.args.token.now.text)) _ _ (rw (text, no_chars, verbatim_chars) at e)) c.push_quoted.ensures
+    on_ok_weaker c.push_quoted.result (λ e. appends_is (verbatim_line (chars c.args.text.now)) _ _ (rw (no_chars, verbatim_chars) at e)) c.push_quoted.ensures

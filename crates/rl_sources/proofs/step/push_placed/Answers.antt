@@ -1,3 +1,4 @@
+use Rattle.std.specs.Str.{chars}
 use Rattle.std.proofs.lemmas.Result.{on_ok_weaker}
 use Rattle.std.proofs.lemmas.Str.{IsUtf8-string_bytes}
 use Rattle.rl_sources.proofs.StepLemmas.{placed}
@@ -5,4 +6,4 @@ use Rattle.rl_sources.proofs.step.push_placed.Goals as goal
 
 pub returns : goal.returns
 returns g c =
-    on_ok_weaker c.push_literal.result (placed c.args.place c.args.literal.now _ _ _ (IsUtf8-string_bytes c.args.out.now) c.in_ok-write.ensures.bytes) c.push_literal.ensures
+    on_ok_weaker c.push_found.result (placed c.args.place (chars c.args.text.now) _ _ _ (IsUtf8-string_bytes c.args.out.now) c.in_ok-write.ensures.bytes) c.push_found.ensures

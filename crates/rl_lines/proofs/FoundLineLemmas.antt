@@ -1,0 +1,50 @@
+-- What is shown of a text that was found to be a literal.
+use Rattle.std.proofs.Common.{◌≡◌, ℕ, List, [], ◌∷◌, ◌++◌, Result, IfOk, true, refl, sym, ap, subst, ◌∙◌, inl}
+use Rattle.std.proofs.lemmas.Result.{IfOk-weaker}
+use Rattle.std.specs.Str.{chars}
+use Rattle.rl_tokens.specs.declared.kind.Kind.{Kind}
+use Rattle.rl_tokens.specs.declared.kind.Kind.TheVariants.{Str, ByteStr, CStr, Byte, Char, Int, Float, Bool}
+use Rattle.rl_tokens.specs.Texts.{SpannedText}
+use Rattle.rl_tokens.specs.Quoted.{is_single}
+use Rattle.rl_tokens.specs.Reading.{Contents, Characters, ReadsAs, HasContents, HasSuffix, quoted_contents}
+use Rattle.rl_tokens.specs.Written.{written_text, IsWrittenForm}
+use Rattle.rl_grammar.specs.declared.found.Found.{Found}
+use Rattle.rl_grammar.specs.Founds.{IsFound}
+use Rattle.rl_grammar.specs.NumberShapes.{AreDigits}
+use Rattle.rl_grammar.proofs.FoundContents.{unit_of}
+use Rattle.rl_lines.specs.FoundLines.{IsShownOf}
+use Rattle.rl_lines.specs.Lines.{line, kind_label, payload, literal_line, IsLineOf, Appends}
+use Rattle.rl_lines.proofs.PrintLemmas.{prints_kind}
+
+-- the line of what is shown
+pub shows_line : (kind : Kind) (text old new shown suffix : List ℕ) → IsShownOf kind text shown → HasSuffix kind text suffix → new ≡ old ++ line (kind_label kind) shown suffix → Appends (IsLineOf text) old new
+shows_line kind text old new shown suffix (contents, has, is) s e =
+    let p = prints_kind kind text old new shown suffix contents has s is e in
+    (p.0, inl (kind, p.1.0, p.1.1, p.1.2, p.1.3), p.2)
+
+-- the same of a string, which is written as it is shown
+pub string_line : (kind : Kind) (text value suffix old new : List ℕ) → kind ≡ Str → HasContents Str text (Characters (chars value)) → HasSuffix kind text suffix → new ≡ old ++ literal_line Str (Characters (chars value)) suffix → Appends (IsLineOf text) old new
+string_line kind text value suffix old new is has s e =
+    shows_line Str text old new (written_text Str (chars value)) suffix (Characters (chars value), has, refl) (subst (λ (k : Kind). HasSuffix k text suffix) is s) e
+
+-- what is written of the contents is shown
+pub written_shown : {E : Type 0} (r : Result SpannedText E) (kind other : Kind) (text value : List ℕ) (contents : Contents) → kind ≡ other → payload other contents ≡ written_text other value → HasContents kind text contents → IfOk r (λ l. IsWrittenForm other value (chars l.text)) → IfOk r (λ l. IsShownOf kind text (chars l.text))
+written_shown r kind other text value contents is same has w =
+    IfOk-weaker r _ _ (λ l form. (contents, has, form.text_is ∙ sym same ∙ ap (λ (k : Kind). payload k contents) (sym is))) w
+
+-- the same of a character or a byte
+pub unit_shown : {E : Type 0} (r : Result SpannedText E) (kind : Kind) (text : List ℕ) (found : Found) → found.kind ≡ kind → is_single kind ≡ true → payload kind (quoted_contents kind (found.unit ∷ [])) ≡ written_text kind (found.unit ∷ []) → IsFound text found → IfOk r (λ l. IsWrittenForm kind (found.unit ∷ []) (chars l.text)) → IfOk r (λ l. IsShownOf found.kind (chars text) (chars l.text))
+unit_shown r kind text found is single same f w =
+    let contents = quoted_contents kind (found.unit ∷ []) in
+    written_shown r found.kind kind (chars text) (found.unit ∷ []) contents is same (subst (λ (k : Kind). HasContents k (chars text) contents) (sym is) (unit_of kind text found is single f).reads) w
+
+-- a number is shown by its digits
+pub number_shown : (kind : Kind) (text digits : List ℕ) → ReadsAs kind text → AreDigits kind text digits → IsShownOf kind text digits
+number_shown Int text digits (v, x, r) are = (v, (x, r), sym (ap (payload Int) (are v x r)))
+number_shown Float text digits (v, x, r) are = (v, (x, r), are r.numeral x r.reads ∙ sym (ap (payload Float) r.contents_is))
+number_shown Str text digits reads are = absurd are
+number_shown ByteStr text digits reads are = absurd are
+number_shown CStr text digits reads are = absurd are
+number_shown Byte text digits reads are = absurd are
+number_shown Char text digits reads are = absurd are
+number_shown Bool text digits reads are = absurd are

@@ -1,0 +1,189 @@
+//! The line of a text, of what reading it found: no literal is made of the text, and it isn't copied.
+
+ghost use Rattle.std.specs.Prelude.{◌≡◌, ◌⊎◌, IsTrue, OnOk, IfOk, IfNone, IfSome, string_bytes};
+ghost use Rattle.std.specs.Str.{chars};
+ghost use Rattle.rl_tokens.specs.declared.kind.Kind.TheVariants.{Str, ByteStr, CStr, Int, Float};
+ghost use Rattle.rl_tokens.specs.Quoted.{is_string};
+ghost use Rattle.rl_tokens.specs.Reading.{HasNoReading, HasSuffix};
+ghost use Rattle.rl_grammar.specs.Bodies.{HasBody};
+ghost use Rattle.rl_grammar.specs.Founds.{IsFound};
+ghost use Rattle.rl_lines.specs.FoundLines.{IsShownOf};
+ghost use Rattle.rl_lines.specs.Lines.{Appends, IsLineOf};
+
+use crate::print::{push_kind, push_text, push_verbatim, truth_word};
+use rl_grammar::{Found, bytes_of_body, digits_of_found, str_of_body};
+use rl_tokens::{CString, Error, Kind, Literal};
+use std::alloc::{AllocError, Allocator};
+
+/// What stands between the quotes of the string that was found in the text.
+fn body_in<'t>(text: &'t str, found: &Found) -> &'t str
+    requires string { IsTrue (is_string found.now.kind) }
+    requires found { IsFound text.now found.now }
+    ensures { HasBody found.now.kind (chars text.now) result.now found.now.body.plain }
+{
+    &text[found.body.lo..found.body.hi]
+}
+
+/// What stands after the literal proper that was found in the text.
+fn suffix_in<'t>(text: &'t str, found: &Found) -> &'t str
+    requires { IsFound text.now found.now }
+    ensures { HasSuffix found.now.kind (chars text.now) (chars result.now) }
+{
+    &text[found.body.suffix_at..]
+}
+
+/// Writes the line of the literal that was found in the text, which is shown so.
+fn push_shown<A: Allocator>(
+    out: &mut String<A>,
+    text: &str,
+    found: &Found,
+    shown: &str,
+) -> Result<(), AllocError>
+    requires found { IsFound text.now found.now }
+    requires shown { IsShownOf found.now.kind (chars text.now) (chars shown.now) }
+    ensures { OnOk result (Appends (IsLineOf (chars text.now))
+        (chars (string_bytes out.old)) (chars (string_bytes out.new))) }
+{
+    push_kind(out, found.kind, shown, suffix_in(text, found))
+}
+
+/// Writes the line of the literal that was found in the text, which is shown as this token, if there was memory for it.
+fn push_written<A: Allocator>(
+    out: &mut String<A>,
+    text: &str,
+    found: &Found,
+    written: Result<Literal<A>, Error<A>>,
+) -> Result<(), AllocError>
+    requires found { IsFound text.now found.now }
+    requires shown { IfOk written (λ l. IsShownOf found.now.kind (chars text.now) (chars l.text)) }
+    ensures { OnOk result (Appends (IsLineOf (chars text.now))
+        (chars (string_bytes out.old)) (chars (string_bytes out.new))) }
+{
+    match written {
+        Ok(shown) => push_shown(out, text, found, shown.text()),
+        Err(_) => Err(AllocError),
+    }
+}
+
+/// Writes the line of the string that was found in the text. Its value is copied only where it isn't what stands between
+/// the quotes.
+fn push_string<A: Allocator>(
+    alloc: A,
+    out: &mut String<A>,
+    text: &str,
+    found: &Found,
+) -> Result<(), AllocError>
+    requires found { IsFound text.now found.now }
+    requires kind { found.now.kind ≡ Str }
+    ensures { OnOk result (Appends (IsLineOf (chars text.now))
+        (chars (string_bytes out.old)) (chars (string_bytes out.new))) }
+{
+    let body = body_in(text, found);
+    let suffix = suffix_in(text, found);
+    if found.body.plain {
+        return push_text(out, body, suffix);
+    }
+    match str_of_body(alloc, body, found.body.plain) {
+        Ok(value) => push_text(out, value.as_str(), suffix),
+        Err(_) => Err(AllocError),
+    }
+}
+
+/// The byte string that was found in the text, as it is written. Its value is copied only where it isn't what stands
+/// between the quotes.
+fn written_byte_string<A: Allocator + Copy>(
+    alloc: A,
+    text: &str,
+    found: &Found,
+) -> Result<Literal<A>, Error<A>>
+    requires found { IsFound text.now found.now }
+    requires kind { found.now.kind ≡ ByteStr }
+    ensures { IfOk result (λ l. IsShownOf found.now.kind (chars text.now) (chars l.text)) }
+{
+    let body = body_in(text, found);
+    if found.body.plain {
+        return Literal::byte_string(alloc, body.as_bytes());
+    }
+    let value = bytes_of_body(alloc, found.kind, body, found.body.plain)?;
+    Literal::byte_string(alloc, value.as_slice())
+}
+
+/// The C string that was found in the text, as it is written.
+fn written_c_string<A: Allocator + Copy>(
+    alloc: A,
+    text: &str,
+    found: &Found,
+) -> Result<Literal<A>, Error<A>>
+    requires found { IsFound text.now found.now }
+    requires kind { found.now.kind ≡ CStr }
+    ensures { IfOk result (λ l. IsShownOf found.now.kind (chars text.now) (chars l.text)) }
+{
+    let value = bytes_of_body(alloc, found.kind, body_in(text, found), found.body.plain)?;
+    Literal::c_string(alloc, &CString::new(value).unwrap())
+}
+
+/// Writes the line of the number that was found in the text. Its digits are copied only where they aren't all that stands
+/// before the suffix.
+fn push_number<A: Allocator>(
+    alloc: A,
+    out: &mut String<A>,
+    text: &str,
+    found: &Found,
+) -> Result<(), AllocError>
+    requires found { IsFound text.now found.now }
+    requires kind { (found.now.kind ≡ Int) ⊎ (found.now.kind ≡ Float) }
+    ensures { OnOk result (Appends (IsLineOf (chars text.now))
+        (chars (string_bytes out.old)) (chars (string_bytes out.new))) }
+{
+    if found.body.plain {
+        return push_shown(out, text, found, &text[found.body.lo..found.body.hi]);
+    }
+    match digits_of_found(alloc, text, *found) {
+        Ok(digits) => push_shown(out, text, found, digits.as_str()),
+        Err(_) => Err(AllocError),
+    }
+}
+
+/// Appends the line of a text, of what `find` of `rl_grammar` returned for it: that of the literal that the text is, or
+/// of a text that is none. It is the line that [`push_literal`](crate::push_literal) appends of the literal, with no copy
+/// of the text.
+///
+/// # Errors
+///
+/// An allocation failure, as std reports it. A part of the line may have been appended then.
+pub fn push_found<A: Allocator + Copy>(
+    alloc: A,
+    out: &mut String<A>,
+    text: &str,
+    found: Option<Found>,
+) -> Result<(), AllocError>
+    requires none { IfNone found (HasNoReading (chars text.now)) }
+    requires found { IfSome found (IsFound text.now) }
+    ensures { OnOk result (Appends (IsLineOf (chars text.now))
+        (chars (string_bytes out.old)) (chars (string_bytes out.new))) }
+{
+    let Some(found) = found else {
+        return push_verbatim(out, text);
+    };
+    match found.kind {
+        Kind::Str => push_string(alloc, out, text, &found),
+        Kind::ByteStr => {
+            let written = written_byte_string(alloc, text, &found);
+            push_written(out, text, &found, written)
+        }
+        Kind::CStr => {
+            let written = written_c_string(alloc, text, &found);
+            push_written(out, text, &found, written)
+        }
+        Kind::Byte => {
+            let written = Literal::byte_character(alloc, found.unit as u8);
+            push_written(out, text, &found, written)
+        }
+        Kind::Char => {
+            let written = Literal::character(alloc, char::from_u32(found.unit).unwrap());
+            push_written(out, text, &found, written)
+        }
+        Kind::Int | Kind::Float => push_number(alloc, out, text, &found),
+        Kind::Bool => push_shown(out, text, &found, truth_word(found.truth)),
+    }
+}
