@@ -43,4 +43,3 @@ line_of_text token (BoolLit l) t shown r k p =
 line_of_text token (Verbatim l) t shown r k p =
     let same : chars l.text ≡ chars t = same_text l token t r.0 k in
     inr (rw (ap chars (sym k)) r.1, p ∙ ap verbatim_line same)
-
