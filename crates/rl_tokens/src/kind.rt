@@ -1,7 +1,7 @@
 //! The kinds of literals, and what they are called.
 
 ghost use Rattle.std.specs.Prelude.{◌≡◌};
-ghost use Rattle.rl_tokens.specs.Quoted.{holds_characters, is_string};
+ghost use Rattle.rl_tokens.specs.Quoted.{holds_characters, is_string, opener};
 ghost use Rattle.rl_tokens.specs.Words.{kind_name, kind_shown, kind_word};
 
 /// What a literal is: its kind, without its text. An error names it by [`word`](Kind::word).
@@ -54,6 +54,24 @@ impl Kind {
         ensures { result ≡ holds_characters self }
     {
         matches!(self, Kind::Str | Kind::Char)
+    }
+
+    /// What stands before the characters of a quoted literal of the kind, where it isn't raw: the prefix and the quote,
+    /// as `b"`; empty for numbers and truth values.
+    ///
+    /// It is the one table of openers: by it literals are written, and read.
+    #[inline(always)]
+    pub fn opener(self) -> &'static str
+        ensures { result.now ≡ opener self }
+    {
+        match self {
+            Kind::Str => "\"",
+            Kind::ByteStr => "b\"",
+            Kind::CStr => "c\"",
+            Kind::Byte => "b'",
+            Kind::Char => "'",
+            Kind::Int | Kind::Float | Kind::Bool => "",
+        }
     }
 
     /// What errors call a literal of the kind, as `string literal`.

@@ -2,7 +2,7 @@
 
 ghost use Rattle.std.specs.Prelude.{◌≡◌, ◌⊎◌, ◌<◌, ◌/◌, ◌%◌, ◌++◌, ◌∷◌, [], length, take, is_ok, IsTrue, if◌then◌else◌, OnOk, OnErr, IfOk, IfErr, IfSome, IfNone, MatchResult, string_bytes, encode_utf8_all};
 ghost use Rattle.std.specs.Str.{chars};
-ghost use Rattle.rl_tokens.specs.Quoted.{Hex, Plain, holds_characters, opener, unit_text};
+ghost use Rattle.rl_tokens.specs.Quoted.{Hex, Plain, holds_characters, unit_text};
 ghost use Rattle.rl_tokens.specs.Written.{closer, own_quote, upper_digit, is_written_as_number, written_text, written_unit, IsWrittenForm};
 ghost use Rattle.rl_tokens.specs.Agreeing.{AreBytesOf, IsQuotedValue};
 ghost use Rattle.rl_tokens.specs.Errors.{memory_at, nowhere};
@@ -22,20 +22,6 @@ pub(crate) fn closer(kind: Kind) -> char
     match kind {
         Kind::Byte | Kind::Char => '\'',
         _ => '"',
-    }
-}
-
-/// What stands before the characters of a literal of the kind.
-pub(crate) fn opener(kind: Kind) -> &'static str
-    ensures { result.now ≡ opener kind }
-{
-    match kind {
-        Kind::Str => "\"",
-        Kind::ByteStr => "b\"",
-        Kind::CStr => "c\"",
-        Kind::Byte => "b'",
-        Kind::Char => "'",
-        _ => "",
     }
 }
 
@@ -132,7 +118,7 @@ fn push_characters<A: Allocator>(
     ensures front { OnErr result (take (length (string_bytes out.old)) (string_bytes out.new)
         ≡ string_bytes out.old) }
 {
-    out.push_str(opener(kind))?;
+    out.push_str(kind.opener())?;
     for c in value.chars() {
         push_written(out, kind, c)?;
     }
@@ -183,7 +169,7 @@ fn text_of_bytes<A: Allocator>(alloc: A, kind: Kind, value: &[u8]) -> Result<Str
     requires { AreBytesOf kind value.now }
     ensures { IfOk result (λ s. IsWrittenForm kind value.now (chars (string_bytes s))) }
 {
-    let mut text = String::from_str(alloc, opener(kind))?;
+    let mut text = String::from_str(alloc, kind.opener())?;
     for byte in value {
         push_written(&mut text, kind, char::from(*byte))?;
     }

@@ -9,7 +9,7 @@ ghost use Rattle.rl_tokens.specs.Agreeing.{AreBytesOf};
 use crate::kind::Kind;
 use crate::room::{put_char, put_text};
 use crate::text::split_char;
-use crate::writer::{closer, escaped, is_written_as_number, opener, upper_digit};
+use crate::writer::{closer, escaped, is_written_as_number, upper_digit};
 
 /// Puts `\x` and two digits there.
 fn put_number(out: &mut [u8], at: usize, code: u32) -> usize
@@ -52,7 +52,7 @@ pub fn write_str_into(value: &str, out: &mut [u8]) -> usize
     ensures utf8 { IsUtf8 (take result out.new) }
     ensures within { result ≤ 4 * length value.now + 3 }
 {
-    let mut at = put_text(out, 0, opener(Kind::Str));
+    let mut at = put_text(out, 0, Kind::Str.opener());
     let mut rest = value;
     while let Some((c, after)) = split_char(rest) {
         at = put_written(out, at, Kind::Str, c);
@@ -70,7 +70,7 @@ pub fn write_bytes_into(kind: Kind, value: &[u8], out: &mut [u8]) -> usize
     ensures utf8 { IsUtf8 (take result out.new) }
     ensures within { result ≤ 4 * length value.now + 3 }
 {
-    let mut at = put_text(out, 0, opener(kind));
+    let mut at = put_text(out, 0, kind.opener());
     for byte in value {
         at = put_written(out, at, kind, char::from(*byte));
     }
@@ -85,7 +85,7 @@ pub fn write_char_into(value: char, out: &mut [u8]) -> usize
     ensures utf8 { IsUtf8 (take result out.new) }
     ensures within { result ≤ 7 }
 {
-    let at = put_text(out, 0, opener(Kind::Char));
+    let at = put_text(out, 0, Kind::Char.opener());
     let at = put_written(out, at, Kind::Char, value);
     put_char(out, at, closer(Kind::Char))
 }
