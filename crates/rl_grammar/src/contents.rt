@@ -11,8 +11,7 @@ ghost use Rattle.rl_grammar.specs.Decoded.{ContentsAre, HoldsBytes, piece_bytes}
 ghost use Rattle.rl_grammar.specs.Mirrors.Decodes.{Decodes};
 
 use crate::found::found_in;
-use crate::runs::split_plain;
-use crate::units::{Piece, piece_unit, unit};
+use crate::units::{Piece, piece_unit, split_plain, unit};
 use rl_tokens::room::{put, put_byte, put_char};
 use rl_tokens::{Error, Kind};
 use std::alloc::{AllocError, Allocator};

@@ -130,13 +130,13 @@ fn all_digits(text: &str) -> bool
     are_digits(text.as_bytes())
 }
 
-/// Whether the text is digits in base ten, with no needless zero in front.
+/// Whether the text is digits in base ten, with no needless zero in front; such a zero is looked for first.
 #[tactic(auto, using(crate::proofs::CutLemmas::some_text))]
 fn is_plain_digits(text: &str) -> bool
     ensures { result ≡ is_plain_digits (chars text.now) }
 {
     match split_char(text) {
-        Some((first, rest)) => all_digits(text) && (first != '0' || rest.is_empty()),
+        Some((first, rest)) => (first != '0' || rest.is_empty()) && all_digits(text),
         None => false,
     }
 }

@@ -20,7 +20,7 @@ use crate::number_forms::{Number, float_suffix, read_integer, read_number};
 use crate::quoted_forms::{
     QuotedForm, begins_character, find_bare_character, find_character, find_form, split_opener,
 };
-use crate::runs::before;
+use crate::units::before;
 use rl_tokens::Kind;
 
 /// Where the parts of a literal stand in its text, in bytes, and whether the body is what it stands for, byte for byte.

@@ -8,9 +8,10 @@ mod flaws;
 mod found;
 mod front;
 pub mod laws;
+mod number_flaws;
 mod number_forms;
+mod quoted_flaws;
 mod quoted_forms;
-mod runs;
 pub mod strict;
 mod units;
 

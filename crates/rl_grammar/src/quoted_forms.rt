@@ -16,8 +16,7 @@ ghost use Rattle.rl_tokens.specs.Reading.{HasNoTruth};
 ghost use Rattle.rl_tokens.specs.Classes.{after_run, is_hash};
 
 use crate::found::{Body, Found};
-use crate::runs::{before, is_ascii, split_plain};
-use crate::units::{piece_unit, unit};
+use crate::units::{before, is_ascii, piece_unit, split_plain, unit};
 use rl_tokens::Kind;
 use rl_tokens::classes::{CharClass, skip_class};
 use rl_tokens::text::split_ascii;

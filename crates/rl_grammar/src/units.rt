@@ -1,16 +1,29 @@
 //! The units that stand between the quotes of a literal: characters and escapes.
 
-ghost use Rattle.std.specs.Prelude.{◌≡◌, ◌==◌, ◌<◌, ◌≤◌, ◌∷◌, [], ℕ, length, option_map, IfSome, IsTrue, IsFalse};
+ghost use Rattle.std.specs.Prelude.{◌≡◌, ◌==◌, ◌<◌, ◌≤◌, ◌∷◌, [], ℕ, length, option_map, IfSome, IsTrue, IsFalse, ◌+◌, ◌++◌, drop, map, ◌≢◌, List, not, IfNone};
 ghost use Rattle.std.specs.Str.{chars};
-ghost use Rattle.rl_tokens.specs.Texts.{first_passes};
-ghost use Rattle.rl_tokens.specs.Quoted.{holds_characters, is_plain, is_single, allows_code, may_be_hex, has_unicode};
+ghost use Rattle.rl_tokens.specs.Texts.{first_passes, IsTail};
+ghost use Rattle.rl_tokens.specs.Quoted.{holds_characters, is_plain, is_single, allows_code, may_be_hex, has_unicode, is_string};
 ghost use Rattle.rl_tokens.specs.Strict.{is_bare_character};
 ghost use Rattle.rl_grammar.specs.Bodies.{IsUnitValue};
 ghost use Rattle.rl_grammar.specs.Mirrors.UnitAt.{piece_value, IsPieceOf, named_in, digit_at, hex_at, unicode_digits_at, unicode_at, after_blanks, escape_at, unit_at};
+ghost use Rattle.std.specs.Char.{is_ascii};
+ghost use Rattle.std.specs.List.{list_all, prefix_len};
+ghost use Rattle.rl_tokens.specs.Scanning.{is_ascii_other};
+ghost use Rattle.rl_grammar.specs.Mirrors.Classes.{is_in_run};
 
 use rl_tokens::Kind;
 use rl_tokens::classes::{CharClass, skip_class};
+use rl_tokens::scan::{Marks, ascii_len_before, len_before};
 use rl_tokens::text::{split_ascii, split_char};
+
+/// No mark: a byte that is none of ASCII.
+const NO_MARK: Marks = Marks {
+    first: 255,
+    second: 255,
+    third: 255,
+    fourth: 255,
+};
 
 /// What a unit stands for. A character counts as its UTF-8 bytes where the kind holds bytes.
 #[derive(Clone, Copy)]
@@ -248,4 +261,99 @@ pub(crate) fn unit(kind: Kind, text: &str) -> Option<(Piece, &str)>
         Some((b'\\', rest)) => escape(kind, rest),
         _ => character(kind, text),
     }
+}
+
+/// The characters of ASCII in front of the first mark and of all that is past ASCII, and the text from there on.
+#[inline(always)]
+pub(crate) fn split_ascii_run(marks: Marks, text: &str) -> (&str, &str)
+    ensures cut { chars text.now ≡ chars result.0.now ++ chars result.1.now }
+    ensures run { IsTrue (list_all (is_ascii_other marks) (chars result.0.now)) }
+    ensures stops { IsFalse (first_passes (is_ascii_other marks) (chars result.1.now)) }
+    ensures shorter { length result.1.now ≤ length text.now }
+{
+    text.split_at(ascii_len_before(marks, text.as_bytes()))
+}
+
+/// Whether the text is ASCII alone.
+pub(crate) fn is_ascii(text: &str) -> bool
+    ensures { result ≡ list_all is_ascii (chars text.now) }
+{
+    ascii_len_before(NO_MARK, text.as_bytes()) == text.len()
+}
+
+/// The characters of ASCII that a string of the kind doesn't take as they are.
+#[inline(always)]
+fn ends_of_runs(kind: Kind) -> Marks
+    requires { IsTrue (is_string kind) }
+    ensures { (c : ℕ) → is_in_run kind result c ≡ is_plain kind c }
+{
+    let fourth = match kind {
+        Kind::CStr => 0,
+        _ => b'"',
+    };
+    Marks {
+        first: b'"',
+        second: b'\\',
+        third: b'\r',
+        fourth,
+    }
+}
+
+/// How many bytes at the front are plain, of a string of characters or a C string. Each has a loop
+/// of its own, which knows its marks.
+#[inline(never)]
+fn run_len(kind: Kind, bytes: &[u8]) -> usize
+    requires string { IsTrue (is_string kind) }
+    requires other { kind ≢ Kind.ByteStr }
+    ensures { result ≡ prefix_len (is_plain kind) bytes.now }
+{
+    match kind {
+        Kind::CStr => len_before(ends_of_runs(Kind::CStr), bytes),
+        _ => len_before(ends_of_runs(Kind::Str), bytes),
+    }
+}
+
+/// How many bytes at the front are plain, of a byte string: these are of ASCII.
+#[inline(never)]
+fn byte_run_len(bytes: &[u8]) -> usize
+    ensures { result ≡ prefix_len (is_plain Kind.ByteStr) bytes.now }
+{
+    ascii_len_before(ends_of_runs(Kind::ByteStr), bytes)
+}
+
+/// How many bytes at the front are plain, told at once before an escape: these often stand side by side.
+#[inline(always)]
+fn plain_len(kind: Kind, bytes: &[u8]) -> usize
+    requires { IsTrue (is_string kind) }
+    ensures { result ≡ prefix_len (is_plain kind) bytes.now }
+{
+    if !bytes.is_empty() && bytes[0] == b'\\' {
+        return 0;
+    }
+    match kind {
+        Kind::ByteStr => byte_run_len(bytes),
+        _ => run_len(kind, bytes),
+    }
+}
+
+/// The characters at the front that the kind takes as they are, and the text after them.
+#[inline(always)]
+pub(crate) fn split_plain(kind: Kind, text: &str) -> (&str, &str)
+    requires { IsTrue (is_string kind) }
+    ensures cut { chars text.now ≡ chars result.0.now ++ chars result.1.now }
+    ensures plain { IsTrue (list_all (is_plain kind) (chars result.0.now)) }
+    ensures stops { IsFalse (first_passes (is_plain kind) (chars result.1.now)) }
+    ensures shorter { length result.1.now ≤ length text.now }
+{
+    text.split_at(plain_len(kind, text.as_bytes()))
+}
+
+/// The text in front of a rest of it.
+#[tactic(auto, using(rl_tokens::proofs::BehindLemmas::cut_boundary, rl_tokens::proofs::BehindLemmas::cut_chars))]
+pub(crate) fn before<'t>(text: &'t str, rest: &str) -> &'t str
+    requires { IsTail text.now rest.now }
+    ensures cut { text.now ≡ result.now ++ rest.now }
+    ensures chars { chars text.now ≡ chars result.now ++ chars rest.now }
+{
+    &text[..text.len() - rest.len()]
 }

@@ -1,0 +1,197 @@
+//! Why a text that begins as a number is none, and where.
+
+ghost use Rattle.std.specs.Prelude.{◌≡◌, ◌≤◌, IsTrue};
+ghost use Rattle.std.specs.Str.{chars};
+ghost use Rattle.unicode_ident.specs.Ident.{is_xid_continue, is_xid_start};
+ghost use Rattle.rl_tokens.specs.Texts.{first_passes};
+ghost use Rattle.rl_tokens.specs.Reading.{HasNoReading};
+ghost use Rattle.rl_grammar.specs.Flaws.{StopsBefore};
+ghost use Rattle.rl_grammar.specs.NumberFlaws.{HasKind, IsNumberFlaw};
+ghost use Rattle.rl_grammar.specs.WholeShapes.{is_number_front};
+ghost use Rattle.rl_grammar.specs.Mirrors.NumberFlawAt.{after_word, based_flaw_at, end_flaw_at, ends_or_passes, exponent_flaw_at, power_flaw_at, signed_flaw_at, suffix_flaw_at, tail_flaw_at, unsigned_flaw_at, unsigned_number_flaw_at, suffix_word_flaw_at};
+ghost use Rattle.rl_grammar.specs.Mirrors.UnitFlawAt.{found_flaw};
+
+use crate::digit_rows::{after_minus, begins_digit, read_row, skip_row};
+use crate::flaws::{FlawAt, FlawKind, end_flaw, make_flaw};
+use crate::number_forms::split_radix;
+use rl_tokens::characters::is_xid_continue;
+use rl_tokens::classes::{CharClass, skip_class};
+use rl_tokens::text::split_char;
+
+/// The text from the first character on that no identifier goes on with.
+fn skip_word(text: &str) -> &str
+    ensures { chars result.now ≡ after_word (chars text.now) }
+{
+    let mut rest = text;
+    while let Some((next, after)) = split_char(rest) {
+        if !is_xid_continue(next) {
+            break;
+        }
+        rest = after;
+    }
+    rest
+}
+
+/// Whether a suffix may begin as the text does.
+fn begins_suffix(text: &str) -> bool
+    ensures { result ≡ first_passes is_xid_start (chars text.now) }
+{
+    match split_char(text) {
+        Some((first, _)) => unicode_ident::is_xid_start(first),
+        None => false,
+    }
+}
+
+/// Whether the text is empty or goes on with an identifier.
+fn ends_or_continues(text: &str) -> bool
+    ensures { result ≡ ends_or_passes is_xid_continue (chars text.now) }
+{
+    match split_char(text) {
+        Some((first, _)) => is_xid_continue(first),
+        None => true,
+    }
+}
+
+/// Whether the text is empty or begins as a suffix may.
+fn ends_or_begins_suffix(text: &str) -> bool
+    ensures { result ≡ ends_or_passes is_xid_start (chars text.now) }
+{
+    match split_char(text) {
+        Some((first, _)) => unicode_ident::is_xid_start(first),
+        None => true,
+    }
+}
+
+/// Of what follows the digits of a number, where a suffix may stand.
+#[tactic(auto, unfolding(crate::specs::Mirrors::NumberFlawAt::suffix_flaw_at))]
+fn suffix_flaw(past: bool, text: &str) -> FlawAt<'_>
+    ensures { found_flaw result.kind (chars result.rest.now) ≡ suffix_flaw_at past (chars text.now) }
+{
+    if past && ends_or_begins_suffix(text) {
+        make_flaw(FlawKind::TooLarge, text)
+    } else if begins_suffix(text) {
+        make_flaw(FlawKind::BadSuffix, skip_word(text))
+    } else {
+        make_flaw(FlawKind::BadSuffix, text)
+    }
+}
+
+/// Of what follows the first characters of a suffix.
+#[tactic(auto, unfolding(crate::specs::Mirrors::NumberFlawAt::suffix_word_flaw_at))]
+fn suffix_word_flaw(past: bool, text: &str) -> FlawAt<'_>
+    ensures { found_flaw result.kind (chars result.rest.now) ≡ suffix_word_flaw_at past (chars text.now) }
+{
+    if past && ends_or_continues(text) {
+        make_flaw(FlawKind::TooLarge, text)
+    } else {
+        make_flaw(FlawKind::BadSuffix, skip_word(text))
+    }
+}
+
+/// Of what follows the sign of an exponent.
+#[tactic(auto, unfolding(crate::specs::Mirrors::NumberFlawAt::signed_flaw_at))]
+fn signed_flaw(text: &str) -> FlawAt<'_>
+    ensures { found_flaw result.kind (chars result.rest.now) ≡ signed_flaw_at (chars text.now) }
+{
+    let row = skip_row(text);
+    if row.has_digit {
+        suffix_flaw(false, row.rest)
+    } else {
+        end_flaw(FlawKind::Unfinished, FlawKind::NoExponentDigit, row.rest)
+    }
+}
+
+/// Of what follows the digits of an exponent without a sign; `integer` where no fraction stands before it.
+#[tactic(auto, unfolding(crate::specs::Mirrors::NumberFlawAt::unsigned_flaw_at))]
+fn unsigned_flaw(integer: bool, past: bool, text: &str) -> FlawAt<'_>
+    ensures { found_flaw result.kind (chars result.rest.now)
+        ≡ unsigned_flaw_at integer past (chars text.now) }
+{
+    if integer && !begins_suffix(text) {
+        suffix_word_flaw(past, text)
+    } else {
+        suffix_flaw(false, text)
+    }
+}
+
+/// Of what follows the letter of an exponent and its underscores.
+#[tactic(auto, unfolding(crate::specs::Mirrors::NumberFlawAt::power_flaw_at))]
+fn power_flaw(integer: bool, past: bool, text: &str) -> FlawAt<'_>
+    ensures { found_flaw result.kind (chars result.rest.now)
+        ≡ power_flaw_at integer past (chars text.now) }
+{
+    match split_char(text) {
+        Some(('+' | '-', digits)) => signed_flaw(digits),
+        Some(('0'..='9', _)) => unsigned_flaw(integer, past, skip_row(text).rest),
+        _ => suffix_word_flaw(past, text),
+    }
+}
+
+/// Of what follows the whole part, where no fraction begins, or the fraction.
+#[tactic(auto, unfolding(crate::specs::Mirrors::NumberFlawAt::exponent_flaw_at))]
+fn exponent_flaw(integer: bool, past: bool, text: &str) -> FlawAt<'_>
+    ensures { found_flaw result.kind (chars result.rest.now)
+        ≡ exponent_flaw_at integer past (chars text.now) }
+{
+    match split_char(text) {
+        Some(('e' | 'E', power)) => {
+            power_flaw(integer, past, skip_class(CharClass::Underscore, power))
+        }
+        _ => suffix_flaw(past, text),
+    }
+}
+
+/// Of what follows the whole part in base ten.
+#[tactic(auto, unfolding(crate::specs::Mirrors::NumberFlawAt::tail_flaw_at))]
+fn tail_flaw(past: bool, text: &str) -> FlawAt<'_>
+    ensures { found_flaw result.kind (chars result.rest.now) ≡ tail_flaw_at past (chars text.now) }
+{
+    match split_char(text) {
+        Some(('.', digits)) => exponent_flaw(false, false, skip_row(digits).rest),
+        _ => exponent_flaw(true, past, text),
+    }
+}
+
+/// Of what follows the prefix of another base.
+#[tactic(auto, unfolding(crate::specs::Mirrors::NumberFlawAt::based_flaw_at))]
+fn based_flaw(radix: u32, text: &str) -> FlawAt<'_>
+    requires { (2 ≤ radix) × (radix ≤ 36) }
+    ensures { found_flaw result.kind (chars result.rest.now) ≡ based_flaw_at radix (chars text.now) }
+{
+    let row = read_row(text, radix);
+    if row.magnitude.is_none() && ends_or_begins_suffix(row.rest) {
+        make_flaw(FlawKind::TooLarge, row.rest)
+    } else {
+        make_flaw(FlawKind::BadSuffix, skip_word(text))
+    }
+}
+
+/// Of what follows a minus and begins with a digit.
+#[tactic(auto, unfolding(crate::specs::Mirrors::NumberFlawAt::unsigned_number_flaw_at))]
+fn unsigned_number_flaw(text: &str) -> FlawAt<'_>
+    ensures { found_flaw result.kind (chars result.rest.now)
+        ≡ unsigned_number_flaw_at (chars text.now) }
+{
+    let (radix, digits) = split_radix(text);
+    if radix == 10 {
+        let row = read_row(digits, 10);
+        tail_flaw(row.magnitude.is_none(), row.rest)
+    } else {
+        based_flaw(radix, digits)
+    }
+}
+
+/// Why a text that begins as a number is none, and the text from the place on.
+pub(crate) fn number_flaw(text: &str) -> FlawAt<'_>
+    requires number { IsTrue (first_passes is_number_front (chars text.now)) }
+    requires none { HasNoReading (chars text.now) }
+    ensures stops { StopsBefore (chars text.now) (chars result.rest.now) }
+    ensures kind { HasKind (IsNumberFlaw result.kind) (chars text.now) (chars result.rest.now) }
+{
+    let unsigned = after_minus(text);
+    if begins_digit(unsigned) {
+        unsigned_number_flaw(unsigned)
+    } else {
+        end_flaw(FlawKind::Unfinished, FlawKind::NoNumber, unsigned)
+    }
+}
