@@ -1,16 +1,19 @@
-//! What quoted literals stand for: in memory that is taken, or written into a slice that the caller passes.
+//! What quoted literals stand for: in memory that is taken, or written into a slice that the caller passes; and whether a
+//! literal's body is that, byte for byte.
 
-ghost use Rattle.std.specs.Prelude.{◌≡◌, ◌⊎◌, ◌≤◌, ◌+◌, ◌++◌, [], ◌∷◌, ℕ, List, false, take, length, IsTrue, IfOk, IfErr, string_bytes};
+ghost use Rattle.std.specs.Prelude.{◌≡◌, ◌≢◌, ◌↔◌, ◌⊎◌, ◌≤◌, ◌+◌, ◌++◌, [], ◌∷◌, ℕ, List, false, take, length, IsTrue, IfOk, IfErr, string_bytes};
 ghost use Rattle.std.specs.Str.{chars, IsUtf8};
 ghost use Rattle.rl_tokens.specs.Errors.{memory_at, nowhere};
 ghost use Rattle.rl_tokens.specs.Quoted.{is_string};
 ghost use Rattle.rl_tokens.specs.Reading.{Characters, Bytes, ReadsAs, HasContents};
 ghost use Rattle.rl_grammar.specs.Bodies.{HasBody, HasSingleBody};
 ghost use Rattle.rl_grammar.specs.Founds.{IsUnitOf};
+ghost use Rattle.rl_grammar.specs.WholeShapes.{IsPlain};
+ghost use Rattle.rl_tokens.specs.declared.kind.Kind.TheVariants.{Float};
 ghost use Rattle.rl_grammar.specs.Decoded.{ContentsAre, HoldsBytes, piece_bytes};
 ghost use Rattle.rl_grammar.specs.Mirrors.Decodes.{Decodes};
 
-use crate::found::found_in;
+use crate::found::{find, find_float, found_in};
 use crate::units::{Piece, piece_unit, split_plain, unit};
 use rl_tokens::room::{put, put_byte, put_char};
 use rl_tokens::{Error, Kind};
@@ -125,7 +128,7 @@ pub fn str_of<A: Allocator>(alloc: A, text: &str) -> Result<String<A>, Error<A>>
     ensures memory { IfErr result (λ e. e ≡ memory_at nowhere) }
 {
     let found = found_in(text);
-    str_of_body(alloc, found.parts(text).body, found.body.plain)
+    str_of_body(alloc, found.body_in(text), found.body.plain)
 }
 
 /// The bytes that a byte string or a C string literal stands for, with no zero added at the end. The text has to
@@ -146,7 +149,7 @@ pub fn bytes_of<A: Allocator>(alloc: A, text: &str) -> Result<Vec<u8, A>, Error<
     ensures memory { IfErr result (λ e. e ≡ memory_at nowhere) }
 {
     let found = found_in(text);
-    bytes_of_body(alloc, found.kind, found.parts(text).body, found.body.plain)
+    bytes_of_body(alloc, found.kind, found.body_in(text), found.body.plain)
 }
 
 /// The text that a string literal with this body stands for, as [`find`](crate::find) returned it.
@@ -261,4 +264,54 @@ pub fn char_of_body(body: &str) -> char
 {
     // SAFETY: what a character literal stands for is a character, which is proved.
     unsafe { char::from_u32_unchecked(body_unit(Kind::Char, body)) }
+}
+
+/// Whether the text reads as the kind, and its body is what it stands for, byte for byte: a
+/// string's contents, or a number's digits in base ten. No memory is taken.
+///
+/// A string is plain where it is raw, or has neither an escape nor a line end of two characters; an
+/// integer within 128 bits where it is in base ten, with no underscore and no needless zero; a
+/// float, by the rule of floats alone, where it has no underscore, no plus and no `E`. Nothing else
+/// is: neither a text of another kind, nor a character, a byte or a truth value.
+///
+/// # Example
+///
+/// ```
+/// use rl_grammar::{Kind, is_plain};
+///
+/// pub fn is_plain_string(text: &str) -> bool {
+///     is_plain(Kind::Str, text)
+/// }
+/// // is_plain_string("\"a\"") == true
+/// // is_plain_string("\"\\n\"") == false
+/// ```
+pub fn is_plain(kind: Kind, text: &str) -> bool
+    ensures { IsTrue result ↔ IsPlain kind text.now }
+{
+    match kind {
+        Kind::Float => float_is_plain(text),
+        _ => reads_plain(kind, text),
+    }
+}
+
+/// Whether the text reads as the kind, and its body is what it stands for, byte for byte.
+fn reads_plain(kind: Kind, text: &str) -> bool
+    requires { kind ≢ Float }
+    ensures { IsTrue result ↔ IsPlain kind text.now }
+{
+    match find(text) {
+        Some(found) => found.body.plain && found.kind == kind,
+        None => false,
+    }
+}
+
+/// Whether the text reads as a float, whether or not an integer stands there too, whose digits are its body, byte for
+/// byte.
+fn float_is_plain(text: &str) -> bool
+    ensures { IsTrue result ↔ IsPlain Float text.now }
+{
+    match find_float(text) {
+        Some(found) => found.body.plain,
+        None => false,
+    }
 }

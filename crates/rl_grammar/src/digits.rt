@@ -91,7 +91,7 @@ fn found_digits<A: Allocator>(alloc: A, text: &str, found: Found) -> Result<Stri
     requires { IsFoundNumber text.now found }
     ensures { IfOk result (λ s. AreDigits found.kind (chars text.now) (chars (string_bytes s))) }
 {
-    let body = &text[found.body.lo..found.body.hi];
+    let body = found.body_in(text);
     if found.body.plain {
         return String::from_str(alloc, body);
     }

@@ -96,11 +96,38 @@ pub struct Parts<'t> {
 }
 
 impl Found {
-    ghost use Rattle.rl_grammar.specs.Founds.{StandsIn, body_in, suffix_in};
+    ghost use Rattle.std.specs.Prelude.{IsTrue};
+    ghost use Rattle.rl_tokens.specs.Quoted.{is_string};
+    ghost use Rattle.rl_tokens.specs.Reading.{HasSuffix};
+    ghost use Rattle.rl_grammar.specs.Bodies.{HasBody};
+    ghost use Rattle.rl_grammar.specs.Founds.{IsFound, StandsIn, body_in, suffix_in};
+
+    /// The literal's body, as a slice of the text that it was found in.
+    #[inline(always)]
+    pub fn body_in<'t>(&self, text: &'t str) -> &'t str
+        requires { StandsIn text.now self.now.body }
+        ensures body { result.now ≡ body_in text.now self.now.body }
+        ensures string { IsFound text.now self.now → IsTrue (is_string self.now.kind)
+            → HasBody self.now.kind (chars text.now) result.now self.now.body.plain }
+    {
+        &text[self.body.lo..self.body.hi]
+    }
+
+    /// The literal's suffix, as a slice of the text that it was found in; empty where there is none.
+    #[inline(always)]
+    #[tactic(auto, using(rl_tokens::proofs::Rests::behind_drop))]
+    pub fn suffix_in<'t>(&self, text: &'t str) -> &'t str
+        requires { StandsIn text.now self.now.body }
+        ensures suffix { result.now ≡ suffix_in text.now self.now.body }
+        ensures reads { IsFound text.now self.now
+            → HasSuffix self.now.kind (chars text.now) (chars result.now) }
+        ensures following { IsTail text.now result.now }
+    {
+        &text[self.body.suffix_at..]
+    }
 
     /// The literal's parts, as slices of its text.
     #[inline(always)]
-    #[tactic(auto, using(rl_tokens::proofs::Rests::behind_drop))]
     pub(crate) fn parts<'t>(&self, text: &'t str) -> Parts<'t>
         requires { StandsIn text.now self.now.body }
         ensures kind { result.kind ≡ self.now.kind }
@@ -110,8 +137,8 @@ impl Found {
     {
         Parts {
             kind: self.kind,
-            body: &text[self.body.lo..self.body.hi],
-            suffix: &text[self.body.suffix_at..],
+            body: self.body_in(text),
+            suffix: self.suffix_in(text),
         }
     }
 }
@@ -341,54 +368,4 @@ pub fn shape(text: &str) -> Option<Parts<'_>>
 {
     let found = find(text)?;
     Some(found.parts(text))
-}
-
-/// Whether the text reads as the kind, and its body is what it stands for, byte for byte: a
-/// string's contents, or a number's digits in base ten. No memory is taken.
-///
-/// A string is plain where it is raw, or has neither an escape nor a line end of two characters; an
-/// integer within 128 bits where it is in base ten, with no underscore and no needless zero; a
-/// float, by the rule of floats alone, where it has no underscore, no plus and no `E`. Nothing else
-/// is: neither a text of another kind, nor a character, a byte or a truth value.
-///
-/// # Example
-///
-/// ```
-/// use rl_grammar::{Kind, is_plain};
-///
-/// pub fn is_plain_string(text: &str) -> bool {
-///     is_plain(Kind::Str, text)
-/// }
-/// // is_plain_string("\"a\"") == true
-/// // is_plain_string("\"\\n\"") == false
-/// ```
-pub fn is_plain(kind: Kind, text: &str) -> bool
-    ensures { IsTrue result ↔ IsPlain kind text.now }
-{
-    match kind {
-        Kind::Float => float_is_plain(text),
-        _ => reads_plain(kind, text),
-    }
-}
-
-/// Whether the text reads as the kind, and its body is what it stands for, byte for byte.
-fn reads_plain(kind: Kind, text: &str) -> bool
-    requires { kind ≢ Float }
-    ensures { IsTrue result ↔ IsPlain kind text.now }
-{
-    match find(text) {
-        Some(found) => found.body.plain && found.kind == kind,
-        None => false,
-    }
-}
-
-/// Whether the text reads as a float, whether or not an integer stands there too, whose digits are its body, byte for
-/// byte.
-fn float_is_plain(text: &str) -> bool
-    ensures { IsTrue result ↔ IsPlain Float text.now }
-{
-    match find_float(text) {
-        Some(found) => found.body.plain,
-        None => false,
-    }
 }

@@ -16,13 +16,13 @@ pub mod strict;
 mod units;
 
 pub use crate::contents::{
-    byte_of, byte_of_body, bytes_into, bytes_of, bytes_of_body, char_of, char_of_body, str_into,
-    str_of, str_of_body,
+    byte_of, byte_of_body, bytes_into, bytes_of, bytes_of_body, char_of, char_of_body, is_plain,
+    str_into, str_of, str_of_body,
 };
 pub use crate::digits::{digits_of, digits_of_found, numeral_into};
 pub use crate::flaws::{Flaw, FlawKind, explain};
 pub use crate::found::{
-    Body, Found, Parts, find, find_float, find_int, find_negative, is_plain, shape, truth_of,
+    Body, Found, Parts, find, find_float, find_int, find_negative, shape, truth_of,
 };
 pub use crate::front::{Front, Negative, next_is, take_kind};
 pub use crate::number_forms::{float_shape, int_shape, shape_negative};

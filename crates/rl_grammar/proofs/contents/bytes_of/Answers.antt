@@ -15,22 +15,22 @@ bytes_of_body-requires-clause-kind g c =
 pub bytes_of_body-requires-clause-body : goal.bytes_of_body-requires-clause-body
 bytes_of_body-requires-clause-body g c =
     let f = c.found_in-found.ensures in
-    (_, bytes_body _ _ _ c.parts.ensures.body f.kind f.found c.requires)
+    (_, bytes_body _ _ _ c.body_in.ensures.body f.kind f.found c.requires)
 
 pub returns-clause-byte_string : goal.returns-clause-byte_string
 returns-clause-byte_string g c =
     let f = c.found_in-found.ensures in
-    let has = bytes_body _ _ _ c.parts.ensures.body f.kind f.found c.requires in
+    let has = bytes_body _ _ _ c.body_in.ensures.body f.kind f.found c.requires in
     IfOk-weaker c.bytes_of_body.result _ _ (λ b h. contents_are _ ByteStr _ _ (h _ has)) c.bytes_of_body.ensures.value
 
 pub returns-clause-c_string : goal.returns-clause-c_string
 returns-clause-c_string g c =
     let f = c.found_in-found.ensures in
-    let has = bytes_body _ _ _ c.parts.ensures.body f.kind f.found c.requires in
+    let has = bytes_body _ _ _ c.body_in.ensures.body f.kind f.found c.requires in
     IfOk-weaker c.bytes_of_body.result _ _ (λ b h. contents_are _ CStr _ _ (h _ has)) c.bytes_of_body.ensures.value
 
 pub returns-clause-reads : goal.returns-clause-reads
 returns-clause-reads g c =
     let f = c.found_in-found.ensures in
-    let has = bytes_body _ _ _ c.parts.ensures.body f.kind f.found c.requires in
+    let has = bytes_body _ _ _ c.body_in.ensures.body f.kind f.found c.requires in
     IfOk-weaker c.bytes_of_body.result _ _ (λ b h. one_of_two _ _ _ f.kind c.requires (h _ has)) c.bytes_of_body.ensures.value

@@ -10,12 +10,12 @@ found_in-found-requires g c = (Str, c.requires)
 pub str_of_body-requires : goal.str_of_body-requires
 str_of_body-requires g c =
     let f = c.found_in-found.ensures in
-    (c.args.text.now, string_body Str _ _ _ c.parts.ensures.body (f.kind Str c.requires) refl f.found, c.utf8.text)
+    (c.args.text.now, string_body Str _ _ _ c.body_in.ensures.body (f.kind Str c.requires) refl f.found, c.utf8.text)
 
 pub returns-clause-reads : goal.returns-clause-reads
 returns-clause-reads g c =
     let f = c.found_in-found.ensures in
-    let has = string_body Str _ _ _ c.parts.ensures.body (f.kind Str c.requires) refl f.found in
+    let has = string_body Str _ _ _ c.body_in.ensures.body (f.kind Str c.requires) refl f.found in
     IfOk-weaker c.str_of_body.result _ _ (λ s h. h c.args.text.now has c.utf8.text) c.str_of_body.ensures.value
 
 pub returns-clause-value : goal.returns-clause-value

@@ -1,5 +1,5 @@
 use Rattle.std.proofs.Common.{rules}
-use Rattle.rl_grammar.proofs.found.is_plain.Goals as goal
+use Rattle.rl_grammar.proofs.contents.is_plain.Goals as goal
 
 pub returns-in-Float : goal.returns-in-Float
 returns-in-Float c = search rules steps 300000

@@ -5,7 +5,7 @@ use Rattle.rl_tokens.specs.declared.kind.Kind.{Kind}
 use Rattle.rl_grammar.specs.WholeShapes.{IsPlain}
 use Rattle.rl_grammar.proofs.FoundLemmas.{kinds_same}
 use Rattle.rl_grammar.proofs.FoundContents.{plain_found, plain_none}
-use Rattle.rl_grammar.proofs.found.reads_plain.Goals as goal
+use Rattle.rl_grammar.proofs.contents.reads_plain.Goals as goal
 
 pub returns-then-found : goal.returns-then-found
 returns-then-found c =
