@@ -7,7 +7,7 @@ ghost use Rattle.rl_bench.specs.Lent.{IsBorrowed};
 ghost use Rattle.rl_bench.specs.Sizes.{HasSize};
 
 use crate::sums::Weigh;
-use crate::values::{body_in, contents_size, suffix_in};
+use crate::values::contents_size;
 use crate::weights::{text_size, weight};
 use rl_grammar::{Found, Kind, find};
 use std::alloc::{AllocError, Global};
@@ -22,7 +22,7 @@ fn lent_contents_size(alloc: Global, text: &str, found: &Found) -> Result<usize,
     ensures { IfOk result (HasSize found.now.kind (chars text.now)) }
 {
     if found.kind.is_string() && found.body.plain {
-        Ok(body_in(text, found).len())
+        Ok(found.body_in(text).len())
     } else {
         contents_size(alloc, text, found)
     }
@@ -37,7 +37,7 @@ fn lent_size(alloc: Global, text: &str, found: &Found) -> Result<u64, AllocError
 {
     match found.kind {
         Kind::Int => Ok((found.magnitude % PAST_64_BITS) as u64),
-        Kind::Float => Ok(text[found.body.lo..found.body.hi].len() as u64),
+        Kind::Float => Ok(found.body_in(text).len() as u64),
         _ => Ok(lent_contents_size(alloc, text, found)? as u64),
     }
 }
@@ -57,7 +57,7 @@ impl Weigh for ByLent {
             return Ok(0);
         };
         let size = lent_size(alloc, text, &found)?;
-        let suffix = text_size(suffix_in(text, &found));
+        let suffix = text_size(found.suffix_in(text));
         Ok(weight(found.kind, size, suffix as u64))
     }
 }

@@ -14,23 +14,6 @@ use crate::weights::{text_size, weight};
 use rl_grammar::{Found, Kind, bytes_of_body, digits_of_found, find, str_of_body};
 use std::alloc::{AllocError, Global};
 
-/// What stands between the quotes of the string that was found in the text.
-pub(crate) fn body_in<'t>(text: &'t str, found: &Found) -> &'t str
-    requires string { IsTrue (is_string found.now.kind) }
-    requires found { IsFound text.now found.now }
-    ensures { HasBody found.now.kind (chars text.now) result.now found.now.body.plain }
-{
-    &text[found.body.lo..found.body.hi]
-}
-
-/// What stands after the literal proper that was found in the text.
-pub(crate) fn suffix_in<'t>(text: &'t str, found: &Found) -> &'t str
-    requires { IsFound text.now found.now }
-    ensures { HasSuffix found.now.kind (chars text.now) (chars result.now) }
-{
-    &text[found.body.suffix_at..]
-}
-
 /// The length of the contents of the literal that was found in the text.
 pub(crate) fn contents_size(alloc: Global, text: &str, found: &Found) -> Result<usize, AllocError>
     requires { IsFound text.now found.now }
@@ -38,12 +21,12 @@ pub(crate) fn contents_size(alloc: Global, text: &str, found: &Found) -> Result<
 {
     let plain = found.body.plain;
     match found.kind {
-        Kind::Str => match str_of_body(alloc, body_in(text, found), plain) {
+        Kind::Str => match str_of_body(alloc, found.body_in(text), plain) {
             Ok(value) => Ok(text_size(value.as_str())),
             Err(_) => Err(AllocError),
         },
         Kind::ByteStr | Kind::CStr => {
-            match bytes_of_body(alloc, found.kind, body_in(text, found), plain) {
+            match bytes_of_body(alloc, found.kind, found.body_in(text), plain) {
                 Ok(value) => Ok(value.len()),
                 Err(_) => Err(AllocError),
             }
@@ -83,6 +66,6 @@ impl Weigh for ByValue {
             return Ok(0);
         };
         let size = contents_size(alloc, text, &found)?;
-        Ok(value_weight(found.kind, size, suffix_in(text, &found)))
+        Ok(value_weight(found.kind, size, found.suffix_in(text)))
     }
 }

@@ -1,9 +1,10 @@
 -- What reading a text finds, from its parts.
-use Rattle.std.proofs.Common.{◌≡◌, ◌≢◌, ℕ, ◌-◌, ◌⊎◌, inl, inr, Bool, true, false, List, [], ◌∷◌, ◌++◌, length, take, drop, refl, sym, ap, ap₂, subst, ◌∙◌, arith, rules}
+use Rattle.std.proofs.Common.{◌≡◌, ◌≢◌, ℕ, ◌-◌, ◌⊎◌, inl, inr, Bool, true, false, List, [], ◌++◌, length, take, drop, refl, sym, ap, ap₂, subst, ◌∙◌, arith, rules}
 use Rattle.std.proofs.Math.Seq.{drop-append_seam, take-append_seam}
 use Rattle.std.proofs.lemmas.Bool.{both_ways}
 use Rattle.std.proofs.lemmas.List.{append_cancel_right}
 use Rattle.std.proofs.lemmas.Str.{IsCharBoundary-at_seam, IsCharBoundary-start, IsCharBoundary-end, IsUtf8-between, IsUtf8-drop, chars-append, chars-nil}
+use lib.Seq.{drop-length, take-length}
 use Rattle.std.specs.Str.{chars, IsUtf8, IsCharBoundary}
 use denote.Enum.Bare.{sameb, same_true, true_same}
 use Rattle.rl_tokens.specs.contracts.kind.Kind.{the_type}
@@ -221,7 +222,7 @@ OfTruth body b = record { kind = BoolKind; body = body; magnitude = 0; truth = b
 
 pub truth_found : (t : List ℕ) (b : Bool) → IsUtf8 t → chars t ≡ truth_text b → t ≡ truth_text b → IsFound t (OfTruth (NumberBody (length t) false) b)
 truth_found t b u e bytes =
-    let nothing : drop (length t) t ≡ [] = drop_all t in
+    let nothing : drop (length t) t ≡ [] = drop-length t in
     record {
       reads = (Truth b, record { truth = b; text_is = e; suffix_is = ap chars nothing ∙ chars-nil; contents_is = refl });
       cut = (take_all t, nothing);
@@ -236,18 +237,10 @@ truth_found t b u e bytes =
       no_unit = λ b c. refl;
     }
   where
-    drop_all : (xs : List ℕ) → drop (length xs) xs ≡ []
-    drop_all [] = refl
-    drop_all (y ∷ xs) = drop_all xs
-
-    take_whole : (xs : List ℕ) → take (length xs) xs ≡ xs
-    take_whole [] = refl
-    take_whole (y ∷ xs) = ap (λ z. y ∷ z) (take_whole xs)
-
     take_all : (xs : List ℕ) → take (length xs - 0) (drop 0 xs) ≡ xs
     take_all xs =
         let n : length xs - 0 ≡ length xs = omega arith in
-        ap (λ k. take k (drop 0 xs)) n ∙ take_whole xs
+        ap (λ k. take k (drop 0 xs)) n ∙ take-length xs
 
 -- two kinds that compare as equal are one
 pub kinds_same : (a b : Kind) (r : Bool) → r ≡ sameb the_type a b → r ≡ true → a ≡ b

@@ -250,6 +250,13 @@ run_split test t front rest cut e =
     let same : front ≡ r.front = append_cancel_right front r.front rest (sym cut ∙ r.text_is ∙ ap (λ z. r.front ++ z) (sym e)) in
     (ap (list_all test) same ∙ r.each, ap (first_passes test) e ∙ r.stops)
 
+-- nothing follows a run that is all of the text
+pub run_of_all : (test : ℕ → Bool) (t : List ℕ) → list_all test t ≡ true → after_run test t ≡ []
+run_of_all test [] h = refl
+run_of_all test (c ∷ cs) h =
+    let p = and_parts (test c) (list_all test cs) h in
+    ap (λ b. cond b (after_run test cs) (c ∷ cs)) p.0 ∙ run_of_all test cs p.1
+
 -- what is cut at the last quote
 closes_true : (hashes t b a x : List ℕ) → t ≡ b ++ (34 ∷ a) → list_all no_quote a ≡ true → a ≡ hashes ++ x → Closes hashes t
 closes_true hashes t b a x cut none e = record {

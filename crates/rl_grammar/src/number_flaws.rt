@@ -22,14 +22,7 @@ use rl_tokens::text::split_char;
 fn skip_word(text: &str) -> &str
     ensures { chars result.now ≡ after_word (chars text.now) }
 {
-    let mut rest = text;
-    while let Some((next, after)) = split_char(rest) {
-        if !is_xid_continue(next) {
-            break;
-        }
-        rest = after;
-    }
-    rest
+    skip_class(CharClass::SuffixContinue, text)
 }
 
 /// Whether a suffix may begin as the text does.

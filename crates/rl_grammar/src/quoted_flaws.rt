@@ -15,6 +15,7 @@ use crate::flaws::{FlawAt, FlawKind, make_flaw};
 use crate::quoted_forms::{QuotedForm, behind_prefix, skip_hashes, skip_units, split_last_quote};
 use crate::units::{allows_code, before, has_unicode, unit};
 use rl_tokens::Kind;
+use rl_tokens::classes::{CharClass, skip_class};
 use rl_tokens::text::split_char;
 
 /// Of what should be the second digit of `\x`, whose first one may stand there.
@@ -178,30 +179,16 @@ fn unit_flaw(kind: Kind, text: &str) -> FlawAt<'_>
     }
 }
 
-/// Whether a raw string of the kind may hold the character.
-fn is_raw(kind: Kind, c: char) -> bool
-    ensures { result ≡ is_raw kind c }
-{
-    match kind {
-        Kind::ByteStr => c.is_ascii(),
-        Kind::CStr => c != '\0',
-        _ => true,
-    }
-}
-
 /// The text after the characters at its front that a raw string of the kind may hold.
 fn skip_raw(kind: Kind, text: &str) -> &str
     ensures rest { chars result.now ≡ after_run (is_raw kind) (chars text.now) }
     ensures following { IsTail text.now result.now }
 {
-    let mut rest = text;
-    while let Some((c, after)) = split_char(rest) {
-        if !is_raw(kind, c) {
-            break;
-        }
-        rest = after;
+    match kind {
+        Kind::ByteStr => skip_class(CharClass::Ascii, text),
+        Kind::CStr => skip_class(CharClass::NonNul, text),
+        _ => &text[text.len()..],
     }
-    rest
 }
 
 /// The characters at the front that a raw string of the kind may hold, and the text after them.
@@ -218,14 +205,7 @@ fn split_raw(kind: Kind, text: &str) -> (&str, &str)
 fn skip_to_quote(text: &str) -> &str
     ensures { chars result.now ≡ after_run (λ c. not (is_quote c)) (chars text.now) }
 {
-    let mut rest = text;
-    while let Some((c, after)) = split_char(rest) {
-        if c == '"' {
-            break;
-        }
-        rest = after;
-    }
-    rest
+    skip_class(CharClass::Unquoted, text)
 }
 
 /// Whether the hashes stand after the last quote.

@@ -15,23 +15,6 @@ use rl_grammar::{Found, bytes_of_body, digits_of_found, str_of_body};
 use rl_tokens::{CString, Error, Kind, Literal};
 use std::alloc::{AllocError, Allocator};
 
-/// What stands between the quotes of the string that was found in the text.
-fn body_in<'t>(text: &'t str, found: &Found) -> &'t str
-    requires string { IsTrue (is_string found.now.kind) }
-    requires found { IsFound text.now found.now }
-    ensures { HasBody found.now.kind (chars text.now) result.now found.now.body.plain }
-{
-    &text[found.body.lo..found.body.hi]
-}
-
-/// What stands after the literal proper that was found in the text.
-fn suffix_in<'t>(text: &'t str, found: &Found) -> &'t str
-    requires { IsFound text.now found.now }
-    ensures { HasSuffix found.now.kind (chars text.now) (chars result.now) }
-{
-    &text[found.body.suffix_at..]
-}
-
 /// Writes the line of the literal that was found in the text, which is shown so.
 fn push_shown<A: Allocator>(
     out: &mut String<A>,
@@ -44,10 +27,11 @@ fn push_shown<A: Allocator>(
     ensures { OnOk result (Appends (IsLineOf (chars text.now))
         (chars (string_bytes out.old)) (chars (string_bytes out.new))) }
 {
-    push_kind(out, found.kind, shown, suffix_in(text, found))
+    push_kind(out, found.kind, shown, found.suffix_in(text))
 }
 
-/// Writes the line of the literal that was found in the text, which is shown as this token, if there was memory for it.
+/// Writes the line of the literal that was found in the text, which is shown as this token; its allocation
+/// failure is returned.
 fn push_written<A: Allocator>(
     out: &mut String<A>,
     text: &str,
@@ -78,8 +62,8 @@ fn push_string<A: Allocator>(
     ensures { OnOk result (Appends (IsLineOf (chars text.now))
         (chars (string_bytes out.old)) (chars (string_bytes out.new))) }
 {
-    let body = body_in(text, found);
-    let suffix = suffix_in(text, found);
+    let body = found.body_in(text);
+    let suffix = found.suffix_in(text);
     if found.body.plain {
         return push_text(out, body, suffix);
     }
@@ -100,7 +84,7 @@ fn written_byte_string<A: Allocator + Copy>(
     requires kind { found.now.kind ≡ ByteStr }
     ensures { IfOk result (λ l. IsShownOf found.now.kind (chars text.now) (chars l.text)) }
 {
-    let body = body_in(text, found);
+    let body = found.body_in(text);
     if found.body.plain {
         return Literal::byte_string(alloc, body.as_bytes());
     }
@@ -118,7 +102,7 @@ fn written_c_string<A: Allocator + Copy>(
     requires kind { found.now.kind ≡ CStr }
     ensures { IfOk result (λ l. IsShownOf found.now.kind (chars text.now) (chars l.text)) }
 {
-    let value = bytes_of_body(alloc, found.kind, body_in(text, found), found.body.plain)?;
+    let value = bytes_of_body(alloc, found.kind, found.body_in(text), found.body.plain)?;
     Literal::c_string(alloc, &CString::new(value).unwrap())
 }
 
@@ -136,7 +120,7 @@ fn push_number<A: Allocator>(
         (chars (string_bytes out.old)) (chars (string_bytes out.new))) }
 {
     if found.body.plain {
-        return push_shown(out, text, found, &text[found.body.lo..found.body.hi]);
+        return push_shown(out, text, found, found.body_in(text));
     }
     match digits_of_found(alloc, text, *found) {
         Ok(digits) => push_shown(out, text, found, digits.as_str()),

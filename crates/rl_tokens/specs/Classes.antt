@@ -1,13 +1,14 @@
 -- Classes of characters, and what follows a run of one class at the front of a text.
-use Rattle.std.specs.Prelude.{ℕ, Bool, ◌==◌, List, [], ◌∷◌, cond}
-use Rattle.std.specs.Char.{is_ascii_digit}
+use Rattle.std.specs.Prelude.{ℕ, Bool, not, ◌==◌, List, [], ◌∷◌, cond}
+use Rattle.std.specs.Char.{is_ascii, is_ascii_digit}
+use Rattle.unicode_ident.specs.Ident.{is_xid_continue}
 use Prim.Native.Char.{code}
 use Rattle.rl_tokens.specs.Texts.{is_underscore, is_white, is_row_part}
 use Rattle.rl_tokens.specs.Quoted.{is_blank}
 use Rattle.rl_tokens.specs.Strict.{is_dropped_blank}
 use Rattle.rl_tokens.specs.Lexemes.{is_continue}
 use Rattle.rl_tokens.specs.declared.classes.CharClass.{CharClass}
-use Rattle.rl_tokens.specs.declared.classes.CharClass.TheVariants.{Continue, Numeral, Underscore, White, Hash, Blank, StrictBlank}
+use Rattle.rl_tokens.specs.declared.classes.CharClass.TheVariants.{Continue, Numeral, Underscore, White, Hash, Blank, StrictBlank, SuffixContinue, Unquoted, Ascii, NonNul}
 
 abbrev pub is_hash : ℕ → Bool
 is_hash c = c == code "#"
@@ -21,6 +22,10 @@ class_test White = is_white
 class_test Hash = is_hash
 class_test Blank = is_blank
 class_test StrictBlank = is_dropped_blank
+class_test SuffixContinue = is_xid_continue
+class_test Unquoted = λ c. not (c == code "\"")
+class_test Ascii = is_ascii
+class_test NonNul = λ c. not (c == 0)
 
 -- what follows the characters at the front that pass the test
 abbrev pub after_run : (ℕ → Bool) → List ℕ → List ℕ

@@ -6,7 +6,7 @@ ghost use Rattle.std.specs.Str.{chars};
 ghost use Rattle.rl_tokens.specs.Texts.{IsTail};
 ghost use Rattle.rl_tokens.specs.Classes.{after_run, class_test};
 
-use crate::characters::{is_continue, is_white};
+use crate::characters::{is_continue, is_white, is_xid_continue};
 use crate::text::{split_ascii, split_char};
 
 /// A class of characters.
@@ -26,6 +26,14 @@ pub enum CharClass {
     Blank,
     /// The same in strict texts, where no CR stands.
     StrictBlank,
+    /// What goes on with a suffix of the lenient grammar: Unicode's XID_Continue.
+    SuffixContinue,
+    /// All but `"`.
+    Unquoted,
+    /// ASCII, which a raw byte string holds.
+    Ascii,
+    /// All but NUL, which a raw C string holds.
+    NonNul,
 }
 
 /// Whether the character is of the class.
@@ -41,6 +49,10 @@ fn is_of(class: CharClass, c: char) -> bool
         CharClass::Hash => c == '#',
         CharClass::Blank => matches!(c, ' ' | '\t' | '\n' | '\r'),
         CharClass::StrictBlank => matches!(c, ' ' | '\t' | '\n'),
+        CharClass::SuffixContinue => is_xid_continue(c),
+        CharClass::Unquoted => c != '"',
+        CharClass::Ascii => c.is_ascii(),
+        CharClass::NonNul => c != '\0',
     }
 }
 

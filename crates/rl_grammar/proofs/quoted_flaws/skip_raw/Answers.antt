@@ -1,12 +1,18 @@
-use Rattle.std.proofs.Common.{◌∙◌, sym}
+use Rattle.std.proofs.Common.{ap, sym, ◌∙◌}
+use lib.Seq.{drop-length}
+use Rattle.std.proofs.lemmas.Str.{chars-nil}
 use Rattle.std.specs.Str.{chars}
 use Rattle.rl_tokens.specs.Quoted.{is_raw}
-use Rattle.rl_tokens.proofs.BehindLemmas.{behind_step}
-use Rattle.rl_tokens.proofs.RowSteps.{row_step}
+use Rattle.rl_tokens.proofs.Rests.{behind_drop}
+use Rattle.rl_grammar.proofs.RawLemmas.{others_hold}
+use Rattle.rl_grammar.proofs.RawFlawLemmas.{run_of_all}
 use Rattle.rl_grammar.proofs.quoted_flaws.skip_raw.Goals as goal
 
-pub loop-c-preserved : goal.loop-c-preserved
-loop-c-preserved c = record {
-  following = behind_step c.args.text.now c.loop-c.rest.now c.in-Some.after.now c.loop-c.invariant.following c.in-Some.ensures.following;
-  same = row_step (is_raw c.args.kind) (chars c.loop-c.rest.now) (chars c.in-Some.after.now) c.in-Some.c c.in-Some.ensures.chars (sym c.if-not-is_raw.ensures) ∙ c.loop-c.invariant.same;
-}
+pub returns-in_default : goal.returns-in_default
+returns-in_default c =
+    let t = c.args.text.now in
+    let end = c.range_from.ensures.value in
+    record {
+      rest = ap chars (end ∙ drop-length t) ∙ chars-nil ∙ sym (run_of_all (is_raw c.args.kind) (chars t) (others_hold _ c.in_default.not-ByteStr c.in_default.not-CStr (chars t)));
+      following = behind_drop _ _ _ end c.range_from.utf8;
+    }
