@@ -5,8 +5,10 @@ ghost use Rattle.std.specs.Str.{chars};
 ghost use Rattle.rl_tokens.specs.declared.kind.Kind.{Kind as AnyKind};
 ghost use Rattle.rl_tokens.specs.declared.kind.Kind.TheVariants.{Float, Int};
 ghost use Rattle.rl_tokens.specs.Numbers.{FloatReads, NoSign};
-ghost use Rattle.rl_tokens.specs.Reading.{HasNoFloat, HasNoInteger, HasNoReading, HasNoTruth, HasReading, IsPast, ReadsAs, Contents, Reads, truth_text};
+ghost use Rattle.rl_tokens.specs.Quoted.{is_string};
+ghost use Rattle.rl_tokens.specs.Reading.{HasNoFloat, HasNoInteger, HasNoReading, HasNoTruth, HasReading, HasSuffix, IsPast, ReadsAs, Contents, Reads, truth_text};
 ghost use Rattle.rl_tokens.specs.Texts.{IsTail, first_passes};
+ghost use Rattle.rl_grammar.specs.Bodies.{HasBody};
 ghost use Rattle.rl_grammar.specs.Founds.{IsFound, IsFoundFloat};
 ghost use Rattle.rl_grammar.specs.Mirrors.NumberAt.{sign_at};
 ghost use Rattle.rl_grammar.specs.NumberShapes.{HasNoNumber, HasOneFloat, HasOneInteger, HasMagnitude};
@@ -96,11 +98,7 @@ pub struct Parts<'t> {
 }
 
 impl Found {
-    ghost use Rattle.std.specs.Prelude.{IsTrue};
-    ghost use Rattle.rl_tokens.specs.Quoted.{is_string};
-    ghost use Rattle.rl_tokens.specs.Reading.{HasSuffix};
-    ghost use Rattle.rl_grammar.specs.Bodies.{HasBody};
-    ghost use Rattle.rl_grammar.specs.Founds.{IsFound, StandsIn, body_in, suffix_in};
+    ghost use Rattle.rl_grammar.specs.Founds.{StandsIn, body_in, suffix_in};
 
     /// The literal's body, as a slice of the text that it was found in.
     #[inline(always)]
