@@ -2,22 +2,11 @@
 
 ghost use Rattle.std.specs.Prelude.{◌≡◌, ◌↔◌, IsTrue, length};
 ghost use Rattle.std.specs.Str.{chars};
-ghost use Rattle.rl_tokens.specs.Quoted.{is_string, opener};
+ghost use Rattle.rl_tokens.specs.Quoted.{is_string};
 ghost use Rattle.rl_grammar.specs.Founds.{is_quoted};
 ghost use Rattle.rl_quoted.specs.Places.{IsWrittenAs, StandsAt};
 
 use rl_grammar::{Body, Kind};
-
-/// How many bytes stand before what is written of a value of the quoted kind.
-fn opener_length(kind: Kind) -> usize
-    requires { IsTrue (is_quoted kind) }
-    ensures { result ≡ length (opener kind) }
-{
-    match kind {
-        Kind::Str | Kind::Char => 1,
-        _ => 2,
-    }
-}
 
 /// Whether the body of a string is all of the value.
 fn is_whole(kind: Kind, body: &[u8], value: &[u8]) -> bool
@@ -34,7 +23,7 @@ pub(crate) fn written_body(kind: Kind, text: &str, value: &[u8]) -> Body
     ensures { StandsAt kind text.now result }
 {
     let bytes = text.as_bytes();
-    let lo = opener_length(kind);
+    let lo = kind.opener().len();
     let hi = bytes.len() - 1;
     Body {
         lo,
