@@ -6,7 +6,7 @@ pub returns-in-Int : goal.returns-in-Int
 returns-in-Int c = lent_integer c.args.text.now c.args.found.now c.in-Int.is c.requires
 
 pub returns-in-Float : goal.returns-in-Float
-returns-in-Float c = lent_float c.args.text.now c.range.result.now c.args.found.now c.in-Float.is c.requires c.range.ensures.value
+returns-in-Float c = lent_float c.args.text.now c.body_in.result.now c.args.found.now c.in-Float.is c.requires c.body_in.ensures.body
 
 pub returns-in_ok-lent_contents_size-in_default : goal.returns-in_ok-lent_contents_size-in_default
 returns-in_ok-lent_contents_size-in_default c =

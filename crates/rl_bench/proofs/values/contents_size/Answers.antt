@@ -1,11 +1,12 @@
 -- What a body stands for, a number's digits and the unit of a character are the contents.
-use Rattle.std.proofs.Common.{◌≡◌, ◌∙◌, [], ◌∷◌, ap, length, refl, rules, subst, sym}
+use Rattle.std.proofs.Common.{◌≡◌, ◌∙◌, [], ◌∷◌, ap, length, refl, rules, subst, sym, true}
 use Rattle.std.proofs.lemmas.List.{append-nil}
 use Rattle.std.specs.Char.{encode_utf8}
 use Rattle.std.specs.Str.{chars}
 use Rattle.std.specs.Prelude.{string_bytes}
 use Rattle.rl_tokens.specs.declared.kind.Kind.{Kind}
 use Rattle.rl_tokens.specs.declared.kind.Kind.TheVariants.{Char}
+use Rattle.rl_tokens.specs.Quoted.{is_string}
 use Rattle.rl_tokens.specs.Texts.{byte_len}
 use Rattle.rl_tokens.specs.Reading.{Bytes, Characters, HasContents}
 use Rattle.rl_grammar.proofs.FoundContents.{unit_of}
@@ -22,11 +23,12 @@ pub returns-in-Ok-bytes_of_body : goal.returns-in-Ok-bytes_of_body
 returns-in-Ok-bytes_of_body c =
     let bytes = c.in-Ok-bytes_of_body.value.items in
     let many : c.len.result ≡ length bytes = search rules in
-    (Bytes bytes, c.in-Ok-bytes_of_body.ensures.value (chars c.args.text.now) c.body_in-in-ByteStr.ensures, many)
+    let s : is_string c.args.found.now.kind ≡ true = search rules in
+    (Bytes bytes, c.in-Ok-bytes_of_body.ensures.value (chars c.args.text.now) (c.body_in-in-ByteStr.ensures.string c.requires s), many)
 
 pub returns-in-Ok : goal.returns-in-Ok
 returns-in-Ok c =
-    string_size c.args.found.now.kind c.args.text.now c.body_in.result.now (string_bytes c.in-Ok.value) c.args.found.now.body.plain c.text_size.result c.in-Str.is c.utf8.text c.body_in.ensures c.in-Ok.ensures.value
+    string_size c.args.found.now.kind c.args.text.now c.body_in.result.now (string_bytes c.in-Ok.value) c.args.found.now.body.plain c.text_size.result c.in-Str.is c.utf8.text (c.body_in.ensures.string c.requires (ap is_string c.in-Str.is)) c.in-Ok.ensures.value
     (c.text_size.ensures ∙ ap (λ bs. byte_len (chars bs)) c.as_str.ensures.value)
 
 pub returns-in-Char : goal.returns-in-Char
