@@ -52,7 +52,7 @@ hashes_all zero = refl
 hashes_all (suc n) = hashes_all n
 
 -- what stands before the rest that has none
-hashes_before : (h t r : List ℕ) → r ≡ after_run is_hash t → t ≡ h ++ r → h ≡ replicate (hashes t) 35
+pub hashes_before : (h t r : List ℕ) → r ≡ after_run is_hash t → t ≡ h ++ r → h ≡ replicate (hashes t) 35
 hashes_before h t r past e = append_cancel_right h (replicate (hashes t) 35) (after_run is_hash t) (ap (λ z. h ++ z) (sym past) ∙ sym e ∙ hashes_first t)
 
 pub hashes_alone : (h t r : List ℕ) → r ≡ after_run is_hash t → t ≡ h ++ r → list_all is_hash h ≡ true
