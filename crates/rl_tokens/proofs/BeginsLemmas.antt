@@ -1,11 +1,13 @@
 -- What a text begins with, by its bytes and by its characters.
-use Rattle.std.proofs.Common.{◌≡◌, ℕ, ◌<◌, ◌≤◌, ◌⊎◌, inl, inr, true, ◌&&◌, ◌==◌, List, [], ◌∷◌, ◌++◌, refl, sym, ◌∙◌, ap, arith}
+use Rattle.std.proofs.Common.{◌≡◌, ℕ, ◌<◌, ◌≤◌, ◌⊎◌, inl, inr, true, ◌&&◌, ◌==◌, List, [], ◌∷◌, ◌++◌, ◌≢◌, ◌+◌, length, drop, Option, Some, None, refl, sym, subst, ◌∙◌, ap, arith}
 use Rattle.std.proofs.lemmas.Bool.Decides.{nat_tests}
-use Rattle.std.specs.Prelude.{nat_lt, nat_eq}
+use Rattle.std.specs.Prelude.{nat_lt, nat_eq, IfSome, IfNone, MatchOption}
 use Rattle.std.specs.List.{list_all, starts_with}
-use Rattle.std.specs.Str.{chars, encode_utf8_all, IsUtf8}
-use Rattle.std.proofs.lemmas.Str.{encodes-chars}
-use Rattle.rl_tokens.specs.Texts.{begins}
+use Rattle.std.specs.Str.{chars, encode_utf8_all, IsUtf8, IsCharBoundary}
+use Rattle.std.specs.Str.Pattern.{FindsTextPrefix}
+use denote.Ref.{Bor}
+use Rattle.std.proofs.lemmas.Str.{encodes-chars, encodes-append, chars-append, IsUtf8-drop}
+use Rattle.rl_tokens.specs.Texts.{begins, IsTail}
 use Rattle.rl_tokens.proofs.CommentBytes.{cases128, low_front, encode_is_high, not_equal}
 use Rattle.rl_tokens.proofs.LexemeRows.{both_true}
 
@@ -35,3 +37,25 @@ starts_begins (k ∷ p) (c ∷ t) = ap (λ b. nat_eq k c && b) (starts_begins p 
   where
     equal_swap : (k c : ℕ) → nat_eq k c ≡ (c == k)
     equal_swap k c = grind (arith, nat_tests)
+
+-- ---- what stands after a prefix: each takes the clause of `strip_prefix`
+
+abbrev StripPrefix : List ℕ → List ℕ → Option (Bor (List ℕ)) → Type 0
+StripPrefix n bs r = MatchOption r (FindsTextPrefix n bs None) (λ x. (k : ℕ) × FindsTextPrefix n bs (Some k) × (x.now ≡ drop k bs) × (length x.now + k ≡ length bs))
+
+pub strip_prefix_some : (n bs : List ℕ) (r : Option (Bor (List ℕ))) → StripPrefix n bs r → IsUtf8 n → IfSome r (λ x. chars bs ≡ chars n ++ chars x.now)
+strip_prefix_some n bs None m u = tt
+strip_prefix_some n bs (Some x) m u = ap chars (m.1.1 ∙ ap (λ z. n ++ z) (sym m.2)) ∙ chars-append n x.now u
+
+pub strip_prefix_none : (n bs : List ℕ) (r : Option (Bor (List ℕ))) → StripPrefix n bs r → IsUtf8 n → IsUtf8 bs → IfNone r ((x : List ℕ) → chars bs ≢ chars n ++ x)
+strip_prefix_none n bs (Some x) m u w = tt
+strip_prefix_none n bs None m u w = λ x e.
+    m (encode_utf8_all x) (sym (encodes-chars bs w) ∙ ap encode_utf8_all e ∙ encodes-append (chars n) x ∙ ap (λ z. z ++ encode_utf8_all x) (encodes-chars n u))
+
+pub strip_prefix_behind : (n bs : List ℕ) (r : Option (Bor (List ℕ))) → StripPrefix n bs r → IsUtf8 bs → IfSome r (λ x. IsTail bs x.now)
+strip_prefix_behind n bs None m w = tt
+strip_prefix_behind n bs (Some x) m w = record {
+  front = n;
+  text_is = m.1.1 ∙ ap (λ z. n ++ z) (sym m.2);
+  is_text = subst IsUtf8 (sym m.2) (IsUtf8-drop bs m.0 w (subst (IsCharBoundary bs) (sym m.1.0) m.1.2));
+}

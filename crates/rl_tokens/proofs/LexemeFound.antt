@@ -11,7 +11,8 @@ use Rattle.rl_tokens.proofs.Pieces.{is_equal}
 use Rattle.rl_tokens.specs.Puncts.{is_punct}
 use Rattle.rl_tokens.specs.Mirrors.LexemeAt.{after_suffix, after_quote, hashes, after_raw, after_apostrophe, after_single, after_lexed_fraction, after_lexed_exponent, after_decimal, HeadClass, LetterBHead, LetterCHead, LetterRHead, OtherLetterHead, QuoteHead, ApostropheHead, DigitHead, SlashHead, StrayHead, start_class, other_class, head_class, quoted_at, raw_at, single_at, word_at, by_class, lexeme_at, literal_at, DelimiterHead, MarkHead, after_digit, begins_hashed_quote, begins_exponent, after_sign, begins_otherwise}
 use Rattle.rl_tokens.specs.Classes.{is_hash, after_run}
-use Rattle.rl_tokens.proofs.LexemeRows.{both_true, hashes_inside, power_text}
+use Rattle.rl_tokens.proofs.HashLemmas.{hashes_split, hashes_inside}
+use Rattle.rl_tokens.proofs.LexemeRows.{both_true, power_text}
 use Rattle.rl_tokens.proofs.LexemeOpeners.{opens_found, sign_found, underscores_found, passes_split, no_exponent_begins, none_otherwise}
 use Rattle.rl_tokens.proofs.LexemeFronts.{decimal_text, raw_text}
 use Rattle.std.proofs.lemmas.Option.{none-some}
@@ -71,15 +72,6 @@ quote_found (c ∷ e ∷ t) r h =
     ]
 
 -- Raw bodies.
-hashes_split : (n : ℕ) (t : List ℕ) → begins_hashes n t ≡ true → t ≡ replicate n 35 ++ drop n t
-hashes_split zero t h = refl
-hashes_split (suc n) [] h = absurd (cc)
-hashes_split (suc n) (c ∷ t) h =
-    let k : ((c == 35) ≡ true) × (begins_hashes n t ≡ true) = both_true (c == 35) (begins_hashes n t) h in
-    let e : t ≡ replicate n 35 ++ drop n t = hashes_split n t k.1 in
-    let q : c ≡ 35 = is_equal c 35 k.0 in
-    ap (λ s. c ∷ s) e ∙ ap (λ x. x ∷ (replicate n 35 ++ drop n t)) q
-
 abbrev RawBody : ℕ → List ℕ → List ℕ → Type 0
 RawBody n t r = (body : List ℕ) × IsRawBody n body × (t ≡ body ++ 34 ∷ (replicate n 35 ++ r))
 
@@ -292,7 +284,7 @@ raw_all p t r opens h =
     let (body, is, b_is) = raw_found (hashes t) (drop 1 (after_run is_hash t)) m m_is in
     let (x, suffix, x_is) = suffix_found m in
     let e : m ≡ x ++ r = x_is ∙ ap (λ s. x ++ s) r_is in
-    let o : t ≡ replicate (hashes t) 35 ++ 34 ∷ drop 1 (after_run is_hash t) = opens_found t (is_equal (slice_index (after_run is_hash t) 0) 34 opens) in (
+    let o : t ≡ replicate (hashes t) 35 ++ 34 ∷ drop 1 (after_run is_hash t) = opens_found t opens in (
       RawLexeme p (hashes t) body x,
       (is, subst (λ (s : List ℕ). IsLexedSuffix x s) r_is suffix),
       ap (λ s. prefix_text p ++ 114 ∷ s) (o ∙ ap (λ s. replicate (hashes t) 35 ++ 34 ∷ s) (b_is ∙ ap (λ s. body ++ 34 ∷ (replicate (hashes t) 35 ++ s)) e)) ∙ raw_spelled p (hashes t) body x r,

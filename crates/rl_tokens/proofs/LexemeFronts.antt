@@ -14,7 +14,8 @@ use Rattle.rl_tokens.proofs.Pieces.{is_equal}
 use Rattle.rl_tokens.specs.Puncts.{is_punct}
 use Rattle.rl_tokens.specs.Mirrors.LexemeAt.{after_suffix, after_raw, after_lexed_fraction, after_lexed_exponent, after_decimal, HeadClass, LetterBHead, LetterCHead, LetterRHead, OtherLetterHead, QuoteHead, ApostropheHead, DigitHead, SlashHead, StrayHead, start_class, other_class, head_class, quoted_at, raw_at, single_at, word_at, by_class, lexeme_at, literal_at, DelimiterHead, MarkHead, begins_hashed_quote, begins_otherwise}
 use Rattle.rl_tokens.specs.Classes.{is_hash, after_run}
-use Rattle.rl_tokens.proofs.LexemeRows.{both_true, not_true, run_past, suffix_past, quote_past, raw_past, hashes_count, hashes_past, single_past, fraction_past, not_among}
+use Rattle.rl_tokens.proofs.LexemeRows.{both_true, not_true, run_past, suffix_past, quote_past, raw_past, single_past, fraction_past, not_among}
+use Rattle.rl_tokens.proofs.HashLemmas.{hashes_count, hashes_past}
 use Rattle.rl_tokens.proofs.LexemeOpeners.{raw_opens_here, exponent_past, no_otherwise}
 use Rattle.std.proofs.lemmas.List.{append_cancel_right}
 

@@ -10,7 +10,8 @@ use Rattle.rl_tokens.specs.Mirrors.LexemeAt.{hashes, begins_hashed_quote, begins
 use Rattle.rl_tokens.specs.Classes.{is_hash, after_run}
 use Rattle.rl_tokens.proofs.Comments.{false_unless}
 use Rattle.rl_tokens.proofs.Pieces.{is_equal}
-use Rattle.rl_tokens.proofs.LexemeRows.{both_true, not_true, hashes_past, underscores_past, digits_past, sign_past, power_text}
+use Rattle.rl_tokens.proofs.HashLemmas.{hashes_first, hashes_past}
+use Rattle.rl_tokens.proofs.LexemeRows.{both_true, not_true, underscores_past, digits_past, sign_past, power_text}
 
 or_cases : (a b : Bool) → (a || b) ≡ true → (a ≡ true) ⊎ (b ≡ true)
 or_cases true b h = inl refl
@@ -32,14 +33,8 @@ two k l (c ∷ d ∷ u) h =
 
 -- ---- hashes and a quote
 
-opens_step : (c : ℕ) (t : List ℕ) (b : Bool) → (c == 35) ≡ b → slice_index (cond b (after_run is_hash t) (c ∷ t)) 0 ≡ 34 → (slice_index (after_run is_hash t) 0 ≡ 34 → t ≡ replicate (hashes t) 35 ++ 34 ∷ drop 1 (after_run is_hash t)) → c ∷ t ≡ replicate (cond b (suc (hashes t)) zero) 35 ++ 34 ∷ drop 1 (cond b (after_run is_hash t) (c ∷ t))
-opens_step c t true h opens more =
-    ap (λ s. c ∷ s) (more opens) ∙ ap (λ x. x ∷ (replicate (hashes t) 35 ++ 34 ∷ drop 1 (after_run is_hash t))) (is_equal c 35 h)
-opens_step c t false h opens more = ap (λ x. x ∷ t) opens
-
-pub opens_found : (t : List ℕ) → slice_index (after_run is_hash t) 0 ≡ 34 → t ≡ replicate (hashes t) 35 ++ 34 ∷ drop 1 (after_run is_hash t)
-opens_found [] h = absurd (omega arith)
-opens_found (c ∷ t) h = opens_step c t (c == 35) refl h (opens_found t)
+pub opens_found : (t : List ℕ) → (slice_index (after_run is_hash t) 0 == 34) ≡ true → t ≡ replicate (hashes t) 35 ++ 34 ∷ drop 1 (after_run is_hash t)
+opens_found t h = hashes_first t ∙ ap (λ s. replicate (hashes t) 35 ++ s) (prefixed 34 (after_run is_hash t) h (omega arith))
 
 pub raw_opens_here : (n : ℕ) (u : List ℕ) → begins_hashed_quote (replicate n 35 ++ 34 ∷ u) ≡ true
 raw_opens_here n u = ap (λ s. slice_index s 0 == 34) (hashes_past n u)
@@ -51,7 +46,7 @@ hashed_begins : (t : List ℕ) → begins_hashed_quote t ≡ true → BeginsHash
 hashed_begins t h = record {
   hashes = hashes t;
   rest = drop 1 (after_run is_hash t);
-  text_is = opens_found t (is_equal (slice_index (after_run is_hash t) 0) 34 h);
+  text_is = opens_found t h;
 }
 
 -- ---- raw literals

@@ -3,11 +3,12 @@ use Rattle.std.proofs.Common.{◌≡◌, ℕ, suc, zero, Bool, true, false, not,
 use Rattle.std.specs.List.{list_all}
 use Rattle.rl_tokens.specs.Texts.{is_underscore, first_passes, is_row_part}
 use Rattle.std.specs.Char.{is_ascii_digit}
-use Rattle.rl_tokens.specs.Lexemes.{begins_hashes, BodyPart, PlainPart, EscapedPart, body_text, IsBody, CharacterBody, OneCharacter, EscapedCharacter, character_body_text, IsCharacterBody, LexedFraction, NoLexedFraction, LexedDot, lexed_fraction_text, LexedSign, NoLexedSign, LexedPlus, LexedMinus, lexed_sign_text, LexedPower, lexed_exponent_text, IsRow, IsLexedSuffix, IsRawBody, IsLexedFraction, is_continue}
+use Rattle.rl_tokens.specs.Lexemes.{BodyPart, PlainPart, EscapedPart, body_text, IsBody, CharacterBody, OneCharacter, EscapedCharacter, character_body_text, IsCharacterBody, LexedFraction, NoLexedFraction, LexedDot, lexed_fraction_text, LexedSign, NoLexedSign, LexedPlus, LexedMinus, lexed_sign_text, LexedPower, lexed_exponent_text, IsRow, IsLexedSuffix, IsRawBody, IsLexedFraction, is_continue}
 use Rattle.rl_tokens.proofs.Comments.{false_unless}
+use Rattle.rl_tokens.proofs.HashLemmas.{hashes_here, drop_hashes, hashes_inside}
 use Rattle.rl_tokens.proofs.Pieces.{is_equal}
-use Rattle.rl_tokens.specs.Mirrors.LexemeAt.{after_suffix, after_quote, hashes, after_raw, after_apostrophe, after_single, after_lexed_fraction, after_sign}
-use Rattle.rl_tokens.specs.Classes.{is_hash, after_run}
+use Rattle.rl_tokens.specs.Mirrors.LexemeAt.{after_suffix, after_quote, after_raw, after_apostrophe, after_single, after_lexed_fraction, after_sign}
+use Rattle.rl_tokens.specs.Classes.{after_run}
 
 pub both_true : (a b : Bool) → (a && b) ≡ true → (a ≡ true) × (b ≡ true)
 both_true true b h = (refl, h)
@@ -62,33 +63,12 @@ quote_past (PlainPart c ∷ parts) t (plain, is) =
 quote_past (EscapedPart c ∷ parts) t is = quote_past parts t is
 
 -- Raw bodies.
-hashes_here : (n : ℕ) (t : List ℕ) → begins_hashes n (replicate n 35 ++ t) ≡ true
-hashes_here zero t = refl
-hashes_here (suc n) t = hashes_here n t
-
-drop_hashes : (n : ℕ) (t : List ℕ) → drop n (replicate n 35 ++ t) ≡ t
-drop_hashes zero t = refl
-drop_hashes (suc n) t = drop_hashes n t
-
-pub hashes_inside : (n : ℕ) (body t : List ℕ) → begins_hashes n (body ++ 34 ∷ t) ≡ begins_hashes n body
-hashes_inside zero body t = refl
-hashes_inside (suc n) [] t = refl
-hashes_inside (suc n) (c ∷ body) t = ap (λ b. c == 35 && b) (hashes_inside n body t)
-
 pub raw_past : (n : ℕ) (body t : List ℕ) → IsRawBody n body → after_raw n (body ++ 34 ∷ (replicate n 35 ++ t)) ≡ Some t
 raw_past n [] t is =
     ap (λ b. cond b (Some (drop n (replicate n 35 ++ t))) (after_raw n (replicate n 35 ++ t))) (hashes_here n t) ∙ ap Some (drop_hashes n t)
 raw_past n (c ∷ body) t (here, is) =
     ap (λ b. cond b (Some (drop n (body ++ 34 ∷ (replicate n 35 ++ t)))) (after_raw n (body ++ 34 ∷ (replicate n 35 ++ t)))) (ap (λ b. c == 34 && b) (hashes_inside n body (replicate n 35 ++ t)) ∙ here)
     ∙ raw_past n body t is
-
-pub hashes_count : (n : ℕ) (t : List ℕ) → hashes (replicate n 35 ++ 34 ∷ t) ≡ n
-hashes_count zero t = refl
-hashes_count (suc n) t = ap suc (hashes_count n t)
-
-pub hashes_past : (n : ℕ) (t : List ℕ) → after_run is_hash (replicate n 35 ++ 34 ∷ t) ≡ 34 ∷ t
-hashes_past zero t = refl
-hashes_past (suc n) t = hashes_past n t
 
 -- Characters.
 apostrophe_past : (more t : List ℕ) → list_all (λ d. not (d == 39 || d == 10)) more ≡ true → after_apostrophe (more ++ 39 ∷ t) ≡ Some t

@@ -19,6 +19,7 @@ pub mod WrittenForms
 pub mod AsciiLemmas
 pub mod LexemeSteps
 pub mod RowSteps
+pub mod HashLemmas
 pub mod LexemeRows
 pub mod Gaps
 pub mod LexemeOpeners

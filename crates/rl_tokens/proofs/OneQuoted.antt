@@ -7,6 +7,7 @@ use Rattle.rl_tokens.specs.declared.kind.Kind.{Kind}
 use Rattle.rl_tokens.specs.declared.kind.Kind.TheVariants.{Str, ByteStr, CStr, Byte, Char, Int, Float, Bool as BoolKind}
 use Rattle.rl_tokens.specs.Texts.{first_passes, is_underscore}
 use Rattle.rl_tokens.specs.Quoted.{QuotedUnit, Letter, Plain, CrLf, Named, Hex, Unicode, Continuation, LowerN, LowerR, LowerT, Backslash, Apostrophe, Quote, Zero, letter_value, letter_text, unit_text, unit_value, unicode_value, content_of, hex_value, is_hex_digit, is_blank, is_line_end, is_string, is_plain, IsUnit, texts, values, EndsBefore, ContinuationsEnd, opener, raw_opener, Cooked, Raw, Single}
+use Rattle.rl_tokens.proofs.HashLemmas.{hashes_all}
 use Rattle.rl_tokens.proofs.Basics.{apart}
 use Rattle.rl_tokens.proofs.StrictNumbers.{same_run}
 
@@ -213,10 +214,6 @@ last_same (c ∷ a) (d ∷ b) p q hp hq e =
     let tail : a ++ (34 ∷ p) ≡ b ++ (34 ∷ q) = cc in
     let r = last_same a b p q hp hq tail in
     (let e = r.0 in cc, r.1)
-
-hashes_all : (n : ℕ) → list_all (λ c. eqb c 35) (replicate n 35) ≡ true
-hashes_all zero = refl
-hashes_all (suc n) = hashes_all n
 
 hashes_no_quote : (n : ℕ) (x : List ℕ) → list_all no_quote x ≡ true → list_all no_quote (replicate n 35 ++ x) ≡ true
 hashes_no_quote zero x h = h

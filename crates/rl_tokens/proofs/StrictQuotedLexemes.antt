@@ -1,5 +1,5 @@
 -- A strict quoted literal is one lexeme before what may follow a literal.
-use Rattle.std.proofs.Common.{◌≡◌, ◌≢◌, ℕ, ◌⊎◌, inl, inr, zero, suc, Bool, true, false, not, ◌&&◌, ◌||◌, ◌==◌, List, [], ◌∷◌, ◌++◌, length, replicate, refl, sym, ◌∙◌, ap, subst, append-nil}
+use Rattle.std.proofs.Common.{◌≡◌, ◌≢◌, ℕ, ◌⊎◌, inl, inr, zero, suc, Bool, true, false, not, ◌&&◌, ◌||◌, ◌==◌, List, [], ◌∷◌, ◌++◌, length, replicate, refl, sym, ◌∙◌, ap, subst, append-nil, drop}
 use Rattle.std.specs.Prelude.{nat_lt, nat_le, if◌then◌else◌}
 use Rattle.std.specs.List.{list_all, flat_map}
 use Rattle.std.specs.Char.{is_ascii_hexdigit}
@@ -11,6 +11,7 @@ use Rattle.rl_tokens.specs.declared.kind.Kind.TheVariants.{Str, ByteStr, CStr, B
 use Rattle.rl_tokens.specs.Lexemes.{LiteralPrefix, NoPrefix, BytePrefix, CPrefix, prefix_text, BodyPart, PlainPart, EscapedPart, body_text, IsBody, CharacterBody, OneCharacter, EscapedCharacter, character_body_text, IsCharacterBody, begins_hashes, IsRawBody, QuotedLexeme, RawLexeme, CharacterLexeme}
 use Rattle.rl_tokens.specs.Reading.{Contents}
 use Rattle.rl_tokens.specs.Strict.{StrictUnit, Itself, QuoteEscape, PlainEscape, AsciiEscape, ByteEscape, UnicodeEscape, LineBreak, spaced_digit, spaced_value, strict_text, spelled_number, is_octal, is_dropped_blank, is_unicode_escape, is_bare_character, is_bare_in_string, is_strict_unit, strict_opener, strict_closer, HasUnits, StrictCooked, StrictRaw}
+use Rattle.rl_tokens.proofs.HashLemmas.{hashes_split}
 use Rattle.rl_tokens.proofs.Comments.{false_unless}
 use Rattle.rl_tokens.proofs.Pieces.{is_equal}
 use Rattle.rl_tokens.proofs.Basics.{apart, all_weaker, hex_is_sixteen}
@@ -257,21 +258,12 @@ single_lexed k t x v f s =
     }
 
 -- Raw strings: no quote inside has the hashes after it.
-hashes_front : (n : ℕ) (t : List ℕ) → begins_hashes n t ≡ true → (rest : List ℕ) × (t ≡ replicate n 35 ++ rest)
-hashes_front zero t h = (t, refl)
-hashes_front (suc n) [] h = absurd (cc)
-hashes_front (suc n) (c ∷ t) h =
-    let p = and_parts (c == 35) (begins_hashes n t) h in
-    let (rest, same) = hashes_front n t p.1 in
-    (rest, ap (λ z. z ∷ t) (is_equal c 35 p.0) ∙ ap (λ z. 35 ∷ z) same)
-
 raw_body : (n : ℕ) (body : List ℕ) → ((front rest : List ℕ) → body ≢ (front ++ (34 ∷ replicate n 35)) ++ rest) → IsRawBody n body
 raw_body n [] none = tt
 raw_body n (c ∷ body) none = (
   false_unless (c == 34 && begins_hashes n body) (λ h.
       let p = and_parts (c == 34) (begins_hashes n body) h in
-      let (rest, same) = hashes_front n body p.1 in
-      none [] rest (ap (λ z. z ∷ body) (is_equal c 34 p.0) ∙ ap (λ z. 34 ∷ z) same)),
+      none [] (drop n body) (ap (λ z. z ∷ body) (is_equal c 34 p.0) ∙ ap (λ z. 34 ∷ z) (hashes_split n body p.1))),
   raw_body n body (λ front rest e. none (c ∷ front) rest (ap (λ z. c ∷ z) e)),
 )
 

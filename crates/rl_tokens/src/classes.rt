@@ -4,7 +4,7 @@
 ghost use Rattle.std.specs.Prelude.{◌≡◌, ◌≤◌, length};
 ghost use Rattle.std.specs.Str.{chars};
 ghost use Rattle.rl_tokens.specs.Texts.{IsTail};
-ghost use Rattle.rl_tokens.specs.Classes.{after_run, class_test};
+ghost use Rattle.rl_tokens.specs.Classes.{after_run, class_test, is_hash};
 
 use crate::characters::{is_continue, is_white, is_xid_continue};
 use crate::text::{split_ascii, split_char};
@@ -75,7 +75,16 @@ pub fn skip_class(class: CharClass, text: &str) -> &str
     skip_wide_class(class, rest)
 }
 
-/// The same, character by character.
+/// The text after the hashes at its front, perhaps none.
+#[inline(always)]
+pub fn skip_hashes(text: &str) -> &str
+    ensures rest { chars result.now ≡ after_run is_hash (chars text.now) }
+    ensures following { IsTail text.now result.now }
+{
+    skip_class(CharClass::Hash, text)
+}
+
+/// As [`skip_class`], character by character.
 #[inline(never)]
 fn skip_wide_class(class: CharClass, text: &str) -> &str
     ensures rest { chars result.now ≡ after_run (class_test class) (chars text.now) }

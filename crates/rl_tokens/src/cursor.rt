@@ -139,7 +139,7 @@ impl<'t> Tokens<'t> {
         }
         let kind = error_kind(self.rest);
         let at = self.text.len() - self.rest.len();
-        Some(LexError { kind, at })
+        Some(LexError::new(kind, at))
     }
 
     /// What is left of the text, after white space and comments: empty at its end, or where a

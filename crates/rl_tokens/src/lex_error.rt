@@ -44,6 +44,16 @@ pub enum LexKind {
     Memory,
 }
 
+impl LexError {
+    /// An error of the kind, at the byte.
+    #[inline(always)]
+    pub(crate) fn new(kind: LexKind, at: usize) -> LexError
+        ensures { result ≡ record { kind = kind; at = at } }
+    {
+        LexError { kind, at }
+    }
+}
+
 impl LexKind {
     /// The words of the error.
     pub(crate) fn words(self) -> &'static str

@@ -76,17 +76,11 @@ impl<A: Allocator + Copy> TreeBuilder<A> {
         match form {
             Form::Literal => match String::from_str(self.alloc, text) {
                 Ok(text) => self.append(TokenTree::Literal(Literal::of_string(text, span)), lo),
-                Err(_) => Err(LexError {
-                    kind: LexKind::Memory,
-                    at: lo,
-                }),
+                Err(_) => Err(LexError::new(LexKind::Memory, lo)),
             },
             Form::Identifier => match String::from_str(self.alloc, text) {
                 Ok(text) => self.append(TokenTree::Ident(Ident::of_string(text, span)), lo),
-                Err(_) => Err(LexError {
-                    kind: LexKind::Memory,
-                    at: lo,
-                }),
+                Err(_) => Err(LexError::new(LexKind::Memory, lo)),
             },
             Form::Mark(c) => self.append(TokenTree::Punct(Punct::new(c, span)), lo),
             Form::Delimiter(c) => {
@@ -111,10 +105,7 @@ impl<A: Allocator + Copy> TreeBuilder<A> {
             ..
         } = self;
         match opened.pop() {
-            Some(innermost) => Err(LexError {
-                kind: LexKind::UnclosedGroup,
-                at: innermost.at,
-            }),
+            Some(innermost) => Err(LexError::new(LexKind::UnclosedGroup, innermost.at)),
             None => Ok(trees),
         }
     }
@@ -126,10 +117,7 @@ impl<A: Allocator + Copy> TreeBuilder<A> {
         ensures err { IfErr result (λ e. e ≡ record { kind = LexKind.Memory; at = at }) }
     {
         if let Err(_refused) = self.trees.push(tree) {
-            return Err(LexError {
-                kind: LexKind::Memory,
-                at,
-            });
+            return Err(LexError::new(LexKind::Memory, at));
         }
         Ok(())
     }
@@ -142,10 +130,7 @@ impl<A: Allocator + Copy> TreeBuilder<A> {
         ensures kind { IfErr result (λ e. RejectsOpener (groups_of self.old) e.kind) }
     {
         if self.opened.len() >= MAX_OPEN {
-            return Err(LexError {
-                kind: LexKind::TooDeep,
-                at,
-            });
+            return Err(LexError::new(LexKind::TooDeep, at));
         }
         let before = mem::replace(&mut self.trees, TokenStream::new(self.alloc));
         let opened = GroupBuilder {
@@ -154,10 +139,7 @@ impl<A: Allocator + Copy> TreeBuilder<A> {
             before,
         };
         if let Err(_refused) = self.opened.push(opened) {
-            return Err(LexError {
-                kind: LexKind::Memory,
-                at,
-            });
+            return Err(LexError::new(LexKind::Memory, at));
         }
         Ok(())
     }
@@ -171,16 +153,10 @@ impl<A: Allocator + Copy> TreeBuilder<A> {
         ensures kind { IfErr result (λ e. RejectsCloser (groups_of self.old) delimiter e.kind) }
     {
         let Some(open) = self.opened.pop() else {
-            return Err(LexError {
-                kind: LexKind::UnmatchedClose,
-                at: lo,
-            });
+            return Err(LexError::new(LexKind::UnmatchedClose, lo));
         };
         if open.delimiter != delimiter {
-            return Err(LexError {
-                kind: LexKind::UnmatchedClose,
-                at: lo,
-            });
+            return Err(LexError::new(LexKind::UnmatchedClose, lo));
         }
         let inside = mem::replace(&mut self.trees, open.before);
         let span = Span::new(self.file, open.at, hi);

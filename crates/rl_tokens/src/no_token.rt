@@ -11,6 +11,7 @@ ghost use Rattle.rl_tokens.specs.Mirrors.LexemeAt.{begins_quote, begins_raw};
 ghost use Rattle.rl_tokens.specs.Lexemes.{begins_raw_identifier};
 
 use crate::characters::is_start;
+use crate::kind::Kind;
 use crate::lex_error::LexKind;
 use crate::lexeme::{begins_hashed_quote, begins_marked_identifier};
 use crate::text::{begins_with, split_char};
@@ -74,12 +75,12 @@ fn begins_doc_comment(text: &str) -> bool
 fn begins_quote(text: &str) -> bool
     ensures { result ≡ begins_quote (chars text.now) }
 {
-    begins(text, "\"")
-        || begins(text, "b\"")
-        || begins(text, "c\"")
+    begins(text, Kind::Str.opener())
+        || begins(text, Kind::ByteStr.opener())
+        || begins(text, Kind::CStr.opener())
         || begins_raw(text)
-        || begins(text, "b'")
-        || (begins(text, "'") && !begins_lifetime(text))
+        || begins(text, Kind::Byte.opener())
+        || (begins(text, Kind::Char.opener()) && !begins_lifetime(text))
 }
 
 /// Whether the opener of a raw literal begins the text.

@@ -123,7 +123,7 @@ impl<'t> Sources<'t> {
         }
         let kind = source_error_kind(self.rest);
         let at = self.text.len() - self.rest.len();
-        Some(LexError { kind, at })
+        Some(LexError::new(kind, at))
     }
 
     /// What is left of the text, after white space and comments: empty at its end, else a token or

@@ -1,6 +1,6 @@
 //! Walking a text by its characters, and what it begins with.
 
-ghost use Rattle.std.specs.Prelude.{◌≡◌, ◌<◌, ◌==◌, ◌++◌, ◌∷◌, [], length, drop, slice_index, encode_utf8, MatchOption, IfSome, IfNone, IsFalse};
+ghost use Rattle.std.specs.Prelude.{◌≡◌, ◌<◌, ◌==◌, ◌++◌, ◌∷◌, ◌≢◌, ℕ, List, [], length, drop, slice_index, encode_utf8, MatchOption, IfSome, IfNone, IsFalse};
 ghost use Rattle.std.specs.Char.{is_ascii};
 ghost use Rattle.std.specs.Str.{chars};
 ghost use Rattle.rl_tokens.specs.Texts.{first_passes, IsTail};
@@ -72,4 +72,24 @@ pub(crate) fn strip_byte(text: &str, byte: u8) -> Option<&str>
         Some((first, following)) if first == byte => Some(following),
         _ => None,
     }
+}
+
+/// The text in front of a rest of it.
+#[tactic(auto, using(crate::proofs::BehindLemmas::cut_boundary, crate::proofs::BehindLemmas::cut_chars))]
+pub fn before<'t>(text: &'t str, rest: &str) -> &'t str
+    requires { IsTail text.now rest.now }
+    ensures cut { text.now ≡ result.now ++ rest.now }
+    ensures chars { chars text.now ≡ chars result.now ++ chars rest.now }
+{
+    &text[..text.len() - rest.len()]
+}
+
+/// The text after a prefix.
+#[tactic(auto, using(crate::proofs::BeginsLemmas::strip_prefix_some, crate::proofs::BeginsLemmas::strip_prefix_none, crate::proofs::BeginsLemmas::strip_prefix_behind))]
+pub fn behind_prefix<'t>(prefix: &str, text: &'t str) -> Option<&'t str>
+    ensures some { IfSome result (λ rest. chars text.now ≡ chars prefix.now ++ chars rest.now) }
+    ensures none { IfNone result ((x : List ℕ) → chars text.now ≢ chars prefix.now ++ x) }
+    ensures following { IfSome result (λ rest. IsTail text.now rest.now) }
+{
+    text.strip_prefix(prefix)
 }

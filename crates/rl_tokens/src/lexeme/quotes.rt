@@ -1,16 +1,17 @@
 //! Quoted, raw and single-character literals.
 #![tactic(auto, using(crate::proofs::BehindLemmas::behind_step))]
 
-ghost use Rattle.std.specs.Prelude.{◌≡◌, MatchOption, option_map, IfSome, drop, true, false};
+ghost use Rattle.std.specs.Prelude.{◌≡◌, option_map, IfSome, IsTrue, length};
+ghost use Rattle.std.specs.List.{list_all};
 ghost use Rattle.std.specs.Str.{chars};
 ghost use Rattle.rl_tokens.specs.Texts.{IsTail};
-ghost use Rattle.rl_tokens.specs.Mirrors.LexemeAt.{after_quote, after_raw, after_apostrophe, after_single, quoted_at, raw_at, single_at, begins_hashed_quote, hashes};
-ghost use Rattle.rl_tokens.specs.Classes.{after_run, is_hash};
-ghost use Rattle.rl_tokens.specs.Lexemes.{begins_hashes};
+ghost use Rattle.rl_tokens.specs.Mirrors.LexemeAt.{after_quote, after_raw, after_apostrophe, after_single, quoted_at, raw_at, single_at, begins_hashed_quote};
+ghost use Rattle.rl_tokens.specs.Classes.{is_hash};
 
 use super::suffix::after_suffix;
+use crate::classes::skip_hashes;
 use crate::scan::{Marks, next_mark};
-use crate::text::{begins_with, split_char, without_first};
+use crate::text::{before, begins_with, behind_prefix, split_char, without_first};
 
 /// What follows the literal after whose opening `"` the text stands.
 pub(crate) fn after_quoted(text: &str) -> Option<&str>
@@ -31,12 +32,13 @@ pub(crate) fn after_character(text: &str) -> Option<&str>
 }
 
 /// What follows the raw literal after whose `r` the text stands.
+#[tactic(auto, using(crate::proofs::HashLemmas::hashes_alone, crate::proofs::HashLemmas::hashes_counted))]
 pub(crate) fn after_raw_literal(text: &str) -> Option<&str>
     ensures rest { option_map (λ rest. chars rest.now) result ≡ raw_at (chars text.now) }
     ensures following { IfSome result (λ rest. IsTail text.now rest.now) }
 {
-    let (count, opener) = split_hashes(text);
-    let rest = after_raw(count, without_first(opener))?;
+    let opener = skip_hashes(text);
+    let rest = after_raw(before(text, opener), without_first(opener))?;
     Some(after_suffix(rest))
 }
 
@@ -44,8 +46,7 @@ pub(crate) fn after_raw_literal(text: &str) -> Option<&str>
 pub(crate) fn begins_hashed_quote(text: &str) -> bool
     ensures { result ≡ begins_hashed_quote (chars text.now) }
 {
-    let (_, opener) = split_hashes(text);
-    begins_with(opener, '"')
+    begins_with(skip_hashes(text), '"')
 }
 
 /// What follows the `"` that ends a body.
@@ -65,15 +66,17 @@ fn after_quote(text: &str) -> Option<&str>
     None
 }
 
-/// What follows the `"` and the hashes, so many, that end a raw body.
+/// What follows the `"` and as many hashes as these, which end a raw body.
 #[inline(never)]
-fn after_raw(count: usize, text: &str) -> Option<&str>
-    ensures rest { option_map (λ rest. chars rest.now) result ≡ after_raw count (chars text.now) }
+fn after_raw<'t>(hashes: &str, text: &'t str) -> Option<&'t str>
+    requires { IsTrue (list_all is_hash (chars hashes.now)) }
+    ensures rest { option_map (λ rest. chars rest.now) result
+        ≡ after_raw (length (chars hashes.now)) (chars text.now) }
     ensures following { IfSome result (λ rest. IsTail text.now rest.now) }
 {
     let mut rest = text;
     while let Some((_, following)) = next_mark(Marks::two(b'"', b'"'), rest) {
-        if let Some(end) = strip_hashes(following, count) {
+        if let Some(end) = behind_prefix(hashes, following) {
             return Some(end);
         }
         rest = following;
@@ -113,41 +116,4 @@ fn after_apostrophe(text: &str) -> Option<&str>
         rest = following;
     }
     None
-}
-
-/// The number of hashes at the front, and what follows them.
-pub(crate) fn split_hashes(text: &str) -> (usize, &str)
-    ensures count { result.0 ≡ hashes (chars text.now) }
-    ensures rest { chars result.1.now ≡ after_run is_hash (chars text.now) }
-    ensures following { IsTail text.now result.1.now }
-{
-    let mut count: usize = 0;
-    let mut rest = text;
-    while let Some((c, following)) = split_char(rest) {
-        if c != '#' {
-            break;
-        }
-        count += 1;
-        rest = following;
-    }
-    (count, rest)
-}
-
-/// What follows so many hashes, where they stand.
-pub(crate) fn strip_hashes(text: &str, count: usize) -> Option<&str>
-    ensures rest { MatchOption result (begins_hashes count (chars text.now) ≡ false)
-        (λ rest. chars rest.now ≡ drop count (chars text.now)) }
-    ensures stands { IfSome result (λ rest. begins_hashes count (chars text.now) ≡ true) }
-    ensures following { IfSome result (λ rest. IsTail text.now rest.now) }
-{
-    let mut rest = text;
-    let mut left = count;
-    while left > 0 {
-        match split_char(rest) {
-            Some(('#', following)) => rest = following,
-            _ => return None,
-        }
-        left -= 1;
-    }
-    Some(rest)
 }

@@ -1,5 +1,5 @@
 -- No lexeme begins what is left, so the error is reported.
-use Rattle.std.proofs.Common.{refl, arith}
+use Rattle.std.proofs.Common.{arith}
 use Rattle.std.proofs.lemmas.Grind.{common_steps}
 use Rattle.std.specs.Str.{chars}
 use Rattle.rl_tokens.specs.Lexing.{BeginsNoLexeme}
@@ -16,14 +16,14 @@ returns-clause-fault c =
     let R = c.self.inside.rest.now in
     let none : BeginsNoLexeme (chars R) = none_some c.first_lexeme.result _ c.is_some.result c.is_some.ensures c.if-is_some.false c.first_lexeme.ensures.none in
     rw (← c.self.view_is)
-    (stops_here c.self.inside.text.now R _ c.error_kind-kind.result c.self.invariant c.is_empty.result c.is_empty.ensures c.if-is_empty.false none c.error_kind-kind.ensures refl).fault
+    (stops_here c.self.inside.text.now R c.new.result c.error_kind-kind.result c.self.invariant c.is_empty.result c.is_empty.ensures c.if-is_empty.false none c.error_kind-kind.ensures c.new.ensures).fault
 
 pub returns-clause-first : goal.returns-clause-first
 returns-clause-first c =
     let R = c.self.inside.rest.now in
     let none : BeginsNoLexeme (chars R) = none_some c.first_lexeme.result _ c.is_some.result c.is_some.ensures c.if-is_some.false c.first_lexeme.ensures.none in
     rw (← c.self.view_is)
-    (stops_here c.self.inside.text.now R _ c.error_kind-kind.result c.self.invariant c.is_empty.result c.is_empty.ensures c.if-is_empty.false none c.error_kind-kind.ensures refl).first
+    (stops_here c.self.inside.text.now R c.new.result c.error_kind-kind.result c.self.invariant c.is_empty.result c.is_empty.ensures c.if-is_empty.false none c.error_kind-kind.ensures c.new.ensures).first
 
 pub overflow_sub-at : goal.overflow_sub-at
 overflow_sub-at c = grind (arith, common_steps)

@@ -7,7 +7,7 @@ use Rattle.rl_tokens.proofs.lexeme.quotes.after_raw.Given as goal
 abbrev pub invariant-loop-following : goal.invariant-loop-following
 invariant-loop-following l = record {
   following : IsTail l.text l.rest;
-  same : after_raw l.count (chars l.rest) ≡ after_raw l.count (chars l.text);
+  same : after_raw (length (chars l.hashes)) (chars l.rest) ≡ after_raw (length (chars l.hashes)) (chars l.text);
 }
 
 abbrev pub decreases-loop-following : goal.decreases-loop-following

@@ -5,9 +5,9 @@ use Rattle.rl_tokens.proofs.lexeme.quotes.after_raw_literal.Goals as goal
 pub returns-clause-following : goal.returns-clause-following
 returns-clause-following c =
     let t = c.args.text.now in
-    let opener = c.split_hashes-count.result.1.now in
+    let opener = c.skip_hashes-opener.result.now in
     let body = c.without_first.result.now in
     let rest = c.in_ok-rest.rest.now in
     behind_step t rest c.after_suffix.result.now
-    (behind_step t body rest (behind_step t opener body c.split_hashes-count.ensures.following c.without_first.ensures.following) c.in_ok-rest.ensures.following)
+    (behind_step t body rest (behind_step t opener body c.skip_hashes-opener.ensures.following c.without_first.ensures.following) c.in_ok-rest.ensures.following)
     c.after_suffix.ensures.following
