@@ -86,7 +86,7 @@ pub fn before<'t>(text: &'t str, rest: &str) -> &'t str
 
 /// The text after a prefix.
 #[tactic(auto, using(crate::proofs::BeginsLemmas::strip_prefix_some, crate::proofs::BeginsLemmas::strip_prefix_none, crate::proofs::BeginsLemmas::strip_prefix_behind))]
-pub fn behind_prefix<'t>(prefix: &str, text: &'t str) -> Option<&'t str>
+pub fn after_prefix<'t>(prefix: &str, text: &'t str) -> Option<&'t str>
     ensures some { IfSome result (λ rest. chars text.now ≡ chars prefix.now ++ chars rest.now) }
     ensures none { IfNone result ((x : List ℕ) → chars text.now ≢ chars prefix.now ++ x) }
     ensures following { IfSome result (λ rest. IsTail text.now rest.now) }

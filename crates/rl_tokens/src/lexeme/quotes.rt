@@ -11,7 +11,7 @@ ghost use Rattle.rl_tokens.specs.Classes.{is_hash};
 use super::suffix::after_suffix;
 use crate::classes::skip_hashes;
 use crate::scan::{Marks, next_mark};
-use crate::text::{before, begins_with, behind_prefix, split_char, without_first};
+use crate::text::{after_prefix, before, begins_with, split_char, without_first};
 
 /// What follows the literal after whose opening `"` the text stands.
 pub(crate) fn after_quoted(text: &str) -> Option<&str>
@@ -76,7 +76,7 @@ fn after_raw<'t>(hashes: &str, text: &'t str) -> Option<&'t str>
 {
     let mut rest = text;
     while let Some((_, following)) = next_mark(Marks::two(b'"', b'"'), rest) {
-        if let Some(end) = behind_prefix(hashes, following) {
+        if let Some(end) = after_prefix(hashes, following) {
             return Some(end);
         }
         rest = following;
