@@ -12,8 +12,8 @@ use Rattle.rl_grammar.specs.declared.found.Body.{Body}
 use Rattle.rl_grammar.specs.declared.quoted_forms.QuotedForm.TheVariants.{Single as SingleForm}
 use Rattle.rl_grammar.specs.Forms.{PartsAre}
 use Rattle.rl_grammar.specs.Founds.{IsFound, IsQuotedAt}
-use Rattle.rl_grammar.proofs.FoundLemmas.{OfUnit, UnitFound, quoted_found}
-use Rattle.rl_grammar.proofs.SingleBodies.{byte_unit, unit_reads}
+use Rattle.rl_grammar.proofs.FoundLemmas.{OfUnit, quoted_found}
+use Rattle.rl_grammar.proofs.SingleBodies.{byte_unit}
 
 -- what stands after a byte of ASCII
 record After (c : ℕ) (x : List ℕ) : Type 0 where
@@ -63,8 +63,7 @@ bare_found c x small other u =
         following = IsCharBoundary-after_ascii t 2 u (omega arith) (omega arith);
       };
     } in
-    let unit : UnitFound Char (chars t) c = ((λ h. unit_reads SingleForm Char (chars t) (c ∷ []) (chars (c ∷ [])) (chars x) c h parts (byte_unit Char c refl (omega (arith, small)))), (λ b k. absurd (k refl))) in
-    quoted_found t Char BareBody c u at unit
+    quoted_found t Char BareBody c u at (byte_unit Char c refl (omega (arith, small)))
 
 -- by the text's bytes
 pub bare_text : (t b : List ℕ) → b ≡ t → IsUtf8 t → 3 ≤ length b → get_or b 0 0 ≡ 39 → get_or b 2 0 ≡ 39 → (get_or b 1 0 ≡ 92 → ⊥) → get_or b 1 0 < 128 → IsFound t (OfUnit Char BareBody (get_or b 1 0))

@@ -18,7 +18,8 @@ use crate::digit_rows::is_negative;
 use crate::digits::{is_plain_float, is_plain_integer};
 use crate::number_forms::{Number, float_suffix, read_integer, read_number};
 use crate::quoted_forms::{
-    QuotedForm, begins_character, find_bare_character, find_character, find_form, split_opener,
+    QuotedForm, begins_character, find_bare_character, find_character, find_cooked, find_raw,
+    find_single, split_opener,
 };
 use crate::runs::before;
 use rl_tokens::Kind;
@@ -286,9 +287,9 @@ fn find_word_or_quoted(text: &str) -> Option<Found>
     };
     // Each form returns by itself, as each number does.
     match form {
-        QuotedForm::Cooked => return find_form(QuotedForm::Cooked, kind, text, inside),
-        QuotedForm::Single => return find_form(QuotedForm::Single, kind, text, inside),
-        QuotedForm::Raw => return find_form(QuotedForm::Raw, kind, text, inside),
+        QuotedForm::Cooked => return find_cooked(kind, text, inside),
+        QuotedForm::Single => return find_single(kind, text, inside),
+        QuotedForm::Raw => return find_raw(kind, text, inside),
     }
 }
 

@@ -1,15 +1,13 @@
 //! Whether a text is a quoted literal, and where the parts of one stand.
 
-ghost use Rattle.std.specs.Prelude.{◌≡◌, ◌≢◌, ◌==◌, ◌∷◌, ◌++◌, ℕ, List, None, option_map, IfSome, IfNone, IsTrue, ◌≤◌, ◌<◌, length, not};
+ghost use Rattle.std.specs.Prelude.{false, ◌≡◌, ◌≢◌, ◌==◌, ◌∷◌, ◌++◌, ℕ, List, None, option_map, IfSome, IfNone, IsTrue, ◌≤◌, ◌<◌, length, not};
 ghost use Rattle.std.specs.List.{list_all};
 ghost use Rattle.std.specs.Str.{chars};
 ghost use Rattle.rl_tokens.specs.Texts.{IsTail, first_passes};
-ghost use Rattle.rl_tokens.specs.Quoted.{is_string, is_single, is_raw};
+ghost use Rattle.rl_tokens.specs.Quoted.{is_string, is_raw};
 ghost use Rattle.rl_grammar.specs.Mirrors.UnitAt.{unit_at};
-ghost use Rattle.rl_grammar.specs.Bodies.{IsInside};
-ghost use Rattle.rl_grammar.specs.Founds.{IsFound};
+ghost use Rattle.rl_grammar.specs.Founds.{IsFound, StandsIn, body_in, suffix_in};
 ghost use Rattle.rl_grammar.specs.Rows.{BeginsRow};
-ghost use Rattle.rl_grammar.specs.Forms.{has_form, form_opener, HasNoParts};
 ghost use Rattle.rl_grammar.specs.Mirrors.OpenerAt.{found_opener, string_opener_at, byte_opener_at, opener_at};
 ghost use Rattle.rl_grammar.specs.Shapes.{HasNoQuoted};
 ghost use Rattle.rl_tokens.specs.Reading.{HasNoTruth};
@@ -28,19 +26,6 @@ pub(crate) enum QuotedForm {
     Cooked,
     Raw,
     Single,
-}
-
-/// What is read of a quoted literal after its opener.
-#[derive(Clone, Copy)]
-pub(crate) struct Inside<'t> {
-    /// The text from the body on.
-    opened: &'t str,
-    body: &'t str,
-    suffix: &'t str,
-    /// Whether the body stands for itself.
-    plain: bool,
-    /// What the one character or byte stands for; 0 for a string.
-    unit: u32,
 }
 
 /// What a `"` or an `r` at the front tells of a string of the kind.
@@ -130,72 +115,95 @@ pub(crate) fn has_nul(text: &str) -> bool
     text.contains('\0')
 }
 
-/// The text in front of a rest that begins with the quote, and the text after that quote.
+/// The text after the quote at its front.
 #[tactic(auto, using(crate::proofs::AsciiLemmas::no_quote))]
-fn cut_at_quote<'t>(quote: u8, text: &'t str, rest: &'t str) -> Option<(&'t str, &'t str)>
-    requires ascii { quote < 128 }
-    requires rest { IsTail text.now rest.now }
-    ensures cut { IfSome result (λ p. text.now ≡ p.0.now ++ rest.now) }
-    ensures before { IfSome result (λ p. chars text.now ≡ chars p.0.now ++ chars rest.now) }
-    ensures quote { IfSome result (λ p. chars rest.now ≡ quote ∷ chars p.1.now) }
-    ensures none { IfNone result ((x : List ℕ) → chars rest.now ≢ quote ∷ x) }
+fn behind_quote(quote: u8, text: &str) -> Option<&str>
+    requires { quote < 128 }
+    ensures some { IfSome result (λ rest. chars text.now ≡ quote ∷ chars rest.now) }
+    ensures none { IfNone result ((x : List ℕ) → chars text.now ≢ quote ∷ x) }
+    ensures following { IfSome result (λ rest. IsTail text.now rest.now) }
 {
-    match split_ascii(rest) {
-        Some((next, after)) if next == quote => Some((before(text, rest), after)),
+    match split_ascii(text) {
+        Some((first, rest)) if first == quote => Some(rest),
         _ => None,
     }
 }
 
-/// A cooked string, from the text after its opener.
+/// Where the parts of a quoted literal stand, from what is left of its text: from the body on, from the closing quote
+/// on, and from the suffix on.
 #[inline(always)]
-fn cooked_inside(kind: Kind, text: &str) -> Option<Inside<'_>>
-    requires { IsTrue (is_string kind) }
-    ensures some { IfSome result (IsInside QuotedForm.Cooked kind text.now) }
-    ensures none { IfNone result
-        (HasNoParts QuotedForm.Cooked kind (form_opener QuotedForm.Cooked kind ++ chars text.now)) }
+fn places(text: &str, opened: &str, closer: &str, suffix: &str, plain: bool) -> Body
+    requires opened { IsTail text.now opened.now }
+    requires closer { IsTail opened.now closer.now }
+    requires suffix { IsTail closer.now suffix.now }
+    ensures stands { StandsIn text.now result }
+    ensures body { chars opened.now ≡ chars (body_in text.now result) ++ chars closer.now }
+    ensures suffix { suffix_in text.now result ≡ suffix.now }
+    ensures plain { result.plain ≡ plain }
 {
-    let (_, following) = split_plain(kind, text);
-    if let Some((body, suffix)) = cut_at_quote(b'"', text, following) {
-        return Some(Inside {
-            opened: text,
-            body,
-            suffix,
-            plain: true,
-            unit: 0,
-        });
+    Body {
+        lo: text.len() - opened.len(),
+        hi: text.len() - closer.len(),
+        suffix_at: text.len() - suffix.len(),
+        plain,
     }
-    let (body, suffix) = cut_at_quote(b'"', text, skip_units(kind, following))?;
-    Some(Inside {
-        opened: text,
-        body,
-        suffix,
-        plain: false,
-        unit: 0,
-    })
 }
 
-/// A raw string, from its hashes on.
-#[inline(never)]
-fn raw_inside(kind: Kind, text: &str) -> Option<Inside<'_>>
-    requires { IsTrue (is_string kind) }
-    ensures some { IfSome result (IsInside QuotedForm.Raw kind text.now) }
-    ensures none { IfNone result
-        (HasNoParts QuotedForm.Raw kind (form_opener QuotedForm.Raw kind ++ chars text.now)) }
+/// The quoted literal of these places; the number is what a character or a byte stands for, and 0 for a string.
+#[inline(always)]
+fn quoted(kind: Kind, body: Body, unit: u32) -> Found
+    ensures { result ≡ record {
+      magnitude = 0;
+      body = body;
+      kind = kind;
+      truth = false;
+      unit = unit;
+    } }
 {
-    let (hashes, opened) = cut_at_quote(b'"', text, skip_hashes(text))?;
+    Found {
+        kind,
+        body,
+        magnitude: 0,
+        truth: false,
+        unit,
+    }
+}
+
+/// What reading the text finds as a cooked string, from the text after its opener.
+#[inline(always)]
+#[tactic(auto, using(crate::proofs::PlaceLemmas::opened))]
+pub(crate) fn find_cooked(kind: Kind, text: &str, inside: &str) -> Option<Found>
+    requires { opener_at (chars text.now) ≡ found_opener QuotedForm.Cooked kind (chars inside.now) }
+    ensures no_quoted { IfNone result (HasNoQuoted (chars text.now)) }
+    ensures found { IfSome result (IsFound text.now) }
+{
+    let (_, following) = split_plain(kind, inside);
+    if let Some(suffix) = behind_quote(b'"', following) {
+        return Some(quoted(kind, places(text, inside, following, suffix, true), 0));
+    }
+    let closer = skip_units(kind, following);
+    let suffix = behind_quote(b'"', closer)?;
+    Some(quoted(kind, places(text, inside, closer, suffix, false), 0))
+}
+
+/// What reading the text finds as a raw string, from its hashes on.
+#[inline(never)]
+#[tactic(auto, using(rl_tokens::proofs::Rests::behind_drop))]
+pub(crate) fn find_raw(kind: Kind, text: &str, inside: &str) -> Option<Found>
+    requires { opener_at (chars text.now) ≡ found_opener QuotedForm.Raw kind (chars inside.now) }
+    ensures no_quoted { IfNone result (HasNoQuoted (chars text.now)) }
+    ensures found { IfSome result (IsFound text.now) }
+{
+    let rest = skip_hashes(inside);
+    let hashes = before(inside, rest);
+    let opened = behind_quote(b'"', rest)?;
     let (body, after) = split_last_quote(opened)?;
     let suffix = behind_prefix(hashes, after)?;
-    if holds_all(kind, body) {
-        Some(Inside {
-            opened,
-            body,
-            suffix,
-            plain: true,
-            unit: 0,
-        })
-    } else {
-        None
+    if !holds_all(kind, body) {
+        return None;
     }
+    let closer = &opened[body.len()..];
+    Some(quoted(kind, places(text, opened, closer, suffix, true), 0))
 }
 
 /// Whether the raw form of the kind takes each character of the text.
@@ -209,39 +217,18 @@ fn holds_all(kind: Kind, text: &str) -> bool
     }
 }
 
-/// A character or a byte, from the text after its opener.
+/// What reading the text finds as a character or a byte, from the text after its opener.
 #[inline(always)]
-fn single_inside(kind: Kind, text: &str) -> Option<Inside<'_>>
-    requires { IsTrue (is_single kind) }
-    ensures some { IfSome result (IsInside QuotedForm.Single kind text.now) }
-    ensures none { IfNone result
-        (HasNoParts QuotedForm.Single kind (form_opener QuotedForm.Single kind ++ chars text.now)) }
+#[tactic(auto, using(crate::proofs::PlaceLemmas::opened))]
+pub(crate) fn find_single(kind: Kind, text: &str, inside: &str) -> Option<Found>
+    requires { opener_at (chars text.now) ≡ found_opener QuotedForm.Single kind (chars inside.now) }
+    ensures no_quoted { IfNone result (HasNoQuoted (chars text.now)) }
+    ensures found { IfSome result (IsFound text.now) }
 {
-    let (piece, rest) = unit(kind, text)?;
-    let (body, suffix) = cut_at_quote(b'\'', text, rest)?;
-    Some(Inside {
-        opened: text,
-        body,
-        suffix,
-        plain: false,
-        unit: piece_unit(kind, piece),
-    })
-}
-
-/// A literal of the form, from the text after its opener.
-#[inline(always)]
-fn read_inside(form: QuotedForm, kind: Kind, text: &str) -> Option<Inside<'_>>
-    requires { IsTrue (has_form form kind) }
-    ensures some { IfSome result (IsInside form kind text.now) }
-    ensures none { IfNone result (HasNoParts form kind (form_opener form kind ++ chars text.now)) }
-{
-    // Each arm takes out what was read, so that the parts of a cooked string stay in registers.
-    let inside = match form {
-        QuotedForm::Cooked => cooked_inside(kind, text)?,
-        QuotedForm::Raw => raw_inside(kind, text)?,
-        QuotedForm::Single => single_inside(kind, text)?,
-    };
-    Some(inside)
+    let (piece, closer) = unit(kind, inside)?;
+    let suffix = behind_quote(b'\'', closer)?;
+    let body = places(text, inside, closer, suffix, false);
+    Some(quoted(kind, body, piece_unit(kind, piece)))
 }
 
 /// A character of ASCII between single quotes, which isn't a backslash: `'a'`. It stands for itself.
@@ -256,18 +243,13 @@ pub(crate) fn find_bare_character(text: &str) -> Option<Found>
     if bytes[1] == b'\\' || bytes[1] >= 128 {
         return None;
     }
-    Some(Found {
-        kind: Kind::Char,
-        body: Body {
-            lo: 1,
-            hi: 2,
-            suffix_at: 3,
-            plain: false,
-        },
-        magnitude: 0,
-        truth: false,
-        unit: bytes[1] as u32,
-    })
+    let body = Body {
+        lo: 1,
+        hi: 2,
+        suffix_at: 3,
+        plain: false,
+    };
+    Some(quoted(Kind::Char, body, bytes[1] as u32))
 }
 
 /// Whether a `'` begins the text, and as many bytes follow as a character has.
@@ -290,30 +272,5 @@ pub(crate) fn find_character(text: &str) -> Option<Found>
     let Some((_, inside)) = split_ascii(text) else {
         unreachable!()
     };
-    find_form(QuotedForm::Single, Kind::Char, text, inside)
-}
-
-/// What reading the text finds as a quoted literal of the form, from the text after its opener.
-#[inline(always)]
-pub(crate) fn find_form(form: QuotedForm, kind: Kind, text: &str, inside: &str) -> Option<Found>
-    requires { opener_at (chars text.now) ≡ found_opener form kind (chars inside.now) }
-    ensures no_quoted { IfNone result (HasNoQuoted (chars text.now)) }
-    ensures no_truth { HasNoTruth (chars text.now) }
-    ensures found { IfSome result (IsFound text.now) }
-{
-    let read = read_inside(form, kind, inside)?;
-    let lo = text.len() - read.opened.len();
-    let body = Body {
-        lo,
-        hi: lo + read.body.len(),
-        suffix_at: text.len() - read.suffix.len(),
-        plain: read.plain,
-    };
-    Some(Found {
-        kind,
-        body,
-        magnitude: 0,
-        truth: false,
-        unit: read.unit,
-    })
+    find_single(Kind::Char, text, inside)
 }
