@@ -1,6 +1,6 @@
 //! The one reading of a text: what it finds, as places in it, so that nothing has to be read again to take a literal apart.
 
-ghost use Rattle.std.specs.Prelude.{◌≡◌, ◌∷◌, ◌⊎◌, ℕ, List, IfNone, IfSome, ◌≢◌, Bool, ◌↔◌, IsTrue};
+ghost use Rattle.std.specs.Prelude.{◌≡◌, ◌∷◌, ◌⊎◌, ℕ, List, IfNone, IfSome, ◌≢◌, Bool, ◌↔◌, IsTrue, IsFalse};
 ghost use Rattle.std.specs.Str.{chars};
 ghost use Rattle.rl_tokens.specs.declared.kind.Kind.{Kind as AnyKind};
 ghost use Rattle.rl_tokens.specs.declared.kind.Kind.TheVariants.{Float, Int};
@@ -10,7 +10,6 @@ ghost use Rattle.rl_tokens.specs.Texts.{IsTail, first_passes};
 ghost use Rattle.rl_grammar.specs.Founds.{IsFound, IsFoundFloat};
 ghost use Rattle.rl_grammar.specs.Mirrors.NumberAt.{sign_at};
 ghost use Rattle.rl_grammar.specs.NumberShapes.{HasNoNumber, HasOneFloat, HasOneInteger, HasMagnitude};
-ghost use Rattle.rl_grammar.specs.Shapes.{HasNoQuoted};
 ghost use Rattle.rl_grammar.specs.StrictBytes.{KeepsBytesStrict};
 ghost use Rattle.rl_grammar.specs.WholeShapes.{IsSplit, is_number_front, IsPlain};
 
@@ -278,8 +277,8 @@ pub fn find(text: &str) -> Option<Found>
 /// What reading the text as a quoted literal or a truth value finds.
 #[inline(never)]
 fn find_word_or_quoted(text: &str) -> Option<Found>
-    ensures no_quoted { IfNone result (HasNoQuoted (chars text.now)) }
-    ensures no_truth { IfNone result (HasNoTruth (chars text.now)) }
+    requires { IsFalse (first_passes is_number_front (chars text.now)) }
+    ensures none { IfNone result (HasNoReading (chars text.now)) }
     ensures found { IfSome result (IsFound text.now) }
 {
     let Some((form, kind, inside)) = split_opener(text) else {

@@ -1,16 +1,16 @@
 //! Whether a text is a quoted literal, and where the parts of one stand.
 
-ghost use Rattle.std.specs.Prelude.{false, ◌≡◌, ◌≢◌, ◌==◌, ◌∷◌, ◌++◌, ℕ, List, None, option_map, IfSome, IfNone, IsTrue, ◌≤◌, ◌<◌, length, not};
+ghost use Rattle.std.specs.Prelude.{slice_index, false, ◌≡◌, ◌≢◌, ◌==◌, ◌∷◌, ◌++◌, ℕ, List, None, option_map, IfSome, IfNone, IsTrue, ◌≤◌, ◌<◌, length, not};
 ghost use Rattle.std.specs.List.{list_all};
 ghost use Rattle.std.specs.Str.{chars};
 ghost use Rattle.rl_tokens.specs.Texts.{IsTail, first_passes};
-ghost use Rattle.rl_tokens.specs.Quoted.{is_string, is_raw};
+ghost use Rattle.rl_tokens.specs.Written.{closer};
+ghost use Rattle.rl_tokens.specs.Quoted.{opener, is_string, is_raw};
 ghost use Rattle.rl_grammar.specs.Mirrors.UnitAt.{unit_at};
-ghost use Rattle.rl_grammar.specs.Founds.{IsFound, StandsIn, body_in, suffix_in};
+ghost use Rattle.rl_grammar.specs.Founds.{is_quoted, IsFound, StandsIn, body_in, suffix_in};
 ghost use Rattle.rl_grammar.specs.Rows.{BeginsRow};
 ghost use Rattle.rl_grammar.specs.Mirrors.OpenerAt.{found_opener, string_opener_at, byte_opener_at, opener_at};
-ghost use Rattle.rl_grammar.specs.Shapes.{HasNoQuoted};
-ghost use Rattle.rl_tokens.specs.Reading.{HasNoTruth};
+ghost use Rattle.rl_tokens.specs.Reading.{HasNoReading};
 ghost use Rattle.rl_tokens.specs.Classes.{after_run, is_hash};
 
 use crate::found::{Body, Found};
@@ -28,14 +28,36 @@ pub(crate) enum QuotedForm {
     Single,
 }
 
-/// What a `"` or an `r` at the front tells of a string of the kind.
+/// The first byte of the opener of a quoted kind: a letter, or the quote.
+#[inline(always)]
+fn first_of(kind: Kind) -> u8
+    requires { IsTrue (is_quoted kind) }
+    ensures { result ≡ slice_index (opener kind) 0 }
+{
+    kind.opener().as_bytes()[0]
+}
+
+/// The quote of a quoted kind: the last byte of its opener, by which its literals close too.
+#[inline(always)]
+fn quote_of(kind: Kind) -> u8
+    requires { IsTrue (is_quoted kind) }
+    ensures value { result ≡ closer kind }
+    ensures ascii { result < 128 }
+{
+    let opener = kind.opener().as_bytes();
+    opener[opener.len() - 1]
+}
+
+/// What a quote or an `r` at the front tells of a string of the kind.
+#[inline(always)]
 #[tactic(auto, using(crate::proofs::AsciiLemmas::no_string_opener))]
 fn split_string_opener(kind: Kind, text: &str) -> Option<(QuotedForm, Kind, &str)>
+    requires { IsTrue (is_string kind) }
     ensures { option_map (λ p. (p.0, p.1, chars p.2.now)) result
         ≡ string_opener_at kind (chars text.now) }
 {
     match split_ascii(text) {
-        Some((b'"', rest)) => Some((QuotedForm::Cooked, kind, rest)),
+        Some((first, rest)) if first == quote_of(kind) => Some((QuotedForm::Cooked, kind, rest)),
         Some((b'r', rest)) => Some((QuotedForm::Raw, kind, rest)),
         _ => None,
     }
@@ -47,7 +69,9 @@ fn split_byte_opener(text: &str) -> Option<(QuotedForm, Kind, &str)>
     ensures { option_map (λ p. (p.0, p.1, chars p.2.now)) result ≡ byte_opener_at (chars text.now) }
 {
     match split_ascii(text) {
-        Some((b'\'', rest)) => Some((QuotedForm::Single, Kind::Byte, rest)),
+        Some((first, rest)) if first == quote_of(Kind::Byte) => {
+            Some((QuotedForm::Single, Kind::Byte, rest))
+        }
         _ => split_string_opener(Kind::ByteStr, text),
     }
 }
@@ -58,12 +82,15 @@ fn split_byte_opener(text: &str) -> Option<(QuotedForm, Kind, &str)>
 pub(crate) fn split_opener(text: &str) -> Option<(QuotedForm, Kind, &str)>
     ensures { option_map (λ p. (p.0, p.1, chars p.2.now)) result ≡ opener_at (chars text.now) }
 {
-    match split_ascii(text) {
-        Some((b'\'', rest)) => Some((QuotedForm::Single, Kind::Char, rest)),
-        Some((b'b', rest)) => split_byte_opener(rest),
-        Some((b'c', rest)) => split_string_opener(Kind::CStr, rest),
-        Some(_) => split_string_opener(Kind::Str, text),
-        None => None,
+    let (first, rest) = split_ascii(text)?;
+    if first == first_of(Kind::Char) {
+        Some((QuotedForm::Single, Kind::Char, rest))
+    } else if first == first_of(Kind::Byte) {
+        split_byte_opener(rest)
+    } else if first == first_of(Kind::CStr) {
+        split_string_opener(Kind::CStr, rest)
+    } else {
+        split_string_opener(Kind::Str, text)
     }
 }
 
@@ -115,16 +142,17 @@ pub(crate) fn has_nul(text: &str) -> bool
     text.contains('\0')
 }
 
-/// The text after the quote at its front.
+/// The text after the quote of the kind, where that stands at the front.
+#[inline(always)]
 #[tactic(auto, using(crate::proofs::AsciiLemmas::no_quote))]
-fn behind_quote(quote: u8, text: &str) -> Option<&str>
-    requires { quote < 128 }
-    ensures some { IfSome result (λ rest. chars text.now ≡ quote ∷ chars rest.now) }
-    ensures none { IfNone result ((x : List ℕ) → chars text.now ≢ quote ∷ x) }
+fn behind_quote(kind: Kind, text: &str) -> Option<&str>
+    requires { IsTrue (is_quoted kind) }
+    ensures some { IfSome result (λ rest. chars text.now ≡ closer kind ∷ chars rest.now) }
+    ensures none { IfNone result ((x : List ℕ) → chars text.now ≢ closer kind ∷ x) }
     ensures following { IfSome result (λ rest. IsTail text.now rest.now) }
 {
     match split_ascii(text) {
-        Some((first, rest)) if first == quote => Some(rest),
+        Some((first, rest)) if first == quote_of(kind) => Some(rest),
         _ => None,
     }
 }
@@ -174,15 +202,15 @@ fn quoted(kind: Kind, body: Body, unit: u32) -> Found
 #[tactic(auto, using(crate::proofs::PlaceLemmas::opened))]
 pub(crate) fn find_cooked(kind: Kind, text: &str, inside: &str) -> Option<Found>
     requires { opener_at (chars text.now) ≡ found_opener QuotedForm.Cooked kind (chars inside.now) }
-    ensures no_quoted { IfNone result (HasNoQuoted (chars text.now)) }
+    ensures none { IfNone result (HasNoReading (chars text.now)) }
     ensures found { IfSome result (IsFound text.now) }
 {
     let (_, following) = split_plain(kind, inside);
-    if let Some(suffix) = behind_quote(b'"', following) {
+    if let Some(suffix) = behind_quote(Kind::Str, following) {
         return Some(quoted(kind, places(text, inside, following, suffix, true), 0));
     }
     let closer = skip_units(kind, following);
-    let suffix = behind_quote(b'"', closer)?;
+    let suffix = behind_quote(Kind::Str, closer)?;
     Some(quoted(kind, places(text, inside, closer, suffix, false), 0))
 }
 
@@ -191,12 +219,12 @@ pub(crate) fn find_cooked(kind: Kind, text: &str, inside: &str) -> Option<Found>
 #[tactic(auto, using(rl_tokens::proofs::Rests::behind_drop))]
 pub(crate) fn find_raw(kind: Kind, text: &str, inside: &str) -> Option<Found>
     requires { opener_at (chars text.now) ≡ found_opener QuotedForm.Raw kind (chars inside.now) }
-    ensures no_quoted { IfNone result (HasNoQuoted (chars text.now)) }
+    ensures none { IfNone result (HasNoReading (chars text.now)) }
     ensures found { IfSome result (IsFound text.now) }
 {
     let rest = skip_hashes(inside);
     let hashes = before(inside, rest);
-    let opened = behind_quote(b'"', rest)?;
+    let opened = behind_quote(Kind::Str, rest)?;
     let (body, after) = split_last_quote(opened)?;
     let suffix = behind_prefix(hashes, after)?;
     if !holds_all(kind, body) {
@@ -222,25 +250,34 @@ fn holds_all(kind: Kind, text: &str) -> bool
 #[tactic(auto, using(crate::proofs::PlaceLemmas::opened))]
 pub(crate) fn find_single(kind: Kind, text: &str, inside: &str) -> Option<Found>
     requires { opener_at (chars text.now) ≡ found_opener QuotedForm.Single kind (chars inside.now) }
-    ensures no_quoted { IfNone result (HasNoQuoted (chars text.now)) }
+    ensures none { IfNone result (HasNoReading (chars text.now)) }
     ensures found { IfSome result (IsFound text.now) }
 {
     let (piece, closer) = unit(kind, inside)?;
-    let suffix = behind_quote(b'\'', closer)?;
+    let suffix = behind_quote(Kind::Char, closer)?;
     let body = places(text, inside, closer, suffix, false);
     Some(quoted(kind, body, piece_unit(kind, piece)))
+}
+
+/// Whether a `'` begins the text, and as many bytes follow as a character has.
+#[inline(always)]
+pub(crate) fn begins_character(text: &str) -> bool
+    ensures long { IsTrue result → 3 ≤ length text.now }
+    ensures quote { IsTrue result → slice_index text.now 0 ≡ 39 }
+{
+    let bytes = text.as_bytes();
+    bytes.len() >= 3 && bytes[0] == first_of(Kind::Char)
 }
 
 /// A character of ASCII between single quotes, which isn't a backslash: `'a'`. It stands for itself.
 #[inline(always)]
 pub(crate) fn find_bare_character(text: &str) -> Option<Found>
+    requires long { 3 ≤ length text.now }
+    requires quote { slice_index text.now 0 ≡ 39 }
     ensures { IfSome result (IsFound text.now) }
 {
     let bytes = text.as_bytes();
-    if bytes.len() < 3 || bytes[0] != b'\'' || bytes[2] != b'\'' {
-        return None;
-    }
-    if bytes[1] == b'\\' || bytes[1] >= 128 {
+    if bytes[2] != quote_of(Kind::Char) || bytes[1] == b'\\' || bytes[1] >= 128 {
         return None;
     }
     let body = Body {
@@ -252,21 +289,11 @@ pub(crate) fn find_bare_character(text: &str) -> Option<Found>
     Some(quoted(Kind::Char, body, bytes[1] as u32))
 }
 
-/// Whether a `'` begins the text, and as many bytes follow as a character has.
-#[inline(always)]
-pub(crate) fn begins_character(text: &str) -> bool
-    ensures { IsTrue result → IsTrue (first_passes (λ c. c == 39) (chars text.now)) }
-{
-    let bytes = text.as_bytes();
-    bytes.len() >= 3 && bytes[0] == b'\''
-}
-
 /// What reading the text as a character finds, which a `'` begins.
 #[inline(never)]
 pub(crate) fn find_character(text: &str) -> Option<Found>
-    requires { IsTrue (first_passes (λ c. c == 39) (chars text.now)) }
-    ensures no_quoted { IfNone result (HasNoQuoted (chars text.now)) }
-    ensures no_truth { HasNoTruth (chars text.now) }
+    requires { slice_index text.now 0 ≡ 39 }
+    ensures none { IfNone result (HasNoReading (chars text.now)) }
     ensures found { IfSome result (IsFound text.now) }
 {
     let Some((_, inside)) = split_ascii(text) else {

@@ -5,14 +5,10 @@ use Rattle.rl_grammar.specs.declared.quoted_forms.QuotedForm.TheVariants.{Single
 use Rattle.rl_grammar.specs.Mirrors.OpenerAt.{opener_at}
 use Rattle.rl_grammar.proofs.BareCharacters.{quote_is, quote_ascii}
 use Rattle.rl_grammar.proofs.FormLemmas.{front_complete}
-use Rattle.rl_grammar.proofs.QuotedStopLemmas.{opener_no_truth}
 use Rattle.rl_grammar.proofs.quoted_forms.find_character.Goals as goal
 
 pub find_single-requires : goal.find_single-requires
-find_single-requires c = ap opener_at (quote_is _ _ _ c.in-Some.ensures.some c.requires) ∙ front_complete SingleForm Char (chars c.in-Some.inside.now) refl
+find_single-requires c = ap opener_at (quote_is _ _ _ c.utf8.text c.requires c.in-Some.ensures.some) ∙ front_complete SingleForm Char (chars c.in-Some.inside.now) refl
 
 pub unreachable-requires : goal.unreachable-requires
-unreachable-requires c = quote_ascii (chars c.args.text.now) c.requires c.in_default.ensures.none
-
-pub returns-clause-no_truth : goal.returns-clause-no_truth
-returns-clause-no_truth c = opener_no_truth _ SingleForm Char (chars c.in-Some.inside.now) (ap opener_at (quote_is _ _ _ c.in-Some.ensures.some c.requires) ∙ front_complete SingleForm Char (chars c.in-Some.inside.now) refl)
+unreachable-requires c = quote_ascii _ c.utf8.text c.requires c.in_default.ensures.none

@@ -3,11 +3,12 @@ use Rattle.std.specs.Str.{chars, IsUtf8}
 use Rattle.rl_tokens.specs.Quoted.{is_plain}
 use Rattle.rl_tokens.proofs.BehindLemmas.{if_none}
 use Rattle.rl_grammar.proofs.CutLemmas.{behind_chars}
-use Rattle.rl_grammar.proofs.FormLemmas.{cooked_found, cooked_none, cooked_units, front_sound, no_parts}
+use Rattle.rl_grammar.proofs.FormLemmas.{cooked_found, cooked_none, cooked_units, front_sound}
 use Rattle.rl_grammar.proofs.FoundLemmas.{form_found}
 use Rattle.rl_grammar.proofs.PlainLemmas.{one_run, no_run}
 use Rattle.rl_grammar.proofs.RowLemmas.{row_start}
 use Rattle.rl_grammar.proofs.SingleBodies.{no_unit}
+use Rattle.rl_grammar.proofs.QuotedStopLemmas.{only_quoted}
 use Rattle.rl_grammar.proofs.quoted_forms.find_cooked.Goals as goal
 
 pub split_plain-requires : goal.split_plain-requires
@@ -37,11 +38,11 @@ returns-in-Some-clause-found c =
     let plain = at.plain ∙ one_run (is_plain c.args.kind) _ _ _ (sym at.body ∙ cut.cut) cut.plain in
     form_found _ _ _ _ _ _ _ _ _ c.utf8.text c.requires parts at.suffix at.stands plain (no_unit _ _ string) c.quoted.ensures
 
-pub returns-in_err-suffix-clause-no_quoted : goal.returns-in_err-suffix-clause-no_quoted
-returns-in_err-suffix-clause-no_quoted c =
+pub returns-in_err-suffix-clause-none : goal.returns-in_err-suffix-clause-none
+returns-in_err-suffix-clause-none c =
     let cut = c.split_plain.ensures in
     let (w, row) = cooked_units _ _ _ _ _ _ cut.cut cut.plain c.skip_units-closer.ensures.row.1 in
-    if_none _ (no_parts _ _ _ _ c.requires (cooked_none _ _ _ _ None row c.skip_units-closer.ensures.stuck c.in_err-suffix.ensures.none))
+    if_none _ (only_quoted _ _ _ _ c.requires (cooked_none _ _ _ _ None row c.skip_units-closer.ensures.stuck c.in_err-suffix.ensures.none))
 
 pub returns-clause-found : goal.returns-clause-found
 returns-clause-found c =

@@ -7,32 +7,33 @@ use Rattle.rl_tokens.specs.Quoted.{is_raw}
 use Rattle.rl_tokens.proofs.BehindLemmas.{behind_step, if_none}
 use Rattle.rl_grammar.specs.Founds.{body_in}
 use Rattle.rl_grammar.proofs.CutLemmas.{behind_chars}
-use Rattle.rl_grammar.proofs.FormLemmas.{front_sound, no_parts}
+use Rattle.rl_grammar.proofs.FormLemmas.{front_sound}
 use Rattle.rl_grammar.proofs.FoundLemmas.{form_found}
 use Rattle.rl_grammar.proofs.PlaceLemmas.{closer_is, opened}
 use Rattle.rl_grammar.proofs.RawLemmas.{hashes_behind, raw_unopened, raw_unclosed, raw_other_hashes, raw_not_held, raw_found}
 use Rattle.rl_grammar.proofs.ShapeLemmas.{closed_cut}
 use Rattle.rl_grammar.proofs.SingleBodies.{no_unit}
+use Rattle.rl_grammar.proofs.QuotedStopLemmas.{only_quoted}
 use Rattle.rl_grammar.proofs.quoted_forms.find_raw.Goals as goal
 
-pub returns-in_err-opened-clause-no_quoted : goal.returns-in_err-opened-clause-no_quoted
-returns-in_err-opened-clause-no_quoted c = if_none _ (no_parts _ _ _ _ c.requires (raw_unopened _ _ _ c.skip_hashes-rest.ensures c.in_err-opened.ensures.none))
+pub returns-in_err-opened-clause-none : goal.returns-in_err-opened-clause-none
+returns-in_err-opened-clause-none c = if_none _ (only_quoted _ _ _ _ c.requires (raw_unopened _ _ _ c.skip_hashes-rest.ensures c.in_err-opened.ensures.none))
 
-pub returns-in_err-body-clause-no_quoted : goal.returns-in_err-body-clause-no_quoted
-returns-in_err-body-clause-no_quoted c = if_none _ (no_parts _ _ _ _ c.requires (raw_unclosed _ _ _ _ c.skip_hashes-rest.ensures c.before-hashes.ensures.chars _ c.in_ok-opened.ensures.some c.in_err-body.ensures.none))
+pub returns-in_err-body-clause-none : goal.returns-in_err-body-clause-none
+returns-in_err-body-clause-none c = if_none _ (only_quoted _ _ _ _ c.requires (raw_unclosed _ _ _ _ c.skip_hashes-rest.ensures c.before-hashes.ensures.chars _ c.in_ok-opened.ensures.some c.in_err-body.ensures.none))
 
 pub before-hashes-requires : goal.before-hashes-requires
 before-hashes-requires c = hashes_behind _ _ c.utf8.inside c.skip_hashes-rest.utf8 c.skip_hashes-rest.ensures
 
-pub returns-in_err-suffix-clause-no_quoted : goal.returns-in_err-suffix-clause-no_quoted
-returns-in_err-suffix-clause-no_quoted c =
+pub returns-in_err-suffix-clause-none : goal.returns-in_err-suffix-clause-none
+returns-in_err-suffix-clause-none c =
     let b = c.in_ok-body.ensures.some in
-    if_none _ (no_parts _ _ _ _ c.requires (raw_other_hashes _ _ _ _ c.skip_hashes-rest.ensures c.before-hashes.ensures.chars _ _ _ c.in_ok-opened.ensures.some b.0 b.1 c.in_err-suffix.ensures.none))
+    if_none _ (only_quoted _ _ _ _ c.requires (raw_other_hashes _ _ _ _ c.skip_hashes-rest.ensures c.before-hashes.ensures.chars _ _ _ c.in_ok-opened.ensures.some b.0 b.1 c.in_err-suffix.ensures.none))
 
-pub returns-then-not-holds_all-clause-no_quoted : goal.returns-then-not-holds_all-clause-no_quoted
-returns-then-not-holds_all-clause-no_quoted c =
+pub returns-then-not-holds_all-clause-none : goal.returns-then-not-holds_all-clause-none
+returns-then-not-holds_all-clause-none c =
     let b = c.in_ok-body.ensures.some in
-    no_parts _ _ _ _ c.requires (raw_not_held _ _ _ _ c.skip_hashes-rest.ensures c.before-hashes.ensures.chars _ _ _ c.in_ok-opened.ensures.some b.0 b.1 (sym c.if-not-holds_all.ensures))
+    only_quoted _ _ _ _ c.requires (raw_not_held _ _ _ _ c.skip_hashes-rest.ensures c.before-hashes.ensures.chars _ _ _ c.in_ok-opened.ensures.some b.0 b.1 (sym c.if-not-holds_all.ensures))
 
 pub range_from-closer-requires : goal.range_from-closer-requires
 range_from-closer-requires c =

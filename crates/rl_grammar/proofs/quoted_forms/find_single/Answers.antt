@@ -2,17 +2,18 @@ use Rattle.std.proofs.Common.{None, sym, rules}
 use Rattle.std.specs.Str.{IsUtf8}
 use Rattle.rl_tokens.proofs.BehindLemmas.{if_none}
 use Rattle.rl_grammar.proofs.CutLemmas.{behind_chars}
-use Rattle.rl_grammar.proofs.FormLemmas.{front_sound, no_parts, single_found, single_stuck, single_none}
+use Rattle.rl_grammar.proofs.FormLemmas.{front_sound, single_found, single_stuck, single_none}
 use Rattle.rl_grammar.proofs.FoundLemmas.{form_found}
 use Rattle.rl_grammar.proofs.SingleBodies.{unit_one}
 use Rattle.rl_grammar.proofs.UnitLemmas.{unit_sound}
+use Rattle.rl_grammar.proofs.QuotedStopLemmas.{only_quoted}
 use Rattle.rl_grammar.proofs.quoted_forms.find_single.Goals as goal
 
-pub returns-in_err-piece-clause-no_quoted : goal.returns-in_err-piece-clause-no_quoted
-returns-in_err-piece-clause-no_quoted c = if_none _ (no_parts _ _ _ _ c.requires (single_stuck _ _ (sym c.in_err-piece.ensures.value)))
+pub returns-in_err-piece-clause-none : goal.returns-in_err-piece-clause-none
+returns-in_err-piece-clause-none c = if_none _ (only_quoted _ _ _ _ c.requires (single_stuck _ _ (sym c.in_err-piece.ensures.value)))
 
-pub returns-in_err-suffix-clause-no_quoted : goal.returns-in_err-suffix-clause-no_quoted
-returns-in_err-suffix-clause-no_quoted c = if_none _ (no_parts _ _ _ _ c.requires (single_none _ _ _ None (sym c.in_ok-piece.ensures.value) c.in_err-suffix.ensures.none))
+pub returns-in_err-suffix-clause-none : goal.returns-in_err-suffix-clause-none
+returns-in_err-suffix-clause-none c = if_none _ (only_quoted _ _ _ _ c.requires (single_none _ _ _ None (sym c.in_ok-piece.ensures.value) c.in_err-suffix.ensures.none))
 
 pub places-body-requires-clause-closer : goal.places-body-requires-clause-closer
 places-body-requires-clause-closer c =
