@@ -1,12 +1,10 @@
 -- A character of ASCII that stands for itself between single quotes.
-use Rattle.std.proofs.Common.{◌≡◌, ◌<◌, ◌≤◌, ℕ, true, suc, zero, false, not, eqb, List, [], ◌∷◌, length, drop, get_or, refl, sym, ap, subst, ◌∙◌, arith, inl, inr}
+use Rattle.std.proofs.Common.{◌≡◌, ◌<◌, ◌≤◌, ℕ, suc, zero, false, not, eqb, List, [], ◌∷◌, length, drop, get_or, refl, sym, ap, subst, ◌∙◌, arith, inl, inr}
 use Rattle.std.proofs.lemmas.Bool.{eqb-true, cases_Bool}
 use Rattle.std.proofs.lemmas.Str.{IsCharBoundary-after_ascii, IsUtf8-drop, chars-IsAscii}
-use Rattle.std.specs.Char.{is_ascii}
-use Rattle.std.specs.Str.{chars, IsAscii, IsUtf8}
+use Rattle.std.specs.Str.{IsCharBoundary, chars, IsAscii, IsUtf8}
 use Rattle.rl_tokens.specs.declared.kind.Kind.TheVariants.{Char}
 use Rattle.rl_tokens.specs.Quoted.{Plain}
-use Rattle.rl_tokens.specs.Texts.{first_passes}
 use Rattle.rl_tokens.proofs.ScanLemmas.{ascii_first}
 use Rattle.rl_grammar.specs.declared.found.Body.{Body}
 use Rattle.rl_grammar.specs.declared.found.Found.{Found}
@@ -57,7 +55,7 @@ bare_found c x small other u =
         following = IsCharBoundary-after_ascii t 2 u (omega arith) (omega arith);
       };
     } in
-    quoted_found t Char BareBody c u at (byte_unit Char c refl (omega (arith, small)))
+    quoted_found t Char BareBody c _ u at (byte_unit Char c refl (omega (arith, small))) refl
 
 -- by the text's bytes
 pub bare_text : (t b : List ℕ) (found : Found) → b ≡ t → IsUtf8 t → 3 ≤ length t → get_or t 0 0 ≡ 39 → get_or b 2 0 ≡ 39 → (get_or b 1 0 ≡ 92 → ⊥) → get_or b 1 0 < 128 → found ≡ OfUnit Char BareBody (get_or b 1 0) → IsFound t found
@@ -77,15 +75,10 @@ bare_text t b found same u long first last other small found_is =
 
 -- ---- the quote in front
 
-quote_first : (t : List ℕ) → IsUtf8 t → get_or t 0 0 ≡ 39 → chars t ≡ 39 ∷ chars (drop 1 t)
-quote_first [] u e = absurd (cc)
-quote_first (c ∷ x) u e = ascii_first (c ∷ x) u (omega arith) (omega (arith, e)) ∙ ap (λ z. z ∷ chars x) e
+pub quote_boundary : (t : List ℕ) → IsUtf8 t → get_or t 0 0 ≡ 39 → IsCharBoundary t 1
+quote_boundary [] u e = absurd (cc)
+quote_boundary (c ∷ x) u e = IsCharBoundary-after_ascii (c ∷ x) 0 u (omega arith) (omega (arith, e))
 
-pub quote_is : (t : List ℕ) (c : ℕ) (x : List ℕ) → IsUtf8 t → get_or t 0 0 ≡ 39 → chars t ≡ c ∷ x → chars t ≡ 39 ∷ x
-quote_is t c x u e is =
-    let both : c ∷ x ≡ 39 ∷ chars (drop 1 t) = sym is ∙ quote_first t u e in
-    let same : c ≡ 39 = cc in
-    is ∙ ap (λ z. z ∷ x) same
-
-pub quote_ascii : (t : List ℕ) → IsUtf8 t → get_or t 0 0 ≡ 39 → first_passes is_ascii (chars t) ≡ false → ⊥
-quote_ascii t u e none = let h : true ≡ false = sym (ap (first_passes is_ascii) (quote_first t u e)) ∙ none in absurd (cc)
+pub quote_first : (t inside : List ℕ) → IsUtf8 t → get_or t 0 0 ≡ 39 → inside ≡ drop 1 t → chars t ≡ 39 ∷ chars inside
+quote_first [] inside u e is = absurd (cc)
+quote_first (c ∷ x) inside u e is = ascii_first (c ∷ x) u (omega arith) (omega (arith, e)) ∙ ap (λ z. z ∷ chars x) e ∙ ap (λ z. 39 ∷ chars z) (sym is)

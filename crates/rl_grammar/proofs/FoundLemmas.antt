@@ -102,10 +102,10 @@ quoted_whole t Int body u q = absurd (no_form Int t body refl refl q)
 quoted_whole t Float body u q = absurd (no_form Float t body refl refl q)
 quoted_whole t BoolKind body u q = absurd (no_form BoolKind t body refl refl q)
 
-pub quoted_found : (t : List ℕ) (kind : Kind) (body : Body) (n : ℕ) → IsUtf8 t → (q : IsQuotedAt kind t body) → IsUnitValue kind q.value n → IsFound t (OfUnit kind body n)
-quoted_found t kind body n u q h =
+pub quoted_found : (t : List ℕ) (kind : Kind) (body : Body) (n : ℕ) (found : Found) → IsUtf8 t → (q : IsQuotedAt kind t body) → IsUnitValue kind q.value n → found ≡ OfUnit kind body n → IsFound t found
+quoted_found t kind body n found u q h is =
     let w = quoted_whole t kind body u q in
-    record {
+    subst (IsFound t) (sym is) (record {
       reads = w.reads;
       cut = w.cut;
       stands = q.stands;
@@ -117,15 +117,14 @@ quoted_found t kind body n u q h =
       no_truth = λ e. refl;
       unit = λ s. unit_reads q.form kind (chars t) q.value (chars (body_in t body)) (chars (suffix_in t body)) n s q.parts h;
       no_unit = h.none;
-    }
+    })
 
 -- from the parts of the literal after its opener
-pub form_found : (form : QuotedForm) (kind : Kind) (t inside v suffix : List ℕ) (body : Body) (n : ℕ) (found : Found) → IsUtf8 t → opener_at (chars t) ≡ found_opener form kind (chars inside) → PartsAre form kind (form_opener form kind ++ chars inside) v (chars (body_in t body)) (chars suffix) → suffix_in t body ≡ suffix → StandsIn t body → body.plain ≡ is_plain_body form kind (chars (body_in t body)) → IsUnitValue kind v n → found ≡ OfUnit kind body n → IsFound t found
-form_found form kind t inside v suffix body n found u front parts suffix_is stands plain unit found_is =
+abbrev pub form_at : (form : QuotedForm) (kind : Kind) (t inside v suffix : List ℕ) (body : Body) → opener_at (chars t) ≡ found_opener form kind (chars inside) → PartsAre form kind (form_opener form kind ++ chars inside) v (chars (body_in t body)) (chars suffix) → suffix_in t body ≡ suffix → StandsIn t body → body.plain ≡ is_plain_body form kind (chars (body_in t body)) → IsQuotedAt kind t body
+form_at form kind t inside v suffix body front parts suffix_is stands plain =
     let b = chars (body_in t body) in
     let whole = parts_at_front (chars t) form kind (chars inside) v b (chars suffix) front parts in
-    let at : IsQuotedAt kind t body = record { form = form; value = v; parts = subst (λ x. PartsAre form kind (chars t) v b (chars x)) (sym suffix_is) whole; plain_is = plain; stands = stands } in
-    subst (IsFound t) (sym found_is) (quoted_found t kind body n u at unit)
+    record { form = form; value = v; parts = subst (λ x. PartsAre form kind (chars t) v b (chars x)) (sym suffix_is) whole; plain_is = plain; stands = stands }
 
 -- what is found is a reading of its kind
 pub found_reads : (t : List ℕ) (f : Found) → IsFound t f → ReadsAs f.kind (chars t)

@@ -7,7 +7,7 @@ ghost use Rattle.rl_tokens.specs.Texts.{IsTail, first_passes};
 ghost use Rattle.rl_tokens.specs.Written.{closer};
 ghost use Rattle.rl_tokens.specs.Quoted.{opener, is_string, is_raw};
 ghost use Rattle.rl_grammar.specs.Mirrors.UnitAt.{unit_at};
-ghost use Rattle.rl_grammar.specs.Founds.{is_quoted, IsFound, StandsIn, body_in, suffix_in};
+ghost use Rattle.rl_grammar.specs.Founds.{is_quoted, IsFound, IsQuotedAt, StandsIn, body_in, suffix_in};
 ghost use Rattle.rl_grammar.specs.Rows.{BeginsRow};
 ghost use Rattle.rl_grammar.specs.Mirrors.OpenerAt.{found_opener, string_opener_at, byte_opener_at, opener_at};
 ghost use Rattle.rl_tokens.specs.Reading.{HasNoReading};
@@ -169,12 +169,14 @@ fn places(text: &str, opened: &str, closer: &str, suffix: &str, plain: bool) -> 
     ensures suffix { suffix_in text.now result ≡ suffix.now }
     ensures plain { result.plain ≡ plain }
 {
-    Body {
+    // It has a name, since what is made in the place of the result has its padding written too.
+    let body = Body {
         lo: text.len() - opened.len(),
         hi: text.len() - closer.len(),
         suffix_at: text.len() - suffix.len(),
         plain,
-    }
+    };
+    body
 }
 
 /// The quoted literal of these places; the number is what a character or a byte stands for, and 0 for a string.
@@ -214,13 +216,13 @@ pub(crate) fn find_cooked(kind: Kind, text: &str, inside: &str) -> Option<Found>
     Some(quoted(kind, places(text, inside, closer, suffix, false), 0))
 }
 
-/// What reading the text finds as a raw string, from its hashes on.
+/// Where the parts of a raw string stand, from its hashes on.
 #[inline(never)]
 #[tactic(auto, using(rl_tokens::proofs::Rests::behind_drop))]
-pub(crate) fn find_raw(kind: Kind, text: &str, inside: &str) -> Option<Found>
+fn raw_places(kind: Kind, text: &str, inside: &str) -> Option<Body>
     requires { opener_at (chars text.now) ≡ found_opener QuotedForm.Raw kind (chars inside.now) }
     ensures none { IfNone result (HasNoReading (chars text.now)) }
-    ensures found { IfSome result (IsFound text.now) }
+    ensures some { IfSome result (IsQuotedAt kind text.now) }
 {
     let rest = skip_hashes(inside);
     let hashes = before(inside, rest);
@@ -231,7 +233,18 @@ pub(crate) fn find_raw(kind: Kind, text: &str, inside: &str) -> Option<Found>
         return None;
     }
     let closer = &opened[body.len()..];
-    Some(quoted(kind, places(text, opened, closer, suffix, true), 0))
+    Some(places(text, opened, closer, suffix, true))
+}
+
+/// What reading the text finds as a raw string, from its hashes on.
+#[inline(always)]
+pub(crate) fn find_raw(kind: Kind, text: &str, inside: &str) -> Option<Found>
+    requires { opener_at (chars text.now) ≡ found_opener QuotedForm.Raw kind (chars inside.now) }
+    ensures none { IfNone result (HasNoReading (chars text.now)) }
+    ensures found { IfSome result (IsFound text.now) }
+{
+    let body = raw_places(kind, text, inside)?;
+    Some(quoted(kind, body, 0))
 }
 
 /// Whether the raw form of the kind takes each character of the text.
@@ -296,8 +309,5 @@ pub(crate) fn find_character(text: &str) -> Option<Found>
     ensures none { IfNone result (HasNoReading (chars text.now)) }
     ensures found { IfSome result (IsFound text.now) }
 {
-    let Some((_, inside)) = split_ascii(text) else {
-        unreachable!()
-    };
-    find_single(Kind::Char, text, inside)
+    find_single(Kind::Char, text, &text[1..])
 }

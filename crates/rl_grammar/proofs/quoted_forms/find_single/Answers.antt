@@ -3,7 +3,7 @@ use Rattle.std.specs.Str.{IsUtf8}
 use Rattle.rl_tokens.proofs.BehindLemmas.{if_none}
 use Rattle.rl_grammar.proofs.CutLemmas.{behind_chars}
 use Rattle.rl_grammar.proofs.FormLemmas.{front_sound, single_found, single_stuck, single_none}
-use Rattle.rl_grammar.proofs.FoundLemmas.{form_found}
+use Rattle.rl_grammar.proofs.FoundLemmas.{form_at, quoted_found}
 use Rattle.rl_grammar.proofs.SingleBodies.{unit_one}
 use Rattle.rl_grammar.proofs.UnitLemmas.{unit_sound}
 use Rattle.rl_grammar.proofs.QuotedStopLemmas.{only_quoted}
@@ -31,4 +31,4 @@ returns-clause-found c =
     let at = c.places-body.ensures in
     let single = (front_sound _ _ c.requires).has in
     let parts = single_found _ _ _ _ _ single (sym c.in_ok-piece.ensures.value) at.body c.in_ok-suffix.ensures.some in
-    form_found _ _ _ _ _ _ _ _ _ c.utf8.text c.requires parts at.suffix at.stands at.plain c.piece_unit.ensures c.quoted.ensures
+    quoted_found _ _ _ _ _ c.utf8.text (form_at _ _ _ _ _ _ _ c.requires parts at.suffix at.stands at.plain) c.piece_unit.ensures c.quoted.ensures
