@@ -1,7 +1,5 @@
 -- Which form and kind a text's front tells, and the one reading of a quoted literal.
-use Rattle.std.proofs.Common.{◌≡◌, ◌≢◌, ℕ, true, false, eqb, List, [], ◌∷◌, ◌++◌, Option, Some, None, refl, sym, ap, subst, ◌∙◌, inl, inr, append_assoc, append-nil}
-use denote.Ref.{Bor}
-use Rattle.std.specs.Prelude.{IfNone}
+use Rattle.std.proofs.Common.{◌≡◌, ◌≢◌, ℕ, true, false, eqb, List, [], ◌∷◌, ◌++◌, Some, None, refl, sym, ap, subst, ◌∙◌, inl, inr, append_assoc, append-nil}
 use Rattle.std.specs.List.{list_all}
 use Rattle.std.proofs.lemmas.Bool.{both_ways, cases_Bool, eqb-true}
 use Rattle.std.proofs.lemmas.List.{append_cancel_left, append_cancel_right}
@@ -19,10 +17,6 @@ use Rattle.rl_grammar.specs.Shapes.{HasNoQuoted}
 use Rattle.rl_grammar.proofs.UnitLemmas.{some_pair, unit_sound, unit_complete, unit_quote}
 use Rattle.rl_grammar.proofs.RowLemmas.{ends_before, row_behind, row_ends_on, row_ends_off, row_once}
 use Rattle.rl_grammar.proofs.RawLemmas.{raw_once}
-
--- what the readers of a form answer: a body and a suffix
-abbrev Cut : Type 0
-Cut = Option (Bor (List ℕ) × Bor (List ℕ))
 
 -- ---- the front
 
@@ -144,9 +138,8 @@ cooked_found kind a v rest b x s row cut quote =
       append_cancel_right b (texts us) rest (sym cut ∙ row.text_is),
     )
 
-pub cooked_none : (kind : Kind) (a v rest : List ℕ) (r : Cut) → BeginsRow kind a v rest → unit_at kind rest ≡ None → IfNone r ((x : List ℕ) → rest ≢ 34 ∷ x) → IfNone r (HasNoParts CookedForm kind (opener kind ++ a))
-cooked_none kind a v rest (Some p) row stuck h = tt
-cooked_none kind a v rest None row stuck h = λ w b x p. h x (row_once kind a v rest w (34 ∷ x) row (cooked_row_of kind a w x p.0) stuck (unit_quote kind x p.0.string)).1
+pub cooked_none : (kind : Kind) (a v rest : List ℕ) → BeginsRow kind a v rest → unit_at kind rest ≡ None → ((x : List ℕ) → rest ≢ 34 ∷ x) → HasNoParts CookedForm kind (opener kind ++ a)
+cooked_none kind a v rest row stuck h w b x p = h x (row_once kind a v rest w (34 ∷ x) row (cooked_row_of kind a w x p.0) stuck (unit_quote kind x p.0.string)).1
 
 -- ---- characters and bytes
 
@@ -175,9 +168,8 @@ single_found kind a q b x s h cut quote =
       append_cancel_right b (unit_text u) q.1 (sym cut ∙ begun.text_is),
     )
 
-pub single_none : (kind : Kind) (a : List ℕ) (q : List ℕ × List ℕ) (r : Cut) → unit_at kind a ≡ Some q → IfNone r ((x : List ℕ) → q.1 ≢ 39 ∷ x) → IfNone r (HasNoParts SingleForm kind (opener kind ++ a))
-single_none kind a q (Some p) h ne = tt
-single_none kind a q None h ne = λ v b x p. ne x (some_pair q (v, 39 ∷ x) (sym h ∙ single_at kind a v x p.0)).1
+pub single_none : (kind : Kind) (a : List ℕ) (q : List ℕ × List ℕ) → unit_at kind a ≡ Some q → ((x : List ℕ) → q.1 ≢ 39 ∷ x) → HasNoParts SingleForm kind (opener kind ++ a)
+single_none kind a q h ne v b x p = ne x (some_pair q (v, 39 ∷ x) (sym h ∙ single_at kind a v x p.0)).1
 
 pub single_stuck : (kind : Kind) (a : List ℕ) → unit_at kind a ≡ None → HasNoParts SingleForm kind (opener kind ++ a)
 single_stuck kind a h v b x p = let e : None ≡ found v (39 ∷ x) = sym h ∙ single_at kind a v x p.0 in absurd (cc)

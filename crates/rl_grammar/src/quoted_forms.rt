@@ -1,13 +1,13 @@
 //! Whether a text is a quoted literal, and where the parts of one stand.
 
-ghost use Rattle.std.specs.Prelude.{slice_index, false, ◌≡◌, ◌≢◌, ◌==◌, ◌∷◌, ◌++◌, ℕ, List, None, option_map, IfSome, IfNone, IsTrue, ◌≤◌, ◌<◌, length, not};
+ghost use Rattle.std.specs.Prelude.{◌≡◌, ◌≢◌, ◌==◌, ◌∷◌, ◌++◌, ℕ, List, None, option_map, IfSome, IfNone, IsTrue, ◌≤◌, ◌<◌, length, not, slice_index, false};
 ghost use Rattle.std.specs.List.{list_all};
 ghost use Rattle.std.specs.Str.{chars};
-ghost use Rattle.rl_tokens.specs.Texts.{IsTail, first_passes};
+ghost use Rattle.rl_tokens.specs.Texts.{IsTail};
+ghost use Rattle.rl_tokens.specs.Quoted.{is_string, is_raw, opener};
 ghost use Rattle.rl_tokens.specs.Written.{closer};
-ghost use Rattle.rl_tokens.specs.Quoted.{opener, is_string, is_raw};
 ghost use Rattle.rl_grammar.specs.Mirrors.UnitAt.{unit_at};
-ghost use Rattle.rl_grammar.specs.Founds.{is_quoted, IsFound, IsQuotedAt, StandsIn, body_in, suffix_in};
+ghost use Rattle.rl_grammar.specs.Founds.{IsFound, IsQuotedAt, StandsIn, body_in, suffix_in, is_quoted};
 ghost use Rattle.rl_grammar.specs.Rows.{BeginsRow};
 ghost use Rattle.rl_grammar.specs.Mirrors.OpenerAt.{found_opener, string_opener_at, byte_opener_at, opener_at};
 ghost use Rattle.rl_tokens.specs.Reading.{HasNoReading};
@@ -86,6 +86,7 @@ pub(crate) fn split_opener(text: &str) -> Option<(QuotedForm, Kind, &str)>
     if first == first_of(Kind::Char) {
         Some((QuotedForm::Single, Kind::Char, rest))
     } else if first == first_of(Kind::Byte) {
+        // A byte string begins with the same letter.
         split_byte_opener(rest)
     } else if first == first_of(Kind::CStr) {
         split_string_opener(Kind::CStr, rest)
@@ -169,14 +170,12 @@ fn places(text: &str, opened: &str, closer: &str, suffix: &str, plain: bool) -> 
     ensures suffix { suffix_in text.now result ≡ suffix.now }
     ensures plain { result.plain ≡ plain }
 {
-    // It has a name, since what is made in the place of the result has its padding written too.
-    let body = Body {
+    Body {
         lo: text.len() - opened.len(),
         hi: text.len() - closer.len(),
         suffix_at: text.len() - suffix.len(),
         plain,
-    };
-    body
+    }
 }
 
 /// The quoted literal of these places; the number is what a character or a byte stands for, and 0 for a string.
@@ -207,6 +206,7 @@ pub(crate) fn find_cooked(kind: Kind, text: &str, inside: &str) -> Option<Found>
     ensures none { IfNone result (HasNoReading (chars text.now)) }
     ensures found { IfSome result (IsFound text.now) }
 {
+    // Strings of all kinds close alike: the quote of a named kind is known when this is compiled.
     let (_, following) = split_plain(kind, inside);
     if let Some(suffix) = behind_quote(Kind::Str, following) {
         return Some(quoted(kind, places(text, inside, following, suffix, true), 0));
@@ -243,6 +243,7 @@ pub(crate) fn find_raw(kind: Kind, text: &str, inside: &str) -> Option<Found>
     ensures none { IfNone result (HasNoReading (chars text.now)) }
     ensures found { IfSome result (IsFound text.now) }
 {
+    // The call gives places alone, since what a call finds would be copied once more.
     let body = raw_places(kind, text, inside)?;
     Some(quoted(kind, body, 0))
 }

@@ -1,4 +1,4 @@
-use Rattle.std.proofs.Common.{None, ◌∙◌, sym, rules}
+use Rattle.std.proofs.Common.{◌∙◌, sym, rules}
 use Rattle.std.specs.Str.{chars, IsUtf8}
 use Rattle.rl_tokens.specs.Quoted.{is_plain}
 use Rattle.rl_tokens.proofs.BehindLemmas.{if_none}
@@ -42,7 +42,7 @@ pub returns-in_err-suffix-clause-none : goal.returns-in_err-suffix-clause-none
 returns-in_err-suffix-clause-none c =
     let cut = c.split_plain.ensures in
     let (w, row) = cooked_units _ _ _ _ _ _ cut.cut cut.plain c.skip_units-closer.ensures.row.1 in
-    if_none _ (only_quoted _ _ _ _ c.requires (cooked_none _ _ _ _ None row c.skip_units-closer.ensures.stuck c.in_err-suffix.ensures.none))
+    if_none _ (only_quoted _ _ _ _ c.requires (cooked_none _ _ _ _ row c.skip_units-closer.ensures.stuck c.in_err-suffix.ensures.none))
 
 pub returns-clause-found : goal.returns-clause-found
 returns-clause-found c =

@@ -1,4 +1,4 @@
-use Rattle.std.proofs.Common.{None, sym, rules}
+use Rattle.std.proofs.Common.{sym, rules}
 use Rattle.std.specs.Str.{IsUtf8}
 use Rattle.rl_tokens.proofs.BehindLemmas.{if_none}
 use Rattle.rl_grammar.proofs.CutLemmas.{behind_chars}
@@ -13,7 +13,7 @@ pub returns-in_err-piece-clause-none : goal.returns-in_err-piece-clause-none
 returns-in_err-piece-clause-none c = if_none _ (only_quoted _ _ _ _ c.requires (single_stuck _ _ (sym c.in_err-piece.ensures.value)))
 
 pub returns-in_err-suffix-clause-none : goal.returns-in_err-suffix-clause-none
-returns-in_err-suffix-clause-none c = if_none _ (only_quoted _ _ _ _ c.requires (single_none _ _ _ None (sym c.in_ok-piece.ensures.value) c.in_err-suffix.ensures.none))
+returns-in_err-suffix-clause-none c = if_none _ (only_quoted _ _ _ _ c.requires (single_none _ _ _ (sym c.in_ok-piece.ensures.value) c.in_err-suffix.ensures.none))
 
 pub places-body-requires-clause-closer : goal.places-body-requires-clause-closer
 places-body-requires-clause-closer c =
