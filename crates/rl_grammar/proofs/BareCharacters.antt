@@ -1,29 +1,22 @@
 -- A character of ASCII that stands for itself between single quotes.
-use Rattle.std.proofs.Common.{◌≡◌, ◌<◌, ◌≤◌, ℕ, true, suc, zero, false, not, eqb, List, [], ◌∷◌, ◌++◌, length, get_or, refl, sym, ap, subst, ◌∙◌, arith, inl, inr}
+use Rattle.std.proofs.Common.{◌≡◌, ◌<◌, ◌≤◌, ℕ, suc, zero, false, not, eqb, List, [], ◌∷◌, length, drop, get_or, refl, sym, ap, subst, ◌∙◌, arith, inl, inr}
 use Rattle.std.proofs.lemmas.Bool.{eqb-true, cases_Bool}
-use Rattle.std.proofs.lemmas.Str.{IsCharBoundary-after_ascii, IsUtf8-past_char, chars_past_char, chars-IsAscii, encode_ascii}
-use Rattle.std.specs.Char.{is_ascii}
-use Rattle.std.specs.Str.{chars, IsAscii, IsUtf8}
+use Rattle.std.proofs.lemmas.Str.{IsCharBoundary-after_ascii, IsUtf8-drop, chars-IsAscii}
+use Rattle.std.specs.Str.{IsCharBoundary, chars, IsAscii, IsUtf8}
 use Rattle.rl_tokens.specs.declared.kind.Kind.TheVariants.{Char}
 use Rattle.rl_tokens.specs.Quoted.{Plain}
-use Rattle.rl_tokens.specs.Texts.{first_passes}
 use Rattle.rl_tokens.proofs.ScanLemmas.{ascii_first}
 use Rattle.rl_grammar.specs.declared.found.Body.{Body}
+use Rattle.rl_grammar.specs.declared.found.Found.{Found}
 use Rattle.rl_grammar.specs.declared.quoted_forms.QuotedForm.TheVariants.{Single as SingleForm}
 use Rattle.rl_grammar.specs.Forms.{PartsAre}
 use Rattle.rl_grammar.specs.Founds.{IsFound, IsQuotedAt}
-use Rattle.rl_grammar.proofs.FoundLemmas.{OfUnit, UnitFound, quoted_found}
-use Rattle.rl_grammar.proofs.SingleBodies.{byte_unit, unit_reads}
+use Rattle.rl_grammar.proofs.FoundLemmas.{OfUnit, quoted_found}
+use Rattle.rl_grammar.proofs.SingleBodies.{byte_unit}
 
--- what stands after a byte of ASCII
-record After (c : ℕ) (x : List ℕ) : Type 0 where
-  pub is_text : IsUtf8 x
-  pub chars_are : chars (c ∷ x) ≡ c ∷ chars x
-
-after : (c : ℕ) (x : List ℕ) → c < 128 → IsUtf8 (c ∷ x) → After c x
-after c x small u =
-    let cut = ap (λ z. z ++ x) (sym (encode_ascii c small)) in
-    record { is_text = IsUtf8-past_char (c ∷ x) x c u cut; chars_are = chars_past_char (c ∷ x) x c u cut }
+-- what stands after a byte of ASCII is a text
+after : (c : ℕ) (x : List ℕ) → c < 128 → IsUtf8 (c ∷ x) → IsUtf8 x
+after c x small u = IsUtf8-drop (c ∷ x) 1 u (IsCharBoundary-after_ascii (c ∷ x) 0 u (omega arith) small)
 
 one_ascii : (c : ℕ) → c < 128 → IsAscii (c ∷ [])
 one_ascii c small zero = small
@@ -34,14 +27,13 @@ BareBody = record { lo = 1; hi = 2; suffix_at = 3; plain = false }
 
 bare_parts : (c : ℕ) (x : List ℕ) → c < 128 → eqb c 92 ≡ false → IsUtf8 (39 ∷ c ∷ 39 ∷ x) → PartsAre SingleForm Char (chars (39 ∷ c ∷ 39 ∷ x)) (c ∷ []) (chars (c ∷ [])) (chars x)
 bare_parts c x small other u =
-    let quote = after 39 (c ∷ 39 ∷ x) (omega arith) u in
-    let bare = after c (39 ∷ x) small quote.is_text in
-    let closer = after 39 x (omega arith) bare.is_text in (
+    let bare = after 39 (c ∷ 39 ∷ x) (omega arith) u in
+    let closer = after c (39 ∷ x) small bare in (
       record {
         unit = Plain c;
         single = refl;
         is_unit = ap not other;
-        text_is = quote.chars_are ∙ ap (λ z. 39 ∷ z) (bare.chars_are ∙ ap (λ z. c ∷ z) closer.chars_are);
+        text_is = ascii_first (39 ∷ c ∷ 39 ∷ x) u (omega arith) (omega arith) ∙ ap (λ z. 39 ∷ z) (ascii_first (c ∷ 39 ∷ x) bare (omega arith) small ∙ ap (λ z. c ∷ z) (ascii_first (39 ∷ x) closer (omega arith) (omega arith)));
         value_is = refl;
       },
       chars-IsAscii (c ∷ []) (one_ascii c small),
@@ -63,12 +55,13 @@ bare_found c x small other u =
         following = IsCharBoundary-after_ascii t 2 u (omega arith) (omega arith);
       };
     } in
-    let unit : UnitFound Char (chars t) c = ((λ h. unit_reads SingleForm Char (chars t) (c ∷ []) (chars (c ∷ [])) (chars x) c h parts (byte_unit Char c refl (omega (arith, small)))), (λ b k. absurd (k refl))) in
-    quoted_found t Char BareBody c u at unit
+    quoted_found t Char BareBody c _ u at (byte_unit Char c refl (omega (arith, small))) refl
 
 -- by the text's bytes
-pub bare_text : (t b : List ℕ) → b ≡ t → IsUtf8 t → 3 ≤ length b → get_or b 0 0 ≡ 39 → get_or b 2 0 ≡ 39 → (get_or b 1 0 ≡ 92 → ⊥) → get_or b 1 0 < 128 → IsFound t (OfUnit Char BareBody (get_or b 1 0))
-bare_text t b same u long first last other small = subst (λ z. IsFound z (OfUnit Char BareBody (get_or b 1 0))) same (of_bytes b (subst IsUtf8 (sym same) u) long first last other small)
+pub bare_text : (t b : List ℕ) (found : Found) → b ≡ t → IsUtf8 t → 3 ≤ length t → get_or t 0 0 ≡ 39 → get_or b 2 0 ≡ 39 → (get_or b 1 0 ≡ 92 → ⊥) → get_or b 1 0 < 128 → found ≡ OfUnit Char BareBody (get_or b 1 0) → IsFound t found
+bare_text t b found same u long first last other small found_is =
+    let of_t = of_bytes b (subst IsUtf8 (sym same) u) (omega (arith, long, ap length same)) (ap (λ z. get_or z 0 0) same ∙ first) last other small in
+    subst (IsFound t) (sym found_is) (subst (λ z. IsFound z (OfUnit Char BareBody (get_or b 1 0))) same of_t)
   where
     of_bytes : (t : List ℕ) → IsUtf8 t → 3 ≤ length t → get_or t 0 0 ≡ 39 → get_or t 2 0 ≡ 39 → (get_or t 1 0 ≡ 92 → ⊥) → get_or t 1 0 < 128 → IsFound t (OfUnit Char BareBody (get_or t 1 0))
     of_bytes [] u long first last other small = absurd (omega arith)
@@ -82,19 +75,10 @@ bare_text t b same u long first last other small = subst (λ z. IsFound z (OfUni
 
 -- ---- the quote in front
 
-abbrev pub IsQuoteFirst : List ℕ → Type 0
-IsQuoteFirst t = first_passes (λ c. eqb c 39) t ≡ true
+pub quote_boundary : (t : List ℕ) → IsUtf8 t → get_or t 0 0 ≡ 39 → IsCharBoundary t 1
+quote_boundary [] u e = absurd (cc)
+quote_boundary (c ∷ x) u e = IsCharBoundary-after_ascii (c ∷ x) 0 u (omega arith) (omega (arith, e))
 
-pub quote_first : (t b : List ℕ) → b ≡ t → IsUtf8 t → 3 ≤ length b → eqb (get_or b 0 0) 39 ≡ true → IsQuoteFirst (chars t)
-quote_first t b same u long e =
-    let ub = subst IsUtf8 (sym same) u in
-    let first = eqb-true (get_or b 0 0) 39 e in
-    let whole = ascii_first b ub (omega (arith, long)) (omega (arith, first)) in
-    subst (λ z. IsQuoteFirst (chars z)) same (subst IsQuoteFirst (sym whole) e)
-
-pub quote_is : (t : List ℕ) (c : ℕ) (x : List ℕ) → t ≡ c ∷ x → IsQuoteFirst t → t ≡ 39 ∷ x
-quote_is t c x e h = e ∙ ap (λ z. z ∷ x) (eqb-true c 39 (subst IsQuoteFirst e h))
-
-pub quote_ascii : (t : List ℕ) → IsQuoteFirst t → first_passes is_ascii t ≡ false → ⊥
-quote_ascii [] h none = absurd (cc)
-quote_ascii (c ∷ cs) h none = let e = subst (λ z. is_ascii z ≡ false) (eqb-true c 39 h) none in absurd (cc)
+pub quote_first : (t inside : List ℕ) → IsUtf8 t → get_or t 0 0 ≡ 39 → inside ≡ drop 1 t → chars t ≡ 39 ∷ chars inside
+quote_first [] inside u e is = absurd (cc)
+quote_first (c ∷ x) inside u e is = ascii_first (c ∷ x) u (omega arith) (omega (arith, e)) ∙ ap (λ z. z ∷ chars x) e ∙ ap (λ z. 39 ∷ chars z) (sym is)

@@ -1,13 +1,11 @@
 -- Which form and kind a text's front tells, and the one reading of a quoted literal.
-use Rattle.std.proofs.Common.{◌≡◌, ◌≢◌, ℕ, true, false, eqb, List, [], ◌∷◌, ◌++◌, Option, Some, None, refl, sym, ap, subst, ◌∙◌, inl, inr, append_assoc, append-nil}
-use denote.Ref.{Bor}
-use Rattle.std.specs.Prelude.{IfSome, IfNone}
-use Rattle.std.specs.Str.{chars}
+use Rattle.std.proofs.Common.{◌≡◌, ◌≢◌, ℕ, true, false, eqb, List, [], ◌∷◌, ◌++◌, Some, None, refl, sym, ap, subst, ◌∙◌, inl, inr, append_assoc, append-nil}
+use Rattle.std.specs.List.{list_all}
 use Rattle.std.proofs.lemmas.Bool.{both_ways, cases_Bool, eqb-true}
 use Rattle.std.proofs.lemmas.List.{append_cancel_left, append_cancel_right}
 use Rattle.rl_tokens.specs.declared.kind.Kind.{Kind}
 use Rattle.rl_tokens.specs.declared.kind.Kind.TheVariants.{Str, ByteStr, CStr, Byte, Char, Int, Float, Bool as BoolKind}
-use Rattle.rl_tokens.specs.Quoted.{Cooked, Single, is_string, is_single, opener, raw_opener, texts, unit_text}
+use Rattle.rl_tokens.specs.Quoted.{Cooked, Single, is_string, is_single, is_plain, opener, raw_opener, texts, unit_text}
 use Rattle.rl_tokens.specs.Reading.{Contents, ReadsQuoted, quoted_contents}
 use Rattle.rl_grammar.specs.declared.quoted_forms.QuotedForm.{QuotedForm}
 use Rattle.rl_grammar.specs.declared.quoted_forms.QuotedForm.TheVariants.{Cooked as CookedForm, Raw as RawForm, Single as SingleForm}
@@ -17,12 +15,8 @@ use Rattle.rl_grammar.specs.Forms.{has_form, form_opener, PartsAre, HasNoParts, 
 use Rattle.rl_grammar.specs.Mirrors.OpenerAt.{found_opener, string_opener_at, byte_opener_at, opener_at}
 use Rattle.rl_grammar.specs.Shapes.{HasNoQuoted}
 use Rattle.rl_grammar.proofs.UnitLemmas.{some_pair, unit_sound, unit_complete, unit_quote}
-use Rattle.rl_grammar.proofs.RowLemmas.{ends_before, row_ends_on, row_ends_off, row_once}
+use Rattle.rl_grammar.proofs.RowLemmas.{ends_before, row_behind, row_ends_on, row_ends_off, row_once}
 use Rattle.rl_grammar.proofs.RawLemmas.{raw_once}
-
--- what the readers of a form answer: a body and a suffix
-abbrev Cut : Type 0
-Cut = Option (Bor (List ℕ) × Bor (List ℕ))
 
 -- ---- the front
 
@@ -123,28 +117,29 @@ cooked_once kind a v x w y c d =
     let same = row_once kind a v (34 ∷ x) w (34 ∷ y) (cooked_row_of kind a v x c) (cooked_row_of kind a w y d) (unit_quote kind x c.string) (unit_quote kind y c.string) in
     (same.0, let e = same.1 in cc)
 
+-- the units of a text that a run of plain characters begins
+pub cooked_units : (kind : Kind) (a run following v rest : List ℕ) → a ≡ run ++ following → list_all (is_plain kind) run ≡ true → BeginsRow kind following v rest → (w : List ℕ) × BeginsRow kind a w rest
+cooked_units kind a run following v rest cut plain row =
+    let (w, whole) = row_behind kind run following v rest plain row in
+    (w, subst (λ t. BeginsRow kind t w rest) (sym cut) whole)
+
 -- the body and the suffix round the quote where units end
-pub cooked_found : (kind : Kind) (a v rest : List ℕ) (r : Cut) → is_string kind ≡ true → BeginsRow kind a v rest → IfSome r (λ p. a ≡ chars p.0.now ++ rest) → IfSome r (λ p. rest ≡ 34 ∷ chars p.1.now) → IfSome r (λ p. (w : List ℕ) × PartsAre CookedForm kind (opener kind ++ a) w (chars p.0.now) (chars p.1.now))
-cooked_found kind a v rest None s row cut quote = tt
-cooked_found kind a v rest (Some p) s row cut quote =
+pub cooked_found : (kind : Kind) (a v rest b x : List ℕ) → is_string kind ≡ true → BeginsRow kind a v rest → a ≡ b ++ rest → rest ≡ 34 ∷ x → PartsAre CookedForm kind (opener kind ++ a) v b x
+cooked_found kind a v rest b x s row cut quote =
     let us = row.units in (
-      v,
-      (
-        record {
-          units = us;
-          string = s;
-          each = row.each;
-          ends = row_ends_off us (34 ∷ chars p.1.now) refl (subst (RowEnds us) quote row.ends);
-          text_is = ap (λ z. opener kind ++ z) (row.text_is ∙ ap (λ z. texts us ++ z) quote);
-          value_is = row.value_is;
-        },
-        append_cancel_right (chars p.0.now) (texts us) rest (sym cut ∙ row.text_is),
-      ),
+      record {
+        units = us;
+        string = s;
+        each = row.each;
+        ends = row_ends_off us (34 ∷ x) refl (subst (RowEnds us) quote row.ends);
+        text_is = ap (λ z. opener kind ++ z) (row.text_is ∙ ap (λ z. texts us ++ z) quote);
+        value_is = row.value_is;
+      },
+      append_cancel_right b (texts us) rest (sym cut ∙ row.text_is),
     )
 
-pub cooked_none : (kind : Kind) (a v rest : List ℕ) (r : Cut) → BeginsRow kind a v rest → unit_at kind rest ≡ None → IfNone r ((x : List ℕ) → rest ≢ 34 ∷ x) → IfNone r (HasNoParts CookedForm kind (opener kind ++ a))
-cooked_none kind a v rest (Some p) row stuck h = tt
-cooked_none kind a v rest None row stuck h = λ w b x p. h x (row_once kind a v rest w (34 ∷ x) row (cooked_row_of kind a w x p.0) stuck (unit_quote kind x p.0.string)).1
+pub cooked_none : (kind : Kind) (a v rest : List ℕ) → BeginsRow kind a v rest → unit_at kind rest ≡ None → ((x : List ℕ) → rest ≢ 34 ∷ x) → HasNoParts CookedForm kind (opener kind ++ a)
+cooked_none kind a v rest row stuck h w b x p = h x (row_once kind a v rest w (34 ∷ x) row (cooked_row_of kind a w x p.0) stuck (unit_quote kind x p.0.string)).1
 
 -- ---- characters and bytes
 
@@ -159,9 +154,8 @@ single_once kind a v x w y s q =
     (same.0, let e : 39 ∷ x ≡ 39 ∷ y = same.1 in cc)
 
 -- the body and the suffix round the quote after the unit
-pub single_found : (kind : Kind) (a : List ℕ) (q : List ℕ × List ℕ) (r : Cut) → is_single kind ≡ true → unit_at kind a ≡ Some q → IfSome r (λ p. a ≡ chars p.0.now ++ q.1) → IfSome r (λ p. q.1 ≡ 39 ∷ chars p.1.now) → IfSome r (λ p. PartsAre SingleForm kind (opener kind ++ a) q.0 (chars p.0.now) (chars p.1.now))
-single_found kind a q None s h cut quote = tt
-single_found kind a q (Some p) s h cut quote =
+pub single_found : (kind : Kind) (a : List ℕ) (q : List ℕ × List ℕ) (b x : List ℕ) → is_single kind ≡ true → unit_at kind a ≡ Some q → a ≡ b ++ q.1 → q.1 ≡ 39 ∷ x → PartsAre SingleForm kind (opener kind ++ a) q.0 b x
+single_found kind a q b x s h cut quote =
     let begun = unit_sound kind a q h in
     let u = begun.unit in (
       record {
@@ -171,12 +165,11 @@ single_found kind a q (Some p) s h cut quote =
         text_is = ap (λ z. opener kind ++ z) (begun.text_is ∙ ap (λ z. unit_text u ++ z) quote);
         value_is = begun.value_is;
       },
-      append_cancel_right (chars p.0.now) (unit_text u) q.1 (sym cut ∙ begun.text_is),
+      append_cancel_right b (unit_text u) q.1 (sym cut ∙ begun.text_is),
     )
 
-pub single_none : (kind : Kind) (a : List ℕ) (q : List ℕ × List ℕ) (r : Cut) → unit_at kind a ≡ Some q → IfNone r ((x : List ℕ) → q.1 ≢ 39 ∷ x) → IfNone r (HasNoParts SingleForm kind (opener kind ++ a))
-single_none kind a q (Some p) h ne = tt
-single_none kind a q None h ne = λ v b x p. ne x (some_pair q (v, 39 ∷ x) (sym h ∙ single_at kind a v x p.0)).1
+pub single_none : (kind : Kind) (a : List ℕ) (q : List ℕ × List ℕ) → unit_at kind a ≡ Some q → ((x : List ℕ) → q.1 ≢ 39 ∷ x) → HasNoParts SingleForm kind (opener kind ++ a)
+single_none kind a q h ne v b x p = ne x (some_pair q (v, 39 ∷ x) (sym h ∙ single_at kind a v x p.0)).1
 
 pub single_stuck : (kind : Kind) (a : List ℕ) → unit_at kind a ≡ None → HasNoParts SingleForm kind (opener kind ++ a)
 single_stuck kind a h v b x p = let e : None ≡ found v (39 ∷ x) = sym h ∙ single_at kind a v x p.0 in absurd (cc)

@@ -1,5 +1,5 @@
 -- What reading a text finds, from its parts.
-use Rattle.std.proofs.Common.{◌≡◌, ◌≢◌, ℕ, ◌-◌, ◌⊎◌, inl, inr, Bool, true, false, List, [], ◌++◌, length, take, drop, refl, sym, ap, ap₂, subst, ◌∙◌, arith, rules}
+use Rattle.std.proofs.Common.{◌≡◌, ℕ, ◌-◌, ◌⊎◌, inl, inr, Bool, true, false, List, [], ◌++◌, length, take, drop, refl, sym, ap, ap₂, subst, ◌∙◌, arith, rules}
 use Rattle.std.proofs.Math.Seq.{drop-append_seam, take-append_seam}
 use Rattle.std.proofs.lemmas.Bool.{both_ways}
 use Rattle.std.proofs.lemmas.List.{append_cancel_right}
@@ -14,22 +14,22 @@ use Rattle.rl_tokens.specs.Texts.{IsTail}
 use Rattle.rl_tokens.specs.Numbers.{FloatReads, float_digits}
 use Rattle.rl_tokens.specs.Quoted.{is_string, is_single}
 use Rattle.rl_tokens.specs.Reading.{Digits, Truth, HasNoInteger, HasSuffix, ReadsAs, ReadsQuoted, quoted_contents, truth_text}
-use Rattle.rl_grammar.specs.declared.quoted_forms.Inside.{Inside}
 use Rattle.rl_grammar.specs.declared.quoted_forms.QuotedForm.{QuotedForm}
 use Rattle.rl_grammar.specs.declared.quoted_forms.QuotedForm.TheVariants.{Cooked as CookedForm, Raw as RawForm, Single as SingleForm}
 use Rattle.rl_grammar.specs.declared.found.Body.{Body}
 use Rattle.rl_grammar.specs.declared.found.Found.{Found}
-use Rattle.rl_grammar.specs.Forms.{PartsAre, is_plain_body}
-use Rattle.rl_grammar.specs.Founds.{IsFound, IsFoundFloat, IsQuotedAt, IsUnitOf, StandsIn, body_in, suffix_in, is_quoted}
+use Rattle.rl_grammar.specs.Bodies.{IsUnitValue}
+use Rattle.rl_grammar.specs.Forms.{PartsAre, form_opener, is_plain_body}
+use Rattle.rl_grammar.specs.Mirrors.OpenerAt.{found_opener, opener_at}
+use Rattle.rl_grammar.specs.Founds.{IsFound, IsFoundFloat, IsQuotedAt, StandsIn, body_in, suffix_in, is_quoted}
 use Rattle.rl_grammar.specs.NumberShapes.{HasMagnitude, IsSplitInteger}
 use Rattle.rl_grammar.specs.Mirrors.PlainAt.{is_plain_integer, is_plain_float}
 use Rattle.rl_grammar.specs.Shapes.{IsQuotedSplit}
 use Rattle.rl_grammar.specs.WholeShapes.{IsSplit, IsPlain}
 use Rattle.rl_grammar.proofs.BodyLemmas.{plain_parts, parts_plain}
-use Rattle.rl_grammar.proofs.FormLemmas.{not_both, parts_read}
+use Rattle.rl_grammar.proofs.FormLemmas.{not_both, parts_at_front, parts_read}
 use Rattle.rl_grammar.proofs.IntegerLemmas.{within_reads}
 use Rattle.rl_grammar.proofs.PlainNumberLemmas.{whether_integer, whether_float}
-use Rattle.rl_grammar.proofs.PlaceLemmas.{Stands}
 use Rattle.rl_grammar.proofs.ShapeLemmas.{parts_cut}
 use Rattle.rl_grammar.proofs.SingleBodies.{unit_reads}
 
@@ -87,13 +87,6 @@ Of kind body magnitude = record { kind = kind; body = body; magnitude = magnitud
 abbrev pub OfUnit : Kind → Body → ℕ → Found
 OfUnit kind body n = record { kind = kind; body = body; magnitude = 0; truth = false; unit = n }
 
--- what a character or a byte stands for, and 0 for a string
-abbrev pub UnitFound : Kind → List ℕ → ℕ → Type 0
-UnitFound kind t n = (is_single kind ≡ true → IsUnitOf kind t n) × (kind ≢ Byte → kind ≢ Char → n ≡ 0)
-
-pub unit_found : (kind : Kind) (t : List ℕ) (p : Inside) (form : QuotedForm) → Stands form kind t p → UnitFound kind (chars t) p.unit
-unit_found kind t p form s = ((λ h. unit_reads form kind (chars t) s.value (chars p.body.now) (chars p.suffix.now) p.unit h s.parts s.unit_is), s.unit_is.none)
-
 -- what the parts of a quoted literal say of the text
 pub record Whole (t : List ℕ) (kind : Kind) (body : Body) : Type 0 where
   pub reads : HasSuffix kind (chars t) (chars (suffix_in t body))
@@ -110,10 +103,10 @@ quoted_whole t Int body u q = absurd (no_form Int t body refl refl q)
 quoted_whole t Float body u q = absurd (no_form Float t body refl refl q)
 quoted_whole t BoolKind body u q = absurd (no_form BoolKind t body refl refl q)
 
-pub quoted_found : (t : List ℕ) (kind : Kind) (body : Body) (n : ℕ) → IsUtf8 t → IsQuotedAt kind t body → UnitFound kind (chars t) n → IsFound t (OfUnit kind body n)
-quoted_found t kind body n u q h =
+pub quoted_found : (t : List ℕ) (kind : Kind) (body : Body) (n : ℕ) (found : Found) → IsUtf8 t → (q : IsQuotedAt kind t body) → IsUnitValue kind q.value n → found ≡ OfUnit kind body n → IsFound t found
+quoted_found t kind body n found u q h is =
     let w = quoted_whole t kind body u q in
-    record {
+    subst (IsFound t) (sym is) (record {
       reads = w.reads;
       cut = w.cut;
       stands = q.stands;
@@ -123,9 +116,16 @@ quoted_found t kind body n u q h =
       no_magnitude = λ e. refl;
       truth = λ e. absurd (no_form kind t body (ap is_string e) (ap is_single e) q);
       no_truth = λ e. refl;
-      unit = h.0;
-      no_unit = h.1;
-    }
+      unit = λ s. unit_reads q.form kind (chars t) q.value (chars (body_in t body)) (chars (suffix_in t body)) n s q.parts h;
+      no_unit = h.none;
+    })
+
+-- from the parts of the literal after its opener
+abbrev pub form_at : (form : QuotedForm) (kind : Kind) (t inside v suffix : List ℕ) (body : Body) → opener_at (chars t) ≡ found_opener form kind (chars inside) → PartsAre form kind (form_opener form kind ++ chars inside) v (chars (body_in t body)) (chars suffix) → suffix_in t body ≡ suffix → StandsIn t body → body.plain ≡ is_plain_body form kind (chars (body_in t body)) → IsQuotedAt kind t body
+form_at form kind t inside v suffix body front parts suffix_is stands plain =
+    let b = chars (body_in t body) in
+    let whole = parts_at_front (chars t) form kind (chars inside) v b (chars suffix) front parts in
+    record { form = form; value = v; parts = subst (λ x. PartsAre form kind (chars t) v b (chars x)) (sym suffix_is) whole; plain_is = plain; stands = stands }
 
 -- what is found is a reading of its kind
 pub found_reads : (t : List ℕ) (f : Found) → IsFound t f → ReadsAs f.kind (chars t)

@@ -11,8 +11,3 @@ none_then (Some a) f p = tt
 pub if_some : {A P : Type 0} (r : Option A) → P → IfSome r (λ a. P)
 if_some None p = tt
 if_some (Some a) p = p
-
--- where nothing is given, by two clauses
-pub none_both : {A P Q R : Type 0} (r : Option A) → (P → Q → R) → IfNone r P → IfNone r Q → IfNone r R
-none_both None f p q = f p q
-none_both (Some a) f p q = tt

@@ -93,7 +93,7 @@ cooked_stops kind a v t rest s row no_quote stops =
       stuck = λ c cs e h.
           let y = front ++ (c ∷ e) in
           let off = other_rest kind a v t y row (first_same is_blank front rest t c cs e stops.text_is h) in
-          let none : HasNoParts CookedForm kind (opener kind ++ (texts us ++ y)) = cooked_none kind (texts us ++ y) v y None off (stops.stuck c cs e h) (λ x g. no_first 34 y x (first_same (λ k. eqb k 34) front rest t c cs e stops.text_is h no_quote) refl g) in
+          let none : HasNoParts CookedForm kind (opener kind ++ (texts us ++ y)) = cooked_none kind (texts us ++ y) v y off (stops.stuck c cs e h) (λ x g. no_first 34 y x (first_same (λ k. eqb k 34) front rest t c cs e stops.text_is h no_quote) refl g) in
           subst (λ w. HasNoParts CookedForm kind (opener kind ++ w)) (sym (append_assoc (texts us) front (c ∷ e))) none;
     }
 
@@ -175,7 +175,7 @@ single_quote_stops kind a v rest s h no_quote =
       ending = 39 ∷ [];
       are_characters = (refl, tt);
       completes = single_closed kind (unit_text u ++ (39 ∷ [])) v s (reads (39 ∷ []));
-      stuck = λ c cs e g. single_none kind (unit_text u ++ (c ∷ e)) (v, c ∷ e) None (reads (c ∷ e)) (λ x k. no_first 39 (c ∷ e) x (first_same (λ d. eqb d 39) [] rest rest c cs e refl g no_quote) refl k);
+      stuck = λ c cs e g. single_none kind (unit_text u ++ (c ∷ e)) (v, c ∷ e) (reads (c ∷ e)) (λ x k. no_first 39 (c ∷ e) x (first_same (λ d. eqb d 39) [] rest rest c cs e refl g no_quote) refl k);
     }
 
 -- where the text is no character and no byte, no quote stands after its unit

@@ -59,10 +59,10 @@ unfolding opener_at
 word_has_none true = refl
 word_has_none false = refl
 
-pub opener_no_truth : (t : List ℕ) (form : QuotedForm) (kind : Kind) (inside : List ℕ) → opener_at t ≡ found_opener form kind inside → HasNoTruth t
+opener_no_truth : (t : List ℕ) (form : QuotedForm) (kind : Kind) (inside : List ℕ) → opener_at t ≡ found_opener form kind inside → HasNoTruth t
 opener_no_truth t form kind inside h v x r = let e : None ≡ found_opener form kind inside = sym (word_has_none r.truth) ∙ ap opener_at (sym r.text_is) ∙ h in absurd (cc)
 
-only_quoted : (t : List ℕ) (form : QuotedForm) (kind : Kind) (inside : List ℕ) → opener_at t ≡ found_opener form kind inside → HasNoParts form kind (form_opener form kind ++ inside) → HasNoReading t
+pub only_quoted : (t : List ℕ) (form : QuotedForm) (kind : Kind) (inside : List ℕ) → opener_at t ≡ found_opener form kind inside → HasNoParts form kind (form_opener form kind ++ inside) → HasNoReading t
 only_quoted t form kind inside h none = no_reading t (no_parts t form kind inside h none) (no_front_number t (opener_no_number t form kind inside h)) (opener_no_truth t form kind inside h)
 
 parts_begin : (form : QuotedForm) (kind : Kind) (t : List ℕ) → HasParts form kind t → HasReading (form_opener form kind ++ t)

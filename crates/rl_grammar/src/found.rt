@@ -1,6 +1,6 @@
 //! The one reading of a text: what it finds, as places in it, so that nothing has to be read again to take a literal apart.
 
-ghost use Rattle.std.specs.Prelude.{◌≡◌, ◌∷◌, ◌⊎◌, ℕ, List, IfNone, IfSome, ◌≢◌, Bool, ◌↔◌, IsTrue};
+ghost use Rattle.std.specs.Prelude.{◌≡◌, ◌∷◌, ◌⊎◌, ℕ, List, IfNone, IfSome, ◌≢◌, Bool, ◌↔◌, IsTrue, IsFalse};
 ghost use Rattle.std.specs.Str.{chars};
 ghost use Rattle.rl_tokens.specs.declared.kind.Kind.{Kind as AnyKind};
 ghost use Rattle.rl_tokens.specs.declared.kind.Kind.TheVariants.{Float, Int};
@@ -12,7 +12,6 @@ ghost use Rattle.rl_grammar.specs.Bodies.{HasBody};
 ghost use Rattle.rl_grammar.specs.Founds.{IsFound, IsFoundFloat};
 ghost use Rattle.rl_grammar.specs.Mirrors.NumberAt.{sign_at};
 ghost use Rattle.rl_grammar.specs.NumberShapes.{HasNoNumber, HasOneFloat, HasOneInteger, HasMagnitude};
-ghost use Rattle.rl_grammar.specs.Shapes.{HasNoQuoted};
 ghost use Rattle.rl_grammar.specs.StrictBytes.{KeepsBytesStrict};
 ghost use Rattle.rl_grammar.specs.WholeShapes.{IsSplit, is_number_front, IsPlain};
 
@@ -20,7 +19,8 @@ use crate::digit_rows::is_negative;
 use crate::digits::{is_plain_float, is_plain_integer};
 use crate::number_forms::{Number, float_suffix, read_integer, read_number};
 use crate::quoted_forms::{
-    QuotedForm, begins_character, find_bare_character, find_character, find_form, split_opener,
+    QuotedForm, begins_character, find_bare_character, find_character, find_cooked, find_raw,
+    find_single, split_opener,
 };
 use crate::units::before;
 use rl_tokens::Kind;
@@ -302,8 +302,8 @@ pub fn find(text: &str) -> Option<Found>
 /// What reading the text as a quoted literal or a truth value finds.
 #[inline(never)]
 fn find_word_or_quoted(text: &str) -> Option<Found>
-    ensures no_quoted { IfNone result (HasNoQuoted (chars text.now)) }
-    ensures no_truth { IfNone result (HasNoTruth (chars text.now)) }
+    requires { IsFalse (first_passes is_number_front (chars text.now)) }
+    ensures none { IfNone result (HasNoReading (chars text.now)) }
     ensures found { IfSome result (IsFound text.now) }
 {
     let Some((form, kind, inside)) = split_opener(text) else {
@@ -311,9 +311,9 @@ fn find_word_or_quoted(text: &str) -> Option<Found>
     };
     // Each form returns by itself, as each number does.
     match form {
-        QuotedForm::Cooked => return find_form(QuotedForm::Cooked, kind, text, inside),
-        QuotedForm::Single => return find_form(QuotedForm::Single, kind, text, inside),
-        QuotedForm::Raw => return find_form(QuotedForm::Raw, kind, text, inside),
+        QuotedForm::Cooked => return find_cooked(kind, text, inside),
+        QuotedForm::Single => return find_single(kind, text, inside),
+        QuotedForm::Raw => return find_raw(kind, text, inside),
     }
 }
 

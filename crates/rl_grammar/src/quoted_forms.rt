@@ -1,18 +1,16 @@
 //! Whether a text is a quoted literal, and where the parts of one stand.
 
-ghost use Rattle.std.specs.Prelude.{◌≡◌, ◌≢◌, ◌==◌, ◌∷◌, ◌++◌, ℕ, List, None, option_map, IfSome, IfNone, IsTrue, ◌≤◌, ◌<◌, length, not};
+ghost use Rattle.std.specs.Prelude.{◌≡◌, ◌≢◌, ◌==◌, ◌∷◌, ◌++◌, ℕ, List, None, option_map, IfSome, IfNone, IsTrue, ◌≤◌, ◌<◌, length, not, slice_index, false};
 ghost use Rattle.std.specs.List.{list_all};
 ghost use Rattle.std.specs.Str.{chars};
-ghost use Rattle.rl_tokens.specs.Texts.{IsTail, first_passes};
-ghost use Rattle.rl_tokens.specs.Quoted.{is_string, is_single, is_raw};
+ghost use Rattle.rl_tokens.specs.Texts.{IsTail};
+ghost use Rattle.rl_tokens.specs.Quoted.{is_string, is_raw, opener};
+ghost use Rattle.rl_tokens.specs.Written.{closer};
 ghost use Rattle.rl_grammar.specs.Mirrors.UnitAt.{unit_at};
-ghost use Rattle.rl_grammar.specs.Bodies.{IsInside};
-ghost use Rattle.rl_grammar.specs.Founds.{IsFound};
+ghost use Rattle.rl_grammar.specs.Founds.{IsFound, IsQuotedAt, StandsIn, body_in, suffix_in, is_quoted};
 ghost use Rattle.rl_grammar.specs.Rows.{BeginsRow};
-ghost use Rattle.rl_grammar.specs.Forms.{has_form, form_opener, HasNoParts};
 ghost use Rattle.rl_grammar.specs.Mirrors.OpenerAt.{found_opener, string_opener_at, byte_opener_at, opener_at};
-ghost use Rattle.rl_grammar.specs.Shapes.{HasNoQuoted};
-ghost use Rattle.rl_tokens.specs.Reading.{HasNoTruth};
+ghost use Rattle.rl_tokens.specs.Reading.{HasNoReading};
 ghost use Rattle.rl_tokens.specs.Classes.{after_run, is_hash};
 
 use crate::found::{Body, Found};
@@ -29,27 +27,36 @@ pub(crate) enum QuotedForm {
     Single,
 }
 
-/// What is read of a quoted literal after its opener.
-#[derive(Clone, Copy)]
-pub(crate) struct Inside<'t> {
-    /// The text from the body on.
-    opened: &'t str,
-    body: &'t str,
-    suffix: &'t str,
-    /// Whether the body stands for itself.
-    plain: bool,
-    /// What the one character or byte stands for; 0 for a string.
-    unit: u32,
+/// The first byte of the opener of a quoted kind: a letter, or the quote.
+#[inline(always)]
+fn first_of(kind: Kind) -> u8
+    requires { IsTrue (is_quoted kind) }
+    ensures { result ≡ slice_index (opener kind) 0 }
+{
+    kind.opener().as_bytes()[0]
 }
 
-/// What a `"` or an `r` at the front tells of a string of the kind.
+/// The quote of a quoted kind: the last byte of its opener, by which its literals close too.
+#[inline(always)]
+fn quote_of(kind: Kind) -> u8
+    requires { IsTrue (is_quoted kind) }
+    ensures value { result ≡ closer kind }
+    ensures ascii { result < 128 }
+{
+    let opener = kind.opener().as_bytes();
+    opener[opener.len() - 1]
+}
+
+/// What a quote or an `r` at the front tells of a string of the kind.
+#[inline(always)]
 #[tactic(auto, using(crate::proofs::AsciiLemmas::no_string_opener))]
 fn split_string_opener(kind: Kind, text: &str) -> Option<(QuotedForm, Kind, &str)>
+    requires { IsTrue (is_string kind) }
     ensures { option_map (λ p. (p.0, p.1, chars p.2.now)) result
         ≡ string_opener_at kind (chars text.now) }
 {
     match split_ascii(text) {
-        Some((b'"', rest)) => Some((QuotedForm::Cooked, kind, rest)),
+        Some((first, rest)) if first == quote_of(kind) => Some((QuotedForm::Cooked, kind, rest)),
         Some((b'r', rest)) => Some((QuotedForm::Raw, kind, rest)),
         _ => None,
     }
@@ -61,7 +68,9 @@ fn split_byte_opener(text: &str) -> Option<(QuotedForm, Kind, &str)>
     ensures { option_map (λ p. (p.0, p.1, chars p.2.now)) result ≡ byte_opener_at (chars text.now) }
 {
     match split_ascii(text) {
-        Some((b'\'', rest)) => Some((QuotedForm::Single, Kind::Byte, rest)),
+        Some((first, rest)) if first == quote_of(Kind::Byte) => {
+            Some((QuotedForm::Single, Kind::Byte, rest))
+        }
         _ => split_string_opener(Kind::ByteStr, text),
     }
 }
@@ -72,12 +81,16 @@ fn split_byte_opener(text: &str) -> Option<(QuotedForm, Kind, &str)>
 pub(crate) fn split_opener(text: &str) -> Option<(QuotedForm, Kind, &str)>
     ensures { option_map (λ p. (p.0, p.1, chars p.2.now)) result ≡ opener_at (chars text.now) }
 {
-    match split_ascii(text) {
-        Some((b'\'', rest)) => Some((QuotedForm::Single, Kind::Char, rest)),
-        Some((b'b', rest)) => split_byte_opener(rest),
-        Some((b'c', rest)) => split_string_opener(Kind::CStr, rest),
-        Some(_) => split_string_opener(Kind::Str, text),
-        None => None,
+    let (first, rest) = split_ascii(text)?;
+    if first == first_of(Kind::Char) {
+        Some((QuotedForm::Single, Kind::Char, rest))
+    } else if first == first_of(Kind::Byte) {
+        // A byte string begins with the same letter.
+        split_byte_opener(rest)
+    } else if first == first_of(Kind::CStr) {
+        split_string_opener(Kind::CStr, rest)
+    } else {
+        split_string_opener(Kind::Str, text)
     }
 }
 
@@ -129,72 +142,109 @@ pub(crate) fn has_nul(text: &str) -> bool
     text.contains('\0')
 }
 
-/// The text in front of a rest that begins with the quote, and the text after that quote.
+/// The text after the quote of the kind, where that stands at the front.
+#[inline(always)]
 #[tactic(auto, using(crate::proofs::AsciiLemmas::no_quote))]
-fn cut_at_quote<'t>(quote: u8, text: &'t str, rest: &'t str) -> Option<(&'t str, &'t str)>
-    requires ascii { quote < 128 }
-    requires rest { IsTail text.now rest.now }
-    ensures cut { IfSome result (λ p. text.now ≡ p.0.now ++ rest.now) }
-    ensures before { IfSome result (λ p. chars text.now ≡ chars p.0.now ++ chars rest.now) }
-    ensures quote { IfSome result (λ p. chars rest.now ≡ quote ∷ chars p.1.now) }
-    ensures none { IfNone result ((x : List ℕ) → chars rest.now ≢ quote ∷ x) }
+fn behind_quote(kind: Kind, text: &str) -> Option<&str>
+    requires { IsTrue (is_quoted kind) }
+    ensures some { IfSome result (λ rest. chars text.now ≡ closer kind ∷ chars rest.now) }
+    ensures none { IfNone result ((x : List ℕ) → chars text.now ≢ closer kind ∷ x) }
+    ensures following { IfSome result (λ rest. IsTail text.now rest.now) }
 {
-    match split_ascii(rest) {
-        Some((next, after)) if next == quote => Some((before(text, rest), after)),
+    match split_ascii(text) {
+        Some((first, rest)) if first == quote_of(kind) => Some(rest),
         _ => None,
     }
 }
 
-/// A cooked string, from the text after its opener.
+/// Where the parts of a quoted literal stand, from what is left of its text: from the body on, from the closing quote
+/// on, and from the suffix on.
 #[inline(always)]
-fn cooked_inside(kind: Kind, text: &str) -> Option<Inside<'_>>
-    requires { IsTrue (is_string kind) }
-    ensures some { IfSome result (IsInside QuotedForm.Cooked kind text.now) }
-    ensures none { IfNone result
-        (HasNoParts QuotedForm.Cooked kind (form_opener QuotedForm.Cooked kind ++ chars text.now)) }
+fn places(text: &str, opened: &str, closer: &str, suffix: &str, plain: bool) -> Body
+    requires opened { IsTail text.now opened.now }
+    requires closer { IsTail opened.now closer.now }
+    requires suffix { IsTail closer.now suffix.now }
+    ensures stands { StandsIn text.now result }
+    ensures body { chars opened.now ≡ chars (body_in text.now result) ++ chars closer.now }
+    ensures suffix { suffix_in text.now result ≡ suffix.now }
+    ensures plain { result.plain ≡ plain }
 {
-    let (_, following) = split_plain(kind, text);
-    if let Some((body, suffix)) = cut_at_quote(b'"', text, following) {
-        return Some(Inside {
-            opened: text,
-            body,
-            suffix,
-            plain: true,
-            unit: 0,
-        });
+    Body {
+        lo: text.len() - opened.len(),
+        hi: text.len() - closer.len(),
+        suffix_at: text.len() - suffix.len(),
+        plain,
     }
-    let (body, suffix) = cut_at_quote(b'"', text, skip_units(kind, following))?;
-    Some(Inside {
-        opened: text,
-        body,
-        suffix,
-        plain: false,
-        unit: 0,
-    })
 }
 
-/// A raw string, from its hashes on.
-#[inline(never)]
-fn raw_inside(kind: Kind, text: &str) -> Option<Inside<'_>>
-    requires { IsTrue (is_string kind) }
-    ensures some { IfSome result (IsInside QuotedForm.Raw kind text.now) }
-    ensures none { IfNone result
-        (HasNoParts QuotedForm.Raw kind (form_opener QuotedForm.Raw kind ++ chars text.now)) }
+/// The quoted literal of these places; the number is what a character or a byte stands for, and 0 for a string.
+#[inline(always)]
+fn quoted(kind: Kind, body: Body, unit: u32) -> Found
+    ensures { result ≡ record {
+      magnitude = 0;
+      body = body;
+      kind = kind;
+      truth = false;
+      unit = unit;
+    } }
 {
-    let (hashes, opened) = cut_at_quote(b'"', text, skip_hashes(text))?;
+    Found {
+        kind,
+        body,
+        magnitude: 0,
+        truth: false,
+        unit,
+    }
+}
+
+/// What reading the text finds as a cooked string, from the text after its opener.
+#[inline(always)]
+#[tactic(auto, using(crate::proofs::PlaceLemmas::opened))]
+pub(crate) fn find_cooked(kind: Kind, text: &str, inside: &str) -> Option<Found>
+    requires { opener_at (chars text.now) ≡ found_opener QuotedForm.Cooked kind (chars inside.now) }
+    ensures none { IfNone result (HasNoReading (chars text.now)) }
+    ensures found { IfSome result (IsFound text.now) }
+{
+    // Strings of all kinds close alike: the quote of a named kind is known when this is compiled.
+    let (_, following) = split_plain(kind, inside);
+    if let Some(suffix) = behind_quote(Kind::Str, following) {
+        return Some(quoted(kind, places(text, inside, following, suffix, true), 0));
+    }
+    let closer = skip_units(kind, following);
+    let suffix = behind_quote(Kind::Str, closer)?;
+    Some(quoted(kind, places(text, inside, closer, suffix, false), 0))
+}
+
+/// Where the parts of a raw string stand, from its hashes on.
+#[inline(never)]
+#[tactic(auto, using(rl_tokens::proofs::Rests::behind_drop))]
+fn raw_places(kind: Kind, text: &str, inside: &str) -> Option<Body>
+    requires { opener_at (chars text.now) ≡ found_opener QuotedForm.Raw kind (chars inside.now) }
+    ensures none { IfNone result (HasNoReading (chars text.now)) }
+    ensures some { IfSome result (IsQuotedAt kind text.now) }
+{
+    let rest = skip_hashes(inside);
+    let hashes = before(inside, rest);
+    let opened = behind_quote(Kind::Str, rest)?;
     let (body, after) = split_last_quote(opened)?;
     let suffix = behind_prefix(hashes, after)?;
-    if holds_all(kind, body) {
-        Some(Inside {
-            opened,
-            body,
-            suffix,
-            plain: true,
-            unit: 0,
-        })
-    } else {
-        None
+    if !holds_all(kind, body) {
+        return None;
     }
+    let closer = &opened[body.len()..];
+    Some(places(text, opened, closer, suffix, true))
+}
+
+/// What reading the text finds as a raw string, from its hashes on.
+#[inline(always)]
+pub(crate) fn find_raw(kind: Kind, text: &str, inside: &str) -> Option<Found>
+    requires { opener_at (chars text.now) ≡ found_opener QuotedForm.Raw kind (chars inside.now) }
+    ensures none { IfNone result (HasNoReading (chars text.now)) }
+    ensures found { IfSome result (IsFound text.now) }
+{
+    // The call gives places alone, since what a call finds would be copied once more.
+    let body = raw_places(kind, text, inside)?;
+    Some(quoted(kind, body, 0))
 }
 
 /// Whether the raw form of the kind takes each character of the text.
@@ -208,111 +258,56 @@ fn holds_all(kind: Kind, text: &str) -> bool
     }
 }
 
-/// A character or a byte, from the text after its opener.
+/// What reading the text finds as a character or a byte, from the text after its opener.
 #[inline(always)]
-fn single_inside(kind: Kind, text: &str) -> Option<Inside<'_>>
-    requires { IsTrue (is_single kind) }
-    ensures some { IfSome result (IsInside QuotedForm.Single kind text.now) }
-    ensures none { IfNone result
-        (HasNoParts QuotedForm.Single kind (form_opener QuotedForm.Single kind ++ chars text.now)) }
+#[tactic(auto, using(crate::proofs::PlaceLemmas::opened))]
+pub(crate) fn find_single(kind: Kind, text: &str, inside: &str) -> Option<Found>
+    requires { opener_at (chars text.now) ≡ found_opener QuotedForm.Single kind (chars inside.now) }
+    ensures none { IfNone result (HasNoReading (chars text.now)) }
+    ensures found { IfSome result (IsFound text.now) }
 {
-    let (piece, rest) = unit(kind, text)?;
-    let (body, suffix) = cut_at_quote(b'\'', text, rest)?;
-    Some(Inside {
-        opened: text,
-        body,
-        suffix,
-        plain: false,
-        unit: piece_unit(kind, piece),
-    })
-}
-
-/// A literal of the form, from the text after its opener.
-#[inline(always)]
-fn read_inside(form: QuotedForm, kind: Kind, text: &str) -> Option<Inside<'_>>
-    requires { IsTrue (has_form form kind) }
-    ensures some { IfSome result (IsInside form kind text.now) }
-    ensures none { IfNone result (HasNoParts form kind (form_opener form kind ++ chars text.now)) }
-{
-    // Each arm takes out what was read, so that the parts of a cooked string stay in registers.
-    let inside = match form {
-        QuotedForm::Cooked => cooked_inside(kind, text)?,
-        QuotedForm::Raw => raw_inside(kind, text)?,
-        QuotedForm::Single => single_inside(kind, text)?,
-    };
-    Some(inside)
-}
-
-/// A character of ASCII between single quotes, which isn't a backslash: `'a'`. It stands for itself.
-#[inline(always)]
-pub(crate) fn find_bare_character(text: &str) -> Option<Found>
-    ensures { IfSome result (IsFound text.now) }
-{
-    let bytes = text.as_bytes();
-    if bytes.len() < 3 || bytes[0] != b'\'' || bytes[2] != b'\'' {
-        return None;
-    }
-    if bytes[1] == b'\\' || bytes[1] >= 128 {
-        return None;
-    }
-    Some(Found {
-        kind: Kind::Char,
-        body: Body {
-            lo: 1,
-            hi: 2,
-            suffix_at: 3,
-            plain: false,
-        },
-        magnitude: 0,
-        truth: false,
-        unit: bytes[1] as u32,
-    })
+    let (piece, closer) = unit(kind, inside)?;
+    let suffix = behind_quote(Kind::Char, closer)?;
+    let body = places(text, inside, closer, suffix, false);
+    Some(quoted(kind, body, piece_unit(kind, piece)))
 }
 
 /// Whether a `'` begins the text, and as many bytes follow as a character has.
 #[inline(always)]
 pub(crate) fn begins_character(text: &str) -> bool
-    ensures { IsTrue result → IsTrue (first_passes (λ c. c == 39) (chars text.now)) }
+    ensures long { IsTrue result → 3 ≤ length text.now }
+    ensures quote { IsTrue result → slice_index text.now 0 ≡ 39 }
 {
     let bytes = text.as_bytes();
-    bytes.len() >= 3 && bytes[0] == b'\''
+    bytes.len() >= 3 && bytes[0] == first_of(Kind::Char)
+}
+
+/// A character of ASCII between single quotes, which isn't a backslash: `'a'`. It stands for itself.
+#[inline(always)]
+pub(crate) fn find_bare_character(text: &str) -> Option<Found>
+    requires long { 3 ≤ length text.now }
+    requires quote { slice_index text.now 0 ≡ 39 }
+    ensures { IfSome result (IsFound text.now) }
+{
+    let bytes = text.as_bytes();
+    if bytes[2] != quote_of(Kind::Char) || bytes[1] == b'\\' || bytes[1] >= 128 {
+        return None;
+    }
+    let body = Body {
+        lo: 1,
+        hi: 2,
+        suffix_at: 3,
+        plain: false,
+    };
+    Some(quoted(Kind::Char, body, bytes[1] as u32))
 }
 
 /// What reading the text as a character finds, which a `'` begins.
 #[inline(never)]
 pub(crate) fn find_character(text: &str) -> Option<Found>
-    requires { IsTrue (first_passes (λ c. c == 39) (chars text.now)) }
-    ensures no_quoted { IfNone result (HasNoQuoted (chars text.now)) }
-    ensures no_truth { HasNoTruth (chars text.now) }
+    requires { slice_index text.now 0 ≡ 39 }
+    ensures none { IfNone result (HasNoReading (chars text.now)) }
     ensures found { IfSome result (IsFound text.now) }
 {
-    let Some((_, inside)) = split_ascii(text) else {
-        unreachable!()
-    };
-    find_form(QuotedForm::Single, Kind::Char, text, inside)
-}
-
-/// What reading the text finds as a quoted literal of the form, from the text after its opener.
-#[inline(always)]
-pub(crate) fn find_form(form: QuotedForm, kind: Kind, text: &str, inside: &str) -> Option<Found>
-    requires { opener_at (chars text.now) ≡ found_opener form kind (chars inside.now) }
-    ensures no_quoted { IfNone result (HasNoQuoted (chars text.now)) }
-    ensures no_truth { HasNoTruth (chars text.now) }
-    ensures found { IfSome result (IsFound text.now) }
-{
-    let read = read_inside(form, kind, inside)?;
-    let lo = text.len() - read.opened.len();
-    let body = Body {
-        lo,
-        hi: lo + read.body.len(),
-        suffix_at: text.len() - read.suffix.len(),
-        plain: read.plain,
-    };
-    Some(Found {
-        kind,
-        body,
-        magnitude: 0,
-        truth: false,
-        unit: read.unit,
-    })
+    find_single(Kind::Char, text, &text[1..])
 }

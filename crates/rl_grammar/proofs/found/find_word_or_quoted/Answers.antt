@@ -1,7 +1,11 @@
 use Rattle.std.proofs.Common.{sym}
-use Rattle.rl_tokens.proofs.BehindLemmas.{if_none}
+use Rattle.std.specs.Str.{chars}
 use Rattle.rl_grammar.proofs.FormLemmas.{no_front}
+use Rattle.rl_grammar.proofs.OptionLemmas.{none_then}
+use Rattle.rl_grammar.proofs.ReadingLemmas.{no_reading, no_front_number}
 use Rattle.rl_grammar.proofs.found.find_word_or_quoted.Goals as goal
 
-pub returns-in_default-clause-no_quoted : goal.returns-in_default-clause-no_quoted
-returns-in_default-clause-no_quoted c = if_none _ (no_front _ (sym c.in_default.ensures))
+pub returns-in_default-clause-none : goal.returns-in_default-clause-none
+returns-in_default-clause-none c =
+    let t = chars c.args.text.now in
+    none_then c.find_truth.result (no_reading t (no_front t (sym c.in_default.ensures)) (no_front_number t c.requires)) c.find_truth.ensures.none

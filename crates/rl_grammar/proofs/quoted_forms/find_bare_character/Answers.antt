@@ -1,5 +1,6 @@
+use Rattle.std.proofs.Common.{◌∙◌}
 use Rattle.rl_grammar.proofs.BareCharacters.{bare_text}
 use Rattle.rl_grammar.proofs.quoted_forms.find_bare_character.Goals as goal
 
 pub returns : goal.returns
-returns c = bare_text c.args.text.now c.as_bytes-bytes.result.now c.as_bytes-bytes.ensures.value c.utf8.text c.if-bytes-lt3.false c.if-bytes-ne39.false c.if-bytes-ne39-2.false c.if-bytes-eq92.false c.if-bytes-ge128.false
+returns c = bare_text _ _ _ c.as_bytes-bytes.ensures.value c.utf8.text c.requires.long c.requires.quote (c.if-bytes-quote_of.false ∙ c.quote_of.ensures.value) c.if-bytes-eq92.false c.if-bytes-ge128.false c.quoted.ensures

@@ -3,12 +3,12 @@ use Rattle.std.specs.Str.{chars}
 use Rattle.rl_tokens.specs.declared.kind.Kind.TheVariants.{Char}
 use Rattle.rl_grammar.specs.declared.quoted_forms.QuotedForm.TheVariants.{Single as SingleForm}
 use Rattle.rl_grammar.specs.Mirrors.OpenerAt.{opener_at}
-use Rattle.rl_grammar.proofs.BareCharacters.{quote_is, quote_ascii}
+use Rattle.rl_grammar.proofs.BareCharacters.{quote_boundary, quote_first}
 use Rattle.rl_grammar.proofs.FormLemmas.{front_complete}
 use Rattle.rl_grammar.proofs.quoted_forms.find_character.Goals as goal
 
-pub find_form-requires : goal.find_form-requires
-find_form-requires c = ap opener_at (quote_is _ _ _ c.in-Some.ensures.some c.requires) ∙ front_complete SingleForm Char (chars c.in-Some.inside.now) refl
+pub range_from-requires : goal.range_from-requires
+range_from-requires c = λ some. quote_boundary _ c.utf8.text c.requires
 
-pub unreachable-requires : goal.unreachable-requires
-unreachable-requires c = quote_ascii (chars c.args.text.now) c.requires c.in_default.ensures.none
+pub find_single-requires : goal.find_single-requires
+find_single-requires c = ap opener_at (quote_first _ _ c.utf8.text c.requires c.range_from.ensures.value) ∙ front_complete SingleForm Char (chars c.range_from.result.now) refl
