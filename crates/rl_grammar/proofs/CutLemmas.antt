@@ -3,7 +3,7 @@ use Rattle.std.proofs.Common.{◌≡◌, ◌≢◌, ℕ, ◌+◌, ◌<◌, ◌�
 use Rattle.std.specs.Prelude.{encode_utf8_all, IfSome, IfNone, MatchOption, MatchBool}
 use Rattle.std.specs.List.{list_all}
 use Rattle.std.specs.Str.{chars, IsUtf8, IsCharBoundary, NoCharPasses, NonePass}
-use Rattle.std.specs.Str.Pattern.{FindsChar, RFindsChar, HasCharAt, FindsTextPrefix}
+use Rattle.std.specs.Str.Pattern.{FindsChar, RFindsChar, HasCharAt}
 use Rattle.std.proofs.lemmas.Bool.{and_from, and_right, both_ways, eq-eqb, eqb-true, not_from_false}
 use Rattle.std.proofs.lemmas.List.Folds.{list_all-append}
 use Rattle.std.proofs.lemmas.Str.{encodes-chars, encodes-append, chars-append, chars-nil, chars_from_encodes, chars_past_char, IsUtf8-take, IsUtf8-drop, IsUtf8-past_char, IsCharBoundary-before_ascii}
@@ -79,18 +79,6 @@ contains_chars c bs true m small u =
     let here : lacks c (c ∷ ys) ≡ false = ap (λ b. not b && lacks c ys) (eq-eqb c c refl) in
     sym (ap (lacks c) a.chars_are ∙ list_all-append (λ d. not (eqb d c)) xs (c ∷ ys) ∙ and_right (lacks c xs) (lacks c (c ∷ ys)) here)
 contains_chars c bs false m small u = sym (chars_lack c bs u m)
-
-abbrev StripPrefix : List ℕ → List ℕ → Option (Bor (List ℕ)) → Type 0
-StripPrefix n bs r = MatchOption r (FindsTextPrefix n bs None) (λ x. (k : ℕ) × FindsTextPrefix n bs (Some k) × (x.now ≡ drop k bs) × (length x.now + k ≡ length bs))
-
-pub strip_prefix_some : (n bs : List ℕ) (r : Option (Bor (List ℕ))) → StripPrefix n bs r → IsUtf8 n → IfSome r (λ x. chars bs ≡ chars n ++ chars x.now)
-strip_prefix_some n bs None m u = tt
-strip_prefix_some n bs (Some x) m u = ap chars (m.1.1 ∙ ap (λ z. n ++ z) (sym m.2)) ∙ chars-append n x.now u
-
-pub strip_prefix_none : (n bs : List ℕ) (r : Option (Bor (List ℕ))) → StripPrefix n bs r → IsUtf8 n → IsUtf8 bs → IfNone r ((x : List ℕ) → chars bs ≢ chars n ++ x)
-strip_prefix_none n bs (Some x) m u w = tt
-strip_prefix_none n bs None m u w = λ x e.
-    m (encode_utf8_all x) (sym (encodes-chars bs w) ∙ ap encode_utf8_all e ∙ encodes-append (chars n) x ∙ ap (λ z. z ++ encode_utf8_all x) (encodes-chars n u))
 
 -- a text has characters where it has bytes
 pub some_text : (t : List ℕ) → IsUtf8 t → is_some_text (chars t) ≡ not (length t == 0)

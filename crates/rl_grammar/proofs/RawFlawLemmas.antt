@@ -14,6 +14,8 @@ use Rattle.rl_tokens.specs.declared.kind.Kind.TheVariants.{Str, ByteStr, CStr, B
 use Rattle.rl_tokens.specs.Texts.{first_passes}
 use Rattle.rl_tokens.specs.Quoted.{content_of, is_string, is_raw, raw_opener, Raw}
 use Rattle.rl_tokens.specs.Classes.{after_run, is_hash}
+use Rattle.rl_tokens.specs.Mirrors.LexemeAt.{hashes as hash_count}
+use Rattle.rl_tokens.proofs.HashLemmas.{hashes_first, hashes_past}
 use Rattle.rl_grammar.specs.declared.flaws.FlawKind.{FlawKind}
 use Rattle.rl_grammar.specs.declared.flaws.FlawKind.TheVariants.{Empty, NoLiteral, Unfinished, NoQuote, NoNumber, Unclosed, UnknownEscape, NoUnicode, NoHexDigit, NoBrace, EmptyBraces, TooManyDigits, PastAscii, PastUnicode, Surrogate, Nul, NotAscii, LateQuote, LoneCr, MustEscape, NoCharacter, TwoCharacters, NoExponentDigit, BadSuffix, TooLarge}
 use Rattle.rl_grammar.specs.declared.quoted_forms.QuotedForm.TheVariants.{Raw as RawForm}
@@ -21,7 +23,7 @@ use Rattle.rl_grammar.specs.Forms.{HasNoParts}
 use Rattle.rl_grammar.specs.FlawKinds.{is_quote, IsUnopened, Closes, IsOpened, IsSpoiled, IsReopened, RawFlaw}
 use Rattle.rl_grammar.specs.Mirrors.StopsInside.{HasParts, StopsInside}
 use Rattle.rl_grammar.specs.Mirrors.UnitFlawAt.{spoiled_flaw_of}
-use Rattle.rl_grammar.proofs.RawLemmas.{no_quote, quote_inside, last_same, hashes_no_quote, hashes_sound, hashes_complete, inner, raw_front, raw_unopened}
+use Rattle.rl_grammar.proofs.RawLemmas.{no_quote, quote_inside, last_same, hashes_no_quote, inner, raw_front, raw_unopened}
 
 -- ---- characters
 
@@ -75,7 +77,7 @@ parts kind n body suffix s each none = (
 opens : (kind : Kind) (n : ℕ) (y v x : List ℕ) (r : Raw kind (raw_opener kind ++ (replicate n 35 ++ (34 ∷ y))) v x) → y ≡ r.inside ++ (34 ∷ (replicate n 35 ++ x))
 opens kind n y v x r =
     let t = replicate n 35 ++ (34 ∷ y) in
-    let rest = hashes_complete n y in
+    let rest = hashes_past n y in
     let f = raw_front kind t v x (replicate n 35) r (ap (λ z. replicate n 35 ++ z) (sym rest)) in
     let both : 34 ∷ y ≡ 34 ∷ inner r.hashes r.inside x = sym rest ∙ f.1 in
     let tail : y ≡ inner r.hashes r.inside x = cc in
@@ -347,18 +349,11 @@ module _ (kind : Kind) (n : ℕ) (hashes inside body rest : List ℕ) (hashes_ar
 pub flaw_as : (kind : Kind) (k l : FlawKind) (t a b : List ℕ) → k ≡ l → a ≡ b → RawFlaw kind l t b → RawFlaw kind k t a
 flaw_as kind k l t a b e f p = subst (λ z. RawFlaw kind z t a) (sym e) (subst (RawFlaw kind l t) (sym f) p)
 
--- the hashes at the front of a text, and what follows them
-pub hashes_are : (t hashes rest : List ℕ) → rest ≡ after_run is_hash t → t ≡ hashes ++ rest → (n : ℕ) × (hashes ≡ replicate n 35)
-hashes_are t hashes rest e cut =
-    let front = hashes_sound t in
-    (front.0, append_cancel_right hashes (replicate front.0 35) rest (sym cut ∙ front.1 ∙ ap (λ z. replicate front.0 35 ++ z) (sym e)))
-
 unopened : (t rest : List ℕ) → rest ≡ after_run is_hash t → first_passes is_quote rest ≡ false → IsUnopened t rest
 unopened t rest e h =
-    let front = hashes_sound t in
     record {
-      hashes = front.0;
-      text_is = front.1 ∙ ap (λ z. replicate front.0 35 ++ z) (sym e);
+      hashes = hash_count t;
+      text_is = hashes_first t ∙ ap (λ z. replicate (hash_count t) 35 ++ z) (sym e);
       no_hash = ap (first_passes is_hash) e ∙ (run_cut is_hash t).stops;
       no_quote = h;
     }

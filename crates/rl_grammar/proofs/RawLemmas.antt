@@ -1,18 +1,17 @@
 -- Raw strings: their hashes, their last quote, and their one reading.
-use Rattle.std.proofs.Common.{◌≡◌, ◌≢◌, ℕ, zero, suc, Bool, true, false, not, eqb, List, [], ◌∷◌, ◌++◌, replicate, refl, sym, ap, subst, ◌∙◌, inl, inr}
+use Rattle.std.proofs.Common.{◌≡◌, ◌≢◌, ℕ, zero, suc, Bool, true, false, not, eqb, List, [], ◌∷◌, ◌++◌, replicate, refl, sym, ap, subst, ◌∙◌}
 use Rattle.std.specs.List.{list_all}
-use Rattle.std.specs.Str.{chars, IsUtf8}
-use Rattle.std.proofs.lemmas.Bool.{both_ways, cases_Bool, eqb-true, and_parts}
+use Rattle.std.proofs.lemmas.Bool.{both_ways, and_parts}
 use Rattle.std.proofs.lemmas.List.{append_cancel_left, append_cancel_right}
 use Rattle.std.proofs.lemmas.List.Folds.{list_all-append}
 use Rattle.rl_tokens.specs.declared.kind.Kind.{Kind}
 use Rattle.rl_tokens.specs.declared.kind.Kind.TheVariants.{Str, ByteStr, CStr, Byte, Char, Int, Float, Bool as BoolKind}
-use Rattle.rl_tokens.specs.Texts.{IsTail}
 use Rattle.rl_tokens.specs.Quoted.{content_of, is_string, is_raw, raw_opener, Raw}
+use Rattle.rl_tokens.specs.Mirrors.LexemeAt.{hashes as hash_count}
+use Rattle.rl_tokens.proofs.HashLemmas.{hashes_before, hashes_first, hashes_past}
 use Rattle.rl_grammar.specs.declared.quoted_forms.QuotedForm.TheVariants.{Raw as RawForm}
 use Rattle.rl_grammar.specs.Forms.{PartsAre, HasNoParts}
 use Rattle.rl_tokens.specs.Classes.{after_run, is_hash}
-use Rattle.rl_grammar.proofs.CutLemmas.{behind_chars}
 
 abbrev pub no_quote : ℕ → Bool
 no_quote c = not (eqb c 34)
@@ -56,19 +55,6 @@ hashes_no_quote (suc n) x = hashes_no_quote n x
 
 -- ---- the hashes at the front
 
-pub hashes_sound : (t : List ℕ) → (n : ℕ) × (t ≡ replicate n 35 ++ (after_run is_hash) t)
-hashes_sound [] = (0, refl)
-hashes_sound (c ∷ cs) =
-    let more = hashes_sound cs in
-    elim (cases_Bool (eqb c 35)) [
-      | inl a ↦ rw a (suc more.0, ap (λ z. z ∷ cs) (eqb-true c 35 a) ∙ ap (λ z. 35 ∷ z) more.1)
-      | inr a ↦ rw a (0, refl)
-    ]
-
-pub hashes_complete : (n : ℕ) (y : List ℕ) → (after_run is_hash) (replicate n 35 ++ (34 ∷ y)) ≡ 34 ∷ y
-hashes_complete zero y = refl
-hashes_complete (suc n) y = hashes_complete n y
-
 -- what follows the first quote of a raw string
 abbrev pub inner : ℕ → List ℕ → List ℕ → List ℕ
 inner n inside suffix = inside ++ (34 ∷ (replicate n 35 ++ suffix))
@@ -79,7 +65,7 @@ raw_front kind t v x hashes r e =
     let n = r.hashes in
     let y = inner n r.inside x in
     let text : t ≡ replicate n 35 ++ (34 ∷ y) = append_cancel_left (raw_opener kind) t (replicate n 35 ++ (34 ∷ y)) r.text_is in
-    let rest : (after_run is_hash) t ≡ 34 ∷ y = ap (after_run is_hash) text ∙ hashes_complete n y in
+    let rest : (after_run is_hash) t ≡ 34 ∷ y = ap (after_run is_hash) text ∙ hashes_past n y in
     (append_cancel_right hashes (replicate n 35) (34 ∷ y) (ap (λ z. hashes ++ z) (sym rest) ∙ sym e ∙ text), rest)
 
 -- what follows the first quote, cut at its last
@@ -88,9 +74,8 @@ raw_inner n inside x body after hx ha e = last_same body inside after (replicate
 
 pub raw_once : (kind : Kind) (t v x w y : List ℕ) → Raw kind (raw_opener kind ++ t) v x → Raw kind (raw_opener kind ++ t) w y → (v ≡ w) × (x ≡ y)
 raw_once kind t v x w y r s =
-    let front = hashes_sound t in
-    let a = raw_front kind t v x (replicate front.0 35) r front.1 in
-    let b = raw_front kind t w y (replicate front.0 35) s front.1 in
+    let a = raw_front kind t v x (replicate (hash_count t) 35) r (hashes_first t) in
+    let b = raw_front kind t w y (replicate (hash_count t) 35) s (hashes_first t) in
     let both : 34 ∷ inner r.hashes r.inside x ≡ 34 ∷ inner s.hashes s.inside y = sym a.1 ∙ b.1 in
     let insides : inner r.hashes r.inside x ≡ inner s.hashes s.inside y = cc in
     let parts = raw_inner s.hashes s.inside y r.inside (replicate r.hashes 35 ++ x) s.no_quote (hashes_no_quote r.hashes x ∙ r.no_quote) insides in (
@@ -100,17 +85,10 @@ raw_once kind t v x w y r s =
 
 -- ---- the steps of the reader
 
--- what follows the hashes is after the text
-pub hashes_behind : (bs ys : List ℕ) → IsUtf8 bs → IsUtf8 ys → chars ys ≡ (after_run is_hash) (chars bs) → IsTail bs ys
-hashes_behind bs ys u w e =
-    let front = hashes_sound (chars bs) in
-    behind_chars bs ys (replicate front.0 35) u w (front.1 ∙ ap (λ z. replicate front.0 35 ++ z) (sym e))
-
 -- no quote stands after the hashes
 pub raw_unopened : (kind : Kind) (t rest : List ℕ) → rest ≡ (after_run is_hash) t → ((y : List ℕ) → rest ≢ 34 ∷ y) → HasNoParts RawForm kind (raw_opener kind ++ t)
 raw_unopened kind t rest e h v b x p =
-    let front = hashes_sound t in
-    h _ (e ∙ (raw_front kind t v x (replicate front.0 35) p.0 front.1).1)
+    h _ (e ∙ (raw_front kind t v x (replicate (hash_count t) 35) p.0 (hashes_first t)).1)
 
 -- `hashes` stand at the front of `t`, and `rest` after them
 
@@ -145,9 +123,8 @@ module _ (kind : Kind) (t hashes rest : List ℕ) (rest_is : rest ≡ (after_run
 
     pub raw_found : (suffix : List ℕ) → is_string kind ≡ true → after ≡ hashes ++ suffix → list_all (is_raw kind) body ≡ true → (v : List ℕ) × PartsAre RawForm kind (raw_opener kind ++ t) v body suffix
     raw_found suffix string e held_all =
-        let front = hashes_sound t in
-        let n = front.0 in
-        let hashes_are : hashes ≡ replicate n 35 = append_cancel_right hashes (replicate n 35) rest (sym text_is ∙ front.1 ∙ ap (λ z. replicate n 35 ++ z) (sym rest_is)) in
+        let n = hash_count t in
+        let hashes_are : hashes ≡ replicate n 35 = hashes_before hashes t rest rest_is text_is in
         let none : list_all no_quote suffix ≡ true = (and_parts (list_all no_quote hashes) (list_all no_quote suffix) (sym (list_all-append no_quote hashes suffix) ∙ ap (list_all no_quote) (sym e) ∙ none_after)).1 in
         let whole : t ≡ replicate n 35 ++ (34 ∷ inner n body suffix) =
         text_is

@@ -16,10 +16,11 @@ use Rattle.rl_tokens.specs.declared.scan.Marks.{Marks}
 use Rattle.rl_tokens.specs.Scanning.{is_other}
 use Rattle.rl_tokens.proofs.StrictNumbers.{begins_front}
 use Rattle.rl_tokens.specs.Classes.{after_run, is_hash}
+use Rattle.rl_tokens.specs.Mirrors.LexemeAt.{hashes as hash_count}
+use Rattle.rl_tokens.proofs.HashLemmas.{hashes_before as hashes_here, hashes_past}
 use Rattle.rl_grammar.specs.Mirrors.StrictAt.{ends_raw, is_inside, is_raw_character, is_strict_suffix}
 use Rattle.rl_grammar.specs.StrictShapes.{ClosesInside, ClosesRaw}
 use Rattle.rl_grammar.proofs.IntegerLemmas.{begins_is}
-use Rattle.rl_grammar.proofs.RawLemmas.{hashes_sound, hashes_complete}
 use Rattle.rl_grammar.proofs.ShapeLemmas.{hashes_bytes}
 use Rattle.rl_grammar.proofs.StrictWordLemmas.{all_both, all_apart, strict_suffix_complete, strict_suffix_sound}
 
@@ -236,10 +237,10 @@ record Hashes (hs : List ℕ) : Type 0 where
 -- what stands before the rest after hashes is hashes
 hashes_in : (t r hs : List ℕ) → IsUtf8 hs → r ≡ (after_run is_hash) t → t ≡ chars hs ++ r → Hashes hs
 hashes_in t r hs u rest text =
-    let f = hashes_sound t in
-    let same : chars hs ≡ replicate f.0 35 = append_cancel_right (chars hs) (replicate f.0 35) r (sym text ∙ f.1 ∙ ap (λ z. replicate f.0 35 ++ z) (sym rest)) in
-    let bytes : hs ≡ replicate f.0 35 = sym (encodes-chars hs u) ∙ ap encode_utf8_all same ∙ hashes_bytes f.0 in
-    record { count = f.0; chars_are = same; length_is = ap length bytes ∙ length-replicate f.0 35 }
+    let n = hash_count t in
+    let same : chars hs ≡ replicate n 35 = hashes_here (chars hs) t r rest text in
+    let bytes : hs ≡ replicate n 35 = sym (encodes-chars hs u) ∙ ap encode_utf8_all same ∙ hashes_bytes n in
+    record { count = n; chars_are = same; length_is = ap length bytes ∙ length-replicate n 35 }
 
 -- the hashes and the quote of a strict raw form are those at its front
 record SameHashes (k : Kind) (t r hs : List ℕ) (c : ClosesRaw k t) : Type 0 where
@@ -249,7 +250,7 @@ record SameHashes (k : Kind) (t r hs : List ℕ) (c : ClosesRaw k t) : Type 0 wh
 -- the form has the hashes and the rest that were found
 same_hashes : (k : Kind) (t r hs : List ℕ) (c : ClosesRaw k t) → r ≡ (after_run is_hash) t → t ≡ chars hs ++ r → SameHashes k t r hs c
 same_hashes k t r hs c rest text =
-    let following : r ≡ 34 ∷ c.rest = rest ∙ ap (after_run is_hash) c.text_is ∙ hashes_complete c.hashes c.rest in
+    let following : r ≡ 34 ∷ c.rest = rest ∙ ap (after_run is_hash) c.text_is ∙ hashes_past c.hashes c.rest in
     record { hashes_are = append_cancel_right (chars hs) (replicate c.hashes 35) (34 ∷ c.rest) (ap (λ z. chars hs ++ z) (sym following) ∙ sym text ∙ c.text_is); rest_is = following }
 
 -- few hashes, and a quote
@@ -286,4 +287,4 @@ raw_many k b t r hs u rest text many none =
 
 -- no quote after the hashes
 pub raw_unquoted : (k : Kind) (t r : List ℕ) → r ≡ (after_run is_hash) t → ((y : List ℕ) → r ≢ 34 ∷ y) → IsTrue false ↔ ClosesRaw k t
-raw_unquoted k t r rest n = (λ y. absurd (both_ways true (sym y) refl), λ c. absurd (n c.rest (rest ∙ ap (after_run is_hash) c.text_is ∙ hashes_complete c.hashes c.rest)))
+raw_unquoted k t r rest n = (λ y. absurd (both_ways true (sym y) refl), λ c. absurd (n c.rest (rest ∙ ap (after_run is_hash) c.text_is ∙ hashes_past c.hashes c.rest)))

@@ -22,8 +22,8 @@ use crate::quoted_forms::{
     QuotedForm, begins_character, find_bare_character, find_character, find_cooked, find_raw,
     find_single, split_opener,
 };
-use crate::units::before;
 use rl_tokens::Kind;
+use rl_tokens::text::before;
 
 /// Where the parts of a literal stand in its text, in bytes, and whether the body is what it stands for, byte for byte.
 #[derive(Clone, Copy)]

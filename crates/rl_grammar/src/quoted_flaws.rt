@@ -12,11 +12,11 @@ ghost use Rattle.rl_grammar.specs.Forms.{HasNoParts, form_opener, has_form};
 ghost use Rattle.rl_grammar.specs.Mirrors.StopsInside.{StopsInside};
 
 use crate::flaws::{FlawAt, FlawKind, make_flaw};
-use crate::quoted_forms::{QuotedForm, behind_prefix, skip_hashes, skip_units, split_last_quote};
-use crate::units::{allows_code, before, has_unicode, unit};
+use crate::quoted_forms::{QuotedForm, skip_units, split_last_quote};
+use crate::units::{allows_code, has_unicode, unit};
 use rl_tokens::Kind;
-use rl_tokens::classes::{CharClass, skip_class};
-use rl_tokens::text::split_char;
+use rl_tokens::classes::{CharClass, skip_class, skip_hashes};
+use rl_tokens::text::{after_prefix, before, split_char};
 
 /// Of what should be the second digit of `\x`, whose first one may stand there.
 fn low_digit_flaw(text: &str) -> FlawAt<'_>
@@ -215,7 +215,7 @@ fn closes(hashes: &str, text: &str) -> bool
         (Closes (chars hashes.now) (chars text.now)) (Closes (chars hashes.now) (chars text.now) → ⊥) }
 {
     match split_last_quote(text) {
-        Some((_, after)) => behind_prefix(hashes, after).is_some(),
+        Some((_, after)) => after_prefix(hashes, after).is_some(),
         None => false,
     }
 }

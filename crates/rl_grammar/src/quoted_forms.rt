@@ -14,10 +14,10 @@ ghost use Rattle.rl_tokens.specs.Reading.{HasNoReading};
 ghost use Rattle.rl_tokens.specs.Classes.{after_run, is_hash};
 
 use crate::found::{Body, Found};
-use crate::units::{before, is_ascii, piece_unit, split_plain, unit};
+use crate::units::{is_ascii, piece_unit, split_plain, unit};
 use rl_tokens::Kind;
-use rl_tokens::classes::{CharClass, skip_class};
-use rl_tokens::text::split_ascii;
+use rl_tokens::classes::skip_hashes;
+use rl_tokens::text::{after_prefix, before, split_ascii};
 
 /// The forms of quoted literals: with escapes between `"`, as the text stands, and one unit between `'`.
 #[derive(Clone, Copy)]
@@ -109,13 +109,6 @@ pub(crate) fn skip_units(kind: Kind, text: &str) -> &str
     rest
 }
 
-/// The text after the hashes at its front.
-pub(crate) fn skip_hashes(text: &str) -> &str
-    ensures { chars result.now ≡ after_run is_hash (chars text.now) }
-{
-    skip_class(CharClass::Hash, text)
-}
-
 /// The text in front of the last quote, and the text after it.
 pub(crate) fn split_last_quote(text: &str) -> Option<(&str, &str)>
     ensures some { IfSome result (λ p. (chars text.now ≡ chars p.0.now ++ (34 ∷ chars p.1.now))
@@ -123,15 +116,6 @@ pub(crate) fn split_last_quote(text: &str) -> Option<(&str, &str)>
     ensures none { IfNone result (IsTrue (list_all (λ c. not (c == 34)) (chars text.now))) }
 {
     text.rsplit_once('"')
-}
-
-/// The text after a prefix.
-#[tactic(auto, using(crate::proofs::CutLemmas::strip_prefix_some, crate::proofs::CutLemmas::strip_prefix_none))]
-pub(crate) fn behind_prefix<'t>(prefix: &str, text: &'t str) -> Option<&'t str>
-    ensures some { IfSome result (λ rest. chars text.now ≡ chars prefix.now ++ chars rest.now) }
-    ensures none { IfNone result ((x : List ℕ) → chars text.now ≢ chars prefix.now ++ x) }
-{
-    text.strip_prefix(prefix)
 }
 
 /// Whether the text holds a NUL.
@@ -145,7 +129,7 @@ pub(crate) fn has_nul(text: &str) -> bool
 /// The text after the quote of the kind, where that stands at the front.
 #[inline(always)]
 #[tactic(auto, using(crate::proofs::AsciiLemmas::no_quote))]
-fn behind_quote(kind: Kind, text: &str) -> Option<&str>
+pub(crate) fn after_quote(kind: Kind, text: &str) -> Option<&str>
     requires { IsTrue (is_quoted kind) }
     ensures some { IfSome result (λ rest. chars text.now ≡ closer kind ∷ chars rest.now) }
     ensures none { IfNone result ((x : List ℕ) → chars text.now ≢ closer kind ∷ x) }
@@ -207,11 +191,11 @@ pub(crate) fn find_cooked(kind: Kind, text: &str, inside: &str) -> Option<Found>
 {
     // Strings of all kinds close alike: the quote of a named kind is known when this is compiled.
     let (_, following) = split_plain(kind, inside);
-    if let Some(suffix) = behind_quote(Kind::Str, following) {
+    if let Some(suffix) = after_quote(Kind::Str, following) {
         return Some(quoted(kind, places(text, inside, following, suffix, true), 0));
     }
     let closer = skip_units(kind, following);
-    let suffix = behind_quote(Kind::Str, closer)?;
+    let suffix = after_quote(Kind::Str, closer)?;
     Some(quoted(kind, places(text, inside, closer, suffix, false), 0))
 }
 
@@ -225,9 +209,9 @@ fn raw_places(kind: Kind, text: &str, inside: &str) -> Option<Body>
 {
     let rest = skip_hashes(inside);
     let hashes = before(inside, rest);
-    let opened = behind_quote(Kind::Str, rest)?;
+    let opened = after_quote(Kind::Str, rest)?;
     let (body, after) = split_last_quote(opened)?;
-    let suffix = behind_prefix(hashes, after)?;
+    let suffix = after_prefix(hashes, after)?;
     if !holds_all(kind, body) {
         return None;
     }
@@ -267,7 +251,7 @@ pub(crate) fn find_single(kind: Kind, text: &str, inside: &str) -> Option<Found>
     ensures found { IfSome result (IsFound text.now) }
 {
     let (piece, closer) = unit(kind, inside)?;
-    let suffix = behind_quote(Kind::Char, closer)?;
+    let suffix = after_quote(Kind::Char, closer)?;
     let body = places(text, inside, closer, suffix, false);
     Some(quoted(kind, body, piece_unit(kind, piece)))
 }

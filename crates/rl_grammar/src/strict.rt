@@ -16,13 +16,13 @@ ghost use Rattle.rl_tokens.specs.Quoted.{is_single, is_string};
 use crate::digit_rows::{begins_digit, read_row, skip_row};
 use crate::found::truth_of;
 use crate::number_forms::split_radix;
-use crate::quoted_forms::{QuotedForm, behind_prefix, skip_hashes, split_opener};
-use crate::units::{before, is_bare_character, is_plain, split_ascii_run, split_plain, unit};
+use crate::quoted_forms::{QuotedForm, after_quote, split_opener};
+use crate::units::{is_bare_character, is_plain, split_ascii_run, split_plain, unit};
 use rl_tokens::Kind;
 use rl_tokens::characters::{is_continue, is_start};
-use rl_tokens::classes::{CharClass, skip_class};
+use rl_tokens::classes::{CharClass, skip_class, skip_hashes};
 use rl_tokens::scan::{Marks, split_before};
-use rl_tokens::text::split_char;
+use rl_tokens::text::{after_prefix, before, split_char};
 
 /// What may close a raw C string, and what it doesn't hold.
 const INSIDE_C_STRING: Marks = Marks {
@@ -304,7 +304,7 @@ fn behind_closer<'t>(hashes: &str, c: char, after: &'t str) -> Option<&'t str>
         (IsFalse (c == 34 && begins (chars hashes.now) (chars after.now))) }
 {
     if c == '"' {
-        behind_prefix(hashes, after)
+        after_prefix(hashes, after)
     } else {
         None
     }
@@ -343,17 +343,6 @@ fn ends_raw(kind: Kind, hashes: &str, text: &str) -> bool
     false
 }
 
-/// The text after the quote at its front.
-fn behind_quote(text: &str) -> Option<&str>
-    ensures some { IfSome result (λ r. chars text.now ≡ 34 ∷ chars r.now) }
-    ensures none { IfNone result ((x : List ℕ) → chars text.now ≢ 34 ∷ x) }
-{
-    match split_char(text) {
-        Some(('"', rest)) => Some(rest),
-        _ => None,
-    }
-}
-
 /// Whether hashes, a quote and what ends a raw string follow.
 fn closes_raw(kind: Kind, text: &str) -> bool
     requires { IsTrue (is_string kind) }
@@ -361,7 +350,7 @@ fn closes_raw(kind: Kind, text: &str) -> bool
 {
     let rest = skip_hashes(text);
     let hashes = before(text, rest);
-    match behind_quote(rest) {
+    match after_quote(Kind::Str, rest) {
         Some(inside) => hashes.len() < 256 && ends_raw(kind, hashes, inside),
         None => false,
     }

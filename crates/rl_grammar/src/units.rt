@@ -347,13 +347,3 @@ pub(crate) fn split_plain(kind: Kind, text: &str) -> (&str, &str)
 {
     text.split_at(plain_len(kind, text.as_bytes()))
 }
-
-/// The text in front of a rest of it.
-#[tactic(auto, using(rl_tokens::proofs::BehindLemmas::cut_boundary, rl_tokens::proofs::BehindLemmas::cut_chars))]
-pub(crate) fn before<'t>(text: &'t str, rest: &str) -> &'t str
-    requires { IsTail text.now rest.now }
-    ensures cut { text.now ≡ result.now ++ rest.now }
-    ensures chars { chars text.now ≡ chars result.now ++ chars rest.now }
-{
-    &text[..text.len() - rest.len()]
-}

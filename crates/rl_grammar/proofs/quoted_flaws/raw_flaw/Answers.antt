@@ -4,15 +4,15 @@ use Rattle.rl_tokens.specs.Quoted.{raw_opener}
 use Rattle.rl_grammar.specs.declared.quoted_forms.QuotedForm.TheVariants.{Raw as RawForm}
 use Rattle.rl_grammar.specs.FlawKinds.{RawFlaw}
 use Rattle.rl_grammar.specs.Forms.{HasNoParts}
-use Rattle.rl_grammar.proofs.RawLemmas.{hashes_behind}
-use Rattle.rl_grammar.proofs.RawFlawLemmas.{flaw_as, hashes_are, no_quote_flaw, opened_text, unfinished_flaw}
+use Rattle.rl_tokens.proofs.HashLemmas.{hashes_before}
+use Rattle.rl_grammar.proofs.RawFlawLemmas.{flaw_as, no_quote_flaw, opened_text, unfinished_flaw}
 use Rattle.rl_grammar.proofs.quoted_flaws.raw_flaw.Goals as goal
 
 pub before-requires : goal.before-requires
-before-requires c = hashes_behind _ _ c.utf8.text c.skip_hashes-rest.utf8 c.skip_hashes-rest.ensures
+before-requires c = c.skip_hashes-rest.ensures.following
 
 pub opened_flaw-requires-clause-hashes : goal.opened_flaw-requires-clause-hashes
-opened_flaw-requires-clause-hashes c = hashes_are _ _ _ c.skip_hashes-rest.ensures c.before-then-first-eq34.ensures.chars
+opened_flaw-requires-clause-hashes c = (_, hashes_before _ _ _ c.skip_hashes-rest.ensures.rest c.before-then-first-eq34.ensures.chars)
 
 pub opened_flaw-requires-clause-none : goal.opened_flaw-requires-clause-none
 opened_flaw-requires-clause-none c =
@@ -29,7 +29,7 @@ returns-then-first-eq34 c =
 
 pub returns-in_default : goal.returns-in_default
 returns-in_default c =
-    let given = unfinished_flaw c.args.kind _ _ c.skip_hashes-rest.ensures c.in_default.ensures.chars in
+    let given = unfinished_flaw c.args.kind _ _ c.skip_hashes-rest.ensures.rest c.in_default.ensures.chars in
     record {
       kind = flaw_as _ _ _ _ _ _ c.make_flaw.ensures.0 (ap chars c.make_flaw.ensures.1) given;
       piece = c.make_flaw.ensures.2 ∙ sym c.make_flaw.ensures.1;
@@ -37,7 +37,7 @@ returns-in_default c =
 
 pub returns-else-first-eq34 : goal.returns-else-first-eq34
 returns-else-first-eq34 c =
-    let given = no_quote_flaw c.args.kind _ _ _ _ c.skip_hashes-rest.ensures c.in-Some.ensures.chars c.if-first-eq34.false in
+    let given = no_quote_flaw c.args.kind _ _ _ _ c.skip_hashes-rest.ensures.rest c.in-Some.ensures.chars c.if-first-eq34.false in
     record {
       kind = flaw_as _ _ _ _ _ _ c.make_flaw-else-first-eq34.ensures.0 (ap chars c.make_flaw-else-first-eq34.ensures.1) given;
       piece = c.make_flaw-else-first-eq34.ensures.2 ∙ sym c.make_flaw-else-first-eq34.ensures.1;

@@ -10,29 +10,29 @@ use Rattle.rl_grammar.proofs.CutLemmas.{behind_chars}
 use Rattle.rl_grammar.proofs.FormLemmas.{front_sound}
 use Rattle.rl_grammar.proofs.FoundLemmas.{form_at}
 use Rattle.rl_grammar.proofs.PlaceLemmas.{closer_is, opened}
-use Rattle.rl_grammar.proofs.RawLemmas.{hashes_behind, raw_unopened, raw_unclosed, raw_other_hashes, raw_not_held, raw_found}
+use Rattle.rl_grammar.proofs.RawLemmas.{raw_unopened, raw_unclosed, raw_other_hashes, raw_not_held, raw_found}
 use Rattle.rl_grammar.proofs.ShapeLemmas.{closed_cut}
 use Rattle.rl_grammar.proofs.QuotedStopLemmas.{only_quoted}
 use Rattle.rl_grammar.proofs.quoted_forms.raw_places.Goals as goal
 
 pub returns-in_err-opened-clause-none : goal.returns-in_err-opened-clause-none
-returns-in_err-opened-clause-none c = if_none _ (only_quoted _ _ _ _ c.requires (raw_unopened _ _ _ c.skip_hashes-rest.ensures c.in_err-opened.ensures.none))
+returns-in_err-opened-clause-none c = if_none _ (only_quoted _ _ _ _ c.requires (raw_unopened _ _ _ c.skip_hashes-rest.ensures.rest c.in_err-opened.ensures.none))
 
 pub returns-in_err-body-clause-none : goal.returns-in_err-body-clause-none
-returns-in_err-body-clause-none c = if_none _ (only_quoted _ _ _ _ c.requires (raw_unclosed _ _ _ _ c.skip_hashes-rest.ensures c.before-hashes.ensures.chars _ c.in_ok-opened.ensures.some c.in_err-body.ensures.none))
+returns-in_err-body-clause-none c = if_none _ (only_quoted _ _ _ _ c.requires (raw_unclosed _ _ _ _ c.skip_hashes-rest.ensures.rest c.before-hashes.ensures.chars _ c.in_ok-opened.ensures.some c.in_err-body.ensures.none))
 
 pub before-hashes-requires : goal.before-hashes-requires
-before-hashes-requires c = hashes_behind _ _ c.utf8.inside c.skip_hashes-rest.utf8 c.skip_hashes-rest.ensures
+before-hashes-requires c = c.skip_hashes-rest.ensures.following
 
 pub returns-in_err-suffix-clause-none : goal.returns-in_err-suffix-clause-none
 returns-in_err-suffix-clause-none c =
     let b = c.in_ok-body.ensures.some in
-    if_none _ (only_quoted _ _ _ _ c.requires (raw_other_hashes _ _ _ _ c.skip_hashes-rest.ensures c.before-hashes.ensures.chars _ _ _ c.in_ok-opened.ensures.some b.0 b.1 c.in_err-suffix.ensures.none))
+    if_none _ (only_quoted _ _ _ _ c.requires (raw_other_hashes _ _ _ _ c.skip_hashes-rest.ensures.rest c.before-hashes.ensures.chars _ _ _ c.in_ok-opened.ensures.some b.0 b.1 c.in_err-suffix.ensures.none))
 
 pub returns-then-not-holds_all-clause-none : goal.returns-then-not-holds_all-clause-none
 returns-then-not-holds_all-clause-none c =
     let b = c.in_ok-body.ensures.some in
-    only_quoted _ _ _ _ c.requires (raw_not_held _ _ _ _ c.skip_hashes-rest.ensures c.before-hashes.ensures.chars _ _ _ c.in_ok-opened.ensures.some b.0 b.1 (sym c.if-not-holds_all.ensures))
+    only_quoted _ _ _ _ c.requires (raw_not_held _ _ _ _ c.skip_hashes-rest.ensures.rest c.before-hashes.ensures.chars _ _ _ c.in_ok-opened.ensures.some b.0 b.1 (sym c.if-not-holds_all.ensures))
 
 pub range_from-closer-requires : goal.range_from-closer-requires
 range_from-closer-requires c =
@@ -44,7 +44,7 @@ range_from-closer-requires c =
 
 pub places-requires-clause-opened : goal.places-requires-clause-opened
 places-requires-clause-opened c =
-    let rest = hashes_behind _ _ c.utf8.inside c.skip_hashes-rest.utf8 c.skip_hashes-rest.ensures in
+    let rest = c.skip_hashes-rest.ensures.following in
     behind_step _ _ _ (opened _ _ _ _ c.utf8.text c.utf8.inside c.requires) (behind_step _ _ _ rest c.in_ok-opened.ensures.following)
 
 pub places-requires-clause-suffix : goal.places-requires-clause-suffix
@@ -69,5 +69,5 @@ returns-clause-some c =
     let last = at.body ∙ ap (λ z. chars (body_in c.args.text.now c.places.result) ++ z) begins in
     let same = append_cancel_right _ _ _ (sym last ∙ b.0) in
     let held = ap (list_all (is_raw c.args.kind)) same ∙ sym c.if-not-holds_all.ensures in
-    let (v, parts) = raw_found _ _ _ _ c.skip_hashes-rest.ensures c.before-hashes.ensures.chars _ _ _ c.in_ok-opened.ensures.some last b.1 _ string c.in_ok-suffix.ensures.some held in
+    let (v, parts) = raw_found _ _ _ _ c.skip_hashes-rest.ensures.rest c.before-hashes.ensures.chars _ _ _ c.in_ok-opened.ensures.some last b.1 _ string c.in_ok-suffix.ensures.some held in
     form_at _ _ _ _ _ _ _ c.requires parts at.suffix at.stands at.plain
