@@ -27,7 +27,7 @@ pub fn append_literal<A: Allocator, B: Allocator>(
 {
     match token.clone(alloc) {
         Ok(copy) => append_tree(TokenTree::Literal(copy), tokens),
-        Err(refused) => Err(refused),
+        Err(error) => Err(error),
     }
 }
 

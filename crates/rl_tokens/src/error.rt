@@ -93,7 +93,7 @@ impl<A: Allocator> From<AllocError> for Error<A> {
 
     ghost from_gives = { λ rejected error. error ≡ memory_at nowhere };
 
-    fn from(_refused: AllocError) -> Error<A> {
+    fn from(_failure: AllocError) -> Error<A> {
         Error::memory(Span::call_site())
     }
 }

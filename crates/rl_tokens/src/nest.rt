@@ -116,7 +116,7 @@ impl<A: Allocator + Copy> TreeBuilder<A> {
         ensures ok { OnOk result (TakesTree self.old self.new tree) }
         ensures err { IfErr result (λ e. e ≡ record { kind = LexKind.Memory; at = at }) }
     {
-        if let Err(_refused) = self.trees.push(tree) {
+        if let Err(_failure) = self.trees.push(tree) {
             return Err(LexError::new(LexKind::Memory, at));
         }
         Ok(())
@@ -138,7 +138,7 @@ impl<A: Allocator + Copy> TreeBuilder<A> {
             at,
             before,
         };
-        if let Err(_refused) = self.opened.push(opened) {
+        if let Err(_failure) = self.opened.push(opened) {
             return Err(LexError::new(LexKind::Memory, at));
         }
         Ok(())
