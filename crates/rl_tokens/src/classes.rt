@@ -75,7 +75,7 @@ pub fn skip_class(class: CharClass, text: &str) -> &str
     skip_wide_class(class, rest)
 }
 
-/// The text after the hashes at its front, perhaps none.
+/// The text after the hashes at its front, perhaps none: those of a raw form.
 #[inline(always)]
 pub fn skip_hashes(text: &str) -> &str
     ensures rest { chars result.now ≡ after_run is_hash (chars text.now) }
