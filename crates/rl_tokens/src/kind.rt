@@ -4,6 +4,19 @@ ghost use Rattle.std.specs.Prelude.{◌≡◌};
 ghost use Rattle.rl_tokens.specs.Quoted.{holds_characters, is_string, opener};
 ghost use Rattle.rl_tokens.specs.Words.{kind_name, kind_shown, kind_word};
 
+// What stands before the characters of quoted literals: the one table of openers, which `Kind::opener` tells by the kind.
+// The lexer names its rows, since the compiler folds a constant, and not what a call returns, into a test of a text's
+// front.
+pub(crate) const STR_OPENER: &str = "\"";
+
+pub(crate) const BYTE_STR_OPENER: &str = "b\"";
+
+pub(crate) const C_STR_OPENER: &str = "c\"";
+
+pub(crate) const BYTE_OPENER: &str = "b'";
+
+pub(crate) const CHAR_OPENER: &str = "'";
+
 /// What a literal is: its kind, without its text. An error names it by [`word`](Kind::word).
 ///
 /// # Example
@@ -65,11 +78,11 @@ impl Kind {
         ensures { result.now ≡ opener self }
     {
         match self {
-            Kind::Str => "\"",
-            Kind::ByteStr => "b\"",
-            Kind::CStr => "c\"",
-            Kind::Byte => "b'",
-            Kind::Char => "'",
+            Kind::Str => STR_OPENER,
+            Kind::ByteStr => BYTE_STR_OPENER,
+            Kind::CStr => C_STR_OPENER,
+            Kind::Byte => BYTE_OPENER,
+            Kind::Char => CHAR_OPENER,
             Kind::Int | Kind::Float | Kind::Bool => "",
         }
     }

@@ -11,7 +11,7 @@ ghost use Rattle.rl_tokens.specs.Mirrors.LexemeAt.{begins_quote, begins_raw};
 ghost use Rattle.rl_tokens.specs.Lexemes.{begins_raw_identifier};
 
 use crate::characters::is_start;
-use crate::kind::Kind;
+use crate::kind::{BYTE_OPENER, BYTE_STR_OPENER, C_STR_OPENER, CHAR_OPENER, STR_OPENER};
 use crate::lex_error::LexKind;
 use crate::lexeme::{begins_hashed_quote, begins_marked_identifier};
 use crate::text::{begins_with, split_char};
@@ -75,12 +75,12 @@ fn begins_doc_comment(text: &str) -> bool
 fn begins_quote(text: &str) -> bool
     ensures { result ≡ begins_quote (chars text.now) }
 {
-    begins(text, Kind::Str.opener())
-        || begins(text, Kind::ByteStr.opener())
-        || begins(text, Kind::CStr.opener())
+    begins(text, STR_OPENER)
+        || begins(text, BYTE_STR_OPENER)
+        || begins(text, C_STR_OPENER)
         || begins_raw(text)
-        || begins(text, Kind::Byte.opener())
-        || (begins(text, Kind::Char.opener()) && !begins_lifetime(text))
+        || begins(text, BYTE_OPENER)
+        || (begins(text, CHAR_OPENER) && !begins_lifetime(text))
 }
 
 /// Whether the opener of a raw literal begins the text.
