@@ -1,7 +1,7 @@
 //! Why texts are no literals, and where: for each kind of flaw the byte where the piece begins that it spoils, and the
 //! bytes of the character that no literal goes on with.
 
-use navyspindle::{literals, source, FlawKind, Lit};
+use navyspindle::{literals, source, FlawKind, Lit, ParseErrorKind};
 use std::collections::HashSet;
 use std::fs;
 
@@ -85,8 +85,8 @@ fn other_places() {
     ];
     for &(text, kind, from, lo, hi) in rows {
         let error = Lit::parse(text).unwrap_err();
-        let found = (error.kind(), error.piece(), error.range());
-        assert_eq!(found, (kind, from..hi, lo..hi), "{text}");
+        assert_eq!(error.kind(), kind, "{text}");
+        assert_eq!((error.piece(), error.range()), (from..hi, lo..hi), "{text}");
     }
 }
 
@@ -97,7 +97,10 @@ fn flaws<'t>(literals: impl Iterator<Item = (usize, Lit<'t>)>) -> Vec<(usize, Fl
             Lit::Verbatim(literal) => {
                 let error = literal.explain();
                 assert_eq!(Lit::parse(literal.text()).unwrap_err(), error);
-                Some((at + error.range().start, error.kind()))
+                let ParseErrorKind::Flaw(kind) = error.kind() else {
+                    panic!("{error}")
+                };
+                Some((at + error.range().start, kind))
             }
             _ => None,
         })

@@ -28,31 +28,31 @@ fn is_word(suffix: &str) -> bool {
 
 /// The line that `rl_tool text` prints.
 fn line_of(text: &str) -> String {
-    let (kind, contents, suffix) = match Lit::parse(text) {
-        Ok(Lit::Str(l)) => ("Str", write_str(&l.value()), l.suffix().to_owned()),
-        Ok(Lit::ByteStr(l)) => ("ByteStr", write_byte_str(&l.value()), l.suffix().to_owned()),
-        Ok(Lit::CStr(l)) => {
+    let (kind, contents, suffix) = match Lit::new(text) {
+        Lit::Str(l) => ("Str", write_str(&l.value()), l.suffix().to_owned()),
+        Lit::ByteStr(l) => ("ByteStr", write_byte_str(&l.value()), l.suffix().to_owned()),
+        Lit::CStr(l) => {
             let value = CString::new(l.value()).expect("a C string holds no zero");
             ("CStr", write_c_str(&value), l.suffix().to_owned())
         }
-        Ok(Lit::Byte(l)) => (
+        Lit::Byte(l) => (
             "Byte",
             navyspindle::write_byte(l.value()),
             l.suffix().to_owned(),
         ),
-        Ok(Lit::Char(l)) => (
+        Lit::Char(l) => (
             "Char",
             navyspindle::write_char(l.value()),
             l.suffix().to_owned(),
         ),
-        Ok(Lit::Int(l)) => ("Int", l.base10_digits().into_owned(), l.suffix().to_owned()),
-        Ok(Lit::Float(l)) => (
+        Lit::Int(l) => ("Int", l.base10_digits().into_owned(), l.suffix().to_owned()),
+        Lit::Float(l) => (
             "Float",
             l.base10_digits().into_owned(),
             l.suffix().to_owned(),
         ),
-        Ok(Lit::Bool(l)) => ("Bool", l.value().to_string(), l.suffix().to_owned()),
-        Ok(Lit::Verbatim(_)) | Err(_) => ("Verbatim", write_str(text), String::new()),
+        Lit::Bool(l) => ("Bool", l.value().to_string(), l.suffix().to_owned()),
+        _ => ("Verbatim", write_str(text), String::new()),
     };
     let suffix = match suffix.as_str() {
         "" => "-".to_owned(),
