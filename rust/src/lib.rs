@@ -21,6 +21,8 @@
 #![deny(missing_docs)]
 
 extern crate alloc;
+#[cfg(feature = "proc-macro")]
+extern crate proc_macro;
 #[cfg(test)]
 extern crate std;
 
@@ -34,6 +36,8 @@ mod list;
 mod lit;
 mod numbers;
 mod parse_error;
+#[cfg(feature = "proc-macro")]
+mod proc_macros;
 #[allow(dead_code, unused_variables)]
 #[allow(clippy::style, clippy::complexity)]
 #[rustfmt::skip]
@@ -58,6 +62,8 @@ pub use list::{literals, Literals};
 pub use lit::Lit;
 pub use numbers::{Base, LitFloat, LitInt, NumberType};
 pub use parse_error::{FlawKind, ParseError, ParseErrorKind};
+#[cfg(feature = "proc-macro")]
+pub use proc_macros::{next_literal, MacroError};
 pub use settings::{settings, Entry, SettingsError, SettingsErrorKind};
 pub use source::{source, Source};
 pub use strings::{LitByteStr, LitCStr, LitStr};
@@ -73,6 +79,7 @@ pub use write::{write_byte, write_byte_str, write_c_str, write_char, write_str};
 /// assert!(!is_token("-1"));
 /// assert!(!is_token("'ab'"));
 /// ```
+#[must_use]
 pub fn is_token(text: &str) -> bool {
     grammar::strict::is_token(text)
 }

@@ -11,6 +11,7 @@ use core::iter::FusedIterator;
 use core::ops::Range;
 
 /// The literals of a text with white space and plain comments between them, each with its bytes; see [`literals`].
+#[must_use = "an iterator does nothing until it is asked"]
 pub struct Literals<'t> {
     text: &'t str,
     tokens: Tokens<'t>,

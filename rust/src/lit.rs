@@ -70,14 +70,14 @@ macro_rules! each_kind {
 impl<'t> Lit<'t> {
     /// What `syn` reads the text as, all of it: `Verbatim` exactly where it has no reading, and for integers past 128 bits.
     ///
-    /// `syn` reads some texts that Rust rejects, since it is given tokens alone: `0b102` and `1e` are floats to it, and `'''`
-    /// is a character. Whoever takes texts from outside asks [`Lit::parse`].
+    /// `syn` reads some texts that Rust rejects, since it is given tokens alone: `0b102` is a float to it, `1e` an integer with
+    /// the suffix `e`, and `'''` a character. Whoever takes texts from outside asks [`Lit::parse`].
     ///
     /// ```
     /// use navyspindle::{Kind, Lit};
     ///
     /// assert_eq!(Lit::new("1.5").kind(), Kind::Float);
-    /// assert_eq!(Lit::new("1e").kind(), Kind::Float);
+    /// assert_eq!(Lit::new("0b102").kind(), Kind::Float);
     /// assert_eq!(Lit::new("word").kind(), Kind::Verbatim);
     /// ```
     #[inline]

@@ -10,6 +10,7 @@ use core::iter::FusedIterator;
 use core::ops::Range;
 
 /// The literals of a whole Rust source, each with its bytes; see [`source`].
+#[must_use = "an iterator does nothing until it is asked"]
 pub struct Source<'t> {
     text: &'t str,
     tokens: Sources<'t>,

@@ -113,7 +113,8 @@ string_type! {
     /// assert_eq!((literal.body(), literal.suffix()), (r"a\x41\n", "q"));
     /// # Ok::<(), navyspindle::ParseError>(())
     /// ```
-    LitStr, Str, "\"", "\"a\"_s", "r#\"a\\n\"#"
+    LitStr, Str, "\"", r###"r#""a"_s"#"###,
+    r####"r##"r#"a\n"#"##"####
 }
 
 string_type! {
@@ -125,7 +126,8 @@ string_type! {
     /// assert_eq!(*LitByteStr::parse(r#"b"a\xFF""#)?.value(), *b"a\xFF");
     /// # Ok::<(), navyspindle::ParseError>(())
     /// ```
-    LitByteStr, ByteStr, "b\"", "b\"a\"_s", "br#\"a\\n\"#"
+    LitByteStr, ByteStr, "b\"", r###"r#"b"a"_s"#"###,
+    r####"r##"br#"a\n"#"##"####
 }
 
 string_type! {
@@ -137,7 +139,8 @@ string_type! {
     /// assert_eq!(LitCStr::parse(r#"c"a\n""#)?.c_string().as_c_str(), c"a\n");
     /// # Ok::<(), navyspindle::ParseError>(())
     /// ```
-    LitCStr, CStr, "c\"", "c\"a\"_s", "cr#\"a\\n\"#"
+    LitCStr, CStr, "c\"", r###"r#"c"a"_s"#"###,
+    r####"r##"cr#"a\n"#"##"####
 }
 
 impl<'t> LitStr<'t> {

@@ -48,6 +48,7 @@ fn written(value: Value<'_>) -> String {
 /// ```
 /// assert_eq!(navyspindle::write_str("a\t\"é\u{1}"), r#""a\t\"é\x01""#);
 /// ```
+#[must_use]
 pub fn write_str(value: &str) -> String {
     written(Value::Str(value))
 }
@@ -57,6 +58,7 @@ pub fn write_str(value: &str) -> String {
 /// ```
 /// assert_eq!(navyspindle::write_byte_str(b"a\n\xff"), r#"b"a\n\xFF""#);
 /// ```
+#[must_use]
 pub fn write_byte_str(value: &[u8]) -> String {
     written(Value::ByteStr(value))
 }
@@ -66,6 +68,7 @@ pub fn write_byte_str(value: &[u8]) -> String {
 /// ```
 /// assert_eq!(navyspindle::write_c_str(c"a\n"), r#"c"a\n""#);
 /// ```
+#[must_use]
 pub fn write_c_str(value: &CStr) -> String {
     written(Value::CStr(value))
 }
@@ -75,6 +78,7 @@ pub fn write_c_str(value: &CStr) -> String {
 /// ```
 /// assert_eq!(navyspindle::write_byte(b'\''), r"b'\''");
 /// ```
+#[must_use]
 pub fn write_byte(value: u8) -> String {
     written(Value::Byte(value))
 }
@@ -84,6 +88,7 @@ pub fn write_byte(value: u8) -> String {
 /// ```
 /// assert_eq!(navyspindle::write_char('\n'), r"'\n'");
 /// ```
+#[must_use]
 pub fn write_char(value: char) -> String {
     written(Value::Char(value))
 }

@@ -3,7 +3,6 @@
 
 use navyspindle::{literals, source, FlawKind, Lit, ParseErrorKind};
 use std::collections::HashSet;
-use std::fs;
 
 /// The least integer past 128 bits.
 const PAST: &str = "340282366920938463463374607431768211456";
@@ -51,19 +50,6 @@ fn each_kind() {
     }
     let kinds: HashSet<FlawKind> = ROWS.iter().map(|row| row.1).collect();
     assert_eq!((kinds.len(), ROWS.len()), (25, 25));
-}
-
-#[test]
-fn the_words_are_the_programs() {
-    let path = concat!(
-        env!("CARGO_MANIFEST_DIR"),
-        "/../crates/rl_grammar/specs/FlawWords.antt"
-    );
-    let table = fs::read_to_string(path).expect("the table of words");
-    for (_, kind, ..) in ROWS {
-        let line = format!("flaw_message {kind:?} = codes {:?}", kind.to_string());
-        assert!(table.lines().any(|it| it == line), "{line}");
-    }
 }
 
 #[test]

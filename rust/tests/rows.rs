@@ -320,7 +320,8 @@ fn plain_bodies_are_borrowed() {
 
 #[test]
 fn a_list() {
-    let read = |text: &str| -> Result<Vec<(usize, usize, String)>, (ErrorKind, usize)> {
+    type Read = Result<Vec<(usize, usize, String)>, (ErrorKind, usize)>;
+    let read = |text: &str| -> Read {
         literals(text)
             .map(|item| match item {
                 Ok((range, literal)) => Ok((range.start, range.end, literal.to_string())),
