@@ -33,7 +33,9 @@ pub fn split_ascii(text: &str) -> Option<(u8, &str)>
     if bytes.is_empty() || bytes[0] >= 128 {
         return None;
     }
-    Some((bytes[0], &text[1..]))
+    let mut chars = text.chars();
+    chars.next()?;
+    Some((bytes[0], chars.as_str()))
 }
 
 /// Whether the text begins with a character, which isn't NUL.
