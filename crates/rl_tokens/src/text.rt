@@ -33,9 +33,8 @@ pub fn split_ascii(text: &str) -> Option<(u8, &str)>
     if bytes.is_empty() || bytes[0] >= 128 {
         return None;
     }
-    let mut chars = text.chars();
-    chars.next()?;
-    Some((bytes[0], chars.as_str()))
+    let rest = text.strip_prefix(bytes[0] as char)?;
+    Some((bytes[0], rest))
 }
 
 /// Whether the text begins with a character, which isn't NUL.
