@@ -111,12 +111,9 @@ module _ (q : ℕ → Bool) (high : PassesHigh q) where
 
 -- ---- a character of ASCII at the front
 
-pub ascii_front : (t : List ℕ) → 0 < length t → get_or t 0 0 < 128 → t ≡ encode_utf8 (get_or t 0 0) ++ drop 1 t
-ascii_front [] some low = absurd (omega arith)
-ascii_front (b ∷ bs) some low = sym (ap (λ x. x ++ bs) (encode_ascii b low))
-
 pub ascii_first : (t : List ℕ) → IsUtf8 t → 0 < length t → get_or t 0 0 < 128 → chars t ≡ get_or t 0 0 ∷ chars (drop 1 t)
-ascii_first t u some low = chars_past_char t (drop 1 t) (get_or t 0 0) u (ascii_front t some low)
+ascii_first [] u some low = absurd (omega arith)
+ascii_first (b ∷ bs) u some low = chars_past_char (b ∷ bs) bs b u (sym (ap (λ x. x ++ bs) (encode_ascii b low)))
 
 pub none_first : (t : List ℕ) → length t ≡ 0 → first_passes is_ascii (chars t) ≡ false
 unfolding chars
