@@ -1,5 +1,0 @@
-use Rattle.rl_c.proofs.NextLemmas.{nothing_else}
-use Rattle.rl_c.proofs.next.rejection.Goals as goal
-
-pub unreachable-requires : goal.unreachable-requires
-unreachable-requires c = nothing_else c.args.tokens.now c.fork.result c.requires c.fork.ensures c.in-None.ensures.none c.in_default.ensures.none
