@@ -12,11 +12,12 @@ use Rattle.rl_tokens.specs.declared.cursor.Lexeme.{Lexeme as Lent}
 use Rattle.rl_tokens.proofs.FaultLaws.{no_fault}
 use Rattle.rl_tokens.proofs.LexemeFronts.{lexeme_at-past, one_front, same_pair}
 use Rattle.rl_tokens.proofs.Pieces.{one_rest, skipped_again}
-use Rattle.rl_grammar.proofs.FrontLemmas.{minus_chars}
+use Rattle.rl_grammar.specs.NextLiterals.{BeginsNone, HasNoNumber, HasNoNextLiteral}
+use Rattle.rl_grammar.proofs.FrontLemmas.{minus_chars, truth_reads}
 use Rattle.rl_c.specs.declared.next.Next.{Next}
 use Rattle.rl_c.specs.declared.reading.Reading.{Reading}
 use Rattle.rl_c.specs.Crossing.{ReportsReading}
-use Rattle.rl_c.specs.Lists.{Starts, ReportsToken, BeginsNone, HasNoNumber, HasNoNextLiteral, ReportsError, BeginsNoLiteral}
+use Rattle.rl_c.specs.Lists.{Starts, ReportsToken, ReportsError, BeginsNoLiteral}
 use Rattle.rl_c.specs.Steps.{ListLiteral, AreLiterals, IsList, CallsToError}
 use Rattle.rl_c.proofs.StepLemmas.{BeginsWith, CutsOff, returned, cuts_off, left_is, one_cut}
 
@@ -86,13 +87,14 @@ same_literal t own cuts more l m r (inr a) (inr b) one other =
 
 -- something is left where an error stands
 some_left : (t : CursorState) (status : ℕ) → ReportsError t status → chars t.rest ≡ [] → ⊥
-some_left t status (inl (kind, _, fault)) e = no_fault kind (subst (ErrorAt kind []) e (fault []))
-some_left t status (inr (l, new, takes, _)) e = no_token takes.cut.lexeme takes.after takes.is_lexeme (sym e ∙ takes.begins)
+some_left t status (why, inl (kind, _, fault), _) e = no_fault kind (subst (ErrorAt kind []) e (fault []))
+some_left t status (why, inr (l, new, takes, _), _) e = no_token takes.cut.lexeme takes.after takes.is_lexeme (sym e ∙ takes.begins)
 
 -- a token that begins no literal is none
 never : (f : LexemeForm) (text : List ℕ) (new : CursorState) (reading : Reading) → BeginsNone f text new → ReportsToken f text reading → ⊥
 never LiteralForm text new reading none reported = none
-never IdentifierForm text new reading none (word, _) = none word
+never IdentifierForm text new reading none ((b, word), _) =
+    let (contents, suffix, reads) = truth_reads (chars text) b word in none contents suffix reads
 never (DelimiterForm c) text new reading none reported = reported
 never (MarkForm c) text new reading none reported = reported
 

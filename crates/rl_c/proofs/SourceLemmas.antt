@@ -1,45 +1,14 @@
--- What stands between one literal of a source and the next.
-use Rattle.std.proofs.Common.{◌≡◌, ◌⊎◌, inl, inr, ℕ, ◌-◌, List, drop, [], ◌∷◌, ◌++◌, length, refl, sym, ap, subst, ◌∙◌, append_assoc, append-nil}
-use Rattle.std.specs.List.{AllByRecursion}
-use Rattle.std.specs.Str.{chars, IsUtf8, IsCharBoundary}
+-- Where the next literal of a source stands.
+use Rattle.std.proofs.Common.{◌≡◌, ℕ, ◌-◌, List, drop, [], ◌∷◌, ◌++◌, length, sym, ap, subst, ◌∙◌}
+use Rattle.std.specs.Str.{chars, IsCharBoundary}
 use Rattle.rl_tokens.specs.Cursors.{CursorState}
-use Rattle.rl_tokens.specs.Sources.{CutSource, SourceKind, kind_of, source_view, IsCutUpTo, TakesSource, SourceBefore, BeginsNoSource}
+use Rattle.rl_tokens.specs.Sources.{IsCutUpTo}
 use Rattle.rl_tokens.specs.declared.sources.SourceToken.{SourceToken}
-use Rattle.rl_tokens.proofs.BehindLemmas.{behind_self, behind_step, cut_boundary, cut_drop}
+use Rattle.rl_tokens.proofs.BehindLemmas.{behind_step, cut_boundary, cut_drop}
 use Rattle.rl_tokens.specs.Texts.{IsTail}
+use Rattle.rl_grammar.specs.SourceLiterals.{TakesLiteralAfter}
 use Rattle.rl_c.specs.declared.next.Next.{Next}
-use Rattle.rl_c.specs.Literals.{IsLiteralText, IsOther, PassesTo, TakesLiteralAfter, FindsToken, cursor_at}
-
--- nothing was passed yet
-pub passes_start : (t : CursorState) → IsUtf8 t.rest → PassesTo t t
-passes_start t u = record {
-  cuts = [];
-  others = tt;
-  goes_on = λ done cut. subst (λ z. IsCutUpTo (chars t.text) z (chars t.rest)) (sym (append-nil done)) cut;
-  same = refl;
-  following = behind_self t.rest u;
-}
-
-one_more : (ws : List CutSource) (w : CutSource) → AllByRecursion IsOther ws → IsOther w → AllByRecursion IsOther (ws ++ (w ∷ []))
-one_more [] w each other = (other, tt)
-one_more (v ∷ ws) w each other = (each.0, one_more ws w each.1 other)
-
--- the token is none of the literals
-is_other : (old new : CursorState) (l : SourceToken) → (t : TakesSource old l new) → (IsLiteralText (source_view l.form) (chars l.text.now) → ⊥) → IsOther t.cut
-is_other old new l t other = λ is. other (subst (λ z. IsLiteralText z (chars l.text.now)) t.is_cut.kind_is (subst (IsLiteralText (kind_of t.cut.token)) t.is_cut.chars_are is))
-
--- one token more was passed
-pub passes_more : (a b d : CursorState) (l : SourceToken) → PassesTo a b → TakesSource b l d → (IsLiteralText (source_view l.form) (chars l.text.now) → ⊥) → PassesTo a d
-passes_more a b d l p t other = record {
-  cuts = p.cuts ++ (t.cut ∷ []);
-  others = one_more p.cuts t.cut p.others (is_other b d l t other);
-  goes_on = λ done cut.
-      let before : IsCutUpTo (chars b.text) (done ++ p.cuts) (chars b.rest) = subst (λ z. IsCutUpTo (chars z) (done ++ p.cuts) (chars b.rest)) (sym p.same) (p.goes_on done cut) in
-      let more = subst (λ z. IsCutUpTo (chars z) ((done ++ p.cuts) ++ (t.cut ∷ [])) (chars d.rest)) p.same (t.goes_on (done ++ p.cuts) before) in
-      subst (λ z. IsCutUpTo (chars a.text) z (chars d.rest)) (append_assoc done p.cuts (t.cut ∷ [])) more;
-  same = t.same ∙ p.same;
-  following = behind_step a.rest b.rest d.rest p.following t.following;
-}
+use Rattle.rl_c.specs.Literals.{IsCutTo, FindsToken, cursor_at}
 
 -- the cursor that is taken up again stands at the byte
 pub stands_at : (text borrowed rest : List ℕ) (at : ℕ) (start : CursorState) → borrowed ≡ text → start ≡ record { text = borrowed; rest = rest } → rest ≡ drop at borrowed → start ≡ cursor_at text at
@@ -62,7 +31,13 @@ found_token text borrowed rest left at start new l next same is cut tail takes l
       place = subst (IsCharBoundary text) (sym at_is) (cut_boundary text new.rest whole);
     }
 
--- where no token begins what is left, and no error either, nothing is left
-pub at_end : (rest : List ℕ) → BeginsNoSource (chars rest) → ((rest ≡ []) ⊎ ((kind : SourceKind) × (after : List ℕ) × SourceBefore (chars rest) kind after)) → rest ≡ []
-at_end rest none (inl empty) = empty
-at_end rest none (inr t) = absurd (none t.0 t.1 t.2)
+-- a source that was cut up to a byte is cut further, up to what is left after the literal
+pub cut_on : (text : List ℕ) (at : ℕ) (next : Next) (l : SourceToken) → IsCutTo text at → FindsToken text at next l → IsCutTo text next.rest_at
+cut_on text at next l (done, cut) found =
+    let p = found.takes.passes in
+    let t = found.takes.takes in
+    let between = found.takes.between in
+    let more : IsCutUpTo (chars between.text) (done ++ p.cuts) (chars between.rest) = subst (λ z. IsCutUpTo (chars z) (done ++ p.cuts) (chars between.rest)) (sym p.same) (p.goes_on done cut) in
+    let cuts = (done ++ p.cuts) ++ (t.cut ∷ []) in
+    let whole : IsCutUpTo (chars text) cuts (chars found.after.rest) = subst (λ z. IsCutUpTo (chars z) cuts (chars found.after.rest)) p.same (t.goes_on (done ++ p.cuts) more) in
+    (cuts, subst (λ z. IsCutUpTo (chars text) cuts (chars z)) (sym found.rest_is) whole)

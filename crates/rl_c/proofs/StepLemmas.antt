@@ -12,9 +12,12 @@ use Rattle.rl_tokens.specs.declared.cursor.Lexeme.{Lexeme}
 use Rattle.rl_tokens.proofs.BehindLemmas.{behind_step, cut_drop}
 use Rattle.rl_tokens.proofs.CutLemmas.{behind_place}
 use Rattle.rl_tokens.proofs.Pieces.{one_rest, skipped_again}
+use Rattle.rl_grammar.specs.declared.next_literals.NextLiteral.{NextLiteral}
+use Rattle.rl_grammar.specs.NextLiterals.{TakesNegative, TakesNextLiteral}
 use Rattle.rl_c.specs.declared.next.Next.{Next}
-use Rattle.rl_c.specs.Crossing.{ReportsReading}
-use Rattle.rl_c.specs.Lists.{Starts, ReportsToken, TakesNegative, TakesNextLiteral, BeginsLiteral}
+use Rattle.rl_c.specs.Crossing.{ReportsFound, ReportsReading}
+use Rattle.rl_c.specs.Lists.{Starts, ReportsToken, ReportsNext, BeginsLiteral}
+use Rattle.rl_c.proofs.NextLemmas.{begins_at, begins_with, reports_token}
 use Rattle.rl_c.specs.Steps.{ListLiteral, IsOneToken, IsMinusAndNumber, AreLiterals, IsList, CallsToEnd, placed}
 
 -- the tokens are the literal's
@@ -90,16 +93,16 @@ one_literal w l n is reported lo hi = record {
   hi_is = hi ∙ sym is.hi_is;
 }
 
-two_literal : (start following : CursorState) (n : Next) → (t : TakesNegative start n following) → IsMinusAndNumber (t.takes_minus.cut ∷ t.takes_number.cut ∷ []) (returned n) []
-two_literal start following n t = record {
+two_literal : (start following : CursorState) (l : NextLiteral) (n : Next) → (t : TakesNegative start l following) → ReportsNext l n → IsMinusAndNumber (t.takes_minus.cut ∷ t.takes_number.cut ∷ []) (returned n) []
+two_literal start following l n t r = record {
   minus = t.takes_minus.cut;
   number = t.takes_number.cut;
   cuts_are = refl;
   is_minus = t.takes_minus.is_cut.form_is ∙ t.is_minus;
   is_number = t.takes_number.is_cut.form_is ∙ t.is_number;
-  reported = subst (λ z. ReportsReading (45 ∷ z) n.reading) (sym t.takes_number.is_cut.bytes_are) t.reads;
-  lo_is = t.minus_is ∙ sym t.takes_minus.is_cut.lo_is;
-  hi_is = t.hi_is ∙ sym t.takes_number.is_cut.hi_is;
+  reported = subst (λ z. ReportsReading (45 ∷ z) n.reading) (sym t.takes_number.is_cut.bytes_are) (t.found, t.is_found, subst (λ o. ReportsFound l.token.text.now o n.reading) t.found_is r.reported);
+  lo_is = begins_with l n t.minus.lo r t.minus_is ∙ sym t.takes_minus.is_cut.lo_is;
+  hi_is = r.hi_is ∙ sym t.takes_number.is_cut.hi_is;
 }
 
 -- one token, cut off after white space and comments
@@ -115,28 +118,28 @@ two_cut text start between new l m starts s t =
     let Cut : List ℕ → Type 0 = λ z. LexesUpTo 0 (chars z) (s.cut ∷ t.cut ∷ []) (chars new.rest) in
     subst Cut same (t.goes_on (s.cut ∷ []) (subst (λ z. LexesUpTo 0 (chars z) (s.cut ∷ []) (chars between.rest)) (sym same) (one_cut text start between l starts s)))
 
-cuts_by : (text : List ℕ) (n : Next) (start new : CursorState) → Starts text start → n.rest_at + length new.rest ≡ length text → TakesNextLiteral start n new → CutsOff text n
-cuts_by text n start new s place (inl t) = record {
+cuts_by : (text : List ℕ) (l : NextLiteral) (n : Next) (start new : CursorState) → Starts text start → n.rest_at + length new.rest ≡ length text → ReportsNext l n → TakesNextLiteral start l new → CutsOff text n
+cuts_by text l n start new s place r (inl t) = record {
   rest = new.rest;
   own = t.takes.cut ∷ [];
-  cut = one_cut text start new t.token s t.takes;
-  literal = inl (one_literal t.takes.cut t.token n t.takes.is_cut t.reported t.begins t.hi_is);
+  cut = one_cut text start new l.token s t.takes;
+  literal = inl (one_literal t.takes.cut l.token n t.takes.is_cut (reports_token (form_view l.token.form) l.token.text.now l.found n.reading t.literal r.reported) (begins_at l n r t.no_minus) r.hi_is);
   is_text = s.state.is_text;
   following = behind_step text start.rest new.rest s.state.following t.takes.following;
   place = place;
 }
-cuts_by text n start new s place (inr t) = record {
+cuts_by text l n start new s place r (inr t) = record {
   rest = new.rest;
   own = t.takes_minus.cut ∷ t.takes_number.cut ∷ [];
-  cut = two_cut text start t.between new t.minus t.number s t.takes_minus t.takes_number;
-  literal = inr (two_literal start new n t);
+  cut = two_cut text start t.between new t.minus l.token s t.takes_minus t.takes_number;
+  literal = inr (two_literal start new l n t r);
   is_text = s.state.is_text;
   following = behind_step text start.rest new.rest s.state.following (behind_step start.rest t.between.rest new.rest t.takes_minus.following t.takes_number.following);
   place = place;
 }
 
 pub cuts_off : (text : List ℕ) (n : Next) → BeginsLiteral text n → CutsOff text n
-cuts_off text n b = cuts_by text n b.start b.following b.starts b.rest_is b.takes
+cuts_off text n b = cuts_by text b.literal n b.start b.following b.starts b.rest_is b.reported b.takes
 
 -- the next call is given what is left
 pub left_is : (text : List ℕ) (n : Next) → (s : CutsOff text n) → drop n.rest_at text ≡ s.rest

@@ -1,5 +1,5 @@
 -- What crosses to callers in other languages.
-use Rattle.std.specs.Prelude.{◌≡◌, ◌⊎◌, ℕ, ◌+◌, ◌*◌, ◌^◌, false, List, length}
+use Rattle.std.specs.Prelude.{◌≡◌, ◌⊎◌, ℕ, ◌+◌, ◌*◌, ◌^◌, false, List, length, Option, MatchOption}
 use Rattle.std.specs.Char.{IsScalar}
 use Rattle.std.specs.Str.{chars}
 use Rattle.rl_tokens.specs.declared.kind.Kind.{Kind}
@@ -34,21 +34,28 @@ pub record Reports (found : Found) (reading : Reading) : Type 0 where
 abbrev pub ReportsReading : List ℕ → Reading → Type 0
 ReportsReading text reading = (found : Found) × IsFound text found × Reports found reading
 
--- The text, in bytes, has no reading, and the numbers report that: the kind is 9, and all of the text
--- is the body.
+-- that a text of this many bytes has no reading: the kind is 9, and all of the text is the body
+abbrev pub verbatim : ℕ → Reading
+verbatim len = record {
+  at = 0;
+  end = len;
+  suffix_at = len;
+  low = 0;
+  high = 0;
+  kind = 9;
+  plain = false;
+  unit = 0;
+}
+
+-- The text, in bytes, has no reading, and the numbers report that.
 pub record ReportsVerbatim (text : List ℕ) (reading : Reading) : Type 0 where
   pub none : HasNoReading (chars text)
-  pub reading_is :
-      reading ≡ record {
-        at = 0;
-        end = length text;
-        suffix_at = length text;
-        low = 0;
-        high = 0;
-        kind = 9;
-        plain = false;
-        unit = 0;
-      }
+  pub reading_is : reading ≡ verbatim (length text)
+
+-- The numbers report what reading a token of this text found, or that it has no reading.
+abbrev pub ReportsFound : List ℕ → Option Found → Reading → Type 0
+ReportsFound text found reading =
+    MatchOption found (reading ≡ verbatim (length text)) (λ f. Reports f reading)
 
 -- The numbers report what reading the text finds, or that it has no reading.
 abbrev pub ReportsLiteral : List ℕ → Reading → Type 0

@@ -52,6 +52,7 @@ fn flaw_number(kind: FlawKind) -> u8
         FlawKind::NoExponentDigit => 23,
         FlawKind::BadSuffix => 24,
         FlawKind::TooLarge => 25,
+        _ => unreachable!(),
     }
 }
 

@@ -24,7 +24,7 @@ mod write;
 pub use crate::explain::{Explanation, rl_explain};
 pub use crate::layout::{Layout, rl_layout, rl_probe, rl_version};
 pub use crate::next::Next;
-use crate::next::{END, LITERAL, rejection, take_next};
+use crate::next::{END, LITERAL, rejection_number};
 pub use crate::reading::Reading;
 use crate::reading::{numeral, string_body};
 pub use crate::source::{rl_source_next, rl_source_start};
@@ -32,7 +32,7 @@ pub use crate::write::{
     rl_write_byte, rl_write_byte_str, rl_write_c_str, rl_write_char, rl_write_str,
 };
 use rl_grammar::strict::is_token;
-use rl_grammar::{Kind, bytes_into, find, numeral_into, str_into};
+use rl_grammar::{Kind, ListStep, bytes_into, find, list_step, numeral_into, str_into};
 use rl_tokens::Tokens;
 
 /// Whether the text reads as a literal; what was found goes into `reading`, which stays else.
@@ -125,17 +125,18 @@ pub extern "C" fn rl_next(text: &[u8], next: &mut Next) -> u8
 {
     // SAFETY: the bytes are UTF-8, as the export requires.
     let text = unsafe { std::str::from_utf8_unchecked(text) };
-    let start = Tokens::new(text);
-    if start.rest().is_empty() {
-        return END;
+    let mut tokens = Tokens::new(text);
+    match list_step(&mut tokens) {
+        ListStep::End => END,
+        ListStep::Literal(literal) => {
+            *next = Next::of(&literal, text.len() - tokens.rest().len());
+            LITERAL
+        }
+        ListStep::Rejected(rejection) => {
+            next.lo = rejection.at;
+            rejection_number(rejection.kind)
+        }
     }
-    let mut tokens = start.fork();
-    if take_next(&mut tokens, next) {
-        next.rest_at = text.len() - tokens.rest().len();
-        return LITERAL;
-    }
-    next.lo = text.len() - start.rest().len();
-    rejection(&start)
 }
 
 /// Whether the text is a literal token of the Rust Reference.

@@ -1,14 +1,11 @@
 //! The literal at the front of a list.
 
-ghost use Rattle.std.specs.Prelude.{◌≡◌, ◌≢◌, ◌<◌, [], false, IsTrue, IsFalse};
-ghost use Rattle.std.specs.Str.{chars};
-ghost use Rattle.rl_tokens.specs.Cursors.{form_view};
-ghost use Rattle.rl_tokens.specs.Skipping.{Skipped};
-ghost use Rattle.rl_c.specs.Lists.{TakesNextLiteral, HasNoNextLiteral, ReportsError, error_number, token_number};
+ghost use Rattle.std.specs.Prelude.{◌≡◌, ◌<◌};
+ghost use Rattle.rl_c.specs.Lists.{ReportsNext, error_number, rejection_number};
 
 use crate::reading::Reading;
-use rl_grammar::{find_negative, truth_of};
-use rl_tokens::{Form, LexKind, Lexeme, Tokens};
+use rl_grammar::{NextLiteral, RejectionKind};
+use rl_tokens::LexKind;
 
 /// The status where no literal comes any more, of lists and sources.
 pub(crate) const END: u8 = 0;
@@ -55,91 +52,33 @@ pub(crate) fn error_number(kind: LexKind) -> u8
     }
 }
 
-/// The number of a token that begins no literal.
-fn token_number(form: Form) -> u8
-    ensures value { result ≡ token_number (form_view form) }
+/// The number of why no literal stands next in a list.
+pub(crate) fn rejection_number(kind: RejectionKind) -> u8
+    ensures value { result ≡ rejection_number kind }
     ensures past { 1 < result }
 {
-    match form {
-        Form::Delimiter('(' | '[' | '{') => 13,
-        Form::Delimiter(_) => error_number(LexKind::UnmatchedClose),
-        _ => 2,
+    match kind {
+        RejectionKind::Lex(kind) => error_number(kind),
+        RejectionKind::UnmatchedClose => error_number(LexKind::UnmatchedClose),
+        RejectionKind::NoLiteral => 2,
+        RejectionKind::Group => 13,
     }
 }
 
 impl Next {
-    /// Holds the token, without a minus, as a literal from now on; its reading stays.
-    fn report_alone(&mut self, token: Lexeme<'_>)
-        ensures { self.new ≡ record (self.old) {
-          minus_at = token.entry.lo;
-          lo = token.entry.lo;
-          hi = token.entry.hi;
-          negative = false;
-        } }
+    /// The literal, as it crosses, and where what is left begins.
+    #[inline(always)]
+    pub(crate) fn of(literal: &NextLiteral<'_>, rest_at: usize) -> Next
+        ensures reported { ReportsNext literal.now result }
+        ensures rest { result.rest_at ≡ rest_at }
     {
-        self.minus_at = token.lo;
-        self.lo = token.lo;
-        self.hi = token.hi;
-        self.negative = false;
-    }
-}
-
-/// Cuts off the next tokens where they are a literal, which `next` then holds but for what is left, and returns whether
-/// they are.
-pub(crate) fn take_next(tokens: &mut Tokens<'_>, next: &mut Next) -> bool
-    ensures some { IsTrue result → TakesNextLiteral tokens.old next.new tokens.new }
-    ensures same { tokens.new.text ≡ tokens.old.text }
-    ensures none { IsFalse result → HasNoNextLiteral tokens.old }
-{
-    let Some(token) = tokens.next() else {
-        return false;
-    };
-    match token.form {
-        Form::Literal => {
-            next.reading.report_token(token.text);
-            next.report_alone(token);
-            true
+        Next {
+            reading: Reading::of_token(literal.token.text, &literal.found),
+            minus_at: literal.minus_at.unwrap_or(literal.token.lo),
+            lo: literal.token.lo,
+            hi: literal.token.hi,
+            rest_at,
+            negative: literal.minus_at.is_some(),
         }
-        Form::Identifier => {
-            let Some(_) = truth_of(token.text) else {
-                return false;
-            };
-            next.reading.report_token(token.text);
-            next.report_alone(token);
-            true
-        }
-        Form::Mark('-') => {
-            let Some(number) = tokens.next() else {
-                return false;
-            };
-            let Form::Literal = number.form else {
-                return false;
-            };
-            let Some(found) = find_negative(number.text) else {
-                return false;
-            };
-            next.reading = Reading::of(&found);
-            next.minus_at = token.lo;
-            next.lo = number.lo;
-            next.hi = number.hi;
-            next.negative = true;
-            true
-        }
-        _ => false,
-    }
-}
-
-/// Why no literal begins what is left, which isn't empty.
-pub(crate) fn rejection(tokens: &Tokens<'_>) -> u8
-    requires { tokens.now.rest ≢ [] }
-    ensures reported { ReportsError tokens.now result }
-    ensures past { 1 < result }
-{
-    if let Some(error) = tokens.fault() {
-        return error_number(error.kind);
-    }
-    match tokens.fork().next() {
-        Some(token) => token_number(token.form),
-        None => unreachable!(),
     }
 }

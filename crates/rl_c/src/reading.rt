@@ -8,9 +8,9 @@ ghost use Rattle.rl_tokens.specs.Numbers.{float_digits};
 ghost use Rattle.rl_tokens.specs.Quoted.{is_string};
 ghost use Rattle.rl_tokens.specs.Reading.{Digits, HasContents};
 ghost use Rattle.rl_grammar.specs.Bodies.{HasBody};
-ghost use Rattle.rl_c.specs.Crossing.{kind_number, Reports, ReportsLiteral, IsOfKind, IsCooked};
+ghost use Rattle.rl_c.specs.Crossing.{kind_number, Reports, ReportsFound, IsOfKind, IsCooked, verbatim};
 
-use rl_grammar::{Found, Kind, find};
+use rl_grammar::{Found, Kind};
 
 /// The least number that 64 bits don't hold.
 const PAST_64_BITS: u128 = 1 << 64;
@@ -77,16 +77,7 @@ impl Reading {
 
     /// That a text of this many bytes has no reading.
     pub(crate) fn verbatim(len: usize) -> Reading
-        ensures { result ≡ record {
-          at = 0;
-          end = len;
-          suffix_at = len;
-          low = 0;
-          high = 0;
-          kind = 9;
-          plain = false;
-          unit = 0;
-        } }
+        ensures { result ≡ verbatim len }
     {
         Reading {
             at: 0,
@@ -100,13 +91,14 @@ impl Reading {
         }
     }
 
-    /// Becomes what reading a literal token finds, or that it has no reading.
-    pub(crate) fn report_token(&mut self, text: &str)
-        ensures { ReportsLiteral text.now self.new }
+    /// What reading a token with this text found, or that it has no reading, as it crosses.
+    #[inline(always)]
+    pub(crate) fn of_token(text: &str, found: &Option<Found>) -> Reading
+        ensures { ReportsFound text.now found.now result }
     {
-        match find(text) {
-            Some(found) => *self = Reading::of(&found),
-            None => *self = Reading::verbatim(text.len()),
+        match found {
+            Some(found) => Reading::of(found),
+            None => Reading::verbatim(text.len()),
         }
     }
 }

@@ -57,3 +57,5 @@ pub mod OneUnitFlaw
 pub mod OneRawFlaw
 pub mod OneNumberFlaw
 pub mod OneFlawLemmas
+pub mod NextLiteralLemmas
+pub mod SourceLiteralLemmas

@@ -16,4 +16,6 @@ pub mod FrontTokens
 pub mod Bodies
 pub mod Founds
 pub mod Fronts
+pub mod NextLiterals
+pub mod SourceLiterals
 pub mod Mirrors

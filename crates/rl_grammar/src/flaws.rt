@@ -22,7 +22,8 @@ use rl_tokens::text::split_char;
 use std::fmt;
 
 /// Why a text is no literal.
-#[derive(Clone, Copy, PartialEq, Eq, Debug)]
+#[derive(Clone, Copy, PartialEq, Eq, Hash, Debug)]
+#[non_exhaustive]
 pub enum FlawKind {
     /// The text is empty.
     Empty,

@@ -3,7 +3,7 @@
 ghost use Rattle.std.specs.Prelude.{◌≡◌, ◌∷◌, ◌⊎◌, ℕ, List, IfNone, IfSome, ◌≢◌, Bool, ◌↔◌, IsTrue, IsFalse};
 ghost use Rattle.std.specs.Str.{chars};
 ghost use Rattle.rl_tokens.specs.declared.kind.Kind.{Kind as AnyKind};
-ghost use Rattle.rl_tokens.specs.declared.kind.Kind.TheVariants.{Float, Int};
+ghost use Rattle.rl_tokens.specs.declared.kind.Kind.TheVariants.{Float, Int, Bool as BoolKind};
 ghost use Rattle.rl_tokens.specs.Numbers.{FloatReads, NoSign};
 ghost use Rattle.rl_tokens.specs.Quoted.{is_string};
 ghost use Rattle.rl_tokens.specs.Reading.{HasNoFloat, HasNoInteger, HasNoReading, HasNoTruth, HasReading, HasSuffix, IsPast, ReadsAs, Contents, Reads, truth_text};
@@ -251,9 +251,10 @@ pub fn find_negative(text: &str) -> Option<Found>
 }
 
 /// What reading the text as a truth value finds.
-fn find_truth(text: &str) -> Option<Found>
+pub(crate) fn find_truth(text: &str) -> Option<Found>
     ensures none { IfNone result (HasNoTruth (chars text.now)) }
     ensures found { IfSome result (IsFound text.now) }
+    ensures kind { IfSome result (λ f. f.kind ≡ BoolKind) }
 {
     let truth = truth_of(text)?;
     Some(Found {

@@ -8,10 +8,12 @@ mod flaws;
 mod found;
 mod front;
 pub mod laws;
+mod next_literals;
 mod number_flaws;
 mod number_forms;
 mod quoted_flaws;
 mod quoted_forms;
+mod source_literals;
 pub mod strict;
 mod units;
 
@@ -25,5 +27,9 @@ pub use crate::found::{
     Body, Found, Parts, find, find_float, find_int, find_negative, shape, truth_of,
 };
 pub use crate::front::{Front, Negative, next_is, take_kind};
+pub use crate::next_literals::{
+    ListStep, NextLiteral, Rejection, RejectionKind, list_step, next_literal,
+};
 pub use crate::number_forms::{float_shape, int_shape, shape_negative};
+pub use crate::source_literals::{SourceStep, source_step};
 pub use rl_tokens::Kind;

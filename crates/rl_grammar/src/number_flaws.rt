@@ -14,7 +14,7 @@ ghost use Rattle.rl_grammar.specs.Mirrors.UnitFlawAt.{found_flaw};
 use crate::digit_rows::{after_minus, begins_digit, read_row, skip_row};
 use crate::flaws::{FlawAt, FlawKind, end_flaw, make_flaw};
 use crate::number_forms::split_radix;
-use rl_tokens::characters::is_xid_continue;
+use rl_tokens::characters::{is_xid_continue, is_xid_start};
 use rl_tokens::classes::{CharClass, skip_class};
 use rl_tokens::text::split_char;
 
@@ -30,7 +30,7 @@ fn begins_suffix(text: &str) -> bool
     ensures { result ≡ first_passes is_xid_start (chars text.now) }
 {
     match split_char(text) {
-        Some((first, _)) => unicode_ident::is_xid_start(first),
+        Some((first, _)) => is_xid_start(first),
         None => false,
     }
 }
@@ -50,7 +50,7 @@ fn ends_or_begins_suffix(text: &str) -> bool
     ensures { result ≡ ends_or_passes is_xid_start (chars text.now) }
 {
     match split_char(text) {
-        Some((first, _)) => unicode_ident::is_xid_start(first),
+        Some((first, _)) => is_xid_start(first),
         None => true,
     }
 }

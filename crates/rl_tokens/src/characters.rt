@@ -30,7 +30,7 @@ pub fn is_continue(c: char) -> bool
 /// Whether the character has Unicode's property XID_Start. Of ASCII no table is asked.
 #[inline(always)]
 #[tactic(auto, using(crate::proofs::AsciiLemmas::ascii_xid_start))]
-pub(crate) fn is_xid_start(c: char) -> bool
+pub fn is_xid_start(c: char) -> bool
     ensures { result ≡ is_xid_start c }
 {
     if c.is_ascii() {

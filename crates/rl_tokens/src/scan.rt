@@ -43,6 +43,7 @@ impl Marks {
 
 /// A bit for each of the N bytes from a place on, set where the walk stops: at a mark, and where HIGH is said, at what is
 /// past ASCII too.
+#[inline(always)]
 fn stops_among<const HIGH: bool, const N: usize>(marks: Marks, bytes: &[u8], at: usize) -> u64
     requires { (N ≤ 64) × (at + N ≤ length bytes.now) }
     ensures { result ≡ mask_l (map (stops HIGH marks) (chunk at N bytes.now)) }
@@ -109,6 +110,7 @@ fn stop_by<const HIGH: bool, const N: usize>(
 }
 
 /// The same for the last bytes: eight at once, the others by themselves.
+#[inline(always)]
 fn stop_shortly<const HIGH: bool>(marks: Marks, bytes: &[u8], from: usize) -> usize
     requires { from ≤ length bytes.now }
     ensures { result ≡ from + prefix_len (goes_on HIGH marks) (drop from bytes.now) }

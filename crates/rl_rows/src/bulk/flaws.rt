@@ -37,6 +37,7 @@ fn flaw_name(kind: FlawKind) -> &'static str
         FlawKind::NoExponentDigit => "NoExponentDigit",
         FlawKind::BadSuffix => "BadSuffix",
         FlawKind::TooLarge => "TooLarge",
+        _ => unreachable!(),
     }
 }
 

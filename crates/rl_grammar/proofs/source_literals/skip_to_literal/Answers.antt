@@ -2,8 +2,8 @@ use Rattle.std.proofs.Common.{rules, subst, sym}
 use Rattle.std.specs.Str.{chars}
 use Rattle.rl_tokens.specs.Cursors.{CursorState}
 use Rattle.rl_tokens.specs.Sources.{BeginsNoSource}
-use Rattle.rl_c.proofs.SourceLemmas.{passes_start, passes_more}
-use Rattle.rl_c.proofs.source.next_literal.Goals as goal
+use Rattle.rl_grammar.proofs.SourceLiteralLemmas.{passes_start, passes_more}
+use Rattle.rl_grammar.proofs.source_literals.skip_to_literal.Goals as goal
 
 pub loop-token-init : goal.loop-token-init
 loop-token-init c = passes_start c.args.tokens.now c.requires
