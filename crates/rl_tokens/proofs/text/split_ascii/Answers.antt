@@ -1,5 +1,7 @@
-use Rattle.std.proofs.Common.{◌≡◌, ◌<◌, ◌∷◌, ◌∙◌, length, ap, sym, get_or, arith, rules}
+use Rattle.std.proofs.Common.{◌≡◌, ◌<◌, ◌∷◌, ◌∙◌, length, ap, sym, drop, get_or, arith, rules}
+use Rattle.std.proofs.lemmas.Str.{IsCharBoundary-after_ascii}
 use Rattle.std.specs.Str.{chars}
+use Rattle.rl_tokens.proofs.Rests.{behind_drop}
 use Rattle.rl_tokens.proofs.ScanLemmas.{ascii_first, none_first, other_first}
 use Rattle.rl_tokens.proofs.text.split_ascii.Goals as goal
 use Rattle.rl_tokens.proofs.text.split_ascii.Goals.{then-is_empty-via-then-is_empty, then-is_empty-via-else-is_empty+then-bytes-ge128}
@@ -13,11 +15,20 @@ returns-then-is_empty-clause-none c =
       | then-is_empty-via-else-is_empty+then-bytes-ge128 w ↦ other_first t c.utf8.text (omega (arith, first))
     ]
 
+pub range_from-requires : goal.range_from-requires
+range_from-requires c = λ _.
+    let t = c.args.text.now in
+    let first : get_or t 0 0 ≡ get_or c.as_bytes-bytes.result.now 0 0 = ap (λ x. get_or x 0 0) (sym c.as_bytes-bytes.ensures.value) in
+    let some : 0 < length t = search rules in
+    IsCharBoundary-after_ascii t 0 c.utf8.text some (omega (arith, first))
+
 pub returns-clause-some : goal.returns-clause-some
 returns-clause-some c =
     let t = c.args.text.now in
     let first : get_or t 0 0 ≡ get_or c.as_bytes-bytes.result.now 0 0 = ap (λ x. get_or x 0 0) (sym c.as_bytes-bytes.ensures.value) in
     let some : 0 < length t = search rules in
-    let split = c.in_ok-rest.ensures.chars in
-    let head = ap (λ x. get_or x 0 0) (sym (ascii_first t c.utf8.text some (omega (arith, first))) ∙ split) in
-    split ∙ ap (λ x. x ∷ chars c.in_ok-rest.rest.now) (sym head ∙ first)
+    let rest : drop 1 t ≡ c.range_from.result.now = sym c.range_from.ensures.value in
+    ascii_first t c.utf8.text some (omega (arith, first)) ∙ ap (λ x. x ∷ chars (drop 1 t)) first ∙ ap (λ x. get_or c.as_bytes-bytes.result.now 0 0 ∷ chars x) rest
+
+pub returns-clause-following : goal.returns-clause-following
+returns-clause-following c = behind_drop c.args.text.now c.range_from.result.now 1 c.range_from.ensures.value c.range_from.utf8
