@@ -1,6 +1,6 @@
 //! Why a text is no list of literals, and no source.
 
-use crate::step::RejectionKind;
+use crate::grammar::RejectionKind;
 use crate::tokens::{LexKind, Sources};
 use core::fmt;
 use core::ops::Range;

@@ -46,7 +46,6 @@ mod reading;
 mod settings;
 mod simd;
 mod source;
-mod step;
 mod strings;
 mod unicode;
 mod words;

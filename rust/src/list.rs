@@ -2,7 +2,7 @@
 
 use crate::error::{ErrorKind, ListError};
 use crate::lit::Lit;
-use crate::step::{list_step, next_literal, ListStep, NextLiteral};
+use crate::grammar::{list_step, next_literal, ListStep, NextLiteral};
 use crate::tokens::Tokens;
 use alloc::borrow::Cow;
 use alloc::format;

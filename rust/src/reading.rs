@@ -49,13 +49,17 @@ fn is_number_suffix(text: &str, body: Body) -> bool {
 
 /// Whether a digit follows the dot of a float, if anything does, and a digit or a sign the letter of its exponent.
 #[inline]
-fn is_rust_float(text: &[u8]) -> bool {
-    let mut pairs = text.windows(2);
-    pairs.all(|pair| match pair[0] {
-        b'.' => pair[1].is_ascii_digit(),
-        b'e' | b'E' => matches!(pair[1], b'0'..=b'9' | b'+' | b'-'),
-        _ => true,
-    })
+fn is_rust_float(mut text: &[u8]) -> bool {
+    while let [first, rest @ ..] = text {
+        match first {
+            b'0'..=b'9' => {}
+            b'.' if !matches!(rest, [] | [b'0'..=b'9', ..]) => return false,
+            b'e' | b'E' if !matches!(rest, [b'0'..=b'9' | b'+' | b'-', ..]) => return false,
+            _ => {}
+        }
+        text = rest;
+    }
+    true
 }
 
 /// Whether the text is a token of Rust, or a minus and a number that is one.

@@ -2,7 +2,7 @@
 
 use crate::error::{ErrorKind, ListError};
 use crate::lit::Lit;
-use crate::step::{source_step, SourceStep};
+use crate::grammar::{source_step, SourceStep};
 use crate::tokens::Sources;
 use alloc::borrow::Cow;
 use core::fmt;
@@ -49,13 +49,12 @@ impl<'t> Iterator for Source<'t> {
             return None;
         }
         match source_step(&mut self.tokens) {
-            SourceStep::Literal(next) => {
-                let token = next.token;
-                let literal = Lit::of_token(Cow::Borrowed(token.text), next.found);
+            SourceStep::Literal(token, found) => {
+                let literal = Lit::of_token(Cow::Borrowed(token.text), found);
                 return Some(Ok((token.lo..token.hi, literal)));
             }
             SourceStep::End => self.is_done = true,
-            SourceStep::Error(error) => {
+            SourceStep::Rejected(error) => {
                 self.is_done = true;
                 let kind = ErrorKind::of_lexer(error.kind);
                 return Some(Err(ListError::new(self.text, kind, error.at)));

@@ -8,8 +8,7 @@ use crate::grammar::quoted_forms::split_opener;
 use crate::tokens::text::split_char;
 
 /// Why a text is no literal.
-#[derive(Clone, Copy, PartialEq, Eq, Debug)]
-#[derive(Hash)]
+#[derive(Clone, Copy, PartialEq, Eq, Hash, Debug)]
 #[non_exhaustive]
 pub enum FlawKind {
     /// The text is empty.

@@ -118,7 +118,7 @@ pub fn find_negative(text: &str) -> Option<Found> {
 }
 
 /// What reading the text as a truth value finds.
-fn find_truth(text: &str) -> Option<Found> {
+pub(crate) fn find_truth(text: &str) -> Option<Found> {
     let truth = truth_of(text)?;
     Some(Found {
         kind: Kind::Bool,

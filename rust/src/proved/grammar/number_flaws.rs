@@ -4,7 +4,7 @@
 use crate::grammar::digit_rows::{after_minus, begins_digit, read_row, skip_row};
 use crate::grammar::flaws::{FlawAt, FlawKind, end_flaw, make_flaw};
 use crate::grammar::number_forms::split_radix;
-use crate::tokens::characters::is_xid_continue;
+use crate::tokens::characters::{is_xid_continue, is_xid_start};
 use crate::tokens::classes::{CharClass, skip_class};
 use crate::tokens::text::split_char;
 
@@ -16,7 +16,7 @@ fn skip_word(text: &str) -> &str {
 /// Whether a suffix may begin as the text does.
 fn begins_suffix(text: &str) -> bool {
     match split_char(text) {
-        Some((first, _)) => crate::unicode::is_xid_start(first),
+        Some((first, _)) => is_xid_start(first),
         None => false,
     }
 }
@@ -32,7 +32,7 @@ fn ends_or_continues(text: &str) -> bool {
 /// Whether the text is empty or begins as a suffix may.
 fn ends_or_begins_suffix(text: &str) -> bool {
     match split_char(text) {
-        Some((first, _)) => crate::unicode::is_xid_start(first),
+        Some((first, _)) => is_xid_start(first),
         None => true,
     }
 }

@@ -19,7 +19,7 @@ pub fn is_continue(c: char) -> bool {
 
 /// Whether the character has Unicode's property XID_Start. Of ASCII no table is asked.
 #[inline(always)]
-pub(crate) fn is_xid_start(c: char) -> bool {
+pub fn is_xid_start(c: char) -> bool {
     if c.is_ascii() {
         c.is_ascii_alphabetic()
     } else {

@@ -15,8 +15,7 @@ pub fn split_ascii(text: &str) -> Option<(u8, &str)> {
     if bytes.is_empty() || bytes[0] >= 128 {
         return None;
     }
-    let (_, rest) = split_char(text)?;
-    Some((bytes[0], rest))
+    Some((bytes[0], &text[1..]))
 }
 
 /// Whether the text begins with a character, which isn't NUL.
