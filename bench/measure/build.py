@@ -7,7 +7,6 @@ BENCH = os.path.dirname(os.path.dirname(os.path.abspath(__file__)))
 TOP = os.path.dirname(BENCH)
 DRIVER = os.path.join(BENCH, 'driver')
 CRATE = os.path.join(TOP, 'crates/rl_bench')
-PACKAGED = os.path.join(TOP, 'crates/rl_c')
 BUILD = os.path.join(DRIVER, 'target')
 # bytes of a corpus on which the works' sums are compared
 CHECKED = 100_000
@@ -47,8 +46,7 @@ def with_oracle(path):
 
 def driver(oracle):
     """The path of the built driver, whose works have made the same sums where they have to."""
-    for crate in (CRATE, PACKAGED):
-        subprocess.run(['rt', 'lib', '--jobs', '2'], cwd=crate, check=True, stdout=subprocess.DEVNULL)
+    subprocess.run(['rt', 'lib', '--jobs', '2'], cwd=CRATE, check=True, stdout=subprocess.DEVNULL)
     folder = with_oracle(oracle) if oracle else DRIVER
     command = ['cargo', 'build', '--release', '--offline', '--quiet', '--target-dir', BUILD]
     command += ['--manifest-path', os.path.join(folder, 'Cargo.toml')]

@@ -1,6 +1,6 @@
-//! Reads a server's settings from a file of lines `NAME = LITERAL`: `cargo run --example config FILE`
+//! Reads a server's settings from a file `NAME = LITERAL, ..`: `cargo run --example config FILE`
 
-use navyspindle::Lit;
+use navyspindle::{settings, Entry, LineIndex, Lit};
 use std::error::Error;
 use std::process::ExitCode;
 use std::{env, fs};
@@ -13,12 +13,12 @@ struct Config {
 }
 
 impl Config {
-    /// Sets the name to the literal.
-    fn set(&mut self, name: &str, literal: &Lit) -> Result<(), Box<dyn Error>> {
-        if !literal.suffix().is_empty() {
+    /// Sets what the entry names.
+    fn set(&mut self, entry: &Entry) -> Result<(), Box<dyn Error>> {
+        if !entry.value.suffix().is_empty() {
             return Err("a value has no suffix".into());
         }
-        match (name, literal) {
+        match (entry.name, &entry.value) {
             ("host", Lit::Str(host)) => self.host = host.value().into_owned(),
             ("port", Lit::Int(port)) => self.port = port.base10_parse()?,
             ("verbose", Lit::Bool(verbose)) => self.verbose = verbose.value(),
@@ -31,16 +31,14 @@ impl Config {
     }
 }
 
-/// The settings of a text.
-fn read(text: &str) -> Result<Config, Box<dyn Error>> {
+/// The settings of a text, or the byte where it is wrong and why.
+fn read(text: &str) -> Result<Config, (usize, String)> {
+    let entries =
+        settings(text).map_err(|error| (error.range().start, error.kind().to_string()))?;
     let mut config = Config::default();
-    for (number, line) in text.lines().enumerate() {
-        let (name, value) = line.split_once('=').ok_or("expected `NAME = LITERAL`")?;
-        let (name, value) = (name.trim(), value.trim());
-        Lit::parse(value)
-            .map_err(Box::from)
-            .and_then(|literal| config.set(name, &literal))
-            .map_err(|error| format!("line {}: {name} = {value}: {error}", number + 1))?;
+    for entry in &entries {
+        let set = config.set(entry);
+        set.map_err(|error| (entry.value_range.start, format!("{}: {error}", entry.name)))?;
     }
     Ok(config)
 }
@@ -48,7 +46,11 @@ fn read(text: &str) -> Result<Config, Box<dyn Error>> {
 /// The settings of the file that the command line names.
 fn config() -> Result<Config, Box<dyn Error>> {
     let name = env::args().nth(1).ok_or("usage: config FILE")?;
-    read(&fs::read_to_string(name)?)
+    let text = fs::read_to_string(&name).map_err(|error| format!("{name}: {error}"))?;
+    read(&text).map_err(|(at, message)| {
+        let place = LineIndex::new(&text).line_column(at);
+        format!("{name}:{place}: {message}").into()
+    })
 }
 
 fn main() -> ExitCode {

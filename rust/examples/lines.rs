@@ -25,9 +25,7 @@ fn suffix_of(suffix: &str) -> String {
 
 /// The line of a text as one literal.
 fn line_of(text: &str) -> String {
-    let Ok(literal) = Lit::parse(text) else {
-        return format!("Verbatim {} -", write_str(text));
-    };
+    let literal = Lit::new(text);
     let contents = match &literal {
         Lit::Str(string) => write_str(&string.value()),
         Lit::ByteStr(string) => write_byte_str(&string.value()),
@@ -37,7 +35,7 @@ fn line_of(text: &str) -> String {
         Lit::Int(number) => number.base10_digits().into_owned(),
         Lit::Float(number) => number.base10_digits().into_owned(),
         Lit::Bool(truth) => truth.value().to_string(),
-        Lit::Verbatim(literal) => write_str(literal.text()),
+        other => write_str(other.text()),
     };
     format!(
         "{:?} {contents} {}",
@@ -48,13 +46,13 @@ fn line_of(text: &str) -> String {
 
 /// What is borrowed from a text as a literal, as a byte string; `None` where nothing is.
 fn borrowed_of(text: &str) -> String {
-    let literal = Lit::parse(text);
+    let literal = Lit::new(text);
     let bytes = match &literal {
-        Ok(Lit::Str(string)) => borrowed_text(string.value()),
-        Ok(Lit::ByteStr(string)) => borrowed(string.value()),
-        Ok(Lit::CStr(string)) => borrowed(string.value()),
-        Ok(Lit::Int(number)) => borrowed_text(number.base10_digits()),
-        Ok(Lit::Float(number)) => borrowed_text(number.base10_digits()),
+        Lit::Str(string) => borrowed_text(string.value()),
+        Lit::ByteStr(string) => borrowed(string.value()),
+        Lit::CStr(string) => borrowed(string.value()),
+        Lit::Int(number) => borrowed_text(number.base10_digits()),
+        Lit::Float(number) => borrowed_text(number.base10_digits()),
         _ => None,
     };
     bytes.map_or("None".to_owned(), write_byte_str)

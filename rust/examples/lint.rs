@@ -1,28 +1,19 @@
-//! Reports the literals of Rust files that have no reading, each with the reason and its place, and quotes or comments
-//! that are left open, as compilers do: `cargo run --example lint FILE..` ends with status 1 where it reported one.
+//! Reports the literals of Rust files that Rust rejects, each with the reason and its place, and quotes or comments that are left
+//! open, as compilers do: `cargo run --example lint FILE..` ends with status 1 where it reported one.
 
-use navyspindle::{source, Lit};
+use navyspindle::{source, LineIndex, Lit};
 use std::process::ExitCode;
 use std::{env, fs};
-
-/// The line and column of a byte, from 1; columns are characters.
-fn line_and_column(text: &str, at: usize) -> (usize, usize) {
-    let before = &text[..at];
-    let line = before.matches('\n').count() + 1;
-    let start = before.rfind('\n').map_or(0, |at| at + 1);
-    (line, before[start..].chars().count() + 1)
-}
 
 /// The byte of each thing that is wrong in a text, and what it is.
 fn findings(text: &str) -> Vec<(usize, String)> {
     source(text)
         .filter_map(|item| match item {
-            Ok((bytes, Lit::Verbatim(literal))) => {
-                let error = literal.explain();
+            Ok((bytes, literal)) => {
+                let error = Lit::parse(literal.text()).err()?;
                 let at = bytes.start + error.range().start;
                 Some((at, format!("{literal} is no literal: {}", error.kind())))
             }
-            Ok(_) => None,
             Err(error) => Some((error.at(), error.kind().to_string())),
         })
         .collect()
@@ -34,10 +25,8 @@ fn lines_of(name: &str) -> Vec<String> {
         Ok(text) => text,
         Err(error) => return vec![format!("{name}: {error}")],
     };
-    let line_of = |(at, message)| {
-        let (line, column) = line_and_column(&text, at);
-        format!("{name}:{line}:{column}: {message}")
-    };
+    let index = LineIndex::new(&text);
+    let line_of = |(at, message)| format!("{name}:{}: {message}", index.line_column(at));
     findings(&text).into_iter().map(line_of).collect()
 }
 

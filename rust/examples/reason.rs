@@ -7,7 +7,7 @@ fn main() {
     for text in env::args().skip(1) {
         match Lit::parse(&text) {
             Ok(Lit::Int(number)) => println!("{}", number.base10_digits()),
-            Ok(literal) => println!("{:?}", literal.kind()),
+            Ok(literal) => println!("{}", literal.kind()),
             Err(error) => println!("{error}: {}", &text[error.piece()]),
         }
     }

@@ -1,7 +1,8 @@
 //! Reads Rust's literals by proved code.
 //!
-//! What a text stands for is returned by a static library whose functions are proved against a written
-//! grammar (`crates/rl_c`); this package passes it texts and room, and gives the results types. Places are byte offsets.
+//! The code in `proved` is rendered from sources in Rattle, which is Rust with contracts, where each function is proved
+//! against a written grammar; the contracts are erased, and nothing else is changed. This package gives it types. Places are
+//! byte offsets.
 //!
 //! ```
 //! use navyspindle::Lit;
@@ -15,30 +16,57 @@
 //! assert_eq!(literal.base10_parse::<u8>(), Ok(255));
 //! # Ok::<(), navyspindle::ParseError>(())
 //! ```
+#![no_std]
+#![forbid(unsafe_code)]
 #![deny(missing_docs)]
-#![deny(unsafe_code)]
 
+extern crate alloc;
+#[cfg(feature = "proc-macro")]
+extern crate proc_macro;
+#[cfg(test)]
+extern crate std;
+
+mod characters;
+mod common;
+mod contents;
 mod error;
-mod exports;
-mod ffi;
-mod flaw;
-mod layout;
+mod kind;
+mod line_index;
 mod list;
 mod lit;
-mod numbered;
+mod numbers;
+mod parse_error;
+#[cfg(feature = "proc-macro")]
+mod proc_macros;
+#[allow(dead_code, unused_variables)]
+#[allow(clippy::style, clippy::complexity)]
+#[rustfmt::skip]
+mod proved;
+mod reading;
+mod settings;
+mod simd;
 mod source;
-mod step;
-mod token;
+mod strings;
+mod unicode;
+mod words;
 mod write;
 
+use proved::{grammar, tokens};
+
+pub use characters::{LitByte, LitChar};
 pub use error::{ErrorKind, ListError};
-pub use flaw::{FlawKind, ParseError};
+pub use kind::Kind;
+pub use line_index::{LineColumn, LineIndex};
 pub use list::{literals, Literals};
-pub use lit::{
-    Lit, LitBool, LitByte, LitByteStr, LitCStr, LitChar, LitFloat, LitInt, LitStr, LitVerbatim,
-};
+pub use lit::Lit;
+pub use numbers::{Base, LitFloat, LitInt, NumberType};
+pub use parse_error::{FlawKind, ParseError, ParseErrorKind};
+#[cfg(feature = "proc-macro")]
+pub use proc_macros::{next_literal, MacroError};
+pub use settings::{settings, Entry, SettingsError, SettingsErrorKind};
 pub use source::{source, Source};
-pub use token::Kind;
+pub use strings::{LitByteStr, LitCStr, LitStr};
+pub use words::{LitBool, LitVerbatim};
 pub use write::{write_byte, write_byte_str, write_c_str, write_char, write_str};
 
 /// Whether the text is a literal token of the Rust Reference.
@@ -50,8 +78,9 @@ pub use write::{write_byte, write_byte_str, write_c_str, write_char, write_str};
 /// assert!(!is_token("-1"));
 /// assert!(!is_token("'ab'"));
 /// ```
+#[must_use]
 pub fn is_token(text: &str) -> bool {
-    ffi::is_token(text)
+    grammar::strict::is_token(text)
 }
 
 /// The examples of `README.md`.

@@ -1,20 +1,20 @@
 //! Lists of literals.
 
-use crate::error::ListError;
-use crate::ffi;
-use crate::layout::Next;
+use crate::error::{ErrorKind, ListError};
 use crate::lit::Lit;
-use crate::step::Step;
-use crate::token::Token;
-use std::borrow::Cow;
-use std::iter::FusedIterator;
-use std::ops::Range;
+use crate::grammar::{list_step, next_literal, ListStep, NextLiteral};
+use crate::tokens::Tokens;
+use alloc::borrow::Cow;
+use alloc::format;
+use core::fmt;
+use core::iter::FusedIterator;
+use core::ops::Range;
 
 /// The literals of a text with white space and plain comments between them, each with its bytes; see [`literals`].
-#[derive(Clone, Debug)]
+#[must_use = "an iterator does nothing until it is asked"]
 pub struct Literals<'t> {
     text: &'t str,
-    at: usize,
+    tokens: Tokens<'t>,
     is_done: bool,
 }
 
@@ -38,31 +38,37 @@ pub struct Literals<'t> {
 /// let Lit::Float(float) = literal else { panic!() };
 /// assert_eq!((range, &*float.base10_digits()), (8..23, "-1.5"));
 /// let error = list.next().unwrap().unwrap_err();
-/// assert_eq!((error.kind(), error.at()), (ErrorKind::Lifetime, 24));
+/// assert_eq!((error.kind(), error.range()), (ErrorKind::Lifetime, 24..26));
 /// assert!(list.next().is_none());
 /// # Ok::<(), navyspindle::ListError>(())
 /// ```
 pub fn literals(text: &str) -> Literals<'_> {
     Literals {
         text,
-        at: 0,
+        tokens: Tokens::new(text),
         is_done: false,
     }
 }
 
-impl<'t> Literals<'t> {
-    /// The literal that begins what is left, which then begins after it.
-    fn take(&mut self, next: Next) -> (Range<usize>, Lit<'t>) {
-        let rest = &self.text[self.at..];
-        let text = if next.negative && next.minus_at + 1 != next.lo {
-            Cow::Owned(format!("-{}", &rest[next.lo..next.hi]))
-        } else {
-            Cow::Borrowed(&rest[next.minus_at..next.hi])
-        };
-        let range = self.at + next.minus_at..self.at + next.hi;
-        self.at += next.rest_at;
-        (range, Lit::of(Token::found(text, next.reading)))
-    }
+/// The literal that was cut off, and its bytes, from its minus on where it has one.
+fn placed<'t>(text: &'t str, next: NextLiteral<'t>) -> (Range<usize>, Lit<'t>) {
+    let token = next.token;
+    let lo = next.minus_at.unwrap_or(token.lo);
+    let range = lo..token.hi;
+    let text = match next.minus_at {
+        // Something stands between the two.
+        Some(minus_at) if minus_at + 1 != token.lo => Cow::Owned(format!("-{}", token.text)),
+        _ => Cow::Borrowed(&text[range.clone()]),
+    };
+    (range, Lit::of_token(text, next.found))
+}
+
+/// The literal that the next tokens of the text are, and its bytes; `None` where they are none, and nothing is cut off then.
+pub(crate) fn take_literal<'t>(
+    text: &'t str,
+    tokens: &mut Tokens<'t>,
+) -> Option<(Range<usize>, Lit<'t>)> {
+    next_literal(tokens).map(|next| placed(text, next))
 }
 
 impl<'t> Iterator for Literals<'t> {
@@ -72,13 +78,13 @@ impl<'t> Iterator for Literals<'t> {
         if self.is_done {
             return None;
         }
-        match ffi::next(&self.text[self.at..]) {
-            Step::Literal(next) => return Some(Ok(self.take(next))),
-            Step::End => self.is_done = true,
-            Step::Error(error) => {
+        match list_step(&mut self.tokens) {
+            ListStep::Literal(next) => return Some(Ok(placed(self.text, next))),
+            ListStep::End => self.is_done = true,
+            ListStep::Rejected(rejection) => {
                 self.is_done = true;
-                let at = self.at + error.at;
-                return Some(Err(ListError { at, ..error }));
+                let kind = ErrorKind::of_rejection(rejection.kind);
+                return Some(Err(ListError::new(self.text, kind, rejection.at)));
             }
         }
         None
@@ -86,3 +92,23 @@ impl<'t> Iterator for Literals<'t> {
 }
 
 impl FusedIterator for Literals<'_> {}
+
+/// What was taken stays taken in the clone alone.
+impl Clone for Literals<'_> {
+    fn clone(&self) -> Self {
+        Literals {
+            text: self.text,
+            tokens: self.tokens.fork(),
+            is_done: self.is_done,
+        }
+    }
+}
+
+/// What is left of the text.
+impl fmt::Debug for Literals<'_> {
+    fn fmt(&self, f: &mut fmt::Formatter<'_>) -> fmt::Result {
+        f.debug_tuple("Literals")
+            .field(&self.tokens.rest())
+            .finish()
+    }
+}

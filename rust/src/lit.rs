@@ -1,195 +1,34 @@
-//! Literals by kind.
+//! Literals of any kind.
 
-use crate::ffi;
-use crate::flaw::ParseError;
-use crate::token::{Kind, Token};
-use std::borrow::Cow;
-use std::fmt;
-use std::str::FromStr;
+use crate::grammar::{find, Found};
+use crate::kind::Kind;
+use crate::parse_error::ParseError;
+use crate::reading::is_rust;
+use crate::tokens;
+use crate::{
+    LitBool, LitByte, LitByteStr, LitCStr, LitChar, LitFloat, LitInt, LitStr, LitVerbatim,
+};
+use alloc::borrow::Cow;
+use alloc::string::String;
+use core::fmt;
+use core::str::FromStr;
 
-macro_rules! kinds {
-    ($($(#[$doc:meta])* $name:ident)*) => {$(
-        $(#[$doc])*
-        #[derive(Clone, Debug, PartialEq, Eq, Hash)]
-        pub struct $name<'t>(Token<'t>);
-
-        impl $name<'_> {
-            /// The text as it was read.
-            #[inline]
-            pub fn text(&self) -> &str {
-                self.0.text()
-            }
-
-            /// What stands after the literal proper; empty where nothing does.
-            #[inline]
-            pub fn suffix(&self) -> &str {
-                self.0.suffix()
-            }
-        }
-
-        impl fmt::Display for $name<'_> {
-            fn fmt(&self, f: &mut fmt::Formatter<'_>) -> fmt::Result {
-                f.write_str(self.text())
-            }
-        }
-    )*};
-}
-
-kinds! {
-    /// A string: `"a\n"`, `r#"b"#`.
-    LitStr
-    /// A byte string: `b"a\xFF"`, `br"b"`.
-    LitByteStr
-    /// A C string: `c"a"`, `cr"b"`.
-    LitCStr
-    /// A byte: `b'a'`.
-    LitByte
-    /// A character: `'a'`.
-    LitChar
-    /// An integer: `1_000`, `-0xFF_u8`.
-    LitInt
-    /// A float: `1.5e3`, `2f32`.
-    LitFloat
-    /// A truth value: `true`, `false`.
-    LitBool
-    /// A literal token of a list or a source that has no reading, so no value and no suffix: `'\q'`, or an integer past 128 bits.
-    LitVerbatim
-}
-
-impl LitStr<'_> {
-    /// The text that the literal stands for; borrowed where it has no escapes.
-    #[inline]
-    pub fn value(&self) -> Cow<'_, str> {
-        self.0.text_contents()
-    }
-}
-
-impl LitByteStr<'_> {
-    /// The bytes that the literal stands for; borrowed where it has no escapes.
-    #[inline]
-    pub fn value(&self) -> Cow<'_, [u8]> {
-        self.0.contents()
-    }
-}
-
-impl LitCStr<'_> {
-    /// The bytes that the literal stands for, none of which is 0, and none of which ends them; borrowed where it has no escapes.
-    #[inline]
-    pub fn value(&self) -> Cow<'_, [u8]> {
-        self.0.contents()
-    }
-}
-
-impl LitByte<'_> {
-    /// The byte that the literal stands for.
-    #[inline]
-    pub fn value(&self) -> u8 {
-        u8::try_from(self.0.unit()).expect("the library returns a byte")
-    }
-}
-
-impl LitChar<'_> {
-    /// The character that the literal stands for.
-    #[inline]
-    pub fn value(&self) -> char {
-        char::from_u32(self.0.unit()).expect("the library returns a character's number")
-    }
-}
-
-/// The digits in base ten, after a minus where the number is negative.
-fn decimal(is_negative: bool, magnitude: u128) -> String {
-    let sign = if is_negative { "-" } else { "" };
-    format!("{sign}{magnitude}")
-}
-
-impl LitInt<'_> {
-    /// What the digits spell, without the sign.
-    #[inline]
-    pub fn magnitude(&self) -> u128 {
-        self.0.magnitude()
-    }
-
-    /// Whether a minus stands before it.
-    #[inline]
-    pub fn is_negative(&self) -> bool {
-        self.text().starts_with('-')
-    }
-
-    /// The digits in base ten, after a minus where one stands; borrowed where they stand so in the text.
-    ///
-    /// Of others the number is the proved one, and Rust's std writes it.
-    #[inline]
-    pub fn base10_digits(&self) -> Cow<'_, str> {
-        match self.0.plain() {
-            Some(digits) => Cow::Borrowed(digits),
-            None => Cow::Owned(decimal(self.is_negative(), self.magnitude())),
-        }
-    }
-
-    /// The digits as a number type reads them.
-    ///
-    /// # Errors
-    ///
-    /// The type's own.
-    pub fn base10_parse<N: FromStr>(&self) -> Result<N, N::Err> {
-        self.base10_digits().parse()
-    }
-}
-
-impl LitFloat<'_> {
-    /// All before the suffix, without underscores and pluses and with `E` as `e`; borrowed where it stands so in the text.
-    #[inline]
-    pub fn base10_digits(&self) -> Cow<'_, str> {
-        self.0.text_contents()
-    }
-
-    /// The digits as a number type reads them.
-    ///
-    /// # Errors
-    ///
-    /// The type's own.
-    pub fn base10_parse<N: FromStr>(&self) -> Result<N, N::Err> {
-        self.base10_digits().parse()
-    }
-}
-
-impl LitBool<'_> {
-    /// The truth value.
-    #[inline]
-    pub fn value(&self) -> bool {
-        self.text() == "true"
-    }
-}
-
-impl LitVerbatim<'_> {
-    /// Why it is no literal, and where.
-    ///
-    /// ```
-    /// use navyspindle::{literals, FlawKind, Lit};
-    ///
-    /// let (range, literal) = literals(r"1 '\q'").nth(1).unwrap()?;
-    /// let Lit::Verbatim(literal) = literal else { panic!() };
-    /// let error = literal.explain();
-    /// assert_eq!((range.start, error.kind(), error.range()), (2, FlawKind::UnknownEscape, 2..3));
-    /// # Ok::<(), navyspindle::ListError>(())
-    /// ```
-    pub fn explain(&self) -> ParseError {
-        ParseError::of(self.text())
-    }
-}
-
-/// A literal of any kind: what [`Lit::parse`] makes of a text. Two are equal where their texts are.
+/// A literal of any kind. Two are equal where their texts are.
+///
+/// [`Lit::parse`] takes Rust's own literals, with one optional minus before a number. [`Lit::new`] reads as `syn` does:
+/// it takes any text, and some that Rust rejects are literals to it.
 ///
 /// ```
 /// use navyspindle::{Kind, Lit};
 ///
-/// let literal: Lit = Lit::parse("1_000_u32")?;
+/// let literal = Lit::parse("1_000_u32")?;
 /// assert_eq!((literal.kind(), literal.suffix()), (Kind::Int, "u32"));
 /// let owned: Lit<'static> = "'x'".parse()?;
 /// assert_eq!(owned.text(), "'x'");
 /// # Ok::<(), navyspindle::ParseError>(())
 /// ```
-#[derive(Clone, Debug, PartialEq, Eq, Hash)]
+#[derive(Clone, PartialEq, Eq, Hash)]
+#[non_exhaustive]
 pub enum Lit<'t> {
     /// A string.
     Str(LitStr<'t>),
@@ -207,87 +46,245 @@ pub enum Lit<'t> {
     Float(LitFloat<'t>),
     /// A truth value.
     Bool(LitBool<'t>),
-    /// A literal token of a list or a source that has no reading. [`Lit::parse`] returns none.
+    /// A text that has no reading. [`Lit::parse`] returns none.
     Verbatim(LitVerbatim<'t>),
 }
 
+/// Does the same with the literal of each kind.
+macro_rules! each_kind {
+    ($lit:expr, $literal:ident => $result:expr) => {
+        match $lit {
+            Lit::Str($literal) => $result,
+            Lit::ByteStr($literal) => $result,
+            Lit::CStr($literal) => $result,
+            Lit::Byte($literal) => $result,
+            Lit::Char($literal) => $result,
+            Lit::Int($literal) => $result,
+            Lit::Float($literal) => $result,
+            Lit::Bool($literal) => $result,
+            Lit::Verbatim($literal) => $result,
+        }
+    };
+}
+
 impl<'t> Lit<'t> {
-    /// The literal that the text is, all of it.
+    /// What `syn` reads the text as, all of it: `Verbatim` exactly where it has no reading, and for integers past 128 bits.
+    ///
+    /// `syn` reads some texts that Rust rejects, since it is given tokens alone: `0b102` is a float to it, `1e` an integer with
+    /// the suffix `e`, and `'''` a character. Whoever takes texts from outside asks [`Lit::parse`].
+    ///
+    /// ```
+    /// use navyspindle::{Kind, Lit};
+    ///
+    /// assert_eq!(Lit::new("1.5").kind(), Kind::Float);
+    /// assert_eq!(Lit::new("0b102").kind(), Kind::Float);
+    /// assert_eq!(Lit::new("word").kind(), Kind::Verbatim);
+    /// ```
+    #[inline]
+    #[must_use]
+    pub fn new(text: impl Into<Cow<'t, str>>) -> Lit<'t> {
+        let text = text.into();
+        let found = find(&text);
+        Lit::of_token(text, found)
+    }
+
+    /// The literal of Rust that the text is, all of it, with one optional minus before a number.
     ///
     /// # Errors
     ///
-    /// The text is no literal, or an integer past 128 bits: why, and where.
+    /// The text is none, or an integer past 128 bits: why, and where.
+    ///
+    /// ```
+    /// use navyspindle::{FlawKind, Lit, ParseErrorKind};
+    ///
+    /// assert_eq!(Lit::parse("-1_000")?.text(), "-1_000");
+    /// assert_eq!(Lit::parse("'ab'").unwrap_err().kind(), FlawKind::TwoCharacters);
+    /// assert_eq!(Lit::parse("1e").unwrap_err().kind(), ParseErrorKind::NotRust);
+    /// # Ok::<(), navyspindle::ParseError>(())
+    /// ```
     #[inline]
     pub fn parse(text: &'t str) -> Result<Lit<'t>, ParseError> {
-        match ffi::find(Cow::Borrowed(text)) {
-            Some(token) => Ok(Lit::of(token)),
-            None => Err(ParseError::of(text)),
+        match find(text) {
+            Some(found) if is_rust(text, &found) => Ok(Lit::of(Cow::Borrowed(text), &found)),
+            _ => Err(ParseError::of(text)),
+        }
+    }
+
+    /// The literal of a text, of which this was found.
+    #[inline]
+    pub(crate) fn of(text: Cow<'t, str>, found: &Found) -> Lit<'t> {
+        let body = found.body;
+        match found.kind {
+            tokens::Kind::Str => Lit::Str(LitStr::of(text, body)),
+            tokens::Kind::ByteStr => Lit::ByteStr(LitByteStr::of(text, body)),
+            tokens::Kind::CStr => Lit::CStr(LitCStr::of(text, body)),
+            tokens::Kind::Byte => Lit::Byte(LitByte::of(text, body.suffix_at, found.unit)),
+            tokens::Kind::Char => Lit::Char(LitChar::of(text, body.suffix_at, found.unit)),
+            tokens::Kind::Int => Lit::Int(LitInt::of(
+                text,
+                body.suffix_at,
+                found.magnitude,
+                body.plain,
+            )),
+            tokens::Kind::Float => Lit::Float(LitFloat::of(text, body.suffix_at, body.plain)),
+            tokens::Kind::Bool => Lit::Bool(LitBool::of(text, found.truth)),
+        }
+    }
+
+    /// The literal of a literal token's text: what was found of it, or nothing.
+    #[inline]
+    pub(crate) fn of_token(text: Cow<'t, str>, found: Option<Found>) -> Lit<'t> {
+        match found {
+            Some(found) => Lit::of(text, &found),
+            None => Lit::Verbatim(LitVerbatim::of(text)),
         }
     }
 
     /// What the literal is.
+    ///
+    /// ```
+    /// use navyspindle::{Kind, Lit};
+    ///
+    /// assert_eq!(Lit::parse("true")?.kind(), Kind::Bool);
+    /// # Ok::<(), navyspindle::ParseError>(())
+    /// ```
     #[inline]
+    #[must_use]
     pub fn kind(&self) -> Kind {
-        self.token().kind()
-    }
-
-    #[inline]
-    pub(crate) fn of(token: Token<'t>) -> Lit<'t> {
-        match token.kind() {
-            Kind::Str => Lit::Str(LitStr(token)),
-            Kind::ByteStr => Lit::ByteStr(LitByteStr(token)),
-            Kind::CStr => Lit::CStr(LitCStr(token)),
-            Kind::Byte => Lit::Byte(LitByte(token)),
-            Kind::Char => Lit::Char(LitChar(token)),
-            Kind::Int => Lit::Int(LitInt(token)),
-            Kind::Float => Lit::Float(LitFloat(token)),
-            Kind::Bool => Lit::Bool(LitBool(token)),
-            Kind::Verbatim => Lit::Verbatim(LitVerbatim(token)),
-        }
-    }
-
-    #[inline]
-    fn token(&self) -> &Token<'t> {
         match self {
-            Lit::Str(l) => &l.0,
-            Lit::ByteStr(l) => &l.0,
-            Lit::CStr(l) => &l.0,
-            Lit::Byte(l) => &l.0,
-            Lit::Char(l) => &l.0,
-            Lit::Int(l) => &l.0,
-            Lit::Float(l) => &l.0,
-            Lit::Bool(l) => &l.0,
-            Lit::Verbatim(l) => &l.0,
+            Lit::Str(_) => Kind::Str,
+            Lit::ByteStr(_) => Kind::ByteStr,
+            Lit::CStr(_) => Kind::CStr,
+            Lit::Byte(_) => Kind::Byte,
+            Lit::Char(_) => Kind::Char,
+            Lit::Int(_) => Kind::Int,
+            Lit::Float(_) => Kind::Float,
+            Lit::Bool(_) => Kind::Bool,
+            Lit::Verbatim(_) => Kind::Verbatim,
         }
     }
 
     /// The text as it was read.
+    ///
+    /// ```
+    /// use navyspindle::Lit;
+    ///
+    /// assert_eq!(Lit::parse("0x1F")?.text(), "0x1F");
+    /// # Ok::<(), navyspindle::ParseError>(())
+    /// ```
     #[inline]
+    #[must_use]
     pub fn text(&self) -> &str {
-        self.token().text()
+        each_kind!(self, literal => literal.text())
     }
 
-    /// What stands after the literal proper; empty where nothing does.
+    /// The text as it was read, in its own lifetime.
+    ///
+    /// ```
+    /// use navyspindle::Lit;
+    ///
+    /// assert_eq!(Lit::parse("0x1F")?.into_text(), "0x1F");
+    /// # Ok::<(), navyspindle::ParseError>(())
+    /// ```
     #[inline]
+    #[must_use]
+    pub fn into_text(self) -> Cow<'t, str> {
+        each_kind!(self, literal => literal.into_text())
+    }
+
+    /// What stands after the literal proper; empty where nothing does, and of `Verbatim`.
+    ///
+    /// ```
+    /// use navyspindle::Lit;
+    ///
+    /// assert_eq!(Lit::parse("'a'_s")?.suffix(), "_s");
+    /// # Ok::<(), navyspindle::ParseError>(())
+    /// ```
+    #[inline]
+    #[must_use]
     pub fn suffix(&self) -> &str {
-        self.token().suffix()
+        each_kind!(self, literal => literal.suffix())
+    }
+
+    /// What stands after the literal proper, in the text's own lifetime.
+    ///
+    /// ```
+    /// use navyspindle::Lit;
+    ///
+    /// assert_eq!(Lit::parse("'a'_s")?.into_suffix(), "_s");
+    /// # Ok::<(), navyspindle::ParseError>(())
+    /// ```
+    #[must_use]
+    pub fn into_suffix(self) -> Cow<'t, str> {
+        each_kind!(self, literal => literal.into_suffix())
+    }
+
+    /// The literal with a text of its own.
+    ///
+    /// ```
+    /// use navyspindle::Lit;
+    ///
+    /// let owned: Lit<'static> = Lit::parse("'a'")?.into_owned();
+    /// assert_eq!(owned.text(), "'a'");
+    /// # Ok::<(), navyspindle::ParseError>(())
+    /// ```
+    #[must_use]
+    pub fn into_owned(self) -> Lit<'static> {
+        match self {
+            Lit::Str(literal) => Lit::Str(literal.into_owned()),
+            Lit::ByteStr(literal) => Lit::ByteStr(literal.into_owned()),
+            Lit::CStr(literal) => Lit::CStr(literal.into_owned()),
+            Lit::Byte(literal) => Lit::Byte(literal.into_owned()),
+            Lit::Char(literal) => Lit::Char(literal.into_owned()),
+            Lit::Int(literal) => Lit::Int(literal.into_owned()),
+            Lit::Float(literal) => Lit::Float(literal.into_owned()),
+            Lit::Bool(literal) => Lit::Bool(literal.into_owned()),
+            Lit::Verbatim(literal) => Lit::Verbatim(literal.into_owned()),
+        }
     }
 }
 
+/// The text. Width and fill are kept.
 impl fmt::Display for Lit<'_> {
     fn fmt(&self, f: &mut fmt::Formatter<'_>) -> fmt::Result {
-        f.write_str(self.text())
+        f.pad(self.text())
     }
 }
 
-/// An owned literal, as [`Lit::parse`] reads it.
+/// The struct of the kind, with the text: `LitStr("\"a\"")`.
+impl fmt::Debug for Lit<'_> {
+    fn fmt(&self, f: &mut fmt::Formatter<'_>) -> fmt::Result {
+        each_kind!(self, literal => fmt::Debug::fmt(literal, f))
+    }
+}
+
+/// As [`Lit::parse`].
+impl<'t> TryFrom<&'t str> for Lit<'t> {
+    type Error = ParseError;
+
+    #[inline]
+    fn try_from(text: &'t str) -> Result<Self, ParseError> {
+        Lit::parse(text)
+    }
+}
+
+/// As [`Lit::parse`], of a text that is kept.
+impl TryFrom<String> for Lit<'static> {
+    type Error = ParseError;
+
+    fn try_from(text: String) -> Result<Self, ParseError> {
+        match find(&text) {
+            Some(found) if is_rust(&text, &found) => Ok(Lit::of(Cow::Owned(text), &found)),
+            _ => Err(ParseError::of(&text)),
+        }
+    }
+}
+
+/// As [`Lit::parse`], with a text of its own.
 impl FromStr for Lit<'static> {
     type Err = ParseError;
 
     fn from_str(text: &str) -> Result<Self, ParseError> {
-        match ffi::find(Cow::Owned(text.to_owned())) {
-            Some(token) => Ok(Lit::of(token)),
-            None => Err(ParseError::of(text)),
-        }
+        Lit::parse(text).map(Lit::into_owned)
     }
 }

@@ -1,20 +1,19 @@
 //! The literals of whole sources.
 
-use crate::error::ListError;
-use crate::ffi;
-use crate::layout::Next;
+use crate::error::{ErrorKind, ListError};
 use crate::lit::Lit;
-use crate::step::Step;
-use crate::token::Token;
-use std::borrow::Cow;
-use std::iter::FusedIterator;
-use std::ops::Range;
+use crate::grammar::{source_step, SourceStep};
+use crate::tokens::Sources;
+use alloc::borrow::Cow;
+use core::fmt;
+use core::iter::FusedIterator;
+use core::ops::Range;
 
 /// The literals of a whole Rust source, each with its bytes; see [`source`].
-#[derive(Clone, Debug)]
+#[must_use = "an iterator does nothing until it is asked"]
 pub struct Source<'t> {
     text: &'t str,
-    at: usize,
+    tokens: Sources<'t>,
     is_done: bool,
 }
 
@@ -37,18 +36,8 @@ pub struct Source<'t> {
 pub fn source(text: &str) -> Source<'_> {
     Source {
         text,
-        at: ffi::source_start(text),
+        tokens: Sources::new(text),
         is_done: false,
-    }
-}
-
-impl<'t> Source<'t> {
-    /// The next literal, after which is gone on.
-    fn take(&mut self, next: Next) -> (Range<usize>, Lit<'t>) {
-        self.at = next.rest_at;
-        let range = next.lo..next.hi;
-        let text = Cow::Borrowed(&self.text[range.clone()]);
-        (range, Lit::of(Token::found(text, next.reading)))
     }
 }
 
@@ -59,12 +48,16 @@ impl<'t> Iterator for Source<'t> {
         if self.is_done {
             return None;
         }
-        match ffi::source_next(self.text, self.at) {
-            Step::Literal(next) => return Some(Ok(self.take(next))),
-            Step::End => self.is_done = true,
-            Step::Error(error) => {
+        match source_step(&mut self.tokens) {
+            SourceStep::Literal(token, found) => {
+                let literal = Lit::of_token(Cow::Borrowed(token.text), found);
+                return Some(Ok((token.lo..token.hi, literal)));
+            }
+            SourceStep::End => self.is_done = true,
+            SourceStep::Rejected(error) => {
                 self.is_done = true;
-                return Some(Err(error));
+                let kind = ErrorKind::of_lexer(error.kind);
+                return Some(Err(ListError::new(self.text, kind, error.at)));
             }
         }
         None
@@ -72,3 +65,21 @@ impl<'t> Iterator for Source<'t> {
 }
 
 impl FusedIterator for Source<'_> {}
+
+/// What was taken stays taken in the clone alone.
+impl Clone for Source<'_> {
+    fn clone(&self) -> Self {
+        Source {
+            text: self.text,
+            tokens: Sources::resume(self.text, self.tokens.rest()),
+            is_done: self.is_done,
+        }
+    }
+}
+
+/// What is left of the source.
+impl fmt::Debug for Source<'_> {
+    fn fmt(&self, f: &mut fmt::Formatter<'_>) -> fmt::Result {
+        f.debug_tuple("Source").field(&self.tokens.rest()).finish()
+    }
+}

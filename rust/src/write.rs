@@ -1,11 +1,13 @@
 //! Values written as literals. Each text is a token of the Rust Reference, and reads as the value, with no suffix.
 
-use crate::ffi;
-use std::ffi::CStr;
+use crate::tokens::{write_bytes_into, write_char_into, write_str_into, Kind};
+use alloc::string::String;
+use alloc::vec;
+use core::ffi::CStr;
 
 /// A value that is written.
 #[derive(Clone, Copy)]
-pub(crate) enum Value<'v> {
+enum Value<'v> {
     Str(&'v str),
     ByteStr(&'v [u8]),
     CStr(&'v CStr),
@@ -15,7 +17,7 @@ pub(crate) enum Value<'v> {
 
 impl Value<'_> {
     /// The room that its literal is written into: four bytes for each of its bytes, and three; seven of one character.
-    pub(crate) fn room(self) -> usize {
+    fn room(self) -> usize {
         let len = match self {
             Value::Str(text) => text.len(),
             Value::ByteStr(bytes) => bytes.len(),
@@ -27,13 +29,28 @@ impl Value<'_> {
     }
 }
 
+/// The literal that stands for the value: `room` is what the writers ask for.
+fn written(value: Value<'_>) -> String {
+    let mut out = vec![0; value.room()];
+    let len = match value {
+        Value::Str(text) => write_str_into(text, &mut out),
+        Value::ByteStr(bytes) => write_bytes_into(Kind::ByteStr, bytes, &mut out),
+        Value::CStr(c_str) => write_bytes_into(Kind::CStr, c_str.to_bytes(), &mut out),
+        Value::Byte(byte) => write_bytes_into(Kind::Byte, &[byte], &mut out),
+        Value::Char(character) => write_char_into(character, &mut out),
+    };
+    out.truncate(len);
+    String::from_utf8(out).expect("literals are UTF-8")
+}
+
 /// The string literal that stands for the text.
 ///
 /// ```
 /// assert_eq!(navyspindle::write_str("a\t\"é\u{1}"), r#""a\t\"é\x01""#);
 /// ```
+#[must_use]
 pub fn write_str(value: &str) -> String {
-    ffi::written(Value::Str(value))
+    written(Value::Str(value))
 }
 
 /// The byte string literal that stands for the bytes.
@@ -41,8 +58,9 @@ pub fn write_str(value: &str) -> String {
 /// ```
 /// assert_eq!(navyspindle::write_byte_str(b"a\n\xff"), r#"b"a\n\xFF""#);
 /// ```
+#[must_use]
 pub fn write_byte_str(value: &[u8]) -> String {
-    ffi::written(Value::ByteStr(value))
+    written(Value::ByteStr(value))
 }
 
 /// The C string literal that stands for the C string.
@@ -50,8 +68,9 @@ pub fn write_byte_str(value: &[u8]) -> String {
 /// ```
 /// assert_eq!(navyspindle::write_c_str(c"a\n"), r#"c"a\n""#);
 /// ```
+#[must_use]
 pub fn write_c_str(value: &CStr) -> String {
-    ffi::written(Value::CStr(value))
+    written(Value::CStr(value))
 }
 
 /// The byte literal that stands for the byte.
@@ -59,8 +78,9 @@ pub fn write_c_str(value: &CStr) -> String {
 /// ```
 /// assert_eq!(navyspindle::write_byte(b'\''), r"b'\''");
 /// ```
+#[must_use]
 pub fn write_byte(value: u8) -> String {
-    ffi::written(Value::Byte(value))
+    written(Value::Byte(value))
 }
 
 /// The character literal that stands for the character.
@@ -68,6 +88,7 @@ pub fn write_byte(value: u8) -> String {
 /// ```
 /// assert_eq!(navyspindle::write_char('\n'), r"'\n'");
 /// ```
+#[must_use]
 pub fn write_char(value: char) -> String {
-    ffi::written(Value::Char(value))
+    written(Value::Char(value))
 }

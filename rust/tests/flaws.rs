@@ -1,9 +1,8 @@
 //! Why texts are no literals, and where: for each kind of flaw the byte where the piece begins that it spoils, and the
 //! bytes of the character that no literal goes on with.
 
-use navyspindle::{literals, source, FlawKind, Lit};
+use navyspindle::{literals, source, FlawKind, Lit, ParseErrorKind};
 use std::collections::HashSet;
-use std::fs;
 
 /// The least integer past 128 bits.
 const PAST: &str = "340282366920938463463374607431768211456";
@@ -54,19 +53,6 @@ fn each_kind() {
 }
 
 #[test]
-fn the_words_are_the_programs() {
-    let path = concat!(
-        env!("CARGO_MANIFEST_DIR"),
-        "/../crates/rl_grammar/specs/FlawWords.antt"
-    );
-    let table = fs::read_to_string(path).expect("the table of words");
-    for (_, kind, ..) in ROWS {
-        let line = format!("flaw_message {kind:?} = codes {:?}", kind.to_string());
-        assert!(table.lines().any(|it| it == line), "{line}");
-    }
-}
-
-#[test]
 fn other_places() {
     let rows: &[Row] = &[
         ("#", FlawKind::NoLiteral, 0, 0, 1),
@@ -85,8 +71,8 @@ fn other_places() {
     ];
     for &(text, kind, from, lo, hi) in rows {
         let error = Lit::parse(text).unwrap_err();
-        let found = (error.kind(), error.piece(), error.range());
-        assert_eq!(found, (kind, from..hi, lo..hi), "{text}");
+        assert_eq!(error.kind(), kind, "{text}");
+        assert_eq!((error.piece(), error.range()), (from..hi, lo..hi), "{text}");
     }
 }
 
@@ -97,7 +83,10 @@ fn flaws<'t>(literals: impl Iterator<Item = (usize, Lit<'t>)>) -> Vec<(usize, Fl
             Lit::Verbatim(literal) => {
                 let error = literal.explain();
                 assert_eq!(Lit::parse(literal.text()).unwrap_err(), error);
-                Some((at + error.range().start, error.kind()))
+                let ParseErrorKind::Flaw(kind) = error.kind() else {
+                    panic!("{error}")
+                };
+                Some((at + error.range().start, kind))
             }
             _ => None,
         })

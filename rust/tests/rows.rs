@@ -1,11 +1,14 @@
 //! Rows of texts and what they stand for.
 
-use navyspindle::{is_token, literals, source, write_str, ErrorKind, Kind, Lit};
+use navyspindle::{
+    is_token, literals, settings, source, write_str, ErrorKind, FlawKind, Kind, Lit, LitBool,
+    LitByte, LitByteStr, LitChar, LitFloat, LitInt, LitStr, NumberType, ParseErrorKind,
+};
 use std::borrow::Cow;
 use std::collections::HashSet;
 
 fn text_of(text: &str) -> Option<String> {
-    Some(match Lit::parse(text).ok()? {
+    Some(match Lit::new(text) {
         Lit::Str(l) => format!("Str {:?} {}", l.value(), l.suffix()),
         Lit::ByteStr(l) => format!("ByteStr {:?} {}", l.value(), l.suffix()),
         Lit::CStr(l) => format!("CStr {:?} {}", l.value(), l.suffix()),
@@ -14,7 +17,7 @@ fn text_of(text: &str) -> Option<String> {
         Lit::Int(l) => format!("Int {} {}", l.base10_digits(), l.suffix()),
         Lit::Float(l) => format!("Float {} {}", l.base10_digits(), l.suffix()),
         Lit::Bool(l) => format!("Bool {} {}", l.value(), l.suffix()),
-        Lit::Verbatim(l) => format!("Verbatim {l}"),
+        _ => return None,
     })
 }
 
@@ -59,6 +62,188 @@ fn one_literal() {
 }
 
 #[test]
+fn what_rust_rejects_is_read_and_not_parsed() {
+    let texts = [
+        "0x",
+        "0b102",
+        "0o9",
+        "1e",
+        "1.5e",
+        "0b1e3",
+        "'''",
+        "1.foo",
+        r#"r"a"b""#,
+        "-0x",
+        "\"a\r\nb\"",
+        "'\n'",
+        "1.e5",
+        "1e_+5",
+        "\"a\"_",
+        "\"a\"1",
+    ];
+    for text in texts {
+        assert_ne!(Lit::new(text).kind(), Kind::Verbatim, "{text}");
+        let error = Lit::parse(text).unwrap_err();
+        assert_eq!(error.kind(), ParseErrorKind::NotRust, "{text}");
+        assert_eq!(
+            (error.range(), error.piece()),
+            (0..text.len(), 0..text.len())
+        );
+    }
+    for text in ["-1", "-0xFFu8", "-1.5e+3", "-1f32", "1.", "-1."] {
+        assert_eq!(Lit::parse(text).unwrap().text(), text);
+    }
+    for text in ["--1", "- 1", "-", "-\"a\"", "-true", "+1", " 1", "1 "] {
+        assert!(Lit::parse(text).is_err(), "{text}");
+    }
+}
+
+#[test]
+fn of_one_kind() {
+    assert_eq!(LitStr::parse("\"a\"").unwrap().value(), "a");
+    assert_eq!("12".parse::<LitInt>().unwrap().base10_parse(), Ok(12));
+    assert_eq!(
+        LitFloat::try_from(String::from("1.5")).unwrap().text(),
+        "1.5"
+    );
+    let error = LitStr::parse("b\"a\"").unwrap_err();
+    assert_eq!(
+        error.to_string(),
+        "expected string literal, found byte string literal at byte 0"
+    );
+    assert_eq!(error.range(), 0..4);
+    assert_eq!(
+        LitInt::parse("1x\"").unwrap_err().kind(),
+        FlawKind::BadSuffix
+    );
+    let literal = Lit::from(LitChar::parse("'a'").unwrap());
+    assert_eq!(LitByte::try_from(literal.clone()).unwrap_err(), literal);
+    assert_eq!(LitChar::try_from(literal).unwrap().value(), 'a');
+}
+
+#[test]
+fn parts() {
+    let raw = |text| {
+        let literal = LitStr::parse(text).unwrap();
+        (literal.is_raw(), literal.hashes(), literal.body_range())
+    };
+    assert_eq!(raw("\"ab\"c"), (false, 0, 1..3));
+    assert_eq!(raw("r\"\""), (true, 0, 2..2));
+    assert_eq!(raw("r##\"a\"#\"##x"), (true, 2, 4..7));
+    let int = |text| {
+        let literal = LitInt::parse(text).unwrap();
+        let type_suffix = literal.type_suffix().map(NumberType::as_str);
+        (
+            literal.base().prefix(),
+            literal.digits().to_owned(),
+            type_suffix,
+        )
+    };
+    assert_eq!(int("0"), ("", "0".to_owned(), None));
+    assert_eq!(int("-0b1_0i8"), ("0b", "1_0".to_owned(), Some("i8")));
+    assert_eq!(int("0o17usize"), ("0o", "17".to_owned(), Some("usize")));
+    assert_eq!(int("1_f64"), ("", "1_".to_owned(), Some("f64")));
+    assert_eq!(int("1u7"), ("", "1".to_owned(), None));
+    let float = |text| {
+        let literal = LitFloat::parse(text).unwrap();
+        let part = |part: Option<&str>| part.map(str::to_owned);
+        let fraction = part(literal.fractional_part());
+        (
+            literal.integer_part().to_owned(),
+            fraction,
+            part(literal.exponent_part()),
+        )
+    };
+    let of = |text: &str| Some(text.to_owned());
+    assert_eq!(
+        float("-1_0.5_0E+3_f32"),
+        ("1_0".to_owned(), of("5_0"), of("+3_"))
+    );
+    assert_eq!(float("1."), ("1".to_owned(), of(""), None));
+    assert_eq!(float("2e-5"), ("2".to_owned(), None, of("-5")));
+}
+
+#[test]
+fn what_is_owned() {
+    fn is_static<T: 'static>(it: T) -> T {
+        it
+    }
+    let text = String::from("\"a\\n\"b");
+    let owned = is_static(Lit::parse(&text).unwrap().into_owned());
+    assert_eq!((owned.text(), owned.suffix()), (&*text, "b"));
+    assert_eq!(is_static(owned.clone().into_suffix()), "b");
+    let Lit::Str(string) = owned else { panic!() };
+    assert_eq!(is_static(string.into_value()), "a\n");
+    let plain = is_static(LitStr::try_from(String::from("r#\"ab\"#")).unwrap());
+    assert_eq!(is_static(plain.into_value()), "ab");
+    // A borrowed text is borrowed from.
+    let value = LitByteStr::parse("b\"ab\"").unwrap().into_value();
+    assert!(matches!(value, Cow::Borrowed(b"ab")));
+    assert!(matches!(
+        LitBool::parse("true").unwrap().into_text(),
+        Cow::Borrowed("true")
+    ));
+}
+
+#[test]
+fn how_they_are_printed() {
+    let literal = Lit::parse("0x1F").unwrap();
+    assert_eq!(
+        format!("{literal:>6}|{literal:<6}|{literal:.2}"),
+        "  0x1F|0x1F  |0x"
+    );
+    assert_eq!(format!("{literal:?}"), "LitInt(\"0x1F\")");
+    assert_eq!(format!("{:?}", Lit::new("a")), "LitVerbatim(\"a\")");
+    assert_eq!(Kind::Float.to_string(), "floating point literal");
+}
+
+#[test]
+fn of_settings() {
+    let read = |text: &str| -> Result<Vec<String>, String> {
+        let entries = settings(text).map_err(|error| format!("{:?} {error}", error.range()))?;
+        let line = |entry: &navyspindle::Entry| {
+            let (name, value) = (&entry.name_range, &entry.value_range);
+            format!("{}@{name:?} {}@{value:?}", entry.name, entry.value)
+        };
+        Ok(entries.iter().map(line).collect())
+    };
+    assert_eq!(read(" /* a */"), Ok(vec![]));
+    assert_eq!(
+        read("a = 1, true = - 2.5f32,\nc='\\q'"),
+        Ok(vec![
+            "a@0..1 1@4..5".to_owned(),
+            "true@7..11 -2.5f32@14..22".to_owned(),
+            "c@24..25 '\\q'@26..30".to_owned(),
+        ])
+    );
+    let rows = [
+        ("= 1", "0..1 expected identifier at byte 0"),
+        ("a", "1..1 unexpected end of input, expected `=` at byte 1"),
+        ("a 1", "2..3 expected `=` at byte 2"),
+        (
+            "a = ",
+            "4..4 unexpected end of input, expected literal at byte 4",
+        ),
+        ("a = b", "4..5 expected literal at byte 4"),
+        ("a = -b", "4..5 expected literal at byte 4"),
+        ("a = 1 = 2", "6..7 expected `,` at byte 6"),
+        ("a = 1, [b (c)] 2", "7..14 expected identifier at byte 7"),
+        ("a = 1,,", "6..7 expected identifier at byte 6"),
+        ("a = 1, a", "7..8 repeated name at byte 7"),
+        ("b = 1 'a", "6..6 lifetime is not carried at byte 6"),
+        ("a (]", "3..3 unmatched closing delimiter at byte 3"),
+        ("a ([", "3..3 unclosed group at byte 3"),
+    ];
+    for (text, error) in rows {
+        assert_eq!(read(text), Err(error.to_owned()), "{text}");
+    }
+    assert!(settings(&"(".repeat(129))
+        .unwrap_err()
+        .to_string()
+        .starts_with("groups nested too deep at byte 128"));
+}
+
+#[test]
 fn each_kind() {
     let rows = [
         (r#""a""#, Kind::Str),
@@ -72,12 +257,7 @@ fn each_kind() {
         (r"'\q'", Kind::Verbatim),
     ];
     for (text, kind) in rows {
-        let alone = Lit::parse(text).ok().map(|literal| literal.kind());
-        assert_eq!(
-            alone,
-            Some(kind).filter(|it| *it != Kind::Verbatim),
-            "{text}"
-        );
+        assert_eq!(Lit::new(text).kind(), kind, "{text}");
         for item in literals(text).chain(source(text)) {
             let (range, literal) = item.unwrap();
             assert_eq!((range, literal.kind()), (0..text.len(), kind), "{text}");
@@ -140,7 +320,8 @@ fn plain_bodies_are_borrowed() {
 
 #[test]
 fn a_list() {
-    let read = |text: &str| -> Result<Vec<(usize, usize, String)>, (ErrorKind, usize)> {
+    type Read = Result<Vec<(usize, usize, String)>, (ErrorKind, usize)>;
+    let read = |text: &str| -> Read {
         literals(text)
             .map(|item| match item {
                 Ok((range, literal)) => Ok((range.start, range.end, literal.to_string())),

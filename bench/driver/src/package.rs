@@ -1,4 +1,4 @@
-//! The same work by the Cargo package in rust/, over crates/rl_c.
+//! The same work by the Cargo package in rust/.
 
 use crate::corpus::Corpus;
 use crate::weight::{weight, Kind};
@@ -31,7 +31,7 @@ fn weight_of(text: &str) -> u64 {
         }
         Lit::Float(l) => weight(Kind::Float, l.base10_digits().len(), suffix),
         Lit::Bool(_) => weight(Kind::Bool, 0, 0),
-        Lit::Verbatim(_) => 0,
+        _ => 0,
     }
 }
 

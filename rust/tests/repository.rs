@@ -1,6 +1,7 @@
-//! The stored cases of `tools/sample.jsonl`, where its inputs are single texts: kind, contents and suffix as `rl_tool text` prints them.
+//! Against other files of the repository: the words of flaws, and the stored cases of `tools/sample.jsonl` whose inputs are single
+//! texts, with kind, contents and suffix as `rl_tool text` prints them.
 
-use navyspindle::{write_byte_str, write_c_str, write_str, Lit};
+use navyspindle::{write_byte_str, write_c_str, write_str, Lit, ParseErrorKind};
 use std::ffi::CString;
 use std::fs;
 
@@ -28,31 +29,31 @@ fn is_word(suffix: &str) -> bool {
 
 /// The line that `rl_tool text` prints.
 fn line_of(text: &str) -> String {
-    let (kind, contents, suffix) = match Lit::parse(text) {
-        Ok(Lit::Str(l)) => ("Str", write_str(&l.value()), l.suffix().to_owned()),
-        Ok(Lit::ByteStr(l)) => ("ByteStr", write_byte_str(&l.value()), l.suffix().to_owned()),
-        Ok(Lit::CStr(l)) => {
+    let (kind, contents, suffix) = match Lit::new(text) {
+        Lit::Str(l) => ("Str", write_str(&l.value()), l.suffix().to_owned()),
+        Lit::ByteStr(l) => ("ByteStr", write_byte_str(&l.value()), l.suffix().to_owned()),
+        Lit::CStr(l) => {
             let value = CString::new(l.value()).expect("a C string holds no zero");
             ("CStr", write_c_str(&value), l.suffix().to_owned())
         }
-        Ok(Lit::Byte(l)) => (
+        Lit::Byte(l) => (
             "Byte",
             navyspindle::write_byte(l.value()),
             l.suffix().to_owned(),
         ),
-        Ok(Lit::Char(l)) => (
+        Lit::Char(l) => (
             "Char",
             navyspindle::write_char(l.value()),
             l.suffix().to_owned(),
         ),
-        Ok(Lit::Int(l)) => ("Int", l.base10_digits().into_owned(), l.suffix().to_owned()),
-        Ok(Lit::Float(l)) => (
+        Lit::Int(l) => ("Int", l.base10_digits().into_owned(), l.suffix().to_owned()),
+        Lit::Float(l) => (
             "Float",
             l.base10_digits().into_owned(),
             l.suffix().to_owned(),
         ),
-        Ok(Lit::Bool(l)) => ("Bool", l.value().to_string(), l.suffix().to_owned()),
-        Ok(Lit::Verbatim(_)) | Err(_) => ("Verbatim", write_str(text), String::new()),
+        Lit::Bool(l) => ("Bool", l.value().to_string(), l.suffix().to_owned()),
+        _ => ("Verbatim", write_str(text), String::new()),
     };
     let suffix = match suffix.as_str() {
         "" => "-".to_owned(),
@@ -96,4 +97,24 @@ fn stored_cases() {
         wrong.len(),
         &wrong[..wrong.len().min(12)]
     );
+}
+
+/// Each row of the table of words that the contracts cite: a kind of flaw, and what is said of it. A text for each kind stands in
+/// `tests/flaws.rs`.
+#[test]
+fn the_words_are_the_programs() {
+    let path = concat!(
+        env!("CARGO_MANIFEST_DIR"),
+        "/../crates/rl_grammar/specs/FlawWords.antt"
+    );
+    let table = fs::read_to_string(path).expect("the table of words");
+    for text in [
+        "", "truex", "r#", "\"a", "\"\\q\"", "'ab'", "1.5.", "b\"é\"",
+    ] {
+        let ParseErrorKind::Flaw(kind) = Lit::parse(text).unwrap_err().kind() else {
+            panic!("{text}")
+        };
+        let line = format!("flaw_message {kind:?} = codes {:?}", kind.to_string());
+        assert!(table.lines().any(|it| it == line), "{line}");
+    }
 }

@@ -1,0 +1,120 @@
+//! Procedural macros that read literals, for the tests.
+
+use navyspindle::{next_literal, write_str, Kind, Lit, LitStr, MacroError};
+use proc_macro::{Span, TokenStream, TokenTree};
+use std::iter::Peekable;
+
+/// What a macro makes of its input, or the call of `compile_error!`.
+fn or_error(made: Result<TokenStream, MacroError>) -> TokenStream {
+    made.unwrap_or_else(|error| error.to_compile_error())
+}
+
+/// The tokens of a text.
+fn tokens_of(text: &str) -> TokenStream {
+    text.parse().expect("tokens")
+}
+
+/// The literals of the input, with commas between.
+fn literals_of(input: TokenStream) -> Result<Vec<(Lit<'static>, Span)>, MacroError> {
+    let (mut tokens, mut literals) = (input.into_iter().peekable(), Vec::new());
+    while tokens.peek().is_some() {
+        literals.push(next_literal(&mut tokens)?);
+        take_comma(&mut tokens)?;
+    }
+    Ok(literals)
+}
+
+/// Takes a comma, unless nothing is left.
+fn take_comma(tokens: &mut Peekable<impl Iterator<Item = TokenTree>>) -> Result<(), MacroError> {
+    match tokens.next() {
+        None => Ok(()),
+        Some(TokenTree::Punct(mark)) if mark.as_char() == ',' => Ok(()),
+        Some(tree) => Err(MacroError::new("expected `,`", tree.span())),
+    }
+}
+
+/// The kind, the suffix and the text of each literal, as an array of triples.
+#[proc_macro]
+pub fn literals(input: TokenStream) -> TokenStream {
+    or_error(literals_of(input).map(|literals| {
+        let triple = |(literal, _): &(Lit, Span)| {
+            let (kind, suffix) = (literal.kind(), literal.suffix());
+            format!(
+                "(\"{kind}\", {}, {}),",
+                write_str(suffix),
+                write_str(literal.text())
+            )
+        };
+        tokens_of(&format!(
+            "[{}]",
+            literals.iter().map(triple).collect::<String>()
+        ))
+    }))
+}
+
+/// The bytes that pairs of hexadecimal digits in a string literal stand for, as an array; blanks between are dropped.
+#[proc_macro]
+pub fn hex_bytes(input: TokenStream) -> TokenStream {
+    or_error(bytes_of(input))
+}
+
+fn bytes_of(input: TokenStream) -> Result<TokenStream, MacroError> {
+    let tree = input.into_iter().next();
+    let tree = tree.ok_or_else(|| MacroError::new("expected string literal", Span::call_site()))?;
+    let digits: String = LitStr::try_from(&tree)?
+        .value()
+        .split_whitespace()
+        .collect();
+    let pair = |at: usize| u8::from_str_radix(digits.get(at..at + 2)?, 16).ok();
+    let bytes: Option<Vec<u8>> = (0..digits.len()).step_by(2).map(pair).collect();
+    match bytes {
+        Some(bytes) => Ok(tokens_of(&format!("{bytes:?}"))),
+        None => Err(MacroError::new(
+            "expected pairs of hexadecimal digits",
+            tree.span(),
+        )),
+    }
+}
+
+/// The sum of integers.
+#[proc_macro]
+pub fn sum(input: TokenStream) -> TokenStream {
+    or_error(sum_of(input))
+}
+
+fn sum_of(input: TokenStream) -> Result<TokenStream, MacroError> {
+    let mut sum = 0_i128;
+    for (literal, span) in literals_of(input)? {
+        let Lit::Int(int) = &literal else {
+            return Err(MacroError::expected(Kind::Int, literal.kind(), span));
+        };
+        let number = int.base10_parse::<i128>();
+        sum += number.map_err(|error| MacroError::new(error, span))?;
+    }
+    Lit::new(sum.to_string()).to_token_stream(Span::call_site())
+}
+
+/// The same literal again, by its text; `true` where the input is a truth value.
+#[proc_macro]
+pub fn again(input: TokenStream) -> TokenStream {
+    or_error(
+        next_literal(&mut input.into_iter())
+            .and_then(|(literal, span)| literal.to_token_stream(span)),
+    )
+}
+
+/// The message that the macro `sum` returns as its error, as a string.
+#[proc_macro]
+pub fn sum_error(input: TokenStream) -> TokenStream {
+    match sum_of(input) {
+        Ok(sum) => sum,
+        Err(error) => {
+            // What the compiler would be given.
+            assert!(error
+                .to_compile_error()
+                .to_string()
+                .contains("compile_error"));
+            tokens_of(&write_str(&error.to_string()))
+        }
+    }
+}

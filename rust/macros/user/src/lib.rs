@@ -1,0 +1,1 @@
+//! The tests in `tests` use procedural macros that read literals.

@@ -1,0 +1,77 @@
+//! Literals as rustc hands them to procedural macros.
+
+use navyspindle_macros::{again, hex_bytes, literals, sum, sum_error};
+
+/// Passes a literal on, in a group without delimiters.
+macro_rules! passed {
+    ($name:ident: $($e:literal),*) => {
+        $name!($($e),*)
+    };
+}
+
+#[test]
+fn each_kind() {
+    let found = literals!("a"x, b"a", c"a", b'a', 'a', 1u8, 1.5, true, r#"b"#);
+    let kinds: Vec<&str> = found.iter().map(|it| it.0).collect();
+    assert_eq!(
+        kinds,
+        [
+            "string literal",
+            "byte string literal",
+            "C string literal",
+            "byte literal",
+            "character literal",
+            "integer literal",
+            "floating point literal",
+            "boolean literal",
+            "string literal"
+        ]
+    );
+    assert_eq!((found[0].1, found[5].1), ("x", "u8"));
+    assert_eq!((found[0].2, found[8].2), ("\"a\"x", "r#\"b\"#"));
+}
+
+#[test]
+fn with_a_minus() {
+    let found = literals!(-1, -2.5f32, -0xFF_u8);
+    assert_eq!(found.map(|it| it.2), ["-1", "-2.5f32", "-0xFF_u8"]);
+}
+
+#[test]
+fn passed_on() {
+    let found = passed!(literals: "a", -1, true, 'x');
+    assert_eq!(found.map(|it| it.2), ["\"a\"", "-1", "true", "'x'"]);
+    assert_eq!(passed!(sum: 0x10, -1), 15);
+}
+
+#[test]
+fn values() {
+    assert_eq!(hex_bytes!("0A 0b\x20fF"), [10_u8, 11, 255]);
+    assert_eq!(sum!(1, 0x_ff_u8, -1_00), 156);
+    assert_eq!(sum!(), 0);
+    assert_eq!(
+        (again!(-1.5), again!(true), again!("a\n")),
+        (-1.5, true, "a\n")
+    );
+}
+
+#[test]
+fn errors() {
+    assert_eq!(
+        sum_error!(1, 'a'),
+        "expected integer literal, found character literal"
+    );
+    assert_eq!(sum_error!(1 2), "expected `,`");
+    assert_eq!(sum_error!(1, -"a"), "expected literal");
+    assert_eq!(sum_error!(--1), "expected literal");
+    assert_eq!(sum_error!(word), "expected literal");
+    assert_eq!(sum_error!((1)), "expected literal");
+    assert_eq!(
+        sum_error!(1u9, 99999999999999999999999999999999999999999),
+        "integer past 128 bits"
+    );
+    assert_eq!(
+        sum_error!(340282366920938463463374607431768211455),
+        "number too large to fit in target type"
+    );
+}

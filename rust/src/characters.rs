@@ -1,0 +1,94 @@
+//! Bytes and characters.
+
+use crate::common::literal_type;
+use alloc::borrow::Cow;
+
+/// A byte: `b'a'`.
+///
+/// ```
+/// use navyspindle::LitByte;
+///
+/// assert_eq!(LitByte::parse(r"b'\xFF'")?.value(), 255);
+/// # Ok::<(), navyspindle::ParseError>(())
+/// ```
+#[derive(Clone)]
+#[repr(C)]
+pub struct LitByte<'t> {
+    text: Cow<'t, str>,
+    suffix_at: usize,
+    value: u8,
+}
+
+literal_type!(LitByte, Byte { suffix_at, value }, "\"b'a'_s\"", "\"_s\"");
+
+/// A character: `'a'`.
+///
+/// ```
+/// use navyspindle::LitChar;
+///
+/// assert_eq!(LitChar::parse(r"'\u{e9}'")?.value(), 'é');
+/// # Ok::<(), navyspindle::ParseError>(())
+/// ```
+#[derive(Clone)]
+#[repr(C)]
+pub struct LitChar<'t> {
+    text: Cow<'t, str>,
+    suffix_at: usize,
+    value: char,
+}
+
+literal_type!(LitChar, Char { suffix_at, value }, "\"'a'_s\"", "\"_s\"");
+
+impl<'t> LitByte<'t> {
+    /// The literal of this text; the number is the byte that it stands for.
+    #[inline]
+    pub(crate) fn of(text: Cow<'t, str>, suffix_at: usize, unit: u32) -> Self {
+        let value = u8::try_from(unit).expect("the reading holds a byte");
+        LitByte {
+            text,
+            suffix_at,
+            value,
+        }
+    }
+
+    /// The byte that the literal stands for.
+    ///
+    /// ```
+    /// use navyspindle::LitByte;
+    ///
+    /// assert_eq!(LitByte::parse(r"b'\n'")?.value(), b'\n');
+    /// # Ok::<(), navyspindle::ParseError>(())
+    /// ```
+    #[inline]
+    #[must_use]
+    pub fn value(&self) -> u8 {
+        self.value
+    }
+}
+
+impl<'t> LitChar<'t> {
+    /// The literal of this text; the number is that of the character that it stands for.
+    #[inline]
+    pub(crate) fn of(text: Cow<'t, str>, suffix_at: usize, unit: u32) -> Self {
+        let value = char::from_u32(unit).expect("the reading holds a character's number");
+        LitChar {
+            text,
+            suffix_at,
+            value,
+        }
+    }
+
+    /// The character that the literal stands for.
+    ///
+    /// ```
+    /// use navyspindle::LitChar;
+    ///
+    /// assert_eq!(LitChar::parse(r"'\''")?.value(), '\'');
+    /// # Ok::<(), navyspindle::ParseError>(())
+    /// ```
+    #[inline]
+    #[must_use]
+    pub fn value(&self) -> char {
+        self.value
+    }
+}

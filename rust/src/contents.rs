@@ -1,0 +1,31 @@
+//! What literals stand for whose bodies aren't it.
+
+use crate::grammar::{bytes_into, numeral_into, str_into};
+use crate::tokens::Kind;
+use alloc::string::String;
+use alloc::vec;
+use alloc::vec::Vec;
+
+/// What is written into room as long as the body, which is long enough.
+#[inline]
+fn written(body: &str, write: impl FnOnce(&str, &mut [u8]) -> usize) -> Vec<u8> {
+    let mut out = vec![0; body.len()];
+    let len = write(body, &mut out);
+    out.truncate(len);
+    out
+}
+
+/// What a string stands for whose body has escapes.
+pub(crate) fn text_of(body: &str) -> String {
+    String::from_utf8(written(body, str_into)).expect("contents are UTF-8")
+}
+
+/// What a byte string or a C string stands for whose body has escapes.
+pub(crate) fn bytes_of(kind: Kind, body: &str) -> Vec<u8> {
+    written(body, |body, out| bytes_into(kind, body, out))
+}
+
+/// The digits of a float whose body isn't them.
+pub(crate) fn digits_of(body: &str) -> String {
+    String::from_utf8(written(body, numeral_into)).expect("digits are ASCII")
+}

@@ -1,0 +1,278 @@
+//! Lines and columns of bytes, and back.
+
+use alloc::vec::Vec;
+
+/// A place as compilers print it: line and column, both from 1.
+///
+/// ```
+/// use navyspindle::{LineColumn, LineIndex};
+///
+/// let place = LineIndex::new("a\nbc").line_column(3);
+/// assert_eq!(place, LineColumn { line: 2, column: 2 });
+/// assert_eq!(place.to_string(), "2:2");
+/// ```
+#[derive(Clone, Copy, Debug, PartialEq, Eq, PartialOrd, Ord, Hash)]
+pub struct LineColumn {
+    /// The line, from 1.
+    pub line: usize,
+    /// The column in its line, from 1.
+    pub column: usize,
+}
+
+/// Line and column with a colon between: `3:14`.
+impl core::fmt::Display for LineColumn {
+    fn fmt(&self, f: &mut core::fmt::Formatter<'_>) -> core::fmt::Result {
+        write!(f, "{}:{}", self.line, self.column)
+    }
+}
+
+/// How many bytes a step of the table of characters has.
+const STEP: usize = 256;
+
+/// Where the lines of a text begin: built once, it tells the line and the column of any byte, and the byte of any line and
+/// column.
+///
+/// A line ends after its LF. Columns count characters, as rustc's do, or bytes. Building takes time that grows with the text,
+/// and a lookup grows with the logarithm of the number of lines.
+///
+/// ```
+/// use navyspindle::{LineColumn, LineIndex};
+///
+/// let text = "let a = 1;\nlet é = '\\q';\n";
+/// let index = LineIndex::new(text);
+/// let at = text.find(r"\q").unwrap();
+/// assert_eq!(index.line_column(at), LineColumn { line: 2, column: 10 });
+/// assert_eq!(index.line_column_bytes(at), LineColumn { line: 2, column: 11 });
+/// assert_eq!(index.byte(LineColumn { line: 2, column: 10 }), Some(at));
+/// ```
+#[derive(Clone, Debug)]
+pub struct LineIndex<'t> {
+    text: &'t str,
+    // The byte where each line begins.
+    starts: Vec<usize>,
+    // How many characters begin before each byte that is a multiple of STEP; none where all are ASCII.
+    characters: Vec<usize>,
+}
+
+/// Whether a character begins with the byte.
+fn begins_character(byte: u8) -> bool {
+    byte & 0xC0 != 0x80
+}
+
+/// How many characters begin in the bytes.
+fn count(bytes: &[u8]) -> usize {
+    bytes.iter().filter(|&&byte| begins_character(byte)).count()
+}
+
+impl<'t> LineIndex<'t> {
+    /// The index of a text.
+    ///
+    /// ```
+    /// assert_eq!(navyspindle::LineIndex::new("a\nb").lines(), 2);
+    /// ```
+    #[must_use]
+    pub fn new(text: &'t str) -> Self {
+        let ends = text.bytes().enumerate().filter(|&(_, byte)| byte == b'\n');
+        let starts = core::iter::once(0)
+            .chain(ends.map(|(at, _)| at + 1))
+            .collect();
+        let mut characters = Vec::new();
+        if !text.is_ascii() {
+            let mut before = 0;
+            for bytes in text.as_bytes().chunks(STEP) {
+                characters.push(before);
+                before += count(bytes);
+            }
+            // One more, for the text's end.
+            characters.push(before);
+        }
+        LineIndex {
+            text,
+            starts,
+            characters,
+        }
+    }
+
+    /// How many lines there are: one more than LFs.
+    ///
+    /// ```
+    /// assert_eq!(navyspindle::LineIndex::new("").lines(), 1);
+    /// ```
+    #[must_use]
+    pub fn lines(&self) -> usize {
+        self.starts.len()
+    }
+
+    /// The line and the column, in characters, of the character that the byte belongs to. A byte past the text's end counts
+    /// as the end.
+    ///
+    /// ```
+    /// use navyspindle::{LineColumn, LineIndex};
+    ///
+    /// let index = LineIndex::new("é\nb");
+    /// assert_eq!(index.line_column(2), LineColumn { line: 1, column: 2 });
+    /// assert_eq!(index.line_column(99), LineColumn { line: 2, column: 2 });
+    /// ```
+    #[must_use]
+    pub fn line_column(&self, at: usize) -> LineColumn {
+        let at = self.at_character(at);
+        let (line, start) = self.line_of(at);
+        let column = self.characters_before(at) - self.characters_before(start) + 1;
+        LineColumn { line, column }
+    }
+
+    /// The line and the column, in bytes, of the character that the byte belongs to. A byte past the text's end counts as the
+    /// end.
+    ///
+    /// ```
+    /// use navyspindle::{LineColumn, LineIndex};
+    ///
+    /// assert_eq!(LineIndex::new("é\nb").line_column_bytes(2), LineColumn { line: 1, column: 3 });
+    /// ```
+    #[must_use]
+    pub fn line_column_bytes(&self, at: usize) -> LineColumn {
+        let at = self.at_character(at);
+        let (line, start) = self.line_of(at);
+        let column = at - start + 1;
+        LineColumn { line, column }
+    }
+
+    /// The byte of a line and a column in characters. The column after a line's last character, its LF, is no place of it;
+    /// the one after the text's last character is.
+    ///
+    /// ```
+    /// use navyspindle::{LineColumn, LineIndex};
+    ///
+    /// let index = LineIndex::new("é\nb");
+    /// assert_eq!(index.byte(LineColumn { line: 1, column: 2 }), Some(2));
+    /// assert_eq!(index.byte(LineColumn { line: 1, column: 3 }), None);
+    /// assert_eq!(index.byte(LineColumn { line: 2, column: 2 }), Some(4));
+    /// ```
+    #[must_use]
+    pub fn byte(&self, place: LineColumn) -> Option<usize> {
+        let (start, end) = self.bounds(place.line)?;
+        let characters = self
+            .characters_before(start)
+            .checked_add(place.column.checked_sub(1)?)?;
+        let at = self.byte_after(characters)?;
+        (at < end).then_some(at)
+    }
+
+    /// The byte of a line and a column in bytes, where a character begins there.
+    ///
+    /// ```
+    /// use navyspindle::{LineColumn, LineIndex};
+    ///
+    /// let index = LineIndex::new("é\nb");
+    /// assert_eq!(index.byte_of_bytes(LineColumn { line: 1, column: 3 }), Some(2));
+    /// assert_eq!(index.byte_of_bytes(LineColumn { line: 1, column: 2 }), None);
+    /// ```
+    #[must_use]
+    pub fn byte_of_bytes(&self, place: LineColumn) -> Option<usize> {
+        let (start, end) = self.bounds(place.line)?;
+        let at = start.checked_add(place.column.checked_sub(1)?)?;
+        (at < end && self.text.is_char_boundary(at)).then_some(at)
+    }
+
+    /// Where the character begins that the byte belongs to.
+    fn at_character(&self, at: usize) -> usize {
+        let mut at = at.min(self.text.len());
+        while !self.text.is_char_boundary(at) {
+            at -= 1;
+        }
+        at
+    }
+
+    /// The line of a byte, from 1, and the byte where it begins.
+    fn line_of(&self, at: usize) -> (usize, usize) {
+        let line = self.starts.partition_point(|&start| start <= at);
+        (line, self.starts[line - 1])
+    }
+
+    /// The byte where a line begins, and the one up to which places of it may stand; `None` where there is no such line.
+    fn bounds(&self, line: usize) -> Option<(usize, usize)> {
+        let start = *self.starts.get(line.checked_sub(1)?)?;
+        // The text's end is a place of the last line.
+        let end = self
+            .starts
+            .get(line)
+            .copied()
+            .unwrap_or(self.text.len() + 1);
+        Some((start, end))
+    }
+
+    /// How many characters begin before the byte.
+    fn characters_before(&self, at: usize) -> usize {
+        if self.characters.is_empty() {
+            return at;
+        }
+        let step = at / STEP;
+        self.characters[step] + count(&self.text.as_bytes()[step * STEP..at])
+    }
+
+    /// The byte where so many characters end, which the text may not have.
+    fn byte_after(&self, characters: usize) -> Option<usize> {
+        if self.characters.is_empty() {
+            return (characters <= self.text.len()).then_some(characters);
+        }
+        let step = self
+            .characters
+            .partition_point(|&before| before <= characters)
+            - 1;
+        let from = (step * STEP).min(self.text.len());
+        let mut left = characters - self.characters[step];
+        for (place, &byte) in self.text.as_bytes()[from..].iter().enumerate() {
+            if begins_character(byte) {
+                if left == 0 {
+                    return Some(from + place);
+                }
+                left -= 1;
+            }
+        }
+        (left == 0).then_some(self.text.len())
+    }
+}
+
+#[cfg(test)]
+mod tests {
+    use super::*;
+    use std::string::String;
+
+    /// The same by counting from the text's front.
+    fn counted(text: &str, at: usize) -> (LineColumn, LineColumn) {
+        let before = &text[..at];
+        let line = before.matches('\n').count() + 1;
+        let start = before.rfind('\n').map_or(0, |at| at + 1);
+        let column = before[start..].chars().count() + 1;
+        let of = |column| LineColumn { line, column };
+        (of(column), of(at - start + 1))
+    }
+
+    #[test]
+    fn places_and_back() {
+        let long: String = (0..900)
+            .map(|n| ["a", "é", "\n", "😀", "語", "\r\n"][n * n % 6])
+            .collect();
+        let ascii = "ab\n\ncd".repeat(100);
+        for text in ["", "\n", "a", "é\n", "\n\né", "a\r\nb", &long, &ascii] {
+            let index = LineIndex::new(text);
+            for at in (0..=text.len()).filter(|&at| text.is_char_boundary(at)) {
+                let (place, in_bytes) = counted(text, at);
+                assert_eq!(index.line_column(at), place, "{text:?} {at}");
+                assert_eq!(index.line_column_bytes(at), in_bytes, "{text:?} {at}");
+                assert_eq!(index.byte(place), Some(at), "{text:?} {at}");
+                assert_eq!(index.byte_of_bytes(in_bytes), Some(at), "{text:?} {at}");
+            }
+            for (line, column) in [
+                (0, 1),
+                (1, 0),
+                (index.lines() + 1, 1),
+                (1, 5000),
+                (1, usize::MAX),
+            ] {
+                assert_eq!(index.byte(LineColumn { line, column }), None);
+                assert_eq!(index.byte_of_bytes(LineColumn { line, column }), None);
+            }
+        }
+    }
+}

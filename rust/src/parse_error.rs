@@ -1,0 +1,160 @@
+//! Why a text is no literal, and where.
+
+use crate::grammar::explain;
+pub use crate::grammar::FlawKind;
+use crate::kind::Kind;
+use core::fmt;
+use core::ops::Range;
+
+impl fmt::Display for FlawKind {
+    fn fmt(&self, f: &mut fmt::Formatter<'_>) -> fmt::Result {
+        f.pad(self.words())
+    }
+}
+
+/// What is wrong with a text.
+///
+/// ```
+/// use navyspindle::{FlawKind, Kind, Lit, LitInt, ParseErrorKind};
+///
+/// let kind = |text| Lit::parse(text).unwrap_err().kind();
+/// assert_eq!(kind(r#""\q""#), ParseErrorKind::Flaw(FlawKind::UnknownEscape));
+/// assert_eq!(kind("0b102"), ParseErrorKind::NotRust);
+/// let other = ParseErrorKind::Kind { expected: Kind::Int, found: Kind::Float };
+/// assert_eq!(LitInt::parse("1.5").unwrap_err().kind(), other);
+/// ```
+#[derive(Clone, Copy, Debug, PartialEq, Eq, Hash)]
+#[non_exhaustive]
+pub enum ParseErrorKind {
+    /// It is no literal, for this reason.
+    Flaw(FlawKind),
+    /// `syn` reads it as a literal, and Rust rejects it: `0b102`, `1e`, `'''`.
+    NotRust,
+    /// It is a literal of another kind than the one that was asked for.
+    Kind {
+        /// The kind that was asked for.
+        expected: Kind,
+        /// The kind of the text.
+        found: Kind,
+    },
+}
+
+/// Whether it is a flaw of this kind.
+impl PartialEq<FlawKind> for ParseErrorKind {
+    fn eq(&self, other: &FlawKind) -> bool {
+        *self == ParseErrorKind::Flaw(*other)
+    }
+}
+
+impl fmt::Display for ParseErrorKind {
+    fn fmt(&self, f: &mut fmt::Formatter<'_>) -> fmt::Result {
+        match self {
+            ParseErrorKind::Flaw(kind) => kind.fmt(f),
+            ParseErrorKind::NotRust => f.pad("not a literal of Rust"),
+            ParseErrorKind::Kind { expected, found } => {
+                write!(f, "expected {expected}, found {found}")
+            }
+        }
+    }
+}
+
+/// Why a text is no literal, and where, in bytes of the text.
+///
+/// ```
+/// use navyspindle::{FlawKind, Lit};
+///
+/// let text = r#""a\u{D800}b""#;
+/// let error = Lit::parse(text).unwrap_err();
+/// assert_eq!(error.kind(), FlawKind::Surrogate);
+/// assert_eq!((&text[error.range()], &text[error.piece()]), ("}", r"\u{D800}"));
+/// assert_eq!(error.to_string(), "surrogates are no characters at byte 9");
+/// ```
+#[derive(Clone, Copy, Debug, PartialEq, Eq, Hash)]
+pub struct ParseError {
+    kind: ParseErrorKind,
+    from: usize,
+    lo: usize,
+    hi: usize,
+}
+
+impl ParseError {
+    /// Why a text isn't one of Rust's own literals, which it isn't.
+    #[cold]
+    pub(crate) fn of(text: &str) -> ParseError {
+        ParseError::lenient(text).unwrap_or(ParseError::whole(text, ParseErrorKind::NotRust))
+    }
+
+    /// Why a text has no reading.
+    pub(crate) fn lenient(text: &str) -> Option<ParseError> {
+        let flaw = explain(text)?;
+        Some(ParseError {
+            kind: ParseErrorKind::Flaw(flaw.kind),
+            from: flaw.from,
+            lo: flaw.lo,
+            hi: flaw.hi,
+        })
+    }
+
+    /// That a text of one kind was found where another was asked for.
+    #[cold]
+    pub(crate) fn of_kind(text: &str, expected: Kind, found: Kind) -> ParseError {
+        ParseError::whole(text, ParseErrorKind::Kind { expected, found })
+    }
+
+    /// An error of the text as a whole.
+    fn whole(text: &str, kind: ParseErrorKind) -> ParseError {
+        ParseError {
+            kind,
+            from: 0,
+            lo: 0,
+            hi: text.len(),
+        }
+    }
+
+    /// What is wrong.
+    ///
+    /// ```
+    /// use navyspindle::{FlawKind, Lit};
+    ///
+    /// assert_eq!(Lit::parse("").unwrap_err().kind(), FlawKind::Empty);
+    /// ```
+    #[must_use]
+    pub fn kind(&self) -> ParseErrorKind {
+        self.kind
+    }
+
+    /// The bytes of the first character that no literal goes on with; none, at the text's end, where the text is too
+    /// short. What stands before it begins some literal. Of `NotRust` and of another kind it is the whole text.
+    ///
+    /// ```
+    /// use navyspindle::Lit;
+    ///
+    /// assert_eq!(Lit::parse(r#""a\qb""#).unwrap_err().range(), 3..4);
+    /// assert_eq!(Lit::parse(r#""ab"#).unwrap_err().range(), 3..3);
+    /// ```
+    #[must_use]
+    pub fn range(&self) -> Range<usize> {
+        self.lo..self.hi
+    }
+
+    /// The bytes of the piece that it spoils, up to that character: from an escape's backslash on, of a character or a
+    /// byte literal from after the quote on, of a number or a word from the text's first byte on; else the character alone.
+    ///
+    /// ```
+    /// use navyspindle::Lit;
+    ///
+    /// assert_eq!(Lit::parse(r#""a\qb""#).unwrap_err().piece(), 2..4);
+    /// ```
+    #[must_use]
+    pub fn piece(&self) -> Range<usize> {
+        self.from..self.hi
+    }
+}
+
+impl fmt::Display for ParseError {
+    fn fmt(&self, f: &mut fmt::Formatter<'_>) -> fmt::Result {
+        write!(f, "{} at byte {}", self.kind, self.lo)
+    }
+}
+
+impl core::error::Error for ParseError {}

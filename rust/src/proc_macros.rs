@@ -1,0 +1,283 @@
+//! Literals of procedural macros.
+
+use crate::{Kind, Lit, LitBool, LitByte, LitByteStr, LitCStr, LitChar, LitFloat, LitInt, LitStr};
+use alloc::format;
+use alloc::string::{String, ToString};
+use core::fmt;
+use proc_macro::{Delimiter, Group, Ident, Literal, Punct, Spacing, Span, TokenStream, TokenTree};
+
+/// What is wrong with the input of a procedural macro, and where.
+///
+/// ```no_run
+/// extern crate proc_macro;
+/// use navyspindle::{next_literal, Kind, Lit, MacroError};
+/// use proc_macro::TokenStream;
+///
+/// /// `shout!("a")` is `"A"`.
+/// // #[proc_macro]
+/// pub fn shout(input: TokenStream) -> TokenStream {
+///     shouted(input).unwrap_or_else(|error| error.to_compile_error())
+/// }
+///
+/// fn shouted(input: TokenStream) -> Result<TokenStream, MacroError> {
+///     let (literal, span) = next_literal(&mut input.into_iter())?;
+///     let Lit::Str(string) = &literal else {
+///         return Err(MacroError::expected(Kind::Str, literal.kind(), span));
+///     };
+///     let text = navyspindle::write_str(&string.value().to_uppercase());
+///     Lit::new(text).to_token_stream(span)
+/// }
+/// ```
+#[derive(Clone, Debug)]
+pub struct MacroError {
+    message: String,
+    span: Span,
+}
+
+impl MacroError {
+    /// An error with this message at this place.
+    ///
+    /// ```no_run
+    /// extern crate proc_macro;
+    /// let error = navyspindle::MacroError::new("expected a comma", proc_macro::Span::call_site());
+    /// assert_eq!(error.to_string(), "expected a comma");
+    /// ```
+    #[must_use]
+    pub fn new(message: impl fmt::Display, span: Span) -> Self {
+        let message = message.to_string();
+        MacroError { message, span }
+    }
+
+    /// That a literal of one kind was expected, and one of another found: `expected string literal, found byte literal`.
+    ///
+    /// ```no_run
+    /// extern crate proc_macro;
+    /// use navyspindle::{Kind, MacroError};
+    ///
+    /// let error = MacroError::expected(Kind::Str, Kind::Byte, proc_macro::Span::call_site());
+    /// assert_eq!(error.to_string(), "expected string literal, found byte literal");
+    /// ```
+    #[must_use]
+    pub fn expected(expected: Kind, found: Kind, span: Span) -> Self {
+        MacroError::new(format_args!("expected {expected}, found {found}"), span)
+    }
+
+    /// Where it is.
+    ///
+    /// ```no_run
+    /// extern crate proc_macro;
+    /// let error = navyspindle::MacroError::new("no name", proc_macro::Span::call_site());
+    /// println!("{:?}", error.span());
+    /// ```
+    #[must_use]
+    pub fn span(&self) -> Span {
+        self.span
+    }
+
+    /// The call of `compile_error!` with the message, at the place: what a macro returns for it.
+    ///
+    /// ```no_run
+    /// extern crate proc_macro;
+    /// let error = navyspindle::MacroError::new("no name", proc_macro::Span::call_site());
+    /// assert_eq!(error.to_compile_error().to_string(), r#":: core :: compile_error ! { "no name" }"#);
+    /// ```
+    #[must_use]
+    pub fn to_compile_error(&self) -> TokenStream {
+        let joint = |c, spacing| TokenTree::Punct(Punct::new(c, spacing));
+        let word = |word| TokenTree::Ident(Ident::new(word, self.span));
+        let message = TokenTree::Literal(Literal::string(&self.message));
+        let trees = [
+            joint(':', Spacing::Joint),
+            joint(':', Spacing::Alone),
+            word("core"),
+            joint(':', Spacing::Joint),
+            joint(':', Spacing::Alone),
+            word("compile_error"),
+            joint('!', Spacing::Alone),
+            TokenTree::Group(Group::new(
+                Delimiter::Brace,
+                spanned(message, self.span).into(),
+            )),
+        ];
+        trees
+            .into_iter()
+            .map(|tree| spanned(tree, self.span))
+            .collect()
+    }
+}
+
+impl fmt::Display for MacroError {
+    fn fmt(&self, f: &mut fmt::Formatter<'_>) -> fmt::Result {
+        f.pad(&self.message)
+    }
+}
+
+impl core::error::Error for MacroError {}
+
+/// The tree, at this place.
+fn spanned(mut tree: TokenTree, span: Span) -> TokenTree {
+    tree.set_span(span);
+    tree
+}
+
+/// The literal of a text that stands there.
+fn parsed(text: String, span: Span) -> Result<Lit<'static>, MacroError> {
+    Lit::try_from(text).map_err(|error| MacroError::new(error.kind(), span))
+}
+
+/// Takes the next literal of a macro's input, with its place: a literal, one of the words `true` and `false`, a minus and a number,
+/// or what a `macro_rules!` macro passes on as `$e:literal`, which stands in a group without delimiters. Its place is that of the
+/// number where a minus stands before it.
+///
+/// # Errors
+///
+/// No literal stands next, or an integer past 128 bits. Tokens may be taken then.
+///
+/// ```no_run
+/// extern crate proc_macro;
+/// use navyspindle::{next_literal, MacroError};
+///
+/// fn count(input: proc_macro::TokenStream) -> Result<usize, MacroError> {
+///     let (mut tokens, mut count) = (input.into_iter().peekable(), 0);
+///     while tokens.peek().is_some() {
+///         next_literal(&mut tokens)?;
+///         count += 1;
+///     }
+///     Ok(count)
+/// }
+/// ```
+pub fn next_literal(
+    tokens: &mut impl Iterator<Item = TokenTree>,
+) -> Result<(Lit<'static>, Span), MacroError> {
+    let Some(tree) = tokens.next() else {
+        return Err(MacroError::new(
+            "unexpected end of input, expected literal",
+            Span::call_site(),
+        ));
+    };
+    match &tree {
+        TokenTree::Punct(mark) if mark.as_char() == '-' => negative(tokens.next(), mark.span()),
+        _ => Ok((Lit::try_from(&tree)?, tree.span())),
+    }
+}
+
+/// The literal of a minus, which stands there, and the tree after it.
+fn negative(tree: Option<TokenTree>, minus: Span) -> Result<(Lit<'static>, Span), MacroError> {
+    let expected = || MacroError::new("expected literal", minus);
+    let tree = tree.ok_or_else(expected)?;
+    let number = Lit::try_from(&tree).map_err(|_| expected())?;
+    match number {
+        Lit::Int(_) | Lit::Float(_) if !number.text().starts_with('-') => {
+            Ok((parsed(format!("-{number}"), tree.span())?, tree.span()))
+        }
+        _ => Err(expected()),
+    }
+}
+
+/// The literal, which the compiler has read already.
+impl TryFrom<&Literal> for Lit<'static> {
+    type Error = MacroError;
+
+    fn try_from(literal: &Literal) -> Result<Self, MacroError> {
+        parsed(literal.to_string(), literal.span())
+    }
+}
+
+/// The literal that the tree is: a literal, one of the words `true` and `false`, or what stands alone in a group without
+/// delimiters, there with a minus too.
+impl TryFrom<&TokenTree> for Lit<'static> {
+    type Error = MacroError;
+
+    fn try_from(tree: &TokenTree) -> Result<Self, MacroError> {
+        let expected = || MacroError::new("expected literal", tree.span());
+        match tree {
+            TokenTree::Literal(literal) => Lit::try_from(literal),
+            TokenTree::Ident(word) => {
+                let literal = LitBool::try_from(word.to_string()).map_err(|_| expected())?;
+                Ok(Lit::Bool(literal))
+            }
+            TokenTree::Group(group) if group.delimiter() == Delimiter::None => {
+                let mut inside = group.stream().into_iter();
+                let (literal, _) = next_literal(&mut inside).map_err(|_| expected())?;
+                match inside.next() {
+                    Some(_) => Err(expected()),
+                    None => Ok(literal),
+                }
+            }
+            _ => Err(expected()),
+        }
+    }
+}
+
+/// The same of what is owned, and for the struct of each kind.
+macro_rules! of_trees {
+    ($($tree:ident)*) => {$(
+        impl TryFrom<$tree> for Lit<'static> {
+            type Error = MacroError;
+
+            fn try_from(tree: $tree) -> Result<Self, MacroError> {
+                Lit::try_from(&tree)
+            }
+        }
+
+        of_trees!(@kinds $tree: LitStr Str, LitByteStr ByteStr, LitCStr CStr, LitByte Byte, LitChar Char, LitInt Int,
+            LitFloat Float, LitBool Bool);
+    )*};
+    (@kinds $tree:ident: $($name:ident $variant:ident),*) => {$(
+        impl TryFrom<&$tree> for $name<'static> {
+            type Error = MacroError;
+
+            fn try_from(tree: &$tree) -> Result<Self, MacroError> {
+                match Lit::try_from(tree)? {
+                    Lit::$variant(literal) => Ok(literal),
+                    other => Err(MacroError::expected(Kind::$variant, other.kind(), tree.span())),
+                }
+            }
+        }
+
+        impl TryFrom<$tree> for $name<'static> {
+            type Error = MacroError;
+
+            fn try_from(tree: $tree) -> Result<Self, MacroError> {
+                $name::try_from(&tree)
+            }
+        }
+    )*};
+}
+
+of_trees! { Literal TokenTree }
+
+impl Lit<'_> {
+    /// The literal as tokens at this place: one token, or a minus and a number.
+    ///
+    /// # Errors
+    ///
+    /// Rust rejects the text, which [`Lit::new`] was given.
+    ///
+    /// ```no_run
+    /// extern crate proc_macro;
+    /// use navyspindle::Lit;
+    ///
+    /// let tokens = Lit::new("-1.5").to_token_stream(proc_macro::Span::call_site())?;
+    /// assert_eq!(tokens.into_iter().count(), 2);
+    /// # Ok::<(), navyspindle::MacroError>(())
+    /// ```
+    pub fn to_token_stream(&self, span: Span) -> Result<TokenStream, MacroError> {
+        let rejected = |kind: &dyn fmt::Display| MacroError::new(kind, span);
+        // The compiler would report a text that is none by itself.
+        Lit::parse(self.text()).map_err(|error| rejected(&error.kind()))?;
+        if let Lit::Bool(word) = self {
+            return Ok(TokenTree::Ident(Ident::new(word.text(), span)).into());
+        }
+        let (minus, text) = match self.text().strip_prefix('-') {
+            Some(number) => (
+                Some(TokenTree::Punct(Punct::new('-', Spacing::Alone))),
+                number,
+            ),
+            None => (None, self.text()),
+        };
+        let literal: Literal = text.parse().map_err(|error| rejected(&error))?;
+        let trees = minus.into_iter().chain([TokenTree::Literal(literal)]);
+        Ok(trees.map(|tree| spanned(tree, span)).collect())
+    }
+}

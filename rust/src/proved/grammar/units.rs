@@ -1,0 +1,253 @@
+// Rendered from crates/rl_grammar/src/units.rt by tools/render, which erases contracts: change that file, and render anew.
+//! The units that stand between the quotes of a literal: characters and escapes.
+
+use crate::tokens::Kind;
+use crate::tokens::classes::{CharClass, skip_class};
+use crate::tokens::scan::{Marks, ascii_len_before, len_before};
+use crate::tokens::text::{split_ascii, split_char};
+
+/// No mark: a byte that is none of ASCII.
+const NO_MARK: Marks = Marks {
+    first: 255,
+    second: 255,
+    third: 255,
+    fourth: 255,
+};
+
+/// What a unit stands for. A character counts as its UTF-8 bytes where the kind holds bytes.
+#[derive(Clone, Copy)]
+pub(crate) enum Piece {
+    Character(char),
+    Byte(u8),
+    Nothing,
+}
+
+/// The number of the one character or byte that the piece of a character or a byte literal is.
+#[inline(always)]
+pub(crate) fn piece_unit(kind: Kind, piece: Piece) -> u32 {
+    match piece {
+        Piece::Character(c) => c as u32,
+        Piece::Byte(b) => b as u32,
+        Piece::Nothing => unreachable!(),
+    }
+}
+
+/// Whether the character may stand for itself between single quotes: in both grammars a byte, in the strict one a
+/// character too.
+pub(crate) fn is_bare_character(c: char) -> bool {
+    !matches!(c, '\'' | '\\' | '\n' | '\r' | '\t')
+}
+
+/// Whether the kind takes the character as it is.
+pub(crate) fn is_plain(kind: Kind, c: char) -> bool {
+    match kind {
+        Kind::Str => !matches!(c, '"' | '\\' | '\r'),
+        Kind::ByteStr => c.is_ascii() && !matches!(c, '"' | '\\' | '\r'),
+        Kind::CStr => !matches!(c, '"' | '\\' | '\r' | '\0'),
+        Kind::Char => c != '\\',
+        Kind::Byte => c.is_ascii() && is_bare_character(c),
+        Kind::Int | Kind::Float | Kind::Bool => false,
+    }
+}
+
+/// Whether the kind holds the number: a C string holds no zero.
+pub(crate) fn allows_code(kind: Kind, code: u32) -> bool {
+    !matches!(kind, Kind::CStr) || code != 0
+}
+
+/// Whether the kind has an escape `\xHH` of the number.
+fn may_be_hex(kind: Kind, code: u32) -> bool {
+    allows_code(kind, code) && (!kind.holds_characters() || code < 128)
+}
+
+/// Whether the kind has escapes `\u{..}`.
+pub(crate) fn has_unicode(kind: Kind) -> bool {
+    !matches!(kind, Kind::ByteStr | Kind::Byte)
+}
+
+/// What a backslash and this letter stand for.
+#[inline(always)]
+fn named_value(kind: Kind, letter: u8) -> Option<u8> {
+    match letter {
+        b'n' => Some(b'\n'),
+        b'r' => Some(b'\r'),
+        b't' => Some(b'\t'),
+        b'\\' => Some(b'\\'),
+        b'\'' => Some(b'\''),
+        b'"' => Some(b'"'),
+        b'0' if allows_code(kind, 0) => Some(0),
+        _ => None,
+    }
+}
+
+/// A hexadecimal digit at the front, and the text after it.
+#[inline(always)]
+fn digit(text: &str) -> Option<(u32, &str)> {
+    let (first, rest) = split_ascii(text)?;
+    Some(((first as char).to_digit(16)?, rest))
+}
+
+/// The number of the two digits of `\x`, and the text after them.
+#[inline(always)]
+fn hex_escape(kind: Kind, text: &str) -> Option<(u8, &str)> {
+    let (high, rest) = digit(text)?;
+    let (low, rest) = digit(rest)?;
+    let code = high * 16 + low;
+    if may_be_hex(kind, code) {
+        Some((code as u8, rest))
+    } else {
+        None
+    }
+}
+
+/// What follows the first digit of `\u{`: the character of all the digits, and the text after the brace.
+#[inline(always)]
+fn more_digits(text: &str, first: u32) -> Option<(char, &str)> {
+    let mut value = first;
+    let mut digits = 1_u32;
+    let mut rest = text;
+    while let Some((next, after)) = split_ascii(rest) {
+        rest = after;
+        if let Some(digit) = (next as char).to_digit(16) {
+            if digits == 6 {
+                return None;
+            }
+            value = value * 16 + digit;
+            digits += 1;
+        } else if next == b'}' {
+            return Some((char::from_u32(value)?, rest));
+        } else if next != b'_' {
+            return None;
+        }
+    }
+    None
+}
+
+/// The character of `\u{..}` from its brace on, and the text after it.
+#[inline(always)]
+fn unicode_escape(kind: Kind, text: &str) -> Option<(char, &str)> {
+    let Some((b'{', inside)) = split_ascii(text) else {
+        return None;
+    };
+    let (first, rest) = digit(inside)?;
+    let (c, rest) = more_digits(rest, first)?;
+    if has_unicode(kind) && allows_code(kind, c as u32) {
+        Some((c, rest))
+    } else {
+        None
+    }
+}
+
+/// The text after the spaces, TABs, LFs and CRs.
+fn skip_blanks(text: &str) -> &str {
+    skip_class(CharClass::Blank, text)
+}
+
+/// What the escape stands for whose backslash stands before the text, and the text after it.
+#[inline(always)]
+fn escape(kind: Kind, text: &str) -> Option<(Piece, &str)> {
+    let (letter, rest) = split_ascii(text)?;
+    match letter {
+        b'x' => {
+            let (code, rest) = hex_escape(kind, rest)?;
+            Some((Piece::Byte(code), rest))
+        }
+        b'u' => {
+            let (c, rest) = unicode_escape(kind, rest)?;
+            Some((Piece::Character(c), rest))
+        }
+        b'\n' | b'\r' => {
+            if kind.is_string() {
+                Some((Piece::Nothing, skip_blanks(rest)))
+            } else {
+                None
+            }
+        }
+        _ => {
+            let code = named_value(kind, letter)?;
+            Some((Piece::Byte(code), rest))
+        }
+    }
+}
+
+/// What a character at the front stands for that is no backslash, or the two of a line end, and the text after.
+#[inline(always)]
+fn character(kind: Kind, text: &str) -> Option<(Piece, &str)> {
+    match split_char(text) {
+        Some((c, rest)) if is_plain(kind, c) => Some((Piece::Character(c), rest)),
+        Some(('\r', rest)) if kind.is_string() => match split_char(rest) {
+            Some(('\n', rest)) => Some((Piece::Byte(b'\n'), rest)),
+            _ => None,
+        },
+        _ => None,
+    }
+}
+
+/// What the unit at the front stands for, and the text after it: `None` where no unit of the kind stands there.
+#[inline(always)]
+pub(crate) fn unit(kind: Kind, text: &str) -> Option<(Piece, &str)> {
+    match split_ascii(text) {
+        Some((b'\\', rest)) => escape(kind, rest),
+        _ => character(kind, text),
+    }
+}
+
+/// The characters of ASCII in front of the first mark and of all that is past ASCII, and the text from there on.
+#[inline(always)]
+pub(crate) fn split_ascii_run(marks: Marks, text: &str) -> (&str, &str) {
+    text.split_at(ascii_len_before(marks, text.as_bytes()))
+}
+
+/// Whether the text is ASCII alone.
+pub(crate) fn is_ascii(text: &str) -> bool {
+    ascii_len_before(NO_MARK, text.as_bytes()) == text.len()
+}
+
+/// The characters of ASCII that a string of the kind doesn't take as they are.
+#[inline(always)]
+fn ends_of_runs(kind: Kind) -> Marks {
+    let fourth = match kind {
+        Kind::CStr => 0,
+        _ => b'"',
+    };
+    Marks {
+        first: b'"',
+        second: b'\\',
+        third: b'\r',
+        fourth,
+    }
+}
+
+/// How many bytes at the front are plain, of a string of characters or a C string. Each has a loop
+/// of its own, which knows its marks.
+#[inline(never)]
+fn run_len(kind: Kind, bytes: &[u8]) -> usize {
+    match kind {
+        Kind::CStr => len_before(ends_of_runs(Kind::CStr), bytes),
+        _ => len_before(ends_of_runs(Kind::Str), bytes),
+    }
+}
+
+/// How many bytes at the front are plain, of a byte string: these are of ASCII.
+#[inline(never)]
+fn byte_run_len(bytes: &[u8]) -> usize {
+    ascii_len_before(ends_of_runs(Kind::ByteStr), bytes)
+}
+
+/// How many bytes at the front are plain, told at once before an escape: these often stand side by side.
+#[inline(always)]
+fn plain_len(kind: Kind, bytes: &[u8]) -> usize {
+    if !bytes.is_empty() && bytes[0] == b'\\' {
+        return 0;
+    }
+    match kind {
+        Kind::ByteStr => byte_run_len(bytes),
+        _ => run_len(kind, bytes),
+    }
+}
+
+/// The characters at the front that the kind takes as they are, and the text after them.
+#[inline(always)]
+pub(crate) fn split_plain(kind: Kind, text: &str) -> (&str, &str) {
+    text.split_at(plain_len(kind, text.as_bytes()))
+}

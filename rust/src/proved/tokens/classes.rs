@@ -1,0 +1,84 @@
+// Rendered from crates/rl_tokens/src/classes.rt by tools/render, which erases contracts: change that file, and render anew.
+//! Classes of characters, and the runs of one class at the front of a text.
+
+use crate::tokens::characters::{is_continue, is_white, is_xid_continue};
+use crate::tokens::text::{split_ascii, split_char};
+
+/// A class of characters.
+#[derive(Clone, Copy)]
+pub enum CharClass {
+    /// What goes on with an identifier.
+    Continue,
+    /// Digits and underscores.
+    Numeral,
+    /// Underscores.
+    Underscore,
+    /// White space between tokens.
+    White,
+    /// Hashes of a raw form.
+    Hash,
+    /// What an escaped line end takes with it.
+    Blank,
+    /// The same in strict texts, where no CR stands.
+    StrictBlank,
+    /// What goes on with a suffix of the lenient grammar: Unicode's XID_Continue.
+    SuffixContinue,
+    /// All but `"`.
+    Unquoted,
+    /// ASCII, which a raw byte string holds.
+    Ascii,
+    /// All but NUL, which a raw C string holds.
+    NonNul,
+}
+
+/// Whether the character is of the class.
+#[inline(always)]
+fn is_of(class: CharClass, c: char) -> bool {
+    match class {
+        CharClass::Continue => is_continue(c),
+        CharClass::Numeral => c.is_ascii_digit() || c == '_',
+        CharClass::Underscore => c == '_',
+        CharClass::White => is_white(c),
+        CharClass::Hash => c == '#',
+        CharClass::Blank => matches!(c, ' ' | '\t' | '\n' | '\r'),
+        CharClass::StrictBlank => matches!(c, ' ' | '\t' | '\n'),
+        CharClass::SuffixContinue => is_xid_continue(c),
+        CharClass::Unquoted => c != '"',
+        CharClass::Ascii => c.is_ascii(),
+        CharClass::NonNul => c != '\0',
+    }
+}
+
+/// The text after the characters of the class at its front, perhaps none.
+///
+/// It is inlined for the class that its caller names, and goes by bytes up to the first character past ASCII.
+#[inline(always)]
+pub fn skip_class(class: CharClass, text: &str) -> &str {
+    let mut rest = text;
+    while let Some((byte, following)) = split_ascii(rest) {
+        if !is_of(class, byte as char) {
+            return rest;
+        }
+        rest = following;
+    }
+    skip_wide_class(class, rest)
+}
+
+/// The text after the hashes at its front, perhaps none: those of a raw form.
+#[inline(always)]
+pub fn skip_hashes(text: &str) -> &str {
+    skip_class(CharClass::Hash, text)
+}
+
+/// As [`skip_class`], character by character.
+#[inline(never)]
+fn skip_wide_class(class: CharClass, text: &str) -> &str {
+    let mut rest = text;
+    while let Some((c, following)) = split_char(rest) {
+        if !is_of(class, c) {
+            break;
+        }
+        rest = following;
+    }
+    rest
+}

@@ -1,0 +1,132 @@
+//! Whether Rust takes a text that `syn` reads.
+
+use crate::grammar::strict::is_token;
+use crate::grammar::{Body, Found};
+use crate::numbers::NumberType;
+use crate::tokens::Kind;
+
+/// Whether a text that reads as a literal is one of Rust's own, with one optional minus before a number.
+///
+/// What reading found tells it of most texts; `is_token` is asked of the others.
+#[inline]
+pub(crate) fn is_rust(text: &str, found: &Found) -> bool {
+    is_plainly_rust(text, found) || is_token_after_minus(text)
+}
+
+/// Whether what was found tells that Rust takes the text.
+#[inline]
+fn is_plainly_rust(text: &str, found: &Found) -> bool {
+    let body = found.body;
+    match found.kind {
+        Kind::Int => is_number_suffix(text, body),
+        Kind::Float => is_number_suffix(text, body) && is_rust_float(text.as_bytes()),
+        _ if body.suffix_at != text.len() => false,
+        Kind::Str => is_rust_string(text, body, 1),
+        Kind::ByteStr | Kind::CStr => is_rust_string(text, body, 2),
+        Kind::Byte | Kind::Bool => true,
+        Kind::Char => text.as_bytes()[1] == b'\\' || is_bare(found.unit),
+    }
+}
+
+/// Whether a character literal may hold the character as it stands: all but a quote, LF, CR and TAB.
+#[inline]
+fn is_bare(unit: u32) -> bool {
+    !matches!(unit, 0x27 | 0x0A | 0x0D | 0x09)
+}
+
+/// Whether a string is cooked and holds no CR: such strings are the same in both grammars. A cooked opener is as long as `opener`.
+#[inline]
+fn is_rust_string(text: &str, body: Body, opener: usize) -> bool {
+    // A plain body of a cooked string holds none.
+    body.lo == opener && (body.plain || !text.as_bytes()[body.lo..body.hi].contains(&b'\r'))
+}
+
+/// Whether the number has no suffix, or the name of a type of numbers.
+#[inline]
+fn is_number_suffix(text: &str, body: Body) -> bool {
+    body.suffix_at == text.len() || NumberType::named(&text[body.suffix_at..]).is_some()
+}
+
+/// Whether a digit follows the dot of a float, if anything does, and a digit or a sign the letter of its exponent.
+#[inline]
+fn is_rust_float(mut text: &[u8]) -> bool {
+    while let [first, rest @ ..] = text {
+        match first {
+            b'0'..=b'9' => {}
+            b'.' if !matches!(rest, [] | [b'0'..=b'9', ..]) => return false,
+            b'e' | b'E' if !matches!(rest, [b'0'..=b'9' | b'+' | b'-', ..]) => return false,
+            _ => {}
+        }
+        text = rest;
+    }
+    true
+}
+
+/// Whether the text is a token of Rust, or a minus and a number that is one.
+#[inline(never)]
+fn is_token_after_minus(text: &str) -> bool {
+    is_token(text.strip_prefix('-').unwrap_or(text))
+}
+
+#[cfg(test)]
+mod tests {
+    use super::*;
+    use crate::grammar::find;
+    use std::string::String;
+
+    /// All texts of up to so many of these characters, after the front.
+    fn each_text(front: &str, characters: &[char], most: usize, check: &mut dyn FnMut(&str)) {
+        check(front);
+        if most > 0 {
+            for &c in characters {
+                let mut text = String::from(front);
+                text.push(c);
+                each_text(&text, characters, most - 1, check);
+            }
+        }
+    }
+
+    #[test]
+    fn what_was_found_tells_what_is_token_says() {
+        let mut read = 0;
+        let mut check = |text: &str| {
+            if let Some(found) = find(text) {
+                read += 1;
+                assert_eq!(
+                    is_rust(text, &found),
+                    is_token_after_minus(text),
+                    "{text:?}"
+                );
+            }
+        };
+        let numbers = [
+            '0', '1', '9', '_', '.', 'e', 'E', '+', '-', 'x', 'b', 'u', '8', 'f',
+        ];
+        each_text("", &numbers, 4, &mut check);
+        for front in [
+            "1.5", "1e5", "0x", "0b1", "-1.", "1_", "1f3", "1.0f3", "1e+",
+        ] {
+            each_text(
+                front,
+                &['1', '_', '.', 'e', '+', '-', '2', 'f', 'é'],
+                3,
+                &mut check,
+            );
+        }
+        let quoted = [
+            '"', '\'', '\\', '\r', '\n', '\t', 'n', 'x', 'é', '#', '_', ' ',
+        ];
+        for front in [
+            "", "r", "b", "c", "br", "cr#", "r#\"", "b'", "\"\\u{1", "'\\u{", "c\"\\x4",
+        ] {
+            each_text(front, &quoted, 3, &mut check);
+            each_text(
+                front,
+                &['"', '\'', '\\', '\r', '\n', '}', '_'],
+                4,
+                &mut check,
+            );
+        }
+        assert!(read > 5_000, "{read}");
+    }
+}

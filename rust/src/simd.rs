@@ -1,0 +1,201 @@
+//! The part of `core::simd`, which stable Rust doesn't have, that the proved code uses: lanes of bytes, eight in a number.
+//!
+//! Of sixty-four lanes the compiler makes vector instructions, where the target has some; of fewer it makes instructions on
+//! 64 bits, the same everywhere. Loops count by themselves, which costs least where nothing is optimized.
+
+use core::marker::PhantomData;
+use core::ops::BitOr;
+
+/// The lowest bit of each of eight bytes.
+const LOWEST: u64 = 0x0101_0101_0101_0101;
+
+/// The highest one.
+const HIGHEST: u64 = LOWEST << 7;
+
+/// What moves the lowest bits into the highest byte, in their order.
+const GATHER: u64 = 0x0102_0408_1020_4080;
+
+/// N lanes of bytes, the first of these; N is 8, 16 or more by eights, up to 64.
+#[derive(Clone, Copy)]
+pub(crate) struct Simd<T, const N: usize>([u64; 8], PhantomData<T>);
+
+/// The highest bit of each lane says whether it is set; the other bits say nothing.
+#[derive(Clone, Copy)]
+pub(crate) struct Mask<const N: usize>([u64; 8]);
+
+impl<const N: usize> Simd<u8, N> {
+    /// The first N bytes of the slice, which has to have as many.
+    #[inline(always)]
+    pub(crate) fn from_slice(bytes: &[u8]) -> Self {
+        const { assert!(N % 8 == 0 && N <= 64) };
+        let bytes = &bytes[..N];
+        let mut lanes = [0; 8];
+        let mut at = 0;
+        while at < N / 8 {
+            let mut eight = [0; 8];
+            eight.copy_from_slice(&bytes[8 * at..8 * at + 8]);
+            lanes[at] = u64::from_le_bytes(eight);
+            at += 1;
+        }
+        Simd(lanes, PhantomData)
+    }
+
+    /// The byte in each lane.
+    #[inline(always)]
+    pub(crate) fn splat(byte: u8) -> Self {
+        Simd([byte as u64 * LOWEST; 8], PhantomData)
+    }
+
+    /// Where the lanes of both are equal: where nothing is left of their difference, so that no carry reaches the highest bit.
+    #[inline(always)]
+    pub(crate) fn simd_eq(self, other: Self) -> Mask<N> {
+        let mut set = [0; 8];
+        let mut at = 0;
+        while at < N / 8 {
+            let left = self.0[at] ^ other.0[at];
+            set[at] = !(((left & !HIGHEST) + !HIGHEST) | left);
+            at += 1;
+        }
+        Mask(set)
+    }
+
+    /// Where this side's lane is the greater one, or equal: by the highest bits, and where these are one by the others.
+    #[inline(always)]
+    pub(crate) fn simd_ge(self, other: Self) -> Mask<N> {
+        let mut set = [0; 8];
+        let mut at = 0;
+        while at < N / 8 {
+            let (a, b) = (self.0[at], other.0[at]);
+            let rest = (a | HIGHEST) - (b & !HIGHEST);
+            set[at] = (a & !b) | (!(a ^ b) & rest);
+            at += 1;
+        }
+        Mask(set)
+    }
+}
+
+impl<const N: usize> BitOr for Mask<N> {
+    type Output = Self;
+
+    #[inline(always)]
+    fn bitor(self, other: Self) -> Self {
+        let mut set = self.0;
+        let mut at = 0;
+        while at < N / 8 {
+            set[at] |= other.0[at];
+            at += 1;
+        }
+        Mask(set)
+    }
+}
+
+impl<const N: usize> Mask<N> {
+    /// A bit for each lane, the first lowest. That none is set is asked first.
+    #[inline(always)]
+    pub(crate) fn to_bitmask(self) -> u64 {
+        let mut all = 0;
+        let mut at = 0;
+        while at < N / 8 {
+            all |= self.0[at];
+            at += 1;
+        }
+        if all & HIGHEST == 0 {
+            return 0;
+        }
+        if N > 16 {
+            self.gathered_elsewhere()
+        } else {
+            self.gathered()
+        }
+    }
+
+    #[inline(always)]
+    fn gathered(&self) -> u64 {
+        let mut bits = 0;
+        let mut at = 0;
+        while at < N / 8 {
+            let set = (self.0[at] >> 7) & LOWEST;
+            bits |= (set.wrapping_mul(GATHER) >> 56) << (8 * at);
+            at += 1;
+        }
+        bits
+    }
+
+    /// Of many lanes, so that what is inlined stays short.
+    #[inline(never)]
+    fn gathered_elsewhere(&self) -> u64 {
+        self.gathered()
+    }
+}
+
+#[cfg(test)]
+mod tests {
+    use super::*;
+    use std::vec::Vec;
+
+    fn lanes_agree<const N: usize>(seed: u64) {
+        let mut state = seed;
+        let mut next = || {
+            state = state
+                .wrapping_mul(6364136223846793005)
+                .wrapping_add(1442695040888963407);
+            (state >> 56) as u8
+        };
+        for _ in 0..2000 {
+            let bytes: Vec<u8> = (0..N + 3)
+                .map(|_| {
+                    if next() % 3 == 0 {
+                        next()
+                    } else {
+                        next() % 7 + 124
+                    }
+                })
+                .collect();
+            let other: Vec<u8> = (0..N)
+                .map(|_| {
+                    if next() % 3 == 0 {
+                        next()
+                    } else {
+                        next() % 7 + 124
+                    }
+                })
+                .collect();
+            let (a, b) = (
+                Simd::<u8, N>::from_slice(&bytes),
+                Simd::<u8, N>::from_slice(&other),
+            );
+            let bits = |holds: &dyn Fn(usize) -> bool| {
+                (0..N)
+                    .filter(|&at| holds(at))
+                    .fold(0_u64, |bits, at| bits | 1 << at)
+            };
+            assert_eq!(
+                a.simd_eq(b).to_bitmask(),
+                bits(&|at| bytes[at] == other[at])
+            );
+            assert_eq!(
+                a.simd_ge(b).to_bitmask(),
+                bits(&|at| bytes[at] >= other[at])
+            );
+            let both = a.simd_eq(b) | a.simd_ge(Simd::splat(128));
+            assert_eq!(
+                both.to_bitmask(),
+                bits(&|at| bytes[at] == other[at] || bytes[at] >= 128)
+            );
+        }
+        for at in 0..N {
+            let mut bytes = [0; N];
+            bytes[at] = 9;
+            let alone = Simd::<u8, N>::from_slice(&bytes).simd_eq(Simd::splat(9));
+            assert_eq!(alone.to_bitmask(), 1 << at);
+        }
+    }
+
+    #[test]
+    fn bits_are_those_of_the_lanes() {
+        lanes_agree::<8>(1);
+        lanes_agree::<16>(2);
+        lanes_agree::<32>(3);
+        lanes_agree::<64>(4);
+    }
+}

@@ -1,0 +1,63 @@
+//! Which characters identifiers begin and go on with: Unicode's XID_Start and XID_Continue.
+
+mod runs;
+
+use runs::RUNS;
+
+/// Identifiers go on with it.
+const CONTINUE: u32 = 1;
+
+/// Identifiers begin with it too.
+const START: u32 = 2;
+
+/// The class of a character past ASCII.
+fn class_of(c: char) -> u32 {
+    let passed = RUNS.partition_point(|run| run >> 2 <= u32::from(c));
+    match passed.checked_sub(1) {
+        Some(at) => RUNS[at] & 3,
+        None => 0,
+    }
+}
+
+/// Whether the character has Unicode's property XID_Start.
+pub(crate) fn is_xid_start(c: char) -> bool {
+    if c.is_ascii() {
+        c.is_ascii_alphabetic()
+    } else {
+        class_of(c) == START
+    }
+}
+
+/// Whether the character has Unicode's property XID_Continue.
+pub(crate) fn is_xid_continue(c: char) -> bool {
+    if c.is_ascii() {
+        c.is_ascii_alphanumeric() || c == '_'
+    } else {
+        class_of(c) >= CONTINUE
+    }
+}
+
+#[cfg(test)]
+mod tests {
+    use super::*;
+
+    /// What tools/unicode_runs counted, by class, and the sum of all classes in base 31.
+    const COUNTED: ([u32; 3], u64) = ([949983, 3365, 158716], 0x558fb9f0992ba5e1);
+
+    #[test]
+    fn all_characters() {
+        let (mut counts, mut sum) = ([0; 3], 0_u64);
+        for c in '\0'..=char::MAX {
+            let class = usize::from(is_xid_continue(c)) + usize::from(is_xid_start(c));
+            assert!(is_xid_continue(c) || !is_xid_start(c));
+            counts[class] += 1;
+            sum = sum.wrapping_mul(31).wrapping_add(class as u64);
+        }
+        assert_eq!((counts, sum), COUNTED);
+    }
+
+    #[test]
+    fn the_runs_are_in_order() {
+        assert!(RUNS.windows(2).all(|pair| pair[0] >> 2 < pair[1] >> 2));
+    }
+}

@@ -1,0 +1,159 @@
+//! Truth values, and texts that are no literals.
+
+use crate::common::{literal_type, owned};
+use crate::parse_error::ParseError;
+use alloc::borrow::Cow;
+use core::fmt;
+
+/// A truth value: `true`, `false`.
+///
+/// ```
+/// use navyspindle::LitBool;
+///
+/// assert!(LitBool::parse("true")?.value());
+/// # Ok::<(), navyspindle::ParseError>(())
+/// ```
+#[derive(Clone)]
+#[repr(C)]
+pub struct LitBool<'t> {
+    text: Cow<'t, str>,
+    suffix_at: usize,
+    value: bool,
+}
+
+literal_type!(LitBool, Bool { suffix_at, value }, "\"true\"", "\"\"");
+
+impl<'t> LitBool<'t> {
+    /// The literal of this text, which is the value's word.
+    #[inline]
+    pub(crate) fn of(text: Cow<'t, str>, value: bool) -> Self {
+        let suffix_at = text.len();
+        LitBool {
+            text,
+            suffix_at,
+            value,
+        }
+    }
+
+    /// The truth value.
+    ///
+    /// ```
+    /// use navyspindle::LitBool;
+    ///
+    /// assert!(!LitBool::parse("false")?.value());
+    /// # Ok::<(), navyspindle::ParseError>(())
+    /// ```
+    #[inline]
+    #[must_use]
+    pub fn value(&self) -> bool {
+        self.value
+    }
+}
+
+/// A text that has no reading, so no value and no suffix: a literal token of a list or a source such as `'\q'`, an integer
+/// past 128 bits, or any text that [`Lit::new`](crate::Lit::new) was given.
+///
+/// ```
+/// use navyspindle::{FlawKind, Lit};
+///
+/// let Lit::Verbatim(literal) = Lit::new(r"'\q'") else { panic!() };
+/// assert_eq!(literal.explain().kind(), FlawKind::UnknownEscape);
+/// ```
+#[derive(Clone, PartialEq, Eq, Hash)]
+#[repr(C)]
+pub struct LitVerbatim<'t> {
+    text: Cow<'t, str>,
+}
+
+impl<'t> LitVerbatim<'t> {
+    /// The text, which has no reading.
+    #[inline]
+    pub(crate) fn of(text: Cow<'t, str>) -> Self {
+        LitVerbatim { text }
+    }
+
+    /// The text as it was read.
+    ///
+    /// ```
+    /// use navyspindle::Lit;
+    ///
+    /// let Lit::Verbatim(literal) = Lit::new("word") else { panic!() };
+    /// assert_eq!(literal.text(), "word");
+    /// ```
+    #[inline]
+    #[must_use]
+    pub fn text(&self) -> &str {
+        &self.text
+    }
+
+    /// The text as it was read, in its own lifetime.
+    ///
+    /// ```
+    /// use navyspindle::Lit;
+    ///
+    /// let Lit::Verbatim(literal) = Lit::new("word") else { panic!() };
+    /// assert_eq!(literal.into_text(), "word");
+    /// ```
+    #[inline]
+    #[must_use]
+    pub fn into_text(self) -> Cow<'t, str> {
+        self.text
+    }
+
+    /// It has no suffix.
+    #[inline]
+    pub(crate) fn suffix(&self) -> &'static str {
+        ""
+    }
+
+    /// It has no suffix.
+    pub(crate) fn into_suffix(self) -> Cow<'static, str> {
+        Cow::Borrowed("")
+    }
+
+    /// The same with a text of its own.
+    ///
+    /// ```
+    /// use navyspindle::{Lit, LitVerbatim};
+    ///
+    /// let Lit::Verbatim(literal) = Lit::new("word") else { panic!() };
+    /// let owned: LitVerbatim<'static> = literal.into_owned();
+    /// assert_eq!(owned.text(), "word");
+    /// ```
+    #[must_use]
+    pub fn into_owned(self) -> LitVerbatim<'static> {
+        LitVerbatim {
+            text: owned(self.text),
+        }
+    }
+
+    /// Why it is no literal, and where.
+    ///
+    /// ```
+    /// use navyspindle::{literals, FlawKind, Lit};
+    ///
+    /// let (range, literal) = literals(r"1 '\q'").nth(1).unwrap()?;
+    /// let Lit::Verbatim(literal) = literal else { panic!() };
+    /// let error = literal.explain();
+    /// assert_eq!(range.start, 2);
+    /// assert_eq!(error.kind(), FlawKind::UnknownEscape);
+    /// assert_eq!(error.range(), 2..3);
+    /// # Ok::<(), navyspindle::ListError>(())
+    /// ```
+    #[must_use]
+    pub fn explain(&self) -> ParseError {
+        ParseError::lenient(&self.text).expect("the text has no reading")
+    }
+}
+
+impl fmt::Display for LitVerbatim<'_> {
+    fn fmt(&self, f: &mut fmt::Formatter<'_>) -> fmt::Result {
+        f.pad(&self.text)
+    }
+}
+
+impl fmt::Debug for LitVerbatim<'_> {
+    fn fmt(&self, f: &mut fmt::Formatter<'_>) -> fmt::Result {
+        f.debug_tuple("LitVerbatim").field(&self.text).finish()
+    }
+}
