@@ -1,14 +1,10 @@
 -- What is read of a text without groups, as its tokens are cut.
-use Rattle.std.specs.Prelude.{◌≡◌, ◌≢◌, ◌⊎◌, ℕ, List, [], ◌∷◌, ◌++◌, length, map, Some, ⊤}
-use Prim.Native.Char.{code}
+use Rattle.std.specs.Prelude.{◌≡◌, ℕ, List, [], ◌∷◌, ◌++◌, length, map, Some, ⊤}
 use Rattle.std.specs.List.{AllByRecursion}
 use Rattle.std.specs.Str.{chars}
 use Rattle.rl_tokens.specs.Trees.{Tree, GroupTree, flat_trees}
-use Rattle.rl_tokens.specs.Lexemes.{LexemeForm, LiteralForm, IdentifierForm, DelimiterForm, MarkForm}
-use Rattle.rl_tokens.specs.Lexing.{LexedToken, LexesUpTo, BeginsNoLexeme, open_groups, flat_token}
-use Rattle.rl_tokens.specs.Cursors.{CursorState, TakesNext, form_view}
-use Rattle.rl_tokens.specs.Reading.{HasNoReading, HasNoTruth}
-use Rattle.rl_tokens.specs.declared.cursor.Lexeme.{Lexeme}
+use Rattle.rl_tokens.specs.Lexing.{LexedToken, LexesUpTo, open_groups, flat_token}
+use Rattle.rl_tokens.specs.Cursors.{CursorState}
 use Rattle.rust_literals.specs.declared.lit.Lit.{Lit}
 use Rattle.rust_literals.specs.Parsing.{IsLitFront, ReadsLiterals}
 
@@ -34,28 +30,6 @@ pub record ReadsNext {A : Type 0} (file : ℕ) (old : CursorState) (lit : Lit A)
       → LexesTreesUpTo (chars old.text) file (done ++ trees) (chars new.rest)
   pub front : (following : List Tree) → IsLitFront (trees ++ following) lit following
   pub same : new.text ≡ old.text
-
--- No token stands next that makes a literal with a minus before it.
-abbrev pub HasNoNumberNext : CursorState → Type 0
-HasNoNumberNext t =
-    BeginsNoLexeme (chars t.rest)
-    ⊎ ((l : Lexeme) × (new : CursorState) × TakesNext t l new
-    × ((form_view l.form ≢ LiteralForm) ⊎ HasNoReading (code "-" ∷ chars l.text.now)))
-
--- A token of this form and text, and what is left after it, begin no literal: the token is none,
--- no word of a truth value, and no minus before a number.
-abbrev pub BeginsNoLiteral : LexemeForm → List ℕ → CursorState → Type 0
-BeginsNoLiteral LiteralForm text following = ⊥
-BeginsNoLiteral IdentifierForm text following = HasNoTruth (chars text)
-BeginsNoLiteral (DelimiterForm c) text following = ⊤
-BeginsNoLiteral (MarkForm c) text following = (c ≢ code "-") ⊎ HasNoNumberNext following
-
--- No literal stands next: no token does, or one that begins none.
-abbrev pub HasNoNext : CursorState → Type 0
-HasNoNext t =
-    BeginsNoLexeme (chars t.rest)
-    ⊎ ((l : Lexeme) × (new : CursorState) × TakesNext t l new
-    × BeginsNoLiteral (form_view l.form) l.text.now new)
 
 -- The list grows by the literal that is cut off.
 pub record AddsNext {A : Type 0} (file : ℕ) (old : CursorState) (list : List (Lit A))
