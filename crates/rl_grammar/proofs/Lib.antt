@@ -29,6 +29,7 @@ pub mod WordFlawLemmas
 pub mod RowLemmas
 pub mod RawLemmas
 pub mod FormLemmas
+pub mod FrontLenLemmas
 pub mod ShapeLemmas
 pub mod CutLemmas
 pub mod ContentLemmas

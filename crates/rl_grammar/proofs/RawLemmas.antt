@@ -93,7 +93,7 @@ raw_unopened kind t rest e h v b x p =
 -- `hashes` stand at the front of `t`, and `rest` after them
 
 module _ (kind : Kind) (t hashes rest : List ℕ) (rest_is : rest ≡ (after_run is_hash) t) (text_is : t ≡ hashes ++ rest) where
-  opens : (v x : List ℕ) (r : Raw kind (raw_opener kind ++ t) v x) → (hashes ≡ replicate r.hashes 35) × (rest ≡ 34 ∷ inner r.hashes r.inside x)
+  pub opens : (v x : List ℕ) (r : Raw kind (raw_opener kind ++ t) v x) → (hashes ≡ replicate r.hashes 35) × (rest ≡ 34 ∷ inner r.hashes r.inside x)
   opens v x r =
       let f = raw_front kind t v x hashes r (text_is ∙ ap (λ z. hashes ++ z) rest_is) in
       (f.0, rest_is ∙ f.1)
