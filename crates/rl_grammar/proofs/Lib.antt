@@ -58,3 +58,6 @@ pub mod OneUnitFlaw
 pub mod OneRawFlaw
 pub mod OneNumberFlaw
 pub mod OneFlawLemmas
+pub mod SegmentLemmas
+pub mod SegmentStarts
+pub mod SegmentLawLemmas

@@ -15,5 +15,7 @@ pub mod StrictBytes
 pub mod FrontTokens
 pub mod Bodies
 pub mod Founds
+pub mod Segments
+pub mod SegmentLaws
 pub mod Fronts
 pub mod Mirrors

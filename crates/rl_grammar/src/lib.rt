@@ -12,6 +12,8 @@ mod number_flaws;
 mod number_forms;
 mod quoted_flaws;
 mod quoted_forms;
+mod segments;
+mod span_table;
 pub mod strict;
 mod units;
 
@@ -26,4 +28,5 @@ pub use crate::found::{
 };
 pub use crate::front::{Front, Negative, next_is, take_kind};
 pub use crate::number_forms::{float_shape, int_shape, shape_negative};
+pub use crate::segments::{Segment, SegmentValue, Segments, place_of};
 pub use rl_tokens::Kind;
