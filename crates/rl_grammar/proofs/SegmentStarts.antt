@@ -2,6 +2,7 @@
 use Rattle.std.proofs.Common.{◌≡◌, ◌⊎◌, inl, inr, ℕ, ◌+◌, ◌-◌, ◌≤◌, Bool, true, false, List, [], ◌∷◌, ◌++◌, length, take, drop, map, Some, None, refl, sym, ap, subst, ◌∙◌, arith, append-nil, length-drop}
 use Rattle.std.proofs.lemmas.Bool.{both_ways}
 use Rattle.std.proofs.lemmas.List.{length-take-le}
+use Rattle.std.proofs.lemmas.Str.{encodes-chars}
 use Rattle.std.specs.List.{AllByRecursion, list_all}
 use Rattle.std.specs.Str.{chars, IsUtf8}
 use Rattle.rl_tokens.specs.declared.kind.Kind.{Kind}
@@ -125,6 +126,7 @@ segments_of kind t rest body u is q = subst (λ z. IsSegmentsOf kind (chars t) (
   units_are = λ units are.
       let lo : body.hi - length (body_in t body) ≡ body.lo = omega (arith, body_long t body q.stands) in
       are_units q.form kind (chars t) q.value (chars (body_in t body)) (chars (suffix_in t body)) body.plain (body.hi - length (body_in t body)) q.parts q.plain_is (lo ∙ q.lo_is) units are;
+  within = omega (arith, body_long t body q.stands, q.stands.ends.0, ap length (encodes-chars t u));
 })
 
 -- ---- places in the whole literal

@@ -24,8 +24,8 @@ abbrev pub is_itself : QuotedUnit → Bool
 is_itself (Plain c) = true
 is_itself _ = false
 
--- Where in a unit begins, and where ends, what gives the byte at this place of what it stands for: of
--- a character that stands for itself the byte itself, else the whole unit.
+-- Where in a unit what gives the byte at this place of what it stands for begins, and where it ends:
+-- of a character that stands for itself the byte itself gives it, else the whole unit.
 abbrev pub begins_in : QuotedUnit → ℕ → ℕ
 begins_in unit at = if is_itself unit then at else 0
 
@@ -51,7 +51,8 @@ AreUnitsOf kind text units lo =
     ⊎ ((value : List ℕ) × (suffix : List ℕ) × (s : Single kind text value suffix)
     × (units ≡ s.unit ∷ []) × (lo ≡ length (opener kind)))
 
--- The place in the text, of the byte at this place of the literal's contents.
+-- The place in the text that `inside` says of a unit, for the byte at this place of the literal's
+-- contents.
 pub record IsGivenAt (inside : QuotedUnit → ℕ → ℕ) (kind : Kind) (text : List ℕ) (at place : ℕ) : Type 0 where
   pub units : List QuotedUnit
   pub lo : ℕ
@@ -165,7 +166,8 @@ abbrev pub GivesSegment : SegmentsState → Option Segment → SegmentsState →
 GivesSegment old segment new =
     MatchOption segment ((old.rest ≡ []) × (new ≡ old)) (λ s. TakesSegment old s new)
 
--- The place in the literal's text, of the byte at this place of what is left.
+-- The place in the literal's text that `inside` says of a unit, for the byte at this place of what is
+-- left.
 pub record IsLeftAt (inside : QuotedUnit → ℕ → ℕ) (s : SegmentsState) (at place : ℕ) : Type 0 where
   pub units : List QuotedUnit
   pub are_left : AreLeft s units
@@ -198,11 +200,13 @@ pub record IsPastLeft (s : SegmentsState) (at : ℕ) : Type 0 where
   pub past : length (units_bytes s.kind units) ≤ at
   pub long : byte_len (texts units) ≡ length s.rest
 
--- The cursor stands before the first segment of this literal: the units that are left are the literal's.
+-- The cursor stands before the first segment of this literal: the units that are left are the
+-- literal's, and the closing quote stands in its text.
 pub record IsSegmentsOf (kind : Kind) (text : List ℕ) (s : SegmentsState) : Type 0 where
   pub kind_is : s.kind ≡ kind
   pub has : HasUnits s
   pub units_are : (units : List QuotedUnit) → AreLeft s units → AreUnitsOf kind text units s.at
+  pub within : s.at + length s.rest ≤ byte_len text
 
 -- the bytes of a text that stands in a file from the span's first byte on
 abbrev pub span_from : Span → ℕ → ℕ → Span
