@@ -2,7 +2,6 @@
 use Rattle.std.proofs.Common.{◌≡◌, ◌⊎◌, inl, inr, ℕ, ◌+◌, ◌-◌, ◌≤◌, Bool, true, false, List, [], ◌∷◌, ◌++◌, length, take, drop, map, Some, None, refl, sym, ap, subst, ◌∙◌, arith, append-nil, length-drop}
 use Rattle.std.proofs.lemmas.Bool.{both_ways}
 use Rattle.std.proofs.lemmas.List.{length-take-le}
-use Rattle.std.proofs.lemmas.Str.{encodes-chars}
 use Rattle.std.specs.List.{AllByRecursion, list_all}
 use Rattle.std.specs.Str.{chars, IsUtf8}
 use Rattle.rl_tokens.specs.declared.kind.Kind.{Kind}
@@ -112,6 +111,10 @@ body_long t body s =
     let within : body.hi ≤ length t = s.ends.0 in
     omega (arith, s.ordered, within, length-take-le (body.hi - body.lo) (drop body.lo t) (omega (arith, within, s.ordered, length-drop body.lo t)))
 
+-- the closing quote is in the text
+pub ends_in_text : (t rest : List ℕ) (body : Body) → rest ≡ body_in t body → StandsIn t body → (body.hi - length rest) + length rest ≤ length t
+ends_in_text t rest body is s = omega (arith, ap length is, body_long t body s, s.ends.0)
+
 pub starts : (kind : Kind) (t rest : List ℕ) (body : Body) → IsUtf8 t → rest ≡ body_in t body → IsQuotedAt kind t body → IsSegmentsState kind body.plain body.hi rest
 starts kind t rest body u is q = subst (IsSegmentsState kind body.plain body.hi) (sym is) (record {
   room = omega (arith, body_long t body q.stands);
@@ -126,7 +129,6 @@ segments_of kind t rest body u is q = subst (λ z. IsSegmentsOf kind (chars t) (
   units_are = λ units are.
       let lo : body.hi - length (body_in t body) ≡ body.lo = omega (arith, body_long t body q.stands) in
       are_units q.form kind (chars t) q.value (chars (body_in t body)) (chars (suffix_in t body)) body.plain (body.hi - length (body_in t body)) q.parts q.plain_is (lo ∙ q.lo_is) units are;
-  within = omega (arith, body_long t body q.stands, q.stands.ends.0, ap length (encodes-chars t u));
 })
 
 -- ---- places in the whole literal

@@ -201,12 +201,11 @@ pub record IsPastLeft (s : SegmentsState) (at : ℕ) : Type 0 where
   pub long : byte_len (texts units) ≡ length s.rest
 
 -- The cursor stands before the first segment of this literal: the units that are left are the
--- literal's, and the closing quote stands in its text.
+-- literal's.
 pub record IsSegmentsOf (kind : Kind) (text : List ℕ) (s : SegmentsState) : Type 0 where
   pub kind_is : s.kind ≡ kind
   pub has : HasUnits s
   pub units_are : (units : List QuotedUnit) → AreLeft s units → AreUnitsOf kind text units s.at
-  pub within : s.at + length s.rest ≤ byte_len text
 
 -- the bytes of a text that stands in a file from the span's first byte on
 abbrev pub span_from : Span → ℕ → ℕ → Span

@@ -1,6 +1,6 @@
 //! The segments of quoted literals: what each piece of the text between the quotes stands for, and where it stands.
 
-ghost use Rattle.std.specs.Prelude.{◌≡◌, ◌≢◌, ◌<◌, ◌++◌, [], List, length, IfSome, IfNone, IsTrue, IsFalse};
+ghost use Rattle.std.specs.Prelude.{◌≡◌, ◌≢◌, ◌<◌, ◌≤◌, ◌+◌, ◌++◌, [], List, length, IfSome, IfNone, IsTrue, IsFalse};
 ghost use Rattle.std.specs.List.{list_all};
 ghost use Rattle.std.specs.Str.{chars};
 ghost use Rattle.rl_tokens.specs.Texts.{first_passes, IsTail};
@@ -60,18 +60,15 @@ pub struct Segment<'t> {
 /// ```
 /// use rl_grammar::{SegmentValue, Segments};
 ///
-/// pub fn count_escapes(text: &str) -> usize {
-///     let mut count = 0;
-///     if let Some(segments) = Segments::of(text) {
-///         for segment in segments {
-///             if !matches!(segment.value, SegmentValue::Text(_)) {
-///                 count += 1;
-///             }
+/// pub fn first_escape(text: &str) -> Option<usize> {
+///     for segment in Segments::of(text)? {
+///         if !matches!(segment.value, SegmentValue::Text(_)) {
+///             return Some(segment.lo);
 ///         }
 ///     }
-///     count
+///     None
 /// }
-/// // count_escapes("\"a\\x41\\n\"") == 2
+/// // first_escape("\"a\\x41\\n\"") == Some(2)
 /// ```
 #[derive(Drop)]
 pub struct Segments<'t> {
@@ -107,7 +104,8 @@ impl Body {
     #[inline(always)]
     pub fn segments_in<'t>(&self, kind: Kind, text: &'t str) -> Segments<'t>
         requires { IsQuotedAt kind text.now self.now }
-        ensures { IsSegmentsOf kind (chars text.now) result }
+        ensures segments { IsSegmentsOf kind (chars text.now) result }
+        ensures within { result.at + length result.rest ≤ length text.now }
     {
         Segments {
             kind,
@@ -232,6 +230,7 @@ impl<'t> Segments<'t> {
     /// The segments of a quoted literal: `None` where the text isn't one.
     pub fn of(text: &'t str) -> Option<Segments<'t>>
         ensures some { IfSome result (λ s. IsSegmentsOf s.kind (chars text.now) s) }
+        ensures within { IfSome result (λ s. s.at + length s.rest ≤ length text.now) }
         ensures none { IfNone result (HasNoQuoted (chars text.now)) }
     {
         let found = find(text)?;

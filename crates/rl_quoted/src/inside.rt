@@ -235,8 +235,9 @@ impl<A: Allocator> LitStr<A> {
     /// # Example
     ///
     /// ```
+    /// use rl_quoted::LitStr;
     /// use rl_tokens::{ByParse, Span, parse_all};
-    /// use rust_literals::{Lit, LitStr};
+    /// use rust_literals::Lit;
     /// use std::alloc::Global;
     ///
     /// pub fn literal_in_file(alloc: Global, text: &str) -> Option<Span> {

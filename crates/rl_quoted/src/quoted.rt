@@ -1,6 +1,6 @@
 //! What the five have in common: a token, its kind, and the places of its parts.
 
-ghost use Rattle.std.specs.Prelude.{◌≡◌, ◌≢◌, ◌↔◌, IsTrue, MatchBool, IfOk, IfErr, ◌==◌, ◌+◌, ◌++◌, ◌∷◌, [], length, OnOk, OnErr, Some, codes};
+ghost use Rattle.std.specs.Prelude.{◌≡◌, ◌≢◌, ◌↔◌, IsTrue, MatchBool, IfOk, IfErr, ◌==◌, ◌≤◌, ◌+◌, ◌++◌, ◌∷◌, [], length, OnOk, OnErr, Some, codes};
 ghost use Rattle.std.specs.Cmp.{partial_equiv_from_equiv, on_equiv};
 ghost use Rattle.std.specs.Cmp.Lexicographic.{pointwise, nat_list_eq_equiv};
 ghost use Rattle.std.specs.Cmp.Rules.{hashing};
@@ -132,7 +132,7 @@ impl<K: QuotedKind, A: Allocator> Quoted<K, A> {
     pub fn segments(&self) -> Segments<'_>
         requires { IsTrue (is_quoted K.KIND) }
         ensures segments { IsSegmentsOf K.KIND (chars self.now.text) result }
-        ensures text { IsUtf8 self.now.text }
+        ensures within { result.at + length result.rest ≤ length self.now.text }
     {
         self.body.segments_in(K::KIND, self.token.text())
     }

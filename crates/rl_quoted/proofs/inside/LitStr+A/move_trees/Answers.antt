@@ -1,6 +1,5 @@
 use Rattle.std.proofs.Common.{ap, arith, length, subst, sym}
 use Rattle.std.specs.Str.{chars}
-use Rattle.std.proofs.lemmas.Str.{encodes-chars}
 use Rattle.rl_tokens.specs.declared.span.Span.{Span}
 use Rattle.rl_grammar.specs.Segments.{IsSpanTable}
 use Rattle.rl_quoted.proofs.PlacedLemmas.{moved_by_table, moved_elsewhere}
@@ -12,7 +11,7 @@ returns-then-not-spans_text-clause-moved g c =
 
 pub spans-requires : goal.spans-requires
 spans-requires g c =
-    omega (arith, c.segments.ensures.segments.within, ap length (encodes-chars c.args.self.now.text c.segments.ensures.text), c.if-not-spans_text.ensures.long, ap (λ (s : Span). s.lo) c.span-span.ensures, ap (λ (s : Span). s.hi) c.span-span.ensures)
+    omega (arith, c.segments.ensures.within, c.if-not-spans_text.ensures.long, ap (λ (s : Span). s.lo) c.span-span.ensures, ap (λ (s : Span). s.hi) c.span-span.ensures)
 
 pub returns-in-Ok-clause-moved : goal.returns-in-Ok-clause-moved
 returns-in-Ok-clause-moved g c =
