@@ -22,14 +22,20 @@ pub(crate) fn segments(alloc: Global, text: &str, out: &mut Page) {
     }
 }
 
-/// Prints what a segment stands for.
+/// Prints what a segment stands for: of text how many bytes, of a character or a byte its number.
 fn tell_value(value: SegmentValue<'_>, out: &mut Page) {
     match value {
-        SegmentValue::Text(run) => out.say(run, "; "),
-        SegmentValue::Char(c) => out.debug(&c, "; "),
-        SegmentValue::Byte(byte) => out.show(&byte, "; "),
-        SegmentValue::Nothing => out.put("nothing; "),
+        SegmentValue::Text(run) => tell_number("T", run.len(), out),
+        SegmentValue::Char(c) => tell_number("C", c as usize, out),
+        SegmentValue::Byte(byte) => tell_number("B", byte as usize, out),
+        SegmentValue::Nothing => out.put("N "),
     }
+}
+
+/// Prints a letter and a number.
+fn tell_number(letter: &str, number: usize, out: &mut Page) {
+    out.put(letter);
+    out.show(&number, " ")
 }
 
 /// Prints the spans of a table of a text.
