@@ -48,6 +48,7 @@ bare_found c x small other u =
       value = c ∷ [];
       parts = parts;
       plain_is = refl;
+      lo_is = refl;
       stands = record {
         ordered = omega arith;
         begins = IsCharBoundary-after_ascii t 0 u (omega arith) (omega arith);

@@ -60,7 +60,7 @@ nothing_in_bytes kind = go (holds_characters kind)
     go true = refl
     go false = refl
 
-piece_in_bytes : (kind : Kind) (p : Piece) → IsPieceOf kind p → in_bytes kind (piece_value kind p) ≡ piece_bytes p
+pub piece_in_bytes : (kind : Kind) (p : Piece) → IsPieceOf kind p → in_bytes kind (piece_value kind p) ≡ piece_bytes p
 piece_in_bytes kind (Character c) h = held_in_bytes kind (c ∷ []) ∙ append-nil (encode_utf8 c)
 piece_in_bytes kind (Byte n) h = byte_in_bytes kind n h
 piece_in_bytes kind Nothing h = nothing_in_bytes kind

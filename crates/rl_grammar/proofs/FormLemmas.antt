@@ -1,5 +1,5 @@
 -- Which form and kind a text's front tells, and the one reading of a quoted literal.
-use Rattle.std.proofs.Common.{◌≡◌, ◌≢◌, ℕ, true, false, eqb, List, [], ◌∷◌, ◌++◌, Some, None, refl, sym, ap, subst, ◌∙◌, inl, inr, append_assoc, append-nil}
+use Rattle.std.proofs.Common.{◌≡◌, ◌≢◌, ℕ, true, false, eqb, List, [], ◌∷◌, ◌++◌, length, Some, None, refl, sym, ap, subst, ◌∙◌, inl, inr, append_assoc, append-nil}
 use Rattle.std.specs.List.{list_all}
 use Rattle.std.proofs.lemmas.Bool.{both_ways, cases_Bool, eqb-true}
 use Rattle.std.proofs.lemmas.List.{append_cancel_left, append_cancel_right}
@@ -11,7 +11,7 @@ use Rattle.rl_grammar.specs.declared.quoted_forms.QuotedForm.{QuotedForm}
 use Rattle.rl_grammar.specs.declared.quoted_forms.QuotedForm.TheVariants.{Cooked as CookedForm, Raw as RawForm, Single as SingleForm}
 use Rattle.rl_grammar.specs.Mirrors.UnitAt.{found, unit_at}
 use Rattle.rl_grammar.specs.Rows.{BeginsRow, RowEnds}
-use Rattle.rl_grammar.specs.Forms.{has_form, form_opener, PartsAre, HasNoParts, is_plain_body}
+use Rattle.rl_grammar.specs.Forms.{has_form, form_opener, front_len, PartsAre, HasNoParts, is_plain_body}
 use Rattle.rl_grammar.specs.Mirrors.OpenerAt.{found_opener, string_opener_at, byte_opener_at, opener_at}
 use Rattle.rl_grammar.specs.Shapes.{HasNoQuoted}
 use Rattle.rl_grammar.proofs.UnitLemmas.{some_pair, unit_sound, unit_complete, unit_quote}
@@ -214,13 +214,14 @@ formed t k v x r =
 pub record HasParts (kind : Kind) (t value body suffix : List ℕ) : Type 0 where
   pub form : QuotedForm
   pub parts : PartsAre form kind t value body suffix
+  pub front : front_len form kind t value body suffix parts ≡ length (opener kind)
   pub single : is_single kind ≡ true → (b : List ℕ) → is_plain_body form kind b ≡ false
 
 pub cooked_has : (kind : Kind) (t v x : List ℕ) (c : Cooked kind t v x) → is_single kind ≡ false → HasParts kind t v (texts c.units) x
-cooked_has kind t v x c other = record { form = CookedForm; parts = (c, refl); single = λ s b. absurd (both_ways (is_single kind) other s) }
+cooked_has kind t v x c other = record { form = CookedForm; parts = (c, refl); front = refl; single = λ s b. absurd (both_ways (is_single kind) other s) }
 
 pub single_has : (kind : Kind) (t v x : List ℕ) (s : Single kind t v x) → HasParts kind t v (unit_text s.unit) x
-single_has kind t v x s = record { form = SingleForm; parts = (s, refl); single = λ h b. refl }
+single_has kind t v x s = record { form = SingleForm; parts = (s, refl); front = refl; single = λ h b. refl }
 
 -- the front tells the reading's form and kind
 formed_front : (t : List ℕ) (k : Kind) (v x : List ℕ) (r : Formed t k v x) → opener_at t ≡ found_opener r.form k r.inside

@@ -19,7 +19,7 @@ use Rattle.rl_grammar.specs.declared.quoted_forms.QuotedForm.TheVariants.{Cooked
 use Rattle.rl_grammar.specs.declared.found.Body.{Body}
 use Rattle.rl_grammar.specs.declared.found.Found.{Found}
 use Rattle.rl_grammar.specs.Bodies.{IsUnitValue}
-use Rattle.rl_grammar.specs.Forms.{PartsAre, form_opener, is_plain_body}
+use Rattle.rl_grammar.specs.Forms.{PartsAre, form_opener, front_len, is_plain_body}
 use Rattle.rl_grammar.specs.Mirrors.OpenerAt.{found_opener, opener_at}
 use Rattle.rl_grammar.specs.Founds.{IsFound, IsFoundFloat, IsQuotedAt, StandsIn, body_in, suffix_in, is_quoted}
 use Rattle.rl_grammar.specs.NumberShapes.{HasMagnitude, IsSplitInteger}
@@ -27,7 +27,7 @@ use Rattle.rl_grammar.specs.Mirrors.PlainAt.{is_plain_integer, is_plain_float}
 use Rattle.rl_grammar.specs.Shapes.{IsQuotedSplit}
 use Rattle.rl_grammar.specs.WholeShapes.{IsSplit, IsPlain}
 use Rattle.rl_grammar.proofs.BodyLemmas.{plain_parts, parts_plain}
-use Rattle.rl_grammar.proofs.FormLemmas.{not_both, parts_at_front, parts_read}
+use Rattle.rl_grammar.proofs.FormLemmas.{front_sound, not_both, parts_read}
 use Rattle.rl_grammar.proofs.IntegerLemmas.{within_reads}
 use Rattle.rl_grammar.proofs.PlainNumberLemmas.{whether_integer, whether_float}
 use Rattle.rl_grammar.proofs.ShapeLemmas.{parts_cut}
@@ -121,11 +121,13 @@ quoted_found t kind body n found u q h is =
     })
 
 -- from the parts of the literal after its opener
-abbrev pub form_at : (form : QuotedForm) (kind : Kind) (t inside v suffix : List ℕ) (body : Body) → opener_at (chars t) ≡ found_opener form kind (chars inside) → PartsAre form kind (form_opener form kind ++ chars inside) v (chars (body_in t body)) (chars suffix) → suffix_in t body ≡ suffix → StandsIn t body → body.plain ≡ is_plain_body form kind (chars (body_in t body)) → IsQuotedAt kind t body
-form_at form kind t inside v suffix body front parts suffix_is stands plain =
+abbrev pub form_at : (form : QuotedForm) (kind : Kind) (t inside v suffix : List ℕ) (body : Body) → opener_at (chars t) ≡ found_opener form kind (chars inside) → (parts : PartsAre form kind (form_opener form kind ++ chars inside) v (chars (body_in t body)) (chars suffix)) → suffix_in t body ≡ suffix → StandsIn t body → body.plain ≡ is_plain_body form kind (chars (body_in t body)) → body.lo ≡ front_len form kind (form_opener form kind ++ chars inside) v (chars (body_in t body)) (chars suffix) parts → IsQuotedAt kind t body
+form_at form kind t inside v suffix body front parts suffix_is stands plain lo =
     let b = chars (body_in t body) in
-    let whole = parts_at_front (chars t) form kind (chars inside) v b (chars suffix) front parts in
-    record { form = form; value = v; parts = subst (λ x. PartsAre form kind (chars t) v b (chars x)) (sym suffix_is) whole; plain_is = plain; stands = stands }
+    let At : List ℕ → List ℕ → Type 0 = λ z x. (p : PartsAre form kind z v b (chars x)) × (body.lo ≡ front_len form kind z v b (chars x) p) in
+    let whole = subst (λ z. At z suffix) (sym (front_sound (chars t) (form, kind, chars inside) front).text_is) (parts, lo) in
+    let placed = subst (At (chars t)) (sym suffix_is) whole in
+    record { form = form; value = v; parts = placed.0; plain_is = plain; lo_is = placed.1; stands = stands }
 
 -- what is found is a reading of its kind
 pub found_reads : (t : List ℕ) (f : Found) → IsFound t f → ReadsAs f.kind (chars t)

@@ -29,6 +29,7 @@ pub mod WordFlawLemmas
 pub mod RowLemmas
 pub mod RawLemmas
 pub mod FormLemmas
+pub mod FrontLenLemmas
 pub mod ShapeLemmas
 pub mod CutLemmas
 pub mod ContentLemmas
@@ -59,3 +60,6 @@ pub mod OneNumberFlaw
 pub mod OneFlawLemmas
 pub mod NextLiteralLemmas
 pub mod SourceLiteralLemmas
+pub mod SegmentLemmas
+pub mod SegmentStarts
+pub mod SegmentLawLemmas

@@ -1,8 +1,8 @@
 -- Raw strings: their hashes, their last quote, and their one reading.
-use Rattle.std.proofs.Common.{◌≡◌, ◌≢◌, ℕ, zero, suc, Bool, true, false, not, eqb, List, [], ◌∷◌, ◌++◌, replicate, refl, sym, ap, subst, ◌∙◌}
+use Rattle.std.proofs.Common.{◌≡◌, ◌≢◌, ℕ, zero, suc, Bool, true, false, not, eqb, List, [], ◌∷◌, ◌++◌, length, replicate, refl, sym, ap, subst, ◌∙◌}
 use Rattle.std.specs.List.{list_all}
 use Rattle.std.proofs.lemmas.Bool.{both_ways, and_parts}
-use Rattle.std.proofs.lemmas.List.{append_cancel_left, append_cancel_right}
+use Rattle.std.proofs.lemmas.List.{append_cancel_left, append_cancel_right, length-replicate}
 use Rattle.std.proofs.lemmas.List.Folds.{list_all-append}
 use Rattle.rl_tokens.specs.declared.kind.Kind.{Kind}
 use Rattle.rl_tokens.specs.declared.kind.Kind.TheVariants.{Str, ByteStr, CStr, Byte, Char, Int, Float, Bool as BoolKind}
@@ -83,6 +83,17 @@ raw_once kind t v x w y r s =
       append_cancel_left (replicate s.hashes 35) x y (ap (λ z. z ++ x) (sym b.0 ∙ a.0) ∙ parts.1),
     )
 
+-- with the same hashes and the same inside
+pub raw_same : (kind : Kind) (t v x w y : List ℕ) (r : Raw kind t v x) (s : Raw kind t w y) → (r.hashes ≡ s.hashes) × (r.inside ≡ s.inside)
+raw_same kind t v x w y r s =
+    let front : List ℕ = replicate r.hashes 35 ++ (34 ∷ inner r.hashes r.inside x) in
+    let a = raw_front kind front v x (replicate (hash_count front) 35) (record { hashes = r.hashes; inside = r.inside; string = r.string; each = r.each; no_quote = r.no_quote; text_is = refl; value_is = r.value_is }) (hashes_first front) in
+    let b = raw_front kind front w y (replicate (hash_count front) 35) (record { hashes = s.hashes; inside = s.inside; string = s.string; each = s.each; no_quote = s.no_quote; text_is = sym r.text_is ∙ s.text_is; value_is = s.value_is }) (hashes_first front) in
+    let both : 34 ∷ inner r.hashes r.inside x ≡ 34 ∷ inner s.hashes s.inside y = sym a.1 ∙ b.1 in
+    let insides : inner r.hashes r.inside x ≡ inner s.hashes s.inside y = cc in
+    let parts = raw_inner s.hashes s.inside y r.inside (replicate r.hashes 35 ++ x) s.no_quote (hashes_no_quote r.hashes x ∙ r.no_quote) insides in
+    (sym (length-replicate r.hashes 35) ∙ ap length (sym a.0 ∙ b.0) ∙ length-replicate s.hashes 35, parts.0)
+
 -- ---- the steps of the reader
 
 -- no quote stands after the hashes
@@ -93,7 +104,7 @@ raw_unopened kind t rest e h v b x p =
 -- `hashes` stand at the front of `t`, and `rest` after them
 
 module _ (kind : Kind) (t hashes rest : List ℕ) (rest_is : rest ≡ (after_run is_hash) t) (text_is : t ≡ hashes ++ rest) where
-  opens : (v x : List ℕ) (r : Raw kind (raw_opener kind ++ t) v x) → (hashes ≡ replicate r.hashes 35) × (rest ≡ 34 ∷ inner r.hashes r.inside x)
+  pub opens : (v x : List ℕ) (r : Raw kind (raw_opener kind ++ t) v x) → (hashes ≡ replicate r.hashes 35) × (rest ≡ 34 ∷ inner r.hashes r.inside x)
   opens v x r =
       let f = raw_front kind t v x hashes r (text_is ∙ ap (λ z. hashes ++ z) rest_is) in
       (f.0, rest_is ∙ f.1)

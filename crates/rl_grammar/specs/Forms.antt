@@ -1,5 +1,5 @@
 -- The forms of quoted literals: which one a text's front tells, and their parts.
-use Rattle.std.specs.Prelude.{◌≡◌, ℕ, Bool, true, false, List}
+use Rattle.std.specs.Prelude.{◌≡◌, ℕ, ◌+◌, Bool, true, false, List, length}
 use Rattle.std.specs.List.{list_all}
 use Rattle.rl_tokens.specs.declared.kind.Kind.{Kind}
 use Rattle.rl_tokens.specs.Quoted.{Cooked, Raw, Single, is_string, is_single, is_plain, opener, raw_opener, texts, unit_text}
@@ -25,6 +25,14 @@ PartsAre CookedForm kind text value body suffix =
 PartsAre RawForm kind text value body suffix = (r : Raw kind text value suffix) × (body ≡ r.inside)
 PartsAre SingleForm kind text value body suffix =
     (s : Single kind text value suffix) × (body ≡ unit_text s.unit)
+
+-- how many bytes stand before the body
+abbrev pub front_len : (form : QuotedForm) (kind : Kind) (text value body suffix : List ℕ)
+    → PartsAre form kind text value body suffix → ℕ
+front_len CookedForm kind text value body suffix parts = length (opener kind)
+front_len RawForm kind text value body suffix parts =
+    length (raw_opener kind) + parts.0.hashes + 1
+front_len SingleForm kind text value body suffix parts = length (opener kind)
 
 -- the body is taken as it stands: of a raw string, and of a cooked one with neither escapes nor
 -- line ends of two characters

@@ -11,7 +11,7 @@ use Rattle.rl_tokens.specs.Reading.{HasContents, HasSuffix, quoted_contents, tru
 use Rattle.rl_grammar.specs.declared.quoted_forms.QuotedForm.{QuotedForm}
 use Rattle.rl_grammar.specs.declared.found.Body.{Body}
 use Rattle.rl_grammar.specs.declared.found.Found.{Found}
-use Rattle.rl_grammar.specs.Forms.{PartsAre, is_plain_body}
+use Rattle.rl_grammar.specs.Forms.{PartsAre, front_len, is_plain_body}
 use Rattle.rl_grammar.specs.NumberShapes.{HasMagnitude}
 use Rattle.rl_grammar.specs.WholeShapes.{IsSplit, IsPlain}
 
@@ -41,6 +41,9 @@ pub record IsQuotedAt (kind : Kind) (text : List ℕ) (body : Body) : Type 0 whe
       PartsAre form kind (chars text) value (chars (body_in text body))
       (chars (suffix_in text body))
   pub plain_is : body.plain ≡ is_plain_body form kind (chars (body_in text body))
+  pub lo_is :
+      body.lo ≡ front_len form kind (chars text) value (chars (body_in text body))
+      (chars (suffix_in text body)) parts
   pub stands : StandsIn text body
 
 -- The number is the one character or byte that the text stands for, as a literal of the kind.

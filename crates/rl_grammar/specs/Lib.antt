@@ -15,6 +15,8 @@ pub mod StrictBytes
 pub mod FrontTokens
 pub mod Bodies
 pub mod Founds
+pub mod Segments
+pub mod SegmentLaws
 pub mod Fronts
 pub mod NextLiterals
 pub mod SourceLiterals

@@ -13,7 +13,9 @@ mod number_flaws;
 mod number_forms;
 mod quoted_flaws;
 mod quoted_forms;
+mod segments;
 mod source_literals;
+mod span_table;
 pub mod strict;
 mod units;
 
@@ -31,5 +33,6 @@ pub use crate::next_literals::{
     ListStep, NextLiteral, Rejection, RejectionKind, list_step, next_literal,
 };
 pub use crate::number_forms::{float_shape, int_shape, shape_negative};
+pub use crate::segments::{Segment, SegmentValue, Segments, place_of};
 pub use crate::source_literals::{SourceStep, source_step};
 pub use rl_tokens::Kind;

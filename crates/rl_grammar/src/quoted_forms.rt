@@ -1,6 +1,6 @@
 //! Whether a text is a quoted literal, and where the parts of one stand.
 
-ghost use Rattle.std.specs.Prelude.{◌≡◌, ◌≢◌, ◌==◌, ◌∷◌, ◌++◌, ℕ, List, None, option_map, IfSome, IfNone, IsTrue, ◌≤◌, ◌<◌, length, not, slice_index, false};
+ghost use Rattle.std.specs.Prelude.{◌≡◌, ◌≢◌, ◌==◌, ◌∷◌, ◌++◌, ◌+◌, ℕ, List, None, option_map, IfSome, IfNone, IsTrue, ◌≤◌, ◌<◌, length, not, slice_index, false};
 ghost use Rattle.std.specs.List.{list_all};
 ghost use Rattle.std.specs.Str.{chars};
 ghost use Rattle.rl_tokens.specs.Texts.{IsTail};
@@ -152,6 +152,7 @@ fn places(text: &str, opened: &str, closer: &str, suffix: &str, plain: bool) -> 
     ensures body { chars opened.now ≡ chars (body_in text.now result) ++ chars closer.now }
     ensures suffix { suffix_in text.now result ≡ suffix.now }
     ensures plain { result.plain ≡ plain }
+    ensures lo { result.lo + length opened.now ≡ length text.now }
 {
     Body {
         lo: text.len() - opened.len(),

@@ -1,5 +1,5 @@
 -- Parsing inside a literal, and a literal with nothing after its closing quote.
-use Rattle.std.proofs.Common.{◌≡◌, ◌≢◌, ◌⊎◌, inl, inr, ◌==◌, ℕ, true, List, [], length, subst, ap, ◌∙◌, arith}
+use Rattle.std.proofs.Common.{◌≡◌, ◌≢◌, ◌⊎◌, inl, inr, ◌==◌, ℕ, true, List, [], ◌∷◌, length, refl, subst, ap, ◌∙◌, arith}
 use Rattle.std.specs.Prelude.{Result, Ok, Err}
 use Rattle.std.proofs.lemmas.Bool.Decides.{nat_tests}
 use Rattle.std.proofs.lemmas.List.{nil_from_length}
@@ -16,9 +16,11 @@ use Rattle.rl_tokens.specs.Texts.{SpannedText}
 use Rattle.rl_tokens.specs.Trees.{Tree}
 use Rattle.rl_tokens.specs.Reading.{Characters, HasContents, HasSuffix}
 use Rattle.rl_tokens.specs.Whole.{RejectsLexing, place_at}
-use Rattle.rl_tokens.specs.Lexing.{Rejects}
+use Rattle.rl_tokens.specs.Lexing.{Lexes, Rejects}
+use Rattle.rl_tokens.specs.Buffers.{first_span}
 use Rattle.rl_tokens.proofs.TreeRests.{run_moved}
-use Rattle.rl_quoted.specs.Inside.{AreInside, RejectsLexingInside, RunsInside, RejectsInside}
+use Rattle.rl_quoted.specs.declared.inside.Placing.{Placing}
+use Rattle.rl_quoted.specs.Inside.{AreInside, AreMoved, IsLeftoverAt, IsReportedAt, RejectsLexingInside, RejectsParse, Runs}
 
 -- no suffix stands where no bytes do
 pub empty_suffix : (text suffix : List ℕ) → (length suffix == 0) ≡ true → HasSuffix Str text (chars suffix) → HasSuffix Str text []
@@ -27,25 +29,29 @@ empty_suffix text suffix e h =
     subst (λ x. HasSuffix Str text x) (ap chars (nil_from_length suffix z) ∙ chars-nil) h
 
 -- what a parser did on a buffer of the trees inside, with the literal's span as its scope
-pub ran_inside : {T E : Type 0} (runs : List Tree → Span → Result T E → List Tree → Type 0) (token : SpannedText) (buffer trees left rest : List Tree) (scope : Span) (r : Result T E) → AreInside token trees → buffer ≡ trees → scope ≡ token.span → left ≡ rest → runs buffer scope r left → RunsInside runs token r rest
-ran_inside runs token buffer trees left rest scope r inside same place ends ran = record {
+pub ran_inside : {T E : Type 0} (placing : Placing) (runs : List Tree → Span → Result T E → List Tree → Type 0) (token : SpannedText) (buffer trees left rest : List Tree) (scope : Span) (r : Result T E) → AreInside placing token trees → buffer ≡ trees → scope ≡ token.span → left ≡ rest → runs buffer scope r left → Runs placing runs token r rest
+ran_inside placing runs token buffer trees left rest scope r inside same place ends ran = record {
   trees = trees;
   inside = inside;
   ran = run_moved runs buffer trees scope token.span r left rest same place ends ran;
 }
 
 -- why nothing is parsed
-pub refuses_trees : {T A : Type 0} (runs : List Tree → Span → Result T (Error A) → List Tree → Type 0) (token : SpannedText) (e : Error A) → RejectsLexingInside token e ⊎ (e ≡ memory_at token.span) → RejectsInside runs token e
-refuses_trees runs token e (inl lexing) = inl lexing
-refuses_trees runs token e (inr memory) = inr (inr (inr (inr memory)))
+pub refuses_trees : {T A : Type 0} (placing : Placing) (runs : List Tree → Span → Result T (Error A) → List Tree → Type 0) (token : SpannedText) (e : Error A) → RejectsLexingInside placing token e ⊎ (e ≡ memory_at token.span) → RejectsParse placing runs token e
+refuses_trees placing runs token e (inl lexing) = inl lexing
+refuses_trees placing runs token e (inr memory) = inr (inr (inr (inr memory)))
 
-pub refuses_parser : {T A : Type 0} (runs : List Tree → Span → Result T (Error A) → List Tree → Type 0) (token : SpannedText) (e : Error A) (rest : List Tree) → RunsInside runs token (Err e) rest → RejectsInside runs token e
-refuses_parser runs token e rest ran = inr (inl (record { rest = rest; ran = ran }))
+pub refuses_parser : {T A : Type 0} (placing : Placing) (runs : List Tree → Span → Result T (Error A) → List Tree → Type 0) (token : SpannedText) (e : Error A) (rest : List Tree) → Runs placing runs token (Err e) rest → RejectsParse placing runs token e
+refuses_parser placing runs token e rest ran = inr (inl (record { rest = rest; ran = ran }))
 
-pub refuses_left : {T A : Type 0} (runs : List Tree → Span → Result T (Error A) → List Tree → Type 0) (token : SpannedText) (value : T) (rest : List Tree) (at : Span) → RunsInside runs token (Ok value) rest → rest ≢ [] → at ≡ token.span → RejectsInside runs token (record { span = at; kind = Unexpected })
-refuses_left {A = A} runs token value rest at ran some place =
-    let rejection : Span → Error A = λ s. record { span = s; kind = Unexpected } in
-    inr (inr (inl (record { value = value; rest = rest; ran = ran; some = some; error = ap rejection place })))
+pub refuses_left : {T A : Type 0} (placing : Placing) (runs : List Tree → Span → Result T (Error A) → List Tree → Type 0) (token : SpannedText) (value : T) (rest : List Tree) (at : Span) → Runs placing runs token (Ok value) rest → rest ≢ [] → IsLeftoverAt placing token rest at → RejectsParse placing runs token (record { span = at; kind = Unexpected })
+refuses_left placing runs token value rest at ran some reported =
+    inr (inr (inl (record { value = value; rest = rest; ran = ran; some = some; place = at; reported = reported; error = refl })))
+
+-- the first tree's span, whatever the scope
+pub first_of_some : (rest : List Tree) (scope other : Span) → rest ≢ [] → first_span rest scope ≡ first_span rest other
+first_of_some [] scope other some = absurd (some refl)
+first_of_some (t ∷ ts) scope other some = refl
 
 -- the lexer's error at the literal's span, made of one at a place inside it
 pub moved_refusal : {A : Type 0} (kind : LexKind) (place : Span) (at : Span) (e : Error A) → e ≡ lex_rejection kind place → record { span = at; kind = e.kind } ≡ lex_rejection kind at
@@ -60,13 +66,38 @@ moved_refusal UnclosedGroup place at e q = ap (λ x. record { span = at; kind = 
 moved_refusal TooDeep place at e q = ap (λ x. record { span = at; kind = x.kind }) q
 moved_refusal LexMemory place at e q = ap (λ x. record { span = at; kind = x.kind }) q
 
--- the lexer's error in the text that the literal stands for, reported at the literal
-pub refuses_lexing : {A : Type 0} (token : SpannedText) (value text : List ℕ) (file : ℕ) (at : Span) (e : Error A) → HasContents Str (chars token.text) (Characters value) → chars text ≡ value → file ≡ token.span.file → at ≡ token.span → RejectsLexing (chars text) file e → RejectsLexingInside token (record { span = at; kind = e.kind })
-refuses_lexing token value text file at e contents same where_from place lexing = record {
+-- the lexer's error stands at its place
+rejection_span : {A : Type 0} (kind : LexKind) (place : Span) (e : Error A) → e ≡ lex_rejection kind place → e.span ≡ place
+rejection_span DocComment place e q = ap (λ x. x.span) q
+rejection_span UnclosedComment place e q = ap (λ x. x.span) q
+rejection_span UnclosedQuote place e q = ap (λ x. x.span) q
+rejection_span Lifetime place e q = ap (λ x. x.span) q
+rejection_span RawIdentifier place e q = ap (λ x. x.span) q
+rejection_span StrayCharacter place e q = ap (λ x. x.span) q
+rejection_span UnmatchedClose place e q = ap (λ x. x.span) q
+rejection_span UnclosedGroup place e q = ap (λ x. x.span) q
+rejection_span TooDeep place e q = ap (λ x. x.span) q
+rejection_span LexMemory place e q = ap (λ x. x.span) q
+
+-- the lexer's error in the text that the literal stands for, where it is reported
+pub refuses_lexing : {A : Type 0} (placing : Placing) (token : SpannedText) (value text : List ℕ) (file : ℕ) (at : Span) (e : Error A) → HasContents Str (chars token.text) (Characters value) → chars text ≡ value → file ≡ token.span.file → IsReportedAt placing token e.span at → RejectsLexing (chars text) file e → RejectsLexingInside placing token (record { span = at; kind = e.kind })
+refuses_lexing placing token value text file at e contents same where_from reported lexing = record {
   value = value;
   contents = contents;
   kind = lexing.kind;
   at = lexing.at;
   rejected = subst (λ t. Rejects t lexing.kind lexing.at) same lexing.rejected;
-  error = moved_refusal lexing.kind (place_at file lexing.at) at e lexing.error ∙ ap (lex_rejection lexing.kind) place;
+  place = at;
+  reported = subst (λ s. IsReportedAt placing token s at) (rejection_span lexing.kind (place_at file lexing.at) e lexing.error ∙ ap (λ f. place_at f lexing.at) where_from) reported;
+  error = moved_refusal lexing.kind (place_at file lexing.at) at e lexing.error;
+}
+
+-- the trees of the text that the literal stands for, where they are reported
+pub are_inside : (placing : Placing) (token : SpannedText) (value text : List ℕ) (file : ℕ) (cut trees : List Tree) → HasContents Str (chars token.text) (Characters value) → chars text ≡ value → file ≡ token.span.file → Lexes (chars text) file cut → AreMoved (IsReportedAt placing token) cut trees → AreInside placing token trees
+are_inside placing token value text file cut trees contents same where_from lexes moved = record {
+  value = value;
+  contents = contents;
+  cut = cut;
+  lexes = subst (λ f. Lexes value f cut) where_from (subst (λ v. Lexes v file cut) same lexes);
+  moved = moved;
 }

@@ -1,3 +1,4 @@
 pub mod PlaceLemmas
 pub mod WrittenLemmas
 pub mod InsideLemmas
+pub mod PlacedLemmas

@@ -15,7 +15,7 @@ use Rattle.rl_tokens.proofs.CutTrees.{scalars_parts}
 use Rattle.rl_grammar.specs.declared.found.Body.{Body}
 use Rattle.rl_grammar.specs.Decoded.{in_bytes}
 use Rattle.rl_grammar.specs.Founds.{IsQuotedAt, StandsIn, body_in, suffix_in, is_quoted}
-use Rattle.rl_grammar.specs.Forms.{PartsAre, is_plain_body}
+use Rattle.rl_grammar.specs.Forms.{PartsAre, front_len, is_plain_body}
 use Rattle.rl_grammar.proofs.BodyLemmas.{openers_differ, cooked_other, cooked_shortens}
 use Rattle.rl_grammar.proofs.ContentLemmas.{plain_bytes}
 use Rattle.rl_grammar.proofs.FormLemmas.{HasParts, cooked_has, single_has}
@@ -204,10 +204,11 @@ written_at kind t bytes body u q w at end_at suffix_at whole =
     let f = e.has in
     let inside = body_in t body in
     let following = suffix_in t body in
-    let parts : PartsAre f.form kind (chars t) w.value (chars inside) (chars following) =
-    subst (λ z. PartsAre f.form kind (chars t) w.value z (chars following)) (sym b.body_is) (subst (λ z. PartsAre f.form kind (chars t) w.value e.inside z) (sym b.suffix_is) f.parts) in
+    let At : List ℕ → List ℕ → Type 0 = λ y x. (p : PartsAre f.form kind (chars t) w.value y x) × (body.lo ≡ front_len f.form kind (chars t) w.value y x p) in
+    let placed : At (chars inside) (chars following) = subst (λ z. At z (chars following)) (sym b.body_is) (subst (At e.inside) (sym b.suffix_is) (f.parts, at ∙ sym f.front)) in
+    let parts = placed.0 in
     let told : body.plain ≡ is_plain_body f.form kind (chars inside) = go e parts (body_text t body u b.stands) (is_string kind) refl in
-    let quoted : IsQuotedAt kind t body = record { form = f.form; value = w.value; parts = parts; plain_is = told; stands = b.stands } in
+    let quoted : IsQuotedAt kind t body = record { form = f.form; value = w.value; parts = parts; plain_is = told; lo_is = placed.1; stands = b.stands } in
     let all = quoted_whole t kind body u quoted in
     record { reads = all.reads; stands = quoted.stands; plain = all.plain; quoted = λ h. quoted }
   where

@@ -1,5 +1,5 @@
 -- What the quoted structs hold beside their token: the places of its parts.
-use Rattle.std.specs.Prelude.{◌≡◌, ◌↔◌, ℕ, List, IsTrue}
+use Rattle.std.specs.Prelude.{◌≡◌, ◌≢◌, ◌+◌, ◌-◌, ◌<◌, ◌≤◌, ◌↔◌, ℕ, List, length, IsTrue}
 use Rattle.std.specs.Str.{chars}
 use Rattle.rl_tokens.specs.declared.kind.Kind.{Kind}
 use Rattle.rl_tokens.specs.Reading.{HasSuffix}
@@ -7,7 +7,10 @@ use Rattle.rl_tokens.specs.Written.{IsWrittenForm}
 use Rattle.rl_grammar.specs.declared.found.Body.{Body}
 use Rattle.rl_grammar.specs.Decoded.{in_bytes}
 use Rattle.rl_grammar.specs.Founds.{IsQuotedAt, StandsIn, is_quoted, suffix_in}
+use Rattle.rl_grammar.specs.Segments.{IsEndOf, IsPlaceOf, span_from}
 use Rattle.rl_grammar.specs.WholeShapes.{IsPlain}
+use Rattle.rl_tokens.specs.declared.span.Span.{Span}
+use Rattle.rl_tokens.specs.Texts.{SpannedText}
 
 -- The text, in bytes, is a literal of the kind whose parts stand at these places, and it is reported
 -- whether it is plain.
@@ -22,3 +25,19 @@ pub record IsWrittenAs (kind : Kind) (bytes text : List ℕ) : Type 0 where
   pub value : List ℕ
   pub written : IsWrittenForm kind value text
   pub bytes_are : bytes ≡ in_bytes kind value
+
+-- The bytes of the contents from `lo` up to `hi` come from the bytes of the text from `first` up to
+-- `last`: from where what gives the first begins to where what gives the last ends. Of no bytes, both
+-- are where what gives the next begins.
+pub record IsRangeOf (kind : Kind) (text : List ℕ) (lo hi first last : ℕ) : Type 0 where
+  pub begins : IsPlaceOf kind text lo first
+  pub some : lo < hi → IsEndOf kind text (hi - 1) last
+  pub none : hi ≤ lo → last ≡ first
+
+-- The span is that of the bytes of the contents from `lo` up to `hi`: where the literal's span is as
+-- long as its text, the bytes of the file that they come from; else the literal's span.
+pub record IsSpanOf (kind : Kind) (token : SpannedText) (lo hi : ℕ) (span : Span) : Type 0 where
+  pub placed : token.span.lo + length token.text ≡ token.span.hi
+      → (first : ℕ) × (last : ℕ) × IsRangeOf kind (chars token.text) lo hi first last
+      × (span ≡ span_from token.span first last)
+  pub other : token.span.lo + length token.text ≢ token.span.hi → span ≡ token.span

@@ -1,6 +1,6 @@
 //! What the five have in common: a token, its kind, and the places of its parts.
 
-ghost use Rattle.std.specs.Prelude.{◌≡◌, ◌≢◌, ◌↔◌, IsTrue, MatchBool, IfOk, IfErr, ◌==◌, ◌++◌, ◌∷◌, [], OnOk, OnErr, Some, codes};
+ghost use Rattle.std.specs.Prelude.{◌≡◌, ◌≢◌, ◌↔◌, IsTrue, MatchBool, IfOk, IfErr, ◌==◌, ◌≤◌, ◌+◌, ◌++◌, ◌∷◌, [], length, OnOk, OnErr, Some, codes};
 ghost use Rattle.std.specs.Cmp.{partial_equiv_from_equiv, on_equiv};
 ghost use Rattle.std.specs.Cmp.Lexicographic.{pointwise, nat_list_eq_equiv};
 ghost use Rattle.std.specs.Cmp.Rules.{hashing};
@@ -15,13 +15,14 @@ ghost use Rattle.rl_tokens.specs.Trees.{LiteralTree, stream_view};
 ghost use Rattle.rl_tokens.specs.Quoted.{is_single, is_string};
 ghost use Rattle.rl_grammar.specs.Bodies.{HasBody, HasSingleBody};
 ghost use Rattle.rl_grammar.specs.Founds.{IsFound, is_quoted};
+ghost use Rattle.rl_grammar.specs.Segments.{IsEndOf, IsPlaceOf, IsSegmentsOf};
 ghost use Rattle.rl_grammar.specs.WholeShapes.{IsPlain};
-ghost use Rattle.rl_quoted.specs.Places.{IsWrittenAs, StandsAt};
+ghost use Rattle.rl_quoted.specs.Places.{IsRangeOf, IsSpanOf, IsWrittenAs, StandsAt};
 ghost use Rattle.rl_quoted.specs.Suffixes.{HasSomeSuffix};
 ghost use Rattle.rl_tokens.specs.Words.{kind_name};
 
 use crate::written::written_body;
-use rl_grammar::{Body, Found, Kind, find, next_is, take_kind};
+use rl_grammar::{Body, Found, Kind, Segments, find, next_is, take_kind};
 use rl_tokens::{
     Error, Literal, Parse, ParseBuffer, Span, ToTokens, Token, TokenStream, append_literal,
 };
@@ -124,6 +125,97 @@ impl<K: QuotedKind, A: Allocator> Quoted<K, A> {
     {
         let body = self.body;
         &self.token.text()[body.lo..body.hi]
+    }
+
+    /// The segments of what stands between the quotes: each piece, where it stands in the token's text, and what it stands
+    /// for. No memory is taken.
+    pub fn segments(&self) -> Segments<'_>
+        requires { IsTrue (is_quoted K.KIND) }
+        ensures segments { IsSegmentsOf K.KIND (chars self.now.text) result }
+        ensures within { result.at + length result.rest ≤ length self.now.text }
+    {
+        self.body.segments_in(K::KIND, self.token.text())
+    }
+
+    /// Where in the token's text what gives this byte of the contents begins: where characters stand for themselves the
+    /// byte itself, else the escape; at the end of the contents, and past it, the closing quote's place. No memory is
+    /// taken.
+    ///
+    /// # Example
+    ///
+    /// ```
+    /// use rl_quoted::LitStr;
+    /// use rl_tokens::parse_all;
+    /// use std::alloc::Global;
+    ///
+    /// pub fn brace_in_file(alloc: Global, text: &str) -> Option<usize> {
+    ///     let literal = parse_all::<LitStr, Global>(alloc, text, 0).ok()?;
+    ///     let value = literal.value(alloc).ok()?;
+    ///     let at = value.as_str().find('{')?;
+    ///     Some(literal.span_of(at, at + 1).lo())
+    /// }
+    /// // brace_in_file(alloc, "  \"\\u{e4}\\n{x}\"") == Some(11)
+    /// ```
+    pub fn place_of(&self, at: usize) -> usize
+        requires { IsTrue (is_quoted K.KIND) }
+        ensures { IsPlaceOf K.KIND (chars self.now.text) at result }
+    {
+        self.segments().place_of(at)
+    }
+
+    /// Where that ends: after the byte itself, or after the escape. A continuation that follows is none of it.
+    pub fn end_of(&self, at: usize) -> usize
+        requires { IsTrue (is_quoted K.KIND) }
+        ensures { IsEndOf K.KIND (chars self.now.text) at result }
+    {
+        self.segments().end_of(at)
+    }
+
+    /// The bytes of the token's text that the bytes of the contents from `lo` up to `hi` come from.
+    fn range_of(&self, lo: usize, hi: usize) -> (usize, usize)
+        requires { IsTrue (is_quoted K.KIND) }
+        ensures { IsRangeOf K.KIND (chars self.now.text) lo hi result.0 result.1 }
+    {
+        let first = self.place_of(lo);
+        if lo < hi {
+            (first, self.end_of(hi - 1))
+        } else {
+            (first, first)
+        }
+    }
+
+    /// Where in its file the bytes of the contents from `lo` up to `hi` come from: from where what gives the first begins
+    /// ([`place_of`](Quoted::place_of)) to where what gives the last ends ([`end_of`](Quoted::end_of)). Of no bytes, no
+    /// bytes where the next begins. Where the literal's span isn't as long as its text, which then stands elsewhere, the
+    /// literal's span. No memory is taken.
+    ///
+    /// See the example of [`place_of`](Quoted::place_of).
+    pub fn span_of(&self, lo: usize, hi: usize) -> Span
+        requires { IsTrue (is_quoted K.KIND) }
+        ensures { IsSpanOf K.KIND self.now lo hi result }
+    {
+        let span = self.span();
+        if !self.spans_text() {
+            return span;
+        }
+        let (first, last) = self.range_of(lo, hi);
+        Span {
+            file: span.file,
+            lo: span.lo + first,
+            hi: span.lo + last,
+        }
+    }
+
+    /// Whether the literal's span is as long as its text, as that of a literal is that was cut from a file.
+    pub(crate) fn spans_text(&self) -> bool
+        ensures long { MatchBool result
+            (self.now.span.lo + length self.now.text ≡ self.now.span.hi)
+            (self.now.span.lo + length self.now.text ≢ self.now.span.hi) }
+        ensures text { IsUtf8 self.now.text }
+    {
+        let len = self.token.text().len();
+        let span = self.token.span();
+        span.lo <= span.hi && span.hi - span.lo == len
     }
 
     /// What stands after the closing quote, borrowed: empty, or any text.

@@ -1,8 +1,9 @@
 //! Calls of `rl_grammar`.
 
 use crate::trial::{Scarce, Trial, UNFIT};
-use rl_grammar::{Kind, bytes_of, digits_of, shape, str_of};
+use rl_grammar::{Kind, Segments, bytes_of, digits_of, shape, str_of};
 use rl_refusing::Page;
+use rl_tokens::Span;
 
 /// `str_of`, `bytes_of` or `digits_of`, by the text's kind.
 pub fn contents_of<A: Scarce>(trial: &Trial<'_, A>, text: &str, page: &mut Page) {
@@ -16,5 +17,16 @@ pub fn contents_of<A: Scarce>(trial: &Trial<'_, A>, text: &str, page: &mut Page)
             trial.ends(digits_of(trial.begins(), parts.kind, text), page);
         }
         _ => page.put(UNFIT),
+    }
+}
+
+/// Where in the file 7, of which the text is all, each byte that it stands for comes from.
+pub fn spans<A: Scarce>(trial: &Trial<'_, A>, text: &str, page: &mut Page) {
+    match Segments::of(text) {
+        Some(segments) => {
+            let base = Span::new(7, 0, text.len());
+            trial.ends(segments.spans(trial.begins(), base), page)
+        }
+        None => page.put(UNFIT),
     }
 }

@@ -43,6 +43,7 @@ fn in_string<A: Scarce>(string: &LitStr<A>, name: &str, trial: &Trial<'_, A>, pa
         "value" => trial.ends(string.value(trial.begins()), page),
         "parse" => trial.ends(string.parse::<Lit<A>, _>(trial.begins()), page),
         "parse_with" => trial.ends(string.parse_with(trial.begins(), CopyOfToken), page),
+        "parse_in_file" => trial.ends(string.parse_in_file(trial.begins(), CopyOfToken), page),
         _ => page.put(NO_CALL),
     }
 }

@@ -19,6 +19,7 @@ fn run_free<A: Scarce>(call: &str, trial: &Trial<'_, A>, text: &str, page: &mut 
         "read_all" => trial.ends(read_all(trial.begins(), text, 7), page),
         "scan" => sources::scanned(trial, text, page),
         "str_of" | "bytes_of" | "digits_of" => grammar::contents_of(trial, text, page),
+        "spans" => grammar::spans(trial, text, page),
         _ => page.put(NO_CALL),
     }
 }
@@ -106,7 +107,9 @@ fn run_named<A: Scarce>(of: &str, call: &str, trial: &Trial<'_, A>, text: &str, 
     match call {
         "new" => made::new(of, trial, text, page),
         "from_token" => made::from_token(of, trial, text, page),
-        "value" | "parse" | "parse_with" => run_held(literal_of(trial, text), call, trial, page),
+        "value" | "parse" | "parse_with" | "parse_in_file" => {
+            run_held(literal_of(trial, text), call, trial, page);
+        }
         _ => run_literal(of, call, trial, text, page),
     }
 }

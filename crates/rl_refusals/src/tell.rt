@@ -6,7 +6,7 @@ use rl_tokens::{
     CString, Error, Ident, Kept, LexError, Literal, ParseBuffer, Span, TokenStream, TokenTree,
 };
 use rust_literals::{Lit, LitBool, Number, NumberKind};
-use std::alloc::Allocator;
+use std::alloc::{AllocError, Allocator};
 
 /// A value that can be printed, with its spans.
 pub trait Tell {
@@ -116,6 +116,20 @@ impl<A: Allocator> Tell for Vec<Lit<A>, A> {
             literal.tell(page);
             page.put(", ");
         }
+    }
+}
+
+impl<A: Allocator> Tell for Vec<Span, A> {
+    fn tell(&self, page: &mut Page) {
+        for span in self.as_slice() {
+            tell_places(*span, page);
+        }
+    }
+}
+
+impl Tell for AllocError {
+    fn tell(&self, page: &mut Page) {
+        page.put("out of memory");
     }
 }
 

@@ -2,8 +2,8 @@
 
 use crate::tell::tell;
 use crate::{
-    attributes, bytes, copies, examples, lists, literals, long, messages, numbers, parsers,
-    rejected, runs, shapes, tokens, trees, uses,
+    attributes, bytes, copies, examples, inside, lists, literals, long, messages, numbers, parsers,
+    rejected, runs, segments, shapes, tokens, trees, uses,
 };
 use rl_refusing::Page;
 use rust_literals::read_all;
@@ -46,6 +46,8 @@ fn of_several(alloc: Global, name: &str, text: &str, out: &mut Page) -> bool {
         "map" => copies::map(alloc, text, out),
         "long" => long::number(alloc, text, out),
         "places" => lists::places(alloc, text, out),
+        "segments" => segments::segments(alloc, text, out),
+        "in_file" => inside::in_file(alloc, text, out),
         "texts" => tell(read_all(alloc, text, 7), out),
         "pairs" => lists::pairs(alloc, text, out),
         "attr_inside" => attributes::inside(alloc, text, out),

@@ -4,10 +4,14 @@ use rl_refusing::Page;
 use rl_tokens::Span;
 use rl_uses::examples::attributes::string_setting;
 use rl_uses::examples::buffers::{first_in_group, mark_after_name, port, trees_left, trees_of};
-use rl_uses::examples::grammar::{contents, is_plain_string, is_rust, reason, suffix_of};
+use rl_uses::examples::grammar::{
+    contents, first_escape, is_plain_string, is_rust, place_after_escape, reason, suffix_of,
+};
 use rl_uses::examples::literals::{after_literal, code_of, digits_or_text, first_flaw};
 use rl_uses::examples::own::{mark_in_string, set_value};
-use rl_uses::examples::quoted::{bytes_len, c_string_len, string_of, string_value};
+use rl_uses::examples::quoted::{
+    brace_in_file, bytes_len, c_string_len, literal_in_file, string_of, string_value,
+};
 use rl_uses::examples::tokens::{
     after_comments, first_delimiter, first_docs, is_name, no_token, second_token, text_at,
 };
@@ -70,6 +74,10 @@ fn of_grammar(alloc: Global, out: &mut Page) {
     shown!(out, is_plain_string("\"a\""));
     shown!(out, is_plain_string("\"\\n\""));
     shown!(out, contents(alloc, "\"a\\x41\""));
+    shown!(out, first_escape("\"a\\x41\\n\""));
+    shown!(out, place_after_escape("\"\\u{e4}b\""));
+    shown!(out, place_after_escape("\"\\x41b\""));
+    shown!(out, place_after_escape("5"));
 }
 
 /// What literals, lists and settings hold.
@@ -78,6 +86,9 @@ fn of_literals(alloc: Global, out: &mut Page) {
     shown!(out, string_of(alloc, "a\tb"));
     shown!(out, bytes_len(alloc, "b\"a\\xFF\""));
     shown!(out, c_string_len(alloc, "c\"a\\n\""));
+    shown!(out, brace_in_file(alloc, "  \"\\u{e4}\\n{x}\""));
+    shown!(out, literal_in_file(alloc, "\"\\x20\\\"a\\\"\""));
+    shown!(out, literal_in_file(alloc, "\"\\u{31}, 2\""));
     shown!(out, code_of(alloc, "b'a'"));
     shown!(out, code_of(alloc, "true"));
     shown!(out, digits_or_text(alloc, "1_0.5e3_f64"));

@@ -1,9 +1,9 @@
 //! Parsing inside strings.
 
-use crate::tell::{THERE, ToRow, at, tell};
+use crate::tell::{THERE, ToRow, at, tell, tell_error};
 use rl_refusing::Page;
-use rl_tokens::{Error, Group, ParseBuffer, Parser, Span};
-use rust_literals::{Lit, LitInt};
+use rl_tokens::{ByParse, Error, Group, ParseBuffer, Parser, Span, parse_all};
+use rust_literals::{Lit, LitInt, LitStr};
 use std::alloc::{Allocator, Global};
 
 /// The integer inside a string, or why there is none.
@@ -12,6 +12,25 @@ pub(crate) fn inside(alloc: Global, literal: &Lit, out: &mut Page) {
         Lit::Str(string) => tell(string.parse::<LitInt, Global>(alloc), out),
         _ => out.put("no string\n"),
     }
+}
+
+/// What stands in a string, each token where it comes from in the file: an integer, the spans of a group, and the integer
+/// again where the string stands elsewhere.
+pub(crate) fn in_file(alloc: Global, text: &str, out: &mut Page) {
+    match parse_all::<LitStr, Global>(alloc, text, 7) {
+        Ok(mut string) => {
+            integer_in_file(alloc, &string, out);
+            tell(string.parse_in_file(alloc, SpansOfGroup), out);
+            string.set_span(THERE);
+            integer_in_file(alloc, &string, out)
+        }
+        Err(error) => tell_error(error, out),
+    }
+}
+
+/// The integer inside a string, where it comes from in the file.
+fn integer_in_file(alloc: Global, string: &LitStr, out: &mut Page) {
+    tell(string.parse_in_file(alloc, ByParse::<LitInt>::new()), out)
 }
 
 /// As it is displayed, with its span.

@@ -18,6 +18,7 @@ mod parsers;
 mod rejected;
 mod row;
 mod runs;
+mod segments;
 mod shapes;
 mod streams;
 mod takers;

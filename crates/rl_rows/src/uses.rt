@@ -5,8 +5,8 @@ use crate::tell::{ToRow, at, put, tell, tell_debug, tell_error, tell_spanned, tr
 use rl_refusing::Page;
 use rl_tokens::{ParseBuffer, Span, parse_all};
 use rl_uses::{
-    Attribute, Config, Item, ItemList, Reason, bad_literals, control_strings, count_literals,
-    format, read_attribute, read_config, read_number, rewritten,
+    Attribute, Config, Item, ItemList, Reason, backslash_in_path, bad_literals, control_strings,
+    count_literals, format, read_attribute, read_config, read_number, rewritten,
 };
 use rust_literals::{Lit, read_all};
 use std::alloc::Global;
@@ -31,6 +31,7 @@ pub(crate) fn told(alloc: Global, name: &str, text: &str, out: &mut Page) -> boo
             tell_debug(read_number::<i64, Global>(alloc, text, FILE), "\n", out)
         }
         "config" => config(alloc, text, out),
+        "path" => path(alloc, text, out),
         _ => return false,
     }
     true
@@ -178,5 +179,16 @@ impl ToRow for Config {
         out.show(&self.port, " ");
         out.show(&self.verbose, " ");
         out.say(self.name.as_str(), "\n")
+    }
+}
+
+/// What in the text gives the first backslash of the path that is set, or why there are no settings, and where.
+fn path(alloc: Global, text: &str, out: &mut Page) {
+    match backslash_in_path(alloc, text, FILE) {
+        Ok(found) => out.debug(&found, "\n"),
+        Err(error) => {
+            at(error.span(), " ", out);
+            out.show(&error, "\n")
+        }
     }
 }

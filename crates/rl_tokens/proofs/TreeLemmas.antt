@@ -9,7 +9,7 @@ use Rattle.rl_tokens.specs.declared.token.TokenStream.{TokenStream, fold-TokenSt
 use Rattle.rl_tokens.specs.Puncts.{Mark}
 use Rattle.rl_tokens.specs.Texts.{SpannedText}
 use Rattle.std.proofs.lemmas.List.{map-append}
-use Rattle.rl_tokens.specs.Trees.{Tree, GroupTree, PunctTree, LiteralTree, IdentTree, trees_of, MoreTrees, GroupParts, delimiter_of, stream_of, group_span, inside_of, tree_step, group_step, stream_step, tree_view, stream_view, respanned, all_respanned}
+use Rattle.rl_tokens.specs.Trees.{Tree, GroupTree, PunctTree, LiteralTree, IdentTree, trees_of, MoreTrees, GroupParts, delimiter_of, stream_of, group_span, inside_of, tree_step, group_step, stream_step, tree_view, stream_view, respanned, all_respanned, relocated, all_relocated, looked_up, group_tree}
 
 abbrev stream_fold : {A : Type 0} → TokenStream A → List Tree
 stream_fold {A} = fold-TokenStream A Tree GroupParts (List Tree) tree_step group_step stream_step
@@ -55,6 +55,23 @@ respanned_group span g h d s i =
     ∙ ap (λ x. GroupTree (delimiter_of g) (inside_of (map (respanned span) (stream_view (stream_of g)))) x) s
     ∙ ap (λ x. GroupTree (delimiter_of g) x span) (sym e)
     ∙ sym k
+
+pub relocated-inside : (table : List Span) (ts : List Tree) → all_relocated table (inside_of ts) ≡ inside_of (map (relocated table) ts)
+relocated-inside table [] = refl
+relocated-inside table (t ∷ ts) = ap (MoreTrees (relocated table t)) (relocated-inside table ts)
+
+-- a group with every span looked up, by its parts
+pub relocated_parts : {A : Type 0} (table : List Span) (g h : Group A) → delimiter_of h ≡ delimiter_of g → group_span h ≡ looked_up table (group_span g) → stream_view (stream_of h) ≡ map (relocated table) (stream_view (stream_of g)) → group_tree h ≡ relocated table (group_tree g)
+relocated_parts table g h d s i =
+    let f = relocated table in
+    let e = relocated-inside table (stream_view (stream_of g)) in
+    ap (λ x. GroupTree x (inside_of (stream_view (stream_of h))) (group_span h)) d
+    ∙ ap (λ x. GroupTree (delimiter_of g) (inside_of x) (group_span h)) i
+    ∙ ap (λ x. GroupTree (delimiter_of g) (inside_of (map f (stream_view (stream_of g)))) x) s
+    ∙ ap (λ x. GroupTree (delimiter_of g) x (looked_up table (group_span g))) (sym e)
+
+pub relocated_group : {A : Type 0} (table : List Span) (g h : Group A) → group_tree h ≡ relocated table (group_tree g) → tree_view (tree.Group h) ≡ relocated table (tree_view (tree.Group g))
+relocated_group table g h e = tree_view-group h ∙ e ∙ ap (relocated table) (sym (tree_view-group g))
 
 -- the first of several trees
 pub first_taken : {A : Type 0} (xs rest : List (TokenTree A)) (x : TokenTree A) (t : Tree) → xs ≡ x ∷ rest → tree_view x ≡ t → map tree_view xs ≡ t ∷ map tree_view rest

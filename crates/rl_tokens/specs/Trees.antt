@@ -1,11 +1,12 @@
 -- What contracts see of token trees: their parts, a tree as plain data, and a tree written flat.
-use Rattle.std.specs.Prelude.{◌+◌, ◌-◌, List, [], ◌∷◌, ◌++◌, map}
+use Rattle.std.specs.Prelude.{ℕ, ◌+◌, ◌-◌, min, nat_lt, length, slice_index_or, List, [], ◌∷◌, ◌++◌, map, if◌then◌else◌}
 use Rattle.rl_tokens.specs.declared.span.Span.{Span}
 use Rattle.rl_tokens.specs.declared.token.Delimiter.{Delimiter}
 use Rattle.rl_tokens.specs.declared.token.TokenTree.{TokenTree, fold-TokenTree, out-TokenTree}
 use Rattle.rl_tokens.specs.declared.token.TokenTree.TheOpen.{TokenTree-F, Group-F, TokenStream-F}
 use Rattle.rl_tokens.specs.declared.token.Group.{Group, out-Group}
 use Rattle.rl_tokens.specs.declared.token.TokenStream.{TokenStream, out-TokenStream}
+use Rattle.rl_tokens.specs.Errors.{nowhere}
 use Rattle.rl_tokens.specs.Texts.{SpannedText}
 use Rattle.rl_tokens.specs.Puncts.{Mark}
 
@@ -94,6 +95,41 @@ abbrev mutual
   pub all_respanned : Span → Trees → Trees
   all_respanned span NoTrees = NoTrees
   all_respanned span (MoreTrees t ts) = MoreTrees (respanned span t) (all_respanned span ts)
+
+-- what a table of spans says of the byte at this place; past its end, what its last entry does
+abbrev pub entry_at : List Span → ℕ → Span
+entry_at table at = slice_index_or table (min at (length table - 1)) nowhere
+
+-- The span in a file of the bytes of a text, by a table that says of each byte where it comes from:
+-- from where the first begins to where the last ends. Of no bytes, no bytes where the next begins.
+abbrev pub looked_up : List Span → Span → Span
+looked_up table span = record {
+  file = (entry_at table span.lo).file;
+  lo = (entry_at table span.lo).lo;
+  hi = if nat_lt span.lo span.hi then (entry_at table (span.hi - 1)).hi
+      else (entry_at table span.lo).lo;
+}
+
+-- every span is what the table gives, also inside groups
+abbrev mutual
+  pub relocated : List Span → Tree → Tree
+  relocated table (GroupTree d inside span) =
+      GroupTree d (all_relocated table inside) (looked_up table span)
+  relocated table (IdentTree i) =
+      IdentTree (record i { span = looked_up table i.span })
+  relocated table (PunctTree p) =
+      PunctTree (record p { span = looked_up table p.span })
+  relocated table (LiteralTree l) =
+      LiteralTree (record l { span = looked_up table l.span })
+
+  pub all_relocated : List Span → Trees → Trees
+  all_relocated table NoTrees = NoTrees
+  all_relocated table (MoreTrees t ts) =
+      MoreTrees (relocated table t) (all_relocated table ts)
+
+-- a group as a tree
+abbrev pub group_tree : {A : Type 0} → Group A → Tree
+group_tree g = GroupTree (delimiter_of g) (inside_of (stream_view (stream_of g))) (group_span g)
 
 -- A tree written flat: each token, and of each group its opener and its closer.
 pub data FlatToken : Type 0 where

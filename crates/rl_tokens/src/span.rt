@@ -1,6 +1,7 @@
 //! Places of tokens.
 
 ghost use Rattle.std.specs.Prelude.{◌≡◌, ◌↔◌, min, max, IsSome, IfSome};
+ghost use Rattle.rl_tokens.specs.Trees.{entry_at};
 
 /// Where a token stands: a file, and the bytes of its text from `lo` up to `hi`. Two spans are
 /// equal where all three are.
@@ -25,7 +26,19 @@ pub struct Span {
     pub hi: usize,
 }
 
+/// What a table of spans says of the byte at this place; past its end, what its last entry does.
+fn entry_at(table: &[Span], at: usize) -> Span
+    ensures { result ≡ entry_at table.now at }
+{
+    if table.is_empty() {
+        return Span::call_site();
+    }
+    table[at.min(table.len() - 1)]
+}
+
 impl Span {
+    ghost use Rattle.rl_tokens.specs.Trees.{looked_up};
+
     /// The span of what stands in no text: file 0, no bytes at 0. The writers give it, and so does
     /// an error with no place.
     pub fn call_site() -> Span
@@ -64,6 +77,25 @@ impl Span {
         ensures { result ≡ self.hi }
     {
         self.hi
+    }
+
+    /// The span in a file of these bytes of a text, by a table that says of each of its bytes where it comes from: from
+    /// where the first begins to where the last ends. Of no bytes, no bytes where the next begins; past the table's end
+    /// its last entry serves.
+    pub(crate) fn looked_up(self, table: &[Span]) -> Span
+        ensures { result ≡ looked_up table.now self }
+    {
+        let first = entry_at(table, self.lo);
+        let hi = if self.lo < self.hi {
+            entry_at(table, self.hi - 1).hi
+        } else {
+            first.lo
+        };
+        Span {
+            file: first.file,
+            lo: first.lo,
+            hi,
+        }
     }
 
     /// From the first byte of both to the last of both, where they stand in one file; else `None`.

@@ -75,7 +75,7 @@ pub struct TokenStream<A: Allocator = Global> {
 }
 
 impl<A: Allocator> TokenTree<A> {
-    ghost use Rattle.rl_tokens.specs.Trees.{token_tree_span, tree_view, with_span, respanned};
+    ghost use Rattle.rl_tokens.specs.Trees.{token_tree_span, tree_view, with_span, respanned, relocated};
 
     /// Where the tree stands: a group from its opener to its closer.
     pub fn span(&self) -> Span
@@ -112,6 +112,21 @@ impl<A: Allocator> TokenTree<A> {
             other => other.set_span(span),
         }
     }
+
+    /// Moves the tree to where the table says, and with a group all that is inside.
+    #[cycle(relocate)]
+    #[tactic(auto, using(crate::proofs::TreeLemmas::relocated_group))]
+    fn relocate(&mut self, table: &[Span])
+        ensures { tree_view self.new ≡ relocated table.now (tree_view self.old) }
+    {
+        match self {
+            TokenTree::Group(group) => group.relocate(table),
+            other => {
+                let span = other.span();
+                other.set_span(span.looked_up(table));
+            }
+        }
+    }
 }
 
 impl<A: Allocator> Group<A> {
@@ -122,6 +137,8 @@ impl<A: Allocator> Group<A> {
       closer_span,
       stream_view,
       respanned,
+      relocated,
+      group_tree,
     };
     ghost use Rattle.rl_tokens.specs.Buffers.{trees_in, scope_of};
 
@@ -189,11 +206,22 @@ impl<A: Allocator> Group<A> {
         self.set_span(span);
         self.stream.respan(span);
     }
+
+    /// Moves the group to where the table says, and all that is inside.
+    #[cycle(relocate)]
+    #[tactic(auto, using(crate::proofs::TreeLemmas::relocated_parts))]
+    fn relocate(&mut self, table: &[Span])
+        ensures { group_tree self.new ≡ relocated table.now (group_tree self.old) }
+    {
+        let span = self.span();
+        self.set_span(span.looked_up(table));
+        self.stream.relocate(table);
+    }
 }
 
 impl<A: Allocator> TokenStream<A> {
     ghost use Rattle.rl_tokens.specs.Errors.{memory_at};
-    ghost use Rattle.rl_tokens.specs.Trees.{trees_of, token_tree_span, stream_view, respanned};
+    ghost use Rattle.rl_tokens.specs.Trees.{trees_of, token_tree_span, stream_view, respanned, relocated};
 
     /// No trees. The stream takes its memory from the allocator.
     pub fn new(alloc: A) -> TokenStream<A>
@@ -248,6 +276,19 @@ impl<A: Allocator> TokenStream<A> {
     {
         for at in 0..self.trees.len() {
             self.trees[at].respan(span);
+        }
+    }
+
+    /// Moves every tree into a file, also inside groups: the table says of each byte of the text that the trees were cut
+    /// from where in the file it comes from, and past its end its last entry serves. A tree then stands from where its
+    /// first byte begins to where its last ends.
+    #[cycle(relocate)]
+    pub fn relocate(&mut self, table: &[Span])
+        ensures { stream_view self.new
+            ≡ map (relocated table.now) (stream_view self.old) }
+    {
+        for at in 0..self.trees.len() {
+            self.trees[at].relocate(table);
         }
     }
 }

@@ -1,6 +1,7 @@
 pub mod Attributes
 pub mod Settings
 pub mod Lists
+pub mod Paths
 pub mod Shortage
 pub mod Lints
 pub mod Reasons

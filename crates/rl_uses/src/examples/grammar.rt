@@ -1,7 +1,7 @@
 //! Examples of `rl_grammar`: what a text is, with no memory taken.
 
 use rl_grammar::strict::is_token;
-use rl_grammar::{Kind, explain, is_plain, shape, str_of};
+use rl_grammar::{Kind, SegmentValue, Segments, explain, is_plain, place_of, shape, str_of};
 use std::alloc::Global;
 
 /// Whether a text is a literal of Rust.
@@ -30,4 +30,19 @@ pub fn contents(alloc: Global, text: &str) -> Option<String> {
         Kind::Str => str_of(alloc, text).ok(),
         _ => None,
     }
+}
+
+/// Where the first escape of a quoted literal stands, or the first line end of two characters or continuation.
+pub fn first_escape(text: &str) -> Option<usize> {
+    for segment in Segments::of(text)? {
+        if !matches!(segment.value, SegmentValue::Text(_)) {
+            return Some(segment.lo);
+        }
+    }
+    None
+}
+
+/// Where in a text the second byte of what it stands for comes from.
+pub fn place_after_escape(text: &str) -> Option<usize> {
+    place_of(text, 1)
 }

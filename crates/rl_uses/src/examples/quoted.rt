@@ -1,7 +1,8 @@
 //! Examples of `rl_quoted`: quoted literals, and what they stand for.
 
 use rl_quoted::{LitByteStr, LitCStr, LitStr};
-use rl_tokens::{Span, parse_all};
+use rl_tokens::{ByParse, Span, parse_all};
+use rust_literals::Lit;
 use std::alloc::Global;
 
 /// What a string stands for; it is decoded only where it has escapes.
@@ -32,4 +33,21 @@ pub fn bytes_len(alloc: Global, text: &str) -> Option<usize> {
 pub fn c_string_len(alloc: Global, text: &str) -> Option<usize> {
     let literal = parse_all::<LitCStr, Global>(alloc, text, 0).ok()?;
     Some(literal.value(alloc).ok()?.as_bytes().len())
+}
+
+/// Where in its file the first brace of a string stands.
+pub fn brace_in_file(alloc: Global, text: &str) -> Option<usize> {
+    let literal = parse_all::<LitStr, Global>(alloc, text, 0).ok()?;
+    let value = literal.value(alloc).ok()?;
+    let at = value.as_str().find('{')?;
+    Some(literal.span_of(at, at + 1).lo())
+}
+
+/// Where in its file the literal inside a string stands, or what is wrong with it.
+pub fn literal_in_file(alloc: Global, text: &str) -> Option<Span> {
+    let literal = parse_all::<LitStr, Global>(alloc, text, 0).ok()?;
+    match literal.parse_in_file(alloc, ByParse::<Lit>::new()) {
+        Ok(inner) => Some(inner.span()),
+        Err(error) => Some(error.span),
+    }
 }

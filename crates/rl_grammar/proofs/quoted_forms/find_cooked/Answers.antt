@@ -4,6 +4,8 @@ use Rattle.rl_tokens.specs.Quoted.{is_plain}
 use Rattle.rl_tokens.proofs.BehindLemmas.{if_none}
 use Rattle.rl_grammar.proofs.CutLemmas.{behind_chars}
 use Rattle.rl_grammar.proofs.FormLemmas.{cooked_found, cooked_none, cooked_units, front_sound}
+use Rattle.rl_grammar.specs.declared.quoted_forms.QuotedForm.TheVariants.{Cooked as CookedForm}
+use Rattle.rl_grammar.proofs.FrontLenLemmas.{opener_lo}
 use Rattle.rl_grammar.proofs.FoundLemmas.{form_at, quoted_found}
 use Rattle.rl_grammar.proofs.PlainLemmas.{one_run, no_run}
 use Rattle.rl_grammar.proofs.RowLemmas.{row_start}
@@ -36,7 +38,7 @@ returns-in-Some-clause-found c =
     let (w, row) = cooked_units _ _ _ _ _ _ cut.cut cut.plain (row_start c.args.kind (chars c.split_plain.result.1.now)) in
     let parts = cooked_found _ _ _ _ _ _ string row at.body c.in-Some.ensures.some in
     let plain = at.plain ∙ one_run (is_plain c.args.kind) _ _ _ (sym at.body ∙ cut.cut) cut.plain in
-    quoted_found _ _ _ _ _ c.utf8.text (form_at _ _ _ _ _ _ _ c.requires parts at.suffix at.stands plain) (no_unit _ _ string) c.quoted.ensures
+    quoted_found _ _ _ _ _ c.utf8.text (form_at _ _ _ _ _ _ _ c.requires parts at.suffix at.stands plain (opener_lo CookedForm _ _ _ _ (λ e. cc) c.utf8.text c.utf8.inside c.requires at.lo)) (no_unit _ _ string) c.quoted.ensures
 
 pub returns-in_err-suffix-clause-none : goal.returns-in_err-suffix-clause-none
 returns-in_err-suffix-clause-none c =
@@ -52,4 +54,4 @@ returns-clause-found c =
     let (w, row) = cooked_units _ _ _ _ _ _ cut.cut cut.plain c.skip_units-closer.ensures.row.1 in
     let parts = cooked_found _ _ _ _ _ _ string row at.body c.in_ok-suffix.ensures.some in
     let plain = at.plain ∙ no_run (is_plain c.args.kind) _ _ _ _ _ (sym at.body ∙ cut.cut) c.skip_units-closer.ensures.row.1.text_is cut.stops (λ e. c.in_default.ensures.none _ (e ∙ c.in_ok-suffix.ensures.some)) in
-    quoted_found _ _ _ _ _ c.utf8.text (form_at _ _ _ _ _ _ _ c.requires parts at.suffix at.stands plain) (no_unit _ _ string) c.quoted-2.ensures
+    quoted_found _ _ _ _ _ c.utf8.text (form_at _ _ _ _ _ _ _ c.requires parts at.suffix at.stands plain (opener_lo CookedForm _ _ _ _ (λ e. cc) c.utf8.text c.utf8.inside c.requires at.lo)) (no_unit _ _ string) c.quoted-2.ensures

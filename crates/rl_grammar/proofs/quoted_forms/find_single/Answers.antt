@@ -3,6 +3,8 @@ use Rattle.std.specs.Str.{IsUtf8}
 use Rattle.rl_tokens.proofs.BehindLemmas.{if_none}
 use Rattle.rl_grammar.proofs.CutLemmas.{behind_chars}
 use Rattle.rl_grammar.proofs.FormLemmas.{front_sound, single_found, single_stuck, single_none}
+use Rattle.rl_grammar.specs.declared.quoted_forms.QuotedForm.TheVariants.{Single as SingleForm}
+use Rattle.rl_grammar.proofs.FrontLenLemmas.{opener_lo}
 use Rattle.rl_grammar.proofs.FoundLemmas.{form_at, quoted_found}
 use Rattle.rl_grammar.proofs.SingleBodies.{unit_one}
 use Rattle.rl_grammar.proofs.UnitLemmas.{unit_sound}
@@ -31,4 +33,4 @@ returns-clause-found c =
     let at = c.places-body.ensures in
     let single = (front_sound _ _ c.requires).has in
     let parts = single_found _ _ _ _ _ single (sym c.in_ok-piece.ensures.value) at.body c.in_ok-suffix.ensures.some in
-    quoted_found _ _ _ _ _ c.utf8.text (form_at _ _ _ _ _ _ _ c.requires parts at.suffix at.stands at.plain) c.piece_unit.ensures c.quoted.ensures
+    quoted_found _ _ _ _ _ c.utf8.text (form_at _ _ _ _ _ _ _ c.requires parts at.suffix at.stands at.plain (opener_lo SingleForm _ _ _ _ (λ e. cc) c.utf8.text c.utf8.inside c.requires at.lo)) c.piece_unit.ensures c.quoted.ensures

@@ -8,9 +8,10 @@ use Rattle.rl_tokens.proofs.BehindLemmas.{behind_step, if_none}
 use Rattle.rl_grammar.specs.Founds.{body_in}
 use Rattle.rl_grammar.proofs.CutLemmas.{behind_chars}
 use Rattle.rl_grammar.proofs.FormLemmas.{front_sound}
+use Rattle.rl_grammar.proofs.FrontLenLemmas.{raw_lo}
 use Rattle.rl_grammar.proofs.FoundLemmas.{form_at}
 use Rattle.rl_grammar.proofs.PlaceLemmas.{closer_is, opened}
-use Rattle.rl_grammar.proofs.RawLemmas.{raw_unopened, raw_unclosed, raw_other_hashes, raw_not_held, raw_found}
+use Rattle.rl_grammar.proofs.RawLemmas.{opens, raw_unopened, raw_unclosed, raw_other_hashes, raw_not_held, raw_found}
 use Rattle.rl_grammar.proofs.ShapeLemmas.{closed_cut}
 use Rattle.rl_grammar.proofs.QuotedStopLemmas.{only_quoted}
 use Rattle.rl_grammar.proofs.quoted_forms.raw_places.Goals as goal
@@ -70,4 +71,6 @@ returns-clause-some c =
     let same = append_cancel_right _ _ _ (sym last ∙ b.0) in
     let held = ap (list_all (is_raw c.args.kind)) same ∙ sym c.if-not-holds_all.ensures in
     let (v, parts) = raw_found _ _ _ _ c.skip_hashes-rest.ensures.rest c.before-hashes.ensures.chars _ _ _ c.in_ok-opened.ensures.some last b.1 _ string c.in_ok-suffix.ensures.some held in
-    form_at _ _ _ _ _ _ _ c.requires parts at.suffix at.stands at.plain
+    let hashes = (opens _ _ _ _ c.skip_hashes-rest.ensures.rest c.before-hashes.ensures.chars v _ parts.0).0 in
+    let lo = raw_lo _ _ _ _ _ _ parts.0.hashes _ c.utf8.text opened c.requires c.before-hashes.ensures.chars c.in_ok-opened.ensures.some hashes at.lo in
+    form_at _ _ _ _ _ _ _ c.requires parts at.suffix at.stands at.plain lo
