@@ -48,6 +48,7 @@ fn push_placed<A: Allocator + Copy>(
 }
 
 /// Appends what is shown of a literal: its line after its place, and what follows it, where it is picked.
+#[inline(never)]
 fn push_literal_token<'t, A: Allocator + Copy>(
     alloc: A,
     out: &mut String<A>,
@@ -73,6 +74,7 @@ fn push_literal_token<'t, A: Allocator + Copy>(
 }
 
 /// Appends what is shown of a token, at whose first byte the rest of the source begins.
+#[inline(always)]
 fn push_token<'t, A: Allocator + Copy>(
     alloc: A,
     out: &mut String<A>,
@@ -101,6 +103,7 @@ fn push_token<'t, A: Allocator + Copy>(
 }
 
 /// Cuts off the next token: `None` at the end of the source.
+#[inline(always)]
 fn next_token<'t>(
     rejects_strays: bool,
     tokens: &mut Sources<'t>,

@@ -6,3 +6,4 @@ pub mod SourceAt
 pub mod SkippedAt
 pub mod TreeBuilders
 pub mod StopsAt
+pub mod RunsAt

@@ -11,10 +11,10 @@ ghost use Rattle.std.specs.Str.{chars};
 ghost use Rattle.rl_tokens.specs.Texts.{is_among, first_passes, IsTail};
 ghost use Rattle.rl_tokens.specs.Lexemes.{delimiters, LexemeBefore, is_start};
 ghost use Rattle.rl_tokens.specs.Cursors.{form_view};
-ghost use Rattle.rl_tokens.specs.Mirrors.LexemeAt.{start_class, is_met_late, other_class, head_class, by_class, begins_hashed_quote, quoted_at, raw_at, single_at, literal_at, word_at, after_digit, lexeme_at, FormBefore, LetterBHead, LetterCHead, LetterRHead, SlashHead};
+ghost use Rattle.rl_tokens.specs.Mirrors.LexemeAt.{start_class, is_met_late, other_class, head_class, by_class, begins_hashed_quote, quoted_at, raw_at, single_at, literal_at, word_at, after_digit, lexeme_at, FormBefore, LetterBHead, LetterCHead, LetterRHead, SlashHead, begins_word, is_mark_alone, is_in_set, is_prefix_letter, goes_on_as_word, makes_comment, mark_form};
 
 use crate::characters::is_start;
-use crate::classes::{CharClass, skip_class};
+use crate::classes::skip_word;
 use crate::punct::Punct;
 use crate::text::{begins_with, split_ascii, split_char, without_first};
 use number::{after_decimal, after_digits, ends_number};
@@ -46,6 +46,105 @@ pub(crate) fn first_lexeme(text: &str) -> Option<(Form, &str)>
     ensures shorter { IfSome result (λ p. length p.1.now < length text.now) }
 {
     lexeme_at(text)
+}
+
+/// The same, where the first byte of ASCII tells it, or that and the next: an identifier that begins as no literal does, a
+/// delimiter, or a mark that begins no comment. `None` says nothing.
+#[inline(always)]
+pub(crate) fn word_or_mark(text: &str) -> Option<(Form, &str)>
+    ensures found { IfSome result
+        (λ p. FormBefore (chars text.now) (form_view p.0) (chars p.1.now)) }
+    ensures following { IfSome result (λ p. IsTail text.now p.1.now) }
+    ensures shorter { IfSome result (λ p. length p.1.now < length text.now) }
+{
+    let (byte, following) = split_ascii(text)?;
+    if begins_word(byte) {
+        return Some((Form::Identifier, skip_word(following)));
+    }
+    if is_mark_alone(byte) {
+        return Some((mark_form(byte as char), following));
+    }
+    if is_prefix_letter(byte) && goes_on_as_word(following) {
+        return Some((Form::Identifier, skip_word(following)));
+    }
+    if byte == b'/' && goes_on_as_no_comment(following) {
+        return Some((Form::Mark('/'), following));
+    }
+    None
+}
+
+/// Whether a character of ASCII begins an identifier whatever follows it: `_`, and each letter but `b`, `c` and `r`.
+#[inline(always)]
+fn begins_word(byte: u8) -> bool
+    requires { byte < 128 }
+    ensures { result ≡ begins_word byte }
+{
+    is_in_set(0, 0x07fb_fff2_87ff_fffe, byte)
+}
+
+/// Whether a character of ASCII is a delimiter or a mark whatever follows it: each but `/`.
+#[inline(always)]
+fn is_mark_alone(byte: u8) -> bool
+    requires { byte < 128 }
+    ensures { result ≡ is_mark_alone byte }
+{
+    is_in_set(0xfc00_7f7a_0000_0000, 0x7800_0000_6800_0001, byte)
+}
+
+/// Whether a set of characters of ASCII, which has a bit for each, holds this one.
+#[inline(always)]
+fn is_in_set(below_64: u64, from_64: u64, byte: u8) -> bool
+    requires { byte < 128 }
+    ensures { result ≡ is_in_set below_64 from_64 byte }
+{
+    if byte < 64 {
+        (below_64 >> byte) & 1 == 1
+    } else {
+        (from_64 >> (byte - 64)) & 1 == 1
+    }
+}
+
+/// Whether a literal's prefix may begin with the letter.
+#[inline(always)]
+fn is_prefix_letter(byte: u8) -> bool
+    ensures { result ≡ is_prefix_letter byte }
+{
+    matches!(byte, b'b' | b'c' | b'r')
+}
+
+/// Whether a word goes on after its first letter, and no literal's prefix: a letter but `r` is next, or `_`. Of a word that
+/// goes on otherwise it is false.
+#[inline(always)]
+fn goes_on_as_word(following: &str) -> bool
+    ensures { IsTrue result → IsTrue (first_passes goes_on_as_word (chars following.now)) }
+{
+    match split_ascii(following) {
+        Some((next, _)) => next >= 64 && next != b'r',
+        None => false,
+    }
+}
+
+/// Whether a character of ASCII is next after a slash that doesn't make a comment of it.
+#[inline(always)]
+fn goes_on_as_no_comment(following: &str) -> bool
+    ensures { IsTrue result → IsFalse (first_passes makes_comment (chars following.now)) }
+{
+    match split_ascii(following) {
+        Some((next, _)) => next != b'/' && next != b'*',
+        None => false,
+    }
+}
+
+/// The form of a delimiter or a mark.
+#[inline(always)]
+fn mark_form(c: char) -> Form
+    ensures { form_view result ≡ mark_form c }
+{
+    if is_delimiter(c) {
+        Form::Delimiter(c)
+    } else {
+        Form::Mark(c)
+    }
 }
 
 /// The same, as the first characters tell it. A digit is recognized by its byte, before all else.
@@ -189,7 +288,7 @@ fn identifier(text: &str) -> Option<(Form, &str)>
         ≡ word_at (chars text.now) }
     ensures following { IfSome result (λ p. IsTail text.now p.1.now) }
 {
-    Some((Form::Identifier, skip_class(CharClass::Continue, text)))
+    Some((Form::Identifier, skip_word(text)))
 }
 
 /// A quoted literal, after its opening quote.
