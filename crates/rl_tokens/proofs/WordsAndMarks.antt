@@ -1,25 +1,34 @@
 -- Words and marks that their first byte tells, or that and the next.
-use Rattle.std.proofs.Common.{◌≡◌, ℕ, inl, lit<, Bool, true, false, not, ◌&&◌, ◌||◌, ◌==◌, cond, List, [], ◌∷◌, Some, nat_le, ◌<◌, refl, sym, subst, ◌∙◌, ap, arith}
-use Rattle.std.proofs.lemmas.Bool.{and_parts, agree_below_at}
+use Rattle.std.proofs.Common.{◌≡◌, ℕ, inl, lit<, Bool, true, false, not, ◌&&◌, ◌||◌, ◌==◌, cond, List, [], ◌∷◌, Some, nat_le, ◌<◌, ◌≤◌, ◌+◌, ◌-◌, refl, sym, subst, ◌∙◌, ap, arith}
+use Rattle.std.proofs.lemmas.Bool.{and_parts, agree_below, agree_below_at}
 use Rattle.std.proofs.lemmas.Bool.Decides.{nat_tests}
 use Rattle.std.specs.Char.{is_ascii_alphabetic}
 use Rattle.rl_tokens.specs.Texts.{first_passes, is_among, is_white}
 use Rattle.rl_tokens.specs.Lexemes.{delimiters, marks, LexemeForm, IdentifierForm, DelimiterForm, MarkForm, is_start, is_continue}
 use Rattle.rl_tokens.specs.Classes.{after_run}
-use Rattle.rl_tokens.specs.Mirrors.LexemeAt.{FormBefore, LetterBHead, LetterCHead, LetterRHead, OtherLetterHead, is_prefix_letter, begins_word, goes_on_as_word, is_mark_alone, makes_comment, mark_form, is_in_set, lexeme_at, by_class, word_at}
+use Rattle.rl_tokens.specs.Mirrors.LexemeAt.{FormBefore, LetterBHead, LetterCHead, LetterRHead, OtherLetterHead, is_prefix_letter, begins_word, goes_on_as_word, is_mark_alone, makes_comment, mark_form, has_bit, lexeme_at, by_class, word_at}
 use Rattle.rl_tokens.proofs.LexemeFronts.{at_class, class_start, front_delimiter, front_mark, front_slash, start_ascii, class98, class99, class114}
 use Rattle.rl_tokens.proofs.LexemeAnswers.{form_before}
 use Rattle.rl_tokens.proofs.Pieces.{is_equal}
 
--- ---- sets of characters of ASCII, as bits
+-- ---- sets of 64 characters, a bit for each
 
-pub words_set : (c : ℕ) → c < 128 → is_in_set 0 575334794548740094 c ≡ begins_word c
-words_set c low =
-    agree_below_at (is_in_set 0 575334794548740094) (λ k. not (is_prefix_letter k) && ((k == 95 || is_ascii_alphabetic k) && not (is_white k))) 128 c refl low
-    ∙ ap (λ b. not (is_prefix_letter c) && b) (sym (start_ascii c low))
+pub low_marks : (c : ℕ) → c < 64 → has_bit 18158653859520577536 c ≡ true → is_mark_alone c ≡ true
+low_marks c low is = sym (agree_below_at (has_bit 18158653859520577536) is_mark_alone 64 c refl low) ∙ is
 
-pub marks_set : (c : ℕ) → c < 128 → is_in_set 18158653859520577536 8646911286296182785 c ≡ is_mark_alone c
-marks_set c low = agree_below_at (is_in_set 18158653859520577536 8646911286296182785) is_mark_alone 128 c refl low
+-- a set of those from 64 on holds what passes the test
+high_set : (bits : ℕ) (test : ℕ → Bool) → agree_below (has_bit bits) (λ k. test (64 + k)) 64 ≡ true → (c : ℕ) → 64 ≤ c → c < 128 → has_bit bits (c - 64) ≡ true → test c ≡ true
+high_set bits test all c h low is =
+    let e : 64 + (c - 64) ≡ c = omega arith in
+    ap test (sym e) ∙ sym (agree_below_at (has_bit bits) (λ k. test (64 + k)) 64 (c - 64) all (omega arith)) ∙ is
+
+pub high_marks : (c : ℕ) → 64 ≤ c → c < 128 → has_bit 8646911286296182785 (c - 64) ≡ true → is_mark_alone c ≡ true
+high_marks c h low is = high_set 8646911286296182785 is_mark_alone refl c h low is
+
+pub high_words : (c : ℕ) → 64 ≤ c → c < 128 → has_bit 575334794548740094 (c - 64) ≡ true → begins_word c ≡ true
+high_words c h low is =
+    ap (λ b. not (is_prefix_letter c) && b) (start_ascii c low)
+    ∙ high_set 575334794548740094 (λ k. not (is_prefix_letter k) && ((k == 95 || is_ascii_alphabetic k) && not (is_white k))) refl c h low is
 
 -- ---- words
 

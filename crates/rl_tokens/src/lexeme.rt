@@ -11,7 +11,8 @@ ghost use Rattle.std.specs.Str.{chars};
 ghost use Rattle.rl_tokens.specs.Texts.{is_among, first_passes, IsTail};
 ghost use Rattle.rl_tokens.specs.Lexemes.{delimiters, LexemeBefore, is_start};
 ghost use Rattle.rl_tokens.specs.Cursors.{form_view};
-ghost use Rattle.rl_tokens.specs.Mirrors.LexemeAt.{start_class, is_met_late, other_class, head_class, by_class, begins_hashed_quote, quoted_at, raw_at, single_at, literal_at, word_at, after_digit, lexeme_at, FormBefore, LetterBHead, LetterCHead, LetterRHead, SlashHead, begins_word, is_mark_alone, is_in_set, is_prefix_letter, goes_on_as_word, makes_comment, mark_form};
+ghost use Rattle.rl_tokens.specs.Mirrors.LexemeAt.{start_class, is_met_late, other_class, head_class, by_class, begins_hashed_quote, quoted_at, raw_at, single_at, literal_at, word_at, after_digit, lexeme_at, FormBefore, LetterBHead, LetterCHead, LetterRHead, SlashHead, begins_word, is_mark_alone, is_prefix_letter, goes_on_as_word, makes_comment, mark_form, has_bit};
+ghost use Rattle.rl_tokens.specs.declared.lexeme.Lead.TheVariants.{Word, Mark, Prefix, Slash};
 
 use crate::characters::is_start;
 use crate::classes::skip_word;
@@ -58,58 +59,69 @@ pub(crate) fn word_or_mark(text: &str) -> Option<(Form, &str)>
     ensures shorter { IfSome result (λ p. length p.1.now < length text.now) }
 {
     let (byte, following) = split_ascii(text)?;
-    if begins_word(byte) {
-        return Some((Form::Identifier, skip_word(following)));
+    match lead_of(byte) {
+        Lead::Word => Some((Form::Identifier, skip_word(following))),
+        Lead::Mark => Some((mark_form(byte as char), following)),
+        Lead::Prefix if goes_on_as_word(following) => {
+            Some((Form::Identifier, skip_word(following)))
+        }
+        Lead::Slash if goes_on_as_no_comment(following) => Some((Form::Mark('/'), following)),
+        _ => None,
     }
-    if is_mark_alone(byte) {
-        return Some((mark_form(byte as char), following));
-    }
-    if is_prefix_letter(byte) && goes_on_as_word(following) {
-        return Some((Form::Identifier, skip_word(following)));
-    }
-    if byte == b'/' && goes_on_as_no_comment(following) {
-        return Some((Form::Mark('/'), following));
-    }
-    None
 }
 
-/// Whether a character of ASCII begins an identifier whatever follows it: `_`, and each letter but `b`, `c` and `r`.
-#[inline(always)]
-fn begins_word(byte: u8) -> bool
-    requires { byte < 128 }
-    ensures { result ≡ begins_word byte }
-{
-    is_in_set(0, 0x07fb_fff2_87ff_fffe, byte)
+/// What the first byte of a text tells.
+#[derive(Clone, Copy)]
+enum Lead {
+    /// An identifier, whatever follows it: `_`, and each letter but `b`, `c` and `r`.
+    Word,
+    /// A delimiter or a mark, whatever follows it: each but `/`.
+    Mark,
+    /// A letter that a literal's prefix may begin with.
+    Prefix,
+    /// A slash.
+    Slash,
+    /// Nothing of these.
+    Other,
 }
 
-/// Whether a character of ASCII is a delimiter or a mark whatever follows it: each but `/`.
+/// What a character of ASCII tells as the first. Which it is of 64, a bit says.
 #[inline(always)]
-fn is_mark_alone(byte: u8) -> bool
+fn lead_of(byte: u8) -> Lead
     requires { byte < 128 }
-    ensures { result ≡ is_mark_alone byte }
-{
-    is_in_set(0xfc00_7f7a_0000_0000, 0x7800_0000_6800_0001, byte)
-}
-
-/// Whether a set of characters of ASCII, which has a bit for each, holds this one.
-#[inline(always)]
-fn is_in_set(below_64: u64, from_64: u64, byte: u8) -> bool
-    requires { byte < 128 }
-    ensures { result ≡ is_in_set below_64 from_64 byte }
+    ensures word { result ≡ Word → IsTrue (begins_word byte) }
+    ensures mark { result ≡ Mark → IsTrue (is_mark_alone byte) }
+    ensures prefix { result ≡ Prefix → IsTrue (is_prefix_letter byte) }
+    ensures slash { result ≡ Slash → byte ≡ 47 }
 {
     if byte < 64 {
-        (below_64 >> byte) & 1 == 1
-    } else {
-        (from_64 >> (byte - 64)) & 1 == 1
+        if has_bit(0xfc00_7f7a_0000_0000, byte) {
+            return Lead::Mark;
+        }
+        if byte == b'/' {
+            return Lead::Slash;
+        }
+        return Lead::Other;
     }
+    if has_bit(0x07fb_fff2_87ff_fffe, byte - 64) {
+        return Lead::Word;
+    }
+    if has_bit(0x7800_0000_6800_0001, byte - 64) {
+        return Lead::Mark;
+    }
+    if matches!(byte, b'b' | b'c' | b'r') {
+        return Lead::Prefix;
+    }
+    Lead::Other
 }
 
-/// Whether a literal's prefix may begin with the letter.
+/// Whether the bit is set.
 #[inline(always)]
-fn is_prefix_letter(byte: u8) -> bool
-    ensures { result ≡ is_prefix_letter byte }
+fn has_bit(bits: u64, place: u8) -> bool
+    requires { place < 64 }
+    ensures { result ≡ has_bit bits place }
 {
-    matches!(byte, b'b' | b'c' | b'r')
+    (bits >> place) & 1 == 1
 }
 
 /// Whether a word goes on after its first letter, and no literal's prefix: a letter but `r` is next, or `_`. Of a word that

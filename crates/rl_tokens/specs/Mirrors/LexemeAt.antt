@@ -1,6 +1,6 @@
 -- A mirror of the code, for proofs alone: the lexeme at the front of a text as the code finds it,
 -- by the first characters: its form, and the rest after it.
-use Rattle.std.specs.Prelude.{◌≡◌, ℕ, Bool, false, not, ◌&&◌, ◌||◌, ◌==◌, List, [], ◌∷◌, ◌++◌, slice_index, drop, cond, codes, ◌/◌, ◌-◌, ◌^◌, nat_le, nat_lt, bit_and}
+use Rattle.std.specs.Prelude.{◌≡◌, ℕ, Bool, false, not, ◌&&◌, ◌||◌, ◌==◌, List, [], ◌∷◌, ◌++◌, slice_index, drop, cond, codes, ◌/◌, ◌^◌, nat_le, bit_and}
 use Rattle.std.proofs.Common.{suc, zero, Option, Some, None}
 use Rattle.std.specs.Char.{is_ascii_digit}
 use Rattle.std.specs.Option.{option_map}
@@ -180,10 +180,9 @@ makes_comment c = c == code "/" || c == code "*"
 abbrev pub mark_form : ℕ → LexemeForm
 mark_form c = cond (is_among delimiters c) (DelimiterForm c) (MarkForm c)
 
--- a bit for each character that a set holds: of those below 64, and of those from there on
-abbrev pub is_in_set : ℕ → ℕ → ℕ → Bool
-is_in_set below_64 from_64 c =
-    bit_and (cond (nat_lt c 64) (below_64 / 2 ^ c) (from_64 / 2 ^ (c - 64))) 1 == 1
+-- the bit at a place
+abbrev pub has_bit : ℕ → ℕ → Bool
+has_bit bits place = bit_and (bits / 2 ^ place) 1 == 1
 
 abbrev pub literal_at : Option (List ℕ) → Option (LexemeForm × List ℕ)
 literal_at rest = option_map (λ r. (LiteralForm, r)) rest
