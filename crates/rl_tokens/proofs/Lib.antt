@@ -61,3 +61,5 @@ pub mod ScanLemmas
 pub mod RunLanes
 pub mod AsciiRuns
 pub mod WordsAndMarks
+pub mod LiteralSteps
+pub mod TruthWords

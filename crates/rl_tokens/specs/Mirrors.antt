@@ -3,6 +3,7 @@
 
 pub mod LexemeAt
 pub mod SourceAt
+pub mod LiteralsAt
 pub mod SkippedAt
 pub mod TreeBuilders
 pub mod StopsAt

@@ -1,12 +1,15 @@
 //! The token at the front of a source.
 #![tactic(auto, using(crate::proofs::BehindLemmas::behind_step))]
 
-ghost use Rattle.std.specs.Prelude.{◌≡◌, ◌<◌, length, option_map, IfSome, IfNone};
+ghost use Rattle.std.specs.Prelude.{◌≡◌, ◌↔◌, ◌<◌, ◌≤◌, Bool, length, option_map, IfSome, IfNone, IsTrue};
 ghost use Rattle.std.specs.Str.{chars};
 ghost use Rattle.rl_tokens.specs.Texts.{IsTail};
 ghost use Rattle.rl_tokens.specs.Lexemes.{is_continue};
-ghost use Rattle.rl_tokens.specs.Sources.{is_in_line, source_view, SourceBefore, BeginsNoSource, IsWithoutLine, IsWithoutPreamble, without_mark};
+ghost use Rattle.rl_tokens.specs.Cursors.{form_view};
+ghost use Rattle.rl_tokens.specs.Sources.{is_in_line, PlainKind, IsLiteralText, source_view, SourceBefore, BeginsNoSource, IsWithoutLine, IsWithoutPreamble, without_mark};
 ghost use Rattle.rl_tokens.specs.Classes.{after_run};
+ghost use Rattle.rl_tokens.specs.Reading.{truth_text};
+ghost use Rattle.rl_tokens.specs.Mirrors.LiteralsAt.{HoldsNoLiteral};
 ghost use Rattle.rl_tokens.specs.Mirrors.SourceAt.{after_doc, after_name, after_marked, after_any_name, after_lifetime, other_at, stray_at};
 
 use crate::characters::is_start;
@@ -14,7 +17,7 @@ use crate::classes::skip_word;
 use crate::lexeme::{Form, first_lexeme, word_or_mark};
 use crate::no_token::{begins_raw_identifier, opens};
 use crate::scan::{Marks, split_before};
-use crate::text::{begins_with, split_ascii, split_char, strip_byte, without_first};
+use crate::text::{before, begins_with, split_ascii, split_char, strip_byte, without_first};
 use crate::whitespace::{after_block, is_comment_block, is_comment_line, skip};
 
 /// What a token of a source is: what [`Sources`](crate::Sources) cuts off.
@@ -45,6 +48,45 @@ pub(crate) fn first_source(text: &str) -> Option<(SourceForm, &str)>
         return Some((SourceForm::Token(form), following));
     }
     rebuilt_source(text)
+}
+
+/// What is left of a text after words and marks at its front that are no literals, as far as their first bytes tell what
+/// they are, and what stands between them. No token is made of them.
+#[inline(always)]
+pub(crate) fn skip_words_and_marks(text: &str) -> &str
+    ensures holds { HoldsNoLiteral (chars text.now) (chars result.now) }
+    ensures following { IsTail text.now result.now }
+    ensures shorter { length result.now ≤ length text.now }
+{
+    let mut rest = text;
+    while let Some((form, following)) = word_or_mark(rest) {
+        let token = before(rest, following);
+        if is_literal(form, token) {
+            return rest;
+        }
+        rest = skip(following);
+    }
+    rest
+}
+
+/// Whether a token of the form and the text is a literal, or one of the words `true` and `false`.
+#[inline(always)]
+pub(crate) fn is_literal(form: Form, text: &str) -> bool
+    ensures { IsTrue result ↔ IsLiteralText (PlainKind (form_view form)) (chars text.now) }
+{
+    match form {
+        Form::Literal => true,
+        Form::Identifier => is_truth(text),
+        Form::Delimiter(_) | Form::Mark(_) => false,
+    }
+}
+
+/// Whether the text is one of the words `true` and `false`.
+#[inline(always)]
+fn is_truth(text: &str) -> bool
+    ensures { IsTrue result ↔ ((b : Bool) × (chars text.now ≡ truth_text b)) }
+{
+    matches!(text, "true" | "false")
 }
 
 /// What [`source_by_characters`] returns, built anew: what a call returns stands in memory, and so would whatever a caller
