@@ -15,63 +15,16 @@ use Rattle.rl_tokens.specs.Quoted.{is_plain, is_string}
 use Rattle.rl_tokens.specs.Scanning.{is_ascii_other, is_other}
 use Rattle.rl_tokens.specs.Texts.{first_passes}
 use Rattle.rl_tokens.proofs.CommentBytes.{cases128, encode_is_high, low_front}
-use Rattle.rl_tokens.proofs.ScanLemmas.{PassesHigh, prefix_ends, prefix_passes, run_boundary, run_cut, run_plain, run_stop}
+use Rattle.rl_tokens.proofs.AsciiRuns.{PassesLow, RunCut, low_cut}
+use Rattle.rl_tokens.proofs.ScanLemmas.{PassesHigh, run_behind, run_boundary, run_cut, run_plain, run_stop}
 use Rattle.rl_grammar.specs.Mirrors.StrictAt.{is_inside}
 use Rattle.rl_grammar.proofs.PlainLemmas.{plain_high, same_prefix}
 
--- ---- a run of bytes that pass a test, told by characters
+-- ---- runs of bytes that pass a test, told by characters
 
-pub record RunCut (q : ℕ → Bool) (bs : List ℕ) : Type 0 where
-  pub boundary : IsCharBoundary bs (prefix_len q bs)
-  pub cut : chars bs ≡ chars (take (prefix_len q bs) bs) ++ chars (drop (prefix_len q bs) bs)
-  pub plain : list_all q (chars (take (prefix_len q bs) bs)) ≡ true
-  pub stops : first_passes q (chars (drop (prefix_len q bs) bs)) ≡ false
-
--- the test passes ASCII alone
-abbrev pub PassesLow : (ℕ → Bool) → Type 0
-PassesLow q = (c : ℕ) → q c ≡ true → c < 128
-
-module _ (q : ℕ → Bool) (low : PassesLow q) where
-  -- it ends where a character does
-  low_boundary : (bs : List ℕ) (n : ℕ) → IsUtf8 bs → n ≡ prefix_len q bs → IsCharBoundary bs n
-  low_boundary bs zero u e = IsCharBoundary-start bs u
-  low_boundary bs (suc m) u e =
-      let within : m < prefix_len q bs = omega arith in
-      let long = prefix_len-le-length q bs in
-      let next : m + 1 ≡ suc m = omega arith in
-      subst (IsCharBoundary bs) next (IsCharBoundary-after_ascii bs m u (omega arith) (low (get_or bs m 0) (prefix_len_passes q bs m 0 within)))
-
-  -- the bytes in front are ASCII
-  low_all : (bs : List ℕ) → list_all q bs ≡ true → IsAscii bs
-  low_all [] h i = omega arith
-  low_all (b ∷ bs) h zero = low b (and_parts (q b) (list_all q bs) h).0
-  low_all (b ∷ bs) h (suc i) = low_all bs (and_parts (q b) (list_all q bs) h).1 i
-
-  -- what passes no byte passes no character
-  low_head : (cs : List ℕ) → first_passes q (encode_utf8_all cs) ≡ false → first_passes q cs ≡ false
-  low_head [] h = refl
-  low_head (c ∷ cs) h = go (cases128 c)
-    where
-      go : (c < 128) ⊎ (128 ≤ c) → q c ≡ false
-      go (inl small) = ap (first_passes q) (sym (low_front c cs small)) ∙ h
-      go (inr past) = elim (cases_Bool (q c)) [ inl is ↦ absurd (let small = low c is in omega arith) | inr fails ↦ fails ]
-
-  pub low_cut : (bs : List ℕ) → IsUtf8 bs → RunCut q bs
-  low_cut bs u =
-      let n = prefix_len q bs in
-      let at = low_boundary bs n u refl in
-      let front = take n bs in
-      let rest = drop n bs in
-      record {
-        boundary = at;
-        cut = ap chars (sym (take-append-drop n bs)) ∙ chars-append front rest (IsUtf8-take bs n u at);
-        plain = ap (list_all q) (chars-IsAscii front (low_all front (prefix_passes q bs))) ∙ prefix_passes q bs;
-        stops = low_head (chars rest) (ap (first_passes q) (encodes-chars rest (IsUtf8-drop bs n u at)) ∙ prefix_ends q bs);
-      }
-
--- the same of a test that passes all past ASCII
+-- of a test that passes all past ASCII
 high_cut : (q : ℕ → Bool) → PassesHigh q → (bs : List ℕ) → IsUtf8 bs → RunCut q bs
-high_cut q high bs u = record { boundary = run_boundary q high bs; cut = run_cut q high bs u; plain = run_plain q high bs u; stops = run_stop q high bs u }
+high_cut q high bs u = record { boundary = run_boundary q high bs; cut = run_cut q high bs u; plain = run_plain q high bs u; stops = run_stop q high bs u; behind = run_behind q high bs u }
 
 -- ASCII without marks
 other_low : (m : Marks) → PassesLow (is_ascii_other m)

@@ -22,31 +22,6 @@ use Rattle.rl_grammar.proofs.HeadLemmas.{no_head_int, no_head_float}
 use Rattle.rl_grammar.proofs.IntegerLemmas.{no_int}
 use Rattle.rl_grammar.proofs.NumberLemmas.{no_number}
 
--- the bytes of the two words are their characters
-word_chars : (b : Bool) → chars (truth_text b) ≡ truth_text b
-unfolding chars
-word_chars true = refl
-word_chars false = refl
-
--- so are those of a text that is one of them
-pub truth_chars : (t : List ℕ) (b : Bool) → t ≡ truth_text b → chars t ≡ truth_text b
-truth_chars t b e = ap chars e ∙ word_chars b
-
--- and their characters are their bytes
-word_bytes : (b : Bool) → encode_utf8_all (truth_text b) ≡ truth_text b
-unfolding lib.Utf8.encode
-word_bytes true = refl
-word_bytes false = refl
-
--- and so they are of such a text
-pub truth_bytes : (t : List ℕ) (b : Bool) → IsUtf8 t → chars t ≡ truth_text b → t ≡ truth_text b
-truth_bytes t b u e = sym (encodes-chars t u) ∙ ap encode_utf8_all e ∙ word_bytes b
-
--- a text of other bytes than those of the two words is none of them
-pub no_word : (t : List ℕ) → IsUtf8 t → t ≢ truth_text true → t ≢ truth_text false → (b : Bool) → chars t ≢ truth_text b
-no_word t u h k true e = h (truth_bytes t true u e)
-no_word t u h k false e = k (truth_bytes t false u e)
-
 -- a text that is no form's is no literal
 pub no_reading : (t : List ℕ) → HasNoQuoted t → HasNoNumber t → HasNoTruth t → HasNoReading t
 no_reading t q n b Int c x r = n Int c x r

@@ -1,8 +1,9 @@
 -- What is shown of a source, token after token.
-use Rattle.std.proofs.Common.{◌≡◌, ◌≢◌, ℕ, ◌+◌, Bool, true, false, not, ◌||◌, ◌==◌, List, [], ◌∷◌, ◌++◌, length, take, refl, sym, ap, subst, ◌∙◌, append_assoc, arith}
+use Rattle.std.proofs.Common.{◌≡◌, ◌≢◌, inl, inr, ℕ, ◌+◌, ◌-◌, drop, Bool, true, false, not, ◌||◌, ◌==◌, List, [], ◌∷◌, ◌++◌, length, take, refl, sym, ap, subst, ◌∙◌, append_assoc, arith}
 use Rattle.std.specs.Prelude.{IsTrue, ◌↔◌, Option}
 use Rattle.std.specs.Io.KnownBytes.{Appends as AppendsBytes}
-use Rattle.std.specs.Str.{chars, encode_utf8_all, IsUtf8}
+use Rattle.std.specs.List.{AllByRecursion}
+use Rattle.std.specs.Str.{chars, encode_utf8_all, IsCharBoundary, IsUtf8}
 use Rattle.std.proofs.KnownBytes.{Appends-nil, Appends-trans}
 use Rattle.std.proofs.lemmas.Bool.{false≢true, eqb-true}
 use Rattle.std.proofs.Math.Seq.{take-append-add}
@@ -11,21 +12,22 @@ use Rattle.std.proofs.lemmas.List.{append-nil}
 use Rattle.std.proofs.lemmas.List.Elements.{All-nil, All-push}
 use Rattle.rl_tokens.specs.Texts.{IsTail, byte_len}
 use Rattle.rl_tokens.specs.Cursors.{CursorState, IsCursorState}
-use Rattle.rl_tokens.specs.Sources.{source_text, source_end, source_view, SourceKind, StrayKind, CutSource, IsCutUpTo, IsBorrowedSource, TakesSource}
+use Rattle.rl_tokens.specs.Lexemes.{LiteralForm, IdentifierForm, DelimiterForm, MarkForm}
+use Rattle.rl_tokens.specs.Sources.{source_text, source_end, source_view, kind_of, SourceKind, PlainKind, RawIdentifierKind, LifetimeKind, DocCommentKind, StrayKind, CutSource, IsCutUpTo, IsBorrowedSource, TakesSource, IsLiteralText, IsNoLiteral, PassesTo}
 use Rattle.rl_tokens.specs.declared.sources.SourceToken.{SourceToken}
 use Rattle.rl_tokens.specs.declared.lex_error.LexError.{LexError}
-use Rattle.rl_tokens.proofs.BehindLemmas.{behind_step}
+use Rattle.rl_tokens.proofs.BehindLemmas.{behind_self, behind_step, cut_boundary, cut_drop}
 use Rattle.rl_tokens.proofs.Faults.{char_len, chars_some}
 use Rattle.rl_program.specs.Streams.{AppendsBeginning}
-use Rattle.rl_lines.specs.Lines.{Appends}
+use Rattle.rl_lines.specs.Lines.{Appends, Joins}
 use Rattle.rl_lines.proofs.JoinLemmas.{joins_append, joins_one}
 use Rattle.rl_sources.specs.declared.options.Options.{Options}
 use Rattle.rl_sources.specs.declared.place.Place.{Place}
 use Rattle.rl_sources.specs.declared.step.Step.{Step}
 use Rattle.rl_sources.specs.declared.step.Step.TheVariants.{More, End, Error}
 use Rattle.rl_sources.specs.Places.{IsPlaceIn}
-use Rattle.rl_sources.specs.Scans.{IsShownToken, IsShown, IsNoStray, ShowsUpTo, ShowsFront, IsErrorAt}
-use Rattle.rl_sources.specs.Steps.{BeginsRest, StandsAt, Adds, IsStepOf}
+use Rattle.rl_sources.specs.Scans.{IsShownLiteral, IsShownToken, IsShown, IsNoStray, ShowsUpTo, ShowsFront, IsErrorAt}
+use Rattle.rl_sources.specs.Steps.{BeginsRest, StandsAt, Adds, IsUnshown, TakesShown, IsStepOf}
 
 -- nothing more
 pub adds_none : (options : Options) (whole rest piece : List ℕ) → piece ≡ [] → Adds options whole rest rest piece
@@ -102,6 +104,104 @@ stops options text old places start piece e place same stands adds error at is_p
   omega (arith, at, ap length same, ap (λ t. byte_len (chars t)) same, char_len old.rest stands.cursor.following.is_text, char_len old.text stands.cursor.is_text),
   subst (λ (t : List ℕ). IsPlaceIn options.by_line (chars t) e.at e.at place) (stands.text_is ∙ same) is_place,
 )
+
+-- two pieces, one after the other
+pub adds_join : (options : Options) (whole a b d first last : List ℕ) → Adds options whole a b first → Adds options whole b d last → Adds options whole a d (first ++ last)
+adds_join options whole a b d first last p q = record {
+  more = p.more ++ q.more;
+  goes_on = λ cuts shown shows.
+      let P : List CutSource → List ℕ → Type 0 = λ c s. ShowsUpTo options whole c d s in
+      subst (λ c. P c (shown ++ (first ++ last))) (append_assoc cuts p.more q.more)
+      (subst (P ((cuts ++ p.more) ++ q.more)) (append_assoc shown first last) (q.goes_on (cuts ++ p.more) (shown ++ first) (p.goes_on cuts shown shows)));
+}
+
+-- ---- tokens of which nothing is shown
+
+nothing_of : (options : Options) (whole text : List ℕ) (kind : SourceKind) (lo hi : ℕ) → (IsLiteralText kind text → ⊥) → IsShownToken options whole kind text lo hi []
+nothing_of options whole text (PlainKind LiteralForm) lo hi other = absurd (other tt)
+nothing_of options whole text (PlainKind IdentifierForm) lo hi other = inr (λ b e. other (b, e), refl)
+nothing_of options whole text (PlainKind (DelimiterForm c)) lo hi other = refl
+nothing_of options whole text (PlainKind (MarkForm c)) lo hi other = refl
+nothing_of options whole text RawIdentifierKind lo hi other = refl
+nothing_of options whole text LifetimeKind lo hi other = refl
+nothing_of options whole text DocCommentKind lo hi other = refl
+nothing_of options whole text StrayKind lo hi other = refl
+
+joins_nothing : (options : Options) (whole : List ℕ) (ws : List CutSource) → AllByRecursion IsNoLiteral ws → Joins (IsShown options whole) ws []
+joins_nothing options whole [] each = refl
+joins_nothing options whole (w ∷ ws) each =
+    joins_append (IsShown options whole) (w ∷ []) ws [] [] (joins_one (IsShown options whole) w [] (nothing_of options whole (source_text w.token) (kind_of w.token) w.at (source_end w) each.0)) (joins_nothing options whole ws each.1)
+
+pub unshown_passed : (options : Options) (old new : CursorState) → options.rejects_strays ≡ false → PassesTo old new → IsUnshown options old new
+unshown_passed options old new lax p = record {
+  adds = record {
+    more = p.cuts;
+    goes_on = λ cuts shown shows. record {
+      are_cuts = p.goes_on cuts shows.are_cuts;
+      accepted = λ rejects. absurd (false≢true (sym lax ∙ rejects));
+      lines = joins_append (IsShown options (chars old.text)) cuts p.cuts shown [] shows.lines (joins_nothing options (chars old.text) p.cuts p.others);
+    };
+  };
+  same = p.same;
+  following = p.following;
+}
+
+pub unshown_none : (options : Options) (old : CursorState) → IsCursorState old.text old.rest → IsUnshown options old old
+unshown_none options old is = record { adds = adds_none options (chars old.text) (chars old.rest) [] refl; same = refl; following = behind_self old.rest is.following.is_text }
+
+pub unshown_more : (options : Options) (a b d : CursorState) (l : SourceToken) → IsUnshown options a b → TakesSource b l d → (IsTrue options.rejects_strays → source_view l.form ≢ StrayKind) → (IsLiteralText (source_view l.form) (chars l.text.now) → ⊥) → IsUnshown options a d
+unshown_more options a b d l u takes accepted other = record {
+  adds = adds_token options a.text (chars a.rest) b d b.text l [] [] u.same refl u.adds takes accepted ([], nothing_of options (chars b.text) (chars l.text.now) (source_view l.form) l.lo l.hi other, refl);
+  same = takes.same ∙ u.same;
+  following = behind_step a.rest b.rest d.rest u.following takes.following;
+}
+
+-- the cursor before a literal, or before an error
+pub stands_before : (options : Options) (tokens between : CursorState) (places : List ℕ) → StandsAt tokens places → IsUnshown options tokens between → StandsAt between places
+stands_before options tokens between places stands unshown =
+    let tail : IsTail tokens.text between.rest = behind_step tokens.text tokens.rest between.rest stands.cursor.following unshown.following in
+    record {
+      cursor = subst (λ t. IsCursorState t between.rest) (sym unshown.same) (record { is_text = stands.cursor.is_text; following = tail });
+      text_is = stands.text_is ∙ sym unshown.same;
+    }
+
+-- a literal is shown as one, and is no stray
+shown_literal : (options : Options) (whole text : List ℕ) (kind : SourceKind) (lo hi : ℕ) (shown : List ℕ) → IsLiteralText kind text → IsShownLiteral options whole text lo hi shown → IsShownToken options whole kind text lo hi shown
+shown_literal options whole text (PlainKind LiteralForm) lo hi shown is h = h
+shown_literal options whole text (PlainKind IdentifierForm) lo hi shown is h = inl (is.0, is.1, h)
+shown_literal options whole text (PlainKind (DelimiterForm c)) lo hi shown is h = absurd is
+shown_literal options whole text (PlainKind (MarkForm c)) lo hi shown is h = absurd is
+shown_literal options whole text RawIdentifierKind lo hi shown is h = absurd is
+shown_literal options whole text LifetimeKind lo hi shown is h = absurd is
+shown_literal options whole text DocCommentKind lo hi shown is h = absurd is
+shown_literal options whole text StrayKind lo hi shown is h = absurd is
+
+no_stray : (text : List ℕ) (kind : SourceKind) → IsLiteralText kind text → kind ≢ StrayKind
+no_stray text kind is same = subst (λ k. IsLiteralText k text) same is
+
+pub adds_literal : (options : Options) (text start : List ℕ) (old new : CursorState) (places : List ℕ) (l : SourceToken) (piece longer : List ℕ) → old.text ≡ text → places ≡ old.text → Adds options (chars text) start (chars old.rest) piece → (t : TakesShown options old l new) → Appends (IsShownLiteral options (chars places) (chars l.text.now) l.lo l.hi) piece longer → Adds options (chars text) start (chars new.rest) longer
+adds_literal options text start old new places l piece longer same seen adds t (last, is_last, longer_is) =
+    let between = t.between in
+    let nothing : Adds options (chars text) (chars old.rest) (chars between.rest) [] = subst (λ (z : List ℕ). Adds options (chars z) (chars old.rest) (chars between.rest) []) same t.unshown.adds in
+    let before : Adds options (chars text) start (chars between.rest) piece = subst (λ (z : List ℕ). Adds options (chars text) start (chars between.rest) z) (append-nil piece) (adds_join options (chars text) start (chars old.rest) (chars between.rest) piece [] adds nothing) in
+    adds_token options text start between new places l piece longer (t.unshown.same ∙ same) (seen ∙ sym t.unshown.same) before t.takes (λ _. no_stray (chars l.text.now) (source_view l.form) t.is_literal)
+    (last, shown_literal options (chars places) (chars l.text.now) (source_view l.form) l.lo l.hi last t.is_literal is_last, longer_is)
+
+pub adds_unshown : (options : Options) (text start piece : List ℕ) (old new : CursorState) → old.text ≡ text → Adds options (chars text) start (chars old.rest) piece → IsUnshown options old new → Adds options (chars text) start (chars new.rest) piece
+adds_unshown options text start piece old new same adds unshown =
+    let nothing : Adds options (chars text) (chars old.rest) (chars new.rest) [] = subst (λ (z : List ℕ). Adds options (chars z) (chars old.rest) (chars new.rest) []) same unshown.adds in
+    subst (λ (z : List ℕ). Adds options (chars text) start (chars new.rest) z) (append-nil piece) (adds_join options (chars text) start (chars old.rest) (chars new.rest) piece [] adds nothing)
+
+-- where a rest of the text begins
+pub rest_boundary : (text places rest : List ℕ) (at : ℕ) → IsCursorState text rest → places ≡ text → at + length rest ≡ length text → IsCharBoundary places at
+rest_boundary text places rest at is seen place =
+    let e : length text - length rest ≡ at = omega (arith, place) in
+    subst (λ (t : List ℕ). IsCharBoundary t at) (sym seen) (subst (IsCharBoundary text) e (cut_boundary text rest is.following))
+
+pub rest_is : (text places rest taken : List ℕ) (at : ℕ) → IsCursorState text rest → places ≡ text → at + length rest ≡ length text → taken ≡ drop at places → taken ≡ rest
+rest_is text places rest taken at is seen place drops =
+    let e : at ≡ length text - length rest = omega (arith, place) in
+    drops ∙ ap (λ t. drop at t) seen ∙ ap (λ n. drop n text) e ∙ cut_drop text rest is.following
 
 -- ---- what was written
 

@@ -78,13 +78,6 @@ explained options whole text label place lo hi old mid new is_label picked is_pl
 pub not_picked : (options : Options) (whole text label : List ℕ) (lo hi : ℕ) (old : List ℕ) → IsLabelOf text label → (Picks options.shown label → ⊥) → Appends (IsShownLiteral options whole text lo hi) old old
 not_picked options whole text label lo hi old is_label none = ([], (label, is_label, inr (none, refl)), sym (append-nil old))
 
--- of an identifier that is no truth value nothing is shown
-pub no_truth : (options : Options) (whole text : List ℕ) (form : SourceForm) (lo hi : ℕ) (old : List ℕ) → form ≡ Token Identifier → ((b : Bool) → text ≢ truth_text b) → Appends (IsShownToken options whole (source_view form) text lo hi) old old
-no_truth options whole text form lo hi old is none =
-    let Shown : SourceForm → Type 0 = λ f. IsShownToken options whole (source_view f) text lo hi [] in
-    let here : Shown (Token Identifier) = inr (none, refl) in
-    ([], subst Shown (sym is) here, sym (append-nil old))
-
 -- no token begins what is left, and no error stands there: it is the end
 pub at_end : (old new : CursorState) → BeginsNoSource (chars old.rest) → new ≡ old → (new.rest ≡ []) ⊎ ((kind : SourceKind) × (after : List ℕ) × SourceBefore (chars new.rest) kind after) → old.rest ≡ []
 at_end old new none stays (inl ends) = ap (λ (s : CursorState). s.rest) (sym stays) ∙ ends

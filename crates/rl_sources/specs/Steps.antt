@@ -1,9 +1,10 @@
 -- Steps of a scan.
 use Rattle.std.specs.Prelude.{◌≡◌, ◌≢◌, ℕ, ◌+◌, ◌<◌, Bool, List, [], ◌∷◌, ◌++◌, length, IsTrue, Option, IfSome}
 use Rattle.std.specs.Str.{chars}
-use Rattle.rl_tokens.specs.Texts.{byte_len}
+use Rattle.rl_tokens.specs.Texts.{byte_len, IsTail}
 use Rattle.rl_tokens.specs.Cursors.{CursorState, IsCursorState}
-use Rattle.rl_tokens.specs.Sources.{CutSource, StrayKind, source_view}
+use Rattle.rl_tokens.specs.Sources.{CutSource, StrayKind, source_view, TakesSource, IsLiteralText}
+use Rattle.rl_tokens.specs.declared.lex_error.LexError.{LexError}
 use Rattle.rl_tokens.specs.declared.sources.SourceToken.{SourceToken}
 use Rattle.rl_lines.specs.Lines.{IsLineOf}
 use Prim.Native.Char.{code}
@@ -43,6 +44,31 @@ pub record Adds (options : Options) (whole old new piece : List ℕ) : Type 0 wh
   pub more : List CutSource
   pub goes_on : (cuts : List CutSource) (shown : List ℕ) → ShowsUpTo options whole cuts old shown
       → ShowsUpTo options whole (cuts ++ more) new (shown ++ piece)
+
+-- From the old cursor to the new one nothing is shown.
+pub record IsUnshown (options : Options) (old new : CursorState) : Type 0 where
+  pub adds : Adds options (chars old.text) (chars old.rest) (chars new.rest) []
+  pub same : new.text ≡ old.text
+  pub following : IsTail old.rest new.rest
+
+-- After tokens of which nothing is shown comes this literal.
+pub record TakesShown (options : Options) (old : CursorState) (l : SourceToken) (new : CursorState)
+    : Type 0 where
+  pub between : CursorState
+  pub unshown : IsUnshown options old between
+  pub takes : TakesSource between l new
+  pub is_literal : IsLiteralText (source_view l.form) (chars l.text.now)
+
+-- Nothing is shown up to the end.
+abbrev pub EndsUnshown : Options → CursorState → Type 0
+EndsUnshown options old = (end : CursorState) × IsUnshown options old end × (end.rest ≡ [])
+
+-- Nothing is shown up to this error.
+pub record StopsUnshown (options : Options) (old : CursorState) (e : LexError) : Type 0 where
+  pub stop : CursorState
+  pub unshown : IsUnshown options old stop
+  pub error : IsErrorAt options.rejects_strays e.kind (chars stop.rest)
+  pub place : e.at + length stop.rest ≡ length stop.text
 
 -- What was gathered is what is shown from the old cursor on, up to the new one, where there is
 -- more to gather.

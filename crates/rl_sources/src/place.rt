@@ -1,7 +1,7 @@
 //! Places of a source, as they are printed.
 
-ghost use Rattle.std.specs.Prelude.{◌≡◌, ◌+◌, length, Some};
-ghost use Rattle.std.specs.Str.{chars};
+ghost use Rattle.std.specs.Prelude.{◌≡◌, ◌+◌, drop, length, Some};
+ghost use Rattle.std.specs.Str.{chars, IsCharBoundary};
 ghost use Rattle.rl_tokens.specs.Cursors.{IsCursorState};
 ghost use Rattle.rl_tokens.specs.Lines.{BeginsAt};
 ghost use Rattle.rl_sources.specs.Places.{place_text, IsPlaceIn};
@@ -61,6 +61,14 @@ impl<'t> Places<'t> {
             rest: text,
             lines: Lines::new(text),
         }
+    }
+
+    /// The rest of the text that begins at this byte.
+    pub(crate) fn rest_at(&self, lo: usize) -> &'t str
+        requires { IsCharBoundary self.now lo }
+        ensures { result.now ≡ drop lo self.now }
+    {
+        &self.text[lo..]
     }
 
     /// The line and column where a rest of the text begins.

@@ -3,18 +3,19 @@
 ghost use Rattle.std.specs.Prelude.{◌≡◌, ◌+◌, ◌<◌, [], length, Some, None, IfSome, IfNone, IfOk, IfErr, OnOk, MatchOption, string_bytes};
 ghost use Rattle.std.specs.Str.{chars};
 ghost use Rattle.rl_tokens.specs.Reading.{HasNoReading};
-ghost use Rattle.rl_tokens.specs.Sources.{source_view, TakesSource};
+ghost use Rattle.rl_tokens.specs.Cursors.{IsCursorState};
+ghost use Rattle.rl_tokens.specs.Sources.{TakesSource};
 ghost use Rattle.rl_grammar.specs.Founds.{IsFound};
 ghost use Rattle.rl_lines.specs.Lines.{Appends};
-ghost use Rattle.rl_sources.specs.Scans.{IsShownLiteral, IsShownToken, IsErrorAt};
-ghost use Rattle.rl_sources.specs.Steps.{IsPlacedText, IsAccepted, BeginsRest, StandsAt, IsStepOf};
+ghost use Rattle.rl_sources.specs.Scans.{IsShownLiteral, IsErrorAt};
+ghost use Rattle.rl_sources.specs.Steps.{IsPlacedText, IsAccepted, BeginsRest, StandsAt, TakesShown, EndsUnshown, StopsUnshown, IsStepOf};
 
 use crate::options::Options;
 use crate::place::{Place, Places, place_of};
 use crate::reason::push_reason;
-use rl_grammar::{Found, Kind, find, truth_of};
+use rl_grammar::{Found, Kind, find};
 use rl_lines::{label_of, push_found};
-use rl_tokens::{Form, LexError, LexKind, SourceForm, SourceToken, Sources};
+use rl_tokens::{LexError, LexKind, SourceForm, SourceToken, Sources};
 use std::alloc::{AllocError, Allocator};
 
 /// How many bytes of lines are gathered before they are written.
@@ -48,6 +49,7 @@ fn push_placed<A: Allocator + Copy>(
 }
 
 /// Appends what is shown of a literal: its line after its place, and what follows it, where it is picked.
+#[inline(never)]
 fn push_literal_token<'t, A: Allocator + Copy>(
     alloc: A,
     out: &mut String<A>,
@@ -72,35 +74,8 @@ fn push_literal_token<'t, A: Allocator + Copy>(
     push_reason(out, options, token, rest, places)
 }
 
-/// Appends what is shown of a token, at whose first byte the rest of the source begins.
-fn push_token<'t, A: Allocator + Copy>(
-    alloc: A,
-    out: &mut String<A>,
-    options: Options<'_>,
-    token: SourceToken<'t>,
-    rest: &'t str,
-    places: &mut Places<'t>,
-) -> Result<(), AllocError>
-    requires { BeginsRest token places.old rest.now }
-    ensures shown { OnOk result (Appends
-        (IsShownToken options.entry (chars places.old) (source_view token.entry.form)
-        (chars token.entry.text.now) token.entry.lo token.entry.hi)
-        (chars (string_bytes out.old)) (chars (string_bytes out.new))) }
-    ensures same { places.new ≡ places.old }
-{
-    match token.form {
-        SourceForm::Token(Form::Literal) => {
-            push_literal_token(alloc, out, options, token, rest, places)
-        }
-        SourceForm::Token(Form::Identifier) => match truth_of(token.text) {
-            Some(_) => push_literal_token(alloc, out, options, token, rest, places),
-            None => Ok(()),
-        },
-        _ => Ok(()),
-    }
-}
-
 /// Cuts off the next token: `None` at the end of the source.
+#[inline(always)]
 fn next_token<'t>(
     rejects_strays: bool,
     tokens: &mut Sources<'t>,
@@ -126,6 +101,57 @@ fn next_token<'t>(
     }
 }
 
+/// Cuts off the tokens up to the next literal and that one, where a stray character is an error: `None` where the source
+/// ends before one comes.
+fn next_strictly<'t>(
+    options: Options<'_>,
+    tokens: &mut Sources<'t>,
+) -> Result<Option<SourceToken<'t>>, LexError>
+    requires { IsCursorState tokens.old.text tokens.old.rest }
+    ensures literal { IfOk result (λ token. MatchOption token
+        (EndsUnshown options.entry tokens.old) (λ l. TakesShown options.entry tokens.old l tokens.new)) }
+    ensures shorter { IfOk result (λ token. IfSome token
+        (λ l. length tokens.new.rest < length tokens.old.rest)) }
+    ensures error { IfErr result (StopsUnshown options.entry tokens.old) }
+{
+    loop {
+        match next_token(options.rejects_strays, tokens) {
+            Ok(Some(token)) => {
+                if token.is_literal() {
+                    return Ok(Some(token));
+                }
+            }
+            Ok(None) => return Ok(None),
+            Err(error) => return Err(error),
+        }
+    }
+}
+
+/// Cuts off the tokens up to the next literal and that one: `None` where the source ends before one comes.
+#[inline(always)]
+fn next_literal<'t>(
+    options: Options<'_>,
+    tokens: &mut Sources<'t>,
+) -> Result<Option<SourceToken<'t>>, LexError>
+    requires { IsCursorState tokens.old.text tokens.old.rest }
+    ensures literal { IfOk result (λ token. MatchOption token
+        (EndsUnshown options.entry tokens.old) (λ l. TakesShown options.entry tokens.old l tokens.new)) }
+    ensures shorter { IfOk result (λ token. IfSome token
+        (λ l. length tokens.new.rest < length tokens.old.rest)) }
+    ensures error { IfErr result (StopsUnshown options.entry tokens.old) }
+{
+    if options.rejects_strays {
+        return next_strictly(options, tokens);
+    }
+    match tokens.next_literal() {
+        Some(token) => Ok(Some(token)),
+        None => match tokens.error() {
+            Some(error) => Err(error),
+            None => Ok(None),
+        },
+    }
+}
+
 /// What comes after the lines that were gathered.
 #[derive(Clone, Copy)]
 pub(crate) enum Step {
@@ -137,7 +163,7 @@ pub(crate) enum Step {
     Error(Place, LexKind),
 }
 
-/// Gathers the lines of tokens, as many as are to be written at once.
+/// Gathers the lines of literals, as many as are to be written at once.
 pub(crate) fn gather<'t, A: Allocator + Copy>(
     alloc: A,
     options: Options<'_>,
@@ -151,11 +177,14 @@ pub(crate) fn gather<'t, A: Allocator + Copy>(
         tokens.new places.new) }
 {
     while out.len() < FULL {
-        let rest = tokens.rest();
-        match next_token(options.rejects_strays, tokens) {
-            Ok(Some(token)) => push_token(alloc, out, options, token, rest, places)?,
+        match next_literal(options, tokens) {
+            Ok(Some(token)) => {
+                let rest = places.rest_at(token.lo);
+                push_literal_token(alloc, out, options, token, rest, places)?
+            }
             Ok(None) => return Ok(Step::End),
             Err(error) => {
+                let rest = places.rest_at(error.at);
                 let place = place_of(options.by_line, places, rest, error.at, error.at);
                 return Ok(Step::Error(place, error.kind));
             }

@@ -70,10 +70,10 @@ class39 = class_other 39 (start_ascii 39 (lit< tt))
 pub class47 : head_class 47 ≡ SlashHead
 class47 = class_other 47 (start_ascii 47 (lit< tt))
 
-class98 : head_class 98 ≡ LetterBHead
+pub class98 : head_class 98 ≡ LetterBHead
 class98 = class_start 98 (start_ascii 98 (lit< tt))
 
-class99 : head_class 99 ≡ LetterCHead
+pub class99 : head_class 99 ≡ LetterCHead
 class99 = class_start 99 (start_ascii 99 (lit< tt))
 
 pub class114 : head_class 114 ≡ LetterRHead
@@ -105,10 +105,10 @@ not_delimiter codes c all is = not_true (is_among delimiters c) (among codes (λ
 pub front_delimiter : (c : ℕ) (t : List ℕ) → IsTrue (is_among delimiters c) → lexeme_at (c ∷ t) ≡ Some (DelimiterForm c, t)
 front_delimiter c t is = at_class c t DelimiterHead (class_other c (not_start_among delimiters c refl refl is) ∙ ap (λ b. cond b DelimiterHead (after_delimiter c)) is)
 
-front_slash : (t : List ℕ) → first_passes (λ d. d == 47 || d == 42) t ≡ false → lexeme_at (47 ∷ t) ≡ Some (MarkForm 47, t)
+pub front_slash : (t : List ℕ) → first_passes (λ d. d == 47 || d == 42) t ≡ false → lexeme_at (47 ∷ t) ≡ Some (MarkForm 47, t)
 front_slash t h = at_class 47 t SlashHead class47 ∙ ap (λ b. cond b None (Some (MarkForm 47, t))) h
 
-front_mark : (c : ℕ) (t : List ℕ) → IsLexeme (MarkLexeme c) t → lexeme_at (c ∷ t) ≡ Some (MarkForm c, t)
+pub front_mark : (c : ℕ) (t : List ℕ) → IsLexeme (MarkLexeme c) t → lexeme_at (c ∷ t) ≡ Some (MarkForm c, t)
 front_mark c t (inl is) =
     at_class c t MarkHead
     (class_other c (not_start_among marks c refl refl is)

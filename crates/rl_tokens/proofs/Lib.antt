@@ -58,3 +58,8 @@ pub mod TreeRests
 pub mod MarkLemmas
 pub mod LaneLemmas
 pub mod ScanLemmas
+pub mod RunLanes
+pub mod AsciiRuns
+pub mod WordsAndMarks
+pub mod LiteralSteps
+pub mod TruthWords

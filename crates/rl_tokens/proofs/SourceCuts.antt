@@ -47,7 +47,7 @@ sources_more at t (d ∷ done) u w after r (rest, first, first_is, first_place, 
   sources_more (source_end d) rest done u w after r more same is (place ∙ sym (behind_place d rest (at + byte_len t) first_place)) skipped,
 )
 
-cut_more : (t : List ℕ) (done : List CutSource) (u : List ℕ) (w : CutSource) (after r : List ℕ) → IsCutUpTo t done u → u ≡ source_text w.token ++ after → IsSource w.token after → w.at + byte_len u ≡ byte_len t → Skipped after r → IsCutUpTo t (done ++ w ∷ []) r
+pub cut_more : (t : List ℕ) (done : List CutSource) (u : List ℕ) (w : CutSource) (after r : List ℕ) → IsCutUpTo t done u → u ≡ source_text w.token ++ after → IsSource w.token after → w.at + byte_len u ≡ byte_len t → Skipped after r → IsCutUpTo t (done ++ w ∷ []) r
 cut_more t done u w after r cut same is place skipped = record {
   at = cut.at;
   body = cut.body;

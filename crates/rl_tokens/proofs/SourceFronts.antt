@@ -1,7 +1,9 @@
 -- What a source has beside lexemes, at the front of a text: what `other_at` takes off is such a
 -- token, and each such token is what it takes off.
-use Rattle.std.proofs.Common.{◌≡◌, ℕ, inl, inr, Bool, true, false, not, ◌||◌, ◌==◌, cond, List, [], ◌∷◌, ◌++◌, append-nil, Option, Some, None, slice_index, drop, refl, sym, ◌∙◌, ap, subst, Bor}
+use Rattle.std.proofs.Common.{◌≡◌, ℕ, inl, inr, Bool, true, false, not, ◌||◌, ◌==◌, cond, List, [], ◌∷◌, ◌++◌, append-nil, Option, Some, None, slice_index, drop, refl, sym, ◌∙◌, ap, subst, Bor, arith}
+use Rattle.std.proofs.lemmas.Bool.{ltb-false}
 use Rattle.std.proofs.lemmas.Option.{none-some}
+use Rattle.std.specs.Char.{is_ascii}
 use Rattle.std.specs.Prelude.{⊤, codes}
 use Rattle.std.specs.List.{list_all}
 use Rattle.std.specs.Option.{IfSome, IfNone, option_map, option_and_then}
@@ -18,6 +20,7 @@ use Rattle.rl_tokens.specs.Mirrors.SourceAt.{after_doc, after_name, after_marked
 use Rattle.rl_tokens.specs.Sources.{is_in_line, is_apostrophe, SourceLexeme, PlainToken, RawIdentifierToken, LifetimeToken, RawLifetimeToken, DocLineToken, DocBlockToken, StrayToken, source_text, IsName, IsProper, BeginsProper, Opens, IsSource, SourceKind, PlainKind, RawIdentifierKind, LifetimeKind, DocCommentKind, StrayKind, kind_of, source_view, SourceBefore, BeginsNoSource, IsScriptLine}
 use Rattle.rl_tokens.specs.declared.scan.Marks.{Marks}
 use Rattle.rl_tokens.specs.declared.source.SourceForm.{SourceForm}
+use Rattle.rl_tokens.proofs.CommentBytes.{not_equal}
 use Rattle.rl_tokens.proofs.Comments.{chosen, same_Some, Closes, after_block-sound, after_block-past, plain_line-same, plain_block-same}
 use Rattle.rl_tokens.proofs.CommentSteps.{one_line}
 use Rattle.rl_tokens.proofs.LexemeFound.{run_found}
@@ -349,3 +352,21 @@ no_source t no_lexeme h kind r before = go before.token before.is_source before.
 pub source_none : (t : List ℕ) (r : Answer) → NoLexeme t → option_map seen r ≡ any_at t → IfNone r (BeginsNoSource t)
 source_none t None no_lexeme h = no_source t no_lexeme (sym h)
 source_none t (Some p) no_lexeme h = tt
+
+pub other_found : (t : List ℕ) (r : Answer) (p : SourceForm × Bor (List ℕ)) → r ≡ Some p → option_map seen r ≡ other_at t → SourceBefore t (source_view p.0) (chars p.1.now)
+other_found t r p is rest = other_at-found t (seen p) (sym rest ∙ ap (option_map seen) is)
+
+-- where it is neither a lexeme nor what `other_at` takes off, it is a stray
+pub no_other : (t : List ℕ) (o r : Answer) → o ≡ None → option_map seen o ≡ other_at t → option_map seen r ≡ stray_at t → option_map seen r ≡ any_at t
+no_other t o r none other stray = stray ∙ ap (λ x. or_stray x t) (sym (ap (option_map seen) none) ∙ other)
+
+-- what is past ASCII begins no other token
+pub wide_other : (t : List ℕ) → first_passes is_ascii t ≡ false → None ≡ other_at t
+wide_other [] h = refl
+wide_other (c ∷ t) h =
+    let high = ltb-false c 128 h in
+    rw (not_equal c 47 (omega arith) high, not_equal c 39 (omega arith) high, not_equal c 114 (omega arith) high) refl
+
+pub wide_doc : (t : List ℕ) → first_passes is_ascii t ≡ false → None ≡ after_doc t
+wide_doc [] h = refl
+wide_doc (c ∷ t) h = rw (not_equal c 47 (omega arith) (ltb-false c 128 h), not_equal c 42 (omega arith) (ltb-false c 128 h)) refl

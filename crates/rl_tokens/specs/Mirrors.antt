@@ -3,6 +3,8 @@
 
 pub mod LexemeAt
 pub mod SourceAt
+pub mod LiteralsAt
 pub mod SkippedAt
 pub mod TreeBuilders
 pub mod StopsAt
+pub mod RunsAt

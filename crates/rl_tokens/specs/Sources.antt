@@ -1,15 +1,17 @@
 -- The tokens of a whole source, and how it is cut into them: the lexemes, and beside them raw
 -- identifiers, lifetimes and doc comments. A byte order mark and an interpreter's line may stand
 -- before them.
-use Rattle.std.specs.Prelude.{◌≡◌, ◌⊎◌, ℕ, ◌+◌, Bool, false, not, ◌==◌, List, [], ◌∷◌, ◌++◌, length, map, IsTrue, IsFalse, codes, encode_utf8_all, Option, MatchOption, if◌then◌else◌}
+use Rattle.std.specs.Prelude.{◌≡◌, ◌⊎◌, ℕ, ◌+◌, Bool, false, not, ◌==◌, List, [], ◌∷◌, ◌++◌, length, map, IsTrue, IsFalse, codes, encode_utf8_all, Option, MatchOption, ⊤, if◌then◌else◌}
 use Prim.Native.Char.{code}
+use Rattle.std.specs.List.{AllByRecursion}
 use Rattle.std.specs.Str.{chars}
 use Rattle.rl_tokens.specs.Texts.{first_passes, begins, byte_len, IsTail}
 use Rattle.rl_tokens.specs.Trivia.{Inside, inside_text, IsInside, is_comment_line, is_comment_block}
 use Rattle.rl_tokens.specs.Skipping.{Skipped}
-use Rattle.rl_tokens.specs.Lexemes.{Lexeme, lexeme_text, IsLexeme, IsRow, LexemeForm, form_of, is_start, is_continue, begins_raw_identifier}
+use Rattle.rl_tokens.specs.Lexemes.{Lexeme, lexeme_text, IsLexeme, IsRow, LexemeForm, LiteralForm, IdentifierForm, form_of, is_start, is_continue, begins_raw_identifier}
 use Rattle.rl_tokens.specs.Lexing.{BeginsQuote, LexedToken, LexesUpTo}
 use Rattle.rl_tokens.specs.Cursors.{CursorState, form_view}
+use Rattle.rl_tokens.specs.Reading.{truth_text}
 use Rattle.rl_tokens.specs.declared.lex_error.LexKind.{LexKind}
 use Rattle.rl_tokens.specs.declared.lex_error.LexKind.TheVariants.{UnclosedComment, UnclosedQuote}
 use Rattle.rl_tokens.specs.declared.source.SourceForm.{SourceForm}
@@ -197,6 +199,36 @@ pub record TakesSource (old : CursorState) (l : SourceToken) (new : CursorState)
 abbrev pub GivesSource : CursorState → Option SourceToken → CursorState → Type 0
 GivesSource old token new =
     MatchOption token (BeginsNoSource (chars old.rest) × (new ≡ old)) (λ l. TakesSource old l new)
+
+-- ---- literals
+
+-- a token of the source is a literal by its form, or one of the words `true` and `false`
+abbrev pub IsLiteralText : SourceKind → List ℕ → Type 0
+IsLiteralText (PlainKind LiteralForm) text = ⊤
+IsLiteralText (PlainKind IdentifierForm) text = (b : Bool) × (text ≡ truth_text b)
+IsLiteralText _ text = ⊥
+
+-- the token is none
+abbrev pub IsNoLiteral : CutSource → Type 0
+IsNoLiteral w = IsLiteralText (kind_of w.token) (source_text w.token) → ⊥
+
+-- From the old cursor to the new one stand tokens that are no literals, and white space and plain
+-- comments: whatever was cut of the source before, these are cut next.
+pub record PassesTo (old new : CursorState) : Type 0 where
+  pub cuts : List CutSource
+  pub others : AllByRecursion IsNoLiteral cuts
+  pub goes_on : (done : List CutSource) → IsCutUpTo (chars old.text) done (chars old.rest)
+      → IsCutUpTo (chars old.text) (done ++ cuts) (chars new.rest)
+  pub same : new.text ≡ old.text
+  pub following : IsTail old.rest new.rest
+
+-- After tokens that are no literals comes this one, which is one.
+pub record TakesLiteralAfter (old : CursorState) (l : SourceToken) (new : CursorState)
+    : Type 0 where
+  pub between : CursorState
+  pub passes : PassesTo old between
+  pub takes : TakesSource between l new
+  pub is_literal : IsLiteralText (source_view l.form) (chars l.text.now)
 
 -- ---- errors
 

@@ -1,13 +1,15 @@
 //! Classes of characters, and the runs of one class at the front of a text.
 #![tactic(auto, using(crate::proofs::BehindLemmas::behind_step))]
 
-ghost use Rattle.std.specs.Prelude.{◌≡◌, ◌≤◌, length};
+ghost use Rattle.std.specs.Prelude.{◌≡◌, ◌≤◌, length, true, false, IsTrue, IsFalse};
 ghost use Rattle.std.specs.Str.{chars};
-ghost use Rattle.rl_tokens.specs.Texts.{IsTail};
+ghost use Rattle.rl_tokens.specs.Texts.{IsTail, first_passes, is_white};
 ghost use Rattle.rl_tokens.specs.Classes.{after_run, class_test, is_hash};
+ghost use Rattle.rl_tokens.specs.Mirrors.RunsAt.{run_class};
 
 use crate::characters::{is_continue, is_white, is_xid_continue};
-use crate::text::{split_ascii, split_char};
+use crate::lanes::run_len;
+use crate::text::{split_ascii, split_char, strip_byte};
 
 /// A class of characters.
 #[derive(Clone, Copy)]
@@ -82,6 +84,82 @@ pub fn skip_hashes(text: &str) -> &str
     ensures following { IsTail text.now result.now }
 {
     skip_class(CharClass::Hash, text)
+}
+
+/// The class of a run of ASCII.
+#[inline(always)]
+fn run_class<const WORD: bool>() -> CharClass
+    ensures { result ≡ run_class WORD }
+{
+    if WORD {
+        CharClass::Continue
+    } else {
+        CharClass::White
+    }
+}
+
+/// What follows a run that begins with one of ASCII: sixteen bytes are looked at at once, up to the first character past
+/// ASCII.
+#[inline(always)]
+fn skip_run<const WORD: bool>(text: &str) -> &str
+    ensures rest { chars result.now ≡ after_run (class_test (run_class WORD)) (chars text.now) }
+    ensures following { IsTail text.now result.now }
+    ensures shorter { length result.now ≤ length text.now }
+{
+    let rest = &text[run_len::<WORD>(text.as_bytes())..];
+    match split_ascii(rest) {
+        Some(_) => rest,
+        None => skip_wide_class(run_class::<WORD>(), rest),
+    }
+}
+
+/// What follows the characters at the front that go on with an identifier.
+#[inline(always)]
+pub(crate) fn skip_word(text: &str) -> &str
+    ensures rest { chars result.now ≡ after_run (class_test (run_class true)) (chars text.now) }
+    ensures following { IsTail text.now result.now }
+    ensures shorter { length result.now ≤ length text.now }
+{
+    skip_run::<true>(text)
+}
+
+/// What follows the white space at the front. Most tokens have none before them, or one space.
+#[inline(always)]
+pub(crate) fn skip_white(text: &str) -> &str
+    ensures rest { chars result.now ≡ after_run (class_test (run_class false)) (chars text.now) }
+    ensures following { IsTail text.now result.now }
+    ensures shorter { length result.now ≤ length text.now }
+{
+    if begins_nonblank(text) {
+        return text;
+    }
+    if let Some(following) = strip_byte(text, b' ') {
+        if begins_nonblank(following) {
+            return following;
+        }
+    }
+    skip_white_run(text)
+}
+
+/// Whether a character of ASCII that is no white space begins the text.
+#[inline(always)]
+fn begins_nonblank(text: &str) -> bool
+    ensures { IsTrue result → IsFalse (first_passes is_white (chars text.now)) }
+{
+    match split_ascii(text) {
+        Some((byte, _)) => byte > b' ',
+        None => false,
+    }
+}
+
+/// The same, where more white space is likely, or what is past ASCII.
+#[inline(never)]
+fn skip_white_run(text: &str) -> &str
+    ensures rest { chars result.now ≡ after_run (class_test (run_class false)) (chars text.now) }
+    ensures following { IsTail text.now result.now }
+    ensures shorter { length result.now ≤ length text.now }
+{
+    skip_run::<false>(text)
 }
 
 /// As [`skip_class`], character by character.

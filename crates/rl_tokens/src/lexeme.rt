@@ -11,10 +11,11 @@ ghost use Rattle.std.specs.Str.{chars};
 ghost use Rattle.rl_tokens.specs.Texts.{is_among, first_passes, IsTail};
 ghost use Rattle.rl_tokens.specs.Lexemes.{delimiters, LexemeBefore, is_start};
 ghost use Rattle.rl_tokens.specs.Cursors.{form_view};
-ghost use Rattle.rl_tokens.specs.Mirrors.LexemeAt.{start_class, is_met_late, other_class, head_class, by_class, begins_hashed_quote, quoted_at, raw_at, single_at, literal_at, word_at, after_digit, lexeme_at, FormBefore, LetterBHead, LetterCHead, LetterRHead, SlashHead};
+ghost use Rattle.rl_tokens.specs.Mirrors.LexemeAt.{start_class, is_met_late, other_class, head_class, by_class, begins_hashed_quote, quoted_at, raw_at, single_at, literal_at, word_at, after_digit, lexeme_at, FormBefore, LetterBHead, LetterCHead, LetterRHead, SlashHead, begins_word, is_mark_alone, is_prefix_letter, goes_on_as_word, makes_comment, mark_form, has_bit};
+ghost use Rattle.rl_tokens.specs.declared.lexeme.Lead.TheVariants.{Word, Mark, Prefix, Slash};
 
 use crate::characters::is_start;
-use crate::classes::{CharClass, skip_class};
+use crate::classes::skip_word;
 use crate::punct::Punct;
 use crate::text::{begins_with, split_ascii, split_char, without_first};
 use number::{after_decimal, after_digits, ends_number};
@@ -46,6 +47,116 @@ pub(crate) fn first_lexeme(text: &str) -> Option<(Form, &str)>
     ensures shorter { IfSome result (λ p. length p.1.now < length text.now) }
 {
     lexeme_at(text)
+}
+
+/// The same, where the first byte of ASCII tells it, or that and the next: an identifier that begins as no literal does, a
+/// delimiter, or a mark that begins no comment. `None` says nothing.
+#[inline(always)]
+pub(crate) fn word_or_mark(text: &str) -> Option<(Form, &str)>
+    ensures found { IfSome result
+        (λ p. FormBefore (chars text.now) (form_view p.0) (chars p.1.now)) }
+    ensures following { IfSome result (λ p. IsTail text.now p.1.now) }
+    ensures shorter { IfSome result (λ p. length p.1.now < length text.now) }
+{
+    let (byte, following) = split_ascii(text)?;
+    match lead_of(byte) {
+        Lead::Word => Some((Form::Identifier, skip_word(following))),
+        Lead::Mark => Some((mark_form(byte as char), following)),
+        Lead::Prefix if goes_on_as_word(following) => {
+            Some((Form::Identifier, skip_word(following)))
+        }
+        Lead::Slash if goes_on_as_no_comment(following) => Some((Form::Mark('/'), following)),
+        _ => None,
+    }
+}
+
+/// What the first byte of a text tells.
+#[derive(Clone, Copy)]
+enum Lead {
+    /// An identifier, whatever follows it: `_`, and each letter but `b`, `c` and `r`.
+    Word,
+    /// A delimiter or a mark, whatever follows it: each but `/`.
+    Mark,
+    /// A letter that a literal's prefix may begin with.
+    Prefix,
+    /// A slash.
+    Slash,
+    /// Nothing of these.
+    Other,
+}
+
+/// What a character of ASCII tells as the first. Which it is of 64, a bit says.
+#[inline(always)]
+fn lead_of(byte: u8) -> Lead
+    requires { byte < 128 }
+    ensures word { result ≡ Word → IsTrue (begins_word byte) }
+    ensures mark { result ≡ Mark → IsTrue (is_mark_alone byte) }
+    ensures prefix { result ≡ Prefix → IsTrue (is_prefix_letter byte) }
+    ensures slash { result ≡ Slash → byte ≡ 47 }
+{
+    if byte < 64 {
+        if has_bit(0xfc00_7f7a_0000_0000, byte) {
+            return Lead::Mark;
+        }
+        if byte == b'/' {
+            return Lead::Slash;
+        }
+        return Lead::Other;
+    }
+    if has_bit(0x07fb_fff2_87ff_fffe, byte - 64) {
+        return Lead::Word;
+    }
+    if has_bit(0x7800_0000_6800_0001, byte - 64) {
+        return Lead::Mark;
+    }
+    if matches!(byte, b'b' | b'c' | b'r') {
+        return Lead::Prefix;
+    }
+    Lead::Other
+}
+
+/// Whether the bit is set.
+#[inline(always)]
+fn has_bit(bits: u64, place: u8) -> bool
+    requires { place < 64 }
+    ensures { result ≡ has_bit bits place }
+{
+    (bits >> place) & 1 == 1
+}
+
+/// Whether a word goes on after its first letter, and no literal's prefix: a letter but `r` is next, or `_`. Of a word that
+/// goes on otherwise it is false.
+#[inline(always)]
+fn goes_on_as_word(following: &str) -> bool
+    ensures { IsTrue result → IsTrue (first_passes goes_on_as_word (chars following.now)) }
+{
+    match split_ascii(following) {
+        Some((next, _)) => next >= 64 && next != b'r',
+        None => false,
+    }
+}
+
+/// Whether a character of ASCII is next after a slash that doesn't make a comment of it.
+#[inline(always)]
+fn goes_on_as_no_comment(following: &str) -> bool
+    ensures { IsTrue result → IsFalse (first_passes makes_comment (chars following.now)) }
+{
+    match split_ascii(following) {
+        Some((next, _)) => next != b'/' && next != b'*',
+        None => false,
+    }
+}
+
+/// The form of a delimiter or a mark.
+#[inline(always)]
+fn mark_form(c: char) -> Form
+    ensures { form_view result ≡ mark_form c }
+{
+    if is_delimiter(c) {
+        Form::Delimiter(c)
+    } else {
+        Form::Mark(c)
+    }
 }
 
 /// The same, as the first characters tell it. A digit is recognized by its byte, before all else.
@@ -189,7 +300,7 @@ fn identifier(text: &str) -> Option<(Form, &str)>
         ≡ word_at (chars text.now) }
     ensures following { IfSome result (λ p. IsTail text.now p.1.now) }
 {
-    Some((Form::Identifier, skip_class(CharClass::Continue, text)))
+    Some((Form::Identifier, skip_word(text)))
 }
 
 /// A quoted literal, after its opening quote.

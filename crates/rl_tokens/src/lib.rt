@@ -12,6 +12,7 @@ mod error;
 pub mod ident;
 mod kept;
 mod kind;
+mod lanes;
 pub mod laws;
 mod lex_error;
 mod lexeme;

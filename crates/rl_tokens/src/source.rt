@@ -1,20 +1,23 @@
 //! The token at the front of a source.
 #![tactic(auto, using(crate::proofs::BehindLemmas::behind_step))]
 
-ghost use Rattle.std.specs.Prelude.{◌≡◌, ◌<◌, length, option_map, IfSome, IfNone};
+ghost use Rattle.std.specs.Prelude.{◌≡◌, ◌↔◌, ◌<◌, ◌≤◌, Bool, length, option_map, IfSome, IfNone, IsTrue};
 ghost use Rattle.std.specs.Str.{chars};
 ghost use Rattle.rl_tokens.specs.Texts.{IsTail};
 ghost use Rattle.rl_tokens.specs.Lexemes.{is_continue};
-ghost use Rattle.rl_tokens.specs.Sources.{is_in_line, source_view, SourceBefore, BeginsNoSource, IsWithoutLine, IsWithoutPreamble, without_mark};
+ghost use Rattle.rl_tokens.specs.Cursors.{form_view};
+ghost use Rattle.rl_tokens.specs.Sources.{is_in_line, PlainKind, IsLiteralText, source_view, SourceBefore, BeginsNoSource, IsWithoutLine, IsWithoutPreamble, without_mark};
 ghost use Rattle.rl_tokens.specs.Classes.{after_run};
-ghost use Rattle.rl_tokens.specs.Mirrors.SourceAt.{after_doc, after_name, after_marked, after_any_name, after_lifetime, other_at, stray_at, any_at};
+ghost use Rattle.rl_tokens.specs.Reading.{truth_text};
+ghost use Rattle.rl_tokens.specs.Mirrors.LiteralsAt.{HoldsNoLiteral};
+ghost use Rattle.rl_tokens.specs.Mirrors.SourceAt.{after_doc, after_name, after_marked, after_any_name, after_lifetime, other_at, stray_at};
 
 use crate::characters::is_start;
-use crate::classes::{CharClass, skip_class};
-use crate::lexeme::{Form, first_lexeme};
+use crate::classes::skip_word;
+use crate::lexeme::{Form, first_lexeme, word_or_mark};
 use crate::no_token::{begins_raw_identifier, opens};
 use crate::scan::{Marks, split_before};
-use crate::text::{begins_with, split_char, strip_byte, without_first};
+use crate::text::{before, begins_with, split_ascii, split_char, strip_byte, without_first};
 use crate::whitespace::{after_block, is_comment_block, is_comment_line, skip};
 
 /// What a token of a source is: what [`Sources`](crate::Sources) cuts off.
@@ -41,24 +44,83 @@ pub(crate) fn first_source(text: &str) -> Option<(SourceForm, &str)>
     ensures following { IfSome result (λ p. IsTail text.now p.1.now) }
     ensures shorter { IfSome result (λ p. length p.1.now < length text.now) }
 {
-    if let Some((form, following)) = first_lexeme(text) {
+    if let Some((form, following)) = word_or_mark(text) {
         return Some((SourceForm::Token(form), following));
     }
-    other_source(text)
+    rebuilt_source(text)
 }
 
-/// The same, where it is no lexeme.
-#[inline(never)]
-fn other_source(text: &str) -> Option<(SourceForm, &str)>
-    ensures rest { option_map (λ p. (source_view p.0, chars p.1.now)) result
-        ≡ any_at (chars text.now) }
+/// What is left of a text after words and marks at its front that are no literals, as far as their first bytes tell what
+/// they are, and what stands between them. No token is made of them.
+#[inline(always)]
+pub(crate) fn skip_words_and_marks(text: &str) -> &str
+    ensures holds { HoldsNoLiteral (chars text.now) (chars result.now) }
+    ensures following { IsTail text.now result.now }
+    ensures shorter { length result.now ≤ length text.now }
+{
+    let mut rest = text;
+    while let Some((form, following)) = word_or_mark(rest) {
+        let token = before(rest, following);
+        if is_literal(form, token) {
+            return rest;
+        }
+        rest = skip(following);
+    }
+    rest
+}
+
+/// Whether a token of the form and the text is a literal, or one of the words `true` and `false`.
+#[inline(always)]
+pub(crate) fn is_literal(form: Form, text: &str) -> bool
+    ensures { IsTrue result ↔ IsLiteralText (PlainKind (form_view form)) (chars text.now) }
+{
+    match form {
+        Form::Literal => true,
+        Form::Identifier => is_truth(text),
+        Form::Delimiter(_) | Form::Mark(_) => false,
+    }
+}
+
+/// Whether the text is one of the words `true` and `false`.
+#[inline(always)]
+fn is_truth(text: &str) -> bool
+    ensures { IsTrue result ↔ ((b : Bool) × (chars text.now ≡ truth_text b)) }
+{
+    matches!(text, "true" | "false")
+}
+
+/// What [`source_by_characters`] returns, built anew: what a call returns stands in memory, and so would whatever a caller
+/// joins with it.
+#[inline(always)]
+fn rebuilt_source(text: &str) -> Option<(SourceForm, &str)>
+    ensures found { IfSome result
+        (λ p. SourceBefore (chars text.now) (source_view p.0) (chars p.1.now)) }
+    ensures none { IfNone result (BeginsNoSource (chars text.now)) }
     ensures following { IfSome result (λ p. IsTail text.now p.1.now) }
     ensures shorter { IfSome result (λ p. length p.1.now < length text.now) }
 {
-    match other_token(text) {
+    match source_by_characters(text) {
         Some((form, following)) => Some((form, following)),
-        None => stray(text),
+        None => None,
     }
+}
+
+/// The token at the front of a text, as its first characters tell it.
+#[inline(never)]
+fn source_by_characters(text: &str) -> Option<(SourceForm, &str)>
+    ensures found { IfSome result
+        (λ p. SourceBefore (chars text.now) (source_view p.0) (chars p.1.now)) }
+    ensures none { IfNone result (BeginsNoSource (chars text.now)) }
+    ensures following { IfSome result (λ p. IsTail text.now p.1.now) }
+    ensures shorter { IfSome result (λ p. length p.1.now < length text.now) }
+{
+    if let Some((form, following)) = other_token(text) {
+        return Some((form, following));
+    }
+    if let Some((form, following)) = first_lexeme(text) {
+        return Some((SourceForm::Token(form), following));
+    }
+    stray(text)
 }
 
 /// The same, where it is nothing but a stray character, if that.
@@ -76,21 +138,24 @@ fn stray(text: &str) -> Option<(SourceForm, &str)>
 }
 
 /// The same, where it is neither a lexeme nor a stray character.
+#[inline(always)]
+#[tactic(auto, using(crate::proofs::SourceFronts::wide_other, crate::proofs::BehindLemmas::behind_step))]
 fn other_token(text: &str) -> Option<(SourceForm, &str)>
     ensures rest { option_map (λ p. (source_view p.0, chars p.1.now)) result
         ≡ other_at (chars text.now) }
     ensures following { IfSome result (λ p. IsTail text.now p.1.now) }
     ensures shorter { IfSome result (λ p. length p.1.now < length text.now) }
 {
-    match split_char(text) {
-        Some(('/', following)) => ended(SourceForm::DocComment, after_doc(following)),
-        Some(('\'', following)) => ended(SourceForm::Lifetime, after_lifetime(following)),
-        Some(('r', following)) => ended(SourceForm::RawIdentifier, after_marked(following)),
+    match split_ascii(text) {
+        Some((b'/', following)) => ended(SourceForm::DocComment, after_doc(following)),
+        Some((b'\'', following)) => ended(SourceForm::Lifetime, after_lifetime(following)),
+        Some((b'r', following)) => ended(SourceForm::RawIdentifier, after_marked(following)),
         _ => None,
     }
 }
 
 /// A token of the form, with what follows it, where its end was found.
+#[inline(always)]
 fn ended(form: SourceForm, following: Option<&str>) -> Option<(SourceForm, &str)>
     ensures { result ≡ option_map (λ rest. (form, rest)) following.entry }
 {
@@ -98,17 +163,21 @@ fn ended(form: SourceForm, following: Option<&str>) -> Option<(SourceForm, &str)
 }
 
 /// What follows a doc comment, by what stands after its first slash: of a line its LF.
+#[inline(always)]
+#[tactic(auto, using(crate::proofs::SourceFronts::wide_doc, crate::proofs::BehindLemmas::behind_step, crate::proofs::BehindLemmas::some_behind))]
 fn after_doc(text: &str) -> Option<&str>
     ensures rest { option_map (λ rest. chars rest.now) result ≡ after_doc (chars text.now) }
     ensures following { IfSome result (λ rest. IsTail text.now rest.now) }
 {
-    let (second, following) = split_char(text)?;
-    if second == '/' {
+    let Some((second, following)) = split_ascii(text) else {
+        return None;
+    };
+    if second == b'/' {
         if is_comment_line(following) {
             return None;
         }
         Some(line_end(following))
-    } else if second == '*' {
+    } else if second == b'*' {
         if is_comment_block(following) {
             return None;
         }
@@ -133,7 +202,7 @@ fn after_name(text: &str) -> Option<&str>
     ensures following { IfSome result (λ rest. IsTail text.now rest.now) }
 {
     match split_char(text) {
-        Some((c, following)) if is_start(c) => Some(skip_class(CharClass::Continue, following)),
+        Some((c, following)) if is_start(c) => Some(skip_word(following)),
         _ => None,
     }
 }

@@ -1,12 +1,12 @@
 //! A whole source cut into its tokens, one at a time.
 
-ghost use Rattle.std.specs.Prelude.{◌≡◌, ◌<◌, ◌+◌, ◌⊎◌, ℕ, List, [], length, IfSome, IfNone};
+ghost use Rattle.std.specs.Prelude.{◌≡◌, ◌↔◌, ◌<◌, ◌+◌, ◌⊎◌, ℕ, List, [], length, IfSome, IfNone, IsTrue};
 ghost use Rattle.std.specs.Str.{chars};
-ghost use Rattle.rl_tokens.specs.Sources.{SourceKind, SourceBefore, BeginsNoSource, SourceErrorAt};
+ghost use Rattle.rl_tokens.specs.Sources.{source_view, SourceKind, SourceBefore, BeginsNoSource, SourceErrorAt, IsLiteralText};
 
 use crate::lex_error::LexError;
 use crate::no_token::source_error_kind;
-use crate::source::{SourceForm, first_source, without_preamble};
+use crate::source::{SourceForm, first_source, is_literal, skip_words_and_marks, without_preamble};
 use crate::whitespace::skip;
 use std::marker::Model;
 
@@ -21,6 +21,20 @@ pub struct SourceToken<'t> {
     pub lo: usize,
     /// The place after its last byte.
     pub hi: usize,
+}
+
+impl SourceToken<'_> {
+    /// Whether it is a literal, or one of the words `true` and `false`.
+    #[inline(always)]
+    pub fn is_literal(&self) -> bool
+        ensures { IsTrue result
+            ↔ IsLiteralText (source_view self.now.form) (chars self.now.text.now) }
+    {
+        match self.form {
+            SourceForm::Token(form) => is_literal(form, self.text),
+            _ => false,
+        }
+    }
 }
 
 /// A whole Rust source, cut into tokens as they are asked for: those of [`Tokens`], and lifetimes,
@@ -63,7 +77,7 @@ impl<'t> Model for Sources<'t> {
 
 impl<'t> Sources<'t> {
     ghost use Rattle.rl_tokens.specs.Cursors.{IsCursorState};
-    ghost use Rattle.rl_tokens.specs.Sources.{IsCutUpTo, TakesSource, IsFirstSourceError};
+    ghost use Rattle.rl_tokens.specs.Sources.{IsCutUpTo, TakesSource, PassesTo, TakesLiteralAfter, IsFirstSourceError};
 
     /// The tokens of a source, from its front. Only what may stand before the first is dropped.
     pub fn new(text: &'t str) -> Sources<'t>
@@ -103,6 +117,28 @@ impl<'t> Sources<'t> {
         let text = &self.rest[..self.rest.len() - following.len()];
         self.rest = skip(following);
         Some(SourceToken { form, text, lo, hi })
+    }
+
+    /// Cuts off the tokens up to the next literal and that one, which is returned: a literal token, whether it reads or not,
+    /// or one of the words `true` and `false`. `None` where none comes before the end or the first error, before which the
+    /// cursor then stands; [`Sources::error`] says which.
+    ///
+    /// See the example of [`Sources`].
+    pub fn next_literal(&mut self) -> Option<SourceToken<'t>>
+        // Tokens that are no literals come first, and then the literal: they are the next cuts of the source.
+        ensures found { IfSome result (λ l. TakesLiteralAfter self.old l self.new) }
+        ensures shorter { IfSome result (λ l. length self.new.rest < length self.old.rest) }
+        // Where none comes, these tokens are passed, and no token begins what is left.
+        ensures passed { IfNone result (PassesTo self.old self.new) }
+        ensures none { IfNone result (BeginsNoSource (chars self.new.rest)) }
+    {
+        loop {
+            self.rest = skip_words_and_marks(self.rest);
+            let token = self.next()?;
+            if token.is_literal() {
+                return Some(token);
+            }
+        }
     }
 
     /// Why no token begins what is left: the error, and the byte of the whole text where it stands.

@@ -1,13 +1,13 @@
 //! White space and plain comments.
 
-ghost use Rattle.std.specs.Prelude.{◌≡◌, slice_index, option_map, IfSome, IsFalse};
+ghost use Rattle.std.specs.Prelude.{◌≡◌, slice_index, option_map, None, IfSome, IsFalse};
 ghost use Rattle.std.specs.Str.{chars};
 ghost use Rattle.rl_tokens.specs.Texts.{is_white, first_passes, IsTail};
 ghost use Rattle.rl_tokens.specs.Trivia.{is_comment_line, is_comment_block};
 ghost use Rattle.rl_tokens.specs.Skipping.{Skipped, OneRest};
 ghost use Rattle.rl_tokens.specs.Mirrors.SkippedAt.{after_line, after_block, after_comment};
 
-use crate::classes::{CharClass, skip_class};
+use crate::classes::skip_white;
 use crate::scan::{Marks, near_len_before, next_mark};
 use crate::text::{begins_with, split_ascii, strip_byte};
 
@@ -36,10 +36,28 @@ pub fn skip(text: &str) -> &str
     ensures only { OneRest }
     ensures again { Skipped (chars result.now) (chars result.now) }
 {
-    let rest = skip_class(CharClass::White, text);
-    match strip_byte(rest, b'/') {
-        Some(_) => skip_comments(rest),
-        None => rest,
+    let rest = skip_white(text);
+    let Some(inside) = strip_byte(rest, b'/') else {
+        return rest;
+    };
+    if begins_comment(inside) {
+        skip_comments(rest)
+    } else {
+        rest
+    }
+}
+
+/// Whether a plain comment may begin, by what stands after its first slash. Of doc comments and of a mark it is false.
+#[inline(never)]
+fn begins_comment(text: &str) -> bool
+    ensures { IsFalse result → after_comment (chars text.now) ≡ None }
+{
+    match split_ascii(text) {
+        Some((second, following)) => {
+            second == b'/' && is_comment_line(following)
+                || second == b'*' && is_comment_block(following)
+        }
+        None => false,
     }
 }
 
@@ -55,7 +73,7 @@ fn skip_comments(text: &str) -> &str
         let Some(following) = after_comment(inside) else {
             return rest;
         };
-        rest = skip_class(CharClass::White, following);
+        rest = skip_white(following);
     }
     rest
 }

@@ -12,7 +12,7 @@ use Rattle.rl_tokens.proofs.OneReading.{one_reading}
 use Rattle.rl_grammar.specs.declared.found.Found.{Found}
 use Rattle.rl_grammar.specs.Founds.{IsFound, suffix_in}
 use Rattle.rl_grammar.specs.WholeShapes.{IsPlain}
-use Rattle.rl_grammar.proofs.ReadingLemmas.{truth_chars}
+use Rattle.rl_tokens.proofs.TruthWords.{truth_chars}
 use Rattle.rl_grammar.proofs.FrontLemmas.{minus_chars}
 use Rattle.rust_literals.specs.declared.lit.Lit.{Lit}
 use Rattle.rust_literals.specs.declared.lit.Lit.TheVariants.{Str, ByteStr, CStr, Byte, Char, Int, Float, Bool, Verbatim}

@@ -1,12 +1,12 @@
 -- A mirror of the code, for proofs alone: the lexeme at the front of a text as the code finds it,
 -- by the first characters: its form, and the rest after it.
-use Rattle.std.specs.Prelude.{◌≡◌, ℕ, Bool, false, not, ◌&&◌, ◌||◌, ◌==◌, List, [], ◌∷◌, ◌++◌, slice_index, drop, cond, codes}
+use Rattle.std.specs.Prelude.{◌≡◌, ℕ, Bool, false, not, ◌&&◌, ◌||◌, ◌==◌, List, [], ◌∷◌, ◌++◌, slice_index, drop, cond, codes, ◌/◌, ◌^◌, nat_le, bit_and}
 use Rattle.std.proofs.Common.{suc, zero, Option, Some, None}
 use Rattle.std.specs.Char.{is_ascii_digit}
 use Rattle.std.specs.Option.{option_map}
 use Prim.Native.Char.{code}
 use Rattle.rl_tokens.specs.Texts.{is_underscore, is_among, first_passes, begins, is_row_part}
-use Rattle.rl_tokens.specs.Lexemes.{is_base_letter, delimiters, begins_hashes, begins_dot, LexemeForm, LiteralForm, IdentifierForm, DelimiterForm, MarkForm, form_of, Lexeme, lexeme_text, IsLexeme, is_start, is_continue}
+use Rattle.rl_tokens.specs.Lexemes.{is_base_letter, delimiters, marks, begins_hashes, begins_dot, LexemeForm, LiteralForm, IdentifierForm, DelimiterForm, MarkForm, form_of, Lexeme, lexeme_text, IsLexeme, is_start, is_continue}
 use Rattle.rl_tokens.specs.Lexing.{begins_lifetime}
 use Rattle.rl_tokens.specs.Puncts.{is_punct}
 use Rattle.rl_tokens.specs.Classes.{after_run, is_hash}
@@ -156,6 +156,33 @@ is_met_late c = not (is_ascii_digit c || c == code "\"")
 
 abbrev pub head_class : ℕ → HeadClass
 head_class c = cond (is_start c) (start_class c) (other_class c)
+
+-- what a literal's prefix may begin with
+abbrev pub is_prefix_letter : ℕ → Bool
+is_prefix_letter c = c == code "b" || c == code "c" || c == code "r"
+
+-- what begins an identifier whatever follows it
+abbrev pub begins_word : ℕ → Bool
+begins_word c = not (is_prefix_letter c) && is_start c
+
+-- after such a letter: what begins no quote and no hashes, and goes on with no prefix
+abbrev pub goes_on_as_word : ℕ → Bool
+goes_on_as_word c = nat_le 64 c && not (c == code "r")
+
+-- what is a delimiter or a mark whatever follows it
+abbrev pub is_mark_alone : ℕ → Bool
+is_mark_alone c = is_among delimiters c || is_among marks c
+
+-- what makes a comment of a slash before it
+abbrev pub makes_comment : ℕ → Bool
+makes_comment c = c == code "/" || c == code "*"
+
+abbrev pub mark_form : ℕ → LexemeForm
+mark_form c = cond (is_among delimiters c) (DelimiterForm c) (MarkForm c)
+
+-- the bit at a place
+abbrev pub has_bit : ℕ → ℕ → Bool
+has_bit bits place = bit_and (bits / 2 ^ place) 1 == 1
 
 abbrev pub literal_at : Option (List ℕ) → Option (LexemeForm × List ℕ)
 literal_at rest = option_map (λ r. (LiteralForm, r)) rest

@@ -1,5 +1,5 @@
 use Rattle.std.proofs.Common.{true, false, refl, ◌∙◌}
-use Rattle.rl_grammar.proofs.ReadingLemmas.{truth_chars}
+use Rattle.rl_tokens.proofs.TruthWords.{truth_chars}
 use Rattle.rl_grammar.proofs.WordFlawLemmas.{false_place, true_place}
 use Rattle.rl_grammar.proofs.flaws.first_flaw.Goals as goal
 

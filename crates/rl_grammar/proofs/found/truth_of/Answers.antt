@@ -1,5 +1,5 @@
 use Rattle.std.proofs.Common.{true, false}
-use Rattle.rl_grammar.proofs.ReadingLemmas.{truth_chars, no_word}
+use Rattle.rl_tokens.proofs.TruthWords.{truth_chars, no_word}
 use Rattle.rl_grammar.proofs.found.truth_of.Goals as goal
 
 pub returns-in-true-clause-some : goal.returns-in-true-clause-some

@@ -13,8 +13,8 @@ returns-in-Some-eq39-default-clause-following c = mapped_behind _ _ c.args.text.
 pub returns-in-Some-eq39-default-clause-shorter : goal.returns-in-Some-eq39-default-clause-shorter
 returns-in-Some-eq39-default-clause-shorter c = some_nearer _ c.args.text.now c.in-Some-eq39-default.following.now c.ended-in-Some-eq39-default.result c.in-Some-eq39-default.ensures.shorter (mapped _ _ c.after_lifetime.result c.ended-in-Some-eq39-default.result c.ended-in-Some-eq39-default.ensures c.after_lifetime.ensures.following)
 
-pub returns-in-Some-r-default-clause-following : goal.returns-in-Some-r-default-clause-following
-returns-in-Some-r-default-clause-following c = mapped_behind _ _ c.args.text.now c.in-Some-r-default.following.now c.after_marked.result c.ended-in-Some-r-default.result c.ended-in-Some-r-default.ensures c.in-Some-r-default.ensures.following c.after_marked.ensures.following
+pub returns-in-Some-eq114-default-clause-following : goal.returns-in-Some-eq114-default-clause-following
+returns-in-Some-eq114-default-clause-following c = mapped_behind _ _ c.args.text.now c.in-Some-eq114-default.following.now c.after_marked.result c.ended-in-Some-eq114-default.result c.ended-in-Some-eq114-default.ensures c.in-Some-eq114-default.ensures.following c.after_marked.ensures.following
 
-pub returns-in-Some-r-default-clause-shorter : goal.returns-in-Some-r-default-clause-shorter
-returns-in-Some-r-default-clause-shorter c = some_nearer _ c.args.text.now c.in-Some-r-default.following.now c.ended-in-Some-r-default.result c.in-Some-r-default.ensures.shorter (mapped _ _ c.after_marked.result c.ended-in-Some-r-default.result c.ended-in-Some-r-default.ensures c.after_marked.ensures.following)
+pub returns-in-Some-eq114-default-clause-shorter : goal.returns-in-Some-eq114-default-clause-shorter
+returns-in-Some-eq114-default-clause-shorter c = some_nearer _ c.args.text.now c.in-Some-eq114-default.following.now c.ended-in-Some-eq114-default.result c.in-Some-eq114-default.ensures.shorter (mapped _ _ c.after_marked.result c.ended-in-Some-eq114-default.result c.ended-in-Some-eq114-default.ensures c.after_marked.ensures.following)

@@ -9,7 +9,7 @@ use Rattle.rl_tokens.proofs.whitespace.skip_comments.Goals as goal
 
 pub loop-inside-preserved : goal.loop-inside-preserved
 loop-inside-preserved c =
-    let run = c.skip_class-rest.ensures in
+    let run = c.skip_white-rest.ensures in
     let following = c.in-Some-after_comment.following.now in
     record {
       following = behind_step _ _ _ (behind_step _ _ _ (behind_step _ _ _ c.loop-inside.invariant.following c.in-Some.ensures.following) c.in-Some-after_comment.ensures.following) run.following;

@@ -1,0 +1,24 @@
+use Rattle.std.proofs.Common.{inl, refl}
+use Rattle.rl_sources.proofs.ScanLemmas.{unshown_passed}
+use Rattle.rl_sources.proofs.StepLemmas.{at_end}
+use Rattle.rl_sources.proofs.step.next_literal.Goals as goal
+
+pub returns-in-Some-clause-literal : goal.returns-in-Some-clause-literal
+returns-in-Some-clause-literal c =
+    let found = c.in-Some.ensures.found in
+    record { between = found.between; unshown = unshown_passed c.args.options c.args.tokens.now found.between c.if-options.false found.passes; takes = found.takes; is_literal = found.is_literal }
+
+pub returns-in-Some-error-clause-error : goal.returns-in-Some-error-clause-error
+returns-in-Some-error-clause-error c = record {
+  stop = c.next_literal.new.self;
+  unshown = unshown_passed c.args.options c.args.tokens.now c.next_literal.new.self c.if-options.false c.in-None.ensures.passed;
+  error = inl c.in-Some-error.ensures.error;
+  place = c.in-Some-error.ensures.place;
+}
+
+pub returns-in-None-error-clause-literal : goal.returns-in-None-error-clause-literal
+returns-in-None-error-clause-literal c = (
+  c.next_literal.new.self,
+  unshown_passed c.args.options c.args.tokens.now c.next_literal.new.self c.if-options.false c.in-None.ensures.passed,
+  at_end c.next_literal.new.self c.next_literal.new.self c.in-None.ensures.none refl c.in-None-error.ensures.none,
+)

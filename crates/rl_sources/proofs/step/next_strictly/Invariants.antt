@@ -1,0 +1,13 @@
+-- Of what was cut off so far nothing is shown.
+use Rattle.std.proofs.Common.{◌≤◌, length}
+use Rattle.rl_sources.specs.Steps.{IsUnshown}
+use Rattle.rl_sources.proofs.step.next_strictly.Given as goal
+
+abbrev pub invariant-loop-token : goal.invariant-loop-token
+invariant-loop-token l = record {
+  unshown : IsUnshown l.options l.initial.tokens l.tokens;
+  not_longer : length l.tokens.rest ≤ length l.initial.tokens.rest;
+}
+
+abbrev pub decreases-loop-token : goal.decreases-loop-token
+decreases-loop-token l = length l.tokens.rest

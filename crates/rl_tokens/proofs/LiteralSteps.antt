@@ -1,0 +1,103 @@
+-- What stands between one literal of a source and the next.
+use Rattle.std.proofs.Common.{◌≡◌, ◌⊎◌, inl, inr, ℕ, ◌+◌, ◌-◌, ◌≤◌, List, [], ◌∷◌, ◌++◌, refl, sym, ap, subst, ◌∙◌, append_assoc, append-nil, arith}
+use Rattle.std.proofs.lemmas.List.{append_cancel_right}
+use Rattle.std.specs.List.{AllByRecursion}
+use Rattle.std.specs.Str.{chars, IsUtf8}
+use Rattle.rl_tokens.specs.Texts.{byte_len, IsTail}
+use Rattle.rl_tokens.specs.Skipping.{Skipped}
+use Rattle.rl_tokens.specs.Lexemes.{LexemeForm}
+use Rattle.rl_tokens.specs.Cursors.{CursorState, IsCursorState}
+use Rattle.rl_tokens.specs.Sources.{CutSource, SourceKind, PlainKind, kind_of, source_text, source_view, SourceBefore, IsCutUpTo, TakesSource, IsLiteralText, IsNoLiteral, PassesTo}
+use Rattle.rl_tokens.specs.Mirrors.LexemeAt.{FormBefore}
+use Rattle.rl_tokens.specs.Mirrors.LiteralsAt.{HoldsNoLiteral}
+use Rattle.rl_tokens.specs.declared.sources.SourceToken.{SourceToken}
+use Rattle.rl_tokens.proofs.BehindLemmas.{behind_step}
+use Rattle.rl_tokens.proofs.CutLemmas.{byte_len-append}
+use Rattle.rl_tokens.proofs.Faults.{char_len}
+use Rattle.rl_tokens.proofs.Rests.{behind_length}
+use Rattle.rl_tokens.proofs.SourceCuts.{cut_more}
+use Rattle.rl_tokens.proofs.SourceFronts.{plain_before}
+
+all_join : (vs ws : List CutSource) → AllByRecursion IsNoLiteral vs → AllByRecursion IsNoLiteral ws → AllByRecursion IsNoLiteral (vs ++ ws)
+all_join [] ws each more = more
+all_join (v ∷ vs) ws each more = (each.0, all_join vs ws each.1 more)
+
+-- ---- by the characters of what is left
+
+pub holds_start : (t : List ℕ) → HoldsNoLiteral t t
+holds_start t = record {
+  cuts = λ _. [];
+  others = λ _. tt;
+  within = omega arith;
+  goes_on = λ whole done _ cut. subst (λ z. IsCutUpTo whole z t) (sym (append-nil done)) cut;
+}
+
+pub holds_join : (t u r : List ℕ) → HoldsNoLiteral t u → HoldsNoLiteral u r → HoldsNoLiteral t r
+holds_join t u r p q = record {
+  cuts = λ whole. p.cuts whole ++ q.cuts whole;
+  others = λ whole. all_join (p.cuts whole) (q.cuts whole) (p.others whole) (q.others whole);
+  within = omega (arith, p.within, q.within);
+  goes_on = λ whole done long cut.
+      subst (λ z. IsCutUpTo whole z r) (append_assoc done (p.cuts whole) (q.cuts whole))
+      (q.goes_on whole (done ++ p.cuts whole) (omega (arith, p.within, long)) (p.goes_on whole done long cut));
+}
+
+-- one token that is no literal
+pub holds_one : (t after r : List ℕ) (kind : SourceKind) (token : SourceBefore t kind after) → (IsLiteralText kind (source_text token.token) → ⊥) → Skipped after r → byte_len r ≤ byte_len after → HoldsNoLiteral t r
+holds_one t after r kind token other skipped short =
+    let w = token.token in
+    let long : byte_len t ≡ byte_len (source_text w) + byte_len after = ap byte_len token.text_is ∙ byte_len-append (source_text w) after in
+    record {
+      cuts = λ whole. record { token = w; at = byte_len whole - byte_len t } ∷ [];
+      others = λ whole. (λ is. other (subst (λ z. IsLiteralText z (source_text w)) token.kind_is is), tt);
+      within = omega (arith, long, short);
+      goes_on = λ whole done room cut. cut_more whole done t (record { token = w; at = byte_len whole - byte_len t }) after r cut token.text_is token.is_source (omega (arith, room)) skipped;
+    }
+
+-- a token by its form and its text
+pub holds_lexeme : (t text after r : List ℕ) (form : LexemeForm) → FormBefore t form after → t ≡ text ++ after → (IsLiteralText (PlainKind form) text → ⊥) → Skipped after r → byte_len r ≤ byte_len after → HoldsNoLiteral t r
+holds_lexeme t text after r form before cut other skipped short =
+    let token = plain_before t after form before in
+    let same : source_text token.token ≡ text = append_cancel_right (source_text token.token) text after (sym token.text_is ∙ cut) in
+    holds_one t after r (PlainKind form) token (λ is. other (subst (IsLiteralText (PlainKind form)) same is)) skipped short
+
+pub tail_len : (t r : List ℕ) → IsUtf8 t → IsTail t r → byte_len (chars r) ≤ byte_len (chars t)
+tail_len t r u tail = omega (arith, char_len t u, char_len r tail.is_text, behind_length t r tail)
+
+-- ---- by the cursor
+
+pub passes_held : (text left rest : List ℕ) → IsCursorState text left → IsTail left rest → HoldsNoLiteral (chars left) (chars rest) → PassesTo (record { text = text; rest = left }) (record { text = text; rest = rest })
+passes_held text left rest is tail holds = record {
+  cuts = holds.cuts (chars text);
+  others = holds.others (chars text);
+  goes_on = λ done cut. holds.goes_on (chars text) done (omega (arith, char_len text is.is_text, char_len left is.following.is_text, behind_length text left is.following)) cut;
+  same = refl;
+  following = tail;
+}
+
+passes_join : (a b d : CursorState) → PassesTo a b → PassesTo b d → PassesTo a d
+passes_join a b d p q = record {
+  cuts = p.cuts ++ q.cuts;
+  others = all_join p.cuts q.cuts p.others q.others;
+  goes_on = λ done cut.
+      let before : IsCutUpTo (chars b.text) (done ++ p.cuts) (chars b.rest) = subst (λ z. IsCutUpTo (chars z) (done ++ p.cuts) (chars b.rest)) (sym p.same) (p.goes_on done cut) in
+      let more = subst (λ z. IsCutUpTo (chars z) ((done ++ p.cuts) ++ q.cuts) (chars d.rest)) p.same (q.goes_on (done ++ p.cuts) before) in
+      subst (λ z. IsCutUpTo (chars a.text) z (chars d.rest)) (append_assoc done p.cuts q.cuts) more;
+  same = q.same ∙ p.same;
+  following = behind_step a.rest b.rest d.rest p.following q.following;
+}
+
+-- nothing was passed yet, or these tokens
+abbrev pub Passed : CursorState → CursorState → Type 0
+Passed a b = (b ≡ a) ⊎ PassesTo a b
+
+pub passed_join : (a b d : CursorState) → Passed a b → PassesTo b d → PassesTo a d
+passed_join a b d (inl same) q = subst (λ z. PassesTo z d) same q
+passed_join a b d (inr p) q = passes_join a b d p q
+
+-- the token is none of the literals
+is_no_literal : (old new : CursorState) (l : SourceToken) → (t : TakesSource old l new) → (IsLiteralText (source_view l.form) (chars l.text.now) → ⊥) → IsNoLiteral t.cut
+is_no_literal old new l t other = λ is. other (subst (λ z. IsLiteralText z (chars l.text.now)) t.is_cut.kind_is (subst (IsLiteralText (kind_of t.cut.token)) t.is_cut.chars_are is))
+
+pub passes_one : (old new : CursorState) (l : SourceToken) → TakesSource old l new → (IsLiteralText (source_view l.form) (chars l.text.now) → ⊥) → PassesTo old new
+passes_one old new l t other = record { cuts = t.cut ∷ []; others = (is_no_literal old new l t other, tt); goes_on = t.goes_on; same = t.same; following = t.following }
