@@ -1,6 +1,9 @@
 //! Bytes and characters.
 
 use crate::common::literal_type;
+use crate::grammar::Body;
+use crate::places::quoted_type;
+use crate::tokens::Kind;
 use alloc::borrow::Cow;
 
 /// A byte: `b'a'`.
@@ -20,6 +23,7 @@ pub struct LitByte<'t> {
 }
 
 literal_type!(LitByte, Byte { suffix_at, value }, "\"b'a'_s\"", "\"_s\"");
+quoted_type!(LitByte, r#"r"b'\n'""#, "2..4", "4");
 
 /// A character: `'a'`.
 ///
@@ -38,8 +42,21 @@ pub struct LitChar<'t> {
 }
 
 literal_type!(LitChar, Char { suffix_at, value }, "\"'a'_s\"", "\"_s\"");
+quoted_type!(LitChar, r#"r"'\n'""#, "1..3", "3");
 
 impl<'t> LitByte<'t> {
+    const KIND: Kind = Kind::Byte;
+
+    /// Where its parts stand.
+    fn parts(&self) -> Body {
+        Body {
+            lo: Self::KIND.opener().len(),
+            hi: self.suffix_at - 1,
+            suffix_at: self.suffix_at,
+            plain: false,
+        }
+    }
+
     /// The literal of this text; the number is the byte that it stands for.
     #[inline]
     pub(crate) fn of(text: Cow<'t, str>, suffix_at: usize, unit: u32) -> Self {
@@ -67,6 +84,18 @@ impl<'t> LitByte<'t> {
 }
 
 impl<'t> LitChar<'t> {
+    const KIND: Kind = Kind::Char;
+
+    /// Where its parts stand.
+    fn parts(&self) -> Body {
+        Body {
+            lo: Self::KIND.opener().len(),
+            hi: self.suffix_at - 1,
+            suffix_at: self.suffix_at,
+            plain: false,
+        }
+    }
+
     /// The literal of this text; the number is that of the character that it stands for.
     #[inline]
     pub(crate) fn of(text: Cow<'t, str>, suffix_at: usize, unit: u32) -> Self {

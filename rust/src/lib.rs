@@ -36,6 +36,7 @@ mod list;
 mod lit;
 mod numbers;
 mod parse_error;
+mod places;
 #[cfg(feature = "proc-macro")]
 mod proc_macros;
 #[allow(dead_code, unused_variables)]
@@ -61,6 +62,7 @@ pub use list::{literals, Literals};
 pub use lit::Lit;
 pub use numbers::{Base, LitFloat, LitInt, NumberType};
 pub use parse_error::{FlawKind, ParseError, ParseErrorKind};
+pub use places::{Places, Segment, SegmentValue, Segments};
 #[cfg(feature = "proc-macro")]
 pub use proc_macros::{next_literal, MacroError};
 pub use settings::{settings, Entry, SettingsError, SettingsErrorKind};

@@ -1,8 +1,8 @@
 //! Lists of literals.
 
 use crate::error::{ErrorKind, ListError};
-use crate::lit::Lit;
 use crate::grammar::{list_step, next_literal, ListStep, NextLiteral};
+use crate::lit::Lit;
 use crate::tokens::Tokens;
 use alloc::borrow::Cow;
 use alloc::format;

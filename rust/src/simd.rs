@@ -4,7 +4,7 @@
 //! 64 bits, the same everywhere. Loops count by themselves, which costs least where nothing is optimized.
 
 use core::marker::PhantomData;
-use core::ops::BitOr;
+use core::ops::{BitAnd, BitOr, Sub};
 
 /// The lowest bit of each of eight bytes.
 const LOWEST: u64 = 0x0101_0101_0101_0101;
@@ -18,6 +18,10 @@ const GATHER: u64 = 0x0102_0408_1020_4080;
 /// N lanes of bytes, the first of these; N is 8, 16 or more by eights, up to 64.
 #[derive(Clone, Copy)]
 pub(crate) struct Simd<T, const N: usize>([u64; 8], PhantomData<T>);
+
+/// Sixteen lanes.
+#[allow(non_camel_case_types)]
+pub(crate) type u8x16 = Simd<u8, 16>;
 
 /// The highest bit of each lane says whether it is set; the other bits say nothing.
 #[derive(Clone, Copy)]
@@ -59,6 +63,18 @@ impl<const N: usize> Simd<u8, N> {
         Mask(set)
     }
 
+    /// Where the lanes of both differ.
+    #[inline(always)]
+    pub(crate) fn simd_ne(self, other: Self) -> Mask<N> {
+        let mut set = self.simd_eq(other).0;
+        let mut at = 0;
+        while at < N / 8 {
+            set[at] = !set[at];
+            at += 1;
+        }
+        Mask(set)
+    }
+
     /// Where this side's lane is the greater one, or equal: by the highest bits, and where these are one by the others.
     #[inline(always)]
     pub(crate) fn simd_ge(self, other: Self) -> Mask<N> {
@@ -68,6 +84,55 @@ impl<const N: usize> Simd<u8, N> {
             let (a, b) = (self.0[at], other.0[at]);
             let rest = (a | HIGHEST) - (b & !HIGHEST);
             set[at] = (a & !b) | (!(a ^ b) & rest);
+            at += 1;
+        }
+        Mask(set)
+    }
+}
+
+impl<const N: usize> BitOr for Simd<u8, N> {
+    type Output = Self;
+
+    #[inline(always)]
+    fn bitor(self, other: Self) -> Self {
+        let mut lanes = self.0;
+        let mut at = 0;
+        while at < N / 8 {
+            lanes[at] |= other.0[at];
+            at += 1;
+        }
+        Simd(lanes, PhantomData)
+    }
+}
+
+/// Each lane wraps around by itself.
+impl<const N: usize> Sub for Simd<u8, N> {
+    type Output = Self;
+
+    #[inline(always)]
+    fn sub(self, other: Self) -> Self {
+        let mut lanes = self.0;
+        let mut at = 0;
+        while at < N / 8 {
+            let (a, b) = (self.0[at], other.0[at]);
+            // The highest bits are left out, so that no borrow passes from lane to lane, and then put right.
+            let rest = (a | HIGHEST) - (b & !HIGHEST);
+            lanes[at] = rest ^ ((a ^ !b) & HIGHEST);
+            at += 1;
+        }
+        Simd(lanes, PhantomData)
+    }
+}
+
+impl<const N: usize> BitAnd for Mask<N> {
+    type Output = Self;
+
+    #[inline(always)]
+    fn bitand(self, other: Self) -> Self {
+        let mut set = self.0;
+        let mut at = 0;
+        while at < N / 8 {
+            set[at] &= other.0[at];
             at += 1;
         }
         Mask(set)
@@ -177,6 +242,24 @@ mod tests {
                 a.simd_ge(b).to_bitmask(),
                 bits(&|at| bytes[at] >= other[at])
             );
+            assert_eq!(
+                a.simd_ne(b).to_bitmask(),
+                bits(&|at| bytes[at] != other[at])
+            );
+            let neither = a.simd_ne(b) & a.simd_ge(Simd::splat(100));
+            assert_eq!(
+                neither.to_bitmask(),
+                bits(&|at| bytes[at] != other[at] && bytes[at] >= 100)
+            );
+            for byte in [0, 5, 127, 128, 255] {
+                let (sum, difference) = (
+                    (a | b).simd_eq(Simd::splat(byte)),
+                    (a - b).simd_eq(Simd::splat(byte)),
+                );
+                assert_eq!(sum.to_bitmask(), bits(&|at| bytes[at] | other[at] == byte));
+                let wrapped = |at: usize| bytes[at].wrapping_sub(other[at]) == byte;
+                assert_eq!(difference.to_bitmask(), bits(&wrapped));
+            }
             let both = a.simd_eq(b) | a.simd_ge(Simd::splat(128));
             assert_eq!(
                 both.to_bitmask(),

@@ -1,8 +1,8 @@
 //! The literals of whole sources.
 
 use crate::error::{ErrorKind, ListError};
-use crate::lit::Lit;
 use crate::grammar::{source_step, SourceStep};
+use crate::lit::Lit;
 use crate::tokens::Sources;
 use alloc::borrow::Cow;
 use core::fmt;

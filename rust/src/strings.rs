@@ -3,6 +3,7 @@
 use crate::common::{literal_type, part};
 use crate::contents::{bytes_of, text_of};
 use crate::grammar::Body;
+use crate::places::quoted_type;
 use crate::tokens::Kind;
 use alloc::borrow::Cow;
 use alloc::ffi::CString;
@@ -12,7 +13,8 @@ use core::ops::Range;
 
 /// The struct of a kind of strings, with what it says of its text.
 macro_rules! string_type {
-    ($(#[$doc:meta])* $name:ident, $variant:ident, $opener:literal, $cooked:literal, $raw:literal) => {
+    ($(#[$doc:meta])* $name:ident, $variant:ident, $opener:literal, $cooked:literal, $raw:literal,
+        $places:literal, $first:literal, $place:literal) => {
         $(#[$doc])*
         #[derive(Clone)]
         #[repr(C)]
@@ -25,6 +27,7 @@ macro_rules! string_type {
         }
 
         literal_type!($name, $variant { lo, hi, suffix_at, is_plain }, $cooked, "\"_s\"");
+        quoted_type!($name, $places, $first, $place);
 
         impl<'t> $name<'t> {
             /// The literal of this text, whose parts stand there.
@@ -36,6 +39,19 @@ macro_rules! string_type {
                     hi: body.hi,
                     suffix_at: body.suffix_at,
                     is_plain: body.plain,
+                }
+            }
+
+            const KIND: Kind = Kind::$variant;
+
+            /// Where its parts stand.
+            #[inline]
+            fn parts(&self) -> Body {
+                Body {
+                    lo: self.lo,
+                    hi: self.hi,
+                    suffix_at: self.suffix_at,
+                    plain: self.is_plain,
                 }
             }
 
@@ -114,7 +130,8 @@ string_type! {
     /// # Ok::<(), navyspindle::ParseError>(())
     /// ```
     LitStr, Str, "\"", r###"r#""a"_s"#"###,
-    r####"r##"r#"a\n"#"##"####
+    r####"r##"r#"a\n"#"##"####,
+    r###"r#""a\x41""#"###, "1..2", "2"
 }
 
 string_type! {
@@ -127,7 +144,8 @@ string_type! {
     /// # Ok::<(), navyspindle::ParseError>(())
     /// ```
     LitByteStr, ByteStr, "b\"", r###"r#"b"a"_s"#"###,
-    r####"r##"br#"a\n"#"##"####
+    r####"r##"br#"a\n"#"##"####,
+    r###"r#"b"a\x41""#"###, "2..3", "3"
 }
 
 string_type! {
@@ -140,7 +158,8 @@ string_type! {
     /// # Ok::<(), navyspindle::ParseError>(())
     /// ```
     LitCStr, CStr, "c\"", r###"r#"c"a"_s"#"###,
-    r####"r##"cr#"a\n"#"##"####
+    r####"r##"cr#"a\n"#"##"####,
+    r###"r#"c"a\x41""#"###, "2..3", "3"
 }
 
 impl<'t> LitStr<'t> {

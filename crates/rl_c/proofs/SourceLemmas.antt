@@ -2,11 +2,10 @@
 use Rattle.std.proofs.Common.{◌≡◌, ℕ, ◌-◌, List, drop, [], ◌∷◌, ◌++◌, length, sym, ap, subst, ◌∙◌}
 use Rattle.std.specs.Str.{chars, IsCharBoundary}
 use Rattle.rl_tokens.specs.Cursors.{CursorState}
-use Rattle.rl_tokens.specs.Sources.{IsCutUpTo}
+use Rattle.rl_tokens.specs.Sources.{IsCutUpTo, TakesLiteralAfter}
 use Rattle.rl_tokens.specs.declared.sources.SourceToken.{SourceToken}
 use Rattle.rl_tokens.proofs.BehindLemmas.{behind_step, cut_boundary, cut_drop}
 use Rattle.rl_tokens.specs.Texts.{IsTail}
-use Rattle.rl_grammar.specs.SourceLiterals.{TakesLiteralAfter}
 use Rattle.rl_c.specs.declared.next.Next.{Next}
 use Rattle.rl_c.specs.Literals.{IsCutTo, FindsToken, cursor_at}
 

@@ -2,10 +2,9 @@
 use Rattle.std.specs.Prelude.{◌≡◌, ℕ, ◌+◌, List, [], drop, length}
 use Rattle.std.specs.Str.{chars, IsCharBoundary}
 use Rattle.rl_tokens.specs.Cursors.{CursorState}
-use Rattle.rl_tokens.specs.Sources.{CutSource, IsCutUpTo, SourceErrorAt}
+use Rattle.rl_tokens.specs.Sources.{CutSource, IsCutUpTo, PassesTo, TakesLiteralAfter, SourceErrorAt}
 use Rattle.rl_tokens.specs.declared.lex_error.LexKind.{LexKind}
 use Rattle.rl_tokens.specs.declared.sources.SourceToken.{SourceToken}
-use Rattle.rl_grammar.specs.SourceLiterals.{PassesTo, TakesLiteralAfter}
 use Rattle.rl_c.specs.declared.next.Next.{Next}
 use Rattle.rl_c.specs.Crossing.{ReportsReading, ReportsVerbatim}
 use Rattle.rl_c.specs.Lists.{error_number}

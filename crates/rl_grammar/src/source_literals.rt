@@ -1,12 +1,9 @@
 //! The literal that stands next in a whole source.
 
-ghost use Rattle.std.specs.Prelude.{◌↔◌, IfSome, IfNone, IsTrue};
-ghost use Rattle.std.specs.Str.{chars, IsUtf8};
-ghost use Rattle.rl_tokens.specs.Sources.{source_view, BeginsNoSource};
-ghost use Rattle.rl_grammar.specs.SourceLiterals.{IsLiteralText, PassesTo, TakesLiteralAfter, StepsSource};
+ghost use Rattle.rl_grammar.specs.SourceLiterals.{StepsSource};
 
-use crate::found::{Found, find, truth_of};
-use rl_tokens::{Form, LexError, SourceForm, SourceToken, Sources};
+use crate::found::{Found, find};
+use rl_tokens::{LexError, SourceToken, Sources};
 
 /// What stands next in a source, tokens that are no literals aside.
 #[derive(Clone, Copy)]
@@ -20,47 +17,13 @@ pub enum SourceStep<'t> {
     Rejected(LexError),
 }
 
-/// Whether the token is a literal, or one of the words `true` and `false`.
-#[inline(always)]
-fn is_literal(token: SourceToken<'_>) -> bool
-    ensures { IsTrue result
-        ↔ IsLiteralText (source_view token.entry.form) (chars token.entry.text.now) }
-{
-    match token.form {
-        SourceForm::Token(Form::Literal) => true,
-        SourceForm::Token(Form::Identifier) => truth_of(token.text).is_some(),
-        _ => false,
-    }
-}
-
-/// Cuts off the tokens up to the next literal and that one, which is returned. `None` where none comes before the end or
-/// the first error, before which the cursor then stands.
-fn skip_to_literal<'t>(tokens: &mut Sources<'t>) -> Option<SourceToken<'t>>
-    requires { IsUtf8 tokens.old.rest }
-    ensures found { IfSome result (λ l. TakesLiteralAfter tokens.old l tokens.new) }
-    ensures passed { IfNone result (PassesTo tokens.old tokens.new) }
-    ensures none { IfNone result (BeginsNoSource (chars tokens.new.rest)) }
-{
-    loop {
-        let Some(token) = tokens.next() else {
-            return None;
-        };
-        if is_literal(token) {
-            return Some(token);
-        }
-    }
-}
-
 /// Cuts off the tokens of a source up to the next literal and that one, and says what it is; or that the source ends, or the
 /// error that comes first, before which the cursor then stands. No memory is taken.
 #[inline(always)]
 pub fn source_step<'t>(tokens: &mut Sources<'t>) -> SourceStep<'t>
     ensures { StepsSource tokens.old result tokens.new }
 {
-    if tokens.rest().is_empty() {
-        return SourceStep::End;
-    }
-    match skip_to_literal(tokens) {
+    match tokens.next_literal() {
         Some(token) => SourceStep::Literal(token, find(token.text)),
         None => match tokens.error() {
             Some(error) => SourceStep::Rejected(error),

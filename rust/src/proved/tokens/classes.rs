@@ -2,7 +2,8 @@
 //! Classes of characters, and the runs of one class at the front of a text.
 
 use crate::tokens::characters::{is_continue, is_white, is_xid_continue};
-use crate::tokens::text::{split_ascii, split_char};
+use crate::tokens::lanes::run_len;
+use crate::tokens::text::{split_ascii, split_char, strip_byte};
 
 /// A class of characters.
 #[derive(Clone, Copy)]
@@ -68,6 +69,62 @@ pub fn skip_class(class: CharClass, text: &str) -> &str {
 #[inline(always)]
 pub fn skip_hashes(text: &str) -> &str {
     skip_class(CharClass::Hash, text)
+}
+
+/// The class of a run of ASCII.
+#[inline(always)]
+fn run_class<const WORD: bool>() -> CharClass {
+    if WORD {
+        CharClass::Continue
+    } else {
+        CharClass::White
+    }
+}
+
+/// What follows a run that begins with one of ASCII: sixteen bytes are looked at at once, up to the first character past
+/// ASCII.
+#[inline(always)]
+fn skip_run<const WORD: bool>(text: &str) -> &str {
+    let rest = &text[run_len::<WORD>(text.as_bytes())..];
+    match split_ascii(rest) {
+        Some(_) => rest,
+        None => skip_wide_class(run_class::<WORD>(), rest),
+    }
+}
+
+/// What follows the characters at the front that go on with an identifier.
+#[inline(always)]
+pub(crate) fn skip_word(text: &str) -> &str {
+    skip_run::<true>(text)
+}
+
+/// What follows the white space at the front. Most tokens have none before them, or one space.
+#[inline(always)]
+pub(crate) fn skip_white(text: &str) -> &str {
+    if begins_nonblank(text) {
+        return text;
+    }
+    if let Some(following) = strip_byte(text, b' ') {
+        if begins_nonblank(following) {
+            return following;
+        }
+    }
+    skip_white_run(text)
+}
+
+/// Whether a character of ASCII that is no white space begins the text.
+#[inline(always)]
+fn begins_nonblank(text: &str) -> bool {
+    match split_ascii(text) {
+        Some((byte, _)) => byte > b' ',
+        None => false,
+    }
+}
+
+/// The same, where more white space is likely, or what is past ASCII.
+#[inline(never)]
+fn skip_white_run(text: &str) -> &str {
+    skip_run::<false>(text)
 }
 
 /// As [`skip_class`], character by character.

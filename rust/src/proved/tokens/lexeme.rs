@@ -6,7 +6,7 @@ mod quotes;
 mod suffix;
 
 use crate::tokens::characters::is_start;
-use crate::tokens::classes::{CharClass, skip_class};
+use crate::tokens::classes::skip_word;
 use crate::tokens::punct::Punct;
 use crate::tokens::text::{begins_with, split_ascii, split_char, without_first};
 use number::{after_decimal, after_digits, ends_number};
@@ -32,6 +32,96 @@ pub enum Form {
 #[inline(always)]
 pub(crate) fn first_lexeme(text: &str) -> Option<(Form, &str)> {
     lexeme_at(text)
+}
+
+/// The same, where the first byte of ASCII tells it, or that and the next: an identifier that begins as no literal does, a
+/// delimiter, or a mark that begins no comment. `None` says nothing.
+#[inline(always)]
+pub(crate) fn word_or_mark(text: &str) -> Option<(Form, &str)> {
+    let (byte, following) = split_ascii(text)?;
+    match lead_of(byte) {
+        Lead::Word => Some((Form::Identifier, skip_word(following))),
+        Lead::Mark => Some((mark_form(byte as char), following)),
+        Lead::Prefix if goes_on_as_word(following) => {
+            Some((Form::Identifier, skip_word(following)))
+        }
+        Lead::Slash if goes_on_as_no_comment(following) => Some((Form::Mark('/'), following)),
+        _ => None,
+    }
+}
+
+/// What the first byte of a text tells.
+#[derive(Clone, Copy)]
+enum Lead {
+    /// An identifier, whatever follows it: `_`, and each letter but `b`, `c` and `r`.
+    Word,
+    /// A delimiter or a mark, whatever follows it: each but `/`.
+    Mark,
+    /// A letter that a literal's prefix may begin with.
+    Prefix,
+    /// A slash.
+    Slash,
+    /// Nothing of these.
+    Other,
+}
+
+/// What a character of ASCII tells as the first. Which it is of 64, a bit says.
+#[inline(always)]
+fn lead_of(byte: u8) -> Lead {
+    if byte < 64 {
+        if has_bit(0xfc00_7f7a_0000_0000, byte) {
+            return Lead::Mark;
+        }
+        if byte == b'/' {
+            return Lead::Slash;
+        }
+        return Lead::Other;
+    }
+    if has_bit(0x07fb_fff2_87ff_fffe, byte - 64) {
+        return Lead::Word;
+    }
+    if has_bit(0x7800_0000_6800_0001, byte - 64) {
+        return Lead::Mark;
+    }
+    if matches!(byte, b'b' | b'c' | b'r') {
+        return Lead::Prefix;
+    }
+    Lead::Other
+}
+
+/// Whether the bit is set.
+#[inline(always)]
+fn has_bit(bits: u64, place: u8) -> bool {
+    (bits >> place) & 1 == 1
+}
+
+/// Whether a word goes on after its first letter, and no literal's prefix: a letter but `r` is next, or `_`. Of a word that
+/// goes on otherwise it is false.
+#[inline(always)]
+fn goes_on_as_word(following: &str) -> bool {
+    match split_ascii(following) {
+        Some((next, _)) => next >= 64 && next != b'r',
+        None => false,
+    }
+}
+
+/// Whether a character of ASCII is next after a slash that doesn't make a comment of it.
+#[inline(always)]
+fn goes_on_as_no_comment(following: &str) -> bool {
+    match split_ascii(following) {
+        Some((next, _)) => next != b'/' && next != b'*',
+        None => false,
+    }
+}
+
+/// The form of a delimiter or a mark.
+#[inline(always)]
+fn mark_form(c: char) -> Form {
+    if is_delimiter(c) {
+        Form::Delimiter(c)
+    } else {
+        Form::Mark(c)
+    }
 }
 
 /// The same, as the first characters tell it. A digit is recognized by its byte, before all else.
@@ -127,7 +217,7 @@ fn after_r(text: &str) -> Option<(Form, &str)> {
 /// An identifier, after its first character.
 #[inline(always)]
 fn identifier(text: &str) -> Option<(Form, &str)> {
-    Some((Form::Identifier, skip_class(CharClass::Continue, text)))
+    Some((Form::Identifier, skip_word(text)))
 }
 
 /// A quoted literal, after its opening quote.

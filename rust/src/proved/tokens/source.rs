@@ -2,11 +2,11 @@
 //! The token at the front of a source.
 
 use crate::tokens::characters::is_start;
-use crate::tokens::classes::{CharClass, skip_class};
-use crate::tokens::lexeme::{Form, first_lexeme};
+use crate::tokens::classes::skip_word;
+use crate::tokens::lexeme::{Form, first_lexeme, word_or_mark};
 use crate::tokens::no_token::{begins_raw_identifier, opens};
 use crate::tokens::scan::{Marks, split_before};
-use crate::tokens::text::{begins_with, split_char, strip_byte, without_first};
+use crate::tokens::text::{before, begins_with, split_ascii, split_char, strip_byte, without_first};
 use crate::tokens::whitespace::{after_block, is_comment_block, is_comment_line, skip};
 
 /// What a token of a source is: what [`Sources`](crate::tokens::Sources) cuts off.
@@ -27,19 +27,63 @@ pub enum SourceForm {
 /// The form of the token that the text begins with, and the rest after it. `None` where none does.
 #[inline(always)]
 pub(crate) fn first_source(text: &str) -> Option<(SourceForm, &str)> {
+    if let Some((form, following)) = word_or_mark(text) {
+        return Some((SourceForm::Token(form), following));
+    }
+    rebuilt_source(text)
+}
+
+/// What is left of a text after words and marks at its front that are no literals, as far as their first bytes tell what
+/// they are, and what stands between them. No token is made of them.
+#[inline(always)]
+pub(crate) fn skip_words_and_marks(text: &str) -> &str {
+    let mut rest = text;
+    while let Some((form, following)) = word_or_mark(rest) {
+        let token = before(rest, following);
+        if is_literal(form, token) {
+            return rest;
+        }
+        rest = skip(following);
+    }
+    rest
+}
+
+/// Whether a token of the form and the text is a literal, or one of the words `true` and `false`.
+#[inline(always)]
+pub(crate) fn is_literal(form: Form, text: &str) -> bool {
+    match form {
+        Form::Literal => true,
+        Form::Identifier => is_truth(text),
+        Form::Delimiter(_) | Form::Mark(_) => false,
+    }
+}
+
+/// Whether the text is one of the words `true` and `false`.
+#[inline(always)]
+fn is_truth(text: &str) -> bool {
+    matches!(text, "true" | "false")
+}
+
+/// What [`source_by_characters`] returns, built anew: what a call returns stands in memory, and so would whatever a caller
+/// joins with it.
+#[inline(always)]
+fn rebuilt_source(text: &str) -> Option<(SourceForm, &str)> {
+    match source_by_characters(text) {
+        Some((form, following)) => Some((form, following)),
+        None => None,
+    }
+}
+
+/// The token at the front of a text, as its first characters tell it.
+#[inline(never)]
+fn source_by_characters(text: &str) -> Option<(SourceForm, &str)> {
+    if let Some((form, following)) = other_token(text) {
+        return Some((form, following));
+    }
     if let Some((form, following)) = first_lexeme(text) {
         return Some((SourceForm::Token(form), following));
     }
-    other_source(text)
-}
-
-/// The same, where it is no lexeme.
-#[inline(never)]
-fn other_source(text: &str) -> Option<(SourceForm, &str)> {
-    match other_token(text) {
-        Some((form, following)) => Some((form, following)),
-        None => stray(text),
-    }
+    stray(text)
 }
 
 /// The same, where it is nothing but a stray character, if that.
@@ -52,29 +96,34 @@ fn stray(text: &str) -> Option<(SourceForm, &str)> {
 }
 
 /// The same, where it is neither a lexeme nor a stray character.
+#[inline(always)]
 fn other_token(text: &str) -> Option<(SourceForm, &str)> {
-    match split_char(text) {
-        Some(('/', following)) => ended(SourceForm::DocComment, after_doc(following)),
-        Some(('\'', following)) => ended(SourceForm::Lifetime, after_lifetime(following)),
-        Some(('r', following)) => ended(SourceForm::RawIdentifier, after_marked(following)),
+    match split_ascii(text) {
+        Some((b'/', following)) => ended(SourceForm::DocComment, after_doc(following)),
+        Some((b'\'', following)) => ended(SourceForm::Lifetime, after_lifetime(following)),
+        Some((b'r', following)) => ended(SourceForm::RawIdentifier, after_marked(following)),
         _ => None,
     }
 }
 
 /// A token of the form, with what follows it, where its end was found.
+#[inline(always)]
 fn ended(form: SourceForm, following: Option<&str>) -> Option<(SourceForm, &str)> {
     Some((form, following?))
 }
 
 /// What follows a doc comment, by what stands after its first slash: of a line its LF.
+#[inline(always)]
 fn after_doc(text: &str) -> Option<&str> {
-    let (second, following) = split_char(text)?;
-    if second == '/' {
+    let Some((second, following)) = split_ascii(text) else {
+        return None;
+    };
+    if second == b'/' {
         if is_comment_line(following) {
             return None;
         }
         Some(line_end(following))
-    } else if second == '*' {
+    } else if second == b'*' {
         if is_comment_block(following) {
             return None;
         }
@@ -93,7 +142,7 @@ fn line_end(text: &str) -> &str {
 /// What follows an identifier.
 fn after_name(text: &str) -> Option<&str> {
     match split_char(text) {
-        Some((c, following)) if is_start(c) => Some(skip_class(CharClass::Continue, following)),
+        Some((c, following)) if is_start(c) => Some(skip_word(following)),
         _ => None,
     }
 }

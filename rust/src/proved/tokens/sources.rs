@@ -3,7 +3,7 @@
 
 use crate::tokens::lex_error::LexError;
 use crate::tokens::no_token::source_error_kind;
-use crate::tokens::source::{SourceForm, first_source, without_preamble};
+use crate::tokens::source::{SourceForm, first_source, is_literal, skip_words_and_marks, without_preamble};
 use crate::tokens::whitespace::skip;
 
 /// A token of a source, borrowed from it: what it is, and where it stands.
@@ -17,6 +17,17 @@ pub struct SourceToken<'t> {
     pub lo: usize,
     /// The place after its last byte.
     pub hi: usize,
+}
+
+impl SourceToken<'_> {
+    /// Whether it is a literal, or one of the words `true` and `false`.
+    #[inline(always)]
+    pub fn is_literal(&self) -> bool {
+        match self.form {
+            SourceForm::Token(form) => is_literal(form, self.text),
+            _ => false,
+        }
+    }
 }
 
 /// A whole Rust source, cut into tokens as they are asked for: those of [`Tokens`], and lifetimes,
@@ -57,6 +68,19 @@ impl<'t> Sources<'t> {
         let text = &self.rest[..self.rest.len() - following.len()];
         self.rest = skip(following);
         Some(SourceToken { form, text, lo, hi })
+    }
+
+    /// Cuts off the tokens up to the next literal and that one, which is returned: a literal token, whether it reads or not,
+    /// or one of the words `true` and `false`. `None` where none comes before the end or the first error, before which the
+    /// cursor then stands; [`Sources::error`] says which.
+    pub fn next_literal(&mut self) -> Option<SourceToken<'t>> {
+        loop {
+            self.rest = skip_words_and_marks(self.rest);
+            let token = self.next()?;
+            if token.is_literal() {
+                return Some(token);
+            }
+        }
     }
 
     /// Why no token begins what is left: the error, and the byte of the whole text where it stands.

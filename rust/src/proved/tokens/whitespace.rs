@@ -1,7 +1,7 @@
 // Rendered from crates/rl_tokens/src/whitespace.rt by tools/render, which erases contracts: change that file, and render anew.
 //! White space and plain comments.
 
-use crate::tokens::classes::{CharClass, skip_class};
+use crate::tokens::classes::skip_white;
 use crate::tokens::scan::{Marks, near_len_before, next_mark};
 use crate::tokens::text::{begins_with, split_ascii, strip_byte};
 
@@ -11,10 +11,26 @@ use crate::tokens::text::{begins_with, split_ascii, strip_byte};
 /// line comment that the text ends in leaves the empty rest.
 #[inline(always)]
 pub fn skip(text: &str) -> &str {
-    let rest = skip_class(CharClass::White, text);
-    match strip_byte(rest, b'/') {
-        Some(_) => skip_comments(rest),
-        None => rest,
+    let rest = skip_white(text);
+    let Some(inside) = strip_byte(rest, b'/') else {
+        return rest;
+    };
+    if begins_comment(inside) {
+        skip_comments(rest)
+    } else {
+        rest
+    }
+}
+
+/// Whether a plain comment may begin, by what stands after its first slash. Of doc comments and of a mark it is false.
+#[inline(never)]
+fn begins_comment(text: &str) -> bool {
+    match split_ascii(text) {
+        Some((second, following)) => {
+            second == b'/' && is_comment_line(following)
+                || second == b'*' && is_comment_block(following)
+        }
+        None => false,
     }
 }
 
@@ -26,7 +42,7 @@ fn skip_comments(text: &str) -> &str {
         let Some(following) = after_comment(inside) else {
             return rest;
         };
-        rest = skip_class(CharClass::White, following);
+        rest = skip_white(following);
     }
     rest
 }

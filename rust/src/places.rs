@@ -1,0 +1,337 @@
+//! Where in a literal's text what it stands for is written.
+
+use crate::grammar::{self, Body};
+use crate::tokens;
+use alloc::vec::Vec;
+use core::fmt;
+use core::iter::FusedIterator;
+use core::ops::Range;
+
+/// What a segment of a quoted literal stands for.
+///
+/// ```
+/// use navyspindle::{LitStr, SegmentValue};
+///
+/// let literal = LitStr::parse(r#""ab\n""#)?;
+/// let values: Vec<_> = literal.segments().map(|it| it.value).collect();
+/// assert_eq!(values, [SegmentValue::Text("ab"), SegmentValue::Char('\n')]);
+/// # Ok::<(), navyspindle::ParseError>(())
+/// ```
+#[derive(Clone, Copy, Debug, PartialEq, Eq, Hash)]
+#[non_exhaustive]
+pub enum SegmentValue<'t> {
+    /// Characters that stand for themselves, as many as stand side by side.
+    Text(&'t str),
+    /// The character of an escape, or the LF of a CR LF.
+    Char(char),
+    /// The byte of an escape, where the literal holds bytes.
+    Byte(u8),
+    /// Nothing: a backslash, a line end and the blanks after it.
+    Nothing,
+}
+
+/// A piece of what stands between a literal's quotes.
+///
+/// ```
+/// use navyspindle::LitStr;
+///
+/// let literal = LitStr::parse(r#""ab\n""#)?;
+/// assert_eq!(literal.segments().last().unwrap().range, 3..5);
+/// # Ok::<(), navyspindle::ParseError>(())
+/// ```
+#[derive(Clone, Debug, PartialEq, Eq, Hash)]
+#[non_exhaustive]
+pub struct Segment<'t> {
+    /// Its bytes in the literal's text.
+    pub range: Range<usize>,
+    /// What it stands for.
+    pub value: SegmentValue<'t>,
+}
+
+/// The segments of a quoted literal, in order: see [`LitStr::segments`](crate::LitStr::segments).
+#[must_use = "an iterator does nothing until it is asked"]
+pub struct Segments<'t>(grammar::Segments<'t>);
+
+impl<'t> Segments<'t> {
+    pub(crate) fn of(kind: tokens::Kind, text: &'t str, body: Body) -> Self {
+        Segments(body.segments_in(kind, text))
+    }
+}
+
+impl<'t> Iterator for Segments<'t> {
+    type Item = Segment<'t>;
+
+    fn next(&mut self) -> Option<Segment<'t>> {
+        let next = self.0.next()?;
+        let value = match next.value {
+            grammar::SegmentValue::Text(text) => SegmentValue::Text(text),
+            grammar::SegmentValue::Char(c) => SegmentValue::Char(c),
+            grammar::SegmentValue::Byte(byte) => SegmentValue::Byte(byte),
+            grammar::SegmentValue::Nothing => SegmentValue::Nothing,
+        };
+        Some(Segment {
+            range: next.lo..next.hi,
+            value,
+        })
+    }
+}
+
+impl FusedIterator for Segments<'_> {}
+
+/// Where the next segment begins.
+impl fmt::Debug for Segments<'_> {
+    fn fmt(&self, f: &mut fmt::Formatter<'_>) -> fmt::Result {
+        f.debug_tuple("Segments").field(&self.0.at()).finish()
+    }
+}
+
+/// Where each byte of a literal's value comes from, for many questions: built in one walk over the literal, it answers in time
+/// that grows with the logarithm of the number of segments. See [`LitStr::places`](crate::LitStr::places).
+#[derive(Clone, Debug)]
+pub struct Places {
+    // The byte of the value where each segment begins that stands for some; its bytes in the text; whether it is text.
+    segments: Vec<(usize, Range<usize>, bool)>,
+    // How long the value is, and the byte of the closing quote.
+    end: (usize, usize),
+}
+
+impl Places {
+    pub(crate) fn of(mut segments: grammar::Segments<'_>) -> Places {
+        let (mut places, mut at) = (Vec::new(), 0);
+        while let Some(segment) = segments.next() {
+            let len = segment.value.len();
+            if len > 0 {
+                let is_text = matches!(segment.value, grammar::SegmentValue::Text(_));
+                places.push((at, segment.lo..segment.hi, is_text));
+            }
+            at += len;
+        }
+        let end = (at, segments.at());
+        Places {
+            segments: places,
+            end,
+        }
+    }
+
+    /// The bytes of the text that give this byte of the value: of an escape all of it, else the byte. At the value's end, and past
+    /// it, no bytes at the closing quote.
+    ///
+    /// ```
+    /// use navyspindle::LitStr;
+    ///
+    /// let places = LitStr::parse(r#""a\x41b""#)?.places();
+    /// assert_eq!((places.byte(0), places.byte(1), places.byte(2)), (1..2, 2..6, 6..7));
+    /// # Ok::<(), navyspindle::ParseError>(())
+    /// ```
+    #[must_use]
+    pub fn byte(&self, at: usize) -> Range<usize> {
+        let (len, quote) = self.end;
+        if at >= len {
+            return quote..quote;
+        }
+        let place = self.segments.partition_point(|segment| segment.0 <= at) - 1;
+        let (begin, range, is_text) = &self.segments[place];
+        if *is_text {
+            let byte = range.start + (at - begin);
+            byte..byte + 1
+        } else {
+            range.clone()
+        }
+    }
+
+    /// The bytes of the text that give these bytes of the value: from where the first comes from to where the last does. A
+    /// continuation after the last is none of them.
+    ///
+    /// ```
+    /// use navyspindle::LitStr;
+    ///
+    /// let text = r#""a\x41b""#;
+    /// let places = LitStr::parse(text)?.places();
+    /// assert_eq!(&text[places.range(1..3)], r"\x41b");
+    /// # Ok::<(), navyspindle::ParseError>(())
+    /// ```
+    #[must_use]
+    pub fn range(&self, bytes: Range<usize>) -> Range<usize> {
+        let lo = self.byte(bytes.start).start;
+        if bytes.is_empty() {
+            return lo..lo;
+        }
+        lo..self.byte(bytes.end - 1).end
+    }
+}
+
+/// The segments and the places of a struct with the method `segments_of_it`. `$text` is of an example, of whose value the byte
+/// `$byte` comes from `$place`.
+macro_rules! quoted_type {
+    ($name:ident, $text:literal, $first:literal, $place:literal) => {
+        impl $name<'_> {
+            /// What stands between the quotes, piece by piece, with its bytes in the literal's text: text that stands for itself, as
+            /// long as it goes; an escape; or a line's end that is dropped.
+            ///
+            /// ```
+            #[doc = concat!("use navyspindle::", stringify!($name), ";")]
+            ///
+            #[doc = concat!("let literal = ", stringify!($name), "::parse(", $text, ")?;")]
+            #[doc = concat!("assert_eq!(literal.segments().next().unwrap().range, ", $first, ");")]
+            /// # Ok::<(), navyspindle::ParseError>(())
+            /// ```
+            pub fn segments(&self) -> $crate::Segments<'_> {
+                $crate::Segments::of(Self::KIND, &self.text, self.parts())
+            }
+
+            /// The byte of the literal's text where what gives this byte of the value begins: of text that stands for itself the byte
+            /// itself, else the escape. At the value's end, and past it, the closing quote.
+            ///
+            /// It walks over the literal; [`places`](Self::places) answers many such questions.
+            ///
+            /// ```
+            #[doc = concat!("use navyspindle::", stringify!($name), ";")]
+            ///
+            #[doc = concat!("assert_eq!(", stringify!($name), "::parse(", $text, ")?.place_of(1), ", $place, ");")]
+            /// # Ok::<(), navyspindle::ParseError>(())
+            /// ```
+            #[must_use]
+            pub fn place_of(&self, byte: usize) -> usize {
+                let segments = self.parts().segments_in(Self::KIND, &self.text);
+                segments.place_of(byte)
+            }
+
+            /// The bytes of the literal's text that give these bytes of the value.
+            ///
+            /// ```
+            #[doc = concat!("use navyspindle::", stringify!($name), ";")]
+            ///
+            #[doc = concat!("assert_eq!(", stringify!($name), "::parse(", $text, ")?.range_of(0..1), ", $first, ");")]
+            /// # Ok::<(), navyspindle::ParseError>(())
+            /// ```
+            #[must_use]
+            pub fn range_of(&self, bytes: core::ops::Range<usize>) -> core::ops::Range<usize> {
+                let segments = || self.parts().segments_in(Self::KIND, &self.text);
+                let lo = segments().place_of(bytes.start);
+                if bytes.is_empty() {
+                    return lo..lo;
+                }
+                lo..segments().end_of(bytes.end - 1)
+            }
+
+            /// Where each byte of the value comes from.
+            ///
+            /// ```
+            #[doc = concat!("use navyspindle::", stringify!($name), ";")]
+            ///
+            #[doc = concat!("assert_eq!(", stringify!($name), "::parse(", $text, ")?.places().range(0..1), ", $first, ");")]
+            /// # Ok::<(), navyspindle::ParseError>(())
+            /// ```
+            #[must_use]
+            pub fn places(&self) -> $crate::Places {
+                $crate::Places::of(self.parts().segments_in(Self::KIND, &self.text))
+            }
+        }
+    };
+}
+pub(crate) use quoted_type;
+
+#[cfg(test)]
+mod tests {
+    use crate::{Lit, LitStr, SegmentValue};
+    use std::string::String;
+    use std::vec::Vec;
+
+    /// The segments as `LO..HI VALUE`, and the place of each byte of the value and of its end.
+    fn shown(text: &str) -> (Vec<String>, Vec<usize>) {
+        let show = |segments: crate::Segments, len: usize, place: &dyn Fn(usize) -> usize| {
+            let line = |it: crate::Segment| match it.value {
+                SegmentValue::Text(text) => std::format!("{:?} {text}", it.range),
+                SegmentValue::Char(c) => std::format!("{:?} U+{:X}", it.range, c as u32),
+                SegmentValue::Byte(byte) => std::format!("{:?} {byte}", it.range),
+                SegmentValue::Nothing => std::format!("{:?}", it.range),
+            };
+            (segments.map(line).collect(), (0..=len).map(place).collect())
+        };
+        match &Lit::new(text) {
+            Lit::Str(it) => show(it.segments(), it.value().len(), &|at| it.place_of(at)),
+            Lit::ByteStr(it) => show(it.segments(), it.value().len(), &|at| it.place_of(at)),
+            Lit::CStr(it) => show(it.segments(), it.value().len(), &|at| it.place_of(at)),
+            Lit::Byte(it) => show(it.segments(), 1, &|at| it.place_of(at)),
+            Lit::Char(it) => show(it.segments(), it.value().len_utf8(), &|at| it.place_of(at)),
+            other => panic!("{other}"),
+        }
+    }
+
+    #[test]
+    fn segments_and_places() {
+        let rows: &[(&str, &[&str], &[usize])] = &[
+            (
+                r#""a\x41\n\u{1F600}é""#,
+                &[
+                    "1..2 a",
+                    "2..6 U+41",
+                    "6..8 U+A",
+                    "8..17 U+1F600",
+                    "17..19 é",
+                ],
+                &[1, 2, 6, 8, 8, 8, 8, 17, 18, 19],
+            ),
+            (
+                "\"a\\\n   b\\\n\t\tc\"",
+                &["1..2 a", "2..7", "7..8 b", "8..12", "12..13 c"],
+                &[1, 7, 12, 13],
+            ),
+            (
+                "\"a\r\nb\"",
+                &["1..2 a", "2..4 U+A", "4..5 b"],
+                &[1, 2, 4, 5],
+            ),
+            (r##"r#"a"b\n"#"##, &[r#"3..8 a"b\n"#], &[3, 4, 5, 6, 7, 8]),
+            (
+                r#"b"a\xFF'""#,
+                &["2..3 a", "3..7 255", "7..8 '"],
+                &[2, 3, 7, 8],
+            ),
+            (
+                r#"c"\xFF\u{e9}é""#,
+                &["2..6 255", "6..12 U+E9", "12..14 é"],
+                &[2, 6, 6, 12, 13, 14],
+            ),
+            ("'é'", &["1..3 é"], &[1, 2, 3]),
+            (r"'\u{1_F600}'", &["1..11 U+1F600"], &[1, 1, 1, 1, 11]),
+            (r"b'\n'", &["2..4 10"], &[2, 4]),
+            ("\"\"", &[], &[1]),
+            ("\"\\\n\"", &["1..3"], &[3]),
+        ];
+        for (text, segments, places) in rows {
+            let (found, at) = shown(text);
+            assert_eq!(
+                (found, at.as_slice()),
+                (
+                    segments.iter().map(|&it| String::from(it)).collect(),
+                    *places
+                ),
+                "{text}"
+            );
+        }
+    }
+
+    #[test]
+    fn ranges() {
+        let literal = LitStr::parse("\"a\\\n  b\\n\"").unwrap();
+        assert_eq!(
+            (literal.range_of(0..1), literal.range_of(0..2)),
+            (1..2, 1..7)
+        );
+        assert_eq!(
+            (literal.range_of(1..3), literal.range_of(1..1)),
+            (6..9, 6..6)
+        );
+        assert_eq!(
+            (literal.range_of(3..3), literal.range_of(9..12)),
+            (9..9, 9..9)
+        );
+        let places = literal.places();
+        for lo in 0..5 {
+            for hi in 0..5 {
+                assert_eq!(places.range(lo..hi), literal.range_of(lo..hi), "{lo}..{hi}");
+            }
+        }
+    }
+}
