@@ -22,6 +22,8 @@ fn check_characters() -> Result<(), String> {
     wanted("shape", ours::shape(&corpus), 33)?;
     // 5 + 1, 5 + 2 + 1, 4 + 1, 5 + 4
     wanted("lent", ours::lent(&corpus), 28)?;
+    // 1, 2, 1, 4
+    wanted("segments", ours::segments(&corpus), 8)?;
     wanted("value", ours::value(&corpus), 28)?;
     wanted("literal", ours::literal(&corpus), 28)?;
     wanted("package", package::value(&corpus), 28)
@@ -61,6 +63,8 @@ fn check_literals() -> Result<(), String> {
     };
     // 1 + 2 + 1, 6 + 5 + 2, 8 + 4
     wanted("shape", ours::shape(&corpus), 29)?;
+    // 2
+    wanted("segments", ours::segments(&corpus), 2)?;
     // 1 + 2 + 1, 6 + 3 + 2, 8
     wanted("value", ours::value(&corpus), 23)?;
     wanted("literal", ours::literal(&corpus), 23)?;

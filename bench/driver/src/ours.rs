@@ -10,6 +10,7 @@ type Export = unsafe extern "C" fn(*const u8, usize, *const usize, usize, &mut u
 
 extern "C" {
     fn rl_bench_shape(bytes: *const u8, len: usize, ends: *const usize, count: usize) -> u64;
+    fn rl_bench_segments(bytes: *const u8, len: usize, ends: *const usize, count: usize) -> u64;
     fn rl_bench_value(b: *const u8, n: usize, e: *const usize, m: usize, sum: &mut u64) -> bool;
     fn rl_bench_literal(b: *const u8, n: usize, e: *const usize, m: usize, sum: &mut u64) -> bool;
     fn rl_bench_value_ref(b: *const u8, n: usize, e: *const usize, m: usize, sum: &mut u64)
@@ -48,6 +49,10 @@ fn call_certain(export: Certain, corpus: &Corpus) -> u64 {
 
 pub fn shape(corpus: &Corpus) -> u64 {
     call_certain(rl_bench_shape, corpus)
+}
+
+pub fn segments(corpus: &Corpus) -> u64 {
+    call_certain(rl_bench_segments, corpus)
 }
 
 pub fn value(corpus: &Corpus) -> u64 {

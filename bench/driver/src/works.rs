@@ -8,6 +8,7 @@ use crate::{others, ours, package};
 pub enum Sum {
     Shapes,
     Lents,
+    Segments,
     Values,
     Trees,
     Cuts,
@@ -48,6 +49,7 @@ const OF_LITERALS: &[Work] = &[
     ours("shape", Sum::Shapes, ours::shape),
     ours("lent", Sum::Lents, ours::lent),
     other("litrs, lent", Sum::Lents, others::litrs_lent),
+    ours("segments", Sum::Segments, ours::segments),
     ours("value", Sum::Values, ours::value),
     ours("literal", Sum::Values, ours::literal),
     ours("value_ref", Sum::Values, ours::value_ref),

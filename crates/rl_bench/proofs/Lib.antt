@@ -1,4 +1,5 @@
 pub mod LentLemmas
+pub mod SegmentLemmas
 pub mod SumLemmas
 pub mod TokenLemmas
 pub mod SourceLemmas

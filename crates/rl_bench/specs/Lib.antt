@@ -1,4 +1,5 @@
 pub mod Lent
+pub mod Segments
 pub mod Sizes
 pub mod Sums
 pub mod Weights

@@ -9,6 +9,7 @@ ghost use Rattle.std.specs.Prelude.{◌≡◌, IsTrue, IsFalse};
 ghost use Rattle.rl_bench.specs.Sums.{IsSum};
 ghost use Rattle.std.specs.declared.alloc.Global.{Global};
 ghost use Rattle.rl_bench.specs.Lent.{HasLentWeight};
+ghost use Rattle.rl_bench.specs.Segments.{HasSegmentWeight};
 ghost use Rattle.rl_bench.specs.Weights.{
   HasShapeWeight,
   HasValueWeight,
@@ -22,6 +23,7 @@ ghost use Rattle.rl_bench.specs.Weights.{
 mod lent;
 mod lists;
 mod literals;
+mod segments;
 mod sources;
 mod sums;
 mod tokens;
@@ -32,6 +34,7 @@ mod weights;
 use crate::lent::ByLent;
 use crate::lists::{ByAttributes, ByList, ByTrees};
 use crate::literals::ByLiteral;
+use crate::segments::BySegments;
 use crate::sources::BySources;
 use crate::sums::sum;
 use crate::tokens::ByTokens;
@@ -48,6 +51,15 @@ pub extern "C" fn rl_bench_shape(alloc: Global, corpus: &[u8], ends: &[usize]) -
     ensures { IsSum HasShapeWeight corpus.now ends.now result }
 {
     certain(sum::<ByShape>(alloc, corpus, ends))
+}
+
+/// The sum of the lengths in bytes of what the segments of the texts stand for; of a text that is no quoted literal none.
+/// It takes no memory.
+#[unsafe(no_mangle)]
+pub extern "C" fn rl_bench_segments(alloc: Global, corpus: &[u8], ends: &[usize]) -> u64
+    ensures { IsSum HasSegmentWeight corpus.now ends.now result }
+{
+    certain(sum::<BySegments>(alloc, corpus, ends))
 }
 
 /// Puts into `total` the sum of the values of the texts: of each literal its kind's number, and the
