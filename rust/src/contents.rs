@@ -1,6 +1,6 @@
 //! What literals stand for whose bodies aren't it.
 
-use crate::grammar::{bytes_into, numeral_into, str_into};
+use crate::grammar::{bytes_into, numeral_into, SegmentValue, Segments};
 use crate::tokens::Kind;
 use alloc::string::String;
 use alloc::vec;
@@ -15,9 +15,17 @@ fn written(body: &str, write: impl FnOnce(&str, &mut [u8]) -> usize) -> Vec<u8> 
     out
 }
 
-/// What a string stands for whose body has escapes.
-pub(crate) fn text_of(body: &str) -> String {
-    String::from_utf8(written(body, str_into)).expect("contents are UTF-8")
+/// What a string stands for whose segments these are: no longer than its text.
+pub(crate) fn text_of(mut segments: Segments<'_>, len: usize) -> String {
+    let mut out = String::with_capacity(len);
+    while let Some(segment) = segments.next() {
+        match segment.value {
+            SegmentValue::Text(text) => out.push_str(text),
+            SegmentValue::Char(c) => out.push(c),
+            SegmentValue::Byte(_) | SegmentValue::Nothing => {}
+        }
+    }
+    out
 }
 
 /// What a byte string or a C string stands for whose body has escapes.

@@ -16,7 +16,7 @@ mod source_literals;
 pub mod strict;
 mod units;
 
-pub use crate::grammar::contents::{bytes_into, str_into};
+pub use crate::grammar::contents::bytes_into;
 pub use crate::grammar::digits::numeral_into;
 pub use crate::grammar::flaws::{FlawKind, explain};
 pub use crate::grammar::found::{Body, Found, find};
