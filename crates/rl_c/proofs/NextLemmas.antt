@@ -11,7 +11,7 @@ use Rattle.rl_grammar.specs.declared.found.Found.{Found}
 use Rattle.rl_grammar.specs.declared.next_literals.NextLiteral.{NextLiteral}
 use Rattle.rl_grammar.specs.declared.next_literals.Rejection.{Rejection}
 use Rattle.rl_grammar.specs.NextLiterals.{FindsReading, IsLiteralToken, TakesNextLiteral, HasNoNextLiteral, RejectsNext}
-use Rattle.rl_grammar.proofs.ReadingLemmas.{truth_chars}
+use Rattle.rl_tokens.proofs.TruthWords.{truth_chars}
 use Rattle.rl_c.specs.declared.next.Next.{Next}
 use Rattle.rl_c.specs.declared.reading.Reading.{Reading}
 use Rattle.rl_c.specs.Crossing.{ReportsFound, ReportsReading, ReportsVerbatim, ReportsLiteral}
