@@ -79,7 +79,7 @@ held_low true = word_low
 held_low false = blank_low
 
 -- of ASCII they hold what their classes do
-held_agrees : (word : Bool) (c : ℕ) → c < 128 → class_test (run_class word) c ≡ is_held word c
+pub held_agrees : (word : Bool) (c : ℕ) → c < 128 → class_test (run_class word) c ≡ is_held word c
 held_agrees true c low = continue_is_plain c low ∙ ascii_xid_continue c low
 held_agrees false c low = agree_below_at is_white is_blank_byte 128 c refl low
 

@@ -52,13 +52,13 @@ pub at_class : (c : ℕ) (t : List ℕ) (k : HeadClass) → head_class c ≡ k �
 at_class c t k h = ap (λ x. by_class x c t) h
 
 -- the classes of what is no delimiter, and of what is no punctuation either
-abbrev behind_punct : ℕ → HeadClass
+abbrev pub behind_punct : ℕ → HeadClass
 behind_punct c = cond (is_ascii_digit c) DigitHead (cond (c == 34) QuoteHead (cond (c == 39) ApostropheHead StrayHead))
 
-abbrev behind_slash : ℕ → HeadClass
+abbrev pub behind_slash : ℕ → HeadClass
 behind_slash c = cond (is_punct c) MarkHead (behind_punct c)
 
-abbrev after_delimiter : ℕ → HeadClass
+abbrev pub after_delimiter : ℕ → HeadClass
 after_delimiter c = cond (c == 47) SlashHead (behind_slash c)
 
 pub class34 : head_class 34 ≡ QuoteHead

@@ -62,4 +62,6 @@ pub mod RunLanes
 pub mod AsciiRuns
 pub mod WordsAndMarks
 pub mod LiteralSteps
+pub mod UnlikelyFronts
+pub mod UnlikelyLanes
 pub mod TruthWords

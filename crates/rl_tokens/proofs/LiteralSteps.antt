@@ -1,22 +1,20 @@
 -- What stands between one literal of a source and the next.
-use Rattle.std.proofs.Common.{◌≡◌, ◌⊎◌, inl, inr, ℕ, ◌+◌, ◌-◌, ◌≤◌, List, [], ◌∷◌, ◌++◌, refl, sym, ap, subst, ◌∙◌, append_assoc, append-nil, arith}
-use Rattle.std.proofs.lemmas.List.{append_cancel_right}
+use Rattle.std.proofs.Common.{◌≡◌, ◌⊎◌, inl, inr, ℕ, true, false, ◌==◌, ◌+◌, ◌-◌, ◌≤◌, List, [], ◌∷◌, ◌++◌, refl, sym, ap, subst, ◌∙◌, append_assoc, append-nil, arith}
 use Rattle.std.specs.List.{AllByRecursion}
-use Rattle.std.specs.Str.{chars, IsUtf8}
-use Rattle.rl_tokens.specs.Texts.{byte_len, IsTail}
+use Rattle.std.specs.Str.{chars}
+use Rattle.rl_tokens.specs.Texts.{byte_len, is_white, IsTail}
+use Rattle.rl_tokens.specs.Trivia.{White}
 use Rattle.rl_tokens.specs.Skipping.{Skipped}
-use Rattle.rl_tokens.specs.Lexemes.{LexemeForm}
 use Rattle.rl_tokens.specs.Cursors.{CursorState, IsCursorState}
-use Rattle.rl_tokens.specs.Sources.{CutSource, SourceKind, PlainKind, kind_of, source_text, source_view, SourceBefore, IsCutUpTo, TakesSource, IsLiteralText, IsNoLiteral, PassesTo}
-use Rattle.rl_tokens.specs.Mirrors.LexemeAt.{FormBefore}
+use Rattle.rl_tokens.specs.Sources.{CutSource, SourceKind, kind_of, source_text, source_view, SourceBefore, SourcesUpTo, source_end, IsCutUpTo, TakesSource, IsLiteralText, IsNoLiteral, PassesTo}
 use Rattle.rl_tokens.specs.Mirrors.LiteralsAt.{HoldsNoLiteral}
 use Rattle.rl_tokens.specs.declared.sources.SourceToken.{SourceToken}
 use Rattle.rl_tokens.proofs.BehindLemmas.{behind_step}
 use Rattle.rl_tokens.proofs.CutLemmas.{byte_len-append}
 use Rattle.rl_tokens.proofs.Faults.{char_len}
+use Rattle.rl_tokens.proofs.Pieces.{after_piece-past, one_rest, skipped_after, skipped_again, skipped_here}
 use Rattle.rl_tokens.proofs.Rests.{behind_length}
 use Rattle.rl_tokens.proofs.SourceCuts.{cut_more}
-use Rattle.rl_tokens.proofs.SourceFronts.{plain_before}
 
 all_join : (vs ws : List CutSource) → AllByRecursion IsNoLiteral vs → AllByRecursion IsNoLiteral ws → AllByRecursion IsNoLiteral (vs ++ ws)
 all_join [] ws each more = more
@@ -54,15 +52,43 @@ holds_one t after r kind token other skipped short =
       goes_on = λ whole done room cut. cut_more whole done t (record { token = w; at = byte_len whole - byte_len t }) after r cut token.text_is token.is_source (omega (arith, room)) skipped;
     }
 
--- a token by its form and its text
-pub holds_lexeme : (t text after r : List ℕ) (form : LexemeForm) → FormBefore t form after → t ≡ text ++ after → (IsLiteralText (PlainKind form) text → ⊥) → Skipped after r → byte_len r ≤ byte_len after → HoldsNoLiteral t r
-holds_lexeme t text after r form before cut other skipped short =
-    let token = plain_before t after form before in
-    let same : source_text token.token ≡ text = append_cancel_right (source_text token.token) text after (sym token.text_is ∙ cut) in
-    holds_one t after r (PlainKind form) token (λ is. other (subst (IsLiteralText (PlainKind form)) same is)) skipped short
+-- where what is left is skipped to its first token
+skipped_len : (t r : List ℕ) → Skipped t r → byte_len r ≤ byte_len t
+skipped_len t r (inl s) = omega (arith, ap byte_len s.text, byte_len-append s.front r)
+skipped_len t r (inr s) = let e : byte_len r ≡ 0 = ap byte_len s.nothing in omega (arith, e)
 
-pub tail_len : (t r : List ℕ) → IsUtf8 t → IsTail t r → byte_len (chars r) ≤ byte_len (chars t)
-tail_len t r u tail = omega (arith, char_len t u, char_len r tail.is_text, behind_length t r tail)
+cut_skipped : (at : ℕ) (t : List ℕ) (done : List CutSource) (r : List ℕ) → SourcesUpTo at t done r → Skipped r r
+cut_skipped at t [] r cut = skipped_again t r cut
+cut_skipped at t (w ∷ ws) r cut = cut_skipped (source_end w) cut.0 ws r cut.4
+
+pub holds_skipped : (t start r : List ℕ) → Skipped t start → HoldsNoLiteral start r → HoldsNoLiteral t r
+holds_skipped t start r skipped h = record {
+  cuts = h.cuts;
+  others = h.others;
+  within = omega (arith, h.within, skipped_len t start skipped);
+  goes_on = λ whole done room cut.
+      let same : t ≡ start = one_rest t t start (cut_skipped cut.at cut.body done t cut.are_cuts) skipped in
+      h.goes_on whole done (omega (arith, room, skipped_len t start skipped)) (subst (IsCutUpTo whole done) same cut);
+}
+
+-- From a text, whatever trivia it begins with, no literal stands up to the rest.
+pub record Reaches (t r : List ℕ) : Type 0 where
+  pub start : List ℕ
+  pub skipped : Skipped t start
+  pub holds : HoldsNoLiteral start r
+
+pub reach_end : (t r : List ℕ) → Skipped t r → Reaches t r
+reach_end t r skipped = record { start = r; skipped = skipped; holds = holds_start r }
+
+pub reach_white : (c : ℕ) (t r : List ℕ) → is_white c ≡ true → Reaches t r → Reaches (c ∷ t) r
+reach_white c t r white h = record { start = h.start; skipped = skipped_after (c ∷ t) t h.start (after_piece-past (White c) t white) h.skipped; holds = h.holds }
+
+pub reach_token : (c : ℕ) (t after r : List ℕ) (kind : SourceKind) → (c == 47) ≡ false → is_white c ≡ false → (token : SourceBefore (c ∷ t) kind after) → (IsLiteralText kind (source_text token.token) → ⊥) → Reaches after r → Reaches (c ∷ t) r
+reach_token c t after r kind slash white token other h = record {
+  start = c ∷ t;
+  skipped = skipped_here (c ∷ t) (rw (slash, white) refl);
+  holds = holds_join (c ∷ t) h.start r (holds_one (c ∷ t) after h.start kind token other h.skipped (skipped_len after h.start h.skipped)) h.holds;
+}
 
 -- ---- by the cursor
 

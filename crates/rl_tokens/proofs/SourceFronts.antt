@@ -305,7 +305,7 @@ stray_found (c ∷ t) p none h =
     here : opens (c ∷ t) ≡ false → Found (c ∷ t) (StrayKind, t)
     here a = record { token = StrayToken c; is_source = (none, closed_here (c ∷ t) a); text_is = refl; kind_is = refl }
 
-any_found : (t : List ℕ) (p : SourceKind × List ℕ) → NoLexeme t → any_at t ≡ Some p → Found t p
+pub any_found : (t : List ℕ) (p : SourceKind × List ℕ) → NoLexeme t → any_at t ≡ Some p → Found t p
 any_found t p no_lexeme h = go (other_at t) refl h
   where
     go : (o : Option (SourceKind × List ℕ)) → other_at t ≡ o → or_stray o t ≡ Some p → Found t p

@@ -6,7 +6,7 @@ use Rattle.std.specs.Char.{is_ascii_alphabetic}
 use Rattle.rl_tokens.specs.Texts.{first_passes, is_among, is_white}
 use Rattle.rl_tokens.specs.Lexemes.{delimiters, marks, LexemeForm, IdentifierForm, DelimiterForm, MarkForm, is_start, is_continue}
 use Rattle.rl_tokens.specs.Classes.{after_run}
-use Rattle.rl_tokens.specs.Mirrors.LexemeAt.{FormBefore, LetterBHead, LetterCHead, LetterRHead, OtherLetterHead, is_prefix_letter, begins_word, goes_on_as_word, is_mark_alone, makes_comment, mark_form, has_bit, lexeme_at, by_class, word_at}
+use Rattle.rl_tokens.specs.Mirrors.LexemeAt.{FormBefore, LetterBHead, LetterCHead, LetterRHead, OtherLetterHead, is_prefix_letter, begins_word, goes_on_as_word, is_mark_alone, makes_comment, mark_form, has_bit, lexeme_at, word_at}
 use Rattle.rl_tokens.proofs.LexemeFronts.{at_class, class_start, front_delimiter, front_mark, front_slash, start_ascii, class98, class99, class114}
 use Rattle.rl_tokens.proofs.LexemeAnswers.{form_before}
 use Rattle.rl_tokens.proofs.Pieces.{is_equal}

@@ -11,11 +11,12 @@ ghost use Rattle.std.specs.Str.{chars};
 ghost use Rattle.rl_tokens.specs.Texts.{is_among, first_passes, IsTail};
 ghost use Rattle.rl_tokens.specs.Lexemes.{delimiters, LexemeBefore, is_start};
 ghost use Rattle.rl_tokens.specs.Cursors.{form_view};
-ghost use Rattle.rl_tokens.specs.Mirrors.LexemeAt.{start_class, is_met_late, other_class, head_class, by_class, begins_hashed_quote, quoted_at, raw_at, single_at, literal_at, word_at, after_digit, lexeme_at, FormBefore, LetterBHead, LetterCHead, LetterRHead, SlashHead, begins_word, is_mark_alone, is_prefix_letter, goes_on_as_word, makes_comment, mark_form, has_bit};
+ghost use Rattle.rl_tokens.specs.Mirrors.LexemeAt.{start_class, is_met_late, other_class, head_class, by_class, begins_hashed_quote, quoted_at, raw_at, single_at, literal_at, word_at, after_digit, lexeme_at, FormBefore, LetterBHead, LetterCHead, LetterRHead, SlashHead, begins_word, is_mark_alone, is_prefix_letter, goes_on_as_word, makes_comment, mark_form};
 ghost use Rattle.rl_tokens.specs.declared.lexeme.Lead.TheVariants.{Word, Mark, Prefix, Slash};
 
 use crate::characters::is_start;
 use crate::classes::skip_word;
+use crate::lanes::has_bit;
 use crate::punct::Punct;
 use crate::text::{begins_with, split_ascii, split_char, without_first};
 use number::{after_decimal, after_digits, ends_number};
@@ -113,15 +114,6 @@ fn lead_of(byte: u8) -> Lead
         return Lead::Prefix;
     }
     Lead::Other
-}
-
-/// Whether the bit is set.
-#[inline(always)]
-fn has_bit(bits: u64, place: u8) -> bool
-    requires { place < 64 }
-    ensures { result ≡ has_bit bits place }
-{
-    (bits >> place) & 1 == 1
 }
 
 /// Whether a word goes on after its first letter, and no literal's prefix: a letter but `r` is next, or `_`. Of a word that

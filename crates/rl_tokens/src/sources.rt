@@ -6,7 +6,7 @@ ghost use Rattle.rl_tokens.specs.Sources.{source_view, SourceKind, SourceBefore,
 
 use crate::lex_error::LexError;
 use crate::no_token::source_error_kind;
-use crate::source::{SourceForm, first_source, is_literal, skip_words_and_marks, without_preamble};
+use crate::source::{SourceForm, first_source, is_literal, skip_unlikely, without_preamble};
 use crate::whitespace::skip;
 use std::marker::Model;
 
@@ -133,7 +133,7 @@ impl<'t> Sources<'t> {
         ensures none { IfNone result (BeginsNoSource (chars self.new.rest)) }
     {
         loop {
-            self.rest = skip_words_and_marks(self.rest);
+            self.rest = skip_unlikely(self.rest);
             let token = self.next()?;
             if token.is_literal() {
                 return Some(token);
