@@ -7,6 +7,7 @@ mod suffix;
 
 use crate::tokens::characters::is_start;
 use crate::tokens::classes::skip_word;
+use crate::tokens::lanes::has_bit;
 use crate::tokens::punct::Punct;
 use crate::tokens::text::{begins_with, split_ascii, split_char, without_first};
 use number::{after_decimal, after_digits, ends_number};
@@ -87,12 +88,6 @@ fn lead_of(byte: u8) -> Lead {
         return Lead::Prefix;
     }
     Lead::Other
-}
-
-/// Whether the bit is set.
-#[inline(always)]
-fn has_bit(bits: u64, place: u8) -> bool {
-    (bits >> place) & 1 == 1
 }
 
 /// Whether a word goes on after its first letter, and no literal's prefix: a letter but `r` is next, or `_`. Of a word that

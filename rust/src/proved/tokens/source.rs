@@ -3,10 +3,11 @@
 
 use crate::tokens::characters::is_start;
 use crate::tokens::classes::skip_word;
+use crate::tokens::lanes::{byte_before, is_word_byte, unlikely_len};
 use crate::tokens::lexeme::{Form, first_lexeme, word_or_mark};
 use crate::tokens::no_token::{begins_raw_identifier, opens};
 use crate::tokens::scan::{Marks, split_before};
-use crate::tokens::text::{before, begins_with, split_ascii, split_char, strip_byte, without_first};
+use crate::tokens::text::{begins_with, split_ascii, split_char, strip_byte, without_first};
 use crate::tokens::whitespace::{after_block, is_comment_block, is_comment_line, skip};
 
 /// What a token of a source is: what [`Sources`](crate::tokens::Sources) cuts off.
@@ -33,19 +34,27 @@ pub(crate) fn first_source(text: &str) -> Option<(SourceForm, &str)> {
     rebuilt_source(text)
 }
 
-/// What is left of a text after words and marks at its front that are no literals, as far as their first bytes tell what
-/// they are, and what stands between them. No token is made of them.
+/// What is left of a text from the first byte on at which a literal or a comment may begin, or from a token's before that, after
+/// white space and comments there. All in front is passed sixteen bytes at a time; no token is made of it.
 #[inline(always)]
-pub(crate) fn skip_words_and_marks(text: &str) -> &str {
-    let mut rest = text;
-    while let Some((form, following)) = word_or_mark(rest) {
-        let token = before(rest, following);
-        if is_literal(form, token) {
-            return rest;
-        }
-        rest = skip(following);
+pub(crate) fn skip_unlikely(text: &str) -> &str {
+    let bytes = text.as_bytes();
+    let at = unlikely_len(bytes);
+    if at == 0 {
+        return text;
     }
-    rest
+    let rest = after_word(byte_before(bytes, at), &text[at..]);
+    skip(rest)
+}
+
+/// The text after the word that goes on there, where it stands after this byte: past ASCII one may.
+#[inline(always)]
+fn after_word(before: u8, text: &str) -> &str {
+    if is_word_byte(before) {
+        skip_word(text)
+    } else {
+        text
+    }
 }
 
 /// Whether a token of the form and the text is a literal, or one of the words `true` and `false`.

@@ -3,7 +3,7 @@
 
 use crate::tokens::lex_error::LexError;
 use crate::tokens::no_token::source_error_kind;
-use crate::tokens::source::{SourceForm, first_source, is_literal, skip_words_and_marks, without_preamble};
+use crate::tokens::source::{SourceForm, first_source, is_literal, skip_unlikely, without_preamble};
 use crate::tokens::whitespace::skip;
 
 /// A token of a source, borrowed from it: what it is, and where it stands.
@@ -75,7 +75,7 @@ impl<'t> Sources<'t> {
     /// cursor then stands; [`Sources::error`] says which.
     pub fn next_literal(&mut self) -> Option<SourceToken<'t>> {
         loop {
-            self.rest = skip_words_and_marks(self.rest);
+            self.rest = skip_unlikely(self.rest);
             let token = self.next()?;
             if token.is_literal() {
                 return Some(token);
