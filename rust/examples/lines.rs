@@ -1,7 +1,7 @@
-//! Prints for each line, a command and a text's bytes in hexadecimal, what `rl_rows` does under `text`, `value` and `strict`. So
+//! Prints for each line, a command and a text's bytes in hexadecimal, what `rl_rows` does under `text`, `value`, `strict` and `attr`. So
 //! `tools/compare` holds the package against what other programs say.
 
-use navyspindle::{is_token, write_byte, write_byte_str, write_char, write_str, Lit};
+use navyspindle::{is_token, settings, write_byte, write_byte_str, write_char, write_str, Lit};
 use std::borrow::Cow;
 use std::io::{self, BufWriter, Write};
 
@@ -23,10 +23,9 @@ fn suffix_of(suffix: &str) -> String {
     }
 }
 
-/// The line of a text as one literal.
-fn line_of(text: &str) -> String {
-    let literal = Lit::new(text);
-    let contents = match &literal {
+/// The line of a literal.
+fn line_of(literal: &Lit) -> String {
+    let contents = match literal {
         Lit::Str(string) => write_str(&string.value()),
         Lit::ByteStr(string) => write_byte_str(&string.value()),
         Lit::CStr(string) => write_byte_str(&string.value()).replacen('b', "c", 1),
@@ -42,6 +41,22 @@ fn line_of(text: &str) -> String {
         literal.kind(),
         suffix_of(literal.suffix())
     )
+}
+
+/// The lines of a text's settings, or of its error, and one with a point.
+fn settings_of(text: &str) -> String {
+    let lines = match settings(text) {
+        Ok(entries) => {
+            let line =
+                |entry: &navyspindle::Entry| format!("{} {}\n", entry.name, line_of(&entry.value));
+            entries.iter().map(line).collect()
+        }
+        Err(error) => {
+            let (range, kind) = (error.range(), error.kind());
+            format!("error at {}..{}: {kind}\n", range.start, range.end)
+        }
+    };
+    lines + "."
 }
 
 /// What is borrowed from a text as a literal, as a byte string; `None` where nothing is.
@@ -81,7 +96,8 @@ fn main() -> io::Result<()> {
             None => "error: input is not hexadecimal".to_owned(),
             Some(Err(_)) => "error: input is not UTF-8".to_owned(),
             Some(Ok(text)) => match command {
-                "text" => line_of(&text),
+                "text" => line_of(&Lit::new(&*text)),
+                "attr" => settings_of(&text),
                 "value" => borrowed_of(&text),
                 "strict" => is_token(&text).to_string(),
                 _ => "error: no command".to_owned(),
