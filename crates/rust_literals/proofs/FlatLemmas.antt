@@ -1,36 +1,29 @@
 -- A literal more of a text without groups, and all of them.
-use Rattle.std.proofs.Common.{arith, true, false, inl, inr, ◌≡◌, ◌≤◌, ◌+◌, ℕ, ◌==◌, List, [], ◌∷◌, ◌++◌, length, Option, Some, None, refl, sym, ◌∙◌, ap, subst, append_assoc}
+use Rattle.std.proofs.Common.{arith, true, ◌≢◌, ◌⊎◌, inr, ◌≡◌, ℕ, ◌==◌, List, [], ◌∷◌, ◌++◌, length, Option, Some, None, refl, sym, ◌∙◌, ap, subst, append_assoc}
 use Rattle.std.proofs.lemmas.List.{map-append, nil_from_length}
 use Rattle.std.proofs.lemmas.Bool.Decides.{nat_tests}
-use Rattle.std.proofs.lemmas.Option.{none-some}
-use Rattle.std.proofs.lemmas.Str.{chars-nil}
-use Rattle.std.specs.Prelude.{min, max, Bool, IfNone, IsSomeAnd, if◌then◌else◌}
+use Rattle.std.specs.Prelude.{min, max, Bool, IfNone, IfSome, OnSome, if◌then◌else◌}
 use Rattle.std.specs.List.{AllByRecursion}
 use Rattle.std.specs.Str.{chars}
 use Rattle.rl_tokens.specs.declared.span.Span.{Span}
 use Rattle.rl_tokens.specs.declared.cursor.Lexeme.{Lexeme as Lent}
-use Rattle.rl_tokens.specs.declared.kind.Kind.TheVariants.{Bool as BoolKind}
-use Rattle.rl_tokens.specs.Lexemes.{Lexeme, QuotedLexeme, RawLexeme, CharacterLexeme, BasedLexeme, DecimalLexeme, IdentifierLexeme, DelimiterLexeme, MarkLexeme, NoPrefix, BytePrefix, CPrefix, lexeme_text, form_of, LexemeForm, LiteralForm, IdentifierForm, DelimiterForm, MarkForm}
-use Rattle.rl_tokens.specs.Cursors.{form_view, CursorState, TakesNext, IsBorrowedToken}
-use Rattle.rl_tokens.specs.Texts.{SpannedText, byte_len}
+use Rattle.rl_tokens.specs.Lexemes.{LexemeForm, LiteralForm, IdentifierForm, MarkForm}
+use Rattle.rl_tokens.specs.Cursors.{form_view, CursorState, TakesNext}
+use Rattle.rl_tokens.specs.Texts.{SpannedText}
 use Rattle.rl_tokens.specs.Puncts.{Mark}
-use Rattle.rl_tokens.specs.Reading.{truth_text, HasReading}
+use Rattle.rl_tokens.specs.Reading.{truth_text, HasReading, HasNoReading, HasNoTruth}
 use Rattle.rl_tokens.specs.Trees.{Tree, IdentTree, PunctTree, LiteralTree, flat_trees}
 use Rattle.rl_tokens.specs.Skipping.{Skipped}
-use Rattle.rl_tokens.specs.Lexing.{LexedToken, LexesUpTo, after_form, flat_form, flat_token}
+use Rattle.rl_tokens.specs.Lexing.{LexesUpTo, after_form, flat_form, flat_token}
 use Rattle.rl_grammar.specs.Fronts.{joined, joined_span}
-use Rattle.rl_grammar.specs.declared.found.Found.{Found}
-use Rattle.rl_grammar.specs.declared.next_literals.NextLiteral.{NextLiteral}
-use Rattle.rl_grammar.specs.Founds.{IsFound}
-use Rattle.rl_grammar.specs.NextLiterals.{IsLiteralToken, TakesNextLiteral}
-use Rattle.rl_grammar.proofs.FrontLemmas.{minus_chars}
-use Rattle.rl_tokens.proofs.Rests.{behind_length}
 use Rattle.rl_tokens.proofs.CutLemmas.{open_more}
 use Rattle.rl_tokens.proofs.CursorLemmas.{flat_lent}
 use Rattle.rl_tokens.proofs.NestLemmas.{flat_trees-append}
 use Rattle.rust_literals.specs.declared.lit.Lit.{Lit}
+use Rattle.rust_literals.specs.declared.lit.Lit.TheVariants.{Bool as BoolLit}
 use Rattle.rust_literals.specs.Literals.{IsReadFrom}
 use Rattle.rust_literals.specs.Parsing.{ReadsLiterals, AreRead}
+use Rattle.rl_grammar.specs.NextLiterals.{BeginsNone, HasNoNumber, HasNoNextLiteral}
 use Rattle.rust_literals.specs.Flat.{IsNoGroup, LexesTreesUpTo, ReadsNext, AddsNext, AreReadUpTo}
 use Rattle.rl_tokens.proofs.LexLaws.{one_list}
 use Rattle.rust_literals.proofs.LitLemmas.{read_truth}
@@ -72,7 +65,7 @@ tree_more file old new l form tree done t form_is none flat_is no_group c =
     }
 
 -- a literal token
-literal_next : {A : Type 0} (file : ℕ) (old new : CursorState) (l : Lent) (lit : Lit A) → TakesNext old l new → form_view l.form ≡ LiteralForm → IsReadFrom (token_at file l) lit → ReadsNext file old lit new
+pub literal_next : {A : Type 0} (file : ℕ) (old new : CursorState) (l : Lent) (lit : Lit A) → TakesNext old l new → form_view l.form ≡ LiteralForm → IsReadFrom (token_at file l) lit → ReadsNext file old lit new
 literal_next file old new l lit t form_is read =
     let tree : Tree = LiteralTree (token_at file l) in record {
       trees = tree ∷ [];
@@ -82,18 +75,19 @@ literal_next file old new l lit t form_is read =
     }
 
 -- the word of a truth value
-truth_next : {A : Type 0} (file : ℕ) (old new : CursorState) (l : Lent) (lit : Lit A) (b : Bool) → TakesNext old l new → form_view l.form ≡ IdentifierForm → l.text.now ≡ truth_text b → IsReadFrom (token_at file l) lit → ReadsNext file old lit new
-truth_next file old new l lit b t form_is word_is read =
+pub truth_next : {A : Type 0} (file : ℕ) (old new : CursorState) (l : Lent) (lit : Lit A) (b : Bool) → TakesNext old l new → form_view l.form ≡ IdentifierForm → l.text.now ≡ truth_text b → lit ≡ BoolLit (record { value = b; span = span_at file l }) → ReadsNext file old lit new
+truth_next {A} file old new l lit b t form_is word_is lit_is =
     let tree : Tree = IdentTree (token_at file l) in
-    let word = read_truth (token_at file l) b (span_at file l) word_is refl in record {
+    let word : Lit A = BoolLit (record { value = b; span = span_at file l }) in
+    let read : IsReadFrom (token_at file l) word = read_truth (token_at file l) b (span_at file l) word_is refl in record {
       trees = tree ∷ [];
       cuts = λ done c. tree_more file old new l IdentifierForm tree done t form_is refl refl tt c;
-      front = λ following. record { token = token_at file l; front = (word.1, refl, refl); read = read };
+      front = λ following. record { token = token_at file l; front = (read.1, refl, refl); read = subst (λ (x : Lit A). IsReadFrom (token_at file l) x) (sym lit_is) read };
       same = t.same;
     }
 
 -- a minus and a literal token
-negative_next : {A : Type 0} (file : ℕ) (old between new : CursorState) (m l : Lent) (lit : Lit A) (span : Span) → TakesNext old m between → TakesNext between l new → form_view m.form ≡ MarkForm 45 → form_view l.form ≡ LiteralForm → span ≡ joined_span (span_at file m) (span_at file l) → HasReading (45 ∷ chars l.text.now) → IsReadFrom (record { text = 45 ∷ l.text.now; span = span }) lit → ReadsNext file old lit new
+pub negative_next : {A : Type 0} (file : ℕ) (old between new : CursorState) (m l : Lent) (lit : Lit A) (span : Span) → TakesNext old m between → TakesNext between l new → form_view m.form ≡ MarkForm 45 → form_view l.form ≡ LiteralForm → span ≡ joined_span (span_at file m) (span_at file l) → HasReading (45 ∷ chars l.text.now) → IsReadFrom (record { text = 45 ∷ l.text.now; span = span }) lit → ReadsNext file old lit new
 negative_next file old between new m l lit span t u m_is l_is span_is together read =
     let mark : Mark = record { ch = 45; span = span_at file m } in
     let minus : Tree = PunctTree mark in
@@ -114,94 +108,42 @@ negative_next file old between new m l lit span t u m_is l_is span_is together r
       same = u.same ∙ t.same;
     }
 
--- from a minus on to the end of the number after it
-same_span : (file : ℕ) (m l : Lent) (span : Span) → m.lo ≤ l.lo → m.hi ≤ l.hi → span ≡ record { file = file; lo = m.lo; hi = l.hi } → span ≡ joined_span (span_at file m) (span_at file l)
-same_span file m l span begins ends e =
-    let same : (file == file) ≡ true = grind (arith, nat_tests) in
-    let lo : min m.lo l.lo ≡ m.lo = omega (arith, begins) in
-    let hi : max m.hi l.hi ≡ l.hi = omega (arith, ends) in
-    e
-    ∙ sym (ap (λ b. if b then record { file = file; lo = min m.lo l.lo; hi = max m.hi l.hi } else span_at file m) same
-    ∙ ap (λ n. let s : Span = record { file = file; lo = n; hi = max m.hi l.hi } in s) lo
-    ∙ ap (λ n. let s : Span = record { file = file; lo = m.lo; hi = n } in s) hi)
-
--- no token is empty
-some_text : (v : Lexeme) → lexeme_text v ≡ [] → ⊥
-some_text (QuotedLexeme NoPrefix parts suffix) e = absurd (cc)
-some_text (QuotedLexeme BytePrefix parts suffix) e = absurd (cc)
-some_text (QuotedLexeme CPrefix parts suffix) e = absurd (cc)
-some_text (RawLexeme NoPrefix n body suffix) e = absurd (cc)
-some_text (RawLexeme BytePrefix n body suffix) e = absurd (cc)
-some_text (RawLexeme CPrefix n body suffix) e = absurd (cc)
-some_text (CharacterLexeme true inside suffix) e = absurd (cc)
-some_text (CharacterLexeme false inside suffix) e = absurd (cc)
-some_text (BasedLexeme letter digits) e = absurd (cc)
-some_text (DecimalLexeme d more fraction exponent suffix) e = absurd (cc)
-some_text (IdentifierLexeme c more) e = absurd (cc)
-some_text (DelimiterLexeme c) e = absurd (cc)
-some_text (MarkLexeme c) e = absurd (cc)
-
-some_byte : (l : Lent) (w : LexedToken) → IsBorrowedToken l w → l.lo + 1 ≤ l.hi
-some_byte l w is = go l.text.now refl
+same_file : (file : ℕ) (m l : Lent) (span : Span) → span ≡ record { file = file; lo = min m.lo l.lo; hi = max m.hi l.hi } → span ≡ joined_span (span_at file m) (span_at file l)
+same_file file m l span e = e ∙ sym (ap (λ b. if b then record { file = file; lo = min m.lo l.lo; hi = max m.hi l.hi } else span_at file m) (same file))
   where
-    go : (bs : List ℕ) → l.text.now ≡ bs → l.lo + 1 ≤ l.hi
-    go [] e = absurd (some_text w.lexeme (is.chars_are ∙ ap chars e ∙ chars-nil))
-    go (b ∷ bs) e = omega (arith, is.lo_is, is.hi_is, ap length is.bytes_are, ap length e)
+    same : (n : ℕ) → (n == n) ≡ true
+    same n = grind (arith, nat_tests)
 
--- a minus is one byte
-minus_text : (v : Lexeme) → form_of v ≡ MarkForm 45 → lexeme_text v ≡ 45 ∷ []
-minus_text (MarkLexeme c) e = cc
-minus_text (DelimiterLexeme c) e = absurd (cc)
-minus_text (IdentifierLexeme c more) e = absurd (cc)
-minus_text (QuotedLexeme p parts suffix) e = absurd (cc)
-minus_text (RawLexeme p n body suffix) e = absurd (cc)
-minus_text (CharacterLexeme b inside suffix) e = absurd (cc)
-minus_text (BasedLexeme letter digits) e = absurd (cc)
-minus_text (DecimalLexeme d more fraction exponent suffix) e = absurd (cc)
+-- the span that was joined
+pub joined_at : (file : ℕ) (m l : Lent) (a b span : Span) → a ≡ span_at file m → b ≡ span_at file l → span ≡ record { file = a.file; lo = min a.lo b.lo; hi = max a.hi b.hi } → span ≡ record { file = file; lo = min m.lo l.lo; hi = max m.hi l.hi }
+joined_at file m l a b span p q e =
+    let both : Span → Span → Span = λ x y. record { file = x.file; lo = min x.lo y.lo; hi = max x.hi y.hi } in
+    e ∙ ap (λ x. both x b) p ∙ ap (λ y. both (span_at file m) y) q
 
-one_byte : byte_len (45 ∷ []) ≡ 1
-unfolding lib.Utf8.encode
-one_byte = refl
+pub read_negative : {A : Type 0} (file : ℕ) (old between new : CursorState) (m l : Lent) (lit : Lit A) (span : Span) → TakesNext old m between → TakesNext between l new → form_view m.form ≡ MarkForm 45 → form_view l.form ≡ LiteralForm → span ≡ record { file = file; lo = min m.lo l.lo; hi = max m.hi l.hi } → HasReading (45 ∷ chars l.text.now) → IsReadFrom (record { text = 45 ∷ l.text.now; span = span }) lit → ReadsNext file old lit new
+read_negative file old between new m l lit span t u m_is l_is span_is together read =
+    negative_next file old between new m l lit span t u m_is l_is (same_file file m l span span_is) together read
 
-minus_end : (m : Lent) (w : LexedToken) → IsBorrowedToken m w → form_view m.form ≡ MarkForm 45 → m.hi ≡ m.lo + 1
-minus_end m w is minus =
-    omega (arith, is.lo_is, is.hi_is, ap byte_len (minus_text w.lexeme (is.form_is ∙ minus)) ∙ one_byte)
+-- no token that makes a literal with a minus before it
+pub none_number : (old new : CursorState) (l : Lent) → TakesNext old l new → (form_view l.form ≢ LiteralForm) ⊎ HasNoReading (45 ∷ chars l.text.now) → HasNoNumber old
+none_number old new l t h = inr (l, new, t, h)
 
--- The literal that is cut off is read from its text, at its place; with a minus, from that on.
-pub read_alone : {A : Type 0} (file : ℕ) (old new : CursorState) (l : NextLiteral) (lit : Lit A) (span : Span) → TakesNextLiteral old l new → l.minus_at ≡ None → span ≡ record { file = file; lo = l.token.lo; hi = l.token.hi } → IsReadFrom (record { text = l.token.text.now; span = span }) lit → ReadsNext file old lit new
-read_alone {A} file old new l lit span (inl t) none is read =
-    by_form (form_view l.token.form) refl t.literal
-  where
-    here : IsReadFrom (token_at file l.token) lit
-    here = subst (λ (s : Span). IsReadFrom (record { text = l.token.text.now; span = s }) lit) is read
-
-    by_form : (f : LexemeForm) → form_view l.token.form ≡ f → IsLiteralToken f l.token.text.now l.found → ReadsNext file old lit new
-    by_form LiteralForm e literal = literal_next file old new l.token lit t.takes e here
-    by_form IdentifierForm e literal = word l.found e literal
-      where
-        word : (o : Option Found) → form_view l.token.form ≡ IdentifierForm → IsSomeAnd o (λ f. IsFound l.token.text.now f × (f.kind ≡ BoolKind)) → ReadsNext file old lit new
-        word None e literal = absurd literal
-        word (Some f) e (found, kind) =
-            truth_next file old new l.token lit f.truth t.takes e (found.truth kind) here
-    by_form (DelimiterForm c) e literal = absurd literal
-    by_form (MarkForm c) e literal = absurd literal
-read_alone {A} file old new l lit span (inr t) none is read = absurd (none-some t.minus.lo (sym none ∙ t.minus_is))
-
-pub read_negative : {A : Type 0} (file : ℕ) (old new : CursorState) (l : NextLiteral) (lit : Lit A) (span : Span) (at : ℕ) → TakesNextLiteral old l new → l.minus_at ≡ Some at → span ≡ record { file = file; lo = at; hi = l.token.hi } → IsReadFrom (record { text = 45 ∷ l.token.text.now; span = span }) lit → ReadsNext file old lit new
-read_negative {A} file old new l lit span at (inl t) some is read = absurd (none-some at (sym t.no_minus ∙ some))
-read_negative {A} file old new l lit span at (inr t) some is read =
-    let m = t.minus in
-    let at_is : at ≡ m.lo = cc in
-    let begins : m.lo ≤ l.token.lo = omega (arith, t.takes_minus.place, t.takes_number.place, ap length t.takes_minus.same, behind_length _ _ t.takes_minus.following) in
-    let ends : m.hi ≤ l.token.hi = omega (arith, begins, minus_end m t.takes_minus.cut t.takes_minus.is_cut t.is_minus, some_byte l.token t.takes_number.cut t.takes_number.is_cut) in
-    let place = same_span file m l.token span begins ends (is ∙ ap (λ n. let s : Span = record { file = file; lo = n; hi = l.token.hi } in s) at_is) in
-    let together : HasReading (45 ∷ chars l.token.text.now) = subst HasReading (minus_chars l.token.text.now) (t.found.kind, (t.is_found.reads.0, _, t.is_found.reads.1)) in
-    negative_next file old t.between new m l.token lit span t.takes_minus t.takes_number t.is_minus t.is_number place together read
+-- a word, and none of a truth value
+pub none_word : (old between : CursorState) (m : Lent) → TakesNext old m between → form_view m.form ≡ IdentifierForm → ((b : Bool) → chars m.text.now ≡ truth_text b → ⊥) → HasNoNextLiteral old
+none_word old between m t is differs =
+    let h : HasNoTruth (chars m.text.now) = λ contents suffix r. differs r.truth r.text_is in
+    inr (m, between, t, subst (λ (f : LexemeForm). BeginsNone f m.text.now between) (sym is) h)
 
 -- an option whose form is known
 pub no_some : {T P : Type 0} (o : Option T) → o ≡ None → IfNone o P → P
 no_some None e h = h
 no_some (Some x) e h = absurd (cc)
+
+pub the_some : {T : Type 0} (P : T → Type 0) (o : Option T) (x : T) → o ≡ Some x → IfSome o P → P x
+the_some {T} P o x e h = subst (λ (y : Option T). IfSome y P) e h
+
+pub when_some : {T P : Type 0} (o : Option T) (x : T) → o ≡ Some x → OnSome o P → P
+when_some {T} {P} o x e h = subst (λ (y : Option T). OnSome y P) e h
 
 -- nothing is read yet
 pub read_none : {A : Type 0} (text : List ℕ) (file : ℕ) (rest : List ℕ) → LexesUpTo 0 text [] rest → AreReadUpTo {A = A} text file [] rest

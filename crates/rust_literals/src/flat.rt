@@ -17,67 +17,56 @@ ghost use Rattle.std.specs.Prelude.{
   MatchResult,
 };
 ghost use Rattle.std.specs.Str.{chars};
+ghost use Rattle.rl_tokens.specs.Reading.{HasReading, HasNoReading};
 ghost use Rattle.rust_literals.specs.Literals.{IsReadFrom};
 ghost use Rattle.rust_literals.specs.Parsing.{AreRead};
-ghost use Rattle.rl_grammar.specs.NextLiterals.{FindsReading, HasNoNextLiteral};
+ghost use Rattle.rl_grammar.specs.NextLiterals.{HasNoNextLiteral};
 ghost use Rattle.rust_literals.specs.Flat.{ReadsNext, AddsNext, AreBegun};
 
 use crate::lit::Lit;
 use crate::lit_bool::LitBool;
-use rl_grammar::{Found, Kind, next_literal};
-use rl_tokens::{Literal, Span, Tokens};
+use rl_grammar::{find_negative, truth_of};
+use rl_tokens::{Form, Literal, Span, Tokens};
 use std::alloc::{AllocError, Allocator, Global};
 
-/// The literal of a token with this text, in which this was found. A truth value takes no memory.
-fn literal_of<A: Allocator + Copy>(
-    alloc: A,
-    text: &str,
-    found: Option<Found>,
-    span: Span,
-) -> Result<Lit<A>, AllocError>
-    requires { FindsReading text.now found }
+/// The literal of a token with this text.
+fn literal_of<A: Allocator + Copy>(alloc: A, text: &str, span: Span) -> Result<Lit<A>, AllocError>
     ensures { IfOk result (IsReadFrom (record { text = text.now; span = span })) }
 {
-    if let Some(
-        Found {
-            kind: Kind::Bool,
-            truth,
-            ..
-        },
-    ) = found
-    {
-        return Ok(Lit::Bool(LitBool::new(truth, span)));
-    }
     let Ok(token) = Literal::from_text(alloc, text, span) else {
         return Err(AllocError);
     };
-    match Lit::of_found(alloc, token, found) {
+    match Lit::new(alloc, token) {
         Ok(literal) => Ok(literal),
         Err(_) => Err(AllocError),
     }
 }
 
-/// The literal that a minus and a text make, in which together this was found.
+/// The literal that a minus and a text make. `None` where they don't read together.
 fn negative_of<A: Allocator + Copy>(
     alloc: A,
     text: &str,
-    found: Option<Found>,
     span: Span,
-) -> Result<Lit<A>, AllocError>
-    requires { FindsReading (45 ∷ text.now) found }
-    ensures { IfOk result (IsReadFrom (record { text = 45 ∷ text.now; span = span })) }
+) -> Result<Option<Lit<A>>, AllocError>
+    ensures read { IfOk result
+        (λ lit. IfSome lit (IsReadFrom (record { text = 45 ∷ text.now; span = span }))) }
+    ensures together { IfOk result (λ lit. OnSome lit (HasReading (45 ∷ chars text.now))) }
+    ensures none { IfOk result (λ lit. IfNone lit (HasNoReading (45 ∷ chars text.now))) }
 {
+    let Some(found) = find_negative(text) else {
+        return Ok(None);
+    };
     let Ok(token) = Literal::negative(alloc, text, span) else {
         return Err(AllocError);
     };
-    match Lit::of_found(alloc, token, found) {
-        Ok(literal) => Ok(literal),
+    match Lit::of_found(alloc, token, Some(found)) {
+        Ok(literal) => Ok(Some(literal)),
         Err(_) => Err(AllocError),
     }
 }
 
-/// The literal that the next tokens are, which are cut off. `None` where they are none; tokens are cut off too where an
-/// allocation fails.
+/// The literal that the next tokens are, which are cut off. `None` where they are none; tokens may be cut off then too,
+/// and where an allocation fails.
 #[inline(always)]
 fn take_next<A: Allocator + Copy>(
     alloc: A,
@@ -90,24 +79,34 @@ fn take_next<A: Allocator + Copy>(
         (λ lit. OnSome lit (length tokens.new.rest < length tokens.old.rest)) }
     ensures none { IfOk result (λ lit. IfNone lit (HasNoNextLiteral tokens.old)) }
 {
-    let Some(next) = next_literal(tokens) else {
+    let Some(token) = tokens.next() else {
         return Ok(None);
     };
-    let token = next.token;
-    let literal = match next.minus_at {
-        Some(at) => { negative_of(alloc, token.text, next.found, Span::new(file, at, token.hi))? }
-        None => {
-            literal_of(
-                alloc,
-                token.text,
-                next.found,
-                Span::new(file, token.lo, token.hi),
-            )?
+    let span = Span::new(file, token.lo, token.hi);
+    match token.form {
+        Form::Literal => Ok(Some(literal_of(alloc, token.text, span)?)),
+        Form::Identifier => match truth_of(token.text) {
+            Some(value) => Ok(Some(Lit::Bool(LitBool::new(value, span)))),
+            None => Ok(None),
+        },
+        Form::Mark('-') => {
+            let Some(number) = tokens.next() else {
+                return Ok(None);
+            };
+            let Form::Literal = number.form else {
+                return Ok(None);
+            };
+            let Some(joined) = span.join(Span::new(file, number.lo, number.hi)) else {
+                return Ok(None);
+            };
+            let Some(literal) = negative_of(alloc, number.text, joined)? else {
+                return Ok(None);
+            };
+            Ok(Some(literal))
         }
-    };
-    Ok(Some(literal))
+        _ => Ok(None),
+    }
 }
-
 /// Puts the literal that the next tokens are at the list's end, and says whether one stood there. So a long list needn't
 /// be held: where each literal is let go before the next is taken, the memory is that of one.
 ///
