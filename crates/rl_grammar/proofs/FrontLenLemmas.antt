@@ -9,7 +9,6 @@ use Rattle.rl_tokens.specs.Quoted.{opener, raw_opener}
 use Rattle.rl_tokens.specs.Texts.{byte_len}
 use Rattle.rl_grammar.specs.declared.quoted_forms.QuotedForm.{QuotedForm}
 use Rattle.rl_grammar.specs.declared.quoted_forms.QuotedForm.TheVariants.{Cooked as CookedForm, Raw as RawForm, Single as SingleForm}
-use Rattle.rl_grammar.specs.Forms.{form_opener}
 use Rattle.rl_grammar.specs.Mirrors.OpenerAt.{found_opener, opener_at}
 use Rattle.rl_grammar.proofs.FormLemmas.{front_sound}
 

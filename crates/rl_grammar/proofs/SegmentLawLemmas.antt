@@ -1,23 +1,20 @@
 -- The segments of a literal together, and the order of places.
-use Rattle.std.proofs.Common.{◌≡◌, ◌⊎◌, inl, inr, ℕ, ◌+◌, ◌-◌, ◌≤◌, ◌<◌, Bool, true, false, cond, ltb, List, [], ◌∷◌, ◌++◌, length, map, replicate, Some, None, refl, sym, ap, subst, ◌∙◌, arith, append-nil, length-append}
-use Rattle.std.specs.Prelude.{encode_utf8_all}
-use Rattle.std.specs.List.{AllByRecursion}
+use Rattle.std.proofs.Common.{◌≡◌, ◌⊎◌, inl, inr, ℕ, ◌+◌, ◌-◌, ◌≤◌, ◌<◌, Bool, true, false, cond, ltb, List, [], ◌∷◌, ◌++◌, length, map, replicate, refl, sym, ap, subst, ◌∙◌, arith, append-nil}
 use Rattle.std.specs.Str.{chars, IsUtf8}
 use Rattle.std.proofs.lemmas.Str.{encodes-chars, length-le-encodes}
-use Rattle.std.proofs.lemmas.Bool.{ltb-false, ltb-true}
 use Rattle.std.proofs.lemmas.List.{append_cancel_left, append_cancel_right}
 use Rattle.std.proofs.lemmas.List.Concat.{flat_map-append}
 use Rattle.rl_tokens.specs.declared.kind.Kind.{Kind}
 use Rattle.rl_tokens.specs.Texts.{byte_len, first_passes}
-use Rattle.rl_tokens.specs.Quoted.{QuotedUnit, Plain, CrLf, Named, Hex, Unicode, Continuation, Cooked, Raw, Single, IsUnit, content_of, is_plain, opener, raw_opener, texts, unit_text, unit_value, values}
+use Rattle.rl_tokens.specs.Quoted.{QuotedUnit, Plain, CrLf, Named, Hex, Unicode, Continuation, Cooked, Raw, Single, IsUnit, is_plain, opener, raw_opener, texts, unit_text, unit_value, values}
 use Rattle.rl_tokens.specs.Reading.{HasContents, ReadsQuoted, quoted_contents}
 use Rattle.rl_grammar.specs.Decoded.{in_bytes}
 use Rattle.rl_grammar.specs.declared.found.Body.{Body}
 use Rattle.rl_grammar.specs.declared.segments.Segment.{Segment}
 use Rattle.rl_grammar.specs.Founds.{IsQuotedAt, body_in}
-use Rattle.rl_grammar.specs.Mirrors.UnitAt.{found, unit_at}
+use Rattle.rl_grammar.specs.Mirrors.UnitAt.{unit_at}
 use Rattle.rl_grammar.specs.Rows.{BeginsRow}
-use Rattle.rl_grammar.specs.Segments.{AreLeft, AreUnitsIn, AreUnitsOf, IsEndOf, IsGivenAt, IsPlaceOf, IsRow, IsSegmentsOf, SegmentsState, TakesSegment, begins_in, ends_in, is_itself, place_in, unit_bytes, units_bytes}
+use Rattle.rl_grammar.specs.Segments.{AreLeft, AreUnitsIn, AreUnitsOf, IsEndOf, IsGivenAt, IsPlaceOf, IsRow, IsSegmentsOf, SegmentsState, begins_in, ends_in, is_itself, place_in, unit_bytes, units_bytes}
 use Rattle.rl_grammar.specs.SegmentLaws.{MakeLiteral, Passes, PlacesKeepTheOrder, PlacesStandIn, Tile, segments_bytes}
 use Rattle.rl_grammar.proofs.BodyLemmas.{openers_differ, row_shrinks}
 use Rattle.rl_grammar.proofs.ContentLemmas.{held_in_bytes, in_bytes_append, nothing_in_bytes}

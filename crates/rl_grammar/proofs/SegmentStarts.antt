@@ -1,26 +1,25 @@
 -- The segments of a whole literal.
-use Rattle.std.proofs.Common.{◌≡◌, ◌⊎◌, inl, inr, ℕ, ◌+◌, ◌-◌, ◌≤◌, Bool, true, false, List, [], ◌∷◌, ◌++◌, length, take, drop, map, Some, None, refl, sym, ap, subst, ◌∙◌, arith, append-nil, length-drop}
+use Rattle.std.proofs.Common.{◌≡◌, ◌⊎◌, inl, inr, ℕ, ◌+◌, ◌-◌, ◌≤◌, Bool, true, false, List, [], ◌∷◌, ◌++◌, length, drop, map, refl, sym, ap, subst, ◌∙◌, arith, append-nil, length-drop}
 use Rattle.std.proofs.lemmas.Bool.{both_ways}
 use Rattle.std.proofs.lemmas.List.{length-take-le}
-use Rattle.std.specs.List.{AllByRecursion, list_all}
+use Rattle.std.specs.List.{list_all}
 use Rattle.std.specs.Str.{chars, IsUtf8}
 use Rattle.rl_tokens.specs.declared.kind.Kind.{Kind}
 use Rattle.rl_tokens.specs.declared.kind.Kind.TheVariants.{Str, ByteStr, CStr, Byte, Char, Int, Float, Bool as BoolKind}
-use Rattle.rl_tokens.specs.Quoted.{QuotedUnit, Plain, CrLf, Named, Hex, Unicode, Continuation, Cooked, Raw, Single, IsUnit, EndsBefore, is_plain, is_single, is_string, opener, raw_opener, texts, unit_text, unit_value, values}
-use Rattle.rl_tokens.specs.Reading.{Reads, Contents, ReadsQuoted, HasSuffix}
+use Rattle.rl_tokens.specs.Quoted.{QuotedUnit, Plain, CrLf, Named, Hex, Unicode, Continuation, is_plain, is_single, is_string, opener, texts, unit_text, unit_value, values}
+use Rattle.rl_tokens.specs.Reading.{Reads, Contents, ReadsQuoted}
 use Rattle.rl_tokens.proofs.OneReading.{one_reading}
 use Rattle.rl_grammar.specs.declared.found.Body.{Body}
-use Rattle.rl_grammar.specs.declared.found.Found.{Found}
 use Rattle.rl_grammar.specs.declared.quoted_forms.QuotedForm.{QuotedForm}
 use Rattle.rl_grammar.specs.declared.quoted_forms.QuotedForm.TheVariants.{Cooked as CookedForm, Raw as RawForm, Single as SingleForm}
 use Rattle.rl_grammar.specs.Forms.{PartsAre, front_len, is_plain_body}
-use Rattle.rl_grammar.specs.Founds.{IsFound, IsQuotedAt, StandsIn, body_in, suffix_in, is_quoted}
+use Rattle.rl_grammar.specs.Founds.{IsQuotedAt, StandsIn, body_in, suffix_in, is_quoted}
 use Rattle.rl_grammar.specs.Mirrors.UnitAt.{found, unit_at}
-use Rattle.rl_grammar.specs.Segments.{AreLeft, AreUnitsIn, AreUnitsOf, IsGivenAt, IsLeftAt, IsRow, IsSegmentsOf, IsSegmentsState, SegmentsState, place_in}
+use Rattle.rl_grammar.specs.Segments.{AreUnitsIn, AreUnitsOf, IsGivenAt, IsLeftAt, IsRow, IsSegmentsOf, IsSegmentsState, SegmentsState, place_in}
 use Rattle.rl_grammar.specs.Shapes.{HasNoQuoted}
 use Rattle.rl_grammar.proofs.FoundLemmas.{body_text}
 use Rattle.rl_grammar.proofs.RowLemmas.{ends_before}
-use Rattle.rl_grammar.proofs.SegmentLemmas.{StateOf, row_front, run_joined}
+use Rattle.rl_grammar.proofs.SegmentLemmas.{StateOf, run_joined}
 use Rattle.rl_grammar.proofs.UnitLemmas.{some_pair, unit_complete}
 
 -- ---- the units of each form

@@ -8,7 +8,7 @@ use Rattle.rl_tokens.specs.Quoted.{QuotedUnit, texts}
 use Rattle.rl_tokens.specs.Reading.{HasContents, quoted_contents}
 use Rattle.rl_grammar.specs.Decoded.{in_bytes}
 use Rattle.rl_grammar.specs.declared.found.Body.{Body}
-use Rattle.rl_grammar.specs.Founds.{IsQuotedAt, body_in}
+use Rattle.rl_grammar.specs.Founds.{body_in}
 use Rattle.rl_grammar.specs.declared.segments.Segment.{Segment}
 use Rattle.rl_grammar.specs.Segments.{AreUnitsOf, IsEndOf, IsPlaceOf, IsSegmentsOf, SegmentsState, TakesSegment, value_bytes}
 

@@ -1,19 +1,19 @@
 -- Places in the file of what a literal stands for.
-use Rattle.std.proofs.Common.{◌≡◌, ◌⊎◌, inl, inr, ℕ, ◌+◌, ◌-◌, ◌≤◌, ◌<◌, min, Bool, true, false, cond, ltb, List, [], ◌∷◌, length, get_or, map, refl, sym, ap, subst, ◌∙◌, arith}
+use Rattle.std.proofs.Common.{◌≡◌, ℕ, ◌+◌, ◌-◌, ◌≤◌, min, Bool, true, false, cond, ltb, List, [], ◌∷◌, length, get_or, map, refl, sym, ap, subst, ◌∙◌, arith}
 use Rattle.std.specs.Str.{chars, IsUtf8}
-use Rattle.std.proofs.lemmas.Bool.{lt-ltb, ltb-false, ltb-true}
+use Rattle.std.proofs.lemmas.Bool.{ltb-false, ltb-true}
 use Rattle.std.proofs.lemmas.Str.{encodes-chars}
 use Rattle.rl_tokens.specs.declared.kind.Kind.{Kind}
 use Rattle.rl_tokens.specs.declared.kind.Kind.TheVariants.{Str}
 use Rattle.rl_tokens.specs.declared.span.Span.{Span}
 use Rattle.rl_tokens.specs.Errors.{nowhere}
-use Rattle.rl_tokens.specs.Texts.{SpannedText, byte_len}
+use Rattle.rl_tokens.specs.Texts.{SpannedText}
 use Rattle.rl_tokens.specs.Trees.{Tree, Trees, GroupTree, IdentTree, PunctTree, LiteralTree, NoTrees, MoreTrees, all_relocated, all_respanned, entry_at, looked_up, relocated, respanned}
-use Rattle.rl_grammar.specs.Segments.{IsEndOf, IsLeftAt, IsPlaceOf, IsSegmentsOf, IsSpanTable, SegmentsState, begins_in, ends_in, place_in, span_from, units_bytes}
+use Rattle.rl_grammar.specs.Segments.{IsEndOf, IsPlaceOf, IsSegmentsOf, IsSpanTable, SegmentsState, begins_in, ends_in, place_in, span_from, units_bytes}
 use Rattle.rl_grammar.proofs.SegmentLemmas.{place_at_end, unit_span}
 use Rattle.rl_grammar.proofs.SegmentLawLemmas.{end_in_text, place_in_text}
 use Rattle.rl_grammar.proofs.SegmentStarts.{given_in_whole}
-use Rattle.rl_quoted.specs.Places.{IsRangeOf, IsSpanOf}
+use Rattle.rl_quoted.specs.Places.{IsRangeOf}
 use Rattle.rl_quoted.specs.declared.inside.Placing.{Placing}
 use Rattle.rl_quoted.specs.declared.inside.Placing.TheVariants.{AtLiteral, InFile}
 use Rattle.rl_quoted.specs.Inside.{AreMoved, AreMovedInside, IsMoved, IsReportedAt}

@@ -1,5 +1,4 @@
-use Rattle.std.proofs.Common.{ap, arith, length, subst, sym}
-use Rattle.std.specs.Str.{chars}
+use Rattle.std.proofs.Common.{ap, arith, subst, sym}
 use Rattle.rl_tokens.specs.declared.span.Span.{Span}
 use Rattle.rl_grammar.specs.Segments.{IsSpanTable}
 use Rattle.rl_quoted.proofs.PlacedLemmas.{moved_by_table, moved_elsewhere}
