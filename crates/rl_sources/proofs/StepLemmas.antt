@@ -1,18 +1,15 @@
 -- What is appended for one token.
-use Rattle.std.proofs.Common.{◌≡◌, ◌≢◌, ◌⊎◌, inl, inr, ℕ, suc, zero, ◌<◌, ◌/◌, ◌%◌, Bool, true, false, ◌==◌, cond, List, [], ◌∷◌, ◌++◌, refl, sym, ap, subst, ◌∙◌, append_assoc, arith, lit<}
+use Rattle.std.proofs.Common.{◌≡◌, ◌⊎◌, inl, inr, ℕ, suc, zero, ◌<◌, ◌/◌, ◌%◌, Bool, true, false, ◌==◌, cond, List, [], ◌∷◌, ◌++◌, refl, sym, ap, subst, ◌∙◌, append_assoc, arith, lit<}
 use Rattle.std.specs.Fmt.{digits, decimal, digits_onto, digit_glyph}
 use Rattle.std.specs.Str.{chars, IsUtf8, IsAscii}
 use Rattle.std.proofs.lemmas.List.{append-nil}
 use Rattle.std.proofs.lemmas.Str.{chars-IsAscii, IsAscii-append}
 use Rattle.std.proofs.lemmas.Str.Ascii.{IsAscii-nil, IsAscii-cons}
 use Rattle.std.proofs.lemmas.Bool.Decides.{nat_tests}
-use Rattle.rl_tokens.specs.Reading.{truth_text, HasNoReading}
+use Rattle.rl_tokens.specs.Reading.{HasNoReading}
 use Rattle.std.specs.Prelude.{Option, Some, None, IfNone, IfSome, MatchOption}
 use Rattle.rl_tokens.specs.declared.kind.Kind.{Kind}
-use Rattle.rl_tokens.specs.declared.lexeme.Form.TheVariants.{Identifier}
-use Rattle.rl_tokens.specs.declared.source.SourceForm.{SourceForm}
-use Rattle.rl_tokens.specs.declared.source.SourceForm.TheVariants.{Token}
-use Rattle.rl_tokens.specs.Sources.{source_view, SourceKind, SourceBefore, BeginsNoSource}
+use Rattle.rl_tokens.specs.Sources.{SourceKind, SourceBefore, BeginsNoSource}
 use Rattle.rl_tokens.specs.Cursors.{CursorState}
 use Rattle.rl_grammar.specs.declared.found.Found.{Found}
 use Rattle.rl_grammar.specs.Founds.{IsFound, suffix_in}
@@ -23,7 +20,7 @@ use Rattle.rl_sources.specs.declared.place.Place.{Place}
 use Rattle.rl_sources.specs.declared.place.Place.TheVariants.{Bytes, Line}
 use Rattle.rl_sources.specs.Options.{Picks}
 use Rattle.rl_sources.specs.Places.{place_text, IsPlaceIn}
-use Rattle.rl_sources.specs.Scans.{IsReason, IsShownLiteral, IsShownToken}
+use Rattle.rl_sources.specs.Scans.{IsReason, IsShownLiteral}
 use Rattle.rl_sources.specs.Steps.{IsPlacedText}
 
 -- ---- places are ASCII
