@@ -1,7 +1,10 @@
-//! Prints for each line, a command and a text's bytes in hexadecimal, what `rl_rows` does under `text`, `value`, `strict` and `attr`. So
-//! `tools/compare` holds the package against what other programs say.
+//! Prints for each line, a command and a text's bytes in hexadecimal, what `rl_rows` does under `text`, `value`, `strict` and `attr`,
+//! and under `places` an answer of `tools/places_model.py`. So the package is held against what other programs say.
 
-use navyspindle::{is_token, settings, write_byte, write_byte_str, write_char, write_str, Lit};
+use navyspindle::{
+    is_token, settings, write_byte, write_byte_str, write_char, write_str, Lit, Segment,
+    SegmentValue,
+};
 use std::borrow::Cow;
 use std::io::{self, BufWriter, Write};
 
@@ -59,6 +62,44 @@ fn settings_of(text: &str) -> String {
     lines + "."
 }
 
+/// The segments and places of a quoted literal, in one line of JSON.
+fn places_of(text: &str) -> String {
+    let literal = Lit::new(text);
+    let (segments, places, len) = match &literal {
+        Lit::Str(it) => (it.segments(), it.places(), it.value().len()),
+        Lit::ByteStr(it) => (it.segments(), it.places(), it.value().len()),
+        Lit::CStr(it) => (it.segments(), it.places(), it.value().len()),
+        Lit::Byte(it) => (it.segments(), it.places(), 1),
+        Lit::Char(it) => (it.segments(), it.places(), it.value().len_utf8()),
+        _ => {
+            let text = encoded(text);
+            return format!(r#"{{"text": "{text}", "segments": null, "places": null}}"#);
+        }
+    };
+    let segment = |it: Segment| {
+        let value = match it.value {
+            SegmentValue::Text(text) => format!(r#""T", "{}""#, encoded(text)),
+            SegmentValue::Char(c) => format!(r#""C", {}"#, u32::from(c)),
+            SegmentValue::Byte(byte) => format!(r#""B", {byte}"#),
+            _ => r#""N", 0"#.to_owned(),
+        };
+        format!("[{}, {}, {value}]", it.range.start, it.range.end)
+    };
+    let place = |byte| {
+        let range = places.byte(byte);
+        format!("[{}, {}]", range.start, range.end)
+    };
+    let segments: Vec<String> = segments.map(segment).collect();
+    let places: Vec<String> = (0..=len).map(place).collect();
+    let (text, segments, places) = (encoded(text), segments.join(", "), places.join(", "));
+    format!(r#"{{"text": "{text}", "segments": [{segments}], "places": [{places}]}}"#)
+}
+
+/// The bytes of a text in hexadecimal.
+fn encoded(text: &str) -> String {
+    text.bytes().map(|byte| format!("{byte:02x}")).collect()
+}
+
 /// What is borrowed from a text as a literal, as a byte string; `None` where nothing is.
 fn borrowed_of(text: &str) -> String {
     let literal = Lit::new(text);
@@ -98,6 +139,7 @@ fn main() -> io::Result<()> {
             Some(Ok(text)) => match command {
                 "text" => line_of(&Lit::new(&*text)),
                 "attr" => settings_of(&text),
+                "places" => places_of(&text),
                 "value" => borrowed_of(&text),
                 "strict" => is_token(&text).to_string(),
                 _ => "error: no command".to_owned(),
