@@ -1,4 +1,5 @@
-//! Reads a server's settings from a file `NAME = LITERAL, ..`: `cargo run --example config FILE`
+//! Reads a server's settings from a file `NAME = LITERAL, ..`, of the names `host`, `port` and `verbose`:
+//! `cargo run --example config FILE`
 
 use navyspindle::{settings, Entry, LineIndex, Lit};
 use std::error::Error;
@@ -13,8 +14,9 @@ struct Config {
 }
 
 impl Config {
-    /// Sets what the entry names.
+    /// Sets what the entry names, whose value Rust takes.
     fn set(&mut self, entry: &Entry) -> Result<(), Box<dyn Error>> {
+        entry.value.check()?;
         if !entry.value.suffix().is_empty() {
             return Err("a value has no suffix".into());
         }
@@ -25,7 +27,7 @@ impl Config {
             ("host", _) => return Err("expected a string".into()),
             ("port", _) => return Err("expected an integer".into()),
             ("verbose", _) => return Err("expected true or false".into()),
-            _ => return Err("unknown name".into()),
+            _ => return Err("unknown name: expected host, port or verbose".into()),
         }
         Ok(())
     }
@@ -38,7 +40,7 @@ fn read(text: &str) -> Result<Config, (usize, String)> {
     let mut config = Config::default();
     for entry in &entries {
         let set = config.set(entry);
-        set.map_err(|error| (entry.value_range.start, format!("{}: {error}", entry.name)))?;
+        set.map_err(|error| (entry.name_range.start, format!("{}: {error}", entry.name)))?;
     }
     Ok(config)
 }

@@ -1,7 +1,7 @@
 //! Reports the literals of Rust files that Rust rejects, each with the reason and its place, and quotes or comments that are left
 //! open, as compilers do: `cargo run --example lint FILE..` ends with status 1 where it reported one.
 
-use navyspindle::{source, LineIndex, Lit};
+use navyspindle::{source, LineIndex};
 use std::process::ExitCode;
 use std::{env, fs};
 
@@ -10,9 +10,9 @@ fn findings(text: &str) -> Vec<(usize, String)> {
     source(text)
         .filter_map(|item| match item {
             Ok((bytes, literal)) => {
-                let error = Lit::parse(literal.text()).err()?;
+                let error = literal.check().err()?;
                 let at = bytes.start + error.range().start;
-                Some((at, format!("{literal} is no literal: {}", error.kind())))
+                Some((at, format!("{}: {literal}", error.kind())))
             }
             Err(error) => Some((error.at(), error.kind().to_string())),
         })

@@ -37,7 +37,7 @@ pub(crate) fn suffix_of(text: &str, suffix_at: usize) -> &str {
 macro_rules! literal_type {
     ($name:ident, $variant:ident { $($field:ident),* }, $text:literal, $suffix:literal) => {
         impl<'t> $name<'t> {
-            /// The literal of this kind that the text is, all of it; of a number with one optional minus before it.
+            /// The literal of this kind that the text is, all of it: as [`Lit::parse`](crate::Lit::parse), but of one kind.
             ///
             /// # Errors
             ///
@@ -100,6 +100,21 @@ macro_rules! literal_type {
             #[must_use]
             pub fn suffix(&self) -> &str {
                 $crate::common::suffix_of(&self.text, self.suffix_at)
+            }
+
+            /// The bytes of the text where its suffix stands; none, at its end, where it has none.
+            ///
+            /// ```
+            #[doc = concat!("use navyspindle::", stringify!($name), ";")]
+            ///
+            #[doc = concat!("let literal = ", stringify!($name), "::parse(", $text, ")?;")]
+            /// assert_eq!(&literal.text()[literal.suffix_range()], literal.suffix());
+            /// # Ok::<(), navyspindle::ParseError>(())
+            /// ```
+            #[inline]
+            #[must_use]
+            pub fn suffix_range(&self) -> core::ops::Range<usize> {
+                self.suffix_at..self.text.len()
             }
 
             /// What stands after the literal proper, in the text's own lifetime.

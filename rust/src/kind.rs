@@ -46,7 +46,7 @@ impl fmt::Display for Kind {
             Kind::Int => "integer literal",
             Kind::Float => "floating point literal",
             Kind::Bool => "boolean literal",
-            Kind::Verbatim => "text that is no literal",
+            Kind::Verbatim => "text without a reading",
         })
     }
 }

@@ -16,6 +16,11 @@
 //! assert_eq!(literal.base10_parse::<u8>(), Ok(255));
 //! # Ok::<(), navyspindle::ParseError>(())
 //! ```
+//!
+//! # Features
+//!
+//! - `proc-macro`: literals from and to the tokens of rustc's own crate `proc_macro`, which [`Lit`] and the structs are then made
+//!   of by `try_from`; `next_literal`, `to_token_stream`, `MacroError`. Off by default.
 #![no_std]
 #![forbid(unsafe_code)]
 #![deny(missing_docs)]
@@ -40,7 +45,7 @@ mod places;
 #[cfg(feature = "proc-macro")]
 mod proc_macros;
 #[allow(dead_code, unused_variables)]
-#[allow(clippy::style, clippy::complexity)]
+#[allow(clippy::style, clippy::complexity, clippy::pedantic)]
 #[rustfmt::skip]
 mod proved;
 mod reading;

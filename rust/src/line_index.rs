@@ -32,7 +32,8 @@ const STEP: usize = 256;
 /// Where the lines of a text begin: built once, it tells the line and the column of any byte, and the byte of any line and
 /// column.
 ///
-/// A line ends after its LF. Columns count characters, as rustc's do, or bytes. Building takes time that grows with the text,
+/// A line ends after its LF. Columns count characters, as rustc's do, or bytes; a byte order mark at the text's front has no
+/// column, and counts as what follows it. Building takes time that grows with the text,
 /// and a lookup grows with the logarithm of the number of lines.
 ///
 /// ```
@@ -72,8 +73,12 @@ impl<'t> LineIndex<'t> {
     /// ```
     #[must_use]
     pub fn new(text: &'t str) -> Self {
+        let front = match text.strip_prefix('\u{feff}') {
+            Some(rest) => text.len() - rest.len(),
+            None => 0,
+        };
         let ends = text.bytes().enumerate().filter(|&(_, byte)| byte == b'\n');
-        let starts = core::iter::once(0)
+        let starts = core::iter::once(front)
             .chain(ends.map(|(at, _)| at + 1))
             .collect();
         let mut characters = Vec::new();
@@ -176,7 +181,7 @@ impl<'t> LineIndex<'t> {
 
     /// Where the character begins that the byte belongs to.
     fn at_character(&self, at: usize) -> usize {
-        let mut at = at.min(self.text.len());
+        let mut at = at.clamp(self.starts[0], self.text.len());
         while !self.text.is_char_boundary(at) {
             at -= 1;
         }
@@ -246,6 +251,16 @@ mod tests {
         let column = before[start..].chars().count() + 1;
         let of = |column| LineColumn { line, column };
         (of(column), of(at - start + 1))
+    }
+
+    #[test]
+    fn a_byte_order_mark_has_no_column() {
+        let index = LineIndex::new("\u{feff}ab\nc");
+        for (at, line, column) in [(0, 1, 1), (2, 1, 1), (3, 1, 1), (4, 1, 2), (6, 2, 1)] {
+            assert_eq!(index.line_column(at), LineColumn { line, column });
+            assert_eq!(index.line_column_bytes(at), LineColumn { line, column });
+        }
+        assert_eq!(index.byte(LineColumn { line: 1, column: 1 }), Some(3));
     }
 
     #[test]

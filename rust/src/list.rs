@@ -23,7 +23,7 @@ pub struct Literals<'t> {
 /// A minus before a number belongs to the literal, also where something stands between them.
 ///
 /// A literal token that has no reading, as `'\q'` and an integer past 128 bits, comes as [`Lit::Verbatim`], which
-/// explains why; after a minus it is an error. A token that begins no literal ends the list: a word or a mark with
+/// explains why; after a minus it is an error. [`Lit::check`] says whether Rust takes a literal too. A token that begins no literal ends the list: a word or a mark with
 /// [`ErrorKind::NoLiteral`](crate::ErrorKind::NoLiteral), an opening delimiter with
 /// [`ErrorKind::Group`](crate::ErrorKind::Group), a closing one with
 /// [`ErrorKind::UnmatchedClose`](crate::ErrorKind::UnmatchedClose).

@@ -3,6 +3,7 @@
 use crate::grammar::{find, Found};
 use crate::kind::Kind;
 use crate::parse_error::ParseError;
+use crate::places::{Places, Segments};
 use crate::reading::is_rust;
 use crate::tokens;
 use crate::{
@@ -90,6 +91,10 @@ impl<'t> Lit<'t> {
 
     /// The literal of Rust that the text is, all of it, with one optional minus before a number.
     ///
+    /// Any word may be its suffix, as in `1u9` and `"a"q`: those are tokens, which Rust gives to macros alone. Look at
+    /// [`suffix`](Lit::suffix). The text is taken as it is: no white space stands around it, and a CR LF is none of a string of Rust's,
+    /// though it may stand in a file ([`Lit::check`]).
+    ///
     /// # Errors
     ///
     /// The text is none, or an integer past 128 bits: why, and where.
@@ -107,6 +112,75 @@ impl<'t> Lit<'t> {
         match find(text) {
             Some(found) if is_rust(text, &found) => Ok(Lit::of(Cow::Borrowed(text), &found)),
             _ => Err(ParseError::of(text)),
+        }
+    }
+
+    /// That Rust takes the literal where it stands in a file: as [`Lit::parse`] of its text, but that a CR LF counts as an LF, which
+    /// rustc makes of it before it reads a file. So it judges what [`source`](crate::source) and [`settings`](crate::settings)
+    /// return, which are literals as `syn` reads them.
+    ///
+    /// # Errors
+    ///
+    /// Rust rejects the text: why, and where in it.
+    ///
+    /// ```
+    /// use navyspindle::{Lit, ParseErrorKind};
+    ///
+    /// assert_eq!(Lit::new("\"a\r\nb\"").check(), Ok(()));
+    /// assert_eq!(Lit::new("0b12").check().unwrap_err().kind(), ParseErrorKind::NotRust);
+    /// ```
+    pub fn check(&self) -> Result<(), ParseError> {
+        let text = self.text();
+        match Lit::parse(text) {
+            Ok(_) => Ok(()),
+            Err(error) if !text.contains("\r\n") => Err(error),
+            Err(error) => match Lit::parse(&text.replace("\r\n", "\n")) {
+                Ok(_) => Ok(()),
+                Err(_) => Err(error),
+            },
+        }
+    }
+
+    /// What stands between the quotes, piece by piece; `None` where there are none. See
+    /// [`LitStr::segments`](crate::LitStr::segments).
+    ///
+    /// ```
+    /// use navyspindle::Lit;
+    ///
+    /// assert_eq!(Lit::parse(r"'\n'")?.segments().unwrap().next().unwrap().range, 1..3);
+    /// assert!(Lit::parse("1")?.segments().is_none());
+    /// # Ok::<(), navyspindle::ParseError>(())
+    /// ```
+    #[must_use]
+    pub fn segments(&self) -> Option<Segments<'_>> {
+        match self {
+            Lit::Str(literal) => Some(literal.segments()),
+            Lit::ByteStr(literal) => Some(literal.segments()),
+            Lit::CStr(literal) => Some(literal.segments()),
+            Lit::Byte(literal) => Some(literal.segments()),
+            Lit::Char(literal) => Some(literal.segments()),
+            _ => None,
+        }
+    }
+
+    /// Where each byte of the value of a literal with quotes comes from; `None` of others. See
+    /// [`LitStr::places`](crate::LitStr::places).
+    ///
+    /// ```
+    /// use navyspindle::Lit;
+    ///
+    /// assert_eq!(Lit::parse(r"'\n'")?.places().unwrap().byte(0), 1..3);
+    /// # Ok::<(), navyspindle::ParseError>(())
+    /// ```
+    #[must_use]
+    pub fn places(&self) -> Option<Places> {
+        match self {
+            Lit::Str(literal) => Some(literal.places()),
+            Lit::ByteStr(literal) => Some(literal.places()),
+            Lit::CStr(literal) => Some(literal.places()),
+            Lit::Byte(literal) => Some(literal.places()),
+            Lit::Char(literal) => Some(literal.places()),
+            _ => None,
         }
     }
 

@@ -126,8 +126,8 @@ fn parsed(text: String, span: Span) -> Result<Lit<'static>, MacroError> {
 }
 
 /// Takes the next literal of a macro's input, with its place: a literal, one of the words `true` and `false`, a minus and a number,
-/// or what a `macro_rules!` macro passes on as `$e:literal`, which stands in a group without delimiters. Its place is that of the
-/// number where a minus stands before it.
+/// or what a `macro_rules!` macro passes on as `$e:literal`, which stands in a group without delimiters. Its place is that of its
+/// own token, inside a group too; where a minus stands before it, that of the number.
 ///
 /// # Errors
 ///
@@ -157,18 +157,38 @@ pub fn next_literal(
     };
     match &tree {
         TokenTree::Punct(mark) if mark.as_char() == '-' => negative(tokens.next(), mark.span()),
-        _ => Ok((Lit::try_from(&tree)?, tree.span())),
+        _ => literal_of(&tree),
     }
 }
 
 /// The literal of a minus, which stands there, and the tree after it.
 fn negative(tree: Option<TokenTree>, minus: Span) -> Result<(Lit<'static>, Span), MacroError> {
-    let expected = || MacroError::new("expected literal", minus);
-    let tree = tree.ok_or_else(expected)?;
-    let number = Lit::try_from(&tree).map_err(|_| expected())?;
+    let tree = tree.ok_or_else(|| MacroError::new("expected literal", minus))?;
+    let (number, span) = literal_of(&tree)?;
     match number {
         Lit::Int(_) | Lit::Float(_) if !number.text().starts_with('-') => {
-            Ok((parsed(format!("-{number}"), tree.span())?, tree.span()))
+            Ok((parsed(format!("-{number}"), span)?, span))
+        }
+        _ => Err(MacroError::new("expected a number after the minus", span)),
+    }
+}
+
+/// The literal that the tree is, and its place: that of its token, where it stands in a group.
+fn literal_of(tree: &TokenTree) -> Result<(Lit<'static>, Span), MacroError> {
+    let expected = || MacroError::new("expected literal", tree.span());
+    match tree {
+        TokenTree::Literal(literal) => Ok((Lit::try_from(literal)?, literal.span())),
+        TokenTree::Ident(word) => {
+            let literal = LitBool::try_from(word.to_string()).map_err(|_| expected())?;
+            Ok((Lit::Bool(literal), word.span()))
+        }
+        TokenTree::Group(group) if group.delimiter() == Delimiter::None => {
+            let mut inside = group.stream().into_iter();
+            let literal = next_literal(&mut inside)?;
+            match inside.next() {
+                Some(tree) => Err(MacroError::new("expected literal", tree.span())),
+                None => Ok(literal),
+            }
         }
         _ => Err(expected()),
     }
@@ -189,23 +209,7 @@ impl TryFrom<&TokenTree> for Lit<'static> {
     type Error = MacroError;
 
     fn try_from(tree: &TokenTree) -> Result<Self, MacroError> {
-        let expected = || MacroError::new("expected literal", tree.span());
-        match tree {
-            TokenTree::Literal(literal) => Lit::try_from(literal),
-            TokenTree::Ident(word) => {
-                let literal = LitBool::try_from(word.to_string()).map_err(|_| expected())?;
-                Ok(Lit::Bool(literal))
-            }
-            TokenTree::Group(group) if group.delimiter() == Delimiter::None => {
-                let mut inside = group.stream().into_iter();
-                let (literal, _) = next_literal(&mut inside).map_err(|_| expected())?;
-                match inside.next() {
-                    Some(_) => Err(expected()),
-                    None => Ok(literal),
-                }
-            }
-            _ => Err(expected()),
-        }
+        literal_of(tree).map(|(literal, _)| literal)
     }
 }
 
@@ -247,6 +251,31 @@ macro_rules! of_trees {
 
 of_trees! { Literal TokenTree }
 
+/// [`Lit::to_token_stream`] of the struct of each kind.
+macro_rules! to_trees {
+    ($($name:ident)*) => {$(
+        impl $name<'_> {
+            /// The literal as tokens at this place: see [`Lit::to_token_stream`].
+            ///
+            /// # Errors
+            ///
+            /// Rust rejects the text.
+            ///
+            /// ```no_run
+            /// extern crate proc_macro;
+            #[doc = concat!("fn tokens_of(literal: navyspindle::", stringify!($name), ") -> Result<proc_macro::TokenStream, navyspindle::MacroError> {")]
+            ///     literal.to_token_stream(proc_macro::Span::call_site())
+            /// }
+            /// ```
+            pub fn to_token_stream(&self, span: Span) -> Result<TokenStream, MacroError> {
+                tokens_of(&self.to_string(), span)
+            }
+        }
+    )*};
+}
+
+to_trees! { LitStr LitByteStr LitCStr LitByte LitChar LitInt LitFloat LitBool }
+
 impl Lit<'_> {
     /// The literal as tokens at this place: one token, or a minus and a number.
     ///
@@ -263,21 +292,27 @@ impl Lit<'_> {
     /// # Ok::<(), navyspindle::MacroError>(())
     /// ```
     pub fn to_token_stream(&self, span: Span) -> Result<TokenStream, MacroError> {
-        let rejected = |kind: &dyn fmt::Display| MacroError::new(kind, span);
-        // The compiler would report a text that is none by itself.
-        Lit::parse(self.text()).map_err(|error| rejected(&error.kind()))?;
-        if let Lit::Bool(word) = self {
-            return Ok(TokenTree::Ident(Ident::new(word.text(), span)).into());
-        }
-        let (minus, text) = match self.text().strip_prefix('-') {
-            Some(number) => (
-                Some(TokenTree::Punct(Punct::new('-', Spacing::Alone))),
-                number,
-            ),
-            None => (None, self.text()),
-        };
-        let literal: Literal = text.parse().map_err(|error| rejected(&error))?;
-        let trees = minus.into_iter().chain([TokenTree::Literal(literal)]);
-        Ok(trees.map(|tree| spanned(tree, span)).collect())
+        tokens_of(self.text(), span)
     }
+}
+
+/// The tokens of a literal's text.
+fn tokens_of(text: &str, span: Span) -> Result<TokenStream, MacroError> {
+    // The compiler would report a text that is none by itself.
+    let literal = Lit::parse(text).map_err(|error| MacroError::new(error.kind(), span))?;
+    if let Lit::Bool(_) = literal {
+        return Ok(TokenTree::Ident(Ident::new(text, span)).into());
+    }
+    let (minus, number) = match text.strip_prefix('-') {
+        Some(number) => (
+            Some(TokenTree::Punct(Punct::new('-', Spacing::Alone))),
+            number,
+        ),
+        None => (None, text),
+    };
+    let literal: Literal = number
+        .parse()
+        .map_err(|error| MacroError::new(error, span))?;
+    let trees = minus.into_iter().chain([TokenTree::Literal(literal)]);
+    Ok(trees.map(|tree| spanned(tree, span)).collect())
 }

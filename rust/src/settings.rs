@@ -16,7 +16,8 @@ pub struct Entry<'t> {
     pub name: &'t str,
     /// The bytes of the name.
     pub name_range: Range<usize>,
-    /// What it is set to: of a number with its minus, and a literal token without a reading as [`Lit::Verbatim`].
+    /// What it is set to, as `syn` reads it: of a number with its minus, and a literal token without a reading as
+    /// [`Lit::Verbatim`]. [`Lit::check`] says whether Rust takes it too.
     pub value: Lit<'t>,
     /// The bytes of the value, from its minus on where it has one.
     pub value_range: Range<usize>,

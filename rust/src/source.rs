@@ -20,7 +20,10 @@ pub struct Source<'t> {
 /// Every literal of a whole Rust source, in order, up to the first error: a quote or a comment that isn't closed.
 ///
 /// What stands in comments is no literal, a minus is no part of one, and the words `true` and `false` are literals. A
-/// token that is a literal by its form and has no reading comes as [`Lit::Verbatim`], as `'\q'` does.
+/// token that is a literal by its form and has no reading comes as [`Lit::Verbatim`], as `'\q'` does. Literals are read as `syn`
+/// does; [`Lit::check`] says whether Rust takes one too.
+///
+/// A quote that can't be closed ends it, and so do `''` and `'ab'`, which rustc passes with an error.
 ///
 /// ```
 /// use navyspindle::{source, Lit};

@@ -45,6 +45,9 @@ fn written(value: Value<'_>) -> String {
 
 /// The string literal that stands for the text.
 ///
+/// Quotes, backslashes and ASCII controls are escaped. All else stands as it is, also what turns or hides text (`U+202E`), which
+/// rustc's lint `text_direction_codepoint_in_literal` denies in sources.
+///
 /// ```
 /// assert_eq!(navyspindle::write_str("a\t\"é\u{1}"), r#""a\t\"é\x01""#);
 /// ```

@@ -99,6 +99,35 @@ fn what_rust_rejects_is_read_and_not_parsed() {
 }
 
 #[test]
+fn what_rust_takes_in_a_file() {
+    let taken = [
+        "\"a\r\nb\"",
+        "r\"\r\n\"",
+        "b\"\\\r\n \"",
+        "c\"\r\n\"",
+        "1",
+        "-1.5",
+    ];
+    for text in taken {
+        assert_eq!(Lit::new(text).check(), Ok(()), "{text:?}");
+    }
+    let rejected = [
+        "\'\'\'",
+        "0x",
+        "r\"a\rb\"",
+        "\"a\"1",
+        "r\"\r\n\"\"",
+        "\'\r\n\'",
+        "",
+        "\"\\q\"",
+    ];
+    for text in rejected {
+        let error = Lit::new(text).check().unwrap_err();
+        assert_eq!(error, Lit::parse(text).unwrap_err(), "{text:?}");
+    }
+}
+
+#[test]
 fn of_one_kind() {
     assert_eq!(LitStr::parse("\"a\"").unwrap().value(), "a");
     assert_eq!("12".parse::<LitInt>().unwrap().base10_parse(), Ok(12));
@@ -183,6 +212,22 @@ fn what_is_owned() {
         LitBool::parse("true").unwrap().into_text(),
         Cow::Borrowed("true")
     ));
+}
+
+#[test]
+fn a_megabyte_of_escapes() {
+    let text = format!("\"{}\"", "\\u{e9}a".repeat(150_000));
+    let places = LitStr::parse(&text).unwrap().places();
+    for byte in (0..450_000).step_by(4) {
+        let unit = 7 * (byte / 3) + 1;
+        let expected = if byte % 3 == 2 {
+            unit + 6..unit + 7
+        } else {
+            unit..unit + 6
+        };
+        assert_eq!(places.byte(byte), expected, "{byte}");
+    }
+    assert_eq!(places.byte(450_000), 1_050_001..1_050_001);
 }
 
 #[test]

@@ -62,8 +62,12 @@ fn errors() {
         "expected integer literal, found character literal"
     );
     assert_eq!(sum_error!(1 2), "expected `,`");
-    assert_eq!(sum_error!(1, -"a"), "expected literal");
+    assert_eq!(sum_error!(1, -"a"), "expected a number after the minus");
     assert_eq!(sum_error!(--1), "expected literal");
+    assert_eq!(
+        sum_error!(-340282366920938463463374607431768211456),
+        "integer past 128 bits"
+    );
     assert_eq!(sum_error!(word), "expected literal");
     assert_eq!(sum_error!((1)), "expected literal");
     assert_eq!(
