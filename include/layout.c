@@ -20,7 +20,8 @@ int main(void) {
     failed = CHECK(layout.reading_size == sizeof(RlReading)) + CHECK(layout.reading_align == ALIGN(RlReading)) +
              CHECK(layout.next_size == sizeof(RlNext)) + CHECK(layout.next_align == ALIGN(RlNext)) +
              CHECK(layout.explanation_size == sizeof(RlExplanation)) +
-             CHECK(layout.explanation_align == ALIGN(RlExplanation));
+             CHECK(layout.explanation_align == ALIGN(RlExplanation)) + CHECK(layout.place_size == sizeof(RlPlace)) +
+             CHECK(layout.place_align == ALIGN(RlPlace));
     if (failed)
         return 1;
     memset(&next, 0, sizeof next);

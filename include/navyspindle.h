@@ -17,7 +17,7 @@ extern "C" {
 #endif
 
 /* The version of the exports and structs below. */
-#define RL_VERSION 5
+#define RL_VERSION 6
 
 /* What a literal is: RlReading.kind. */
 enum {
@@ -107,6 +107,12 @@ typedef struct {
     uint8_t kind; /* RL_FLAW_EMPTY to RL_FLAW_TOO_LARGE */
 } RlExplanation;
 
+/* Where in a literal's text a byte of what it stands for is written. */
+typedef struct {
+    size_t lo; /* the place of the first byte that gives it: of an escape that of its backslash */
+    size_t hi; /* the place after the last */
+} RlPlace;
+
 /* Sizes and alignments of the structs above, in bytes. */
 typedef struct {
     size_t reading_size;
@@ -115,6 +121,8 @@ typedef struct {
     size_t next_align;
     size_t explanation_size;
     size_t explanation_align;
+    size_t place_size;
+    size_t place_align;
 } RlLayout;
 
 /* The version of the library. */
@@ -146,6 +154,11 @@ size_t rl_c_str_value(const uint8_t *text, size_t len, const RlReading *reading,
 /* Writes the digits of a float in base ten, and returns how many bytes they are. The reading is what was found in this
  * text, a float's, plain or not; `room` is at least end - at. */
 size_t rl_float_digits(const uint8_t *text, size_t len, const RlReading *reading, uint8_t *out, size_t room);
+
+/* Whether the text is a quoted literal; where the byte `at` of what it stands for is written then goes into `place`, which
+ * stays else: of text that stands for itself the byte, else the whole escape. Characters count as UTF-8. At the end of the
+ * contents, and past it, both are the closing quote's place. It walks over the literal. */
+bool rl_place_of(const uint8_t *text, size_t len, size_t at, RlPlace *place);
 
 /* What begins a list of literals, after white space and comments: RL_END; RL_LITERAL, and `next` holds the literal, its
  * places in this text; any other number of the list above, and `next->lo` is the place of what is no literal. The next call

@@ -1,8 +1,12 @@
-//! Reads Rust's literals by proved code.
+//! Reads and writes Rust's literals: kinds, values, suffixes, the places of what they hold, and why a text is none.
 //!
-//! The code in `proved` is rendered from sources in Rattle, which is Rust with contracts, where each function is proved
-//! against a written grammar; the contracts are erased, and nothing else is changed. This package gives it types. Places are
-//! byte offsets.
+//! [`Lit::parse`] reads one literal, [`source`] those of a whole file, [`literals`] and [`settings`] lists; [`write_str`] and its
+//! siblings write values. Places are byte offsets; [`LineIndex`] makes lines and columns of them.
+//!
+//! The code in `proved` is rendered from sources in Rattle, which is Rust with contracts: each function is proved there to do what
+//! its contract says, against a written grammar, and the contracts are erased. So every text has one reading, and that is the
+//! grammar's. Trusted besides are the eraser, rustc and `core`. The types around it, a table of Unicode's identifiers and a stand-in
+//! for lanes of bytes are tested, and held against the proved library. There is no `unsafe`.
 //!
 //! ```
 //! use navyspindle::Lit;

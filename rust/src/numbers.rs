@@ -388,6 +388,19 @@ impl<'t> LitFloat<'t> {
         }
     }
 
+    /// All before the suffix, as it stands, a minus too.
+    ///
+    /// ```
+    /// use navyspindle::LitFloat;
+    ///
+    /// assert_eq!(LitFloat::parse("-1_0.5E+3f64")?.number_part(), "-1_0.5E+3");
+    /// # Ok::<(), navyspindle::ParseError>(())
+    /// ```
+    #[must_use]
+    pub fn number_part(&self) -> &str {
+        &self.text[..self.suffix_at]
+    }
+
     /// The digits before the dot, as they stand, without a sign.
     ///
     /// ```

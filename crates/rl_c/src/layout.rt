@@ -4,16 +4,17 @@ ghost use Rattle.std.specs.Prelude.{◌≡◌, true};
 
 use crate::explain::Explanation;
 use crate::next::Next;
+use crate::place::Place;
 use crate::reading::Reading;
 
 /// The version of the exports and of the structs that cross: it goes up with every change of either.
-const VERSION: usize = 5;
+const VERSION: usize = 6;
 
 /// Returns the version. It is the one export that a caller of any version may call: all others, the two below too, only
 /// where the version is the one that the caller was written for.
 #[unsafe(no_mangle)]
 pub extern "C" fn rl_version() -> usize
-    ensures { result ≡ 5 }
+    ensures { result ≡ 6 }
 {
     VERSION
 }
@@ -34,6 +35,10 @@ pub struct Layout {
     pub explanation_size: usize,
     /// The alignment of [`Explanation`].
     pub explanation_align: usize,
+    /// The size of [`Place`].
+    pub place_size: usize,
+    /// The alignment of [`Place`].
+    pub place_align: usize,
 }
 
 /// Returns the sizes and alignments.
@@ -46,6 +51,8 @@ pub extern "C" fn rl_layout(layout: &mut Layout)
       next_align = 8;
       explanation_size = 32;
       explanation_align = 8;
+      place_size = 16;
+      place_align = 8;
     } }
 {
     *layout = Layout {
@@ -55,6 +62,8 @@ pub extern "C" fn rl_layout(layout: &mut Layout)
         next_align: align_of::<Next>(),
         explanation_size: size_of::<Explanation>(),
         explanation_align: align_of::<Explanation>(),
+        place_size: size_of::<Place>(),
+        place_align: align_of::<Place>(),
     };
 }
 

@@ -100,6 +100,16 @@ fn push_literal(
     out.push('\n');
 }
 
+/// How many bytes of a literal's contents are asked for their places.
+const ASKED: usize = 40;
+
+fn push_places(out: &mut String, places: impl Iterator<Item = (usize, usize)>) {
+    for place in places {
+        let _ = write!(out, "{place:?}");
+    }
+    out.push('\n');
+}
+
 fn push_flaw(out: &mut String, kind: &str, from: usize, lo: usize, hi: usize) {
     let _ = writeln!(out, "{kind} {from} {lo} {hi}");
 }
@@ -162,8 +172,15 @@ pub mod library {
         }
     }
 
+    /// Where the first bytes of what a quoted literal stands for are written.
+    pub fn places(out: &mut String, text: &str) {
+        let places = (0..ASKED).map_while(|at| library::place_of(text, at));
+        push_places(out, places.map(|place| (place.lo, place.hi)));
+    }
+
     /// A text as one literal: as `syn` reads it, and whether Rust takes it too.
     pub fn one(out: &mut String, text: &str) {
+        places(out, text);
         let reading = library::find(text);
         assert_eq!(reading.is_none(), library::explain(text).is_some());
         match &reading {
@@ -393,7 +410,42 @@ pub mod package {
         assert_eq!(fitting, if parsed.is_ok() { 1 } else { kinds.len() });
     }
 
+    /// A place by each way to it.
+    macro_rules! place {
+        ($literal:expr, $at:expr) => {{
+            let (place, range) = ($literal.place_of($at), $literal.range_of($at..$at + 1));
+            assert_eq!(range, $literal.places().range($at..$at + 1));
+            assert_eq!(
+                (place, place),
+                (range.start, $literal.places().byte($at).start)
+            );
+            (range.start, range.end)
+        }};
+    }
+
+    pub fn places(out: &mut String, text: &str) {
+        let literal = Lit::new(text);
+        let place = |at: usize| match &literal {
+            Lit::Str(it) => Some(place!(it, at)),
+            Lit::ByteStr(it) => Some(place!(it, at)),
+            Lit::CStr(it) => Some(place!(it, at)),
+            Lit::Byte(it) => Some(place!(it, at)),
+            Lit::Char(it) => Some(place!(it, at)),
+            _ => None,
+        };
+        push_places(out, (0..ASKED).map_while(place));
+        if let Some(segments) = literal.segments() {
+            let mut at = body(&literal).map_or(0, |body| body.0);
+            for segment in segments {
+                assert!(segment.range.end > segment.range.start);
+                assert!(at == 0 || segment.range.start == at);
+                at = segment.range.end;
+            }
+        }
+    }
+
     pub fn one(out: &mut String, text: &str) {
+        places(out, text);
         let read = Lit::new(text);
         literal(out, &read);
         check_values(&read);

@@ -44,16 +44,25 @@ pub struct Explanation {
     pub kind: u8,
 }
 
+/// Where a byte of what a literal stands for is written.
+#[repr(C)]
+#[derive(Clone, Copy, Default, PartialEq, Debug)]
+pub struct Place {
+    pub lo: usize,
+    pub hi: usize,
+}
+
 mod exports {
-    use super::{Explanation, Next, Reading};
+    use super::{Explanation, Next, Place, Reading};
 
     type Decode = unsafe extern "C" fn(*const u8, usize, &Reading, *mut u8, usize) -> usize;
 
     extern "C" {
         pub fn rl_version() -> usize;
-        pub fn rl_layout(layout: &mut [usize; 6]);
+        pub fn rl_layout(layout: &mut [usize; 8]);
         pub fn rl_find(text: *const u8, len: usize, reading: &mut Reading) -> bool;
         pub fn rl_explain(text: *const u8, len: usize, explanation: &mut Explanation) -> bool;
+        pub fn rl_place_of(text: *const u8, len: usize, at: usize, place: &mut Place) -> bool;
         pub fn rl_is_token(text: *const u8, len: usize) -> bool;
         pub fn rl_next(text: *const u8, len: usize, next: &mut Next) -> u8;
         pub fn rl_source_start(text: *const u8, len: usize) -> usize;
@@ -108,15 +117,16 @@ fn placed<T: Default, R>(export: impl FnOnce(&mut T) -> R) -> (R, T) {
 /// That the library has the version and the structs of this side.
 pub fn check() {
     // SAFETY: it requires nothing.
-    assert_eq!(unsafe { exports::rl_version() }, 5);
-    // SAFETY: it requires nothing, and writes six numbers.
+    assert_eq!(unsafe { exports::rl_version() }, 6);
+    // SAFETY: it requires nothing, and writes eight numbers.
     let ((), layout) = placed(|it| unsafe { exports::rl_layout(it) });
     let sizes = [
         size_of::<Reading>(),
         size_of::<Next>(),
         size_of::<Explanation>(),
+        size_of::<Place>(),
     ];
-    assert_eq!([layout[0], layout[2], layout[4]], sizes);
+    assert_eq!([layout[0], layout[2], layout[4], layout[6]], sizes);
 }
 
 pub fn find(text: &str) -> Option<Reading> {
@@ -130,6 +140,14 @@ pub fn explain(text: &str) -> Option<Explanation> {
     // SAFETY: the text is UTF-8.
     let (is_none, why) = placed(|it| unsafe { exports::rl_explain(text.as_ptr(), text.len(), it) });
     is_none.then_some(why)
+}
+
+/// Where the byte of what a quoted literal stands for is written.
+pub fn place_of(text: &str, at: usize) -> Option<Place> {
+    // SAFETY: the text is UTF-8.
+    let (is_quoted, place) =
+        placed(|it| unsafe { exports::rl_place_of(text.as_ptr(), text.len(), at, it) });
+    is_quoted.then_some(place)
 }
 
 pub fn is_token(text: &str) -> bool {
