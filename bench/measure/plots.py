@@ -4,11 +4,12 @@ import sys
 
 from measure import build, counts
 
-OURS = ('shape', 'lent', 'value', 'literal', 'tokens', 'lex', 'read', 'attr', 'source', 'rl_scan')
+OURS = (
+    'package', 'shape', 'lent', 'value', 'literal', 'segments', 'tokens', 'lex', 'read', 'attr', 'source', 'rl_scan')
 COLOURS = {True: '#2f6db3', False: '#d98a2b'}
 OF_SOURCES = ('source', 'rl_scan')
 BESIDE = (
-    (('shape', 'lent', 'value', 'literal'), ('litrs, lent', 'litrs', 'syn')),
+    (('package', 'shape', 'lent', 'value', 'literal'), ('litrs, lent', 'litrs', 'syn')),
     (('tokens', 'lex', 'read', 'attr'), ('proc-macro2', 'proc-macro2 and syn')),
 )
 # nothing of the day or the machine goes into the files
@@ -44,7 +45,7 @@ def speed(pyplot, taken, path):
     names = corpora(taken)
     count = -(-len(names) // 3)
     rows = {'height_ratios': [0.12] + [1] * count}
-    shape = {'figsize': (12, 1 + 3 * count), 'layout': 'constrained', 'gridspec_kw': rows}
+    shape = {'figsize': (12, 1 + 3.3 * count), 'layout': 'constrained', 'gridspec_kw': rows}
     figure, grid = pyplot.subplots(count + 1, 3, **shape)
     top, *panels = [grid[0][1], *grid[1:].flat]
     for axes, corpus in zip(panels, names):
@@ -61,7 +62,7 @@ def speed(pyplot, taken, path):
 def growth(pyplot, taken, path):
     """Each of our works on every corpus, at each size. What grows as the text does is level."""
     shared = {'sharex': True, 'sharey': True, 'layout': 'constrained'}
-    figure, grid = pyplot.subplots(2, 5, figsize=(14, 6), **shared)
+    figure, grid = pyplot.subplots(2, 6, figsize=(16, 6), **shared)
     style = {'color': COLOURS[True], 'alpha': 0.55, 'linewidth': 1.2}
     style |= {'marker': 'o', 'markersize': 3}
     panels = list(grid.flat)
