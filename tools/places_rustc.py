@@ -30,7 +30,7 @@ def format_string(source):
     return '"%s%s%s"' % (some(source, PIECES, 8), source.choice(('}', '{!}')), some(source, ['a', '\\n', 'é'], 2))
 
 
-def told_by_rustc(literals):
+def named_by_rustc(literals):
     """For each literal the bytes that rustc's error names, from the literal's first on."""
     text, places = 'fn main() {\n', []
     for literal in literals:
@@ -81,18 +81,18 @@ def main():
     asked = ''.join(f'places {literal.encode().hex()}\n' for literal in literals)
     answers = subprocess.run([options.lines], input=asked, capture_output=True, text=True, check=True).stdout.splitlines()
     agree = differ = whole = 0
-    for literal, told, line in zip(literals, told_by_rustc(literals), answers):
+    for literal, named, line in zip(literals, named_by_rustc(literals), answers):
         answer = json.loads(line)
         brace = brace_of(value_of(answer))
         # Of a brace that opens, rustc names the place after it, of what doesn't fit.
         wanted = [place[0] for place in answer['places'][brace:brace + 2]]
-        if told and told[0] in wanted:
+        if named and named[0] in wanted:
             agree += 1
-        elif told == (0, len(literal.encode())):
+        elif named == (0, len(literal.encode())):
             whole += 1
         else:
             differ += 1
-            print(f'{literal!r}: rustc {told}, the places {wanted}')
+            print(f'{literal!r}: rustc {named}, the places {wanted}')
     print(f'{agree} agree, {differ} differ, {whole} whole')
     sys.exit(1 if differ else 0)
 

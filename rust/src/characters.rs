@@ -44,17 +44,22 @@ pub struct LitChar<'t> {
 literal_type!(LitChar, Char { suffix_at, value }, "\"'a'_s\"", "\"_s\"");
 quoted_type!(LitChar, r#"r"'\n'""#, "1..3", "3");
 
+/// Where the parts of a literal of this kind stand, whose last apostrophe stands before the suffix.
+fn parts_of(kind: Kind, suffix_at: usize) -> Body {
+    Body {
+        lo: kind.opener().len(),
+        hi: suffix_at - 1,
+        suffix_at,
+        plain: false,
+    }
+}
+
 impl<'t> LitByte<'t> {
     const KIND: Kind = Kind::Byte;
 
     /// Where its parts stand.
     fn parts(&self) -> Body {
-        Body {
-            lo: Self::KIND.opener().len(),
-            hi: self.suffix_at - 1,
-            suffix_at: self.suffix_at,
-            plain: false,
-        }
+        parts_of(Self::KIND, self.suffix_at)
     }
 
     /// The literal of this text; the number is the byte that it stands for.
@@ -88,12 +93,7 @@ impl<'t> LitChar<'t> {
 
     /// Where its parts stand.
     fn parts(&self) -> Body {
-        Body {
-            lo: Self::KIND.opener().len(),
-            hi: self.suffix_at - 1,
-            suffix_at: self.suffix_at,
-            plain: false,
-        }
+        parts_of(Self::KIND, self.suffix_at)
     }
 
     /// The literal of this text; the number is that of the character that it stands for.

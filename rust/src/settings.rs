@@ -93,7 +93,8 @@ impl SettingsErrorKind {
             LexKind::StrayCharacter => SettingsErrorKind::StrayCharacter,
             LexKind::UnmatchedClose => SettingsErrorKind::UnmatchedClose,
             LexKind::UnclosedGroup => SettingsErrorKind::UnclosedGroup,
-            LexKind::TooDeep | LexKind::Memory => SettingsErrorKind::TooDeep,
+            LexKind::TooDeep => SettingsErrorKind::TooDeep,
+            LexKind::Memory => unreachable!(),
         }
     }
 }
@@ -211,8 +212,8 @@ fn check_groups(text: &str) -> Result<(), SettingsError> {
             },
         }
     }
-    if let Some(fault) = tokens.fault() {
-        return Err(error(fault.kind, fault.at));
+    if let Some(cause) = tokens.fault() {
+        return Err(error(cause.kind, cause.at));
     }
     match open.pop() {
         Some((_, at)) => Err(error(LexKind::UnclosedGroup, at)),

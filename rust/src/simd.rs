@@ -1,7 +1,7 @@
 //! The part of `core::simd`, which stable Rust doesn't have, that the proved code uses: lanes of bytes, eight in a number.
 //!
 //! Of sixty-four lanes the compiler makes vector instructions, where the target has some; of fewer it makes instructions on
-//! 64 bits, the same everywhere. Loops count by themselves, which costs least where nothing is optimized.
+//! 64 bits, the same everywhere.
 
 use core::marker::PhantomData;
 use core::ops::{BitAnd, BitOr, Sub};
@@ -14,6 +14,19 @@ const HIGHEST: u64 = LOWEST << 7;
 
 /// What moves the lowest bits into the highest byte, in their order.
 const GATHER: u64 = 0x0102_0408_1020_4080;
+
+/// The numbers that hold N lanes, each made of its index. The loop counts by itself, which costs least where nothing is optimized.
+macro_rules! eights {
+    ($lanes:ident, $at:ident => $eight:expr) => {{
+        let mut eights = [0; 8];
+        let mut $at = 0;
+        while $at < $lanes / 8 {
+            eights[$at] = $eight;
+            $at += 1;
+        }
+        eights
+    }};
+}
 
 /// N lanes of bytes, the first of these; N is 8, 16 or more by eights, up to 64.
 #[derive(Clone, Copy)]
@@ -33,14 +46,11 @@ impl<const N: usize> Simd<u8, N> {
     pub(crate) fn from_slice(bytes: &[u8]) -> Self {
         const { assert!(N % 8 == 0 && N <= 64) };
         let bytes = &bytes[..N];
-        let mut lanes = [0; 8];
-        let mut at = 0;
-        while at < N / 8 {
+        let lanes = eights!(N, at => {
             let mut eight = [0; 8];
             eight.copy_from_slice(&bytes[8 * at..8 * at + 8]);
-            lanes[at] = u64::from_le_bytes(eight);
-            at += 1;
-        }
+            u64::from_le_bytes(eight)
+        });
         Simd(lanes, PhantomData)
     }
 
@@ -53,40 +63,27 @@ impl<const N: usize> Simd<u8, N> {
     /// Where the lanes of both are equal: where nothing is left of their difference, so that no carry reaches the highest bit.
     #[inline(always)]
     pub(crate) fn simd_eq(self, other: Self) -> Mask<N> {
-        let mut set = [0; 8];
-        let mut at = 0;
-        while at < N / 8 {
+        Mask(eights!(N, at => {
             let left = self.0[at] ^ other.0[at];
-            set[at] = !(((left & !HIGHEST) + !HIGHEST) | left);
-            at += 1;
-        }
-        Mask(set)
+            !(((left & !HIGHEST) + !HIGHEST) | left)
+        }))
     }
 
     /// Where the lanes of both differ.
     #[inline(always)]
     pub(crate) fn simd_ne(self, other: Self) -> Mask<N> {
-        let mut set = self.simd_eq(other).0;
-        let mut at = 0;
-        while at < N / 8 {
-            set[at] = !set[at];
-            at += 1;
-        }
-        Mask(set)
+        let equal = self.simd_eq(other).0;
+        Mask(eights!(N, at => !equal[at]))
     }
 
     /// Where this side's lane is the greater one, or equal: by the highest bits, and where these are one by the others.
     #[inline(always)]
     pub(crate) fn simd_ge(self, other: Self) -> Mask<N> {
-        let mut set = [0; 8];
-        let mut at = 0;
-        while at < N / 8 {
+        Mask(eights!(N, at => {
             let (a, b) = (self.0[at], other.0[at]);
             let rest = (a | HIGHEST) - (b & !HIGHEST);
-            set[at] = (a & !b) | (!(a ^ b) & rest);
-            at += 1;
-        }
-        Mask(set)
+            (a & !b) | (!(a ^ b) & rest)
+        }))
     }
 }
 
@@ -95,13 +92,7 @@ impl<const N: usize> BitOr for Simd<u8, N> {
 
     #[inline(always)]
     fn bitor(self, other: Self) -> Self {
-        let mut lanes = self.0;
-        let mut at = 0;
-        while at < N / 8 {
-            lanes[at] |= other.0[at];
-            at += 1;
-        }
-        Simd(lanes, PhantomData)
+        Simd(eights!(N, at => self.0[at] | other.0[at]), PhantomData)
     }
 }
 
@@ -111,15 +102,12 @@ impl<const N: usize> Sub for Simd<u8, N> {
 
     #[inline(always)]
     fn sub(self, other: Self) -> Self {
-        let mut lanes = self.0;
-        let mut at = 0;
-        while at < N / 8 {
+        let lanes = eights!(N, at => {
             let (a, b) = (self.0[at], other.0[at]);
             // The highest bits are left out, so that no borrow passes from lane to lane, and then put right.
             let rest = (a | HIGHEST) - (b & !HIGHEST);
-            lanes[at] = rest ^ ((a ^ !b) & HIGHEST);
-            at += 1;
-        }
+            rest ^ ((a ^ !b) & HIGHEST)
+        });
         Simd(lanes, PhantomData)
     }
 }
@@ -129,13 +117,7 @@ impl<const N: usize> BitAnd for Mask<N> {
 
     #[inline(always)]
     fn bitand(self, other: Self) -> Self {
-        let mut set = self.0;
-        let mut at = 0;
-        while at < N / 8 {
-            set[at] &= other.0[at];
-            at += 1;
-        }
-        Mask(set)
+        Mask(eights!(N, at => self.0[at] & other.0[at]))
     }
 }
 
@@ -144,13 +126,7 @@ impl<const N: usize> BitOr for Mask<N> {
 
     #[inline(always)]
     fn bitor(self, other: Self) -> Self {
-        let mut set = self.0;
-        let mut at = 0;
-        while at < N / 8 {
-            set[at] |= other.0[at];
-            at += 1;
-        }
-        Mask(set)
+        Mask(eights!(N, at => self.0[at] | other.0[at]))
     }
 }
 
