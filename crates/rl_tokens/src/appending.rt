@@ -2,10 +2,11 @@
 
 ghost use Rattle.std.specs.Prelude.{◌≡◌, ◌++◌, ◌∷◌, [], OnOk, OnErr, IfErr};
 ghost use Rattle.rl_tokens.specs.Errors.{memory_at};
-ghost use Rattle.rl_tokens.specs.Trees.{IdentTree, LiteralTree, token_tree_span, tree_view, stream_view};
+ghost use Rattle.rl_tokens.specs.Trees.{IdentTree, LiteralTree, stream_view};
 
 use crate::error::Error;
 use crate::ident::Ident;
+use crate::kept::Kept;
 use crate::literal::Literal;
 use crate::token::{TokenStream, TokenTree};
 use std::alloc::Allocator;
@@ -25,39 +26,31 @@ pub fn append_literal<A: Allocator, B: Allocator>(
     ensures unchanged { OnErr result (stream_view tokens.new ≡ stream_view tokens.old) }
     ensures memory { IfErr result (λ e. e ≡ memory_at token.now.span) }
 {
-    match token.clone(alloc) {
-        Ok(copy) => append_tree(TokenTree::Literal(copy), tokens),
-        Err(error) => Err(error),
-    }
+    let copy = token.clone(alloc)?;
+    tokens.append(TokenTree::Literal(copy))?;
+    Ok(())
 }
 
 /// Puts the identifier last.
 ///
 /// # Errors
 ///
-/// `Memory` at the identifier's span. The stream stays.
+/// `Memory` at the identifier's span. The stream stays, and the identifier is handed back.
 pub fn append_ident<A: Allocator>(
     ident: Ident<A>,
     tokens: &mut TokenStream<A>,
-) -> Result<(), Error<A>>
+) -> Result<(), Kept<Ident<A>, A>>
     ensures ok { OnOk result
         (stream_view tokens.new ≡ stream_view tokens.old ++ IdentTree ident ∷ []) }
     ensures unchanged { OnErr result (stream_view tokens.new ≡ stream_view tokens.old) }
-    ensures memory { IfErr result (λ e. e ≡ memory_at ident.span) }
+    ensures kept { IfErr result (λ kept. kept.value ≡ ident) }
+    ensures memory { IfErr result (λ kept. kept.error ≡ memory_at ident.span) }
 {
-    append_tree(TokenTree::Ident(ident), tokens)
-}
-
-/// Puts the tree last. Where an allocation fails, the tree is dropped.
-fn append_tree<A: Allocator>(
-    tree: TokenTree<A>,
-    tokens: &mut TokenStream<A>,
-) -> Result<(), Error<A>>
-    ensures ok { OnOk result
-        (stream_view tokens.new ≡ stream_view tokens.old ++ tree_view tree ∷ []) }
-    ensures unchanged { OnErr result (stream_view tokens.new ≡ stream_view tokens.old) }
-    ensures memory { IfErr result (λ e. e ≡ memory_at (token_tree_span tree)) }
-{
-    tokens.append(tree)?;
-    Ok(())
+    let Err(Kept { value, error }) = tokens.append(TokenTree::Ident(ident)) else {
+        return Ok(());
+    };
+    match value {
+        TokenTree::Ident(value) => Err(Kept { value, error }),
+        _ => unreachable!(),
+    }
 }

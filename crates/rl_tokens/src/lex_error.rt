@@ -1,6 +1,7 @@
 //! What the lexer rejects.
 
 ghost use Rattle.std.specs.Prelude.{◌≡◌, Some};
+ghost use Rattle.std.specs.Fmt.{padded};
 ghost use Rattle.rl_tokens.specs.LexErrors.{lex_message};
 
 use std::fmt;
@@ -77,9 +78,10 @@ impl LexKind {
 impl fmt::Display for LexKind {
     ghost output = { λ kind. Some (lex_message kind) };
 
+    ghost styled_output = { λ kind spec. Some (padded spec (lex_message kind)) };
+
     fn fmt<W: fmt::Write>(&self, f: &mut fmt::Formatter<W>) -> fmt::Result {
-        let words = self.words();
-        write!(f, "{words}")
+        f.pad(self.words())
     }
 }
 

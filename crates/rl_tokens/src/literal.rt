@@ -1,6 +1,7 @@
 //! Literal tokens.
 
 ghost use Rattle.std.specs.Prelude.{◌≡◌, ◌∷◌, IfOk, IfErr, Some, string_bytes};
+ghost use Rattle.std.specs.Fmt.{padded};
 ghost use Rattle.rl_tokens.specs.Errors.{memory_at};
 
 use crate::error::Error;
@@ -144,7 +145,9 @@ fn text_behind_minus<A: Allocator>(alloc: A, text: &str) -> Result<String<A>, Al
 impl<A: Allocator> fmt::Display for Literal<A> {
     ghost output = { λ literal. Some literal.text };
 
+    ghost styled_output = { λ literal spec. Some (padded spec literal.text) };
+
     fn fmt<W: fmt::Write>(&self, f: &mut fmt::Formatter<W>) -> fmt::Result {
-        f.write_str(self.text.as_str())
+        f.pad(self.text.as_str())
     }
 }

@@ -90,6 +90,7 @@ impl ToTokens for LitBool {
         ensures unchanged { OnErr result (stream_view tokens.new ≡ stream_view tokens.old) }
         ensures memory { IfErr result (λ e. e ≡ memory_at self.now.span) }
     {
-        append_ident(self.token(alloc)?, tokens)
+        append_ident(self.token(alloc)?, tokens)?;
+        Ok(())
     }
 }
