@@ -1,33 +1,21 @@
 -- What a writer has written so far, from its opener on.
-use Rattle.std.proofs.Common.{◌≡◌, ◌<◌, ◌+◌, ◌/◌, ◌%◌, ℕ, Bool, true, false, arith, List, [], ◌∷◌, ◌++◌, map, length, take, refl, sym, ap, subst, ◌≤◌, ◌∙◌, append_assoc, append-nil, length-take}
-use Rattle.std.specs.Prelude.{nat_lt, encode_utf8, encode_utf8_all}
-use Rattle.std.specs.Str.{chars, IsUtf8}
-use Rattle.std.specs.Bool.{if◌then◌else◌}
+use Rattle.std.proofs.Common.{◌≡◌, ◌<◌, ℕ, zero, suc, arith, List, [], ◌∷◌, ◌++◌, map, length, take, refl, sym, ap, subst, ◌≤◌, ◌∙◌, append_assoc, append-nil, length-take}
+use Rattle.std.specs.Prelude.{encode_utf8, encode_utf8_all}
+use Rattle.std.specs.Str.{chars, IsAscii, IsUtf8}
 use Rattle.std.specs.String.Boundary.{IsSplitPoint}
 use Rattle.std.proofs.Math.Seq.{take-append_seam}
-use Rattle.std.proofs.lemmas.Str.{encode_ascii, encodes-append, encodes-chars, chars_from_encodes, chars_past_char, chars-nil, IsUtf8-nil, IsCharBoundary-from_take}
+use Rattle.std.proofs.lemmas.Str.{encodes-append, encodes-chars, chars_from_encodes, chars_past_char, chars-nil, IsUtf8-nil, IsCharBoundary-from_take}
 use Rattle.rl_tokens.specs.declared.kind.Kind.{Kind}
 use Rattle.rl_tokens.specs.declared.kind.Kind.TheVariants.{Str, ByteStr, CStr, Byte, Char, Int, Float, Bool as BoolKind}
-use Rattle.rl_tokens.specs.Quoted.{Hex, Plain, opener, unit_text, texts}
-use Rattle.rl_tokens.specs.Written.{closer, upper_digit, written_unit, written_text}
+use Rattle.rl_tokens.specs.Quoted.{opener, unit_text, texts}
+use Rattle.rl_tokens.specs.Written.{closer, written_unit, written_text}
 
-digit_low : (n : ℕ) → n < 16 → upper_digit n < 128
-digit_low n h = go (nat_lt n 10)
-  where
-    go : (b : Bool) → (if b then 48 + n else 55 + n) < 128
-    go true = omega (arith, h)
-    go false = omega (arith, h)
+pub ascii_nil : IsAscii []
+ascii_nil i = omega arith
 
--- what is written as a number is a backslash, `x` and two digits
-pub numbered : (k : Kind) (c : ℕ) (test : Bool) → written_unit k c ≡ (if test then Hex (upper_digit (c / 16)) (upper_digit (c % 16)) else Plain c) → test ≡ true → c < 256 → encode_utf8_all (unit_text (written_unit k c)) ≡ 92 ∷ 120 ∷ upper_digit (c / 16) ∷ upper_digit (c % 16) ∷ []
-numbered k c test unit is byte =
-    let high = upper_digit (c / 16) in
-    let low = upper_digit (c % 16) in
-    ap (λ u. encode_utf8_all (unit_text u)) (unit ∙ ap (λ b. if b then Hex high low else Plain c) is)
-    ∙ ap (λ z. z ++ encode_utf8_all (120 ∷ high ∷ low ∷ [])) (encode_ascii 92 (omega arith))
-    ∙ ap (λ z. 92 ∷ (z ++ encode_utf8_all (high ∷ low ∷ []))) (encode_ascii 120 (omega arith))
-    ∙ ap (λ z. 92 ∷ 120 ∷ (z ++ encode_utf8_all (low ∷ []))) (encode_ascii high (digit_low (c / 16) (omega (arith, byte))))
-    ∙ ap (λ z. 92 ∷ 120 ∷ high ∷ (z ++ [])) (encode_ascii low (digit_low (c % 16) (omega arith)))
+pub ascii_cons : (c : ℕ) (cs : List ℕ) → c < 128 → IsAscii cs → IsAscii (c ∷ cs)
+ascii_cons c cs h rest zero = h
+ascii_cons c cs h rest (suc i) = rest i
 
 -- the bytes of one character spell it
 pub one_character : (c : ℕ) (bytes : List ℕ) → IsUtf8 bytes → bytes ≡ encode_utf8 c → chars bytes ≡ c ∷ []

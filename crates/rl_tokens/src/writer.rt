@@ -1,7 +1,8 @@
 //! How values are written as literals.
 
-ghost use Rattle.std.specs.Prelude.{◌≡◌, ◌⊎◌, ◌<◌, ◌/◌, ◌%◌, ◌++◌, ◌∷◌, [], length, take, is_ok, IsTrue, if◌then◌else◌, OnOk, OnErr, IfOk, IfErr, IfSome, IfNone, MatchResult, string_bytes, encode_utf8_all};
+ghost use Rattle.std.specs.Prelude.{◌≡◌, ◌⊎◌, ◌<◌, ◌/◌, ◌%◌, ◌++◌, ◌∷◌, [], ◌≤◌, length, take, is_ok, IsTrue, if◌then◌else◌, OnOk, OnErr, IfOk, IfErr, IfSome, IfNone, MatchResult, string_bytes, encode_utf8_all};
 ghost use Rattle.std.specs.Str.{chars};
+ghost use Rattle.rl_tokens.specs.Texts.{code};
 ghost use Rattle.rl_tokens.specs.Quoted.{Hex, Plain, holds_characters, unit_text};
 ghost use Rattle.rl_tokens.specs.Written.{closer, own_quote, upper_digit, is_written_as_number, written_text, written_unit, IsWrittenForm};
 ghost use Rattle.rl_tokens.specs.Agreeing.{AreBytesOf, IsQuotedValue};
@@ -38,7 +39,7 @@ fn escaped_closer(kind: Kind) -> &'static str
 /// What a character or a byte is written as in a literal of the kind, where that is a backslash and one character.
 #[inline(always)]
 #[tactic(auto, unfolding(crate::specs::Written::written_unit))]
-pub(crate) fn escaped(kind: Kind, c: char) -> Option<&'static str>
+fn named_escape(kind: Kind, c: char) -> Option<&'static str>
     ensures some { IfSome result
         (λ text. text.now ≡ encode_utf8_all (unit_text (written_unit kind c))) }
     ensures two { IfSome result (λ text. length text.now ≡ 2) }
@@ -57,38 +58,54 @@ pub(crate) fn escaped(kind: Kind, c: char) -> Option<&'static str>
 }
 
 /// Whether a character is written by its number.
-pub(crate) fn is_written_as_number(kind: Kind, c: char) -> bool
+fn is_written_as_number(kind: Kind, c: char) -> bool
     ensures { result ≡ is_written_as_number kind c }
 {
     c < ' ' || c == '\u{7f}' || ('\u{7f}' < c && !kind.holds_characters())
 }
 
 /// A hexadecimal digit in upper case.
-pub(crate) fn upper_digit(digit: u32) -> char
+fn upper_digit(digit: u32) -> u8
     requires { digit < 16 }
     ensures value { result ≡ upper_digit digit }
     ensures ascii { result < 128 }
 {
-    let code = digit as u8;
-    if code < 10 {
-        (b'0' + code) as char
+    let digit = digit as u8;
+    if digit < 10 {
+        b'0' + digit
     } else {
-        (b'A' + (code - 10)) as char
+        b'A' + (digit - 10)
     }
 }
 
-/// Appends `\x` and two digits, or nothing where an allocation fails.
-fn push_number<A: Allocator>(out: &mut String<A>, code: u32) -> Result<(), AllocError>
-    requires { code < 256 }
-    ensures { string_bytes out.new ≡ (if is_ok result
-        then string_bytes out.old
-        ++ 92 ∷ 120 ∷ upper_digit (code / 16) ∷ upper_digit (code % 16) ∷ []
-        else string_bytes out.old) }
+/// `\x` and two digits, which then stand in the room.
+fn number(c: u32, room: &mut [u8; 4]) -> &str
+    requires { c < 256 }
+    ensures { result.now
+        ≡ code "\\" ∷ code "x" ∷ upper_digit (c / 16) ∷ upper_digit (c % 16) ∷ [] }
 {
-    out.reserve(4)?;
-    out.push_str("\\x")?;
-    out.push(upper_digit(code / 16))?;
-    out.push(upper_digit(code % 16))
+    *room = [b'\\', b'x', upper_digit(c / 16), upper_digit(c % 16)];
+    match std::str::from_utf8(room) {
+        Ok(text) => text,
+        Err(_) => unreachable!(),
+    }
+}
+
+/// What a character or a byte is written as in a literal of the kind; `None` where it stands for itself. A number then
+/// stands in the room.
+#[inline(always)]
+pub(crate) fn escape(kind: Kind, c: char, room: &mut [u8; 4]) -> Option<&str>
+    requires { IsTrue (holds_characters kind) ⊎ (c < 256) }
+    ensures some { IfSome result
+        (λ text. text.now ≡ encode_utf8_all (unit_text (written_unit kind c))) }
+    ensures short { IfSome result (λ text. length text.now ≤ 4) }
+    ensures none { IfNone result (written_unit kind c ≡ Plain c) }
+{
+    match named_escape(kind, c) {
+        Some(text) => Some(text),
+        None if is_written_as_number(kind, c) => Some(number(c as u32, room)),
+        None => None,
+    }
 }
 
 /// Appends a character or a byte as it stands in a literal of the kind, or nothing where an allocation fails.
@@ -98,9 +115,8 @@ fn push_written<A: Allocator>(out: &mut String<A>, kind: Kind, c: char) -> Resul
         then string_bytes out.old ++ encode_utf8_all (unit_text (written_unit kind c))
         else string_bytes out.old) }
 {
-    match escaped(kind, c) {
+    match escape(kind, c, &mut [0; 4]) {
         Some(text) => out.push_str(text),
-        None if is_written_as_number(kind, c) => push_number(out, c as u32),
         None => out.push(c),
     }
 }

@@ -1,31 +1,15 @@
 //! How values are written as literals into a slice that the caller passes: the forms of `writer`, and no memory is taken.
 
-ghost use Rattle.std.specs.Prelude.{◌≡◌, ◌⊎◌, ◌≤◌, ◌<◌, ◌+◌, ◌*◌, ◌/◌, ◌%◌, ◌++◌, [], ◌∷◌, IsTrue, length, take, encode_utf8, encode_utf8_all};
+ghost use Rattle.std.specs.Prelude.{◌≡◌, ◌⊎◌, ◌≤◌, ◌<◌, ◌+◌, ◌*◌, ◌++◌, [], ◌∷◌, IsTrue, length, take, encode_utf8_all};
 ghost use Rattle.std.specs.Str.{chars, IsUtf8};
 ghost use Rattle.rl_tokens.specs.Quoted.{holds_characters, unit_text};
-ghost use Rattle.rl_tokens.specs.Written.{upper_digit, written_unit, IsWrittenForm};
+ghost use Rattle.rl_tokens.specs.Written.{written_unit, IsWrittenForm};
 ghost use Rattle.rl_tokens.specs.Agreeing.{AreBytesOf};
 
 use crate::kind::Kind;
 use crate::room::{put_char, put_text};
 use crate::text::split_char;
-use crate::writer::{closer, escaped, is_written_as_number, upper_digit};
-
-/// Puts `\x` and two digits there.
-fn put_number(out: &mut [u8], at: usize, code: u32) -> usize
-    requires code { code < 256 }
-    requires room { at + 4 ≤ length out.old }
-    ensures end { result ≡ at + 4 }
-    ensures bytes { take result out.new
-        ≡ take at out.old
-        ++ 92 ∷ 120 ∷ upper_digit (code / 16) ∷ upper_digit (code % 16) ∷ [] }
-    ensures utf8 { IsUtf8 (take at out.old) → IsUtf8 (take result out.new) }
-    ensures len { length out.new ≡ length out.old }
-{
-    let at = put_text(out, at, "\\x");
-    let at = put_char(out, at, upper_digit(code / 16));
-    put_char(out, at, upper_digit(code % 16))
-}
+use crate::writer::{closer, escape};
 
 /// Puts a character or a byte there as it stands in a literal of the kind.
 fn put_written(out: &mut [u8], at: usize, kind: Kind, c: char) -> usize
@@ -37,9 +21,8 @@ fn put_written(out: &mut [u8], at: usize, kind: Kind, c: char) -> usize
     ensures utf8 { IsUtf8 (take at out.old) → IsUtf8 (take result out.new) }
     ensures len { length out.new ≡ length out.old }
 {
-    match escaped(kind, c) {
+    match escape(kind, c, &mut [0; 4]) {
         Some(text) => put_text(out, at, text),
-        None if is_written_as_number(kind, c) => put_number(out, at, c as u32),
         None => put_char(out, at, c),
     }
 }

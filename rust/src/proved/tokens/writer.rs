@@ -21,7 +21,7 @@ fn escaped_closer(kind: Kind) -> &'static str {
 
 /// What a character or a byte is written as in a literal of the kind, where that is a backslash and one character.
 #[inline(always)]
-pub(crate) fn escaped(kind: Kind, c: char) -> Option<&'static str> {
+fn named_escape(kind: Kind, c: char) -> Option<&'static str> {
     match c {
         '\0' => Some("\\0"),
         '\t' => Some("\\t"),
@@ -34,16 +34,36 @@ pub(crate) fn escaped(kind: Kind, c: char) -> Option<&'static str> {
 }
 
 /// Whether a character is written by its number.
-pub(crate) fn is_written_as_number(kind: Kind, c: char) -> bool {
+fn is_written_as_number(kind: Kind, c: char) -> bool {
     c < ' ' || c == '\u{7f}' || ('\u{7f}' < c && !kind.holds_characters())
 }
 
 /// A hexadecimal digit in upper case.
-pub(crate) fn upper_digit(digit: u32) -> char {
-    let code = digit as u8;
-    if code < 10 {
-        (b'0' + code) as char
+fn upper_digit(digit: u32) -> u8 {
+    let digit = digit as u8;
+    if digit < 10 {
+        b'0' + digit
     } else {
-        (b'A' + (code - 10)) as char
+        b'A' + (digit - 10)
+    }
+}
+
+/// `\x` and two digits, which then stand in the room.
+fn number(c: u32, room: &mut [u8; 4]) -> &str {
+    *room = [b'\\', b'x', upper_digit(c / 16), upper_digit(c % 16)];
+    match core::str::from_utf8(room) {
+        Ok(text) => text,
+        Err(_) => unreachable!(),
+    }
+}
+
+/// What a character or a byte is written as in a literal of the kind; `None` where it stands for itself. A number then
+/// stands in the room.
+#[inline(always)]
+pub(crate) fn escape(kind: Kind, c: char, room: &mut [u8; 4]) -> Option<&str> {
+    match named_escape(kind, c) {
+        Some(text) => Some(text),
+        None if is_written_as_number(kind, c) => Some(number(c as u32, room)),
+        None => None,
     }
 }

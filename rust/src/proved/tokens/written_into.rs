@@ -4,20 +4,12 @@
 use crate::tokens::kind::Kind;
 use crate::tokens::room::{put_char, put_text};
 use crate::tokens::text::split_char;
-use crate::tokens::writer::{closer, escaped, is_written_as_number, upper_digit};
-
-/// Puts `\x` and two digits there.
-fn put_number(out: &mut [u8], at: usize, code: u32) -> usize {
-    let at = put_text(out, at, "\\x");
-    let at = put_char(out, at, upper_digit(code / 16));
-    put_char(out, at, upper_digit(code % 16))
-}
+use crate::tokens::writer::{closer, escape};
 
 /// Puts a character or a byte there as it stands in a literal of the kind.
 fn put_written(out: &mut [u8], at: usize, kind: Kind, c: char) -> usize {
-    match escaped(kind, c) {
+    match escape(kind, c, &mut [0; 4]) {
         Some(text) => put_text(out, at, text),
-        None if is_written_as_number(kind, c) => put_number(out, at, c as u32),
         None => put_char(out, at, c),
     }
 }

@@ -1,7 +1,7 @@
 use Rattle.rl_tokens.specs.Written.{written_unit}
 use Rattle.std.proofs.lemmas.Grind.{common_steps}
 use Rattle.std.proofs.Common.{arith}
-use Rattle.rl_tokens.proofs.writer.escaped.Goals as goal
+use Rattle.rl_tokens.proofs.writer.named_escape.Goals as goal
 
 pub returns-in-0-clause-some : goal.returns-in-0-clause-some
 unfolding written_unit
