@@ -61,6 +61,14 @@ behind_slash c = cond (is_punct c) MarkHead (behind_punct c)
 abbrev pub after_delimiter : ℕ → HeadClass
 after_delimiter c = cond (c == 47) SlashHead (behind_slash c)
 
+-- what is none of these
+pub stray_class : (c : ℕ) → is_start c ≡ false → is_among delimiters c ≡ false → (c == 47) ≡ false → is_among marks c ≡ false → is_ascii_digit c ≡ false → (c == 34) ≡ false → (c == 39) ≡ false → head_class c ≡ StrayHead
+stray_class c start delimiter slash mark digit quote apostrophe =
+    class_other c start ∙ none (is_among delimiters c) (c == 47) (is_among marks c) (is_ascii_digit c) (c == 34) (c == 39) delimiter slash mark digit quote apostrophe
+  where
+    none : (d s m n q a : Bool) → d ≡ false → s ≡ false → m ≡ false → n ≡ false → q ≡ false → a ≡ false → cond d DelimiterHead (cond s SlashHead (cond (m || s) MarkHead (cond n DigitHead (cond q QuoteHead (cond a ApostropheHead StrayHead))))) ≡ StrayHead
+    none d s m n q a d0 s0 m0 n0 q0 a0 = rw (d0, s0, m0, n0, q0, a0) refl
+
 pub class34 : head_class 34 ≡ QuoteHead
 class34 = class_other 34 (start_ascii 34 (lit< tt))
 

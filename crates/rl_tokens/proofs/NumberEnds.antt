@@ -5,16 +5,22 @@ use Rattle.rl_tokens.proofs.Comments.{false_unless}
 use Rattle.std.specs.Char.{is_ascii, is_ascii_digit}
 use Rattle.rl_tokens.specs.Texts.{is_underscore, first_passes, is_row_part}
 use Rattle.rl_tokens.specs.Lexemes.{LiteralForm, is_base_letter, is_start, is_continue}
-use Rattle.rl_tokens.specs.Mirrors.LexemeAt.{DigitHead, QuoteHead, literal_at, quoted_at, after_digit, after_suffix, after_lexed_exponent, after_lexed_fraction, after_decimal, lexeme_at, after_sign}
+use Rattle.rl_tokens.specs.Mirrors.LexemeAt.{DigitHead, QuoteHead, ApostropheHead, SlashHead, by_class, literal_at, quoted_at, single_at, after_digit, after_suffix, after_lexed_exponent, after_lexed_fraction, after_decimal, lexeme_at, after_sign}
 use Rattle.rl_tokens.specs.Classes.{after_run}
 use Rattle.rl_tokens.proofs.LexemeRows.{neither_true, not_among}
-use Rattle.rl_tokens.proofs.LexemeFronts.{at_class, class34, class_digit, start_ascii}
+use Rattle.rl_tokens.proofs.LexemeFronts.{at_class, class34, class39, class47, class_digit, start_ascii}
 
 pub digit_first : (s t : List ℕ) (d : ℕ) → s ≡ d ∷ t → is_ascii_digit d ≡ true → lexeme_at s ≡ Some (LiteralForm, after_digit d t)
 digit_first s t d e is = ap lexeme_at e ∙ at_class d t DigitHead (class_digit d is)
 
 pub quote_first : (s t : List ℕ) (b : ℕ) → s ≡ b ∷ t → b ≡ 34 → lexeme_at s ≡ literal_at (quoted_at t)
 quote_first s t b e is = ap lexeme_at e ∙ ap (λ x. lexeme_at (x ∷ t)) is ∙ at_class 34 t QuoteHead class34
+
+pub apostrophe_first : (s t : List ℕ) (b : ℕ) → s ≡ b ∷ t → b ≡ 39 → lexeme_at s ≡ literal_at (single_at t)
+apostrophe_first s t b e is = ap lexeme_at e ∙ ap (λ x. lexeme_at (x ∷ t)) is ∙ at_class 39 t ApostropheHead class39
+
+pub slash_first : (s t : List ℕ) (b : ℕ) → s ≡ b ∷ t → b ≡ 47 → lexeme_at s ≡ by_class SlashHead 47 t
+slash_first s t b e is = ap lexeme_at e ∙ ap (λ x. lexeme_at (x ∷ t)) is ∙ at_class 47 t SlashHead class47
 
 -- neither a dot nor an identifier's start
 abbrev pub goes_on_none : ℕ → Bool

@@ -1,10 +1,9 @@
 -- A text of gaps and items is cut where they meet.
-use Rattle.std.proofs.Common.{◌≡◌, ℕ, ◌+◌, inl, inr, Bool, true, false, not, ◌&&◌, ◌||◌, ◌==◌, cond, List, [], ◌∷◌, ◌++◌, map, length, Some, None, refl, sym, ◌∙◌, ap, subst, arith, append-nil, lit<}
+use Rattle.std.proofs.Common.{◌≡◌, ℕ, ◌+◌, inl, inr, Bool, true, false, not, ◌&&◌, ◌||◌, ◌==◌, List, [], ◌∷◌, ◌++◌, map, length, Some, None, refl, sym, ◌∙◌, ap, subst, arith, append-nil, lit<}
 use Rattle.std.specs.Prelude.{⊤}
 use Rattle.std.specs.Option.{option_and_then}
 use Rattle.std.specs.Str.{encode_utf8_all}
 use Rattle.std.specs.List.{AllByRecursion, list_all}
-use Rattle.std.specs.Char.{is_ascii_digit}
 use Rattle.std.proofs.lemmas.Option.{none-some}
 use Rattle.std.proofs.lemmas.Str.{encode_ascii}
 use Rattle.unicode_ident.specs.Ident.{is_xid_start}
@@ -12,7 +11,7 @@ use Rattle.rl_tokens.specs.Texts.{is_white, is_among, byte_len}
 use Rattle.rl_tokens.specs.Trivia.{White, Line, Block, IsTrivia}
 use Rattle.rl_tokens.specs.Skipping.{BeginsTrivia}
 use Rattle.rl_tokens.specs.Lexemes.{delimiters, marks, Lexeme, IdentifierLexeme, MarkLexeme, lexeme_text, IsLexeme, LiteralForm, form_of}
-use Rattle.rl_tokens.specs.Mirrors.LexemeAt.{DelimiterHead, MarkHead, SlashHead, DigitHead, QuoteHead, ApostropheHead, StrayHead, head_class, lexeme_at}
+use Rattle.rl_tokens.specs.Mirrors.LexemeAt.{SlashHead, StrayHead, head_class, lexeme_at}
 use Rattle.rl_tokens.specs.Trees.{Tree, PunctTree, LiteralTree, flat, flat_trees}
 use Rattle.rl_tokens.specs.Lexing.{LexedToken, LexesUpTo, OpenGroup, after_form, open_groups, flat_form, flat_token, Lexes}
 use Rattle.rl_tokens.specs.Printed.{Item, WordItem, LiteralItem, MinusItem, item_text, Entry, printed_text, token_at}
@@ -20,7 +19,7 @@ use Rattle.rl_tokens.specs.PrintedTrees.{item_trees, printed_trees}
 use Rattle.rl_tokens.proofs.Comments.{false_unless}
 use Rattle.rl_tokens.proofs.Pieces.{stops-from_none}
 use Rattle.rl_tokens.proofs.LexemeRows.{not_true, not_among}
-use Rattle.rl_tokens.proofs.LexemeFronts.{lexeme_at-past, class_other, class47, at_class, among}
+use Rattle.rl_tokens.proofs.LexemeFronts.{lexeme_at-past, stray_class, class47, at_class, among}
 use Rattle.rl_tokens.proofs.LexemeGaps.{and_false, digit_solid}
 use Rattle.rl_tokens.proofs.CutLemmas.{byte_len-append}
 
@@ -30,15 +29,8 @@ not_white_among codes c all w = false_unless (is_among codes c) (λ h. let k : i
 
 white_class : (c : ℕ) → is_white c ≡ true → head_class c ≡ StrayHead
 white_class c w =
-    class_other c (ap (λ b. (c == 95 || is_xid_start c) && not b) w ∙ and_false (c == 95 || is_xid_start c))
-    ∙ none (is_among delimiters c) (c == 47) (is_among marks c) (is_ascii_digit c) (c == 34) (c == 39)
-    (not_white_among delimiters c refl w) (not_among c 47 is_white w refl) (not_white_among marks c refl w) (digit c w) (not_among c 34 is_white w refl) (not_among c 39 is_white w refl)
-  where
-    none : (d s m n q a : Bool) → d ≡ false → s ≡ false → m ≡ false → n ≡ false → q ≡ false → a ≡ false → cond d DelimiterHead (cond s SlashHead (cond (m || s) MarkHead (cond n DigitHead (cond q QuoteHead (cond a ApostropheHead StrayHead))))) ≡ StrayHead
-    none d s m n q a d0 s0 m0 n0 q0 a0 = rw (d0, s0, m0, n0, q0, a0) refl
-
-    digit : (c : ℕ) → is_white c ≡ true → is_ascii_digit c ≡ false
-    digit c w = digit_solid c (ap (λ b. b || c == 47) w)
+    stray_class c (ap (λ b. (c == 95 || is_xid_start c) && not b) w ∙ and_false (c == 95 || is_xid_start c))
+    (not_white_among delimiters c refl w) (not_among c 47 is_white w refl) (not_white_among marks c refl w) (digit_solid c (ap (λ b. b || c == 47) w)) (not_among c 34 is_white w refl) (not_among c 39 is_white w refl)
 
 trivia_none : (t : List ℕ) → BeginsTrivia t → lexeme_at t ≡ None
 trivia_none t (inl (White c, rest, w, same)) = ap lexeme_at same ∙ at_class c rest StrayHead (white_class c w)

@@ -14,13 +14,13 @@ use Rattle.rl_tokens.specs.Lexemes.{IdentifierForm, DelimiterForm, MarkForm, del
 use Rattle.rl_tokens.specs.Reading.{truth_text}
 use Rattle.rl_tokens.specs.Classes.{after_run}
 use Rattle.rl_tokens.specs.Sources.{PlainKind, StrayKind, SourceBefore, IsLiteralText, source_text}
-use Rattle.rl_tokens.specs.Mirrors.LexemeAt.{DelimiterHead, SlashHead, MarkHead, DigitHead, QuoteHead, ApostropheHead, StrayHead, begins_word, is_prefix_letter, is_mark_alone, mark_form, head_class, lexeme_at, begins_raw_after}
+use Rattle.rl_tokens.specs.Mirrors.LexemeAt.{StrayHead, begins_word, is_prefix_letter, is_mark_alone, mark_form, head_class, lexeme_at, begins_raw_after}
 use Rattle.rl_tokens.specs.Mirrors.SourceAt.{any_at, opens, or_stray, other_at}
 use Rattle.rl_tokens.specs.Mirrors.RunsAt.{is_word_byte}
 use Rattle.rl_tokens.specs.Mirrors.LiteralsAt.{HoldsNoLiteral, is_likely_mark, is_likely_head, begins_none, with_before, unlikely_len, last_of, byte_before, past_word}
 use Rattle.rl_tokens.proofs.AsciiRuns.{held_agrees}
 use Rattle.rl_tokens.proofs.LexemeAnswers.{no_lexeme}
-use Rattle.rl_tokens.proofs.LexemeFronts.{after_delimiter, at_class, behind_punct, behind_slash, class_other, start_ascii}
+use Rattle.rl_tokens.proofs.LexemeFronts.{at_class, stray_class, start_ascii}
 use Rattle.rl_tokens.proofs.LiteralSteps.{Reaches, holds_skipped, reach_end, reach_token, reach_white}
 use Rattle.rl_tokens.proofs.SourceFronts.{any_found, plain_before}
 use Rattle.rl_tokens.proofs.WordsAndMarks.{mark_found, word_found}
@@ -104,14 +104,9 @@ reach_stray c u r low here white more =
     let g = and_parts (not (is_ascii_digit c) && not (is_among delimiters c)) (not (is_among marks c) && not ((c == 95 || is_ascii_alphabetic c) && not (is_white c))) facts.1 in
     let h = and_parts (not (is_ascii_digit c)) (not (is_among delimiters c)) g.0 in
     let i = and_parts (not (is_among marks c)) (not ((c == 95 || is_ascii_alphabetic c) && not (is_white c))) g.1 in
-    let head : head_class c ≡ StrayHead = class_other c (start_ascii c low ∙ no ((c == 95 || is_ascii_alphabetic c) && not (is_white c)) i.1)
-    ∙ ap (λ b. cond b DelimiterHead (after_delimiter c)) (no (is_among delimiters c) h.1)
-    ∙ ap (λ b. cond b SlashHead (behind_slash c)) (no (c == 47) a.0)
-    ∙ ap (λ b. cond (b || c == 47) MarkHead (behind_punct c)) (no (is_among marks c) i.0)
-    ∙ ap (λ b. cond b MarkHead (behind_punct c)) (no (c == 47) a.0)
-    ∙ ap (λ b. cond b DigitHead (cond (c == 34) QuoteHead (cond (c == 39) ApostropheHead StrayHead))) (no (is_ascii_digit c) h.0)
-    ∙ ap (λ b. cond b QuoteHead (cond (c == 39) ApostropheHead StrayHead)) (no (c == 34) d.0)
-    ∙ ap (λ b. cond b ApostropheHead StrayHead) (no (c == 39) b.0) in
+    let start = start_ascii c low ∙ no ((c == 95 || is_ascii_alphabetic c) && not (is_white c)) i.1 in
+    let head : head_class c ≡ StrayHead =
+    stray_class c start (no (is_among delimiters c) h.1) (no (c == 47) a.0) (no (is_among marks c) i.0) (no (is_ascii_digit c) h.0) (no (c == 34) d.0) (no (c == 39) b.0) in
     let none : lexeme_at (c ∷ u) ≡ None = at_class c u StrayHead head in
     let other : other_at (c ∷ u) ≡ None = rw (no (c == 47) a.0, no (c == 39) b.0, no (c == 114) f.1) refl in
     let shut : opens (c ∷ u) ≡ false = rw (opens, no (c == 47) a.0, no (c == 34) d.0, no (c == 98) e.0, no (c == 99) f.0, no (c == 114) f.1, no (c == 39) b.0, no_raw u) refl in

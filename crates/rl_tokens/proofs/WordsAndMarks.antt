@@ -1,34 +1,44 @@
 -- Words and marks that their first byte tells, or that and the next.
-use Rattle.std.proofs.Common.{◌≡◌, ℕ, inl, lit<, Bool, true, false, not, ◌&&◌, ◌||◌, ◌==◌, cond, List, [], ◌∷◌, Some, nat_le, ◌<◌, ◌≤◌, ◌+◌, ◌-◌, refl, sym, subst, ◌∙◌, ap, arith}
+use Rattle.std.proofs.Common.{◌≡◌, ℕ, inl, lit<, Bool, true, false, not, ◌&&◌, ◌||◌, ◌==◌, cond, List, [], ◌∷◌, Some, None, nat_le, ◌<◌, ◌≤◌, ◌+◌, ◌-◌, refl, sym, subst, ◌∙◌, ap, arith}
 use Rattle.std.proofs.lemmas.Bool.{and_parts, agree_below, agree_below_at}
 use Rattle.std.proofs.lemmas.Bool.Decides.{nat_tests}
-use Rattle.std.specs.Char.{is_ascii_alphabetic}
+use Rattle.std.specs.Char.{is_ascii, is_ascii_alphabetic, is_ascii_digit}
 use Rattle.rl_tokens.specs.Texts.{first_passes, is_among, is_white}
 use Rattle.rl_tokens.specs.Lexemes.{delimiters, marks, LexemeForm, IdentifierForm, DelimiterForm, MarkForm, is_start, is_continue}
 use Rattle.rl_tokens.specs.Classes.{after_run}
-use Rattle.rl_tokens.specs.Mirrors.LexemeAt.{FormBefore, LetterBHead, LetterCHead, LetterRHead, OtherLetterHead, is_prefix_letter, begins_word, goes_on_as_word, is_mark_alone, makes_comment, mark_form, has_bit, lexeme_at, word_at}
-use Rattle.rl_tokens.proofs.LexemeFronts.{at_class, class_start, front_delimiter, front_mark, front_slash, start_ascii, class98, class99, class114}
+use Rattle.rl_tokens.specs.Mirrors.LexemeAt.{FormBefore, LetterBHead, LetterCHead, LetterRHead, OtherLetterHead, StrayHead, is_prefix_letter, begins_word, goes_on_as_word, is_mark_alone, makes_comment, mark_form, has_bit, start_class, lexeme_at, word_at}
+use Rattle.rl_tokens.proofs.LexemeFronts.{at_class, class_start, low_among, or_false, stray_class, front_delimiter, front_mark, front_slash, start_ascii, class98, class99, class114}
 use Rattle.rl_tokens.proofs.LexemeAnswers.{form_before}
+use Rattle.rl_tokens.proofs.Comments.{false_unless}
 use Rattle.rl_tokens.proofs.Pieces.{is_equal}
 
 -- ---- sets of 64 characters, a bit for each
 
-pub low_marks : (c : ℕ) → c < 64 → has_bit 18158653859520577536 c ≡ true → is_mark_alone c ≡ true
-low_marks c low is = sym (agree_below_at (has_bit 18158653859520577536) is_mark_alone 64 c refl low) ∙ is
+pub low_marks : (c : ℕ) → c < 64 → has_bit 18158653859520577536 c ≡ is_mark_alone c
+low_marks c low = agree_below_at (has_bit 18158653859520577536) is_mark_alone 64 c refl low
 
 -- a set of those from 64 on holds what passes the test
-high_set : (bits : ℕ) (test : ℕ → Bool) → agree_below (has_bit bits) (λ k. test (64 + k)) 64 ≡ true → (c : ℕ) → 64 ≤ c → c < 128 → has_bit bits (c - 64) ≡ true → test c ≡ true
-high_set bits test all c h low is =
+high_set : (bits : ℕ) (test : ℕ → Bool) → agree_below (has_bit bits) (λ k. test (64 + k)) 64 ≡ true → (c : ℕ) → 64 ≤ c → c < 128 → has_bit bits (c - 64) ≡ test c
+high_set bits test all c h low =
     let e : 64 + (c - 64) ≡ c = omega arith in
-    ap test (sym e) ∙ sym (agree_below_at (has_bit bits) (λ k. test (64 + k)) 64 (c - 64) all (omega arith)) ∙ is
+    agree_below_at (has_bit bits) (λ k. test (64 + k)) 64 (c - 64) all (omega arith) ∙ ap test e
 
-pub high_marks : (c : ℕ) → 64 ≤ c → c < 128 → has_bit 8646911286296182785 (c - 64) ≡ true → is_mark_alone c ≡ true
-high_marks c h low is = high_set 8646911286296182785 is_mark_alone refl c h low is
+pub high_marks : (c : ℕ) → 64 ≤ c → c < 128 → has_bit 8646911286296182785 (c - 64) ≡ is_mark_alone c
+high_marks c h low = high_set 8646911286296182785 is_mark_alone refl c h low
+
+-- all of them are of ASCII
+mark_low : (c : ℕ) (d : Bool) → is_among delimiters c ≡ d → (d || is_among marks c) ≡ true → c < 128
+mark_low c true is h = low_among delimiters c refl is
+mark_low c false is h = low_among marks c refl h
+
+pub wide_marks : (c : ℕ) → 128 ≤ c → is_mark_alone c ≡ false
+wide_marks c high = false_unless (is_mark_alone c) (λ h. let low = mark_low c (is_among delimiters c) refl h in omega (arith, high, low))
 
 pub high_words : (c : ℕ) → 64 ≤ c → c < 128 → has_bit 575334794548740094 (c - 64) ≡ true → begins_word c ≡ true
 high_words c h low is =
     ap (λ b. not (is_prefix_letter c) && b) (start_ascii c low)
-    ∙ high_set 575334794548740094 (λ k. not (is_prefix_letter k) && ((k == 95 || is_ascii_alphabetic k) && not (is_white k))) refl c h low is
+    ∙ sym (high_set 575334794548740094 (λ k. not (is_prefix_letter k) && ((k == 95 || is_ascii_alphabetic k) && not (is_white k))) refl c h low)
+    ∙ is
 
 -- ---- words
 
@@ -77,12 +87,38 @@ prefix_word_found s t r c e is h run = word_here s t r c e (by_letter (c == 98) 
 
 -- ---- marks
 
-mark_cases : (s t : List ℕ) (c : ℕ) (d : Bool) → is_among delimiters c ≡ d → s ≡ c ∷ t → (d || is_among marks c) ≡ true → FormBefore s (cond d (DelimiterForm c) (MarkForm c)) t
-mark_cases s t c true is e h = form_before s (DelimiterForm c, t) (ap lexeme_at e ∙ front_delimiter c t is)
-mark_cases s t c false is e h = form_before s (MarkForm c, t) (ap lexeme_at e ∙ front_mark c t (inl h))
+mark_cases : (c : ℕ) (t : List ℕ) (d : Bool) → is_among delimiters c ≡ d → (d || is_among marks c) ≡ true → lexeme_at (c ∷ t) ≡ Some (cond d (DelimiterForm c) (MarkForm c), t)
+mark_cases c t true is h = front_delimiter c t is
+mark_cases c t false is h = front_mark c t (inl h)
+
+pub mark_first : (s t : List ℕ) (c : ℕ) → s ≡ c ∷ t → is_mark_alone c ≡ true → lexeme_at s ≡ Some (mark_form c, t)
+mark_first s t c e is = ap lexeme_at e ∙ mark_cases c t (is_among delimiters c) refl is
 
 pub mark_found : (s t : List ℕ) (c : ℕ) (form : LexemeForm) → s ≡ c ∷ t → is_mark_alone c ≡ true → form ≡ mark_form c → FormBefore s form t
-mark_found s t c form e is same = subst (λ (f : LexemeForm). FormBefore s f t) (sym same) (mark_cases s t c (is_among delimiters c) refl e is)
+mark_found s t c form e is same = subst (λ (f : LexemeForm). FormBefore s f t) (sym same) (form_before s (mark_form c, t) (mark_first s t c e is))
 
 pub slash_found : (s t : List ℕ) (c : ℕ) → s ≡ c ∷ t → c ≡ 47 → first_passes makes_comment t ≡ false → FormBefore s (MarkForm 47) t
 slash_found s t c e is h = form_before s (MarkForm 47, t) (ap lexeme_at (e ∙ ap (λ x. x ∷ t) is) ∙ front_slash t h)
+
+-- ---- what begins no lexeme
+
+pub stray_first : (s t : List ℕ) (c : ℕ) → s ≡ c ∷ t → is_start c ≡ false → is_mark_alone c ≡ false → (c == 47) ≡ false → is_ascii_digit c ≡ false → (c == 34) ≡ false → (c == 39) ≡ false → lexeme_at s ≡ None
+stray_first s t c e start mark slash digit quote apostrophe =
+    let parts = or_false (is_among delimiters c) (is_among marks c) mark in
+    ap lexeme_at e ∙ at_class c t StrayHead (stray_class c start parts.0 slash parts.1 digit quote apostrophe)
+
+-- ---- past ASCII
+
+not_low : (c k : ℕ) → k < 128 → is_ascii c ≡ false → (c == k) ≡ false
+not_low c k low is = grind (arith, nat_tests)
+
+pub wide_word : (s t r : List ℕ) (c : ℕ) → s ≡ c ∷ t → is_ascii c ≡ false → is_start c ≡ true → r ≡ after_run is_continue t → Some (IdentifierForm, r) ≡ lexeme_at s
+wide_word s t r c e wide start run =
+    let letter : start_class c ≡ OtherLetterHead = rw (not_low c 98 (lit< tt) wide, not_low c 99 (lit< tt) wide, not_low c 114 (lit< tt) wide) refl in
+    ap (λ x. Some (IdentifierForm, x)) run ∙ sym (ap lexeme_at e ∙ at_class c t OtherLetterHead (class_start c start ∙ letter))
+
+pub wide_stray : (s t : List ℕ) (c : ℕ) → s ≡ c ∷ t → is_ascii c ≡ false → is_start c ≡ false → lexeme_at s ≡ None
+wide_stray s t c e wide start =
+    let high : 128 ≤ c = grind (arith, nat_tests) in
+    let digit : is_ascii_digit c ≡ false = grind (arith, nat_tests) in
+    stray_first s t c e start (wide_marks c high) (not_low c 47 (lit< tt) wide) digit (not_low c 34 (lit< tt) wide) (not_low c 39 (lit< tt) wide)

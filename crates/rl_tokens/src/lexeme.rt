@@ -17,7 +17,6 @@ ghost use Rattle.rl_tokens.specs.declared.lexeme.Lead.TheVariants.{Word, Mark, P
 use crate::characters::is_start;
 use crate::classes::skip_word;
 use crate::lanes::has_bit;
-use crate::punct::Punct;
 use crate::text::{begins_with, split_ascii, split_char, without_first};
 use number::{after_decimal, after_digits, ends_number};
 pub(crate) use quotes::begins_hashed_quote;
@@ -38,7 +37,7 @@ pub enum Form {
 }
 
 /// The form of the lexeme that the text begins with, and the rest after it. `None` where there is
-/// no such lexeme.
+/// no such lexeme. Most tokens of a list are numbers, so a digit is recognized without a call.
 #[inline(always)]
 pub(crate) fn first_lexeme(text: &str) -> Option<(Form, &str)>
     ensures found { IfSome result
@@ -47,11 +46,70 @@ pub(crate) fn first_lexeme(text: &str) -> Option<(Form, &str)>
     ensures following { IfSome result (λ p. IsTail text.now p.1.now) }
     ensures shorter { IfSome result (λ p. length p.1.now < length text.now) }
 {
-    lexeme_at(text)
+    if let Some((b'0'..=b'9', following)) = split_ascii(text) {
+        return Some((Form::Literal, after_digit(following)));
+    }
+    lexeme_by_first_character(text)
 }
 
-/// The same, where the first byte of ASCII tells it, or that and the next: an identifier that begins as no literal does, a
-/// delimiter, or a mark that begins no comment. `None` says nothing.
+/// The lexeme that the text begins with, by its first character.
+#[inline(never)]
+#[tactic(auto, using(crate::proofs::NumberEnds::quote_first, crate::proofs::NumberEnds::apostrophe_first, crate::proofs::NumberEnds::slash_first, crate::proofs::WordsAndMarks::stray_first, crate::proofs::BehindLemmas::behind_step, crate::proofs::BehindLemmas::some_behind, crate::proofs::BehindLemmas::some_nearer))]
+fn lexeme_by_first_character(text: &str) -> Option<(Form, &str)>
+    ensures rest { option_map (λ p. (form_view p.0, chars p.1.now)) result
+        ≡ lexeme_at (chars text.now) }
+    ensures following { IfSome result (λ p. IsTail text.now p.1.now) }
+    ensures shorter { IfSome result (λ p. length p.1.now < length text.now) }
+{
+    let Some((byte, following)) = split_ascii(text) else {
+        return wide_identifier(text);
+    };
+    match byte {
+        b'0'..=b'9' => Some((Form::Literal, after_digit(following))),
+        b'"' => quoted_literal(following),
+        b'\'' => character_literal(following),
+        b'/' => after_slash(following),
+        _ if is_mark_alone(byte) => Some((mark_form(byte as char), following)),
+        _ if is_start(byte as char) => literal_or_identifier(byte as char, following),
+        _ => None,
+    }
+}
+
+/// The identifier that the text begins with, where its first character is past ASCII.
+#[inline(never)]
+#[tactic(auto, using(crate::proofs::WordsAndMarks::wide_word, crate::proofs::WordsAndMarks::wide_stray, crate::proofs::BehindLemmas::behind_step))]
+fn wide_identifier(text: &str) -> Option<(Form, &str)>
+    requires { IsFalse (first_passes is_ascii (chars text.now)) }
+    ensures rest { option_map (λ p. (form_view p.0, chars p.1.now)) result
+        ≡ lexeme_at (chars text.now) }
+    ensures following { IfSome result (λ p. IsTail text.now p.1.now) }
+    ensures shorter { IfSome result (λ p. length p.1.now < length text.now) }
+{
+    let (c, following) = split_char(text)?;
+    if !is_start(c) {
+        return None;
+    }
+    Some((Form::Identifier, skip_word(following)))
+}
+
+/// A literal with a prefix, or an identifier, after its first letter. Of a raw identifier there is none.
+fn literal_or_identifier(letter: char, text: &str) -> Option<(Form, &str)>
+    ensures rest { option_map (λ p. (form_view p.0, chars p.1.now)) result
+        ≡ by_class (start_class letter) letter (chars text.now) }
+    ensures following { IfSome result (λ p. IsTail text.now p.1.now) }
+{
+    match letter {
+        'b' | 'c' if begins_with(text, '"') => quoted_literal(without_first(text)),
+        'b' if begins_with(text, '\'') => character_literal(without_first(text)),
+        'b' | 'c' if begins_raw_literal(text) => raw_literal(without_first(text)),
+        'r' if begins_hashed_quote(text) => raw_literal(text),
+        'r' if begins_marked_identifier(text) => None,
+        _ => Some((Form::Identifier, skip_word(text))),
+    }
+}
+
+/// The form of the lexeme that the text begins with, and the rest after it, where the first byte of ASCII tells it, or that
+/// and the next: an identifier that begins as no literal does, a delimiter, or a mark that begins no comment. `None` says nothing.
 #[inline(always)]
 pub(crate) fn word_or_mark(text: &str) -> Option<(Form, &str)>
     ensures found { IfSome result
@@ -96,7 +154,7 @@ fn lead_of(byte: u8) -> Lead
     ensures slash { result ≡ Slash → byte ≡ 47 }
 {
     if byte < 64 {
-        if has_bit(0xfc00_7f7a_0000_0000, byte) {
+        if has_bit(LOW_MARKS, byte) {
             return Lead::Mark;
         }
         if byte == b'/' {
@@ -107,7 +165,7 @@ fn lead_of(byte: u8) -> Lead
     if has_bit(0x07fb_fff2_87ff_fffe, byte - 64) {
         return Lead::Word;
     }
-    if has_bit(0x7800_0000_6800_0001, byte - 64) {
+    if has_bit(HIGH_MARKS, byte - 64) {
         return Lead::Mark;
     }
     if matches!(byte, b'b' | b'c' | b'r') {
@@ -139,6 +197,25 @@ fn goes_on_as_no_comment(following: &str) -> bool
     }
 }
 
+/// A bit for each of the first 64 characters, set where [`is_mark_alone`] is true.
+const LOW_MARKS: u64 = 0xfc00_7f7a_0000_0000;
+/// The same for the next 64 characters.
+const HIGH_MARKS: u64 = 0x7800_0000_6800_0001;
+
+/// Whether the character of ASCII is a delimiter or a mark, whatever follows it: each but `/`.
+#[inline(always)]
+#[tactic(auto, using(crate::proofs::WordsAndMarks::low_marks, crate::proofs::WordsAndMarks::high_marks))]
+fn is_mark_alone(byte: u8) -> bool
+    requires { byte < 128 }
+    ensures { result ≡ is_mark_alone byte }
+{
+    if byte < 64 {
+        has_bit(LOW_MARKS, byte)
+    } else {
+        has_bit(HIGH_MARKS, byte - 64)
+    }
+}
+
 /// The form of a delimiter or a mark.
 #[inline(always)]
 fn mark_form(c: char) -> Form
@@ -149,150 +226,6 @@ fn mark_form(c: char) -> Form
     } else {
         Form::Mark(c)
     }
-}
-
-/// The same, as the first characters tell it. A digit is recognized by its byte, before all else.
-#[inline(always)]
-fn lexeme_at(text: &str) -> Option<(Form, &str)>
-    ensures rest { option_map (λ p. (form_view p.0, chars p.1.now)) result
-        ≡ lexeme_at (chars text.now) }
-    ensures following { IfSome result (λ p. IsTail text.now p.1.now) }
-    ensures shorter { IfSome result (λ p. length p.1.now < length text.now) }
-{
-    if let Some((byte, following)) = split_ascii(text) {
-        if (byte as char).is_ascii_digit() {
-            return Some((Form::Literal, after_digit(following)));
-        }
-    }
-    by_character(text)
-}
-
-/// The same, where it is no number. A quote is recognized by its byte too.
-#[inline(never)]
-fn by_character(text: &str) -> Option<(Form, &str)>
-    requires { IsFalse (first_passes is_ascii_digit (chars text.now)) }
-    ensures rest { option_map (λ p. (form_view p.0, chars p.1.now)) result
-        ≡ lexeme_at (chars text.now) }
-    ensures following { IfSome result (λ p. IsTail text.now p.1.now) }
-    ensures shorter { IfSome result (λ p. length p.1.now < length text.now) }
-{
-    match split_ascii(text) {
-        Some((b'"', following)) => quoted_literal(following),
-        Some((byte, following)) => by_first(byte as char, following),
-        None => by_wide_character(text),
-    }
-}
-
-/// The same, where no character of ASCII begins the text.
-#[inline(never)]
-fn by_wide_character(text: &str) -> Option<(Form, &str)>
-    requires { IsFalse (first_passes is_ascii (chars text.now)) }
-    ensures rest { option_map (λ p. (form_view p.0, chars p.1.now)) result
-        ≡ lexeme_at (chars text.now) }
-    ensures following { IfSome result (λ p. IsTail text.now p.1.now) }
-    ensures shorter { IfSome result (λ p. length p.1.now < length text.now) }
-{
-    let (c, following) = split_char(text)?;
-    by_first(c, following)
-}
-
-/// By the first character, which is neither a digit nor a `"`, and what stands after it.
-#[inline(always)]
-fn by_first(c: char, text: &str) -> Option<(Form, &str)>
-    requires { IsTrue (is_met_late c) }
-    ensures rest { option_map (λ p. (form_view p.0, chars p.1.now)) result
-        ≡ by_class (head_class c) c (chars text.now) }
-    ensures following { IfSome result (λ p. IsTail text.now p.1.now) }
-{
-    if is_start(c) {
-        after_start(c, text)
-    } else {
-        after_other(c, text)
-    }
-}
-
-/// By an identifier's start, and what stands after it.
-fn after_start(c: char, text: &str) -> Option<(Form, &str)>
-    ensures rest { option_map (λ p. (form_view p.0, chars p.1.now)) result
-        ≡ by_class (start_class c) c (chars text.now) }
-    ensures following { IfSome result (λ p. IsTail text.now p.1.now) }
-{
-    match c {
-        'b' => after_b(text),
-        'c' => after_c(text),
-        'r' => after_r(text),
-        _ => identifier(text),
-    }
-}
-
-/// After a `b`: the prefix of three kinds of literals, or the first letter of an identifier.
-#[inline(always)]
-fn after_b(text: &str) -> Option<(Form, &str)>
-    ensures rest { option_map (λ p. (form_view p.0, chars p.1.now)) result
-        ≡ by_class LetterBHead 98 (chars text.now) }
-    ensures following { IfSome result (λ p. IsTail text.now p.1.now) }
-{
-    if begins_with(text, '"') {
-        return quoted_literal(without_first(text));
-    }
-    if begins_with(text, '\'') {
-        return character_literal(without_first(text));
-    }
-    raw_or_word(text)
-}
-
-/// After a `c`: the prefix of two kinds of literals, or the first letter of an identifier.
-#[inline(always)]
-fn after_c(text: &str) -> Option<(Form, &str)>
-    ensures rest { option_map (λ p. (form_view p.0, chars p.1.now)) result
-        ≡ by_class LetterCHead 99 (chars text.now) }
-    ensures following { IfSome result (λ p. IsTail text.now p.1.now) }
-{
-    if begins_with(text, '"') {
-        return quoted_literal(without_first(text));
-    }
-    raw_or_word(text)
-}
-
-/// After a `b` or `c`, where no quote follows.
-#[inline(always)]
-fn raw_or_word(text: &str) -> Option<(Form, &str)>
-    ensures rest { option_map (λ p. (form_view p.0, chars p.1.now)) result
-        ≡ cond (slice_index (chars text.now) 0 == 114
-        && begins_hashed_quote (drop 1 (chars text.now)))
-        (literal_at (raw_at (drop 1 (chars text.now)))) (word_at (chars text.now)) }
-    ensures following { IfSome result (λ p. IsTail text.now p.1.now) }
-{
-    if begins_with(text, 'r') && begins_hashed_quote(without_first(text)) {
-        return raw_literal(without_first(text));
-    }
-    identifier(text)
-}
-
-/// After an `r`: a raw string, or an identifier that isn't raw.
-#[inline(always)]
-fn after_r(text: &str) -> Option<(Form, &str)>
-    ensures rest { option_map (λ p. (form_view p.0, chars p.1.now)) result
-        ≡ by_class LetterRHead 114 (chars text.now) }
-    ensures following { IfSome result (λ p. IsTail text.now p.1.now) }
-{
-    if begins_hashed_quote(text) {
-        return raw_literal(text);
-    }
-    if begins_marked_identifier(text) {
-        return None;
-    }
-    identifier(text)
-}
-
-/// An identifier, after its first character.
-#[inline(always)]
-fn identifier(text: &str) -> Option<(Form, &str)>
-    ensures rest { option_map (λ p. (form_view p.0, chars p.1.now)) result
-        ≡ word_at (chars text.now) }
-    ensures following { IfSome result (λ p. IsTail text.now p.1.now) }
-{
-    Some((Form::Identifier, skip_word(text)))
 }
 
 /// A quoted literal, after its opening quote.
@@ -325,28 +258,6 @@ fn raw_literal(text: &str) -> Option<(Form, &str)>
     Some((Form::Literal, after_raw_literal(text)?))
 }
 
-/// By a character that begins no identifier, and what stands after it.
-fn after_other(c: char, text: &str) -> Option<(Form, &str)>
-    requires { IsTrue (is_met_late c) }
-    ensures rest { option_map (λ p. (form_view p.0, chars p.1.now)) result
-        ≡ by_class (other_class c) c (chars text.now) }
-    ensures following { IfSome result (λ p. IsTail text.now p.1.now) }
-{
-    if is_delimiter(c) {
-        return Some((Form::Delimiter(c), text));
-    }
-    if c == '/' {
-        return after_slash(text);
-    }
-    if Punct::is_char(c) {
-        return Some((Form::Mark(c), text));
-    }
-    if c == '\'' {
-        return character_literal(text);
-    }
-    None
-}
-
 /// After a slash, which is a mark where it begins no comment.
 #[inline(always)]
 fn after_slash(text: &str) -> Option<(Form, &str)>
@@ -373,6 +284,14 @@ fn after_digit(text: &str) -> &str
         return rest;
     }
     after_decimal(rest)
+}
+
+/// Whether `r`, hashes, perhaps none, and a `"` begin the text.
+fn begins_raw_literal(text: &str) -> bool
+    ensures { result
+        ≡ (slice_index (chars text.now) 0 == 114 && begins_hashed_quote (drop 1 (chars text.now))) }
+{
+    begins_with(text, 'r') && begins_hashed_quote(without_first(text))
 }
 
 /// Whether a hash and an identifier's start begin the text.

@@ -8,7 +8,6 @@ mod suffix;
 use crate::tokens::characters::is_start;
 use crate::tokens::classes::skip_word;
 use crate::tokens::lanes::has_bit;
-use crate::tokens::punct::Punct;
 use crate::tokens::text::{begins_with, split_ascii, split_char, without_first};
 use number::{after_decimal, after_digits, ends_number};
 pub(crate) use quotes::begins_hashed_quote;
@@ -29,14 +28,44 @@ pub enum Form {
 }
 
 /// The form of the lexeme that the text begins with, and the rest after it. `None` where there is
-/// no such lexeme.
+/// no such lexeme. Most tokens of a list are numbers, so a digit is recognized without a call.
 #[inline(always)]
 pub(crate) fn first_lexeme(text: &str) -> Option<(Form, &str)> {
-    lexeme_at(text)
+    if let Some((b'0'..=b'9', following)) = split_ascii(text) {
+        return Some((Form::Literal, after_digit(following)));
+    }
+    lexeme_by_first_character(text)
 }
 
-/// The same, where the first byte of ASCII tells it, or that and the next: an identifier that begins as no literal does, a
-/// delimiter, or a mark that begins no comment. `None` says nothing.
+/// The lexeme that the text begins with, by its first character.
+#[inline(never)]
+fn lexeme_by_first_character(text: &str) -> Option<(Form, &str)> {
+    let (c, following) = split_char(text)?;
+    match c {
+        '0'..='9' => Some((Form::Literal, after_digit(following))),
+        '"' => quoted_literal(following),
+        '\'' => character_literal(following),
+        '/' => after_slash(following),
+        _ if is_mark_alone(c) => Some((mark_form(c), following)),
+        _ if is_start(c) => literal_or_identifier(c, following),
+        _ => None,
+    }
+}
+
+/// A literal with a prefix, or an identifier, after its first letter. Of a raw identifier there is none.
+fn literal_or_identifier(letter: char, text: &str) -> Option<(Form, &str)> {
+    match letter {
+        'b' | 'c' if begins_with(text, '"') => quoted_literal(without_first(text)),
+        'b' if begins_with(text, '\'') => character_literal(without_first(text)),
+        'b' | 'c' if begins_raw_literal(text) => raw_literal(without_first(text)),
+        'r' if begins_hashed_quote(text) => raw_literal(text),
+        'r' if begins_marked_identifier(text) => None,
+        _ => Some((Form::Identifier, skip_word(text))),
+    }
+}
+
+/// The form of the lexeme that the text begins with, and the rest after it, where the first byte of ASCII tells it, or that
+/// and the next: an identifier that begins as no literal does, a delimiter, or a mark that begins no comment. `None` says nothing.
 #[inline(always)]
 pub(crate) fn word_or_mark(text: &str) -> Option<(Form, &str)> {
     let (byte, following) = split_ascii(text)?;
@@ -70,7 +99,7 @@ enum Lead {
 #[inline(always)]
 fn lead_of(byte: u8) -> Lead {
     if byte < 64 {
-        if has_bit(0xfc00_7f7a_0000_0000, byte) {
+        if has_bit(LOW_MARKS, byte) {
             return Lead::Mark;
         }
         if byte == b'/' {
@@ -81,7 +110,7 @@ fn lead_of(byte: u8) -> Lead {
     if has_bit(0x07fb_fff2_87ff_fffe, byte - 64) {
         return Lead::Word;
     }
-    if has_bit(0x7800_0000_6800_0001, byte - 64) {
+    if has_bit(HIGH_MARKS, byte - 64) {
         return Lead::Mark;
     }
     if matches!(byte, b'b' | b'c' | b'r') {
@@ -109,6 +138,22 @@ fn goes_on_as_no_comment(following: &str) -> bool {
     }
 }
 
+/// A bit for each of the first 64 characters, set where [`is_mark_alone`] is true.
+const LOW_MARKS: u64 = 0xfc00_7f7a_0000_0000;
+
+/// The same for the next 64 characters.
+const HIGH_MARKS: u64 = 0x7800_0000_6800_0001;
+
+/// Whether the character is a delimiter or a mark, whatever follows it: each but `/`.
+#[inline(always)]
+fn is_mark_alone(c: char) -> bool {
+    if c < '@' {
+        has_bit(LOW_MARKS, c as u8)
+    } else {
+        c.is_ascii() && has_bit(HIGH_MARKS, c as u8 - 64)
+    }
+}
+
 /// The form of a delimiter or a mark.
 #[inline(always)]
 fn mark_form(c: char) -> Form {
@@ -117,102 +162,6 @@ fn mark_form(c: char) -> Form {
     } else {
         Form::Mark(c)
     }
-}
-
-/// The same, as the first characters tell it. A digit is recognized by its byte, before all else.
-#[inline(always)]
-fn lexeme_at(text: &str) -> Option<(Form, &str)> {
-    if let Some((byte, following)) = split_ascii(text) {
-        if (byte as char).is_ascii_digit() {
-            return Some((Form::Literal, after_digit(following)));
-        }
-    }
-    by_character(text)
-}
-
-/// The same, where it is no number. A quote is recognized by its byte too.
-#[inline(never)]
-fn by_character(text: &str) -> Option<(Form, &str)> {
-    match split_ascii(text) {
-        Some((b'"', following)) => quoted_literal(following),
-        Some((byte, following)) => by_first(byte as char, following),
-        None => by_wide_character(text),
-    }
-}
-
-/// The same, where no character of ASCII begins the text.
-#[inline(never)]
-fn by_wide_character(text: &str) -> Option<(Form, &str)> {
-    let (c, following) = split_char(text)?;
-    by_first(c, following)
-}
-
-/// By the first character, which is neither a digit nor a `"`, and what stands after it.
-#[inline(always)]
-fn by_first(c: char, text: &str) -> Option<(Form, &str)> {
-    if is_start(c) {
-        after_start(c, text)
-    } else {
-        after_other(c, text)
-    }
-}
-
-/// By an identifier's start, and what stands after it.
-fn after_start(c: char, text: &str) -> Option<(Form, &str)> {
-    match c {
-        'b' => after_b(text),
-        'c' => after_c(text),
-        'r' => after_r(text),
-        _ => identifier(text),
-    }
-}
-
-/// After a `b`: the prefix of three kinds of literals, or the first letter of an identifier.
-#[inline(always)]
-fn after_b(text: &str) -> Option<(Form, &str)> {
-    if begins_with(text, '"') {
-        return quoted_literal(without_first(text));
-    }
-    if begins_with(text, '\'') {
-        return character_literal(without_first(text));
-    }
-    raw_or_word(text)
-}
-
-/// After a `c`: the prefix of two kinds of literals, or the first letter of an identifier.
-#[inline(always)]
-fn after_c(text: &str) -> Option<(Form, &str)> {
-    if begins_with(text, '"') {
-        return quoted_literal(without_first(text));
-    }
-    raw_or_word(text)
-}
-
-/// After a `b` or `c`, where no quote follows.
-#[inline(always)]
-fn raw_or_word(text: &str) -> Option<(Form, &str)> {
-    if begins_with(text, 'r') && begins_hashed_quote(without_first(text)) {
-        return raw_literal(without_first(text));
-    }
-    identifier(text)
-}
-
-/// After an `r`: a raw string, or an identifier that isn't raw.
-#[inline(always)]
-fn after_r(text: &str) -> Option<(Form, &str)> {
-    if begins_hashed_quote(text) {
-        return raw_literal(text);
-    }
-    if begins_marked_identifier(text) {
-        return None;
-    }
-    identifier(text)
-}
-
-/// An identifier, after its first character.
-#[inline(always)]
-fn identifier(text: &str) -> Option<(Form, &str)> {
-    Some((Form::Identifier, skip_word(text)))
 }
 
 /// A quoted literal, after its opening quote.
@@ -231,23 +180,6 @@ fn character_literal(text: &str) -> Option<(Form, &str)> {
 #[inline(always)]
 fn raw_literal(text: &str) -> Option<(Form, &str)> {
     Some((Form::Literal, after_raw_literal(text)?))
-}
-
-/// By a character that begins no identifier, and what stands after it.
-fn after_other(c: char, text: &str) -> Option<(Form, &str)> {
-    if is_delimiter(c) {
-        return Some((Form::Delimiter(c), text));
-    }
-    if c == '/' {
-        return after_slash(text);
-    }
-    if Punct::is_char(c) {
-        return Some((Form::Mark(c), text));
-    }
-    if c == '\'' {
-        return character_literal(text);
-    }
-    None
 }
 
 /// After a slash, which is a mark where it begins no comment.
@@ -269,6 +201,11 @@ fn after_digit(text: &str) -> &str {
         return rest;
     }
     after_decimal(rest)
+}
+
+/// Whether `r`, hashes, perhaps none, and a `"` begin the text.
+fn begins_raw_literal(text: &str) -> bool {
+    begins_with(text, 'r') && begins_hashed_quote(without_first(text))
 }
 
 /// Whether a hash and an identifier's start begin the text.
