@@ -17,10 +17,9 @@ pub mod MinusLemmas
 pub mod OptionLemmas
 pub mod BareCharacters
 pub mod ReadingLemmas
-pub mod StopLemmas
 pub mod ExplainLemmas
+pub mod EscapeLemmas
 pub mod UnitFlawLemmas
-pub mod UnitKindLemmas
 pub mod RawFlawLemmas
 pub mod QuotedFlawLemmas
 pub mod QuotedStopLemmas
