@@ -8,11 +8,10 @@ pub mod IntegerLemmas
 pub mod FloatLemmas
 pub mod DigitLemmas
 pub mod DecLemmas
+pub mod NumberReads
+pub mod NumberTailFlaws
 pub mod NumberFlawLemmas
-pub mod NumberKindLemmas
-pub mod NumberFlawKinds
 pub mod NumberLemmas
-pub mod NumberStopLemmas
 pub mod MinusLemmas
 pub mod OptionLemmas
 pub mod BareCharacters

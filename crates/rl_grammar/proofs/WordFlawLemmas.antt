@@ -21,7 +21,7 @@ use Rattle.rl_grammar.specs.Mirrors.OpenerAt.{FoundOpener, byte_opener_at, found
 use Rattle.rl_grammar.specs.Mirrors.UnitFlawAt.{FoundFlaw, found_flaw}
 use Rattle.rl_grammar.specs.Mirrors.WordFlawAt.{after_letters, word_flaw_at}
 use Rattle.rl_grammar.proofs.FormLemmas.{no_front}
-use Rattle.rl_grammar.proofs.NumberFlawLemmas.{end_rest}
+use Rattle.rl_grammar.proofs.NumberFlawLemmas.{IsFlaw, end_rest}
 use Rattle.rl_grammar.proofs.ReadingLemmas.{no_front_number, no_reading}
 
 -- ---- the code's two words
@@ -281,9 +281,5 @@ word_kind (c ∷ cs) = go (c == 98) (c == 99) (c == 116) (c == 102) refl refl
     go false false false false hb hk = λ front is. (inr (inr (record { truth = true; more = truth_text true; word_is = ap (λ z. z ++ truth_text true) (append_cancel_right [] front (c ∷ cs) is) })), λ n. absurd (cc))
 
 -- the code's flaw
-pub record IsFlaw (t : List ℕ) (flaw : FoundFlaw) : Type 0 where
-  pub stops : StopsBefore t flaw.1
-  pub kind : HasKind (IsWordFlaw flaw.0) t flaw.1
-
-pub word_place : (t : List ℕ) (flaw : FoundFlaw) → first_passes is_number_front t ≡ false → opener_at t ≡ None → flaw ≡ word_flaw_at t → IsFlaw t flaw
-word_place t flaw number none same = subst (IsFlaw t) (sym same) (record { stops = word_stops t number none; kind = word_kind t })
+pub word_place : (t : List ℕ) (flaw : FoundFlaw) → first_passes is_number_front t ≡ false → opener_at t ≡ None → flaw ≡ word_flaw_at t → IsFlaw IsWordFlaw t flaw
+word_place t flaw number none same = subst (IsFlaw IsWordFlaw t) (sym same) (record { stops = word_stops t number none; kind = word_kind t })
