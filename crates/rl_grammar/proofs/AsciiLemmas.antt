@@ -10,7 +10,7 @@ use Rattle.rl_tokens.specs.Numbers.{NoSign}
 use Rattle.rl_tokens.proofs.CommentBytes.{not_equal}
 use Rattle.rl_grammar.specs.Mirrors.NumberAt.{after_minus, radix_at, sign_at}
 use Rattle.rl_grammar.specs.Mirrors.OpenerAt.{string_opener_at, byte_opener_at, opener_at}
-use Rattle.rl_grammar.specs.Mirrors.UnitAt.{digit_at, unicode_digits_at, brace_at, escape_at}
+use Rattle.rl_grammar.specs.Mirrors.UnitAt.{digit_at, close_at, brace_at, escape_at}
 
 not_below : (c k : ℕ) → k ≤ c → ltb c k ≡ false
 not_below c k h = le-ltb c k h
@@ -25,10 +25,9 @@ pub no_digit : (t : List ℕ) → first_passes is_ascii t ≡ false → digit_at
 no_digit [] h = refl
 no_digit (c ∷ cs) h = rw (no_value c (past c h)) refl
 
-pub no_digits : (v n : ℕ) (t : List ℕ) → first_passes is_ascii t ≡ false → unicode_digits_at v n t ≡ None
-unfolding unicode_digits_at
-no_digits v n [] h = refl
-no_digits v n (c ∷ cs) h = let high = past c h in rw (not_equal c 125 (omega arith) high, not_equal c 95 (omega arith) high, no_value c high) refl
+pub no_close : (t : List ℕ) → first_passes is_ascii t ≡ false → close_at t ≡ None
+no_close [] h = refl
+no_close (c ∷ cs) h = rw (not_equal c 125 (omega arith) (past c h)) refl
 
 pub no_brace : (t : List ℕ) → first_passes is_ascii t ≡ false → brace_at t ≡ None
 no_brace [] h = refl

@@ -10,9 +10,10 @@ use Rattle.rl_tokens.specs.declared.kind.Kind.{Kind}
 use Rattle.rl_tokens.specs.declared.kind.Kind.TheVariants.{Str, ByteStr, CStr, Byte, Char, Int, Float, Bool as BoolKind}
 use Rattle.rl_tokens.specs.Texts.{first_passes}
 use Rattle.rl_tokens.specs.Quoted.{content_of, is_blank, is_hex_digit, holds_characters, is_string, is_single, is_plain, is_line_end, allows_code, may_be_hex, has_unicode}
-use Rattle.rl_grammar.specs.Mirrors.UnitAt.{found, number_if, digit_at, hex_at, unicode_digits_at, unicode_at, after_blanks, named_in, named_at, escape_at, line_feed_at, unit_at}
+use Rattle.rl_grammar.specs.Mirrors.UnitAt.{found, number_if, digit_at, hex_at, unicode_at, after_blanks, named_in, named_at, escape_at, line_feed_at, unit_at}
 use Rattle.rl_grammar.specs.Mirrors.UnitFlawAt.{is_code}
 use Rattle.rl_grammar.proofs.UnitLemmas.{holds_more, unicode_sound, plain_complete, quote_and_return}
+use Rattle.rl_grammar.proofs.CodeDigitLemmas.{below_six, digit_apart, unicode_digits_at, unicode_is}
 
 -- ---- readers of the front of a text
 
@@ -153,10 +154,6 @@ closed_bad kind v n r h = go (scalar v) refl
         ap (λ x. number_if x v r) (and_right (has_unicode kind) (allows_code kind v) no_code)
     go false e = refl
 
--- a digit is no brace and no underscore
-pub digit_apart : (c k : ℕ) → is_hex_digit c ≡ true → is_hex_digit k ≡ false → eqb c k ≡ false
-digit_apart c k h n = ne_eqb c k (λ e. both_ways (is_hex_digit k) n (subst (λ x. is_hex_digit x ≡ true) e h))
-
 pub digit_on : (kind : Kind) (v n c : ℕ) (t : List ℕ) → is_hex_digit c ≡ true → n < 6 → coded kind v n (c ∷ t) ≡ coded kind (v * 16 + digit_value c) (n + 1) t
 unfolding unicode_digits_at
 digit_on kind v n c t h room = rw (digit_apart c 125 h refl, digit_apart c 95 h refl, h, lt-ltb n 6 room) refl
@@ -253,7 +250,7 @@ closing kind v n s = go (is_code kind v) refl
 
 pub spelled_on : (kind : Kind) (v n c : ℕ) → Spelled kind v n → is_hex_digit c ≡ true → eqb n 6 ≡ false → (eqb n 5 && not (is_code kind (v * 16 + digit_value c))) ≡ false → Spelled kind (v * 16 + digit_value c) (n + 1)
 spelled_on kind v n c s h short good =
-    let less : n < 6 = not_six n s.few short in
+    let less : n < 6 = below_six n s.few short in
     let small = s.small in
     let digit : digit_value c < 16 = ltb-true (digit_value c) 16 h in
     let one : n + 1 ≡ suc n = omega arith in
@@ -265,15 +262,6 @@ spelled_on kind v n c s h short good =
       full = λ e. fifth (is_code kind (v * 16 + digit_value c)) (ap (λ b. b && not (is_code kind (v * 16 + digit_value c))) (sym (eq-eqb n 5 (let e = e in omega arith))) ∙ good);
     }
   where
-    not_six : (n : ℕ) → n ≤ 6 → eqb n 6 ≡ false → n < 6
-    not_six n h k = elim (cases_Bool (ltb n 6)) [
-      | inl a ↦ ltb-true n 6 a
-      | inr a ↦
-          let more : 6 ≤ n = ltb-false n 6 a in
-          let six : n ≡ 6 = omega (arith, h, more) in
-          absurd (both_ways (eqb n 6) k (eq-eqb n 6 six))
-    ]
-
     fifth : (b : Bool) → (true && not b) ≡ false → b ≡ true
     fifth true h = refl
     fifth false h = absurd (cc)
@@ -297,12 +285,7 @@ pub braced_one : (kind : Kind) → has_unicode kind ≡ true → Completes (brac
 braced_one kind u = ends_by_two (braced kind) [] 1 49 125 refl refl refl (λ r. closed_code kind 1 1 r u (holds_more kind 1 refl))
 
 pub unicode_on : (kind : Kind) (t : List ℕ) → unicode_at kind (123 ∷ t) ≡ braced kind t
-unfolding unicode_at
-unicode_on kind t = go (digit_at t)
-  where
-    go : (o : Option (ℕ × List ℕ)) → option_and_then (λ p. option_and_then (λ q. number_if (has_unicode kind && allows_code kind q.0) q.0 q.1) (unicode_digits_at p.0 1 p.1)) o ≡ option_and_then (λ p. coded kind p.0 1 p.1) o
-    go None = refl
-    go (Some p) = refl
+unicode_on kind t = unicode_is kind (123 ∷ t)
 
 pub no_unicode_brace : (kind : Kind) (c : ℕ) (t : List ℕ) → eqb c 123 ≡ false → unicode_at kind (c ∷ t) ≡ None
 unfolding unicode_at

@@ -26,7 +26,7 @@ cut_bytes t rest front ut ur cut =
     ∙ length-append (encode_utf8_all front) (encode_utf8_all (chars rest))
     ∙ ap (λ z. byte_len front + length z) (encodes-chars rest ur)
 
-pub front_bytes : (t rest : List ℕ) → IsUtf8 t → IsUtf8 rest → (s : StopsBefore (chars t) (chars rest)) → length t ≡ byte_len s.front + length rest
+pub front_bytes : (t rest : List ℕ) → IsUtf8 t → IsUtf8 rest → (s : StopsBefore HasReading (chars t) (chars rest)) → length t ≡ byte_len s.front + length rest
 front_bytes t rest ut ur s = cut_bytes t rest s.front ut ur s.text_is
 
 -- the piece is a tail of the text
@@ -35,11 +35,11 @@ piece_cut CookedForm kind inside piece rest t front text_is cut p = (form_opener
 piece_cut RawForm kind inside piece rest t front text_is cut p = (front, cut ∙ ap (λ z. front ++ z) (sym p))
 piece_cut SingleForm kind inside piece rest t front text_is cut p = (form_opener SingleForm kind, text_is ∙ ap (λ z. form_opener SingleForm kind ++ z) (sym p))
 
-pub piece_front : (t piece rest : List ℕ) → StopsBefore t rest → IsPieceOf t piece rest → (before : List ℕ) × (t ≡ before ++ piece)
+pub piece_front : (t piece rest : List ℕ) → StopsBefore HasReading t rest → IsPieceOf t piece rest → (before : List ℕ) × (t ≡ before ++ piece)
 piece_front t piece rest s (inl q) = piece_cut q.form q.kind q.inside piece rest t s.front q.text_is s.text_is q.piece_is
 piece_front t piece rest s (inr (none, whole)) = ([], sym whole)
 
-pub piece_bytes : (t piece rest : List ℕ) → IsUtf8 t → IsUtf8 piece → (s : StopsBefore (chars t) (chars rest)) → (p : IsPieceOf (chars t) (chars piece) (chars rest)) → length t ≡ byte_len (piece_front (chars t) (chars piece) (chars rest) s p).0 + length piece
+pub piece_bytes : (t piece rest : List ℕ) → IsUtf8 t → IsUtf8 piece → (s : StopsBefore HasReading (chars t) (chars rest)) → (p : IsPieceOf (chars t) (chars piece) (chars rest)) → length t ≡ byte_len (piece_front (chars t) (chars piece) (chars rest) s p).0 + length piece
 piece_bytes t piece rest ut up s p = let cut = piece_front (chars t) (chars piece) (chars rest) s p in cut_bytes t piece cut.0 ut up cut.1
 
 pub found_reads : (t : List ℕ) (f : Found) → IsFound t f → HasReading (chars t)

@@ -17,6 +17,7 @@ pub mod OptionLemmas
 pub mod BareCharacters
 pub mod ReadingLemmas
 pub mod ExplainLemmas
+pub mod CodeDigitLemmas
 pub mod EscapeLemmas
 pub mod UnitFlawLemmas
 pub mod RawFlawLemmas

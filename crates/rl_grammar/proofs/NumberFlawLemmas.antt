@@ -80,7 +80,7 @@ pub record Fronted (first : ℕ → Bool) (reads any : List ℕ → Bool) (pre :
 
 -- a flaw stands so in the text
 pub record IsFlaw (says : FlawKind → List ℕ → List ℕ → Type 0) (t : List ℕ) (flaw : FoundFlaw) : Type 0 where
-  pub stops : StopsBefore t flaw.1
+  pub stops : StopsBefore HasReading t flaw.1
   pub kind : HasKind (says flaw.0) t flaw.1
 
 whole : (first : ℕ → Bool) (reads any : List ℕ → Bool) (signed : List ℕ → Type 0) (pre t : List ℕ) (flaw : FoundFlaw) → first_passes first t ≡ false → Fronted first reads any pre → ((x : List ℕ) → signed x → EndsInSign (pre ++ x)) → (HasReading (pre ++ t) → ⊥) → (reads t ≡ false → Spoils first reads any signed t flaw) → IsFlaw IsNumberFlaw (pre ++ t) flaw
@@ -91,7 +91,7 @@ whole first reads any signed pre t (kind, rest) ok f power none spoiled = record
     begins = record {
       ending = k.ending;
       are_characters = k.are_characters;
-      reads = subst HasReading (sym (append_assoc pre k.front k.ending)) (f.good (k.front ++ k.ending) k.opens k.completes);
+      is_taken = subst HasReading (sym (append_assoc pre k.front k.ending)) (f.good (k.front ++ k.ending) k.opens k.completes);
     };
     stuck = stuck;
   };
@@ -568,16 +568,16 @@ end_rest a b (c ∷ cs) = refl
 -- after a minus stands none
 minus_flaw : (u : List ℕ) → first_passes is_ascii_digit u ≡ false → IsFlaw IsNumberFlaw (45 ∷ u) (end_flaw_at Unfinished NoNumber u)
 unfolding is_exponent_suffix
-minus_flaw u h = record { stops = subst (StopsBefore (45 ∷ u)) (sym (end_rest Unfinished NoNumber u)) stops; kind = kind u }
+minus_flaw u h = record { stops = subst (StopsBefore HasReading (45 ∷ u)) (sym (end_rest Unfinished NoNumber u)) stops; kind = kind u }
   where
-    stops : StopsBefore (45 ∷ u) u
+    stops : StopsBefore HasReading (45 ∷ u) u
     stops = record {
       front = 45 ∷ [];
       text_is = refl;
       begins = record {
         ending = 49 ∷ [];
         are_characters = (refl, tt);
-        reads = (ten_fronted Minus (49 ∷ []) [] refl refl one_is_ten).good [] refl refl;
+        is_taken = (ten_fronted Minus (49 ∷ []) [] refl refl one_is_ten).good [] refl refl;
       };
       stuck = λ c cs e k r.
           let no_digit : first_passes is_ascii_digit (c ∷ e) ≡ false = sym (ap (first_passes is_ascii_digit) k) ∙ h in

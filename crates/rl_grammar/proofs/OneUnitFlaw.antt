@@ -11,11 +11,12 @@ use Rattle.rl_tokens.specs.Quoted.{QuotedUnit, Plain, CrLf, Named, Hex, Unicode,
 use Rattle.rl_grammar.specs.declared.flaws.FlawKind.{FlawKind}
 use Rattle.rl_grammar.specs.declared.flaws.FlawKind.TheVariants.{Unclosed, UnknownEscape, NoUnicode, NoHexDigit, NoBrace, EmptyBraces, TooManyDigits, PastAscii, PastUnicode, Surrogate, Nul, NotAscii, LoneCr, MustEscape, NoCharacter, TwoCharacters}
 use Rattle.rl_grammar.specs.FlawKinds.{IsBraced, digit_count, number_of, FirstDigit, SecondDigit, AfterBrace, AfterDigits, IsNoCode, HasNoCode, AtBrace, AtSixth, AsItIs, ByLetter, ByDigits, ByNumber, AfterUnits, BeginsUnits, CloserFlaw, IsNotClosed, UnitFlaw, is_apostrophe}
-use Rattle.rl_grammar.specs.Mirrors.UnitAt.{escape_at, found, hex_at, unit_at, unicode_digits_at, unicode_at}
+use Rattle.rl_grammar.specs.Mirrors.UnitAt.{escape_at, found, hex_at, unit_at, unicode_at}
 use Rattle.rl_grammar.specs.Mirrors.UnitFlawAt.{character_flaw_of, code_flaw_of}
 use Rattle.rl_grammar.specs.Rows.{RowEnds}
 use Rattle.rl_grammar.proofs.RowLemmas.{ends_before}
 use Rattle.rl_grammar.proofs.UnitLemmas.{quote_and_return, some_pair, unit_complete, unit_nil}
+use Rattle.rl_grammar.proofs.CodeDigitLemmas.{unicode_digits_at, unicode_is}
 
 -- ---- the kind, by what stands before the place and by the character there
 
@@ -89,11 +90,11 @@ not_closed v n (c ∷ cs) h =
 
 -- with what stands before them
 no_end : (kind : Kind) (ds : List ℕ) → first_passes is_hex_digit ds ≡ true → list_all is_part ds ≡ true → unit_at kind (92 ∷ 117 ∷ 123 ∷ ds) ≡ None
-unfolding unit_at escape_at unicode_at
+unfolding unit_at escape_at
 no_end kind [] first each = absurd (cc)
 no_end kind (c ∷ cs) first each =
     let p = and_parts (is_part c) (list_all is_part cs) each in
-    rw first (rw (not_closed (digit_value c) 1 cs p.1) refl)
+    rw (unicode_is kind (123 ∷ c ∷ cs), first, not_closed (digit_value c) 1 cs p.1) refl
 
 -- ---- the kinds
 

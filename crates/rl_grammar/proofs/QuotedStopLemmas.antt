@@ -68,7 +68,7 @@ only_quoted t form kind inside h none = no_reading t (no_parts t form kind insid
 parts_begin : (form : QuotedForm) (kind : Kind) (t : List ℕ) → HasParts form kind t → HasReading (form_opener form kind ++ t)
 parts_begin form kind t (v, b, x, p) = (kind, (quoted_contents kind v, x, quoted_reading (form_opener form kind ++ t) kind (quoted_contents kind v) x (parts_read form kind (form_opener form kind ++ t) v b x p)))
 
-pub stops_quoted : (t : List ℕ) (form : QuotedForm) (kind : Kind) (inside rest : List ℕ) → opener_at t ≡ found_opener form kind inside → StopsInside form kind inside rest → StopsBefore t rest
+pub stops_quoted : (t : List ℕ) (form : QuotedForm) (kind : Kind) (inside rest : List ℕ) → opener_at t ≡ found_opener form kind inside → StopsInside form kind inside rest → StopsBefore HasReading t rest
 stops_quoted t form kind inside rest h s =
     let told = front_sound t (form, kind, inside) h in
     let before = form_opener form kind in
@@ -79,7 +79,7 @@ stops_quoted t form kind inside rest h s =
       begins = record {
         ending = s.ending;
         are_characters = s.are_characters;
-        reads = subst HasReading (sym (joined s.ending)) (parts_begin form kind (s.front ++ s.ending) s.completes);
+        is_taken = subst HasReading (sym (joined s.ending)) (parts_begin form kind (s.front ++ s.ending) s.completes);
       };
       stuck = λ c cs e same r.
           let (k, (v, x, read)) = subst HasReading (joined (c ∷ e)) r in

@@ -20,7 +20,7 @@ use Rattle.rl_grammar.specs.declared.segments.SegmentValue.TheVariants.{Text, Ch
 use Rattle.rl_grammar.specs.declared.units.Piece.{Piece}
 use Rattle.rl_grammar.specs.Decoded.{in_bytes, piece_bytes}
 use Rattle.rl_grammar.specs.Mirrors.UnitAt.{found, piece_value, IsPieceOf, unit_at}
-use Rattle.rl_grammar.specs.Segments.{unit_bytes, units_bytes, is_itself, begins_in, ends_in, place_in, span_from, segment_end, segment_place, value_end, GivesByte, IsRow, AreUnitsIn, AreUnitsFor, AreLeft, IsLeftAt, IsLongest, IsNoText, IsPastLeft, IsSegmentOf, IsFront, IsSpanTable, IsSegmentsState, SegmentsState, TakesSegment, value_bytes, value_place}
+use Rattle.rl_grammar.specs.Segments.{unit_bytes, units_bytes, is_itself, begins_in, ends_in, place_in, span_from, segment_end, segment_place, value_end, GivesByte, IsRow, AreUnitsIn, AreUnitsFor, AreLeft, IsLeftAt, IsLongest, IsNoText, IsPastLeft, IsSegmentOf, IsFirstSegment, IsSpanTable, IsSegmentsState, SegmentsState, TakesSegment, value_bytes, value_place}
 use Rattle.rl_grammar.proofs.ContentLemmas.{held_in_bytes, piece_in_bytes}
 use Rattle.rl_grammar.proofs.UnitLemmas.{some_pair, plain_complete, unit_complete, unit_nil}
 
@@ -97,8 +97,8 @@ run_segment kind run u = record { are = refl; bytes_are = sym (run_bytes kind (c
 -- ---- what stands in front
 
 -- all of a plain body
-pub plain_front : (kind : Kind) (plain : Bool) (run : Bor (List ℕ)) → plain ≡ true → IsUtf8 run.now → IsFront kind plain (chars run.now) (Text run) (chars [])
-plain_front kind true run is u = subst (IsFront kind true (chars run.now) (Text run)) (sym chars-nil) (record {
+pub plain_front : (kind : Kind) (plain : Bool) (run : Bor (List ℕ)) → plain ≡ true → IsUtf8 run.now → IsFirstSegment kind plain (chars run.now) (Text run) (chars [])
+plain_front kind true run is u = subst (IsFirstSegment kind true (chars run.now) (Text run)) (sym chars-nil) (record {
   units = map Plain (chars run.now);
   is_segment = run_segment kind run u;
   text_is = sym (append-nil (texts (map Plain (chars run.now))) ∙ run_texts (chars run.now));
@@ -108,7 +108,7 @@ plain_front kind true run is u = subst (IsFront kind true (chars run.now) (Text 
 plain_front kind false run is u = absurd (cc)
 
 -- a run of plain characters
-pub run_front : (kind : Kind) (plain : Bool) (t b : List ℕ) (run : Bor (List ℕ)) → plain ≡ false → IsUtf8 run.now → t ≡ chars run.now ++ b → list_all (is_plain kind) (chars run.now) ≡ true → (us : List QuotedUnit) × AreUnitsIn kind plain t us → IsFront kind plain t (Text run) b
+pub run_front : (kind : Kind) (plain : Bool) (t b : List ℕ) (run : Bor (List ℕ)) → plain ≡ false → IsUtf8 run.now → t ≡ chars run.now ++ b → list_all (is_plain kind) (chars run.now) ≡ true → (us : List QuotedUnit) × AreUnitsIn kind plain t us → IsFirstSegment kind plain t (Text run) b
 run_front kind false t b run is u cut plain has =
     let cs = chars run.now in
     record {
@@ -135,7 +135,7 @@ one_unit (Char c) u none other = (u, refl, other)
 one_unit (Byte b) u none other = (u, refl, other)
 one_unit Nothing u none other = (u, refl, other)
 
-pub unit_front : (kind : Kind) (plain : Bool) (t b : List ℕ) (piece : Piece) (v : SegmentValue) → plain ≡ false → first_passes (is_plain kind) t ≡ false → unit_at kind t ≡ Some (piece_value kind piece, b) → IsPieceOf kind piece → value_bytes v ≡ piece_bytes piece → IsNoText v → (us : List QuotedUnit) × AreUnitsIn kind plain t us → IsFront kind plain t v b
+pub unit_front : (kind : Kind) (plain : Bool) (t b : List ℕ) (piece : Piece) (v : SegmentValue) → plain ≡ false → first_passes (is_plain kind) t ≡ false → unit_at kind t ≡ Some (piece_value kind piece, b) → IsPieceOf kind piece → value_bytes v ≡ piece_bytes piece → IsNoText v → (us : List QuotedUnit) × AreUnitsIn kind plain t us → IsFirstSegment kind plain t v b
 unit_front kind false t b piece v is stops unit fits bytes none has =
     let f = row_front kind t has.0 (piece_value kind piece, b) has.1 unit in
     let u = f.unit in
@@ -179,7 +179,7 @@ no_length empty (x ∷ xs) e none = let zero = eqb-true (length (x ∷ xs)) 0 (s
 abbrev pub StateOf : Kind → Bool → ℕ → List ℕ → SegmentsState
 StateOf kind plain end rest = record { kind = kind; plain = plain; at = end - length rest; rest = rest }
 
-pub takes_segment : (kind : Kind) (plain : Bool) (end : ℕ) (rest after : List ℕ) (v : SegmentValue) → IsSegmentsState kind plain end rest → IsUtf8 after → IsFront kind plain (chars rest) v (chars after) → IsLongest kind v (chars after) → TakesSegment (StateOf kind plain end rest) (record { lo = end - length rest; hi = end - length after; value = v }) (StateOf kind plain end after)
+pub takes_segment : (kind : Kind) (plain : Bool) (end : ℕ) (rest after : List ℕ) (v : SegmentValue) → IsSegmentsState kind plain end rest → IsUtf8 after → IsFirstSegment kind plain (chars rest) v (chars after) → IsLongest kind v (chars after) → TakesSegment (StateOf kind plain end rest) (record { lo = end - length rest; hi = end - length after; value = v }) (StateOf kind plain end after)
 takes_segment kind plain end rest after v s u f longest =
     let whole : rest ≡ encode_utf8_all (texts f.units) ++ after = sym (encodes-chars rest s.is_text) ∙ ap encode_utf8_all f.text_is ∙ encodes-append (texts f.units) (chars after) ∙ ap (λ z. encode_utf8_all (texts f.units) ++ z) (encodes-chars after u) in
     let long : length rest ≡ byte_len (texts f.units) + length after = ap length whole ∙ length-append (encode_utf8_all (texts f.units)) after in

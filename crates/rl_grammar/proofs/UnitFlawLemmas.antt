@@ -17,9 +17,10 @@ use Rattle.rl_grammar.specs.declared.flaws.FlawKind.{FlawKind}
 use Rattle.rl_grammar.specs.declared.flaws.FlawKind.TheVariants.{Unclosed, UnknownEscape, NoUnicode, NoHexDigit, NoBrace, EmptyBraces, TooManyDigits, PastAscii, PastUnicode, Surrogate, Nul, NotAscii, MustEscape, NoCharacter}
 use Rattle.rl_grammar.specs.FlawKinds.{IsBraced, digit_count, number_of, FirstDigit, SecondDigit, AfterBrace, AfterDigits, IsNoCode, HasNoCode, AtBrace, AtSixth, AsItIs, ByLetter, ByDigits, ByNumber, UnitFlaw}
 use Rattle.rl_grammar.specs.Mirrors.UnitAt.{found, number_if, hex_at, unicode_at, after_blanks, named_at, escape_at, line_feed_at, unit_at}
-use Rattle.rl_grammar.specs.Mirrors.UnitFlawAt.{FoundFlaw, found_flaw, low_digit_flaw_at, hex_flaw_at, is_code, code_flaw_of, digits_flaw_at, first_digit_flaw_at, unicode_flaw_at, escape_flaw_at, line_end_flaw_at, character_flaw_of, unit_flaw_at}
+use Rattle.rl_grammar.specs.Mirrors.UnitFlawAt.{FoundFlaw, found_flaw, low_digit_flaw_at, hex_flaw_at, is_code, code_flaw_at, code_flaw_of, first_digit_flaw_at, unicode_flaw_at, escape_flaw_at, line_end_flaw_at, character_flaw_of, unit_flaw_at}
 use Rattle.rl_grammar.proofs.UnitLemmas.{holds_more, two_digits, unit_complete, crlf_complete}
-use Rattle.rl_grammar.proofs.EscapeLemmas.{Reader, given, Completes, inner_none, only_zero, hex_read, hex_one, second, hex_second, never, no_low, no_high, past_hex, allowed, coded, closed_code, closed_bad, digit_apart, digit_on, digit_past, underscore_on, other_none, full_none, not_low, not_high, Spelled, room, closing, spelled_on, braced, braced_first, braced_none, first_spelled, braced_one, unicode_on, no_unicode_brace, unicode_one, unicode_never, escape_n, by_hex, by_unicode, same_escape, by_escape, IsQuotedKind, unit_one, line_feed, no_line_feed, same_character}
+use Rattle.rl_grammar.proofs.EscapeLemmas.{Reader, given, Completes, inner_none, only_zero, hex_read, hex_one, second, hex_second, never, no_low, no_high, past_hex, allowed, coded, closed_code, closed_bad, digit_on, digit_past, underscore_on, other_none, full_none, not_low, not_high, Spelled, room, closing, spelled_on, braced, braced_first, braced_none, first_spelled, braced_one, unicode_on, no_unicode_brace, unicode_one, unicode_never, escape_n, by_hex, by_unicode, same_escape, by_escape, IsQuotedKind, unit_one, line_feed, no_line_feed, same_character}
+use Rattle.rl_grammar.proofs.CodeDigitLemmas.{digit_apart, digits_flaw_at, digits_flaw_is}
 
 -- ---- readers of the front of a text
 
@@ -300,7 +301,7 @@ first_digit_spoils kind [] u none = at_end (braced_one kind u)
 first_digit_spoils kind (c ∷ cs) u none =
     let P : FoundFlaw → Type 0 = Spoils kind (braced kind) (braced_front []) (c ∷ cs) in
     cond_both (is_hex_digit c) _ _ P
-      (λ e. next_same (coded kind (digit_value c) 1) (braced kind) c c refl (λ r. braced_first kind c r e) none (digits_spoil kind cs (c ∷ []) (digit_value c) 1 (first_stands kind c u e)))
+      (λ e. subst P (sym (digits_flaw_is kind cs (digit_value c) 1 (c ∷ cs) (omega arith) refl)) (next_same (coded kind (digit_value c) 1) (braced kind) c c refl (λ r. braced_first kind c r e) none (digits_spoil kind cs (c ∷ []) (digit_value c) 1 (first_stands kind c u e))))
       (λ e. cond_both (eqb c 125) _ _ P
         (λ b. here c cs EmptyBraces (braced_one kind u) (λ r. braced_none kind c r e) (refl, b))
         (λ b. here c cs NoHexDigit (braced_one kind u) (λ r. braced_none kind c r e) (AfterBrace refl (rw (e, b) refl))))

@@ -11,7 +11,8 @@ use Rattle.rl_tokens.specs.declared.kind.Kind.{Kind}
 use Rattle.rl_tokens.specs.declared.kind.Kind.TheVariants.{Str, ByteStr, CStr, Byte, Char, Int, Float, Bool as BoolKind}
 use Rattle.rl_tokens.specs.Texts.{first_passes, is_underscore}
 use Rattle.rl_tokens.specs.Quoted.{QuotedUnit, Letter, Plain, CrLf, Named, Hex, Unicode, Continuation, LowerN, LowerR, LowerT, Backslash, Apostrophe, Quote, Zero, letter_value, letter_text, unit_text, unit_value, unicode_value, without_underscores, place_value, content_of, hex_value, is_hex_digit, is_blank, is_line_end, is_string, is_plain, allows_code, may_be_hex, has_unicode, IsUnit, EndsBefore}
-use Rattle.rl_grammar.specs.Mirrors.UnitAt.{found, number_if, named_of, named_in, named_at, digit_at, hex_at, unicode_digits_at, brace_at, unicode_at, after_blanks, escape_at, line_feed_at, unit_at}
+use Rattle.rl_grammar.specs.Mirrors.UnitAt.{found, number_if, named_of, named_in, named_at, digit_at, hex_at, brace_at, unicode_at, after_blanks, escape_at, line_feed_at, unit_at}
+use Rattle.rl_grammar.proofs.CodeDigitLemmas.{unicode_digits_at, unicode_is}
 
 -- which way a test went
 chosen : {A : Type 0} (b : Bool) (x y z : A) → cond b x y ≡ z → ((b ≡ true) × (x ≡ z)) ⊎ ((b ≡ false) × (y ≡ z))
@@ -241,9 +242,8 @@ unicode_built kind t b d r c v w brace first digit v_is more allowed =
     }
 
 pub unicode_sound : (kind : Kind) (t : List ℕ) (p : ℕ × List ℕ) → unicode_at kind t ≡ Some p → UnicodeAt kind t p.0 p.1
-unfolding unicode_at
 unicode_sound kind t p h =
-    let b = bind_some (brace_at t) _ p h in
+    let b = bind_some (brace_at t) _ p (sym (unicode_is kind t) ∙ h) in
     let d = bind_some (digit_at b.0) _ p b.2 in
     let first = digit_sound b.0 d.0 d.1 in
     let e = bind_some (unicode_digits_at d.0.0 1 d.0.1) _ p d.2 in
@@ -254,7 +254,6 @@ unicode_sound kind t p h =
     subst (λ w. UnicodeAt kind t w p.1) fields.0 (subst (UnicodeAt kind t e.0.0) fields.1 built)
 
 unicode_complete : (kind : Kind) (first : ℕ) (more r : List ℕ) → IsUnit kind (Unicode first more) → unicode_at kind (123 ∷ first ∷ (more ++ (125 ∷ r))) ≡ Some (unicode_value first more, r)
-unfolding unicode_at
 unicode_complete kind first more r u =
     let a : is_hex_digit first ≡ true = u.1 in
     let long = length_on_digit first more (apart first 95 u.1 refl) in
@@ -263,7 +262,7 @@ unicode_complete kind first more r u =
     let digits : unicode_digits_at (digit_value first) 1 (more ++ (125 ∷ r)) ≡ Some (unicode_value first more, r) = digits_complete (digit_value first) 1 more r u.2 (omega arith) (subst IsScalar (sym value) u.4) ∙ ap (λ w. Some (w, r)) value in
     let has : has_unicode kind ≡ true = u.0 in
     let holds : allows_code kind (unicode_value first more) ≡ true = u.5 in
-    rw (a, digits, has, holds) refl
+    unicode_is kind (123 ∷ first ∷ (more ++ (125 ∷ r))) ∙ rw (a, digits, has, holds) refl
 
 -- ---- blanks
 

@@ -108,7 +108,7 @@ record WordFront (b : Bool) (t : List ℕ) (k : Common (truth_text b) t) : Type 
   only : (e : List ℕ) (d : Bool) → k.front ++ e ≡ truth_text d → d ≡ b
 
 -- where a word ends too soon, or another character follows
-ends : (t front rest : List ℕ) → StopsBefore t rest → t ≡ front ++ rest → t ≢ [] → BeginsWord front → IsFlaw IsWordFlaw t (end_flaw_at Unfinished NoLiteral rest)
+ends : (t front rest : List ℕ) → StopsBefore HasReading t rest → t ≡ front ++ rest → t ≢ [] → BeginsWord front → IsFlaw IsWordFlaw t (end_flaw_at Unfinished NoLiteral rest)
 ends t front [] stops cut some begins = record {
   stops = stops;
   kind = λ x is. (subst BeginsWord (append_cancel_right front x [] (sym cut ∙ is)) begins, (λ n. some (is ∙ append-nil x ∙ n)), refl);
@@ -122,7 +122,7 @@ letters_flaw : (b : Bool) (t : List ℕ) (k : Common (truth_text b) t) → WordF
 letters_flaw b t k f some = ends t k.front (after_letters (truth_text b) t) (record {
   front = k.front;
   text_is = k.text_is;
-  begins = record { ending = k.left; are_characters = k.are_characters (truth_characters b); reads = subst HasReading k.word_is (truth_reads b) };
+  begins = record { ending = k.left; are_characters = k.are_characters (truth_characters b); is_taken = subst HasReading k.word_is (truth_reads b) };
   stuck = λ c cs e h r.
       nothing_reads (k.front ++ (c ∷ e)) (f.no_opener (c ∷ e)) (f.no_number (c ∷ e)) (λ v x q.
       let same : truth_text q.truth ≡ truth_text b = ap truth_text (f.only (c ∷ e) q.truth q.text_is) in
@@ -191,10 +191,10 @@ c_prefix = record {
 prefix_flaw : (k c : ℕ) (cs : List ℕ) → IsPrefix k → BeginsWord (k ∷ []) → (c == k) ≡ true → opener_at (c ∷ cs) ≡ None → IsFlaw IsWordFlaw (c ∷ cs) (end_flaw_at Unfinished NoLiteral cs)
 prefix_flaw k c cs is begins e none =
     let same = eqb-true c k e in
-    let stops : StopsBefore (k ∷ cs) cs = record {
+    let stops : StopsBefore HasReading (k ∷ cs) cs = record {
       front = k ∷ [];
       text_is = refl;
-      begins = record { ending = 34 ∷ 34 ∷ []; are_characters = (refl, (refl, tt)); reads = is.reads };
+      begins = record { ending = 34 ∷ 34 ∷ []; are_characters = (refl, (refl, tt)); is_taken = is.reads };
       stuck = λ d ds r h q. nothing_reads (k ∷ d ∷ r) (is.alike d ds r (ap (λ z. opener_at (k ∷ z)) (sym h) ∙ ap (λ z. opener_at (z ∷ cs)) (sym same) ∙ none)) is.no_number (other_first k (d ∷ r) is.no_true is.no_false) q;
     } in
     subst (λ z. IsFlaw IsWordFlaw (z ∷ cs) (end_flaw_at Unfinished NoLiteral cs)) (sym same) (ends (k ∷ cs) (k ∷ []) cs stops refl (λ n. absurd (cc)) begins)
@@ -211,7 +211,7 @@ no_front_flaw c cs b k t f none number = record {
   stops = record {
     front = [];
     text_is = refl;
-    begins = record { ending = truth_text true; are_characters = truth_characters true; reads = truth_reads true };
+    begins = record { ending = truth_text true; are_characters = truth_characters true; is_taken = truth_reads true };
     stuck = λ d ds e h r.
         let same : c ≡ d = cc in
         nothing_reads (c ∷ e) (other_opener c cs e b k none) number (other_first c e t f) (subst (λ z. HasReading (z ∷ e)) (sym same) r);
@@ -225,7 +225,7 @@ word_flaw [] number none = record {
   stops = record {
     front = [];
     text_is = refl;
-    begins = record { ending = truth_text true; are_characters = truth_characters true; reads = truth_reads true };
+    begins = record { ending = truth_text true; are_characters = truth_characters true; is_taken = truth_reads true };
     stuck = λ c cs e h r. absurd (cc);
   };
   kind = λ front is. (sym (is ∙ append-nil front), refl);

@@ -133,7 +133,7 @@ pub record IsSegmentOf (kind : Kind) (value : SegmentValue) (units : List Quoted
   pub bytes_are : value_bytes value ≡ units_bytes kind units
 
 -- In front of the text stands the segment, and the rest is left.
-pub record IsFront (kind : Kind) (plain : Bool) (text : List ℕ) (value : SegmentValue) (rest : List ℕ)
+pub record IsFirstSegment (kind : Kind) (plain : Bool) (text : List ℕ) (value : SegmentValue) (rest : List ℕ)
     : Type 0 where
   pub units : List QuotedUnit
   pub is_segment : IsSegmentOf kind value units

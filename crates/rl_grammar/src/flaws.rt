@@ -293,7 +293,7 @@ fn first_flaw(text: &str) -> FlawAt<'_>
 fn word_flaw(text: &str) -> FlawAt<'_>
     requires no_number { IsFalse (first_passes is_number_front (chars text.now)) }
     requires no_opener { opener_at (chars text.now) ≡ None }
-    ensures stops { StopsBefore (chars text.now) (chars result.rest.now) }
+    ensures stops { StopsBefore HasReading (chars text.now) (chars result.rest.now) }
     ensures kind { HasKind (IsWordFlaw result.kind) (chars text.now) (chars result.rest.now) }
 {
     first_flaw(text)
@@ -302,7 +302,7 @@ fn word_flaw(text: &str) -> FlawAt<'_>
 /// The flaw of a text without a reading, and the text from its place on.
 fn flaw_at(text: &str) -> FlawAt<'_>
     requires { HasNoReading (chars text.now) }
-    ensures stops { StopsBefore (chars text.now) (chars result.rest.now) }
+    ensures stops { StopsBefore HasReading (chars text.now) (chars result.rest.now) }
     ensures kind { IsFlawOf result.kind (chars text.now) (chars result.rest.now) }
     ensures piece { IsPieceOf (chars text.now) (chars result.piece.now) (chars result.rest.now) }
 {

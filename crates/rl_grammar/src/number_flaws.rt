@@ -4,7 +4,7 @@ ghost use Rattle.std.specs.Prelude.{◌≡◌, ◌≤◌, IsTrue};
 ghost use Rattle.std.specs.Str.{chars};
 ghost use Rattle.unicode_ident.specs.Ident.{is_xid_continue, is_xid_start};
 ghost use Rattle.rl_tokens.specs.Texts.{first_passes};
-ghost use Rattle.rl_tokens.specs.Reading.{HasNoReading};
+ghost use Rattle.rl_tokens.specs.Reading.{HasNoReading, HasReading};
 ghost use Rattle.rl_grammar.specs.Flaws.{StopsBefore};
 ghost use Rattle.rl_grammar.specs.NumberFlaws.{HasKind, IsNumberFlaw};
 ghost use Rattle.rl_grammar.specs.WholeShapes.{is_number_front};
@@ -178,7 +178,7 @@ fn unsigned_number_flaw(text: &str) -> FlawAt<'_>
 pub(crate) fn number_flaw(text: &str) -> FlawAt<'_>
     requires number { IsTrue (first_passes is_number_front (chars text.now)) }
     requires none { HasNoReading (chars text.now) }
-    ensures stops { StopsBefore (chars text.now) (chars result.rest.now) }
+    ensures stops { StopsBefore HasReading (chars text.now) (chars result.rest.now) }
     ensures kind { HasKind (IsNumberFlaw result.kind) (chars text.now) (chars result.rest.now) }
 {
     let unsigned = after_minus(text);

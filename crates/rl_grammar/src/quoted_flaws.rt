@@ -2,7 +2,8 @@
 
 ghost use Rattle.std.specs.Prelude.{◌≡◌, ◌<◌, ◌==◌, ◌++◌, ◌∷◌, ℕ, not, replicate, IsTrue, IsFalse, MatchBool};
 ghost use Rattle.std.specs.Str.{chars};
-ghost use Rattle.rl_grammar.specs.Mirrors.UnitFlawAt.{character_flaw_of, code_flaw_of, digits_flaw_at, escape_flaw_at, first_digit_flaw_at, found_flaw, hex_flaw_at, is_code, line_end_flaw_at, low_digit_flaw_at, unicode_flaw_at, unit_flaw_at, spoiled_flaw_of, after_unit_flaw_of};
+ghost use Rattle.rl_grammar.specs.Mirrors.UnitFlawAt.{character_flaw_of, code_flaw_of, code_flaw_at, escape_flaw_at, first_digit_flaw_at, found_flaw, hex_flaw_at, is_code, line_end_flaw_at, low_digit_flaw_at, unicode_flaw_at, unit_flaw_at, spoiled_flaw_of, after_unit_flaw_of};
+ghost use Rattle.rl_grammar.specs.Mirrors.UnitAt.{code_digits};
 ghost use Rattle.std.specs.List.{list_all};
 ghost use Rattle.rl_tokens.specs.Classes.{after_run};
 ghost use Rattle.rl_tokens.specs.Texts.{first_passes, IsTail};
@@ -13,7 +14,7 @@ ghost use Rattle.rl_grammar.specs.Mirrors.StopsInside.{StopsInside};
 
 use crate::flaws::{FlawAt, FlawKind, make_flaw};
 use crate::quoted_forms::{QuotedForm, skip_units, split_last_quote};
-use crate::units::{allows_code, has_unicode, unit};
+use crate::units::{CodeDigits, allows_code, code_digits, has_unicode, unit};
 use rl_tokens::Kind;
 use rl_tokens::classes::{CharClass, skip_class, skip_hashes};
 use rl_tokens::text::{after_prefix, before, split_char};
@@ -64,49 +65,38 @@ fn code_flaw(code: u32) -> FlawKind
     }
 }
 
-/// Of what follows the first digit of `\u{`.
-#[tactic(auto, unfolding(crate::specs::Mirrors::UnitFlawAt::digits_flaw_at))]
-fn digits_flaw(kind: Kind, text: &str, first: u32) -> FlawAt<'_>
-    requires { first < 16 }
+/// The flaw of what stands between the braces of `\u{..}`, from its first digit on.
+fn digits_flaw<'t>(kind: Kind, digits: CodeDigits<'t>) -> FlawAt<'t>
     ensures { found_flaw result.kind (chars result.rest.now)
-        ≡ digits_flaw_at kind first 1 (chars text.now) }
+        ≡ code_flaw_at kind (code_digits digits.entry.value digits.entry.count (chars digits.entry.last.now)
+            (chars digits.entry.rest.now)) }
 {
-    let mut value = first;
-    let mut digits = 1_u32;
-    let mut rest = text;
-    while let Some((next, after)) = split_char(rest) {
-        if let Some(digit) = next.to_digit(16) {
-            if digits == 6 {
-                return make_flaw(FlawKind::TooManyDigits, rest);
-            }
-            value = value * 16 + digit;
-            if digits == 5 && !is_code(kind, value) {
-                return make_flaw(code_flaw(value), rest);
-            }
-            digits += 1;
-        } else if next == '}' {
-            return make_flaw(code_flaw(value), rest);
-        } else if next != '_' {
-            return make_flaw(FlawKind::NoHexDigit, rest);
-        }
-        rest = after;
+    if digits.count == 6 && !is_code(kind, digits.value) {
+        return make_flaw(code_flaw(digits.value), digits.last);
     }
-    make_flaw(FlawKind::Unclosed, rest)
+    match split_char(digits.rest) {
+        None => make_flaw(FlawKind::Unclosed, digits.rest),
+        Some(('}', _)) => make_flaw(code_flaw(digits.value), digits.rest),
+        Some((next, _)) if next.is_ascii_hexdigit() => {
+            make_flaw(FlawKind::TooManyDigits, digits.rest)
+        }
+        Some(_) => make_flaw(FlawKind::NoHexDigit, digits.rest),
+    }
 }
 
-/// Of what follows `\u{`.
+/// The flaw of what follows `\u{`.
 #[tactic(auto, unfolding(crate::specs::Mirrors::UnitFlawAt::first_digit_flaw_at))]
 fn first_digit_flaw(kind: Kind, text: &str) -> FlawAt<'_>
     ensures { found_flaw result.kind (chars result.rest.now)
         ≡ first_digit_flaw_at kind (chars text.now) }
 {
-    let Some((first, rest)) = split_char(text) else {
-        return make_flaw(FlawKind::Unclosed, text);
-    };
-    match first.to_digit(16) {
-        Some(digit) => digits_flaw(kind, rest, digit),
-        None if first == '}' => make_flaw(FlawKind::EmptyBraces, text),
-        None => make_flaw(FlawKind::NoHexDigit, text),
+    if let Some(digits) = code_digits(text) {
+        return digits_flaw(kind, digits);
+    }
+    match split_char(text) {
+        None => make_flaw(FlawKind::Unclosed, text),
+        Some(('}', _)) => make_flaw(FlawKind::EmptyBraces, text),
+        Some(_) => make_flaw(FlawKind::NoHexDigit, text),
     }
 }
 

@@ -12,7 +12,7 @@ ghost use Rattle.rl_grammar.specs.Shapes.{HasNoQuoted};
 ghost use Rattle.rl_tokens.specs.declared.kind.Kind.{Kind as AnyKind};
 ghost use Rattle.rl_grammar.specs.Segments.{
   AreUnitsIn,
-  IsFront,
+  IsFirstSegment,
   IsLongest,
   IsNoText,
   IsPlaceOf,
@@ -172,7 +172,7 @@ fn value_of<'t>(kind: Kind, piece: Piece) -> SegmentValue<'t>
 fn split_segment(kind: Kind, plain: bool, text: &str) -> (SegmentValue<'_>, &str)
     requires has { (units : List QuotedUnit) × AreUnitsIn kind plain (chars text.now) units }
     requires some { text.now ≢ [] }
-    ensures front { IsFront kind plain (chars text.now) result.0 (chars result.1.now) }
+    ensures front { IsFirstSegment kind plain (chars text.now) result.0 (chars result.1.now) }
     ensures longest { IsLongest kind result.0 (chars result.1.now) }
     ensures following { IsTail text.now result.1.now }
     ensures shorter { length result.1.now < length text.now }
