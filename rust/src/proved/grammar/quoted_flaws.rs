@@ -3,7 +3,7 @@
 
 use crate::grammar::flaws::{FlawAt, FlawKind, make_flaw};
 use crate::grammar::quoted_forms::{QuotedForm, skip_units, split_last_quote};
-use crate::grammar::units::{allows_code, has_unicode, unit};
+use crate::grammar::units::{CodeDigits, allows_code, code_digits, has_unicode, unit};
 use crate::tokens::Kind;
 use crate::tokens::classes::{CharClass, skip_class, skip_hashes};
 use crate::tokens::text::{after_prefix, before, split_char};
@@ -45,40 +45,30 @@ fn code_flaw(code: u32) -> FlawKind {
     }
 }
 
-/// Of what follows the first digit of `\u{`.
-fn digits_flaw(kind: Kind, text: &str, first: u32) -> FlawAt<'_> {
-    let mut value = first;
-    let mut digits = 1_u32;
-    let mut rest = text;
-    while let Some((next, after)) = split_char(rest) {
-        if let Some(digit) = next.to_digit(16) {
-            if digits == 6 {
-                return make_flaw(FlawKind::TooManyDigits, rest);
-            }
-            value = value * 16 + digit;
-            if digits == 5 && !is_code(kind, value) {
-                return make_flaw(code_flaw(value), rest);
-            }
-            digits += 1;
-        } else if next == '}' {
-            return make_flaw(code_flaw(value), rest);
-        } else if next != '_' {
-            return make_flaw(FlawKind::NoHexDigit, rest);
-        }
-        rest = after;
+/// The flaw of what stands between the braces of `\u{..}`, from its first digit on.
+fn digits_flaw<'t>(kind: Kind, digits: CodeDigits<'t>) -> FlawAt<'t> {
+    if digits.count == 6 && !is_code(kind, digits.value) {
+        return make_flaw(code_flaw(digits.value), digits.last);
     }
-    make_flaw(FlawKind::Unclosed, rest)
+    match split_char(digits.rest) {
+        None => make_flaw(FlawKind::Unclosed, digits.rest),
+        Some(('}', _)) => make_flaw(code_flaw(digits.value), digits.rest),
+        Some((next, _)) if next.is_ascii_hexdigit() => {
+            make_flaw(FlawKind::TooManyDigits, digits.rest)
+        }
+        Some(_) => make_flaw(FlawKind::NoHexDigit, digits.rest),
+    }
 }
 
-/// Of what follows `\u{`.
+/// The flaw of what follows `\u{`.
 fn first_digit_flaw(kind: Kind, text: &str) -> FlawAt<'_> {
-    let Some((first, rest)) = split_char(text) else {
-        return make_flaw(FlawKind::Unclosed, text);
-    };
-    match first.to_digit(16) {
-        Some(digit) => digits_flaw(kind, rest, digit),
-        None if first == '}' => make_flaw(FlawKind::EmptyBraces, text),
-        None => make_flaw(FlawKind::NoHexDigit, text),
+    if let Some(digits) = code_digits(text) {
+        return digits_flaw(kind, digits);
+    }
+    match split_char(text) {
+        None => make_flaw(FlawKind::Unclosed, text),
+        Some(('}', _)) => make_flaw(FlawKind::EmptyBraces, text),
+        Some(_) => make_flaw(FlawKind::NoHexDigit, text),
     }
 }
 
