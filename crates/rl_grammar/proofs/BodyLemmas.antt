@@ -171,17 +171,17 @@ pub plain_parts : (form : QuotedForm) (kind : Kind) (t w b x : List ℕ) → is_
 plain_parts form kind t w b x s plain ut ub ux p =
     let cut = subst (λ z. IsQuotedSplit kind t b z) (sym (encodes-chars x ux)) (parts_cut form kind t w b x ut ub ux p) in
     let reads = parts_read form kind (chars t) w (chars b) (chars x) p in
-    go kind s cut reads (plain_bytes (chars t) form kind w b (chars x) plain ub p)
+    go kind s p cut reads (plain_bytes (chars t) form kind w b (chars x) plain ub p)
   where
-    go : (k : Kind) → is_string k ≡ true → IsQuotedSplit k t b (encode_utf8_all (chars x)) → ReadsQuoted (chars t) k (quoted_contents k w) (chars x) → HoldsBytes (chars t) b → IsPlain k t
-    go Str s c r h = record { body = b; suffix = chars x; cut = c; reads = subst (λ v. ReadsQuoted (chars t) Str v (chars x)) (str_bytes t b (Characters w) (chars x) ut h r).1 r }
-    go ByteStr s c r h = record { body = b; suffix = chars x; cut = c; reads = subst (λ v. ReadsQuoted (chars t) ByteStr v (chars x)) (r.contents_is ∙ ap Bytes (sym (h ByteStr _ _ refl r))) r }
-    go CStr s c r h = record { body = b; suffix = chars x; cut = c; reads = subst (λ v. ReadsQuoted (chars t) CStr v (chars x)) (r.contents_is ∙ ap Bytes (sym (h CStr _ _ refl r))) r }
-    go ByteKind s c r h = absurd (cc)
-    go Char s c r h = absurd (cc)
-    go Int s c r h = absurd (cc)
-    go Float s c r h = absurd (cc)
-    go BoolKind s c r h = absurd (cc)
+    go : (k : Kind) → is_string k ≡ true → PartsAre form k (chars t) w (chars b) (chars x) → IsQuotedSplit k t b (encode_utf8_all (chars x)) → ReadsQuoted (chars t) k (quoted_contents k w) (chars x) → HoldsBytes (chars t) b → IsPlain k t
+    go Str s parts c r h = record { body = b; suffix = chars x; cut = c; reads = subst (λ v. ReadsQuoted (chars t) Str (Characters v) (chars x)) (str_bytes form (chars t) w b (chars x) b parts ub h).1 r }
+    go ByteStr s parts c r h = record { body = b; suffix = chars x; cut = c; reads = subst (λ v. ReadsQuoted (chars t) ByteStr v (chars x)) (r.contents_is ∙ ap Bytes (sym (h ByteStr _ _ refl r))) r }
+    go CStr s parts c r h = record { body = b; suffix = chars x; cut = c; reads = subst (λ v. ReadsQuoted (chars t) CStr v (chars x)) (r.contents_is ∙ ap Bytes (sym (h CStr _ _ refl r))) r }
+    go ByteKind s parts c r h = absurd (cc)
+    go Char s parts c r h = absurd (cc)
+    go Int s parts c r h = absurd (cc)
+    go Float s parts c r h = absurd (cc)
+    go BoolKind s parts c r h = absurd (cc)
 
 not_false : (z : Bool) → (z ≡ false → ⊥) → z ≡ true
 not_false true n = refl

@@ -23,7 +23,7 @@ use Rattle.rl_grammar.specs.Decoded.{piece_bytes, in_bytes, HoldsBytes}
 use Rattle.rl_grammar.specs.Mirrors.Decodes.{Decodes}
 use Rattle.rl_grammar.proofs.UnitLemmas.{unit_nil}
 use Rattle.rl_grammar.proofs.RowLemmas.{row_start, row_step, row_run, row_once}
-use Rattle.rl_grammar.proofs.FormLemmas.{Formed, formed, parts_formed, formed_once, not_both, string_parts, cooked_row_of_body}
+use Rattle.rl_grammar.proofs.FormLemmas.{Formed, formed, parts_formed, formed_once, not_both, string_parts, cooked_row_of_body, parts_read}
 
 -- ---- values as bytes
 
@@ -162,36 +162,20 @@ row_scalars (u ∷ us) each h =
     let parts = scalars_parts (unit_text u) (texts us) h in
     scalars_join (unit_value Str u) (values Str us) (unit_scalars u each.0 parts.0) (row_scalars us each.1 parts.1)
 
--- what stands after the opener, up to what follows it
-inside_scalars : (t front inside after : List ℕ) → t ≡ front ++ (inside ++ after) → scalars t ≡ true → scalars inside ≡ true
-inside_scalars t front inside after e h = (scalars_parts inside after (scalars_parts front (inside ++ after) (ap scalars (sym e) ∙ h)).1).0
-
-cooked_scalars : (t v x : List ℕ) → Cooked Str t v x → scalars t ≡ true → scalars v ≡ true
-cooked_scalars t v x c h = ap scalars c.value_is ∙ row_scalars c.units c.each (inside_scalars t (opener Str) (texts c.units) _ c.text_is h)
-
-raw_scalars : (t v x : List ℕ) → Raw Str t v x → scalars t ≡ true → scalars v ≡ true
-raw_scalars t v x r h =
-    let hashes = replicate r.hashes 35 in
-    let after = 34 ∷ (hashes ++ x) in
-    let opened = inside_scalars t (raw_opener Str ++ hashes) (34 ∷ r.inside) after (r.text_is ∙ sym (append_assoc (raw_opener Str) hashes (34 ∷ (r.inside ++ after)))) h in
-    ap scalars r.value_is ∙ opened
-
-value_scalars : (t : List ℕ) (v : Contents) (x : List ℕ) (r : ReadsQuoted t Str v x) → scalars t ≡ true → scalars r.value ≡ true
-value_scalars t v x r h =
-    elim r.form [
-      | inl c ↦ cooked_scalars t r.value x c h
-      | inr o ↦ elim o [
-        | inl w ↦ raw_scalars t r.value x w h
-        | inr s ↦ let single : false ≡ true = s.single in absurd (cc)
-      ]
-    ]
+-- what a body of characters stands for is of characters
+body_scalars : (form : QuotedForm) (t w body x : List ℕ) → PartsAre form Str t w body x → scalars body ≡ true → scalars w ≡ true
+body_scalars CookedForm t w body x p h = ap scalars p.0.value_is ∙ row_scalars p.0.units p.0.each (ap scalars (sym p.1) ∙ h)
+body_scalars RawForm t w body x p h = ap scalars (p.0.value_is ∙ sym p.1) ∙ h
+body_scalars SingleForm t w body x p h = let single : false ≡ true = p.0.single in absurd (cc)
 
 -- the bytes of a string's value are a text, whose characters are the value
-pub str_bytes : (t bytes : List ℕ) (v : Contents) (x : List ℕ) → IsUtf8 t → HoldsBytes (chars t) bytes → ReadsQuoted (chars t) Str v x → IsUtf8 bytes × (v ≡ Characters (chars bytes))
-str_bytes t bytes v x u held_are r =
-    let whole = value_scalars (chars t) v x r (scalars-chars t u) in
-    let are : bytes ≡ encode_utf8_all r.value = held_are Str v x refl r in
-    ((r.value, (whole, sym are)), r.contents_is ∙ ap Characters (sym (chars-encodes r.value whole) ∙ ap chars (sym are)))
+pub str_bytes : (form : QuotedForm) (t w body x bytes : List ℕ) → PartsAre form Str t w (chars body) x → IsUtf8 body → HoldsBytes t bytes → IsUtf8 bytes × (w ≡ chars bytes)
+str_bytes form t w body x bytes parts u held_are =
+    let whole = body_scalars form t w (chars body) x parts (scalars-chars body u) in
+    let r = parts_read form Str t w (chars body) x parts in
+    let same : r.value ≡ w = (let e = r.contents_is in cc) in
+    let are : bytes ≡ encode_utf8_all w = held_are Str (Characters w) x refl r ∙ ap encode_utf8_all same in
+    ((w, (whole, sym are)), sym (chars-encodes w whole) ∙ ap chars (sym are))
 
 -- ---- characters and bytes
 
