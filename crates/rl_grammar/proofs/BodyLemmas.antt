@@ -14,7 +14,7 @@ use Rattle.rl_tokens.specs.Quoted.{QuotedUnit, Letter, Plain, CrLf, Named, Hex, 
 use Rattle.rl_grammar.specs.declared.quoted_forms.QuotedForm.{QuotedForm}
 use Rattle.rl_grammar.specs.declared.quoted_forms.QuotedForm.TheVariants.{Cooked as CookedForm, Raw as RawForm, Single as SingleForm}
 use Rattle.rl_grammar.specs.declared.units.Piece.TheVariants.{Byte}
-use Rattle.rl_grammar.specs.Mirrors.UnitAt.{IsPieceOf}
+use Rattle.rl_grammar.specs.Mirrors.UnitAt.{IsHeldBy}
 use Rattle.rl_grammar.specs.Forms.{PartsAre, is_plain_body}
 use Rattle.rl_grammar.specs.Shapes.{IsCookedSplit, IsQuotedSplit}
 use Rattle.rl_grammar.specs.Decoded.{in_bytes, HoldsBytes}
@@ -33,7 +33,7 @@ pub record Shrinks (kind : Kind) (text value : List ℕ) : Type 0 where
 shorter : (kind : Kind) (text value : List ℕ) → length (in_bytes kind value) < length text → Shrinks kind text value
 shorter kind text value h = record { no_longer = omega (arith, length-le-encodes text); which = inr (omega (arith, length-le-encodes text)) }
 
-one_byte_of : (kind : Kind) (n : ℕ) → IsPieceOf kind (Byte n) → length (in_bytes kind (n ∷ [])) ≡ 1
+one_byte_of : (kind : Kind) (n : ℕ) → IsHeldBy kind (Byte n) → length (in_bytes kind (n ∷ [])) ≡ 1
 one_byte_of kind n h = ap length (byte_in_bytes kind n h)
 
 letter_small : (l : Letter) → ltb (letter_value l) 128 ≡ true

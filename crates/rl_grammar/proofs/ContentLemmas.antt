@@ -16,7 +16,7 @@ use Rattle.rl_grammar.specs.declared.quoted_forms.QuotedForm.{QuotedForm}
 use Rattle.rl_grammar.specs.declared.quoted_forms.QuotedForm.TheVariants.{Cooked as CookedForm, Raw as RawForm, Single as SingleForm}
 use Rattle.rl_grammar.specs.declared.units.Piece.{Piece}
 use Rattle.rl_grammar.specs.declared.units.Piece.TheVariants.{Character, Byte, Nothing}
-use Rattle.rl_grammar.specs.Mirrors.UnitAt.{piece_value, IsPieceOf, unit_at}
+use Rattle.rl_grammar.specs.Mirrors.UnitAt.{piece_value, IsHeldBy, unit_at}
 use Rattle.rl_grammar.specs.Rows.{BeginsRow}
 use Rattle.rl_grammar.specs.Forms.{PartsAre, is_plain_body}
 use Rattle.rl_grammar.specs.Decoded.{piece_bytes, in_bytes, HoldsBytes}
@@ -46,7 +46,7 @@ held_in_bytes kind cs = go (holds_characters kind)
 pub ascii_byte : (c : ℕ) → c < 128 → encode_utf8_all (c ∷ []) ≡ c ∷ []
 ascii_byte c small = append-nil (encode_utf8 c) ∙ encode_ascii c small
 
-pub byte_in_bytes : (kind : Kind) (n : ℕ) → IsPieceOf kind (Byte n) → in_bytes kind (n ∷ []) ≡ n ∷ []
+pub byte_in_bytes : (kind : Kind) (n : ℕ) → IsHeldBy kind (Byte n) → in_bytes kind (n ∷ []) ≡ n ∷ []
 byte_in_bytes kind n h = go (holds_characters kind) h
   where
     go : (b : Bool) → (not b || ltb n 128) ≡ true → cond b (encode_utf8_all (n ∷ [])) (n ∷ []) ≡ n ∷ []
@@ -60,14 +60,14 @@ nothing_in_bytes kind = go (holds_characters kind)
     go true = refl
     go false = refl
 
-pub piece_in_bytes : (kind : Kind) (p : Piece) → IsPieceOf kind p → in_bytes kind (piece_value kind p) ≡ piece_bytes p
+pub piece_in_bytes : (kind : Kind) (p : Piece) → IsHeldBy kind p → in_bytes kind (piece_value kind p) ≡ piece_bytes p
 piece_in_bytes kind (Character c) h = held_in_bytes kind (c ∷ []) ∙ append-nil (encode_utf8 c)
 piece_in_bytes kind (Byte n) h = byte_in_bytes kind n h
 piece_in_bytes kind Nothing h = nothing_in_bytes kind
 
 -- ---- the decoder's loop
 
-pub decode_step : (kind : Kind) (a v b after bytes more : List ℕ) (piece : Piece) → BeginsRow kind a v b → bytes ≡ in_bytes kind v → Some (piece_value kind piece, after) ≡ unit_at kind b → IsPieceOf kind piece → more ≡ bytes ++ piece_bytes piece → (w : List ℕ) × BeginsRow kind a w after × (more ≡ in_bytes kind w)
+pub decode_step : (kind : Kind) (a v b after bytes more : List ℕ) (piece : Piece) → BeginsRow kind a v b → bytes ≡ in_bytes kind v → Some (piece_value kind piece, after) ≡ unit_at kind b → IsHeldBy kind piece → more ≡ bytes ++ piece_bytes piece → (w : List ℕ) × BeginsRow kind a w after × (more ≡ in_bytes kind w)
 decode_step kind a v b after bytes more piece row so_far unit fits grown = (
   v ++ piece_value kind piece,
   row_step kind a v b (piece_value kind piece, after) row (sym unit),

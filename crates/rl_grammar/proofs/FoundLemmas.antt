@@ -22,14 +22,14 @@ use Rattle.rl_grammar.specs.Bodies.{IsUnitValue}
 use Rattle.rl_grammar.specs.Forms.{PartsAre, form_opener, front_len, is_plain_body}
 use Rattle.rl_grammar.specs.Mirrors.OpenerAt.{found_opener, opener_at}
 use Rattle.rl_grammar.specs.Founds.{IsFound, IsFoundFloat, IsQuotedAt, StandsIn, body_in, suffix_in, is_quoted}
-use Rattle.rl_grammar.specs.NumberShapes.{HasMagnitude, IsSplitInteger}
+use Rattle.rl_grammar.specs.NumberShapes.{HasMagnitude}
 use Rattle.rl_grammar.specs.Mirrors.PlainAt.{is_plain_integer, is_plain_float}
 use Rattle.rl_grammar.specs.Shapes.{IsQuotedSplit}
 use Rattle.rl_grammar.specs.WholeShapes.{IsSplit, IsPlain}
 use Rattle.rl_grammar.proofs.BodyLemmas.{plain_parts, parts_plain}
 use Rattle.rl_grammar.proofs.FormLemmas.{front_sound, not_both, parts_read}
 use Rattle.rl_grammar.proofs.IntegerLemmas.{within_reads}
-use Rattle.rl_grammar.proofs.PlainNumberLemmas.{whether_integer, whether_float}
+use Rattle.rl_grammar.proofs.PlainNumberLemmas.{IsSplitInteger, whether_integer, whether_float}
 use Rattle.rl_grammar.proofs.ShapeLemmas.{parts_cut}
 use Rattle.rl_grammar.proofs.SingleBodies.{unit_reads}
 

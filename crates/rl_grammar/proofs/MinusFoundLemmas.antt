@@ -11,14 +11,14 @@ use Rattle.rl_tokens.proofs.StrictNumbers.{behind_minus}
 use Rattle.rl_grammar.specs.declared.found.Found.{Found}
 use Rattle.rl_grammar.specs.Founds.{IsFound}
 use Rattle.rl_grammar.specs.Mirrors.NumberAt.{sign_at}
-use Rattle.rl_grammar.specs.NumberShapes.{HasMagnitude, IsSplitInteger}
+use Rattle.rl_grammar.specs.NumberShapes.{HasMagnitude}
 use Rattle.rl_grammar.specs.Mirrors.PlainAt.{is_plain_integer, is_plain_digits, is_plain_float}
 use Rattle.rl_grammar.specs.WholeShapes.{IsPlain}
 use Rattle.rl_grammar.proofs.FloatLemmas.{float_past, float_sound}
 use Rattle.rl_grammar.proofs.FoundLemmas.{Whether, Of, NumberBody, integer_found, float_found, float_alone}
 use Rattle.rl_grammar.proofs.FrontLemmas.{minus_chars}
 use Rattle.rl_grammar.proofs.MinusLemmas.{int_on, float_at-minus}
-use Rattle.rl_grammar.proofs.PlainNumberLemmas.{whether_integer, whether_float}
+use Rattle.rl_grammar.proofs.PlainNumberLemmas.{IsSplitInteger, whether_integer, whether_float}
 
 same_whether : (b c : Bool) (P : Type 0) → (b ≡ true → P) × (P → b ≡ true) → (c ≡ true → P) × (P → c ≡ true) → b ≡ c
 same_whether true c P h k = sym (k.1 (h.0 refl))

@@ -8,7 +8,7 @@ use Rattle.rl_tokens.specs.Quoted.{is_string, is_single, opener, raw_opener}
 use Rattle.rl_tokens.specs.Numbers.{Sign, NoSign, Minus, IntReads}
 use Rattle.rl_tokens.specs.Reading.{Contents, HasNoReading, HasSuffix, ReadsQuoted, ReadsBool, truth_text}
 use Rattle.rl_grammar.specs.Mirrors.NumberAt.{sign_at, float_at, after_exponent, after_fraction, after_digits, is_suffix}
-use Rattle.rl_grammar.specs.NumberShapes.{HasNoNumber}
+use Rattle.rl_grammar.specs.NumberShapes.{ReadsNoNumber}
 use Rattle.rl_grammar.specs.WholeShapes.{IsSplit}
 use Rattle.std.proofs.lemmas.Bool.{both_ways, eqb-true}
 use Rattle.rl_tokens.proofs.StrictNumbers.{behind_minus, minus_int}
@@ -42,7 +42,7 @@ double_minus (c ∷ cs) h = go (c == 45) refl h
     go true e k = ap (λ z. float_at (45 ∷ z ∷ cs)) (eqb-true c 45 e)
 
 -- where no number stands, none stands after a minus
-pub negative_none : (t : List ℕ) → sign_at t ≡ NoSign → HasNoNumber t → HasNoNumber (45 ∷ t)
+pub negative_none : (t : List ℕ) → sign_at t ≡ NoSign → ReadsNoNumber t → ReadsNoNumber (45 ∷ t)
 negative_none t e h Int c x r = h Int _ x (record { sign = NoSign; magnitude = r.magnitude; reads = (behind_minus t x r.sign r.magnitude r.reads).0; within = r.within; contents_is = refl })
 negative_none t e h Float c x r =
     let f = float_sound t x (sym (float_at-minus t e) ∙ float_past (45 ∷ t) r.numeral x r.reads) in
@@ -55,7 +55,7 @@ negative_none t e h Char c x r = r
 negative_none t e h BoolKind c x r = r
 
 -- no number stands after two minuses
-pub negative_twice : (t : List ℕ) → sign_at t ≡ Minus → HasNoNumber (45 ∷ t)
+pub negative_twice : (t : List ℕ) → sign_at t ≡ Minus → ReadsNoNumber (45 ∷ t)
 negative_twice t e Int c x r =
     let q = int_sign t NoSign r.magnitude x ((behind_minus t x r.sign r.magnitude r.reads).0) in
     let w : Minus ≡ NoSign = sym e ∙ q in
@@ -149,7 +149,7 @@ pub no_truth : (t x : List ℕ) (c : Contents) → ReadsBool (45 ∷ t) c x → 
 no_truth t x c r = both_ways true (ap (first_passes is_minus) r.text_is ∙ truth_front r.truth) refl
 
 -- after a minus only numbers stand
-pub negative_no_reading : (t : List ℕ) → HasNoNumber (45 ∷ t) → HasNoReading (45 ∷ t)
+pub negative_no_reading : (t : List ℕ) → ReadsNoNumber (45 ∷ t) → HasNoReading (45 ∷ t)
 negative_no_reading t h Int c x r = h Int c x r
 negative_no_reading t h Float c x r = h Float c x r
 negative_no_reading t h Str c x r = no_quoted t x Str c r

@@ -11,11 +11,11 @@ use Rattle.rl_tokens.specs.Reading.{HasSuffix, HasNoFloat}
 use Rattle.rl_grammar.specs.declared.found.Found.{Found}
 use Rattle.rl_grammar.specs.Founds.{IsFound, IsFoundFloat, IsFoundNumber, StandsIn, body_in, suffix_in}
 use Rattle.rl_grammar.specs.Mirrors.NumberAt.{sign_at}
-use Rattle.rl_grammar.specs.NumberShapes.{AreDigits, IsSplitInteger, IsNumber}
+use Rattle.rl_grammar.specs.NumberShapes.{AreDigits, IsNumber}
 use Rattle.rl_grammar.specs.WholeShapes.{IsSplit, IsPlain}
 use Rattle.rl_grammar.proofs.DigitLemmas.{int_contents, same_numeral}
 use Rattle.rl_grammar.proofs.FoundLemmas.{body_text, Whether}
-use Rattle.rl_grammar.proofs.PlainNumberLemmas.{no_plain_float, plain_integer, plain_float, plain_contents, plain_numeral}
+use Rattle.rl_grammar.proofs.PlainNumberLemmas.{IsSplitInteger, no_plain_float, plain_integer, plain_float, plain_contents, plain_numeral}
 
 -- ---- which number was found
 

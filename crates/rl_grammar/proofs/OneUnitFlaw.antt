@@ -10,7 +10,8 @@ use Rattle.rl_tokens.specs.Texts.{first_passes, is_among, is_underscore}
 use Rattle.rl_tokens.specs.Quoted.{QuotedUnit, Plain, CrLf, Named, Hex, Unicode, Continuation, Zero, IsUnit, EndsBefore, is_hex_digit, is_string, texts, unit_text, unit_value}
 use Rattle.rl_grammar.specs.declared.flaws.FlawKind.{FlawKind}
 use Rattle.rl_grammar.specs.declared.flaws.FlawKind.TheVariants.{Unclosed, UnknownEscape, NoUnicode, NoHexDigit, NoBrace, EmptyBraces, TooManyDigits, PastAscii, PastUnicode, Surrogate, Nul, NotAscii, LoneCr, MustEscape, NoCharacter, TwoCharacters}
-use Rattle.rl_grammar.specs.FlawKinds.{IsBraced, digit_count, number_of, FirstDigit, SecondDigit, AfterBrace, AfterDigits, IsNoCode, HasNoCode, AtBrace, AtSixth, AsItIs, ByLetter, ByDigits, ByNumber, AfterUnits, BeginsUnits, CloserFlaw, IsNotClosed, UnitFlaw, is_apostrophe}
+use Rattle.rl_grammar.specs.FlawKinds.{IsBraced, digit_count, number_of, FirstDigit, SecondDigit, AfterBrace, AfterDigits, IsNoCode, HasNoCode, AtBrace, AtSixth, AsItIs, ByLetter, ByDigits, ByNumber, AfterUnits, BeginsUnits, CloserFlaw, IsNotClosed, UnitFlaw}
+use Rattle.rl_tokens.specs.Sources.{is_apostrophe}
 use Rattle.rl_grammar.specs.Mirrors.UnitAt.{escape_at, found, hex_at, unit_at, unicode_at}
 use Rattle.rl_grammar.specs.Mirrors.UnitFlawAt.{character_flaw_of, code_flaw_of}
 use Rattle.rl_grammar.specs.Rows.{RowEnds}

@@ -21,10 +21,17 @@ use Rattle.rl_tokens.specs.Quoted.{place_value, without_underscores}
 use Rattle.rl_tokens.specs.Reading.{Digits, HasNoFloat}
 use Rattle.rl_tokens.specs.Texts.{first_passes}
 use Rattle.rl_grammar.specs.Mirrors.NumberAt.{after_minus}
-use Rattle.rl_grammar.specs.NumberShapes.{AreDigits, IsSplitInteger}
+use Rattle.rl_grammar.specs.NumberShapes.{AreDigits, HasMagnitude}
 use Rattle.rl_grammar.specs.WholeShapes.{IsPlain}
 use Rattle.rl_grammar.specs.Mirrors.PlainAt.{is_plain_digits, is_plain_integer, is_kept, is_plain_float}
 use Rattle.rl_grammar.proofs.IntegerLemmas.{minus_past}
+
+-- an integer of this magnitude stands there, within the limit, and the body is all before its
+-- suffix
+pub record IsSplitInteger (text : List ℕ) (magnitude : ℕ) (body : List ℕ) : Type 0 where
+  pub suffix : List ℕ
+  pub within : HasMagnitude text magnitude suffix
+  pub cut : text ≡ body ++ suffix
 
 -- ---- what std writes
 

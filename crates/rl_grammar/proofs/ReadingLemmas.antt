@@ -11,7 +11,7 @@ use Rattle.rl_tokens.proofs.CommentBytes.{cases128, encode_is_high, low_front, n
 use Rattle.rl_tokens.specs.Texts.{first_passes}
 use Rattle.rl_tokens.specs.declared.kind.Kind.TheVariants.{Str, ByteStr, CStr, Byte, Char, Int, Float, Bool as BoolKind}
 use Rattle.rl_tokens.specs.Reading.{truth_text, HasNoReading, HasNoTruth}
-use Rattle.rl_grammar.specs.NumberShapes.{HasNoNumber}
+use Rattle.rl_grammar.specs.NumberShapes.{ReadsNoNumber}
 use Rattle.rl_grammar.specs.Mirrors.NumberAt.{after_minus}
 use Rattle.rl_grammar.specs.Mirrors.OpenerAt.{opener_at}
 use Rattle.rl_grammar.specs.Shapes.{HasNoQuoted}
@@ -23,7 +23,7 @@ use Rattle.rl_grammar.proofs.IntegerLemmas.{no_int}
 use Rattle.rl_grammar.proofs.NumberLemmas.{no_number}
 
 -- a text that is no form's is no literal
-pub no_reading : (t : List ℕ) → HasNoQuoted t → HasNoNumber t → HasNoTruth t → HasNoReading t
+pub no_reading : (t : List ℕ) → HasNoQuoted t → ReadsNoNumber t → HasNoTruth t → HasNoReading t
 no_reading t q n b Int c x r = n Int c x r
 no_reading t q n b Float c x r = n Float c x r
 no_reading t q n b BoolKind c x r = b c x r
@@ -53,7 +53,7 @@ front_same t is = ap (first_passes is_number_front) (sym (encodes-chars t is)) �
     go (c ∷ cs) = at c cs (cases128 c)
 
 -- where no number may begin there is none
-pub no_front_number : (t : List ℕ) → first_passes is_number_front t ≡ false → HasNoNumber t
+pub no_front_number : (t : List ℕ) → first_passes is_number_front t ≡ false → ReadsNoNumber t
 no_front_number t h = let d = no_digit t h in no_number t (no_int t (no_head_int t d)) (no_float t (no_head_float t d))
   where
     no_digit : (t : List ℕ) → first_passes is_number_front t ≡ false → first_passes is_ascii_digit (after_minus t) ≡ false
@@ -75,5 +75,5 @@ front_no_truth t h v x r = go r.truth r.text_is
     go true e = both_ways (first_passes is_number_front t) (ap (first_passes is_number_front) e) h
     go false e = both_ways (first_passes is_number_front t) (ap (first_passes is_number_front) e) h
 
-pub only_number : (t : List ℕ) → first_passes is_number_front t ≡ true → HasNoNumber t → HasNoReading t
+pub only_number : (t : List ℕ) → first_passes is_number_front t ≡ true → ReadsNoNumber t → HasNoReading t
 only_number t h n = no_reading t (no_front t (front_not_quoted t h)) n (front_no_truth t h)

@@ -20,10 +20,10 @@ use Rattle.rl_grammar.specs.declared.quoted_forms.QuotedForm.TheVariants.{Cooked
 use Rattle.rl_grammar.specs.Forms.{has_form, form_opener}
 use Rattle.rl_grammar.specs.Mirrors.OpenerAt.{opener_at}
 use Rattle.rl_grammar.specs.Mirrors.StrictAt.{is_strict_number}
-use Rattle.rl_grammar.specs.StrictShapes.{IsToken, IsStrictNumber, ClosesUnits, ClosesRaw, Closes}
+use Rattle.rl_grammar.specs.StrictShapes.{IsToken, ClosesUnits, ClosesRaw, ClosesForm}
 use Rattle.rl_grammar.proofs.FormLemmas.{front_complete, front_sound}
 use Rattle.rl_grammar.proofs.StrictBackLemmas.{IsQuotedKind}
-use Rattle.rl_grammar.proofs.StrictNumberLemmas.{float_complete, int_complete, number_sound}
+use Rattle.rl_grammar.proofs.StrictNumberLemmas.{IsStrictNumber, float_complete, int_complete, number_sound}
 use Rattle.rl_grammar.proofs.StrictRowLemmas.{quoted_string, quoted_single}
 
 -- ---- both grammars open their forms alike
@@ -110,7 +110,7 @@ raw_token k t inside q text c =
     }
 
 -- any form after its opener
-close_token : (form : QuotedForm) (k : Kind) (t inside : List ℕ) → has_form form k ≡ true → t ≡ form_opener form k ++ inside → Closes form k inside → IsToken t
+close_token : (form : QuotedForm) (k : Kind) (t inside : List ℕ) → has_form form k ≡ true → t ≡ form_opener form k ++ inside → ClosesForm form k inside → IsToken t
 close_token CookedForm k t inside h text c = units_token k t inside (quoted_string k h) text c
 close_token SingleForm k t inside h text c = units_token k t inside (quoted_single k h) text c
 close_token RawForm k t inside h text c = raw_token k t inside (quoted_string k h) text c
@@ -124,7 +124,7 @@ record Opened (t : List ℕ) : Type 0 where
   inside : List ℕ
   has : has_form form kind ≡ true
   text_is : t ≡ form_opener form kind ++ inside
-  closes : Closes form kind inside
+  closes : ClosesForm form kind inside
 
 -- a quoted form, a number or a truth value
 abbrev Seen : List ℕ → Type 0
@@ -222,14 +222,14 @@ truth_none true = refl
 truth_none false = refl
 
 -- a quoted form is what its front tells
-opened_told : (t : List ℕ) (p : QuotedForm × Kind × List ℕ) (o : Opened t) → opener_at t ≡ Some p → Closes p.0 p.1 p.2
+opened_told : (t : List ℕ) (p : QuotedForm × Kind × List ℕ) (o : Opened t) → opener_at t ≡ Some p → ClosesForm p.0 p.1 p.2
 opened_told t p o h =
     let front : Some p ≡ Some (o.form, o.kind, o.inside) = sym h ∙ ap opener_at o.text_is ∙ front_complete o.form o.kind o.inside o.has in
     let same : (o.form, o.kind, o.inside) ≡ p = cc in
-    subst (λ (q : QuotedForm × Kind × List ℕ). Closes q.0 q.1 q.2) same o.closes
+    subst (λ (q : QuotedForm × Kind × List ℕ). ClosesForm q.0 q.1 q.2) same o.closes
 
 -- where a front tells a form, the text is a token exactly where the form is closed
-pub told_token : (t : List ℕ) (p : QuotedForm × Kind × List ℕ) (b : Bool) → Some p ≡ opener_at t → IsTrue b ↔ Closes p.0 p.1 p.2 → IsTrue b ↔ IsToken t
+pub told_token : (t : List ℕ) (p : QuotedForm × Kind × List ℕ) (b : Bool) → Some p ≡ opener_at t → IsTrue b ↔ ClosesForm p.0 p.1 p.2 → IsTrue b ↔ IsToken t
 told_token t p b h same =
     let tells = front_sound t p (sym h) in
     let none : opener_at t ≡ None → ⊥ = λ e. let f : Some p ≡ None = h ∙ e in absurd (cc) in (

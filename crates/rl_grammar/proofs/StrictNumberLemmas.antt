@@ -11,11 +11,16 @@ use Rattle.rl_tokens.proofs.Basics.{all_same, any_same, apart, digit_is_ten, hex
 use Rattle.rl_tokens.proofs.StrictNumbers.{foreign_dot, letter_no_part, no_part, suffix_no_part, suffix_without}
 use Rattle.rl_grammar.specs.Mirrors.NumberAt.{has_value, digit_row_at, has_digit_at, after_digits, after_power_sign}
 use Rattle.rl_grammar.specs.Mirrors.StrictAt.{is_number_suffix, is_some_text, ends_power, ends_digits, ends_dot, ends_whole, is_decimal, is_based, is_strict_number}
-use Rattle.rl_grammar.specs.StrictShapes.{IsStrictNumber}
 use Rattle.rl_grammar.proofs.RunLemmas.{run_all, run_ends, run_join, run_past}
 use Rattle.rl_grammar.proofs.IntegerLemmas.{based, hex_stops, not_based, radix_past}
 use Rattle.rl_grammar.proofs.FloatLemmas.{passes_more, run_first}
 use Rattle.rl_grammar.proofs.StrictWordLemmas.{lenient_suffix, number_suffix_complete, number_suffix_sound}
+
+-- a strict number
+abbrev pub IsStrictNumber : List ℕ → Type 0
+IsStrictNumber text =
+    (contents : Contents) × (suffix : List ℕ)
+    × (StrictInt text contents suffix ⊎ StrictFloat text contents suffix)
 
 -- ---- rows of digits, spelled as both grammars do
 

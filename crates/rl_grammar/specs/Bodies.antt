@@ -27,8 +27,8 @@ pub record HasSingleBody (kind : Kind) (text body : List ℕ) : Type 0 where
   pub parts : PartsAre SingleForm kind text value (chars body) suffix
 
 -- It is the body of a string of the kind.
-abbrev pub IsBody : Kind → List ℕ → Bool → Type 0
-IsBody kind body plain = (text : List ℕ) × HasBody kind text body plain
+abbrev pub IsStringBody : Kind → List ℕ → Bool → Type 0
+IsStringBody kind body plain = (text : List ℕ) × HasBody kind text body plain
 
 -- Whatever string of the kind has this body, it has these contents.
 abbrev pub StandsFor : Kind → List ℕ → Bool → Contents → Type 0

@@ -6,7 +6,7 @@ ghost use Rattle.std.specs.Str.{chars, IsUtf8};
 ghost use Rattle.rl_tokens.specs.Errors.{memory_at, nowhere};
 ghost use Rattle.rl_tokens.specs.Quoted.{is_string};
 ghost use Rattle.rl_tokens.specs.Reading.{Characters, Bytes, ReadsAs, HasContents};
-ghost use Rattle.rl_grammar.specs.Bodies.{HasBody, HasSingleBody, IsBody, IsSingleBody, SingleStandsFor, StandsFor};
+ghost use Rattle.rl_grammar.specs.Bodies.{HasBody, HasSingleBody, IsStringBody, IsSingleBody, SingleStandsFor, StandsFor};
 ghost use Rattle.rl_grammar.specs.Founds.{IsUnitOf};
 ghost use Rattle.rl_grammar.specs.WholeShapes.{IsPlain};
 ghost use Rattle.rl_tokens.specs.declared.kind.Kind.TheVariants.{Float};
@@ -88,7 +88,7 @@ fn body_bytes<A: Allocator>(
     body: &str,
     plain: bool,
 ) -> Result<Vec<u8, A>, AllocError>
-    requires { IsBody kind body.now plain }
+    requires { IsStringBody kind body.now plain }
     ensures { IfOk result (λ bytes. (text : List ℕ) → HasBody kind text body.now plain
         → HoldsBytes text bytes.items) }
 {
@@ -152,7 +152,7 @@ pub fn bytes_of<A: Allocator>(alloc: A, text: &str) -> Result<Vec<u8, A>, Error<
 ///
 /// `Memory` where an allocation fails, reported at `Span::call_site`.
 pub fn str_of_body<A: Allocator>(alloc: A, body: &str, plain: bool) -> Result<String<A>, Error<A>>
-    requires { IsBody Kind.Str body.now plain }
+    requires { IsStringBody Kind.Str body.now plain }
     ensures value { IfOk result
         (λ s. StandsFor Kind.Str body.now plain (Characters (chars (string_bytes s)))) }
     ensures memory { IfErr result (λ e. e ≡ memory_at nowhere) }
@@ -174,7 +174,7 @@ pub fn bytes_of_body<A: Allocator>(
     plain: bool,
 ) -> Result<Vec<u8, A>, Error<A>>
     requires kind { kind ≡ Kind.ByteStr ⊎ kind ≡ Kind.CStr }
-    requires body { IsBody kind body.now plain }
+    requires body { IsStringBody kind body.now plain }
     ensures value { IfOk result (λ bytes. StandsFor kind body.now plain (Bytes bytes.items)) }
     ensures memory { IfErr result (λ e. e ≡ memory_at nowhere) }
 {
@@ -184,7 +184,7 @@ pub fn bytes_of_body<A: Allocator>(
 /// Writes the text that a string literal with this body stands for, and returns how many bytes it is long. The body
 /// isn't plain ([`Body::plain`](crate::Body::plain)); a plain one is what the literal stands for. No memory is taken.
 pub fn str_into(body: &str, out: &mut [u8]) -> usize
-    requires body { IsBody Kind.Str body.now false }
+    requires body { IsStringBody Kind.Str body.now false }
     requires room { length body.now ≤ length out.old }
     ensures value { StandsFor Kind.Str body.now false (Characters (chars (take result out.new))) }
     ensures utf8 { IsUtf8 (take result out.new) }
@@ -198,7 +198,7 @@ pub fn str_into(body: &str, out: &mut [u8]) -> usize
 /// The body isn't plain ([`Body::plain`](crate::Body::plain)). No memory is taken.
 pub fn bytes_into(kind: Kind, body: &str, out: &mut [u8]) -> usize
     requires kind { kind ≡ Kind.ByteStr ⊎ kind ≡ Kind.CStr }
-    requires body { IsBody kind body.now false }
+    requires body { IsStringBody kind body.now false }
     requires room { length body.now ≤ length out.old }
     ensures value { StandsFor kind body.now false (Bytes (take result out.new)) }
     ensures within { result ≤ length body.now }

@@ -7,11 +7,11 @@ ghost use Rattle.rl_tokens.specs.declared.kind.Kind.TheVariants.{Float, Int, Boo
 ghost use Rattle.rl_tokens.specs.Numbers.{FloatReads, NoSign};
 ghost use Rattle.rl_tokens.specs.Quoted.{is_string};
 ghost use Rattle.rl_tokens.specs.Reading.{HasNoFloat, HasNoInteger, HasNoReading, HasNoTruth, HasReading, HasSuffix, IsPast, ReadsAs, Contents, Reads, truth_text};
-ghost use Rattle.rl_tokens.specs.Texts.{IsTail, first_passes};
+ghost use Rattle.rl_tokens.specs.Texts.{IsTail, first_passes, code};
 ghost use Rattle.rl_grammar.specs.Bodies.{HasBody};
 ghost use Rattle.rl_grammar.specs.Founds.{IsFound, IsFoundFloat};
 ghost use Rattle.rl_grammar.specs.Mirrors.NumberAt.{sign_at};
-ghost use Rattle.rl_grammar.specs.NumberShapes.{HasNoNumber, HasOneFloat, HasOneInteger, HasMagnitude};
+ghost use Rattle.rl_grammar.specs.NumberShapes.{ReadsNoNumber, HasOneFloat, HasOneInteger, HasMagnitude};
 ghost use Rattle.rl_grammar.specs.StrictBytes.{KeepsBytesStrict};
 ghost use Rattle.rl_grammar.specs.WholeShapes.{IsSplit, is_number_front, IsPlain};
 
@@ -205,7 +205,7 @@ pub fn find_float(text: &str) -> Option<Found>
 /// What reading the text as a number finds, an integer before a float.
 #[inline(never)]
 fn find_number(text: &str) -> Option<Found>
-    ensures none { IfNone result (HasNoNumber (chars text.now)) }
+    ensures none { IfNone result (ReadsNoNumber (chars text.now)) }
     ensures found { IfSome result (IsFound text.now) }
     ensures number { IfSome result (λ f. (f.kind ≡ Int) ⊎ (f.kind ≡ Float)) }
 {
@@ -221,7 +221,7 @@ fn find_number(text: &str) -> Option<Found>
 /// What reading the text as the number after a minus finds: one without a sign of its own.
 #[inline(always)]
 pub(crate) fn find_unsigned(text: &str) -> Option<Found>
-    ensures none { IfNone result (HasNoReading (45 ∷ chars text.now)) }
+    ensures none { IfNone result (HasNoReading (code "-" ∷ chars text.now)) }
     ensures found { IfSome result (IsFound text.now) }
     ensures number { IfSome result (λ f. (f.kind ≡ Int) ⊎ (f.kind ≡ Float)) }
     ensures unsigned { IfSome result (λ f. sign_at (chars text.now) ≡ NoSign) }
@@ -236,8 +236,8 @@ pub(crate) fn find_unsigned(text: &str) -> Option<Found>
 ///
 /// `Some` exactly where the text with a minus before it reads as a literal; it is then an integer or a float.
 pub fn find_negative(text: &str) -> Option<Found>
-    ensures none { IfNone result (HasNoReading (45 ∷ chars text.now)) }
-    ensures found { IfSome result (IsFound (45 ∷ text.now)) }
+    ensures none { IfNone result (HasNoReading (code "-" ∷ chars text.now)) }
+    ensures found { IfSome result (IsFound (code "-" ∷ text.now)) }
     ensures number { IfSome result (λ f. (f.kind ≡ Int) ⊎ (f.kind ≡ Float)) }
 {
     let found = find_unsigned(text)?;

@@ -29,14 +29,14 @@ pub struct Negative<'a, A: Allocator> {
 impl<'a, A: Allocator> Model for Negative<'a, A> {
     ghost use Rattle.std.specs.Prelude.{◌∷◌};
     ghost use Rattle.rl_tokens.specs.Puncts.{Mark};
-    ghost use Rattle.rl_tokens.specs.Texts.{SpannedText};
+    ghost use Rattle.rl_tokens.specs.Texts.{SpannedText, code};
     ghost use Rattle.rl_grammar.specs.Founds.{IsFound};
 
     ghost Value = { Mark × SpannedText };
 
     ghost view = { λ n. (n.minus.now, n.number.now) };
 
-    ghost invariant = { λ n. IsFound (45 ∷ n.number.now.text) n.found };
+    ghost invariant = { λ n. IsFound (code "-" ∷ n.number.now.text) n.found };
 }
 
 /// A literal at the front of trees, as the tokens that it is made of.

@@ -6,9 +6,9 @@ ghost use Rattle.rl_grammar.specs.Mirrors.UnitFlawAt.{character_flaw_of, code_fl
 ghost use Rattle.rl_grammar.specs.Mirrors.UnitAt.{code_digits};
 ghost use Rattle.std.specs.List.{list_all};
 ghost use Rattle.rl_tokens.specs.Classes.{after_run};
-ghost use Rattle.rl_tokens.specs.Texts.{first_passes, IsTail};
+ghost use Rattle.rl_tokens.specs.Texts.{first_passes, IsTail, code};
 ghost use Rattle.rl_tokens.specs.Quoted.{is_raw, is_string, raw_opener, is_single};
-ghost use Rattle.rl_grammar.specs.FlawKinds.{is_quote, Closes, RawFlaw, IsPiece, QuotedFlaw};
+ghost use Rattle.rl_grammar.specs.FlawKinds.{is_quote, HasLastCloser, RawFlaw, IsPiece, QuotedFlaw};
 ghost use Rattle.rl_grammar.specs.Forms.{HasNoParts, form_opener, has_form};
 ghost use Rattle.rl_grammar.specs.Mirrors.StopsInside.{StopsInside};
 
@@ -200,9 +200,9 @@ fn skip_to_quote(text: &str) -> &str
 
 /// Whether the hashes stand after the last quote.
 fn closes(hashes: &str, text: &str) -> bool
-    requires { (n : ℕ) × (chars hashes.now ≡ replicate n 35) }
+    requires { (n : ℕ) × (chars hashes.now ≡ replicate n (code "#")) }
     ensures { MatchBool result
-        (Closes (chars hashes.now) (chars text.now)) (Closes (chars hashes.now) (chars text.now) → ⊥) }
+        (HasLastCloser (chars hashes.now) (chars text.now)) (HasLastCloser (chars hashes.now) (chars text.now) → ⊥) }
 {
     match split_last_quote(text) {
         Some((_, after)) => after_prefix(hashes, after).is_some(),
@@ -223,11 +223,11 @@ fn spoiled_flaw(kind: Kind) -> FlawKind
 /// Of what follows the first quote.
 fn opened_flaw<'t>(kind: Kind, hashes: &str, inside: &'t str) -> FlawAt<'t>
     requires string { IsTrue (is_string kind) }
-    requires hashes { (n : ℕ) × (chars hashes.now ≡ replicate n 35) }
+    requires hashes { (n : ℕ) × (chars hashes.now ≡ replicate n (code "#")) }
     requires none { HasNoParts QuotedForm.Raw kind
-        (raw_opener kind ++ (chars hashes.now ++ (34 ∷ chars inside.now))) }
+        (raw_opener kind ++ (chars hashes.now ++ (code "\"" ∷ chars inside.now))) }
     ensures kind { RawFlaw kind result.kind
-        (chars hashes.now ++ (34 ∷ chars inside.now)) (chars result.rest.now) }
+        (chars hashes.now ++ (code "\"" ∷ chars inside.now)) (chars result.rest.now) }
     ensures piece { result.piece.now ≡ result.rest.now }
 {
     let (body, rest) = split_raw(kind, inside);

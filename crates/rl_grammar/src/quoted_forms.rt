@@ -3,7 +3,7 @@
 ghost use Rattle.std.specs.Prelude.{◌≡◌, ◌≢◌, ◌==◌, ◌∷◌, ◌++◌, ◌+◌, ℕ, List, None, option_map, IfSome, IfNone, IsTrue, ◌≤◌, ◌<◌, length, not, slice_index, false};
 ghost use Rattle.std.specs.List.{list_all};
 ghost use Rattle.std.specs.Str.{chars};
-ghost use Rattle.rl_tokens.specs.Texts.{IsTail};
+ghost use Rattle.rl_tokens.specs.Texts.{IsTail, code};
 ghost use Rattle.rl_tokens.specs.Quoted.{is_string, is_raw, opener};
 ghost use Rattle.rl_tokens.specs.Written.{closer};
 ghost use Rattle.rl_grammar.specs.Mirrors.UnitAt.{unit_at};
@@ -111,9 +111,9 @@ pub(crate) fn skip_units(kind: Kind, text: &str) -> &str
 
 /// The text in front of the last quote, and the text after it.
 pub(crate) fn split_last_quote(text: &str) -> Option<(&str, &str)>
-    ensures some { IfSome result (λ p. (chars text.now ≡ chars p.0.now ++ (34 ∷ chars p.1.now))
-        × IsTrue (list_all (λ c. not (c == 34)) (chars p.1.now))) }
-    ensures none { IfNone result (IsTrue (list_all (λ c. not (c == 34)) (chars text.now))) }
+    ensures some { IfSome result (λ p. (chars text.now ≡ chars p.0.now ++ (code "\"" ∷ chars p.1.now))
+        × IsTrue (list_all (λ c. not (c == code "\"")) (chars p.1.now))) }
+    ensures none { IfNone result (IsTrue (list_all (λ c. not (c == code "\"")) (chars text.now))) }
 {
     text.rsplit_once('"')
 }
@@ -121,7 +121,7 @@ pub(crate) fn split_last_quote(text: &str) -> Option<(&str, &str)>
 /// Whether the text holds a NUL.
 #[tactic(auto, using(crate::proofs::CutLemmas::contains_chars))]
 pub(crate) fn has_nul(text: &str) -> bool
-    ensures { not result ≡ list_all (λ c. not (c == 0)) (chars text.now) }
+    ensures { not result ≡ list_all (λ c. not (c == code "\0")) (chars text.now) }
 {
     text.contains('\0')
 }
@@ -261,7 +261,7 @@ pub(crate) fn find_single(kind: Kind, text: &str, inside: &str) -> Option<Found>
 #[inline(always)]
 pub(crate) fn begins_character(text: &str) -> bool
     ensures long { IsTrue result → 3 ≤ length text.now }
-    ensures quote { IsTrue result → slice_index text.now 0 ≡ 39 }
+    ensures quote { IsTrue result → slice_index text.now 0 ≡ code "'" }
 {
     let bytes = text.as_bytes();
     bytes.len() >= 3 && bytes[0] == first_of(Kind::Char)
@@ -271,7 +271,7 @@ pub(crate) fn begins_character(text: &str) -> bool
 #[inline(always)]
 pub(crate) fn find_bare_character(text: &str) -> Option<Found>
     requires long { 3 ≤ length text.now }
-    requires quote { slice_index text.now 0 ≡ 39 }
+    requires quote { slice_index text.now 0 ≡ code "'" }
     ensures { IfSome result (IsFound text.now) }
 {
     let bytes = text.as_bytes();
@@ -290,7 +290,7 @@ pub(crate) fn find_bare_character(text: &str) -> Option<Found>
 /// What reading the text as a character finds, which a `'` begins.
 #[inline(never)]
 pub(crate) fn find_character(text: &str) -> Option<Found>
-    requires { slice_index text.now 0 ≡ 39 }
+    requires { slice_index text.now 0 ≡ code "'" }
     ensures none { IfNone result (HasNoReading (chars text.now)) }
     ensures found { IfSome result (IsFound text.now) }
 {

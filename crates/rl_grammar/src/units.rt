@@ -2,11 +2,11 @@
 
 ghost use Rattle.std.specs.Prelude.{◌≡◌, ◌==◌, ◌<◌, ◌≤◌, ◌∷◌, [], ℕ, length, option_map, IfSome, IsTrue, IsFalse, ◌+◌, ◌++◌, drop, map, ◌≢◌, List, not, IfNone};
 ghost use Rattle.std.specs.Str.{chars};
-ghost use Rattle.rl_tokens.specs.Texts.{first_passes, IsTail};
+ghost use Rattle.rl_tokens.specs.Texts.{first_passes, IsTail, code};
 ghost use Rattle.rl_tokens.specs.Quoted.{holds_characters, is_plain, is_single, allows_code, may_be_hex, has_unicode, is_string};
 ghost use Rattle.rl_tokens.specs.Strict.{is_bare_character};
 ghost use Rattle.rl_grammar.specs.Bodies.{IsUnitValue};
-ghost use Rattle.rl_grammar.specs.Mirrors.UnitAt.{piece_value, IsPieceOf, named_in, digit_at, hex_at, code_digits, code_digits_at, first_code_digits_at, closed_at, unicode_at, after_blanks, escape_at, unit_at};
+ghost use Rattle.rl_grammar.specs.Mirrors.UnitAt.{piece_value, IsHeldBy, named_in, digit_at, hex_at, code_digits, code_digits_at, first_code_digits_at, closed_at, unicode_at, after_blanks, escape_at, unit_at};
 ghost use Rattle.std.specs.Char.{is_ascii};
 ghost use Rattle.std.specs.List.{list_all, prefix_len};
 ghost use Rattle.rl_tokens.specs.Scanning.{is_ascii_other};
@@ -243,7 +243,7 @@ fn skip_blanks(text: &str) -> &str
 fn escape(kind: Kind, text: &str) -> Option<(Piece, &str)>
     ensures value { option_map (λ p. (piece_value kind p.0, chars p.1.now)) result
         ≡ escape_at kind (chars text.now) }
-    ensures piece { IfSome result (λ p. IsPieceOf kind p.0) }
+    ensures piece { IfSome result (λ p. IsHeldBy kind p.0) }
     ensures shorter { IfSome result (λ p. length p.1.now < length text.now) }
 {
     let (letter, rest) = split_ascii(text)?;
@@ -274,10 +274,10 @@ fn escape(kind: Kind, text: &str) -> Option<(Piece, &str)>
 #[tactic(auto, unfolding(crate::specs::Mirrors::UnitAt::unit_at))]
 #[inline(always)]
 fn character(kind: Kind, text: &str) -> Option<(Piece, &str)>
-    requires { IsFalse (first_passes (λ c. c == 92) (chars text.now)) }
+    requires { IsFalse (first_passes (λ c. c == code "\\") (chars text.now)) }
     ensures value { option_map (λ p. (piece_value kind p.0, chars p.1.now)) result
         ≡ unit_at kind (chars text.now) }
-    ensures piece { IfSome result (λ p. IsPieceOf kind p.0) }
+    ensures piece { IfSome result (λ p. IsHeldBy kind p.0) }
     ensures shorter { IfSome result (λ p. length p.1.now < length text.now) }
 {
     match split_char(text) {
@@ -296,7 +296,7 @@ fn character(kind: Kind, text: &str) -> Option<(Piece, &str)>
 pub(crate) fn unit(kind: Kind, text: &str) -> Option<(Piece, &str)>
     ensures value { option_map (λ p. (piece_value kind p.0, chars p.1.now)) result
         ≡ unit_at kind (chars text.now) }
-    ensures piece { IfSome result (λ p. IsPieceOf kind p.0) }
+    ensures piece { IfSome result (λ p. IsHeldBy kind p.0) }
     ensures shorter { IfSome result (λ p. length p.1.now < length text.now) }
 {
     match split_ascii(text) {

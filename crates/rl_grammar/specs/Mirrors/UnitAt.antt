@@ -16,9 +16,9 @@ piece_value kind (Byte b) = b ∷ []
 piece_value kind Nothing = []
 
 -- where characters are held, a byte is one of ASCII
-abbrev pub IsPieceOf : Kind → Piece → Type 0
-IsPieceOf kind (Byte b) = IsTrue (not (holds_characters kind) || nat_lt b 128)
-IsPieceOf kind _ = ⊤
+abbrev pub IsHeldBy : Kind → Piece → Type 0
+IsHeldBy kind (Byte b) = IsTrue (not (holds_characters kind) || nat_lt b 128)
+IsHeldBy kind _ = ⊤
 
 infixl 10 ◌>>=◌
 abbrev pub ◌>>=◌ : {A B : Type 0} → Option A → (A → Option B) → Option B
