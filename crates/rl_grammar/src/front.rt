@@ -122,7 +122,7 @@ impl<'a, A: Allocator> Front<'a, A> {
         Some(Front::Negative(negative))
     }
 
-    /// What reading the literal finds; the places count in its token's text, a minus included. None where it has no
+    /// The reading of the literal; the places count in its token's text, a minus included. None where it has no
     /// reading.
     pub fn find(&self) -> Option<Found>
         ensures none { IfNone result (HasNoReading (chars (front_token self.now).text)) }
@@ -144,7 +144,7 @@ impl<'a, A: Allocator> Front<'a, A> {
         Some(found.kind)
     }
 
-    /// What reading the literal finds, where it reads as this kind.
+    /// The reading of the literal, where it is of this kind.
     fn find_as(&self, kind: Kind) -> Option<Found>
         ensures found { IfSome result (IsFound (front_token self.now).text) }
         ensures kind { IfSome result (λ f. f.kind ≡ kind) }

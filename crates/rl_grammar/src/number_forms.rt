@@ -44,7 +44,7 @@ pub(crate) struct Head<'t> {
     pub row: DigitRow<'t>,
 }
 
-/// What a number begins with, by what stands after its sign.
+/// What a number begins with, from the text after its sign.
 #[inline(always)]
 #[tactic(auto, using(rl_tokens::proofs::BehindLemmas::behind_step))]
 fn head_of(unsigned: &str) -> Head<'_>
@@ -140,7 +140,7 @@ pub fn int_shape(text: &str) -> Option<Option<Parts<'_>>>
     }
 }
 
-/// What follows a dot and its digits, or the text.
+/// The text after the dot and digits at its front, if a dot stands there.
 #[inline(always)]
 #[tactic(auto, using(rl_tokens::proofs::BehindLemmas::behind_step, rl_tokens::proofs::BehindLemmas::behind_self))]
 fn after_fraction(text: &str) -> &str
@@ -167,7 +167,7 @@ fn power_digits(text: &str) -> &str
     }
 }
 
-/// What follows an exponent, or the text.
+/// The text after the exponent at its front, if one stands there.
 #[inline(always)]
 #[tactic(auto, using(rl_tokens::proofs::BehindLemmas::behind_step, rl_tokens::proofs::BehindLemmas::behind_self), unfolding(crate::specs::Mirrors::NumberAt::after_exponent))]
 fn after_exponent(text: &str) -> &str

@@ -19,7 +19,7 @@ use rl_tokens::Kind;
 use rl_tokens::classes::{CharClass, skip_class, skip_hashes};
 use rl_tokens::text::{after_prefix, before, split_char};
 
-/// Of what should be the second digit of `\x`, whose first one may stand there.
+/// The first flaw after the first digit of `\x`, which may stand there.
 fn low_digit_flaw(text: &str) -> FlawAt<'_>
     ensures { found_flaw result.kind (chars result.rest.now) ≡ low_digit_flaw_at (chars text.now) }
 {
@@ -30,7 +30,7 @@ fn low_digit_flaw(text: &str) -> FlawAt<'_>
     }
 }
 
-/// Of what should be the two digits of `\x`.
+/// The first flaw after `\x`.
 #[tactic(auto, unfolding(crate::specs::Mirrors::UnitFlawAt::hex_flaw_at))]
 fn hex_flaw(kind: Kind, text: &str) -> FlawAt<'_>
     ensures { found_flaw result.kind (chars result.rest.now) ≡ hex_flaw_at kind (chars text.now) }
@@ -65,7 +65,7 @@ fn code_flaw(code: u32) -> FlawKind
     }
 }
 
-/// The flaw of what stands between the braces of `\u{..}`, from its first digit on.
+/// The flaw of the digits of `\u{..}`, or the first one after them.
 fn digits_flaw<'t>(kind: Kind, digits: CodeDigits<'t>) -> FlawAt<'t>
     ensures { found_flaw result.kind (chars result.rest.now)
         ≡ code_flaw_at kind (code_digits digits.entry.value digits.entry.count (chars digits.entry.last.now)
@@ -84,7 +84,7 @@ fn digits_flaw<'t>(kind: Kind, digits: CodeDigits<'t>) -> FlawAt<'t>
     }
 }
 
-/// The flaw of what follows `\u{`.
+/// The first flaw after `\u{`.
 #[tactic(auto, unfolding(crate::specs::Mirrors::UnitFlawAt::first_digit_flaw_at))]
 fn first_digit_flaw(kind: Kind, text: &str) -> FlawAt<'_>
     ensures { found_flaw result.kind (chars result.rest.now)
@@ -100,7 +100,7 @@ fn first_digit_flaw(kind: Kind, text: &str) -> FlawAt<'_>
     }
 }
 
-/// Of what follows `\u`.
+/// The first flaw after `\u`.
 #[tactic(auto, unfolding(crate::specs::Mirrors::UnitFlawAt::unicode_flaw_at))]
 fn unicode_flaw(kind: Kind, text: &str) -> FlawAt<'_>
     ensures { found_flaw result.kind (chars result.rest.now)
@@ -113,7 +113,7 @@ fn unicode_flaw(kind: Kind, text: &str) -> FlawAt<'_>
     }
 }
 
-/// Of what follows a backslash.
+/// The first flaw after a backslash.
 #[tactic(auto, unfolding(crate::specs::Mirrors::UnitFlawAt::escape_flaw_at))]
 fn escape_flaw(kind: Kind, text: &str) -> FlawAt<'_>
     ensures { found_flaw result.kind (chars result.rest.now)
@@ -134,7 +134,7 @@ fn escape_flaw(kind: Kind, text: &str) -> FlawAt<'_>
     }
 }
 
-/// Of what follows a CR.
+/// The flaw after a CR.
 fn line_end_flaw(text: &str) -> FlawAt<'_>
     ensures { found_flaw result.kind (chars result.rest.now) ≡ line_end_flaw_at (chars text.now) }
 {
@@ -156,7 +156,7 @@ fn character_flaw(c: char) -> FlawKind
     }
 }
 
-/// Why no unit of the kind stands at the front, where none does, and the text from the place on.
+/// Why no unit of the kind stands at the front, and the text from there on.
 #[tactic(auto, unfolding(crate::specs::Mirrors::UnitFlawAt::unit_flaw_at))]
 fn unit_flaw(kind: Kind, text: &str) -> FlawAt<'_>
     ensures { found_flaw result.kind (chars result.rest.now) ≡ unit_flaw_at kind (chars text.now) }
@@ -220,7 +220,7 @@ fn spoiled_flaw(kind: Kind) -> FlawKind
     }
 }
 
-/// Of what follows the first quote.
+/// The flaw of a raw string after its first quote.
 fn opened_flaw<'t>(kind: Kind, hashes: &str, inside: &'t str) -> FlawAt<'t>
     requires string { IsTrue (is_string kind) }
     requires hashes { (n : ℕ) × (chars hashes.now ≡ replicate n (code "#")) }
@@ -241,7 +241,7 @@ fn opened_flaw<'t>(kind: Kind, hashes: &str, inside: &'t str) -> FlawAt<'t>
     }
 }
 
-/// Of what follows the opener of a raw string.
+/// The flaw of a raw string, from its hashes on.
 fn raw_flaw(kind: Kind, text: &str) -> FlawAt<'_>
     requires string { IsTrue (is_string kind) }
     requires none { HasNoParts QuotedForm.Raw kind (raw_opener kind ++ chars text.now) }
@@ -259,7 +259,7 @@ fn raw_flaw(kind: Kind, text: &str) -> FlawAt<'_>
     }
 }
 
-/// Of what follows the opener of a string with escapes.
+/// The flaw of a string with escapes, after its opener.
 fn cooked_flaw(kind: Kind, text: &str) -> FlawAt<'_>
     requires string { IsTrue (is_string kind) }
     requires none { HasNoParts QuotedForm.Cooked kind (form_opener QuotedForm.Cooked kind ++ chars text.now) }
@@ -284,7 +284,7 @@ fn after_unit_flaw(text: &str, rest: &str) -> FlawKind
     }
 }
 
-/// Of what follows the opener of a character or a byte.
+/// The flaw of a character or a byte, after its opener.
 fn single_flaw(kind: Kind, text: &str) -> FlawAt<'_>
     requires single { IsTrue (is_single kind) }
     requires none { HasNoParts QuotedForm.Single kind (form_opener QuotedForm.Single kind ++ chars text.now) }
@@ -298,7 +298,7 @@ fn single_flaw(kind: Kind, text: &str) -> FlawAt<'_>
     }
 }
 
-/// Of what follows the opener of a quoted literal.
+/// The flaw of a quoted literal, after its opener.
 pub(crate) fn quoted_flaw(form: QuotedForm, kind: Kind, text: &str) -> FlawAt<'_>
     requires form { IsTrue (has_form form kind) }
     requires none { HasNoParts form kind (form_opener form kind ++ chars text.now) }

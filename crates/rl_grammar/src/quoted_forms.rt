@@ -47,7 +47,7 @@ fn quote_of(kind: Kind) -> u8
     opener[opener.len() - 1]
 }
 
-/// What a quote or an `r` at the front tells of a string of the kind.
+/// The form of a string of the kind, by the quote or the `r` at the front, and the text after that.
 #[inline(always)]
 #[tactic(auto, using(crate::proofs::AsciiLemmas::no_string_opener))]
 fn split_string_opener(kind: Kind, text: &str) -> Option<(QuotedForm, Kind, &str)>
@@ -62,7 +62,7 @@ fn split_string_opener(kind: Kind, text: &str) -> Option<(QuotedForm, Kind, &str
     }
 }
 
-/// What the text after a `b` tells.
+/// The form and kind of a literal by the text after its `b`, and the text after the opener.
 #[tactic(auto, using(crate::proofs::AsciiLemmas::no_byte_opener))]
 fn split_byte_opener(text: &str) -> Option<(QuotedForm, Kind, &str)>
     ensures { option_map (λ p. (p.0, p.1, chars p.2.now)) result ≡ byte_opener_at (chars text.now) }
@@ -75,7 +75,7 @@ fn split_byte_opener(text: &str) -> Option<(QuotedForm, Kind, &str)>
     }
 }
 
-/// What a text's opener tells: the one form and the one kind that the text can have, and the text after the opener.
+/// The one form and the one kind that a text can have by its opener, and the text after the opener.
 #[inline(always)]
 #[tactic(auto, unfolding(crate::specs::Mirrors::OpenerAt::opener_at), using(crate::proofs::AsciiLemmas::no_opener))]
 pub(crate) fn split_opener(text: &str) -> Option<(QuotedForm, Kind, &str)>
@@ -182,7 +182,7 @@ fn quoted(kind: Kind, body: Body, unit: u32) -> Found
     }
 }
 
-/// What reading the text finds as a cooked string, from the text after its opener.
+/// The reading of the text as a string with escapes, by the text after its opener.
 #[inline(always)]
 #[tactic(auto, using(crate::proofs::PlaceLemmas::opened))]
 pub(crate) fn find_cooked(kind: Kind, text: &str, inside: &str) -> Option<Found>
@@ -220,7 +220,7 @@ fn raw_places(kind: Kind, text: &str, inside: &str) -> Option<Body>
     Some(places(text, opened, closer, suffix, true))
 }
 
-/// What reading the text finds as a raw string, from its hashes on.
+/// The reading of the text as a raw string, by the text from its hashes on.
 #[inline(always)]
 pub(crate) fn find_raw(kind: Kind, text: &str, inside: &str) -> Option<Found>
     requires { opener_at (chars text.now) ≡ found_opener QuotedForm.Raw kind (chars inside.now) }
@@ -243,7 +243,7 @@ fn holds_all(kind: Kind, text: &str) -> bool
     }
 }
 
-/// What reading the text finds as a character or a byte, from the text after its opener.
+/// The reading of the text as a character or a byte, by the text after its opener.
 #[inline(always)]
 #[tactic(auto, using(crate::proofs::PlaceLemmas::opened))]
 pub(crate) fn find_single(kind: Kind, text: &str, inside: &str) -> Option<Found>
@@ -287,7 +287,7 @@ pub(crate) fn find_bare_character(text: &str) -> Option<Found>
     Some(quoted(Kind::Char, body, bytes[1] as u32))
 }
 
-/// What reading the text as a character finds, which a `'` begins.
+/// The reading of a text that begins with a `'`.
 #[inline(never)]
 pub(crate) fn find_character(text: &str) -> Option<Found>
     requires { slice_index text.now 0 ≡ code "'" }
