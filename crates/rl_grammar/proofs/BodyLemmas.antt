@@ -118,22 +118,14 @@ held_in Str t s p = record {
 }
 held_in ByteStr t s p = record { contents = Bytes p.body; reads = p.reads; held_are = λ ub. sym (bytes_are p.body p.reads.value p.reads.contents_is) }
 held_in CStr t s p = record { contents = Bytes p.body; reads = p.reads; held_are = λ ub. sym (bytes_are p.body p.reads.value p.reads.contents_is) }
-held_in ByteKind t s p = absurd (cc)
-held_in Char t s p = absurd (cc)
-held_in Int t s p = absurd (cc)
-held_in Float t s p = absurd (cc)
-held_in BoolKind t s p = absurd (cc)
+held_in kind t s p = absurd (cc)
 
 -- how a string is cut, as any literal is
 string_cut : (kind : Kind) (t b x : List ℕ) → is_string kind ≡ true → IsSplit kind t b x → IsQuotedSplit kind t b x
 string_cut Str t b x s c = c
 string_cut ByteStr t b x s c = c
 string_cut CStr t b x s c = c
-string_cut ByteKind t b x s c = absurd (cc)
-string_cut Char t b x s c = absurd (cc)
-string_cut Int t b x s c = absurd (cc)
-string_cut Float t b x s c = absurd (cc)
-string_cut BoolKind t b x s c = absurd (cc)
+string_cut kind t b x s c = absurd (cc)
 
 abbrev is_quote : ℕ → Bool
 is_quote c = c == 34
@@ -143,11 +135,7 @@ pub openers_differ : (kind : Kind) (a b : List ℕ) → is_string kind ≡ true 
 openers_differ Str a b s e = let h : true ≡ false = ap (first_passes is_quote) e in absurd (cc)
 openers_differ ByteStr a b s e = let h : true ≡ false = ap (λ l. first_passes is_quote (drop 1 l)) e in absurd (cc)
 openers_differ CStr a b s e = let h : true ≡ false = ap (λ l. first_passes is_quote (drop 1 l)) e in absurd (cc)
-openers_differ ByteKind a b s e = absurd (cc)
-openers_differ Char a b s e = absurd (cc)
-openers_differ Int a b s e = absurd (cc)
-openers_differ Float a b s e = absurd (cc)
-openers_differ BoolKind a b s e = absurd (cc)
+openers_differ kind a b s e = absurd (cc)
 
 -- a cooked string is cut in one way
 cut_once : (kind : Kind) (t b d x : List ℕ) → IsCookedSplit kind t b x → IsQuotedSplit kind t d x → b ≡ d
@@ -177,11 +165,7 @@ plain_parts form kind t w b x s plain ut ub ux p =
     go Str s parts c r h = record { body = b; suffix = chars x; cut = c; reads = subst (λ v. ReadsQuoted (chars t) Str (Characters v) (chars x)) (str_bytes form (chars t) w b (chars x) b parts ub h).1 r }
     go ByteStr s parts c r h = record { body = b; suffix = chars x; cut = c; reads = subst (λ v. ReadsQuoted (chars t) ByteStr v (chars x)) (r.contents_is ∙ ap Bytes (sym (h ByteStr _ _ refl r))) r }
     go CStr s parts c r h = record { body = b; suffix = chars x; cut = c; reads = subst (λ v. ReadsQuoted (chars t) CStr v (chars x)) (r.contents_is ∙ ap Bytes (sym (h CStr _ _ refl r))) r }
-    go ByteKind s parts c r h = absurd (cc)
-    go Char s parts c r h = absurd (cc)
-    go Int s parts c r h = absurd (cc)
-    go Float s parts c r h = absurd (cc)
-    go BoolKind s parts c r h = absurd (cc)
+    go kind s parts c r h = absurd (cc)
 
 not_false : (z : Bool) → (z ≡ false → ⊥) → z ≡ true
 not_false true n = refl

@@ -39,11 +39,7 @@ pub plain_cut : (kind : Kind) (bs : List ℕ) → is_string kind ≡ true → Is
 plain_cut Str bs h u = high_cut (is_plain Str) (plain_high Str refl (λ e. absurd (cc))) bs u
 plain_cut ByteStr bs h u = low_cut (is_plain ByteStr) plain_low bs u
 plain_cut CStr bs h u = high_cut (is_plain CStr) (plain_high CStr refl (λ e. absurd (cc))) bs u
-plain_cut Byte bs h u = absurd (cc)
-plain_cut Char bs h u = absurd (cc)
-plain_cut Int bs h u = absurd (cc)
-plain_cut Float bs h u = absurd (cc)
-plain_cut BoolKind bs h u = absurd (cc)
+plain_cut kind bs h u = absurd (cc)
 
 -- ---- what raw byte strings hold
 

@@ -94,12 +94,7 @@ front_complete RawForm Char r h = absurd (cc)
 front_complete RawForm Int r h = absurd (cc)
 front_complete RawForm Float r h = absurd (cc)
 front_complete RawForm BoolKind r h = absurd (cc)
-front_complete SingleForm Str r h = absurd (cc)
-front_complete SingleForm ByteStr r h = absurd (cc)
-front_complete SingleForm CStr r h = absurd (cc)
-front_complete SingleForm Int r h = absurd (cc)
-front_complete SingleForm Float r h = absurd (cc)
-front_complete SingleForm BoolKind r h = absurd (cc)
+front_complete SingleForm kind r h = absurd (cc)
 
 -- ---- cooked strings
 

@@ -46,9 +46,7 @@ plain_reads ByteStr t n p = (_, p.suffix, p.reads)
 plain_reads CStr t n p = (_, p.suffix, p.reads)
 plain_reads Int t n p = (_, p.suffix, p.reads)
 plain_reads Float t n p = absurd (n refl)
-plain_reads Byte t n p = absurd p.reads
-plain_reads Char t n p = absurd p.reads
-plain_reads BoolKind t n p = absurd p.reads
+plain_reads kind t n p = absurd p.reads
 
 pub plain_found : (kind : Kind) (t : List ℕ) (found : Found) → (kind ≡ Float → ⊥) → IsFound t found → IsPlain kind t → found.kind ≡ kind
 plain_found kind t found n f p = found_kind kind t found (plain_reads kind t n p) f

@@ -99,9 +99,7 @@ quoted_whole t ByteStr body u q = record { reads = (_, quoted_reads ByteStr t bo
 quoted_whole t CStr body u q = record { reads = (_, quoted_reads CStr t body q); cut = quoted_cut CStr t body u q; plain = string_plain CStr t body refl u q }
 quoted_whole t Byte body u q = record { reads = (_, quoted_reads Byte t body q); cut = quoted_cut Byte t body u q; plain = single_plain Byte t body refl (λ p. p.reads) q }
 quoted_whole t Char body u q = record { reads = (_, quoted_reads Char t body q); cut = quoted_cut Char t body u q; plain = single_plain Char t body refl (λ p. p.reads) q }
-quoted_whole t Int body u q = absurd (no_form Int t body refl refl q)
-quoted_whole t Float body u q = absurd (no_form Float t body refl refl q)
-quoted_whole t BoolKind body u q = absurd (no_form BoolKind t body refl refl q)
+quoted_whole t kind body u q = absurd (no_form kind t body refl refl q)
 
 pub quoted_found : (t : List ℕ) (kind : Kind) (body : Body) (n : ℕ) (found : Found) → IsUtf8 t → (q : IsQuotedAt kind t body) → IsUnitValue kind q.value n → found ≡ OfUnit kind body n → IsFound t found
 quoted_found t kind body n found u q h is =

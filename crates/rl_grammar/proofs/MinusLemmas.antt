@@ -99,20 +99,14 @@ string_front ByteStr r h = refl
 string_front CStr r h = refl
 string_front Byte r h = refl
 string_front Char r h = refl
-string_front Int r h = absurd (cc)
-string_front Float r h = absurd (cc)
-string_front BoolKind r h = absurd (cc)
+string_front kind r h = absurd (cc)
 
 -- a raw string
 raw_front : (k : Kind) (r : List ℕ) → is_string k ≡ true → first_passes is_minus (raw_opener k ++ r) ≡ false
 raw_front Str r h = refl
 raw_front ByteStr r h = refl
 raw_front CStr r h = refl
-raw_front Byte r h = absurd (cc)
-raw_front Char r h = absurd (cc)
-raw_front Int r h = absurd (cc)
-raw_front Float r h = absurd (cc)
-raw_front BoolKind r h = absurd (cc)
+raw_front kind r h = absurd (cc)
 
 -- a character or a byte
 single_front : (k : Kind) (r : List ℕ) → is_single k ≡ true → first_passes is_minus (opener k ++ r) ≡ false
@@ -121,9 +115,7 @@ single_front Char r h = refl
 single_front Str r h = refl
 single_front ByteStr r h = refl
 single_front CStr r h = refl
-single_front Int r h = absurd (cc)
-single_front Float r h = absurd (cc)
-single_front BoolKind r h = absurd (cc)
+single_front kind r h = absurd (cc)
 
 -- a truth value
 truth_front : (b : Bool) → first_passes is_minus (truth_text b) ≡ false

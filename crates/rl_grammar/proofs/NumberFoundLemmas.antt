@@ -106,12 +106,7 @@ int_number k t h e = subst (λ j. IsNumber j t) e h
 pub is_float : (k : Kind) (t : List ℕ) → IsNumber k t → k ≢ Int → IsNumber Float t
 is_float Int t h n = absurd (n refl)
 is_float Float t h n = h
-is_float Str t h n = absurd h
-is_float ByteStr t h n = absurd h
-is_float CStr t h n = absurd h
-is_float Byte t h n = absurd h
-is_float Char t h n = absurd h
-is_float BoolKind t h n = absurd h
+is_float kind t h n = absurd h
 
 pub float_not_plain : (t : List ℕ) → HasNoFloat (chars t) → Whether false Float t
 float_not_plain t n = no_plain_float t n
@@ -120,9 +115,4 @@ float_not_plain t n = no_plain_float t n
 pub float_kind : (k : Kind) (t : List ℕ) → IsNumber k t → k ≢ Int → k ≡ Float
 float_kind Int t h n = absurd (n refl)
 float_kind Float t h n = refl
-float_kind Str t h n = absurd h
-float_kind ByteStr t h n = absurd h
-float_kind CStr t h n = absurd h
-float_kind Byte t h n = absurd h
-float_kind Char t h n = absurd h
-float_kind BoolKind t h n = absurd h
+float_kind kind t h n = absurd h

@@ -214,8 +214,7 @@ kinds_once k l t rest s p q = go p q
 -- in each form one piece is spoiled
 form_piece : (form : QuotedForm) (kind : Kind) (inside p q rest : List ℕ) → IsPiece form kind inside p rest → IsPiece form kind inside q rest → p ≡ q
 form_piece CookedForm kind inside p q rest a b = pieces_once kind inside p q a b
-form_piece RawForm kind inside p q rest a b = a ∙ sym b
-form_piece SingleForm kind inside p q rest a b = a ∙ sym b
+form_piece k kind inside p q rest a b = a ∙ sym b
 
 -- one piece is spoiled
 piece_once : (t p q rest : List ℕ) → IsPieceOf t p rest → IsPieceOf t q rest → p ≡ q

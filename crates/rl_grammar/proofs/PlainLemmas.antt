@@ -19,11 +19,7 @@ pub plain_high : (kind : Kind) → is_string kind ≡ true → (kind ≡ ByteStr
 plain_high Str h n b high = rw (not_equal b 34 (omega arith) high, not_equal b 92 (omega arith) high, not_equal b 13 (omega arith) high) refl
 plain_high ByteStr h n b high = absurd (n refl)
 plain_high CStr h n b high = rw (not_equal b 34 (omega arith) high, not_equal b 92 (omega arith) high, not_equal b 13 (omega arith) high, not_equal b 0 (omega arith) high) refl
-plain_high Byte h n b high = absurd (cc)
-plain_high Char h n b high = absurd (cc)
-plain_high Int h n b high = absurd (cc)
-plain_high Float h n b high = absurd (cc)
-plain_high BoolKind h n b high = absurd (cc)
+plain_high kind h n b high = absurd (cc)
 
 -- ---- two tests that agree
 
@@ -34,24 +30,14 @@ same_prefix p q (x ∷ xs) same = ap₂ (λ b n. cond b (1 + n) 0) (same x) (sam
 -- what runs of strings but byte strings go on with
 pub in_run_other : (kind : Kind) (m : Marks) (c : ℕ) → (kind ≡ ByteStr → ⊥) → is_other m c ≡ is_in_run kind m c
 in_run_other ByteStr m c n = absurd (n refl)
-in_run_other Str m c n = refl
-in_run_other CStr m c n = refl
-in_run_other Byte m c n = refl
-in_run_other Char m c n = refl
-in_run_other Int m c n = refl
-in_run_other Float m c n = refl
-in_run_other BoolKind m c n = refl
+in_run_other kind m c n = refl
 
 -- strings but byte strings and C strings are of one kind
 pub other_string : (kind : Kind) → is_string kind ≡ true → (kind ≡ ByteStr → ⊥) → (kind ≡ CStr → ⊥) → kind ≡ Str
 other_string Str h n m = refl
 other_string ByteStr h n m = absurd (n refl)
 other_string CStr h n m = absurd (m refl)
-other_string Byte h n m = absurd (cc)
-other_string Char h n m = absurd (cc)
-other_string Int h n m = absurd (cc)
-other_string Float h n m = absurd (cc)
-other_string BoolKind h n m = absurd (cc)
+other_string kind h n m = absurd (cc)
 
 -- ---- a body that is one run
 

@@ -35,9 +35,7 @@ quoted_reading t ByteStr c x r = r
 quoted_reading t CStr c x r = r
 quoted_reading t Byte c x r = r
 quoted_reading t Char c x r = r
-quoted_reading t Int c x r = absurd (neither t Int c x refl refl r)
-quoted_reading t Float c x r = absurd (neither t Float c x refl refl r)
-quoted_reading t BoolKind c x r = absurd (neither t BoolKind c x refl refl r)
+quoted_reading t kind c x r = absurd (neither t kind c x refl refl r)
 
 -- a text that is no literal has no parts of the form that its opener tells
 pub no_parts_of : (t : List ℕ) (form : QuotedForm) (kind : Kind) (inside : List ℕ) → opener_at t ≡ found_opener form kind inside → HasNoReading t → HasNoParts form kind (form_opener form kind ++ inside)

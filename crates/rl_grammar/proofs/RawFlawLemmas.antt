@@ -32,11 +32,7 @@ ascii_is_raw : (kind : Kind) (c : ℕ) → ltb c 128 ≡ true → eqb c 0 ≡ fa
 ascii_is_raw Str c low some = refl
 ascii_is_raw ByteStr c low some = low
 ascii_is_raw CStr c low some = not_from_false (eqb c 0) some
-ascii_is_raw Byte c low some = refl
-ascii_is_raw Char c low some = refl
-ascii_is_raw Int c low some = refl
-ascii_is_raw Float c low some = refl
-ascii_is_raw BoolKind c low some = refl
+ascii_is_raw kind c low some = refl
 
 -- what a kind doesn't take is none of what it takes
 other : (kind : Kind) (c k : ℕ) → is_raw kind c ≡ false → is_raw kind k ≡ true → c ≡ k → ⊥
@@ -208,25 +204,7 @@ raw_stops kind Unclosed t rest s f = unclosed_stops kind t rest s f.0 f.1
 raw_stops kind Nul t rest s f = spoiled_stops kind t rest s f.1
 raw_stops kind NotAscii t rest s f = spoiled_stops kind t rest s f.1
 raw_stops kind LateQuote t rest s f = reopened_stops kind t rest s f
-raw_stops kind Empty t rest s f = absurd f
-raw_stops kind NoLiteral t rest s f = absurd f
-raw_stops kind NoNumber t rest s f = absurd f
-raw_stops kind UnknownEscape t rest s f = absurd f
-raw_stops kind NoUnicode t rest s f = absurd f
-raw_stops kind NoHexDigit t rest s f = absurd f
-raw_stops kind NoBrace t rest s f = absurd f
-raw_stops kind EmptyBraces t rest s f = absurd f
-raw_stops kind TooManyDigits t rest s f = absurd f
-raw_stops kind PastAscii t rest s f = absurd f
-raw_stops kind PastUnicode t rest s f = absurd f
-raw_stops kind Surrogate t rest s f = absurd f
-raw_stops kind LoneCr t rest s f = absurd f
-raw_stops kind MustEscape t rest s f = absurd f
-raw_stops kind NoCharacter t rest s f = absurd f
-raw_stops kind TwoCharacters t rest s f = absurd f
-raw_stops kind NoExponentDigit t rest s f = absurd f
-raw_stops kind BadSuffix t rest s f = absurd f
-raw_stops kind TooLarge t rest s f = absurd f
+raw_stops kind k t rest s f = absurd f
 
 -- ---- the steps of the code
 
@@ -289,12 +267,7 @@ all_held kind held t (d ∷ ds) p = both_ways (not (is_raw kind d)) (ap not (hel
 pub spoiled_kind : (kind : Kind) (t rest : List ℕ) → IsSpoiled kind t rest → RawFlaw kind (spoiled_flaw_of kind) t rest
 spoiled_kind CStr t rest p = (refl, p)
 spoiled_kind ByteStr t rest p = (refl, p)
-spoiled_kind Str t rest p = absurd (all_held Str (λ c. refl) t rest p)
-spoiled_kind Byte t rest p = absurd (all_held Byte (λ c. refl) t rest p)
-spoiled_kind Char t rest p = absurd (all_held Char (λ c. refl) t rest p)
-spoiled_kind Int t rest p = absurd (all_held Int (λ c. refl) t rest p)
-spoiled_kind Float t rest p = absurd (all_held Float (λ c. refl) t rest p)
-spoiled_kind BoolKind t rest p = absurd (all_held BoolKind (λ c. refl) t rest p)
+spoiled_kind kind t rest p = absurd (all_held kind (λ c. refl) t rest p)
 
 -- the parts of a text whose first quote follows `hashes`
 module _ (kind : Kind) (n : ℕ) (hashes inside body rest : List ℕ) (hashes_are : hashes ≡ replicate n 35) (cut : inside ≡ body ++ rest) (each : list_all (is_raw kind) body ≡ true) where

@@ -24,12 +24,7 @@ all_true (c ∷ cs) = all_true cs
 pub others_hold : (kind : Kind) → kind ≢ ByteStr → kind ≢ CStr → (cs : List ℕ) → list_all (is_raw kind) cs ≡ true
 others_hold ByteStr n h cs = absurd (n refl)
 others_hold CStr n h cs = absurd (h refl)
-others_hold Str n h cs = all_true cs
-others_hold Byte n h cs = all_true cs
-others_hold Char n h cs = all_true cs
-others_hold Int n h cs = all_true cs
-others_hold Float n h cs = all_true cs
-others_hold BoolKind n h cs = all_true cs
+others_hold kind n h cs = all_true cs
 
 -- ---- the last quote of a text
 

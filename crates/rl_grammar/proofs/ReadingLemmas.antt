@@ -27,11 +27,7 @@ pub no_reading : (t : List ℕ) → HasNoQuoted t → ReadsNoNumber t → HasNoT
 no_reading t q n b Int c x r = n Int c x r
 no_reading t q n b Float c x r = n Float c x r
 no_reading t q n b BoolKind c x r = b c x r
-no_reading t q n b Str c x r = q Str c x r
-no_reading t q n b ByteStr c x r = q ByteStr c x r
-no_reading t q n b CStr c x r = q CStr c x r
-no_reading t q n b Byte c x r = q Byte c x r
-no_reading t q n b Char c x r = q Char c x r
+no_reading t q n b kind c x r = q kind c x r
 
 -- ---- what a text begins with
 

@@ -148,9 +148,7 @@ quoted_reads_as ByteStr t v x r q = r
 quoted_reads_as CStr t v x r q = r
 quoted_reads_as Byte t v x r q = r
 quoted_reads_as Char t v x r q = r
-quoted_reads_as Int t v x r q = absurd (cc)
-quoted_reads_as Float t v x r q = absurd (cc)
-quoted_reads_as BoolKind t v x r q = absurd (cc)
+quoted_reads_as kind t v x r q = absurd (cc)
 
 has_quotes : (kind : Kind) → (is_string kind ≡ true) ⊎ (is_single kind ≡ true) → is_quoted kind ≡ true
 has_quotes kind (inl e) = cc
@@ -162,9 +160,7 @@ has_quotes kind (inr e) = go kind e
     go CStr e = absurd (cc)
     go Byte e = refl
     go Char e = refl
-    go Int e = absurd (cc)
-    go Float e = absurd (cc)
-    go BoolKind e = absurd (cc)
+    go kind e = absurd (cc)
 
 pub quoted_kind : (kind : Kind) (t : List ℕ) (v : Contents) (x : List ℕ) → ReadsQuoted t kind v x → is_quoted kind ≡ true
 quoted_kind kind t v x r = elim r.form [

@@ -27,12 +27,7 @@ use Rattle.rl_grammar.proofs.UnitLemmas.{some_pair, unit_complete, unit_sound}
 by_single : (P : Kind → Type 0) (kind : Kind) → is_single kind ≡ true → P Byte → P Char → P kind
 by_single P Byte s b c = b
 by_single P Char s b c = c
-by_single P Str s b c = absurd (cc)
-by_single P ByteStr s b c = absurd (cc)
-by_single P CStr s b c = absurd (cc)
-by_single P Int s b c = absurd (cc)
-by_single P Float s b c = absurd (cc)
-by_single P BoolKind s b c = absurd (cc)
+by_single P kind s b c = absurd (cc)
 
 -- one number
 pub unit_one : (kind : Kind) (a : List ℕ) (p : List ℕ × List ℕ) → is_single kind ≡ true → unit_at kind a ≡ Some p → (n : ℕ) × (p.0 ≡ n ∷ [])
@@ -105,8 +100,7 @@ body_reads kind t body p n has unit is =
 -- a character or a byte has one form
 single_parts : (form : QuotedForm) (kind : Kind) (t value body suffix : List ℕ) → is_single kind ≡ true → PartsAre form kind t value body suffix → PartsAre SingleForm kind t value body suffix
 single_parts SingleForm kind t value body suffix s p = p
-single_parts CookedForm kind t value body suffix s p = absurd (not_both kind p.0.string s)
-single_parts RawForm kind t value body suffix s p = absurd (not_both kind p.0.string s)
+single_parts k kind t value body suffix s p = absurd (not_both kind p.0.string s)
 
 -- what stands at the places of its body
 pub single_at : (kind : Kind) (t : List ℕ) (body : Body) → is_single kind ≡ true → IsQuotedAt kind t body → HasSingleBody kind (chars t) (body_in t body)

@@ -44,12 +44,7 @@ escape_same k u b = record { unit = b.unit; is_unit = b.is_unit; text_is = b.tex
 quoted_kind : (k : Kind) → IsByteKind k → IsQuotedKind k
 quoted_kind ByteStr b = tt
 quoted_kind Byte b = refl
-quoted_kind Str b = absurd b
-quoted_kind CStr b = absurd b
-quoted_kind Char b = absurd b
-quoted_kind Int b = absurd b
-quoted_kind Float b = absurd b
-quoted_kind BoolKind b = absurd b
+quoted_kind kind b = absurd b
 
 -- a character of ASCII is its byte
 low_value : (c : ℕ) (more : Bool) → (nat_lt c 128 && more) ≡ true → unit_value ByteStr (Plain c) ≡ c ∷ []
@@ -58,12 +53,7 @@ low_value c more h = ap (λ z. z ++ []) (encode_ascii c (ltb-true c 128 (and_par
 plain_same : (k : Kind) (c : ℕ) → IsByteKind k → is_plain k c ≡ true → Same k (Plain c)
 plain_same ByteStr c b h = record { unit = Itself c; is_unit = h; text_is = refl; value_is = low_value c _ h; may_end = λ t e. tt }
 plain_same Byte c b h = record { unit = Itself c; is_unit = h; text_is = refl; value_is = low_value c _ h; may_end = λ t e. tt }
-plain_same Str c b h = absurd b
-plain_same CStr c b h = absurd b
-plain_same Char c b h = absurd b
-plain_same Int c b h = absurd b
-plain_same Float c b h = absurd b
-plain_same BoolKind c b h = absurd b
+plain_same kind c b h = absurd b
 
 -- blanks but CR
 dropped : (c : ℕ) → is_blank c ≡ true → no_return c ≡ true → is_dropped_blank c ≡ true

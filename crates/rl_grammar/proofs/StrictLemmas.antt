@@ -59,9 +59,7 @@ quoted_strict t ByteStr v x q s = s
 quoted_strict t CStr v x q s = s
 quoted_strict t Byte v x q s = s
 quoted_strict t Char v x q s = s
-quoted_strict t Int v x q s = absurd q
-quoted_strict t Float v x q s = absurd q
-quoted_strict t BoolKind v x q s = absurd q
+quoted_strict t kind v x q s = absurd q
 
 -- units, a quote and a suffix after an opener
 units_token : (k : Kind) (t inside : List ℕ) → IsQuotedKind k → t ≡ opener k ++ inside → ClosesUnits k inside → IsToken t

@@ -328,9 +328,7 @@ prefix_of Decimal h = absurd (cc)
 -- after a row of base 16 no digit of it follows
 no_more_digits : (b : Base) (x : List ℕ) → first_passes (is_row_part (has_value (radix b))) x ≡ false → radix b ≡ 16 → first_passes is_ascii_hexdigit x ≡ false
 no_more_digits Hexadecimal x h e = passes_same is_ascii_hexdigit (has_value 16) hex_is_sixteen x ∙ hex_stops x h
-no_more_digits Binary x h e = absurd (omega arith)
-no_more_digits Octal x h e = absurd (omega arith)
-no_more_digits Decimal x h e = absurd (omega arith)
+no_more_digits kind x h e = absurd (omega arith)
 
 -- an integer of another base
 based_sound : (b : Base) (t w : List ℕ) → (radix b == 10) ≡ false → t ≡ prefix b ++ w → is_based (radix b) w ≡ true → IsStrictNumber t
@@ -360,9 +358,7 @@ based_sound b t w other text h =
 -- a number of any base
 by_base : (b : Base) (t w : List ℕ) → t ≡ prefix b ++ w → ((not (radix b == 10) || first_passes is_ascii_digit w) ≡ true → IsAfterPrefix b w) → cond (radix b == 10) (is_decimal w) (is_based (radix b) w) ≡ true → IsStrictNumber t
 by_base Decimal t w text front h = subst IsStrictNumber (sym text) (decimal_sound w (λ d. (front d).1) h)
-by_base Binary t w text front h = based_sound Binary t w refl text h
-by_base Octal t w text front h = based_sound Octal t w refl text h
-by_base Hexadecimal t w text front h = based_sound Hexadecimal t w refl text h
+by_base kind t w text front h = based_sound kind t w refl text h
 
 -- what passes is a strict number
 pub number_sound : (t : List ℕ) → is_strict_number t ≡ true → IsStrictNumber t

@@ -35,22 +35,14 @@ inside_allowed : (k : Kind) (cs : List ℕ) → IsRawInside k cs → list_all no
 inside_allowed Str cs a n = n
 inside_allowed ByteStr cs a n = all_both (λ c. nat_lt c 128) no_return cs a n
 inside_allowed CStr cs a n = all_both (λ c. not (c == 0)) no_return cs a n
-inside_allowed Byte cs a n = absurd a
-inside_allowed Char cs a n = absurd a
-inside_allowed Int cs a n = absurd a
-inside_allowed Float cs a n = absurd a
-inside_allowed BoolKind cs a n = absurd a
+inside_allowed kind cs a n = absurd a
 
 -- and the other way about
 inside_sound : (k : Kind) (cs : List ℕ) → is_string k ≡ true → list_all (is_raw_character k) cs ≡ true → IsRawInside k cs × (list_all no_return cs ≡ true)
 inside_sound Str cs s h = (tt, h)
 inside_sound ByteStr cs s h = all_apart (λ c. nat_lt c 128) no_return cs h
 inside_sound CStr cs s h = all_apart (λ c. not (c == 0)) no_return cs h
-inside_sound Byte cs s h = absurd (cc)
-inside_sound Char cs s h = absurd (cc)
-inside_sound Int cs s h = absurd (cc)
-inside_sound Float cs s h = absurd (cc)
-inside_sound BoolKind cs s h = absurd (cc)
+inside_sound kind cs s h = absurd (cc)
 
 -- ---- the first closer
 

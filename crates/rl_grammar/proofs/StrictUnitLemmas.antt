@@ -85,11 +85,7 @@ pub line_allowed : (k : Kind) (blanks : List ℕ) → is_string k ≡ true → l
 line_allowed Str blanks s h = h
 line_allowed ByteStr blanks s h = h
 line_allowed CStr blanks s h = h
-line_allowed Char blanks s h = absurd (cc)
-line_allowed Byte blanks s h = absurd (cc)
-line_allowed Int blanks s h = absurd (cc)
-line_allowed Float blanks s h = absurd (cc)
-line_allowed BoolKind blanks s h = absurd (cc)
+line_allowed kind blanks s h = absurd (cc)
 
 -- a line break at the front
 line_front : (k : Kind) (cs r : List ℕ) → cond (is_string k) (Some (after_run is_dropped_blank cs)) None ≡ Some r → StrictFront k (92 ∷ 10 ∷ cs) r
@@ -191,11 +187,7 @@ line_of : (k : Kind) (blanks : List ℕ) → is_strict_unit k (LineBreak blanks)
 line_of Str blanks h = (refl, h)
 line_of ByteStr blanks h = (refl, h)
 line_of CStr blanks h = (refl, h)
-line_of Char blanks h = absurd (cc)
-line_of Byte blanks h = absurd (cc)
-line_of Int blanks h = absurd (cc)
-line_of Float blanks h = absurd (cc)
-line_of BoolKind blanks h = absurd (cc)
+line_of kind blanks h = absurd (cc)
 
 -- a line break is taken off with its blanks
 line_past : (k : Kind) (blanks r : List ℕ) → is_strict_unit k (LineBreak blanks) ≡ true → first_passes is_dropped_blank r ≡ false → unit_rest k (92 ∷ 10 ∷ (blanks ++ r)) ≡ Some r

@@ -88,13 +88,7 @@ next_same inner outer c x is same none inside = next inner outer (λ v. v) c x i
 
 c_string : (kind : Kind) (v : ℕ) → allows_code kind v ≡ false → kind ≡ CStr
 c_string CStr v h = refl
-c_string Str v h = absurd (cc)
-c_string ByteStr v h = absurd (cc)
-c_string Byte v h = absurd (cc)
-c_string Char v h = absurd (cc)
-c_string Int v h = absurd (cc)
-c_string Float v h = absurd (cc)
-c_string BoolKind v h = absurd (cc)
+c_string kind v h = absurd (cc)
 
 left_false : (a b : Bool) → b ≡ true → (a && b) ≡ false → a ≡ false
 left_false true b h e = absurd (both_ways b e h)
@@ -441,12 +435,7 @@ byte_has c cs p b = zero (eqb c 0) refl
 single_has : (kind : Kind) (c : ℕ) (cs : List ℕ) → is_single kind ≡ true → is_plain kind c ≡ false → eqb c 92 ≡ false → Alone kind c cs (character_flaw_of c)
 single_has Byte c cs s p b = byte_has c cs p b
 single_has Char c cs s p b = let e : true ≡ false = rw b at p in absurd (cc)
-single_has Str c cs s p b = absurd (cc)
-single_has ByteStr c cs s p b = absurd (cc)
-single_has CStr c cs s p b = absurd (cc)
-single_has Int c cs s p b = absurd (cc)
-single_has Float c cs s p b = absurd (cc)
-single_has BoolKind c cs s p b = absurd (cc)
+single_has kind c cs s p b = absurd (cc)
 
 -- ---- a unit
 

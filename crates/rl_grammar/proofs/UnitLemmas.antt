@@ -329,11 +329,7 @@ pub holds_more : (kind : Kind) (n : ℕ) → eqb n 0 ≡ false → allows_code k
 holds_more Str n h = refl
 holds_more ByteStr n h = refl
 holds_more CStr n h = rw h refl
-holds_more Byte n h = refl
-holds_more Char n h = refl
-holds_more Int n h = refl
-holds_more Float n h = refl
-holds_more BoolKind n h = refl
+holds_more kind n h = refl
 
 named_sound : (kind : Kind) (c : ℕ) (cs : List ℕ) (p : List ℕ × List ℕ) → named_at kind c cs ≡ Some p → Begins kind (92 ∷ c ∷ cs) p.0 p.1
 named_sound kind c cs p h =
@@ -458,11 +454,7 @@ pub quote_and_return : (kind : Kind) → is_string kind ≡ true → (is_plain k
 quote_and_return Str h = (refl, refl)
 quote_and_return ByteStr h = (refl, refl)
 quote_and_return CStr h = (refl, refl)
-quote_and_return Byte h = absurd (cc)
-quote_and_return Char h = absurd (cc)
-quote_and_return Int h = absurd (cc)
-quote_and_return Float h = absurd (cc)
-quote_and_return BoolKind h = absurd (cc)
+quote_and_return kind h = absurd (cc)
 
 pub plain_complete : (kind : Kind) (c : ℕ) (r : List ℕ) → is_plain kind c ≡ true → unit_at kind (c ∷ r) ≡ found (content_of kind (c ∷ [])) r
 unfolding unit_at
