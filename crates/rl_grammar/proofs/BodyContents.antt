@@ -45,12 +45,7 @@ bytes_of_has ByteStr t body bytes plain which has held =
 bytes_of_has CStr t body bytes plain which has held =
     let r = body_reads CStr t body plain has in
     (has.suffix, subst (λ v. ReadsQuoted t CStr v has.suffix) (r.contents_is ∙ ap Bytes (sym (held CStr (quoted_contents CStr has.value) has.suffix refl r))) r)
-bytes_of_has Str t body bytes plain which has held = absurd (other_kind Str which refl)
-bytes_of_has Byte t body bytes plain which has held = absurd (other_kind Byte which refl)
-bytes_of_has Char t body bytes plain which has held = absurd (other_kind Char which refl)
-bytes_of_has Int t body bytes plain which has held = absurd (other_kind Int which refl)
-bytes_of_has Float t body bytes plain which has held = absurd (other_kind Float which refl)
-bytes_of_has BoolKind t body bytes plain which has held = absurd (other_kind BoolKind which refl)
+bytes_of_has kind t body bytes plain which has held = absurd (other_kind kind which refl)
 
 -- a plain body is the contents of a string
 pub plain_contents : (body : List ℕ) (plain : Bool) → plain ≡ true → IsUtf8 body → StandsFor Str body plain (Characters (chars body))

@@ -53,13 +53,7 @@ only_zero CStr v h = elim (cases_Bool (eqb v 0)) [
   | inl a ↦ eqb-true v 0 a
   | inr a ↦ let e = rw a at h in absurd (cc)
 ]
-only_zero Str v h = absurd (cc)
-only_zero ByteStr v h = absurd (cc)
-only_zero Byte v h = absurd (cc)
-only_zero Char v h = absurd (cc)
-only_zero Int v h = absurd (cc)
-only_zero Float v h = absurd (cc)
-only_zero BoolKind v h = absurd (cc)
+only_zero kind v h = absurd (cc)
 
 not_zero : (n : ℕ) → eqb (n + 1) 0 ≡ false
 not_zero n = ne_eqb (n + 1) 0 (λ e. omega (arith, e))
@@ -356,12 +350,8 @@ plain_a ByteStr h = refl
 plain_a CStr h = refl
 plain_a Byte h = refl
 plain_a Char h = refl
-plain_a Int (inl h) = absurd (cc)
-plain_a Int (inr h) = absurd (cc)
-plain_a Float (inl h) = absurd (cc)
-plain_a Float (inr h) = absurd (cc)
-plain_a BoolKind (inl h) = absurd (cc)
-plain_a BoolKind (inr h) = absurd (cc)
+plain_a kind (inl h) = absurd (cc)
+plain_a kind (inr h) = absurd (cc)
 
 pub unit_one : (kind : Kind) → IsQuotedKind kind → Completes (unit_at kind) []
 unit_one kind q = ends_by (unit_at kind) [] (content_of kind (97 ∷ [])) 97 refl refl (λ r. plain_complete kind 97 r (plain_a kind q))

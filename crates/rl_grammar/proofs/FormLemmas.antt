@@ -84,16 +84,8 @@ front_complete RawForm ByteStr r h = refl
 front_complete RawForm CStr r h = refl
 front_complete SingleForm Byte r h = refl
 front_complete SingleForm Char r h = refl
-front_complete CookedForm Byte r h = absurd (cc)
-front_complete CookedForm Char r h = absurd (cc)
-front_complete CookedForm Int r h = absurd (cc)
-front_complete CookedForm Float r h = absurd (cc)
-front_complete CookedForm BoolKind r h = absurd (cc)
-front_complete RawForm Byte r h = absurd (cc)
-front_complete RawForm Char r h = absurd (cc)
-front_complete RawForm Int r h = absurd (cc)
-front_complete RawForm Float r h = absurd (cc)
-front_complete RawForm BoolKind r h = absurd (cc)
+front_complete CookedForm kind r h = absurd (cc)
+front_complete RawForm kind r h = absurd (cc)
 front_complete SingleForm kind r h = absurd (cc)
 
 -- ---- cooked strings

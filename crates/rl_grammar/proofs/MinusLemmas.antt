@@ -47,12 +47,7 @@ negative_none t e h Int c x r = h Int _ x (record { sign = NoSign; magnitude = r
 negative_none t e h Float c x r =
     let f = float_sound t x (sym (float_at-minus t e) ∙ float_past (45 ∷ t) r.numeral x r.reads) in
     h Float _ x (record { numeral = f.0; reads = f.1; no_integer = λ s m y q. r.no_integer Minus m y (int_on t s m y e q); contents_is = refl })
-negative_none t e h Str c x r = r
-negative_none t e h ByteStr c x r = r
-negative_none t e h CStr c x r = r
-negative_none t e h Byte c x r = r
-negative_none t e h Char c x r = r
-negative_none t e h BoolKind c x r = r
+negative_none t e h kind c x r = r
 
 -- no number stands after two minuses
 pub negative_twice : (t : List ℕ) → sign_at t ≡ Minus → ReadsNoNumber (45 ∷ t)
@@ -63,12 +58,7 @@ negative_twice t e Int c x r =
 negative_twice t e Float c x r =
     let q = sym (double_minus t e) ∙ float_past (45 ∷ t) r.numeral x r.reads in
     absurd (cc)
-negative_twice t e Str c x r = r
-negative_twice t e ByteStr c x r = r
-negative_twice t e CStr c x r = r
-negative_twice t e Byte c x r = r
-negative_twice t e Char c x r = r
-negative_twice t e BoolKind c x r = r
+negative_twice t e kind c x r = r
 
 -- a number stays one after a minus
 negative_int : (t x : List ℕ) → sign_at t ≡ NoSign → HasSuffix Int t x → HasSuffix Int (45 ∷ t) x

@@ -405,11 +405,7 @@ string_has CStr c cs s p q b r = go (eqb c 0) refl (rw (q, b, r) at p)
     go : (z : Bool) → eqb c 0 ≡ z → not z ≡ false → Alone CStr c cs (character_flaw_of c)
     go true e h = rw e (refl, AsItIs refl e)
     go false e h = absurd (cc)
-string_has Byte c cs s p q b r = absurd (cc)
-string_has Char c cs s p q b r = absurd (cc)
-string_has Int c cs s p q b r = absurd (cc)
-string_has Float c cs s p q b r = absurd (cc)
-string_has BoolKind c cs s p q b r = absurd (cc)
+string_has kind c cs s p q b r = absurd (cc)
 
 byte_has : (c : ℕ) (cs : List ℕ) → is_plain Byte c ≡ false → eqb c 92 ≡ false → Alone Byte c cs (character_flaw_of c)
 byte_has c cs p b = zero (eqb c 0) refl
