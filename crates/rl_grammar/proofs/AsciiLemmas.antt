@@ -1,12 +1,6 @@
 -- Where no character of ASCII stands at the front.
-use Rattle.std.proofs.Common.{◌≡◌, ℕ, ◌≤◌, ◌<◌, false, ltb, eqb, List, [], ◌∷◌, None, refl, arith}
-use Rattle.std.proofs.lemmas.Bool.{ltb-false, le-ltb}
-use Rattle.std.proofs.lemmas.Bool.Decides.{nat_tests}
-use Rattle.std.specs.Char.{is_ascii, is_ascii_digit, digit_value}
-use Rattle.rl_tokens.specs.declared.kind.Kind.{Kind}
-use Rattle.rl_tokens.specs.declared.kind.Kind.TheVariants.{Str, ByteStr}
-use Rattle.rl_tokens.specs.Texts.{first_passes}
-use Rattle.rl_tokens.specs.Numbers.{NoSign}
+use Rattle.rl_grammar.proofs.Names.{◌≡◌, ℕ, ◌≤◌, ◌<◌, false, ltb, eqb, List, [], ◌∷◌, None, refl, arith, ltb-false, le-ltb, nat_tests, is_ascii_digit, digit_value, Kind, Str, ByteStr, first_passes, NoSign}
+use Rattle.std.specs.Char.{is_ascii}
 use Rattle.rl_tokens.proofs.CommentBytes.{not_equal}
 use Rattle.rl_grammar.specs.Mirrors.NumberAt.{after_minus, radix_at, sign_at}
 use Rattle.rl_grammar.specs.Mirrors.OpenerAt.{string_opener_at, byte_opener_at, opener_at}

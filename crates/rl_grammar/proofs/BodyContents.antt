@@ -1,11 +1,7 @@
 -- What the body of a string stands for.
-use Rattle.std.proofs.Common.{◌≡◌, ◌⊎◌, inl, inr, ℕ, Bool, true, false, List, refl, sym, ap, subst, ◌∙◌}
-use Rattle.std.proofs.lemmas.Bool.{both_ways}
+use Rattle.rl_grammar.proofs.Names.{◌≡◌, ◌⊎◌, inl, inr, ℕ, Bool, true, false, List, refl, sym, ap, subst, ◌∙◌, both_ways, IsUtf8, Kind, Str, ByteStr, CStr, Byte, Char, Int, Float, BoolKind, Characters, Bytes, ReadsQuoted, HasContents, quoted_contents}
 use Rattle.std.specs.Prelude.{Result, Ok, Err, IfOk}
-use Rattle.std.specs.Str.{chars, IsUtf8}
-use Rattle.rl_tokens.specs.declared.kind.Kind.{Kind}
-use Rattle.rl_tokens.specs.declared.kind.Kind.TheVariants.{Str, ByteStr, CStr, Byte, Char, Int, Float, Bool as BoolKind}
-use Rattle.rl_tokens.specs.Reading.{Characters, Bytes, ReadsQuoted, HasContents, quoted_contents}
+use Rattle.std.specs.Str.{chars}
 use Rattle.rl_grammar.specs.Bodies.{HasBody, StandsFor}
 use Rattle.rl_grammar.specs.Mirrors.Decodes.{Decodes}
 use Rattle.rl_grammar.specs.Decoded.{HoldsBytes}

@@ -1,16 +1,7 @@
 -- Runs of ASCII at the front of a text, which byte strings hold.
-use Rattle.std.proofs.Common.{◌≡◌, ◌+◌, ◌<◌, ◌≤◌, ◌⊎◌, inl, inr, ℕ, suc, ◌==◌, ◌&&◌, ◌||◌, Bool, true, false, not, cond, eqb, List, [], ◌∷◌, ◌++◌, length, take, nat_lt, refl, sym, ap, ◌∙◌, arith}
-use Rattle.std.proofs.lemmas.Bool.{and_from, and_parts, ltb-true, ne_eqb}
-use Rattle.std.proofs.lemmas.Bool.Decides.{nat_tests}
-use Rattle.std.proofs.lemmas.Str.{encodes-chars}
+use Rattle.rl_grammar.proofs.Names.{◌≡◌, ◌+◌, ◌<◌, ◌≤◌, ◌⊎◌, inl, inr, ℕ, suc, ◌==◌, ◌&&◌, ◌||◌, Bool, true, false, not, cond, eqb, List, [], ◌∷◌, ◌++◌, length, take, nat_lt, refl, sym, ap, ◌∙◌, arith, and_from, and_parts, ltb-true, ne_eqb, nat_tests, encodes-chars, list_all, prefix_len, IsUtf8, Kind, Str, ByteStr, CStr, Byte, Char, Int, Float, BoolKind, Marks, is_plain, is_string, is_ascii_other, is_other}
 use Rattle.std.specs.Char.{is_ascii}
-use Rattle.std.specs.List.{list_all, prefix_len}
-use Rattle.std.specs.Str.{chars, encode_utf8_all, IsUtf8}
-use Rattle.rl_tokens.specs.declared.kind.Kind.{Kind}
-use Rattle.rl_tokens.specs.declared.kind.Kind.TheVariants.{Str, ByteStr, CStr, Byte, Char, Int, Float, Bool as BoolKind}
-use Rattle.rl_tokens.specs.declared.scan.Marks.{Marks}
-use Rattle.rl_tokens.specs.Quoted.{is_plain, is_string}
-use Rattle.rl_tokens.specs.Scanning.{is_ascii_other, is_other}
+use Rattle.std.specs.Str.{chars, encode_utf8_all}
 use Rattle.rl_tokens.proofs.CommentBytes.{cases128, encode_is_high, low_front}
 use Rattle.rl_tokens.proofs.AsciiRuns.{PassesLow, RunCut, low_cut}
 use Rattle.rl_tokens.proofs.ScanLemmas.{PassesHigh, run_behind, run_boundary, run_cut, run_plain, run_stop}

@@ -1,16 +1,10 @@
 -- What the decoders put together is what any reading holds.
-use Rattle.std.proofs.Common.{◌≡◌, ℕ, ◌<◌, ◌||◌, Bool, true, false, not, cond, ltb, List, [], ◌∷◌, ◌++◌, length, Some, refl, sym, ap, subst, ◌∙◌, inl, inr, arith, append_assoc, append-nil, replicate}
-use Rattle.std.specs.Prelude.{encode_utf8, encode_utf8_all}
+use Rattle.rl_grammar.proofs.Names.{◌≡◌, ℕ, ◌<◌, ◌||◌, Bool, true, false, not, cond, ltb, List, [], ◌∷◌, ◌++◌, length, Some, refl, sym, ap, subst, ◌∙◌, inl, inr, arith, append_assoc, append-nil, replicate, encode_utf8, encode_utf8_all, AllByRecursion, list_all, IsUtf8, scalar, and_from, and_parts, lt-ltb, ltb-true, encodes-append, encodes-chars, length-encode, Kind, Str, ByteStr, CStr, Char, Int, Float, BoolKind, QuotedUnit, Letter, Plain, CrLf, Named, Hex, Unicode, Continuation, LowerN, LowerR, LowerT, Backslash, Apostrophe, Quote, Zero, letter_value, unit_text, unit_value, hex_value, unicode_value, content_of, holds_characters, is_string, is_single, is_plain, has_unicode, IsUnit, texts, values, opener, raw_opener, Cooked, Raw, Contents, Characters, ReadsQuoted}
 use Rattle.std.specs.Char.{len_utf8}
-use Rattle.std.specs.List.{AllByRecursion, list_all}
-use Rattle.std.specs.Str.{chars, IsUtf8}
-use Rattle.std.proofs.Math.Utf8.{scalar, scalars}
-use Rattle.std.proofs.lemmas.Bool.{and_from, and_parts, lt-ltb, ltb-true}
-use Rattle.std.proofs.lemmas.Str.{chars-encodes, encodes-append, encodes-chars, encode_ascii, length-encode, scalars-chars}
-use Rattle.rl_tokens.specs.declared.kind.Kind.{Kind}
-use Rattle.rl_tokens.specs.declared.kind.Kind.TheVariants.{Str, ByteStr, CStr, Byte as ByteKind, Char, Int, Float, Bool as BoolKind}
-use Rattle.rl_tokens.specs.Quoted.{QuotedUnit, Letter, Plain, CrLf, Named, Hex, Unicode, Continuation, LowerN, LowerR, LowerT, Backslash, Apostrophe, Quote, Zero, letter_value, unit_text, unit_value, hex_value, unicode_value, content_of, holds_characters, is_string, is_single, is_plain, has_unicode, IsUnit, texts, values, opener, raw_opener, Cooked, Raw}
-use Rattle.rl_tokens.specs.Reading.{Contents, Characters, ReadsQuoted}
+use Rattle.std.specs.Str.{chars}
+use Rattle.std.proofs.Math.Utf8.{scalars}
+use Rattle.std.proofs.lemmas.Str.{chars-encodes, encode_ascii, scalars-chars}
+use Rattle.rl_tokens.specs.declared.kind.Kind.TheVariants.{Byte as ByteKind}
 use Rattle.rl_tokens.proofs.CutTrees.{scalars_parts}
 use Rattle.rl_grammar.specs.declared.quoted_forms.QuotedForm.{QuotedForm}
 use Rattle.rl_grammar.specs.declared.quoted_forms.QuotedForm.TheVariants.{Cooked as CookedForm, Raw as RawForm, Single as SingleForm}

@@ -1,13 +1,10 @@
 -- Numbers in base ten of any size: the text spells the number, by digits alone, with no zero in front but of 0 itself.
-use Rattle.std.proofs.Common.{◌≡◌, ℕ, suc, zero, ◌+◌, ◌*◌, ◌/◌, ◌%◌, ◌<◌, ◌≤◌, ◌^◌, Bool, true, false, eqb, ◌==◌, cond, List, [], ◌∷◌, length, refl, sym, ap, ◌∙◌, arith}
-use Rattle.std.proofs.lemmas.Bool.{eqb-true, ne_eqb, and_from, agree_below_at}
-use Rattle.std.proofs.lemmas.Bool.Decides.{nat_tests}
+use Rattle.rl_grammar.proofs.Names.{◌≡◌, ℕ, suc, zero, ◌+◌, ◌*◌, ◌<◌, ◌≤◌, ◌^◌, Bool, true, false, eqb, ◌==◌, cond, List, [], ◌∷◌, length, refl, sym, ap, ◌∙◌, arith, eqb-true, ne_eqb, and_from, nat_tests, digit_value, is_ascii_digit, list_all, first_passes}
+use Rattle.std.proofs.Common.{◌/◌, ◌%◌}
+use Rattle.std.proofs.lemmas.Bool.{agree_below_at}
 use Rattle.std.proofs.Math.Nat.{pow-succ'}
-use Rattle.std.specs.Char.{digit_value, is_ascii_digit}
 use Rattle.std.specs.Fmt.{digits_onto, digit_glyph}
-use Rattle.std.specs.List.{list_all}
 use Rattle.rl_tokens.specs.Strict.{dec, spelled_number}
-use Rattle.rl_tokens.specs.Texts.{first_passes}
 
 -- ---- one digit
 

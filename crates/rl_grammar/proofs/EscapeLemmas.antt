@@ -1,15 +1,8 @@
 -- What the readers of the units of quoted literals give at each character, and how a text is completed.
-use Rattle.std.proofs.Common.{◌≡◌, ℕ, suc, ◌+◌, ◌*◌, ◌^◌, ◌<◌, ◌≤◌, ◌||◌, ◌&&◌, Bool, true, false, not, cond, eqb, ltb, leb, List, [], ◌∷◌, ◌++◌, Option, Some, None, refl, sym, ap, subst, ◌∙◌, ◌⊎◌, inl, inr, arith}
-use Rattle.std.specs.Prelude.{option_and_then}
-use Rattle.std.specs.List.{AllByRecursion}
-use Rattle.std.specs.Char.{IsScalar, digit_value}
-use Rattle.std.proofs.Math.Nat.{pow-suc, pow-le-pow_right}
-use Rattle.std.proofs.Math.Utf8.{scalar}
-use Rattle.std.proofs.lemmas.Bool.{and_from, and_parts, and_right, both_ways, cases_Bool, eqb-true, ltb-true, ltb-false, lt-ltb, le-ltb, le-leb, leb-false, eq-eqb, ne_eqb, or_right}
-use Rattle.rl_tokens.specs.declared.kind.Kind.{Kind}
-use Rattle.rl_tokens.specs.declared.kind.Kind.TheVariants.{Str, ByteStr, CStr, Byte, Char, Int, Float, Bool as BoolKind}
-use Rattle.rl_tokens.specs.Texts.{first_passes}
-use Rattle.rl_tokens.specs.Quoted.{content_of, is_blank, is_hex_digit, holds_characters, is_string, is_single, is_plain, is_line_end, allows_code, may_be_hex, has_unicode}
+use Rattle.rl_grammar.proofs.Names.{◌≡◌, ℕ, suc, ◌+◌, ◌*◌, ◌^◌, ◌<◌, ◌≤◌, ◌||◌, ◌&&◌, Bool, true, false, not, cond, eqb, ltb, List, [], ◌∷◌, ◌++◌, Option, Some, None, refl, sym, ap, subst, ◌∙◌, ◌⊎◌, inl, inr, arith, option_and_then, AllByRecursion, IsScalar, digit_value, pow-suc, scalar, and_from, and_parts, and_right, both_ways, cases_Bool, eqb-true, ltb-true, ltb-false, lt-ltb, le-ltb, eq-eqb, ne_eqb, or_right, Kind, Str, ByteStr, CStr, Byte, Char, Int, Float, BoolKind, first_passes, content_of, is_blank, is_hex_digit, holds_characters, is_string, is_single, is_plain, is_line_end, allows_code, may_be_hex, has_unicode}
+use Rattle.std.proofs.Common.{leb}
+use Rattle.std.proofs.Math.Nat.{pow-le-pow_right}
+use Rattle.std.proofs.lemmas.Bool.{le-leb, leb-false}
 use Rattle.rl_grammar.specs.Mirrors.UnitAt.{found, number_if, digit_at, hex_at, unicode_at, after_blanks, named_in, named_at, escape_at, line_feed_at, unit_at}
 use Rattle.rl_grammar.specs.Mirrors.UnitFlawAt.{is_code}
 use Rattle.rl_grammar.proofs.UnitLemmas.{holds_more, unicode_sound, plain_complete, quote_and_return}

@@ -1,17 +1,12 @@
 -- Places of flaws, in bytes.
-use Rattle.std.proofs.Common.{◌≡◌, ℕ, true, List, [], ◌+◌, ◌++◌, length, sym, ap, ◌∙◌, inl, inr, append_assoc}
-use Rattle.std.specs.Prelude.{Option, Some, None, IfSome, encode_utf8_all}
+use Rattle.rl_grammar.proofs.Names.{◌≡◌, ℕ, true, List, [], ◌+◌, ◌++◌, length, sym, ap, ◌∙◌, inl, inr, append_assoc, encode_utf8_all, IsUtf8, encodes-append, encodes-chars, texts, HasReading, byte_len, Kind}
+use Rattle.std.specs.Prelude.{Option, Some, None, IfSome}
 use Rattle.std.specs.Option.{is_some}
-use Rattle.std.specs.Str.{chars, IsUtf8}
-use Rattle.std.proofs.lemmas.Str.{encodes-append, encodes-chars}
+use Rattle.std.specs.Str.{chars}
 use Rattle.std.proofs.lemmas.List.{length-append}
-use Rattle.rl_tokens.specs.Quoted.{texts}
-use Rattle.rl_tokens.specs.Reading.{HasReading}
-use Rattle.rl_tokens.specs.Texts.{byte_len}
 use Rattle.rl_grammar.specs.declared.found.Found.{Found}
 use Rattle.rl_grammar.specs.declared.quoted_forms.QuotedForm.{QuotedForm}
 use Rattle.rl_grammar.specs.declared.quoted_forms.QuotedForm.TheVariants.{Cooked as CookedForm, Raw as RawForm, Single as SingleForm}
-use Rattle.rl_tokens.specs.declared.kind.Kind.{Kind}
 use Rattle.rl_grammar.specs.FlawKinds.{IsPiece}
 use Rattle.rl_grammar.specs.Flaws.{IsPieceOf, StopsBefore}
 use Rattle.rl_grammar.specs.Forms.{form_opener}

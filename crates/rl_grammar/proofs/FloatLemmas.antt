@@ -1,16 +1,9 @@
 -- A float is what `float_at` reads.
-use Rattle.std.proofs.Common.{◌≡◌, ℕ, Bool, true, false, not, ◌&&◌, ◌||◌, ◌==◌, cond, List, [], ◌∷◌, ◌++◌, Some, None, refl, sym, ap, subst, ◌∙◌, arith, append_assoc}
-use Rattle.std.proofs.lemmas.Bool.{and_parts, and_from, both_ways, eqb-true, false_from_ne_true, not-true}
-use Rattle.std.proofs.lemmas.Bool.Decides.{nat_tests}
-use Rattle.std.specs.Char.{is_ascii_digit}
-use Rattle.std.specs.List.{list_all, list_any}
-use Rattle.unicode_ident.specs.Ident.{is_xid_continue}
-use Rattle.rl_tokens.specs.Texts.{first_passes, is_underscore, xid_ok, is_row_part}
-use Rattle.rl_tokens.specs.Numbers.{sign_text, is_exponent_letter, Fraction, NoFraction, Dot, fraction_text, IsFraction, Exponent, NoExponent, Power, exponent_text, IsExponent, is_power_sign, BeginsExponent, FloatReads}
+use Rattle.rl_grammar.proofs.Names.{◌≡◌, ℕ, Bool, true, false, not, ◌&&◌, ◌||◌, ◌==◌, cond, List, [], ◌∷◌, ◌++◌, Some, None, refl, sym, ap, subst, ◌∙◌, arith, append_assoc, and_parts, and_from, both_ways, eqb-true, false_from_ne_true, not-true, nat_tests, is_ascii_digit, list_all, list_any, is_xid_continue, first_passes, is_underscore, xid_ok, is_row_part, sign_text, is_exponent_letter, Fraction, NoFraction, Dot, fraction_text, IsFraction, FloatReads, after_run}
+use Rattle.rl_tokens.specs.Numbers.{Exponent, NoExponent, Power, exponent_text, IsExponent, is_power_sign, BeginsExponent}
 use Rattle.rl_tokens.proofs.Basics.{any_same, continue_not, digit_is_ten, word_continues, word_without}
 use Rattle.rl_tokens.proofs.StrictNumbers.{letter_no_part, suffix_no_part}
 use Rattle.rl_grammar.specs.Mirrors.NumberAt.{run, has_value, is_suffix, digit_row_at, has_digit_at, after_digits, after_minus, sign_at, after_fraction, after_power_sign, power_at, after_exponent, float_at}
-use Rattle.rl_tokens.specs.Classes.{after_run}
 use Rattle.rl_grammar.proofs.DigitRowLemmas.{run_yes, run_no}
 use Rattle.rl_grammar.proofs.RunLemmas.{run_all, run_ends, run_join, run_past, suffix_complete, suffix_sound}
 use Rattle.rl_grammar.proofs.IntegerLemmas.{minus_past, chosen_some, sign_join}

@@ -1,12 +1,5 @@
 -- Which form and kind a text's front tells, and the one reading of a quoted literal.
-use Rattle.std.proofs.Common.{◌≡◌, ◌≢◌, ℕ, true, false, eqb, List, [], ◌∷◌, ◌++◌, length, Some, None, refl, sym, ap, subst, ◌∙◌, inl, inr, append_assoc, append-nil}
-use Rattle.std.specs.List.{list_all}
-use Rattle.std.proofs.lemmas.Bool.{both_ways, cases_Bool, eqb-true}
-use Rattle.std.proofs.lemmas.List.{append_cancel_left, append_cancel_right}
-use Rattle.rl_tokens.specs.declared.kind.Kind.{Kind}
-use Rattle.rl_tokens.specs.declared.kind.Kind.TheVariants.{Str, ByteStr, CStr, Byte, Char, Int, Float, Bool as BoolKind}
-use Rattle.rl_tokens.specs.Quoted.{Cooked, Single, is_string, is_single, is_plain, opener, raw_opener, texts, unit_text}
-use Rattle.rl_tokens.specs.Reading.{Contents, ReadsQuoted, quoted_contents}
+use Rattle.rl_grammar.proofs.Names.{◌≡◌, ◌≢◌, ℕ, true, false, eqb, List, [], ◌∷◌, ◌++◌, length, Some, None, refl, sym, ap, subst, ◌∙◌, inl, inr, append_assoc, append-nil, list_all, both_ways, cases_Bool, eqb-true, append_cancel_left, append_cancel_right, Kind, Str, ByteStr, CStr, Byte, Char, Int, Float, BoolKind, Cooked, Single, is_string, is_single, is_plain, opener, raw_opener, texts, unit_text, Contents, ReadsQuoted, quoted_contents}
 use Rattle.rl_grammar.specs.declared.quoted_forms.QuotedForm.{QuotedForm}
 use Rattle.rl_grammar.specs.declared.quoted_forms.QuotedForm.TheVariants.{Cooked as CookedForm, Raw as RawForm, Single as SingleForm}
 use Rattle.rl_grammar.specs.Mirrors.UnitAt.{found, unit_at}

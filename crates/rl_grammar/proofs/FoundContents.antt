@@ -1,11 +1,7 @@
 -- What a text that reads as a kind is found to be, and what it stands for.
-use Rattle.std.proofs.Common.{◌≡◌, ℕ, ◌⊎◌, inl, inr, List, true, refl, sym, ap, subst, ◌∙◌}
+use Rattle.rl_grammar.proofs.Names.{◌≡◌, ℕ, ◌⊎◌, inl, inr, List, true, refl, sym, ap, subst, ◌∙◌, Kind, Str, ByteStr, CStr, Byte, Char, Int, Float, BoolKind, is_string, is_single, Contents, HasContents, HasNoReading, ReadsAs}
 use Rattle.std.proofs.lemmas.Bool.{or_left}
 use Rattle.std.specs.Str.{chars}
-use Rattle.rl_tokens.specs.declared.kind.Kind.{Kind}
-use Rattle.rl_tokens.specs.declared.kind.Kind.TheVariants.{Str, ByteStr, CStr, Byte, Char, Int, Float, Bool as BoolKind}
-use Rattle.rl_tokens.specs.Quoted.{is_string, is_single}
-use Rattle.rl_tokens.specs.Reading.{Contents, HasContents, HasNoReading, ReadsAs}
 use Rattle.rl_tokens.proofs.OneReading.{one_reading}
 use Rattle.rl_grammar.specs.declared.found.Found.{Found}
 use Rattle.rl_grammar.specs.Bodies.{HasBody}

@@ -1,20 +1,12 @@
 -- An integer is what `int_at` reads.
-use Rattle.std.proofs.Common.{◌≡◌, ℕ, ◌<◌, ◌≤◌, ◌⊎◌, Bool, true, false, not, ◌&&◌, ◌||◌, ◌==◌, cond, List, [], ◌∷◌, ◌++◌, Option, Some, None, refl, sym, ap, subst, ◌∙◌, arith, inl, inr}
-use Rattle.std.proofs.lemmas.Bool.{and_parts, and_from, both_ways, eqb-true, false_from_ne_true, not-true, not_from_false}
-use Rattle.std.proofs.lemmas.Bool.Decides.{nat_tests}
-use Rattle.std.specs.Char.{is_ascii_digit}
-use Rattle.std.specs.List.{list_all, list_any}
-use Rattle.std.specs.Prelude.{IsTrue}
-use Rattle.rl_tokens.specs.Texts.{first_passes, begins, xid_ok, is_row_part}
-use Rattle.rl_tokens.specs.Quoted.{place_value, without_underscores}
-use Rattle.rl_tokens.specs.Numbers.{Base, Binary, Octal, Decimal, Hexadecimal, radix, prefix, Sign, NoSign, Minus, sign_text, begins_base, IsAfterPrefix, IsSuffix, is_exponent_letter, IsExponentSuffix, AllowsSuffix, IntReads, limit}
-use Rattle.std.specs.Fmt.{decimal}
-use Rattle.rl_tokens.specs.Reading.{Contents, Digits, HasNoInteger, ReadsInt, IsPast}
+use Rattle.rl_grammar.proofs.Names.{◌≡◌, ℕ, ◌<◌, ◌≤◌, ◌⊎◌, Bool, true, false, not, ◌&&◌, ◌||◌, ◌==◌, cond, List, [], ◌∷◌, ◌++◌, Option, Some, None, refl, sym, ap, subst, ◌∙◌, arith, inl, inr, and_parts, and_from, both_ways, eqb-true, false_from_ne_true, not-true, not_from_false, nat_tests, is_ascii_digit, list_all, list_any, IsTrue, first_passes, xid_ok, is_row_part, place_value, without_underscores, Base, Binary, Octal, Decimal, Hexadecimal, radix, prefix, Sign, NoSign, Minus, sign_text, IsAfterPrefix, IsSuffix, is_exponent_letter, IntReads, limit, decimal, Contents, Digits, HasNoInteger, IsPast, after_run}
+use Rattle.rl_tokens.specs.Texts.{begins}
+use Rattle.rl_tokens.specs.Numbers.{begins_base, IsExponentSuffix, AllowsSuffix}
+use Rattle.rl_tokens.specs.Reading.{ReadsInt}
 use Rattle.rl_tokens.proofs.Basics.{any_same, digit_is_ten}
 use Rattle.rl_tokens.proofs.StrictNumbers.{no_part}
 use Rattle.rl_grammar.specs.NumberShapes.{HasMagnitude}
 use Rattle.rl_grammar.specs.Mirrors.NumberAt.{run, has_value, is_suffix, digit_row_at, has_digit_at, magnitude_at, after_digits, is_exponent_suffix, after_minus, sign_at, radix_at, may_begin_number, may_end, based_at, with_sign, int_at, capped, capped_int}
-use Rattle.rl_tokens.specs.Classes.{after_run}
 use Rattle.rl_grammar.proofs.DigitRowLemmas.{within_or_past, capped_within, capped_past}
 use Rattle.rl_grammar.proofs.RunLemmas.{run_all, run_ends, run_join, run_past, suffix_complete, suffix_sound}
 

@@ -1,3 +1,4 @@
+pub mod Names
 pub mod DigitRowLemmas
 pub mod HeadLemmas
 pub mod PlainNumberLemmas

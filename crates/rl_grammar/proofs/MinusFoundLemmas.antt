@@ -1,12 +1,9 @@
 -- A number that was found, after a minus.
-use Rattle.std.proofs.Common.{◌≡◌, ℕ, zero, suc, ◌+◌, ◌≤◌, ◌⊎◌, inl, inr, Bool, true, false, cond, ◌==◌, List, [], ◌∷◌, ◌++◌, length, take, drop, refl, sym, ap, subst, ◌∙◌, arith, length-take-le}
-use Rattle.std.proofs.lemmas.List.{take-append-drop, append_cancel_right}
-use Rattle.std.proofs.lemmas.Str.{IsUtf8-take, IsUtf8-drop, IsUtf8-append, IsUtf8-from_ascii, chars-append}
-use Rattle.std.specs.Str.{chars, IsUtf8, IsAscii}
-use Rattle.rl_tokens.specs.declared.kind.Kind.TheVariants.{Int, Float}
-use Rattle.rl_tokens.specs.Texts.{IsTail}
-use Rattle.rl_tokens.specs.Numbers.{NoSign, Minus, FloatReads}
-use Rattle.rl_tokens.specs.Reading.{HasNoInteger, HasSuffix}
+use Rattle.rl_grammar.proofs.Names.{◌≡◌, ℕ, zero, suc, ◌+◌, ◌≤◌, ◌⊎◌, inl, inr, Bool, true, false, cond, ◌==◌, List, [], ◌∷◌, ◌++◌, length, take, drop, refl, sym, ap, subst, ◌∙◌, arith, append_cancel_right, IsUtf8-take, IsUtf8-drop, chars-append, IsUtf8, IsAscii, Int, Float, IsTail, NoSign, Minus, FloatReads, HasNoInteger, HasSuffix}
+use Rattle.std.proofs.Common.{length-take-le}
+use Rattle.std.proofs.lemmas.List.{take-append-drop}
+use Rattle.std.proofs.lemmas.Str.{IsUtf8-append, IsUtf8-from_ascii}
+use Rattle.std.specs.Str.{chars}
 use Rattle.rl_tokens.proofs.StrictNumbers.{behind_minus}
 use Rattle.rl_grammar.specs.declared.found.Found.{Found}
 use Rattle.rl_grammar.specs.Founds.{IsFound}

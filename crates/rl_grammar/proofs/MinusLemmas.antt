@@ -1,16 +1,9 @@
 -- Literals after a minus.
-use Rattle.std.proofs.Common.{◌≡◌, ℕ, ◌⊎◌, inl, inr, Bool, true, false, cond, ◌==◌, ◌&&◌, List, [], ◌∷◌, ◌++◌, Some, None, refl, sym, ap, subst, ◌∙◌}
-use Rattle.std.specs.Char.{is_ascii_digit}
-use Rattle.rl_tokens.specs.declared.kind.Kind.{Kind}
-use Rattle.rl_tokens.specs.declared.kind.Kind.TheVariants.{Str, ByteStr, CStr, Byte, Char, Int, Float, Bool as BoolKind}
-use Rattle.rl_tokens.specs.Texts.{first_passes}
-use Rattle.rl_tokens.specs.Quoted.{is_string, is_single, opener, raw_opener}
-use Rattle.rl_tokens.specs.Numbers.{Sign, NoSign, Minus, IntReads}
-use Rattle.rl_tokens.specs.Reading.{Contents, HasNoReading, HasSuffix, ReadsQuoted, ReadsBool, truth_text}
+use Rattle.rl_grammar.proofs.Names.{◌≡◌, ℕ, ◌⊎◌, inl, inr, Bool, true, false, cond, ◌==◌, ◌&&◌, List, [], ◌∷◌, ◌++◌, Some, None, refl, sym, ap, subst, ◌∙◌, is_ascii_digit, Kind, Str, ByteStr, CStr, Byte, Char, Int, Float, BoolKind, first_passes, is_string, is_single, opener, raw_opener, Sign, NoSign, Minus, IntReads, Contents, HasNoReading, HasSuffix, ReadsQuoted, truth_text, both_ways, eqb-true}
+use Rattle.rl_tokens.specs.Reading.{ReadsBool}
 use Rattle.rl_grammar.specs.Mirrors.NumberAt.{sign_at, float_at, after_exponent, after_fraction, after_digits, is_suffix}
 use Rattle.rl_grammar.specs.NumberShapes.{ReadsNoNumber}
 use Rattle.rl_grammar.specs.WholeShapes.{IsSplit}
-use Rattle.std.proofs.lemmas.Bool.{both_ways, eqb-true}
 use Rattle.rl_tokens.proofs.StrictNumbers.{behind_minus, minus_int}
 use Rattle.rl_grammar.proofs.FloatLemmas.{float_past, float_sound}
 use Rattle.rl_grammar.proofs.DigitLemmas.{int_sign}

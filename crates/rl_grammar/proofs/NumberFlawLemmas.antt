@@ -1,13 +1,8 @@
 -- Where a text that begins as a number stops being the front of a literal, and why.
-use Rattle.std.proofs.Common.{◌≡◌, ℕ, ◌≤◌, Bool, true, false, not, cond, ◌&&◌, ◌||◌, ◌==◌, List, [], ◌∷◌, ◌++◌, refl, sym, ap, subst, ◌∙◌, arith, append_assoc, append-nil, Option, Some, None, is_none, inl, inr}
-use Rattle.std.specs.Char.{is_ascii_digit}
-use Rattle.std.specs.List.{list_all, list_any}
-use Rattle.std.proofs.lemmas.Bool.{and_parts, and_right, both_ways, eqb-true, or_from, or_parts, or_right, and_from, le-ltb, false_from_ne_true, cond_both}
-use Rattle.unicode_ident.specs.Ident.{is_xid_start, is_xid_continue}
+use Rattle.rl_grammar.proofs.Names.{◌≡◌, ℕ, ◌≤◌, Bool, true, false, not, cond, ◌&&◌, ◌||◌, ◌==◌, List, [], ◌∷◌, ◌++◌, refl, sym, ap, subst, ◌∙◌, arith, append_assoc, append-nil, Option, Some, None, inl, inr, is_ascii_digit, list_all, list_any, and_parts, and_right, both_ways, eqb-true, or_from, or_parts, or_right, and_from, le-ltb, false_from_ne_true, cond_both, is_xid_start, is_xid_continue, is_exponent_letter, Base, Binary, Octal, Decimal, Hexadecimal, radix, prefix, Sign, NoSign, Minus, sign_text, float_digits, first_passes, is_row_part, Int, Float, place_value, without_underscores, Digits, HasReading, IsPast, append_cancel_right}
+use Rattle.std.proofs.Common.{is_none}
 use Rattle.unicode_ident.proofs.IdentLemmas.{is_xid_start-ascii, is_xid_start-is_xid_continue}
 use Rattle.rl_tokens.proofs.Basics.{all_weaker, digit_is_ten}
-use Rattle.rl_tokens.specs.Numbers.{is_exponent_letter, Base, Binary, Octal, Decimal, Hexadecimal, radix, prefix, Sign, NoSign, Minus, sign_text, float_digits}
-use Rattle.rl_tokens.specs.Texts.{first_passes, is_row_part}
 use Rattle.rl_grammar.specs.Mirrors.NumberAt.{after_digits, after_exponent, after_fraction, digit_row_at, has_digit_at, has_value, is_exponent_suffix, is_suffix, may_end, power_at, run, after_minus, capped, capped_int, float_at, int_at, IsHead, magnitude_at, radix_at, radix_of, sign_at}
 use Rattle.rl_grammar.specs.declared.flaws.FlawKind.{FlawKind}
 use Rattle.rl_grammar.specs.declared.flaws.FlawKind.TheVariants.{Unfinished, NoExponentDigit, BadSuffix, TooLarge, NoNumber}
@@ -17,9 +12,6 @@ use Rattle.rl_grammar.proofs.DigitRowLemmas.{run_yes, run_no}
 use Rattle.rl_grammar.proofs.RunLemmas.{run_all, run_ends, run_join, run_past}
 use Rattle.rl_grammar.proofs.FloatLemmas.{run_first, float_sound, no_float, passes_more}
 use Rattle.unicode_ident.proofs.Computing.{unicode_ident}
-use Rattle.rl_tokens.specs.declared.kind.Kind.TheVariants.{Int, Float}
-use Rattle.rl_tokens.specs.Quoted.{place_value, without_underscores}
-use Rattle.rl_tokens.specs.Reading.{Digits, HasReading, IsPast}
 use Rattle.rl_grammar.specs.Flaws.{StopsBefore}
 use Rattle.rl_grammar.specs.WholeShapes.{is_number_front}
 use Rattle.rl_grammar.proofs.HeadLemmas.{head_float, head_int, head_read, no_head_float, no_head_int}
@@ -27,7 +19,6 @@ use Rattle.rl_grammar.proofs.IntegerLemmas.{Based, based, is_past, is_within, mi
 use Rattle.rl_grammar.proofs.NumberLemmas.{no_number, past_number}
 use Rattle.rl_grammar.proofs.ReadingLemmas.{only_number}
 use Rattle.rl_grammar.specs.NumberFlaws.{EndsInSign, HasKind, IsAnyNumber, IsNumberFlaw}
-use Rattle.std.proofs.lemmas.List.{append_cancel_right}
 use Rattle.rl_grammar.proofs.NumberReads.{suffix_is, suffix_not, no_suffix, part_continues, goes_on, all_off, word_breaks, tail_reads}
 use Rattle.rl_grammar.proofs.NumberTailFlaws.{Says, Spoils, Never, front_passes, on, word_stops, IsSignedTail, tail_spoils}
 

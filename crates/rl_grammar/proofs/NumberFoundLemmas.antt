@@ -1,13 +1,6 @@
 -- The digits of a number that was found.
-use Rattle.std.proofs.Common.{◌≡◌, ◌≢◌, ℕ, inl, inr, true, false, List, ◌++◌, refl, sym, ap, subst, ◌∙◌}
-use Rattle.std.proofs.lemmas.List.{append_cancel_right}
-use Rattle.std.proofs.lemmas.Str.{chars-append}
-use Rattle.std.specs.Str.{chars, IsUtf8}
-use Rattle.std.specs.Fmt.{decimal}
-use Rattle.rl_tokens.specs.declared.kind.Kind.{Kind}
-use Rattle.rl_tokens.specs.declared.kind.Kind.TheVariants.{Str, ByteStr, CStr, Byte, Char, Int, Float, Bool as BoolKind}
-use Rattle.rl_tokens.specs.Numbers.{FloatReads, float_digits, sign_text}
-use Rattle.rl_tokens.specs.Reading.{HasSuffix, HasNoFloat}
+use Rattle.rl_grammar.proofs.Names.{◌≡◌, ◌≢◌, ℕ, inl, inr, true, false, List, ◌++◌, refl, sym, ap, subst, ◌∙◌, append_cancel_right, chars-append, IsUtf8, decimal, Kind, Str, ByteStr, CStr, Byte, Char, Int, Float, BoolKind, FloatReads, float_digits, sign_text, HasSuffix, HasNoFloat}
+use Rattle.std.specs.Str.{chars}
 use Rattle.rl_grammar.specs.declared.found.Found.{Found}
 use Rattle.rl_grammar.specs.Founds.{IsFound, IsFoundFloat, IsFoundNumber, StandsIn, body_in, suffix_in}
 use Rattle.rl_grammar.specs.Mirrors.NumberAt.{sign_at}

@@ -1,7 +1,5 @@
 -- Numbers, an integer before a float.
-use Rattle.std.proofs.Common.{ℕ, List, arith}
-use Rattle.rl_tokens.specs.declared.kind.Kind.TheVariants.{Str, ByteStr, CStr, Byte, Char, Int, Float, Bool as BoolKind}
-use Rattle.rl_tokens.specs.Reading.{HasNoFloat, HasNoInteger, IsPast}
+use Rattle.rl_grammar.proofs.Names.{ℕ, List, arith, Str, ByteStr, CStr, Byte, Char, Int, Float, BoolKind, HasNoFloat, HasNoInteger, IsPast}
 use Rattle.rl_grammar.specs.NumberShapes.{ReadsNoNumber}
 use Rattle.rl_tokens.proofs.OneNumber.{int_once}
 

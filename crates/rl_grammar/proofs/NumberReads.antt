@@ -1,15 +1,10 @@
 -- Whether a number stands, by what follows its whole part.
-use Rattle.std.proofs.Common.{◌≡◌, ℕ, ◌≤◌, ◌<◌, Bool, true, false, not, cond, ◌&&◌, ◌||◌, ◌==◌, List, [], ◌∷◌, ◌++◌, refl, sym, ap, ◌∙◌, arith, append_assoc}
-use Rattle.std.specs.Char.{digit_value, is_ascii_digit, is_ascii_hexdigit, is_ascii_alphanumeric}
-use Rattle.std.specs.List.{list_all, list_any}
-use Rattle.std.proofs.lemmas.Bool.{and_left, and_parts, and_right, both_ways, eqb-true, lt-ltb, ltb-true, or_from, or_parts, or_right}
-use Rattle.std.proofs.lemmas.Bool.Decides.{nat_tests}
-use Rattle.std.proofs.lemmas.List.Folds.{list_all-append, list_any-append}
-use Rattle.unicode_ident.specs.Ident.{is_xid_start, is_xid_continue}
+use Rattle.rl_grammar.proofs.Names.{◌≡◌, ℕ, ◌≤◌, ◌<◌, Bool, true, false, not, cond, ◌&&◌, ◌||◌, ◌==◌, List, [], ◌∷◌, ◌++◌, refl, sym, ap, ◌∙◌, arith, append_assoc, digit_value, is_ascii_digit, is_ascii_hexdigit, list_all, list_any, and_parts, and_right, both_ways, eqb-true, lt-ltb, ltb-true, or_from, or_parts, or_right, nat_tests, list_all-append, is_xid_start, is_xid_continue, is_exponent_letter, first_passes, is_row_part, is_underscore, xid_ok}
+use Rattle.std.specs.Char.{is_ascii_alphanumeric}
+use Rattle.std.proofs.lemmas.Bool.{and_left}
+use Rattle.std.proofs.lemmas.List.Folds.{list_any-append}
 use Rattle.unicode_ident.proofs.IdentLemmas.{is_xid_start-ascii, is_xid_continue-ascii}
 use Rattle.rl_tokens.proofs.Basics.{agree, all_weaker, apart, digit_is_ten, hex_is_sixteen, range_past, word_continues}
-use Rattle.rl_tokens.specs.Numbers.{is_exponent_letter}
-use Rattle.rl_tokens.specs.Texts.{first_passes, is_row_part, is_underscore, xid_ok}
 use Rattle.rl_grammar.specs.Mirrors.NumberAt.{after_digits, after_exponent, after_fraction, after_power_sign, has_digit_at, has_value, is_exponent_suffix, is_suffix, may_end, power_at, run}
 use Rattle.rl_grammar.specs.Mirrors.NumberFlawAt.{after_word}
 use Rattle.rl_grammar.proofs.DigitRowLemmas.{run_no}

@@ -1,16 +1,10 @@
 -- Where what follows the whole part of a number in base ten stops being the front of such a text,
 -- and why.
-use Rattle.std.proofs.Common.{◌≡◌, ℕ, Bool, true, false, not, cond, ◌&&◌, ◌||◌, ◌==◌, List, [], ◌∷◌, ◌++◌, refl, sym, ap, subst, ◌∙◌, append_assoc, append-nil, ◌≢◌, inl, inr}
-use Rattle.std.specs.Char.{IsScalar, is_ascii_digit}
-use Rattle.std.specs.List.{AllByRecursion, list_all, list_any}
-use Rattle.std.proofs.lemmas.Bool.{and_parts, and_right, both_ways, eqb-true, or_from, or_parts, or_right, and_from, not-true, not-false, cond_both, cases_Bool}
+use Rattle.rl_grammar.proofs.Names.{◌≡◌, ℕ, Bool, true, false, not, cond, ◌&&◌, ◌||◌, ◌==◌, List, [], ◌∷◌, ◌++◌, refl, sym, ap, subst, ◌∙◌, append_assoc, append-nil, ◌≢◌, inl, inr, IsScalar, is_ascii_digit, AllByRecursion, list_all, list_any, and_parts, and_right, both_ways, eqb-true, or_from, or_parts, or_right, and_from, not-true, cond_both, cases_Bool, is_xid_start, is_xid_continue, after_run, is_exponent_letter, Dot, Fraction, IsFraction, NoFraction, fraction_text, first_passes, is_row_part, is_underscore}
+use Rattle.std.proofs.lemmas.Bool.{not-false}
 use Rattle.std.proofs.lemmas.List.Folds.{list_any-append}
-use Rattle.unicode_ident.specs.Ident.{is_xid_start, is_xid_continue}
 use Rattle.unicode_ident.proofs.IdentLemmas.{is_xid_start-is_xid_continue}
 use Rattle.rl_tokens.proofs.Basics.{digit_is_ten}
-use Rattle.rl_tokens.specs.Classes.{after_run}
-use Rattle.rl_tokens.specs.Numbers.{is_exponent_letter, Dot, Fraction, IsFraction, NoFraction, fraction_text}
-use Rattle.rl_tokens.specs.Texts.{first_passes, is_row_part, is_underscore}
 use Rattle.rl_grammar.specs.Mirrors.NumberAt.{after_digits, after_exponent, digit_row_at, has_digit_at, has_value, is_exponent_suffix, is_suffix, power_at, run}
 use Rattle.rl_grammar.specs.declared.flaws.FlawKind.{FlawKind}
 use Rattle.rl_grammar.specs.declared.flaws.FlawKind.TheVariants.{Unfinished, NoExponentDigit, BadSuffix, TooLarge}

@@ -1,10 +1,5 @@
 -- A text has one flaw at most.
-use Rattle.std.proofs.Common.{◌≡◌, ℕ, Bool, true, false, ◌+◌, List, [], ◌∷◌, ◌++◌, Some, None, refl, sym, ap, subst, ◌∙◌, inl, inr, append_assoc}
-use Rattle.std.proofs.lemmas.Bool.{both_ways}
-use Rattle.std.proofs.lemmas.List.{append_cancel_right}
-use Rattle.rl_tokens.specs.declared.kind.Kind.{Kind}
-use Rattle.rl_tokens.specs.Reading.{HasReading, truth_text}
-use Rattle.rl_tokens.specs.Texts.{byte_len, first_passes}
+use Rattle.rl_grammar.proofs.Names.{◌≡◌, ℕ, Bool, true, false, ◌+◌, List, [], ◌∷◌, ◌++◌, Some, None, refl, sym, ap, subst, ◌∙◌, inl, inr, append_assoc, both_ways, append_cancel_right, Kind, HasReading, truth_text, byte_len, first_passes}
 use Rattle.rl_grammar.specs.declared.flaws.Flaw.{Flaw}
 use Rattle.rl_grammar.specs.declared.flaws.FlawKind.{FlawKind}
 use Rattle.rl_grammar.specs.declared.flaws.FlawKind.TheVariants.{Empty, NoLiteral, Unfinished}

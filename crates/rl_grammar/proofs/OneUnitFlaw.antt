@@ -1,13 +1,7 @@
 -- At one place a unit of a quoted literal has one flaw.
-use Rattle.std.proofs.Common.{◌≡◌, ℕ, ◌+◌, ◌*◌, ◌||◌, ◌&&◌, Bool, true, false, not, cond, eqb, ltb, List, [], ◌∷◌, ◌++◌, None, refl, sym, ap, subst, ◌∙◌, inl, inr, ◌⊎◌, arith, append_assoc, append-nil}
-use Rattle.std.specs.Char.{digit_value}
-use Rattle.std.specs.List.{AllByRecursion, list_all}
-use Rattle.std.proofs.lemmas.Bool.{and_parts, eqb-true, le-ltb, lt-ltb, ne_eqb, not-true, or_parts}
-use Rattle.std.proofs.lemmas.List.{append_cancel_right}
+use Rattle.rl_grammar.proofs.Names.{◌≡◌, ℕ, ◌+◌, ◌*◌, ◌||◌, ◌&&◌, Bool, true, false, not, cond, eqb, ltb, List, [], ◌∷◌, ◌++◌, None, refl, sym, ap, subst, ◌∙◌, inl, inr, ◌⊎◌, arith, append_assoc, append-nil, digit_value, AllByRecursion, list_all, and_parts, eqb-true, le-ltb, lt-ltb, ne_eqb, not-true, or_parts, append_cancel_right, Kind, first_passes, is_underscore, QuotedUnit, Plain, CrLf, Named, Hex, Unicode, Continuation, Zero, IsUnit, EndsBefore, is_hex_digit, is_string, texts, unit_text, unit_value}
 use Rattle.rl_tokens.proofs.Basics.{apart}
-use Rattle.rl_tokens.specs.declared.kind.Kind.{Kind}
-use Rattle.rl_tokens.specs.Texts.{first_passes, is_among, is_underscore}
-use Rattle.rl_tokens.specs.Quoted.{QuotedUnit, Plain, CrLf, Named, Hex, Unicode, Continuation, Zero, IsUnit, EndsBefore, is_hex_digit, is_string, texts, unit_text, unit_value}
+use Rattle.rl_tokens.specs.Texts.{is_among}
 use Rattle.rl_grammar.specs.declared.flaws.FlawKind.{FlawKind}
 use Rattle.rl_grammar.specs.declared.flaws.FlawKind.TheVariants.{Unclosed, UnknownEscape, NoUnicode, NoHexDigit, NoBrace, EmptyBraces, TooManyDigits, PastAscii, PastUnicode, Surrogate, Nul, NotAscii, LoneCr, MustEscape, NoCharacter, TwoCharacters}
 use Rattle.rl_grammar.specs.FlawKinds.{IsBraced, digit_count, number_of, FirstDigit, SecondDigit, AfterBrace, AfterDigits, IsNoCode, HasNoCode, AtBrace, AtSixth, AsItIs, ByLetter, ByDigits, ByNumber, AfterUnits, BeginsUnits, CloserFlaw, IsNotClosed, UnitFlaw}

@@ -1,11 +1,5 @@
 -- Where the text after an opener stops being the front of a quoted literal, and why.
-use Rattle.std.proofs.Common.{◌≡◌, ℕ, Bool, true, false, cond, eqb, List, [], ◌∷◌, ◌++◌, Some, None, refl, sym, ap, subst, ◌∙◌, inl, inr, append_assoc}
-use Rattle.std.specs.Char.{IsScalar}
-use Rattle.std.specs.List.{AllByRecursion}
-use Rattle.std.proofs.lemmas.Bool.{both_ways, eqb-true}
-use Rattle.rl_tokens.specs.declared.kind.Kind.{Kind}
-use Rattle.rl_tokens.specs.Texts.{first_passes}
-use Rattle.rl_tokens.specs.Quoted.{QuotedUnit, Plain, CrLf, Named, Hex, Unicode, Continuation, Cooked, Single, IsUnit, EndsBefore, is_blank, is_string, is_single, opener, texts, unit_text}
+use Rattle.rl_grammar.proofs.Names.{◌≡◌, ℕ, Bool, true, false, cond, eqb, List, [], ◌∷◌, ◌++◌, Some, None, refl, sym, ap, subst, ◌∙◌, inl, inr, append_assoc, IsScalar, AllByRecursion, both_ways, eqb-true, Kind, first_passes, QuotedUnit, Plain, CrLf, Named, Hex, Unicode, Continuation, Cooked, Single, IsUnit, EndsBefore, is_blank, is_string, is_single, opener, texts, unit_text}
 use Rattle.rl_grammar.specs.declared.flaws.FlawKind.{FlawKind}
 use Rattle.rl_grammar.specs.declared.flaws.FlawKind.TheVariants.{NoCharacter, TwoCharacters}
 use Rattle.rl_grammar.specs.declared.quoted_forms.QuotedForm.{QuotedForm}

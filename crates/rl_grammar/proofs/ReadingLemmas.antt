@@ -1,16 +1,8 @@
 -- Truth values, and texts that are no literal.
-use Rattle.std.proofs.Common.{◌≡◌, ℕ, ◌<◌, ◌≤◌, ◌⊎◌, inl, inr, Bool, true, false, ◌||◌, ◌==◌, cond, List, [], ◌∷◌, ◌++◌, None, refl, sym, ap, ◌∙◌, arith}
-use Rattle.std.proofs.lemmas.Bool.{both_ways, or_parts}
-use Rattle.std.proofs.lemmas.Bool.Decides.{nat_tests}
-use Rattle.std.proofs.lemmas.Str.{encodes-chars}
-use Rattle.std.specs.Prelude.{encode_utf8_all}
-use Rattle.std.specs.Char.{is_ascii_digit}
-use Rattle.std.specs.Str.{chars, IsUtf8}
+use Rattle.rl_grammar.proofs.Names.{◌≡◌, ℕ, ◌<◌, ◌≤◌, ◌⊎◌, inl, inr, Bool, true, false, ◌||◌, ◌==◌, cond, List, [], ◌∷◌, ◌++◌, None, refl, sym, ap, ◌∙◌, arith, both_ways, or_parts, nat_tests, encodes-chars, encode_utf8_all, is_ascii_digit, IsUtf8, first_passes, Str, ByteStr, CStr, Byte, Char, Int, Float, BoolKind, truth_text, HasNoReading, HasNoTruth}
+use Rattle.std.specs.Str.{chars}
 use Rattle.rl_tokens.proofs.Basics.{apart}
 use Rattle.rl_tokens.proofs.CommentBytes.{cases128, encode_is_high, low_front, not_equal}
-use Rattle.rl_tokens.specs.Texts.{first_passes}
-use Rattle.rl_tokens.specs.declared.kind.Kind.TheVariants.{Str, ByteStr, CStr, Byte, Char, Int, Float, Bool as BoolKind}
-use Rattle.rl_tokens.specs.Reading.{truth_text, HasNoReading, HasNoTruth}
 use Rattle.rl_grammar.specs.NumberShapes.{ReadsNoNumber}
 use Rattle.rl_grammar.specs.Mirrors.NumberAt.{after_minus}
 use Rattle.rl_grammar.specs.Mirrors.OpenerAt.{opener_at}

@@ -1,19 +1,12 @@
 -- The segments of a quoted literal, one after another.
-use Rattle.std.proofs.Common.{◌≡◌, ◌==◌, ℕ, ◌+◌, ◌-◌, ◌<◌, ◌≤◌, Bool, true, false, cond, ltb, List, [], ◌∷◌, ◌++◌, length, get_or, map, Some, None, refl, sym, ap, subst, ◌∙◌, arith, append_assoc, append-nil, length-append}
+use Rattle.rl_grammar.proofs.Names.{◌≡◌, ◌==◌, ℕ, ◌+◌, ◌<◌, ◌≤◌, Bool, true, false, cond, ltb, List, [], ◌∷◌, ◌++◌, length, get_or, Some, None, refl, sym, ap, subst, ◌∙◌, arith, append_assoc, append-nil, encode_utf8, encode_utf8_all, list_all, IsUtf8, and_parts, both_ways, eqb-true, lt-ltb, ltb-false, ltb-true, flat_map-append, encodes-append, encodes-chars, chars-nil, Kind, byte_len, first_passes, QuotedUnit, Plain, CrLf, Named, Hex, Unicode, Continuation, unit_text, unit_value, content_of, is_plain, is_string, IsUnit, EndsBefore, texts}
+use Rattle.std.proofs.Common.{◌-◌, map, length-append}
 use denote.Ref.{Bor}
-use Rattle.std.specs.Prelude.{encode_utf8, encode_utf8_all}
-use Rattle.std.specs.List.{list_all}
-use Rattle.std.specs.Str.{chars, IsUtf8}
-use Rattle.std.proofs.lemmas.Bool.{and_parts, both_ways, eqb-true, lt-ltb, ltb-false, ltb-true}
+use Rattle.std.specs.Str.{chars}
 use Rattle.std.proofs.Math.Seq.{get_or-append_seam}
 use Rattle.std.proofs.lemmas.List.{get_or_append_left}
-use Rattle.std.proofs.lemmas.List.Concat.{flat_map-append}
-use Rattle.std.proofs.lemmas.Str.{encodes-append, encodes-chars, chars-nil}
-use Rattle.rl_tokens.specs.declared.kind.Kind.{Kind}
 use Rattle.rl_tokens.specs.declared.span.Span.{Span}
 use Rattle.rl_tokens.specs.Errors.{nowhere}
-use Rattle.rl_tokens.specs.Texts.{byte_len, first_passes}
-use Rattle.rl_tokens.specs.Quoted.{QuotedUnit, Plain, CrLf, Named, Hex, Unicode, Continuation, unit_text, unit_value, content_of, is_plain, is_string, IsUnit, EndsBefore, texts}
 use Rattle.rl_grammar.specs.declared.segments.Segment.{Segment}
 use Rattle.rl_grammar.specs.declared.segments.SegmentValue.{SegmentValue}
 use Rattle.rl_grammar.specs.declared.segments.SegmentValue.TheVariants.{Text, Char, Byte, Nothing}

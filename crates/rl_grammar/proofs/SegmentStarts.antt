@@ -1,13 +1,8 @@
 -- The segments of a whole literal.
-use Rattle.std.proofs.Common.{◌≡◌, ◌⊎◌, inl, inr, ℕ, ◌+◌, ◌-◌, ◌≤◌, Bool, true, false, List, [], ◌∷◌, ◌++◌, length, drop, map, refl, sym, ap, subst, ◌∙◌, arith, append-nil, length-drop}
-use Rattle.std.proofs.lemmas.Bool.{both_ways}
+use Rattle.rl_grammar.proofs.Names.{◌≡◌, ◌⊎◌, inl, inr, ℕ, ◌+◌, ◌≤◌, Bool, true, false, List, [], ◌∷◌, ◌++◌, length, drop, refl, sym, ap, subst, ◌∙◌, arith, append-nil, both_ways, list_all, IsUtf8, Kind, Str, ByteStr, CStr, Byte, Char, Int, Float, BoolKind, QuotedUnit, Plain, CrLf, Named, Hex, Unicode, Continuation, is_plain, is_single, is_string, opener, texts, unit_text, unit_value, values, Reads, Contents, ReadsQuoted}
+use Rattle.std.proofs.Common.{◌-◌, map, length-drop}
 use Rattle.std.proofs.lemmas.List.{length-take-le}
-use Rattle.std.specs.List.{list_all}
-use Rattle.std.specs.Str.{chars, IsUtf8}
-use Rattle.rl_tokens.specs.declared.kind.Kind.{Kind}
-use Rattle.rl_tokens.specs.declared.kind.Kind.TheVariants.{Str, ByteStr, CStr, Byte, Char, Int, Float, Bool as BoolKind}
-use Rattle.rl_tokens.specs.Quoted.{QuotedUnit, Plain, CrLf, Named, Hex, Unicode, Continuation, is_plain, is_single, is_string, opener, texts, unit_text, unit_value, values}
-use Rattle.rl_tokens.specs.Reading.{Reads, Contents, ReadsQuoted}
+use Rattle.std.specs.Str.{chars}
 use Rattle.rl_tokens.proofs.OneReading.{one_reading}
 use Rattle.rl_grammar.specs.declared.found.Body.{Body}
 use Rattle.rl_grammar.specs.declared.quoted_forms.QuotedForm.{QuotedForm}

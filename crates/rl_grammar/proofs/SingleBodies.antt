@@ -1,13 +1,6 @@
 -- What the body of a character or a byte stands for.
-use Rattle.std.proofs.Common.{◌≡◌, ◌<◌, ℕ, List, [], ◌∷◌, true, Some, None, refl, sym, ap, subst, ◌∙◌, arith, append-nil}
-use Rattle.std.proofs.lemmas.Bool.Decides.{nat_tests}
-use Rattle.std.specs.Prelude.{encode_utf8_all}
-use Rattle.std.specs.Char.{IsScalar}
+use Rattle.rl_grammar.proofs.Names.{◌≡◌, ◌<◌, ℕ, List, [], ◌∷◌, true, Some, None, refl, sym, ap, subst, ◌∙◌, arith, append-nil, nat_tests, encode_utf8_all, IsScalar, Kind, Str, ByteStr, CStr, Byte, Char, Int, Float, BoolKind, is_single, is_string, unit_text, Bytes, Characters, ReadsQuoted}
 use Rattle.std.specs.Str.{chars}
-use Rattle.rl_tokens.specs.declared.kind.Kind.{Kind}
-use Rattle.rl_tokens.specs.declared.kind.Kind.TheVariants.{Str, ByteStr, CStr, Byte, Char, Int, Float, Bool as BoolKind}
-use Rattle.rl_tokens.specs.Quoted.{is_single, is_string, unit_text}
-use Rattle.rl_tokens.specs.Reading.{Bytes, Characters, ReadsQuoted}
 use Rattle.rl_grammar.specs.declared.found.Body.{Body}
 use Rattle.rl_grammar.specs.declared.units.Piece.TheVariants.{Character}
 use Rattle.rl_grammar.specs.declared.quoted_forms.QuotedForm.{QuotedForm}

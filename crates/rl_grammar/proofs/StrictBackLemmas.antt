@@ -1,15 +1,9 @@
 -- The units of the lenient reading are strict, line breaks apart.
-use Rattle.std.proofs.Common.{◌≡◌, ℕ, zero, suc, ◌<◌, ◌≤◌, ◌==◌, ◌||◌, ◌&&◌, Bool, true, false, not, cond, eqb, List, [], ◌∷◌, ◌++◌, length, map, replicate, refl, sym, ap, subst, ◌∙◌, inl, inr, arith}
-use Rattle.std.proofs.lemmas.Bool.{and_from, and_parts, cases_Bool, eqb-true, le-leb, lt-ltb, ltb-true, not_from_false}
-use Rattle.std.proofs.Math.Utf8.{scalar}
-use Rattle.std.specs.Char.{digit_value, is_ascii_hexdigit, IsScalar}
-use Rattle.std.specs.List.{list_all, flat_map}
+use Rattle.rl_grammar.proofs.Names.{◌≡◌, ℕ, zero, suc, ◌<◌, ◌≤◌, ◌==◌, ◌||◌, ◌&&◌, Bool, true, false, not, cond, eqb, List, [], ◌∷◌, ◌++◌, length, replicate, refl, sym, ap, subst, ◌∙◌, inl, inr, arith, and_from, and_parts, cases_Bool, eqb-true, lt-ltb, ltb-true, not_from_false, scalar, digit_value, is_ascii_hexdigit, IsScalar, list_all, flat_map, Kind, Str, ByteStr, CStr, Byte, Char, Int, Float, BoolKind, is_underscore, QuotedUnit, Letter, Named, Hex, Unicode, LowerN, LowerR, LowerT, Backslash, Apostrophe, Quote, Zero, letter_text, letter_value, unit_text, unit_value, content_of, place_value, without_underscores, unicode_value, hex_value, is_hex_digit, is_plain, allows_code, IsUnit, StrictUnit, Itself, QuoteEscape, PlainEscape, AsciiEscape, ByteEscape, UnicodeEscape, LineBreak, strict_text, strict_contents, strict_content_of, is_strict_unit}
+use Rattle.std.proofs.Common.{map}
+use Rattle.std.proofs.lemmas.Bool.{le-leb}
 use Rattle.std.specs.Prelude.{nat_lt, nat_le}
-use Rattle.rl_tokens.specs.declared.kind.Kind.{Kind}
-use Rattle.rl_tokens.specs.declared.kind.Kind.TheVariants.{Str, ByteStr, CStr, Byte, Char, Int, Float, Bool as BoolKind}
-use Rattle.rl_tokens.specs.Texts.{is_underscore}
-use Rattle.rl_tokens.specs.Quoted.{QuotedUnit, Letter, Named, Hex, Unicode, LowerN, LowerR, LowerT, Backslash, Apostrophe, Quote, Zero, letter_text, letter_value, unit_text, unit_value, content_of, place_value, without_underscores, unicode_value, hex_value, is_hex_digit, is_plain, allows_code, IsUnit}
-use Rattle.rl_tokens.specs.Strict.{StrictUnit, Itself, QuoteEscape, PlainEscape, AsciiEscape, ByteEscape, UnicodeEscape, LineBreak, spaced_digit, strict_text, spelled_number, strict_contents, strict_content_of, is_octal, is_unicode_escape, is_strict_unit, HasUnits}
+use Rattle.rl_tokens.specs.Strict.{spaced_digit, spelled_number, is_octal, is_unicode_escape, HasUnits}
 use Rattle.rl_tokens.proofs.Basics.{hex_is_sixteen}
 use Rattle.rl_tokens.proofs.StrictQuoted.{hex_first, same_number, bare_digits, digits_count}
 

@@ -1,16 +1,8 @@
 -- A strict token is a quoted form after its opener, a number, or a truth value.
-use Rattle.std.proofs.Common.{◌≡◌, ◌≢◌, ℕ, ◌⊎◌, ◌||◌, Bool, true, false, ◌==◌, List, [], ◌∷◌, ◌++◌, Option, Some, None, refl, sym, ap, subst, ◌∙◌, inl, inr, append_assoc}
-use Rattle.std.proofs.lemmas.Bool.{both_ways}
-use Rattle.std.specs.Char.{is_ascii_digit}
-use Rattle.std.specs.List.{flat_map}
+use Rattle.rl_grammar.proofs.Names.{◌≡◌, ◌≢◌, ℕ, ◌⊎◌, ◌||◌, Bool, true, false, ◌==◌, List, [], ◌∷◌, ◌++◌, Option, Some, None, refl, sym, ap, subst, ◌∙◌, inl, inr, append_assoc, both_ways, is_ascii_digit, flat_map, ◌↔◌, IsTrue, Kind, Str, ByteStr, CStr, Byte, Char, Int, Float, BoolKind, NoSign, opener, raw_opener, Contents, Truth, truth_text, strict_text, strict_contents, strict_content_of}
 use Rattle.std.specs.Option.{IfSome, IfNone}
-use Rattle.std.specs.Prelude.{◌↔◌, IsTrue, is_some, replicate, codes, if◌then◌else◌}
-use Rattle.rl_tokens.specs.declared.kind.Kind.{Kind}
-use Rattle.rl_tokens.specs.declared.kind.Kind.TheVariants.{Str, ByteStr, CStr, Byte, Char, Int, Float, Bool as BoolKind}
-use Rattle.rl_tokens.specs.Numbers.{NoSign}
-use Rattle.rl_tokens.specs.Quoted.{opener, raw_opener}
-use Rattle.rl_tokens.specs.Reading.{Contents, Truth, truth_text}
-use Rattle.rl_tokens.specs.Strict.{StrictCooked, StrictRaw, Strict, strict_opener, strict_raw_opener, strict_closer, strict_text, strict_quoted_contents, strict_contents, strict_content_of}
+use Rattle.std.specs.Prelude.{is_some, replicate, codes, if◌then◌else◌}
+use Rattle.rl_tokens.specs.Strict.{StrictCooked, StrictRaw, Strict, strict_opener, strict_raw_opener, strict_closer, strict_quoted_contents}
 use Rattle.rl_tokens.proofs.Basics.{apart}
 use Rattle.rl_tokens.proofs.OneNumber.{begins_number, float_front, int_front}
 use Rattle.rl_tokens.proofs.StrictNumbers.{strict_int, float_strict_reads}

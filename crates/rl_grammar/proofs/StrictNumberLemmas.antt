@@ -1,11 +1,7 @@
 -- A strict number is what `is_strict_number` passes.
-use Rattle.std.proofs.Common.{◌≡◌, ℕ, ◌⊎◌, ◌||◌, ◌&&◌, Bool, true, false, not, ◌==◌, cond, List, [], ◌∷◌, ◌++◌, refl, ap, subst, sym, ◌∙◌, inl, inr, arith, append_assoc, append-nil}
-use Rattle.std.proofs.lemmas.Bool.{and_from, and_parts, cases_Bool, eqb-true, not-true, not_from_false, or_cases, or_left, or_right}
-use Rattle.std.specs.Char.{is_ascii_digit, is_ascii_hexdigit}
-use Rattle.std.specs.List.{list_all, list_any}
-use Rattle.rl_tokens.specs.Texts.{first_passes, is_row_part}
-use Rattle.rl_tokens.specs.Numbers.{Base, Binary, Octal, Decimal, Hexadecimal, radix, prefix, IsAfterPrefix, AllowsSuffix, is_exponent_letter}
-use Rattle.rl_tokens.specs.Reading.{Contents}
+use Rattle.rl_grammar.proofs.Names.{◌≡◌, ℕ, ◌⊎◌, ◌||◌, ◌&&◌, Bool, true, false, not, ◌==◌, cond, List, [], ◌∷◌, ◌++◌, refl, ap, subst, sym, ◌∙◌, inl, inr, arith, append_assoc, append-nil, and_from, and_parts, cases_Bool, eqb-true, not-true, not_from_false, or_cases, or_right, is_ascii_digit, is_ascii_hexdigit, list_all, list_any, first_passes, is_row_part, Base, Binary, Octal, Decimal, Hexadecimal, radix, prefix, IsAfterPrefix, is_exponent_letter, Contents}
+use Rattle.std.proofs.lemmas.Bool.{or_left}
+use Rattle.rl_tokens.specs.Numbers.{AllowsSuffix}
 use Rattle.rl_tokens.specs.Strict.{is_row, IsDigits, IsDecimalText, IsNumberSuffix, BasedPrefix, StrictInt, IsStrictExponent, IsDotAlone, IsPointed, IsScientific, StrictFloat}
 use Rattle.rl_tokens.proofs.Basics.{all_same, any_same, apart, digit_is_ten, hex_is_sixteen, passes_same}
 use Rattle.rl_tokens.proofs.StrictNumbers.{foreign_dot, letter_no_part, no_part, suffix_no_part, suffix_without}

@@ -1,14 +1,7 @@
 -- Strict units up to a quote, and the suffix after it.
-use Rattle.std.proofs.Common.{◌≡◌, ℕ, Bool, true, false, cond, ◌==◌, List, [], ◌∷◌, ◌++◌, length, Some, None, refl, sym, ap, subst, ◌∙◌, arith, append_assoc, append-nil}
-use Rattle.std.proofs.lemmas.Bool.{and_from, and_parts, both_ways, eqb-true}
-use Rattle.std.specs.List.{list_all, flat_map}
-use Rattle.std.specs.Prelude.{◌↔◌, IsTrue}
+use Rattle.rl_grammar.proofs.Names.{◌≡◌, ℕ, Bool, true, false, cond, ◌==◌, List, [], ◌∷◌, ◌++◌, length, Some, None, refl, sym, ap, subst, ◌∙◌, arith, append_assoc, append-nil, and_from, and_parts, both_ways, eqb-true, list_all, flat_map, ◌↔◌, IsTrue, Kind, Str, ByteStr, CStr, Byte, Char, Int, Float, BoolKind, first_passes, is_plain, is_single, is_string, StrictUnit, Itself, QuoteEscape, PlainEscape, AsciiEscape, ByteEscape, UnicodeEscape, LineBreak, strict_text, is_dropped_blank, is_strict_unit, IsStrictSuffix}
 use Rattle.rl_tokens.proofs.Basics.{apart}
-use Rattle.rl_tokens.specs.declared.kind.Kind.{Kind}
-use Rattle.rl_tokens.specs.declared.kind.Kind.TheVariants.{Str, ByteStr, CStr, Byte, Char, Int, Float, Bool as BoolKind}
-use Rattle.rl_tokens.specs.Texts.{first_passes}
-use Rattle.rl_tokens.specs.Quoted.{is_plain, is_single, is_string}
-use Rattle.rl_tokens.specs.Strict.{StrictUnit, Itself, QuoteEscape, PlainEscape, AsciiEscape, ByteEscape, UnicodeEscape, LineBreak, strict_text, is_dropped_blank, is_strict_unit, BlanksEnd, HasUnits, strict_closer, IsStrictSuffix}
+use Rattle.rl_tokens.specs.Strict.{BlanksEnd, HasUnits, strict_closer}
 use Rattle.rl_grammar.specs.Mirrors.StrictAt.{ends_quoted, escape_rest, is_strict_suffix, unit_rest}
 use Rattle.rl_grammar.specs.StrictShapes.{ClosesUnits}
 use Rattle.rl_grammar.proofs.StrictBackLemmas.{IsQuotedKind, plain_is_bare}

@@ -1,18 +1,8 @@
 -- Where no unit of a quoted literal stands, the text stops being the front of one at the code's
 -- place, and has the flaw of the code's kind.
-use Rattle.std.proofs.Common.{◌≡◌, ◌≢◌, ℕ, suc, ◌+◌, ◌*◌, ◌<◌, ◌≤◌, ◌||◌, ◌&&◌, Bool, true, false, not, cond, eqb, ltb, List, [], ◌∷◌, ◌++◌, length, length-append, Option, Some, None, refl, sym, ap, subst, ◌∙◌, inl, inr, arith, append_assoc}
-use Rattle.std.specs.Prelude.{option_and_then}
-use Rattle.std.specs.List.{list_all}
-use Rattle.std.specs.Char.{digit_value}
-use Rattle.std.proofs.Math.Nat.{pow-suc}
-use Rattle.std.proofs.Math.Utf8.{scalar}
-use Rattle.std.proofs.lemmas.Bool.{and_from, and_parts, both_ways, cases_Bool, cond_both, eqb-true, ltb-true, ltb-false, lt-ltb, not-true, not_from_false}
-use Rattle.std.proofs.lemmas.List.Folds.{list_all-append}
+use Rattle.rl_grammar.proofs.Names.{◌≡◌, ◌≢◌, ℕ, suc, ◌+◌, ◌*◌, ◌<◌, ◌≤◌, ◌||◌, ◌&&◌, Bool, true, false, not, cond, eqb, ltb, List, [], ◌∷◌, ◌++◌, length, Option, Some, None, refl, sym, ap, subst, ◌∙◌, inl, inr, arith, append_assoc, option_and_then, list_all, digit_value, pow-suc, scalar, and_from, and_parts, both_ways, cases_Bool, cond_both, eqb-true, ltb-true, ltb-false, lt-ltb, not-true, not_from_false, list_all-append, Kind, Str, ByteStr, CStr, Byte, Char, Int, Float, BoolKind, first_passes, is_underscore, Letter, Named, LowerN, LowerR, LowerT, Backslash, Apostrophe, Quote, Zero, letter_text, letter_value, hex_value, content_of, place_value, without_underscores, is_hex_digit, holds_characters, is_string, is_single, is_plain, is_line_end, allows_code, may_be_hex, has_unicode}
+use Rattle.std.proofs.Common.{length-append}
 use Rattle.rl_tokens.proofs.Basics.{apart}
-use Rattle.rl_tokens.specs.declared.kind.Kind.{Kind}
-use Rattle.rl_tokens.specs.declared.kind.Kind.TheVariants.{Str, ByteStr, CStr, Byte, Char, Int, Float, Bool as BoolKind}
-use Rattle.rl_tokens.specs.Texts.{first_passes, is_underscore}
-use Rattle.rl_tokens.specs.Quoted.{Letter, Named, LowerN, LowerR, LowerT, Backslash, Apostrophe, Quote, Zero, letter_text, letter_value, hex_value, content_of, place_value, without_underscores, is_hex_digit, holds_characters, is_string, is_single, is_plain, is_line_end, allows_code, may_be_hex, has_unicode}
 use Rattle.rl_grammar.specs.declared.flaws.FlawKind.{FlawKind}
 use Rattle.rl_grammar.specs.declared.flaws.FlawKind.TheVariants.{Unclosed, UnknownEscape, NoUnicode, NoHexDigit, NoBrace, EmptyBraces, TooManyDigits, PastAscii, PastUnicode, Surrogate, Nul, NotAscii, MustEscape, NoCharacter}
 use Rattle.rl_grammar.specs.FlawKinds.{IsBraced, digit_count, number_of, FirstDigit, SecondDigit, AfterBrace, AfterDigits, IsNoCode, HasNoCode, AtBrace, AtSixth, AsItIs, ByLetter, ByDigits, ByNumber, UnitFlaw}

@@ -1,5 +1,4 @@
-use Rattle.std.proofs.Common.{◌<◌, arith, refl}
-use Rattle.rl_tokens.specs.declared.kind.Kind.TheVariants.{Byte}
+use Rattle.rl_grammar.proofs.Names.{◌<◌, arith, refl, Byte}
 use Rattle.rl_grammar.proofs.FoundContents.{unit_of}
 use Rattle.rl_grammar.proofs.contents.byte_of.Goals as goal
 

@@ -1,6 +1,4 @@
-use Rattle.std.proofs.Common.{inl, inr}
-use Rattle.std.proofs.lemmas.Result.{IfOk-weaker}
-use Rattle.rl_tokens.specs.declared.kind.Kind.TheVariants.{ByteStr, CStr}
+use Rattle.rl_grammar.proofs.Names.{inl, inr, IfOk-weaker, ByteStr, CStr}
 use Rattle.rl_grammar.proofs.FoundContents.{bytes_body, one_of_two}
 use Rattle.rl_grammar.proofs.contents.bytes_of.Goals as goal
 

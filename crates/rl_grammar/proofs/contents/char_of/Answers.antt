@@ -1,7 +1,5 @@
-use Rattle.std.proofs.Common.{[], ◌∷◌, refl, subst, sym}
+use Rattle.rl_grammar.proofs.Names.{[], ◌∷◌, refl, subst, sym, Char, Characters, HasContents}
 use Rattle.std.specs.Str.{chars}
-use Rattle.rl_tokens.specs.declared.kind.Kind.TheVariants.{Char}
-use Rattle.rl_tokens.specs.Reading.{Characters, HasContents}
 use Rattle.rl_grammar.proofs.FoundContents.{unit_of}
 use Rattle.rl_grammar.proofs.contents.char_of.Goals as goal
 

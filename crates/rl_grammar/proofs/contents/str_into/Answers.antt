@@ -1,5 +1,4 @@
-use Rattle.std.proofs.Common.{sym}
-use Rattle.rl_tokens.specs.declared.kind.Kind.TheVariants.{Str}
+use Rattle.rl_grammar.proofs.Names.{sym, Str}
 use Rattle.rl_grammar.proofs.BodyContents.{str_of_has}
 use Rattle.rl_grammar.proofs.ContentLemmas.{cooked_bytes, not_raw}
 use Rattle.rl_grammar.proofs.contents.str_into.Goals as goal

@@ -1,6 +1,4 @@
-use Rattle.std.proofs.Common.{refl}
-use Rattle.std.proofs.lemmas.Result.{IfOk-weaker}
-use Rattle.rl_tokens.specs.declared.kind.Kind.TheVariants.{Str}
+use Rattle.rl_grammar.proofs.Names.{refl, IfOk-weaker, Str}
 use Rattle.rl_grammar.proofs.FoundContents.{string_body}
 use Rattle.rl_grammar.proofs.contents.str_of.Goals as goal
 

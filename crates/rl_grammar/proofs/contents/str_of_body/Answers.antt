@@ -1,7 +1,6 @@
-use Rattle.std.proofs.Common.{◌≡◌, string_bytes, subst, rules}
+use Rattle.rl_grammar.proofs.Names.{◌≡◌, subst, rules, Str, Characters, HasContents}
+use Rattle.std.proofs.Common.{string_bytes}
 use Rattle.std.specs.Str.{chars}
-use Rattle.rl_tokens.specs.declared.kind.Kind.TheVariants.{Str}
-use Rattle.rl_tokens.specs.Reading.{Characters, HasContents}
 use Rattle.rl_grammar.proofs.BodyContents.{str_of_has}
 use Rattle.rl_grammar.proofs.contents.str_of_body.Goals as goal
 

@@ -1,4 +1,4 @@
-use Rattle.std.proofs.Common.{sym, ◌∙◌}
+use Rattle.rl_grammar.proofs.Names.{sym, ◌∙◌}
 use Rattle.rl_grammar.proofs.NumberFlawLemmas.{digits_place, minus_place}
 use Rattle.rl_grammar.proofs.number_flaws.number_flaw.Goals as goal
 

@@ -1,5 +1,4 @@
-use Rattle.std.proofs.Common.{sym, subst}
-use Rattle.std.specs.Prelude.{MatchBool}
+use Rattle.rl_grammar.proofs.Names.{sym, subst, MatchBool}
 use Rattle.std.specs.Str.{chars}
 use Rattle.rl_grammar.specs.FlawKinds.{HasLastCloser}
 use Rattle.rl_grammar.proofs.RawFlawLemmas.{closes_either}

@@ -1,4 +1,4 @@
-use Rattle.std.proofs.Common.{◌∙◌, sym, ap, subst}
+use Rattle.rl_grammar.proofs.Names.{◌∙◌, sym, ap, subst}
 use Rattle.std.specs.Str.{chars}
 use Rattle.rl_grammar.specs.FlawKinds.{BeginsUnits}
 use Rattle.rl_grammar.specs.Mirrors.UnitFlawAt.{found_flaw}

@@ -1,4 +1,4 @@
-use Rattle.std.proofs.Common.{◌∙◌}
+use Rattle.rl_grammar.proofs.Names.{◌∙◌}
 use Rattle.rl_grammar.proofs.CodeDigitLemmas.{first_flaw_is}
 use Rattle.rl_grammar.proofs.quoted_flaws.first_digit_flaw.Goals as goal
 

@@ -1,4 +1,4 @@
-use Rattle.std.proofs.Common.{◌∙◌, sym, ap}
+use Rattle.rl_grammar.proofs.Names.{◌∙◌, sym, ap}
 use Rattle.std.specs.Str.{chars}
 use Rattle.rl_grammar.specs.Mirrors.UnitFlawAt.{found_flaw}
 use Rattle.rl_grammar.proofs.QuotedFlawLemmas.{single_unit_flaw, single_quote_flaw}

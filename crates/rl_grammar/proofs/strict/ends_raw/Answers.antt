@@ -1,4 +1,4 @@
-use Rattle.std.proofs.Common.{refl, rules}
+use Rattle.rl_grammar.proofs.Names.{refl, rules}
 use Rattle.std.specs.Str.{chars}
 use Rattle.rl_grammar.proofs.StrictRawLemmas.{turn_close, turn_on, raw_past}
 use Rattle.rl_grammar.proofs.strict.ends_raw.Goals as goal

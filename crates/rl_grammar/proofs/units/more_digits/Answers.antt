@@ -1,7 +1,6 @@
 -- At most five digits stand before this one, so the value is below 16 to the fifth.
-use Rattle.std.proofs.Common.{ℕ, ◌≡◌, ◌+◌, ◌*◌, ◌<◌, ◌≤◌, ◌^◌, arith}
+use Rattle.rl_grammar.proofs.Names.{ℕ, ◌≡◌, ◌+◌, ◌*◌, ◌<◌, ◌≤◌, ◌^◌, arith, common_steps}
 use Rattle.std.proofs.Math.Nat.{pow-le-pow_right}
-use Rattle.std.proofs.lemmas.Grind.{common_steps}
 use Rattle.rl_grammar.proofs.units.more_digits.Goals as goal
 
 pub overflow_mul-value : goal.overflow_mul-value
