@@ -7,6 +7,7 @@ use Rattle.rl_tokens.proofs.AsciiRuns.{PassesLow, RunCut, low_cut}
 use Rattle.rl_tokens.proofs.ScanLemmas.{PassesHigh, run_behind, run_boundary, run_cut, run_plain, run_stop}
 use Rattle.rl_grammar.specs.Mirrors.StrictAt.{is_inside}
 use Rattle.rl_grammar.proofs.PlainLemmas.{plain_high, same_prefix}
+use Rattle.std.proofs.Math.Bool.{and-true}
 
 -- ---- runs of bytes that pass a test, told by characters
 
@@ -86,16 +87,12 @@ all_bytes (c ∷ cs) = go (all_bytes cs) (cases128 c)
         let (b, bs, same, is, _) = encode_is_high c past in
         ap (λ z. list_all is_ascii (z ++ encode_utf8_all cs)) same ∙ ap (λ z. z && list_all is_ascii (bs ++ encode_utf8_all cs)) (high_fails b is) ∙ sym (ap (λ z. z && list_all is_ascii cs) (high_fails c past))
 
-and_true : (b : Bool) → (b && true) ≡ b
-and_true true = refl
-and_true false = refl
-
 -- a mark past ASCII is none
 no_mark : (m : Marks) → m ≡ record { first = 255; second = 255; third = 255; fourth = 255 } → (c : ℕ) → is_ascii_other m c ≡ is_ascii c
 no_mark m e c = ap (λ n. is_ascii_other n c) e ∙ go (cases128 c)
   where
     go : (c < 128) ⊎ (128 ≤ c) → is_ascii_other (record { first = 255; second = 255; third = 255; fourth = 255 }) c ≡ is_ascii c
-    go (inl small) = rw (ne_eqb c 255 (λ e. omega arith)) (and_true (nat_lt c 128))
+    go (inl small) = rw (ne_eqb c 255 (λ e. omega arith)) (and-true (nat_lt c 128))
     go (inr past) = rw (high_fails c past) refl
 
 pub ascii_all : (m : Marks) (n : ℕ) (bs : List ℕ) → m ≡ record { first = 255; second = 255; third = 255; fourth = 255 } → IsUtf8 bs → n ≡ prefix_len (is_ascii_other m) bs → eqb n (length bs) ≡ list_all is_ascii (chars bs)

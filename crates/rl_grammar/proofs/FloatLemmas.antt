@@ -7,9 +7,10 @@ use Rattle.rl_grammar.specs.Mirrors.NumberAt.{run, has_value, is_suffix, digit_r
 use Rattle.rl_grammar.proofs.DigitRowLemmas.{run_yes, run_no}
 use Rattle.rl_grammar.proofs.RunLemmas.{run_all, run_ends, run_join, run_past, suffix_complete, suffix_sound}
 use Rattle.rl_grammar.proofs.IntegerLemmas.{minus_past, chosen_some, sign_join}
+use Rattle.rl_grammar.proofs.TestLemmas.{passes_more}
 
 -- What the parts begin with.
-letter_no_dot : (c : ℕ) → is_exponent_letter c ≡ true → (c == 46) ≡ false
+pub letter_no_dot : (c : ℕ) → is_exponent_letter c ≡ true → (c == 46) ≡ false
 letter_no_dot c h = go (c == 101) refl
   where
     go : (b : Bool) → (c == 101) ≡ b → (c == 46) ≡ false
@@ -22,11 +23,6 @@ run_off test [] t h = refl
 run_off test (c ∷ row) t h =
     let b = and_parts (test c) (list_all test row) h in
     (run_yes test c (row ++ t) b.0).1 ∙ run_off test row t b.1
-
--- what a text begins with, it begins with whatever follows
-pub passes_more : (test : ℕ → Bool) (a b : List ℕ) → first_passes test a ≡ true → first_passes test (a ++ b) ≡ true
-passes_more test [] b h = absurd (cc)
-passes_more test (c ∷ cs) b h = h
 
 -- no digit row goes on into an exponent and suffix
 exponent_stops : (e : Exponent) (x : List ℕ) → is_suffix x ≡ true → IsExponent e x → first_passes (is_row_part (has_value 10)) (exponent_text e ++ x) ≡ false

@@ -84,7 +84,7 @@ front_complete SingleForm kind r h = absurd (cc)
 -- ---- cooked strings
 
 -- the units of a cooked string are a row that goes as far as units go
-cooked_row : (kind : Kind) (t v x : List ℕ) (c : Cooked kind t v x) → BeginsRow kind (texts c.units ++ (34 ∷ x)) v (34 ∷ x)
+pub cooked_row : (kind : Kind) (t v x : List ℕ) (c : Cooked kind t v x) → BeginsRow kind (texts c.units ++ (34 ∷ x)) v (34 ∷ x)
 cooked_row kind t v x c = record { units = c.units; each = c.each; ends = row_ends_on c.units (34 ∷ x) refl c.ends; text_is = refl; value_is = c.value_is }
 
 cooked_row_of : (kind : Kind) (a v x : List ℕ) → Cooked kind (opener kind ++ a) v x → BeginsRow kind a v (34 ∷ x)

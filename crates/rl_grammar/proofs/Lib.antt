@@ -1,4 +1,5 @@
 pub mod Names
+pub mod TestLemmas
 pub mod DigitRowLemmas
 pub mod HeadLemmas
 pub mod PlainNumberLemmas

@@ -10,7 +10,7 @@ use Rattle.rl_grammar.specs.Mirrors.UnitFlawAt.{FoundFlaw, found_flaw}
 use Rattle.rl_grammar.specs.Mirrors.NumberFlawAt.{after_word, end_flaw_at, tail_flaw_at, based_flaw_at, ends_or_passes, is_past_at, unsigned_number_flaw_at}
 use Rattle.rl_grammar.proofs.DigitRowLemmas.{run_yes, run_no}
 use Rattle.rl_grammar.proofs.RunLemmas.{run_all, run_ends, run_join, run_past}
-use Rattle.rl_grammar.proofs.FloatLemmas.{run_first, float_sound, no_float, passes_more}
+use Rattle.rl_grammar.proofs.FloatLemmas.{run_first, float_sound, no_float}
 use Rattle.unicode_ident.proofs.Computing.{unicode_ident}
 use Rattle.rl_grammar.specs.Flaws.{StopsBefore}
 use Rattle.rl_grammar.specs.WholeShapes.{is_number_front}
@@ -19,8 +19,10 @@ use Rattle.rl_grammar.proofs.IntegerLemmas.{Based, based, is_past, is_within, mi
 use Rattle.rl_grammar.proofs.NumberLemmas.{no_number, past_number}
 use Rattle.rl_grammar.proofs.ReadingLemmas.{only_number}
 use Rattle.rl_grammar.specs.NumberFlaws.{EndsInSign, HasKind, IsAnyNumber, IsNumberFlaw}
-use Rattle.rl_grammar.proofs.NumberReads.{suffix_is, suffix_not, no_suffix, part_continues, goes_on, all_off, word_breaks, tail_reads}
-use Rattle.rl_grammar.proofs.NumberTailFlaws.{Says, Spoils, Never, front_passes, on, word_stops, IsSignedTail, tail_spoils}
+use Rattle.rl_grammar.proofs.NumberReads.{suffix_is, suffix_not, no_suffix, part_continues, word_breaks, tail_reads}
+use Rattle.rl_grammar.proofs.NumberTailFlaws.{Says, Spoils, Never, on, word_stops, IsSignedTail, tail_spoils}
+use Rattle.rl_grammar.proofs.TestLemmas.{passes_more, goes_on, front_passes, all_off}
+use Rattle.std.proofs.Math.Bool.{and-true}
 
 -- ---- whether a number stands, by what the code reads
 
@@ -311,7 +313,7 @@ based_numbers s r l y k =
     let unsigned : after_minus t ≡ u = (minus_past s u refl).0 in
     let head : IsHead u r d m x = head_read u y x r d m refl (sym (k.base_is y)) refl refl refl in
     let at : IsHead (after_minus t) r d m x = subst (λ v. IsHead v r d m x) (sym unsigned) head in
-    let ends : may_end r x ≡ is_suffix x = ap (λ b. is_suffix x && (not b || not (is_exponent_suffix x))) k.other ∙ kept (is_suffix x) in
+    let ends : may_end r x ≡ is_suffix x = ap (λ b. is_suffix x && (not b || not (is_exponent_suffix x))) k.other ∙ and-true (is_suffix x) in
     let float : float_at t ≡ cond (list_all is_xid_continue y) (Some (l ∷ y)) None = ap float_of unsigned ∙ zero_float r l y k in
     record {
       suffix = x;
@@ -319,10 +321,6 @@ based_numbers s r l y k =
       int_is = ap (λ b. cond (d && b) (Some (m, x)) None) (sym ends) ∙ head_int t r d m x at;
       float_is = sym float;
     }
-  where
-    kept : (a : Bool) → (a && true) ≡ a
-    kept true = refl
-    kept false = refl
 
 based_fronted : (s : Sign) (r l : ℕ) → IsPrefixed r l → Fronted (λ c. false) (based_reads r) (based_any r) (sign_text s ++ (48 ∷ l ∷ []))
 based_fronted s r l k =

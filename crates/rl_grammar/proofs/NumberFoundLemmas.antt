@@ -101,9 +101,6 @@ is_float Int t h n = absurd (n refl)
 is_float Float t h n = h
 is_float kind t h n = absurd h
 
-pub float_not_plain : (t : List ℕ) → HasNoFloat (chars t) → Whether false Float t
-float_not_plain t n = no_plain_float t n
-
 -- and its kind is that of floats
 pub float_kind : (k : Kind) (t : List ℕ) → IsNumber k t → k ≢ Int → k ≡ Float
 float_kind Int t h n = absurd (n refl)

@@ -10,6 +10,7 @@ use Rattle.rl_grammar.specs.Mirrors.NumberFlawAt.{after_word}
 use Rattle.rl_grammar.proofs.DigitRowLemmas.{run_no}
 use Rattle.rl_grammar.proofs.RunLemmas.{run_ends, run_past}
 use Rattle.rl_grammar.proofs.FloatLemmas.{digit_no_mark, digit_no_sign, run_off, signed_past}
+use Rattle.rl_grammar.proofs.TestLemmas.{all_breaks, all_off}
 
 -- ---- characters
 
@@ -79,20 +80,6 @@ sign_no_continue c h = go (c == 43) refl
     go false e = ap is_xid_continue (eqb-true c 45 (sym (ap (λ b. b || (c == 45)) e) ∙ h)) ∙ is_xid_continue-ascii 45 (omega arith)
 
 -- ---- rows
-
--- what goes on as the text does begins as it does
-pub goes_on : (test : ℕ → Bool) (front rest t : List ℕ) (c : ℕ) (cs e : List ℕ) → t ≡ front ++ rest → rest ≡ c ∷ cs → first_passes test t ≡ false → first_passes test (front ++ (c ∷ e)) ≡ false
-goes_on test [] rest t c cs e a b k = sym (ap (first_passes test) (a ∙ b)) ∙ k
-goes_on test (x ∷ xs) rest t c cs e a b k = sym (ap (first_passes test) a) ∙ k
-
--- a character that doesn't pass
-pub all_breaks : (f : ℕ → Bool) (xs : List ℕ) (c : ℕ) (e : List ℕ) → f c ≡ false → list_all f (xs ++ (c ∷ e)) ≡ false
-all_breaks f [] c e h = and_left (f c) (list_all f e) h
-all_breaks f (x ∷ xs) c e h = and_right (f x) (list_all f (xs ++ (c ∷ e))) (all_breaks f xs c e h)
-
--- what passes in front adds nothing
-pub all_off : (f : ℕ → Bool) (xs t : List ℕ) → list_all f xs ≡ true → list_all f (xs ++ t) ≡ list_all f t
-all_off f xs t h = list_all-append f xs t ∙ ap (λ b. b && list_all f t) h
 
 -- a whole word, which stops at what doesn't continue it
 pub word_breaks : (t : List ℕ) (c : ℕ) (cs e : List ℕ) → after_word t ≡ c ∷ cs → list_all is_xid_continue (run is_xid_continue t ++ (c ∷ e)) ≡ false

@@ -15,7 +15,9 @@ use Rattle.rl_grammar.proofs.RunLemmas.{run_all, run_ends, run_join}
 use Rattle.rl_grammar.proofs.FloatLemmas.{run_first}
 use Rattle.rl_grammar.proofs.IntegerLemmas.{is_past}
 use Rattle.rl_grammar.specs.NumberFlaws.{IsSignedPower}
-use Rattle.rl_grammar.proofs.NumberReads.{suffix_is, suffix_not, no_suffix, goes_on, all_off, word_breaks, ten_reads, power_reads, signed_reads, digits_read, digit_reads, is_power_front, other_reads, power_parts, tail_reads, dot_reads, dot_stands, undotted, plain_reads}
+use Rattle.rl_grammar.proofs.NumberReads.{suffix_is, suffix_not, no_suffix, word_breaks, ten_reads, power_reads, signed_reads, digits_read, digit_reads, is_power_front, other_reads, power_parts, tail_reads, dot_reads, dot_stands, undotted, plain_reads}
+use Rattle.rl_grammar.proofs.TestLemmas.{goes_on, front_passes, all_off}
+use Rattle.std.proofs.Math.Bool.{and-true}
 
 -- What a kind says, by whether a number of any magnitude stands, and by what ends in a sign.
 abbrev pub Says : (List ℕ → Bool) → (List ℕ → Type 0) → FlawKind → List ℕ → List ℕ → Type 0
@@ -41,11 +43,6 @@ pub record Spoils (first : ℕ → Bool) (reads any : List ℕ → Bool) (signed
 
 abbrev pub Never : List ℕ → Type 0
 Never x = ⊥
-
--- the front of a text begins as the text does, or is empty
-pub front_passes : (test : ℕ → Bool) (front rest t : List ℕ) → t ≡ front ++ rest → first_passes test t ≡ false → first_passes test front ≡ false
-front_passes test [] rest t e h = refl
-front_passes test (x ∷ xs) rest t e h = sym (ap (first_passes test) e) ∙ h
 
 -- what stands before changes nothing
 pub on : {first outer : ℕ → Bool} {inner inner_any reads any : List ℕ → Bool} {inside signed : List ℕ → Type 0} (pre t : List ℕ) (flaw : FoundFlaw) → first_passes first t ≡ false → ((x : List ℕ) → first_passes first x ≡ false → reads (pre ++ x) ≡ inner x) → ((x : List ℕ) → first_passes first x ≡ false → any (pre ++ x) ≡ inner_any x) → ((x : List ℕ) → first_passes outer (pre ++ x) ≡ false) → ((x : List ℕ) → inside x → signed (pre ++ x)) → Spoils first inner inner_any inside t flaw → Spoils outer reads any signed (pre ++ t) flaw
@@ -183,10 +180,6 @@ word_goes : (t : List ℕ) → suffix_word_flaw_at false t ≡ found_flaw BadSuf
 unfolding suffix_word_flaw_at
 word_goes t = refl
 
-and_true : (b : Bool) → (b && true) ≡ b
-and_true true = refl
-and_true false = refl
-
 -- what no whole word passes, digits before it don't either
 -- what no whole word passes, digits before it don't either
 pub digits_none : (i p : Bool) (x : List ℕ) → list_all is_xid_continue x ≡ false → digits_read i p x ≡ false
@@ -249,7 +242,7 @@ unsigned_spoils i p (c ∷ cs) ok none = cond_both (i && not (is_xid_start c)) _
         go true off n = subst (Spoils is_ten_part (digits_read true true) (digits_read true false) Never (c ∷ cs)) (sym (word_past (c ∷ cs))) (past_spoils is_xid_continue [] (c ∷ cs) [] tt refl (digits_suffix true true [] refl)
           (λ d ds e k. let head : c ≡ d = cc in subst (λ z. digits_read true true (z ∷ e) ≡ false) head (digits_other true c e off ∙ and_right (list_all is_xid_continue (c ∷ e)) false refl))
           (digits_suffix true false [] refl)
-          (λ d ds k. let head : c ≡ d = cc in subst (λ z. digits_read true false (z ∷ []) ≡ is_xid_continue z) head (digits_other false c [] off ∙ and_true (is_xid_continue c && true) ∙ and_true (is_xid_continue c))))
+          (λ d ds k. let head : c ≡ d = cc in subst (λ z. digits_read true false (z ∷ []) ≡ is_xid_continue z) head (digits_other false c [] off ∙ and-true (is_xid_continue c && true) ∙ and-true (is_xid_continue c))))
         go false off n = subst (Spoils is_ten_part (digits_read true false) (digits_read true false) Never (c ∷ cs)) (sym (word_goes (c ∷ cs))) (whole_word (c ∷ cs) ok n (digits_word (run is_xid_continue (c ∷ cs)) (run_all is_xid_continue (c ∷ cs))) (digits_word (run is_xid_continue (c ∷ cs)) (run_all is_xid_continue (c ∷ cs))) (digits_none true false) (digits_none true false))
 
     suffix : (i && not (is_xid_start c)) ≡ false → Spoils is_ten_part (digits_read i p) (digits_read i false) Never (c ∷ cs) (suffix_flaw_at false (c ∷ cs))
@@ -359,7 +352,7 @@ module _ (i p : Bool) (reads any : List ℕ → Bool) (outer : ℕ → Bool) (si
       by f q same x h = same (us ++ x) ∙ other_reads i q l us x k.is_letter marks h
 
       unlimited : (f : List ℕ → Bool) (q : Bool) → ((x : List ℕ) → f (l ∷ x) ≡ ten_reads i q (l ∷ x)) → q ≡ false → (x : List ℕ) → first_passes is_power_front x ≡ false → f (l ∷ (us ++ x)) ≡ list_all is_xid_continue x
-      unlimited f q same e x h = by f q same x h ∙ ap (λ z. list_all is_xid_continue x && not z) (and_right i q e) ∙ and_true (list_all is_xid_continue x)
+      unlimited f q same e x h = by f q same x h ∙ ap (λ z. list_all is_xid_continue x && not z) (and_right i q e) ∙ and-true (list_all is_xid_continue x)
 
       any_by : (x : List ℕ) → first_passes is_power_front x ≡ false → any (l ∷ (us ++ x)) ≡ list_all is_xid_continue x
       any_by = unlimited any false k.any_same refl
@@ -380,7 +373,7 @@ module _ (i p : Bool) (reads any : List ℕ → Bool) (outer : ℕ → Bool) (si
             (k.same (us ++ (49 ∷ [])) ∙ digit_reads i p l us (49 ∷ []) [] k.is_letter marks refl refl refl ∙ digits_suffix i p [] refl)
             (λ c cs r q. by reads p k.same (c ∷ r) (after c cs r q) ∙ ap (λ z. list_all is_xid_continue (c ∷ r) && not z) (is_past i p e k.may_be_past) ∙ and_right (list_all is_xid_continue (c ∷ r)) false refl)
             (sym (ap (λ z. any (l ∷ z)) (append-nil us)) ∙ any_by [] refl)
-            (λ c cs q. any_by (c ∷ []) (after c cs [] q) ∙ and_true (is_xid_continue c)))
+            (λ c cs q. any_by (c ∷ []) (after c cs [] q) ∙ and-true (is_xid_continue c)))
 
   row_spoils : (t : List ℕ) → first_passes is_underscore t ≡ false → reads (l ∷ (us ++ t)) ≡ false → P t (power_flaw_at i p t)
   unfolding power_flaw_at

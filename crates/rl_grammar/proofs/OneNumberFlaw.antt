@@ -8,14 +8,15 @@ use Rattle.rl_grammar.specs.WholeShapes.{is_number_front}
 use Rattle.rl_grammar.specs.declared.flaws.FlawKind.{FlawKind}
 use Rattle.rl_grammar.specs.declared.flaws.FlawKind.TheVariants.{BadSuffix, NoExponentDigit, NoNumber, TooLarge, Unfinished}
 use Rattle.rl_grammar.specs.Mirrors.NumberAt.{after_minus, capped, has_value, radix_at, radix_of}
-use Rattle.rl_grammar.proofs.FloatLemmas.{no_float, passes_more}
+use Rattle.rl_grammar.proofs.FloatLemmas.{no_float}
 use Rattle.rl_grammar.proofs.HeadLemmas.{no_head_float, no_head_int}
 use Rattle.rl_grammar.proofs.IntegerLemmas.{minus_past, no_int, radix_past}
-use Rattle.rl_grammar.proofs.NumberReads.{all_breaks, all_off, dot_reads, dot_stands, marks_are_row, marks_no_digit, part_continues, sign_no_continue, signed_reads, suffix_continues, tail_reads, ten_reads, undotted}
+use Rattle.rl_grammar.proofs.NumberReads.{dot_reads, dot_stands, marks_are_row, marks_no_digit, part_continues, sign_no_continue, signed_reads, suffix_continues, tail_reads, ten_reads, undotted}
 use Rattle.rl_grammar.proofs.NumberLemmas.{no_number}
 use Rattle.rl_grammar.proofs.NumberFlawLemmas.{names, names_no_dot, ten_first, ten_fronted}
 use Rattle.rl_grammar.proofs.ReadingLemmas.{only_number}
 use Rattle.rl_grammar.proofs.RunLemmas.{suffix_complete}
+use Rattle.rl_grammar.proofs.TestLemmas.{passes_more, all_breaks, all_off}
 
 -- ---- a number may begin so
 

@@ -5,6 +5,7 @@ use Rattle.rl_grammar.specs.Mirrors.Classes.{is_in_run}
 use Rattle.rl_grammar.specs.Mirrors.PlainAt.{is_kept, is_plain_float}
 use Rattle.rl_tokens.proofs.CommentBytes.{not_equal}
 use Rattle.rl_tokens.proofs.ScanLemmas.{PassesHigh}
+use Rattle.rl_grammar.proofs.TestLemmas.{all_breaks}
 
 -- strings but byte strings take what is past ASCII as it is
 pub plain_high : (kind : Kind) → is_string kind ≡ true → (kind ≡ ByteStr → ⊥) → PassesHigh (is_plain kind)
@@ -33,10 +34,6 @@ other_string kind h n m = absurd (cc)
 
 -- ---- a body that is one run
 
-stops_all : (q : ℕ → Bool) (xs : List ℕ) (c : ℕ) (more : List ℕ) → q c ≡ false → list_all q (xs ++ (c ∷ more)) ≡ false
-stops_all q [] c more h = ap (λ b. b && list_all q more) h
-stops_all q (x ∷ xs) c more h = and_right (q x) (list_all q (xs ++ (c ∷ more))) (stops_all q xs c more h)
-
 -- ---- a numeral that is kept
 
 abbrev changed : Marks
@@ -60,7 +57,7 @@ marked_stops b h = ap not h
 
 pub changed_some : (t : List ℕ) (mark : ℕ) (rest : List ℕ) → IsNextMark changed t mark rest → false ≡ is_plain_float t
 changed_some t mark rest n =
-    sym (sym (all_same t) ∙ ap (list_all (is_other changed)) n.text_is ∙ stops_all (is_other changed) n.front mark rest (marked_stops (is_one_of changed mark) n.is_mark))
+    sym (sym (all_same t) ∙ ap (list_all (is_other changed)) n.text_is ∙ all_breaks (is_other changed) n.front mark rest (marked_stops (is_one_of changed mark) n.is_mark))
 
 -- it is where what ends the body ends the run
 pub one_run : (q : ℕ → Bool) (body run rest : List ℕ) → body ++ rest ≡ run ++ rest → list_all q run ≡ true → true ≡ list_all q body
@@ -71,4 +68,4 @@ pub no_run : (q : ℕ → Bool) (body run following rest more : List ℕ) → bo
 no_run q body run following rest [] cut behind_is stops goes_on = absurd (goes_on behind_is)
 no_run q body run following rest (c ∷ more) cut behind_is stops goes_on =
     let whole : body ≡ run ++ (c ∷ more) = append_cancel_right body (run ++ (c ∷ more)) rest (cut ∙ ap (λ z. run ++ z) behind_is ∙ sym (append_assoc run (c ∷ more) rest)) in
-    sym (ap (list_all q) whole ∙ stops_all q run c more (ap (first_passes q) (sym behind_is) ∙ stops))
+    sym (ap (list_all q) whole ∙ all_breaks q run c more (ap (first_passes q) (sym behind_is) ∙ stops))

@@ -39,7 +39,7 @@ glyph_digit : (n : ℕ) → is_ascii_digit (glyph n) ≡ true
 glyph_digit n = ap is_ascii_digit (glyph_is n) ∙ small_digit (n % 10) (omega arith)
 
 -- all are digits
-onto_digits : (k n : ℕ) (acc : List ℕ) → list_all is_ascii_digit acc ≡ true → list_all is_ascii_digit (digits_onto k 10 false n acc) ≡ true
+pub onto_digits : (k n : ℕ) (acc : List ℕ) → list_all is_ascii_digit acc ≡ true → list_all is_ascii_digit (digits_onto k 10 false n acc) ≡ true
 onto_digits zero n acc h = h
 onto_digits (suc k) n acc h = go (n / 10 == 0) more (onto_digits k (n / 10) (glyph n ∷ acc) more)
   where

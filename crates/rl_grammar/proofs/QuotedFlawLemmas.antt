@@ -14,6 +14,7 @@ use Rattle.rl_grammar.proofs.RowLemmas.{row_ends_off, row_step}
 use Rattle.rl_grammar.specs.Mirrors.UnitFlawAt.{after_unit_flaw_of, found_flaw, unit_flaw_at}
 use Rattle.rl_grammar.proofs.UnitFlawLemmas.{Spoils, Stops, unit_spoils}
 use Rattle.rl_grammar.proofs.UnitLemmas.{unit_sound, unit_complete}
+use Rattle.rl_grammar.proofs.TestLemmas.{goes_on}
 
 -- ---- what follows a row of units may be another text with the same front
 
@@ -37,10 +38,6 @@ other_rest kind a v t z row h = record { units = row.units; each = row.each; end
 first_ending : (test : ℕ → Bool) (front rest z t : List ℕ) → t ≡ front ++ rest → (front ≡ [] → first_passes test z ≡ false) → first_passes test t ≡ false → first_passes test (front ++ z) ≡ false
 first_ending test [] rest z t e h k = h refl
 first_ending test (x ∷ xs) rest z t e h k = sym (ap (first_passes test) e) ∙ k
-
-first_same : (test : ℕ → Bool) (front rest t : List ℕ) (c : ℕ) (cs e : List ℕ) → t ≡ front ++ rest → rest ≡ c ∷ cs → first_passes test t ≡ false → first_passes test (front ++ (c ∷ e)) ≡ false
-first_same test [] rest t c cs e a b k = sym (ap (first_passes test) (a ∙ b)) ∙ k
-first_same test (x ∷ xs) rest t c cs e a b k = sym (ap (first_passes test) a) ∙ k
 
 no_first : (q : ℕ) (z x : List ℕ) → first_passes (λ c. eqb c q) z ≡ false → eqb q q ≡ true → z ≡ q ∷ x → ⊥
 no_first q z x h same e = both_ways (first_passes (λ c. eqb c q) z) h (ap (first_passes (λ c. eqb c q)) e ∙ same)
@@ -85,8 +82,8 @@ cooked_stops kind a v t rest s row no_quote stops =
       completes = subst (HasParts CookedForm kind) (sym (append_assoc (texts us) front (done.ending ++ (34 ∷ [])))) (cooked_closed kind (texts us ++ z) (v ++ done.value) s closed);
       stuck = λ c cs e h.
           let y = front ++ (c ∷ e) in
-          let off = other_rest kind a v t y row (first_same is_blank front rest t c cs e stops.text_is h) in
-          let none : HasNoParts CookedForm kind (opener kind ++ (texts us ++ y)) = cooked_none kind (texts us ++ y) v y off (stops.stuck c cs e h) (λ x g. no_first 34 y x (first_same (λ k. eqb k 34) front rest t c cs e stops.text_is h no_quote) refl g) in
+          let off = other_rest kind a v t y row (goes_on is_blank front rest t c cs e stops.text_is h) in
+          let none : HasNoParts CookedForm kind (opener kind ++ (texts us ++ y)) = cooked_none kind (texts us ++ y) v y off (stops.stuck c cs e h) (λ x g. no_first 34 y x (goes_on (λ k. eqb k 34) front rest t c cs e stops.text_is h no_quote) refl g) in
           subst (λ w. HasNoParts CookedForm kind (opener kind ++ w)) (sym (append_assoc (texts us) front (c ∷ e))) none;
     }
 
@@ -179,7 +176,7 @@ single_quote_stops kind a v rest s h no_quote =
       ending = 39 ∷ [];
       are_characters = (refl, tt);
       completes = single_closed kind (unit_text u ++ (39 ∷ [])) v s (reads (39 ∷ []));
-      stuck = λ c cs e g. single_none kind (unit_text u ++ (c ∷ e)) (v, c ∷ e) (reads (c ∷ e)) (λ x k. no_first 39 (c ∷ e) x (first_same (λ d. eqb d 39) [] rest rest c cs e refl g no_quote) refl k);
+      stuck = λ c cs e g. single_none kind (unit_text u ++ (c ∷ e)) (v, c ∷ e) (reads (c ∷ e)) (λ x k. no_first 39 (c ∷ e) x (goes_on (λ d. eqb d 39) [] rest rest c cs e refl g no_quote) refl k);
     }
 
 -- where the text is no character and no byte, no quote stands after its unit

@@ -46,7 +46,7 @@ opener_no_number t form kind inside h = go (first_passes is_number_front t) refl
     go true e = let h : None ≡ found_opener form kind inside = sym (front_not_quoted t e) ∙ h in absurd (cc)
     go false e = refl
 
-word_has_none : (b : Bool) → opener_at (truth_text b) ≡ None
+pub word_has_none : (b : Bool) → opener_at (truth_text b) ≡ None
 unfolding opener_at
 word_has_none true = refl
 word_has_none false = refl

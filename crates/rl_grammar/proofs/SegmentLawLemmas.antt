@@ -13,7 +13,7 @@ use Rattle.rl_grammar.specs.Segments.{AreLeft, AreUnitsIn, AreUnitsOf, IsByteEnd
 use Rattle.rl_grammar.specs.SegmentLaws.{MakeLiteral, Passes, PlacesKeepTheOrder, PlacesStandIn, Tile, segments_bytes}
 use Rattle.rl_grammar.proofs.BodyLemmas.{openers_differ, row_shrinks}
 use Rattle.rl_grammar.proofs.ContentLemmas.{held_in_bytes, in_bytes_append, nothing_in_bytes}
-use Rattle.rl_grammar.proofs.FormLemmas.{not_both}
+use Rattle.rl_grammar.proofs.FormLemmas.{not_both, cooked_row}
 use Rattle.rl_grammar.proofs.FoundLemmas.{body_text}
 use Rattle.rl_grammar.proofs.FrontLenLemmas.{byte_len_append, byte_len_ascii, hashes_long}
 use Rattle.rl_grammar.proofs.RawLemmas.{raw_same}
@@ -209,9 +209,6 @@ rows_place inside p kind (u ∷ us) (w ∷ ws) t a b at =
 
 abbrev Same : (QuotedUnit → ℕ → ℕ) → Kind → List QuotedUnit → List QuotedUnit → ℕ → ℕ → Type 0
 Same inside kind us ws lo start = (lo ≡ start) × ((at : ℕ) → unit_place inside kind us at ≡ unit_place inside kind ws at)
-
-cooked_row : (kind : Kind) (t v x : List ℕ) (c : Cooked kind t v x) → BeginsRow kind (texts c.units ++ (34 ∷ x)) v (34 ∷ x)
-cooked_row kind t v x c = record { units = c.units; each = c.each; ends = row_ends_on c.units (34 ∷ x) refl c.ends; text_is = refl; value_is = c.value_is }
 
 cooked_same : (inside : QuotedUnit → ℕ → ℕ) → IsPlacing inside → (kind : Kind) (t v x w y : List ℕ) (c : Cooked kind t v x) (d : Cooked kind t w y) → (at : ℕ) → unit_place inside kind c.units at ≡ unit_place inside kind d.units at
 cooked_same inside p kind t v x w y c d =

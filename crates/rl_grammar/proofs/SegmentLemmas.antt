@@ -16,6 +16,7 @@ use Rattle.rl_grammar.specs.Mirrors.UnitAt.{found, piece_value, IsHeldBy, unit_a
 use Rattle.rl_grammar.specs.Segments.{unit_bytes, units_bytes, is_itself, begins_in, ends_in, unit_place, span_from, segment_end, segment_place, value_end, GivesByte, IsUnitRow, AreUnitsIn, AreUnitsFor, AreLeft, IsLeftAt, IsLongest, IsNoText, IsPastLeft, IsSegmentOf, IsFirstSegment, IsSpanTable, IsSegmentsState, SegmentsState, TakesSegment, value_bytes, value_place}
 use Rattle.rl_grammar.proofs.ContentLemmas.{held_in_bytes, piece_in_bytes}
 use Rattle.rl_grammar.proofs.UnitLemmas.{some_pair, plain_complete, unit_complete, unit_nil}
+use Rattle.rl_grammar.proofs.FrontLenLemmas.{byte_len_append}
 
 -- ---- rows of units
 
@@ -208,9 +209,6 @@ tested P a n x y f g = go (ltb a n) refl
     go : (b : Bool) → ltb a n ≡ b → P (cond b x y)
     go true e = f (ltb-true a n e)
     go false e = g (ltb-false a n e)
-
-pub byte_len_append : (a b : List ℕ) → byte_len (a ++ b) ≡ byte_len a + byte_len b
-byte_len_append a b = ap length (encodes-append a b) ∙ length-append (encode_utf8_all a) (encode_utf8_all b)
 
 -- past these units
 pub place_past : (inside : QuotedUnit → ℕ → ℕ) (kind : Kind) (done us : List QuotedUnit) (at left : ℕ) → at ≡ length (units_bytes kind done) + left → unit_place inside kind (done ++ us) at ≡ byte_len (texts done) + unit_place inside kind us left

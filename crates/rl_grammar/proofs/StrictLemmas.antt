@@ -17,6 +17,7 @@ use Rattle.rl_grammar.proofs.FormLemmas.{front_complete, front_sound}
 use Rattle.rl_grammar.proofs.StrictBackLemmas.{IsQuotedKind}
 use Rattle.rl_grammar.proofs.StrictNumberLemmas.{IsStrictNumber, float_complete, int_complete, number_sound}
 use Rattle.rl_grammar.proofs.StrictRowLemmas.{quoted_string, quoted_single}
+use Rattle.rl_grammar.proofs.QuotedStopLemmas.{word_has_none}
 
 -- ---- both grammars open their forms alike
 
@@ -205,12 +206,6 @@ number_none : (t : List ℕ) → IsStrictNumber t → opener_at t ≡ None
 number_none t (v, x, inl s) = let i = strict_int t x v s in number_front t (int_front t x NoSign i.magnitude i.reads)
 number_none t (v, x, inr s) = let f = float_strict_reads t x v s in number_front t (float_front t f.numeral x f.reads)
 
--- nor like a truth value
-truth_none : (b : Bool) → opener_at (truth_text b) ≡ None
-unfolding opener_at
-truth_none true = refl
-truth_none false = refl
-
 -- a quoted form is what its front tells
 opened_told : (t : List ℕ) (p : QuotedForm × Kind × List ℕ) (o : Opened t) → opener_at t ≡ Some p → ClosesForm p.0 p.1 p.2
 opened_told t p o h =
@@ -228,7 +223,7 @@ told_token t p b h same =
         | inl o ↦ same.1 (opened_told t p o (sym h))
         | inr w ↦ elim w [
           | inl n ↦ absurd (none (number_none t n))
-          | inr v ↦ absurd (none (ap opener_at v.1 ∙ truth_none v.0))
+          | inr v ↦ absurd (none (ap opener_at v.1 ∙ word_has_none v.0))
         ]
       ],
     )

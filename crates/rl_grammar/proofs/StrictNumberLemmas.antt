@@ -9,8 +9,9 @@ use Rattle.rl_grammar.specs.Mirrors.NumberAt.{has_value, digit_row_at, has_digit
 use Rattle.rl_grammar.specs.Mirrors.StrictAt.{is_number_suffix, is_some_text, ends_power, ends_digits, ends_dot, ends_whole, is_decimal, is_based, is_strict_number}
 use Rattle.rl_grammar.proofs.RunLemmas.{run_all, run_ends, run_join, run_past}
 use Rattle.rl_grammar.proofs.IntegerLemmas.{based, hex_stops, not_based, radix_past}
-use Rattle.rl_grammar.proofs.FloatLemmas.{passes_more, run_first}
+use Rattle.rl_grammar.proofs.FloatLemmas.{run_first, letter_no_dot}
 use Rattle.rl_grammar.proofs.StrictWordLemmas.{lenient_suffix, number_suffix_complete, number_suffix_sound}
+use Rattle.rl_grammar.proofs.TestLemmas.{passes_more}
 
 -- a strict number
 abbrev pub IsStrictNumber : List ℕ → Type 0
@@ -105,10 +106,6 @@ fraction_past f y h n e =
 -- an exponent goes on with no row, and begins with no dot
 exponent_front : (test : ℕ → Bool) (e x : List ℕ) (p : IsStrictExponent e) → test p.letter ≡ false → first_passes test (e ++ x) ≡ false
 exponent_front test e x p h = ap (λ z. first_passes test (z ++ x)) p.text ∙ h
-
--- the letter of an exponent is no dot
-letter_no_dot : (c : ℕ) → is_exponent_letter c ≡ true → (c == 46) ≡ false
-letter_no_dot c h = apart is_exponent_letter c 46 h refl
 
 -- a whole part and a dot
 dot_alone : (t d numeral x : List ℕ) → IsDigits d → numeral ≡ d ++ (46 ∷ []) → x ≡ [] → t ≡ numeral ++ x → is_decimal t ≡ true

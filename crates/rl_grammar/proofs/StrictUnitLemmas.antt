@@ -11,7 +11,7 @@ use Rattle.rl_grammar.specs.Mirrors.StrictAt.{escape_rest, unit_rest}
 use Rattle.rl_grammar.proofs.IntegerLemmas.{chosen_some}
 use Rattle.rl_grammar.proofs.RunLemmas.{run_all, run_ends, run_join, run_past}
 use Rattle.rl_grammar.proofs.StrictBackLemmas.{Back, IsQuotedKind, named_escape, hex_escape, unicode_escape}
-use Rattle.rl_grammar.proofs.UnitLemmas.{unit_complete, unit_sound}
+use Rattle.rl_grammar.proofs.UnitLemmas.{unit_complete, unit_sound, backslash_not_plain}
 
 -- the blanks of a line break go as far as blanks go
 abbrev pub MayEnd : StrictUnit → List ℕ → Type 0
@@ -41,17 +41,6 @@ no_break_ends (UnicodeEscape digits) r n = tt
 escape_front : (k : Kind) (t : List ℕ) (u : QuotedUnit) (r : List ℕ) → Back k u → t ≡ unit_text u ++ r → StrictFront k t r
 escape_front k t u r e h = record { unit = e.unit; is_unit = e.is_unit; may_end = no_break_ends e.unit r e.no_break; text_is = h ∙ ap (λ z. z ++ r) e.text_is }
 
--- no kind takes a backslash as it is
-plain_backslash : (k : Kind) → is_plain k 92 ≡ false
-plain_backslash Str = refl
-plain_backslash ByteStr = refl
-plain_backslash CStr = refl
-plain_backslash Byte = refl
-plain_backslash Char = refl
-plain_backslash Int = refl
-plain_backslash Float = refl
-plain_backslash BoolKind = refl
-
 -- a backslash
 abbrev is_backslash : ℕ → Bool
 is_backslash c = c == 92
@@ -66,7 +55,7 @@ lenient_front : (k : Kind) (u : QuotedUnit) (c : ℕ) (cs r : List ℕ) → IsQu
 lenient_front k (Plain d) c cs r q n m u e =
     let At : ℕ → Type 0 = λ z. is_plain k z ≡ true in
     let d_is : d ≡ 92 = eqb-true d 92 (sym (ap (first_passes is_backslash) e)) in
-    absurd (both_ways (is_plain k 92) (plain_backslash k) (subst At d_is u))
+    absurd (both_ways (is_plain k 92) (backslash_not_plain k) (subst At d_is u))
 lenient_front k CrLf c cs r q n m u e = absurd (both_ways true (ap (first_passes is_backslash) e) refl)
 lenient_front k (Named l) c cs r q n m u e = escape_front k (92 ∷ c ∷ cs) (Named l) r (named_escape k l u) e
 lenient_front k (Hex high low) c cs r q n m u e = escape_front k (92 ∷ c ∷ cs) (Hex high low) r (hex_escape k high low q u) e

@@ -11,6 +11,7 @@ use Rattle.rl_grammar.specs.Mirrors.UnitFlawAt.{FoundFlaw, found_flaw, low_digit
 use Rattle.rl_grammar.proofs.UnitLemmas.{holds_more, two_digits, unit_complete, crlf_complete}
 use Rattle.rl_grammar.proofs.EscapeLemmas.{Reader, given, Completes, inner_none, only_zero, hex_read, hex_one, second, hex_second, never, no_low, no_high, past_hex, allowed, coded, closed_code, closed_bad, digit_on, digit_past, underscore_on, other_none, full_none, not_low, not_high, Spelled, room, closing, spelled_on, braced, braced_first, braced_none, first_spelled, braced_one, unicode_on, no_unicode_brace, unicode_one, unicode_never, escape_n, by_hex, by_unicode, same_escape, by_escape, IsQuotedKind, unit_one, line_feed, no_line_feed, same_character}
 use Rattle.rl_grammar.proofs.CodeDigitLemmas.{digit_apart, digits_flaw_at, digits_flaw_is}
+use Rattle.rl_grammar.proofs.TestLemmas.{passes_more}
 
 -- ---- readers of the front of a text
 
@@ -159,10 +160,6 @@ number_digit ds v c e h = ap (λ x. x * 16 + digit_value c) e ∙ sym (number_mo
 count_more : (ds : List ℕ) (c : ℕ) → eqb c 95 ≡ false → digit_count (ds ++ (c ∷ [])) ≡ digit_count ds + 1
 count_more ds c h = ap length (bare_digit ds c h) ∙ length-append (without_underscores ds) (c ∷ [])
 
-first_more : (test : ℕ → Bool) (xs ys : List ℕ) → first_passes test xs ≡ true → first_passes test (xs ++ ys) ≡ true
-first_more test [] ys h = absurd (cc)
-first_more test (x ∷ xs) ys h = h
-
 code_has : (kind : Kind) (v : ℕ) (text rest : List ℕ) → is_code kind v ≡ false → ((k : FlawKind) → IsNoCode kind k v → HasNoCode kind k text rest) → UnitFlaw kind (code_flaw_of v) text rest
 code_has kind v text rest bad has = past (ltb 1114111 v) refl
   where
@@ -200,7 +197,7 @@ stands_digit : (kind : Kind) (ds : List ℕ) (v n c : ℕ) → Stands kind ds v 
 stands_digit kind ds v n c s h spelled =
     let no_underscore = digit_apart c 95 h refl in
     record {
-      begins = first_more is_hex_digit ds (c ∷ []) s.begins;
+      begins = passes_more is_hex_digit ds (c ∷ []) s.begins;
       each = list_all-append is_part ds (c ∷ []) ∙ and_from (list_all is_part ds) (list_all is_part (c ∷ [])) s.each (rw (no_underscore, h) refl);
       value_is = number_digit ds v c s.value_is h;
       count_is = ap (λ x. x + 1) s.count_is ∙ sym (count_more ds c no_underscore);
@@ -209,7 +206,7 @@ stands_digit kind ds v n c s h spelled =
 
 stands_underscore : (kind : Kind) (ds : List ℕ) (v n c : ℕ) → Stands kind ds v n → eqb c 95 ≡ true → Stands kind (ds ++ (c ∷ [])) v n
 stands_underscore kind ds v n c s e = record {
-  begins = first_more is_hex_digit ds (c ∷ []) s.begins;
+  begins = passes_more is_hex_digit ds (c ∷ []) s.begins;
   each = list_all-append is_part ds (c ∷ []) ∙ and_from (list_all is_part ds) (list_all is_part (c ∷ [])) s.each (rw e refl);
   value_is = s.value_is ∙ ap (place_value 16) (sym (bare_same ds c e));
   count_is = s.count_is ∙ ap length (sym (bare_same ds c e));
