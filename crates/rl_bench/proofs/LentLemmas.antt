@@ -17,15 +17,15 @@ use Rattle.rl_bench.specs.Sizes.{HasSize}
 use Rattle.rl_bench.specs.Lent.{IsBorrowed}
 
 -- a plain body of a string is as long as the contents
-pub plain_size : (kind : Kind) (t body : List ℕ) (plain : Bool) → plain ≡ true → HasBody kind (chars t) body plain → IsUtf8 t → IsUtf8 body → HasSize kind (chars t) (length body)
-plain_size StrKind t body plain is has ut ub = (Characters (chars body), plain_contents t body plain is has ut ub, sym (char_len body ub))
-plain_size ByteStrKind t body plain is has ut ub = (Bytes body, plain_contents_bytes ByteStrKind t body plain (inl refl) is has ub, refl)
-plain_size CStrKind t body plain is has ut ub = (Bytes body, plain_contents_bytes CStrKind t body plain (inr refl) is has ub, refl)
-plain_size ByteKind t body plain is has ut ub = absurd (both_ways (is_string ByteKind) refl has.string)
-plain_size CharKind t body plain is has ut ub = absurd (both_ways (is_string CharKind) refl has.string)
-plain_size IntKind t body plain is has ut ub = absurd (both_ways (is_string IntKind) refl has.string)
-plain_size FloatKind t body plain is has ut ub = absurd (both_ways (is_string FloatKind) refl has.string)
-plain_size BoolKind t body plain is has ut ub = absurd (both_ways (is_string BoolKind) refl has.string)
+pub plain_size : (kind : Kind) (t body : List ℕ) (plain : Bool) → plain ≡ true → HasBody kind (chars t) body plain → IsUtf8 body → HasSize kind (chars t) (length body)
+plain_size StrKind t body plain is has ub = (Characters (chars body), plain_contents body plain is ub (chars t) has, sym (char_len body ub))
+plain_size ByteStrKind t body plain is has ub = (Bytes body, plain_contents_bytes ByteStrKind t body plain (inl refl) is has ub, refl)
+plain_size CStrKind t body plain is has ub = (Bytes body, plain_contents_bytes CStrKind t body plain (inr refl) is has ub, refl)
+plain_size ByteKind t body plain is has ub = absurd (both_ways (is_string ByteKind) refl has.string)
+plain_size CharKind t body plain is has ub = absurd (both_ways (is_string CharKind) refl has.string)
+plain_size IntKind t body plain is has ub = absurd (both_ways (is_string IntKind) refl has.string)
+plain_size FloatKind t body plain is has ub = absurd (both_ways (is_string FloatKind) refl has.string)
+plain_size BoolKind t body plain is has ub = absurd (both_ways (is_string BoolKind) refl has.string)
 
 -- what an integer's digits spell
 pub lent_integer : (text : List ℕ) (found : Found) → found.kind ≡ IntKind → IsFound text found → IsBorrowed found.kind text (found.magnitude % 2 ^ 64)

@@ -6,7 +6,7 @@ use Rattle.rl_tokens.specs.declared.kind.Kind.{Kind}
 use Rattle.rl_tokens.specs.declared.kind.Kind.TheVariants.{Str as StrKind, ByteStr as ByteStrKind, CStr as CStrKind, Byte as ByteKind, Char as CharKind, Int as IntKind, Float as FloatKind, Bool as BoolKind}
 use Rattle.rl_tokens.specs.Numbers.{FloatReads, float_digits}
 use Rattle.rl_tokens.specs.Reading.{Characters, Digits, ReadsAs, HasContents, HasSuffix}
-use Rattle.rl_grammar.specs.Bodies.{HasBody}
+use Rattle.rl_grammar.specs.Bodies.{HasBody, StandsFor}
 use Rattle.rl_grammar.specs.NumberShapes.{AreDigits}
 use Rattle.rust_literals.specs.declared.lit.Lit.{Lit}
 use Rattle.rust_literals.specs.Literals.{kind_of, IsReadAs}
@@ -25,11 +25,11 @@ digits_size CharKind text ds n reads are e = absurd are
 digits_size BoolKind text ds n reads are e = absurd are
 
 -- what a string's body stands for is its contents
-pub string_size : (kind : Kind) (text body value : List ℕ) (plain : Bool) (n : ℕ) → kind ≡ StrKind → IsUtf8 text → HasBody kind (chars text) body plain → ((t : List ℕ) → HasBody StrKind (chars t) body plain → IsUtf8 t → HasContents StrKind (chars t) (Characters (chars value))) → n ≡ byte_len (chars value) → HasSize kind (chars text) n
-string_size kind text body value plain n is u has reads e =
+pub string_size : (kind : Kind) (text body value : List ℕ) (plain : Bool) (n : ℕ) → kind ≡ StrKind → HasBody kind (chars text) body plain → StandsFor StrKind body plain (Characters (chars value)) → n ≡ byte_len (chars value) → HasSize kind (chars text) n
+string_size kind text body value plain n is has reads e =
     let P : Kind → Type 0 = λ k. HasBody k (chars text) body plain in
     let Q : Kind → Type 0 = λ k. HasSize k (chars text) n in
-    subst Q (sym is) (Characters (chars value), reads text (subst P is has) u, e)
+    subst Q (sym is) (Characters (chars value), reads (chars text) (subst P is has), e)
 
 -- a float's digits are its contents, where no integer stands
 pub float_size : (text numeral x ds : List ℕ) (n : ℕ) → ReadsAs FloatKind text → FloatReads text numeral x → ds ≡ float_digits numeral → n ≡ byte_len ds → HasSize FloatKind text n

@@ -10,7 +10,7 @@ use Rattle.rl_tokens.specs.Skipping.{Skipped}
 use Rattle.rl_grammar.specs.declared.next_literals.NextLiteral.{NextLiteral}
 use Rattle.rl_grammar.specs.declared.next_literals.RejectionKind.{RejectionKind}
 use Rattle.rl_grammar.specs.declared.next_literals.RejectionKind.TheVariants.{Lex, Group, UnmatchedClose as UnmatchedListClose, NoLiteral}
-use Rattle.rl_grammar.specs.NextLiterals.{TakesNextLiteral, HasNoNextLiteral, IsReason}
+use Rattle.rl_grammar.specs.NextLiterals.{TakesNextLiteral, HasNoNextLiteral, IsRejected}
 use Rattle.rl_c.specs.declared.next.Next.{Next}
 use Rattle.rl_c.specs.declared.reading.Reading.{Reading}
 use Rattle.rl_c.specs.Crossing.{ReportsFound, ReportsReading, ReportsLiteral}
@@ -77,7 +77,7 @@ rejection_number NoLiteral = 2
 -- The number says why no literal begins what is left, which isn't empty: the error that stands
 -- there, or the token.
 abbrev pub ReportsError : CursorState → ℕ → Type 0
-ReportsError t status = (why : RejectionKind) × IsReason t why × (status ≡ rejection_number why)
+ReportsError t status = (why : RejectionKind) × IsRejected t why × (status ≡ rejection_number why)
 
 -- After white space and comments no literal begins the text, and why is returned, with its byte.
 pub record BeginsNoLiteral (text : List ℕ) (status at : ℕ) : Type 0 where

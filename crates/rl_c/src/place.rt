@@ -3,7 +3,7 @@
 ghost use Rattle.std.specs.Prelude.{◌≡◌, IfSome, IfNone, IsTrue, IsFalse};
 ghost use Rattle.std.specs.Str.{chars, IsUtf8};
 ghost use Rattle.rl_tokens.specs.declared.kind.Kind.{Kind as AnyKind};
-ghost use Rattle.rl_grammar.specs.Segments.{IsPlaceOf, IsEndOf};
+ghost use Rattle.rl_grammar.specs.Segments.{IsBytePlace, IsByteEnd};
 ghost use Rattle.rl_grammar.specs.Shapes.{HasNoQuoted};
 
 use rl_grammar::{Segments, place_of};
@@ -21,7 +21,7 @@ pub struct Place {
 /// Where in the text of a quoted literal what gives this byte of its contents ends: `None` where it is no quoted literal.
 fn end_of(text: &str, at: usize) -> Option<usize>
     ensures some { IfSome result
-        (λ place. (kind : AnyKind) × IsEndOf kind (chars text.now) at place) }
+        (λ place. (kind : AnyKind) × IsByteEnd kind (chars text.now) at place) }
     ensures none { IfNone result (HasNoQuoted (chars text.now)) }
 {
     Some(Segments::of(text)?.end_of(at))
@@ -34,9 +34,9 @@ fn end_of(text: &str, at: usize) -> Option<usize>
 pub extern "C" fn rl_place_of(text: &[u8], at: usize, place: &mut Place) -> bool
     requires utf8 { IsUtf8 text.now }
     ensures begins { IsTrue result
-        → (kind : AnyKind) × IsPlaceOf kind (chars text.now) at place.new.lo }
+        → (kind : AnyKind) × IsBytePlace kind (chars text.now) at place.new.lo }
     ensures ends { IsTrue result
-        → (kind : AnyKind) × IsEndOf kind (chars text.now) at place.new.hi }
+        → (kind : AnyKind) × IsByteEnd kind (chars text.now) at place.new.hi }
     ensures none { IsFalse result → HasNoQuoted (chars text.now) }
     ensures stays { IsFalse result → place.new ≡ place.old }
 {

@@ -1,16 +1,10 @@
 -- Where no character of ASCII stands at the front.
-use Rattle.std.proofs.Common.{◌≡◌, ℕ, ◌≤◌, ◌<◌, false, ltb, eqb, List, [], ◌∷◌, None, refl, arith}
-use Rattle.std.proofs.lemmas.Bool.{ltb-false, le-ltb}
-use Rattle.std.proofs.lemmas.Bool.Decides.{nat_tests}
-use Rattle.std.specs.Char.{is_ascii, is_ascii_digit, digit_value}
-use Rattle.rl_tokens.specs.declared.kind.Kind.{Kind}
-use Rattle.rl_tokens.specs.declared.kind.Kind.TheVariants.{Str, ByteStr}
-use Rattle.rl_tokens.specs.Texts.{first_passes}
-use Rattle.rl_tokens.specs.Numbers.{NoSign}
+use Rattle.rl_grammar.proofs.Names.{◌≡◌, ℕ, ◌≤◌, ◌<◌, false, ltb, eqb, List, [], ◌∷◌, None, refl, arith, ltb-false, le-ltb, nat_tests, is_ascii_digit, digit_value, Kind, Str, ByteStr, first_passes, NoSign}
+use Rattle.std.specs.Char.{is_ascii}
 use Rattle.rl_tokens.proofs.CommentBytes.{not_equal}
 use Rattle.rl_grammar.specs.Mirrors.NumberAt.{after_minus, radix_at, sign_at}
 use Rattle.rl_grammar.specs.Mirrors.OpenerAt.{string_opener_at, byte_opener_at, opener_at}
-use Rattle.rl_grammar.specs.Mirrors.UnitAt.{digit_at, unicode_digits_at, brace_at, escape_at}
+use Rattle.rl_grammar.specs.Mirrors.UnitAt.{digit_at, close_at, brace_at, escape_at}
 
 not_below : (c k : ℕ) → k ≤ c → ltb c k ≡ false
 not_below c k h = le-ltb c k h
@@ -25,10 +19,9 @@ pub no_digit : (t : List ℕ) → first_passes is_ascii t ≡ false → digit_at
 no_digit [] h = refl
 no_digit (c ∷ cs) h = rw (no_value c (past c h)) refl
 
-pub no_digits : (v n : ℕ) (t : List ℕ) → first_passes is_ascii t ≡ false → unicode_digits_at v n t ≡ None
-unfolding unicode_digits_at
-no_digits v n [] h = refl
-no_digits v n (c ∷ cs) h = let high = past c h in rw (not_equal c 125 (omega arith) high, not_equal c 95 (omega arith) high, no_value c high) refl
+pub no_close : (t : List ℕ) → first_passes is_ascii t ≡ false → close_at t ≡ None
+no_close [] h = refl
+no_close (c ∷ cs) h = rw (not_equal c 125 (omega arith) (past c h)) refl
 
 pub no_brace : (t : List ℕ) → first_passes is_ascii t ≡ false → brace_at t ≡ None
 no_brace [] h = refl

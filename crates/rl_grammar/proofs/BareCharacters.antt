@@ -1,10 +1,7 @@
 -- A character of ASCII that stands for itself between single quotes.
-use Rattle.std.proofs.Common.{◌≡◌, ◌<◌, ◌≤◌, ℕ, suc, zero, false, not, eqb, List, [], ◌∷◌, length, drop, get_or, refl, sym, ap, subst, ◌∙◌, arith, inl, inr}
-use Rattle.std.proofs.lemmas.Bool.{eqb-true, cases_Bool}
-use Rattle.std.proofs.lemmas.Str.{IsCharBoundary-after_ascii, IsUtf8-drop, chars-IsAscii}
-use Rattle.std.specs.Str.{IsCharBoundary, chars, IsAscii, IsUtf8}
-use Rattle.rl_tokens.specs.declared.kind.Kind.TheVariants.{Char}
-use Rattle.rl_tokens.specs.Quoted.{Plain}
+use Rattle.rl_grammar.proofs.Names.{◌≡◌, ◌<◌, ◌≤◌, ℕ, suc, zero, false, not, eqb, List, [], ◌∷◌, length, drop, get_or, refl, sym, ap, subst, ◌∙◌, arith, inl, inr, eqb-true, cases_Bool, IsUtf8-drop, IsCharBoundary, IsAscii, IsUtf8, Char, Plain}
+use Rattle.std.proofs.lemmas.Str.{IsCharBoundary-after_ascii, chars-IsAscii}
+use Rattle.std.specs.Str.{chars}
 use Rattle.rl_tokens.proofs.ScanLemmas.{ascii_first}
 use Rattle.rl_grammar.specs.declared.found.Body.{Body}
 use Rattle.rl_grammar.specs.declared.found.Found.{Found}

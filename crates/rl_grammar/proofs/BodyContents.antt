@@ -1,12 +1,8 @@
 -- What the body of a string stands for.
-use Rattle.std.proofs.Common.{◌≡◌, ◌⊎◌, inl, inr, ℕ, Bool, true, false, List, refl, sym, ap, subst, ◌∙◌}
-use Rattle.std.proofs.lemmas.Bool.{both_ways}
+use Rattle.rl_grammar.proofs.Names.{◌≡◌, ◌⊎◌, inl, inr, ℕ, Bool, true, false, List, refl, sym, ap, subst, ◌∙◌, both_ways, IsUtf8, Kind, Str, ByteStr, CStr, Byte, Char, Int, Float, BoolKind, Characters, Bytes, ReadsQuoted, HasContents, quoted_contents}
 use Rattle.std.specs.Prelude.{Result, Ok, Err, IfOk}
-use Rattle.std.specs.Str.{chars, IsUtf8}
-use Rattle.rl_tokens.specs.declared.kind.Kind.{Kind}
-use Rattle.rl_tokens.specs.declared.kind.Kind.TheVariants.{Str, ByteStr, CStr, Byte, Char, Int, Float, Bool as BoolKind}
-use Rattle.rl_tokens.specs.Reading.{Characters, Bytes, ReadsQuoted, HasContents, quoted_contents}
-use Rattle.rl_grammar.specs.Bodies.{HasBody}
+use Rattle.std.specs.Str.{chars}
+use Rattle.rl_grammar.specs.Bodies.{HasBody, StandsFor}
 use Rattle.rl_grammar.specs.Mirrors.Decodes.{Decodes}
 use Rattle.rl_grammar.specs.Decoded.{HoldsBytes}
 use Rattle.rl_grammar.proofs.ContentLemmas.{plain_bytes, not_raw, cooked_bytes, str_bytes}
@@ -24,11 +20,10 @@ body_reads : (kind : Kind) (t body : List ℕ) (plain : Bool) (has : HasBody kin
 body_reads kind t body plain has = parts_read has.form kind t has.value (chars body) has.suffix has.parts
 
 -- what a string holds is a text, its contents
-pub str_of_has : (t body bytes : List ℕ) (plain : Bool) → HasBody Str (chars t) body plain → IsUtf8 t → HoldsBytes (chars t) bytes → IsUtf8 bytes × HasContents Str (chars t) (Characters (chars bytes))
+pub str_of_has : (t body bytes : List ℕ) (plain : Bool) → HasBody Str t body plain → IsUtf8 body → HoldsBytes t bytes → IsUtf8 bytes × HasContents Str t (Characters (chars bytes))
 str_of_has t body bytes plain has u held =
-    let r = body_reads Str (chars t) body plain has in
-    let s = str_bytes t bytes (quoted_contents Str has.value) has.suffix u held r in
-    (s.0, (has.suffix, subst (λ v. ReadsQuoted (chars t) Str v has.suffix) s.1 r))
+    let s = str_bytes has.form t has.value body has.suffix bytes has.parts u held in
+    (s.0, (has.suffix, subst (λ v. ReadsQuoted t Str (Characters v) has.suffix) s.1 (body_reads Str t body plain has)))
 
 abbrev is_bytes : Kind → Bool
 is_bytes ByteStr = true
@@ -46,13 +41,8 @@ bytes_of_has ByteStr t body bytes plain which has held =
 bytes_of_has CStr t body bytes plain which has held =
     let r = body_reads CStr t body plain has in
     (has.suffix, subst (λ v. ReadsQuoted t CStr v has.suffix) (r.contents_is ∙ ap Bytes (sym (held CStr (quoted_contents CStr has.value) has.suffix refl r))) r)
-bytes_of_has Str t body bytes plain which has held = absurd (other_kind Str which refl)
-bytes_of_has Byte t body bytes plain which has held = absurd (other_kind Byte which refl)
-bytes_of_has Char t body bytes plain which has held = absurd (other_kind Char which refl)
-bytes_of_has Int t body bytes plain which has held = absurd (other_kind Int which refl)
-bytes_of_has Float t body bytes plain which has held = absurd (other_kind Float which refl)
-bytes_of_has BoolKind t body bytes plain which has held = absurd (other_kind BoolKind which refl)
+bytes_of_has kind t body bytes plain which has held = absurd (other_kind kind which refl)
 
 -- a plain body is the contents of a string
-pub plain_contents : (t body : List ℕ) (plain : Bool) → plain ≡ true → HasBody Str (chars t) body plain → IsUtf8 t → IsUtf8 body → HasContents Str (chars t) (Characters (chars body))
-plain_contents t body plain is has ut ub = (str_of_has t body body plain has ut (plain_bytes (chars t) has.form Str has.value body has.suffix (sym has.plain_is ∙ is) ub has.parts)).1
+pub plain_contents : (body : List ℕ) (plain : Bool) → plain ≡ true → IsUtf8 body → StandsFor Str body plain (Characters (chars body))
+plain_contents body plain is u = λ t has. (str_of_has t body body plain has u (plain_bytes t has.form Str has.value body has.suffix (sym has.plain_is ∙ is) u has.parts)).1

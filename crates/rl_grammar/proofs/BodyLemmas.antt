@@ -1,20 +1,13 @@
 -- Where the contents of a string are its body, byte for byte, and where they are shorter.
-use Rattle.std.proofs.Common.{◌≡◌, ℕ, ◌<◌, ◌≤◌, ◌⊎◌, inl, inr, Bool, true, false, not, ltb, ◌==◌, drop, List, [], ◌∷◌, ◌++◌, length, refl, sym, ap, subst, ◌∙◌, arith, length-append}
-use Rattle.std.specs.Prelude.{encode_utf8_all}
-use Rattle.std.specs.List.{AllByRecursion, list_all}
-use Rattle.std.specs.Str.{chars, IsUtf8}
-use Rattle.std.proofs.lemmas.List.{append_cancel_left, append_cancel_right}
-use Rattle.std.proofs.lemmas.Bool.{and_from, and_parts, both_ways, or_right}
-use Rattle.std.proofs.lemmas.Str.{encodes-append, encodes-chars, length-encode, length-le-encodes, len_utf8_bounds}
-use Rattle.rl_tokens.specs.declared.kind.Kind.{Kind}
-use Rattle.rl_tokens.specs.declared.kind.Kind.TheVariants.{Str, ByteStr, CStr, Byte as ByteKind, Char, Int, Float, Bool as BoolKind}
-use Rattle.rl_tokens.specs.Texts.{first_passes}
-use Rattle.rl_tokens.specs.Reading.{Contents, Characters, Bytes, ReadsQuoted, quoted_contents}
-use Rattle.rl_tokens.specs.Quoted.{QuotedUnit, Letter, Plain, CrLf, Named, Hex, Unicode, Continuation, LowerN, LowerR, LowerT, Backslash, Apostrophe, Quote, Zero, letter_value, unit_text, unit_value, hex_value, unicode_value, holds_characters, content_of, allows_code, is_string, is_plain, IsUnit, opener, raw_opener, texts, values}
+use Rattle.rl_grammar.proofs.Names.{◌≡◌, ℕ, ◌<◌, ◌≤◌, ◌⊎◌, inl, inr, Bool, true, false, not, ltb, ◌==◌, drop, List, [], ◌∷◌, ◌++◌, length, refl, sym, ap, subst, ◌∙◌, arith, encode_utf8_all, AllByRecursion, list_all, IsUtf8, append_cancel_left, append_cancel_right, and_from, and_parts, both_ways, or_right, encodes-append, encodes-chars, length-encode, Kind, Str, ByteStr, CStr, Char, Int, Float, BoolKind, first_passes, Contents, Characters, Bytes, ReadsQuoted, quoted_contents, QuotedUnit, Letter, Plain, CrLf, Named, Hex, Unicode, Continuation, LowerN, LowerR, LowerT, Backslash, Apostrophe, Quote, Zero, letter_value, unit_text, unit_value, hex_value, unicode_value, holds_characters, content_of, allows_code, is_string, is_plain, IsUnit, opener, raw_opener, texts, values}
+use Rattle.std.proofs.Common.{length-append}
+use Rattle.std.specs.Str.{chars}
+use Rattle.std.proofs.lemmas.Str.{length-le-encodes, len_utf8_bounds}
+use Rattle.rl_tokens.specs.declared.kind.Kind.TheVariants.{Byte as ByteKind}
 use Rattle.rl_grammar.specs.declared.quoted_forms.QuotedForm.{QuotedForm}
 use Rattle.rl_grammar.specs.declared.quoted_forms.QuotedForm.TheVariants.{Cooked as CookedForm, Raw as RawForm, Single as SingleForm}
 use Rattle.rl_grammar.specs.declared.units.Piece.TheVariants.{Byte}
-use Rattle.rl_grammar.specs.Mirrors.UnitAt.{IsPieceOf}
+use Rattle.rl_grammar.specs.Mirrors.UnitAt.{IsHeldBy}
 use Rattle.rl_grammar.specs.Forms.{PartsAre, is_plain_body}
 use Rattle.rl_grammar.specs.Shapes.{IsCookedSplit, IsQuotedSplit}
 use Rattle.rl_grammar.specs.Decoded.{in_bytes, HoldsBytes}
@@ -33,7 +26,7 @@ pub record Shrinks (kind : Kind) (text value : List ℕ) : Type 0 where
 shorter : (kind : Kind) (text value : List ℕ) → length (in_bytes kind value) < length text → Shrinks kind text value
 shorter kind text value h = record { no_longer = omega (arith, length-le-encodes text); which = inr (omega (arith, length-le-encodes text)) }
 
-one_byte_of : (kind : Kind) (n : ℕ) → IsPieceOf kind (Byte n) → length (in_bytes kind (n ∷ [])) ≡ 1
+one_byte_of : (kind : Kind) (n : ℕ) → IsHeldBy kind (Byte n) → length (in_bytes kind (n ∷ [])) ≡ 1
 one_byte_of kind n h = ap length (byte_in_bytes kind n h)
 
 letter_small : (l : Letter) → ltb (letter_value l) 128 ≡ true
@@ -118,22 +111,14 @@ held_in Str t s p = record {
 }
 held_in ByteStr t s p = record { contents = Bytes p.body; reads = p.reads; held_are = λ ub. sym (bytes_are p.body p.reads.value p.reads.contents_is) }
 held_in CStr t s p = record { contents = Bytes p.body; reads = p.reads; held_are = λ ub. sym (bytes_are p.body p.reads.value p.reads.contents_is) }
-held_in ByteKind t s p = absurd (cc)
-held_in Char t s p = absurd (cc)
-held_in Int t s p = absurd (cc)
-held_in Float t s p = absurd (cc)
-held_in BoolKind t s p = absurd (cc)
+held_in kind t s p = absurd (cc)
 
 -- how a string is cut, as any literal is
 string_cut : (kind : Kind) (t b x : List ℕ) → is_string kind ≡ true → IsSplit kind t b x → IsQuotedSplit kind t b x
 string_cut Str t b x s c = c
 string_cut ByteStr t b x s c = c
 string_cut CStr t b x s c = c
-string_cut ByteKind t b x s c = absurd (cc)
-string_cut Char t b x s c = absurd (cc)
-string_cut Int t b x s c = absurd (cc)
-string_cut Float t b x s c = absurd (cc)
-string_cut BoolKind t b x s c = absurd (cc)
+string_cut kind t b x s c = absurd (cc)
 
 abbrev is_quote : ℕ → Bool
 is_quote c = c == 34
@@ -143,11 +128,7 @@ pub openers_differ : (kind : Kind) (a b : List ℕ) → is_string kind ≡ true 
 openers_differ Str a b s e = let h : true ≡ false = ap (first_passes is_quote) e in absurd (cc)
 openers_differ ByteStr a b s e = let h : true ≡ false = ap (λ l. first_passes is_quote (drop 1 l)) e in absurd (cc)
 openers_differ CStr a b s e = let h : true ≡ false = ap (λ l. first_passes is_quote (drop 1 l)) e in absurd (cc)
-openers_differ ByteKind a b s e = absurd (cc)
-openers_differ Char a b s e = absurd (cc)
-openers_differ Int a b s e = absurd (cc)
-openers_differ Float a b s e = absurd (cc)
-openers_differ BoolKind a b s e = absurd (cc)
+openers_differ kind a b s e = absurd (cc)
 
 -- a cooked string is cut in one way
 cut_once : (kind : Kind) (t b d x : List ℕ) → IsCookedSplit kind t b x → IsQuotedSplit kind t d x → b ≡ d
@@ -171,17 +152,13 @@ pub plain_parts : (form : QuotedForm) (kind : Kind) (t w b x : List ℕ) → is_
 plain_parts form kind t w b x s plain ut ub ux p =
     let cut = subst (λ z. IsQuotedSplit kind t b z) (sym (encodes-chars x ux)) (parts_cut form kind t w b x ut ub ux p) in
     let reads = parts_read form kind (chars t) w (chars b) (chars x) p in
-    go kind s cut reads (plain_bytes (chars t) form kind w b (chars x) plain ub p)
+    go kind s p cut reads (plain_bytes (chars t) form kind w b (chars x) plain ub p)
   where
-    go : (k : Kind) → is_string k ≡ true → IsQuotedSplit k t b (encode_utf8_all (chars x)) → ReadsQuoted (chars t) k (quoted_contents k w) (chars x) → HoldsBytes (chars t) b → IsPlain k t
-    go Str s c r h = record { body = b; suffix = chars x; cut = c; reads = subst (λ v. ReadsQuoted (chars t) Str v (chars x)) (str_bytes t b (Characters w) (chars x) ut h r).1 r }
-    go ByteStr s c r h = record { body = b; suffix = chars x; cut = c; reads = subst (λ v. ReadsQuoted (chars t) ByteStr v (chars x)) (r.contents_is ∙ ap Bytes (sym (h ByteStr _ _ refl r))) r }
-    go CStr s c r h = record { body = b; suffix = chars x; cut = c; reads = subst (λ v. ReadsQuoted (chars t) CStr v (chars x)) (r.contents_is ∙ ap Bytes (sym (h CStr _ _ refl r))) r }
-    go ByteKind s c r h = absurd (cc)
-    go Char s c r h = absurd (cc)
-    go Int s c r h = absurd (cc)
-    go Float s c r h = absurd (cc)
-    go BoolKind s c r h = absurd (cc)
+    go : (k : Kind) → is_string k ≡ true → PartsAre form k (chars t) w (chars b) (chars x) → IsQuotedSplit k t b (encode_utf8_all (chars x)) → ReadsQuoted (chars t) k (quoted_contents k w) (chars x) → HoldsBytes (chars t) b → IsPlain k t
+    go Str s parts c r h = record { body = b; suffix = chars x; cut = c; reads = subst (λ v. ReadsQuoted (chars t) Str (Characters v) (chars x)) (str_bytes form (chars t) w b (chars x) b parts ub h).1 r }
+    go ByteStr s parts c r h = record { body = b; suffix = chars x; cut = c; reads = subst (λ v. ReadsQuoted (chars t) ByteStr v (chars x)) (r.contents_is ∙ ap Bytes (sym (h ByteStr _ _ refl r))) r }
+    go CStr s parts c r h = record { body = b; suffix = chars x; cut = c; reads = subst (λ v. ReadsQuoted (chars t) CStr v (chars x)) (r.contents_is ∙ ap Bytes (sym (h CStr _ _ refl r))) r }
+    go kind s parts c r h = absurd (cc)
 
 not_false : (z : Bool) → (z ≡ false → ⊥) → z ≡ true
 not_false true n = refl

@@ -1,21 +1,13 @@
 -- Runs of ASCII at the front of a text, which byte strings hold.
-use Rattle.std.proofs.Common.{◌≡◌, ◌+◌, ◌<◌, ◌≤◌, ◌⊎◌, inl, inr, ℕ, suc, ◌==◌, ◌&&◌, ◌||◌, Bool, true, false, not, cond, eqb, List, [], ◌∷◌, ◌++◌, length, take, nat_lt, refl, sym, ap, ◌∙◌, arith}
-use Rattle.std.proofs.lemmas.Bool.{and_from, and_parts, ltb-true, ne_eqb}
-use Rattle.std.proofs.lemmas.Bool.Decides.{nat_tests}
-use Rattle.std.proofs.lemmas.Str.{encodes-chars}
+use Rattle.rl_grammar.proofs.Names.{◌≡◌, ◌+◌, ◌<◌, ◌≤◌, ◌⊎◌, inl, inr, ℕ, suc, ◌==◌, ◌&&◌, ◌||◌, Bool, true, false, not, cond, eqb, List, [], ◌∷◌, ◌++◌, length, take, nat_lt, refl, sym, ap, ◌∙◌, arith, and_from, and_parts, ltb-true, ne_eqb, nat_tests, encodes-chars, list_all, prefix_len, IsUtf8, Kind, Str, ByteStr, CStr, Byte, Char, Int, Float, BoolKind, Marks, is_plain, is_string, is_ascii_other, is_other}
 use Rattle.std.specs.Char.{is_ascii}
-use Rattle.std.specs.List.{list_all, prefix_len}
-use Rattle.std.specs.Str.{chars, encode_utf8_all, IsUtf8}
-use Rattle.rl_tokens.specs.declared.kind.Kind.{Kind}
-use Rattle.rl_tokens.specs.declared.kind.Kind.TheVariants.{Str, ByteStr, CStr, Byte, Char, Int, Float, Bool as BoolKind}
-use Rattle.rl_tokens.specs.declared.scan.Marks.{Marks}
-use Rattle.rl_tokens.specs.Quoted.{is_plain, is_string}
-use Rattle.rl_tokens.specs.Scanning.{is_ascii_other, is_other}
+use Rattle.std.specs.Str.{chars, encode_utf8_all}
 use Rattle.rl_tokens.proofs.CommentBytes.{cases128, encode_is_high, low_front}
 use Rattle.rl_tokens.proofs.AsciiRuns.{PassesLow, RunCut, low_cut}
 use Rattle.rl_tokens.proofs.ScanLemmas.{PassesHigh, run_behind, run_boundary, run_cut, run_plain, run_stop}
 use Rattle.rl_grammar.specs.Mirrors.StrictAt.{is_inside}
 use Rattle.rl_grammar.proofs.PlainLemmas.{plain_high, same_prefix}
+use Rattle.std.proofs.Math.Bool.{and-true}
 
 -- ---- runs of bytes that pass a test, told by characters
 
@@ -39,11 +31,7 @@ pub plain_cut : (kind : Kind) (bs : List ℕ) → is_string kind ≡ true → Is
 plain_cut Str bs h u = high_cut (is_plain Str) (plain_high Str refl (λ e. absurd (cc))) bs u
 plain_cut ByteStr bs h u = low_cut (is_plain ByteStr) plain_low bs u
 plain_cut CStr bs h u = high_cut (is_plain CStr) (plain_high CStr refl (λ e. absurd (cc))) bs u
-plain_cut Byte bs h u = absurd (cc)
-plain_cut Char bs h u = absurd (cc)
-plain_cut Int bs h u = absurd (cc)
-plain_cut Float bs h u = absurd (cc)
-plain_cut BoolKind bs h u = absurd (cc)
+plain_cut kind bs h u = absurd (cc)
 
 -- ---- what raw byte strings hold
 
@@ -99,16 +87,12 @@ all_bytes (c ∷ cs) = go (all_bytes cs) (cases128 c)
         let (b, bs, same, is, _) = encode_is_high c past in
         ap (λ z. list_all is_ascii (z ++ encode_utf8_all cs)) same ∙ ap (λ z. z && list_all is_ascii (bs ++ encode_utf8_all cs)) (high_fails b is) ∙ sym (ap (λ z. z && list_all is_ascii cs) (high_fails c past))
 
-and_true : (b : Bool) → (b && true) ≡ b
-and_true true = refl
-and_true false = refl
-
 -- a mark past ASCII is none
 no_mark : (m : Marks) → m ≡ record { first = 255; second = 255; third = 255; fourth = 255 } → (c : ℕ) → is_ascii_other m c ≡ is_ascii c
 no_mark m e c = ap (λ n. is_ascii_other n c) e ∙ go (cases128 c)
   where
     go : (c < 128) ⊎ (128 ≤ c) → is_ascii_other (record { first = 255; second = 255; third = 255; fourth = 255 }) c ≡ is_ascii c
-    go (inl small) = rw (ne_eqb c 255 (λ e. omega arith)) (and_true (nat_lt c 128))
+    go (inl small) = rw (ne_eqb c 255 (λ e. omega arith)) (and-true (nat_lt c 128))
     go (inr past) = rw (high_fails c past) refl
 
 pub ascii_all : (m : Marks) (n : ℕ) (bs : List ℕ) → m ≡ record { first = 255; second = 255; third = 255; fourth = 255 } → IsUtf8 bs → n ≡ prefix_len (is_ascii_other m) bs → eqb n (length bs) ≡ list_all is_ascii (chars bs)

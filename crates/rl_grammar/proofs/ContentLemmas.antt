@@ -1,29 +1,23 @@
 -- What the decoders put together is what any reading holds.
-use Rattle.std.proofs.Common.{◌≡◌, ℕ, ◌<◌, ◌||◌, Bool, true, false, not, cond, ltb, List, [], ◌∷◌, ◌++◌, length, Some, refl, sym, ap, subst, ◌∙◌, inl, inr, arith, append_assoc, append-nil, replicate}
-use Rattle.std.specs.Prelude.{encode_utf8, encode_utf8_all}
+use Rattle.rl_grammar.proofs.Names.{◌≡◌, ℕ, ◌<◌, ◌||◌, Bool, true, false, not, cond, ltb, List, [], ◌∷◌, ◌++◌, length, Some, refl, sym, ap, subst, ◌∙◌, inl, inr, arith, append_assoc, append-nil, replicate, encode_utf8, encode_utf8_all, AllByRecursion, list_all, IsUtf8, scalar, and_from, and_parts, lt-ltb, ltb-true, encodes-append, encodes-chars, length-encode, Kind, Str, ByteStr, CStr, Char, Int, Float, BoolKind, QuotedUnit, Letter, Plain, CrLf, Named, Hex, Unicode, Continuation, LowerN, LowerR, LowerT, Backslash, Apostrophe, Quote, Zero, letter_value, unit_text, unit_value, hex_value, unicode_value, content_of, holds_characters, is_string, is_single, is_plain, has_unicode, IsUnit, texts, values, opener, raw_opener, Cooked, Raw, Contents, Characters, ReadsQuoted}
 use Rattle.std.specs.Char.{len_utf8}
-use Rattle.std.specs.List.{AllByRecursion, list_all}
-use Rattle.std.specs.Str.{chars, IsUtf8}
-use Rattle.std.proofs.Math.Utf8.{scalar, scalars}
-use Rattle.std.proofs.lemmas.Bool.{and_from, and_parts, lt-ltb, ltb-true}
-use Rattle.std.proofs.lemmas.Str.{chars-encodes, encodes-append, encodes-chars, encode_ascii, length-encode, scalars-chars}
-use Rattle.rl_tokens.specs.declared.kind.Kind.{Kind}
-use Rattle.rl_tokens.specs.declared.kind.Kind.TheVariants.{Str, ByteStr, CStr, Byte as ByteKind, Char, Int, Float, Bool as BoolKind}
-use Rattle.rl_tokens.specs.Quoted.{QuotedUnit, Letter, Plain, CrLf, Named, Hex, Unicode, Continuation, LowerN, LowerR, LowerT, Backslash, Apostrophe, Quote, Zero, letter_value, unit_text, unit_value, hex_value, unicode_value, content_of, holds_characters, is_string, is_single, is_plain, has_unicode, IsUnit, texts, values, opener, raw_opener, Cooked, Raw}
-use Rattle.rl_tokens.specs.Reading.{Contents, Characters, ReadsQuoted}
+use Rattle.std.specs.Str.{chars}
+use Rattle.std.proofs.Math.Utf8.{scalars}
+use Rattle.std.proofs.lemmas.Str.{chars-encodes, encode_ascii, scalars-chars}
+use Rattle.rl_tokens.specs.declared.kind.Kind.TheVariants.{Byte as ByteKind}
 use Rattle.rl_tokens.proofs.CutTrees.{scalars_parts}
 use Rattle.rl_grammar.specs.declared.quoted_forms.QuotedForm.{QuotedForm}
 use Rattle.rl_grammar.specs.declared.quoted_forms.QuotedForm.TheVariants.{Cooked as CookedForm, Raw as RawForm, Single as SingleForm}
 use Rattle.rl_grammar.specs.declared.units.Piece.{Piece}
 use Rattle.rl_grammar.specs.declared.units.Piece.TheVariants.{Character, Byte, Nothing}
-use Rattle.rl_grammar.specs.Mirrors.UnitAt.{piece_value, IsPieceOf, unit_at}
+use Rattle.rl_grammar.specs.Mirrors.UnitAt.{piece_value, IsHeldBy, unit_at}
 use Rattle.rl_grammar.specs.Rows.{BeginsRow}
 use Rattle.rl_grammar.specs.Forms.{PartsAre, is_plain_body}
 use Rattle.rl_grammar.specs.Decoded.{piece_bytes, in_bytes, HoldsBytes}
 use Rattle.rl_grammar.specs.Mirrors.Decodes.{Decodes}
 use Rattle.rl_grammar.proofs.UnitLemmas.{unit_nil}
 use Rattle.rl_grammar.proofs.RowLemmas.{row_start, row_step, row_run, row_once}
-use Rattle.rl_grammar.proofs.FormLemmas.{Formed, formed, parts_formed, formed_once, not_both, string_parts, cooked_row_of_body}
+use Rattle.rl_grammar.proofs.FormLemmas.{Formed, formed, parts_formed, formed_once, not_both, string_parts, cooked_row_of_body, parts_read}
 
 -- ---- values as bytes
 
@@ -46,7 +40,7 @@ held_in_bytes kind cs = go (holds_characters kind)
 pub ascii_byte : (c : ℕ) → c < 128 → encode_utf8_all (c ∷ []) ≡ c ∷ []
 ascii_byte c small = append-nil (encode_utf8 c) ∙ encode_ascii c small
 
-pub byte_in_bytes : (kind : Kind) (n : ℕ) → IsPieceOf kind (Byte n) → in_bytes kind (n ∷ []) ≡ n ∷ []
+pub byte_in_bytes : (kind : Kind) (n : ℕ) → IsHeldBy kind (Byte n) → in_bytes kind (n ∷ []) ≡ n ∷ []
 byte_in_bytes kind n h = go (holds_characters kind) h
   where
     go : (b : Bool) → (not b || ltb n 128) ≡ true → cond b (encode_utf8_all (n ∷ [])) (n ∷ []) ≡ n ∷ []
@@ -60,14 +54,14 @@ nothing_in_bytes kind = go (holds_characters kind)
     go true = refl
     go false = refl
 
-pub piece_in_bytes : (kind : Kind) (p : Piece) → IsPieceOf kind p → in_bytes kind (piece_value kind p) ≡ piece_bytes p
+pub piece_in_bytes : (kind : Kind) (p : Piece) → IsHeldBy kind p → in_bytes kind (piece_value kind p) ≡ piece_bytes p
 piece_in_bytes kind (Character c) h = held_in_bytes kind (c ∷ []) ∙ append-nil (encode_utf8 c)
 piece_in_bytes kind (Byte n) h = byte_in_bytes kind n h
 piece_in_bytes kind Nothing h = nothing_in_bytes kind
 
 -- ---- the decoder's loop
 
-pub decode_step : (kind : Kind) (a v b after bytes more : List ℕ) (piece : Piece) → BeginsRow kind a v b → bytes ≡ in_bytes kind v → Some (piece_value kind piece, after) ≡ unit_at kind b → IsPieceOf kind piece → more ≡ bytes ++ piece_bytes piece → (w : List ℕ) × BeginsRow kind a w after × (more ≡ in_bytes kind w)
+pub decode_step : (kind : Kind) (a v b after bytes more : List ℕ) (piece : Piece) → BeginsRow kind a v b → bytes ≡ in_bytes kind v → Some (piece_value kind piece, after) ≡ unit_at kind b → IsHeldBy kind piece → more ≡ bytes ++ piece_bytes piece → (w : List ℕ) × BeginsRow kind a w after × (more ≡ in_bytes kind w)
 decode_step kind a v b after bytes more piece row so_far unit fits grown = (
   v ++ piece_value kind piece,
   row_step kind a v b (piece_value kind piece, after) row (sym unit),
@@ -162,36 +156,20 @@ row_scalars (u ∷ us) each h =
     let parts = scalars_parts (unit_text u) (texts us) h in
     scalars_join (unit_value Str u) (values Str us) (unit_scalars u each.0 parts.0) (row_scalars us each.1 parts.1)
 
--- what stands after the opener, up to what follows it
-inside_scalars : (t front inside after : List ℕ) → t ≡ front ++ (inside ++ after) → scalars t ≡ true → scalars inside ≡ true
-inside_scalars t front inside after e h = (scalars_parts inside after (scalars_parts front (inside ++ after) (ap scalars (sym e) ∙ h)).1).0
-
-cooked_scalars : (t v x : List ℕ) → Cooked Str t v x → scalars t ≡ true → scalars v ≡ true
-cooked_scalars t v x c h = ap scalars c.value_is ∙ row_scalars c.units c.each (inside_scalars t (opener Str) (texts c.units) _ c.text_is h)
-
-raw_scalars : (t v x : List ℕ) → Raw Str t v x → scalars t ≡ true → scalars v ≡ true
-raw_scalars t v x r h =
-    let hashes = replicate r.hashes 35 in
-    let after = 34 ∷ (hashes ++ x) in
-    let opened = inside_scalars t (raw_opener Str ++ hashes) (34 ∷ r.inside) after (r.text_is ∙ sym (append_assoc (raw_opener Str) hashes (34 ∷ (r.inside ++ after)))) h in
-    ap scalars r.value_is ∙ opened
-
-value_scalars : (t : List ℕ) (v : Contents) (x : List ℕ) (r : ReadsQuoted t Str v x) → scalars t ≡ true → scalars r.value ≡ true
-value_scalars t v x r h =
-    elim r.form [
-      | inl c ↦ cooked_scalars t r.value x c h
-      | inr o ↦ elim o [
-        | inl w ↦ raw_scalars t r.value x w h
-        | inr s ↦ let single : false ≡ true = s.single in absurd (cc)
-      ]
-    ]
+-- what a body of characters stands for is of characters
+body_scalars : (form : QuotedForm) (t w body x : List ℕ) → PartsAre form Str t w body x → scalars body ≡ true → scalars w ≡ true
+body_scalars CookedForm t w body x p h = ap scalars p.0.value_is ∙ row_scalars p.0.units p.0.each (ap scalars (sym p.1) ∙ h)
+body_scalars RawForm t w body x p h = ap scalars (p.0.value_is ∙ sym p.1) ∙ h
+body_scalars SingleForm t w body x p h = let single : false ≡ true = p.0.single in absurd (cc)
 
 -- the bytes of a string's value are a text, whose characters are the value
-pub str_bytes : (t bytes : List ℕ) (v : Contents) (x : List ℕ) → IsUtf8 t → HoldsBytes (chars t) bytes → ReadsQuoted (chars t) Str v x → IsUtf8 bytes × (v ≡ Characters (chars bytes))
-str_bytes t bytes v x u held_are r =
-    let whole = value_scalars (chars t) v x r (scalars-chars t u) in
-    let are : bytes ≡ encode_utf8_all r.value = held_are Str v x refl r in
-    ((r.value, (whole, sym are)), r.contents_is ∙ ap Characters (sym (chars-encodes r.value whole) ∙ ap chars (sym are)))
+pub str_bytes : (form : QuotedForm) (t w body x bytes : List ℕ) → PartsAre form Str t w (chars body) x → IsUtf8 body → HoldsBytes t bytes → IsUtf8 bytes × (w ≡ chars bytes)
+str_bytes form t w body x bytes parts u held_are =
+    let whole = body_scalars form t w (chars body) x parts (scalars-chars body u) in
+    let r = parts_read form Str t w (chars body) x parts in
+    let same : r.value ≡ w = (let e = r.contents_is in cc) in
+    let are : bytes ≡ encode_utf8_all w = held_are Str (Characters w) x refl r ∙ ap encode_utf8_all same in
+    ((w, (whole, sym are)), sym (chars-encodes w whole) ∙ ap chars (sym are))
 
 -- ---- characters and bytes
 
@@ -199,22 +177,11 @@ str_bytes t bytes v x u held_are r =
 one_plain : (kind : Kind) (c : ℕ) → is_single kind ≡ true → is_plain kind c ≡ true → (n : ℕ) × (content_of kind (c ∷ []) ≡ n ∷ [])
 one_plain Char c s h = (c, refl)
 one_plain ByteKind c s h = (c, ascii_byte c (ltb-true c 128 (and_parts (ltb c 128) _ h).0))
-one_plain Str c s h = absurd (cc)
-one_plain ByteStr c s h = absurd (cc)
-one_plain CStr c s h = absurd (cc)
-one_plain Int c s h = absurd (cc)
-one_plain Float c s h = absurd (cc)
-one_plain BoolKind c s h = absurd (cc)
+one_plain kind c s h = absurd (cc)
 
 one_unicode : (kind : Kind) (c : ℕ) → is_single kind ≡ true → has_unicode kind ≡ true → (n : ℕ) × (content_of kind (c ∷ []) ≡ n ∷ [])
 one_unicode Char c s h = (c, refl)
-one_unicode ByteKind c s h = absurd (cc)
-one_unicode Str c s h = absurd (cc)
-one_unicode ByteStr c s h = absurd (cc)
-one_unicode CStr c s h = absurd (cc)
-one_unicode Int c s h = absurd (cc)
-one_unicode Float c s h = absurd (cc)
-one_unicode BoolKind c s h = absurd (cc)
+one_unicode kind c s h = absurd (cc)
 
 pub one_value : (kind : Kind) (u : QuotedUnit) → is_single kind ≡ true → IsUnit kind u → (n : ℕ) × (unit_value kind u ≡ n ∷ [])
 one_value kind (Plain c) s h = one_plain kind c s h

@@ -1,15 +1,12 @@
 -- From what std says of bytes to characters.
-use Rattle.std.proofs.Common.{◌≡◌, ◌≢◌, ℕ, ◌+◌, ◌<◌, ◌≤◌, ◌&&◌, Bool, true, false, not, eqb, List, [], ◌∷◌, ◌++◌, length, take, drop, take-append-drop, Option, Some, None, refl, sym, ap, subst, ◌∙◌, arith, length-drop, ◌==◌}
-use Rattle.std.specs.Prelude.{encode_utf8_all, IfSome, IfNone, MatchOption, MatchBool}
-use Rattle.std.specs.List.{list_all}
-use Rattle.std.specs.Str.{chars, IsUtf8, IsCharBoundary, NoCharPasses, NonePass}
+use Rattle.rl_grammar.proofs.Names.{◌≡◌, ◌≢◌, ℕ, ◌+◌, ◌<◌, ◌≤◌, ◌&&◌, Bool, true, false, not, eqb, List, [], ◌∷◌, ◌++◌, length, take, drop, Option, Some, None, refl, sym, ap, subst, ◌∙◌, arith, ◌==◌, encode_utf8_all, MatchBool, list_all, IsUtf8, IsCharBoundary, and_from, and_right, both_ways, eq-eqb, eqb-true, not_from_false, list_all-append, encodes-chars, encodes-append, chars-append, chars-nil, IsUtf8-take, IsUtf8-drop, IsTail}
+use Rattle.std.proofs.Common.{take-append-drop, length-drop}
+use Rattle.std.specs.Prelude.{IfSome, IfNone, MatchOption}
+use Rattle.std.specs.Str.{chars, NoCharPasses, NonePass}
 use Rattle.std.specs.Str.Pattern.{FindsChar, RFindsChar, HasCharAt}
-use Rattle.std.proofs.lemmas.Bool.{and_from, and_right, both_ways, eq-eqb, eqb-true, not_from_false}
-use Rattle.std.proofs.lemmas.List.Folds.{list_all-append}
-use Rattle.std.proofs.lemmas.Str.{encodes-chars, encodes-append, chars-append, chars-nil, chars_from_encodes, chars_past_char, IsUtf8-take, IsUtf8-drop, IsUtf8-past_char, IsCharBoundary-before_ascii}
+use Rattle.std.proofs.lemmas.Str.{chars_from_encodes, chars_past_char, IsUtf8-past_char, IsCharBoundary-before_ascii}
 use Rattle.std.proofs.lemmas.Str.Pattern.{drop_at_char}
 use denote.Ref.{Bor}
-use Rattle.rl_tokens.specs.Texts.{IsTail}
 use Rattle.rl_grammar.specs.Mirrors.StrictAt.{is_some_text}
 
 -- what is after by characters is after by bytes

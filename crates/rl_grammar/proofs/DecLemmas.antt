@@ -1,13 +1,11 @@
 -- Numbers in base ten of any size: the text spells the number, by digits alone, with no zero in front but of 0 itself.
-use Rattle.std.proofs.Common.{◌≡◌, ℕ, suc, zero, ◌+◌, ◌*◌, ◌/◌, ◌%◌, ◌<◌, ◌≤◌, ◌^◌, Bool, true, false, eqb, ◌==◌, cond, List, [], ◌∷◌, length, refl, sym, ap, ◌∙◌, arith}
-use Rattle.std.proofs.lemmas.Bool.{eqb-true, ne_eqb, and_from, agree_below_at}
-use Rattle.std.proofs.lemmas.Bool.Decides.{nat_tests}
+use Rattle.rl_grammar.proofs.Names.{◌≡◌, ℕ, suc, zero, ◌+◌, ◌*◌, ◌<◌, ◌≤◌, ◌^◌, Bool, true, false, eqb, ◌==◌, cond, List, [], ◌∷◌, length, refl, sym, ap, ◌∙◌, arith, eqb-true, ne_eqb, and_from, nat_tests, digit_value, is_ascii_digit, list_all, first_passes}
+use Rattle.std.proofs.Common.{◌/◌, ◌%◌}
+use Rattle.std.proofs.lemmas.Bool.{agree_below_at}
 use Rattle.std.proofs.Math.Nat.{pow-succ'}
-use Rattle.std.specs.Char.{digit_value, is_ascii_digit}
 use Rattle.std.specs.Fmt.{digits_onto, digit_glyph}
-use Rattle.std.specs.List.{list_all}
 use Rattle.rl_tokens.specs.Strict.{dec, spelled_number}
-use Rattle.rl_tokens.specs.Texts.{first_passes}
+use Rattle.rl_grammar.proofs.PlainNumberLemmas.{onto_digits}
 
 -- ---- one digit
 
@@ -65,13 +63,6 @@ dec_spells n = let e = onto_value n n [] (omega arith) in omega arith
 digit_step : (ds more : List ℕ) (b : Bool) → list_all is_ascii_digit ds ≡ true → list_all is_ascii_digit more ≡ true → list_all is_ascii_digit (cond b ds more) ≡ true
 digit_step ds more true h m = h
 digit_step ds more false h m = m
-
-onto_digits : (k n : ℕ) (ds : List ℕ) → list_all is_ascii_digit ds ≡ true → list_all is_ascii_digit (digits_onto k 10 false n ds) ≡ true
-onto_digits zero n ds h = h
-onto_digits (suc k) n ds h =
-    let now : List ℕ = digit_glyph false (n % 10) ∷ ds in
-    let all : list_all is_ascii_digit now ≡ true = and_from (is_ascii_digit (digit_glyph false (n % 10))) (list_all is_ascii_digit ds) (glyph_digit (n % 10) (omega arith)) h in
-    digit_step now (digits_onto k 10 false (n / 10) now) (n / 10 == 0) all (onto_digits k (n / 10) now all)
 
 pub dec_digits : (n : ℕ) → list_all is_ascii_digit (dec n) ≡ true
 unfolding dec

@@ -1,14 +1,11 @@
 -- The digits of numbers.
-use Rattle.std.proofs.Common.{◌≡◌, ℕ, suc, zero, ◌<◌, ◌≤◌, ◌^◌, List, [], ◌∷◌, ◌++◌, sym, ap, ◌∙◌, arith}
-use Rattle.std.proofs.lemmas.Str.{encodes-append, chars-IsAscii}
+use Rattle.rl_grammar.proofs.Names.{◌≡◌, ℕ, suc, zero, ◌<◌, ◌≤◌, ◌^◌, List, [], ◌∷◌, ◌++◌, sym, ap, ◌∙◌, arith, encodes-append, decimal, IsAscii, encode_utf8_all, Sign, NoSign, Minus, sign_text, IntReads, limit, float_digits, FloatReads, Contents, Digits}
+use Rattle.std.proofs.lemmas.Str.{chars-IsAscii}
 use Rattle.std.proofs.lemmas.List.{map-append}
 use Rattle.std.proofs.lemmas.List.Elements.{filter-append}
 use Rattle.std.proofs.lemmas.Fmt.{IsAscii-decimal_wide}
-use Rattle.std.specs.Fmt.{decimal}
-use Rattle.std.specs.Str.{chars, IsAscii}
-use Rattle.std.specs.Prelude.{encode_utf8_all}
-use Rattle.rl_tokens.specs.Numbers.{Sign, NoSign, Minus, sign_text, IntReads, limit, float_digits, FloatReads}
-use Rattle.rl_tokens.specs.Reading.{Contents, Digits, ReadsInt}
+use Rattle.std.specs.Str.{chars}
+use Rattle.rl_tokens.specs.Reading.{ReadsInt}
 use Rattle.rl_grammar.specs.Mirrors.NumberAt.{sign_at, int_at}
 use Rattle.rl_grammar.specs.NumberShapes.{HasMagnitude}
 use Rattle.rl_grammar.proofs.IntegerLemmas.{int_past, sign_of_some}

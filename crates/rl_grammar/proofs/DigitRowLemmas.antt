@@ -1,16 +1,8 @@
 -- Rows of digits and underscores.
-use Rattle.std.proofs.Common.{◌≡◌, ◌≢◌, ℕ, suc, ◌+◌, ◌*◌, ◌^◌, ◌<◌, ◌≤◌, Bool, true, false, not, ◌||◌, ◌==◌, cond, List, [], ◌∷◌, Option, Some, None, length, refl, sym, ap, ◌∙◌, arith, ◌⊎◌, inl, inr, nat_lt}
-use Rattle.std.proofs.lemmas.Bool.{eqb-true}
-use Rattle.std.proofs.lemmas.Bool.Decides.{nat_tests}
-use Rattle.std.proofs.Math.Nat.{pow-suc, mul-le-mul_left}
+use Rattle.rl_grammar.proofs.Names.{◌≡◌, ◌≢◌, ℕ, suc, ◌+◌, ◌*◌, ◌^◌, ◌<◌, ◌≤◌, Bool, true, false, not, ◌||◌, ◌==◌, cond, List, [], ◌∷◌, Option, Some, None, length, refl, sym, ap, ◌∙◌, arith, ◌⊎◌, inl, inr, nat_lt, eqb-true, nat_tests, pow-suc, digit_value, list_any, place_value, without_underscores, limit, after_run, is_row_part}
+use Rattle.std.proofs.Math.Nat.{mul-le-mul_left}
 use native.Mathlib.Numerals.{unary_clauses}
-use Rattle.std.specs.Char.{digit_value}
-use Rattle.std.specs.List.{list_any}
-use Rattle.rl_tokens.specs.Quoted.{place_value, without_underscores}
-use Rattle.rl_tokens.specs.Numbers.{limit}
 use Rattle.rl_grammar.specs.Mirrors.NumberAt.{run, has_value, capped, append_digit, row_from, digit_row_at, has_digit_at, magnitude_at, after_digits}
-use Rattle.rl_tokens.specs.Classes.{after_run}
-use Rattle.rl_tokens.specs.Texts.{is_row_part}
 
 -- within the limit nothing is cut
 pub capped_within : (n : ℕ) → n ≤ limit → capped n ≡ Some n

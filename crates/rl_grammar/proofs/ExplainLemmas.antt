@@ -1,17 +1,12 @@
 -- Places of flaws, in bytes.
-use Rattle.std.proofs.Common.{◌≡◌, ℕ, true, List, [], ◌+◌, ◌++◌, length, sym, ap, ◌∙◌, inl, inr, append_assoc}
-use Rattle.std.specs.Prelude.{Option, Some, None, IfSome, encode_utf8_all}
+use Rattle.rl_grammar.proofs.Names.{◌≡◌, ℕ, true, List, [], ◌+◌, ◌++◌, length, sym, ap, ◌∙◌, inl, inr, append_assoc, encode_utf8_all, IsUtf8, encodes-append, encodes-chars, texts, HasReading, byte_len, Kind}
+use Rattle.std.specs.Prelude.{Option, Some, None, IfSome}
 use Rattle.std.specs.Option.{is_some}
-use Rattle.std.specs.Str.{chars, IsUtf8}
-use Rattle.std.proofs.lemmas.Str.{encodes-append, encodes-chars}
+use Rattle.std.specs.Str.{chars}
 use Rattle.std.proofs.lemmas.List.{length-append}
-use Rattle.rl_tokens.specs.Quoted.{texts}
-use Rattle.rl_tokens.specs.Reading.{HasReading}
-use Rattle.rl_tokens.specs.Texts.{byte_len}
 use Rattle.rl_grammar.specs.declared.found.Found.{Found}
 use Rattle.rl_grammar.specs.declared.quoted_forms.QuotedForm.{QuotedForm}
 use Rattle.rl_grammar.specs.declared.quoted_forms.QuotedForm.TheVariants.{Cooked as CookedForm, Raw as RawForm, Single as SingleForm}
-use Rattle.rl_tokens.specs.declared.kind.Kind.{Kind}
 use Rattle.rl_grammar.specs.FlawKinds.{IsPiece}
 use Rattle.rl_grammar.specs.Flaws.{IsPieceOf, StopsBefore}
 use Rattle.rl_grammar.specs.Forms.{form_opener}
@@ -26,7 +21,7 @@ cut_bytes t rest front ut ur cut =
     ∙ length-append (encode_utf8_all front) (encode_utf8_all (chars rest))
     ∙ ap (λ z. byte_len front + length z) (encodes-chars rest ur)
 
-pub front_bytes : (t rest : List ℕ) → IsUtf8 t → IsUtf8 rest → (s : StopsBefore (chars t) (chars rest)) → length t ≡ byte_len s.front + length rest
+pub front_bytes : (t rest : List ℕ) → IsUtf8 t → IsUtf8 rest → (s : StopsBefore HasReading (chars t) (chars rest)) → length t ≡ byte_len s.front + length rest
 front_bytes t rest ut ur s = cut_bytes t rest s.front ut ur s.text_is
 
 -- the piece is a tail of the text
@@ -35,11 +30,11 @@ piece_cut CookedForm kind inside piece rest t front text_is cut p = (form_opener
 piece_cut RawForm kind inside piece rest t front text_is cut p = (front, cut ∙ ap (λ z. front ++ z) (sym p))
 piece_cut SingleForm kind inside piece rest t front text_is cut p = (form_opener SingleForm kind, text_is ∙ ap (λ z. form_opener SingleForm kind ++ z) (sym p))
 
-pub piece_front : (t piece rest : List ℕ) → StopsBefore t rest → IsPieceOf t piece rest → (before : List ℕ) × (t ≡ before ++ piece)
+pub piece_front : (t piece rest : List ℕ) → StopsBefore HasReading t rest → IsPieceOf t piece rest → (before : List ℕ) × (t ≡ before ++ piece)
 piece_front t piece rest s (inl q) = piece_cut q.form q.kind q.inside piece rest t s.front q.text_is s.text_is q.piece_is
 piece_front t piece rest s (inr (none, whole)) = ([], sym whole)
 
-pub piece_bytes : (t piece rest : List ℕ) → IsUtf8 t → IsUtf8 piece → (s : StopsBefore (chars t) (chars rest)) → (p : IsPieceOf (chars t) (chars piece) (chars rest)) → length t ≡ byte_len (piece_front (chars t) (chars piece) (chars rest) s p).0 + length piece
+pub piece_bytes : (t piece rest : List ℕ) → IsUtf8 t → IsUtf8 piece → (s : StopsBefore HasReading (chars t) (chars rest)) → (p : IsPieceOf (chars t) (chars piece) (chars rest)) → length t ≡ byte_len (piece_front (chars t) (chars piece) (chars rest) s p).0 + length piece
 piece_bytes t piece rest ut up s p = let cut = piece_front (chars t) (chars piece) (chars rest) s p in cut_bytes t piece cut.0 ut up cut.1
 
 pub found_reads : (t : List ℕ) (f : Found) → IsFound t f → HasReading (chars t)

@@ -1,22 +1,16 @@
 -- A float is what `float_at` reads.
-use Rattle.std.proofs.Common.{◌≡◌, ℕ, Bool, true, false, not, ◌&&◌, ◌||◌, ◌==◌, cond, List, [], ◌∷◌, ◌++◌, Some, None, refl, sym, ap, subst, ◌∙◌, arith, append_assoc}
-use Rattle.std.proofs.lemmas.Bool.{and_parts, and_from, both_ways, eqb-true, false_from_ne_true, not-true}
-use Rattle.std.proofs.lemmas.Bool.Decides.{nat_tests}
-use Rattle.std.specs.Char.{is_ascii_digit}
-use Rattle.std.specs.List.{list_all, list_any}
-use Rattle.unicode_ident.specs.Ident.{is_xid_continue}
-use Rattle.rl_tokens.specs.Texts.{first_passes, is_underscore, xid_ok, is_row_part}
-use Rattle.rl_tokens.specs.Numbers.{sign_text, is_exponent_letter, Fraction, NoFraction, Dot, fraction_text, IsFraction, Exponent, NoExponent, Power, exponent_text, IsExponent, is_power_sign, BeginsExponent, FloatReads}
+use Rattle.rl_grammar.proofs.Names.{◌≡◌, ℕ, Bool, true, false, not, ◌&&◌, ◌||◌, ◌==◌, cond, List, [], ◌∷◌, ◌++◌, Some, None, refl, sym, ap, subst, ◌∙◌, arith, append_assoc, and_parts, and_from, both_ways, eqb-true, false_from_ne_true, not-true, nat_tests, is_ascii_digit, list_all, list_any, is_xid_continue, first_passes, is_underscore, xid_ok, is_row_part, sign_text, is_exponent_letter, Fraction, NoFraction, Dot, fraction_text, IsFraction, FloatReads, after_run}
+use Rattle.rl_tokens.specs.Numbers.{Exponent, NoExponent, Power, exponent_text, IsExponent, is_power_sign, BeginsExponent}
 use Rattle.rl_tokens.proofs.Basics.{any_same, continue_not, digit_is_ten, word_continues, word_without}
 use Rattle.rl_tokens.proofs.StrictNumbers.{letter_no_part, suffix_no_part}
 use Rattle.rl_grammar.specs.Mirrors.NumberAt.{run, has_value, is_suffix, digit_row_at, has_digit_at, after_digits, after_minus, sign_at, after_fraction, after_power_sign, power_at, after_exponent, float_at}
-use Rattle.rl_tokens.specs.Classes.{after_run}
 use Rattle.rl_grammar.proofs.DigitRowLemmas.{run_yes, run_no}
 use Rattle.rl_grammar.proofs.RunLemmas.{run_all, run_ends, run_join, run_past, suffix_complete, suffix_sound}
 use Rattle.rl_grammar.proofs.IntegerLemmas.{minus_past, chosen_some, sign_join}
+use Rattle.rl_grammar.proofs.TestLemmas.{passes_more}
 
 -- What the parts begin with.
-letter_no_dot : (c : ℕ) → is_exponent_letter c ≡ true → (c == 46) ≡ false
+pub letter_no_dot : (c : ℕ) → is_exponent_letter c ≡ true → (c == 46) ≡ false
 letter_no_dot c h = go (c == 101) refl
   where
     go : (b : Bool) → (c == 101) ≡ b → (c == 46) ≡ false
@@ -29,11 +23,6 @@ run_off test [] t h = refl
 run_off test (c ∷ row) t h =
     let b = and_parts (test c) (list_all test row) h in
     (run_yes test c (row ++ t) b.0).1 ∙ run_off test row t b.1
-
--- what a text begins with, it begins with whatever follows
-pub passes_more : (test : ℕ → Bool) (a b : List ℕ) → first_passes test a ≡ true → first_passes test (a ++ b) ≡ true
-passes_more test [] b h = absurd (cc)
-passes_more test (c ∷ cs) b h = h
 
 -- no digit row goes on into an exponent and suffix
 exponent_stops : (e : Exponent) (x : List ℕ) → is_suffix x ≡ true → IsExponent e x → first_passes (is_row_part (has_value 10)) (exponent_text e ++ x) ≡ false

@@ -1,12 +1,5 @@
 -- Which form and kind a text's front tells, and the one reading of a quoted literal.
-use Rattle.std.proofs.Common.{◌≡◌, ◌≢◌, ℕ, true, false, eqb, List, [], ◌∷◌, ◌++◌, length, Some, None, refl, sym, ap, subst, ◌∙◌, inl, inr, append_assoc, append-nil}
-use Rattle.std.specs.List.{list_all}
-use Rattle.std.proofs.lemmas.Bool.{both_ways, cases_Bool, eqb-true}
-use Rattle.std.proofs.lemmas.List.{append_cancel_left, append_cancel_right}
-use Rattle.rl_tokens.specs.declared.kind.Kind.{Kind}
-use Rattle.rl_tokens.specs.declared.kind.Kind.TheVariants.{Str, ByteStr, CStr, Byte, Char, Int, Float, Bool as BoolKind}
-use Rattle.rl_tokens.specs.Quoted.{Cooked, Single, is_string, is_single, is_plain, opener, raw_opener, texts, unit_text}
-use Rattle.rl_tokens.specs.Reading.{Contents, ReadsQuoted, quoted_contents}
+use Rattle.rl_grammar.proofs.Names.{◌≡◌, ◌≢◌, ℕ, true, false, eqb, List, [], ◌∷◌, ◌++◌, length, Some, None, refl, sym, ap, subst, ◌∙◌, inl, inr, append_assoc, append-nil, list_all, both_ways, cases_Bool, eqb-true, append_cancel_left, append_cancel_right, Kind, Str, ByteStr, CStr, Byte, Char, Int, Float, BoolKind, Cooked, Single, is_string, is_single, is_plain, opener, raw_opener, texts, unit_text, Contents, ReadsQuoted, quoted_contents}
 use Rattle.rl_grammar.specs.declared.quoted_forms.QuotedForm.{QuotedForm}
 use Rattle.rl_grammar.specs.declared.quoted_forms.QuotedForm.TheVariants.{Cooked as CookedForm, Raw as RawForm, Single as SingleForm}
 use Rattle.rl_grammar.specs.Mirrors.UnitAt.{found, unit_at}
@@ -84,27 +77,14 @@ front_complete RawForm ByteStr r h = refl
 front_complete RawForm CStr r h = refl
 front_complete SingleForm Byte r h = refl
 front_complete SingleForm Char r h = refl
-front_complete CookedForm Byte r h = absurd (cc)
-front_complete CookedForm Char r h = absurd (cc)
-front_complete CookedForm Int r h = absurd (cc)
-front_complete CookedForm Float r h = absurd (cc)
-front_complete CookedForm BoolKind r h = absurd (cc)
-front_complete RawForm Byte r h = absurd (cc)
-front_complete RawForm Char r h = absurd (cc)
-front_complete RawForm Int r h = absurd (cc)
-front_complete RawForm Float r h = absurd (cc)
-front_complete RawForm BoolKind r h = absurd (cc)
-front_complete SingleForm Str r h = absurd (cc)
-front_complete SingleForm ByteStr r h = absurd (cc)
-front_complete SingleForm CStr r h = absurd (cc)
-front_complete SingleForm Int r h = absurd (cc)
-front_complete SingleForm Float r h = absurd (cc)
-front_complete SingleForm BoolKind r h = absurd (cc)
+front_complete CookedForm kind r h = absurd (cc)
+front_complete RawForm kind r h = absurd (cc)
+front_complete SingleForm kind r h = absurd (cc)
 
 -- ---- cooked strings
 
 -- the units of a cooked string are a row that goes as far as units go
-cooked_row : (kind : Kind) (t v x : List ℕ) (c : Cooked kind t v x) → BeginsRow kind (texts c.units ++ (34 ∷ x)) v (34 ∷ x)
+pub cooked_row : (kind : Kind) (t v x : List ℕ) (c : Cooked kind t v x) → BeginsRow kind (texts c.units ++ (34 ∷ x)) v (34 ∷ x)
 cooked_row kind t v x c = record { units = c.units; each = c.each; ends = row_ends_on c.units (34 ∷ x) refl c.ends; text_is = refl; value_is = c.value_is }
 
 cooked_row_of : (kind : Kind) (a v x : List ℕ) → Cooked kind (opener kind ++ a) v x → BeginsRow kind a v (34 ∷ x)

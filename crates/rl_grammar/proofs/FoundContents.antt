@@ -1,25 +1,16 @@
 -- What a text that reads as a kind is found to be, and what it stands for.
-use Rattle.std.proofs.Common.{◌≡◌, ℕ, ◌⊎◌, inl, inr, List, true, refl, sym, ap, subst, ◌∙◌}
+use Rattle.rl_grammar.proofs.Names.{◌≡◌, ℕ, ◌⊎◌, inl, inr, List, true, refl, sym, ap, subst, ◌∙◌, Kind, Str, ByteStr, CStr, Byte, Char, Int, Float, BoolKind, is_string, is_single, Contents, HasContents, HasNoReading, ReadsAs}
 use Rattle.std.proofs.lemmas.Bool.{or_left}
 use Rattle.std.specs.Str.{chars}
-use Rattle.rl_tokens.specs.declared.kind.Kind.{Kind}
-use Rattle.rl_tokens.specs.declared.kind.Kind.TheVariants.{Str, ByteStr, CStr, Byte, Char, Int, Float, Bool as BoolKind}
-use Rattle.rl_tokens.specs.Quoted.{is_string, is_single}
-use Rattle.rl_tokens.specs.Reading.{Contents, HasContents, HasNoReading, ReadsAs}
 use Rattle.rl_tokens.proofs.OneReading.{one_reading}
 use Rattle.rl_grammar.specs.declared.found.Found.{Found}
 use Rattle.rl_grammar.specs.Bodies.{HasBody}
-use Rattle.rl_grammar.specs.Decoded.{ContentsAre}
 use Rattle.rl_grammar.specs.Founds.{IsFound, IsQuotedAt, IsUnitOf, body_in, is_quoted}
 use Rattle.rl_grammar.specs.WholeShapes.{IsPlain}
 
 -- what is found is of the kind that the text reads as
 pub found_kind : (kind : Kind) (t : List ℕ) (found : Found) → ReadsAs kind (chars t) → IsFound t found → found.kind ≡ kind
 found_kind kind t found r f = (one_reading (chars t) found.kind kind f.reads.0 r.0 _ r.1 f.reads.1 r.2).0
-
--- the contents of one reading are those of each
-pub contents_are : (kind other : Kind) (t : List ℕ) (contents : Contents) → HasContents kind t contents → ContentsAre other t contents
-contents_are kind other t contents h v x r = (one_reading t other kind v contents x h.0 r h.1).1
 
 quoted_at : (kind : Kind) (t : List ℕ) (found : Found) → found.kind ≡ kind → is_quoted kind ≡ true → IsFound t found → IsQuotedAt kind t found.body
 quoted_at kind t found same q f = subst (λ (k : Kind). IsQuotedAt k t found.body) same (f.quoted (ap is_quoted same ∙ q))
@@ -51,9 +42,7 @@ plain_reads ByteStr t n p = (_, p.suffix, p.reads)
 plain_reads CStr t n p = (_, p.suffix, p.reads)
 plain_reads Int t n p = (_, p.suffix, p.reads)
 plain_reads Float t n p = absurd (n refl)
-plain_reads Byte t n p = absurd p.reads
-plain_reads Char t n p = absurd p.reads
-plain_reads BoolKind t n p = absurd p.reads
+plain_reads kind t n p = absurd p.reads
 
 pub plain_found : (kind : Kind) (t : List ℕ) (found : Found) → (kind ≡ Float → ⊥) → IsFound t found → IsPlain kind t → found.kind ≡ kind
 plain_found kind t found n f p = found_kind kind t found (plain_reads kind t n p) f

@@ -1,19 +1,12 @@
 -- What reading a text finds, from its parts.
-use Rattle.std.proofs.Common.{◌≡◌, ℕ, ◌-◌, ◌⊎◌, inl, inr, Bool, true, false, List, [], ◌++◌, length, take, drop, refl, sym, ap, ap₂, subst, ◌∙◌, arith, rules}
-use Rattle.std.proofs.Math.Seq.{drop-append_seam, take-append_seam}
-use Rattle.std.proofs.lemmas.Bool.{both_ways}
-use Rattle.std.proofs.lemmas.List.{append_cancel_right}
-use Rattle.std.proofs.lemmas.Str.{IsCharBoundary-at_seam, IsCharBoundary-start, IsCharBoundary-end, IsUtf8-between, IsUtf8-drop, chars-append, chars-nil}
+use Rattle.rl_grammar.proofs.Names.{◌≡◌, ℕ, ◌⊎◌, inl, inr, Bool, true, false, List, [], ◌++◌, length, take, drop, refl, sym, ap, ap₂, subst, ◌∙◌, arith, rules, drop-append_seam, both_ways, append_cancel_right, IsCharBoundary-start, IsUtf8-drop, chars-append, chars-nil, IsUtf8, IsCharBoundary, Kind, Str, ByteStr, CStr, Byte, Char, Int, Float, BoolKind, IsTail, FloatReads, float_digits, is_string, is_single, Digits, Truth, HasNoInteger, HasSuffix, ReadsAs, ReadsQuoted, quoted_contents, truth_text}
+use Rattle.std.proofs.Common.{◌-◌}
+use Rattle.std.proofs.Math.Seq.{take-append_seam}
+use Rattle.std.proofs.lemmas.Str.{IsCharBoundary-at_seam, IsCharBoundary-end, IsUtf8-between}
 use lib.Seq.{drop-length, take-length}
-use Rattle.std.specs.Str.{chars, IsUtf8, IsCharBoundary}
+use Rattle.std.specs.Str.{chars}
 use denote.Enum.Bare.{sameb, same_true, true_same}
 use Rattle.rl_tokens.specs.contracts.kind.Kind.{the_type}
-use Rattle.rl_tokens.specs.declared.kind.Kind.{Kind}
-use Rattle.rl_tokens.specs.declared.kind.Kind.TheVariants.{Str, ByteStr, CStr, Byte, Char, Int, Float, Bool as BoolKind}
-use Rattle.rl_tokens.specs.Texts.{IsTail}
-use Rattle.rl_tokens.specs.Numbers.{FloatReads, float_digits}
-use Rattle.rl_tokens.specs.Quoted.{is_string, is_single}
-use Rattle.rl_tokens.specs.Reading.{Digits, Truth, HasNoInteger, HasSuffix, ReadsAs, ReadsQuoted, quoted_contents, truth_text}
 use Rattle.rl_grammar.specs.declared.quoted_forms.QuotedForm.{QuotedForm}
 use Rattle.rl_grammar.specs.declared.quoted_forms.QuotedForm.TheVariants.{Cooked as CookedForm, Raw as RawForm, Single as SingleForm}
 use Rattle.rl_grammar.specs.declared.found.Body.{Body}
@@ -22,14 +15,14 @@ use Rattle.rl_grammar.specs.Bodies.{IsUnitValue}
 use Rattle.rl_grammar.specs.Forms.{PartsAre, form_opener, front_len, is_plain_body}
 use Rattle.rl_grammar.specs.Mirrors.OpenerAt.{found_opener, opener_at}
 use Rattle.rl_grammar.specs.Founds.{IsFound, IsFoundFloat, IsQuotedAt, StandsIn, body_in, suffix_in, is_quoted}
-use Rattle.rl_grammar.specs.NumberShapes.{HasMagnitude, IsSplitInteger}
+use Rattle.rl_grammar.specs.NumberShapes.{HasMagnitude}
 use Rattle.rl_grammar.specs.Mirrors.PlainAt.{is_plain_integer, is_plain_float}
 use Rattle.rl_grammar.specs.Shapes.{IsQuotedSplit}
 use Rattle.rl_grammar.specs.WholeShapes.{IsSplit, IsPlain}
 use Rattle.rl_grammar.proofs.BodyLemmas.{plain_parts, parts_plain}
 use Rattle.rl_grammar.proofs.FormLemmas.{front_sound, not_both, parts_read}
 use Rattle.rl_grammar.proofs.IntegerLemmas.{within_reads}
-use Rattle.rl_grammar.proofs.PlainNumberLemmas.{whether_integer, whether_float}
+use Rattle.rl_grammar.proofs.PlainNumberLemmas.{IsSplitInteger, whether_integer, whether_float}
 use Rattle.rl_grammar.proofs.ShapeLemmas.{parts_cut}
 use Rattle.rl_grammar.proofs.SingleBodies.{unit_reads}
 
@@ -99,9 +92,7 @@ quoted_whole t ByteStr body u q = record { reads = (_, quoted_reads ByteStr t bo
 quoted_whole t CStr body u q = record { reads = (_, quoted_reads CStr t body q); cut = quoted_cut CStr t body u q; plain = string_plain CStr t body refl u q }
 quoted_whole t Byte body u q = record { reads = (_, quoted_reads Byte t body q); cut = quoted_cut Byte t body u q; plain = single_plain Byte t body refl (λ p. p.reads) q }
 quoted_whole t Char body u q = record { reads = (_, quoted_reads Char t body q); cut = quoted_cut Char t body u q; plain = single_plain Char t body refl (λ p. p.reads) q }
-quoted_whole t Int body u q = absurd (no_form Int t body refl refl q)
-quoted_whole t Float body u q = absurd (no_form Float t body refl refl q)
-quoted_whole t BoolKind body u q = absurd (no_form BoolKind t body refl refl q)
+quoted_whole t kind body u q = absurd (no_form kind t body refl refl q)
 
 pub quoted_found : (t : List ℕ) (kind : Kind) (body : Body) (n : ℕ) (found : Found) → IsUtf8 t → (q : IsQuotedAt kind t body) → IsUnitValue kind q.value n → found ≡ OfUnit kind body n → IsFound t found
 quoted_found t kind body n found u q h is =

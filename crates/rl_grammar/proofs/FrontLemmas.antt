@@ -1,18 +1,14 @@
 -- At most one literal begins the trees.
-use Rattle.std.proofs.Common.{◌≡◌, ◌≢◌, ℕ, ◌<◌, Bool, false, List, [], ◌∷◌, length, refl, sym, ap, ap₂, ◌∙◌, subst, arith}
-use Rattle.std.specs.Prelude.{◌↔◌, IsTrue, Option, Some, None, IfSome, IfNone}
+use Rattle.rl_grammar.proofs.Names.{◌≡◌, ◌≢◌, ℕ, ◌<◌, Bool, false, List, [], ◌∷◌, length, refl, sym, ap, ap₂, ◌∙◌, subst, arith, ◌↔◌, IsTrue, Kind, BoolKind, SpannedText, Truth, ReadsAs, HasNoReading, Reads, truth_text}
+use Rattle.std.specs.Prelude.{Option, Some, None, IfSome, IfNone}
 use Rattle.std.specs.Option.{is_some}
 use Rattle.std.specs.Str.{chars}
-use Rattle.rl_tokens.specs.declared.kind.Kind.{Kind}
-use Rattle.rl_tokens.specs.declared.kind.Kind.TheVariants.{Bool as BoolKind}
 use Rattle.rl_tokens.specs.Puncts.{Mark}
 use Rattle.rl_tokens.specs.declared.error.Error.{Error}
 use Rattle.rl_tokens.specs.declared.error.ErrorKind.{ErrorKind}
 use Rattle.rl_tokens.specs.declared.span.Span.{Span}
 use Rattle.rl_tokens.specs.Errors.{memory_at}
-use Rattle.rl_tokens.specs.Texts.{SpannedText}
 use Rattle.rl_tokens.specs.Trees.{Tree, GroupTree, IdentTree, PunctTree, LiteralTree}
-use Rattle.rl_tokens.specs.Reading.{Truth, ReadsAs, HasNoReading, Reads, truth_text}
 use Rattle.rl_tokens.specs.Buffers.{IsRest}
 use Rattle.rl_grammar.specs.Fronts.{IsFront, IsFrontOf, HasFrontOf, HasNoFront, joined}
 use Rattle.rl_grammar.specs.FrontTokens.{HasNoWord, HasNoMinus}

@@ -1,12 +1,8 @@
 -- How many bytes stand before the body of a quoted literal.
-use Rattle.std.proofs.Common.{◌≡◌, ℕ, zero, suc, ◌+◌, ◌<◌, List, [], ◌∷◌, ◌++◌, length, replicate, refl, sym, ap, ◌∙◌, arith, append_assoc, length-append}
-use Rattle.std.specs.Prelude.{encode_utf8_all}
-use Rattle.std.specs.Str.{chars, IsUtf8}
-use Rattle.std.proofs.lemmas.Str.{encodes-append, encodes-chars, length-encode, len_utf8_ascii}
-use Rattle.rl_tokens.specs.declared.kind.Kind.{Kind}
-use Rattle.rl_tokens.specs.declared.kind.Kind.TheVariants.{Str, ByteStr, CStr, Byte, Char, Int, Float, Bool as BoolKind}
-use Rattle.rl_tokens.specs.Quoted.{opener, raw_opener}
-use Rattle.rl_tokens.specs.Texts.{byte_len}
+use Rattle.rl_grammar.proofs.Names.{◌≡◌, ℕ, zero, suc, ◌+◌, ◌<◌, List, [], ◌∷◌, ◌++◌, length, replicate, refl, sym, ap, ◌∙◌, arith, append_assoc, encode_utf8_all, IsUtf8, encodes-append, encodes-chars, length-encode, Kind, Str, ByteStr, CStr, Byte, Char, Int, Float, BoolKind, opener, raw_opener, byte_len}
+use Rattle.std.proofs.Common.{length-append}
+use Rattle.std.specs.Str.{chars}
+use Rattle.std.proofs.lemmas.Str.{len_utf8_ascii}
 use Rattle.rl_grammar.specs.declared.quoted_forms.QuotedForm.{QuotedForm}
 use Rattle.rl_grammar.specs.declared.quoted_forms.QuotedForm.TheVariants.{Cooked as CookedForm, Raw as RawForm, Single as SingleForm}
 use Rattle.rl_grammar.specs.Mirrors.OpenerAt.{found_opener, opener_at}

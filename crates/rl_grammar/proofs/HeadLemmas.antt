@@ -1,10 +1,6 @@
 -- What a number begins with.
-use Rattle.std.proofs.Common.{◌≡◌, ℕ, Bool, true, false, not, ◌&&◌, ◌||◌, ◌==◌, cond, List, [], ◌∷◌, Option, Some, None, refl, sym, ap, ◌∙◌}
-use Rattle.std.proofs.lemmas.Bool.{and_parts, eqb-true}
-use Rattle.std.specs.Char.{is_ascii_digit}
-use Rattle.rl_tokens.specs.Numbers.{Sign}
-use Rattle.rl_tokens.specs.Texts.{first_passes}
-use Rattle.rl_grammar.specs.Mirrors.NumberAt.{after_digits, after_fraction, after_exponent, after_minus, based_at, capped, capped_int, ended_at, float_at, float_tail_at, has_digit_at, int_at, is_suffix, IsHead, magnitude_at, may_begin, may_end, radix_at, radix_of, sign_at, with_sign}
+use Rattle.rl_grammar.proofs.Names.{◌≡◌, ℕ, Bool, true, false, not, ◌&&◌, ◌||◌, ◌==◌, cond, List, [], ◌∷◌, Option, Some, None, refl, sym, ap, ◌∙◌, and_parts, eqb-true, is_ascii_digit, Sign, first_passes}
+use Rattle.rl_grammar.specs.Mirrors.NumberAt.{after_digits, after_fraction, after_exponent, after_minus, based_at, capped, capped_int, ended_at, float_at, float_tail_at, has_digit_at, int_at, is_suffix, IsHead, magnitude_at, may_begin_number, may_end, radix_at, radix_of, sign_at, with_sign}
 
 abbrev ten : List ℕ → ℕ × List ℕ
 ten u = (10, u)
@@ -14,13 +10,13 @@ abbrev chosen : Bool → ℕ → List ℕ → List ℕ → ℕ × List ℕ
 chosen b r cs u = cond b (r, cs) (ten u)
 
 -- where a digit stands, the base asks no more
-begins : (u : List ℕ) → first_passes is_ascii_digit u ≡ true → may_begin (radix_at u).0 (radix_at u).1 ≡ true
+begins : (u : List ℕ) → first_passes is_ascii_digit u ≡ true → may_begin_number (radix_at u).0 (radix_at u).1 ≡ true
 unfolding radix_at
 begins [] h = absurd (cc)
 begins (z ∷ []) h = h
 begins (z ∷ c ∷ cs) h = go (z == 48 && not (radix_of c == 10)) refl
   where
-    go : (b : Bool) → (z == 48 && not (radix_of c == 10)) ≡ b → may_begin (chosen b (radix_of c) cs (z ∷ c ∷ cs)).0 (chosen b (radix_of c) cs (z ∷ c ∷ cs)).1 ≡ true
+    go : (b : Bool) → (z == 48 && not (radix_of c == 10)) ≡ b → may_begin_number (chosen b (radix_of c) cs (z ∷ c ∷ cs)).0 (chosen b (radix_of c) cs (z ∷ c ∷ cs)).1 ≡ true
     go true e = ap (λ b. b || first_passes is_ascii_digit cs) (and_parts (z == 48) (not (radix_of c == 10)) e).1
     go false e = h
 
@@ -61,9 +57,9 @@ no_head_int t h =
     let u = after_minus t in
     let r = radix_at u in
     let ends = has_digit_at r.0 r.1 && may_end r.0 (after_digits r.0 r.1) in
-    let begin : may_begin r.0 r.1 ≡ false = ap (λ p. may_begin p.0 p.1) (no_base u h) ∙ h in
+    let begin : may_begin_number r.0 r.1 ≡ false = ap (λ p. may_begin_number p.0 p.1) (no_base u h) ∙ h in
     sym (
-    capped_cond (sign_at t) (may_begin r.0 r.1 && ends) (magnitude_at r.0 r.1) (after_digits r.0 r.1)
+    capped_cond (sign_at t) (may_begin_number r.0 r.1 && ends) (magnitude_at r.0 r.1) (after_digits r.0 r.1)
     ∙ ap (λ b. cond (b && ends) (Some (capped (magnitude_at r.0 r.1), after_digits r.0 r.1)) None) begin
     )
 
@@ -87,7 +83,7 @@ head_int t r some m x h =
     ∙ ap (λ k. ended_at p.0 (has_digit_at p.0 p.1) k x) h.within
     ∙ ap (λ z. ended_at p.0 (has_digit_at p.0 p.1) (capped n) z) h.rest_is
     ∙ sym (
-    capped_cond (sign_at t) (may_begin p.0 p.1 && ends) n y
+    capped_cond (sign_at t) (may_begin_number p.0 p.1 && ends) n y
     ∙ ap (λ b. cond (b && ends) (Some (capped n, y)) None) (begins (after_minus t) h.first)
     )
 

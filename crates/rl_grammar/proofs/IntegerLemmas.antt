@@ -1,20 +1,12 @@
 -- An integer is what `int_at` reads.
-use Rattle.std.proofs.Common.{◌≡◌, ℕ, ◌<◌, ◌≤◌, ◌⊎◌, Bool, true, false, not, ◌&&◌, ◌||◌, ◌==◌, cond, List, [], ◌∷◌, ◌++◌, Option, Some, None, refl, sym, ap, subst, ◌∙◌, arith, inl, inr}
-use Rattle.std.proofs.lemmas.Bool.{and_parts, and_from, both_ways, eqb-true, false_from_ne_true, not-true, not_from_false}
-use Rattle.std.proofs.lemmas.Bool.Decides.{nat_tests}
-use Rattle.std.specs.Char.{is_ascii_digit}
-use Rattle.std.specs.List.{list_all, list_any}
-use Rattle.std.specs.Prelude.{IsTrue}
-use Rattle.rl_tokens.specs.Texts.{first_passes, begins, xid_ok, is_row_part}
-use Rattle.rl_tokens.specs.Quoted.{place_value, without_underscores}
-use Rattle.rl_tokens.specs.Numbers.{Base, Binary, Octal, Decimal, Hexadecimal, radix, prefix, Sign, NoSign, Minus, sign_text, begins_base, IsAfterPrefix, IsSuffix, is_exponent_letter, IsExponentSuffix, AllowsSuffix, IntReads, limit}
-use Rattle.std.specs.Fmt.{decimal}
-use Rattle.rl_tokens.specs.Reading.{Contents, Digits, HasNoInteger, ReadsInt, IsPast}
+use Rattle.rl_grammar.proofs.Names.{◌≡◌, ℕ, ◌<◌, ◌≤◌, ◌⊎◌, Bool, true, false, not, ◌&&◌, ◌||◌, ◌==◌, cond, List, [], ◌∷◌, ◌++◌, Option, Some, None, refl, sym, ap, subst, ◌∙◌, arith, inl, inr, and_parts, and_from, both_ways, eqb-true, false_from_ne_true, not-true, not_from_false, nat_tests, is_ascii_digit, list_all, list_any, IsTrue, first_passes, xid_ok, is_row_part, place_value, without_underscores, Base, Binary, Octal, Decimal, Hexadecimal, radix, prefix, Sign, NoSign, Minus, sign_text, IsAfterPrefix, IsSuffix, is_exponent_letter, IntReads, limit, decimal, Contents, Digits, HasNoInteger, IsPast, after_run}
+use Rattle.rl_tokens.specs.Texts.{begins}
+use Rattle.rl_tokens.specs.Numbers.{begins_base, IsExponentSuffix, AllowsSuffix}
+use Rattle.rl_tokens.specs.Reading.{ReadsInt}
 use Rattle.rl_tokens.proofs.Basics.{any_same, digit_is_ten}
 use Rattle.rl_tokens.proofs.StrictNumbers.{no_part}
 use Rattle.rl_grammar.specs.NumberShapes.{HasMagnitude}
-use Rattle.rl_grammar.specs.Mirrors.NumberAt.{run, has_value, is_suffix, digit_row_at, has_digit_at, magnitude_at, after_digits, is_exponent_suffix, after_minus, sign_at, radix_at, may_begin, may_end, based_at, with_sign, int_at, capped, capped_int}
-use Rattle.rl_tokens.specs.Classes.{after_run}
+use Rattle.rl_grammar.specs.Mirrors.NumberAt.{run, has_value, is_suffix, digit_row_at, has_digit_at, magnitude_at, after_digits, is_exponent_suffix, after_minus, sign_at, radix_at, may_begin_number, may_end, based_at, with_sign, int_at, capped, capped_int}
 use Rattle.rl_grammar.proofs.DigitRowLemmas.{within_or_past, capped_within, capped_past}
 use Rattle.rl_grammar.proofs.RunLemmas.{run_all, run_ends, run_join, run_past, suffix_complete, suffix_sound}
 
@@ -86,7 +78,7 @@ radix_past Hexadecimal w h = (refl, refl)
 radix_past Decimal w h = (not_based w h.1, h.0)
 
 -- what the base asks of the front
-base_begins : (base : Base) (w : List ℕ) → IsAfterPrefix base w → may_begin (radix base) w ≡ true
+base_begins : (base : Base) (w : List ℕ) → IsAfterPrefix base w → may_begin_number (radix base) w ≡ true
 base_begins Binary w h = refl
 base_begins Octal w h = refl
 base_begins Decimal w h = h.0
@@ -100,14 +92,14 @@ base_ends Hexadecimal x h k = and_from (is_suffix x) true (suffix_complete x h) 
 base_ends Decimal x h k = and_from (is_suffix x) (not (is_exponent_suffix x)) (suffix_complete x h) (not_from_false (is_exponent_suffix x) (false_from_ne_true (is_exponent_suffix x) (λ e. k (exponent_suffix_sound x e))))
 
 -- digits and suffix are read
-based_past : (r : ℕ) (ds x : List ℕ) → may_begin r (ds ++ x) ≡ true → list_all (is_row_part (has_value r)) ds ≡ true → list_any (has_value r) ds ≡ true → first_passes (is_row_part (has_value r)) x ≡ false → may_end r x ≡ true → based_at r (ds ++ x) ≡ Some (place_value r (without_underscores ds), x)
+based_past : (r : ℕ) (ds x : List ℕ) → may_begin_number r (ds ++ x) ≡ true → list_all (is_row_part (has_value r)) ds ≡ true → list_any (has_value r) ds ≡ true → first_passes (is_row_part (has_value r)) x ≡ false → may_end r x ≡ true → based_at r (ds ++ x) ≡ Some (place_value r (without_underscores ds), x)
 unfolding based_at
 based_past r ds x front each some stops ends =
     let p = run_past (is_row_part (has_value r)) ds x each stops in
-    let Found : List ℕ → List ℕ → Option (ℕ × List ℕ) = λ row rest. cond (may_begin r (ds ++ x) && (list_any (has_value r) row && may_end r rest)) (Some (place_value r (without_underscores row), rest)) None in
+    let Found : List ℕ → List ℕ → Option (ℕ × List ℕ) = λ row rest. cond (may_begin_number r (ds ++ x) && (list_any (has_value r) row && may_end r rest)) (Some (place_value r (without_underscores row), rest)) None in
     ap (λ row. Found row (after_digits r (ds ++ x))) p.0
     ∙ ap (Found ds) p.1
-    ∙ ap (λ b. cond b (Some (place_value r (without_underscores ds), x)) None) (and_from (may_begin r (ds ++ x)) _ front (and_from (list_any (has_value r) ds) _ some ends))
+    ∙ ap (λ b. cond b (Some (place_value r (without_underscores ds), x)) None) (and_from (may_begin_number r (ds ++ x)) _ front (and_from (list_any (has_value r) ds) _ some ends))
 
 -- an integer is read, with its sign, magnitude and suffix
 pub int_past : (t : List ℕ) (s : Sign) (m : ℕ) (x : List ℕ) → IntReads t s m x → int_at t ≡ Some (s, m, x)
@@ -133,7 +125,7 @@ pub record Based (t : List ℕ) : Type 0 where
   pub rest : List ℕ
   pub at : radix_at t ≡ (radix base, rest)
   pub text_is : t ≡ prefix base ++ rest
-  pub front : may_begin (radix base) rest ≡ true → IsAfterPrefix base rest
+  pub front : may_begin_number (radix base) rest ≡ true → IsAfterPrefix base rest
 
 -- what a text begins with is its front
 pub begins_is : (p t : List ℕ) → begins p t ≡ true → (rest : List ℕ) × (t ≡ p ++ rest)
@@ -204,7 +196,7 @@ end_suffix : (r : ℕ) (x : List ℕ) → may_end r x ≡ true → is_suffix x �
 end_suffix r x h = (and_parts (is_suffix x) _ h).0
 
 -- the parts taken are an integer
-int_built : (t : List ℕ) (b : Based (after_minus t)) → may_begin (radix b.base) b.rest ≡ true → has_digit_at (radix b.base) b.rest ≡ true → may_end (radix b.base) (after_digits (radix b.base) b.rest) ≡ true → IntReads t (sign_at t) (magnitude_at (radix b.base) b.rest) (after_digits (radix b.base) b.rest)
+int_built : (t : List ℕ) (b : Based (after_minus t)) → may_begin_number (radix b.base) b.rest ≡ true → has_digit_at (radix b.base) b.rest ≡ true → may_end (radix b.base) (after_digits (radix b.base) b.rest) ≡ true → IntReads t (sign_at t) (magnitude_at (radix b.base) b.rest) (after_digits (radix b.base) b.rest)
 int_built t b front some ends =
     let part = is_row_part (has_value (radix b.base)) in
     record {
@@ -226,7 +218,7 @@ chosen_some false q p h = absurd (cc)
 
 -- what is asked where something is read
 record Read (r : ℕ) (t : List ℕ) (p : ℕ × List ℕ) : Type 0 where
-  front : may_begin r t ≡ true
+  front : may_begin_number r t ≡ true
   some : has_digit_at r t ≡ true
   ends : may_end r (after_digits r t) ≡ true
   is : (magnitude_at r t, after_digits r t) ≡ p
@@ -235,8 +227,8 @@ record Read (r : ℕ) (t : List ℕ) (p : ℕ × List ℕ) : Type 0 where
 based_sound : (r : ℕ) (t : List ℕ) (p : ℕ × List ℕ) → based_at r t ≡ Some p → Read r t p
 unfolding based_at
 based_sound r t p h =
-    let k = chosen_some (may_begin r t && (has_digit_at r t && may_end r (after_digits r t))) (magnitude_at r t, after_digits r t) p h in
-    let a = and_parts (may_begin r t) _ k.0 in
+    let k = chosen_some (may_begin_number r t && (has_digit_at r t && may_end r (after_digits r t))) (magnitude_at r t, after_digits r t) p h in
+    let a = and_parts (may_begin_number r t) _ k.0 in
     let b = and_parts (has_digit_at r t) _ a.1 in
     record { front = a.0; some = b.0; ends = b.1; is = k.1 }
 

@@ -1,24 +1,21 @@
 -- A number that was found, after a minus.
-use Rattle.std.proofs.Common.{◌≡◌, ℕ, zero, suc, ◌+◌, ◌≤◌, ◌⊎◌, inl, inr, Bool, true, false, cond, ◌==◌, List, [], ◌∷◌, ◌++◌, length, take, drop, refl, sym, ap, subst, ◌∙◌, arith, length-take-le}
-use Rattle.std.proofs.lemmas.List.{take-append-drop, append_cancel_right}
-use Rattle.std.proofs.lemmas.Str.{IsUtf8-take, IsUtf8-drop, IsUtf8-append, IsUtf8-from_ascii, chars-append}
-use Rattle.std.specs.Str.{chars, IsUtf8, IsAscii}
-use Rattle.rl_tokens.specs.declared.kind.Kind.TheVariants.{Int, Float}
-use Rattle.rl_tokens.specs.Texts.{IsTail}
-use Rattle.rl_tokens.specs.Numbers.{NoSign, Minus, FloatReads}
-use Rattle.rl_tokens.specs.Reading.{HasNoInteger, HasSuffix}
+use Rattle.rl_grammar.proofs.Names.{◌≡◌, ℕ, zero, suc, ◌+◌, ◌≤◌, ◌⊎◌, inl, inr, Bool, true, false, cond, ◌==◌, List, [], ◌∷◌, ◌++◌, length, take, drop, refl, sym, ap, subst, ◌∙◌, arith, append_cancel_right, IsUtf8-take, IsUtf8-drop, chars-append, IsUtf8, IsAscii, Int, Float, IsTail, NoSign, Minus, FloatReads, HasNoInteger, HasSuffix}
+use Rattle.std.proofs.Common.{length-take-le}
+use Rattle.std.proofs.lemmas.List.{take-append-drop}
+use Rattle.std.proofs.lemmas.Str.{IsUtf8-append, IsUtf8-from_ascii}
+use Rattle.std.specs.Str.{chars}
 use Rattle.rl_tokens.proofs.StrictNumbers.{behind_minus}
 use Rattle.rl_grammar.specs.declared.found.Found.{Found}
 use Rattle.rl_grammar.specs.Founds.{IsFound}
 use Rattle.rl_grammar.specs.Mirrors.NumberAt.{sign_at}
-use Rattle.rl_grammar.specs.NumberShapes.{HasMagnitude, IsSplitInteger}
+use Rattle.rl_grammar.specs.NumberShapes.{HasMagnitude}
 use Rattle.rl_grammar.specs.Mirrors.PlainAt.{is_plain_integer, is_plain_digits, is_plain_float}
 use Rattle.rl_grammar.specs.WholeShapes.{IsPlain}
 use Rattle.rl_grammar.proofs.FloatLemmas.{float_past, float_sound}
 use Rattle.rl_grammar.proofs.FoundLemmas.{Whether, Of, NumberBody, integer_found, float_found, float_alone}
 use Rattle.rl_grammar.proofs.FrontLemmas.{minus_chars}
 use Rattle.rl_grammar.proofs.MinusLemmas.{int_on, float_at-minus}
-use Rattle.rl_grammar.proofs.PlainNumberLemmas.{whether_integer, whether_float}
+use Rattle.rl_grammar.proofs.PlainNumberLemmas.{IsSplitInteger, whether_integer, whether_float}
 
 same_whether : (b c : Bool) (P : Type 0) → (b ≡ true → P) × (P → b ≡ true) → (c ≡ true → P) × (P → c ≡ true) → b ≡ c
 same_whether true c P h k = sym (k.1 (h.0 refl))

@@ -1,16 +1,9 @@
 -- Literals after a minus.
-use Rattle.std.proofs.Common.{◌≡◌, ℕ, ◌⊎◌, inl, inr, Bool, true, false, cond, ◌==◌, ◌&&◌, List, [], ◌∷◌, ◌++◌, Some, None, refl, sym, ap, subst, ◌∙◌}
-use Rattle.std.specs.Char.{is_ascii_digit}
-use Rattle.rl_tokens.specs.declared.kind.Kind.{Kind}
-use Rattle.rl_tokens.specs.declared.kind.Kind.TheVariants.{Str, ByteStr, CStr, Byte, Char, Int, Float, Bool as BoolKind}
-use Rattle.rl_tokens.specs.Texts.{first_passes}
-use Rattle.rl_tokens.specs.Quoted.{is_string, is_single, opener, raw_opener}
-use Rattle.rl_tokens.specs.Numbers.{Sign, NoSign, Minus, IntReads}
-use Rattle.rl_tokens.specs.Reading.{Contents, HasNoReading, HasSuffix, ReadsQuoted, ReadsBool, truth_text}
+use Rattle.rl_grammar.proofs.Names.{◌≡◌, ℕ, ◌⊎◌, inl, inr, Bool, true, false, cond, ◌==◌, ◌&&◌, List, [], ◌∷◌, ◌++◌, Some, None, refl, sym, ap, subst, ◌∙◌, is_ascii_digit, Kind, Str, ByteStr, CStr, Byte, Char, Int, Float, BoolKind, first_passes, is_string, is_single, opener, raw_opener, Sign, NoSign, Minus, IntReads, Contents, HasNoReading, HasSuffix, ReadsQuoted, truth_text, both_ways, eqb-true}
+use Rattle.rl_tokens.specs.Reading.{ReadsBool}
 use Rattle.rl_grammar.specs.Mirrors.NumberAt.{sign_at, float_at, after_exponent, after_fraction, after_digits, is_suffix}
-use Rattle.rl_grammar.specs.NumberShapes.{HasNoNumber}
+use Rattle.rl_grammar.specs.NumberShapes.{ReadsNoNumber}
 use Rattle.rl_grammar.specs.WholeShapes.{IsSplit}
-use Rattle.std.proofs.lemmas.Bool.{both_ways, eqb-true}
 use Rattle.rl_tokens.proofs.StrictNumbers.{behind_minus, minus_int}
 use Rattle.rl_grammar.proofs.FloatLemmas.{float_past, float_sound}
 use Rattle.rl_grammar.proofs.DigitLemmas.{int_sign}
@@ -42,20 +35,15 @@ double_minus (c ∷ cs) h = go (c == 45) refl h
     go true e k = ap (λ z. float_at (45 ∷ z ∷ cs)) (eqb-true c 45 e)
 
 -- where no number stands, none stands after a minus
-pub negative_none : (t : List ℕ) → sign_at t ≡ NoSign → HasNoNumber t → HasNoNumber (45 ∷ t)
+pub negative_none : (t : List ℕ) → sign_at t ≡ NoSign → ReadsNoNumber t → ReadsNoNumber (45 ∷ t)
 negative_none t e h Int c x r = h Int _ x (record { sign = NoSign; magnitude = r.magnitude; reads = (behind_minus t x r.sign r.magnitude r.reads).0; within = r.within; contents_is = refl })
 negative_none t e h Float c x r =
     let f = float_sound t x (sym (float_at-minus t e) ∙ float_past (45 ∷ t) r.numeral x r.reads) in
     h Float _ x (record { numeral = f.0; reads = f.1; no_integer = λ s m y q. r.no_integer Minus m y (int_on t s m y e q); contents_is = refl })
-negative_none t e h Str c x r = r
-negative_none t e h ByteStr c x r = r
-negative_none t e h CStr c x r = r
-negative_none t e h Byte c x r = r
-negative_none t e h Char c x r = r
-negative_none t e h BoolKind c x r = r
+negative_none t e h kind c x r = r
 
 -- no number stands after two minuses
-pub negative_twice : (t : List ℕ) → sign_at t ≡ Minus → HasNoNumber (45 ∷ t)
+pub negative_twice : (t : List ℕ) → sign_at t ≡ Minus → ReadsNoNumber (45 ∷ t)
 negative_twice t e Int c x r =
     let q = int_sign t NoSign r.magnitude x ((behind_minus t x r.sign r.magnitude r.reads).0) in
     let w : Minus ≡ NoSign = sym e ∙ q in
@@ -63,12 +51,7 @@ negative_twice t e Int c x r =
 negative_twice t e Float c x r =
     let q = sym (double_minus t e) ∙ float_past (45 ∷ t) r.numeral x r.reads in
     absurd (cc)
-negative_twice t e Str c x r = r
-negative_twice t e ByteStr c x r = r
-negative_twice t e CStr c x r = r
-negative_twice t e Byte c x r = r
-negative_twice t e Char c x r = r
-negative_twice t e BoolKind c x r = r
+negative_twice t e kind c x r = r
 
 -- a number stays one after a minus
 negative_int : (t x : List ℕ) → sign_at t ≡ NoSign → HasSuffix Int t x → HasSuffix Int (45 ∷ t) x
@@ -99,20 +82,14 @@ string_front ByteStr r h = refl
 string_front CStr r h = refl
 string_front Byte r h = refl
 string_front Char r h = refl
-string_front Int r h = absurd (cc)
-string_front Float r h = absurd (cc)
-string_front BoolKind r h = absurd (cc)
+string_front kind r h = absurd (cc)
 
 -- a raw string
 raw_front : (k : Kind) (r : List ℕ) → is_string k ≡ true → first_passes is_minus (raw_opener k ++ r) ≡ false
 raw_front Str r h = refl
 raw_front ByteStr r h = refl
 raw_front CStr r h = refl
-raw_front Byte r h = absurd (cc)
-raw_front Char r h = absurd (cc)
-raw_front Int r h = absurd (cc)
-raw_front Float r h = absurd (cc)
-raw_front BoolKind r h = absurd (cc)
+raw_front kind r h = absurd (cc)
 
 -- a character or a byte
 single_front : (k : Kind) (r : List ℕ) → is_single k ≡ true → first_passes is_minus (opener k ++ r) ≡ false
@@ -121,9 +98,7 @@ single_front Char r h = refl
 single_front Str r h = refl
 single_front ByteStr r h = refl
 single_front CStr r h = refl
-single_front Int r h = absurd (cc)
-single_front Float r h = absurd (cc)
-single_front BoolKind r h = absurd (cc)
+single_front kind r h = absurd (cc)
 
 -- a truth value
 truth_front : (b : Bool) → first_passes is_minus (truth_text b) ≡ false
@@ -149,7 +124,7 @@ pub no_truth : (t x : List ℕ) (c : Contents) → ReadsBool (45 ∷ t) c x → 
 no_truth t x c r = both_ways true (ap (first_passes is_minus) r.text_is ∙ truth_front r.truth) refl
 
 -- after a minus only numbers stand
-pub negative_no_reading : (t : List ℕ) → HasNoNumber (45 ∷ t) → HasNoReading (45 ∷ t)
+pub negative_no_reading : (t : List ℕ) → ReadsNoNumber (45 ∷ t) → HasNoReading (45 ∷ t)
 negative_no_reading t h Int c x r = h Int c x r
 negative_no_reading t h Float c x r = h Float c x r
 negative_no_reading t h Str c x r = no_quoted t x Str c r

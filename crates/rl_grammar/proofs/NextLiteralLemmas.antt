@@ -1,5 +1,5 @@
 -- No literal stands next in a list.
-use Rattle.std.proofs.Common.{◌≡◌, ◌≢◌, ◌⊎◌, inl, inr, [], Option, Some, None, refl, sym, subst}
+use Rattle.rl_grammar.proofs.Names.{◌≡◌, ◌≢◌, ◌⊎◌, inl, inr, [], Option, Some, None, refl, sym, subst}
 use Rattle.std.specs.Prelude.{IfNone}
 use Rattle.std.specs.Str.{chars}
 use Rattle.rl_tokens.specs.declared.cursor.Lexeme.{Lexeme}

@@ -1,21 +1,14 @@
 -- The digits of a number that was found.
-use Rattle.std.proofs.Common.{◌≡◌, ◌≢◌, ℕ, inl, inr, true, false, List, ◌++◌, refl, sym, ap, subst, ◌∙◌}
-use Rattle.std.proofs.lemmas.List.{append_cancel_right}
-use Rattle.std.proofs.lemmas.Str.{chars-append}
-use Rattle.std.specs.Str.{chars, IsUtf8}
-use Rattle.std.specs.Fmt.{decimal}
-use Rattle.rl_tokens.specs.declared.kind.Kind.{Kind}
-use Rattle.rl_tokens.specs.declared.kind.Kind.TheVariants.{Str, ByteStr, CStr, Byte, Char, Int, Float, Bool as BoolKind}
-use Rattle.rl_tokens.specs.Numbers.{FloatReads, float_digits, sign_text}
-use Rattle.rl_tokens.specs.Reading.{HasSuffix, HasNoFloat}
+use Rattle.rl_grammar.proofs.Names.{◌≡◌, ◌≢◌, ℕ, inl, inr, true, false, List, ◌++◌, refl, sym, ap, subst, ◌∙◌, append_cancel_right, chars-append, IsUtf8, decimal, Kind, Str, ByteStr, CStr, Byte, Char, Int, Float, BoolKind, FloatReads, float_digits, sign_text, HasSuffix, HasNoFloat}
+use Rattle.std.specs.Str.{chars}
 use Rattle.rl_grammar.specs.declared.found.Found.{Found}
 use Rattle.rl_grammar.specs.Founds.{IsFound, IsFoundFloat, IsFoundNumber, StandsIn, body_in, suffix_in}
 use Rattle.rl_grammar.specs.Mirrors.NumberAt.{sign_at}
-use Rattle.rl_grammar.specs.NumberShapes.{AreDigits, IsSplitInteger, IsNumber}
+use Rattle.rl_grammar.specs.NumberShapes.{AreDigits, IsNumber}
 use Rattle.rl_grammar.specs.WholeShapes.{IsSplit, IsPlain}
 use Rattle.rl_grammar.proofs.DigitLemmas.{int_contents, same_numeral}
 use Rattle.rl_grammar.proofs.FoundLemmas.{body_text, Whether}
-use Rattle.rl_grammar.proofs.PlainNumberLemmas.{no_plain_float, plain_integer, plain_float, plain_contents, plain_numeral}
+use Rattle.rl_grammar.proofs.PlainNumberLemmas.{IsSplitInteger, no_plain_float, plain_integer, plain_float, plain_contents, plain_numeral}
 
 -- ---- which number was found
 
@@ -106,23 +99,10 @@ int_number k t h e = subst (λ j. IsNumber j t) e h
 pub is_float : (k : Kind) (t : List ℕ) → IsNumber k t → k ≢ Int → IsNumber Float t
 is_float Int t h n = absurd (n refl)
 is_float Float t h n = h
-is_float Str t h n = absurd h
-is_float ByteStr t h n = absurd h
-is_float CStr t h n = absurd h
-is_float Byte t h n = absurd h
-is_float Char t h n = absurd h
-is_float BoolKind t h n = absurd h
-
-pub float_not_plain : (t : List ℕ) → HasNoFloat (chars t) → Whether false Float t
-float_not_plain t n = no_plain_float t n
+is_float kind t h n = absurd h
 
 -- and its kind is that of floats
 pub float_kind : (k : Kind) (t : List ℕ) → IsNumber k t → k ≢ Int → k ≡ Float
 float_kind Int t h n = absurd (n refl)
 float_kind Float t h n = refl
-float_kind Str t h n = absurd h
-float_kind ByteStr t h n = absurd h
-float_kind CStr t h n = absurd h
-float_kind Byte t h n = absurd h
-float_kind Char t h n = absurd h
-float_kind BoolKind t h n = absurd h
+float_kind kind t h n = absurd h

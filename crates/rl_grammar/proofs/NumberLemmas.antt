@@ -1,12 +1,10 @@
 -- Numbers, an integer before a float.
-use Rattle.std.proofs.Common.{ℕ, List, arith}
-use Rattle.rl_tokens.specs.declared.kind.Kind.TheVariants.{Str, ByteStr, CStr, Byte, Char, Int, Float, Bool as BoolKind}
-use Rattle.rl_tokens.specs.Reading.{HasNoFloat, HasNoInteger, IsPast}
-use Rattle.rl_grammar.specs.NumberShapes.{HasNoNumber}
+use Rattle.rl_grammar.proofs.Names.{ℕ, List, arith, Str, ByteStr, CStr, Byte, Char, Int, Float, BoolKind, HasNoFloat, HasNoInteger, IsPast}
+use Rattle.rl_grammar.specs.NumberShapes.{ReadsNoNumber}
 use Rattle.rl_tokens.proofs.OneNumber.{int_once}
 
 -- past the limit no number stands, no float either
-pub past_number : (t : List ℕ) → IsPast t → HasNoNumber t
+pub past_number : (t : List ℕ) → IsPast t → ReadsNoNumber t
 past_number t p Int c x r =
     let o = int_once t p.suffix x p.sign r.sign p.magnitude r.magnitude p.reads r.reads in
     let small = r.within in
@@ -14,20 +12,10 @@ past_number t p Int c x r =
     let same = o.1 in
     omega arith
 past_number t p Float c x r = r.no_integer p.sign p.magnitude p.suffix p.reads
-past_number t p Str c x r = r
-past_number t p ByteStr c x r = r
-past_number t p CStr c x r = r
-past_number t p Byte c x r = r
-past_number t p Char c x r = r
-past_number t p BoolKind c x r = r
+past_number t p kind c x r = r
 
 -- without integer and float there is no number
-pub no_number : (t : List ℕ) → HasNoInteger t → HasNoFloat t → HasNoNumber t
+pub no_number : (t : List ℕ) → HasNoInteger t → HasNoFloat t → ReadsNoNumber t
 no_number t h f Int c x r = h r.sign r.magnitude x r.reads
 no_number t h f Float c x r = f r.numeral x r.reads
-no_number t h f Str c x r = r
-no_number t h f ByteStr c x r = r
-no_number t h f CStr c x r = r
-no_number t h f Byte c x r = r
-no_number t h f Char c x r = r
-no_number t h f BoolKind c x r = r
+no_number t h f kind c x r = r

@@ -1,10 +1,5 @@
 -- A text has one flaw at most.
-use Rattle.std.proofs.Common.{◌≡◌, ℕ, Bool, true, false, ◌+◌, List, [], ◌∷◌, ◌++◌, Some, None, refl, sym, ap, subst, ◌∙◌, inl, inr, append_assoc}
-use Rattle.std.proofs.lemmas.Bool.{both_ways}
-use Rattle.std.proofs.lemmas.List.{append_cancel_right}
-use Rattle.rl_tokens.specs.declared.kind.Kind.{Kind}
-use Rattle.rl_tokens.specs.Reading.{HasReading, truth_text}
-use Rattle.rl_tokens.specs.Texts.{byte_len, first_passes}
+use Rattle.rl_grammar.proofs.Names.{◌≡◌, ℕ, Bool, true, false, ◌+◌, List, [], ◌∷◌, ◌++◌, Some, None, refl, sym, ap, subst, ◌∙◌, inl, inr, append_assoc, both_ways, append_cancel_right, Kind, HasReading, truth_text, byte_len, first_passes}
 use Rattle.rl_grammar.specs.declared.flaws.Flaw.{Flaw}
 use Rattle.rl_grammar.specs.declared.flaws.FlawKind.{FlawKind}
 use Rattle.rl_grammar.specs.declared.flaws.FlawKind.TheVariants.{Empty, NoLiteral, Unfinished}
@@ -47,18 +42,18 @@ meets (c ∷ f) (d ∷ g) r s e =
     let same : c ≡ d = (let h : c ∷ (f ++ r) ≡ d ∷ (g ++ s) = e in cc) in
     subst (λ z. Meets (c ∷ f) (z ∷ g) r s) same (meets_on c f g r s (meets f g r s more))
 
--- what begins a literal isn't stuck before its end
-not_before : (text r s : List ℕ) (a : StopsBefore text r) (b : StopsBefore text s) (c : ℕ) (more : List ℕ) → b.front ≡ a.front ++ (c ∷ more) → r ≡ c ∷ (more ++ s) → ⊥
-not_before text r s a b c more e h = a.stuck c (more ++ s) (more ++ b.begins.ending) h (subst HasReading (ap (λ z. z ++ b.begins.ending) e ∙ append_assoc a.front (c ∷ more) b.begins.ending) b.begins.reads)
+-- what can be completed isn't stuck before its end
+not_before : (takes : List ℕ → Type 0) (text r s : List ℕ) (a : StopsBefore takes text r) (b : StopsBefore takes text s) (c : ℕ) (more : List ℕ) → b.front ≡ a.front ++ (c ∷ more) → r ≡ c ∷ (more ++ s) → ⊥
+not_before takes text r s a b c more e h = a.stuck c (more ++ s) (more ++ b.begins.ending) h (subst takes (ap (λ z. z ++ b.begins.ending) e ∙ append_assoc a.front (c ∷ more) b.begins.ending) b.begins.is_taken)
 
 -- a text stops at one place
-stops_once : (text r s : List ℕ) (a : StopsBefore text r) (b : StopsBefore text s) → (a.front ≡ b.front) × (r ≡ s)
-stops_once text r s a b = go (meets a.front b.front r s (sym a.text_is ∙ b.text_is))
+stops_once : (takes : List ℕ → Type 0) (text r s : List ℕ) (a : StopsBefore takes text r) (b : StopsBefore takes text s) → (a.front ≡ b.front) × (r ≡ s)
+stops_once takes text r s a b = go (meets a.front b.front r s (sym a.text_is ∙ b.text_is))
   where
     go : Meets a.front b.front r s → (a.front ≡ b.front) × (r ≡ s)
     go (Same e h) = (e, h)
-    go (Before c more e h) = absurd (not_before text r s a b c more e h)
-    go (After c more e h) = absurd (not_before text s r b a c more e h)
+    go (Before c more e h) = absurd (not_before takes text r s a b c more e h)
+    go (After c more e h) = absurd (not_before takes text s r b a c more e h)
 
 -- ---- the opener
 
@@ -186,7 +181,7 @@ abbrev HasNumberFlaw : FlawKind → List ℕ → List ℕ → Type 0
 HasNumberFlaw k t rest = (first_passes is_number_front t ≡ true) × HasKind (IsNumberFlaw k) t rest
 
 -- at one place one kind fits
-kinds_once : (k l : FlawKind) (t rest : List ℕ) → StopsBefore t rest → IsFlawOf k t rest → IsFlawOf l t rest → k ≡ l
+kinds_once : (k l : FlawKind) (t rest : List ℕ) → StopsBefore HasReading t rest → IsFlawOf k t rest → IsFlawOf l t rest → k ≡ l
 kinds_once k l t rest s p q = go p q
   where
     not_number : (k l : FlawKind) → HasQuotedFlaw k t rest → HasNumberFlaw l t rest → ⊥
@@ -214,8 +209,7 @@ kinds_once k l t rest s p q = go p q
 -- in each form one piece is spoiled
 form_piece : (form : QuotedForm) (kind : Kind) (inside p q rest : List ℕ) → IsPiece form kind inside p rest → IsPiece form kind inside q rest → p ≡ q
 form_piece CookedForm kind inside p q rest a b = pieces_once kind inside p q a b
-form_piece RawForm kind inside p q rest a b = a ∙ sym b
-form_piece SingleForm kind inside p q rest a b = a ∙ sym b
+form_piece k kind inside p q rest a b = a ∙ sym b
 
 -- one piece is spoiled
 piece_once : (t p q rest : List ℕ) → IsPieceOf t p rest → IsPieceOf t q rest → p ≡ q
@@ -251,7 +245,7 @@ flaw_same a b kind from lo hi =
 -- one flaw explains the text
 pub one_flaw : (text : List ℕ) → HasOneFlaw text
 one_flaw text a b p q =
-    let same = stops_once text p.place.rest q.place.rest p.place.stops q.place.stops in
+    let same = stops_once HasReading text p.place.rest q.place.rest p.place.stops q.place.stops in
     let lo = p.place.lo_is ∙ ap byte_len same.0 ∙ sym q.place.lo_is in
     let hi = p.place.hi_is ∙ ap (λ z. z + first_len p.place.rest) lo ∙ ap (λ z. b.lo + first_len z) same.1 ∙ sym q.place.hi_is in
     let kind = kinds_once a.kind b.kind text p.place.rest p.place.stops p.kind (subst (IsFlawOf b.kind text) (sym same.1) q.kind) in

@@ -1,28 +1,22 @@
 -- At one place a text that begins as a number has one flaw.
-use Rattle.std.proofs.Common.{◌≡◌, ℕ, ◌≤◌, Bool, true, false, not, cond, ◌&&◌, ◌||◌, ◌==◌, List, [], ◌∷◌, ◌++◌, refl, sym, ap, subst, ◌∙◌, inl, inr, ◌⊎◌, arith, append_assoc, append-nil, is_none}
-use Rattle.std.specs.Char.{is_ascii_digit}
-use Rattle.std.specs.List.{list_all}
-use Rattle.std.proofs.lemmas.Bool.{and_from, and_parts, and_right, both_ways, eqb-true, or_from}
-use Rattle.unicode_ident.specs.Ident.{is_xid_continue}
+use Rattle.rl_grammar.proofs.Names.{◌≡◌, ℕ, ◌≤◌, Bool, true, false, not, cond, ◌&&◌, ◌||◌, ◌==◌, List, [], ◌∷◌, ◌++◌, refl, sym, ap, subst, ◌∙◌, inl, inr, ◌⊎◌, arith, append_assoc, append-nil, is_ascii_digit, list_all, and_from, and_parts, and_right, both_ways, eqb-true, or_from, is_xid_continue, Base, Binary, Octal, Decimal, Hexadecimal, radix, prefix, Sign, NoSign, Minus, sign_text, Fraction, NoFraction, Dot, IsFraction, fraction_text, IntReads, is_exponent_letter, place_value, without_underscores, HasNoInteger, HasReading, IsPast, first_passes, is_row_part}
+use Rattle.std.proofs.Common.{is_none}
 use Rattle.unicode_ident.proofs.IdentLemmas.{is_xid_continue-ascii}
 use Rattle.rl_tokens.proofs.Basics.{all_weaker, apart, digit_is_ten}
-use Rattle.rl_tokens.specs.Numbers.{Base, Binary, Octal, Decimal, Hexadecimal, radix, prefix, Sign, NoSign, Minus, sign_text, Fraction, NoFraction, Dot, IsFraction, fraction_text, IntReads, is_exponent_letter}
-use Rattle.rl_tokens.specs.Quoted.{place_value, without_underscores}
-use Rattle.rl_tokens.specs.Reading.{HasNoInteger, HasReading, IsPast}
-use Rattle.rl_tokens.specs.Texts.{first_passes, is_row_part}
 use Rattle.rl_grammar.specs.NumberFlaws.{EndsInSign, IsAnyNumber, IsNumberFlaw, IsSignedPower}
 use Rattle.rl_grammar.specs.WholeShapes.{is_number_front}
 use Rattle.rl_grammar.specs.declared.flaws.FlawKind.{FlawKind}
 use Rattle.rl_grammar.specs.declared.flaws.FlawKind.TheVariants.{BadSuffix, NoExponentDigit, NoNumber, TooLarge, Unfinished}
 use Rattle.rl_grammar.specs.Mirrors.NumberAt.{after_minus, capped, has_value, radix_at, radix_of}
-use Rattle.rl_grammar.proofs.FloatLemmas.{no_float, passes_more}
+use Rattle.rl_grammar.proofs.FloatLemmas.{no_float}
 use Rattle.rl_grammar.proofs.HeadLemmas.{no_head_float, no_head_int}
 use Rattle.rl_grammar.proofs.IntegerLemmas.{minus_past, no_int, radix_past}
-use Rattle.rl_grammar.proofs.NumberFlawLemmas.{all_breaks, all_off, dot_reads, dot_stands, marks_are_row, marks_no_digit, part_continues, sign_no_continue, signed_reads, suffix_continues, tail_reads, ten_reads, undotted}
+use Rattle.rl_grammar.proofs.NumberReads.{dot_reads, dot_stands, marks_are_row, marks_no_digit, part_continues, sign_no_continue, signed_reads, suffix_continues, tail_reads, ten_reads, undotted}
 use Rattle.rl_grammar.proofs.NumberLemmas.{no_number}
-use Rattle.rl_grammar.proofs.NumberStopLemmas.{names, names_no_dot, ten_first, ten_fronted}
+use Rattle.rl_grammar.proofs.NumberFlawLemmas.{names, names_no_dot, ten_first, ten_fronted}
 use Rattle.rl_grammar.proofs.ReadingLemmas.{only_number}
 use Rattle.rl_grammar.proofs.RunLemmas.{suffix_complete}
+use Rattle.rl_grammar.proofs.TestLemmas.{passes_more, all_breaks, all_off}
 
 -- ---- a number may begin so
 

@@ -1,11 +1,5 @@
 -- At one place a raw string has one flaw.
-use Rattle.std.proofs.Common.{◌≡◌, ℕ, zero, suc, true, false, not, cond, List, [], ◌∷◌, ◌++◌, replicate, refl, sym, ap, ◌∙◌, inl, inr, ◌⊎◌, append_assoc}
-use Rattle.std.proofs.lemmas.Bool.{both_ways, eqb-true, not-true}
-use Rattle.rl_tokens.specs.declared.kind.Kind.{Kind}
-use Rattle.rl_tokens.specs.declared.kind.Kind.TheVariants.{Str, ByteStr, CStr, Byte, Char, Int, Float, Bool as BoolKind}
-use Rattle.rl_tokens.specs.Classes.{is_hash}
-use Rattle.rl_tokens.specs.Texts.{first_passes}
-use Rattle.rl_tokens.specs.Quoted.{is_raw}
+use Rattle.rl_grammar.proofs.Names.{◌≡◌, ℕ, zero, suc, true, false, not, cond, List, [], ◌∷◌, ◌++◌, replicate, refl, sym, ap, ◌∙◌, inl, inr, ◌⊎◌, append_assoc, both_ways, eqb-true, not-true, Kind, Str, ByteStr, CStr, Byte, Char, Int, Float, BoolKind, is_hash, first_passes, is_raw}
 use Rattle.rl_grammar.specs.declared.flaws.FlawKind.{FlawKind}
 use Rattle.rl_grammar.specs.declared.flaws.FlawKind.TheVariants.{LateQuote, NoQuote, NotAscii, Nul, Unclosed, Unfinished}
 use Rattle.rl_grammar.specs.FlawKinds.{IsOpened, IsUnopened, RawFlaw, is_quote}

@@ -1,21 +1,17 @@
 -- At one place a unit of a quoted literal has one flaw.
-use Rattle.std.proofs.Common.{◌≡◌, ℕ, ◌+◌, ◌*◌, ◌||◌, ◌&&◌, Bool, true, false, not, cond, eqb, ltb, List, [], ◌∷◌, ◌++◌, None, refl, sym, ap, subst, ◌∙◌, inl, inr, ◌⊎◌, arith, append_assoc, append-nil}
-use Rattle.std.specs.Char.{digit_value}
-use Rattle.std.specs.List.{AllByRecursion, list_all}
-use Rattle.std.proofs.lemmas.Bool.{and_parts, eqb-true, le-ltb, lt-ltb, ne_eqb, not-true, or_parts}
-use Rattle.std.proofs.lemmas.List.{append_cancel_right}
+use Rattle.rl_grammar.proofs.Names.{◌≡◌, ℕ, ◌+◌, ◌*◌, ◌||◌, ◌&&◌, Bool, true, false, not, cond, eqb, ltb, List, [], ◌∷◌, ◌++◌, None, refl, sym, ap, subst, ◌∙◌, inl, inr, ◌⊎◌, arith, append_assoc, append-nil, digit_value, AllByRecursion, list_all, and_parts, eqb-true, le-ltb, lt-ltb, ne_eqb, not-true, or_parts, append_cancel_right, Kind, first_passes, is_underscore, QuotedUnit, Plain, CrLf, Named, Hex, Unicode, Continuation, Zero, IsUnit, EndsBefore, is_hex_digit, is_string, texts, unit_text, unit_value}
 use Rattle.rl_tokens.proofs.Basics.{apart}
-use Rattle.rl_tokens.specs.declared.kind.Kind.{Kind}
-use Rattle.rl_tokens.specs.Texts.{first_passes, is_among, is_underscore}
-use Rattle.rl_tokens.specs.Quoted.{QuotedUnit, Plain, CrLf, Named, Hex, Unicode, Continuation, Zero, IsUnit, EndsBefore, is_hex_digit, is_string, texts, unit_text, unit_value}
+use Rattle.rl_tokens.specs.Texts.{is_among}
 use Rattle.rl_grammar.specs.declared.flaws.FlawKind.{FlawKind}
 use Rattle.rl_grammar.specs.declared.flaws.FlawKind.TheVariants.{Unclosed, UnknownEscape, NoUnicode, NoHexDigit, NoBrace, EmptyBraces, TooManyDigits, PastAscii, PastUnicode, Surrogate, Nul, NotAscii, LoneCr, MustEscape, NoCharacter, TwoCharacters}
-use Rattle.rl_grammar.specs.FlawKinds.{IsBraced, digit_count, number_of, FirstDigit, SecondDigit, AfterBrace, AfterDigits, IsNoCode, HasNoCode, AtBrace, AtSixth, AsItIs, ByLetter, ByDigits, ByNumber, AfterUnits, BeginsUnits, CloserFlaw, IsNotClosed, UnitFlaw, is_apostrophe}
-use Rattle.rl_grammar.specs.Mirrors.UnitAt.{escape_at, found, hex_at, unit_at, unicode_digits_at, unicode_at}
+use Rattle.rl_grammar.specs.FlawKinds.{IsBraced, digit_count, number_of, FirstDigit, SecondDigit, AfterBrace, AfterDigits, IsNoCode, HasNoCode, AtBrace, AtSixth, AsItIs, ByLetter, ByDigits, ByNumber, AfterUnits, BeginsUnits, CloserFlaw, IsNotClosed, UnitFlaw}
+use Rattle.rl_tokens.specs.Sources.{is_apostrophe}
+use Rattle.rl_grammar.specs.Mirrors.UnitAt.{escape_at, found, hex_at, unit_at, unicode_at}
 use Rattle.rl_grammar.specs.Mirrors.UnitFlawAt.{character_flaw_of, code_flaw_of}
 use Rattle.rl_grammar.specs.Rows.{RowEnds}
 use Rattle.rl_grammar.proofs.RowLemmas.{ends_before}
 use Rattle.rl_grammar.proofs.UnitLemmas.{quote_and_return, some_pair, unit_complete, unit_nil}
+use Rattle.rl_grammar.proofs.CodeDigitLemmas.{unicode_digits_at, unicode_is}
 
 -- ---- the kind, by what stands before the place and by the character there
 
@@ -89,11 +85,11 @@ not_closed v n (c ∷ cs) h =
 
 -- with what stands before them
 no_end : (kind : Kind) (ds : List ℕ) → first_passes is_hex_digit ds ≡ true → list_all is_part ds ≡ true → unit_at kind (92 ∷ 117 ∷ 123 ∷ ds) ≡ None
-unfolding unit_at escape_at unicode_at
+unfolding unit_at escape_at
 no_end kind [] first each = absurd (cc)
 no_end kind (c ∷ cs) first each =
     let p = and_parts (is_part c) (list_all is_part cs) each in
-    rw first (rw (not_closed (digit_value c) 1 cs p.1) refl)
+    rw (unicode_is kind (123 ∷ c ∷ cs), first, not_closed (digit_value c) 1 cs p.1) refl
 
 -- ---- the kinds
 

@@ -1,5 +1,5 @@
 -- What follows from what a clause says of an `Option`.
-use Rattle.std.proofs.Common.{Option, Some, None}
+use Rattle.rl_grammar.proofs.Names.{Option, Some, None}
 use Rattle.std.specs.Option.{IfSome, IfNone}
 
 -- where nothing is given

@@ -1,10 +1,7 @@
 -- Where the parts of a quoted literal stand.
-use Rattle.std.proofs.Common.{◌≡◌, ℕ, ◌-◌, Bool, List, ◌∷◌, ◌++◌, length, take, drop, sym, ap, ap₂, subst, ◌∙◌, arith}
-use Rattle.std.proofs.Math.Seq.{drop-append_seam}
-use Rattle.std.proofs.lemmas.Str.{IsUtf8-take}
-use Rattle.std.specs.Str.{chars, IsUtf8}
-use Rattle.rl_tokens.specs.declared.kind.Kind.{Kind}
-use Rattle.rl_tokens.specs.Texts.{IsTail}
+use Rattle.rl_grammar.proofs.Names.{◌≡◌, ℕ, Bool, List, ◌∷◌, ◌++◌, length, take, drop, sym, ap, ap₂, subst, ◌∙◌, arith, drop-append_seam, IsUtf8-take, IsUtf8, Kind, IsTail}
+use Rattle.std.proofs.Common.{◌-◌}
+use Rattle.std.specs.Str.{chars}
 use Rattle.rl_tokens.proofs.BehindLemmas.{behind_step, cut_boundary, cut_chars, cut_drop}
 use Rattle.rl_tokens.proofs.Rests.{behind_length}
 use Rattle.rl_tokens.proofs.ScanLemmas.{ascii_first}

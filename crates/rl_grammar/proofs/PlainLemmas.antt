@@ -1,29 +1,18 @@
 -- Runs of plain characters.
-use Rattle.std.proofs.Common.{◌≡◌, ℕ, ◌+◌, ◌&&◌, ◌||◌, ◌==◌, Bool, true, false, not, cond, List, [], ◌∷◌, ◌++◌, refl, sym, ap, ap₂, ◌∙◌, arith, append_assoc}
-use Rattle.std.proofs.lemmas.Bool.{and_right}
-use Rattle.std.proofs.lemmas.List.{append_cancel_right}
-use Rattle.std.specs.List.{list_all, prefix_len}
-use Rattle.rl_tokens.specs.declared.kind.Kind.{Kind}
-use Rattle.rl_tokens.specs.declared.kind.Kind.TheVariants.{Str, ByteStr, CStr, Byte, Char, Int, Float, Bool as BoolKind}
-use Rattle.rl_tokens.specs.Texts.{first_passes}
-use Rattle.rl_tokens.specs.Quoted.{is_string, is_plain}
-use Rattle.rl_tokens.specs.declared.scan.Marks.{Marks}
-use Rattle.rl_tokens.specs.Scanning.{IsNextMark, is_one_of, is_other}
+use Rattle.rl_grammar.proofs.Names.{◌≡◌, ℕ, ◌+◌, ◌&&◌, ◌||◌, ◌==◌, Bool, true, false, not, cond, List, [], ◌∷◌, ◌++◌, refl, sym, ap, ap₂, ◌∙◌, arith, append_assoc, and_right, append_cancel_right, list_all, prefix_len, Kind, Str, ByteStr, CStr, Byte, Char, Int, Float, BoolKind, first_passes, is_string, is_plain, Marks, is_other}
+use Rattle.rl_tokens.specs.Scanning.{IsNextMark, is_one_of}
 use Rattle.rl_grammar.specs.Mirrors.Classes.{is_in_run}
 use Rattle.rl_grammar.specs.Mirrors.PlainAt.{is_kept, is_plain_float}
 use Rattle.rl_tokens.proofs.CommentBytes.{not_equal}
 use Rattle.rl_tokens.proofs.ScanLemmas.{PassesHigh}
+use Rattle.rl_grammar.proofs.TestLemmas.{all_breaks}
 
 -- strings but byte strings take what is past ASCII as it is
 pub plain_high : (kind : Kind) → is_string kind ≡ true → (kind ≡ ByteStr → ⊥) → PassesHigh (is_plain kind)
 plain_high Str h n b high = rw (not_equal b 34 (omega arith) high, not_equal b 92 (omega arith) high, not_equal b 13 (omega arith) high) refl
 plain_high ByteStr h n b high = absurd (n refl)
 plain_high CStr h n b high = rw (not_equal b 34 (omega arith) high, not_equal b 92 (omega arith) high, not_equal b 13 (omega arith) high, not_equal b 0 (omega arith) high) refl
-plain_high Byte h n b high = absurd (cc)
-plain_high Char h n b high = absurd (cc)
-plain_high Int h n b high = absurd (cc)
-plain_high Float h n b high = absurd (cc)
-plain_high BoolKind h n b high = absurd (cc)
+plain_high kind h n b high = absurd (cc)
 
 -- ---- two tests that agree
 
@@ -34,30 +23,16 @@ same_prefix p q (x ∷ xs) same = ap₂ (λ b n. cond b (1 + n) 0) (same x) (sam
 -- what runs of strings but byte strings go on with
 pub in_run_other : (kind : Kind) (m : Marks) (c : ℕ) → (kind ≡ ByteStr → ⊥) → is_other m c ≡ is_in_run kind m c
 in_run_other ByteStr m c n = absurd (n refl)
-in_run_other Str m c n = refl
-in_run_other CStr m c n = refl
-in_run_other Byte m c n = refl
-in_run_other Char m c n = refl
-in_run_other Int m c n = refl
-in_run_other Float m c n = refl
-in_run_other BoolKind m c n = refl
+in_run_other kind m c n = refl
 
 -- strings but byte strings and C strings are of one kind
 pub other_string : (kind : Kind) → is_string kind ≡ true → (kind ≡ ByteStr → ⊥) → (kind ≡ CStr → ⊥) → kind ≡ Str
 other_string Str h n m = refl
 other_string ByteStr h n m = absurd (n refl)
 other_string CStr h n m = absurd (m refl)
-other_string Byte h n m = absurd (cc)
-other_string Char h n m = absurd (cc)
-other_string Int h n m = absurd (cc)
-other_string Float h n m = absurd (cc)
-other_string BoolKind h n m = absurd (cc)
+other_string kind h n m = absurd (cc)
 
 -- ---- a body that is one run
-
-stops_all : (q : ℕ → Bool) (xs : List ℕ) (c : ℕ) (more : List ℕ) → q c ≡ false → list_all q (xs ++ (c ∷ more)) ≡ false
-stops_all q [] c more h = ap (λ b. b && list_all q more) h
-stops_all q (x ∷ xs) c more h = and_right (q x) (list_all q (xs ++ (c ∷ more))) (stops_all q xs c more h)
 
 -- ---- a numeral that is kept
 
@@ -82,7 +57,7 @@ marked_stops b h = ap not h
 
 pub changed_some : (t : List ℕ) (mark : ℕ) (rest : List ℕ) → IsNextMark changed t mark rest → false ≡ is_plain_float t
 changed_some t mark rest n =
-    sym (sym (all_same t) ∙ ap (list_all (is_other changed)) n.text_is ∙ stops_all (is_other changed) n.front mark rest (marked_stops (is_one_of changed mark) n.is_mark))
+    sym (sym (all_same t) ∙ ap (list_all (is_other changed)) n.text_is ∙ all_breaks (is_other changed) n.front mark rest (marked_stops (is_one_of changed mark) n.is_mark))
 
 -- it is where what ends the body ends the run
 pub one_run : (q : ℕ → Bool) (body run rest : List ℕ) → body ++ rest ≡ run ++ rest → list_all q run ≡ true → true ≡ list_all q body
@@ -93,4 +68,4 @@ pub no_run : (q : ℕ → Bool) (body run following rest more : List ℕ) → bo
 no_run q body run following rest [] cut behind_is stops goes_on = absurd (goes_on behind_is)
 no_run q body run following rest (c ∷ more) cut behind_is stops goes_on =
     let whole : body ≡ run ++ (c ∷ more) = append_cancel_right body (run ++ (c ∷ more)) rest (cut ∙ ap (λ z. run ++ z) behind_is ∙ sym (append_assoc run (c ∷ more) rest)) in
-    sym (ap (list_all q) whole ∙ stops_all q run c more (ap (first_passes q) (sym behind_is) ∙ stops))
+    sym (ap (list_all q) whole ∙ all_breaks q run c more (ap (first_passes q) (sym behind_is) ∙ stops))

@@ -1,30 +1,27 @@
 -- Numbers whose body is their digits.
-use Rattle.std.proofs.Common.{◌≡◌, ℕ, suc, zero, ◌+◌, ◌*◌, ◌^◌, ◌<◌, ◌≤◌, ◌/◌, ◌%◌, Bool, true, false, not, ◌||◌, ◌==◌, cond, nat_lt, List, [], ◌∷◌, ◌++◌, length, append_assoc, refl, sym, ap, subst, ◌∙◌, arith}
-use Rattle.std.proofs.lemmas.Bool.{and_parts, and_from, not_from_false, not-true, or_parts}
-use Rattle.std.proofs.lemmas.Bool.Decides.{nat_tests}
-use Rattle.std.proofs.Math.Nat.{pow-suc}
+use Rattle.rl_grammar.proofs.Names.{◌≡◌, ℕ, suc, zero, ◌+◌, ◌*◌, ◌^◌, ◌<◌, ◌≤◌, Bool, true, false, not, ◌||◌, ◌==◌, cond, nat_lt, List, [], ◌∷◌, ◌++◌, length, append_assoc, refl, sym, ap, subst, ◌∙◌, arith, and_parts, and_from, not_from_false, not-true, or_parts, nat_tests, pow-suc, append_cancel_right, encodes-append, encodes-chars, digit_value, is_ascii_digit, decimal, list_all, list_any, IsUtf8, encode_utf8_all, IsTrue, Kind, Float, Int, Base, Binary, Octal, Decimal, Hexadecimal, radix, prefix, IsAfterPrefix, Sign, sign_text, IntReads, limit, FloatReads, float_digits, place_value, without_underscores, Digits, HasNoFloat, first_passes}
+use Rattle.std.proofs.Common.{◌/◌, ◌%◌}
 use native.Mathlib.Numerals.{unary_clauses}
-use Rattle.std.proofs.lemmas.List.{append_cancel_right}
-use Rattle.std.proofs.lemmas.Str.{digit_value_digit, encodes-append, encodes-chars}
-use Rattle.std.specs.Char.{digit_value, is_ascii_digit}
-use Rattle.std.specs.Fmt.{decimal, digits, digits_onto, digit_glyph}
-use Rattle.std.specs.List.{list_all, list_any}
-use Rattle.std.specs.Str.{chars, IsUtf8}
-use Rattle.std.specs.Prelude.{encode_utf8_all, filter, map, if◌then◌else◌, IsTrue}
+use Rattle.std.proofs.lemmas.Str.{digit_value_digit}
+use Rattle.std.specs.Fmt.{digits, digits_onto, digit_glyph}
+use Rattle.std.specs.Str.{chars}
+use Rattle.std.specs.Prelude.{filter, map, if◌then◌else◌}
 use Rattle.rl_tokens.proofs.Basics.{apart}
 use Rattle.rl_tokens.proofs.Dec.{room}
 use Rattle.rl_tokens.proofs.OneNumber.{int_once, float_once}
-use Rattle.rl_tokens.specs.declared.kind.Kind.{Kind}
-use Rattle.rl_tokens.specs.declared.kind.Kind.TheVariants.{Float, Int}
-use Rattle.rl_tokens.specs.Numbers.{Base, Binary, Octal, Decimal, Hexadecimal, radix, is_digit, prefix, IsAfterPrefix, Sign, sign_text, IntReads, limit, FloatReads, float_digits}
-use Rattle.rl_tokens.specs.Quoted.{place_value, without_underscores}
-use Rattle.rl_tokens.specs.Reading.{Digits, HasNoFloat}
-use Rattle.rl_tokens.specs.Texts.{first_passes}
+use Rattle.rl_tokens.specs.Numbers.{is_digit}
 use Rattle.rl_grammar.specs.Mirrors.NumberAt.{after_minus}
-use Rattle.rl_grammar.specs.NumberShapes.{AreDigits, IsSplitInteger}
+use Rattle.rl_grammar.specs.NumberShapes.{AreDigits, HasMagnitude}
 use Rattle.rl_grammar.specs.WholeShapes.{IsPlain}
 use Rattle.rl_grammar.specs.Mirrors.PlainAt.{is_plain_digits, is_plain_integer, is_kept, is_plain_float}
 use Rattle.rl_grammar.proofs.IntegerLemmas.{minus_past}
+
+-- an integer of this magnitude stands there, within the limit, and the body is all before its
+-- suffix
+pub record IsSplitInteger (text : List ℕ) (magnitude : ℕ) (body : List ℕ) : Type 0 where
+  pub suffix : List ℕ
+  pub within : HasMagnitude text magnitude suffix
+  pub cut : text ≡ body ++ suffix
 
 -- ---- what std writes
 
@@ -42,7 +39,7 @@ glyph_digit : (n : ℕ) → is_ascii_digit (glyph n) ≡ true
 glyph_digit n = ap is_ascii_digit (glyph_is n) ∙ small_digit (n % 10) (omega arith)
 
 -- all are digits
-onto_digits : (k n : ℕ) (acc : List ℕ) → list_all is_ascii_digit acc ≡ true → list_all is_ascii_digit (digits_onto k 10 false n acc) ≡ true
+pub onto_digits : (k n : ℕ) (acc : List ℕ) → list_all is_ascii_digit acc ≡ true → list_all is_ascii_digit (digits_onto k 10 false n acc) ≡ true
 onto_digits zero n acc h = h
 onto_digits (suc k) n acc h = go (n / 10 == 0) more (onto_digits k (n / 10) (glyph n ∷ acc) more)
   where

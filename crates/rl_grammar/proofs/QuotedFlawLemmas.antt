@@ -1,26 +1,20 @@
 -- Where the text after an opener stops being the front of a quoted literal, and why.
-use Rattle.std.proofs.Common.{◌≡◌, ℕ, Bool, true, false, cond, eqb, List, [], ◌∷◌, ◌++◌, Some, None, refl, sym, ap, subst, ◌∙◌, inl, inr, append_assoc}
-use Rattle.std.specs.Char.{IsScalar}
-use Rattle.std.specs.List.{AllByRecursion}
-use Rattle.std.proofs.lemmas.Bool.{both_ways, eqb-true}
-use Rattle.rl_tokens.specs.declared.kind.Kind.{Kind}
-use Rattle.rl_tokens.specs.Texts.{first_passes}
-use Rattle.rl_tokens.specs.Quoted.{QuotedUnit, Plain, CrLf, Named, Hex, Unicode, Continuation, Cooked, Single, IsUnit, EndsBefore, is_blank, is_string, is_single, opener, texts, unit_text}
+use Rattle.rl_grammar.proofs.Names.{◌≡◌, ℕ, Bool, true, false, cond, eqb, List, [], ◌∷◌, ◌++◌, Some, None, refl, sym, ap, subst, ◌∙◌, inl, inr, append_assoc, IsScalar, AllByRecursion, both_ways, eqb-true, Kind, first_passes, QuotedUnit, Plain, CrLf, Named, Hex, Unicode, Continuation, Cooked, Single, IsUnit, EndsBefore, is_blank, is_string, is_single, opener, texts, unit_text}
 use Rattle.rl_grammar.specs.declared.flaws.FlawKind.{FlawKind}
 use Rattle.rl_grammar.specs.declared.flaws.FlawKind.TheVariants.{NoCharacter, TwoCharacters}
+use Rattle.rl_grammar.specs.declared.quoted_forms.QuotedForm.{QuotedForm}
 use Rattle.rl_grammar.specs.declared.quoted_forms.QuotedForm.TheVariants.{Cooked as CookedForm, Single as SingleForm}
-use Rattle.rl_grammar.specs.FlawKinds.{AfterUnits, BeginsUnits, CloserFlaw, IsNotClosed, QuotedFlaw}
+use Rattle.rl_grammar.specs.FlawKinds.{BeginsUnits, CloserFlaw, IsNotClosed, QuotedFlaw}
 use Rattle.rl_grammar.specs.Forms.{HasNoParts}
 use Rattle.rl_grammar.specs.Mirrors.StopsInside.{HasParts, StopsInside}
 use Rattle.rl_grammar.specs.Mirrors.UnitAt.{unit_at}
 use Rattle.rl_grammar.specs.Rows.{BeginsRow, RowEnds}
 use Rattle.rl_grammar.proofs.FormLemmas.{cooked_none, single_none, single_stuck, not_both}
 use Rattle.rl_grammar.proofs.RowLemmas.{row_ends_off, row_step}
-use Rattle.rl_grammar.proofs.StopLemmas.{Stops}
 use Rattle.rl_grammar.specs.Mirrors.UnitFlawAt.{after_unit_flaw_of, found_flaw, unit_flaw_at}
-use Rattle.rl_grammar.proofs.UnitFlawLemmas.{unit_stops}
-use Rattle.rl_grammar.proofs.UnitKindLemmas.{Has, unit_has}
+use Rattle.rl_grammar.proofs.UnitFlawLemmas.{Spoils, Stops, unit_spoils}
 use Rattle.rl_grammar.proofs.UnitLemmas.{unit_sound, unit_complete}
+use Rattle.rl_grammar.proofs.TestLemmas.{goes_on}
 
 -- ---- what follows a row of units may be another text with the same front
 
@@ -44,10 +38,6 @@ other_rest kind a v t z row h = record { units = row.units; each = row.each; end
 first_ending : (test : ℕ → Bool) (front rest z t : List ℕ) → t ≡ front ++ rest → (front ≡ [] → first_passes test z ≡ false) → first_passes test t ≡ false → first_passes test (front ++ z) ≡ false
 first_ending test [] rest z t e h k = h refl
 first_ending test (x ∷ xs) rest z t e h k = sym (ap (first_passes test) e) ∙ k
-
-first_same : (test : ℕ → Bool) (front rest t : List ℕ) (c : ℕ) (cs e : List ℕ) → t ≡ front ++ rest → rest ≡ c ∷ cs → first_passes test t ≡ false → first_passes test (front ++ (c ∷ e)) ≡ false
-first_same test [] rest t c cs e a b k = sym (ap (first_passes test) (a ∙ b)) ∙ k
-first_same test (x ∷ xs) rest t c cs e a b k = sym (ap (first_passes test) a) ∙ k
 
 no_first : (q : ℕ) (z x : List ℕ) → first_passes (λ c. eqb c q) z ≡ false → eqb q q ≡ true → z ≡ q ∷ x → ⊥
 no_first q z x h same e = both_ways (first_passes (λ c. eqb c q) z) h (ap (first_passes (λ c. eqb c q)) e ∙ same)
@@ -92,8 +82,8 @@ cooked_stops kind a v t rest s row no_quote stops =
       completes = subst (HasParts CookedForm kind) (sym (append_assoc (texts us) front (done.ending ++ (34 ∷ [])))) (cooked_closed kind (texts us ++ z) (v ++ done.value) s closed);
       stuck = λ c cs e h.
           let y = front ++ (c ∷ e) in
-          let off = other_rest kind a v t y row (first_same is_blank front rest t c cs e stops.text_is h) in
-          let none : HasNoParts CookedForm kind (opener kind ++ (texts us ++ y)) = cooked_none kind (texts us ++ y) v y off (stops.stuck c cs e h) (λ x g. no_first 34 y x (first_same (λ k. eqb k 34) front rest t c cs e stops.text_is h no_quote) refl g) in
+          let off = other_rest kind a v t y row (goes_on is_blank front rest t c cs e stops.text_is h) in
+          let none : HasNoParts CookedForm kind (opener kind ++ (texts us ++ y)) = cooked_none kind (texts us ++ y) v y off (stops.stuck c cs e h) (λ x g. no_first 34 y x (goes_on (λ k. eqb k 34) front rest t c cs e stops.text_is h no_quote) refl g) in
           subst (λ w. HasNoParts CookedForm kind (opener kind ++ w)) (sym (append_assoc (texts us) front (c ∷ e))) none;
     }
 
@@ -117,9 +107,20 @@ no_closer kind a v (c ∷ cs) s row none = go (eqb c 34) refl
         absurd (none v (texts is.units) cs (cooked, refl))
     go false e = e
 
--- the code's place in a string
-pub cooked_place : (kind : Kind) (a v t rest : List ℕ) → is_string kind ≡ true → BeginsRow kind a v t → unit_at kind t ≡ None → HasNoParts CookedForm kind (opener kind ++ a) → (unit_flaw_at kind t).1 ≡ rest → StopsInside CookedForm kind a rest
-cooked_place kind a v t rest s row stuck none same = subst (StopsInside CookedForm kind a) same (cooked_stops kind a v t (unit_flaw_at kind t).1 s row (no_closer kind a v t s row none) (unit_stops kind t (inl s) stuck))
+-- Where the text after an opener stops being the front of a literal of the form, and why.
+pub record HasFlaw (form : QuotedForm) (kind : Kind) (a : List ℕ) (flaw : FlawKind) (rest : List ℕ) : Type 0 where
+  pub place : StopsInside form kind a rest
+  pub has : QuotedFlaw form kind flaw a rest
+
+-- the code's flaw in a string
+pub cooked_flaw : (kind : Kind) (a v t : List ℕ) (k : FlawKind) (rest : List ℕ) → is_string kind ≡ true → BeginsRow kind a v t → unit_at kind t ≡ None → HasNoParts CookedForm kind (opener kind ++ a) → found_flaw k rest ≡ unit_flaw_at kind t → HasFlaw CookedForm kind a k rest
+cooked_flaw kind a v t k rest s row stuck none same =
+    let still = no_closer kind a v t s row none in
+    let found : Spoils kind (unit_at kind) [] t (k, rest) = subst (Spoils kind (unit_at kind) [] t) (sym same) (unit_spoils kind t (inl s) (λ h. still) stuck) in
+    record {
+      place = cooked_stops kind a v t rest s row still found.stops;
+      has = record { units = row.units; each = row.each; spoiled = t; ends = row.ends; text_is = row.text_is; spoils = found.has };
+    }
 
 -- ---- characters and bytes
 
@@ -175,7 +176,7 @@ single_quote_stops kind a v rest s h no_quote =
       ending = 39 ∷ [];
       are_characters = (refl, tt);
       completes = single_closed kind (unit_text u ++ (39 ∷ [])) v s (reads (39 ∷ []));
-      stuck = λ c cs e g. single_none kind (unit_text u ++ (c ∷ e)) (v, c ∷ e) (reads (c ∷ e)) (λ x k. no_first 39 (c ∷ e) x (first_same (λ d. eqb d 39) [] rest rest c cs e refl g no_quote) refl k);
+      stuck = λ c cs e g. single_none kind (unit_text u ++ (c ∷ e)) (v, c ∷ e) (reads (c ∷ e)) (λ x k. no_first 39 (c ∷ e) x (goes_on (λ d. eqb d 39) [] rest rest c cs e refl g no_quote) refl k);
     }
 
 -- where the text is no character and no byte, no quote stands after its unit
@@ -196,27 +197,11 @@ no_single_closer kind a v (c ∷ cs) s h none = go (eqb c 39) refl
         absurd (none v (unit_text begun.unit) cs (single, refl))
     go false e = e
 
--- the code's places in a character or a byte
-pub single_unit_place : (kind : Kind) (a rest : List ℕ) → is_single kind ≡ true → unit_at kind a ≡ None → (unit_flaw_at kind a).1 ≡ rest → StopsInside SingleForm kind a rest
-single_unit_place kind a rest s stuck same = subst (StopsInside SingleForm kind a) same (single_unit_stops kind a (unit_flaw_at kind a).1 s (unit_stops kind a (inr s) stuck))
-
-pub single_quote_place : (kind : Kind) (a v rest : List ℕ) → is_single kind ≡ true → unit_at kind a ≡ Some (v, rest) → HasNoParts SingleForm kind (opener kind ++ a) → StopsInside SingleForm kind a rest
-single_quote_place kind a v rest s h none = single_quote_stops kind a v rest s h (no_single_closer kind a v rest s h none)
-
--- ---- the kinds
-
-pub cooked_kind : (kind : Kind) (a v t : List ℕ) (k : FlawKind) (rest : List ℕ) → is_string kind ≡ true → BeginsRow kind a v t → unit_at kind t ≡ None → HasNoParts CookedForm kind (opener kind ++ a) → found_flaw k rest ≡ unit_flaw_at kind t → AfterUnits kind k a rest
-cooked_kind kind a v t k rest s row stuck none same = record {
-  units = row.units;
-  each = row.each;
-  spoiled = t;
-  ends = row.ends;
-  text_is = row.text_is;
-  spoils = subst (λ p. Has kind p t) (sym same) (unit_has kind t (inl s) (λ h. no_closer kind a v t s row none) stuck);
-}
-
-pub single_unit_kind : (kind : Kind) (a : List ℕ) (k : FlawKind) (rest : List ℕ) → is_single kind ≡ true → unit_at kind a ≡ None → found_flaw k rest ≡ unit_flaw_at kind a → QuotedFlaw SingleForm kind k a rest
-single_unit_kind kind a k rest s stuck same = inl (subst (λ p. Has kind p a) (sym same) (unit_has kind a (inr s) (λ h. absurd (not_both kind h s)) stuck))
+-- the code's flaw where no unit of a character or a byte stands
+pub single_unit_flaw : (kind : Kind) (a : List ℕ) (k : FlawKind) (rest : List ℕ) → is_single kind ≡ true → unit_at kind a ≡ None → found_flaw k rest ≡ unit_flaw_at kind a → HasFlaw SingleForm kind a k rest
+single_unit_flaw kind a k rest s stuck same =
+    let found : Spoils kind (unit_at kind) [] a (k, rest) = subst (Spoils kind (unit_at kind) [] a) (sym same) (unit_spoils kind a (inr s) (λ h. absurd (not_both kind h s)) stuck) in
+    record { place = single_unit_stops kind a rest s found.stops; has = inl found.has }
 
 closer_kind : (kind : Kind) (a rest : List ℕ) → IsNotClosed kind a rest → CloserFlaw kind (after_unit_flaw_of a rest) a rest
 closer_kind kind a [] n = (n, refl)
@@ -226,16 +211,16 @@ closer_kind kind a (c ∷ cs) n = go (first_passes (λ d. eqb d 39) a) refl
     go true e = (n, (λ h. absurd (cc)), e)
     go false e = (n, (λ h. absurd (cc)), e)
 
-pub single_quote_kind : (kind : Kind) (a v : List ℕ) (k : FlawKind) (rest x : List ℕ) → is_single kind ≡ true → unit_at kind a ≡ Some (v, rest) → HasNoParts SingleForm kind (opener kind ++ a) → k ≡ after_unit_flaw_of a rest → x ≡ rest → QuotedFlaw SingleForm kind k a x
-single_quote_kind kind a v k rest x s h none same there =
+-- and where one does
+pub single_quote_flaw : (kind : Kind) (a v : List ℕ) (k : FlawKind) (rest x : List ℕ) → is_single kind ≡ true → unit_at kind a ≡ Some (v, rest) → HasNoParts SingleForm kind (opener kind ++ a) → k ≡ after_unit_flaw_of a rest → x ≡ rest → HasFlaw SingleForm kind a k x
+single_quote_flaw kind a v k rest x s h none same there =
     let begun = unit_sound kind a (v, rest) h in
-    let open_still : IsNotClosed kind a rest = record {
-      unit = begun.unit;
-      is_unit = begun.allowed;
-      text_is = begun.text_is;
-      no_closer = no_single_closer kind a v rest s h none;
-    } in
-    subst (λ z. QuotedFlaw SingleForm kind z a x) (sym same) (subst (QuotedFlaw SingleForm kind (after_unit_flaw_of a rest) a) (sym there) (inr (closer_kind kind a rest open_still)))
+    let no_quote = no_single_closer kind a v rest s h none in
+    let open_still : IsNotClosed kind a rest = record { unit = begun.unit; is_unit = begun.allowed; text_is = begun.text_is; no_closer = no_quote } in
+    subst (λ z. HasFlaw SingleForm kind a z x) (sym same) (subst (HasFlaw SingleForm kind a (after_unit_flaw_of a rest)) (sym there) (record {
+      place = single_quote_stops kind a v rest s h no_quote;
+      has = inr (closer_kind kind a rest open_still);
+    }))
 
 -- ---- the piece
 

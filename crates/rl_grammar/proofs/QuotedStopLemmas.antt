@@ -1,12 +1,6 @@
 -- Where the text after an opener stops being the front of a quoted literal, the whole text stops
 -- being that of any literal.
-use Rattle.std.proofs.Common.{◌≡◌, ℕ, Bool, true, false, List, ◌∷◌, ◌++◌, None, refl, sym, ap, subst, ◌∙◌, inl, inr, append_assoc}
-use Rattle.std.proofs.lemmas.Bool.{both_ways}
-use Rattle.rl_tokens.specs.declared.kind.Kind.{Kind}
-use Rattle.rl_tokens.specs.declared.kind.Kind.TheVariants.{Str, ByteStr, CStr, Byte, Char, Int, Float, Bool as BoolKind}
-use Rattle.rl_tokens.specs.Texts.{first_passes}
-use Rattle.rl_tokens.specs.Quoted.{is_string, is_single}
-use Rattle.rl_tokens.specs.Reading.{Contents, HasNoReading, HasNoTruth, HasReading, Reads, ReadsQuoted, quoted_contents, truth_text}
+use Rattle.rl_grammar.proofs.Names.{◌≡◌, ℕ, Bool, true, false, List, ◌∷◌, ◌++◌, None, refl, sym, ap, subst, ◌∙◌, inl, inr, append_assoc, both_ways, Kind, Str, ByteStr, CStr, Byte, Char, Int, Float, BoolKind, first_passes, is_string, is_single, Contents, HasNoReading, HasNoTruth, HasReading, Reads, ReadsQuoted, quoted_contents, truth_text}
 use Rattle.rl_grammar.specs.declared.flaws.FlawKind.{FlawKind}
 use Rattle.rl_grammar.specs.declared.quoted_forms.QuotedForm.{QuotedForm}
 use Rattle.rl_grammar.specs.FlawKinds.{HasNoOpener, HasQuotedFlaw, HasQuotedPiece, IsPiece, QuotedFlaw}
@@ -35,9 +29,7 @@ quoted_reading t ByteStr c x r = r
 quoted_reading t CStr c x r = r
 quoted_reading t Byte c x r = r
 quoted_reading t Char c x r = r
-quoted_reading t Int c x r = absurd (neither t Int c x refl refl r)
-quoted_reading t Float c x r = absurd (neither t Float c x refl refl r)
-quoted_reading t BoolKind c x r = absurd (neither t BoolKind c x refl refl r)
+quoted_reading t kind c x r = absurd (neither t kind c x refl refl r)
 
 -- a text that is no literal has no parts of the form that its opener tells
 pub no_parts_of : (t : List ℕ) (form : QuotedForm) (kind : Kind) (inside : List ℕ) → opener_at t ≡ found_opener form kind inside → HasNoReading t → HasNoParts form kind (form_opener form kind ++ inside)
@@ -54,7 +46,7 @@ opener_no_number t form kind inside h = go (first_passes is_number_front t) refl
     go true e = let h : None ≡ found_opener form kind inside = sym (front_not_quoted t e) ∙ h in absurd (cc)
     go false e = refl
 
-word_has_none : (b : Bool) → opener_at (truth_text b) ≡ None
+pub word_has_none : (b : Bool) → opener_at (truth_text b) ≡ None
 unfolding opener_at
 word_has_none true = refl
 word_has_none false = refl
@@ -68,7 +60,7 @@ only_quoted t form kind inside h none = no_reading t (no_parts t form kind insid
 parts_begin : (form : QuotedForm) (kind : Kind) (t : List ℕ) → HasParts form kind t → HasReading (form_opener form kind ++ t)
 parts_begin form kind t (v, b, x, p) = (kind, (quoted_contents kind v, x, quoted_reading (form_opener form kind ++ t) kind (quoted_contents kind v) x (parts_read form kind (form_opener form kind ++ t) v b x p)))
 
-pub stops_quoted : (t : List ℕ) (form : QuotedForm) (kind : Kind) (inside rest : List ℕ) → opener_at t ≡ found_opener form kind inside → StopsInside form kind inside rest → StopsBefore t rest
+pub stops_quoted : (t : List ℕ) (form : QuotedForm) (kind : Kind) (inside rest : List ℕ) → opener_at t ≡ found_opener form kind inside → StopsInside form kind inside rest → StopsBefore HasReading t rest
 stops_quoted t form kind inside rest h s =
     let told = front_sound t (form, kind, inside) h in
     let before = form_opener form kind in
@@ -79,7 +71,7 @@ stops_quoted t form kind inside rest h s =
       begins = record {
         ending = s.ending;
         are_characters = s.are_characters;
-        reads = subst HasReading (sym (joined s.ending)) (parts_begin form kind (s.front ++ s.ending) s.completes);
+        is_taken = subst HasReading (sym (joined s.ending)) (parts_begin form kind (s.front ++ s.ending) s.completes);
       };
       stuck = λ c cs e same r.
           let (k, (v, x, read)) = subst HasReading (joined (c ∷ e)) r in

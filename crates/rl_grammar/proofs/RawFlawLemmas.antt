@@ -1,26 +1,15 @@
 -- Where the text after the opener of a raw string stops being the front of one, and why.
-use Rattle.std.proofs.Common.{◌≡◌, ◌≢◌, ℕ, zero, suc, Bool, true, false, cond, not, eqb, ltb, List, [], ◌∷◌, ◌++◌, replicate, Option, Some, None, refl, sym, ap, subst, ◌∙◌, append_assoc, append-nil}
+use Rattle.rl_grammar.proofs.Names.{◌≡◌, ◌≢◌, ℕ, zero, suc, Bool, true, false, cond, not, eqb, ltb, List, [], ◌∷◌, ◌++◌, replicate, Option, Some, None, refl, sym, ap, subst, ◌∙◌, append_assoc, append-nil, MatchBool, IsScalar, list_all, AllByRecursion, both_ways, and_parts, and_from, eqb-true, ne_eqb, not_from_false, append_cancel_right, list_all-append, Kind, Str, ByteStr, CStr, Byte, Char, Int, Float, BoolKind, first_passes, content_of, is_string, is_raw, raw_opener, Raw, after_run, is_hash, hash_count}
 use denote.Ref.{Bor}
-use Rattle.std.specs.Prelude.{IfSome, IfNone, MatchBool}
+use Rattle.std.specs.Prelude.{IfSome, IfNone}
 use Rattle.std.specs.Option.{is_some}
 use Rattle.std.specs.Str.{chars}
-use Rattle.std.specs.Char.{IsScalar}
-use Rattle.std.specs.List.{list_all, AllByRecursion}
-use Rattle.std.proofs.lemmas.Bool.{both_ways, and_parts, and_from, eqb-true, ne_eqb, not_from_false}
-use Rattle.std.proofs.lemmas.List.{append_cancel_right}
-use Rattle.std.proofs.lemmas.List.Folds.{list_all-append}
-use Rattle.rl_tokens.specs.declared.kind.Kind.{Kind}
-use Rattle.rl_tokens.specs.declared.kind.Kind.TheVariants.{Str, ByteStr, CStr, Byte, Char, Int, Float, Bool as BoolKind}
-use Rattle.rl_tokens.specs.Texts.{first_passes}
-use Rattle.rl_tokens.specs.Quoted.{content_of, is_string, is_raw, raw_opener, Raw}
-use Rattle.rl_tokens.specs.Classes.{after_run, is_hash}
-use Rattle.rl_tokens.specs.Mirrors.LexemeAt.{hashes as hash_count}
 use Rattle.rl_tokens.proofs.HashLemmas.{hashes_first, hashes_past}
 use Rattle.rl_grammar.specs.declared.flaws.FlawKind.{FlawKind}
 use Rattle.rl_grammar.specs.declared.flaws.FlawKind.TheVariants.{Empty, NoLiteral, Unfinished, NoQuote, NoNumber, Unclosed, UnknownEscape, NoUnicode, NoHexDigit, NoBrace, EmptyBraces, TooManyDigits, PastAscii, PastUnicode, Surrogate, Nul, NotAscii, LateQuote, LoneCr, MustEscape, NoCharacter, TwoCharacters, NoExponentDigit, BadSuffix, TooLarge}
 use Rattle.rl_grammar.specs.declared.quoted_forms.QuotedForm.TheVariants.{Raw as RawForm}
 use Rattle.rl_grammar.specs.Forms.{HasNoParts}
-use Rattle.rl_grammar.specs.FlawKinds.{is_quote, IsUnopened, Closes, IsOpened, IsSpoiled, IsReopened, RawFlaw}
+use Rattle.rl_grammar.specs.FlawKinds.{is_quote, IsUnopened, HasLastCloser, IsOpened, IsSpoiled, IsReopened, RawFlaw}
 use Rattle.rl_grammar.specs.Mirrors.StopsInside.{HasParts, StopsInside}
 use Rattle.rl_grammar.specs.Mirrors.UnitFlawAt.{spoiled_flaw_of}
 use Rattle.rl_grammar.proofs.RawLemmas.{no_quote, quote_inside, last_same, hashes_no_quote, inner, raw_front, raw_unopened}
@@ -32,11 +21,7 @@ ascii_is_raw : (kind : Kind) (c : ℕ) → ltb c 128 ≡ true → eqb c 0 ≡ fa
 ascii_is_raw Str c low some = refl
 ascii_is_raw ByteStr c low some = low
 ascii_is_raw CStr c low some = not_from_false (eqb c 0) some
-ascii_is_raw Byte c low some = refl
-ascii_is_raw Char c low some = refl
-ascii_is_raw Int c low some = refl
-ascii_is_raw Float c low some = refl
-ascii_is_raw BoolKind c low some = refl
+ascii_is_raw kind c low some = refl
 
 -- what a kind doesn't take is none of what it takes
 other : (kind : Kind) (c k : ℕ) → is_raw kind c ≡ false → is_raw kind k ≡ true → c ≡ k → ⊥
@@ -165,7 +150,7 @@ spoiled_stops kind t rest s p =
     p.not_closed (record { inside = r.inside; suffix = suffix; no_quote = none.0; text_is = front ∙ ap (λ z. r.inside ++ (34 ∷ z)) hashes }))
 
 -- a string that was closed before the character, up to the next quote
-closed_parts : (kind : Kind) (n x : ℕ) (body more : List ℕ) → is_string kind ≡ true → list_all (is_raw kind) body ≡ true → Closes (replicate n 35) body → is_raw kind x ≡ false → list_all no_quote more ≡ true → HasParts RawForm kind (replicate n 35 ++ (34 ∷ (body ++ (x ∷ more))))
+closed_parts : (kind : Kind) (n x : ℕ) (body more : List ℕ) → is_string kind ≡ true → list_all (is_raw kind) body ≡ true → HasLastCloser (replicate n 35) body → is_raw kind x ≡ false → list_all no_quote more ≡ true → HasParts RawForm kind (replicate n 35 ++ (34 ∷ (body ++ (x ∷ more))))
 closed_parts kind n x body more s each c bad none =
     let hs = replicate n 35 in
     let inside : list_all (is_raw kind) c.inside ≡ true = (and_parts (list_all (is_raw kind) c.inside) (list_all (is_raw kind) (34 ∷ (hs ++ c.suffix))) (sym (list_all-append (is_raw kind) c.inside (34 ∷ (hs ++ c.suffix))) ∙ ap (list_all (is_raw kind)) (sym c.text_is) ∙ each)).0 in
@@ -208,25 +193,7 @@ raw_stops kind Unclosed t rest s f = unclosed_stops kind t rest s f.0 f.1
 raw_stops kind Nul t rest s f = spoiled_stops kind t rest s f.1
 raw_stops kind NotAscii t rest s f = spoiled_stops kind t rest s f.1
 raw_stops kind LateQuote t rest s f = reopened_stops kind t rest s f
-raw_stops kind Empty t rest s f = absurd f
-raw_stops kind NoLiteral t rest s f = absurd f
-raw_stops kind NoNumber t rest s f = absurd f
-raw_stops kind UnknownEscape t rest s f = absurd f
-raw_stops kind NoUnicode t rest s f = absurd f
-raw_stops kind NoHexDigit t rest s f = absurd f
-raw_stops kind NoBrace t rest s f = absurd f
-raw_stops kind EmptyBraces t rest s f = absurd f
-raw_stops kind TooManyDigits t rest s f = absurd f
-raw_stops kind PastAscii t rest s f = absurd f
-raw_stops kind PastUnicode t rest s f = absurd f
-raw_stops kind Surrogate t rest s f = absurd f
-raw_stops kind LoneCr t rest s f = absurd f
-raw_stops kind MustEscape t rest s f = absurd f
-raw_stops kind NoCharacter t rest s f = absurd f
-raw_stops kind TwoCharacters t rest s f = absurd f
-raw_stops kind NoExponentDigit t rest s f = absurd f
-raw_stops kind BadSuffix t rest s f = absurd f
-raw_stops kind TooLarge t rest s f = absurd f
+raw_stops kind k t rest s f = absurd f
 
 -- ---- the steps of the code
 
@@ -260,7 +227,7 @@ run_of_all test (c ∷ cs) h =
     ap (λ b. cond b (after_run test cs) (c ∷ cs)) p.0 ∙ run_of_all test cs p.1
 
 -- what is cut at the last quote
-closes_true : (hashes t b a x : List ℕ) → t ≡ b ++ (34 ∷ a) → list_all no_quote a ≡ true → a ≡ hashes ++ x → Closes hashes t
+closes_true : (hashes t b a x : List ℕ) → t ≡ b ++ (34 ∷ a) → list_all no_quote a ≡ true → a ≡ hashes ++ x → HasLastCloser hashes t
 closes_true hashes t b a x cut none e = record {
   inside = b;
   suffix = x;
@@ -268,15 +235,15 @@ closes_true hashes t b a x cut none e = record {
   text_is = cut ∙ ap (λ z. b ++ (34 ∷ z)) e;
 }
 
-pub closes_not : (hashes t : List ℕ) → list_all no_quote t ≡ true → Closes hashes t → ⊥
+pub closes_not : (hashes t : List ℕ) → list_all no_quote t ≡ true → HasLastCloser hashes t → ⊥
 closes_not hashes t none c = quote_inside t c.inside (hashes ++ c.suffix) none c.text_is
 
-closes_other : (n : ℕ) (hashes t b a : List ℕ) → hashes ≡ replicate n 35 → t ≡ b ++ (34 ∷ a) → list_all no_quote a ≡ true → ((x : List ℕ) → a ≡ hashes ++ x → ⊥) → Closes hashes t → ⊥
+closes_other : (n : ℕ) (hashes t b a : List ℕ) → hashes ≡ replicate n 35 → t ≡ b ++ (34 ∷ a) → list_all no_quote a ≡ true → ((x : List ℕ) → a ≡ hashes ++ x → ⊥) → HasLastCloser hashes t → ⊥
 closes_other n hashes t b a h cut none without c =
     let after : list_all no_quote (hashes ++ c.suffix) ≡ true = ap (λ z. list_all no_quote (z ++ c.suffix)) h ∙ hashes_no_quote n c.suffix ∙ c.no_quote in
     without c.suffix (last_same b c.inside a (hashes ++ c.suffix) none after (sym cut ∙ c.text_is)).1
 
-pub closes_either : (n : ℕ) (hashes t b a : List ℕ) (r : Option (Bor (List ℕ))) → hashes ≡ replicate n 35 → t ≡ b ++ (34 ∷ a) → list_all no_quote a ≡ true → IfSome r (λ x. a ≡ hashes ++ chars x.now) → IfNone r ((x : List ℕ) → a ≢ hashes ++ x) → MatchBool (is_some r) (Closes hashes t) (Closes hashes t → ⊥)
+pub closes_either : (n : ℕ) (hashes t b a : List ℕ) (r : Option (Bor (List ℕ))) → hashes ≡ replicate n 35 → t ≡ b ++ (34 ∷ a) → list_all no_quote a ≡ true → IfSome r (λ x. a ≡ hashes ++ chars x.now) → IfNone r ((x : List ℕ) → a ≢ hashes ++ x) → MatchBool (is_some r) (HasLastCloser hashes t) (HasLastCloser hashes t → ⊥)
 closes_either n hashes t b a None h cut none some other_start = closes_other n hashes t b a h cut none other_start
 closes_either n hashes t b a (Some x) h cut none some other_start = closes_true hashes t b a (chars x.now) cut none some
 
@@ -289,12 +256,7 @@ all_held kind held t (d ∷ ds) p = both_ways (not (is_raw kind d)) (ap not (hel
 pub spoiled_kind : (kind : Kind) (t rest : List ℕ) → IsSpoiled kind t rest → RawFlaw kind (spoiled_flaw_of kind) t rest
 spoiled_kind CStr t rest p = (refl, p)
 spoiled_kind ByteStr t rest p = (refl, p)
-spoiled_kind Str t rest p = absurd (all_held Str (λ c. refl) t rest p)
-spoiled_kind Byte t rest p = absurd (all_held Byte (λ c. refl) t rest p)
-spoiled_kind Char t rest p = absurd (all_held Char (λ c. refl) t rest p)
-spoiled_kind Int t rest p = absurd (all_held Int (λ c. refl) t rest p)
-spoiled_kind Float t rest p = absurd (all_held Float (λ c. refl) t rest p)
-spoiled_kind BoolKind t rest p = absurd (all_held BoolKind (λ c. refl) t rest p)
+spoiled_kind kind t rest p = absurd (all_held kind (λ c. refl) t rest p)
 
 -- the parts of a text whose first quote follows `hashes`
 module _ (kind : Kind) (n : ℕ) (hashes inside body rest : List ℕ) (hashes_are : hashes ≡ replicate n 35) (cut : inside ≡ body ++ rest) (each : list_all (is_raw kind) body ≡ true) where
@@ -312,15 +274,15 @@ module _ (kind : Kind) (n : ℕ) (hashes inside body rest : List ℕ) (hashes_ar
     bad : is_raw kind x ≡ false
     bad = first_is (is_raw kind) rest x after false rest_is stops
 
-    pub spoiled_flaw : (Closes hashes body → ⊥) → RawFlaw kind (spoiled_flaw_of kind) (hashes ++ (34 ∷ inside)) rest
+    pub spoiled_flaw : (HasLastCloser hashes body → ⊥) → RawFlaw kind (spoiled_flaw_of kind) (hashes ++ (34 ∷ inside)) rest
     spoiled_flaw n_closed = spoiled_kind kind (hashes ++ (34 ∷ inside)) rest (record {
       opened = opened rest refl;
-      not_closed = λ c. n_closed (subst (λ z. Closes z body) (sym hashes_are) c);
+      not_closed = λ c. n_closed (subst (λ z. HasLastCloser z body) (sym hashes_are) c);
       spoils = ap (first_passes (λ d. not (is_raw kind d))) rest_is ∙ not_from_false (is_raw kind x) bad;
     })
 
     -- without a quote after it, the text is a raw string
-    has_quote : (more place : List ℕ) → is_string kind ≡ true → Closes (replicate n 35) body → HasNoParts RawForm kind (raw_opener kind ++ (hashes ++ (34 ∷ inside))) → after ≡ more ++ place → list_all no_quote more ≡ true → first_passes no_quote place ≡ false → first_passes is_quote place ≡ true
+    has_quote : (more place : List ℕ) → is_string kind ≡ true → HasLastCloser (replicate n 35) body → HasNoParts RawForm kind (raw_opener kind ++ (hashes ++ (34 ∷ inside))) → after ≡ more ++ place → list_all no_quote more ≡ true → first_passes no_quote place ≡ false → first_passes is_quote place ≡ true
     has_quote more [] s closed none e each_other ends =
         let p = closed_parts kind n x body more s each closed bad each_other in
         let same : hashes ++ (34 ∷ inside) ≡ replicate n 35 ++ (34 ∷ (body ++ (x ∷ more))) = opened_as (x ∷ more) (rest_is ∙ ap (λ z. x ∷ z) (e ∙ append-nil more)) in
@@ -331,10 +293,10 @@ module _ (kind : Kind) (n : ℕ) (hashes inside body rest : List ℕ) (hashes_ar
         is_true true h = refl
         is_true false h = absurd (cc)
 
-    pub reopened_flaw : is_string kind ≡ true → Closes hashes body → HasNoParts RawForm kind (raw_opener kind ++ (hashes ++ (34 ∷ inside))) → RawFlaw kind LateQuote (hashes ++ (34 ∷ inside)) (after_run no_quote after)
+    pub reopened_flaw : is_string kind ≡ true → HasLastCloser hashes body → HasNoParts RawForm kind (raw_opener kind ++ (hashes ++ (34 ∷ inside))) → RawFlaw kind LateQuote (hashes ++ (34 ∷ inside)) (after_run no_quote after)
     reopened_flaw s c none =
         let r = run_cut no_quote after in
-        let closed = subst (λ z. Closes z body) hashes_are c in
+        let closed = subst (λ z. HasLastCloser z body) hashes_are c in
         record {
           other = x;
           more = r.front;

@@ -1,17 +1,9 @@
 -- Raw strings: their hashes, their last quote, and their one reading.
-use Rattle.std.proofs.Common.{◌≡◌, ◌≢◌, ℕ, zero, suc, Bool, true, false, not, eqb, List, [], ◌∷◌, ◌++◌, length, replicate, refl, sym, ap, subst, ◌∙◌}
-use Rattle.std.specs.List.{list_all}
-use Rattle.std.proofs.lemmas.Bool.{both_ways, and_parts}
-use Rattle.std.proofs.lemmas.List.{append_cancel_left, append_cancel_right, length-replicate}
-use Rattle.std.proofs.lemmas.List.Folds.{list_all-append}
-use Rattle.rl_tokens.specs.declared.kind.Kind.{Kind}
-use Rattle.rl_tokens.specs.declared.kind.Kind.TheVariants.{Str, ByteStr, CStr, Byte, Char, Int, Float, Bool as BoolKind}
-use Rattle.rl_tokens.specs.Quoted.{content_of, is_string, is_raw, raw_opener, Raw}
-use Rattle.rl_tokens.specs.Mirrors.LexemeAt.{hashes as hash_count}
+use Rattle.rl_grammar.proofs.Names.{◌≡◌, ◌≢◌, ℕ, zero, suc, Bool, true, false, not, eqb, List, [], ◌∷◌, ◌++◌, length, replicate, refl, sym, ap, subst, ◌∙◌, list_all, both_ways, and_parts, append_cancel_left, append_cancel_right, list_all-append, Kind, Str, ByteStr, CStr, Byte, Char, Int, Float, BoolKind, content_of, is_string, is_raw, raw_opener, Raw, hash_count, after_run, is_hash}
+use Rattle.std.proofs.lemmas.List.{length-replicate}
 use Rattle.rl_tokens.proofs.HashLemmas.{hashes_before, hashes_first, hashes_past}
 use Rattle.rl_grammar.specs.declared.quoted_forms.QuotedForm.TheVariants.{Raw as RawForm}
 use Rattle.rl_grammar.specs.Forms.{PartsAre, HasNoParts}
-use Rattle.rl_tokens.specs.Classes.{after_run, is_hash}
 
 abbrev pub no_quote : ℕ → Bool
 no_quote c = not (eqb c 34)
@@ -24,12 +16,7 @@ all_true (c ∷ cs) = all_true cs
 pub others_hold : (kind : Kind) → kind ≢ ByteStr → kind ≢ CStr → (cs : List ℕ) → list_all (is_raw kind) cs ≡ true
 others_hold ByteStr n h cs = absurd (n refl)
 others_hold CStr n h cs = absurd (h refl)
-others_hold Str n h cs = all_true cs
-others_hold Byte n h cs = all_true cs
-others_hold Char n h cs = all_true cs
-others_hold Int n h cs = all_true cs
-others_hold Float n h cs = all_true cs
-others_hold BoolKind n h cs = all_true cs
+others_hold kind n h cs = all_true cs
 
 -- ---- the last quote of a text
 

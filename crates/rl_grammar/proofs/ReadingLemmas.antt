@@ -1,17 +1,9 @@
 -- Truth values, and texts that are no literal.
-use Rattle.std.proofs.Common.{◌≡◌, ℕ, ◌<◌, ◌≤◌, ◌⊎◌, inl, inr, Bool, true, false, ◌||◌, ◌==◌, cond, List, [], ◌∷◌, ◌++◌, None, refl, sym, ap, ◌∙◌, arith}
-use Rattle.std.proofs.lemmas.Bool.{both_ways, or_parts}
-use Rattle.std.proofs.lemmas.Bool.Decides.{nat_tests}
-use Rattle.std.proofs.lemmas.Str.{encodes-chars}
-use Rattle.std.specs.Prelude.{encode_utf8_all}
-use Rattle.std.specs.Char.{is_ascii_digit}
-use Rattle.std.specs.Str.{chars, IsUtf8}
+use Rattle.rl_grammar.proofs.Names.{◌≡◌, ℕ, ◌<◌, ◌≤◌, ◌⊎◌, inl, inr, Bool, true, false, ◌||◌, ◌==◌, cond, List, [], ◌∷◌, ◌++◌, None, refl, sym, ap, ◌∙◌, arith, both_ways, or_parts, nat_tests, encodes-chars, encode_utf8_all, is_ascii_digit, IsUtf8, first_passes, Str, ByteStr, CStr, Byte, Char, Int, Float, BoolKind, truth_text, HasNoReading, HasNoTruth}
+use Rattle.std.specs.Str.{chars}
 use Rattle.rl_tokens.proofs.Basics.{apart}
 use Rattle.rl_tokens.proofs.CommentBytes.{cases128, encode_is_high, low_front, not_equal}
-use Rattle.rl_tokens.specs.Texts.{first_passes}
-use Rattle.rl_tokens.specs.declared.kind.Kind.TheVariants.{Str, ByteStr, CStr, Byte, Char, Int, Float, Bool as BoolKind}
-use Rattle.rl_tokens.specs.Reading.{truth_text, HasNoReading, HasNoTruth}
-use Rattle.rl_grammar.specs.NumberShapes.{HasNoNumber}
+use Rattle.rl_grammar.specs.NumberShapes.{ReadsNoNumber}
 use Rattle.rl_grammar.specs.Mirrors.NumberAt.{after_minus}
 use Rattle.rl_grammar.specs.Mirrors.OpenerAt.{opener_at}
 use Rattle.rl_grammar.specs.Shapes.{HasNoQuoted}
@@ -23,15 +15,11 @@ use Rattle.rl_grammar.proofs.IntegerLemmas.{no_int}
 use Rattle.rl_grammar.proofs.NumberLemmas.{no_number}
 
 -- a text that is no form's is no literal
-pub no_reading : (t : List ℕ) → HasNoQuoted t → HasNoNumber t → HasNoTruth t → HasNoReading t
+pub no_reading : (t : List ℕ) → HasNoQuoted t → ReadsNoNumber t → HasNoTruth t → HasNoReading t
 no_reading t q n b Int c x r = n Int c x r
 no_reading t q n b Float c x r = n Float c x r
 no_reading t q n b BoolKind c x r = b c x r
-no_reading t q n b Str c x r = q Str c x r
-no_reading t q n b ByteStr c x r = q ByteStr c x r
-no_reading t q n b CStr c x r = q CStr c x r
-no_reading t q n b Byte c x r = q Byte c x r
-no_reading t q n b Char c x r = q Char c x r
+no_reading t q n b kind c x r = q kind c x r
 
 -- ---- what a text begins with
 
@@ -53,7 +41,7 @@ front_same t is = ap (first_passes is_number_front) (sym (encodes-chars t is)) �
     go (c ∷ cs) = at c cs (cases128 c)
 
 -- where no number may begin there is none
-pub no_front_number : (t : List ℕ) → first_passes is_number_front t ≡ false → HasNoNumber t
+pub no_front_number : (t : List ℕ) → first_passes is_number_front t ≡ false → ReadsNoNumber t
 no_front_number t h = let d = no_digit t h in no_number t (no_int t (no_head_int t d)) (no_float t (no_head_float t d))
   where
     no_digit : (t : List ℕ) → first_passes is_number_front t ≡ false → first_passes is_ascii_digit (after_minus t) ≡ false
@@ -75,5 +63,5 @@ front_no_truth t h v x r = go r.truth r.text_is
     go true e = both_ways (first_passes is_number_front t) (ap (first_passes is_number_front) e) h
     go false e = both_ways (first_passes is_number_front t) (ap (first_passes is_number_front) e) h
 
-pub only_number : (t : List ℕ) → first_passes is_number_front t ≡ true → HasNoNumber t → HasNoReading t
+pub only_number : (t : List ℕ) → first_passes is_number_front t ≡ true → ReadsNoNumber t → HasNoReading t
 only_number t h n = no_reading t (no_front t (front_not_quoted t h)) n (front_no_truth t h)

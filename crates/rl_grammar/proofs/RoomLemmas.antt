@@ -1,19 +1,14 @@
 -- What is decoded is never longer than what it was decoded from.
-use Rattle.std.proofs.Common.{◌≡◌, ℕ, Bool, true, false, not, cond, ◌||◌, ◌==◌, map, filter, [], ◌∷◌, ◌+◌, ◌≤◌, List, ◌++◌, length, take, Some, refl, sym, ap, ◌∙◌, arith, length-append}
-use Rattle.std.specs.Prelude.{encode_utf8_all}
-use Rattle.std.specs.List.{list_all}
-use Rattle.std.specs.Str.{chars, IsUtf8}
+use Rattle.rl_grammar.proofs.Names.{◌≡◌, ℕ, Bool, true, false, not, cond, ◌||◌, ◌==◌, [], ◌∷◌, ◌+◌, ◌≤◌, List, ◌++◌, length, take, Some, refl, sym, ap, ◌∙◌, arith, encode_utf8_all, list_all, IsUtf8, encodes-append, encodes-chars, scalar, and_from, and_parts, float_digits, Kind, is_plain, texts, values}
+use Rattle.std.proofs.Common.{map, filter, length-append}
+use Rattle.std.specs.Str.{chars}
 use Rattle.std.proofs.lemmas.List.{length-take-le}
-use Rattle.std.proofs.lemmas.Str.{encodes-append, encodes-chars, chars-encodes, scalars-chars}
-use Rattle.std.proofs.Math.Utf8.{scalar, scalars}
-use Rattle.std.proofs.lemmas.Bool.{and_from, and_parts}
-use Rattle.rl_tokens.specs.Numbers.{float_digits}
-use Rattle.rl_tokens.specs.declared.kind.Kind.{Kind}
-use Rattle.rl_tokens.specs.Quoted.{is_plain, texts, values}
+use Rattle.std.proofs.lemmas.Str.{chars-encodes, scalars-chars}
+use Rattle.std.proofs.Math.Utf8.{scalars}
 use Rattle.rl_grammar.specs.declared.units.Piece.{Piece}
 use Rattle.rl_grammar.specs.Decoded.{piece_bytes, in_bytes}
 use Rattle.rl_grammar.specs.Rows.{BeginsRow}
-use Rattle.rl_grammar.specs.Mirrors.UnitAt.{piece_value, IsPieceOf, unit_at}
+use Rattle.rl_grammar.specs.Mirrors.UnitAt.{piece_value, IsHeldBy, unit_at}
 use Rattle.rl_grammar.proofs.BodyLemmas.{row_shrinks}
 use Rattle.rl_grammar.proofs.ContentLemmas.{decode_run, decode_step}
 
@@ -50,13 +45,13 @@ run_filled kind text rest out new run following at end f cut plain ut ur ub room
     let long = length-take-le at out (omega (arith, f.room)) in
     filled kind text following new (take at out ++ run) w end row are ut ub (omega (arith, moved, length-append (take at out) run, long)) is
 
-pub piece_room : (kind : Kind) (text rest out after : List ℕ) (at : ℕ) (piece : Piece) → IsFilled kind text rest out at → Some (piece_value kind piece, chars after) ≡ unit_at kind (chars rest) → IsPieceOf kind piece → IsUtf8 text → IsUtf8 after → length text ≤ length out → at + length (piece_bytes piece) + length after ≤ length text
+pub piece_room : (kind : Kind) (text rest out after : List ℕ) (at : ℕ) (piece : Piece) → IsFilled kind text rest out at → Some (piece_value kind piece, chars after) ≡ unit_at kind (chars rest) → IsHeldBy kind piece → IsUtf8 text → IsUtf8 after → length text ≤ length out → at + length (piece_bytes piece) + length after ≤ length text
 piece_room kind text rest out after at piece f unit fits ut ua room =
     let (w, row, are) = decode_step kind (chars text) f.value (chars rest) (chars after) (take at out) (take at out ++ piece_bytes piece) piece f.row f.bytes unit fits refl in
     let long = length-take-le at out (omega (arith, f.room)) in
     omega (arith, row_room kind text after w (take at out ++ piece_bytes piece) row are ut ua, length-append (take at out) (piece_bytes piece), long)
 
-pub piece_filled : (kind : Kind) (text rest out new after : List ℕ) (at end : ℕ) (piece : Piece) → IsFilled kind text rest out at → Some (piece_value kind piece, chars after) ≡ unit_at kind (chars rest) → IsPieceOf kind piece → IsUtf8 text → IsUtf8 after → length text ≤ length out → end ≡ at + length (piece_bytes piece) → take end new ≡ take at out ++ piece_bytes piece → IsFilled kind text after new end
+pub piece_filled : (kind : Kind) (text rest out new after : List ℕ) (at end : ℕ) (piece : Piece) → IsFilled kind text rest out at → Some (piece_value kind piece, chars after) ≡ unit_at kind (chars rest) → IsHeldBy kind piece → IsUtf8 text → IsUtf8 after → length text ≤ length out → end ≡ at + length (piece_bytes piece) → take end new ≡ take at out ++ piece_bytes piece → IsFilled kind text after new end
 piece_filled kind text rest out new after at end piece f unit fits ut ua room moved is =
     let (w, row, are) = decode_step kind (chars text) f.value (chars rest) (chars after) (take at out) (take at out ++ piece_bytes piece) piece f.row f.bytes unit fits refl in
     let long = length-take-le at out (omega (arith, f.room)) in

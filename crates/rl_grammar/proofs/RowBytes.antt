@@ -1,14 +1,11 @@
 -- Rows of digits, told by the bytes of a text.
-use Rattle.std.proofs.Common.{◌≡◌, ◌≢◌, ℕ, ◌<◌, ◌≤◌, ◌+◌, ◌⊎◌, inl, inr, Bool, true, false, ◌&&◌, ◌==◌, cond, List, [], ◌∷◌, ◌++◌, length, get_or, drop, Option, refl, sym, ap, ◌∙◌, arith, nat_lt}
-use Rattle.std.proofs.lemmas.Bool.Decides.{nat_tests}
+use Rattle.rl_grammar.proofs.Names.{◌≡◌, ◌≢◌, ℕ, ◌<◌, ◌≤◌, ◌+◌, ◌⊎◌, inl, inr, Bool, true, false, ◌&&◌, ◌==◌, cond, List, [], ◌∷◌, ◌++◌, length, get_or, drop, Option, refl, sym, ap, ◌∙◌, arith, nat_lt, nat_tests, encodes-chars, digit_value, is_ascii_digit, IsUtf8, IsCharBoundary, list_all}
 use Rattle.std.proofs.lemmas.List.{drop_more}
-use Rattle.std.proofs.lemmas.Str.{encodes-chars, chars_from_encodes, IsCharBoundary-after_ascii}
+use Rattle.std.proofs.lemmas.Str.{chars_from_encodes, IsCharBoundary-after_ascii}
 use Rattle.std.proofs.Math.ListN.{drop_of_length-le}
-use Rattle.std.specs.Char.{digit_value, is_ascii_digit}
-use Rattle.std.specs.Str.{chars, encode_utf8_all, IsUtf8, IsCharBoundary}
+use Rattle.std.specs.Str.{chars, encode_utf8_all}
 use Rattle.rl_tokens.proofs.Basics.{digit_is_ten}
 use Rattle.rl_tokens.proofs.CommentBytes.{cases128, encode_is_high, low_front}
-use Rattle.std.specs.List.{list_all}
 use Rattle.rl_grammar.specs.Mirrors.NumberAt.{append_digit, row_from}
 use Rattle.rl_grammar.proofs.DigitRowLemmas.{row_digit}
 

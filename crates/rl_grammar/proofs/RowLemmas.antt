@@ -1,12 +1,6 @@
 -- A row of units, one unit at a time.
-use Rattle.std.proofs.Common.{◌≡◌, ℕ, Bool, true, false, cond, List, [], ◌∷◌, ◌++◌, None, refl, sym, ap, subst, ◌∙◌, append_assoc, append-nil, Some}
-use Rattle.std.specs.Prelude.{encode_utf8, encode_utf8_all}
-use Rattle.std.specs.List.{AllByRecursion, list_all}
-use Rattle.std.proofs.lemmas.Bool.{and_parts}
-use Rattle.std.proofs.lemmas.List.Concat.{flat_map-append}
-use Rattle.rl_tokens.specs.declared.kind.Kind.{Kind}
-use Rattle.rl_tokens.specs.Texts.{first_passes}
-use Rattle.rl_tokens.specs.Quoted.{QuotedUnit, Plain, CrLf, Named, Hex, Unicode, Continuation, unit_text, unit_value, is_blank, content_of, holds_characters, is_plain, IsUnit, EndsBefore, ContinuationsEnd, texts, values}
+use Rattle.rl_grammar.proofs.Names.{◌≡◌, ℕ, Bool, true, false, cond, List, [], ◌∷◌, ◌++◌, None, refl, sym, ap, subst, ◌∙◌, append_assoc, append-nil, Some, encode_utf8, encode_utf8_all, AllByRecursion, list_all, and_parts, flat_map-append, Kind, first_passes, QuotedUnit, Plain, CrLf, Named, Hex, Unicode, Continuation, unit_text, unit_value, is_blank, content_of, holds_characters, is_plain, IsUnit, EndsBefore, texts, values}
+use Rattle.rl_tokens.specs.Quoted.{ContinuationsEnd}
 use Rattle.rl_grammar.specs.Mirrors.UnitAt.{found, unit_at}
 use Rattle.rl_grammar.specs.Rows.{RowEnds, BeginsRow}
 use Rattle.rl_grammar.proofs.UnitLemmas.{some_pair, unit_sound, unit_complete}

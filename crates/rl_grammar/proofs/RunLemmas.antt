@@ -1,12 +1,6 @@
 -- Runs of characters that pass a test, and the suffixes of numbers.
-use Rattle.std.proofs.Common.{◌≡◌, ℕ, Bool, true, false, not, ◌&&◌, ◌==◌, cond, List, [], ◌∷◌, ◌++◌, refl, ap, ◌∙◌, inl, inr}
-use Rattle.std.proofs.lemmas.Bool.{and_parts, and_from, not-true, not_from_false}
-use Rattle.std.specs.List.{list_all}
-use Rattle.rl_tokens.specs.Texts.{first_passes, xid_ok}
-use Rattle.rl_tokens.specs.Numbers.{IsSuffix}
-use Rattle.rl_tokens.specs.Quoted.{is_blank}
+use Rattle.rl_grammar.proofs.Names.{◌≡◌, ℕ, Bool, true, false, not, ◌&&◌, ◌==◌, cond, List, [], ◌∷◌, ◌++◌, refl, ap, ◌∙◌, inl, inr, and_parts, and_from, not-true, not_from_false, list_all, first_passes, xid_ok, IsSuffix, is_blank, after_run}
 use Rattle.rl_grammar.specs.Mirrors.NumberAt.{run, is_suffix}
-use Rattle.rl_tokens.specs.Classes.{after_run}
 use Rattle.rl_grammar.specs.Mirrors.UnitAt.{after_blanks}
 use Rattle.rl_grammar.proofs.DigitRowLemmas.{run_yes, run_no}
 

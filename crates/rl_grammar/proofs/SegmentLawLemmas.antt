@@ -1,24 +1,19 @@
 -- The segments of a literal together, and the order of places.
-use Rattle.std.proofs.Common.{◌≡◌, ◌⊎◌, inl, inr, ℕ, ◌+◌, ◌-◌, ◌≤◌, ◌<◌, Bool, true, false, cond, ltb, List, [], ◌∷◌, ◌++◌, length, map, replicate, refl, sym, ap, subst, ◌∙◌, arith, append-nil}
-use Rattle.std.specs.Str.{chars, IsUtf8}
-use Rattle.std.proofs.lemmas.Str.{encodes-chars, length-le-encodes}
-use Rattle.std.proofs.lemmas.List.{append_cancel_left, append_cancel_right}
-use Rattle.std.proofs.lemmas.List.Concat.{flat_map-append}
-use Rattle.rl_tokens.specs.declared.kind.Kind.{Kind}
-use Rattle.rl_tokens.specs.Texts.{byte_len, first_passes}
-use Rattle.rl_tokens.specs.Quoted.{QuotedUnit, Plain, CrLf, Named, Hex, Unicode, Continuation, Cooked, Raw, Single, IsUnit, is_plain, opener, raw_opener, texts, unit_text, unit_value, values}
-use Rattle.rl_tokens.specs.Reading.{HasContents, ReadsQuoted, quoted_contents}
+use Rattle.rl_grammar.proofs.Names.{◌≡◌, ◌⊎◌, inl, inr, ℕ, ◌+◌, ◌≤◌, ◌<◌, Bool, true, false, cond, ltb, List, [], ◌∷◌, ◌++◌, length, replicate, refl, sym, ap, subst, ◌∙◌, arith, append-nil, IsUtf8, encodes-chars, append_cancel_left, append_cancel_right, flat_map-append, Kind, byte_len, first_passes, QuotedUnit, Plain, CrLf, Named, Hex, Unicode, Continuation, Cooked, Raw, Single, IsUnit, is_plain, opener, raw_opener, texts, unit_text, unit_value, values, HasContents, ReadsQuoted, quoted_contents}
+use Rattle.std.proofs.Common.{◌-◌, map}
+use Rattle.std.specs.Str.{chars}
+use Rattle.std.proofs.lemmas.Str.{length-le-encodes}
 use Rattle.rl_grammar.specs.Decoded.{in_bytes}
 use Rattle.rl_grammar.specs.declared.found.Body.{Body}
 use Rattle.rl_grammar.specs.declared.segments.Segment.{Segment}
 use Rattle.rl_grammar.specs.Founds.{IsQuotedAt, body_in}
 use Rattle.rl_grammar.specs.Mirrors.UnitAt.{unit_at}
 use Rattle.rl_grammar.specs.Rows.{BeginsRow}
-use Rattle.rl_grammar.specs.Segments.{AreLeft, AreUnitsIn, AreUnitsOf, IsEndOf, IsGivenAt, IsPlaceOf, IsRow, IsSegmentsOf, SegmentsState, begins_in, ends_in, is_itself, place_in, unit_bytes, units_bytes}
+use Rattle.rl_grammar.specs.Segments.{AreLeft, AreUnitsIn, AreUnitsOf, IsByteEnd, IsGivenAt, IsBytePlace, IsUnitRow, IsSegmentsOf, SegmentsState, begins_in, ends_in, is_itself, unit_place, unit_bytes, units_bytes}
 use Rattle.rl_grammar.specs.SegmentLaws.{MakeLiteral, Passes, PlacesKeepTheOrder, PlacesStandIn, Tile, segments_bytes}
 use Rattle.rl_grammar.proofs.BodyLemmas.{openers_differ, row_shrinks}
 use Rattle.rl_grammar.proofs.ContentLemmas.{held_in_bytes, in_bytes_append, nothing_in_bytes}
-use Rattle.rl_grammar.proofs.FormLemmas.{not_both}
+use Rattle.rl_grammar.proofs.FormLemmas.{not_both, cooked_row}
 use Rattle.rl_grammar.proofs.FoundLemmas.{body_text}
 use Rattle.rl_grammar.proofs.FrontLenLemmas.{byte_len_append, byte_len_ascii, hashes_long}
 use Rattle.rl_grammar.proofs.RawLemmas.{raw_same}
@@ -148,27 +143,27 @@ ends_placing = record {
   alike = λ u w at same text. ap (λ z. cond z (at + 1) (byte_len (unit_text u))) same ∙ ap (λ z. cond (is_itself w) (at + 1) (byte_len z)) text;
 }
 
-order_in : (inside : QuotedUnit → ℕ → ℕ) → IsPlacing inside → (kind : Kind) (us : List QuotedUnit) (at next : ℕ) → at ≤ next → place_in inside kind us at ≤ place_in inside kind us next
+order_in : (inside : QuotedUnit → ℕ → ℕ) → IsPlacing inside → (kind : Kind) (us : List QuotedUnit) (at next : ℕ) → at ≤ next → unit_place inside kind us at ≤ unit_place inside kind us next
 order_in inside p kind [] at next h = omega arith
 order_in inside p kind (u ∷ us) at next h =
     let n = length (unit_bytes kind u) in
     let long = byte_len (unit_text u) in
-    tested (λ z. z ≤ place_in inside kind (u ∷ us) next) at n _ _
+    tested (λ z. z ≤ unit_place inside kind (u ∷ us) next) at n _ _
     (λ small. tested (λ z. inside u at ≤ z) next n _ _
     (λ small_too. p.later u at next h)
     (λ large. omega (arith, p.within kind u at small)))
-    (λ large. tested (λ z. long + place_in inside kind us (at - n) ≤ z) next n _ _
+    (λ large. tested (λ z. long + unit_place inside kind us (at - n) ≤ z) next n _ _
     (λ small. absurd (omega (arith, h, large, small)))
     (λ large_too. omega (arith, order_in inside p kind us (at - n) (next - n) (omega (arith, h, large)))))
 
 -- what gives a byte begins before it ends
-ends_after : (kind : Kind) (us : List QuotedUnit) (at : ℕ) → place_in begins_in kind us at ≤ place_in ends_in kind us at
+ends_after : (kind : Kind) (us : List QuotedUnit) (at : ℕ) → unit_place begins_in kind us at ≤ unit_place ends_in kind us at
 ends_after kind [] at = omega arith
 ends_after kind (u ∷ us) at =
     let more = ends_after kind us (at - length (unit_bytes kind u)) in
     go (ltb at (length (unit_bytes kind u))) more
   where
-    go : (b : Bool) → place_in begins_in kind us (at - length (unit_bytes kind u)) ≤ place_in ends_in kind us (at - length (unit_bytes kind u)) → cond b (begins_in u at) (byte_len (unit_text u) + place_in begins_in kind us (at - length (unit_bytes kind u))) ≤ cond b (ends_in u at) (byte_len (unit_text u) + place_in ends_in kind us (at - length (unit_bytes kind u)))
+    go : (b : Bool) → unit_place begins_in kind us (at - length (unit_bytes kind u)) ≤ unit_place ends_in kind us (at - length (unit_bytes kind u)) → cond b (begins_in u at) (byte_len (unit_text u) + unit_place begins_in kind us (at - length (unit_bytes kind u))) ≤ cond b (ends_in u at) (byte_len (unit_text u) + unit_place ends_in kind us (at - length (unit_bytes kind u)))
     go true more = cond_order (is_itself u) at (at + 1) 0 (byte_len (unit_text u)) (omega arith) (omega arith)
     go false more = omega (arith, more)
 
@@ -198,7 +193,7 @@ some_text (Hex high low) t e = absurd (cc)
 some_text (Unicode first more) t e = absurd (cc)
 some_text (Continuation c run) t e = absurd (cc)
 
-rows_place : (inside : QuotedUnit → ℕ → ℕ) → IsPlacing inside → (kind : Kind) (us ws : List QuotedUnit) (t : List ℕ) → IsRow kind t us → IsRow kind t ws → (at : ℕ) → place_in inside kind us at ≡ place_in inside kind ws at
+rows_place : (inside : QuotedUnit → ℕ → ℕ) → IsPlacing inside → (kind : Kind) (us ws : List QuotedUnit) (t : List ℕ) → IsUnitRow kind t us → IsUnitRow kind t ws → (at : ℕ) → unit_place inside kind us at ≡ unit_place inside kind ws at
 rows_place inside p kind [] [] t a b at = refl
 rows_place inside p kind [] (w ∷ ws) t a b at = absurd (some_text w (texts ws) (sym a.text_is ∙ b.text_is))
 rows_place inside p kind (u ∷ us) [] t a b at = absurd (some_text u (texts us) (sym b.text_is ∙ a.text_is))
@@ -208,17 +203,14 @@ rows_place inside p kind (u ∷ us) (w ∷ ws) t a b at =
     let same = some_pair (unit_value kind u, texts us) (unit_value kind w, texts ws) (sym first ∙ ap (unit_at kind) (sym a.text_is ∙ b.text_is) ∙ other) in
     let text : unit_text u ≡ unit_text w = append_cancel_right (unit_text u) (unit_text w) (texts ws) (ap (λ z. unit_text u ++ z) (sym same.1) ∙ sym a.text_is ∙ b.text_is) in
     let itself = told kind u a.each.0 ∙ ap (first_passes (is_plain kind)) text ∙ sym (told kind w b.each.0) in
-    step_same _ _ _ _ _ _ (place_in inside kind us) (place_in inside kind ws) at (ap (λ z. length (in_bytes kind z)) same.0) (p.alike u w at itself text) (ap byte_len text) (rows_place inside p kind us ws (texts us) (record { each = a.each.1; ends = a.ends.1; text_is = refl }) (record { each = b.each.1; ends = b.ends.1; text_is = same.1 }))
+    step_same _ _ _ _ _ _ (unit_place inside kind us) (unit_place inside kind ws) at (ap (λ z. length (in_bytes kind z)) same.0) (p.alike u w at itself text) (ap byte_len text) (rows_place inside p kind us ws (texts us) (record { each = a.each.1; ends = a.ends.1; text_is = refl }) (record { each = b.each.1; ends = b.ends.1; text_is = same.1 }))
 
 -- ---- of one literal
 
 abbrev Same : (QuotedUnit → ℕ → ℕ) → Kind → List QuotedUnit → List QuotedUnit → ℕ → ℕ → Type 0
-Same inside kind us ws lo start = (lo ≡ start) × ((at : ℕ) → place_in inside kind us at ≡ place_in inside kind ws at)
+Same inside kind us ws lo start = (lo ≡ start) × ((at : ℕ) → unit_place inside kind us at ≡ unit_place inside kind ws at)
 
-cooked_row : (kind : Kind) (t v x : List ℕ) (c : Cooked kind t v x) → BeginsRow kind (texts c.units ++ (34 ∷ x)) v (34 ∷ x)
-cooked_row kind t v x c = record { units = c.units; each = c.each; ends = row_ends_on c.units (34 ∷ x) refl c.ends; text_is = refl; value_is = c.value_is }
-
-cooked_same : (inside : QuotedUnit → ℕ → ℕ) → IsPlacing inside → (kind : Kind) (t v x w y : List ℕ) (c : Cooked kind t v x) (d : Cooked kind t w y) → (at : ℕ) → place_in inside kind c.units at ≡ place_in inside kind d.units at
+cooked_same : (inside : QuotedUnit → ℕ → ℕ) → IsPlacing inside → (kind : Kind) (t v x w y : List ℕ) (c : Cooked kind t v x) (d : Cooked kind t w y) → (at : ℕ) → unit_place inside kind c.units at ≡ unit_place inside kind d.units at
 cooked_same inside p kind t v x w y c d =
     let text : texts d.units ++ (34 ∷ y) ≡ texts c.units ++ (34 ∷ x) = append_cancel_left (opener kind) _ _ (sym d.text_is ∙ c.text_is) in
     let other = subst (λ z. BeginsRow kind z w (34 ∷ y)) text (cooked_row kind t w y d) in
@@ -226,7 +218,7 @@ cooked_same inside p kind t v x w y c d =
     let units_same : texts c.units ≡ texts d.units = append_cancel_right (texts c.units) (texts d.units) (34 ∷ y) (ap (λ z. texts c.units ++ z) (sym same) ∙ sym text) in
     rows_place inside p kind c.units d.units (texts c.units) (record { each = c.each; ends = c.ends; text_is = refl }) (record { each = d.each; ends = d.ends; text_is = units_same })
 
-single_same : (inside : QuotedUnit → ℕ → ℕ) → IsPlacing inside → (kind : Kind) (t v x w y : List ℕ) (c : Single kind t v x) (d : Single kind t w y) → (at : ℕ) → place_in inside kind (c.unit ∷ []) at ≡ place_in inside kind (d.unit ∷ []) at
+single_same : (inside : QuotedUnit → ℕ → ℕ) → IsPlacing inside → (kind : Kind) (t v x w y : List ℕ) (c : Single kind t v x) (d : Single kind t w y) → (at : ℕ) → unit_place inside kind (c.unit ∷ []) at ≡ unit_place inside kind (d.unit ∷ []) at
 single_same inside p kind t v x w y c d =
     let text : unit_text c.unit ++ (39 ∷ x) ≡ unit_text d.unit ++ (39 ∷ y) = append_cancel_left (opener kind) _ _ (sym c.text_is ∙ d.text_is) in
     let first = unit_complete kind c.unit (39 ∷ x) c.is_unit (ends_before c.unit (39 ∷ x) refl) in
@@ -237,12 +229,12 @@ single_same inside p kind t v x w y c d =
 
 one_place : (inside : QuotedUnit → ℕ → ℕ) → IsPlacing inside → (kind : Kind) (t : List ℕ) (us ws : List QuotedUnit) (lo start : ℕ) → AreUnitsOf kind t us lo → AreUnitsOf kind t ws start → Same inside kind us ws lo start
 one_place inside p kind t us ws lo start (inl (v, x, c, are, at)) (inl (w, y, d, other, from)) =
-    (at ∙ sym from, λ i. ap (λ z. place_in inside kind z i) are ∙ cooked_same inside p kind t v x w y c d i ∙ ap (λ z. place_in inside kind z i) (sym other))
+    (at ∙ sym from, λ i. ap (λ z. unit_place inside kind z i) are ∙ cooked_same inside p kind t v x w y c d i ∙ ap (λ z. unit_place inside kind z i) (sym other))
 one_place inside p kind t us ws lo start (inr (inl (v, x, c, are, at))) (inr (inl (w, y, d, other, from))) =
     let same = raw_same kind t v x w y c d in
-    (at ∙ ap (λ n. length (raw_opener kind) + n + 1) same.0 ∙ sym from, λ i. ap (λ z. place_in inside kind z i) (are ∙ ap (map Plain) same.1 ∙ sym other))
+    (at ∙ ap (λ n. length (raw_opener kind) + n + 1) same.0 ∙ sym from, λ i. ap (λ z. unit_place inside kind z i) (are ∙ ap (map Plain) same.1 ∙ sym other))
 one_place inside p kind t us ws lo start (inr (inr (v, x, c, are, at))) (inr (inr (w, y, d, other, from))) =
-    (at ∙ sym from, λ i. ap (λ z. place_in inside kind z i) are ∙ single_same inside p kind t v x w y c d i ∙ ap (λ z. place_in inside kind z i) (sym other))
+    (at ∙ sym from, λ i. ap (λ z. unit_place inside kind z i) are ∙ single_same inside p kind t v x w y c d i ∙ ap (λ z. unit_place inside kind z i) (sym other))
 one_place inside p kind t us ws lo start (inl (v, x, c, are, at)) (inr (inl (w, y, d, other, from))) = absurd (openers_differ kind _ _ c.string (sym c.text_is ∙ d.text_is))
 one_place inside p kind t us ws lo start (inr (inl (v, x, c, are, at))) (inl (w, y, d, other, from)) = absurd (openers_differ kind _ _ c.string (sym d.text_is ∙ c.text_is))
 one_place inside p kind t us ws lo start (inl (v, x, c, are, at)) (inr (inr (w, y, d, other, from))) = absurd (not_both kind c.string d.single)
@@ -266,7 +258,7 @@ keep_order kind text = record {
 
 -- ---- places in the body
 
-place_within : (inside : QuotedUnit → ℕ → ℕ) → IsPlacing inside → (kind : Kind) (us : List QuotedUnit) (at : ℕ) → place_in inside kind us at ≤ byte_len (texts us)
+place_within : (inside : QuotedUnit → ℕ → ℕ) → IsPlacing inside → (kind : Kind) (us : List QuotedUnit) (at : ℕ) → unit_place inside kind us at ≤ byte_len (texts us)
 place_within inside p kind [] at = omega arith
 place_within inside p kind (u ∷ us) at =
     let n = length (unit_bytes kind u) in
@@ -284,17 +276,17 @@ units_long kind false body us are =
     (sym text, omega (arith, text, ap length (values_bytes kind us), (row_shrinks kind us are.each).no_longer))
 
 -- where the body is the contents, each byte is its own place
-itself_places : (inside : QuotedUnit → ℕ → ℕ) (d : ℕ) → ((c i : ℕ) → inside (Plain c) i ≡ i + d) → (kind : Kind) (plain : Bool) (body : List ℕ) (us : List QuotedUnit) (at : ℕ) → plain ≡ true → AreUnitsIn kind plain body us → at < byte_len body → place_in inside kind us at ≡ at + d
+itself_places : (inside : QuotedUnit → ℕ → ℕ) (d : ℕ) → ((c i : ℕ) → inside (Plain c) i ≡ i + d) → (kind : Kind) (plain : Bool) (body : List ℕ) (us : List QuotedUnit) (at : ℕ) → plain ≡ true → AreUnitsIn kind plain body us → at < byte_len body → unit_place inside kind us at ≡ at + d
 itself_places inside d itself kind false body us at is are h = absurd (cc)
 itself_places inside d itself kind true body us at is are h =
-    ap (λ z. place_in inside kind z at) (are ∙ sym (append-nil (map Plain body))) ∙ place_in_run inside d kind body [] at itself h
+    ap (λ z. unit_place inside kind z at) (are ∙ sym (append-nil (map Plain body))) ∙ place_in_run inside d kind body [] at itself h
 
 all_long : (kind : Kind) (plain : Bool) (body : List ℕ) (us : List QuotedUnit) → plain ≡ true → AreUnitsIn kind plain body us → length (units_bytes kind us) ≡ byte_len body
 all_long kind false body us is are = absurd (cc)
 all_long kind true body us is are = ap (λ z. length (units_bytes kind z)) are ∙ ap length (run_bytes kind body)
 
 -- the place that the cursor of these places finds
-of_body : (inside : QuotedUnit → ℕ → ℕ) → IsPlacing inside → (kind : Kind) (t : List ℕ) (body : Body) (at place : ℕ) → IsUtf8 t → IsQuotedAt kind t body → IsGivenAt inside kind (chars t) at place → (us : List QuotedUnit) × AreUnitsIn kind body.plain (chars (body_in t body)) us × (place ≡ body.lo + place_in inside kind us at)
+of_body : (inside : QuotedUnit → ℕ → ℕ) → IsPlacing inside → (kind : Kind) (t : List ℕ) (body : Body) (at place : ℕ) → IsUtf8 t → IsQuotedAt kind t body → IsGivenAt inside kind (chars t) at place → (us : List QuotedUnit) × AreUnitsIn kind body.plain (chars (body_in t body)) us × (place ≡ body.lo + unit_place inside kind us at)
 of_body inside w kind t body at place u q p =
     let s = segments_of kind t (body_in t body) body u refl q in
     let us = s.has.0 in
@@ -368,8 +360,8 @@ in_text inside w kind t at place p = go p.units_are
     go (inr (inr (v, x, s, are, from))) =
         omega (arith, p.place_is, from, place_within inside w kind p.units at, ap (λ z. byte_len (texts z)) are, ap byte_len (append-nil (unit_text s.unit)), ap byte_len s.text_is, byte_len_append (opener kind) (unit_text s.unit ++ (39 ∷ x)), byte_len_append (unit_text s.unit) (39 ∷ x), length-le-encodes (opener kind))
 
-pub place_in_text : (kind : Kind) (t : List ℕ) (at place : ℕ) → IsPlaceOf kind t at place → place ≤ byte_len t
+pub place_in_text : (kind : Kind) (t : List ℕ) (at place : ℕ) → IsBytePlace kind t at place → place ≤ byte_len t
 place_in_text = in_text begins_in begins_placing
 
-pub end_in_text : (kind : Kind) (t : List ℕ) (at place : ℕ) → IsEndOf kind t at place → place ≤ byte_len t
+pub end_in_text : (kind : Kind) (t : List ℕ) (at place : ℕ) → IsByteEnd kind t at place → place ≤ byte_len t
 end_in_text = in_text ends_in ends_placing

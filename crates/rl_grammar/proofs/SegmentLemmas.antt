@@ -1,28 +1,22 @@
 -- The segments of a quoted literal, one after another.
-use Rattle.std.proofs.Common.{◌≡◌, ◌==◌, ℕ, ◌+◌, ◌-◌, ◌<◌, ◌≤◌, Bool, true, false, cond, ltb, List, [], ◌∷◌, ◌++◌, length, get_or, map, Some, None, refl, sym, ap, subst, ◌∙◌, arith, append_assoc, append-nil, length-append}
+use Rattle.rl_grammar.proofs.Names.{◌≡◌, ◌==◌, ℕ, ◌+◌, ◌<◌, ◌≤◌, Bool, true, false, cond, ltb, List, [], ◌∷◌, ◌++◌, length, get_or, Some, None, refl, sym, ap, subst, ◌∙◌, arith, append_assoc, append-nil, encode_utf8, encode_utf8_all, list_all, IsUtf8, and_parts, both_ways, eqb-true, lt-ltb, ltb-false, ltb-true, flat_map-append, encodes-append, encodes-chars, chars-nil, Kind, byte_len, first_passes, QuotedUnit, Plain, CrLf, Named, Hex, Unicode, Continuation, unit_text, unit_value, content_of, is_plain, is_string, IsUnit, EndsBefore, texts}
+use Rattle.std.proofs.Common.{◌-◌, map, length-append}
 use denote.Ref.{Bor}
-use Rattle.std.specs.Prelude.{encode_utf8, encode_utf8_all}
-use Rattle.std.specs.List.{list_all}
-use Rattle.std.specs.Str.{chars, IsUtf8}
-use Rattle.std.proofs.lemmas.Bool.{and_parts, both_ways, eqb-true, lt-ltb, ltb-false, ltb-true}
+use Rattle.std.specs.Str.{chars}
 use Rattle.std.proofs.Math.Seq.{get_or-append_seam}
 use Rattle.std.proofs.lemmas.List.{get_or_append_left}
-use Rattle.std.proofs.lemmas.List.Concat.{flat_map-append}
-use Rattle.std.proofs.lemmas.Str.{encodes-append, encodes-chars, chars-nil}
-use Rattle.rl_tokens.specs.declared.kind.Kind.{Kind}
 use Rattle.rl_tokens.specs.declared.span.Span.{Span}
 use Rattle.rl_tokens.specs.Errors.{nowhere}
-use Rattle.rl_tokens.specs.Texts.{byte_len, first_passes}
-use Rattle.rl_tokens.specs.Quoted.{QuotedUnit, Plain, CrLf, Named, Hex, Unicode, Continuation, unit_text, unit_value, content_of, is_plain, is_string, IsUnit, EndsBefore, texts}
 use Rattle.rl_grammar.specs.declared.segments.Segment.{Segment}
 use Rattle.rl_grammar.specs.declared.segments.SegmentValue.{SegmentValue}
 use Rattle.rl_grammar.specs.declared.segments.SegmentValue.TheVariants.{Text, Char, Byte, Nothing}
 use Rattle.rl_grammar.specs.declared.units.Piece.{Piece}
 use Rattle.rl_grammar.specs.Decoded.{in_bytes, piece_bytes}
-use Rattle.rl_grammar.specs.Mirrors.UnitAt.{found, piece_value, IsPieceOf, unit_at}
-use Rattle.rl_grammar.specs.Segments.{unit_bytes, units_bytes, is_itself, begins_in, ends_in, place_in, span_from, segment_end, segment_place, value_end, GivesByte, IsRow, AreUnitsIn, AreUnitsFor, AreLeft, IsLeftAt, IsLongest, IsNoText, IsPastLeft, IsSegmentOf, IsFront, IsSpanTable, IsSegmentsState, SegmentsState, TakesSegment, value_bytes, value_place}
+use Rattle.rl_grammar.specs.Mirrors.UnitAt.{found, piece_value, IsHeldBy, unit_at}
+use Rattle.rl_grammar.specs.Segments.{unit_bytes, units_bytes, is_itself, begins_in, ends_in, unit_place, span_from, segment_end, segment_place, value_end, GivesByte, IsUnitRow, AreUnitsIn, AreUnitsFor, AreLeft, IsLeftAt, IsLongest, IsNoText, IsPastLeft, IsSegmentOf, IsFirstSegment, IsSpanTable, IsSegmentsState, SegmentsState, TakesSegment, value_bytes, value_place}
 use Rattle.rl_grammar.proofs.ContentLemmas.{held_in_bytes, piece_in_bytes}
 use Rattle.rl_grammar.proofs.UnitLemmas.{some_pair, plain_complete, unit_complete, unit_nil}
+use Rattle.rl_grammar.proofs.FrontLenLemmas.{byte_len_append}
 
 -- ---- rows of units
 
@@ -34,9 +28,9 @@ pub record UnitInFront (kind : Kind) (t v r : List ℕ) : Type 0 where
   pub text_is : t ≡ unit_text unit ++ r
   pub value_is : v ≡ unit_value kind unit
   pub others : List QuotedUnit
-  pub row : IsRow kind r others
+  pub row : IsUnitRow kind r others
 
-pub row_front : (kind : Kind) (t : List ℕ) (us : List QuotedUnit) (p : List ℕ × List ℕ) → IsRow kind t us → unit_at kind t ≡ Some p → UnitInFront kind t p.0 p.1
+pub row_front : (kind : Kind) (t : List ℕ) (us : List QuotedUnit) (p : List ℕ × List ℕ) → IsUnitRow kind t us → unit_at kind t ≡ Some p → UnitInFront kind t p.0 p.1
 row_front kind t [] p row h = let e : None ≡ Some p = sym (ap (unit_at kind) row.text_is ∙ unit_nil kind) ∙ h in absurd (cc)
 row_front kind t (u ∷ us) p row h =
     let first = ap (unit_at kind) row.text_is ∙ unit_complete kind u (texts us) row.each.0 row.ends.0 in
@@ -52,27 +46,27 @@ row_front kind t (u ∷ us) p row h =
     }
 
 -- where a row has some text, a unit stands there
-pub row_stands : (kind : Kind) (t : List ℕ) (us : List QuotedUnit) → IsRow kind t us → (t ≡ [] → ⊥) → unit_at kind t ≡ None → ⊥
+pub row_stands : (kind : Kind) (t : List ℕ) (us : List QuotedUnit) → IsUnitRow kind t us → (t ≡ [] → ⊥) → unit_at kind t ≡ None → ⊥
 row_stands kind t [] row some h = some row.text_is
 row_stands kind t (u ∷ us) row some h =
     let e : None ≡ found (unit_value kind u) (texts us) = sym h ∙ ap (unit_at kind) row.text_is ∙ unit_complete kind u (texts us) row.each.0 row.ends.0 in absurd (cc)
 
 -- what follows a run of plain characters
-pub row_behind_run : (kind : Kind) (run b : List ℕ) (us : List QuotedUnit) → list_all (is_plain kind) run ≡ true → IsRow kind (run ++ b) us → (ws : List QuotedUnit) × IsRow kind b ws
+pub row_behind_run : (kind : Kind) (run b : List ℕ) (us : List QuotedUnit) → list_all (is_plain kind) run ≡ true → IsUnitRow kind (run ++ b) us → (ws : List QuotedUnit) × IsUnitRow kind b ws
 row_behind_run kind [] b us plain row = (us, row)
 row_behind_run kind (c ∷ run) b us plain row =
     let parts = and_parts (is_plain kind c) (list_all (is_plain kind) run) plain in
     let front = row_front kind (c ∷ (run ++ b)) us (content_of kind (c ∷ []), run ++ b) row (plain_complete kind c (run ++ b) parts.0) in
     row_behind_run kind run b front.others parts.1 front.row
 
-pub run_joined : (kind : Kind) (run b : List ℕ) (ws : List QuotedUnit) → list_all (is_plain kind) run ≡ true → IsRow kind b ws → IsRow kind (run ++ b) (map Plain run ++ ws)
+pub run_joined : (kind : Kind) (run b : List ℕ) (ws : List QuotedUnit) → list_all (is_plain kind) run ≡ true → IsUnitRow kind b ws → IsUnitRow kind (run ++ b) (map Plain run ++ ws)
 run_joined kind [] b ws plain row = row
 run_joined kind (c ∷ run) b ws plain row =
     let parts = and_parts (is_plain kind c) (list_all (is_plain kind) run) plain in
     let more = run_joined kind run b ws parts.1 row in
     record { each = (parts.0, more.each); ends = (tt, more.ends); text_is = ap (λ z. c ∷ z) more.text_is }
 
-pub unit_joined : (kind : Kind) (t b : List ℕ) (u : QuotedUnit) (ws : List QuotedUnit) → IsUnit kind u → EndsBefore u b → t ≡ unit_text u ++ b → IsRow kind b ws → IsRow kind t (u ∷ ws)
+pub unit_joined : (kind : Kind) (t b : List ℕ) (u : QuotedUnit) (ws : List QuotedUnit) → IsUnit kind u → EndsBefore u b → t ≡ unit_text u ++ b → IsUnitRow kind b ws → IsUnitRow kind t (u ∷ ws)
 unit_joined kind t b u ws allowed ends text_is row =
     record { each = (allowed, row.each); ends = (subst (EndsBefore u) row.text_is ends, row.ends); text_is = text_is ∙ ap (λ z. unit_text u ++ z) row.text_is }
 
@@ -97,8 +91,8 @@ run_segment kind run u = record { are = refl; bytes_are = sym (run_bytes kind (c
 -- ---- what stands in front
 
 -- all of a plain body
-pub plain_front : (kind : Kind) (plain : Bool) (run : Bor (List ℕ)) → plain ≡ true → IsUtf8 run.now → IsFront kind plain (chars run.now) (Text run) (chars [])
-plain_front kind true run is u = subst (IsFront kind true (chars run.now) (Text run)) (sym chars-nil) (record {
+pub plain_front : (kind : Kind) (plain : Bool) (run : Bor (List ℕ)) → plain ≡ true → IsUtf8 run.now → IsFirstSegment kind plain (chars run.now) (Text run) (chars [])
+plain_front kind true run is u = subst (IsFirstSegment kind true (chars run.now) (Text run)) (sym chars-nil) (record {
   units = map Plain (chars run.now);
   is_segment = run_segment kind run u;
   text_is = sym (append-nil (texts (map Plain (chars run.now))) ∙ run_texts (chars run.now));
@@ -108,15 +102,15 @@ plain_front kind true run is u = subst (IsFront kind true (chars run.now) (Text 
 plain_front kind false run is u = absurd (cc)
 
 -- a run of plain characters
-pub run_front : (kind : Kind) (plain : Bool) (t b : List ℕ) (run : Bor (List ℕ)) → plain ≡ false → IsUtf8 run.now → t ≡ chars run.now ++ b → list_all (is_plain kind) (chars run.now) ≡ true → (us : List QuotedUnit) × AreUnitsIn kind plain t us → IsFront kind plain t (Text run) b
+pub run_front : (kind : Kind) (plain : Bool) (t b : List ℕ) (run : Bor (List ℕ)) → plain ≡ false → IsUtf8 run.now → t ≡ chars run.now ++ b → list_all (is_plain kind) (chars run.now) ≡ true → (us : List QuotedUnit) × AreUnitsIn kind plain t us → IsFirstSegment kind plain t (Text run) b
 run_front kind false t b run is u cut plain has =
     let cs = chars run.now in
     record {
       units = map Plain cs;
       is_segment = run_segment kind run u;
       text_is = cut ∙ ap (λ z. z ++ b) (sym (run_texts cs));
-      left = row_behind_run kind cs b has.0 plain (subst (λ z. IsRow kind z has.0) cut has.1);
-      goes_on = λ others h. subst (λ z. IsRow kind z (map Plain cs ++ others)) (sym cut) (run_joined kind cs b others plain h);
+      left = row_behind_run kind cs b has.0 plain (subst (λ z. IsUnitRow kind z has.0) cut has.1);
+      goes_on = λ others h. subst (λ z. IsUnitRow kind z (map Plain cs ++ others)) (sym cut) (run_joined kind cs b others plain h);
     }
 run_front kind true t b run is u cut plain has = absurd (cc)
 
@@ -135,7 +129,7 @@ one_unit (Char c) u none other = (u, refl, other)
 one_unit (Byte b) u none other = (u, refl, other)
 one_unit Nothing u none other = (u, refl, other)
 
-pub unit_front : (kind : Kind) (plain : Bool) (t b : List ℕ) (piece : Piece) (v : SegmentValue) → plain ≡ false → first_passes (is_plain kind) t ≡ false → unit_at kind t ≡ Some (piece_value kind piece, b) → IsPieceOf kind piece → value_bytes v ≡ piece_bytes piece → IsNoText v → (us : List QuotedUnit) × AreUnitsIn kind plain t us → IsFront kind plain t v b
+pub unit_front : (kind : Kind) (plain : Bool) (t b : List ℕ) (piece : Piece) (v : SegmentValue) → plain ≡ false → first_passes (is_plain kind) t ≡ false → unit_at kind t ≡ Some (piece_value kind piece, b) → IsHeldBy kind piece → value_bytes v ≡ piece_bytes piece → IsNoText v → (us : List QuotedUnit) × AreUnitsIn kind plain t us → IsFirstSegment kind plain t v b
 unit_front kind false t b piece v is stops unit fits bytes none has =
     let f = row_front kind t has.0 (piece_value kind piece, b) has.1 unit in
     let u = f.unit in
@@ -156,7 +150,7 @@ pub cut_bytes : (t a b : List ℕ) → IsUtf8 t → IsUtf8 a → IsUtf8 b → ch
 cut_bytes t a b ut ua ub e = sym (encodes-chars t ut) ∙ ap encode_utf8_all e ∙ encodes-append (chars a) (chars b) ∙ ap (λ z. z ++ encode_utf8_all (chars b)) (encodes-chars a ua) ∙ ap (λ z. a ++ z) (encodes-chars b ub)
 
 -- what is left to show that a unit stands there
-pub row_of : (kind : Kind) (plain : Bool) (t : List ℕ) → plain ≡ false → (us : List QuotedUnit) × AreUnitsIn kind plain t us → (us : List QuotedUnit) × IsRow kind t us
+pub row_of : (kind : Kind) (plain : Bool) (t : List ℕ) → plain ≡ false → (us : List QuotedUnit) × AreUnitsIn kind plain t us → (us : List QuotedUnit) × IsUnitRow kind t us
 row_of kind false t is has = has
 row_of kind true t is has = absurd (cc)
 
@@ -179,7 +173,7 @@ no_length empty (x ∷ xs) e none = let zero = eqb-true (length (x ∷ xs)) 0 (s
 abbrev pub StateOf : Kind → Bool → ℕ → List ℕ → SegmentsState
 StateOf kind plain end rest = record { kind = kind; plain = plain; at = end - length rest; rest = rest }
 
-pub takes_segment : (kind : Kind) (plain : Bool) (end : ℕ) (rest after : List ℕ) (v : SegmentValue) → IsSegmentsState kind plain end rest → IsUtf8 after → IsFront kind plain (chars rest) v (chars after) → IsLongest kind v (chars after) → TakesSegment (StateOf kind plain end rest) (record { lo = end - length rest; hi = end - length after; value = v }) (StateOf kind plain end after)
+pub takes_segment : (kind : Kind) (plain : Bool) (end : ℕ) (rest after : List ℕ) (v : SegmentValue) → IsSegmentsState kind plain end rest → IsUtf8 after → IsFirstSegment kind plain (chars rest) v (chars after) → IsLongest kind v (chars after) → TakesSegment (StateOf kind plain end rest) (record { lo = end - length rest; hi = end - length after; value = v }) (StateOf kind plain end after)
 takes_segment kind plain end rest after v s u f longest =
     let whole : rest ≡ encode_utf8_all (texts f.units) ++ after = sym (encodes-chars rest s.is_text) ∙ ap encode_utf8_all f.text_is ∙ encodes-append (texts f.units) (chars after) ∙ ap (λ z. encode_utf8_all (texts f.units) ++ z) (encodes-chars after u) in
     let long : length rest ≡ byte_len (texts f.units) + length after = ap length whole ∙ length-append (encode_utf8_all (texts f.units)) after in
@@ -216,26 +210,23 @@ tested P a n x y f g = go (ltb a n) refl
     go true e = f (ltb-true a n e)
     go false e = g (ltb-false a n e)
 
-pub byte_len_append : (a b : List ℕ) → byte_len (a ++ b) ≡ byte_len a + byte_len b
-byte_len_append a b = ap length (encodes-append a b) ∙ length-append (encode_utf8_all a) (encode_utf8_all b)
-
 -- past these units
-pub place_past : (inside : QuotedUnit → ℕ → ℕ) (kind : Kind) (done us : List QuotedUnit) (at left : ℕ) → at ≡ length (units_bytes kind done) + left → place_in inside kind (done ++ us) at ≡ byte_len (texts done) + place_in inside kind us left
+pub place_past : (inside : QuotedUnit → ℕ → ℕ) (kind : Kind) (done us : List QuotedUnit) (at left : ℕ) → at ≡ length (units_bytes kind done) + left → unit_place inside kind (done ++ us) at ≡ byte_len (texts done) + unit_place inside kind us left
 place_past inside kind [] us at left e =
     let same : at ≡ left = omega (arith, e) in
-    let places : place_in inside kind us at ≡ place_in inside kind us left = ap (place_in inside kind us) same in
+    let places : unit_place inside kind us at ≡ unit_place inside kind us left = ap (unit_place inside kind us) same in
     omega (arith, places)
 place_past inside kind (u ∷ done) us at left e =
     let n = length (unit_bytes kind u) in
     let total : at ≡ n + (length (units_bytes kind done) + left) = omega (arith, e, length-append (unit_bytes kind u) (units_bytes kind done)) in
     let more = place_past inside kind done us (at - n) left (omega (arith, total)) in
-    let Goal : ℕ → Type 0 = λ z. z ≡ byte_len (texts (u ∷ done)) + place_in inside kind us left in
+    let Goal : ℕ → Type 0 = λ z. z ≡ byte_len (texts (u ∷ done)) + unit_place inside kind us left in
     tested Goal at n _ _
     (λ small. absurd (omega (arith, total, small)))
     (λ large. omega (arith, more, byte_len_append (unit_text u) (texts done)))
 
 -- in text that stands for itself
-pub place_in_run : (inside : QuotedUnit → ℕ → ℕ) (d : ℕ) (kind : Kind) (cs : List ℕ) (us : List QuotedUnit) (at : ℕ) → ((c i : ℕ) → inside (Plain c) i ≡ i + d) → at < length (encode_utf8_all cs) → place_in inside kind (map Plain cs ++ us) at ≡ at + d
+pub place_in_run : (inside : QuotedUnit → ℕ → ℕ) (d : ℕ) (kind : Kind) (cs : List ℕ) (us : List QuotedUnit) (at : ℕ) → ((c i : ℕ) → inside (Plain c) i ≡ i + d) → at < length (encode_utf8_all cs) → unit_place inside kind (map Plain cs ++ us) at ≡ at + d
 place_in_run inside d kind [] us at plain small = absurd (omega (arith, small))
 place_in_run inside d kind (c ∷ cs) us at plain small =
     let n = length (unit_bytes kind (Plain c)) in
@@ -253,7 +244,7 @@ pub ends_plain : (c i : ℕ) → ends_in (Plain c) i ≡ i + 1
 ends_plain c i = refl
 
 -- in a unit
-pub place_in_unit : (inside : QuotedUnit → ℕ → ℕ) (kind : Kind) (u : QuotedUnit) (us : List QuotedUnit) (at : ℕ) → at < length (unit_bytes kind u) → place_in inside kind (u ∷ us) at ≡ inside u at
+pub place_in_unit : (inside : QuotedUnit → ℕ → ℕ) (kind : Kind) (u : QuotedUnit) (us : List QuotedUnit) (at : ℕ) → at < length (unit_bytes kind u) → unit_place inside kind (u ∷ us) at ≡ inside u at
 place_in_unit inside kind u us at small = rw (lt-ltb at (length (unit_bytes kind u)) small) refl
 
 -- in a segment that is one unit
@@ -261,7 +252,7 @@ pub record IsOneUnit (inside : QuotedUnit → ℕ → ℕ) (kind : Kind) (units 
   pub unit : QuotedUnit
   pub are : units ≡ unit ∷ []
   pub other : is_itself unit ≡ false
-  pub place : place_in inside kind (units ++ us) at ≡ inside unit at
+  pub place : unit_place inside kind (units ++ us) at ≡ inside unit at
 
 one_place_in : (inside : QuotedUnit → ℕ → ℕ) (kind : Kind) (units us : List QuotedUnit) (at : ℕ) (bytes : List ℕ) → (u : QuotedUnit) × (units ≡ u ∷ []) × (is_itself u ≡ false) → bytes ≡ units_bytes kind units → at < length bytes → IsOneUnit inside kind units us at
 one_place_in inside kind units us at bytes one e small =
@@ -271,28 +262,28 @@ one_place_in inside kind units us at bytes one e small =
       unit = u;
       are = one.1;
       other = one.2;
-      place = ap (λ z. place_in inside kind (z ++ us) at) one.1 ∙ place_in_unit inside kind u us at (omega (arith, long, small));
+      place = ap (λ z. unit_place inside kind (z ++ us) at) one.1 ∙ place_in_unit inside kind u us at (omega (arith, long, small));
     }
 
-one_begins : (kind : Kind) (units us : List QuotedUnit) (at : ℕ) → IsOneUnit begins_in kind units us at → place_in begins_in kind (units ++ us) at ≡ 0
+one_begins : (kind : Kind) (units us : List QuotedUnit) (at : ℕ) → IsOneUnit begins_in kind units us at → unit_place begins_in kind (units ++ us) at ≡ 0
 one_begins kind units us at o = o.place ∙ ap (λ z. cond z at 0) o.other
 
-one_ends : (kind : Kind) (units us : List QuotedUnit) (at : ℕ) → IsOneUnit ends_in kind units us at → place_in ends_in kind (units ++ us) at ≡ byte_len (texts units)
+one_ends : (kind : Kind) (units us : List QuotedUnit) (at : ℕ) → IsOneUnit ends_in kind units us at → unit_place ends_in kind (units ++ us) at ≡ byte_len (texts units)
 one_ends kind units us at o =
     o.place ∙ ap (λ z. cond z (at + 1) (byte_len (unit_text o.unit))) o.other ∙ ap byte_len (sym (append-nil (unit_text o.unit)) ∙ ap texts (sym o.are))
 
-pub begins_in_segment : (kind : Kind) (v : SegmentValue) (units us : List QuotedUnit) (at : ℕ) → IsSegmentOf kind v units → at < length (value_bytes v) → place_in begins_in kind (units ++ us) at ≡ value_place v at
+pub begins_in_segment : (kind : Kind) (v : SegmentValue) (units us : List QuotedUnit) (at : ℕ) → IsSegmentOf kind v units → at < length (value_bytes v) → unit_place begins_in kind (units ++ us) at ≡ value_place v at
 begins_in_segment kind (Text run) units us at s small =
     let bytes = ap length s.bytes_are ∙ ap (λ z. length (units_bytes kind z)) s.are ∙ ap length (run_bytes kind (chars run.now)) in
-    ap (λ z. place_in begins_in kind (z ++ us) at) s.are ∙ place_in_run begins_in 0 kind (chars run.now) us at begins_plain (omega (arith, bytes, small)) ∙ omega arith
+    ap (λ z. unit_place begins_in kind (z ++ us) at) s.are ∙ place_in_run begins_in 0 kind (chars run.now) us at begins_plain (omega (arith, bytes, small)) ∙ omega arith
 begins_in_segment kind (Char c) units us at s small = one_begins kind units us at (one_place_in begins_in kind units us at (encode_utf8 c) s.are s.bytes_are small)
 begins_in_segment kind (Byte b) units us at s small = one_begins kind units us at (one_place_in begins_in kind units us at (b ∷ []) s.are s.bytes_are small)
 begins_in_segment kind Nothing units us at s small = absurd (omega (arith, small))
 
-pub ends_in_segment : (kind : Kind) (v : SegmentValue) (units us : List QuotedUnit) (lo hi at : ℕ) → IsSegmentOf kind v units → hi ≡ lo + byte_len (texts units) → at < length (value_bytes v) → lo + place_in ends_in kind (units ++ us) at ≡ value_end v lo hi at
+pub ends_in_segment : (kind : Kind) (v : SegmentValue) (units us : List QuotedUnit) (lo hi at : ℕ) → IsSegmentOf kind v units → hi ≡ lo + byte_len (texts units) → at < length (value_bytes v) → lo + unit_place ends_in kind (units ++ us) at ≡ value_end v lo hi at
 ends_in_segment kind (Text run) units us lo hi at s long small =
     let bytes = ap length s.bytes_are ∙ ap (λ z. length (units_bytes kind z)) s.are ∙ ap length (run_bytes kind (chars run.now)) in
-    let place = ap (λ z. place_in ends_in kind (z ++ us) at) s.are ∙ place_in_run ends_in 1 kind (chars run.now) us at ends_plain (omega (arith, bytes, small)) in
+    let place = ap (λ z. unit_place ends_in kind (z ++ us) at) s.are ∙ place_in_run ends_in 1 kind (chars run.now) us at ends_plain (omega (arith, bytes, small)) in
     omega (arith, place)
 ends_in_segment kind (Char c) units us lo hi at s long small = omega (arith, long, one_ends kind units us at (one_place_in ends_in kind units us at (encode_utf8 c) s.are s.bytes_are small))
 ends_in_segment kind (Byte b) units us lo hi at s long small = omega (arith, long, one_ends kind units us at (one_place_in ends_in kind units us at (b ∷ []) s.are s.bytes_are small))
@@ -320,10 +311,10 @@ place_below kind s units i is_segment long some small = go s.value refl
     go Nothing e = omega (arith, some, ap (λ z. value_place z i) e)
 
 -- past what the units stand for
-pub place_at_end : (inside : QuotedUnit → ℕ → ℕ) (kind : Kind) (us : List QuotedUnit) (at : ℕ) → length (units_bytes kind us) ≤ at → place_in inside kind us at ≡ byte_len (texts us)
+pub place_at_end : (inside : QuotedUnit → ℕ → ℕ) (kind : Kind) (us : List QuotedUnit) (at : ℕ) → length (units_bytes kind us) ≤ at → unit_place inside kind us at ≡ byte_len (texts us)
 place_at_end inside kind us at h =
     let past = place_past inside kind us [] at (at - length (units_bytes kind us)) (omega (arith, h)) in
-    ap (λ z. place_in inside kind z at) (sym (append-nil us)) ∙ past ∙ omega arith
+    ap (λ z. unit_place inside kind z at) (sym (append-nil us)) ∙ past ∙ omega arith
 
 -- ---- the walk to a place
 
@@ -406,20 +397,20 @@ past_left inside s at place p e = record { units = p.units; are_left = p.are_lef
 -- ---- tables
 
 -- before more units
-pub place_before : (inside : QuotedUnit → ℕ → ℕ) (kind : Kind) (done more : List QuotedUnit) (at : ℕ) → at < length (units_bytes kind done) → place_in inside kind (done ++ more) at ≡ place_in inside kind done at
+pub place_before : (inside : QuotedUnit → ℕ → ℕ) (kind : Kind) (done more : List QuotedUnit) (at : ℕ) → at < length (units_bytes kind done) → unit_place inside kind (done ++ more) at ≡ unit_place inside kind done at
 place_before inside kind [] more at h = absurd (omega (arith, h))
 place_before inside kind (u ∷ done) more at h =
     let n = length (unit_bytes kind u) in
     let both = length-append (unit_bytes kind u) (units_bytes kind done) in
     go (ltb at n) refl (λ large. place_before inside kind done more (at - n) (omega (arith, h, both, large)))
   where
-    go : (b : Bool) → ltb at (length (unit_bytes kind u)) ≡ b → (length (unit_bytes kind u) ≤ at → place_in inside kind (done ++ more) (at - length (unit_bytes kind u)) ≡ place_in inside kind done (at - length (unit_bytes kind u))) → cond b (inside u at) (byte_len (unit_text u) + place_in inside kind (done ++ more) (at - length (unit_bytes kind u))) ≡ cond b (inside u at) (byte_len (unit_text u) + place_in inside kind done (at - length (unit_bytes kind u)))
+    go : (b : Bool) → ltb at (length (unit_bytes kind u)) ≡ b → (length (unit_bytes kind u) ≤ at → unit_place inside kind (done ++ more) (at - length (unit_bytes kind u)) ≡ unit_place inside kind done (at - length (unit_bytes kind u))) → cond b (inside u at) (byte_len (unit_text u) + unit_place inside kind (done ++ more) (at - length (unit_bytes kind u))) ≡ cond b (inside u at) (byte_len (unit_text u) + unit_place inside kind done (at - length (unit_bytes kind u)))
     go true e ih = refl
     go false e ih = ap (λ z. byte_len (unit_text u) + z) (ih (ltb-false at (length (unit_bytes kind u)) e))
 
 -- the span of a byte, by its unit
 abbrev pub unit_span : SegmentsState → Span → List QuotedUnit → ℕ → Span
-unit_span s base units at = span_from base (s.at + place_in begins_in s.kind units at) (s.at + place_in ends_in s.kind units at)
+unit_span s base units at = span_from base (s.at + unit_place begins_in s.kind units at) (s.at + unit_place ends_in s.kind units at)
 
 pub record IsTabled (start now : SegmentsState) (base : Span) (table : List Span) : Type 0 where
   pub done : List QuotedUnit
@@ -464,8 +455,8 @@ tabled_more start old new base table grown s t takes long kept added =
           let none = append-nil takes.units in
           let begins = place_past begins_in kind t.done takes.units at i from in
           let ends = place_past ends_in kind t.done takes.units at i from in
-          let first = ap (λ z. place_in begins_in kind z i) (sym none) ∙ begins_in_segment kind s.value takes.units [] i segment small in
-          let last = ap (λ z. s.lo + place_in ends_in kind z i) (sym none) ∙ ends_in_segment kind s.value takes.units [] s.lo s.hi i segment takes.long small in
+          let first = ap (λ z. unit_place begins_in kind z i) (sym none) ∙ begins_in_segment kind s.value takes.units [] i segment small in
+          let last = ap (λ z. s.lo + unit_place ends_in kind z i) (sym none) ∙ ends_in_segment kind s.value takes.units [] s.lo s.hi i segment takes.long small in
           ap (λ z. get_or grown z nowhere) is ∙ added i small ∙ same_span base _ _ _ _ (omega (arith, begins, first, t.place_is, takes.lo_is)) (omega (arith, ends, last, t.place_is, takes.lo_is)));
     }
 

@@ -1,13 +1,8 @@
 -- The segments of a whole literal.
-use Rattle.std.proofs.Common.{◌≡◌, ◌⊎◌, inl, inr, ℕ, ◌+◌, ◌-◌, ◌≤◌, Bool, true, false, List, [], ◌∷◌, ◌++◌, length, drop, map, refl, sym, ap, subst, ◌∙◌, arith, append-nil, length-drop}
-use Rattle.std.proofs.lemmas.Bool.{both_ways}
+use Rattle.rl_grammar.proofs.Names.{◌≡◌, ◌⊎◌, inl, inr, ℕ, ◌+◌, ◌≤◌, Bool, true, false, List, [], ◌∷◌, ◌++◌, length, drop, refl, sym, ap, subst, ◌∙◌, arith, append-nil, both_ways, list_all, IsUtf8, Kind, Str, ByteStr, CStr, Byte, Char, Int, Float, BoolKind, QuotedUnit, Plain, CrLf, Named, Hex, Unicode, Continuation, is_plain, is_single, is_string, opener, texts, unit_text, unit_value, values, Reads, Contents, ReadsQuoted}
+use Rattle.std.proofs.Common.{◌-◌, map, length-drop}
 use Rattle.std.proofs.lemmas.List.{length-take-le}
-use Rattle.std.specs.List.{list_all}
-use Rattle.std.specs.Str.{chars, IsUtf8}
-use Rattle.rl_tokens.specs.declared.kind.Kind.{Kind}
-use Rattle.rl_tokens.specs.declared.kind.Kind.TheVariants.{Str, ByteStr, CStr, Byte, Char, Int, Float, Bool as BoolKind}
-use Rattle.rl_tokens.specs.Quoted.{QuotedUnit, Plain, CrLf, Named, Hex, Unicode, Continuation, is_plain, is_single, is_string, opener, texts, unit_text, unit_value, values}
-use Rattle.rl_tokens.specs.Reading.{Reads, Contents, ReadsQuoted}
+use Rattle.std.specs.Str.{chars}
 use Rattle.rl_tokens.proofs.OneReading.{one_reading}
 use Rattle.rl_grammar.specs.declared.found.Body.{Body}
 use Rattle.rl_grammar.specs.declared.quoted_forms.QuotedForm.{QuotedForm}
@@ -15,7 +10,7 @@ use Rattle.rl_grammar.specs.declared.quoted_forms.QuotedForm.TheVariants.{Cooked
 use Rattle.rl_grammar.specs.Forms.{PartsAre, front_len, is_plain_body}
 use Rattle.rl_grammar.specs.Founds.{IsQuotedAt, StandsIn, body_in, suffix_in, is_quoted}
 use Rattle.rl_grammar.specs.Mirrors.UnitAt.{found, unit_at}
-use Rattle.rl_grammar.specs.Segments.{AreUnitsIn, AreUnitsOf, IsGivenAt, IsLeftAt, IsRow, IsSegmentsOf, IsSegmentsState, SegmentsState, place_in}
+use Rattle.rl_grammar.specs.Segments.{AreUnitsIn, AreUnitsOf, IsGivenAt, IsLeftAt, IsUnitRow, IsSegmentsOf, IsSegmentsState, SegmentsState, unit_place}
 use Rattle.rl_grammar.specs.Shapes.{HasNoQuoted}
 use Rattle.rl_grammar.proofs.FoundLemmas.{body_text}
 use Rattle.rl_grammar.proofs.RowLemmas.{ends_before}
@@ -24,15 +19,15 @@ use Rattle.rl_grammar.proofs.UnitLemmas.{some_pair, unit_complete}
 
 -- ---- the units of each form
 
-nothing_row : (kind : Kind) → IsRow kind [] []
+nothing_row : (kind : Kind) → IsUnitRow kind [] []
 nothing_row kind = record { each = tt; ends = tt; text_is = refl }
 
 -- plain characters are a row
-pub plain_row : (kind : Kind) (cs : List ℕ) → list_all (is_plain kind) cs ≡ true → IsRow kind cs (map Plain cs)
-plain_row kind cs plain = subst (IsRow kind cs) (append-nil (map Plain cs)) (subst (λ z. IsRow kind z (map Plain cs ++ [])) (append-nil cs) (run_joined kind cs [] [] plain (nothing_row kind)))
+pub plain_row : (kind : Kind) (cs : List ℕ) → list_all (is_plain kind) cs ≡ true → IsUnitRow kind cs (map Plain cs)
+plain_row kind cs plain = subst (IsUnitRow kind cs) (append-nil (map Plain cs)) (subst (λ z. IsUnitRow kind z (map Plain cs ++ [])) (append-nil cs) (run_joined kind cs [] [] plain (nothing_row kind)))
 
 -- any row of the body is the cooked string's units
-cooked_units : (kind : Kind) (t v body x : List ℕ) (units : List QuotedUnit) (lo : ℕ) → PartsAre CookedForm kind t v body x → IsRow kind body units → lo ≡ length (opener kind) → AreUnitsOf kind t units lo
+cooked_units : (kind : Kind) (t v body x : List ℕ) (units : List QuotedUnit) (lo : ℕ) → PartsAre CookedForm kind t v body x → IsUnitRow kind body units → lo ≡ length (opener kind) → AreUnitsOf kind t units lo
 cooked_units kind t v body x units lo p row at =
     inl (
       values kind units,
@@ -62,13 +57,13 @@ append_nothing [] b e = refl
 append_nothing (c ∷ a) b e = absurd (cc)
 
 -- a row of one unit's text is that of one unit
-single_units : (kind : Kind) (t v body x : List ℕ) (units : List QuotedUnit) (lo : ℕ) → PartsAre SingleForm kind t v body x → IsRow kind body units → lo ≡ length (opener kind) → AreUnitsOf kind t units lo
+single_units : (kind : Kind) (t v body x : List ℕ) (units : List QuotedUnit) (lo : ℕ) → PartsAre SingleForm kind t v body x → IsUnitRow kind body units → lo ≡ length (opener kind) → AreUnitsOf kind t units lo
 single_units kind t v body x units lo p row at =
     let s = p.0 in
     let one : unit_at kind body ≡ found (unit_value kind s.unit) [] = ap (unit_at kind) (p.1 ∙ sym (append-nil (unit_text s.unit))) ∙ unit_complete kind s.unit [] s.is_unit (ends_before s.unit [] refl) in
     go units row one
   where
-    go : (units : List QuotedUnit) → IsRow kind body units → unit_at kind body ≡ found (unit_value kind p.0.unit) [] → AreUnitsOf kind t units lo
+    go : (units : List QuotedUnit) → IsUnitRow kind body units → unit_at kind body ≡ found (unit_value kind p.0.unit) [] → AreUnitsOf kind t units lo
     go [] row one = absurd (no_text p.0.unit (sym p.1 ∙ row.text_is))
     go (u ∷ []) row one = inr (inr (
       unit_value kind u,
@@ -98,7 +93,7 @@ has_units SingleForm kind t v body x false p is = (p.0.unit ∷ [], record { eac
 
 are_units : (form : QuotedForm) (kind : Kind) (t v body x : List ℕ) (plain : Bool) (lo : ℕ) (p : PartsAre form kind t v body x) → plain ≡ is_plain_body form kind body → lo ≡ front_len form kind t v body x p → (units : List QuotedUnit) → AreUnitsIn kind plain body units → AreUnitsOf kind t units lo
 are_units CookedForm kind t v body x true lo p is at units are =
-    cooked_units kind t v body x units lo p (subst (IsRow kind body) (sym are) (plain_row kind body (sym is))) at
+    cooked_units kind t v body x units lo p (subst (IsUnitRow kind body) (sym are) (plain_row kind body (sym is))) at
 are_units CookedForm kind t v body x false lo p is at units are = cooked_units kind t v body x units lo p are at
 are_units RawForm kind t v body x true lo p is at units are = inr (inl (v, x, p.0, are ∙ ap (map Plain) p.1, at))
 are_units RawForm kind t v body x false lo p is at units are = absurd (cc)
@@ -137,7 +132,7 @@ given_in_whole inside kind t s at place whole left = record {
   units = left.units;
   lo = s.at;
   units_are = whole.units_are left.units left.are_left;
-  place_is = left.place_is ∙ ap (λ (k : Kind). s.at + place_in inside k left.units at) whole.kind_is;
+  place_is = left.place_is ∙ ap (λ (k : Kind). s.at + unit_place inside k left.units at) whole.kind_is;
 }
 
 -- ---- other literals
@@ -148,9 +143,7 @@ quoted_reads_as ByteStr t v x r q = r
 quoted_reads_as CStr t v x r q = r
 quoted_reads_as Byte t v x r q = r
 quoted_reads_as Char t v x r q = r
-quoted_reads_as Int t v x r q = absurd (cc)
-quoted_reads_as Float t v x r q = absurd (cc)
-quoted_reads_as BoolKind t v x r q = absurd (cc)
+quoted_reads_as kind t v x r q = absurd (cc)
 
 has_quotes : (kind : Kind) → (is_string kind ≡ true) ⊎ (is_single kind ≡ true) → is_quoted kind ≡ true
 has_quotes kind (inl e) = cc
@@ -162,9 +155,7 @@ has_quotes kind (inr e) = go kind e
     go CStr e = absurd (cc)
     go Byte e = refl
     go Char e = refl
-    go Int e = absurd (cc)
-    go Float e = absurd (cc)
-    go BoolKind e = absurd (cc)
+    go kind e = absurd (cc)
 
 pub quoted_kind : (kind : Kind) (t : List ℕ) (v : Contents) (x : List ℕ) → ReadsQuoted t kind v x → is_quoted kind ≡ true
 quoted_kind kind t v x r = elim r.form [

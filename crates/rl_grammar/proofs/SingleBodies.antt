@@ -1,13 +1,6 @@
 -- What the body of a character or a byte stands for.
-use Rattle.std.proofs.Common.{◌≡◌, ◌<◌, ℕ, List, [], ◌∷◌, true, Some, None, refl, sym, ap, subst, ◌∙◌, arith, append-nil}
-use Rattle.std.proofs.lemmas.Bool.Decides.{nat_tests}
-use Rattle.std.specs.Prelude.{encode_utf8_all}
-use Rattle.std.specs.Char.{IsScalar}
+use Rattle.rl_grammar.proofs.Names.{◌≡◌, ◌<◌, ℕ, List, [], ◌∷◌, true, Some, None, refl, sym, ap, subst, ◌∙◌, arith, append-nil, nat_tests, encode_utf8_all, IsScalar, Kind, Str, ByteStr, CStr, Byte, Char, Int, Float, BoolKind, is_single, is_string, unit_text, Bytes, Characters, ReadsQuoted}
 use Rattle.std.specs.Str.{chars}
-use Rattle.rl_tokens.specs.declared.kind.Kind.{Kind}
-use Rattle.rl_tokens.specs.declared.kind.Kind.TheVariants.{Str, ByteStr, CStr, Byte, Char, Int, Float, Bool as BoolKind}
-use Rattle.rl_tokens.specs.Quoted.{is_single, is_string, unit_text}
-use Rattle.rl_tokens.specs.Reading.{Bytes, Characters, ReadsQuoted}
 use Rattle.rl_grammar.specs.declared.found.Body.{Body}
 use Rattle.rl_grammar.specs.declared.units.Piece.TheVariants.{Character}
 use Rattle.rl_grammar.specs.declared.quoted_forms.QuotedForm.{QuotedForm}
@@ -27,12 +20,7 @@ use Rattle.rl_grammar.proofs.UnitLemmas.{some_pair, unit_complete, unit_sound}
 by_single : (P : Kind → Type 0) (kind : Kind) → is_single kind ≡ true → P Byte → P Char → P kind
 by_single P Byte s b c = b
 by_single P Char s b c = c
-by_single P Str s b c = absurd (cc)
-by_single P ByteStr s b c = absurd (cc)
-by_single P CStr s b c = absurd (cc)
-by_single P Int s b c = absurd (cc)
-by_single P Float s b c = absurd (cc)
-by_single P BoolKind s b c = absurd (cc)
+by_single P kind s b c = absurd (cc)
 
 -- one number
 pub unit_one : (kind : Kind) (a : List ℕ) (p : List ℕ × List ℕ) → is_single kind ≡ true → unit_at kind a ≡ Some p → (n : ℕ) × (p.0 ≡ n ∷ [])
@@ -105,8 +93,7 @@ body_reads kind t body p n has unit is =
 -- a character or a byte has one form
 single_parts : (form : QuotedForm) (kind : Kind) (t value body suffix : List ℕ) → is_single kind ≡ true → PartsAre form kind t value body suffix → PartsAre SingleForm kind t value body suffix
 single_parts SingleForm kind t value body suffix s p = p
-single_parts CookedForm kind t value body suffix s p = absurd (not_both kind p.0.string s)
-single_parts RawForm kind t value body suffix s p = absurd (not_both kind p.0.string s)
+single_parts k kind t value body suffix s p = absurd (not_both kind p.0.string s)
 
 -- what stands at the places of its body
 pub single_at : (kind : Kind) (t : List ℕ) (body : Body) → is_single kind ≡ true → IsQuotedAt kind t body → HasSingleBody kind (chars t) (body_in t body)

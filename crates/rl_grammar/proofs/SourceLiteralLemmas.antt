@@ -1,5 +1,5 @@
 -- Where a source ends.
-use Rattle.std.proofs.Common.{◌≡◌, ◌⊎◌, inl, inr, ℕ, List, []}
+use Rattle.rl_grammar.proofs.Names.{◌≡◌, ◌⊎◌, inl, inr, ℕ, List, []}
 use Rattle.std.specs.Str.{chars}
 use Rattle.rl_tokens.specs.Sources.{SourceKind, SourceBefore, BeginsNoSource}
 

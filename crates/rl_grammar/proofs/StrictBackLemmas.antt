@@ -1,15 +1,9 @@
 -- The units of the lenient reading are strict, line breaks apart.
-use Rattle.std.proofs.Common.{◌≡◌, ℕ, zero, suc, ◌<◌, ◌≤◌, ◌==◌, ◌||◌, ◌&&◌, Bool, true, false, not, cond, eqb, List, [], ◌∷◌, ◌++◌, length, map, replicate, refl, sym, ap, subst, ◌∙◌, inl, inr, arith}
-use Rattle.std.proofs.lemmas.Bool.{and_from, and_parts, cases_Bool, eqb-true, le-leb, lt-ltb, ltb-true, not_from_false}
-use Rattle.std.proofs.Math.Utf8.{scalar}
-use Rattle.std.specs.Char.{digit_value, is_ascii_hexdigit, IsScalar}
-use Rattle.std.specs.List.{list_all, flat_map}
+use Rattle.rl_grammar.proofs.Names.{◌≡◌, ℕ, zero, suc, ◌<◌, ◌≤◌, ◌==◌, ◌||◌, ◌&&◌, Bool, true, false, not, cond, eqb, List, [], ◌∷◌, ◌++◌, length, replicate, refl, sym, ap, subst, ◌∙◌, inl, inr, arith, and_from, and_parts, cases_Bool, eqb-true, lt-ltb, ltb-true, not_from_false, scalar, digit_value, is_ascii_hexdigit, IsScalar, list_all, flat_map, Kind, Str, ByteStr, CStr, Byte, Char, Int, Float, BoolKind, is_underscore, QuotedUnit, Letter, Named, Hex, Unicode, LowerN, LowerR, LowerT, Backslash, Apostrophe, Quote, Zero, letter_text, letter_value, unit_text, unit_value, content_of, place_value, without_underscores, unicode_value, hex_value, is_hex_digit, is_plain, allows_code, IsUnit, StrictUnit, Itself, QuoteEscape, PlainEscape, AsciiEscape, ByteEscape, UnicodeEscape, LineBreak, strict_text, strict_contents, strict_content_of, is_strict_unit}
+use Rattle.std.proofs.Common.{map}
+use Rattle.std.proofs.lemmas.Bool.{le-leb}
 use Rattle.std.specs.Prelude.{nat_lt, nat_le}
-use Rattle.rl_tokens.specs.declared.kind.Kind.{Kind}
-use Rattle.rl_tokens.specs.declared.kind.Kind.TheVariants.{Str, ByteStr, CStr, Byte, Char, Int, Float, Bool as BoolKind}
-use Rattle.rl_tokens.specs.Texts.{is_underscore}
-use Rattle.rl_tokens.specs.Quoted.{QuotedUnit, Letter, Named, Hex, Unicode, LowerN, LowerR, LowerT, Backslash, Apostrophe, Quote, Zero, letter_text, letter_value, unit_text, unit_value, content_of, place_value, without_underscores, unicode_value, hex_value, is_hex_digit, is_plain, allows_code, IsUnit}
-use Rattle.rl_tokens.specs.Strict.{StrictUnit, Itself, QuoteEscape, PlainEscape, AsciiEscape, ByteEscape, UnicodeEscape, LineBreak, spaced_digit, strict_text, spelled_number, strict_contents, strict_content_of, is_octal, is_unicode_escape, is_strict_unit, HasUnits}
+use Rattle.rl_tokens.specs.Strict.{spaced_digit, spelled_number, is_octal, is_unicode_escape, HasUnits}
 use Rattle.rl_tokens.proofs.Basics.{hex_is_sixteen}
 use Rattle.rl_tokens.proofs.StrictQuoted.{hex_first, same_number, bare_digits, digits_count}
 
@@ -38,9 +32,7 @@ plain_is_bare ByteStr c n = refl
 plain_is_bare CStr c n = not_either (c == 34 || c == 92 || c == 13) (c == 0)
 plain_is_bare Byte c n = refl
 plain_is_bare Char c n = absurd (n refl)
-plain_is_bare Int c n = refl
-plain_is_bare Float c n = refl
-plain_is_bare BoolKind c n = refl
+plain_is_bare kind c n = refl
 
 -- ---- letters
 
@@ -69,8 +61,7 @@ named_escape k LowerR h = plain_escape k LowerR (escape_letter k 114 refl refl) 
 named_escape k LowerT h = plain_escape k LowerT (escape_letter k 116 refl refl) refl
 named_escape k Backslash h = plain_escape k Backslash (escape_letter k 92 refl refl) refl
 named_escape k Zero h = plain_escape k Zero (zero_letter k h) refl
-named_escape k Apostrophe h = quote_escape k Apostrophe refl refl
-named_escape k Quote h = quote_escape k Quote refl refl
+named_escape k kind h = quote_escape k kind refl refl
 
 -- ---- numbers
 
@@ -97,9 +88,7 @@ hex_escape Char high low q u = ascii_escape Char high low u.1 u.2 (λ h. h)
 hex_escape ByteStr high low q u = byte_escape ByteStr high low (and_from _ _ (hex_digit_back high u.0) (hex_digit_back low u.1))
 hex_escape Byte high low q u = byte_escape Byte high low (and_from _ _ (hex_digit_back high u.0) (hex_digit_back low u.1))
 hex_escape CStr high low q u = byte_escape CStr high low (and_from _ _ (and_from _ _ (hex_digit_back high u.0) (hex_digit_back low u.1)) (and_parts (not (eqb (hex_value high low) 0)) true u.2).0)
-hex_escape Int high low q u = absurd q
-hex_escape Float high low q u = absurd q
-hex_escape BoolKind high low q u = absurd q
+hex_escape kind high low q u = absurd q
 
 -- ---- digits, each with how many underscores follow it
 
@@ -177,6 +166,4 @@ unicode_escape CStr first more q u =
     spaced_escape CStr first more (and_from _ _ (unicode_allowed first more u.1 u.2 u.3 u.4) (ap (λ n. not (eqb n 0)) number ∙ u.5)) refl number
 unicode_escape ByteStr first more q u = absurd (let h = u.0 in (cc))
 unicode_escape Byte first more q u = absurd (let h = u.0 in (cc))
-unicode_escape Int first more q u = absurd q
-unicode_escape Float first more q u = absurd q
-unicode_escape BoolKind first more q u = absurd q
+unicode_escape kind first more q u = absurd q

@@ -1,16 +1,9 @@
 -- Of texts without CR, literals of bytes that read with escapes and a strict suffix are the strict ones.
-use Rattle.std.proofs.Common.{◌≡◌, ℕ, ◌&&◌, Bool, true, false, not, ◌==◌, List, [], ◌∷◌, ◌++◌, nat_lt, refl, sym, ap, subst, ◌∙◌, inl, inr, append_assoc, append-nil}
-use Rattle.std.proofs.lemmas.Bool.{and_from, and_parts, both_ways, eqb-true, ltb-true, not-true, or_cases, or_parts}
-use Rattle.std.proofs.lemmas.List.Folds.{list_all-append}
+use Rattle.rl_grammar.proofs.Names.{◌≡◌, ℕ, ◌&&◌, Bool, true, false, not, ◌==◌, List, [], ◌∷◌, ◌++◌, nat_lt, refl, sym, ap, subst, ◌∙◌, inl, inr, append_assoc, append-nil, and_from, and_parts, both_ways, eqb-true, ltb-true, not-true, or_cases, or_parts, list_all-append, AllByRecursion, flat_map, list_all, Kind, Str, ByteStr, CStr, Byte, Char, Int, Float, BoolKind, first_passes, QuotedUnit, Plain, CrLf, Named, Hex, Unicode, Continuation, unit_text, unit_value, is_blank, is_plain, IsUnit, texts, values, EndsBefore, Cooked, Single, Contents, Bytes, Reads, StrictUnit, Itself, LineBreak, strict_text, strict_contents, is_dropped_blank, is_strict_unit, strict_content_of, IsStrictSuffix}
 use Rattle.std.proofs.lemmas.Str.{encode_ascii}
-use Rattle.std.specs.List.{AllByRecursion, flat_map, list_all}
 use Rattle.std.specs.Prelude.{⊤}
-use Rattle.rl_tokens.specs.declared.kind.Kind.{Kind}
-use Rattle.rl_tokens.specs.declared.kind.Kind.TheVariants.{Str, ByteStr, CStr, Byte, Char, Int, Float, Bool as BoolKind}
-use Rattle.rl_tokens.specs.Texts.{first_passes}
-use Rattle.rl_tokens.specs.Quoted.{QuotedUnit, Plain, CrLf, Named, Hex, Unicode, Continuation, unit_text, unit_value, is_blank, is_plain, IsUnit, texts, values, EndsBefore, ContinuationsEnd, Cooked, Single}
-use Rattle.rl_tokens.specs.Reading.{Contents, Bytes, Reads}
-use Rattle.rl_tokens.specs.Strict.{StrictUnit, Itself, LineBreak, strict_text, strict_contents, is_dropped_blank, is_strict_unit, BlanksEnd, strict_content_of, StrictCooked, IsStrictSuffix}
+use Rattle.rl_tokens.specs.Quoted.{ContinuationsEnd}
+use Rattle.rl_tokens.specs.Strict.{BlanksEnd, StrictCooked}
 use Rattle.rl_tokens.proofs.Agreeing.{strict_reads}
 use Rattle.rl_tokens.proofs.StrictQuoted.{cooked_reads}
 use Rattle.rl_grammar.specs.StrictBytes.{KeepsBytesStrict}
@@ -44,12 +37,7 @@ escape_same k u b = record { unit = b.unit; is_unit = b.is_unit; text_is = b.tex
 quoted_kind : (k : Kind) → IsByteKind k → IsQuotedKind k
 quoted_kind ByteStr b = tt
 quoted_kind Byte b = refl
-quoted_kind Str b = absurd b
-quoted_kind CStr b = absurd b
-quoted_kind Char b = absurd b
-quoted_kind Int b = absurd b
-quoted_kind Float b = absurd b
-quoted_kind BoolKind b = absurd b
+quoted_kind kind b = absurd b
 
 -- a character of ASCII is its byte
 low_value : (c : ℕ) (more : Bool) → (nat_lt c 128 && more) ≡ true → unit_value ByteStr (Plain c) ≡ c ∷ []
@@ -58,12 +46,7 @@ low_value c more h = ap (λ z. z ++ []) (encode_ascii c (ltb-true c 128 (and_par
 plain_same : (k : Kind) (c : ℕ) → IsByteKind k → is_plain k c ≡ true → Same k (Plain c)
 plain_same ByteStr c b h = record { unit = Itself c; is_unit = h; text_is = refl; value_is = low_value c _ h; may_end = λ t e. tt }
 plain_same Byte c b h = record { unit = Itself c; is_unit = h; text_is = refl; value_is = low_value c _ h; may_end = λ t e. tt }
-plain_same Str c b h = absurd b
-plain_same CStr c b h = absurd b
-plain_same Char c b h = absurd b
-plain_same Int c b h = absurd b
-plain_same Float c b h = absurd b
-plain_same BoolKind c b h = absurd b
+plain_same kind c b h = absurd b
 
 -- blanks but CR
 dropped : (c : ℕ) → is_blank c ≡ true → no_return c ≡ true → is_dropped_blank c ≡ true

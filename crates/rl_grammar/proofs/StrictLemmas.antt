@@ -1,16 +1,8 @@
 -- A strict token is a quoted form after its opener, a number, or a truth value.
-use Rattle.std.proofs.Common.{◌≡◌, ◌≢◌, ℕ, ◌⊎◌, ◌||◌, Bool, true, false, ◌==◌, List, [], ◌∷◌, ◌++◌, Option, Some, None, refl, sym, ap, subst, ◌∙◌, inl, inr, append_assoc}
-use Rattle.std.proofs.lemmas.Bool.{both_ways}
-use Rattle.std.specs.Char.{is_ascii_digit}
-use Rattle.std.specs.List.{flat_map}
+use Rattle.rl_grammar.proofs.Names.{◌≡◌, ◌≢◌, ℕ, ◌⊎◌, ◌||◌, Bool, true, false, ◌==◌, List, [], ◌∷◌, ◌++◌, Option, Some, None, refl, sym, ap, subst, ◌∙◌, inl, inr, append_assoc, both_ways, is_ascii_digit, flat_map, ◌↔◌, IsTrue, Kind, Str, ByteStr, CStr, Byte, Char, Int, Float, BoolKind, NoSign, opener, raw_opener, Contents, Truth, truth_text, strict_text, strict_contents, strict_content_of}
 use Rattle.std.specs.Option.{IfSome, IfNone}
-use Rattle.std.specs.Prelude.{◌↔◌, IsTrue, is_some, replicate, codes, if◌then◌else◌}
-use Rattle.rl_tokens.specs.declared.kind.Kind.{Kind}
-use Rattle.rl_tokens.specs.declared.kind.Kind.TheVariants.{Str, ByteStr, CStr, Byte, Char, Int, Float, Bool as BoolKind}
-use Rattle.rl_tokens.specs.Numbers.{NoSign}
-use Rattle.rl_tokens.specs.Quoted.{opener, raw_opener}
-use Rattle.rl_tokens.specs.Reading.{Contents, Truth, truth_text}
-use Rattle.rl_tokens.specs.Strict.{StrictCooked, StrictRaw, Strict, strict_opener, strict_raw_opener, strict_closer, strict_text, strict_quoted_contents, strict_contents, strict_content_of}
+use Rattle.std.specs.Prelude.{is_some, replicate, codes, if◌then◌else◌}
+use Rattle.rl_tokens.specs.Strict.{StrictCooked, StrictRaw, Strict, strict_opener, strict_raw_opener, strict_closer, strict_quoted_contents}
 use Rattle.rl_tokens.proofs.Basics.{apart}
 use Rattle.rl_tokens.proofs.OneNumber.{begins_number, float_front, int_front}
 use Rattle.rl_tokens.proofs.StrictNumbers.{strict_int, float_strict_reads}
@@ -20,11 +12,12 @@ use Rattle.rl_grammar.specs.declared.quoted_forms.QuotedForm.TheVariants.{Cooked
 use Rattle.rl_grammar.specs.Forms.{has_form, form_opener}
 use Rattle.rl_grammar.specs.Mirrors.OpenerAt.{opener_at}
 use Rattle.rl_grammar.specs.Mirrors.StrictAt.{is_strict_number}
-use Rattle.rl_grammar.specs.StrictShapes.{IsToken, IsStrictNumber, ClosesUnits, ClosesRaw, Closes}
+use Rattle.rl_grammar.specs.StrictShapes.{IsToken, ClosesUnits, ClosesRaw, ClosesForm}
 use Rattle.rl_grammar.proofs.FormLemmas.{front_complete, front_sound}
 use Rattle.rl_grammar.proofs.StrictBackLemmas.{IsQuotedKind}
-use Rattle.rl_grammar.proofs.StrictNumberLemmas.{float_complete, int_complete, number_sound}
+use Rattle.rl_grammar.proofs.StrictNumberLemmas.{IsStrictNumber, float_complete, int_complete, number_sound}
 use Rattle.rl_grammar.proofs.StrictRowLemmas.{quoted_string, quoted_single}
+use Rattle.rl_grammar.proofs.QuotedStopLemmas.{word_has_none}
 
 -- ---- both grammars open their forms alike
 
@@ -59,9 +52,7 @@ quoted_strict t ByteStr v x q s = s
 quoted_strict t CStr v x q s = s
 quoted_strict t Byte v x q s = s
 quoted_strict t Char v x q s = s
-quoted_strict t Int v x q s = absurd q
-quoted_strict t Float v x q s = absurd q
-quoted_strict t BoolKind v x q s = absurd q
+quoted_strict t kind v x q s = absurd q
 
 -- units, a quote and a suffix after an opener
 units_token : (k : Kind) (t inside : List ℕ) → IsQuotedKind k → t ≡ opener k ++ inside → ClosesUnits k inside → IsToken t
@@ -110,7 +101,7 @@ raw_token k t inside q text c =
     }
 
 -- any form after its opener
-close_token : (form : QuotedForm) (k : Kind) (t inside : List ℕ) → has_form form k ≡ true → t ≡ form_opener form k ++ inside → Closes form k inside → IsToken t
+close_token : (form : QuotedForm) (k : Kind) (t inside : List ℕ) → has_form form k ≡ true → t ≡ form_opener form k ++ inside → ClosesForm form k inside → IsToken t
 close_token CookedForm k t inside h text c = units_token k t inside (quoted_string k h) text c
 close_token SingleForm k t inside h text c = units_token k t inside (quoted_single k h) text c
 close_token RawForm k t inside h text c = raw_token k t inside (quoted_string k h) text c
@@ -124,7 +115,7 @@ record Opened (t : List ℕ) : Type 0 where
   inside : List ℕ
   has : has_form form kind ≡ true
   text_is : t ≡ form_opener form kind ++ inside
-  closes : Closes form kind inside
+  closes : ClosesForm form kind inside
 
 -- a quoted form, a number or a truth value
 abbrev Seen : List ℕ → Type 0
@@ -215,21 +206,15 @@ number_none : (t : List ℕ) → IsStrictNumber t → opener_at t ≡ None
 number_none t (v, x, inl s) = let i = strict_int t x v s in number_front t (int_front t x NoSign i.magnitude i.reads)
 number_none t (v, x, inr s) = let f = float_strict_reads t x v s in number_front t (float_front t f.numeral x f.reads)
 
--- nor like a truth value
-truth_none : (b : Bool) → opener_at (truth_text b) ≡ None
-unfolding opener_at
-truth_none true = refl
-truth_none false = refl
-
 -- a quoted form is what its front tells
-opened_told : (t : List ℕ) (p : QuotedForm × Kind × List ℕ) (o : Opened t) → opener_at t ≡ Some p → Closes p.0 p.1 p.2
+opened_told : (t : List ℕ) (p : QuotedForm × Kind × List ℕ) (o : Opened t) → opener_at t ≡ Some p → ClosesForm p.0 p.1 p.2
 opened_told t p o h =
     let front : Some p ≡ Some (o.form, o.kind, o.inside) = sym h ∙ ap opener_at o.text_is ∙ front_complete o.form o.kind o.inside o.has in
     let same : (o.form, o.kind, o.inside) ≡ p = cc in
-    subst (λ (q : QuotedForm × Kind × List ℕ). Closes q.0 q.1 q.2) same o.closes
+    subst (λ (q : QuotedForm × Kind × List ℕ). ClosesForm q.0 q.1 q.2) same o.closes
 
 -- where a front tells a form, the text is a token exactly where the form is closed
-pub told_token : (t : List ℕ) (p : QuotedForm × Kind × List ℕ) (b : Bool) → Some p ≡ opener_at t → IsTrue b ↔ Closes p.0 p.1 p.2 → IsTrue b ↔ IsToken t
+pub told_token : (t : List ℕ) (p : QuotedForm × Kind × List ℕ) (b : Bool) → Some p ≡ opener_at t → IsTrue b ↔ ClosesForm p.0 p.1 p.2 → IsTrue b ↔ IsToken t
 told_token t p b h same =
     let tells = front_sound t p (sym h) in
     let none : opener_at t ≡ None → ⊥ = λ e. let f : Some p ≡ None = h ∙ e in absurd (cc) in (
@@ -238,7 +223,7 @@ told_token t p b h same =
         | inl o ↦ same.1 (opened_told t p o (sym h))
         | inr w ↦ elim w [
           | inl n ↦ absurd (none (number_none t n))
-          | inr v ↦ absurd (none (ap opener_at v.1 ∙ truth_none v.0))
+          | inr v ↦ absurd (none (ap opener_at v.1 ∙ word_has_none v.0))
         ]
       ],
     )

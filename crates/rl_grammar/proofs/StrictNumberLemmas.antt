@@ -1,21 +1,23 @@
 -- A strict number is what `is_strict_number` passes.
-use Rattle.std.proofs.Common.{◌≡◌, ℕ, ◌⊎◌, ◌||◌, ◌&&◌, Bool, true, false, not, ◌==◌, cond, List, [], ◌∷◌, ◌++◌, refl, ap, subst, sym, ◌∙◌, inl, inr, arith, append_assoc, append-nil}
-use Rattle.std.proofs.lemmas.Bool.{and_from, and_parts, cases_Bool, eqb-true, not-true, not_from_false, or_cases, or_left, or_right}
-use Rattle.std.specs.Char.{is_ascii_digit, is_ascii_hexdigit}
-use Rattle.std.specs.List.{list_all, list_any}
-use Rattle.rl_tokens.specs.Texts.{first_passes, is_row_part}
-use Rattle.rl_tokens.specs.Numbers.{Base, Binary, Octal, Decimal, Hexadecimal, radix, prefix, IsAfterPrefix, AllowsSuffix, is_exponent_letter}
-use Rattle.rl_tokens.specs.Reading.{Contents}
+use Rattle.rl_grammar.proofs.Names.{◌≡◌, ℕ, ◌⊎◌, ◌||◌, ◌&&◌, Bool, true, false, not, ◌==◌, cond, List, [], ◌∷◌, ◌++◌, refl, ap, subst, sym, ◌∙◌, inl, inr, arith, append_assoc, append-nil, and_from, and_parts, cases_Bool, eqb-true, not-true, not_from_false, or_cases, or_right, is_ascii_digit, is_ascii_hexdigit, list_all, list_any, first_passes, is_row_part, Base, Binary, Octal, Decimal, Hexadecimal, radix, prefix, IsAfterPrefix, is_exponent_letter, Contents}
+use Rattle.std.proofs.lemmas.Bool.{or_left}
+use Rattle.rl_tokens.specs.Numbers.{AllowsSuffix}
 use Rattle.rl_tokens.specs.Strict.{is_row, IsDigits, IsDecimalText, IsNumberSuffix, BasedPrefix, StrictInt, IsStrictExponent, IsDotAlone, IsPointed, IsScientific, StrictFloat}
 use Rattle.rl_tokens.proofs.Basics.{all_same, any_same, apart, digit_is_ten, hex_is_sixteen, passes_same}
 use Rattle.rl_tokens.proofs.StrictNumbers.{foreign_dot, letter_no_part, no_part, suffix_no_part, suffix_without}
 use Rattle.rl_grammar.specs.Mirrors.NumberAt.{has_value, digit_row_at, has_digit_at, after_digits, after_power_sign}
 use Rattle.rl_grammar.specs.Mirrors.StrictAt.{is_number_suffix, is_some_text, ends_power, ends_digits, ends_dot, ends_whole, is_decimal, is_based, is_strict_number}
-use Rattle.rl_grammar.specs.StrictShapes.{IsStrictNumber}
 use Rattle.rl_grammar.proofs.RunLemmas.{run_all, run_ends, run_join, run_past}
 use Rattle.rl_grammar.proofs.IntegerLemmas.{based, hex_stops, not_based, radix_past}
-use Rattle.rl_grammar.proofs.FloatLemmas.{passes_more, run_first}
+use Rattle.rl_grammar.proofs.FloatLemmas.{run_first, letter_no_dot}
 use Rattle.rl_grammar.proofs.StrictWordLemmas.{lenient_suffix, number_suffix_complete, number_suffix_sound}
+use Rattle.rl_grammar.proofs.TestLemmas.{passes_more}
+
+-- a strict number
+abbrev pub IsStrictNumber : List ℕ → Type 0
+IsStrictNumber text =
+    (contents : Contents) × (suffix : List ℕ)
+    × (StrictInt text contents suffix ⊎ StrictFloat text contents suffix)
 
 -- ---- rows of digits, spelled as both grammars do
 
@@ -104,10 +106,6 @@ fraction_past f y h n e =
 -- an exponent goes on with no row, and begins with no dot
 exponent_front : (test : ℕ → Bool) (e x : List ℕ) (p : IsStrictExponent e) → test p.letter ≡ false → first_passes test (e ++ x) ≡ false
 exponent_front test e x p h = ap (λ z. first_passes test (z ++ x)) p.text ∙ h
-
--- the letter of an exponent is no dot
-letter_no_dot : (c : ℕ) → is_exponent_letter c ≡ true → (c == 46) ≡ false
-letter_no_dot c h = apart is_exponent_letter c 46 h refl
 
 -- a whole part and a dot
 dot_alone : (t d numeral x : List ℕ) → IsDigits d → numeral ≡ d ++ (46 ∷ []) → x ≡ [] → t ≡ numeral ++ x → is_decimal t ≡ true
@@ -323,9 +321,7 @@ prefix_of Decimal h = absurd (cc)
 -- after a row of base 16 no digit of it follows
 no_more_digits : (b : Base) (x : List ℕ) → first_passes (is_row_part (has_value (radix b))) x ≡ false → radix b ≡ 16 → first_passes is_ascii_hexdigit x ≡ false
 no_more_digits Hexadecimal x h e = passes_same is_ascii_hexdigit (has_value 16) hex_is_sixteen x ∙ hex_stops x h
-no_more_digits Binary x h e = absurd (omega arith)
-no_more_digits Octal x h e = absurd (omega arith)
-no_more_digits Decimal x h e = absurd (omega arith)
+no_more_digits kind x h e = absurd (omega arith)
 
 -- an integer of another base
 based_sound : (b : Base) (t w : List ℕ) → (radix b == 10) ≡ false → t ≡ prefix b ++ w → is_based (radix b) w ≡ true → IsStrictNumber t
@@ -355,9 +351,7 @@ based_sound b t w other text h =
 -- a number of any base
 by_base : (b : Base) (t w : List ℕ) → t ≡ prefix b ++ w → ((not (radix b == 10) || first_passes is_ascii_digit w) ≡ true → IsAfterPrefix b w) → cond (radix b == 10) (is_decimal w) (is_based (radix b) w) ≡ true → IsStrictNumber t
 by_base Decimal t w text front h = subst IsStrictNumber (sym text) (decimal_sound w (λ d. (front d).1) h)
-by_base Binary t w text front h = based_sound Binary t w refl text h
-by_base Octal t w text front h = based_sound Octal t w refl text h
-by_base Hexadecimal t w text front h = based_sound Hexadecimal t w refl text h
+by_base kind t w text front h = based_sound kind t w refl text h
 
 -- what passes is a strict number
 pub number_sound : (t : List ℕ) → is_strict_number t ≡ true → IsStrictNumber t

@@ -1,22 +1,10 @@
 -- Strict raw forms: hashes, contents up to the first closer, and the suffix after it.
-use Rattle.std.proofs.Common.{◌≡◌, ◌≢◌, ℕ, zero, suc, ◌<◌, ◌≤◌, ◌⊎◌, ◌&&◌, ◌||◌, Bool, true, false, not, ◌==◌, cond, List, [], ◌∷◌, ◌++◌, length, drop, replicate, refl, sym, ap, subst, ◌∙◌, inl, inr, arith, nat_lt}
-use Rattle.std.proofs.lemmas.Bool.{and_from, and_parts, both_ways, cases_Bool, eqb-true, false_from_ne_true, not-true}
-use Rattle.std.proofs.lemmas.List.{append_cancel_right, length-replicate}
-use Rattle.std.proofs.lemmas.Str.{encodes-chars}
-use Rattle.std.proofs.Math.Seq.{drop-append_seam}
-use Rattle.std.specs.List.{list_all}
-use Rattle.std.specs.Prelude.{◌↔◌, IsTrue, encode_utf8_all}
-use Rattle.std.specs.Str.{chars, IsUtf8}
-use Rattle.rl_tokens.specs.declared.kind.Kind.{Kind}
-use Rattle.rl_tokens.specs.declared.kind.Kind.TheVariants.{Str, ByteStr, CStr, Byte, Char, Int, Float, Bool as BoolKind}
+use Rattle.rl_grammar.proofs.Names.{◌≡◌, ◌≢◌, ℕ, zero, suc, ◌<◌, ◌≤◌, ◌⊎◌, ◌&&◌, ◌||◌, Bool, true, false, not, ◌==◌, cond, List, [], ◌∷◌, ◌++◌, length, drop, replicate, refl, sym, ap, subst, ◌∙◌, inl, inr, arith, nat_lt, and_from, and_parts, both_ways, cases_Bool, eqb-true, false_from_ne_true, not-true, append_cancel_right, encodes-chars, drop-append_seam, list_all, ◌↔◌, IsTrue, encode_utf8_all, IsUtf8, Kind, Str, ByteStr, CStr, Byte, Char, Int, Float, BoolKind, is_string, IsStrictSuffix, Marks, is_other, after_run, is_hash, hash_count}
+use Rattle.std.proofs.lemmas.List.{length-replicate}
+use Rattle.std.specs.Str.{chars}
 use Rattle.rl_tokens.specs.Texts.{begins}
-use Rattle.rl_tokens.specs.Quoted.{is_string}
-use Rattle.rl_tokens.specs.Strict.{IsRawInside, IsStrictSuffix}
-use Rattle.rl_tokens.specs.declared.scan.Marks.{Marks}
-use Rattle.rl_tokens.specs.Scanning.{is_other}
+use Rattle.rl_tokens.specs.Strict.{IsRawInside}
 use Rattle.rl_tokens.proofs.StrictNumbers.{begins_front}
-use Rattle.rl_tokens.specs.Classes.{after_run, is_hash}
-use Rattle.rl_tokens.specs.Mirrors.LexemeAt.{hashes as hash_count}
 use Rattle.rl_tokens.proofs.HashLemmas.{hashes_before as hashes_here, hashes_past}
 use Rattle.rl_grammar.specs.Mirrors.StrictAt.{ends_raw, is_inside, is_raw_character, is_strict_suffix}
 use Rattle.rl_grammar.specs.StrictShapes.{ClosesInside, ClosesRaw}
@@ -35,22 +23,14 @@ inside_allowed : (k : Kind) (cs : List ℕ) → IsRawInside k cs → list_all no
 inside_allowed Str cs a n = n
 inside_allowed ByteStr cs a n = all_both (λ c. nat_lt c 128) no_return cs a n
 inside_allowed CStr cs a n = all_both (λ c. not (c == 0)) no_return cs a n
-inside_allowed Byte cs a n = absurd a
-inside_allowed Char cs a n = absurd a
-inside_allowed Int cs a n = absurd a
-inside_allowed Float cs a n = absurd a
-inside_allowed BoolKind cs a n = absurd a
+inside_allowed kind cs a n = absurd a
 
 -- and the other way about
 inside_sound : (k : Kind) (cs : List ℕ) → is_string k ≡ true → list_all (is_raw_character k) cs ≡ true → IsRawInside k cs × (list_all no_return cs ≡ true)
 inside_sound Str cs s h = (tt, h)
 inside_sound ByteStr cs s h = all_apart (λ c. nat_lt c 128) no_return cs h
 inside_sound CStr cs s h = all_apart (λ c. not (c == 0)) no_return cs h
-inside_sound Byte cs s h = absurd (cc)
-inside_sound Char cs s h = absurd (cc)
-inside_sound Int cs s h = absurd (cc)
-inside_sound Float cs s h = absurd (cc)
-inside_sound BoolKind cs s h = absurd (cc)
+inside_sound kind cs s h = absurd (cc)
 
 -- ---- the first closer
 

@@ -1,14 +1,7 @@
 -- Strict units up to a quote, and the suffix after it.
-use Rattle.std.proofs.Common.{◌≡◌, ℕ, Bool, true, false, cond, ◌==◌, List, [], ◌∷◌, ◌++◌, length, Some, None, refl, sym, ap, subst, ◌∙◌, arith, append_assoc, append-nil}
-use Rattle.std.proofs.lemmas.Bool.{and_from, and_parts, both_ways, eqb-true}
-use Rattle.std.specs.List.{list_all, flat_map}
-use Rattle.std.specs.Prelude.{◌↔◌, IsTrue}
+use Rattle.rl_grammar.proofs.Names.{◌≡◌, ℕ, Bool, true, false, cond, ◌==◌, List, [], ◌∷◌, ◌++◌, length, Some, None, refl, sym, ap, subst, ◌∙◌, arith, append_assoc, append-nil, and_from, and_parts, both_ways, eqb-true, list_all, flat_map, ◌↔◌, IsTrue, Kind, Str, ByteStr, CStr, Byte, Char, Int, Float, BoolKind, first_passes, is_plain, is_single, is_string, StrictUnit, Itself, QuoteEscape, PlainEscape, AsciiEscape, ByteEscape, UnicodeEscape, LineBreak, strict_text, is_dropped_blank, is_strict_unit, IsStrictSuffix}
 use Rattle.rl_tokens.proofs.Basics.{apart}
-use Rattle.rl_tokens.specs.declared.kind.Kind.{Kind}
-use Rattle.rl_tokens.specs.declared.kind.Kind.TheVariants.{Str, ByteStr, CStr, Byte, Char, Int, Float, Bool as BoolKind}
-use Rattle.rl_tokens.specs.Texts.{first_passes}
-use Rattle.rl_tokens.specs.Quoted.{is_plain, is_single, is_string}
-use Rattle.rl_tokens.specs.Strict.{StrictUnit, Itself, QuoteEscape, PlainEscape, AsciiEscape, ByteEscape, UnicodeEscape, LineBreak, strict_text, is_dropped_blank, is_strict_unit, BlanksEnd, HasUnits, strict_closer, IsStrictSuffix}
+use Rattle.rl_tokens.specs.Strict.{BlanksEnd, HasUnits, strict_closer}
 use Rattle.rl_grammar.specs.Mirrors.StrictAt.{ends_quoted, escape_rest, is_strict_suffix, unit_rest}
 use Rattle.rl_grammar.specs.StrictShapes.{ClosesUnits}
 use Rattle.rl_grammar.proofs.StrictBackLemmas.{IsQuotedKind, plain_is_bare}
@@ -22,55 +15,32 @@ string_ends : (k : Kind) → is_string k ≡ true → strict_closer k ≡ 34 ∷
 string_ends Str h = refl
 string_ends ByteStr h = refl
 string_ends CStr h = refl
-string_ends Byte h = absurd (cc)
-string_ends Char h = absurd (cc)
-string_ends Int h = absurd (cc)
-string_ends Float h = absurd (cc)
-string_ends BoolKind h = absurd (cc)
+string_ends kind h = absurd (cc)
 
 -- a string has any number of units
 string_count : (k : Kind) (us : List StrictUnit) → is_string k ≡ true → HasUnits k us
 string_count Str us h = tt
 string_count ByteStr us h = tt
 string_count CStr us h = tt
-string_count Byte us h = absurd (cc)
-string_count Char us h = absurd (cc)
-string_count Int us h = absurd (cc)
-string_count Float us h = absurd (cc)
-string_count BoolKind us h = absurd (cc)
+string_count kind us h = absurd (cc)
 
 -- a character or a byte ends with its quote
 single_ends : (k : Kind) → is_single k ≡ true → strict_closer k ≡ 39 ∷ []
 single_ends Byte h = refl
 single_ends Char h = refl
-single_ends Str h = absurd (cc)
-single_ends ByteStr h = absurd (cc)
-single_ends CStr h = absurd (cc)
-single_ends Int h = absurd (cc)
-single_ends Float h = absurd (cc)
-single_ends BoolKind h = absurd (cc)
+single_ends kind h = absurd (cc)
 
 -- one unit is the right number for a character or a byte
 single_count : (k : Kind) (u : StrictUnit) → is_single k ≡ true → HasUnits k (u ∷ [])
 single_count Byte u h = refl
 single_count Char u h = refl
-single_count Str u h = absurd (cc)
-single_count ByteStr u h = absurd (cc)
-single_count CStr u h = absurd (cc)
-single_count Int u h = absurd (cc)
-single_count Float u h = absurd (cc)
-single_count BoolKind u h = absurd (cc)
+single_count kind u h = absurd (cc)
 
 -- and the only one
 single_length : (k : Kind) (us : List StrictUnit) → is_single k ≡ true → HasUnits k us → length us ≡ 1
 single_length Byte us h c = c
 single_length Char us h c = c
-single_length Str us h c = absurd (cc)
-single_length ByteStr us h c = absurd (cc)
-single_length CStr us h c = absurd (cc)
-single_length Int us h c = absurd (cc)
-single_length Float us h c = absurd (cc)
-single_length BoolKind us h c = absurd (cc)
+single_length kind us h c = absurd (cc)
 
 -- no string kind takes a quote as it is
 quote_stops : (k : Kind) (x : List ℕ) → is_string k ≡ true → unit_rest k (34 ∷ x) ≡ None
@@ -78,11 +48,7 @@ unfolding unit_rest
 quote_stops Str x h = refl
 quote_stops ByteStr x h = refl
 quote_stops CStr x h = refl
-quote_stops Byte x h = absurd (cc)
-quote_stops Char x h = absurd (cc)
-quote_stops Int x h = absurd (cc)
-quote_stops Float x h = absurd (cc)
-quote_stops BoolKind x h = absurd (cc)
+quote_stops kind x h = absurd (cc)
 
 -- ---- the blanks of a line break
 
@@ -213,11 +179,7 @@ bare_backslash : (k : Kind) → is_string k ≡ true → is_bare k 92 ≡ false
 bare_backslash Str h = refl
 bare_backslash ByteStr h = refl
 bare_backslash CStr h = refl
-bare_backslash Byte h = absurd (cc)
-bare_backslash Char h = absurd (cc)
-bare_backslash Int h = absurd (cc)
-bare_backslash Float h = absurd (cc)
-bare_backslash BoolKind h = absurd (cc)
+bare_backslash kind h = absurd (cc)
 
 bare_unit : (k : Kind) (c : ℕ) (cs : List ℕ) → is_string k ≡ true → is_bare k c ≡ true → unit_rest k (c ∷ cs) ≡ Some cs
 unfolding unit_rest

@@ -1,23 +1,17 @@
 -- A strict unit stands at the front of a text exactly where `unit_rest` gives what is left.
-use Rattle.std.proofs.Common.{◌≡◌, ℕ, ◌||◌, Bool, true, false, not, ◌==◌, cond, List, [], ◌∷◌, ◌++◌, Option, Some, None, option_map, refl, sym, ap, subst, ◌∙◌, inl, inr}
-use Rattle.std.proofs.lemmas.Bool.{and_parts, both_ways, cases_Bool, eqb-true, or_from}
-use Rattle.std.specs.List.{list_all}
+use Rattle.rl_grammar.proofs.Names.{◌≡◌, ℕ, ◌||◌, Bool, true, false, not, ◌==◌, cond, List, [], ◌∷◌, ◌++◌, Option, Some, None, refl, sym, ap, subst, ◌∙◌, inl, inr, and_parts, both_ways, cases_Bool, eqb-true, or_from, list_all, Kind, Str, ByteStr, CStr, Byte, Char, Int, Float, BoolKind, first_passes, QuotedUnit, Plain, CrLf, Named, Hex, Unicode, Continuation, unit_text, is_line_end, is_plain, is_string, IsUnit, StrictUnit, Itself, QuoteEscape, PlainEscape, AsciiEscape, ByteEscape, UnicodeEscape, LineBreak, strict_text, is_dropped_blank, is_strict_unit, after_run}
+use Rattle.std.proofs.Common.{option_map}
 use Rattle.std.specs.Prelude.{IsFalse, ⊤}
-use Rattle.rl_tokens.specs.declared.kind.Kind.{Kind}
-use Rattle.rl_tokens.specs.declared.kind.Kind.TheVariants.{Str, ByteStr, CStr, Byte, Char, Int, Float, Bool as BoolKind}
-use Rattle.rl_tokens.specs.Texts.{first_passes}
-use Rattle.rl_tokens.specs.Quoted.{QuotedUnit, Plain, CrLf, Named, Hex, Unicode, Continuation, unit_text, is_line_end, is_plain, is_string, IsUnit}
-use Rattle.rl_tokens.specs.Strict.{StrictUnit, Itself, QuoteEscape, PlainEscape, AsciiEscape, ByteEscape, UnicodeEscape, LineBreak, strict_text, is_plain_letter, is_dropped_blank, is_strict_unit}
+use Rattle.rl_tokens.specs.Strict.{is_plain_letter}
 use Rattle.rl_tokens.proofs.Basics.{apart}
 use Rattle.rl_tokens.proofs.StrictQuoted.{MayFollow, stands}
 use Rattle.rl_grammar.specs.Mirrors.NumberAt.{run}
-use Rattle.rl_tokens.specs.Classes.{after_run}
 use Rattle.rl_grammar.specs.Mirrors.UnitAt.{unit_at}
 use Rattle.rl_grammar.specs.Mirrors.StrictAt.{escape_rest, unit_rest}
 use Rattle.rl_grammar.proofs.IntegerLemmas.{chosen_some}
 use Rattle.rl_grammar.proofs.RunLemmas.{run_all, run_ends, run_join, run_past}
 use Rattle.rl_grammar.proofs.StrictBackLemmas.{Back, IsQuotedKind, named_escape, hex_escape, unicode_escape}
-use Rattle.rl_grammar.proofs.UnitLemmas.{unit_complete, unit_sound}
+use Rattle.rl_grammar.proofs.UnitLemmas.{unit_complete, unit_sound, backslash_not_plain}
 
 -- the blanks of a line break go as far as blanks go
 abbrev pub MayEnd : StrictUnit → List ℕ → Type 0
@@ -47,17 +41,6 @@ no_break_ends (UnicodeEscape digits) r n = tt
 escape_front : (k : Kind) (t : List ℕ) (u : QuotedUnit) (r : List ℕ) → Back k u → t ≡ unit_text u ++ r → StrictFront k t r
 escape_front k t u r e h = record { unit = e.unit; is_unit = e.is_unit; may_end = no_break_ends e.unit r e.no_break; text_is = h ∙ ap (λ z. z ++ r) e.text_is }
 
--- no kind takes a backslash as it is
-plain_backslash : (k : Kind) → is_plain k 92 ≡ false
-plain_backslash Str = refl
-plain_backslash ByteStr = refl
-plain_backslash CStr = refl
-plain_backslash Byte = refl
-plain_backslash Char = refl
-plain_backslash Int = refl
-plain_backslash Float = refl
-plain_backslash BoolKind = refl
-
 -- a backslash
 abbrev is_backslash : ℕ → Bool
 is_backslash c = c == 92
@@ -72,7 +55,7 @@ lenient_front : (k : Kind) (u : QuotedUnit) (c : ℕ) (cs r : List ℕ) → IsQu
 lenient_front k (Plain d) c cs r q n m u e =
     let At : ℕ → Type 0 = λ z. is_plain k z ≡ true in
     let d_is : d ≡ 92 = eqb-true d 92 (sym (ap (first_passes is_backslash) e)) in
-    absurd (both_ways (is_plain k 92) (plain_backslash k) (subst At d_is u))
+    absurd (both_ways (is_plain k 92) (backslash_not_plain k) (subst At d_is u))
 lenient_front k CrLf c cs r q n m u e = absurd (both_ways true (ap (first_passes is_backslash) e) refl)
 lenient_front k (Named l) c cs r q n m u e = escape_front k (92 ∷ c ∷ cs) (Named l) r (named_escape k l u) e
 lenient_front k (Hex high low) c cs r q n m u e = escape_front k (92 ∷ c ∷ cs) (Hex high low) r (hex_escape k high low q u) e
@@ -85,11 +68,7 @@ pub line_allowed : (k : Kind) (blanks : List ℕ) → is_string k ≡ true → l
 line_allowed Str blanks s h = h
 line_allowed ByteStr blanks s h = h
 line_allowed CStr blanks s h = h
-line_allowed Char blanks s h = absurd (cc)
-line_allowed Byte blanks s h = absurd (cc)
-line_allowed Int blanks s h = absurd (cc)
-line_allowed Float blanks s h = absurd (cc)
-line_allowed BoolKind blanks s h = absurd (cc)
+line_allowed kind blanks s h = absurd (cc)
 
 -- a line break at the front
 line_front : (k : Kind) (cs r : List ℕ) → cond (is_string k) (Some (after_run is_dropped_blank cs)) None ≡ Some r → StrictFront k (92 ∷ 10 ∷ cs) r
@@ -191,11 +170,7 @@ line_of : (k : Kind) (blanks : List ℕ) → is_strict_unit k (LineBreak blanks)
 line_of Str blanks h = (refl, h)
 line_of ByteStr blanks h = (refl, h)
 line_of CStr blanks h = (refl, h)
-line_of Char blanks h = absurd (cc)
-line_of Byte blanks h = absurd (cc)
-line_of Int blanks h = absurd (cc)
-line_of Float blanks h = absurd (cc)
-line_of BoolKind blanks h = absurd (cc)
+line_of kind blanks h = absurd (cc)
 
 -- a line break is taken off with its blanks
 line_past : (k : Kind) (blanks r : List ℕ) → is_strict_unit k (LineBreak blanks) ≡ true → first_passes is_dropped_blank r ≡ false → unit_rest k (92 ∷ 10 ∷ (blanks ++ r)) ≡ Some r

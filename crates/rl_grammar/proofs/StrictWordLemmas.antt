@@ -1,11 +1,7 @@
 -- The suffixes of strict texts are what their tests pass.
-use Rattle.std.proofs.Common.{◌≡◌, ◌≢◌, ℕ, ◌||◌, ◌&&◌, Bool, true, not, ◌==◌, cond, List, [], ◌∷◌, refl, ap, subst, sym, ◌∙◌, inl, inr}
-use Rattle.std.proofs.lemmas.Bool.{and_from, and_parts, both_ways, cases_Bool, eqb-true, not-true, not_from_false}
-use Rattle.std.specs.List.{list_all}
-use Rattle.unicode_ident.specs.Ident.{is_xid_start, is_xid_continue}
-use Rattle.rl_tokens.specs.Texts.{IsWord, is_underscore, is_white, first_passes}
-use Rattle.rl_tokens.specs.Numbers.{IsSuffix}
-use Rattle.rl_tokens.specs.Strict.{IsNumberSuffix, IsStrictSuffix}
+use Rattle.rl_grammar.proofs.Names.{◌≡◌, ◌≢◌, ℕ, ◌||◌, ◌&&◌, Bool, true, not, ◌==◌, cond, List, [], ◌∷◌, refl, ap, subst, sym, ◌∙◌, inl, inr, and_from, and_parts, both_ways, cases_Bool, eqb-true, not-true, not_from_false, list_all, is_xid_start, is_xid_continue, is_underscore, first_passes, IsSuffix, IsStrictSuffix}
+use Rattle.rl_tokens.specs.Texts.{IsWord, is_white}
+use Rattle.rl_tokens.specs.Strict.{IsNumberSuffix}
 use Rattle.rl_grammar.specs.Mirrors.StrictAt.{is_number_suffix, is_some_text, is_strict_suffix}
 use Rattle.rl_tokens.specs.Lexemes.{is_continue, is_start}
 

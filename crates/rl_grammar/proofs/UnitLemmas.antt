@@ -1,17 +1,8 @@
 -- A unit stands at the front of a text exactly where `unit_at` gives it.
-use Rattle.std.proofs.Common.{◌≡◌, ℕ, suc, ◌+◌, ◌*◌, ◌^◌, ◌<◌, ◌≤◌, ◌||◌, ◌&&◌, Bool, true, false, cond, eqb, ltb, List, [], ◌∷◌, ◌++◌, length, Option, Some, None, refl, sym, ap, subst, ◌∙◌, ◌⊎◌, inl, inr, arith, append_assoc}
-use Rattle.std.specs.Prelude.{option_and_then}
-use Rattle.std.specs.List.{list_all}
-use Rattle.std.specs.Char.{IsScalar, digit_value}
-use Rattle.std.proofs.Math.Nat.{pow-suc}
-use Rattle.std.proofs.Math.Utf8.{scalar}
-use Rattle.std.proofs.lemmas.Bool.{and_from, and_parts, both_ways, cases_Bool, eqb-true, ltb-true, lt-ltb, ne_eqb, or_cases, or_right}
+use Rattle.rl_grammar.proofs.Names.{◌≡◌, ℕ, suc, ◌+◌, ◌*◌, ◌^◌, ◌<◌, ◌≤◌, ◌||◌, ◌&&◌, Bool, true, false, cond, eqb, ltb, List, [], ◌∷◌, ◌++◌, length, Option, Some, None, refl, sym, ap, subst, ◌∙◌, ◌⊎◌, inl, inr, arith, append_assoc, option_and_then, list_all, IsScalar, digit_value, pow-suc, scalar, and_from, and_parts, both_ways, cases_Bool, eqb-true, ltb-true, lt-ltb, ne_eqb, or_cases, or_right, Kind, Str, ByteStr, CStr, Byte, Char, Int, Float, BoolKind, first_passes, is_underscore, QuotedUnit, Letter, Plain, CrLf, Named, Hex, Unicode, Continuation, LowerN, LowerR, LowerT, Backslash, Apostrophe, Quote, Zero, letter_value, letter_text, unit_text, unit_value, unicode_value, without_underscores, place_value, content_of, hex_value, is_hex_digit, is_blank, is_line_end, is_string, is_plain, allows_code, may_be_hex, has_unicode, IsUnit, EndsBefore}
 use Rattle.std.proofs.lemmas.Bool.Decides.{eqb_tells}
-use Rattle.rl_tokens.specs.declared.kind.Kind.{Kind}
-use Rattle.rl_tokens.specs.declared.kind.Kind.TheVariants.{Str, ByteStr, CStr, Byte, Char, Int, Float, Bool as BoolKind}
-use Rattle.rl_tokens.specs.Texts.{first_passes, is_underscore}
-use Rattle.rl_tokens.specs.Quoted.{QuotedUnit, Letter, Plain, CrLf, Named, Hex, Unicode, Continuation, LowerN, LowerR, LowerT, Backslash, Apostrophe, Quote, Zero, letter_value, letter_text, unit_text, unit_value, unicode_value, without_underscores, place_value, content_of, hex_value, is_hex_digit, is_blank, is_line_end, is_string, is_plain, allows_code, may_be_hex, has_unicode, IsUnit, EndsBefore}
-use Rattle.rl_grammar.specs.Mirrors.UnitAt.{found, number_if, named_of, named_in, named_at, digit_at, hex_at, unicode_digits_at, brace_at, unicode_at, after_blanks, escape_at, line_feed_at, unit_at}
+use Rattle.rl_grammar.specs.Mirrors.UnitAt.{found, number_if, named_of, named_in, named_at, digit_at, hex_at, brace_at, unicode_at, after_blanks, escape_at, line_feed_at, unit_at}
+use Rattle.rl_grammar.proofs.CodeDigitLemmas.{unicode_digits_at, unicode_is, digit_apart}
 
 -- which way a test went
 chosen : {A : Type 0} (b : Bool) (x y z : A) → cond b x y ≡ z → ((b ≡ true) × (x ≡ z)) ⊎ ((b ≡ false) × (y ≡ z))
@@ -28,7 +19,7 @@ bind_some : {A B : Type 0} (o : Option A) (f : A → Option B) (y : B) → optio
 bind_some None f y h = absurd (cc)
 bind_some (Some x) f y h = (x, refl, h)
 
--- `cc` takes no pair apart
+-- `cc` takes no pair digit_apart
 pub some_pair : {A B : Type 0} (p q : A × B) → Some p ≡ Some q → (p.0 ≡ q.0) × (p.1 ≡ q.1)
 some_pair p q h = let e : p ≡ q = cc in (ap (λ x. x.0) e, ap (λ x. x.1) e)
 
@@ -54,10 +45,6 @@ value_on_digit v c cs h =
 
 length_on_digit : (c : ℕ) (cs : List ℕ) → eqb c 95 ≡ false → length (without_underscores (c ∷ cs)) ≡ length (without_underscores cs) + 1
 length_on_digit c cs h = ap length (kept_digit c cs h) ∙ omega arith
-
--- a digit is no underscore and no brace
-apart : (c k : ℕ) → is_hex_digit c ≡ true → is_hex_digit k ≡ false → eqb c k ≡ false
-apart c k h n = ne_eqb c k (λ e. both_ways (is_hex_digit k) n (subst (λ x. is_hex_digit x ≡ true) e h))
 
 pub record Digits (v n : ℕ) (t : List ℕ) (w : ℕ) (r : List ℕ) : Type 0 where
   pub more : List ℕ
@@ -131,8 +118,8 @@ underscore_at v n t = refl
 digit_step : (v n c : ℕ) (t : List ℕ) → is_hex_digit c ≡ true → n < 6 → unicode_digits_at v n (c ∷ t) ≡ unicode_digits_at (v * 16 + digit_value c) (n + 1) t
 unfolding unicode_digits_at
 digit_step v n c t h room =
-    let no_underscore = apart c 95 h refl in
-    let no_brace = apart c 125 h refl in
+    let no_underscore = digit_apart c 95 h refl in
+    let no_brace = digit_apart c 125 h refl in
     let few : ltb n 6 ≡ true = lt-ltb n 6 room in
     rw (no_brace, no_underscore, h, few) refl
 
@@ -150,7 +137,7 @@ digits_complete v n (c ∷ cs) r each few s =
           let Goal : ℕ → Type 0 = λ x. unicode_digits_at v n (x ∷ (cs ++ (125 ∷ r))) ≡ Some (value_on v (x ∷ cs), r) in
           subst Goal (sym is) (underscore_at v n (cs ++ (125 ∷ r)) ∙ digits_complete v n cs r parts.1 (subst Fits is few) (subst Scalar is s))
       | inr digit ↦
-          let no_underscore = apart c 95 digit refl in
+          let no_underscore = digit_apart c 95 digit refl in
           let long = length_on_digit c cs no_underscore in
           let value = value_on_digit v c cs no_underscore in
           digit_step v n c (cs ++ (125 ∷ r)) digit (omega (arith, few)) ∙ digits_complete (v * 16 + digit_value c) (n + 1) cs r parts.1 (omega (arith, few)) (subst IsScalar value s) ∙ ap (λ w. Some (w, r)) (sym value)
@@ -224,12 +211,12 @@ brace_sound (c ∷ cs) r h =
     cc
 
 value_first : (first : ℕ) (more : List ℕ) → is_hex_digit first ≡ true → value_on (digit_value first) more ≡ unicode_value first more
-value_first first more h = ap (place_value 16) (sym (kept_digit first more (apart first 95 h refl)))
+value_first first more h = ap (place_value 16) (sym (kept_digit first more (digit_apart first 95 h refl)))
 
 unicode_built : (kind : Kind) (t b d r : List ℕ) (c v w : ℕ) → t ≡ 123 ∷ b → b ≡ c ∷ d → is_hex_digit c ≡ true → v ≡ digit_value c → Digits v 1 d w r → (has_unicode kind && allows_code kind w) ≡ true → UnicodeAt kind t w r
 unicode_built kind t b d r c v w brace first digit v_is more allowed =
     let tests = and_parts (has_unicode kind) (allows_code kind w) allowed in
-    let long = length_on_digit c more.more (apart c 95 digit refl) in
+    let long = length_on_digit c more.more (digit_apart c 95 digit refl) in
     let fits = more.few in
     let value : w ≡ unicode_value c more.more = more.value_is ∙ ap (λ x. value_on x more.more) v_is ∙ value_first c more.more digit in
     record {
@@ -241,9 +228,8 @@ unicode_built kind t b d r c v w brace first digit v_is more allowed =
     }
 
 pub unicode_sound : (kind : Kind) (t : List ℕ) (p : ℕ × List ℕ) → unicode_at kind t ≡ Some p → UnicodeAt kind t p.0 p.1
-unfolding unicode_at
 unicode_sound kind t p h =
-    let b = bind_some (brace_at t) _ p h in
+    let b = bind_some (brace_at t) _ p (sym (unicode_is kind t) ∙ h) in
     let d = bind_some (digit_at b.0) _ p b.2 in
     let first = digit_sound b.0 d.0 d.1 in
     let e = bind_some (unicode_digits_at d.0.0 1 d.0.1) _ p d.2 in
@@ -254,16 +240,15 @@ unicode_sound kind t p h =
     subst (λ w. UnicodeAt kind t w p.1) fields.0 (subst (UnicodeAt kind t e.0.0) fields.1 built)
 
 unicode_complete : (kind : Kind) (first : ℕ) (more r : List ℕ) → IsUnit kind (Unicode first more) → unicode_at kind (123 ∷ first ∷ (more ++ (125 ∷ r))) ≡ Some (unicode_value first more, r)
-unfolding unicode_at
 unicode_complete kind first more r u =
     let a : is_hex_digit first ≡ true = u.1 in
-    let long = length_on_digit first more (apart first 95 u.1 refl) in
+    let long = length_on_digit first more (digit_apart first 95 u.1 refl) in
     let value = value_first first more u.1 in
     let few : length (without_underscores (first ∷ more)) ≤ 6 = u.3 in
     let digits : unicode_digits_at (digit_value first) 1 (more ++ (125 ∷ r)) ≡ Some (unicode_value first more, r) = digits_complete (digit_value first) 1 more r u.2 (omega arith) (subst IsScalar (sym value) u.4) ∙ ap (λ w. Some (w, r)) value in
     let has : has_unicode kind ≡ true = u.0 in
     let holds : allows_code kind (unicode_value first more) ≡ true = u.5 in
-    rw (a, digits, has, holds) refl
+    unicode_is kind (123 ∷ first ∷ (more ++ (125 ∷ r))) ∙ rw (a, digits, has, holds) refl
 
 -- ---- blanks
 
@@ -330,11 +315,7 @@ pub holds_more : (kind : Kind) (n : ℕ) → eqb n 0 ≡ false → allows_code k
 holds_more Str n h = refl
 holds_more ByteStr n h = refl
 holds_more CStr n h = rw h refl
-holds_more Byte n h = refl
-holds_more Char n h = refl
-holds_more Int n h = refl
-holds_more Float n h = refl
-holds_more BoolKind n h = refl
+holds_more kind n h = refl
 
 named_sound : (kind : Kind) (c : ℕ) (cs : List ℕ) (p : List ℕ × List ℕ) → named_at kind c cs ≡ Some p → Begins kind (92 ∷ c ∷ cs) p.0 p.1
 named_sound kind c cs p h =
@@ -459,11 +440,7 @@ pub quote_and_return : (kind : Kind) → is_string kind ≡ true → (is_plain k
 quote_and_return Str h = (refl, refl)
 quote_and_return ByteStr h = (refl, refl)
 quote_and_return CStr h = (refl, refl)
-quote_and_return Byte h = absurd (cc)
-quote_and_return Char h = absurd (cc)
-quote_and_return Int h = absurd (cc)
-quote_and_return Float h = absurd (cc)
-quote_and_return BoolKind h = absurd (cc)
+quote_and_return kind h = absurd (cc)
 
 pub plain_complete : (kind : Kind) (c : ℕ) (r : List ℕ) → is_plain kind c ≡ true → unit_at kind (c ∷ r) ≡ found (content_of kind (c ∷ [])) r
 unfolding unit_at

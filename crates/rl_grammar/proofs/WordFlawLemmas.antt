@@ -1,17 +1,8 @@
 -- Where a text that begins neither as a number nor as a quoted literal stops being the front of a
 -- truth value.
-use Rattle.std.proofs.Common.{◌≡◌, ◌≢◌, ℕ, Bool, true, false, cond, ◌||◌, ◌==◌, List, [], ◌∷◌, ◌++◌, None, Some, inl, inr, ◌⊎◌, refl, sym, ap, subst, ◌∙◌, append-nil}
-use Rattle.std.specs.Char.{IsScalar}
-use Rattle.std.specs.List.{AllByRecursion}
-use Rattle.std.proofs.lemmas.Bool.{both_ways, eq-eqb, eqb-true, or_parts}
-use Rattle.std.proofs.lemmas.List.{append_cancel_left, append_cancel_right}
-use Rattle.rl_tokens.specs.declared.kind.Kind.{Kind}
-use Rattle.rl_tokens.specs.declared.kind.Kind.TheVariants.{Bool as BoolKind, Byte, ByteStr, Char, CStr, Str}
-use Rattle.rl_tokens.specs.Quoted.{is_string, opener}
-use Rattle.rl_tokens.specs.Reading.{HasContents, HasNoTruth, HasReading, Truth, quoted_contents, truth_text}
-use Rattle.rl_tokens.specs.Texts.{first_passes}
+use Rattle.rl_grammar.proofs.Names.{◌≡◌, ◌≢◌, ℕ, Bool, true, false, cond, ◌||◌, ◌==◌, List, [], ◌∷◌, ◌++◌, None, Some, inl, inr, ◌⊎◌, refl, sym, ap, subst, ◌∙◌, append-nil, IsScalar, AllByRecursion, both_ways, cases_Bool, cond_both, eq-eqb, eqb-true, or_parts, append_cancel_left, append_cancel_right, Kind, BoolKind, Byte, ByteStr, Char, CStr, Str, is_string, opener, HasContents, HasNoTruth, HasReading, Truth, quoted_contents, truth_text, first_passes}
 use Rattle.rl_grammar.specs.Flaws.{StopsBefore}
-use Rattle.rl_grammar.specs.NumberFlaws.{BeginsTruth, HasKind, IsWordFlaw}
+use Rattle.rl_grammar.specs.NumberFlaws.{BeginsWord, IsWordFlaw}
 use Rattle.rl_grammar.specs.declared.quoted_forms.QuotedForm.{QuotedForm}
 use Rattle.rl_grammar.specs.declared.quoted_forms.QuotedForm.TheVariants.{Cooked as CookedForm, Raw as RawForm, Single as SingleForm}
 use Rattle.rl_grammar.specs.WholeShapes.{is_number_front}
@@ -21,7 +12,7 @@ use Rattle.rl_grammar.specs.Mirrors.OpenerAt.{FoundOpener, byte_opener_at, found
 use Rattle.rl_grammar.specs.Mirrors.UnitFlawAt.{FoundFlaw, found_flaw}
 use Rattle.rl_grammar.specs.Mirrors.WordFlawAt.{after_letters, word_flaw_at}
 use Rattle.rl_grammar.proofs.FormLemmas.{no_front}
-use Rattle.rl_grammar.proofs.NumberFlawLemmas.{end_rest}
+use Rattle.rl_grammar.proofs.NumberFlawLemmas.{IsFlaw}
 use Rattle.rl_grammar.proofs.ReadingLemmas.{no_front_number, no_reading}
 
 -- ---- the code's two words
@@ -107,16 +98,27 @@ record WordFront (b : Bool) (t : List ℕ) (k : Common (truth_text b) t) : Type 
   no_number : (e : List ℕ) → first_passes is_number_front (k.front ++ e) ≡ false
   only : (e : List ℕ) (d : Bool) → k.front ++ e ≡ truth_text d → d ≡ b
 
-letters_stop : (b : Bool) (t : List ℕ) (k : Common (truth_text b) t) → WordFront b t k → StopsBefore t (after_letters (truth_text b) t)
-letters_stop b t k f = record {
+-- where a word ends too soon, or another character follows
+ends : (t front rest : List ℕ) → StopsBefore HasReading t rest → t ≡ front ++ rest → t ≢ [] → BeginsWord front → IsFlaw IsWordFlaw t (end_flaw_at Unfinished NoLiteral rest)
+ends t front [] stops cut some begins = record {
+  stops = stops;
+  kind = λ x is. (subst BeginsWord (append_cancel_right front x [] (sym cut ∙ is)) begins, (λ n. some (is ∙ append-nil x ∙ n)), refl);
+}
+ends t front (c ∷ cs) stops cut some begins = record {
+  stops = stops;
+  kind = λ x is. (subst BeginsWord (append_cancel_right front x (c ∷ cs) (sym cut ∙ is)) begins, λ n. absurd (cc));
+}
+
+letters_flaw : (b : Bool) (t : List ℕ) (k : Common (truth_text b) t) → WordFront b t k → t ≢ [] → IsFlaw IsWordFlaw t (end_flaw_at Unfinished NoLiteral (after_letters (truth_text b) t))
+letters_flaw b t k f some = ends t k.front (after_letters (truth_text b) t) (record {
   front = k.front;
   text_is = k.text_is;
-  begins = record { ending = k.left; are_characters = k.are_characters (truth_characters b); reads = subst HasReading k.word_is (truth_reads b) };
+  begins = record { ending = k.left; are_characters = k.are_characters (truth_characters b); is_taken = subst HasReading k.word_is (truth_reads b) };
   stuck = λ c cs e h r.
       nothing_reads (k.front ++ (c ∷ e)) (f.no_opener (c ∷ e)) (f.no_number (c ∷ e)) (λ v x q.
       let same : truth_text q.truth ≡ truth_text b = ap truth_text (f.only (c ∷ e) q.truth q.text_is) in
       k.differ c cs e h (sym (append_cancel_left k.front (c ∷ e) k.left (q.text_is ∙ same ∙ k.word_is)))) r;
-}
+}) k.text_is some (inr (inr (record { truth = b; more = k.left; word_is = k.word_is })))
 
 true_first : (cs : List ℕ) (d : Bool) → 116 ∷ cs ≡ truth_text d → d ≡ true
 true_first cs true e = refl
@@ -126,13 +128,13 @@ false_first : (cs : List ℕ) (d : Bool) → 102 ∷ cs ≡ truth_text d → d �
 false_first cs true e = absurd (both_ways true (ap (first_passes (λ c. c == 102)) e) refl)
 false_first cs false e = refl
 
-true_stops : (cs : List ℕ) → StopsBefore (116 ∷ cs) (after_letters (truth_text true) (116 ∷ cs))
+true_flaw : (cs : List ℕ) → IsFlaw IsWordFlaw (116 ∷ cs) (end_flaw_at Unfinished NoLiteral (after_letters (truth_text true) (116 ∷ cs)))
 unfolding opener_at common
-true_stops cs = letters_stop true (116 ∷ cs) (common (truth_text true) (116 ∷ cs)) (record { no_opener = λ e. refl; no_number = λ e. refl; only = λ e d h. true_first _ d h })
+true_flaw cs = letters_flaw true (116 ∷ cs) (common (truth_text true) (116 ∷ cs)) (record { no_opener = λ e. refl; no_number = λ e. refl; only = λ e d h. true_first _ d h }) (λ n. absurd (cc))
 
-false_stops : (cs : List ℕ) → StopsBefore (102 ∷ cs) (after_letters (truth_text false) (102 ∷ cs))
+false_flaw : (cs : List ℕ) → IsFlaw IsWordFlaw (102 ∷ cs) (end_flaw_at Unfinished NoLiteral (after_letters (truth_text false) (102 ∷ cs)))
 unfolding opener_at common
-false_stops cs = letters_stop false (102 ∷ cs) (common (truth_text false) (102 ∷ cs)) (record { no_opener = λ e. refl; no_number = λ e. refl; only = λ e d h. false_first _ d h })
+false_flaw cs = letters_flaw false (102 ∷ cs) (common (truth_text false) (102 ∷ cs)) (record { no_opener = λ e. refl; no_number = λ e. refl; only = λ e d h. false_first _ d h }) (λ n. absurd (cc))
 
 -- ---- other texts
 
@@ -177,13 +179,16 @@ c_prefix = record {
   alike = λ d ds e h. picks false (d == 34) (d == 114) (CookedForm, CStr, ds) (CookedForm, CStr, ds) (RawForm, CStr, ds) (CookedForm, CStr, e) (CookedForm, CStr, e) (RawForm, CStr, e) h;
 }
 
-prefix_stops : (c : ℕ) (cs : List ℕ) → IsPrefix c → opener_at (c ∷ cs) ≡ None → StopsBefore (c ∷ cs) cs
-prefix_stops c cs k none = record {
-  front = c ∷ [];
-  text_is = refl;
-  begins = record { ending = 34 ∷ 34 ∷ []; are_characters = (refl, (refl, tt)); reads = k.reads };
-  stuck = λ d ds e h r. nothing_reads (c ∷ d ∷ e) (k.alike d ds e (ap (λ z. opener_at (c ∷ z)) (sym h) ∙ none)) k.no_number (other_first c (d ∷ e) k.no_true k.no_false) r;
-}
+prefix_flaw : (k c : ℕ) (cs : List ℕ) → IsPrefix k → BeginsWord (k ∷ []) → (c == k) ≡ true → opener_at (c ∷ cs) ≡ None → IsFlaw IsWordFlaw (c ∷ cs) (end_flaw_at Unfinished NoLiteral cs)
+prefix_flaw k c cs is begins e none =
+    let same = eqb-true c k e in
+    let stops : StopsBefore HasReading (k ∷ cs) cs = record {
+      front = k ∷ [];
+      text_is = refl;
+      begins = record { ending = 34 ∷ 34 ∷ []; are_characters = (refl, (refl, tt)); is_taken = is.reads };
+      stuck = λ d ds r h q. nothing_reads (k ∷ d ∷ r) (is.alike d ds r (ap (λ z. opener_at (k ∷ z)) (sym h) ∙ ap (λ z. opener_at (z ∷ cs)) (sym same) ∙ none)) is.no_number (other_first k (d ∷ r) is.no_true is.no_false) q;
+    } in
+    subst (λ z. IsFlaw IsWordFlaw (z ∷ cs) (end_flaw_at Unfinished NoLiteral cs)) (sym same) (ends (k ∷ cs) (k ∷ []) cs stops refl (λ n. absurd (cc)) begins)
 
 other_opener : (c : ℕ) (cs e : List ℕ) → (c == 98) ≡ false → (c == 99) ≡ false → opener_at (c ∷ cs) ≡ None → opener_at (c ∷ e) ≡ None
 unfolding opener_at
@@ -192,98 +197,45 @@ other_opener c cs e b k h =
     let plain : (z : List ℕ) → F (c == 98) (c == 99) z ≡ F false false z = λ z. ap (λ x. F x (c == 99) z) b ∙ ap (λ y. F false y z) k in
     plain e ∙ picks (c == 39) (c == 34) (c == 114) (SingleForm, Char, cs) (CookedForm, Str, cs) (RawForm, Str, cs) (SingleForm, Char, e) (CookedForm, Str, e) (RawForm, Str, e) (sym (plain cs) ∙ h)
 
-no_front_stops : (c : ℕ) (cs : List ℕ) → (c == 98 || c == 99) ≡ false → (c == 116) ≡ false → (c == 102) ≡ false → opener_at (c ∷ cs) ≡ None → is_number_front c ≡ false → StopsBefore (c ∷ cs) (c ∷ cs)
-no_front_stops c cs p t f none number =
-    let prefix = or_parts (c == 98) (c == 99) p in
-    record {
-      front = [];
-      text_is = refl;
-      begins = record { ending = truth_text true; are_characters = truth_characters true; reads = truth_reads true };
-      stuck = λ d ds e h r.
-          let same : c ≡ d = cc in
-          nothing_reads (c ∷ e) (other_opener c cs e prefix.0 prefix.1 none) number (other_first c e t f) (subst (λ z. HasReading (z ∷ e)) (sym same) r);
-    }
-
-word_stops : (t : List ℕ) → first_passes is_number_front t ≡ false → opener_at t ≡ None → StopsBefore t (word_flaw_at t).1
-unfolding word_flaw_at
-word_stops [] number none = record {
-  front = [];
-  text_is = refl;
-  begins = record { ending = truth_text true; are_characters = truth_characters true; reads = truth_reads true };
-  stuck = λ c cs e h r. absurd (cc);
+no_front_flaw : (c : ℕ) (cs : List ℕ) → (c == 98) ≡ false → (c == 99) ≡ false → (c == 116) ≡ false → (c == 102) ≡ false → opener_at (c ∷ cs) ≡ None → is_number_front c ≡ false → IsFlaw IsWordFlaw (c ∷ cs) (found_flaw NoLiteral (c ∷ cs))
+no_front_flaw c cs b k t f none number = record {
+  stops = record {
+    front = [];
+    text_is = refl;
+    begins = record { ending = truth_text true; are_characters = truth_characters true; is_taken = truth_reads true };
+    stuck = λ d ds e h r.
+        let same : c ≡ d = cc in
+        nothing_reads (c ∷ e) (other_opener c cs e b k none) number (other_first c e t f) (subst (λ z. HasReading (z ∷ e)) (sym same) r);
+  };
+  kind = λ front is. (inr (inr (record { truth = true; more = truth_text true; word_is = ap (λ z. z ++ truth_text true) (append_cancel_right [] front (c ∷ cs) is) })), λ n. absurd (cc));
 }
-word_stops (c ∷ cs) number none = go (c == 98) (c == 99) (c == 116) (c == 102) refl refl refl refl
-  where
-    ends : (rest : List ℕ) → StopsBefore (c ∷ cs) rest → StopsBefore (c ∷ cs) (end_flaw_at Unfinished NoLiteral rest).1
-    ends rest s = subst (StopsBefore (c ∷ cs)) (sym (end_rest Unfinished NoLiteral rest)) s
 
-    prefixed : (k : ℕ) → IsPrefix k → (c == k) ≡ true → StopsBefore (c ∷ cs) cs
-    prefixed k is e =
-        let same = eqb-true c k e in
-        subst (λ z. StopsBefore (z ∷ cs) cs) (sym same) (prefix_stops k cs is (ap (λ z. opener_at (z ∷ cs)) (sym same) ∙ none))
-
-    go : (b k t f : Bool) → (c == 98) ≡ b → (c == 99) ≡ k → (c == 116) ≡ t → (c == 102) ≡ f → StopsBefore (c ∷ cs) (cond (b || k) (end_flaw_at Unfinished NoLiteral cs) (cond t (end_flaw_at Unfinished NoLiteral (after_letters (truth_text true) (c ∷ cs))) (cond f (end_flaw_at Unfinished NoLiteral (after_letters (truth_text false) (c ∷ cs))) (found_flaw NoLiteral (c ∷ cs))))).1
-    go true k t f hb hk ht hf = ends cs (prefixed 98 byte_prefix hb)
-    go false true t f hb hk ht hf = ends cs (prefixed 99 c_prefix hk)
-    go false false true f hb hk ht hf = ends (after_letters (truth_text true) (c ∷ cs)) (subst (λ z. StopsBefore (z ∷ cs) (after_letters (truth_text true) (z ∷ cs))) (sym (eqb-true c 116 ht)) (true_stops cs))
-    go false false false true hb hk ht hf = ends (after_letters (truth_text false) (c ∷ cs)) (subst (λ z. StopsBefore (z ∷ cs) (after_letters (truth_text false) (z ∷ cs))) (sym (eqb-true c 102 hf)) (false_stops cs))
-    go false false false false hb hk ht hf = no_front_stops c cs (ap (λ z. z || (c == 99)) hb ∙ hk) ht hf none number
-
--- ---- what the kind says
-
-truth_kind : (b : Bool) (t front : List ℕ) → t ≢ [] → t ≡ front ++ after_letters (truth_text b) t → IsWordFlaw (end_flaw_at Unfinished NoLiteral (after_letters (truth_text b) t)).0 front (end_flaw_at Unfinished NoLiteral (after_letters (truth_text b) t)).1
-truth_kind b t front some is = go (after_letters (truth_text b) t) refl
-  where
-    k : Common (truth_text b) t
-    k = common (truth_text b) t
-
-    begins : BeginsTruth front
-    begins = record { truth = b; more = k.left; word_is = k.word_is ∙ ap (λ z. z ++ k.left) (append_cancel_right k.front front (after_letters (truth_text b) t) (sym k.text_is ∙ is)) }
-
-    go : (rest : List ℕ) → after_letters (truth_text b) t ≡ rest → IsWordFlaw (end_flaw_at Unfinished NoLiteral rest).0 front (end_flaw_at Unfinished NoLiteral rest).1
-    go [] e = (inr (inr begins), (λ n. some (is ∙ ap (λ z. front ++ z) e ∙ append-nil front ∙ n)), refl)
-    go (c ∷ cs) e = (inr (inr begins), λ n. absurd (cc))
-
-letter_kind : (c : ℕ) (cs front : List ℕ) → (c ≡ 98) ⊎ (c ≡ 99) → c ∷ cs ≡ front ++ cs → IsWordFlaw (end_flaw_at Unfinished NoLiteral cs).0 front (end_flaw_at Unfinished NoLiteral cs).1
-letter_kind c cs front letter is = go cs letter
-  where
-    same : front ≡ c ∷ []
-    same = sym (append_cancel_right (c ∷ []) front cs is)
-
-    some : front ≢ []
-    some n = let k : c ∷ [] ≡ [] = sym same ∙ n in absurd (cc)
-
-    go : (rest : List ℕ) → (c ≡ 98) ⊎ (c ≡ 99) → IsWordFlaw (end_flaw_at Unfinished NoLiteral rest).0 front (end_flaw_at Unfinished NoLiteral rest).1
-    go [] (inl e) = (inl (same ∙ ap (λ z. z ∷ []) e), some, refl)
-    go [] (inr e) = (inr (inl (same ∙ ap (λ z. z ∷ []) e)), some, refl)
-    go (d ∷ ds) (inl e) = (inl (same ∙ ap (λ z. z ∷ []) e), λ n. absurd (cc))
-    go (d ∷ ds) (inr e) = (inr (inl (same ∙ ap (λ z. z ∷ []) e)), λ n. absurd (cc))
-
-word_kind : (t : List ℕ) → HasKind (IsWordFlaw (word_flaw_at t).0) t (word_flaw_at t).1
+word_flaw : (t : List ℕ) → first_passes is_number_front t ≡ false → opener_at t ≡ None → IsFlaw IsWordFlaw t (word_flaw_at t)
 unfolding word_flaw_at
-word_kind [] = λ front is. (sym (is ∙ append-nil front), refl)
-word_kind (c ∷ cs) = go (c == 98) (c == 99) (c == 116) (c == 102) refl refl
-  where
-    Kind : FoundFlaw → Type 0
-    Kind f = HasKind (IsWordFlaw f.0) (c ∷ cs) f.1
-
-    worded : (b : Bool) (front : List ℕ) → c ∷ cs ≡ front ++ (end_flaw_at Unfinished NoLiteral (after_letters (truth_text b) (c ∷ cs))).1 → IsWordFlaw (end_flaw_at Unfinished NoLiteral (after_letters (truth_text b) (c ∷ cs))).0 front (end_flaw_at Unfinished NoLiteral (after_letters (truth_text b) (c ∷ cs))).1
-    worded b front is = truth_kind b (c ∷ cs) front (λ n. absurd (cc)) (is ∙ ap (λ z. front ++ z) (end_rest Unfinished NoLiteral (after_letters (truth_text b) (c ∷ cs))))
-
-    lettered : (c ≡ 98) ⊎ (c ≡ 99) → Kind (end_flaw_at Unfinished NoLiteral cs)
-    lettered letter front is = letter_kind c cs front letter (is ∙ ap (λ z. front ++ z) (end_rest Unfinished NoLiteral cs))
-
-    go : (b k t f : Bool) → (c == 98) ≡ b → (c == 99) ≡ k → Kind (cond (b || k) (end_flaw_at Unfinished NoLiteral cs) (cond t (end_flaw_at Unfinished NoLiteral (after_letters (truth_text true) (c ∷ cs))) (cond f (end_flaw_at Unfinished NoLiteral (after_letters (truth_text false) (c ∷ cs))) (found_flaw NoLiteral (c ∷ cs)))))
-    go true k t f hb hk = lettered (inl (eqb-true c 98 hb))
-    go false true t f hb hk = lettered (inr (eqb-true c 99 hk))
-    go false false true f hb hk = worded true
-    go false false false true hb hk = worded false
-    go false false false false hb hk = λ front is. (inr (inr (record { truth = true; more = truth_text true; word_is = ap (λ z. z ++ truth_text true) (append_cancel_right [] front (c ∷ cs) is) })), λ n. absurd (cc))
+word_flaw [] number none = record {
+  stops = record {
+    front = [];
+    text_is = refl;
+    begins = record { ending = truth_text true; are_characters = truth_characters true; is_taken = truth_reads true };
+    stuck = λ c cs e h r. absurd (cc);
+  };
+  kind = λ front is. (sym (is ∙ append-nil front), refl);
+}
+word_flaw (c ∷ cs) number none =
+    let P : FoundFlaw → Type 0 = IsFlaw IsWordFlaw (c ∷ cs) in
+    cond_both (c == 98 || c == 99) _ _ P
+      (λ e. elim (cases_Bool (c == 98)) [
+        | inl b ↦ prefix_flaw 98 c cs byte_prefix (inl refl) b none
+        | inr b ↦ prefix_flaw 99 c cs c_prefix (inr (inl refl)) (sym (ap (λ z. z || (c == 99)) b) ∙ e) none
+      ])
+      (λ e. cond_both (c == 116) _ _ P
+        (λ t. subst (λ z. IsFlaw IsWordFlaw (z ∷ cs) (end_flaw_at Unfinished NoLiteral (after_letters (truth_text true) (z ∷ cs)))) (sym (eqb-true c 116 t)) (true_flaw cs))
+        (λ t. cond_both (c == 102) _ _ P
+          (λ f. subst (λ z. IsFlaw IsWordFlaw (z ∷ cs) (end_flaw_at Unfinished NoLiteral (after_letters (truth_text false) (z ∷ cs)))) (sym (eqb-true c 102 f)) (false_flaw cs))
+          (λ f.
+              let other = or_parts (c == 98) (c == 99) e in
+              no_front_flaw c cs other.0 other.1 t f none number)))
 
 -- the code's flaw
-pub record IsFlaw (t : List ℕ) (flaw : FoundFlaw) : Type 0 where
-  pub stops : StopsBefore t flaw.1
-  pub kind : HasKind (IsWordFlaw flaw.0) t flaw.1
-
-pub word_place : (t : List ℕ) (flaw : FoundFlaw) → first_passes is_number_front t ≡ false → opener_at t ≡ None → flaw ≡ word_flaw_at t → IsFlaw t flaw
-word_place t flaw number none same = subst (IsFlaw t) (sym same) (record { stops = word_stops t number none; kind = word_kind t })
+pub word_place : (t : List ℕ) (flaw : FoundFlaw) → first_passes is_number_front t ≡ false → opener_at t ≡ None → flaw ≡ word_flaw_at t → IsFlaw IsWordFlaw t flaw
+word_place t flaw number none same = subst (IsFlaw IsWordFlaw t) (sym same) (word_flaw t number none)

@@ -5,6 +5,7 @@ use Rattle.std.specs.Str.{chars}
 use Rattle.rl_tokens.specs.declared.kind.Kind.{Kind}
 use Rattle.rl_tokens.specs.declared.kind.Kind.TheVariants.{Byte, Char}
 use Rattle.rl_tokens.specs.Quoted.{is_string, is_single}
+use Rattle.rl_tokens.specs.Reading.{Contents, HasContents}
 use Rattle.rl_grammar.specs.declared.quoted_forms.QuotedForm.{QuotedForm}
 use Rattle.rl_grammar.specs.declared.quoted_forms.QuotedForm.TheVariants.{Single as SingleForm}
 use Rattle.rl_grammar.specs.Forms.{PartsAre, is_plain_body}
@@ -24,6 +25,24 @@ pub record HasSingleBody (kind : Kind) (text body : List ℕ) : Type 0 where
   pub value : List ℕ
   pub suffix : List ℕ
   pub parts : PartsAre SingleForm kind text value (chars body) suffix
+
+-- It is the body of a string of the kind.
+abbrev pub IsStringBody : Kind → List ℕ → Bool → Type 0
+IsStringBody kind body plain = (text : List ℕ) × HasBody kind text body plain
+
+-- Whatever string of the kind has this body, it has these contents.
+abbrev pub StandsFor : Kind → List ℕ → Bool → Contents → Type 0
+StandsFor kind body plain contents =
+    (text : List ℕ) → HasBody kind text body plain → HasContents kind text contents
+
+-- It is the body of a character or a byte.
+abbrev pub IsSingleBody : Kind → List ℕ → Type 0
+IsSingleBody kind body = (text : List ℕ) × HasSingleBody kind text body
+
+-- Whatever character or byte has this body, it has these contents.
+abbrev pub SingleStandsFor : Kind → List ℕ → Contents → Type 0
+SingleStandsFor kind body contents =
+    (text : List ℕ) → HasSingleBody kind text body → HasContents kind text contents
 
 -- The number is all that a character or a byte stands for, and 0 for a string.
 pub record IsUnitValue (kind : Kind) (value : List ℕ) (unit : ℕ) : Type 0 where

@@ -2,13 +2,9 @@
 use Rattle.std.specs.Prelude.{◌≡◌, ℕ, List, [], ◌∷◌, encode_utf8, encode_utf8_all, if◌then◌else◌, IsTrue}
 use Rattle.rl_tokens.specs.declared.kind.Kind.{Kind}
 use Rattle.rl_tokens.specs.Quoted.{holds_characters, is_string}
-use Rattle.rl_tokens.specs.Reading.{Contents, Reads, ReadsQuoted}
+use Rattle.rl_tokens.specs.Reading.{Contents, ReadsQuoted}
 use Rattle.rl_grammar.specs.declared.units.Piece.{Piece}
 use Rattle.rl_grammar.specs.declared.units.Piece.TheVariants.{Character, Byte, Nothing}
-
--- whatever reading of the kind the text has, these are its contents
-abbrev pub ContentsAre : Kind → List ℕ → Contents → Type 0
-ContentsAre kind text contents = (v : Contents) (x : List ℕ) → Reads text kind v x → v ≡ contents
 
 -- the bytes of a piece, those of a character in UTF-8
 abbrev pub piece_bytes : Piece → List ℕ

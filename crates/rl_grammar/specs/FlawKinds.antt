@@ -9,6 +9,7 @@ use Rattle.rl_tokens.specs.declared.kind.Kind.TheVariants.{Byte, ByteStr, CStr}
 use Rattle.rl_tokens.specs.Texts.{first_passes, is_among, is_underscore}
 use Rattle.rl_tokens.specs.Quoted.{QuotedUnit, EndsBefore, Letter, letter_text, unit_text, texts, IsUnit, hex_value, place_value, without_underscores, is_hex_digit, is_line_end, is_raw, is_string, has_unicode, holds_characters}
 use Rattle.rl_tokens.specs.Classes.{is_hash}
+use Rattle.rl_tokens.specs.Sources.{is_apostrophe}
 use Rattle.rl_grammar.specs.declared.flaws.FlawKind.{FlawKind}
 use Rattle.rl_grammar.specs.declared.flaws.FlawKind.TheVariants.{Unfinished, NoQuote, Unclosed, UnknownEscape, NoUnicode, NoHexDigit, NoBrace, EmptyBraces, TooManyDigits, PastAscii, PastUnicode, Surrogate, Nul, NotAscii, LateQuote, LoneCr, MustEscape, NoCharacter, TwoCharacters}
 use Rattle.rl_grammar.specs.declared.quoted_forms.QuotedForm.{QuotedForm}
@@ -22,9 +23,6 @@ Begins test text = IsTrue (first_passes test text)
 
 abbrev pub is_quote : ℕ → Bool
 is_quote c = c == code "\""
-
-abbrev pub is_apostrophe : ℕ → Bool
-is_apostrophe c = c == code "'"
 
 abbrev pub is_brace : ℕ → Bool
 is_brace c = c == code "}"
@@ -153,7 +151,7 @@ pub record IsUnopened (text rest : List ℕ) : Type 0 where
   pub no_quote : IsFalse (first_passes is_quote rest)
 
 -- The last quote of the text has the hashes after it.
-pub record Closes (hashes text : List ℕ) : Type 0 where
+pub record HasLastCloser (hashes text : List ℕ) : Type 0 where
   pub inside : List ℕ
   pub suffix : List ℕ
   pub no_quote : IsTrue (list_all (λ c. not (is_quote c)) suffix)
@@ -169,7 +167,7 @@ pub record IsOpened (kind : Kind) (text rest : List ℕ) : Type 0 where
 -- And the rest begins with one that may not, where the string isn't closed yet.
 pub record IsSpoiled (kind : Kind) (text rest : List ℕ) : Type 0 where
   pub opened : IsOpened kind text rest
-  pub not_closed : Closes (replicate opened.hashes (code "#")) opened.body → ⊥
+  pub not_closed : HasLastCloser (replicate opened.hashes (code "#")) opened.body → ⊥
   pub spoils : Begins (λ c. not (is_raw kind c)) rest
 
 -- Or the string was closed before such a character, and the rest begins with the next quote.
@@ -177,7 +175,7 @@ pub record IsReopened (kind : Kind) (text rest : List ℕ) : Type 0 where
   pub other : ℕ
   pub more : List ℕ
   pub opened : IsOpened kind text (other ∷ (more ++ rest))
-  pub closed : Closes (replicate opened.hashes (code "#")) opened.body
+  pub closed : HasLastCloser (replicate opened.hashes (code "#")) opened.body
   pub spoils : IsFalse (is_raw kind other)
   pub no_quote : IsTrue (list_all (λ c. not (is_quote c)) more)
   pub quote : Begins is_quote rest

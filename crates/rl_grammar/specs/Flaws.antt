@@ -11,31 +11,30 @@ use Rattle.rl_grammar.specs.FlawKinds.{HasNoOpener, HasQuotedFlaw, HasQuotedPiec
 use Rattle.rl_grammar.specs.NumberFlaws.{HasKind, IsNumberFlaw, IsWordFlaw}
 use Rattle.rl_grammar.specs.WholeShapes.{is_number_front}
 
--- Some literal begins with the text: with some ending, perhaps none, it reads.
-pub record BeginsLiteral (text : List ℕ) : Type 0 where
+-- The text can be completed: with some ending, perhaps none, it is one of those that a grammar takes.
+pub record IsCompletable (takes : List ℕ → Type 0) (text : List ℕ) : Type 0 where
   pub ending : List ℕ
   pub are_characters : AllByRecursion IsScalar ending
-  pub reads : HasReading (text ++ ending)
+  pub is_taken : takes (text ++ ending)
 
--- Up to the rest some literal begins with the text, and with the rest's first character, if there is
--- one, none does.
-pub record StopsBefore (text rest : List ℕ) : Type 0 where
+-- Up to the rest the text can be completed, and with the rest's first character, if there is one, it
+-- can't.
+pub record StopsBefore (takes : List ℕ → Type 0) (text rest : List ℕ) : Type 0 where
   pub front : List ℕ
   pub text_is : text ≡ front ++ rest
-  pub begins : BeginsLiteral front
-  pub stuck :
-      (c : ℕ) (cs ending : List ℕ) → rest ≡ c ∷ cs → HasReading (front ++ (c ∷ ending)) → ⊥
+  pub begins : IsCompletable takes front
+  pub stuck : (c : ℕ) (cs ending : List ℕ) → rest ≡ c ∷ cs → takes (front ++ (c ∷ ending)) → ⊥
 
 -- how many bytes the first character of a text has
 abbrev pub first_len : List ℕ → ℕ
 first_len [] = 0
 first_len (c ∷ cs) = length (encode_utf8 c)
 
--- At `lo`, in bytes, the longest front of the text ends that some literal begins with; `hi` is after
--- the character there, or is the text's end too.
-pub record StopsAt (text : List ℕ) (lo hi : ℕ) : Type 0 where
+-- At `lo`, in bytes, the longest front of the text ends that can be completed; `hi` is after the
+-- character there, or is the text's end too.
+pub record IsPlaced (takes : List ℕ → Type 0) (text : List ℕ) (lo hi : ℕ) : Type 0 where
   pub rest : List ℕ
-  pub stops : StopsBefore text rest
+  pub stops : StopsBefore takes text rest
   pub lo_is : lo ≡ byte_len stops.front
   pub hi_is : hi ≡ lo + first_len rest
 
@@ -63,7 +62,7 @@ pub record BeginsPiece (text rest : List ℕ) (from : ℕ) : Type 0 where
 -- says.
 pub record Explains (text : List ℕ) (flaw : Flaw) : Type 0 where
   pub unread : HasNoReading text
-  pub place : StopsAt text flaw.lo flaw.hi
+  pub place : IsPlaced HasReading text flaw.lo flaw.hi
   pub kind : IsFlawOf flaw.kind text place.rest
   pub piece : BeginsPiece text place.rest flaw.from
 

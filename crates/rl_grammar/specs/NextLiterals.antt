@@ -31,7 +31,7 @@ IsLiteralToken IdentifierForm text found =
 IsLiteralToken _ text found = ⊥
 
 -- The next token is the literal.
-pub record TakesToken (old : CursorState) (l : NextLiteral) (new : CursorState) : Type 0 where
+pub record TakesLiteralToken (old : CursorState) (l : NextLiteral) (new : CursorState) : Type 0 where
   pub takes : TakesNext old l.token new
   pub literal : IsLiteralToken (form_view l.token.form) l.token.text.now l.found
   pub no_minus : l.minus_at ≡ None
@@ -50,7 +50,7 @@ pub record TakesNegative (old : CursorState) (l : NextLiteral) (new : CursorStat
   pub minus_is : l.minus_at ≡ Some minus.lo
 
 abbrev pub TakesNextLiteral : CursorState → NextLiteral → CursorState → Type 0
-TakesNextLiteral old l new = TakesToken old l new ⊎ TakesNegative old l new
+TakesNextLiteral old l new = TakesLiteralToken old l new ⊎ TakesNegative old l new
 
 -- no number after a minus
 abbrev pub HasNoNumber : CursorState → Type 0
@@ -80,8 +80,8 @@ token_rejection (DelimiterForm c) = if is_opener c then Group else UnmatchedClos
 token_rejection _ = NoLiteral
 
 -- Why no literal begins what is left, which isn't empty: the error that stands there, or the token.
-abbrev pub IsReason : CursorState → RejectionKind → Type 0
-IsReason t why =
+abbrev pub IsRejected : CursorState → RejectionKind → Type 0
+IsRejected t why =
     ((kind : LexKind) × (why ≡ Lex kind)
     × ((groups : List OpenGroup) → ErrorAt kind groups (chars t.rest)))
     ⊎ ((l : Lexeme) × (new : CursorState) × TakesNext t l new
@@ -89,7 +89,7 @@ IsReason t why =
 
 -- what is rejected stands where what is left begins
 pub record RejectsNext (t : CursorState) (r : Rejection) : Type 0 where
-  pub reason : IsReason t r.kind
+  pub reason : IsRejected t r.kind
   pub place : r.at + length t.rest ≡ length t.text
 
 -- What a step over a list returns, and what it leaves: the end, a literal, or that none stands next.

@@ -28,8 +28,8 @@ ReadsNumber text Int contents suffix = ReadsInt text contents suffix
 ReadsNumber text Float contents suffix = ReadsFloat text contents suffix
 ReadsNumber text _ contents suffix = ⊥
 
-abbrev pub HasNoNumber : List ℕ → Type 0
-HasNoNumber text =
+abbrev pub ReadsNoNumber : List ℕ → Type 0
+ReadsNoNumber text =
     (kind : Kind) (contents : Contents) (suffix : List ℕ) → ReadsNumber text kind contents suffix
     → ⊥
 
@@ -48,10 +48,3 @@ AreDigits Int text digits =
 AreDigits Float text digits =
     (numeral suffix : List ℕ) → FloatReads text numeral suffix → digits ≡ float_digits numeral
 AreDigits _ text digits = ⊥
-
--- an integer of this magnitude stands there, within the limit, and the body is all before its
--- suffix
-pub record IsSplitInteger (text : List ℕ) (magnitude : ℕ) (body : List ℕ) : Type 0 where
-  pub suffix : List ℕ
-  pub within : HasMagnitude text magnitude suffix
-  pub cut : text ≡ body ++ suffix

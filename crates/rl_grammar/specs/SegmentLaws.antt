@@ -10,7 +10,7 @@ use Rattle.rl_grammar.specs.Decoded.{in_bytes}
 use Rattle.rl_grammar.specs.declared.found.Body.{Body}
 use Rattle.rl_grammar.specs.Founds.{body_in}
 use Rattle.rl_grammar.specs.declared.segments.Segment.{Segment}
-use Rattle.rl_grammar.specs.Segments.{AreUnitsOf, IsEndOf, IsPlaceOf, IsSegmentsOf, SegmentsState, TakesSegment, value_bytes}
+use Rattle.rl_grammar.specs.Segments.{AreUnitsOf, IsByteEnd, IsBytePlace, IsSegmentsOf, SegmentsState, TakesSegment, value_bytes}
 
 -- the cursor gives these segments, from the one state to the other
 abbrev pub Passes : SegmentsState → List Segment → SegmentsState → Type 0
@@ -46,23 +46,23 @@ AllMakeTheLiteral kind text =
 -- end at the closing quote; where the body is the contents, each byte is as far from the body's first as
 -- it is among the contents.
 pub record PlacesStandIn (kind : Kind) (text : List ℕ) (body : Body) : Type 0 where
-  pub end : (at place : ℕ) → IsPlaceOf kind (chars text) at place
+  pub end : (at place : ℕ) → IsBytePlace kind (chars text) at place
       → length (body_in text body) ≤ at → place ≡ body.hi
-  pub plain : (at place : ℕ) → IsPlaceOf kind (chars text) at place → IsTrue body.plain
+  pub plain : (at place : ℕ) → IsBytePlace kind (chars text) at place → IsTrue body.plain
       → at < length (body_in text body) → place ≡ body.lo + at
-  pub plain_end : (at place : ℕ) → IsEndOf kind (chars text) at place → IsTrue body.plain
+  pub plain_end : (at place : ℕ) → IsByteEnd kind (chars text) at place → IsTrue body.plain
       → at < length (body_in text body) → place ≡ body.lo + (at + 1)
-  pub within : (at place : ℕ) → IsPlaceOf kind (chars text) at place
+  pub within : (at place : ℕ) → IsBytePlace kind (chars text) at place
       → (body.lo ≤ place) × (place ≤ body.hi)
-  pub within_end : (at place : ℕ) → IsEndOf kind (chars text) at place
+  pub within_end : (at place : ℕ) → IsByteEnd kind (chars text) at place
       → (body.lo ≤ place) × (place ≤ body.hi)
 
 -- Later bytes of the contents come from later places, or from the same one, and so do their ends: a
 -- byte has one place and one end. It begins no later than it ends.
 pub record PlacesKeepTheOrder (kind : Kind) (text : List ℕ) : Type 0 where
-  pub places : (at later place other : ℕ) → IsPlaceOf kind text at place
-      → IsPlaceOf kind text later other → at ≤ later → place ≤ other
-  pub ends : (at later place other : ℕ) → IsEndOf kind text at place
-      → IsEndOf kind text later other → at ≤ later → place ≤ other
-  pub apart : (at place end : ℕ) → IsPlaceOf kind text at place → IsEndOf kind text at end
+  pub places : (at later place other : ℕ) → IsBytePlace kind text at place
+      → IsBytePlace kind text later other → at ≤ later → place ≤ other
+  pub ends : (at later place other : ℕ) → IsByteEnd kind text at place
+      → IsByteEnd kind text later other → at ≤ later → place ≤ other
+  pub apart : (at place end : ℕ) → IsBytePlace kind text at place → IsByteEnd kind text at end
       → place ≤ end

@@ -34,12 +34,12 @@ ends_in unit at = if is_itself unit then at + 1 else byte_len (unit_text unit)
 
 -- That place, from the first unit on, for the byte at this place of what the units stand for; past
 -- these bytes, the units' end.
-abbrev pub place_in : (QuotedUnit → ℕ → ℕ) → Kind → List QuotedUnit → ℕ → ℕ
-place_in inside kind [] at = 0
-place_in inside kind (unit ∷ units) at =
+abbrev pub unit_place : (QuotedUnit → ℕ → ℕ) → Kind → List QuotedUnit → ℕ → ℕ
+unit_place inside kind [] at = 0
+unit_place inside kind (unit ∷ units) at =
     if nat_lt at (length (unit_bytes kind unit)) then inside unit at
     else byte_len (unit_text unit)
-    + place_in inside kind units (at - length (unit_bytes kind unit))
+    + unit_place inside kind units (at - length (unit_bytes kind unit))
 
 -- The literal's units, and the place of the first: of a raw string each character is one.
 abbrev pub AreUnitsOf : Kind → List ℕ → List QuotedUnit → ℕ → Type 0
@@ -57,16 +57,16 @@ pub record IsGivenAt (inside : QuotedUnit → ℕ → ℕ) (kind : Kind) (text :
   pub units : List QuotedUnit
   pub lo : ℕ
   pub units_are : AreUnitsOf kind text units lo
-  pub place_is : place ≡ lo + place_in inside kind units at
+  pub place_is : place ≡ lo + unit_place inside kind units at
 
 -- At this place of the text begins what gives the byte of the literal's contents; the closing quote
 -- at their end, and past it.
-abbrev pub IsPlaceOf : Kind → List ℕ → ℕ → ℕ → Type 0
-IsPlaceOf = IsGivenAt begins_in
+abbrev pub IsBytePlace : Kind → List ℕ → ℕ → ℕ → Type 0
+IsBytePlace = IsGivenAt begins_in
 
 -- There ends what gives it.
-abbrev pub IsEndOf : Kind → List ℕ → ℕ → ℕ → Type 0
-IsEndOf = IsGivenAt ends_in
+abbrev pub IsByteEnd : Kind → List ℕ → ℕ → ℕ → Type 0
+IsByteEnd = IsGivenAt ends_in
 
 -- What a cursor over the segments has left: where in the literal's text, and the bytes up to the
 -- closing quote. Of a plain body each character stands for itself.
@@ -77,21 +77,21 @@ pub record SegmentsState : Type 0 where
   pub rest : List ℕ
 
 -- The text is these units.
-pub record IsRow (kind : Kind) (text : List ℕ) (units : List QuotedUnit) : Type 0 where
+pub record IsUnitRow (kind : Kind) (text : List ℕ) (units : List QuotedUnit) : Type 0 where
   pub each : AllByRecursion (IsUnit kind) units
   pub ends : ContinuationsEnd units
   pub text_is : text ≡ texts units
 
 abbrev pub AreUnitsIn : Kind → Bool → List ℕ → List QuotedUnit → Type 0
 AreUnitsIn kind true text units = units ≡ map Plain text
-AreUnitsIn kind false text units = IsRow kind text units
+AreUnitsIn kind false text units = IsUnitRow kind text units
 
 -- the units that are left
 abbrev pub AreLeft : SegmentsState → List QuotedUnit → Type 0
 AreLeft s units = AreUnitsIn s.kind s.plain (chars s.rest) units
 
-abbrev pub HasUnits : SegmentsState → Type 0
-HasUnits s = (units : List QuotedUnit) × AreLeft s units
+abbrev pub HasUnitsLeft : SegmentsState → Type 0
+HasUnitsLeft s = (units : List QuotedUnit) × AreLeft s units
 
 -- what a segment stands for, in bytes
 abbrev pub value_bytes : SegmentValue → List ℕ
@@ -133,7 +133,7 @@ pub record IsSegmentOf (kind : Kind) (value : SegmentValue) (units : List Quoted
   pub bytes_are : value_bytes value ≡ units_bytes kind units
 
 -- In front of the text stands the segment, and the rest is left.
-pub record IsFront (kind : Kind) (plain : Bool) (text : List ℕ) (value : SegmentValue) (rest : List ℕ)
+pub record IsFirstSegment (kind : Kind) (plain : Bool) (text : List ℕ) (value : SegmentValue) (rest : List ℕ)
     : Type 0 where
   pub units : List QuotedUnit
   pub is_segment : IsSegmentOf kind value units
@@ -156,7 +156,7 @@ pub record TakesSegment (old : SegmentsState) (s : Segment) (new : SegmentsState
   pub lo_is : s.lo ≡ old.at
   pub hi_is : s.hi ≡ new.at
   pub long : s.hi ≡ s.lo + byte_len (texts units)
-  pub left : HasUnits new
+  pub left : HasUnitsLeft new
   pub goes_on : (others : List QuotedUnit) → AreLeft new others → AreLeft old (units ++ others)
   pub same_kind : new.kind ≡ old.kind
   pub same_end : new.at + length new.rest ≡ old.at + length old.rest
@@ -171,7 +171,7 @@ GivesSegment old segment new =
 pub record IsLeftAt (inside : QuotedUnit → ℕ → ℕ) (s : SegmentsState) (at place : ℕ) : Type 0 where
   pub units : List QuotedUnit
   pub are_left : AreLeft s units
-  pub place_is : place ≡ s.at + place_in inside s.kind units at
+  pub place_is : place ≡ s.at + unit_place inside s.kind units at
 
 -- There begins what gives the byte of what is left, and there it ends.
 abbrev pub IsPlaceLeft : SegmentsState → ℕ → ℕ → Type 0
@@ -204,7 +204,7 @@ pub record IsPastLeft (s : SegmentsState) (at : ℕ) : Type 0 where
 -- literal's.
 pub record IsSegmentsOf (kind : Kind) (text : List ℕ) (s : SegmentsState) : Type 0 where
   pub kind_is : s.kind ≡ kind
-  pub has : HasUnits s
+  pub has : HasUnitsLeft s
   pub units_are : (units : List QuotedUnit) → AreLeft s units → AreUnitsOf kind text units s.at
 
 -- the bytes of a text that stands in a file from the span's first byte on
@@ -218,8 +218,8 @@ pub record IsSpanTable (s : SegmentsState) (base : Span) (table : List Span) : T
   pub are_left : AreLeft s units
   pub long : length table ≡ length (units_bytes s.kind units) + 1
   pub spans : (at : ℕ) → at < length table → slice_index_or table at nowhere
-      ≡ span_from base (s.at + place_in begins_in s.kind units at)
-      (s.at + place_in ends_in s.kind units at)
+      ≡ span_from base (s.at + unit_place begins_in s.kind units at)
+      (s.at + unit_place ends_in s.kind units at)
 
 -- What a cursor keeps true of itself.
 pub record IsSegmentsState (kind : Kind) (plain : Bool) (end : ℕ) (rest : List ℕ) : Type 0 where

@@ -15,12 +15,6 @@ pub record IsToken (text : List ℕ) : Type 0 where
   pub suffix : List ℕ
   pub strict : Strict text kind contents suffix
 
--- a strict number
-abbrev pub IsStrictNumber : List ℕ → Type 0
-IsStrictNumber text =
-    (contents : Contents) × (suffix : List ℕ)
-    × (StrictInt text contents suffix ⊎ StrictFloat text contents suffix)
-
 -- what stands after the opener of a strict form with escapes: units, the quote, and a suffix
 pub record ClosesUnits (kind : Kind) (text : List ℕ) : Type 0 where
   pub units : List StrictUnit
@@ -50,7 +44,7 @@ pub record ClosesRaw (kind : Kind) (text : List ℕ) : Type 0 where
   pub text_is : text ≡ replicate hashes (code "#") ++ (code "\"" ∷ rest)
 
 -- what stands after the opener of a strict form
-abbrev pub Closes : QuotedForm → Kind → List ℕ → Type 0
-Closes CookedForm kind text = ClosesUnits kind text
-Closes SingleForm kind text = ClosesUnits kind text
-Closes RawForm kind text = ClosesRaw kind text
+abbrev pub ClosesForm : QuotedForm → Kind → List ℕ → Type 0
+ClosesForm CookedForm kind text = ClosesUnits kind text
+ClosesForm SingleForm kind text = ClosesUnits kind text
+ClosesForm RawForm kind text = ClosesRaw kind text

@@ -6,11 +6,11 @@ ghost use Rattle.std.specs.Str.{chars, IsUtf8};
 ghost use Rattle.rl_tokens.specs.Errors.{memory_at, nowhere};
 ghost use Rattle.rl_tokens.specs.Quoted.{is_string};
 ghost use Rattle.rl_tokens.specs.Reading.{Characters, Bytes, ReadsAs, HasContents};
-ghost use Rattle.rl_grammar.specs.Bodies.{HasBody, HasSingleBody};
+ghost use Rattle.rl_grammar.specs.Bodies.{HasBody, HasSingleBody, IsStringBody, IsSingleBody, SingleStandsFor, StandsFor};
 ghost use Rattle.rl_grammar.specs.Founds.{IsUnitOf};
 ghost use Rattle.rl_grammar.specs.WholeShapes.{IsPlain};
 ghost use Rattle.rl_tokens.specs.declared.kind.Kind.TheVariants.{Float};
-ghost use Rattle.rl_grammar.specs.Decoded.{ContentsAre, HoldsBytes, piece_bytes};
+ghost use Rattle.rl_grammar.specs.Decoded.{HoldsBytes, piece_bytes};
 ghost use Rattle.rl_grammar.specs.Mirrors.Decodes.{Decodes};
 
 use crate::found::{find, find_float, found_in};
@@ -88,7 +88,7 @@ fn body_bytes<A: Allocator>(
     body: &str,
     plain: bool,
 ) -> Result<Vec<u8, A>, AllocError>
-    requires { (text : List ℕ) × HasBody kind text body.now plain }
+    requires { IsStringBody kind body.now plain }
     ensures { IfOk result (λ bytes. (text : List ℕ) → HasBody kind text body.now plain
         → HoldsBytes text bytes.items) }
 {
@@ -121,8 +121,6 @@ fn body_bytes<A: Allocator>(
 /// ```
 pub fn str_of<A: Allocator>(alloc: A, text: &str) -> Result<String<A>, Error<A>>
     requires { ReadsAs Kind.Str (chars text.now) }
-    ensures value { IfOk result
-        (λ s. ContentsAre Kind.Str (chars text.now) (Characters (chars (string_bytes s)))) }
     ensures reads { IfOk result
         (λ s. HasContents Kind.Str (chars text.now) (Characters (chars (string_bytes s)))) }
     ensures memory { IfErr result (λ e. e ≡ memory_at nowhere) }
@@ -139,10 +137,6 @@ pub fn str_of<A: Allocator>(alloc: A, text: &str) -> Result<String<A>, Error<A>>
 /// `Memory` where an allocation fails, reported at `Span::call_site`.
 pub fn bytes_of<A: Allocator>(alloc: A, text: &str) -> Result<Vec<u8, A>, Error<A>>
     requires { ReadsAs Kind.ByteStr (chars text.now) ⊎ ReadsAs Kind.CStr (chars text.now) }
-    ensures byte_string { IfOk result
-        (λ bytes. ContentsAre Kind.ByteStr (chars text.now) (Bytes bytes.items)) }
-    ensures c_string { IfOk result
-        (λ bytes. ContentsAre Kind.CStr (chars text.now) (Bytes bytes.items)) }
     ensures reads { IfOk result
         (λ bytes. HasContents Kind.ByteStr (chars text.now) (Bytes bytes.items)
         ⊎ HasContents Kind.CStr (chars text.now) (Bytes bytes.items)) }
@@ -158,10 +152,9 @@ pub fn bytes_of<A: Allocator>(alloc: A, text: &str) -> Result<Vec<u8, A>, Error<
 ///
 /// `Memory` where an allocation fails, reported at `Span::call_site`.
 pub fn str_of_body<A: Allocator>(alloc: A, body: &str, plain: bool) -> Result<String<A>, Error<A>>
-    requires { (text : List ℕ) × HasBody Kind.Str (chars text) body.now plain × IsUtf8 text }
+    requires { IsStringBody Kind.Str body.now plain }
     ensures value { IfOk result
-        (λ s. (text : List ℕ) → HasBody Kind.Str (chars text) body.now plain → IsUtf8 text
-        → HasContents Kind.Str (chars text) (Characters (chars (string_bytes s)))) }
+        (λ s. StandsFor Kind.Str body.now plain (Characters (chars (string_bytes s)))) }
     ensures memory { IfErr result (λ e. e ≡ memory_at nowhere) }
 {
     let value = body_bytes(alloc, Kind::Str, body, plain)?;
@@ -181,9 +174,8 @@ pub fn bytes_of_body<A: Allocator>(
     plain: bool,
 ) -> Result<Vec<u8, A>, Error<A>>
     requires kind { kind ≡ Kind.ByteStr ⊎ kind ≡ Kind.CStr }
-    requires body { (text : List ℕ) × HasBody kind text body.now plain }
-    ensures value { IfOk result (λ bytes. (text : List ℕ) → HasBody kind text body.now plain
-        → HasContents kind text (Bytes bytes.items)) }
+    requires body { IsStringBody kind body.now plain }
+    ensures value { IfOk result (λ bytes. StandsFor kind body.now plain (Bytes bytes.items)) }
     ensures memory { IfErr result (λ e. e ≡ memory_at nowhere) }
 {
     Ok(body_bytes(alloc, kind, body, plain)?)
@@ -192,10 +184,9 @@ pub fn bytes_of_body<A: Allocator>(
 /// Writes the text that a string literal with this body stands for, and returns how many bytes it is long. The body
 /// isn't plain ([`Body::plain`](crate::Body::plain)); a plain one is what the literal stands for. No memory is taken.
 pub fn str_into(body: &str, out: &mut [u8]) -> usize
-    requires body { (text : List ℕ) × HasBody Kind.Str (chars text) body.now false × IsUtf8 text }
+    requires body { IsStringBody Kind.Str body.now false }
     requires room { length body.now ≤ length out.old }
-    ensures value { (text : List ℕ) → HasBody Kind.Str (chars text) body.now false → IsUtf8 text
-        → HasContents Kind.Str (chars text) (Characters (chars (take result out.new))) }
+    ensures value { StandsFor Kind.Str body.now false (Characters (chars (take result out.new))) }
     ensures utf8 { IsUtf8 (take result out.new) }
     ensures within { result ≤ length body.now }
     ensures len { length out.new ≡ length out.old }
@@ -207,10 +198,9 @@ pub fn str_into(body: &str, out: &mut [u8]) -> usize
 /// The body isn't plain ([`Body::plain`](crate::Body::plain)). No memory is taken.
 pub fn bytes_into(kind: Kind, body: &str, out: &mut [u8]) -> usize
     requires kind { kind ≡ Kind.ByteStr ⊎ kind ≡ Kind.CStr }
-    requires body { (text : List ℕ) × HasBody kind text body.now false }
+    requires body { IsStringBody kind body.now false }
     requires room { length body.now ≤ length out.old }
-    ensures value { (text : List ℕ) → HasBody kind text body.now false
-        → HasContents kind text (Bytes (take result out.new)) }
+    ensures value { StandsFor kind body.now false (Bytes (take result out.new)) }
     ensures within { result ≤ length body.now }
     ensures len { length out.new ≡ length out.old }
 {
@@ -219,7 +209,7 @@ pub fn bytes_into(kind: Kind, body: &str, out: &mut [u8]) -> usize
 
 /// What the one unit between the quotes of a character or a byte literal stands for.
 fn body_unit(kind: Kind, body: &str) -> u32
-    requires { (text : List ℕ) × HasSingleBody kind text body.now }
+    requires { IsSingleBody kind body.now }
     ensures { (text : List ℕ) → HasSingleBody kind text body.now → IsUnitOf kind text result }
 {
     let Some((piece, _)) = unit(kind, body) else {
@@ -231,7 +221,6 @@ fn body_unit(kind: Kind, body: &str) -> u32
 /// The byte that a byte literal stands for. The text has to read as `Byte`, as [`shape`](crate::shape) says.
 pub fn byte_of(text: &str) -> u8
     requires { ReadsAs Kind.Byte (chars text.now) }
-    ensures value { ContentsAre Kind.Byte (chars text.now) (Bytes (result ∷ [])) }
     ensures reads { HasContents Kind.Byte (chars text.now) (Bytes (result ∷ [])) }
 {
     found_in(text).unit as u8
@@ -240,7 +229,6 @@ pub fn byte_of(text: &str) -> u8
 /// The character that a character literal stands for. The text has to read as `Char`, as [`shape`](crate::shape) says.
 pub fn char_of(text: &str) -> char
     requires { ReadsAs Kind.Char (chars text.now) }
-    ensures value { ContentsAre Kind.Char (chars text.now) (Characters (result ∷ [])) }
     ensures reads { HasContents Kind.Char (chars text.now) (Characters (result ∷ [])) }
 {
     // SAFETY: what a character literal stands for is a character, which is proved.
@@ -249,18 +237,16 @@ pub fn char_of(text: &str) -> char
 
 /// The byte that a byte literal stands for, of what stands between its quotes.
 pub fn byte_of_body(body: &str) -> u8
-    requires { (text : List ℕ) × HasSingleBody Kind.Byte text body.now }
-    ensures { (text : List ℕ) → HasSingleBody Kind.Byte text body.now
-        → HasContents Kind.Byte text (Bytes (result ∷ [])) }
+    requires { IsSingleBody Kind.Byte body.now }
+    ensures { SingleStandsFor Kind.Byte body.now (Bytes (result ∷ [])) }
 {
     body_unit(Kind::Byte, body) as u8
 }
 
 /// The character that a character literal stands for, of what stands between its quotes.
 pub fn char_of_body(body: &str) -> char
-    requires { (text : List ℕ) × HasSingleBody Kind.Char text body.now }
-    ensures { (text : List ℕ) → HasSingleBody Kind.Char text body.now
-        → HasContents Kind.Char text (Characters (result ∷ [])) }
+    requires { IsSingleBody Kind.Char body.now }
+    ensures { SingleStandsFor Kind.Char body.now (Characters (result ∷ [])) }
 {
     // SAFETY: what a character literal stands for is a character, which is proved.
     unsafe { char::from_u32_unchecked(body_unit(Kind::Char, body)) }

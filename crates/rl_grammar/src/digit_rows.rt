@@ -203,7 +203,7 @@ pub(crate) fn is_negative(text: &str) -> bool
     matches!(split_ascii(text), Some((b'-', _)))
 }
 
-/// What follows a minus, or the text.
+/// The text after the minus at its front, if one stands there.
 #[tactic(auto, using(crate::proofs::AsciiLemmas::no_minus))]
 pub(crate) fn after_minus(text: &str) -> &str
     ensures value { chars result.now ≡ after_minus (chars text.now) }
@@ -249,7 +249,7 @@ impl Model for Tally {
 }
 
 impl Tally {
-    /// Of digits that spell this.
+    /// The tally of digits that spell this.
     pub(crate) fn of(spelled: u64) -> Tally
         requires { spelled < 18446744073709551615 }
         ensures { result ≡ Some spelled }

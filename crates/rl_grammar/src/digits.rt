@@ -34,9 +34,9 @@ const CHANGED: Marks = Marks {
 
 /// The digits of a number in base ten.
 ///
-/// Of an integer they are its magnitude in base ten, after a minus where the text begins with one.
-/// Of a float they are all that stands before its suffix, without underscores and pluses and with
-/// `E` as `e`.
+/// An integer's digits are its magnitude in base ten, after a minus where the text begins with one.
+/// A float's are all that stands before its suffix, without underscores and pluses and with `E` as
+/// `e`.
 ///
 /// The text has to be a number of the kind: an integer within 128 bits, or a float, whether or not
 /// an integer stands there too.
@@ -52,7 +52,7 @@ pub fn digits_of<A: Allocator>(alloc: A, kind: Kind, text: &str) -> Result<Strin
     digits_of_found(alloc, text, found_number(kind, text))
 }
 
-/// What reading the text finds, which is a number of the kind.
+/// The reading of a text that is a number of the kind.
 fn found_number(kind: Kind, text: &str) -> Found
     requires { IsNumber kind (chars text.now) }
     ensures found { IsFoundNumber text.now result }
@@ -141,7 +141,7 @@ fn is_plain_digits(text: &str) -> bool
     }
 }
 
-/// The same, perhaps after a minus.
+/// Whether the body of an integer is its digits, perhaps after a minus.
 pub(crate) fn is_plain_integer(body: &str) -> bool
     ensures { result ≡ is_plain_integer (chars body.now) }
 {

@@ -49,7 +49,7 @@ pub enum FlawKind {
     EmptyBraces,
     /// The seventh digit between the braces.
     TooManyDigits,
-    /// Of characters, `\x` goes up to 7F.
+    /// In a character or a string, `\x` goes up to 7F.
     PastAscii,
     /// The number between the braces is past 10FFFF.
     PastUnicode,
@@ -162,7 +162,7 @@ pub(crate) fn make_flaw(kind: FlawKind, rest: &str) -> FlawAt<'_>
 }
 
 impl<'t> FlawAt<'t> {
-    /// The same, which spoils this piece.
+    /// This flaw, where it spoils this piece.
     pub(crate) fn in_piece(self, piece: &'t str) -> FlawAt<'t>
         ensures { (result.kind ≡ self.entry.kind) × (result.rest.now ≡ self.entry.rest.now)
             × (result.piece.now ≡ piece.now) }
@@ -233,7 +233,7 @@ fn place_in(span: Span, at: usize) -> usize
     }
 }
 
-/// Of one kind at the end of a text, of another before a character.
+/// The flaw at the front of the text: of one kind where the text is empty, else of the other.
 pub(crate) fn end_flaw(at_end: FlawKind, before: FlawKind, text: &str) -> FlawAt<'_>
     ensures { found_flaw result.kind (chars result.rest.now)
         ≡ end_flaw_at at_end before (chars text.now) }
@@ -262,7 +262,7 @@ fn skip_letters<'t>(word: &str, text: &'t str) -> &'t str
     rest
 }
 
-/// Why the text isn't this word, with whose first letter it begins, and the text from the place on.
+/// Why the text isn't the word that it begins with a letter of, and the text from there on.
 fn letters_flaw<'t>(word: &str, text: &'t str) -> FlawAt<'t>
     ensures { found_flaw result.kind (chars result.rest.now)
         ≡ end_flaw_at Unfinished NoLiteral (after_letters (chars word.now) (chars text.now)) }
@@ -288,21 +288,20 @@ fn first_flaw(text: &str) -> FlawAt<'_>
     }
 }
 
-/// Why a text that begins neither as a number nor as a quoted literal is none, where it is none, and the text from the
-/// place on.
+/// Why a text that begins neither as a number nor as a quoted literal is no literal, and the text from there on.
 fn word_flaw(text: &str) -> FlawAt<'_>
     requires no_number { IsFalse (first_passes is_number_front (chars text.now)) }
     requires no_opener { opener_at (chars text.now) ≡ None }
-    ensures stops { StopsBefore (chars text.now) (chars result.rest.now) }
+    ensures stops { StopsBefore HasReading (chars text.now) (chars result.rest.now) }
     ensures kind { HasKind (IsWordFlaw result.kind) (chars text.now) (chars result.rest.now) }
 {
     first_flaw(text)
 }
 
-/// The flaw of a text without a reading, and the text from its place on.
+/// Why a text without a reading is no literal, and the text from there on.
 fn flaw_at(text: &str) -> FlawAt<'_>
     requires { HasNoReading (chars text.now) }
-    ensures stops { StopsBefore (chars text.now) (chars result.rest.now) }
+    ensures stops { StopsBefore HasReading (chars text.now) (chars result.rest.now) }
     ensures kind { IsFlawOf result.kind (chars text.now) (chars result.rest.now) }
     ensures piece { IsPieceOf (chars text.now) (chars result.piece.now) (chars result.rest.now) }
 {

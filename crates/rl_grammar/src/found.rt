@@ -7,11 +7,11 @@ ghost use Rattle.rl_tokens.specs.declared.kind.Kind.TheVariants.{Float, Int, Boo
 ghost use Rattle.rl_tokens.specs.Numbers.{FloatReads, NoSign};
 ghost use Rattle.rl_tokens.specs.Quoted.{is_string};
 ghost use Rattle.rl_tokens.specs.Reading.{HasNoFloat, HasNoInteger, HasNoReading, HasNoTruth, HasReading, HasSuffix, IsPast, ReadsAs, Contents, Reads, truth_text};
-ghost use Rattle.rl_tokens.specs.Texts.{IsTail, first_passes};
+ghost use Rattle.rl_tokens.specs.Texts.{IsTail, first_passes, code};
 ghost use Rattle.rl_grammar.specs.Bodies.{HasBody};
 ghost use Rattle.rl_grammar.specs.Founds.{IsFound, IsFoundFloat};
 ghost use Rattle.rl_grammar.specs.Mirrors.NumberAt.{sign_at};
-ghost use Rattle.rl_grammar.specs.NumberShapes.{HasNoNumber, HasOneFloat, HasOneInteger, HasMagnitude};
+ghost use Rattle.rl_grammar.specs.NumberShapes.{ReadsNoNumber, HasOneFloat, HasOneInteger, HasMagnitude};
 ghost use Rattle.rl_grammar.specs.StrictBytes.{KeepsBytesStrict};
 ghost use Rattle.rl_grammar.specs.WholeShapes.{IsSplit, is_number_front, IsPlain};
 
@@ -53,10 +53,10 @@ impl Body {
     }
 }
 
-/// What reading a text finds: the kind of the literal and where its parts stand.
+/// A reading of a text: the kind of the literal, and where its parts stand.
 ///
-/// Of a quoted literal the body is what stands between its quotes, of a number all that stands before its suffix, sign
-/// and prefix included, and of a truth value the whole text. Nothing is borrowed: the text is cut at the places again.
+/// The body of a quoted literal is what stands between its quotes; that of a number is all before its suffix, sign and
+/// prefix included; that of a truth value is the whole text. Nothing is borrowed: the text is cut at the places again.
 #[derive(Clone, Copy)]
 pub struct Found {
     /// What the digits of an integer spell; 0 for any other kind.
@@ -74,8 +74,8 @@ pub struct Found {
 
 /// A literal's kind and the two parts of its text that vary, as slices of it.
 ///
-/// Of a quoted literal the body is what stands between its quotes. Of a number it is all that
-/// stands before the suffix, sign and prefix included, and of a truth value the whole text.
+/// The body of a quoted literal is what stands between its quotes; that of a number is all before
+/// its suffix, sign and prefix included; that of a truth value is the whole text.
 ///
 /// # Example
 ///
@@ -176,7 +176,7 @@ fn float_found<'t>(text: &'t str, suffix: &'t str) -> Found
     }
 }
 
-/// What reading the text as an integer finds: `None` where it is none, `Some(None)` where its magnitude is past 128
+/// The reading of the text as an integer: `None` where it is none, `Some(None)` where its magnitude is past 128
 /// bits.
 pub fn find_int(text: &str) -> Option<Option<Found>>
     ensures none { IfNone result (HasNoInteger (chars text.now)) }
@@ -192,7 +192,7 @@ pub fn find_int(text: &str) -> Option<Option<Found>>
     }
 }
 
-/// What reading the text as a float finds, whether or not an integer stands there too: `None` where it is none.
+/// The reading of the text as a float, whether or not an integer stands there too: `None` where it is none.
 pub fn find_float(text: &str) -> Option<Found>
     ensures none { IfNone result (HasNoFloat (chars text.now)) }
     ensures found { IfSome result (IsFoundFloat text.now) }
@@ -202,10 +202,10 @@ pub fn find_float(text: &str) -> Option<Found>
     Some(float_found(text, suffix))
 }
 
-/// What reading the text as a number finds, an integer before a float.
+/// The reading of the text as a number, an integer before a float.
 #[inline(never)]
 fn find_number(text: &str) -> Option<Found>
-    ensures none { IfNone result (HasNoNumber (chars text.now)) }
+    ensures none { IfNone result (ReadsNoNumber (chars text.now)) }
     ensures found { IfSome result (IsFound text.now) }
     ensures number { IfSome result (λ f. (f.kind ≡ Int) ⊎ (f.kind ≡ Float)) }
 {
@@ -218,10 +218,10 @@ fn find_number(text: &str) -> Option<Found>
     }
 }
 
-/// What reading the text as the number after a minus finds: one without a sign of its own.
+/// The reading of the text as the number after a minus: one without a sign of its own.
 #[inline(always)]
 pub(crate) fn find_unsigned(text: &str) -> Option<Found>
-    ensures none { IfNone result (HasNoReading (45 ∷ chars text.now)) }
+    ensures none { IfNone result (HasNoReading (code "-" ∷ chars text.now)) }
     ensures found { IfSome result (IsFound text.now) }
     ensures number { IfSome result (λ f. (f.kind ≡ Int) ⊎ (f.kind ≡ Float)) }
     ensures unsigned { IfSome result (λ f. sign_at (chars text.now) ≡ NoSign) }
@@ -232,12 +232,12 @@ pub(crate) fn find_unsigned(text: &str) -> Option<Found>
     find_number(text)
 }
 
-/// What reading a minus and the text finds; its places count in the text with the minus.
+/// The reading of a minus and the text; its places count in the text with the minus.
 ///
 /// `Some` exactly where the text with a minus before it reads as a literal; it is then an integer or a float.
 pub fn find_negative(text: &str) -> Option<Found>
-    ensures none { IfNone result (HasNoReading (45 ∷ chars text.now)) }
-    ensures found { IfSome result (IsFound (45 ∷ text.now)) }
+    ensures none { IfNone result (HasNoReading (code "-" ∷ chars text.now)) }
+    ensures found { IfSome result (IsFound (code "-" ∷ text.now)) }
     ensures number { IfSome result (λ f. (f.kind ≡ Int) ⊎ (f.kind ≡ Float)) }
 {
     let found = find_unsigned(text)?;
@@ -250,7 +250,7 @@ pub fn find_negative(text: &str) -> Option<Found>
     })
 }
 
-/// What reading the text as a truth value finds.
+/// The reading of the text as a truth value.
 pub(crate) fn find_truth(text: &str) -> Option<Found>
     ensures none { IfNone result (HasNoTruth (chars text.now)) }
     ensures found { IfSome result (IsFound text.now) }
@@ -266,7 +266,7 @@ pub(crate) fn find_truth(text: &str) -> Option<Found>
     })
 }
 
-/// What reading the text finds, which is a literal.
+/// The reading of a text that is a literal.
 pub(crate) fn found_in(text: &str) -> Found
     requires { HasReading (chars text.now) }
     ensures found { IsFound text.now result }
@@ -278,7 +278,7 @@ pub(crate) fn found_in(text: &str) -> Found
     }
 }
 
-/// What reading the text finds: `None` where it is no literal, or an integer past 128 bits. No
+/// The reading of the text: `None` where it is no literal, or an integer past 128 bits. No
 /// memory is taken.
 ///
 /// It is the reading of [`shape`](crate::shape), with all that was learned on the way.
@@ -300,7 +300,7 @@ pub fn find(text: &str) -> Option<Found>
     find_word_or_quoted(text)
 }
 
-/// What reading the text as a quoted literal or a truth value finds.
+/// The reading of the text as a quoted literal or a truth value.
 #[inline(never)]
 fn find_word_or_quoted(text: &str) -> Option<Found>
     requires { IsFalse (first_passes is_number_front (chars text.now)) }
@@ -349,9 +349,9 @@ pub(crate) fn begins_number(text: &str) -> bool
 /// The kind of a literal and its parts: `None` where the text is no literal, or an integer past 128
 /// bits. No memory is taken.
 ///
-/// Of a quoted literal the body is what stands between its quotes, of a number all that stands
-/// before its suffix, sign and prefix included, and of a truth value the whole text. Body and
-/// suffix are slices of the text.
+/// The body of a quoted literal is what stands between its quotes; that of a number is all before
+/// its suffix, sign and prefix included; that of a truth value is the whole text. Body and suffix
+/// are slices of the text.
 ///
 /// A text without CR is a byte, or a byte string with escapes, and its suffix empty or a word,
 /// exactly where it is a strict one (`strict_bytes`).

@@ -29,14 +29,14 @@ pub struct Negative<'a, A: Allocator> {
 impl<'a, A: Allocator> Model for Negative<'a, A> {
     ghost use Rattle.std.specs.Prelude.{◌∷◌};
     ghost use Rattle.rl_tokens.specs.Puncts.{Mark};
-    ghost use Rattle.rl_tokens.specs.Texts.{SpannedText};
+    ghost use Rattle.rl_tokens.specs.Texts.{SpannedText, code};
     ghost use Rattle.rl_grammar.specs.Founds.{IsFound};
 
     ghost Value = { Mark × SpannedText };
 
     ghost view = { λ n. (n.minus.now, n.number.now) };
 
-    ghost invariant = { λ n. IsFound (45 ∷ n.number.now.text) n.found };
+    ghost invariant = { λ n. IsFound (code "-" ∷ n.number.now.text) n.found };
 }
 
 /// A literal at the front of trees, as the tokens that it is made of.
@@ -122,7 +122,7 @@ impl<'a, A: Allocator> Front<'a, A> {
         Some(Front::Negative(negative))
     }
 
-    /// What reading the literal finds; the places count in its token's text, a minus included. None where it has no
+    /// The reading of the literal; the places count in its token's text, a minus included. None where it has no
     /// reading.
     pub fn find(&self) -> Option<Found>
         ensures none { IfNone result (HasNoReading (chars (front_token self.now).text)) }
@@ -144,7 +144,7 @@ impl<'a, A: Allocator> Front<'a, A> {
         Some(found.kind)
     }
 
-    /// What reading the literal finds, where it reads as this kind.
+    /// The reading of the literal, where it is of this kind.
     fn find_as(&self, kind: Kind) -> Option<Found>
         ensures found { IfSome result (IsFound (front_token self.now).text) }
         ensures kind { IfSome result (λ f. f.kind ≡ kind) }

@@ -1,10 +1,10 @@
 //! Laws of the definitions: each function does nothing, and its contract is the law.
 
-ghost use Rattle.std.specs.Prelude.{◌≡◌, ◌<◌, ◌==◌, ◌∷◌, [], List, ℕ, IsFalse, IsTrue};
+ghost use Rattle.std.specs.Prelude.{codes, ◌≡◌, ◌<◌, ◌==◌, ◌∷◌, [], List, ℕ, IsFalse, IsTrue};
 ghost use Rattle.std.specs.Char.{is_ascii_digit};
 ghost use Rattle.std.specs.List.{list_all};
 ghost use Rattle.rl_tokens.specs.Strict.{dec, spelled_number};
-ghost use Rattle.rl_tokens.specs.Texts.{first_passes};
+ghost use Rattle.rl_tokens.specs.Texts.{first_passes, code};
 ghost use Rattle.rl_grammar.specs.OneFlaw.{HasOneFlaw};
 ghost use Rattle.rl_grammar.specs.StrictBytes.{KeepsBytesStrict};
 ghost use Rattle.rl_grammar.specs.SegmentLaws.{AllMakeTheLiteral, PlacesKeepTheOrder, PlacesStandIn};
@@ -24,8 +24,8 @@ pub fn bytes_are_strict()
 pub fn dec_spells_the_number()
     ensures spells { (n : ℕ) → spelled_number 10 (dec n) ≡ n }
     ensures digits { (n : ℕ) → IsTrue (list_all is_ascii_digit (dec n)) }
-    ensures no_zero { (n : ℕ) → 0 < n → IsFalse (first_passes (λ c. c == 48) (dec n)) }
-    ensures zero { dec 0 ≡ 48 ∷ [] }
+    ensures no_zero { (n : ℕ) → 0 < n → IsFalse (first_passes (λ c. c == code "0") (dec n)) }
+    ensures zero { dec 0 ≡ codes "0" }
 {}
 
 /// One flaw at most explains why a text is no literal: the kinds exclude each other, and the piece and the place are the

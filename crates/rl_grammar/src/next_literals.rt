@@ -14,7 +14,7 @@ pub struct NextLiteral<'t> {
     pub token: Lexeme<'t>,
     /// The place of the minus, where one stands before the number.
     pub minus_at: Option<usize>,
-    /// What reading it finds; places count in the literal, with the minus directly before the number. `None` for a literal
+    /// Its reading; places count in the literal, with the minus directly before the number. `None` for a literal
     /// token without a reading.
     pub found: Option<Found>,
 }
@@ -32,7 +32,7 @@ pub enum RejectionKind {
     NoLiteral,
 }
 
-/// What of a list is no literal.
+/// Why what stands next in a list is no literal, and where.
 #[derive(Clone, Copy, PartialEq, Eq, Debug)]
 pub struct Rejection {
     /// Why it is none.
@@ -141,8 +141,7 @@ fn rejection_at(tokens: &Tokens<'_>) -> Rejection
     }
 }
 
-/// What stands next in a list of literals, between white space and plain comments: [`next_literal`], and else why none
-/// does. No memory is taken.
+/// Takes the next literal of a list as [`next_literal`] does, or tells why none stands there. No memory is taken.
 #[inline(always)]
 pub fn list_step<'t>(tokens: &mut Tokens<'t>) -> ListStep<'t>
     ensures { StepsList tokens.old result tokens.new }

@@ -1,14 +1,14 @@
 //! Why a text that begins as a number is none, and where.
 
-ghost use Rattle.std.specs.Prelude.{◌≡◌, ◌≤◌, IsTrue};
+ghost use Rattle.std.specs.Prelude.{◌≡◌, ◌≤◌, IsTrue, true, is_none};
 ghost use Rattle.std.specs.Str.{chars};
 ghost use Rattle.unicode_ident.specs.Ident.{is_xid_continue, is_xid_start};
 ghost use Rattle.rl_tokens.specs.Texts.{first_passes};
-ghost use Rattle.rl_tokens.specs.Reading.{HasNoReading};
+ghost use Rattle.rl_tokens.specs.Reading.{HasNoReading, HasReading};
 ghost use Rattle.rl_grammar.specs.Flaws.{StopsBefore};
 ghost use Rattle.rl_grammar.specs.NumberFlaws.{HasKind, IsNumberFlaw};
 ghost use Rattle.rl_grammar.specs.WholeShapes.{is_number_front};
-ghost use Rattle.rl_grammar.specs.Mirrors.NumberFlawAt.{after_word, based_flaw_at, end_flaw_at, ends_or_passes, exponent_flaw_at, power_flaw_at, signed_flaw_at, suffix_flaw_at, tail_flaw_at, unsigned_flaw_at, unsigned_number_flaw_at, suffix_word_flaw_at};
+ghost use Rattle.rl_grammar.specs.Mirrors.NumberFlawAt.{after_word, based_flaw_at, end_flaw_at, ends_or_passes, exponent_flaw_at, is_integer, is_large, power_flaw_at, signed_flaw_at, suffix_flaw_at, tail_flaw_at, unsigned_flaw_at, unsigned_number_flaw_at, suffix_word_flaw_at};
 ghost use Rattle.rl_grammar.specs.Mirrors.UnitFlawAt.{found_flaw};
 
 use crate::digit_rows::{after_minus, begins_digit, read_row, skip_row};
@@ -17,6 +17,42 @@ use crate::number_forms::split_radix;
 use rl_tokens::characters::{is_xid_continue, is_xid_start};
 use rl_tokens::classes::{CharClass, skip_class};
 use rl_tokens::text::split_char;
+
+/// What of a number stands before the text in which a flaw is looked for.
+#[derive(Clone, Copy)]
+enum Before {
+    /// Digits that may be an integer.
+    Integer,
+    /// Digits that are an integer past 128 bits.
+    LargeInteger,
+    /// What only a float goes on with.
+    Float,
+}
+
+/// Digits of base ten, by what 128 bits hold of them.
+fn integer_of(magnitude: Option<u128>) -> Before
+    ensures integer { is_integer result ≡ true }
+    ensures large { is_large result ≡ is_none magnitude }
+{
+    match magnitude {
+        Some(_) => Before::Integer,
+        None => Before::LargeInteger,
+    }
+}
+
+/// Whether an integer may stand.
+fn is_integer(before: Before) -> bool
+    ensures { result ≡ is_integer before }
+{
+    !matches!(before, Before::Float)
+}
+
+/// Whether it is past 128 bits.
+fn is_large(before: Before) -> bool
+    ensures { result ≡ is_large before }
+{
+    matches!(before, Before::LargeInteger)
+}
 
 /// The text from the first character on that no identifier goes on with.
 fn skip_word(text: &str) -> &str
@@ -55,12 +91,13 @@ fn ends_or_begins_suffix(text: &str) -> bool
     }
 }
 
-/// Of what follows the digits of a number, where a suffix may stand.
+/// The first flaw after the digits of a number, where a suffix may stand.
 #[tactic(auto, unfolding(crate::specs::Mirrors::NumberFlawAt::suffix_flaw_at))]
-fn suffix_flaw(past: bool, text: &str) -> FlawAt<'_>
-    ensures { found_flaw result.kind (chars result.rest.now) ≡ suffix_flaw_at past (chars text.now) }
+fn suffix_flaw(before: Before, text: &str) -> FlawAt<'_>
+    ensures { found_flaw result.kind (chars result.rest.now)
+        ≡ suffix_flaw_at (is_large before) (chars text.now) }
 {
-    if past && ends_or_begins_suffix(text) {
+    if is_large(before) && ends_or_begins_suffix(text) {
         make_flaw(FlawKind::TooLarge, text)
     } else if begins_suffix(text) {
         make_flaw(FlawKind::BadSuffix, skip_word(text))
@@ -69,83 +106,85 @@ fn suffix_flaw(past: bool, text: &str) -> FlawAt<'_>
     }
 }
 
-/// Of what follows the first characters of a suffix.
+/// The first flaw after the first characters of a suffix.
 #[tactic(auto, unfolding(crate::specs::Mirrors::NumberFlawAt::suffix_word_flaw_at))]
-fn suffix_word_flaw(past: bool, text: &str) -> FlawAt<'_>
-    ensures { found_flaw result.kind (chars result.rest.now) ≡ suffix_word_flaw_at past (chars text.now) }
+fn suffix_word_flaw(before: Before, text: &str) -> FlawAt<'_>
+    ensures { found_flaw result.kind (chars result.rest.now)
+        ≡ suffix_word_flaw_at (is_large before) (chars text.now) }
 {
-    if past && ends_or_continues(text) {
+    if is_large(before) && ends_or_continues(text) {
         make_flaw(FlawKind::TooLarge, text)
     } else {
         make_flaw(FlawKind::BadSuffix, skip_word(text))
     }
 }
 
-/// Of what follows the sign of an exponent.
+/// The first flaw after an exponent's sign.
 #[tactic(auto, unfolding(crate::specs::Mirrors::NumberFlawAt::signed_flaw_at))]
 fn signed_flaw(text: &str) -> FlawAt<'_>
     ensures { found_flaw result.kind (chars result.rest.now) ≡ signed_flaw_at (chars text.now) }
 {
     let row = skip_row(text);
     if row.has_digit {
-        suffix_flaw(false, row.rest)
+        suffix_flaw(Before::Float, row.rest)
     } else {
         end_flaw(FlawKind::Unfinished, FlawKind::NoExponentDigit, row.rest)
     }
 }
 
-/// Of what follows the digits of an exponent without a sign; `integer` where no fraction stands before it.
+/// The first flaw after the digits of an exponent without a sign.
 #[tactic(auto, unfolding(crate::specs::Mirrors::NumberFlawAt::unsigned_flaw_at))]
-fn unsigned_flaw(integer: bool, past: bool, text: &str) -> FlawAt<'_>
+fn unsigned_flaw(before: Before, text: &str) -> FlawAt<'_>
     ensures { found_flaw result.kind (chars result.rest.now)
-        ≡ unsigned_flaw_at integer past (chars text.now) }
+        ≡ unsigned_flaw_at (is_integer before) (is_large before) (chars text.now) }
 {
-    if integer && !begins_suffix(text) {
-        suffix_word_flaw(past, text)
+    if is_integer(before) && !begins_suffix(text) {
+        suffix_word_flaw(before, text)
     } else {
-        suffix_flaw(false, text)
+        suffix_flaw(Before::Float, text)
     }
 }
 
-/// Of what follows the letter of an exponent and its underscores.
+/// The first flaw after an exponent's letter and underscores.
 #[tactic(auto, unfolding(crate::specs::Mirrors::NumberFlawAt::power_flaw_at))]
-fn power_flaw(integer: bool, past: bool, text: &str) -> FlawAt<'_>
+fn power_flaw(before: Before, text: &str) -> FlawAt<'_>
     ensures { found_flaw result.kind (chars result.rest.now)
-        ≡ power_flaw_at integer past (chars text.now) }
+        ≡ power_flaw_at (is_integer before) (is_large before) (chars text.now) }
 {
     match split_char(text) {
         Some(('+' | '-', digits)) => signed_flaw(digits),
-        Some(('0'..='9', _)) => unsigned_flaw(integer, past, skip_row(text).rest),
-        _ => suffix_word_flaw(past, text),
+        Some(('0'..='9', _)) => unsigned_flaw(before, skip_row(text).rest),
+        _ => suffix_word_flaw(before, text),
     }
 }
 
-/// Of what follows the whole part, where no fraction begins, or the fraction.
+/// The first flaw after the whole part, where no fraction begins, or after the fraction.
 #[tactic(auto, unfolding(crate::specs::Mirrors::NumberFlawAt::exponent_flaw_at))]
-fn exponent_flaw(integer: bool, past: bool, text: &str) -> FlawAt<'_>
+fn exponent_flaw(before: Before, text: &str) -> FlawAt<'_>
     ensures { found_flaw result.kind (chars result.rest.now)
-        ≡ exponent_flaw_at integer past (chars text.now) }
+        ≡ exponent_flaw_at (is_integer before) (is_large before) (chars text.now) }
 {
     match split_char(text) {
         Some(('e' | 'E', power)) => {
-            power_flaw(integer, past, skip_class(CharClass::Underscore, power))
+            power_flaw(before, skip_class(CharClass::Underscore, power))
         }
-        _ => suffix_flaw(past, text),
+        _ => suffix_flaw(before, text),
     }
 }
 
-/// Of what follows the whole part in base ten.
+/// The first flaw after the whole part in base ten, of this magnitude.
 #[tactic(auto, unfolding(crate::specs::Mirrors::NumberFlawAt::tail_flaw_at))]
-fn tail_flaw(past: bool, text: &str) -> FlawAt<'_>
-    ensures { found_flaw result.kind (chars result.rest.now) ≡ tail_flaw_at past (chars text.now) }
+fn tail_flaw(magnitude: Option<u128>, text: &str) -> FlawAt<'_>
+    ensures { found_flaw result.kind (chars result.rest.now)
+        ≡ tail_flaw_at (is_none magnitude) (chars text.now) }
 {
     match split_char(text) {
-        Some(('.', digits)) => exponent_flaw(false, false, skip_row(digits).rest),
-        _ => exponent_flaw(true, past, text),
+        Some(('.', digits)) => exponent_flaw(Before::Float, skip_row(digits).rest),
+        _ => exponent_flaw(integer_of(magnitude), text),
     }
 }
 
-/// Of what follows the prefix of another base.
+/// The first flaw after the prefix of another base.
 #[tactic(auto, unfolding(crate::specs::Mirrors::NumberFlawAt::based_flaw_at))]
 fn based_flaw(radix: u32, text: &str) -> FlawAt<'_>
     requires { (2 ≤ radix) × (radix ≤ 36) }
@@ -159,7 +198,7 @@ fn based_flaw(radix: u32, text: &str) -> FlawAt<'_>
     }
 }
 
-/// Of what follows a minus and begins with a digit.
+/// The first flaw of a number that begins with a digit.
 #[tactic(auto, unfolding(crate::specs::Mirrors::NumberFlawAt::unsigned_number_flaw_at))]
 fn unsigned_number_flaw(text: &str) -> FlawAt<'_>
     ensures { found_flaw result.kind (chars result.rest.now)
@@ -168,17 +207,17 @@ fn unsigned_number_flaw(text: &str) -> FlawAt<'_>
     let (radix, digits) = split_radix(text);
     if radix == 10 {
         let row = read_row(digits, 10);
-        tail_flaw(row.magnitude.is_none(), row.rest)
+        tail_flaw(row.magnitude, row.rest)
     } else {
         based_flaw(radix, digits)
     }
 }
 
-/// Why a text that begins as a number is none, and the text from the place on.
+/// Why a text that begins as a number is none, and the text from there on.
 pub(crate) fn number_flaw(text: &str) -> FlawAt<'_>
     requires number { IsTrue (first_passes is_number_front (chars text.now)) }
     requires none { HasNoReading (chars text.now) }
-    ensures stops { StopsBefore (chars text.now) (chars result.rest.now) }
+    ensures stops { StopsBefore HasReading (chars text.now) (chars result.rest.now) }
     ensures kind { HasKind (IsNumberFlaw result.kind) (chars text.now) (chars result.rest.now) }
 {
     let unsigned = after_minus(text);

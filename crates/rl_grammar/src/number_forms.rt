@@ -4,10 +4,10 @@ ghost use Rattle.std.specs.Prelude.{◌≡◌, ◌++◌, ◌≤◌, false, IsTru
 ghost use Rattle.std.specs.Char.{is_ascii_digit};
 ghost use Rattle.std.specs.Str.{chars};
 ghost use Rattle.rl_tokens.specs.declared.kind.Kind.TheVariants.{Int, Float};
-ghost use Rattle.rl_tokens.specs.Texts.{IsTail, first_passes};
+ghost use Rattle.rl_tokens.specs.Texts.{IsTail, first_passes, code};
 ghost use Rattle.rl_tokens.specs.Reading.{Contents, HasNoInteger, ReadsInt, IsPast, HasNoFloat, HasNoReading, Reads};
 ghost use Rattle.rl_grammar.specs.Mirrors.NumberAt.{after_minus, capped_int, ended_at, int_at, IsHead, radix_at, after_exponent, after_fraction, float_at, float_tail_at, power_at};
-ghost use Rattle.rl_grammar.specs.NumberShapes.{HasOneInteger, HasOneFloat, HasNoNumber};
+ghost use Rattle.rl_grammar.specs.NumberShapes.{HasOneInteger, HasOneFloat, ReadsNoNumber};
 ghost use Rattle.rl_tokens.specs.Numbers.{FloatReads};
 ghost use Rattle.rl_grammar.specs.NumbersRead.{IsNumberOf};
 
@@ -44,7 +44,7 @@ pub(crate) struct Head<'t> {
     pub row: DigitRow<'t>,
 }
 
-/// What a number begins with, by what stands after its sign.
+/// What a number begins with, from the text after its sign.
 #[inline(always)]
 #[tactic(auto, using(rl_tokens::proofs::BehindLemmas::behind_step))]
 fn head_of(unsigned: &str) -> Head<'_>
@@ -140,7 +140,7 @@ pub fn int_shape(text: &str) -> Option<Option<Parts<'_>>>
     }
 }
 
-/// What follows a dot and its digits, or the text.
+/// The text after the dot and digits at its front, if a dot stands there.
 #[inline(always)]
 #[tactic(auto, using(rl_tokens::proofs::BehindLemmas::behind_step, rl_tokens::proofs::BehindLemmas::behind_self))]
 fn after_fraction(text: &str) -> &str
@@ -167,7 +167,7 @@ fn power_digits(text: &str) -> &str
     }
 }
 
-/// What follows an exponent, or the text.
+/// The text after the exponent at its front, if one stands there.
 #[inline(always)]
 #[tactic(auto, using(rl_tokens::proofs::BehindLemmas::behind_step, rl_tokens::proofs::BehindLemmas::behind_self), unfolding(crate::specs::Mirrors::NumberAt::after_exponent))]
 fn after_exponent(text: &str) -> &str
@@ -253,7 +253,7 @@ pub(crate) enum Number<'t> {
 /// The number that the text is.
 #[inline(always)]
 pub(crate) fn read_number(text: &str) -> Option<Number<'_>>
-    ensures none { IfNone result (HasNoNumber (chars text.now)) }
+    ensures none { IfNone result (ReadsNoNumber (chars text.now)) }
     ensures reads { IfSome result (IsNumberOf text.now) }
 {
     let head = read_head(text)?;
@@ -268,9 +268,9 @@ pub(crate) fn read_number(text: &str) -> Option<Number<'_>>
 /// `Some` exactly where the text with a minus before it reads as a literal; it is then an integer or a float. Body and
 /// suffix are slices of the text, without the minus.
 pub fn shape_negative(text: &str) -> Option<Parts<'_>>
-    ensures none { IfNone result (HasNoReading (45 ∷ chars text.now)) }
+    ensures none { IfNone result (HasNoReading (code "-" ∷ chars text.now)) }
     ensures reads { IfSome result
-        (λ p. (v : Contents) × Reads (45 ∷ chars text.now) p.kind v (chars p.suffix.now)) }
+        (λ p. (v : Contents) × Reads (code "-" ∷ chars text.now) p.kind v (chars p.suffix.now)) }
     ensures number { IfSome result (λ p. (p.kind ≡ Int) ⊎ (p.kind ≡ Float)) }
     ensures cut { IfSome result (λ p. text.now ≡ p.body.now ++ p.suffix.now) }
 {

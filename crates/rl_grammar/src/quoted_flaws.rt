@@ -2,23 +2,24 @@
 
 ghost use Rattle.std.specs.Prelude.{◌≡◌, ◌<◌, ◌==◌, ◌++◌, ◌∷◌, ℕ, not, replicate, IsTrue, IsFalse, MatchBool};
 ghost use Rattle.std.specs.Str.{chars};
-ghost use Rattle.rl_grammar.specs.Mirrors.UnitFlawAt.{character_flaw_of, code_flaw_of, digits_flaw_at, escape_flaw_at, first_digit_flaw_at, found_flaw, hex_flaw_at, is_code, line_end_flaw_at, low_digit_flaw_at, unicode_flaw_at, unit_flaw_at, spoiled_flaw_of, after_unit_flaw_of};
+ghost use Rattle.rl_grammar.specs.Mirrors.UnitFlawAt.{character_flaw_of, code_flaw_of, code_flaw_at, escape_flaw_at, first_digit_flaw_at, found_flaw, hex_flaw_at, is_code, line_end_flaw_at, low_digit_flaw_at, unicode_flaw_at, unit_flaw_at, spoiled_flaw_of, after_unit_flaw_of};
+ghost use Rattle.rl_grammar.specs.Mirrors.UnitAt.{code_digits};
 ghost use Rattle.std.specs.List.{list_all};
 ghost use Rattle.rl_tokens.specs.Classes.{after_run};
-ghost use Rattle.rl_tokens.specs.Texts.{first_passes, IsTail};
+ghost use Rattle.rl_tokens.specs.Texts.{first_passes, IsTail, code};
 ghost use Rattle.rl_tokens.specs.Quoted.{is_raw, is_string, raw_opener, is_single};
-ghost use Rattle.rl_grammar.specs.FlawKinds.{is_quote, Closes, RawFlaw, IsPiece, QuotedFlaw};
+ghost use Rattle.rl_grammar.specs.FlawKinds.{is_quote, HasLastCloser, RawFlaw, IsPiece, QuotedFlaw};
 ghost use Rattle.rl_grammar.specs.Forms.{HasNoParts, form_opener, has_form};
 ghost use Rattle.rl_grammar.specs.Mirrors.StopsInside.{StopsInside};
 
 use crate::flaws::{FlawAt, FlawKind, make_flaw};
 use crate::quoted_forms::{QuotedForm, skip_units, split_last_quote};
-use crate::units::{allows_code, has_unicode, unit};
+use crate::units::{CodeDigits, allows_code, code_digits, has_unicode, unit};
 use rl_tokens::Kind;
 use rl_tokens::classes::{CharClass, skip_class, skip_hashes};
 use rl_tokens::text::{after_prefix, before, split_char};
 
-/// Of what should be the second digit of `\x`, whose first one may stand there.
+/// The first flaw after the first digit of `\x`, which may stand there.
 fn low_digit_flaw(text: &str) -> FlawAt<'_>
     ensures { found_flaw result.kind (chars result.rest.now) ≡ low_digit_flaw_at (chars text.now) }
 {
@@ -29,7 +30,7 @@ fn low_digit_flaw(text: &str) -> FlawAt<'_>
     }
 }
 
-/// Of what should be the two digits of `\x`.
+/// The first flaw after `\x`.
 #[tactic(auto, unfolding(crate::specs::Mirrors::UnitFlawAt::hex_flaw_at))]
 fn hex_flaw(kind: Kind, text: &str) -> FlawAt<'_>
     ensures { found_flaw result.kind (chars result.rest.now) ≡ hex_flaw_at kind (chars text.now) }
@@ -64,53 +65,42 @@ fn code_flaw(code: u32) -> FlawKind
     }
 }
 
-/// Of what follows the first digit of `\u{`.
-#[tactic(auto, unfolding(crate::specs::Mirrors::UnitFlawAt::digits_flaw_at))]
-fn digits_flaw(kind: Kind, text: &str, first: u32) -> FlawAt<'_>
-    requires { first < 16 }
+/// The flaw of the digits of `\u{..}`, or the first one after them.
+fn digits_flaw<'t>(kind: Kind, digits: CodeDigits<'t>) -> FlawAt<'t>
     ensures { found_flaw result.kind (chars result.rest.now)
-        ≡ digits_flaw_at kind first 1 (chars text.now) }
+        ≡ code_flaw_at kind (code_digits digits.entry.value digits.entry.count (chars digits.entry.last.now)
+            (chars digits.entry.rest.now)) }
 {
-    let mut value = first;
-    let mut digits = 1_u32;
-    let mut rest = text;
-    while let Some((next, after)) = split_char(rest) {
-        if let Some(digit) = next.to_digit(16) {
-            if digits == 6 {
-                return make_flaw(FlawKind::TooManyDigits, rest);
-            }
-            value = value * 16 + digit;
-            if digits == 5 && !is_code(kind, value) {
-                return make_flaw(code_flaw(value), rest);
-            }
-            digits += 1;
-        } else if next == '}' {
-            return make_flaw(code_flaw(value), rest);
-        } else if next != '_' {
-            return make_flaw(FlawKind::NoHexDigit, rest);
-        }
-        rest = after;
+    if digits.count == 6 && !is_code(kind, digits.value) {
+        return make_flaw(code_flaw(digits.value), digits.last);
     }
-    make_flaw(FlawKind::Unclosed, rest)
+    match split_char(digits.rest) {
+        None => make_flaw(FlawKind::Unclosed, digits.rest),
+        Some(('}', _)) => make_flaw(code_flaw(digits.value), digits.rest),
+        Some((next, _)) if next.is_ascii_hexdigit() => {
+            make_flaw(FlawKind::TooManyDigits, digits.rest)
+        }
+        Some(_) => make_flaw(FlawKind::NoHexDigit, digits.rest),
+    }
 }
 
-/// Of what follows `\u{`.
+/// The first flaw after `\u{`.
 #[tactic(auto, unfolding(crate::specs::Mirrors::UnitFlawAt::first_digit_flaw_at))]
 fn first_digit_flaw(kind: Kind, text: &str) -> FlawAt<'_>
     ensures { found_flaw result.kind (chars result.rest.now)
         ≡ first_digit_flaw_at kind (chars text.now) }
 {
-    let Some((first, rest)) = split_char(text) else {
-        return make_flaw(FlawKind::Unclosed, text);
-    };
-    match first.to_digit(16) {
-        Some(digit) => digits_flaw(kind, rest, digit),
-        None if first == '}' => make_flaw(FlawKind::EmptyBraces, text),
-        None => make_flaw(FlawKind::NoHexDigit, text),
+    if let Some(digits) = code_digits(text) {
+        return digits_flaw(kind, digits);
+    }
+    match split_char(text) {
+        None => make_flaw(FlawKind::Unclosed, text),
+        Some(('}', _)) => make_flaw(FlawKind::EmptyBraces, text),
+        Some(_) => make_flaw(FlawKind::NoHexDigit, text),
     }
 }
 
-/// Of what follows `\u`.
+/// The first flaw after `\u`.
 #[tactic(auto, unfolding(crate::specs::Mirrors::UnitFlawAt::unicode_flaw_at))]
 fn unicode_flaw(kind: Kind, text: &str) -> FlawAt<'_>
     ensures { found_flaw result.kind (chars result.rest.now)
@@ -123,7 +113,7 @@ fn unicode_flaw(kind: Kind, text: &str) -> FlawAt<'_>
     }
 }
 
-/// Of what follows a backslash.
+/// The first flaw after a backslash.
 #[tactic(auto, unfolding(crate::specs::Mirrors::UnitFlawAt::escape_flaw_at))]
 fn escape_flaw(kind: Kind, text: &str) -> FlawAt<'_>
     ensures { found_flaw result.kind (chars result.rest.now)
@@ -144,7 +134,7 @@ fn escape_flaw(kind: Kind, text: &str) -> FlawAt<'_>
     }
 }
 
-/// Of what follows a CR.
+/// The flaw after a CR.
 fn line_end_flaw(text: &str) -> FlawAt<'_>
     ensures { found_flaw result.kind (chars result.rest.now) ≡ line_end_flaw_at (chars text.now) }
 {
@@ -166,7 +156,7 @@ fn character_flaw(c: char) -> FlawKind
     }
 }
 
-/// Why no unit of the kind stands at the front, where none does, and the text from the place on.
+/// Why no unit of the kind stands at the front, and the text from there on.
 #[tactic(auto, unfolding(crate::specs::Mirrors::UnitFlawAt::unit_flaw_at))]
 fn unit_flaw(kind: Kind, text: &str) -> FlawAt<'_>
     ensures { found_flaw result.kind (chars result.rest.now) ≡ unit_flaw_at kind (chars text.now) }
@@ -210,9 +200,9 @@ fn skip_to_quote(text: &str) -> &str
 
 /// Whether the hashes stand after the last quote.
 fn closes(hashes: &str, text: &str) -> bool
-    requires { (n : ℕ) × (chars hashes.now ≡ replicate n 35) }
+    requires { (n : ℕ) × (chars hashes.now ≡ replicate n (code "#")) }
     ensures { MatchBool result
-        (Closes (chars hashes.now) (chars text.now)) (Closes (chars hashes.now) (chars text.now) → ⊥) }
+        (HasLastCloser (chars hashes.now) (chars text.now)) (HasLastCloser (chars hashes.now) (chars text.now) → ⊥) }
 {
     match split_last_quote(text) {
         Some((_, after)) => after_prefix(hashes, after).is_some(),
@@ -230,14 +220,14 @@ fn spoiled_flaw(kind: Kind) -> FlawKind
     }
 }
 
-/// Of what follows the first quote.
+/// The flaw of a raw string after its first quote.
 fn opened_flaw<'t>(kind: Kind, hashes: &str, inside: &'t str) -> FlawAt<'t>
     requires string { IsTrue (is_string kind) }
-    requires hashes { (n : ℕ) × (chars hashes.now ≡ replicate n 35) }
+    requires hashes { (n : ℕ) × (chars hashes.now ≡ replicate n (code "#")) }
     requires none { HasNoParts QuotedForm.Raw kind
-        (raw_opener kind ++ (chars hashes.now ++ (34 ∷ chars inside.now))) }
+        (raw_opener kind ++ (chars hashes.now ++ (code "\"" ∷ chars inside.now))) }
     ensures kind { RawFlaw kind result.kind
-        (chars hashes.now ++ (34 ∷ chars inside.now)) (chars result.rest.now) }
+        (chars hashes.now ++ (code "\"" ∷ chars inside.now)) (chars result.rest.now) }
     ensures piece { result.piece.now ≡ result.rest.now }
 {
     let (body, rest) = split_raw(kind, inside);
@@ -251,7 +241,7 @@ fn opened_flaw<'t>(kind: Kind, hashes: &str, inside: &'t str) -> FlawAt<'t>
     }
 }
 
-/// Of what follows the opener of a raw string.
+/// The flaw of a raw string, from its hashes on.
 fn raw_flaw(kind: Kind, text: &str) -> FlawAt<'_>
     requires string { IsTrue (is_string kind) }
     requires none { HasNoParts QuotedForm.Raw kind (raw_opener kind ++ chars text.now) }
@@ -269,7 +259,7 @@ fn raw_flaw(kind: Kind, text: &str) -> FlawAt<'_>
     }
 }
 
-/// Of what follows the opener of a string with escapes.
+/// The flaw of a string with escapes, after its opener.
 fn cooked_flaw(kind: Kind, text: &str) -> FlawAt<'_>
     requires string { IsTrue (is_string kind) }
     requires none { HasNoParts QuotedForm.Cooked kind (form_opener QuotedForm.Cooked kind ++ chars text.now) }
@@ -294,7 +284,7 @@ fn after_unit_flaw(text: &str, rest: &str) -> FlawKind
     }
 }
 
-/// Of what follows the opener of a character or a byte.
+/// The flaw of a character or a byte, after its opener.
 fn single_flaw(kind: Kind, text: &str) -> FlawAt<'_>
     requires single { IsTrue (is_single kind) }
     requires none { HasNoParts QuotedForm.Single kind (form_opener QuotedForm.Single kind ++ chars text.now) }
@@ -308,7 +298,7 @@ fn single_flaw(kind: Kind, text: &str) -> FlawAt<'_>
     }
 }
 
-/// Of what follows the opener of a quoted literal.
+/// The flaw of a quoted literal, after its opener.
 pub(crate) fn quoted_flaw(form: QuotedForm, kind: Kind, text: &str) -> FlawAt<'_>
     requires form { IsTrue (has_form form kind) }
     requires none { HasNoParts form kind (form_opener form kind ++ chars text.now) }

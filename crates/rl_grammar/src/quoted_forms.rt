@@ -3,7 +3,7 @@
 ghost use Rattle.std.specs.Prelude.{◌≡◌, ◌≢◌, ◌==◌, ◌∷◌, ◌++◌, ◌+◌, ℕ, List, None, option_map, IfSome, IfNone, IsTrue, ◌≤◌, ◌<◌, length, not, slice_index, false};
 ghost use Rattle.std.specs.List.{list_all};
 ghost use Rattle.std.specs.Str.{chars};
-ghost use Rattle.rl_tokens.specs.Texts.{IsTail};
+ghost use Rattle.rl_tokens.specs.Texts.{IsTail, code};
 ghost use Rattle.rl_tokens.specs.Quoted.{is_string, is_raw, opener};
 ghost use Rattle.rl_tokens.specs.Written.{closer};
 ghost use Rattle.rl_grammar.specs.Mirrors.UnitAt.{unit_at};
@@ -47,7 +47,7 @@ fn quote_of(kind: Kind) -> u8
     opener[opener.len() - 1]
 }
 
-/// What a quote or an `r` at the front tells of a string of the kind.
+/// The form of a string of the kind, by the quote or the `r` at the front, and the text after that.
 #[inline(always)]
 #[tactic(auto, using(crate::proofs::AsciiLemmas::no_string_opener))]
 fn split_string_opener(kind: Kind, text: &str) -> Option<(QuotedForm, Kind, &str)>
@@ -62,7 +62,7 @@ fn split_string_opener(kind: Kind, text: &str) -> Option<(QuotedForm, Kind, &str
     }
 }
 
-/// What the text after a `b` tells.
+/// The form and kind of a literal by the text after its `b`, and the text after the opener.
 #[tactic(auto, using(crate::proofs::AsciiLemmas::no_byte_opener))]
 fn split_byte_opener(text: &str) -> Option<(QuotedForm, Kind, &str)>
     ensures { option_map (λ p. (p.0, p.1, chars p.2.now)) result ≡ byte_opener_at (chars text.now) }
@@ -75,7 +75,7 @@ fn split_byte_opener(text: &str) -> Option<(QuotedForm, Kind, &str)>
     }
 }
 
-/// What a text's opener tells: the one form and the one kind that the text can have, and the text after the opener.
+/// The one form and the one kind that a text can have by its opener, and the text after the opener.
 #[inline(always)]
 #[tactic(auto, unfolding(crate::specs::Mirrors::OpenerAt::opener_at), using(crate::proofs::AsciiLemmas::no_opener))]
 pub(crate) fn split_opener(text: &str) -> Option<(QuotedForm, Kind, &str)>
@@ -111,9 +111,9 @@ pub(crate) fn skip_units(kind: Kind, text: &str) -> &str
 
 /// The text in front of the last quote, and the text after it.
 pub(crate) fn split_last_quote(text: &str) -> Option<(&str, &str)>
-    ensures some { IfSome result (λ p. (chars text.now ≡ chars p.0.now ++ (34 ∷ chars p.1.now))
-        × IsTrue (list_all (λ c. not (c == 34)) (chars p.1.now))) }
-    ensures none { IfNone result (IsTrue (list_all (λ c. not (c == 34)) (chars text.now))) }
+    ensures some { IfSome result (λ p. (chars text.now ≡ chars p.0.now ++ (code "\"" ∷ chars p.1.now))
+        × IsTrue (list_all (λ c. not (c == code "\"")) (chars p.1.now))) }
+    ensures none { IfNone result (IsTrue (list_all (λ c. not (c == code "\"")) (chars text.now))) }
 {
     text.rsplit_once('"')
 }
@@ -121,7 +121,7 @@ pub(crate) fn split_last_quote(text: &str) -> Option<(&str, &str)>
 /// Whether the text holds a NUL.
 #[tactic(auto, using(crate::proofs::CutLemmas::contains_chars))]
 pub(crate) fn has_nul(text: &str) -> bool
-    ensures { not result ≡ list_all (λ c. not (c == 0)) (chars text.now) }
+    ensures { not result ≡ list_all (λ c. not (c == code "\0")) (chars text.now) }
 {
     text.contains('\0')
 }
@@ -182,7 +182,7 @@ fn quoted(kind: Kind, body: Body, unit: u32) -> Found
     }
 }
 
-/// What reading the text finds as a cooked string, from the text after its opener.
+/// The reading of the text as a string with escapes, by the text after its opener.
 #[inline(always)]
 #[tactic(auto, using(crate::proofs::PlaceLemmas::opened))]
 pub(crate) fn find_cooked(kind: Kind, text: &str, inside: &str) -> Option<Found>
@@ -220,7 +220,7 @@ fn raw_places(kind: Kind, text: &str, inside: &str) -> Option<Body>
     Some(places(text, opened, closer, suffix, true))
 }
 
-/// What reading the text finds as a raw string, from its hashes on.
+/// The reading of the text as a raw string, by the text from its hashes on.
 #[inline(always)]
 pub(crate) fn find_raw(kind: Kind, text: &str, inside: &str) -> Option<Found>
     requires { opener_at (chars text.now) ≡ found_opener QuotedForm.Raw kind (chars inside.now) }
@@ -243,7 +243,7 @@ fn holds_all(kind: Kind, text: &str) -> bool
     }
 }
 
-/// What reading the text finds as a character or a byte, from the text after its opener.
+/// The reading of the text as a character or a byte, by the text after its opener.
 #[inline(always)]
 #[tactic(auto, using(crate::proofs::PlaceLemmas::opened))]
 pub(crate) fn find_single(kind: Kind, text: &str, inside: &str) -> Option<Found>
@@ -261,7 +261,7 @@ pub(crate) fn find_single(kind: Kind, text: &str, inside: &str) -> Option<Found>
 #[inline(always)]
 pub(crate) fn begins_character(text: &str) -> bool
     ensures long { IsTrue result → 3 ≤ length text.now }
-    ensures quote { IsTrue result → slice_index text.now 0 ≡ 39 }
+    ensures quote { IsTrue result → slice_index text.now 0 ≡ code "'" }
 {
     let bytes = text.as_bytes();
     bytes.len() >= 3 && bytes[0] == first_of(Kind::Char)
@@ -271,7 +271,7 @@ pub(crate) fn begins_character(text: &str) -> bool
 #[inline(always)]
 pub(crate) fn find_bare_character(text: &str) -> Option<Found>
     requires long { 3 ≤ length text.now }
-    requires quote { slice_index text.now 0 ≡ 39 }
+    requires quote { slice_index text.now 0 ≡ code "'" }
     ensures { IfSome result (IsFound text.now) }
 {
     let bytes = text.as_bytes();
@@ -287,10 +287,10 @@ pub(crate) fn find_bare_character(text: &str) -> Option<Found>
     Some(quoted(Kind::Char, body, bytes[1] as u32))
 }
 
-/// What reading the text as a character finds, which a `'` begins.
+/// The reading of a text that begins with a `'`.
 #[inline(never)]
 pub(crate) fn find_character(text: &str) -> Option<Found>
-    requires { slice_index text.now 0 ≡ 39 }
+    requires { slice_index text.now 0 ≡ code "'" }
     ensures none { IfNone result (HasNoReading (chars text.now)) }
     ensures found { IfSome result (IsFound text.now) }
 {

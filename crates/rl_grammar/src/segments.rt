@@ -6,16 +6,16 @@ ghost use Rattle.std.specs.Str.{chars};
 ghost use Rattle.rl_tokens.specs.Texts.{first_passes, IsTail};
 ghost use Rattle.rl_tokens.specs.Quoted.{QuotedUnit, is_plain, is_string};
 ghost use Rattle.rl_grammar.specs.Decoded.{piece_bytes};
-ghost use Rattle.rl_grammar.specs.Mirrors.UnitAt.{IsPieceOf};
+ghost use Rattle.rl_grammar.specs.Mirrors.UnitAt.{IsHeldBy};
 ghost use Rattle.rl_grammar.specs.Founds.{is_quoted};
 ghost use Rattle.rl_grammar.specs.Shapes.{HasNoQuoted};
 ghost use Rattle.rl_tokens.specs.declared.kind.Kind.{Kind as AnyKind};
 ghost use Rattle.rl_grammar.specs.Segments.{
   AreUnitsIn,
-  IsFront,
+  IsFirstSegment,
   IsLongest,
   IsNoText,
-  IsPlaceOf,
+  IsBytePlace,
   IsSegmentsOf,
   value_bytes,
 };
@@ -155,7 +155,7 @@ fn split_run(kind: Kind, text: &str) -> (&str, &str)
 /// What a piece is as a segment: where a kind holds characters, a byte is one.
 #[inline(always)]
 fn value_of<'t>(kind: Kind, piece: Piece) -> SegmentValue<'t>
-    requires { IsPieceOf kind piece }
+    requires { IsHeldBy kind piece }
     ensures bytes { value_bytes result ≡ piece_bytes piece }
     ensures other { IsNoText result }
 {
@@ -172,7 +172,7 @@ fn value_of<'t>(kind: Kind, piece: Piece) -> SegmentValue<'t>
 fn split_segment(kind: Kind, plain: bool, text: &str) -> (SegmentValue<'_>, &str)
     requires has { (units : List QuotedUnit) × AreUnitsIn kind plain (chars text.now) units }
     requires some { text.now ≢ [] }
-    ensures front { IsFront kind plain (chars text.now) result.0 (chars result.1.now) }
+    ensures front { IsFirstSegment kind plain (chars text.now) result.0 (chars result.1.now) }
     ensures longest { IsLongest kind result.0 (chars result.1.now) }
     ensures following { IsTail text.now result.1.now }
     ensures shorter { length result.1.now < length text.now }
@@ -349,7 +349,7 @@ fn is_quoted(kind: Kind) -> bool
 /// // place_after_escape("5") == None
 /// ```
 pub fn place_of(text: &str, at: usize) -> Option<usize>
-    ensures some { IfSome result (λ place. (kind : AnyKind) × IsPlaceOf kind (chars text.now) at place) }
+    ensures some { IfSome result (λ place. (kind : AnyKind) × IsBytePlace kind (chars text.now) at place) }
     ensures none { IfNone result (HasNoQuoted (chars text.now)) }
 {
     Some(Segments::of(text)?.place_of(at))

@@ -5,7 +5,7 @@ ghost use Rattle.rl_grammar.specs.SourceLiterals.{StepsSource};
 use crate::found::{Found, find};
 use rl_tokens::{LexError, SourceToken, Sources};
 
-/// What stands next in a source, tokens that are no literals aside.
+/// The next literal of a source, or its end.
 #[derive(Clone, Copy)]
 pub enum SourceStep<'t> {
     /// No literal: the source ends.

@@ -3,11 +3,11 @@
 ghost use Rattle.std.specs.Prelude.{◌↔◌, IsTrue, ◌≡◌, ◌≤◌, ◌<◌, ◌∷◌, IfSome, length, option_map, ◌≢◌, ◌==◌, ◌&&◌, ◌++◌, IfNone, IsFalse, List, None, ℕ};
 ghost use Rattle.std.specs.Str.{chars};
 ghost use Rattle.rl_grammar.specs.Forms.{has_form};
-ghost use Rattle.rl_grammar.specs.StrictShapes.{Closes, IsToken, ClosesRaw, ClosesUnits};
+ghost use Rattle.rl_grammar.specs.StrictShapes.{ClosesForm, IsToken, ClosesRaw, ClosesUnits};
 ghost use Rattle.std.specs.List.{list_all};
 ghost use Rattle.rl_grammar.specs.Mirrors.StrictAt.{is_number_suffix, is_strict_suffix, ends_digits, ends_dot, ends_power, ends_whole, is_based, is_decimal, is_strict_number, escape_rest, unit_rest, ends_quoted, ends_raw, is_inside, is_raw_character};
 ghost use Rattle.rl_tokens.specs.Lexemes.{is_continue};
-ghost use Rattle.rl_tokens.specs.Texts.{first_passes, begins};
+ghost use Rattle.rl_tokens.specs.Texts.{first_passes, begins, code};
 ghost use Rattle.rl_grammar.specs.Mirrors.NumberAt.{after_power_sign};
 ghost use Rattle.rl_tokens.specs.Numbers.{is_exponent_letter};
 ghost use Rattle.rl_tokens.specs.Strict.{Itself, is_strict_unit};
@@ -61,7 +61,7 @@ pub fn is_token(text: &str) -> bool
 /// Whether the text after the opener of a quoted form ends it, and a suffix may follow.
 fn closes(form: QuotedForm, kind: Kind, text: &str) -> bool
     requires { IsTrue (has_form form kind) }
-    ensures { IsTrue result ↔ Closes form kind (chars text.now) }
+    ensures { IsTrue result ↔ ClosesForm form kind (chars text.now) }
 {
     match form {
         QuotedForm::Cooked => closes_string(kind, text),
@@ -96,7 +96,7 @@ fn is_number_suffix(text: &str) -> bool
     !matches!(split_char(text), Some(('_', _))) && is_suffix(text)
 }
 
-/// What follows a sign, or the text.
+/// The text after the sign at its front, if one stands there.
 fn after_sign(text: &str) -> &str
     ensures { chars result.now ≡ after_power_sign (chars text.now) }
 {
@@ -200,7 +200,7 @@ fn is_bare(kind: Kind, c: char) -> bool
 ///
 /// But for line breaks the lenient escapes are the strict ones.
 fn skip_escape<'t>(kind: Kind, text: &'t str, following: &'t str) -> Option<&'t str>
-    requires backslash { chars text.now ≡ 92 ∷ chars following.now }
+    requires backslash { chars text.now ≡ code "\\" ∷ chars following.now }
     requires shorter { length following.now < length text.now }
     ensures value { option_map (λ r. chars r.now) result ≡ escape_rest kind (chars following.now) }
     ensures shorter { IfSome result (λ r. length r.now < length text.now) }
@@ -297,11 +297,11 @@ fn is_raw_character(kind: Kind, c: char) -> bool
 }
 
 /// The text after the closer that begins with the character, if the hashes follow it.
-fn behind_closer<'t>(hashes: &str, c: char, after: &'t str) -> Option<&'t str>
+fn after_closer<'t>(hashes: &str, c: char, after: &'t str) -> Option<&'t str>
     ensures some { IfSome result
-        (λ r. (c ≡ 34) × (chars after.now ≡ chars hashes.now ++ chars r.now)) }
+        (λ r. (c ≡ code "\"") × (chars after.now ≡ chars hashes.now ++ chars r.now)) }
     ensures none { IfNone result
-        (IsFalse (c == 34 && begins (chars hashes.now) (chars after.now))) }
+        (IsFalse (c == code "\"" && begins (chars hashes.now) (chars after.now))) }
 {
     if c == '"' {
         after_prefix(hashes, after)
@@ -332,7 +332,7 @@ fn ends_raw(kind: Kind, hashes: &str, text: &str) -> bool
 {
     let mut rest = skip_inside(kind, text);
     while let Some((c, after)) = split_char(rest) {
-        if let Some(suffix) = behind_closer(hashes, c, after) {
+        if let Some(suffix) = after_closer(hashes, c, after) {
             return is_suffix(suffix);
         }
         if !is_raw_character(kind, c) {

@@ -2,11 +2,11 @@
 
 ghost use Rattle.std.specs.Prelude.{◌≡◌, ◌==◌, ◌<◌, ◌≤◌, ◌∷◌, [], ℕ, length, option_map, IfSome, IsTrue, IsFalse, ◌+◌, ◌++◌, drop, map, ◌≢◌, List, not, IfNone};
 ghost use Rattle.std.specs.Str.{chars};
-ghost use Rattle.rl_tokens.specs.Texts.{first_passes, IsTail};
+ghost use Rattle.rl_tokens.specs.Texts.{first_passes, IsTail, code};
 ghost use Rattle.rl_tokens.specs.Quoted.{holds_characters, is_plain, is_single, allows_code, may_be_hex, has_unicode, is_string};
 ghost use Rattle.rl_tokens.specs.Strict.{is_bare_character};
 ghost use Rattle.rl_grammar.specs.Bodies.{IsUnitValue};
-ghost use Rattle.rl_grammar.specs.Mirrors.UnitAt.{piece_value, IsPieceOf, named_in, digit_at, hex_at, unicode_digits_at, unicode_at, after_blanks, escape_at, unit_at};
+ghost use Rattle.rl_grammar.specs.Mirrors.UnitAt.{piece_value, IsHeldBy, named_in, digit_at, hex_at, code_digits, code_digits_at, first_code_digits_at, closed_at, unicode_at, after_blanks, escape_at, unit_at};
 ghost use Rattle.std.specs.Char.{is_ascii};
 ghost use Rattle.std.specs.List.{list_all, prefix_len};
 ghost use Rattle.rl_tokens.specs.Scanning.{is_ascii_other};
@@ -138,33 +138,76 @@ fn hex_escape(kind: Kind, text: &str) -> Option<(u8, &str)>
     }
 }
 
-/// What follows the first digit of `\u{`: the character of all the digits, and the text after the brace.
-#[tactic(auto, unfolding(crate::specs::Mirrors::UnitAt::unicode_digits_at), using(crate::proofs::AsciiLemmas::no_digits))]
+/// The digits of `\u{..}`, with underscores between and after them.
+#[derive(Clone, Copy)]
+pub(crate) struct CodeDigits<'t> {
+    /// The number that they spell.
+    pub value: u32,
+    /// How many they are, at most six.
+    pub count: u32,
+    /// The text from the last of them on.
+    pub last: &'t str,
+    /// The text after the digits and underscores.
+    pub rest: &'t str,
+}
+
+/// The digits of a number whose first one stands before the text, and where it stands: up to the sixth, and underscores.
+#[tactic(auto, unfolding(crate::specs::Mirrors::UnitAt::code_digits_at))]
 #[inline(always)]
-fn more_digits(text: &str, first: u32) -> Option<(char, &str)>
+fn more_digits<'t>(first: u32, from: &'t str, text: &'t str) -> CodeDigits<'t>
     requires { first < 16 }
-    ensures value { option_map (λ p. (p.0, chars p.1.now)) result
-        ≡ unicode_digits_at first 1 (chars text.now) }
-    ensures shorter { IfSome result (λ p. length p.1.now < length text.now) }
+    ensures value { code_digits result.value result.count (chars result.last.now) (chars result.rest.now)
+        ≡ code_digits_at first 1 (chars from.now) (chars text.now) }
+    ensures shorter { length result.rest.now ≤ length text.now }
 {
     let mut value = first;
-    let mut digits = 1_u32;
+    let mut count = 1_u32;
+    let mut last = from;
     let mut rest = text;
     while let Some((next, after)) = split_ascii(rest) {
-        rest = after;
         if let Some(digit) = (next as char).to_digit(16) {
-            if digits == 6 {
-                return None;
+            if count == 6 {
+                break;
             }
             value = value * 16 + digit;
-            digits += 1;
-        } else if next == b'}' {
-            return Some((char::from_u32(value)?, rest));
+            count += 1;
+            last = rest;
         } else if next != b'_' {
-            return None;
+            break;
         }
+        rest = after;
     }
-    None
+    CodeDigits {
+        value,
+        count,
+        last,
+        rest,
+    }
+}
+
+/// The digits after `\u{`, if one stands there.
+#[inline(always)]
+pub(crate) fn code_digits(text: &str) -> Option<CodeDigits<'_>>
+    ensures value { option_map (λ d. code_digits d.value d.count (chars d.last.now) (chars d.rest.now)) result
+        ≡ first_code_digits_at (chars text.now) }
+    ensures shorter { IfSome result (λ d. length d.rest.now < length text.now) }
+{
+    let (first, after) = digit(text)?;
+    Some(more_digits(first, text, after))
+}
+
+/// The character of the digits, and the text after the brace that closes them.
+#[tactic(auto, using(crate::proofs::AsciiLemmas::no_close))]
+#[inline(always)]
+fn closed_code(digits: CodeDigits<'_>) -> Option<(char, &str)>
+    ensures value { option_map (λ p. (p.0, chars p.1.now)) result
+        ≡ closed_at (code_digits digits.entry.value digits.entry.count (chars digits.entry.last.now) (chars digits.entry.rest.now)) }
+    ensures shorter { IfSome result (λ p. length p.1.now < length digits.entry.rest.now) }
+{
+    let Some((b'}', rest)) = split_ascii(digits.rest) else {
+        return None;
+    };
+    Some((char::from_u32(digits.value)?, rest))
 }
 
 /// The character of `\u{..}` from its brace on, and the text after it.
@@ -178,8 +221,7 @@ fn unicode_escape(kind: Kind, text: &str) -> Option<(char, &str)>
     let Some((b'{', inside)) = split_ascii(text) else {
         return None;
     };
-    let (first, rest) = digit(inside)?;
-    let (c, rest) = more_digits(rest, first)?;
+    let (c, rest) = closed_code(code_digits(inside)?)?;
     if has_unicode(kind) && allows_code(kind, c as u32) {
         Some((c, rest))
     } else {
@@ -201,7 +243,7 @@ fn skip_blanks(text: &str) -> &str
 fn escape(kind: Kind, text: &str) -> Option<(Piece, &str)>
     ensures value { option_map (λ p. (piece_value kind p.0, chars p.1.now)) result
         ≡ escape_at kind (chars text.now) }
-    ensures piece { IfSome result (λ p. IsPieceOf kind p.0) }
+    ensures piece { IfSome result (λ p. IsHeldBy kind p.0) }
     ensures shorter { IfSome result (λ p. length p.1.now < length text.now) }
 {
     let (letter, rest) = split_ascii(text)?;
@@ -232,10 +274,10 @@ fn escape(kind: Kind, text: &str) -> Option<(Piece, &str)>
 #[tactic(auto, unfolding(crate::specs::Mirrors::UnitAt::unit_at))]
 #[inline(always)]
 fn character(kind: Kind, text: &str) -> Option<(Piece, &str)>
-    requires { IsFalse (first_passes (λ c. c == 92) (chars text.now)) }
+    requires { IsFalse (first_passes (λ c. c == code "\\") (chars text.now)) }
     ensures value { option_map (λ p. (piece_value kind p.0, chars p.1.now)) result
         ≡ unit_at kind (chars text.now) }
-    ensures piece { IfSome result (λ p. IsPieceOf kind p.0) }
+    ensures piece { IfSome result (λ p. IsHeldBy kind p.0) }
     ensures shorter { IfSome result (λ p. length p.1.now < length text.now) }
 {
     match split_char(text) {
@@ -254,7 +296,7 @@ fn character(kind: Kind, text: &str) -> Option<(Piece, &str)>
 pub(crate) fn unit(kind: Kind, text: &str) -> Option<(Piece, &str)>
     ensures value { option_map (λ p. (piece_value kind p.0, chars p.1.now)) result
         ≡ unit_at kind (chars text.now) }
-    ensures piece { IfSome result (λ p. IsPieceOf kind p.0) }
+    ensures piece { IfSome result (λ p. IsHeldBy kind p.0) }
     ensures shorter { IfSome result (λ p. length p.1.now < length text.now) }
 {
     match split_ascii(text) {

@@ -9,7 +9,7 @@ use Rattle.rl_tokens.specs.declared.span.Span.{Span}
 use Rattle.rl_tokens.specs.Errors.{nowhere}
 use Rattle.rl_tokens.specs.Texts.{SpannedText}
 use Rattle.rl_tokens.specs.Trees.{Tree, Trees, GroupTree, IdentTree, PunctTree, LiteralTree, NoTrees, MoreTrees, all_relocated, all_respanned, entry_at, looked_up, relocated, respanned}
-use Rattle.rl_grammar.specs.Segments.{IsEndOf, IsPlaceOf, IsSegmentsOf, IsSpanTable, SegmentsState, begins_in, ends_in, place_in, span_from, units_bytes}
+use Rattle.rl_grammar.specs.Segments.{IsByteEnd, IsBytePlace, IsSegmentsOf, IsSpanTable, SegmentsState, begins_in, ends_in, unit_place, span_from, units_bytes}
 use Rattle.rl_grammar.proofs.SegmentLemmas.{place_at_end, unit_span}
 use Rattle.rl_grammar.proofs.SegmentLawLemmas.{end_in_text, place_in_text}
 use Rattle.rl_grammar.proofs.SegmentStarts.{given_in_whole}
@@ -46,7 +46,7 @@ entry_is s base table t at = go (ltb at (length table)) refl
         let same : min at (length table - 1) ≡ n = omega (arith, large, t.long) in
         let begins = place_at_end begins_in s.kind t.units n (omega arith) ∙ sym (place_at_end begins_in s.kind t.units at (omega (arith, large, t.long))) in
         let ends = place_at_end ends_in s.kind t.units n (omega arith) ∙ sym (place_at_end ends_in s.kind t.units at (omega (arith, large, t.long))) in
-        ap (λ z. get_or table z nowhere) same ∙ t.spans n (omega (arith, t.long)) ∙ ap (λ z. span_from base (s.at + z) (s.at + place_in ends_in s.kind t.units n)) begins ∙ ap (λ z. span_from base (s.at + place_in begins_in s.kind t.units at) (s.at + z)) ends
+        ap (λ z. get_or table z nowhere) same ∙ t.spans n (omega (arith, t.long)) ∙ ap (λ z. span_from base (s.at + z) (s.at + unit_place ends_in s.kind t.units n)) begins ∙ ap (λ z. span_from base (s.at + unit_place begins_in s.kind t.units at) (s.at + z)) ends
 
 record LooksUp (kind : Kind) (text : List ℕ) (base : Span) (table : List Span) (span : Span) : Type 0 where
   pub first : ℕ
@@ -58,15 +58,15 @@ looks_up : (kind : Kind) (text : List ℕ) (s : SegmentsState) (base : Span) (ta
 looks_up kind text s base table span whole t = go (ltb span.lo span.hi) refl
   where
     place : ℕ → ℕ
-    place at = s.at + place_in begins_in s.kind t.units at
+    place at = s.at + unit_place begins_in s.kind t.units at
 
     end : ℕ → ℕ
-    end at = s.at + place_in ends_in s.kind t.units at
+    end at = s.at + unit_place ends_in s.kind t.units at
 
-    begins : (at : ℕ) → IsPlaceOf kind text at (place at)
+    begins : (at : ℕ) → IsBytePlace kind text at (place at)
     begins at = given_in_whole begins_in kind text s at (place at) whole (record { units = t.units; are_left = t.are_left; place_is = refl })
 
-    ends : (at : ℕ) → IsEndOf kind text at (end at)
+    ends : (at : ℕ) → IsByteEnd kind text at (end at)
     ends at = given_in_whole ends_in kind text s at (end at) whole (record { units = t.units; are_left = t.are_left; place_is = refl })
 
     first_is : looked_up table span ≡ record { file = base.file; lo = base.lo + place span.lo; hi = cond (ltb span.lo span.hi) (entry_at table (span.hi - 1)).hi (base.lo + place span.lo) }

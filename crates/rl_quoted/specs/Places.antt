@@ -7,7 +7,7 @@ use Rattle.rl_tokens.specs.Written.{IsWrittenForm}
 use Rattle.rl_grammar.specs.declared.found.Body.{Body}
 use Rattle.rl_grammar.specs.Decoded.{in_bytes}
 use Rattle.rl_grammar.specs.Founds.{IsQuotedAt, StandsIn, is_quoted, suffix_in}
-use Rattle.rl_grammar.specs.Segments.{IsEndOf, IsPlaceOf, span_from}
+use Rattle.rl_grammar.specs.Segments.{IsByteEnd, IsBytePlace, span_from}
 use Rattle.rl_grammar.specs.WholeShapes.{IsPlain}
 use Rattle.rl_tokens.specs.declared.span.Span.{Span}
 use Rattle.rl_tokens.specs.Texts.{SpannedText}
@@ -30,8 +30,8 @@ pub record IsWrittenAs (kind : Kind) (bytes text : List ℕ) : Type 0 where
 -- `last`: from where what gives the first begins to where what gives the last ends. Of no bytes, both
 -- are where what gives the next begins.
 pub record IsRangeOf (kind : Kind) (text : List ℕ) (lo hi first last : ℕ) : Type 0 where
-  pub begins : IsPlaceOf kind text lo first
-  pub some : lo < hi → IsEndOf kind text (hi - 1) last
+  pub begins : IsBytePlace kind text lo first
+  pub some : lo < hi → IsByteEnd kind text (hi - 1) last
   pub none : hi ≤ lo → last ≡ first
 
 -- The span is that of the bytes of the contents from `lo` up to `hi`: where the literal's span is as

@@ -15,7 +15,7 @@ ghost use Rattle.rl_tokens.specs.Trees.{LiteralTree, stream_view};
 ghost use Rattle.rl_tokens.specs.Quoted.{is_single, is_string};
 ghost use Rattle.rl_grammar.specs.Bodies.{HasBody, HasSingleBody};
 ghost use Rattle.rl_grammar.specs.Founds.{IsFound, is_quoted};
-ghost use Rattle.rl_grammar.specs.Segments.{IsEndOf, IsPlaceOf, IsSegmentsOf};
+ghost use Rattle.rl_grammar.specs.Segments.{IsByteEnd, IsBytePlace, IsSegmentsOf};
 ghost use Rattle.rl_grammar.specs.WholeShapes.{IsPlain};
 ghost use Rattle.rl_quoted.specs.Places.{IsRangeOf, IsSpanOf, IsWrittenAs, StandsAt};
 ghost use Rattle.rl_quoted.specs.Suffixes.{HasSomeSuffix};
@@ -158,7 +158,7 @@ impl<K: QuotedKind, A: Allocator> Quoted<K, A> {
     /// ```
     pub fn place_of(&self, at: usize) -> usize
         requires { IsTrue (is_quoted K.KIND) }
-        ensures { IsPlaceOf K.KIND (chars self.now.text) at result }
+        ensures { IsBytePlace K.KIND (chars self.now.text) at result }
     {
         self.segments().place_of(at)
     }
@@ -166,7 +166,7 @@ impl<K: QuotedKind, A: Allocator> Quoted<K, A> {
     /// Where that ends: after the byte itself, or after the escape. A continuation that follows is none of it.
     pub fn end_of(&self, at: usize) -> usize
         requires { IsTrue (is_quoted K.KIND) }
-        ensures { IsEndOf K.KIND (chars self.now.text) at result }
+        ensures { IsByteEnd K.KIND (chars self.now.text) at result }
     {
         self.segments().end_of(at)
     }

@@ -79,8 +79,8 @@ radix_at (z ∷ c ∷ cs) =
     if z == code "0" && not (radix_of c == 10) then (radix_of c, cs) else (10, z ∷ c ∷ cs)
 
 -- what base ten asks besides: a digit in front, and no exponent after
-abbrev pub may_begin : ℕ → List ℕ → Bool
-may_begin radix t = not (radix == 10) || first_passes is_ascii_digit t
+abbrev pub may_begin_number : ℕ → List ℕ → Bool
+may_begin_number radix t = not (radix == 10) || first_passes is_ascii_digit t
 
 abbrev pub may_end : ℕ → List ℕ → Bool
 may_end radix x = is_suffix x && (not (radix == 10) || not (is_exponent_suffix x))
@@ -88,7 +88,7 @@ may_end radix x = is_suffix x && (not (radix == 10) || not (is_exponent_suffix x
 -- the magnitude and the suffix of an integer after sign and prefix
 unfoldable pub based_at : ℕ → List ℕ → Option (ℕ × List ℕ)
 based_at radix t =
-    if may_begin radix t && (has_digit_at radix t && may_end radix (after_digits radix t))
+    if may_begin_number radix t && (has_digit_at radix t && may_end radix (after_digits radix t))
     then Some (magnitude_at radix t, after_digits radix t) else None
 
 abbrev pub with_sign : Sign → Option (ℕ × List ℕ) → Option (Sign × ℕ × List ℕ)

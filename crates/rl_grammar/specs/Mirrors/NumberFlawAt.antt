@@ -8,9 +8,21 @@ use Rattle.rl_tokens.specs.Classes.{after_run}
 use Rattle.rl_tokens.specs.Numbers.{is_exponent_letter}
 use Rattle.rl_tokens.specs.Texts.{first_passes, is_underscore}
 use Rattle.rl_grammar.specs.declared.flaws.FlawKind.{FlawKind}
+use Rattle.rl_grammar.specs.declared.number_flaws.Before.{Before}
+use Rattle.rl_grammar.specs.declared.number_flaws.Before.TheVariants.{LargeInteger, Float}
 use Rattle.rl_grammar.specs.declared.flaws.FlawKind.TheVariants.{Unfinished, NoExponentDigit, BadSuffix, TooLarge}
 use Rattle.rl_grammar.specs.Mirrors.NumberAt.{after_digits, capped, has_digit_at, magnitude_at, radix_at}
 use Rattle.rl_grammar.specs.Mirrors.UnitFlawAt.{FoundFlaw, found_flaw}
+
+-- an integer may stand, by what stands before
+abbrev pub is_integer : Before → Bool
+is_integer Float = false
+is_integer _ = true
+
+-- and it is past the limit
+abbrev pub is_large : Before → Bool
+is_large LargeInteger = true
+is_large _ = false
 
 -- what an identifier doesn't go on with
 abbrev pub after_word : List ℕ → List ℕ

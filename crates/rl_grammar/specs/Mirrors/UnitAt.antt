@@ -16,9 +16,9 @@ piece_value kind (Byte b) = b ∷ []
 piece_value kind Nothing = []
 
 -- where characters are held, a byte is one of ASCII
-abbrev pub IsPieceOf : Kind → Piece → Type 0
-IsPieceOf kind (Byte b) = IsTrue (not (holds_characters kind) || nat_lt b 128)
-IsPieceOf kind _ = ⊤
+abbrev pub IsHeldBy : Kind → Piece → Type 0
+IsHeldBy kind (Byte b) = IsTrue (not (holds_characters kind) || nat_lt b 128)
+IsHeldBy kind _ = ⊤
 
 infixl 10 ◌>>=◌
 abbrev pub ◌>>=◌ : {A B : Type 0} → Option A → (A → Option B) → Option B
@@ -62,15 +62,34 @@ hex_at kind t = do
   low ← digit_at high.1
   number_if (may_be_hex kind (high.0 * 16 + low.0)) (high.0 * 16 + low.0) low.1
 
--- the digits and underscores up to the closing brace, after n digits that spell v
-unfoldable pub unicode_digits_at : ℕ → ℕ → List ℕ → Option (ℕ × List ℕ)
-unicode_digits_at v n [] = None
-unicode_digits_at v n (c ∷ cs) =
-    if c == code "}" then number_if (scalar v) v cs
-    else (if c == code "_" then unicode_digits_at v n cs
-    else (if nat_lt (digit_value c) 16 && nat_lt n 6
-    then unicode_digits_at (v * 16 + digit_value c) (n + 1) cs
-    else None))
+-- the number that digits spell, how many they are, the text from the last one on, and the text after them
+abbrev pub CodeDigits : Type 0
+CodeDigits = ℕ × ℕ × List ℕ × List ℕ
+
+abbrev pub code_digits : ℕ → ℕ → List ℕ → List ℕ → CodeDigits
+code_digits v n last rest = (v, n, last, rest)
+
+-- these, with those at the front up to the sixth, and underscores
+unfoldable pub code_digits_at : ℕ → ℕ → List ℕ → List ℕ → CodeDigits
+code_digits_at v n last [] = code_digits v n last []
+code_digits_at v n last (c ∷ cs) =
+    if nat_lt (digit_value c) 16 then
+    (if n == 6 then code_digits v n last (c ∷ cs)
+    else code_digits_at (v * 16 + digit_value c) (n + 1) (c ∷ cs) cs)
+    else (if c == code "_" then code_digits_at v n last cs else code_digits v n last (c ∷ cs))
+
+-- from the first one on
+abbrev pub first_code_digits_at : List ℕ → Option CodeDigits
+first_code_digits_at t = digit_at t >>= λ p. Some (code_digits_at p.0 1 t p.1)
+
+-- a closing brace at the front
+abbrev pub close_at : List ℕ → Option (List ℕ)
+close_at [] = None
+close_at (c ∷ cs) = if c == code "}" then Some cs else None
+
+-- the number of the digits, where a character has it and the brace follows
+abbrev pub closed_at : CodeDigits → Option (ℕ × List ℕ)
+closed_at (v, n, last, rest) = close_at rest >>= λ after. number_if (scalar v) v after
 
 -- an opening brace at the front
 abbrev pub brace_at : List ℕ → Option (List ℕ)
@@ -81,8 +100,8 @@ brace_at (c ∷ cs) = if c == code "{" then Some cs else None
 unfoldable pub unicode_at : Kind → List ℕ → Option (ℕ × List ℕ)
 unicode_at kind t = do
   inside ← brace_at t
-  first ← digit_at inside
-  whole ← unicode_digits_at first.0 1 first.1
+  digits ← first_code_digits_at inside
+  whole ← closed_at digits
   number_if (has_unicode kind && allows_code kind whole.0) whole.0 whole.1
 
 -- what is left after the blanks at the front

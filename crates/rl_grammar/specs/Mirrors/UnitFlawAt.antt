@@ -8,6 +8,7 @@ use Rattle.rl_tokens.specs.declared.kind.Kind.{Kind}
 use Rattle.rl_tokens.specs.declared.kind.Kind.TheVariants.{CStr}
 use Rattle.rl_tokens.specs.Texts.{first_passes}
 use Rattle.rl_tokens.specs.Quoted.{allows_code, has_unicode, holds_characters, is_string}
+use Rattle.rl_grammar.specs.Mirrors.UnitAt.{CodeDigits, code_digits_at}
 use Rattle.rl_grammar.specs.declared.flaws.FlawKind.{FlawKind}
 use Rattle.rl_grammar.specs.declared.flaws.FlawKind.TheVariants.{Unclosed, UnknownEscape, NoUnicode, NoHexDigit, NoBrace, EmptyBraces, TooManyDigits, PastAscii, PastUnicode, Surrogate, Nul, NotAscii, LoneCr, MustEscape, NoCharacter, TwoCharacters}
 
@@ -40,24 +41,26 @@ is_code kind v = scalar v && allows_code kind v
 abbrev pub code_flaw_of : ℕ → FlawKind
 code_flaw_of v = if nat_lt 0x10FFFF v then PastUnicode else (if v == 0 then Nul else Surrogate)
 
--- of what follows n digits that spell v
-unfoldable pub digits_flaw_at : Kind → ℕ → ℕ → List ℕ → FoundFlaw
-digits_flaw_at kind v n [] = found_flaw Unclosed []
-digits_flaw_at kind v n (c ∷ cs) =
-    if nat_lt (digit_value c) 16 then
-    (if n == 6 then found_flaw TooManyDigits (c ∷ cs)
-    else (if n == 5 && not (is_code kind (v * 16 + digit_value c))
-    then found_flaw (code_flaw_of (v * 16 + digit_value c)) (c ∷ cs)
-    else digits_flaw_at kind (v * 16 + digit_value c) (n + 1) cs))
-    else (if c == code "}" then found_flaw (code_flaw_of v) (c ∷ cs)
-    else (if c == code "_" then digits_flaw_at kind v n cs
-    else found_flaw NoHexDigit (c ∷ cs)))
+-- of what follows the digits, which spell v
+abbrev pub unclosed_flaw_at : ℕ → List ℕ → FoundFlaw
+unclosed_flaw_at v [] = found_flaw Unclosed []
+unclosed_flaw_at v (c ∷ cs) =
+    if c == code "}" then found_flaw (code_flaw_of v) (c ∷ cs)
+    else (if nat_lt (digit_value c) 16 then found_flaw TooManyDigits (c ∷ cs)
+    else found_flaw NoHexDigit (c ∷ cs))
+
+-- of the digits, and what follows them
+abbrev pub code_flaw_at : Kind → CodeDigits → FoundFlaw
+code_flaw_at kind (v, n, last, rest) =
+    if n == 6 && not (is_code kind v) then found_flaw (code_flaw_of v) last
+    else unclosed_flaw_at v rest
 
 -- of what follows the brace
 unfoldable pub first_digit_flaw_at : Kind → List ℕ → FoundFlaw
 first_digit_flaw_at kind [] = found_flaw Unclosed []
 first_digit_flaw_at kind (c ∷ cs) =
-    if nat_lt (digit_value c) 16 then digits_flaw_at kind (digit_value c) 1 cs
+    if nat_lt (digit_value c) 16
+    then code_flaw_at kind (code_digits_at (digit_value c) 1 (c ∷ cs) cs)
     else (if c == code "}" then found_flaw EmptyBraces (c ∷ cs)
     else found_flaw NoHexDigit (c ∷ cs))
 

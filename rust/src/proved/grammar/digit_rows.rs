@@ -157,7 +157,7 @@ pub(crate) fn is_negative(text: &str) -> bool {
     matches!(split_ascii(text), Some((b'-', _)))
 }
 
-/// What follows a minus, or the text.
+/// The text after the minus at its front, if one stands there.
 pub(crate) fn after_minus(text: &str) -> &str {
     match split_ascii(text) {
         Some((b'-', rest)) => rest,
@@ -184,7 +184,7 @@ pub(crate) struct Tally {
 }
 
 impl Tally {
-    /// Of digits that spell this.
+    /// The tally of digits that spell this.
     pub(crate) fn of(spelled: u64) -> Tally {
         Tally {
             front: Some(0),

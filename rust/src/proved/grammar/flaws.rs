@@ -35,7 +35,7 @@ pub enum FlawKind {
     EmptyBraces,
     /// The seventh digit between the braces.
     TooManyDigits,
-    /// Of characters, `\x` goes up to 7F.
+    /// In a character or a string, `\x` goes up to 7F.
     PastAscii,
     /// The number between the braces is past 10FFFF.
     PastUnicode,
@@ -116,7 +116,7 @@ pub(crate) fn make_flaw(kind: FlawKind, rest: &str) -> FlawAt<'_> {
 }
 
 impl<'t> FlawAt<'t> {
-    /// The same, which spoils this piece.
+    /// This flaw, where it spoils this piece.
     pub(crate) fn in_piece(self, piece: &'t str) -> FlawAt<'t> {
         FlawAt {
             kind: self.kind,
@@ -145,7 +145,7 @@ pub struct Flaw {
     pub hi: usize,
 }
 
-/// Of one kind at the end of a text, of another before a character.
+/// The flaw at the front of the text: of one kind where the text is empty, else of the other.
 pub(crate) fn end_flaw(at_end: FlawKind, before: FlawKind, text: &str) -> FlawAt<'_> {
     match split_char(text) {
         None => make_flaw(at_end, text),
@@ -169,7 +169,7 @@ fn skip_letters<'t>(word: &str, text: &'t str) -> &'t str {
     rest
 }
 
-/// Why the text isn't this word, with whose first letter it begins, and the text from the place on.
+/// Why the text isn't the word that it begins with a letter of, and the text from there on.
 fn letters_flaw<'t>(word: &str, text: &'t str) -> FlawAt<'t> {
     end_flaw(
         FlawKind::Unfinished,
@@ -189,13 +189,12 @@ fn first_flaw(text: &str) -> FlawAt<'_> {
     }
 }
 
-/// Why a text that begins neither as a number nor as a quoted literal is none, where it is none, and the text from the
-/// place on.
+/// Why a text that begins neither as a number nor as a quoted literal is no literal, and the text from there on.
 fn word_flaw(text: &str) -> FlawAt<'_> {
     first_flaw(text)
 }
 
-/// The flaw of a text without a reading, and the text from its place on.
+/// Why a text without a reading is no literal, and the text from there on.
 fn flaw_at(text: &str) -> FlawAt<'_> {
     if begins_number(text) {
         return number_flaw(text).in_piece(text);

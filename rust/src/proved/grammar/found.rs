@@ -37,10 +37,10 @@ impl Body {
     }
 }
 
-/// What reading a text finds: the kind of the literal and where its parts stand.
+/// A reading of a text: the kind of the literal, and where its parts stand.
 ///
-/// Of a quoted literal the body is what stands between its quotes, of a number all that stands before its suffix, sign
-/// and prefix included, and of a truth value the whole text. Nothing is borrowed: the text is cut at the places again.
+/// The body of a quoted literal is what stands between its quotes; that of a number is all before its suffix, sign and
+/// prefix included; that of a truth value is the whole text. Nothing is borrowed: the text is cut at the places again.
 #[derive(Clone, Copy)]
 pub struct Found {
     /// What the digits of an integer spell; 0 for any other kind.
@@ -82,7 +82,7 @@ fn float_found<'t>(text: &'t str, suffix: &'t str) -> Found {
     }
 }
 
-/// What reading the text as a number finds, an integer before a float.
+/// The reading of the text as a number, an integer before a float.
 #[inline(never)]
 fn find_number(text: &str) -> Option<Found> {
     // Each arm returns by itself: a value that both arms make would be copied once more, padding included.
@@ -94,7 +94,7 @@ fn find_number(text: &str) -> Option<Found> {
     }
 }
 
-/// What reading the text as the number after a minus finds: one without a sign of its own.
+/// The reading of the text as the number after a minus: one without a sign of its own.
 #[inline(always)]
 pub(crate) fn find_unsigned(text: &str) -> Option<Found> {
     if is_negative(text) {
@@ -103,7 +103,7 @@ pub(crate) fn find_unsigned(text: &str) -> Option<Found> {
     find_number(text)
 }
 
-/// What reading a minus and the text finds; its places count in the text with the minus.
+/// The reading of a minus and the text; its places count in the text with the minus.
 ///
 /// `Some` exactly where the text with a minus before it reads as a literal; it is then an integer or a float.
 pub fn find_negative(text: &str) -> Option<Found> {
@@ -117,7 +117,7 @@ pub fn find_negative(text: &str) -> Option<Found> {
     })
 }
 
-/// What reading the text as a truth value finds.
+/// The reading of the text as a truth value.
 pub(crate) fn find_truth(text: &str) -> Option<Found> {
     let truth = truth_of(text)?;
     Some(Found {
@@ -129,7 +129,7 @@ pub(crate) fn find_truth(text: &str) -> Option<Found> {
     })
 }
 
-/// What reading the text finds: `None` where it is no literal, or an integer past 128 bits. No
+/// The reading of the text: `None` where it is no literal, or an integer past 128 bits. No
 /// memory is taken.
 ///
 /// It is the reading of [`shape`](crate::grammar::shape), with all that was learned on the way.
@@ -148,7 +148,7 @@ pub fn find(text: &str) -> Option<Found> {
     find_word_or_quoted(text)
 }
 
-/// What reading the text as a quoted literal or a truth value finds.
+/// The reading of the text as a quoted literal or a truth value.
 #[inline(never)]
 fn find_word_or_quoted(text: &str) -> Option<Found> {
     let Some((form, kind, inside)) = split_opener(text) else {

@@ -8,6 +8,35 @@ use crate::tokens::characters::{is_xid_continue, is_xid_start};
 use crate::tokens::classes::{CharClass, skip_class};
 use crate::tokens::text::split_char;
 
+/// What of a number stands before the text in which a flaw is looked for.
+#[derive(Clone, Copy)]
+enum Before {
+    /// Digits that may be an integer.
+    Integer,
+    /// Digits that are an integer past 128 bits.
+    LargeInteger,
+    /// What only a float goes on with.
+    Float,
+}
+
+/// Digits of base ten, by what 128 bits hold of them.
+fn integer_of(magnitude: Option<u128>) -> Before {
+    match magnitude {
+        Some(_) => Before::Integer,
+        None => Before::LargeInteger,
+    }
+}
+
+/// Whether an integer may stand.
+fn is_integer(before: Before) -> bool {
+    !matches!(before, Before::Float)
+}
+
+/// Whether it is past 128 bits.
+fn is_large(before: Before) -> bool {
+    matches!(before, Before::LargeInteger)
+}
+
 /// The text from the first character on that no identifier goes on with.
 fn skip_word(text: &str) -> &str {
     skip_class(CharClass::SuffixContinue, text)
@@ -37,9 +66,9 @@ fn ends_or_begins_suffix(text: &str) -> bool {
     }
 }
 
-/// Of what follows the digits of a number, where a suffix may stand.
-fn suffix_flaw(past: bool, text: &str) -> FlawAt<'_> {
-    if past && ends_or_begins_suffix(text) {
+/// The first flaw after the digits of a number, where a suffix may stand.
+fn suffix_flaw(before: Before, text: &str) -> FlawAt<'_> {
+    if is_large(before) && ends_or_begins_suffix(text) {
         make_flaw(FlawKind::TooLarge, text)
     } else if begins_suffix(text) {
         make_flaw(FlawKind::BadSuffix, skip_word(text))
@@ -48,62 +77,62 @@ fn suffix_flaw(past: bool, text: &str) -> FlawAt<'_> {
     }
 }
 
-/// Of what follows the first characters of a suffix.
-fn suffix_word_flaw(past: bool, text: &str) -> FlawAt<'_> {
-    if past && ends_or_continues(text) {
+/// The first flaw after the first characters of a suffix.
+fn suffix_word_flaw(before: Before, text: &str) -> FlawAt<'_> {
+    if is_large(before) && ends_or_continues(text) {
         make_flaw(FlawKind::TooLarge, text)
     } else {
         make_flaw(FlawKind::BadSuffix, skip_word(text))
     }
 }
 
-/// Of what follows the sign of an exponent.
+/// The first flaw after an exponent's sign.
 fn signed_flaw(text: &str) -> FlawAt<'_> {
     let row = skip_row(text);
     if row.has_digit {
-        suffix_flaw(false, row.rest)
+        suffix_flaw(Before::Float, row.rest)
     } else {
         end_flaw(FlawKind::Unfinished, FlawKind::NoExponentDigit, row.rest)
     }
 }
 
-/// Of what follows the digits of an exponent without a sign; `integer` where no fraction stands before it.
-fn unsigned_flaw(integer: bool, past: bool, text: &str) -> FlawAt<'_> {
-    if integer && !begins_suffix(text) {
-        suffix_word_flaw(past, text)
+/// The first flaw after the digits of an exponent without a sign.
+fn unsigned_flaw(before: Before, text: &str) -> FlawAt<'_> {
+    if is_integer(before) && !begins_suffix(text) {
+        suffix_word_flaw(before, text)
     } else {
-        suffix_flaw(false, text)
+        suffix_flaw(Before::Float, text)
     }
 }
 
-/// Of what follows the letter of an exponent and its underscores.
-fn power_flaw(integer: bool, past: bool, text: &str) -> FlawAt<'_> {
+/// The first flaw after an exponent's letter and underscores.
+fn power_flaw(before: Before, text: &str) -> FlawAt<'_> {
     match split_char(text) {
         Some(('+' | '-', digits)) => signed_flaw(digits),
-        Some(('0'..='9', _)) => unsigned_flaw(integer, past, skip_row(text).rest),
-        _ => suffix_word_flaw(past, text),
+        Some(('0'..='9', _)) => unsigned_flaw(before, skip_row(text).rest),
+        _ => suffix_word_flaw(before, text),
     }
 }
 
-/// Of what follows the whole part, where no fraction begins, or the fraction.
-fn exponent_flaw(integer: bool, past: bool, text: &str) -> FlawAt<'_> {
+/// The first flaw after the whole part, where no fraction begins, or after the fraction.
+fn exponent_flaw(before: Before, text: &str) -> FlawAt<'_> {
     match split_char(text) {
         Some(('e' | 'E', power)) => {
-            power_flaw(integer, past, skip_class(CharClass::Underscore, power))
+            power_flaw(before, skip_class(CharClass::Underscore, power))
         }
-        _ => suffix_flaw(past, text),
+        _ => suffix_flaw(before, text),
     }
 }
 
-/// Of what follows the whole part in base ten.
-fn tail_flaw(past: bool, text: &str) -> FlawAt<'_> {
+/// The first flaw after the whole part in base ten, of this magnitude.
+fn tail_flaw(magnitude: Option<u128>, text: &str) -> FlawAt<'_> {
     match split_char(text) {
-        Some(('.', digits)) => exponent_flaw(false, false, skip_row(digits).rest),
-        _ => exponent_flaw(true, past, text),
+        Some(('.', digits)) => exponent_flaw(Before::Float, skip_row(digits).rest),
+        _ => exponent_flaw(integer_of(magnitude), text),
     }
 }
 
-/// Of what follows the prefix of another base.
+/// The first flaw after the prefix of another base.
 fn based_flaw(radix: u32, text: &str) -> FlawAt<'_> {
     let row = read_row(text, radix);
     if row.magnitude.is_none() && ends_or_begins_suffix(row.rest) {
@@ -113,18 +142,18 @@ fn based_flaw(radix: u32, text: &str) -> FlawAt<'_> {
     }
 }
 
-/// Of what follows a minus and begins with a digit.
+/// The first flaw of a number that begins with a digit.
 fn unsigned_number_flaw(text: &str) -> FlawAt<'_> {
     let (radix, digits) = split_radix(text);
     if radix == 10 {
         let row = read_row(digits, 10);
-        tail_flaw(row.magnitude.is_none(), row.rest)
+        tail_flaw(row.magnitude, row.rest)
     } else {
         based_flaw(radix, digits)
     }
 }
 
-/// Why a text that begins as a number is none, and the text from the place on.
+/// Why a text that begins as a number is none, and the text from there on.
 pub(crate) fn number_flaw(text: &str) -> FlawAt<'_> {
     let unsigned = after_minus(text);
     if begins_digit(unsigned) {

@@ -28,7 +28,7 @@ pub(crate) struct Head<'t> {
     pub row: DigitRow<'t>,
 }
 
-/// What a number begins with, by what stands after its sign.
+/// What a number begins with, from the text after its sign.
 #[inline(always)]
 fn head_of(unsigned: &str) -> Head<'_> {
     let (radix, digits) = split_radix(unsigned);
@@ -72,7 +72,7 @@ pub(crate) fn integer_of(head: Head<'_>) -> Option<Integer<'_>> {
     }
 }
 
-/// What follows a dot and its digits, or the text.
+/// The text after the dot and digits at its front, if a dot stands there.
 #[inline(always)]
 fn after_fraction(text: &str) -> &str {
     match split_char(text) {
@@ -91,7 +91,7 @@ fn power_digits(text: &str) -> &str {
     }
 }
 
-/// What follows an exponent, or the text.
+/// The text after the exponent at its front, if one stands there.
 #[inline(always)]
 fn after_exponent(text: &str) -> &str {
     if let Some(('e' | 'E', power)) = split_char(text) {

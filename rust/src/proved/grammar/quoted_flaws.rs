@@ -3,12 +3,12 @@
 
 use crate::grammar::flaws::{FlawAt, FlawKind, make_flaw};
 use crate::grammar::quoted_forms::{QuotedForm, skip_units, split_last_quote};
-use crate::grammar::units::{allows_code, has_unicode, unit};
+use crate::grammar::units::{CodeDigits, allows_code, code_digits, has_unicode, unit};
 use crate::tokens::Kind;
 use crate::tokens::classes::{CharClass, skip_class, skip_hashes};
 use crate::tokens::text::{after_prefix, before, split_char};
 
-/// Of what should be the second digit of `\x`, whose first one may stand there.
+/// The first flaw after the first digit of `\x`, which may stand there.
 fn low_digit_flaw(text: &str) -> FlawAt<'_> {
     match split_char(text) {
         None => make_flaw(FlawKind::Unclosed, text),
@@ -17,7 +17,7 @@ fn low_digit_flaw(text: &str) -> FlawAt<'_> {
     }
 }
 
-/// Of what should be the two digits of `\x`.
+/// The first flaw after `\x`.
 fn hex_flaw(kind: Kind, text: &str) -> FlawAt<'_> {
     let Some((first, rest)) = split_char(text) else {
         return make_flaw(FlawKind::Unclosed, text);
@@ -45,44 +45,34 @@ fn code_flaw(code: u32) -> FlawKind {
     }
 }
 
-/// Of what follows the first digit of `\u{`.
-fn digits_flaw(kind: Kind, text: &str, first: u32) -> FlawAt<'_> {
-    let mut value = first;
-    let mut digits = 1_u32;
-    let mut rest = text;
-    while let Some((next, after)) = split_char(rest) {
-        if let Some(digit) = next.to_digit(16) {
-            if digits == 6 {
-                return make_flaw(FlawKind::TooManyDigits, rest);
-            }
-            value = value * 16 + digit;
-            if digits == 5 && !is_code(kind, value) {
-                return make_flaw(code_flaw(value), rest);
-            }
-            digits += 1;
-        } else if next == '}' {
-            return make_flaw(code_flaw(value), rest);
-        } else if next != '_' {
-            return make_flaw(FlawKind::NoHexDigit, rest);
+/// The flaw of the digits of `\u{..}`, or the first one after them.
+fn digits_flaw<'t>(kind: Kind, digits: CodeDigits<'t>) -> FlawAt<'t> {
+    if digits.count == 6 && !is_code(kind, digits.value) {
+        return make_flaw(code_flaw(digits.value), digits.last);
+    }
+    match split_char(digits.rest) {
+        None => make_flaw(FlawKind::Unclosed, digits.rest),
+        Some(('}', _)) => make_flaw(code_flaw(digits.value), digits.rest),
+        Some((next, _)) if next.is_ascii_hexdigit() => {
+            make_flaw(FlawKind::TooManyDigits, digits.rest)
         }
-        rest = after;
+        Some(_) => make_flaw(FlawKind::NoHexDigit, digits.rest),
     }
-    make_flaw(FlawKind::Unclosed, rest)
 }
 
-/// Of what follows `\u{`.
+/// The first flaw after `\u{`.
 fn first_digit_flaw(kind: Kind, text: &str) -> FlawAt<'_> {
-    let Some((first, rest)) = split_char(text) else {
-        return make_flaw(FlawKind::Unclosed, text);
-    };
-    match first.to_digit(16) {
-        Some(digit) => digits_flaw(kind, rest, digit),
-        None if first == '}' => make_flaw(FlawKind::EmptyBraces, text),
-        None => make_flaw(FlawKind::NoHexDigit, text),
+    if let Some(digits) = code_digits(text) {
+        return digits_flaw(kind, digits);
+    }
+    match split_char(text) {
+        None => make_flaw(FlawKind::Unclosed, text),
+        Some(('}', _)) => make_flaw(FlawKind::EmptyBraces, text),
+        Some(_) => make_flaw(FlawKind::NoHexDigit, text),
     }
 }
 
-/// Of what follows `\u`.
+/// The first flaw after `\u`.
 fn unicode_flaw(kind: Kind, text: &str) -> FlawAt<'_> {
     match split_char(text) {
         None => make_flaw(FlawKind::Unclosed, text),
@@ -91,7 +81,7 @@ fn unicode_flaw(kind: Kind, text: &str) -> FlawAt<'_> {
     }
 }
 
-/// Of what follows a backslash.
+/// The first flaw after a backslash.
 fn escape_flaw(kind: Kind, text: &str) -> FlawAt<'_> {
     match split_char(text) {
         None => make_flaw(FlawKind::Unclosed, text),
@@ -108,7 +98,7 @@ fn escape_flaw(kind: Kind, text: &str) -> FlawAt<'_> {
     }
 }
 
-/// Of what follows a CR.
+/// The flaw after a CR.
 fn line_end_flaw(text: &str) -> FlawAt<'_> {
     match split_char(text) {
         None => make_flaw(FlawKind::Unclosed, text),
@@ -126,7 +116,7 @@ fn character_flaw(c: char) -> FlawKind {
     }
 }
 
-/// Why no unit of the kind stands at the front, where none does, and the text from the place on.
+/// Why no unit of the kind stands at the front, and the text from there on.
 fn unit_flaw(kind: Kind, text: &str) -> FlawAt<'_> {
     match split_char(text) {
         None => make_flaw(FlawKind::Unclosed, text),
@@ -172,7 +162,7 @@ fn spoiled_flaw(kind: Kind) -> FlawKind {
     }
 }
 
-/// Of what follows the first quote.
+/// The flaw of a raw string after its first quote.
 fn opened_flaw<'t>(kind: Kind, hashes: &str, inside: &'t str) -> FlawAt<'t> {
     let (body, rest) = split_raw(kind, inside);
     let Some((_, after)) = split_char(rest) else {
@@ -185,7 +175,7 @@ fn opened_flaw<'t>(kind: Kind, hashes: &str, inside: &'t str) -> FlawAt<'t> {
     }
 }
 
-/// Of what follows the opener of a raw string.
+/// The flaw of a raw string, from its hashes on.
 fn raw_flaw(kind: Kind, text: &str) -> FlawAt<'_> {
     let rest = skip_hashes(text);
     let Some((first, inside)) = split_char(rest) else {
@@ -198,7 +188,7 @@ fn raw_flaw(kind: Kind, text: &str) -> FlawAt<'_> {
     }
 }
 
-/// Of what follows the opener of a string with escapes.
+/// The flaw of a string with escapes, after its opener.
 fn cooked_flaw(kind: Kind, text: &str) -> FlawAt<'_> {
     let piece = skip_units(kind, text);
     unit_flaw(kind, piece).in_piece(piece)
@@ -215,7 +205,7 @@ fn after_unit_flaw(text: &str, rest: &str) -> FlawKind {
     }
 }
 
-/// Of what follows the opener of a character or a byte.
+/// The flaw of a character or a byte, after its opener.
 fn single_flaw(kind: Kind, text: &str) -> FlawAt<'_> {
     match unit(kind, text) {
         None => unit_flaw(kind, text).in_piece(text),
@@ -223,7 +213,7 @@ fn single_flaw(kind: Kind, text: &str) -> FlawAt<'_> {
     }
 }
 
-/// Of what follows the opener of a quoted literal.
+/// The flaw of a quoted literal, after its opener.
 pub(crate) fn quoted_flaw(form: QuotedForm, kind: Kind, text: &str) -> FlawAt<'_> {
     match form {
         QuotedForm::Cooked => cooked_flaw(kind, text),

@@ -28,7 +28,7 @@ fn quote_of(kind: Kind) -> u8 {
     opener[opener.len() - 1]
 }
 
-/// What a quote or an `r` at the front tells of a string of the kind.
+/// The form of a string of the kind, by the quote or the `r` at the front, and the text after that.
 #[inline(always)]
 fn split_string_opener(kind: Kind, text: &str) -> Option<(QuotedForm, Kind, &str)> {
     match split_ascii(text) {
@@ -38,7 +38,7 @@ fn split_string_opener(kind: Kind, text: &str) -> Option<(QuotedForm, Kind, &str
     }
 }
 
-/// What the text after a `b` tells.
+/// The form and kind of a literal by the text after its `b`, and the text after the opener.
 fn split_byte_opener(text: &str) -> Option<(QuotedForm, Kind, &str)> {
     match split_ascii(text) {
         Some((first, rest)) if first == quote_of(Kind::Byte) => {
@@ -48,7 +48,7 @@ fn split_byte_opener(text: &str) -> Option<(QuotedForm, Kind, &str)> {
     }
 }
 
-/// What a text's opener tells: the one form and the one kind that the text can have, and the text after the opener.
+/// The one form and the one kind that a text can have by its opener, and the text after the opener.
 #[inline(always)]
 pub(crate) fn split_opener(text: &str) -> Option<(QuotedForm, Kind, &str)> {
     let (first, rest) = split_ascii(text)?;
@@ -118,7 +118,7 @@ fn quoted(kind: Kind, body: Body, unit: u32) -> Found {
     }
 }
 
-/// What reading the text finds as a cooked string, from the text after its opener.
+/// The reading of the text as a string with escapes, by the text after its opener.
 #[inline(always)]
 pub(crate) fn find_cooked(kind: Kind, text: &str, inside: &str) -> Option<Found> {
     // Strings of all kinds close alike: the quote of a named kind is known when this is compiled.
@@ -146,7 +146,7 @@ fn raw_places(kind: Kind, text: &str, inside: &str) -> Option<Body> {
     Some(places(text, opened, closer, suffix, true))
 }
 
-/// What reading the text finds as a raw string, from its hashes on.
+/// The reading of the text as a raw string, by the text from its hashes on.
 #[inline(always)]
 pub(crate) fn find_raw(kind: Kind, text: &str, inside: &str) -> Option<Found> {
     // The call gives places alone, since what a call finds would be copied once more.
@@ -163,7 +163,7 @@ fn holds_all(kind: Kind, text: &str) -> bool {
     }
 }
 
-/// What reading the text finds as a character or a byte, from the text after its opener.
+/// The reading of the text as a character or a byte, by the text after its opener.
 #[inline(always)]
 pub(crate) fn find_single(kind: Kind, text: &str, inside: &str) -> Option<Found> {
     let (piece, closer) = unit(kind, inside)?;
@@ -195,7 +195,7 @@ pub(crate) fn find_bare_character(text: &str) -> Option<Found> {
     Some(quoted(Kind::Char, body, bytes[1] as u32))
 }
 
-/// What reading the text as a character finds, which a `'` begins.
+/// The reading of a text that begins with a `'`.
 #[inline(never)]
 pub(crate) fn find_character(text: &str) -> Option<Found> {
     find_single(Kind::Char, text, &text[1..])

@@ -4,7 +4,7 @@
 use crate::grammar::found::{Found, find};
 use crate::tokens::{LexError, SourceToken, Sources};
 
-/// What stands next in a source, tokens that are no literals aside.
+/// The next literal of a source, or its end.
 #[derive(Clone, Copy)]
 pub enum SourceStep<'t> {
     /// No literal: the source ends.

@@ -60,7 +60,7 @@ fn is_number_suffix(text: &str) -> bool {
     !matches!(split_char(text), Some(('_', _))) && is_suffix(text)
 }
 
-/// What follows a sign, or the text.
+/// The text after the sign at its front, if one stands there.
 fn after_sign(text: &str) -> &str {
     match split_char(text) {
         Some(('+' | '-', rest)) => rest,
@@ -206,7 +206,7 @@ fn is_raw_character(kind: Kind, c: char) -> bool {
 }
 
 /// The text after the closer that begins with the character, if the hashes follow it.
-fn behind_closer<'t>(hashes: &str, c: char, after: &'t str) -> Option<&'t str> {
+fn after_closer<'t>(hashes: &str, c: char, after: &'t str) -> Option<&'t str> {
     if c == '"' {
         after_prefix(hashes, after)
     } else {
@@ -229,7 +229,7 @@ fn skip_inside(kind: Kind, text: &str) -> &str {
 fn ends_raw(kind: Kind, hashes: &str, text: &str) -> bool {
     let mut rest = skip_inside(kind, text);
     while let Some((c, after)) = split_char(rest) {
-        if let Some(suffix) = behind_closer(hashes, c, after) {
+        if let Some(suffix) = after_closer(hashes, c, after) {
             return is_suffix(suffix);
         }
         if !is_raw_character(kind, c) {

@@ -100,27 +100,61 @@ fn hex_escape(kind: Kind, text: &str) -> Option<(u8, &str)> {
     }
 }
 
-/// What follows the first digit of `\u{`: the character of all the digits, and the text after the brace.
+/// The digits of `\u{..}`, with underscores between and after them.
+#[derive(Clone, Copy)]
+pub(crate) struct CodeDigits<'t> {
+    /// The number that they spell.
+    pub value: u32,
+    /// How many they are, at most six.
+    pub count: u32,
+    /// The text from the last of them on.
+    pub last: &'t str,
+    /// The text after the digits and underscores.
+    pub rest: &'t str,
+}
+
+/// The digits of a number whose first one stands before the text, and where it stands: up to the sixth, and underscores.
 #[inline(always)]
-fn more_digits(text: &str, first: u32) -> Option<(char, &str)> {
+fn more_digits<'t>(first: u32, from: &'t str, text: &'t str) -> CodeDigits<'t> {
     let mut value = first;
-    let mut digits = 1_u32;
+    let mut count = 1_u32;
+    let mut last = from;
     let mut rest = text;
     while let Some((next, after)) = split_ascii(rest) {
-        rest = after;
         if let Some(digit) = (next as char).to_digit(16) {
-            if digits == 6 {
-                return None;
+            if count == 6 {
+                break;
             }
             value = value * 16 + digit;
-            digits += 1;
-        } else if next == b'}' {
-            return Some((char::from_u32(value)?, rest));
+            count += 1;
+            last = rest;
         } else if next != b'_' {
-            return None;
+            break;
         }
+        rest = after;
     }
-    None
+    CodeDigits {
+        value,
+        count,
+        last,
+        rest,
+    }
+}
+
+/// The digits after `\u{`, if one stands there.
+#[inline(always)]
+pub(crate) fn code_digits(text: &str) -> Option<CodeDigits<'_>> {
+    let (first, after) = digit(text)?;
+    Some(more_digits(first, text, after))
+}
+
+/// The character of the digits, and the text after the brace that closes them.
+#[inline(always)]
+fn closed_code(digits: CodeDigits<'_>) -> Option<(char, &str)> {
+    let Some((b'}', rest)) = split_ascii(digits.rest) else {
+        return None;
+    };
+    Some((char::from_u32(digits.value)?, rest))
 }
 
 /// The character of `\u{..}` from its brace on, and the text after it.
@@ -129,8 +163,7 @@ fn unicode_escape(kind: Kind, text: &str) -> Option<(char, &str)> {
     let Some((b'{', inside)) = split_ascii(text) else {
         return None;
     };
-    let (first, rest) = digit(inside)?;
-    let (c, rest) = more_digits(rest, first)?;
+    let (c, rest) = closed_code(code_digits(inside)?)?;
     if has_unicode(kind) && allows_code(kind, c as u32) {
         Some((c, rest))
     } else {

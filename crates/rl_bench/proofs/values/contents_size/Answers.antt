@@ -28,7 +28,7 @@ returns-in-Ok-bytes_of_body c =
 
 pub returns-in-Ok : goal.returns-in-Ok
 returns-in-Ok c =
-    string_size c.args.found.now.kind c.args.text.now c.body_in.result.now (string_bytes c.in-Ok.value) c.args.found.now.body.plain c.text_size.result c.in-Str.is c.utf8.text (c.body_in.ensures.string c.requires (ap is_string c.in-Str.is)) c.in-Ok.ensures.value
+    string_size c.args.found.now.kind c.args.text.now c.body_in.result.now (string_bytes c.in-Ok.value) c.args.found.now.body.plain c.text_size.result c.in-Str.is (c.body_in.ensures.string c.requires (ap is_string c.in-Str.is)) c.in-Ok.ensures.value
     (c.text_size.ensures ∙ ap (λ bs. byte_len (chars bs)) c.as_str.ensures.value)
 
 pub returns-in-Char : goal.returns-in-Char

@@ -1,4 +1,5 @@
-use Rattle.std.proofs.Common.{ℕ, Vec, sym}
+use Rattle.rl_grammar.proofs.Names.{ℕ, sym}
+use Rattle.std.proofs.Common.{Vec}
 use Rattle.rl_grammar.proofs.BodyContents.{ok_plain, ok_decoded}
 use Rattle.rl_grammar.proofs.contents.body_bytes.Goals as goal
 

@@ -1,4 +1,4 @@
-use Rattle.std.proofs.Common.{sym}
+use Rattle.rl_grammar.proofs.Names.{sym}
 use Rattle.rl_grammar.proofs.SingleBodies.{body_stands, body_one, body_reads}
 use Rattle.rl_grammar.proofs.contents.body_unit.Goals as goal
 

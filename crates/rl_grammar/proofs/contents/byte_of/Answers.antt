@@ -1,6 +1,5 @@
-use Rattle.std.proofs.Common.{◌<◌, arith, refl}
-use Rattle.rl_tokens.specs.declared.kind.Kind.TheVariants.{Byte}
-use Rattle.rl_grammar.proofs.FoundContents.{contents_are, unit_of}
+use Rattle.rl_grammar.proofs.Names.{◌<◌, arith, refl, Byte}
+use Rattle.rl_grammar.proofs.FoundContents.{unit_of}
 use Rattle.rl_grammar.proofs.contents.byte_of.Goals as goal
 
 pub found_in-requires : goal.found_in-requires
@@ -11,9 +10,6 @@ overflow_cast-result c =
     let f = c.found_in.ensures in
     let small : c.found_in.result.unit < 256 = (unit_of Byte _ _ (f.kind Byte c.requires) refl f.found).byte refl in omega arith
 
-pub returns-clause-reads : goal.returns-clause-reads
-returns-clause-reads c =
-    let f = c.found_in.ensures in (unit_of Byte _ _ (f.kind Byte c.requires) refl f.found).reads
-
-pub returns-clause-value : goal.returns-clause-value
-returns-clause-value c = contents_are Byte Byte _ _ (returns-clause-reads c)
+pub returns : goal.returns
+returns c =
+    let f = c.found_in.ensures in record { reads = (unit_of Byte _ _ (f.kind Byte c.requires) refl f.found).reads }

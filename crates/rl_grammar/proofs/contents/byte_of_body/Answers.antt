@@ -1,4 +1,4 @@
-use Rattle.std.proofs.Common.{◌<◌, arith, refl}
+use Rattle.rl_grammar.proofs.Names.{◌<◌, arith, refl}
 use Rattle.rl_grammar.proofs.contents.byte_of_body.Goals as goal
 
 pub overflow_cast-result : goal.overflow_cast-result

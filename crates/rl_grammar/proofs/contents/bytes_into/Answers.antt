@@ -1,4 +1,4 @@
-use Rattle.std.proofs.Common.{sym}
+use Rattle.rl_grammar.proofs.Names.{sym}
 use Rattle.rl_grammar.proofs.BodyContents.{bytes_of_has}
 use Rattle.rl_grammar.proofs.ContentLemmas.{cooked_bytes, not_raw}
 use Rattle.rl_grammar.proofs.contents.bytes_into.Goals as goal

@@ -1,7 +1,5 @@
-use Rattle.std.proofs.Common.{inl, inr}
-use Rattle.std.proofs.lemmas.Result.{IfOk-weaker}
-use Rattle.rl_tokens.specs.declared.kind.Kind.TheVariants.{ByteStr, CStr}
-use Rattle.rl_grammar.proofs.FoundContents.{bytes_body, contents_are, one_of_two}
+use Rattle.rl_grammar.proofs.Names.{inl, inr, IfOk-weaker, ByteStr, CStr}
+use Rattle.rl_grammar.proofs.FoundContents.{bytes_body, one_of_two}
 use Rattle.rl_grammar.proofs.contents.bytes_of.Goals as goal
 
 pub found_in-found-requires : goal.found_in-found-requires
@@ -16,18 +14,6 @@ pub bytes_of_body-requires-clause-body : goal.bytes_of_body-requires-clause-body
 bytes_of_body-requires-clause-body g c =
     let f = c.found_in-found.ensures in
     (_, bytes_body _ _ _ c.body_in.ensures.body f.kind f.found c.requires)
-
-pub returns-clause-byte_string : goal.returns-clause-byte_string
-returns-clause-byte_string g c =
-    let f = c.found_in-found.ensures in
-    let has = bytes_body _ _ _ c.body_in.ensures.body f.kind f.found c.requires in
-    IfOk-weaker c.bytes_of_body.result _ _ (λ b h. contents_are _ ByteStr _ _ (h _ has)) c.bytes_of_body.ensures.value
-
-pub returns-clause-c_string : goal.returns-clause-c_string
-returns-clause-c_string g c =
-    let f = c.found_in-found.ensures in
-    let has = bytes_body _ _ _ c.body_in.ensures.body f.kind f.found c.requires in
-    IfOk-weaker c.bytes_of_body.result _ _ (λ b h. contents_are _ CStr _ _ (h _ has)) c.bytes_of_body.ensures.value
 
 pub returns-clause-reads : goal.returns-clause-reads
 returns-clause-reads g c =

@@ -1,8 +1,6 @@
-use Rattle.std.proofs.Common.{[], ◌∷◌, refl, subst, sym}
+use Rattle.rl_grammar.proofs.Names.{[], ◌∷◌, refl, subst, sym, Char, Characters, HasContents}
 use Rattle.std.specs.Str.{chars}
-use Rattle.rl_tokens.specs.declared.kind.Kind.TheVariants.{Char}
-use Rattle.rl_tokens.specs.Reading.{Characters, HasContents}
-use Rattle.rl_grammar.proofs.FoundContents.{contents_are, unit_of}
+use Rattle.rl_grammar.proofs.FoundContents.{unit_of}
 use Rattle.rl_grammar.proofs.contents.char_of.Goals as goal
 
 pub found_in-requires : goal.found_in-requires
@@ -12,10 +10,7 @@ pub from_u32_unchecked-requires : goal.from_u32_unchecked-requires
 from_u32_unchecked-requires c =
     let f = c.found_in.ensures in (unit_of Char _ _ (f.kind Char c.requires) refl f.found).character refl
 
-pub returns-clause-reads : goal.returns-clause-reads
-returns-clause-reads c =
+pub returns : goal.returns
+returns c =
     let f = c.found_in.ensures in
-    subst (λ n. HasContents Char (chars c.args.text.now) (Characters (n ∷ []))) (sym c.from_u32_unchecked.ensures) (unit_of Char _ _ (f.kind Char c.requires) refl f.found).reads
-
-pub returns-clause-value : goal.returns-clause-value
-returns-clause-value c = contents_are Char Char _ _ (returns-clause-reads c)
+    record { reads = subst (λ n. HasContents Char (chars c.args.text.now) (Characters (n ∷ []))) (sym c.from_u32_unchecked.ensures) (unit_of Char _ _ (f.kind Char c.requires) refl f.found).reads }

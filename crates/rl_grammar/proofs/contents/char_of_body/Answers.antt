@@ -1,6 +1,4 @@
-use Rattle.std.proofs.Common.{[], ◌∷◌, refl, subst, sym}
-use Rattle.rl_tokens.specs.declared.kind.Kind.TheVariants.{Char}
-use Rattle.rl_tokens.specs.Reading.{Characters, HasContents}
+use Rattle.rl_grammar.proofs.Names.{[], ◌∷◌, refl, subst, sym, Char, Characters, HasContents}
 use Rattle.rl_grammar.proofs.contents.char_of_body.Goals as goal
 
 pub from_u32_unchecked-requires : goal.from_u32_unchecked-requires

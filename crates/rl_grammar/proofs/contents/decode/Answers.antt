@@ -1,5 +1,4 @@
-use Rattle.std.proofs.lemmas.Grind.{common_steps}
-use Rattle.std.proofs.Common.{arith}
+use Rattle.rl_grammar.proofs.Names.{common_steps, arith}
 use Rattle.rl_grammar.proofs.contents.decode.Goals as goal
 
 pub returns-in_err-bytes : goal.returns-in_err-bytes

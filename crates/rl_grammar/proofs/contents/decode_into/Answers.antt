@@ -1,5 +1,5 @@
-use Rattle.std.proofs.Common.{◌≡◌, ◌∙◌, ◌≤◌, None, length, arith, rules}
-use Rattle.std.specs.Str.{chars, IsUtf8}
+use Rattle.rl_grammar.proofs.Names.{◌≡◌, ◌∙◌, ◌≤◌, None, length, arith, rules, IsUtf8}
+use Rattle.std.specs.Str.{chars}
 use Rattle.rl_grammar.specs.Mirrors.UnitAt.{unit_at}
 use Rattle.rl_grammar.proofs.RoomLemmas.{run_room, run_filled, piece_room, piece_filled}
 use Rattle.rl_grammar.proofs.contents.decode_into.Goals as goal

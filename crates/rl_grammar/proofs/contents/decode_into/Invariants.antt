@@ -1,5 +1,5 @@
 -- What was passed stands in the buffer, and the rest has room after it.
-use Rattle.std.proofs.Common.{◌≡◌, length}
+use Rattle.rl_grammar.proofs.Names.{◌≡◌, length}
 use denote.Text.{Utf8}
 use denote.Shadow.{shadow}
 use Rattle.rl_grammar.proofs.RoomLemmas.{IsFilled}

@@ -1,4 +1,4 @@
-use Rattle.std.proofs.Common.{rules}
+use Rattle.rl_grammar.proofs.Names.{rules}
 use Rattle.rl_grammar.proofs.contents.is_plain.Goals as goal
 
 pub returns-in-Float : goal.returns-in-Float

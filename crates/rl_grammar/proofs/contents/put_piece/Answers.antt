@@ -1,4 +1,4 @@
-use Rattle.std.proofs.Common.{rules}
+use Rattle.rl_grammar.proofs.Names.{rules}
 use Rattle.rl_grammar.proofs.contents.put_piece.Goals as goal
 
 pub returns-in-Byte-clause-bytes : goal.returns-in-Byte-clause-bytes

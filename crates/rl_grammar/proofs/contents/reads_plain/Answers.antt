@@ -1,7 +1,6 @@
-use Rattle.std.proofs.Common.{◌≡◌, sym, subst, ◌∙◌}
+use Rattle.rl_grammar.proofs.Names.{◌≡◌, sym, subst, ◌∙◌, Kind}
 use denote.Enum.Bare.{true_same}
 use Rattle.rl_tokens.specs.contracts.kind.Kind.{the_type}
-use Rattle.rl_tokens.specs.declared.kind.Kind.{Kind}
 use Rattle.rl_grammar.specs.WholeShapes.{IsPlain}
 use Rattle.rl_grammar.proofs.FoundLemmas.{kinds_same}
 use Rattle.rl_grammar.proofs.FoundContents.{plain_found, plain_none}

@@ -1,14 +1,13 @@
-use Rattle.std.proofs.Common.{sym}
-use Rattle.rl_tokens.specs.declared.kind.Kind.TheVariants.{Str}
+use Rattle.rl_grammar.proofs.Names.{sym, Str}
 use Rattle.rl_grammar.proofs.BodyContents.{str_of_has}
 use Rattle.rl_grammar.proofs.ContentLemmas.{cooked_bytes, not_raw}
 use Rattle.rl_grammar.proofs.contents.str_into.Goals as goal
 
 pub returns-clause-value : goal.returns-clause-value
-returns-clause-value c = λ t has u.
-    (str_of_has t _ _ _ has u (cooked_bytes _ has.form Str has.value _ has.suffix _ (not_raw has.form Str _ (sym has.plain_is)) has.parts c.decode_into.ensures.decodes)).1
+returns-clause-value c = λ t has.
+    (str_of_has t _ _ _ has c.utf8.body (cooked_bytes _ has.form Str has.value _ has.suffix _ (not_raw has.form Str _ (sym has.plain_is)) has.parts c.decode_into.ensures.decodes)).1
 
 pub returns-clause-utf8 : goal.returns-clause-utf8
 returns-clause-utf8 c =
-    let (t, has, u) = c.requires.body in
-    (str_of_has t _ _ _ has u (cooked_bytes _ has.form Str has.value _ has.suffix _ (not_raw has.form Str _ (sym has.plain_is)) has.parts c.decode_into.ensures.decodes)).0
+    let (t, has) = c.requires.body in
+    (str_of_has t _ _ _ has c.utf8.body (cooked_bytes _ has.form Str has.value _ has.suffix _ (not_raw has.form Str _ (sym has.plain_is)) has.parts c.decode_into.ensures.decodes)).0

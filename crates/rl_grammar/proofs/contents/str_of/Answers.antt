@@ -1,7 +1,5 @@
-use Rattle.std.proofs.Common.{refl}
-use Rattle.std.proofs.lemmas.Result.{IfOk-weaker}
-use Rattle.rl_tokens.specs.declared.kind.Kind.TheVariants.{Str}
-use Rattle.rl_grammar.proofs.FoundContents.{contents_are, string_body}
+use Rattle.rl_grammar.proofs.Names.{refl, IfOk-weaker, Str}
+use Rattle.rl_grammar.proofs.FoundContents.{string_body}
 use Rattle.rl_grammar.proofs.contents.str_of.Goals as goal
 
 pub found_in-found-requires : goal.found_in-found-requires
@@ -10,13 +8,10 @@ found_in-found-requires g c = (Str, c.requires)
 pub str_of_body-requires : goal.str_of_body-requires
 str_of_body-requires g c =
     let f = c.found_in-found.ensures in
-    (c.args.text.now, string_body Str _ _ _ c.body_in.ensures.body (f.kind Str c.requires) refl f.found, c.utf8.text)
+    (_, string_body Str _ _ _ c.body_in.ensures.body (f.kind Str c.requires) refl f.found)
 
 pub returns-clause-reads : goal.returns-clause-reads
 returns-clause-reads g c =
     let f = c.found_in-found.ensures in
     let has = string_body Str _ _ _ c.body_in.ensures.body (f.kind Str c.requires) refl f.found in
-    IfOk-weaker c.str_of_body.result _ _ (λ s h. h c.args.text.now has c.utf8.text) c.str_of_body.ensures.value
-
-pub returns-clause-value : goal.returns-clause-value
-returns-clause-value g c = IfOk-weaker c.str_of_body.result _ _ (λ s h. contents_are Str Str _ _ h) (returns-clause-reads g c)
+    IfOk-weaker c.str_of_body.result _ _ (λ s h. h _ has) c.str_of_body.ensures.value

@@ -1,16 +1,15 @@
-use Rattle.std.proofs.Common.{◌≡◌, string_bytes, subst, rules}
+use Rattle.rl_grammar.proofs.Names.{◌≡◌, subst, rules, Str, Characters, HasContents}
+use Rattle.std.proofs.Common.{string_bytes}
 use Rattle.std.specs.Str.{chars}
-use Rattle.rl_tokens.specs.declared.kind.Kind.TheVariants.{Str}
-use Rattle.rl_tokens.specs.Reading.{Characters, HasContents}
 use Rattle.rl_grammar.proofs.BodyContents.{str_of_has}
 use Rattle.rl_grammar.proofs.contents.str_of_body.Goals as goal
 
 pub from_utf8_unchecked-requires : goal.from_utf8_unchecked-requires
 from_utf8_unchecked-requires g c =
-    let (t, has, u) = c.requires in
-    (str_of_has t _ _ _ has u (c.in_ok-value.ensures (chars t) has)).0
+    let (t, has) = c.requires in
+    (str_of_has t _ _ _ has c.utf8.body (c.in_ok-value.ensures t has)).0
 
 pub returns-clause-value : goal.returns-clause-value
-returns-clause-value g c = λ t has u.
+returns-clause-value g c = λ t has.
     let same : c.in_ok-value.value.items ≡ string_bytes c.from_utf8_unchecked.result = search rules in
-    subst (λ z. HasContents Str (chars t) (Characters (chars z))) same (str_of_has t _ _ _ has u (c.in_ok-value.ensures (chars t) has)).1
+    subst (λ z. HasContents Str t (Characters (chars z))) same (str_of_has t _ _ _ has c.utf8.body (c.in_ok-value.ensures t has)).1

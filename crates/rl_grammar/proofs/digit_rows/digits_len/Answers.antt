@@ -1,7 +1,4 @@
-use Rattle.std.proofs.Common.{◌≡◌, ◌<◌, None, true, nat_lt, arith, ap, sym, refl, ◌∙◌, drop, get_or, ◌+◌}
-use Rattle.std.proofs.lemmas.Bool.Decides.{nat_tests}
-use Rattle.std.proofs.lemmas.Str.{IsCharBoundary-start}
-use Rattle.std.specs.Char.{digit_value}
+use Rattle.rl_grammar.proofs.Names.{◌≡◌, ◌<◌, None, true, nat_lt, arith, ap, sym, refl, ◌∙◌, drop, get_or, ◌+◌, nat_tests, IsCharBoundary-start, digit_value}
 use Rattle.rl_grammar.specs.Mirrors.NumberAt.{row_from}
 use Rattle.rl_grammar.proofs.RowBytes.{digit_cuts, is_digit, row_goes}
 use Rattle.rl_grammar.proofs.digit_rows.digits_len.Goals as goal

@@ -1,7 +1,4 @@
-use Rattle.std.proofs.lemmas.Grind.{common_steps}
-use Rattle.std.proofs.Common.{◌≡◌, ◌<◌, ◌*◌, Some, true, nat_lt, arith, ap, sym, subst, refl, ◌∙◌, drop, ◌+◌}
-use Rattle.std.proofs.lemmas.Bool.Decides.{nat_tests}
-use Rattle.std.proofs.lemmas.Str.{IsCharBoundary-start}
+use Rattle.rl_grammar.proofs.Names.{common_steps, ◌≡◌, ◌<◌, ◌*◌, Some, true, nat_lt, arith, ap, sym, subst, refl, ◌∙◌, drop, ◌+◌, nat_tests, IsCharBoundary-start}
 use Rattle.rl_grammar.specs.Mirrors.NumberAt.{row_from}
 use Rattle.rl_grammar.proofs.RowBytes.{digit_cuts, row_goes}
 use Rattle.rl_grammar.proofs.TallyLemmas.{stays_small, append_small}

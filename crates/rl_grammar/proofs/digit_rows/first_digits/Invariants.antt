@@ -1,6 +1,5 @@
-use Rattle.std.proofs.Common.{◌≡◌, ◌<◌, Some, false, length, drop, nat_lt}
+use Rattle.rl_grammar.proofs.Names.{◌≡◌, ◌<◌, Some, false, length, drop, nat_lt, IsCharBoundary}
 use Rattle.std.specs.Prelude.{◌-◌}
-use Rattle.std.specs.Str.{IsCharBoundary}
 use Rattle.rl_grammar.specs.Mirrors.NumberAt.{row_from}
 use Rattle.rl_grammar.proofs.digit_rows.first_digits.Given as goal
 

@@ -1,5 +1,5 @@
-use Rattle.std.proofs.Common.{Some, true, false, nat_lt, arith, ap, sym, subst, ◌∙◌, drop, ◌+◌}
-use Rattle.std.specs.Str.{chars, IsCharBoundary}
+use Rattle.rl_grammar.proofs.Names.{Some, true, false, nat_lt, arith, ap, sym, subst, ◌∙◌, drop, ◌+◌, IsCharBoundary}
+use Rattle.std.specs.Str.{chars}
 use Rattle.rl_grammar.specs.Mirrors.NumberAt.{row_from}
 use Rattle.rl_grammar.proofs.DigitRowLemmas.{row_start}
 use Rattle.rl_grammar.proofs.RowBytes.{digit_cuts, mark_cuts, row_mark, row_goes, row_stops, row_ends, row_read}

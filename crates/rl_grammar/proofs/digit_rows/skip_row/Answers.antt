@@ -1,5 +1,5 @@
-use Rattle.std.proofs.Common.{◌≡◌, Bool, ℕ, Option, List, None, false, nat_lt, refl, arith, ap, sym, subst, ◌∙◌, drop, get_or, ◌+◌}
-use Rattle.std.specs.Str.{chars, IsCharBoundary}
+use Rattle.rl_grammar.proofs.Names.{◌≡◌, Bool, ℕ, Option, List, None, false, nat_lt, refl, arith, ap, sym, subst, ◌∙◌, drop, get_or, ◌+◌, IsCharBoundary}
+use Rattle.std.specs.Str.{chars}
 use Rattle.rl_tokens.proofs.Rests.{behind_drop}
 use Rattle.rl_grammar.specs.Mirrors.NumberAt.{row_from}
 use Rattle.rl_grammar.proofs.DigitRowLemmas.{row_skipped}

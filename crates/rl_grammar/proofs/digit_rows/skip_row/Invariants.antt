@@ -1,6 +1,5 @@
-use Rattle.std.proofs.Common.{◌≡◌, None, false, length, drop}
+use Rattle.rl_grammar.proofs.Names.{◌≡◌, None, false, length, drop, IsCharBoundary}
 use Rattle.std.specs.Prelude.{◌-◌}
-use Rattle.std.specs.Str.{IsCharBoundary}
 use Rattle.rl_grammar.specs.Mirrors.NumberAt.{row_from}
 use Rattle.rl_grammar.proofs.digit_rows.skip_row.Given as goal
 

@@ -1,6 +1,4 @@
-use Rattle.std.proofs.Common.{ap, ◌∙◌}
-use Rattle.std.specs.Char.{is_ascii_digit}
-use Rattle.std.specs.List.{list_all}
+use Rattle.rl_grammar.proofs.Names.{ap, ◌∙◌, is_ascii_digit, list_all}
 use Rattle.rl_grammar.proofs.RowBytes.{digits_same}
 use Rattle.rl_grammar.proofs.digits.all_digits.Goals as goal
 

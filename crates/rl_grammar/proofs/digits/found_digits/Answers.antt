@@ -1,7 +1,6 @@
-use Rattle.std.proofs.Common.{ap, string_bytes, ◌∙◌}
+use Rattle.rl_grammar.proofs.Names.{ap, ◌∙◌, float_digits, IfOk-weaker}
+use Rattle.std.proofs.Common.{string_bytes}
 use Rattle.std.specs.Str.{chars}
-use Rattle.rl_tokens.specs.Numbers.{float_digits}
-use Rattle.std.proofs.lemmas.Result.{IfOk-weaker}
 use Rattle.rl_grammar.specs.Founds.{body_in}
 use Rattle.rl_grammar.proofs.NumberFoundLemmas.{plain_digits, written_digits, numeral_digits}
 use Rattle.rl_grammar.proofs.PlainNumberLemmas.{held}

@@ -1,5 +1,4 @@
-use Rattle.std.proofs.Common.{inl, sym, ◌∙◌, inr}
-use Rattle.rl_tokens.specs.declared.kind.Kind.TheVariants.{Int}
+use Rattle.rl_grammar.proofs.Names.{inl, sym, ◌∙◌, inr, Int}
 use Rattle.rl_grammar.proofs.NumberFoundLemmas.{int_number, is_float, float_kind}
 use Rattle.rl_grammar.proofs.digits.found_number.Goals as goal
 

@@ -1,7 +1,6 @@
-use Rattle.std.proofs.Common.{◌≡◌, ◌∙◌, ◌+◌, ◌∷◌, [], ◌++◌, length, ap, sym, append_assoc, append-nil, arith, rules, length-append}
-use Rattle.std.specs.Prelude.{encode_utf8, encode_utf8_all}
+use Rattle.rl_grammar.proofs.Names.{◌≡◌, ◌∙◌, ◌+◌, ◌∷◌, [], ◌++◌, length, ap, sym, append_assoc, append-nil, arith, rules, encode_utf8, encode_utf8_all, float_digits}
+use Rattle.std.proofs.Common.{length-append}
 use Rattle.std.specs.Str.{chars}
-use Rattle.rl_tokens.specs.Numbers.{float_digits}
 use Rattle.rl_grammar.proofs.DigitLemmas.{plain_more}
 use Rattle.rl_grammar.proofs.RoomLemmas.{digits_text}
 use Rattle.rl_grammar.proofs.digits.numeral_into.Goals as goal

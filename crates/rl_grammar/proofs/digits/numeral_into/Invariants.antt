@@ -1,10 +1,8 @@
 -- The digits of what was passed stand in the buffer, and the rest has room after them.
-use Rattle.std.proofs.Common.{◌≡◌, ◌+◌, ◌≤◌, ◌++◌, ℕ, List, take, length}
+use Rattle.rl_grammar.proofs.Names.{◌≡◌, ◌+◌, ◌≤◌, ◌++◌, ℕ, List, take, length, encode_utf8_all, float_digits}
 use denote.Text.{Utf8}
 use denote.Shadow.{shadow}
-use Rattle.std.specs.Prelude.{encode_utf8_all}
 use Rattle.std.specs.Str.{chars}
-use Rattle.rl_tokens.specs.Numbers.{float_digits}
 use Rattle.rl_grammar.proofs.digits.numeral_into.Given as goal
 
 abbrev pub invariant-loop-c : goal.invariant-loop-c

@@ -1,5 +1,6 @@
-use Rattle.std.proofs.Common.{rules, arith, ap, ◌+◌, ◌-◌, length, sym, ◌∙◌}
-use Rattle.std.specs.Str.{chars, IsUtf8}
+use Rattle.rl_grammar.proofs.Names.{rules, arith, ap, ◌+◌, length, sym, ◌∙◌, IsUtf8}
+use Rattle.std.proofs.Common.{◌-◌}
+use Rattle.std.specs.Str.{chars}
 use Rattle.rl_grammar.proofs.ExplainLemmas.{front_bytes, piece_bytes, piece_front, some_reads}
 use Rattle.rl_grammar.proofs.flaws.explain.Goals as goal
 

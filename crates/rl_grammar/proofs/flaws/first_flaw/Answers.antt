@@ -1,4 +1,4 @@
-use Rattle.std.proofs.Common.{true, false, refl, ◌∙◌}
+use Rattle.rl_grammar.proofs.Names.{true, false, refl, ◌∙◌}
 use Rattle.rl_tokens.proofs.TruthWords.{truth_chars}
 use Rattle.rl_grammar.proofs.WordFlawLemmas.{false_place, true_place}
 use Rattle.rl_grammar.proofs.flaws.first_flaw.Goals as goal

@@ -1,5 +1,4 @@
-use Rattle.std.proofs.lemmas.Grind.{common_steps}
-use Rattle.std.proofs.Common.{sym, ap, inl, inr, arith, ◌∙◌}
+use Rattle.rl_grammar.proofs.Names.{common_steps, sym, ap, inl, inr, arith, ◌∙◌}
 use Rattle.std.specs.Str.{chars}
 use Rattle.rl_grammar.proofs.FormLemmas.{front_sound}
 use Rattle.rl_grammar.proofs.QuotedStopLemmas.{no_opener_piece, no_parts_of, quoted_has, quoted_piece, stops_quoted}

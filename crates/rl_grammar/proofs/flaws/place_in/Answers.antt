@@ -1,4 +1,4 @@
-use Rattle.std.proofs.Common.{rules}
+use Rattle.rl_grammar.proofs.Names.{rules}
 use Rattle.rl_grammar.proofs.flaws.place_in.Goals as goal
 
 pub returns-in-Some : goal.returns-in-Some

@@ -1,5 +1,4 @@
-use Rattle.std.proofs.Common.{ap, ◌∙◌}
-use Rattle.rl_tokens.specs.Texts.{first_passes}
+use Rattle.rl_grammar.proofs.Names.{ap, ◌∙◌, first_passes}
 use Rattle.rl_grammar.specs.WholeShapes.{is_number_front}
 use Rattle.rl_grammar.proofs.ReadingLemmas.{front_same}
 use Rattle.rl_grammar.proofs.found.begins_number.Goals as goal

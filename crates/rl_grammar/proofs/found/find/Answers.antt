@@ -1,4 +1,4 @@
-use Rattle.std.proofs.Common.{sym}
+use Rattle.rl_grammar.proofs.Names.{sym}
 use Rattle.std.specs.Str.{chars}
 use Rattle.rl_grammar.proofs.ReadingLemmas.{only_number}
 use Rattle.rl_grammar.proofs.OptionLemmas.{none_then}

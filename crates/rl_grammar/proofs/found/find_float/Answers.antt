@@ -1,4 +1,4 @@
-use Rattle.std.proofs.Common.{sym}
+use Rattle.rl_grammar.proofs.Names.{sym}
 use Rattle.std.specs.Str.{chars}
 use Rattle.rl_tokens.proofs.BehindLemmas.{if_none}
 use Rattle.rl_tokens.proofs.OneNumber.{float_once}

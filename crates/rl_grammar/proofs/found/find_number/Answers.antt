@@ -1,5 +1,4 @@
-use Rattle.std.proofs.lemmas.Grind.{common_steps}
-use Rattle.std.proofs.Common.{subst, arith}
+use Rattle.rl_grammar.proofs.Names.{common_steps, subst, arith}
 use Rattle.rl_grammar.specs.NumbersRead.{IsNumberOf}
 use Rattle.rl_grammar.proofs.FoundLemmas.{float_alone}
 use Rattle.rl_grammar.proofs.found.find_number.Goals as goal

@@ -1,4 +1,4 @@
-use Rattle.std.proofs.Common.{subst, sym}
+use Rattle.rl_grammar.proofs.Names.{subst, sym}
 use Rattle.rl_grammar.specs.Founds.{IsFound}
 use Rattle.rl_grammar.proofs.FoundLemmas.{OfTruth, truth_found}
 use Rattle.rl_grammar.proofs.found.find_truth.Goals as goal

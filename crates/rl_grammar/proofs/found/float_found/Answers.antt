@@ -1,5 +1,4 @@
-use Rattle.std.proofs.Common.{refl, rules}
-use Rattle.std.specs.Str.{IsUtf8}
+use Rattle.rl_grammar.proofs.Names.{refl, rules, IsUtf8}
 use Rattle.rl_grammar.proofs.FoundLemmas.{float_found}
 use Rattle.rl_grammar.proofs.found.float_found.Goals as goal
 

@@ -1,5 +1,4 @@
-use Rattle.std.proofs.Common.{refl, rules}
-use Rattle.std.specs.Str.{IsUtf8}
+use Rattle.rl_grammar.proofs.Names.{refl, rules, IsUtf8}
 use Rattle.rl_grammar.proofs.FoundLemmas.{integer_found}
 use Rattle.rl_grammar.proofs.found.integer_found.Goals as goal
 

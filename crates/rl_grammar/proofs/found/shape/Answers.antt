@@ -1,6 +1,5 @@
 use Rattle.rl_grammar.proofs.StrictBytesLemmas.{bytes_are_strict}
-use Rattle.std.proofs.lemmas.Grind.{common_steps}
-use Rattle.std.proofs.Common.{arith}
+use Rattle.rl_grammar.proofs.Names.{common_steps, arith}
 use Rattle.rl_grammar.proofs.found.shape.Goals as goal
 
 pub returns-in_err-found-clause-none : goal.returns-in_err-found-clause-none

@@ -1,4 +1,4 @@
-use Rattle.std.proofs.Common.{true, false}
+use Rattle.rl_grammar.proofs.Names.{true, false}
 use Rattle.rl_tokens.proofs.TruthWords.{truth_chars, no_word}
 use Rattle.rl_grammar.proofs.found.truth_of.Goals as goal
 

@@ -1,6 +1,5 @@
 use Rattle.rl_grammar.specs.Fronts.{HasNoFront}
-use Rattle.std.proofs.Common.{subst}
-use Rattle.rl_tokens.specs.Buffers.{trees_in}
+use Rattle.rl_grammar.proofs.Names.{subst, trees_in}
 use Rattle.rl_grammar.specs.Fronts.{IsFront}
 use Rattle.rl_grammar.specs.FrontTokens.{front_token}
 use Rattle.rl_grammar.proofs.FrontLemmas.{front_of, none_of_kind, same_front}

@@ -1,8 +1,7 @@
 use Rattle.rl_tokens.proofs.BehindLemmas.{if_none}
 use Rattle.rl_grammar.proofs.FrontLemmas.{no_minus_at}
-use Rattle.std.proofs.Common.{◌≡◌, sym, ◌∙◌, arith}
+use Rattle.rl_grammar.proofs.Names.{◌≡◌, sym, ◌∙◌, arith, common_steps}
 use Rattle.rl_grammar.proofs.FrontLemmas.{negative_front}
-use Rattle.std.proofs.lemmas.Grind.{common_steps}
 use Rattle.rl_grammar.proofs.front.take_negative.Goals as goal
 
 pub returns-clause-taken : goal.returns-clause-taken

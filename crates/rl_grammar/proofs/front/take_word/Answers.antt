@@ -1,7 +1,6 @@
 use Rattle.rl_tokens.proofs.BehindLemmas.{if_none}
 use Rattle.rl_grammar.proofs.FrontLemmas.{no_word_at}
-use Rattle.std.proofs.lemmas.Grind.{common_steps}
-use Rattle.std.proofs.Common.{sym, ◌∙◌, ap, arith}
+use Rattle.rl_grammar.proofs.Names.{common_steps, sym, ◌∙◌, ap, arith}
 use Rattle.std.specs.Str.{chars}
 use Rattle.rl_grammar.proofs.FrontLemmas.{truth_reads}
 use Rattle.rl_grammar.proofs.front.take_word.Goals as goal

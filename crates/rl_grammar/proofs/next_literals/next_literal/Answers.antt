@@ -1,4 +1,4 @@
-use Rattle.std.proofs.Common.{subst}
+use Rattle.rl_grammar.proofs.Names.{subst}
 use Rattle.rl_grammar.specs.NextLiterals.{HasNoNextLiteral}
 use Rattle.rl_grammar.proofs.NextLiteralLemmas.{if_none}
 use Rattle.rl_grammar.proofs.next_literals.next_literal.Goals as goal

@@ -1,4 +1,4 @@
-use Rattle.std.proofs.Common.{◌≡◌, ◌∙◌, inl, inr, ap, rules}
+use Rattle.rl_grammar.proofs.Names.{◌≡◌, ◌∙◌, inl, inr, ap, rules}
 use Rattle.rl_tokens.specs.Cursors.{form_view}
 use Rattle.rl_tokens.specs.Lexemes.{MarkForm}
 use Rattle.rl_grammar.proofs.NextLiteralLemmas.{if_none, no_number, other_form}

@@ -1,6 +1,5 @@
 use Rattle.rl_tokens.proofs.BehindLemmas.{behind_step}
-use Rattle.std.proofs.lemmas.Grind.{common_steps}
-use Rattle.std.proofs.Common.{arith}
+use Rattle.rl_grammar.proofs.Names.{common_steps, arith}
 use Rattle.rl_grammar.specs.Mirrors.NumberAt.{after_exponent}
 use Rattle.rl_grammar.proofs.number_forms.after_exponent.Goals as goal
 

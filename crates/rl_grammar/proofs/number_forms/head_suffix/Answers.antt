@@ -1,4 +1,4 @@
-use Rattle.std.proofs.Common.{◌∙◌}
+use Rattle.rl_grammar.proofs.Names.{◌∙◌}
 use Rattle.std.specs.Str.{chars}
 use Rattle.rl_tokens.proofs.BehindLemmas.{some_behind}
 use Rattle.rl_grammar.proofs.HeadLemmas.{head_float}

@@ -1,4 +1,4 @@
-use Rattle.std.proofs.Common.{rules}
+use Rattle.rl_grammar.proofs.Names.{rules}
 use Rattle.rl_grammar.proofs.number_forms.integer_of.Goals as goal
 
 pub returns-then-is_integer-clause-value : goal.returns-then-is_integer-clause-value

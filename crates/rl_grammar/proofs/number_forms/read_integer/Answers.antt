@@ -1,4 +1,4 @@
-use Rattle.std.proofs.Common.{◌∙◌}
+use Rattle.rl_grammar.proofs.Names.{◌∙◌}
 use Rattle.std.specs.Str.{chars}
 use Rattle.rl_grammar.proofs.HeadLemmas.{no_head_int, head_int}
 use Rattle.rl_grammar.proofs.number_forms.read_integer.Goals as goal

@@ -1,7 +1,5 @@
-use Rattle.std.proofs.Common.{ℕ, List, ◌∷◌, ◌++◌, ap₂, sym, subst, ◌∙◌}
+use Rattle.rl_grammar.proofs.Names.{ℕ, List, ◌∷◌, ◌++◌, ap₂, sym, subst, ◌∙◌, Kind, Reads}
 use Rattle.std.specs.Str.{chars}
-use Rattle.rl_tokens.specs.declared.kind.Kind.{Kind}
-use Rattle.rl_tokens.specs.Reading.{Reads}
 use Rattle.rl_grammar.specs.Founds.{suffix_in}
 use Rattle.rl_grammar.proofs.MinusLemmas.{negative_reads, number_split}
 use Rattle.rl_grammar.proofs.number_forms.shape_negative.Goals as goal

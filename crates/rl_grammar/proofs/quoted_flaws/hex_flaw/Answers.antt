@@ -1,6 +1,5 @@
 use Rattle.rl_grammar.specs.Mirrors.UnitFlawAt.{hex_flaw_at}
-use Rattle.std.proofs.lemmas.Grind.{common_steps}
-use Rattle.std.proofs.Common.{arith}
+use Rattle.rl_grammar.proofs.Names.{common_steps, arith}
 use Rattle.rl_grammar.proofs.quoted_flaws.hex_flaw.Goals as goal
 
 pub returns-in-Some-to_digit : goal.returns-in-Some-to_digit

@@ -1,4 +1,4 @@
-use Rattle.std.proofs.Common.{◌∙◌, ap, sym}
+use Rattle.rl_grammar.proofs.Names.{◌∙◌, ap, sym}
 use Rattle.std.specs.Str.{chars}
 use Rattle.rl_grammar.proofs.RawFlawLemmas.{flaw_as, reopened_flaw, spoiled_flaw}
 use Rattle.rl_grammar.proofs.quoted_flaws.opened_flaw.Goals as goal

@@ -1,4 +1,4 @@
-use Rattle.std.proofs.Common.{ap}
+use Rattle.rl_grammar.proofs.Names.{ap}
 use Rattle.std.specs.Str.{chars}
 use Rattle.rl_grammar.proofs.RawFlawLemmas.{raw_stops}
 use Rattle.rl_grammar.proofs.quoted_flaws.quoted_flaw.Goals as goal

@@ -1,6 +1,5 @@
-use Rattle.std.proofs.Common.{◌++◌, ◌∙◌, ap, subst, sym}
+use Rattle.rl_grammar.proofs.Names.{◌++◌, ◌∙◌, ap, subst, sym, raw_opener}
 use Rattle.std.specs.Str.{chars}
-use Rattle.rl_tokens.specs.Quoted.{raw_opener}
 use Rattle.rl_grammar.specs.declared.quoted_forms.QuotedForm.TheVariants.{Raw as RawForm}
 use Rattle.rl_grammar.specs.FlawKinds.{RawFlaw}
 use Rattle.rl_grammar.specs.Forms.{HasNoParts}

@@ -1,8 +1,6 @@
-use Rattle.std.proofs.Common.{ap, sym, ◌∙◌}
+use Rattle.rl_grammar.proofs.Names.{ap, sym, ◌∙◌, chars-nil, is_raw}
 use lib.Seq.{drop-length}
-use Rattle.std.proofs.lemmas.Str.{chars-nil}
 use Rattle.std.specs.Str.{chars}
-use Rattle.rl_tokens.specs.Quoted.{is_raw}
 use Rattle.rl_tokens.proofs.Rests.{behind_drop}
 use Rattle.rl_grammar.proofs.RawLemmas.{others_hold}
 use Rattle.rl_grammar.proofs.RawFlawLemmas.{run_of_all}

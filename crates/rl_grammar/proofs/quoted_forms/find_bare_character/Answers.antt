@@ -1,4 +1,4 @@
-use Rattle.std.proofs.Common.{◌∙◌}
+use Rattle.rl_grammar.proofs.Names.{◌∙◌}
 use Rattle.rl_grammar.proofs.BareCharacters.{bare_text}
 use Rattle.rl_grammar.proofs.quoted_forms.find_bare_character.Goals as goal
 

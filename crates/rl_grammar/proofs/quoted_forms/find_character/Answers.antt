@@ -1,6 +1,5 @@
-use Rattle.std.proofs.Common.{◌∙◌, ap, refl}
+use Rattle.rl_grammar.proofs.Names.{◌∙◌, ap, refl, Char}
 use Rattle.std.specs.Str.{chars}
-use Rattle.rl_tokens.specs.declared.kind.Kind.TheVariants.{Char}
 use Rattle.rl_grammar.specs.declared.quoted_forms.QuotedForm.TheVariants.{Single as SingleForm}
 use Rattle.rl_grammar.specs.Mirrors.OpenerAt.{opener_at}
 use Rattle.rl_grammar.proofs.BareCharacters.{quote_boundary, quote_first}

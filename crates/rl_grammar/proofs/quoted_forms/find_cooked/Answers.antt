@@ -1,6 +1,5 @@
-use Rattle.std.proofs.Common.{◌∙◌, sym, rules}
-use Rattle.std.specs.Str.{chars, IsUtf8}
-use Rattle.rl_tokens.specs.Quoted.{is_plain}
+use Rattle.rl_grammar.proofs.Names.{◌∙◌, sym, rules, IsUtf8, is_plain}
+use Rattle.std.specs.Str.{chars}
 use Rattle.rl_tokens.proofs.BehindLemmas.{if_none}
 use Rattle.rl_grammar.proofs.CutLemmas.{behind_chars}
 use Rattle.rl_grammar.proofs.FormLemmas.{cooked_found, cooked_none, cooked_units, front_sound}

@@ -1,4 +1,4 @@
-use Rattle.std.proofs.Common.{sym}
+use Rattle.rl_grammar.proofs.Names.{sym}
 use Rattle.std.specs.Str.{chars}
 use Rattle.rl_grammar.proofs.RawLemmas.{others_hold}
 use Rattle.rl_grammar.proofs.quoted_forms.holds_all.Goals as goal

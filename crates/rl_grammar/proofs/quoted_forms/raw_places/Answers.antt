@@ -1,9 +1,6 @@
-use Rattle.std.proofs.Common.{◌∷◌, ◌++◌, ◌∙◌, ap, sym, rules}
-use Rattle.std.specs.List.{list_all}
-use Rattle.std.specs.Str.{chars, IsUtf8}
-use Rattle.std.proofs.lemmas.List.{append_cancel_right}
+use Rattle.rl_grammar.proofs.Names.{◌∷◌, ◌++◌, ◌∙◌, ap, sym, rules, list_all, IsUtf8, append_cancel_right, is_raw}
+use Rattle.std.specs.Str.{chars}
 use Rattle.std.proofs.lemmas.Str.{IsCharBoundary-at_seam}
-use Rattle.rl_tokens.specs.Quoted.{is_raw}
 use Rattle.rl_tokens.proofs.BehindLemmas.{behind_step, if_none}
 use Rattle.rl_grammar.specs.Founds.{body_in}
 use Rattle.rl_grammar.proofs.CutLemmas.{behind_chars}

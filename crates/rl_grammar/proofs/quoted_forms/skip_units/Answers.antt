@@ -1,4 +1,4 @@
-use Rattle.std.proofs.Common.{subst, sym, rules}
+use Rattle.rl_grammar.proofs.Names.{subst, sym, rules}
 use Rattle.std.specs.Str.{chars}
 use Rattle.rl_grammar.specs.Rows.{BeginsRow}
 use Rattle.rl_grammar.proofs.RowLemmas.{row_step, row_run}

@@ -1,8 +1,7 @@
-use Rattle.std.proofs.Common.{◌≡◌, ◌+◌, ◌∙◌, [], length, sym, ap, append-nil, length-append, arith, rules}
-use Rattle.std.proofs.lemmas.Str.{IsUtf8-nil, chars-nil}
-use Rattle.std.specs.Str.{chars, IsUtf8}
-use Rattle.rl_tokens.specs.Texts.{first_passes}
-use Rattle.rl_tokens.specs.Quoted.{is_plain}
+use Rattle.rl_grammar.proofs.Names.{◌≡◌, ◌+◌, ◌∙◌, [], length, sym, ap, append-nil, arith, rules, chars-nil, IsUtf8, first_passes, is_plain}
+use Rattle.std.proofs.Common.{length-append}
+use Rattle.std.proofs.lemmas.Str.{IsUtf8-nil}
+use Rattle.std.specs.Str.{chars}
 use Rattle.rl_grammar.proofs.CutLemmas.{behind_chars}
 use Rattle.rl_grammar.proofs.SegmentLemmas.{cut_bytes, no_length, other_longest, some_length, text_longest, plain_front, run_front, unit_front, unit_there}
 use Rattle.rl_grammar.proofs.segments.split_segment.Goals as goal

@@ -1,4 +1,4 @@
-use Rattle.std.proofs.Common.{◌≡◌, ℕ, ◌+◌, ◌<◌, length, get_or}
+use Rattle.rl_grammar.proofs.Names.{◌≡◌, ℕ, ◌+◌, ◌<◌, length, get_or}
 use Rattle.rl_tokens.specs.Errors.{nowhere}
 use Rattle.rl_grammar.specs.Segments.{segment_end, segment_place, span_from}
 use Rattle.rl_grammar.proofs.span_table.push_spans.Given as goal

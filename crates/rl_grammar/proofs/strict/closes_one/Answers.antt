@@ -1,4 +1,4 @@
-use Rattle.std.proofs.Common.{sym}
+use Rattle.rl_grammar.proofs.Names.{sym}
 use Rattle.rl_grammar.proofs.StrictRowLemmas.{one_end, one_none}
 use Rattle.rl_grammar.proofs.strict.closes_one.Goals as goal
 

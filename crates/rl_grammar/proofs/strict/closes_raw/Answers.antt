@@ -1,5 +1,4 @@
-use Rattle.std.proofs.Common.{arith}
-use Rattle.std.proofs.lemmas.Bool.Decides.{nat_tests}
+use Rattle.rl_grammar.proofs.Names.{arith, nat_tests}
 use Rattle.rl_grammar.proofs.StrictRawLemmas.{raw_opened, raw_many, raw_unquoted}
 use Rattle.rl_grammar.proofs.strict.closes_raw.Goals as goal
 

@@ -1,6 +1,6 @@
 use Rattle.rl_grammar.specs.Mirrors.StrictAt.{is_strict_suffix}
 use Rattle.rl_grammar.proofs.CutLemmas.{some_text}
-use Rattle.std.proofs.Common.{arith}
+use Rattle.rl_grammar.proofs.Names.{arith}
 use Rattle.rl_grammar.proofs.strict.is_suffix.Goals as goal
 
 pub returns-then-not-is_empty : goal.returns-then-not-is_empty

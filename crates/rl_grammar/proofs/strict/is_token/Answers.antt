@@ -1,4 +1,4 @@
-use Rattle.std.proofs.Common.{◌∙◌, sym}
+use Rattle.rl_grammar.proofs.Names.{◌∙◌, sym}
 use Rattle.std.specs.Str.{chars}
 use Rattle.rl_grammar.proofs.FormLemmas.{front_sound}
 use Rattle.rl_grammar.proofs.StrictLemmas.{told_token, passed_token, other_token}

@@ -1,4 +1,4 @@
-use Rattle.std.proofs.Common.{[], refl}
+use Rattle.rl_grammar.proofs.Names.{[], refl}
 use Rattle.std.specs.Str.{chars}
 use Rattle.rl_grammar.proofs.StrictRawLemmas.{str_run, c_run}
 use Rattle.rl_grammar.proofs.ByteRunLemmas.{inside_run}

@@ -1,4 +1,4 @@
-use Rattle.std.proofs.Common.{sym, rules}
+use Rattle.rl_grammar.proofs.Names.{sym, rules}
 use Rattle.rl_grammar.proofs.StrictRowLemmas.{units_step, units_past}
 use Rattle.rl_grammar.proofs.strict.skip_units.Goals as goal
 

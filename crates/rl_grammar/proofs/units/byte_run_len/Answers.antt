@@ -1,6 +1,4 @@
-use Rattle.std.proofs.Common.{◌∙◌}
-use Rattle.rl_tokens.specs.declared.kind.Kind.TheVariants.{ByteStr}
-use Rattle.rl_tokens.specs.Quoted.{is_plain}
+use Rattle.rl_grammar.proofs.Names.{◌∙◌, ByteStr, is_plain}
 use Rattle.rl_grammar.proofs.PlainLemmas.{same_prefix}
 use Rattle.rl_grammar.proofs.units.byte_run_len.Goals as goal
 

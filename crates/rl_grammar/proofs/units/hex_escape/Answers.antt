@@ -1,5 +1,4 @@
-use Rattle.std.proofs.lemmas.Grind.{common_steps}
-use Rattle.std.proofs.Common.{arith}
+use Rattle.rl_grammar.proofs.Names.{common_steps, arith}
 use Rattle.rl_grammar.specs.Mirrors.UnitAt.{hex_at}
 use Rattle.rl_grammar.proofs.units.hex_escape.Goals as goal
 

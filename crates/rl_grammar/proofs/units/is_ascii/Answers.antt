@@ -1,6 +1,4 @@
-use Rattle.std.proofs.Common.{refl, ap, ◌∙◌}
-use Rattle.std.specs.List.{prefix_len}
-use Rattle.rl_tokens.specs.Scanning.{is_ascii_other}
+use Rattle.rl_grammar.proofs.Names.{refl, ap, ◌∙◌, prefix_len, is_ascii_other}
 use Rattle.rl_grammar.proofs.ByteRunLemmas.{ascii_all}
 use Rattle.rl_grammar.proofs.units.is_ascii.Goals as goal
 

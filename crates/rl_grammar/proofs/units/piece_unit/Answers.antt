@@ -1,5 +1,4 @@
-use Rattle.std.proofs.Common.{◌<◌, ap, sym, ◌∙◌, rules}
-use Rattle.std.specs.Char.{IsScalar}
+use Rattle.rl_grammar.proofs.Names.{◌<◌, ap, sym, ◌∙◌, rules, IsScalar}
 use Rattle.rl_grammar.specs.Mirrors.UnitAt.{piece_value}
 use Rattle.rl_grammar.proofs.SingleBodies.{character_unit, byte_unit}
 use Rattle.rl_grammar.proofs.units.piece_unit.Goals as goal

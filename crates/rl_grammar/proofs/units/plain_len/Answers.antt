@@ -1,5 +1,4 @@
-use Rattle.std.proofs.Common.{arith}
-use Rattle.rl_tokens.specs.Quoted.{is_plain}
+use Rattle.rl_grammar.proofs.Names.{arith, is_plain}
 use Rattle.rl_grammar.proofs.UnitLemmas.{backslash_not_plain}
 use Rattle.rl_tokens.proofs.ScanLemmas.{none_passes}
 use Rattle.rl_grammar.proofs.units.plain_len.Goals as goal

@@ -1,7 +1,4 @@
-use Rattle.std.proofs.Common.{◌≡◌, ap, sym, ◌∙◌}
-use Rattle.std.specs.List.{prefix_len}
-use Rattle.rl_tokens.specs.declared.kind.Kind.TheVariants.{Str, ByteStr, CStr}
-use Rattle.rl_tokens.specs.Quoted.{is_plain}
+use Rattle.rl_grammar.proofs.Names.{◌≡◌, ap, sym, ◌∙◌, prefix_len, Str, ByteStr, CStr, is_plain}
 use Rattle.rl_grammar.proofs.PlainLemmas.{same_prefix, in_run_other, other_string}
 use Rattle.rl_grammar.proofs.units.run_len.Goals as goal
 

@@ -1,4 +1,4 @@
-use Rattle.std.proofs.Common.{◌∙◌}
+use Rattle.rl_grammar.proofs.Names.{◌∙◌}
 use Rattle.rl_grammar.proofs.RunLemmas.{run_is_blanks}
 use Rattle.rl_grammar.proofs.units.skip_blanks.Goals as goal
 

@@ -1,8 +1,5 @@
-use Rattle.std.proofs.Common.{◌≡◌, ◌++◌, take, drop, sym, subst, ap, ap₂, ◌∙◌, rules}
-use Rattle.std.specs.Str.{chars, IsCharBoundary}
-use Rattle.std.specs.List.{list_all, prefix_len}
-use Rattle.rl_tokens.specs.Texts.{first_passes}
-use Rattle.rl_tokens.specs.Quoted.{is_plain}
+use Rattle.rl_grammar.proofs.Names.{◌≡◌, ◌++◌, take, drop, sym, subst, ap, ap₂, ◌∙◌, rules, IsCharBoundary, list_all, prefix_len, first_passes, is_plain}
+use Rattle.std.specs.Str.{chars}
 use Rattle.rl_grammar.proofs.ByteRunLemmas.{plain_cut}
 use Rattle.rl_grammar.proofs.units.split_plain.Goals as goal
 

@@ -1,5 +1,4 @@
-use Rattle.std.proofs.lemmas.Grind.{common_steps}
-use Rattle.std.proofs.Common.{◌+◌, ◌*◌, ap, ◌∙◌, arith}
+use Rattle.rl_grammar.proofs.Names.{common_steps, ◌+◌, ◌*◌, ap, ◌∙◌, arith}
 use Rattle.rl_grammar.specs.Mirrors.NumberAt.{append_digit}
 use Rattle.rl_grammar.proofs.TallyLemmas.{append_last}
 use Rattle.rl_grammar.proofs.digit_rows.Tally.append_digit.Goals as goal

@@ -1,6 +1,5 @@
-use Rattle.std.proofs.Common.{subst, ◌∷◌}
+use Rattle.rl_grammar.proofs.Names.{subst, ◌∷◌, SpannedText}
 use Rattle.rl_tokens.specs.Puncts.{Mark}
-use Rattle.rl_tokens.specs.Texts.{SpannedText}
 use Rattle.rl_grammar.specs.Founds.{IsFound}
 use Rattle.rl_grammar.proofs.front.Front.find.Goals as goal
 

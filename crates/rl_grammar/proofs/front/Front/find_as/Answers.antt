@@ -1,6 +1,5 @@
 use Rattle.rl_grammar.proofs.FoundLemmas.{kinds_same, kinds_differ}
-use Rattle.std.proofs.lemmas.Grind.{common_steps}
-use Rattle.std.proofs.Common.{arith}
+use Rattle.rl_grammar.proofs.Names.{common_steps, arith}
 use Rattle.std.specs.Str.{chars}
 use Rattle.rl_grammar.specs.FrontTokens.{front_token}
 use Rattle.rl_grammar.proofs.FrontLemmas.{one_kind}

@@ -1,4 +1,4 @@
-use Rattle.std.proofs.Common.{rules}
+use Rattle.rl_grammar.proofs.Names.{rules}
 use Rattle.std.specs.Str.{chars}
 use Rattle.rl_grammar.proofs.FrontLemmas.{minus_chars, no_negative_truth}
 use Rattle.rl_grammar.proofs.front.Front.truth.Goals as goal

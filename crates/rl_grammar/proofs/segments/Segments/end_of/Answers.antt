@@ -1,4 +1,4 @@
-use Rattle.std.proofs.Common.{length, arith, ap, subst, sym}
+use Rattle.rl_grammar.proofs.Names.{length, arith, ap, subst, sym}
 use Rattle.rl_grammar.specs.Segments.{IsLeftAt, SegmentsState, ends_in}
 use Rattle.rl_grammar.proofs.SegmentLemmas.{given_end, given_within, past_left}
 use Rattle.rl_grammar.proofs.segments.Segments.end_of.Goals as goal

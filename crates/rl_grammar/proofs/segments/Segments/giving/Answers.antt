@@ -1,4 +1,4 @@
-use Rattle.std.proofs.Common.{arith}
+use Rattle.rl_grammar.proofs.Names.{arith}
 use Rattle.rl_grammar.proofs.SegmentLemmas.{arrives, ends_before, goes_past}
 use Rattle.rl_grammar.proofs.segments.Segments.giving.Goals as goal
 

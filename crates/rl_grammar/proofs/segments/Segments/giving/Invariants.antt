@@ -1,4 +1,4 @@
-use Rattle.std.proofs.Common.{length}
+use Rattle.rl_grammar.proofs.Names.{length}
 use Rattle.rl_grammar.proofs.SegmentLemmas.{IsOnTheWay}
 use Rattle.rl_grammar.proofs.segments.Segments.giving.Given as goal
 

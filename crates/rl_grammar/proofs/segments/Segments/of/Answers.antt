@@ -1,4 +1,4 @@
-use Rattle.std.proofs.Common.{◌∙◌, sym}
+use Rattle.rl_grammar.proofs.Names.{◌∙◌, sym}
 use Rattle.rl_tokens.proofs.BehindLemmas.{if_none}
 use Rattle.rl_grammar.proofs.FoundLemmas.{found_reads}
 use Rattle.rl_grammar.proofs.SegmentStarts.{no_quoted, none_quoted}

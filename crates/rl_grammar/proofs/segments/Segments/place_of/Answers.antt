@@ -1,4 +1,4 @@
-use Rattle.std.proofs.Common.{length, arith, ap, subst, sym}
+use Rattle.rl_grammar.proofs.Names.{length, arith, ap, subst, sym}
 use Rattle.rl_grammar.specs.Segments.{IsLeftAt, SegmentsState, begins_in}
 use Rattle.rl_grammar.proofs.SegmentLemmas.{given_place, given_within, past_left}
 use Rattle.rl_grammar.proofs.segments.Segments.place_of.Goals as goal

@@ -1,4 +1,4 @@
-use Rattle.std.proofs.Common.{◌≡◌, ◌<◌, ◌∙◌, [], ◌∷◌, ◌++◌, ap, arith, rules}
+use Rattle.rl_grammar.proofs.Names.{◌≡◌, ◌<◌, ◌∙◌, [], ◌∷◌, ◌++◌, ap, arith, rules}
 use Rattle.rl_grammar.specs.Segments.{SegmentsState, span_from}
 use Rattle.rl_grammar.proofs.SegmentLemmas.{place_below, segment_fits, tabled_all, tabled_more}
 use Rattle.rl_grammar.proofs.segments.Segments.spans.Goals as goal
