@@ -4,9 +4,8 @@ ghost use Rattle.std.specs.Prelude.{◌≡◌, ℕ};
 ghost use Rattle.std.specs.Process.{exit_status};
 ghost use Rattle.rl_program.specs.Endings.{ending_line, status_of};
 
-use std::env;
-use std::fmt;
 use std::process::ExitCode;
+use std::{env, fmt};
 
 /// Why a run failed, as its program reports it: by a status, and by the line that `Display` writes.
 pub trait RunError: fmt::Display {

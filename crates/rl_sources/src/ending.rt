@@ -11,8 +11,7 @@ use std::alloc::Allocator;
 use std::io::{Read, Write};
 
 /// How the program is used.
-const USAGE: &str =
-    "usage: rl_scan [--lines] [--no-stray] [--why] [--bad | --only KIND[,KIND..]]";
+const USAGE: &str = "usage: rl_scan [--lines] [--no-stray] [--why] [--bad | --only KIND[,KIND..]]";
 
 /// A call of the program with these arguments, its own name the first.
 pub fn call<A: Allocator + Copy, R: Read, W: Write>(
