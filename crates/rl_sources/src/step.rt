@@ -8,10 +8,10 @@ ghost use Rattle.rl_tokens.specs.Sources.{TakesSource};
 ghost use Rattle.rl_grammar.specs.Founds.{IsFound};
 ghost use Rattle.rl_lines.specs.Lines.{Appends};
 ghost use Rattle.rl_sources.specs.Scans.{IsShownLiteral, IsErrorAt};
-ghost use Rattle.rl_sources.specs.Steps.{IsPlacedText, IsAccepted, BeginsRest, StandsAt, TakesShown, EndsUnshown, StopsUnshown, IsStepOf};
+ghost use Rattle.rl_sources.specs.Steps.{IsPlacedText, IsAcceptedToken, BeginsRest, IsCursorOver, TakesShown, EndsUnshown, StopsUnshown, IsStepOf};
 
 use crate::options::Options;
-use crate::place::{Place, Places, place_of};
+use crate::place::{Place, Places, ROOM, place_of};
 use crate::reason::push_reason;
 use rl_grammar::{Found, Kind, find};
 use rl_lines::{label_of, push_found};
@@ -44,7 +44,8 @@ fn push_placed<A: Allocator + Copy>(
     ensures { OnOk result (Appends (IsPlacedText place (chars text.now))
         (chars (string_bytes out.old)) (chars (string_bytes out.new))) }
 {
-    write!(out, "{place} ")?;
+    out.push_str(place.text(&mut [0; ROOM]))?;
+    out.push_str(" ")?;
     push_found(alloc, out, text, found)
 }
 
@@ -82,7 +83,7 @@ fn next_token<'t>(
 ) -> Result<Option<SourceToken<'t>>, LexError>
     ensures token { IfOk result (λ token. MatchOption token (tokens.old.rest ≡ [])
         (λ l. TakesSource tokens.old l tokens.new)) }
-    ensures accepted { IfOk result (IsAccepted rejects_strays) }
+    ensures accepted { IfOk result (IsAcceptedToken rejects_strays) }
     ensures shorter { IfOk result (λ token. IfSome token
         (λ l. length tokens.new.rest < length tokens.old.rest)) }
     ensures error { IfErr result (λ e. IsErrorAt rejects_strays e.kind (chars tokens.old.rest)) }
@@ -171,7 +172,7 @@ pub(crate) fn gather<'t, A: Allocator + Copy>(
     places: &mut Places<'t>,
     out: &mut String<A>,
 ) -> Result<Step, AllocError>
-    requires stands { StandsAt tokens.old places.old }
+    requires stands { IsCursorOver tokens.old places.old }
     requires empty { string_bytes out.old ≡ [] }
     ensures { IfOk result (IsStepOf options.entry tokens.old (chars (string_bytes out.new))
         tokens.new places.new) }
