@@ -68,7 +68,7 @@ fn negative_of<A: Allocator + Copy>(
 /// The literal that the next tokens are, which are cut off. `None` where they are none; tokens may be cut off then too,
 /// and where an allocation fails.
 #[inline(always)]
-fn take_next<A: Allocator + Copy>(
+pub(crate) fn take_next<A: Allocator + Copy>(
     alloc: A,
     tokens: &mut Tokens<'_>,
     file: u32,

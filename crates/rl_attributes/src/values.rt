@@ -1,0 +1,171 @@
+//! What a setting is set to: a string, a number or a truth value.
+
+ghost use Rattle.std.specs.Prelude.{◌≡◌, IfOk, IfErr};
+ghost use Rattle.rl_attributes.specs.AttributeParsing.{entries_of, end_of};
+ghost use Rattle.rl_attributes.specs.Settings.{
+  IsSetTo,
+  IsStringOf,
+  IsTruthOf,
+  IsNumberOf,
+  RejectsValue,
+  RejectsString,
+  RejectsTruth,
+  RejectsNumber,
+};
+ghost use Rattle.rl_attributes.specs.declared.settings.SettingError.TheVariants.{Missing};
+
+use crate::attributes::Attrs;
+use crate::settings::{Setting, SettingError};
+use rust_literals::Lit;
+use std::alloc::Allocator;
+use std::fmt::Display;
+use std::str::FromStr;
+
+/// The contents of a string that a setting is set to.
+fn string_of<A: Allocator>(
+    alloc: A,
+    setting: Setting,
+    value: &Lit<A>,
+) -> Result<String<A>, SettingError<A>>
+    ensures read { IfOk result (IsStringOf value.now) }
+    ensures rejected { IfErr result (RejectsString setting value.now) }
+{
+    match value {
+        Lit::Str(literal) => Ok(literal.value(alloc)?),
+        other => Err(SettingError::Kind(setting, other.span())),
+    }
+}
+
+/// The truth value that a setting is set to.
+fn truth_of<A: Allocator>(setting: Setting, value: &Lit<A>) -> Result<bool, SettingError<A>>
+    ensures read { IfOk result (IsTruthOf value.now) }
+    ensures rejected { IfErr result (RejectsTruth setting value.now) }
+{
+    match value {
+        Lit::Bool(literal) => Ok(literal.value()),
+        other => Err(SettingError::Kind(setting, other.span())),
+    }
+}
+
+/// The number that a setting is set to.
+fn number_of<N: FromStr, A: Allocator>(
+    alloc: A,
+    setting: Setting,
+    value: &Lit<A>,
+) -> Result<N, SettingError<A>>
+where
+    N::Err: Display + Drop,
+    ensures read { IfOk result (IsNumberOf N.from_str_gives value.now) }
+    ensures rejected { IfErr result
+        (RejectsNumber N.from_str_gives N.Err.output setting value.now) }
+{
+    let parsed = match value {
+        Lit::Int(literal) => literal.base10_parse(alloc),
+        Lit::Float(literal) => literal.base10_parse(alloc),
+        other => return Err(SettingError::Kind(setting, other.span())),
+    };
+    match parsed {
+        Ok(number) => Ok(number),
+        Err(error) => Err(SettingError::Value(setting, error)),
+    }
+}
+
+impl<A: Allocator> Attrs<A> {
+    /// The string that a setting is set to, decoded; `None` where it isn't set.
+    ///
+    /// # Errors
+    ///
+    /// `Kind` at the value, where it is no string; its allocation failure as `Text`, there too.
+    ///
+    /// # Example
+    ///
+    /// ```
+    /// use rl_attributes::{Setting, SettingError, read};
+    /// use std::alloc::Global;
+    ///
+    /// const HOST: Setting = Setting { name: "host", expected: "a string" };
+    ///
+    /// pub fn host(alloc: Global, text: &str) -> Result<String, SettingError> {
+    ///     let attrs = read(alloc, text, 0)?;
+    ///     match attrs.string(alloc, HOST)? {
+    ///         Some(host) => Ok(host),
+    ///         None => Err(attrs.missing(HOST)),
+    ///     }
+    /// }
+    /// // host(alloc, "port = 80") is an error at 9..9: host: missing, expected a string
+    /// ```
+    pub fn string(&self, alloc: A, setting: Setting) -> Result<Option<String<A>>, SettingError<A>>
+        ensures set { IfOk result (IsSetTo setting (entries_of self.now) IsStringOf) }
+        ensures rejected { IfErr result
+            (RejectsValue setting (entries_of self.now) (RejectsString setting)) }
+    {
+        let Some(value) = self.get(setting.name) else {
+            return Ok(None);
+        };
+        match string_of(alloc, setting, value) {
+            Ok(text) => Ok(Some(text)),
+            Err(error) => Err(error),
+        }
+    }
+
+    /// The number that a setting is set to, as its type makes one of the digits in base ten; `None` where it isn't set. Of
+    /// `0x50` as a `u16` it is 80.
+    ///
+    /// # Errors
+    ///
+    /// `Kind` at the value, where it is neither an integer nor a float; else `Value` with the error that `base10_parse`
+    /// reports.
+    ///
+    /// See the example of [`Attrs::string`].
+    pub fn number<N: FromStr>(
+        &self,
+        alloc: A,
+        setting: Setting,
+    ) -> Result<Option<N>, SettingError<A>>
+    where
+        N::Err: Display + Drop,
+        ensures set { IfOk result
+            (IsSetTo setting (entries_of self.now) (IsNumberOf N.from_str_gives)) }
+        ensures rejected { IfErr result (RejectsValue setting (entries_of self.now)
+            (RejectsNumber N.from_str_gives N.Err.output setting)) }
+    {
+        let Some(value) = self.get(setting.name) else {
+            return Ok(None);
+        };
+        match number_of(alloc, setting, value) {
+            Ok(number) => Ok(Some(number)),
+            Err(error) => Err(error),
+        }
+    }
+
+    /// The truth value that a setting is set to; `None` where it isn't set. It takes no memory.
+    ///
+    /// # Errors
+    ///
+    /// `Kind` at the value, where it is neither `true` nor `false`.
+    ///
+    /// See the example of [`Attrs::string`].
+    pub fn truth(&self, setting: Setting) -> Result<Option<bool>, SettingError<A>>
+        ensures set { IfOk result (IsSetTo setting (entries_of self.now) IsTruthOf) }
+        ensures rejected { IfErr result
+            (RejectsValue setting (entries_of self.now) (RejectsTruth setting)) }
+    {
+        let Some(value) = self.get(setting.name) else {
+            return Ok(None);
+        };
+        match truth_of(setting, value) {
+            Ok(truth) => Ok(Some(truth)),
+            Err(error) => Err(error),
+        }
+    }
+
+    /// The error that a setting has to be set and isn't, where the settings end: what a reader returns who was given `None`
+    /// of a setting that it requires.
+    ///
+    /// See the example of [`Attrs::string`].
+    pub fn missing(&self, setting: Setting) -> SettingError<A>
+        ensures { result ≡ Missing setting (end_of self.now) }
+    {
+        SettingError::Missing(setting, self.end())
+    }
+}
