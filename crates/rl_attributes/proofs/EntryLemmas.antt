@@ -1,6 +1,6 @@
 -- Entries, one after another, and the names that are kept beside them.
 use Rattle.std.proofs.Common.{◌≡◌, ◌≢◌, ◌⊎◌, inl, inr, ℕ, zero, suc, ◌+◌, ◌<◌, Bool, true, false, cond, get_or, take, drop, List, [], ◌∷◌, ◌++◌, refl, sym, ◌∙◌, ap, subst, Bor, string_bytes, arith}
-use Rattle.std.specs.Prelude.{IsFalse, codes, All, Result, Ok, Err, IfOk, IfErr, length}
+use Rattle.std.specs.Prelude.{IsFalse, codes, All, Any, Result, Ok, Err, IfOk, IfErr, length}
 use Rattle.std.specs.BTreeSet.{BTreeSet, IsEmpty}
 use Rattle.std.specs.Str.{bytes_eq, chars}
 use Rattle.std.specs.Cmp.Lexicographic.{nat_list_eq_equiv}
@@ -265,3 +265,9 @@ none_more {A = A} entries name i entry below is other none k d h has =
 pub parted_at : {X : Type 0} (xs : List X) (i : ℕ) (x : X) → i < length xs → x ≡ get_or xs i x → xs ≡ take i xs ++ (x ∷ drop (i + 1) xs)
 parted_at xs i x below is =
     sym (take-append-drop i xs) ∙ ap (λ z. take i xs ++ z) (drop_more xs i x below ∙ ap (λ z. z ∷ drop (i + 1) xs) (sym is))
+
+-- what is rejected of the value of the one entry with a name
+pub value_rejected : {A : Type 0} (entries : List (Entry A)) (name : List ℕ) (value : Lit A) (P : Lit A → Type 0) → Any (HasName name) entries → All (λ e. HasName name e → value ≡ e.value) entries → P value → Any (λ e. HasName name e × P e.value) entries
+value_rejected {A} entries name value P (i, e, bound, is, named) every p =
+    let same : value ≡ e.value = subst (λ (x : Entry A). HasName name x → value ≡ x.value) is (every i e bound) named in
+    (i, e, bound, is, (named, subst P same p))
