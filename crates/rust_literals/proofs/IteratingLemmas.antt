@@ -1,7 +1,7 @@
 -- What an iterator over the literals of a text returns.
-use Rattle.std.proofs.Common.{◌≡◌, ℕ, ◌+◌, List, [], ◌∷◌, ◌++◌, Option, Some, None, Ok, length, length-append, append_assoc, refl, sym, ◌∙◌, ap, subst, arith}
+use Rattle.std.proofs.Common.{◌≡◌, ℕ, ◌+◌, ◌<◌, ◌^◌, List, [], ◌∷◌, ◌++◌, Option, Some, None, Ok, length, length-append, append_assoc, refl, sym, ◌∙◌, ap, subst, arith}
 use Rattle.std.proofs.lemmas.List.{append-nil, nil_from_length}
-use Rattle.std.specs.Option.{option_to_list}
+use Rattle.std.specs.Option.{option_to_list, OnSome}
 use Rattle.std.specs.Str.{chars}
 use Rattle.std.proofs.lemmas.Str.{chars-nil}
 use Rattle.std.specs.Vec.Iter.{into_iter_items, into_iter_len, into_iter_steps}
@@ -12,7 +12,7 @@ use Rattle.rust_literals.specs.declared.lit.Lit.{Lit}
 use Rattle.rust_literals.specs.declared.literals.Literals.{Literals}
 use Rattle.rust_literals.specs.Parsing.{AreRead}
 use Rattle.rust_literals.specs.Flat.{ReadsNext, AreReadUpTo, AreFirst}
-use Rattle.rust_literals.specs.Iterating.{GoesOn, HasReturned, ReturnsNext}
+use Rattle.rust_literals.specs.Iterating.{GoesOn, HasReturned, ReturnsNext, left_with, left_of}
 use Rattle.rust_literals.proofs.FlatLemmas.{read_start, read_more, read_whole}
 
 -- the iterator at this place of its text, in place of where it was
@@ -65,3 +65,13 @@ cut_next text file taken old new lit ahead none h next t f s n w =
     let upto : AreReadUpTo (chars text) file (taken ++ lit ∷ []) (chars new.tokens.rest) = subst (λ (x : CursorState). AreReadUpTo (chars text) file (taken ++ lit ∷ []) (chars x.rest)) (sym s) longer in
     let count : length (taken ++ lit ∷ []) ≡ new.count = length-append taken (lit ∷ []) ∙ ap (λ k. k + 1) p.1 ∙ sym n in
     placed text file (taken ++ lit ∷ []) new None (ap (λ x. x.now) t ∙ h.text_is) (f ∙ h.file_is) (ap (λ (x : CursorState). x.text) s ∙ next.same ∙ h.same) (w ∙ none) (upto, count)
+
+-- what is left after a literal
+pub waiting_lower : {A : Type 0} (old : Literals A) (is : IntoIter (Lit A) A) (first : Option (Lit A)) → old.waiting ≡ None → into_iter_len is < 2 ^ 64 → OnSome first (into_iter_len is < left_of old)
+waiting_lower old is None none h = tt
+waiting_lower old is (Some lit) none h =
+    subst (λ w. into_iter_len is < left_with w (length old.tokens.rest)) (sym none) (omega (arith, h))
+
+pub cut_lower : {A : Type 0} (old : Literals A) (bytes : ℕ) → old.waiting ≡ None → bytes < length old.tokens.rest → left_with old.waiting bytes < left_of old
+cut_lower old bytes none h =
+    subst (λ w. left_with w bytes < left_with w (length old.tokens.rest)) (sym none) (omega (arith, h))

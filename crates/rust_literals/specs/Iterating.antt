@@ -1,5 +1,5 @@
 -- What an iterator over the literals of a text returns.
-use Rattle.std.specs.Prelude.{◌≡◌, ℕ, List, [], ◌∷◌, ◌++◌, length, Option, Some, None, Result, Ok, Err}
+use Rattle.std.specs.Prelude.{◌≡◌, ℕ, List, [], ◌∷◌, ◌++◌, ◌+◌, ◌^◌, length, Option, Some, None, Result, Ok, Err}
 use Rattle.std.specs.Str.{chars}
 use Rattle.std.specs.Vec.Iter.{into_iter_items, into_iter_len}
 use Rattle.std.specs.declared.vec.IntoIter.{IntoIter}
@@ -16,6 +16,15 @@ GoesOn text file taken count rest None = AreReadUpTo text file taken rest × (le
 GoesOn text file taken count rest (Some waiting) =
     AreRead text file (taken ++ into_iter_items waiting)
     × (into_iter_len waiting ≡ length (into_iter_items waiting))
+
+-- a number that each literal lowers: the bytes that are left while tokens are cut, above all that may wait then; after
+-- that the literals that wait
+abbrev pub left_with : {A : Type 0} → Option (IntoIter (Lit A) A) → ℕ → ℕ
+left_with None bytes = 2 ^ 64 + bytes
+left_with (Some waiting) bytes = into_iter_len waiting
+
+abbrev pub left_of : {A : Type 0} → Literals A → ℕ
+left_of literals = left_with literals.waiting (length literals.tokens.rest)
 
 -- The iterator over this text has returned these literals.
 pub record HasReturned {A : Type 0} (text : List ℕ) (file : ℕ) (taken : List (Lit A)) (literals : Literals A)

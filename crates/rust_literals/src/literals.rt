@@ -45,9 +45,9 @@ pub struct Literals<'t, A: Allocator = Global> {
 }
 
 impl<'t, A: Allocator + Copy> Literals<'t, A> {
-    ghost use Rattle.std.specs.Prelude.{◌≡◌, ℕ, List, [], None};
+    ghost use Rattle.std.specs.Prelude.{◌≡◌, ◌<◌, ℕ, List, [], None, IfOk, OnSome};
     ghost use Rattle.rust_literals.specs.declared.lit.Lit.{Lit};
-    ghost use Rattle.rust_literals.specs.Iterating.{HasReturned, ReturnsNext};
+    ghost use Rattle.rust_literals.specs.Iterating.{HasReturned, ReturnsNext, left_of};
 
     /// The literals of a text, from its front. Their spans have this file and the bytes of the text.
     pub fn new(alloc: A, text: &'t str, file: u32) -> Literals<'t, A>
@@ -66,8 +66,10 @@ impl<'t, A: Allocator + Copy> Literals<'t, A> {
 
     /// The literals that the trees of the text are after those that the tokens gave: the first of them, and the others wait.
     fn read_waiting(&mut self) -> Result<Option<Lit<A>>, Error<A>>
-        ensures { self.old.waiting ≡ None → (text : List ℕ) (file : ℕ) (taken : List (Lit A))
+        ensures returns { self.old.waiting ≡ None → (text : List ℕ) (file : ℕ) (taken : List (Lit A))
             → HasReturned text file taken self.old → ReturnsNext text file taken result self.new }
+        ensures shorter { self.old.waiting ≡ None → IfOk result (λ found.
+            OnSome found (left_of self.new < left_of self.old)) }
     {
         let mut waiting = read_after(self.alloc, self.text, self.file, self.count)?.into_iter();
         let first = waiting.next();
@@ -77,8 +79,10 @@ impl<'t, A: Allocator + Copy> Literals<'t, A> {
 
     /// The literal that the next tokens are.
     fn cut_next(&mut self) -> Result<Option<Lit<A>>, Error<A>>
-        ensures { self.old.waiting ≡ None → (text : List ℕ) (file : ℕ) (taken : List (Lit A))
+        ensures returns { self.old.waiting ≡ None → (text : List ℕ) (file : ℕ) (taken : List (Lit A))
             → HasReturned text file taken self.old → ReturnsNext text file taken result self.new }
+        ensures shorter { self.old.waiting ≡ None → IfOk result (λ found.
+            OnSome found (left_of self.new < left_of self.old)) }
     {
         if self.tokens.rest().is_empty() {
             return Ok(None);
@@ -102,8 +106,10 @@ impl<'t, A: Allocator + Copy> Literals<'t, A> {
     /// call returns it again.
     pub fn next(&mut self) -> Result<Option<Lit<A>>, Error<A>>
         // Whatever it has returned: the next literal, or that there is none, or the text's error.
-        ensures { (text : List ℕ) (file : ℕ) (taken : List (Lit A)) → HasReturned text file taken self.old
+        ensures returns { (text : List ℕ) (file : ℕ) (taken : List (Lit A)) → HasReturned text file taken self.old
             → ReturnsNext text file taken result self.new }
+        // So a loop over them ends.
+        ensures shorter { IfOk result (λ found. OnSome found (left_of self.new < left_of self.old)) }
     {
         match &mut self.waiting {
             Some(waiting) => Ok(waiting.next()),
