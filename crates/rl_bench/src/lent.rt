@@ -1,14 +1,10 @@
 //! What literals weigh whose contents are borrowed from the text, where they stand in it.
 
-ghost use Rattle.std.specs.Prelude.{IfOk};
-ghost use Rattle.std.specs.Str.{chars};
 ghost use Rattle.rl_grammar.specs.Founds.{IsFound};
-ghost use Rattle.rl_bench.specs.Lent.{IsBorrowed};
-ghost use Rattle.rl_bench.specs.Sizes.{HasSize};
 
 use crate::sums::Weigh;
 use crate::values::contents_size;
-use crate::weights::{text_size, weight};
+use crate::weights::weight;
 use rl_grammar::{Found, Kind, find};
 use std::alloc::{AllocError, Global};
 
@@ -19,7 +15,6 @@ const PAST_64_BITS: u128 = 1 << 64;
 /// they stand nowhere in it.
 fn lent_contents_size(alloc: Global, text: &str, found: &Found) -> Result<usize, AllocError>
     requires { IsFound text.now found.now }
-    ensures { IfOk result (HasSize found.now.kind (chars text.now)) }
 {
     if found.kind.is_string() && found.body.plain {
         Ok(found.body_in(text).len())
@@ -33,7 +28,6 @@ fn lent_contents_size(alloc: Global, text: &str, found: &Found) -> Result<usize,
 /// contents.
 fn lent_size(alloc: Global, text: &str, found: &Found) -> Result<u64, AllocError>
     requires { IsFound text.now found.now }
-    ensures { IfOk result (IsBorrowed found.now.kind text.now) }
 {
     match found.kind {
         Kind::Int => Ok((found.magnitude % PAST_64_BITS) as u64),
@@ -46,18 +40,14 @@ fn lent_size(alloc: Global, text: &str, found: &Found) -> Result<u64, AllocError
 pub(crate) struct ByLent;
 
 impl Weigh for ByLent {
-    ghost use Rattle.rl_bench.specs.Lent.{HasLentWeight};
-
-    type Refusal = AllocError;
-
-    ghost weighs = { HasLentWeight };
+    type Error = AllocError;
 
     fn weigh(alloc: Global, text: &str) -> Result<u64, AllocError> {
         let Some(found) = find(text) else {
             return Ok(0);
         };
         let size = lent_size(alloc, text, &found)?;
-        let suffix = text_size(found.suffix_in(text));
+        let suffix = found.suffix_in(text).len();
         Ok(weight(found.kind, size, suffix as u64))
     }
 }

@@ -5,21 +5,6 @@
 //! end, or is no UTF-8, is skipped.
 #![tactic(auto)]
 
-ghost use Rattle.std.specs.Prelude.{◌≡◌, IsTrue, IsFalse};
-ghost use Rattle.rl_bench.specs.Sums.{IsSum};
-ghost use Rattle.std.specs.declared.alloc.Global.{Global};
-ghost use Rattle.rl_bench.specs.Lent.{HasLentWeight};
-ghost use Rattle.rl_bench.specs.Segments.{HasSegmentWeight};
-ghost use Rattle.rl_bench.specs.Weights.{
-  HasShapeWeight,
-  HasValueWeight,
-  HasTokenCount,
-  HasSourceCount,
-  HasTreeCount,
-  HasLiteralCount,
-  HasAttributeCount,
-};
-
 mod lent;
 mod lists;
 mod literals;
@@ -47,18 +32,14 @@ use std::convert::Infallible;
 /// The sum of the shapes of the texts: of each literal its kind's number, and the lengths of body
 /// and suffix in bytes.
 #[unsafe(no_mangle)]
-pub extern "C" fn rl_bench_shape(alloc: Global, corpus: &[u8], ends: &[usize]) -> u64
-    ensures { IsSum HasShapeWeight corpus.now ends.now result }
-{
+pub extern "C" fn rl_bench_shape(alloc: Global, corpus: &[u8], ends: &[usize]) -> u64 {
     certain(sum::<ByShape>(alloc, corpus, ends))
 }
 
 /// The sum of the lengths in bytes of what the segments of the texts stand for; of a text that is no quoted literal none.
 /// It takes no memory.
 #[unsafe(no_mangle)]
-pub extern "C" fn rl_bench_segments(alloc: Global, corpus: &[u8], ends: &[usize]) -> u64
-    ensures { IsSum HasSegmentWeight corpus.now ends.now result }
-{
+pub extern "C" fn rl_bench_segments(alloc: Global, corpus: &[u8], ends: &[usize]) -> u64 {
     certain(sum::<BySegments>(alloc, corpus, ends))
 }
 
@@ -70,10 +51,7 @@ pub extern "C" fn rl_bench_value(
     corpus: &[u8],
     ends: &[usize],
     total: &mut u64,
-) -> bool
-    ensures sum { IsTrue result → IsSum HasValueWeight corpus.now ends.now total.new }
-    ensures rejected { IsFalse result → total.new ≡ total.old }
-{
+) -> bool {
     put(sum::<ByValue>(alloc, corpus, ends), total)
 }
 
@@ -87,10 +65,7 @@ pub extern "C" fn rl_bench_lent(
     corpus: &[u8],
     ends: &[usize],
     total: &mut u64,
-) -> bool
-    ensures sum { IsTrue result → IsSum HasLentWeight corpus.now ends.now total.new }
-    ensures rejected { IsFalse result → total.new ≡ total.old }
-{
+) -> bool {
     put(sum::<ByLent>(alloc, corpus, ends), total)
 }
 
@@ -102,10 +77,7 @@ pub extern "C" fn rl_bench_literal(
     corpus: &[u8],
     ends: &[usize],
     total: &mut u64,
-) -> bool
-    ensures sum { IsTrue result → IsSum HasValueWeight corpus.now ends.now total.new }
-    ensures rejected { IsFalse result → total.new ≡ total.old }
-{
+) -> bool {
     put(sum::<ByLiteral>(alloc, corpus, ends), total)
 }
 
@@ -116,28 +88,21 @@ pub extern "C" fn rl_bench_value_ref(
     corpus: &[u8],
     ends: &[usize],
     total: &mut u64,
-) -> bool
-    ensures sum { IsTrue result → IsSum HasValueWeight corpus.now ends.now total.new }
-    ensures rejected { IsFalse result → total.new ≡ total.old }
-{
+) -> bool {
     put(sum::<ByValueRef>(alloc, corpus, ends), total)
 }
 
 /// How many tokens can be cut off the texts, each until no token begins what is left. No memory is
 /// taken.
 #[unsafe(no_mangle)]
-pub extern "C" fn rl_bench_tokens(alloc: Global, corpus: &[u8], ends: &[usize]) -> u64
-    ensures { IsSum HasTokenCount corpus.now ends.now result }
-{
+pub extern "C" fn rl_bench_tokens(alloc: Global, corpus: &[u8], ends: &[usize]) -> u64 {
     certain(sum::<ByTokens>(alloc, corpus, ends))
 }
 
 /// How many tokens the texts are cut into as whole sources, each until no token begins what is left.
 /// It takes no memory.
 #[unsafe(no_mangle)]
-pub extern "C" fn rl_bench_source(alloc: Global, corpus: &[u8], ends: &[usize]) -> u64
-    ensures { IsSum HasSourceCount corpus.now ends.now result }
-{
+pub extern "C" fn rl_bench_source(alloc: Global, corpus: &[u8], ends: &[usize]) -> u64 {
     certain(sum::<BySources>(alloc, corpus, ends))
 }
 
@@ -149,10 +114,7 @@ pub extern "C" fn rl_bench_lex(
     corpus: &[u8],
     ends: &[usize],
     total: &mut u64,
-) -> bool
-    ensures sum { IsTrue result → IsSum HasTreeCount corpus.now ends.now total.new }
-    ensures rejected { IsFalse result → total.new ≡ total.old }
-{
+) -> bool {
     put(sum::<ByTrees>(alloc, corpus, ends), total)
 }
 
@@ -164,10 +126,7 @@ pub extern "C" fn rl_bench_read(
     corpus: &[u8],
     ends: &[usize],
     total: &mut u64,
-) -> bool
-    ensures sum { IsTrue result → IsSum (HasLiteralCount Global) corpus.now ends.now total.new }
-    ensures rejected { IsFalse result → total.new ≡ total.old }
-{
+) -> bool {
     put(sum::<ByList>(alloc, corpus, ends), total)
 }
 
@@ -179,17 +138,12 @@ pub extern "C" fn rl_bench_attr(
     corpus: &[u8],
     ends: &[usize],
     total: &mut u64,
-) -> bool
-    ensures sum { IsTrue result → IsSum (HasAttributeCount Global) corpus.now ends.now total.new }
-    ensures rejected { IsFalse result → total.new ≡ total.old }
-{
+) -> bool {
     put(sum::<ByAttributes>(alloc, corpus, ends), total)
 }
 
 /// A sum that takes no memory.
-fn certain(sum: Result<u64, Infallible>) -> u64
-    ensures { sum ≡ Ok result }
-{
+fn certain(sum: Result<u64, Infallible>) -> u64 {
     match sum {
         Ok(total) => total,
         Err(never) => match never {},
@@ -197,10 +151,7 @@ fn certain(sum: Result<u64, Infallible>) -> u64
 }
 
 /// Puts a sum into its place, where there is one.
-fn put(sum: Result<u64, AllocError>, total: &mut u64) -> bool
-    ensures sum { IsTrue result → sum ≡ Ok total.new }
-    ensures rejected { IsFalse result → total.new ≡ total.old }
-{
+fn put(sum: Result<u64, AllocError>, total: &mut u64) -> bool {
     match sum {
         Ok(found) => {
             *total = found;

@@ -10,11 +10,7 @@ use std::alloc::{AllocError, Global};
 pub(crate) struct ByTrees;
 
 impl Weigh for ByTrees {
-    ghost use Rattle.rl_bench.specs.Weights.{HasTreeCount};
-
-    type Refusal = AllocError;
-
-    ghost weighs = { HasTreeCount };
+    type Error = AllocError;
 
     fn weigh(alloc: Global, text: &str) -> Result<u64, AllocError> {
         match lex(alloc, text, 0) {
@@ -31,12 +27,7 @@ impl Weigh for ByTrees {
 pub(crate) struct ByList;
 
 impl Weigh for ByList {
-    ghost use Rattle.std.specs.declared.alloc.Global.{Global};
-    ghost use Rattle.rl_bench.specs.Weights.{HasLiteralCount};
-
-    type Refusal = AllocError;
-
-    ghost weighs = { HasLiteralCount Global };
+    type Error = AllocError;
 
     fn weigh(alloc: Global, text: &str) -> Result<u64, AllocError> {
         match read_all(alloc, text, 0) {
@@ -53,12 +44,7 @@ impl Weigh for ByList {
 pub(crate) struct ByAttributes;
 
 impl Weigh for ByAttributes {
-    ghost use Rattle.std.specs.declared.alloc.Global.{Global};
-    ghost use Rattle.rl_bench.specs.Weights.{HasAttributeCount};
-
-    type Refusal = AllocError;
-
-    ghost weighs = { HasAttributeCount Global };
+    type Error = AllocError;
 
     fn weigh(alloc: Global, text: &str) -> Result<u64, AllocError> {
         match read(alloc, text, 0) {

@@ -1,23 +1,15 @@
 //! What literals weigh by way of `Lit`.
 
-ghost use Rattle.std.specs.Prelude.{IfOk};
-ghost use Rattle.std.specs.Str.{chars};
-ghost use Rattle.rl_tokens.specs.declared.kind.Kind.TheVariants.{Str, ByteStr, CStr};
-ghost use Rattle.rl_bench.specs.Weights.{IsValueWeight};
-ghost use Rattle.rl_bench.specs.Sizes.{HasLitWeight, IsLitOfText};
-
 use crate::sums::Weigh;
 use crate::values::value_weight;
-use crate::weights::{text_size, weight};
+use crate::weights::weight;
 use rl_grammar::Kind;
 use rl_tokens::{Literal, Span};
 use rust_literals::{Lit, LitByteStr, LitCStr, LitStr};
 use std::alloc::{AllocError, Global};
 
 /// The weight of a literal by its kind, value or digits, and suffix.
-pub(crate) fn literal_weight(alloc: Global, literal: &Lit) -> Result<u64, AllocError>
-    ensures { IfOk result (HasLitWeight literal.now) }
-{
+pub(crate) fn literal_weight(alloc: Global, literal: &Lit) -> Result<u64, AllocError> {
     match literal {
         Lit::Str(literal) => string_weight(alloc, literal),
         Lit::ByteStr(literal) => byte_string_weight(alloc, literal),
@@ -29,11 +21,11 @@ pub(crate) fn literal_weight(alloc: Global, literal: &Lit) -> Result<u64, AllocE
             Ok(value_weight(Kind::Char, size, literal.suffix()))
         }
         Lit::Int(literal) => {
-            let size = text_size(literal.base10_digits());
+            let size = literal.base10_digits().len();
             Ok(value_weight(Kind::Int, size, literal.suffix()))
         }
         Lit::Float(literal) => {
-            let size = text_size(literal.base10_digits());
+            let size = literal.base10_digits().len();
             Ok(value_weight(Kind::Float, size, literal.suffix()))
         }
         Lit::Bool(_) => Ok(weight(Kind::Bool, 0, 0)),
@@ -42,12 +34,10 @@ pub(crate) fn literal_weight(alloc: Global, literal: &Lit) -> Result<u64, AllocE
 }
 
 /// The weight of a string.
-pub(crate) fn string_weight(alloc: Global, literal: &LitStr) -> Result<u64, AllocError>
-    ensures { IfOk result (IsValueWeight Str (chars literal.now.text)) }
-{
+pub(crate) fn string_weight(alloc: Global, literal: &LitStr) -> Result<u64, AllocError> {
     match literal.value(alloc) {
         Ok(value) => {
-            let size = text_size(value.as_str());
+            let size = value.as_str().len();
             Ok(value_weight(Kind::Str, size, literal.suffix()))
         }
         Err(_) => Err(AllocError),
@@ -55,9 +45,7 @@ pub(crate) fn string_weight(alloc: Global, literal: &LitStr) -> Result<u64, Allo
 }
 
 /// The weight of a byte string.
-pub(crate) fn byte_string_weight(alloc: Global, literal: &LitByteStr) -> Result<u64, AllocError>
-    ensures { IfOk result (IsValueWeight ByteStr (chars literal.now.text)) }
-{
+pub(crate) fn byte_string_weight(alloc: Global, literal: &LitByteStr) -> Result<u64, AllocError> {
     match literal.value(alloc) {
         Ok(value) => Ok(value_weight(Kind::ByteStr, value.len(), literal.suffix())),
         Err(_) => Err(AllocError),
@@ -65,9 +53,7 @@ pub(crate) fn byte_string_weight(alloc: Global, literal: &LitByteStr) -> Result<
 }
 
 /// The weight of a C string.
-pub(crate) fn c_string_weight(alloc: Global, literal: &LitCStr) -> Result<u64, AllocError>
-    ensures { IfOk result (IsValueWeight CStr (chars literal.now.text)) }
-{
+pub(crate) fn c_string_weight(alloc: Global, literal: &LitCStr) -> Result<u64, AllocError> {
     match literal.value(alloc) {
         Ok(value) => {
             let size = value.as_bytes().len();
@@ -78,9 +64,7 @@ pub(crate) fn c_string_weight(alloc: Global, literal: &LitCStr) -> Result<u64, A
 }
 
 /// The literal that the text reads as.
-pub(crate) fn literal_of(alloc: Global, text: &str) -> Result<Lit, AllocError>
-    ensures { IfOk result (IsLitOfText text.now) }
-{
+pub(crate) fn literal_of(alloc: Global, text: &str) -> Result<Lit, AllocError> {
     let span = Span::new(0, 0, text.len());
     let Ok(token) = Literal::from_text(alloc, text, span) else {
         return Err(AllocError);
@@ -95,11 +79,7 @@ pub(crate) fn literal_of(alloc: Global, text: &str) -> Result<Lit, AllocError>
 pub(crate) struct ByLiteral;
 
 impl Weigh for ByLiteral {
-    ghost use Rattle.rl_bench.specs.Weights.{HasValueWeight};
-
-    type Refusal = AllocError;
-
-    ghost weighs = { HasValueWeight };
+    type Error = AllocError;
 
     fn weigh(alloc: Global, text: &str) -> Result<u64, AllocError> {
         let literal = literal_of(alloc, text)?;

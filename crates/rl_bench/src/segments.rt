@@ -1,16 +1,12 @@
 //! What literals weigh by their segments.
 
-ghost use Rattle.rl_bench.specs.Segments.{HasSegmentWeight};
-
 use crate::sums::Weigh;
 use rl_grammar::Segments;
 use std::alloc::Global;
 use std::convert::Infallible;
 
 /// How long what the segments of a quoted literal stand for is, modulo 2 to the 64th.
-fn segments_size(text: &str) -> u64
-    ensures { HasSegmentWeight text.now result }
-{
+fn segments_size(text: &str) -> u64 {
     let Some(mut segments) = Segments::of(text) else {
         return 0;
     };
@@ -25,11 +21,7 @@ fn segments_size(text: &str) -> u64
 pub(crate) struct BySegments;
 
 impl Weigh for BySegments {
-    ghost use Rattle.rl_bench.specs.Segments.{HasSegmentWeight};
-
-    type Refusal = Infallible;
-
-    ghost weighs = { HasSegmentWeight };
+    type Error = Infallible;
 
     fn weigh(_alloc: Global, text: &str) -> Result<u64, Infallible> {
         Ok(segments_size(text))

@@ -1,26 +1,20 @@
 //! What literals weigh whose values are borrowed where they can be.
 
-ghost use Rattle.std.specs.Prelude.{IfOk};
-ghost use Rattle.rl_bench.specs.Sizes.{HasLitWeight};
-
 use crate::literals::{
     byte_string_weight, c_string_weight, literal_of, literal_weight, string_weight,
 };
 use crate::sums::Weigh;
 use crate::values::value_weight;
-use crate::weights::text_size;
 use rl_grammar::Kind;
 use rust_literals::Lit;
 use std::alloc::{AllocError, Global};
 
 /// The weight of a literal by its kind, value or digits, and suffix. A value is borrowed, and made
 /// where it can't be.
-fn value_ref_weight(alloc: Global, literal: &Lit) -> Result<u64, AllocError>
-    ensures { IfOk result (HasLitWeight literal.now) }
-{
+fn value_ref_weight(alloc: Global, literal: &Lit) -> Result<u64, AllocError> {
     match literal {
         Lit::Str(string) => match string.value_ref() {
-            Some(value) => Ok(value_weight(Kind::Str, text_size(value), string.suffix())),
+            Some(value) => Ok(value_weight(Kind::Str, value.len(), string.suffix())),
             None => string_weight(alloc, string),
         },
         Lit::ByteStr(string) => match string.value_ref() {
@@ -39,11 +33,7 @@ fn value_ref_weight(alloc: Global, literal: &Lit) -> Result<u64, AllocError>
 pub(crate) struct ByValueRef;
 
 impl Weigh for ByValueRef {
-    ghost use Rattle.rl_bench.specs.Weights.{HasValueWeight};
-
-    type Refusal = AllocError;
-
-    ghost weighs = { HasValueWeight };
+    type Error = AllocError;
 
     fn weigh(alloc: Global, text: &str) -> Result<u64, AllocError> {
         let literal = literal_of(alloc, text)?;

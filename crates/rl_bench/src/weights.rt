@@ -1,19 +1,12 @@
 //! What kinds and parts weigh.
 
-ghost use Rattle.std.specs.Prelude.{◌≡◌};
-ghost use Rattle.std.specs.Str.{chars};
-ghost use Rattle.rl_tokens.specs.Texts.{byte_len};
-ghost use Rattle.rl_bench.specs.Weights.{kind_number, weight_of};
-
 use crate::sums::Weigh;
 use rl_grammar::{Kind, shape};
 use std::alloc::Global;
 use std::convert::Infallible;
 
 /// A kind's number.
-fn kind_number(kind: Kind) -> u64
-    ensures { result ≡ kind_number kind }
-{
+fn kind_number(kind: Kind) -> u64 {
     match kind {
         Kind::Str => 1,
         Kind::ByteStr => 2,
@@ -27,29 +20,15 @@ fn kind_number(kind: Kind) -> u64
 }
 
 /// A kind's number and two lengths, added modulo 2 to the 64th.
-pub(crate) fn weight(kind: Kind, first: u64, second: u64) -> u64
-    ensures { result ≡ weight_of kind first second }
-{
+pub(crate) fn weight(kind: Kind, first: u64, second: u64) -> u64 {
     kind_number(kind).wrapping_add(first).wrapping_add(second)
-}
-
-/// How many bytes the characters of a text take.
-#[tactic(auto, using(rl_tokens::proofs::Faults::char_len))]
-pub(crate) fn text_size(text: &str) -> usize
-    ensures { result ≡ byte_len (chars text.now) }
-{
-    text.len()
 }
 
 /// By kind, body and suffix.
 pub(crate) struct ByShape;
 
 impl Weigh for ByShape {
-    ghost use Rattle.rl_bench.specs.Weights.{HasShapeWeight};
-
-    type Refusal = Infallible;
-
-    ghost weighs = { HasShapeWeight };
+    type Error = Infallible;
 
     fn weigh(_alloc: Global, text: &str) -> Result<u64, Infallible> {
         match shape(text) {

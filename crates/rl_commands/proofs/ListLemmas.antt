@@ -16,7 +16,7 @@ use Rattle.rl_lines.proofs.ListLemmas.{lines_of_text}
 use Rattle.rl_commands.specs.declared.command.Command.TheVariants.{Read}
 use Rattle.rl_program.specs.declared.fault.Fault.{Fault}
 use Rattle.rl_program.specs.declared.fault.Fault.TheVariants.{Read as ReadFault, Write, NotText, Memory, Literal}
-use Rattle.rl_commands.specs.Runs.{Shows, ReportsLiteral, IsRejectionOf}
+use Rattle.rl_commands.specs.Runs.{Shows, IsLiteralError, IsRejectionOf}
 use Rattle.rl_commands.specs.Lists.{Lengthens, HasFirst}
 
 -- lines after lines
@@ -65,7 +65,7 @@ pub are_first : {A : Type 0} (text rest : List ℕ) (lines : Option (String A)) 
 are_first text rest lines count has = record { begun = record { rest = chars rest; read = has.read }; count_is = has.count_is }
 
 -- the error of the literals after
-pub told_refusal : {A : Type 0} (text : List ℕ) (fault : Fault A) → IsUtf8 text → ReportsLiteral (RejectsText (chars text) 0 (length text)) fault → IsRejectionOf Read text fault
+pub told_refusal : {A : Type 0} (text : List ℕ) (fault : Fault A) → IsUtf8 text → IsLiteralError (RejectsText (chars text) 0 (length text)) fault → IsRejectionOf Read text fault
 told_refusal text (Literal error) utf8 h = (utf8, h)
 told_refusal text ReadFault utf8 h = absurd h
 told_refusal text Write utf8 h = absurd h

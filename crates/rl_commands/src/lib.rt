@@ -10,4 +10,5 @@ mod list;
 pub mod run;
 
 pub use crate::command::Command;
-pub use crate::ending::{Ending, call};
+pub use crate::ending::call;
+pub use rl_program::{Ending, Fault};

@@ -6,7 +6,7 @@ ghost use Rattle.rust_literals.specs.declared.lit.Lit.{Lit};
 ghost use Rattle.rust_literals.specs.Parsing.{AreRead, RejectsText};
 ghost use Rattle.rust_literals.specs.Flat.{AreFirst};
 ghost use Rattle.rl_commands.specs.declared.command.Command.TheVariants.{Read};
-ghost use Rattle.rl_commands.specs.Runs.{Shows, ReportsLiteral, IsRejectionOf};
+ghost use Rattle.rl_commands.specs.Runs.{Shows, IsLiteralError, IsRejectionOf};
 ghost use Rattle.rl_commands.specs.Lists.{Lengthens, AreFirstLines};
 
 use rl_lines::push_literals;
@@ -75,7 +75,7 @@ fn literals_behind<A: Allocator + Copy>(
     ensures read { (first : List (Lit A)) → AreFirst (chars text.now) 0 count first
         → IfOk result (λ more. AreRead (chars text.now) 0 (first ++ more.items)) }
     ensures rejection { (first : List (Lit A)) → AreFirst (chars text.now) 0 count first
-        → IfErr result (ReportsLiteral (RejectsText (chars text.now) 0 (length text.now))) }
+        → IfErr result (IsLiteralError (RejectsText (chars text.now) 0 (length text.now))) }
 {
     match read_behind(alloc, text, 0, count) {
         Ok(literals) => Ok(literals),

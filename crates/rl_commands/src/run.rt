@@ -6,7 +6,7 @@ ghost use Rattle.rl_commands.specs.declared.command.Command.TheVariants.{Text};
 ghost use Rattle.rl_tokens.specs.Errors.{memory_at};
 ghost use Rattle.rust_literals.specs.Literals.{IsReadFrom};
 ghost use Rattle.rust_literals.specs.LitParts.{ReadsAsNumber};
-ghost use Rattle.rl_commands.specs.Runs.{whole_token, Shows, Prints, ReportsLiteral, IsErrorOf, IsRejectionOf};
+ghost use Rattle.rl_commands.specs.Runs.{whole_token, Shows, Prints, IsLiteralError, IsErrorOf, IsRejectionOf};
 
 use crate::attribute_lines::attribute_lines;
 use crate::command::Command;
@@ -36,7 +36,7 @@ fn token_of<A: Allocator + Copy>(alloc: A, bytes: Vec<u8, A>) -> Result<Literal<
 fn literal_of<A: Allocator + Copy>(alloc: A, token: Literal<A>) -> Result<Lit<A>, Fault<A>>
     ensures reads { IfOk result (IsReadFrom token) }
     ensures rejection { IfErr result
-        (ReportsLiteral (λ e. (e ≡ memory_at token.span) × ReadsAsNumber (chars token.text))) }
+        (IsLiteralError (λ e. (e ≡ memory_at token.span) × ReadsAsNumber (chars token.text))) }
 {
     match Lit::new(alloc, token) {
         Ok(literal) => Ok(literal),

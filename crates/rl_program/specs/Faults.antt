@@ -13,7 +13,7 @@ error_line Memory = codes "error: out of memory"
 error_line (Literal e) = rejection_line e
 
 -- the status of an error
-abbrev pub error_status : {A : Type 0} → Fault A → ℕ
-error_status Read = 2
-error_status Write = 2
-error_status _ = 1
+abbrev pub fault_status : {A : Type 0} → Fault A → ℕ
+fault_status Read = 2
+fault_status Write = 2
+fault_status _ = 1

@@ -1,11 +1,61 @@
 //! How a program begins and ends.
 
-ghost use Rattle.std.specs.Prelude.{◌≡◌};
+ghost use Rattle.std.specs.Prelude.{◌≡◌, ℕ};
 ghost use Rattle.std.specs.Process.{exit_status};
+ghost use Rattle.rl_program.specs.Endings.{ending_line, status_of};
 
-use std::env;
-use std::fmt::Display;
 use std::process::ExitCode;
+use std::{env, fmt};
+
+/// Why a run failed, as its program reports it: by a status, and by the line that `Display` writes.
+pub trait RunError: fmt::Display {
+    ghost error_status: { Self → ℕ };
+
+    /// The status that the program ends with.
+    fn status(&self) -> u8
+        ensures { result ≡ error_status self.now };
+}
+
+/// How a call of a program ends.
+#[derive(Drop)]
+pub enum Ending<E> {
+    /// All lines were written.
+    Done,
+    /// All lines were written, of literals without a reading, and there was one.
+    FoundBad,
+    /// The arguments ask for nothing that the program does; the line says how it is used.
+    Usage(&'static str),
+    /// The run failed.
+    Failed(E),
+}
+
+impl<E: RunError> Ending<E> {
+    /// The status that the program ends with: 0 where all lines were written, 1 where bad literals were found, 2 where
+    /// the arguments ask for nothing, else that of the error.
+    pub fn status(&self) -> u8
+        ensures { result ≡ status_of E.error_status self.now }
+    {
+        match self {
+            Ending::Done => 0,
+            Ending::FoundBad => 1,
+            Ending::Usage(_) => 2,
+            Ending::Failed(error) => error.status(),
+        }
+    }
+}
+
+/// The line on standard error: how the program is used, or the error; nothing where all lines were written.
+impl<E: fmt::Display> fmt::Display for Ending<E> {
+    ghost output = { λ ending. ending_line E.output ending };
+
+    fn fmt<W: fmt::Write>(&self, f: &mut fmt::Formatter<W>) -> fmt::Result {
+        match self {
+            Ending::Done | Ending::FoundBad => Ok(()),
+            Ending::Usage(line) => f.write_str(line),
+            Ending::Failed(error) => write!(f, "{error}"),
+        }
+    }
+}
 
 /// The program's arguments, its own name the first; none where they can't be had.
 pub fn arguments(rt: &HostRuntime) -> Vec<String> {
@@ -15,12 +65,16 @@ pub fn arguments(rt: &HostRuntime) -> Vec<String> {
     }
 }
 
-/// Ends the program with this status, after a line on standard error where there is one.
-pub fn finish<D: Display + Drop>(rt: &impl Eprint, status: u8, line: Option<D>) -> ExitCode
-    ensures { exit_status result ≡ status }
+/// Ends the program with the status of this ending, after its line on standard error where it has one.
+pub fn finish<E: RunError + Drop>(rt: &impl Eprint, ending: Ending<E>) -> ExitCode
+    ensures { exit_status result ≡ status_of E.error_status ending }
 {
-    if let Some(line) = line {
-        let _ = rt.eprintln(line);
+    let status = ending.status();
+    match ending {
+        Ending::Done | Ending::FoundBad => {}
+        reported => {
+            let _ = rt.eprintln(reported);
+        }
     }
     ExitCode::from(status)
 }

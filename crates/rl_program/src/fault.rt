@@ -1,8 +1,9 @@
 //! Why a run fails.
 
-ghost use Rattle.std.specs.Prelude.{◌≡◌, Some};
-ghost use Rattle.rl_program.specs.Faults.{error_line, error_status};
+ghost use Rattle.std.specs.Prelude.{Some};
+ghost use Rattle.rl_program.specs.Faults.{error_line};
 
+use crate::ending::RunError;
 use rl_lines::Refusal;
 use rl_tokens::Error;
 use std::alloc::{AllocError, Allocator, Global};
@@ -24,11 +25,13 @@ pub enum Fault<A: Allocator = Global> {
     Literal(Error<A>),
 }
 
-impl<A: Allocator> Fault<A> {
-    /// The status that the program ends with: 2 where reading or writing failed, else 1.
-    pub fn status(&self) -> u8
-        ensures { result ≡ error_status self.now }
-    {
+/// The status is 2 where reading or writing failed, else 1.
+impl<A: Allocator> RunError for Fault<A> {
+    ghost use Rattle.rl_program.specs.Faults.{fault_status};
+
+    ghost error_status = { fault_status };
+
+    fn status(&self) -> u8 {
         match self {
             Fault::Read | Fault::Write => 2,
             _ => 1,

@@ -6,6 +6,6 @@ mod ending;
 mod fault;
 mod streams;
 
-pub use crate::ending::{arguments, finish};
+pub use crate::ending::{Ending, RunError, arguments, finish};
 pub use crate::fault::Fault;
 pub use crate::streams::{read_whole, text_of, write_whole};

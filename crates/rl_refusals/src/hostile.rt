@@ -1,10 +1,12 @@
-//! Texts that are cut or long, given to five calls: `Lit::new`, `skip`, `lex`, `read_all` and `is_token`.
+//! Texts that are cut or long, given to five calls: `Lit::new`, `skip`, `lex`, `read_all` and `is_token`; and attributes
+//! whose names were chosen.
 
 use crate::tell::{Tell, tell_places};
+use rl_attributes::Attrs;
 use rl_grammar::strict;
-use rl_lines::line_of;
+use rl_lines::{Refusal, line_of};
 use rl_refusing::Page;
-use rl_tokens::{Kept, Literal, Span, lex, whitespace};
+use rl_tokens::{Error, Kept, Literal, Span, lex, whitespace};
 use rust_literals::{Lit, read_all};
 use std::alloc::Global;
 
@@ -158,4 +160,42 @@ pub fn long(alloc: Global, parts: &str, page: &mut Page) {
         put_times(count.parse::<u32>().unwrap_or(1), piece, &mut whole);
     }
     tell_text(alloc, whole.text(), page);
+}
+
+/// The number of the first name: those after it have as many digits.
+const FIRST: usize = 10_000_000;
+
+/// Puts last a setting whose name is a front and a number.
+fn put_setting(front: &str, number: usize, text: &mut Page) {
+    text.put(front);
+    text.put_number(number);
+    text.put("=1,");
+}
+
+/// Puts last so many settings whose names begin with a front and end in numbers.
+fn put_settings(count: usize, front: &str, text: &mut Page) {
+    for number in FIRST..FIRST.saturating_add(count) {
+        put_setting(front, number, text);
+    }
+}
+
+/// Puts a line last: how many attributes were read, or why none were.
+fn tell_attributes(answer: Result<Attrs, Error>, page: &mut Page) {
+    page.put("  ");
+    match answer {
+        Ok(attrs) => page.put_number(attrs.entries().len()),
+        Err(error) => page.put_shown(&Refusal(&error)),
+    }
+    page.put("\n");
+}
+
+/// Puts last how many attributes are read whose names are a front and a number each, and then what comes of them with
+/// the first one once more. A row is how many they are, a space and the front.
+pub fn names(alloc: Global, row: &str, page: &mut Page) {
+    let (count, front) = row.split_once(' ').unwrap_or((row, ""));
+    let mut text = page.another();
+    put_settings(count.parse::<usize>().unwrap_or(0), front, &mut text);
+    tell_attributes(rl_attributes::read(alloc, text.text(), 0), page);
+    put_setting(front, FIRST, &mut text);
+    tell_attributes(rl_attributes::read(alloc, text.text(), 0), page);
 }

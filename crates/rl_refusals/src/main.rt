@@ -1,9 +1,9 @@
-//! Tries the libraries where they are refused something. For development.
+//! Tries the libraries where allocations fail, and on hostile texts. For development.
 //!
-//! A line of input begins with `cut`, `long`, `run`, `attributes` or a type's name. After a type's name stand a call of it and
-//! a text: the requests for memory of the call are refused, each in turn. So are those of a run after `run` and a command's
-//! name, and those of the parser of attributes after `attributes`. After `cut` stands a text that is cut at each place.
-//! After `long` stand the parts of a long text.
+//! A line of input begins with `cut`, `long`, `names`, `run`, `attributes` or a type's name. After a type's name stand a call
+//! of it and a text: the allocations of the call fail, each in turn. So do those of a run after `run` and a command's name,
+//! and those of the parser of attributes after `attributes`. After `cut` stands a text that is cut at each place. After `long`
+//! stand the parts of a long text. After `names` stand how many attributes there are, and how their names begin.
 #![tactic(auto)]
 
 mod grammar;
@@ -33,6 +33,7 @@ fn answer(alloc: Global, line: &str) -> Result<String, AllocError> {
     match of {
         "cut" => hostile::cuts(alloc, rest, &mut page),
         "long" => hostile::long(alloc, rest, &mut page),
+        "names" => hostile::names(alloc, rest, &mut page),
         "run" => runs::of_command(alloc, rest, &mut page),
         "attributes" => runs::attributes(alloc, rest, &mut page),
         _ => {

@@ -1,5 +1,5 @@
-//! Commands whose answers a clause pins: texts as literals, numbers, lists, attributes and sources, and why texts are no
-//! literals. `tools/compare` asks them of many texts at once.
+//! Commands on a text: as a literal, a number, a list, attributes or a source, and why it is no literal. `tools/compare` asks
+//! them of many texts at once.
 
 mod answer;
 mod attributes;

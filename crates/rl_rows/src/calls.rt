@@ -2,8 +2,8 @@
 
 use crate::tell::tell;
 use crate::{
-    attributes, bytes, copies, examples, inside, lists, literals, long, messages, numbers, parsers,
-    rejected, runs, segments, shapes, tokens, trees, uses,
+    attributes, bytes, copies, debugs, examples, inside, lists, literals, long, messages, numbers,
+    parsers, rejected, runs, segments, shapes, tokens, trees, uses,
 };
 use rl_refusing::Page;
 use rust_literals::read_all;
@@ -55,6 +55,7 @@ fn of_several(alloc: Global, name: &str, text: &str, out: &mut Page) -> bool {
         "attr_many" => attributes::many(alloc, text, out),
         "lex_kinds" => messages::lex_kinds(out),
         "kinds" => messages::kinds(alloc, out),
+        "debugs" => debugs::debugs(alloc, text, out),
         "examples" => examples::examples(alloc, out),
         _ => return false,
     }

@@ -1,5 +1,5 @@
 //! Rows of tests: reads lines of input, and prints of each what a command or a call of the libraries answers to a text, to be
-//! compared with stored lines or, many texts at once, with what other programs say. What commands print is a clause.
+//! compared with stored lines or, many texts at once, with what other programs say.
 #![tactic(auto)]
 
 mod attributes;
@@ -7,6 +7,7 @@ mod bulk;
 mod bytes;
 mod calls;
 mod copies;
+mod debugs;
 mod examples;
 mod inside;
 mod lists;

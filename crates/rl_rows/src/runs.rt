@@ -3,13 +3,12 @@
 //! that for sources, whose own name is left out.
 
 use crate::streams::{Input, Output, Streams};
-use rl_commands::{Ending, call};
-use rl_program::Fault;
+use rl_commands::{Fault, call};
+use rl_program::{Ending, RunError};
 use rl_refusing::Page;
 use rl_sources::call as call_of_sources;
 use rl_tokens::{Error, ErrorKind, Span};
 use std::alloc::{AllocError, Global};
-use std::fmt::Display;
 
 /// Prints what a call of this name answers; false where there is none.
 pub(crate) fn told(alloc: Global, name: &str, bytes: &[u8], out: &mut Page) -> bool {
@@ -136,10 +135,10 @@ fn put_call_of(args: &[String], input: &[u8], streams: Streams, out: &mut Page) 
     };
     if is_scan(args) {
         let ending = call_of_sources(alloc, args, &mut input, &mut output);
-        put_ending(held.as_slice(), ending.status(), ending, out)
+        put_ending(held.as_slice(), ending, out)
     } else {
         let ending = call(alloc, args, &mut input, &mut output);
-        put_ending(held.as_slice(), ending.status(), ending, out)
+        put_ending(held.as_slice(), ending, out)
     }
 }
 
@@ -155,16 +154,15 @@ fn is_scan(args: &[String]) -> bool {
 }
 
 /// Prints what was written, the status of an ending, and the line that it reports.
-fn put_ending<E: Display + Drop>(held: &[u8], status: u8, ending: E, out: &mut Page) {
+fn put_ending<E: RunError + Drop>(held: &[u8], ending: Ending<E>, out: &mut Page) {
     out.put(text_of(held));
-    out.show(&status, " ");
+    out.show(&ending.status(), " ");
     out.show(&ending, "\n")
 }
 
 /// Prints how a call ends whose run fails.
 fn put_failed(fault: Fault, out: &mut Page) {
-    let ending: Ending = Ending::Failed(fault);
-    put_ending(&[], ending.status(), ending, out)
+    put_ending(&[], Ending::Failed(fault), out)
 }
 
 /// Prints how a call ends whose run fails, of each kind of error.

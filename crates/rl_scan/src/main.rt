@@ -2,21 +2,9 @@
 //! suffix.
 #![tactic(auto)]
 
-ghost use Rattle.std.specs.Prelude.{◌≡◌};
-ghost use Rattle.std.specs.Process.{exit_status};
-ghost use Rattle.rl_sources.specs.Endings.{status_of};
-
 use rl_program::{arguments, finish};
-use rl_sources::{Ending, call};
+use rl_sources::call;
 use std::process::ExitCode;
-
-/// Reports how the program ended, and ends it.
-fn report(rt: &impl Eprint, ending: Ending) -> ExitCode
-    ensures { exit_status result ≡ status_of ending }
-{
-    let status = ending.status();
-    finish(rt, status, ending.has_line().then_some(ending))
-}
 
 fn main(rt: HostRuntime) -> ExitCode {
     let args = arguments(&rt);
@@ -26,5 +14,5 @@ fn main(rt: HostRuntime) -> ExitCode {
         &mut rt.stdin(),
         &mut rt.stdout(),
     );
-    report(&rt, ending)
+    finish(&rt, ending)
 }

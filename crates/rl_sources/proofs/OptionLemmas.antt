@@ -1,8 +1,11 @@
 -- Words of a list, and words of the command line.
-use Rattle.std.proofs.Common.{◌≡◌, ◌≢◌, ℕ, ◌+◌, ◌<◌, Bool, true, false, List, [], ◌∷◌, length, get_or, drop, refl, ap, ◌∙◌, subst, sym, arith, MatchBool}
+use Rattle.std.proofs.Common.{◌≡◌, ◌≢◌, ℕ, ◌+◌, ◌<◌, Bool, true, false, List, [], ◌∷◌, length, get_or, take, drop, ◌-◌, string_bytes, refl, ap, ◌∙◌, subst, sym, arith, MatchBool}
 use Rattle.std.specs.Prelude.{IsTrue, ◌↔◌, map}
 use Rattle.std.proofs.lemmas.Grind.{common_steps}
-use Rattle.rl_sources.specs.Words.{Wishes}
+use Rattle.std.specs.Prelude.{String}
+use Rattle.std.proofs.lemmas.List.{take_all}
+use Rattle.rl_sources.specs.Words.{Wishes, Asks, first_wishes}
+use Rattle.rl_sources.specs.Endings.{AskForOptions}
 use Rattle.std.specs.List.{All, AllWithin, HoldsAt, Contains}
 use Rattle.std.proofs.lemmas.Bool.{false≢true}
 use Rattle.std.proofs.lemmas.List.Elements.{All-from_all_within}
@@ -35,3 +38,10 @@ pub word_refused : {S : Type 0} (bytes : S → List ℕ) (words : List S) (i : �
 word_refused bytes words i item word Whole Before within is word_is so_far none new whole =
     let rest = map bytes (drop (i + 1) words) in
     none rest new (subst (λ (ws : List (List ℕ)). Before ws new) (taken bytes words i item word within is word_is) ((so_far new).0 whole))
+
+-- what the arguments ask for, their words ask for: all but the first
+pub asks_words : {A : Type 0} (args : List (String A)) (wishes : Wishes) → AskForOptions args wishes → Asks false first_wishes (map string_bytes (take (length args - 1) (drop 1 args))) wishes
+asks_words [] wishes h = absurd h
+asks_words (program ∷ words) wishes h =
+    let all : take (length (program ∷ words) - 1) words ≡ words = take_all (length (program ∷ words) - 1) words (omega arith) in
+    rw all h

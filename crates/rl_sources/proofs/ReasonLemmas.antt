@@ -25,7 +25,7 @@ use Rattle.rl_lines.proofs.LineLemmas.{pushed}
 use Rattle.rl_sources.specs.declared.options.Options.{Options}
 use Rattle.rl_sources.specs.declared.place.Place.{Place}
 use Rattle.rl_sources.specs.Places.{place_text, HoldsPlaces, IsPlaceIn}
-use Rattle.rl_sources.specs.Scans.{IsReason}
+use Rattle.rl_sources.specs.Scans.{IsReasonLine}
 use Rattle.rl_sources.specs.Steps.{BeginsRest}
 use Rattle.rl_sources.proofs.StepLemmas.{place_ascii}
 
@@ -135,13 +135,13 @@ line_ascii place kind =
     IsAscii-append (place_text place) (codes " error: " ++ (flaw_message kind ++ codes "\n")) (place_ascii place) (IsAscii-append (codes " error: ") (flaw_message kind ++ codes "\n") (low_text (codes " error: ") refl) after)
 
 -- the line was appended
-pub explains_why : (options : Options) (whole text : List ℕ) (lo : ℕ) (flaw : Flaw) (place : Place) (old new : List ℕ) → IsUtf8 old → IsTrue options.explains → Explains text flaw → IsPlaceIn options.by_line whole (lo + flaw.lo) (lo + flaw.hi) place → new ≡ old ++ flaw_line place flaw.kind → Appends (IsReason options whole text lo) (chars old) (chars new)
+pub explains_why : (options : Options) (whole text : List ℕ) (lo : ℕ) (flaw : Flaw) (place : Place) (old new : List ℕ) → IsUtf8 old → IsTrue options.explains → Explains text flaw → IsPlaceIn options.by_line whole (lo + flaw.lo) (lo + flaw.hi) place → new ≡ old ++ flaw_line place flaw.kind → Appends (IsReasonLine options whole text lo) (chars old) (chars new)
 explains_why options whole text lo flaw place old new utf8 asked explains is_place written =
     let line = flaw_line place flaw.kind in
     (line, inl (asked, (flaw, place, explains, is_place, refl)), pushed old new line utf8 written ∙ ap (λ z. chars old ++ z) (chars-IsAscii line (line_ascii place flaw.kind)))
 
 -- nothing was appended
-pub explains_nothing : (options : Options) (whole text : List ℕ) (lo : ℕ) (old : List ℕ) → (IsTrue options.explains → HasReading text) → Appends (IsReason options whole text lo) old old
+pub explains_nothing : (options : Options) (whole text : List ℕ) (lo : ℕ) (old : List ℕ) → (IsTrue options.explains → HasReading text) → Appends (IsReasonLine options whole text lo) old old
 explains_nothing options whole text lo old reads = ([], inr (reads, refl), sym (append-nil old))
 
 -- ---- the steps

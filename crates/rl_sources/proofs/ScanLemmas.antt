@@ -27,7 +27,7 @@ use Rattle.rl_sources.specs.declared.step.Step.{Step}
 use Rattle.rl_sources.specs.declared.step.Step.TheVariants.{More, End, Error}
 use Rattle.rl_sources.specs.Places.{IsPlaceIn}
 use Rattle.rl_sources.specs.Scans.{IsShownLiteral, IsShownToken, IsShown, IsNoStray, ShowsUpTo, ShowsFront, IsErrorAt}
-use Rattle.rl_sources.specs.Steps.{BeginsRest, StandsAt, Adds, IsUnshown, TakesShown, IsStepOf}
+use Rattle.rl_sources.specs.Steps.{BeginsRest, IsCursorOver, Adds, IsUnshown, TakesShown, IsStepOf}
 
 -- nothing more
 pub adds_none : (options : Options) (whole rest piece : List ℕ) → piece ≡ [] → Adds options whole rest rest piece
@@ -74,7 +74,7 @@ adds_token options text start old new places l piece longer same seen adds takes
     subst Here same (adds_one options start old new l piece longer (subst Before (sym same) adds) takes accepted (subst Shown seen shown))
 
 -- the cursor after a token
-pub stands_on : (tokens next : CursorState) (places later : List ℕ) (l : SourceToken) → StandsAt tokens places → TakesSource tokens l next → later ≡ places → StandsAt next later
+pub stands_on : (tokens next : CursorState) (places later : List ℕ) (l : SourceToken) → IsCursorOver tokens places → TakesSource tokens l next → later ≡ places → IsCursorOver next later
 stands_on tokens next places later l stands takes same =
     let tail : IsTail tokens.text next.rest = behind_step tokens.text tokens.rest next.rest stands.cursor.following takes.following in
     record {
@@ -83,7 +83,7 @@ stands_on tokens next places later l stands takes same =
     }
 
 -- the token begins what was left before it
-pub begins_rest : (tokens next : CursorState) (places rest : List ℕ) (l : SourceToken) → StandsAt tokens places → TakesSource tokens l next → rest ≡ tokens.rest → BeginsRest l places rest
+pub begins_rest : (tokens next : CursorState) (places rest : List ℕ) (l : SourceToken) → IsCursorOver tokens places → TakesSource tokens l next → rest ≡ tokens.rest → BeginsRest l places rest
 begins_rest tokens next places rest l stands takes same =
     let whole : (t : List ℕ) → t ≡ tokens.text → BeginsRest l t tokens.rest = λ t e. subst (λ (t : List ℕ). BeginsRest l t tokens.rest) (sym e) (record {
       cursor = stands.cursor;
@@ -95,7 +95,7 @@ begins_rest tokens next places rest l stands takes same =
     subst (λ (r : List ℕ). BeginsRest l places r) (sym same) (whole places stands.text_is)
 
 -- the source stops at an error
-pub stops : (options : Options) (text : List ℕ) (old : CursorState) (places : List ℕ) (start piece : List ℕ) (e : LexError) (place : Place) → old.text ≡ text → StandsAt old places → Adds options (chars text) start (chars old.rest) piece → IsErrorAt options.rejects_strays e.kind (chars old.rest) → e.at + length old.rest ≡ length old.text → IsPlaceIn options.by_line (chars places) e.at e.at place → (at : ℕ) × (rest : List ℕ) × Adds options (chars text) start rest piece × IsErrorAt options.rejects_strays e.kind rest × (at + byte_len rest ≡ byte_len (chars text)) × IsPlaceIn options.by_line (chars text) at at place
+pub stops : (options : Options) (text : List ℕ) (old : CursorState) (places : List ℕ) (start piece : List ℕ) (e : LexError) (place : Place) → old.text ≡ text → IsCursorOver old places → Adds options (chars text) start (chars old.rest) piece → IsErrorAt options.rejects_strays e.kind (chars old.rest) → e.at + length old.rest ≡ length old.text → IsPlaceIn options.by_line (chars places) e.at e.at place → (at : ℕ) × (rest : List ℕ) × Adds options (chars text) start rest piece × IsErrorAt options.rejects_strays e.kind rest × (at + byte_len rest ≡ byte_len (chars text)) × IsPlaceIn options.by_line (chars text) at at place
 stops options text old places start piece e place same stands adds error at is_place = (
   e.at,
   chars old.rest,
@@ -157,7 +157,7 @@ unshown_more options a b d l u takes accepted other = record {
 }
 
 -- the cursor before a literal, or before an error
-pub stands_before : (options : Options) (tokens between : CursorState) (places : List ℕ) → StandsAt tokens places → IsUnshown options tokens between → StandsAt between places
+pub stands_before : (options : Options) (tokens between : CursorState) (places : List ℕ) → IsCursorOver tokens places → IsUnshown options tokens between → IsCursorOver between places
 stands_before options tokens between places stands unshown =
     let tail : IsTail tokens.text between.rest = behind_step tokens.text tokens.rest between.rest stands.cursor.following unshown.following in
     record {

@@ -20,7 +20,7 @@ use Rattle.rl_sources.specs.declared.place.Place.{Place}
 use Rattle.rl_sources.specs.declared.place.Place.TheVariants.{Bytes, Line}
 use Rattle.rl_sources.specs.Options.{Picks}
 use Rattle.rl_sources.specs.Places.{place_text, IsPlaceIn}
-use Rattle.rl_sources.specs.Scans.{IsReason, IsShownLiteral}
+use Rattle.rl_sources.specs.Scans.{IsReasonLine, IsShownLiteral}
 use Rattle.rl_sources.specs.Steps.{IsPlacedText}
 
 -- ---- places are ASCII
@@ -67,7 +67,7 @@ found_label text label kind (Some f) none is k e = (Some f.kind, (is.reads.0, ch
 found_label text label kind None none is k e = (None, none, e ∙ ap label_of k)
 
 -- a text's line, and what follows it
-pub explained : (options : Options) (whole text label : List ℕ) (place : Place) (lo hi : ℕ) (old mid new : List ℕ) → IsLabelOf text label → Picks options.shown label → IsPlaceIn options.by_line whole lo hi place → Appends (IsPlacedText place text) old mid → Appends (IsReason options whole text lo) mid new → Appends (IsShownLiteral options whole text lo hi) old new
+pub explained : (options : Options) (whole text label : List ℕ) (place : Place) (lo hi : ℕ) (old mid new : List ℕ) → IsLabelOf text label → Picks options.shown label → IsPlaceIn options.by_line whole lo hi place → Appends (IsPlacedText place text) old mid → Appends (IsReasonLine options whole text lo) mid new → Appends (IsShownLiteral options whole text lo hi) old new
 explained options whole text label place lo hi old mid new is_label picked is_place (first, (line, is_line, first_is), e) (reason, is_reason, f) =
     (first ++ reason, (label, is_label, inl (picked, (first, reason, (place, line, is_place, is_line, first_is), is_reason, refl))), f ∙ ap (λ z. z ++ reason) e ∙ append_assoc old first reason)
 

@@ -5,3 +5,4 @@ pub mod Steps
 pub mod Words
 pub mod Runs
 pub mod Endings
+pub mod ScanErrors

@@ -4,13 +4,13 @@ use Rattle.std.specs.Str.{chars, IsUtf8}
 use Rattle.std.specs.Io.KnownBytes.{Keeps}
 use Rattle.rl_program.specs.declared.fault.Fault.TheVariants.{Read, Write, NotText, Memory, Literal}
 use Rattle.rl_sources.specs.declared.options.Options.{Options}
-use Rattle.rl_sources.specs.declared.scanner.ScanError.{ScanError}
-use Rattle.rl_sources.specs.declared.scanner.ScanError.TheVariants.{Fault, Source}
+use Rattle.rl_sources.specs.declared.scan_error.ScanError.{ScanError}
+use Rattle.rl_sources.specs.declared.scan_error.ScanError.TheVariants.{Fault, Source}
 use Rattle.rl_sources.specs.Scans.{Scans, FailsScan}
 
 -- the bytes are a text, and the lines of its literals are what was written
-abbrev pub Prints : Options → List ℕ → Option (List ℕ) → Option (List ℕ) → Bool → Type 0
-Prints options bytes old new any = IsUtf8 bytes × Scans options (chars bytes) old new any
+abbrev pub PrintsSource : Options → List ℕ → Option (List ℕ) → Option (List ℕ) → Bool → Type 0
+PrintsSource options bytes old new any = IsUtf8 bytes × Scans options (chars bytes) old new any
 
 -- why a run failed, and what it wrote: nothing where the input was no text or wasn't read whole,
 -- else as the scan of its text

@@ -19,8 +19,8 @@ use Rattle.rl_program.specs.Streams.{AppendsBeginning}
 use Rattle.rl_program.specs.declared.fault.Fault.TheVariants.{Write, Memory}
 use Rattle.rl_sources.specs.declared.options.Options.{Options}
 use Rattle.rl_sources.specs.declared.place.Place.{Place}
-use Rattle.rl_sources.specs.declared.scanner.ScanError.{ScanError}
-use Rattle.rl_sources.specs.declared.scanner.ScanError.TheVariants.{Fault, Source}
+use Rattle.rl_sources.specs.declared.scan_error.ScanError.{ScanError}
+use Rattle.rl_sources.specs.declared.scan_error.ScanError.TheVariants.{Fault, Source}
 use Rattle.rl_sources.specs.Options.{Picks}
 use Rattle.rl_sources.specs.Places.{place_text, IsPlaceIn}
 
@@ -40,8 +40,8 @@ IsFlawLine by_line whole text lo shown =
 
 -- what follows the line of a text: where it is asked for, and the text is no literal, the line that
 -- says why; else nothing
-abbrev pub IsReason : Options → List ℕ → List ℕ → ℕ → List ℕ → Type 0
-IsReason options whole text lo shown =
+abbrev pub IsReasonLine : Options → List ℕ → List ℕ → ℕ → List ℕ → Type 0
+IsReasonLine options whole text lo shown =
     (IsTrue options.explains × IsFlawLine options.by_line whole text lo shown)
     ⊎ ((IsTrue options.explains → HasReading text) × (shown ≡ []))
 
@@ -49,7 +49,7 @@ IsReason options whole text lo shown =
 abbrev pub IsExplainedLine : Options → List ℕ → List ℕ → ℕ → ℕ → List ℕ → Type 0
 IsExplainedLine options whole text lo hi shown =
     (line reason : List ℕ) × IsPlacedLine options.by_line whole text lo hi line
-    × IsReason options whole text lo reason × (shown ≡ line ++ reason)
+    × IsReasonLine options whole text lo reason × (shown ≡ line ++ reason)
 
 -- what is shown of a literal: its line, and what follows it, where it is picked, else nothing
 abbrev pub IsShownLiteral : Options → List ℕ → List ℕ → ℕ → ℕ → List ℕ → Type 0
@@ -98,7 +98,7 @@ IsErrorAt rejects_strays kind rest =
 
 -- This is what is shown of the source up to its first error, which is of this kind and stands at
 -- this place.
-pub record StopsAt (options : Options) (whole shown : List ℕ) (place : Place) (kind : LexKind)
+pub record StopsAtError (options : Options) (whole shown : List ℕ) (place : Place) (kind : LexKind)
     : Type 0 where
   pub cuts : List CutSource
   pub rest : List ℕ
@@ -119,7 +119,7 @@ Scans options whole old new any =
 abbrev pub FailsScan : {A : Type 0} → Options → List ℕ → Option (List ℕ) → Option (List ℕ)
     → ScanError A → Type 0
 FailsScan options whole old new (Source place kind) =
-    (shown : List ℕ) × StopsAt options whole shown place kind
+    (shown : List ℕ) × StopsAtError options whole shown place kind
     × Appends old new (encode_utf8_all shown)
 FailsScan options whole old new (Fault Memory) =
     (shown : List ℕ) × ShowsFront options whole shown × Appends old new (encode_utf8_all shown)

@@ -21,8 +21,8 @@ IsPlacedText place text shown =
     (line : List ℕ) × IsLineOf text line × (shown ≡ place_text place ++ (code " " ∷ line))
 
 -- where strays are rejected, no token is one
-abbrev pub IsAccepted : Bool → Option SourceToken → Type 0
-IsAccepted rejects_strays token =
+abbrev pub IsAcceptedToken : Bool → Option SourceToken → Type 0
+IsAcceptedToken rejects_strays token =
     IfSome token (λ l. IsTrue rejects_strays → source_view l.form ≢ StrayKind)
 
 -- The token begins the rest of the text, at its place.
@@ -34,7 +34,7 @@ pub record BeginsRest (token : SourceToken) (text rest : List ℕ) : Type 0 wher
   pub begins : chars rest ≡ chars token.text.now ++ after
 
 -- The cursor over tokens goes over the text whose places are looked for.
-pub record StandsAt (tokens : CursorState) (places : List ℕ) : Type 0 where
+pub record IsCursorOver (tokens : CursorState) (places : List ℕ) : Type 0 where
   pub cursor : IsCursorState tokens.text tokens.rest
   pub text_is : places ≡ tokens.text
 
@@ -75,7 +75,7 @@ pub record StopsUnshown (options : Options) (old : CursorState) (e : LexError) :
 pub record GoesOn (options : Options) (old : CursorState) (piece : List ℕ) (new : CursorState)
     (places : List ℕ) : Type 0 where
   pub adds : Adds options (chars old.text) (chars old.rest) (chars new.rest) piece
-  pub stands : StandsAt new places
+  pub stands : IsCursorOver new places
   pub text_is : new.text ≡ old.text
   pub shorter : length new.rest < length old.rest
 

@@ -7,13 +7,16 @@ mod options;
 mod place;
 mod program;
 mod reason;
+mod scan_error;
 mod scanner;
 mod step;
 mod words;
 
-pub use crate::ending::{Ending, call};
+pub use crate::ending::call;
 pub use crate::options::{Options, Shown};
 pub use crate::place::Place;
 pub use crate::program::run;
-pub use crate::scanner::{ScanError, scan};
+pub use crate::scan_error::ScanError;
+pub use crate::scanner::scan;
 pub use crate::words::options_of;
+pub use rl_program::Ending;

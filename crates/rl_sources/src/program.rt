@@ -1,10 +1,11 @@
 //! A run of the program, over any reader and writer.
 
 ghost use Rattle.std.specs.Prelude.{IfErr, IfOk, IfSome};
-ghost use Rattle.rl_sources.specs.Runs.{Prints, FailsRun};
+ghost use Rattle.rl_sources.specs.Runs.{PrintsSource, FailsRun};
 
 use crate::options::Options;
-use crate::scanner::{ScanError, scan};
+use crate::scan_error::ScanError;
+use crate::scanner::scan;
 use rl_program::{read_whole, text_of};
 use std::alloc::Allocator;
 use std::io::{Read, Write};
@@ -24,7 +25,7 @@ pub fn run<A: Allocator + Copy, R: Read, W: Write>(
     out: &mut W,
 ) -> Result<bool, ScanError<A>>
     ensures printed { IfOk result (λ any. IfSome (R.remaining input.old)
-        (λ bytes. Prints options.entry bytes (W.contents out.old) (W.contents out.new) any)) }
+        (λ bytes. PrintsSource options.entry bytes (W.contents out.old) (W.contents out.new) any)) }
     ensures fails { IfErr result
         (FailsRun options.entry (R.remaining input.old) (W.contents out.old) (W.contents out.new)) }
 {

@@ -5,7 +5,7 @@ ghost use Rattle.std.specs.Str.{chars};
 ghost use Rattle.rl_lines.specs.Lines.{Appends};
 ghost use Rattle.rl_grammar.specs.Flaws.{Explains};
 ghost use Rattle.rl_sources.specs.Places.{IsPlaceIn};
-ghost use Rattle.rl_sources.specs.Scans.{IsReason};
+ghost use Rattle.rl_sources.specs.Scans.{IsReasonLine};
 ghost use Rattle.rl_sources.specs.Steps.{BeginsRest};
 
 use crate::options::Options;
@@ -45,7 +45,7 @@ pub(crate) fn push_reason<'t, A: Allocator>(
 ) -> Result<(), AllocError>
     requires { BeginsRest token places.old rest.now }
     ensures shown { OnOk result (Appends
-        (IsReason options.entry (chars places.old) (chars token.entry.text.now) token.entry.lo)
+        (IsReasonLine options.entry (chars places.old) (chars token.entry.text.now) token.entry.lo)
         (chars (string_bytes out.old)) (chars (string_bytes out.new))) }
     ensures same { places.new ≡ places.old }
 {

@@ -5,23 +5,13 @@ ghost use Rattle.std.specs.Str.{chars};
 ghost use Rattle.rl_sources.specs.Scans.{Scans, FailsScan};
 
 use crate::options::Options;
-use crate::place::{Place, Places};
+use crate::place::Places;
+use crate::scan_error::ScanError;
 use crate::step::{Step, gather};
 use rl_program::{Fault, write_whole};
-use rl_tokens::{LexKind, Sources};
-use std::alloc::{Allocator, Global};
-use std::fmt;
+use rl_tokens::Sources;
+use std::alloc::Allocator;
 use std::io::Write;
-
-/// Why a scan ended before the end of the source.
-#[derive(Drop)]
-pub enum ScanError<A: Allocator = Global> {
-    /// An allocation or a write failed; in a run also a read, or the input isn't UTF-8.
-    Fault(Fault<A>),
-    /// An error of the source, at a place: a quote or a comment that isn't closed, or a stray
-    /// character where these are rejected.
-    Source(Place, LexKind),
-}
 
 /// Whether lines were written before, or are now.
 fn is_any(before: bool, lines: &[u8]) -> bool

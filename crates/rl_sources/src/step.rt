@@ -8,7 +8,7 @@ ghost use Rattle.rl_tokens.specs.Sources.{TakesSource};
 ghost use Rattle.rl_grammar.specs.Founds.{IsFound};
 ghost use Rattle.rl_lines.specs.Lines.{Appends};
 ghost use Rattle.rl_sources.specs.Scans.{IsShownLiteral, IsErrorAt};
-ghost use Rattle.rl_sources.specs.Steps.{IsPlacedText, IsAccepted, BeginsRest, StandsAt, TakesShown, EndsUnshown, StopsUnshown, IsStepOf};
+ghost use Rattle.rl_sources.specs.Steps.{IsPlacedText, IsAcceptedToken, BeginsRest, IsCursorOver, TakesShown, EndsUnshown, StopsUnshown, IsStepOf};
 
 use crate::options::Options;
 use crate::place::{Place, Places, place_of};
@@ -82,7 +82,7 @@ fn next_token<'t>(
 ) -> Result<Option<SourceToken<'t>>, LexError>
     ensures token { IfOk result (λ token. MatchOption token (tokens.old.rest ≡ [])
         (λ l. TakesSource tokens.old l tokens.new)) }
-    ensures accepted { IfOk result (IsAccepted rejects_strays) }
+    ensures accepted { IfOk result (IsAcceptedToken rejects_strays) }
     ensures shorter { IfOk result (λ token. IfSome token
         (λ l. length tokens.new.rest < length tokens.old.rest)) }
     ensures error { IfErr result (λ e. IsErrorAt rejects_strays e.kind (chars tokens.old.rest)) }
@@ -171,7 +171,7 @@ pub(crate) fn gather<'t, A: Allocator + Copy>(
     places: &mut Places<'t>,
     out: &mut String<A>,
 ) -> Result<Step, AllocError>
-    requires stands { StandsAt tokens.old places.old }
+    requires stands { IsCursorOver tokens.old places.old }
     requires empty { string_bytes out.old ≡ [] }
     ensures { IfOk result (IsStepOf options.entry tokens.old (chars (string_bytes out.new))
         tokens.new places.new) }

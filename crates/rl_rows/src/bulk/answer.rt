@@ -1,23 +1,6 @@
 //! The answer to a line of input that begins with a command: the command, a space, and a text's bytes as pairs of
 //! hexadecimal digits.
 
-ghost use Rattle.std.specs.Prelude.{◌≡◌, ◌++◌, ◌==◌, ℕ, List, [], IfOk, IfSome, IfNone, codes, string_bytes};
-ghost use Rattle.std.specs.List.{before_first, after_first};
-ghost use Rattle.std.specs.Str.{chars};
-ghost use Rattle.rl_lines.specs.Lines.{IsLineOf, AreLinesOfLits};
-ghost use Rattle.rl_lines.specs.Digits.{bytes_of};
-ghost use Rattle.rl_rows.specs.Answers.{
-  IsIntegerAnswer,
-  IsFloatAnswer,
-  IsSkipAnswer,
-  IsReadAnswer,
-  IsStrictAnswer,
-  Answers,
-  AnswersBytes,
-  IsAnswerOf,
-  NamesNoCommand,
-};
-
 use super::attributes::attributes_answer;
 use super::command::Command;
 use super::ending::{ended, rejected};
@@ -33,9 +16,7 @@ use rust_literals::{Lit, LitFloat, LitInt, read_all};
 use std::alloc::{AllocError, Global};
 
 /// The line of the text as one literal.
-fn text_answer(alloc: Global, text: &str) -> Result<String, AllocError>
-    ensures { IfOk result (λ out. IsLineOf (chars text.now) (chars (string_bytes out))) }
-{
+fn text_answer(alloc: Global, text: &str) -> Result<String, AllocError> {
     let literal = literal_of(alloc, text)?;
     let line = line_of(alloc, &literal);
     drop(literal);
@@ -43,9 +24,7 @@ fn text_answer(alloc: Global, text: &str) -> Result<String, AllocError>
 }
 
 /// The line of the text as an integer.
-fn integer_answer(alloc: Global, text: &str) -> Result<String, AllocError>
-    ensures { IfOk result (λ out. IsIntegerAnswer (chars text.now) (string_bytes out)) }
-{
+fn integer_answer(alloc: Global, text: &str) -> Result<String, AllocError> {
     match LitInt::new(alloc, text, Span::call_site()) {
         Ok(literal) => {
             let whole = Lit::Int(literal);
@@ -71,9 +50,7 @@ fn integer_answer(alloc: Global, text: &str) -> Result<String, AllocError>
 }
 
 /// The line of the text as a float.
-fn float_answer(alloc: Global, text: &str) -> Result<String, AllocError>
-    ensures { IfOk result (λ out. IsFloatAnswer (chars text.now) (string_bytes out)) }
-{
+fn float_answer(alloc: Global, text: &str) -> Result<String, AllocError> {
     match LitFloat::new(alloc, text, Span::call_site()) {
         Ok(literal) => {
             let whole = Lit::Float(literal);
@@ -95,16 +72,12 @@ fn float_answer(alloc: Global, text: &str) -> Result<String, AllocError>
 }
 
 /// How many bytes stand after white space and comments.
-fn skip_answer(alloc: Global, text: &str) -> Result<String, AllocError>
-    ensures { IfOk result (λ out. IsSkipAnswer (chars text.now) (string_bytes out)) }
-{
+fn skip_answer(alloc: Global, text: &str) -> Result<String, AllocError> {
     format!(in alloc; "{}\n", whitespace::skip(text).len())
 }
 
 /// Whether the text is a token of the strict grammar.
-fn strict_answer(alloc: Global, text: &str) -> Result<String, AllocError>
-    ensures { IfOk result (λ out. IsStrictAnswer (chars text.now) (string_bytes out)) }
-{
+fn strict_answer(alloc: Global, text: &str) -> Result<String, AllocError> {
     if is_token(text) {
         String::from_str(alloc, "true\n")
     } else {
@@ -113,17 +86,12 @@ fn strict_answer(alloc: Global, text: &str) -> Result<String, AllocError>
 }
 
 /// The lines of literals, and one with a point.
-fn list_answer(alloc: Global, literals: &[Lit]) -> Result<String, AllocError>
-    ensures { IfOk result (λ out. (lines : List ℕ) × AreLinesOfLits literals.now lines
-        × (chars (string_bytes out) ≡ lines ++ codes ".\n")) }
-{
+fn list_answer(alloc: Global, literals: &[Lit]) -> Result<String, AllocError> {
     ended(lines_of(alloc, literals)?)
 }
 
 /// The lines of the text's literals, or of its error, and one with a point.
-fn read_answer(alloc: Global, text: &str) -> Result<String, AllocError>
-    ensures { IfOk result (λ out. IsReadAnswer Global text.now (string_bytes out)) }
-{
+fn read_answer(alloc: Global, text: &str) -> Result<String, AllocError> {
     match read_all(alloc, text, 0) {
         Ok(literals) => list_answer(alloc, literals.as_slice()),
         Err(error) => rejected(alloc, &error),
@@ -131,9 +99,7 @@ fn read_answer(alloc: Global, text: &str) -> Result<String, AllocError>
 }
 
 /// What a command answers to a text.
-fn text_asked(alloc: Global, command: Command, text: &str) -> Result<String, AllocError>
-    ensures { IfOk result (λ out. Answers Global command text.now (string_bytes out)) }
-{
+fn text_asked(alloc: Global, command: Command, text: &str) -> Result<String, AllocError> {
     match command {
         Command::Text => text_answer(alloc, text),
         Command::Int => integer_answer(alloc, text),
@@ -150,10 +116,7 @@ fn text_asked(alloc: Global, command: Command, text: &str) -> Result<String, All
 }
 
 /// What a command answers to the text that digits stand for.
-fn digits_answer(alloc: Global, command: Command, digits: &str) -> Result<String, AllocError>
-    ensures { IfOk result
-        (λ out. AnswersBytes Global command (bytes_of digits.now) (string_bytes out)) }
-{
+fn digits_answer(alloc: Global, command: Command, digits: &str) -> Result<String, AllocError> {
     let Some(bytes) = decoded(alloc, digits.as_bytes())? else {
         return String::from_str(alloc, "error: input is not hexadecimal\n");
     };
@@ -164,10 +127,7 @@ fn digits_answer(alloc: Global, command: Command, digits: &str) -> Result<String
 }
 
 /// What stands before the first space of a line, and what stands after it; all of a line with none stands before it.
-pub(crate) fn parts_of(line: &str) -> (&str, &str)
-    ensures before { result.0.now ≡ before_first (λ b. b == 32) line.now }
-    ensures after { result.1.now ≡ after_first (λ b. b == 32) line.now }
-{
+pub(crate) fn parts_of(line: &str) -> (&str, &str) {
     match line.split_once(' ') {
         Some((word, rest)) => (word, rest),
         None => (line, ""),
@@ -179,11 +139,7 @@ pub(crate) fn parts_of(line: &str) -> (&str, &str)
 /// stand after white space and comments; under `strict` whether the text is a strict token; under `value` what it borrows,
 /// or `None`; under `explain` why it is no literal and where, or `None` where it is one; under `read`, `spans`, `attr` and `source` lines up to one with a point. Digits that aren't hexadecimal or
 /// come in no pairs, and bytes that aren't UTF-8, are each answered by a line of their own.
-pub(crate) fn answer(alloc: Global, line: &str) -> Result<Option<String>, AllocError>
-    ensures answered { IfOk result
-        (λ o. IfSome o (λ out. IsAnswerOf Global line.now (string_bytes out))) }
-    ensures other { IfOk result (λ o. IfNone o (NamesNoCommand line.now)) }
-{
+pub(crate) fn answer(alloc: Global, line: &str) -> Result<Option<String>, AllocError> {
     let (name, digits) = parts_of(line);
     match Command::from_name(name) {
         Some(command) => Ok(Some(digits_answer(alloc, command, digits)?)),

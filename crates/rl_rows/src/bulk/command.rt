@@ -28,15 +28,8 @@ pub(crate) enum Command {
 }
 
 impl Command {
-    ghost use Rattle.std.specs.Prelude.{◌≡◌, ◌≢◌, IfSome, IfNone};
-    ghost use Rattle.rl_rows.specs.declared.bulk.command.Command.{Command};
-    ghost use Rattle.rl_rows.specs.Asked.{name_of};
-
     /// The command of this name.
-    pub(crate) fn from_name(name: &str) -> Option<Command>
-        ensures known { IfSome result (λ command. name.now ≡ name_of command) }
-        ensures unknown { IfNone result ((command : Command) → name.now ≢ name_of command) }
-    {
+    pub(crate) fn from_name(name: &str) -> Option<Command> {
         match name {
             "text" => Some(Command::Text),
             "int" => Some(Command::Int),

@@ -1,16 +1,10 @@
 //! Why a text is no literal.
 
-ghost use Rattle.std.specs.Prelude.{◌≡◌, IfOk, string_bytes};
-ghost use Rattle.std.specs.Str.{chars};
-ghost use Rattle.rl_rows.specs.Flaws.{flaw_line, flaw_name, IsFlawAnswer};
-
 use rl_grammar::{Flaw, FlawKind, explain};
 use std::alloc::{AllocError, Global};
 
 /// What a kind of flaw is called.
-fn flaw_name(kind: FlawKind) -> &'static str
-    ensures { result.now ≡ flaw_name kind }
-{
+fn flaw_name(kind: FlawKind) -> &'static str {
     match kind {
         FlawKind::Empty => "Empty",
         FlawKind::NoLiteral => "NoLiteral",
@@ -42,18 +36,14 @@ fn flaw_name(kind: FlawKind) -> &'static str
 }
 
 /// The line of a flaw: its kind, and the bytes where it stands.
-fn flaw_line(alloc: Global, flaw: Flaw) -> Result<String, AllocError>
-    ensures { IfOk result (λ out. string_bytes out ≡ flaw_line flaw) }
-{
+fn flaw_line(alloc: Global, flaw: Flaw) -> Result<String, AllocError> {
     let name = flaw_name(flaw.kind);
     let Flaw { lo, hi, .. } = flaw;
     format!(in alloc; "{name} {lo}..{hi}\n")
 }
 
 /// The line of the text's flaw; `None` where the text is a literal.
-pub(crate) fn flaw_answer(alloc: Global, text: &str) -> Result<String, AllocError>
-    ensures { IfOk result (λ out. IsFlawAnswer (chars text.now) (string_bytes out)) }
-{
+pub(crate) fn flaw_answer(alloc: Global, text: &str) -> Result<String, AllocError> {
     match explain(text) {
         Some(flaw) => flaw_line(alloc, flaw),
         None => String::from_str(alloc, "None\n"),

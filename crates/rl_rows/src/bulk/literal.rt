@@ -1,18 +1,11 @@
 //! The literal that a text is.
 
-ghost use Rattle.std.specs.Prelude.{◌≡◌, IfOk};
-ghost use Rattle.rust_literals.specs.Literals.{token_of};
-ghost use Rattle.rl_rows.specs.Lent.{IsHeld};
-
 use rl_tokens::{Literal, Span};
 use rust_literals::Lit;
 use std::alloc::{AllocError, Global};
 
 /// The literal that the text is, `Verbatim` too.
-pub(crate) fn literal_of(alloc: Global, text: &str) -> Result<Lit, AllocError>
-    ensures text { IfOk result (λ literal. (token_of literal).text ≡ text.now) }
-    ensures reads { IfOk result IsHeld }
-{
+pub(crate) fn literal_of(alloc: Global, text: &str) -> Result<Lit, AllocError> {
     let span = Span::new(0, 0, text.len());
     let Ok(token) = Literal::from_text(alloc, text, span) else {
         return Err(AllocError);

@@ -1,17 +1,12 @@
 //! The literals of a whole source.
 
-ghost use Rattle.std.specs.Prelude.{IfOk, string_bytes};
-ghost use Rattle.rl_rows.specs.Sources.{IsSourceAnswer, HasLastLines};
-
 use rl_sources::{Options, ScanError, Shown, scan};
 use std::alloc::{AllocError, Global};
 use std::fmt::Write as _;
 
 /// What stands after the lines of a source's literals: the line of its error, where it has one, and
 /// a line with a point.
-fn last_lines(alloc: Global, answer: Result<bool, ScanError>) -> Result<String, AllocError>
-    ensures { IfOk result (λ out. HasLastLines answer (string_bytes out)) }
-{
+fn last_lines(alloc: Global, answer: Result<bool, ScanError>) -> Result<String, AllocError> {
     match answer {
         Ok(_) => String::from_str(alloc, ".\n"),
         Err(ScanError::Source(place, kind)) => format!(in alloc; "error at {place}: {kind}\n.\n"),
@@ -21,9 +16,7 @@ fn last_lines(alloc: Global, answer: Result<bool, ScanError>) -> Result<String, 
 
 /// The lines of the source's literals, each after its place; at an error its line; and one with a
 /// point.
-pub(crate) fn source_answer(alloc: Global, text: &str) -> Result<String, AllocError>
-    ensures { IfOk result (λ out. IsSourceAnswer text.now (string_bytes out)) }
-{
+pub(crate) fn source_answer(alloc: Global, text: &str) -> Result<String, AllocError> {
     let options = Options {
         shown: Shown::All,
         by_line: false,

@@ -1,8 +1,5 @@
 //! Where the literals of a list stand.
 
-ghost use Rattle.std.specs.Prelude.{◌≡◌, ◌++◌, OnOk, IfOk, string_bytes};
-ghost use Rattle.rl_rows.specs.Spans.{span_line, span_lines, IsSpansAnswer};
-
 use super::ending::{ended, rejected};
 use rl_lines::label_of;
 use rl_tokens::{Literal, Span};
@@ -11,9 +8,7 @@ use std::alloc::{AllocError, Global};
 use std::fmt::Write;
 
 /// Writes a literal's kind, the bytes where it stands, and its text as a string literal.
-fn push_span(alloc: Global, out: &mut String, literal: &Lit) -> Result<(), AllocError>
-    ensures { OnOk result (string_bytes out.new ≡ string_bytes out.old ++ span_line literal.now) }
-{
+fn push_span(alloc: Global, out: &mut String, literal: &Lit) -> Result<(), AllocError> {
     let Ok(shown) = Literal::string(alloc, literal.text()) else {
         return Err(AllocError);
     };
@@ -24,9 +19,7 @@ fn push_span(alloc: Global, out: &mut String, literal: &Lit) -> Result<(), Alloc
 }
 
 /// Of each literal its kind, the bytes where it stands, and its text, a line each.
-fn lines_of_spans(alloc: Global, literals: &[Lit]) -> Result<String, AllocError>
-    ensures { IfOk result (λ out. string_bytes out ≡ span_lines literals.now) }
-{
+fn lines_of_spans(alloc: Global, literals: &[Lit]) -> Result<String, AllocError> {
     let mut lines = String::new(alloc);
     for literal in literals {
         push_span(alloc, &mut lines, literal)?;
@@ -36,9 +29,7 @@ fn lines_of_spans(alloc: Global, literals: &[Lit]) -> Result<String, AllocError>
 
 /// Of each of the text's literals its kind, the bytes where it stands, and its text, a line each, or the line of its
 /// error; and one with a point.
-pub(crate) fn spans_answer(alloc: Global, text: &str) -> Result<String, AllocError>
-    ensures { IfOk result (λ out. IsSpansAnswer Global text.now (string_bytes out)) }
-{
+pub(crate) fn spans_answer(alloc: Global, text: &str) -> Result<String, AllocError> {
     match read_all(alloc, text, 0) {
         Ok(literals) => ended(lines_of_spans(alloc, literals.as_slice())?),
         Err(error) => rejected(alloc, &error),

@@ -1,12 +1,12 @@
 use Rattle.std.proofs.Common.{◌≡◌, length, string_bytes, []}
 use Rattle.std.specs.Str.{chars}
-use Rattle.rl_sources.specs.Steps.{StandsAt}
+use Rattle.rl_sources.specs.Steps.{IsCursorOver}
 use Rattle.rl_sources.proofs.ScanLemmas.{HasWritten}
 use Rattle.rl_sources.proofs.scanner.scan.Given as goal
 
 abbrev pub invariant-loop-step : goal.invariant-loop-step
 invariant-loop-step g l = record {
-  stands : StandsAt l.tokens l.places;
+  stands : IsCursorOver l.tokens l.places;
   text_is : l.tokens.text ≡ l.text;
   empty : string_bytes l.lines ≡ [];
   written : HasWritten l.options (chars l.text) (chars l.tokens.rest) l.any (g.W.Write.contents l.initial.out) (g.W.Write.contents l.out);

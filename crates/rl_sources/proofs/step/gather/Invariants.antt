@@ -1,11 +1,11 @@
 use Rattle.std.proofs.Common.{◌≡◌, ◌<◌, ◌≤◌, ◌⊎◌, length, string_bytes, []}
 use Rattle.std.specs.Str.{chars}
-use Rattle.rl_sources.specs.Steps.{StandsAt, Adds}
+use Rattle.rl_sources.specs.Steps.{IsCursorOver, Adds}
 use Rattle.rl_sources.proofs.step.gather.Given as goal
 
 abbrev pub invariant-loop-alloc : goal.invariant-loop-alloc
 invariant-loop-alloc g l = record {
-  stands : StandsAt l.tokens l.places;
+  stands : IsCursorOver l.tokens l.places;
   text_is : l.tokens.text ≡ l.initial.tokens.text;
   adds : Adds l.options (chars l.initial.tokens.text) (chars l.initial.tokens.rest) (chars l.tokens.rest) (chars (string_bytes l.out));
   not_longer : length l.tokens.rest ≤ length l.initial.tokens.rest;
