@@ -13,19 +13,21 @@ use Rattle.rl_grammar.specs.Founds.{IsFound}
 use Rattle.rl_grammar.specs.NumberShapes.{AreDigits}
 use Rattle.rl_grammar.proofs.FoundContents.{unit_of}
 use Rattle.rl_lines.specs.FoundLines.{IsShownOf}
-use Rattle.rl_lines.specs.Lines.{line, kind_label, payload, literal_line, IsLineOf, Appends}
+use Rattle.rl_lines.specs.Lines.{line, kind_label, payload, literal_line, IsLineOfKind, Appends}
+use Rattle.rl_quoted.proofs.PlaceLemmas.{found_kind}
 use Rattle.rl_lines.proofs.PrintLemmas.{prints_kind}
 
 -- the line of what is shown
-pub shows_line : (kind : Kind) (text old new shown suffix : List ℕ) → IsShownOf kind text shown → HasSuffix kind text suffix → new ≡ old ++ line (kind_label kind) shown suffix → Appends (IsLineOf text) old new
-shows_line kind text old new shown suffix (contents, has, is) s e =
-    let p = prints_kind kind text old new shown suffix contents has s is e in
-    (p.0, inl (kind, p.1.0, p.1.1, p.1.2, p.1.3), p.2)
+pub shows_line : (kind : Kind) (text old new shown suffix : List ℕ) → IsShownOf kind text shown → HasSuffix kind text suffix → new ≡ old ++ line (kind_label kind) shown suffix → Appends (IsLineOfKind kind text) old new
+shows_line kind text old new shown suffix (contents, has, is) s e = prints_kind kind text old new shown suffix contents has s is e
 
 -- the same of a string, which is written as it is shown
-pub string_line : (kind : Kind) (text value suffix old new : List ℕ) → kind ≡ Str → HasContents Str text (Characters (chars value)) → HasSuffix kind text suffix → new ≡ old ++ literal_line Str (Characters (chars value)) suffix → Appends (IsLineOf text) old new
-string_line kind text value suffix old new is has s e =
-    shows_line Str text old new (written_text Str (chars value)) suffix (Characters (chars value), has, refl) (subst (λ (k : Kind). HasSuffix k text suffix) is s) e
+pub string_line : (text value suffix old new : List ℕ) → HasContents Str text (Characters (chars value)) → HasSuffix Str text suffix → new ≡ old ++ literal_line Str (Characters (chars value)) suffix → Appends (IsLineOfKind Str text) old new
+string_line text value suffix old new has s e = shows_line Str text old new (written_text Str (chars value)) suffix (Characters (chars value), has, refl) s e
+
+-- the kind of what was found in a text is that of any suffix that the text has
+pub kind_of_suffix : (kind : Kind) (text same suffix : List ℕ) {found : Found} → IsFound text found → text ≡ same → HasSuffix kind (chars same) suffix → found.kind ≡ kind
+kind_of_suffix kind text same suffix {found} f e s = found_kind kind text found (rw e (s.0, _, s.1)) f
 
 -- what is written of the contents is shown
 pub written_shown : {E : Type 0} (r : Result SpannedText E) (kind other : Kind) (text value : List ℕ) (contents : Contents) → kind ≡ other → payload other contents ≡ written_text other value → HasContents kind text contents → IfOk r (λ l. IsWrittenForm other value (chars l.text)) → IfOk r (λ l. IsShownOf kind text (chars l.text))

@@ -6,3 +6,4 @@ pub mod TextLemmas
 pub mod ListLemmas
 pub mod EntryLineLemmas
 pub mod FoundLineLemmas
+pub mod BareLemmas

@@ -2,7 +2,7 @@
 use Rattle.std.proofs.Common.{◌≡◌, ℕ, true, false, eqb, List, [], ◌∷◌, ◌++◌, length, refl, sym, ap, ◌∙◌, append_assoc, arith}
 use Rattle.std.specs.Prelude.{encode_utf8_all}
 use Rattle.std.specs.Str.{chars, IsUtf8}
-use Rattle.std.proofs.lemmas.Bool.{eqb-true, both_ways}
+use Rattle.std.proofs.lemmas.Bool.{eqb-true, both_ways, false≢true}
 use Rattle.std.proofs.lemmas.Str.{chars-append, encodes-chars}
 use Rattle.rl_tokens.specs.declared.kind.Kind.TheVariants.{Str}
 use Rattle.rl_tokens.specs.Texts.{xid_ok}
@@ -14,10 +14,18 @@ pub pushed : (old new piece : List ℕ) → IsUtf8 old → new ≡ old ++ piece 
 pushed old new piece u e = ap chars e ∙ chars-append old piece u
 
 -- no suffix
-pub empty_suffix : (s : List ℕ) → eqb (length s) 0 ≡ true → suffix_word (chars s) ≡ chars (45 ∷ [])
+pub empty_end : (s : List ℕ) → eqb (length s) 0 ≡ true → line_end (chars s) ≡ chars (32 ∷ 45 ∷ 10 ∷ [])
 unfolding chars
-empty_suffix [] h = refl
-empty_suffix (c ∷ s) h = absurd (let e = eqb-true (length (c ∷ s)) 0 h in omega arith)
+empty_end [] h = refl
+empty_end (c ∷ s) h = absurd (let e = eqb-true (length (c ∷ s)) 0 h in omega arith)
+
+-- a suffix that is an identifier
+pub word_suffix : (s : List ℕ) → IsUtf8 s → eqb (length s) 0 ≡ false → xid_ok (chars s) ≡ true → suffix_word (chars s) ≡ chars s
+word_suffix s u n h = word (chars s) h
+  where
+    word : (cs : List ℕ) → xid_ok cs ≡ true → suffix_word cs ≡ cs
+    word [] h = absurd (false≢true h)
+    word (c ∷ cs) h = rw h refl
 
 some_word : (cs : List ℕ) → (cs ≡ [] → ⊥) → xid_ok cs ≡ false → suffix_word cs ≡ written_text Str cs
 some_word [] some h = absurd (some refl)

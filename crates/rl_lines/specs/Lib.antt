@@ -3,3 +3,4 @@ pub mod Digits
 pub mod Refusals
 pub mod EntryLines
 pub mod FoundLines
+pub mod Bare

@@ -1,69 +1,70 @@
 //! The line of a text, of what reading it found: no literal is made of the text, and it isn't copied.
 
-ghost use Rattle.std.specs.Prelude.{◌≡◌, ◌⊎◌, IsTrue, OnOk, IfOk, IfNone, IfSome, string_bytes};
+ghost use Rattle.std.specs.Prelude.{◌≡◌, ◌⊎◌, OnOk, IfOk, IfNone, IfSome, string_bytes};
 ghost use Rattle.std.specs.Str.{chars};
 ghost use Rattle.rl_tokens.specs.declared.kind.Kind.TheVariants.{Str, ByteStr, CStr, Int, Float};
-ghost use Rattle.rl_tokens.specs.Quoted.{is_string};
-ghost use Rattle.rl_tokens.specs.Reading.{HasNoReading, HasSuffix};
-ghost use Rattle.rl_grammar.specs.Bodies.{HasBody};
+ghost use Rattle.rl_tokens.specs.Reading.{HasNoReading, HasSuffix, truth_text};
 ghost use Rattle.rl_grammar.specs.Founds.{IsFound};
 ghost use Rattle.rl_lines.specs.FoundLines.{IsShownOf};
-ghost use Rattle.rl_lines.specs.Lines.{Appends, IsLineOf};
+ghost use Rattle.rl_lines.specs.Lines.{Appends, IsLineOf, IsLineOfKind};
 
-use crate::print::{push_kind, push_text, push_verbatim, truth_word};
+use crate::line::{push_kind, push_text, push_verbatim};
 use rl_grammar::{Found, bytes_of_body, digits_of_found, str_of_body};
 use rl_tokens::{CString, Error, Kind, Literal};
 use std::alloc::{AllocError, Allocator};
 
-/// Writes the line of the literal that was found in the text, which is shown so.
+/// Appends the line of a text that is a literal of the kind, is shown so, and has this suffix.
 fn push_shown<A: Allocator>(
     out: &mut String<A>,
+    kind: Kind,
     text: &str,
-    found: &Found,
     shown: &str,
+    suffix: &str,
 ) -> Result<(), AllocError>
-    requires found { IsFound text.now found.now }
-    requires shown { IsShownOf found.now.kind (chars text.now) (chars shown.now) }
-    ensures { OnOk result (Appends (IsLineOf (chars text.now))
+    requires shown { IsShownOf kind (chars text.now) (chars shown.now) }
+    requires suffix { HasSuffix kind (chars text.now) (chars suffix.now) }
+    ensures { OnOk result (Appends (IsLineOfKind kind (chars text.now))
         (chars (string_bytes out.old)) (chars (string_bytes out.new))) }
 {
-    push_kind(out, found.kind, shown, found.suffix_in(text))
+    push_kind(out, kind, shown, suffix)
 }
 
-/// Writes the line of the literal that was found in the text, which is shown as this token; its allocation
-/// failure is returned.
+/// Appends the line of a text that is a literal of the kind, is shown as this token, and has this suffix; its
+/// allocation failure is returned.
 fn push_written<A: Allocator>(
     out: &mut String<A>,
+    kind: Kind,
     text: &str,
-    found: &Found,
     written: Result<Literal<A>, Error<A>>,
+    suffix: &str,
 ) -> Result<(), AllocError>
-    requires found { IsFound text.now found.now }
-    requires shown { IfOk written (λ l. IsShownOf found.now.kind (chars text.now) (chars l.text)) }
-    ensures { OnOk result (Appends (IsLineOf (chars text.now))
+    requires shown { IfOk written (λ l. IsShownOf kind (chars text.now) (chars l.text)) }
+    requires suffix { HasSuffix kind (chars text.now) (chars suffix.now) }
+    ensures { OnOk result (Appends (IsLineOfKind kind (chars text.now))
         (chars (string_bytes out.old)) (chars (string_bytes out.new))) }
 {
     match written {
-        Ok(shown) => push_shown(out, text, found, shown.text()),
+        Ok(shown) => push_shown(out, kind, text, shown.text(), suffix),
         Err(_) => Err(AllocError),
     }
 }
 
-/// Writes the line of the string that was found in the text. Its value is copied only where it isn't what stands between
+/// Appends the line of the string that was found in the text. Its value is copied only where it isn't what stands between
 /// the quotes.
 fn push_string<A: Allocator>(
     alloc: A,
     out: &mut String<A>,
     text: &str,
     found: &Found,
+    suffix: &str,
 ) -> Result<(), AllocError>
     requires found { IsFound text.now found.now }
     requires kind { found.now.kind ≡ Str }
-    ensures { OnOk result (Appends (IsLineOf (chars text.now))
+    requires suffix { HasSuffix Str (chars text.now) (chars suffix.now) }
+    ensures { OnOk result (Appends (IsLineOfKind Str (chars text.now))
         (chars (string_bytes out.old)) (chars (string_bytes out.new))) }
 {
     let body = found.body_in(text);
-    let suffix = found.suffix_in(text);
     if found.body.plain {
         return push_text(out, body, suffix);
     }
@@ -106,31 +107,75 @@ fn written_c_string<A: Allocator + Copy>(
     Literal::c_string(alloc, &CString::new(value).unwrap())
 }
 
-/// Writes the line of the number that was found in the text. Its digits are copied only where they aren't all that stands
+/// Appends the line of the number that was found in the text. Its digits are copied only where they aren't all that stands
 /// before the suffix.
 fn push_number<A: Allocator>(
     alloc: A,
     out: &mut String<A>,
     text: &str,
     found: &Found,
+    suffix: &str,
 ) -> Result<(), AllocError>
     requires found { IsFound text.now found.now }
     requires kind { (found.now.kind ≡ Int) ⊎ (found.now.kind ≡ Float) }
-    ensures { OnOk result (Appends (IsLineOf (chars text.now))
+    requires suffix { HasSuffix found.now.kind (chars text.now) (chars suffix.now) }
+    ensures { OnOk result (Appends (IsLineOfKind found.now.kind (chars text.now))
         (chars (string_bytes out.old)) (chars (string_bytes out.new))) }
 {
     if found.body.plain {
-        return push_shown(out, text, found, found.body_in(text));
+        return push_shown(out, found.kind, text, found.body_in(text), suffix);
     }
     match digits_of_found(alloc, text, *found) {
-        Ok(digits) => push_shown(out, text, found, digits.as_str()),
+        Ok(digits) => push_shown(out, found.kind, text, digits.as_str(), suffix),
         Err(_) => Err(AllocError),
     }
 }
 
+/// The word of a truth value.
+pub(crate) fn truth_word(value: bool) -> &'static str
+    ensures { result.now ≡ truth_text value }
+{
+    if value { "true" } else { "false" }
+}
+
+/// Appends the line of the literal that was found in the text, which has this suffix.
+pub(crate) fn push_read<A: Allocator + Copy>(
+    alloc: A,
+    out: &mut String<A>,
+    text: &str,
+    found: &Found,
+    suffix: &str,
+) -> Result<(), AllocError>
+    requires found { IsFound text.now found.now }
+    requires suffix { HasSuffix found.now.kind (chars text.now) (chars suffix.now) }
+    ensures { OnOk result (Appends (IsLineOfKind found.now.kind (chars text.now))
+        (chars (string_bytes out.old)) (chars (string_bytes out.new))) }
+{
+    match found.kind {
+        Kind::Str => push_string(alloc, out, text, found, suffix),
+        Kind::ByteStr => {
+            let written = written_byte_string(alloc, text, found);
+            push_written(out, found.kind, text, written, suffix)
+        }
+        Kind::CStr => {
+            let written = written_c_string(alloc, text, found);
+            push_written(out, found.kind, text, written, suffix)
+        }
+        Kind::Byte => {
+            let written = Literal::byte_character(alloc, found.unit as u8);
+            push_written(out, found.kind, text, written, suffix)
+        }
+        Kind::Char => {
+            let written = Literal::character(alloc, char::from_u32(found.unit).unwrap());
+            push_written(out, found.kind, text, written, suffix)
+        }
+        Kind::Int | Kind::Float => push_number(alloc, out, text, found, suffix),
+        Kind::Bool => push_shown(out, found.kind, text, truth_word(found.truth), suffix),
+    }
+}
+
 /// Appends the line of a text, of what `find` of `rl_grammar` returned for it: that of the literal that the text is, or
-/// of a text that is none. It is the line that [`push_literal`](crate::push_literal) appends of the literal, with no copy
-/// of the text.
+/// of a text that is none.
 ///
 /// # Errors
 ///
@@ -146,28 +191,8 @@ pub fn push_found<A: Allocator + Copy>(
     ensures { OnOk result (Appends (IsLineOf (chars text.now))
         (chars (string_bytes out.old)) (chars (string_bytes out.new))) }
 {
-    let Some(found) = found else {
-        return push_verbatim(out, text);
-    };
-    match found.kind {
-        Kind::Str => push_string(alloc, out, text, &found),
-        Kind::ByteStr => {
-            let written = written_byte_string(alloc, text, &found);
-            push_written(out, text, &found, written)
-        }
-        Kind::CStr => {
-            let written = written_c_string(alloc, text, &found);
-            push_written(out, text, &found, written)
-        }
-        Kind::Byte => {
-            let written = Literal::byte_character(alloc, found.unit as u8);
-            push_written(out, text, &found, written)
-        }
-        Kind::Char => {
-            let written = Literal::character(alloc, char::from_u32(found.unit).unwrap());
-            push_written(out, text, &found, written)
-        }
-        Kind::Int | Kind::Float => push_number(alloc, out, text, &found),
-        Kind::Bool => push_shown(out, text, &found, truth_word(found.truth)),
+    match found {
+        Some(found) => push_read(alloc, out, text, &found, found.suffix_in(text)),
+        None => push_verbatim(out, text),
     }
 }

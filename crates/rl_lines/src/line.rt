@@ -1,17 +1,20 @@
-//! The line that a literal is printed as.
+//! The pieces of a line: a label, a payload and a suffix.
 
-ghost use Rattle.std.specs.Prelude.{◌≡◌, ◌++◌, OnOk, string_bytes};
+ghost use Rattle.std.specs.Prelude.{◌≡◌, ◌++◌, ◌==◌, length, IsFalse, OnOk, string_bytes};
+ghost use Rattle.std.specs.List.{list_all};
 ghost use Rattle.std.specs.Str.{chars};
 ghost use Rattle.rl_tokens.specs.declared.kind.Kind.TheVariants.{Str};
+ghost use Rattle.rl_tokens.specs.Reading.{Characters};
 ghost use Rattle.rl_tokens.specs.Written.{written_text};
-ghost use Rattle.rl_lines.specs.Lines.{line, line_end, suffix_word};
+ghost use Rattle.rl_lines.specs.Bare.{is_bare};
+ghost use Rattle.rl_lines.specs.Lines.{line, line_end, suffix_word, kind_label, label_of, literal_line, verbatim_line, Appends};
 
 use rl_tokens::ident::xid_ok;
-use rl_tokens::push_str_literal;
+use rl_tokens::{Kind, push_str_literal};
 use std::alloc::{AllocError, Allocator};
 
-/// Writes a piece at the end.
-pub fn push<A: Allocator>(out: &mut String<A>, piece: &str) -> Result<(), AllocError>
+/// Appends a piece.
+pub(crate) fn push<A: Allocator>(out: &mut String<A>, piece: &str) -> Result<(), AllocError>
     ensures { OnOk result
         (chars (string_bytes out.new) ≡ chars (string_bytes out.old) ++ chars piece.now) }
 {
@@ -19,33 +22,63 @@ pub fn push<A: Allocator>(out: &mut String<A>, piece: &str) -> Result<(), AllocE
     Ok(())
 }
 
-/// Writes a suffix.
+/// Whether a string literal holds the byte as it stands: it is printable ASCII, and no quote and no backslash.
+fn is_bare(byte: u8) -> bool
+    ensures { result ≡ is_bare byte }
+{
+    byte >= b' ' && byte < 127 && byte != b'"' && byte != b'\\'
+}
+
+/// Whether a string literal holds the text as it stands.
+fn are_bare(bytes: &[u8]) -> bool
+    ensures { result ≡ list_all is_bare bytes.now }
+{
+    bytes.iter().all(|byte| is_bare(*byte))
+}
+
+/// Appends a text as a string literal. What the literal holds as it stands is copied at once.
+fn push_written<A: Allocator>(out: &mut String<A>, text: &str) -> Result<(), AllocError>
+    ensures { OnOk result
+        (chars (string_bytes out.new) ≡ chars (string_bytes out.old)
+        ++ written_text Str (chars text.now)) }
+{
+    if !are_bare(text.as_bytes()) {
+        return push_str_literal(out, text);
+    }
+    push(out, "\"")?;
+    push(out, text)?;
+    push(out, "\"")
+}
+
+/// Appends a suffix that isn't empty.
 fn push_suffix<A: Allocator>(out: &mut String<A>, suffix: &str) -> Result<(), AllocError>
+    requires { IsFalse (length suffix.now == 0) }
     ensures { OnOk result
         (chars (string_bytes out.new) ≡ chars (string_bytes out.old)
         ++ suffix_word (chars suffix.now)) }
 {
-    if suffix.is_empty() {
-        push(out, "-")
-    } else if xid_ok(suffix) {
+    if xid_ok(suffix) {
         push(out, suffix)
     } else {
-        push_str_literal(out, suffix)
+        push_written(out, suffix)
     }
 }
 
-/// Writes the end of a line: a suffix, after a space.
+/// Appends the end of a line: a suffix, after a space.
 fn push_end<A: Allocator>(out: &mut String<A>, suffix: &str) -> Result<(), AllocError>
     ensures { OnOk result (chars (string_bytes out.new)
         ≡ chars (string_bytes out.old) ++ line_end (chars suffix.now)) }
 {
+    if suffix.is_empty() {
+        return push(out, " -\n");
+    }
     push(out, " ")?;
     push_suffix(out, suffix)?;
     push(out, "\n")
 }
 
-/// Writes a line: a word, a payload and a suffix.
-pub fn push_line<A: Allocator>(
+/// Appends a line: a word, a payload and a suffix.
+fn push_line<A: Allocator>(
     out: &mut String<A>,
     word: &str,
     shown: &str,
@@ -61,8 +94,8 @@ pub fn push_line<A: Allocator>(
     push_end(out, suffix)
 }
 
-/// Writes a line: a word, a text as a string literal, and a suffix.
-pub fn push_quoted<A: Allocator>(
+/// Appends a line: a word, a text as a string literal, and a suffix.
+fn push_quoted<A: Allocator>(
     out: &mut String<A>,
     word: &str,
     text: &str,
@@ -74,6 +107,66 @@ pub fn push_quoted<A: Allocator>(
 {
     push(out, word)?;
     push(out, " ")?;
-    push_str_literal(out, text)?;
+    push_written(out, text)?;
     push_end(out, suffix)
+}
+
+/// A kind's word.
+fn word(kind: Kind) -> &'static str
+    ensures { result.now ≡ kind_label kind }
+{
+    match kind {
+        Kind::Str => "Str",
+        Kind::ByteStr => "ByteStr",
+        Kind::CStr => "CStr",
+        Kind::Byte => "Byte",
+        Kind::Char => "Char",
+        Kind::Int => "Int",
+        Kind::Float => "Float",
+        Kind::Bool => "Bool",
+    }
+}
+
+/// The word that a line begins with: the literal's kind, or `Verbatim` for what has none.
+pub fn label_of(kind: Option<Kind>) -> &'static str
+    ensures { result.now ≡ label_of kind }
+{
+    match kind {
+        Some(kind) => word(kind),
+        None => "Verbatim",
+    }
+}
+
+/// Appends the line of a literal of the kind.
+pub(crate) fn push_kind<A: Allocator>(
+    out: &mut String<A>,
+    kind: Kind,
+    shown: &str,
+    suffix: &str,
+) -> Result<(), AllocError>
+    ensures { OnOk result (chars (string_bytes out.new)
+        ≡ chars (string_bytes out.old)
+        ++ line (kind_label kind) (chars shown.now) (chars suffix.now)) }
+{
+    push_line(out, word(kind), shown, suffix)
+}
+
+/// Appends the line of a string that stands for this text.
+pub(crate) fn push_text<A: Allocator>(
+    out: &mut String<A>,
+    value: &str,
+    suffix: &str,
+) -> Result<(), AllocError>
+    ensures { OnOk result (chars (string_bytes out.new) ≡ chars (string_bytes out.old)
+        ++ literal_line Str (Characters (chars value.now)) (chars suffix.now)) }
+{
+    push_quoted(out, word(Kind::Str), value, suffix)
+}
+
+/// Appends the line of a text that is no literal.
+pub(crate) fn push_verbatim<A: Allocator>(out: &mut String<A>, text: &str) -> Result<(), AllocError>
+    ensures { OnOk result (Appends (λ line. line ≡ verbatim_line (chars text.now))
+        (chars (string_bytes out.old)) (chars (string_bytes out.new))) }
+{
+    push_quoted(out, "Verbatim", text, "")
 }

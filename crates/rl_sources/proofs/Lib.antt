@@ -3,3 +3,4 @@ pub mod OptionLemmas
 pub mod StepLemmas
 pub mod ReasonLemmas
 pub mod WriteLemmas
+pub mod DecimalLemmas

@@ -2,6 +2,7 @@
 //! program that prints them.
 #![tactic(auto)]
 
+mod decimal;
 mod ending;
 mod options;
 mod place;

@@ -1,14 +1,16 @@
 //! Places of a source, as they are printed.
 
-ghost use Rattle.std.specs.Prelude.{◌≡◌, ◌+◌, drop, length, Some};
+ghost use Rattle.std.specs.Prelude.{◌≡◌, ◌+◌, ◌≤◌, drop, length, Some};
 ghost use Rattle.std.specs.Str.{chars, IsCharBoundary};
 ghost use Rattle.rl_tokens.specs.Cursors.{IsCursorState};
 ghost use Rattle.rl_tokens.specs.Lines.{BeginsAt};
 ghost use Rattle.rl_sources.specs.Places.{place_text, IsPlaceIn};
 
+use crate::decimal::{MOST, put, put_decimal};
 use rl_tokens::{LineColumn, Lines};
 use std::fmt;
 use std::marker::Model;
+use std::str;
 
 /// A place of a source, as it is printed: `LO..HI` or `LINE:COLUMN`.
 #[derive(Clone, Copy)]
@@ -19,14 +21,46 @@ pub enum Place {
     Line(LineColumn),
 }
 
+/// How many bytes a place takes at most: two numbers, and what stands between them.
+pub(crate) const ROOM: usize = 2 * MOST + 2;
+
+impl Place {
+    /// Puts the place, as it is printed, at the end of the room, and returns where it begins.
+    fn put(self, room: &mut [u8; ROOM]) -> usize
+        ensures within { result ≤ length room.old }
+        ensures text { drop result room.new ≡ place_text self }
+    {
+        match self {
+            Place::Bytes(lo, hi) => {
+                let at = put_decimal(room, ROOM, hi);
+                let at = put(room, at, b'.');
+                let at = put(room, at, b'.');
+                put_decimal(room, at, lo)
+            }
+            Place::Line(LineColumn { line, column }) => {
+                let at = put_decimal(room, ROOM, column);
+                let at = put(room, at, b':');
+                put_decimal(room, at, line)
+            }
+        }
+    }
+
+    /// The place as it is printed, in this room.
+    pub(crate) fn text(self, room: &mut [u8; ROOM]) -> &str
+        ensures { result.now ≡ place_text self }
+    {
+        let at = self.put(room);
+        let all = &room[..];
+        // SAFETY: digits and the marks between them are ASCII.
+        unsafe { str::from_utf8_unchecked(&all[at..]) }
+    }
+}
+
 impl fmt::Display for Place {
     ghost output = { λ place. Some (place_text place) };
 
     fn fmt<W: fmt::Write>(&self, f: &mut fmt::Formatter<W>) -> fmt::Result {
-        match self {
-            Place::Bytes(lo, hi) => write!(f, "{lo}..{hi}"),
-            Place::Line(LineColumn { line, column }) => write!(f, "{line}:{column}"),
-        }
+        f.write_str(self.text(&mut [0; ROOM]))
     }
 }
 

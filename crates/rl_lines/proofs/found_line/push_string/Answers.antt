@@ -1,7 +1,7 @@
 use Rattle.std.proofs.Common.{ap}
 use Rattle.std.specs.Str.{chars}
-use Rattle.rl_tokens.specs.Quoted.{is_string}
 use Rattle.std.proofs.lemmas.Result.{on_ok_weaker}
+use Rattle.rl_tokens.specs.Quoted.{is_string}
 use Rattle.rl_grammar.proofs.BodyContents.{plain_contents}
 use Rattle.rl_lines.proofs.FoundLineLemmas.{string_line}
 use Rattle.rl_lines.proofs.found_line.push_string.Goals as goal
@@ -9,11 +9,11 @@ use Rattle.rl_lines.proofs.found_line.push_string.Goals as goal
 pub returns-then-found : goal.returns-then-found
 returns-then-found g c =
     let has = rw c.requires.kind at (c.body_in-body.ensures.string c.requires.found (ap is_string c.requires.kind)) in
-    on_ok_weaker c.push_text.result (string_line c.args.found.now.kind (chars c.args.text.now) c.body_in-body.result.now (chars c.suffix_in-suffix.result.now) _ _ c.requires.kind
-    (plain_contents c.args.text.now c.body_in-body.result.now c.args.found.now.body.plain c.if-found.true has c.utf8.text c.body_in-body.utf8) (c.suffix_in-suffix.ensures.reads c.requires.found)) c.push_text.ensures
+    on_ok_weaker c.push_text.result (string_line (chars c.args.text.now) c.body_in-body.result.now (chars c.args.suffix.now) _ _
+    (plain_contents c.args.text.now c.body_in-body.result.now c.args.found.now.body.plain c.if-found.true has c.utf8.text c.body_in-body.utf8) c.requires.suffix) c.push_text.ensures
 
 pub returns-in-Ok : goal.returns-in-Ok
 returns-in-Ok g c =
     let has = rw c.requires.kind at (c.body_in-body.ensures.string c.requires.found (ap is_string c.requires.kind)) in
-    on_ok_weaker c.push_text-in-Ok.result (string_line c.args.found.now.kind (chars c.args.text.now) c.as_str.result.now (chars c.suffix_in-suffix.result.now) _ _ c.requires.kind
-    (rw c.as_str.ensures.value (c.in-Ok.ensures.value c.args.text.now has c.utf8.text)) (c.suffix_in-suffix.ensures.reads c.requires.found)) c.push_text-in-Ok.ensures
+    on_ok_weaker c.push_text-in-Ok.result (string_line (chars c.args.text.now) c.as_str.result.now (chars c.args.suffix.now) _ _
+    (rw c.as_str.ensures.value (c.in-Ok.ensures.value c.args.text.now has c.utf8.text)) c.requires.suffix) c.push_text-in-Ok.ensures

@@ -2,7 +2,7 @@ use Rattle.std.proofs.Common.{◌≡◌, ap, ◌∙◌}
 use Rattle.std.specs.Str.{chars}
 use Rattle.rl_lines.specs.Lines.{kind_label}
 use Rattle.rl_lines.proofs.PrintLemmas.{word_chars}
-use Rattle.rl_lines.proofs.print.push_kind.Goals as goal
+use Rattle.rl_lines.proofs.line.push_kind.Goals as goal
 
 pub returns : goal.returns
 returns g c =

@@ -3,7 +3,7 @@ use Rattle.std.specs.Str.{chars}
 use Rattle.rl_tokens.specs.declared.kind.Kind.TheVariants.{Str}
 use Rattle.rl_lines.specs.Lines.{kind_label}
 use Rattle.rl_lines.proofs.PrintLemmas.{word_chars}
-use Rattle.rl_lines.proofs.print.push_text.Goals as goal
+use Rattle.rl_lines.proofs.line.push_text.Goals as goal
 
 pub returns : goal.returns
 returns g c =

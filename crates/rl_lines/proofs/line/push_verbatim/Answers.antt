@@ -2,7 +2,7 @@ use Rattle.std.specs.Str.{chars}
 use Rattle.std.proofs.lemmas.Result.{on_ok_weaker}
 use Rattle.rl_lines.specs.Lines.{verbatim_line}
 use Rattle.rl_lines.proofs.PrintLemmas.{verbatim_chars, no_chars, appends_is}
-use Rattle.rl_lines.proofs.print.push_verbatim.Goals as goal
+use Rattle.rl_lines.proofs.line.push_verbatim.Goals as goal
 
 pub returns : goal.returns
 returns g c =

@@ -1,0 +1,53 @@
+-- Texts that a string literal holds as they stand.
+use Rattle.std.proofs.Common.{◌≡◌, ℕ, ◌<◌, Bool, true, false, nat_lt, eqb, List, [], ◌∷◌, ◌++◌, refl, sym, ap, ◌∙◌, append_assoc, arith}
+use Rattle.std.specs.Prelude.{not, ◌&&◌, ◌==◌, map, if◌then◌else◌}
+use Rattle.std.specs.List.{list_all, All}
+use Rattle.std.specs.Str.{chars, IsAscii}
+use Rattle.std.proofs.lemmas.Bool.{false≢true}
+use Rattle.std.proofs.lemmas.Bool.Decides.{nat_tests}
+use Rattle.std.proofs.lemmas.List.Elements.{All-nil, All-cons}
+use Rattle.std.proofs.lemmas.Str.{chars-IsAscii}
+use Rattle.std.proofs.lemmas.Str.Ascii.{IsAscii-from_all}
+use Rattle.rl_tokens.specs.declared.kind.Kind.TheVariants.{Str}
+use Rattle.rl_tokens.specs.Quoted.{Plain, texts}
+use Rattle.rl_tokens.specs.Written.{written_unit, written_text, is_written_as_number}
+use Rattle.rl_lines.specs.Bare.{is_bare}
+
+both : (a b : Bool) → (a && b) ≡ true → (a ≡ true) × (b ≡ true)
+both true true h = (refl, refl)
+both true false h = absurd (false≢true h)
+both false b h = absurd (false≢true h)
+
+skipped : {A : Type 0} (test : Bool) (x y : A) → test ≡ false → (if test then x else y) ≡ y
+skipped test x y h = rw h refl
+
+-- a bare character is written as it stands
+bare_unit : (c : ℕ) → is_bare c ≡ true → written_unit Str c ≡ Plain c
+unfolding written_unit
+bare_unit c h =
+    skipped (c == 0) _ _ (grind (arith, nat_tests)) ∙ skipped (c == 9) _ _ (grind (arith, nat_tests)) ∙ skipped (c == 10) _ _ (grind (arith, nat_tests)) ∙ skipped (c == 13) _ _ (grind (arith, nat_tests))
+    ∙ skipped (c == 92) _ _ (grind (arith, nat_tests)) ∙ skipped (c == 34) _ _ (grind (arith, nat_tests)) ∙ skipped (is_written_as_number Str c) _ _ (grind (arith, nat_tests))
+
+bare_units : (cs : List ℕ) → list_all is_bare cs ≡ true → texts (map (written_unit Str) cs) ≡ cs
+bare_units [] h = refl
+bare_units (c ∷ cs) h =
+    let each = both (is_bare c) (list_all is_bare cs) h in
+    rw (bare_unit c each.0) (ap (λ z. c ∷ z) (bare_units cs each.1))
+
+bare_low : (cs : List ℕ) → list_all is_bare cs ≡ true → All (λ c. c < 128) cs
+bare_low [] h = All-nil (λ c. c < 128)
+bare_low (c ∷ cs) h =
+    let each = both (is_bare c) (list_all is_bare cs) h in
+    let bare = each.0 in
+    All-cons (λ c. c < 128) c cs (grind (arith, nat_tests)) (bare_low cs each.1)
+
+quote : chars (34 ∷ []) ≡ 34 ∷ []
+unfolding chars
+quote = refl
+
+-- a quote, the text and a quote, one after another
+pub bare_joined : (a b d e text : List ℕ) → list_all is_bare text ≡ true → b ≡ a ++ chars (34 ∷ []) → d ≡ b ++ chars text → e ≡ d ++ chars (34 ∷ []) → e ≡ a ++ written_text Str (chars text)
+bare_joined a b d e text h p q r =
+    let same : chars text ≡ text = chars-IsAscii text (IsAscii-from_all text (bare_low text h)) in
+    let units : texts (map (written_unit Str) (chars text)) ≡ chars text = rw same (bare_units text h) in
+    rw units (r ∙ ap (λ z. d ++ z) quote ∙ ap (λ z. z ++ (34 ∷ [])) (q ∙ ap (λ z. z ++ chars text) (p ∙ ap (λ z. a ++ z) quote)) ∙ append_assoc (a ++ (34 ∷ [])) (chars text) (34 ∷ []) ∙ append_assoc a (34 ∷ []) (chars text ++ (34 ∷ [])))
