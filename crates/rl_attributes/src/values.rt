@@ -80,19 +80,18 @@ impl<A: Allocator> Attrs<A> {
     /// # Example
     ///
     /// ```
-    /// use rl_attributes::{Setting, SettingError, read};
+    /// use rl_attributes::{Setting, read};
     /// use std::alloc::Global;
     ///
-    /// const HOST: Setting = Setting { name: "host", expected: "a string" };
-    ///
-    /// pub fn host(alloc: Global, text: &str) -> Result<String, SettingError> {
-    ///     let attrs = read(alloc, text, 0)?;
-    ///     match attrs.string(alloc, HOST)? {
-    ///         Some(host) => Ok(host),
-    ///         None => Err(attrs.missing(HOST)),
-    ///     }
+    /// pub fn host_of(alloc: Global, text: &str) -> Option<String> {
+    ///     let host = Setting {
+    ///         name: "host",
+    ///         expected: "a string",
+    ///     };
+    ///     let attrs = read(alloc, text, 0).ok()?;
+    ///     attrs.string(alloc, host).ok()?
     /// }
-    /// // host(alloc, "port = 80") is an error at 9..9: host: missing, expected a string
+    /// // host_of(alloc, "host = \"a\", port = 80") == Some("a")
     /// ```
     pub fn string(&self, alloc: A, setting: Setting) -> Result<Option<String<A>>, SettingError<A>>
         ensures set { IfOk result (IsSetTo setting (entries_of self.now) IsStringOf) }
@@ -162,7 +161,25 @@ impl<A: Allocator> Attrs<A> {
     /// The error that a setting has to be set and isn't, where the settings end: what a reader returns who was given `None`
     /// of a setting that it requires.
     ///
-    /// See the example of [`Attrs::string`].
+    /// # Example
+    ///
+    /// ```
+    /// use rl_attributes::{Setting, read};
+    /// use std::alloc::Global;
+    ///
+    /// pub fn missing_at(alloc: Global, text: &str) -> Option<usize> {
+    ///     let host = Setting {
+    ///         name: "host",
+    ///         expected: "a string",
+    ///     };
+    ///     let attrs = read(alloc, text, 0).ok()?;
+    ///     match attrs.get(host.name) {
+    ///         Some(_) => None,
+    ///         None => Some(attrs.missing(host).span().lo),
+    ///     }
+    /// }
+    /// // missing_at(alloc, "port = 80") == Some(9)
+    /// ```
     pub fn missing(&self, setting: Setting) -> SettingError<A>
         ensures { result ≡ Missing setting (end_of self.now) }
     {

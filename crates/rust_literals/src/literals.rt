@@ -13,23 +13,24 @@ use std::vec::IntoIter;
 /// The literals of a text, which is nothing but literals, white space and plain comments, one after another: what
 /// [`read_all`](crate::read_all) returns, without a list that holds them.
 ///
+/// A loop `while let Some(literal) = literals.next()?` ends, since each literal lowers `left_of` (`Iterating.antt`): that is its
+/// measure.
+///
 /// # Example
 ///
 /// ```
-/// use rust_literals::{Kind, Literals};
+/// use rust_literals::{Lit, Literals};
 /// use std::alloc::Global;
 ///
-/// pub fn count_strings(alloc: Global, text: &str) -> Option<usize> {
+/// pub fn second_string(alloc: Global, text: &str) -> Option<String> {
 ///     let mut literals = Literals::new(alloc, text, 0);
-///     let mut count = 0;
-///     while let Some(literal) = literals.next().ok()? {
-///         if literal.kind() == Some(Kind::Str) {
-///             count += 1;
-///         }
+///     literals.next().ok()?;
+///     match literals.next().ok()?? {
+///         Lit::Str(literal) => literal.value(alloc).ok(),
+///         _ => None,
 ///     }
-///     Some(count)
 /// }
-/// // count_strings(alloc, "\"a\" 1 \"b\"") == Some(2)
+/// // second_string(alloc, "1 \"a\" 'b'") == Some("a")
 /// ```
 #[derive(Drop)]
 pub struct Literals<'t, A: Allocator = Global> {
