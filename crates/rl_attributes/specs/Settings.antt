@@ -64,32 +64,32 @@ pub record RejectsFirst {A : Type 0} (settings : List Setting) (entries : List (
 
 -- What the setting is set to: of the value of each entry with its name this holds, and one has it. Or there is nothing, and
 -- no entry has its name.
-pub record IsSetTo {A V : Type 0} (setting : Setting) (entries : List (Entry A))
+pub record IsSetAs {A V : Type 0} (setting : Setting) (entries : List (Entry A))
     (Holds : Lit A → V → Type 0) (found : Option V) : Type 0 where
   pub every : All (λ e. HasName setting.name.now e → IsSomeAnd found (Holds e.value)) entries
   pub named : IfSome found (λ v. Any (HasName setting.name.now) entries)
 
 -- An entry has the setting's name, and its value is rejected.
-abbrev pub RejectsValue : {A : Type 0} → Setting → List (Entry A)
+abbrev pub RejectsSetValue : {A : Type 0} → Setting → List (Entry A)
     → (Lit A → SettingError A → Type 0) → SettingError A → Type 0
-RejectsValue setting entries Rejects e =
+RejectsSetValue setting entries Rejects e =
     Any (λ entry. HasName setting.name.now entry × Rejects entry.value e) entries
 
 -- the literal is a string of these contents
-abbrev pub IsStringOf : {A B : Type 0} → Lit A → String B → Type 0
-IsStringOf (Str l) value = HasContents StrKind (chars l.text) (Characters (chars (string_bytes value)))
-IsStringOf _ value = ⊥
+abbrev pub IsStringSet : {A B : Type 0} → Lit A → String B → Type 0
+IsStringSet (Str l) value = HasContents StrKind (chars l.text) (Characters (chars (string_bytes value)))
+IsStringSet _ value = ⊥
 
 -- the literal is this truth value
-abbrev pub IsTruthOf : {A : Type 0} → Lit A → Truth → Type 0
-IsTruthOf (Bool l) value = l.value ≡ value
-IsTruthOf _ value = ⊥
+abbrev pub IsTruthSet : {A : Type 0} → Lit A → Truth → Type 0
+IsTruthSet (Bool l) value = l.value ≡ value
+IsTruthSet _ value = ⊥
 
 -- the literal is a number, and this is what the type makes of its digits
-abbrev pub IsNumberOf : {A N E : Type 0} → (List ℕ → Result N E → Type 0) → Lit A → N → Type 0
-IsNumberOf gives (Int l) value = IsMadeOf gives (AreBase10Digits IntKind l.text) value
-IsNumberOf gives (Float l) value = IsMadeOf gives (AreBase10Digits FloatKind l.text) value
-IsNumberOf gives _ value = ⊥
+abbrev pub IsNumberSet : {A N E : Type 0} → (List ℕ → Result N E → Type 0) → Lit A → N → Type 0
+IsNumberSet gives (Int l) value = IsMadeOf gives (AreBase10Digits IntKind l.text) value
+IsNumberSet gives (Float l) value = IsMadeOf gives (AreBase10Digits FloatKind l.text) value
+IsNumberSet gives _ value = ⊥
 
 -- the literal is no string; or one, and an allocation failed for its contents
 abbrev pub RejectsString : {A : Type 0} → Setting → Lit A → SettingError A → Type 0
@@ -102,18 +102,18 @@ RejectsTruth setting (Bool l) e = ⊥
 RejectsTruth setting other e = e ≡ Kind setting (lit_span other)
 
 -- The number type rejects the digits of a literal of this kind, and its error is reported at the literal.
-abbrev pub RejectsDigits : {A N E : Type 0} → (List ℕ → Result N E → Type 0)
+abbrev pub RejectsNumberDigits : {A N E : Type 0} → (List ℕ → Result N E → Type 0)
     → (E → Option (List ℕ)) → Setting → (List ℕ → Type 0) → Span → SettingError A → Type 0
-RejectsDigits {A = A} gives output setting AreDigits span e =
+RejectsNumberDigits {A = A} gives output setting AreDigits span e =
     (why : Error A) × (e ≡ Value setting why) × IsRejectedBy gives output AreDigits span why
 
 -- the literal is no number; or one that the number type rejects
 abbrev pub RejectsNumber : {A N E : Type 0} → (List ℕ → Result N E → Type 0)
     → (E → Option (List ℕ)) → Setting → Lit A → SettingError A → Type 0
 RejectsNumber gives output setting (Int l) e =
-    RejectsDigits gives output setting (AreBase10Digits IntKind l.text) l.span e
+    RejectsNumberDigits gives output setting (AreBase10Digits IntKind l.text) l.span e
 RejectsNumber gives output setting (Float l) e =
-    RejectsDigits gives output setting (AreBase10Digits FloatKind l.text) l.span e
+    RejectsNumberDigits gives output setting (AreBase10Digits FloatKind l.text) l.span e
 RejectsNumber gives output setting other e = e ≡ Kind setting (lit_span other)
 
 -- ---- what an error says

@@ -35,7 +35,7 @@ impl<A: Allocator> Attrs<A> {
     ghost use Rattle.std.specs.Prelude.{◌≡◌, All, Any, IfSome};
     ghost use Rattle.std.specs.Option.{IsSomeAnd};
     ghost use Rattle.rl_attributes.specs.Entries.{HasName};
-    ghost use Rattle.rl_attributes.specs.AttributeParsing.{entries_of, end_of};
+    ghost use Rattle.rl_attributes.specs.AttributeParsing.{entries_of, attrs_end};
 
     /// The attributes, in their order.
     pub fn entries(&self) -> &[Entry<A>]
@@ -48,7 +48,7 @@ impl<A: Allocator> Attrs<A> {
     /// Where they end, which is where a name that is missed is reported: of a text that [`read`] was given the span of no
     /// bytes at its end; of what a parser took the scope of its buffer.
     pub fn end(&self) -> Span
-        ensures { result ≡ end_of self.now }
+        ensures { result ≡ attrs_end self.now }
     {
         self.end
     }

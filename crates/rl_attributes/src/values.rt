@@ -1,13 +1,13 @@
 //! What a setting is set to: a string, a number or a truth value.
 
 ghost use Rattle.std.specs.Prelude.{◌≡◌, IfOk, IfErr};
-ghost use Rattle.rl_attributes.specs.AttributeParsing.{entries_of, end_of};
+ghost use Rattle.rl_attributes.specs.AttributeParsing.{entries_of, attrs_end};
 ghost use Rattle.rl_attributes.specs.Settings.{
-  IsSetTo,
-  IsStringOf,
-  IsTruthOf,
-  IsNumberOf,
-  RejectsValue,
+  IsSetAs,
+  IsStringSet,
+  IsTruthSet,
+  IsNumberSet,
+  RejectsSetValue,
   RejectsString,
   RejectsTruth,
   RejectsNumber,
@@ -27,7 +27,7 @@ fn string_of<A: Allocator>(
     setting: Setting,
     value: &Lit<A>,
 ) -> Result<String<A>, SettingError<A>>
-    ensures read { IfOk result (IsStringOf value.now) }
+    ensures read { IfOk result (IsStringSet value.now) }
     ensures rejected { IfErr result (RejectsString setting value.now) }
 {
     match value {
@@ -38,7 +38,7 @@ fn string_of<A: Allocator>(
 
 /// The truth value that a setting is set to.
 fn truth_of<A: Allocator>(setting: Setting, value: &Lit<A>) -> Result<bool, SettingError<A>>
-    ensures read { IfOk result (IsTruthOf value.now) }
+    ensures read { IfOk result (IsTruthSet value.now) }
     ensures rejected { IfErr result (RejectsTruth setting value.now) }
 {
     match value {
@@ -55,7 +55,7 @@ fn number_of<N: FromStr, A: Allocator>(
 ) -> Result<N, SettingError<A>>
 where
     N::Err: Display + Drop,
-    ensures read { IfOk result (IsNumberOf N.from_str_gives value.now) }
+    ensures read { IfOk result (IsNumberSet N.from_str_gives value.now) }
     ensures rejected { IfErr result
         (RejectsNumber N.from_str_gives N.Err.output setting value.now) }
 {
@@ -94,9 +94,9 @@ impl<A: Allocator> Attrs<A> {
     /// // host_of(alloc, "host = \"a\", port = 80") == Some("a")
     /// ```
     pub fn string(&self, alloc: A, setting: Setting) -> Result<Option<String<A>>, SettingError<A>>
-        ensures set { IfOk result (IsSetTo setting (entries_of self.now) IsStringOf) }
+        ensures set { IfOk result (IsSetAs setting (entries_of self.now) IsStringSet) }
         ensures rejected { IfErr result
-            (RejectsValue setting (entries_of self.now) (RejectsString setting)) }
+            (RejectsSetValue setting (entries_of self.now) (RejectsString setting)) }
     {
         let Some(value) = self.get(setting.name) else {
             return Ok(None);
@@ -124,8 +124,8 @@ impl<A: Allocator> Attrs<A> {
     where
         N::Err: Display + Drop,
         ensures set { IfOk result
-            (IsSetTo setting (entries_of self.now) (IsNumberOf N.from_str_gives)) }
-        ensures rejected { IfErr result (RejectsValue setting (entries_of self.now)
+            (IsSetAs setting (entries_of self.now) (IsNumberSet N.from_str_gives)) }
+        ensures rejected { IfErr result (RejectsSetValue setting (entries_of self.now)
             (RejectsNumber N.from_str_gives N.Err.output setting)) }
     {
         let Some(value) = self.get(setting.name) else {
@@ -145,9 +145,9 @@ impl<A: Allocator> Attrs<A> {
     ///
     /// See the example of [`Attrs::string`].
     pub fn truth(&self, setting: Setting) -> Result<Option<bool>, SettingError<A>>
-        ensures set { IfOk result (IsSetTo setting (entries_of self.now) IsTruthOf) }
+        ensures set { IfOk result (IsSetAs setting (entries_of self.now) IsTruthSet) }
         ensures rejected { IfErr result
-            (RejectsValue setting (entries_of self.now) (RejectsTruth setting)) }
+            (RejectsSetValue setting (entries_of self.now) (RejectsTruth setting)) }
     {
         let Some(value) = self.get(setting.name) else {
             return Ok(None);
@@ -181,7 +181,7 @@ impl<A: Allocator> Attrs<A> {
     /// // missing_at(alloc, "port = 80") == Some(9)
     /// ```
     pub fn missing(&self, setting: Setting) -> SettingError<A>
-        ensures { result ≡ Missing setting (end_of self.now) }
+        ensures { result ≡ Missing setting (attrs_end self.now) }
     {
         SettingError::Missing(setting, self.end())
     }

@@ -12,16 +12,16 @@ use Rattle.rust_literals.specs.declared.lit.Lit.{Lit}
 use Rattle.rust_literals.specs.declared.literals.Literals.{Literals}
 use Rattle.rust_literals.specs.Parsing.{AreRead}
 use Rattle.rust_literals.specs.Flat.{ReadsNext, AreReadUpTo, AreFirst}
-use Rattle.rust_literals.specs.Iterating.{GoesOn, HasReturned, ReturnsNext, left_with, left_of}
+use Rattle.rust_literals.specs.Iterating.{GoesOnAfter, HasReturned, ReturnsNext, left_with, left_of}
 use Rattle.rust_literals.proofs.FlatLemmas.{read_start, read_more, read_whole}
 
 -- the iterator at this place of its text, in place of where it was
-placed : {A : Type 0} (text : List ℕ) (file : ℕ) (taken : List (Lit A)) (new : Literals A) (waiting : Option (IntoIter (Lit A) A)) → new.text.now ≡ text → new.file ≡ file → new.tokens.text ≡ text → new.waiting ≡ waiting → GoesOn (chars text) file taken new.count (chars new.tokens.rest) waiting → HasReturned text file taken new
+placed : {A : Type 0} (text : List ℕ) (file : ℕ) (taken : List (Lit A)) (new : Literals A) (waiting : Option (IntoIter (Lit A) A)) → new.text.now ≡ text → new.file ≡ file → new.tokens.text ≡ text → new.waiting ≡ waiting → GoesOnAfter (chars text) file taken new.count (chars new.tokens.rest) waiting → HasReturned text file taken new
 placed text file taken new waiting t f s w h = record {
   text_is = t;
   file_is = f;
   same = s;
-  goes_on = subst (GoesOn (chars text) file taken new.count (chars new.tokens.rest)) (sym w) h;
+  goes_on = subst (GoesOnAfter (chars text) file taken new.count (chars new.tokens.rest)) (sym w) h;
 }
 
 -- the literals that wait: the first of them, or none
@@ -45,20 +45,20 @@ waiting_first text file taken more old new was is first h read items len steps t
 -- where none waits, those that were returned are the first of the text
 pub are_first : {A : Type 0} (text : List ℕ) (file : ℕ) (taken : List (Lit A)) (old : Literals A) → old.waiting ≡ None → HasReturned text file taken old → AreFirst (chars old.text.now) old.file old.count taken
 are_first text file taken old none h =
-    let p = subst (GoesOn (chars text) file taken old.count (chars old.tokens.rest)) none h.goes_on in
+    let p = subst (GoesOnAfter (chars text) file taken old.count (chars old.tokens.rest)) none h.goes_on in
     let first : AreFirst (chars text) file old.count taken = record { begun = record { rest = chars old.tokens.rest; read = p.0 }; count_is = p.1 } in
     subst (λ u. AreFirst (chars u) old.file old.count taken) (sym h.text_is) (subst (λ k. AreFirst (chars text) k old.count taken) (sym h.file_is) first)
 
 -- no token is left
 pub none_left : {A : Type 0} (text : List ℕ) (file : ℕ) (taken : List (Lit A)) (old : Literals A) → old.waiting ≡ None → HasReturned text file taken old → old.tokens.rest ≡ [] → ReturnsNext text file taken (Ok None) old
 none_left text file taken old none h empty =
-    let p = subst (GoesOn (chars text) file taken old.count (chars old.tokens.rest)) none h.goes_on in
+    let p = subst (GoesOnAfter (chars text) file taken old.count (chars old.tokens.rest)) none h.goes_on in
     (read_whole (chars text) file taken (chars old.tokens.rest) (ap chars empty ∙ chars-nil) p.0, h)
 
 -- the literal that the next tokens are
 pub cut_next : {A : Type 0} (text : List ℕ) (file : ℕ) (taken : List (Lit A)) (old new : Literals A) (lit : Lit A) (ahead : CursorState) → old.waiting ≡ None → HasReturned text file taken old → ReadsNext old.file old.tokens lit ahead → new.text ≡ old.text → new.file ≡ old.file → new.tokens ≡ ahead → new.count ≡ old.count + 1 → new.waiting ≡ old.waiting → HasReturned text file (taken ++ lit ∷ []) new
 cut_next text file taken old new lit ahead none h next t f s n w =
-    let p = subst (GoesOn (chars text) file taken old.count (chars old.tokens.rest)) none h.goes_on in
+    let p = subst (GoesOnAfter (chars text) file taken old.count (chars old.tokens.rest)) none h.goes_on in
     let reads : ReadsNext file old.tokens lit ahead = subst (λ (k : ℕ). ReadsNext k old.tokens lit ahead) h.file_is next in
     let longer : AreReadUpTo (chars text) file (taken ++ lit ∷ []) (chars ahead.rest) =
         read_more text file old.tokens ahead taken (taken ++ lit ∷ []) h.same p.0 (record { lit = lit; next = reads; longer_is = refl }) in

@@ -10,10 +10,10 @@ use Rattle.rust_literals.specs.Parsing.{AreRead, RejectsText}
 use Rattle.rust_literals.specs.Flat.{AreReadUpTo}
 
 -- These literals were read, and the tokens go on after them; or the text is these and those that wait.
-abbrev pub GoesOn : {A : Type 0} → List ℕ → ℕ → List (Lit A) → ℕ → List ℕ
+abbrev pub GoesOnAfter : {A : Type 0} → List ℕ → ℕ → List (Lit A) → ℕ → List ℕ
     → Option (IntoIter (Lit A) A) → Type 0
-GoesOn text file taken count rest None = AreReadUpTo text file taken rest × (length taken ≡ count)
-GoesOn text file taken count rest (Some waiting) =
+GoesOnAfter text file taken count rest None = AreReadUpTo text file taken rest × (length taken ≡ count)
+GoesOnAfter text file taken count rest (Some waiting) =
     AreRead text file (taken ++ into_iter_items waiting)
     × (into_iter_len waiting ≡ length (into_iter_items waiting))
 
@@ -32,7 +32,7 @@ pub record HasReturned {A : Type 0} (text : List ℕ) (file : ℕ) (taken : List
   pub text_is : literals.text.now ≡ text
   pub file_is : literals.file ≡ file
   pub same : literals.tokens.text ≡ text
-  pub goes_on : GoesOn (chars text) file taken literals.count (chars literals.tokens.rest) literals.waiting
+  pub goes_on : GoesOnAfter (chars text) file taken literals.count (chars literals.tokens.rest) literals.waiting
 
 -- What an iterator returns that has returned these literals: the next one; nothing, where the text is these; or the text's
 -- error. Where it returns no literal, it stays.

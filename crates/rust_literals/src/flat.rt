@@ -112,7 +112,7 @@ pub(crate) fn take_next<A: Allocator + Copy>(
 ///
 /// # Errors
 ///
-/// An allocation failed, for the literal or for the list; both stay. [`read_behind`] reports it at its place.
+/// An allocation failed, for the literal or for the list; both stay. [`Literals`] reports it at its place.
 ///
 /// # Example
 ///
@@ -130,7 +130,7 @@ pub(crate) fn take_next<A: Allocator + Copy>(
 /// // after_literal(alloc, "1.5, 2") == Some(", 2")
 /// ```
 ///
-/// [`read_behind`]: crate::read_behind
+/// [`Literals`]: crate::Literals
 pub fn read_next<A: Allocator + Copy>(
     alloc: A,
     tokens: &mut Tokens<'_>,

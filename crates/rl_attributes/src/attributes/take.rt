@@ -13,7 +13,7 @@ ghost use Rattle.rl_attributes.specs.Attributes.{
   RejectsAttributeText,
 };
 ghost use Rattle.rl_attributes.specs.Entries.{attribute_of, attributes_of, IsReadEntry};
-ghost use Rattle.rl_attributes.specs.AttributeParsing.{entries_of, end_of, AreEntries, RunsAttrs, IsListOrMemory};
+ghost use Rattle.rl_attributes.specs.AttributeParsing.{entries_of, attrs_end, AreEntries, RunsAttrs, IsListOrMemory};
 ghost use Rattle.rl_attributes.specs.AttributeSteps.{
   has_name,
   AddsName,
@@ -117,7 +117,7 @@ fn take_all<A: Allocator + Copy>(
 ) -> Result<Attrs<A>, Error<A>>
     ensures taken { IfOk result (λ attrs. AreEntries (trees_in input.old) (entries_of attrs)) }
     ensures ended { OnOk result (trees_in input.new ≡ []) }
-    ensures end { IfOk result (λ attrs. end_of attrs ≡ scope_of input.old) }
+    ensures end { IfOk result (λ attrs. attrs_end attrs ≡ scope_of input.old) }
     ensures rejected { IfErr result (λ e. LacksMemoryInStep (trees_in input.old) e
         ⊎ RejectsAttributes (trees_in input.old) (scope_of input.old) e) }
     ensures rest { IsRest (trees_in input.old) (trees_in input.new) }
@@ -186,7 +186,7 @@ pub fn read<A: Allocator + Copy>(alloc: A, text: &str, file: u32) -> Result<Attr
     ensures attributes { IfOk result
         (λ attrs. AreAttributesOf (chars text.now) file (attributes_of (entries_of attrs))) }
     // They end where the text does.
-    ensures end { IfOk result (λ attrs. end_of attrs ≡ place_at file (length text.now)) }
+    ensures end { IfOk result (λ attrs. attrs_end attrs ≡ place_at file (length text.now)) }
     // Each value is what its literal reads as.
     ensures values { IfOk result (λ attrs. All IsReadEntry (entries_of attrs)) }
     // Else the text's first error; or, of its trees, what is missed first, or a name that stood before; or an
