@@ -1,7 +1,7 @@
 -- Entries, one after another, and the names that are kept beside them.
 use Rattle.std.proofs.Common.{◌≡◌, ◌≢◌, ◌⊎◌, inl, inr, ℕ, zero, suc, ◌+◌, ◌<◌, Bool, true, false, cond, get_or, take, drop, List, [], ◌∷◌, ◌++◌, refl, sym, ◌∙◌, ap, subst, Bor, string_bytes, arith}
-use Rattle.std.specs.Prelude.{IsFalse, codes, All, Result, Ok, Err, IfOk, IfErr, length}
-use Rattle.std.specs.HashSet.{HashSet, IsEmpty}
+use Rattle.std.specs.Prelude.{IsFalse, codes, All, Any, Result, Ok, Err, IfOk, IfErr, length}
+use Rattle.std.specs.BTreeSet.{BTreeSet, IsEmpty}
 use Rattle.std.specs.Str.{bytes_eq, chars}
 use Rattle.std.specs.Cmp.Lexicographic.{nat_list_eq_equiv}
 use Rattle.std.proofs.lemmas.Bool.{cases_lt, cases_order}
@@ -34,7 +34,7 @@ use Rattle.rl_attributes.specs.AttributeSteps.{has_name, AddsName, IsNext, Lacks
 use Rattle.rl_attributes.proofs.AttributeLemmas.{AreTaken, taken_none, taken_more, taken_all, taken_begins, differ_more, differ_none, named_more, refused_next, same_seen, one_listing}
 
 -- The entries that were taken of the trees, the names that are kept of them, and what is left.
-pub record IsAt {A S : Type 0} (trees : List Tree) (entries : List (Entry A)) (names : HashSet (Bor (List ℕ)) S) (rest : List Tree) : Type 0 where
+pub record IsAt {A : Type 0} (trees : List Tree) (entries : List (Entry A)) (names : BTreeSet (Bor (List ℕ))) (rest : List Tree) : Type 0 where
   pub taken : AreTaken trees (attributes_of entries) rest
   pub differ : EntriesDiffer entries
   pub read : All IsReadEntry entries
@@ -42,7 +42,7 @@ pub record IsAt {A S : Type 0} (trees : List Tree) (entries : List (Entry A)) (n
   pub left : IsRest trees rest
 
 -- at first
-pub at_first : {A S : Type 0} (trees : List Tree) (entries : List (Entry A)) (names : HashSet (Bor (List ℕ)) S) → entries ≡ [] → IsEmpty names → IsAt trees entries names trees
+pub at_first : {A : Type 0} (trees : List Tree) (entries : List (Entry A)) (names : BTreeSet (Bor (List ℕ))) → entries ≡ [] → IsEmpty names → IsAt trees entries names trees
 at_first {A = A} trees entries names e n = record {
   taken = subst (λ (es : List (Entry A)). AreTaken trees (attributes_of es) trees) (sym e) (taken_none trees);
   differ = subst EntriesDiffer (sym e) differ_none;
@@ -52,7 +52,7 @@ at_first {A = A} trees entries names e n = record {
 }
 
 -- one entry more
-pub at_next : {A S : Type 0} (trees : List Tree) (entries more : List (Entry A)) (old new : HashSet (Bor (List ℕ)) S) (rest next : List Tree) (entry : Entry A) → IsAt trees entries old rest → rest ≢ [] → IsNext rest (attribute_of entry) next → IsFalse (has_name old (string_bytes entry.name)) → IsReadEntry entry → AddsName old new (string_bytes entry.name) → StaysRest rest next → more ≡ entries ++ (entry ∷ []) → IsAt trees more new next
+pub at_next : {A : Type 0} (trees : List Tree) (entries more : List (Entry A)) (old new : BTreeSet (Bor (List ℕ))) (rest next : List Tree) (entry : Entry A) → IsAt trees entries old rest → rest ≢ [] → IsNext rest (attribute_of entry) next → IsFalse (has_name old (string_bytes entry.name)) → IsReadEntry entry → AddsName old new (string_bytes entry.name) → StaysRest rest next → more ≡ entries ++ (entry ∷ []) → IsAt trees more new next
 at_next trees entries more old new rest next entry at some n anew read adds left e =
     let grown : attributes_of more ≡ attributes_of entries ++ (attribute_of entry ∷ []) = ap attributes_of e ∙ map_push attribute_of entries entry in
     record {
@@ -68,18 +68,18 @@ at_next trees entries more old new rest next entry at some n anew read adds left
     }
 
 -- the trees end
-pub at_end : {A S : Type 0} (trees : List Tree) (entries : List (Entry A)) (names : HashSet (Bor (List ℕ)) S) (rest : List Tree) → IsAt trees entries names rest → rest ≡ [] → AreEntries trees entries
+pub at_end : {A : Type 0} (trees : List Tree) (entries : List (Entry A)) (names : BTreeSet (Bor (List ℕ))) (rest : List Tree) → IsAt trees entries names rest → rest ≡ [] → AreEntries trees entries
 at_end trees entries names rest at e = record { are = record { listed = taken_all trees (attributes_of entries) rest at.taken e; differ = at.differ }; read = at.read }
 
 -- an allocation failure for what a name begins
-pub at_memory : {A B S : Type 0} (trees : List Tree) (entries : List (Entry A)) (names : HashSet (Bor (List ℕ)) S) (rest : List Tree) (e : Error B) → IsAt trees entries names rest → rest ≢ [] → LacksMemoryInStep rest e → LacksMemoryInStep trees e
+pub at_memory : {A B : Type 0} (trees : List Tree) (entries : List (Entry A)) (names : BTreeSet (Bor (List ℕ))) (rest : List Tree) (e : Error B) → IsAt trees entries names rest → rest ≢ [] → LacksMemoryInStep rest e → LacksMemoryInStep trees e
 at_memory trees entries names rest e at some w = record { begun = taken_begins trees (attributes_of entries) rest at.taken some w.begun; memory = w.memory }
 
 pub next_memory : {B : Type 0} (rest next : List Tree) (a : Attribute) (e : Error B) → IsNext rest a next → e.kind ≡ Memory → LacksMemoryInStep rest e
 next_memory rest next a e n m = record { begun = subst (λ (ts : List Tree). begins_ident ts ≡ true) (sym n.is.named) refl; memory = m }
 
 -- what stops a step is rejected of all trees
-pub at_refusal : {A B S : Type 0} (trees : List Tree) (entries : List (Entry A)) (names : HashSet (Bor (List ℕ)) S) (rest : List Tree) (scope was : Span) (e : Error B) → IsAt trees entries names rest → rest ≢ [] → was ≡ scope → RejectsStep (has_name names) rest was e → LacksMemoryInStep trees e ⊎ RejectsAttributes trees scope e
+pub at_refusal : {A B : Type 0} (trees : List Tree) (entries : List (Entry A)) (names : BTreeSet (Bor (List ℕ))) (rest : List Tree) (scope was : Span) (e : Error B) → IsAt trees entries names rest → rest ≢ [] → was ≡ scope → RejectsStep (has_name names) rest was e → LacksMemoryInStep trees e ⊎ RejectsAttributes trees scope e
 at_refusal trees entries names rest scope was e at some s (inl w) = inl (at_memory trees entries names rest e at some w)
 at_refusal trees entries names rest scope was e at some s (inr r) =
     let seen = same_seen (has_name names) (λ name. is_named name (attributes_of entries)) rest was e at.knows r in
@@ -265,3 +265,9 @@ none_more {A = A} entries name i entry below is other none k d h has =
 pub parted_at : {X : Type 0} (xs : List X) (i : ℕ) (x : X) → i < length xs → x ≡ get_or xs i x → xs ≡ take i xs ++ (x ∷ drop (i + 1) xs)
 parted_at xs i x below is =
     sym (take-append-drop i xs) ∙ ap (λ z. take i xs ++ z) (drop_more xs i x below ∙ ap (λ z. z ∷ drop (i + 1) xs) (sym is))
+
+-- what is rejected of the value of the one entry with a name
+pub value_rejected : {A : Type 0} (entries : List (Entry A)) (name : List ℕ) (value : Lit A) (P : Lit A → Type 0) → Any (HasName name) entries → All (λ e. HasName name e → value ≡ e.value) entries → P value → Any (λ e. HasName name e × P e.value) entries
+value_rejected {A} entries name value P (i, e, bound, is, named) every p =
+    let same : value ≡ e.value = subst (λ (x : Entry A). HasName name x → value ≡ x.value) is (every i e bound) named in
+    (i, e, bound, is, (named, subst P same p))

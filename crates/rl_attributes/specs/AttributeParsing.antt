@@ -13,6 +13,10 @@ use Rattle.rl_attributes.specs.Entries.{attributes_of, IsReadEntry}
 abbrev pub entries_of : {A : Type 0} → Attrs A → List (Entry A)
 entries_of attrs = attrs.entries.items
 
+-- where what is missed is reported: the end of the text, or the scope of what was parsed
+abbrev pub attrs_end : {A : Type 0} → Attrs A → Span
+attrs_end attrs = attrs.end
+
 -- The trees are the attributes of these entries, each value the reading of its literal.
 pub record AreEntries {A : Type 0} (trees : List Tree) (entries : List (Entry A)) : Type 0 where
   pub are : AreAttributes trees (attributes_of entries)
@@ -21,7 +25,8 @@ pub record AreEntries {A : Type 0} (trees : List Tree) (entries : List (Entry A)
 -- what the parser of attributes does: it takes all trees, or rejects them, and they stay
 abbrev pub RunsAttrs : {A : Type 0} → List Tree → Span → Result (Attrs A) (Error A) → List Tree
     → Type 0
-RunsAttrs trees scope (Ok attrs) rest = AreEntries trees (entries_of attrs) × (rest ≡ [])
+RunsAttrs trees scope (Ok attrs) rest =
+    AreEntries trees (entries_of attrs) × (rest ≡ []) × (attrs_end attrs ≡ scope)
 RunsAttrs trees scope (Err e) rest = RejectsAttributeTrees trees scope e × (rest ≡ trees)
 
 -- the answer is this list, or an allocation failed

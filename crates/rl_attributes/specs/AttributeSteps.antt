@@ -1,7 +1,9 @@
 -- The steps of the parser of attributes, and the names that it keeps.
 use Rattle.std.specs.Prelude.{◌≡◌, ◌⊎◌, ℕ, Bool, true, List, [], IsTrue, cond}
 use Prim.Native.Char.{code}
-use Rattle.std.specs.HashSet.{HashSet, contains_by}
+use Rattle.std.specs.BTreeSet.{BTreeSet, contains_by}
+use Rattle.std.specs.Cmp.Lexicographic.{slice_cmp}
+use Rattle.std.specs.Ordering.{nat_cmp}
 use Rattle.std.specs.Str.{bytes_eq}
 use denote.Ref.{Bor}
 use Rattle.rl_tokens.specs.declared.span.Span.{Span}
@@ -13,13 +15,12 @@ use Rattle.rl_tokens.specs.Trees.{Tree}
 use Rattle.rl_tokens.specs.Buffers.{begins_ident, IsAfterMark}
 use Rattle.rl_attributes.specs.Attributes.{Attribute, IsAttribute, RejectsNextAttribute}
 
--- whether the set has this name
-abbrev pub has_name : {S : Type 0} → HashSet (Bor (List ℕ)) S → List ℕ → Bool
-has_name names name = contains_by (λ k. bytes_eq name k.now) names
+-- whether the set has this name: names are in the order of their bytes
+abbrev pub has_name : BTreeSet (Bor (List ℕ)) → List ℕ → Bool
+has_name names name = contains_by (λ k. slice_cmp nat_cmp name k.now) names
 
 -- the set has this name, and else those that it had
-abbrev pub AddsName : {S : Type 0} → HashSet (Bor (List ℕ)) S → HashSet (Bor (List ℕ)) S → List ℕ
-    → Type 0
+abbrev pub AddsName : BTreeSet (Bor (List ℕ)) → BTreeSet (Bor (List ℕ)) → List ℕ → Type 0
 AddsName old new name =
     (other : List ℕ) → has_name new other ≡ cond (bytes_eq name other) true (has_name old other)
 

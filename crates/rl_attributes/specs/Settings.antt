@@ -1,18 +1,25 @@
 -- What a reader asks of settings, and its errors.
-use Rattle.std.specs.Prelude.{◌≡◌, ◌≢◌, ◌⊎◌, ℕ, Bool, List, [], ◌∷◌, ◌++◌, All, IsTrue, IsFalse, codes, string_bytes}
+use Rattle.std.specs.Prelude.{◌≡◌, ◌≢◌, ◌⊎◌, ℕ, Bool as Truth, List, [], ◌∷◌, ◌++◌, All, Any, Option, Result, String, IfSome, IsTrue, IsFalse, codes, string_bytes}
 use Rattle.std.specs.List.{list_any}
-use Rattle.std.specs.Str.{bytes_eq}
+use Rattle.std.specs.Option.{IsSomeAnd}
+use Rattle.std.specs.Str.{bytes_eq, chars}
 use Rattle.rl_tokens.specs.declared.span.Span.{Span}
-use Rattle.rl_tokens.specs.Errors.{message_of}
+use Rattle.rl_tokens.specs.declared.error.Error.{Error}
+use Rattle.rl_tokens.specs.declared.kind.Kind.TheVariants.{Str as StrKind, Int as IntKind, Float as FloatKind}
+use Rattle.rl_tokens.specs.Errors.{message_of, memory_at}
+use Rattle.rl_tokens.specs.Reading.{Characters, HasContents}
 use Rattle.rust_literals.specs.declared.lit.Lit.{Lit}
+use Rattle.rust_literals.specs.declared.lit.Lit.TheVariants.{Str, Int, Float, Bool}
+use Rattle.rust_literals.specs.Base10.{AreBase10Digits, IsMadeOf, IsRejectedBy}
 use Rattle.rust_literals.specs.LitParts.{HasLitSuffix, lit_span}
 use Rattle.rl_attributes.specs.declared.attributes.Entry.{Entry}
+use Rattle.rl_attributes.specs.Entries.{HasName}
 use Rattle.rl_attributes.specs.declared.settings.Setting.{Setting}
 use Rattle.rl_attributes.specs.declared.settings.SettingError.{SettingError}
-use Rattle.rl_attributes.specs.declared.settings.SettingError.TheVariants.{Text, Unknown, Suffix, Kind, Value}
+use Rattle.rl_attributes.specs.declared.settings.SettingError.TheVariants.{Text, Unknown, Suffix, Kind, Value, Missing}
 
 -- whether one of the settings has this name
-abbrev pub knows : List Setting → List ℕ → Bool
+abbrev pub knows : List Setting → List ℕ → Truth
 knows settings name = list_any (λ s. bytes_eq s.name.now name) settings
 
 -- The literal has a suffix.
@@ -53,6 +60,62 @@ pub record RejectsFirst {A : Type 0} (settings : List Setting) (entries : List (
   pub accepted : All (IsAccepted settings) earlier
   pub rejected : IsRejected settings entry e
 
+-- ---- what a setting is set to
+
+-- What the setting is set to: of the value of each entry with its name this holds, and one has it. Or there is nothing, and
+-- no entry has its name.
+pub record IsSetAs {A V : Type 0} (setting : Setting) (entries : List (Entry A))
+    (Holds : Lit A → V → Type 0) (found : Option V) : Type 0 where
+  pub every : All (λ e. HasName setting.name.now e → IsSomeAnd found (Holds e.value)) entries
+  pub named : IfSome found (λ v. Any (HasName setting.name.now) entries)
+
+-- An entry has the setting's name, and its value is rejected.
+abbrev pub RejectsSetValue : {A : Type 0} → Setting → List (Entry A)
+    → (Lit A → SettingError A → Type 0) → SettingError A → Type 0
+RejectsSetValue setting entries Rejects e =
+    Any (λ entry. HasName setting.name.now entry × Rejects entry.value e) entries
+
+-- the literal is a string of these contents
+abbrev pub IsStringSet : {A B : Type 0} → Lit A → String B → Type 0
+IsStringSet (Str l) value = HasContents StrKind (chars l.text) (Characters (chars (string_bytes value)))
+IsStringSet _ value = ⊥
+
+-- the literal is this truth value
+abbrev pub IsTruthSet : {A : Type 0} → Lit A → Truth → Type 0
+IsTruthSet (Bool l) value = l.value ≡ value
+IsTruthSet _ value = ⊥
+
+-- the literal is a number, and this is what the type makes of its digits
+abbrev pub IsNumberSet : {A N E : Type 0} → (List ℕ → Result N E → Type 0) → Lit A → N → Type 0
+IsNumberSet gives (Int l) value = IsMadeOf gives (AreBase10Digits IntKind l.text) value
+IsNumberSet gives (Float l) value = IsMadeOf gives (AreBase10Digits FloatKind l.text) value
+IsNumberSet gives _ value = ⊥
+
+-- the literal is no string; or one, and an allocation failed for its contents
+abbrev pub RejectsString : {A : Type 0} → Setting → Lit A → SettingError A → Type 0
+RejectsString setting (Str l) e = e ≡ Text (memory_at l.span)
+RejectsString setting other e = e ≡ Kind setting (lit_span other)
+
+-- the literal is no truth value
+abbrev pub RejectsTruth : {A : Type 0} → Setting → Lit A → SettingError A → Type 0
+RejectsTruth setting (Bool l) e = ⊥
+RejectsTruth setting other e = e ≡ Kind setting (lit_span other)
+
+-- The number type rejects the digits of a literal of this kind, and its error is reported at the literal.
+abbrev pub RejectsNumberDigits : {A N E : Type 0} → (List ℕ → Result N E → Type 0)
+    → (E → Option (List ℕ)) → Setting → (List ℕ → Type 0) → Span → SettingError A → Type 0
+RejectsNumberDigits {A = A} gives output setting AreDigits span e =
+    (why : Error A) × (e ≡ Value setting why) × IsRejectedBy gives output AreDigits span why
+
+-- the literal is no number; or one that the number type rejects
+abbrev pub RejectsNumber : {A N E : Type 0} → (List ℕ → Result N E → Type 0)
+    → (E → Option (List ℕ)) → Setting → Lit A → SettingError A → Type 0
+RejectsNumber gives output setting (Int l) e =
+    RejectsNumberDigits gives output setting (AreBase10Digits IntKind l.text) l.span e
+RejectsNumber gives output setting (Float l) e =
+    RejectsNumberDigits gives output setting (AreBase10Digits FloatKind l.text) l.span e
+RejectsNumber gives output setting other e = e ≡ Kind setting (lit_span other)
+
 -- ---- what an error says
 
 -- its place
@@ -62,6 +125,7 @@ span_of (Unknown span) = span
 span_of (Suffix span) = span
 span_of (Kind setting span) = span
 span_of (Value setting e) = e.span
+span_of (Missing setting span) = span
 
 -- the setting's name, and what was expected of its value
 abbrev pub expectation : Setting → List ℕ
@@ -74,3 +138,5 @@ setting_message (Unknown span) = codes "unknown name"
 setting_message (Suffix span) = codes "unexpected suffix"
 setting_message (Kind setting span) = expectation setting
 setting_message (Value setting e) = expectation setting ++ (codes ": " ++ message_of e.kind)
+setting_message (Missing setting span) =
+    setting.name.now ++ (codes ": missing, expected " ++ setting.expected.now)

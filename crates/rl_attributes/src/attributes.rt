@@ -27,6 +27,7 @@ pub struct Entry<A: Allocator = Global> {
 #[derive(Drop)]
 pub struct Attrs<A: Allocator = Global> {
     entries: Vec<Entry<A>, A>,
+    end: Span,
     ghost differ: { EntriesDiffer entries.items } by { Prim.hlevel props },
 }
 
@@ -34,7 +35,7 @@ impl<A: Allocator> Attrs<A> {
     ghost use Rattle.std.specs.Prelude.{◌≡◌, All, Any, IfSome};
     ghost use Rattle.std.specs.Option.{IsSomeAnd};
     ghost use Rattle.rl_attributes.specs.Entries.{HasName};
-    ghost use Rattle.rl_attributes.specs.AttributeParsing.{entries_of};
+    ghost use Rattle.rl_attributes.specs.AttributeParsing.{entries_of, attrs_end};
 
     /// The attributes, in their order.
     pub fn entries(&self) -> &[Entry<A>]
@@ -42,6 +43,14 @@ impl<A: Allocator> Attrs<A> {
         ensures differ { EntriesDiffer result.now }
     {
         self.entries.as_slice()
+    }
+
+    /// Where they end, which is where a name that is missed is reported: of a text that [`read`] was given the span of no
+    /// bytes at its end; of what a parser took the scope of its buffer.
+    pub fn end(&self) -> Span
+        ensures { result ≡ attrs_end self.now }
+    {
+        self.end
     }
 
     /// What the name is set to; `None` where no attribute has the name. It goes over the entries.

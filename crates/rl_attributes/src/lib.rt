@@ -3,6 +3,7 @@
 
 mod attributes;
 mod settings;
+mod values;
 
 pub use crate::attributes::{Attrs, Entry, read};
 pub use crate::settings::{Setting, SettingError};

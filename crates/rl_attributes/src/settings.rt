@@ -48,6 +48,8 @@ pub enum SettingError<A: Allocator = Global> {
     Kind(Setting, Span),
     /// The setting's value was rejected for this error, as `base10_parse` reports one.
     Value(Setting, Error<A>),
+    /// The setting has to be set and isn't; this is where the settings end.
+    Missing(Setting, Span),
 }
 
 impl<A: Allocator> SettingError<A> {
@@ -61,6 +63,7 @@ impl<A: Allocator> SettingError<A> {
             SettingError::Suffix(span) => *span,
             SettingError::Kind(_, span) => *span,
             SettingError::Value(_, error) => error.span,
+            SettingError::Missing(_, span) => *span,
         }
     }
 }
@@ -78,6 +81,11 @@ impl<A: Allocator> fmt::Display for SettingError<A> {
             SettingError::Suffix(_) => f.write_str("unexpected suffix"),
             SettingError::Kind(setting, _) => write!(f, "{setting}"),
             SettingError::Value(setting, error) => write!(f, "{setting}: {error}"),
+            SettingError::Missing(setting, _) => {
+                let name = setting.name;
+                let expected = setting.expected;
+                write!(f, "{name}: missing, expected {expected}")
+            }
         }
     }
 }

@@ -2,7 +2,6 @@
 #![tactic(auto)]
 
 use rl_attributes::{Setting, SettingError, read};
-use rust_literals::Lit;
 use std::alloc::Global;
 use std::io;
 use std::process::ExitCode;
@@ -26,19 +25,11 @@ struct Server {
 fn server_of(alloc: Global, text: &str) -> Result<Server, SettingError> {
     let attrs = read(alloc, text, 4)?;
     attrs.check(&[HOST, PORT])?;
-    let host = match attrs.get(HOST.name) {
+    let host = match attrs.string(alloc, HOST)? {
+        Some(host) => host,
         None => String::from_str(alloc, "localhost")?,
-        Some(Lit::Str(literal)) => literal.value(alloc)?,
-        Some(other) => return Err(SettingError::Kind(HOST, other.span())),
     };
-    let port = match attrs.get(PORT.name) {
-        None => 80,
-        Some(Lit::Int(literal)) => match literal.base10_parse(alloc) {
-            Ok(port) => port,
-            Err(error) => return Err(SettingError::Value(PORT, error)),
-        },
-        Some(other) => return Err(SettingError::Kind(PORT, other.span())),
-    };
+    let port = attrs.number(alloc, PORT)?.unwrap_or(80);
     Ok(Server { host, port })
 }
 

@@ -20,7 +20,7 @@ use Rattle.rl_tokens.specs.Lexing.{Lexes, Rejects}
 use Rattle.rl_tokens.specs.Buffers.{first_span}
 use Rattle.rl_tokens.proofs.TreeRests.{run_moved}
 use Rattle.rl_quoted.specs.declared.inside.Placing.{Placing}
-use Rattle.rl_quoted.specs.Inside.{AreInside, AreMoved, IsLeftoverAt, IsReportedAt, RejectsLexingInside, RejectsParse, Runs}
+use Rattle.rl_quoted.specs.Inside.{AreInside, AreMoved, IsLeftoverAt, IsReportedAt, RejectsLexingInside, RejectsInsideAt, Runs}
 
 -- no suffix stands where no bytes do
 pub empty_suffix : (text suffix : List ℕ) → (length suffix == 0) ≡ true → HasSuffix Str text (chars suffix) → HasSuffix Str text []
@@ -37,14 +37,14 @@ ran_inside placing runs token buffer trees left rest scope r inside same place e
 }
 
 -- why nothing is parsed
-pub refuses_trees : {T A : Type 0} (placing : Placing) (runs : List Tree → Span → Result T (Error A) → List Tree → Type 0) (token : SpannedText) (e : Error A) → RejectsLexingInside placing token e ⊎ (e ≡ memory_at token.span) → RejectsParse placing runs token e
+pub refuses_trees : {T A : Type 0} (placing : Placing) (runs : List Tree → Span → Result T (Error A) → List Tree → Type 0) (token : SpannedText) (e : Error A) → RejectsLexingInside placing token e ⊎ (e ≡ memory_at token.span) → RejectsInsideAt placing runs token e
 refuses_trees placing runs token e (inl lexing) = inl lexing
 refuses_trees placing runs token e (inr memory) = inr (inr (inr (inr memory)))
 
-pub refuses_parser : {T A : Type 0} (placing : Placing) (runs : List Tree → Span → Result T (Error A) → List Tree → Type 0) (token : SpannedText) (e : Error A) (rest : List Tree) → Runs placing runs token (Err e) rest → RejectsParse placing runs token e
+pub refuses_parser : {T A : Type 0} (placing : Placing) (runs : List Tree → Span → Result T (Error A) → List Tree → Type 0) (token : SpannedText) (e : Error A) (rest : List Tree) → Runs placing runs token (Err e) rest → RejectsInsideAt placing runs token e
 refuses_parser placing runs token e rest ran = inr (inl (record { rest = rest; ran = ran }))
 
-pub refuses_left : {T A : Type 0} (placing : Placing) (runs : List Tree → Span → Result T (Error A) → List Tree → Type 0) (token : SpannedText) (value : T) (rest : List Tree) (at : Span) → Runs placing runs token (Ok value) rest → rest ≢ [] → IsLeftoverAt placing token rest at → RejectsParse placing runs token (record { span = at; kind = Unexpected })
+pub refuses_left : {T A : Type 0} (placing : Placing) (runs : List Tree → Span → Result T (Error A) → List Tree → Type 0) (token : SpannedText) (value : T) (rest : List Tree) (at : Span) → Runs placing runs token (Ok value) rest → rest ≢ [] → IsLeftoverAt placing token rest at → RejectsInsideAt placing runs token (record { span = at; kind = Unexpected })
 refuses_left placing runs token value rest at ran some reported =
     inr (inr (inl (record { value = value; rest = rest; ran = ran; some = some; place = at; reported = reported; error = refl })))
 

@@ -133,9 +133,9 @@ pub record LeavesSuffix {T A : Type 0} (placing : Placing)
 
 -- Why nothing is parsed, in the order in which it is reported: an error of the text, the parser's own
 -- error, trees that are left over, a suffix; or an allocation failure, at the literal.
-abbrev pub RejectsParse : {T A : Type 0} → Placing
+abbrev pub RejectsInsideAt : {T A : Type 0} → Placing
     → (List Tree → Span → Result T (Error A) → List Tree → Type 0) → SpannedText → Error A → Type 0
-RejectsParse placing runs token e =
+RejectsInsideAt placing runs token e =
     RejectsLexingInside placing token e ⊎ IsOwnRejection placing runs token e
     ⊎ LeavesTreesInside placing runs token e ⊎ LeavesSuffix placing runs token e
     ⊎ (e ≡ memory_at token.span)
@@ -147,7 +147,7 @@ IsParsedInside = IsParsed AtLiteral
 
 abbrev pub RejectsInside : {T A : Type 0}
     → (List Tree → Span → Result T (Error A) → List Tree → Type 0) → SpannedText → Error A → Type 0
-RejectsInside = RejectsParse AtLiteral
+RejectsInside = RejectsInsideAt AtLiteral
 
 -- each token reported where it comes from in the file
 abbrev pub IsParsedInFile : {T E : Type 0}
@@ -156,4 +156,4 @@ IsParsedInFile = IsParsed InFile
 
 abbrev pub RejectsInFile : {T A : Type 0}
     → (List Tree → Span → Result T (Error A) → List Tree → Type 0) → SpannedText → Error A → Type 0
-RejectsInFile = RejectsParse InFile
+RejectsInFile = RejectsInsideAt InFile

@@ -20,7 +20,7 @@ ghost use Rattle.rl_quoted.specs.Inside.{
   RejectsInFile,
   RejectsInside,
   RejectsLexingInside,
-  RejectsParse,
+  RejectsInsideAt,
   Runs,
 };
 
@@ -160,7 +160,7 @@ impl<A: Allocator> LitStr<A> {
         P: Drop,
         P::Output: Drop,
         ensures ran { IfOk result (λ x. Runs placing (P.runs parser) self.now (Ok x) []) }
-        ensures rejected { IfErr result (RejectsParse placing (P.runs parser) self.now) }
+        ensures rejected { IfErr result (RejectsInsideAt placing (P.runs parser) self.now) }
     {
         let stream = self.trees_inside(placing, alloc)?;
         let mut inside = ParseBuffer::new(stream.trees(), self.span());
@@ -185,7 +185,7 @@ impl<A: Allocator> LitStr<A> {
         P: Drop,
         P::Output: Drop,
         ensures parsed { IfOk result (IsParsed placing (P.runs parser) self.now) }
-        ensures rejected { IfErr result (RejectsParse placing (P.runs parser) self.now) }
+        ensures rejected { IfErr result (RejectsInsideAt placing (P.runs parser) self.now) }
     {
         let parsed = self.parse_whole(placing, alloc, parser)?;
         self.refuse_suffix(alloc)?;

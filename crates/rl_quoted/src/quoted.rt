@@ -1,5 +1,6 @@
 //! What the five have in common: a token, its kind, and the places of its parts.
 
+ghost use Rattle.std.specs.Fmt.{padded};
 ghost use Rattle.std.specs.Prelude.{◌≡◌, ◌≢◌, ◌↔◌, IsTrue, MatchBool, IfOk, IfErr, ◌==◌, ◌≤◌, ◌+◌, ◌++◌, ◌∷◌, [], length, OnOk, OnErr, Some, codes};
 ghost use Rattle.std.specs.Cmp.{partial_equiv_from_equiv, on_equiv};
 ghost use Rattle.std.specs.Cmp.Lexicographic.{pointwise, nat_list_eq_equiv};
@@ -345,12 +346,14 @@ impl<K: QuotedKind, A: Allocator> Hash for Quoted<K, A> {
     }
 }
 
-/// The token's text.
+/// The token's text; a width pads it, as it pads a `str`.
 impl<K: QuotedKind, A: Allocator> fmt::Display for Quoted<K, A> {
     ghost output = { λ l. Some l.text };
 
+    ghost styled_output = { λ l spec. Some (padded spec l.text) };
+
     fn fmt<W: fmt::Write>(&self, f: &mut fmt::Formatter<W>) -> fmt::Result {
-        f.write_str(self.token.text())
+        f.pad(self.token.text())
     }
 }
 

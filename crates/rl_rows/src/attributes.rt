@@ -1,12 +1,13 @@
 //! Attributes by their own calls: what no line tells.
 
-use crate::tell::{HERE, ToRow, put, tell, tell_error, tell_line};
-use rl_attributes::{Attrs, read};
+use crate::tell::{HERE, ToRow, place, put, tell, tell_error, tell_line};
+use rl_attributes::{Attrs, Setting, SettingError, read};
 use rl_lines::Refusal;
 use rl_refusing::Page;
 use rl_tokens::Error;
 use rust_literals::LitStr;
 use std::alloc::Global;
+use std::fmt::Display;
 
 /// How many they are.
 impl ToRow for Attrs {
@@ -68,4 +69,58 @@ fn put_many(count: usize, text: &mut Page) {
         text.put_number(number);
         text.put(",");
     }
+}
+
+/// What a string, a number of 16 bits and a truth value are set to, or why they aren't, and what is reported of each that isn't set.
+pub(crate) fn settings(alloc: Global, text: &str, page: &mut Page) {
+    match read(alloc, text, 4) {
+        Ok(attrs) => put_settings(alloc, &attrs, page),
+        Err(error) => tell_error(error, page),
+    }
+}
+
+/// What the three are set to.
+fn put_settings(alloc: Global, attrs: &Attrs, page: &mut Page) {
+    let name = Setting {
+        name: "name",
+        expected: "a string",
+    };
+    let port = Setting {
+        name: "port",
+        expected: "an integer from 0 to 65535",
+    };
+    let verbose = Setting {
+        name: "verbose",
+        expected: "`true` or `false`",
+    };
+    put_setting(attrs.string(alloc, name), attrs.missing(name), page);
+    put_setting(attrs.number::<u16>(alloc, port), attrs.missing(port), page);
+    put_setting(attrs.truth(verbose), attrs.missing(verbose), page);
+}
+
+/// What a setting is set to; else the error, or that it is missing, with its place.
+fn put_setting<T: Display + Drop>(
+    value: Result<Option<T>, SettingError>,
+    missing: SettingError,
+    page: &mut Page,
+) {
+    match value {
+        Ok(Some(value)) => {
+            page.show(&value, "\n");
+            drop(value);
+            drop(missing)
+        }
+        Ok(None) => put_setting_error(missing, page),
+        Err(error) => {
+            drop(missing);
+            put_setting_error(error, page)
+        }
+    }
+}
+
+/// An error of a setting, after its place.
+fn put_setting_error(error: SettingError, page: &mut Page) {
+    place(error.span(), page);
+    page.show(&error, "\n");
+    drop(error)
 }

@@ -3,7 +3,7 @@
 use crate::tell::tell;
 use crate::{
     attributes, bytes, copies, debugs, examples, inside, lists, literals, long, messages, numbers,
-    parsers, rejected, runs, segments, shapes, tokens, trees, uses,
+    padded, parsers, rejected, runs, segments, shapes, tokens, trees, uses,
 };
 use rl_refusing::Page;
 use rust_literals::read_all;
@@ -46,6 +46,9 @@ fn of_several(alloc: Global, name: &str, text: &str, out: &mut Page) -> bool {
         "map" => copies::map(alloc, text, out),
         "long" => long::number(alloc, text, out),
         "places" => lists::places(alloc, text, out),
+        "one_by_one" => lists::one_by_one(alloc, text, out),
+        "padded" => padded::padded(alloc, text, out),
+        "attr_settings" => attributes::settings(alloc, text, out),
         "segments" => segments::segments(alloc, text, out),
         "in_file" => inside::in_file(alloc, text, out),
         "texts" => tell(read_all(alloc, text, 7), out),

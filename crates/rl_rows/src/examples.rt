@@ -2,12 +2,14 @@
 
 use rl_refusing::Page;
 use rl_tokens::Span;
-use rl_uses::examples::attributes::string_setting;
+use rl_uses::examples::attributes::{host_of, missing_at, string_setting};
 use rl_uses::examples::buffers::{first_in_group, mark_after_name, port, trees_left, trees_of};
 use rl_uses::examples::grammar::{
     contents, first_escape, is_plain_string, is_rust, place_after_escape, reason, suffix_of,
 };
-use rl_uses::examples::literals::{after_literal, code_of, digits_or_text, first_flaw};
+use rl_uses::examples::literals::{
+    after_literal, code_of, digits_or_text, first_flaw, second_string,
+};
 use rl_uses::examples::own::{mark_in_string, set_value};
 use rl_uses::examples::quoted::{
     brace_in_file, bytes_len, c_string_len, literal_in_file, string_of, string_value,
@@ -95,6 +97,9 @@ fn of_literals(alloc: Global, out: &mut Page) {
     shown!(out, digits_or_text(alloc, "abc"));
     shown!(out, first_flaw(alloc, "\"a\\q\" 1"));
     shown!(out, after_literal(alloc, "1.5, 2"));
+    shown!(out, second_string(alloc, "1 \"a\" 'b'"));
+    shown!(out, host_of(alloc, "host = \"a\", port = 80"));
+    shown!(out, missing_at(alloc, "port = 80"));
     shown!(
         out,
         string_setting(alloc, "host = \"a\", port = 80", "host")

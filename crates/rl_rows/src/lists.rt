@@ -3,7 +3,7 @@
 use crate::tell::{ToRow, literal_of, place, tell, tell_error, tell_line, tell_spanned};
 use rl_refusing::Page;
 use rl_tokens::{Error, Span};
-use rust_literals::{Lit, read_all};
+use rust_literals::{Lit, Literals, read_all};
 use std::alloc::Global;
 
 /// Each literal's bytes and line, or the error and its bytes.
@@ -92,4 +92,34 @@ fn agreeing(alloc: Global, first: &str, gap: &str, backs: &str, out: &mut Page) 
         }
     }
     agreed
+}
+
+/// Each literal of a text as the iterator returns it, with its bytes, up to what ends them, twice.
+pub(crate) fn one_by_one(alloc: Global, text: &str, out: &mut Page) {
+    let mut literals = Literals::new(alloc, text, 0);
+    for _ in 0..=text.len() {
+        if !put_next(&mut literals, out) {
+            break;
+        }
+    }
+    put_next(&mut literals, out);
+}
+
+/// The next literal, and true; else that there is none, or the error.
+fn put_next(literals: &mut Literals<'_>, out: &mut Page) -> bool {
+    match literals.next() {
+        Ok(Some(literal)) => {
+            place(literal.span(), out);
+            tell_own_line(literal, out);
+            true
+        }
+        Ok(None) => {
+            out.put("end\n");
+            false
+        }
+        Err(error) => {
+            tell_refused(error, out);
+            false
+        }
+    }
 }

@@ -15,6 +15,7 @@ mod literals;
 mod long;
 mod messages;
 mod numbers;
+mod padded;
 mod parsers;
 mod rejected;
 mod row;

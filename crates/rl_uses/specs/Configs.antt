@@ -38,8 +38,8 @@ abbrev pub IsVerbose : {A : Type 0} → List (Entry A) → Truth → Type 0
 IsVerbose entries value = All (λ e. HasName (codes "verbose") e → IsTruth e.value value) entries
 
 -- what is named `name` is set to this string
-abbrev pub IsName : {A : Type 0} → List (Entry A) → List ℕ → Type 0
-IsName entries name = All (λ e. HasName (codes "name") e → IsText e.value name) entries
+abbrev pub IsServerName : {A : Type 0} → List (Entry A) → List ℕ → Type 0
+IsServerName entries name = All (λ e. HasName (codes "name") e → IsText e.value name) entries
 
 -- The text is settings, none of whose values has a suffix; `port`, `name` and `verbose` are these,
 -- where they are set.
@@ -49,5 +49,5 @@ pub record IsConfigText (A : Type 0) (text : List ℕ) (file port : ℕ) (name :
   pub are : AreAttributesOf (chars text) file (attributes_of entries)
   pub bare : All (λ e. HasLitSuffix e.value []) entries
   pub port_is : IsPort entries port
-  pub name_is : IsName entries name
+  pub name_is : IsServerName entries name
   pub verbose_is : IsVerbose entries verbose

@@ -18,13 +18,13 @@ ReportsControl string answer =
     × (answer ≡ list_any is_control value)
 
 -- The answer tells whether the literal is a string whose value has a control character.
-abbrev pub ReportsError : {A : Type 0} → Lit A → Bool → Type 0
-ReportsError (Str string) answer = ReportsControl string answer
-ReportsError other answer = answer ≡ false
+abbrev pub ReportsLintError : {A : Type 0} → Lit A → Bool → Type 0
+ReportsLintError (Str string) answer = ReportsControl string answer
+ReportsLintError other answer = answer ≡ false
 
 -- The spans are those of the literals that are such strings, in order.
 abbrev pub AreErrors : {A : Type 0} → List (Lit A) → List Span → Type 0
 AreErrors [] spans = spans ≡ []
 AreErrors (l ∷ ls) spans =
-    (ReportsError l false × AreErrors ls spans)
-    ⊎ ((rest : List Span) × ReportsError l true × (spans ≡ lit_span l ∷ rest) × AreErrors ls rest)
+    (ReportsLintError l false × AreErrors ls spans)
+    ⊎ ((rest : List Span) × ReportsLintError l true × (spans ≡ lit_span l ∷ rest) × AreErrors ls rest)

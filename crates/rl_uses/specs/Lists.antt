@@ -103,7 +103,7 @@ HasNoList trees =
     → ⊥
 
 -- A group in square brackets begins the trees, and the items are what is inside.
-pub record IsList {A : Type 0} (trees : List Tree) (items : List (Item A)) (rest : List Tree)
+pub record IsItemList {A : Type 0} (trees : List Tree) (items : List (Item A)) (rest : List Tree)
     : Type 0 where
   pub inside : List Tree
   pub span : Span
@@ -131,5 +131,5 @@ RejectsList trees scope e = MissesList trees scope e ⊎ RejectsInsideList trees
 -- what the parser of lists does; an error leaves the trees
 abbrev pub RunsList : {A : Type 0} → List Tree → Span → Result (ItemList A) (Error A) → List Tree
     → Type 0
-RunsList trees scope (Ok list) rest = IsList trees list.items.items rest
+RunsList trees scope (Ok list) rest = IsItemList trees list.items.items rest
 RunsList trees scope (Err e) rest = RejectsList trees scope e × (rest ≡ trees)

@@ -6,7 +6,7 @@ ghost use Rattle.rl_tokens.specs.declared.kind.Kind.TheVariants.{Int};
 ghost use Rattle.rust_literals.specs.Base10.{AreBase10Digits};
 ghost use Rattle.rust_literals.specs.LitParts.{HasLitSuffix};
 ghost use Rattle.rl_attributes.specs.AttributeParsing.{entries_of};
-ghost use Rattle.rl_uses.specs.Configs.{IsVerbose, IsName, IsPort, IsConfigText};
+ghost use Rattle.rl_uses.specs.Configs.{IsVerbose, IsServerName, IsPort, IsConfigText};
 
 use rl_attributes::{Attrs, Setting, SettingError, read};
 use rust_literals::{Lit, LitInt};
@@ -66,7 +66,7 @@ fn port_of<A: Allocator + Copy>(alloc: A, attrs: &Attrs<A>) -> Result<u16, Setti
 
 /// The name that is set.
 fn name_of<A: Allocator + Copy>(alloc: A, attrs: &Attrs<A>) -> Result<String<A>, SettingError<A>>
-    ensures { IfOk result (λ name. IsName (entries_of attrs.now) (string_bytes name)) }
+    ensures { IfOk result (λ name. IsServerName (entries_of attrs.now) (string_bytes name)) }
 {
     match attrs.get(NAME.name) {
         None => Ok(String::from_str(alloc, "server")?),
@@ -91,7 +91,7 @@ fn config_of<A: Allocator + Copy>(alloc: A, attrs: &Attrs<A>) -> Result<Config<A
     ensures bare { IfOk result
         (λ config. All (λ e. HasLitSuffix e.value []) (entries_of attrs.now)) }
     ensures port { IfOk result (λ config. IsPort (entries_of attrs.now) config.port) }
-    ensures name { IfOk result (λ config. IsName (entries_of attrs.now) (string_bytes config.name)) }
+    ensures name { IfOk result (λ config. IsServerName (entries_of attrs.now) (string_bytes config.name)) }
     ensures verbose { IfOk result (λ config. IsVerbose (entries_of attrs.now) config.verbose) }
 {
     attrs.check(&[PORT, NAME, VERBOSE])?;

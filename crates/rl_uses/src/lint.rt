@@ -9,7 +9,7 @@ ghost use Rattle.rust_literals.specs.declared.lit.Lit.{Lit};
 ghost use Rattle.rust_literals.specs.Parsing.{AreRead};
 ghost use Rattle.rust_literals.specs.LitParts.{lit_span};
 ghost use Rattle.rl_uses.specs.Shortage.{IsShortOf, RejectsTextOrMemory};
-ghost use Rattle.rl_uses.specs.Lints.{ReportsControl, ReportsError, AreErrors};
+ghost use Rattle.rl_uses.specs.Lints.{ReportsControl, ReportsLintError, AreErrors};
 
 use rl_tokens::{Error, Span};
 use rust_literals::{Lit, LitStr, read_all};
@@ -36,7 +36,7 @@ fn has_control<A: Allocator + Copy>(alloc: A, string: &LitStr<A>) -> Result<bool
 
 /// Whether the literal is a string whose value has a control character.
 fn is_fault<A: Allocator + Copy>(alloc: A, literal: &Lit<A>) -> Result<bool, Error<A>>
-    ensures tells { IfOk result (ReportsError literal.now) }
+    ensures tells { IfOk result (ReportsLintError literal.now) }
     ensures memory { IfErr result (λ e. e ≡ memory_at (lit_span literal.now)) }
 {
     match literal {

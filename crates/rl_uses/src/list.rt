@@ -4,7 +4,7 @@ ghost use Rattle.std.specs.Prelude.{◌≡◌, ◌∷◌, [], ◌<◌, length, O
 ghost use Rattle.rl_tokens.specs.declared.token.Delimiter.TheVariants.{Bracket};
 ghost use Rattle.rl_tokens.specs.Trees.{GroupTree, inside_of, stream_of, stream_view, group_span};
 ghost use Rattle.rl_tokens.specs.Buffers.{trees_in, scope_of, IsRest, IsRejection};
-ghost use Rattle.rl_uses.specs.Lists.{IsListed, RejectsListed, Lists, RejectsItems, HasNoList, IsList, RejectsList};
+ghost use Rattle.rl_uses.specs.Lists.{IsListed, RejectsListed, Lists, RejectsItems, HasNoList, IsItemList, RejectsList};
 
 use rl_quoted::LitStr;
 use rl_tokens::{Delimiter, Error, Group, Parse, ParseBuffer, attempt};
@@ -113,7 +113,7 @@ fn parse_list<A: Allocator + Copy>(
     input: &mut ParseBuffer<'_, A>,
 ) -> Result<ItemList<A>, Error<A>>
     ensures ok { IfOk result
-        (λ list. IsList (trees_in input.old) list.items.items (trees_in input.new)) }
+        (λ list. IsItemList (trees_in input.old) list.items.items (trees_in input.new)) }
     ensures rejected { IfErr result (RejectsList (trees_in input.old) (scope_of input.old)) }
     ensures rest { IsRest (trees_in input.old) (trees_in input.new) }
     ensures scope { scope_of input.new ≡ scope_of input.old }

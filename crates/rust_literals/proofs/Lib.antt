@@ -10,3 +10,4 @@ pub mod PeekLemmas
 pub mod FlatLemmas
 pub mod ReadLemmas
 pub mod BegunLemmas
+pub mod IteratingLemmas

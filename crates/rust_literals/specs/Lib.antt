@@ -7,5 +7,6 @@ pub mod Copies
 pub mod ReadBack
 pub mod Peeking
 pub mod Flat
+pub mod Iterating
 pub mod LitParts
 pub mod Reprints

@@ -68,7 +68,7 @@ fn negative_of<A: Allocator + Copy>(
 /// The literal that the next tokens are, which are cut off. `None` where they are none; tokens may be cut off then too,
 /// and where an allocation fails.
 #[inline(always)]
-fn take_next<A: Allocator + Copy>(
+pub(crate) fn take_next<A: Allocator + Copy>(
     alloc: A,
     tokens: &mut Tokens<'_>,
     file: u32,
@@ -112,7 +112,7 @@ fn take_next<A: Allocator + Copy>(
 ///
 /// # Errors
 ///
-/// An allocation failed, for the literal or for the list; both stay. [`read_behind`] reports it at its place.
+/// An allocation failed, for the literal or for the list; both stay. [`Literals`] reports it at its place.
 ///
 /// # Example
 ///
@@ -130,7 +130,7 @@ fn take_next<A: Allocator + Copy>(
 /// // after_literal(alloc, "1.5, 2") == Some(", 2")
 /// ```
 ///
-/// [`read_behind`]: crate::read_behind
+/// [`Literals`]: crate::Literals
 pub fn read_next<A: Allocator + Copy>(
     alloc: A,
     tokens: &mut Tokens<'_>,

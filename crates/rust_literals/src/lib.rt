@@ -7,6 +7,7 @@ mod lit;
 mod lit_bool;
 mod lit_float;
 mod lit_int;
+mod literals;
 mod number;
 mod read;
 
@@ -15,7 +16,8 @@ pub use crate::lit::Lit;
 pub use crate::lit_bool::LitBool;
 pub use crate::lit_float::{FloatKind, LitFloat};
 pub use crate::lit_int::{IntKind, LitInt};
+pub use crate::literals::Literals;
 pub use crate::number::{Number, NumberKind};
-pub use crate::read::{read_all, read_behind};
+pub use crate::read::{read_all};
 pub use rl_grammar::{Flaw, FlawKind};
 pub use rl_quoted::{LitByte, LitByteStr, LitCStr, LitChar, LitStr};

@@ -1,5 +1,6 @@
 //! What integers and floats have in common: a token, its digits, and the place of its suffix.
 
+ghost use Rattle.std.specs.Fmt.{padded};
 ghost use Rattle.std.specs.Prelude.{◌≡◌, ◌⊎◌, OnOk, IfOk, IfErr, Some, option_map, string_bytes};
 ghost use Rattle.std.specs.Str.{chars};
 ghost use Rattle.rl_tokens.specs.declared.kind.Kind.{Kind};
@@ -236,12 +237,14 @@ impl<K: NumberKind, A: Allocator> Number<K, A> {
     }
 }
 
-/// The token's text.
+/// The token's text; a width pads it, as it pads a `str`.
 impl<K: NumberKind, A: Allocator> fmt::Display for Number<K, A> {
     ghost output = { λ l. Some l.text };
 
+    ghost styled_output = { λ l spec. Some (padded spec l.text) };
+
     fn fmt<W: fmt::Write>(&self, f: &mut fmt::Formatter<W>) -> fmt::Result {
-        f.write_str(self.token.text())
+        f.pad(self.token.text())
     }
 }
 

@@ -75,14 +75,8 @@ fn read_from<A: Allocator + Copy>(
     read_on(alloc, &mut input, list)
 }
 
-/// The literals of a text after its first `count`, which [`read_next`] has taken.
-///
-/// # Errors
-///
-/// As [`read_all`] of the whole text.
-///
-/// [`read_next`]: crate::read_next
-pub fn read_behind<A: Allocator + Copy>(
+/// The literals of a text after its first `count`.
+pub(crate) fn read_after<A: Allocator + Copy>(
     alloc: A,
     text: &str,
     file: u32,

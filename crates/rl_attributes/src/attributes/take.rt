@@ -3,6 +3,7 @@
 ghost use Rattle.std.specs.Prelude.{◌≡◌, ◌⊎◌, [], List, All, length, IfOk, IfErr, OnOk, IsFalse, string_bytes};
 ghost use Rattle.std.specs.Str.{chars};
 ghost use Rattle.rl_tokens.specs.Buffers.{trees_in, scope_of, IsRest, StaysRest};
+ghost use Rattle.rl_tokens.specs.Whole.{place_at};
 ghost use Rattle.rl_attributes.specs.Attributes.{
   Attribute,
   IsAttribute,
@@ -12,7 +13,7 @@ ghost use Rattle.rl_attributes.specs.Attributes.{
   RejectsAttributeText,
 };
 ghost use Rattle.rl_attributes.specs.Entries.{attribute_of, attributes_of, IsReadEntry};
-ghost use Rattle.rl_attributes.specs.AttributeParsing.{entries_of, AreEntries, RunsAttrs, IsListOrMemory};
+ghost use Rattle.rl_attributes.specs.AttributeParsing.{entries_of, attrs_end, AreEntries, RunsAttrs, IsListOrMemory};
 ghost use Rattle.rl_attributes.specs.AttributeSteps.{
   has_name,
   AddsName,
@@ -26,11 +27,10 @@ use super::{Attrs, Entry};
 use rl_tokens::{Error, ErrorKind, Ident, Parse, ParseBuffer, Span, attempt, parse_all};
 use rust_literals::Lit;
 use std::alloc::Allocator;
-use std::collections::HashSet;
-use std::hash::{BuildHasherDefault, FoldHasher};
+use std::collections::BTreeSet;
 
-/// Names that were taken, as they stand in the trees.
-type Names<'a, A> = HashSet<&'a str, BuildHasherDefault<FoldHasher>, A>;
+/// Names that were taken, as they stand in the trees. They are in order, so no choice of names makes one dearer than others.
+type Names<'a, A> = BTreeSet<&'a str, A>;
 
 /// Takes an identifier that is none of the names, and adds it to them.
 fn take_name<'a, A: Allocator + Copy>(
@@ -117,12 +117,13 @@ fn take_all<A: Allocator + Copy>(
 ) -> Result<Attrs<A>, Error<A>>
     ensures taken { IfOk result (λ attrs. AreEntries (trees_in input.old) (entries_of attrs)) }
     ensures ended { OnOk result (trees_in input.new ≡ []) }
+    ensures end { IfOk result (λ attrs. attrs_end attrs ≡ scope_of input.old) }
     ensures rejected { IfErr result (λ e. LacksMemoryInStep (trees_in input.old) e
         ⊎ RejectsAttributes (trees_in input.old) (scope_of input.old) e) }
     ensures rest { IsRest (trees_in input.old) (trees_in input.new) }
     ensures scope { scope_of input.new ≡ scope_of input.old }
 {
-    let mut names = HashSet::new(alloc);
+    let mut names = BTreeSet::new(alloc);
     let mut entries = Vec::new(alloc);
     while !input.is_empty() {
         let place = input.span();
@@ -133,7 +134,10 @@ fn take_all<A: Allocator + Copy>(
             return Err(Error::memory(place));
         }
     }
-    Ok(Attrs { entries })
+    Ok(Attrs {
+        entries,
+        end: input.span(),
+    })
 }
 
 /// The error, but an allocation failure at this place.
@@ -181,6 +185,8 @@ pub fn read<A: Allocator + Copy>(alloc: A, text: &str, file: u32) -> Result<Attr
     // The text is cut into the trees of these attributes.
     ensures attributes { IfOk result
         (λ attrs. AreAttributesOf (chars text.now) file (attributes_of (entries_of attrs))) }
+    // They end where the text does.
+    ensures end { IfOk result (λ attrs. attrs_end attrs ≡ place_at file (length text.now)) }
     // Each value is what its literal reads as.
     ensures values { IfOk result (λ attrs. All IsReadEntry (entries_of attrs)) }
     // Else the text's first error; or, of its trees, what is missed first, or a name that stood before; or an

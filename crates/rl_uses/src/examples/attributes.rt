@@ -1,6 +1,6 @@
 //! An example of `rl_attributes`: settings.
 
-use rl_attributes::read;
+use rl_attributes::{Setting, read};
 use rust_literals::Lit;
 use std::alloc::Global;
 
@@ -10,5 +10,28 @@ pub fn string_setting(alloc: Global, text: &str, name: &str) -> Option<String> {
     match attrs.get(name)? {
         Lit::Str(literal) => literal.value(alloc).ok(),
         _ => None,
+    }
+}
+
+/// The string that a text sets `host` to.
+pub fn host_of(alloc: Global, text: &str) -> Option<String> {
+    let host = Setting {
+        name: "host",
+        expected: "a string",
+    };
+    let attrs = read(alloc, text, 0).ok()?;
+    attrs.string(alloc, host).ok()?
+}
+
+/// Where a text ends that sets no `host`.
+pub fn missing_at(alloc: Global, text: &str) -> Option<usize> {
+    let host = Setting {
+        name: "host",
+        expected: "a string",
+    };
+    let attrs = read(alloc, text, 0).ok()?;
+    match attrs.get(host.name) {
+        Some(_) => None,
+        None => Some(attrs.missing(host).span().lo),
     }
 }

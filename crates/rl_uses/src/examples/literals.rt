@@ -1,7 +1,7 @@
 //! Examples of `rust_literals`: literals of any kind, numbers, and lists.
 
 use rl_tokens::{Literal, Span, Tokens};
-use rust_literals::{Lit, LitFloat, read_all, read_next};
+use rust_literals::{Lit, LitFloat, Literals, read_all, read_next};
 use std::alloc::Global;
 
 /// The number of the byte, the character or the truth value that a text is.
@@ -38,4 +38,14 @@ pub fn after_literal(alloc: Global, text: &str) -> Option<&str> {
     let mut list: Vec<Lit> = Vec::new(alloc);
     let is_read = read_next(alloc, &mut tokens, 0, &mut list).ok()?;
     is_read.then_some(tokens.rest())
+}
+
+/// The contents of the second literal of a text, if it is a string.
+pub fn second_string(alloc: Global, text: &str) -> Option<String> {
+    let mut literals = Literals::new(alloc, text, 0);
+    literals.next().ok()?;
+    match literals.next().ok()?? {
+        Lit::Str(literal) => literal.value(alloc).ok(),
+        _ => None,
+    }
 }

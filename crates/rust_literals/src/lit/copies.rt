@@ -1,5 +1,6 @@
 //! Copies of literals, their equality and hash, and how they are printed.
 
+ghost use Rattle.std.specs.Fmt.{padded};
 ghost use Rattle.std.specs.Prelude.{◌≡◌, ◌++◌, ◌∷◌, [], IfOk, IfErr, OnOk, OnErr, Some};
 ghost use Rattle.std.specs.Cmp.{partial_equiv_from_equiv};
 ghost use Rattle.std.specs.Cmp.Rules.{hashing};
@@ -88,12 +89,14 @@ impl<A: Allocator> Hash for Lit<A> {
     }
 }
 
-/// The literal's text.
+/// The literal's text; a width pads it, as it pads a `str`.
 impl<A: Allocator> fmt::Display for Lit<A> {
     ghost output = { λ l. Some (text_of l) };
 
+    ghost styled_output = { λ l spec. Some (padded spec (text_of l)) };
+
     fn fmt<W: fmt::Write>(&self, f: &mut fmt::Formatter<W>) -> fmt::Result {
-        f.write_str(self.text())
+        f.pad(self.text())
     }
 }
 

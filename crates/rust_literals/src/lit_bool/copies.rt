@@ -1,5 +1,6 @@
 //! Copies of truth values, their equality and hash, and how they are printed.
 
+ghost use Rattle.std.specs.Fmt.{padded};
 ghost use Rattle.std.specs.Prelude.{◌≡◌, ◌++◌, ◌∷◌, [], Ok, IfErr, OnOk, OnErr, Some, codes};
 ghost use Rattle.std.specs.Cmp.{partial_equiv_from_equiv, on_equiv, bool_eq_equiv};
 ghost use Rattle.std.specs.Cmp.Rules.{hashing};
@@ -59,12 +60,14 @@ impl Hash for LitBool {
     }
 }
 
-/// The word.
+/// The word; a width pads it, as it pads a `str`.
 impl fmt::Display for LitBool {
     ghost output = { λ l. Some (truth_text l.value) };
 
+    ghost styled_output = { λ l spec. Some (padded spec (truth_text l.value)) };
+
     fn fmt<W: fmt::Write>(&self, f: &mut fmt::Formatter<W>) -> fmt::Result {
-        f.write_str(word(self.value))
+        f.pad(word(self.value))
     }
 }
 

@@ -1,10 +1,14 @@
-use Rattle.std.proofs.Common.{rules, ◌≡◌, inl, inr, true, sym}
+use Rattle.std.proofs.Common.{rules, ◌≡◌, inl, inr, true, cond, ap, sym, ◌∙◌}
+use Rattle.std.specs.Cmp.Lexicographic.{texts_ties}
 use Rattle.rl_tokens.specs.Buffers.{trees_in}
 use Rattle.rl_attributes.specs.AttributeSteps.{has_name}
 use Rattle.rl_attributes.proofs.attributes.take.take_name.Goals as goal
 
 pub returns-in-Ok-true-clause-adds : goal.returns-in-Ok-true-clause-adds
-returns-in-Ok-true-clause-adds g c other = rw (sym c.text.ensures.text) (c.in-Ok-true.ensures.updates.0 (record { ref_ptr = (0, 0); now = other }))
+returns-in-Ok-true-clause-adds g c other =
+    rw (sym c.text.ensures.text)
+    (c.in-Ok-true.ensures.updates.0 (record { ref_ptr = (0, 0); now = other })
+    ∙ ap (λ b. cond b true (has_name c.args.names.now other)) (sym (texts_ties c.text.result.now other)))
 
 pub returns-in-Ok-false-clause-rejected : goal.returns-in-Ok-false-clause-rejected
 returns-in-Ok-false-clause-rejected g c =

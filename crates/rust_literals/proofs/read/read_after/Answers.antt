@@ -3,8 +3,8 @@ use Rattle.std.proofs.lemmas.List.{append-nil}
 use Rattle.std.specs.Str.{chars}
 use Rattle.rust_literals.specs.declared.lit.Lit.{Lit}
 use Rattle.rust_literals.specs.Flat.{AreFirst}
-use Rattle.rust_literals.proofs.read.read_behind.Given as given
-use Rattle.rust_literals.proofs.read.read_behind.Goals as goal
+use Rattle.rust_literals.proofs.read.read_after.Given as given
+use Rattle.rust_literals.proofs.read.read_after.Goals as goal
 
 -- after them the list is empty
 none_more : (g : given.Over) (c : goal.After-read_from g) (first : List (Lit g.row.A.Denot)) → AreFirst (chars c.args.text.now) c.args.file c.args.count first → AreFirst (chars c.args.text.now) c.args.file c.args.count (first ++ c.new.result.items)
