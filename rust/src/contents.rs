@@ -1,6 +1,6 @@
 //! What literals stand for whose bodies aren't it.
 
-use crate::grammar::{bytes_into, numeral_into, SegmentValue, Segments};
+use crate::grammar::{bytes_into, numeral_into, Body, SegmentValue, Segments};
 use crate::tokens::Kind;
 use alloc::string::String;
 use alloc::vec;
@@ -15,9 +15,23 @@ fn written(body: &str, write: impl FnOnce(&str, &mut [u8]) -> usize) -> Vec<u8> 
     out
 }
 
-/// What a string stands for whose segments these are: no longer than its text.
-pub(crate) fn text_of(mut segments: Segments<'_>, len: usize) -> String {
-    let mut out = String::with_capacity(len);
+/// The segments of a body that isn't plain. Inlined for a kind that its caller names.
+#[inline(always)]
+fn segments_of(kind: Kind, body: &str) -> Segments<'_> {
+    let end = body.len();
+    let parts = Body {
+        lo: 0,
+        hi: end,
+        suffix_at: end,
+        plain: false,
+    };
+    parts.segments_in(kind, body)
+}
+
+/// What a string stands for whose body has escapes: no longer than its body.
+pub(crate) fn text_of(body: &str) -> String {
+    let mut out = String::with_capacity(body.len());
+    let mut segments = segments_of(Kind::Str, body);
     while let Some(segment) = segments.next() {
         match segment.value {
             SegmentValue::Text(text) => out.push_str(text),
