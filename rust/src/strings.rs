@@ -270,12 +270,14 @@ byte_values!(
 );
 
 impl LitByteStr<'_> {
+    #[inline]
     fn decoded(&self) -> Vec<u8> {
         bytes_of(Kind::ByteStr, self.body())
     }
 }
 
 impl LitCStr<'_> {
+    #[inline]
     fn decoded(&self) -> Vec<u8> {
         bytes_of(Kind::CStr, self.body())
     }
