@@ -4,7 +4,7 @@ use crate::grammar::{find, Found};
 use crate::kind::Kind;
 use crate::parse_error::ParseError;
 use crate::places::{Places, Segments};
-use crate::reading::is_rust;
+use crate::reading::{is_plainly_rust, is_rust, rust_found};
 use crate::tokens;
 use crate::{
     LitBool, LitByte, LitByteStr, LitCStr, LitChar, LitFloat, LitInt, LitStr, LitVerbatim,
@@ -109,9 +109,25 @@ impl<'t> Lit<'t> {
     /// ```
     #[inline]
     pub fn parse(text: &'t str) -> Result<Lit<'t>, ParseError> {
-        match find(text) {
-            Some(found) if is_rust(text, &found) => Ok(Lit::of(Cow::Borrowed(text), &found)),
-            _ => Err(ParseError::of(text)),
+        if let Some(found) = find(text) {
+            let body = found.body;
+            let plain = is_plainly_rust(text, &found);
+            let text = Cow::Borrowed(text);
+            match found.kind {
+                tokens::Kind::Str if plain => return Ok(Lit::Str(LitStr::of(text, body))),
+                tokens::Kind::ByteStr if plain => return Ok(Lit::ByteStr(LitByteStr::of(text, body))),
+                tokens::Kind::CStr if plain => return Ok(Lit::CStr(LitCStr::of(text, body))),
+                tokens::Kind::Byte if plain => return Ok(Lit::Byte(LitByte::of(text, body.suffix_at, found.unit))),
+                tokens::Kind::Char if plain => return Ok(Lit::Char(LitChar::of(text, body.suffix_at, found.unit))),
+                tokens::Kind::Int if plain => return Ok(Lit::Int(LitInt::of(text, body.suffix_at, found.magnitude, body.plain,))),
+                tokens::Kind::Float if plain => return Ok(Lit::Float(LitFloat::of(text, body.suffix_at, body.plain))),
+                tokens::Kind::Bool if plain => return Ok(Lit::Bool(LitBool::of(text, found.truth))),
+                _ => {}
+            }
+        }
+        match rust_found(text) {
+            Some(found) => Ok(Lit::of(Cow::Borrowed(text), &found)),
+            None => Err(ParseError::of(text)),
         }
     }
 

@@ -1,31 +1,40 @@
 //! Whether Rust takes a text that `syn` reads.
 
 use crate::grammar::strict::is_token;
-use crate::grammar::{Body, Found};
+use crate::grammar::{find, Body, Found};
 use crate::numbers::NumberType;
 use crate::tokens::Kind;
 
 /// Whether a text that reads as a literal is one of Rust's own, with one optional minus before a number.
-///
-/// What reading found tells it of most texts; `is_token` is asked of the others.
-#[inline]
 pub(crate) fn is_rust(text: &str, found: &Found) -> bool {
     is_plainly_rust(text, found) || is_token_after_minus(text)
 }
 
 /// Whether what was found tells that Rust takes the text.
 #[inline]
-fn is_plainly_rust(text: &str, found: &Found) -> bool {
+pub(crate) fn is_plainly_rust(text: &str, found: &Found) -> bool {
     let body = found.body;
     match found.kind {
         Kind::Int => is_number_suffix(text, body),
         Kind::Float => is_number_suffix(text, body) && is_rust_float(text.as_bytes()),
-        _ if body.suffix_at != text.len() => false,
-        Kind::Str => is_rust_string(text, body, 1),
-        Kind::ByteStr | Kind::CStr => is_rust_string(text, body, 2),
-        Kind::Byte | Kind::Bool => true,
-        Kind::Char => text.as_bytes()[1] == b'\\' || is_bare(found.unit),
+        Kind::Str => ends_at(text, body) && is_rust_string(text, body, 1),
+        Kind::ByteStr | Kind::CStr => ends_at(text, body) && is_rust_string(text, body, 2),
+        Kind::Byte | Kind::Bool => ends_at(text, body),
+        Kind::Char => ends_at(text, body) && (is_bare(found.unit) || text.as_bytes()[1] == b'\\'),
     }
+}
+
+/// What was found of a text, if Rust takes it.
+#[cold]
+#[inline(never)]
+pub(crate) fn rust_found(text: &str) -> Option<Found> {
+    find(text).filter(|found| is_rust(text, found))
+}
+
+/// Whether the literal has no suffix.
+#[inline]
+fn ends_at(text: &str, body: Body) -> bool {
+    body.suffix_at == text.len()
 }
 
 /// Whether a character literal may hold the character as it stands: all but a quote, LF, CR and TAB.
@@ -34,11 +43,20 @@ fn is_bare(unit: u32) -> bool {
     !matches!(unit, 0x27 | 0x0A | 0x0D | 0x09)
 }
 
-/// Whether a string is cooked and holds no CR: such strings are the same in both grammars. A cooked opener is as long as `opener`.
+/// Whether a string is cooked and holds no CR, or raw and holds no CR and no quote: such strings are the same in both grammars. A
+/// cooked opener is as long as `opener`.
 #[inline]
 fn is_rust_string(text: &str, body: Body, opener: usize) -> bool {
-    // A plain body of a cooked string holds none.
-    body.lo == opener && (body.plain || !text.as_bytes()[body.lo..body.hi].contains(&b'\r'))
+    if body.lo > opener {
+        body.lo <= opener + 200 && !holds(&text.as_bytes()[body.lo..body.hi], b'"', b'\r')
+    } else {
+        body.plain || !holds(&text.as_bytes()[body.lo..body.hi], b'\r', b'\r')
+    }
+}
+
+#[inline(never)]
+fn holds(bytes: &[u8], first: u8, second: u8) -> bool {
+    bytes.iter().fold(false, |found, byte| found | (*byte == first) | (*byte == second))
 }
 
 /// Whether the number has no suffix, or the name of a type of numbers.
