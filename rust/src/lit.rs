@@ -68,6 +68,21 @@ macro_rules! each_kind {
     };
 }
 
+/// Does the same of each kind that is found, in an arm of its own: where it is inlined, the code after it knows the kind.
+macro_rules! each_found_kind {
+    ($found:expr, $kind:ident => $result:expr) => {
+        each_found_kind!(@arms $found, $kind => $result; Str ByteStr CStr Byte Char Int Float Bool)
+    };
+    (@arms $found:expr, $kind:ident => $result:expr; $($name:ident)*) => {
+        match $found {
+            $(tokens::Kind::$name => {
+                let $kind = tokens::Kind::$name;
+                $result
+            })*
+        }
+    };
+}
+
 impl<'t> Lit<'t> {
     /// What `syn` reads the text as, all of it: `Verbatim` exactly where it has no reading, and for integers past 128 bits.
     ///
@@ -110,20 +125,9 @@ impl<'t> Lit<'t> {
     #[inline]
     pub fn parse(text: &'t str) -> Result<Lit<'t>, ParseError> {
         if let Some(found) = find(text) {
-            let body = found.body;
-            let plain = is_plainly_rust(text, &found);
-            let text = Cow::Borrowed(text);
-            match found.kind {
-                tokens::Kind::Str if plain => return Ok(Lit::Str(LitStr::of(text, body))),
-                tokens::Kind::ByteStr if plain => return Ok(Lit::ByteStr(LitByteStr::of(text, body))),
-                tokens::Kind::CStr if plain => return Ok(Lit::CStr(LitCStr::of(text, body))),
-                tokens::Kind::Byte if plain => return Ok(Lit::Byte(LitByte::of(text, body.suffix_at, found.unit))),
-                tokens::Kind::Char if plain => return Ok(Lit::Char(LitChar::of(text, body.suffix_at, found.unit))),
-                tokens::Kind::Int if plain => return Ok(Lit::Int(LitInt::of(text, body.suffix_at, found.magnitude, body.plain,))),
-                tokens::Kind::Float if plain => return Ok(Lit::Float(LitFloat::of(text, body.suffix_at, body.plain))),
-                tokens::Kind::Bool if plain => return Ok(Lit::Bool(LitBool::of(text, found.truth))),
-                _ => {}
-            }
+            each_found_kind!(found.kind, kind => if is_plainly_rust(kind, text, &found) {
+                return Ok(Lit::of_kind(kind, Cow::Borrowed(text), &found));
+            });
         }
         match rust_found(text) {
             Some(found) => Ok(Lit::of(Cow::Borrowed(text), &found)),
@@ -203,8 +207,14 @@ impl<'t> Lit<'t> {
     /// The literal of a text, of which this was found.
     #[inline]
     pub(crate) fn of(text: Cow<'t, str>, found: &Found) -> Lit<'t> {
+        Lit::of_kind(found.kind, text, found)
+    }
+
+    /// The literal of a text, of which this was found.
+    #[inline]
+    fn of_kind(kind: tokens::Kind, text: Cow<'t, str>, found: &Found) -> Lit<'t> {
         let body = found.body;
-        match found.kind {
+        match kind {
             tokens::Kind::Str => Lit::Str(LitStr::of(text, body)),
             tokens::Kind::ByteStr => Lit::ByteStr(LitByteStr::of(text, body)),
             tokens::Kind::CStr => Lit::CStr(LitCStr::of(text, body)),

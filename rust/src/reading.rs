@@ -7,14 +7,14 @@ use crate::tokens::Kind;
 
 /// Whether a text that reads as a literal is one of Rust's own, with one optional minus before a number.
 pub(crate) fn is_rust(text: &str, found: &Found) -> bool {
-    is_plainly_rust(text, found) || is_token_after_minus(text)
+    is_plainly_rust(found.kind, text, found) || is_token_after_minus(text)
 }
 
 /// Whether what was found tells that Rust takes the text.
 #[inline]
-pub(crate) fn is_plainly_rust(text: &str, found: &Found) -> bool {
+pub(crate) fn is_plainly_rust(kind: Kind, text: &str, found: &Found) -> bool {
     let body = found.body;
-    match found.kind {
+    match kind {
         Kind::Int => is_number_suffix(text, body),
         Kind::Float => is_number_suffix(text, body) && is_rust_float(text.as_bytes()),
         Kind::Str => ends_at(text, body) && is_rust_string(text, body, 1),
