@@ -3,13 +3,13 @@
 use crate::grammar::{bytes_into, numeral_into, Body, SegmentValue, Segments};
 use crate::tokens::Kind;
 use alloc::string::String;
-use alloc::vec;
 use alloc::vec::Vec;
 
 /// What is written into room as long as the body, which is long enough.
 #[inline]
 fn written(body: &str, write: impl FnOnce(&str, &mut [u8]) -> usize) -> Vec<u8> {
-    let mut out = vec![0; body.len()];
+    let mut out = Vec::with_capacity(body.len());
+    out.resize(body.len(), b' ');
     let len = write(body, &mut out);
     out.truncate(len);
     out

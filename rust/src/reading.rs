@@ -16,7 +16,7 @@ pub(crate) fn is_plainly_rust(kind: Kind, text: &str, found: &Found) -> bool {
     let body = found.body;
     match kind {
         Kind::Int => is_number_suffix(text, body),
-        Kind::Float => is_number_suffix(text, body) && is_rust_float(text.as_bytes()),
+        Kind::Float => is_number_suffix(text, body) && is_rust_float(text.as_bytes(), body),
         Kind::Str => ends_at(text, body) && is_rust_string(text, body, 1),
         Kind::ByteStr | Kind::CStr => ends_at(text, body) && is_rust_string(text, body, 2),
         Kind::Byte | Kind::Bool => ends_at(text, body),
@@ -65,17 +65,30 @@ fn is_number_suffix(text: &str, body: Body) -> bool {
     body.suffix_at == text.len() || NumberType::named(&text[body.suffix_at..]).is_some()
 }
 
-/// Whether a digit follows the dot of a float, if anything does, and a digit or a sign the letter of its exponent.
+/// Whether a digit follows the dot of a float, if anything does, and no underscore the letter of its exponent.
 #[inline]
-fn is_rust_float(mut text: &[u8]) -> bool {
-    while let [first, rest @ ..] = text {
-        match first {
-            b'0'..=b'9' => {}
-            b'.' if !matches!(rest, [] | [b'0'..=b'9', ..]) => return false,
-            b'e' | b'E' if !matches!(rest, [b'0'..=b'9' | b'+' | b'-', ..]) => return false,
-            _ => {}
+fn is_rust_float(text: &[u8], body: Body) -> bool {
+    is_rust_after(text, |byte| byte == b'.', |next| next.is_ascii_digit())
+        && (body.plain
+            || is_rust_after(
+                &text[..body.suffix_at],
+                |byte| matches!(byte, b'e' | b'E'),
+                |next| next != b'_',
+            ))
+}
+
+/// Whether what follows the first byte that passes one test passes another, if anything does.
+#[inline]
+fn is_rust_after(text: &[u8], is_mark: impl Fn(u8) -> bool, is_good: impl Fn(u8) -> bool) -> bool {
+    let mut rest = text;
+    while let [first, after @ ..] = rest {
+        if is_mark(*first) {
+            return match after {
+                [next, ..] => is_good(*next),
+                [] => true,
+            };
         }
-        text = rest;
+        rest = after;
     }
     true
 }
