@@ -16,7 +16,7 @@ pub(crate) fn is_plainly_rust(kind: Kind, text: &str, found: &Found) -> bool {
     let body = found.body;
     match kind {
         Kind::Int => is_number_suffix(text, body),
-        Kind::Float => is_number_suffix(text, body) && is_rust_float(text.as_bytes(), body),
+        Kind::Float => is_float_suffix(text, body) && is_rust_float(text.as_bytes(), body),
         Kind::Str => ends_at(text, body) && is_rust_string(text, body, 1),
         Kind::ByteStr | Kind::CStr => ends_at(text, body) && is_rust_string(text, body, 2),
         Kind::Byte | Kind::Bool => ends_at(text, body),
@@ -57,6 +57,12 @@ fn is_rust_string(text: &str, body: Body, opener: usize) -> bool {
 #[inline(never)]
 fn holds(bytes: &[u8], first: u8, second: u8) -> bool {
     bytes.iter().fold(false, |found, byte| found | (*byte == first) | (*byte == second))
+}
+
+/// Whether the float has no suffix, or the name of a type of floats.
+#[inline]
+fn is_float_suffix(text: &str, body: Body) -> bool {
+    matches!(&text.as_bytes()[body.suffix_at..], b"" | b"f32" | b"f64")
 }
 
 /// Whether the number has no suffix, or the name of a type of numbers.
