@@ -54,9 +54,15 @@ fn is_rust_string(text: &str, body: Body, opener: usize) -> bool {
     }
 }
 
+/// Whether one of two bytes is among these. All are looked at, so that the compiler takes many at once.
 #[inline(never)]
-fn holds(bytes: &[u8], first: u8, second: u8) -> bool {
-    bytes.iter().fold(false, |found, byte| found | (*byte == first) | (*byte == second))
+fn holds(mut bytes: &[u8], first: u8, second: u8) -> bool {
+    let mut found = false;
+    while let [byte, rest @ ..] = bytes {
+        found |= *byte == first || *byte == second;
+        bytes = rest;
+    }
+    found
 }
 
 /// Whether the float has no suffix, or the name of a type of floats.
