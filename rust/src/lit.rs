@@ -4,7 +4,7 @@ use crate::grammar::{find, Found};
 use crate::kind::Kind;
 use crate::parse_error::ParseError;
 use crate::places::{Places, Segments};
-use crate::reading::{is_plainly_rust, is_rust, rust_found};
+use crate::reading::{find_rust, is_plainly_rust, is_rust};
 use crate::tokens;
 use crate::{
     LitBool, LitByte, LitByteStr, LitCStr, LitChar, LitFloat, LitInt, LitStr, LitVerbatim,
@@ -68,7 +68,8 @@ macro_rules! each_kind {
     };
 }
 
-/// Does the same of each kind that is found, in an arm of its own: where it is inlined, the code after it knows the kind.
+/// Does the same of each kind that is found, in an arm of its own. There the kind is known, and so it is to a caller's match on the
+/// literal that the arm makes, where that is inlined.
 macro_rules! each_found_kind {
     ($found:expr, $kind:ident => $result:expr) => {
         each_found_kind!(@arms $found, $kind => $result; Str ByteStr CStr Byte Char Int Float Bool)
@@ -129,7 +130,8 @@ impl<'t> Lit<'t> {
                 return Ok(Lit::of_kind(kind, Cow::Borrowed(text), &found));
             });
         }
-        match rust_found(text) {
+        // The text is read anew: keeping what was found for this would cost each text that came out above.
+        match find_rust(text) {
             Some(found) => Ok(Lit::of(Cow::Borrowed(text), &found)),
             None => Err(ParseError::of(text)),
         }
@@ -210,7 +212,7 @@ impl<'t> Lit<'t> {
         Lit::of_kind(found.kind, text, found)
     }
 
-    /// The literal of a text, of which this was found.
+    /// The literal of a text, of which this was found, and this kind.
     #[inline]
     fn of_kind(kind: tokens::Kind, text: Cow<'t, str>, found: &Found) -> Lit<'t> {
         let body = found.body;

@@ -5,52 +5,57 @@ use crate::grammar::{find, Body, Found};
 use crate::numbers::NumberType;
 use crate::tokens::Kind;
 
+/// The most hashes that a raw string of Rust's has on each side.
+const MOST_HASHES: usize = 255;
+
 /// Whether a text that reads as a literal is one of Rust's own, with one optional minus before a number.
 pub(crate) fn is_rust(text: &str, found: &Found) -> bool {
     is_plainly_rust(found.kind, text, found) || is_token_after_minus(text)
 }
 
-/// Whether what was found tells that Rust takes the text.
+/// What was found of a text that Rust takes. It reads the text anew, for callers who needn't keep what they found.
+#[cold]
+#[inline(never)]
+pub(crate) fn find_rust(text: &str) -> Option<Found> {
+    find(text).filter(|found| is_rust(text, found))
+}
+
+/// Whether what was found tells that Rust takes the text. The kind is the one that was found: where a caller names it, this is its
+/// arm alone.
 #[inline]
 pub(crate) fn is_plainly_rust(kind: Kind, text: &str, found: &Found) -> bool {
     let body = found.body;
     match kind {
         Kind::Int => is_number_suffix(text, body),
-        Kind::Float => is_float_suffix(text, body) && is_rust_float(text.as_bytes(), body),
-        Kind::Str => ends_at(text, body) && is_rust_string(text, body, 1),
-        Kind::ByteStr | Kind::CStr => ends_at(text, body) && is_rust_string(text, body, 2),
-        Kind::Byte | Kind::Bool => ends_at(text, body),
-        Kind::Char => ends_at(text, body) && (is_bare(found.unit) || text.as_bytes()[1] == b'\\'),
+        Kind::Float => is_float_suffix(text, body) && is_rust_float(text, body),
+        Kind::Str => has_no_suffix(text, body) && is_rust_string(text, body, 1),
+        Kind::ByteStr | Kind::CStr => has_no_suffix(text, body) && is_rust_string(text, body, 2),
+        Kind::Byte | Kind::Bool => has_no_suffix(text, body),
+        Kind::Char => has_no_suffix(text, body) && is_rust_character(text, found.unit),
     }
 }
 
-/// What was found of a text, if Rust takes it.
-#[cold]
-#[inline(never)]
-pub(crate) fn rust_found(text: &str) -> Option<Found> {
-    find(text).filter(|found| is_rust(text, found))
-}
-
-/// Whether the literal has no suffix.
 #[inline]
-fn ends_at(text: &str, body: Body) -> bool {
+fn has_no_suffix(text: &str, body: Body) -> bool {
     body.suffix_at == text.len()
 }
 
-/// Whether a character literal may hold the character as it stands: all but a quote, LF, CR and TAB.
+/// Whether a character literal holds an escape, or what may stand there bare: all but a quote, LF, CR and TAB.
 #[inline]
-fn is_bare(unit: u32) -> bool {
-    !matches!(unit, 0x27 | 0x0A | 0x0D | 0x09)
+fn is_rust_character(text: &str, unit: u32) -> bool {
+    !matches!(unit, 0x27 | 0x0A | 0x0D | 0x09) || text.as_bytes()[1] == b'\\'
 }
 
-/// Whether a string is cooked and holds no CR, or raw and holds no CR and no quote: such strings are the same in both grammars. A
-/// cooked opener is as long as `opener`.
+/// Whether a string, whose opener is this long where it is cooked, holds no CR, and if it is raw no quote and not too many hashes:
+/// such strings are the same in both grammars.
 #[inline]
 fn is_rust_string(text: &str, body: Body, opener: usize) -> bool {
-    if body.lo > opener {
-        body.lo <= opener + 200 && !holds(&text.as_bytes()[body.lo..body.hi], b'"', b'\r')
+    let inside = &text.as_bytes()[body.lo..body.hi];
+    if body.lo == opener {
+        // A plain body of a cooked string holds none.
+        body.plain || !holds(inside, b'\r', b'\r')
     } else {
-        body.plain || !holds(&text.as_bytes()[body.lo..body.hi], b'\r', b'\r')
+        body.lo <= opener + 1 + MOST_HASHES && !holds(inside, b'"', b'\r')
     }
 }
 
@@ -65,40 +70,35 @@ fn holds(mut bytes: &[u8], first: u8, second: u8) -> bool {
     found
 }
 
+/// Whether the integer has no suffix, or the name of a type of numbers.
+#[inline]
+fn is_number_suffix(text: &str, body: Body) -> bool {
+    has_no_suffix(text, body) || NumberType::named(&text[body.suffix_at..]).is_some()
+}
+
 /// Whether the float has no suffix, or the name of a type of floats.
 #[inline]
 fn is_float_suffix(text: &str, body: Body) -> bool {
     matches!(&text.as_bytes()[body.suffix_at..], b"" | b"f32" | b"f64")
 }
 
-/// Whether the number has no suffix, or the name of a type of numbers.
-#[inline]
-fn is_number_suffix(text: &str, body: Body) -> bool {
-    body.suffix_at == text.len() || NumberType::named(&text[body.suffix_at..]).is_some()
-}
-
 /// Whether a digit follows the dot of a float, if anything does, and no underscore the letter of its exponent.
 #[inline]
-fn is_rust_float(text: &[u8], body: Body) -> bool {
-    is_rust_after(text, |byte| byte == b'.', |next| next.is_ascii_digit())
-        && (body.plain
-            || is_rust_after(
-                &text[..body.suffix_at],
-                |byte| matches!(byte, b'e' | b'E'),
-                |next| next != b'_',
-            ))
+fn is_rust_float(text: &str, body: Body) -> bool {
+    let (numeral, _) = text.as_bytes().split_at(body.suffix_at);
+    let is_letter = |byte| matches!(byte, b'e' | b'E');
+    passes_after(text.as_bytes(), |byte| byte == b'.', |next| next.is_ascii_digit())
+        // Plain digits hold no underscore.
+        && (body.plain || passes_after(numeral, is_letter, |next| next != b'_'))
 }
 
-/// Whether what follows the first byte that passes one test passes another, if anything does.
+/// Whether the byte after the first mark passes the test, if there is a mark and a byte after it.
 #[inline]
-fn is_rust_after(text: &[u8], is_mark: impl Fn(u8) -> bool, is_good: impl Fn(u8) -> bool) -> bool {
-    let mut rest = text;
+fn passes_after(bytes: &[u8], is_mark: impl Fn(u8) -> bool, test: impl Fn(u8) -> bool) -> bool {
+    let mut rest = bytes;
     while let [first, after @ ..] = rest {
         if is_mark(*first) {
-            return match after {
-                [next, ..] => is_good(*next),
-                [] => true,
-            };
+            return after.is_empty() || test(after[0]);
         }
         rest = after;
     }
@@ -125,6 +125,20 @@ mod tests {
                 let mut text = String::from(front);
                 text.push(c);
                 each_text(&text, characters, most - 1, check);
+            }
+        }
+    }
+
+    #[test]
+    fn rust_limits_the_hashes_of_raw_strings() {
+        for count in 250..260 {
+            let hashes = "#".repeat(count);
+            for opener in ["r", "br", "cr"] {
+                for inside in ["", "a", "\"", "\r"] {
+                    let text = std::format!("{opener}{hashes}\"{inside}\"{hashes}");
+                    let found = find(&text).expect("it reads");
+                    assert_eq!(is_rust(&text, &found), is_token(&text), "{text}");
+                }
             }
         }
     }

@@ -5,7 +5,7 @@ use crate::grammar::digit_rows::is_negative;
 use crate::grammar::digits::{is_plain_float, is_plain_integer};
 use crate::grammar::number_forms::{Number, read_number};
 use crate::grammar::quoted_forms::{
-    QuotedForm, begins_character, begins_string, find_string, find_bare_character, find_character, find_cooked, find_raw,
+    QuotedForm, begins_character, find_bare_character, find_character, find_cooked, find_raw,
     find_single, split_opener,
 };
 use crate::tokens::Kind;
@@ -140,18 +140,12 @@ pub fn find(text: &str) -> Option<Found> {
         if let Some(found) = find_bare_character(text) {
             return Some(found);
         }
-        let found = find_character(text)?;
-        return Some(Found { kind: Kind::Char, body: found.body, magnitude: 0, truth: false, unit: found.unit });
-    }
-    if begins_string(text) {
-        return find_string(text);
+        return find_character(text);
     }
     if begins_number(text) {
-        let found = find_number(text)?;
-        return Some(Found { kind: found.kind, body: found.body, magnitude: found.magnitude, truth: false, unit: 0 });
+        return find_number(text);
     }
-    let found = find_word_or_quoted(text)?;
-    Some(Found { kind: found.kind, body: found.body, magnitude: 0, truth: found.truth, unit: found.unit })
+    find_word_or_quoted(text)
 }
 
 /// What reading the text as a quoted literal or a truth value finds.

@@ -67,14 +67,6 @@ pub(crate) fn split_opener(text: &str) -> Option<(QuotedForm, Kind, &str)> {
 /// The text after the units at its front, as far as they go.
 #[inline(never)]
 pub(crate) fn skip_units(kind: Kind, text: &str) -> &str {
-    match kind {
-        Kind::Str => skip_units_of(Kind::Str, text),
-        _ => skip_units_of(kind, text),
-    }
-}
-/// The text after the units at its front, as far as they go.
-#[inline(always)]
-pub(crate) fn skip_units_of(kind: Kind, text: &str) -> &str {
     let mut rest = text;
     while let Some((_, after)) = unit(kind, rest) {
         let (_, following) = split_plain(kind, after);
@@ -207,30 +199,4 @@ pub(crate) fn find_bare_character(text: &str) -> Option<Found> {
 #[inline(never)]
 pub(crate) fn find_character(text: &str) -> Option<Found> {
     find_single(Kind::Char, text, &text[1..])
-}
-
-/// Whether a `"` begins the text.
-#[inline(always)]
-pub(crate) fn begins_string(text: &str) -> bool {
-    let bytes = text.as_bytes();
-    !bytes.is_empty() && bytes[0] == b'"'
-}
-
-/// What reading the text as a string finds, which a `"` begins.
-#[inline(always)]
-pub(crate) fn find_string(text: &str) -> Option<Found> {
-    let inside = &text[1..];
-    let (_, following) = split_plain(Kind::Str, inside);
-    if let Some(suffix) = after_quote(Kind::Str, following) {
-        return Some(quoted(Kind::Str, places(text, inside, following, suffix, true), 0));
-    }
-    let body = escaped_places(text, following)?;
-    Some(quoted(Kind::Str, body, 0))
-}
-
-#[inline(never)]
-fn escaped_places(text: &str, following: &str) -> Option<Body> {
-    let closer = skip_units(Kind::Str, following);
-    let suffix = after_quote(Kind::Str, closer)?;
-    Some(places(text, &text[1..], closer, suffix, false))
 }
