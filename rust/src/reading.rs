@@ -50,12 +50,12 @@ fn is_rust_character(text: &str, unit: u32) -> bool {
 /// such strings are the same in both grammars.
 #[inline]
 fn is_rust_string(text: &str, body: Body, opener: usize) -> bool {
-    let inside = &text.as_bytes()[body.lo..body.hi];
+    let inside = || &text.as_bytes()[body.lo..body.hi];
     if body.lo == opener {
         // A plain body of a cooked string holds none.
-        body.plain || !holds(inside, b'\r', b'\r')
+        body.plain || !holds(inside(), b'\r', b'\r')
     } else {
-        body.lo <= opener + 1 + MOST_HASHES && !holds(inside, b'"', b'\r')
+        body.lo <= opener + 1 + MOST_HASHES && !holds(inside(), b'"', b'\r')
     }
 }
 
