@@ -82,27 +82,33 @@ fn is_float_suffix(text: &str, body: Body) -> bool {
     matches!(&text.as_bytes()[body.suffix_at..], b"" | b"f32" | b"f64")
 }
 
-/// Whether a digit follows the dot of a float, if anything does, and no underscore the letter of its exponent.
+/// Whether a digit follows the dot of a float, if anything does, and no underscore the letter of its exponent. Its suffix, if it has
+/// one, holds neither.
 #[inline]
 fn is_rust_float(text: &str, body: Body) -> bool {
-    let (numeral, _) = text.as_bytes().split_at(body.suffix_at);
-    let is_letter = |byte| matches!(byte, b'e' | b'E');
-    passes_after(text.as_bytes(), |byte| byte == b'.', |next| next.is_ascii_digit())
-        // Plain digits hold no underscore.
-        && (body.plain || passes_after(numeral, is_letter, |next| next != b'_'))
+    let fraction = after_first(text.as_bytes(), |byte| byte == b'.');
+    if matches!(fraction, Some([next, ..]) if !next.is_ascii_digit()) {
+        return false;
+    }
+    // Digits that are plain have no underscore.
+    let digits = fraction.unwrap_or(text.as_bytes());
+    body.plain
+        || !matches!(
+            after_first(digits, |byte| matches!(byte, b'e' | b'E')),
+            Some([b'_', ..])
+        )
 }
 
-/// Whether the byte after the first mark passes the test, if there is a mark and a byte after it.
+/// What follows the first byte that passes the test.
 #[inline]
-fn passes_after(bytes: &[u8], is_mark: impl Fn(u8) -> bool, test: impl Fn(u8) -> bool) -> bool {
-    let mut rest = bytes;
-    while let [first, after @ ..] = rest {
-        if is_mark(*first) {
-            return after.is_empty() || test(after[0]);
+fn after_first(mut bytes: &[u8], test: impl Fn(u8) -> bool) -> Option<&[u8]> {
+    while let [first, after @ ..] = bytes {
+        if test(*first) {
+            return Some(after);
         }
-        rest = after;
+        bytes = after;
     }
-    true
+    None
 }
 
 /// Whether the text is a token of Rust, or a minus and a number that is one.
