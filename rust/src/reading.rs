@@ -53,18 +53,18 @@ fn is_rust_string(text: &str, body: Body, opener: usize) -> bool {
     let inside = || &text.as_bytes()[body.lo..body.hi];
     if body.lo == opener {
         // A plain body of a cooked string holds none.
-        body.plain || !holds(inside(), b'\r', b'\r')
+        body.plain || !holds::<b'\r', b'\r'>(inside())
     } else {
-        body.lo <= opener + 1 + MOST_HASHES && !holds(inside(), b'"', b'\r')
+        body.lo <= opener + 1 + MOST_HASHES && !holds::<b'"', b'\r'>(inside())
     }
 }
 
 /// Whether one of two bytes is among these. All are looked at, so that the compiler takes many at once.
 #[inline(never)]
-fn holds(mut bytes: &[u8], first: u8, second: u8) -> bool {
+fn holds<const FIRST: u8, const SECOND: u8>(mut bytes: &[u8]) -> bool {
     let mut found = false;
     while let [byte, rest @ ..] = bytes {
-        found |= *byte == first || *byte == second;
+        found |= *byte == FIRST || *byte == SECOND;
         bytes = rest;
     }
     found
