@@ -73,7 +73,7 @@ pub(crate) fn skip_units(kind: Kind, text: &str) -> &str {
     }
 }
 
-/// The same, inlined for the kind that its caller names.
+/// The text after the units at its front, by a loop that is compiled for the kind where its caller names it.
 #[inline(always)]
 fn skip_units_of(kind: Kind, text: &str) -> &str {
     let mut rest = text;
