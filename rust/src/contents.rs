@@ -1,23 +1,37 @@
 //! What literals stand for whose bodies aren't it.
 
-use crate::grammar::{bytes_into, numeral_into, SegmentValue, Segments};
+use crate::grammar::{bytes_into, numeral_into, Body, SegmentValue, Segments};
 use crate::tokens::Kind;
 use alloc::string::String;
-use alloc::vec;
 use alloc::vec::Vec;
 
 /// What is written into room as long as the body, which is long enough.
 #[inline]
 fn written(body: &str, write: impl FnOnce(&str, &mut [u8]) -> usize) -> Vec<u8> {
-    let mut out = vec![0; body.len()];
+    let mut out = Vec::with_capacity(body.len());
+    out.resize(body.len(), b' ');
     let len = write(body, &mut out);
     out.truncate(len);
     out
 }
 
-/// What a string stands for whose segments these are: no longer than its text.
-pub(crate) fn text_of(mut segments: Segments<'_>, len: usize) -> String {
-    let mut out = String::with_capacity(len);
+/// The segments of a body that isn't plain. Inlined for a kind that its caller names.
+#[inline(always)]
+fn segments_of(kind: Kind, body: &str) -> Segments<'_> {
+    let end = body.len();
+    let parts = Body {
+        lo: 0,
+        hi: end,
+        suffix_at: end,
+        plain: false,
+    };
+    parts.segments_in(kind, body)
+}
+
+/// What a string stands for whose body has escapes: no longer than its body.
+pub(crate) fn text_of(body: &str) -> String {
+    let mut out = String::with_capacity(body.len());
+    let mut segments = segments_of(Kind::Str, body);
     while let Some(segment) = segments.next() {
         match segment.value {
             SegmentValue::Text(text) => out.push_str(text),

@@ -317,6 +317,7 @@ impl<'t> LitInt<'t> {
         }
     }
 
+    #[inline]
     fn decimal(&self) -> String {
         let sign = if self.is_negative() { "-" } else { "" };
         format!("{sign}{}", self.magnitude())

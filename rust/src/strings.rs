@@ -177,10 +177,7 @@ impl<'t> LitStr<'t> {
         if self.is_plain {
             Cow::Borrowed(self.body())
         } else {
-            Cow::Owned(text_of(
-                self.parts().segments_in(Kind::Str, &self.text),
-                self.hi - self.lo,
-            ))
+            Cow::Owned(text_of(self.body()))
         }
     }
 
@@ -204,10 +201,7 @@ impl<'t> LitStr<'t> {
         if self.is_plain {
             part(self.text, self.lo, self.hi)
         } else {
-            Cow::Owned(text_of(
-                self.parts().segments_in(Kind::Str, &self.text),
-                self.hi - self.lo,
-            ))
+            Cow::Owned(text_of(self.body()))
         }
     }
 }
@@ -276,12 +270,14 @@ byte_values!(
 );
 
 impl LitByteStr<'_> {
+    #[inline]
     fn decoded(&self) -> Vec<u8> {
         bytes_of(Kind::ByteStr, self.body())
     }
 }
 
 impl LitCStr<'_> {
+    #[inline]
     fn decoded(&self) -> Vec<u8> {
         bytes_of(Kind::CStr, self.body())
     }
