@@ -4,7 +4,7 @@ use crate::grammar::{find, Found};
 use crate::kind::Kind;
 use crate::parse_error::ParseError;
 use crate::places::{Places, Segments};
-use crate::reading::is_rust;
+use crate::reading::{find_rust, is_plainly_rust, is_rust};
 use crate::tokens;
 use crate::{
     LitBool, LitByte, LitByteStr, LitCStr, LitChar, LitFloat, LitInt, LitStr, LitVerbatim,
@@ -68,6 +68,22 @@ macro_rules! each_kind {
     };
 }
 
+/// Does the same of each kind that is found, in an arm of its own. There the kind is known, and so it is to a caller's match on the
+/// literal that the arm makes, where that is inlined.
+macro_rules! each_found_kind {
+    ($found:expr, $kind:ident => $result:expr) => {
+        each_found_kind!(@arms $found, $kind => $result; Str ByteStr CStr Byte Char Int Float Bool)
+    };
+    (@arms $found:expr, $kind:ident => $result:expr; $($name:ident)*) => {
+        match $found {
+            $(tokens::Kind::$name => {
+                let $kind = tokens::Kind::$name;
+                $result
+            })*
+        }
+    };
+}
+
 impl<'t> Lit<'t> {
     /// What `syn` reads the text as, all of it: `Verbatim` exactly where it has no reading, and for integers past 128 bits.
     ///
@@ -109,9 +125,15 @@ impl<'t> Lit<'t> {
     /// ```
     #[inline]
     pub fn parse(text: &'t str) -> Result<Lit<'t>, ParseError> {
-        match find(text) {
-            Some(found) if is_rust(text, &found) => Ok(Lit::of(Cow::Borrowed(text), &found)),
-            _ => Err(ParseError::of(text)),
+        if let Some(found) = find(text) {
+            each_found_kind!(found.kind, kind => if is_plainly_rust(kind, text, &found) {
+                return Ok(Lit::of_kind(kind, Cow::Borrowed(text), &found));
+            });
+        }
+        // The text is read anew: keeping what was found for this would cost each text that came out above.
+        match find_rust(text) {
+            Some(found) => Ok(Lit::of(Cow::Borrowed(text), &found)),
+            None => Err(ParseError::of(text)),
         }
     }
 
@@ -187,8 +209,14 @@ impl<'t> Lit<'t> {
     /// The literal of a text, of which this was found.
     #[inline]
     pub(crate) fn of(text: Cow<'t, str>, found: &Found) -> Lit<'t> {
+        Lit::of_kind(found.kind, text, found)
+    }
+
+    /// The literal of a text, of which this was found, and this kind.
+    #[inline]
+    fn of_kind(kind: tokens::Kind, text: Cow<'t, str>, found: &Found) -> Lit<'t> {
         let body = found.body;
-        match found.kind {
+        match kind {
             tokens::Kind::Str => Lit::Str(LitStr::of(text, body)),
             tokens::Kind::ByteStr => Lit::ByteStr(LitByteStr::of(text, body)),
             tokens::Kind::CStr => Lit::CStr(LitCStr::of(text, body)),

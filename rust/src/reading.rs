@@ -1,65 +1,114 @@
 //! Whether Rust takes a text that `syn` reads.
 
 use crate::grammar::strict::is_token;
-use crate::grammar::{Body, Found};
+use crate::grammar::{find, Body, Found};
 use crate::numbers::NumberType;
 use crate::tokens::Kind;
 
+/// The most hashes that a raw string of Rust's has on each side.
+const MOST_HASHES: usize = 255;
+
 /// Whether a text that reads as a literal is one of Rust's own, with one optional minus before a number.
-///
-/// What reading found tells it of most texts; `is_token` is asked of the others.
-#[inline]
 pub(crate) fn is_rust(text: &str, found: &Found) -> bool {
-    is_plainly_rust(text, found) || is_token_after_minus(text)
+    is_plainly_rust(found.kind, text, found) || is_token_after_minus(text)
 }
 
-/// Whether what was found tells that Rust takes the text.
+/// What was found of a text that Rust takes. It reads the text anew, for callers who needn't keep what they found.
+#[cold]
+#[inline(never)]
+pub(crate) fn find_rust(text: &str) -> Option<Found> {
+    find(text).filter(|found| is_rust(text, found))
+}
+
+/// Whether what was found tells that Rust takes the text. The kind is the one that was found: where a caller names it, this is its
+/// arm alone.
 #[inline]
-fn is_plainly_rust(text: &str, found: &Found) -> bool {
+pub(crate) fn is_plainly_rust(kind: Kind, text: &str, found: &Found) -> bool {
     let body = found.body;
-    match found.kind {
+    match kind {
         Kind::Int => is_number_suffix(text, body),
-        Kind::Float => is_number_suffix(text, body) && is_rust_float(text.as_bytes()),
-        _ if body.suffix_at != text.len() => false,
-        Kind::Str => is_rust_string(text, body, 1),
-        Kind::ByteStr | Kind::CStr => is_rust_string(text, body, 2),
-        Kind::Byte | Kind::Bool => true,
-        Kind::Char => text.as_bytes()[1] == b'\\' || is_bare(found.unit),
+        Kind::Float => is_float_suffix(text, body) && is_rust_float(text, body),
+        Kind::Str => has_no_suffix(text, body) && is_rust_string(text, body, 1),
+        Kind::ByteStr | Kind::CStr => has_no_suffix(text, body) && is_rust_string(text, body, 2),
+        Kind::Byte | Kind::Bool => has_no_suffix(text, body),
+        Kind::Char => has_no_suffix(text, body) && is_rust_character(text, found.unit),
     }
 }
 
-/// Whether a character literal may hold the character as it stands: all but a quote, LF, CR and TAB.
 #[inline]
-fn is_bare(unit: u32) -> bool {
-    !matches!(unit, 0x27 | 0x0A | 0x0D | 0x09)
+fn has_no_suffix(text: &str, body: Body) -> bool {
+    body.suffix_at == text.len()
 }
 
-/// Whether a string is cooked and holds no CR: such strings are the same in both grammars. A cooked opener is as long as `opener`.
+/// Whether a character literal holds an escape, or what may stand there bare: all but a quote, LF, CR and TAB.
+#[inline]
+fn is_rust_character(text: &str, unit: u32) -> bool {
+    !matches!(unit, 0x27 | 0x0A | 0x0D | 0x09) || text.as_bytes()[1] == b'\\'
+}
+
+/// Whether a string, whose opener is this long where it is cooked, holds no CR, and if it is raw no quote and not too many hashes:
+/// such strings are the same in both grammars.
 #[inline]
 fn is_rust_string(text: &str, body: Body, opener: usize) -> bool {
-    // A plain body of a cooked string holds none.
-    body.lo == opener && (body.plain || !text.as_bytes()[body.lo..body.hi].contains(&b'\r'))
+    let inside = || &text.as_bytes()[body.lo..body.hi];
+    if body.lo == opener {
+        // A plain body of a cooked string holds none.
+        body.plain || !holds::<b'\r', b'\r'>(inside())
+    } else {
+        body.lo <= opener + 1 + MOST_HASHES && !holds::<b'"', b'\r'>(inside())
+    }
 }
 
-/// Whether the number has no suffix, or the name of a type of numbers.
+/// Whether one of two bytes is among these. All are looked at, so that the compiler takes many at once.
+#[inline(never)]
+fn holds<const FIRST: u8, const SECOND: u8>(mut bytes: &[u8]) -> bool {
+    let mut found = false;
+    while let [byte, rest @ ..] = bytes {
+        found |= *byte == FIRST || *byte == SECOND;
+        bytes = rest;
+    }
+    found
+}
+
+/// Whether the integer has no suffix, or the name of a type of numbers.
 #[inline]
 fn is_number_suffix(text: &str, body: Body) -> bool {
-    body.suffix_at == text.len() || NumberType::named(&text[body.suffix_at..]).is_some()
+    has_no_suffix(text, body) || NumberType::named(&text[body.suffix_at..]).is_some()
 }
 
-/// Whether a digit follows the dot of a float, if anything does, and a digit or a sign the letter of its exponent.
+/// Whether the float has no suffix, or the name of a type of floats.
 #[inline]
-fn is_rust_float(mut text: &[u8]) -> bool {
-    while let [first, rest @ ..] = text {
-        match first {
-            b'0'..=b'9' => {}
-            b'.' if !matches!(rest, [] | [b'0'..=b'9', ..]) => return false,
-            b'e' | b'E' if !matches!(rest, [b'0'..=b'9' | b'+' | b'-', ..]) => return false,
-            _ => {}
-        }
-        text = rest;
+fn is_float_suffix(text: &str, body: Body) -> bool {
+    matches!(&text.as_bytes()[body.suffix_at..], b"" | b"f32" | b"f64")
+}
+
+/// Whether a digit follows the dot of a float, if anything does, and no underscore the letter of its exponent. Its suffix, if it has
+/// one, holds neither.
+#[inline]
+fn is_rust_float(text: &str, body: Body) -> bool {
+    let fraction = after_first(text.as_bytes(), |byte| byte == b'.');
+    if matches!(fraction, Some([next, ..]) if !next.is_ascii_digit()) {
+        return false;
     }
-    true
+    // Digits that are plain have no underscore.
+    let digits = fraction.unwrap_or(text.as_bytes());
+    body.plain
+        || !matches!(
+            after_first(digits, |byte| matches!(byte, b'e' | b'E')),
+            Some([b'_', ..])
+        )
+}
+
+/// What follows the first byte that passes the test.
+#[inline]
+fn after_first(mut bytes: &[u8], test: impl Fn(u8) -> bool) -> Option<&[u8]> {
+    while let [first, after @ ..] = bytes {
+        if test(*first) {
+            return Some(after);
+        }
+        bytes = after;
+    }
+    None
 }
 
 /// Whether the text is a token of Rust, or a minus and a number that is one.
@@ -82,6 +131,20 @@ mod tests {
                 let mut text = String::from(front);
                 text.push(c);
                 each_text(&text, characters, most - 1, check);
+            }
+        }
+    }
+
+    #[test]
+    fn rust_limits_the_hashes_of_raw_strings() {
+        for count in 250..260 {
+            let hashes = "#".repeat(count);
+            for opener in ["r", "br", "cr"] {
+                for inside in ["", "a", "\"", "\r"] {
+                    let text = std::format!("{opener}{hashes}\"{inside}\"{hashes}");
+                    let found = find(&text).expect("it reads");
+                    assert_eq!(is_rust(&text, &found), is_token(&text), "{text}");
+                }
             }
         }
     }
