@@ -4,6 +4,9 @@ use std::env;
 
 fn main() {
     println!("cargo:rerun-if-env-changed=RL_BENCH_ARCHIVES");
+    if env::var_os("CARGO_FEATURE_ARCHIVES").is_none() {
+        return;
+    }
     let archives = env::var("RL_BENCH_ARCHIVES").expect("bench/run sets RL_BENCH_ARCHIVES");
     for folder in env::split_paths(&archives) {
         println!("cargo:rustc-link-search=native={}", folder.display());

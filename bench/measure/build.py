@@ -1,5 +1,6 @@
 """Builds the driver, and asks it what there is to run."""
 import collections
+import glob
 import os
 import subprocess
 
@@ -8,6 +9,13 @@ TOP = os.path.dirname(BENCH)
 DRIVER = os.path.join(BENCH, 'driver')
 CRATE = os.path.join(TOP, 'crates/rl_bench')
 BUILD = os.path.join(DRIVER, 'target')
+# rustc's own lexer, in Debian's rust-src; of what it depends on Debian has no `unic-emoji-char`
+LEXER = '/usr/src/rustc-*/compiler/rustc_lexer'
+LEXER_LINES = """[dependencies.rustc_lexer]
+path = "%s"
+[patch.crates-io.unic-emoji-char]
+path = "%s"
+"""
 # bytes of a corpus on which the works' sums are compared
 CHECKED = 100_000
 
@@ -28,9 +36,19 @@ def archives():
     return os.pathsep.join([os.path.join(CRATE, 'out'), os.path.join(kit, 'c')])
 
 
-def with_oracle(path):
-    """A folder with the driver's sources and a manifest that names the oracle too."""
-    folder = os.path.join(BUILD, 'with_oracle')
+def dependencies(oracle):
+    """The features of the driver that can be had here, each with what its manifest says of the dependency."""
+    found = {}
+    if oracle:
+        found['oracle'] = '[dependencies.synval]\npath = "%s"\n' % os.path.abspath(oracle)
+    if lexer := glob.glob(LEXER):
+        found['rustc_lexer'] = LEXER_LINES % (max(lexer), os.path.join(DRIVER, 'unic_emoji_char'))
+    return found
+
+
+def with_dependencies(lines):
+    """A folder with the driver's sources and a manifest that names these dependencies too."""
+    folder = os.path.join(BUILD, 'with_dependencies')
     os.makedirs(folder, exist_ok=True)
     for name in ('src', 'build.rs'):
         link = os.path.join(folder, name)
@@ -39,19 +57,22 @@ def with_oracle(path):
     with open(os.path.join(DRIVER, 'Cargo.toml')) as manifest:
         text = manifest.read().replace('"../../rust"', '"%s"' % os.path.join(TOP, 'rust'))
     with open(os.path.join(folder, 'Cargo.toml'), 'w') as copy:
-        dependency = '[dependencies.synval]\npath = "%s"\n' % os.path.abspath(path)
-        copy.write('%s\n%s\n[workspace]\n' % (text, dependency))
+        copy.write('\n'.join([text, *lines, '[workspace]\n']))
     return folder
 
 
-def driver(oracle):
+def driver(oracle, archives_too=True):
     """The path of the built driver, whose works have made the same sums where they have to."""
-    subprocess.run(['rt', 'lib', '--jobs', '2'], cwd=CRATE, check=True, stdout=subprocess.DEVNULL)
-    folder = with_oracle(oracle) if oracle else DRIVER
+    features, environment = dependencies(oracle), dict(os.environ)
+    folder = with_dependencies(features.values()) if features else DRIVER
     command = ['cargo', 'build', '--release', '--offline', '--quiet', '--target-dir', BUILD]
     command += ['--manifest-path', os.path.join(folder, 'Cargo.toml')]
-    command += ['--features', 'oracle'] if oracle else []
-    environment = dict(os.environ, RL_BENCH_ARCHIVES=archives())
+    command += ['--features', ','.join(features)] if features else []
+    if archives_too:
+        subprocess.run(['rt', 'lib', '--jobs', '2'], cwd=CRATE, check=True, stdout=subprocess.DEVNULL)
+        environment['RL_BENCH_ARCHIVES'] = archives()
+    else:
+        command += ['--no-default-features']
     subprocess.run(command, cwd=DRIVER, check=True, env=environment)
     path = os.path.join(BUILD, 'release/driver')
     subprocess.run([path, 'check', str(CHECKED)], check=True)

@@ -1,4 +1,4 @@
-"""The two pictures, from bench/RESULTS.md."""
+"""The pictures, from bench/RESULTS.md."""
 import os
 import sys
 
@@ -10,7 +10,8 @@ COLOURS = {True: '#2f6db3', False: '#d98a2b'}
 OF_SOURCES = ('source', 'rl_scan')
 BESIDE = (
     (('package', 'shape', 'lent', 'value', 'literal'), ('litrs, lent', 'litrs', 'syn')),
-    (('tokens', 'lex', 'read', 'attr'), ('proc-macro2', 'proc-macro2 and syn')),
+    (('tokens', 'lex', 'read', 'attr'),
+     ("rustc's lexer", 'proc-macro2', 'proc-macro2 and syn', 'UTF-8')),
 )
 # nothing of the day or the machine goes into the files
 PLAIN = {'metadata': {'Software': None}, 'dpi': 100}
@@ -84,7 +85,26 @@ def growth(pyplot, taken, path):
     figure.savefig(path, **PLAIN)
 
 
-def draw(taken):
+def speeds(pyplot, found, path):
+    """The megabytes a second of whole sources, a bar each."""
+    figure, axes = pyplot.subplots(figsize=(8, 0.5 + 0.42 * len(found)), layout='constrained')
+    names, each = list(found), list(found.values())
+    colours = [COLOURS[name in OURS] for name in names]
+    axes.barh(range(len(names)), each, color=colours, height=0.7)
+    axes.set_yticks(range(len(names)), names, fontsize=9)
+    axes.invert_yaxis()
+    axes.set_xscale('log')
+    axes.set_xlim(min(each) / 2, max(each) * 2.2)
+    axes.tick_params(axis='x', labelsize=8)
+    for place, value in enumerate(each):
+        axes.text(value * 1.04, place, '%d' % value, va='center', fontsize=8)
+    for side in ('top', 'right'):
+        axes.spines[side].set_visible(False)
+    figure.suptitle("MB a second on the core library's source; more is better", fontsize=11)
+    figure.savefig(path, **PLAIN)
+
+
+def draw(taken, found):
     try:
         import matplotlib
     except ImportError:
@@ -93,4 +113,6 @@ def draw(taken):
     from matplotlib import pyplot
     speed(pyplot, taken, os.path.join(build.TOP, 'docs/speed.png'))
     growth(pyplot, taken, os.path.join(build.TOP, 'docs/growth.png'))
+    if found:
+        speeds(pyplot, found, os.path.join(build.TOP, 'docs/rates.png'))
     return 0

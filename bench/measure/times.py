@@ -5,9 +5,9 @@ from measure import build, text
 SIZE = 2_000_000
 
 
-def taken(driver, cpu, row):
+def taken(driver, cpu, row, size=SIZE):
     """Bytes, sum, microseconds, page faults, and bytes that are held at most, of one process."""
-    command = ['taskset', '-c', str(cpu), driver, 'taken', row.corpus, row.work, str(SIZE)]
+    command = ['taskset', '-c', str(cpu), driver, 'taken', row.corpus, row.work, str(size)]
     return [int(word) for word in build.output(command).split()]
 
 

@@ -1,23 +1,58 @@
 //! Sums that were worked out by hand, of every export.
 
 use crate::corpus::Corpus;
-use crate::{ours, package};
+#[cfg(feature = "archives")]
+use crate::ours;
+use crate::package;
 
 /// All of them.
 pub fn check() -> Result<(), String> {
+    #[cfg(feature = "archives")]
+    check_archives()?;
+    check_package()
+}
+
+/// Those of the exports of crates/rl_bench.
+#[cfg(feature = "archives")]
+fn check_archives() -> Result<(), String> {
     check_literals()?;
     check_characters()?;
     check_sources()?;
     check_attributes()
 }
 
-/// The sums of characters and a byte, with and without escapes and a suffix.
-fn check_characters() -> Result<(), String> {
-    let corpus = Corpus {
+/// Those of the package.
+fn check_package() -> Result<(), String> {
+    // as `value`, below
+    wanted("package", package::value(&characters()), 28)?;
+    // none; none; one before the open quote
+    wanted("package", package::source(&sources()), 1)
+}
+
+/// Characters and a byte, with and without escapes and a suffix.
+fn characters() -> Corpus {
+    Corpus {
         name: "known characters",
         bytes: "'a''\\u{e9}'xb'\\n''\u{1F600}'".as_bytes().to_vec(),
         ends: vec![3, 12, 17, 23],
-    };
+    }
+}
+
+/// Texts that are cut as whole sources, the last of them up to an open quote.
+fn sources() -> Corpus {
+    Corpus {
+        name: "known sources",
+        bytes: "#!x\n'a r#b/// c\n\u{2261}/* d */#![e]\"#!f\"g'"
+            .as_bytes()
+            .to_vec(),
+        ends: vec![26, 31, 38],
+    }
+}
+
+/// The sums of the characters.
+#[cfg(feature = "archives")]
+fn check_characters() -> Result<(), String> {
+    let corpus = characters();
     // 5 + 1, 5 + 6 + 1, 4 + 2, 5 + 4
     wanted("shape", ours::shape(&corpus), 33)?;
     // 5 + 1, 5 + 2 + 1, 4 + 1, 5 + 4
@@ -25,24 +60,18 @@ fn check_characters() -> Result<(), String> {
     // 1, 2, 1, 4
     wanted("segments", ours::segments(&corpus), 8)?;
     wanted("value", ours::value(&corpus), 28)?;
-    wanted("literal", ours::literal(&corpus), 28)?;
-    wanted("package", package::value(&corpus), 28)
+    wanted("literal", ours::literal(&corpus), 28)
 }
 
-/// The sum of texts that are cut as whole sources, the last of them up to an open quote.
+/// The sum of the sources.
+#[cfg(feature = "archives")]
 fn check_sources() -> Result<(), String> {
-    let corpus = Corpus {
-        name: "known sources",
-        bytes: "#!x\n'a r#b/// c\n\u{2261}/* d */#![e]\"#!f\"g'"
-            .as_bytes()
-            .to_vec(),
-        ends: vec![26, 31, 38],
-    };
     // a lifetime, a raw identifier, a doc comment and a stray character; `#![e]`; a string
-    wanted("source", ours::source(&corpus), 10)
+    wanted("source", ours::source(&sources()), 10)
 }
 
 /// The sum of texts some of which are attributes.
+#[cfg(feature = "archives")]
 fn check_attributes() -> Result<(), String> {
     let corpus = Corpus {
         name: "known attributes",
@@ -55,6 +84,7 @@ fn check_attributes() -> Result<(), String> {
 
 /// The sums of some texts, with a text past UTF-8, places out of order, and one past the end among
 /// them.
+#[cfg(feature = "archives")]
 fn check_literals() -> Result<(), String> {
     let corpus = Corpus {
         name: "known texts",

@@ -12,6 +12,7 @@ mod corpus;
 mod files;
 mod known;
 mod others;
+#[cfg(feature = "archives")]
 mod ours;
 mod package;
 mod process;
@@ -32,7 +33,7 @@ fn measured(work: &Work, corpus: &Corpus) -> u64 {
 }
 
 /// The sums of works that weigh alike have to agree.
-fn check_sums(works: &[Work], corpus: &Corpus) -> Result<(), String> {
+fn check_sums(works: &[&Work], corpus: &Corpus) -> Result<(), String> {
     for work in works {
         let sum = measured(work, corpus);
         let Some(first) = works.iter().find(|other| other.sum == work.sum) else {
@@ -51,7 +52,7 @@ fn check_sums(works: &[Work], corpus: &Corpus) -> Result<(), String> {
 fn check_all(size: usize) -> Result<(), String> {
     for (name, form) in corpus::all() {
         if !form.is_bad() {
-            check_sums(works::of(form), &corpus::make(name, form, size))?;
+            check_sums(&works::of(form), &corpus::make(name, form, size))?;
         }
     }
     Ok(())
@@ -87,7 +88,7 @@ fn print_text(name: &str, size: usize) -> Result<(), String> {
 fn found(name: &str, work_name: &str, size: usize) -> Result<(&'static Work, Corpus), String> {
     let (name, form) = named(name)?;
     let work = works::of(form)
-        .iter()
+        .into_iter()
         .find(|work| work.name == work_name)
         .ok_or_else(|| format!("no work {work_name} on {name}"))?;
     Ok((work, corpus::make(name, form, size)))

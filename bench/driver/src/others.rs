@@ -96,6 +96,27 @@ pub fn proc_macro2_lex(corpus: &Corpus) -> u64 {
         .fold(0, u64::wrapping_add)
 }
 
+/// How many tokens rustc's lexer cuts the texts into, white space and comments among them.
+#[cfg(feature = "rustc_lexer")]
+pub fn rustc_lex(corpus: &Corpus) -> u64 {
+    corpus
+        .texts()
+        .map(|text| {
+            rustc_lexer::tokenize(text)
+                .map(std::hint::black_box)
+                .count() as u64
+        })
+        .fold(0, u64::wrapping_add)
+}
+
+/// How many bytes the texts have: that they are UTF-8 is tested, as in every other work.
+pub fn utf8(corpus: &Corpus) -> u64 {
+    corpus
+        .texts()
+        .map(|text| text.len() as u64)
+        .fold(0, u64::wrapping_add)
+}
+
 #[cfg(feature = "oracle")]
 pub mod syn {
     //! By syn's own reading code.

@@ -1,6 +1,7 @@
 //! The exports of crates/rl_bench.
 
-use crate::corpus::Corpus;
+use crate::corpus::{Corpus, Form};
+use crate::works::{ours, Sum, Work};
 
 /// A slice of bytes and its length, and a slice of places and its length.
 type Certain = unsafe extern "C" fn(*const u8, usize, *const usize, usize) -> u64;
@@ -89,4 +90,48 @@ pub fn read(corpus: &Corpus) -> u64 {
 
 pub fn attr(corpus: &Corpus) -> u64 {
     call(rl_bench_attr, corpus)
+}
+
+const OF_LITERALS: &[Work] = &[
+    ours("shape", Sum::Shapes, shape),
+    ours("lent", Sum::Lents, lent),
+    ours("segments", Sum::Segments, segments),
+    ours("value", Sum::Values, value),
+    ours("literal", Sum::Values, literal),
+    ours("value_ref", Sum::Values, value_ref),
+];
+
+const OF_LISTS: &[Work] = &[
+    ours("tokens", Sum::Trees, tokens),
+    ours("lex", Sum::Trees, lex),
+    ours("read", Sum::Literals, read),
+];
+
+const OF_ATTRIBUTES: &[Work] = &[
+    ours("tokens", Sum::Trees, tokens),
+    ours("lex", Sum::Trees, lex),
+    ours("attr", Sum::Attributes, attr),
+];
+
+const OF_SOURCES: &[Work] = &[ours("source", Sum::Cuts, source)];
+
+const OF_HOSTILE: &[Work] = &[
+    ours("shape", Sum::Shapes, shape),
+    ours("lent", Sum::Lents, lent),
+    ours("literal", Sum::Values, literal),
+    ours("source", Sum::Cuts, source),
+    ours("tokens", Sum::Trees, tokens),
+    ours("lex", Sum::Trees, lex),
+    ours("read", Sum::Literals, read),
+];
+
+/// The works of a corpus of this form.
+pub fn works(form: Form) -> &'static [Work] {
+    match form {
+        Form::Literals | Form::Found => OF_LITERALS,
+        Form::Source => OF_SOURCES,
+        Form::List | Form::Spoiled => OF_LISTS,
+        Form::Attributes => OF_ATTRIBUTES,
+        Form::Hostile => OF_HOSTILE,
+    }
 }

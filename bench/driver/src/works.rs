@@ -1,9 +1,12 @@
 //! What runs on a corpus.
 
 use crate::corpus::{Corpus, Form};
-use crate::{others, ours, package};
+#[cfg(feature = "archives")]
+use crate::ours;
+use crate::{others, package};
 
-/// What is summed: works of one sum answer the same.
+/// What is summed: works of one sum answer the same. Which are there depends on the features.
+#[allow(dead_code)]
 #[derive(Clone, Copy, PartialEq, Eq)]
 pub enum Sum {
     Shapes,
@@ -14,6 +17,9 @@ pub enum Sum {
     Cuts,
     Literals,
     Attributes,
+    SourceLiterals,
+    RustTokens,
+    Bytes,
 }
 
 /// One piece of work.
@@ -24,7 +30,7 @@ pub struct Work {
     pub run: fn(&Corpus) -> u64,
 }
 
-const fn ours(name: &'static str, sum: Sum, run: fn(&Corpus) -> u64) -> Work {
+pub const fn ours(name: &'static str, sum: Sum, run: fn(&Corpus) -> u64) -> Work {
     let ours = true;
     Work {
         name,
@@ -44,71 +50,46 @@ const fn other(name: &'static str, sum: Sum, run: fn(&Corpus) -> u64) -> Work {
     }
 }
 
-/// The works of texts that are a literal each.
+/// The works of texts that are a literal each, those of crates/rl_bench aside.
 const OF_LITERALS: &[Work] = &[
-    ours("shape", Sum::Shapes, ours::shape),
-    ours("lent", Sum::Lents, ours::lent),
     other("litrs, lent", Sum::Lents, others::litrs_lent),
-    ours("segments", Sum::Segments, ours::segments),
-    ours("value", Sum::Values, ours::value),
-    ours("literal", Sum::Values, ours::literal),
-    ours("value_ref", Sum::Values, ours::value_ref),
     ours("package", Sum::Values, package::value),
     other("litrs", Sum::Values, others::litrs_value),
     #[cfg(feature = "oracle")]
     other("syn", Sum::Values, others::syn::value),
 ];
 
-/// The works of a text that is a list.
+/// Those of a text that is a list.
 const OF_LISTS: &[Work] = &[
-    ours("tokens", Sum::Trees, ours::tokens),
-    ours("lex", Sum::Trees, ours::lex),
     other("proc-macro2", Sum::Trees, others::proc_macro2_lex),
-    ours("read", Sum::Literals, ours::read),
     #[cfg(feature = "oracle")]
     other("proc-macro2 and syn", Sum::Literals, others::syn::read),
 ];
 
-/// The works of a text that is attributes.
-const OF_ATTRIBUTES: &[Work] = &[
-    ours("tokens", Sum::Trees, ours::tokens),
-    ours("lex", Sum::Trees, ours::lex),
-    other("proc-macro2", Sum::Trees, others::proc_macro2_lex),
-    ours("attr", Sum::Attributes, ours::attr),
-];
+/// Those of a text that is attributes.
+const OF_ATTRIBUTES: &[Work] = &[other("proc-macro2", Sum::Trees, others::proc_macro2_lex)];
 
-/// The works of a text that is files of Rust.
+/// Those of a text that is files of Rust.
 const OF_SOURCES: &[Work] = &[
-    ours("source", Sum::Cuts, ours::source),
+    ours("package", Sum::SourceLiterals, package::source),
+    #[cfg(feature = "rustc_lexer")]
+    other("rustc's lexer", Sum::RustTokens, others::rustc_lex),
     other("proc-macro2", Sum::Trees, others::proc_macro2_lex),
+    other("UTF-8", Sum::Bytes, others::utf8),
 ];
 
-/// The works of a list with something else in its last bytes.
-const OF_SPOILED: &[Work] = &[
-    ours("tokens", Sum::Trees, ours::tokens),
-    ours("lex", Sum::Trees, ours::lex),
-    ours("read", Sum::Literals, ours::read),
-];
-
-/// The works of a text that is hostile.
-const OF_HOSTILE: &[Work] = &[
-    ours("shape", Sum::Shapes, ours::shape),
-    ours("lent", Sum::Lents, ours::lent),
-    ours("literal", Sum::Values, ours::literal),
-    ours("source", Sum::Cuts, ours::source),
-    ours("tokens", Sum::Trees, ours::tokens),
-    ours("lex", Sum::Trees, ours::lex),
-    ours("read", Sum::Literals, ours::read),
-];
-
-/// The works of a corpus of this form.
-pub fn of(form: Form) -> &'static [Work] {
-    match form {
+/// The works of a corpus of this form: those of crates/rl_bench, where its archive is linked, and then the others.
+pub fn of(form: Form) -> Vec<&'static Work> {
+    #[cfg(feature = "archives")]
+    let mut works: Vec<_> = ours::works(form).iter().collect();
+    #[cfg(not(feature = "archives"))]
+    let mut works = Vec::new();
+    works.extend(match form {
         Form::Literals | Form::Found => OF_LITERALS,
         Form::Source => OF_SOURCES,
         Form::List => OF_LISTS,
         Form::Attributes => OF_ATTRIBUTES,
-        Form::Spoiled => OF_SPOILED,
-        Form::Hostile => OF_HOSTILE,
-    }
+        Form::Spoiled | Form::Hostile => &[],
+    });
+    works
 }

@@ -1,0 +1,87 @@
+"""How fast whole sources are read, in megabytes a second: by this repository, and by other
+libraries and programs."""
+import collections
+import os
+import re
+import shutil
+import sys
+import tempfile
+
+from measure import build, sources, times
+
+# more bytes than the files of the core library have: all of them
+ALL = 100_000_000
+# the corpus's bytes, and the least processor time in seconds
+Rate = collections.namedtuple('Rate', 'bytes seconds')
+# what each does with the text; all but ripgrep test too that it is UTF-8
+WORKS = {
+    'source': 'the cursor `Sources`: cuts off every token',
+    'package': 'the package, `source`: cuts off each literal and reads it',
+    'rl_scan': 'the program: reads each literal and prints its line',
+    "rustc's lexer": 'cuts off every token, white space and comments too (of `rust-src`)',
+    'proc-macro2': 'makes trees of every token (its own lexer)',
+    'UTF-8': "std's test alone",
+    'ripgrep': 'the program, `rg -c \'"\'`: counts the lines with a quote',
+}
+PROGRAMS = {'rl_scan': [sources.PATH], 'ripgrep': ['rg', '--no-config', '--count', '"', '-']}
+
+
+def programs(rows):
+    """The programs that are here; of the others it is said that they aren't."""
+    here = {'ripgrep': shutil.which('rg'), 'rl_scan': any(row.work == 'rl_scan' for row in rows)}
+    for name in PROGRAMS:
+        if not here[name]:
+            print("bench/run: %s isn't here: its rate is left out" % name, file=sys.stderr)
+    return [name for name in PROGRAMS if here[name]]
+
+
+def spent(name, cpu, path):
+    """The processor time of a program on this input, from its start to its end, in seconds."""
+    command = ['taskset', '-c', str(cpu), *PROGRAMS[name]]
+    streams = [(os.POSIX_SPAWN_OPEN, 0, path, os.O_RDONLY, 0),
+               (os.POSIX_SPAWN_OPEN, 1, os.devnull, os.O_WRONLY, 0)]
+    process = os.posix_spawnp(command[0], command, os.environ, file_actions=streams)
+    _, status, usage = os.wait4(process, 0)
+    if os.waitstatus_to_exitcode(status):
+        sys.exit('bench/run: %s ends with an error' % name)
+    return usage.ru_utime + usage.ru_stime
+
+
+def one_round(driver, cpu, rows, names, path):
+    """The seconds of each work and each program."""
+    works = [row for row in rows if row.form == 'source']
+    found = {row.work: times.taken(driver, cpu, row, ALL)[2] / 1e6 for row in works}
+    return found | {name: spent(name, cpu, path) for name in names}
+
+
+def least(driver, cpu, rounds, rows):
+    """The rate of each work and each program, the fastest first. They take turns."""
+    text = build.output([driver, 'text', sources.CORPUS, str(ALL)]).encode()
+    names = programs(rows)
+    with tempfile.NamedTemporaryFile() as file:
+        file.write(text)
+        file.flush()
+        each = [one_round(driver, cpu, rows, names, file.name) for _ in range(rounds)]
+    found = {name: Rate(len(text), min(one[name] for one in each)) for name in each[0]}
+    return sorted(found.items(), key=lambda pair: pair[1].seconds)
+
+
+def print_table(driver, cpu, rounds, rows):
+    rows = [row for row in rows if row.corpus == sources.CORPUS]
+    if not rows:
+        return
+    found = least(driver, cpu, rounds, rows)
+    note = "On the core library's %d bytes, by processor time, the least of %d rounds in which all "
+    note += 'take turns, each in a process of its own.'
+    print('\n## Rates\n\n' + note % (found[0][1].bytes, rounds))
+    print('\n| Work | MB a second | ms | What it does |\n|---|---|---|---|')
+    for name, (size, seconds) in found:
+        cells = ('%.0f' % (size / seconds / 1e6), '%.1f' % (1000 * seconds), WORKS[name])
+        print('| %s |' % ' | '.join((name,) + cells), flush=True)
+
+
+def read(text):
+    """The megabytes a second of each row, of the results' text; none where it has no such table."""
+    part = re.search(r'\n## Rates\n(.*?)(\n## |\Z)', text, re.S)
+    lines = re.findall(r'^\| ([^|]+) \| (\d+) \| ([\d.]+) \|', part[1], re.M) if part else []
+    return {name: int(rate) for name, rate, _ in lines}
