@@ -1,7 +1,8 @@
 //! Reads and writes Rust's literals: kinds, values, suffixes, the places of what they hold, and why a text is none.
 //!
-//! [`Lit::parse`] reads one literal, [`source`] those of a whole file, [`literals`] and [`settings`] lists; [`write_str`] and its
-//! siblings write values. Places are byte offsets; [`LineIndex`] makes lines and columns of them.
+//! [`Lit::parse`] reads one literal, [`source`] those of a whole file, [`literals`] and [`settings`] lists, [`Settings`] what a
+//! reader of settings asks for; [`write_str`] and its siblings write values. Places are byte offsets; [`LineIndex`] makes lines and
+//! columns of them.
 //!
 //! The code in `proved` is rendered from sources in Rattle, which is Rust with contracts: each function is proved there to do what
 //! its contract says, against a written grammar, and the contracts are erased. So every text has one reading, and that is the
@@ -53,6 +54,7 @@ mod proc_macros;
 #[rustfmt::skip]
 mod proved;
 mod reading;
+mod setting;
 mod settings;
 mod simd;
 mod source;
@@ -74,6 +76,7 @@ pub use parse_error::{FlawKind, ParseError, ParseErrorKind};
 pub use places::{Places, Segment, SegmentValue, Segments};
 #[cfg(feature = "proc-macro")]
 pub use proc_macros::{next_literal, MacroError};
+pub use setting::{Setting, SettingError, SettingErrorKind, Settings};
 pub use settings::{settings, Entry, SettingsError, SettingsErrorKind};
 pub use source::{source, Source};
 pub use strings::{LitByteStr, LitCStr, LitStr};

@@ -1,0 +1,429 @@
+//! Settings that a reader knows, asked for by name.
+
+use crate::lit::Lit;
+use crate::parse_error::{ParseError, ParseErrorKind};
+use crate::settings::{settings, Entry, SettingsError, SettingsErrorKind};
+use alloc::borrow::Cow;
+use alloc::string::{String, ToString};
+use alloc::vec::Vec;
+use core::fmt;
+use core::ops::Range;
+use core::str::FromStr;
+
+/// A setting that a reader knows. Its two texts are what messages say of it.
+///
+/// ```
+/// use navyspindle::Setting;
+///
+/// let port = Setting { name: "port", expected: "an integer from 0 to 65535" };
+/// assert_eq!(port.to_string(), "port: expected an integer from 0 to 65535");
+/// ```
+#[derive(Clone, Copy, Debug, PartialEq, Eq, Hash)]
+pub struct Setting {
+    /// The name.
+    pub name: &'static str,
+    /// What its value has to be, such as `an integer from 0 to 65535`.
+    pub expected: &'static str,
+}
+
+/// The name, and what was expected of its value.
+impl fmt::Display for Setting {
+    fn fmt(&self, f: &mut fmt::Formatter<'_>) -> fmt::Result {
+        write!(f, "{}: expected {}", self.name, self.expected)
+    }
+}
+
+/// Why a text doesn't give a reader its settings.
+///
+/// ```
+/// use navyspindle::{Setting, SettingErrorKind, Settings};
+///
+/// let port = Setting { name: "port", expected: "an integer from 0 to 65535" };
+/// let read = Settings::read("port = true")?;
+/// assert_eq!(*read.number::<u16>(port).unwrap_err().kind(), SettingErrorKind::Kind(port));
+/// # Ok::<(), navyspindle::SettingError>(())
+/// ```
+#[derive(Clone, Debug, PartialEq, Eq, Hash)]
+#[non_exhaustive]
+pub enum SettingErrorKind {
+    /// The text is no settings.
+    Text(SettingsErrorKind),
+    /// The name is none of the known ones.
+    Unknown,
+    /// Rust rejects the value: it is no literal, or only `syn` reads it as one.
+    Literal(Setting, ParseErrorKind),
+    /// The value has a suffix.
+    Suffix(Setting),
+    /// The value is a literal of another kind than was expected.
+    Kind(Setting),
+    /// The value was rejected by the type that it was to become, which says this.
+    Value(Setting, String),
+    /// The setting isn't set.
+    Missing(Setting),
+}
+
+impl fmt::Display for SettingErrorKind {
+    fn fmt(&self, f: &mut fmt::Formatter<'_>) -> fmt::Result {
+        match self {
+            SettingErrorKind::Text(kind) => kind.fmt(f),
+            SettingErrorKind::Unknown => f.write_str("unknown name"),
+            SettingErrorKind::Literal(setting, kind) => write!(f, "{setting}: {kind}"),
+            SettingErrorKind::Suffix(setting) => write!(f, "{setting}: unexpected suffix"),
+            SettingErrorKind::Kind(setting) => setting.fmt(f),
+            SettingErrorKind::Value(setting, reason) => write!(f, "{setting}: {reason}"),
+            SettingErrorKind::Missing(setting) => write!(f, "missing {setting}"),
+        }
+    }
+}
+
+/// Why a text doesn't give a reader its settings, and where.
+///
+/// ```
+/// use navyspindle::{Setting, Settings};
+///
+/// let port = Setting { name: "port", expected: "an integer from 0 to 65535" };
+/// let error = Settings::read("port = 70000")?.number::<u16>(port).unwrap_err();
+/// assert_eq!(error.range(), 7..12);
+/// let words = "port: expected an integer from 0 to 65535: number too large to fit in target type at byte 7";
+/// assert_eq!(error.to_string(), words);
+/// # Ok::<(), navyspindle::SettingError>(())
+/// ```
+#[derive(Clone, Debug, PartialEq, Eq, Hash)]
+pub struct SettingError {
+    kind: SettingErrorKind,
+    range: Range<usize>,
+}
+
+impl SettingError {
+    /// What is wrong.
+    ///
+    /// ```
+    /// use navyspindle::{SettingErrorKind, Settings};
+    ///
+    /// let error = Settings::read("prt = 1")?.check(&[]).unwrap_err();
+    /// assert_eq!(*error.kind(), SettingErrorKind::Unknown);
+    /// # Ok::<(), navyspindle::SettingError>(())
+    /// ```
+    #[must_use]
+    pub fn kind(&self) -> &SettingErrorKind {
+        &self.kind
+    }
+
+    /// The bytes that are wrong: of an unknown name the name; of a value that Rust rejects what is wrong with it, else the value or its
+    /// suffix; none, at the text's end, of a setting that is missing.
+    ///
+    /// ```
+    /// use navyspindle::{Setting, Settings};
+    ///
+    /// let host = Setting { name: "host", expected: "a string" };
+    /// assert_eq!(Settings::read(r#"host = "a\qb""#)?.string(host).unwrap_err().range(), 10..11);
+    /// # Ok::<(), navyspindle::SettingError>(())
+    /// ```
+    #[must_use]
+    pub fn range(&self) -> Range<usize> {
+        self.range.clone()
+    }
+}
+
+impl fmt::Display for SettingError {
+    fn fmt(&self, f: &mut fmt::Formatter<'_>) -> fmt::Result {
+        write!(f, "{} at byte {}", self.kind, self.range.start)
+    }
+}
+
+impl core::error::Error for SettingError {}
+
+/// As `Text`.
+impl From<SettingsError> for SettingError {
+    fn from(error: SettingsError) -> Self {
+        SettingError {
+            kind: SettingErrorKind::Text(error.kind()),
+            range: error.range(),
+        }
+    }
+}
+
+/// The settings of a text, asked for by name.
+///
+/// A setting that isn't set is no error of [`string`](Settings::string), [`number`](Settings::number) and
+/// [`truth`](Settings::truth), which return `None` for it: of one that a reader requires [`missing`](Settings::missing) is the error.
+///
+/// ```
+/// use navyspindle::{Setting, SettingError, Settings};
+///
+/// const HOST: Setting = Setting { name: "host", expected: "a string" };
+/// const PORT: Setting = Setting { name: "port", expected: "an integer from 0 to 65535" };
+///
+/// fn server(text: &str) -> Result<(String, u16), SettingError> {
+///     let read = Settings::read(text)?;
+///     read.check(&[HOST, PORT])?;
+///     let host = read.string(HOST)?.ok_or_else(|| read.missing(HOST))?;
+///     Ok((host.into_owned(), read.number(PORT)?.unwrap_or(8080)))
+/// }
+/// assert_eq!(server(r#"host = "a\x2eb", port = 0x50"#)?, ("a.b".to_string(), 80));
+/// assert_eq!(server("port = 1").unwrap_err().to_string(), "missing host: expected a string at byte 8");
+/// # Ok::<(), SettingError>(())
+/// ```
+#[derive(Clone, Debug)]
+pub struct Settings<'t> {
+    text: &'t str,
+    entries: Vec<Entry<'t>>,
+}
+
+impl<'t> Settings<'t> {
+    /// The settings of a text: those that [`settings`] returns.
+    ///
+    /// # Errors
+    ///
+    /// `Text`: those of [`settings`].
+    ///
+    /// ```
+    /// use navyspindle::{SettingErrorKind, Settings, SettingsErrorKind};
+    ///
+    /// assert_eq!(Settings::read("a = 1, b = 2")?.entries().len(), 2);
+    /// let kind = SettingErrorKind::Text(SettingsErrorKind::Repeated);
+    /// assert_eq!(*Settings::read("a = 1, a = 2").unwrap_err().kind(), kind);
+    /// # Ok::<(), navyspindle::SettingError>(())
+    /// ```
+    pub fn read(text: &'t str) -> Result<Self, SettingError> {
+        let entries = settings(text)?;
+        Ok(Settings { text, entries })
+    }
+
+    /// All of them, in their order.
+    ///
+    /// ```
+    /// use navyspindle::Settings;
+    ///
+    /// assert_eq!(Settings::read("a = 1, b = 2")?.entries()[1].name, "b");
+    /// # Ok::<(), navyspindle::SettingError>(())
+    /// ```
+    #[must_use]
+    pub fn entries(&self) -> &[Entry<'t>] {
+        &self.entries
+    }
+
+    /// The one of this name; `None` where it isn't set.
+    ///
+    /// ```
+    /// use navyspindle::{Lit, Settings};
+    ///
+    /// let read = Settings::read("a = 1")?;
+    /// assert_eq!(read.get("a").unwrap().value, Lit::new("1"));
+    /// assert!(read.get("b").is_none());
+    /// # Ok::<(), navyspindle::SettingError>(())
+    /// ```
+    #[must_use]
+    pub fn get(&self, name: &str) -> Option<&Entry<'t>> {
+        self.entries.iter().find(|entry| entry.name == name)
+    }
+
+    /// That each name is one of these settings'.
+    ///
+    /// # Errors
+    ///
+    /// `Unknown`, at the first name that is none of them.
+    ///
+    /// ```
+    /// use navyspindle::{Setting, Settings};
+    ///
+    /// let port = Setting { name: "port", expected: "an integer" };
+    /// let error = Settings::read("port = 1, prt = 2")?.check(&[port]).unwrap_err();
+    /// assert_eq!(error.to_string(), "unknown name at byte 10");
+    /// # Ok::<(), navyspindle::SettingError>(())
+    /// ```
+    pub fn check(&self, known: &[Setting]) -> Result<(), SettingError> {
+        let is_unknown = |entry: &&Entry| known.iter().all(|setting| setting.name != entry.name);
+        match self.entries.iter().find(is_unknown) {
+            None => Ok(()),
+            Some(entry) => Err(SettingError {
+                kind: SettingErrorKind::Unknown,
+                range: entry.name_range.clone(),
+            }),
+        }
+    }
+
+    /// The text that a string stands for; `None` where the setting isn't set.
+    ///
+    /// # Errors
+    ///
+    /// The value is no string (`Kind`), Rust rejects it (`Literal`), or it has a suffix.
+    ///
+    /// ```
+    /// use navyspindle::{Setting, Settings};
+    ///
+    /// let host = Setting { name: "host", expected: "a string" };
+    /// assert_eq!(Settings::read(r#"host = "a\x2eb""#)?.string(host)?.as_deref(), Some("a.b"));
+    /// assert_eq!(Settings::read("")?.string(host)?, None);
+    /// let error = Settings::read("host = 1")?.string(host).unwrap_err();
+    /// assert_eq!(error.to_string(), "host: expected a string at byte 7");
+    /// # Ok::<(), navyspindle::SettingError>(())
+    /// ```
+    pub fn string(&self, setting: Setting) -> Result<Option<Cow<'_, str>>, SettingError> {
+        self.value_of(setting, |value| match value {
+            Lit::Str(literal) => Ok(literal.value()),
+            _ => Err(SettingErrorKind::Kind(setting)),
+        })
+    }
+
+    /// The number that an integer or a float is, as its type reads its digits in base ten; `None` where the setting isn't set.
+    ///
+    /// # Errors
+    ///
+    /// The value is no number (`Kind`), Rust rejects it (`Literal`), it has a suffix, or the type rejects it (`Value`): a float where
+    /// the type is of integers, or a number that it doesn't hold.
+    ///
+    /// ```
+    /// use navyspindle::{Setting, Settings};
+    ///
+    /// let port = Setting { name: "port", expected: "an integer from 0 to 65535" };
+    /// assert_eq!(Settings::read("port = 0x1F_90")?.number::<u16>(port)?, Some(8080));
+    /// assert_eq!(Settings::read("")?.number::<u16>(port)?, None);
+    /// assert_eq!(Settings::read("port = -1.5")?.number::<f64>(port)?, Some(-1.5));
+    /// assert!(Settings::read("port = -1")?.number::<u16>(port).is_err());
+    /// # Ok::<(), navyspindle::SettingError>(())
+    /// ```
+    pub fn number<N: FromStr>(&self, setting: Setting) -> Result<Option<N>, SettingError>
+    where
+        N::Err: fmt::Display,
+    {
+        self.value_of(setting, |value| {
+            let digits = match value {
+                Lit::Int(literal) => literal.base10_digits(),
+                Lit::Float(literal) => literal.base10_digits(),
+                _ => return Err(SettingErrorKind::Kind(setting)),
+            };
+            let number = digits.parse();
+            number.map_err(|error: N::Err| SettingErrorKind::Value(setting, error.to_string()))
+        })
+    }
+
+    /// The truth value that `true` or `false` is; `None` where the setting isn't set.
+    ///
+    /// # Errors
+    ///
+    /// The value is none (`Kind`), or Rust rejects it (`Literal`).
+    ///
+    /// ```
+    /// use navyspindle::{Setting, Settings};
+    ///
+    /// let verbose = Setting { name: "verbose", expected: "true or false" };
+    /// assert_eq!(Settings::read("verbose = true")?.truth(verbose)?, Some(true));
+    /// assert_eq!(Settings::read("")?.truth(verbose)?, None);
+    /// assert!(Settings::read("verbose = 1")?.truth(verbose).is_err());
+    /// # Ok::<(), navyspindle::SettingError>(())
+    /// ```
+    pub fn truth(&self, setting: Setting) -> Result<Option<bool>, SettingError> {
+        self.value_of(setting, |value| match value {
+            Lit::Bool(literal) => Ok(literal.value()),
+            _ => Err(SettingErrorKind::Kind(setting)),
+        })
+    }
+
+    /// The error that a setting isn't set, which a reader requires: `Missing`, at the text's end.
+    ///
+    /// ```
+    /// use navyspindle::{Setting, SettingErrorKind, Settings};
+    ///
+    /// let host = Setting { name: "host", expected: "a string" };
+    /// let read = Settings::read("port = 1")?;
+    /// let error = read.string(host)?.ok_or_else(|| read.missing(host)).unwrap_err();
+    /// assert_eq!((error.kind(), error.range()), (&SettingErrorKind::Missing(host), 8..8));
+    /// # Ok::<(), navyspindle::SettingError>(())
+    /// ```
+    #[must_use]
+    pub fn missing(&self, setting: Setting) -> SettingError {
+        let end = self.text.len();
+        SettingError {
+            kind: SettingErrorKind::Missing(setting),
+            range: end..end,
+        }
+    }
+
+    /// What a setting's value is taken as, which Rust takes and which has no suffix; `None` where the setting isn't set.
+    fn value_of<'s, V>(
+        &'s self,
+        setting: Setting,
+        take: impl FnOnce(&'s Lit<'t>) -> Result<V, SettingErrorKind>,
+    ) -> Result<Option<V>, SettingError> {
+        let Some(entry) = self.get(setting.name) else {
+            return Ok(None);
+        };
+        check_value(setting, entry)?;
+        let range = entry.value_range.clone();
+        match take(&entry.value) {
+            Ok(value) => Ok(Some(value)),
+            Err(kind) => Err(SettingError { kind, range }),
+        }
+    }
+}
+
+/// That Rust takes the setting's value, and that it has no suffix.
+fn check_value(setting: Setting, entry: &Entry<'_>) -> Result<(), SettingError> {
+    if let Err(error) = entry.value.check() {
+        return Err(SettingError {
+            kind: SettingErrorKind::Literal(setting, error.kind()),
+            range: range_in(entry, error),
+        });
+    }
+    let suffix = entry.value.suffix().len();
+    if suffix == 0 {
+        return Ok(());
+    }
+    let end = entry.value_range.end;
+    Err(SettingError {
+        kind: SettingErrorKind::Suffix(setting),
+        range: end - suffix..end,
+    })
+}
+
+/// Where an error of the entry's value stands in the text of the settings: all of the value where white space or a comment stands
+/// after its minus, which is none of the literal's text.
+fn range_in(entry: &Entry<'_>, error: ParseError) -> Range<usize> {
+    let (value, range) = (entry.value_range.clone(), error.range());
+    if value.len() == entry.value.text().len() {
+        value.start + range.start..value.start + range.end
+    } else {
+        value
+    }
+}
+
+#[cfg(test)]
+mod tests {
+    use super::*;
+
+    const PORT: Setting = Setting {
+        name: "port",
+        expected: "an integer",
+    };
+
+    fn rejected(text: &str) -> (SettingErrorKind, Range<usize>) {
+        let read = Settings::read(text).expect("settings");
+        let error = read.number::<u8>(PORT).expect_err("no number of 8 bits");
+        (error.kind().clone(), error.range())
+    }
+
+    #[test]
+    fn errors_say_what_is_wrong_with_a_value_and_where() {
+        let suffix = SettingErrorKind::Suffix(PORT);
+        assert_eq!(rejected("port = 1u8"), (suffix, 8..10));
+        let not_rust = SettingErrorKind::Literal(PORT, ParseErrorKind::NotRust);
+        assert_eq!(rejected("a = 1, port = 0b12"), (not_rust.clone(), 14..18));
+        assert_eq!(rejected("port = - 1e"), (not_rust, 7..11));
+        assert_eq!(
+            rejected("port = 'a'"),
+            (SettingErrorKind::Kind(PORT), 7..10)
+        );
+        let (kind, range) = rejected("port = 256");
+        assert!(matches!(kind, SettingErrorKind::Value(PORT, _)));
+        assert_eq!(range, 7..10);
+    }
+
+    #[test]
+    fn a_value_that_is_no_literal_says_why() {
+        let read = Settings::read(r#"port = "a\u{D800}""#).expect("settings");
+        let error = read.string(PORT).expect_err("a surrogate");
+        let words = "port: expected an integer: surrogates are no characters at byte 16";
+        assert_eq!((error.to_string().as_str(), error.range()), (words, 16..17));
+    }
+}
