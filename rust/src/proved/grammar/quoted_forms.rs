@@ -64,9 +64,18 @@ pub(crate) fn split_opener(text: &str) -> Option<(QuotedForm, Kind, &str)> {
     }
 }
 
-/// The text after the units at its front, as far as they go.
+/// The text after the units at its front, as far as they go. Strings have a loop of their own, which knows their kind.
 #[inline(never)]
 pub(crate) fn skip_units(kind: Kind, text: &str) -> &str {
+    match kind {
+        Kind::Str => skip_units_of(Kind::Str, text),
+        _ => skip_units_of(kind, text),
+    }
+}
+
+/// The same, inlined for the kind that its caller names.
+#[inline(always)]
+fn skip_units_of(kind: Kind, text: &str) -> &str {
     let mut rest = text;
     while let Some((_, after)) = unit(kind, rest) {
         let (_, following) = split_plain(kind, after);

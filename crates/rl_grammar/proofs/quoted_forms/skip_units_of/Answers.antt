@@ -2,7 +2,7 @@ use Rattle.std.proofs.Common.{subst, sym, rules}
 use Rattle.std.specs.Str.{chars}
 use Rattle.rl_grammar.specs.Rows.{BeginsRow}
 use Rattle.rl_grammar.proofs.RowLemmas.{row_step, row_run}
-use Rattle.rl_grammar.proofs.quoted_forms.skip_units.Goals as goal
+use Rattle.rl_grammar.proofs.quoted_forms.skip_units_of.Goals as goal
 
 pub loop-after-preserved : goal.loop-after-preserved
 loop-after-preserved c =
