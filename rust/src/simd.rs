@@ -12,8 +12,8 @@ const LOWEST: u64 = 0x0101_0101_0101_0101;
 /// The highest one.
 const HIGHEST: u64 = LOWEST << 7;
 
-/// What moves the lowest bits into the highest byte, in their order.
-const GATHER: u64 = 0x0102_0408_1020_4080;
+/// What moves the highest bits into the highest byte, in their order.
+const GATHER: u64 = 0x0002_0408_1020_4081;
 
 /// The numbers that hold N lanes, each made of its index. The loop counts by itself, which costs least where nothing is optimized.
 macro_rules! eights {
@@ -155,7 +155,7 @@ impl<const N: usize> Mask<N> {
         let mut bits = 0;
         let mut at = 0;
         while at < N / 8 {
-            let set = (self.0[at] >> 7) & LOWEST;
+            let set = self.0[at] & HIGHEST;
             bits |= (set.wrapping_mul(GATHER) >> 56) << (8 * at);
             at += 1;
         }
