@@ -46,16 +46,19 @@ pub(crate) fn first_lexeme(text: &str) -> Option<(Form, &str)>
     ensures following { IfSome result (λ p. IsTail text.now p.1.now) }
     ensures shorter { IfSome result (λ p. length p.1.now < length text.now) }
 {
-    if let Some((b'0'..=b'9', following)) = split_ascii(text) {
-        return Some((Form::Literal, after_digit(following)));
+    match split_ascii(text) {
+        Some((byte, following)) if (byte as char).is_ascii_digit() => {
+            Some((Form::Literal, after_digit(following)))
+        }
+        _ => lexeme_but_number(text),
     }
-    lexeme_by_first_character(text)
 }
 
-/// The lexeme that the text begins with, by its first character.
+/// The lexeme that the text begins with, by its first character, which is no digit.
 #[inline(never)]
 #[tactic(auto, using(crate::proofs::NumberEnds::quote_first, crate::proofs::NumberEnds::apostrophe_first, crate::proofs::NumberEnds::slash_first, crate::proofs::WordsAndMarks::stray_first, crate::proofs::BehindLemmas::behind_step, crate::proofs::BehindLemmas::some_behind, crate::proofs::BehindLemmas::some_nearer))]
-fn lexeme_by_first_character(text: &str) -> Option<(Form, &str)>
+fn lexeme_but_number(text: &str) -> Option<(Form, &str)>
+    requires { IsFalse (first_passes is_ascii_digit (chars text.now)) }
     ensures rest { option_map (λ p. (form_view p.0, chars p.1.now)) result
         ≡ lexeme_at (chars text.now) }
     ensures following { IfSome result (λ p. IsTail text.now p.1.now) }
@@ -65,7 +68,6 @@ fn lexeme_by_first_character(text: &str) -> Option<(Form, &str)>
         return wide_identifier(text);
     };
     match byte {
-        b'0'..=b'9' => Some((Form::Literal, after_digit(following))),
         b'"' => quoted_literal(following),
         b'\'' => character_literal(following),
         b'/' => after_slash(following),
@@ -93,6 +95,7 @@ fn wide_identifier(text: &str) -> Option<(Form, &str)>
 }
 
 /// A literal with a prefix, or an identifier, after its first letter. Of a raw identifier there is none.
+#[inline(never)]
 fn literal_or_identifier(letter: char, text: &str) -> Option<(Form, &str)>
     ensures rest { option_map (λ p. (form_view p.0, chars p.1.now)) result
         ≡ by_class (start_class letter) letter (chars text.now) }
@@ -259,7 +262,7 @@ fn raw_literal(text: &str) -> Option<(Form, &str)>
 }
 
 /// After a slash, which is a mark where it begins no comment.
-#[inline(always)]
+#[inline(never)]
 fn after_slash(text: &str) -> Option<(Form, &str)>
     ensures rest { option_map (λ p. (form_view p.0, chars p.1.now)) result
         ≡ by_class SlashHead 47 (chars text.now) }

@@ -31,25 +31,38 @@ pub enum Form {
 /// no such lexeme. Most tokens of a list are numbers, so a digit is recognized without a call.
 #[inline(always)]
 pub(crate) fn first_lexeme(text: &str) -> Option<(Form, &str)> {
-    if let Some((b'0'..=b'9', following)) = split_ascii(text) {
-        return Some((Form::Literal, after_digit(following)));
+    match split_ascii(text) {
+        Some((byte, following)) if (byte as char).is_ascii_digit() => {
+            Some((Form::Literal, after_digit(following)))
+        }
+        _ => lexeme_but_number(text),
     }
-    lexeme_by_first_character(text)
 }
 
-/// The lexeme that the text begins with, by its first character.
+/// The lexeme that the text begins with, by its first character, which is no digit.
 #[inline(never)]
-fn lexeme_by_first_character(text: &str) -> Option<(Form, &str)> {
-    let (c, following) = split_char(text)?;
-    match c {
-        '0'..='9' => Some((Form::Literal, after_digit(following))),
-        '"' => quoted_literal(following),
-        '\'' => character_literal(following),
-        '/' => after_slash(following),
-        _ if is_mark_alone(c) => Some((mark_form(c), following)),
-        _ if is_start(c) => literal_or_identifier(c, following),
+fn lexeme_but_number(text: &str) -> Option<(Form, &str)> {
+    let Some((byte, following)) = split_ascii(text) else {
+        return wide_identifier(text);
+    };
+    match byte {
+        b'"' => quoted_literal(following),
+        b'\'' => character_literal(following),
+        b'/' => after_slash(following),
+        _ if is_mark_alone(byte) => Some((mark_form(byte as char), following)),
+        _ if is_start(byte as char) => literal_or_identifier(byte as char, following),
         _ => None,
     }
+}
+
+/// The identifier that the text begins with, where its first character is past ASCII.
+#[inline(never)]
+fn wide_identifier(text: &str) -> Option<(Form, &str)> {
+    let (c, following) = split_char(text)?;
+    if !is_start(c) {
+        return None;
+    }
+    Some((Form::Identifier, skip_word(following)))
 }
 
 /// A literal with a prefix, or an identifier, after its first letter. Of a raw identifier there is none.
@@ -144,13 +157,13 @@ const LOW_MARKS: u64 = 0xfc00_7f7a_0000_0000;
 /// The same for the next 64 characters.
 const HIGH_MARKS: u64 = 0x7800_0000_6800_0001;
 
-/// Whether the character is a delimiter or a mark, whatever follows it: each but `/`.
+/// Whether the character of ASCII is a delimiter or a mark, whatever follows it: each but `/`.
 #[inline(always)]
-fn is_mark_alone(c: char) -> bool {
-    if c < '@' {
-        has_bit(LOW_MARKS, c as u8)
+fn is_mark_alone(byte: u8) -> bool {
+    if byte < 64 {
+        has_bit(LOW_MARKS, byte)
     } else {
-        c.is_ascii() && has_bit(HIGH_MARKS, c as u8 - 64)
+        has_bit(HIGH_MARKS, byte - 64)
     }
 }
 

@@ -1,17 +1,8 @@
-use Rattle.std.proofs.Common.{◌≡◌, true, Some, sym, ◌∙◌, ap, rules}
-use Rattle.std.specs.Char.{is_ascii_digit}
+use Rattle.std.proofs.Common.{Some, sym, ◌∙◌, ap}
 use Rattle.std.specs.Str.{chars}
-use Rattle.rl_tokens.specs.Lexemes.{LiteralForm}
-use Rattle.rl_tokens.proofs.NumberEnds.{digit_first}
 use Rattle.rl_tokens.proofs.WordsAndMarks.{mark_first}
 use Rattle.rl_tokens.proofs.BehindLemmas.{some_behind, some_nearer}
-use Rattle.rl_tokens.proofs.lexeme.lexeme_by_first_character.Goals as goal
-
-pub returns-in-48-to-57-clause-rest : goal.returns-in-48-to-57-clause-rest
-returns-in-48-to-57-clause-rest c =
-    let is : is_ascii_digit c.in-Some.byte ≡ true = search rules in
-    ap (λ r. Some (LiteralForm, r)) (c.after_digit.ensures.rest c.in-Some.byte)
-    ∙ sym (digit_first (chars c.args.text.now) (chars c.in-Some.following.now) c.in-Some.byte c.in-Some.ensures.some is)
+use Rattle.rl_tokens.proofs.lexeme.lexeme_but_number.Goals as goal
 
 pub returns-in_default-byte-clause-rest : goal.returns-in_default-byte-clause-rest
 returns-in_default-byte-clause-rest c =
