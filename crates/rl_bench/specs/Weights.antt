@@ -9,7 +9,7 @@ use Rattle.rl_tokens.specs.declared.error.ErrorKind.TheVariants.{Memory}
 use Rattle.rl_tokens.specs.Reading.{Contents, Characters, Bytes, Digits, Truth, Reads, HasContents, HasSuffix, HasNoReading}
 use Rattle.rl_tokens.specs.Texts.{byte_len}
 use Rattle.rl_tokens.specs.Sources.{CutSource, IsCutUpTo, BeginsNoSource}
-use Rattle.rl_tokens.specs.Lexing.{LexedToken, LexesUpTo, BeginsNoLexeme, Lexes, Fault}
+use Rattle.rl_tokens.specs.Lexing.{LexedToken, LexesUpTo, BeginsNoLexeme, Lexes, HasFirstError}
 use Rattle.rl_tokens.specs.Trees.{Tree}
 use Rattle.rl_grammar.specs.WholeShapes.{IsSplit}
 use Rattle.rust_literals.specs.declared.lit.Lit.{Lit}
@@ -87,7 +87,7 @@ HasSourceCount text count =
 abbrev pub HasTreeCount : List ℕ → ℕ → Type 0
 HasTreeCount text count =
     ((trees : List Tree) × Lexes (chars text) 0 trees × (count ≡ length trees))
-    ⊎ ((kind : LexKind) × (at : ℕ) × Fault (chars text) kind at × (count ≡ 0))
+    ⊎ ((kind : LexKind) × (at : ℕ) × HasFirstError (chars text) kind at × (count ≡ 0))
 
 -- a text is read as this many literals; or it is rejected, for another reason than memory, and none
 abbrev pub HasLiteralCount : (A : Type 0) → List ℕ → ℕ → Type 0

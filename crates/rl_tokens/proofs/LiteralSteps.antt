@@ -9,9 +9,9 @@ use Rattle.rl_tokens.specs.Cursors.{CursorState, IsCursorState}
 use Rattle.rl_tokens.specs.Sources.{CutSource, SourceKind, kind_of, source_text, source_view, SourceBefore, SourcesUpTo, source_end, IsCutUpTo, TakesSource, IsLiteralText, IsNoLiteral, PassesTo}
 use Rattle.rl_tokens.specs.Mirrors.LiteralsAt.{HoldsNoLiteral}
 use Rattle.rl_tokens.specs.declared.sources.SourceToken.{SourceToken}
-use Rattle.rl_tokens.proofs.BehindLemmas.{behind_step}
+use Rattle.rl_tokens.proofs.TailLemmas.{tail_step}
 use Rattle.rl_tokens.proofs.CutLemmas.{byte_len-append}
-use Rattle.rl_tokens.proofs.Faults.{char_len}
+use Rattle.rl_tokens.proofs.ErrorKinds.{char_len}
 use Rattle.rl_tokens.proofs.Pieces.{after_piece-past, one_rest, skipped_after, skipped_again, skipped_here}
 use Rattle.rl_tokens.proofs.Rests.{behind_length}
 use Rattle.rl_tokens.proofs.SourceCuts.{cut_more}
@@ -110,7 +110,7 @@ passes_join a b d p q = record {
       let more = subst (λ z. IsCutUpTo (chars z) ((done ++ p.cuts) ++ q.cuts) (chars d.rest)) p.same (q.goes_on (done ++ p.cuts) before) in
       subst (λ z. IsCutUpTo (chars a.text) z (chars d.rest)) (append_assoc done p.cuts q.cuts) more;
   same = q.same ∙ p.same;
-  following = behind_step a.rest b.rest d.rest p.following q.following;
+  following = tail_step a.rest b.rest d.rest p.following q.following;
 }
 
 -- nothing was passed yet, or these tokens

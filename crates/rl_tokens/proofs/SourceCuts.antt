@@ -15,9 +15,9 @@ use Rattle.rl_tokens.specs.declared.lex_error.LexError.{LexError}
 use Rattle.rl_tokens.specs.declared.lex_error.LexKind.{LexKind}
 use Rattle.rl_tokens.specs.declared.lex_error.LexKind.TheVariants.{UnclosedComment, UnclosedQuote}
 use Rattle.rl_tokens.specs.declared.sources.SourceToken.{SourceToken}
-use Rattle.rl_tokens.proofs.BehindLemmas.{behind_step, cut_join}
+use Rattle.rl_tokens.proofs.TailLemmas.{tail_step, cut_join}
 use Rattle.rl_tokens.proofs.CutLemmas.{byte_len-append}
-use Rattle.rl_tokens.proofs.Faults.{char_len, rest_place, chars_some}
+use Rattle.rl_tokens.proofs.ErrorKinds.{char_len, rest_place, chars_some}
 use Rattle.rl_tokens.proofs.LexemeOpeners.{quote_begins}
 use Rattle.rl_tokens.proofs.SourceFronts.{proper_source, apostrophe, closed_here}
 use Rattle.rl_tokens.proofs.Rests.{behind_length}
@@ -111,7 +111,7 @@ takes text rest following next l is in_rest in_behind skips at =
       place = at.lo_place;
       goes_on = λ done cuts. cut_more (chars text) done (chars rest) w (chars following) (chars next) cuts at.front.text_is at.front.is_source (omega (arith, rest_len, text_len, at.lo_place)) skips;
       same = refl;
-      following = behind_step rest following next in_rest in_behind;
+      following = tail_step rest following next in_rest in_behind;
     }
 
 -- what is borrowed is the next token

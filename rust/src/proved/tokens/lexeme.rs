@@ -66,6 +66,7 @@ fn wide_identifier(text: &str) -> Option<(Form, &str)> {
 }
 
 /// A literal with a prefix, or an identifier, after its first letter. Of a raw identifier there is none.
+#[inline(never)]
 fn literal_or_identifier(letter: char, text: &str) -> Option<(Form, &str)> {
     match letter {
         'b' | 'c' if begins_with(text, '"') => quoted_literal(without_first(text)),
@@ -154,7 +155,7 @@ fn goes_on_as_no_comment(following: &str) -> bool {
 /// A bit for each of the first 64 characters, set where [`is_mark_alone`] is true.
 const LOW_MARKS: u64 = 0xfc00_7f7a_0000_0000;
 
-/// The same for the next 64 characters.
+/// A bit for each of the next 64 characters, set where [`is_mark_alone`] is true.
 const HIGH_MARKS: u64 = 0x7800_0000_6800_0001;
 
 /// Whether the character of ASCII is a delimiter or a mark, whatever follows it: each but `/`.
@@ -196,7 +197,7 @@ fn raw_literal(text: &str) -> Option<(Form, &str)> {
 }
 
 /// After a slash, which is a mark where it begins no comment.
-#[inline(always)]
+#[inline(never)]
 fn after_slash(text: &str) -> Option<(Form, &str)> {
     match split_char(text) {
         Some(('/' | '*', _)) => None,

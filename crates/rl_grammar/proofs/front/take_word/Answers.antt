@@ -1,4 +1,4 @@
-use Rattle.rl_tokens.proofs.BehindLemmas.{if_none}
+use Rattle.rl_tokens.proofs.TailLemmas.{if_none}
 use Rattle.rl_grammar.proofs.FrontLemmas.{no_word_at}
 use Rattle.std.proofs.lemmas.Grind.{common_steps}
 use Rattle.std.proofs.Common.{sym, ◌∙◌, ap, arith}
