@@ -6,7 +6,7 @@ use Rattle.rl_tokens.specs.declared.kind.Kind.{Kind}
 use Rattle.rl_tokens.specs.declared.kind.Kind.TheVariants.{Str as StrKind, ByteStr as ByteStrKind, CStr as CStrKind, Byte as ByteKind, Char as CharKind, Int as IntKind, Float as FloatKind, Bool as BoolKind}
 use Rattle.rl_tokens.specs.Quoted.{is_string}
 use Rattle.rl_tokens.specs.Reading.{Characters, Bytes, HasSuffix}
-use Rattle.rl_tokens.proofs.Faults.{char_len}
+use Rattle.rl_tokens.proofs.ErrorKinds.{char_len}
 use Rattle.rl_grammar.specs.declared.found.Found.{Found}
 use Rattle.rl_grammar.specs.Bodies.{HasBody}
 use Rattle.rl_grammar.specs.Founds.{IsFound, body_in, suffix_in}

@@ -17,7 +17,7 @@ use Rattle.rl_tokens.specs.Sources.{source_text, source_end, source_view, kind_o
 use Rattle.rl_tokens.specs.declared.sources.SourceToken.{SourceToken}
 use Rattle.rl_tokens.specs.declared.lex_error.LexError.{LexError}
 use Rattle.rl_tokens.proofs.TailLemmas.{tail_self, tail_step, cut_boundary, cut_drop}
-use Rattle.rl_tokens.proofs.Faults.{char_len, chars_some}
+use Rattle.rl_tokens.proofs.ErrorKinds.{char_len, chars_some}
 use Rattle.rl_program.specs.Streams.{AppendsBeginning}
 use Rattle.rl_lines.specs.Lines.{Appends, Joins}
 use Rattle.rl_lines.proofs.JoinLemmas.{joins_append, joins_one}

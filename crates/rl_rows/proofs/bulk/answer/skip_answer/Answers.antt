@@ -2,7 +2,7 @@ use Rattle.std.proofs.Common.{◌++◌, codes, sym, ap, ◌∙◌}
 use Rattle.std.specs.Fmt.{decimal}
 use Rattle.std.specs.Str.{chars}
 use Rattle.std.proofs.lemmas.Result.{IfOk-weaker}
-use Rattle.rl_tokens.proofs.Faults.{char_len}
+use Rattle.rl_tokens.proofs.ErrorKinds.{char_len}
 use Rattle.rl_rows.proofs.bulk.answer.skip_answer.Goals as goal
 
 pub returns : goal.returns
