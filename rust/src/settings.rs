@@ -212,7 +212,7 @@ fn check_groups(text: &str) -> Result<(), SettingsError> {
             },
         }
     }
-    if let Some(cause) = tokens.fault() {
+    if let Some(cause) = tokens.error() {
         return Err(error(cause.kind, cause.at));
     }
     match open.pop() {

@@ -9,7 +9,7 @@ use Rattle.rl_tokens.specs.Lexing.{LexedToken, end_of, LexesUpTo, ErrorAt}
 use Rattle.rl_tokens.specs.Cursors.{CursorState, form_view}
 use Rattle.rl_tokens.specs.Mirrors.LexemeAt.{lexeme_at}
 use Rattle.rl_tokens.specs.declared.cursor.Lexeme.{Lexeme as Lent}
-use Rattle.rl_tokens.proofs.FaultLaws.{no_fault}
+use Rattle.rl_tokens.proofs.ErrorLaws.{no_error}
 use Rattle.rl_tokens.proofs.LexemeFronts.{lexeme_at-past, one_front, same_pair}
 use Rattle.rl_tokens.proofs.Pieces.{one_rest, skipped_again}
 use Rattle.rl_grammar.specs.NextLiterals.{BeginsNone, HasNoNumber, HasNoNextLiteral}
@@ -87,7 +87,7 @@ same_literal t own cuts more l m r (inr a) (inr b) one other =
 
 -- something is left where an error stands
 some_left : (t : CursorState) (status : ℕ) → ReportsError t status → chars t.rest ≡ [] → ⊥
-some_left t status (why, inl (kind, _, fault), _) e = no_fault kind (subst (ErrorAt kind []) e (fault []))
+some_left t status (why, inl (kind, _, fault), _) e = no_error kind (subst (ErrorAt kind []) e (fault []))
 some_left t status (why, inr (l, new, takes, _), _) e = no_token takes.cut.lexeme takes.after takes.is_lexeme (sym e ∙ takes.begins)
 
 -- a token that begins no literal is none

@@ -4,7 +4,7 @@ use Rattle.std.specs.Str.{chars, IsCharBoundary}
 use Rattle.rl_tokens.specs.Cursors.{CursorState}
 use Rattle.rl_tokens.specs.Sources.{IsCutUpTo, TakesLiteralAfter}
 use Rattle.rl_tokens.specs.declared.sources.SourceToken.{SourceToken}
-use Rattle.rl_tokens.proofs.BehindLemmas.{behind_step, cut_boundary, cut_drop}
+use Rattle.rl_tokens.proofs.TailLemmas.{tail_step, cut_boundary, cut_drop}
 use Rattle.rl_tokens.specs.Texts.{IsTail}
 use Rattle.rl_c.specs.declared.next.Next.{Next}
 use Rattle.rl_c.specs.Literals.{IsCutTo, FindsToken, cursor_at}
@@ -19,7 +19,7 @@ pub found_token : (text borrowed rest left : List ℕ) (at : ℕ) (start new : C
 found_token text borrowed rest left at start new l next same is cut tail takes left_is lo hi place =
     let t : TakesLiteralAfter (cursor_at text at) l new = subst (λ z. TakesLiteralAfter z l new) (stands_at text borrowed rest at start same is cut) takes in
     let from : IsTail text (drop at text) = subst (λ z. IsTail z (drop at z)) same (subst (IsTail borrowed) cut tail) in
-    let whole : IsTail text new.rest = behind_step text (drop at text) new.rest from (behind_step (drop at text) t.between.rest new.rest t.passes.following t.takes.following) in
+    let whole : IsTail text new.rest = tail_step text (drop at text) new.rest from (tail_step (drop at text) t.between.rest new.rest t.passes.following t.takes.following) in
     let at_is : next.rest_at ≡ length text - length new.rest = place ∙ ap (λ z. length z - length left) same ∙ ap (λ z. length text - length z) left_is in
     record {
       after = new;

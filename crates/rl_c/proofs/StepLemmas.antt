@@ -9,8 +9,8 @@ use Rattle.rl_tokens.specs.Lexemes.{LexemeForm, lexeme_text, form_of}
 use Rattle.rl_tokens.specs.Lexing.{LexedToken, end_of, LexesUpTo}
 use Rattle.rl_tokens.specs.Cursors.{CursorState, TakesNext, IsBorrowedToken, form_view}
 use Rattle.rl_tokens.specs.declared.cursor.Lexeme.{Lexeme}
-use Rattle.rl_tokens.proofs.BehindLemmas.{behind_step, cut_drop}
-use Rattle.rl_tokens.proofs.CutLemmas.{behind_place}
+use Rattle.rl_tokens.proofs.TailLemmas.{tail_step, cut_drop}
+use Rattle.rl_tokens.proofs.CutLemmas.{tail_place}
 use Rattle.rl_tokens.proofs.Pieces.{one_rest, skipped_again}
 use Rattle.rl_grammar.specs.declared.next_literals.NextLiteral.{NextLiteral}
 use Rattle.rl_grammar.specs.NextLiterals.{TakesNegative, TakesNextLiteral}
@@ -46,7 +46,7 @@ after_gap a b t u (w ∷ ws) r gap place (after, first, is, at, more) =
 joins : (a b : ℕ) (t u : List ℕ) (vs ws : List LexedToken) (r : List ℕ) → LexesUpTo a t vs u → a + byte_len t ≡ b + byte_len u → LexesUpTo b u ws r → LexesUpTo a t (vs ++ ws) r
 joins a b t u [] ws r cut place more = after_gap a b t u ws r cut place more
 joins a b t u (v ∷ vs) ws r (after, first, is, at, cut) place more =
-    (after, first, is, at, joins (end_of v) b after u vs ws r cut (behind_place v after (a + byte_len t) at ∙ place) more)
+    (after, first, is, at, joins (end_of v) b after u vs ws r cut (tail_place v after (a + byte_len t) at ∙ place) more)
 
 shifts : (k a : ℕ) (t : List ℕ) (ws : List LexedToken) (r : List ℕ) → LexesUpTo a t ws r → LexesUpTo (k + a) t (map (shifted k) ws) r
 shifts k a t [] r cut = cut
@@ -125,7 +125,7 @@ cuts_by text l n start new s place r (inl t) = record {
   cut = one_cut text start new l.token s t.takes;
   literal = inl (one_literal t.takes.cut l.token n t.takes.is_cut (reports_token (form_view l.token.form) l.token.text.now l.found n.reading t.literal r.reported) (begins_at l n r t.no_minus) r.hi_is);
   is_text = s.state.is_text;
-  following = behind_step text start.rest new.rest s.state.following t.takes.following;
+  following = tail_step text start.rest new.rest s.state.following t.takes.following;
   place = place;
 }
 cuts_by text l n start new s place r (inr t) = record {
@@ -134,7 +134,7 @@ cuts_by text l n start new s place r (inr t) = record {
   cut = two_cut text start t.between new t.minus l.token s t.takes_minus t.takes_number;
   literal = inr (two_literal start new l n t r);
   is_text = s.state.is_text;
-  following = behind_step text start.rest new.rest s.state.following (behind_step start.rest t.between.rest new.rest t.takes_minus.following t.takes_number.following);
+  following = tail_step text start.rest new.rest s.state.following (tail_step start.rest t.between.rest new.rest t.takes_minus.following t.takes_number.following);
   place = place;
 }
 

@@ -202,7 +202,7 @@ impl<'a, A: Allocator> Front<'a, A> {
         match self {
             Front::Literal(token) => Literal::clone(token, alloc),
             Front::Word(word) => Literal::from_text(alloc, word.text(), word.span()),
-            Front::Negative(negative) => negative.number.behind_minus(alloc, self.span()),
+            Front::Negative(negative) => negative.number.after_minus(alloc, self.span()),
         }
     }
 }

@@ -126,7 +126,7 @@ fn rejection_at(tokens: &Tokens<'_>) -> Rejection
     requires { tokens.now.rest ≢ [] }
     ensures { RejectsNext tokens.now result }
 {
-    if let Some(error) = tokens.fault() {
+    if let Some(error) = tokens.error() {
         return Rejection {
             kind: RejectionKind::Lex(error.kind),
             at: error.at,

@@ -20,7 +20,7 @@ use rl_tokens::text::{split_ascii, split_char};
 
 /// The base, and what follows its prefix.
 #[inline(always)]
-#[tactic(auto, using(rl_tokens::proofs::BehindLemmas::behind_step, rl_tokens::proofs::BehindLemmas::behind_self, crate::proofs::AsciiLemmas::no_zero, crate::proofs::AsciiLemmas::no_radix_letter), unfolding(crate::specs::Mirrors::NumberAt::radix_at))]
+#[tactic(auto, using(rl_tokens::proofs::TailLemmas::tail_step, rl_tokens::proofs::TailLemmas::tail_self, crate::proofs::AsciiLemmas::no_zero, crate::proofs::AsciiLemmas::no_radix_letter), unfolding(crate::specs::Mirrors::NumberAt::radix_at))]
 pub(crate) fn split_radix(text: &str) -> (u32, &str)
     ensures value { (result.0, chars result.1.now) ≡ radix_at (chars text.now) }
     ensures within { (2 ≤ result.0) × (result.0 ≤ 16) }
@@ -46,7 +46,7 @@ pub(crate) struct Head<'t> {
 
 /// What a number begins with, from the text after its sign.
 #[inline(always)]
-#[tactic(auto, using(rl_tokens::proofs::BehindLemmas::behind_step))]
+#[tactic(auto, using(rl_tokens::proofs::TailLemmas::tail_step))]
 fn head_of(unsigned: &str) -> Head<'_>
     requires { IsTrue (first_passes is_ascii_digit (chars unsigned.now)) }
     ensures head { IsHead (chars unsigned.now) result.radix
@@ -60,7 +60,7 @@ fn head_of(unsigned: &str) -> Head<'_>
 
 /// What a number begins with; `None` where no digit stands after the sign. That test is written into the callers.
 #[inline(always)]
-#[tactic(auto, using(rl_tokens::proofs::BehindLemmas::behind_step))]
+#[tactic(auto, using(rl_tokens::proofs::TailLemmas::tail_step))]
 pub(crate) fn read_head(text: &str) -> Option<Head<'_>>
     ensures none { IfNone result
         (first_passes is_ascii_digit (after_minus (chars text.now)) ≡ false) }
@@ -142,7 +142,7 @@ pub fn int_shape(text: &str) -> Option<Option<Parts<'_>>>
 
 /// The text after the dot and digits at its front, if a dot stands there.
 #[inline(always)]
-#[tactic(auto, using(rl_tokens::proofs::BehindLemmas::behind_step, rl_tokens::proofs::BehindLemmas::behind_self))]
+#[tactic(auto, using(rl_tokens::proofs::TailLemmas::tail_step, rl_tokens::proofs::TailLemmas::tail_self))]
 fn after_fraction(text: &str) -> &str
     ensures value { chars result.now ≡ after_fraction (chars text.now) }
     ensures following { IsTail text.now result.now }
@@ -155,7 +155,7 @@ fn after_fraction(text: &str) -> &str
 
 /// The digits of a power, after its letter.
 #[inline(always)]
-#[tactic(auto, using(rl_tokens::proofs::BehindLemmas::behind_step, rl_tokens::proofs::BehindLemmas::behind_self), unfolding(crate::specs::Mirrors::NumberAt::power_at))]
+#[tactic(auto, using(rl_tokens::proofs::TailLemmas::tail_step, rl_tokens::proofs::TailLemmas::tail_self), unfolding(crate::specs::Mirrors::NumberAt::power_at))]
 fn power_digits(text: &str) -> &str
     ensures value { chars result.now ≡ power_at (chars text.now) }
     ensures following { IsTail text.now result.now }
@@ -169,7 +169,7 @@ fn power_digits(text: &str) -> &str
 
 /// The text after the exponent at its front, if one stands there.
 #[inline(always)]
-#[tactic(auto, using(rl_tokens::proofs::BehindLemmas::behind_step, rl_tokens::proofs::BehindLemmas::behind_self), unfolding(crate::specs::Mirrors::NumberAt::after_exponent))]
+#[tactic(auto, using(rl_tokens::proofs::TailLemmas::tail_step, rl_tokens::proofs::TailLemmas::tail_self), unfolding(crate::specs::Mirrors::NumberAt::after_exponent))]
 fn after_exponent(text: &str) -> &str
     ensures value { chars result.now ≡ after_exponent (chars text.now) }
     ensures following { IsTail text.now result.now }
@@ -185,7 +185,7 @@ fn after_exponent(text: &str) -> &str
 
 /// The suffix of the float whose whole part this follows.
 #[inline(always)]
-#[tactic(auto, using(rl_tokens::proofs::BehindLemmas::behind_step, rl_tokens::proofs::BehindLemmas::behind_self))]
+#[tactic(auto, using(rl_tokens::proofs::TailLemmas::tail_step, rl_tokens::proofs::TailLemmas::tail_self))]
 fn tail_suffix(text: &str) -> Option<&str>
     ensures value { option_map (λ x. chars x.now) result ≡ float_tail_at (chars text.now) }
     ensures following { IfSome result (λ x. IsTail text.now x.now) }
@@ -199,7 +199,7 @@ fn tail_suffix(text: &str) -> Option<&str>
 }
 
 /// The suffix of the float that the text is.
-#[tactic(auto, using(rl_tokens::proofs::BehindLemmas::behind_step, rl_tokens::proofs::BehindLemmas::behind_self), unfolding(crate::specs::Mirrors::NumberAt::float_at))]
+#[tactic(auto, using(rl_tokens::proofs::TailLemmas::tail_step, rl_tokens::proofs::TailLemmas::tail_self), unfolding(crate::specs::Mirrors::NumberAt::float_at))]
 pub(crate) fn float_suffix(text: &str) -> Option<&str>
     ensures value { option_map (λ x. chars x.now) result ≡ float_at (chars text.now) }
     ensures following { IfSome result (λ x. IsTail text.now x.now) }

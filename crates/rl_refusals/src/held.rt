@@ -40,7 +40,7 @@ impl<A: Scarce> Held<A> for Literal<A> {
     fn call(&self, name: &str, trial: &Trial<'_, A>, page: &mut Page) {
         match name {
             "clone" => trial.ends(self.clone(trial.begins()), page),
-            "behind_minus" => trial.ends(self.behind_minus(trial.begins(), HERE), page),
+            "behind_minus" => trial.ends(self.after_minus(trial.begins(), HERE), page),
             _ => page.put(NO_CALL),
         }
     }

@@ -46,7 +46,7 @@ fn tell_fault(kind: LexKind, at: usize, out: &mut Page) {
 
 /// Prints why the tokens stopped, where they did.
 fn tell_stop(tokens: &Tokens<'_>, out: &mut Page) {
-    if let Some(fault) = tokens.fault() {
+    if let Some(fault) = tokens.error() {
         tell_fault(fault.kind, fault.at, out);
         out.put("; ")
     }

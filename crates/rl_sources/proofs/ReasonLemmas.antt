@@ -13,7 +13,7 @@ use Rattle.rl_tokens.specs.Reading.{HasReading}
 use Rattle.rl_tokens.specs.Texts.{IsTail, byte_len}
 use Rattle.rl_tokens.specs.Cursors.{CursorState, IsCursorState}
 use Rattle.rl_tokens.specs.declared.sources.SourceToken.{SourceToken}
-use Rattle.rl_tokens.proofs.BehindLemmas.{behind_step}
+use Rattle.rl_tokens.proofs.TailLemmas.{tail_step}
 use Rattle.rl_tokens.proofs.CutLemmas.{byte_len-append}
 use Rattle.rl_grammar.specs.declared.flaws.Flaw.{Flaw}
 use Rattle.rl_grammar.specs.declared.flaws.FlawKind.{FlawKind}
@@ -156,5 +156,5 @@ flaw_rest token text rest inside flaw begins explains is =
     let within = flaw_within token text rest flaw begins explains in
     subst (IsCursorState text) (sym is) (record {
       is_text = begins.cursor.is_text;
-      following = behind_step text rest (drop flaw.lo rest) begins.cursor.following within.following;
+      following = tail_step text rest (drop flaw.lo rest) begins.cursor.following within.following;
     })

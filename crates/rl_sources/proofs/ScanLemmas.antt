@@ -16,8 +16,8 @@ use Rattle.rl_tokens.specs.Lexemes.{LiteralForm, IdentifierForm, DelimiterForm, 
 use Rattle.rl_tokens.specs.Sources.{source_text, source_end, source_view, kind_of, SourceKind, PlainKind, RawIdentifierKind, LifetimeKind, DocCommentKind, StrayKind, CutSource, IsCutUpTo, IsBorrowedSource, TakesSource, IsLiteralText, IsNoLiteral, PassesTo}
 use Rattle.rl_tokens.specs.declared.sources.SourceToken.{SourceToken}
 use Rattle.rl_tokens.specs.declared.lex_error.LexError.{LexError}
-use Rattle.rl_tokens.proofs.BehindLemmas.{behind_self, behind_step, cut_boundary, cut_drop}
-use Rattle.rl_tokens.proofs.Faults.{char_len, chars_some}
+use Rattle.rl_tokens.proofs.TailLemmas.{tail_self, tail_step, cut_boundary, cut_drop}
+use Rattle.rl_tokens.proofs.ErrorKinds.{char_len, chars_some}
 use Rattle.rl_program.specs.Streams.{AppendsBeginning}
 use Rattle.rl_lines.specs.Lines.{Appends, Joins}
 use Rattle.rl_lines.proofs.JoinLemmas.{joins_append, joins_one}
@@ -76,7 +76,7 @@ adds_token options text start old new places l piece longer same seen adds takes
 -- the cursor after a token
 pub stands_on : (tokens next : CursorState) (places later : List ℕ) (l : SourceToken) → IsCursorOver tokens places → TakesSource tokens l next → later ≡ places → IsCursorOver next later
 stands_on tokens next places later l stands takes same =
-    let tail : IsTail tokens.text next.rest = behind_step tokens.text tokens.rest next.rest stands.cursor.following takes.following in
+    let tail : IsTail tokens.text next.rest = tail_step tokens.text tokens.rest next.rest stands.cursor.following takes.following in
     record {
       cursor = subst (λ t. IsCursorState t next.rest) (sym takes.same) (record { is_text = stands.cursor.is_text; following = tail });
       text_is = same ∙ stands.text_is ∙ sym takes.same;
@@ -147,19 +147,19 @@ unshown_passed options old new lax p = record {
 }
 
 pub unshown_none : (options : Options) (old : CursorState) → IsCursorState old.text old.rest → IsUnshown options old old
-unshown_none options old is = record { adds = adds_none options (chars old.text) (chars old.rest) [] refl; same = refl; following = behind_self old.rest is.following.is_text }
+unshown_none options old is = record { adds = adds_none options (chars old.text) (chars old.rest) [] refl; same = refl; following = tail_self old.rest is.following.is_text }
 
 pub unshown_more : (options : Options) (a b d : CursorState) (l : SourceToken) → IsUnshown options a b → TakesSource b l d → (IsTrue options.rejects_strays → source_view l.form ≢ StrayKind) → (IsLiteralText (source_view l.form) (chars l.text.now) → ⊥) → IsUnshown options a d
 unshown_more options a b d l u takes accepted other = record {
   adds = adds_token options a.text (chars a.rest) b d b.text l [] [] u.same refl u.adds takes accepted ([], nothing_of options (chars b.text) (chars l.text.now) (source_view l.form) l.lo l.hi other, refl);
   same = takes.same ∙ u.same;
-  following = behind_step a.rest b.rest d.rest u.following takes.following;
+  following = tail_step a.rest b.rest d.rest u.following takes.following;
 }
 
 -- the cursor before a literal, or before an error
 pub stands_before : (options : Options) (tokens between : CursorState) (places : List ℕ) → IsCursorOver tokens places → IsUnshown options tokens between → IsCursorOver between places
 stands_before options tokens between places stands unshown =
-    let tail : IsTail tokens.text between.rest = behind_step tokens.text tokens.rest between.rest stands.cursor.following unshown.following in
+    let tail : IsTail tokens.text between.rest = tail_step tokens.text tokens.rest between.rest stands.cursor.following unshown.following in
     record {
       cursor = subst (λ t. IsCursorState t between.rest) (sym unshown.same) (record { is_text = stands.cursor.is_text; following = tail });
       text_is = stands.text_is ∙ sym unshown.same;

@@ -52,9 +52,9 @@ strip_prefix_none n bs (Some x) m u w = tt
 strip_prefix_none n bs None m u w = λ x e.
     m (encode_utf8_all x) (sym (encodes-chars bs w) ∙ ap encode_utf8_all e ∙ encodes-append (chars n) x ∙ ap (λ z. z ++ encode_utf8_all x) (encodes-chars n u))
 
-pub strip_prefix_behind : (n bs : List ℕ) (r : Option (Bor (List ℕ))) → StripPrefix n bs r → IsUtf8 bs → IfSome r (λ x. IsTail bs x.now)
-strip_prefix_behind n bs None m w = tt
-strip_prefix_behind n bs (Some x) m w = record {
+pub strip_prefix_tail : (n bs : List ℕ) (r : Option (Bor (List ℕ))) → StripPrefix n bs r → IsUtf8 bs → IfSome r (λ x. IsTail bs x.now)
+strip_prefix_tail n bs None m w = tt
+strip_prefix_tail n bs (Some x) m w = record {
   front = n;
   text_is = m.1.1 ∙ ap (λ z. n ++ z) (sym m.2);
   is_text = subst IsUtf8 (sym m.2) (IsUtf8-drop bs m.0 w (subst (IsCharBoundary bs) (sym m.1.0) m.1.2));

@@ -117,5 +117,5 @@ chars_nil = refl
 pub line_open : (m : Marks) (s : List ℕ) → m ≡ record { first = 10; second = 10; third = 10; fourth = 10 } → list_all (is_other m) s ≡ true → chars [] ≡ after_line s
 line_open m s is h = chars_nil ∙ sym (after_line-open s (one_line m s (ap (λ z. z.first) is) h))
 
-pub nothing_behind : (t : List ℕ) → IsTail t []
-nothing_behind t = record { front = t; text_is = sym (append-nil t); is_text = IsUtf8-nil }
+pub nothing_tail : (t : List ℕ) → IsTail t []
+nothing_tail t = record { front = t; text_is = sym (append-nil t); is_text = IsUtf8-nil }

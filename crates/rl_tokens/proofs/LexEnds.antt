@@ -10,22 +10,22 @@ use Rattle.rl_tokens.specs.declared.lex_error.LexKind.TheVariants.{UnmatchedClos
 use Rattle.rl_tokens.specs.declared.lex_error.LexError.{LexError}
 use Rattle.rl_tokens.specs.Lexemes.{LexemeBefore, Lexeme, QuotedLexeme, RawLexeme, CharacterLexeme, BasedLexeme, DecimalLexeme, IdentifierLexeme, DelimiterLexeme, MarkLexeme, lexeme_text, IsLexeme, LexemeForm, form_of}
 use Rattle.rl_tokens.specs.Cursors.{form_view, CursorState, TakesNext, IsFirstError}
-use Rattle.rl_tokens.specs.declared.cursor.Lexeme.{Lexeme as Lent}
+use Rattle.rl_tokens.specs.declared.cursor.Lexeme.{Lexeme as Borrowed}
 use Rattle.rl_tokens.specs.Trees.{Tree, stream_view, flat_trees}
-use Rattle.rl_tokens.specs.Lexing.{OpenGroup, LexesUpTo, error_place, BeginsLexeme, BeginsNoLexeme, ErrorAt, Fault, LeavesRestAt, Rejects, Lexes}
+use Rattle.rl_tokens.specs.Lexing.{OpenGroup, LexesUpTo, error_place, BeginsLexeme, BeginsNoLexeme, ErrorAt, HasFirstError, LeavesRestAt, Rejects, Lexes}
 use Rattle.rl_tokens.specs.Mirrors.TreeBuilders.{groups_of, flat_builder, EndsInGroup, ClosesWrong, OpensTooDeep, RejectsForm}
 use Rattle.rl_tokens.proofs.LexLoop.{HasCut}
-use Rattle.rl_tokens.proofs.Faults.{rest_place, fault_refuses}
+use Rattle.rl_tokens.proofs.ErrorKinds.{rest_place, error_rejects}
 
-fault_here : {A : Type 0} (text rest : List ℕ) (file : ℕ) (nest : TreeBuilder A) (kind : LexKind) (at place : ℕ) → IsUtf8 text → IsUtf8 rest → HasCut text rest file nest → place + length rest ≡ length text → ErrorAt kind (groups_of nest) (chars rest) → at ≡ error_place kind (groups_of nest) place → Fault (chars text) kind at
-fault_here text rest file nest kind at place is is_rest has here fault at_is = record {
+error_found : {A : Type 0} (text rest : List ℕ) (file : ℕ) (nest : TreeBuilder A) (kind : LexKind) (at place : ℕ) → IsUtf8 text → IsUtf8 rest → HasCut text rest file nest → place + length rest ≡ length text → ErrorAt kind (groups_of nest) (chars rest) → at ≡ error_place kind (groups_of nest) place → HasFirstError (chars text) kind at
+error_found text rest file nest kind at place is is_rest has here error at_is = record {
   cuts = has.cuts;
   rest = chars rest;
   groups = groups_of nest;
   rest_at = place;
   are_cuts = has.are_cuts;
   are_open = has.are_open;
-  fault = fault;
+  error = error;
   rest_place = rest_place text rest place is is_rest here;
   at_is = at_is;
 }
@@ -54,7 +54,7 @@ ends_open text rest file nest e is has nothing ends =
     let P : LexKind → Type 0 = λ k. Rejects (chars text) k e.at in
     let u : IsUtf8 rest = has.following.is_text in
     subst P (sym ends.kind)
-    (fault_here text rest file nest UnclosedGroup e.at (length text) is u has (omega (arith, ap length nothing))
+    (error_found text rest file nest UnclosedGroup e.at (length text) is u has (omega (arith, ap length nothing))
     (ap chars nothing ∙ chars-nil, ends.some_open) (ends.place (length text)))
 
 -- the lexeme at the front of the rest can't be read
@@ -78,27 +78,27 @@ opens_deep groups (DecimalLexeme d m f x s) after h = absurd h
 opens_deep groups (IdentifierLexeme c more) after h = absurd h
 opens_deep groups (MarkLexeme c) after h = absurd h
 
-refused_lexeme : {A : Type 0} (text rest after : List ℕ) (file : ℕ) (nest : TreeBuilder A) (l : Lexeme) (kind : LexKind) (at : ℕ) → IsUtf8 text → HasCut text rest file nest → at + length rest ≡ length text → chars rest ≡ lexeme_text l ++ after → IsLexeme l after → RejectsForm (groups_of nest) (form_of l) kind → Rejects (chars text) kind at
-refused_lexeme text rest after file nest l UnmatchedClose at is has place same whole h =
+rejected_lexeme : {A : Type 0} (text rest after : List ℕ) (file : ℕ) (nest : TreeBuilder A) (l : Lexeme) (kind : LexKind) (at : ℕ) → IsUtf8 text → HasCut text rest file nest → at + length rest ≡ length text → chars rest ≡ lexeme_text l ++ after → IsLexeme l after → RejectsForm (groups_of nest) (form_of l) kind → Rejects (chars text) kind at
+rejected_lexeme text rest after file nest l UnmatchedClose at is has place same whole h =
     let here : ErrorAt UnmatchedClose (groups_of nest) (chars rest) = subst (λ (r : List ℕ). ErrorAt UnmatchedClose (groups_of nest) r) (sym same) (closes_wrong (groups_of nest) l after h) in
-    fault_here text rest file nest UnmatchedClose at at is has.following.is_text has place here refl
-refused_lexeme text rest after file nest l TooDeep at is has place same whole h =
+    error_found text rest file nest UnmatchedClose at at is has.following.is_text has place here refl
+rejected_lexeme text rest after file nest l TooDeep at is has place same whole h =
     let here : ErrorAt TooDeep (groups_of nest) (chars rest) = subst (λ (r : List ℕ). ErrorAt TooDeep (groups_of nest) r) (sym same) (opens_deep (groups_of nest) l after h) in
-    fault_here text rest file nest TooDeep at at is has.following.is_text has place here refl
-refused_lexeme text rest after file nest l Memory at is has place same whole h = leaves_here text rest file nest at is has.following.is_text has place (after, (lexeme_text l, (l, whole, refl), same))
-refused_lexeme text rest after file nest l _ at is has place same whole h = absurd h
+    error_found text rest file nest TooDeep at at is has.following.is_text has place here refl
+rejected_lexeme text rest after file nest l Memory at is has place same whole h = leaves_here text rest file nest at is has.following.is_text has place (after, (lexeme_text l, (l, whole, refl), same))
+rejected_lexeme text rest after file nest l _ at is has place same whole h = absurd h
 
-pub refused_token : {A : Type 0} (text : List ℕ) (from to : CursorState) (file : ℕ) (nest : TreeBuilder A) (l : Lent) (e : LexError) → IsUtf8 text → from.text ≡ text → HasCut text from.rest file nest → TakesNext from l to → e.at ≡ l.lo → RejectsForm (groups_of nest) (form_view l.form) e.kind → Rejects (chars text) e.kind e.at
-refused_token text from to file nest l e is same has next at_is h =
-    refused_lexeme text from.rest next.after file nest next.cut.lexeme e.kind e.at is has (omega (arith, next.place, ap length same, at_is)) next.begins next.is_lexeme
+pub rejected_token : {A : Type 0} (text : List ℕ) (from to : CursorState) (file : ℕ) (nest : TreeBuilder A) (l : Borrowed) (e : LexError) → IsUtf8 text → from.text ≡ text → HasCut text from.rest file nest → TakesNext from l to → e.at ≡ l.lo → RejectsForm (groups_of nest) (form_view l.form) e.kind → Rejects (chars text) e.kind e.at
+rejected_token text from to file nest l e is same has next at_is h =
+    rejected_lexeme text from.rest next.after file nest next.cut.lexeme e.kind e.at is has (omega (arith, next.place, ap length same, at_is)) next.begins next.is_lexeme
     (subst (λ (f : LexemeForm). RejectsForm (groups_of nest) f e.kind) (sym next.is_cut.form_is) h)
 
 -- the cursor stays where no token begins what is left, and tells the error
-pub fault_told : {A : Type 0} (text : List ℕ) (old new : CursorState) (file : ℕ) (nest : TreeBuilder A) (e : LexError) → old.text ≡ text → new ≡ old → HasCut text old.rest file nest → IsFirstError new e.kind e.at → Rejects (chars text) e.kind e.at
-fault_told text old new file nest e same stays has first =
+pub error_told : {A : Type 0} (text : List ℕ) (old new : CursorState) (file : ℕ) (nest : TreeBuilder A) (e : LexError) → old.text ≡ text → new ≡ old → HasCut text old.rest file nest → IsFirstError new e.kind e.at → Rejects (chars text) e.kind e.at
+error_told text old new file nest e same stays has first =
     let here : IsFirstError old e.kind e.at = subst (λ (t : CursorState). IsFirstError t e.kind e.at) stays first in
     let cuts : LexesUpTo 0 (chars old.text) has.cuts (chars old.rest) = subst (λ (t : List ℕ). LexesUpTo 0 (chars t) has.cuts (chars old.rest)) (sym same) has.are_cuts in
-    fault_refuses (chars text) e.kind e.at (subst (λ (t : List ℕ). Fault (chars t) e.kind e.at) same (here has.cuts (groups_of nest) cuts has.are_open))
+    error_rejects (chars text) e.kind e.at (subst (λ (t : List ℕ). HasFirstError (chars t) e.kind e.at) same (here has.cuts (groups_of nest) cuts has.are_open))
 
 -- where it tells none, the text has ended
 pub told_end : (old new : CursorState) → new ≡ old → BeginsNoLexeme (chars old.rest) → (new.rest ≡ []) ⊎ BeginsLexeme (chars new.rest) → old.rest ≡ []

@@ -5,7 +5,7 @@ use Rattle.rl_tokens.specs.Texts.{byte_len}
 use Rattle.rl_tokens.specs.Lexing.{OpenGroup, ErrorAt, error_place, OneList, OneError, NeverBoth}
 use Rattle.rl_tokens.proofs.FlatTrees.{flat_trees_same}
 use Rattle.rl_tokens.proofs.CutLaws.{same_cut}
-use Rattle.rl_tokens.proofs.FaultLaws.{nothing_stuck, fault_stuck, kind_at, fault_kind_at, no_fault}
+use Rattle.rl_tokens.proofs.ErrorLaws.{nothing_stuck, error_stuck, kind_at, error_kind_at, no_error}
 
 pub one_list : OneList
 one_list t file xs ys a b =
@@ -14,8 +14,8 @@ one_list t file xs ys a b =
 
 pub one_error : OneError
 one_error t k l m n a b =
-    let same = same_cut 0 t [] a.cuts b.cuts a.rest b.rest a.groups b.groups a.are_cuts a.are_open (fault_stuck k a.groups a.rest a.fault) b.are_cuts b.are_open (fault_stuck l b.groups b.rest b.fault) in
-    let kinds : k ≡ l = fault_kind_at k a.groups a.rest a.fault ∙ ap (λ r. kind_at (lexeme_at r) r) same.rest ∙ sym (fault_kind_at l b.groups b.rest b.fault) in
+    let same = same_cut 0 t [] a.cuts b.cuts a.rest b.rest a.groups b.groups a.are_cuts a.are_open (error_stuck k a.groups a.rest a.error) b.are_cuts b.are_open (error_stuck l b.groups b.rest b.error) in
+    let kinds : k ≡ l = error_kind_at k a.groups a.rest a.error ∙ ap (λ r. kind_at (lexeme_at r) r) same.rest ∙ sym (error_kind_at l b.groups b.rest b.error) in
     let places : a.rest_at ≡ b.rest_at = omega (arith, a.rest_place, b.rest_place, ap byte_len same.rest) in (
       kinds,
       a.at_is
@@ -27,5 +27,5 @@ one_error t k l m n a b =
 
 pub never_both : NeverBoth
 never_both t file trees k at a b =
-    let same = same_cut 0 t [] a.cuts b.cuts [] b.rest [] b.groups a.are_cuts a.none_open (nothing_stuck [] [] refl) b.are_cuts b.are_open (fault_stuck k b.groups b.rest b.fault) in
-    no_fault k (subst (λ (g : List OpenGroup). ErrorAt k g []) (sym same.groups) (subst (λ (r : List ℕ). ErrorAt k b.groups r) (sym same.rest) b.fault))
+    let same = same_cut 0 t [] a.cuts b.cuts [] b.rest [] b.groups a.are_cuts a.none_open (nothing_stuck [] [] refl) b.are_cuts b.are_open (error_stuck k b.groups b.rest b.error) in
+    no_error k (subst (λ (g : List OpenGroup). ErrorAt k g []) (sym same.groups) (subst (λ (r : List ℕ). ErrorAt k b.groups r) (sym same.rest) b.error))

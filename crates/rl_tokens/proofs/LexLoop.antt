@@ -11,14 +11,14 @@ use Rattle.rl_tokens.specs.Puncts.{is_punct}
 use Rattle.rl_tokens.specs.Lexemes.{Lexeme, QuotedLexeme, RawLexeme, CharacterLexeme, BasedLexeme, DecimalLexeme, IdentifierLexeme, DelimiterLexeme, MarkLexeme, lexeme_text, IsLexeme, LexemeForm, form_of, delimiters, is_start, is_continue}
 use Rattle.rl_tokens.specs.Cursors.{form_view, CursorState, TakesNext}
 use Rattle.rl_tokens.specs.declared.nest.TreeBuilder.{TreeBuilder}
-use Rattle.rl_tokens.specs.declared.cursor.Lexeme.{Lexeme as Lent}
+use Rattle.rl_tokens.specs.declared.cursor.Lexeme.{Lexeme as Borrowed}
 use Rattle.rl_tokens.specs.Lexing.{LexedToken, LexesUpTo, open_groups, after_form, flat_form, flat_token}
 use Rattle.rl_tokens.specs.Mirrors.TreeBuilders.{groups_of, flat_builder, IsFitting, TakesToken}
-use Rattle.rl_tokens.proofs.BehindLemmas.{behind_step}
+use Rattle.rl_tokens.proofs.TailLemmas.{tail_step}
 use Rattle.rl_tokens.proofs.LexemeRows.{both_true}
 use Rattle.rl_tokens.proofs.LexemeFronts.{low_among}
 use Rattle.rl_tokens.proofs.CutLemmas.{open_more}
-use Rattle.rl_tokens.proofs.CursorLemmas.{flat_lent}
+use Rattle.rl_tokens.proofs.CursorLemmas.{flat_borrowed}
 
 -- The text is cut up to the rest, and the nest holds what was cut.
 pub record HasCut {A : Type 0} (text rest : List ℕ) (file : ℕ) (nest : TreeBuilder A) : Type 0 where
@@ -53,7 +53,7 @@ fits (DelimiterLexeme c) after token lo hi is e f n =
 fits (MarkLexeme c) after token lo hi (inl is) e f n = ap (λ b. b || c == 47) is
 fits (MarkLexeme c) after token lo hi (inr (is, _)) e f n = ap is_punct is
 
-pub token_fits : {old new : CursorState} {l : Lent} → TakesNext old l new → IsFitting (form_view l.form) l.text.now l.lo l.hi
+pub token_fits : {old new : CursorState} {l : Borrowed} → TakesNext old l new → IsFitting (form_view l.form) l.text.now l.lo l.hi
 token_fits {l = l} t =
     let w = t.cut in
     let len : l.lo + length l.text.now ≡ l.hi = omega (arith, t.is_cut.lo_is, t.is_cut.hi_is, ap length t.is_cut.bytes_are) in
@@ -61,7 +61,7 @@ token_fits {l = l} t =
     (fits w.lexeme t.after l.text.now l.lo l.hi t.is_lexeme (sym t.is_cut.chars_are) t.is_cut.bytes_are len)
 
 -- one turn
-pub has_more : {A : Type 0} (text : List ℕ) (from to : CursorState) (file : ℕ) (old new : TreeBuilder A) (l : Lent) → from.text ≡ text → HasCut text from.rest file old → TakesNext from l to → TakesToken old new (form_view l.form) l.text.now l.lo l.hi → HasCut text to.rest file new
+pub has_more : {A : Type 0} (text : List ℕ) (from to : CursorState) (file : ℕ) (old new : TreeBuilder A) (l : Borrowed) → from.text ≡ text → HasCut text from.rest file old → TakesNext from l to → TakesToken old new (form_view l.form) l.text.now l.lo l.hi → HasCut text to.rest file new
 has_more text from to file old new l same has next takes =
     let w = next.cut in
     let Goes : List ℕ → Type 0 = λ t. (done : List LexedToken) → LexesUpTo 0 (chars t) done (chars from.rest) → LexesUpTo 0 (chars t) (done ++ w ∷ []) (chars to.rest) in
@@ -77,10 +77,10 @@ has_more text from to file old new l same has next takes =
       flat =
           map-append (flat_token file) has.cuts (w ∷ [])
           ∙ ap (λ z. z ++ flat_token file w ∷ []) has.flat
-          ∙ ap (λ z. flat_builder old ++ z ∷ []) (flat_lent file l w next.is_cut ∙ ap (λ n. flat_form (form_view l.form) l.text.now (record { file = n; lo = l.lo; hi = l.hi })) (sym has.file_is))
+          ∙ ap (λ z. flat_builder old ++ z ∷ []) (flat_borrowed file l w next.is_cut ∙ ap (λ n. flat_form (form_view l.form) l.text.now (record { file = n; lo = l.lo; hi = l.hi })) (sym has.file_is))
           ∙ sym takes.flat;
       file_is = takes.file ∙ has.file_is;
-      following = behind_step text from.rest to.rest has.following next.following;
+      following = tail_step text from.rest to.rest has.following next.following;
     }
 
 -- before the first turn

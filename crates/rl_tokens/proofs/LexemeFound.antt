@@ -333,8 +333,8 @@ none2 p q a b = ap (λ x. x || q) a ∙ b
 after_prefix : (c k : ℕ) (t : List ℕ) (p : LexemeForm × List ℕ) → slice_index t 0 ≡ k → 0 < k → Found (c ∷ k ∷ drop 1 t) p → Found (c ∷ t) p
 after_prefix c k t p e l found = subst (λ (s : List ℕ). Found (c ∷ s) p) (sym (prefixed k t e l)) found
 
-raw_behind : (c : ℕ) (prefix : LiteralPrefix) (t : List ℕ) (p : LexemeForm × List ℕ) → prefix_text prefix ≡ c ∷ [] → (slice_index t 0 == 114 && begins_hashed_quote (drop 1 t)) ≡ true → literal_at (raw_at (drop 1 t)) ≡ Some p → Found (c ∷ t) p
-raw_behind c prefix t p e h x =
+raw_tail : (c : ℕ) (prefix : LiteralPrefix) (t : List ℕ) (p : LexemeForm × List ℕ) → prefix_text prefix ≡ c ∷ [] → (slice_index t 0 == 114 && begins_hashed_quote (drop 1 t)) ≡ true → literal_at (raw_at (drop 1 t)) ≡ Some p → Found (c ∷ t) p
+raw_tail c prefix t p e h x =
     let k : ((slice_index t 0 == 114) ≡ true) × (begins_hashed_quote (drop 1 t) ≡ true) = both_true (slice_index t 0 == 114) (begins_hashed_quote (drop 1 t)) h in
     after_prefix c 114 t p (is_equal (slice_index t 0) 114 k.0) (omega arith)
     (subst (λ (s : List ℕ). Found (s ++ 114 ∷ drop 1 t) p) e
@@ -346,7 +346,7 @@ from_b t p is h =
       | inl (a, x) ↦ after_prefix 98 34 t p (is_equal (slice_index t 0) 34 a) (omega arith) (literal_from (98 ∷ 34 ∷ drop 1 t) (quoted_at (drop 1 t)) p x (λ r y. quoted_found BytePrefix (drop 1 t) r y))
       | inr (inl (_, a, x)) ↦ after_prefix 98 39 t p (is_equal (slice_index t 0) 39 a) (omega arith) (literal_from (98 ∷ 39 ∷ drop 1 t) (single_at (drop 1 t)) p x (λ r y. character_found true (drop 1 t) r y))
       | inr (inr (a, b, x)) ↦ elim (chosen (slice_index t 0 == 114 && begins_hashed_quote (drop 1 t)) (literal_at (raw_at (drop 1 t))) (word_at t) (Some p) x) [
-        | inl (d, y) ↦ raw_behind 98 BytePrefix t p refl d y
+        | inl (d, y) ↦ raw_tail 98 BytePrefix t p refl d y
         | inr (d, y) ↦ word_found 98 t p is (none2 (slice_index t 0 == 34 || (slice_index t 0 == 39 || (slice_index t 0 == 114 && begins_hashed_quote (drop 1 t)))) false (none3 (slice_index t 0 == 34) (slice_index t 0 == 39) (slice_index t 0 == 114 && begins_hashed_quote (drop 1 t)) a b d) refl) y
       ]
     ]
@@ -355,7 +355,7 @@ from_c : (t : List ℕ) (p : LexemeForm × List ℕ) → is_start 99 ≡ true �
 from_c t p is h =
     elim (chosen3 (slice_index t 0 == 34) (slice_index t 0 == 114 && begins_hashed_quote (drop 1 t)) (literal_at (quoted_at (drop 1 t))) (literal_at (raw_at (drop 1 t))) (word_at t) (Some p) h) [
       | inl (a, x) ↦ after_prefix 99 34 t p (is_equal (slice_index t 0) 34 a) (omega arith) (literal_from (99 ∷ 34 ∷ drop 1 t) (quoted_at (drop 1 t)) p x (λ r y. quoted_found CPrefix (drop 1 t) r y))
-      | inr (inl (_, d, y)) ↦ raw_behind 99 CPrefix t p refl d y
+      | inr (inl (_, d, y)) ↦ raw_tail 99 CPrefix t p refl d y
       | inr (inr (a, d, y)) ↦ word_found 99 t p is (none2 (slice_index t 0 == 34 || (slice_index t 0 == 114 && begins_hashed_quote (drop 1 t))) false (none2 (slice_index t 0 == 34) (slice_index t 0 == 114 && begins_hashed_quote (drop 1 t)) a d) refl) y
     ]
 

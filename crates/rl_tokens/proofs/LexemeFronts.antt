@@ -52,14 +52,14 @@ pub at_class : (c : ℕ) (t : List ℕ) (k : HeadClass) → head_class c ≡ k �
 at_class c t k h = ap (λ x. by_class x c t) h
 
 -- the classes of what is no delimiter, and of what is no punctuation either
-abbrev pub behind_punct : ℕ → HeadClass
-behind_punct c = cond (is_ascii_digit c) DigitHead (cond (c == 34) QuoteHead (cond (c == 39) ApostropheHead StrayHead))
+abbrev pub tail_punct : ℕ → HeadClass
+tail_punct c = cond (is_ascii_digit c) DigitHead (cond (c == 34) QuoteHead (cond (c == 39) ApostropheHead StrayHead))
 
-abbrev pub behind_slash : ℕ → HeadClass
-behind_slash c = cond (is_punct c) MarkHead (behind_punct c)
+abbrev pub tail_slash : ℕ → HeadClass
+tail_slash c = cond (is_punct c) MarkHead (tail_punct c)
 
 abbrev pub after_delimiter : ℕ → HeadClass
-after_delimiter c = cond (c == 47) SlashHead (behind_slash c)
+after_delimiter c = cond (c == 47) SlashHead (tail_slash c)
 
 -- what is none of these
 pub stray_class : (c : ℕ) → is_start c ≡ false → is_among delimiters c ≡ false → (c == 47) ≡ false → is_among marks c ≡ false → is_ascii_digit c ≡ false → (c == 34) ≡ false → (c == 39) ≡ false → head_class c ≡ StrayHead
@@ -121,8 +121,8 @@ front_mark c t (inl is) =
     at_class c t MarkHead
     (class_other c (not_start_among marks c refl refl is)
     ∙ ap (λ b. cond b DelimiterHead (after_delimiter c)) (not_delimiter marks c refl is)
-    ∙ ap (λ b. cond b SlashHead (behind_slash c)) (not_among c 47 (is_among marks) is refl)
-    ∙ ap (λ b. cond (b || c == 47) MarkHead (behind_punct c)) is)
+    ∙ ap (λ b. cond b SlashHead (tail_slash c)) (not_among c 47 (is_among marks) is refl)
+    ∙ ap (λ b. cond (b || c == 47) MarkHead (tail_punct c)) is)
 front_mark c t (inr (e, h)) = ap (λ x. lexeme_at (x ∷ t)) e ∙ front_slash t h ∙ ap (λ x. Some (MarkForm x, t)) (sym e)
 
 -- Raw.
@@ -179,9 +179,9 @@ pub class_digit : (d : ℕ) → is_ascii_digit d ≡ true → head_class d ≡ D
 class_digit d is =
     class_other d (digit_not_start d is)
     ∙ ap (λ b. cond b DelimiterHead (after_delimiter d)) (not_digit_among delimiters d refl is)
-    ∙ ap (λ b. cond b SlashHead (behind_slash d)) (not_among d 47 is_ascii_digit is refl)
-    ∙ ap (λ b. cond (b || d == 47) MarkHead (behind_punct d)) (not_digit_among marks d refl is)
-    ∙ ap (λ b. cond b MarkHead (behind_punct d)) (not_among d 47 is_ascii_digit is refl)
+    ∙ ap (λ b. cond b SlashHead (tail_slash d)) (not_among d 47 is_ascii_digit is refl)
+    ∙ ap (λ b. cond (b || d == 47) MarkHead (tail_punct d)) (not_digit_among marks d refl is)
+    ∙ ap (λ b. cond b MarkHead (tail_punct d)) (not_among d 47 is_ascii_digit is refl)
     ∙ ap (λ b. cond b DigitHead (cond (d == 34) QuoteHead (cond (d == 39) ApostropheHead StrayHead))) is
 
 pub decimal_text : (more f e x t : List ℕ) → (more ++ (f ++ (e ++ x))) ++ t ≡ more ++ (f ++ (e ++ (x ++ t)))

@@ -180,19 +180,19 @@ otherwise_here t (inr (inl h)) = ap begins_otherwise h.text_is ∙ raw_otherwise
 otherwise_here t (inr (inr h)) = let (d, u, same, is) = raw_split t h in ap begins_otherwise same ∙ or_right _ _ is
 
 -- what stands after each prefix
-abbrev behind_b : List ℕ → Bool
-behind_b t = slice_index t 0 == 34 || (slice_index t 0 == 39 || (slice_index t 0 == 114 && begins_hashed_quote (drop 1 t)))
+abbrev tail_b : List ℕ → Bool
+tail_b t = slice_index t 0 == 34 || (slice_index t 0 == 39 || (slice_index t 0 == 114 && begins_hashed_quote (drop 1 t)))
 
-abbrev behind_c : List ℕ → Bool
-behind_c t = slice_index t 0 == 34 || (slice_index t 0 == 114 && begins_hashed_quote (drop 1 t))
+abbrev tail_c : List ℕ → Bool
+tail_c t = slice_index t 0 == 34 || (slice_index t 0 == 114 && begins_hashed_quote (drop 1 t))
 
-abbrev behind_r : List ℕ → Bool
-behind_r t = begins_hashed_quote t || (slice_index t 0 == 35 && first_passes is_start (drop 1 t))
+abbrev tail_r : List ℕ → Bool
+tail_r t = begins_hashed_quote t || (slice_index t 0 == 35 && first_passes is_start (drop 1 t))
 
 then_is : (c k l : ℕ) (t : List ℕ) → (c == k) ≡ true → (slice_index t 0 == l) ≡ true → 0 < l → c ∷ t ≡ k ∷ l ∷ drop 1 t
 then_is c k l t a b low = ap (λ x. x ∷ t) (is_equal c k a) ∙ ap (λ x. k ∷ x) (prefixed l t b low)
 
-otherwise_b : (c : ℕ) (t : List ℕ) → (c == 98) ≡ true → behind_b t ≡ true → BeginsOtherwise (c ∷ t)
+otherwise_b : (c : ℕ) (t : List ℕ) → (c == 98) ≡ true → tail_b t ≡ true → BeginsOtherwise (c ∷ t)
 otherwise_b c t c_is h =
     elim (or_cases (slice_index t 0 == 34) (slice_index t 0 == 39 || (slice_index t 0 == 114 && begins_hashed_quote (drop 1 t))) h) [
       | inl a ↦ inl (ap begins_prefixed_quote (then_is c 98 34 t c_is a (omega arith)))
@@ -204,7 +204,7 @@ otherwise_b c t c_is h =
       ]
     ]
 
-otherwise_c : (c : ℕ) (t : List ℕ) → (c == 99) ≡ true → behind_c t ≡ true → BeginsOtherwise (c ∷ t)
+otherwise_c : (c : ℕ) (t : List ℕ) → (c == 99) ≡ true → tail_c t ≡ true → BeginsOtherwise (c ∷ t)
 otherwise_c c t c_is h =
     elim (or_cases (slice_index t 0 == 34) (slice_index t 0 == 114 && begins_hashed_quote (drop 1 t)) h) [
       | inl a ↦ inl (ap begins_prefixed_quote (then_is c 99 34 t c_is a (omega arith)))
@@ -213,7 +213,7 @@ otherwise_c c t c_is h =
           inr (inl (raw_by CPrefix (c ∷ t) (drop 1 t) (then_is c 99 114 t c_is k.0 (omega arith)) k.1))
     ]
 
-otherwise_r : (c : ℕ) (t : List ℕ) → (c == 114) ≡ true → behind_r t ≡ true → BeginsOtherwise (c ∷ t)
+otherwise_r : (c : ℕ) (t : List ℕ) → (c == 114) ≡ true → tail_r t ≡ true → BeginsOtherwise (c ∷ t)
 otherwise_r c t c_is h =
     elim (or_cases (begins_hashed_quote t) (slice_index t 0 == 35 && first_passes is_start (drop 1 t)) h) [
       | inl a ↦ inr (inl (raw_by NoPrefix (c ∷ t) t (ap (λ x. x ∷ t) (is_equal c 114 c_is)) a))
@@ -225,11 +225,11 @@ otherwise_r c t c_is h =
 otherwise_begins : (t : List ℕ) → begins_otherwise t ≡ true → BeginsOtherwise t
 otherwise_begins [] h = absurd (cc)
 otherwise_begins (c ∷ t) h =
-    elim (or_cases (c == 98 && behind_b t) ((c == 99 && behind_c t) || (c == 114 && behind_r t)) h) [
-      | inl a ↦ let k = both_true (c == 98) (behind_b t) a in otherwise_b c t k.0 k.1
-      | inr a ↦ elim (or_cases (c == 99 && behind_c t) (c == 114 && behind_r t) a) [
-        | inl b ↦ let k = both_true (c == 99) (behind_c t) b in otherwise_c c t k.0 k.1
-        | inr b ↦ let k = both_true (c == 114) (behind_r t) b in otherwise_r c t k.0 k.1
+    elim (or_cases (c == 98 && tail_b t) ((c == 99 && tail_c t) || (c == 114 && tail_r t)) h) [
+      | inl a ↦ let k = both_true (c == 98) (tail_b t) a in otherwise_b c t k.0 k.1
+      | inr a ↦ elim (or_cases (c == 99 && tail_c t) (c == 114 && tail_r t) a) [
+        | inl b ↦ let k = both_true (c == 99) (tail_c t) b in otherwise_c c t k.0 k.1
+        | inr b ↦ let k = both_true (c == 114) (tail_r t) b in otherwise_r c t k.0 k.1
       ]
     ]
 

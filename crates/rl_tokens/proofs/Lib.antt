@@ -1,4 +1,4 @@
-pub mod BehindLemmas
+pub mod TailLemmas
 pub mod Rests
 pub mod Comments
 pub mod CommentBytes
@@ -37,13 +37,13 @@ pub mod SourceFronts
 pub mod SourceCuts
 pub mod SourceLaws
 pub mod LineLemmas
-pub mod Faults
+pub mod ErrorKinds
 pub mod LexLoop
 pub mod LexEnds
 pub mod FlatTrees
 pub mod CutTrees
 pub mod CutLaws
-pub mod FaultLaws
+pub mod ErrorLaws
 pub mod LexLaws
 pub mod StrictReturns
 pub mod TruthLemmas

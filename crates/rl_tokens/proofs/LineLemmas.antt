@@ -4,7 +4,7 @@ use Rattle.std.specs.Str.{chars, IsUtf8}
 use Rattle.rl_tokens.specs.Texts.{IsTail}
 use Rattle.rl_tokens.specs.Lines.{next_place, place_after, first_place, IsPlaceOf}
 use Rattle.rl_tokens.specs.declared.lines.LineColumn.{LineColumn}
-use Rattle.rl_tokens.proofs.BehindLemmas.{behind_step, cut_chars, cut_join}
+use Rattle.rl_tokens.proofs.TailLemmas.{tail_step, cut_chars, cut_join}
 
 place_after-append : (p : LineColumn) (xs ys : List ℕ) → place_after p (xs ++ ys) ≡ place_after (place_after p xs) ys
 place_after-append p [] ys = refl
@@ -18,7 +18,7 @@ place_of_rest text rest after passed at new is in_rest utf8 passed_is new_is lin
     let same : chars rest ≡ chars passed ++ chars after = cut_chars rest passed after utf8 in_rest taken in
     let long : length passed + length after ≡ length rest = omega (arith, ap length (cut_join rest after in_rest ∙ ap (λ z. z ++ after) (sym taken)), length-append passed after) in
     record {
-      cursor = record { is_text = is.cursor.is_text; following = behind_step text rest after is.cursor.following in_rest };
+      cursor = record { is_text = is.cursor.is_text; following = tail_step text rest after is.cursor.following in_rest };
       place = record {
         front = before.front ++ chars passed;
         text_is = before.text_is ∙ ap (λ z. before.front ++ z) same ∙ sym (append_assoc before.front (chars passed) (chars after));

@@ -9,11 +9,11 @@ use Rattle.rl_tokens.specs.Cursors.{CursorState, IsCursorState}
 use Rattle.rl_tokens.specs.Sources.{CutSource, SourceKind, kind_of, source_text, source_view, SourceBefore, SourcesUpTo, source_end, IsCutUpTo, TakesSource, IsLiteralText, IsNoLiteral, PassesTo}
 use Rattle.rl_tokens.specs.Mirrors.LiteralsAt.{HoldsNoLiteral}
 use Rattle.rl_tokens.specs.declared.sources.SourceToken.{SourceToken}
-use Rattle.rl_tokens.proofs.BehindLemmas.{behind_step}
+use Rattle.rl_tokens.proofs.TailLemmas.{tail_step}
 use Rattle.rl_tokens.proofs.CutLemmas.{byte_len-append}
-use Rattle.rl_tokens.proofs.Faults.{char_len}
+use Rattle.rl_tokens.proofs.ErrorKinds.{char_len}
 use Rattle.rl_tokens.proofs.Pieces.{after_piece-past, one_rest, skipped_after, skipped_again, skipped_here}
-use Rattle.rl_tokens.proofs.Rests.{behind_length}
+use Rattle.rl_tokens.proofs.Rests.{tail_length}
 use Rattle.rl_tokens.proofs.SourceCuts.{cut_more}
 
 all_join : (vs ws : List CutSource) → AllByRecursion IsNoLiteral vs → AllByRecursion IsNoLiteral ws → AllByRecursion IsNoLiteral (vs ++ ws)
@@ -96,7 +96,7 @@ pub passes_held : (text left rest : List ℕ) → IsCursorState text left → Is
 passes_held text left rest is tail holds = record {
   cuts = holds.cuts (chars text);
   others = holds.others (chars text);
-  goes_on = λ done cut. holds.goes_on (chars text) done (omega (arith, char_len text is.is_text, char_len left is.following.is_text, behind_length text left is.following)) cut;
+  goes_on = λ done cut. holds.goes_on (chars text) done (omega (arith, char_len text is.is_text, char_len left is.following.is_text, tail_length text left is.following)) cut;
   same = refl;
   following = tail;
 }
@@ -110,7 +110,7 @@ passes_join a b d p q = record {
       let more = subst (λ z. IsCutUpTo (chars z) ((done ++ p.cuts) ++ q.cuts) (chars d.rest)) p.same (q.goes_on (done ++ p.cuts) before) in
       subst (λ z. IsCutUpTo (chars a.text) z (chars d.rest)) (append_assoc done p.cuts q.cuts) more;
   same = q.same ∙ p.same;
-  following = behind_step a.rest b.rest d.rest p.following q.following;
+  following = tail_step a.rest b.rest d.rest p.following q.following;
 }
 
 -- nothing was passed yet, or these tokens

@@ -1,5 +1,5 @@
 -- The groups that are open, and what was read with them, as trees and groups come and go.
-use Rattle.std.proofs.Common.{◌≡◌, ◌≢◌, ℕ, suc, ◌+◌, ◌-◌, ◌<◌, true, false, ◌==◌, List, [], ◌∷◌, ◌++◌, length, map, reverse, Some, refl, sym, ◌∙◌, ap, arith, append_assoc}
+use Rattle.std.proofs.Common.{◌≡◌, ◌≢◌, ℕ, suc, ◌+◌, ◌-◌, ◌<◌, true, false, List, [], ◌∷◌, ◌++◌, length, map, reverse, Some, refl, sym, ◌∙◌, ap, arith, append_assoc}
 use Rattle.std.proofs.lemmas.List.{map-append, reverse-append, length-reverse}
 use Rattle.rl_tokens.specs.declared.span.Span.{Span}
 use Rattle.rl_tokens.specs.declared.nest.GroupBuilder.{GroupBuilder}
@@ -11,7 +11,7 @@ use Rattle.rl_tokens.specs.declared.token.Delimiter.{Delimiter}
 use Rattle.rl_tokens.specs.declared.token.Delimiter.TheVariants.{Parenthesis, Brace, Bracket}
 use Rattle.rl_tokens.specs.declared.lex_error.LexKind.TheVariants.{UnclosedGroup}
 use Rattle.rl_tokens.specs.Trees.{Tree, FlatToken, Opening, Closing, FlatPunct, FlatLiteral, FlatIdent, opener_span, closer_span, trees_of, delimiter_of, stream_of, group_span, tree_view, stream_view, flat, flat_trees}
-use Rattle.rl_tokens.specs.Lexing.{closer_for, closes, popped, innermost, after_form, flat_form}
+use Rattle.rl_tokens.specs.Lexing.{is_pair, closes, popped, innermost, after_form, flat_form}
 use Rattle.rl_tokens.specs.Mirrors.TreeBuilders.{opener_of, closer_of, group_of, groups_of, flat_open, flat_builder, TakesToken, TakesTree, OpensGroup, ClosesGroup, EndsInGroup}
 use Rattle.rl_tokens.specs.Puncts.{Mark}
 use Rattle.rl_tokens.specs.Texts.{SpannedText}
@@ -22,9 +22,9 @@ pub flat_trees-append : (xs ys : List Tree) → flat_trees (xs ++ ys) ≡ flat_t
 flat_trees-append [] ys = refl
 flat_trees-append (x ∷ xs) ys = ap (λ z. flat x ++ z) (flat_trees-append xs ys) ∙ sym (append_assoc (flat x) (flat_trees xs) (flat_trees ys))
 
-nil_behind : {X : Type 0} (xs : List X) → xs ++ [] ≡ xs
-nil_behind [] = refl
-nil_behind (x ∷ xs) = ap (λ t. x ∷ t) (nil_behind xs)
+nil_tail : {X : Type 0} (xs : List X) → xs ++ [] ≡ xs
+nil_tail [] = refl
+nil_tail (x ∷ xs) = ap (λ t. x ∷ t) (nil_tail xs)
 
 -- a token by the bytes and the span that it was made of
 pub spanned : (l : SpannedText) (bytes text : List ℕ) (s at : Span) → l ≡ record { text = bytes; span = s } → bytes ≡ text → s ≡ at → l ≡ record { text = text; span = at }
@@ -41,7 +41,7 @@ takes_tree old new tree o f t = record {
       ap (λ ts. flat_trees (map tree_view ts)) t
       ∙ ap flat_trees (map-append tree_view (trees_of old.trees) (tree ∷ []))
       ∙ flat_trees-append (stream_view old.trees) (tree_view tree ∷ [])
-      ∙ ap (λ z. flat_trees (stream_view old.trees) ++ z) (nil_behind (flat (tree_view tree)));
+      ∙ ap (λ z. flat_trees (stream_view old.trees) ++ z) (nil_tail (flat (tree_view tree)));
 }
 
 pub groups-push : {A : Type 0} (xs : List (GroupBuilder A)) (o : GroupBuilder A) → reverse (map group_of (xs ++ o ∷ [])) ≡ group_of o ∷ reverse (map group_of xs)
@@ -75,7 +75,7 @@ opens_group old new o pushed before empty file shallow =
           ap (λ f. flat_open f new.opened.items ++ flat_trees (stream_view new.trees)) file
           ∙ ap (λ os. flat_open old.file os ++ flat_trees (stream_view new.trees)) pushed
           ∙ ap (λ ts. flat_open old.file (xs ++ o ∷ []) ++ flat_trees (map tree_view ts)) empty
-          ∙ nil_behind (flat_open old.file (xs ++ o ∷ []))
+          ∙ nil_tail (flat_open old.file (xs ++ o ∷ []))
           ∙ flat_open-push old.file xs o
           ∙ ap (λ s. flat_open old.file xs ++ (flat_trees (stream_view s) ++ opening)) before
           ∙ sym (append_assoc (flat_open old.file xs) (flat_trees (stream_view old.trees)) opening);
@@ -94,12 +94,12 @@ flat_closed g d file at lo hi inside d_is span_is inside_is one =
     ∙ ap (λ x. Opening d (record { file = file; lo = at; hi = at + 1 }) ∷ (x ++ (Closing d (record { file = file; lo = hi - 1; hi = hi }) ∷ []))) inside_is
     ∙ ap (λ n. Opening d (record { file = file; lo = at; hi = at + 1 }) ∷ (inside ++ (Closing d (record { file = file; lo = n; hi = hi }) ∷ []))) low
 
-same_closer : (d : Delimiter) → (closer_for (opener_of d) == closer_of d) ≡ true
+same_closer : (d : Delimiter) → is_pair (opener_of d) (closer_of d) ≡ true
 same_closer Parenthesis = refl
 same_closer Brace = refl
 same_closer Bracket = refl
 
-other_closer : (d e : Delimiter) → d ≢ e → (closer_for (opener_of d) == closer_of e) ≡ false
+other_closer : (d e : Delimiter) → d ≢ e → is_pair (opener_of d) (closer_of e) ≡ false
 other_closer Parenthesis Parenthesis h = absurd (h refl)
 other_closer Parenthesis Brace h = refl
 other_closer Parenthesis Bracket h = refl
@@ -132,7 +132,7 @@ closes_group old between new o g d lo hi popped_is before file d_is g_delimiter 
     ∙ ap (λ s. (front ++ (flat_trees (stream_view s) ++ (Opening o.delimiter (record { file = old.file; lo = o.at; hi = o.at + 1 }) ∷ []))) ++ inside) before
     ∙ ap (λ x. (front ++ (flat_trees (stream_view between.trees) ++ (Opening x (record { file = old.file; lo = o.at; hi = o.at + 1 }) ∷ []))) ++ inside) d_is in
     record {
-      closes_it = ap (λ gs. closes gs (closer_of d)) groups_are ∙ ap (λ x. closer_for (opener_of x) == closer_of d) d_is ∙ same_closer d;
+      closes_it = ap (λ gs. closes gs (closer_of d)) groups_are ∙ ap (λ x. is_pair (opener_of x) (closer_of d)) d_is ∙ same_closer d;
       groups = ap (λ os. reverse (map group_of os.items)) takes.opened_same ∙ sym (ap popped groups_are);
       file_same = new_file;
       flat = new_flat ∙ regroup_closed front (flat_trees (stream_view between.trees)) inside opening closing ∙ ap (λ z. z ++ (closing ∷ [])) (sym old_flat);

@@ -170,9 +170,9 @@ nil-append : (a r : List ℕ) → [] ≡ a ++ r → r ≡ []
 nil-append [] r h = sym h
 nil-append (x ∷ a) r h = absurd (cc)
 
-nothing_behind : (r : List ℕ) → Skipped [] r → r ≡ []
-nothing_behind r (inl s) = nil-append s.front r s.text
-nothing_behind r (inr s) = s.nothing
+nothing_tail : (r : List ℕ) → Skipped [] r → r ≡ []
+nothing_tail r (inl s) = nil-append s.front r s.text
+nothing_tail r (inr s) = s.nothing
 
 trivia_more : (p : TriviaPiece) (front : List ℕ) → IsTriviaPiece p → IsTrivia front → IsTrivia (trivia_piece_text p ++ front)
 trivia_more p front is more = record { pieces = p ∷ more.pieces; each = (is, more.each); text = ap (λ x. trivia_piece_text p ++ x) more.text }
@@ -189,7 +189,7 @@ skipped_more p t m r is same (inr s) = inr (record { front = trivia_piece_text p
 
 skipped_by : (t m r : List ℕ) → TakesOff t m → Skipped m r → Skipped t r
 skipped_by t m r (inl (p, is, same)) s = skipped_more p t m r is same s
-skipped_by t m r (inr (line, nothing)) s = inr (record { front = []; line = t; is_trivia = no_trivia; is_line = line; text = refl; nothing = nothing_behind r (subst (λ (x : List ℕ). Skipped x r) nothing s) })
+skipped_by t m r (inr (line, nothing)) s = inr (record { front = []; line = t; is_trivia = no_trivia; is_line = line; text = refl; nothing = nothing_tail r (subst (λ (x : List ℕ). Skipped x r) nothing s) })
 
 pub skipped_after : (t m r : List ℕ) → after_piece t ≡ Some m → Skipped m r → Skipped t r
 skipped_after t m r h s = skipped_by t m r (after_piece-sound t m h) s

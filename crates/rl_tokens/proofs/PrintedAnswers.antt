@@ -7,28 +7,28 @@ use Rattle.rl_tokens.specs.declared.lex_error.LexKind.{LexKind}
 use Rattle.rl_tokens.specs.declared.lex_error.LexKind.TheVariants.{DocComment, UnclosedComment, UnclosedQuote, Lifetime, RawIdentifier, StrayCharacter, UnmatchedClose, UnclosedGroup, TooDeep, Memory}
 use Rattle.rl_tokens.specs.declared.lex_error.LexError.{LexError}
 use Rattle.rl_tokens.specs.Trees.{Tree, stream_view}
-use Rattle.rl_tokens.specs.Lexing.{Lexes, Fault, Rejects}
+use Rattle.rl_tokens.specs.Lexing.{Lexes, HasFirstError, Rejects}
 use Rattle.rl_tokens.specs.Printed.{Entry, Printed}
 use Rattle.rl_tokens.specs.PrintedTrees.{Reprinted, printed_trees}
 use Rattle.rl_tokens.proofs.LexLaws.{one_list, never_both}
 use Rattle.rl_tokens.proofs.PrintedLaws.{printed_lexes, reprinted_lexes}
 
 -- an error of a text with no error is an allocation failure
-refuses_memory : (t : List ℕ) (kind : LexKind) (at : ℕ) → (Fault t kind at → ⊥) → Rejects t kind at → kind ≡ Memory
-refuses_memory t Memory at none h = refl
-refuses_memory t DocComment at none h = absurd (none h)
-refuses_memory t UnclosedComment at none h = absurd (none h)
-refuses_memory t UnclosedQuote at none h = absurd (none h)
-refuses_memory t Lifetime at none h = absurd (none h)
-refuses_memory t RawIdentifier at none h = absurd (none h)
-refuses_memory t StrayCharacter at none h = absurd (none h)
-refuses_memory t UnmatchedClose at none h = absurd (none h)
-refuses_memory t UnclosedGroup at none h = absurd (none h)
-refuses_memory t TooDeep at none h = absurd (none h)
+rejects_memory : (t : List ℕ) (kind : LexKind) (at : ℕ) → (HasFirstError t kind at → ⊥) → Rejects t kind at → kind ≡ Memory
+rejects_memory t Memory at none h = refl
+rejects_memory t DocComment at none h = absurd (none h)
+rejects_memory t UnclosedComment at none h = absurd (none h)
+rejects_memory t UnclosedQuote at none h = absurd (none h)
+rejects_memory t Lifetime at none h = absurd (none h)
+rejects_memory t RawIdentifier at none h = absurd (none h)
+rejects_memory t StrayCharacter at none h = absurd (none h)
+rejects_memory t UnmatchedClose at none h = absurd (none h)
+rejects_memory t UnclosedGroup at none h = absurd (none h)
+rejects_memory t TooDeep at none h = absurd (none h)
 
 -- where the text lexes, each error is an allocation failure
 only_memory : (t : List ℕ) (file : ℕ) (trees : List Tree) (e : LexError) → Lexes t file trees → Rejects t e.kind e.at → e.kind ≡ Memory
-only_memory t file trees e lexes rejected = refuses_memory t e.kind e.at (λ f. never_both t file trees e.kind e.at lexes f) rejected
+only_memory t file trees e lexes rejected = rejects_memory t e.kind e.at (λ f. never_both t file trees e.kind e.at lexes f) rejected
 
 -- These trees, or an allocation failure.
 abbrev pub Answers : {A : Type 0} → Result (TokenStream A) LexError → List Tree → Type 0

@@ -106,8 +106,8 @@ module _ (q : ℕ → Bool) (high : PassesHigh q) where
       let n = prefix_len q bs in
       ap chars (sym (take-append-drop n bs)) ∙ chars-append (take n bs) (drop n bs) (IsUtf8-take bs n u (run_boundary bs))
 
-  pub run_behind : (bs : List ℕ) → IsUtf8 bs → IsTail bs (drop (prefix_len q bs) bs)
-  run_behind bs u = record { front = take (prefix_len q bs) bs; text_is = sym (take-append-drop (prefix_len q bs) bs); is_text = IsUtf8-drop bs (prefix_len q bs) u (run_boundary bs) }
+  pub run_tail : (bs : List ℕ) → IsUtf8 bs → IsTail bs (drop (prefix_len q bs) bs)
+  run_tail bs u = record { front = take (prefix_len q bs) bs; text_is = sym (take-append-drop (prefix_len q bs) bs); is_text = IsUtf8-drop bs (prefix_len q bs) u (run_boundary bs) }
 
 -- ---- a character of ASCII at the front
 

@@ -75,16 +75,16 @@ assoc3 : (f e x t : List ℕ) → (f ++ (e ++ x)) ++ t ≡ f ++ (e ++ (x ++ t))
 assoc3 f e x t = simp append_assoc
 
 -- a test that fails at a joined text fails where an end follows
-fails_behind2 : (test : ℕ → Bool) (e x after : List ℕ) → Clear test → EndsLiteral after → first_passes test (e ++ x) ≡ false → first_passes test (e ++ (x ++ after)) ≡ false
-fails_behind2 test e x after clear ends h = ap (first_passes test) (sym (append_assoc e x after)) ∙ front_fails test (e ++ x) after clear ends h
+fails_tail2 : (test : ℕ → Bool) (e x after : List ℕ) → Clear test → EndsLiteral after → first_passes test (e ++ x) ≡ false → first_passes test (e ++ (x ++ after)) ≡ false
+fails_tail2 test e x after clear ends h = ap (first_passes test) (sym (append_assoc e x after)) ∙ front_fails test (e ++ x) after clear ends h
 
-fails_behind3 : (test : ℕ → Bool) (f e x after : List ℕ) → Clear test → EndsLiteral after → first_passes test (f ++ (e ++ x)) ≡ false → first_passes test (f ++ (e ++ (x ++ after))) ≡ false
-fails_behind3 test f e x after clear ends h = ap (first_passes test) (sym (assoc3 f e x after)) ∙ front_fails test (f ++ (e ++ x)) after clear ends h
+fails_tail3 : (test : ℕ → Bool) (f e x after : List ℕ) → Clear test → EndsLiteral after → first_passes test (f ++ (e ++ x)) ≡ false → first_passes test (f ++ (e ++ (x ++ after))) ≡ false
+fails_tail3 test f e x after clear ends h = ap (first_passes test) (sym (assoc3 f e x after)) ∙ front_fails test (f ++ (e ++ x)) after clear ends h
 
 fraction_lexed : (f : LexedFraction) (e x after : List ℕ) → EndsLiteral after → FractionFacts f (e ++ x) → IsLexedFraction f (e ++ (x ++ after))
-fraction_lexed NoLexedFraction e x after ends h = no_dot (e ++ (x ++ after)) (fails_behind2 (λ c. c == 46) e x after (clear_code 46 refl refl) ends h)
+fraction_lexed NoLexedFraction e x after ends h = no_dot (e ++ (x ++ after)) (fails_tail2 (λ c. c == 46) e x after (clear_code 46 refl refl) ends h)
 fraction_lexed (LexedDot digits) e x after ends (begins, each, row_ends) =
-    (ap not (fails_behind3 is_dot_or_start digits e x after clear_dot ends begins), record { each = each; ends = fails_behind2 (is_row_part is_ascii_digit) e x after clear_part ends row_ends })
+    (ap not (fails_tail3 is_dot_or_start digits e x after clear_dot ends begins), record { each = each; ends = fails_tail2 (is_row_part is_ascii_digit) e x after clear_part ends row_ends })
 
 exponent_lexed : (e : LexedExponent) (x after : List ℕ) → EndsLiteral after → ExponentFacts e x → IsLexedExponent e (x ++ after)
 exponent_lexed NoLexedExponent x after ends h =
@@ -104,7 +104,7 @@ decimal_lexed t s =
         s.is_digit,
         ap (λ z. s.digit == 48 && first_passes is_base_letter z) (sym (decimal_text s.more f e s.suffix after))
             ∙ and_more (s.digit == 48) (first_passes is_base_letter u) (first_passes is_base_letter (u ++ after)) (front_fails is_base_letter u after clear_base ends) (not_based s.digit u decimal),
-        record { each = s.each; ends = fails_behind3 (is_row_part is_ascii_digit) f e s.suffix after clear_part ends s.row_ends },
+        record { each = s.each; ends = fails_tail3 (is_row_part is_ascii_digit) f e s.suffix after clear_part ends s.row_ends },
         fraction_lexed s.fraction e s.suffix after ends s.is_fraction,
         exponent_lexed s.exponent s.suffix after ends s.is_exponent,
         strict_suffix_lexed s.suffix after s.is_suffix ends,

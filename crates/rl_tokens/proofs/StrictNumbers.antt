@@ -138,9 +138,9 @@ pub no_sign : (t x : List ℕ) (s : Sign) (m : ℕ) → first_passes is_ascii_di
 no_sign t x NoSign m h r = (r, refl)
 no_sign t x Minus m h r = absurd (let e = ap (first_passes is_ascii_digit) (sym r.text_is) ∙ h in (cc))
 
-pub behind_minus : (t x : List ℕ) (s : Sign) (m : ℕ) → IntReads (45 ∷ t) s m x → IntReads t NoSign m x × (s ≡ Minus)
-behind_minus t x NoSign m r = absurd (let e = ap (first_passes is_ascii_digit) r.text_is ∙ digit_front r.base r.digits x r.front in (cc))
-behind_minus t x Minus m r = (
+pub without_minus : (t x : List ℕ) (s : Sign) (m : ℕ) → IntReads (45 ∷ t) s m x → IntReads t NoSign m x × (s ≡ Minus)
+without_minus t x NoSign m r = absurd (let e = ap (first_passes is_ascii_digit) r.text_is ∙ digit_front r.base r.digits x r.front in (cc))
+without_minus t x Minus m r = (
   record {
     base = r.base;
     digits = r.digits;
@@ -426,7 +426,7 @@ signed_float sign t x v f =
   where
     none_signed : (sign : Sign) (t : List ℕ) → HasNoInteger t → HasNoInteger (sign_text sign ++ t)
     none_signed NoSign t h = h
-    none_signed Minus t h = λ s m y r. h NoSign m y (behind_minus t y s m r).0
+    none_signed Minus t h = λ s m y r. h NoSign m y (without_minus t y s m r).0
 
 -- ---- the laws
 

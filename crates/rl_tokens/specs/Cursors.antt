@@ -3,7 +3,7 @@ use Rattle.std.specs.Prelude.{◌≡◌, ℕ, ◌+◌, List, [], ◌∷◌, ◌+
 use Rattle.std.specs.Str.{chars, IsUtf8}
 use Rattle.rl_tokens.specs.Texts.{IsTail}
 use Rattle.rl_tokens.specs.Lexemes.{lexeme_text, IsLexeme, form_of, LexemeForm, LiteralForm, IdentifierForm, DelimiterForm, MarkForm}
-use Rattle.rl_tokens.specs.Lexing.{LexedToken, end_of, LexesUpTo, OpenGroup, open_groups, Fault, BeginsNoLexeme}
+use Rattle.rl_tokens.specs.Lexing.{LexedToken, end_of, LexesUpTo, OpenGroup, open_groups, HasFirstError, BeginsNoLexeme}
 use Rattle.rl_tokens.specs.declared.cursor.Lexeme.{Lexeme}
 use Rattle.rl_tokens.specs.declared.lex_error.LexKind.{LexKind}
 use Rattle.rl_tokens.specs.declared.lexeme.Form.{Form as FoundForm}
@@ -52,7 +52,7 @@ abbrev pub IsFirstError : CursorState → LexKind → ℕ → Type 0
 IsFirstError t kind at =
     (cuts : List LexedToken) (groups : List OpenGroup)
     → LexesUpTo 0 (chars t.text) cuts (chars t.rest) → open_groups [] cuts ≡ Some groups
-    → Fault (chars t.text) kind at
+    → HasFirstError (chars t.text) kind at
 
 -- What the cursor gives: the next token, or nothing where none begins what is left, and then it
 -- stays.

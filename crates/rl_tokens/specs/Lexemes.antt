@@ -219,12 +219,12 @@ IsLexeme (CharacterLexeme is_byte inside suffix) after =
 IsLexeme (BasedLexeme letter digits) after =
     IsTrue (is_base_letter letter) × IsRow is_continue digits after
 IsLexeme (DecimalLexeme d more fraction exponent suffix) after =
-    let behind_fraction = lexed_exponent_text exponent ++ (suffix ++ after) in
-    let behind_digits = lexed_fraction_text fraction ++ behind_fraction in
+    let after_fraction = lexed_exponent_text exponent ++ (suffix ++ after) in
+    let after_digits = lexed_fraction_text fraction ++ after_fraction in
     IsTrue (is_ascii_digit d)
-    × ((d == code "0" && first_passes is_base_letter (more ++ behind_digits)) ≡ false)
-    × IsRow (is_row_part is_ascii_digit) more behind_digits
-    × IsLexedFraction fraction behind_fraction
+    × ((d == code "0" && first_passes is_base_letter (more ++ after_digits)) ≡ false)
+    × IsRow (is_row_part is_ascii_digit) more after_digits
+    × IsLexedFraction fraction after_fraction
     × IsLexedExponent exponent (suffix ++ after)
     × IsLexedSuffix suffix after
 IsLexeme (IdentifierLexeme c more) after =

@@ -28,11 +28,11 @@ LexesUpTo at t (w ∷ ws) r =
     × (w.at + byte_len (lexeme_text w.lexeme ++ after) ≡ at + byte_len t)
     × LexesUpTo (end_of w) after ws r
 
--- the closer of an opener; 0 for what is no opener
-abbrev pub closer_for : ℕ → ℕ
-closer_for c =
-    if c == code "(" then code ")"
-    else (if c == code "[" then code "]" else (if c == code "{" then code "}" else 0))
+-- the opener and the closer of a group
+abbrev pub is_pair : ℕ → ℕ → Bool
+is_pair opener closer =
+    (opener == code "(" && closer == code ")") || (opener == code "[" && closer == code "]")
+    || (opener == code "{" && closer == code "}")
 
 abbrev pub is_opener : ℕ → Bool
 is_opener c = is_among (codes "([{") c
@@ -47,7 +47,7 @@ pub record OpenGroup : Type 0 where
 
 abbrev pub closes : List OpenGroup → ℕ → Bool
 closes [] c = false
-closes (o ∷ os) c = closer_for o.opener == c
+closes (o ∷ os) c = is_pair o.opener c
 
 abbrev pub popped : List OpenGroup → List OpenGroup
 popped [] = []
@@ -156,14 +156,14 @@ error_place UnclosedGroup groups at = innermost groups at
 error_place _ groups at = at
 
 -- The first error of the text: it is cut as far as it goes, and the error stands there.
-pub record Fault (t : List ℕ) (kind : LexKind) (at : ℕ) : Type 0 where
+pub record HasFirstError (t : List ℕ) (kind : LexKind) (at : ℕ) : Type 0 where
   pub cuts : List LexedToken
   pub rest : List ℕ
   pub groups : List OpenGroup
   pub rest_at : ℕ
   pub are_cuts : LexesUpTo 0 t cuts rest
   pub are_open : open_groups [] cuts ≡ Some groups
-  pub fault : ErrorAt kind groups rest
+  pub error : ErrorAt kind groups rest
   pub rest_place : rest_at + byte_len rest ≡ byte_len t
   pub at_is : at ≡ error_place kind groups rest_at
 
@@ -180,7 +180,7 @@ pub record LeavesRestAt (t : List ℕ) (at : ℕ) : Type 0 where
 -- group's closer too.
 abbrev pub Rejects : List ℕ → LexKind → ℕ → Type 0
 Rejects t Memory at = LeavesRestAt t at
-Rejects t kind at = Fault t kind at
+Rejects t kind at = HasFirstError t kind at
 
 -- A text has at most one list of trees.
 abbrev pub OneList : Type 0
@@ -188,10 +188,10 @@ OneList = (t : List ℕ) (file : ℕ) (xs ys : List Tree) → Lexes t file xs �
 
 -- A text has at most one first error.
 abbrev pub OneError : Type 0
-OneError = (t : List ℕ) (k l : LexKind) (m n : ℕ) → Fault t k m → Fault t l n → (k ≡ l) × (m ≡ n)
+OneError = (t : List ℕ) (k l : LexKind) (m n : ℕ) → HasFirstError t k m → HasFirstError t l n → (k ≡ l) × (m ≡ n)
 
 -- No text has both.
 abbrev pub NeverBoth : Type 0
 NeverBoth =
     (t : List ℕ) (file : ℕ) (trees : List Tree) (k : LexKind) (at : ℕ) → Lexes t file trees
-    → Fault t k at → ⊥
+    → HasFirstError t k at → ⊥

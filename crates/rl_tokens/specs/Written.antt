@@ -1,5 +1,5 @@
 -- How values are written as literals, by a table of this project's own.
-use Rattle.std.specs.Prelude.{ℕ, ◌+◌, ◌/◌, ◌%◌, Bool, true, false, ◌&&◌, ◌||◌, ◌==◌, nat_lt, List, [], ◌∷◌, ◌++◌, map, if◌then◌else◌, ◌≡◌}
+use Rattle.std.specs.Prelude.{ℕ, ◌+◌, ◌-◌, ◌/◌, ◌%◌, Bool, not, ◌&&◌, ◌||◌, ◌==◌, nat_lt, List, [], ◌∷◌, ◌++◌, map, if◌then◌else◌, ◌≡◌}
 use Prim.Native.Char.{code}
 use Rattle.rl_tokens.specs.declared.kind.Kind.{Kind}
 use Rattle.rl_tokens.specs.declared.kind.Kind.TheVariants.{Byte, Char}
@@ -7,9 +7,9 @@ use Rattle.rl_tokens.specs.Quoted.{QuotedUnit, Plain, Named, Hex, Zero, LowerT, 
 use Rattle.rl_tokens.specs.Reading.{Reads, quoted_contents}
 use Rattle.rl_tokens.specs.Strict.{Strict, strict_quoted_contents}
 
--- a digit of base 16, in upper case: 55 is the code of `A` less 10
+-- a digit of base 16, in upper case
 abbrev pub upper_digit : ℕ → ℕ
-upper_digit n = if nat_lt n 10 then code "0" + n else 55 + n
+upper_digit n = if nat_lt n 10 then code "0" + n else code "A" + (n - 10)
 
 abbrev pub closer : Kind → ℕ
 closer Byte = code "'"
@@ -27,7 +27,7 @@ own_quote _ = Named Quote
 abbrev pub is_written_as_number : Kind → ℕ → Bool
 is_written_as_number kind c =
     nat_lt c (code " ") || c == 127
-    || (nat_lt 127 c && (if holds_characters kind then false else true))
+    || (nat_lt 127 c && not (holds_characters kind))
 
 -- the unit that a character or a byte is written as
 unfoldable pub written_unit : Kind → ℕ → QuotedUnit

@@ -196,7 +196,7 @@ impl<'a, A: Allocator> ParseBuffer<'a, A> {
     pub fn take_punct(&mut self, ch: char) -> Result<&'a Punct, Error<A>>
         requires { IsTrue (is_punct ch) }
         ensures taken { OnOk result (IsAfterMark ch (trees_in self.old) (trees_in self.new)) }
-        ensures lent { IfOk result
+        ensures borrowed { IfOk result
             (λ x. trees_in self.old ≡ PunctTree x.now ∷ trees_in self.new) }
         ensures left { OnErr result (trees_in self.new ≡ trees_in self.old) }
         ensures other { OnErr result (IsFalse (begins_mark ch (trees_in self.old))) }

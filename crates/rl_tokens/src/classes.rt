@@ -1,5 +1,5 @@
 //! Classes of characters, and the runs of one class at the front of a text.
-#![tactic(auto, using(crate::proofs::BehindLemmas::behind_step))]
+#![tactic(auto, using(crate::proofs::TailLemmas::tail_step))]
 
 ghost use Rattle.std.specs.Prelude.{◌≡◌, ◌≤◌, length, true, false, IsTrue, IsFalse};
 ghost use Rattle.std.specs.Str.{chars};
@@ -26,7 +26,7 @@ pub enum CharClass {
     Hash,
     /// What an escaped line end takes with it.
     Blank,
-    /// The same in strict texts, where no CR stands.
+    /// What an escaped line end takes with it in strict texts, where no CR stands.
     StrictBlank,
     /// What goes on with a suffix of the lenient grammar: Unicode's XID_Continue.
     SuffixContinue,
@@ -152,7 +152,7 @@ fn begins_nonblank(text: &str) -> bool
     }
 }
 
-/// The same, where more white space is likely, or what is past ASCII.
+/// What follows the white space at the front, of which more is likely, or some past ASCII.
 #[inline(never)]
 fn skip_white_run(text: &str) -> &str
     ensures rest { chars result.now ≡ after_run (class_test (run_class false)) (chars text.now) }
@@ -162,7 +162,7 @@ fn skip_white_run(text: &str) -> &str
     skip_run::<false>(text)
 }
 
-/// As [`skip_class`], character by character.
+/// The text after the characters of the class at its front, found character by character.
 #[inline(never)]
 fn skip_wide_class(class: CharClass, text: &str) -> &str
     ensures rest { chars result.now ≡ after_run (class_test class) (chars text.now) }

@@ -116,13 +116,13 @@ impl<'t> Tokens<'t> {
     /// use rl_tokens::{LexKind, Tokens};
     ///
     /// pub fn no_token(text: &str) -> Option<LexKind> {
-    ///     Some(Tokens::new(text).fault()?.kind)
+    ///     Some(Tokens::new(text).error()?.kind)
     /// }
     /// // no_token("\"a") == Some(UnclosedQuote)
     /// ```
-    pub fn fault(&self) -> Option<LexError>
+    pub fn error(&self) -> Option<LexError>
         // It is an error of what is left, whatever groups are open, and stands where that begins.
-        ensures fault { IfSome result (λ e. (groups : List OpenGroup)
+        ensures error { IfSome result (λ e. (groups : List OpenGroup)
             → ErrorAt e.kind groups (chars self.now.rest)) }
         ensures place { IfSome result (λ e. e.at + length self.now.rest ≡ length self.now.text) }
         // It is the first error of the text, however that was cut up to here.
@@ -151,7 +151,7 @@ impl<'t> Tokens<'t> {
     }
 }
 
-/// The tokens up to the first place where none begins; [`Tokens::fault`] then says why.
+/// The tokens up to the first place where none begins; [`Tokens::error`] then says why.
 impl<'t> Iterator for Tokens<'t> {
     ghost use Rattle.std.specs.Iterator.{at_most};
     ghost use Rattle.rl_tokens.specs.Cursors.{GivesNext};

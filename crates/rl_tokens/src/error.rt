@@ -119,7 +119,7 @@ impl<A: Allocator> fmt::Display for ErrorKind<A> {
             ErrorKind::Expected(word) => write!(f, "expected {word}"),
             ErrorKind::EndOfInput(word) => write!(f, "unexpected end of input, expected {word}"),
             ErrorKind::Unexpected => f.write_str("unexpected token"),
-            ErrorKind::Lex(fault) => f.write_str(fault.words()),
+            ErrorKind::Lex(error) => f.write_str(error.words()),
             ErrorKind::Suffix(suffix) => write!(
                 f,
                 "unexpected suffix `{suffix}` on string literal"

@@ -8,7 +8,7 @@ use std::fmt;
 
 /// Why a text was not cut into trees, and where.
 ///
-/// See the example of [`Tokens::fault`].
+/// See the example of [`Tokens::error`].
 #[derive(Clone, Copy, PartialEq, Eq, Debug)]
 pub struct LexError {
     /// What the error is.
@@ -20,7 +20,7 @@ pub struct LexError {
 /// What the lexer rejects, each reported at the byte that its line names. docs/REFUSALS.md has a
 /// text for each, and what to do.
 ///
-/// See the example of [`Tokens::fault`].
+/// See the example of [`Tokens::error`].
 #[derive(Clone, Copy, PartialEq, Eq, Debug)]
 pub enum LexKind {
     /// A doc comment, closed or not: its first slash.

@@ -1,5 +1,5 @@
 //! The lexeme at the front of a text: the literal, identifier or mark that the text begins with.
-#![tactic(auto, using(crate::proofs::BehindLemmas::behind_step))]
+#![tactic(auto, using(crate::proofs::TailLemmas::tail_step))]
 
 mod number;
 mod quotes;
@@ -8,7 +8,7 @@ mod suffix;
 ghost use Rattle.std.specs.Prelude.{◌≡◌, ◌<◌, ◌&&◌, ◌==◌, List, ℕ, length, slice_index, drop, cond, option_map, IfSome, IfNone, IsFalse, IsTrue};
 ghost use Rattle.std.specs.Char.{is_ascii, is_ascii_digit};
 ghost use Rattle.std.specs.Str.{chars};
-ghost use Rattle.rl_tokens.specs.Texts.{is_among, first_passes, IsTail};
+ghost use Rattle.rl_tokens.specs.Texts.{code, is_among, first_passes, IsTail};
 ghost use Rattle.rl_tokens.specs.Lexemes.{delimiters, LexemeBefore, is_start};
 ghost use Rattle.rl_tokens.specs.Cursors.{form_view};
 ghost use Rattle.rl_tokens.specs.Mirrors.LexemeAt.{start_class, is_met_late, other_class, head_class, by_class, begins_hashed_quote, quoted_at, raw_at, single_at, literal_at, word_at, after_digit, lexeme_at, FormBefore, LetterBHead, LetterCHead, LetterRHead, SlashHead, begins_word, is_mark_alone, is_prefix_letter, goes_on_as_word, makes_comment, mark_form};
@@ -46,16 +46,19 @@ pub(crate) fn first_lexeme(text: &str) -> Option<(Form, &str)>
     ensures following { IfSome result (λ p. IsTail text.now p.1.now) }
     ensures shorter { IfSome result (λ p. length p.1.now < length text.now) }
 {
-    if let Some((b'0'..=b'9', following)) = split_ascii(text) {
-        return Some((Form::Literal, after_digit(following)));
+    match split_ascii(text) {
+        Some((byte, following)) if (byte as char).is_ascii_digit() => {
+            Some((Form::Literal, after_digit(following)))
+        }
+        _ => lexeme_but_number(text),
     }
-    lexeme_by_first_character(text)
 }
 
-/// The lexeme that the text begins with, by its first character.
+/// The lexeme that the text begins with, by its first character, which is no digit.
 #[inline(never)]
-#[tactic(auto, using(crate::proofs::NumberEnds::quote_first, crate::proofs::NumberEnds::apostrophe_first, crate::proofs::NumberEnds::slash_first, crate::proofs::WordsAndMarks::stray_first, crate::proofs::BehindLemmas::behind_step, crate::proofs::BehindLemmas::some_behind, crate::proofs::BehindLemmas::some_nearer))]
-fn lexeme_by_first_character(text: &str) -> Option<(Form, &str)>
+#[tactic(auto, using(crate::proofs::NumberEnds::quote_first, crate::proofs::NumberEnds::apostrophe_first, crate::proofs::NumberEnds::slash_first, crate::proofs::WordsAndMarks::stray_first, crate::proofs::TailLemmas::tail_step, crate::proofs::TailLemmas::some_tail, crate::proofs::TailLemmas::some_nearer))]
+fn lexeme_but_number(text: &str) -> Option<(Form, &str)>
+    requires { IsFalse (first_passes is_ascii_digit (chars text.now)) }
     ensures rest { option_map (λ p. (form_view p.0, chars p.1.now)) result
         ≡ lexeme_at (chars text.now) }
     ensures following { IfSome result (λ p. IsTail text.now p.1.now) }
@@ -65,7 +68,6 @@ fn lexeme_by_first_character(text: &str) -> Option<(Form, &str)>
         return wide_identifier(text);
     };
     match byte {
-        b'0'..=b'9' => Some((Form::Literal, after_digit(following))),
         b'"' => quoted_literal(following),
         b'\'' => character_literal(following),
         b'/' => after_slash(following),
@@ -77,7 +79,7 @@ fn lexeme_by_first_character(text: &str) -> Option<(Form, &str)>
 
 /// The identifier that the text begins with, where its first character is past ASCII.
 #[inline(never)]
-#[tactic(auto, using(crate::proofs::WordsAndMarks::wide_word, crate::proofs::WordsAndMarks::wide_stray, crate::proofs::BehindLemmas::behind_step))]
+#[tactic(auto, using(crate::proofs::WordsAndMarks::wide_word, crate::proofs::WordsAndMarks::wide_stray, crate::proofs::TailLemmas::tail_step))]
 fn wide_identifier(text: &str) -> Option<(Form, &str)>
     requires { IsFalse (first_passes is_ascii (chars text.now)) }
     ensures rest { option_map (λ p. (form_view p.0, chars p.1.now)) result
@@ -93,6 +95,7 @@ fn wide_identifier(text: &str) -> Option<(Form, &str)>
 }
 
 /// A literal with a prefix, or an identifier, after its first letter. Of a raw identifier there is none.
+#[inline(never)]
 fn literal_or_identifier(letter: char, text: &str) -> Option<(Form, &str)>
     ensures rest { option_map (λ p. (form_view p.0, chars p.1.now)) result
         ≡ by_class (start_class letter) letter (chars text.now) }
@@ -151,7 +154,7 @@ fn lead_of(byte: u8) -> Lead
     ensures word { result ≡ Word → IsTrue (begins_word byte) }
     ensures mark { result ≡ Mark → IsTrue (is_mark_alone byte) }
     ensures prefix { result ≡ Prefix → IsTrue (is_prefix_letter byte) }
-    ensures slash { result ≡ Slash → byte ≡ 47 }
+    ensures slash { result ≡ Slash → byte ≡ code "/" }
 {
     if byte < 64 {
         if has_bit(LOW_MARKS, byte) {
@@ -199,7 +202,7 @@ fn goes_on_as_no_comment(following: &str) -> bool
 
 /// A bit for each of the first 64 characters, set where [`is_mark_alone`] is true.
 const LOW_MARKS: u64 = 0xfc00_7f7a_0000_0000;
-/// The same for the next 64 characters.
+/// A bit for each of the next 64 characters, set where [`is_mark_alone`] is true.
 const HIGH_MARKS: u64 = 0x7800_0000_6800_0001;
 
 /// Whether the character of ASCII is a delimiter or a mark, whatever follows it: each but `/`.
@@ -259,7 +262,7 @@ fn raw_literal(text: &str) -> Option<(Form, &str)>
 }
 
 /// After a slash, which is a mark where it begins no comment.
-#[inline(always)]
+#[inline(never)]
 fn after_slash(text: &str) -> Option<(Form, &str)>
     ensures rest { option_map (λ p. (form_view p.0, chars p.1.now)) result
         ≡ by_class SlashHead 47 (chars text.now) }
@@ -289,7 +292,7 @@ fn after_digit(text: &str) -> &str
 /// Whether `r`, hashes, perhaps none, and a `"` begin the text.
 fn begins_raw_literal(text: &str) -> bool
     ensures { result
-        ≡ (slice_index (chars text.now) 0 == 114 && begins_hashed_quote (drop 1 (chars text.now))) }
+        ≡ (slice_index (chars text.now) 0 == code "r" && begins_hashed_quote (drop 1 (chars text.now))) }
 {
     begins_with(text, 'r') && begins_hashed_quote(without_first(text))
 }
@@ -297,7 +300,7 @@ fn begins_raw_literal(text: &str) -> bool
 /// Whether a hash and an identifier's start begin the text.
 pub(crate) fn begins_marked_identifier(text: &str) -> bool
     ensures { result
-        ≡ (slice_index (chars text.now) 0 == 35
+        ≡ (slice_index (chars text.now) 0 == code "#"
         && first_passes is_start (drop 1 (chars text.now))) }
 {
     match split_char(text) {

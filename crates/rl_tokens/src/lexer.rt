@@ -67,8 +67,8 @@ fn trees_of<A: Allocator + Copy>(
     while let Some(token) = tokens.next() {
         nest.add(token.form, token.text, token.lo, token.hi)?;
     }
-    match tokens.fault() {
-        Some(fault) => Err(fault),
+    match tokens.error() {
+        Some(error) => Err(error),
         None => nest.finish(),
     }
 }

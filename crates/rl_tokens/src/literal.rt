@@ -2,6 +2,7 @@
 
 ghost use Rattle.std.specs.Prelude.{◌≡◌, ◌∷◌, IfOk, IfErr, Some, string_bytes};
 ghost use Rattle.std.specs.Fmt.{padded};
+ghost use Rattle.rl_tokens.specs.Texts.{code};
 ghost use Rattle.rl_tokens.specs.Errors.{memory_at};
 
 use crate::error::Error;
@@ -69,10 +70,10 @@ impl<A: Allocator> Literal<A> {
     ///
     /// `Memory` at the span.
     pub fn negative(alloc: A, text: &str, span: Span) -> Result<Literal<A>, Error<A>>
-        ensures ok { IfOk result (λ l. l ≡ record { text = 45 ∷ text.now; span = span }) }
+        ensures ok { IfOk result (λ l. l ≡ record { text = code "-" ∷ text.now; span = span }) }
         ensures memory { IfErr result (λ e. e ≡ memory_at span) }
     {
-        let Ok(text) = text_behind_minus(alloc, text) else {
+        let Ok(text) = text_after_minus(alloc, text) else {
             return Err(Error::memory(span));
         };
         Ok(Literal { text, span })
@@ -116,8 +117,8 @@ impl<A: Allocator> Literal<A> {
     /// # Errors
     ///
     /// `Memory` at the span.
-    pub fn behind_minus<B: Allocator>(&self, alloc: B, span: Span) -> Result<Literal<B>, Error<B>>
-        ensures ok { IfOk result (λ l. l ≡ record { text = 45 ∷ self.now.text; span = span }) }
+    pub fn after_minus<B: Allocator>(&self, alloc: B, span: Span) -> Result<Literal<B>, Error<B>>
+        ensures ok { IfOk result (λ l. l ≡ record { text = code "-" ∷ self.now.text; span = span }) }
         ensures memory { IfErr result (λ e. e ≡ memory_at span) }
     {
         Literal::negative(alloc, self.text(), span)
@@ -132,8 +133,8 @@ impl<A: Allocator> Literal<A> {
 }
 
 /// A minus, and the text.
-fn text_behind_minus<A: Allocator>(alloc: A, text: &str) -> Result<String<A>, AllocError>
-    ensures { IfOk result (λ s. string_bytes s ≡ 45 ∷ text.now) }
+fn text_after_minus<A: Allocator>(alloc: A, text: &str) -> Result<String<A>, AllocError>
+    ensures { IfOk result (λ s. string_bytes s ≡ code "-" ∷ text.now) }
 {
     let mut joined = String::with_capacity(alloc, text.len() + 1)?;
     joined.push('-')?;

@@ -109,7 +109,8 @@ fn stop_by<const HIGH: bool, const N: usize>(
     Err(at)
 }
 
-/// The same for the last bytes: eight at once, the others by themselves.
+/// The place where the walk stops, from a place on, among the last bytes: eight are looked at at once, the others by
+/// themselves.
 #[inline(always)]
 fn stop_shortly<const HIGH: bool>(marks: Marks, bytes: &[u8], from: usize) -> usize
     requires { from ≤ length bytes.now }
@@ -121,7 +122,7 @@ fn stop_shortly<const HIGH: bool>(marks: Marks, bytes: &[u8], from: usize) -> us
     }
 }
 
-/// The same by sixteen bytes at a time.
+/// The place where the walk stops, from a place on, found sixteen bytes at a time.
 #[inline(always)]
 fn stop_soon<const HIGH: bool>(marks: Marks, bytes: &[u8], from: usize) -> usize
     requires { from ≤ length bytes.now }
@@ -157,7 +158,8 @@ pub fn len_before(marks: Marks, bytes: &[u8]) -> usize
     stop::<false>(marks, bytes)
 }
 
-/// The same for a mark that is likely near, as in the tokens of a source.
+/// How many bytes stand in front of the first mark, which is likely near, as in the tokens of a source; all where there is
+/// none.
 #[inline(always)]
 pub(crate) fn near_len_before(marks: Marks, bytes: &[u8]) -> usize
     ensures { result ≡ prefix_len (is_other marks) bytes.now }

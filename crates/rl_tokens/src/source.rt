@@ -1,5 +1,5 @@
 //! The token at the front of a source.
-#![tactic(auto, using(crate::proofs::BehindLemmas::behind_step))]
+#![tactic(auto, using(crate::proofs::TailLemmas::tail_step))]
 
 ghost use Rattle.std.specs.Prelude.{◌≡◌, ◌↔◌, ◌<◌, ◌≤◌, Bool, length, option_map, IfSome, IfNone, IsTrue};
 ghost use Rattle.std.specs.Str.{chars};
@@ -136,7 +136,8 @@ fn source_by_characters(text: &str) -> Option<(SourceForm, &str)>
     stray(text)
 }
 
-/// The same, where it is nothing but a stray character, if that.
+/// The stray character at the front of a text, and the rest after it. `None` where a comment or a quoted literal is opened
+/// there, and at the end.
 fn stray(text: &str) -> Option<(SourceForm, &str)>
     ensures rest { option_map (λ p. (source_view p.0, chars p.1.now)) result
         ≡ stray_at (chars text.now) }
@@ -150,9 +151,10 @@ fn stray(text: &str) -> Option<(SourceForm, &str)>
     Some((SourceForm::Stray, following))
 }
 
-/// The same, where it is neither a lexeme nor a stray character.
+/// The token at the front of a text that is neither a lexeme nor a stray character: a doc comment, a lifetime or a raw
+/// identifier.
 #[inline(always)]
-#[tactic(auto, using(crate::proofs::SourceFronts::wide_other, crate::proofs::BehindLemmas::behind_step))]
+#[tactic(auto, using(crate::proofs::SourceFronts::wide_other, crate::proofs::TailLemmas::tail_step))]
 fn other_token(text: &str) -> Option<(SourceForm, &str)>
     ensures rest { option_map (λ p. (source_view p.0, chars p.1.now)) result
         ≡ other_at (chars text.now) }
@@ -177,7 +179,7 @@ fn ended(form: SourceForm, following: Option<&str>) -> Option<(SourceForm, &str)
 
 /// What follows a doc comment, by what stands after its first slash: of a line its LF.
 #[inline(always)]
-#[tactic(auto, using(crate::proofs::SourceFronts::wide_doc, crate::proofs::BehindLemmas::behind_step, crate::proofs::BehindLemmas::some_behind))]
+#[tactic(auto, using(crate::proofs::SourceFronts::wide_doc, crate::proofs::TailLemmas::tail_step, crate::proofs::TailLemmas::some_tail))]
 fn after_doc(text: &str) -> Option<&str>
     ensures rest { option_map (λ rest. chars rest.now) result ≡ after_doc (chars text.now) }
     ensures following { IfSome result (λ rest. IsTail text.now rest.now) }

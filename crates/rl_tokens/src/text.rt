@@ -75,7 +75,7 @@ pub(crate) fn strip_byte(text: &str, byte: u8) -> Option<&str>
 }
 
 /// The text in front of a rest of it: what was passed over, where `rest` is what is left.
-#[tactic(auto, using(crate::proofs::BehindLemmas::cut_boundary, crate::proofs::BehindLemmas::cut_chars))]
+#[tactic(auto, using(crate::proofs::TailLemmas::cut_boundary, crate::proofs::TailLemmas::cut_chars))]
 pub fn before<'t>(text: &'t str, rest: &str) -> &'t str
     requires { IsTail text.now rest.now }
     ensures cut { text.now ≡ result.now ++ rest.now }
@@ -85,7 +85,7 @@ pub fn before<'t>(text: &'t str, rest: &str) -> &'t str
 }
 
 /// The text after a prefix; `None` where it doesn't begin with it.
-#[tactic(auto, using(crate::proofs::BeginsLemmas::strip_prefix_some, crate::proofs::BeginsLemmas::strip_prefix_none, crate::proofs::BeginsLemmas::strip_prefix_behind))]
+#[tactic(auto, using(crate::proofs::BeginsLemmas::strip_prefix_some, crate::proofs::BeginsLemmas::strip_prefix_none, crate::proofs::BeginsLemmas::strip_prefix_tail))]
 pub fn after_prefix<'t>(prefix: &str, text: &'t str) -> Option<&'t str>
     ensures some { IfSome result (λ rest. chars text.now ≡ chars prefix.now ++ chars rest.now) }
     ensures none { IfNone result ((x : List ℕ) → chars text.now ≢ chars prefix.now ++ x) }

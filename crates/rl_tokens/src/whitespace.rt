@@ -61,7 +61,8 @@ fn begins_comment(text: &str) -> bool
     }
 }
 
-/// The same, where no white space begins the text, but perhaps a comment does.
+/// The rest of a text after its plain comments and white space, where no white space begins it, but perhaps a comment
+/// does.
 #[inline(never)]
 fn skip_comments(text: &str) -> &str
     requires { IsFalse (first_passes is_white (chars text.now)) }
@@ -80,7 +81,7 @@ fn skip_comments(text: &str) -> &str
 
 /// What follows a plain comment, by what stands after its first slash.
 #[inline(always)]
-#[tactic(auto, using(crate::proofs::CommentBytes::wide_comment, crate::proofs::BehindLemmas::behind_step, crate::proofs::BehindLemmas::some_behind))]
+#[tactic(auto, using(crate::proofs::CommentBytes::wide_comment, crate::proofs::TailLemmas::tail_step, crate::proofs::TailLemmas::some_tail))]
 fn after_comment(text: &str) -> Option<&str>
     ensures rest { option_map (λ rest. chars rest.now) result ≡ after_comment (chars text.now) }
     ensures following { IfSome result (λ rest. IsTail text.now rest.now) }

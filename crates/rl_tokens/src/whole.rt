@@ -30,9 +30,9 @@ pub fn trees_of_text<A: Allocator + Copy>(
 {
     match lex(alloc, text, file) {
         Ok(stream) => Ok(stream),
-        Err(fault) => {
-            let at = Span::new(file, fault.at, fault.at);
-            Err(Error::of_lexer(fault.kind, at))
+        Err(error) => {
+            let at = Span::new(file, error.at, error.at);
+            Err(Error::of_lexer(error.kind, at))
         }
     }
 }

@@ -17,7 +17,7 @@ use Rattle.rl_tokens.specs.Skipping.{Skipped}
 use Rattle.rl_tokens.specs.Lexing.{LexesUpTo, after_form, flat_form, flat_token}
 use Rattle.rl_grammar.specs.Fronts.{joined, joined_span}
 use Rattle.rl_tokens.proofs.CutLemmas.{open_more}
-use Rattle.rl_tokens.proofs.CursorLemmas.{flat_lent}
+use Rattle.rl_tokens.proofs.CursorLemmas.{flat_borrowed}
 use Rattle.rl_tokens.proofs.NestLemmas.{flat_trees-append}
 use Rattle.rust_literals.specs.declared.lit.Lit.{Lit}
 use Rattle.rust_literals.specs.declared.lit.Lit.TheVariants.{Bool as BoolLit}
@@ -58,7 +58,7 @@ tree_more file old new l form tree done t form_is none flat_is no_group c =
       flat_is =
           map-append (flat_token file) c.cuts (w ∷ [])
           ∙ ap (λ z. z ++ flat_token file w ∷ []) c.flat_is
-          ∙ ap (λ z. flat_trees done ++ z ∷ []) (flat_lent file l w t.is_cut ∙ ap (λ f. flat_form f l.text.now (span_at file l)) form_is)
+          ∙ ap (λ z. flat_trees done ++ z ∷ []) (flat_borrowed file l w t.is_cut ∙ ap (λ f. flat_form f l.text.now (span_at file l)) form_is)
           ∙ ap (λ z. flat_trees done ++ z) (sym flat_is)
           ∙ sym (flat_trees-append done (tree ∷ []));
       no_groups = all_more IsNoGroup done tree c.no_groups no_group;

@@ -1,10 +1,10 @@
 //! Numbers.
-#![tactic(auto, using(crate::proofs::BehindLemmas::behind_step))]
+#![tactic(auto, using(crate::proofs::TailLemmas::tail_step))]
 
 ghost use Rattle.std.specs.Prelude.{◌≡◌, ◌<◌, ◌==◌, ◌||◌, not, length, IsTrue, IfSome, IfNone};
 ghost use Rattle.std.specs.Char.{is_ascii_digit};
 ghost use Rattle.std.specs.Str.{chars};
-ghost use Rattle.rl_tokens.specs.Texts.{first_passes, IsTail};
+ghost use Rattle.rl_tokens.specs.Texts.{code, first_passes, IsTail};
 ghost use Rattle.rl_tokens.specs.Lexemes.{begins_dot, is_start};
 ghost use Rattle.rl_tokens.specs.Mirrors.LexemeAt.{after_lexed_fraction, after_lexed_exponent, after_decimal, after_sign};
 ghost use Rattle.rl_tokens.specs.Classes.{after_run};
@@ -38,7 +38,7 @@ pub(crate) fn after_digits(text: &str) -> &str
 
 /// The text after its first character, where that is a digit.
 #[inline(always)]
-#[tactic(auto, using(crate::proofs::BehindLemmas::behind_step, crate::proofs::NumberEnds::no_digit))]
+#[tactic(auto, using(crate::proofs::TailLemmas::tail_step, crate::proofs::NumberEnds::no_digit))]
 fn without_digit(text: &str) -> Option<&str>
     ensures some { IfSome result (λ rest. after_run is_ascii_digit (chars text.now)
         ≡ after_run is_ascii_digit (chars rest.now)) }
@@ -56,7 +56,7 @@ fn without_digit(text: &str) -> Option<&str>
 #[inline(always)]
 pub(crate) fn ends_number(text: &str) -> bool
     ensures { IsTrue result
-        → IsTrue (first_passes (λ c. not (c == 46 || is_start c)) (chars text.now)) }
+        → IsTrue (first_passes (λ c. not (c == code "." || is_start c)) (chars text.now)) }
 {
     match split_ascii(text) {
         Some((byte, _)) => !(byte == b'.' || is_start(byte as char)),

@@ -1,5 +1,5 @@
 //! Quoted, raw and single-character literals.
-#![tactic(auto, using(crate::proofs::BehindLemmas::behind_step))]
+#![tactic(auto, using(crate::proofs::TailLemmas::tail_step))]
 
 ghost use Rattle.std.specs.Prelude.{◌≡◌, option_map, IfSome, IsTrue, length};
 ghost use Rattle.std.specs.List.{list_all};

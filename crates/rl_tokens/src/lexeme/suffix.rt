@@ -21,7 +21,7 @@ pub(crate) fn after_suffix(text: &str) -> &str
     }
 }
 
-/// The same, where one may stand.
+/// What follows the suffix of a literal, where one may stand.
 #[inline(never)]
 fn after_some_suffix(text: &str) -> &str
     ensures rest { chars result.now ≡ after_suffix (chars text.now) }

@@ -20,7 +20,7 @@ pub fn second_token(text: &str) -> Option<&str> {
 
 /// Why a text begins with no token.
 pub fn no_token(text: &str) -> Option<LexKind> {
-    Some(Tokens::new(text).fault()?.kind)
+    Some(Tokens::new(text).error()?.kind)
 }
 
 /// The doc comment that a source begins with.

@@ -107,7 +107,7 @@ fn token_rejection(form: Form) -> RejectionKind {
 /// Why no literal begins what is left, which isn't empty.
 #[inline(never)]
 fn rejection_at(tokens: &Tokens<'_>) -> Rejection {
-    if let Some(error) = tokens.fault() {
+    if let Some(error) = tokens.error() {
         return Rejection {
             kind: RejectionKind::Lex(error.kind),
             at: error.at,

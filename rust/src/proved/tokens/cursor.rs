@@ -64,7 +64,7 @@ impl<'t> Tokens<'t> {
     /// Why no token begins what is left: the lexer's error, and the byte where it stands in the
     /// whole text. `None` at the end of the text, and where a token begins what is left. Groups
     /// aren't counted here, so the kind is the first six of [`LexKind`](crate::tokens::LexKind)'s alone.
-    pub fn fault(&self) -> Option<LexError> {
+    pub fn error(&self) -> Option<LexError> {
         if self.rest.is_empty() {
             return None;
         }

@@ -51,7 +51,7 @@ fn run_end_slowly<const WORD: bool>(bytes: &[u8], from: usize) -> usize {
     at
 }
 
-/// The same, sixteen bytes at a time while so many are left.
+/// The place where the run ends, from a place on, found sixteen bytes at a time while so many are left.
 #[inline(never)]
 fn run_end<const WORD: bool>(bytes: &[u8], from: usize) -> usize {
     let mut at = from;
@@ -109,7 +109,7 @@ fn heads_among(bytes: &[u8], at: usize) -> u64 {
     (digits | prefixes | words).to_bitmask()
 }
 
-/// The same, set at quotes, slashes and all past ASCII.
+/// A bit for each of sixteen bytes from a place on, set at quotes, slashes and all past ASCII.
 #[inline(always)]
 fn marks_among(bytes: &[u8], at: usize) -> u64 {
     let lanes = u8x16::from_slice(&bytes[at..]);
@@ -118,8 +118,8 @@ fn marks_among(bytes: &[u8], at: usize) -> u64 {
     (quotes | slashes | lanes.simd_ge(u8x16::splat(128))).to_bitmask()
 }
 
-/// The same from a place on that isn't the first, set where a literal or a comment may begin: at a letter or a digit only
-/// where no word goes on.
+/// A bit for each of sixteen bytes from a place on that isn't the first, set where a literal or a comment may begin: at a
+/// letter or a digit only where no word goes on.
 #[inline(always)]
 fn likely_among(bytes: &[u8], at: usize) -> u64 {
     let heads = ends_among::<true>(bytes, at - 1) & heads_among(bytes, at);

@@ -31,20 +31,21 @@ pub enum Form {
 /// no such lexeme. Most tokens of a list are numbers, so a digit is recognized without a call.
 #[inline(always)]
 pub(crate) fn first_lexeme(text: &str) -> Option<(Form, &str)> {
-    if let Some((b'0'..=b'9', following)) = split_ascii(text) {
-        return Some((Form::Literal, after_digit(following)));
+    match split_ascii(text) {
+        Some((byte, following)) if (byte as char).is_ascii_digit() => {
+            Some((Form::Literal, after_digit(following)))
+        }
+        _ => lexeme_but_number(text),
     }
-    lexeme_by_first_character(text)
 }
 
-/// The lexeme that the text begins with, by its first character.
+/// The lexeme that the text begins with, by its first character, which is no digit.
 #[inline(never)]
-fn lexeme_by_first_character(text: &str) -> Option<(Form, &str)> {
+fn lexeme_but_number(text: &str) -> Option<(Form, &str)> {
     let Some((byte, following)) = split_ascii(text) else {
         return wide_identifier(text);
     };
     match byte {
-        b'0'..=b'9' => Some((Form::Literal, after_digit(following))),
         b'"' => quoted_literal(following),
         b'\'' => character_literal(following),
         b'/' => after_slash(following),
@@ -65,6 +66,7 @@ fn wide_identifier(text: &str) -> Option<(Form, &str)> {
 }
 
 /// A literal with a prefix, or an identifier, after its first letter. Of a raw identifier there is none.
+#[inline(never)]
 fn literal_or_identifier(letter: char, text: &str) -> Option<(Form, &str)> {
     match letter {
         'b' | 'c' if begins_with(text, '"') => quoted_literal(without_first(text)),
@@ -153,7 +155,7 @@ fn goes_on_as_no_comment(following: &str) -> bool {
 /// A bit for each of the first 64 characters, set where [`is_mark_alone`] is true.
 const LOW_MARKS: u64 = 0xfc00_7f7a_0000_0000;
 
-/// The same for the next 64 characters.
+/// A bit for each of the next 64 characters, set where [`is_mark_alone`] is true.
 const HIGH_MARKS: u64 = 0x7800_0000_6800_0001;
 
 /// Whether the character of ASCII is a delimiter or a mark, whatever follows it: each but `/`.
@@ -195,7 +197,7 @@ fn raw_literal(text: &str) -> Option<(Form, &str)> {
 }
 
 /// After a slash, which is a mark where it begins no comment.
-#[inline(always)]
+#[inline(never)]
 fn after_slash(text: &str) -> Option<(Form, &str)> {
     match split_char(text) {
         Some(('/' | '*', _)) => None,

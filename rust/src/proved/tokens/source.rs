@@ -95,7 +95,8 @@ fn source_by_characters(text: &str) -> Option<(SourceForm, &str)> {
     stray(text)
 }
 
-/// The same, where it is nothing but a stray character, if that.
+/// The stray character at the front of a text, and the rest after it. `None` where a comment or a quoted literal is opened
+/// there, and at the end.
 fn stray(text: &str) -> Option<(SourceForm, &str)> {
     let (_, following) = split_char(text)?;
     if opens(text) {
@@ -104,7 +105,8 @@ fn stray(text: &str) -> Option<(SourceForm, &str)> {
     Some((SourceForm::Stray, following))
 }
 
-/// The same, where it is neither a lexeme nor a stray character.
+/// The token at the front of a text that is neither a lexeme nor a stray character: a doc comment, a lifetime or a raw
+/// identifier.
 #[inline(always)]
 fn other_token(text: &str) -> Option<(SourceForm, &str)> {
     match split_ascii(text) {

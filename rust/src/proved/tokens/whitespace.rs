@@ -34,7 +34,8 @@ fn begins_comment(text: &str) -> bool {
     }
 }
 
-/// The same, where no white space begins the text, but perhaps a comment does.
+/// The rest of a text after its plain comments and white space, where no white space begins it, but perhaps a comment
+/// does.
 #[inline(never)]
 fn skip_comments(text: &str) -> &str {
     let mut rest = text;

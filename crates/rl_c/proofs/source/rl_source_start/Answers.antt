@@ -1,6 +1,6 @@
 use Rattle.std.proofs.Common.{◌-◌, length, sym, subst}
 use Rattle.std.specs.Str.{IsCharBoundary}
-use Rattle.rl_tokens.proofs.BehindLemmas.{cut_boundary}
+use Rattle.rl_tokens.proofs.TailLemmas.{cut_boundary}
 use Rattle.rl_c.proofs.source.rl_source_start.Goals as goal
 
 pub returns-clause-place : goal.returns-clause-place

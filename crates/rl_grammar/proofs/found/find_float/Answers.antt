@@ -1,6 +1,6 @@
 use Rattle.rl_grammar.proofs.Names.{sym}
 use Rattle.std.specs.Str.{chars}
-use Rattle.rl_tokens.proofs.BehindLemmas.{if_none}
+use Rattle.rl_tokens.proofs.TailLemmas.{if_none}
 use Rattle.rl_tokens.proofs.OneNumber.{float_once}
 use Rattle.rl_grammar.proofs.FloatLemmas.{no_float, float_sound}
 use Rattle.rl_grammar.proofs.found.find_float.Goals as goal

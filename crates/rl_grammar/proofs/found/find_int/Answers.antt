@@ -1,6 +1,6 @@
 use Rattle.rl_grammar.proofs.Names.{refl}
 use Rattle.std.specs.Str.{chars}
-use Rattle.rl_tokens.proofs.BehindLemmas.{if_none}
+use Rattle.rl_tokens.proofs.TailLemmas.{if_none}
 use Rattle.rl_tokens.proofs.OneNumber.{int_once}
 use Rattle.rl_grammar.proofs.IntegerLemmas.{no_int, is_past_at, is_within_at}
 use Rattle.rl_grammar.proofs.found.find_int.Goals as goal

@@ -1,4 +1,4 @@
-use Rattle.rl_tokens.proofs.BehindLemmas.{if_none}
+use Rattle.rl_tokens.proofs.TailLemmas.{if_none}
 use Rattle.rl_grammar.proofs.FrontLemmas.{no_minus_at}
 use Rattle.rl_grammar.proofs.Names.{◌≡◌, sym, ◌∙◌, arith, common_steps}
 use Rattle.rl_grammar.proofs.FrontLemmas.{negative_front}

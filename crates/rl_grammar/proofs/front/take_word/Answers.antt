@@ -1,4 +1,4 @@
-use Rattle.rl_tokens.proofs.BehindLemmas.{if_none}
+use Rattle.rl_tokens.proofs.TailLemmas.{if_none}
 use Rattle.rl_grammar.proofs.FrontLemmas.{no_word_at}
 use Rattle.rl_grammar.proofs.Names.{common_steps, sym, ◌∙◌, ap, arith}
 use Rattle.std.specs.Str.{chars}

@@ -1,4 +1,4 @@
-use Rattle.rl_tokens.proofs.BehindLemmas.{behind_step}
+use Rattle.rl_tokens.proofs.TailLemmas.{tail_step}
 use Rattle.rl_grammar.proofs.Names.{common_steps, arith}
 use Rattle.rl_grammar.specs.Mirrors.NumberAt.{after_exponent}
 use Rattle.rl_grammar.proofs.number_forms.after_exponent.Goals as goal
@@ -12,4 +12,4 @@ unfolding after_exponent
 returns-clause-following c = grind (arith, common_steps) steps 200000
 
 pub returns-then-row-clause-following : goal.returns-then-row-clause-following
-returns-then-row-clause-following c = behind_step _ _ _ c.in-Some-e-default.ensures.following (behind_step _ _ _ c.power_digits.ensures.following c.skip_row-row.ensures.following)
+returns-then-row-clause-following c = tail_step _ _ _ c.in-Some-e-default.ensures.following (tail_step _ _ _ c.power_digits.ensures.following c.skip_row-row.ensures.following)

@@ -1,6 +1,6 @@
 use Rattle.rl_grammar.proofs.Names.{sym, refl, ◌∙◌}
 use Rattle.std.specs.Str.{chars}
-use Rattle.rl_tokens.proofs.BehindLemmas.{if_none}
+use Rattle.rl_tokens.proofs.TailLemmas.{if_none}
 use Rattle.rl_grammar.proofs.FloatLemmas.{no_float, float_sound}
 use Rattle.rl_grammar.proofs.HeadLemmas.{no_head_int, no_head_float, head_int}
 use Rattle.rl_grammar.proofs.IntegerLemmas.{no_int, is_past_at, is_within_at}

@@ -1,6 +1,6 @@
 use Rattle.rl_grammar.proofs.Names.{◌∙◌, sym, rules, IsUtf8, is_plain}
 use Rattle.std.specs.Str.{chars}
-use Rattle.rl_tokens.proofs.BehindLemmas.{if_none}
+use Rattle.rl_tokens.proofs.TailLemmas.{if_none}
 use Rattle.rl_grammar.proofs.CutLemmas.{behind_chars}
 use Rattle.rl_grammar.proofs.FormLemmas.{cooked_found, cooked_none, cooked_units, front_sound}
 use Rattle.rl_grammar.specs.declared.quoted_forms.QuotedForm.TheVariants.{Cooked as CookedForm}

@@ -1,7 +1,7 @@
 use Rattle.rl_grammar.proofs.Names.{◌∷◌, ◌++◌, ◌∙◌, ap, sym, rules, list_all, IsUtf8, append_cancel_right, is_raw}
 use Rattle.std.specs.Str.{chars}
 use Rattle.std.proofs.lemmas.Str.{IsCharBoundary-at_seam}
-use Rattle.rl_tokens.proofs.BehindLemmas.{behind_step, if_none}
+use Rattle.rl_tokens.proofs.TailLemmas.{tail_step, if_none}
 use Rattle.rl_grammar.specs.Founds.{body_in}
 use Rattle.rl_grammar.proofs.CutLemmas.{behind_chars}
 use Rattle.rl_grammar.proofs.FormLemmas.{front_sound}
@@ -43,7 +43,7 @@ range_from-closer-requires c =
 pub places-requires-clause-opened : goal.places-requires-clause-opened
 places-requires-clause-opened c =
     let rest = c.skip_hashes-rest.ensures.following in
-    behind_step _ _ _ (opened _ _ _ _ c.utf8.text c.utf8.inside c.requires) (behind_step _ _ _ rest c.in_ok-opened.ensures.following)
+    tail_step _ _ _ (opened _ _ _ _ c.utf8.text c.utf8.inside c.requires) (tail_step _ _ _ rest c.in_ok-opened.ensures.following)
 
 pub places-requires-clause-suffix : goal.places-requires-clause-suffix
 places-requires-clause-suffix c =

@@ -1,6 +1,6 @@
 use Rattle.std.proofs.Common.{arith}
 use Rattle.std.specs.Str.{chars}
-use Rattle.rl_tokens.proofs.Faults.{char_len}
+use Rattle.rl_tokens.proofs.ErrorKinds.{char_len}
 use Rattle.rl_sources.proofs.place.place_of.Goals as goal
 
 pub returns-then-by_line-clause-place : goal.returns-then-by_line-clause-place

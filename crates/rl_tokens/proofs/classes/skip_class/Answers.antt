@@ -2,18 +2,18 @@ use Rattle.std.proofs.lemmas.Grind.{common_steps}
 use Rattle.std.proofs.Common.{◌∙◌, sym, rules, arith}
 use Rattle.std.specs.Str.{chars}
 use Rattle.rl_tokens.specs.Classes.{class_test}
-use Rattle.rl_tokens.proofs.BehindLemmas.{behind_step}
+use Rattle.rl_tokens.proofs.TailLemmas.{tail_step}
 use Rattle.rl_tokens.proofs.RowSteps.{row_step}
 use Rattle.rl_tokens.proofs.classes.skip_class.Goals as goal
 
 pub loop-byte-preserved : goal.loop-byte-preserved
 loop-byte-preserved c = record {
-  following = behind_step c.args.text.now c.loop-byte.rest.now c.in-Some.following.now c.loop-byte.invariant.following c.in-Some.ensures.following;
+  following = tail_step c.args.text.now c.loop-byte.rest.now c.in-Some.following.now c.loop-byte.invariant.following c.in-Some.ensures.following;
   same = row_step (class_test c.args.class) (chars c.loop-byte.rest.now) (chars c.in-Some.following.now) c.in-Some.byte c.in-Some.ensures.some (sym c.if-not-is_of.ensures) ∙ c.loop-byte.invariant.same;
 }
 
 pub returns-clause-following : goal.returns-clause-following
-returns-clause-following c = behind_step c.args.text.now c.loop-byte.rest.now c.skip_wide_class.result.now c.loop-byte.invariant.following c.skip_wide_class.ensures.following
+returns-clause-following c = tail_step c.args.text.now c.loop-byte.rest.now c.skip_wide_class.result.now c.loop-byte.invariant.following c.skip_wide_class.ensures.following
 
 pub returns-then-not-is_of-clause-rest : goal.returns-then-not-is_of-clause-rest
 returns-then-not-is_of-clause-rest c = search rules steps 300000

@@ -6,7 +6,7 @@ use Rattle.rl_tokens.specs.Classes.{after_run, class_test}
 use Rattle.rl_tokens.specs.Mirrors.RunsAt.{is_held}
 use Rattle.rl_tokens.proofs.LaneLemmas.{said}
 use Rattle.rl_tokens.proofs.AsciiRuns.{held_cut, run_past, run_ended}
-use Rattle.rl_tokens.proofs.BehindLemmas.{behind_step}
+use Rattle.rl_tokens.proofs.TailLemmas.{tail_step}
 use Rattle.rl_tokens.proofs.classes.skip_run.Goals as goal
 
 pub range_from-rest-requires : goal.range_from-rest-requires
@@ -41,4 +41,4 @@ returns-in-None-clause-following g c =
     let q = is_held (said g.row.WORD) in
     let t = c.args.text.now in
     let len : c.run_len.result ≡ prefix_len q t = c.run_len.ensures ∙ ap (prefix_len q) c.as_bytes.ensures.value in
-    behind_step _ _ _ (subst (IsTail t) (sym (c.range_from-rest.ensures.value ∙ ap (λ n. drop n t) len)) (held_cut (said g.row.WORD) t c.utf8.text).behind) c.skip_wide_class.ensures.following
+    tail_step _ _ _ (subst (IsTail t) (sym (c.range_from-rest.ensures.value ∙ ap (λ n. drop n t) len)) (held_cut (said g.row.WORD) t c.utf8.text).behind) c.skip_wide_class.ensures.following

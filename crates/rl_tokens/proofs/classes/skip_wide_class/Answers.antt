@@ -2,13 +2,13 @@ use Rattle.std.proofs.lemmas.Grind.{common_steps}
 use Rattle.std.proofs.Common.{◌∙◌, sym, arith}
 use Rattle.std.specs.Str.{chars}
 use Rattle.rl_tokens.specs.Classes.{class_test}
-use Rattle.rl_tokens.proofs.BehindLemmas.{behind_step}
+use Rattle.rl_tokens.proofs.TailLemmas.{tail_step}
 use Rattle.rl_tokens.proofs.RowSteps.{row_step}
 use Rattle.rl_tokens.proofs.classes.skip_wide_class.Goals as goal
 
 pub loop-c-preserved : goal.loop-c-preserved
 loop-c-preserved c = record {
-  following = behind_step c.args.text.now c.loop-c.rest.now c.in-Some.following.now c.loop-c.invariant.following c.in-Some.ensures.following;
+  following = tail_step c.args.text.now c.loop-c.rest.now c.in-Some.following.now c.loop-c.invariant.following c.in-Some.ensures.following;
   same = row_step (class_test c.args.class) (chars c.loop-c.rest.now) (chars c.in-Some.following.now) c.in-Some.c c.in-Some.ensures.chars (sym c.if-not-is_of.ensures) ∙ c.loop-c.invariant.same;
 }
 

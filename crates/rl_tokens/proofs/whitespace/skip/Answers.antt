@@ -2,7 +2,7 @@
 use Rattle.std.proofs.Common.{refl}
 use Rattle.std.specs.Str.{chars}
 use Rattle.rl_tokens.specs.Texts.{is_white}
-use Rattle.rl_tokens.proofs.BehindLemmas.{behind_step}
+use Rattle.rl_tokens.proofs.TailLemmas.{tail_step}
 use Rattle.rl_tokens.proofs.Pieces.{one_rest, run_ends, skipped_again, skipped_none, skipped_run, skipped_slash}
 use Rattle.rl_tokens.proofs.whitespace.skip.Goals as goal
 
@@ -14,7 +14,7 @@ returns-then-begins_comment c =
     let run = c.skip_white-rest.ensures in
     let more = c.skip_comments.ensures in
     let skipped = skipped_run (chars c.args.text.now) _ _ run.rest more.skipped in
-    record { skipped = skipped; following = behind_step _ _ _ run.following more.following; only = one_rest; again = skipped_again _ _ skipped }
+    record { skipped = skipped; following = tail_step _ _ _ run.following more.following; only = one_rest; again = skipped_again _ _ skipped }
 
 pub returns-in_default : goal.returns-in_default
 returns-in_default c =

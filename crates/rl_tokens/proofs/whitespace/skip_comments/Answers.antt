@@ -3,7 +3,7 @@ use Rattle.std.proofs.Common.{arith, sym}
 use Rattle.std.proofs.lemmas.Grind.{common_steps}
 use Rattle.std.specs.Str.{chars}
 use Rattle.rl_tokens.specs.Texts.{is_white}
-use Rattle.rl_tokens.proofs.BehindLemmas.{behind_step}
+use Rattle.rl_tokens.proofs.TailLemmas.{tail_step}
 use Rattle.rl_tokens.proofs.Pieces.{run_ends, skipped_run, skipped_none, skipped_slash, skipped_comment}
 use Rattle.rl_tokens.proofs.whitespace.skip_comments.Goals as goal
 
@@ -12,7 +12,7 @@ loop-inside-preserved c =
     let run = c.skip_white-rest.ensures in
     let following = c.in-Some-after_comment.following.now in
     record {
-      following = behind_step _ _ _ (behind_step _ _ _ (behind_step _ _ _ c.loop-inside.invariant.following c.in-Some.ensures.following) c.in-Some-after_comment.ensures.following) run.following;
+      following = tail_step _ _ _ (tail_step _ _ _ (tail_step _ _ _ c.loop-inside.invariant.following c.in-Some.ensures.following) c.in-Some-after_comment.ensures.following) run.following;
       dark = run_ends is_white (chars following) _ run.rest;
       skipped = λ r s. c.loop-inside.invariant.skipped r (skipped_comment _ _ (chars following) r c.in-Some.ensures.rest (sym c.in-Some-after_comment.ensures.rest) (skipped_run (chars following) _ r run.rest s));
     }

@@ -1,5 +1,5 @@
 use Rattle.rl_grammar.proofs.Names.{◌∙◌, sym}
-use Rattle.rl_tokens.proofs.BehindLemmas.{if_none}
+use Rattle.rl_tokens.proofs.TailLemmas.{if_none}
 use Rattle.rl_grammar.proofs.FoundLemmas.{found_reads}
 use Rattle.rl_grammar.proofs.SegmentStarts.{no_quoted, none_quoted}
 use Rattle.rl_grammar.proofs.segments.Segments.of.Goals as goal

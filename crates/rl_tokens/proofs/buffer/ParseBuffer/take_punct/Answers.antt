@@ -2,8 +2,8 @@ use Rattle.std.proofs.Common.{arith}
 use Rattle.std.proofs.lemmas.Grind.{common_steps}
 use Rattle.rl_tokens.proofs.buffer.ParseBuffer.take_punct.Goals as goal
 
-pub returns-in-Some-clause-lent : goal.returns-in-Some-clause-lent
-returns-in-Some-clause-lent g c = grind (arith, common_steps)
+pub returns-in-Some-clause-borrowed : goal.returns-in-Some-clause-borrowed
+returns-in-Some-clause-borrowed g c = grind (arith, common_steps)
 
 pub returns-in-None-clause-left : goal.returns-in-None-clause-left
 returns-in-None-clause-left g c = grind (arith, common_steps)

@@ -1,7 +1,7 @@
 use Rattle.std.proofs.Common.{arith}
 use Rattle.std.proofs.lemmas.Grind.{common_steps}
-use Rattle.rl_tokens.proofs.BehindLemmas.{behind_step}
+use Rattle.rl_tokens.proofs.TailLemmas.{tail_step}
 use Rattle.rl_tokens.proofs.lexeme.number.after_digits.Goals as goal
 
 pub loop-following-preserved : goal.loop-following-preserved
-loop-following-preserved c = grind (arith, common_steps, behind_step)
+loop-following-preserved c = grind (arith, common_steps, tail_step)

@@ -1,7 +1,7 @@
 use Rattle.std.proofs.Common.{arith}
 use Rattle.std.proofs.lemmas.Grind.{common_steps}
-use Rattle.rl_tokens.proofs.BehindLemmas.{behind_step}
+use Rattle.rl_tokens.proofs.TailLemmas.{tail_step}
 use Rattle.rl_tokens.proofs.lexeme.number.after_fraction.Goals as goal
 
 pub returns-then-begins_dot-clause-following : goal.returns-then-begins_dot-clause-following
-returns-then-begins_dot-clause-following c = grind (arith, common_steps, behind_step)
+returns-then-begins_dot-clause-following c = grind (arith, common_steps, tail_step)

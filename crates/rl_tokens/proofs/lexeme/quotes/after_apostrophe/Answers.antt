@@ -1,14 +1,14 @@
 use Rattle.std.proofs.Common.{◌∙◌}
 use Rattle.std.specs.Str.{chars}
-use Rattle.rl_tokens.proofs.BehindLemmas.{behind_step}
+use Rattle.rl_tokens.proofs.TailLemmas.{tail_step}
 use Rattle.rl_tokens.proofs.RowSteps.{apostrophe_step}
 use Rattle.rl_tokens.proofs.lexeme.quotes.after_apostrophe.Goals as goal
 
 pub returns-then-c-eq39-clause-following : goal.returns-then-c-eq39-clause-following
-returns-then-c-eq39-clause-following c = behind_step _ _ _ c.loop-c.invariant.following c.in-Some.ensures.following
+returns-then-c-eq39-clause-following c = tail_step _ _ _ c.loop-c.invariant.following c.in-Some.ensures.following
 
 pub loop-c-preserved : goal.loop-c-preserved
 loop-c-preserved c = record {
-  following = behind_step c.args.text.now c.loop-c.rest.now c.in-Some.following.now c.loop-c.invariant.following c.in-Some.ensures.following;
+  following = tail_step c.args.text.now c.loop-c.rest.now c.in-Some.following.now c.loop-c.invariant.following c.in-Some.ensures.following;
   same = apostrophe_step (chars c.loop-c.rest.now) (chars c.in-Some.following.now) c.in-Some.c c.in-Some.ensures.chars c.if-c-eq39.false c.if-c-eq10.false ∙ c.loop-c.invariant.same;
 }

@@ -1,7 +1,7 @@
 use Rattle.std.proofs.Common.{◌≡◌, ◌∙◌, sym, ap, inl, inr, None, rules}
 use Rattle.std.specs.Option.{option_map}
 use Rattle.std.specs.Str.{chars}
-use Rattle.rl_tokens.proofs.BehindLemmas.{behind_step}
+use Rattle.rl_tokens.proofs.TailLemmas.{tail_step}
 use Rattle.rl_tokens.proofs.LexemeSteps.{quote_none, quote_found, quote_taken, quote_open, which}
 use Rattle.rl_tokens.proofs.lexeme.quotes.after_quote.Goals as goal
 
@@ -26,7 +26,7 @@ loop-mark-preserved c =
     let next = c.in-Some.ensures in
     let more = c.in_ok-more.ensures in
     record {
-      following = behind_step _ _ _ (behind_step _ _ _ c.loop-mark.invariant.following next.following) more.following;
+      following = tail_step _ _ _ (tail_step _ _ _ c.loop-mark.invariant.following next.following) more.following;
       same = elim (which _ 34 92 _ m next.some.is_mark) [
         | inl quote ↦ absurd (c.if-mark-eq34.false quote)
         | inr backslash ↦ sym (quote_taken _ _ _ _ _ _ (ap (λ z. z.first) m) (ap (λ z. z.second) m) next.some backslash more.chars) ∙ c.loop-mark.invariant.same

@@ -1,5 +1,5 @@
 use Rattle.std.proofs.Common.{◌∙◌, sym, ap, Some}
-use Rattle.rl_tokens.proofs.BehindLemmas.{behind_step}
+use Rattle.rl_tokens.proofs.TailLemmas.{tail_step}
 use Rattle.rl_tokens.proofs.HashLemmas.{hashes_met, hashes_missed}
 use Rattle.rl_tokens.proofs.LexemeSteps.{raw_none, raw_found, raw_passes, only}
 use Rattle.rl_tokens.proofs.lexeme.quotes.after_raw.Goals as goal
@@ -17,7 +17,7 @@ loop-following-preserved c =
     let next = c.in-Some.ensures in
     let missed = hashes_missed _ _ c.requires c.in_default-after_prefix.ensures.none in
     record {
-      following = behind_step _ _ _ c.loop-following.invariant.following next.following;
+      following = tail_step _ _ _ c.loop-following.invariant.following next.following;
       same = sym (raw_passes _ _ _ _ _ (ap (λ z. z.first) m) next.some (only _ 34 _ m next.some.is_mark) missed) ∙ c.loop-following.invariant.same;
     }
 
@@ -28,4 +28,4 @@ returns-clause-rest c =
 
 pub returns-in-Some-after_prefix-clause-following : goal.returns-in-Some-after_prefix-clause-following
 returns-in-Some-after_prefix-clause-following c =
-    behind_step _ _ _ (behind_step _ _ _ c.loop-following.invariant.following c.in-Some.ensures.following) c.in-Some-after_prefix.ensures.following
+    tail_step _ _ _ (tail_step _ _ _ c.loop-following.invariant.following c.in-Some.ensures.following) c.in-Some-after_prefix.ensures.following

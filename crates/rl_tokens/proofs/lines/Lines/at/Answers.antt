@@ -1,4 +1,4 @@
-use Rattle.rl_tokens.proofs.BehindLemmas.{cut_boundary}
+use Rattle.rl_tokens.proofs.TailLemmas.{cut_boundary}
 use Rattle.rl_tokens.proofs.LineLemmas.{place_of_rest}
 use Rattle.rl_tokens.proofs.lines.Lines.at.Goals as goal
 

@@ -3,7 +3,7 @@ use Rattle.std.proofs.lemmas.Bool.{both_ways}
 use Rattle.std.specs.Str.{chars}
 use Rattle.rl_tokens.specs.Cursors.{CursorState}
 use Rattle.rl_tokens.specs.Sources.{BeginsNoSource, PassesTo}
-use Rattle.rl_tokens.proofs.BehindLemmas.{behind_step, if_none}
+use Rattle.rl_tokens.proofs.TailLemmas.{tail_step, if_none}
 use Rattle.rl_tokens.proofs.LiteralSteps.{passed_join, passes_held, passes_one}
 use Rattle.rl_tokens.proofs.sources.Sources.next_literal.Goals as goal
 
@@ -11,7 +11,7 @@ pub loop-token-init : goal.loop-token-init
 loop-token-init c = inl refl
 
 pub invariant_of-self : goal.invariant_of-self
-invariant_of-self c = record { is_text = c.self.invariant.is_text; following = behind_step _ _ _ c.self.invariant.following c.skip_unlikely-self-inside.ensures.following }
+invariant_of-self c = record { is_text = c.self.invariant.is_text; following = tail_step _ _ _ c.self.invariant.following c.skip_unlikely-self-inside.ensures.following }
 
 pub returns-in_err-token-clause-passed : goal.returns-in_err-token-clause-passed
 returns-in_err-token-clause-passed c =

@@ -117,17 +117,17 @@ pub nothing_stuck : (groups : List OpenGroup) (r : List ℕ) → r ≡ [] → Is
 nothing_stuck groups r nil = stuck_unless groups r (ap lexeme_at nil)
 
 -- no token goes on at an error
-pub fault_stuck : (k : LexKind) (groups : List OpenGroup) (r : List ℕ) → ErrorAt k groups r → IsStuck groups r
-fault_stuck DocComment groups r h = stuck_unless groups r (slash_none r (doc_slash r h))
-fault_stuck UnclosedComment groups r (h, other) = stuck_unless groups r (slash_none r (block_slash r h))
-fault_stuck UnclosedQuote groups r (none, h) = stuck_without groups r none
-fault_stuck Lifetime groups r (none, h) = stuck_without groups r none
-fault_stuck RawIdentifier groups r (none, h) = stuck_without groups r none
-fault_stuck StrayCharacter groups r (some, none, no_quote, h) = stuck_without groups r none
-fault_stuck UnmatchedClose groups r h = close_stuck groups r h
-fault_stuck UnclosedGroup groups r (nil, some) = nothing_stuck groups r nil
-fault_stuck TooDeep groups r (h, n) = deep_stuck groups r h n
-fault_stuck Memory groups r h = absurd h
+pub error_stuck : (k : LexKind) (groups : List OpenGroup) (r : List ℕ) → ErrorAt k groups r → IsStuck groups r
+error_stuck DocComment groups r h = stuck_unless groups r (slash_none r (doc_slash r h))
+error_stuck UnclosedComment groups r (h, other) = stuck_unless groups r (slash_none r (block_slash r h))
+error_stuck UnclosedQuote groups r (none, h) = stuck_without groups r none
+error_stuck Lifetime groups r (none, h) = stuck_without groups r none
+error_stuck RawIdentifier groups r (none, h) = stuck_without groups r none
+error_stuck StrayCharacter groups r (some, none, no_quote, h) = stuck_without groups r none
+error_stuck UnmatchedClose groups r h = close_stuck groups r h
+error_stuck UnclosedGroup groups r (nil, some) = nothing_stuck groups r nil
+error_stuck TooDeep groups r (h, n) = deep_stuck groups r h n
+error_stuck Memory groups r h = absurd h
 
 -- The rest determines the kind of an error.
 abbrev kind_by_form : LexemeForm → LexKind
@@ -241,31 +241,31 @@ deep_kind r h =
     let (c, t, same, is) = first_passed is_opener r h in
     delimiter_kind TooDeep c t r same (opener_among c is) (ap (λ b. if b then TooDeep else UnmatchedClose) is)
 
-pub fault_kind_at : (k : LexKind) (groups : List OpenGroup) (r : List ℕ) → ErrorAt k groups r → k ≡ kind_at (lexeme_at r) r
-fault_kind_at DocComment groups r h =
+pub error_kind_at : (k : LexKind) (groups : List OpenGroup) (r : List ℕ) → ErrorAt k groups r → k ≡ kind_at (lexeme_at r) r
+error_kind_at DocComment groups r h =
     no_lexeme_kind r DocComment (slash_none r (doc_slash r h)) (slash_some r (doc_slash r h))
     (chosen_kind r true (begins (codes "/*") r) (begins_quote r) (begins_lifetime r) (begins_raw_identifier r) h refl refl refl refl)
-fault_kind_at UnclosedComment groups r (h, other) =
+error_kind_at UnclosedComment groups r (h, other) =
     no_lexeme_kind r UnclosedComment (slash_none r (block_slash r h)) (slash_some r (block_slash r h))
     (chosen_kind r false true (begins_quote r) (begins_lifetime r) (begins_raw_identifier r) other h refl refl refl)
-fault_kind_at UnclosedQuote groups r (none, h) = quote_kind r none (quote_here r h)
-fault_kind_at Lifetime groups r (none, h) = life_kind r none h
-fault_kind_at RawIdentifier groups r (none, h) = raw_kind r none h
-fault_kind_at StrayCharacter groups r (some, none, no_quote, h) = stray_kind r some none (no_quote_here r no_quote) h
-fault_kind_at UnmatchedClose groups r h = close_kind groups r h
-fault_kind_at UnclosedGroup groups r (nil, some) = sym (ap (λ x. kind_at (lexeme_at x) x) nil)
-fault_kind_at TooDeep groups r (h, n) = deep_kind r h
-fault_kind_at Memory groups r h = absurd h
+error_kind_at UnclosedQuote groups r (none, h) = quote_kind r none (quote_here r h)
+error_kind_at Lifetime groups r (none, h) = life_kind r none h
+error_kind_at RawIdentifier groups r (none, h) = raw_kind r none h
+error_kind_at StrayCharacter groups r (some, none, no_quote, h) = stray_kind r some none (no_quote_here r no_quote) h
+error_kind_at UnmatchedClose groups r h = close_kind groups r h
+error_kind_at UnclosedGroup groups r (nil, some) = sym (ap (λ x. kind_at (lexeme_at x) x) nil)
+error_kind_at TooDeep groups r (h, n) = deep_kind r h
+error_kind_at Memory groups r h = absurd h
 
 -- nothing is wrong where nothing is left and no group is open
-pub no_fault : (k : LexKind) → ErrorAt k [] [] → ⊥
-no_fault DocComment h = absurd (cc)
-no_fault UnclosedComment (h, _) = absurd (cc)
-no_fault UnclosedQuote (_, h) = let q : false ≡ true = quote_here [] h in absurd (cc)
-no_fault Lifetime (_, h) = absurd (cc)
-no_fault RawIdentifier (_, h) = absurd (cc)
-no_fault StrayCharacter (some, _, _, _) = some refl
-no_fault UnmatchedClose h = absurd (cc)
-no_fault UnclosedGroup (_, some) = some refl
-no_fault TooDeep (h, _) = absurd (cc)
-no_fault Memory h = h
+pub no_error : (k : LexKind) → ErrorAt k [] [] → ⊥
+no_error DocComment h = absurd (cc)
+no_error UnclosedComment (h, _) = absurd (cc)
+no_error UnclosedQuote (_, h) = let q : false ≡ true = quote_here [] h in absurd (cc)
+no_error Lifetime (_, h) = absurd (cc)
+no_error RawIdentifier (_, h) = absurd (cc)
+no_error StrayCharacter (some, _, _, _) = some refl
+no_error UnmatchedClose h = absurd (cc)
+no_error UnclosedGroup (_, some) = some refl
+no_error TooDeep (h, _) = absurd (cc)
+no_error Memory h = h

@@ -10,10 +10,10 @@ use Rattle.rl_tokens.specs.declared.lex_error.LexKind.TheVariants.{DocComment, U
 use Rattle.rl_tokens.specs.declared.lex_error.LexError.{LexError}
 use Rattle.rl_tokens.specs.Texts.{begins, byte_len}
 use Rattle.rl_tokens.specs.Cursors.{CursorState, IsCursorState, IsFirstError}
-use Rattle.rl_tokens.specs.Lexing.{LexedToken, LexesUpTo, open_groups, OpenGroup, error_place, begins_doc_comment, begins_lifetime, BeginsNoLexeme, ErrorAt, Fault, Rejects}
+use Rattle.rl_tokens.specs.Lexing.{LexedToken, LexesUpTo, open_groups, OpenGroup, error_place, begins_doc_comment, begins_lifetime, BeginsNoLexeme, ErrorAt, HasFirstError, Rejects}
 use Rattle.rl_tokens.specs.Mirrors.TreeBuilders.{error_kind}
 use Rattle.rl_tokens.proofs.LexemeOpeners.{quote_begins, no_quote_begins}
-use Rattle.rl_tokens.proofs.Rests.{behind_length}
+use Rattle.rl_tokens.proofs.Rests.{tail_length}
 use Rattle.rl_tokens.specs.Mirrors.LexemeAt.{begins_quote}
 use Rattle.rl_tokens.specs.Lexemes.{begins_raw_identifier}
 
@@ -44,17 +44,17 @@ kind_here groups r some none =
         none_of_these : begins_doc_comment r ≡ false → begins (codes "/*") r ≡ false → begins_lifetime r ≡ false → begins_raw_identifier r ≡ false → (begins_doc_comment r || begins (codes "/*") r || begins_lifetime r || begins_raw_identifier r) ≡ false
         none_of_these a b d e = or_none _ _ (or_none _ _ (or_none _ _ a b) d) e
 
-pub fault_refuses : (t : List ℕ) (k : LexKind) (at : ℕ) → Fault t k at → Rejects t k at
-fault_refuses t DocComment at h = h
-fault_refuses t UnclosedComment at h = h
-fault_refuses t UnclosedQuote at h = h
-fault_refuses t Lifetime at h = h
-fault_refuses t RawIdentifier at h = h
-fault_refuses t StrayCharacter at h = h
-fault_refuses t UnmatchedClose at h = h
-fault_refuses t UnclosedGroup at h = h
-fault_refuses t TooDeep at h = h
-fault_refuses t Memory at h = absurd h.fault
+pub error_rejects : (t : List ℕ) (k : LexKind) (at : ℕ) → HasFirstError t k at → Rejects t k at
+error_rejects t DocComment at h = h
+error_rejects t UnclosedComment at h = h
+error_rejects t UnclosedQuote at h = h
+error_rejects t Lifetime at h = h
+error_rejects t RawIdentifier at h = h
+error_rejects t StrayCharacter at h = h
+error_rejects t UnmatchedClose at h = h
+error_rejects t UnclosedGroup at h = h
+error_rejects t TooDeep at h = h
+error_rejects t Memory at h = absurd h.error
 
 -- the error at a rest that isn't empty is reported where the rest begins
 here_place : (r : List ℕ) (groups : List OpenGroup) (at : ℕ) → at ≡ error_place (error_kind r) groups at
@@ -76,17 +76,17 @@ chars_some rest is some nil =
 
 -- What the cursor tells where no lexeme begins what is left.
 pub record Stops (t : CursorState) (e : LexError) : Type 0 where
-  pub fault : (groups : List OpenGroup) → ErrorAt e.kind groups (chars t.rest)
+  pub error : (groups : List OpenGroup) → ErrorAt e.kind groups (chars t.rest)
   pub first : IsFirstError t e.kind e.at
 
 pub stops_here : (text rest : List ℕ) (e : LexError) (kind : LexKind) → IsCursorState text rest → (empty : Bool) → empty ≡ (length rest == 0) → empty ≡ false → BeginsNoLexeme (chars rest) → kind ≡ error_kind (chars rest) → e ≡ record { kind = kind; at = length text - length rest } → Stops (record { text = text; rest = rest }) e
 stops_here text rest e kind is empty empty_is some none kind_is e_is =
     let t : CursorState = record { text = text; rest = rest } in
     let place : ℕ = length text - length rest in
-    let here : place + length rest ≡ length text = omega (arith, behind_length text rest is.following) in
-    let fault : (groups : List OpenGroup) → ErrorAt kind groups (chars rest) =
+    let here : place + length rest ≡ length text = omega (arith, tail_length text rest is.following) in
+    let error : (groups : List OpenGroup) → ErrorAt kind groups (chars rest) =
     λ groups. rw kind_is (kind_here groups (chars rest) (chars_some rest is.following.is_text (sym empty_is ∙ some)) none) in
-    let first : (cuts : List LexedToken) (groups : List OpenGroup) → LexesUpTo 0 (chars text) cuts (chars rest) → open_groups [] cuts ≡ Some groups → Fault (chars text) kind place =
+    let first : (cuts : List LexedToken) (groups : List OpenGroup) → LexesUpTo 0 (chars text) cuts (chars rest) → open_groups [] cuts ≡ Some groups → HasFirstError (chars text) kind place =
     λ cuts groups are open_now. record {
       cuts = cuts;
       rest = chars rest;
@@ -94,11 +94,11 @@ stops_here text rest e kind is empty empty_is some none kind_is e_is =
       rest_at = place;
       are_cuts = are;
       are_open = open_now;
-      fault = fault groups;
+      error = error groups;
       rest_place = rest_place text rest place is.is_text is.following.is_text here;
       at_is = rw kind_is (here_place (chars rest) groups place);
     } in
-    subst (λ (x : LexError). Stops t x) (sym e_is) (record { fault = fault; first = first })
+    subst (λ (x : LexError). Stops t x) (sym e_is) (record { error = error; first = first })
 
 pub none_some : {A : Type 0} (r : Option A) (P : Type 0) (b : Bool) → b ≡ is_some r → b ≡ false → IfNone r P → P
 none_some None P b e h p = p

@@ -1,5 +1,5 @@
 use Rattle.std.proofs.Common.{rules}
-use Rattle.rl_tokens.proofs.literal.text_behind_minus.Goals as goal
+use Rattle.rl_tokens.proofs.literal.text_after_minus.Goals as goal
 
 pub returns : goal.returns
 returns g c = search rules steps 300000

@@ -3,20 +3,20 @@ use Rattle.std.proofs.Common.{arith}
 use Rattle.std.proofs.lemmas.Grind.{common_steps}
 use Rattle.std.specs.Str.{chars}
 use Rattle.rl_tokens.specs.Lexing.{BeginsNoLexeme}
-use Rattle.rl_tokens.proofs.Faults.{stops_here, none_some}
-use Rattle.rl_tokens.proofs.cursor.Tokens.fault.Goals as goal
+use Rattle.rl_tokens.proofs.ErrorKinds.{stops_here, none_some}
+use Rattle.rl_tokens.proofs.cursor.Tokens.error.Goals as goal
 
 pub returns-clause-stopped : goal.returns-clause-stopped
 returns-clause-stopped c =
     rw (← c.self.view_is)
     (none_some c.first_lexeme.result (BeginsNoLexeme (chars c.self.inside.rest.now)) c.is_some.result c.is_some.ensures c.if-is_some.false c.first_lexeme.ensures.none)
 
-pub returns-clause-fault : goal.returns-clause-fault
-returns-clause-fault c =
+pub returns-clause-error : goal.returns-clause-error
+returns-clause-error c =
     let R = c.self.inside.rest.now in
     let none : BeginsNoLexeme (chars R) = none_some c.first_lexeme.result _ c.is_some.result c.is_some.ensures c.if-is_some.false c.first_lexeme.ensures.none in
     rw (← c.self.view_is)
-    (stops_here c.self.inside.text.now R c.new.result c.error_kind-kind.result c.self.invariant c.is_empty.result c.is_empty.ensures c.if-is_empty.false none c.error_kind-kind.ensures c.new.ensures).fault
+    (stops_here c.self.inside.text.now R c.new.result c.error_kind-kind.result c.self.invariant c.is_empty.result c.is_empty.ensures c.if-is_empty.false none c.error_kind-kind.ensures c.new.ensures).error
 
 pub returns-clause-first : goal.returns-clause-first
 returns-clause-first c =

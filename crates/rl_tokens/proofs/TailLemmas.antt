@@ -6,27 +6,27 @@ use Rattle.std.proofs.lemmas.Str.{IsCharBoundary-at_seam, chars-append}
 use Rattle.std.specs.Option.{IfSome, IfNone, option_map}
 use Rattle.rl_tokens.specs.Texts.{IsTail}
 
-pub behind_self : (t : List ℕ) → IsUtf8 t → IsTail t t
-behind_self t u = record { front = []; text_is = refl; is_text = u }
+pub tail_self : (t : List ℕ) → IsUtf8 t → IsTail t t
+tail_self t u = record { front = []; text_is = refl; is_text = u }
 
-pub behind_step : (a b d : List ℕ) → IsTail a b → IsTail b d → IsTail a d
-behind_step a b d p q = record {
+pub tail_step : (a b d : List ℕ) → IsTail a b → IsTail b d → IsTail a d
+tail_step a b d p q = record {
   front = p.front ++ q.front;
   text_is = p.text_is ∙ ap (λ z. p.front ++ z) q.text_is ∙ sym (append_assoc p.front q.front d);
   is_text = q.is_text;
 }
 
-pub some_behind : {I : Type 0} (rest : I → List ℕ) (a b : List ℕ) (r : Option I) → IsTail a b → IfSome r (λ i. IsTail b (rest i)) → IfSome r (λ i. IsTail a (rest i))
-some_behind rest a b None p q = tt
-some_behind rest a b (Some i) p q = behind_step a b (rest i) p q
+pub some_tail : {I : Type 0} (rest : I → List ℕ) (a b : List ℕ) (r : Option I) → IsTail a b → IfSome r (λ i. IsTail b (rest i)) → IfSome r (λ i. IsTail a (rest i))
+some_tail rest a b None p q = tt
+some_tail rest a b (Some i) p q = tail_step a b (rest i) p q
 
 -- what a form is put to stays behind
 pub mapped : {I J : Type 0} (P : J → Type 0) (f : I → J) (r : Option I) (result : Option J) → result ≡ option_map f r → IfSome r (λ i. P (f i)) → IfSome result P
 mapped P f None result e q = subst (λ z. IfSome z P) (sym e) tt
 mapped P f (Some i) result e q = subst (λ z. IfSome z P) (sym e) q
 
-pub mapped_behind : {I J : Type 0} (rest : J → List ℕ) (f : I → J) (a b : List ℕ) (r : Option I) (result : Option J) → result ≡ option_map f r → IsTail a b → IfSome r (λ i. IsTail b (rest (f i))) → IfSome result (λ p. IsTail a (rest p))
-mapped_behind rest f a b r result e p q = some_behind rest a b result p (mapped (λ j. IsTail b (rest j)) f r result e q)
+pub mapped_tail : {I J : Type 0} (rest : J → List ℕ) (f : I → J) (a b : List ℕ) (r : Option I) (result : Option J) → result ≡ option_map f r → IsTail a b → IfSome r (λ i. IsTail b (rest (f i))) → IfSome result (λ p. IsTail a (rest p))
+mapped_tail rest f a b r result e p q = some_tail rest a b result p (mapped (λ j. IsTail b (rest j)) f r result e q)
 
 -- where the text is cut
 front_len : (bs xs ys : List ℕ) → bs ≡ xs ++ ys → length xs ≡ length bs - length ys
