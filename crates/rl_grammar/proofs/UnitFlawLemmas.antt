@@ -23,18 +23,18 @@ pub record Stops {V : Type 0} (reader : Reader V) (text rest : List ℕ) : Type 
   pub stuck : (c : ℕ) (cs e : List ℕ) → rest ≡ c ∷ cs → reader (front ++ (c ∷ e)) ≡ None
 
 -- The text stops so at the flaw's place, and has the flaw's kind by what stands before it too.
-pub record Spoils {V : Type 0} (kind : Kind) (reader : Reader V) (before text : List ℕ) (flaw : FoundFlaw) : Type 0 where
+pub record HasUnitFlaw {V : Type 0} (kind : Kind) (reader : Reader V) (before text : List ℕ) (flaw : FoundFlaw) : Type 0 where
   pub stops : Stops reader text flaw.1
   pub has : UnitFlaw kind flaw.0 (before ++ text) flaw.1
 
-at_end : {V : Type 0} {kind : Kind} {reader : Reader V} {before : List ℕ} → Completes reader [] → Spoils kind reader before [] (found_flaw Unclosed [])
+at_end : {V : Type 0} {kind : Kind} {reader : Reader V} {before : List ℕ} → Completes reader [] → HasUnitFlaw kind reader before [] (found_flaw Unclosed [])
 at_end k = record {
   stops = record { front = []; text_is = refl; completes = k; stuck = λ c cs e h. absurd (cc) };
   has = refl;
 }
 
 -- with this first character nothing is read
-here : {V : Type 0} {kind : Kind} {reader : Reader V} {before : List ℕ} (c : ℕ) (cs : List ℕ) (flaw : FlawKind) → Completes reader [] → ((e : List ℕ) → reader (c ∷ e) ≡ None) → UnitFlaw kind flaw (before ++ (c ∷ cs)) (c ∷ cs) → Spoils kind reader before (c ∷ cs) (found_flaw flaw (c ∷ cs))
+here : {V : Type 0} {kind : Kind} {reader : Reader V} {before : List ℕ} (c : ℕ) (cs : List ℕ) (flaw : FlawKind) → Completes reader [] → ((e : List ℕ) → reader (c ∷ e) ≡ None) → UnitFlaw kind flaw (before ++ (c ∷ cs)) (c ∷ cs) → HasUnitFlaw kind reader before (c ∷ cs) (found_flaw flaw (c ∷ cs))
 here {reader} c cs flaw k none has = record {
   stops = record {
     front = [];
@@ -46,12 +46,12 @@ here {reader} c cs flaw k none has = record {
 }
 
 -- with this first character it is as with what follows
-next : {V W : Type 0} {kind : Kind} {before cs : List ℕ} {flaw : FoundFlaw} (inner : Reader V) (outer : Reader W) (f : V → W) (c x : ℕ) → c ≡ x → ((u : List ℕ) → outer (x ∷ u) ≡ option_and_then (λ p. given (f p.0) p.1) (inner u)) → outer (c ∷ cs) ≡ None → (inner cs ≡ None → Spoils kind inner (before ++ (x ∷ [])) cs flaw) → Spoils kind outer before (c ∷ cs) flaw
+next : {V W : Type 0} {kind : Kind} {before cs : List ℕ} {flaw : FoundFlaw} (inner : Reader V) (outer : Reader W) (f : V → W) (c x : ℕ) → c ≡ x → ((u : List ℕ) → outer (x ∷ u) ≡ option_and_then (λ p. given (f p.0) p.1) (inner u)) → outer (c ∷ cs) ≡ None → (inner cs ≡ None → HasUnitFlaw kind inner (before ++ (x ∷ [])) cs flaw) → HasUnitFlaw kind outer before (c ∷ cs) flaw
 next {kind} {before} {cs} {flaw} inner outer f c x is same none inside =
     let k = inside (inner_none (inner cs) f (sym (ap (λ z. outer (z ∷ cs)) is ∙ same cs) ∙ none)) in
     let s = k.stops in
     let done = s.completes in
-    subst (λ z. Spoils kind outer before (z ∷ cs) flaw) (sym is) (record {
+    subst (λ z. HasUnitFlaw kind outer before (z ∷ cs) flaw) (sym is) (record {
       stops = record {
         front = x ∷ s.front;
         text_is = ap (λ z. x ∷ z) s.text_is;
@@ -72,7 +72,7 @@ kept None = refl
 kept (Some p) = refl
 
 -- and what is read is the same
-next_same : {V : Type 0} {kind : Kind} {before cs : List ℕ} {flaw : FoundFlaw} (inner outer : Reader V) (c x : ℕ) → c ≡ x → ((u : List ℕ) → outer (x ∷ u) ≡ inner u) → outer (c ∷ cs) ≡ None → (inner cs ≡ None → Spoils kind inner (before ++ (x ∷ [])) cs flaw) → Spoils kind outer before (c ∷ cs) flaw
+next_same : {V : Type 0} {kind : Kind} {before cs : List ℕ} {flaw : FoundFlaw} (inner outer : Reader V) (c x : ℕ) → c ≡ x → ((u : List ℕ) → outer (x ∷ u) ≡ inner u) → outer (c ∷ cs) ≡ None → (inner cs ≡ None → HasUnitFlaw kind inner (before ++ (x ∷ [])) cs flaw) → HasUnitFlaw kind outer before (c ∷ cs) flaw
 next_same inner outer c x is same none inside = next inner outer (λ v. v) c x is (λ u. same u ∙ kept (inner u)) none inside
 
 -- ---- kinds, and what they hold
@@ -91,19 +91,19 @@ rejected : (b : Bool) (n : ℕ) (r : List ℕ) → number_if b n r ≡ None → 
 rejected true n r h = absurd (cc)
 rejected false n r h = refl
 
--- two digits that no kind but C strings refuses
+-- two digits that no kind but C strings rejects
 small_enough : (b : Bool) (v d : ℕ) → (b && ltb 7 v) ≡ false → d < 16 → (not b || ltb (v * 16 + d) 128) ≡ true
 small_enough false v d h digit = refl
 small_enough true v d h digit = lt-ltb (v * 16 + d) 128 (let few : v ≤ 7 = ltb-false 7 v h in omega arith)
 
-low_spoils : (kind : Kind) (c : ℕ) (t : List ℕ) → is_hex_digit c ≡ true → (holds_characters kind && ltb 7 (digit_value c)) ≡ false → second kind c t ≡ None → Spoils kind (second kind c) (92 ∷ 120 ∷ c ∷ []) t (low_digit_flaw_at t)
+low_spoils : (kind : Kind) (c : ℕ) (t : List ℕ) → is_hex_digit c ≡ true → (holds_characters kind && ltb 7 (digit_value c)) ≡ false → second kind c t ≡ None → HasUnitFlaw kind (second kind c) (92 ∷ 120 ∷ c ∷ []) t (low_digit_flaw_at t)
 low_spoils kind c [] h low none = at_end (hex_second kind c h low)
-low_spoils kind c (d ∷ ds) h low none = cond_both (is_hex_digit d) _ _ (Spoils kind (second kind c) (92 ∷ 120 ∷ c ∷ []) (d ∷ ds)) both one
+low_spoils kind c (d ∷ ds) h low none = cond_both (is_hex_digit d) _ _ (HasUnitFlaw kind (second kind c) (92 ∷ 120 ∷ c ∷ []) (d ∷ ds)) both one
   where
     n : ℕ
     n = digit_value c * 16 + digit_value d
 
-    both : is_hex_digit d ≡ true → Spoils kind (second kind c) (92 ∷ 120 ∷ c ∷ []) (d ∷ ds) (found_flaw Nul (d ∷ ds))
+    both : is_hex_digit d ≡ true → HasUnitFlaw kind (second kind c) (92 ∷ 120 ∷ c ∷ []) (d ∷ ds) (found_flaw Nul (d ∷ ds))
     both e =
         let stuck : number_if (may_be_hex kind n) n ds ≡ None = sym (hex_read kind c d ds h e) ∙ none in
         let bad : may_be_hex kind n ≡ false = rejected (may_be_hex kind n) n ds stuck in
@@ -112,14 +112,14 @@ low_spoils kind c (d ∷ ds) h low none = cond_both (is_hex_digit d) _ _ (Spoils
         let value : hex_value c d ≡ 0 = sym (two_digits (digit_value c) (digit_value d)) ∙ only_zero kind n rejects in
         here d ds Nul (hex_second kind c h low) (λ r. hex_read kind c d r h e ∙ never (may_be_hex kind n) n ds r stuck) (c_string kind n rejects, ByDigits c d ds refl refl h e value)
 
-    one : is_hex_digit d ≡ false → Spoils kind (second kind c) (92 ∷ 120 ∷ c ∷ []) (d ∷ ds) (found_flaw NoHexDigit (d ∷ ds))
+    one : is_hex_digit d ≡ false → HasUnitFlaw kind (second kind c) (92 ∷ 120 ∷ c ∷ []) (d ∷ ds) (found_flaw NoHexDigit (d ∷ ds))
     one e = here d ds NoHexDigit (hex_second kind c h low) (λ r. no_low kind c d r h e) (SecondDigit c h refl (not_from_false (is_hex_digit d) e))
 
-hex_spoils : (kind : Kind) (t : List ℕ) → hex_at kind t ≡ None → Spoils kind (hex_at kind) (92 ∷ 120 ∷ []) t (hex_flaw_at kind t)
+hex_spoils : (kind : Kind) (t : List ℕ) → hex_at kind t ≡ None → HasUnitFlaw kind (hex_at kind) (92 ∷ 120 ∷ []) t (hex_flaw_at kind t)
 unfolding hex_flaw_at
 hex_spoils kind [] none = at_end (hex_one kind)
 hex_spoils kind (c ∷ cs) none =
-    let P : FoundFlaw → Type 0 = Spoils kind (hex_at kind) (92 ∷ 120 ∷ []) (c ∷ cs) in
+    let P : FoundFlaw → Type 0 = HasUnitFlaw kind (hex_at kind) (92 ∷ 120 ∷ []) (c ∷ cs) in
     let high = holds_characters kind && ltb 7 (digit_value c) in
     cond_both (is_hex_digit c) _ _ P
       (λ e. cond_both high _ _ P
@@ -163,14 +163,14 @@ count_more ds c h = ap length (bare_digit ds c h) ∙ length-append (without_und
 code_has : (kind : Kind) (v : ℕ) (text rest : List ℕ) → is_code kind v ≡ false → ((k : FlawKind) → IsNoCode kind k v → HasNoCode kind k text rest) → UnitFlaw kind (code_flaw_of v) text rest
 code_has kind v text rest bad has = past (ltb 1114111 v) refl
   where
-    refuses : (a b : Bool) → a ≡ true → (a && b) ≡ false → b ≡ false
-    refuses true b h e = e
-    refuses false b h e = absurd (cc)
+    rejects : (a b : Bool) → a ≡ true → (a && b) ≡ false → b ≡ false
+    rejects true b h e = e
+    rejects false b h e = absurd (cc)
 
     zero : (b : Bool) → eqb v 0 ≡ b → ltb 1114111 v ≡ false → UnitFlaw kind (cond b Nul Surrogate) text rest
     zero true e small =
         let is = eqb-true v 0 e in
-        let c = c_string kind v (refuses (scalar v) (allows_code kind v) (ap scalar is) bad) in
+        let c = c_string kind v (rejects (scalar v) (allows_code kind v) (ap scalar is) bad) in
         (c, ByNumber (has Nul (c, is)))
     zero false e small =
         let none = left_false (scalar v) (allows_code kind v) (holds_more kind v e) bad in
@@ -217,11 +217,11 @@ stands_underscore kind ds v n c s e = record {
 abbrev braced_front : List ℕ → List ℕ
 braced_front ds = 92 ∷ 117 ∷ 123 ∷ ds
 
-digits_spoil : (kind : Kind) (t ds : List ℕ) (v n : ℕ) → Stands kind ds v n → coded kind v n t ≡ None → Spoils kind (coded kind v n) (braced_front ds) t (digits_flaw_at kind v n t)
+digits_spoil : (kind : Kind) (t ds : List ℕ) (v n : ℕ) → Stands kind ds v n → coded kind v n t ≡ None → HasUnitFlaw kind (coded kind v n) (braced_front ds) t (digits_flaw_at kind v n t)
 unfolding digits_flaw_at
 digits_spoil kind [] ds v n s none = at_end (closing kind v n s.spelled)
 digits_spoil kind (c ∷ cs) ds v n s none =
-    let P : FoundFlaw → Type 0 = Spoils kind (coded kind v n) (braced_front ds) (c ∷ cs) in
+    let P : FoundFlaw → Type 0 = HasUnitFlaw kind (coded kind v n) (braced_front ds) (c ∷ cs) in
     let w = v * 16 + digit_value c in
     let text = braced_front ds ++ (c ∷ cs) in
     let spelled = s.spelled in
@@ -276,21 +276,21 @@ first_stands kind c u h =
       spelled = first_spelled kind c u h;
     }
 
-first_digit_spoils : (kind : Kind) (t : List ℕ) → has_unicode kind ≡ true → braced kind t ≡ None → Spoils kind (braced kind) (braced_front []) t (first_digit_flaw_at kind t)
+first_digit_spoils : (kind : Kind) (t : List ℕ) → has_unicode kind ≡ true → braced kind t ≡ None → HasUnitFlaw kind (braced kind) (braced_front []) t (first_digit_flaw_at kind t)
 unfolding first_digit_flaw_at
 first_digit_spoils kind [] u none = at_end (braced_one kind u)
 first_digit_spoils kind (c ∷ cs) u none =
-    let P : FoundFlaw → Type 0 = Spoils kind (braced kind) (braced_front []) (c ∷ cs) in
+    let P : FoundFlaw → Type 0 = HasUnitFlaw kind (braced kind) (braced_front []) (c ∷ cs) in
     cond_both (is_hex_digit c) _ _ P
       (λ e. subst P (sym (digits_flaw_is kind cs (digit_value c) 1 (c ∷ cs) (omega arith) refl)) (next_same (coded kind (digit_value c) 1) (braced kind) c c refl (λ r. braced_first kind c r e) none (digits_spoil kind cs (c ∷ []) (digit_value c) 1 (first_stands kind c u e))))
       (λ e. cond_both (eqb c 125) _ _ P
         (λ b. here c cs EmptyBraces (braced_one kind u) (λ r. braced_none kind c r e) (refl, b))
         (λ b. here c cs NoHexDigit (braced_one kind u) (λ r. braced_none kind c r e) (AfterBrace refl (rw (e, b) refl))))
 
-unicode_spoils : (kind : Kind) (t : List ℕ) → has_unicode kind ≡ true → unicode_at kind t ≡ None → Spoils kind (unicode_at kind) (92 ∷ 117 ∷ []) t (unicode_flaw_at kind t)
+unicode_spoils : (kind : Kind) (t : List ℕ) → has_unicode kind ≡ true → unicode_at kind t ≡ None → HasUnitFlaw kind (unicode_at kind) (92 ∷ 117 ∷ []) t (unicode_flaw_at kind t)
 unfolding unicode_flaw_at
 unicode_spoils kind [] u none = at_end (unicode_one kind u)
-unicode_spoils kind (c ∷ cs) u none = cond_both (eqb c 123) _ _ (Spoils kind (unicode_at kind) (92 ∷ 117 ∷ []) (c ∷ cs))
+unicode_spoils kind (c ∷ cs) u none = cond_both (eqb c 123) _ _ (HasUnitFlaw kind (unicode_at kind) (92 ∷ 117 ∷ []) (c ∷ cs))
   (λ e. next_same (braced kind) (unicode_at kind) c 123 (eqb-true c 123 e) (unicode_on kind) none (first_digit_spoils kind cs u))
   (λ e. here c cs NoBrace (unicode_one kind u) (λ r. no_unicode_brace kind c r e) (refl, not_from_false (eqb c 123) e))
 
@@ -335,11 +335,11 @@ no_zero kind cs none = go (allows_code kind 0) none
 differs : (c k : ℕ) → eqb c k ≡ false → eqb k k ≡ true → c ≢ k
 differs c k h same is = both_ways (eqb c k) h (ap (λ x. eqb x k) is ∙ same)
 
-escape_spoils : (kind : Kind) (t : List ℕ) → escape_at kind t ≡ None → Spoils kind (escape_at kind) (92 ∷ []) t (escape_flaw_at kind t)
+escape_spoils : (kind : Kind) (t : List ℕ) → escape_at kind t ≡ None → HasUnitFlaw kind (escape_at kind) (92 ∷ []) t (escape_flaw_at kind t)
 unfolding escape_flaw_at
 escape_spoils kind [] none = at_end (escape_n kind)
 escape_spoils kind (c ∷ cs) none =
-    let P : FoundFlaw → Type 0 = Spoils kind (escape_at kind) (92 ∷ []) (c ∷ cs) in
+    let P : FoundFlaw → Type 0 = HasUnitFlaw kind (escape_at kind) (92 ∷ []) (c ∷ cs) in
     let value : ℕ → List ℕ = λ n. content_of kind (n ∷ []) in
     cond_both (eqb c 120) _ _ P
       (λ e. next (hex_at kind) (escape_at kind) (λ n. n ∷ []) c 120 (eqb-true c 120 e) (by_hex kind) none (hex_spoils kind cs))
@@ -426,7 +426,7 @@ single_has kind c cs s p b = absurd (cc)
 abbrev pub IsOpen : Kind → List ℕ → Type 0
 IsOpen kind t = is_string kind ≡ true → first_passes (λ c. eqb c 34) t ≡ false
 
-line_end_spoils : (kind : Kind) (t : List ℕ) → is_string kind ≡ true → unit_at kind (13 ∷ t) ≡ None → Spoils kind (unit_at kind) [] (13 ∷ t) (line_end_flaw_at t)
+line_end_spoils : (kind : Kind) (t : List ℕ) → is_string kind ≡ true → unit_at kind (13 ∷ t) ≡ None → HasUnitFlaw kind (unit_at kind) [] (13 ∷ t) (line_end_flaw_at t)
 line_end_spoils kind t s none = go t none
   where
     whole : Completes (unit_at kind) (13 ∷ [])
@@ -437,7 +437,7 @@ line_end_spoils kind t s none = go t none
     no_feed true false ds e h = refl
     no_feed false b ds e h = absurd (cc)
 
-    go : (t : List ℕ) → unit_at kind (13 ∷ t) ≡ None → Spoils kind (unit_at kind) [] (13 ∷ t) (line_end_flaw_at t)
+    go : (t : List ℕ) → unit_at kind (13 ∷ t) ≡ None → HasUnitFlaw kind (unit_at kind) [] (13 ∷ t) (line_end_flaw_at t)
     go [] h = record { stops = record { front = 13 ∷ []; text_is = refl; completes = whole; stuck = λ c cs e g. absurd (cc) }; has = refl }
     go (d ∷ ds) h =
         let stuck : line_feed_at kind (d ∷ ds) ≡ None = sym (line_feed kind (d ∷ ds) s) ∙ h in
@@ -453,18 +453,18 @@ line_end_spoils kind t s none = go t none
           has = (s, refl, not_from_false (eqb d 10) (no_feed (is_string kind) (eqb d 10) ds s stuck));
         }
 
-pub unit_spoils : (kind : Kind) (t : List ℕ) → IsQuotedKind kind → IsOpen kind t → unit_at kind t ≡ None → Spoils kind (unit_at kind) [] t (unit_flaw_at kind t)
+pub unit_spoils : (kind : Kind) (t : List ℕ) → IsQuotedKind kind → IsOpen kind t → unit_at kind t ≡ None → HasUnitFlaw kind (unit_at kind) [] t (unit_flaw_at kind t)
 unfolding unit_flaw_at
 unit_spoils kind [] q still none = at_end (unit_one kind q)
 unit_spoils kind (c ∷ cs) q still none =
-    let P : FoundFlaw → Type 0 = Spoils kind (unit_at kind) [] (c ∷ cs) in
+    let P : FoundFlaw → Type 0 = HasUnitFlaw kind (unit_at kind) [] (c ∷ cs) in
     cond_both (eqb c 92) _ _ P
       (λ e. next_same (escape_at kind) (unit_at kind) c 92 (eqb-true c 92 e) (by_escape kind) none (escape_spoils kind cs))
       (λ a. cond_both (eqb c 13 && is_string kind) _ _ P
         (λ e.
             let parts = and_parts (eqb c 13) (is_string kind) e in
             let is = eqb-true c 13 parts.0 in
-            subst (λ x. Spoils kind (unit_at kind) [] (x ∷ cs) (line_end_flaw_at cs)) (sym is) (line_end_spoils kind cs parts.1 (ap (λ x. unit_at kind (x ∷ cs)) (sym is) ∙ none)))
+            subst (λ x. HasUnitFlaw kind (unit_at kind) [] (x ∷ cs) (line_end_flaw_at cs)) (sym is) (line_end_spoils kind cs parts.1 (ap (λ x. unit_at kind (x ∷ cs)) (sym is) ∙ none)))
         (λ e. here c cs (character_flaw_of c) (unit_one kind q) (λ r. same_character kind c cs r a e none) (alone q e a)))
   where
     alone : IsQuotedKind kind → (eqb c 13 && is_string kind) ≡ false → eqb c 92 ≡ false → Alone kind c cs (character_flaw_of c)
