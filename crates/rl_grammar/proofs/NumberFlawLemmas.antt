@@ -496,14 +496,14 @@ module _ (r : ℕ) (y : List ℕ) (few : r ≤ 16) (none : based_reads r y ≡ f
       let is : run is_xid_continue y ++ (0xB7 ∷ []) ≡ row ++ z = ap (λ v. run is_xid_continue v ++ (0xB7 ∷ [])) (run_join (is_row_part (has_value r)) y) ∙ ap (λ v. v ++ (0xB7 ∷ [])) (run_on is_xid_continue row x (row_continues_on r y few)) ∙ append_assoc row (run is_xid_continue x) (0xB7 ∷ []) in
       let all : list_all is_xid_continue (row ++ z) ≡ true = sym (ap (list_all is_xid_continue) is) ∙ all_dotted (run is_xid_continue y) (run_all is_xid_continue y) in
       word_stops y (0xB7 ∷ []) (refl, tt) (never (run is_xid_continue y ++ (0xB7 ∷ [])))
-        (ap (based_reads r) is
-        ∙ row_read (is_within_limit r) r y z (dotted_first (is_row_part (has_value r)) x (dot_no_part r few) row_stops)
-        ∙ ap (λ b. cond (has_digit_at r y && is_suffix z) (is_within_limit r row) b) all
-        ∙ saved (is_past_at r y) (ends_or_passes is_xid_start x) refl h)
-        (λ e. both_ways (based_reads r y) none (word_reads h (ap (list_all is_xid_continue) (run_join is_xid_continue y ∙ ap (λ v. run is_xid_continue y ++ v) e ∙ append-nil (run is_xid_continue y)) ∙ run_all is_xid_continue y)))
-        (any_word (run is_xid_continue y) (run_all is_xid_continue y))
-        (λ c cs e k. based_none (is_within_limit r) r (run is_xid_continue y ++ (c ∷ e)) few (word_breaks y c cs e k))
-        (λ c cs k. based_none (λ d. true) r (run is_xid_continue y ++ (c ∷ [])) few (word_breaks y c cs [] k))
+      (ap (based_reads r) is
+      ∙ row_read (is_within_limit r) r y z (dotted_first (is_row_part (has_value r)) x (dot_no_part r few) row_stops)
+      ∙ ap (λ b. cond (has_digit_at r y && is_suffix z) (is_within_limit r row) b) all
+      ∙ saved (is_past_at r y) (ends_or_passes is_xid_start x) refl h)
+      (λ e. both_ways (based_reads r y) none (word_reads h (ap (list_all is_xid_continue) (run_join is_xid_continue y ∙ ap (λ v. run is_xid_continue y ++ v) e ∙ append-nil (run is_xid_continue y)) ∙ run_all is_xid_continue y)))
+      (any_word (run is_xid_continue y) (run_all is_xid_continue y))
+      (λ c cs e k. based_none (is_within_limit r) r (run is_xid_continue y ++ (c ∷ e)) few (word_breaks y c cs e k))
+      (λ c cs k. based_none (λ d. true) r (run is_xid_continue y ++ (c ∷ [])) few (word_breaks y c cs [] k))
     where
       saved : (p b : Bool) → ends_or_passes is_xid_start x ≡ b → (p && b) ≡ false → cond (has_digit_at r y && is_suffix (run is_xid_continue x ++ (0xB7 ∷ []))) (not p) true ≡ true
       saved true true e k = absurd (cc)

@@ -240,9 +240,9 @@ unsigned_spoils i p (c ∷ cs) ok none = cond_both (i && not (is_xid_start c)) _
       where
         go : (q : Bool) → is_xid_start c ≡ false → digits_read true q (c ∷ cs) ≡ false → HasTailFlaw is_ten_part (digits_read true q) (digits_read true false) Never (c ∷ cs) (suffix_word_flaw_at q (c ∷ cs))
         go true off n = subst (HasTailFlaw is_ten_part (digits_read true true) (digits_read true false) Never (c ∷ cs)) (sym (word_past (c ∷ cs))) (past_spoils is_xid_continue [] (c ∷ cs) [] tt refl (digits_suffix true true [] refl)
-          (λ d ds e k. let head : c ≡ d = cc in subst (λ z. digits_read true true (z ∷ e) ≡ false) head (digits_other true c e off ∙ and_right (list_all is_xid_continue (c ∷ e)) false refl))
-          (digits_suffix true false [] refl)
-          (λ d ds k. let head : c ≡ d = cc in subst (λ z. digits_read true false (z ∷ []) ≡ is_xid_continue z) head (digits_other false c [] off ∙ and-true (is_xid_continue c && true) ∙ and-true (is_xid_continue c))))
+            (λ d ds e k. let head : c ≡ d = cc in subst (λ z. digits_read true true (z ∷ e) ≡ false) head (digits_other true c e off ∙ and_right (list_all is_xid_continue (c ∷ e)) false refl))
+            (digits_suffix true false [] refl)
+            (λ d ds k. let head : c ≡ d = cc in subst (λ z. digits_read true false (z ∷ []) ≡ is_xid_continue z) head (digits_other false c [] off ∙ and-true (is_xid_continue c && true) ∙ and-true (is_xid_continue c))))
         go false off n = subst (HasTailFlaw is_ten_part (digits_read true false) (digits_read true false) Never (c ∷ cs)) (sym (word_goes (c ∷ cs))) (whole_word (c ∷ cs) ok n (digits_word (run is_xid_continue (c ∷ cs)) (run_all is_xid_continue (c ∷ cs))) (digits_word (run is_xid_continue (c ∷ cs)) (run_all is_xid_continue (c ∷ cs))) (digits_none true false) (digits_none true false))
 
     suffix : (i && not (is_xid_start c)) ≡ false → HasTailFlaw is_ten_part (digits_read i p) (digits_read i false) Never (c ∷ cs) (suffix_flaw_at false (c ∷ cs))
@@ -370,17 +370,17 @@ module _ (i p : Bool) (reads any : List ℕ → Bool) (outer : ℕ → Bool) (si
       go true e =
           let after : (c : ℕ) (cs r : List ℕ) → t ≡ c ∷ cs → first_passes is_power_front (c ∷ r) ≡ false = λ c cs r q. sym (ap (first_passes is_power_front) q) ∙ ok in
           subst (P t) (sym (word_past t)) (past_spoils is_xid_continue (l ∷ us) t (49 ∷ []) (refl, tt) k.starts
-            (k.same (us ++ (49 ∷ [])) ∙ digit_reads i p l us (49 ∷ []) [] k.is_letter marks refl refl refl ∙ digits_suffix i p [] refl)
-            (λ c cs r q. by reads p k.same (c ∷ r) (after c cs r q) ∙ ap (λ z. list_all is_xid_continue (c ∷ r) && not z) (is_past i p e k.may_be_past) ∙ and_right (list_all is_xid_continue (c ∷ r)) false refl)
-            (sym (ap (λ z. any (l ∷ z)) (append-nil us)) ∙ any_by [] refl)
-            (λ c cs q. any_by (c ∷ []) (after c cs [] q) ∙ and-true (is_xid_continue c)))
+          (k.same (us ++ (49 ∷ [])) ∙ digit_reads i p l us (49 ∷ []) [] k.is_letter marks refl refl refl ∙ digits_suffix i p [] refl)
+          (λ c cs r q. by reads p k.same (c ∷ r) (after c cs r q) ∙ ap (λ z. list_all is_xid_continue (c ∷ r) && not z) (is_past i p e k.may_be_past) ∙ and_right (list_all is_xid_continue (c ∷ r)) false refl)
+          (sym (ap (λ z. any (l ∷ z)) (append-nil us)) ∙ any_by [] refl)
+          (λ c cs q. any_by (c ∷ []) (after c cs [] q) ∙ and-true (is_xid_continue c)))
 
   row_spoils : (t : List ℕ) → first_passes is_underscore t ≡ false → reads (l ∷ (us ++ t)) ≡ false → P t (power_flaw_at i p t)
   unfolding power_flaw_at
   row_spoils [] ok none = other_spoils [] refl none
   row_spoils (c ∷ cs) ok none = cond_both (c == 43 || c == 45) _ _ (P (c ∷ cs))
-    (λ s. signed_spoils c cs s none)
-    (λ s. cond_both (is_ascii_digit c) _ _ (P (c ∷ cs))
+      (λ s. signed_spoils c cs s none)
+      (λ s. cond_both (is_ascii_digit c) _ _ (P (c ∷ cs))
       (λ d. digit_spoils (c ∷ cs) d none)
       (λ d. other_spoils (c ∷ cs) (or_from (c == 43 || c == 45) (is_ten_part c) s (or_from (has_value 10 c) (c == 95) (sym (digit_is_ten c) ∙ d) ok)) none))
 
@@ -395,8 +395,8 @@ fraction_spoils : (t : List ℕ) → first_passes is_ten_part t ≡ false → te
 unfolding exponent_flaw_at after_exponent
 fraction_spoils [] ok none = absurd (both_ways (ten_reads false false []) none refl)
 fraction_spoils (c ∷ cs) ok none = cond_both (is_exponent_letter c) _ _ (HasTailFlaw is_ten_part (ten_reads false false) (ten_reads false false) IsSignedPower (c ∷ cs))
-  (λ h. power_spoils false false (ten_reads false false) (ten_reads false false) is_ten_part IsSignedPower c cs (record { is_letter = h; same = λ x. refl; any_same = λ x. refl; starts = ok; may_be_past = λ e. refl; power = λ x k. k }) none)
-  (λ h. suffix_after c cs [] ok (plain h) (plain h) none refl tt refl refl)
+    (λ h. power_spoils false false (ten_reads false false) (ten_reads false false) is_ten_part IsSignedPower c cs (record { is_letter = h; same = λ x. refl; any_same = λ x. refl; starts = ok; may_be_past = λ e. refl; power = λ x k. k }) none)
+    (λ h. suffix_after c cs [] ok (plain h) (plain h) none refl tt refl refl)
   where
     plain : is_exponent_letter c ≡ false → (x : List ℕ) → ten_reads false false (c ∷ x) ≡ is_suffix (c ∷ x)
     plain h x = ap (λ b. is_suffix (cond (b && has_digit_at 10 (power_at x)) (after_digits 10 (power_at x)) (c ∷ x))) h
@@ -420,15 +420,15 @@ tail_spoils false outer [] dot ok none = absurd (both_ways (tail_reads false [])
 tail_spoils past outer (c ∷ cs) dot ok none =
     let P : FoundFlaw → Type 0 = HasTailFlaw outer (tail_reads past) (tail_reads false) IsSignedTail (c ∷ cs) in
     cond_both (c == 46) _ _ P dotted (λ h. cond_both (is_exponent_letter c) _ _ P
-      (λ k. power_spoils true past (tail_reads past) (tail_reads false) outer IsSignedTail c cs (record {
-        is_letter = k;
-        same = λ x. undotted past c x h;
-        any_same = λ x. undotted false c x h;
-        starts = ok;
-        may_be_past = λ e. absurd (cc);
-        power = λ x j. record { fraction = NoFraction; power = x; is_fraction = tt; is_power = j; text_is = refl };
-      }) none)
-      (plain past none h))
+    (λ k. power_spoils true past (tail_reads past) (tail_reads false) outer IsSignedTail c cs (record {
+      is_letter = k;
+      same = λ x. undotted past c x h;
+      any_same = λ x. undotted false c x h;
+      starts = ok;
+      may_be_past = λ e. absurd (cc);
+      power = λ x j. record { fraction = NoFraction; power = x; is_fraction = tt; is_power = j; text_is = refl };
+    }) none)
+    (plain past none h))
   where
     dotted : (c == 46) ≡ true → HasTailFlaw outer (tail_reads past) (tail_reads false) IsSignedTail (c ∷ cs) (exponent_flaw_at false false (after_digits 10 cs))
     dotted h =
@@ -460,6 +460,6 @@ tail_spoils past outer (c ∷ cs) dot ok none =
         let same : (x : List ℕ) → tail_reads false (c ∷ x) ≡ is_suffix (c ∷ x) = λ x. plain_reads false c x h k ∙ kept (is_suffix (c ∷ x)) in
         suffix_after c cs (46 ∷ []) ok same same n nothing_stands (refl, tt) dot (dot_stands false)
     plain true n h k = subst (HasTailFlaw outer (tail_reads true) (tail_reads false) IsSignedTail (c ∷ cs)) (sym (suffix_past (c ∷ cs))) (past_spoils is_xid_start [] (c ∷ cs) (46 ∷ []) (refl, tt) dot (dot_stands true)
-      (λ d ds e q. let head : c ≡ d = cc in subst (λ z. tail_reads true (z ∷ e) ≡ false) head (plain_reads true c e h k ∙ lost (is_suffix (c ∷ e))))
-      nothing_stands
-      (λ d ds q. let head : c ≡ d = cc in subst (λ z. tail_reads false (z ∷ []) ≡ is_xid_start z) head (plain_reads false c [] h k ∙ kept (is_suffix (c ∷ [])) ∙ suffix_first c)))
+        (λ d ds e q. let head : c ≡ d = cc in subst (λ z. tail_reads true (z ∷ e) ≡ false) head (plain_reads true c e h k ∙ lost (is_suffix (c ∷ e))))
+        nothing_stands
+        (λ d ds q. let head : c ≡ d = cc in subst (λ z. tail_reads false (z ∷ []) ≡ is_xid_start z) head (plain_reads false c [] h k ∙ kept (is_suffix (c ∷ [])) ∙ suffix_first c)))
