@@ -10,8 +10,8 @@ use denote.Ref.{Bor}
 use Rattle.rl_grammar.specs.Mirrors.StrictAt.{is_some_text}
 
 -- what is after by characters is after by bytes
-pub behind_chars : (bs ys front : List ℕ) → IsUtf8 bs → IsUtf8 ys → chars bs ≡ front ++ chars ys → IsTail bs ys
-behind_chars bs ys front u w e = record {
+pub tail_chars : (bs ys front : List ℕ) → IsUtf8 bs → IsUtf8 ys → chars bs ≡ front ++ chars ys → IsTail bs ys
+tail_chars bs ys front u w e = record {
   front = encode_utf8_all front;
   text_is = sym (encodes-chars bs u) ∙ ap encode_utf8_all e ∙ encodes-append front (chars ys) ∙ ap (λ z. encode_utf8_all front ++ z) (encodes-chars ys w);
   is_text = w;

@@ -62,7 +62,7 @@ hex_one kind =
     let allowed : may_be_hex kind 65 ≡ true = and_from (allows_code kind 65) (not (holds_characters kind) || true) (holds_more kind 65 refl) (or_right (not (holds_characters kind)) true refl) in
     ends_by_two (hex_at kind) [] 65 52 49 refl refl refl (λ r. hex_read kind 52 49 r refl refl ∙ ap (λ b. number_if b 65 r) allowed)
 
--- behind the first one
+-- after the first one
 abbrev pub second : Kind → ℕ → Reader ℕ
 second kind c t = hex_at kind (c ∷ t)
 
@@ -106,7 +106,7 @@ past_hex kind c (d ∷ ds) h high =
 
 -- ---- the digits between braces
 
--- behind n digits that spell v, the number that they all spell, where the kind allows it
+-- after n digits that spell v, the number that they all spell, where the kind allows it
 abbrev pub allowed : Kind → ℕ × List ℕ → Option (ℕ × List ℕ)
 allowed kind p = number_if (has_unicode kind && allows_code kind p.0) p.0 p.1
 
@@ -255,7 +255,7 @@ spelled_on kind v n c s h short good =
 
 -- ---- an escape by its number
 
--- behind the opening brace
+-- after the opening brace
 abbrev pub braced : Kind → Reader ℕ
 braced kind t = option_and_then (λ p. coded kind p.0 1 p.1) (digit_at t)
 
@@ -287,7 +287,7 @@ unicode_one kind u = record {
   reads = λ r. unicode_on kind (49 ∷ 125 ∷ r) ∙ closed_code kind 1 1 r u (holds_more kind 1 refl);
 }
 
--- without \u no text behind the letter does
+-- without \u no text after the letter does
 pub unicode_never : (kind : Kind) (t : List ℕ) → has_unicode kind ≡ false → unicode_at kind t ≡ None
 unfolding unicode_at
 unicode_never kind t h = go (unicode_at kind t) refl

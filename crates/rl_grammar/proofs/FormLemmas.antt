@@ -8,7 +8,7 @@ use Rattle.rl_grammar.specs.Forms.{has_form, form_opener, front_len, PartsAre, H
 use Rattle.rl_grammar.specs.Mirrors.OpenerAt.{found_opener, string_opener_at, byte_opener_at, opener_at}
 use Rattle.rl_grammar.specs.Shapes.{HasNoQuoted}
 use Rattle.rl_grammar.proofs.UnitLemmas.{some_pair, unit_sound, unit_complete, unit_quote}
-use Rattle.rl_grammar.proofs.RowLemmas.{ends_before, row_behind, row_ends_on, row_ends_off, row_once}
+use Rattle.rl_grammar.proofs.RowLemmas.{ends_before, row_after, row_ends_on, row_ends_off, row_once}
 use Rattle.rl_grammar.proofs.RawLemmas.{raw_once}
 
 -- ---- the front
@@ -100,7 +100,7 @@ cooked_once kind a v x w y c d =
 -- the units of a text that a run of plain characters begins
 pub cooked_units : (kind : Kind) (a run following v rest : List ℕ) → a ≡ run ++ following → list_all (is_plain kind) run ≡ true → BeginsRow kind following v rest → (w : List ℕ) × BeginsRow kind a w rest
 cooked_units kind a run following v rest cut plain row =
-    let (w, whole) = row_behind kind run following v rest plain row in
+    let (w, whole) = row_after kind run following v rest plain row in
     (w, subst (λ t. BeginsRow kind t w rest) (sym cut) whole)
 
 -- the body and the suffix round the quote where units end

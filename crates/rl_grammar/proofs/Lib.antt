@@ -25,6 +25,7 @@ pub mod UnitFlawLemmas
 pub mod RawFlawLemmas
 pub mod QuotedFlawLemmas
 pub mod QuotedStopLemmas
+pub mod NamedLemmas
 pub mod UnitLemmas
 pub mod WordFlawLemmas
 pub mod RowLemmas

@@ -20,7 +20,7 @@ use Rattle.rl_grammar.proofs.NumberLemmas.{no_number, past_number}
 use Rattle.rl_grammar.proofs.ReadingLemmas.{only_number}
 use Rattle.rl_grammar.specs.NumberFlaws.{EndsInSign, HasKind, IsAnyNumber, IsNumberFlaw}
 use Rattle.rl_grammar.proofs.NumberReads.{suffix_is, suffix_not, no_suffix, part_continues, word_breaks, tail_reads}
-use Rattle.rl_grammar.proofs.NumberTailFlaws.{Says, Spoils, Never, on, word_stops, IsSignedTail, tail_spoils}
+use Rattle.rl_grammar.proofs.NumberTailFlaws.{Says, HasTailFlaw, Never, on, word_stops, IsSignedTail, tail_spoils}
 use Rattle.rl_grammar.proofs.TestLemmas.{passes_more, goes_on, front_passes, all_off}
 use Rattle.std.proofs.Math.Bool.{and-true}
 
@@ -76,7 +76,7 @@ pub record IsFlaw (says : FlawKind → List ℕ → List ℕ → Type 0) (t : Li
   pub stops : StopsBefore HasReading t flaw.1
   pub kind : HasKind (says flaw.0) t flaw.1
 
-whole : (first : ℕ → Bool) (reads any : List ℕ → Bool) (signed : List ℕ → Type 0) (pre t : List ℕ) (flaw : FoundFlaw) → first_passes first t ≡ false → Fronted first reads any pre → ((x : List ℕ) → signed x → EndsInSign (pre ++ x)) → (HasReading (pre ++ t) → ⊥) → (reads t ≡ false → Spoils first reads any signed t flaw) → IsFlaw IsNumberFlaw (pre ++ t) flaw
+whole : (first : ℕ → Bool) (reads any : List ℕ → Bool) (signed : List ℕ → Type 0) (pre t : List ℕ) (flaw : FoundFlaw) → first_passes first t ≡ false → Fronted first reads any pre → ((x : List ℕ) → signed x → EndsInSign (pre ++ x)) → (HasReading (pre ++ t) → ⊥) → (reads t ≡ false → HasTailFlaw first reads any signed t flaw) → IsFlaw IsNumberFlaw (pre ++ t) flaw
 whole first reads any signed pre t (kind, rest) ok f power none spoiled = record {
   stops = record {
     front = pre ++ k.front;
@@ -91,7 +91,7 @@ whole first reads any signed pre t (kind, rest) ok f power none spoiled = record
   kind = λ front is. subst (λ z. IsNumberFlaw kind z rest) (append_cancel_right (pre ++ k.front) front rest (sym cut ∙ is)) (go kind rest k.text_is (λ c cs e. stuck c cs [] e) k.says);
 }
   where
-    k : Spoils first reads any signed t (kind, rest)
+    k : HasTailFlaw first reads any signed t (kind, rest)
     k = spoiled (false_from_ne_true (reads t) (λ h. none (f.good t ok h)))
 
     cut : pre ++ t ≡ (pre ++ k.front) ++ rest
@@ -435,7 +435,7 @@ module _ (r : ℕ) (y : List ℕ) (few : r ≤ 16) (none : based_reads r y ≡ f
   x = after_digits r y
 
   abbrev Spoiled : FoundFlaw → Type 0
-  Spoiled flaw = Spoils (λ c. false) (based_reads r) (based_any r) Never y flaw
+  Spoiled flaw = HasTailFlaw (λ c. false) (based_reads r) (based_any r) Never y flaw
 
   row_stops : first_passes (is_row_part (has_value r)) x ≡ false
   row_stops = run_ends (is_row_part (has_value r)) y
@@ -496,14 +496,14 @@ module _ (r : ℕ) (y : List ℕ) (few : r ≤ 16) (none : based_reads r y ≡ f
       let is : run is_xid_continue y ++ (0xB7 ∷ []) ≡ row ++ z = ap (λ v. run is_xid_continue v ++ (0xB7 ∷ [])) (run_join (is_row_part (has_value r)) y) ∙ ap (λ v. v ++ (0xB7 ∷ [])) (run_on is_xid_continue row x (row_continues_on r y few)) ∙ append_assoc row (run is_xid_continue x) (0xB7 ∷ []) in
       let all : list_all is_xid_continue (row ++ z) ≡ true = sym (ap (list_all is_xid_continue) is) ∙ all_dotted (run is_xid_continue y) (run_all is_xid_continue y) in
       word_stops y (0xB7 ∷ []) (refl, tt) (never (run is_xid_continue y ++ (0xB7 ∷ [])))
-        (ap (based_reads r) is
-        ∙ row_read (is_within_limit r) r y z (dotted_first (is_row_part (has_value r)) x (dot_no_part r few) row_stops)
-        ∙ ap (λ b. cond (has_digit_at r y && is_suffix z) (is_within_limit r row) b) all
-        ∙ saved (is_past_at r y) (ends_or_passes is_xid_start x) refl h)
-        (λ e. both_ways (based_reads r y) none (word_reads h (ap (list_all is_xid_continue) (run_join is_xid_continue y ∙ ap (λ v. run is_xid_continue y ++ v) e ∙ append-nil (run is_xid_continue y)) ∙ run_all is_xid_continue y)))
-        (any_word (run is_xid_continue y) (run_all is_xid_continue y))
-        (λ c cs e k. based_none (is_within_limit r) r (run is_xid_continue y ++ (c ∷ e)) few (word_breaks y c cs e k))
-        (λ c cs k. based_none (λ d. true) r (run is_xid_continue y ++ (c ∷ [])) few (word_breaks y c cs [] k))
+      (ap (based_reads r) is
+      ∙ row_read (is_within_limit r) r y z (dotted_first (is_row_part (has_value r)) x (dot_no_part r few) row_stops)
+      ∙ ap (λ b. cond (has_digit_at r y && is_suffix z) (is_within_limit r row) b) all
+      ∙ saved (is_past_at r y) (ends_or_passes is_xid_start x) refl h)
+      (λ e. both_ways (based_reads r y) none (word_reads h (ap (list_all is_xid_continue) (run_join is_xid_continue y ∙ ap (λ v. run is_xid_continue y ++ v) e ∙ append-nil (run is_xid_continue y)) ∙ run_all is_xid_continue y)))
+      (any_word (run is_xid_continue y) (run_all is_xid_continue y))
+      (λ c cs e k. based_none (is_within_limit r) r (run is_xid_continue y ++ (c ∷ e)) few (word_breaks y c cs e k))
+      (λ c cs k. based_none (λ d. true) r (run is_xid_continue y ++ (c ∷ [])) few (word_breaks y c cs [] k))
     where
       saved : (p b : Bool) → ends_or_passes is_xid_start x ≡ b → (p && b) ≡ false → cond (has_digit_at r y && is_suffix (run is_xid_continue x ++ (0xB7 ∷ []))) (not p) true ≡ true
       saved true true e k = absurd (cc)

@@ -101,19 +101,19 @@ code_of kind Nul n h = ap code_flaw_of (sym h.1)
 code_of kind k n h = absurd h
 
 -- digits and the place after them
-behind_digits : (kind : Kind) (k : FlawKind) (t ds : List ℕ) (c : ℕ) (cs : List ℕ) → IsBraced ds t (c ∷ cs) → k ≡ digits_flaw ds c → Spoils kind k t c cs
-behind_digits kind k t [] c cs b is = let h = b.begins in absurd (cc)
-behind_digits kind k t (d ∷ ds) c cs b is = record { front = 92 ∷ 117 ∷ 123 ∷ d ∷ ds; text_is = b.text_is; no_unit = no_end kind (d ∷ ds) b.begins b.each; kind_is = is }
+after_digits_spoils : (kind : Kind) (k : FlawKind) (t ds : List ℕ) (c : ℕ) (cs : List ℕ) → IsBraced ds t (c ∷ cs) → k ≡ digits_flaw ds c → Spoils kind k t c cs
+after_digits_spoils kind k t [] c cs b is = let h = b.begins in absurd (cc)
+after_digits_spoils kind k t (d ∷ ds) c cs b is = record { front = 92 ∷ 117 ∷ 123 ∷ d ∷ ds; text_is = b.text_is; no_unit = no_end kind (d ∷ ds) b.begins b.each; kind_is = is }
 
 -- the number is that of no character
 code_spoils : (kind : Kind) (k : FlawKind) (t : List ℕ) (c : ℕ) (cs : List ℕ) → HasNoCode kind k t (c ∷ cs) → Spoils kind k t c cs
 code_spoils kind k t c cs (AtBrace ds b few brace is) =
     let same = eqb-true c 125 brace in
-    behind_digits kind k t ds c cs b (subst (λ z. k ≡ digits_flaw ds z) (sym same) (code_of kind k (number_of ds) is))
+    after_digits_spoils kind k t ds c cs b (subst (λ z. k ≡ digits_flaw ds z) (sym same) (code_of kind k (number_of ds) is))
 code_spoils kind k t c cs (AtSixth ds sixth after b five rest digit is) =
     let same : c ≡ sixth = cc in
     let count : eqb (digit_count ds) 6 ≡ false = ap (λ n. eqb n 6) five in
-    behind_digits kind k t ds c cs b (subst (λ z. k ≡ digits_flaw ds z) (sym same) (rw (digit, count) (code_of kind k (number_of (ds ++ (sixth ∷ []))) is)))
+    after_digits_spoils kind k t ds c cs b (subst (λ z. k ≡ digits_flaw ds z) (sym same) (rw (digit, count) (code_of kind k (number_of (ds ++ (sixth ∷ []))) is)))
 
 -- a NUL
 nul_spoils : (kind : Kind) (t : List ℕ) (c : ℕ) (cs : List ℕ) → UnitFlaw kind Nul t (c ∷ cs) → Spoils kind Nul t c cs
@@ -135,7 +135,7 @@ digit_spoils kind t c cs (AfterBrace e h) =
 digit_spoils kind t c cs (AfterDigits ds b h) =
     let p = or_parts (is_hex_digit c || eqb c 125) (eqb c 95) (not-true (is_hex_digit c || eqb c 125 || eqb c 95) h) in
     let q = or_parts (is_hex_digit c) (eqb c 125) p.0 in
-    behind_digits kind NoHexDigit t ds c cs b (rw (q.0, q.1) refl)
+    after_digits_spoils kind NoHexDigit t ds c cs b (rw (q.0, q.1) refl)
 
 -- a character that stands for itself in no byte
 must_escape : (c : ℕ) → is_among (10 ∷ 13 ∷ 9 ∷ []) c ≡ true → MustEscape ≡ character_flaw_of c
@@ -167,7 +167,7 @@ spoils kind NoBrace t c cs (e, b) = record { front = 92 ∷ 117 ∷ []; text_is 
 spoils kind EmptyBraces t c cs (e, b) = record { front = 92 ∷ 117 ∷ 123 ∷ []; text_is = e; no_unit = no_digit kind; kind_is = rw b refl }
 spoils kind TooManyDigits t c cs (ds, b, six, h) =
     let count : eqb (digit_count ds) 6 ≡ true = ap (λ n. eqb n 6) six in
-    behind_digits kind TooManyDigits t ds c cs b (rw (h, count) refl)
+    after_digits_spoils kind TooManyDigits t ds c cs b (rw (h, count) refl)
 spoils kind PastAscii t c cs (u, e, b) = record { front = 92 ∷ 120 ∷ []; text_is = e; no_unit = no_hex kind; kind_is = rw (and_parts (is_hex_digit c) (ltb 7 (digit_value c)) b).0 refl }
 spoils kind PastUnicode t c cs h = code_spoils kind PastUnicode t c cs h
 spoils kind Surrogate t c cs h = code_spoils kind Surrogate t c cs h

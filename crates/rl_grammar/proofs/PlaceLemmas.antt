@@ -10,7 +10,7 @@ use Rattle.rl_grammar.specs.declared.quoted_forms.QuotedForm.{QuotedForm}
 use Rattle.rl_grammar.specs.Forms.{form_opener}
 use Rattle.rl_grammar.specs.Founds.{StandsIn, body_in, suffix_in}
 use Rattle.rl_grammar.specs.Mirrors.OpenerAt.{found_opener, opener_at}
-use Rattle.rl_grammar.proofs.CutLemmas.{behind_chars}
+use Rattle.rl_grammar.proofs.CutLemmas.{tail_chars}
 use Rattle.rl_grammar.proofs.FormLemmas.{front_sound}
 use Rattle.rl_grammar.proofs.ShapeLemmas.{closed_cut}
 
@@ -42,7 +42,7 @@ placed t opened closer suffix plain begins closes ends =
 
 -- what follows the opener
 pub opened : (form : QuotedForm) (kind : Kind) (t inside : List ℕ) → IsUtf8 t → IsUtf8 inside → opener_at (chars t) ≡ found_opener form kind (chars inside) → IsTail t inside
-opened form kind t inside u w front = behind_chars t inside (form_opener form kind) u w (front_sound (chars t) (form, kind, chars inside) front).text_is
+opened form kind t inside u w front = tail_chars t inside (form_opener form kind) u w (front_sound (chars t) (form, kind, chars inside) front).text_is
 
 -- what follows the body, which a quote closes
 pub closer_is : (t b x closer : List ℕ) → IsUtf8 t → IsUtf8 b → IsUtf8 x → chars t ≡ chars b ++ (34 ∷ chars x) → closer ≡ drop (length b) t → chars closer ≡ 34 ∷ chars x

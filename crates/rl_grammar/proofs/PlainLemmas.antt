@@ -65,7 +65,7 @@ one_run q body run rest cut plain = sym (ap (list_all q) (append_cancel_right bo
 
 -- and isn't where more stands between
 pub no_run : (q : ℕ → Bool) (body run following rest more : List ℕ) → body ++ rest ≡ run ++ following → following ≡ more ++ rest → first_passes q following ≡ false → (following ≡ rest → ⊥) → false ≡ list_all q body
-no_run q body run following rest [] cut behind_is stops goes_on = absurd (goes_on behind_is)
-no_run q body run following rest (c ∷ more) cut behind_is stops goes_on =
-    let whole : body ≡ run ++ (c ∷ more) = append_cancel_right body (run ++ (c ∷ more)) rest (cut ∙ ap (λ z. run ++ z) behind_is ∙ sym (append_assoc run (c ∷ more) rest)) in
-    sym (ap (list_all q) whole ∙ all_breaks q run c more (ap (first_passes q) (sym behind_is) ∙ stops))
+no_run q body run following rest [] cut after_is stops goes_on = absurd (goes_on after_is)
+no_run q body run following rest (c ∷ more) cut after_is stops goes_on =
+    let whole : body ≡ run ++ (c ∷ more) = append_cancel_right body (run ++ (c ∷ more)) rest (cut ∙ ap (λ z. run ++ z) after_is ∙ sym (append_assoc run (c ∷ more) rest)) in
+    sym (ap (list_all q) whole ∙ all_breaks q run c more (ap (first_passes q) (sym after_is) ∙ stops))

@@ -12,7 +12,7 @@ use Rattle.rl_grammar.specs.Rows.{BeginsRow, RowEnds}
 use Rattle.rl_grammar.proofs.FormLemmas.{cooked_none, single_none, single_stuck, not_both}
 use Rattle.rl_grammar.proofs.RowLemmas.{row_ends_off, row_step}
 use Rattle.rl_grammar.specs.Mirrors.UnitFlawAt.{after_unit_flaw_of, found_flaw, unit_flaw_at}
-use Rattle.rl_grammar.proofs.UnitFlawLemmas.{Spoils, Stops, unit_spoils}
+use Rattle.rl_grammar.proofs.UnitFlawLemmas.{HasUnitFlaw, Stops, unit_spoils}
 use Rattle.rl_grammar.proofs.UnitLemmas.{unit_sound, unit_complete}
 use Rattle.rl_grammar.proofs.TestLemmas.{goes_on}
 
@@ -116,7 +116,7 @@ pub record HasFlaw (form : QuotedForm) (kind : Kind) (a : List ℕ) (flaw : Flaw
 pub cooked_flaw : (kind : Kind) (a v t : List ℕ) (k : FlawKind) (rest : List ℕ) → is_string kind ≡ true → BeginsRow kind a v t → unit_at kind t ≡ None → HasNoParts CookedForm kind (opener kind ++ a) → found_flaw k rest ≡ unit_flaw_at kind t → HasFlaw CookedForm kind a k rest
 cooked_flaw kind a v t k rest s row stuck none same =
     let still = no_closer kind a v t s row none in
-    let found : Spoils kind (unit_at kind) [] t (k, rest) = subst (Spoils kind (unit_at kind) [] t) (sym same) (unit_spoils kind t (inl s) (λ h. still) stuck) in
+    let found : HasUnitFlaw kind (unit_at kind) [] t (k, rest) = subst (HasUnitFlaw kind (unit_at kind) [] t) (sym same) (unit_spoils kind t (inl s) (λ h. still) stuck) in
     record {
       place = cooked_stops kind a v t rest s row still found.stops;
       has = record { units = row.units; each = row.each; spoiled = t; ends = row.ends; text_is = row.text_is; spoils = found.has };
@@ -200,7 +200,7 @@ no_single_closer kind a v (c ∷ cs) s h none = go (eqb c 39) refl
 -- the code's flaw where no unit of a character or a byte stands
 pub single_unit_flaw : (kind : Kind) (a : List ℕ) (k : FlawKind) (rest : List ℕ) → is_single kind ≡ true → unit_at kind a ≡ None → found_flaw k rest ≡ unit_flaw_at kind a → HasFlaw SingleForm kind a k rest
 single_unit_flaw kind a k rest s stuck same =
-    let found : Spoils kind (unit_at kind) [] a (k, rest) = subst (Spoils kind (unit_at kind) [] a) (sym same) (unit_spoils kind a (inr s) (λ h. absurd (not_both kind h s)) stuck) in
+    let found : HasUnitFlaw kind (unit_at kind) [] a (k, rest) = subst (HasUnitFlaw kind (unit_at kind) [] a) (sym same) (unit_spoils kind a (inr s) (λ h. absurd (not_both kind h s)) stuck) in
     record { place = single_unit_stops kind a rest s found.stops; has = inl found.has }
 
 closer_kind : (kind : Kind) (a rest : List ℕ) → IsNotClosed kind a rest → CloserFlaw kind (after_unit_flaw_of a rest) a rest

@@ -106,11 +106,11 @@ row_run kind a v (c ∷ run) b plain row =
     subst (λ w. BeginsRow kind a w b) value (row_run kind a (v ++ content_of kind (c ∷ [])) run b parts.1 one)
 
 -- a run before a row
-pub row_behind : (kind : Kind) (run b v r : List ℕ) → list_all (is_plain kind) run ≡ true → BeginsRow kind b v r → (w : List ℕ) × BeginsRow kind (run ++ b) w r
-row_behind kind [] b v r plain row = (v, row)
-row_behind kind (c ∷ run) b v r plain row =
+pub row_after : (kind : Kind) (run b v r : List ℕ) → list_all (is_plain kind) run ≡ true → BeginsRow kind b v r → (w : List ℕ) × BeginsRow kind (run ++ b) w r
+row_after kind [] b v r plain row = (v, row)
+row_after kind (c ∷ run) b v r plain row =
     let parts = and_parts (is_plain kind c) (list_all (is_plain kind) run) plain in
-    let (w, more) = row_behind kind run b v r parts.1 row in (
+    let (w, more) = row_after kind run b v r parts.1 row in (
       content_of kind (c ∷ []) ++ w,
       record {
         units = Plain c ∷ more.units;

@@ -52,12 +52,12 @@ row_stands kind t (u ∷ us) row some h =
     let e : None ≡ found (unit_value kind u) (texts us) = sym h ∙ ap (unit_at kind) row.text_is ∙ unit_complete kind u (texts us) row.each.0 row.ends.0 in absurd (cc)
 
 -- what follows a run of plain characters
-pub row_behind_run : (kind : Kind) (run b : List ℕ) (us : List QuotedUnit) → list_all (is_plain kind) run ≡ true → IsUnitRow kind (run ++ b) us → (ws : List QuotedUnit) × IsUnitRow kind b ws
-row_behind_run kind [] b us plain row = (us, row)
-row_behind_run kind (c ∷ run) b us plain row =
+pub row_after_run : (kind : Kind) (run b : List ℕ) (us : List QuotedUnit) → list_all (is_plain kind) run ≡ true → IsUnitRow kind (run ++ b) us → (ws : List QuotedUnit) × IsUnitRow kind b ws
+row_after_run kind [] b us plain row = (us, row)
+row_after_run kind (c ∷ run) b us plain row =
     let parts = and_parts (is_plain kind c) (list_all (is_plain kind) run) plain in
     let front = row_front kind (c ∷ (run ++ b)) us (content_of kind (c ∷ []), run ++ b) row (plain_complete kind c (run ++ b) parts.0) in
-    row_behind_run kind run b front.others parts.1 front.row
+    row_after_run kind run b front.others parts.1 front.row
 
 pub run_joined : (kind : Kind) (run b : List ℕ) (ws : List QuotedUnit) → list_all (is_plain kind) run ≡ true → IsUnitRow kind b ws → IsUnitRow kind (run ++ b) (map Plain run ++ ws)
 run_joined kind [] b ws plain row = row
@@ -109,7 +109,7 @@ run_front kind false t b run is u cut plain has =
       units = map Plain cs;
       is_segment = run_segment kind run u;
       text_is = cut ∙ ap (λ z. z ++ b) (sym (run_texts cs));
-      left = row_behind_run kind cs b has.0 plain (subst (λ z. IsUnitRow kind z has.0) cut has.1);
+      left = row_after_run kind cs b has.0 plain (subst (λ z. IsUnitRow kind z has.0) cut has.1);
       goes_on = λ others h. subst (λ z. IsUnitRow kind z (map Plain cs ++ others)) (sym cut) (run_joined kind cs b others plain h);
     }
 run_front kind true t b run is u cut plain has = absurd (cc)

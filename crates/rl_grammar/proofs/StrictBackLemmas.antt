@@ -16,8 +16,8 @@ pub record Back (k : Kind) (u : QuotedUnit) : Type 0 where
   pub value_is : unit_value k u ≡ strict_contents (strict_content_of k) unit
 
 -- the kind is a quoted one
-abbrev pub IsQuotedKind : Kind → Type 0
-IsQuotedKind k = HasUnits k (Itself 0 ∷ [])
+abbrev pub HasStrictUnits : Kind → Type 0
+HasStrictUnits k = HasUnits k (Itself 0 ∷ [])
 
 -- ---- characters
 
@@ -82,7 +82,7 @@ byte_escape : (k : Kind) (high low : ℕ) → is_strict_unit k (ByteEscape high 
 byte_escape k high low h = record { unit = ByteEscape high low; is_unit = h; no_break = λ b e. absurd (cc); text_is = refl; value_is = refl }
 
 -- the escapes by two digits
-pub hex_escape : (k : Kind) (high low : ℕ) → IsQuotedKind k → IsUnit k (Hex high low) → Back k (Hex high low)
+pub hex_escape : (k : Kind) (high low : ℕ) → HasStrictUnits k → IsUnit k (Hex high low) → Back k (Hex high low)
 hex_escape Str high low q u = ascii_escape Str high low u.1 u.2 (λ h. h)
 hex_escape Char high low q u = ascii_escape Char high low u.1 u.2 (λ h. h)
 hex_escape ByteStr high low q u = byte_escape ByteStr high low (and_from _ _ (hex_digit_back high u.0) (hex_digit_back low u.1))
@@ -158,7 +158,7 @@ spaced_escape k first more h same number = record {
 }
 
 -- the escapes by one to six digits
-pub unicode_escape : (k : Kind) (first : ℕ) (more : List ℕ) → IsQuotedKind k → IsUnit k (Unicode first more) → Back k (Unicode first more)
+pub unicode_escape : (k : Kind) (first : ℕ) (more : List ℕ) → HasStrictUnits k → IsUnit k (Unicode first more) → Back k (Unicode first more)
 unicode_escape Str first more q u = spaced_escape Str first more (unicode_allowed first more u.1 u.2 u.3 u.4) refl (unicode_number first more (group_hex first 0 more u.1 u.2))
 unicode_escape Char first more q u = spaced_escape Char first more (unicode_allowed first more u.1 u.2 u.3 u.4) refl (unicode_number first more (group_hex first 0 more u.1 u.2))
 unicode_escape CStr first more q u =

@@ -7,7 +7,7 @@ use Rattle.rl_tokens.specs.Strict.{BlanksEnd, StrictCooked}
 use Rattle.rl_tokens.proofs.Agreeing.{strict_reads}
 use Rattle.rl_tokens.proofs.StrictQuoted.{cooked_reads}
 use Rattle.rl_grammar.specs.StrictBytes.{KeepsBytesStrict}
-use Rattle.rl_grammar.proofs.StrictBackLemmas.{Back, IsQuotedKind, hex_escape, named_escape, unicode_escape}
+use Rattle.rl_grammar.proofs.StrictBackLemmas.{Back, HasStrictUnits, hex_escape, named_escape, unicode_escape}
 use Rattle.rl_grammar.proofs.StrictRowLemmas.{blanks_cons}
 use Rattle.rl_grammar.proofs.StrictUnitLemmas.{MayEnd, line_allowed, no_break_ends}
 
@@ -34,7 +34,7 @@ record Same (k : Kind) (u : QuotedUnit) : Type 0 where
 escape_same : (k : Kind) (u : QuotedUnit) → Back k u → Same k u
 escape_same k u b = record { unit = b.unit; is_unit = b.is_unit; text_is = b.text_is; value_is = b.value_is; may_end = λ t e. no_break_ends b.unit t b.no_break }
 
-quoted_kind : (k : Kind) → IsByteKind k → IsQuotedKind k
+quoted_kind : (k : Kind) → IsByteKind k → HasStrictUnits k
 quoted_kind ByteStr b = tt
 quoted_kind Byte b = refl
 quoted_kind kind b = absurd b

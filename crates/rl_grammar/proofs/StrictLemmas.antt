@@ -14,7 +14,7 @@ use Rattle.rl_grammar.specs.Mirrors.OpenerAt.{opener_at}
 use Rattle.rl_grammar.specs.Mirrors.StrictAt.{is_strict_number}
 use Rattle.rl_grammar.specs.StrictShapes.{IsToken, ClosesUnits, ClosesRaw, ClosesForm}
 use Rattle.rl_grammar.proofs.FormLemmas.{front_complete, front_sound}
-use Rattle.rl_grammar.proofs.StrictBackLemmas.{IsQuotedKind}
+use Rattle.rl_grammar.proofs.StrictBackLemmas.{HasStrictUnits}
 use Rattle.rl_grammar.proofs.StrictNumberLemmas.{IsStrictNumber, float_complete, int_complete, number_sound}
 use Rattle.rl_grammar.proofs.StrictRowLemmas.{quoted_string, quoted_single}
 use Rattle.rl_grammar.proofs.QuotedStopLemmas.{word_has_none}
@@ -46,7 +46,7 @@ raw_opener_is BoolKind = refl
 -- ---- what is closed is a token
 
 -- a quoted form is strict in its kind
-quoted_strict : (t : List ℕ) (k : Kind) (v : Contents) (x : List ℕ) → IsQuotedKind k → StrictCooked t k v x ⊎ StrictRaw t k v x → Strict t k v x
+quoted_strict : (t : List ℕ) (k : Kind) (v : Contents) (x : List ℕ) → HasStrictUnits k → StrictCooked t k v x ⊎ StrictRaw t k v x → Strict t k v x
 quoted_strict t Str v x q s = s
 quoted_strict t ByteStr v x q s = s
 quoted_strict t CStr v x q s = s
@@ -55,7 +55,7 @@ quoted_strict t Char v x q s = s
 quoted_strict t kind v x q s = absurd q
 
 -- units, a quote and a suffix after an opener
-units_token : (k : Kind) (t inside : List ℕ) → IsQuotedKind k → t ≡ opener k ++ inside → ClosesUnits k inside → IsToken t
+units_token : (k : Kind) (t inside : List ℕ) → HasStrictUnits k → t ≡ opener k ++ inside → ClosesUnits k inside → IsToken t
 units_token k t inside q text c =
     let v : Contents = strict_quoted_contents k (flat_map (strict_contents (strict_content_of k)) c.units) in
     record {
@@ -78,7 +78,7 @@ raw_text : (o h i x : List ℕ) → ((((o ++ h) ++ (34 ∷ i)) ++ (34 ∷ h)) ++
 raw_text o h i x = simp append_assoc
 
 -- hashes and what ends them after an opener
-raw_token : (k : Kind) (t inside : List ℕ) → IsQuotedKind k → t ≡ raw_opener k ++ inside → ClosesRaw k inside → IsToken t
+raw_token : (k : Kind) (t inside : List ℕ) → HasStrictUnits k → t ≡ raw_opener k ++ inside → ClosesRaw k inside → IsToken t
 raw_token k t inside q text c =
     let i = c.closes in
     let h : List ℕ = replicate c.hashes 35 in

@@ -4,7 +4,7 @@ use Rattle.rl_tokens.proofs.Basics.{apart}
 use Rattle.rl_tokens.specs.Strict.{BlanksEnd, HasUnits, strict_closer}
 use Rattle.rl_grammar.specs.Mirrors.StrictAt.{ends_quoted, escape_rest, is_strict_suffix, unit_rest}
 use Rattle.rl_grammar.specs.StrictShapes.{ClosesUnits}
-use Rattle.rl_grammar.proofs.StrictBackLemmas.{IsQuotedKind, plain_is_bare}
+use Rattle.rl_grammar.proofs.StrictBackLemmas.{HasStrictUnits, plain_is_bare}
 use Rattle.rl_grammar.proofs.StrictUnitLemmas.{MayEnd, StrictFront, unit_rest_sound, unit_rest_complete}
 use Rattle.rl_grammar.proofs.StrictWordLemmas.{strict_suffix_complete, strict_suffix_sound}
 
@@ -118,8 +118,8 @@ quote_sound quote (c ∷ cs) h =
 -- ---- units in a row
 
 -- what stands after the first of several units
-row_behind : (k : Kind) (u : StrictUnit) (us : List StrictUnit) (q : ℕ) (x t : List ℕ) → list_all (is_strict_unit k) (u ∷ us) ≡ true → BlanksEnd (u ∷ us) → is_dropped_blank q ≡ false → t ≡ flat_map strict_text (u ∷ us) ++ (q ∷ x) → unit_rest k t ≡ Some (flat_map strict_text us ++ (q ∷ x))
-row_behind k u us q x t each b n text =
+row_after : (k : Kind) (u : StrictUnit) (us : List StrictUnit) (q : ℕ) (x t : List ℕ) → list_all (is_strict_unit k) (u ∷ us) ≡ true → BlanksEnd (u ∷ us) → is_dropped_blank q ≡ false → t ≡ flat_map strict_text (u ∷ us) ++ (q ∷ x) → unit_rest k t ≡ Some (flat_map strict_text us ++ (q ∷ x))
+row_after k u us q x t each b n text =
     let p = and_parts (is_strict_unit k u) (list_all (is_strict_unit k) us) each in
     ap (unit_rest k) (text ∙ append_assoc (strict_text u) (flat_map strict_text us) (q ∷ x))
     ∙ unit_rest_complete k u (flat_map strict_text us ++ (q ∷ x)) p.0 (may_end_seam u us (q ∷ x) n b)
@@ -132,7 +132,7 @@ string_text k t x us s e = e ∙ ap (λ z. flat_map strict_text us ++ (z ++ x)) 
 row_down : (k : Kind) (t r x : List ℕ) (us : List StrictUnit) → is_string k ≡ true → unit_rest k t ≡ Some r → list_all (is_strict_unit k) us ≡ true → BlanksEnd us → IsStrictSuffix x → t ≡ flat_map strict_text us ++ (34 ∷ x) → ClosesUnits k r
 row_down k t r x [] s h each b i e = absurd (let n : None ≡ Some r = sym (ap (unit_rest k) e ∙ quote_stops k x s) ∙ h in (cc))
 row_down k t r x (u ∷ us) s h each b i e =
-    let same : Some r ≡ Some (flat_map strict_text us ++ (34 ∷ x)) = sym h ∙ row_behind k u us 34 x t each b refl e in
+    let same : Some r ≡ Some (flat_map strict_text us ++ (34 ∷ x)) = sym h ∙ row_after k u us 34 x t each b refl e in
     record {
       units = us;
       suffix = x;
@@ -160,7 +160,7 @@ row_up k t r s f c =
     }
 
 -- strings are quoted
-pub quoted_string : (k : Kind) → is_string k ≡ true → IsQuotedKind k
+pub quoted_string : (k : Kind) → is_string k ≡ true → HasStrictUnits k
 quoted_string k h = string_count k (Itself 0 ∷ []) h
 
 -- one turn of the loop over units
@@ -210,7 +210,7 @@ bare_run k (c ∷ cs) h each =
 -- where no unit stands, the end stands
 stuck_down : (k : Kind) (t x : List ℕ) (us : List StrictUnit) → is_string k ≡ true → unit_rest k t ≡ None → list_all (is_strict_unit k) us ≡ true → BlanksEnd us → IsStrictSuffix x → t ≡ flat_map strict_text us ++ (34 ∷ x) → ends_quoted 34 t ≡ true
 stuck_down k t x [] s h each b i e = ap (ends_quoted 34) e ∙ quote_complete 34 x refl i
-stuck_down k t x (u ∷ us) s h each b i e = absurd (let n : None ≡ Some (flat_map strict_text us ++ (34 ∷ x)) = sym h ∙ row_behind k u us 34 x t each b refl e in (cc))
+stuck_down k t x (u ∷ us) s h each b i e = absurd (let n : None ≡ Some (flat_map strict_text us ++ (34 ∷ x)) = sym h ∙ row_after k u us 34 x t each b refl e in (cc))
 
 -- where no more unit stands, a quote and a suffix have to
 pub units_end : (k : Kind) (b : Bool) (t s : List ℕ) → is_string k ≡ true → unit_rest k t ≡ None → (ClosesUnits k t ↔ ClosesUnits k s) → b ≡ ends_quoted 34 t → IsTrue b ↔ ClosesUnits k s
@@ -236,15 +236,15 @@ one_unit (u ∷ []) h = (u, refl)
 one_unit (u ∷ w ∷ us) h = absurd (omega arith)
 
 -- what stands after the one unit of a character or a byte
-one_behind : (k : Kind) (t : List ℕ) (c : ClosesUnits k t) → is_single k ≡ true → unit_rest k t ≡ Some (39 ∷ c.suffix)
-one_behind k t c s =
+one_after : (k : Kind) (t : List ℕ) (c : ClosesUnits k t) → is_single k ≡ true → unit_rest k t ≡ Some (39 ∷ c.suffix)
+one_after k t c s =
     let o = one_unit c.units (single_length k c.units s c.count) in
     let All : List StrictUnit → Type 0 = λ us. list_all (is_strict_unit k) us ≡ true in
     let End : List StrictUnit → Type 0 = λ us. BlanksEnd us in
-    row_behind k o.0 [] 39 c.suffix t (subst All o.1 c.each) (subst End o.1 c.blanks_end) refl (c.text_is ∙ ap (λ z. flat_map strict_text c.units ++ (z ++ c.suffix)) (single_ends k s) ∙ ap (λ us. flat_map strict_text us ++ (39 ∷ c.suffix)) o.1)
+    row_after k o.0 [] 39 c.suffix t (subst All o.1 c.each) (subst End o.1 c.blanks_end) refl (c.text_is ∙ ap (λ z. flat_map strict_text c.units ++ (z ++ c.suffix)) (single_ends k s) ∙ ap (λ us. flat_map strict_text us ++ (39 ∷ c.suffix)) o.1)
 
 -- characters and bytes are quoted
-pub quoted_single : (k : Kind) → is_single k ≡ true → IsQuotedKind k
+pub quoted_single : (k : Kind) → is_single k ≡ true → HasStrictUnits k
 quoted_single k h = single_count k (Itself 0) h
 
 -- a unit, a quote and a suffix
@@ -264,11 +264,11 @@ pub one_end : (k : Kind) (b : Bool) (t r : List ℕ) → is_single k ≡ true �
 one_end k b t r s e is = (
   λ y. let q = quote_sound 39 r (sym is ∙ y) in one_closes k t r q.0 s (unit_rest_sound k t r (quoted_single k s) e) q.1 q.2,
   λ c.
-      let same : Some r ≡ Some (39 ∷ c.suffix) = sym e ∙ one_behind k t c s in
+      let same : Some r ≡ Some (39 ∷ c.suffix) = sym e ∙ one_after k t c s in
       let rest : r ≡ 39 ∷ c.suffix = cc in
       is ∙ ap (ends_quoted 39) rest ∙ quote_complete 39 c.suffix refl c.is_suffix,
 )
 
 -- where no unit stands, no character and no byte is closed
 pub one_none : (k : Kind) (t : List ℕ) → is_single k ≡ true → unit_rest k t ≡ None → IsTrue false ↔ ClosesUnits k t
-one_none k t s e = (λ y. absurd (both_ways true (sym y) refl), λ c. let n : None ≡ Some (39 ∷ c.suffix) = sym e ∙ one_behind k t c s in absurd (cc))
+one_none k t s e = (λ y. absurd (both_ways true (sym y) refl), λ c. let n : None ≡ Some (39 ∷ c.suffix) = sym e ∙ one_after k t c s in absurd (cc))

@@ -10,7 +10,7 @@ use Rattle.rl_grammar.specs.Mirrors.UnitAt.{unit_at}
 use Rattle.rl_grammar.specs.Mirrors.StrictAt.{escape_rest, unit_rest}
 use Rattle.rl_grammar.proofs.IntegerLemmas.{chosen_some}
 use Rattle.rl_grammar.proofs.RunLemmas.{run_all, run_ends, run_join, run_past}
-use Rattle.rl_grammar.proofs.StrictBackLemmas.{Back, IsQuotedKind, named_escape, hex_escape, unicode_escape}
+use Rattle.rl_grammar.proofs.StrictBackLemmas.{Back, HasStrictUnits, named_escape, hex_escape, unicode_escape}
 use Rattle.rl_grammar.proofs.UnitLemmas.{unit_complete, unit_sound, backslash_not_plain}
 
 -- the blanks of a line break go as far as blanks go
@@ -51,7 +51,7 @@ following [] = []
 following (c ∷ cs) = cs
 
 -- a lenient escape that is no line break is strict
-lenient_front : (k : Kind) (u : QuotedUnit) (c : ℕ) (cs r : List ℕ) → IsQuotedKind k → (c == 10) ≡ false → (c == 13) ≡ false → IsUnit k u → 92 ∷ c ∷ cs ≡ unit_text u ++ r → StrictFront k (92 ∷ c ∷ cs) r
+lenient_front : (k : Kind) (u : QuotedUnit) (c : ℕ) (cs r : List ℕ) → HasStrictUnits k → (c == 10) ≡ false → (c == 13) ≡ false → IsUnit k u → 92 ∷ c ∷ cs ≡ unit_text u ++ r → StrictFront k (92 ∷ c ∷ cs) r
 lenient_front k (Plain d) c cs r q n m u e =
     let At : ℕ → Type 0 = λ z. is_plain k z ≡ true in
     let d_is : d ≡ 92 = eqb-true d 92 (sym (ap (first_passes is_backslash) e)) in
@@ -88,9 +88,9 @@ mapped_some None r h = absurd (cc)
 mapped_some (Some p) r h = (p, refl, cc)
 
 -- any escape at the front
-behind_backslash : (k : Kind) (cs r : List ℕ) → IsQuotedKind k → escape_rest k cs ≡ Some r → StrictFront k (92 ∷ cs) r
-behind_backslash k [] r q h = absurd (cc)
-behind_backslash k (c ∷ cs) r q h =
+after_backslash : (k : Kind) (cs r : List ℕ) → HasStrictUnits k → escape_rest k cs ≡ Some r → StrictFront k (92 ∷ cs) r
+after_backslash k [] r q h = absurd (cc)
+after_backslash k (c ∷ cs) r q h =
     let line : Option (List ℕ) = cond (is_string k) (Some (after_run is_dropped_blank cs)) None in
     let other : Option (List ℕ) = option_map (λ p. p.1) (unit_at k (92 ∷ c ∷ cs)) in
     elim (cases_Bool (c == 10)) [
@@ -107,13 +107,13 @@ behind_backslash k (c ∷ cs) r q h =
     ]
 
 -- what is left stands after a strict unit
-pub unit_rest_sound : (k : Kind) (t r : List ℕ) → IsQuotedKind k → unit_rest k t ≡ Some r → StrictFront k t r
+pub unit_rest_sound : (k : Kind) (t r : List ℕ) → HasStrictUnits k → unit_rest k t ≡ Some r → StrictFront k t r
 unfolding unit_rest
 unit_rest_sound k [] r q h = absurd (cc)
 unit_rest_sound k (c ∷ cs) r q h =
     let bare : Option (List ℕ) = cond (is_strict_unit k (Itself c)) (Some cs) None in
     elim (cases_Bool (c == 92)) [
-      | inl a ↦ subst (λ z. StrictFront k (z ∷ cs) r) (sym (eqb-true c 92 a)) (behind_backslash k cs r q (ap (λ b. cond b (escape_rest k cs) bare) (sym a) ∙ h))
+      | inl a ↦ subst (λ z. StrictFront k (z ∷ cs) r) (sym (eqb-true c 92 a)) (after_backslash k cs r q (ap (λ b. cond b (escape_rest k cs) bare) (sym a) ∙ h))
       | inr a ↦
           let p = chosen_some (is_strict_unit k (Itself c)) cs r (ap (λ b. cond b (escape_rest k cs) bare) (sym a) ∙ h) in
           record { unit = Itself c; is_unit = p.0; may_end = tt; text_is = ap (λ z. c ∷ z) p.1 }

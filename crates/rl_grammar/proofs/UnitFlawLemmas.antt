@@ -23,18 +23,18 @@ pub record Stops {V : Type 0} (reader : Reader V) (text rest : List ℕ) : Type 
   pub stuck : (c : ℕ) (cs e : List ℕ) → rest ≡ c ∷ cs → reader (front ++ (c ∷ e)) ≡ None
 
 -- The text stops so at the flaw's place, and has the flaw's kind by what stands before it too.
-pub record Spoils {V : Type 0} (kind : Kind) (reader : Reader V) (before text : List ℕ) (flaw : FoundFlaw) : Type 0 where
+pub record HasUnitFlaw {V : Type 0} (kind : Kind) (reader : Reader V) (before text : List ℕ) (flaw : FoundFlaw) : Type 0 where
   pub stops : Stops reader text flaw.1
   pub has : UnitFlaw kind flaw.0 (before ++ text) flaw.1
 
-at_end : {V : Type 0} {kind : Kind} {reader : Reader V} {before : List ℕ} → Completes reader [] → Spoils kind reader before [] (found_flaw Unclosed [])
+at_end : {V : Type 0} {kind : Kind} {reader : Reader V} {before : List ℕ} → Completes reader [] → HasUnitFlaw kind reader before [] (found_flaw Unclosed [])
 at_end k = record {
   stops = record { front = []; text_is = refl; completes = k; stuck = λ c cs e h. absurd (cc) };
   has = refl;
 }
 
 -- with this first character nothing is read
-here : {V : Type 0} {kind : Kind} {reader : Reader V} {before : List ℕ} (c : ℕ) (cs : List ℕ) (flaw : FlawKind) → Completes reader [] → ((e : List ℕ) → reader (c ∷ e) ≡ None) → UnitFlaw kind flaw (before ++ (c ∷ cs)) (c ∷ cs) → Spoils kind reader before (c ∷ cs) (found_flaw flaw (c ∷ cs))
+here : {V : Type 0} {kind : Kind} {reader : Reader V} {before : List ℕ} (c : ℕ) (cs : List ℕ) (flaw : FlawKind) → Completes reader [] → ((e : List ℕ) → reader (c ∷ e) ≡ None) → UnitFlaw kind flaw (before ++ (c ∷ cs)) (c ∷ cs) → HasUnitFlaw kind reader before (c ∷ cs) (found_flaw flaw (c ∷ cs))
 here {reader} c cs flaw k none has = record {
   stops = record {
     front = [];
@@ -46,12 +46,12 @@ here {reader} c cs flaw k none has = record {
 }
 
 -- with this first character it is as with what follows
-next : {V W : Type 0} {kind : Kind} {before cs : List ℕ} {flaw : FoundFlaw} (inner : Reader V) (outer : Reader W) (f : V → W) (c x : ℕ) → c ≡ x → ((u : List ℕ) → outer (x ∷ u) ≡ option_and_then (λ p. given (f p.0) p.1) (inner u)) → outer (c ∷ cs) ≡ None → (inner cs ≡ None → Spoils kind inner (before ++ (x ∷ [])) cs flaw) → Spoils kind outer before (c ∷ cs) flaw
+next : {V W : Type 0} {kind : Kind} {before cs : List ℕ} {flaw : FoundFlaw} (inner : Reader V) (outer : Reader W) (f : V → W) (c x : ℕ) → c ≡ x → ((u : List ℕ) → outer (x ∷ u) ≡ option_and_then (λ p. given (f p.0) p.1) (inner u)) → outer (c ∷ cs) ≡ None → (inner cs ≡ None → HasUnitFlaw kind inner (before ++ (x ∷ [])) cs flaw) → HasUnitFlaw kind outer before (c ∷ cs) flaw
 next {kind} {before} {cs} {flaw} inner outer f c x is same none inside =
     let k = inside (inner_none (inner cs) f (sym (ap (λ z. outer (z ∷ cs)) is ∙ same cs) ∙ none)) in
     let s = k.stops in
     let done = s.completes in
-    subst (λ z. Spoils kind outer before (z ∷ cs) flaw) (sym is) (record {
+    subst (λ z. HasUnitFlaw kind outer before (z ∷ cs) flaw) (sym is) (record {
       stops = record {
         front = x ∷ s.front;
         text_is = ap (λ z. x ∷ z) s.text_is;
@@ -72,7 +72,7 @@ kept None = refl
 kept (Some p) = refl
 
 -- and what is read is the same
-next_same : {V : Type 0} {kind : Kind} {before cs : List ℕ} {flaw : FoundFlaw} (inner outer : Reader V) (c x : ℕ) → c ≡ x → ((u : List ℕ) → outer (x ∷ u) ≡ inner u) → outer (c ∷ cs) ≡ None → (inner cs ≡ None → Spoils kind inner (before ++ (x ∷ [])) cs flaw) → Spoils kind outer before (c ∷ cs) flaw
+next_same : {V : Type 0} {kind : Kind} {before cs : List ℕ} {flaw : FoundFlaw} (inner outer : Reader V) (c x : ℕ) → c ≡ x → ((u : List ℕ) → outer (x ∷ u) ≡ inner u) → outer (c ∷ cs) ≡ None → (inner cs ≡ None → HasUnitFlaw kind inner (before ++ (x ∷ [])) cs flaw) → HasUnitFlaw kind outer before (c ∷ cs) flaw
 next_same inner outer c x is same none inside = next inner outer (λ v. v) c x is (λ u. same u ∙ kept (inner u)) none inside
 
 -- ---- kinds, and what they hold
@@ -91,19 +91,19 @@ rejected : (b : Bool) (n : ℕ) (r : List ℕ) → number_if b n r ≡ None → 
 rejected true n r h = absurd (cc)
 rejected false n r h = refl
 
--- two digits that no kind but C strings refuses
+-- two digits that no kind but C strings rejects
 small_enough : (b : Bool) (v d : ℕ) → (b && ltb 7 v) ≡ false → d < 16 → (not b || ltb (v * 16 + d) 128) ≡ true
 small_enough false v d h digit = refl
 small_enough true v d h digit = lt-ltb (v * 16 + d) 128 (let few : v ≤ 7 = ltb-false 7 v h in omega arith)
 
-low_spoils : (kind : Kind) (c : ℕ) (t : List ℕ) → is_hex_digit c ≡ true → (holds_characters kind && ltb 7 (digit_value c)) ≡ false → second kind c t ≡ None → Spoils kind (second kind c) (92 ∷ 120 ∷ c ∷ []) t (low_digit_flaw_at t)
+low_spoils : (kind : Kind) (c : ℕ) (t : List ℕ) → is_hex_digit c ≡ true → (holds_characters kind && ltb 7 (digit_value c)) ≡ false → second kind c t ≡ None → HasUnitFlaw kind (second kind c) (92 ∷ 120 ∷ c ∷ []) t (low_digit_flaw_at t)
 low_spoils kind c [] h low none = at_end (hex_second kind c h low)
-low_spoils kind c (d ∷ ds) h low none = cond_both (is_hex_digit d) _ _ (Spoils kind (second kind c) (92 ∷ 120 ∷ c ∷ []) (d ∷ ds)) both one
+low_spoils kind c (d ∷ ds) h low none = cond_both (is_hex_digit d) _ _ (HasUnitFlaw kind (second kind c) (92 ∷ 120 ∷ c ∷ []) (d ∷ ds)) both one
   where
     n : ℕ
     n = digit_value c * 16 + digit_value d
 
-    both : is_hex_digit d ≡ true → Spoils kind (second kind c) (92 ∷ 120 ∷ c ∷ []) (d ∷ ds) (found_flaw Nul (d ∷ ds))
+    both : is_hex_digit d ≡ true → HasUnitFlaw kind (second kind c) (92 ∷ 120 ∷ c ∷ []) (d ∷ ds) (found_flaw Nul (d ∷ ds))
     both e =
         let stuck : number_if (may_be_hex kind n) n ds ≡ None = sym (hex_read kind c d ds h e) ∙ none in
         let bad : may_be_hex kind n ≡ false = rejected (may_be_hex kind n) n ds stuck in
@@ -112,22 +112,22 @@ low_spoils kind c (d ∷ ds) h low none = cond_both (is_hex_digit d) _ _ (Spoils
         let value : hex_value c d ≡ 0 = sym (two_digits (digit_value c) (digit_value d)) ∙ only_zero kind n rejects in
         here d ds Nul (hex_second kind c h low) (λ r. hex_read kind c d r h e ∙ never (may_be_hex kind n) n ds r stuck) (c_string kind n rejects, ByDigits c d ds refl refl h e value)
 
-    one : is_hex_digit d ≡ false → Spoils kind (second kind c) (92 ∷ 120 ∷ c ∷ []) (d ∷ ds) (found_flaw NoHexDigit (d ∷ ds))
+    one : is_hex_digit d ≡ false → HasUnitFlaw kind (second kind c) (92 ∷ 120 ∷ c ∷ []) (d ∷ ds) (found_flaw NoHexDigit (d ∷ ds))
     one e = here d ds NoHexDigit (hex_second kind c h low) (λ r. no_low kind c d r h e) (SecondDigit c h refl (not_from_false (is_hex_digit d) e))
 
-hex_spoils : (kind : Kind) (t : List ℕ) → hex_at kind t ≡ None → Spoils kind (hex_at kind) (92 ∷ 120 ∷ []) t (hex_flaw_at kind t)
+hex_spoils : (kind : Kind) (t : List ℕ) → hex_at kind t ≡ None → HasUnitFlaw kind (hex_at kind) (92 ∷ 120 ∷ []) t (hex_flaw_at kind t)
 unfolding hex_flaw_at
 hex_spoils kind [] none = at_end (hex_one kind)
 hex_spoils kind (c ∷ cs) none =
-    let P : FoundFlaw → Type 0 = Spoils kind (hex_at kind) (92 ∷ 120 ∷ []) (c ∷ cs) in
+    let P : FoundFlaw → Type 0 = HasUnitFlaw kind (hex_at kind) (92 ∷ 120 ∷ []) (c ∷ cs) in
     let high = holds_characters kind && ltb 7 (digit_value c) in
     cond_both (is_hex_digit c) _ _ P
-      (λ e. cond_both high _ _ P
-        (λ h.
-            let parts = and_parts (holds_characters kind) (ltb 7 (digit_value c)) h in
-            here c cs PastAscii (hex_one kind) (λ r. past_hex kind c r e h) (parts.0, refl, and_from (is_hex_digit c) (ltb 7 (digit_value c)) e parts.1))
-        (λ h. next_same (second kind c) (hex_at kind) c c refl (λ u. refl) none (low_spoils kind c cs e h)))
-      (λ e. here c cs NoHexDigit (hex_one kind) (λ r. no_high kind c r e) (FirstDigit refl (not_from_false (is_hex_digit c) e)))
+    (λ e. cond_both high _ _ P
+    (λ h.
+    let parts = and_parts (holds_characters kind) (ltb 7 (digit_value c)) h in
+    here c cs PastAscii (hex_one kind) (λ r. past_hex kind c r e h) (parts.0, refl, and_from (is_hex_digit c) (ltb 7 (digit_value c)) e parts.1))
+    (λ h. next_same (second kind c) (hex_at kind) c c refl (λ u. refl) none (low_spoils kind c cs e h)))
+    (λ e. here c cs NoHexDigit (hex_one kind) (λ r. no_high kind c r e) (FirstDigit refl (not_from_false (is_hex_digit c) e)))
 
 -- ---- their number
 
@@ -163,14 +163,14 @@ count_more ds c h = ap length (bare_digit ds c h) ∙ length-append (without_und
 code_has : (kind : Kind) (v : ℕ) (text rest : List ℕ) → is_code kind v ≡ false → ((k : FlawKind) → IsNoCode kind k v → HasNoCode kind k text rest) → UnitFlaw kind (code_flaw_of v) text rest
 code_has kind v text rest bad has = past (ltb 1114111 v) refl
   where
-    refuses : (a b : Bool) → a ≡ true → (a && b) ≡ false → b ≡ false
-    refuses true b h e = e
-    refuses false b h e = absurd (cc)
+    rejects : (a b : Bool) → a ≡ true → (a && b) ≡ false → b ≡ false
+    rejects true b h e = e
+    rejects false b h e = absurd (cc)
 
     zero : (b : Bool) → eqb v 0 ≡ b → ltb 1114111 v ≡ false → UnitFlaw kind (cond b Nul Surrogate) text rest
     zero true e small =
         let is = eqb-true v 0 e in
-        let c = c_string kind v (refuses (scalar v) (allows_code kind v) (ap scalar is) bad) in
+        let c = c_string kind v (rejects (scalar v) (allows_code kind v) (ap scalar is) bad) in
         (c, ByNumber (has Nul (c, is)))
     zero false e small =
         let none = left_false (scalar v) (allows_code kind v) (holds_more kind v e) bad in
@@ -217,52 +217,75 @@ stands_underscore kind ds v n c s e = record {
 abbrev braced_front : List ℕ → List ℕ
 braced_front ds = 92 ∷ 117 ∷ 123 ∷ ds
 
-digits_spoil : (kind : Kind) (t ds : List ℕ) (v n : ℕ) → Stands kind ds v n → coded kind v n t ≡ None → Spoils kind (coded kind v n) (braced_front ds) t (digits_flaw_at kind v n t)
+-- what follows the character, whatever digits stand before it
+abbrev NextSpoils : Kind → List ℕ → Type 0
+NextSpoils kind cs = (ds : List ℕ) (v n : ℕ) → Stands kind ds v n → coded kind v n cs ≡ None → HasUnitFlaw kind (coded kind v n) (braced_front ds) cs (digits_flaw_at kind v n cs)
+
+module _ (kind : Kind) (ds : List ℕ) (v n c : ℕ) (cs : List ℕ) (s : Stands kind ds v n) (none : coded kind v n (c ∷ cs) ≡ None) (later : NextSpoils kind cs) where
+  abbrev w : ℕ
+  w = v * 16 + digit_value c
+
+  abbrev text : List ℕ
+  text = braced_front ds ++ (c ∷ cs)
+
+  abbrev P : FoundFlaw → Type 0
+  P = HasUnitFlaw kind (coded kind v n) (braced_front ds) (c ∷ cs)
+
+  braced_here : IsBraced ds text (c ∷ cs)
+  braced_here = record { begins = s.begins; each = s.each; text_is = refl }
+
+  stuck : (flaw : FlawKind) → ((e : List ℕ) → coded kind v n (c ∷ e) ≡ None) → UnitFlaw kind flaw text (c ∷ cs) → P (found_flaw flaw (c ∷ cs))
+  stuck flaw h has = here c cs flaw (closing kind v n s.spelled) h has
+
+  seventh : is_hex_digit c ≡ true → eqb n 6 ≡ true → P (found_flaw TooManyDigits (c ∷ cs))
+  seventh e six =
+      let is = eqb-true n 6 six in
+      stuck TooManyDigits (λ r. digit_past kind v n c r e (omega (arith, is))) (ds, braced_here, sym s.count_is ∙ is, e)
+
+  sixth : is_hex_digit c ≡ true → (eqb n 5 && not (is_code kind w)) ≡ true → P (found_flaw (code_flaw_of w) (c ∷ cs))
+  sixth e bad =
+      let parts = and_parts (eqb n 5) (not (is_code kind w)) bad in
+      let five : n ≡ 5 = eqb-true n 5 parts.0 in
+      let none_of : is_code kind w ≡ false = not-true (is_code kind w) parts.1 in
+      let value : w ≡ number_of (ds ++ (c ∷ [])) = number_digit ds v c s.value_is e in
+      let never_read : (r : List ℕ) → coded kind v n (c ∷ r) ≡ None = λ r. digit_on kind v n c r e (omega (arith, five)) ∙ ap (λ m. coded kind w (m + 1) r) five ∙ full_none kind w r none_of in
+      stuck (code_flaw_of w) never_read (code_has kind w text (c ∷ cs) none_of (λ k h. AtSixth ds c cs braced_here (sym s.count_is ∙ five) refl e (subst (IsNoCode kind k) value h)))
+
+  digit_more : is_hex_digit c ≡ true → eqb n 6 ≡ false → (eqb n 5 && not (is_code kind w)) ≡ false → P (digits_flaw_at kind w (n + 1) cs)
+  digit_more e short good =
+      let more = spelled_on kind v n c s.spelled e short good in
+      let few = more.few in
+      next_same (coded kind w (n + 1)) (coded kind v n) c c refl (λ u. digit_on kind v n c u e (omega (arith, few))) none (later (ds ++ (c ∷ [])) w (n + 1) (stands_digit kind ds v n c s e more))
+
+  no_code : c ≡ 125 → is_code kind v ≡ false
+  no_code is = elim (cases_Bool (is_code kind v)) [
+    | inl a ↦ let h = sym none ∙ ap (λ x. coded kind v n (x ∷ cs)) is ∙ closed_code kind v n cs s.spelled.unicode a in absurd (cc)
+    | inr a ↦ a
+  ]
+
+  closed_here : eqb c 125 ≡ true → P (found_flaw (code_flaw_of v) (c ∷ cs))
+  closed_here b =
+      let is = eqb-true c 125 b in
+      let bad = no_code is in
+      let few : digit_count ds ≤ 5 = subst (λ m. m ≤ 5) s.count_is (room kind v n s.spelled bad) in
+      stuck (code_flaw_of v) (λ r. ap (λ x. coded kind v n (x ∷ r)) is ∙ closed_bad kind v n r bad) (code_has kind v text (c ∷ cs) bad (λ k h. AtBrace ds braced_here few b (subst (IsNoCode kind k) s.value_is h)))
+
+  mark_more : eqb c 95 ≡ true → P (digits_flaw_at kind v n cs)
+  mark_more d = next_same (coded kind v n) (coded kind v n) c c refl (λ u. ap (λ x. coded kind v n (x ∷ u)) (eqb-true c 95 d) ∙ underscore_on kind v n u) none (later (ds ++ (c ∷ [])) v n (stands_underscore kind ds v n c s d))
+
+  other_here : is_hex_digit c ≡ false → eqb c 125 ≡ false → eqb c 95 ≡ false → P (found_flaw NoHexDigit (c ∷ cs))
+  other_here a b d = stuck NoHexDigit (λ r. other_none kind v n c r a b d) (AfterDigits ds braced_here (rw (a, b, d) refl))
+
+  spoils_here : P (digits_flaw_at kind v n (c ∷ cs))
+  unfolding digits_flaw_at
+  spoils_here = cond_both (is_hex_digit c) _ _ P
+    (λ e. cond_both (eqb n 6) _ _ P (seventh e) (λ short. cond_both (eqb n 5 && not (is_code kind w)) _ _ P (sixth e) (digit_more e short)))
+    (λ a. cond_both (eqb c 125) _ _ P closed_here (λ b. cond_both (eqb c 95) _ _ P mark_more (other_here a b)))
+
+digits_spoil : (kind : Kind) (t ds : List ℕ) (v n : ℕ) → Stands kind ds v n → coded kind v n t ≡ None → HasUnitFlaw kind (coded kind v n) (braced_front ds) t (digits_flaw_at kind v n t)
 unfolding digits_flaw_at
 digits_spoil kind [] ds v n s none = at_end (closing kind v n s.spelled)
-digits_spoil kind (c ∷ cs) ds v n s none =
-    let P : FoundFlaw → Type 0 = Spoils kind (coded kind v n) (braced_front ds) (c ∷ cs) in
-    let w = v * 16 + digit_value c in
-    let text = braced_front ds ++ (c ∷ cs) in
-    let spelled = s.spelled in
-    let stays : IsBraced ds text (c ∷ cs) = record { begins = s.begins; each = s.each; text_is = refl } in
-    let stuck : (flaw : FlawKind) → ((e : List ℕ) → coded kind v n (c ∷ e) ≡ None) → UnitFlaw kind flaw text (c ∷ cs) → P (found_flaw flaw (c ∷ cs)) = λ flaw h has. here c cs flaw (closing kind v n spelled) h has in
-    cond_both (is_hex_digit c) _ _ P
-      (λ e. cond_both (eqb n 6) _ _ P
-        (λ six.
-            let is = eqb-true n 6 six in
-            stuck TooManyDigits (λ r. digit_past kind v n c r e (omega (arith, is))) (ds, stays, sym s.count_is ∙ is, e))
-        (λ short. cond_both (eqb n 5 && not (is_code kind w)) _ _ P
-          (λ bad.
-              let parts = and_parts (eqb n 5) (not (is_code kind w)) bad in
-              let five : n ≡ 5 = eqb-true n 5 parts.0 in
-              let none_of : is_code kind w ≡ false = not-true (is_code kind w) parts.1 in
-              let value : w ≡ number_of (ds ++ (c ∷ [])) = number_digit ds v c s.value_is e in
-              stuck (code_flaw_of w) (λ r. digit_on kind v n c r e (omega (arith, five)) ∙ ap (λ m. coded kind w (m + 1) r) five ∙ full_none kind w r none_of) (code_has kind w text (c ∷ cs) none_of (λ k h. AtSixth ds c cs stays (sym s.count_is ∙ five) refl e (subst (IsNoCode kind k) value h))))
-          (λ good.
-              let more = spelled_on kind v n c spelled e short good in
-              let few = more.few in
-              next_same (coded kind w (n + 1)) (coded kind v n) c c refl (λ u. digit_on kind v n c u e (omega (arith, few))) none (digits_spoil kind cs (ds ++ (c ∷ [])) w (n + 1) (stands_digit kind ds v n c s e more)))))
-      (λ a. cond_both (eqb c 125) _ _ P
-        (λ b.
-            let is = eqb-true c 125 b in
-            let at : (e : List ℕ) → coded kind v n (c ∷ e) ≡ coded kind v n (125 ∷ e) = λ e. ap (λ x. coded kind v n (x ∷ e)) is in
-            let no_code : is_code kind v ≡ false = unclosed kind v n cs spelled.unicode (sym (at cs) ∙ none) in
-            let few : digit_count ds ≤ 5 = subst (λ m. m ≤ 5) s.count_is (room kind v n spelled no_code) in
-            stuck (code_flaw_of v) (λ r. at r ∙ closed_bad kind v n r no_code) (code_has kind v text (c ∷ cs) no_code (λ k h. AtBrace ds stays few b (subst (IsNoCode kind k) s.value_is h))))
-        (λ b. cond_both (eqb c 95) _ _ P
-          (λ d.
-              let is = eqb-true c 95 d in
-              next_same (coded kind v n) (coded kind v n) c c refl (λ u. ap (λ x. coded kind v n (x ∷ u)) is ∙ underscore_on kind v n u) none (digits_spoil kind cs (ds ++ (c ∷ [])) v n (stands_underscore kind ds v n c s d)))
-          (λ d. stuck NoHexDigit (λ r. other_none kind v n c r a b d) (AfterDigits ds stays (rw (a, b, d) refl)))))
-  where
-    unclosed : (kind : Kind) (v n : ℕ) (r : List ℕ) → has_unicode kind ≡ true → coded kind v n (125 ∷ r) ≡ None → is_code kind v ≡ false
-    unclosed kind v n r u none = elim (cases_Bool (is_code kind v)) [
-      | inl a ↦ let h = sym none ∙ closed_code kind v n r u a in absurd (cc)
-      | inr a ↦ a
-    ]
-
--- ---- an escape by its number
+digits_spoil kind (c ∷ cs) ds v n s none = spoils_here kind ds v n c cs s none (digits_spoil kind cs)
 
 first_stands : (kind : Kind) (c : ℕ) → has_unicode kind ≡ true → is_hex_digit c ≡ true → Stands kind (c ∷ []) (digit_value c) 1
 first_stands kind c u h =
@@ -276,23 +299,23 @@ first_stands kind c u h =
       spelled = first_spelled kind c u h;
     }
 
-first_digit_spoils : (kind : Kind) (t : List ℕ) → has_unicode kind ≡ true → braced kind t ≡ None → Spoils kind (braced kind) (braced_front []) t (first_digit_flaw_at kind t)
+first_digit_spoils : (kind : Kind) (t : List ℕ) → has_unicode kind ≡ true → braced kind t ≡ None → HasUnitFlaw kind (braced kind) (braced_front []) t (first_digit_flaw_at kind t)
 unfolding first_digit_flaw_at
 first_digit_spoils kind [] u none = at_end (braced_one kind u)
 first_digit_spoils kind (c ∷ cs) u none =
-    let P : FoundFlaw → Type 0 = Spoils kind (braced kind) (braced_front []) (c ∷ cs) in
+    let P : FoundFlaw → Type 0 = HasUnitFlaw kind (braced kind) (braced_front []) (c ∷ cs) in
     cond_both (is_hex_digit c) _ _ P
-      (λ e. subst P (sym (digits_flaw_is kind cs (digit_value c) 1 (c ∷ cs) (omega arith) refl)) (next_same (coded kind (digit_value c) 1) (braced kind) c c refl (λ r. braced_first kind c r e) none (digits_spoil kind cs (c ∷ []) (digit_value c) 1 (first_stands kind c u e))))
-      (λ e. cond_both (eqb c 125) _ _ P
-        (λ b. here c cs EmptyBraces (braced_one kind u) (λ r. braced_none kind c r e) (refl, b))
-        (λ b. here c cs NoHexDigit (braced_one kind u) (λ r. braced_none kind c r e) (AfterBrace refl (rw (e, b) refl))))
+    (λ e. subst P (sym (digits_flaw_is kind cs (digit_value c) 1 (c ∷ cs) (omega arith) refl)) (next_same (coded kind (digit_value c) 1) (braced kind) c c refl (λ r. braced_first kind c r e) none (digits_spoil kind cs (c ∷ []) (digit_value c) 1 (first_stands kind c u e))))
+    (λ e. cond_both (eqb c 125) _ _ P
+    (λ b. here c cs EmptyBraces (braced_one kind u) (λ r. braced_none kind c r e) (refl, b))
+    (λ b. here c cs NoHexDigit (braced_one kind u) (λ r. braced_none kind c r e) (AfterBrace refl (rw (e, b) refl))))
 
-unicode_spoils : (kind : Kind) (t : List ℕ) → has_unicode kind ≡ true → unicode_at kind t ≡ None → Spoils kind (unicode_at kind) (92 ∷ 117 ∷ []) t (unicode_flaw_at kind t)
+unicode_spoils : (kind : Kind) (t : List ℕ) → has_unicode kind ≡ true → unicode_at kind t ≡ None → HasUnitFlaw kind (unicode_at kind) (92 ∷ 117 ∷ []) t (unicode_flaw_at kind t)
 unfolding unicode_flaw_at
 unicode_spoils kind [] u none = at_end (unicode_one kind u)
-unicode_spoils kind (c ∷ cs) u none = cond_both (eqb c 123) _ _ (Spoils kind (unicode_at kind) (92 ∷ 117 ∷ []) (c ∷ cs))
-  (λ e. next_same (braced kind) (unicode_at kind) c 123 (eqb-true c 123 e) (unicode_on kind) none (first_digit_spoils kind cs u))
-  (λ e. here c cs NoBrace (unicode_one kind u) (λ r. no_unicode_brace kind c r e) (refl, not_from_false (eqb c 123) e))
+unicode_spoils kind (c ∷ cs) u none = cond_both (eqb c 123) _ _ (HasUnitFlaw kind (unicode_at kind) (92 ∷ 117 ∷ []) (c ∷ cs))
+    (λ e. next_same (braced kind) (unicode_at kind) c 123 (eqb-true c 123 e) (unicode_on kind) none (first_digit_spoils kind cs u))
+    (λ e. here c cs NoBrace (unicode_one kind u) (λ r. no_unicode_brace kind c r e) (refl, not_from_false (eqb c 123) e))
 
 -- ---- an escape
 
@@ -335,29 +358,41 @@ no_zero kind cs none = go (allows_code kind 0) none
 differs : (c k : ℕ) → eqb c k ≡ false → eqb k k ≡ true → c ≢ k
 differs c k h same is = both_ways (eqb c k) h (ap (λ x. eqb x k) is ∙ same)
 
-escape_spoils : (kind : Kind) (t : List ℕ) → escape_at kind t ≡ None → Spoils kind (escape_at kind) (92 ∷ []) t (escape_flaw_at kind t)
+escape_spoils : (kind : Kind) (t : List ℕ) → escape_at kind t ≡ None → HasUnitFlaw kind (escape_at kind) (92 ∷ []) t (escape_flaw_at kind t)
 unfolding escape_flaw_at
 escape_spoils kind [] none = at_end (escape_n kind)
-escape_spoils kind (c ∷ cs) none =
-    let P : FoundFlaw → Type 0 = Spoils kind (escape_at kind) (92 ∷ []) (c ∷ cs) in
-    let value : ℕ → List ℕ = λ n. content_of kind (n ∷ []) in
-    cond_both (eqb c 120) _ _ P
-      (λ e. next (hex_at kind) (escape_at kind) (λ n. n ∷ []) c 120 (eqb-true c 120 e) (by_hex kind) none (hex_spoils kind cs))
-      (λ a. cond_both (eqb c 117) _ _ P
-        (λ e. cond_both (has_unicode kind) _ _ P
-          (λ u. next (unicode_at kind) (escape_at kind) value c 117 (eqb-true c 117 e) (by_unicode kind) none (unicode_spoils kind cs u))
-          (λ u. here c cs NoUnicode (escape_n kind) (λ r. ap (λ x. escape_at kind (x ∷ r)) (eqb-true c 117 e) ∙ by_unicode kind r ∙ ap (option_and_then (λ p. found (content_of kind (p.0 ∷ [])) p.1)) (unicode_never kind r u)) (u, refl, e)))
-        (λ b. cond_both (eqb c 48) _ _ P
-          (λ z. here c cs Nul (escape_n kind) (λ r. same_escape kind c cs r a b none) (c_string kind 0 (no_zero kind cs (ap (λ x. escape_at kind (x ∷ cs)) (sym (eqb-true c 48 z)) ∙ none)), ByLetter refl z))
-          (λ z. here c cs UnknownEscape (escape_n kind) (λ r. same_escape kind c cs r a b none) (refl, record {
-            first = c;
-            after = cs;
-            rest_is = refl;
-            no_letter = no_letter kind c cs none z;
-            no_x = differs c 120 a refl;
-            no_u = differs c 117 b refl;
-            no_line_end = no_line_end kind c cs a b none;
-          }))))
+escape_spoils kind (c ∷ cs) none = cond_both (eqb c 120) _ _ P by_x (λ a. cond_both (eqb c 117) _ _ P (λ e. cond_both (has_unicode kind) _ _ P (by_u e) (no_u e)) (λ b. cond_both (eqb c 48) _ _ P (zero a b) (unknown a b)))
+  where
+    P : FoundFlaw → Type 0
+    P = HasUnitFlaw kind (escape_at kind) (92 ∷ []) (c ∷ cs)
+
+    by_x : eqb c 120 ≡ true → HasUnitFlaw kind (escape_at kind) (92 ∷ []) (c ∷ cs) (hex_flaw_at kind cs)
+    by_x e = next (hex_at kind) (escape_at kind) (λ n. n ∷ []) c 120 (eqb-true c 120 e) (by_hex kind) none (hex_spoils kind cs)
+
+    by_u : eqb c 117 ≡ true → has_unicode kind ≡ true → HasUnitFlaw kind (escape_at kind) (92 ∷ []) (c ∷ cs) (unicode_flaw_at kind cs)
+    by_u e u = next (unicode_at kind) (escape_at kind) (λ n. content_of kind (n ∷ [])) c 117 (eqb-true c 117 e) (by_unicode kind) none (unicode_spoils kind cs u)
+
+    once : (flaw : FlawKind) → ((r : List ℕ) → escape_at kind (c ∷ r) ≡ None) → UnitFlaw kind flaw (92 ∷ c ∷ cs) (c ∷ cs) → HasUnitFlaw kind (escape_at kind) (92 ∷ []) (c ∷ cs) (found_flaw flaw (c ∷ cs))
+    once flaw h has = here c cs flaw (escape_n kind) h has
+
+    no_u : eqb c 117 ≡ true → has_unicode kind ≡ false → HasUnitFlaw kind (escape_at kind) (92 ∷ []) (c ∷ cs) (found_flaw NoUnicode (c ∷ cs))
+    no_u e u = once NoUnicode (λ r. ap (λ x. escape_at kind (x ∷ r)) (eqb-true c 117 e) ∙ by_unicode kind r ∙ ap (option_and_then (λ p. found (content_of kind (p.0 ∷ [])) p.1)) (unicode_never kind r u)) (u, refl, e)
+
+    zero : eqb c 120 ≡ false → eqb c 117 ≡ false → eqb c 48 ≡ true → HasUnitFlaw kind (escape_at kind) (92 ∷ []) (c ∷ cs) (found_flaw Nul (c ∷ cs))
+    zero a b z =
+        let stuck = ap (λ x. escape_at kind (x ∷ cs)) (sym (eqb-true c 48 z)) ∙ none in
+        once Nul (λ r. same_escape kind c cs r a b none) (c_string kind 0 (no_zero kind cs stuck), ByLetter refl z)
+
+    unknown : eqb c 120 ≡ false → eqb c 117 ≡ false → eqb c 48 ≡ false → HasUnitFlaw kind (escape_at kind) (92 ∷ []) (c ∷ cs) (found_flaw UnknownEscape (c ∷ cs))
+    unknown a b z = once UnknownEscape (λ r. same_escape kind c cs r a b none) (refl, record {
+      first = c;
+      after = cs;
+      rest_is = refl;
+      no_letter = no_letter kind c cs none z;
+      no_x = differs c 120 a refl;
+      no_u = differs c 117 b refl;
+      no_line_end = no_line_end kind c cs a b none;
+    })
 
 -- ---- a character that doesn't stand for itself
 
@@ -426,7 +461,7 @@ single_has kind c cs s p b = absurd (cc)
 abbrev pub IsOpen : Kind → List ℕ → Type 0
 IsOpen kind t = is_string kind ≡ true → first_passes (λ c. eqb c 34) t ≡ false
 
-line_end_spoils : (kind : Kind) (t : List ℕ) → is_string kind ≡ true → unit_at kind (13 ∷ t) ≡ None → Spoils kind (unit_at kind) [] (13 ∷ t) (line_end_flaw_at t)
+line_end_spoils : (kind : Kind) (t : List ℕ) → is_string kind ≡ true → unit_at kind (13 ∷ t) ≡ None → HasUnitFlaw kind (unit_at kind) [] (13 ∷ t) (line_end_flaw_at t)
 line_end_spoils kind t s none = go t none
   where
     whole : Completes (unit_at kind) (13 ∷ [])
@@ -437,7 +472,7 @@ line_end_spoils kind t s none = go t none
     no_feed true false ds e h = refl
     no_feed false b ds e h = absurd (cc)
 
-    go : (t : List ℕ) → unit_at kind (13 ∷ t) ≡ None → Spoils kind (unit_at kind) [] (13 ∷ t) (line_end_flaw_at t)
+    go : (t : List ℕ) → unit_at kind (13 ∷ t) ≡ None → HasUnitFlaw kind (unit_at kind) [] (13 ∷ t) (line_end_flaw_at t)
     go [] h = record { stops = record { front = 13 ∷ []; text_is = refl; completes = whole; stuck = λ c cs e g. absurd (cc) }; has = refl }
     go (d ∷ ds) h =
         let stuck : line_feed_at kind (d ∷ ds) ≡ None = sym (line_feed kind (d ∷ ds) s) ∙ h in
@@ -453,19 +488,19 @@ line_end_spoils kind t s none = go t none
           has = (s, refl, not_from_false (eqb d 10) (no_feed (is_string kind) (eqb d 10) ds s stuck));
         }
 
-pub unit_spoils : (kind : Kind) (t : List ℕ) → IsQuotedKind kind → IsOpen kind t → unit_at kind t ≡ None → Spoils kind (unit_at kind) [] t (unit_flaw_at kind t)
+pub unit_spoils : (kind : Kind) (t : List ℕ) → IsQuotedKind kind → IsOpen kind t → unit_at kind t ≡ None → HasUnitFlaw kind (unit_at kind) [] t (unit_flaw_at kind t)
 unfolding unit_flaw_at
 unit_spoils kind [] q still none = at_end (unit_one kind q)
 unit_spoils kind (c ∷ cs) q still none =
-    let P : FoundFlaw → Type 0 = Spoils kind (unit_at kind) [] (c ∷ cs) in
+    let P : FoundFlaw → Type 0 = HasUnitFlaw kind (unit_at kind) [] (c ∷ cs) in
     cond_both (eqb c 92) _ _ P
-      (λ e. next_same (escape_at kind) (unit_at kind) c 92 (eqb-true c 92 e) (by_escape kind) none (escape_spoils kind cs))
-      (λ a. cond_both (eqb c 13 && is_string kind) _ _ P
-        (λ e.
-            let parts = and_parts (eqb c 13) (is_string kind) e in
-            let is = eqb-true c 13 parts.0 in
-            subst (λ x. Spoils kind (unit_at kind) [] (x ∷ cs) (line_end_flaw_at cs)) (sym is) (line_end_spoils kind cs parts.1 (ap (λ x. unit_at kind (x ∷ cs)) (sym is) ∙ none)))
-        (λ e. here c cs (character_flaw_of c) (unit_one kind q) (λ r. same_character kind c cs r a e none) (alone q e a)))
+    (λ e. next_same (escape_at kind) (unit_at kind) c 92 (eqb-true c 92 e) (by_escape kind) none (escape_spoils kind cs))
+    (λ a. cond_both (eqb c 13 && is_string kind) _ _ P
+    (λ e.
+    let parts = and_parts (eqb c 13) (is_string kind) e in
+    let is = eqb-true c 13 parts.0 in
+    subst (λ x. HasUnitFlaw kind (unit_at kind) [] (x ∷ cs) (line_end_flaw_at cs)) (sym is) (line_end_spoils kind cs parts.1 (ap (λ x. unit_at kind (x ∷ cs)) (sym is) ∙ none)))
+    (λ e. here c cs (character_flaw_of c) (unit_one kind q) (λ r. same_character kind c cs r a e none) (alone q e a)))
   where
     alone : IsQuotedKind kind → (eqb c 13 && is_string kind) ≡ false → eqb c 92 ≡ false → Alone kind c cs (character_flaw_of c)
     alone (inl s) e a = string_has kind c cs s (no_plain kind c cs a none) (still s) a (left_false (eqb c 13) (is_string kind) s e)

@@ -221,20 +221,27 @@ word_flaw [] number none = record {
   };
   kind = λ front is. (sym (is ∙ append-nil front), refl);
 }
-word_flaw (c ∷ cs) number none =
-    let P : FoundFlaw → Type 0 = IsFlaw IsWordFlaw (c ∷ cs) in
-    cond_both (c == 98 || c == 99) _ _ P
-      (λ e. elim (cases_Bool (c == 98)) [
-        | inl b ↦ prefix_flaw 98 c cs byte_prefix (inl refl) b none
-        | inr b ↦ prefix_flaw 99 c cs c_prefix (inr (inl refl)) (sym (ap (λ z. z || (c == 99)) b) ∙ e) none
-      ])
-      (λ e. cond_both (c == 116) _ _ P
-        (λ t. subst (λ z. IsFlaw IsWordFlaw (z ∷ cs) (end_flaw_at Unfinished NoLiteral (after_letters (truth_text true) (z ∷ cs)))) (sym (eqb-true c 116 t)) (true_flaw cs))
-        (λ t. cond_both (c == 102) _ _ P
-          (λ f. subst (λ z. IsFlaw IsWordFlaw (z ∷ cs) (end_flaw_at Unfinished NoLiteral (after_letters (truth_text false) (z ∷ cs)))) (sym (eqb-true c 102 f)) (false_flaw cs))
-          (λ f.
-              let other = or_parts (c == 98) (c == 99) e in
-              no_front_flaw c cs other.0 other.1 t f none number)))
+word_flaw (c ∷ cs) number none = cond_both (c == 98 || c == 99) _ _ P prefixed (λ e. cond_both (c == 116) _ _ P (worded true 116 true_flaw) (λ t. cond_both (c == 102) _ _ P (worded false 102 false_flaw) (other e t)))
+  where
+    P : FoundFlaw → Type 0
+    P = IsFlaw IsWordFlaw (c ∷ cs)
+
+    At : Bool → ℕ → Type 0
+    At b k = IsFlaw IsWordFlaw (k ∷ cs) (end_flaw_at Unfinished NoLiteral (after_letters (truth_text b) (k ∷ cs)))
+
+    worded : (b : Bool) (k : ℕ) → ((xs : List ℕ) → IsFlaw IsWordFlaw (k ∷ xs) (end_flaw_at Unfinished NoLiteral (after_letters (truth_text b) (k ∷ xs)))) → (c == k) ≡ true → At b c
+    worded b k flaw e = subst (At b) (sym (eqb-true c k e)) (flaw cs)
+
+    prefixed : (c == 98 || c == 99) ≡ true → P (end_flaw_at Unfinished NoLiteral cs)
+    prefixed e = elim (cases_Bool (c == 98)) [
+      | inl b ↦ prefix_flaw 98 c cs byte_prefix (inl refl) b none
+      | inr b ↦ prefix_flaw 99 c cs c_prefix (inr (inl refl)) (sym (ap (λ z. z || (c == 99)) b) ∙ e) none
+    ]
+
+    other : (c == 98 || c == 99) ≡ false → (c == 116) ≡ false → (c == 102) ≡ false → P (found_flaw NoLiteral (c ∷ cs))
+    other e t f =
+        let prefix = or_parts (c == 98) (c == 99) e in
+        no_front_flaw c cs prefix.0 prefix.1 t f none number
 
 -- the code's flaw
 pub word_place : (t : List ℕ) (flaw : FoundFlaw) → first_passes is_number_front t ≡ false → opener_at t ≡ None → flaw ≡ word_flaw_at t → IsFlaw IsWordFlaw t flaw

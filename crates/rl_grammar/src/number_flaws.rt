@@ -165,9 +165,7 @@ fn exponent_flaw(before: Before, text: &str) -> FlawAt<'_>
         ≡ exponent_flaw_at (is_integer before) (is_large before) (chars text.now) }
 {
     match split_char(text) {
-        Some(('e' | 'E', power)) => {
-            power_flaw(before, skip_class(CharClass::Underscore, power))
-        }
+        Some(('e' | 'E', power)) => { power_flaw(before, skip_class(CharClass::Underscore, power)) }
         _ => suffix_flaw(before, text),
     }
 }

@@ -69,7 +69,7 @@ fn code_flaw(code: u32) -> FlawKind
 fn digits_flaw<'t>(kind: Kind, digits: CodeDigits<'t>) -> FlawAt<'t>
     ensures { found_flaw result.kind (chars result.rest.now)
         ≡ code_flaw_at kind (code_digits digits.entry.value digits.entry.count (chars digits.entry.last.now)
-            (chars digits.entry.rest.now)) }
+        (chars digits.entry.rest.now)) }
 {
     if digits.count == 6 && !is_code(kind, digits.value) {
         return make_flaw(code_flaw(digits.value), digits.last);

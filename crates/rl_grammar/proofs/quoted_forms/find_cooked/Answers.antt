@@ -1,7 +1,7 @@
 use Rattle.rl_grammar.proofs.Names.{◌∙◌, sym, rules, IsUtf8, is_plain}
 use Rattle.std.specs.Str.{chars}
 use Rattle.rl_tokens.proofs.TailLemmas.{if_none}
-use Rattle.rl_grammar.proofs.CutLemmas.{behind_chars}
+use Rattle.rl_grammar.proofs.CutLemmas.{tail_chars}
 use Rattle.rl_grammar.proofs.FormLemmas.{cooked_found, cooked_none, cooked_units, front_sound}
 use Rattle.rl_grammar.specs.declared.quoted_forms.QuotedForm.TheVariants.{Cooked as CookedForm}
 use Rattle.rl_grammar.proofs.FrontLenLemmas.{opener_lo}
@@ -21,13 +21,13 @@ skip_units-closer-requires c = (front_sound _ _ c.requires).has
 pub places-requires-clause-closer : goal.places-requires-clause-closer
 places-requires-clause-closer c =
     let following : IsUtf8 c.split_plain.result.1.now = search rules in
-    behind_chars _ _ _ c.utf8.inside following c.split_plain.ensures.cut
+    tail_chars _ _ _ c.utf8.inside following c.split_plain.ensures.cut
 
 pub places-requires-2-clause-closer : goal.places-requires-2-clause-closer
 places-requires-2-clause-closer c =
     let cut = c.split_plain.ensures in
     let (w, row) = cooked_units _ _ _ _ _ _ cut.cut cut.plain c.skip_units-closer.ensures.row.1 in
-    behind_chars _ _ _ c.utf8.inside c.skip_units-closer.utf8 row.text_is
+    tail_chars _ _ _ c.utf8.inside c.skip_units-closer.utf8 row.text_is
 
 pub returns-in-Some-clause-found : goal.returns-in-Some-clause-found
 returns-in-Some-clause-found c =

@@ -1,6 +1,6 @@
 use Rattle.rl_grammar.proofs.Names.{sym, rules, IsUtf8}
 use Rattle.rl_tokens.proofs.TailLemmas.{if_none}
-use Rattle.rl_grammar.proofs.CutLemmas.{behind_chars}
+use Rattle.rl_grammar.proofs.CutLemmas.{tail_chars}
 use Rattle.rl_grammar.proofs.FormLemmas.{front_sound, single_found, single_stuck, single_none}
 use Rattle.rl_grammar.specs.declared.quoted_forms.QuotedForm.TheVariants.{Single as SingleForm}
 use Rattle.rl_grammar.proofs.FrontLenLemmas.{opener_lo}
@@ -19,7 +19,7 @@ returns-in_err-suffix-clause-none c = if_none _ (only_quoted _ _ _ _ c.requires 
 pub places-body-requires-clause-closer : goal.places-body-requires-clause-closer
 places-body-requires-clause-closer c =
     let closer : IsUtf8 c.in_ok-piece.closer.now = search rules in
-    behind_chars _ _ _ c.utf8.inside closer (unit_sound _ _ _ (sym c.in_ok-piece.ensures.value)).text_is
+    tail_chars _ _ _ c.utf8.inside closer (unit_sound _ _ _ (sym c.in_ok-piece.ensures.value)).text_is
 
 pub piece_unit-requires-clause-single : goal.piece_unit-requires-clause-single
 piece_unit-requires-clause-single c = (front_sound _ _ c.requires).has

@@ -3,7 +3,7 @@ use Rattle.std.specs.Str.{chars}
 use Rattle.std.proofs.lemmas.Str.{IsCharBoundary-at_seam}
 use Rattle.rl_tokens.proofs.TailLemmas.{tail_step, if_none}
 use Rattle.rl_grammar.specs.Founds.{body_in}
-use Rattle.rl_grammar.proofs.CutLemmas.{behind_chars}
+use Rattle.rl_grammar.proofs.CutLemmas.{tail_chars}
 use Rattle.rl_grammar.proofs.FormLemmas.{front_sound}
 use Rattle.rl_grammar.proofs.FrontLenLemmas.{raw_lo}
 use Rattle.rl_grammar.proofs.FoundLemmas.{form_at}
@@ -53,7 +53,7 @@ places-requires-clause-suffix c =
     let suffix : IsUtf8 c.in_ok-suffix.suffix.now = search rules in
     let closer : IsUtf8 c.range_from-closer.result.now = search rules in
     let begins = closer_is _ _ _ _ opened body after c.in_ok-body.ensures.some.0 c.range_from-closer.ensures.value in
-    behind_chars _ _ (34 ∷ chars c.before-hashes.result.now) closer suffix (begins ∙ ap (λ z. 34 ∷ z) c.in_ok-suffix.ensures.some)
+    tail_chars _ _ (34 ∷ chars c.before-hashes.result.now) closer suffix (begins ∙ ap (λ z. 34 ∷ z) c.in_ok-suffix.ensures.some)
 
 pub returns-clause-some : goal.returns-clause-some
 returns-clause-some c =

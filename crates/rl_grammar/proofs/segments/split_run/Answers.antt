@@ -1,6 +1,6 @@
 use Rattle.rl_grammar.proofs.Names.{◌≡◌, ◌∙◌, [], ◌∷◌, ◌++◌, ap, sym, refl, rules, and_from, append_cancel_right, chars-nil, list_all, IsUtf8, first_passes, is_plain}
 use Rattle.std.specs.Str.{chars}
-use Rattle.rl_grammar.proofs.CutLemmas.{behind_chars}
+use Rattle.rl_grammar.proofs.CutLemmas.{tail_chars}
 use Rattle.rl_grammar.proofs.segments.split_run.Goals as goal
 
 pub returns-then-is_string-clause-stops : goal.returns-then-is_string-clause-stops
@@ -12,7 +12,7 @@ returns-then-is_string-clause-stops c = λ none.
 pub returns-then-is_string-clause-following : goal.returns-then-is_string-clause-following
 returns-then-is_string-clause-following c =
     let following : IsUtf8 c.split_plain.result.1.now = search rules in
-    behind_chars _ _ _ c.utf8.text following c.split_plain.ensures.cut
+    tail_chars _ _ _ c.utf8.text following c.split_plain.ensures.cut
 
 pub returns-in-Some-clause-plain : goal.returns-in-Some-clause-plain
 returns-in-Some-clause-plain c =

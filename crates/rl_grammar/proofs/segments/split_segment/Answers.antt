@@ -2,7 +2,7 @@ use Rattle.rl_grammar.proofs.Names.{◌≡◌, ◌+◌, ◌∙◌, [], length, s
 use Rattle.std.proofs.Common.{length-append}
 use Rattle.std.proofs.lemmas.Str.{IsUtf8-nil}
 use Rattle.std.specs.Str.{chars}
-use Rattle.rl_grammar.proofs.CutLemmas.{behind_chars}
+use Rattle.rl_grammar.proofs.CutLemmas.{tail_chars}
 use Rattle.rl_grammar.proofs.SegmentLemmas.{cut_bytes, no_length, other_longest, some_length, text_longest, plain_front, run_front, unit_front, unit_there}
 use Rattle.rl_grammar.proofs.segments.split_segment.Goals as goal
 
@@ -34,7 +34,7 @@ returns-clause-front c =
 pub returns-clause-following : goal.returns-clause-following
 returns-clause-following c =
     let after : IsUtf8 c.in-Some.after.now = search rules in
-    behind_chars _ _ _ c.utf8.text after (returns-clause-front c).text_is
+    tail_chars _ _ _ c.utf8.text after (returns-clause-front c).text_is
 
 pub returns-then-plain-clause-longest : goal.returns-then-plain-clause-longest
 returns-then-plain-clause-longest c = text_longest c.args.kind c.args.text (chars []) (λ is. ap (first_passes (is_plain c.args.kind)) chars-nil)
