@@ -1,17 +1,19 @@
 -- Texts that a string literal holds as they stand.
-use Rattle.std.proofs.Common.{◌≡◌, ℕ, ◌<◌, Bool, true, false, nat_lt, eqb, List, [], ◌∷◌, ◌++◌, refl, sym, ap, ◌∙◌, append_assoc, arith}
-use Rattle.std.specs.Prelude.{not, ◌&&◌, ◌==◌, map, if◌then◌else◌}
+use Rattle.std.proofs.Common.{◌≡◌, ℕ, ◌<◌, Bool, true, false, nat_lt, eqb, List, [], ◌∷◌, ◌++◌, length, refl, sym, ap, ◌∙◌, append_assoc, arith}
+use Rattle.std.specs.Prelude.{codes, not, ◌&&◌, ◌==◌, map, if◌then◌else◌}
 use Rattle.std.specs.List.{list_all, All}
 use Rattle.std.specs.Str.{chars, IsAscii}
-use Rattle.std.proofs.lemmas.Bool.{false≢true}
+use Rattle.std.proofs.lemmas.Bool.{false≢true, eqb-true}
 use Rattle.std.proofs.lemmas.Bool.Decides.{nat_tests}
 use Rattle.std.proofs.lemmas.List.Elements.{All-nil, All-cons}
-use Rattle.std.proofs.lemmas.Str.{chars-IsAscii}
+use Rattle.std.proofs.lemmas.Str.{chars-IsAscii, chars-nil}
 use Rattle.std.proofs.lemmas.Str.Ascii.{IsAscii-from_all}
 use Rattle.rl_tokens.specs.declared.kind.Kind.TheVariants.{Str}
 use Rattle.rl_tokens.specs.Quoted.{Plain, texts}
-use Rattle.rl_tokens.specs.Written.{written_unit, written_text, is_written_as_number}
+use Rattle.rl_tokens.specs.Reading.{Characters}
+use Rattle.rl_tokens.specs.Written.{written_unit, is_written_as_number}
 use Rattle.rl_lines.specs.Bare.{is_bare}
+use Rattle.rl_lines.specs.Lines.{literal_line}
 
 both : (a b : Bool) → (a && b) ≡ true → (a ≡ true) × (b ≡ true)
 both true true h = (refl, refl)
@@ -41,13 +43,23 @@ bare_low (c ∷ cs) h =
     let bare = each.0 in
     All-cons (λ c. c < 128) c cs (grind (arith, nat_tests)) (bare_low cs each.1)
 
-quote : chars (34 ∷ []) ≡ 34 ∷ []
+front : chars (codes "Str \"") ≡ codes "Str \""
 unfolding chars
-quote = refl
+front = refl
 
--- a quote, the text and a quote, one after another
-pub bare_joined : (a b d e text : List ℕ) → list_all is_bare text ≡ true → b ≡ a ++ chars (34 ∷ []) → d ≡ b ++ chars text → e ≡ d ++ chars (34 ∷ []) → e ≡ a ++ written_text Str (chars text)
-bare_joined a b d e text h p q r =
-    let same : chars text ≡ text = chars-IsAscii text (IsAscii-from_all text (bare_low text h)) in
-    let units : texts (map (written_unit Str) (chars text)) ≡ chars text = rw same (bare_units text h) in
-    rw units (r ∙ ap (λ z. d ++ z) quote ∙ ap (λ z. z ++ (34 ∷ [])) (q ∙ ap (λ z. z ++ chars text) (p ∙ ap (λ z. a ++ z) quote)) ∙ append_assoc (a ++ (34 ∷ [])) (chars text) (34 ∷ []) ∙ append_assoc a (34 ∷ []) (chars text ++ (34 ∷ [])))
+end : chars (codes "\" -\n") ≡ codes "\" -\n"
+unfolding chars
+end = refl
+
+no_suffix : (suffix : List ℕ) → eqb (length suffix) 0 ≡ true → chars suffix ≡ []
+no_suffix [] h = chars-nil
+no_suffix (c ∷ cs) h = absurd (let e = eqb-true (length (c ∷ cs)) 0 h in omega arith)
+
+-- the line of a bare text with no suffix: its front, the text, and its end
+pub bare_line : (a b d e text suffix : List ℕ) → list_all is_bare text ≡ true → eqb (length suffix) 0 ≡ true → b ≡ a ++ chars (codes "Str \"") → d ≡ b ++ chars text → e ≡ d ++ chars (codes "\" -\n") → e ≡ a ++ literal_line Str (Characters (chars text)) (chars suffix)
+bare_line a b d e text suffix bare none p q r =
+    let same : chars text ≡ text = chars-IsAscii text (IsAscii-from_all text (bare_low text bare)) in
+    let units : texts (map (written_unit Str) (chars text)) ≡ chars text = rw same (bare_units text bare) in
+    let pieces : e ≡ ((a ++ codes "Str \"") ++ chars text) ++ codes "\" -\n" = r ∙ ap (λ z. d ++ z) end ∙ ap (λ z. z ++ codes "\" -\n") (q ∙ ap (λ z. z ++ chars text) (p ∙ ap (λ z. a ++ z) front)) in
+    rw (units, no_suffix suffix none) (pieces ∙ append_assoc (a ++ codes "Str \"") (chars text) (codes "\" -\n") ∙ append_assoc a (codes "Str \"") (chars text ++ codes "\" -\n")
+    ∙ ap (λ z. a ++ (codes "Str \"" ++ z)) (sym (append_assoc (chars text) (34 ∷ []) (codes " -\n"))))

@@ -36,20 +36,6 @@ fn are_bare(bytes: &[u8]) -> bool
     bytes.iter().all(|byte| is_bare(*byte))
 }
 
-/// Appends a text as a string literal. What the literal holds as it stands is copied at once.
-fn push_written<A: Allocator>(out: &mut String<A>, text: &str) -> Result<(), AllocError>
-    ensures { OnOk result
-        (chars (string_bytes out.new) ≡ chars (string_bytes out.old)
-        ++ written_text Str (chars text.now)) }
-{
-    if !are_bare(text.as_bytes()) {
-        return push_str_literal(out, text);
-    }
-    push(out, "\"")?;
-    push(out, text)?;
-    push(out, "\"")
-}
-
 /// Appends a suffix that isn't empty.
 fn push_suffix<A: Allocator>(out: &mut String<A>, suffix: &str) -> Result<(), AllocError>
     requires { IsFalse (length suffix.now == 0) }
@@ -60,7 +46,7 @@ fn push_suffix<A: Allocator>(out: &mut String<A>, suffix: &str) -> Result<(), Al
     if xid_ok(suffix) {
         push(out, suffix)
     } else {
-        push_written(out, suffix)
+        push_str_literal(out, suffix)
     }
 }
 
@@ -107,7 +93,7 @@ fn push_quoted<A: Allocator>(
 {
     push(out, word)?;
     push(out, " ")?;
-    push_written(out, text)?;
+    push_str_literal(out, text)?;
     push_end(out, suffix)
 }
 
@@ -151,7 +137,11 @@ pub(crate) fn push_kind<A: Allocator>(
     push_line(out, word(kind), shown, suffix)
 }
 
-/// Appends the line of a string that stands for this text.
+/// How the line of a string begins, and how it ends that has no suffix.
+const FRONT: &str = "Str \"";
+const END: &str = "\" -\n";
+
+/// Appends the line of a string that stands for this text. What a string literal holds as it stands is copied at once.
 pub(crate) fn push_text<A: Allocator>(
     out: &mut String<A>,
     value: &str,
@@ -160,6 +150,11 @@ pub(crate) fn push_text<A: Allocator>(
     ensures { OnOk result (chars (string_bytes out.new) ≡ chars (string_bytes out.old)
         ++ literal_line Str (Characters (chars value.now)) (chars suffix.now)) }
 {
+    if suffix.is_empty() && are_bare(value.as_bytes()) {
+        push(out, FRONT)?;
+        push(out, value)?;
+        return push(out, END);
+    }
     push_quoted(out, word(Kind::Str), value, suffix)
 }
 

@@ -16,7 +16,7 @@ const LONGEST: usize = 100;
 /// How many literals of a list are told.
 const MOST: usize = 4;
 
-/// What is told where memory is refused.
+/// What is told where an allocation fails.
 const NO_MEMORY: &str = "out of memory";
 
 /// Puts last a line without its end, or where that is long its kind and how many bytes it has.
@@ -72,7 +72,7 @@ fn tell_trees(alloc: Global, text: &str, page: &mut Page) {
     }
 }
 
-/// Puts last what `read_all` answers: how many literals, the first of them and their places, or a refusal and its places.
+/// Puts last what `read_all` answers: how many literals, the first of them and their places, or an error and its places.
 fn tell_read(alloc: Global, text: &str, page: &mut Page) {
     match read_all(alloc, text, 0) {
         Ok(literals) => tell_literals(alloc, literals.as_slice(), page),

@@ -9,7 +9,7 @@ use rl_tokens::{Error, Literal, ParseBuffer, Parser};
 use rust_literals::{Lit, LitStr};
 use std::alloc::Allocator;
 
-/// A parser of a copy of the literal token that stands next. Where memory for it is refused it says so at that token, and
+/// A parser of a copy of the literal token that stands next. Where an allocation for it fails it says so at that token, and
 /// has moved past it.
 #[derive(Drop)]
 struct CopyOfToken;

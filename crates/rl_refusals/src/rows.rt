@@ -1,4 +1,4 @@
-//! Calls whose requests for memory are refused: whose call it is, the call's name, and a text, with a space between.
+//! Calls whose allocations fail: whose call it is, the call's name, and a text, with a space between.
 
 use crate::held::{Held, NO_CALL, literal_of, number_of, quoted_of, run_held};
 use crate::tell::Tell;
@@ -6,7 +6,7 @@ use crate::tokens::parsed;
 use crate::trial::{HERE, Scarce, Trial};
 use crate::{grammar, made, sources, tokens};
 use rl_quoted::{ByteKind, ByteStrKind, CStrKind, CharKind, StrKind};
-use rl_refusing::{Page, Refusing};
+use rl_refusing::{Page, Failing};
 use rl_tokens::{Parse, lex};
 use rust_literals::{FloatKind, IntKind, LitBool, read_all};
 use std::alloc::Global;
@@ -136,36 +136,36 @@ pub struct Row<'t> {
     pub text: &'t str,
 }
 
-/// What came of the call while these requests were refused; how many came is stored.
+/// What came of the call while these allocations failed; how many were asked for is stored.
 fn tried(alloc: Global, row: Row<'_>, first: u64, last: u64, asked: &Cell<u64>) -> Page {
-    let refusing = Refusing::new(alloc);
+    let failing = Failing::new(alloc);
     let mut page = Page::new(alloc);
     let trial = Trial {
         alloc,
-        scant: &refusing,
+        scant: &failing,
         first,
         last,
         asked,
     };
     run(row.of, row.call, &trial, row.text, &mut page);
-    if refusing.held() > 0 {
+    if failing.held() > 0 {
         page.put("; kept memory");
     }
     page
 }
 
 /// Whether it is told that memory is wanted, and that all is left as it was.
-fn is_refusal(told: &str) -> bool {
+fn is_failure(told: &str) -> bool {
     told.starts_with("out of memory") && !told.contains("; now") && !told.contains("; kept")
 }
 
-/// Puts last what is printed of a refused call, where the call with ample memory told the other text.
+/// Puts last what is printed of a call whose allocations failed, where the call with ample memory told the other text.
 fn judge(told: &str, ample: &str, page: &mut Page) {
     if told == ample {
-        page.put("  refused: the same answer\n");
+        page.put("  failed: the same answer\n");
     } else {
-        page.put(if is_refusal(told) {
-            "  refused: "
+        page.put(if is_failure(told) {
+            "  failed: "
         } else {
             "  OTHER: "
         });
@@ -173,7 +173,7 @@ fn judge(told: &str, ample: &str, page: &mut Page) {
     }
 }
 
-/// Puts last what is printed of the call while these requests are refused, but not again.
+/// Puts last what is printed of the call while these allocations fail, but not again.
 fn put_tried(alloc: Global, row: Row<'_>, first: u64, last: u64, ample: &Page, page: &mut Page) {
     let told = tried(alloc, row, first, last, &Cell::new(0));
     let mut line = page.another();
@@ -183,7 +183,7 @@ fn put_tried(alloc: Global, row: Row<'_>, first: u64, last: u64, ample: &Page, p
     }
 }
 
-/// What is printed for a row: what came of the call with ample memory, and then with each request refused in turn, alone and
+/// What is printed for a row: what came of the call with ample memory, and then with each allocation failing in turn, alone and
 /// with all after it, each answer once.
 pub fn answer(alloc: Global, row: Row<'_>, page: &mut Page) {
     let asked = Cell::new(0);

@@ -1,4 +1,4 @@
-//! Runs of the commands, and the parser of attributes: what comes of each where the first request for memory is refused,
+//! Runs of the commands, and the parser of attributes: what comes of each where the first allocation fails,
 //! then the second, and so on.
 
 use crate::held::NO_CALL;
@@ -6,41 +6,41 @@ use rl_attributes::Attrs;
 use rl_commands::Command;
 use rl_commands::run::run;
 use rl_lines::Refusal;
-use rl_refusing::{Page, Refusing};
+use rl_refusing::{Page, Failing};
 use rl_tokens::{Error, Parse, ParseBuffer, Span, lex};
 use std::alloc::Global;
 
 /// A borrowed allocator that fails where it is asked to.
-type Borrowed<'a> = &'a Refusing<Global>;
+type Borrowed<'a> = &'a Failing<Global>;
 
-/// Puts last what comes of a run, with ample memory, and then with each request and all after it refused. A row is the
+/// Puts last what comes of a run, with ample memory, and then with each allocation and all after it failing. A row is the
 /// command's name, a space and the input.
 pub fn of_command(alloc: Global, row: &str, page: &mut Page) {
     let (name, text) = row.split_once(' ').unwrap_or((row, ""));
     let Some(command) = Command::from_name(name) else {
         return page.put(NO_CALL);
     };
-    let refusing = Refusing::new(alloc);
-    let asked = put_run(alloc, &refusing, u64::MAX, command, text, page);
+    let failing = Failing::new(alloc);
+    let asked = put_run(alloc, &failing, u64::MAX, command, text, page);
     for n in 1..=asked {
-        put_run(alloc, &refusing, n, command, text, page);
+        put_run(alloc, &failing, n, command, text, page);
     }
 }
 
-/// Puts last what a run reports while the requests from this one on are refused, and how many bytes it has written. Returns
+/// Puts last what a run reports while the allocations from this one on fail, and how many bytes it has written. Returns
 /// how many requests came.
 fn put_run(
     alloc: Global,
-    refusing: Borrowed<'_>,
+    failing: Borrowed<'_>,
     first: u64,
     command: Command,
     text: &str,
     page: &mut Page,
 ) -> u64 {
     let mut written = Vec::new(alloc);
-    refusing.refuse(first, u64::MAX);
-    let answer = run(refusing, command, &mut text.as_bytes(), &mut written);
-    let asked = refusing.allow();
+    failing.fail(first, u64::MAX);
+    let answer = run(failing, command, &mut text.as_bytes(), &mut written);
+    let asked = failing.succeed();
     page.put("  ");
     match answer {
         Ok(()) => page.put("done"),
@@ -52,28 +52,28 @@ fn put_run(
     asked
 }
 
-/// Puts last what comes of the parser of attributes, with ample memory, and then with each request refused, alone and with
+/// Puts last what comes of the parser of attributes, with ample memory, and then with each allocation failing, alone and with
 /// all after it.
 pub fn attributes(alloc: Global, text: &str, page: &mut Page) {
-    let refusing = Refusing::new(alloc);
-    let asked = put_parsed(&refusing, u64::MAX, u64::MAX, text, page);
+    let failing = Failing::new(alloc);
+    let asked = put_parsed(&failing, u64::MAX, u64::MAX, text, page);
     for n in 1..=asked {
-        put_parsed(&refusing, n, n, text, page);
-        put_parsed(&refusing, n, u64::MAX, text, page);
+        put_parsed(&failing, n, n, text, page);
+        put_parsed(&failing, n, u64::MAX, text, page);
     }
 }
 
-/// Puts last what the parser reports while these requests are refused, and how many trees are left. Returns how many requests
+/// Puts last what the parser reports while these allocations fail, and how many trees are left. Returns how many requests
 /// came.
-fn put_parsed(refusing: Borrowed<'_>, first: u64, last: u64, text: &str, page: &mut Page) -> u64 {
-    let Ok(stream) = lex(refusing, text, 0) else {
+fn put_parsed(failing: Borrowed<'_>, first: u64, last: u64, text: &str, page: &mut Page) -> u64 {
+    let Ok(stream) = lex(failing, text, 0) else {
         page.fail();
         return 0;
     };
     let mut input = ParseBuffer::new(stream.trees(), Span::new(0, text.len(), text.len()));
-    refusing.refuse(first, last);
-    let answer = Attrs::parse(refusing, &mut input);
-    let asked = refusing.allow();
+    failing.fail(first, last);
+    let answer = Attrs::parse(failing, &mut input);
+    let asked = failing.succeed();
     page.put("  ");
     put_answer(answer, page);
     page.put(", ");

@@ -1,4 +1,4 @@
-//! Whole sources, scanned while memory is refused.
+//! Whole sources, scanned while allocations fail.
 
 use crate::tell::Tell;
 use crate::trial::{Scarce, Trial};

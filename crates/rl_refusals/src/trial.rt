@@ -1,27 +1,27 @@
-//! One run of a call while memory is refused.
+//! One run of a call while allocations fail.
 
 use crate::tell::Tell;
-use rl_refusing::{Page, Refusing};
+use rl_refusing::{Page, Failing};
 use rl_tokens::{Literal, Span, TokenStream, lex};
 use std::alloc::{Allocator, Global};
 use std::cell::Cell;
 
-/// Memory whose requests can be refused by their numbers.
+/// Memory whose allocations can fail by their numbers.
 pub trait Scarce: Allocator + Copy {
-    /// Counts anew, and refuses the requests from the first number to the last.
-    fn refuse(&self, first: u64, last: u64);
+    /// Counts anew: the allocations from the first number to the last fail.
+    fn fail(&self, first: u64, last: u64);
 
-    /// Refuses nothing from now on, and tells how many requests have come.
-    fn allow(&self) -> u64;
+    /// None fails from now on; tells how many were asked for.
+    fn succeed(&self) -> u64;
 }
 
-impl Scarce for &Refusing<Global> {
-    fn refuse(&self, first: u64, last: u64) {
-        Refusing::refuse(self, first, last);
+impl Scarce for &Failing<Global> {
+    fn fail(&self, first: u64, last: u64) {
+        Failing::fail(self, first, last);
     }
 
-    fn allow(&self) -> u64 {
-        Refusing::allow(self)
+    fn succeed(&self) -> u64 {
+        Failing::succeed(self)
     }
 }
 
@@ -35,31 +35,31 @@ pub const HERE: Span = Span {
 /// What is told where the values for a call can't be made of the text.
 pub const UNFIT: &str = "unfit text";
 
-/// One run of a call, with the numbers of the requests that are refused while it runs.
+/// One run of a call, with the numbers of the allocations that fail while it runs.
 #[derive(Drop)]
 pub struct Trial<'a, A: Scarce> {
     /// Memory for what is printed.
     pub alloc: Global,
     /// Memory for the call, and for what it is lent.
     pub scant: A,
-    /// The first request that is refused.
+    /// The first allocation that fails.
     pub first: u64,
     /// The last one.
     pub last: u64,
-    /// How many requests came while the call ran.
+    /// How many allocations were asked for while the call ran.
     pub asked: &'a Cell<u64>,
 }
 
 impl<A: Scarce> Trial<'_, A> {
-    /// The call begins: its memory, which is refused from now on.
+    /// The call begins: its memory, whose allocations fail from now on.
     pub fn begins(&self) -> A {
-        self.scant.refuse(self.first, self.last);
+        self.scant.fail(self.first, self.last);
         self.scant
     }
 
     /// The call has ended with this answer, which is put last.
     pub fn ends<T: Tell + Drop, E: Tell + Drop>(&self, answer: Result<T, E>, page: &mut Page) {
-        self.asked.set(self.scant.allow());
+        self.asked.set(self.scant.succeed());
         match answer {
             Ok(value) => value.tell(page),
             Err(error) => error.tell(page),

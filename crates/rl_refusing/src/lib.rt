@@ -1,5 +1,5 @@
-//! An allocator that refuses chosen requests for memory, counts all of them, and counts the blocks that are out. For
-//! development: showing what a call does where memory is refused. No clause can tell what a cell holds, so what the counts
+//! An allocator whose chosen allocations fail; it counts all of them, and the blocks that are out. For development: showing
+//! what a call does where an allocation fails. No clause can tell what a cell holds, so what the counts
 //! say is shown by the runs that rest on them; that each block is a true one, and goes back as it came, is proved.
 //!
 //! Beside it, a text that is put together piece by piece, for what programs of rows print.
@@ -11,7 +11,7 @@ pub use crate::page::Page;
 use std::alloc::{AllocError, Allocator};
 use std::cell::Cell;
 
-/// Which requests are refused, how many have come, and how many blocks are out.
+/// Which allocations fail, how many were asked for, and how many blocks are out.
 #[derive(Drop)]
 struct Plan {
     first: Cell<u64>,
@@ -20,7 +20,7 @@ struct Plan {
     held: Cell<u64>,
 }
 
-/// Counts a request, and the block where it isn't to be refused. Tells whether it is.
+/// Counts an allocation, and its block where it isn't to fail. Tells whether it is.
 fn is_due(plan: &Plan) -> bool {
     let asked = plan.asked.get().saturating_add(1);
     plan.asked.set(asked);
@@ -36,37 +36,37 @@ fn comes_back(plan: &Plan) {
     plan.held.set(plan.held.get().wrapping_sub(1));
 }
 
-/// Passes each request on to another allocator, but for those that it is told to refuse. A `&` to it is an allocator too,
+/// Passes each allocation on to another allocator, but for those that are to fail. A `&` to it is an allocator too,
 /// and `Copy`.
 #[derive(Drop)]
-pub struct Refusing<B: Allocator> {
+pub struct Failing<B: Allocator> {
     inner: B,
     plan: Plan,
 }
 
-impl<B: Allocator> Refusing<B> {
-    /// One that refuses nothing.
-    pub fn new(inner: B) -> Refusing<B> {
+impl<B: Allocator> Failing<B> {
+    /// One where none fails.
+    pub fn new(inner: B) -> Failing<B> {
         let plan = Plan {
             first: Cell::new(1),
             last: Cell::new(0),
             asked: Cell::new(0),
             held: Cell::new(0),
         };
-        Refusing { inner, plan }
+        Failing { inner, plan }
     }
 
-    /// Counts anew, and refuses the requests from the first number to the last. The next request has the number 1.
-    pub fn refuse(&self, first: u64, last: u64) {
+    /// Counts anew: the allocations from the first number to the last fail. The next one has the number 1.
+    pub fn fail(&self, first: u64, last: u64) {
         self.plan.first.set(first);
         self.plan.last.set(last);
         self.plan.asked.set(0);
     }
 
-    /// Refuses nothing from now on, and tells how many requests have come.
-    pub fn allow(&self) -> u64 {
+    /// None fails from now on; tells how many were asked for.
+    pub fn succeed(&self) -> u64 {
         let asked = self.plan.asked.get();
-        self.refuse(1, 0);
+        self.fail(1, 0);
         asked
     }
 
@@ -76,7 +76,7 @@ impl<B: Allocator> Refusing<B> {
     }
 }
 
-unsafe impl<B: Allocator> Allocator for Refusing<B> {
+unsafe impl<B: Allocator> Allocator for Failing<B> {
     ghost dealloc_token = { λ heap ty ptr. B.dealloc_token heap.inner ty ptr };
 
     fn allocate(&self, size: usize, align: usize) -> Result<*mut u8, AllocError> {

@@ -2,38 +2,38 @@
 
 use crate::runs::put_often;
 use crate::tell::{HERE, at, literal_of};
-use rl_refusing::{Page, Refusing};
+use rl_refusing::{Page, Failing};
 use rl_tokens::{Error, Kept, Literal};
 use rust_literals::{Lit, LitStr};
 use std::alloc::Global;
 
 /// A borrowed allocator that fails where it is asked to.
-type Lent<'a> = &'a Refusing<Global>;
+type Lent<'a> = &'a Failing<Global>;
 
 /// Prints what a call of this name answers to a text; false where there is none.
 pub(crate) fn told(alloc: Global, name: &str, text: &str, out: &mut Page) -> bool {
-    let refusing = Refusing::new(alloc);
+    let failing = Failing::new(alloc);
     match name {
-        "all_refused" => all_refused(&refusing, text, out),
-        "second_refused" => second_refused(&refusing, text, out),
+        "all_refused" => all_refused(&failing, text, out),
+        "second_refused" => second_refused(&failing, text, out),
         _ => return false,
     }
     true
 }
 
 /// The literal of a token, with every allocation failing.
-fn all_refused(refusing: Lent<'_>, text: &str, out: &mut Page) {
-    match Literal::from_text(refusing, text, HERE) {
-        Ok(token) => refused_literal(refusing, token, out),
+fn all_refused(failing: Lent<'_>, text: &str, out: &mut Page) {
+    match Literal::from_text(failing, text, HERE) {
+        Ok(token) => refused_literal(failing, token, out),
         Err(error) => failed(error, out),
     }
 }
 
 /// What a token is with every allocation failing, or why not, and the token that comes back.
-fn refused_literal<'a>(refusing: Lent<'a>, token: Literal<Lent<'a>>, out: &mut Page) {
-    refusing.refuse(1, u64::MAX);
-    let answer = Lit::new(refusing, token);
-    refusing.allow();
+fn refused_literal<'a>(failing: Lent<'a>, token: Literal<Lent<'a>>, out: &mut Page) {
+    failing.fail(1, u64::MAX);
+    let answer = Lit::new(failing, token);
+    failing.succeed();
     match answer {
         Ok(literal) => tell_number(literal, out),
         Err(kept) => tell_kept(kept, out),
@@ -66,32 +66,32 @@ fn tell_number(literal: Lit<Lent<'_>>, out: &mut Page) {
 }
 
 /// The value of a string whose contents are the text ten thousand times over, with all allocations but the first failing.
-fn second_refused(refusing: Lent<'_>, text: &str, out: &mut Page) {
+fn second_refused(failing: Lent<'_>, text: &str, out: &mut Page) {
     let mut quoted = out.another();
     quoted.put("\"");
     put_often(10_000, text, &mut quoted);
     quoted.put("\"");
-    match literal_of(refusing, quoted.text(), HERE) {
-        Ok(literal) => refused_string(refusing, literal, out),
+    match literal_of(failing, quoted.text(), HERE) {
+        Ok(literal) => refused_string(failing, literal, out),
         Err(error) => failed(error, out),
     }
 }
 
 /// The value of a string, with all allocations but the first failing.
-fn refused_string<'a>(refusing: Lent<'a>, literal: Lit<Lent<'a>>, out: &mut Page) {
+fn refused_string<'a>(failing: Lent<'a>, literal: Lit<Lent<'a>>, out: &mut Page) {
     match &literal {
-        Lit::Str(string) => refused_value(refusing, string, out),
+        Lit::Str(string) => refused_value(failing, string, out),
         _ => out.put("no string\n"),
     }
     drop(literal)
 }
 
 /// Whether the string borrows its value, and what it answers with all allocations but the first failing.
-fn refused_value<'a>(refusing: Lent<'a>, literal: &LitStr<Lent<'a>>, out: &mut Page) {
+fn refused_value<'a>(failing: Lent<'a>, literal: &LitStr<Lent<'a>>, out: &mut Page) {
     out.show(&literal.value_ref().is_some(), " ");
-    refusing.refuse(2, u64::MAX);
-    let value = literal.value(refusing);
-    refusing.allow();
+    failing.fail(2, u64::MAX);
+    let value = literal.value(failing);
+    failing.succeed();
     match value {
         Ok(value) => out.show(&value.len(), "\n"),
         Err(error) => failed(error, out),

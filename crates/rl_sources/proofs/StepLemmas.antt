@@ -49,7 +49,7 @@ place_ascii (Bytes lo hi) =
 place_ascii (Line at) =
     IsAscii-append (decimal at.line) (58 ∷ decimal at.column) (decimal_ascii at.line) (IsAscii-cons 58 (decimal at.column) (lit< tt) (decimal_ascii at.column))
 
-spaced_ascii : (place : Place) → IsAscii (place_text place ++ 32 ∷ [])
+pub spaced_ascii : (place : Place) → IsAscii (place_text place ++ 32 ∷ [])
 spaced_ascii place = IsAscii-append (place_text place) (32 ∷ []) (place_ascii place) (IsAscii-cons 32 [] (lit< tt) IsAscii-nil)
 
 -- a place, a space and a text's line

@@ -3,8 +3,8 @@
 ghost use Rattle.std.specs.Prelude.{◌≡◌, ◌+◌, ◌<◌, ◌≤◌, ◌∷◌, ◌++◌, drop, length};
 ghost use Rattle.std.specs.Fmt.{decimal};
 
-/// How many digits are looked for at most: `decimal` writes no more.
-pub(crate) const MOST: usize = 64;
+/// How many digits a number has at most.
+pub(crate) const DIGITS: usize = 20;
 
 /// Puts a byte in front of a place, and returns its own place.
 #[inline(always)]
@@ -20,22 +20,22 @@ pub(crate) fn put(room: &mut [u8], at: usize, byte: u8) -> usize
 }
 
 /// Puts the digits of a number in front of a place, and returns where they begin.
+#[inline(always)]
 pub(crate) fn put_decimal(room: &mut [u8], end: usize, number: usize) -> usize
-    requires before { MOST ≤ end }
+    requires before { DIGITS ≤ end }
     requires within { end ≤ length room.old }
     ensures first { result ≤ end }
-    ensures few { end ≤ result + MOST }
+    ensures few { end ≤ result + DIGITS }
     ensures text { drop result room.new ≡ decimal number ++ drop end room.old }
     ensures same { length room.new ≡ length room.old }
 {
     let mut at = end;
     let mut rest = number;
-    while at > end - MOST {
+    loop {
         at = put(room, at, b'0' + (rest % 10) as u8);
-        rest /= 10;
-        if rest == 0 {
+        if rest < 10 {
             return at;
         }
+        rest /= 10;
     }
-    at
 }

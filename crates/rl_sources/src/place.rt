@@ -1,12 +1,13 @@
 //! Places of a source, as they are printed.
 
-ghost use Rattle.std.specs.Prelude.{◌≡◌, ◌+◌, ◌≤◌, drop, length, Some};
+ghost use Rattle.std.specs.Prelude.{◌≡◌, ◌+◌, ◌*◌, ◌≤◌, ◌∷◌, ◌++◌, [], drop, length, Some};
+ghost use Rattle.rl_tokens.specs.Texts.{code};
 ghost use Rattle.std.specs.Str.{chars, IsCharBoundary};
 ghost use Rattle.rl_tokens.specs.Cursors.{IsCursorState};
 ghost use Rattle.rl_tokens.specs.Lines.{BeginsAt};
 ghost use Rattle.rl_sources.specs.Places.{place_text, IsPlaceIn};
 
-use crate::decimal::{MOST, put, put_decimal};
+use crate::decimal::{DIGITS, put, put_decimal};
 use rl_tokens::{LineColumn, Lines};
 use std::fmt;
 use std::marker::Model;
@@ -21,24 +22,27 @@ pub enum Place {
     Line(LineColumn),
 }
 
-/// How many bytes a place takes at most: two numbers, and what stands between them.
-pub(crate) const ROOM: usize = 2 * MOST + 2;
+/// How many bytes a place and a space take at most: two numbers, and what stands between them and after them.
+pub(crate) const ROOM: usize = 2 * DIGITS + 3;
 
 impl Place {
-    /// Puts the place, as it is printed, at the end of the room, and returns where it begins.
-    fn put(self, room: &mut [u8; ROOM]) -> usize
-        ensures within { result ≤ length room.old }
-        ensures text { drop result room.new ≡ place_text self }
+    /// Puts the place, as it is printed, in front of the end, and returns where it begins.
+    #[inline(always)]
+    fn put(self, room: &mut [u8; ROOM], end: usize) -> usize
+        requires before { 2 * DIGITS + 2 ≤ end }
+        requires within { end ≤ ROOM }
+        ensures within { result ≤ length room.new }
+        ensures text { drop result room.new ≡ place_text self ++ drop end room.old }
     {
         match self {
             Place::Bytes(lo, hi) => {
-                let at = put_decimal(room, ROOM, hi);
+                let at = put_decimal(room, end, hi);
                 let at = put(room, at, b'.');
                 let at = put(room, at, b'.');
                 put_decimal(room, at, lo)
             }
             Place::Line(LineColumn { line, column }) => {
-                let at = put_decimal(room, ROOM, column);
+                let at = put_decimal(room, end, column);
                 let at = put(room, at, b':');
                 put_decimal(room, at, line)
             }
@@ -46,12 +50,24 @@ impl Place {
     }
 
     /// The place as it is printed, in this room.
-    pub(crate) fn text(self, room: &mut [u8; ROOM]) -> &str
+    fn text(self, room: &mut [u8; ROOM]) -> &str
         ensures { result.now ≡ place_text self }
     {
-        let at = self.put(room);
+        let at = self.put(room, ROOM);
         let all = &room[..];
         // SAFETY: digits and the marks between them are ASCII.
+        unsafe { str::from_utf8_unchecked(&all[at..]) }
+    }
+
+    /// The place as it is printed, and a space, in this room.
+    #[inline(always)]
+    pub(crate) fn spaced(self, room: &mut [u8; ROOM]) -> &str
+        ensures { result.now ≡ place_text self ++ code " " ∷ [] }
+    {
+        let space = put(room, ROOM, b' ');
+        let at = self.put(room, space);
+        let all = &room[..];
+        // SAFETY: digits, the marks between them and a space are ASCII.
         unsafe { str::from_utf8_unchecked(&all[at..]) }
     }
 }
@@ -122,6 +138,7 @@ impl<'t> Places<'t> {
 }
 
 /// The place of the bytes from `lo` to `hi`, where the rest of the text begins at the first.
+#[inline(always)]
 pub(crate) fn place_of<'t>(
     by_line: bool,
     places: &mut Places<'t>,

@@ -44,8 +44,7 @@ fn push_placed<A: Allocator + Copy>(
     ensures { OnOk result (Appends (IsPlacedText place (chars text.now))
         (chars (string_bytes out.old)) (chars (string_bytes out.new))) }
 {
-    out.push_str(place.text(&mut [0; ROOM]))?;
-    out.push_str(" ")?;
+    out.push_str(place.spaced(&mut [0; ROOM]))?;
     push_found(alloc, out, text, found)
 }
 

@@ -1,9 +1,16 @@
-use Rattle.std.proofs.Common.{◌≡◌, ap, ◌∙◌}
+use Rattle.std.proofs.Common.{◌≡◌, sym, ap, ◌∙◌}
+use Rattle.std.specs.List.{list_all}
 use Rattle.std.specs.Str.{chars}
+use Rattle.std.proofs.lemmas.Result.{on_ok_weaker}
 use Rattle.rl_tokens.specs.declared.kind.Kind.TheVariants.{Str}
+use Rattle.rl_lines.specs.Bare.{is_bare}
 use Rattle.rl_lines.specs.Lines.{kind_label}
+use Rattle.rl_lines.proofs.BareLemmas.{bare_line}
 use Rattle.rl_lines.proofs.PrintLemmas.{word_chars}
 use Rattle.rl_lines.proofs.line.push_text.Goals as goal
+
+pub returns-then-are_bare : goal.returns-then-are_bare
+returns-then-are_bare g c = on_ok_weaker c.push-then-are_bare-2.result (λ last. bare_line _ _ _ _ c.args.value.now c.args.suffix.now (sym (c.are_bare.ensures ∙ ap (list_all is_bare) c.as_bytes.ensures.value) ∙ c.if-are_bare.true) (sym c.is_empty.ensures ∙ c.if-is_empty.true) c.in_ok-push.ensures c.in_ok-push-2.ensures last) c.push-then-are_bare-2.ensures
 
 pub returns : goal.returns
 returns g c =

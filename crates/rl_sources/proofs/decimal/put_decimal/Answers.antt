@@ -1,14 +1,11 @@
-use Rattle.rl_sources.proofs.DecimalLemmas.{put_none, put_more, put_first, put_all}
+use Rattle.rl_sources.proofs.DecimalLemmas.{put_none, put_more, put_first}
 use Rattle.rl_sources.proofs.decimal.put_decimal.Goals as goal
 
-pub loop-at-init : goal.loop-at-init
-loop-at-init c = put_none _ _ _
+pub loop-rest-init : goal.loop-rest-init
+loop-rest-init c = put_none _ _ _ c.ranges.number.fits
 
-pub loop-at-preserved : goal.loop-at-preserved
-loop-at-preserved c = put_more _ _ _ _ _ _ _ _ c.loop-at.invariant c.loop-at-test.true c.put-at.ensures.place c.put-at.ensures.text c.put-at.ensures.same c.if-rest-eq0.false
+pub loop-rest-preserved : goal.loop-rest-preserved
+loop-rest-preserved c = put_more _ _ _ _ _ _ _ _ c.loop-rest.invariant c.put-at.ensures.place c.put-at.ensures.text c.put-at.ensures.same c.if-rest-lt10.false
 
-pub returns-then-rest-eq0-clause-text : goal.returns-then-rest-eq0-clause-text
-returns-then-rest-eq0-clause-text c = put_first _ _ _ _ _ c.put-at.result _ c.put-at.new.room c.loop-at.invariant c.loop-at-test.true c.put-at.ensures.text c.if-rest-eq0.true
-
-pub returns-clause-text : goal.returns-clause-text
-returns-clause-text c = put_all _ _ _ _ _ _ c.loop-at.invariant c.loop-at-test.false c.requires.before
+pub returns-then-rest-lt10-clause-text : goal.returns-then-rest-lt10-clause-text
+returns-then-rest-lt10-clause-text c = put_first _ _ _ _ _ c.put-at.result _ c.put-at.new.room c.loop-rest.invariant c.put-at.ensures.text c.if-rest-lt10.true

@@ -1,12 +1,11 @@
-use Rattle.std.proofs.Common.{string_bytes}
+use Rattle.std.proofs.Common.{◌++◌, string_bytes, ap, ◌∙◌}
 use Rattle.std.specs.Str.{chars}
 use Rattle.std.proofs.lemmas.Result.{on_ok_weaker}
 use Rattle.std.proofs.lemmas.Str.{IsUtf8-string_bytes}
-use Rattle.rl_sources.proofs.DecimalLemmas.{spaced}
 use Rattle.rl_sources.proofs.StepLemmas.{placed}
 use Rattle.rl_sources.proofs.step.push_placed.Goals as goal
 
 pub returns : goal.returns
 returns g c =
-    let written = spaced c.args.place (string_bytes c.args.out.now) (string_bytes c.push_str.new.self) (string_bytes c.push_str-2.new.self) c.text.result.now c.text.ensures c.in_ok-push_str.ensures.bytes c.in_ok-push_str-2.ensures.bytes in
+    let written = c.in_ok-push_str.ensures.bytes ∙ ap (λ z. string_bytes c.args.out.now ++ z) c.spaced.ensures in
     on_ok_weaker c.push_found.result (placed c.args.place (chars c.args.text.now) _ _ _ (IsUtf8-string_bytes c.args.out.now) written) c.push_found.ensures

@@ -41,11 +41,11 @@ use Rattle.std.proofs.alloc.Calls.{Al, α, seen, token, gives_key, Gives, at_giv
 use Rattle.rl_refusing.proofs.Back.{Back, at_back, Back-goes, Back-gives}
 use Rattle.rl_refusing.proofs.comes_back.Symbol as c_sym
 use Rattle.rl_refusing.proofs.comes_back.Met as c_met
-use Rattle.rl_refusing.specs.contracts.Refusing as wrapper
-use Rattle.rl_refusing.specs.contracts.RefusingAllocator.deallocate as F
-use Rattle.rl_refusing.specs.contracts.RefusingAllocator.deallocate.Key as key
-use Rattle.rl_refusing.proofs.RefusingAllocator.deallocate.Statement as stated
-use Rattle.rl_refusing.proofs.RefusingAllocator.deallocate.Code as code
+use Rattle.rl_refusing.specs.contracts.Failing as wrapper
+use Rattle.rl_refusing.specs.contracts.FailingAllocator.deallocate as F
+use Rattle.rl_refusing.specs.contracts.FailingAllocator.deallocate.Key as key
+use Rattle.rl_refusing.proofs.FailingAllocator.deallocate.Statement as stated
+use Rattle.rl_refusing.proofs.FailingAllocator.deallocate.Code as code
 
 module _ (Z : Al) where
   abbrev args : Args

@@ -39,11 +39,11 @@ use Rattle.std.proofs.alloc.Calls.{Al, α, seen, Answer, answer_val, Answer-type
 use Rattle.rl_refusing.proofs.Due.{Due, at_due, Due-goes, Due-gives}
 use Rattle.rl_refusing.proofs.is_due.Symbol as c_sym
 use Rattle.rl_refusing.proofs.is_due.Met as c_met
-use Rattle.rl_refusing.specs.contracts.Refusing as wrapper
-use Rattle.rl_refusing.specs.contracts.RefusingAllocator.allocate as F
-use Rattle.rl_refusing.specs.contracts.RefusingAllocator.allocate.Key as key
-use Rattle.rl_refusing.proofs.RefusingAllocator.allocate.Statement as stated
-use Rattle.rl_refusing.proofs.RefusingAllocator.allocate.Code as code
+use Rattle.rl_refusing.specs.contracts.Failing as wrapper
+use Rattle.rl_refusing.specs.contracts.FailingAllocator.allocate as F
+use Rattle.rl_refusing.specs.contracts.FailingAllocator.allocate.Key as key
+use Rattle.rl_refusing.proofs.FailingAllocator.allocate.Statement as stated
+use Rattle.rl_refusing.proofs.FailingAllocator.allocate.Code as code
 
 -- what stands behind the first statement
 abbrev rest : Body → Body
