@@ -47,8 +47,8 @@ pub record HasSuffixedValue {A : Type 0} (settings : List Setting) (entry : Entr
   pub error : e ≡ Suffix (lit_span entry.value)
 
 -- what is rejected of an entry
-abbrev pub IsRejected : {A : Type 0} → List Setting → Entry A → SettingError A → Type 0
-IsRejected settings entry e = HasUnknownName settings entry e ⊎ HasSuffixedValue settings entry e
+abbrev pub IsRejectedEntry : {A : Type 0} → List Setting → Entry A → SettingError A → Type 0
+IsRejectedEntry settings entry e = HasUnknownName settings entry e ⊎ HasSuffixedValue settings entry e
 
 -- The error is that of the first entry that isn't accepted.
 pub record RejectsFirst {A : Type 0} (settings : List Setting) (entries : List (Entry A))
@@ -58,7 +58,7 @@ pub record RejectsFirst {A : Type 0} (settings : List Setting) (entries : List (
   pub later : List (Entry A)
   pub entries_are : entries ≡ earlier ++ (entry ∷ later)
   pub accepted : All (IsAccepted settings) earlier
-  pub rejected : IsRejected settings entry e
+  pub rejected : IsRejectedEntry settings entry e
 
 -- ---- what a setting is set to
 
@@ -138,5 +138,4 @@ setting_message (Unknown span) = codes "unknown name"
 setting_message (Suffix span) = codes "unexpected suffix"
 setting_message (Kind setting span) = expectation setting
 setting_message (Value setting e) = expectation setting ++ (codes ": " ++ message_of e.kind)
-setting_message (Missing setting span) =
-    setting.name.now ++ (codes ": missing, expected " ++ setting.expected.now)
+setting_message (Missing setting span) = codes "missing " ++ expectation setting

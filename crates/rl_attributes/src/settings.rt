@@ -4,7 +4,7 @@ ghost use Rattle.std.specs.Prelude.{◌≡◌, ◌≢◌, [], All, IfErr, IsTrue
 ghost use Rattle.std.specs.Str.{chars};
 ghost use Rattle.rust_literals.specs.LitParts.{HasLitSuffix};
 ghost use Rattle.rl_attributes.specs.AttributeParsing.{entries_of};
-ghost use Rattle.rl_attributes.specs.Settings.{knows, HasSomeLitSuffix, IsAccepted, IsRejected, RejectsFirst, span_of};
+ghost use Rattle.rl_attributes.specs.Settings.{knows, HasSomeLitSuffix, IsAccepted, IsRejectedEntry, RejectsFirst, span_of};
 
 use crate::attributes::{Attrs, Entry};
 use rl_tokens::{Error, Span};
@@ -81,11 +81,7 @@ impl<A: Allocator> fmt::Display for SettingError<A> {
             SettingError::Suffix(_) => f.write_str("unexpected suffix"),
             SettingError::Kind(setting, _) => write!(f, "{setting}"),
             SettingError::Value(setting, error) => write!(f, "{setting}: {error}"),
-            SettingError::Missing(setting, _) => {
-                let name = setting.name;
-                let expected = setting.expected;
-                write!(f, "{name}: missing, expected {expected}")
-            }
+            SettingError::Missing(setting, _) => write!(f, "missing {setting}"),
         }
     }
 }
@@ -139,7 +135,7 @@ fn has_suffix<A: Allocator>(literal: &Lit<A>) -> bool
 /// That the entry's name is known, and that its value has no suffix.
 fn check_entry<A: Allocator>(entry: &Entry<A>, settings: &[Setting]) -> Result<(), SettingError<A>>
     ensures accepted { OnOk result (IsAccepted settings.now entry.now) }
-    ensures rejected { IfErr result (IsRejected settings.now entry.now) }
+    ensures rejected { IfErr result (IsRejectedEntry settings.now entry.now) }
 {
     if !is_known(settings, entry.name.as_str()) {
         Err(SettingError::Unknown(entry.span))

@@ -13,7 +13,7 @@ use Rattle.std.proofs.lemmas.List.Elements.{All-nil, All-push}
 use Rattle.rl_tokens.specs.Texts.{IsTail, byte_len}
 use Rattle.rl_tokens.specs.Cursors.{CursorState, IsCursorState}
 use Rattle.rl_tokens.specs.Lexemes.{LiteralForm, IdentifierForm, DelimiterForm, MarkForm}
-use Rattle.rl_tokens.specs.Sources.{source_text, source_end, source_view, kind_of, SourceKind, PlainKind, RawIdentifierKind, LifetimeKind, DocCommentKind, StrayKind, CutSource, IsCutUpTo, IsBorrowedSource, TakesSource, IsLiteralText, IsNoLiteral, PassesTo}
+use Rattle.rl_tokens.specs.Sources.{source_text, source_end, source_view, source_kind, SourceKind, PlainKind, RawIdentifierKind, LifetimeKind, DocCommentKind, StrayKind, CutSource, IsCutUpTo, IsBorrowedSource, TakesSource, IsLiteralText, IsNoLiteral, PassesTo}
 use Rattle.rl_tokens.specs.declared.sources.SourceToken.{SourceToken}
 use Rattle.rl_tokens.specs.declared.lex_error.LexError.{LexError}
 use Rattle.rl_tokens.proofs.TailLemmas.{tail_self, tail_step, cut_boundary, cut_drop}
@@ -130,7 +130,7 @@ nothing_of options whole text StrayKind lo hi other = refl
 joins_nothing : (options : Options) (whole : List ℕ) (ws : List CutSource) → AllByRecursion IsNoLiteral ws → Joins (IsShown options whole) ws []
 joins_nothing options whole [] each = refl
 joins_nothing options whole (w ∷ ws) each =
-    joins_append (IsShown options whole) (w ∷ []) ws [] [] (joins_one (IsShown options whole) w [] (nothing_of options whole (source_text w.token) (kind_of w.token) w.at (source_end w) each.0)) (joins_nothing options whole ws each.1)
+    joins_append (IsShown options whole) (w ∷ []) ws [] [] (joins_one (IsShown options whole) w [] (nothing_of options whole (source_text w.token) (source_kind w.token) w.at (source_end w) each.0)) (joins_nothing options whole ws each.1)
 
 pub unshown_passed : (options : Options) (old new : CursorState) → options.rejects_strays ≡ false → PassesTo old new → IsUnshown options old new
 unshown_passed options old new lax p = record {

@@ -8,7 +8,7 @@ use Rattle.std.specs.Io.KnownBytes.{Appends}
 use Rattle.rl_tokens.specs.Texts.{byte_len}
 use Rattle.rl_tokens.specs.Lexemes.{LiteralForm, IdentifierForm}
 use Rattle.rl_tokens.specs.Reading.{HasReading, truth_text}
-use Rattle.rl_tokens.specs.Sources.{source_text, SourceKind, PlainKind, StrayKind, kind_of, CutSource, source_end, IsCutUpTo, SourceBefore, SourceErrorAt}
+use Rattle.rl_tokens.specs.Sources.{source_text, SourceKind, PlainKind, StrayKind, source_kind, CutSource, source_end, IsCutUpTo, SourceBefore, SourceErrorAt}
 use Rattle.rl_tokens.specs.declared.lex_error.LexKind.{LexKind}
 use Rattle.rl_tokens.specs.declared.lex_error.LexKind.TheVariants.{StrayCharacter}
 use Rattle.rl_grammar.specs.declared.flaws.Flaw.{Flaw}
@@ -70,11 +70,11 @@ IsShownToken options whole _ text lo hi shown = shown ≡ []
 
 abbrev pub IsShown : Options → List ℕ → CutSource → List ℕ → Type 0
 IsShown options whole w shown =
-    IsShownToken options whole (kind_of w.token) (source_text w.token) w.at (source_end w) shown
+    IsShownToken options whole (source_kind w.token) (source_text w.token) w.at (source_end w) shown
 
 -- the token isn't a stray character
 abbrev pub IsNoStray : CutSource → Type 0
-IsNoStray w = kind_of w.token ≢ StrayKind
+IsNoStray w = source_kind w.token ≢ StrayKind
 
 -- The source is cut into these tokens up to the rest, no stray among them where strays are
 -- rejected, and this is what is shown of them, in order.

@@ -6,7 +6,7 @@ use Rattle.rl_tokens.specs.Texts.{byte_len, is_white, IsTail}
 use Rattle.rl_tokens.specs.Trivia.{White}
 use Rattle.rl_tokens.specs.Skipping.{Skipped}
 use Rattle.rl_tokens.specs.Cursors.{CursorState, IsCursorState}
-use Rattle.rl_tokens.specs.Sources.{CutSource, SourceKind, kind_of, source_text, source_view, SourceBefore, SourcesUpTo, source_end, IsCutUpTo, TakesSource, IsLiteralText, IsNoLiteral, PassesTo}
+use Rattle.rl_tokens.specs.Sources.{CutSource, SourceKind, source_kind, source_text, source_view, SourceBefore, SourcesUpTo, source_end, IsCutUpTo, TakesSource, IsLiteralText, IsNoLiteral, PassesTo}
 use Rattle.rl_tokens.specs.Mirrors.LiteralsAt.{HoldsNoLiteral}
 use Rattle.rl_tokens.specs.declared.sources.SourceToken.{SourceToken}
 use Rattle.rl_tokens.proofs.TailLemmas.{tail_step}
@@ -123,7 +123,7 @@ passed_join a b d (inr p) q = passes_join a b d p q
 
 -- the token is none of the literals
 is_no_literal : (old new : CursorState) (l : SourceToken) → (t : TakesSource old l new) → (IsLiteralText (source_view l.form) (chars l.text.now) → ⊥) → IsNoLiteral t.cut
-is_no_literal old new l t other = λ is. other (subst (λ z. IsLiteralText z (chars l.text.now)) t.is_cut.kind_is (subst (IsLiteralText (kind_of t.cut.token)) t.is_cut.chars_are is))
+is_no_literal old new l t other = λ is. other (subst (λ z. IsLiteralText z (chars l.text.now)) t.is_cut.kind_is (subst (IsLiteralText (source_kind t.cut.token)) t.is_cut.chars_are is))
 
 pub passes_one : (old new : CursorState) (l : SourceToken) → TakesSource old l new → (IsLiteralText (source_view l.form) (chars l.text.now) → ⊥) → PassesTo old new
 passes_one old new l t other = record { cuts = t.cut ∷ []; others = (is_no_literal old new l t other, tt); goes_on = t.goes_on; same = t.same; following = t.following }

@@ -10,7 +10,7 @@ use Rattle.rl_tokens.specs.Cursors.{CursorState, IsCursorState}
 use Rattle.rl_tokens.specs.Lexing.{BeginsQuote}
 use Rattle.rl_tokens.specs.Mirrors.LexemeAt.{begins_quote}
 use Rattle.rl_tokens.specs.Mirrors.SourceAt.{source_error_kind, opens}
-use Rattle.rl_tokens.specs.Sources.{is_apostrophe, StrayToken, source_text, BeginsProper, Opens, IsSource, SourceKind, StrayKind, kind_of, source_view, SourceBefore, BeginsNoSource, IsWithoutPreamble, CutSource, source_end, SourcesUpTo, IsCutUpTo, TakesSource, SourceErrorAt, SourceError, IsFirstSourceError}
+use Rattle.rl_tokens.specs.Sources.{is_apostrophe, StrayToken, source_text, BeginsProper, Opens, IsSource, SourceKind, StrayKind, source_kind, source_view, SourceBefore, BeginsNoSource, IsWithoutPreamble, CutSource, source_end, SourcesUpTo, IsCutUpTo, TakesSource, SourceErrorAt, SourceError, IsFirstSourceError}
 use Rattle.rl_tokens.specs.declared.lex_error.LexError.{LexError}
 use Rattle.rl_tokens.specs.declared.lex_error.LexKind.{LexKind}
 use Rattle.rl_tokens.specs.declared.lex_error.LexKind.TheVariants.{UnclosedComment, UnclosedQuote}
@@ -124,7 +124,7 @@ takes_source text rest following next l is front in_rest utf8 token_is lo hi ski
 -- ---- errors
 
 no_proper : (r : List ℕ) → BeginsNoSource r → BeginsProper r → ⊥
-no_proper r none (w, after, is, same) = none (kind_of w) after (record { token = w; is_source = proper_source w after is; text_is = same; kind_is = refl })
+no_proper r none (w, after, is, same) = none (source_kind w) after (record { token = w; is_source = proper_source w after is; text_is = same; kind_is = refl })
 
 opens_one : (r : List ℕ) → r ≢ [] → BeginsNoSource r → Opens r → SourceErrorAt (source_error_kind r) r
 opens_one r some none o = go (begins (codes "/*") r) refl

@@ -17,7 +17,7 @@ use Rattle.rl_tokens.specs.Mirrors.LexemeAt.{begins_quote, FormBefore}
 use Rattle.rl_tokens.specs.Classes.{after_run}
 use Rattle.rl_tokens.specs.Mirrors.SkippedAt.{after_block}
 use Rattle.rl_tokens.specs.Mirrors.SourceAt.{after_doc, after_name, after_marked, after_any_name, unless_quoted, after_lifetime, of_kind, other_at, opens, stray_at, or_stray, any_at}
-use Rattle.rl_tokens.specs.Sources.{is_in_line, is_apostrophe, SourceLexeme, PlainToken, RawIdentifierToken, LifetimeToken, RawLifetimeToken, DocLineToken, DocBlockToken, StrayToken, source_text, IsName, IsProper, BeginsProper, Opens, IsSource, SourceKind, PlainKind, RawIdentifierKind, LifetimeKind, DocCommentKind, StrayKind, kind_of, source_view, SourceBefore, BeginsNoSource, IsScriptLine}
+use Rattle.rl_tokens.specs.Sources.{is_in_line, is_apostrophe, SourceLexeme, PlainToken, RawIdentifierToken, LifetimeToken, RawLifetimeToken, DocLineToken, DocBlockToken, StrayToken, source_text, IsName, IsProper, BeginsProper, Opens, IsSource, SourceKind, PlainKind, RawIdentifierKind, LifetimeKind, DocCommentKind, StrayKind, source_kind, source_view, SourceBefore, BeginsNoSource, IsScriptLine}
 use Rattle.rl_tokens.specs.declared.scan.Marks.{Marks}
 use Rattle.rl_tokens.specs.declared.source.SourceForm.{SourceForm}
 use Rattle.rl_tokens.proofs.CommentBytes.{not_equal}
@@ -101,7 +101,7 @@ IsOther (PlainToken l) = ⊥
 IsOther (StrayToken c) = ⊥
 IsOther _ = ⊤
 
-pub other_at-past : (w : SourceLexeme) (t : List ℕ) → IsOther w → IsSource w t → other_at (source_text w ++ t) ≡ Some (kind_of w, t)
+pub other_at-past : (w : SourceLexeme) (t : List ℕ) → IsOther w → IsSource w t → other_at (source_text w ++ t) ≡ Some (source_kind w, t)
 other_at-past (PlainToken l) t other is = absurd other
 other_at-past (RawIdentifierToken c more) t other is = ap (of_kind RawIdentifierKind) (name_past c more t is)
 other_at-past (LifetimeToken c more) t other (is, free, plain) = ap (of_kind LifetimeKind) (lifetime_past c more t is free plain)
@@ -283,7 +283,7 @@ no_proper : (t : List ℕ) → NoLexeme t → other_at t ≡ None → BeginsProp
 no_proper t no_lexeme none (w, r, is, same) = go w is same
   where
     stuck : (w : SourceLexeme) → IsOther w → IsSource w r → t ≡ source_text w ++ r → ⊥
-    stuck w other is same = none-some (kind_of w, r) (sym none ∙ ap other_at same ∙ other_at-past w r other is)
+    stuck w other is same = none-some (source_kind w, r) (sym none ∙ ap other_at same ∙ other_at-past w r other is)
 
     go : (w : SourceLexeme) → IsProper w r → t ≡ source_text w ++ r → ⊥
     go (PlainToken l) is same = no_lexeme r (lexeme_text l, (l, is, refl), same)

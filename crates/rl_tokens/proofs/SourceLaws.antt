@@ -12,7 +12,7 @@ use Rattle.rl_tokens.specs.Lexing.{LexedToken, end_of, LexesUpTo}
 use Rattle.rl_tokens.specs.Mirrors.LexemeAt.{after_apostrophe, after_suffix, after_single, literal_at, raw_at, word_at, LetterRHead, ApostropheHead, SlashHead, lexeme_at}
 use Rattle.rl_tokens.specs.Classes.{after_run, is_hash}
 use Rattle.rl_tokens.specs.Mirrors.SourceAt.{other_at}
-use Rattle.rl_tokens.specs.Sources.{is_in_line, is_apostrophe, SourceLexeme, PlainToken, RawIdentifierToken, LifetimeToken, RawLifetimeToken, DocLineToken, DocBlockToken, StrayToken, source_text, IsProper, IsSource, SourceKind, PlainKind, kind_of, BeginsNoSource, without_mark, IsScriptLine, IsWithoutLine, CutSource, source_end, SourcesUpTo, told, OneCutting, plain_cut, HoldsLexemes}
+use Rattle.rl_tokens.specs.Sources.{is_in_line, is_apostrophe, SourceLexeme, PlainToken, RawIdentifierToken, LifetimeToken, RawLifetimeToken, DocLineToken, DocBlockToken, StrayToken, source_text, IsProper, IsSource, SourceKind, PlainKind, source_kind, BeginsNoSource, without_mark, IsScriptLine, IsWithoutLine, CutSource, source_end, SourcesUpTo, told, OneCutting, plain_cut, HoldsLexemes}
 use Rattle.rl_tokens.proofs.Comments.{same_Some}
 use Rattle.rl_tokens.proofs.LexemeFronts.{at_class, class39, class47, class114, lexeme_at-past, same_pair, start_ascii}
 use Rattle.rl_tokens.proofs.LexemeRows.{both_true, not_among, run_past}
@@ -60,7 +60,7 @@ other_no_lexeme (StrayToken c) t other is = absurd other
 -- ---- at most one token begins a text
 
 record SameToken (v w : SourceLexeme) (x y : List ℕ) : Type 0 where
-  pub kind : kind_of v ≡ kind_of w
+  pub kind : source_kind v ≡ source_kind w
   pub rest : x ≡ y
 
 -- a lexeme, another token, a stray
@@ -94,8 +94,8 @@ both_plain l m x y is js e =
 
 both_other : (v w : SourceLexeme) (x y : List ℕ) → IsOther v → IsOther w → IsSource v x → IsSource w y → source_text v ++ x ≡ source_text w ++ y → SameToken v w x y
 both_other v w x y a b is js e =
-    let p : ◌≡◌ {A = Option (SourceKind × List ℕ)} (Some (kind_of v, x)) (Some (kind_of w, y)) = sym (other_at-past v x a is) ∙ ap other_at e ∙ other_at-past w y b js in
-    let q : ◌≡◌ {A = SourceKind × List ℕ} (kind_of v, x) (kind_of w, y) = same_Some (kind_of v, x) (kind_of w, y) p in
+    let p : ◌≡◌ {A = Option (SourceKind × List ℕ)} (Some (source_kind v, x)) (Some (source_kind w, y)) = sym (other_at-past v x a is) ∙ ap other_at e ∙ other_at-past w y b js in
+    let q : ◌≡◌ {A = SourceKind × List ℕ} (source_kind v, x) (source_kind w, y) = same_Some (source_kind v, x) (source_kind w, y) p in
     record { kind = ap (λ (z : SourceKind × List ℕ). z.0) q; rest = ap (λ (z : SourceKind × List ℕ). z.1) q }
 
 not_mixed : (l : Lexeme) (w : SourceLexeme) (x y : List ℕ) → IsOther w → IsLexeme l x → IsSource w y → lexeme_text l ++ x ≡ source_text w ++ y → ⊥
@@ -137,11 +137,11 @@ one_token v w x y is js e = go (sort_of v) (sort_of w)
 -- ---- cuts
 
 begins_source : (w : SourceLexeme) (r after : List ℕ) → BeginsNoSource r → r ≡ source_text w ++ after → IsSource w after → ⊥
-begins_source w r after none e is = none (kind_of w) after (record { token = w; is_source = is; text_is = e; kind_is = refl })
+begins_source w r after none e is = none (source_kind w) after (record { token = w; is_source = is; text_is = e; kind_is = refl })
 
-told_same : (v w : CutSource) → kind_of v.token ≡ kind_of w.token → source_text v.token ≡ source_text w.token → v.at ≡ w.at → told v ≡ told w
+told_same : (v w : CutSource) → source_kind v.token ≡ source_kind w.token → source_text v.token ≡ source_text w.token → v.at ≡ w.at → told v ≡ told w
 told_same v w a b d =
-    ap (λ z. (z, source_text v.token, v.at)) a ∙ ap (λ z. (kind_of w.token, z, v.at)) b ∙ ap (λ z. (kind_of w.token, source_text w.token, z)) d
+    ap (λ z. (z, source_text v.token, v.at)) a ∙ ap (λ z. (source_kind w.token, z, v.at)) b ∙ ap (λ z. (source_kind w.token, source_text w.token, z)) d
 
 one_cut : (at : ℕ) (t : List ℕ) (vs ws : List CutSource) (r s : List ℕ) → SourcesUpTo at t vs r → BeginsNoSource r → SourcesUpTo at t ws s → BeginsNoSource s → (map told vs ≡ map told ws) × (r ≡ s)
 one_cut at t [] [] r s a none b none' = (refl, one_rest t r s a b)

@@ -95,14 +95,14 @@ pub data SourceKind : Type 0 where
   DocCommentKind : SourceKind
   StrayKind : SourceKind
 
-abbrev pub kind_of : SourceLexeme → SourceKind
-kind_of (PlainToken l) = PlainKind (form_of l)
-kind_of (RawIdentifierToken c more) = RawIdentifierKind
-kind_of (LifetimeToken c more) = LifetimeKind
-kind_of (RawLifetimeToken c more) = LifetimeKind
-kind_of (DocLineToken body) = DocCommentKind
-kind_of (DocBlockToken inside) = DocCommentKind
-kind_of (StrayToken c) = StrayKind
+abbrev pub source_kind : SourceLexeme → SourceKind
+source_kind (PlainToken l) = PlainKind (form_of l)
+source_kind (RawIdentifierToken c more) = RawIdentifierKind
+source_kind (LifetimeToken c more) = LifetimeKind
+source_kind (RawLifetimeToken c more) = LifetimeKind
+source_kind (DocLineToken body) = DocCommentKind
+source_kind (DocBlockToken inside) = DocCommentKind
+source_kind (StrayToken c) = StrayKind
 
 -- the form that the code tells
 abbrev pub source_view : SourceForm → SourceKind
@@ -117,7 +117,7 @@ pub record SourceBefore (t : List ℕ) (kind : SourceKind) (rest : List ℕ) : T
   pub token : SourceLexeme
   pub is_source : IsSource token rest
   pub text_is : t ≡ source_text token ++ rest
-  pub kind_is : kind_of token ≡ kind
+  pub kind_is : source_kind token ≡ kind
 
 -- no token begins the text
 abbrev pub BeginsNoSource : List ℕ → Type 0
@@ -175,7 +175,7 @@ pub record IsCutUpTo (t : List ℕ) (cuts : List CutSource) (r : List ℕ) : Typ
 
 -- The form, the text and the place that are borrowed are those of the cut.
 pub record IsBorrowedSource (l : SourceToken) (w : CutSource) : Type 0 where
-  pub kind_is : kind_of w.token ≡ source_view l.form
+  pub kind_is : source_kind w.token ≡ source_view l.form
   pub bytes_are : encode_utf8_all (source_text w.token) ≡ l.text.now
   pub chars_are : source_text w.token ≡ chars l.text.now
   pub lo_is : w.at ≡ l.lo
@@ -210,7 +210,7 @@ IsLiteralText _ text = ⊥
 
 -- the token is none
 abbrev pub IsNoLiteral : CutSource → Type 0
-IsNoLiteral w = IsLiteralText (kind_of w.token) (source_text w.token) → ⊥
+IsNoLiteral w = IsLiteralText (source_kind w.token) (source_text w.token) → ⊥
 
 -- From the old cursor to the new one stand tokens that are no literals, and white space and plain
 -- comments: whatever was cut of the source before, these are cut next.
@@ -258,7 +258,7 @@ IsFirstSourceError t kind at =
 
 -- a token that was cut: what it is, its text, and where it begins
 abbrev pub told : CutSource → SourceKind × List ℕ × ℕ
-told w = (kind_of w.token, source_text w.token, w.at)
+told w = (source_kind w.token, source_text w.token, w.at)
 
 -- A source is cut in one way, as far as it goes.
 abbrev pub OneCutting : Type 0
