@@ -6,7 +6,7 @@ use Rattle.std.specs.Str.{chars}
 use Rattle.rl_tokens.specs.Cursors.{CursorState, IsCursorState}
 use Rattle.rl_tokens.specs.Lexemes.{LexemeForm, LiteralForm, IdentifierForm, DelimiterForm, MarkForm}
 use Rattle.rl_tokens.specs.Skipping.{Skipped}
-use Rattle.rl_tokens.proofs.Rests.{behind_length}
+use Rattle.rl_tokens.proofs.Rests.{tail_length}
 use Rattle.rl_grammar.specs.declared.found.Found.{Found}
 use Rattle.rl_grammar.specs.declared.next_literals.NextLiteral.{NextLiteral}
 use Rattle.rl_grammar.specs.declared.next_literals.Rejection.{Rejection}
@@ -44,8 +44,8 @@ pub begins_with : (l : NextLiteral) (n : Next) (at : ℕ) → ReportsNext l n �
 begins_with l n at r is = (subst (λ o. MatchOption o ((n.minus_at ≡ l.token.lo) × (n.negative ≡ false)) (λ at. (n.minus_at ≡ at) × (n.negative ≡ true))) is r.minus_is).0
 
 takes_less : (old new : CursorState) (l : NextLiteral) → TakesNextLiteral old l new → length new.rest ≤ length old.rest
-takes_less old new l (inl t) = behind_length _ _ t.takes.following
-takes_less old new l (inr t) = omega (arith, behind_length _ _ t.takes_minus.following, behind_length _ _ t.takes_number.following)
+takes_less old new l (inl t) = tail_length _ _ t.takes.following
+takes_less old new l (inr t) = omega (arith, tail_length _ _ t.takes_minus.following, tail_length _ _ t.takes_number.following)
 
 starts_in : (text borrowed : List ℕ) (start : CursorState) → borrowed ≡ text → start.text ≡ borrowed → Skipped (chars borrowed) (chars start.rest) → IsCursorState borrowed start.rest → Starts text start
 starts_in text borrowed start same of skipped state = record {
@@ -62,7 +62,7 @@ begins text borrowed start new l n rest same of skipped state takes left reporte
   starts = starts_in text borrowed start same of skipped state;
   takes = takes;
   reported = reported;
-  rest_is = omega (arith, place, ap length same, ap length left, takes_less start new l takes, behind_length _ _ state.following);
+  rest_is = omega (arith, place, ap length same, ap length left, takes_less start new l takes, tail_length _ _ state.following);
 }
 
 pub ends : (text borrowed rest : List ℕ) → borrowed ≡ text → Skipped (chars borrowed) (chars rest) → rest ≡ [] → Skipped (chars text) []

@@ -10,7 +10,7 @@ use Rattle.rl_tokens.specs.Lexing.{LexedToken, end_of, LexesUpTo}
 use Rattle.rl_tokens.specs.Cursors.{CursorState, TakesNext, IsBorrowedToken, form_view}
 use Rattle.rl_tokens.specs.declared.cursor.Lexeme.{Lexeme}
 use Rattle.rl_tokens.proofs.TailLemmas.{tail_step, cut_drop}
-use Rattle.rl_tokens.proofs.CutLemmas.{behind_place}
+use Rattle.rl_tokens.proofs.CutLemmas.{tail_place}
 use Rattle.rl_tokens.proofs.Pieces.{one_rest, skipped_again}
 use Rattle.rl_grammar.specs.declared.next_literals.NextLiteral.{NextLiteral}
 use Rattle.rl_grammar.specs.NextLiterals.{TakesNegative, TakesNextLiteral}
@@ -46,7 +46,7 @@ after_gap a b t u (w ∷ ws) r gap place (after, first, is, at, more) =
 joins : (a b : ℕ) (t u : List ℕ) (vs ws : List LexedToken) (r : List ℕ) → LexesUpTo a t vs u → a + byte_len t ≡ b + byte_len u → LexesUpTo b u ws r → LexesUpTo a t (vs ++ ws) r
 joins a b t u [] ws r cut place more = after_gap a b t u ws r cut place more
 joins a b t u (v ∷ vs) ws r (after, first, is, at, cut) place more =
-    (after, first, is, at, joins (end_of v) b after u vs ws r cut (behind_place v after (a + byte_len t) at ∙ place) more)
+    (after, first, is, at, joins (end_of v) b after u vs ws r cut (tail_place v after (a + byte_len t) at ∙ place) more)
 
 shifts : (k a : ℕ) (t : List ℕ) (ws : List LexedToken) (r : List ℕ) → LexesUpTo a t ws r → LexesUpTo (k + a) t (map (shifted k) ws) r
 shifts k a t [] r cut = cut

@@ -13,7 +13,7 @@ use Rattle.rl_tokens.specs.Quoted.{is_plain, is_string}
 use Rattle.rl_tokens.specs.Scanning.{is_ascii_other, is_other}
 use Rattle.rl_tokens.proofs.CommentBytes.{cases128, encode_is_high, low_front}
 use Rattle.rl_tokens.proofs.AsciiRuns.{PassesLow, RunCut, low_cut}
-use Rattle.rl_tokens.proofs.ScanLemmas.{PassesHigh, run_behind, run_boundary, run_cut, run_plain, run_stop}
+use Rattle.rl_tokens.proofs.ScanLemmas.{PassesHigh, run_tail, run_boundary, run_cut, run_plain, run_stop}
 use Rattle.rl_grammar.specs.Mirrors.StrictAt.{is_inside}
 use Rattle.rl_grammar.proofs.PlainLemmas.{plain_high, same_prefix}
 
@@ -21,7 +21,7 @@ use Rattle.rl_grammar.proofs.PlainLemmas.{plain_high, same_prefix}
 
 -- of a test that passes all past ASCII
 high_cut : (q : ℕ → Bool) → PassesHigh q → (bs : List ℕ) → IsUtf8 bs → RunCut q bs
-high_cut q high bs u = record { boundary = run_boundary q high bs; cut = run_cut q high bs u; plain = run_plain q high bs u; stops = run_stop q high bs u; behind = run_behind q high bs u }
+high_cut q high bs u = record { boundary = run_boundary q high bs; cut = run_cut q high bs u; plain = run_plain q high bs u; stops = run_stop q high bs u; behind = run_tail q high bs u }
 
 -- ASCII without marks
 other_low : (m : Marks) → PassesLow (is_ascii_other m)

@@ -7,7 +7,7 @@ use Rattle.rl_tokens.specs.declared.kind.Kind.TheVariants.{Int, Float}
 use Rattle.rl_tokens.specs.Texts.{IsTail}
 use Rattle.rl_tokens.specs.Numbers.{NoSign, Minus, FloatReads}
 use Rattle.rl_tokens.specs.Reading.{HasNoInteger, HasSuffix}
-use Rattle.rl_tokens.proofs.StrictNumbers.{behind_minus}
+use Rattle.rl_tokens.proofs.StrictNumbers.{without_minus}
 use Rattle.rl_grammar.specs.declared.found.Found.{Found}
 use Rattle.rl_grammar.specs.Founds.{IsFound}
 use Rattle.rl_grammar.specs.Mirrors.NumberAt.{sign_at}
@@ -102,7 +102,7 @@ negative_float t f u sign h is =
     let plain : f.body.plain ≡ is_plain_float (chars (take n t)) =
     same_whether f.body.plain (is_plain_float (chars (take n t))) (IsPlain Float t) (subst (λ k. Whether f.body.plain k t) is h.plain) (whether_float t (take n t) (chars x) (is_plain_float (chars (take n t))) u c.front r refl) in
     let (m, q) = float_sound (45 ∷ chars t) (chars x) (float_at-minus (chars t) sign ∙ float_past (chars t) (chars (take n t)) (chars x) r) in
-    let none : HasNoInteger (45 ∷ chars t) = λ s k y i. reads.no_integer NoSign k y ((behind_minus (chars t) y s k i).0) in
+    let none : HasNoInteger (45 ∷ chars t) = λ s k y i. reads.no_integer NoSign k y ((without_minus (chars t) y s k i).0) in
     let zero_is : f.magnitude ≡ 0 = h.no_magnitude (λ e. other is e) in
     let to = sym (minus_chars t) in
     let found = float_found (45 ∷ t) (45 ∷ take n t) x m (n + 1) f.body.plain (NumberBody (n + 1) f.body.plain) refl b.text b.front (subst (λ z. FloatReads z m (chars x)) to q) b.following b.cut b.place (plain ∙ ap is_plain_float (sym (minus_chars (take n t)))) in

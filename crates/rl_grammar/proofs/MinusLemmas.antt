@@ -11,7 +11,7 @@ use Rattle.rl_grammar.specs.Mirrors.NumberAt.{sign_at, float_at, after_exponent,
 use Rattle.rl_grammar.specs.NumberShapes.{HasNoNumber}
 use Rattle.rl_grammar.specs.WholeShapes.{IsSplit}
 use Rattle.std.proofs.lemmas.Bool.{both_ways, eqb-true}
-use Rattle.rl_tokens.proofs.StrictNumbers.{behind_minus, minus_int}
+use Rattle.rl_tokens.proofs.StrictNumbers.{without_minus, minus_int}
 use Rattle.rl_grammar.proofs.FloatLemmas.{float_past, float_sound}
 use Rattle.rl_grammar.proofs.DigitLemmas.{int_sign}
 
@@ -43,7 +43,7 @@ double_minus (c ∷ cs) h = go (c == 45) refl h
 
 -- where no number stands, none stands after a minus
 pub negative_none : (t : List ℕ) → sign_at t ≡ NoSign → HasNoNumber t → HasNoNumber (45 ∷ t)
-negative_none t e h Int c x r = h Int _ x (record { sign = NoSign; magnitude = r.magnitude; reads = (behind_minus t x r.sign r.magnitude r.reads).0; within = r.within; contents_is = refl })
+negative_none t e h Int c x r = h Int _ x (record { sign = NoSign; magnitude = r.magnitude; reads = (without_minus t x r.sign r.magnitude r.reads).0; within = r.within; contents_is = refl })
 negative_none t e h Float c x r =
     let f = float_sound t x (sym (float_at-minus t e) ∙ float_past (45 ∷ t) r.numeral x r.reads) in
     h Float _ x (record { numeral = f.0; reads = f.1; no_integer = λ s m y q. r.no_integer Minus m y (int_on t s m y e q); contents_is = refl })
@@ -57,7 +57,7 @@ negative_none t e h BoolKind c x r = r
 -- no number stands after two minuses
 pub negative_twice : (t : List ℕ) → sign_at t ≡ Minus → HasNoNumber (45 ∷ t)
 negative_twice t e Int c x r =
-    let q = int_sign t NoSign r.magnitude x ((behind_minus t x r.sign r.magnitude r.reads).0) in
+    let q = int_sign t NoSign r.magnitude x ((without_minus t x r.sign r.magnitude r.reads).0) in
     let w : Minus ≡ NoSign = sym e ∙ q in
     absurd (cc)
 negative_twice t e Float c x r =
@@ -77,7 +77,7 @@ negative_int t x e (c, r) = (_, record { sign = Minus; magnitude = r.magnitude; 
 negative_float : (t x : List ℕ) → sign_at t ≡ NoSign → HasSuffix Float t x → HasSuffix Float (45 ∷ t) x
 negative_float t x e (c, r) =
     let f = float_sound (45 ∷ t) x (float_at-minus t e ∙ float_past t r.numeral x r.reads) in
-    (_, record { numeral = f.0; reads = f.1; no_integer = λ s m y q. r.no_integer NoSign m y ((behind_minus t y s m q).0); contents_is = refl })
+    (_, record { numeral = f.0; reads = f.1; no_integer = λ s m y q. r.no_integer NoSign m y ((without_minus t y s m q).0); contents_is = refl })
 
 pub negative_reads : (t x : List ℕ) (k : Kind) → sign_at t ≡ NoSign → (k ≡ Int) ⊎ (k ≡ Float) → HasSuffix k t x → HasSuffix k (45 ∷ t) x
 negative_reads t x k e (inl n) h = subst (λ (j : Kind). HasSuffix j (45 ∷ t) x) (sym n) (negative_int t x e (subst (λ (j : Kind). HasSuffix j t x) n h))

@@ -6,7 +6,7 @@ use Rattle.std.specs.Str.{chars, IsUtf8}
 use Rattle.rl_tokens.specs.declared.kind.Kind.{Kind}
 use Rattle.rl_tokens.specs.Texts.{IsTail}
 use Rattle.rl_tokens.proofs.TailLemmas.{tail_step, cut_boundary, cut_chars, cut_drop}
-use Rattle.rl_tokens.proofs.Rests.{behind_length}
+use Rattle.rl_tokens.proofs.Rests.{tail_length}
 use Rattle.rl_tokens.proofs.ScanLemmas.{ascii_first}
 use Rattle.rl_grammar.specs.declared.found.Body.{Body}
 use Rattle.rl_grammar.specs.declared.quoted_forms.QuotedForm.{QuotedForm}
@@ -28,13 +28,13 @@ placed t opened closer suffix plain begins closes ends =
     let lo = length t - length opened in
     let hi = length t - length closer in
     let n = length opened - length closer in
-    let long : hi - lo ≡ n = omega (arith, behind_length t opened begins, behind_length opened closer closes) in
+    let long : hi - lo ≡ n = omega (arith, tail_length t opened begins, tail_length opened closer closes) in
     let body_is : take (hi - lo) (drop lo t) ≡ take n opened = ap₂ take long (cut_drop t opened begins) in
     let is_text : IsUtf8 (take (hi - lo) (drop lo t)) = subst IsUtf8 (sym body_is) (IsUtf8-take opened n begins.is_text (cut_boundary opened closer closes)) in
     let closed = tail_step t opened closer begins closes in
     record {
       stands = record {
-        ordered = omega (arith, behind_length opened closer closes);
+        ordered = omega (arith, tail_length opened closer closes);
         begins = cut_boundary t opened begins;
         ends = cut_boundary t closer closed;
         following = cut_boundary t suffix (tail_step t closer suffix closed ends);

@@ -1,12 +1,7 @@
 -- Where comments end, told by the bytes of a text.
-use Rattle.std.proofs.Common.{◌≡◌, ℕ, suc, zero, ◌<◌, ◌≤◌, ◌⊎◌, inl, inr, Bool, true, false, ◌&&◌, ◌==◌, cond, List, [], ◌∷◌, ◌++◌, length, get_or, Option, Some, None, refl, sym, ◌∙◌, ap, arith}
-use Rattle.std.proofs.lemmas.Bool.Decides.{nat_tests}
-use Rattle.std.specs.List.{AllByRecursion}
-use Rattle.std.proofs.lemmas.Bool.{ltb-false}
-use Rattle.std.specs.Char.{encode_utf8, is_ascii}
-use Rattle.std.specs.Str.{chars, encode_utf8_all, IsUtf8}
-use Rattle.std.specs.Option.{option_map}
-use Rattle.std.proofs.lemmas.Str.{encode_ascii, length-encode, len_utf8_bounds, inside_one, encodes-chars, chars_from_encodes}
+use Rattle.rl_tokens.proofs.Common.{◌≡◌, ℕ, suc, zero, ◌<◌, ◌≤◌, ◌⊎◌, inl, inr, Bool, true, false, ◌&&◌, ◌==◌, cond, List, [], ◌∷◌, ◌++◌, length, get_or, Option, Some, None, refl, sym, ◌∙◌, ap, arith, nat_tests, AllByRecursion, ltb-false, is_ascii, chars, encode_utf8_all, IsUtf8, option_map, encode_ascii, length-encode, len_utf8_bounds, encodes-chars, chars_from_encodes}
+use Rattle.std.specs.Char.{encode_utf8}
+use Rattle.std.proofs.lemmas.Str.{inside_one}
 use Rattle.rl_tokens.specs.Texts.{first_passes}
 use Rattle.rl_tokens.specs.Trivia.{is_comment_line, is_comment_block}
 use Rattle.rl_tokens.specs.Mirrors.SkippedAt.{after_block, after_comment}
@@ -19,9 +14,9 @@ all_high : (xs : List ℕ) → ((k : ℕ) → k < length xs → 128 ≤ get_or x
 all_high [] h = tt
 all_high (x ∷ xs) h = (h 0 (omega arith), all_high xs (λ k l. h (suc k) (omega arith)))
 
-nil_behind : (xs : List ℕ) → xs ≡ xs ++ []
-nil_behind [] = refl
-nil_behind (x ∷ xs) = ap (λ t. x ∷ t) (nil_behind xs)
+nil_tail : (xs : List ℕ) → xs ≡ xs ++ []
+nil_tail [] = refl
+nil_tail (x ∷ xs) = ap (λ t. x ∷ t) (nil_tail xs)
 
 encode_high : (c : ℕ) → 128 ≤ c → AllHigh (encode_utf8 c)
 encode_high c high = all_high (encode_utf8 c) (λ k l. not_low c k l high)
@@ -30,7 +25,7 @@ encode_high c high = all_high (encode_utf8 c) (λ k l. not_low c k l high)
     at_least n h = omega (arith, h)
 
     not_low : (c k : ℕ) → k < length (encode_utf8 c) → 128 ≤ c → 128 ≤ get_or (encode_utf8 c) k 0
-    not_low c k l high = at_least (get_or (encode_utf8 c) k 0) (λ low. let e : c ≡ get_or (encode_utf8 c) k 0 = inside_one c [] (encode_utf8 c) k (nil_behind (encode_utf8 c)) l low in absurd (omega arith))
+    not_low c k l high = at_least (get_or (encode_utf8 c) k 0) (λ low. let e : c ≡ get_or (encode_utf8 c) k 0 = inside_one c [] (encode_utf8 c) k (nil_tail (encode_utf8 c)) l low in absurd (omega arith))
 
 high_head : (xs : List ℕ) → 0 < length xs → AllHigh xs → (h : ℕ) × (hs : List ℕ) × (xs ≡ h ∷ hs) × (128 ≤ h) × AllHigh hs
 high_head [] l is = absurd (omega arith)

@@ -1,8 +1,5 @@
 -- A text is cut in one way, as far as it goes.
-use Rattle.std.proofs.Common.{◌≡◌, ℕ, ◌+◌, List, [], ◌∷◌, ◌++◌, map, Option, Some, None, refl, sym, ◌∙◌, ap, subst, arith}
-use Rattle.std.specs.Option.{option_and_then}
-use Rattle.std.specs.Str.{encode_utf8_all}
-use Rattle.std.proofs.lemmas.Option.{none-some}
+use Rattle.rl_tokens.proofs.Common.{◌≡◌, ℕ, ◌+◌, List, [], ◌∷◌, ◌++◌, map, Option, Some, None, refl, sym, ◌∙◌, ap, subst, arith, option_and_then, encode_utf8_all, none-some}
 use Rattle.rl_tokens.specs.Skipping.{Skipped}
 use Rattle.rl_tokens.specs.Lexemes.{Lexeme, lexeme_text, IsLexeme, LexemeForm, form_of}
 use Rattle.rl_tokens.specs.Mirrors.LexemeAt.{lexeme_at}
@@ -53,16 +50,16 @@ same_flat v w x y same file =
     ∙ ap (λ n. flat_form (form_of w.lexeme) (encode_utf8_all (lexeme_text w.lexeme)) (record { file = file; lo = n; hi = end_of v })) same.at
     ∙ ap (λ n. flat_form (form_of w.lexeme) (encode_utf8_all (lexeme_text w.lexeme)) (record { file = file; lo = w.at; hi = n })) (same_end v w x y same)
 
-same_behind : (groups : List OpenGroup) (v w : LexedToken) (x y : List ℕ) → SameFirst v w x y → after_lexeme groups v.lexeme v.at ≡ after_lexeme groups w.lexeme w.at
-same_behind groups v w x y same = ap (λ f. after_form groups f v.at) same.form ∙ ap (λ n. after_form groups (form_of w.lexeme) n) same.at
+same_tail : (groups : List OpenGroup) (v w : LexedToken) (x y : List ℕ) → SameFirst v w x y → after_lexeme groups v.lexeme v.at ≡ after_lexeme groups w.lexeme w.at
+same_tail groups v w x y same = ap (λ f. after_form groups f v.at) same.form ∙ ap (λ n. after_form groups (form_of w.lexeme) n) same.at
 
 -- the groups after the first token
 opened : (o : Option (List OpenGroup)) (ws : List LexedToken) (h : List OpenGroup) → option_and_then (λ g. open_groups g ws) o ≡ Some h → (g : List OpenGroup) × (o ≡ Some g) × (open_groups g ws ≡ Some h)
 opened None ws h e = absurd (none-some h e)
 opened (Some g) ws h e = (g, refl, e)
 
-nothing_behind : (o : Option (List OpenGroup)) (ws : List LexedToken) (h : List OpenGroup) → o ≡ None → option_and_then (λ g. open_groups g ws) o ≡ Some h → ⊥
-nothing_behind o ws h none e = none-some h (ap (option_and_then (λ g. open_groups g ws)) (sym none) ∙ e)
+nothing_tail : (o : Option (List OpenGroup)) (ws : List LexedToken) (h : List OpenGroup) → o ≡ None → option_and_then (λ g. open_groups g ws) o ≡ Some h → ⊥
+nothing_tail o ws h none e = none-some h (ap (option_and_then (λ g. open_groups g ws)) (sym none) ∙ e)
 
 pub same_cut : (at : ℕ) (t : List ℕ) (gs : List OpenGroup) (vs ws : List LexedToken) (r s : List ℕ) (g h : List OpenGroup) → LexesUpTo at t vs r → open_groups gs vs ≡ Some g → IsStuck g r → LexesUpTo at t ws s → open_groups gs ws ≡ Some h → IsStuck h s → SameCut vs ws r s g h
 same_cut at t gs [] [] r s g h a p stuck b q stuck' =
@@ -70,16 +67,16 @@ same_cut at t gs [] [] r s g h a p stuck b q stuck' =
 same_cut at t gs [] (w ∷ ws) r s g h a p stuck (y, b, js, n, more) q stuck' =
     let e : r ≡ lexeme_text w.lexeme ++ y = one_rest t r (lexeme_text w.lexeme ++ y) a b in
     let k : g ≡ gs = sym (same_Some gs g p) in
-    absurd (nothing_behind (after_lexeme gs w.lexeme w.at) ws h (ap (λ x. after_lexeme x w.lexeme w.at) (sym k) ∙ stuck w.lexeme y w.at js e) q)
+    absurd (nothing_tail (after_lexeme gs w.lexeme w.at) ws h (ap (λ x. after_lexeme x w.lexeme w.at) (sym k) ∙ stuck w.lexeme y w.at js e) q)
 same_cut at t gs (v ∷ vs) [] r s g h (x, a, is, m, more) p stuck b q stuck' =
     let e : s ≡ lexeme_text v.lexeme ++ x = one_rest t s (lexeme_text v.lexeme ++ x) b a in
     let k : h ≡ gs = sym (same_Some gs h q) in
-    absurd (nothing_behind (after_lexeme gs v.lexeme v.at) vs g (ap (λ z. after_lexeme z v.lexeme v.at) (sym k) ∙ stuck' v.lexeme x v.at is e) p)
+    absurd (nothing_tail (after_lexeme gs v.lexeme v.at) vs g (ap (λ z. after_lexeme z v.lexeme v.at) (sym k) ∙ stuck' v.lexeme x v.at is e) p)
 same_cut at t gs (v ∷ vs) (w ∷ ws) r s g h (x, a, is, m, more) p stuck (y, b, js, n, more') q stuck' =
     let same : SameFirst v w x y = same_first at t v w x y a is m b js n in
     let (g1, g1_is, p1) = opened (after_lexeme gs v.lexeme v.at) vs g p in
     let (h1, h1_is, q1) = opened (after_lexeme gs w.lexeme w.at) ws h q in
-    let same_groups : h1 ≡ g1 = same_Some h1 g1 (sym h1_is ∙ sym (same_behind gs v w x y same) ∙ g1_is) in
+    let same_groups : h1 ≡ g1 = same_Some h1 g1 (sym h1_is ∙ sym (same_tail gs v w x y same) ∙ g1_is) in
     let more1 : LexesUpTo (end_of v) x ws s =
     subst (λ (k : ℕ). LexesUpTo k x ws s) (sym (same_end v w x y same)) (subst (λ (z : List ℕ). LexesUpTo (end_of w) z ws s) (sym same.rest) more') in
     let rec = same_cut (end_of v) x g1 vs ws r s g h more p1 stuck more1 (ap (λ z. open_groups z ws) (sym same_groups) ∙ q1) stuck' in

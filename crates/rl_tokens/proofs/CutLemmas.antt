@@ -1,8 +1,5 @@
 -- A cut that goes one token further.
-use Rattle.std.proofs.Common.{◌≡◌, ℕ, ◌+◌, List, [], ◌∷◌, ◌++◌, length, length-append, Option, Some, None, refl, sym, ◌∙◌, ap, subst, arith}
-use Rattle.std.proofs.lemmas.Str.{encodes-append}
-use Rattle.std.specs.Str.{encode_utf8_all}
-use Rattle.std.specs.Option.{option_and_then}
+use Rattle.rl_tokens.proofs.Common.{◌≡◌, ℕ, ◌+◌, List, [], ◌∷◌, ◌++◌, length, length-append, Option, Some, None, refl, sym, ◌∙◌, ap, subst, arith, encodes-append, encode_utf8_all, option_and_then}
 use Rattle.rl_tokens.specs.Skipping.{Skipped}
 use Rattle.rl_tokens.specs.Lexemes.{lexeme_text, IsLexeme}
 use Rattle.rl_tokens.specs.Lexing.{LexedToken, end_of, LexesUpTo, OpenGroup, after_lexeme, open_groups}
@@ -12,8 +9,8 @@ pub byte_len-append : (xs ys : List ℕ) → byte_len (xs ++ ys) ≡ byte_len xs
 byte_len-append xs ys = ap length (encodes-append xs ys) ∙ length-append (encode_utf8_all xs) (encode_utf8_all ys)
 
 -- after a token its rest stands where the token ends
-pub behind_place : (w : LexedToken) (after : List ℕ) (n : ℕ) → w.at + byte_len (lexeme_text w.lexeme ++ after) ≡ n → end_of w + byte_len after ≡ n
-behind_place w after n place = omega (arith, place, byte_len-append (lexeme_text w.lexeme) after)
+pub tail_place : (w : LexedToken) (after : List ℕ) (n : ℕ) → w.at + byte_len (lexeme_text w.lexeme ++ after) ≡ n → end_of w + byte_len after ≡ n
+tail_place w after n place = omega (arith, place, byte_len-append (lexeme_text w.lexeme) after)
 
 pub cuts_more : (at : ℕ) (t : List ℕ) (done : List LexedToken) (u : List ℕ) (w : LexedToken) (after r : List ℕ) → LexesUpTo at t done u → u ≡ lexeme_text w.lexeme ++ after → IsLexeme w.lexeme after → w.at + byte_len u ≡ at + byte_len t → Skipped after r → LexesUpTo at t (done ++ w ∷ []) r
 cuts_more at t [] u w after r cut same is place skipped =
@@ -23,7 +20,7 @@ cuts_more at t (d ∷ done) u w after r (rest, first, first_is, first_place, mor
   first,
   first_is,
   first_place,
-  cuts_more (end_of d) rest done u w after r more same is (place ∙ sym (behind_place d rest (at + byte_len t) first_place)) skipped,
+  cuts_more (end_of d) rest done u w after r more same is (place ∙ sym (tail_place d rest (at + byte_len t) first_place)) skipped,
 )
 
 pub open_more : (groups : List OpenGroup) (done : List LexedToken) (w : LexedToken) (between : List OpenGroup) → open_groups groups done ≡ Some between → open_groups groups (done ++ w ∷ []) ≡ after_lexeme between w.lexeme w.at

@@ -1,10 +1,6 @@
 -- The tokens among the trees of a text are as they were cut.
-use Rattle.std.proofs.Common.{◌≡◌, ℕ, Bool, true, false, List, [], ◌∷◌, ◌++◌, map, inl, inr, refl, sym, ◌∙◌, ap, subst}
-use Rattle.std.specs.Prelude.{⊤, if◌then◌else◌}
-use Rattle.std.specs.List.{AllByRecursion}
-use Rattle.std.specs.Str.{chars, encode_utf8_all}
-use Rattle.std.proofs.Math.Utf8.{scalar, scalars}
-use Rattle.std.proofs.lemmas.Bool.{and_parts, and_from}
+use Rattle.rl_tokens.proofs.Common.{◌≡◌, ℕ, Bool, true, false, List, [], ◌∷◌, ◌++◌, map, inl, inr, refl, sym, ◌∙◌, ap, subst, ⊤, if◌then◌else◌, AllByRecursion, chars, encode_utf8_all, scalar, and_parts, and_from}
+use Rattle.std.proofs.Math.Utf8.{scalars}
 use Rattle.std.proofs.lemmas.Str.{chars-encodes}
 use Rattle.rl_tokens.specs.declared.span.Span.{Span}
 use Rattle.rl_tokens.specs.Texts.{SpannedText}
@@ -74,16 +70,16 @@ cuts_are_cut file at t (w ∷ ws) r (after, skipped, is, place, more) h =
     let both = scalars_parts (lexeme_text w.lexeme) after (skipped_scalars t (lexeme_text w.lexeme ++ after) skipped h) in
     (flat_is_cut file w after is both.0, cuts_are_cut file (end_of w) after ws r more both.1)
 
-all_behind : (P : FlatToken → Type 0) (xs ys : List FlatToken) → AllByRecursion P (xs ++ ys) → AllByRecursion P ys
-all_behind P [] ys h = h
-all_behind P (x ∷ xs) ys (p, h) = all_behind P xs ys h
+all_tail : (P : FlatToken → Type 0) (xs ys : List FlatToken) → AllByRecursion P (xs ++ ys) → AllByRecursion P ys
+all_tail P [] ys h = h
+all_tail P (x ∷ xs) ys (p, h) = all_tail P xs ys h
 
 trees_are_cut : (trees : List Tree) → AllByRecursion IsCutFlat (flat_trees trees) → AllByRecursion IsCutTree trees
 trees_are_cut [] h = tt
 trees_are_cut (LiteralTree l ∷ trees) (p, h) = (p, trees_are_cut trees h)
 trees_are_cut (IdentTree i ∷ trees) (p, h) = (p, trees_are_cut trees h)
 trees_are_cut (PunctTree m ∷ trees) (p, h) = (tt, trees_are_cut trees h)
-trees_are_cut (GroupTree d inside span ∷ trees) h = (tt, trees_are_cut trees (all_behind IsCutFlat (flat (GroupTree d inside span)) (flat_trees trees) h))
+trees_are_cut (GroupTree d inside span ∷ trees) h = (tt, trees_are_cut trees (all_tail IsCutFlat (flat (GroupTree d inside span)) (flat_trees trees) h))
 
 -- Of the trees of a text, each literal has the text of one that was cut.
 pub lexed_trees : (t : List ℕ) (file : ℕ) (trees : List Tree) → scalars t ≡ true → Lexes t file trees → AllByRecursion IsCutTree trees

@@ -1,7 +1,5 @@
 -- What stands between one literal of a source and the next.
-use Rattle.std.proofs.Common.{◌≡◌, ◌⊎◌, inl, inr, ℕ, true, false, ◌==◌, ◌+◌, ◌-◌, ◌≤◌, List, [], ◌∷◌, ◌++◌, refl, sym, ap, subst, ◌∙◌, append_assoc, append-nil, arith}
-use Rattle.std.specs.List.{AllByRecursion}
-use Rattle.std.specs.Str.{chars}
+use Rattle.rl_tokens.proofs.Common.{◌≡◌, ◌⊎◌, inl, inr, ℕ, true, false, ◌==◌, ◌+◌, ◌-◌, ◌≤◌, List, [], ◌∷◌, ◌++◌, refl, sym, ap, subst, ◌∙◌, append_assoc, append-nil, arith, AllByRecursion, chars}
 use Rattle.rl_tokens.specs.Texts.{byte_len, is_white, IsTail}
 use Rattle.rl_tokens.specs.Trivia.{White}
 use Rattle.rl_tokens.specs.Skipping.{Skipped}
@@ -13,7 +11,7 @@ use Rattle.rl_tokens.proofs.TailLemmas.{tail_step}
 use Rattle.rl_tokens.proofs.CutLemmas.{byte_len-append}
 use Rattle.rl_tokens.proofs.ErrorKinds.{char_len}
 use Rattle.rl_tokens.proofs.Pieces.{after_piece-past, one_rest, skipped_after, skipped_again, skipped_here}
-use Rattle.rl_tokens.proofs.Rests.{behind_length}
+use Rattle.rl_tokens.proofs.Rests.{tail_length}
 use Rattle.rl_tokens.proofs.SourceCuts.{cut_more}
 
 all_join : (vs ws : List CutSource) → AllByRecursion IsNoLiteral vs → AllByRecursion IsNoLiteral ws → AllByRecursion IsNoLiteral (vs ++ ws)
@@ -96,7 +94,7 @@ pub passes_held : (text left rest : List ℕ) → IsCursorState text left → Is
 passes_held text left rest is tail holds = record {
   cuts = holds.cuts (chars text);
   others = holds.others (chars text);
-  goes_on = λ done cut. holds.goes_on (chars text) done (omega (arith, char_len text is.is_text, char_len left is.following.is_text, behind_length text left is.following)) cut;
+  goes_on = λ done cut. holds.goes_on (chars text) done (omega (arith, char_len text is.is_text, char_len left is.following.is_text, tail_length text left is.following)) cut;
   same = refl;
   following = tail;
 }

@@ -1,6 +1,7 @@
 -- The groups that are open, and what was read with them, as trees and groups come and go.
-use Rattle.std.proofs.Common.{◌≡◌, ◌≢◌, ℕ, suc, ◌+◌, ◌-◌, ◌<◌, true, false, List, [], ◌∷◌, ◌++◌, length, map, reverse, Some, refl, sym, ◌∙◌, ap, arith, append_assoc}
-use Rattle.std.proofs.lemmas.List.{map-append, reverse-append, length-reverse}
+use Rattle.rl_tokens.proofs.Common.{◌≡◌, ◌≢◌, ℕ, suc, ◌+◌, ◌-◌, ◌<◌, true, false, List, [], ◌∷◌, ◌++◌, length, map, Some, refl, sym, ◌∙◌, ap, arith, append_assoc, map-append}
+use Rattle.std.proofs.Common.{reverse}
+use Rattle.std.proofs.lemmas.List.{reverse-append, length-reverse}
 use Rattle.rl_tokens.specs.declared.span.Span.{Span}
 use Rattle.rl_tokens.specs.declared.nest.GroupBuilder.{GroupBuilder}
 use Rattle.rl_tokens.specs.declared.nest.TreeBuilder.{TreeBuilder}
@@ -22,9 +23,9 @@ pub flat_trees-append : (xs ys : List Tree) → flat_trees (xs ++ ys) ≡ flat_t
 flat_trees-append [] ys = refl
 flat_trees-append (x ∷ xs) ys = ap (λ z. flat x ++ z) (flat_trees-append xs ys) ∙ sym (append_assoc (flat x) (flat_trees xs) (flat_trees ys))
 
-nil_behind : {X : Type 0} (xs : List X) → xs ++ [] ≡ xs
-nil_behind [] = refl
-nil_behind (x ∷ xs) = ap (λ t. x ∷ t) (nil_behind xs)
+nil_tail : {X : Type 0} (xs : List X) → xs ++ [] ≡ xs
+nil_tail [] = refl
+nil_tail (x ∷ xs) = ap (λ t. x ∷ t) (nil_tail xs)
 
 -- a token by the bytes and the span that it was made of
 pub spanned : (l : SpannedText) (bytes text : List ℕ) (s at : Span) → l ≡ record { text = bytes; span = s } → bytes ≡ text → s ≡ at → l ≡ record { text = text; span = at }
@@ -41,7 +42,7 @@ takes_tree old new tree o f t = record {
       ap (λ ts. flat_trees (map tree_view ts)) t
       ∙ ap flat_trees (map-append tree_view (trees_of old.trees) (tree ∷ []))
       ∙ flat_trees-append (stream_view old.trees) (tree_view tree ∷ [])
-      ∙ ap (λ z. flat_trees (stream_view old.trees) ++ z) (nil_behind (flat (tree_view tree)));
+      ∙ ap (λ z. flat_trees (stream_view old.trees) ++ z) (nil_tail (flat (tree_view tree)));
 }
 
 pub groups-push : {A : Type 0} (xs : List (GroupBuilder A)) (o : GroupBuilder A) → reverse (map group_of (xs ++ o ∷ [])) ≡ group_of o ∷ reverse (map group_of xs)
@@ -75,7 +76,7 @@ opens_group old new o pushed before empty file shallow =
           ap (λ f. flat_open f new.opened.items ++ flat_trees (stream_view new.trees)) file
           ∙ ap (λ os. flat_open old.file os ++ flat_trees (stream_view new.trees)) pushed
           ∙ ap (λ ts. flat_open old.file (xs ++ o ∷ []) ++ flat_trees (map tree_view ts)) empty
-          ∙ nil_behind (flat_open old.file (xs ++ o ∷ []))
+          ∙ nil_tail (flat_open old.file (xs ++ o ∷ []))
           ∙ flat_open-push old.file xs o
           ∙ ap (λ s. flat_open old.file xs ++ (flat_trees (stream_view s) ++ opening)) before
           ∙ sym (append_assoc (flat_open old.file xs) (flat_trees (stream_view old.trees)) opening);

@@ -1,8 +1,6 @@
 -- A quoted text has one reading of each form at most.
-use Rattle.std.proofs.Common.{◌≡◌, ℕ, zero, suc, ◌||◌, ◌&&◌, Bool, true, false, not, cond, eqb, List, [], ◌∷◌, ◌++◌, replicate, Option, Some, None, refl, sym, ap, subst, ◌∙◌, inl, inr, append_assoc}
-use Rattle.std.specs.List.{list_all, AllByRecursion}
-use Rattle.std.proofs.lemmas.List.Folds.{list_all-append}
-use Rattle.std.proofs.lemmas.Bool.{eqb-true, and_parts, or_cases, and_left, and_right}
+use Rattle.rl_tokens.proofs.Common.{◌≡◌, ℕ, zero, suc, ◌||◌, ◌&&◌, Bool, true, false, not, cond, eqb, List, [], ◌∷◌, ◌++◌, replicate, Option, Some, None, refl, sym, ap, subst, ◌∙◌, inl, inr, append_assoc, list_all, AllByRecursion, list_all-append, eqb-true, and_parts, or_cases}
+use Rattle.std.proofs.lemmas.Bool.{and_left, and_right}
 use Rattle.rl_tokens.specs.declared.kind.Kind.{Kind}
 use Rattle.rl_tokens.specs.declared.kind.Kind.TheVariants.{Str, ByteStr, CStr, Byte, Char, Int, Float, Bool as BoolKind}
 use Rattle.rl_tokens.specs.Texts.{first_passes, is_underscore}
@@ -170,13 +168,13 @@ rows_same k (u ∷ us) (w ∷ ws) x y s eu cu ew cw e =
     let r = rows_same k us ws x y s eu.1 cu.1 ew.1 cw.1 f.1 in
     (ap (λ z. z ++ values k us) f.0 ∙ ap (λ z. unit_value k w ++ z) r.0, r.1)
 
-pub same_behind : (a b d : List ℕ) → a ++ b ≡ a ++ d → b ≡ d
-same_behind [] b d e = e
-same_behind (c ∷ a) b d e = same_behind a b d (let e = e in cc)
+pub same_tail : (a b d : List ℕ) → a ++ b ≡ a ++ d → b ≡ d
+same_tail [] b d e = e
+same_tail (c ∷ a) b d e = same_tail a b d (let e = e in cc)
 
 pub cooked_once : (k : Kind) (t v x w y : List ℕ) → Cooked k t v x → Cooked k t w y → (v ≡ w) × (x ≡ y)
 cooked_once k t v x w y a b =
-    let r = rows_same k a.units b.units x y a.string a.each a.ends b.each b.ends (same_behind (opener k) _ _ (sym a.text_is ∙ b.text_is)) in
+    let r = rows_same k a.units b.units x y a.string a.each a.ends b.each b.ends (same_tail (opener k) _ _ (sym a.text_is ∙ b.text_is)) in
     (a.value_is ∙ r.0 ∙ sym b.value_is, r.1)
 
 single_found : (k : Kind) (u : QuotedUnit) (x : List ℕ) → IsUnit k u → unit_at k (unit_text u ++ (39 ∷ x)) ≡ found (unit_value k u) (39 ∷ x)
@@ -189,7 +187,7 @@ single_found k (Continuation c run) x h = unit_complete k (Continuation c run) (
 
 pub single_once : (k : Kind) (t v x w y : List ℕ) → Single k t v x → Single k t w y → (v ≡ w) × (x ≡ y)
 single_once k t v x w y a b =
-    let e = same_behind (opener k) (unit_text a.unit ++ (39 ∷ x)) (unit_text b.unit ++ (39 ∷ y)) (sym a.text_is ∙ b.text_is) in
+    let e = same_tail (opener k) (unit_text a.unit ++ (39 ∷ x)) (unit_text b.unit ++ (39 ∷ y)) (sym a.text_is ∙ b.text_is) in
     let f = some_pair (unit_value k a.unit, 39 ∷ x) (unit_value k b.unit, 39 ∷ y) (sym (single_found k a.unit x a.is_unit) ∙ ap (unit_at k) e ∙ single_found k b.unit y b.is_unit) in
     let g : 39 ∷ x ≡ 39 ∷ y = f.1 in
     (a.value_is ∙ f.0 ∙ sym b.value_is, cc)
@@ -221,7 +219,7 @@ hashes_no_quote (suc n) x h = hashes_no_quote n x h
 
 pub raw_once : (k : Kind) (t v x w y : List ℕ) → Raw k t v x → Raw k t w y → (v ≡ w) × (x ≡ y)
 raw_once k t v x w y a b =
-    let e = same_behind (raw_opener k) _ _ (sym a.text_is ∙ b.text_is) in
+    let e = same_tail (raw_opener k) _ _ (sym a.text_is ∙ b.text_is) in
     let ra = a.inside ++ (34 ∷ (replicate a.hashes 35 ++ x)) in
     let rb = b.inside ++ (34 ∷ (replicate b.hashes 35 ++ y)) in
     let f = same_run (λ c. eqb c 35) (replicate a.hashes 35) (replicate b.hashes 35) (34 ∷ ra) (34 ∷ rb) (hashes_all a.hashes) (hashes_all b.hashes) refl refl e in
@@ -229,5 +227,5 @@ raw_once k t v x w y a b =
     let inner : ra ≡ rb = cc in
     let l = last_same a.inside b.inside (replicate a.hashes 35 ++ x) (replicate b.hashes 35 ++ y) (hashes_no_quote a.hashes x a.no_quote) (hashes_no_quote b.hashes y b.no_quote) inner in (
       a.value_is ∙ ap (content_of k) l.0 ∙ sym b.value_is,
-      same_behind (replicate a.hashes 35) x y (l.1 ∙ ap (λ z. z ++ y) (sym f.0)),
+      same_tail (replicate a.hashes 35) x y (l.1 ∙ ap (λ z. z ++ y) (sym f.0)),
     )

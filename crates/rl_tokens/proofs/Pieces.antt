@@ -1,7 +1,5 @@
 -- `after_piece` takes off exactly a piece or an open line, and so a text has at most one rest.
-use Rattle.std.proofs.Common.{◌≡◌, ℕ, suc, zero, ◌+◌, ◌⊎◌, inl, inr, Bool, true, false, ◌==◌, cond, List, [], ◌∷◌, ◌++◌, length, Option, Some, None, refl, sym, ◌∙◌, ap, subst, arith, append_assoc}
-use Rattle.std.proofs.lemmas.Bool.Decides.{nat_tests}
-use Rattle.std.specs.List.{AllByRecursion}
+use Rattle.rl_tokens.proofs.Common.{◌≡◌, ℕ, suc, zero, ◌+◌, ◌⊎◌, inl, inr, Bool, true, false, ◌==◌, cond, List, [], ◌∷◌, ◌++◌, length, Option, Some, None, refl, sym, ◌∙◌, ap, subst, arith, append_assoc, nat_tests, AllByRecursion}
 use Rattle.rl_tokens.specs.Texts.{is_white, first_passes}
 use Rattle.rl_tokens.specs.Trivia.{is_comment_line, is_comment_block, inside_text, TriviaPiece, White, Line, Block, trivia_piece_text, IsTriviaPiece, trivia_text, IsTrivia}
 use Rattle.rl_tokens.specs.Skipping.{IsOpenLine, BeginsTrivia, Skipped, OneRest}
@@ -170,14 +168,14 @@ nil-append : (a r : List ℕ) → [] ≡ a ++ r → r ≡ []
 nil-append [] r h = sym h
 nil-append (x ∷ a) r h = absurd (cc)
 
-nothing_behind : (r : List ℕ) → Skipped [] r → r ≡ []
-nothing_behind r (inl s) = nil-append s.front r s.text
-nothing_behind r (inr s) = s.nothing
+nothing_tail : (r : List ℕ) → Skipped [] r → r ≡ []
+nothing_tail r (inl s) = nil-append s.front r s.text
+nothing_tail r (inr s) = s.nothing
 
 trivia_more : (p : TriviaPiece) (front : List ℕ) → IsTriviaPiece p → IsTrivia front → IsTrivia (trivia_piece_text p ++ front)
 trivia_more p front is more = record { pieces = p ∷ more.pieces; each = (is, more.each); text = ap (λ x. trivia_piece_text p ++ x) more.text }
 
-no_trivia : IsTrivia []
+pub no_trivia : IsTrivia []
 no_trivia = record { pieces = []; each = tt; text = refl }
 
 joined : (t a b m r : List ℕ) → t ≡ a ++ m → m ≡ b ++ r → t ≡ (a ++ b) ++ r
@@ -189,7 +187,7 @@ skipped_more p t m r is same (inr s) = inr (record { front = trivia_piece_text p
 
 skipped_by : (t m r : List ℕ) → TakesOff t m → Skipped m r → Skipped t r
 skipped_by t m r (inl (p, is, same)) s = skipped_more p t m r is same s
-skipped_by t m r (inr (line, nothing)) s = inr (record { front = []; line = t; is_trivia = no_trivia; is_line = line; text = refl; nothing = nothing_behind r (subst (λ (x : List ℕ). Skipped x r) nothing s) })
+skipped_by t m r (inr (line, nothing)) s = inr (record { front = []; line = t; is_trivia = no_trivia; is_line = line; text = refl; nothing = nothing_tail r (subst (λ (x : List ℕ). Skipped x r) nothing s) })
 
 pub skipped_after : (t m r : List ℕ) → after_piece t ≡ Some m → Skipped m r → Skipped t r
 skipped_after t m r h s = skipped_by t m r (after_piece-sound t m h) s

@@ -1,8 +1,5 @@
 -- Printed lists are cut into their items.
-use Rattle.std.proofs.Common.{◌≡◌, ◌≢◌, ℕ, inl, inr, ◌||◌, ◌==◌, true, List, [], ◌∷◌, ◌++◌, drop, refl, sym, ◌∙◌, ap, subst, append_assoc, append-nil}
-use Rattle.std.specs.Prelude.{codes}
-use Rattle.std.specs.List.{AllByRecursion}
-use Rattle.std.proofs.lemmas.Bool.{or_right}
+use Rattle.rl_tokens.proofs.Common.{◌≡◌, ◌≢◌, ℕ, inl, inr, ◌||◌, ◌==◌, true, List, [], ◌∷◌, ◌++◌, drop, refl, sym, ◌∙◌, ap, subst, append_assoc, append-nil, codes, AllByRecursion, or_right}
 use Rattle.rl_tokens.specs.declared.kind.Kind.{Kind}
 use Rattle.rl_tokens.specs.declared.kind.Kind.TheVariants.{Str, ByteStr, CStr, Byte, Char, Int, Float, Bool as BoolKind}
 use Rattle.rl_tokens.specs.Texts.{is_white, first_passes, is_among}
@@ -29,9 +26,9 @@ all_from : {A : Type 0} (P R : A → Type 0) → ((x : A) → P x → R x) → (
 all_from P R f [] ps = tt
 all_from P R f (x ∷ xs) (p, ps) = (f x p, all_from P R f xs ps)
 
-behind_first : {A : Type 0} (P : A → Type 0) (xs : List A) → AllByRecursion P xs → AllByRecursion P (drop 1 xs)
-behind_first P [] ps = tt
-behind_first P (x ∷ xs) (p, ps) = ps
+tail_first : {A : Type 0} (P : A → Type 0) (xs : List A) → AllByRecursion P xs → AllByRecursion P (drop 1 xs)
+tail_first P [] ps = tt
+tail_first P (x ∷ xs) (p, ps) = ps
 
 -- What a gap begins with.
 piece_begins : (p : TriviaPiece) (rest : List ℕ) → IsTriviaPiece p → BeginsGap (trivia_piece_text p ++ rest)
@@ -102,7 +99,7 @@ printed_lexes t entries last file printed =
     entries_lex EndsLiteral file t entries last printed.text
     (all_from (λ (e : Entry). IsTrivia e.gap × IsStrictItem e.item) (λ (e : Entry). IsTrivia e.gap × LexedItem EndsLiteral e.item) strict_item entries printed.items)
     (follow_each EndsLiteral entries last
-    (all_by (λ (e : Entry). IsTrivia e.gap × IsStrictItem e.item) IsApart (Follows EndsLiteral) item_follows (drop 1 entries) (behind_first _ entries printed.items) printed.apart)
+    (all_by (λ (e : Entry). IsTrivia e.gap × IsStrictItem e.item) IsApart (Follows EndsLiteral) item_follows (drop 1 entries) (tail_first _ entries printed.items) printed.apart)
     (gap_ends last (last_begins last printed.last_gap)))
     printed.last_gap
 
@@ -131,6 +128,6 @@ reprinted_lexes t entries last file printed =
     entries_lex BeginsGap file t entries last printed.text
     (all_from (λ (e : Entry). IsTrivia e.gap × IsLexedItem e.item) (λ (e : Entry). IsTrivia e.gap × LexedItem BeginsGap e.item) (λ e is. (is.0, item_stays e.item is.1)) entries printed.items)
     (follow_each BeginsGap entries last
-    (all_by (λ (e : Entry). IsTrivia e.gap × IsLexedItem e.item) (λ (e : Entry). e.gap ≢ []) (Follows BeginsGap) (λ e is some rest. filled_gap e.gap (item_text e.item ++ rest) is.0 some) (drop 1 entries) (behind_first _ entries printed.items) printed.apart)
+    (all_by (λ (e : Entry). IsTrivia e.gap × IsLexedItem e.item) (λ (e : Entry). e.gap ≢ []) (Follows BeginsGap) (λ e is some rest. filled_gap e.gap (item_text e.item ++ rest) is.0 some) (drop 1 entries) (tail_first _ entries printed.items) printed.apart)
     (last_begins last printed.last_gap))
     printed.last_gap

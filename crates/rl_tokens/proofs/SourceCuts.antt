@@ -1,9 +1,5 @@
 -- A source's next token, and what is borrowed of it.
-use Rattle.std.proofs.Common.{◌≡◌, ◌≢◌, ℕ, ◌+◌, ◌-◌, ◌⊎◌, inl, inr, Bool, true, false, ◌||◌, ◌==◌, List, [], ◌∷◌, ◌++◌, length, length-append, take, slice_range, refl, sym, ◌∙◌, ap, subst, arith}
-use Rattle.std.specs.Prelude.{codes, if◌then◌else◌}
-use Rattle.std.proofs.lemmas.List.{append_cancel_right}
-use Rattle.std.proofs.lemmas.Str.{encodes-append, encodes-chars, chars_from_encodes}
-use Rattle.std.specs.Str.{chars, encode_utf8_all, IsUtf8}
+use Rattle.rl_tokens.proofs.Common.{◌≡◌, ◌≢◌, ℕ, ◌+◌, ◌-◌, ◌⊎◌, inl, inr, Bool, true, false, ◌||◌, ◌==◌, List, [], ◌∷◌, ◌++◌, length, length-append, take, slice_range, refl, sym, ◌∙◌, ap, subst, arith, codes, if◌then◌else◌, append_cancel_right, encodes-append, encodes-chars, chars_from_encodes, chars, encode_utf8_all, IsUtf8}
 use Rattle.rl_tokens.specs.Texts.{IsTail, byte_len, first_passes, begins}
 use Rattle.rl_tokens.specs.Skipping.{Skipped}
 use Rattle.rl_tokens.specs.Cursors.{CursorState, IsCursorState}
@@ -20,7 +16,7 @@ use Rattle.rl_tokens.proofs.CutLemmas.{byte_len-append}
 use Rattle.rl_tokens.proofs.ErrorKinds.{char_len, rest_place, chars_some}
 use Rattle.rl_tokens.proofs.LexemeOpeners.{quote_begins}
 use Rattle.rl_tokens.proofs.SourceFronts.{proper_source, apostrophe, closed_here}
-use Rattle.rl_tokens.proofs.Rests.{behind_length}
+use Rattle.rl_tokens.proofs.Rests.{tail_length}
 
 -- nothing is cut yet
 pub begun : (text front rest : List ℕ) → IsUtf8 text → IsTail text front → IsWithoutPreamble (chars text) (chars front) → Skipped (chars front) (chars rest) → IsCutUpTo (chars text) [] (chars rest)
@@ -28,13 +24,13 @@ begun text front rest is following is_front skipped = record {
   at = length text - length front;
   body = chars front;
   front = is_front;
-  place = omega (arith, char_len text is, char_len front following.is_text, behind_length text front following);
+  place = omega (arith, char_len text is, char_len front following.is_text, tail_length text front following);
   are_cuts = skipped;
 }
 
 -- after a token its rest stands where the token ends
-behind_place : (w : CutSource) (after : List ℕ) (n : ℕ) → w.at + byte_len (source_text w.token ++ after) ≡ n → source_end w + byte_len after ≡ n
-behind_place w after n place = omega (arith, place, byte_len-append (source_text w.token) after)
+tail_place : (w : CutSource) (after : List ℕ) (n : ℕ) → w.at + byte_len (source_text w.token ++ after) ≡ n → source_end w + byte_len after ≡ n
+tail_place w after n place = omega (arith, place, byte_len-append (source_text w.token) after)
 
 sources_more : (at : ℕ) (t : List ℕ) (done : List CutSource) (u : List ℕ) (w : CutSource) (after r : List ℕ) → SourcesUpTo at t done u → u ≡ source_text w.token ++ after → IsSource w.token after → w.at + byte_len u ≡ at + byte_len t → Skipped after r → SourcesUpTo at t (done ++ w ∷ []) r
 sources_more at t [] u w after r cut same is place skipped =
@@ -44,7 +40,7 @@ sources_more at t (d ∷ done) u w after r (rest, first, first_is, first_place, 
   first,
   first_is,
   first_place,
-  sources_more (source_end d) rest done u w after r more same is (place ∙ sym (behind_place d rest (at + byte_len t) first_place)) skipped,
+  sources_more (source_end d) rest done u w after r more same is (place ∙ sym (tail_place d rest (at + byte_len t) first_place)) skipped,
 )
 
 pub cut_more : (t : List ℕ) (done : List CutSource) (u : List ℕ) (w : CutSource) (after r : List ℕ) → IsCutUpTo t done u → u ≡ source_text w.token ++ after → IsSource w.token after → w.at + byte_len u ≡ byte_len t → Skipped after r → IsCutUpTo t (done ++ w ∷ []) r
@@ -60,7 +56,7 @@ cut_more t done u w after r cut same is place skipped = record {
 record SourceAt (text rest following token : List ℕ) (kind : SourceKind) (lo hi : ℕ) : Type 0 where
   pub front : SourceBefore (chars rest) kind (chars following)
   pub rest_text : IsUtf8 rest
-  pub behind_text : IsUtf8 following
+  pub tail_text : IsUtf8 following
   pub token_text : IsUtf8 token
   pub rest_is : rest ≡ token ++ following
   pub lo_place : lo + length rest ≡ length text
@@ -70,7 +66,7 @@ token_is : {text rest following token : List ℕ} {kind : SourceKind} {lo hi : �
 token_is {rest = rest} {following = following} {token = token} at =
     let l = source_text at.front.token in
     let e : encode_utf8_all l ++ following ≡ token ++ following =
-    ap (λ x. encode_utf8_all l ++ x) (sym (encodes-chars following at.behind_text))
+    ap (λ x. encode_utf8_all l ++ x) (sym (encodes-chars following at.tail_text))
     ∙ sym (encodes-append l (chars following))
     ∙ ap encode_utf8_all (sym at.front.text_is)
     ∙ encodes-chars rest at.rest_text
@@ -89,15 +85,15 @@ source_at text rest following token kind in_text in_rest front is token_is =
     record {
       front = front;
       rest_text = in_text.is_text;
-      behind_text = in_rest.is_text;
+      tail_text = in_rest.is_text;
       token_text = is;
       rest_is = cut_join rest following in_rest ∙ ap (λ z. z ++ following) (sym taken);
-      lo_place = omega (arith, behind_length text rest in_text);
-      hi_place = omega (arith, behind_length text rest in_text, behind_length rest following in_rest);
+      lo_place = omega (arith, tail_length text rest in_text);
+      hi_place = omega (arith, tail_length text rest in_text, tail_length rest following in_rest);
     }
 
 takes : (text rest following next : List ℕ) (l : SourceToken) → IsCursorState text rest → IsTail rest following → IsTail following next → Skipped (chars following) (chars next) → SourceAt text rest following l.text.now (source_view l.form) l.lo l.hi → TakesSource (record { text = text; rest = rest }) l (record { text = text; rest = next })
-takes text rest following next l is in_rest in_behind skips at =
+takes text rest following next l is in_rest in_tail skips at =
     let w : CutSource = record { token = at.front.token; at = l.lo } in
     let rest_len : byte_len (chars rest) ≡ length rest = char_len rest at.rest_text in
     let text_len : byte_len (chars text) ≡ length text = char_len text is.is_text in
@@ -111,15 +107,15 @@ takes text rest following next l is in_rest in_behind skips at =
       place = at.lo_place;
       goes_on = λ done cuts. cut_more (chars text) done (chars rest) w (chars following) (chars next) cuts at.front.text_is at.front.is_source (omega (arith, rest_len, text_len, at.lo_place)) skips;
       same = refl;
-      following = tail_step rest following next in_rest in_behind;
+      following = tail_step rest following next in_rest in_tail;
     }
 
 -- what is borrowed is the next token
 pub takes_source : (text rest following next : List ℕ) (l : SourceToken) → IsCursorState text rest → SourceBefore (chars rest) (source_view l.form) (chars following) → IsTail rest following → IsUtf8 l.text.now → l.text.now ≡ slice_range rest 0 (length rest - length following) → l.lo ≡ length text - length rest → l.hi ≡ length text - length following → Skipped (chars following) (chars next) → IsTail following next → TakesSource (record { text = text; rest = rest }) l (record { text = text; rest = next })
-takes_source text rest following next l is front in_rest utf8 token_is lo hi skips in_behind =
+takes_source text rest following next l is front in_rest utf8 token_is lo hi skips in_tail =
     let at : SourceAt text rest following l.text.now (source_view l.form) l.lo l.hi =
     rw (lo, hi) (source_at text rest following l.text.now (source_view l.form) is.following in_rest front utf8 token_is) in
-    takes text rest following next l is in_rest in_behind skips at
+    takes text rest following next l is in_rest in_tail skips at
 
 -- ---- errors
 
@@ -170,7 +166,7 @@ pub stops_source : (text rest : List ℕ) (e : LexError) (kind : LexKind) → Is
 stops_source text rest e kind is empty empty_is some none kind_is e_is =
     let t : CursorState = record { text = text; rest = rest } in
     let place : ℕ = length text - length rest in
-    let here : place + length rest ≡ length text = omega (arith, behind_length text rest is.following) in
+    let here : place + length rest ≡ length text = omega (arith, tail_length text rest is.following) in
     let error : SourceErrorAt kind (chars rest) = rw kind_is (error_here (chars rest) (chars_some rest is.following.is_text (sym empty_is ∙ some)) none) in
     let first : (cuts : List CutSource) → IsCutUpTo (chars text) cuts (chars rest) → SourceError (chars text) kind place =
     λ cuts are. record {

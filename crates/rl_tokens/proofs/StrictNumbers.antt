@@ -1,12 +1,6 @@
 -- A strict number reads as the lenient reading says, with a minus before it too.
-use Rattle.std.proofs.Common.{◌≡◌, ℕ, ◌+◌, ◌*◌, ◌^◌, ◌<◌, ◌≤◌, ◌||◌, ◌&&◌, Bool, true, false, not, eqb, ltb, List, [], ◌∷◌, ◌++◌, length, refl, sym, ap, subst, ◌∙◌, ◌⊎◌, inl, inr, arith, append_assoc, append-nil}
-use Rattle.std.specs.Prelude.{nat_lt}
-use Rattle.std.specs.Char.{digit_value, is_ascii_digit, is_ascii_hexdigit, is_ascii_alphabetic, is_ascii_alphanumeric}
-use Rattle.std.specs.List.{list_all, list_any}
-use Rattle.std.proofs.lemmas.List.Folds.{list_all-append}
-use Rattle.std.proofs.lemmas.Bool.{eqb-true, eq-eqb, both_ways, and_parts, and_from, or_parts, or_cases, or_from, cases_lt, ltb-true, lt-ltb, not-true, false_from_ne_true, agree_below_at, not_from_false}
-use Rattle.unicode_ident.specs.Ident.{is_xid_start, is_xid_continue}
-use Rattle.unicode_ident.proofs.IdentLemmas.{is_xid_start-ascii}
+use Rattle.rl_tokens.proofs.Common.{◌≡◌, ℕ, ◌+◌, ◌*◌, ◌^◌, ◌<◌, ◌≤◌, ◌||◌, ◌&&◌, Bool, true, false, not, eqb, ltb, List, [], ◌∷◌, ◌++◌, length, refl, sym, ap, subst, ◌∙◌, ◌⊎◌, inl, inr, arith, append_assoc, append-nil, nat_lt, digit_value, is_ascii_digit, is_ascii_hexdigit, is_ascii_alphabetic, is_ascii_alphanumeric, list_all, list_any, list_all-append, eqb-true, eq-eqb, both_ways, and_parts, and_from, or_parts, or_cases, or_from, cases_lt, ltb-true, lt-ltb, not-true, agree_below_at, not_from_false, is_xid_start, is_xid_continue, is_xid_start-ascii}
+use Rattle.std.proofs.lemmas.Bool.{false_from_ne_true}
 use Rattle.rl_tokens.specs.Texts.{first_passes, begins, is_underscore, is_row_part}
 use Rattle.rl_tokens.specs.Quoted.{place_value, without_underscores}
 use Rattle.rl_tokens.specs.Numbers.{Base, Binary, Octal, Decimal, Hexadecimal, radix, prefix, is_digit, Sign, NoSign, Minus, sign_text, begins_base, IsAfterPrefix, IsSuffix, is_exponent_letter, IsExponentSuffix, AllowsSuffix, IntReads, limit, Fraction, NoFraction, Dot, fraction_text, IsFraction, Exponent, NoExponent, Power, exponent_text, is_power_sign, BeginsExponent, IsExponent, float_digits}
@@ -67,7 +61,7 @@ pub same_value : (base : ℕ) (ds : List ℕ) → spelled_number base ds ≡ pla
 same_value base [] = refl
 same_value base (d ∷ ds) = ap (λ n. digit_value d * base ^ length ds + n) (same_value base ds)
 
-passes_on : (test : ℕ → Bool) (a b : List ℕ) → first_passes test a ≡ true → first_passes test (a ++ b) ≡ true
+pub passes_on : (test : ℕ → Bool) (a b : List ℕ) → first_passes test a ≡ true → first_passes test (a ++ b) ≡ true
 passes_on test [] b h = absurd (cc)
 passes_on test (c ∷ cs) b h = h
 
@@ -138,9 +132,9 @@ pub no_sign : (t x : List ℕ) (s : Sign) (m : ℕ) → first_passes is_ascii_di
 no_sign t x NoSign m h r = (r, refl)
 no_sign t x Minus m h r = absurd (let e = ap (first_passes is_ascii_digit) (sym r.text_is) ∙ h in (cc))
 
-pub behind_minus : (t x : List ℕ) (s : Sign) (m : ℕ) → IntReads (45 ∷ t) s m x → IntReads t NoSign m x × (s ≡ Minus)
-behind_minus t x NoSign m r = absurd (let e = ap (first_passes is_ascii_digit) r.text_is ∙ digit_front r.base r.digits x r.front in (cc))
-behind_minus t x Minus m r = (
+pub without_minus : (t x : List ℕ) (s : Sign) (m : ℕ) → IntReads (45 ∷ t) s m x → IntReads t NoSign m x × (s ≡ Minus)
+without_minus t x NoSign m r = absurd (let e = ap (first_passes is_ascii_digit) r.text_is ∙ digit_front r.base r.digits x r.front in (cc))
+without_minus t x Minus m r = (
   record {
     base = r.base;
     digits = r.digits;
@@ -426,7 +420,7 @@ signed_float sign t x v f =
   where
     none_signed : (sign : Sign) (t : List ℕ) → HasNoInteger t → HasNoInteger (sign_text sign ++ t)
     none_signed NoSign t h = h
-    none_signed Minus t h = λ s m y r. h NoSign m y (behind_minus t y s m r).0
+    none_signed Minus t h = λ s m y r. h NoSign m y (without_minus t y s m r).0
 
 -- ---- the laws
 

@@ -1,5 +1,5 @@
 -- Trees that are left of those before.
-use Rattle.std.proofs.Common.{subst, inr, ◌≡◌, List, [], ◌∷◌, ◌++◌, refl, sym, ◌∙◌, ap, append_assoc}
+use Rattle.rl_tokens.proofs.Common.{subst, inr, ◌≡◌, List, [], ◌∷◌, ◌++◌, refl, sym, ◌∙◌, ap, append_assoc}
 use Rattle.std.specs.Prelude.{◌≢◌, Result, Ok}
 use Rattle.rl_tokens.specs.declared.span.Span.{Span}
 use Rattle.rl_tokens.specs.declared.error.ErrorKind.TheVariants.{Unexpected}
@@ -35,8 +35,8 @@ rest_self trees = record { taken = []; are = refl }
 pub stays_rest : (between left : List Tree) → IsRest between left → StaysRest between left
 stays_rest between left a before b = rest_step before between left b a
 
-pub stays_behind : (between left : List Tree) (t : Tree) → between ≡ t ∷ left → StaysRest between left
-stays_behind between left t e = stays_rest between left (rest_one between left t e)
+pub stays_tail : (between left : List Tree) (t : Tree) → between ≡ t ∷ left → StaysRest between left
+stays_tail between left t e = stays_rest between left (rest_one between left t e)
 
 -- what a parser did, of trees and scopes that are the same
 pub run_moved : {T E : Type 0} (runs : List Tree → Span → Result T E → List Tree → Type 0) (a b : List Tree) (s t : Span) (r : Result T E) (x y : List Tree) → a ≡ b → s ≡ t → x ≡ y → runs a s r x → runs b t r y

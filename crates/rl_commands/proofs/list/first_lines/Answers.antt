@@ -1,6 +1,6 @@
 use Rattle.std.proofs.Common.{arith, ◌∙◌, sym, subst}
 use Rattle.std.specs.Prelude.{IfSome}
-use Rattle.rl_tokens.proofs.Rests.{behind_length}
+use Rattle.rl_tokens.proofs.Rests.{tail_length}
 use Rattle.rust_literals.proofs.FlatLemmas.{empty_text}
 use Rattle.rl_commands.specs.Lists.{Lengthens}
 use Rattle.rl_commands.proofs.ListLemmas.{first_none, first_more}
@@ -11,7 +11,7 @@ loop-tokens-init g c = record {
   has = first_none c.args.text.now c.new-tokens.result.rest c.new.result c.new.ensures.bytes c.new-tokens.ensures.skipped;
   same = c.new-tokens.ensures.text;
   empty = c.new-one.ensures.items;
-  room = omega (arith, behind_length c.args.text.now c.new-tokens.result.rest c.new-tokens.ensures.following.following);
+  room = omega (arith, tail_length c.args.text.now c.new-tokens.result.rest c.new-tokens.ensures.following.following);
 }
 
 pub overflow_add-count : goal.overflow_add-count

@@ -1,6 +1,6 @@
 use Rattle.std.proofs.Common.{◌≡◌, Bool, ℕ, Option, List, None, false, nat_lt, refl, arith, ap, sym, subst, ◌∙◌, drop, get_or, ◌+◌}
 use Rattle.std.specs.Str.{chars, IsCharBoundary}
-use Rattle.rl_tokens.proofs.Rests.{behind_drop}
+use Rattle.rl_tokens.proofs.Rests.{tail_drop}
 use Rattle.rl_grammar.specs.Mirrors.NumberAt.{row_from}
 use Rattle.rl_grammar.proofs.DigitRowLemmas.{row_skipped}
 use Rattle.rl_grammar.proofs.RowBytes.{digit_cuts, mark_cuts, is_digit, no_digit, row_mark, row_goes, row_stops, row_ends, row_read}
@@ -58,5 +58,5 @@ returns c =
     record {
       has_digit = ap (λ p. p.0) passed;
       rest = ap (λ p. p.2) passed;
-      following = behind_drop t rest i c.range_from.ensures.value c.range_from.utf8;
+      following = tail_drop t rest i c.range_from.ensures.value c.range_from.utf8;
     }

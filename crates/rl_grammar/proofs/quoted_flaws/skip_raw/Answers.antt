@@ -3,7 +3,7 @@ use lib.Seq.{drop-length}
 use Rattle.std.proofs.lemmas.Str.{chars-nil}
 use Rattle.std.specs.Str.{chars}
 use Rattle.rl_tokens.specs.Quoted.{is_raw}
-use Rattle.rl_tokens.proofs.Rests.{behind_drop}
+use Rattle.rl_tokens.proofs.Rests.{tail_drop}
 use Rattle.rl_grammar.proofs.RawLemmas.{others_hold}
 use Rattle.rl_grammar.proofs.RawFlawLemmas.{run_of_all}
 use Rattle.rl_grammar.proofs.quoted_flaws.skip_raw.Goals as goal
@@ -14,5 +14,5 @@ returns-in_default c =
     let end = c.range_from.ensures.value in
     record {
       rest = ap chars (end ∙ drop-length t) ∙ chars-nil ∙ sym (run_of_all (is_raw c.args.kind) (chars t) (others_hold _ c.in_default.not-ByteStr c.in_default.not-CStr (chars t)));
-      following = behind_drop _ _ _ end c.range_from.utf8;
+      following = tail_drop _ _ _ end c.range_from.utf8;
     }

@@ -1,9 +1,7 @@
-use Rattle.std.proofs.Common.{◌≡◌, ◌++◌, take, drop, sym, subst, ap, ap₂, ◌∙◌, rules}
-use Rattle.std.specs.Str.{chars, IsCharBoundary}
-use Rattle.std.specs.List.{list_all, prefix_len}
+use Rattle.rl_tokens.proofs.Common.{◌≡◌, ◌++◌, take, drop, sym, subst, ap, ap₂, ◌∙◌, rules, chars, IsCharBoundary, list_all, prefix_len}
 use Rattle.rl_tokens.specs.Texts.{first_passes, IsTail}
 use Rattle.rl_tokens.specs.Scanning.{is_other}
-use Rattle.rl_tokens.proofs.ScanLemmas.{other_high, run_boundary, run_behind, run_cut, run_plain, run_stop}
+use Rattle.rl_tokens.proofs.ScanLemmas.{other_high, run_boundary, run_tail, run_cut, run_plain, run_stop}
 use Rattle.rl_tokens.proofs.scan.split_before.Goals as goal
 
 pub split_at-requires : goal.split_at-requires
@@ -25,6 +23,6 @@ returns c =
       cut = run_cut q high t c.utf8.text ∙ ap₂ (λ a b. chars a ++ chars b) front back;
       others = ap (λ a. list_all q (chars a)) (sym front) ∙ run_plain q high t c.utf8.text;
       stops = ap (λ b. first_passes q (chars b)) (sym back) ∙ run_stop q high t c.utf8.text;
-      following = subst (IsTail t) back (run_behind q high t c.utf8.text);
+      following = subst (IsTail t) back (run_tail q high t c.utf8.text);
       shorter = search rules;
     }

@@ -1,10 +1,9 @@
-use Rattle.std.proofs.Common.{◌≤◌, ◌∙◌, ap, subst, arith}
-use Rattle.std.specs.Str.{chars}
+use Rattle.rl_tokens.proofs.Common.{◌≤◌, ◌∙◌, ap, subst, arith, chars}
 use Rattle.rl_tokens.specs.Texts.{IsTail}
 use Rattle.rl_tokens.specs.Mirrors.LiteralsAt.{byte_before, unlikely_len}
 use Rattle.rl_tokens.proofs.TailLemmas.{tail_step}
 use Rattle.rl_tokens.proofs.LiteralSteps.{holds_start}
-use Rattle.rl_tokens.proofs.Rests.{behind_drop}
+use Rattle.rl_tokens.proofs.Rests.{tail_drop}
 use Rattle.rl_tokens.proofs.UnlikelyFronts.{unlikely-boundary, unlikely-holds, unlikely-within}
 use Rattle.rl_tokens.proofs.source.skip_unlikely.Goals as goal
 
@@ -22,7 +21,7 @@ byte_before-requires c = omega (arith, unlikely-within c.as_bytes-bytes.result.n
 
 pub returns-clause-following : goal.returns-clause-following
 returns-clause-following c =
-    let tail : IsTail c.args.text.now c.range_from.result.now = behind_drop c.args.text.now c.range_from.result.now c.unlikely_len-at.result c.range_from.ensures.value c.range_from.utf8 in
+    let tail : IsTail c.args.text.now c.range_from.result.now = tail_drop c.args.text.now c.range_from.result.now c.unlikely_len-at.result c.range_from.ensures.value c.range_from.utf8 in
     tail_step _ _ _ (tail_step _ _ _ tail c.after_word-rest.ensures.following) c.skip.ensures.following
 
 pub returns-then-at-eq0-clause-holds : goal.returns-then-at-eq0-clause-holds

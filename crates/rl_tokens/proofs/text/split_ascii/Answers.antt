@@ -1,7 +1,5 @@
-use Rattle.std.proofs.Common.{◌≡◌, ◌<◌, ◌∷◌, ◌∙◌, length, ap, sym, drop, get_or, arith, rules}
-use Rattle.std.proofs.lemmas.Str.{IsCharBoundary-after_ascii}
-use Rattle.std.specs.Str.{chars}
-use Rattle.rl_tokens.proofs.Rests.{behind_drop}
+use Rattle.rl_tokens.proofs.Common.{◌≡◌, ◌<◌, ◌∷◌, ◌∙◌, length, ap, sym, drop, get_or, arith, rules, IsCharBoundary-after_ascii, chars}
+use Rattle.rl_tokens.proofs.Rests.{tail_drop}
 use Rattle.rl_tokens.proofs.ScanLemmas.{ascii_first, none_first, other_first}
 use Rattle.rl_tokens.proofs.text.split_ascii.Goals as goal
 use Rattle.rl_tokens.proofs.text.split_ascii.Goals.{then-is_empty-via-then-is_empty, then-is_empty-via-else-is_empty+then-bytes-ge128}
@@ -31,4 +29,4 @@ returns-clause-some c =
     ascii_first t c.utf8.text some (omega (arith, first)) ∙ ap (λ x. x ∷ chars (drop 1 t)) first ∙ ap (λ x. get_or c.as_bytes-bytes.result.now 0 0 ∷ chars x) rest
 
 pub returns-clause-following : goal.returns-clause-following
-returns-clause-following c = behind_drop c.args.text.now c.range_from.result.now 1 c.range_from.ensures.value c.range_from.utf8
+returns-clause-following c = tail_drop c.args.text.now c.range_from.result.now 1 c.range_from.ensures.value c.range_from.utf8

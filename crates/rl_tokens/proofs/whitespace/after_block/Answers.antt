@@ -1,9 +1,8 @@
 -- One turn of the loop: a closer, an opener, a mark that is neither, or a run of other bytes.
-use Rattle.std.proofs.Common.{arith, ◌+◌, ◌≡◌, [], Some, get_or, sym, ◌∙◌, ap, drop}
-use Rattle.std.proofs.lemmas.Str.{IsCharBoundary-after_ascii}
+use Rattle.rl_tokens.proofs.Common.{arith, ◌+◌, ◌≡◌, [], Some, get_or, sym, ◌∙◌, ap, drop, IsCharBoundary-after_ascii}
 use Rattle.std.proofs.Math.ListN.{drop_of_length-le}
 use Rattle.rl_tokens.specs.Mirrors.SkippedAt.{after_block}
-use Rattle.rl_tokens.proofs.Rests.{behind_drop}
+use Rattle.rl_tokens.proofs.Rests.{tail_drop}
 use Rattle.rl_tokens.proofs.CommentBytes.{block_of_bytes, no_block_of_bytes}
 use Rattle.rl_tokens.proofs.Comments.{closed}
 use Rattle.rl_tokens.proofs.CommentSteps.{block_closes, block_opens, block_goes, block_runs, run_inside, closed-down, next_inside}
@@ -86,7 +85,7 @@ returns-then-depth-eq0-clause-rest c =
 
 pub returns-then-depth-eq0-clause-following : goal.returns-then-depth-eq0-clause-following
 returns-then-depth-eq0-clause-following c =
-    behind_drop c.args.text.now c.range_from.result.now (c.loop-at.at + 1 + 1) c.range_from.ensures.value c.range_from.utf8
+    tail_drop c.args.text.now c.range_from.result.now (c.loop-at.at + 1 + 1) c.range_from.ensures.value c.range_from.utf8
 
 pub returns-clause-rest : goal.returns-clause-rest
 returns-clause-rest c =

@@ -1,7 +1,6 @@
-use Rattle.std.proofs.Common.{◌∙◌, ap, arith, map}
-use Rattle.std.proofs.lemmas.Grind.{common_steps}
+use Rattle.rl_tokens.proofs.Common.{◌∙◌, ap, arith, map, common_steps}
 use Rattle.rl_tokens.specs.Trees.{tree_view}
-use Rattle.rl_tokens.proofs.TreeRests.{rest_one, rest_self, stays_behind}
+use Rattle.rl_tokens.proofs.TreeRests.{rest_one, rest_self, stays_tail}
 use Rattle.rl_tokens.proofs.TreeLemmas.{first_taken, tree_view-punct}
 use Rattle.rl_tokens.proofs.buffer.ParseBuffer.punct.Goals as goal
 
@@ -12,7 +11,7 @@ pub returns-in_default-clause-rest : goal.returns-in_default-clause-rest
 returns-in_default-clause-rest g c = rest_self _
 
 pub returns-in-Punct-clause-onward : goal.returns-in-Punct-clause-onward
-returns-in-Punct-clause-onward g c = stays_behind _ _ (tree_view c.in_ok-first.first.now) (ap (map tree_view) c.in_ok-first.ensures.cases.0)
+returns-in-Punct-clause-onward g c = stays_tail _ _ (tree_view c.in_ok-first.first.now) (ap (map tree_view) c.in_ok-first.ensures.cases.0)
 
 pub returns-in-Punct-clause-taken : goal.returns-in-Punct-clause-taken
 returns-in-Punct-clause-taken g c =
