@@ -34,7 +34,7 @@ pub(crate) fn weight(kind: Kind, first: u64, second: u64) -> u64
 }
 
 /// How many bytes the characters of a text take.
-#[tactic(auto, using(rl_tokens::proofs::Faults::char_len))]
+#[tactic(auto, using(rl_tokens::proofs::ErrorKinds::char_len))]
 pub(crate) fn text_size(text: &str) -> usize
     ensures { result ≡ byte_len (chars text.now) }
 {
