@@ -81,7 +81,7 @@ fn first_digits(text: &str, radix: u32) -> FirstDigits
 ///
 /// It is written into its callers, so that a base that is known there costs no multiplication in full.
 #[inline(always)]
-#[tactic(auto, using(rl_tokens::proofs::Rests::behind_drop))]
+#[tactic(auto, using(rl_tokens::proofs::Rests::tail_drop))]
 fn read_row_in(text: &str, radix: u32) -> DigitRow<'_>
     requires { (2 ≤ radix) × (radix ≤ 36) }
     ensures value { (result.has_digit, result.magnitude, chars result.rest.now)

@@ -113,7 +113,7 @@ impl Found {
 
     /// The literal's suffix, as a slice of the text that it was found in; empty where there is none.
     #[inline(always)]
-    #[tactic(auto, using(rl_tokens::proofs::Rests::behind_drop))]
+    #[tactic(auto, using(rl_tokens::proofs::Rests::tail_drop))]
     pub fn suffix_in<'t>(&self, text: &'t str) -> &'t str
         requires { StandsIn text.now self.now.body }
         ensures suffix { result.now ≡ suffix_in text.now self.now.body }

@@ -215,7 +215,7 @@ pub(crate) fn find_cooked(kind: Kind, text: &str, inside: &str) -> Option<Found>
 
 /// Where the parts of a raw string stand, from its hashes on.
 #[inline(never)]
-#[tactic(auto, using(rl_tokens::proofs::Rests::behind_drop))]
+#[tactic(auto, using(rl_tokens::proofs::Rests::tail_drop))]
 fn raw_places(kind: Kind, text: &str, inside: &str) -> Option<Body>
     requires { opener_at (chars text.now) ≡ found_opener QuotedForm.Raw kind (chars inside.now) }
     ensures none { IfNone result (HasNoReading (chars text.now)) }

@@ -1,6 +1,5 @@
 -- Strict texts read as the lenient reading says.
-use Rattle.std.proofs.Common.{◌≡◌, ℕ, List, ◌∷◌, true, false, Bool, refl, ◌∙◌}
-use Rattle.std.specs.Prelude.{codes, if◌then◌else◌}
+use Rattle.rl_tokens.proofs.Common.{◌≡◌, ℕ, List, ◌∷◌, true, false, Bool, refl, ◌∙◌, codes, if◌then◌else◌}
 use Rattle.rl_tokens.specs.declared.kind.Kind.{Kind}
 use Rattle.rl_tokens.specs.declared.kind.Kind.TheVariants.{Str, ByteStr, CStr, Byte, Char, Int, Float, Bool as BoolKind}
 use Rattle.rl_tokens.specs.Agreeing.{IsWithinLimit}

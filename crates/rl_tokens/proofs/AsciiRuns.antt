@@ -1,12 +1,6 @@
 -- Runs of ASCII at the front of a text.
-use Rattle.std.proofs.Common.{◌≡◌, ◌+◌, ◌<◌, ◌≤◌, ◌⊎◌, inl, inr, ℕ, zero, suc, Bool, true, false, cond, List, [], ◌∷◌, ◌++◌, take, drop, get_or, refl, sym, ap, subst, ◌∙◌, arith}
-use Rattle.std.proofs.lemmas.Bool.{agree_below_at, and_parts, cases_Bool}
-use Rattle.std.proofs.lemmas.Bool.Decides.{nat_tests}
-use Rattle.std.proofs.lemmas.List.{take-append-drop}
-use Rattle.std.proofs.lemmas.List.Sums.{prefix_len-le-length, prefix_len_passes}
-use Rattle.std.proofs.lemmas.Str.{IsCharBoundary-start, IsCharBoundary-after_ascii, IsUtf8-drop, IsUtf8-take, chars-append, chars-IsAscii, encodes-chars}
-use Rattle.std.specs.List.{list_all, prefix_len}
-use Rattle.std.specs.Str.{chars, encode_utf8_all, IsAscii, IsCharBoundary, IsUtf8}
+use Rattle.rl_tokens.proofs.Common.{◌≡◌, ◌+◌, ◌<◌, ◌≤◌, ◌⊎◌, inl, inr, ℕ, zero, suc, Bool, true, false, cond, List, [], ◌∷◌, ◌++◌, take, drop, get_or, refl, sym, ap, subst, ◌∙◌, arith, agree_below_at, and_parts, cases_Bool, nat_tests, take-append-drop, prefix_len-le-length, IsCharBoundary-start, IsCharBoundary-after_ascii, IsUtf8-drop, IsUtf8-take, chars-append, chars-IsAscii, encodes-chars, list_all, prefix_len, chars, encode_utf8_all, IsAscii, IsCharBoundary, IsUtf8}
+use Rattle.std.proofs.lemmas.List.Sums.{prefix_len_passes}
 use Rattle.rl_tokens.specs.Texts.{first_passes, is_white, IsTail}
 use Rattle.rl_tokens.specs.Classes.{after_run, class_test}
 use Rattle.rl_tokens.specs.Mirrors.RunsAt.{is_word_byte, is_blank_byte, is_held, run_class}

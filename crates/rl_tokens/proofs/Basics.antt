@@ -1,11 +1,8 @@
 -- Tests of characters: what one test's answer says of another's.
-use Rattle.std.proofs.Common.{◌≡◌, ℕ, ◌<◌, ◌≤◌, ◌||◌, ◌&&◌, Bool, true, false, not, eqb, ltb, leb, List, [], ◌∷◌, refl, sym, ap, subst, ◌∙◌, inl, inr, arith}
-use Rattle.std.specs.Char.{digit_value, is_ascii_digit, is_ascii_hexdigit, is_ascii_alphanumeric}
+use Rattle.rl_tokens.proofs.Common.{◌≡◌, ℕ, ◌<◌, ◌≤◌, ◌||◌, ◌&&◌, Bool, true, false, not, eqb, ltb, leb, List, [], ◌∷◌, refl, sym, ap, subst, ◌∙◌, inl, inr, arith, digit_value, is_ascii_digit, is_ascii_hexdigit, is_ascii_alphanumeric, list_all, list_any, eqb-true, ne_eqb, both_ways, and_parts, and_from, or_from, cases_Bool, cases_lt, not_from_false, agree_below, agree_below_at, is_xid_start, is_xid_continue, is_xid_continue-ascii}
 use Rattle.std.specs.Int.{is_in_range}
-use Rattle.std.specs.List.{list_all, list_any}
-use Rattle.std.proofs.lemmas.Bool.{eqb-true, ne_eqb, both_ways, and_parts, and_from, or_from, cases_Bool, cases_lt, le-ltb, lt-leb, not_from_false, agree_below, agree_below_at}
-use Rattle.unicode_ident.specs.Ident.{is_xid_start, is_xid_continue}
-use Rattle.unicode_ident.proofs.IdentLemmas.{is_xid_continue-ascii, is_xid_start-is_xid_continue}
+use Rattle.std.proofs.lemmas.Bool.{le-ltb, lt-leb}
+use Rattle.unicode_ident.proofs.IdentLemmas.{is_xid_start-is_xid_continue}
 use Rattle.rl_tokens.specs.Texts.{xid_ok, first_passes}
 
 -- a test that one passes and another doesn't tells them apart

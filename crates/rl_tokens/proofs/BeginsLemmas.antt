@@ -1,15 +1,11 @@
 -- What a text begins with, by its bytes and by its characters.
-use Rattle.std.proofs.Common.{◌≡◌, ℕ, ◌<◌, ◌≤◌, ◌⊎◌, inl, inr, true, ◌&&◌, ◌==◌, List, [], ◌∷◌, ◌++◌, ◌≢◌, ◌+◌, length, drop, Option, Some, None, refl, sym, subst, ◌∙◌, ap, arith}
-use Rattle.std.proofs.lemmas.Bool.Decides.{nat_tests}
-use Rattle.std.specs.Prelude.{nat_lt, nat_eq, IfSome, IfNone, MatchOption}
-use Rattle.std.specs.List.{list_all, starts_with}
-use Rattle.std.specs.Str.{chars, encode_utf8_all, IsUtf8, IsCharBoundary}
+use Rattle.rl_tokens.proofs.Common.{◌≡◌, ℕ, ◌<◌, ◌≤◌, ◌⊎◌, inl, inr, true, ◌&&◌, ◌==◌, List, [], ◌∷◌, ◌++◌, ◌≢◌, ◌+◌, length, drop, Option, Some, None, refl, sym, subst, ◌∙◌, ap, arith, and_parts, nat_tests, nat_lt, list_all, chars, encode_utf8_all, IsUtf8, IsCharBoundary, encodes-chars, encodes-append, chars-append, IsUtf8-drop}
+use Rattle.std.specs.Prelude.{nat_eq, IfSome, IfNone, MatchOption}
+use Rattle.std.specs.List.{starts_with}
 use Rattle.std.specs.Str.Pattern.{FindsTextPrefix}
 use denote.Ref.{Bor}
-use Rattle.std.proofs.lemmas.Str.{encodes-chars, encodes-append, chars-append, IsUtf8-drop}
 use Rattle.rl_tokens.specs.Texts.{begins, IsTail}
 use Rattle.rl_tokens.proofs.CommentBytes.{cases128, low_front, encode_is_high, not_equal}
-use Rattle.rl_tokens.proofs.LexemeRows.{both_true}
 
 begins_one : (k : ℕ) (p : List ℕ) (c : ℕ) (cs : List ℕ) → k < 128 → begins p (encode_utf8_all cs) ≡ begins p cs → (c < 128) ⊎ (128 ≤ c) → begins (k ∷ p) (encode_utf8_all (c ∷ cs)) ≡ begins (k ∷ p) (c ∷ cs)
 begins_one k p c cs l more (inl low) = ap (begins (k ∷ p)) (low_front c cs low) ∙ ap (λ b. c == k && b) more
@@ -23,7 +19,7 @@ begins_encoded : (p cs : List ℕ) → list_all (λ k. nat_lt k 128) p ≡ true 
 begins_encoded [] cs low = refl
 begins_encoded (k ∷ p) [] low = refl
 begins_encoded (k ∷ p) (c ∷ cs) low =
-    let h : (nat_lt k 128 ≡ true) × (list_all (λ k. nat_lt k 128) p ≡ true) = both_true (nat_lt k 128) (list_all (λ k. nat_lt k 128) p) low in
+    let h : (nat_lt k 128 ≡ true) × (list_all (λ k. nat_lt k 128) p ≡ true) = and_parts (nat_lt k 128) (list_all (λ k. nat_lt k 128) p) low in
     begins_one k p c cs (let q : nat_lt k 128 ≡ true = h.0 in grind (arith, nat_tests)) (begins_encoded p cs h.1) (cases128 c)
 
 -- an ASCII word begins the bytes where it begins the characters

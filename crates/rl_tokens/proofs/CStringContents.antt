@@ -1,9 +1,6 @@
 -- What a C string stands for holds no zero.
-use Rattle.std.proofs.Common.{◌≡◌, ℕ, ◌+◌, ◌/◌, ◌%◌, ◌≤◌, true, false, not, eqb, ltb, List, [], ◌∷◌, ◌++◌, refl, ap, ◌∙◌, inl, inr, arith}
-use Rattle.std.specs.Prelude.{encode_utf8, encode_utf8_all}
-use Rattle.std.specs.List.{list_all, AllByRecursion}
-use Rattle.std.proofs.lemmas.List.Folds.{list_all-append}
-use Rattle.std.proofs.lemmas.Bool.{and_parts, and_from, cases_Bool, not-true, not_from_false, ne_eqb, or_parts}
+use Rattle.rl_tokens.proofs.Common.{◌≡◌, ℕ, ◌+◌, ◌/◌, ◌%◌, ◌≤◌, true, false, not, eqb, ltb, List, [], ◌∷◌, ◌++◌, refl, ap, ◌∙◌, inl, inr, arith, encode_utf8, list_all, AllByRecursion, list_all-append, and_parts, and_from, cases_Bool, not-true, not_from_false, ne_eqb, or_parts}
+use Rattle.std.specs.Prelude.{encode_utf8_all}
 use Rattle.rl_tokens.specs.declared.kind.Kind.TheVariants.{CStr}
 use Rattle.rl_tokens.specs.Quoted.{QuotedUnit, Plain, CrLf, Named, Hex, Unicode, Continuation, letter_value, unit_value, hex_value, unicode_value, allows_code, is_plain, IsUnit, values}
 use Rattle.rl_tokens.specs.Reading.{Bytes, Reads}

@@ -1,16 +1,12 @@
 -- One step of the search for the end of a comment.
-use Rattle.std.proofs.Common.{◌≡◌, ℕ, suc, zero, ◌+◌, ◌-◌, ◌<◌, ◌≤◌, Bool, true, false, not, ◌&&◌, ◌==◌, cond, List, [], ◌∷◌, ◌++◌, append-nil, length, get_or, take, drop, Option, None, refl, sym, ◌∙◌, ap, arith, add-one}
+use Rattle.rl_tokens.proofs.Common.{◌≡◌, ℕ, suc, zero, ◌+◌, ◌-◌, ◌<◌, ◌≤◌, Bool, true, false, not, ◌&&◌, ◌==◌, cond, List, [], ◌∷◌, ◌++◌, append-nil, length, get_or, take, drop, Option, None, refl, sym, ◌∙◌, ap, arith, prefix_len-le-length, and_from, and_parts, ne_eqb, IsUtf8-nil, chars, list_all, prefix_len}
+use Rattle.std.proofs.Common.{add-one}
 use Rattle.std.proofs.lemmas.List.{drop_more, get_or-drop, drop-drop, length-drop}
-use Rattle.std.proofs.lemmas.List.Sums.{prefix_len-le-length}
-use Rattle.std.proofs.lemmas.Bool.{and_from, and_parts, ne_eqb}
-use Rattle.std.proofs.lemmas.Str.{IsUtf8-nil}
 use Rattle.std.proofs.Math.Seq.{take-length}
-use Rattle.std.specs.Str.{chars}
 use Rattle.rl_tokens.specs.Texts.{IsTail}
 use Rattle.rl_tokens.specs.Mirrors.SkippedAt.{after_block, after_line}
 use Rattle.rl_tokens.specs.Scanning.{is_other, IsNextMark}
 use Rattle.rl_tokens.specs.declared.scan.Marks.{Marks}
-use Rattle.std.specs.List.{list_all, prefix_len}
 use Rattle.rl_tokens.proofs.Comments.{closed, after_block-step, block_goes_on, false_unless, both, OneLine, after_line-past, after_line-open}
 use Rattle.rl_tokens.proofs.LexemeSteps.{only}
 use Rattle.rl_tokens.proofs.ScanLemmas.{drop_next, not_first, not_second}

@@ -1,8 +1,5 @@
 -- A text is cut in one way, as far as it goes.
-use Rattle.std.proofs.Common.{◌≡◌, ℕ, ◌+◌, List, [], ◌∷◌, ◌++◌, map, Option, Some, None, refl, sym, ◌∙◌, ap, subst, arith}
-use Rattle.std.specs.Option.{option_and_then}
-use Rattle.std.specs.Str.{encode_utf8_all}
-use Rattle.std.proofs.lemmas.Option.{none-some}
+use Rattle.rl_tokens.proofs.Common.{◌≡◌, ℕ, ◌+◌, List, [], ◌∷◌, ◌++◌, map, Option, Some, None, refl, sym, ◌∙◌, ap, subst, arith, option_and_then, encode_utf8_all, none-some}
 use Rattle.rl_tokens.specs.Skipping.{Skipped}
 use Rattle.rl_tokens.specs.Lexemes.{Lexeme, lexeme_text, IsLexeme, LexemeForm, form_of}
 use Rattle.rl_tokens.specs.Mirrors.LexemeAt.{lexeme_at}

@@ -1,10 +1,6 @@
 -- Why no lexeme begins what is left of a text, and that this is the text's first error.
-use Rattle.std.proofs.Common.{◌≡◌, ◌≢◌, ℕ, ◌+◌, ◌-◌, ◌<◌, Bool, true, false, ◌||◌, ◌==◌, List, [], length, Option, Some, None, refl, sym, ◌∙◌, ap, subst, arith}
-use Rattle.std.proofs.lemmas.Str.{encodes-chars}
-use Rattle.std.proofs.lemmas.Bool.Decides.{nat_tests}
-use Rattle.std.specs.Option.{IfNone, is_some}
-use Rattle.std.specs.Prelude.{codes, if◌then◌else◌}
-use Rattle.std.specs.Str.{chars, IsUtf8, encode_utf8_all}
+use Rattle.rl_tokens.proofs.Common.{◌≡◌, ◌≢◌, ℕ, ◌+◌, ◌-◌, ◌<◌, Bool, true, false, ◌||◌, ◌==◌, List, [], length, Option, Some, None, refl, sym, ◌∙◌, ap, subst, arith, or_from, encodes-chars, nat_tests, IfNone, codes, if◌then◌else◌, chars, IsUtf8, encode_utf8_all}
+use Rattle.std.specs.Option.{is_some}
 use Rattle.rl_tokens.specs.declared.lex_error.LexKind.{LexKind}
 use Rattle.rl_tokens.specs.declared.lex_error.LexKind.TheVariants.{DocComment, UnclosedComment, UnclosedQuote, Lifetime, RawIdentifier, StrayCharacter, UnmatchedClose, UnclosedGroup, TooDeep, Memory}
 use Rattle.rl_tokens.specs.declared.lex_error.LexError.{LexError}
@@ -26,9 +22,6 @@ pub rest_place : (text rest : List ℕ) (at : ℕ) → IsUtf8 text → IsUtf8 re
 rest_place text rest at is is_rest place = omega (arith, char_len text is, char_len rest is_rest, place)
 
 -- no lexeme begins the rest
-or_none : (a b : Bool) → a ≡ false → b ≡ false → (a || b) ≡ false
-or_none a b p q = ap (λ x. x || b) p ∙ q
-
 kind_here : (groups : List OpenGroup) (r : List ℕ) → r ≢ [] → BeginsNoLexeme r → ErrorAt (error_kind r) groups r
 kind_here groups r some none =
     go (begins_doc_comment r) (begins (codes "/*") r) (begins_quote r) (begins_lifetime r) (begins_raw_identifier r) refl refl refl refl refl
@@ -42,7 +35,7 @@ kind_here groups r some none =
     go false false false false false a b c d e = (some, none, no_quote_begins r c, none_of_these a b d e)
       where
         none_of_these : begins_doc_comment r ≡ false → begins (codes "/*") r ≡ false → begins_lifetime r ≡ false → begins_raw_identifier r ≡ false → (begins_doc_comment r || begins (codes "/*") r || begins_lifetime r || begins_raw_identifier r) ≡ false
-        none_of_these a b d e = or_none _ _ (or_none _ _ (or_none _ _ a b) d) e
+        none_of_these a b d e = or_from _ _ (or_from _ _ (or_from _ _ a b) d) e
 
 pub error_rejects : (t : List ℕ) (k : LexKind) (at : ℕ) → HasFirstError t k at → Rejects t k at
 error_rejects t DocComment at h = h

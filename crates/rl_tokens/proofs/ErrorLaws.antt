@@ -1,7 +1,5 @@
 -- Where an error stands no token goes on, and it is one error.
-use Rattle.std.proofs.Common.{◌≡◌, ◌≢◌, ℕ, Bool, true, false, not, ◌&&◌, ◌||◌, ◌==◌, cond, List, [], ◌∷◌, ◌++◌, length, slice_index, Option, Some, None, refl, sym, ◌∙◌, ap, subst, lit<}
-use Rattle.std.proofs.lemmas.Option.{none-some}
-use Rattle.std.specs.Prelude.{codes, nat_lt, if◌then◌else◌}
+use Rattle.rl_tokens.proofs.Common.{◌≡◌, ◌≢◌, ℕ, Bool, true, false, not, ◌&&◌, ◌||◌, ◌==◌, cond, List, [], ◌∷◌, ◌++◌, length, slice_index, Option, Some, None, refl, sym, ◌∙◌, ap, subst, lit<, and_parts, or_parts, none-some, codes, nat_lt, if◌then◌else◌}
 use Rattle.rl_tokens.specs.declared.lex_error.LexKind.{LexKind}
 use Rattle.rl_tokens.specs.declared.lex_error.LexKind.TheVariants.{DocComment, UnclosedComment, UnclosedQuote, Lifetime, RawIdentifier, StrayCharacter, UnmatchedClose, UnclosedGroup, TooDeep, Memory}
 use Rattle.rl_tokens.specs.Texts.{is_among, first_passes, begins}
@@ -12,9 +10,9 @@ use Rattle.rl_tokens.specs.Lexing.{OpenGroup, is_opener, is_closer, closes, popp
 use Rattle.rl_tokens.specs.Mirrors.TreeBuilders.{error_kind}
 use Rattle.rl_tokens.proofs.Comments.{false_unless, same_Some}
 use Rattle.rl_tokens.proofs.Pieces.{is_equal}
-use Rattle.rl_tokens.proofs.LexemeRows.{both_true, not_true, not_among}
+use Rattle.rl_tokens.proofs.LexemeRows.{not_true, not_among}
 use Rattle.rl_tokens.proofs.LexemeFronts.{lexeme_at-past, start_ascii, front_delimiter, class47, at_class, among}
-use Rattle.rl_tokens.proofs.LexemeOpeners.{quote_here, no_quote_here, raw_split}
+use Rattle.rl_tokens.proofs.LexemeOpeners.{quote_here, no_quote_here, raw_split, passes_split}
 use Rattle.rl_tokens.proofs.LexemeFound.{lexeme_at-found}
 use Rattle.rl_tokens.proofs.CutLaws.{IsStuck}
 
@@ -91,14 +89,10 @@ closer_among c h = (among (codes ")]}") (is_among delimiters) c refl h, not_true
 opener_among : (c : ℕ) → is_opener c ≡ true → is_among delimiters c ≡ true
 opener_among c h = among (codes "([{") (is_among delimiters) c refl h
 
-first_passed : (test : ℕ → Bool) (r : List ℕ) → first_passes test r ≡ true → (c : ℕ) × (t : List ℕ) × (r ≡ c ∷ t) × (test c ≡ true)
-first_passed test [] h = absurd (cc)
-first_passed test (c ∷ t) h = (c, t, refl, h)
-
 close_stuck : (groups : List OpenGroup) (r : List ℕ) → first_passes (λ c. is_closer c && not (closes groups c)) r ≡ true → IsStuck groups r
 close_stuck groups r h =
-    let (c, t, same, is) = first_passed (λ c. is_closer c && not (closes groups c)) r h in
-    let k : (is_closer c ≡ true) × (not (closes groups c) ≡ true) = both_true (is_closer c) (not (closes groups c)) is in
+    let (c, t, same, is) = passes_split (λ c. is_closer c && not (closes groups c)) r h in
+    let k : (is_closer c ≡ true) × (not (closes groups c) ≡ true) = and_parts (is_closer c) (not (closes groups c)) is in
     let m = closer_among c k.0 in
     subst (λ (x : List ℕ). IsStuck groups x) (sym same)
     (delimiter_stuck groups c t m.0 (λ at.
@@ -107,7 +101,7 @@ close_stuck groups r h =
 
 deep_stuck : (groups : List OpenGroup) (r : List ℕ) → first_passes is_opener r ≡ true → length groups ≡ 128 → IsStuck groups r
 deep_stuck groups r h n =
-    let (c, t, same, is) = first_passed is_opener r h in
+    let (c, t, same, is) = passes_split is_opener r h in
     subst (λ (x : List ℕ). IsStuck groups x) (sym same)
     (delimiter_stuck groups c t (opener_among c is) (λ at.
     ap (λ b. if b then (if nat_lt (length groups) 128 then Some (record { opener = c; at = at } ∷ groups) else None) else (if closes groups c then Some (popped groups) else None)) is
@@ -174,8 +168,8 @@ chosen_kind r doc block quote life raw a b c d e =
 life_split : (r : List ℕ) → begins_lifetime r ≡ true → (d : ℕ) × (u : List ℕ) × (r ≡ 39 ∷ d ∷ u) × (is_start d ≡ true)
 life_split [] h = absurd (cc)
 life_split (c ∷ cs) h =
-    let k : ((c == 39) ≡ true) × (first_passes is_start cs ≡ true) = both_true (c == 39) (first_passes is_start cs) h in
-    let (d, u, same, is) = first_passed is_start cs k.1 in
+    let k : ((c == 39) ≡ true) × (first_passes is_start cs ≡ true) = and_parts (c == 39) (first_passes is_start cs) h in
+    let (d, u, same, is) = passes_split is_start cs k.1 in
     (d, u, ap (λ x. x ∷ cs) (is_equal c 39 k.0) ∙ ap (λ x. 39 ∷ x) same, is)
 
 life_no_quote : (r : List ℕ) → begins_lifetime r ≡ true → begins_quote r ≡ false
@@ -216,15 +210,11 @@ raw_kind r none h =
     raw_at_slash : (d : ℕ) (u : List ℕ) → begins_raw_identifier (47 ∷ d ∷ u) ≡ false
     raw_at_slash d u = refl
 
-or_false : (a b : Bool) → (a || b) ≡ false → (a ≡ false) × (b ≡ false)
-or_false true b h = absurd (cc)
-or_false false b h = (refl, h)
-
 stray_kind : (r : List ℕ) → r ≢ [] → BeginsNoLexeme r → begins_quote r ≡ false → (begins_doc_comment r || begins (codes "/*") r || begins_lifetime r || begins_raw_identifier r) ≡ false → StrayCharacter ≡ kind_at (lexeme_at r) r
 stray_kind r some none quote h =
-    let e = or_false _ _ h in
-    let d = or_false _ _ e.0 in
-    let b = or_false _ _ d.0 in
+    let e = or_parts _ _ h in
+    let d = or_parts _ _ e.0 in
+    let b = or_parts _ _ d.0 in
     no_lexeme_kind r StrayCharacter (no_lexeme_at r none) some (chosen_kind r false false false false false b.0 b.1 quote d.1 e.1)
 
 delimiter_kind : (k : LexKind) (c : ℕ) (t r : List ℕ) → r ≡ c ∷ t → is_among delimiters c ≡ true → kind_by_form (DelimiterForm c) ≡ k → k ≡ kind_at (lexeme_at r) r
@@ -232,13 +222,13 @@ delimiter_kind k c t r same is e = sym (ap (λ o. kind_at o r) (ap lexeme_at sam
 
 close_kind : (groups : List OpenGroup) (r : List ℕ) → first_passes (λ c. is_closer c && not (closes groups c)) r ≡ true → UnmatchedClose ≡ kind_at (lexeme_at r) r
 close_kind groups r h =
-    let (c, t, same, is) = first_passed (λ c. is_closer c && not (closes groups c)) r h in
-    let m = closer_among c (both_true (is_closer c) (not (closes groups c)) is).0 in
+    let (c, t, same, is) = passes_split (λ c. is_closer c && not (closes groups c)) r h in
+    let m = closer_among c (and_parts (is_closer c) (not (closes groups c)) is).0 in
     delimiter_kind UnmatchedClose c t r same m.0 (ap (λ b. if b then TooDeep else UnmatchedClose) m.1)
 
 deep_kind : (r : List ℕ) → first_passes is_opener r ≡ true → TooDeep ≡ kind_at (lexeme_at r) r
 deep_kind r h =
-    let (c, t, same, is) = first_passed is_opener r h in
+    let (c, t, same, is) = passes_split is_opener r h in
     delimiter_kind TooDeep c t r same (opener_among c is) (ap (λ b. if b then TooDeep else UnmatchedClose) is)
 
 pub error_kind_at : (k : LexKind) (groups : List OpenGroup) (r : List ℕ) → ErrorAt k groups r → k ≡ kind_at (lexeme_at r) r

@@ -1,5 +1,6 @@
 -- What is proved of single tokens: at most one begins a text, and one that isn't a mark stays one before a gap.
-use Rattle.std.specs.Prelude.{◌≡◌, ◌||◌, ◌==◌, ℕ, List, [], ◌∷◌, ◌++◌, IsTrue, ⊤}
+use Rattle.rl_tokens.proofs.Common.{IsTrue, ⊤}
+use Rattle.std.specs.Prelude.{◌≡◌, ◌||◌, ◌==◌, ℕ, List, [], ◌∷◌, ◌++◌}
 use Rattle.rl_tokens.specs.Texts.{is_white}
 use Rattle.rl_tokens.specs.Lexemes.{Lexeme, MarkLexeme, IsLexeme, LexemeWith}
 

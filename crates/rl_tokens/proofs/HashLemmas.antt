@@ -1,8 +1,6 @@
 -- Rows of hashes, as raw literals have them.
-use Rattle.std.proofs.Common.{◌≡◌, ◌≢◌, ℕ, suc, zero, Bool, true, false, ◌&&◌, ◌==◌, cond, List, [], ◌∷◌, ◌++◌, length, drop, replicate, refl, sym, ◌∙◌, ap}
-use Rattle.std.proofs.lemmas.Bool.{and_parts}
-use Rattle.std.proofs.lemmas.List.{append_cancel_right, length-replicate}
-use Rattle.std.specs.List.{list_all}
+use Rattle.rl_tokens.proofs.Common.{◌≡◌, ◌≢◌, ℕ, suc, zero, Bool, true, false, ◌&&◌, ◌==◌, cond, List, [], ◌∷◌, ◌++◌, length, drop, replicate, refl, sym, ◌∙◌, ap, and_parts, append_cancel_right, list_all}
+use Rattle.std.proofs.lemmas.List.{length-replicate}
 use Rattle.rl_tokens.specs.Classes.{is_hash, after_run}
 use Rattle.rl_tokens.specs.Lexemes.{begins_hashes}
 use Rattle.rl_tokens.specs.Mirrors.LexemeAt.{hashes}

@@ -1,18 +1,11 @@
 -- From the mask of sixteen bytes to the run of bytes that pass a test.
-use Rattle.std.proofs.Common.{◌≡◌, ℕ, ◌+◌, ◌*◌, ◌%◌, ◌^◌, ◌<◌, ◌≤◌, ◌||◌, ◌&&◌, nat_eq, nat_lt, nat_le, Bool, true, false, not, cond, eqb, List, [], ◌∷◌, map, length, drop, refl, sym, ap, ap₂, ◌∙◌, arith}
-use Rattle.std.proofs.lemmas.Simd.{chunk-drop, length-chunk, leading_from_mask_l, trailing_mask_l, mask_l-mod}
-use Rattle.std.proofs.lemmas.List.{length-map}
+use Rattle.rl_tokens.proofs.Common.{◌≡◌, ℕ, ◌+◌, ◌*◌, ◌%◌, ◌^◌, ◌<◌, ◌≤◌, ◌||◌, ◌&&◌, nat_le, Bool, true, false, not, cond, eqb, List, [], ◌∷◌, map, length, drop, refl, sym, ap, ap₂, ◌∙◌, arith, length-chunk, mask_l-mod, length-map, prefix_len-le-length, eq-eqb, ne_eqb, nat_tests, prefix_len, bit_or, chunk, mask_l, zip2, top, count_trailing_zeros}
+use Rattle.std.proofs.Common.{nat_eq, nat_lt}
+use Rattle.std.proofs.lemmas.Simd.{chunk-drop, leading_from_mask_l, trailing_mask_l}
 use Rattle.std.proofs.lemmas.List.Folds.{prefix_len-append}
-use Rattle.std.proofs.lemmas.List.Sums.{prefix_len-le-length}
-use Rattle.std.proofs.lemmas.Bool.{eq-eqb, ne_eqb}
-use Rattle.std.proofs.lemmas.Bool.Decides.{nat_tests}
-use Rattle.std.specs.List.{prefix_len}
 use Rattle.rl_tokens.specs.declared.scan.Marks.{Marks}
 use Rattle.rl_tokens.specs.Scanning.{is_one_of}
 use Rattle.rl_tokens.specs.Mirrors.StopsAt.{goes_on, stops}
-use lib.Bits.{bit_or}
-use lib.Lanes.{chunk, mask_l, zip2, top}
-use lib.Count.{count_trailing_zeros}
 
 -- ---- lanes that are all ones where a test holds, and else 0
 

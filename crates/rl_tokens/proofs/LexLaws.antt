@@ -1,5 +1,5 @@
 -- A text has one list of trees at most, or one first error, and never both.
-use Rattle.std.proofs.Common.{◌≡◌, ℕ, List, [], refl, sym, ◌∙◌, ap, subst, arith}
+use Rattle.rl_tokens.proofs.Common.{◌≡◌, ℕ, List, [], refl, sym, ◌∙◌, ap, subst, arith}
 use Rattle.rl_tokens.specs.Mirrors.LexemeAt.{lexeme_at}
 use Rattle.rl_tokens.specs.Texts.{byte_len}
 use Rattle.rl_tokens.specs.Lexing.{OpenGroup, ErrorAt, error_place, OneList, OneError, NeverBoth}

@@ -1,10 +1,5 @@
 -- What the lexer's loop keeps.
-use Rattle.std.proofs.Common.{◌≡◌, ℕ, ◌+◌, inl, inr, true, not, ◌&&◌, ◌||◌, ◌==◌, List, [], ◌∷◌, ◌++◌, length, map, Some, refl, sym, ◌∙◌, ap, subst, arith}
-use Rattle.std.proofs.lemmas.List.{map-append}
-use Rattle.std.proofs.lemmas.Str.{encode_ascii}
-use Rattle.std.specs.List.{list_all}
-use Rattle.std.specs.Str.{chars, encode_utf8_all}
-use Rattle.unicode_ident.specs.Ident.{is_xid_start, is_xid_continue}
+use Rattle.rl_tokens.proofs.Common.{◌≡◌, ℕ, ◌+◌, inl, inr, true, not, ◌&&◌, ◌||◌, ◌==◌, List, [], ◌∷◌, ◌++◌, length, map, Some, refl, sym, ◌∙◌, ap, subst, arith, and_parts, map-append, encode_ascii, list_all, chars, encode_utf8_all, is_xid_start, is_xid_continue}
 use Rattle.rl_tokens.specs.Texts.{is_white, xid_ok, IsTail}
 use Rattle.rl_tokens.specs.Skipping.{Skipped}
 use Rattle.rl_tokens.specs.Puncts.{is_punct}
@@ -15,7 +10,6 @@ use Rattle.rl_tokens.specs.declared.cursor.Lexeme.{Lexeme as Borrowed}
 use Rattle.rl_tokens.specs.Lexing.{LexedToken, LexesUpTo, open_groups, after_form, flat_form, flat_token}
 use Rattle.rl_tokens.specs.Mirrors.TreeBuilders.{groups_of, flat_builder, IsFitting, TakesToken}
 use Rattle.rl_tokens.proofs.TailLemmas.{tail_step}
-use Rattle.rl_tokens.proofs.LexemeRows.{both_true}
 use Rattle.rl_tokens.proofs.LexemeFronts.{low_among}
 use Rattle.rl_tokens.proofs.CutLemmas.{open_more}
 use Rattle.rl_tokens.proofs.CursorLemmas.{flat_borrowed}
@@ -31,13 +25,13 @@ pub record HasCut {A : Type 0} (text rest : List ℕ) (file : ℕ) (nest : TreeB
 
 -- what the nest asks of a token
 start_continues : (c : ℕ) → is_start c ≡ true → (c == 95 || is_xid_start c) ≡ true
-start_continues c h = (both_true (c == 95 || is_xid_start c) (not (is_white c)) h).0
+start_continues c h = (and_parts (c == 95 || is_xid_start c) (not (is_white c)) h).0
 
 row_continues : (cs : List ℕ) → list_all is_continue cs ≡ true → list_all is_xid_continue cs ≡ true
 row_continues [] h = refl
 row_continues (c ∷ cs) h =
-    let k : (is_continue c ≡ true) × (list_all is_continue cs ≡ true) = both_true (is_continue c) (list_all is_continue cs) h in
-    ap (λ b. b && list_all is_xid_continue cs) (both_true (is_xid_continue c) (not (is_white c)) k.0).0 ∙ row_continues cs k.1
+    let k : (is_continue c ≡ true) × (list_all is_continue cs ≡ true) = and_parts (is_continue c) (list_all is_continue cs) h in
+    ap (λ b. b && list_all is_xid_continue cs) (and_parts (is_xid_continue c) (not (is_white c)) k.0).0 ∙ row_continues cs k.1
 
 fits : (l : Lexeme) (after token : List ℕ) (lo hi : ℕ) → IsLexeme l after → chars token ≡ lexeme_text l → encode_utf8_all (lexeme_text l) ≡ token → lo + length token ≡ hi → IsFitting (form_of l) token lo hi
 fits (QuotedLexeme p parts x) after token lo hi is e f n = tt

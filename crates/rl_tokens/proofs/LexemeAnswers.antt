@@ -1,8 +1,5 @@
 -- What `lexeme_at` says, in the words of the definitions.
-use Rattle.std.proofs.Common.{◌≡◌, ℕ, ◌++◌, List, Option, Some, None, sym, ◌∙◌, ap, Bor}
-use Rattle.std.specs.Option.{IfSome, IfNone, option_map}
-use Rattle.std.specs.Str.{chars}
-use Rattle.std.proofs.lemmas.Option.{none-some}
+use Rattle.rl_tokens.proofs.Common.{◌≡◌, ℕ, ◌++◌, List, Option, Some, None, sym, ◌∙◌, ap, Bor, IfSome, IfNone, option_map, chars, none-some}
 use Rattle.rl_tokens.specs.declared.lexeme.Form.{Form as FoundForm}
 use Rattle.rl_tokens.specs.Lexemes.{LexemeForm, form_of, LexemeBefore}
 use Rattle.rl_tokens.specs.Cursors.{form_view}

@@ -1,10 +1,6 @@
 -- What `lexeme_at` takes off is a lexeme.
-use Rattle.std.proofs.Common.{◌≡◌, ℕ, suc, zero, ◌<◌, inl, inr, Bool, true, false, not, ◌&&◌, ◌||◌, ◌==◌, cond, List, [], ◌∷◌, ◌++◌, Option, Some, None, slice_index, drop, replicate, refl, sym, ◌∙◌, ap, subst, arith, append_assoc}
-use Rattle.std.specs.List.{list_all}
-use Rattle.std.specs.Prelude.{if◌then◌else◌}
-use Rattle.std.specs.Option.{option_map}
+use Rattle.rl_tokens.proofs.Common.{◌≡◌, ℕ, suc, zero, ◌<◌, inl, inr, Bool, true, false, not, ◌&&◌, ◌||◌, ◌==◌, cond, List, [], ◌∷◌, ◌++◌, Option, Some, None, slice_index, drop, replicate, refl, sym, ◌∙◌, ap, subst, arith, append_assoc, and_parts, or_from, list_all, if◌then◌else◌, option_map, is_ascii_digit, none-some}
 use Rattle.rl_tokens.specs.Texts.{is_underscore, is_among, first_passes, is_row_part}
-use Rattle.std.specs.Char.{is_ascii_digit}
 use Rattle.rl_tokens.specs.Lexemes.{is_base_letter, delimiters, marks, begins_hashes, begins_dot, BodyPart, PlainPart, EscapedPart, body_text, IsBody, CharacterBody, OneCharacter, EscapedCharacter, character_body_text, IsCharacterBody, LexedFraction, NoLexedFraction, LexedDot, lexed_fraction_text, lexed_sign_text, LexedExponent, NoLexedExponent, LexedPower, lexed_exponent_text, IsRow, IsLexedSuffix, IsRawBody, IsLexedFraction, IsLexedExponent, LiteralPrefix, NoPrefix, BytePrefix, CPrefix, prefix_text, Lexeme, QuotedLexeme, RawLexeme, CharacterLexeme, BasedLexeme, DecimalLexeme, IdentifierLexeme, DelimiterLexeme, MarkLexeme, lexeme_text, IsLexeme, LexemeForm, LiteralForm, IdentifierForm, DelimiterForm, MarkForm, form_of, is_start, is_continue}
 use Rattle.rl_tokens.proofs.Comments.{chosen, chosen3, same_Some}
 use Rattle.rl_tokens.proofs.Pieces.{is_equal}
@@ -12,10 +8,9 @@ use Rattle.rl_tokens.specs.Puncts.{is_punct}
 use Rattle.rl_tokens.specs.Mirrors.LexemeAt.{after_suffix, after_quote, hashes, after_raw, after_apostrophe, after_single, after_lexed_fraction, after_lexed_exponent, after_decimal, HeadClass, LetterBHead, LetterCHead, LetterRHead, OtherLetterHead, QuoteHead, ApostropheHead, DigitHead, SlashHead, StrayHead, start_class, other_class, head_class, quoted_at, raw_at, single_at, word_at, by_class, lexeme_at, literal_at, DelimiterHead, MarkHead, after_digit, begins_hashed_quote, begins_exponent, after_sign, begins_otherwise}
 use Rattle.rl_tokens.specs.Classes.{is_hash, after_run}
 use Rattle.rl_tokens.proofs.HashLemmas.{hashes_split, hashes_inside}
-use Rattle.rl_tokens.proofs.LexemeRows.{both_true, power_text}
+use Rattle.rl_tokens.proofs.LexemeRows.{power_text}
 use Rattle.rl_tokens.proofs.LexemeOpeners.{opens_found, sign_found, underscores_found, passes_split, no_exponent_begins, none_otherwise}
 use Rattle.rl_tokens.proofs.LexemeFronts.{decimal_text, raw_text}
-use Rattle.std.proofs.lemmas.Option.{none-some}
 
 -- Rows and suffixes.
 abbrev Row : (ℕ → Bool) → List ℕ → List ℕ → Type 0
@@ -77,7 +72,7 @@ RawBody n t r = (body : List ℕ) × IsRawBody n body × (t ≡ body ++ 34 ∷ (
 
 raw_ends : (n c : ℕ) (t r : List ℕ) → (c == 34 && begins_hashes n t) ≡ true → drop n t ≡ r → RawBody n (c ∷ t) r
 raw_ends n c t r h same =
-    let k : ((c == 34) ≡ true) × (begins_hashes n t ≡ true) = both_true (c == 34) (begins_hashes n t) h in
+    let k : ((c == 34) ≡ true) × (begins_hashes n t ≡ true) = and_parts (c == 34) (begins_hashes n t) h in
     let q : c ≡ 34 = is_equal c 34 k.0 in
     let e : t ≡ replicate n 35 ++ r = hashes_split n t k.1 ∙ ap (λ s. replicate n 35 ++ s) same in
     ([], tt, cc)
@@ -138,7 +133,7 @@ Fractioned t r = (f : LexedFraction) × IsLexedFraction f r × (t ≡ lexed_frac
 
 dot_split : (t : List ℕ) → begins_dot t ≡ true → t ≡ 46 ∷ drop 1 t
 dot_split [] h = absurd (cc)
-dot_split (c ∷ t) h = ap (λ x. x ∷ t) (is_equal c 46 (both_true (c == 46) (not (first_passes (λ d. d == 46 || is_start d) t)) h).0)
+dot_split (c ∷ t) h = ap (λ x. x ∷ t) (is_equal c 46 (and_parts (c == 46) (not (first_passes (λ d. d == 46 || is_start d) t)) h).0)
 
 fraction_step : (t : List ℕ) (b : Bool) → begins_dot t ≡ b → Fractioned t (cond b (after_run (is_row_part is_ascii_digit) (drop 1 t)) t)
 fraction_step t false h = (NoLexedFraction, h, refl)
@@ -175,7 +170,7 @@ exponent_step : (t : List ℕ) (b : Bool) → begins_exponent t ≡ b → Powere
 exponent_step t false h = (NoLexedExponent, no_exponent_begins t h, refl)
 exponent_step [] true h = absurd (cc)
 exponent_step (c ∷ t) true h =
-    let k : ((c == 101 || c == 69) ≡ true) × (first_passes is_ascii_digit (after_run is_underscore (after_sign t)) ≡ true) = both_true (c == 101 || c == 69) (first_passes is_ascii_digit (after_run is_underscore (after_sign t))) h in
+    let k : ((c == 101 || c == 69) ≡ true) × (first_passes is_ascii_digit (after_run is_underscore (after_sign t)) ≡ true) = and_parts (c == 101 || c == 69) (first_passes is_ascii_digit (after_run is_underscore (after_sign t))) h in
     power_found c t k.0 k.1
 
 pub exponent_found : (t : List ℕ) → Powered t (after_lexed_exponent t)
@@ -326,16 +321,13 @@ prefixed k (c ∷ t) h l = ap (λ x. x ∷ t) h
 none3 : (p q r : Bool) → p ≡ false → q ≡ false → r ≡ false → (p || (q || r)) ≡ false
 none3 p q r a b d = ap (λ x. x || (q || r)) a ∙ ap (λ x. x || r) b ∙ d
 
-none2 : (p q : Bool) → p ≡ false → q ≡ false → (p || q) ≡ false
-none2 p q a b = ap (λ x. x || q) a ∙ b
-
 -- a literal whose prefix is one character, after which the text goes on with k
 after_prefix : (c k : ℕ) (t : List ℕ) (p : LexemeForm × List ℕ) → slice_index t 0 ≡ k → 0 < k → Found (c ∷ k ∷ drop 1 t) p → Found (c ∷ t) p
 after_prefix c k t p e l found = subst (λ (s : List ℕ). Found (c ∷ s) p) (sym (prefixed k t e l)) found
 
 raw_tail : (c : ℕ) (prefix : LiteralPrefix) (t : List ℕ) (p : LexemeForm × List ℕ) → prefix_text prefix ≡ c ∷ [] → (slice_index t 0 == 114 && begins_hashed_quote (drop 1 t)) ≡ true → literal_at (raw_at (drop 1 t)) ≡ Some p → Found (c ∷ t) p
 raw_tail c prefix t p e h x =
-    let k : ((slice_index t 0 == 114) ≡ true) × (begins_hashed_quote (drop 1 t) ≡ true) = both_true (slice_index t 0 == 114) (begins_hashed_quote (drop 1 t)) h in
+    let k : ((slice_index t 0 == 114) ≡ true) × (begins_hashed_quote (drop 1 t) ≡ true) = and_parts (slice_index t 0 == 114) (begins_hashed_quote (drop 1 t)) h in
     after_prefix c 114 t p (is_equal (slice_index t 0) 114 k.0) (omega arith)
     (subst (λ (s : List ℕ). Found (s ++ 114 ∷ drop 1 t) p) e
     (literal_from (prefix_text prefix ++ 114 ∷ drop 1 t) (raw_at (drop 1 t)) p x (λ r y. raw_all prefix (drop 1 t) r k.1 y)))
@@ -347,7 +339,7 @@ from_b t p is h =
       | inr (inl (_, a, x)) ↦ after_prefix 98 39 t p (is_equal (slice_index t 0) 39 a) (omega arith) (literal_from (98 ∷ 39 ∷ drop 1 t) (single_at (drop 1 t)) p x (λ r y. character_found true (drop 1 t) r y))
       | inr (inr (a, b, x)) ↦ elim (chosen (slice_index t 0 == 114 && begins_hashed_quote (drop 1 t)) (literal_at (raw_at (drop 1 t))) (word_at t) (Some p) x) [
         | inl (d, y) ↦ raw_tail 98 BytePrefix t p refl d y
-        | inr (d, y) ↦ word_found 98 t p is (none2 (slice_index t 0 == 34 || (slice_index t 0 == 39 || (slice_index t 0 == 114 && begins_hashed_quote (drop 1 t)))) false (none3 (slice_index t 0 == 34) (slice_index t 0 == 39) (slice_index t 0 == 114 && begins_hashed_quote (drop 1 t)) a b d) refl) y
+        | inr (d, y) ↦ word_found 98 t p is (or_from (slice_index t 0 == 34 || (slice_index t 0 == 39 || (slice_index t 0 == 114 && begins_hashed_quote (drop 1 t)))) false (none3 (slice_index t 0 == 34) (slice_index t 0 == 39) (slice_index t 0 == 114 && begins_hashed_quote (drop 1 t)) a b d) refl) y
       ]
     ]
 
@@ -356,7 +348,7 @@ from_c t p is h =
     elim (chosen3 (slice_index t 0 == 34) (slice_index t 0 == 114 && begins_hashed_quote (drop 1 t)) (literal_at (quoted_at (drop 1 t))) (literal_at (raw_at (drop 1 t))) (word_at t) (Some p) h) [
       | inl (a, x) ↦ after_prefix 99 34 t p (is_equal (slice_index t 0) 34 a) (omega arith) (literal_from (99 ∷ 34 ∷ drop 1 t) (quoted_at (drop 1 t)) p x (λ r y. quoted_found CPrefix (drop 1 t) r y))
       | inr (inl (_, d, y)) ↦ raw_tail 99 CPrefix t p refl d y
-      | inr (inr (a, d, y)) ↦ word_found 99 t p is (none2 (slice_index t 0 == 34 || (slice_index t 0 == 114 && begins_hashed_quote (drop 1 t))) false (none2 (slice_index t 0 == 34) (slice_index t 0 == 114 && begins_hashed_quote (drop 1 t)) a d) refl) y
+      | inr (inr (a, d, y)) ↦ word_found 99 t p is (or_from (slice_index t 0 == 34 || (slice_index t 0 == 114 && begins_hashed_quote (drop 1 t))) false (or_from (slice_index t 0 == 34) (slice_index t 0 == 114 && begins_hashed_quote (drop 1 t)) a d) refl) y
     ]
 
 from_r : (t : List ℕ) (p : LexemeForm × List ℕ) → is_start 114 ≡ true → by_class LetterRHead 114 t ≡ Some p → Found (114 ∷ t) p
@@ -364,7 +356,7 @@ from_r t p is h =
     elim (chosen3 (begins_hashed_quote t) (slice_index t 0 == 35 && first_passes is_start (drop 1 t)) (literal_at (raw_at t)) None (word_at t) (Some p) h) [
       | inl (a, x) ↦ literal_from (114 ∷ t) (raw_at t) p x (λ r y. raw_all NoPrefix t r a y)
       | inr (inl (_, d, y)) ↦ absurd (none-some p y)
-      | inr (inr (a, d, y)) ↦ word_found 114 t p is (none2 (begins_hashed_quote t) (slice_index t 0 == 35 && first_passes is_start (drop 1 t)) a d) y
+      | inr (inr (a, d, y)) ↦ word_found 114 t p is (or_from (begins_hashed_quote t) (slice_index t 0 == 35 && first_passes is_start (drop 1 t)) a d) y
     ]
 
 letter_otherwise : (c : ℕ) (t : List ℕ) → (c == 98) ≡ false → (c == 99) ≡ false → (c == 114) ≡ false → begins_otherwise (c ∷ t) ≡ false
@@ -372,7 +364,7 @@ letter_otherwise c t p q r = none3 (c == 98 && (slice_index t 0 == 34 || (slice_
 
 digit_found : (c : ℕ) (t : List ℕ) (b : Bool) → is_ascii_digit c ≡ true → (c == 48 && first_passes is_base_letter t) ≡ b → FoundLiteral (c ∷ t) (cond b (after_run is_continue (drop 1 t)) (after_decimal t))
 digit_found c t false is h = decimal_found c t is h
-digit_found c t true is h = based_found t (both_true (c == 48) (first_passes is_base_letter t) h).1 (is_equal c 48 (both_true (c == 48) (first_passes is_base_letter t) h).0)
+digit_found c t true is h = based_found t (and_parts (c == 48) (first_passes is_base_letter t) h).1 (is_equal c 48 (and_parts (c == 48) (first_passes is_base_letter t) h).0)
   where
     based_found : (t : List ℕ) → first_passes is_base_letter t ≡ true → c ≡ 48 → FoundLiteral (c ∷ t) (after_run is_continue (drop 1 t))
     based_found [] a zero_is = absurd (cc)

@@ -1,11 +1,5 @@
 -- A lexeme is what `lexeme_at` takes off, so at most one front of a text is a lexeme with the rest.
-use Rattle.std.proofs.Common.{◌≡◌, ℕ, ◌<◌, inl, inr, Bool, true, false, not, ◌&&◌, ◌||◌, ◌==◌, cond, List, [], ◌∷◌, ◌++◌, Option, Some, None, slice_index, drop, replicate, refl, sym, ◌∙◌, ap, subst, arith, append_assoc, lit<}
-use Rattle.std.proofs.lemmas.Bool.Decides.{nat_tests}
-use Rattle.std.specs.List.{list_all}
-use Rattle.std.specs.Prelude.{IsTrue, nat_lt}
-use Rattle.std.specs.Char.{is_ascii_alphabetic, is_ascii_digit}
-use Rattle.std.specs.Option.{option_map}
-use Rattle.unicode_ident.proofs.IdentLemmas.{is_xid_start-ascii}
+use Rattle.rl_tokens.proofs.Common.{◌≡◌, ℕ, ◌<◌, inl, inr, Bool, true, false, not, ◌&&◌, ◌||◌, ◌==◌, cond, List, [], ◌∷◌, ◌++◌, Option, Some, None, slice_index, drop, replicate, refl, sym, ◌∙◌, ap, subst, arith, append_assoc, lit<, and_parts, or_parts, nat_tests, list_all, IsTrue, nat_lt, is_ascii_alphabetic, is_ascii_digit, option_map, is_xid_start-ascii, append_cancel_right}
 use Rattle.rl_tokens.specs.Texts.{is_white, is_among, first_passes, is_row_part}
 use Rattle.rl_tokens.specs.Lexemes.{BeginsOtherwise, is_base_letter, delimiters, marks, BodyPart, body_text, IsBody, CharacterBody, character_body_text, IsCharacterBody, LexedFraction, lexed_fraction_text, LexedExponent, lexed_exponent_text, IsRow, IsLexedSuffix, IsRawBody, LiteralPrefix, NoPrefix, BytePrefix, CPrefix, Lexeme, QuotedLexeme, RawLexeme, CharacterLexeme, BasedLexeme, DecimalLexeme, IdentifierLexeme, DelimiterLexeme, MarkLexeme, lexeme_text, IsLexeme, LexemeForm, LiteralForm, IdentifierForm, DelimiterForm, MarkForm, form_of, is_start, is_continue}
 use Rattle.rl_tokens.proofs.Gaps.{OneLexeme}
@@ -14,10 +8,9 @@ use Rattle.rl_tokens.proofs.Pieces.{is_equal}
 use Rattle.rl_tokens.specs.Puncts.{is_punct}
 use Rattle.rl_tokens.specs.Mirrors.LexemeAt.{after_suffix, after_raw, after_lexed_fraction, after_lexed_exponent, after_decimal, HeadClass, LetterBHead, LetterCHead, LetterRHead, OtherLetterHead, QuoteHead, ApostropheHead, DigitHead, SlashHead, StrayHead, start_class, other_class, head_class, quoted_at, raw_at, single_at, word_at, by_class, lexeme_at, literal_at, DelimiterHead, MarkHead, begins_hashed_quote, begins_otherwise}
 use Rattle.rl_tokens.specs.Classes.{is_hash, after_run}
-use Rattle.rl_tokens.proofs.LexemeRows.{both_true, not_true, run_past, suffix_past, quote_past, raw_past, single_past, fraction_past, not_among}
+use Rattle.rl_tokens.proofs.LexemeRows.{not_true, run_past, suffix_past, quote_past, raw_past, single_past, fraction_past, not_among}
 use Rattle.rl_tokens.proofs.HashLemmas.{hashes_count, hashes_past}
 use Rattle.rl_tokens.proofs.LexemeOpeners.{raw_opens_here, exponent_past, no_otherwise}
-use Rattle.std.proofs.lemmas.List.{append_cancel_right}
 
 -- Heads: the first character alone.
 pub class_other : (c : ℕ) → is_start c ≡ false → head_class c ≡ other_class c
@@ -36,10 +29,10 @@ start_ascii c l = ap (λ b. (c == 95 || b) && not (is_white c)) (is_xid_start-as
 -- What each of the codes passes, the one of them passes.
 pub among : (codes : List ℕ) (test : ℕ → Bool) (c : ℕ) → list_all test codes ≡ true → is_among codes c ≡ true → test c ≡ true
 among [] test c all is = absurd (cc)
-among (k ∷ codes) test c all is = go (c == k) refl is (among codes test c (both_true (test k) (list_all test codes) all).1)
+among (k ∷ codes) test c all is = go (c == k) refl is (among codes test c (and_parts (test k) (list_all test codes) all).1)
   where
     go : (b : Bool) → (c == k) ≡ b → (b || is_among codes c) ≡ true → (is_among codes c ≡ true → test c ≡ true) → test c ≡ true
-    go true e h more = subst (λ (x : ℕ). test x ≡ true) (sym (is_equal c k e)) (both_true (test k) (list_all test codes) all).0
+    go true e h more = subst (λ (x : ℕ). test x ≡ true) (sym (is_equal c k e)) (and_parts (test k) (list_all test codes) all).0
     go false e h more = more h
 
 pub low_among : (codes : List ℕ) (c : ℕ) → list_all (λ k. nat_lt k 128) codes ≡ true → is_among codes c ≡ true → c < 128
@@ -166,7 +159,7 @@ digit_low d is = grind (arith, nat_tests)
 
 digit_no_start : (d : ℕ) → is_ascii_digit d ≡ true → ascii_start d ≡ true → ⊥
 digit_no_start d is h =
-    let k : (d == 95 || is_ascii_alphabetic d) ≡ true = (both_true (d == 95 || is_ascii_alphabetic d) (not (is_white d)) h).0 in
+    let k : (d == 95 || is_ascii_alphabetic d) ≡ true = (and_parts (d == 95 || is_ascii_alphabetic d) (not (is_white d)) h).0 in
     grind (arith, nat_tests)
 
 pub digit_not_start : (d : ℕ) → is_ascii_digit d ≡ true → is_start d ≡ false
@@ -210,16 +203,12 @@ none_of2 true q x y w h = absurd (cc)
 none_of2 false true x y w h = absurd (cc)
 none_of2 false false x y w h = refl
 
-pub or_false : (a b : Bool) → (a || b) ≡ false → (a ≡ false) × (b ≡ false)
-or_false true b h = absurd (cc)
-or_false false b h = (refl, h)
-
 word_class : (c : ℕ) (u : List ℕ) → begins_otherwise (c ∷ u) ≡ false → by_class (start_class c) c u ≡ word_at u
 word_class c u h = go (c == 98) (c == 99) (c == 114) h
   where
     go : (a b r : Bool) → ((a && (slice_index u 0 == 34 || (slice_index u 0 == 39 || (slice_index u 0 == 114 && begins_hashed_quote (drop 1 u))))) || ((b && (slice_index u 0 == 34 || (slice_index u 0 == 114 && begins_hashed_quote (drop 1 u)))) || (r && (begins_hashed_quote u || (slice_index u 0 == 35 && first_passes is_start (drop 1 u)))))) ≡ false → by_class (cond a LetterBHead (cond b LetterCHead (cond r LetterRHead OtherLetterHead))) c u ≡ word_at u
-    go true b r h = none_of3 (slice_index u 0 == 34) (slice_index u 0 == 39) (slice_index u 0 == 114 && begins_hashed_quote (drop 1 u)) (literal_at (quoted_at (drop 1 u))) (literal_at (single_at (drop 1 u))) (literal_at (raw_at (drop 1 u))) (word_at u) (or_false _ _ h).0
-    go false true r h = none_of2 (slice_index u 0 == 34) (slice_index u 0 == 114 && begins_hashed_quote (drop 1 u)) (literal_at (quoted_at (drop 1 u))) (literal_at (raw_at (drop 1 u))) (word_at u) (or_false _ _ h).0
+    go true b r h = none_of3 (slice_index u 0 == 34) (slice_index u 0 == 39) (slice_index u 0 == 114 && begins_hashed_quote (drop 1 u)) (literal_at (quoted_at (drop 1 u))) (literal_at (single_at (drop 1 u))) (literal_at (raw_at (drop 1 u))) (word_at u) (or_parts _ _ h).0
+    go false true r h = none_of2 (slice_index u 0 == 34) (slice_index u 0 == 114 && begins_hashed_quote (drop 1 u)) (literal_at (quoted_at (drop 1 u))) (literal_at (raw_at (drop 1 u))) (word_at u) (or_parts _ _ h).0
     go false false true h = none_of2 (begins_hashed_quote u) (slice_index u 0 == 35 && first_passes is_start (drop 1 u)) (literal_at (raw_at u)) None (word_at u) h
     go false false false h = refl
 

@@ -1,16 +1,11 @@
 -- A lexeme but a mark stays one before a gap and at the end.
-use Rattle.std.proofs.Common.{◌≡◌, ℕ, ◌<◌, Bool, true, false, not, ◌&&◌, ◌||◌, ◌==◌, cond, List, [], ◌∷◌, ◌++◌, slice_index, drop, replicate, refl, sym, ◌∙◌, ap, subst, arith, append_assoc, lit<}
-use Rattle.std.proofs.lemmas.Bool.Decides.{nat_tests}
-use Rattle.std.specs.List.{list_all}
-use Rattle.unicode_ident.specs.Ident.{is_xid_start, is_xid_continue}
-use Rattle.std.specs.Char.{is_ascii_alphanumeric, is_ascii_digit}
-use Rattle.unicode_ident.proofs.IdentLemmas.{is_xid_continue-ascii}
+use Rattle.rl_tokens.proofs.Common.{◌≡◌, ℕ, ◌<◌, Bool, true, false, not, ◌&&◌, ◌||◌, ◌==◌, cond, List, [], ◌∷◌, ◌++◌, slice_index, drop, replicate, refl, sym, ◌∙◌, ap, subst, arith, append_assoc, lit<, and_parts, nat_tests, list_all, is_xid_start, is_xid_continue, is_ascii_alphanumeric, is_ascii_digit, is_xid_continue-ascii}
 use Rattle.rl_tokens.specs.Texts.{is_white, is_underscore, first_passes, is_row_part}
 use Rattle.rl_tokens.specs.Lexemes.{is_base_letter, begins_dot, LexedFraction, NoLexedFraction, LexedDot, lexed_fraction_text, lexed_sign_text, LexedExponent, NoLexedExponent, LexedPower, lexed_exponent_text, IsRow, IsLexedSuffix, IsLexedFraction, IsLexedExponent, QuotedLexeme, RawLexeme, CharacterLexeme, BasedLexeme, DecimalLexeme, IdentifierLexeme, DelimiterLexeme, MarkLexeme, IsLexeme, is_start, is_continue}
 use Rattle.rl_tokens.proofs.Gaps.{BeginsGap, StaysBeforeGap}
 use Rattle.rl_tokens.proofs.Comments.{false_unless}
 use Rattle.rl_tokens.proofs.Pieces.{is_equal}
-use Rattle.rl_tokens.proofs.LexemeRows.{both_true, not_true, not_among}
+use Rattle.rl_tokens.proofs.LexemeRows.{not_true, not_among}
 use Rattle.rl_tokens.proofs.LexemeOpeners.{no_exponent_here, no_exponent_begins, none_otherwise}
 use Rattle.rl_tokens.proofs.LexemeFronts.{start_ascii}
 use Rattle.rl_tokens.specs.Mirrors.LexemeAt.{begins_hashed_quote, begins_exponent, after_sign, begins_otherwise}
@@ -112,7 +107,7 @@ exponent_gap (c ∷ []) after gap is (h, r) e =
     ∙ ap (λ b. (c == 101 || c == 69) && b) (run_gap is_underscore is_ascii_digit [] [] gap underscore_solid digit_solid is refl)
     ∙ and_false (c == 101 || c == 69)
 exponent_gap (c ∷ p ∷ q) after gap is (h, r) e =
-    let k : is_continue p ≡ true = (both_true (is_continue p) (list_all is_continue q) r.each).0 in
+    let k : is_continue p ≡ true = (and_parts (is_continue p) (list_all is_continue q) r.each).0 in
     let a : (p == 43) ≡ false = not_among p 43 is_continue k (continue_ascii 43 (lit< tt)) in
     let b : (p == 45) ≡ false = not_among p 45 is_continue k (continue_ascii 45 (lit< tt)) in
     ap (λ s. (c == 101 || c == 69) && first_passes is_ascii_digit (after_run is_underscore s)) (no_sign p (q ++ gap) a b)
@@ -130,7 +125,7 @@ dot_gap NoLexedExponent [] after (c ∷ t) is ie suffix = not_dot c t (code_soli
 dot_gap NoLexedExponent (c ∷ x) after gap is ie (h, r) = not_dot c (x ++ gap) (not_among c 46 is_start h (start_ascii 46 (lit< tt)))
 dot_gap (LexedPower letter s n d more) x after gap is (il, id, row) suffix = not_dot letter (lexed_sign_text s ++ (replicate n 95 ++ d ∷ more) ++ (x ++ gap)) (not_among letter 46 (λ c. c == 101 || c == 69) il refl)
 
-assoc3 : (f e x t : List ℕ) → (f ++ (e ++ x)) ++ t ≡ f ++ (e ++ (x ++ t))
+pub assoc3 : (f e x t : List ℕ) → (f ++ (e ++ x)) ++ t ≡ f ++ (e ++ (x ++ t))
 assoc3 f e x t = simp append_assoc
 
 assoc2 : (e x t : List ℕ) → (e ++ x) ++ t ≡ e ++ (x ++ t)
@@ -171,13 +166,13 @@ decimal_gap d more f e x after gap is (id, not_based, row, fraction, exponent, s
 hash_none : (k : ℕ) (x gap : List ℕ) → list_all is_continue x ≡ true → BeginsGap gap → Solid (λ c. c == k) → is_continue k ≡ false → (0 == k) ≡ false → (slice_index (x ++ gap) 0 == k) ≡ false
 hash_none k [] [] row is solid no_cont z = z
 hash_none k [] (c ∷ t) row is solid no_cont z = solid c is
-hash_none k (c ∷ x) gap row is solid no_cont z = not_among c k is_continue (both_true (is_continue c) (list_all is_continue x) row).0 no_cont
+hash_none k (c ∷ x) gap row is solid no_cont z = not_among c k is_continue (and_parts (is_continue c) (list_all is_continue x) row).0 no_cont
 
 raw_none : (x gap : List ℕ) → list_all is_continue x ≡ true → BeginsGap gap → begins_hashed_quote (x ++ gap) ≡ false
 raw_none [] [] row is = refl
 raw_none [] (c ∷ t) row is = ap (λ b. slice_index (cond b (after_run is_hash t) (c ∷ t)) 0 == 34) (code_solid 35 refl refl c is) ∙ code_solid 34 refl refl c is
 raw_none (c ∷ x) gap row is =
-    let k : is_continue c ≡ true = (both_true (is_continue c) (list_all is_continue x) row).0 in
+    let k : is_continue c ≡ true = (and_parts (is_continue c) (list_all is_continue x) row).0 in
     ap (λ b. slice_index (cond b (after_run is_hash (x ++ gap)) (c ∷ x ++ gap)) 0 == 34) (not_among c 35 is_continue k (continue_ascii 35 (lit< tt)))
     ∙ not_among c 34 is_continue k (continue_ascii 34 (lit< tt))
 
@@ -203,7 +198,7 @@ none_of a b r x y z v w p q s t u =
 second_raw : (more gap : List ℕ) → list_all is_continue more ≡ true → BeginsGap gap → (slice_index (more ++ gap) 0 == 114 && begins_hashed_quote (drop 1 (more ++ gap))) ≡ false
 second_raw [] [] row is = refl
 second_raw [] (c ∷ t) row is = ap (λ b. b && begins_hashed_quote t) (code_solid 114 refl refl c is)
-second_raw (c ∷ x) gap row is = ap (λ b. c == 114 && b) (raw_none x gap (both_true (is_continue c) (list_all is_continue x) row).1 is) ∙ and_false (c == 114)
+second_raw (c ∷ x) gap row is = ap (λ b. c == 114 && b) (raw_none x gap (and_parts (is_continue c) (list_all is_continue x) row).1 is) ∙ and_false (c == 114)
 
 otherwise_gap : (c : ℕ) (more gap : List ℕ) → list_all is_continue more ≡ true → BeginsGap gap → begins_otherwise (c ∷ more ++ gap) ≡ false
 otherwise_gap c more gap row is =

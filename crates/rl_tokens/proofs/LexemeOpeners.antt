@@ -1,8 +1,5 @@
 -- What the tests say of how a text begins, in the words of the lexemes.
-use Rattle.std.proofs.Common.{◌≡◌, ℕ, suc, zero, ◌<◌, ◌⊎◌, inl, inr, Bool, true, false, not, ◌&&◌, ◌||◌, ◌==◌, cond, List, [], ◌∷◌, ◌++◌, slice_index, drop, replicate, refl, sym, ◌∙◌, ap, arith}
-use Rattle.std.specs.Prelude.{codes}
-use Rattle.std.specs.Char.{is_ascii_digit}
-use Rattle.std.proofs.lemmas.Bool.{and_from, or_left, or_right}
+use Rattle.rl_tokens.proofs.Common.{◌≡◌, ℕ, suc, zero, ◌<◌, ◌⊎◌, inl, inr, Bool, true, false, not, ◌&&◌, ◌||◌, ◌==◌, cond, List, [], ◌∷◌, ◌++◌, slice_index, drop, replicate, refl, sym, ◌∙◌, ap, arith, and_parts, codes, is_ascii_digit, and_from, or_left, or_right}
 use Rattle.rl_tokens.specs.Texts.{is_underscore, first_passes, begins, is_row_part}
 use Rattle.rl_tokens.specs.Lexemes.{is_start, BeginsHashedQuote, LiteralPrefix, NoPrefix, BytePrefix, CPrefix, prefix_text, BeginsRaw, begins_prefixed_quote, begins_raw_identifier, BeginsOtherwise, LexedSign, NoLexedSign, LexedPlus, LexedMinus, lexed_sign_text, LexedExponent, NoLexedExponent, LexedPower, lexed_exponent_text, IsLexedExponent, BeginsLexedExponent}
 use Rattle.rl_tokens.specs.Lexing.{begins_lifetime, BeginsQuote}
@@ -11,7 +8,7 @@ use Rattle.rl_tokens.specs.Classes.{is_hash, after_run}
 use Rattle.rl_tokens.proofs.Comments.{false_unless}
 use Rattle.rl_tokens.proofs.Pieces.{is_equal}
 use Rattle.rl_tokens.proofs.HashLemmas.{hashes_first, hashes_past}
-use Rattle.rl_tokens.proofs.LexemeRows.{both_true, not_true, underscores_past, digits_past, sign_past, power_text}
+use Rattle.rl_tokens.proofs.LexemeRows.{not_true, underscores_past, digits_past, sign_past, power_text}
 
 or_cases : (a b : Bool) → (a || b) ≡ true → (a ≡ true) ⊎ (b ≡ true)
 or_cases true b h = inl refl
@@ -25,10 +22,10 @@ prefixed k (c ∷ t) h l = ap (λ x. x ∷ t) (is_equal c k h)
 -- a text that begins with these two characters
 two : (k l : ℕ) (t : List ℕ) → begins (k ∷ l ∷ []) t ≡ true → (u : List ℕ) × (t ≡ k ∷ l ∷ u)
 two k l [] h = absurd (cc)
-two k l (c ∷ []) h = let q : false ≡ true = (both_true (c == k) false h).1 in absurd (cc)
+two k l (c ∷ []) h = let q : false ≡ true = (and_parts (c == k) false h).1 in absurd (cc)
 two k l (c ∷ d ∷ u) h =
-    let p = both_true (c == k) (d == l && true) h in
-    let q = both_true (d == l) true p.1 in
+    let p = and_parts (c == k) (d == l && true) h in
+    let q = and_parts (d == l) true p.1 in
     (u, ap (λ x. x ∷ d ∷ u) (is_equal c k p.0) ∙ ap (λ x. k ∷ x ∷ u) (is_equal d l q.0))
 
 -- ---- hashes and a quote
@@ -66,15 +63,15 @@ raw_begins : (t : List ℕ) → begins_raw t ≡ true → BeginsRaw t
 raw_begins [] h = absurd (cc)
 raw_begins (c ∷ cs) h =
     elim (or_cases (c == 114 && begins_hashed_quote cs) (begins_raw_after cs (c == 98 || c == 99)) h) [
-      | inl a ↦ let p = both_true (c == 114) (begins_hashed_quote cs) a in raw_by NoPrefix (c ∷ cs) cs (ap (λ x. x ∷ cs) (is_equal c 114 p.0)) p.1
+      | inl a ↦ let p = and_parts (c == 114) (begins_hashed_quote cs) a in raw_by NoPrefix (c ∷ cs) cs (ap (λ x. x ∷ cs) (is_equal c 114 p.0)) p.1
       | inr a ↦ following cs a
     ]
   where
     following : (cs : List ℕ) → begins_raw_after cs (c == 98 || c == 99) ≡ true → BeginsRaw (c ∷ cs)
     following [] h = absurd (cc)
     following (d ∷ ds) h =
-        let p = both_true ((c == 98 || c == 99) && d == 114) (begins_hashed_quote ds) h in
-        let q = both_true (c == 98 || c == 99) (d == 114) p.0 in
+        let p = and_parts ((c == 98 || c == 99) && d == 114) (begins_hashed_quote ds) h in
+        let q = and_parts (c == 98 || c == 99) (d == 114) p.0 in
         let d_is : d ≡ 114 = is_equal d 114 q.1 in
         elim (or_cases (c == 98) (c == 99) q.0) [
           | inl b ↦ raw_by BytePrefix (c ∷ d ∷ ds) ds (ap (λ x. x ∷ d ∷ ds) (is_equal c 98 b) ∙ ap (λ x. 98 ∷ x ∷ ds) d_is) p.1
@@ -115,7 +112,7 @@ exponent_here t b =
 exponent_begins : (t : List ℕ) → begins_exponent t ≡ true → BeginsLexedExponent t
 exponent_begins [] h = absurd (cc)
 exponent_begins (c ∷ t) h =
-    let k = both_true (c == 101 || c == 69) (first_passes is_ascii_digit (after_run is_underscore (after_sign t))) h in
+    let k = and_parts (c == 101 || c == 69) (first_passes is_ascii_digit (after_run is_underscore (after_sign t))) h in
     let (s, t_is) = sign_found t in
     let (n, v_is) = underscores_found (after_sign t) in
     let (d, u, w_is, is) = passes_split is_ascii_digit (after_run is_underscore (after_sign t)) k.1 in
@@ -154,8 +151,8 @@ pub raw_split : (r : List ℕ) → begins_raw_identifier r ≡ true → (d : ℕ
 raw_split [] h = absurd (cc)
 raw_split (c ∷ []) h = absurd (cc)
 raw_split (c ∷ e ∷ cs) h =
-    let k : ((c == 114 && e == 35) ≡ true) × (first_passes is_start cs ≡ true) = both_true (c == 114 && e == 35) (first_passes is_start cs) h in
-    let m : ((c == 114) ≡ true) × ((e == 35) ≡ true) = both_true (c == 114) (e == 35) k.0 in
+    let k : ((c == 114 && e == 35) ≡ true) × (first_passes is_start cs ≡ true) = and_parts (c == 114 && e == 35) (first_passes is_start cs) h in
+    let m : ((c == 114) ≡ true) × ((e == 35) ≡ true) = and_parts (c == 114) (e == 35) k.0 in
     let (d, u, same, is) = passes_split is_start cs k.1 in
     (d, u, ap (λ x. x ∷ e ∷ cs) (is_equal c 114 m.0) ∙ ap (λ x. 114 ∷ x ∷ cs) (is_equal e 35 m.1) ∙ ap (λ x. 114 ∷ 35 ∷ x) same, is)
 
@@ -199,7 +196,7 @@ otherwise_b c t c_is h =
       | inr a ↦ elim (or_cases (slice_index t 0 == 39) (slice_index t 0 == 114 && begins_hashed_quote (drop 1 t)) a) [
         | inl b ↦ inl (ap begins_prefixed_quote (then_is c 98 39 t c_is b (omega arith)))
         | inr b ↦
-            let k = both_true (slice_index t 0 == 114) (begins_hashed_quote (drop 1 t)) b in
+            let k = and_parts (slice_index t 0 == 114) (begins_hashed_quote (drop 1 t)) b in
             inr (inl (raw_by BytePrefix (c ∷ t) (drop 1 t) (then_is c 98 114 t c_is k.0 (omega arith)) k.1))
       ]
     ]
@@ -209,7 +206,7 @@ otherwise_c c t c_is h =
     elim (or_cases (slice_index t 0 == 34) (slice_index t 0 == 114 && begins_hashed_quote (drop 1 t)) h) [
       | inl a ↦ inl (ap begins_prefixed_quote (then_is c 99 34 t c_is a (omega arith)))
       | inr b ↦
-          let k = both_true (slice_index t 0 == 114) (begins_hashed_quote (drop 1 t)) b in
+          let k = and_parts (slice_index t 0 == 114) (begins_hashed_quote (drop 1 t)) b in
           inr (inl (raw_by CPrefix (c ∷ t) (drop 1 t) (then_is c 99 114 t c_is k.0 (omega arith)) k.1))
     ]
 
@@ -218,7 +215,7 @@ otherwise_r c t c_is h =
     elim (or_cases (begins_hashed_quote t) (slice_index t 0 == 35 && first_passes is_start (drop 1 t)) h) [
       | inl a ↦ inr (inl (raw_by NoPrefix (c ∷ t) t (ap (λ x. x ∷ t) (is_equal c 114 c_is)) a))
       | inr b ↦
-          let k = both_true (slice_index t 0 == 35) (first_passes is_start (drop 1 t)) b in
+          let k = and_parts (slice_index t 0 == 35) (first_passes is_start (drop 1 t)) b in
           inr (inr (ap begins_raw_identifier (then_is c 114 35 t c_is k.0 (omega arith)) ∙ k.1))
     ]
 
@@ -226,10 +223,10 @@ otherwise_begins : (t : List ℕ) → begins_otherwise t ≡ true → BeginsOthe
 otherwise_begins [] h = absurd (cc)
 otherwise_begins (c ∷ t) h =
     elim (or_cases (c == 98 && tail_b t) ((c == 99 && tail_c t) || (c == 114 && tail_r t)) h) [
-      | inl a ↦ let k = both_true (c == 98) (tail_b t) a in otherwise_b c t k.0 k.1
+      | inl a ↦ let k = and_parts (c == 98) (tail_b t) a in otherwise_b c t k.0 k.1
       | inr a ↦ elim (or_cases (c == 99 && tail_c t) (c == 114 && tail_r t) a) [
-        | inl b ↦ let k = both_true (c == 99) (tail_c t) b in otherwise_c c t k.0 k.1
-        | inr b ↦ let k = both_true (c == 114) (tail_r t) b in otherwise_r c t k.0 k.1
+        | inl b ↦ let k = and_parts (c == 99) (tail_c t) b in otherwise_c c t k.0 k.1
+        | inr b ↦ let k = and_parts (c == 114) (tail_r t) b in otherwise_r c t k.0 k.1
       ]
     ]
 
@@ -270,7 +267,7 @@ quote_begins t h =
       | inr (inl a) ↦ inr (inl a)
       | inr (inr (inl a)) ↦ inr (inr (inl (raw_begins t a)))
       | inr (inr (inr a)) ↦
-          let k = both_true (begins (codes "'") t) (not (begins_lifetime t)) a in
+          let k = and_parts (begins (codes "'") t) (not (begins_lifetime t)) a in
           inr (inr (inr (k.0, not_true (begins_lifetime t) k.1)))
     ]
 

@@ -1,18 +1,12 @@
 -- Each stage of a lexeme, past what it is made of.
-use Rattle.std.proofs.Common.{◌≡◌, ℕ, suc, zero, Bool, true, false, not, ◌&&◌, ◌||◌, ◌==◌, cond, List, [], ◌∷◌, ◌++◌, Some, None, drop, replicate, refl, sym, ◌∙◌, ap, subst, append_assoc}
-use Rattle.std.specs.List.{list_all}
+use Rattle.rl_tokens.proofs.Common.{◌≡◌, ℕ, suc, zero, Bool, true, false, not, ◌&&◌, ◌||◌, ◌==◌, cond, List, [], ◌∷◌, ◌++◌, Some, None, drop, replicate, refl, sym, ◌∙◌, ap, subst, append_assoc, and_parts, list_all, is_ascii_digit}
 use Rattle.rl_tokens.specs.Texts.{is_underscore, first_passes, is_row_part}
-use Rattle.std.specs.Char.{is_ascii_digit}
 use Rattle.rl_tokens.specs.Lexemes.{BodyPart, PlainPart, EscapedPart, body_text, IsBody, CharacterBody, OneCharacter, EscapedCharacter, character_body_text, IsCharacterBody, LexedFraction, NoLexedFraction, LexedDot, lexed_fraction_text, LexedSign, NoLexedSign, LexedPlus, LexedMinus, lexed_sign_text, LexedPower, lexed_exponent_text, IsRow, IsLexedSuffix, IsRawBody, IsLexedFraction, is_continue}
 use Rattle.rl_tokens.proofs.Comments.{false_unless}
 use Rattle.rl_tokens.proofs.HashLemmas.{hashes_here, drop_hashes, hashes_inside}
 use Rattle.rl_tokens.proofs.Pieces.{is_equal}
 use Rattle.rl_tokens.specs.Mirrors.LexemeAt.{after_suffix, after_quote, after_raw, after_apostrophe, after_single, after_lexed_fraction, after_sign}
 use Rattle.rl_tokens.specs.Classes.{after_run}
-
-pub both_true : (a b : Bool) → (a && b) ≡ true → (a ≡ true) × (b ≡ true)
-both_true true b h = (refl, h)
-both_true false b h = absurd (cc)
 
 pub not_true : (a : Bool) → not a ≡ true → a ≡ false
 not_true true h = absurd (cc)
@@ -30,7 +24,7 @@ run_stops test (c ∷ t) h = ap (λ b. cond b (after_run test t) (c ∷ t)) h
 pub run_past : (test : ℕ → Bool) (row t : List ℕ) → IsRow test row t → after_run test (row ++ t) ≡ t
 run_past test [] t is = run_stops test t is.ends
 run_past test (c ∷ row) t is =
-    let k : (test c ≡ true) × (list_all test row ≡ true) = both_true (test c) (list_all test row) is.each in
+    let k : (test c ≡ true) × (list_all test row ≡ true) = and_parts (test c) (list_all test row) is.each in
     ap (λ b. cond b (after_run test (row ++ t)) (c ∷ row ++ t)) k.0 ∙ run_past test row t (record { each = k.1; ends = is.ends })
 
 pub suffix_past : (x t : List ℕ) → IsLexedSuffix x t → after_suffix (x ++ t) ≡ t
@@ -39,7 +33,7 @@ suffix_past [] (c ∷ t) is = ap (λ b. cond b (after_run is_continue t) (c ∷ 
 suffix_past (c ∷ x) t (is, row) = ap (λ b. cond b (after_run is_continue (x ++ t)) (c ∷ x ++ t)) is ∙ run_past is_continue x t row
 
 -- Quoted bodies.
-quote_now : (t : List ℕ) → after_quote (34 ∷ t) ≡ Some t
+pub quote_now : (t : List ℕ) → after_quote (34 ∷ t) ≡ Some t
 quote_now [] = refl
 quote_now (e ∷ t) = refl
 
@@ -74,7 +68,7 @@ raw_past n (c ∷ body) t (here, is) =
 apostrophe_past : (more t : List ℕ) → list_all (λ d. not (d == 39 || d == 10)) more ≡ true → after_apostrophe (more ++ 39 ∷ t) ≡ Some t
 apostrophe_past [] t is = refl
 apostrophe_past (c ∷ more) t is =
-    let k : (not (c == 39 || c == 10) ≡ true) × (list_all (λ d. not (d == 39 || d == 10)) more ≡ true) = both_true (not (c == 39 || c == 10)) (list_all (λ d. not (d == 39 || d == 10)) more) is in
+    let k : (not (c == 39 || c == 10) ≡ true) × (list_all (λ d. not (d == 39 || d == 10)) more ≡ true) = and_parts (not (c == 39 || c == 10)) (list_all (λ d. not (d == 39 || d == 10)) more) is in
     let m : ((c == 39) ≡ false) × ((c == 10) ≡ false) = neither_true (c == 39) (c == 10) k.0 in
     ap (λ b. cond b (Some (more ++ 39 ∷ t)) (cond (c == 10) None (after_apostrophe (more ++ 39 ∷ t)))) m.0
     ∙ ap (λ b. cond b None (after_apostrophe (more ++ 39 ∷ t))) m.1

@@ -1,8 +1,6 @@
 -- Single steps of the loops over a lexeme.
-use Rattle.std.proofs.Common.{◌≡◌, ◌≢◌, ℕ, ◌⊎◌, inl, inr, ◌||◌, ◌&&◌, true, false, ◌==◌, cond, List, [], ◌∷◌, ◌++◌, append-nil, drop, Some, None, refl, sym, subst, ◌∙◌, ap, arith}
-use Rattle.std.proofs.lemmas.Bool.{and_parts, ne_eqb}
-use Rattle.std.specs.List.{list_all}
-use Rattle.std.proofs.lemmas.Bool.Decides.{nat_tests}
+use Rattle.rl_tokens.proofs.Common.{◌≡◌, ◌≢◌, ℕ, ◌⊎◌, inl, inr, ◌||◌, ◌&&◌, true, false, ◌==◌, cond, List, [], ◌∷◌, ◌++◌, append-nil, drop, Some, None, refl, sym, subst, ◌∙◌, ap, arith, and_parts, ne_eqb, list_all, nat_tests}
+use Rattle.rl_tokens.proofs.LexemeRows.{quote_now}
 use Rattle.rl_tokens.specs.Lexemes.{begins_hashes}
 use Rattle.rl_tokens.specs.Mirrors.LexemeAt.{after_quote, after_raw}
 use Rattle.rl_tokens.specs.declared.scan.Marks.{Marks}
@@ -33,12 +31,8 @@ quote_at m s t k a b next = ap after_quote next.text_is ∙ quote_over m next.fr
 pub quote_none : (m : Marks) (s : List ℕ) → m.first ≡ 34 → m.second ≡ 92 → list_all (is_other m) s ≡ true → after_quote s ≡ None
 quote_none m s a b h = ap after_quote (sym (append-nil s)) ∙ quote_over m s [] a b h
 
-ends : (t : List ℕ) → after_quote (34 ∷ t) ≡ Some t
-ends [] = refl
-ends (e ∷ t) = refl
-
 pub quote_found : (m : Marks) (s t : List ℕ) (k : ℕ) → m.first ≡ 34 → m.second ≡ 92 → IsNextMark m s k t → k ≡ 34 → after_quote s ≡ Some t
-quote_found m s t k a b next is = quote_at m s t k a b next ∙ ap (λ c. after_quote (c ∷ t)) is ∙ ends t
+quote_found m s t k a b next is = quote_at m s t k a b next ∙ ap (λ c. after_quote (c ∷ t)) is ∙ quote_now t
 
 pub quote_taken : (m : Marks) (s t u : List ℕ) (k c : ℕ) → m.first ≡ 34 → m.second ≡ 92 → IsNextMark m s k t → k ≡ 92 → t ≡ c ∷ u → after_quote s ≡ after_quote u
 quote_taken m s t u k c a b next is more = quote_at m s t k a b next ∙ ap (λ d. after_quote (d ∷ t)) is ∙ ap (λ z. after_quote (92 ∷ z)) more

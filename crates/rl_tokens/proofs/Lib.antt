@@ -1,3 +1,4 @@
+pub mod Common
 pub mod TailLemmas
 pub mod Rests
 pub mod Comments

@@ -1,6 +1,5 @@
 -- Lines and columns of places in a text.
-use Rattle.std.proofs.Common.{◌≡◌, ℕ, ◌+◌, ◌-◌, ◌≤◌, List, [], ◌∷◌, ◌++◌, length, take, slice_range, refl, sym, ap, ◌∙◌, arith, append_assoc, length-append}
-use Rattle.std.specs.Str.{chars, IsUtf8}
+use Rattle.rl_tokens.proofs.Common.{◌≡◌, ℕ, ◌+◌, ◌-◌, ◌≤◌, List, [], ◌∷◌, ◌++◌, length, take, slice_range, refl, sym, ap, ◌∙◌, arith, append_assoc, length-append, chars, IsUtf8}
 use Rattle.rl_tokens.specs.Texts.{IsTail}
 use Rattle.rl_tokens.specs.Lines.{next_place, place_after, first_place, IsPlaceOf}
 use Rattle.rl_tokens.specs.declared.lines.LineColumn.{LineColumn}

@@ -1,16 +1,11 @@
 -- What may follow a literal in a print, and what no such text begins with.
-use Rattle.std.proofs.Common.{◌≡◌, ℕ, ◌<◌, inl, inr, Bool, true, false, not, ◌&&◌, ◌||◌, ◌==◌, List, [], ◌∷◌, ◌++◌, refl, ◌∙◌, ap, lit<}
-use Rattle.std.specs.Prelude.{IsTrue, ⊤, codes}
-use Rattle.std.specs.List.{list_all}
-use Rattle.std.specs.Char.{is_ascii_digit, is_ascii_alphanumeric}
-use Rattle.std.proofs.lemmas.Bool.{and_from, or_from}
-use Rattle.unicode_ident.specs.Ident.{is_xid_start, is_xid_continue}
+use Rattle.rl_tokens.proofs.Common.{◌≡◌, ℕ, ◌<◌, inl, inr, Bool, true, false, not, ◌&&◌, ◌||◌, ◌==◌, List, [], ◌∷◌, ◌++◌, refl, ◌∙◌, ap, lit<, and_parts, IsTrue, ⊤, codes, list_all, is_ascii_digit, is_ascii_alphanumeric, and_from, or_from, is_xid_start, is_xid_continue}
 use Rattle.rl_tokens.specs.Texts.{is_white, is_among, first_passes, is_row_part}
 use Rattle.rl_tokens.specs.Lexemes.{is_base_letter, IsLexedSuffix, IsLexeme, is_start, is_continue}
 use Rattle.rl_tokens.proofs.Gaps.{BeginsGap}
 use Rattle.rl_tokens.specs.Strict.{IsStrictSuffix}
 use Rattle.rl_tokens.proofs.Basics.{word_continues}
-use Rattle.rl_tokens.proofs.LexemeRows.{both_true, not_true, not_among}
+use Rattle.rl_tokens.proofs.LexemeRows.{not_true, not_among}
 use Rattle.rl_tokens.proofs.LexemeOpeners.{none_otherwise}
 use Rattle.rl_tokens.proofs.LexemeFronts.{start_ascii, among, low_among, not_start_among}
 use Rattle.rl_tokens.proofs.LexemeGaps.{and_false, digit_solid, continue_ascii}
@@ -103,16 +98,16 @@ gap_ends (c ∷ t) is = go (is_white c) (c == 47) is
 all_both : (f g : ℕ → Bool) (cs : List ℕ) → list_all f cs ≡ true → list_all g cs ≡ true → list_all (λ c. f c && g c) cs ≡ true
 all_both f g [] a b = refl
 all_both f g (c ∷ cs) a b =
-    let p = both_true (f c) (list_all f cs) a in
-    let q = both_true (g c) (list_all g cs) b in
+    let p = and_parts (f c) (list_all f cs) a in
+    let q = and_parts (g c) (list_all g cs) b in
     and_from (f c && g c) (list_all (λ c. f c && g c) cs) (and_from (f c) (g c) p.0 q.0) (all_both f g cs p.1 q.1)
 
 -- A strict suffix begins as the lexer's suffixes do.
 pub suffix_starts : (c : ℕ) (cs : List ℕ) → IsStrictSuffix (c ∷ cs) → is_start c ≡ true
 suffix_starts c cs (inl e) = absurd (cc)
 suffix_starts c cs (inr w) =
-    and_from (c == 95 || is_xid_start c) (not (is_white c)) (both_true (c == 95 || is_xid_start c) (list_all is_xid_continue cs) w.identifier).0
-    (both_true (not (is_white c)) (list_all (λ c. not (is_white c)) cs) w.no_white).0
+    and_from (c == 95 || is_xid_start c) (not (is_white c)) (and_parts (c == 95 || is_xid_start c) (list_all is_xid_continue cs) w.identifier).0
+    (and_parts (not (is_white c)) (list_all (λ c. not (is_white c)) cs) w.no_white).0
 
 -- Each character of it goes on with an identifier.
 pub suffix_continues : (x : List ℕ) → IsStrictSuffix x → list_all is_continue x ≡ true
@@ -123,7 +118,7 @@ suffix_continues x (inr w) = all_both is_xid_continue (λ c. not (is_white c)) x
 pub strict_suffix_lexed : (x after : List ℕ) → IsStrictSuffix x → EndsLiteral after → IsLexedSuffix x after
 strict_suffix_lexed [] after is ends = ends_fails is_start after clear_start ends
 strict_suffix_lexed (c ∷ cs) after is ends =
-    (suffix_starts c cs is, record { each = (both_true (is_continue c) (list_all is_continue cs) (suffix_continues (c ∷ cs) is)).1; ends = ends_fails is_continue after clear_continue ends })
+    (suffix_starts c cs is, record { each = (and_parts (is_continue c) (list_all is_continue cs) (suffix_continues (c ∷ cs) is)).1; ends = ends_fails is_continue after clear_continue ends })
 
 -- The words.
 letter_continues : (c : ℕ) → c < 128 → ((is_ascii_alphanumeric c || (c == 95)) && not (is_white c)) ≡ true → is_continue c ≡ true

@@ -1,7 +1,5 @@
 -- What stands between one literal of a source and the next.
-use Rattle.std.proofs.Common.{◌≡◌, ◌⊎◌, inl, inr, ℕ, true, false, ◌==◌, ◌+◌, ◌-◌, ◌≤◌, List, [], ◌∷◌, ◌++◌, refl, sym, ap, subst, ◌∙◌, append_assoc, append-nil, arith}
-use Rattle.std.specs.List.{AllByRecursion}
-use Rattle.std.specs.Str.{chars}
+use Rattle.rl_tokens.proofs.Common.{◌≡◌, ◌⊎◌, inl, inr, ℕ, true, false, ◌==◌, ◌+◌, ◌-◌, ◌≤◌, List, [], ◌∷◌, ◌++◌, refl, sym, ap, subst, ◌∙◌, append_assoc, append-nil, arith, AllByRecursion, chars}
 use Rattle.rl_tokens.specs.Texts.{byte_len, is_white, IsTail}
 use Rattle.rl_tokens.specs.Trivia.{White}
 use Rattle.rl_tokens.specs.Skipping.{Skipped}

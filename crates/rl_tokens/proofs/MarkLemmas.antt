@@ -1,6 +1,5 @@
 -- Characters of punctuation at the front of trees.
-use Rattle.std.proofs.Common.{◌≡◌, ℕ, false, List, [], ◌∷◌, refl}
-use Rattle.std.specs.Prelude.{IsFalse}
+use Rattle.rl_tokens.proofs.Common.{◌≡◌, ℕ, false, List, [], ◌∷◌, refl, IsFalse}
 use Rattle.rl_tokens.specs.Trees.{Tree, GroupTree, IdentTree, PunctTree, LiteralTree}
 use Rattle.rl_tokens.specs.Buffers.{begins_punct, begins_mark}
 

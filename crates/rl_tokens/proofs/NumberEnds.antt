@@ -1,8 +1,6 @@
 -- A number by its first digit, and where it ends at once.
-use Rattle.std.proofs.Common.{◌≡◌, ℕ, ◌⊎◌, inl, inr, Bool, true, false, not, ◌&&◌, ◌||◌, ◌==◌, cond, List, [], ◌∷◌, Some, refl, sym, ◌∙◌, ap, lit<, arith, drop}
-use Rattle.std.proofs.lemmas.Bool.Decides.{nat_tests}
+use Rattle.rl_tokens.proofs.Common.{◌≡◌, ℕ, ◌⊎◌, inl, inr, Bool, true, false, not, ◌&&◌, ◌||◌, ◌==◌, cond, List, [], ◌∷◌, Some, refl, sym, ◌∙◌, ap, lit<, arith, drop, nat_tests, is_ascii, is_ascii_digit}
 use Rattle.rl_tokens.proofs.Comments.{false_unless}
-use Rattle.std.specs.Char.{is_ascii, is_ascii_digit}
 use Rattle.rl_tokens.specs.Texts.{is_underscore, first_passes, is_row_part}
 use Rattle.rl_tokens.specs.Lexemes.{LiteralForm, is_base_letter, is_start, is_continue}
 use Rattle.rl_tokens.specs.Mirrors.LexemeAt.{DigitHead, QuoteHead, ApostropheHead, SlashHead, by_class, literal_at, quoted_at, single_at, after_digit, after_suffix, after_lexed_exponent, after_lexed_fraction, after_decimal, lexeme_at, after_sign}

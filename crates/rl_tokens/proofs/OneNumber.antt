@@ -1,9 +1,5 @@
 -- A text has one reading as a number at most.
-use Rattle.std.proofs.Common.{◌≡◌, ℕ, ◌||◌, Bool, true, false, not, cond, eqb, List, [], ◌∷◌, ◌++◌, refl, sym, ap, subst, ◌∙◌, ◌⊎◌, inl, inr, append_assoc}
-use Rattle.std.specs.Char.{is_ascii_digit}
-use Rattle.std.specs.List.{list_all, list_any}
-use Rattle.std.proofs.lemmas.List.Folds.{list_all-append}
-use Rattle.std.proofs.lemmas.Bool.{eqb-true, both_ways, and_parts, and_from, or_parts, or_cases, or_left, or_right, cases_Bool, not-true}
+use Rattle.rl_tokens.proofs.Common.{◌≡◌, ℕ, ◌||◌, Bool, true, false, not, cond, eqb, List, [], ◌∷◌, ◌++◌, refl, sym, ap, subst, ◌∙◌, ◌⊎◌, inl, inr, append_assoc, is_ascii_digit, list_all, list_any, list_all-append, eqb-true, both_ways, and_parts, and_from, or_parts, or_cases, or_left, or_right, cases_Bool, not-true}
 use Rattle.rl_tokens.specs.Texts.{first_passes, begins, is_underscore, is_row_part}
 use Rattle.rl_tokens.specs.Quoted.{place_value, without_underscores}
 use Rattle.rl_tokens.specs.Numbers.{Base, Binary, Octal, Decimal, Hexadecimal, radix, prefix, is_digit, Sign, NoSign, Minus, sign_text, IsAfterPrefix, IsSuffix, is_exponent_letter, AllowsSuffix, IntReads, Fraction, NoFraction, Dot, fraction_text, IsFraction, Exponent, NoExponent, Power, exponent_text, is_power_sign, BeginsExponent, IsExponent, FloatReads, float_digits}
@@ -11,7 +7,7 @@ use Rattle.rl_tokens.specs.Reading.{Contents, Digits, ReadsInt, ReadsFloat}
 use Rattle.rl_tokens.specs.Strict.{dec}
 use Rattle.rl_tokens.proofs.Dec.{dec_is_decimal}
 use Rattle.rl_tokens.proofs.Basics.{apart, all_weaker, digit_is_ten}
-use Rattle.rl_tokens.proofs.StrictNumbers.{no_part, suffix_no_part, digit_front, same_run, IsForeign, foreign_dot, foreign_plus, foreign_minus, suffix_without, foreign_inside, letter_no_part}
+use Rattle.rl_tokens.proofs.StrictNumbers.{no_part, suffix_no_part, digit_front, same_run, IsForeign, foreign_dot, foreign_plus, foreign_minus, suffix_without, foreign_inside, letter_no_part, passes_on}
 
 -- ---- signs
 
@@ -201,10 +197,6 @@ same_fraction (Dot row) NoFraction r s pf pg nr ns dr ds e = let h : false ≡ t
 fraction_no_part : (f : Fraction) (r : List ℕ) → first_passes (is_row_part (is_digit Decimal)) r ≡ false → first_passes (is_row_part (is_digit Decimal)) (fraction_text f ++ r) ≡ false
 fraction_no_part NoFraction r h = h
 fraction_no_part (Dot row) r h = refl
-
-passes_on : (test : ℕ → Bool) (a b : List ℕ) → first_passes test a ≡ true → first_passes test (a ++ b) ≡ true
-passes_on test [] b h = absurd (cc)
-passes_on test (c ∷ cs) b h = h
 
 float_text : (s w f e x t numeral : List ℕ) → numeral ≡ s ++ (w ++ (f ++ e)) → t ≡ numeral ++ x → t ≡ s ++ (w ++ (f ++ (e ++ x)))
 float_text s w f e x t numeral n h =

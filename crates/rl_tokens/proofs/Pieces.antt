@@ -1,7 +1,5 @@
 -- `after_piece` takes off exactly a piece or an open line, and so a text has at most one rest.
-use Rattle.std.proofs.Common.{◌≡◌, ℕ, suc, zero, ◌+◌, ◌⊎◌, inl, inr, Bool, true, false, ◌==◌, cond, List, [], ◌∷◌, ◌++◌, length, Option, Some, None, refl, sym, ◌∙◌, ap, subst, arith, append_assoc}
-use Rattle.std.proofs.lemmas.Bool.Decides.{nat_tests}
-use Rattle.std.specs.List.{AllByRecursion}
+use Rattle.rl_tokens.proofs.Common.{◌≡◌, ℕ, suc, zero, ◌+◌, ◌⊎◌, inl, inr, Bool, true, false, ◌==◌, cond, List, [], ◌∷◌, ◌++◌, length, Option, Some, None, refl, sym, ◌∙◌, ap, subst, arith, append_assoc, nat_tests, AllByRecursion}
 use Rattle.rl_tokens.specs.Texts.{is_white, first_passes}
 use Rattle.rl_tokens.specs.Trivia.{is_comment_line, is_comment_block, inside_text, TriviaPiece, White, Line, Block, trivia_piece_text, IsTriviaPiece, trivia_text, IsTrivia}
 use Rattle.rl_tokens.specs.Skipping.{IsOpenLine, BeginsTrivia, Skipped, OneRest}
@@ -177,7 +175,7 @@ nothing_tail r (inr s) = s.nothing
 trivia_more : (p : TriviaPiece) (front : List ℕ) → IsTriviaPiece p → IsTrivia front → IsTrivia (trivia_piece_text p ++ front)
 trivia_more p front is more = record { pieces = p ∷ more.pieces; each = (is, more.each); text = ap (λ x. trivia_piece_text p ++ x) more.text }
 
-no_trivia : IsTrivia []
+pub no_trivia : IsTrivia []
 no_trivia = record { pieces = []; each = tt; text = refl }
 
 joined : (t a b m r : List ℕ) → t ≡ a ++ m → m ≡ b ++ r → t ≡ (a ++ b) ++ r

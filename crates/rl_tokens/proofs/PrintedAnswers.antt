@@ -1,7 +1,6 @@
 -- The lexer answers a print with the trees of its items, or fails by an allocation.
-use Rattle.std.proofs.Common.{◌≡◌, ℕ, List, Result, Ok, Err, refl}
-use Rattle.std.specs.Str.{chars}
-use Rattle.std.specs.Result.{IfOk, IfErr}
+use Rattle.rl_tokens.proofs.Common.{◌≡◌, ℕ, List, Result, Ok, Err, refl, chars, IfOk}
+use Rattle.std.specs.Result.{IfErr}
 use Rattle.rl_tokens.specs.declared.token.TokenStream.{TokenStream}
 use Rattle.rl_tokens.specs.declared.lex_error.LexKind.{LexKind}
 use Rattle.rl_tokens.specs.declared.lex_error.LexKind.TheVariants.{DocComment, UnclosedComment, UnclosedQuote, Lifetime, RawIdentifier, StrayCharacter, UnmatchedClose, UnclosedGroup, TooDeep, Memory}

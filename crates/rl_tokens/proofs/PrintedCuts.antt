@@ -1,12 +1,5 @@
 -- A text of gaps and items is cut where they meet.
-use Rattle.std.proofs.Common.{◌≡◌, ℕ, ◌+◌, inl, inr, Bool, true, false, not, ◌&&◌, ◌||◌, ◌==◌, List, [], ◌∷◌, ◌++◌, map, length, Some, None, refl, sym, ◌∙◌, ap, subst, arith, append-nil, lit<}
-use Rattle.std.specs.Prelude.{⊤}
-use Rattle.std.specs.Option.{option_and_then}
-use Rattle.std.specs.Str.{encode_utf8_all}
-use Rattle.std.specs.List.{AllByRecursion, list_all}
-use Rattle.std.proofs.lemmas.Option.{none-some}
-use Rattle.std.proofs.lemmas.Str.{encode_ascii}
-use Rattle.unicode_ident.specs.Ident.{is_xid_start}
+use Rattle.rl_tokens.proofs.Common.{◌≡◌, ℕ, ◌+◌, inl, inr, Bool, true, false, not, ◌&&◌, ◌||◌, ◌==◌, List, [], ◌∷◌, ◌++◌, map, length, Some, None, refl, sym, ◌∙◌, ap, subst, arith, append-nil, lit<, ⊤, option_and_then, encode_utf8_all, AllByRecursion, list_all, none-some, encode_ascii, is_xid_start}
 use Rattle.rl_tokens.specs.Texts.{is_white, is_among, byte_len}
 use Rattle.rl_tokens.specs.Trivia.{White, Line, Block, IsTrivia}
 use Rattle.rl_tokens.specs.Skipping.{BeginsTrivia}
@@ -17,7 +10,7 @@ use Rattle.rl_tokens.specs.Lexing.{LexedToken, LexesUpTo, OpenGroup, after_form,
 use Rattle.rl_tokens.specs.Printed.{Item, WordItem, LiteralItem, MinusItem, item_text, Entry, printed_text, token_at}
 use Rattle.rl_tokens.specs.PrintedTrees.{item_trees, printed_trees}
 use Rattle.rl_tokens.proofs.Comments.{false_unless}
-use Rattle.rl_tokens.proofs.Pieces.{stops-from_none}
+use Rattle.rl_tokens.proofs.Pieces.{stops-from_none, no_trivia}
 use Rattle.rl_tokens.proofs.LexemeRows.{not_true, not_among}
 use Rattle.rl_tokens.proofs.LexemeFronts.{lexeme_at-past, stray_class, class47, at_class, among}
 use Rattle.rl_tokens.proofs.LexemeGaps.{and_false, digit_solid}
@@ -116,9 +109,6 @@ literal_cut ends file at gap text after trees is_gap l follows rest =
     (token_cut file at gap l.lexeme after (LiteralTree (token_at file (at + byte_len gap) text)) trees is_gap (l.is_lexeme after follows) (literal_neutral l.lexeme l.form) (literal_flat file (at + byte_len gap) l.lexeme text l.form l.text_is)
     (subst (λ (x : List ℕ). CutInto file (at + byte_len gap + byte_len x) after trees) l.text_is rest))
 
-no_gap : IsTrivia []
-no_gap = record { pieces = []; each = tt; text = refl }
-
 word_cut : (file at : ℕ) (gap : List ℕ) (truth : Bool) (after : List ℕ) (trees : List Tree) → IsTrivia gap → IsLexeme (word_lexeme truth) after → CutInto file (at + byte_len gap + byte_len (item_text (WordItem truth))) after trees → CutInto file at (gap ++ (item_text (WordItem truth) ++ after)) (item_trees file (at + byte_len gap) (WordItem truth) ++ trees)
 word_cut file at gap true after trees is_gap is rest = token_cut file at gap (word_lexeme true) after _ trees is_gap is (λ groups n. refl) refl rest
 word_cut file at gap false after trees is_gap is rest = token_cut file at gap (word_lexeme false) after _ trees is_gap is (λ groups n. refl) refl rest
@@ -129,7 +119,7 @@ minus_cut ends file at gap text after trees is_gap l follows rest =
     let places : n + byte_len (45 ∷ text) ≡ n + 1 + byte_len [] + byte_len text = omega (arith, byte_len-append (45 ∷ []) text, minus_len) in
     let here : n + 1 + byte_len [] ≡ n + 1 = omega arith in
     let number : CutInto file (n + 1) (text ++ after) (LiteralTree (token_at file (n + 1 + byte_len []) text) ∷ trees) =
-    literal_cut ends file (n + 1) [] text after trees no_gap l follows (subst (λ (k : ℕ). CutInto file k after trees) places rest) in
+    literal_cut ends file (n + 1) [] text after trees no_trivia l follows (subst (λ (k : ℕ). CutInto file k after trees) places rest) in
     token_cut file at gap (MarkLexeme 45) (text ++ after) (PunctTree (record { ch = 45; span = record { file = file; lo = n; hi = n + 1 } })) (LiteralTree (token_at file (n + 1) text) ∷ trees) is_gap (inl refl) (λ groups n. refl) (minus_flat file n)
     (subst (λ (k : ℕ). CutInto file (n + k) (text ++ after) (LiteralTree (token_at file (n + 1) text) ∷ trees)) (sym minus_len)
     (subst (λ (k : ℕ). CutInto file (n + 1) (text ++ after) (LiteralTree (token_at file k text) ∷ trees)) here number))

@@ -1,8 +1,5 @@
 -- Printed lists are cut into their items.
-use Rattle.std.proofs.Common.{◌≡◌, ◌≢◌, ℕ, inl, inr, ◌||◌, ◌==◌, true, List, [], ◌∷◌, ◌++◌, drop, refl, sym, ◌∙◌, ap, subst, append_assoc, append-nil}
-use Rattle.std.specs.Prelude.{codes}
-use Rattle.std.specs.List.{AllByRecursion}
-use Rattle.std.proofs.lemmas.Bool.{or_right}
+use Rattle.rl_tokens.proofs.Common.{◌≡◌, ◌≢◌, ℕ, inl, inr, ◌||◌, ◌==◌, true, List, [], ◌∷◌, ◌++◌, drop, refl, sym, ◌∙◌, ap, subst, append_assoc, append-nil, codes, AllByRecursion, or_right}
 use Rattle.rl_tokens.specs.declared.kind.Kind.{Kind}
 use Rattle.rl_tokens.specs.declared.kind.Kind.TheVariants.{Str, ByteStr, CStr, Byte, Char, Int, Float, Bool as BoolKind}
 use Rattle.rl_tokens.specs.Texts.{is_white, first_passes, is_among}

@@ -1,7 +1,5 @@
 -- Rests of a text: their lengths, and a rest from a place on.
-use Rattle.std.proofs.Common.{◌≡◌, ℕ, ◌≤◌, List, ◌++◌, length, take, drop, sym, ◌∙◌, ap, arith, length-append}
-use Rattle.std.proofs.lemmas.List.{take-append-drop}
-use Rattle.std.specs.Str.{IsUtf8}
+use Rattle.rl_tokens.proofs.Common.{◌≡◌, ℕ, ◌≤◌, List, ◌++◌, length, take, drop, sym, ◌∙◌, ap, arith, length-append, take-append-drop, IsUtf8}
 use Rattle.rl_tokens.specs.Texts.{IsTail}
 
 pub tail_drop : (t r : List ℕ) (n : ℕ) → r ≡ drop n t → IsUtf8 r → IsTail t r

@@ -1,6 +1,5 @@
 -- One character more of a row, by the loops that go over it.
-use Rattle.std.proofs.Common.{◌≡◌, ◌≢◌, ℕ, Bool, true, false, ◌==◌, cond, List, ◌∷◌, Some, None, sym, ◌∙◌, ap, arith}
-use Rattle.std.proofs.lemmas.Bool.Decides.{nat_tests}
+use Rattle.rl_tokens.proofs.Common.{◌≡◌, ◌≢◌, ℕ, Bool, true, false, ◌==◌, cond, List, ◌∷◌, Some, None, sym, ◌∙◌, ap, arith, nat_tests}
 use Rattle.rl_tokens.specs.Mirrors.LexemeAt.{after_apostrophe}
 use Rattle.rl_tokens.specs.Classes.{after_run}
 

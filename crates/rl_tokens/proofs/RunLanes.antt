@@ -1,9 +1,7 @@
 -- From the lanes of sixteen bytes to the run of ASCII that they hold.
-use Rattle.std.proofs.Common.{◌≡◌, ℕ, suc, ◌+◌, ◌%◌, ◌^◌, ◌<◌, ◌≤◌, Bool, true, not, List, [], ◌∷◌, map, length, get_or, replicate, Fits, w8, refl, sym, ap, ap₂, ◌∙◌, arith}
-use Rattle.std.proofs.lemmas.Bool.{agree_below, agree_below_at}
-use Rattle.std.proofs.lemmas.Simd.{map-map, zip2-map, mask_l-mod, length-chunk, get_or-chunk}
-use Rattle.std.proofs.lemmas.List.{length-map}
-use lib.Lanes.{chunk, zip2, mask_l, top}
+use Rattle.rl_tokens.proofs.Common.{◌≡◌, ℕ, suc, ◌+◌, ◌%◌, ◌^◌, ◌<◌, ◌≤◌, Bool, true, not, List, [], ◌∷◌, map, length, get_or, replicate, refl, sym, ap, ap₂, ◌∙◌, arith, agree_below, agree_below_at, map-map, mask_l-mod, length-chunk, length-map, chunk, zip2, mask_l, top}
+use Rattle.std.proofs.Common.{Fits, w8}
+use Rattle.std.proofs.lemmas.Simd.{zip2-map, get_or-chunk}
 use Rattle.rl_tokens.specs.Mirrors.RunsAt.{is_held, ends_run}
 
 -- an operation on two vectors that were computed lane by lane from v

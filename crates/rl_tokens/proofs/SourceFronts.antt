@@ -1,13 +1,7 @@
 -- What a source has beside lexemes, at the front of a text: what `other_at` takes off is such a
 -- token, and each such token is what it takes off.
-use Rattle.std.proofs.Common.{◌≡◌, ℕ, inl, inr, Bool, true, false, not, ◌||◌, ◌==◌, cond, List, [], ◌∷◌, ◌++◌, append-nil, Option, Some, None, slice_index, drop, refl, sym, ◌∙◌, ap, subst, Bor, arith}
-use Rattle.std.proofs.lemmas.Bool.{ltb-false}
-use Rattle.std.proofs.lemmas.Option.{none-some}
-use Rattle.std.specs.Char.{is_ascii}
-use Rattle.std.specs.Prelude.{⊤, codes}
-use Rattle.std.specs.List.{list_all}
-use Rattle.std.specs.Option.{IfSome, IfNone, option_map, option_and_then}
-use Rattle.std.specs.Str.{chars}
+use Rattle.rl_tokens.proofs.Common.{◌≡◌, ℕ, inl, inr, Bool, true, false, not, ◌||◌, ◌==◌, cond, List, [], ◌∷◌, ◌++◌, append-nil, Option, Some, None, slice_index, drop, refl, sym, ◌∙◌, ap, subst, Bor, arith, or_parts, ltb-false, none-some, is_ascii, ⊤, codes, list_all, IfSome, IfNone, option_map, option_and_then, chars}
+use Rattle.rl_tokens.proofs.ScanLemmas.{not_false}
 use Rattle.rl_tokens.specs.Texts.{first_passes, begins}
 use Rattle.rl_tokens.specs.Trivia.{Inside, inside_text, IsInside, is_comment_line, is_comment_block}
 use Rattle.rl_tokens.specs.Skipping.{Skipped}
@@ -30,10 +24,6 @@ use Rattle.rl_tokens.proofs.LexemeSteps.{only}
 use Rattle.rl_tokens.proofs.Pieces.{is_equal, one_rest}
 
 -- ---- lines
-
-not_false : (b : Bool) → not b ≡ false → b ≡ true
-not_false true h = refl
-not_false false h = absurd (cc)
 
 line_stops : (m : Marks) (r : List ℕ) → m ≡ record { first = 10; second = 10; third = 10; fourth = 10 } → first_passes (is_other m) r ≡ false → first_passes is_in_line r ≡ false
 line_stops m [] is h = refl
@@ -231,10 +221,6 @@ proper_source (DocLineToken body) t is = is
 proper_source (DocBlockToken i) t is = is
 proper_source (StrayToken c) t is = absurd is
 
-or_false : (a b : Bool) → (a || b) ≡ false → (a ≡ false) × (b ≡ false)
-or_false true b h = absurd (cc)
-or_false false b h = (refl, h)
-
 pub apostrophe : (r : List ℕ) → (slice_index r 0 == 39) ≡ first_passes is_apostrophe r
 apostrophe [] = refl
 apostrophe (c ∷ r) = refl
@@ -246,8 +232,8 @@ true_false false h k = absurd (cc)
 -- what opens nothing
 pub closed_here : (r : List ℕ) → opens r ≡ false → Opens r → ⊥
 closed_here r h o =
-    let e = or_false (begins (codes "/*") r) (begins_quote r || slice_index r 0 == 39) h in
-    let d = or_false (begins_quote r) (slice_index r 0 == 39) e.1 in
+    let e = or_parts (begins (codes "/*") r) (begins_quote r || slice_index r 0 == 39) h in
+    let d = or_parts (begins_quote r) (slice_index r 0 == 39) e.1 in
     elim o [
       | inl q ↦ no_quote_begins r d.0 q
       | inr x ↦ elim x [

@@ -1,10 +1,5 @@
 -- A source is cut in one way, and what the lexer cuts of a text is cut of it as a source too.
-use Rattle.std.proofs.Common.{◌≡◌, ℕ, inl, inr, true, false, not, ◌&&◌, ◌==◌, cond, List, [], ◌∷◌, ◌++◌, map, Option, Some, None, slice_index, drop, refl, sym, ◌∙◌, ap, subst, arith, lit<}
-use Rattle.std.proofs.lemmas.List.{append_cancel_right}
-use Rattle.std.proofs.lemmas.Option.{none-some}
-use Rattle.std.specs.List.{list_all}
-use Rattle.std.specs.Option.{option_map}
-use Rattle.unicode_ident.proofs.IdentLemmas.{is_xid_continue-ascii}
+use Rattle.rl_tokens.proofs.Common.{◌≡◌, ℕ, inl, inr, true, false, not, ◌&&◌, ◌==◌, cond, List, [], ◌∷◌, ◌++◌, map, Option, Some, None, slice_index, drop, refl, sym, ◌∙◌, ap, subst, arith, lit<, and_parts, append_cancel_right, none-some, list_all, option_map, is_xid_continue-ascii}
 use Rattle.rl_tokens.specs.Texts.{first_passes, is_white, byte_len}
 use Rattle.rl_tokens.specs.Trivia.{inside_text}
 use Rattle.rl_tokens.specs.Lexemes.{Lexeme, lexeme_text, IsLexeme, IsRow, LexemeForm, form_of, is_start, is_continue}
@@ -15,7 +10,7 @@ use Rattle.rl_tokens.specs.Mirrors.SourceAt.{other_at}
 use Rattle.rl_tokens.specs.Sources.{is_in_line, is_apostrophe, SourceLexeme, PlainToken, RawIdentifierToken, LifetimeToken, RawLifetimeToken, DocLineToken, DocBlockToken, StrayToken, source_text, IsProper, IsSource, SourceKind, PlainKind, source_kind, BeginsNoSource, without_mark, IsScriptLine, IsWithoutLine, CutSource, source_end, SourcesUpTo, told, OneCutting, plain_cut, HoldsLexemes}
 use Rattle.rl_tokens.proofs.Comments.{same_Some}
 use Rattle.rl_tokens.proofs.LexemeFronts.{at_class, class39, class47, class114, lexeme_at-past, same_pair, start_ascii}
-use Rattle.rl_tokens.proofs.LexemeRows.{both_true, not_among, run_past}
+use Rattle.rl_tokens.proofs.LexemeRows.{not_among, run_past}
 use Rattle.rl_tokens.proofs.Pieces.{one_rest}
 use Rattle.rl_tokens.proofs.SourceFronts.{IsOther, other_at-past}
 
@@ -41,7 +36,7 @@ no_single c (e ∷ u) plain free = ap (λ b. cond b (after_apostrophe u) (cond (
 
 row_free : (more t : List ℕ) → IsRow is_continue more t → first_passes is_apostrophe t ≡ false → first_passes is_apostrophe (more ++ t) ≡ false
 row_free [] t row free = free
-row_free (d ∷ more) t row free = not_among d 39 is_continue (both_true (is_continue d) (list_all is_continue more) row.each).0 continue_39
+row_free (d ∷ more) t row free = not_among d 39 is_continue (and_parts (is_continue d) (list_all is_continue more) row.each).0 continue_39
 
 lifetime_no_lexeme : (c : ℕ) (s : List ℕ) → is_start c ≡ true → first_passes is_apostrophe s ≡ false → lexeme_at (39 ∷ c ∷ s) ≡ None
 lifetime_no_lexeme c s is free =

@@ -1,11 +1,5 @@
 -- A strict number is one lexeme before what may follow a literal.
-use Rattle.std.proofs.Common.{◌≡◌, ℕ, ◌<◌, ◌≤◌, ◌⊎◌, inl, inr, suc, Bool, true, false, not, ◌&&◌, ◌||◌, ◌==◌, List, [], ◌∷◌, ◌++◌, replicate, refl, sym, ◌∙◌, ap, subst, arith, append_assoc, append-nil, lit<}
-use Rattle.std.specs.Prelude.{nat_lt}
-use Rattle.std.specs.List.{list_all, list_any}
-use Rattle.std.specs.Char.{digit_value, is_ascii_digit, is_ascii_hexdigit, is_ascii_alphanumeric}
-use Rattle.std.proofs.lemmas.Bool.{and_parts, and_from, or_from, or_cases, eqb-true, ltb-true, lt-ltb, agree_below_at}
-use Rattle.std.proofs.lemmas.Bool.Decides.{nat_tests}
-use Rattle.std.proofs.lemmas.List.Folds.{list_all-append}
+use Rattle.rl_tokens.proofs.Common.{◌≡◌, ℕ, ◌<◌, ◌≤◌, ◌⊎◌, inl, inr, suc, Bool, true, false, not, ◌&&◌, ◌||◌, ◌==◌, List, [], ◌∷◌, ◌++◌, replicate, refl, sym, ◌∙◌, ap, subst, arith, append_assoc, append-nil, lit<, nat_lt, list_all, list_any, digit_value, is_ascii_digit, is_ascii_hexdigit, is_ascii_alphanumeric, and_parts, and_from, or_from, or_cases, eqb-true, ltb-true, lt-ltb, agree_below_at, nat_tests, list_all-append}
 use Rattle.rl_tokens.specs.Texts.{is_white, first_passes, begins, is_row_part}
 use Rattle.rl_tokens.specs.Numbers.{Decimal, is_digit}
 use Rattle.rl_tokens.specs.Lexemes.{is_base_letter, begins_dot, LexedFraction, NoLexedFraction, LexedDot, lexed_fraction_text, LexedSign, NoLexedSign, LexedPlus, LexedMinus, lexed_sign_text, LexedExponent, NoLexedExponent, LexedPower, lexed_exponent_text, IsLexedFraction, IsLexedExponent, BasedLexeme, DecimalLexeme, is_start, is_continue}
@@ -16,7 +10,7 @@ use Rattle.rl_tokens.proofs.StrictNumbers.{suffix_of_strict, suffix_no_part}
 use Rattle.rl_tokens.proofs.LexemeRows.{not_among}
 use Rattle.rl_tokens.proofs.LexemeOpeners.{no_exponent_begins}
 use Rattle.rl_tokens.proofs.LexemeFronts.{start_ascii, digit_not_start, decimal_text}
-use Rattle.rl_tokens.proofs.LexemeGaps.{and_false, and_more, continue_ascii}
+use Rattle.rl_tokens.proofs.LexemeGaps.{and_false, and_more, continue_ascii, assoc3}
 use Rattle.rl_tokens.proofs.PrintedCuts.{LexedBefore}
 use Rattle.rl_tokens.proofs.LiteralEnds.{EndsLiteral, Clear, clear_continue, clear_part, clear_dot, clear_base, clear_exponent, clear_code, ends_fails, front_fails, suffix_starts, suffix_continues, strict_suffix_lexed}
 use Rattle.rl_tokens.specs.Mirrors.LexemeAt.{begins_exponent, after_sign}
@@ -70,9 +64,6 @@ no_dot (c ∷ t) h = ap (λ b. b && not (first_passes (λ d. d == 46 || is_start
 no_exponent : (s : List ℕ) → first_passes is_letter s ≡ false → begins_exponent s ≡ false
 no_exponent [] h = refl
 no_exponent (c ∷ t) h = ap (λ b. b && first_passes is_ascii_digit (after_run (λ c. c == 95) (after_sign t))) h
-
-assoc3 : (f e x t : List ℕ) → (f ++ (e ++ x)) ++ t ≡ f ++ (e ++ (x ++ t))
-assoc3 f e x t = simp append_assoc
 
 -- a test that fails at a joined text fails where an end follows
 fails_tail2 : (test : ℕ → Bool) (e x after : List ℕ) → Clear test → EndsLiteral after → first_passes test (e ++ x) ≡ false → first_passes test (e ++ (x ++ after)) ≡ false
@@ -252,9 +243,6 @@ int_lexed t x v s =
     ]
 
 -- Floats.
-float_text : (more f e x : List ℕ) → (more ++ (f ++ e)) ++ x ≡ more ++ (f ++ (e ++ x))
-float_text more f e x = simp append_assoc
-
 float_from : (t x d : List ℕ) (v : Contents) (s : StrictFloat t v x) (f : LexedFraction) (e : LexedExponent) → IsDigits d → s.numeral ≡ d ++ (lexed_fraction_text f ++ lexed_exponent_text e) → first_passes (is_row_part is_ascii_digit) (lexed_fraction_text f ++ (lexed_exponent_text e ++ x)) ≡ false → FractionFacts f (lexed_exponent_text e ++ x) → ExponentFacts e x → LexedBefore EndsLiteral t
 float_from t x d v s f e digits numeral row_ends is_fraction is_exponent =
     let r = digit_row d digits in
@@ -274,7 +262,7 @@ float_from t x d v s f e digits numeral row_ends is_fraction is_exponent =
       is_decimal = s.no_prefix;
       text = s.text ∙ ap (λ z. z ++ x) numeral
           ∙ ap (λ z. (z ++ (lexed_fraction_text f ++ lexed_exponent_text e)) ++ x) r.text
-          ∙ ap (λ z. r.digit ∷ z) (float_text r.more (lexed_fraction_text f) (lexed_exponent_text e) x);
+          ∙ ap (λ z. r.digit ∷ z) (assoc3 r.more (lexed_fraction_text f) (lexed_exponent_text e) x);
     })
 
 dot_alone : (t x d : List ℕ) (v : Contents) (s : StrictFloat t v x) → IsDigits d → s.numeral ≡ d ++ (46 ∷ []) → x ≡ [] → LexedBefore EndsLiteral t

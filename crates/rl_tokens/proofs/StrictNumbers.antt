@@ -1,12 +1,6 @@
 -- A strict number reads as the lenient reading says, with a minus before it too.
-use Rattle.std.proofs.Common.{◌≡◌, ℕ, ◌+◌, ◌*◌, ◌^◌, ◌<◌, ◌≤◌, ◌||◌, ◌&&◌, Bool, true, false, not, eqb, ltb, List, [], ◌∷◌, ◌++◌, length, refl, sym, ap, subst, ◌∙◌, ◌⊎◌, inl, inr, arith, append_assoc, append-nil}
-use Rattle.std.specs.Prelude.{nat_lt}
-use Rattle.std.specs.Char.{digit_value, is_ascii_digit, is_ascii_hexdigit, is_ascii_alphabetic, is_ascii_alphanumeric}
-use Rattle.std.specs.List.{list_all, list_any}
-use Rattle.std.proofs.lemmas.List.Folds.{list_all-append}
-use Rattle.std.proofs.lemmas.Bool.{eqb-true, eq-eqb, both_ways, and_parts, and_from, or_parts, or_cases, or_from, cases_lt, ltb-true, lt-ltb, not-true, false_from_ne_true, agree_below_at, not_from_false}
-use Rattle.unicode_ident.specs.Ident.{is_xid_start, is_xid_continue}
-use Rattle.unicode_ident.proofs.IdentLemmas.{is_xid_start-ascii}
+use Rattle.rl_tokens.proofs.Common.{◌≡◌, ℕ, ◌+◌, ◌*◌, ◌^◌, ◌<◌, ◌≤◌, ◌||◌, ◌&&◌, Bool, true, false, not, eqb, ltb, List, [], ◌∷◌, ◌++◌, length, refl, sym, ap, subst, ◌∙◌, ◌⊎◌, inl, inr, arith, append_assoc, append-nil, nat_lt, digit_value, is_ascii_digit, is_ascii_hexdigit, is_ascii_alphabetic, is_ascii_alphanumeric, list_all, list_any, list_all-append, eqb-true, eq-eqb, both_ways, and_parts, and_from, or_parts, or_cases, or_from, cases_lt, ltb-true, lt-ltb, not-true, agree_below_at, not_from_false, is_xid_start, is_xid_continue, is_xid_start-ascii}
+use Rattle.std.proofs.lemmas.Bool.{false_from_ne_true}
 use Rattle.rl_tokens.specs.Texts.{first_passes, begins, is_underscore, is_row_part}
 use Rattle.rl_tokens.specs.Quoted.{place_value, without_underscores}
 use Rattle.rl_tokens.specs.Numbers.{Base, Binary, Octal, Decimal, Hexadecimal, radix, prefix, is_digit, Sign, NoSign, Minus, sign_text, begins_base, IsAfterPrefix, IsSuffix, is_exponent_letter, IsExponentSuffix, AllowsSuffix, IntReads, limit, Fraction, NoFraction, Dot, fraction_text, IsFraction, Exponent, NoExponent, Power, exponent_text, is_power_sign, BeginsExponent, IsExponent, float_digits}
@@ -67,7 +61,7 @@ pub same_value : (base : ℕ) (ds : List ℕ) → spelled_number base ds ≡ pla
 same_value base [] = refl
 same_value base (d ∷ ds) = ap (λ n. digit_value d * base ^ length ds + n) (same_value base ds)
 
-passes_on : (test : ℕ → Bool) (a b : List ℕ) → first_passes test a ≡ true → first_passes test (a ++ b) ≡ true
+pub passes_on : (test : ℕ → Bool) (a b : List ℕ) → first_passes test a ≡ true → first_passes test (a ++ b) ≡ true
 passes_on test [] b h = absurd (cc)
 passes_on test (c ∷ cs) b h = h
 

@@ -1,14 +1,9 @@
 -- A strict quoted literal reads as the lenient reading says.
-use Rattle.std.proofs.Common.{◌≡◌, ℕ, zero, suc, ◌+◌, ◌*◌, ◌^◌, ◌<◌, ◌≤◌, ◌||◌, ◌&&◌, Bool, true, false, not, eqb, List, [], ◌∷◌, ◌++◌, length, map, replicate, refl, sym, ap, subst, ◌∙◌, ◌⊎◌, inl, inr, arith, append_assoc, append-nil}
-use Rattle.std.specs.Prelude.{IsFalse, ⊤, encode_utf8_all, nat_lt, nat_le}
-use Rattle.std.specs.Char.{digit_value, is_ascii_hexdigit, IsScalar}
-use Rattle.std.specs.Str.{all_scalars}
-use Rattle.std.proofs.Math.Utf8.{scalar}
-use Rattle.std.specs.List.{list_all, flat_map, AllByRecursion}
-use Rattle.std.proofs.lemmas.Str.{encode_ascii}
+use Rattle.rl_tokens.proofs.Common.{◌≡◌, ℕ, zero, suc, ◌+◌, ◌*◌, ◌^◌, ◌<◌, ◌≤◌, ◌||◌, ◌&&◌, Bool, true, false, not, eqb, List, [], ◌∷◌, ◌++◌, length, map, replicate, refl, sym, ap, subst, ◌∙◌, ◌⊎◌, inl, inr, arith, append_assoc, append-nil, IsFalse, ⊤, nat_lt, digit_value, is_ascii_hexdigit, all_scalars, scalar, list_all, flat_map, AllByRecursion, encode_ascii, list_all-append, eqb-true, and_parts, and_from, or_parts, or_cases, or_from, or_left, or_right, ltb-true, lt-ltb, not-true, not_from_false}
+use Rattle.std.specs.Prelude.{encode_utf8_all, nat_le}
+use Rattle.std.specs.Char.{IsScalar}
 use Rattle.std.proofs.lemmas.List.Elements.{filter-append}
-use Rattle.std.proofs.lemmas.List.Folds.{list_all-append}
-use Rattle.std.proofs.lemmas.Bool.{eqb-true, and_parts, and_from, or_parts, or_cases, or_from, or_left, or_right, ltb-true, lt-ltb, leb-true, not-true, not_from_false}
+use Rattle.std.proofs.lemmas.Bool.{leb-true}
 use Rattle.rl_tokens.specs.declared.kind.Kind.{Kind}
 use Rattle.rl_tokens.specs.declared.kind.Kind.TheVariants.{Str, ByteStr, CStr, Byte, Char, Int, Float, Bool as BoolKind}
 use Rattle.rl_tokens.specs.Texts.{first_passes, is_underscore}

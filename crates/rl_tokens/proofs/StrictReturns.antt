@@ -1,11 +1,5 @@
 -- A strict text holds no CR.
-use Rattle.std.proofs.Common.{◌≡◌, ℕ, zero, suc, ◌||◌, ◌&&◌, Bool, true, false, not, eqb, List, [], ◌∷◌, ◌++◌, replicate, refl, ap, ◌∙◌, ◌⊎◌, inl, inr, arith}
-use Rattle.std.specs.Prelude.{nat_lt, codes, if◌then◌else◌}
-use Rattle.std.specs.Char.{digit_value, is_ascii_digit, is_ascii_hexdigit}
-use Rattle.std.specs.Str.{all_scalars}
-use Rattle.std.specs.List.{list_all, flat_map}
-use Rattle.std.proofs.lemmas.List.Folds.{list_all-append}
-use Rattle.std.proofs.lemmas.Bool.{and_parts, and_from, not_from_false}
+use Rattle.rl_tokens.proofs.Common.{◌≡◌, ℕ, zero, suc, ◌||◌, ◌&&◌, Bool, true, false, not, eqb, List, [], ◌∷◌, ◌++◌, replicate, refl, ap, ◌∙◌, ◌⊎◌, inl, inr, arith, nat_lt, codes, if◌then◌else◌, digit_value, is_ascii_digit, is_ascii_hexdigit, all_scalars, list_all, flat_map, list_all-append, and_parts, and_from, not_from_false}
 use Rattle.rl_tokens.specs.declared.kind.Kind.{Kind}
 use Rattle.rl_tokens.specs.declared.kind.Kind.TheVariants.{Str, ByteStr, CStr, Byte, Char, Int, Float, Bool as BoolKind}
 use Rattle.rl_tokens.specs.Reading.{Contents}

@@ -1,9 +1,7 @@
 -- What is after the rest of a text is after the text.
-use Rattle.std.proofs.Common.{◌≡◌, ℕ, ◌-◌, ◌<◌, List, [], ◌++◌, length, take, drop, refl, sym, ap, subst, ◌∙◌, arith, append_assoc, length-append, Option, Some, None}
-use Rattle.std.proofs.Math.Seq.{take-append_seam, drop-append_seam}
-use Rattle.std.specs.Str.{IsCharBoundary, chars, IsUtf8}
-use Rattle.std.proofs.lemmas.Str.{IsCharBoundary-at_seam, chars-append}
-use Rattle.std.specs.Option.{IfSome, IfNone, option_map}
+use Rattle.rl_tokens.proofs.Common.{◌≡◌, ℕ, ◌-◌, ◌<◌, List, [], ◌++◌, length, take, drop, refl, sym, ap, subst, ◌∙◌, arith, append_assoc, length-append, Option, Some, None, take-append_seam, IsCharBoundary, chars, IsUtf8, chars-append, IfSome, IfNone, option_map}
+use Rattle.std.proofs.Math.Seq.{drop-append_seam}
+use Rattle.std.proofs.lemmas.Str.{IsCharBoundary-at_seam}
 use Rattle.rl_tokens.specs.Texts.{IsTail}
 
 pub tail_self : (t : List ℕ) → IsUtf8 t → IsTail t t

@@ -1,5 +1,5 @@
 -- Views of trees and streams.
-use Rattle.std.proofs.Common.{◌≡◌, List, [], ◌∷◌, map, refl, sym, ◌∙◌, ap, ◌++◌}
+use Rattle.rl_tokens.proofs.Common.{◌≡◌, List, [], ◌∷◌, map, refl, sym, ◌∙◌, ap, ◌++◌, map-append}
 use Rattle.rl_tokens.specs.declared.span.Span.{Span}
 use Rattle.rl_tokens.specs.declared.token.TokenTree.{fold-roll-TokenTree, TokenTree}
 use Rattle.rl_tokens.specs.declared.token.TokenTree.TheOpen as layer
@@ -8,7 +8,6 @@ use Rattle.rl_tokens.specs.declared.token.Group.{Group, fold_out-Group}
 use Rattle.rl_tokens.specs.declared.token.TokenStream.{TokenStream, fold-TokenStream, fold_out-TokenStream}
 use Rattle.rl_tokens.specs.Puncts.{Mark}
 use Rattle.rl_tokens.specs.Texts.{SpannedText}
-use Rattle.std.proofs.lemmas.List.{map-append}
 use Rattle.rl_tokens.specs.Trees.{Tree, GroupTree, PunctTree, LiteralTree, IdentTree, trees_of, MoreTrees, GroupParts, delimiter_of, stream_of, group_span, inside_of, tree_step, group_step, stream_step, tree_view, stream_view, respanned, all_respanned, relocated, all_relocated, looked_up, group_tree}
 
 abbrev stream_fold : {A : Type 0} → TokenStream A → List Tree

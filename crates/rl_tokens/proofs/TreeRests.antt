@@ -1,5 +1,5 @@
 -- Trees that are left of those before.
-use Rattle.std.proofs.Common.{subst, inr, ◌≡◌, List, [], ◌∷◌, ◌++◌, refl, sym, ◌∙◌, ap, append_assoc}
+use Rattle.rl_tokens.proofs.Common.{subst, inr, ◌≡◌, List, [], ◌∷◌, ◌++◌, refl, sym, ◌∙◌, ap, append_assoc}
 use Rattle.std.specs.Prelude.{◌≢◌, Result, Ok}
 use Rattle.rl_tokens.specs.declared.span.Span.{Span}
 use Rattle.rl_tokens.specs.declared.error.ErrorKind.TheVariants.{Unexpected}

@@ -1,12 +1,5 @@
 -- The words of truth values are identifiers.
-use Rattle.std.proofs.Common.{◌≡◌, ℕ, ◌<◌, ◌||◌, ◌&&◌, Bool, true, false, eqb, ltb, List, [], ◌∷◌, refl, ap, ◌∙◌, arith}
-use Rattle.std.specs.Prelude.{codes}
-use Rattle.std.specs.Char.{is_ascii_alphabetic, is_ascii_alphanumeric}
-use Rattle.std.specs.List.{list_all}
-use Rattle.std.specs.Str.{chars}
-use Rattle.std.proofs.lemmas.Bool.{and_from, and_parts, or_right, ltb-true}
-use Rattle.unicode_ident.specs.Ident.{is_xid_start, is_xid_continue}
-use Rattle.unicode_ident.proofs.IdentLemmas.{is_xid_continue-ascii, is_xid_start-ascii}
+use Rattle.rl_tokens.proofs.Common.{◌≡◌, ℕ, ◌<◌, ◌||◌, ◌&&◌, Bool, true, false, eqb, ltb, List, [], ◌∷◌, refl, ap, ◌∙◌, arith, codes, is_ascii_alphabetic, is_ascii_alphanumeric, list_all, chars, and_from, and_parts, or_right, ltb-true, is_xid_start, is_xid_continue, is_xid_continue-ascii, is_xid_start-ascii}
 use Rattle.rl_tokens.specs.Texts.{xid_ok}
 use Rattle.rl_tokens.specs.declared.kind.Kind.TheVariants.{Bool as BoolKind}
 use Rattle.rl_tokens.specs.Reading.{Truth, truth_text}

@@ -1,13 +1,7 @@
 -- In front of the first byte at which a literal or a comment may begin stands none.
-use Rattle.std.proofs.Common.{◌≡◌, ℕ, zero, suc, ◌+◌, ◌-◌, ◌<◌, ◌≤◌, Bool, true, false, not, ◌&&◌, ◌||◌, ◌==◌, nat_le, cond, List, [], ◌∷◌, ◌++◌, Some, None, length, take, drop, get_or, refl, sym, ap, subst, ◌∙◌, arith}
-use Rattle.std.proofs.lemmas.Bool.{agree_below_at, and_from, and_parts}
-use Rattle.std.proofs.lemmas.Bool.Decides.{nat_tests}
-use Rattle.std.proofs.lemmas.List.{take-append-drop}
-use Rattle.std.proofs.lemmas.List.Sums.{prefix_len-le-length}
-use Rattle.std.proofs.lemmas.Str.{IsCharBoundary-start, IsCharBoundary-after_ascii, IsUtf8-take, chars-append, chars-IsAscii}
-use Rattle.std.specs.Char.{is_ascii_alphabetic, is_ascii_digit}
-use Rattle.std.specs.List.{list_all, prefix_len}
-use Rattle.std.specs.Str.{chars, IsAscii, IsCharBoundary, IsUtf8}
+use Rattle.rl_tokens.proofs.Common.{◌≡◌, ℕ, zero, suc, ◌+◌, ◌-◌, ◌<◌, ◌≤◌, Bool, true, false, not, ◌&&◌, ◌||◌, ◌==◌, nat_le, cond, List, [], ◌∷◌, ◌++◌, Some, None, length, take, drop, get_or, refl, sym, ap, subst, ◌∙◌, arith, agree_below_at, and_from, and_parts, nat_tests, take-append-drop, prefix_len-le-length, IsCharBoundary-start, IsCharBoundary-after_ascii, IsUtf8-take, chars-append, chars-IsAscii, is_ascii_alphabetic, is_ascii_digit, list_all, prefix_len, chars, IsAscii, IsCharBoundary, IsUtf8}
+use Rattle.rl_tokens.proofs.UnlikelyLanes.{with_before-length}
+use Rattle.rl_tokens.proofs.LexemeRows.{not_true}
 use Rattle.rl_tokens.specs.Texts.{is_among, is_white}
 use Rattle.rl_tokens.specs.Skipping.{Skipped}
 use Rattle.rl_tokens.specs.Lexemes.{IdentifierForm, DelimiterForm, MarkForm, delimiters, marks, is_continue}
@@ -30,10 +24,6 @@ use Rattle.rl_tokens.proofs.WordsAndMarks.{mark_found, word_found}
 implied : (a b : Bool) → (not a || b) ≡ true → a ≡ true → b ≡ true
 implied true b h is = h
 implied false b h is = absurd (cc)
-
-no : (b : Bool) → not b ≡ true → b ≡ false
-no true h = absurd (cc)
-no false h = refl
 
 -- a character that begins a word, and none of a literal's
 abbrev word_here : ℕ → Bool
@@ -77,7 +67,7 @@ reach_word c u r low here more =
     let truth = and_parts (not (c == 116)) (not (c == 102)) white.1 in
     let begins : begins_word c ≡ true = ap (λ b. not (is_prefix_letter c) && b) (start_ascii c low) ∙ facts.0 in
     let token = plain_before (c ∷ u) (after_run is_continue u) IdentifierForm (word_found (c ∷ u) u (after_run is_continue u) c refl begins refl) in
-    reach_token c u (after_run is_continue u) r (PlainKind IdentifierForm) (no (c == 47) slash.0) (no (is_white c) white.0) token (word_no_literal c u (after_run is_continue u) token (no (c == 116) truth.0) (no (c == 102) truth.1)) more
+    reach_token c u (after_run is_continue u) r (PlainKind IdentifierForm) (not_true (c == 47) slash.0) (not_true (is_white c) white.0) token (word_no_literal c u (after_run is_continue u) token (not_true (c == 116) truth.0) (not_true (c == 102) truth.1)) more
 
 -- of a mark's form
 mark_no_literal : (d : Bool) (c : ℕ) (text : List ℕ) → IsLiteralText (PlainKind (cond d (DelimiterForm c) (MarkForm c))) text → ⊥
@@ -104,14 +94,14 @@ reach_stray c u r low here white more =
     let g = and_parts (not (is_ascii_digit c) && not (is_among delimiters c)) (not (is_among marks c) && not ((c == 95 || is_ascii_alphabetic c) && not (is_white c))) facts.1 in
     let h = and_parts (not (is_ascii_digit c)) (not (is_among delimiters c)) g.0 in
     let i = and_parts (not (is_among marks c)) (not ((c == 95 || is_ascii_alphabetic c) && not (is_white c))) g.1 in
-    let start = start_ascii c low ∙ no ((c == 95 || is_ascii_alphabetic c) && not (is_white c)) i.1 in
+    let start = start_ascii c low ∙ not_true ((c == 95 || is_ascii_alphabetic c) && not (is_white c)) i.1 in
     let head : head_class c ≡ StrayHead =
-    stray_class c start (no (is_among delimiters c) h.1) (no (c == 47) a.0) (no (is_among marks c) i.0) (no (is_ascii_digit c) h.0) (no (c == 34) d.0) (no (c == 39) b.0) in
+    stray_class c start (not_true (is_among delimiters c) h.1) (not_true (c == 47) a.0) (not_true (is_among marks c) i.0) (not_true (is_ascii_digit c) h.0) (not_true (c == 34) d.0) (not_true (c == 39) b.0) in
     let none : lexeme_at (c ∷ u) ≡ None = at_class c u StrayHead head in
-    let other : other_at (c ∷ u) ≡ None = rw (no (c == 47) a.0, no (c == 39) b.0, no (c == 114) f.1) refl in
-    let shut : opens (c ∷ u) ≡ false = rw (opens, no (c == 47) a.0, no (c == 34) d.0, no (c == 98) e.0, no (c == 99) f.0, no (c == 114) f.1, no (c == 39) b.0, no_raw u) refl in
+    let other : other_at (c ∷ u) ≡ None = rw (not_true (c == 47) a.0, not_true (c == 39) b.0, not_true (c == 114) f.1) refl in
+    let shut : opens (c ∷ u) ≡ false = rw (opens, not_true (c == 47) a.0, not_true (c == 34) d.0, not_true (c == 98) e.0, not_true (c == 99) f.0, not_true (c == 114) f.1, not_true (c == 39) b.0, no_raw u) refl in
     let any : any_at (c ∷ u) ≡ Some (StrayKind, u) = ap (λ o. or_stray o (c ∷ u)) other ∙ ap (λ b. cond b None (Some (StrayKind, u))) shut in
-    reach_token c u u r StrayKind (no (c == 47) a.0) white (any_found (c ∷ u) (StrayKind, u) (no_lexeme (c ∷ u) none) any) (λ is. is) more
+    reach_token c u u r StrayKind (not_true (c == 47) a.0) white (any_found (c ∷ u) (StrayKind, u) (no_lexeme (c ∷ u) none) any) (λ is. is) more
 
 -- ---- fronts of ASCII
 
@@ -139,7 +129,7 @@ slash_of false true s b h = absurd (cc)
 slash_of false false true b h = absurd (cc)
 slash_of false false false b h = refl
 
--- what is no word
+-- what is not_true word
 reach_other : (c : ℕ) (u r : List ℕ) → c < 128 → is_word_byte c ≡ false → not (is_likely_mark c) ≡ true → Reaches u r → Reaches (c ∷ u) r
 reach_other c u r low plain unlikely more = go (is_white c) (is_mark_alone c) refl refl
   where
@@ -217,10 +207,6 @@ last_taken p n [] h = absurd (omega arith)
 last_taken p zero (b ∷ bs) h = refl
 last_taken p (suc n) (b ∷ bs) h = last_taken b n bs (omega arith)
 
-with_before-length : (p : ℕ) (bs : List ℕ) → length (with_before p bs) ≡ length bs
-with_before-length p [] = refl
-with_before-length p (b ∷ bs) = ap suc (with_before-length b bs)
-
 pub unlikely-within : (bs : List ℕ) → unlikely_len bs ≤ length bs
 unlikely-within bs = omega (arith, prefix_len-le-length begins_none (with_before 0 bs), with_before-length 0 bs)
 
@@ -234,7 +220,7 @@ unlikely-boundary bs (suc m) u e =
     let next : m + 1 ≡ suc m = omega arith in
     subst (IsCharBoundary bs) next (IsCharBoundary-after_ascii bs m u (omega arith) (omega (arith, low, same)))
 
--- From the text up to what is left at that place, after the word that goes on there and all trivia, no
+-- From the text up to what is left at that place, after the word that goes on there and all trivia, not_true
 -- literal stands.
 pub unlikely-reaches : (bs rest : List ℕ) (n : ℕ) (r : List ℕ) → IsUtf8 bs → n ≤ unlikely_len bs → rest ≡ drop n bs → Skipped (past_word (byte_before bs n) (chars rest)) r → Reaches (chars bs) r
 unlikely-reaches bs rest n r u e cut skipped =

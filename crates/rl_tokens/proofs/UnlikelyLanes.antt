@@ -1,11 +1,6 @@
 -- From the lanes of sixteen bytes to those at which a literal or a comment may begin.
-use Rattle.std.proofs.Common.{◌≡◌, ℕ, zero, suc, ◌+◌, ◌-◌, ◌*◌, ◌^◌, ◌<◌, ◌≤◌, ◌==◌, nat_le, ◌||◌, ◌&&◌, Bool, true, false, not, cond, List, [], ◌∷◌, map, length, take, drop, refl, sym, ap, ap₂, ◌∙◌, arith}
-use Rattle.std.proofs.lemmas.Bool.{agree_below_at}
-use Rattle.std.proofs.lemmas.Bool.Decides.{nat_tests}
-use Rattle.std.proofs.lemmas.Simd.{map-map}
-use Rattle.std.specs.List.{prefix_len}
-use lib.Bits.{bit_and, bit_or, and_block, or_block}
-use lib.Lanes.{chunk, mask_l}
+use Rattle.rl_tokens.proofs.Common.{◌≡◌, ℕ, zero, suc, ◌+◌, ◌-◌, ◌*◌, ◌^◌, ◌<◌, ◌≤◌, ◌==◌, nat_le, ◌||◌, ◌&&◌, Bool, true, false, not, cond, List, [], ◌∷◌, map, length, take, drop, refl, sym, ap, ap₂, ◌∙◌, arith, agree_below_at, nat_tests, map-map, prefix_len, bit_or, chunk, mask_l}
+use lib.Bits.{bit_and, and_block, or_block}
 use Rattle.rl_tokens.specs.Mirrors.LexemeAt.{has_bit}
 use Rattle.rl_tokens.specs.Mirrors.RunsAt.{is_word_byte}
 use Rattle.rl_tokens.specs.Mirrors.LiteralsAt.{is_likely_mark, is_likely_head, may_begin, begins_none, with_before}
@@ -33,7 +28,7 @@ seconds zero n p bs = seconds_taken n p bs
 seconds (suc i) n p [] = seconds_taken n p []
 seconds (suc i) n p (b ∷ bs) = seconds i n b bs
 
-with_before-length : (p : ℕ) (bs : List ℕ) → length (with_before p bs) ≡ length bs
+pub with_before-length : (p : ℕ) (bs : List ℕ) → length (with_before p bs) ≡ length bs
 with_before-length p [] = refl
 with_before-length p (b ∷ bs) = ap suc (with_before-length b bs)
 

@@ -1,13 +1,11 @@
 -- Words and marks that their first byte tells, or that and the next.
-use Rattle.std.proofs.Common.{◌≡◌, ℕ, inl, lit<, Bool, true, false, not, ◌&&◌, ◌||◌, ◌==◌, cond, List, [], ◌∷◌, Some, None, nat_le, ◌<◌, ◌≤◌, ◌+◌, ◌-◌, refl, sym, subst, ◌∙◌, ap, arith}
-use Rattle.std.proofs.lemmas.Bool.{and_parts, agree_below, agree_below_at}
-use Rattle.std.proofs.lemmas.Bool.Decides.{nat_tests}
-use Rattle.std.specs.Char.{is_ascii, is_ascii_alphabetic, is_ascii_digit}
+use Rattle.rl_tokens.proofs.Common.{◌≡◌, ℕ, inl, lit<, Bool, true, false, not, ◌&&◌, ◌||◌, ◌==◌, cond, List, [], ◌∷◌, Some, None, nat_le, ◌<◌, ◌≤◌, ◌+◌, ◌-◌, refl, sym, subst, ◌∙◌, ap, arith, or_parts, and_parts, agree_below, agree_below_at, nat_tests, is_ascii, is_ascii_alphabetic, is_ascii_digit}
+use Rattle.rl_tokens.proofs.LexemeRows.{not_true}
 use Rattle.rl_tokens.specs.Texts.{first_passes, is_among, is_white}
 use Rattle.rl_tokens.specs.Lexemes.{delimiters, marks, LexemeForm, IdentifierForm, DelimiterForm, MarkForm, is_start, is_continue}
 use Rattle.rl_tokens.specs.Classes.{after_run}
 use Rattle.rl_tokens.specs.Mirrors.LexemeAt.{FormBefore, LetterBHead, LetterCHead, LetterRHead, OtherLetterHead, StrayHead, is_prefix_letter, begins_word, goes_on_as_word, is_mark_alone, makes_comment, mark_form, has_bit, start_class, lexeme_at, word_at}
-use Rattle.rl_tokens.proofs.LexemeFronts.{at_class, class_start, low_among, or_false, stray_class, front_delimiter, front_mark, front_slash, start_ascii, class98, class99, class114}
+use Rattle.rl_tokens.proofs.LexemeFronts.{at_class, class_start, low_among, stray_class, front_delimiter, front_mark, front_slash, start_ascii, class98, class99, class114}
 use Rattle.rl_tokens.proofs.LexemeAnswers.{form_before}
 use Rattle.rl_tokens.proofs.Comments.{false_unless}
 use Rattle.rl_tokens.proofs.Pieces.{is_equal}
@@ -62,20 +60,16 @@ word_found s t r c e is run =
 other_than : (d k : ℕ) → k < 64 → nat_le 64 d ≡ true → (d == k) ≡ false
 other_than d k small h = grind (arith, nat_tests)
 
-is_false : (b : Bool) → not b ≡ true → b ≡ false
-is_false true h = absurd (cc)
-is_false false h = refl
-
 by_letter : (b d r : Bool) (c : ℕ) (t : List ℕ) → (c == 98) ≡ b → (c == 99) ≡ d → (c == 114) ≡ r → (b || d || r) ≡ true → first_passes goes_on_as_word t ≡ true → lexeme_at (c ∷ t) ≡ word_at t
 by_letter b d r c [] eb ed er is h = absurd (cc)
 by_letter true d r c (x ∷ u) eb ed er is h =
     let parts = and_parts (nat_le 64 x) (not (x == 114)) h in
     subst (λ (k : ℕ). lexeme_at (k ∷ x ∷ u) ≡ word_at (x ∷ u)) (sym (is_equal c 98 eb))
-    (at_class 98 (x ∷ u) LetterBHead class98 ∙ rw (other_than x 34 (lit< tt) parts.0, other_than x 39 (lit< tt) parts.0, is_false (x == 114) parts.1) refl)
+    (at_class 98 (x ∷ u) LetterBHead class98 ∙ rw (other_than x 34 (lit< tt) parts.0, other_than x 39 (lit< tt) parts.0, not_true (x == 114) parts.1) refl)
 by_letter false true r c (x ∷ u) eb ed er is h =
     let parts = and_parts (nat_le 64 x) (not (x == 114)) h in
     subst (λ (k : ℕ). lexeme_at (k ∷ x ∷ u) ≡ word_at (x ∷ u)) (sym (is_equal c 99 ed))
-    (at_class 99 (x ∷ u) LetterCHead class99 ∙ rw (other_than x 34 (lit< tt) parts.0, is_false (x == 114) parts.1) refl)
+    (at_class 99 (x ∷ u) LetterCHead class99 ∙ rw (other_than x 34 (lit< tt) parts.0, not_true (x == 114) parts.1) refl)
 by_letter false false true c (x ∷ u) eb ed er is h =
     let parts = and_parts (nat_le 64 x) (not (x == 114)) h in
     subst (λ (k : ℕ). lexeme_at (k ∷ x ∷ u) ≡ word_at (x ∷ u)) (sym (is_equal c 114 er))
@@ -104,7 +98,7 @@ slash_found s t c e is h = form_before s (MarkForm 47, t) (ap lexeme_at (e ∙ a
 
 pub stray_first : (s t : List ℕ) (c : ℕ) → s ≡ c ∷ t → is_start c ≡ false → is_mark_alone c ≡ false → (c == 47) ≡ false → is_ascii_digit c ≡ false → (c == 34) ≡ false → (c == 39) ≡ false → lexeme_at s ≡ None
 stray_first s t c e start mark slash digit quote apostrophe =
-    let parts = or_false (is_among delimiters c) (is_among marks c) mark in
+    let parts = or_parts (is_among delimiters c) (is_among marks c) mark in
     ap lexeme_at e ∙ at_class c t StrayHead (stray_class c start parts.0 slash parts.1 digit quote apostrophe)
 
 -- ---- past ASCII

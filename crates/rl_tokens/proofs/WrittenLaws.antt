@@ -1,11 +1,7 @@
 -- What is written is strict, and reads as the value.
-use Rattle.std.proofs.Common.{◌≡◌, ℕ, suc, ◌+◌, ◌*◌, ◌^◌, ◌/◌, ◌%◌, ◌<◌, ◌||◌, ◌&&◌, Bool, true, false, not, eqb, List, [], ◌∷◌, ◌++◌, length, map, refl, sym, ap, subst, ◌∙◌, inl, inr, arith, append_assoc, append-nil}
-use Rattle.std.specs.Prelude.{nat_lt}
-use Rattle.std.specs.Char.{digit_value, is_ascii_hexdigit}
-use Rattle.std.specs.List.{list_all, flat_map}
+use Rattle.rl_tokens.proofs.Common.{◌≡◌, ℕ, suc, ◌+◌, ◌*◌, ◌^◌, ◌/◌, ◌%◌, ◌<◌, ◌||◌, ◌&&◌, Bool, true, false, not, eqb, List, [], ◌∷◌, ◌++◌, length, map, refl, sym, ap, subst, ◌∙◌, inl, inr, arith, append_assoc, append-nil, nat_lt, digit_value, is_ascii_hexdigit, list_all, flat_map, encode_ascii, eqb-true, both_ways, and_parts, and_from, or_parts, or_cases, or_from, cases_Bool, ltb-true, ltb-false, lt-ltb, not-true, not_from_false, agree_below_at}
 use Rattle.std.proofs.lemmas.Nat.{div-add-mod'}
-use Rattle.std.proofs.lemmas.Str.{encode_ascii}
-use Rattle.std.proofs.lemmas.Bool.{eqb-true, eqb-false, both_ways, and_parts, and_from, or_parts, or_cases, or_from, cases_Bool, ltb-true, ltb-false, lt-ltb, not-true, not_from_false, agree_below_at}
+use Rattle.std.proofs.lemmas.Bool.{eqb-false}
 use Rattle.rl_tokens.specs.declared.kind.Kind.{Kind}
 use Rattle.rl_tokens.specs.declared.kind.Kind.TheVariants.{Str, ByteStr, CStr, Byte, Char, Int, Float, Bool as BoolKind}
 use Rattle.rl_tokens.specs.Quoted.{QuotedUnit, Plain, Named, Hex, LowerN, LowerR, LowerT, Backslash, Zero, unit_text, texts, opener, hex_value}

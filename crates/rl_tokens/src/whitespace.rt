@@ -1,6 +1,6 @@
 //! White space and plain comments.
 
-ghost use Rattle.std.specs.Prelude.{◌≡◌, slice_index, option_map, None, IfSome, IsFalse};
+ghost use Rattle.std.specs.Prelude.{◌≡◌, slice_index, option_map, IfSome, IsFalse};
 ghost use Rattle.std.specs.Str.{chars};
 ghost use Rattle.rl_tokens.specs.Texts.{is_white, first_passes, IsTail};
 ghost use Rattle.rl_tokens.specs.Trivia.{is_comment_line, is_comment_block};
@@ -37,28 +37,10 @@ pub fn skip(text: &str) -> &str
     ensures again { Skipped (chars result.now) (chars result.now) }
 {
     let rest = skip_white(text);
-    let Some(inside) = strip_byte(rest, b'/') else {
+    let Some(_) = strip_byte(rest, b'/') else {
         return rest;
     };
-    if begins_comment(inside) {
-        skip_comments(rest)
-    } else {
-        rest
-    }
-}
-
-/// Whether a plain comment may begin, by what stands after its first slash. Of doc comments and of a mark it is false.
-#[inline(never)]
-fn begins_comment(text: &str) -> bool
-    ensures { IsFalse result → after_comment (chars text.now) ≡ None }
-{
-    match split_ascii(text) {
-        Some((second, following)) => {
-            second == b'/' && is_comment_line(following)
-                || second == b'*' && is_comment_block(following)
-        }
-        None => false,
-    }
+    skip_comments(rest)
 }
 
 /// The rest of a text after its plain comments and white space, where no white space begins it, but perhaps a comment

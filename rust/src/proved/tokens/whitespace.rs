@@ -12,26 +12,10 @@ use crate::tokens::text::{begins_with, split_ascii, strip_byte};
 #[inline(always)]
 pub fn skip(text: &str) -> &str {
     let rest = skip_white(text);
-    let Some(inside) = strip_byte(rest, b'/') else {
+    let Some(_) = strip_byte(rest, b'/') else {
         return rest;
     };
-    if begins_comment(inside) {
-        skip_comments(rest)
-    } else {
-        rest
-    }
-}
-
-/// Whether a plain comment may begin, by what stands after its first slash. Of doc comments and of a mark it is false.
-#[inline(never)]
-fn begins_comment(text: &str) -> bool {
-    match split_ascii(text) {
-        Some((second, following)) => {
-            second == b'/' && is_comment_line(following)
-                || second == b'*' && is_comment_block(following)
-        }
-        None => false,
-    }
+    skip_comments(rest)
 }
 
 /// The rest of a text after its plain comments and white space, where no white space begins it, but perhaps a comment

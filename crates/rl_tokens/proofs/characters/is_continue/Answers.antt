@@ -1,4 +1,4 @@
-use Rattle.std.proofs.Common.{rules, ◌<◌, sym, ◌∙◌}
+use Rattle.rl_tokens.proofs.Common.{rules, ◌<◌, sym, ◌∙◌}
 use Rattle.rl_tokens.proofs.AsciiLemmas.{continue_is_plain}
 use Rattle.rl_tokens.proofs.characters.is_continue.Goals as goal
 

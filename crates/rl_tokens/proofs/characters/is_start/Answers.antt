@@ -1,4 +1,4 @@
-use Rattle.std.proofs.Common.{rules, ◌<◌, ◌==◌, sym, ◌∙◌}
+use Rattle.rl_tokens.proofs.Common.{rules, ◌<◌, ◌==◌, sym, ◌∙◌}
 use Rattle.rl_tokens.proofs.AsciiLemmas.{start_is_plain, either}
 use Rattle.rl_tokens.proofs.characters.is_start.Goals as goal
 

@@ -1,6 +1,4 @@
-use Rattle.std.proofs.lemmas.Grind.{common_steps}
-use Rattle.std.proofs.Common.{◌∙◌, sym, rules, arith}
-use Rattle.std.specs.Str.{chars}
+use Rattle.rl_tokens.proofs.Common.{common_steps, ◌∙◌, sym, rules, arith, chars}
 use Rattle.rl_tokens.specs.Classes.{class_test}
 use Rattle.rl_tokens.proofs.TailLemmas.{tail_step}
 use Rattle.rl_tokens.proofs.RowSteps.{row_step}

@@ -1,6 +1,4 @@
-use Rattle.std.proofs.Common.{◌≡◌, drop, sym, subst, ap, ◌∙◌}
-use Rattle.std.specs.Str.{chars, IsCharBoundary}
-use Rattle.std.specs.List.{prefix_len}
+use Rattle.rl_tokens.proofs.Common.{◌≡◌, drop, sym, subst, ap, ◌∙◌, chars, IsCharBoundary, prefix_len}
 use Rattle.rl_tokens.specs.Texts.{IsTail}
 use Rattle.rl_tokens.specs.Classes.{after_run, class_test}
 use Rattle.rl_tokens.specs.Mirrors.RunsAt.{is_held}

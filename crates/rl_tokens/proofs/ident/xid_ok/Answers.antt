@@ -1,4 +1,4 @@
-use Rattle.std.proofs.Common.{rules}
+use Rattle.rl_tokens.proofs.Common.{rules}
 use Rattle.rl_tokens.proofs.ident.xid_ok.Goals as goal
 
 pub returns-then-is_xid_start : goal.returns-then-is_xid_start

@@ -1,4 +1,4 @@
-use Rattle.std.proofs.Common.{arith}
+use Rattle.rl_tokens.proofs.Common.{arith}
 use Rattle.rl_tokens.proofs.UnlikelyFronts.{byte_before-inside}
 use Rattle.rl_tokens.proofs.lanes.byte_before.Goals as goal
 

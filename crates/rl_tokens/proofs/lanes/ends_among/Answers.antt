@@ -1,7 +1,5 @@
-use Rattle.std.proofs.Common.{ℕ, true, false, leb, cond, not, map, bit_or, refl, sym, ap, ◌∙◌, arith}
-use Rattle.std.proofs.lemmas.Bool.{eq-eqb, ne_eqb}
-use Rattle.std.proofs.lemmas.Simd.{zip2_splat, length-chunk}
-use lib.Lanes.{chunk, mask_l}
+use Rattle.rl_tokens.proofs.Common.{ℕ, true, false, leb, cond, not, map, refl, sym, ap, ◌∙◌, arith, eq-eqb, ne_eqb, zip2_splat, length-chunk, chunk, mask_l}
+use Rattle.std.proofs.Common.{bit_or}
 use Rattle.rl_tokens.specs.Mirrors.RunsAt.{ends_run}
 use Rattle.rl_tokens.proofs.RunLanes.{joined, splat_is, masked_as}
 use Rattle.rl_tokens.proofs.lanes.ends_among.Goals as goal

@@ -1,6 +1,4 @@
-use Rattle.std.proofs.Common.{ℕ, leb, cond, refl, arith}
-use Rattle.std.proofs.lemmas.Simd.{zip2_splat, length-chunk}
-use lib.Lanes.{chunk}
+use Rattle.rl_tokens.proofs.Common.{ℕ, leb, cond, refl, arith, zip2_splat, length-chunk, chunk}
 use Rattle.rl_tokens.specs.Mirrors.LiteralsAt.{is_likely_head}
 use Rattle.rl_tokens.proofs.RunLanes.{joined, splat_is, masked_as}
 use Rattle.rl_tokens.proofs.lanes.heads_among.Goals as goal

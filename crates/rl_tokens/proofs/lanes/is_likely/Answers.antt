@@ -1,4 +1,4 @@
-use Rattle.std.proofs.Common.{◌∙◌, arith}
+use Rattle.rl_tokens.proofs.Common.{◌∙◌, arith}
 use Rattle.rl_tokens.proofs.UnlikelyLanes.{likely_ascii, likely_low, likely_past}
 use Rattle.rl_tokens.proofs.lanes.is_likely.Goals as goal
 

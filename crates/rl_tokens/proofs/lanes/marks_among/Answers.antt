@@ -1,6 +1,4 @@
-use Rattle.std.proofs.Common.{ℕ, leb, cond, refl, arith}
-use Rattle.std.proofs.lemmas.Simd.{zip2_splat, zip2_splat_left, length-chunk}
-use lib.Lanes.{chunk}
+use Rattle.rl_tokens.proofs.Common.{ℕ, leb, cond, refl, arith, zip2_splat, zip2_splat_left, length-chunk, chunk}
 use Rattle.rl_tokens.specs.Mirrors.LiteralsAt.{is_likely_mark}
 use Rattle.rl_tokens.proofs.RunLanes.{joined, masked_as}
 use Rattle.rl_tokens.proofs.lanes.marks_among.Goals as goal

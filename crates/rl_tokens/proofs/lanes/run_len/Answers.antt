@@ -1,5 +1,4 @@
-use Rattle.std.proofs.Common.{sym, ap, ◌∙◌, arith}
-use lib.Count.{count_trailing_zeros}
+use Rattle.rl_tokens.proofs.Common.{sym, ap, ◌∙◌, arith, count_trailing_zeros}
 use Rattle.rl_tokens.specs.Mirrors.RunsAt.{is_held}
 use Rattle.rl_tokens.proofs.LaneLemmas.{run_stops, said}
 use Rattle.rl_tokens.proofs.RunLanes.{ends_opposite}

@@ -1,5 +1,4 @@
-use Rattle.std.proofs.Common.{sym, ap, ◌∙◌, arith}
-use lib.Count.{count_trailing_zeros}
+use Rattle.rl_tokens.proofs.Common.{sym, ap, ◌∙◌, arith, count_trailing_zeros}
 use Rattle.rl_tokens.specs.Mirrors.LiteralsAt.{begins_none, with_before}
 use Rattle.rl_tokens.proofs.LaneLemmas.{run_stops, run_through}
 use Rattle.rl_tokens.proofs.UnlikelyLanes.{begins_opposite, room_before}

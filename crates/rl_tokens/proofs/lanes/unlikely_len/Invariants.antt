@@ -1,5 +1,4 @@
-use Rattle.std.proofs.Common.{◌≡◌, ◌+◌, ◌-◌, ◌<◌, ◌≤◌, length, drop}
-use Rattle.std.specs.List.{prefix_len}
+use Rattle.rl_tokens.proofs.Common.{◌≡◌, ◌+◌, ◌-◌, ◌<◌, ◌≤◌, length, drop, prefix_len}
 use Rattle.rl_tokens.specs.Mirrors.LiteralsAt.{begins_none, with_before, unlikely_len}
 use Rattle.rl_tokens.proofs.lanes.unlikely_len.Given as goal
 

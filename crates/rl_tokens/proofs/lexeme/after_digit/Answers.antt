@@ -1,4 +1,4 @@
-use Rattle.std.specs.Str.{chars}
+use Rattle.rl_tokens.proofs.Common.{chars}
 use Rattle.rl_tokens.proofs.NumberEnds.{number_short, number_long}
 use Rattle.rl_tokens.proofs.lexeme.after_digit.Goals as goal
 

@@ -1,6 +1,4 @@
-use Rattle.std.proofs.Common.{◌≡◌, true, Some, sym, ◌∙◌, ap, rules}
-use Rattle.std.specs.Char.{is_ascii_digit}
-use Rattle.std.specs.Str.{chars}
+use Rattle.rl_tokens.proofs.Common.{◌≡◌, true, Some, sym, ◌∙◌, ap, rules, is_ascii_digit, chars}
 use Rattle.rl_tokens.specs.Lexemes.{LiteralForm}
 use Rattle.rl_tokens.proofs.NumberEnds.{digit_first}
 use Rattle.rl_tokens.proofs.LexemeAnswers.{form_before, lexeme_found, lexeme_none}

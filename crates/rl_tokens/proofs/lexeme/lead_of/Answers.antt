@@ -1,4 +1,4 @@
-use Rattle.std.proofs.Common.{sym, ◌∙◌, arith}
+use Rattle.rl_tokens.proofs.Common.{sym, ◌∙◌, arith}
 use Rattle.rl_tokens.proofs.WordsAndMarks.{high_marks, high_words, low_marks}
 use Rattle.rl_tokens.proofs.lexeme.lead_of.Goals as goal
 

@@ -1,5 +1,4 @@
-use Rattle.std.proofs.Common.{Some, sym, ◌∙◌, ap}
-use Rattle.std.specs.Str.{chars}
+use Rattle.rl_tokens.proofs.Common.{Some, sym, ◌∙◌, ap, chars}
 use Rattle.rl_tokens.proofs.WordsAndMarks.{mark_first}
 use Rattle.rl_tokens.proofs.TailLemmas.{some_tail, some_nearer}
 use Rattle.rl_tokens.proofs.lexeme.lexeme_but_number.Goals as goal

@@ -1,5 +1,4 @@
-use Rattle.std.proofs.Common.{refl}
-use Rattle.std.specs.Str.{chars}
+use Rattle.rl_tokens.proofs.Common.{refl, chars}
 use Rattle.rl_tokens.proofs.WordsAndMarks.{mark_found, prefix_word_found, slash_found, word_found}
 use Rattle.rl_tokens.proofs.lexeme.word_or_mark.Goals as goal
 

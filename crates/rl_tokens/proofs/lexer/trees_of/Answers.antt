@@ -1,6 +1,6 @@
 -- Each turn goes one token further; at the end all is cut, or the first error stands here.
-use Rattle.std.proofs.Common.{◌≡◌, [], ◌∙◌}
-use Rattle.std.proofs.lemmas.Result.{IfErr-weaker, err_from_is_err_and}
+use Rattle.rl_tokens.proofs.Common.{◌≡◌, [], ◌∙◌, IfErr-weaker}
+use Rattle.std.proofs.lemmas.Result.{err_from_is_err_and}
 use Rattle.rl_tokens.specs.Mirrors.TreeBuilders.{groups_of, EndsInGroup}
 use Rattle.rl_tokens.proofs.LexLoop.{token_fits, has_none, has_more}
 use Rattle.rl_tokens.proofs.LexEnds.{all_done, ends_open, rejected_token, error_told, told_end}

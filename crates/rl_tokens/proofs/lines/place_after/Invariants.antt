@@ -1,7 +1,4 @@
-use Rattle.std.proofs.Common.{◌≡◌, ◌+◌, ◌≤◌, length}
-use Rattle.std.specs.Str.{chars}
-use denote.Shadow.{shadow}
-use denote.Text.{Utf8}
+use Rattle.rl_tokens.proofs.Common.{◌≡◌, ◌+◌, ◌≤◌, length, chars, shadow, Utf8}
 use Rattle.rl_tokens.specs.Lines.{place_after}
 use Rattle.rl_tokens.proofs.lines.place_after.Given as goal
 

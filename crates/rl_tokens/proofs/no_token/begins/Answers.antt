@@ -1,5 +1,5 @@
 -- `starts_with` tells it by bytes.
-use Rattle.std.proofs.Common.{◌∙◌}
+use Rattle.rl_tokens.proofs.Common.{◌∙◌}
 use Rattle.std.proofs.lemmas.Str.Pattern.{starts_text}
 use Rattle.rl_tokens.proofs.BeginsLemmas.{begins_bytes, starts_begins}
 use Rattle.rl_tokens.proofs.no_token.begins.Goals as goal

@@ -1,5 +1,4 @@
-use Rattle.std.proofs.Common.{arith}
-use Rattle.std.proofs.lemmas.Grind.{common_steps}
+use Rattle.rl_tokens.proofs.Common.{arith, common_steps}
 use Rattle.rl_tokens.proofs.no_token.begins_doc_comment.Goals as goal
 
 pub returns-then-not-begins-2 : goal.returns-then-not-begins-2

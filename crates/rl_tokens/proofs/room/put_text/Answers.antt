@@ -1,5 +1,4 @@
-use Rattle.std.proofs.Common.{◌∙◌, ◌++◌, take, sym, ap, subst}
-use Rattle.std.specs.Str.{IsUtf8}
+use Rattle.rl_tokens.proofs.Common.{◌∙◌, ◌++◌, take, sym, ap, subst, IsUtf8}
 use Rattle.std.proofs.lemmas.Str.{IsUtf8-append}
 use Rattle.rl_tokens.proofs.room.put_text.Goals as goal
 

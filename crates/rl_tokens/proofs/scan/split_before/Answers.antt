@@ -1,6 +1,4 @@
-use Rattle.std.proofs.Common.{◌≡◌, ◌++◌, take, drop, sym, subst, ap, ap₂, ◌∙◌, rules}
-use Rattle.std.specs.Str.{chars, IsCharBoundary}
-use Rattle.std.specs.List.{list_all, prefix_len}
+use Rattle.rl_tokens.proofs.Common.{◌≡◌, ◌++◌, take, drop, sym, subst, ap, ap₂, ◌∙◌, rules, chars, IsCharBoundary, list_all, prefix_len}
 use Rattle.rl_tokens.specs.Texts.{first_passes, IsTail}
 use Rattle.rl_tokens.specs.Scanning.{is_other}
 use Rattle.rl_tokens.proofs.ScanLemmas.{other_high, run_boundary, run_tail, run_cut, run_plain, run_stop}

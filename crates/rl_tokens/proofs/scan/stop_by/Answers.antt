@@ -1,5 +1,4 @@
-use Rattle.std.proofs.Common.{sym, ap, ◌∙◌, arith}
-use lib.Count.{count_trailing_zeros}
+use Rattle.rl_tokens.proofs.Common.{sym, ap, ◌∙◌, arith, count_trailing_zeros}
 use Rattle.rl_tokens.specs.Mirrors.StopsAt.{goes_on}
 use Rattle.rl_tokens.proofs.LaneLemmas.{run_through, run_stops, said, stops_opposite}
 use Rattle.rl_tokens.proofs.scan.stop_by.Goals as goal

@@ -1,5 +1,4 @@
-use Rattle.std.proofs.Common.{◌≡◌, ◌+◌, ◌-◌, ◌≤◌, length, drop}
-use Rattle.std.specs.List.{prefix_len}
+use Rattle.rl_tokens.proofs.Common.{◌≡◌, ◌+◌, ◌-◌, ◌≤◌, length, drop, prefix_len}
 use Rattle.rl_tokens.specs.Mirrors.StopsAt.{goes_on}
 use Rattle.rl_tokens.proofs.LaneLemmas.{said}
 use Rattle.rl_tokens.proofs.scan.stop_by.Given as goal

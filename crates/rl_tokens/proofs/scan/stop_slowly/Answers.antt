@@ -1,5 +1,4 @@
-use Rattle.std.proofs.Common.{arith}
-use Rattle.std.proofs.lemmas.Grind.{common_steps}
+use Rattle.rl_tokens.proofs.Common.{arith, common_steps}
 use Rattle.rl_tokens.proofs.scan.stop_slowly.Goals as goal
 
 pub loop-at-preserved : goal.loop-at-preserved

@@ -1,7 +1,4 @@
-use Rattle.std.proofs.Common.{arith, not, map, sym, ap, ◌∙◌}
-use Rattle.std.proofs.lemmas.Bool.{eq-eqb, ne_eqb}
-use Rattle.std.proofs.lemmas.Simd.{zip2_splat, zip2_splat_left, length-chunk}
-use lib.Lanes.{chunk, mask_l}
+use Rattle.rl_tokens.proofs.Common.{arith, not, map, sym, ap, ◌∙◌, eq-eqb, ne_eqb, zip2_splat, zip2_splat_left, length-chunk, chunk, mask_l}
 use Rattle.rl_tokens.specs.Mirrors.StopsAt.{stops}
 use Rattle.rl_tokens.proofs.LaneLemmas.{either, masked}
 use Rattle.rl_tokens.proofs.scan.stops_among.Goals as goal

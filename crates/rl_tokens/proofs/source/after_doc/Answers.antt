@@ -1,5 +1,5 @@
 use Rattle.rl_tokens.proofs.TailLemmas.{tail_step, some_tail}
-use Rattle.std.proofs.Common.{rules}
+use Rattle.rl_tokens.proofs.Common.{rules}
 use Rattle.rl_tokens.proofs.source.after_doc.Goals as goal
 
 pub returns-then-is_comment_block-clause-rest : goal.returns-then-is_comment_block-clause-rest

@@ -1,4 +1,4 @@
-use Rattle.std.proofs.Common.{rules}
+use Rattle.rl_tokens.proofs.Common.{rules}
 use Rattle.rl_tokens.proofs.source.after_lifetime.Goals as goal
 
 pub returns-in-Some-eq39-default-clause-rest : goal.returns-in-Some-eq39-default-clause-rest

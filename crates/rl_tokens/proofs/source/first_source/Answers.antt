@@ -1,4 +1,4 @@
-use Rattle.std.specs.Str.{chars}
+use Rattle.rl_tokens.proofs.Common.{chars}
 use Rattle.rl_tokens.proofs.SourceFronts.{plain_before}
 use Rattle.rl_tokens.proofs.source.first_source.Goals as goal
 

@@ -1,4 +1,4 @@
-use Rattle.std.proofs.Common.{true, false, refl}
+use Rattle.rl_tokens.proofs.Common.{true, false, refl}
 use Rattle.rl_tokens.proofs.TruthWords.{no_word, truth_chars}
 use Rattle.rl_tokens.proofs.source.is_truth.Goals as goal
 

@@ -1,5 +1,4 @@
-use Rattle.std.proofs.Common.{◌≤◌, ◌∙◌, ap, subst, arith}
-use Rattle.std.specs.Str.{chars}
+use Rattle.rl_tokens.proofs.Common.{◌≤◌, ◌∙◌, ap, subst, arith, chars}
 use Rattle.rl_tokens.specs.Texts.{IsTail}
 use Rattle.rl_tokens.specs.Mirrors.LiteralsAt.{byte_before, unlikely_len}
 use Rattle.rl_tokens.proofs.TailLemmas.{tail_step}

@@ -1,4 +1,4 @@
-use Rattle.std.specs.Str.{chars}
+use Rattle.rl_tokens.proofs.Common.{chars}
 use Rattle.rl_tokens.proofs.SourceFronts.{no_other, other_found, plain_before, source_found, source_none}
 use Rattle.rl_tokens.proofs.source.source_by_characters.Goals as goal
 

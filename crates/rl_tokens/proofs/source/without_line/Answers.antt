@@ -1,5 +1,5 @@
 use Rattle.rl_tokens.proofs.TailLemmas.{tail_self, tail_step}
-use Rattle.std.proofs.Common.{inl, sym, ◌∙◌}
+use Rattle.rl_tokens.proofs.Common.{inl, sym, ◌∙◌}
 use Rattle.rl_tokens.proofs.SourceFronts.{script_line}
 use Rattle.rl_tokens.proofs.source.without_line.Goals as goal
 

@@ -1,5 +1,4 @@
-use Rattle.std.proofs.Common.{subst, ℕ, List}
-use Rattle.std.specs.Str.{chars}
+use Rattle.rl_tokens.proofs.Common.{subst, ℕ, List, chars}
 use Rattle.rl_tokens.specs.Sources.{IsWithoutLine}
 use Rattle.rl_tokens.proofs.source.without_preamble.Goals as goal
 

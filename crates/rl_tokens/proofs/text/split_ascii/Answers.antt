@@ -1,6 +1,4 @@
-use Rattle.std.proofs.Common.{◌≡◌, ◌<◌, ◌∷◌, ◌∙◌, length, ap, sym, drop, get_or, arith, rules}
-use Rattle.std.proofs.lemmas.Str.{IsCharBoundary-after_ascii}
-use Rattle.std.specs.Str.{chars}
+use Rattle.rl_tokens.proofs.Common.{◌≡◌, ◌<◌, ◌∷◌, ◌∙◌, length, ap, sym, drop, get_or, arith, rules, IsCharBoundary-after_ascii, chars}
 use Rattle.rl_tokens.proofs.Rests.{tail_drop}
 use Rattle.rl_tokens.proofs.ScanLemmas.{ascii_first, none_first, other_first}
 use Rattle.rl_tokens.proofs.text.split_ascii.Goals as goal

@@ -1,6 +1,5 @@
 -- The text begins with the spelling of the character.
-use Rattle.std.proofs.Common.{rules}
-use Rattle.std.proofs.lemmas.Str.{chars_past_char}
+use Rattle.rl_tokens.proofs.Common.{rules, chars_past_char}
 use Rattle.rl_tokens.proofs.text.split_char.Goals as goal
 
 pub returns-clause-chars : goal.returns-clause-chars

@@ -1,4 +1,4 @@
-use Rattle.std.proofs.Common.{◌∙◌, ap}
+use Rattle.rl_tokens.proofs.Common.{◌∙◌, ap}
 use Rattle.std.specs.Prelude.{map}
 use Rattle.rl_tokens.specs.Trees.{looked_up, relocated, stream_view}
 use Rattle.rl_tokens.specs.declared.span.Span.{Span}

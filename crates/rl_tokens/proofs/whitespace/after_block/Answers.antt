@@ -1,6 +1,5 @@
 -- One turn of the loop: a closer, an opener, a mark that is neither, or a run of other bytes.
-use Rattle.std.proofs.Common.{arith, ◌+◌, ◌≡◌, [], Some, get_or, sym, ◌∙◌, ap, drop}
-use Rattle.std.proofs.lemmas.Str.{IsCharBoundary-after_ascii}
+use Rattle.rl_tokens.proofs.Common.{arith, ◌+◌, ◌≡◌, [], Some, get_or, sym, ◌∙◌, ap, drop, IsCharBoundary-after_ascii}
 use Rattle.std.proofs.Math.ListN.{drop_of_length-le}
 use Rattle.rl_tokens.specs.Mirrors.SkippedAt.{after_block}
 use Rattle.rl_tokens.proofs.Rests.{tail_drop}

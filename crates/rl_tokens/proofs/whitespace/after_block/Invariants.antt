@@ -1,4 +1,4 @@
-use Rattle.std.proofs.Common.{◌≡◌, ◌-◌, ◌≤◌, length, drop}
+use Rattle.rl_tokens.proofs.Common.{◌≡◌, ◌-◌, ◌≤◌, length, drop}
 use Rattle.rl_tokens.specs.Mirrors.SkippedAt.{after_block}
 use Rattle.rl_tokens.proofs.whitespace.after_block.Given as goal
 

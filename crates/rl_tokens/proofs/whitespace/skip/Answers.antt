@@ -1,16 +1,15 @@
 -- What is skipped after white space is skipped after the text.
-use Rattle.std.proofs.Common.{refl}
-use Rattle.std.specs.Str.{chars}
+use Rattle.rl_tokens.proofs.Common.{chars}
 use Rattle.rl_tokens.specs.Texts.{is_white}
 use Rattle.rl_tokens.proofs.TailLemmas.{tail_step}
-use Rattle.rl_tokens.proofs.Pieces.{one_rest, run_ends, skipped_again, skipped_none, skipped_run, skipped_slash}
+use Rattle.rl_tokens.proofs.Pieces.{one_rest, run_ends, skipped_again, skipped_none, skipped_run}
 use Rattle.rl_tokens.proofs.whitespace.skip.Goals as goal
 
 pub skip_comments-requires : goal.skip_comments-requires
 skip_comments-requires c = run_ends is_white (chars c.args.text.now) _ c.skip_white-rest.ensures.rest
 
-pub returns-then-begins_comment : goal.returns-then-begins_comment
-returns-then-begins_comment c =
+pub returns : goal.returns
+returns c =
     let run = c.skip_white-rest.ensures in
     let more = c.skip_comments.ensures in
     let skipped = skipped_run (chars c.args.text.now) _ _ run.rest more.skipped in
@@ -20,10 +19,4 @@ pub returns-in_default : goal.returns-in_default
 returns-in_default c =
     let run = c.skip_white-rest.ensures in
     let none = skipped_none _ (run_ends is_white (chars c.args.text.now) _ run.rest) c.in_default.ensures.rest in
-    record { skipped = skipped_run (chars c.args.text.now) _ _ run.rest none; following = run.following; only = one_rest; again = none }
-
-pub returns-else-begins_comment : goal.returns-else-begins_comment
-returns-else-begins_comment c =
-    let run = c.skip_white-rest.ensures in
-    let none = skipped_slash _ _ c.in-Some.ensures.rest (c.if-begins_comment.ensures refl) in
     record { skipped = skipped_run (chars c.args.text.now) _ _ run.rest none; following = run.following; only = one_rest; again = none }

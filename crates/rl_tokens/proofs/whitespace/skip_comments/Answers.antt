@@ -1,7 +1,5 @@
 -- What is skipped after a comment is skipped after the text.
-use Rattle.std.proofs.Common.{arith, sym}
-use Rattle.std.proofs.lemmas.Grind.{common_steps}
-use Rattle.std.specs.Str.{chars}
+use Rattle.rl_tokens.proofs.Common.{arith, sym, common_steps, chars}
 use Rattle.rl_tokens.specs.Texts.{is_white}
 use Rattle.rl_tokens.proofs.TailLemmas.{tail_step}
 use Rattle.rl_tokens.proofs.Pieces.{run_ends, skipped_run, skipped_none, skipped_slash, skipped_comment}

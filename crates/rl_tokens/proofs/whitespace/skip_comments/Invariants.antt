@@ -1,5 +1,4 @@
-use Rattle.std.proofs.Common.{◌≡◌, false, ℕ, List, length}
-use Rattle.std.specs.Str.{chars}
+use Rattle.rl_tokens.proofs.Common.{◌≡◌, false, ℕ, List, length, chars}
 use Rattle.rl_tokens.specs.Skipping.{Skipped}
 use Rattle.rl_tokens.specs.Texts.{is_white, first_passes, IsTail}
 use Rattle.rl_tokens.proofs.whitespace.skip_comments.Given as goal

@@ -1,6 +1,5 @@
-use Rattle.std.proofs.Common.{arith, inr}
-use Rattle.std.proofs.lemmas.Grind.{common_steps}
-use Rattle.std.proofs.lemmas.Result.{IfOk-weaker, IfErr-weaker}
+use Rattle.rl_tokens.proofs.Common.{arith, inr, common_steps, IfErr-weaker}
+use Rattle.std.proofs.lemmas.Result.{IfOk-weaker}
 use Rattle.rl_tokens.specs.Trees.{stream_view}
 use Rattle.rl_tokens.proofs.whole.parse_all.Goals as goal
 

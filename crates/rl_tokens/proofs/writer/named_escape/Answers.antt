@@ -1,6 +1,5 @@
 use Rattle.rl_tokens.specs.Written.{written_unit}
-use Rattle.std.proofs.lemmas.Grind.{common_steps}
-use Rattle.std.proofs.Common.{arith}
+use Rattle.rl_tokens.proofs.Common.{common_steps, arith}
 use Rattle.rl_tokens.proofs.writer.named_escape.Goals as goal
 
 pub returns-in-0-clause-some : goal.returns-in-0-clause-some

@@ -1,4 +1,4 @@
-use Rattle.std.proofs.Common.{arith, [], ◌∷◌}
+use Rattle.rl_tokens.proofs.Common.{arith, [], ◌∷◌}
 use Rattle.std.proofs.lemmas.Str.{IsUtf8-from_ascii}
 use Rattle.rl_tokens.proofs.WritingLemmas.{ascii_nil, ascii_cons}
 use Rattle.rl_tokens.proofs.writer.number.Goals as goal

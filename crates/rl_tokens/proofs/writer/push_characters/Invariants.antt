@@ -1,4 +1,4 @@
-use Rattle.std.proofs.Common.{◌≡◌, ◌++◌, string_bytes}
+use Rattle.rl_tokens.proofs.Common.{◌≡◌, ◌++◌, string_bytes}
 use Rattle.rl_tokens.proofs.WritingLemmas.{begun}
 use Rattle.rl_tokens.proofs.writer.push_characters.Given as goal
 

@@ -1,5 +1,4 @@
-use Rattle.std.proofs.Common.{refl, string_bytes}
-use Rattle.std.proofs.lemmas.Str.{IsUtf8-string_bytes}
+use Rattle.rl_tokens.proofs.Common.{refl, string_bytes, IsUtf8-string_bytes}
 use Rattle.rl_tokens.specs.declared.kind.Kind.TheVariants.{Str}
 use Rattle.rl_tokens.proofs.WrittenForms.{written_form}
 use Rattle.rl_tokens.proofs.WritingLemmas.{cut_back}

@@ -1,4 +1,4 @@
-use Rattle.std.proofs.Common.{◌≡◌, string_bytes, take}
+use Rattle.rl_tokens.proofs.Common.{◌≡◌, string_bytes, take}
 use Rattle.rl_tokens.proofs.WritingLemmas.{begun}
 use Rattle.rl_tokens.proofs.writer.text_of_bytes.Given as goal
 

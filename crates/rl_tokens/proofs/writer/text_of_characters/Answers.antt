@@ -1,6 +1,4 @@
-use Rattle.std.proofs.Common.{◌++◌, ◌∙◌, ap}
-use Rattle.std.specs.Str.{chars}
-use Rattle.std.proofs.lemmas.Str.{chars-nil}
+use Rattle.rl_tokens.proofs.Common.{◌++◌, ◌∙◌, ap, chars, chars-nil}
 use Rattle.rl_tokens.specs.Written.{written_text}
 use Rattle.rl_tokens.proofs.WrittenForms.{written_form}
 use Rattle.rl_tokens.proofs.writer.text_of_characters.Goals as goal

@@ -1,5 +1,4 @@
-use Rattle.std.proofs.Common.{arith}
-use Rattle.std.proofs.lemmas.Str.{length-encode, len_utf8_bounds}
+use Rattle.rl_tokens.proofs.Common.{arith, length-encode, len_utf8_bounds}
 use Rattle.rl_tokens.proofs.written_into.put_written.Goals as goal
 
 pub put_char-requires : goal.put_char-requires

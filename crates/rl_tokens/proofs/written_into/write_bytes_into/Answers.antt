@@ -1,7 +1,5 @@
-use Rattle.std.proofs.lemmas.Grind.{common_steps}
-use Rattle.std.proofs.Common.{◌≡◌, ◌++◌, ◌∙◌, sym, ap, subst, List, ℕ, take, get_or, rules, arith}
-use Rattle.std.specs.Prelude.{encode_utf8, encode_utf8_all}
-use Rattle.std.proofs.lemmas.List.{take_more, take_all}
+use Rattle.rl_tokens.proofs.Common.{common_steps, ◌≡◌, ◌++◌, ◌∙◌, sym, ap, subst, List, ℕ, take, get_or, rules, arith, encode_utf8, take_more, take_all}
+use Rattle.std.specs.Prelude.{encode_utf8_all}
 use Rattle.rl_tokens.specs.Quoted.{unit_text}
 use Rattle.rl_tokens.specs.Written.{written_unit}
 use Rattle.rl_tokens.proofs.WrittenForms.{written_form, all_bytes, bytes_value}

@@ -1,6 +1,5 @@
 -- What was passed stands in the slice as it is written, and the rest has room after it.
-use Rattle.std.proofs.Common.{◌≡◌, ◌+◌, ◌*◌, ◌≤◌, take, length}
-use Rattle.std.specs.Str.{IsUtf8}
+use Rattle.rl_tokens.proofs.Common.{◌≡◌, ◌+◌, ◌*◌, ◌≤◌, take, length, IsUtf8}
 use Rattle.rl_tokens.proofs.WritingLemmas.{begun}
 use Rattle.rl_tokens.proofs.written_into.write_bytes_into.Given as goal
 

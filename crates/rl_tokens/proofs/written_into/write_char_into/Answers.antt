@@ -1,6 +1,4 @@
-use Rattle.std.proofs.Common.{◌≡◌, ◌++◌, ◌∷◌, [], ◌∙◌, ap, refl, take, rules}
-use Rattle.std.specs.Prelude.{encode_utf8}
-use Rattle.std.specs.Str.{IsUtf8}
+use Rattle.rl_tokens.proofs.Common.{◌≡◌, ◌++◌, ◌∷◌, [], ◌∙◌, ap, refl, take, rules, encode_utf8, IsUtf8}
 use Rattle.rl_tokens.specs.declared.kind.Kind.TheVariants.{Char}
 use Rattle.rl_tokens.specs.Quoted.{opener}
 use Rattle.rl_tokens.proofs.WrittenForms.{written_form}

@@ -1,6 +1,4 @@
-use Rattle.std.proofs.Common.{◌∙◌, ◌∷◌, [], ◌++◌, take, ap, sym, append_assoc, append-nil, arith, rules}
-use Rattle.std.specs.Prelude.{encode_utf8}
-use Rattle.std.specs.Str.{chars}
+use Rattle.rl_tokens.proofs.Common.{◌∙◌, ◌∷◌, [], ◌++◌, take, ap, sym, append_assoc, append-nil, arith, rules, encode_utf8, chars}
 use Rattle.rl_tokens.specs.declared.kind.Kind.TheVariants.{Str}
 use Rattle.rl_tokens.proofs.WrittenForms.{written_form}
 use Rattle.rl_tokens.proofs.WritingLemmas.{begun_more, begun_whole}

@@ -1,8 +1,5 @@
 -- What was passed stands in the slice as it is written, and the rest has room after it.
-use Rattle.std.proofs.Common.{◌≡◌, ◌+◌, ◌*◌, ◌≤◌, ◌++◌, ℕ, List, take, length}
-use denote.Text.{Utf8}
-use denote.Shadow.{shadow}
-use Rattle.std.specs.Str.{chars, IsUtf8}
+use Rattle.rl_tokens.proofs.Common.{◌≡◌, ◌+◌, ◌*◌, ◌≤◌, ◌++◌, ℕ, List, take, length, Utf8, shadow, chars, IsUtf8}
 use Rattle.rl_tokens.specs.declared.kind.Kind.TheVariants.{Str}
 use Rattle.rl_tokens.proofs.WritingLemmas.{begun}
 use Rattle.rl_tokens.proofs.written_into.write_str_into.Given as goal

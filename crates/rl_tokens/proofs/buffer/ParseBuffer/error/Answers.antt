@@ -1,5 +1,4 @@
-use Rattle.std.proofs.lemmas.Grind.{common_steps}
-use Rattle.std.proofs.Common.{arith}
+use Rattle.rl_tokens.proofs.Common.{common_steps, arith}
 use Rattle.rl_tokens.proofs.buffer.ParseBuffer.error.Goals as goal
 
 pub returns : goal.returns

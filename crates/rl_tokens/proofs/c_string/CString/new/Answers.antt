@@ -1,4 +1,4 @@
-use Rattle.std.proofs.Common.{rules}
+use Rattle.rl_tokens.proofs.Common.{rules}
 use Rattle.rl_tokens.proofs.CStringLemmas.{none_is_zero}
 use Rattle.rl_tokens.proofs.c_string.CString.new.Goals as goal
 

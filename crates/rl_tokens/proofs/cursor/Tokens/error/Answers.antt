@@ -1,7 +1,5 @@
 -- No lexeme begins what is left, so the error is reported.
-use Rattle.std.proofs.Common.{arith}
-use Rattle.std.proofs.lemmas.Grind.{common_steps}
-use Rattle.std.specs.Str.{chars}
+use Rattle.rl_tokens.proofs.Common.{arith, common_steps, chars}
 use Rattle.rl_tokens.specs.Lexing.{BeginsNoLexeme}
 use Rattle.rl_tokens.proofs.ErrorKinds.{stops_here, none_some}
 use Rattle.rl_tokens.proofs.cursor.Tokens.error.Goals as goal

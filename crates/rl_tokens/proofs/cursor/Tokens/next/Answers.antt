@@ -1,7 +1,6 @@
-use Rattle.std.proofs.Common.{refl, arith}
+use Rattle.rl_tokens.proofs.Common.{refl, arith, common_steps}
 use Rattle.rl_tokens.proofs.TailLemmas.{cut_boundary, if_none}
 use Rattle.rl_tokens.proofs.CursorLemmas.{still_cutting, takes_next}
-use Rattle.std.proofs.lemmas.Grind.{common_steps}
 use Rattle.rl_tokens.proofs.cursor.Tokens.next.Goals as goal
 
 pub returns-in_err-form-clause-none : goal.returns-in_err-form-clause-none

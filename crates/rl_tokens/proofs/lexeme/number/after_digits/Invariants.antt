@@ -1,6 +1,4 @@
-use Rattle.std.proofs.Common.{◌≡◌, length}
-use Rattle.std.specs.Str.{chars}
-use Rattle.std.specs.Char.{is_ascii_digit}
+use Rattle.rl_tokens.proofs.Common.{◌≡◌, length, chars, is_ascii_digit}
 use Rattle.rl_tokens.specs.Texts.{IsTail}
 use Rattle.rl_tokens.specs.Classes.{after_run}
 use Rattle.rl_tokens.proofs.lexeme.number.after_digits.Given as goal

@@ -1,5 +1,4 @@
-use Rattle.std.proofs.Common.{◌∙◌}
-use Rattle.std.specs.Str.{chars}
+use Rattle.rl_tokens.proofs.Common.{◌∙◌, chars}
 use Rattle.rl_tokens.proofs.TailLemmas.{tail_step}
 use Rattle.rl_tokens.proofs.RowSteps.{apostrophe_step}
 use Rattle.rl_tokens.proofs.lexeme.quotes.after_apostrophe.Goals as goal

@@ -1,6 +1,4 @@
-use Rattle.std.proofs.Common.{◌≡◌, ◌∙◌, sym, ap, inl, inr, None, rules}
-use Rattle.std.specs.Option.{option_map}
-use Rattle.std.specs.Str.{chars}
+use Rattle.rl_tokens.proofs.Common.{◌≡◌, ◌∙◌, sym, ap, inl, inr, None, rules, option_map, chars}
 use Rattle.rl_tokens.proofs.TailLemmas.{tail_step}
 use Rattle.rl_tokens.proofs.LexemeSteps.{quote_none, quote_found, quote_taken, quote_open, which}
 use Rattle.rl_tokens.proofs.lexeme.quotes.after_quote.Goals as goal

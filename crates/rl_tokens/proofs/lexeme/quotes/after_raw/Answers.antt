@@ -1,4 +1,4 @@
-use Rattle.std.proofs.Common.{◌∙◌, sym, ap, Some}
+use Rattle.rl_tokens.proofs.Common.{◌∙◌, sym, ap, Some}
 use Rattle.rl_tokens.proofs.TailLemmas.{tail_step}
 use Rattle.rl_tokens.proofs.HashLemmas.{hashes_met, hashes_missed}
 use Rattle.rl_tokens.proofs.LexemeSteps.{raw_none, raw_found, raw_passes, only}

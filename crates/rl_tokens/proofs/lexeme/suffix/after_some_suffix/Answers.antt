@@ -1,4 +1,4 @@
-use Rattle.std.proofs.Common.{rules}
+use Rattle.rl_tokens.proofs.Common.{rules}
 use Rattle.rl_tokens.proofs.TailLemmas.{tail_self, tail_step}
 use Rattle.rl_tokens.proofs.lexeme.suffix.after_some_suffix.Goals as goal
 

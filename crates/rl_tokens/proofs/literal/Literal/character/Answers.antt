@@ -1,6 +1,4 @@
-use Rattle.std.proofs.Common.{List, ℕ, [], ◌∷◌, ap, subst, length, rules, string_bytes}
-use Rattle.std.specs.Str.{chars}
-use Rattle.std.specs.Result.{IfOk}
+use Rattle.rl_tokens.proofs.Common.{List, ℕ, [], ◌∷◌, ap, subst, length, rules, string_bytes, chars, IfOk}
 use Rattle.rl_tokens.specs.declared.kind.Kind.TheVariants.{Char}
 use Rattle.rl_tokens.specs.Written.{IsWrittenForm}
 use Rattle.rl_tokens.proofs.WritingLemmas.{one_character}

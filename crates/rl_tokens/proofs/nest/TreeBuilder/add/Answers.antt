@@ -1,6 +1,4 @@
-use Rattle.std.proofs.lemmas.Grind.{common_steps}
-use Rattle.std.proofs.Common.{◌∙◌, ap, arith, rules}
-use Rattle.std.proofs.lemmas.Result.{on_ok_weaker}
+use Rattle.rl_tokens.proofs.Common.{common_steps, ◌∙◌, ap, arith, rules, on_ok_weaker}
 use Rattle.rl_tokens.specs.Cursors.{form_view}
 use Rattle.rl_tokens.specs.Puncts.{Mark}
 use Rattle.rl_tokens.proofs.NestLemmas.{takes_mark, takes_literal, takes_ident, spanned}

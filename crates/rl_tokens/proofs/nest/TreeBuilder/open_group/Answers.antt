@@ -1,5 +1,4 @@
-use Rattle.std.proofs.lemmas.Grind.{common_steps}
-use Rattle.std.proofs.Common.{refl, ◌∙◌, ap, arith}
+use Rattle.rl_tokens.proofs.Common.{common_steps, refl, ◌∙◌, ap, arith}
 use Rattle.rl_tokens.specs.Trees.{trees_of}
 use Rattle.rl_tokens.proofs.NestLemmas.{opens_group}
 use Rattle.rl_tokens.proofs.nest.TreeBuilder.open_group.Goals as goal

@@ -1,6 +1,4 @@
-use Rattle.std.proofs.lemmas.Grind.{common_steps}
-use Rattle.std.proofs.Common.{arith}
-use Rattle.std.specs.Str.{chars}
+use Rattle.rl_tokens.proofs.Common.{common_steps, arith, chars}
 use Rattle.rl_tokens.specs.Sources.{BeginsNoSource}
 use Rattle.rl_tokens.proofs.ErrorKinds.{none_some}
 use Rattle.rl_tokens.proofs.SourceCuts.{stops_source}

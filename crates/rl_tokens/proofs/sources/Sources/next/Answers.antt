@@ -1,5 +1,4 @@
-use Rattle.std.proofs.lemmas.Grind.{common_steps}
-use Rattle.std.proofs.Common.{refl, arith}
+use Rattle.rl_tokens.proofs.Common.{common_steps, refl, arith}
 use Rattle.rl_tokens.proofs.TailLemmas.{cut_boundary, if_none}
 use Rattle.rl_tokens.proofs.CursorLemmas.{still_cutting}
 use Rattle.rl_tokens.proofs.SourceCuts.{takes_source}

@@ -1,6 +1,4 @@
-use Rattle.std.proofs.Common.{inl, inr, refl, sym, subst}
-use Rattle.std.proofs.lemmas.Bool.{both_ways}
-use Rattle.std.specs.Str.{chars}
+use Rattle.rl_tokens.proofs.Common.{inl, inr, refl, sym, subst, both_ways, chars}
 use Rattle.rl_tokens.specs.Cursors.{CursorState}
 use Rattle.rl_tokens.specs.Sources.{BeginsNoSource, PassesTo}
 use Rattle.rl_tokens.proofs.TailLemmas.{tail_step, if_none}

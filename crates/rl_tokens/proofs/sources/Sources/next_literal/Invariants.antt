@@ -1,5 +1,5 @@
 -- What was cut off so far is no literal.
-use Rattle.std.proofs.Common.{length}
+use Rattle.rl_tokens.proofs.Common.{length}
 use Rattle.rl_tokens.proofs.LiteralSteps.{Passed}
 use Rattle.rl_tokens.proofs.sources.Sources.next_literal.Given as goal
 

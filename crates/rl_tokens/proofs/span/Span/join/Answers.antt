@@ -1,4 +1,4 @@
-use Rattle.std.proofs.Common.{rules}
+use Rattle.rl_tokens.proofs.Common.{rules}
 use Rattle.rl_tokens.proofs.span.Span.join.Goals as goal
 
 pub returns-clause-range : goal.returns-clause-range
