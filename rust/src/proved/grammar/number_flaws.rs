@@ -117,9 +117,7 @@ fn power_flaw(before: Before, text: &str) -> FlawAt<'_> {
 /// The first flaw after the whole part, where no fraction begins, or after the fraction.
 fn exponent_flaw(before: Before, text: &str) -> FlawAt<'_> {
     match split_char(text) {
-        Some(('e' | 'E', power)) => {
-            power_flaw(before, skip_class(CharClass::Underscore, power))
-        }
+        Some(('e' | 'E', power)) => { power_flaw(before, skip_class(CharClass::Underscore, power)) }
         _ => suffix_flaw(before, text),
     }
 }
