@@ -1,5 +1,5 @@
 -- What the body of a string stands for.
-use Rattle.rl_grammar.proofs.Names.{◌≡◌, ◌⊎◌, inl, inr, ℕ, Bool, true, false, List, refl, sym, ap, subst, ◌∙◌, both_ways, IsUtf8, Kind, Str, ByteStr, CStr, Byte, Char, Int, Float, BoolKind, Characters, Bytes, ReadsQuoted, HasContents, quoted_contents}
+use Rattle.rl_grammar.proofs.Names.{◌≡◌, ◌⊎◌, inl, inr, ℕ, Bool, true, false, List, refl, sym, ap, subst, ◌∙◌, both_ways, IsUtf8, Kind, Str, ByteStr, CStr, Characters, Bytes, ReadsQuoted, HasContents, quoted_contents}
 use Rattle.std.specs.Prelude.{Result, Ok, Err, IfOk}
 use Rattle.std.specs.Str.{chars}
 use Rattle.rl_grammar.specs.Bodies.{HasBody, StandsFor}

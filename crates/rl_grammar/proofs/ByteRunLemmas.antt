@@ -1,5 +1,5 @@
 -- Runs of ASCII at the front of a text, which byte strings hold.
-use Rattle.rl_grammar.proofs.Names.{◌≡◌, ◌+◌, ◌<◌, ◌≤◌, ◌⊎◌, inl, inr, ℕ, suc, ◌==◌, ◌&&◌, ◌||◌, Bool, true, false, not, cond, eqb, List, [], ◌∷◌, ◌++◌, length, take, nat_lt, refl, sym, ap, ◌∙◌, arith, and_from, and_parts, ltb-true, ne_eqb, nat_tests, encodes-chars, list_all, prefix_len, IsUtf8, Kind, Str, ByteStr, CStr, Byte, Char, Int, Float, BoolKind, Marks, is_plain, is_string, is_ascii_other, is_other}
+use Rattle.rl_grammar.proofs.Names.{◌≡◌, ◌+◌, ◌<◌, ◌≤◌, ◌⊎◌, inl, inr, ℕ, suc, ◌==◌, ◌&&◌, ◌||◌, Bool, true, false, not, cond, eqb, List, [], ◌∷◌, ◌++◌, length, nat_lt, refl, sym, ap, ◌∙◌, arith, and_from, and_parts, ltb-true, ne_eqb, nat_tests, encodes-chars, list_all, prefix_len, IsUtf8, Kind, Str, ByteStr, CStr, Marks, is_plain, is_string, is_ascii_other, is_other}
 use Rattle.std.specs.Char.{is_ascii}
 use Rattle.std.specs.Str.{chars, encode_utf8_all}
 use Rattle.rl_tokens.proofs.CommentBytes.{cases128, encode_is_high, low_front}

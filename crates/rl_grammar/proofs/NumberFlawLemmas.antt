@@ -20,7 +20,7 @@ use Rattle.rl_grammar.proofs.NumberLemmas.{no_number, past_number}
 use Rattle.rl_grammar.proofs.ReadingLemmas.{only_number}
 use Rattle.rl_grammar.specs.NumberFlaws.{EndsInSign, HasKind, IsAnyNumber, IsNumberFlaw}
 use Rattle.rl_grammar.proofs.NumberReads.{suffix_is, suffix_not, no_suffix, part_continues, word_breaks, tail_reads}
-use Rattle.rl_grammar.proofs.NumberTailFlaws.{Says, HasTailFlaw, Never, on, word_stops, IsSignedTail, tail_spoils}
+use Rattle.rl_grammar.proofs.NumberTailFlaws.{Says, HasTailFlaw, Never, word_stops, IsSignedTail, tail_spoils}
 use Rattle.rl_grammar.proofs.TestLemmas.{passes_more, goes_on, front_passes, all_off}
 use Rattle.std.proofs.Math.Bool.{and-true}
 

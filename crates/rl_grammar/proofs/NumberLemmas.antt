@@ -1,5 +1,5 @@
 -- Numbers, an integer before a float.
-use Rattle.rl_grammar.proofs.Names.{ℕ, List, arith, Str, ByteStr, CStr, Byte, Char, Int, Float, BoolKind, HasNoFloat, HasNoInteger, IsPast}
+use Rattle.rl_grammar.proofs.Names.{ℕ, List, arith, Int, Float, HasNoFloat, HasNoInteger, IsPast}
 use Rattle.rl_grammar.specs.NumberShapes.{ReadsNoNumber}
 use Rattle.rl_tokens.proofs.OneNumber.{int_once}
 

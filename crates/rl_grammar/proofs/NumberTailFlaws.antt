@@ -13,7 +13,6 @@ use Rattle.rl_grammar.specs.Mirrors.NumberFlawAt.{after_word, end_flaw_at, suffi
 use Rattle.rl_grammar.proofs.DigitRowLemmas.{run_yes}
 use Rattle.rl_grammar.proofs.RunLemmas.{run_all, run_ends, run_join}
 use Rattle.rl_grammar.proofs.FloatLemmas.{run_first}
-use Rattle.rl_grammar.proofs.IntegerLemmas.{is_past}
 use Rattle.rl_grammar.specs.NumberFlaws.{IsSignedPower}
 use Rattle.rl_grammar.proofs.NumberReads.{suffix_is, suffix_not, no_suffix, word_breaks, ten_reads, power_reads, signed_reads, digits_read, digit_reads, is_power_front, other_reads, power_parts, tail_reads, dot_reads, dot_stands, undotted, plain_reads}
 use Rattle.rl_grammar.proofs.TestLemmas.{goes_on, front_passes, all_off}

@@ -1,5 +1,5 @@
 -- Runs of plain characters.
-use Rattle.rl_grammar.proofs.Names.{◌≡◌, ℕ, ◌+◌, ◌&&◌, ◌||◌, ◌==◌, Bool, true, false, not, cond, List, [], ◌∷◌, ◌++◌, refl, sym, ap, ap₂, ◌∙◌, arith, append_assoc, and_right, append_cancel_right, list_all, prefix_len, Kind, Str, ByteStr, CStr, Byte, Char, Int, Float, BoolKind, first_passes, is_string, is_plain, Marks, is_other}
+use Rattle.rl_grammar.proofs.Names.{◌≡◌, ℕ, ◌+◌, ◌&&◌, ◌||◌, ◌==◌, Bool, true, false, not, cond, List, [], ◌∷◌, ◌++◌, refl, sym, ap, ap₂, ◌∙◌, arith, append_assoc, append_cancel_right, list_all, prefix_len, Kind, Str, ByteStr, CStr, first_passes, is_string, is_plain, Marks, is_other}
 use Rattle.rl_tokens.specs.Scanning.{IsNextMark, is_one_of}
 use Rattle.rl_grammar.specs.Mirrors.Classes.{is_in_run}
 use Rattle.rl_grammar.specs.Mirrors.PlainAt.{is_kept, is_plain_float}

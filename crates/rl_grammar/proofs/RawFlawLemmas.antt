@@ -1,12 +1,12 @@
 -- Where the text after the opener of a raw string stops being the front of one, and why.
-use Rattle.rl_grammar.proofs.Names.{◌≡◌, ◌≢◌, ℕ, zero, suc, Bool, true, false, cond, not, eqb, ltb, List, [], ◌∷◌, ◌++◌, replicate, Option, Some, None, refl, sym, ap, subst, ◌∙◌, append_assoc, append-nil, MatchBool, IsScalar, list_all, AllByRecursion, both_ways, and_parts, and_from, eqb-true, ne_eqb, not_from_false, append_cancel_right, list_all-append, Kind, Str, ByteStr, CStr, Byte, Char, Int, Float, BoolKind, first_passes, content_of, is_string, is_raw, raw_opener, Raw, after_run, is_hash, hash_count}
+use Rattle.rl_grammar.proofs.Names.{◌≡◌, ◌≢◌, ℕ, zero, suc, Bool, true, false, cond, not, eqb, ltb, List, [], ◌∷◌, ◌++◌, replicate, Option, Some, None, refl, sym, ap, subst, ◌∙◌, append_assoc, append-nil, MatchBool, IsScalar, list_all, AllByRecursion, both_ways, and_parts, and_from, eqb-true, ne_eqb, not_from_false, append_cancel_right, list_all-append, Kind, Str, ByteStr, CStr, first_passes, content_of, is_string, is_raw, raw_opener, Raw, after_run, is_hash, hash_count}
 use denote.Ref.{Bor}
 use Rattle.std.specs.Prelude.{IfSome, IfNone}
 use Rattle.std.specs.Option.{is_some}
 use Rattle.std.specs.Str.{chars}
 use Rattle.rl_tokens.proofs.HashLemmas.{hashes_first, hashes_past}
 use Rattle.rl_grammar.specs.declared.flaws.FlawKind.{FlawKind}
-use Rattle.rl_grammar.specs.declared.flaws.FlawKind.TheVariants.{Empty, NoLiteral, Unfinished, NoQuote, NoNumber, Unclosed, UnknownEscape, NoUnicode, NoHexDigit, NoBrace, EmptyBraces, TooManyDigits, PastAscii, PastUnicode, Surrogate, Nul, NotAscii, LateQuote, LoneCr, MustEscape, NoCharacter, TwoCharacters, NoExponentDigit, BadSuffix, TooLarge}
+use Rattle.rl_grammar.specs.declared.flaws.FlawKind.TheVariants.{Unfinished, NoQuote, Unclosed, Nul, NotAscii, LateQuote}
 use Rattle.rl_grammar.specs.declared.quoted_forms.QuotedForm.TheVariants.{Raw as RawForm}
 use Rattle.rl_grammar.specs.Forms.{HasNoParts}
 use Rattle.rl_grammar.specs.FlawKinds.{is_quote, IsUnopened, HasLastCloser, IsOpened, IsSpoiled, IsReopened, RawFlaw}

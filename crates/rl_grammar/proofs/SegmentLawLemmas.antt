@@ -17,7 +17,7 @@ use Rattle.rl_grammar.proofs.FormLemmas.{not_both, cooked_row}
 use Rattle.rl_grammar.proofs.FoundLemmas.{body_text}
 use Rattle.rl_grammar.proofs.FrontLenLemmas.{byte_len_append, byte_len_ascii, hashes_long}
 use Rattle.rl_grammar.proofs.RawLemmas.{raw_same}
-use Rattle.rl_grammar.proofs.RowLemmas.{ends_before, row_ends_on, row_once}
+use Rattle.rl_grammar.proofs.RowLemmas.{ends_before, row_once}
 use Rattle.rl_grammar.proofs.SegmentLemmas.{begins_plain, ends_plain, nothing_left, place_at_end, place_in_run, run_bytes, run_texts, tested}
 use Rattle.rl_grammar.proofs.SegmentStarts.{body_long, quoted_kind, quoted_reads_as, segments_of}
 use Rattle.rl_grammar.proofs.UnitLemmas.{backslash_not_plain, quote_and_return, some_pair, unit_complete, unit_quote}

@@ -1,10 +1,10 @@
 -- What the body of a character or a byte stands for.
-use Rattle.rl_grammar.proofs.Names.{◌≡◌, ◌<◌, ℕ, List, [], ◌∷◌, true, Some, None, refl, sym, ap, subst, ◌∙◌, arith, append-nil, nat_tests, encode_utf8_all, IsScalar, Kind, Str, ByteStr, CStr, Byte, Char, Int, Float, BoolKind, is_single, is_string, unit_text, Bytes, Characters, ReadsQuoted}
+use Rattle.rl_grammar.proofs.Names.{◌≡◌, ◌<◌, ℕ, List, [], ◌∷◌, true, Some, None, refl, sym, ap, subst, ◌∙◌, arith, append-nil, nat_tests, encode_utf8_all, IsScalar, Kind, Byte, Char, is_single, is_string, unit_text, Bytes, Characters, ReadsQuoted}
 use Rattle.std.specs.Str.{chars}
 use Rattle.rl_grammar.specs.declared.found.Body.{Body}
 use Rattle.rl_grammar.specs.declared.units.Piece.TheVariants.{Character}
 use Rattle.rl_grammar.specs.declared.quoted_forms.QuotedForm.{QuotedForm}
-use Rattle.rl_grammar.specs.declared.quoted_forms.QuotedForm.TheVariants.{Cooked as CookedForm, Raw as RawForm, Single as SingleForm}
+use Rattle.rl_grammar.specs.declared.quoted_forms.QuotedForm.TheVariants.{Single as SingleForm}
 use Rattle.rl_grammar.specs.Bodies.{HasSingleBody, IsUnitValue}
 use Rattle.rl_grammar.specs.Forms.{PartsAre}
 use Rattle.rl_grammar.specs.Founds.{IsQuotedAt, IsUnitOf, body_in}

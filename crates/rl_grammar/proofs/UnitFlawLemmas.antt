@@ -1,13 +1,13 @@
 -- Where no unit of a quoted literal stands, the text stops being the front of one at the code's
 -- place, and has the flaw of the code's kind.
-use Rattle.rl_grammar.proofs.Names.{◌≡◌, ◌≢◌, ℕ, suc, ◌+◌, ◌*◌, ◌<◌, ◌≤◌, ◌||◌, ◌&&◌, Bool, true, false, not, cond, eqb, ltb, List, [], ◌∷◌, ◌++◌, length, Option, Some, None, refl, sym, ap, subst, ◌∙◌, inl, inr, arith, append_assoc, option_and_then, list_all, digit_value, pow-suc, scalar, and_from, and_parts, both_ways, cases_Bool, cond_both, eqb-true, ltb-true, ltb-false, lt-ltb, not-true, not_from_false, list_all-append, Kind, Str, ByteStr, CStr, Byte, Char, Int, Float, BoolKind, first_passes, is_underscore, Letter, Named, LowerN, LowerR, LowerT, Backslash, Apostrophe, Quote, Zero, letter_text, letter_value, hex_value, content_of, place_value, without_underscores, is_hex_digit, holds_characters, is_string, is_single, is_plain, is_line_end, allows_code, may_be_hex, has_unicode}
+use Rattle.rl_grammar.proofs.Names.{◌≡◌, ◌≢◌, ℕ, suc, ◌+◌, ◌*◌, ◌<◌, ◌≤◌, ◌||◌, ◌&&◌, Bool, true, false, not, cond, eqb, ltb, List, [], ◌∷◌, ◌++◌, length, Option, Some, None, refl, sym, ap, subst, ◌∙◌, inl, inr, arith, append_assoc, option_and_then, list_all, digit_value, pow-suc, scalar, and_from, and_parts, both_ways, cases_Bool, cond_both, eqb-true, ltb-true, ltb-false, lt-ltb, not-true, not_from_false, list_all-append, Kind, Str, ByteStr, CStr, Byte, Char, first_passes, is_underscore, Letter, Named, LowerN, LowerR, LowerT, Backslash, Apostrophe, Quote, Zero, letter_text, letter_value, hex_value, content_of, place_value, without_underscores, is_hex_digit, holds_characters, is_string, is_single, is_plain, is_line_end, allows_code, may_be_hex, has_unicode}
 use Rattle.std.proofs.Common.{length-append}
 use Rattle.rl_tokens.proofs.Basics.{apart}
 use Rattle.rl_grammar.specs.declared.flaws.FlawKind.{FlawKind}
 use Rattle.rl_grammar.specs.declared.flaws.FlawKind.TheVariants.{Unclosed, UnknownEscape, NoUnicode, NoHexDigit, NoBrace, EmptyBraces, TooManyDigits, PastAscii, PastUnicode, Surrogate, Nul, NotAscii, MustEscape, NoCharacter}
 use Rattle.rl_grammar.specs.FlawKinds.{IsBraced, digit_count, number_of, FirstDigit, SecondDigit, AfterBrace, AfterDigits, IsNoCode, HasNoCode, AtBrace, AtSixth, AsItIs, ByLetter, ByDigits, ByNumber, UnitFlaw}
 use Rattle.rl_grammar.specs.Mirrors.UnitAt.{found, number_if, hex_at, unicode_at, after_blanks, named_at, escape_at, line_feed_at, unit_at}
-use Rattle.rl_grammar.specs.Mirrors.UnitFlawAt.{FoundFlaw, found_flaw, low_digit_flaw_at, hex_flaw_at, is_code, code_flaw_at, code_flaw_of, first_digit_flaw_at, unicode_flaw_at, escape_flaw_at, line_end_flaw_at, character_flaw_of, unit_flaw_at}
+use Rattle.rl_grammar.specs.Mirrors.UnitFlawAt.{FoundFlaw, found_flaw, low_digit_flaw_at, hex_flaw_at, is_code, code_flaw_of, first_digit_flaw_at, unicode_flaw_at, escape_flaw_at, line_end_flaw_at, character_flaw_of, unit_flaw_at}
 use Rattle.rl_grammar.proofs.UnitLemmas.{holds_more, two_digits, unit_complete, crlf_complete}
 use Rattle.rl_grammar.proofs.EscapeLemmas.{Reader, given, Completes, inner_none, only_zero, hex_read, hex_one, second, hex_second, never, no_low, no_high, past_hex, allowed, coded, closed_code, closed_bad, digit_on, digit_past, underscore_on, other_none, full_none, not_low, not_high, Spelled, room, closing, spelled_on, braced, braced_first, braced_none, first_spelled, braced_one, unicode_on, no_unicode_brace, unicode_one, unicode_never, escape_n, by_hex, by_unicode, same_escape, by_escape, IsQuotedKind, unit_one, line_feed, no_line_feed, same_character}
 use Rattle.rl_grammar.proofs.CodeDigitLemmas.{digit_apart, digits_flaw_at, digits_flaw_is}
@@ -279,8 +279,8 @@ module _ (kind : Kind) (ds : List ℕ) (v n c : ℕ) (cs : List ℕ) (s : Stands
   spoils_here : P (digits_flaw_at kind v n (c ∷ cs))
   unfolding digits_flaw_at
   spoils_here = cond_both (is_hex_digit c) _ _ P
-    (λ e. cond_both (eqb n 6) _ _ P (seventh e) (λ short. cond_both (eqb n 5 && not (is_code kind w)) _ _ P (sixth e) (digit_more e short)))
-    (λ a. cond_both (eqb c 125) _ _ P closed_here (λ b. cond_both (eqb c 95) _ _ P mark_more (other_here a b)))
+      (λ e. cond_both (eqb n 6) _ _ P (seventh e) (λ short. cond_both (eqb n 5 && not (is_code kind w)) _ _ P (sixth e) (digit_more e short)))
+      (λ a. cond_both (eqb c 125) _ _ P closed_here (λ b. cond_both (eqb c 95) _ _ P mark_more (other_here a b)))
 
 digits_spoil : (kind : Kind) (t ds : List ℕ) (v n : ℕ) → Stands kind ds v n → coded kind v n t ≡ None → HasUnitFlaw kind (coded kind v n) (braced_front ds) t (digits_flaw_at kind v n t)
 unfolding digits_flaw_at
@@ -384,15 +384,18 @@ escape_spoils kind (c ∷ cs) none = cond_both (eqb c 120) _ _ P by_x (λ a. con
         once Nul (λ r. same_escape kind c cs r a b none) (c_string kind 0 (no_zero kind cs stuck), ByLetter refl z)
 
     unknown : eqb c 120 ≡ false → eqb c 117 ≡ false → eqb c 48 ≡ false → HasUnitFlaw kind (escape_at kind) (92 ∷ []) (c ∷ cs) (found_flaw UnknownEscape (c ∷ cs))
-    unknown a b z = once UnknownEscape (λ r. same_escape kind c cs r a b none) (refl, record {
-      first = c;
-      after = cs;
-      rest_is = refl;
-      no_letter = no_letter kind c cs none z;
-      no_x = differs c 120 a refl;
-      no_u = differs c 117 b refl;
-      no_line_end = no_line_end kind c cs a b none;
-    })
+    unknown a b z = once UnknownEscape (λ r. same_escape kind c cs r a b none) (
+      refl,
+      record {
+        first = c;
+        after = cs;
+        rest_is = refl;
+        no_letter = no_letter kind c cs none z;
+        no_x = differs c 120 a refl;
+        no_u = differs c 117 b refl;
+        no_line_end = no_line_end kind c cs a b none;
+      },
+    )
 
 -- ---- a character that doesn't stand for itself
 

@@ -1,6 +1,6 @@
 -- Where a text that begins neither as a number nor as a quoted literal stops being the front of a
 -- truth value.
-use Rattle.rl_grammar.proofs.Names.{◌≡◌, ◌≢◌, ℕ, Bool, true, false, cond, ◌||◌, ◌==◌, List, [], ◌∷◌, ◌++◌, None, Some, inl, inr, ◌⊎◌, refl, sym, ap, subst, ◌∙◌, append-nil, IsScalar, AllByRecursion, both_ways, cases_Bool, cond_both, eq-eqb, eqb-true, or_parts, append_cancel_left, append_cancel_right, Kind, BoolKind, Byte, ByteStr, Char, CStr, Str, is_string, opener, HasContents, HasNoTruth, HasReading, Truth, quoted_contents, truth_text, first_passes}
+use Rattle.rl_grammar.proofs.Names.{◌≡◌, ◌≢◌, ℕ, Bool, true, false, cond, ◌||◌, ◌==◌, List, [], ◌∷◌, ◌++◌, None, Some, inl, inr, refl, sym, ap, subst, ◌∙◌, append-nil, IsScalar, AllByRecursion, both_ways, cases_Bool, cond_both, eq-eqb, eqb-true, or_parts, append_cancel_left, append_cancel_right, Kind, BoolKind, Byte, ByteStr, Char, CStr, Str, is_string, opener, HasContents, HasNoTruth, HasReading, Truth, quoted_contents, truth_text, first_passes}
 use Rattle.rl_grammar.specs.Flaws.{StopsBefore}
 use Rattle.rl_grammar.specs.NumberFlaws.{BeginsWord, IsWordFlaw}
 use Rattle.rl_grammar.specs.declared.quoted_forms.QuotedForm.{QuotedForm}
