@@ -139,6 +139,7 @@ pub(crate) fn push_kind<A: Allocator>(
 
 /// How the line of a string begins, and how it ends that has no suffix.
 const FRONT: &str = "Str \"";
+
 const END: &str = "\" -\n";
 
 /// Appends the line of a string that stands for this text. What a string literal holds as it stands is copied at once.

@@ -6,7 +6,7 @@ use crate::tokens::parsed;
 use crate::trial::{HERE, Scarce, Trial};
 use crate::{grammar, made, sources, tokens};
 use rl_quoted::{ByteKind, ByteStrKind, CStrKind, CharKind, StrKind};
-use rl_refusing::{Page, Failing};
+use rl_refusing::{Failing, Page};
 use rl_tokens::{Parse, lex};
 use rust_literals::{FloatKind, IntKind, LitBool, read_all};
 use std::alloc::Global;

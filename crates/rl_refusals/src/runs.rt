@@ -6,7 +6,7 @@ use rl_attributes::Attrs;
 use rl_commands::Command;
 use rl_commands::run::run;
 use rl_lines::Refusal;
-use rl_refusing::{Page, Failing};
+use rl_refusing::{Failing, Page};
 use rl_tokens::{Error, Parse, ParseBuffer, Span, lex};
 use std::alloc::Global;
 

@@ -2,7 +2,7 @@
 
 use crate::runs::put_often;
 use crate::tell::{HERE, at, literal_of};
-use rl_refusing::{Page, Failing};
+use rl_refusing::{Failing, Page};
 use rl_tokens::{Error, Kept, Literal};
 use rust_literals::{Lit, LitStr};
 use std::alloc::Global;

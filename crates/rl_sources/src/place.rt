@@ -9,9 +9,8 @@ ghost use Rattle.rl_sources.specs.Places.{place_text, IsPlaceIn};
 
 use crate::decimal::{DIGITS, put, put_decimal};
 use rl_tokens::{LineColumn, Lines};
-use std::fmt;
 use std::marker::Model;
-use std::str;
+use std::{fmt, str};
 
 /// A place of a source, as it is printed: `LO..HI` or `LINE:COLUMN`.
 #[derive(Clone, Copy)]
