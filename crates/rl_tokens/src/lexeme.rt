@@ -11,7 +11,7 @@ ghost use Rattle.std.specs.Str.{chars};
 ghost use Rattle.rl_tokens.specs.Texts.{code, is_among, first_passes, IsTail};
 ghost use Rattle.rl_tokens.specs.Lexemes.{delimiters, LexemeBefore, is_start};
 ghost use Rattle.rl_tokens.specs.Cursors.{form_view};
-ghost use Rattle.rl_tokens.specs.Mirrors.LexemeAt.{start_class, is_met_late, other_class, head_class, by_class, begins_hashed_quote, quoted_at, raw_at, single_at, literal_at, word_at, after_digit, lexeme_at, FormBefore, LetterBHead, LetterCHead, LetterRHead, SlashHead, begins_word, is_mark_alone, is_prefix_letter, goes_on_as_word, makes_comment, mark_form};
+ghost use Rattle.rl_tokens.specs.Mirrors.LexemeAt.{start_class, by_class, begins_hashed_quote, quoted_at, raw_at, single_at, literal_at, word_at, after_digit, lexeme_at, FormBefore, SlashHead, begins_word, is_mark_alone, is_prefix_letter, goes_on_as_word, makes_comment, mark_form};
 ghost use Rattle.rl_tokens.specs.declared.lexeme.Lead.TheVariants.{Word, Mark, Prefix, Slash};
 
 use crate::characters::is_start;

@@ -150,10 +150,6 @@ other_class c =
     cond (is_among delimiters c) DelimiterHead
     (cond (c == code "/") SlashHead (cond (is_punct c) MarkHead (rare_class c)))
 
--- what is asked for after digits and `"`
-abbrev pub is_met_late : ℕ → Bool
-is_met_late c = not (is_ascii_digit c || c == code "\"")
-
 abbrev pub head_class : ℕ → HeadClass
 head_class c = cond (is_start c) (start_class c) (other_class c)
 

@@ -1,16 +1,17 @@
 -- A mirror of the code, for proofs alone: which bytes a run of words or of white space holds.
 use Rattle.std.specs.Prelude.{ℕ, Bool, true, false, not, ◌||◌, ◌&&◌, ◌==◌, nat_lt}
 use Rattle.std.specs.Char.{is_ascii_alphanumeric}
+use Prim.Native.Char.{code}
 use Rattle.rl_tokens.specs.declared.classes.CharClass.{CharClass}
 use Rattle.rl_tokens.specs.declared.classes.CharClass.TheVariants.{Continue, White}
 
 -- ASCII that goes on with an identifier
 abbrev pub is_word_byte : ℕ → Bool
-is_word_byte c = is_ascii_alphanumeric c || c == 95
+is_word_byte c = is_ascii_alphanumeric c || c == code "_"
 
 -- ASCII that is white space
 abbrev pub is_blank_byte : ℕ → Bool
-is_blank_byte c = c == 32 || (nat_lt 8 c && nat_lt c 14)
+is_blank_byte c = c == code " " || (nat_lt 8 c && nat_lt c 14)
 
 -- what the run holds: words, or white space
 abbrev pub is_held : Bool → ℕ → Bool
