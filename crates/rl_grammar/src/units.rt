@@ -90,19 +90,19 @@ pub(crate) fn has_unicode(kind: Kind) -> bool
     !matches!(kind, Kind::ByteStr | Kind::Byte)
 }
 
-/// In `NAMED`, a character that stands for nothing after a backslash.
+/// What `NAMED` has for a character that no escape begins with.
 const NO_LETTER: u8 = 255;
 
-/// What a backslash and each character of ASCII stand for, the escapes by number and the line breaks aside. A table has
-/// no branch to mispredict, and escapes come in any order.
+/// What a backslash and each character of ASCII stand for, escapes by number and line breaks aside. Escapes come in any
+/// order, so a `match` mispredicts its branch on many of them.
 const NAMED: [u8; 128] = [
     255, 255, 255, 255, 255, 255, 255, 255, 255, 255, 255, 255, 255, 255, 255, 255, 255, 255, 255,
-    255, 255, 255, 255, 255, 255, 255, 255, 255, 255, 255, 255, 255, 255, 255, 34, 255, 255, 255,
-    255, 39, 255, 255, 255, 255, 255, 255, 255, 255, 0, 255, 255, 255, 255, 255, 255, 255, 255,
+    255, 255, 255, 255, 255, 255, 255, 255, 255, 255, 255, 255, 255, 255, 255, b'"', 255, 255, 255,
+    255, b'\'', 255, 255, 255, 255, 255, 255, 255, 255, 0, 255, 255, 255, 255, 255, 255, 255, 255,
     255, 255, 255, 255, 255, 255, 255, 255, 255, 255, 255, 255, 255, 255, 255, 255, 255, 255, 255,
-    255, 255, 255, 255, 255, 255, 255, 255, 255, 255, 255, 255, 255, 255, 255, 255, 92, 255, 255,
-    255, 255, 255, 255, 255, 255, 255, 255, 255, 255, 255, 255, 255, 255, 255, 10, 255, 255, 255,
-    13, 255, 9, 255, 255, 255, 255, 255, 255, 255, 255, 255, 255, 255,
+    255, 255, 255, 255, 255, 255, 255, 255, 255, 255, 255, 255, 255, 255, 255, 255, b'\\', 255,
+    255, 255, 255, 255, 255, 255, 255, 255, 255, 255, 255, 255, 255, 255, 255, 255, b'\n', 255,
+    255, 255, b'\r', 255, b'\t', 255, 255, 255, 255, 255, 255, 255, 255, 255, 255, 255,
 ];
 
 /// What a backslash and this letter stand for.
@@ -161,7 +161,8 @@ pub(crate) struct CodeDigits<'t> {
     pub rest: &'t str,
 }
 
-/// The digits of a number whose first one stands before the text, and where it stands: up to the sixth, and underscores.
+/// The digits of a number up to the sixth, and underscores: `first` stands at the front of `from`, the others in the text
+/// after it.
 #[tactic(auto, unfolding(crate::specs::Mirrors::UnitAt::code_digits_at))]
 #[inline(always)]
 fn more_digits<'t>(first: u32, from: &'t str, text: &'t str) -> CodeDigits<'t>
