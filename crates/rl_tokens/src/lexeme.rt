@@ -46,12 +46,12 @@ pub(crate) fn first_lexeme(text: &str) -> Option<(Form, &str)>
     ensures following { IfSome result (λ p. IsTail text.now p.1.now) }
     ensures shorter { IfSome result (λ p. length p.1.now < length text.now) }
 {
-    match split_ascii(text) {
-        Some((byte, following)) if (byte as char).is_ascii_digit() => {
-            Some((Form::Literal, after_digit(following)))
+    if let Some((byte, following)) = split_ascii(text) {
+        if (byte as char).is_ascii_digit() {
+            return Some((Form::Literal, after_digit(following)));
         }
-        _ => lexeme_but_number(text),
     }
+    lexeme_but_number(text)
 }
 
 /// The lexeme that the text begins with, by its first character, which is no digit.

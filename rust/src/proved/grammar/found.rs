@@ -5,8 +5,8 @@ use crate::grammar::digit_rows::is_negative;
 use crate::grammar::digits::{is_plain_float, is_plain_integer};
 use crate::grammar::number_forms::{Number, read_number};
 use crate::grammar::quoted_forms::{
-    QuotedForm, after_quote, begins_character, find_bare_character, find_character, find_cooked,
-    find_raw, find_single, split_opener,
+    QuotedForm, begins_character, find_bare_character, find_character, find_cooked, find_raw,
+    find_single, split_opener,
 };
 use crate::tokens::Kind;
 use crate::tokens::text::before;
@@ -140,20 +140,12 @@ pub fn find(text: &str) -> Option<Found> {
         if let Some(found) = find_bare_character(text) {
             return Some(found);
         }
-        // What a call finds is taken out of its option: else a bare one stands in memory too, as calls return it.
-        let found = find_character(text)?;
-        return Some(found);
-    }
-    if let Some(inside) = after_quote(Kind::Str, text) {
-        // Most strings are found here, as bare characters are.
-        return find_cooked(Kind::Str, text, inside);
+        return find_character(text);
     }
     if begins_number(text) {
-        let found = find_number(text)?;
-        return Some(found);
+        return find_number(text);
     }
-    let found = find_word_or_quoted(text)?;
-    Some(found)
+    find_word_or_quoted(text)
 }
 
 /// The reading of the text as a quoted literal or a truth value.

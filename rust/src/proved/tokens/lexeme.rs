@@ -31,12 +31,12 @@ pub enum Form {
 /// no such lexeme. Most tokens of a list are numbers, so a digit is recognized without a call.
 #[inline(always)]
 pub(crate) fn first_lexeme(text: &str) -> Option<(Form, &str)> {
-    match split_ascii(text) {
-        Some((byte, following)) if (byte as char).is_ascii_digit() => {
-            Some((Form::Literal, after_digit(following)))
+    if let Some((byte, following)) = split_ascii(text) {
+        if (byte as char).is_ascii_digit() {
+            return Some((Form::Literal, after_digit(following)));
         }
-        _ => lexeme_but_number(text),
     }
+    lexeme_but_number(text)
 }
 
 /// The lexeme that the text begins with, by its first character, which is no digit.
