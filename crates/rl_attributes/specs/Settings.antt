@@ -1,5 +1,6 @@
 -- What a reader asks of settings, and its errors.
-use Rattle.std.specs.Prelude.{◌≡◌, ◌≢◌, ◌⊎◌, ℕ, Bool as Truth, List, [], ◌∷◌, ◌++◌, All, Any, Option, Result, String, IfSome, IsTrue, IsFalse, codes, string_bytes}
+use Rattle.std.specs.Prelude.{◌≡◌, ◌≢◌, ◌⊎◌, ℕ, Bool as Truth, List, [], ◌∷◌, ◌++◌, All, Any, Option, Result, String,
+    IfSome, IsTrue, IsFalse, codes, string_bytes}
 use Rattle.std.specs.List.{list_any}
 use Rattle.std.specs.Option.{IsSomeAnd}
 use Rattle.std.specs.Str.{bytes_eq, chars}
@@ -62,7 +63,8 @@ pub record RejectsFirst {A : Type 0} (settings : List Setting) (entries : List (
 
 -- ---- what a setting is set to
 
--- What the setting is set to: of the value of each entry with its name this holds, and one has it. Or there is nothing, and
+-- What the setting is set to: of the value of each entry with its name this holds, and one has it. Or there is nothing,
+-- and
 -- no entry has its name.
 pub record IsSetAs {A V : Type 0} (setting : Setting) (entries : List (Entry A))
     (Holds : Lit A → V → Type 0) (found : Option V) : Type 0 where

@@ -1,5 +1,6 @@
 -- The literal at the front of a list.
-use Rattle.std.proofs.Common.{◌≡◌, inl, inr, ℕ, ◌-◌, ◌≤◌, true, false, List, [], length, Option, Some, None, ap, subst, ◌∙◌, arith}
+use Rattle.std.proofs.Common.{◌≡◌, inl, inr, ℕ, ◌-◌, ◌≤◌, true, false, List, [], length, Option, Some, None, ap, subst,
+    ◌∙◌, arith}
 use Rattle.std.specs.Prelude.{MatchOption}
 use Rattle.std.proofs.lemmas.Str.{chars-nil}
 use Rattle.std.specs.Str.{chars}
@@ -18,12 +19,14 @@ use Rattle.rl_c.specs.Crossing.{ReportsFound, ReportsReading, ReportsVerbatim, R
 use Rattle.rl_c.specs.Lists.{Starts, ReportsToken, ReportsNext, BeginsLiteral, BeginsNoLiteral, rejection_number}
 
 -- what was found of a literal token is reported
-pub token_reported : (text : List ℕ) (found : Option Found) (r : Reading) → FindsReading text found → ReportsFound text found r → ReportsLiteral text r
+pub token_reported : (text : List ℕ) (found : Option Found) (r : Reading) → FindsReading text found
+    → ReportsFound text found r → ReportsLiteral text r
 token_reported text None r none reported = inr (record { none = none; reading_is = reported })
 token_reported text (Some f) r is reported = inl (f, is, reported)
 
 -- what was found of a token that is a literal by itself
-pub reports_token : (form : LexemeForm) (text : List ℕ) (found : Option Found) (r : Reading) → IsLiteralToken form text found → ReportsFound text found r → ReportsToken form text r
+pub reports_token : (form : LexemeForm) (text : List ℕ) (found : Option Found) (r : Reading)
+    → IsLiteralToken form text found → ReportsFound text found r → ReportsToken form text r
 reports_token LiteralForm text found r is reported = token_reported text found r is reported
 reports_token IdentifierForm text (Some f) r (is, kind) reported =
     ((f.truth, truth_chars text f.truth (is.truth kind)), (f, is, reported))
@@ -35,26 +38,33 @@ reports_token (MarkForm c) text found r is reported = absurd is
 pub begins_at : (l : NextLiteral) (n : Next) → ReportsNext l n → l.minus_at ≡ None → n.minus_at ≡ l.token.lo
 begins_at l n r none = go l.minus_at none r.minus_is
   where
-    go : (o : Option ℕ) → o ≡ None → MatchOption o ((n.minus_at ≡ l.token.lo) × (n.negative ≡ false)) (λ at. (n.minus_at ≡ at) × (n.negative ≡ true)) → n.minus_at ≡ l.token.lo
+    go : (o : Option ℕ) → o ≡ None → MatchOption o ((n.minus_at ≡ l.token.lo) × (n.negative ≡ false))
+        (λ at. (n.minus_at ≡ at) × (n.negative ≡ true)) → n.minus_at ≡ l.token.lo
     go None e (begins, _) = begins
     go (Some at) e h = absurd (cc)
 
 -- else with the minus
 pub begins_with : (l : NextLiteral) (n : Next) (at : ℕ) → ReportsNext l n → l.minus_at ≡ Some at → n.minus_at ≡ at
-begins_with l n at r is = (subst (λ o. MatchOption o ((n.minus_at ≡ l.token.lo) × (n.negative ≡ false)) (λ at. (n.minus_at ≡ at) × (n.negative ≡ true))) is r.minus_is).0
+begins_with l n at r is = (subst (λ o. MatchOption o ((n.minus_at ≡ l.token.lo) × (n.negative ≡ false))
+    (λ at. (n.minus_at ≡ at) × (n.negative ≡ true))) is r.minus_is).0
 
 takes_less : (old new : CursorState) (l : NextLiteral) → TakesNextLiteral old l new → length new.rest ≤ length old.rest
 takes_less old new l (inl t) = tail_length _ _ t.takes.following
-takes_less old new l (inr t) = omega (arith, tail_length _ _ t.takes_minus.following, tail_length _ _ t.takes_number.following)
+takes_less old new l (inr t) = omega (arith, tail_length _ _ t.takes_minus.following, tail_length _ _
+    t.takes_number.following)
 
-starts_in : (text borrowed : List ℕ) (start : CursorState) → borrowed ≡ text → start.text ≡ borrowed → Skipped (chars borrowed) (chars start.rest) → IsCursorState borrowed start.rest → Starts text start
+starts_in : (text borrowed : List ℕ) (start : CursorState) → borrowed ≡ text → start.text ≡ borrowed
+    → Skipped (chars borrowed) (chars start.rest) → IsCursorState borrowed start.rest → Starts text start
 starts_in text borrowed start same of skipped state = record {
   text_is = of ∙ same;
   state = subst (λ z. IsCursorState z start.rest) same state;
   skipped = subst (λ z. Skipped (chars z) (chars start.rest)) same skipped;
 }
 
-pub begins : (text borrowed : List ℕ) (start new : CursorState) (l : NextLiteral) (n : Next) (rest : List ℕ) → borrowed ≡ text → start.text ≡ borrowed → Skipped (chars borrowed) (chars start.rest) → IsCursorState borrowed start.rest → TakesNextLiteral start l new → rest ≡ new.rest → ReportsNext l n → n.rest_at ≡ length borrowed - length rest → BeginsLiteral text n
+pub begins : (text borrowed : List ℕ) (start new : CursorState) (l : NextLiteral) (n : Next) (rest : List ℕ) → borrowed
+    ≡ text → start.text ≡ borrowed → Skipped (chars borrowed) (chars start.rest) → IsCursorState borrowed start.rest
+    → TakesNextLiteral start l new → rest ≡ new.rest → ReportsNext l n → n.rest_at ≡ length borrowed - length rest
+    → BeginsLiteral text n
 begins text borrowed start new l n rest same of skipped state takes left reported place = record {
   start = start;
   literal = l;
@@ -62,14 +72,18 @@ begins text borrowed start new l n rest same of skipped state takes left reporte
   starts = starts_in text borrowed start same of skipped state;
   takes = takes;
   reported = reported;
-  rest_is = omega (arith, place, ap length same, ap length left, takes_less start new l takes, tail_length _ _ state.following);
+  rest_is = omega (arith, place, ap length same, ap length left, takes_less start new l takes, tail_length _ _
+      state.following);
 }
 
-pub ends : (text borrowed rest : List ℕ) → borrowed ≡ text → Skipped (chars borrowed) (chars rest) → rest ≡ [] → Skipped (chars text) []
+pub ends : (text borrowed rest : List ℕ) → borrowed ≡ text → Skipped (chars borrowed) (chars rest) → rest ≡ []
+    → Skipped (chars text) []
 ends text borrowed rest same skipped nothing =
     subst (λ z. Skipped (chars z) []) same (subst (Skipped (chars borrowed)) (ap chars nothing ∙ chars-nil) skipped)
 
-pub begins_none : (text borrowed : List ℕ) (start : CursorState) (r : Rejection) (status : ℕ) → borrowed ≡ text → start.text ≡ borrowed → Skipped (chars borrowed) (chars start.rest) → IsCursorState borrowed start.rest → HasNoNextLiteral start → RejectsNext start r → status ≡ rejection_number r.kind → BeginsNoLiteral text status r.at
+pub begins_none : (text borrowed : List ℕ) (start : CursorState) (r : Rejection) (status : ℕ) → borrowed ≡ text
+    → start.text ≡ borrowed → Skipped (chars borrowed) (chars start.rest) → IsCursorState borrowed start.rest
+    → HasNoNextLiteral start → RejectsNext start r → status ≡ rejection_number r.kind → BeginsNoLiteral text status r.at
 begins_none text borrowed start r status same of skipped state none rejects is = record {
   start = start;
   starts = starts_in text borrowed start same of skipped state;
@@ -79,10 +93,12 @@ begins_none text borrowed start r status same of skipped state none rejects is =
 }
 
 -- where something was found, and where nothing was
-pub reported_some : (text : List ℕ) (found : Option Found) (f : Found) (r : Reading) → found ≡ Some f → FindsReading text found → ReportsFound text found r → ReportsReading text r
+pub reported_some : (text : List ℕ) (found : Option Found) (f : Found) (r : Reading) → found ≡ Some f
+    → FindsReading text found → ReportsFound text found r → ReportsReading text r
 reported_some text (Some g) f r e is reported = (g, is, reported)
 reported_some text None f r e is reported = absurd (cc)
 
-pub reported_none : (text : List ℕ) (found : Option Found) (r : Reading) → found ≡ None → FindsReading text found → ReportsFound text found r → ReportsVerbatim text r
+pub reported_none : (text : List ℕ) (found : Option Found) (r : Reading) → found ≡ None → FindsReading text found
+    → ReportsFound text found r → ReportsVerbatim text r
 reported_none text None r e none reported = record { none = none; reading_is = reported }
 reported_none text (Some g) r e is reported = absurd (cc)

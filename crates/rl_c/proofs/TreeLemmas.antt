@@ -1,5 +1,6 @@
 -- The trees of a list are its literals.
-use Rattle.std.proofs.Common.{◌≡◌, inl, inr, ℕ, ◌≤◌, ◌==◌, true, List, [], ◌∷◌, ◌++◌, map, Some, refl, sym, ap, subst, ◌∙◌, arith}
+use Rattle.std.proofs.Common.{◌≡◌, inl, inr, ℕ, ◌≤◌, ◌==◌, true, List, [], ◌∷◌, ◌++◌, map, Some, refl, sym, ap, subst,
+    ◌∙◌, arith}
 use Rattle.std.proofs.lemmas.Bool.Decides.{nat_tests}
 use Rattle.std.specs.Prelude.{min, max, if◌then◌else◌}
 use Rattle.std.specs.Option.{option_and_then}
@@ -9,7 +10,8 @@ use Rattle.rl_tokens.specs.Texts.{SpannedText, byte_len}
 use Rattle.rl_tokens.specs.Puncts.{Mark}
 use Rattle.rl_tokens.specs.Skipping.{Skipped}
 use Rattle.rl_tokens.specs.Reading.{HasReading}
-use Rattle.rl_tokens.specs.Lexemes.{LexemeForm, LiteralForm, IdentifierForm, DelimiterForm, MarkForm, lexeme_text, form_of}
+use Rattle.rl_tokens.specs.Lexemes.{LexemeForm, LiteralForm, IdentifierForm, DelimiterForm, MarkForm, lexeme_text,
+    form_of}
 use Rattle.rl_tokens.specs.Lexing.{LexedToken, end_of, LexesUpTo, after_form, open_groups, flat_form, flat_token}
 use Rattle.rl_tokens.specs.Trees.{Tree, IdentTree, PunctTree, LiteralTree, flat, flat_trees}
 use Rattle.rl_tokens.proofs.CutLemmas.{byte_len-append}
@@ -38,7 +40,8 @@ record TreeOf (file : ℕ) (w : LexedToken) (reading : Reading) : Type 0 where
   pub front : (rest : List Tree) → IsFront (tree ∷ rest) (token_of file w) rest
   pub reported : ReportsLiteral (text_of w) reading
 
-tree_of : (file : ℕ) (w : LexedToken) (reading : Reading) (f : LexemeForm) → form_of w.lexeme ≡ f → ReportsToken f (text_of w) reading → TreeOf file w reading
+tree_of : (file : ℕ) (w : LexedToken) (reading : Reading) (f : LexemeForm) → form_of w.lexeme ≡ f
+    → ReportsToken f (text_of w) reading → TreeOf file w reading
 tree_of file w reading LiteralForm is reported = record {
   tree = LiteralTree (token_of file w);
   flat_is = ap (λ g. flat_form g (text_of w) (span_of file w) ∷ []) is;
@@ -57,7 +60,8 @@ tree_of file w reading (DelimiterForm c) is reported = absurd reported
 tree_of file w reading (MarkForm c) is reported = absurd reported
 
 -- the groups stay as they are
-stay : (w : LexedToken) (ws : List LexedToken) → after_form [] (form_of w.lexeme) w.at ≡ Some [] → open_groups [] ws ≡ Some [] → open_groups [] (w ∷ ws) ≡ Some []
+stay : (w : LexedToken) (ws : List LexedToken) → after_form [] (form_of w.lexeme) w.at ≡ Some [] → open_groups [] ws
+    ≡ Some [] → open_groups [] (w ∷ ws) ≡ Some []
 stay w ws one more = ap (option_and_then (λ g. open_groups g ws)) one ∙ more
 
 -- what stands after white space and comments is no longer
@@ -66,12 +70,14 @@ no_longer t r (inl s) = omega (arith, ap byte_len s.text, byte_len-append s.fron
 no_longer t r (inr s) = let none : byte_len [] ≡ 0 = refl in omega (arith, ap byte_len s.nothing, none)
 
 -- a minus and a number after it are one token
-pub one_span : (file : ℕ) (m l : LexedToken) → end_of m ≤ l.at → joined_span (span_of file m) (span_of file l) ≡ record { file = file; lo = m.at; hi = end_of l }
+pub one_span : (file : ℕ) (m l : LexedToken) → end_of m ≤ l.at → joined_span (span_of file m) (span_of file l)
+    ≡ record { file = file; lo = m.at; hi = end_of l }
 one_span file m l after =
     let same : (file == file) ≡ true = grind (arith, nat_tests) in
     let lo : min m.at l.at ≡ m.at = omega (arith, after) in
     let hi : max (end_of m) (end_of l) ≡ end_of l = omega (arith, after) in
-    ap (λ b. if b then record { file = file; lo = min m.at l.at; hi = max (end_of m) (end_of l) } else span_of file m) same
+    ap (λ b. if b then record { file = file; lo = min m.at l.at; hi = max (end_of m) (end_of l) } else span_of file m)
+        same
     ∙ ap (λ n. let s : Span = record { file = file; lo = n; hi = max (end_of m) (end_of l) } in s) lo
     ∙ ap (λ n. let s : Span = record { file = file; lo = m.at; hi = n } in s) hi
 
@@ -84,7 +90,8 @@ record TreesOf (file : ℕ) (cuts : List LexedToken) (ls : List ListLiteral) : T
   pub none_open : open_groups [] cuts ≡ Some []
   pub fronts : AreFronts file trees ls
 
-one_more : (file : ℕ) (w : LexedToken) (more : List LexedToken) (l : ListLiteral) (ls : List ListLiteral) → TreeOf file w l.reading → l.lo ≡ w.at → l.hi ≡ end_of w → TreesOf file more ls → TreesOf file (w ∷ more) (l ∷ ls)
+one_more : (file : ℕ) (w : LexedToken) (more : List LexedToken) (l : ListLiteral) (ls : List ListLiteral)
+    → TreeOf file w l.reading → l.lo ≡ w.at → l.hi ≡ end_of w → TreesOf file more ls → TreesOf file (w ∷ more) (l ∷ ls)
 one_more file w more l ls t lo hi ts = record {
   trees = t.tree ∷ ts.trees;
   flat_is = ap (λ z. z ++ map (flat_token file) more) t.flat_is ∙ ap (λ z. flat t.tree ++ z) ts.flat_is;
@@ -93,40 +100,50 @@ one_more file w more l ls t lo hi ts = record {
     token_of file w,
     ts.trees,
     t.front ts.trees,
-    ap (λ n. let s : Span = record { file = file; lo = n; hi = end_of w } in s) (sym lo) ∙ ap (λ n. let s : Span = record { file = file; lo = l.lo; hi = n } in s) (sym hi),
+    ap (λ n. let s : Span = record { file = file; lo = n; hi = end_of w } in s) (sym lo)
+        ∙ ap (λ n. let s : Span = record { file = file; lo = l.lo; hi = n } in s) (sym hi),
     t.reported,
     ts.fronts,
   );
 }
 
-two_more : (file : ℕ) (m w : LexedToken) (more : List LexedToken) (l : ListLiteral) (ls : List ListLiteral) → form_of m.lexeme ≡ MarkForm 45 → form_of w.lexeme ≡ LiteralForm → ReportsReading (45 ∷ text_of w) l.reading → l.lo ≡ m.at → l.hi ≡ end_of w → end_of m ≤ w.at → TreesOf file more ls → TreesOf file (m ∷ w ∷ more) (l ∷ ls)
+two_more : (file : ℕ) (m w : LexedToken) (more : List LexedToken) (l : ListLiteral) (ls : List ListLiteral)
+    → form_of m.lexeme ≡ MarkForm 45 → form_of w.lexeme ≡ LiteralForm → ReportsReading (45 ∷ text_of w) l.reading → l.lo
+    ≡ m.at → l.hi ≡ end_of w → end_of m ≤ w.at → TreesOf file more ls → TreesOf file (m ∷ w ∷ more) (l ∷ ls)
 two_more file m w more l ls is_minus is_number reported lo hi after ts =
     let mark : Mark = record { ch = 45; span = span_of file m } in
     record {
       trees = PunctTree mark ∷ LiteralTree (token_of file w) ∷ ts.trees;
       flat_is =
           ap (λ g. flat_form g (text_of m) (span_of file m) ∷ flat_token file w ∷ map (flat_token file) more) is_minus
-          ∙ ap (λ g. flat_form (MarkForm 45) (text_of m) (span_of file m) ∷ flat_form g (text_of w) (span_of file w) ∷ map (flat_token file) more) is_number
-          ∙ ap (λ z. flat_form (MarkForm 45) (text_of m) (span_of file m) ∷ flat_form LiteralForm (text_of w) (span_of file w) ∷ z) ts.flat_is;
-      none_open = stay m (w ∷ more) (ap (λ g. after_form [] g m.at) is_minus) (stay w more (ap (λ g. after_form [] g w.at) is_number) ts.none_open);
+          ∙ ap (λ g. flat_form (MarkForm 45) (text_of m) (span_of file m) ∷ flat_form g (text_of w) (span_of file w) ∷
+              map (flat_token file) more) is_number
+          ∙ ap (λ z. flat_form (MarkForm 45) (text_of m) (span_of file m) ∷ flat_form LiteralForm (text_of w)
+              (span_of file w) ∷ z) ts.flat_is;
+      none_open = stay m (w ∷ more) (ap (λ g. after_form [] g m.at) is_minus)
+          (stay w more (ap (λ g. after_form [] g w.at) is_number) ts.none_open);
       fronts = (
         joined mark (token_of file w),
         ts.trees,
         (refl, together (text_of w) l.reading reported, refl, refl),
-        one_span file m w after ∙ ap (λ n. let s : Span = record { file = file; lo = n; hi = end_of w } in s) (sym lo) ∙ ap (λ n. let s : Span = record { file = file; lo = l.lo; hi = n } in s) (sym hi),
+        one_span file m w after ∙ ap (λ n. let s : Span = record { file = file; lo = n; hi = end_of w } in s) (sym lo)
+            ∙ ap (λ n. let s : Span = record { file = file; lo = l.lo; hi = n } in s) (sym hi),
         inl reported,
         ts.fronts,
       );
     }
 
-trees_of : (file at : ℕ) (t : List ℕ) (cuts : List LexedToken) (ls : List ListLiteral) → LexesUpTo at t cuts [] → AreLiterals cuts ls → TreesOf file cuts ls
+trees_of : (file at : ℕ) (t : List ℕ) (cuts : List LexedToken) (ls : List ListLiteral) → LexesUpTo at t cuts []
+    → AreLiterals cuts ls → TreesOf file cuts ls
 trees_of file at t cuts [] cut nothing =
-    subst (λ z. TreesOf file z []) (sym nothing) (record { trees = []; flat_is = refl; none_open = refl; fronts = refl })
+    subst (λ z. TreesOf file z []) (sym nothing) (record { trees = []; flat_is = refl; none_open = refl; fronts = refl
+        })
 trees_of file at t cuts (l ∷ ls) cut (more, inl one, are) =
     let w = one.token in
     let (after, _, _, _, rest) = subst (λ z. LexesUpTo at t z []) one.cuts_are cut in
     let ts : TreesOf file more ls = trees_of file (end_of w) after more ls rest are in
-    subst (λ z. TreesOf file z (l ∷ ls)) (sym one.cuts_are) (one_more file w more l ls (tree_of file w l.reading (form_of w.lexeme) refl one.reported) one.lo_is one.hi_is ts)
+    subst (λ z. TreesOf file z (l ∷ ls)) (sym one.cuts_are) (one_more file w more l ls
+        (tree_of file w l.reading (form_of w.lexeme) refl one.reported) one.lo_is one.hi_is ts)
 trees_of file at t cuts (l ∷ ls) cut (more, inr two, are) =
     let m = two.minus in
     let w = two.number in
@@ -134,7 +151,8 @@ trees_of file at t cuts (l ∷ ls) cut (more, inr two, are) =
     let (following, gap, _, place, rest) = number in
     let ts : TreesOf file more ls = trees_of file (end_of w) following more ls rest are in
     let later : end_of m ≤ w.at = omega (arith, place, no_longer after (lexeme_text w.lexeme ++ following) gap) in
-    subst (λ z. TreesOf file z (l ∷ ls)) (sym two.cuts_are) (two_more file m w more l ls two.is_minus two.is_number two.reported two.lo_is two.hi_is later ts)
+    subst (λ z. TreesOf file z (l ∷ ls)) (sym two.cuts_are) (two_more file m w more l ls two.is_minus two.is_number
+        two.reported two.lo_is two.hi_is later ts)
 
 pub list_of_trees : (text : List ℕ) (file : ℕ) (ls : List ListLiteral) → IsList text ls → IsListOfTrees text file ls
 list_of_trees text file ls is =

@@ -1,5 +1,6 @@
 -- The lines of a list, literal by literal.
-use Rattle.std.proofs.Common.{◌≡◌, ℕ, ◌+◌, List, [], ◌∷◌, ◌++◌, length, length-append, Option, Some, None, Result, IfErr, IfOk, refl, sym, ◌∙◌, ap, subst, string_bytes}
+use Rattle.std.proofs.Common.{◌≡◌, ℕ, ◌+◌, List, [], ◌∷◌, ◌++◌, length, length-append, Option, Some, None, Result,
+    IfErr, IfOk, refl, sym, ◌∙◌, ap, subst, string_bytes}
 use Rattle.std.specs.Prelude.{String, IfSome}
 use Rattle.std.specs.Option.{ok_or}
 use Rattle.std.specs.Str.{chars, IsUtf8}
@@ -18,24 +19,36 @@ use Rattle.rl_commands.specs.Runs.{Shows, IsLiteralError, IsRejectionOf}
 use Rattle.rl_commands.specs.Lists.{Lengthens, HasLines}
 
 -- one line more
-lengthened : {A : Type 0} (lines longer : Option (String A)) (list : List (Lit A)) (lit : Lit A) → IfSome lines (λ l. AreLinesOfLits list (chars (string_bytes l))) → IfSome longer (Lengthens lines lit) → IfSome longer (λ l. AreLinesOfLits (list ++ lit ∷ []) (chars (string_bytes l)))
+lengthened : {A : Type 0} (lines longer : Option (String A)) (list : List (Lit A)) (lit : Lit A)
+    → IfSome lines (λ l. AreLinesOfLits list (chars (string_bytes l))) → IfSome longer (Lengthens lines lit)
+    → IfSome longer (λ l. AreLinesOfLits (list ++ lit ∷ []) (chars (string_bytes l)))
 lengthened lines None list lit h k = tt
 lengthened None (Some longer) list lit h k = absurd k
-lengthened (Some lines) (Some longer) list lit h k = joins_more IsLineOfLit list lit (chars (string_bytes lines)) (chars (string_bytes longer)) h k
+lengthened (Some lines) (Some longer) list lit h k = joins_more IsLineOfLit list lit (chars (string_bytes lines))
+    (chars (string_bytes longer)) h k
 
 -- no literal yet, and no line
-pub first_none : {A : Type 0} (text : List ℕ) (literals : Literals A) (lines : String A) → string_bytes lines ≡ [] → HasReturned text 0 [] literals → HasLines text literals (Some lines)
-first_none text literals lines empty returned = record { list = []; returned = returned; lines_are = ap chars empty ∙ chars-nil }
+pub first_none : {A : Type 0} (text : List ℕ) (literals : Literals A) (lines : String A) → string_bytes lines ≡ []
+    → HasReturned text 0 [] literals → HasLines text literals (Some lines)
+first_none text literals lines empty returned = record { list = []; returned = returned; lines_are = ap chars empty
+    ∙ chars-nil }
 
 -- one literal more, whose line is made
-pub first_more : {A : Type 0} (text : List ℕ) (old new : Literals A) (lines longer : Option (String A)) (lit : Lit A) (has : HasLines text old lines) → HasReturned text 0 (has.list ++ lit ∷ []) new → IfSome longer (Lengthens lines lit) → HasLines text new longer
-first_more text old new lines longer lit has returned pushed = record { list = has.list ++ lit ∷ []; returned = returned; lines_are = lengthened lines longer has.list lit has.lines_are pushed }
+pub first_more : {A : Type 0} (text : List ℕ) (old new : Literals A) (lines longer : Option (String A)) (lit : Lit A)
+    (has : HasLines text old lines) → HasReturned text 0 (has.list ++ lit ∷ []) new
+    → IfSome longer (Lengthens lines lit) → HasLines text new longer
+first_more text old new lines longer lit has returned pushed = record
+    { list = has.list ++ lit ∷ []; returned = returned; lines_are = lengthened lines longer has.list lit has.lines_are
+    pushed }
 
 -- the answer where the text is a list: its lines, or an allocation failure for them
 pub record Answers {A : Type 0} (text : List ℕ) (r : Result (String A) (Fault A)) : Type 0 where
   pub lines : IfOk r (λ lines. Shows Read (chars text) (chars (string_bytes lines)))
   pub rejection : IfErr r (IsRejectionOf Read text)
 
-pub answers : {A : Type 0} (text : List ℕ) (list : List (Lit A)) (lines : Option (String A)) (r : Result (String A) (Fault A)) → AreRead (chars text) 0 list → IfSome lines (λ l. AreLinesOfLits list (chars (string_bytes l))) → r ≡ ok_or lines Memory → Answers text r
+pub answers : {A : Type 0} (text : List ℕ) (list : List (Lit A)) (lines : Option (String A))
+    (r : Result (String A) (Fault A)) → AreRead (chars text) 0 list
+    → IfSome lines (λ l. AreLinesOfLits list (chars (string_bytes l))) → r ≡ ok_or lines Memory → Answers text r
 answers text list None r read lines is = subst (Answers text) (sym is) (record { lines = tt; rejection = (list, read) })
-answers text list (Some l) r read lines is = subst (Answers text) (sym is) (record { lines = lines_of_text (chars text) list (chars (string_bytes l)) read lines; rejection = tt })
+answers text list (Some l) r read lines is = subst (Answers text) (sym is)
+    (record { lines = lines_of_text (chars text) list (chars (string_bytes l)) read lines; rejection = tt })

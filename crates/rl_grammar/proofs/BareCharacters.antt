@@ -1,5 +1,7 @@
 -- A character of ASCII that stands for itself between single quotes.
-use Rattle.rl_grammar.proofs.Names.{◌≡◌, ◌<◌, ◌≤◌, ℕ, suc, zero, false, not, eqb, List, [], ◌∷◌, length, drop, get_or, refl, sym, ap, subst, ◌∙◌, arith, inl, inr, eqb-true, cases_Bool, IsUtf8-drop, IsCharBoundary, IsAscii, IsUtf8, Char, Plain}
+use Rattle.rl_grammar.proofs.Names.{◌≡◌, ◌<◌, ◌≤◌, ℕ, suc, zero, false, not, eqb, List, [], ◌∷◌, length, drop, get_or,
+    refl, sym, ap, subst, ◌∙◌, arith, inl, inr, eqb-true, cases_Bool, IsUtf8-drop, IsCharBoundary, IsAscii, IsUtf8,
+    Char, Plain}
 use Rattle.std.proofs.lemmas.Str.{IsCharBoundary-after_ascii, chars-IsAscii}
 use Rattle.std.specs.Str.{chars}
 use Rattle.rl_tokens.proofs.ScanLemmas.{ascii_first}
@@ -22,7 +24,8 @@ one_ascii c small (suc i) = omega arith
 abbrev BareBody : Body
 BareBody = record { lo = 1; hi = 2; suffix_at = 3; plain = false }
 
-bare_parts : (c : ℕ) (x : List ℕ) → c < 128 → eqb c 92 ≡ false → IsUtf8 (39 ∷ c ∷ 39 ∷ x) → PartsAre SingleForm Char (chars (39 ∷ c ∷ 39 ∷ x)) (c ∷ []) (chars (c ∷ [])) (chars x)
+bare_parts : (c : ℕ) (x : List ℕ) → c < 128 → eqb c 92 ≡ false → IsUtf8 (39 ∷ c ∷ 39 ∷ x)
+    → PartsAre SingleForm Char (chars (39 ∷ c ∷ 39 ∷ x)) (c ∷ []) (chars (c ∷ [])) (chars x)
 bare_parts c x small other u =
     let bare = after 39 (c ∷ 39 ∷ x) (omega arith) u in
     let closer = after c (39 ∷ x) small bare in (
@@ -30,13 +33,16 @@ bare_parts c x small other u =
         unit = Plain c;
         single = refl;
         is_unit = ap not other;
-        text_is = ascii_first (39 ∷ c ∷ 39 ∷ x) u (omega arith) (omega arith) ∙ ap (λ z. 39 ∷ z) (ascii_first (c ∷ 39 ∷ x) bare (omega arith) small ∙ ap (λ z. c ∷ z) (ascii_first (39 ∷ x) closer (omega arith) (omega arith)));
+        text_is = ascii_first (39 ∷ c ∷ 39 ∷ x) u (omega arith) (omega arith)
+            ∙ ap (λ z. 39 ∷ z) (ascii_first (c ∷ 39 ∷ x) bare (omega arith) small
+            ∙ ap (λ z. c ∷ z) (ascii_first (39 ∷ x) closer (omega arith) (omega arith)));
         value_is = refl;
       },
       chars-IsAscii (c ∷ []) (one_ascii c small),
     )
 
-bare_found : (c : ℕ) (x : List ℕ) → c < 128 → eqb c 92 ≡ false → IsUtf8 (39 ∷ c ∷ 39 ∷ x) → IsFound (39 ∷ c ∷ 39 ∷ x) (OfUnit Char BareBody c)
+bare_found : (c : ℕ) (x : List ℕ) → c < 128 → eqb c 92 ≡ false → IsUtf8 (39 ∷ c ∷ 39 ∷ x)
+    → IsFound (39 ∷ c ∷ 39 ∷ x) (OfUnit Char BareBody c)
 bare_found c x small other u =
     let t = 39 ∷ c ∷ 39 ∷ x in
     let parts = bare_parts c x small other u in
@@ -56,20 +62,26 @@ bare_found c x small other u =
     quoted_found t Char BareBody c _ u at (byte_unit Char c refl (omega (arith, small))) refl
 
 -- by the text's bytes
-pub bare_text : (t b : List ℕ) (found : Found) → b ≡ t → IsUtf8 t → 3 ≤ length t → get_or t 0 0 ≡ 39 → get_or b 2 0 ≡ 39 → (get_or b 1 0 ≡ 92 → ⊥) → get_or b 1 0 < 128 → found ≡ OfUnit Char BareBody (get_or b 1 0) → IsFound t found
+pub bare_text : (t b : List ℕ) (found : Found) → b ≡ t → IsUtf8 t → 3 ≤ length t → get_or t 0 0 ≡ 39 → get_or b 2 0 ≡ 39
+    → (get_or b 1 0 ≡ 92 → ⊥) → get_or b 1 0 < 128 → found ≡ OfUnit Char BareBody (get_or b 1 0) → IsFound t found
 bare_text t b found same u long first last other small found_is =
-    let of_t = of_bytes b (subst IsUtf8 (sym same) u) (omega (arith, long, ap length same)) (ap (λ z. get_or z 0 0) same ∙ first) last other small in
+    let of_t = of_bytes b (subst IsUtf8 (sym same) u) (omega (arith, long, ap length same))
+        (ap (λ z. get_or z 0 0) same ∙ first) last other small in
     subst (IsFound t) (sym found_is) (subst (λ z. IsFound z (OfUnit Char BareBody (get_or b 1 0))) same of_t)
   where
-    of_bytes : (t : List ℕ) → IsUtf8 t → 3 ≤ length t → get_or t 0 0 ≡ 39 → get_or t 2 0 ≡ 39 → (get_or t 1 0 ≡ 92 → ⊥) → get_or t 1 0 < 128 → IsFound t (OfUnit Char BareBody (get_or t 1 0))
+    of_bytes : (t : List ℕ) → IsUtf8 t → 3 ≤ length t → get_or t 0 0 ≡ 39 → get_or t 2 0 ≡ 39 → (get_or t 1 0 ≡ 92 → ⊥)
+        → get_or t 1 0 < 128 → IsFound t (OfUnit Char BareBody (get_or t 1 0))
     of_bytes [] u long first last other small = absurd (omega arith)
     of_bytes (a ∷ []) u long first last other small = absurd (omega arith)
     of_bytes (a ∷ b ∷ []) u long first last other small = absurd (omega arith)
     of_bytes (a ∷ b ∷ c ∷ x) u long first last other small =
         let At : ℕ → ℕ → List ℕ = λ p q. p ∷ b ∷ q ∷ x in
-        let not_backslash : eqb b 92 ≡ false = elim (cases_Bool (eqb b 92)) [ inl e ↦ absurd (other (eqb-true b 92 e)) | inr e ↦ e ] in
+        let not_backslash : eqb b 92 ≡ false = elim (cases_Bool (eqb b 92))
+            [ inl e ↦ absurd (other (eqb-true b 92 e)) | inr e ↦ e ] in
         let text : IsUtf8 (At 39 39) = subst (λ q. IsUtf8 (At 39 q)) last (subst (λ p. IsUtf8 (At p c)) first u) in
-        subst (λ p. IsFound (At p c) (OfUnit Char BareBody b)) (sym first) (subst (λ q. IsFound (At 39 q) (OfUnit Char BareBody b)) (sym last) (bare_found b x small not_backslash text))
+        subst (λ p. IsFound (At p c) (OfUnit Char BareBody b)) (sym first)
+            (subst (λ q. IsFound (At 39 q) (OfUnit Char BareBody b)) (sym last)
+            (bare_found b x small not_backslash text))
 
 -- ---- the quote in front
 
@@ -79,4 +91,5 @@ quote_boundary (c ∷ x) u e = IsCharBoundary-after_ascii (c ∷ x) 0 u (omega a
 
 pub quote_first : (t inside : List ℕ) → IsUtf8 t → get_or t 0 0 ≡ 39 → inside ≡ drop 1 t → chars t ≡ 39 ∷ chars inside
 quote_first [] inside u e is = absurd (cc)
-quote_first (c ∷ x) inside u e is = ascii_first (c ∷ x) u (omega arith) (omega (arith, e)) ∙ ap (λ z. z ∷ chars x) e ∙ ap (λ z. 39 ∷ chars z) (sym is)
+quote_first (c ∷ x) inside u e is = ascii_first (c ∷ x) u (omega arith) (omega (arith, e)) ∙ ap (λ z. z ∷ chars x) e
+    ∙ ap (λ z. 39 ∷ chars z) (sym is)

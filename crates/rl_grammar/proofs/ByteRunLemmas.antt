@@ -1,5 +1,8 @@
 -- Runs of ASCII at the front of a text, which byte strings hold.
-use Rattle.rl_grammar.proofs.Names.{◌≡◌, ◌+◌, ◌<◌, ◌≤◌, ◌⊎◌, inl, inr, ℕ, suc, ◌==◌, ◌&&◌, ◌||◌, Bool, true, false, not, cond, eqb, List, [], ◌∷◌, ◌++◌, length, nat_lt, refl, sym, ap, ◌∙◌, arith, and_from, and_parts, ltb-true, ne_eqb, nat_tests, encodes-chars, list_all, prefix_len, IsUtf8, Kind, Str, ByteStr, CStr, Marks, is_plain, is_string, is_ascii_other, is_other}
+use Rattle.rl_grammar.proofs.Names.{◌≡◌, ◌+◌, ◌<◌, ◌≤◌, ◌⊎◌, inl, inr, ℕ, suc, ◌==◌, ◌&&◌, ◌||◌, Bool, true, false, not,
+    cond, eqb, List, [], ◌∷◌, ◌++◌, length, nat_lt, refl, sym, ap, ◌∙◌, arith, and_from, and_parts, ltb-true, ne_eqb,
+    nat_tests, encodes-chars, list_all, prefix_len, IsUtf8, Kind, Str, ByteStr, CStr, Marks, is_plain, is_string,
+    is_ascii_other, is_other}
 use Rattle.std.specs.Char.{is_ascii}
 use Rattle.std.specs.Str.{chars, encode_utf8_all}
 use Rattle.rl_tokens.proofs.CommentBytes.{cases128, encode_is_high, low_front}
@@ -13,7 +16,8 @@ use Rattle.std.proofs.Math.Bool.{and-true}
 
 -- of a test that passes all past ASCII
 high_cut : (q : ℕ → Bool) → PassesHigh q → (bs : List ℕ) → IsUtf8 bs → RunCut q bs
-high_cut q high bs u = record { boundary = run_boundary q high bs; cut = run_cut q high bs u; plain = run_plain q high bs u; stops = run_stop q high bs u; behind = run_tail q high bs u }
+high_cut q high bs u = record { boundary = run_boundary q high bs; cut = run_cut q high bs u; plain = run_plain q high
+    bs u; stops = run_stop q high bs u; behind = run_tail q high bs u }
 
 -- ASCII without marks
 other_low : (m : Marks) → PassesLow (is_ascii_other m)
@@ -36,7 +40,8 @@ plain_cut kind bs h u = absurd (cc)
 -- ---- what raw byte strings hold
 
 -- ASCII up to a quote or a CR
-inside_one : (c : ℕ) → is_ascii_other (record { first = 34; second = 13; third = 13; fourth = 13 }) c ≡ true → is_inside ByteStr c ≡ true
+inside_one : (c : ℕ) → is_ascii_other (record { first = 34; second = 13; third = 13; fourth = 13 }) c ≡ true
+    → is_inside ByteStr c ≡ true
 inside_one c h = go (nat_lt c 128) (c == 34) (c == 13) h
   where
     go : (l q r : Bool) → (l && not (q || r || r || r)) ≡ true → (not q && (l && not r)) ≡ true
@@ -45,13 +50,16 @@ inside_one c h = go (nat_lt c 128) (c == 34) (c == 13) h
     go true false true h = absurd (cc)
     go false q r h = absurd (cc)
 
-pub inside_run : (m : Marks) (run : List ℕ) → m ≡ record { first = 34; second = 13; third = 13; fourth = 13 } → list_all (is_ascii_other m) run ≡ true → list_all (is_inside ByteStr) run ≡ true
+pub inside_run : (m : Marks) (run : List ℕ) → m ≡ record { first = 34; second = 13; third = 13; fourth = 13 }
+    → list_all (is_ascii_other m) run ≡ true → list_all (is_inside ByteStr) run ≡ true
 inside_run m run e each = go run (ap (λ n. list_all (is_ascii_other n) run) (sym e) ∙ each)
   where
-    go : (cs : List ℕ) → list_all (is_ascii_other (record { first = 34; second = 13; third = 13; fourth = 13 })) cs ≡ true → list_all (is_inside ByteStr) cs ≡ true
+    go : (cs : List ℕ) → list_all (is_ascii_other (record { first = 34; second = 13; third = 13; fourth = 13 })) cs
+        ≡ true → list_all (is_inside ByteStr) cs ≡ true
     go [] h = refl
     go (c ∷ cs) h =
-        let b = and_parts (is_ascii_other (record { first = 34; second = 13; third = 13; fourth = 13 }) c) (list_all (is_ascii_other (record { first = 34; second = 13; third = 13; fourth = 13 })) cs) h in
+        let b = and_parts (is_ascii_other (record { first = 34; second = 13; third = 13; fourth = 13 }) c)
+            (list_all (is_ascii_other (record { first = 34; second = 13; third = 13; fourth = 13 })) cs) h in
         and_from (is_inside ByteStr c) (list_all (is_inside ByteStr) cs) (inside_one c b.0) (go cs b.1)
 
 -- ---- texts of ASCII alone
@@ -68,7 +76,8 @@ run_is_all : (q : ℕ → Bool) (bs : List ℕ) → list_all q bs ≡ eqb (prefi
 run_is_all q [] = refl
 run_is_all q (b ∷ bs) = go (q b) (run_is_all q bs)
   where
-    go : (t : Bool) → list_all q bs ≡ eqb (prefix_len q bs) (length bs) → (t && list_all q bs) ≡ eqb (cond t (1 + prefix_len q bs) 0) (suc (length bs))
+    go : (t : Bool) → list_all q bs ≡ eqb (prefix_len q bs) (length bs) → (t && list_all q bs)
+        ≡ eqb (cond t (1 + prefix_len q bs) 0) (suc (length bs))
     go true ih = ih ∙ next_same (prefix_len q bs) (length bs)
     go false ih = none_same (length bs)
 
@@ -81,21 +90,27 @@ all_bytes : (cs : List ℕ) → list_all is_ascii (encode_utf8_all cs) ≡ list_
 all_bytes [] = refl
 all_bytes (c ∷ cs) = go (all_bytes cs) (cases128 c)
   where
-    go : list_all is_ascii (encode_utf8_all cs) ≡ list_all is_ascii cs → (c < 128) ⊎ (128 ≤ c) → list_all is_ascii (encode_utf8_all (c ∷ cs)) ≡ list_all is_ascii (c ∷ cs)
+    go : list_all is_ascii (encode_utf8_all cs) ≡ list_all is_ascii cs → (c < 128) ⊎ (128 ≤ c)
+        → list_all is_ascii (encode_utf8_all (c ∷ cs)) ≡ list_all is_ascii (c ∷ cs)
     go more (inl small) = ap (list_all is_ascii) (low_front c cs small) ∙ ap (λ b. is_ascii c && b) more
     go more (inr past) =
         let (b, bs, same, is, _) = encode_is_high c past in
-        ap (λ z. list_all is_ascii (z ++ encode_utf8_all cs)) same ∙ ap (λ z. z && list_all is_ascii (bs ++ encode_utf8_all cs)) (high_fails b is) ∙ sym (ap (λ z. z && list_all is_ascii cs) (high_fails c past))
+        ap (λ z. list_all is_ascii (z ++ encode_utf8_all cs)) same
+            ∙ ap (λ z. z && list_all is_ascii (bs ++ encode_utf8_all cs)) (high_fails b is)
+            ∙ sym (ap (λ z. z && list_all is_ascii cs) (high_fails c past))
 
 -- a mark past ASCII is none
-no_mark : (m : Marks) → m ≡ record { first = 255; second = 255; third = 255; fourth = 255 } → (c : ℕ) → is_ascii_other m c ≡ is_ascii c
+no_mark : (m : Marks) → m ≡ record { first = 255; second = 255; third = 255; fourth = 255 } → (c : ℕ)
+    → is_ascii_other m c ≡ is_ascii c
 no_mark m e c = ap (λ n. is_ascii_other n c) e ∙ go (cases128 c)
   where
-    go : (c < 128) ⊎ (128 ≤ c) → is_ascii_other (record { first = 255; second = 255; third = 255; fourth = 255 }) c ≡ is_ascii c
+    go : (c < 128) ⊎ (128 ≤ c) → is_ascii_other (record { first = 255; second = 255; third = 255; fourth = 255 }) c
+        ≡ is_ascii c
     go (inl small) = rw (ne_eqb c 255 (λ e. omega arith)) (and-true (nat_lt c 128))
     go (inr past) = rw (high_fails c past) refl
 
-pub ascii_all : (m : Marks) (n : ℕ) (bs : List ℕ) → m ≡ record { first = 255; second = 255; third = 255; fourth = 255 } → IsUtf8 bs → n ≡ prefix_len (is_ascii_other m) bs → eqb n (length bs) ≡ list_all is_ascii (chars bs)
+pub ascii_all : (m : Marks) (n : ℕ) (bs : List ℕ) → m ≡ record { first = 255; second = 255; third = 255; fourth = 255 }
+    → IsUtf8 bs → n ≡ prefix_len (is_ascii_other m) bs → eqb n (length bs) ≡ list_all is_ascii (chars bs)
 ascii_all m n bs e u len =
     ap (λ k. eqb k (length bs)) (len ∙ same_prefix (is_ascii_other m) is_ascii bs (no_mark m e))
     ∙ sym (run_is_all is_ascii bs)

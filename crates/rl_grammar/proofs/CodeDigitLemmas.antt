@@ -1,15 +1,22 @@
 -- The digits of `\u{..}`, one at a time: what is read of them, and their flaw.
-use Rattle.rl_grammar.proofs.Names.{◌≡◌, ℕ, ◌+◌, ◌*◌, ◌≤◌, ◌<◌, ◌&&◌, Bool, true, false, not, cond, eqb, ltb, List, [], ◌∷◌, Option, Some, None, refl, sym, ap, subst, ◌∙◌, inl, inr, arith, option_and_then, digit_value, scalar, and_parts, both_ways, cases_Bool, eq-eqb, eqb-true, lt-ltb, ltb-true, ltb-false, ne_eqb, not-true, Kind, allows_code, has_unicode, is_hex_digit}
+use Rattle.rl_grammar.proofs.Names.{◌≡◌, ℕ, ◌+◌, ◌*◌, ◌≤◌, ◌<◌, ◌&&◌, Bool, true, false, not, cond, eqb, ltb, List, [],
+    ◌∷◌, Option, Some, None, refl, sym, ap, subst, ◌∙◌, inl, inr, arith, option_and_then, digit_value, scalar,
+    and_parts, both_ways, cases_Bool, eq-eqb, eqb-true, lt-ltb, ltb-true, ltb-false, ne_eqb, not-true, Kind,
+    allows_code, has_unicode, is_hex_digit}
 use Rattle.rl_grammar.specs.declared.flaws.FlawKind.TheVariants.{Unclosed, NoHexDigit, TooManyDigits}
-use Rattle.rl_grammar.specs.Mirrors.UnitAt.{CodeDigits, ◌>>=◌, brace_at, closed_at, code_digits_at, digit_at, first_code_digits_at, number_if, unicode_at}
-use Rattle.rl_grammar.specs.Mirrors.UnitFlawAt.{FoundFlaw, code_flaw_at, code_flaw_of, first_digit_flaw_at, found_flaw, is_code}
+use Rattle.rl_grammar.specs.Mirrors.UnitAt.{CodeDigits, ◌>>=◌, brace_at, closed_at, code_digits_at, digit_at,
+    first_code_digits_at, number_if, unicode_at}
+use Rattle.rl_grammar.specs.Mirrors.UnitFlawAt.{FoundFlaw, code_flaw_at, code_flaw_of, first_digit_flaw_at, found_flaw,
+    is_code}
 
 -- ---- what is read
 
 -- the digits and underscores up to the closing brace, after n digits that spell v
 unfoldable pub unicode_digits_at : ℕ → ℕ → List ℕ → Option (ℕ × List ℕ)
 unicode_digits_at v n [] = None
-unicode_digits_at v n (c ∷ cs) = cond (eqb c 125) (number_if (scalar v) v cs) (cond (eqb c 95) (unicode_digits_at v n cs) (cond (is_hex_digit c && ltb n 6) (unicode_digits_at (v * 16 + digit_value c) (n + 1) cs) None))
+unicode_digits_at v n (c ∷ cs) = cond (eqb c 125) (number_if (scalar v) v cs)
+    (cond (eqb c 95) (unicode_digits_at v n cs) (cond (is_hex_digit c && ltb n 6)
+    (unicode_digits_at (v * 16 + digit_value c) (n + 1) cs) None))
 
 -- a digit is no brace and no underscore
 pub digit_apart : (c k : ℕ) → is_hex_digit c ≡ true → is_hex_digit k ≡ false → eqb c k ≡ false
@@ -23,7 +30,8 @@ below_six n few h = elim (cases_Bool (ltb n 6)) [
       absurd (both_ways (eqb n 6) h (eq-eqb n 6 (omega (arith, few, more))))
 ]
 
-digits_closed : (t : List ℕ) (v n : ℕ) (last : List ℕ) → n ≤ 6 → closed_at (code_digits_at v n last t) ≡ unicode_digits_at v n t
+digits_closed : (t : List ℕ) (v n : ℕ) (last : List ℕ) → n ≤ 6 → closed_at (code_digits_at v n last t)
+    ≡ unicode_digits_at v n t
 unfolding code_digits_at unicode_digits_at
 digits_closed [] v n last few = refl
 digits_closed (c ∷ cs) v n last few = elim (cases_Bool (is_hex_digit c)) [
@@ -31,15 +39,18 @@ digits_closed (c ∷ cs) v n last few = elim (cases_Bool (is_hex_digit c)) [
     | inl six ↦ rw (a, six, digit_apart c 125 a refl, digit_apart c 95 a refl, eqb-true n 6 six) refl
     | inr short ↦
         let less = below_six n few short in
-        rw (a, short, digit_apart c 125 a refl, digit_apart c 95 a refl, lt-ltb n 6 less) (digits_closed cs (v * 16 + digit_value c) (n + 1) (c ∷ cs) (omega (arith, less)))
+        rw (a, short, digit_apart c 125 a refl, digit_apart c 95 a refl, lt-ltb n 6 less)
+            (digits_closed cs (v * 16 + digit_value c) (n + 1) (c ∷ cs) (omega (arith, less)))
   ]
   | inr a ↦ elim (cases_Bool (eqb c 95)) [
-    | inl b ↦ subst (λ x. closed_at (code_digits_at v n last (x ∷ cs)) ≡ unicode_digits_at v n (x ∷ cs)) (sym (eqb-true c 95 b)) (digits_closed cs v n last few)
+    | inl b ↦ subst (λ x. closed_at (code_digits_at v n last (x ∷ cs)) ≡ unicode_digits_at v n (x ∷ cs))
+        (sym (eqb-true c 95 b)) (digits_closed cs v n last few)
     | inr b ↦ rw (a, b) (other (eqb c 125))
   ]
 ]
   where
-    other : (b : Bool) → option_and_then (λ after. number_if (scalar v) v after) (cond b (Some cs) None) ≡ cond b (number_if (scalar v) v cs) None
+    other : (b : Bool) → option_and_then (λ after. number_if (scalar v) v after) (cond b (Some cs) None)
+        ≡ cond b (number_if (scalar v) v cs) None
     other true = refl
     other false = refl
 
@@ -58,11 +69,15 @@ unicode_is kind t = go (brace_at t)
     coded : ℕ × List ℕ → Option (ℕ × List ℕ)
     coded p = number_if (has_unicode kind && allows_code kind p.0) p.0 p.1
 
-    digits : (inside : List ℕ) (o : Option (ℕ × List ℕ)) → option_and_then (λ d. option_and_then coded (closed_at d)) (option_and_then (λ p. Some (code_digits_at p.0 1 inside p.1)) o) ≡ option_and_then (λ p. option_and_then coded (unicode_digits_at p.0 1 p.1)) o
+    digits : (inside : List ℕ) (o : Option (ℕ × List ℕ)) → option_and_then (λ d. option_and_then coded (closed_at d))
+        (option_and_then (λ p. Some (code_digits_at p.0 1 inside p.1)) o)
+        ≡ option_and_then (λ p. option_and_then coded (unicode_digits_at p.0 1 p.1)) o
     digits inside None = refl
     digits inside (Some p) = ap (option_and_then coded) (digits_closed p.1 p.0 1 inside (omega arith))
 
-    go : (o : Option (List ℕ)) → option_and_then (λ inside. option_and_then (λ d. option_and_then coded (closed_at d)) (first_code_digits_at inside)) o ≡ option_and_then (λ inside. option_and_then (λ p. option_and_then coded (unicode_digits_at p.0 1 p.1)) (digit_at inside)) o
+    go : (o : Option (List ℕ)) → option_and_then (λ inside. option_and_then (λ d. option_and_then coded (closed_at d))
+        (first_code_digits_at inside)) o ≡ option_and_then (λ inside. option_and_then
+        (λ p. option_and_then coded (unicode_digits_at p.0 1 p.1)) (digit_at inside)) o
     go None = refl
     go (Some inside) = digits inside (digit_at inside)
 
@@ -74,13 +89,15 @@ digits_flaw_at kind v n [] = found_flaw Unclosed []
 digits_flaw_at kind v n (c ∷ cs) =
     cond (is_hex_digit c)
     (cond (eqb n 6) (found_flaw TooManyDigits (c ∷ cs))
-    (cond (eqb n 5 && not (is_code kind (v * 16 + digit_value c))) (found_flaw (code_flaw_of (v * 16 + digit_value c)) (c ∷ cs))
+    (cond (eqb n 5 && not (is_code kind (v * 16 + digit_value c)))
+        (found_flaw (code_flaw_of (v * 16 + digit_value c)) (c ∷ cs))
     (digits_flaw_at kind (v * 16 + digit_value c) (n + 1) cs)))
     (cond (eqb c 125) (found_flaw (code_flaw_of v) (c ∷ cs))
     (cond (eqb c 95) (digits_flaw_at kind v n cs) (found_flaw NoHexDigit (c ∷ cs))))
 
 -- six digits of no code are flawed where the last one stands
-no_code_six : (kind : Kind) (v : ℕ) (last t : List ℕ) → is_code kind v ≡ false → code_flaw_at kind (code_digits_at v 6 last t) ≡ found_flaw (code_flaw_of v) last
+no_code_six : (kind : Kind) (v : ℕ) (last t : List ℕ) → is_code kind v ≡ false
+    → code_flaw_at kind (code_digits_at v 6 last t) ≡ found_flaw (code_flaw_of v) last
 unfolding code_digits_at
 no_code_six kind v last [] h = rw h refl
 no_code_six kind v last (c ∷ cs) h = elim (cases_Bool (is_hex_digit c)) [
@@ -91,7 +108,8 @@ no_code_six kind v last (c ∷ cs) h = elim (cases_Bool (is_hex_digit c)) [
   ]
 ]
 
-pub digits_flaw_is : (kind : Kind) (t : List ℕ) (v n : ℕ) (last : List ℕ) → n ≤ 6 → (eqb n 6 && not (is_code kind v)) ≡ false → code_flaw_at kind (code_digits_at v n last t) ≡ digits_flaw_at kind v n t
+pub digits_flaw_is : (kind : Kind) (t : List ℕ) (v n : ℕ) (last : List ℕ) → n ≤ 6 → (eqb n 6 && not (is_code kind v))
+    ≡ false → code_flaw_at kind (code_digits_at v n last t) ≡ digits_flaw_at kind v n t
 unfolding code_digits_at digits_flaw_at
 digits_flaw_is kind [] v n last few good = rw good refl
 digits_flaw_is kind (c ∷ cs) v n last few good = elim (cases_Bool (is_hex_digit c)) [
@@ -104,12 +122,15 @@ digits_flaw_is kind (c ∷ cs) v n last few good = elim (cases_Bool (is_hex_digi
           | inl bad ↦
               let parts = and_parts (eqb n 5) (not (is_code kind w)) bad in
               let six : n + 1 ≡ 6 = (let five = eqb-true n 5 parts.0 in omega arith) in
-              rw bad (ap (λ m. code_flaw_at kind (code_digits_at w m (c ∷ cs) cs)) six ∙ no_code_six kind w (c ∷ cs) cs (not-true (is_code kind w) parts.1))
-          | inr fine ↦ rw fine (digits_flaw_is kind cs w (n + 1) (c ∷ cs) (omega (arith, less)) (ap (λ b. b && not (is_code kind w)) (one_on n) ∙ fine))
+              rw bad (ap (λ m. code_flaw_at kind (code_digits_at w m (c ∷ cs) cs)) six
+                  ∙ no_code_six kind w (c ∷ cs) cs (not-true (is_code kind w) parts.1))
+          | inr fine ↦ rw fine (digits_flaw_is kind cs w (n + 1) (c ∷ cs) (omega (arith, less))
+              (ap (λ b. b && not (is_code kind w)) (one_on n) ∙ fine))
         ])
   ]
   | inr a ↦ elim (cases_Bool (eqb c 95)) [
-    | inl b ↦ subst (λ x. code_flaw_at kind (code_digits_at v n last (x ∷ cs)) ≡ digits_flaw_at kind v n (x ∷ cs)) (sym (eqb-true c 95 b)) (digits_flaw_is kind cs v n last few good)
+    | inl b ↦ subst (λ x. code_flaw_at kind (code_digits_at v n last (x ∷ cs)) ≡ digits_flaw_at kind v n (x ∷ cs))
+        (sym (eqb-true c 95 b)) (digits_flaw_is kind cs v n last few good)
     | inr b ↦ rw (a, b, good, a) refl
   ]
 ]
@@ -121,12 +142,14 @@ digits_flaw_is kind (c ∷ cs) v n last few good = elim (cases_Bool (is_hex_digi
     ]
 
 -- from the first one on
-pub first_flaw_is : (kind : Kind) (t : List ℕ) (d : CodeDigits) → Some d ≡ first_code_digits_at t → code_flaw_at kind d ≡ first_digit_flaw_at kind t
+pub first_flaw_is : (kind : Kind) (t : List ℕ) (d : CodeDigits) → Some d ≡ first_code_digits_at t → code_flaw_at kind d
+    ≡ first_digit_flaw_at kind t
 unfolding first_digit_flaw_at
 first_flaw_is kind [] d h = absurd (cc)
 first_flaw_is kind (c ∷ cs) d h = elim (cases_Bool (is_hex_digit c)) [
   | inl a ↦
-      let one : Some d ≡ Some (code_digits_at (digit_value c) 1 (c ∷ cs) cs) = h ∙ ap (λ b. option_and_then found (cond b (Some (digit_value c, cs)) None)) a in
+      let one : Some d ≡ Some (code_digits_at (digit_value c) 1 (c ∷ cs) cs) = h
+          ∙ ap (λ b. option_and_then found (cond b (Some (digit_value c, cs)) None)) a in
       let same : d ≡ code_digits_at (digit_value c) 1 (c ∷ cs) cs = cc in
       rw a (ap (code_flaw_at kind) same)
   | inr a ↦

@@ -1,5 +1,10 @@
 -- What the decoders put together is what any reading holds.
-use Rattle.rl_grammar.proofs.Names.{◌≡◌, ℕ, ◌<◌, ◌||◌, Bool, true, false, not, cond, ltb, List, [], ◌∷◌, ◌++◌, length, Some, refl, sym, ap, subst, ◌∙◌, arith, append-nil, encode_utf8, encode_utf8_all, AllByRecursion, list_all, IsUtf8, scalar, and_from, and_parts, lt-ltb, ltb-true, encodes-append, encodes-chars, length-encode, Kind, Str, Char, QuotedUnit, Letter, Plain, CrLf, Named, Hex, Unicode, Continuation, LowerN, LowerR, LowerT, Backslash, Apostrophe, Quote, Zero, letter_value, unit_text, unit_value, hex_value, unicode_value, content_of, holds_characters, is_string, is_single, is_plain, has_unicode, IsUnit, texts, values, Characters}
+use Rattle.rl_grammar.proofs.Names.{◌≡◌, ℕ, ◌<◌, ◌||◌, Bool, true, false, not, cond, ltb, List, [], ◌∷◌, ◌++◌, length,
+    Some, refl, sym, ap, subst, ◌∙◌, arith, append-nil, encode_utf8, encode_utf8_all, AllByRecursion, list_all, IsUtf8,
+    scalar, and_from, and_parts, lt-ltb, ltb-true, encodes-append, encodes-chars, length-encode, Kind, Str, Char,
+    QuotedUnit, Letter, Plain, CrLf, Named, Hex, Unicode, Continuation, LowerN, LowerR, LowerT, Backslash, Apostrophe,
+    Quote, Zero, letter_value, unit_text, unit_value, hex_value, unicode_value, content_of, holds_characters, is_string,
+    is_single, is_plain, has_unicode, IsUnit, texts, values, Characters}
 use Rattle.std.specs.Char.{len_utf8}
 use Rattle.std.specs.Str.{chars}
 use Rattle.std.proofs.Math.Utf8.{scalars}
@@ -7,7 +12,8 @@ use Rattle.std.proofs.lemmas.Str.{chars-encodes, encode_ascii, scalars-chars}
 use Rattle.rl_tokens.specs.declared.kind.Kind.TheVariants.{Byte as ByteKind}
 use Rattle.rl_tokens.proofs.CutTrees.{scalars_parts}
 use Rattle.rl_grammar.specs.declared.quoted_forms.QuotedForm.{QuotedForm}
-use Rattle.rl_grammar.specs.declared.quoted_forms.QuotedForm.TheVariants.{Cooked as CookedForm, Raw as RawForm, Single as SingleForm}
+use Rattle.rl_grammar.specs.declared.quoted_forms.QuotedForm.TheVariants.{Cooked as CookedForm, Raw as RawForm, Single
+    as SingleForm}
 use Rattle.rl_grammar.specs.declared.units.Piece.{Piece}
 use Rattle.rl_grammar.specs.declared.units.Piece.TheVariants.{Character, Byte, Nothing}
 use Rattle.rl_grammar.specs.Mirrors.UnitAt.{piece_value, IsHeldBy, unit_at}
@@ -17,14 +23,16 @@ use Rattle.rl_grammar.specs.Decoded.{piece_bytes, in_bytes, HoldsBytes}
 use Rattle.rl_grammar.specs.Mirrors.Decodes.{Decodes}
 use Rattle.rl_grammar.proofs.UnitLemmas.{unit_nil}
 use Rattle.rl_grammar.proofs.RowLemmas.{row_start, row_step, row_run, row_once}
-use Rattle.rl_grammar.proofs.FormLemmas.{Formed, formed, parts_formed, formed_once, not_both, string_parts, cooked_row_of_body, parts_read}
+use Rattle.rl_grammar.proofs.FormLemmas.{Formed, formed, parts_formed, formed_once, not_both, string_parts,
+    cooked_row_of_body, parts_read}
 
 -- ---- values as bytes
 
 pub in_bytes_append : (kind : Kind) (v w : List ℕ) → in_bytes kind (v ++ w) ≡ in_bytes kind v ++ in_bytes kind w
 in_bytes_append kind v w = go (holds_characters kind)
   where
-    go : (b : Bool) → cond b (encode_utf8_all (v ++ w)) (v ++ w) ≡ cond b (encode_utf8_all v) v ++ cond b (encode_utf8_all w) w
+    go : (b : Bool) → cond b (encode_utf8_all (v ++ w)) (v ++ w) ≡ cond b (encode_utf8_all v) v
+        ++ cond b (encode_utf8_all w) w
     go true = encodes-append v w
     go false = refl
 
@@ -32,7 +40,8 @@ in_bytes_append kind v w = go (holds_characters kind)
 pub held_in_bytes : (kind : Kind) (cs : List ℕ) → in_bytes kind (content_of kind cs) ≡ encode_utf8_all cs
 held_in_bytes kind cs = go (holds_characters kind)
   where
-    go : (b : Bool) → cond b (encode_utf8_all (cond b cs (encode_utf8_all cs))) (cond b cs (encode_utf8_all cs)) ≡ encode_utf8_all cs
+    go : (b : Bool) → cond b (encode_utf8_all (cond b cs (encode_utf8_all cs))) (cond b cs (encode_utf8_all cs))
+        ≡ encode_utf8_all cs
     go true = refl
     go false = refl
 
@@ -61,54 +70,70 @@ piece_in_bytes kind Nothing h = nothing_in_bytes kind
 
 -- ---- the decoder's loop
 
-pub decode_step : (kind : Kind) (a v b after bytes more : List ℕ) (piece : Piece) → BeginsRow kind a v b → bytes ≡ in_bytes kind v → Some (piece_value kind piece, after) ≡ unit_at kind b → IsHeldBy kind piece → more ≡ bytes ++ piece_bytes piece → (w : List ℕ) × BeginsRow kind a w after × (more ≡ in_bytes kind w)
+pub decode_step : (kind : Kind) (a v b after bytes more : List ℕ) (piece : Piece) → BeginsRow kind a v b → bytes
+    ≡ in_bytes kind v → Some (piece_value kind piece, after) ≡ unit_at kind b → IsHeldBy kind piece → more ≡ bytes
+    ++ piece_bytes piece → (w : List ℕ) × BeginsRow kind a w after × (more ≡ in_bytes kind w)
 decode_step kind a v b after bytes more piece row so_far unit fits grown = (
   v ++ piece_value kind piece,
   row_step kind a v b (piece_value kind piece, after) row (sym unit),
-  grown ∙ ap (λ z. z ++ piece_bytes piece) so_far ∙ ap (λ z. in_bytes kind v ++ z) (sym (piece_in_bytes kind piece fits)) ∙ sym (in_bytes_append kind v (piece_value kind piece)),
+  grown ∙ ap (λ z. z ++ piece_bytes piece) so_far ∙ ap (λ z. in_bytes kind v ++ z)
+      (sym (piece_in_bytes kind piece fits)) ∙ sym (in_bytes_append kind v (piece_value kind piece)),
 )
 
 -- a run of plain characters is as many bytes of the text
-pub decode_run : (kind : Kind) (a v b after bytes more run : List ℕ) → BeginsRow kind a v b → bytes ≡ in_bytes kind v → b ≡ chars run ++ after → list_all (is_plain kind) (chars run) ≡ true → IsUtf8 run → more ≡ bytes ++ run → (w : List ℕ) × BeginsRow kind a w after × (more ≡ in_bytes kind w)
+pub decode_run : (kind : Kind) (a v b after bytes more run : List ℕ) → BeginsRow kind a v b → bytes ≡ in_bytes kind v
+    → b ≡ chars run ++ after → list_all (is_plain kind) (chars run) ≡ true → IsUtf8 run → more ≡ bytes ++ run
+    → (w : List ℕ) × BeginsRow kind a w after × (more ≡ in_bytes kind w)
 decode_run kind a v b after bytes more run row so_far cut plain text grown = (
   v ++ content_of kind (chars run),
   row_run kind a v (chars run) after plain (subst (BeginsRow kind a v) cut row),
-  grown ∙ ap (λ z. z ++ run) so_far ∙ ap (λ z. in_bytes kind v ++ z) (sym (held_in_bytes kind (chars run) ∙ encodes-chars run text)) ∙ sym (in_bytes_append kind v (content_of kind (chars run))),
+  grown ∙ ap (λ z. z ++ run) so_far ∙ ap (λ z. in_bytes kind v ++ z)
+      (sym (held_in_bytes kind (chars run) ∙ encodes-chars run text))
+      ∙ sym (in_bytes_append kind v (content_of kind (chars run))),
 )
 
 -- ---- what strings hold
 
 -- the bytes of a text's value are those of any reading of it
-same_bytes : (t : List ℕ) (kind : Kind) (w y bytes : List ℕ) → Formed t kind w y → bytes ≡ in_bytes kind w → HoldsBytes t bytes
+same_bytes : (t : List ℕ) (kind : Kind) (w y bytes : List ℕ) → Formed t kind w y → bytes ≡ in_bytes kind w
+    → HoldsBytes t bytes
 same_bytes t kind w y bytes r e k v x s p =
     let same = formed_once t kind k w p.value y x r (formed t k v x p) in
     e ∙ ap (λ l. in_bytes l w) same.0 ∙ ap (in_bytes k) same.1
 
 -- a raw string holds its body as it stands
-pub raw_bytes : (t : List ℕ) (form : QuotedForm) (kind : Kind) (w body y : List ℕ) → form ≡ RawForm → IsUtf8 body → PartsAre form kind t w (chars body) y → HoldsBytes t body
+pub raw_bytes : (t : List ℕ) (form : QuotedForm) (kind : Kind) (w body y : List ℕ) → form ≡ RawForm → IsUtf8 body
+    → PartsAre form kind t w (chars body) y → HoldsBytes t body
 raw_bytes t form kind w body y raw u p =
     let r : PartsAre RawForm kind t w (chars body) y = subst (λ f. PartsAre f kind t w (chars body) y) raw p in
-    let bytes : body ≡ in_bytes kind w = sym (encodes-chars body u) ∙ ap encode_utf8_all r.1 ∙ sym (held_in_bytes kind r.0.inside) ∙ ap (in_bytes kind) (sym r.0.value_is) in
+    let bytes : body ≡ in_bytes kind w = sym (encodes-chars body u) ∙ ap encode_utf8_all r.1
+        ∙ sym (held_in_bytes kind r.0.inside) ∙ ap (in_bytes kind) (sym r.0.value_is) in
     same_bytes t kind w y body (parts_formed RawForm kind t w (chars body) y r) bytes
 
 -- a string of plain characters does too
-pub plain_bytes : (t : List ℕ) (form : QuotedForm) (kind : Kind) (w body y : List ℕ) → is_plain_body form kind (chars body) ≡ true → IsUtf8 body → PartsAre form kind t w (chars body) y → HoldsBytes t body
+pub plain_bytes : (t : List ℕ) (form : QuotedForm) (kind : Kind) (w body y : List ℕ)
+    → is_plain_body form kind (chars body) ≡ true → IsUtf8 body → PartsAre form kind t w (chars body) y
+    → HoldsBytes t body
 plain_bytes t RawForm kind w body y h u p = raw_bytes t RawForm kind w body y refl u p
 plain_bytes t SingleForm kind w body y h u p = absurd (cc)
 plain_bytes t CookedForm kind w body y h u p =
     let cs = chars body in
     let start = subst (BeginsRow kind cs []) (sym (append-nil cs)) (row_start kind cs) in
-    let value : w ≡ content_of kind cs = (row_once kind cs w [] (content_of kind cs) [] (cooked_row_of_body kind t w cs y p) (row_run kind cs [] cs [] h start) (unit_nil kind) (unit_nil kind)).0 in
-    let bytes : body ≡ in_bytes kind w = sym (encodes-chars body u) ∙ sym (held_in_bytes kind cs) ∙ ap (in_bytes kind) (sym value) in
+    let value : w ≡ content_of kind cs = (row_once kind cs w [] (content_of kind cs) []
+        (cooked_row_of_body kind t w cs y p) (row_run kind cs [] cs [] h start) (unit_nil kind) (unit_nil kind)).0 in
+    let bytes : body ≡ in_bytes kind w = sym (encodes-chars body u) ∙ sym (held_in_bytes kind cs)
+        ∙ ap (in_bytes kind) (sym value) in
     same_bytes t kind w y body (parts_formed CookedForm kind t w cs y p) bytes
 
-pub not_raw : (form : QuotedForm) (kind : Kind) (body : List ℕ) → is_plain_body form kind body ≡ false → form ≡ RawForm → ⊥
+pub not_raw : (form : QuotedForm) (kind : Kind) (body : List ℕ) → is_plain_body form kind body ≡ false → form ≡ RawForm
+    → ⊥
 not_raw RawForm kind body h e = absurd (cc)
 not_raw CookedForm kind body h e = absurd (cc)
 not_raw SingleForm kind body h e = absurd (cc)
 
 -- a cooked string holds what its body decodes to
-pub cooked_bytes : (t : List ℕ) (form : QuotedForm) (kind : Kind) (w body y bytes : List ℕ) → (form ≡ RawForm → ⊥) → PartsAre form kind t w body y → Decodes kind body bytes → HoldsBytes t bytes
+pub cooked_bytes : (t : List ℕ) (form : QuotedForm) (kind : Kind) (w body y bytes : List ℕ) → (form ≡ RawForm → ⊥)
+    → PartsAre form kind t w body y → Decodes kind body bytes → HoldsBytes t bytes
 cooked_bytes t form kind w body y bytes not_raw p d k v x s r =
     let formed_p = parts_formed form kind t w body y p in
     let same = formed_once t kind k w r.value y x formed_p (formed t k v x r) in
@@ -146,24 +171,29 @@ unit_scalars : (u : QuotedUnit) → IsUnit Str u → scalars (unit_text u) ≡ t
 unit_scalars (Plain c) allowed h = h
 unit_scalars CrLf allowed h = refl
 unit_scalars (Named l) allowed h = one_scalar (letter_value l) (letter_scalar l)
-unit_scalars (Hex high low) allowed h = one_scalar (hex_value high low) (ascii_scalar (hex_value high low) (ltb-true (hex_value high low) 128 allowed.2))
+unit_scalars (Hex high low) allowed h = one_scalar (hex_value high low)
+    (ascii_scalar (hex_value high low) (ltb-true (hex_value high low) 128 allowed.2))
 unit_scalars (Unicode first more) allowed h = one_scalar (unicode_value first more) allowed.4
 unit_scalars (Continuation c run) allowed h = refl
 
-row_scalars : (us : List QuotedUnit) → AllByRecursion (IsUnit Str) us → scalars (texts us) ≡ true → scalars (values Str us) ≡ true
+row_scalars : (us : List QuotedUnit) → AllByRecursion (IsUnit Str) us → scalars (texts us) ≡ true
+    → scalars (values Str us) ≡ true
 row_scalars [] each h = refl
 row_scalars (u ∷ us) each h =
     let parts = scalars_parts (unit_text u) (texts us) h in
     scalars_join (unit_value Str u) (values Str us) (unit_scalars u each.0 parts.0) (row_scalars us each.1 parts.1)
 
 -- what a body of characters stands for is of characters
-body_scalars : (form : QuotedForm) (t w body x : List ℕ) → PartsAre form Str t w body x → scalars body ≡ true → scalars w ≡ true
-body_scalars CookedForm t w body x p h = ap scalars p.0.value_is ∙ row_scalars p.0.units p.0.each (ap scalars (sym p.1) ∙ h)
+body_scalars : (form : QuotedForm) (t w body x : List ℕ) → PartsAre form Str t w body x → scalars body ≡ true
+    → scalars w ≡ true
+body_scalars CookedForm t w body x p h = ap scalars p.0.value_is
+    ∙ row_scalars p.0.units p.0.each (ap scalars (sym p.1) ∙ h)
 body_scalars RawForm t w body x p h = ap scalars (p.0.value_is ∙ sym p.1) ∙ h
 body_scalars SingleForm t w body x p h = let single : false ≡ true = p.0.single in absurd (cc)
 
 -- the bytes of a string's value are a text, whose characters are the value
-pub str_bytes : (form : QuotedForm) (t w body x bytes : List ℕ) → PartsAre form Str t w (chars body) x → IsUtf8 body → HoldsBytes t bytes → IsUtf8 bytes × (w ≡ chars bytes)
+pub str_bytes : (form : QuotedForm) (t w body x bytes : List ℕ) → PartsAre form Str t w (chars body) x → IsUtf8 body
+    → HoldsBytes t bytes → IsUtf8 bytes × (w ≡ chars bytes)
 str_bytes form t w body x bytes parts u held_are =
     let whole = body_scalars form t w (chars body) x parts (scalars-chars body u) in
     let r = parts_read form Str t w (chars body) x parts in
@@ -174,16 +204,19 @@ str_bytes form t w body x bytes parts u held_are =
 -- ---- characters and bytes
 
 -- a plain character of these kinds is one number, and so is an escape by its number
-one_plain : (kind : Kind) (c : ℕ) → is_single kind ≡ true → is_plain kind c ≡ true → (n : ℕ) × (content_of kind (c ∷ []) ≡ n ∷ [])
+one_plain : (kind : Kind) (c : ℕ) → is_single kind ≡ true → is_plain kind c ≡ true → (n : ℕ)
+    × (content_of kind (c ∷ []) ≡ n ∷ [])
 one_plain Char c s h = (c, refl)
 one_plain ByteKind c s h = (c, ascii_byte c (ltb-true c 128 (and_parts (ltb c 128) _ h).0))
 one_plain kind c s h = absurd (cc)
 
-one_unicode : (kind : Kind) (c : ℕ) → is_single kind ≡ true → has_unicode kind ≡ true → (n : ℕ) × (content_of kind (c ∷ []) ≡ n ∷ [])
+one_unicode : (kind : Kind) (c : ℕ) → is_single kind ≡ true → has_unicode kind ≡ true → (n : ℕ)
+    × (content_of kind (c ∷ []) ≡ n ∷ [])
 one_unicode Char c s h = (c, refl)
 one_unicode kind c s h = absurd (cc)
 
-pub one_value : (kind : Kind) (u : QuotedUnit) → is_single kind ≡ true → IsUnit kind u → (n : ℕ) × (unit_value kind u ≡ n ∷ [])
+pub one_value : (kind : Kind) (u : QuotedUnit) → is_single kind ≡ true → IsUnit kind u → (n : ℕ)
+    × (unit_value kind u ≡ n ∷ [])
 one_value kind (Plain c) s h = one_plain kind c s h
 one_value kind CrLf s h = absurd (not_both kind h s)
 one_value kind (Named l) s h = (letter_value l, refl)

@@ -1,5 +1,8 @@
 -- From what std says of bytes to characters.
-use Rattle.rl_grammar.proofs.Names.{◌≡◌, ◌≢◌, ℕ, ◌+◌, ◌<◌, ◌≤◌, ◌&&◌, Bool, true, false, not, eqb, List, [], ◌∷◌, ◌++◌, length, take, drop, Option, Some, None, refl, sym, ap, subst, ◌∙◌, arith, ◌==◌, encode_utf8_all, MatchBool, list_all, IsUtf8, IsCharBoundary, and_from, and_right, both_ways, eq-eqb, eqb-true, not_from_false, list_all-append, encodes-chars, encodes-append, chars-append, chars-nil, IsUtf8-take, IsUtf8-drop, IsTail}
+use Rattle.rl_grammar.proofs.Names.{◌≡◌, ◌≢◌, ℕ, ◌+◌, ◌<◌, ◌≤◌, ◌&&◌, Bool, true, false, not, eqb, List, [], ◌∷◌, ◌++◌,
+    length, take, drop, Option, Some, None, refl, sym, ap, subst, ◌∙◌, arith, ◌==◌, encode_utf8_all, MatchBool,
+    list_all, IsUtf8, IsCharBoundary, and_from, and_right, both_ways, eq-eqb, eqb-true, not_from_false, list_all-append,
+    encodes-chars, encodes-append, chars-append, chars-nil, IsUtf8-take, IsUtf8-drop, IsTail}
 use Rattle.std.proofs.Common.{take-append-drop, length-drop}
 use Rattle.std.specs.Prelude.{IfSome, IfNone, MatchOption}
 use Rattle.std.specs.Str.{chars, NoCharPasses, NonePass}
@@ -13,7 +16,8 @@ use Rattle.rl_grammar.specs.Mirrors.StrictAt.{is_some_text}
 pub tail_chars : (bs ys front : List ℕ) → IsUtf8 bs → IsUtf8 ys → chars bs ≡ front ++ chars ys → IsTail bs ys
 tail_chars bs ys front u w e = record {
   front = encode_utf8_all front;
-  text_is = sym (encodes-chars bs u) ∙ ap encode_utf8_all e ∙ encodes-append front (chars ys) ∙ ap (λ z. encode_utf8_all front ++ z) (encodes-chars ys w);
+  text_is = sym (encodes-chars bs u) ∙ ap encode_utf8_all e ∙ encodes-append front (chars ys)
+      ∙ ap (λ z. encode_utf8_all front ++ z) (encodes-chars ys w);
   is_text = w;
 }
 
@@ -52,29 +56,36 @@ around c bs i j u small at =
 -- ---- each takes the clause of the method that it is named for
 
 abbrev SplitLastQuote : List ℕ → Option (Bor (List ℕ) × Bor (List ℕ)) → Type 0
-SplitLastQuote bs r = MatchOption r (RFindsChar 34 bs None) (λ x. (i : ℕ) × (j : ℕ) × RFindsChar 34 bs (Some (i, j)) × (x.0.now ≡ take i bs) × (x.1.now ≡ drop j bs) × (i ≤ j) × (length x.0.now ≡ i) × (length x.1.now + j ≡ length bs))
+SplitLastQuote bs r = MatchOption r (RFindsChar 34 bs None) (λ x. (i : ℕ) × (j : ℕ) × RFindsChar 34 bs (Some (i, j))
+    × (x.0.now ≡ take i bs) × (x.1.now ≡ drop j bs) × (i ≤ j) × (length x.0.now ≡ i) × (length x.1.now + j ≡ length bs))
 
 abbrev CutAtLast : List ℕ → List ℕ → List ℕ → Type 0
 CutAtLast bs xs ys = (chars bs ≡ chars xs ++ (34 ∷ chars ys)) × (lacks 34 (chars ys) ≡ true)
 
-pub rsplit_once_some : (bs : List ℕ) (r : Option (Bor (List ℕ) × Bor (List ℕ))) → SplitLastQuote bs r → IsUtf8 bs → IfSome r (λ x. CutAtLast bs x.0.now x.1.now)
+pub rsplit_once_some : (bs : List ℕ) (r : Option (Bor (List ℕ) × Bor (List ℕ))) → SplitLastQuote bs r → IsUtf8 bs
+    → IfSome r (λ x. CutAtLast bs x.0.now x.1.now)
 rsplit_once_some bs None m u = tt
 rsplit_once_some bs (Some x) m u =
     let a = around 34 bs m.0 m.1 u (omega arith) m.2.1 in
     let following : lacks 34 (chars (drop m.1 bs)) ≡ true = chars_lack 34 (drop m.1 bs) a.following m.2.0 in
-    subst (λ y. CutAtLast bs y x.1.now) (sym m.3) (subst (CutAtLast bs (take m.0 bs)) (sym m.4) (a.chars_are, following))
+    subst (λ y. CutAtLast bs y x.1.now) (sym m.3) (subst (CutAtLast bs (take m.0 bs)) (sym m.4)
+        (a.chars_are, following))
 
-pub rsplit_once_none : (bs : List ℕ) (r : Option (Bor (List ℕ) × Bor (List ℕ))) → SplitLastQuote bs r → IsUtf8 bs → IfNone r (lacks 34 (chars bs) ≡ true)
+pub rsplit_once_none : (bs : List ℕ) (r : Option (Bor (List ℕ) × Bor (List ℕ))) → SplitLastQuote bs r → IsUtf8 bs
+    → IfNone r (lacks 34 (chars bs) ≡ true)
 rsplit_once_none bs None m u = chars_lack 34 bs u m
 rsplit_once_none bs (Some x) m u = tt
 
-pub contains_chars : (c : ℕ) (bs : List ℕ) (r : Bool) → MatchBool r ((i : ℕ) × (j : ℕ) × FindsChar c bs (Some (i, j)) × (i ≤ j) × (j ≤ length bs)) (FindsChar c bs None) → c < 128 → IsUtf8 bs → not r ≡ lacks c (chars bs)
+pub contains_chars : (c : ℕ) (bs : List ℕ) (r : Bool) → MatchBool r
+    ((i : ℕ) × (j : ℕ) × FindsChar c bs (Some (i, j)) × (i ≤ j) × (j ≤ length bs)) (FindsChar c bs None) → c < 128
+    → IsUtf8 bs → not r ≡ lacks c (chars bs)
 contains_chars c bs true m small u =
     let a = around c bs m.0 m.1 u small m.2.1 in
     let xs = chars (take m.0 bs) in
     let ys = chars (drop m.1 bs) in
     let here : lacks c (c ∷ ys) ≡ false = ap (λ b. not b && lacks c ys) (eq-eqb c c refl) in
-    sym (ap (lacks c) a.chars_are ∙ list_all-append (λ d. not (eqb d c)) xs (c ∷ ys) ∙ and_right (lacks c xs) (lacks c (c ∷ ys)) here)
+    sym (ap (lacks c) a.chars_are ∙ list_all-append (λ d. not (eqb d c)) xs (c ∷ ys)
+        ∙ and_right (lacks c xs) (lacks c (c ∷ ys)) here)
 contains_chars c bs false m small u = sym (chars_lack c bs u m)
 
 -- a text has characters where it has bytes
@@ -88,4 +99,5 @@ some_text t u = tested (length t == 0) t u refl
     tested : (b : Bool) (t : List ℕ) → IsUtf8 t → (length t == 0) ≡ b → is_some_text (chars t) ≡ not b
     tested true [] u e = ap is_some_text chars-nil
     tested true (c ∷ cs) u e = absurd (let z = eqb-true (length (c ∷ cs)) 0 e in omega arith)
-    tested false t u e = some (chars t) (λ n. both_ways (length t == 0) e (ap (λ z. length z == 0) (sym (encodes-chars t u) ∙ ap encode_utf8_all n)))
+    tested false t u e = some (chars t) (λ n. both_ways (length t == 0) e
+        (ap (λ z. length z == 0) (sym (encodes-chars t u) ∙ ap encode_utf8_all n)))

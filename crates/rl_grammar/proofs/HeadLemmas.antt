@@ -1,6 +1,9 @@
 -- What a number begins with.
-use Rattle.rl_grammar.proofs.Names.{◌≡◌, ℕ, Bool, true, false, not, ◌&&◌, ◌||◌, ◌==◌, cond, List, [], ◌∷◌, Option, Some, None, refl, sym, ap, ◌∙◌, and_parts, eqb-true, is_ascii_digit, Sign, first_passes}
-use Rattle.rl_grammar.specs.Mirrors.NumberAt.{after_digits, after_fraction, after_exponent, after_minus, based_at, capped, capped_int, ended_at, float_at, float_tail_at, has_digit_at, int_at, is_suffix, IsHead, magnitude_at, may_begin_number, may_end, radix_at, radix_of, sign_at, with_sign}
+use Rattle.rl_grammar.proofs.Names.{◌≡◌, ℕ, Bool, true, false, not, ◌&&◌, ◌||◌, ◌==◌, cond, List, [], ◌∷◌, Option, Some,
+    None, refl, sym, ap, ◌∙◌, and_parts, eqb-true, is_ascii_digit, Sign, first_passes}
+use Rattle.rl_grammar.specs.Mirrors.NumberAt.{after_digits, after_fraction, after_exponent, after_minus, based_at,
+    capped, capped_int, ended_at, float_at, float_tail_at, has_digit_at, int_at, is_suffix, IsHead, magnitude_at,
+    may_begin_number, may_end, radix_at, radix_of, sign_at, with_sign}
 
 abbrev ten : List ℕ → ℕ × List ℕ
 ten u = (10, u)
@@ -16,7 +19,8 @@ begins [] h = absurd (cc)
 begins (z ∷ []) h = h
 begins (z ∷ c ∷ cs) h = go (z == 48 && not (radix_of c == 10)) refl
   where
-    go : (b : Bool) → (z == 48 && not (radix_of c == 10)) ≡ b → may_begin_number (chosen b (radix_of c) cs (z ∷ c ∷ cs)).0 (chosen b (radix_of c) cs (z ∷ c ∷ cs)).1 ≡ true
+    go : (b : Bool) → (z == 48 && not (radix_of c == 10)) ≡ b → may_begin_number
+        (chosen b (radix_of c) cs (z ∷ c ∷ cs)).0 (chosen b (radix_of c) cs (z ∷ c ∷ cs)).1 ≡ true
     go true e = ap (λ b. b || first_passes is_ascii_digit cs) (and_parts (z == 48) (not (radix_of c == 10)) e).1
     go false e = h
 
@@ -27,7 +31,8 @@ no_base [] h = refl
 no_base (z ∷ []) h = refl
 no_base (z ∷ c ∷ cs) h = go (z == 48) refl
   where
-    go : (b : Bool) → (z == 48) ≡ b → chosen (b && not (radix_of c == 10)) (radix_of c) cs (z ∷ c ∷ cs) ≡ ten (z ∷ c ∷ cs)
+    go : (b : Bool) → (z == 48) ≡ b → chosen (b && not (radix_of c == 10)) (radix_of c) cs (z ∷ c ∷ cs)
+        ≡ ten (z ∷ c ∷ cs)
     go true e = let d : is_ascii_digit z ≡ true = ap is_ascii_digit (eqb-true z 48 e) in absurd (cc)
     go false e = refl
 
@@ -38,7 +43,8 @@ ten_whole [] h = refl
 ten_whole (z ∷ []) h = refl
 ten_whole (z ∷ c ∷ cs) h = go (z == 48 && not (radix_of c == 10)) refl h
   where
-    go : (b : Bool) → (z == 48 && not (radix_of c == 10)) ≡ b → (chosen b (radix_of c) cs (z ∷ c ∷ cs)).0 ≡ 10 → chosen b (radix_of c) cs (z ∷ c ∷ cs) ≡ ten (z ∷ c ∷ cs)
+    go : (b : Bool) → (z == 48 && not (radix_of c == 10)) ≡ b → (chosen b (radix_of c) cs (z ∷ c ∷ cs)).0 ≡ 10
+        → chosen b (radix_of c) cs (z ∷ c ∷ cs) ≡ ten (z ∷ c ∷ cs)
     go true e h =
         let other = (and_parts (z == 48) (not (radix_of c == 10)) e).1 in
         let same : false ≡ true = sym (ap (λ r. not (r == 10)) h) ∙ other in
@@ -46,7 +52,8 @@ ten_whole (z ∷ c ∷ cs) h = go (z == 48 && not (radix_of c == 10)) refl h
     go false e h = refl
 
 -- what the code's reading gives, by cases of the tests
-capped_cond : (s : Sign) (b : Bool) (n : ℕ) (x : List ℕ) → capped_int (with_sign s (cond b (Some (n, x)) None)) ≡ cond b (Some (capped n, x)) None
+capped_cond : (s : Sign) (b : Bool) (n : ℕ) (x : List ℕ) → capped_int (with_sign s (cond b (Some (n, x)) None))
+    ≡ cond b (Some (capped n, x)) None
 capped_cond s true n x = refl
 capped_cond s false n x = refl
 
@@ -71,7 +78,8 @@ no_head_float t h =
     sym (ap (λ b. cond (b && is_suffix x) (Some x) None) h)
 
 -- the integer by its head
-pub head_int : (t : List ℕ) (r : ℕ) (some : Bool) (m : Option ℕ) (x : List ℕ) → IsHead (after_minus t) r some m x → ended_at r some m x ≡ capped_int (int_at t)
+pub head_int : (t : List ℕ) (r : ℕ) (some : Bool) (m : Option ℕ) (x : List ℕ) → IsHead (after_minus t) r some m x
+    → ended_at r some m x ≡ capped_int (int_at t)
 unfolding int_at based_at
 head_int t r some m x h =
     let p = radix_at (after_minus t) in
@@ -88,7 +96,8 @@ head_int t r some m x h =
     )
 
 -- the float by its head, in base ten
-pub head_float : (t : List ℕ) (r : ℕ) (some : Bool) (m : Option ℕ) (x : List ℕ) → IsHead (after_minus t) r some m x → r ≡ 10 → float_tail_at x ≡ float_at t
+pub head_float : (t : List ℕ) (r : ℕ) (some : Bool) (m : Option ℕ) (x : List ℕ) → IsHead (after_minus t) r some m x → r
+    ≡ 10 → float_tail_at x ≡ float_at t
 unfolding float_at
 head_float t r some m x h e =
     let u = after_minus t in
@@ -97,7 +106,9 @@ head_float t r some m x h e =
     ap float_tail_at is ∙ sym (ap (λ b. cond (b && is_suffix y) (Some y) None) h.first)
 
 -- what is read is the head
-pub head_read : (u ds x : List ℕ) (r : ℕ) (some : Bool) (m : Option ℕ) → first_passes is_ascii_digit u ≡ true → ◌≡◌ {A = ℕ × List ℕ} (r, ds) (radix_at u) → some ≡ has_digit_at r ds → m ≡ capped (magnitude_at r ds) → x ≡ after_digits r ds → IsHead u r some m x
+pub head_read : (u ds x : List ℕ) (r : ℕ) (some : Bool) (m : Option ℕ) → first_passes is_ascii_digit u ≡ true
+    → ◌≡◌ {A = ℕ × List ℕ} (r, ds) (radix_at u) → some ≡ has_digit_at r ds → m ≡ capped (magnitude_at r ds) → x
+    ≡ after_digits r ds → IsHead u r some m x
 head_read u ds x r some m first base has within rest = record {
   first = first;
   base = ap (λ p. p.0) base;

@@ -1,7 +1,11 @@
 -- Literals after a minus.
-use Rattle.rl_grammar.proofs.Names.{◌≡◌, ℕ, ◌⊎◌, inl, inr, Bool, true, false, cond, ◌==◌, ◌&&◌, List, [], ◌∷◌, ◌++◌, Some, None, refl, sym, ap, subst, ◌∙◌, is_ascii_digit, Kind, Str, ByteStr, CStr, Byte, Char, Int, Float, BoolKind, first_passes, is_string, is_single, opener, raw_opener, Sign, NoSign, Minus, IntReads, Contents, HasNoReading, HasSuffix, ReadsQuoted, truth_text, both_ways, eqb-true}
+use Rattle.rl_grammar.proofs.Names.{◌≡◌, ℕ, ◌⊎◌, inl, inr, Bool, true, false, cond, ◌==◌, ◌&&◌, List, [], ◌∷◌, ◌++◌,
+    Some, None, refl, sym, ap, subst, ◌∙◌, is_ascii_digit, Kind, Str, ByteStr, CStr, Byte, Char, Int, Float, BoolKind,
+    first_passes, is_string, is_single, opener, raw_opener, Sign, NoSign, Minus, IntReads, Contents, HasNoReading,
+    HasSuffix, ReadsQuoted, truth_text, both_ways, eqb-true}
 use Rattle.rl_tokens.specs.Reading.{ReadsBool}
-use Rattle.rl_grammar.specs.Mirrors.NumberAt.{sign_at, float_at, after_exponent, after_fraction, after_digits, is_suffix}
+use Rattle.rl_grammar.specs.Mirrors.NumberAt.{sign_at, float_at, after_exponent, after_fraction, after_digits,
+    is_suffix}
 use Rattle.rl_grammar.specs.NumberShapes.{ReadsNoNumber}
 use Rattle.rl_grammar.specs.WholeShapes.{IsSplit}
 use Rattle.rl_tokens.proofs.StrictNumbers.{without_minus, minus_int}
@@ -9,7 +13,8 @@ use Rattle.rl_grammar.proofs.FloatLemmas.{float_past, float_sound}
 use Rattle.rl_grammar.proofs.DigitLemmas.{int_sign}
 
 -- an integer without sign stays one after a minus
-pub int_on : (t : List ℕ) (s : Sign) (m : ℕ) (x : List ℕ) → sign_at t ≡ NoSign → IntReads t s m x → IntReads (45 ∷ t) Minus m x
+pub int_on : (t : List ℕ) (s : Sign) (m : ℕ) (x : List ℕ) → sign_at t ≡ NoSign → IntReads t s m x
+    → IntReads (45 ∷ t) Minus m x
 int_on t s m x e h = minus_int t x m (subst (λ (k : Sign). IntReads t k m x) (sym (int_sign t s m x h) ∙ e) h)
 
 -- a float is determined by what follows its minus
@@ -22,7 +27,8 @@ float_at-minus (c ∷ cs) h = go (c == 45) refl h
     go true e k = absurd (cc)
     go false e k =
         let Rest : List ℕ → List ℕ = λ u. after_exponent (after_fraction (after_digits 10 u)) in
-        ap (λ u. cond (first_passes is_ascii_digit u && is_suffix (Rest u)) (Some (Rest u)) None) (sym (ap (λ b. cond b cs (c ∷ cs)) e))
+        ap (λ u. cond (first_passes is_ascii_digit u && is_suffix (Rest u)) (Some (Rest u)) None)
+            (sym (ap (λ b. cond b cs (c ∷ cs)) e))
 
 -- two minuses begin no float
 double_minus : (t : List ℕ) → sign_at t ≡ Minus → float_at (45 ∷ t) ≡ None
@@ -36,10 +42,12 @@ double_minus (c ∷ cs) h = go (c == 45) refl h
 
 -- where no number stands, none stands after a minus
 pub negative_none : (t : List ℕ) → sign_at t ≡ NoSign → ReadsNoNumber t → ReadsNoNumber (45 ∷ t)
-negative_none t e h Int c x r = h Int _ x (record { sign = NoSign; magnitude = r.magnitude; reads = (without_minus t x r.sign r.magnitude r.reads).0; within = r.within; contents_is = refl })
+negative_none t e h Int c x r = h Int _ x (record { sign = NoSign; magnitude = r.magnitude; reads =
+    (without_minus t x r.sign r.magnitude r.reads).0; within = r.within; contents_is = refl })
 negative_none t e h Float c x r =
     let f = float_sound t x (sym (float_at-minus t e) ∙ float_past (45 ∷ t) r.numeral x r.reads) in
-    h Float _ x (record { numeral = f.0; reads = f.1; no_integer = λ s m y q. r.no_integer Minus m y (int_on t s m y e q); contents_is = refl })
+    h Float _ x (record { numeral = f.0; reads = f.1; no_integer = λ s m y q. r.no_integer Minus m y
+        (int_on t s m y e q); contents_is = refl })
 negative_none t e h kind c x r = r
 
 -- no number stands after two minuses
@@ -55,16 +63,21 @@ negative_twice t e kind c x r = r
 
 -- a number stays one after a minus
 negative_int : (t x : List ℕ) → sign_at t ≡ NoSign → HasSuffix Int t x → HasSuffix Int (45 ∷ t) x
-negative_int t x e (c, r) = (_, record { sign = Minus; magnitude = r.magnitude; reads = int_on t r.sign r.magnitude x e r.reads; within = r.within; contents_is = refl })
+negative_int t x e (c, r) = (_, record { sign = Minus; magnitude = r.magnitude; reads = int_on t r.sign r.magnitude x e
+    r.reads; within = r.within; contents_is = refl })
 
 negative_float : (t x : List ℕ) → sign_at t ≡ NoSign → HasSuffix Float t x → HasSuffix Float (45 ∷ t) x
 negative_float t x e (c, r) =
     let f = float_sound (45 ∷ t) x (float_at-minus t e ∙ float_past t r.numeral x r.reads) in
-    (_, record { numeral = f.0; reads = f.1; no_integer = λ s m y q. r.no_integer NoSign m y ((without_minus t y s m q).0); contents_is = refl })
+    (_, record { numeral = f.0; reads = f.1; no_integer = λ s m y q. r.no_integer NoSign m y
+        ((without_minus t y s m q).0); contents_is = refl })
 
-pub negative_reads : (t x : List ℕ) (k : Kind) → sign_at t ≡ NoSign → (k ≡ Int) ⊎ (k ≡ Float) → HasSuffix k t x → HasSuffix k (45 ∷ t) x
-negative_reads t x k e (inl n) h = subst (λ (j : Kind). HasSuffix j (45 ∷ t) x) (sym n) (negative_int t x e (subst (λ (j : Kind). HasSuffix j t x) n h))
-negative_reads t x k e (inr n) h = subst (λ (j : Kind). HasSuffix j (45 ∷ t) x) (sym n) (negative_float t x e (subst (λ (j : Kind). HasSuffix j t x) n h))
+pub negative_reads : (t x : List ℕ) (k : Kind) → sign_at t ≡ NoSign → (k ≡ Int) ⊎ (k ≡ Float) → HasSuffix k t x
+    → HasSuffix k (45 ∷ t) x
+negative_reads t x k e (inl n) h = subst (λ (j : Kind). HasSuffix j (45 ∷ t) x) (sym n)
+    (negative_int t x e (subst (λ (j : Kind). HasSuffix j t x) n h))
+negative_reads t x k e (inr n) h = subst (λ (j : Kind). HasSuffix j (45 ∷ t) x) (sym n)
+    (negative_float t x e (subst (λ (j : Kind). HasSuffix j t x) n h))
 
 -- and is cut into body and suffix
 pub number_split : (t b x : List ℕ) (k : Kind) → (k ≡ Int) ⊎ (k ≡ Float) → IsSplit k t b x → t ≡ b ++ x

@@ -23,11 +23,14 @@ other_form (found.Delimiter c) h e = absurd (cc)
 other_form (found.Mark c) h e = absurd (cc)
 
 -- a minus, and no number after it
-pub no_number : (old between : CursorState) (m : Lexeme) → TakesNext old m between → form_view m.form ≡ MarkForm 45 → HasNoNumber between → HasNoNextLiteral old
+pub no_number : (old between : CursorState) (m : Lexeme) → TakesNext old m between → form_view m.form ≡ MarkForm 45
+    → HasNoNumber between → HasNoNextLiteral old
 no_number old between m takes is none =
     inr (m, between, takes, subst (λ (f : LexemeForm). BeginsNone f m.text.now between) (sym is) (inr none))
 
 -- a token begins what is left, or an error stands there
-pub nothing_else : (t ahead : CursorState) → t.rest ≢ [] → ahead ≡ t → BeginsNoLexeme (chars ahead.rest) → ((t.rest ≡ []) ⊎ BeginsLexeme (chars t.rest)) → ⊥
+pub nothing_else : (t ahead : CursorState) → t.rest ≢ [] → ahead ≡ t → BeginsNoLexeme (chars ahead.rest)
+    → ((t.rest ≡ []) ⊎ BeginsLexeme (chars t.rest)) → ⊥
 nothing_else t ahead some is none (inl nothing) = some nothing
-nothing_else t ahead some is none (inr (after, token)) = subst (λ (z : CursorState). BeginsNoLexeme (chars z.rest)) is none after token
+nothing_else t ahead some is none (inr (after, token)) = subst (λ (z : CursorState). BeginsNoLexeme (chars z.rest)) is
+    none after token

@@ -1,5 +1,7 @@
 -- The digits of a number that was found.
-use Rattle.rl_grammar.proofs.Names.{◌≡◌, ◌≢◌, ℕ, inl, inr, true, List, ◌++◌, refl, sym, ap, subst, ◌∙◌, append_cancel_right, chars-append, IsUtf8, decimal, Kind, Byte, Char, Int, Float, BoolKind, FloatReads, float_digits, sign_text, HasSuffix}
+use Rattle.rl_grammar.proofs.Names.{◌≡◌, ◌≢◌, ℕ, inl, inr, true, List, ◌++◌, refl, sym, ap, subst, ◌∙◌,
+    append_cancel_right, chars-append, IsUtf8, decimal, Kind, Byte, Char, Int, Float, BoolKind, FloatReads,
+    float_digits, sign_text, HasSuffix}
 use Rattle.std.specs.Str.{chars}
 use Rattle.rl_grammar.specs.declared.found.Found.{Found}
 use Rattle.rl_grammar.specs.Founds.{IsFound, IsFoundFloat, IsFoundNumber, StandsIn, body_in, suffix_in}
@@ -8,7 +10,8 @@ use Rattle.rl_grammar.specs.NumberShapes.{AreDigits, IsNumber}
 use Rattle.rl_grammar.specs.WholeShapes.{IsSplit, IsPlain}
 use Rattle.rl_grammar.proofs.DigitLemmas.{int_contents, same_numeral}
 use Rattle.rl_grammar.proofs.FoundLemmas.{body_text, Whether}
-use Rattle.rl_grammar.proofs.PlainNumberLemmas.{IsSplitInteger, plain_integer, plain_float, plain_contents, plain_numeral}
+use Rattle.rl_grammar.proofs.PlainNumberLemmas.{IsSplitInteger, plain_integer, plain_float, plain_contents,
+    plain_numeral}
 
 -- ---- which number was found
 
@@ -16,7 +19,8 @@ pub number_stands : (t : List ℕ) (f : Found) → IsFoundNumber t f → StandsI
 number_stands t f (inl h) = h.0.stands
 number_stands t f (inr h) = h.stands
 
-float_chars : (t : List ℕ) (f : Found) → IsUtf8 t → StandsIn t f.body → t ≡ body_in t f.body ++ suffix_in t f.body → chars t ≡ chars (body_in t f.body) ++ chars (suffix_in t f.body)
+float_chars : (t : List ℕ) (f : Found) → IsUtf8 t → StandsIn t f.body → t ≡ body_in t f.body ++ suffix_in t f.body
+    → chars t ≡ chars (body_in t f.body) ++ chars (suffix_in t f.body)
 float_chars t f u s e = ap chars e ∙ chars-append (body_in t f.body) (suffix_in t f.body) (body_text t f.body u s)
 
 -- a float among all literals is one by the rule of floats
@@ -26,7 +30,8 @@ found_float t f u e h =
     let x = suffix_in t f.body in
     let (v, r) : HasSuffix Float (chars t) (chars x) = subst (λ k. HasSuffix k (chars t) (chars x)) e h.reads in
     let cut : t ≡ b ++ x = subst (λ k. IsSplit k t b x) e h.cut in
-    let same : r.numeral ≡ chars b = append_cancel_right r.numeral (chars b) (chars x) (sym r.reads.text_is ∙ float_chars t f u h.stands cut) in
+    let same : r.numeral ≡ chars b = append_cancel_right r.numeral (chars b) (chars x)
+        (sym r.reads.text_is ∙ float_chars t f u h.stands cut) in
     record {
       kind = e;
       reads = subst (λ z. FloatReads (chars t) z (chars x)) same r.reads;
@@ -59,7 +64,8 @@ pub number_integer : (t : List ℕ) (f : Found) → f.kind ≡ Int → IsFoundNu
 number_integer t f e (inl h) = h.0
 number_integer t f e (inr h) = let k = h.kind in absurd (cc)
 
-integer_cut : (t : List ℕ) (f : Found) → IsUtf8 t → f.kind ≡ Int → IsFound t f → IsSplitInteger (chars t) f.magnitude (chars (body_in t f.body))
+integer_cut : (t : List ℕ) (f : Found) → IsUtf8 t → f.kind ≡ Int → IsFound t f
+    → IsSplitInteger (chars t) f.magnitude (chars (body_in t f.body))
 integer_cut t f u e h = record {
   suffix = chars (suffix_in t f.body);
   within = h.integer e;
@@ -68,28 +74,41 @@ integer_cut t f u e h = record {
 
 -- ---- its digits
 
-integer_plain : (t : List ℕ) (f : Found) → IsUtf8 t → f.kind ≡ Int → f.body.plain ≡ true → IsFound t f → AreDigits Int (chars t) (chars (body_in t f.body))
+integer_plain : (t : List ℕ) (f : Found) → IsUtf8 t → f.kind ≡ Int → f.body.plain ≡ true → IsFound t f
+    → AreDigits Int (chars t) (chars (body_in t f.body))
 integer_plain t f u e p h =
     let cut = integer_cut t f u e h in
     let plain : IsPlain Int t = (subst (λ k. Whether f.body.plain k t) e h.plain).0 p in
-    plain_contents (chars t) (chars (body_in t f.body)) f.magnitude cut (plain_integer t (body_in t f.body) f.magnitude u (body_text t f.body u h.stands) cut plain)
+    plain_contents (chars t) (chars (body_in t f.body)) f.magnitude cut
+        (plain_integer t (body_in t f.body) f.magnitude u (body_text t f.body u h.stands) cut plain)
 
-float_plain : (t : List ℕ) (f : Found) → f.body.plain ≡ true → IsFoundFloat t f → AreDigits Float (chars t) (chars (body_in t f.body))
+float_plain : (t : List ℕ) (f : Found) → f.body.plain ≡ true → IsFoundFloat t f
+    → AreDigits Float (chars t) (chars (body_in t f.body))
 float_plain t f p h =
-    plain_numeral (chars t) (chars (body_in t f.body)) (chars (suffix_in t f.body)) h.reads (plain_float t (body_in t f.body) (chars (suffix_in t f.body)) h.reads (h.plain.0 p))
+    plain_numeral (chars t) (chars (body_in t f.body)) (chars (suffix_in t f.body)) h.reads
+        (plain_float t (body_in t f.body) (chars (suffix_in t f.body)) h.reads (h.plain.0 p))
 
-pub plain_digits : (t : List ℕ) (f : Found) → IsUtf8 t → f.body.plain ≡ true → IsFoundNumber t f → AreDigits f.kind (chars t) (chars (body_in t f.body))
-plain_digits t f u p (inl (h, inl e)) = subst (λ k. AreDigits k (chars t) (chars (body_in t f.body))) (sym e) (integer_plain t f u e p h)
-plain_digits t f u p (inl (h, inr e)) = subst (λ k. AreDigits k (chars t) (chars (body_in t f.body))) (sym e) (float_plain t f p (found_float t f u e h))
-plain_digits t f u p (inr h) = subst (λ k. AreDigits k (chars t) (chars (body_in t f.body))) (sym h.kind) (float_plain t f p h)
+pub plain_digits : (t : List ℕ) (f : Found) → IsUtf8 t → f.body.plain ≡ true → IsFoundNumber t f
+    → AreDigits f.kind (chars t) (chars (body_in t f.body))
+plain_digits t f u p (inl (h, inl e)) = subst (λ k. AreDigits k (chars t) (chars (body_in t f.body))) (sym e)
+    (integer_plain t f u e p h)
+plain_digits t f u p (inl (h, inr e)) = subst (λ k. AreDigits k (chars t) (chars (body_in t f.body))) (sym e)
+    (float_plain t f p (found_float t f u e h))
+plain_digits t f u p (inr h) = subst (λ k. AreDigits k (chars t) (chars (body_in t f.body))) (sym h.kind)
+    (float_plain t f p h)
 
-pub written_digits : (t bs : List ℕ) (f : Found) → f.kind ≡ Int → IsFoundNumber t f → bs ≡ sign_text (sign_at (chars t)) ++ decimal f.magnitude → AreDigits f.kind (chars t) (chars bs)
-written_digits t bs f e h is = subst (λ k. AreDigits k (chars t) (chars bs)) (sym e) (int_contents (chars t) (chars (suffix_in t f.body)) f.magnitude bs ((number_integer t f e h).integer e) is)
+pub written_digits : (t bs : List ℕ) (f : Found) → f.kind ≡ Int → IsFoundNumber t f → bs ≡ sign_text (sign_at (chars t))
+    ++ decimal f.magnitude → AreDigits f.kind (chars t) (chars bs)
+written_digits t bs f e h is = subst (λ k. AreDigits k (chars t) (chars bs)) (sym e)
+    (int_contents (chars t) (chars (suffix_in t f.body)) f.magnitude bs ((number_integer t f e h).integer e) is)
 
-pub numeral_digits : (t bs : List ℕ) (f : Found) → IsUtf8 t → f.kind ≢ Int → IsFoundNumber t f → chars bs ≡ float_digits (chars (body_in t f.body)) → AreDigits f.kind (chars t) (chars bs)
+pub numeral_digits : (t bs : List ℕ) (f : Found) → IsUtf8 t → f.kind ≢ Int → IsFoundNumber t f → chars bs
+    ≡ float_digits (chars (body_in t f.body)) → AreDigits f.kind (chars t) (chars bs)
 numeral_digits t bs f u n h is =
     let r = number_float t f u n h in
-    subst (λ k. AreDigits k (chars t) (chars bs)) (sym r.kind) (λ m x g. same_numeral (chars t) (chars (body_in t f.body)) (chars (suffix_in t f.body)) (chars bs) m x r.reads is g)
+    subst (λ k. AreDigits k (chars t) (chars bs)) (sym r.kind)
+        (λ m x g. same_numeral (chars t) (chars (body_in t f.body)) (chars (suffix_in t f.body)) (chars bs) m x r.reads
+        is g)
 
 -- ---- what isn't found is no number
 

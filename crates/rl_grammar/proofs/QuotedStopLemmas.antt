@@ -1,6 +1,8 @@
 -- Where the text after an opener stops being the front of a quoted literal, the whole text stops
 -- being that of any literal.
-use Rattle.rl_grammar.proofs.Names.{◌≡◌, ℕ, Bool, true, false, List, ◌∷◌, ◌++◌, None, refl, sym, ap, subst, ◌∙◌, inl, inr, append_assoc, both_ways, Kind, Str, ByteStr, CStr, Byte, Char, first_passes, is_string, is_single, Contents, HasNoReading, HasNoTruth, HasReading, Reads, ReadsQuoted, quoted_contents, truth_text}
+use Rattle.rl_grammar.proofs.Names.{◌≡◌, ℕ, Bool, true, false, List, ◌∷◌, ◌++◌, None, refl, sym, ap, subst, ◌∙◌, inl,
+    inr, append_assoc, both_ways, Kind, Str, ByteStr, CStr, Byte, Char, first_passes, is_string, is_single, Contents,
+    HasNoReading, HasNoTruth, HasReading, Reads, ReadsQuoted, quoted_contents, truth_text}
 use Rattle.rl_grammar.specs.declared.flaws.FlawKind.{FlawKind}
 use Rattle.rl_grammar.specs.declared.quoted_forms.QuotedForm.{QuotedForm}
 use Rattle.rl_grammar.specs.FlawKinds.{HasNoOpener, HasQuotedFlaw, HasQuotedPiece, IsPiece, QuotedFlaw}
@@ -14,7 +16,8 @@ use Rattle.rl_grammar.proofs.ReadingLemmas.{front_not_quoted, no_front_number, n
 
 -- ---- a quoted reading is a reading
 
-neither : (t : List ℕ) (kind : Kind) (c : Contents) (x : List ℕ) → is_string kind ≡ false → is_single kind ≡ false → ReadsQuoted t kind c x → ⊥
+neither : (t : List ℕ) (kind : Kind) (c : Contents) (x : List ℕ) → is_string kind ≡ false → is_single kind ≡ false
+    → ReadsQuoted t kind c x → ⊥
 neither t kind c x s o r = elim r.form [
   | inl a ↦ both_ways (is_string kind) s a.string
   | inr b ↦ elim b [
@@ -32,14 +35,16 @@ quoted_reading t Char c x r = r
 quoted_reading t kind c x r = absurd (neither t kind c x refl refl r)
 
 -- a text that is no literal has no parts of the form that its opener tells
-pub no_parts_of : (t : List ℕ) (form : QuotedForm) (kind : Kind) (inside : List ℕ) → opener_at t ≡ found_opener form kind inside → HasNoReading t → HasNoParts form kind (form_opener form kind ++ inside)
+pub no_parts_of : (t : List ℕ) (form : QuotedForm) (kind : Kind) (inside : List ℕ) → opener_at t
+    ≡ found_opener form kind inside → HasNoReading t → HasNoParts form kind (form_opener form kind ++ inside)
 no_parts_of t form kind inside h none v b x p =
     let r = parts_read form kind t v b x (parts_at_front t form kind inside v b x h p) in
     none kind (quoted_contents kind v) x (quoted_reading t kind (quoted_contents kind v) x r)
 
 -- ---- a text that has an opener is a quoted literal or none
 
-opener_no_number : (t : List ℕ) (form : QuotedForm) (kind : Kind) (inside : List ℕ) → opener_at t ≡ found_opener form kind inside → first_passes is_number_front t ≡ false
+opener_no_number : (t : List ℕ) (form : QuotedForm) (kind : Kind) (inside : List ℕ) → opener_at t
+    ≡ found_opener form kind inside → first_passes is_number_front t ≡ false
 opener_no_number t form kind inside h = go (first_passes is_number_front t) refl
   where
     go : (b : Bool) → first_passes is_number_front t ≡ b → b ≡ false
@@ -51,20 +56,28 @@ unfolding opener_at
 word_has_none true = refl
 word_has_none false = refl
 
-opener_no_truth : (t : List ℕ) (form : QuotedForm) (kind : Kind) (inside : List ℕ) → opener_at t ≡ found_opener form kind inside → HasNoTruth t
-opener_no_truth t form kind inside h v x r = let e : None ≡ found_opener form kind inside = sym (word_has_none r.truth) ∙ ap opener_at (sym r.text_is) ∙ h in absurd (cc)
+opener_no_truth : (t : List ℕ) (form : QuotedForm) (kind : Kind) (inside : List ℕ) → opener_at t
+    ≡ found_opener form kind inside → HasNoTruth t
+opener_no_truth t form kind inside h v x r = let e : None ≡ found_opener form kind inside = sym (word_has_none r.truth)
+    ∙ ap opener_at (sym r.text_is) ∙ h in absurd (cc)
 
-pub only_quoted : (t : List ℕ) (form : QuotedForm) (kind : Kind) (inside : List ℕ) → opener_at t ≡ found_opener form kind inside → HasNoParts form kind (form_opener form kind ++ inside) → HasNoReading t
-only_quoted t form kind inside h none = no_reading t (no_parts t form kind inside h none) (no_front_number t (opener_no_number t form kind inside h)) (opener_no_truth t form kind inside h)
+pub only_quoted : (t : List ℕ) (form : QuotedForm) (kind : Kind) (inside : List ℕ) → opener_at t
+    ≡ found_opener form kind inside → HasNoParts form kind (form_opener form kind ++ inside) → HasNoReading t
+only_quoted t form kind inside h none = no_reading t (no_parts t form kind inside h none)
+    (no_front_number t (opener_no_number t form kind inside h)) (opener_no_truth t form kind inside h)
 
-parts_begin : (form : QuotedForm) (kind : Kind) (t : List ℕ) → HasParts form kind t → HasReading (form_opener form kind ++ t)
-parts_begin form kind t (v, b, x, p) = (kind, (quoted_contents kind v, x, quoted_reading (form_opener form kind ++ t) kind (quoted_contents kind v) x (parts_read form kind (form_opener form kind ++ t) v b x p)))
+parts_begin : (form : QuotedForm) (kind : Kind) (t : List ℕ) → HasParts form kind t
+    → HasReading (form_opener form kind ++ t)
+parts_begin form kind t (v, b, x, p) = (kind, (quoted_contents kind v, x, quoted_reading (form_opener form kind ++ t)
+    kind (quoted_contents kind v) x (parts_read form kind (form_opener form kind ++ t) v b x p)))
 
-pub stops_quoted : (t : List ℕ) (form : QuotedForm) (kind : Kind) (inside rest : List ℕ) → opener_at t ≡ found_opener form kind inside → StopsInside form kind inside rest → StopsBefore HasReading t rest
+pub stops_quoted : (t : List ℕ) (form : QuotedForm) (kind : Kind) (inside rest : List ℕ) → opener_at t
+    ≡ found_opener form kind inside → StopsInside form kind inside rest → StopsBefore HasReading t rest
 stops_quoted t form kind inside rest h s =
     let told = front_sound t (form, kind, inside) h in
     let before = form_opener form kind in
-    let joined : (z : List ℕ) → (before ++ s.front) ++ z ≡ before ++ (s.front ++ z) = λ z. append_assoc before s.front z in
+    let joined : (z : List ℕ) → (before ++ s.front) ++ z ≡ before
+        ++ (s.front ++ z) = λ z. append_assoc before s.front z in
     record {
       front = before ++ s.front;
       text_is = told.text_is ∙ ap (λ z. before ++ z) s.text_is ∙ sym (joined rest);
@@ -75,15 +88,18 @@ stops_quoted t form kind inside rest h s =
       };
       stuck = λ c cs e same r.
           let (k, (v, x, read)) = subst HasReading (joined (c ∷ e)) r in
-          only_quoted (before ++ (s.front ++ (c ∷ e))) form kind (s.front ++ (c ∷ e)) (front_complete form kind (s.front ++ (c ∷ e)) told.has) (s.stuck c cs e same) k v x read;
+          only_quoted (before ++ (s.front ++ (c ∷ e))) form kind (s.front ++ (c ∷ e))
+              (front_complete form kind (s.front ++ (c ∷ e)) told.has) (s.stuck c cs e same) k v x read;
     }
 
-pub quoted_has : (t : List ℕ) (form : QuotedForm) (kind : Kind) (inside : List ℕ) (k : FlawKind) (rest : List ℕ) → opener_at t ≡ found_opener form kind inside → QuotedFlaw form kind k inside rest → HasQuotedFlaw k t rest
+pub quoted_has : (t : List ℕ) (form : QuotedForm) (kind : Kind) (inside : List ℕ) (k : FlawKind) (rest : List ℕ)
+    → opener_at t ≡ found_opener form kind inside → QuotedFlaw form kind k inside rest → HasQuotedFlaw k t rest
 quoted_has t form kind inside k rest h f =
     let told = front_sound t (form, kind, inside) h in
     record { form = form; kind = kind; inside = inside; is_form = told.has; text_is = told.text_is; spoils = f }
 
-pub quoted_piece : (t : List ℕ) (form : QuotedForm) (kind : Kind) (inside piece rest : List ℕ) → opener_at t ≡ found_opener form kind inside → IsPiece form kind inside piece rest → HasQuotedPiece t piece rest
+pub quoted_piece : (t : List ℕ) (form : QuotedForm) (kind : Kind) (inside piece rest : List ℕ) → opener_at t
+    ≡ found_opener form kind inside → IsPiece form kind inside piece rest → HasQuotedPiece t piece rest
 quoted_piece t form kind inside piece rest h p =
     let told = front_sound t (form, kind, inside) h in
     record { form = form; kind = kind; inside = inside; is_form = told.has; text_is = told.text_is; piece_is = p }

@@ -1,5 +1,7 @@
 -- Truth values, and texts that are no literal.
-use Rattle.rl_grammar.proofs.Names.{◌≡◌, ℕ, ◌<◌, ◌≤◌, ◌⊎◌, inl, inr, Bool, true, false, ◌||◌, ◌==◌, cond, List, [], ◌∷◌, ◌++◌, None, refl, sym, ap, ◌∙◌, arith, both_ways, or_parts, nat_tests, encodes-chars, encode_utf8_all, is_ascii_digit, IsUtf8, first_passes, Int, Float, BoolKind, truth_text, HasNoReading, HasNoTruth}
+use Rattle.rl_grammar.proofs.Names.{◌≡◌, ℕ, ◌<◌, ◌≤◌, ◌⊎◌, inl, inr, Bool, true, false, ◌||◌, ◌==◌, cond, List, [], ◌∷◌,
+    ◌++◌, None, refl, sym, ap, ◌∙◌, arith, both_ways, or_parts, nat_tests, encodes-chars, encode_utf8_all,
+    is_ascii_digit, IsUtf8, first_passes, Int, Float, BoolKind, truth_text, HasNoReading, HasNoTruth}
 use Rattle.std.specs.Str.{chars}
 use Rattle.rl_tokens.proofs.Basics.{apart}
 use Rattle.rl_tokens.proofs.CommentBytes.{cases128, encode_is_high, low_front, not_equal}
@@ -30,7 +32,8 @@ front_same t is = ap (first_passes is_number_front) (sym (encodes-chars t is)) �
     past : (c : ℕ) → 128 ≤ c → is_number_front c ≡ false
     past c h = ap (λ z. z || is_ascii_digit c) (not_equal c 45 (omega arith) h) ∙ grind (arith, nat_tests)
 
-    at : (c : ℕ) (cs : List ℕ) → (c < 128) ⊎ (128 ≤ c) → first_passes is_number_front (encode_utf8_all (c ∷ cs)) ≡ is_number_front c
+    at : (c : ℕ) (cs : List ℕ) → (c < 128) ⊎ (128 ≤ c) → first_passes is_number_front (encode_utf8_all (c ∷ cs))
+        ≡ is_number_front c
     at c cs (inl low) = ap (first_passes is_number_front) (low_front c cs low)
     at c cs (inr high) =
         let (b, bs, is, above, _) = encode_is_high c high in
@@ -44,9 +47,11 @@ front_same t is = ap (first_passes is_number_front) (sym (encodes-chars t is)) �
 pub no_front_number : (t : List ℕ) → first_passes is_number_front t ≡ false → ReadsNoNumber t
 no_front_number t h = let d = no_digit t h in no_number t (no_int t (no_head_int t d)) (no_float t (no_head_float t d))
   where
-    no_digit : (t : List ℕ) → first_passes is_number_front t ≡ false → first_passes is_ascii_digit (after_minus t) ≡ false
+    no_digit : (t : List ℕ) → first_passes is_number_front t ≡ false → first_passes is_ascii_digit (after_minus t)
+        ≡ false
     no_digit [] h = refl
-    no_digit (c ∷ cs) h = let e = or_parts (c == 45) (is_ascii_digit c) h in ap (λ z. first_passes is_ascii_digit (cond z cs (c ∷ cs))) e.0 ∙ e.1
+    no_digit (c ∷ cs) h = let e = or_parts (c == 45) (is_ascii_digit c) h in ap
+        (λ z. first_passes is_ascii_digit (cond z cs (c ∷ cs))) e.0 ∙ e.1
 
 -- where one may begin there is nothing else
 pub front_not_quoted : (t : List ℕ) → first_passes is_number_front t ≡ true → opener_at t ≡ None

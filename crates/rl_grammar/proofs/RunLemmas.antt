@@ -1,5 +1,7 @@
 -- Runs of characters that pass a test, and the suffixes of numbers.
-use Rattle.rl_grammar.proofs.Names.{◌≡◌, ℕ, Bool, true, false, not, ◌&&◌, ◌==◌, cond, List, [], ◌∷◌, ◌++◌, refl, ap, ◌∙◌, inl, inr, and_parts, and_from, not-true, not_from_false, list_all, first_passes, xid_ok, IsSuffix, is_blank, after_run}
+use Rattle.rl_grammar.proofs.Names.{◌≡◌, ℕ, Bool, true, false, not, ◌&&◌, ◌==◌, cond, List, [], ◌∷◌, ◌++◌, refl, ap,
+    ◌∙◌, inl, inr, and_parts, and_from, not-true, not_from_false, list_all, first_passes, xid_ok, IsSuffix, is_blank,
+    after_run}
 use Rattle.rl_grammar.specs.Mirrors.NumberAt.{run, is_suffix}
 use Rattle.rl_grammar.specs.Mirrors.UnitAt.{after_blanks}
 use Rattle.rl_grammar.proofs.DigitRowLemmas.{run_yes, run_no}
@@ -10,7 +12,8 @@ unfolding run
 run_all test [] = refl
 run_all test (c ∷ cs) = go (run_all test cs) (test c) refl
   where
-    go : list_all test (run test cs) ≡ true → (b : Bool) → test c ≡ b → list_all test (cond b (c ∷ run test cs) []) ≡ true
+    go : list_all test (run test cs) ≡ true → (b : Bool) → test c ≡ b → list_all test (cond b (c ∷ run test cs) [])
+        ≡ true
     go ih true h = ap (λ b. b && list_all test (run test cs)) h ∙ ih
     go ih false h = refl
 
@@ -19,7 +22,8 @@ pub run_ends : (test : ℕ → Bool) (t : List ℕ) → first_passes test (after
 run_ends test [] = refl
 run_ends test (c ∷ cs) = go (run_ends test cs) (test c) refl
   where
-    go : first_passes test (after_run test cs) ≡ false → (b : Bool) → test c ≡ b → first_passes test (cond b (after_run test cs) (c ∷ cs)) ≡ false
+    go : first_passes test (after_run test cs) ≡ false → (b : Bool) → test c ≡ b
+        → first_passes test (cond b (after_run test cs) (c ∷ cs)) ≡ false
     go ih true h = ih
     go ih false h = h
 
@@ -29,12 +33,14 @@ unfolding run
 run_join test [] = refl
 run_join test (c ∷ cs) = go (run_join test cs) (test c)
   where
-    go : cs ≡ run test cs ++ after_run test cs → (b : Bool) → c ∷ cs ≡ cond b (c ∷ run test cs) [] ++ cond b (after_run test cs) (c ∷ cs)
+    go : cs ≡ run test cs ++ after_run test cs → (b : Bool) → c ∷ cs ≡ cond b (c ∷ run test cs) []
+        ++ cond b (after_run test cs) (c ∷ cs)
     go ih true = ap (λ z. c ∷ z) ih
     go ih false = refl
 
 -- a row that passes, before what doesn't, is the run
-pub run_past : (test : ℕ → Bool) (row x : List ℕ) → list_all test row ≡ true → first_passes test x ≡ false → (run test (row ++ x) ≡ row) × (after_run test (row ++ x) ≡ x)
+pub run_past : (test : ℕ → Bool) (row x : List ℕ) → list_all test row ≡ true → first_passes test x ≡ false
+    → (run test (row ++ x) ≡ row) × (after_run test (row ++ x) ≡ x)
 unfolding run
 run_past test [] [] h k = (refl, refl)
 run_past test [] (c ∷ cs) h k = run_no test c cs k

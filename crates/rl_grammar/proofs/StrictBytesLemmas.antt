@@ -1,5 +1,10 @@
 -- Of texts without CR, literals of bytes that read with escapes and a strict suffix are the strict ones.
-use Rattle.rl_grammar.proofs.Names.{◌≡◌, ℕ, ◌&&◌, Bool, true, false, not, ◌==◌, List, [], ◌∷◌, ◌++◌, nat_lt, refl, sym, ap, subst, ◌∙◌, inl, inr, append_assoc, append-nil, and_from, and_parts, both_ways, eqb-true, ltb-true, not-true, or_cases, or_parts, list_all-append, AllByRecursion, flat_map, list_all, Kind, ByteStr, Byte, first_passes, QuotedUnit, Plain, CrLf, Named, Hex, Unicode, Continuation, unit_text, unit_value, is_blank, is_plain, IsUnit, texts, values, EndsBefore, Cooked, Single, Contents, Bytes, Reads, StrictUnit, Itself, LineBreak, strict_text, strict_contents, is_dropped_blank, is_strict_unit, strict_content_of, IsStrictSuffix}
+use Rattle.rl_grammar.proofs.Names.{◌≡◌, ℕ, ◌&&◌, Bool, true, false, not, ◌==◌, List, [], ◌∷◌, ◌++◌, nat_lt, refl, sym,
+    ap, subst, ◌∙◌, inl, inr, append_assoc, append-nil, and_from, and_parts, both_ways, eqb-true, ltb-true, not-true,
+    or_cases, or_parts, list_all-append, AllByRecursion, flat_map, list_all, Kind, ByteStr, Byte, first_passes,
+    QuotedUnit, Plain, CrLf, Named, Hex, Unicode, Continuation, unit_text, unit_value, is_blank, is_plain, IsUnit,
+    texts, values, EndsBefore, Cooked, Single, Contents, Bytes, Reads, StrictUnit, Itself, LineBreak, strict_text,
+    strict_contents, is_dropped_blank, is_strict_unit, strict_content_of, IsStrictSuffix}
 use Rattle.std.proofs.lemmas.Str.{encode_ascii}
 use Rattle.std.specs.Prelude.{⊤}
 use Rattle.rl_tokens.specs.Quoted.{ContinuationsEnd}
@@ -32,7 +37,8 @@ record Same (k : Kind) (u : QuotedUnit) : Type 0 where
 
 -- an escape
 escape_same : (k : Kind) (u : QuotedUnit) → Back k u → Same k u
-escape_same k u b = record { unit = b.unit; is_unit = b.is_unit; text_is = b.text_is; value_is = b.value_is; may_end = λ t e. no_break_ends b.unit t b.no_break }
+escape_same k u b = record { unit = b.unit; is_unit = b.is_unit; text_is = b.text_is; value_is = b.value_is; may_end = λ
+    t e. no_break_ends b.unit t b.no_break }
 
 quoted_kind : (k : Kind) → IsByteKind k → HasStrictUnits k
 quoted_kind ByteStr b = tt
@@ -44,15 +50,19 @@ low_value : (c : ℕ) (more : Bool) → (nat_lt c 128 && more) ≡ true → unit
 low_value c more h = ap (λ z. z ++ []) (encode_ascii c (ltb-true c 128 (and_parts (nat_lt c 128) more h).0))
 
 plain_same : (k : Kind) (c : ℕ) → IsByteKind k → is_plain k c ≡ true → Same k (Plain c)
-plain_same ByteStr c b h = record { unit = Itself c; is_unit = h; text_is = refl; value_is = low_value c _ h; may_end = λ t e. tt }
-plain_same Byte c b h = record { unit = Itself c; is_unit = h; text_is = refl; value_is = low_value c _ h; may_end = λ t e. tt }
+plain_same ByteStr c b h = record { unit = Itself c; is_unit = h; text_is = refl; value_is = low_value c _ h; may_end =
+    λ t e. tt }
+plain_same Byte c b h = record { unit = Itself c; is_unit = h; text_is = refl; value_is = low_value c _ h; may_end = λ t
+    e. tt }
 plain_same kind c b h = absurd b
 
 -- blanks but CR
 dropped : (c : ℕ) → is_blank c ≡ true → no_return c ≡ true → is_dropped_blank c ≡ true
-dropped c h n = elim (or_cases (is_dropped_blank c) (c == 13) h) [ inl a ↦ a | inr a ↦ absurd (both_ways (c == 13) (not-true (c == 13) n) a) ]
+dropped c h n = elim (or_cases (is_dropped_blank c) (c == 13) h)
+    [ inl a ↦ a | inr a ↦ absurd (both_ways (c == 13) (not-true (c == 13) n) a) ]
 
-all_dropped : (run : List ℕ) → list_all is_blank run ≡ true → list_all no_return run ≡ true → list_all is_dropped_blank run ≡ true
+all_dropped : (run : List ℕ) → list_all is_blank run ≡ true → list_all no_return run ≡ true
+    → list_all is_dropped_blank run ≡ true
 all_dropped [] h n = refl
 all_dropped (c ∷ run) h n =
     let p = and_parts (is_blank c) (list_all is_blank run) h in
@@ -64,12 +74,14 @@ not_dropped [] h = refl
 not_dropped (c ∷ t) h = (or_parts (is_dropped_blank c) (c == 13) h).0
 
 -- an escaped line end
-line_same : (k : Kind) (c : ℕ) (run : List ℕ) → IsUnit k (Continuation c run) → list_all no_return (92 ∷ c ∷ run) ≡ true → Same k (Continuation c run)
+line_same : (k : Kind) (c : ℕ) (run : List ℕ) → IsUnit k (Continuation c run) → list_all no_return (92 ∷ c ∷ run) ≡ true
+    → Same k (Continuation c run)
 line_same k c run u n =
     let q = and_parts (no_return c) (list_all no_return run) n in
     let At : ℕ → Type 0 = λ x. Same k (Continuation x run) in
     elim (or_cases (c == 10) (c == 13) u.1) [
-      | inl a ↦ subst At (sym (eqb-true c 10 a)) (record { unit = LineBreak run; is_unit = line_allowed k run u.0 (all_dropped run u.2 q.1); text_is = refl; value_is = refl; may_end = λ t e. not_dropped t e })
+      | inl a ↦ subst At (sym (eqb-true c 10 a)) (record { unit = LineBreak run; is_unit = line_allowed k run u.0
+          (all_dropped run u.2 q.1); text_is = refl; value_is = refl; may_end = λ t e. not_dropped t e })
       | inr a ↦ absurd (both_ways (c == 13) (not-true (c == 13) q.0) a)
     ]
 
@@ -78,7 +90,8 @@ unit_same k (Plain c) b h n = plain_same k c b h
 unit_same k CrLf b h n = absurd (cc)
 unit_same k (Named l) b h n = escape_same k (Named l) (named_escape k l h)
 unit_same k (Hex high low) b h n = escape_same k (Hex high low) (hex_escape k high low (quoted_kind k b) h)
-unit_same k (Unicode first more) b h n = escape_same k (Unicode first more) (unicode_escape k first more (quoted_kind k b) h)
+unit_same k (Unicode first more) b h n = escape_same k (Unicode first more)
+    (unicode_escape k first more (quoted_kind k b) h)
 unit_same k (Continuation c run) b h n = line_same k c run h n
 
 -- ---- a row of them
@@ -90,10 +103,12 @@ record SameRow (k : Kind) (us : List QuotedUnit) : Type 0 where
   text_is : texts us ≡ flat_map strict_text units
   value_is : values k us ≡ flat_map (strict_contents (strict_content_of k)) units
 
-row_same : (k : Kind) (us : List QuotedUnit) → IsByteKind k → AllByRecursion (IsUnit k) us → ContinuationsEnd us → list_all no_return (texts us) ≡ true → SameRow k us
+row_same : (k : Kind) (us : List QuotedUnit) → IsByteKind k → AllByRecursion (IsUnit k) us → ContinuationsEnd us
+    → list_all no_return (texts us) ≡ true → SameRow k us
 row_same k [] b e c n = record { units = []; each = refl; blanks_end = tt; text_is = refl; value_is = refl }
 row_same k (u ∷ us) b e c n =
-    let m = and_parts (list_all no_return (unit_text u)) (list_all no_return (texts us)) (sym (list_all-append no_return (unit_text u) (texts us)) ∙ n) in
+    let m = and_parts (list_all no_return (unit_text u)) (list_all no_return (texts us))
+        (sym (list_all-append no_return (unit_text u) (texts us)) ∙ n) in
     let s = unit_same k u b e.0 m.0 in
     let r = row_same k us b e.1 c.1 m.1 in
     record {
@@ -101,19 +116,24 @@ row_same k (u ∷ us) b e c n =
       each = and_from (is_strict_unit k s.unit) (list_all (is_strict_unit k) r.units) s.is_unit r.each;
       blanks_end = blanks_cons s.unit r.units (subst (MayEnd s.unit) r.text_is (s.may_end (texts us) c.0)) r.blanks_end;
       text_is = ap (λ z. z ++ texts us) s.text_is ∙ ap (λ z. strict_text s.unit ++ z) r.text_is;
-      value_is = ap (λ z. z ++ values k us) s.value_is ∙ ap (λ z. strict_contents (strict_content_of k) s.unit ++ z) r.value_is;
+      value_is = ap (λ z. z ++ values k us) s.value_is ∙ ap (λ z. strict_contents (strict_content_of k) s.unit ++ z)
+          r.value_is;
     }
 
 -- ---- the two forms
 
 -- what stands between an opener of two characters and what follows has no CR
-inner_clean : (a b : ℕ) (text inner after : List ℕ) → text ≡ a ∷ b ∷ (inner ++ after) → list_all no_return text ≡ true → list_all no_return inner ≡ true
+inner_clean : (a b : ℕ) (text inner after : List ℕ) → text ≡ a ∷ b ∷ (inner ++ after) → list_all no_return text ≡ true
+    → list_all no_return inner ≡ true
 inner_clean a b text inner after e n =
-    let first = and_parts (no_return a) (list_all no_return (b ∷ (inner ++ after))) (ap (list_all no_return) (sym e) ∙ n) in
+    let first = and_parts (no_return a) (list_all no_return (b ∷ (inner ++ after)))
+        (ap (list_all no_return) (sym e) ∙ n) in
     let second = and_parts (no_return b) (list_all no_return (inner ++ after)) first.1 in
-    (and_parts (list_all no_return inner) (list_all no_return after) (sym (list_all-append no_return inner after) ∙ second.1)).0
+    (and_parts (list_all no_return inner) (list_all no_return after)
+        (sym (list_all-append no_return inner after) ∙ second.1)).0
 
-string_strict : (t w x : List ℕ) → Cooked ByteStr t w x → list_all no_return t ≡ true → IsStrictSuffix x → StrictCooked t ByteStr (Bytes w) x
+string_strict : (t w x : List ℕ) → Cooked ByteStr t w x → list_all no_return t ≡ true → IsStrictSuffix x
+    → StrictCooked t ByteStr (Bytes w) x
 string_strict t w x c n s =
     let r = row_same ByteStr c.units tt c.each c.ends (inner_clean 98 34 t (texts c.units) (34 ∷ x) c.text_is n) in
     record {
@@ -122,7 +142,8 @@ string_strict t w x c n s =
       each = r.each;
       blanks_end = r.blanks_end;
       suffix = s;
-      text = c.text_is ∙ ap (λ z. 98 ∷ 34 ∷ (z ++ (34 ∷ x))) r.text_is ∙ ap (λ z. 98 ∷ 34 ∷ z) (sym (append_assoc (flat_map strict_text r.units) (34 ∷ []) x));
+      text = c.text_is ∙ ap (λ z. 98 ∷ 34 ∷ (z ++ (34 ∷ x))) r.text_is
+          ∙ ap (λ z. 98 ∷ 34 ∷ z) (sym (append_assoc (flat_map strict_text r.units) (34 ∷ []) x));
       contents = ap Bytes (c.value_is ∙ r.value_is);
     }
 
@@ -134,7 +155,8 @@ string_reads t w x s =
     subst (λ v. Cooked ByteStr t v x) same r.1
 
 -- a byte has no other form than its own
-single_of : (t : List ℕ) (v : Contents) (x : List ℕ) → Reads t Byte v x → (w : List ℕ) × Single Byte t w x × (v ≡ Bytes w)
+single_of : (t : List ℕ) (v : Contents) (x : List ℕ) → Reads t Byte v x → (w : List ℕ) × Single Byte t w x
+    × (v ≡ Bytes w)
 single_of t v x r = elim r.form [
   | inl c ↦ absurd (let h = c.string in (cc))
   | inr f ↦ elim f [
@@ -151,7 +173,8 @@ unit_ends (Hex high low) = tt
 unit_ends (Unicode first more) = tt
 unit_ends (Continuation c run) = refl
 
-byte_strict : (t : List ℕ) (v : Contents) (x : List ℕ) → Reads t Byte v x → list_all no_return t ≡ true → IsStrictSuffix x → StrictCooked t Byte v x
+byte_strict : (t : List ℕ) (v : Contents) (x : List ℕ) → Reads t Byte v x → list_all no_return t ≡ true
+    → IsStrictSuffix x → StrictCooked t Byte v x
 byte_strict t v x r n s =
     let (w, f, v_is) = single_of t v x r in
     let u = unit_same Byte f.unit tt f.is_unit (inner_clean 98 39 t (unit_text f.unit) (39 ∷ x) f.text_is n) in
@@ -163,7 +186,8 @@ byte_strict t v x r n s =
       suffix = s;
       text = f.text_is ∙ ap (λ z. 98 ∷ 39 ∷ (z ++ (39 ∷ x))) (u.text_is ∙ sym (append-nil (strict_text u.unit)))
           ∙ ap (λ z. 98 ∷ 39 ∷ z) (sym (append_assoc (strict_text u.unit ++ []) (39 ∷ []) x));
-      contents = v_is ∙ ap Bytes (f.value_is ∙ u.value_is ∙ sym (append-nil (strict_contents (strict_content_of Byte) u.unit)));
+      contents = v_is ∙ ap Bytes (f.value_is ∙ u.value_is ∙ sym
+          (append-nil (strict_contents (strict_content_of Byte) u.unit)));
     }
 
 pub bytes_are_strict : (t : List ℕ) → KeepsBytesStrict t

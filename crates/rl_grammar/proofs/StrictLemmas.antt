@@ -1,14 +1,19 @@
 -- A strict token is a quoted form after its opener, a number, or a truth value.
-use Rattle.rl_grammar.proofs.Names.{◌≡◌, ◌≢◌, ℕ, ◌⊎◌, ◌||◌, Bool, true, false, ◌==◌, List, [], ◌∷◌, ◌++◌, Option, Some, None, refl, sym, ap, subst, ◌∙◌, inl, inr, append_assoc, both_ways, is_ascii_digit, flat_map, ◌↔◌, IsTrue, Kind, Str, ByteStr, CStr, Byte, Char, Int, Float, BoolKind, NoSign, opener, raw_opener, Contents, Truth, truth_text, strict_text, strict_contents, strict_content_of}
+use Rattle.rl_grammar.proofs.Names.{◌≡◌, ◌≢◌, ℕ, ◌⊎◌, ◌||◌, Bool, true, false, ◌==◌, List, [], ◌∷◌, ◌++◌, Option, Some,
+    None, refl, sym, ap, subst, ◌∙◌, inl, inr, append_assoc, both_ways, is_ascii_digit, flat_map, ◌↔◌, IsTrue, Kind,
+    Str, ByteStr, CStr, Byte, Char, Int, Float, BoolKind, NoSign, opener, raw_opener, Contents, Truth, truth_text,
+    strict_text, strict_contents, strict_content_of}
 use Rattle.std.specs.Option.{IfSome, IfNone}
 use Rattle.std.specs.Prelude.{is_some, replicate, codes, if◌then◌else◌}
-use Rattle.rl_tokens.specs.Strict.{StrictCooked, StrictRaw, Strict, strict_opener, strict_raw_opener, strict_closer, strict_quoted_contents}
+use Rattle.rl_tokens.specs.Strict.{StrictCooked, StrictRaw, Strict, strict_opener, strict_raw_opener, strict_closer,
+    strict_quoted_contents}
 use Rattle.rl_tokens.proofs.Basics.{apart}
 use Rattle.rl_tokens.proofs.OneNumber.{begins_number, float_front, int_front}
 use Rattle.rl_tokens.proofs.StrictNumbers.{strict_int, float_strict_reads}
 use Rattle.rl_tokens.proofs.StrictQuoted.{between}
 use Rattle.rl_grammar.specs.declared.quoted_forms.QuotedForm.{QuotedForm}
-use Rattle.rl_grammar.specs.declared.quoted_forms.QuotedForm.TheVariants.{Cooked as CookedForm, Raw as RawForm, Single as SingleForm}
+use Rattle.rl_grammar.specs.declared.quoted_forms.QuotedForm.TheVariants.{Cooked as CookedForm, Raw as RawForm, Single
+    as SingleForm}
 use Rattle.rl_grammar.specs.Forms.{has_form, form_opener}
 use Rattle.rl_grammar.specs.Mirrors.OpenerAt.{opener_at}
 use Rattle.rl_grammar.specs.Mirrors.StrictAt.{is_strict_number}
@@ -46,7 +51,8 @@ raw_opener_is BoolKind = refl
 -- ---- what is closed is a token
 
 -- a quoted form is strict in its kind
-quoted_strict : (t : List ℕ) (k : Kind) (v : Contents) (x : List ℕ) → HasStrictUnits k → StrictCooked t k v x ⊎ StrictRaw t k v x → Strict t k v x
+quoted_strict : (t : List ℕ) (k : Kind) (v : Contents) (x : List ℕ) → HasStrictUnits k → StrictCooked t k v x
+    ⊎ StrictRaw t k v x → Strict t k v x
 quoted_strict t Str v x q s = s
 quoted_strict t ByteStr v x q s = s
 quoted_strict t CStr v x q s = s
@@ -55,7 +61,8 @@ quoted_strict t Char v x q s = s
 quoted_strict t kind v x q s = absurd q
 
 -- units, a quote and a suffix after an opener
-units_token : (k : Kind) (t inside : List ℕ) → HasStrictUnits k → t ≡ opener k ++ inside → ClosesUnits k inside → IsToken t
+units_token : (k : Kind) (t inside : List ℕ) → HasStrictUnits k → t ≡ opener k ++ inside → ClosesUnits k inside
+    → IsToken t
 units_token k t inside q text c =
     let v : Contents = strict_quoted_contents k (flat_map (strict_contents (strict_content_of k)) c.units) in
     record {
@@ -68,7 +75,8 @@ units_token k t inside q text c =
         each = c.each;
         blanks_end = c.blanks_end;
         suffix = c.is_suffix;
-        text = text ∙ ap (λ z. z ++ inside) (opener_is k) ∙ ap (λ z. strict_opener k ++ z) c.text_is ∙ sym (between (strict_opener k) (flat_map strict_text c.units) (strict_closer k) c.suffix);
+        text = text ∙ ap (λ z. z ++ inside) (opener_is k) ∙ ap (λ z. strict_opener k ++ z) c.text_is
+            ∙ sym (between (strict_opener k) (flat_map strict_text c.units) (strict_closer k) c.suffix);
         contents = refl;
       }));
     }
@@ -78,7 +86,8 @@ raw_text : (o h i x : List ℕ) → ((((o ++ h) ++ (34 ∷ i)) ++ (34 ∷ h)) ++
 raw_text o h i x = simp append_assoc
 
 -- hashes and what ends them after an opener
-raw_token : (k : Kind) (t inside : List ℕ) → HasStrictUnits k → t ≡ raw_opener k ++ inside → ClosesRaw k inside → IsToken t
+raw_token : (k : Kind) (t inside : List ℕ) → HasStrictUnits k → t ≡ raw_opener k ++ inside → ClosesRaw k inside
+    → IsToken t
 raw_token k t inside q text c =
     let i = c.closes in
     let h : List ℕ = replicate c.hashes 35 in
@@ -95,13 +104,15 @@ raw_token k t inside q text c =
         no_carriage_return = i.no_carriage_return;
         first_close = λ f r e. i.first_close f r (e ∙ append_assoc f (34 ∷ h) r);
         suffix = i.is_suffix;
-        text = text ∙ ap (λ z. z ++ inside) (raw_opener_is k) ∙ ap (λ z. strict_raw_opener k ++ z) (c.text_is ∙ ap (λ z. h ++ (34 ∷ z)) i.text_is) ∙ sym (raw_text (strict_raw_opener k) h i.inside i.suffix);
+        text = text ∙ ap (λ z. z ++ inside) (raw_opener_is k) ∙ ap (λ z. strict_raw_opener k ++ z)
+            (c.text_is ∙ ap (λ z. h ++ (34 ∷ z)) i.text_is) ∙ sym (raw_text (strict_raw_opener k) h i.inside i.suffix);
         contents = refl;
       }));
     }
 
 -- any form after its opener
-close_token : (form : QuotedForm) (k : Kind) (t inside : List ℕ) → has_form form k ≡ true → t ≡ form_opener form k ++ inside → ClosesForm form k inside → IsToken t
+close_token : (form : QuotedForm) (k : Kind) (t inside : List ℕ) → has_form form k ≡ true → t ≡ form_opener form k
+    ++ inside → ClosesForm form k inside → IsToken t
 close_token CookedForm k t inside h text c = units_token k t inside (quoted_string k h) text c
 close_token SingleForm k t inside h text c = units_token k t inside (quoted_single k h) text c
 close_token RawForm k t inside h text c = raw_token k t inside (quoted_string k h) text c
@@ -122,20 +133,28 @@ abbrev Seen : List ℕ → Type 0
 Seen t = Opened t ⊎ (IsStrictNumber t ⊎ ((b : Bool) × (t ≡ truth_text b)))
 
 -- what stands after the opener of a form with escapes
-units_closed : (k : Kind) (t : List ℕ) (v : Contents) (x : List ℕ) (s : StrictCooked t k v x) → ClosesUnits k (flat_map strict_text s.units ++ (strict_closer k ++ x))
-units_closed k t v x s = record { units = s.units; suffix = x; count = s.count; each = s.each; blanks_end = s.blanks_end; is_suffix = s.suffix; text_is = refl }
+units_closed : (k : Kind) (t : List ℕ) (v : Contents) (x : List ℕ) (s : StrictCooked t k v x)
+    → ClosesUnits k (flat_map strict_text s.units ++ (strict_closer k ++ x))
+units_closed k t v x s = record { units = s.units; suffix = x; count = s.count; each = s.each; blanks_end =
+    s.blanks_end; is_suffix = s.suffix; text_is = refl }
 
 -- and the opener before it
-units_text : (k : Kind) (t : List ℕ) (v : Contents) (x : List ℕ) (s : StrictCooked t k v x) → t ≡ opener k ++ (flat_map strict_text s.units ++ (strict_closer k ++ x))
-units_text k t v x s = s.text ∙ between (strict_opener k) (flat_map strict_text s.units) (strict_closer k) x ∙ ap (λ z. z ++ (flat_map strict_text s.units ++ (strict_closer k ++ x))) (sym (opener_is k))
+units_text : (k : Kind) (t : List ℕ) (v : Contents) (x : List ℕ) (s : StrictCooked t k v x) → t ≡ opener k
+    ++ (flat_map strict_text s.units ++ (strict_closer k ++ x))
+units_text k t v x s = s.text ∙ between (strict_opener k) (flat_map strict_text s.units) (strict_closer k) x
+    ∙ ap (λ z. z ++ (flat_map strict_text s.units ++ (strict_closer k ++ x))) (sym (opener_is k))
 
 -- a string with escapes
-string_seen : (k : Kind) (t : List ℕ) (v : Contents) (x : List ℕ) → has_form CookedForm k ≡ true → StrictCooked t k v x → Seen t
-string_seen k t v x h s = inl (record { form = CookedForm; kind = k; inside = flat_map strict_text s.units ++ (strict_closer k ++ x); has = h; text_is = units_text k t v x s; closes = units_closed k t v x s })
+string_seen : (k : Kind) (t : List ℕ) (v : Contents) (x : List ℕ) → has_form CookedForm k ≡ true → StrictCooked t k v x
+    → Seen t
+string_seen k t v x h s = inl (record { form = CookedForm; kind = k; inside = flat_map strict_text s.units
+    ++ (strict_closer k ++ x); has = h; text_is = units_text k t v x s; closes = units_closed k t v x s })
 
 -- a character or a byte
-single_seen : (k : Kind) (t : List ℕ) (v : Contents) (x : List ℕ) → has_form SingleForm k ≡ true → StrictCooked t k v x → Seen t
-single_seen k t v x h s = inl (record { form = SingleForm; kind = k; inside = flat_map strict_text s.units ++ (strict_closer k ++ x); has = h; text_is = units_text k t v x s; closes = units_closed k t v x s })
+single_seen : (k : Kind) (t : List ℕ) (v : Contents) (x : List ℕ) → has_form SingleForm k ≡ true → StrictCooked t k v x
+    → Seen t
+single_seen k t v x h s = inl (record { form = SingleForm; kind = k; inside = flat_map strict_text s.units
+    ++ (strict_closer k ++ x); has = h; text_is = units_text k t v x s; closes = units_closed k t v x s })
 
 -- a raw string
 raw_seen : (k : Kind) (t : List ℕ) (v : Contents) (x : List ℕ) → has_form RawForm k ≡ true → StrictRaw t k v x → Seen t
@@ -147,7 +166,8 @@ raw_seen k t v x has s =
       kind = k;
       inside = h ++ (34 ∷ rest);
       has = has;
-      text_is = s.text ∙ raw_text (strict_raw_opener k) h s.inside x ∙ ap (λ z. z ++ (h ++ (34 ∷ rest))) (sym (raw_opener_is k));
+      text_is = s.text ∙ raw_text (strict_raw_opener k) h s.inside x
+          ∙ ap (λ z. z ++ (h ++ (34 ∷ rest))) (sym (raw_opener_is k));
       closes = record {
         hashes = s.hashes;
         few = s.few;
@@ -207,14 +227,17 @@ number_none t (v, x, inl s) = let i = strict_int t x v s in number_front t (int_
 number_none t (v, x, inr s) = let f = float_strict_reads t x v s in number_front t (float_front t f.numeral x f.reads)
 
 -- a quoted form is what its front tells
-opened_told : (t : List ℕ) (p : QuotedForm × Kind × List ℕ) (o : Opened t) → opener_at t ≡ Some p → ClosesForm p.0 p.1 p.2
+opened_told : (t : List ℕ) (p : QuotedForm × Kind × List ℕ) (o : Opened t) → opener_at t ≡ Some p
+    → ClosesForm p.0 p.1 p.2
 opened_told t p o h =
-    let front : Some p ≡ Some (o.form, o.kind, o.inside) = sym h ∙ ap opener_at o.text_is ∙ front_complete o.form o.kind o.inside o.has in
+    let front : Some p ≡ Some (o.form, o.kind, o.inside) = sym h ∙ ap opener_at o.text_is
+        ∙ front_complete o.form o.kind o.inside o.has in
     let same : (o.form, o.kind, o.inside) ≡ p = cc in
     subst (λ (q : QuotedForm × Kind × List ℕ). ClosesForm q.0 q.1 q.2) same o.closes
 
 -- where a front tells a form, the text is a token exactly where the form is closed
-pub told_token : (t : List ℕ) (p : QuotedForm × Kind × List ℕ) (b : Bool) → Some p ≡ opener_at t → IsTrue b ↔ ClosesForm p.0 p.1 p.2 → IsTrue b ↔ IsToken t
+pub told_token : (t : List ℕ) (p : QuotedForm × Kind × List ℕ) (b : Bool) → Some p ≡ opener_at t
+    → IsTrue b ↔ ClosesForm p.0 p.1 p.2 → IsTrue b ↔ IsToken t
 told_token t p b h same =
     let tells = front_sound t p (sym h) in
     let none : opener_at t ≡ None → ⊥ = λ e. let f : Some p ≡ None = h ∙ e in absurd (cc) in (
@@ -240,20 +263,23 @@ number_complete t (v, x, inr s) = float_complete t x v s
 
 -- a truth value is a token
 truth_token : (t : List ℕ) (b : Bool) → t ≡ truth_text b → IsToken t
-truth_token t b e = record { kind = BoolKind; contents = Truth b; suffix = []; strict = record { truth = b; text = e ∙ sym (truth_words b); contents = refl; suffix = refl } }
+truth_token t b e = record { kind = BoolKind; contents = Truth b; suffix = []; strict = record
+    { truth = b; text = e ∙ sym (truth_words b); contents = refl; suffix = refl } }
 
 -- what passes as a number is a token
 pub passed_token : (t : List ℕ) (b : Bool) → b ≡ is_strict_number t → b ≡ true → IsTrue b ↔ IsToken t
 passed_token t b is h = (λ y. number_token t (number_sound t (sym is ∙ h)), λ c. h)
 
 -- a text that is no quoted form and no number is a token exactly where it is a truth value
-pub other_token : (t : List ℕ) (o : Option Bool) (b : Bool) → None ≡ opener_at t → is_strict_number t ≡ false → IfSome o (λ v. t ≡ truth_text v) → IfNone o ((v : Bool) → t ≢ truth_text v) → b ≡ is_some o → IsTrue b ↔ IsToken t
+pub other_token : (t : List ℕ) (o : Option Bool) (b : Bool) → None ≡ opener_at t → is_strict_number t ≡ false
+    → IfSome o (λ v. t ≡ truth_text v) → IfNone o ((v : Bool) → t ≢ truth_text v) → b ≡ is_some o → IsTrue b ↔ IsToken t
 other_token t (Some v) b h n some none is = (λ y. truth_token t v some, λ c. is)
 other_token t None b h n some none is = (
   λ y. absurd (both_ways b is y),
   λ c. elim (seen t c.kind c.contents c.suffix c.strict) [
     | inl o ↦
-        let front : None ≡ Some (o.form, o.kind, o.inside) = h ∙ ap opener_at o.text_is ∙ front_complete o.form o.kind o.inside o.has in
+        let front : None ≡ Some (o.form, o.kind, o.inside) = h ∙ ap opener_at o.text_is
+            ∙ front_complete o.form o.kind o.inside o.has in
         absurd (cc)
     | inr w ↦ elim w [
       | inl number ↦ absurd (both_ways (is_strict_number t) n (number_complete t number))

@@ -9,7 +9,8 @@ spread : (w s r v d : ℕ) → w * (s * r) + (v * r + d) ≡ (w * s + v) * r + d
 spread w s r v d = omega arith
 
 -- is a digit more after all of them
-pub append_last : (s r : ℕ) (m : Option ℕ) (v d : ℕ) → 1 ≤ r → append_digit (s * r) m (v * r + d) ≡ append_digit r (append_digit s m v) d
+pub append_last : (s r : ℕ) (m : Option ℕ) (v d : ℕ) → 1 ≤ r → append_digit (s * r) m (v * r + d)
+    ≡ append_digit r (append_digit s m v) d
 append_last s r None v d h = refl
 append_last s r (Some w) v d h = ap capped (spread w s r v d) ∙ sym (append_capped r (w * s + v) d h)
 

@@ -1,5 +1,6 @@
 -- Tests of the first character of a text, and of all.
-use Rattle.rl_grammar.proofs.Names.{◌≡◌, ◌∙◌, ◌&&◌, ℕ, Bool, true, false, List, [], ◌∷◌, ◌++◌, refl, sym, ap, list_all, first_passes}
+use Rattle.rl_grammar.proofs.Names.{◌≡◌, ◌∙◌, ◌&&◌, ℕ, Bool, true, false, List, [], ◌∷◌, ◌++◌, refl, sym, ap, list_all,
+    first_passes}
 use Rattle.std.proofs.lemmas.Bool.{and_left, and_right}
 use Rattle.std.proofs.lemmas.List.Folds.{list_all-append}
 
@@ -9,12 +10,14 @@ passes_more test [] b h = absurd (cc)
 passes_more test (c ∷ cs) b h = h
 
 -- what goes on as the text does begins as it does
-pub goes_on : (test : ℕ → Bool) (front rest t : List ℕ) (c : ℕ) (cs e : List ℕ) → t ≡ front ++ rest → rest ≡ c ∷ cs → first_passes test t ≡ false → first_passes test (front ++ (c ∷ e)) ≡ false
+pub goes_on : (test : ℕ → Bool) (front rest t : List ℕ) (c : ℕ) (cs e : List ℕ) → t ≡ front ++ rest → rest ≡ c ∷ cs
+    → first_passes test t ≡ false → first_passes test (front ++ (c ∷ e)) ≡ false
 goes_on test [] rest t c cs e a b k = sym (ap (first_passes test) (a ∙ b)) ∙ k
 goes_on test (x ∷ xs) rest t c cs e a b k = sym (ap (first_passes test) a) ∙ k
 
 -- the front of a text begins as the text does, or is empty
-pub front_passes : (test : ℕ → Bool) (front rest t : List ℕ) → t ≡ front ++ rest → first_passes test t ≡ false → first_passes test front ≡ false
+pub front_passes : (test : ℕ → Bool) (front rest t : List ℕ) → t ≡ front ++ rest → first_passes test t ≡ false
+    → first_passes test front ≡ false
 front_passes test [] rest t e h = refl
 front_passes test (x ∷ xs) rest t e h = sym (ap (first_passes test) e) ∙ h
 

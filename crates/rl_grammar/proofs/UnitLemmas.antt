@@ -1,7 +1,15 @@
 -- A unit stands at the front of a text exactly where `unit_at` gives it.
-use Rattle.rl_grammar.proofs.Names.{◌≡◌, ℕ, suc, ◌+◌, ◌*◌, ◌^◌, ◌<◌, ◌≤◌, ◌||◌, ◌&&◌, Bool, true, false, cond, eqb, ltb, List, [], ◌∷◌, ◌++◌, length, Option, Some, None, refl, sym, ap, subst, ◌∙◌, ◌⊎◌, inl, inr, arith, append_assoc, option_and_then, list_all, IsScalar, digit_value, pow-suc, scalar, and_from, and_parts, both_ways, cases_Bool, eqb-true, ltb-true, lt-ltb, ne_eqb, or_cases, or_right, Kind, Str, ByteStr, CStr, Byte, Char, Int, Float, BoolKind, first_passes, is_underscore, QuotedUnit, Letter, Plain, CrLf, Named, Hex, Unicode, Continuation, LowerN, LowerR, LowerT, Backslash, Apostrophe, Quote, Zero, letter_value, letter_text, unit_text, unit_value, unicode_value, without_underscores, place_value, content_of, hex_value, is_hex_digit, is_blank, is_line_end, is_string, is_plain, allows_code, may_be_hex, has_unicode, IsUnit, EndsBefore}
+use Rattle.rl_grammar.proofs.Names.{◌≡◌, ℕ, suc, ◌+◌, ◌*◌, ◌^◌, ◌<◌, ◌≤◌, ◌||◌, ◌&&◌, Bool, true, false, cond, eqb, ltb,
+    List, [], ◌∷◌, ◌++◌, length, Option, Some, None, refl, sym, ap, subst, ◌∙◌, ◌⊎◌, inl, inr, arith, append_assoc,
+    option_and_then, list_all, IsScalar, digit_value, pow-suc, scalar, and_from, and_parts, both_ways, cases_Bool,
+    eqb-true, ltb-true, lt-ltb, ne_eqb, or_cases, or_right, Kind, Str, ByteStr, CStr, Byte, Char, Int, Float, BoolKind,
+    first_passes, is_underscore, QuotedUnit, Letter, Plain, CrLf, Named, Hex, Unicode, Continuation, LowerN, LowerR,
+    LowerT, Backslash, Apostrophe, Quote, Zero, letter_value, letter_text, unit_text, unit_value, unicode_value,
+    without_underscores, place_value, content_of, hex_value, is_hex_digit, is_blank, is_line_end, is_string, is_plain,
+    allows_code, may_be_hex, has_unicode, IsUnit, EndsBefore}
 use Rattle.std.proofs.lemmas.Bool.Decides.{eqb_tells}
-use Rattle.rl_grammar.specs.Mirrors.UnitAt.{found, number_if, named_of, named_in, named_at, digit_at, hex_at, brace_at, unicode_at, after_blanks, escape_at, line_feed_at, unit_at}
+use Rattle.rl_grammar.specs.Mirrors.UnitAt.{found, number_if, named_of, named_in, named_at, digit_at, hex_at, brace_at,
+    unicode_at, after_blanks, escape_at, line_feed_at, unit_at}
 use Rattle.rl_grammar.proofs.CodeDigitLemmas.{unicode_digits_at, unicode_is, digit_apart}
 
 -- which way a test went
@@ -15,7 +23,8 @@ allowed_some true x y h = (refl, h)
 allowed_some false x y h = absurd (cc)
 
 -- what an option gave on
-bind_some : {A B : Type 0} (o : Option A) (f : A → Option B) (y : B) → option_and_then f o ≡ Some y → (x : A) × (o ≡ Some x) × (f x ≡ Some y)
+bind_some : {A B : Type 0} (o : Option A) (f : A → Option B) (y : B) → option_and_then f o ≡ Some y → (x : A)
+    × (o ≡ Some x) × (f x ≡ Some y)
 bind_some None f y h = absurd (cc)
 bind_some (Some x) f y h = (x, refl, h)
 
@@ -41,9 +50,11 @@ places v d k h = rw (pow-suc 16 k) (omega arith)
 value_on_digit : (v c : ℕ) (cs : List ℕ) → eqb c 95 ≡ false → value_on v (c ∷ cs) ≡ value_on (v * 16 + digit_value c) cs
 value_on_digit v c cs h =
     let f : List ℕ → ℕ = λ ds. v * 16 ^ length ds + place_value 16 ds in
-    ap f (kept_digit c cs h) ∙ places v (digit_value c) (length (without_underscores cs)) (place_value 16 (without_underscores cs))
+    ap f (kept_digit c cs h) ∙ places v (digit_value c) (length (without_underscores cs))
+        (place_value 16 (without_underscores cs))
 
-length_on_digit : (c : ℕ) (cs : List ℕ) → eqb c 95 ≡ false → length (without_underscores (c ∷ cs)) ≡ length (without_underscores cs) + 1
+length_on_digit : (c : ℕ) (cs : List ℕ) → eqb c 95 ≡ false → length (without_underscores (c ∷ cs))
+    ≡ length (without_underscores cs) + 1
 length_on_digit c cs h = ap length (kept_digit c cs h) ∙ omega arith
 
 pub record Digits (v n : ℕ) (t : List ℕ) (w : ℕ) (r : List ℕ) : Type 0 where
@@ -57,22 +68,26 @@ pub record Digits (v n : ℕ) (t : List ℕ) (w : ℕ) (r : List ℕ) : Type 0 w
 abbrev given : ℕ → List ℕ → Option (ℕ × List ℕ)
 given v cs = Some (v, cs)
 
-digits_end : (v n c w : ℕ) (cs r : List ℕ) → n ≤ 6 → eqb c 125 ≡ true → number_if (scalar v) v cs ≡ given w r → Digits v n (c ∷ cs) w r
+digits_end : (v n c w : ℕ) (cs r : List ℕ) → n ≤ 6 → eqb c 125 ≡ true → number_if (scalar v) v cs ≡ given w r
+    → Digits v n (c ∷ cs) w r
 digits_end v n c w cs r few e h =
     let a = allowed_some (scalar v) (v, cs) (w, r) h in
     let brace = eqb-true c 125 e in
     let fields = some_pair (v, cs) (w, r) a.1 in
     let same : v ≡ w = fields.0 in
     let rest : cs ≡ r = fields.1 in
-    record { more = []; each = refl; text_is = cc; few = omega arith; value_is = omega arith; is_scalar = subst IsScalar same a.0 }
+    record { more = []; each = refl; text_is = cc; few = omega arith; value_is = omega arith; is_scalar = subst IsScalar
+        same a.0 }
 
 digits_underscore : (v n c w : ℕ) (cs r : List ℕ) → eqb c 95 ≡ true → Digits v n cs w r → Digits v n (c ∷ cs) w r
 digits_underscore v n c w cs r e d =
     let underscore = eqb-true c 95 e in
     let text = d.text_is in
-    record { more = 95 ∷ d.more; each = d.each; text_is = cc; few = d.few; value_is = d.value_is; is_scalar = d.is_scalar }
+    record { more = 95 ∷ d.more; each = d.each; text_is = cc; few = d.few; value_is = d.value_is; is_scalar =
+        d.is_scalar }
 
-digits_digit : (v n c w : ℕ) (cs r : List ℕ) → eqb c 95 ≡ false → is_hex_digit c ≡ true → Digits (v * 16 + digit_value c) (n + 1) cs w r → Digits v n (c ∷ cs) w r
+digits_digit : (v n c w : ℕ) (cs r : List ℕ) → eqb c 95 ≡ false → is_hex_digit c ≡ true
+    → Digits (v * 16 + digit_value c) (n + 1) cs w r → Digits v n (c ∷ cs) w r
 digits_digit v n c w cs r e l d =
     let text = d.text_is in
     let long = length_on_digit c d.more e in
@@ -86,7 +101,8 @@ digits_digit v n c w cs r e l d =
       is_scalar = d.is_scalar;
     }
 
-digits_sound : (v n : ℕ) (t : List ℕ) (w : ℕ) (r : List ℕ) → n ≤ 6 → unicode_digits_at v n t ≡ Some (w, r) → Digits v n t w r
+digits_sound : (v n : ℕ) (t : List ℕ) (w : ℕ) (r : List ℕ) → n ≤ 6 → unicode_digits_at v n t ≡ Some (w, r)
+    → Digits v n t w r
 unfolding unicode_digits_at
 digits_sound v n [] w r few h = absurd (cc)
 digits_sound v n (c ∷ cs) w r few h =
@@ -101,7 +117,8 @@ digits_sound v n (c ∷ cs) w r few h =
           | inl d ↦
               let tests = and_parts (is_hex_digit c) (ltb n 6) d.0 in
               let room : n < 6 = ltb-true n 6 tests.1 in
-              digits_digit v n c w cs r b.0 tests.0 (digits_sound (v * 16 + digit_value c) (n + 1) cs w r (omega arith) d.1)
+              digits_digit v n c w cs r b.0 tests.0 (digits_sound (v * 16 + digit_value c) (n + 1) cs w r (omega arith)
+                  d.1)
           | inr d ↦ absurd (cc)
         ]
       ]
@@ -115,7 +132,8 @@ underscore_at : (v n : ℕ) (t : List ℕ) → unicode_digits_at v n (95 ∷ t) 
 unfolding unicode_digits_at
 underscore_at v n t = refl
 
-digit_step : (v n c : ℕ) (t : List ℕ) → is_hex_digit c ≡ true → n < 6 → unicode_digits_at v n (c ∷ t) ≡ unicode_digits_at (v * 16 + digit_value c) (n + 1) t
+digit_step : (v n c : ℕ) (t : List ℕ) → is_hex_digit c ≡ true → n < 6 → unicode_digits_at v n (c ∷ t)
+    ≡ unicode_digits_at (v * 16 + digit_value c) (n + 1) t
 unfolding unicode_digits_at
 digit_step v n c t h room =
     let no_underscore = digit_apart c 95 h refl in
@@ -123,7 +141,8 @@ digit_step v n c t h room =
     let few : ltb n 6 ≡ true = lt-ltb n 6 room in
     rw (no_brace, no_underscore, h, few) refl
 
-digits_complete : (v n : ℕ) (more r : List ℕ) → list_all is_more more ≡ true → n + length (without_underscores more) ≤ 6 → IsScalar (value_on v more) → unicode_digits_at v n (more ++ (125 ∷ r)) ≡ Some (value_on v more, r)
+digits_complete : (v n : ℕ) (more r : List ℕ) → list_all is_more more ≡ true → n + length (without_underscores more) ≤ 6
+    → IsScalar (value_on v more) → unicode_digits_at v n (more ++ (125 ∷ r)) ≡ Some (value_on v more, r)
 digits_complete v n [] r each few s =
     let same : v * 1 + 0 ≡ v = omega arith in
     rw same (end_at v n r (subst IsScalar same s))
@@ -135,12 +154,15 @@ digits_complete v n (c ∷ cs) r each few s =
           let Fits : ℕ → Type 0 = λ x. n + length (without_underscores (x ∷ cs)) ≤ 6 in
           let Scalar : ℕ → Type 0 = λ x. IsScalar (value_on v (x ∷ cs)) in
           let Goal : ℕ → Type 0 = λ x. unicode_digits_at v n (x ∷ (cs ++ (125 ∷ r))) ≡ Some (value_on v (x ∷ cs), r) in
-          subst Goal (sym is) (underscore_at v n (cs ++ (125 ∷ r)) ∙ digits_complete v n cs r parts.1 (subst Fits is few) (subst Scalar is s))
+          subst Goal (sym is) (underscore_at v n (cs ++ (125 ∷ r))
+              ∙ digits_complete v n cs r parts.1 (subst Fits is few) (subst Scalar is s))
       | inr digit ↦
           let no_underscore = digit_apart c 95 digit refl in
           let long = length_on_digit c cs no_underscore in
           let value = value_on_digit v c cs no_underscore in
-          digit_step v n c (cs ++ (125 ∷ r)) digit (omega (arith, few)) ∙ digits_complete (v * 16 + digit_value c) (n + 1) cs r parts.1 (omega (arith, few)) (subst IsScalar value s) ∙ ap (λ w. Some (w, r)) (sym value)
+          digit_step v n c (cs ++ (125 ∷ r)) digit (omega (arith, few))
+              ∙ digits_complete (v * 16 + digit_value c) (n + 1) cs r parts.1 (omega (arith, few))
+              (subst IsScalar value s) ∙ ap (λ w. Some (w, r)) (sym value)
     ]
 
 -- ---- a digit, and two of them
@@ -175,7 +197,8 @@ hex_sound kind t p h =
     let value = b.0.0 * 16 + d.0.0 in
     let a = allowed_some (may_be_hex kind value) (value, d.0.1) p d.2 in
     let fields = some_pair (value, d.0.1) p a.1 in
-    let same : value ≡ hex_value high.0 low.0 = ap (λ x. x * 16 + d.0.0) high.3 ∙ ap (λ x. digit_value high.0 * 16 + x) low.3 ∙ two_digits (digit_value high.0) (digit_value low.0) in
+    let same : value ≡ hex_value high.0 low.0 = ap (λ x. x * 16 + d.0.0) high.3
+        ∙ ap (λ x. digit_value high.0 * 16 + x) low.3 ∙ two_digits (digit_value high.0) (digit_value low.0) in
     record {
       high = high.0;
       low = low.0;
@@ -184,13 +207,15 @@ hex_sound kind t p h =
       value_is = sym fields.0 ∙ same;
     }
 
-hex_complete : (kind : Kind) (high low : ℕ) (r : List ℕ) → IsUnit kind (Hex high low) → hex_at kind (high ∷ low ∷ r) ≡ Some (hex_value high low, r)
+hex_complete : (kind : Kind) (high low : ℕ) (r : List ℕ) → IsUnit kind (Hex high low) → hex_at kind (high ∷ low ∷ r)
+    ≡ Some (hex_value high low, r)
 unfolding hex_at
 hex_complete kind high low r u =
     let a : is_hex_digit high ≡ true = u.0 in
     let b : is_hex_digit low ≡ true = u.1 in
     let same = two_digits (digit_value high) (digit_value low) in
-    let c : may_be_hex kind (digit_value high * 16 + digit_value low) ≡ true = subst (λ x. may_be_hex kind x ≡ true) (sym same) u.2 in
+    let c : may_be_hex kind (digit_value high * 16 + digit_value low)
+        ≡ true = subst (λ x. may_be_hex kind x ≡ true) (sym same) u.2 in
     rw (a, b, c) (ap (λ w. Some (w, r)) same)
 
 -- ---- an escape by its number
@@ -210,19 +235,23 @@ brace_sound (c ∷ cs) r h =
     let rest = a.1 in
     cc
 
-value_first : (first : ℕ) (more : List ℕ) → is_hex_digit first ≡ true → value_on (digit_value first) more ≡ unicode_value first more
+value_first : (first : ℕ) (more : List ℕ) → is_hex_digit first ≡ true → value_on (digit_value first) more
+    ≡ unicode_value first more
 value_first first more h = ap (place_value 16) (sym (kept_digit first more (digit_apart first 95 h refl)))
 
-unicode_built : (kind : Kind) (t b d r : List ℕ) (c v w : ℕ) → t ≡ 123 ∷ b → b ≡ c ∷ d → is_hex_digit c ≡ true → v ≡ digit_value c → Digits v 1 d w r → (has_unicode kind && allows_code kind w) ≡ true → UnicodeAt kind t w r
+unicode_built : (kind : Kind) (t b d r : List ℕ) (c v w : ℕ) → t ≡ 123 ∷ b → b ≡ c ∷ d → is_hex_digit c ≡ true → v
+    ≡ digit_value c → Digits v 1 d w r → (has_unicode kind && allows_code kind w) ≡ true → UnicodeAt kind t w r
 unicode_built kind t b d r c v w brace first digit v_is more allowed =
     let tests = and_parts (has_unicode kind) (allows_code kind w) allowed in
     let long = length_on_digit c more.more (digit_apart c 95 digit refl) in
     let fits = more.few in
-    let value : w ≡ unicode_value c more.more = more.value_is ∙ ap (λ x. value_on x more.more) v_is ∙ value_first c more.more digit in
+    let value : w ≡ unicode_value c more.more = more.value_is ∙ ap (λ x. value_on x more.more) v_is
+        ∙ value_first c more.more digit in
     record {
       first = c;
       more = more.more;
-      allowed = (tests.0, digit, more.each, rw long (omega arith), subst IsScalar value more.is_scalar, subst (λ x. allows_code kind x ≡ true) value tests.1);
+      allowed = (tests.0, digit, more.each, rw long (omega arith), subst IsScalar value more.is_scalar, subst
+          (λ x. allows_code kind x ≡ true) value tests.1);
       text_is = brace ∙ ap (λ x. 123 ∷ x) (first ∙ ap (λ x. c ∷ x) more.text_is);
       value_is = value;
     }
@@ -236,33 +265,40 @@ unicode_sound kind t p h =
     let a = allowed_some (has_unicode kind && allows_code kind e.0.0) e.0 p e.2 in
     let fields = some_pair e.0 p a.1 in
     let more = digits_sound d.0.0 1 d.0.1 e.0.0 e.0.1 (omega arith) e.1 in
-    let built = unicode_built kind t b.0 d.0.1 e.0.1 first.0 d.0.0 e.0.0 (brace_sound t b.0 b.1) first.1 first.2 first.3 more a.0 in
+    let built = unicode_built kind t b.0 d.0.1 e.0.1 first.0 d.0.0 e.0.0 (brace_sound t b.0 b.1) first.1 first.2 first.3
+        more a.0 in
     subst (λ w. UnicodeAt kind t w p.1) fields.0 (subst (UnicodeAt kind t e.0.0) fields.1 built)
 
-unicode_complete : (kind : Kind) (first : ℕ) (more r : List ℕ) → IsUnit kind (Unicode first more) → unicode_at kind (123 ∷ first ∷ (more ++ (125 ∷ r))) ≡ Some (unicode_value first more, r)
+unicode_complete : (kind : Kind) (first : ℕ) (more r : List ℕ) → IsUnit kind (Unicode first more)
+    → unicode_at kind (123 ∷ first ∷ (more ++ (125 ∷ r))) ≡ Some (unicode_value first more, r)
 unicode_complete kind first more r u =
     let a : is_hex_digit first ≡ true = u.1 in
     let long = length_on_digit first more (digit_apart first 95 u.1 refl) in
     let value = value_first first more u.1 in
     let few : length (without_underscores (first ∷ more)) ≤ 6 = u.3 in
-    let digits : unicode_digits_at (digit_value first) 1 (more ++ (125 ∷ r)) ≡ Some (unicode_value first more, r) = digits_complete (digit_value first) 1 more r u.2 (omega arith) (subst IsScalar (sym value) u.4) ∙ ap (λ w. Some (w, r)) value in
+    let digits : unicode_digits_at (digit_value first) 1 (more ++ (125 ∷ r))
+        ≡ Some (unicode_value first more, r) = digits_complete (digit_value first) 1 more r u.2 (omega arith)
+        (subst IsScalar (sym value) u.4) ∙ ap (λ w. Some (w, r)) value in
     let has : has_unicode kind ≡ true = u.0 in
     let holds : allows_code kind (unicode_value first more) ≡ true = u.5 in
     unicode_is kind (123 ∷ first ∷ (more ++ (125 ∷ r))) ∙ rw (a, digits, has, holds) refl
 
 -- ---- blanks
 
-blanks_sound : (t : List ℕ) → (run : List ℕ) × (list_all is_blank run ≡ true) × (t ≡ run ++ after_blanks t) × (first_passes is_blank (after_blanks t) ≡ false)
+blanks_sound : (t : List ℕ) → (run : List ℕ) × (list_all is_blank run ≡ true) × (t ≡ run ++ after_blanks t)
+    × (first_passes is_blank (after_blanks t) ≡ false)
 unfolding after_blanks
 blanks_sound [] = ([], refl, refl, refl)
 blanks_sound (c ∷ cs) =
     let rest = blanks_sound cs in
     elim (cases_Bool (is_blank c)) [
-      | inl b ↦ rw b (c ∷ rest.0, and_from (is_blank c) (list_all is_blank rest.0) b rest.1, ap (λ x. c ∷ x) rest.2, rest.3)
+      | inl b ↦ rw b (c ∷ rest.0, and_from (is_blank c) (list_all is_blank rest.0) b rest.1, ap (λ x. c ∷ x) rest.2,
+          rest.3)
       | inr b ↦ rw b ([], refl, refl, b)
     ]
 
-blanks_complete : (run r : List ℕ) → list_all is_blank run ≡ true → first_passes is_blank r ≡ false → after_blanks (run ++ r) ≡ r
+blanks_complete : (run r : List ℕ) → list_all is_blank run ≡ true → first_passes is_blank r ≡ false
+    → after_blanks (run ++ r) ≡ r
 unfolding after_blanks
 blanks_complete [] [] each ends = refl
 blanks_complete [] (c ∷ cs) each ends = rw ends refl
@@ -292,7 +328,8 @@ letter_sound c n h =
                                   elim (eqb_tells c 34) [
                                     | inl i ↦ (Quote, i.1, let g = rw i.0 at h5 in cc)
                                     | inr i ↦ let h6 = rw i.0 at h5 in
-                                        elim (eqb_tells c 48) [ inl j ↦ (Zero, j.1, let g = rw j.0 at h6 in cc) | inr j ↦ let h7 = rw j.0 at h6 in absurd (cc) ]
+                                        elim (eqb_tells c 48) [ inl j ↦ (Zero, j.1, let g = rw j.0 at h6 in cc) | inr j
+                                            ↦ let h7 = rw j.0 at h6 in absurd (cc) ]
                                   ]
                             ]
                       ]
@@ -317,7 +354,8 @@ holds_more ByteStr n h = refl
 holds_more CStr n h = rw h refl
 holds_more kind n h = refl
 
-named_sound : (kind : Kind) (c : ℕ) (cs : List ℕ) (p : List ℕ × List ℕ) → named_at kind c cs ≡ Some p → Begins kind (92 ∷ c ∷ cs) p.0 p.1
+named_sound : (kind : Kind) (c : ℕ) (cs : List ℕ) (p : List ℕ × List ℕ) → named_at kind c cs ≡ Some p
+    → Begins kind (92 ∷ c ∷ cs) p.0 p.1
 named_sound kind c cs p h =
     let i = bind_some (named_in kind c) _ p h in
     let o = bind_some (named_of c) _ i.0 i.1 in
@@ -333,7 +371,8 @@ named_sound kind c cs p h =
       value_is = sym fields.0 ∙ ap (λ w. w ∷ []) (sym same ∙ at.2);
     }
 
-continuation_sound : (kind : Kind) (c : ℕ) (cs : List ℕ) (p : List ℕ × List ℕ) → is_line_end c ≡ true → cond (is_string kind) (found [] (after_blanks cs)) None ≡ Some p → Begins kind (92 ∷ c ∷ cs) p.0 p.1
+continuation_sound : (kind : Kind) (c : ℕ) (cs : List ℕ) (p : List ℕ × List ℕ) → is_line_end c ≡ true
+    → cond (is_string kind) (found [] (after_blanks cs)) None ≡ Some p → Begins kind (92 ∷ c ∷ cs) p.0 p.1
 continuation_sound kind c cs p l h =
     let a = allowed_some (is_string kind) ([], after_blanks cs) p h in
     let blanks = blanks_sound cs in
@@ -346,7 +385,8 @@ continuation_sound kind c cs p l h =
       value_is = sym fields.0;
     }
 
-hex_begins : (kind : Kind) (c : ℕ) (cs : List ℕ) (p : List ℕ × List ℕ) → eqb c 120 ≡ true → option_and_then (λ q. found (q.0 ∷ []) q.1) (hex_at kind cs) ≡ Some p → Begins kind (92 ∷ c ∷ cs) p.0 p.1
+hex_begins : (kind : Kind) (c : ℕ) (cs : List ℕ) (p : List ℕ × List ℕ) → eqb c 120 ≡ true
+    → option_and_then (λ q. found (q.0 ∷ []) q.1) (hex_at kind cs) ≡ Some p → Begins kind (92 ∷ c ∷ cs) p.0 p.1
 hex_begins kind c cs p e h =
     let b = bind_some (hex_at kind cs) _ p h in
     let at = hex_sound kind cs b.0 b.1 in
@@ -355,11 +395,14 @@ hex_begins kind c cs p e h =
       unit = Hex at.high at.low;
       allowed = at.allowed;
       ends = tt;
-      text_is = ap (λ x. 92 ∷ x ∷ cs) (eqb-true c 120 e) ∙ ap (λ x. 92 ∷ 120 ∷ x) (at.text_is ∙ ap (λ x. at.high ∷ at.low ∷ x) fields.1);
+      text_is = ap (λ x. 92 ∷ x ∷ cs) (eqb-true c 120 e) ∙ ap (λ x. 92 ∷ 120 ∷ x)
+          (at.text_is ∙ ap (λ x. at.high ∷ at.low ∷ x) fields.1);
       value_is = sym fields.0 ∙ ap (λ w. w ∷ []) at.value_is;
     }
 
-unicode_begins : (kind : Kind) (c : ℕ) (cs : List ℕ) (p : List ℕ × List ℕ) → eqb c 117 ≡ true → option_and_then (λ q. found (content_of kind (q.0 ∷ [])) q.1) (unicode_at kind cs) ≡ Some p → Begins kind (92 ∷ c ∷ cs) p.0 p.1
+unicode_begins : (kind : Kind) (c : ℕ) (cs : List ℕ) (p : List ℕ × List ℕ) → eqb c 117 ≡ true
+    → option_and_then (λ q. found (content_of kind (q.0 ∷ [])) q.1) (unicode_at kind cs) ≡ Some p
+    → Begins kind (92 ∷ c ∷ cs) p.0 p.1
 unicode_begins kind c cs p e h =
     let o = bind_some (unicode_at kind cs) _ p h in
     let at = unicode_sound kind cs o.0 o.1 in
@@ -368,11 +411,14 @@ unicode_begins kind c cs p e h =
       unit = Unicode at.first at.more;
       allowed = at.allowed;
       ends = tt;
-      text_is = ap (λ x. 92 ∷ x ∷ cs) (eqb-true c 117 e) ∙ ap (λ x. 92 ∷ 117 ∷ x) (at.text_is ∙ ap (λ x. 123 ∷ at.first ∷ (at.more ++ (125 ∷ x))) fields.1 ∙ ap (λ x. 123 ∷ at.first ∷ x) (sym (append_assoc at.more (125 ∷ []) p.1)));
+      text_is = ap (λ x. 92 ∷ x ∷ cs) (eqb-true c 117 e) ∙ ap (λ x. 92 ∷ 117 ∷ x)
+          (at.text_is ∙ ap (λ x. 123 ∷ at.first ∷ (at.more ++ (125 ∷ x))) fields.1
+          ∙ ap (λ x. 123 ∷ at.first ∷ x) (sym (append_assoc at.more (125 ∷ []) p.1)));
       value_is = sym fields.0 ∙ ap (λ w. content_of kind (w ∷ [])) at.value_is;
     }
 
-escape_sound : (kind : Kind) (t : List ℕ) (p : List ℕ × List ℕ) → escape_at kind t ≡ Some p → Begins kind (92 ∷ t) p.0 p.1
+escape_sound : (kind : Kind) (t : List ℕ) (p : List ℕ × List ℕ) → escape_at kind t ≡ Some p
+    → Begins kind (92 ∷ t) p.0 p.1
 unfolding escape_at
 escape_sound kind [] p h = absurd (cc)
 escape_sound kind (c ∷ cs) p h =
@@ -391,7 +437,8 @@ escape_sound kind (c ∷ cs) p h =
       ]
     ]
 
-line_feed_sound : (kind : Kind) (t : List ℕ) (p : List ℕ × List ℕ) → line_feed_at kind t ≡ Some p → Begins kind (13 ∷ t) p.0 p.1
+line_feed_sound : (kind : Kind) (t : List ℕ) (p : List ℕ × List ℕ) → line_feed_at kind t ≡ Some p
+    → Begins kind (13 ∷ t) p.0 p.1
 line_feed_sound kind [] p h = absurd (cc)
 line_feed_sound kind (c ∷ cs) p h =
     let a = allowed_some (is_string kind && eqb c 10) (10 ∷ [], cs) p h in
@@ -416,7 +463,8 @@ unit_sound kind (c ∷ cs) p h =
       | inr a ↦ elim (chosen (is_plain kind c) plain last (Some p) a.1) [
         | inl b ↦
             let fields = some_pair (content_of kind (c ∷ []), cs) p b.1 in
-            record { unit = Plain c; allowed = b.0; ends = tt; text_is = ap (λ x. c ∷ x) fields.1; value_is = sym fields.0 }
+            record { unit = Plain c; allowed = b.0; ends = tt; text_is = ap (λ x. c ∷ x) fields.1; value_is = sym
+                fields.0 }
         | inr b ↦ elim (chosen (eqb c 13) (line_feed_at kind cs) None (Some p) b.1) [
           | inl d ↦ subst (λ x. Begins kind (x ∷ cs) p.0 p.1) (sym (eqb-true c 13 d.0)) (line_feed_sound kind cs p d.1)
           | inr d ↦ absurd (cc)
@@ -442,17 +490,20 @@ quote_and_return ByteStr h = (refl, refl)
 quote_and_return CStr h = (refl, refl)
 quote_and_return kind h = absurd (cc)
 
-pub plain_complete : (kind : Kind) (c : ℕ) (r : List ℕ) → is_plain kind c ≡ true → unit_at kind (c ∷ r) ≡ found (content_of kind (c ∷ [])) r
+pub plain_complete : (kind : Kind) (c : ℕ) (r : List ℕ) → is_plain kind c ≡ true → unit_at kind (c ∷ r)
+    ≡ found (content_of kind (c ∷ [])) r
 unfolding unit_at
 plain_complete kind c r h =
-    let no_backslash : eqb c 92 ≡ false = ne_eqb c 92 (λ e. both_ways (is_plain kind 92) (backslash_not_plain kind) (subst (λ x. is_plain kind x ≡ true) e h)) in
+    let no_backslash : eqb c 92 ≡ false = ne_eqb c 92 (λ e. both_ways (is_plain kind 92) (backslash_not_plain kind)
+        (subst (λ x. is_plain kind x ≡ true) e h)) in
     rw (no_backslash, h) refl
 
 pub crlf_complete : (kind : Kind) (r : List ℕ) → is_string kind ≡ true → unit_at kind (13 ∷ 10 ∷ r) ≡ found (10 ∷ []) r
 unfolding unit_at
 crlf_complete kind r h = rw ((quote_and_return kind h).1, h) refl
 
-named_complete : (kind : Kind) (l : Letter) (r : List ℕ) → allows_code kind (letter_value l) ≡ true → unit_at kind (92 ∷ letter_text l ∷ r) ≡ found (letter_value l ∷ []) r
+named_complete : (kind : Kind) (l : Letter) (r : List ℕ) → allows_code kind (letter_value l) ≡ true
+    → unit_at kind (92 ∷ letter_text l ∷ r) ≡ found (letter_value l ∷ []) r
 unfolding unit_at escape_at
 named_complete kind LowerN r h = rw h refl
 named_complete kind LowerR r h = rw h refl
@@ -462,24 +513,28 @@ named_complete kind Apostrophe r h = rw h refl
 named_complete kind Quote r h = rw h refl
 named_complete kind Zero r h = rw h refl
 
-continuation_complete : (kind : Kind) (c : ℕ) (run r : List ℕ) → IsUnit kind (Continuation c run) → first_passes is_blank r ≡ false → unit_at kind (92 ∷ c ∷ (run ++ r)) ≡ found [] r
+continuation_complete : (kind : Kind) (c : ℕ) (run r : List ℕ) → IsUnit kind (Continuation c run)
+    → first_passes is_blank r ≡ false → unit_at kind (92 ∷ c ∷ (run ++ r)) ≡ found [] r
 unfolding unit_at escape_at
 continuation_complete kind c run r u ends =
     let At : ℕ → Type 0 = λ x. unit_at kind (92 ∷ x ∷ (run ++ r)) ≡ found [] r in
     let skip : Bool → Option (List ℕ × List ℕ) = λ b. cond b (found [] (after_blanks (run ++ r))) None in
-    let skipped : skip (is_string kind) ≡ found [] r = ap skip u.0 ∙ ap (λ x. found [] x) (blanks_complete run r u.2 ends) in
+    let skipped : skip (is_string kind) ≡ found [] r = ap skip u.0
+        ∙ ap (λ x. found [] x) (blanks_complete run r u.2 ends) in
     elim (or_cases (eqb c 10) (eqb c 13) u.1) [
       | inl a ↦ subst At (sym (eqb-true c 10 a)) skipped
       | inr a ↦ subst At (sym (eqb-true c 13 a)) skipped
     ]
 
-pub unit_complete : (kind : Kind) (u : QuotedUnit) (r : List ℕ) → IsUnit kind u → EndsBefore u r → unit_at kind (unit_text u ++ r) ≡ found (unit_value kind u) r
+pub unit_complete : (kind : Kind) (u : QuotedUnit) (r : List ℕ) → IsUnit kind u → EndsBefore u r
+    → unit_at kind (unit_text u ++ r) ≡ found (unit_value kind u) r
 unfolding unit_at escape_at
 unit_complete kind (Plain c) r allowed ends = plain_complete kind c r allowed
 unit_complete kind CrLf r allowed ends = crlf_complete kind r allowed
 unit_complete kind (Named l) r allowed ends = named_complete kind l r allowed
 unit_complete kind (Hex high low) r allowed ends = rw (hex_complete kind high low r allowed) refl
-unit_complete kind (Unicode first more) r allowed ends = rw (append_assoc more (125 ∷ []) r, unicode_complete kind first more r allowed) refl
+unit_complete kind (Unicode first more) r allowed ends = rw (append_assoc more (125 ∷ []) r, unicode_complete kind first
+    more r allowed) refl
 unit_complete kind (Continuation c run) r allowed ends = continuation_complete kind c run r allowed ends
 
 -- no unit of a string begins with its quote, and none of any kind at the end

@@ -1,5 +1,6 @@
 -- Texts that a string literal holds as they stand.
-use Rattle.std.proofs.Common.{◌≡◌, ℕ, ◌<◌, Bool, true, false, nat_lt, eqb, List, [], ◌∷◌, ◌++◌, length, refl, sym, ap, ◌∙◌, append_assoc, arith}
+use Rattle.std.proofs.Common.{◌≡◌, ℕ, ◌<◌, Bool, true, false, nat_lt, eqb, List, [], ◌∷◌, ◌++◌, length, refl, sym, ap,
+    ◌∙◌, append_assoc, arith}
 use Rattle.std.specs.Prelude.{codes, not, ◌&&◌, ◌==◌, map, if◌then◌else◌}
 use Rattle.std.specs.List.{list_all, All}
 use Rattle.std.specs.Str.{chars, IsAscii}
@@ -27,8 +28,10 @@ skipped test x y h = rw h refl
 bare_unit : (c : ℕ) → is_bare c ≡ true → written_unit Str c ≡ Plain c
 unfolding written_unit
 bare_unit c h =
-    skipped (c == 0) _ _ (grind (arith, nat_tests)) ∙ skipped (c == 9) _ _ (grind (arith, nat_tests)) ∙ skipped (c == 10) _ _ (grind (arith, nat_tests)) ∙ skipped (c == 13) _ _ (grind (arith, nat_tests))
-    ∙ skipped (c == 92) _ _ (grind (arith, nat_tests)) ∙ skipped (c == 34) _ _ (grind (arith, nat_tests)) ∙ skipped (is_written_as_number Str c) _ _ (grind (arith, nat_tests))
+    skipped (c == 0) _ _ (grind (arith, nat_tests)) ∙ skipped (c == 9) _ _ (grind (arith, nat_tests))
+        ∙ skipped (c == 10) _ _ (grind (arith, nat_tests)) ∙ skipped (c == 13) _ _ (grind (arith, nat_tests))
+    ∙ skipped (c == 92) _ _ (grind (arith, nat_tests)) ∙ skipped (c == 34) _ _ (grind (arith, nat_tests))
+        ∙ skipped (is_written_as_number Str c) _ _ (grind (arith, nat_tests))
 
 bare_units : (cs : List ℕ) → list_all is_bare cs ≡ true → texts (map (written_unit Str) cs) ≡ cs
 bare_units [] h = refl
@@ -56,10 +59,14 @@ no_suffix [] h = chars-nil
 no_suffix (c ∷ cs) h = absurd (let e = eqb-true (length (c ∷ cs)) 0 h in omega arith)
 
 -- the line of a bare text with no suffix: its front, the text, and its end
-pub bare_line : (a b d e text suffix : List ℕ) → list_all is_bare text ≡ true → eqb (length suffix) 0 ≡ true → b ≡ a ++ chars (codes "Str \"") → d ≡ b ++ chars text → e ≡ d ++ chars (codes "\" -\n") → e ≡ a ++ literal_line Str (Characters (chars text)) (chars suffix)
+pub bare_line : (a b d e text suffix : List ℕ) → list_all is_bare text ≡ true → eqb (length suffix) 0 ≡ true → b ≡ a
+    ++ chars (codes "Str \"") → d ≡ b ++ chars text → e ≡ d ++ chars (codes "\" -\n") → e ≡ a
+    ++ literal_line Str (Characters (chars text)) (chars suffix)
 bare_line a b d e text suffix bare none p q r =
     let same : chars text ≡ text = chars-IsAscii text (IsAscii-from_all text (bare_low text bare)) in
     let units : texts (map (written_unit Str) (chars text)) ≡ chars text = rw same (bare_units text bare) in
-    let pieces : e ≡ ((a ++ codes "Str \"") ++ chars text) ++ codes "\" -\n" = r ∙ ap (λ z. d ++ z) end ∙ ap (λ z. z ++ codes "\" -\n") (q ∙ ap (λ z. z ++ chars text) (p ∙ ap (λ z. a ++ z) front)) in
-    rw (units, no_suffix suffix none) (pieces ∙ append_assoc (a ++ codes "Str \"") (chars text) (codes "\" -\n") ∙ append_assoc a (codes "Str \"") (chars text ++ codes "\" -\n")
+    let pieces : e ≡ ((a ++ codes "Str \"") ++ chars text) ++ codes "\" -\n" = r ∙ ap (λ z. d ++ z) end
+        ∙ ap (λ z. z ++ codes "\" -\n") (q ∙ ap (λ z. z ++ chars text) (p ∙ ap (λ z. a ++ z) front)) in
+    rw (units, no_suffix suffix none) (pieces ∙ append_assoc (a ++ codes "Str \"") (chars text) (codes "\" -\n")
+        ∙ append_assoc a (codes "Str \"") (chars text ++ codes "\" -\n")
     ∙ ap (λ z. a ++ (codes "Str \"" ++ z)) (sym (append_assoc (chars text) (34 ∷ []) (codes " -\n"))))

@@ -1,5 +1,6 @@
 -- Pairs of digits, one after another.
-use Rattle.std.proofs.Common.{◌≡◌, ℕ, ◌<◌, ◌&&◌, true, false, List, [], ◌∷◌, ◌++◌, length, Option, Some, None, refl, sym, ◌∙◌, ap, eqb, append_assoc, arith}
+use Rattle.std.proofs.Common.{◌≡◌, ℕ, ◌<◌, ◌&&◌, true, false, List, [], ◌∷◌, ◌++◌, length, Option, Some, None, refl,
+    sym, ◌∙◌, ap, eqb, append_assoc, arith}
 use Rattle.std.specs.Prelude.{IsTrue, IsFalse}
 use Rattle.std.proofs.lemmas.List.{append-nil}
 use Rattle.std.proofs.lemmas.Bool.{eqb-true}
@@ -11,29 +12,39 @@ pub no_front : (x : Option (List ℕ)) → x ≡ with_front [] x
 no_front (Some bytes) = refl
 no_front None = refl
 
-front_twice : (a : List ℕ) (b : ℕ) (x : Option (List ℕ)) → with_front a (with_front (b ∷ []) x) ≡ with_front (a ++ (b ∷ [])) x
+front_twice : (a : List ℕ) (b : ℕ) (x : Option (List ℕ)) → with_front a (with_front (b ∷ []) x)
+    ≡ with_front (a ++ (b ∷ [])) x
 front_twice a b (Some bytes) = ap Some (sym (append_assoc a (b ∷ []) bytes))
 front_twice a b None = refl
 
 -- one pair more
-pub front_grows : (digits rest following bytes : List ℕ) (high low byte : ℕ) → bytes_of digits ≡ with_front bytes (bytes_of rest) → rest ≡ high ∷ low ∷ following → byte ≡ hex_value high low → IsTrue (is_hex_digit high && is_hex_digit low) → bytes_of digits ≡ with_front (bytes ++ (byte ∷ [])) (bytes_of following)
+pub front_grows : (digits rest following bytes : List ℕ) (high low byte : ℕ) → bytes_of digits
+    ≡ with_front bytes (bytes_of rest) → rest ≡ high ∷ low ∷ following → byte ≡ hex_value high low
+    → IsTrue (is_hex_digit high && is_hex_digit low) → bytes_of digits
+    ≡ with_front (bytes ++ (byte ∷ [])) (bytes_of following)
 front_grows digits rest following bytes high low byte h r b t =
-    let step : bytes_of (high ∷ low ∷ following) ≡ with_front (hex_value high low ∷ []) (bytes_of following) = rw t refl in
-    h ∙ ap (λ z. with_front bytes (bytes_of z)) r ∙ ap (with_front bytes) step ∙ ap (λ z. with_front bytes (with_front (z ∷ []) (bytes_of following))) (sym b) ∙ front_twice bytes byte (bytes_of following)
+    let step : bytes_of (high ∷ low ∷ following) ≡ with_front (hex_value high low ∷ []) (bytes_of following) = rw t refl
+        in
+    h ∙ ap (λ z. with_front bytes (bytes_of z)) r ∙ ap (with_front bytes) step
+        ∙ ap (λ z. with_front bytes (with_front (z ∷ []) (bytes_of following))) (sym b)
+        ∙ front_twice bytes byte (bytes_of following)
 
 -- a pair that is none
-pub no_pair : (digits rest following bytes : List ℕ) (high low : ℕ) → bytes_of digits ≡ with_front bytes (bytes_of rest) → rest ≡ high ∷ low ∷ following → IsFalse (is_hex_digit high && is_hex_digit low) → None ≡ bytes_of digits
+pub no_pair : (digits rest following bytes : List ℕ) (high low : ℕ) → bytes_of digits ≡ with_front bytes (bytes_of rest)
+    → rest ≡ high ∷ low ∷ following → IsFalse (is_hex_digit high && is_hex_digit low) → None ≡ bytes_of digits
 no_pair digits rest following bytes high low h r f =
     let step : bytes_of (high ∷ low ∷ following) ≡ None = rw f refl in
     sym (h ∙ ap (λ z. with_front bytes (bytes_of z)) r ∙ ap (with_front bytes) step)
 
 -- the end
-pub whole : (digits rest bytes : List ℕ) → bytes_of digits ≡ with_front bytes (bytes_of rest) → eqb (length rest) 0 ≡ true → Some bytes ≡ bytes_of digits
+pub whole : (digits rest bytes : List ℕ) → bytes_of digits ≡ with_front bytes (bytes_of rest) → eqb (length rest) 0
+    ≡ true → Some bytes ≡ bytes_of digits
 whole digits [] bytes h e = sym (h ∙ ap Some (append-nil bytes))
 whole digits (c ∷ rest) bytes h e = absurd (let n = eqb-true (length (c ∷ rest)) 0 e in omega arith)
 
 -- one digit is left
-pub odd : (digits rest bytes : List ℕ) → bytes_of digits ≡ with_front bytes (bytes_of rest) → eqb (length rest) 0 ≡ false → length rest < 2 → None ≡ bytes_of digits
+pub odd : (digits rest bytes : List ℕ) → bytes_of digits ≡ with_front bytes (bytes_of rest) → eqb (length rest) 0
+    ≡ false → length rest < 2 → None ≡ bytes_of digits
 odd digits [] bytes h e n = absurd (cc)
 odd digits (c ∷ []) bytes h e n = sym h
 odd digits (c ∷ d ∷ rest) bytes h e n = absurd (omega arith)

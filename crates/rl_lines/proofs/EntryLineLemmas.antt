@@ -13,7 +13,8 @@ use Rattle.rl_attributes.specs.Entries.{attributes_of, IsReadEntry}
 use Rattle.rl_lines.specs.EntryLines.{AreAttributeLines, ShowsAttributes, IsLineOfEntry, AreLinesOfEntries}
 
 -- a name, a space and a line at the end
-pub entry_pushed : {A : Type 0} (entry : Entry A) (name a b c d : List ℕ) → name ≡ string_bytes entry.name → b ≡ a ++ chars name → c ≡ b ++ chars (32 ∷ []) → Appends (IsLineOfLit entry.value) c d → Appends (IsLineOfEntry entry) a d
+pub entry_pushed : {A : Type 0} (entry : Entry A) (name a b c d : List ℕ) → name ≡ string_bytes entry.name → b ≡ a
+    ++ chars name → c ≡ b ++ chars (32 ∷ []) → Appends (IsLineOfLit entry.value) c d → Appends (IsLineOfEntry entry) a d
 entry_pushed entry name a b c d e p q (line, prints, r) = (
   chars name ++ (32 ∷ line),
   (line, prints, ap (λ z. chars z ++ (32 ∷ line)) e),
@@ -23,12 +24,17 @@ entry_pushed entry name a b c d e p q (line, prints, r) = (
 )
 
 -- the lines of entries that were read are those of their attributes
-lines_of_attributes : {A : Type 0} (es : List (Entry A)) (shown : List ℕ) → All IsReadEntry es → AreLinesOfEntries es shown → AreAttributeLines (attributes_of es) shown
+lines_of_attributes : {A : Type 0} (es : List (Entry A)) (shown : List ℕ) → All IsReadEntry es
+    → AreLinesOfEntries es shown → AreAttributeLines (attributes_of es) shown
 lines_of_attributes [] shown read e = e
 lines_of_attributes (x ∷ es) shown read (first, others, (line, p, b), h, e) =
-    let is : IsLineOf (chars (token_of x.value).text) line = line_of_text (token_of x.value) x.value (token_of x.value).text line (refl, All-head IsReadEntry x es read) refl p in
+    let is : IsLineOf (chars (token_of x.value).text) line = line_of_text (token_of x.value) x.value
+        (token_of x.value).text line (refl, All-head IsReadEntry x es read) refl p in
     (first, others, (line, is, b), lines_of_attributes es others (All-tail IsReadEntry x es read) h, e)
 
 -- the lines of all entries are those of the text
-pub shows_attributes : {A : Type 0} (text : List ℕ) (es : List (Entry A)) (shown : List ℕ) → AreAttributesOf text 0 (attributes_of es) → All IsReadEntry es → AreLinesOfEntries es shown → ShowsAttributes text shown
-shows_attributes text es shown are read p = record { list = attributes_of es; are = are; lines = lines_of_attributes es shown read p }
+pub shows_attributes : {A : Type 0} (text : List ℕ) (es : List (Entry A)) (shown : List ℕ)
+    → AreAttributesOf text 0 (attributes_of es) → All IsReadEntry es → AreLinesOfEntries es shown
+    → ShowsAttributes text shown
+shows_attributes text es shown are read p = record { list = attributes_of es; are = are; lines = lines_of_attributes es
+    shown read p }

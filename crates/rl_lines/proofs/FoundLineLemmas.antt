@@ -18,32 +18,51 @@ use Rattle.rl_quoted.proofs.PlaceLemmas.{found_kind}
 use Rattle.rl_lines.proofs.PrintLemmas.{prints_kind}
 
 -- the line of what is shown
-pub shows_line : (kind : Kind) (text old new shown suffix : List ℕ) → IsShownOf kind text shown → HasSuffix kind text suffix → new ≡ old ++ line (kind_label kind) shown suffix → Appends (IsLineOfKind kind text) old new
-shows_line kind text old new shown suffix (contents, has, is) s e = prints_kind kind text old new shown suffix contents has s is e
+pub shows_line : (kind : Kind) (text old new shown suffix : List ℕ) → IsShownOf kind text shown
+    → HasSuffix kind text suffix → new ≡ old ++ line (kind_label kind) shown suffix
+    → Appends (IsLineOfKind kind text) old new
+shows_line kind text old new shown suffix (contents, has, is) s e = prints_kind kind text old new shown suffix contents
+    has s is e
 
 -- the same of a string, which is written as it is shown
-pub string_line : (text value suffix old new : List ℕ) → HasContents Str text (Characters (chars value)) → HasSuffix Str text suffix → new ≡ old ++ literal_line Str (Characters (chars value)) suffix → Appends (IsLineOfKind Str text) old new
-string_line text value suffix old new has s e = shows_line Str text old new (written_text Str (chars value)) suffix (Characters (chars value), has, refl) s e
+pub string_line : (text value suffix old new : List ℕ) → HasContents Str text (Characters (chars value))
+    → HasSuffix Str text suffix → new ≡ old ++ literal_line Str (Characters (chars value)) suffix
+    → Appends (IsLineOfKind Str text) old new
+string_line text value suffix old new has s e = shows_line Str text old new (written_text Str (chars value)) suffix
+    (Characters (chars value), has, refl) s e
 
 -- the kind of what was found in a text is that of any suffix that the text has
-pub kind_of_suffix : (kind : Kind) (text same suffix : List ℕ) {found : Found} → IsFound text found → text ≡ same → HasSuffix kind (chars same) suffix → found.kind ≡ kind
+pub kind_of_suffix : (kind : Kind) (text same suffix : List ℕ) {found : Found} → IsFound text found → text ≡ same
+    → HasSuffix kind (chars same) suffix → found.kind ≡ kind
 kind_of_suffix kind text same suffix {found} f e s = found_kind kind text found (rw e (s.0, _, s.1)) f
 
 -- what is written of the contents is shown
-pub written_shown : {E : Type 0} (r : Result SpannedText E) (kind other : Kind) (text value : List ℕ) (contents : Contents) → kind ≡ other → payload other contents ≡ written_text other value → HasContents kind text contents → IfOk r (λ l. IsWrittenForm other value (chars l.text)) → IfOk r (λ l. IsShownOf kind text (chars l.text))
+pub written_shown : {E : Type 0} (r : Result SpannedText E) (kind other : Kind) (text value : List ℕ)
+    (contents : Contents) → kind ≡ other → payload other contents ≡ written_text other value
+    → HasContents kind text contents → IfOk r (λ l. IsWrittenForm other value (chars l.text))
+    → IfOk r (λ l. IsShownOf kind text (chars l.text))
 written_shown r kind other text value contents is same has w =
-    IfOk-weaker r _ _ (λ l form. (contents, has, form.text_is ∙ sym same ∙ ap (λ (k : Kind). payload k contents) (sym is))) w
+    IfOk-weaker r _ _ (λ l form. (contents, has, form.text_is ∙ sym same
+        ∙ ap (λ (k : Kind). payload k contents) (sym is))) w
 
 -- the same of a character or a byte
-pub unit_shown : {E : Type 0} (r : Result SpannedText E) (kind : Kind) (text : List ℕ) (found : Found) → found.kind ≡ kind → is_single kind ≡ true → payload kind (quoted_contents kind (found.unit ∷ [])) ≡ written_text kind (found.unit ∷ []) → IsFound text found → IfOk r (λ l. IsWrittenForm kind (found.unit ∷ []) (chars l.text)) → IfOk r (λ l. IsShownOf found.kind (chars text) (chars l.text))
+pub unit_shown : {E : Type 0} (r : Result SpannedText E) (kind : Kind) (text : List ℕ) (found : Found) → found.kind
+    ≡ kind → is_single kind ≡ true → payload kind (quoted_contents kind (found.unit ∷ []))
+    ≡ written_text kind (found.unit ∷ []) → IsFound text found
+    → IfOk r (λ l. IsWrittenForm kind (found.unit ∷ []) (chars l.text))
+    → IfOk r (λ l. IsShownOf found.kind (chars text) (chars l.text))
 unit_shown r kind text found is single same f w =
     let contents = quoted_contents kind (found.unit ∷ []) in
-    written_shown r found.kind kind (chars text) (found.unit ∷ []) contents is same (subst (λ (k : Kind). HasContents k (chars text) contents) (sym is) (unit_of kind text found is single f).reads) w
+    written_shown r found.kind kind (chars text) (found.unit ∷ []) contents is same
+        (subst (λ (k : Kind). HasContents k (chars text) contents) (sym is) (unit_of kind text found is single f).reads)
+        w
 
 -- a number is shown by its digits
-pub number_shown : (kind : Kind) (text digits : List ℕ) → ReadsAs kind text → AreDigits kind text digits → IsShownOf kind text digits
+pub number_shown : (kind : Kind) (text digits : List ℕ) → ReadsAs kind text → AreDigits kind text digits
+    → IsShownOf kind text digits
 number_shown Int text digits (v, x, r) are = (v, (x, r), sym (ap (payload Int) (are v x r)))
-number_shown Float text digits (v, x, r) are = (v, (x, r), are r.numeral x r.reads ∙ sym (ap (payload Float) r.contents_is))
+number_shown Float text digits (v, x, r) are = (v, (x, r), are r.numeral x r.reads
+    ∙ sym (ap (payload Float) r.contents_is))
 number_shown Str text digits reads are = absurd are
 number_shown ByteStr text digits reads are = absurd are
 number_shown CStr text digits reads are = absurd are

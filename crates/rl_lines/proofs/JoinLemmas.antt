@@ -4,12 +4,15 @@ use Rattle.std.proofs.lemmas.List.{append-nil}
 use Rattle.rl_lines.specs.Lines.{Joins, Appends}
 
 -- the pieces of two lists
-pub joins_append : {A : Type 0} (IsPiece : A → List ℕ → Type 0) (xs ys : List A) (s t : List ℕ) → Joins IsPiece xs s → Joins IsPiece ys t → Joins IsPiece (xs ++ ys) (s ++ t)
+pub joins_append : {A : Type 0} (IsPiece : A → List ℕ → Type 0) (xs ys : List A) (s t : List ℕ) → Joins IsPiece xs s
+    → Joins IsPiece ys t → Joins IsPiece (xs ++ ys) (s ++ t)
 joins_append IsPiece [] ys s t h k = subst (Joins IsPiece ys) (sym (ap (λ z. z ++ t) h)) k
-joins_append IsPiece (x ∷ xs) ys s t (first, rest, p, h, e) k = (first, rest ++ t, p, joins_append IsPiece xs ys rest t h k, ap (λ z. z ++ t) e ∙ append_assoc first rest t)
+joins_append IsPiece (x ∷ xs) ys s t (first, rest, p, h, e) k =
+    (first, rest ++ t, p, joins_append IsPiece xs ys rest t h k, ap (λ z. z ++ t) e ∙ append_assoc first rest t)
 
 -- one piece alone
-pub joins_one : {A : Type 0} (IsPiece : A → List ℕ → Type 0) (x : A) (t : List ℕ) → IsPiece x t → Joins IsPiece (x ∷ []) t
+pub joins_one : {A : Type 0} (IsPiece : A → List ℕ → Type 0) (x : A) (t : List ℕ) → IsPiece x t
+    → Joins IsPiece (x ∷ []) t
 joins_one IsPiece x t p = (t, [], p, refl, sym (append-nil t))
 
 -- nothing more after what stood there
@@ -17,13 +20,17 @@ pub appends_none : (old : List ℕ) → Appends (λ piece. piece ≡ []) old old
 appends_none old = ([], refl, sym (append-nil old))
 
 -- one piece more after pieces that were appended
-pub appends_more : {A : Type 0} (IsPiece : A → List ℕ → Type 0) (xs : List A) (x : A) (a b c : List ℕ) → Appends (Joins IsPiece xs) a b → Appends (IsPiece x) b c → Appends (Joins IsPiece (xs ++ (x ∷ []))) a c
+pub appends_more : {A : Type 0} (IsPiece : A → List ℕ → Type 0) (xs : List A) (x : A) (a b c : List ℕ)
+    → Appends (Joins IsPiece xs) a b → Appends (IsPiece x) b c → Appends (Joins IsPiece (xs ++ (x ∷ []))) a c
 appends_more IsPiece xs x a b c (s, h, e) (t, p, d) =
-    (s ++ t, joins_append IsPiece xs (x ∷ []) s t h (joins_one IsPiece x t p), d ∙ ap (λ z. z ++ t) e ∙ append_assoc a s t)
+    (s ++ t, joins_append IsPiece xs (x ∷ []) s t h (joins_one IsPiece x t p), d ∙ ap (λ z. z ++ t) e
+        ∙ append_assoc a s t)
 
 -- one piece more after pieces
-pub joins_more : {A : Type 0} (IsPiece : A → List ℕ → Type 0) (xs : List A) (x : A) (b c : List ℕ) → Joins IsPiece xs b → Appends (IsPiece x) b c → Joins IsPiece (xs ++ (x ∷ [])) c
-joins_more IsPiece xs x b c h (t, p, d) = subst (Joins IsPiece (xs ++ (x ∷ []))) (sym d) (joins_append IsPiece xs (x ∷ []) b t h (joins_one IsPiece x t p))
+pub joins_more : {A : Type 0} (IsPiece : A → List ℕ → Type 0) (xs : List A) (x : A) (b c : List ℕ) → Joins IsPiece xs b
+    → Appends (IsPiece x) b c → Joins IsPiece (xs ++ (x ∷ [])) c
+joins_more IsPiece xs x b c h (t, p, d) = subst (Joins IsPiece (xs ++ (x ∷ []))) (sym d)
+    (joins_append IsPiece xs (x ∷ []) b t h (joins_one IsPiece x t p))
 
 -- a piece after nothing
 pub appends_to_none : (IsPiece : List ℕ → Type 0) (old new : List ℕ) → old ≡ [] → Appends IsPiece old new → IsPiece new

@@ -1,5 +1,6 @@
 -- Pieces of a line, by their characters.
-use Rattle.std.proofs.Common.{◌≡◌, ℕ, true, false, eqb, List, [], ◌∷◌, ◌++◌, length, refl, sym, ap, ◌∙◌, append_assoc, arith}
+use Rattle.std.proofs.Common.{◌≡◌, ℕ, true, false, eqb, List, [], ◌∷◌, ◌++◌, length, refl, sym, ap, ◌∙◌, append_assoc,
+    arith}
 use Rattle.std.specs.Prelude.{encode_utf8_all}
 use Rattle.std.specs.Str.{chars, IsUtf8}
 use Rattle.std.proofs.lemmas.Bool.{eqb-true, both_ways, false≢true}
@@ -20,7 +21,8 @@ empty_end [] h = refl
 empty_end (c ∷ s) h = absurd (let e = eqb-true (length (c ∷ s)) 0 h in omega arith)
 
 -- a suffix that is an identifier
-pub word_suffix : (s : List ℕ) → IsUtf8 s → eqb (length s) 0 ≡ false → xid_ok (chars s) ≡ true → suffix_word (chars s) ≡ chars s
+pub word_suffix : (s : List ℕ) → IsUtf8 s → eqb (length s) 0 ≡ false → xid_ok (chars s) ≡ true → suffix_word (chars s)
+    ≡ chars s
 word_suffix s u n h = word (chars s) h
   where
     word : (cs : List ℕ) → xid_ok cs ≡ true → suffix_word cs ≡ cs
@@ -32,11 +34,13 @@ some_word [] some h = absurd (some refl)
 some_word (c ∷ cs) some h = rw h refl
 
 -- a suffix that is no identifier
-pub quoted_suffix : (s : List ℕ) → IsUtf8 s → eqb (length s) 0 ≡ false → xid_ok (chars s) ≡ false → suffix_word (chars s) ≡ written_text Str (chars s)
+pub quoted_suffix : (s : List ℕ) → IsUtf8 s → eqb (length s) 0 ≡ false → xid_ok (chars s) ≡ false
+    → suffix_word (chars s) ≡ written_text Str (chars s)
 quoted_suffix s u n h = some_word (chars s) (λ e. absurd (nothing e)) h
   where
     nothing : chars s ≡ [] → ⊥
-    nothing e = let t : s ≡ [] = sym (encodes-chars s u) ∙ ap encode_utf8_all e in both_ways (eqb (length s) 0) n (ap (λ z. eqb (length z) 0) t)
+    nothing e = let t : s ≡ [] = sym (encodes-chars s u) ∙ ap encode_utf8_all e in both_ways (eqb (length s) 0) n
+        (ap (λ z. eqb (length z) 0) t)
 
 pub space : chars (32 ∷ []) ≡ 32 ∷ []
 unfolding chars
@@ -47,13 +51,16 @@ unfolding chars
 line_feed = refl
 
 -- the three pieces of a line's end
-pub end_joined : (e f g h suffix : List ℕ) → f ≡ e ++ chars (32 ∷ []) → g ≡ f ++ suffix_word suffix → h ≡ g ++ chars (10 ∷ []) → h ≡ e ++ line_end suffix
+pub end_joined : (e f g h suffix : List ℕ) → f ≡ e ++ chars (32 ∷ []) → g ≡ f ++ suffix_word suffix → h ≡ g
+    ++ chars (10 ∷ []) → h ≡ e ++ line_end suffix
 end_joined e f g h suffix s t u =
     u ∙ ap (λ z. g ++ z) line_feed ∙ ap (λ z. z ++ (10 ∷ [])) t ∙ append_assoc f (suffix_word suffix) (10 ∷ [])
-    ∙ ap (λ z. z ++ (suffix_word suffix ++ (10 ∷ []))) (s ∙ ap (λ z. e ++ z) space) ∙ append_assoc e (32 ∷ []) (suffix_word suffix ++ (10 ∷ []))
+    ∙ ap (λ z. z ++ (suffix_word suffix ++ (10 ∷ []))) (s ∙ ap (λ z. e ++ z) space)
+        ∙ append_assoc e (32 ∷ []) (suffix_word suffix ++ (10 ∷ []))
 
 -- the four pieces of a line
-pub line_joined : (a b d e h word shown suffix : List ℕ) → b ≡ a ++ word → d ≡ b ++ chars (32 ∷ []) → e ≡ d ++ shown → h ≡ e ++ line_end suffix → h ≡ a ++ line word shown suffix
+pub line_joined : (a b d e h word shown suffix : List ℕ) → b ≡ a ++ word → d ≡ b ++ chars (32 ∷ []) → e ≡ d ++ shown → h
+    ≡ e ++ line_end suffix → h ≡ a ++ line word shown suffix
 line_joined a b d e h word shown suffix p q r s =
     let tail = shown ++ line_end suffix in
     s ∙ ap (λ z. z ++ line_end suffix) r ∙ append_assoc d shown (line_end suffix)

@@ -13,7 +13,8 @@ record TokenLines (trees : List Tree) (shown : List ℕ) : Type 0 where
   pub used : ReadsTokens trees tokens
   pub lines : AreLinesOf tokens shown
 
-token_lines : {A : Type 0} (trees : List Tree) (list : List (Lit A)) (shown : List ℕ) → ReadsLiterals trees list [] → AreLinesOfLits list shown → TokenLines trees shown
+token_lines : {A : Type 0} (trees : List Tree) (list : List (Lit A)) (shown : List ℕ) → ReadsLiterals trees list []
+    → AreLinesOfLits list shown → TokenLines trees shown
 token_lines trees [] shown h e = record { tokens = []; used = h; lines = e }
 token_lines trees (l ∷ ls) shown (after, front, h) (first, others, p, k, e) =
     let rest = token_lines after ls others h k in
@@ -24,7 +25,8 @@ token_lines trees (l ∷ ls) shown (after, front, h) (first, others, p, k, e) =
     }
 
 -- the lines of the literals that a text is read as
-pub lines_of_text : {A : Type 0} (text : List ℕ) (list : List (Lit A)) (shown : List ℕ) → AreRead text 0 list → AreLinesOfLits list shown → AreLinesOfText text shown
+pub lines_of_text : {A : Type 0} (text : List ℕ) (list : List (Lit A)) (shown : List ℕ) → AreRead text 0 list
+    → AreLinesOfLits list shown → AreLinesOfText text shown
 lines_of_text text list shown r p =
     let of = token_lines r.trees list shown r.leads p in
     record { trees = r.trees; tokens = of.tokens; lexes = r.lexes; used = of.used; lines = of.lines }

@@ -8,7 +8,8 @@ use Rattle.rl_tokens.specs.Numbers.{float_digits}
 use Rattle.rl_tokens.specs.Reading.{Digits, Truth, Reads, ReadsAs, truth_text}
 use Rattle.rl_tokens.proofs.OneNumber.{float_once}
 use Rattle.rust_literals.specs.declared.lit.Lit.{Lit}
-use Rattle.rust_literals.specs.declared.lit.Lit.TheVariants.{Str as StrLit, ByteStr as ByteStrLit, CStr as CStrLit, Byte as ByteLit, Char as CharLit, Int as IntLit, Float as FloatLit, Bool as BoolLit, Verbatim}
+use Rattle.rust_literals.specs.declared.lit.Lit.TheVariants.{Str as StrLit, ByteStr as ByteStrLit, CStr as CStrLit, Byte
+    as ByteLit, Char as CharLit, Int as IntLit, Float as FloatLit, Bool as BoolLit, Verbatim}
 use Rattle.rust_literals.specs.Literals.{IsReadFrom}
 use Rattle.rust_literals.proofs.LitLemmas.{truth_reads}
 use Rattle.rl_lines.specs.Lines.{literal_line, verbatim_line, IsLineOf, IsLineOfKind, IsLineOfFloat, IsLineOfLit}
@@ -17,19 +18,23 @@ use Rattle.rl_lines.specs.Lines.{literal_line, verbatim_line, IsLineOf, IsLineOf
 same_text : (l token : SpannedText) (t : List ℕ) → l ≡ token → token.text ≡ t → chars l.text ≡ chars t
 same_text l token t e k = ap chars (ap (λ z. z.text) e ∙ k)
 
-kind_line : (kind : Kind) (l token : SpannedText) (t shown : List ℕ) → l ≡ token → token.text ≡ t → IsLineOfKind kind (chars l.text) shown → IsLineOf (chars t) shown
+kind_line : (kind : Kind) (l token : SpannedText) (t shown : List ℕ) → l ≡ token → token.text ≡ t
+    → IsLineOfKind kind (chars l.text) shown → IsLineOf (chars t) shown
 kind_line kind l token t shown e k p =
     inl (kind, p.0, p.1, subst (λ z. Reads z kind p.0 p.1) (same_text l token t e k) p.2, p.3)
 
-float_line : (l token : SpannedText) (t shown : List ℕ) → l ≡ token → token.text ≡ t → ReadsAs Float (chars token.text) → IsLineOfFloat (chars l.text) shown → IsLineOf (chars t) shown
+float_line : (l token : SpannedText) (t shown : List ℕ) → l ≡ token → token.text ≡ t → ReadsAs Float (chars token.text)
+    → IsLineOfFloat (chars l.text) shown → IsLineOf (chars t) shown
 float_line l token t shown e k r p =
     let same : chars l.text ≡ chars token.text = ap (λ z. chars z.text) e in
     let one = float_once (chars l.text) p.0 r.2.numeral p.1 r.1 p.2 (rw same r.2.reads) in
     let digits : Digits (float_digits p.0) ≡ r.0 = ap (λ z. Digits (float_digits z)) one.0 ∙ sym r.2.contents_is in
-    inl (Float, r.0, r.1, subst (λ z. Reads z Float r.0 r.1) (ap chars k) r.2, p.3 ∙ ap (λ z. literal_line Float z p.1) digits ∙ ap (λ z. literal_line Float r.0 z) one.1)
+    inl (Float, r.0, r.1, subst (λ z. Reads z Float r.0 r.1) (ap chars k) r.2, p.3
+        ∙ ap (λ z. literal_line Float z p.1) digits ∙ ap (λ z. literal_line Float r.0 z) one.1)
 
 -- the line of a literal that was read from a token is that of the token's text
-pub line_of_text : {A : Type 0} (token : SpannedText) (literal : Lit A) (t shown : List ℕ) → IsReadFrom token literal → token.text ≡ t → IsLineOfLit literal shown → IsLineOf (chars t) shown
+pub line_of_text : {A : Type 0} (token : SpannedText) (literal : Lit A) (t shown : List ℕ) → IsReadFrom token literal
+    → token.text ≡ t → IsLineOfLit literal shown → IsLineOf (chars t) shown
 line_of_text token (StrLit l) t shown r k p = kind_line Str l token t shown r.0 k p
 line_of_text token (ByteStrLit l) t shown r k p = kind_line ByteStr l token t shown r.0 k p
 line_of_text token (CStrLit l) t shown r k p = kind_line CStr l token t shown r.0 k p
@@ -39,7 +44,8 @@ line_of_text token (IntLit l) t shown r k p = kind_line Int l token t shown r.0 
 line_of_text token (FloatLit l) t shown r k p = float_line l token t shown r.0 k r.1 p
 line_of_text token (BoolLit l) t shown r k p =
     let word : token.text ≡ truth_text l.value = sym (ap (λ z. z.text) r.0) in
-    inl (Bool, Truth l.value, [], subst (λ z. Reads z Bool (Truth l.value) []) (ap chars k) (truth_reads token.text l.value word), p)
+    inl (Bool, Truth l.value, [], subst (λ z. Reads z Bool (Truth l.value) []) (ap chars k)
+        (truth_reads token.text l.value word), p)
 line_of_text token (Verbatim l) t shown r k p =
     let same : chars l.text ≡ chars t = same_text l token t r.0 k in
     inr (rw (ap chars (sym k)) r.1, p ∙ ap verbatim_line same)

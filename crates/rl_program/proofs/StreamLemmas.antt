@@ -1,5 +1,6 @@
 -- Turns of reading and writing.
-use Rattle.std.proofs.Common.{◌≡◌, ℕ, ◌<◌, subst, List, [], ◌++◌, length, take, drop, Option, Some, None, refl, sym, ap, ◌∙◌, append-nil, append_assoc, ◌-◌, arith, length-drop}
+use Rattle.std.proofs.Common.{◌≡◌, ℕ, ◌<◌, subst, List, [], ◌++◌, length, take, drop, Option, Some, None, refl, sym, ap,
+    ◌∙◌, append-nil, append_assoc, ◌-◌, arith, length-drop}
 use Rattle.std.specs.Prelude.{IfSome}
 use Rattle.std.specs.Io.KnownBytes.{Appends, Consumes, IsAtEnd, Keeps}
 use Rattle.std.proofs.KnownBytes.{Appends-nil, Appends-trans, Appends-kept, Consumes-all, Consumes-trans}
@@ -18,7 +19,8 @@ pub written_none : (a : Option (List ℕ)) (all : List ℕ) → IsWritten a a al
 written_none a all = record { front = []; all_is = refl; appends = Appends-nil a }
 
 -- one write more
-pub written_more : (a b c : Option (List ℕ)) (all rest piece left : List ℕ) → IsWritten a b all rest → Appends b c piece → rest ≡ piece ++ left → IsWritten a c all left
+pub written_more : (a b c : Option (List ℕ)) (all rest piece left : List ℕ) → IsWritten a b all rest → Appends b c piece
+    → rest ≡ piece ++ left → IsWritten a c all left
 written_more a b c all rest piece left w p e = record {
   front = w.front ++ piece;
   all_is = w.all_is ∙ ap (λ z. w.front ++ z) e ∙ sym (append_assoc w.front piece left);
@@ -26,9 +28,11 @@ written_more a b c all rest piece left w p e = record {
 }
 
 -- a beginning, where the write after them failed
-pub written_beginning : (a b c : Option (List ℕ)) (all rest : List ℕ) → IsWritten a b all rest → Keeps b c → AppendsBeginning a c all
+pub written_beginning : (a b c : Option (List ℕ)) (all rest : List ℕ) → IsWritten a b all rest → Keeps b c
+    → AppendsBeginning a c all
 written_beginning a b c all rest w k =
-    let front : take (length w.front) all ≡ w.front = ap (take (length w.front)) w.all_is ∙ take-append_seam w.front rest in
+    let front : take (length w.front) all ≡ w.front = ap (take (length w.front)) w.all_is
+        ∙ take-append_seam w.front rest in
     (length w.front, rw front (Appends-kept a b c w.front w.appends k))
 
 -- a write of none keeps what is there
@@ -40,11 +44,14 @@ none_kept (Some xs) (Some ys) bytes n e h = h ∙ ap (λ z. xs ++ take z bytes) 
 -- a slice up to the end is what is after its start
 pub slice_rest : (n : ℕ) (xs : List ℕ) → xs ≡ take n xs ++ take (length xs - n) (drop n xs)
 slice_rest n xs =
-    let all : take (length xs - n) (drop n xs) ≡ drop n xs = take_all (length xs - n) (drop n xs) (omega (arith, length-drop n xs)) in
+    let all : take (length xs - n) (drop n xs) ≡ drop n xs = take_all (length xs - n) (drop n xs)
+        (omega (arith, length-drop n xs)) in
     rw all (sym (take-append-drop n xs))
 
 -- all that was left has been read, where a turn gives nothing
-pub consumed_all : (a b d : Option (List ℕ)) (bytes buffer : List ℕ) (n : ℕ) → Consumes a b bytes → n ≡ 0 → Consumes b d (take n buffer) × (n ≡ 0 → 0 < length buffer → IsAtEnd d) → 0 < length buffer → IfSome a (λ all. bytes ≡ all)
+pub consumed_all : (a b d : Option (List ℕ)) (bytes buffer : List ℕ) (n : ℕ) → Consumes a b bytes → n ≡ 0
+    → Consumes b d (take n buffer) × (n ≡ 0 → 0 < length buffer → IsAtEnd d) → 0 < length buffer
+    → IfSome a (λ all. bytes ≡ all)
 consumed_all a b d bytes buffer n w none turn room =
     let last : Consumes b d [] = subst (λ z. Consumes b d (take z buffer)) none turn.0 in
     let whole : Consumes a d (bytes ++ []) = Consumes-trans a b d bytes [] w last in

@@ -1,5 +1,6 @@
 -- Parsing inside a literal, and a literal with nothing after its closing quote.
-use Rattle.std.proofs.Common.{◌≡◌, ◌≢◌, ◌⊎◌, inl, inr, ◌==◌, ℕ, true, List, [], ◌∷◌, length, refl, subst, ap, ◌∙◌, arith}
+use Rattle.std.proofs.Common.{◌≡◌, ◌≢◌, ◌⊎◌, inl, inr, ◌==◌, ℕ, true, List, [], ◌∷◌, length, refl, subst, ap, ◌∙◌,
+    arith}
 use Rattle.std.specs.Prelude.{Result, Ok, Err}
 use Rattle.std.proofs.lemmas.Bool.Decides.{nat_tests}
 use Rattle.std.proofs.lemmas.List.{nil_from_length}
@@ -8,7 +9,8 @@ use Rattle.std.proofs.lemmas.Str.{chars-nil}
 use Rattle.rl_tokens.specs.declared.span.Span.{Span}
 use Rattle.rl_tokens.specs.declared.kind.Kind.TheVariants.{Str}
 use Rattle.rl_tokens.specs.declared.lex_error.LexKind.{LexKind}
-use Rattle.rl_tokens.specs.declared.lex_error.LexKind.TheVariants.{DocComment, UnclosedComment, UnclosedQuote, Lifetime, RawIdentifier, StrayCharacter, UnmatchedClose, UnclosedGroup, TooDeep, Memory as LexMemory}
+use Rattle.rl_tokens.specs.declared.lex_error.LexKind.TheVariants.{DocComment, UnclosedComment, UnclosedQuote, Lifetime,
+    RawIdentifier, StrayCharacter, UnmatchedClose, UnclosedGroup, TooDeep, Memory as LexMemory}
 use Rattle.rl_tokens.specs.declared.error.Error.{Error}
 use Rattle.rl_tokens.specs.declared.error.ErrorKind.TheVariants.{Unexpected}
 use Rattle.rl_tokens.specs.Errors.{memory_at, lex_rejection}
@@ -20,16 +22,21 @@ use Rattle.rl_tokens.specs.Lexing.{Lexes, Rejects}
 use Rattle.rl_tokens.specs.Buffers.{first_span}
 use Rattle.rl_tokens.proofs.TreeRests.{run_moved}
 use Rattle.rl_quoted.specs.declared.inside.Placing.{Placing}
-use Rattle.rl_quoted.specs.Inside.{AreInside, AreMoved, IsLeftoverAt, IsReportedAt, RejectsLexingInside, RejectsInsideAt, Runs}
+use Rattle.rl_quoted.specs.Inside.{AreInside, AreMoved, IsLeftoverAt, IsReportedAt, RejectsLexingInside,
+    RejectsInsideAt, Runs}
 
 -- no suffix stands where no bytes do
-pub empty_suffix : (text suffix : List ℕ) → (length suffix == 0) ≡ true → HasSuffix Str text (chars suffix) → HasSuffix Str text []
+pub empty_suffix : (text suffix : List ℕ) → (length suffix == 0) ≡ true → HasSuffix Str text (chars suffix)
+    → HasSuffix Str text []
 empty_suffix text suffix e h =
     let z : length suffix ≡ 0 = grind (arith, nat_tests) in
     subst (λ x. HasSuffix Str text x) (ap chars (nil_from_length suffix z) ∙ chars-nil) h
 
 -- what a parser did on a buffer of the trees inside, with the literal's span as its scope
-pub ran_inside : {T E : Type 0} (placing : Placing) (runs : List Tree → Span → Result T E → List Tree → Type 0) (token : SpannedText) (buffer trees left rest : List Tree) (scope : Span) (r : Result T E) → AreInside placing token trees → buffer ≡ trees → scope ≡ token.span → left ≡ rest → runs buffer scope r left → Runs placing runs token r rest
+pub ran_inside : {T E : Type 0} (placing : Placing) (runs : List Tree → Span → Result T E → List Tree → Type 0)
+    (token : SpannedText) (buffer trees left rest : List Tree) (scope : Span) (r : Result T E)
+    → AreInside placing token trees → buffer ≡ trees → scope ≡ token.span → left ≡ rest → runs buffer scope r left
+    → Runs placing runs token r rest
 ran_inside placing runs token buffer trees left rest scope r inside same place ends ran = record {
   trees = trees;
   inside = inside;
@@ -37,16 +44,24 @@ ran_inside placing runs token buffer trees left rest scope r inside same place e
 }
 
 -- why nothing is parsed
-pub refuses_trees : {T A : Type 0} (placing : Placing) (runs : List Tree → Span → Result T (Error A) → List Tree → Type 0) (token : SpannedText) (e : Error A) → RejectsLexingInside placing token e ⊎ (e ≡ memory_at token.span) → RejectsInsideAt placing runs token e
+pub refuses_trees : {T A : Type 0} (placing : Placing) (runs : List Tree → Span → Result T (Error A) → List Tree
+    → Type 0) (token : SpannedText) (e : Error A) → RejectsLexingInside placing token e ⊎ (e ≡ memory_at token.span)
+    → RejectsInsideAt placing runs token e
 refuses_trees placing runs token e (inl lexing) = inl lexing
 refuses_trees placing runs token e (inr memory) = inr (inr (inr (inr memory)))
 
-pub refuses_parser : {T A : Type 0} (placing : Placing) (runs : List Tree → Span → Result T (Error A) → List Tree → Type 0) (token : SpannedText) (e : Error A) (rest : List Tree) → Runs placing runs token (Err e) rest → RejectsInsideAt placing runs token e
+pub refuses_parser : {T A : Type 0} (placing : Placing) (runs : List Tree → Span → Result T (Error A) → List Tree
+    → Type 0) (token : SpannedText) (e : Error A) (rest : List Tree) → Runs placing runs token (Err e) rest
+    → RejectsInsideAt placing runs token e
 refuses_parser placing runs token e rest ran = inr (inl (record { rest = rest; ran = ran }))
 
-pub refuses_left : {T A : Type 0} (placing : Placing) (runs : List Tree → Span → Result T (Error A) → List Tree → Type 0) (token : SpannedText) (value : T) (rest : List Tree) (at : Span) → Runs placing runs token (Ok value) rest → rest ≢ [] → IsLeftoverAt placing token rest at → RejectsInsideAt placing runs token (record { span = at; kind = Unexpected })
+pub refuses_left : {T A : Type 0} (placing : Placing) (runs : List Tree → Span → Result T (Error A) → List Tree
+    → Type 0) (token : SpannedText) (value : T) (rest : List Tree) (at : Span) → Runs placing runs token (Ok value) rest
+    → rest ≢ [] → IsLeftoverAt placing token rest at → RejectsInsideAt placing runs token
+    (record { span = at; kind = Unexpected })
 refuses_left placing runs token value rest at ran some reported =
-    inr (inr (inl (record { value = value; rest = rest; ran = ran; some = some; place = at; reported = reported; error = refl })))
+    inr (inr (inl (record { value = value; rest = rest; ran = ran; some = some; place = at; reported = reported; error =
+        refl })))
 
 -- the first tree's span, whatever the scope
 pub first_of_some : (rest : List Tree) (scope other : Span) → rest ≢ [] → first_span rest scope ≡ first_span rest other
@@ -54,7 +69,8 @@ first_of_some [] scope other some = absurd (some refl)
 first_of_some (t ∷ ts) scope other some = refl
 
 -- the lexer's error at the literal's span, made of one at a place inside it
-pub moved_refusal : {A : Type 0} (kind : LexKind) (place : Span) (at : Span) (e : Error A) → e ≡ lex_rejection kind place → record { span = at; kind = e.kind } ≡ lex_rejection kind at
+pub moved_refusal : {A : Type 0} (kind : LexKind) (place : Span) (at : Span) (e : Error A) → e
+    ≡ lex_rejection kind place → record { span = at; kind = e.kind } ≡ lex_rejection kind at
 moved_refusal DocComment place at e q = ap (λ x. record { span = at; kind = x.kind }) q
 moved_refusal UnclosedComment place at e q = ap (λ x. record { span = at; kind = x.kind }) q
 moved_refusal UnclosedQuote place at e q = ap (λ x. record { span = at; kind = x.kind }) q
@@ -67,7 +83,8 @@ moved_refusal TooDeep place at e q = ap (λ x. record { span = at; kind = x.kind
 moved_refusal LexMemory place at e q = ap (λ x. record { span = at; kind = x.kind }) q
 
 -- the lexer's error stands at its place
-rejection_span : {A : Type 0} (kind : LexKind) (place : Span) (e : Error A) → e ≡ lex_rejection kind place → e.span ≡ place
+rejection_span : {A : Type 0} (kind : LexKind) (place : Span) (e : Error A) → e ≡ lex_rejection kind place → e.span
+    ≡ place
 rejection_span DocComment place e q = ap (λ x. x.span) q
 rejection_span UnclosedComment place e q = ap (λ x. x.span) q
 rejection_span UnclosedQuote place e q = ap (λ x. x.span) q
@@ -80,7 +97,10 @@ rejection_span TooDeep place e q = ap (λ x. x.span) q
 rejection_span LexMemory place e q = ap (λ x. x.span) q
 
 -- the lexer's error in the text that the literal stands for, where it is reported
-pub refuses_lexing : {A : Type 0} (placing : Placing) (token : SpannedText) (value text : List ℕ) (file : ℕ) (at : Span) (e : Error A) → HasContents Str (chars token.text) (Characters value) → chars text ≡ value → file ≡ token.span.file → IsReportedAt placing token e.span at → RejectsLexing (chars text) file e → RejectsLexingInside placing token (record { span = at; kind = e.kind })
+pub refuses_lexing : {A : Type 0} (placing : Placing) (token : SpannedText) (value text : List ℕ) (file : ℕ) (at : Span)
+    (e : Error A) → HasContents Str (chars token.text) (Characters value) → chars text ≡ value → file ≡ token.span.file
+    → IsReportedAt placing token e.span at → RejectsLexing (chars text) file e
+    → RejectsLexingInside placing token (record { span = at; kind = e.kind })
 refuses_lexing placing token value text file at e contents same where_from reported lexing = record {
   value = value;
   contents = contents;
@@ -88,12 +108,15 @@ refuses_lexing placing token value text file at e contents same where_from repor
   at = lexing.at;
   rejected = subst (λ t. Rejects t lexing.kind lexing.at) same lexing.rejected;
   place = at;
-  reported = subst (λ s. IsReportedAt placing token s at) (rejection_span lexing.kind (place_at file lexing.at) e lexing.error ∙ ap (λ f. place_at f lexing.at) where_from) reported;
+  reported = subst (λ s. IsReportedAt placing token s at) (rejection_span lexing.kind (place_at file lexing.at) e
+      lexing.error ∙ ap (λ f. place_at f lexing.at) where_from) reported;
   error = moved_refusal lexing.kind (place_at file lexing.at) at e lexing.error;
 }
 
 -- the trees of the text that the literal stands for, where they are reported
-pub are_inside : (placing : Placing) (token : SpannedText) (value text : List ℕ) (file : ℕ) (cut trees : List Tree) → HasContents Str (chars token.text) (Characters value) → chars text ≡ value → file ≡ token.span.file → Lexes (chars text) file cut → AreMoved (IsReportedAt placing token) cut trees → AreInside placing token trees
+pub are_inside : (placing : Placing) (token : SpannedText) (value text : List ℕ) (file : ℕ) (cut trees : List Tree)
+    → HasContents Str (chars token.text) (Characters value) → chars text ≡ value → file ≡ token.span.file
+    → Lexes (chars text) file cut → AreMoved (IsReportedAt placing token) cut trees → AreInside placing token trees
 are_inside placing token value text file cut trees contents same where_from lexes moved = record {
   value = value;
   contents = contents;

@@ -1,11 +1,13 @@
 -- Where the parts stand of a literal that the writer wrote.
-use Rattle.std.proofs.Common.{◌≡◌, ◌-◌, ◌+◌, ◌<◌, ◌≤◌, inl, inr, ℕ, Bool, true, false, List, [], ◌∷◌, ◌++◌, length, take, drop, refl, sym, ap, subst, ◌∙◌, arith, append_assoc, length-append}
+use Rattle.std.proofs.Common.{◌≡◌, ◌-◌, ◌+◌, ◌<◌, ◌≤◌, inl, inr, ℕ, Bool, true, false, List, [], ◌∷◌, ◌++◌, length,
+    take, drop, refl, sym, ap, subst, ◌∙◌, arith, append_assoc, length-append}
 use Rattle.std.proofs.Math.Seq.{drop-append_seam, take-append_seam, drop-length}
 use Rattle.std.proofs.Math.Utf8.{scalars}
 use Rattle.std.proofs.lemmas.Bool.{both_ways}
 use Rattle.std.specs.Prelude.{◌↔◌, encode_utf8_all, IsTrue}
 use Rattle.std.specs.Str.{chars, IsUtf8, IsCharBoundary}
-use Rattle.std.proofs.lemmas.Str.{IsCharBoundary-at_seam, IsCharBoundary-end, IsUtf8-append, chars-encodes, chars-nil, encodes-append, encodes-chars, scalars-chars, length-encode, len_utf8_ascii}
+use Rattle.std.proofs.lemmas.Str.{IsCharBoundary-at_seam, IsCharBoundary-end, IsUtf8-append, chars-encodes, chars-nil,
+    encodes-append, encodes-chars, scalars-chars, length-encode, len_utf8_ascii}
 use Rattle.rl_tokens.specs.declared.kind.Kind.{Kind}
 use Rattle.rl_tokens.specs.declared.kind.Kind.TheVariants.{Str, ByteStr, CStr, Byte, Char, Int, Float, Bool as BoolKind}
 use Rattle.rl_tokens.specs.Quoted.{Cooked, Single, is_string, is_single, opener, texts, unit_text}
@@ -24,7 +26,8 @@ use Rattle.rl_quoted.specs.Places.{IsWrittenAs, StandsAt}
 
 -- ---- by characters
 
-quoted_reading : (kind : Kind) (t : List ℕ) (v : Contents) (x : List ℕ) → is_quoted kind ≡ true → Reads t kind v x → ReadsQuoted t kind v x
+quoted_reading : (kind : Kind) (t : List ℕ) (v : Contents) (x : List ℕ) → is_quoted kind ≡ true → Reads t kind v x
+    → ReadsQuoted t kind v x
 quoted_reading Str t v x q r = r
 quoted_reading ByteStr t v x q r = r
 quoted_reading CStr t v x q r = r
@@ -141,33 +144,42 @@ lengths kind t v e u =
       front = encode_utf8_all (opener kind);
       body = encode_utf8_all e.inside;
       back = encode_utf8_all quote;
-      whole = sym (encodes-chars t u) ∙ ap encode_utf8_all e.text_is ∙ encodes-append (opener kind) (e.inside ++ quote) ∙ ap (λ z. encode_utf8_all (opener kind) ++ z) (encodes-append e.inside quote);
+      whole = sym (encodes-chars t u) ∙ ap encode_utf8_all e.text_is ∙ encodes-append (opener kind) (e.inside ++ quote)
+          ∙ ap (λ z. encode_utf8_all (opener kind) ++ z) (encodes-append e.inside quote);
       front_long = opener_long kind;
       back_long = one_long e.quote e.ascii;
     }
 
-between : (kind : Kind) (t v : List ℕ) (e : Enclosed kind (chars t) v) (body : Body) → IsUtf8 t → AtEnds kind t body → Between t e.inside body
+between : (kind : Kind) (t v : List ℕ) (e : Enclosed kind (chars t) v) (body : Body) → IsUtf8 t → AtEnds kind t body
+    → Between t e.inside body
 between kind t v e body u ends =
     let l = lengths kind t v e u in
     let quote = e.quote ∷ [] in
-    let all : scalars (opener kind ++ (e.inside ++ quote)) ≡ true = subst (λ z. scalars z ≡ true) e.text_is (scalars-chars t u) in
+    let all : scalars (opener kind ++ (e.inside ++ quote)) ≡ true = subst (λ z. scalars z ≡ true) e.text_is
+        (scalars-chars t u) in
     let inner = scalars_parts e.inside quote (scalars_parts (opener kind) (e.inside ++ quote) all).1 in
     let u_body : IsUtf8 l.body = (e.inside, (inner.0, refl)) in
     let u_back : IsUtf8 l.back = (quote, (inner.1, refl)) in
-    let total : length t ≡ length l.front + (length l.body + length l.back) = omega (arith, ap length l.whole, length-append l.front (l.body ++ l.back), length-append l.body l.back) in
+    let total : length t ≡ length l.front + (length l.body + length l.back) = omega
+        (arith, ap length l.whole, length-append l.front (l.body ++ l.back), length-append l.body l.back) in
     let at : body.lo ≡ length l.front = omega (arith, ends.at, l.front_long) in
-    let end_at : body.hi ≡ length (l.front ++ l.body) = omega (arith, ends.end_at, total, l.back_long, length-append l.front l.body) in
+    let end_at : body.hi ≡ length (l.front ++ l.body) = omega (arith, ends.end_at, total, l.back_long, length-append
+        l.front l.body) in
     let long : body.hi - body.lo ≡ length l.body = omega (arith, at, end_at, length-append l.front l.body) in
-    let from_body : drop body.lo t ≡ l.body ++ l.back = ap (λ z. drop body.lo z) l.whole ∙ ap (λ n. drop n (l.front ++ (l.body ++ l.back))) at ∙ drop-append_seam l.front (l.body ++ l.back) in
-    let inside : body_in t body ≡ l.body = ap (λ z. take (body.hi - body.lo) z) from_body ∙ ap (λ n. take n (l.body ++ l.back)) long ∙ take-append_seam l.body l.back in
+    let from_body : drop body.lo t ≡ l.body ++ l.back = ap (λ z. drop body.lo z) l.whole
+        ∙ ap (λ n. drop n (l.front ++ (l.body ++ l.back))) at ∙ drop-append_seam l.front (l.body ++ l.back) in
+    let inside : body_in t body ≡ l.body = ap (λ z. take (body.hi - body.lo) z) from_body
+        ∙ ap (λ n. take n (l.body ++ l.back)) long ∙ take-append_seam l.body l.back in
     let following : suffix_in t body ≡ [] = ap (λ n. drop n t) ends.suffix_at ∙ drop-length t in
     record {
       body_is = ap chars inside ∙ chars-encodes e.inside inner.0;
       suffix_is = ap chars following ∙ chars-nil;
       stands = record {
         ordered = omega (arith, at, end_at, length-append l.front l.body);
-        begins = subst (IsCharBoundary t) (sym at) (IsCharBoundary-at_seam t l.front (l.body ++ l.back) l.whole (IsUtf8-append l.body l.back u_body u_back));
-        ends = subst (IsCharBoundary t) (sym end_at) (IsCharBoundary-at_seam t (l.front ++ l.body) l.back (l.whole ∙ sym (append_assoc l.front l.body l.back)) u_back);
+        begins = subst (IsCharBoundary t) (sym at) (IsCharBoundary-at_seam t l.front (l.body ++ l.back) l.whole
+            (IsUtf8-append l.body l.back u_body u_back));
+        ends = subst (IsCharBoundary t) (sym end_at) (IsCharBoundary-at_seam t (l.front ++ l.body) l.back
+            (l.whole ∙ sym (append_assoc l.front l.body l.back)) u_back);
         following = subst (IsCharBoundary t) (sym ends.suffix_at) (IsCharBoundary-end t);
       };
     }
@@ -175,10 +187,12 @@ between kind t v e body u ends =
 -- ---- what is reported
 
 -- the opener and the quote are within what is written
-pub written_long : (kind : Kind) (t bytes : List ℕ) → IsUtf8 t → is_quoted kind ≡ true → IsWrittenAs kind bytes (chars t) → length (opener kind) + 1 ≤ length t
+pub written_long : (kind : Kind) (t bytes : List ℕ) → IsUtf8 t → is_quoted kind ≡ true
+    → IsWrittenAs kind bytes (chars t) → length (opener kind) + 1 ≤ length t
 written_long kind t bytes u q w =
     let l = lengths kind t w.value (enclosed kind (chars t) w.value q w.written) u in
-    omega (arith, ap length l.whole, length-append l.front (l.body ++ l.back), length-append l.body l.back, l.front_long, l.back_long)
+    omega (arith, ap length l.whole, length-append l.front (l.body ++ l.back), length-append l.body l.back,
+        l.front_long, l.back_long)
 
 -- the body is whole where it is the value
 abbrev Whole : Kind → Bool → List ℕ → List ℕ → Type 0
@@ -197,25 +211,37 @@ single_of : (kind : Kind) → is_quoted kind ≡ true → is_string kind ≡ fal
 single_of kind q s = cc
 
 -- the places of what the value with these bytes is written as
-pub written_at : (kind : Kind) (t bytes : List ℕ) (body : Body) → IsUtf8 t → is_quoted kind ≡ true → IsWrittenAs kind bytes (chars t) → body.lo ≡ length (opener kind) → body.hi ≡ length t - 1 → body.suffix_at ≡ length t → Whole kind body.plain (body_in t body) bytes → StandsAt kind t body
+pub written_at : (kind : Kind) (t bytes : List ℕ) (body : Body) → IsUtf8 t → is_quoted kind ≡ true
+    → IsWrittenAs kind bytes (chars t) → body.lo ≡ length (opener kind) → body.hi ≡ length t - 1 → body.suffix_at
+    ≡ length t → Whole kind body.plain (body_in t body) bytes → StandsAt kind t body
 written_at kind t bytes body u q w at end_at suffix_at whole =
     let e = enclosed kind (chars t) w.value q w.written in
     let b = between kind t w.value e body u (record { at = at; end_at = end_at; suffix_at = suffix_at }) in
     let f = e.has in
     let inside = body_in t body in
     let following = suffix_in t body in
-    let At : List ℕ → List ℕ → Type 0 = λ y x. (p : PartsAre f.form kind (chars t) w.value y x) × (body.lo ≡ front_len f.form kind (chars t) w.value y x p) in
-    let placed : At (chars inside) (chars following) = subst (λ z. At z (chars following)) (sym b.body_is) (subst (At e.inside) (sym b.suffix_is) (f.parts, at ∙ sym f.front)) in
+    let At : List ℕ → List ℕ → Type 0 = λ y x. (p : PartsAre f.form kind (chars t) w.value y x)
+        × (body.lo ≡ front_len f.form kind (chars t) w.value y x p) in
+    let placed : At (chars inside) (chars following) = subst (λ z. At z (chars following)) (sym b.body_is)
+        (subst (At e.inside) (sym b.suffix_is) (f.parts, at ∙ sym f.front)) in
     let parts = placed.0 in
-    let told : body.plain ≡ is_plain_body f.form kind (chars inside) = go e parts (body_text t body u b.stands) (is_string kind) refl in
-    let quoted : IsQuotedAt kind t body = record { form = f.form; value = w.value; parts = parts; plain_is = told; lo_is = placed.1; stands = b.stands } in
+    let told : body.plain ≡ is_plain_body f.form kind (chars inside) = go e parts (body_text t body u b.stands)
+        (is_string kind) refl in
+    let quoted : IsQuotedAt kind t body = record { form = f.form; value = w.value; parts = parts; plain_is = told; lo_is
+        = placed.1; stands = b.stands } in
     let all = quoted_whole t kind body u quoted in
     record { reads = all.reads; stands = quoted.stands; plain = all.plain; quoted = λ h. quoted }
   where
-    go : (e : Enclosed kind (chars t) w.value) → PartsAre e.has.form kind (chars t) w.value (chars (body_in t body)) (chars (suffix_in t body)) → IsUtf8 (body_in t body) → (s : Bool) → is_string kind ≡ s → body.plain ≡ is_plain_body e.has.form kind (chars (body_in t body))
+    go : (e : Enclosed kind (chars t) w.value) → PartsAre e.has.form kind (chars t) w.value (chars (body_in t body))
+        (chars (suffix_in t body)) → IsUtf8 (body_in t body) → (s : Bool) → is_string kind ≡ s → body.plain
+        ≡ is_plain_body e.has.form kind (chars (body_in t body))
     go e p ub true s = same_bools _ _
-        (λ h. not_false _ (λ other. let (cooked, fails) = cooked_other e.has.form kind (chars t) w.value _ _ s other p in omega (arith, cooked_shortens kind (chars t) w.value _ _ fails ub cooked, ap length ((whole.0 h).1 ∙ w.bytes_are))))
-        (λ h. whole.1 (s, plain_bytes (chars t) e.has.form kind w.value _ _ h ub p kind _ _ s e.reads ∙ ap (in_bytes kind) e.value_is ∙ sym w.bytes_are))
+        (λ h. not_false _ (λ other. let (cooked, fails) = cooked_other e.has.form kind (chars t) w.value _ _ s other p
+            in omega (arith, cooked_shortens kind (chars t) w.value _ _ fails ub cooked, ap length
+            ((whole.0 h).1 ∙ w.bytes_are))))
+        (λ h. whole.1 (s, plain_bytes (chars t) e.has.form kind w.value _ _ h ub p kind _ _ s e.reads
+            ∙ ap (in_bytes kind) e.value_is ∙ sym w.bytes_are))
     go e p ub false s = same_bools _ _
         (λ h. absurd (both_ways (is_string kind) s (whole.0 h).0))
-        (λ h. absurd (both_ways (is_plain_body e.has.form kind (chars (body_in t body))) (e.has.single (single_of kind q s) _) h))
+        (λ h. absurd (both_ways (is_plain_body e.has.form kind (chars (body_in t body)))
+            (e.has.single (single_of kind q s) _) h))

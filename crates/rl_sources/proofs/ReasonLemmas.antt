@@ -1,5 +1,6 @@
 -- The place of a flaw in the source, and its line.
-use Rattle.std.proofs.Common.{◌≡◌, ℕ, ◌+◌, ◌≤◌, List, [], ◌∷◌, ◌++◌, length, drop, refl, sym, ap, subst, ◌∙◌, append_assoc, arith, length-append, true, inl, inr}
+use Rattle.std.proofs.Common.{◌≡◌, ℕ, ◌+◌, ◌≤◌, List, [], ◌∷◌, ◌++◌, length, drop, refl, sym, ap, subst, ◌∙◌,
+    append_assoc, arith, length-append, true, inl, inr}
 use Rattle.std.specs.Prelude.{encode_utf8, encode_utf8_all, codes, IsTrue}
 use Rattle.std.specs.Char.{is_ascii}
 use Rattle.std.specs.Str.{chars, IsUtf8, IsAscii, IsCharBoundary}
@@ -7,7 +8,8 @@ use Rattle.std.specs.List.{list_all}
 use Rattle.std.proofs.Math.Seq.{drop-append_seam}
 use Rattle.std.proofs.lemmas.Bool.{and_parts, ltb-true}
 use Rattle.std.proofs.lemmas.List.{append-nil}
-use Rattle.std.proofs.lemmas.Str.{encodes-append, encodes-chars, chars-IsAscii, IsUtf8-past_char, IsCharBoundary-from_drop, IsAscii-append}
+use Rattle.std.proofs.lemmas.Str.{encodes-append, encodes-chars, chars-IsAscii, IsUtf8-past_char,
+    IsCharBoundary-from_drop, IsAscii-append}
 use Rattle.std.proofs.lemmas.Str.Ascii.{IsAscii-nil, IsAscii-cons}
 use Rattle.rl_tokens.specs.Reading.{HasReading}
 use Rattle.rl_tokens.specs.Texts.{IsTail, byte_len}
@@ -17,7 +19,10 @@ use Rattle.rl_tokens.proofs.TailLemmas.{tail_step}
 use Rattle.rl_tokens.proofs.CutLemmas.{byte_len-append}
 use Rattle.rl_grammar.specs.declared.flaws.Flaw.{Flaw}
 use Rattle.rl_grammar.specs.declared.flaws.FlawKind.{FlawKind}
-use Rattle.rl_grammar.specs.declared.flaws.FlawKind.TheVariants.{Empty, NoLiteral, Unfinished, NoQuote, NoNumber, Unclosed, UnknownEscape, NoUnicode, NoHexDigit, NoBrace, EmptyBraces, TooManyDigits, PastAscii, PastUnicode, Surrogate, Nul, NotAscii, LateQuote, LoneCr, MustEscape, NoCharacter, TwoCharacters, NoExponentDigit, BadSuffix, TooLarge}
+use Rattle.rl_grammar.specs.declared.flaws.FlawKind.TheVariants.{Empty, NoLiteral, Unfinished, NoQuote, NoNumber,
+    Unclosed, UnknownEscape, NoUnicode, NoHexDigit, NoBrace, EmptyBraces, TooManyDigits, PastAscii, PastUnicode,
+    Surrogate, Nul, NotAscii, LateQuote, LoneCr, MustEscape, NoCharacter, TwoCharacters, NoExponentDigit, BadSuffix,
+    TooLarge}
 use Rattle.rl_grammar.specs.Flaws.{Explains, first_len}
 use Rattle.rl_grammar.specs.FlawWords.{flaw_message}
 use Rattle.rl_lines.specs.Lines.{Appends}
@@ -41,20 +46,24 @@ later_tail text a b p q le =
     record { front = found.0; text_is = found.1; is_text = q.is_text }
 
 -- the cursor over lines isn't ahead of a rest that isn't longer
-pub places_on : (text rest next : List ℕ) (lines : CursorState) → HoldsPlaces text rest lines → IsCursorState text next → length next ≤ length rest → IsTail lines.rest next
+pub places_on : (text rest next : List ℕ) (lines : CursorState) → HoldsPlaces text rest lines → IsCursorState text next
+    → length next ≤ length rest → IsTail lines.rest next
 places_on text rest next lines holds cursor le =
-    subst (λ (r : List ℕ). IsTail r next) (sym holds.rest_is) (later_tail text rest next holds.cursor.following cursor.following le)
+    subst (λ (r : List ℕ). IsTail r next) (sym holds.rest_is) (later_tail text rest next holds.cursor.following
+        cursor.following le)
 
 -- what is left after the front of a text is a text
 back_utf8 : (front back : List ℕ) → IsUtf8 (encode_utf8_all (front ++ back)) → IsUtf8 (encode_utf8_all back)
 back_utf8 [] back u = u
-back_utf8 (c ∷ cs) back u = back_utf8 cs back (IsUtf8-past_char (encode_utf8_all (c ∷ (cs ++ back))) (encode_utf8_all (cs ++ back)) c u refl)
+back_utf8 (c ∷ cs) back u = back_utf8 cs back (IsUtf8-past_char (encode_utf8_all (c ∷ (cs ++ back)))
+    (encode_utf8_all (cs ++ back)) c u refl)
 
 -- the first character is within the text
 first_within : (cs : List ℕ) → first_len cs ≤ byte_len cs
 first_within [] = omega arith
 first_within (c ∷ cs) =
-    let whole : byte_len (c ∷ cs) ≡ length (encode_utf8 c) + byte_len cs = length-append (encode_utf8 c) (encode_utf8_all cs) in
+    let whole : byte_len (c ∷ cs) ≡ length (encode_utf8 c) + byte_len cs = length-append (encode_utf8 c)
+        (encode_utf8_all cs) in
     omega (arith, whole)
 
 -- The place of a flaw of the token's text is one of the rest.
@@ -65,19 +74,27 @@ pub record StandsWithin (rest : List ℕ) (lo hi size : ℕ) : Type 0 where
   pub ordered : lo ≤ hi
   pub within : hi ≤ size
 
-pub flaw_within : (token : SourceToken) (text rest : List ℕ) (flaw : Flaw) → BeginsRest token text rest → Explains (chars token.text.now) flaw → StandsWithin rest flaw.lo flaw.hi (byte_len (chars token.text.now))
+pub flaw_within : (token : SourceToken) (text rest : List ℕ) (flaw : Flaw) → BeginsRest token text rest
+    → Explains (chars token.text.now) flaw → StandsWithin rest flaw.lo flaw.hi (byte_len (chars token.text.now))
 flaw_within token text rest flaw begins explains =
     let stops = explains.place.stops in
     let inside = explains.place.rest in
     let back = inside ++ begins.after in
     let u : IsUtf8 rest = begins.cursor.following.is_text in
-    let cut : chars rest ≡ stops.front ++ back = begins.begins ∙ ap (λ z. z ++ begins.after) stops.text_is ∙ append_assoc stops.front inside begins.after in
-    let bytes : rest ≡ encode_utf8_all stops.front ++ encode_utf8_all back = sym (encodes-chars rest u) ∙ ap encode_utf8_all cut ∙ encodes-append stops.front back in
-    let is_text : IsUtf8 (encode_utf8_all back) = back_utf8 stops.front back (subst IsUtf8 (sym (encodes-chars rest u) ∙ ap encode_utf8_all cut) u) in
-    let dropped : drop flaw.lo rest ≡ encode_utf8_all back = ap (λ n. drop n rest) explains.place.lo_is ∙ ap (drop (byte_len stops.front)) bytes ∙ drop-append_seam (encode_utf8_all stops.front) (encode_utf8_all back) in
+    let cut : chars rest ≡ stops.front ++ back = begins.begins ∙ ap (λ z. z ++ begins.after) stops.text_is
+        ∙ append_assoc stops.front inside begins.after in
+    let bytes : rest ≡ encode_utf8_all stops.front ++ encode_utf8_all back = sym (encodes-chars rest u)
+        ∙ ap encode_utf8_all cut ∙ encodes-append stops.front back in
+    let is_text : IsUtf8 (encode_utf8_all back) = back_utf8 stops.front back
+        (subst IsUtf8 (sym (encodes-chars rest u) ∙ ap encode_utf8_all cut) u) in
+    let dropped : drop flaw.lo rest ≡ encode_utf8_all back = ap (λ n. drop n rest) explains.place.lo_is
+        ∙ ap (drop (byte_len stops.front)) bytes ∙ drop-append_seam (encode_utf8_all stops.front) (encode_utf8_all back)
+        in
     let is_rest : IsUtf8 (drop flaw.lo rest) = subst IsUtf8 (sym dropped) is_text in
-    let long : length rest ≡ byte_len stops.front + byte_len back = ap length bytes ∙ length-append (encode_utf8_all stops.front) (encode_utf8_all back) in
-    let whole : byte_len (chars token.text.now) ≡ byte_len stops.front + byte_len inside = ap byte_len stops.text_is ∙ byte_len-append stops.front inside in
+    let long : length rest ≡ byte_len stops.front + byte_len back = ap length bytes
+        ∙ length-append (encode_utf8_all stops.front) (encode_utf8_all back) in
+    let whole : byte_len (chars token.text.now) ≡ byte_len stops.front + byte_len inside = ap byte_len stops.text_is
+        ∙ byte_len-append stops.front inside in
     record {
       following = record {
         front = encode_utf8_all stops.front;
@@ -131,27 +148,36 @@ flaw_line place kind = place_text place ++ (codes " error: " ++ (flaw_message ki
 
 line_ascii : (place : Place) (kind : FlawKind) → IsAscii (flaw_line place kind)
 line_ascii place kind =
-    let after : IsAscii (flaw_message kind ++ codes "\n") = IsAscii-append (flaw_message kind) (codes "\n") (low_text (flaw_message kind) (message_low kind)) (low_text (codes "\n") refl) in
-    IsAscii-append (place_text place) (codes " error: " ++ (flaw_message kind ++ codes "\n")) (place_ascii place) (IsAscii-append (codes " error: ") (flaw_message kind ++ codes "\n") (low_text (codes " error: ") refl) after)
+    let after : IsAscii (flaw_message kind ++ codes "\n") = IsAscii-append (flaw_message kind) (codes "\n")
+        (low_text (flaw_message kind) (message_low kind)) (low_text (codes "\n") refl) in
+    IsAscii-append (place_text place) (codes " error: " ++ (flaw_message kind ++ codes "\n")) (place_ascii place)
+        (IsAscii-append (codes " error: ") (flaw_message kind ++ codes "\n") (low_text (codes " error: ") refl) after)
 
 -- the line was appended
-pub explains_why : (options : Options) (whole text : List ℕ) (lo : ℕ) (flaw : Flaw) (place : Place) (old new : List ℕ) → IsUtf8 old → IsTrue options.explains → Explains text flaw → IsPlaceIn options.by_line whole (lo + flaw.lo) (lo + flaw.hi) place → new ≡ old ++ flaw_line place flaw.kind → Appends (IsReasonLine options whole text lo) (chars old) (chars new)
+pub explains_why : (options : Options) (whole text : List ℕ) (lo : ℕ) (flaw : Flaw) (place : Place) (old new : List ℕ)
+    → IsUtf8 old → IsTrue options.explains → Explains text flaw
+    → IsPlaceIn options.by_line whole (lo + flaw.lo) (lo + flaw.hi) place → new ≡ old ++ flaw_line place flaw.kind
+    → Appends (IsReasonLine options whole text lo) (chars old) (chars new)
 explains_why options whole text lo flaw place old new utf8 asked explains is_place written =
     let line = flaw_line place flaw.kind in
-    (line, inl (asked, (flaw, place, explains, is_place, refl)), pushed old new line utf8 written ∙ ap (λ z. chars old ++ z) (chars-IsAscii line (line_ascii place flaw.kind)))
+    (line, inl (asked, (flaw, place, explains, is_place, refl)), pushed old new line utf8 written
+        ∙ ap (λ z. chars old ++ z) (chars-IsAscii line (line_ascii place flaw.kind)))
 
 -- nothing was appended
-pub explains_nothing : (options : Options) (whole text : List ℕ) (lo : ℕ) (old : List ℕ) → (IsTrue options.explains → HasReading text) → Appends (IsReasonLine options whole text lo) old old
+pub explains_nothing : (options : Options) (whole text : List ℕ) (lo : ℕ) (old : List ℕ)
+    → (IsTrue options.explains → HasReading text) → Appends (IsReasonLine options whole text lo) old old
 explains_nothing options whole text lo old reads = ([], inr (reads, refl), sym (append-nil old))
 
 -- ---- the steps
 
-pub flaw_fits : (token : SourceToken) (text rest : List ℕ) (flaw : Flaw) → BeginsRest token text rest → Explains (chars token.text.now) flaw → (token.lo + flaw.lo ≤ token.hi) × (token.lo + flaw.hi ≤ token.hi)
+pub flaw_fits : (token : SourceToken) (text rest : List ℕ) (flaw : Flaw) → BeginsRest token text rest
+    → Explains (chars token.text.now) flaw → (token.lo + flaw.lo ≤ token.hi) × (token.lo + flaw.hi ≤ token.hi)
 flaw_fits token text rest flaw begins explains =
     let within = flaw_within token text rest flaw begins explains in
     (omega (arith, within.ordered, within.within, begins.hi_is), omega (arith, within.within, begins.hi_is))
 
-pub flaw_rest : (token : SourceToken) (text rest inside : List ℕ) (flaw : Flaw) → BeginsRest token text rest → Explains (chars token.text.now) flaw → inside ≡ drop flaw.lo rest → IsCursorState text inside
+pub flaw_rest : (token : SourceToken) (text rest inside : List ℕ) (flaw : Flaw) → BeginsRest token text rest
+    → Explains (chars token.text.now) flaw → inside ≡ drop flaw.lo rest → IsCursorState text inside
 flaw_rest token text rest inside flaw begins explains is =
     let within = flaw_within token text rest flaw begins explains in
     subst (IsCursorState text) (sym is) (record {

@@ -1,5 +1,6 @@
 -- What is shown of a source, token after token.
-use Rattle.std.proofs.Common.{◌≡◌, ◌≢◌, inl, inr, ℕ, ◌+◌, ◌-◌, drop, Bool, true, false, not, ◌||◌, ◌==◌, List, [], ◌∷◌, ◌++◌, length, take, refl, sym, ap, subst, ◌∙◌, append_assoc, arith}
+use Rattle.std.proofs.Common.{◌≡◌, ◌≢◌, inl, inr, ℕ, ◌+◌, ◌-◌, drop, Bool, true, false, not, ◌||◌, ◌==◌, List, [], ◌∷◌,
+    ◌++◌, length, take, refl, sym, ap, subst, ◌∙◌, append_assoc, arith}
 use Rattle.std.specs.Prelude.{IsTrue, ◌↔◌, Option}
 use Rattle.std.specs.Io.KnownBytes.{Appends as AppendsBytes}
 use Rattle.std.specs.List.{AllByRecursion}
@@ -13,7 +14,9 @@ use Rattle.std.proofs.lemmas.List.Elements.{All-nil, All-push}
 use Rattle.rl_tokens.specs.Texts.{IsTail, byte_len}
 use Rattle.rl_tokens.specs.Cursors.{CursorState, IsCursorState}
 use Rattle.rl_tokens.specs.Lexemes.{LiteralForm, IdentifierForm, DelimiterForm, MarkForm}
-use Rattle.rl_tokens.specs.Sources.{source_text, source_end, source_view, source_kind, SourceKind, PlainKind, RawIdentifierKind, LifetimeKind, DocCommentKind, StrayKind, CutSource, IsCutUpTo, IsBorrowedSource, TakesSource, IsLiteralText, IsNoLiteral, PassesTo}
+use Rattle.rl_tokens.specs.Sources.{source_text, source_end, source_view, source_kind, SourceKind, PlainKind,
+    RawIdentifierKind, LifetimeKind, DocCommentKind, StrayKind, CutSource, IsCutUpTo, IsBorrowedSource, TakesSource,
+    IsLiteralText, IsNoLiteral, PassesTo}
 use Rattle.rl_tokens.specs.declared.sources.SourceToken.{SourceToken}
 use Rattle.rl_tokens.specs.declared.lex_error.LexError.{LexError}
 use Rattle.rl_tokens.proofs.TailLemmas.{tail_self, tail_step, cut_boundary, cut_drop}
@@ -35,57 +38,86 @@ adds_none options whole rest piece nothing = record {
   more = [];
   goes_on = λ cuts shown shows.
       let P : List CutSource → List ℕ → Type 0 = λ c s. ShowsUpTo options whole c rest s in
-      subst (λ c. P c (shown ++ piece)) (sym (append-nil cuts)) (subst (P cuts) (sym (ap (λ z. shown ++ z) nothing ∙ append-nil shown)) shows);
+      subst (λ c. P c (shown ++ piece)) (sym (append-nil cuts))
+          (subst (P cuts) (sym (ap (λ z. shown ++ z) nothing ∙ append-nil shown)) shows);
 }
 
 -- what is shown of a token, by its cut
-shown_cut : (options : Options) (whole : List ℕ) (l : SourceToken) (w : CutSource) (shown : List ℕ) → IsBorrowedSource l w → IsShownToken options whole (source_view l.form) (chars l.text.now) l.lo l.hi shown → IsShown options whole w shown
+shown_cut : (options : Options) (whole : List ℕ) (l : SourceToken) (w : CutSource) (shown : List ℕ)
+    → IsBorrowedSource l w → IsShownToken options whole (source_view l.form) (chars l.text.now) l.lo l.hi shown
+    → IsShown options whole w shown
 shown_cut options whole l w shown is h =
-    subst (λ (k : SourceKind). IsShownToken options whole k (source_text w.token) w.at (source_end w) shown) (sym is.kind_is)
+    subst (λ (k : SourceKind). IsShownToken options whole k (source_text w.token) w.at (source_end w) shown)
+        (sym is.kind_is)
     (subst (λ t. IsShownToken options whole (source_view l.form) t w.at (source_end w) shown) (sym is.chars_are)
-    (subst (λ n. IsShownToken options whole (source_view l.form) (chars l.text.now) n (source_end w) shown) (sym is.lo_is)
+    (subst (λ n. IsShownToken options whole (source_view l.form) (chars l.text.now) n (source_end w) shown)
+        (sym is.lo_is)
     (subst (λ n. IsShownToken options whole (source_view l.form) (chars l.text.now) l.lo n shown) (sym is.hi_is) h)))
 
 -- one token more
-adds_one : (options : Options) (start : List ℕ) (old new : CursorState) (l : SourceToken) (piece longer : List ℕ) → Adds options (chars old.text) start (chars old.rest) piece → TakesSource old l new → (IsTrue options.rejects_strays → source_view l.form ≢ StrayKind) → Appends (IsShownToken options (chars old.text) (source_view l.form) (chars l.text.now) l.lo l.hi) piece longer → Adds options (chars old.text) start (chars new.rest) longer
+adds_one : (options : Options) (start : List ℕ) (old new : CursorState) (l : SourceToken) (piece longer : List ℕ)
+    → Adds options (chars old.text) start (chars old.rest) piece → TakesSource old l new
+    → (IsTrue options.rejects_strays → source_view l.form ≢ StrayKind)
+    → Appends (IsShownToken options (chars old.text) (source_view l.form) (chars l.text.now) l.lo l.hi) piece longer
+    → Adds options (chars old.text) start (chars new.rest) longer
 adds_one options start old new l piece longer adds takes accepted (last, is_last, longer_is) =
     let w = takes.cut in
     record {
       more = adds.more ++ w ∷ [];
       goes_on = λ cuts shown shows.
           let before = adds.goes_on cuts shown shows in
-          let all : (cuts ++ adds.more) ++ w ∷ [] ≡ cuts ++ (adds.more ++ w ∷ []) = append_assoc cuts adds.more (w ∷ []) in
-          let text : (shown ++ piece) ++ last ≡ shown ++ longer = append_assoc shown piece last ∙ ap (λ z. shown ++ z) (sym longer_is) in
-          let here : ShowsUpTo options (chars old.text) ((cuts ++ adds.more) ++ w ∷ []) (chars new.rest) ((shown ++ piece) ++ last) =
+          let all : (cuts ++ adds.more) ++ w ∷ [] ≡ cuts ++ (adds.more ++ w ∷ []) = append_assoc cuts adds.more (w ∷ [])
+              in
+          let text : (shown ++ piece) ++ last ≡ shown ++ longer = append_assoc shown piece last
+              ∙ ap (λ z. shown ++ z) (sym longer_is) in
+          let here : ShowsUpTo options (chars old.text) ((cuts ++ adds.more) ++ w ∷ []) (chars new.rest)
+              ((shown ++ piece) ++ last) =
           record {
             are_cuts = takes.goes_on (cuts ++ adds.more) before.are_cuts;
-            accepted = λ rejects. All-push IsNoStray (cuts ++ adds.more) w (before.accepted rejects) (λ same. accepted rejects (sym takes.is_cut.kind_is ∙ same));
-            lines = joins_append (IsShown options (chars old.text)) (cuts ++ adds.more) (w ∷ []) (shown ++ piece) last before.lines (joins_one (IsShown options (chars old.text)) w last (shown_cut options (chars old.text) l w last takes.is_cut is_last));
+            accepted = λ rejects. All-push IsNoStray (cuts ++ adds.more) w (before.accepted rejects)
+                (λ same. accepted rejects (sym takes.is_cut.kind_is ∙ same));
+            lines = joins_append (IsShown options (chars old.text)) (cuts ++ adds.more) (w ∷ []) (shown ++ piece) last
+                before.lines (joins_one (IsShown options (chars old.text)) w last
+                (shown_cut options (chars old.text) l w last takes.is_cut is_last));
           } in
-          subst (λ (c : List CutSource). ShowsUpTo options (chars old.text) c (chars new.rest) (shown ++ longer)) all (subst (λ s. ShowsUpTo options (chars old.text) ((cuts ++ adds.more) ++ w ∷ []) (chars new.rest) s) text here);
+          subst (λ (c : List CutSource). ShowsUpTo options (chars old.text) c (chars new.rest) (shown ++ longer)) all
+              (subst (λ s. ShowsUpTo options (chars old.text) ((cuts ++ adds.more) ++ w ∷ []) (chars new.rest) s) text
+              here);
     }
 
 -- the same, with the text as the loop's start and the cursor over places have it
-pub adds_token : (options : Options) (text start : List ℕ) (old new : CursorState) (places : List ℕ) (l : SourceToken) (piece longer : List ℕ) → old.text ≡ text → places ≡ old.text → Adds options (chars text) start (chars old.rest) piece → TakesSource old l new → (IsTrue options.rejects_strays → source_view l.form ≢ StrayKind) → Appends (IsShownToken options (chars places) (source_view l.form) (chars l.text.now) l.lo l.hi) piece longer → Adds options (chars text) start (chars new.rest) longer
+pub adds_token : (options : Options) (text start : List ℕ) (old new : CursorState) (places : List ℕ) (l : SourceToken)
+    (piece longer : List ℕ) → old.text ≡ text → places ≡ old.text
+    → Adds options (chars text) start (chars old.rest) piece → TakesSource old l new
+    → (IsTrue options.rejects_strays → source_view l.form ≢ StrayKind)
+    → Appends (IsShownToken options (chars places) (source_view l.form) (chars l.text.now) l.lo l.hi) piece longer
+    → Adds options (chars text) start (chars new.rest) longer
 adds_token options text start old new places l piece longer same seen adds takes accepted shown =
     let Here : List ℕ → Type 0 = λ t. Adds options (chars t) start (chars new.rest) longer in
-    let Shown : List ℕ → Type 0 = λ t. Appends (IsShownToken options (chars t) (source_view l.form) (chars l.text.now) l.lo l.hi) piece longer in
+    let Shown : List ℕ → Type 0 = λ t. Appends (IsShownToken options (chars t) (source_view l.form) (chars l.text.now)
+        l.lo l.hi) piece longer in
     let Before : List ℕ → Type 0 = λ t. Adds options (chars t) start (chars old.rest) piece in
-    subst Here same (adds_one options start old new l piece longer (subst Before (sym same) adds) takes accepted (subst Shown seen shown))
+    subst Here same (adds_one options start old new l piece longer (subst Before (sym same) adds) takes accepted
+        (subst Shown seen shown))
 
 -- the cursor after a token
-pub stands_on : (tokens next : CursorState) (places later : List ℕ) (l : SourceToken) → IsCursorOver tokens places → TakesSource tokens l next → later ≡ places → IsCursorOver next later
+pub stands_on : (tokens next : CursorState) (places later : List ℕ) (l : SourceToken) → IsCursorOver tokens places
+    → TakesSource tokens l next → later ≡ places → IsCursorOver next later
 stands_on tokens next places later l stands takes same =
-    let tail : IsTail tokens.text next.rest = tail_step tokens.text tokens.rest next.rest stands.cursor.following takes.following in
+    let tail : IsTail tokens.text next.rest = tail_step tokens.text tokens.rest next.rest stands.cursor.following
+        takes.following in
     record {
-      cursor = subst (λ t. IsCursorState t next.rest) (sym takes.same) (record { is_text = stands.cursor.is_text; following = tail });
+      cursor = subst (λ t. IsCursorState t next.rest) (sym takes.same)
+          (record { is_text = stands.cursor.is_text; following = tail });
       text_is = same ∙ stands.text_is ∙ sym takes.same;
     }
 
 -- the token begins what was left before it
-pub begins_rest : (tokens next : CursorState) (places rest : List ℕ) (l : SourceToken) → IsCursorOver tokens places → TakesSource tokens l next → rest ≡ tokens.rest → BeginsRest l places rest
+pub begins_rest : (tokens next : CursorState) (places rest : List ℕ) (l : SourceToken) → IsCursorOver tokens places
+    → TakesSource tokens l next → rest ≡ tokens.rest → BeginsRest l places rest
 begins_rest tokens next places rest l stands takes same =
-    let whole : (t : List ℕ) → t ≡ tokens.text → BeginsRest l t tokens.rest = λ t e. subst (λ (t : List ℕ). BeginsRest l t tokens.rest) (sym e) (record {
+    let whole : (t : List ℕ) → t ≡ tokens.text → BeginsRest l t tokens.rest = λ t e. subst
+        (λ (t : List ℕ). BeginsRest l t tokens.rest) (sym e) (record {
       cursor = stands.cursor;
       lo_is = takes.place;
       hi_is = omega (arith, takes.is_cut.lo_is, takes.is_cut.hi_is, ap byte_len takes.is_cut.chars_are);
@@ -95,29 +127,38 @@ begins_rest tokens next places rest l stands takes same =
     subst (λ (r : List ℕ). BeginsRest l places r) (sym same) (whole places stands.text_is)
 
 -- the source stops at an error
-pub stops : (options : Options) (text : List ℕ) (old : CursorState) (places : List ℕ) (start piece : List ℕ) (e : LexError) (place : Place) → old.text ≡ text → IsCursorOver old places → Adds options (chars text) start (chars old.rest) piece → IsErrorAt options.rejects_strays e.kind (chars old.rest) → e.at + length old.rest ≡ length old.text → IsPlaceIn options.by_line (chars places) e.at e.at place → (at : ℕ) × (rest : List ℕ) × Adds options (chars text) start rest piece × IsErrorAt options.rejects_strays e.kind rest × (at + byte_len rest ≡ byte_len (chars text)) × IsPlaceIn options.by_line (chars text) at at place
+pub stops : (options : Options) (text : List ℕ) (old : CursorState) (places : List ℕ) (start piece : List ℕ)
+    (e : LexError) (place : Place) → old.text ≡ text → IsCursorOver old places
+    → Adds options (chars text) start (chars old.rest) piece → IsErrorAt options.rejects_strays e.kind (chars old.rest)
+    → e.at + length old.rest ≡ length old.text → IsPlaceIn options.by_line (chars places) e.at e.at place → (at : ℕ)
+    × (rest : List ℕ) × Adds options (chars text) start rest piece × IsErrorAt options.rejects_strays e.kind rest
+    × (at + byte_len rest ≡ byte_len (chars text)) × IsPlaceIn options.by_line (chars text) at at place
 stops options text old places start piece e place same stands adds error at is_place = (
   e.at,
   chars old.rest,
   adds,
   error,
-  omega (arith, at, ap length same, ap (λ t. byte_len (chars t)) same, char_len old.rest stands.cursor.following.is_text, char_len old.text stands.cursor.is_text),
+  omega (arith, at, ap length same, ap (λ t. byte_len (chars t)) same, char_len old.rest
+      stands.cursor.following.is_text, char_len old.text stands.cursor.is_text),
   subst (λ (t : List ℕ). IsPlaceIn options.by_line (chars t) e.at e.at place) (stands.text_is ∙ same) is_place,
 )
 
 -- two pieces, one after the other
-pub adds_join : (options : Options) (whole a b d first last : List ℕ) → Adds options whole a b first → Adds options whole b d last → Adds options whole a d (first ++ last)
+pub adds_join : (options : Options) (whole a b d first last : List ℕ) → Adds options whole a b first
+    → Adds options whole b d last → Adds options whole a d (first ++ last)
 adds_join options whole a b d first last p q = record {
   more = p.more ++ q.more;
   goes_on = λ cuts shown shows.
       let P : List CutSource → List ℕ → Type 0 = λ c s. ShowsUpTo options whole c d s in
       subst (λ c. P c (shown ++ (first ++ last))) (append_assoc cuts p.more q.more)
-      (subst (P ((cuts ++ p.more) ++ q.more)) (append_assoc shown first last) (q.goes_on (cuts ++ p.more) (shown ++ first) (p.goes_on cuts shown shows)));
+      (subst (P ((cuts ++ p.more) ++ q.more)) (append_assoc shown first last)
+          (q.goes_on (cuts ++ p.more) (shown ++ first) (p.goes_on cuts shown shows)));
 }
 
 -- ---- tokens of which nothing is shown
 
-nothing_of : (options : Options) (whole text : List ℕ) (kind : SourceKind) (lo hi : ℕ) → (IsLiteralText kind text → ⊥) → IsShownToken options whole kind text lo hi []
+nothing_of : (options : Options) (whole text : List ℕ) (kind : SourceKind) (lo hi : ℕ) → (IsLiteralText kind text → ⊥)
+    → IsShownToken options whole kind text lo hi []
 nothing_of options whole text (PlainKind LiteralForm) lo hi other = absurd (other tt)
 nothing_of options whole text (PlainKind IdentifierForm) lo hi other = inr (λ b e. other (b, e), refl)
 nothing_of options whole text (PlainKind (DelimiterForm c)) lo hi other = refl
@@ -127,19 +168,24 @@ nothing_of options whole text LifetimeKind lo hi other = refl
 nothing_of options whole text DocCommentKind lo hi other = refl
 nothing_of options whole text StrayKind lo hi other = refl
 
-joins_nothing : (options : Options) (whole : List ℕ) (ws : List CutSource) → AllByRecursion IsNoLiteral ws → Joins (IsShown options whole) ws []
+joins_nothing : (options : Options) (whole : List ℕ) (ws : List CutSource) → AllByRecursion IsNoLiteral ws
+    → Joins (IsShown options whole) ws []
 joins_nothing options whole [] each = refl
 joins_nothing options whole (w ∷ ws) each =
-    joins_append (IsShown options whole) (w ∷ []) ws [] [] (joins_one (IsShown options whole) w [] (nothing_of options whole (source_text w.token) (source_kind w.token) w.at (source_end w) each.0)) (joins_nothing options whole ws each.1)
+    joins_append (IsShown options whole) (w ∷ []) ws [] [] (joins_one (IsShown options whole) w []
+        (nothing_of options whole (source_text w.token) (source_kind w.token) w.at (source_end w) each.0))
+        (joins_nothing options whole ws each.1)
 
-pub unshown_passed : (options : Options) (old new : CursorState) → options.rejects_strays ≡ false → PassesTo old new → IsUnshown options old new
+pub unshown_passed : (options : Options) (old new : CursorState) → options.rejects_strays ≡ false → PassesTo old new
+    → IsUnshown options old new
 unshown_passed options old new lax p = record {
   adds = record {
     more = p.cuts;
     goes_on = λ cuts shown shows. record {
       are_cuts = p.goes_on cuts shows.are_cuts;
       accepted = λ rejects. absurd (false≢true (sym lax ∙ rejects));
-      lines = joins_append (IsShown options (chars old.text)) cuts p.cuts shown [] shows.lines (joins_nothing options (chars old.text) p.cuts p.others);
+      lines = joins_append (IsShown options (chars old.text)) cuts p.cuts shown [] shows.lines
+          (joins_nothing options (chars old.text) p.cuts p.others);
     };
   };
   same = p.same;
@@ -147,26 +193,35 @@ unshown_passed options old new lax p = record {
 }
 
 pub unshown_none : (options : Options) (old : CursorState) → IsCursorState old.text old.rest → IsUnshown options old old
-unshown_none options old is = record { adds = adds_none options (chars old.text) (chars old.rest) [] refl; same = refl; following = tail_self old.rest is.following.is_text }
+unshown_none options old is = record { adds = adds_none options (chars old.text) (chars old.rest) [] refl; same = refl;
+    following = tail_self old.rest is.following.is_text }
 
-pub unshown_more : (options : Options) (a b d : CursorState) (l : SourceToken) → IsUnshown options a b → TakesSource b l d → (IsTrue options.rejects_strays → source_view l.form ≢ StrayKind) → (IsLiteralText (source_view l.form) (chars l.text.now) → ⊥) → IsUnshown options a d
+pub unshown_more : (options : Options) (a b d : CursorState) (l : SourceToken) → IsUnshown options a b
+    → TakesSource b l d → (IsTrue options.rejects_strays → source_view l.form ≢ StrayKind)
+    → (IsLiteralText (source_view l.form) (chars l.text.now) → ⊥) → IsUnshown options a d
 unshown_more options a b d l u takes accepted other = record {
-  adds = adds_token options a.text (chars a.rest) b d b.text l [] [] u.same refl u.adds takes accepted ([], nothing_of options (chars b.text) (chars l.text.now) (source_view l.form) l.lo l.hi other, refl);
+  adds = adds_token options a.text (chars a.rest) b d b.text l [] [] u.same refl u.adds takes accepted
+      ([], nothing_of options (chars b.text) (chars l.text.now) (source_view l.form) l.lo l.hi other, refl);
   same = takes.same ∙ u.same;
   following = tail_step a.rest b.rest d.rest u.following takes.following;
 }
 
 -- the cursor before a literal, or before an error
-pub stands_before : (options : Options) (tokens between : CursorState) (places : List ℕ) → IsCursorOver tokens places → IsUnshown options tokens between → IsCursorOver between places
+pub stands_before : (options : Options) (tokens between : CursorState) (places : List ℕ) → IsCursorOver tokens places
+    → IsUnshown options tokens between → IsCursorOver between places
 stands_before options tokens between places stands unshown =
-    let tail : IsTail tokens.text between.rest = tail_step tokens.text tokens.rest between.rest stands.cursor.following unshown.following in
+    let tail : IsTail tokens.text between.rest = tail_step tokens.text tokens.rest between.rest stands.cursor.following
+        unshown.following in
     record {
-      cursor = subst (λ t. IsCursorState t between.rest) (sym unshown.same) (record { is_text = stands.cursor.is_text; following = tail });
+      cursor = subst (λ t. IsCursorState t between.rest) (sym unshown.same)
+          (record { is_text = stands.cursor.is_text; following = tail });
       text_is = stands.text_is ∙ sym unshown.same;
     }
 
 -- a literal is shown as one, and is no stray
-shown_literal : (options : Options) (whole text : List ℕ) (kind : SourceKind) (lo hi : ℕ) (shown : List ℕ) → IsLiteralText kind text → IsShownLiteral options whole text lo hi shown → IsShownToken options whole kind text lo hi shown
+shown_literal : (options : Options) (whole text : List ℕ) (kind : SourceKind) (lo hi : ℕ) (shown : List ℕ)
+    → IsLiteralText kind text → IsShownLiteral options whole text lo hi shown
+    → IsShownToken options whole kind text lo hi shown
 shown_literal options whole text (PlainKind LiteralForm) lo hi shown is h = h
 shown_literal options whole text (PlainKind IdentifierForm) lo hi shown is h = inl (is.0, is.1, h)
 shown_literal options whole text (PlainKind (DelimiterForm c)) lo hi shown is h = absurd is
@@ -179,26 +234,42 @@ shown_literal options whole text StrayKind lo hi shown is h = absurd is
 no_stray : (text : List ℕ) (kind : SourceKind) → IsLiteralText kind text → kind ≢ StrayKind
 no_stray text kind is same = subst (λ k. IsLiteralText k text) same is
 
-pub adds_literal : (options : Options) (text start : List ℕ) (old new : CursorState) (places : List ℕ) (l : SourceToken) (piece longer : List ℕ) → old.text ≡ text → places ≡ old.text → Adds options (chars text) start (chars old.rest) piece → (t : TakesShown options old l new) → Appends (IsShownLiteral options (chars places) (chars l.text.now) l.lo l.hi) piece longer → Adds options (chars text) start (chars new.rest) longer
+pub adds_literal : (options : Options) (text start : List ℕ) (old new : CursorState) (places : List ℕ) (l : SourceToken)
+    (piece longer : List ℕ) → old.text ≡ text → places ≡ old.text
+    → Adds options (chars text) start (chars old.rest) piece → (t : TakesShown options old l new)
+    → Appends (IsShownLiteral options (chars places) (chars l.text.now) l.lo l.hi) piece longer
+    → Adds options (chars text) start (chars new.rest) longer
 adds_literal options text start old new places l piece longer same seen adds t (last, is_last, longer_is) =
     let between = t.between in
-    let nothing : Adds options (chars text) (chars old.rest) (chars between.rest) [] = subst (λ (z : List ℕ). Adds options (chars z) (chars old.rest) (chars between.rest) []) same t.unshown.adds in
-    let before : Adds options (chars text) start (chars between.rest) piece = subst (λ (z : List ℕ). Adds options (chars text) start (chars between.rest) z) (append-nil piece) (adds_join options (chars text) start (chars old.rest) (chars between.rest) piece [] adds nothing) in
-    adds_token options text start between new places l piece longer (t.unshown.same ∙ same) (seen ∙ sym t.unshown.same) before t.takes (λ _. no_stray (chars l.text.now) (source_view l.form) t.is_literal)
-    (last, shown_literal options (chars places) (chars l.text.now) (source_view l.form) l.lo l.hi last t.is_literal is_last, longer_is)
+    let nothing : Adds options (chars text) (chars old.rest) (chars between.rest) [] = subst
+        (λ (z : List ℕ). Adds options (chars z) (chars old.rest) (chars between.rest) []) same t.unshown.adds in
+    let before : Adds options (chars text) start (chars between.rest) piece = subst
+        (λ (z : List ℕ). Adds options (chars text) start (chars between.rest) z) (append-nil piece)
+        (adds_join options (chars text) start (chars old.rest) (chars between.rest) piece [] adds nothing) in
+    adds_token options text start between new places l piece longer (t.unshown.same ∙ same) (seen ∙ sym t.unshown.same)
+        before t.takes (λ _. no_stray (chars l.text.now) (source_view l.form) t.is_literal)
+    (last, shown_literal options (chars places) (chars l.text.now) (source_view l.form) l.lo l.hi last t.is_literal
+        is_last, longer_is)
 
-pub adds_unshown : (options : Options) (text start piece : List ℕ) (old new : CursorState) → old.text ≡ text → Adds options (chars text) start (chars old.rest) piece → IsUnshown options old new → Adds options (chars text) start (chars new.rest) piece
+pub adds_unshown : (options : Options) (text start piece : List ℕ) (old new : CursorState) → old.text ≡ text
+    → Adds options (chars text) start (chars old.rest) piece → IsUnshown options old new
+    → Adds options (chars text) start (chars new.rest) piece
 adds_unshown options text start piece old new same adds unshown =
-    let nothing : Adds options (chars text) (chars old.rest) (chars new.rest) [] = subst (λ (z : List ℕ). Adds options (chars z) (chars old.rest) (chars new.rest) []) same unshown.adds in
-    subst (λ (z : List ℕ). Adds options (chars text) start (chars new.rest) z) (append-nil piece) (adds_join options (chars text) start (chars old.rest) (chars new.rest) piece [] adds nothing)
+    let nothing : Adds options (chars text) (chars old.rest) (chars new.rest) [] = subst
+        (λ (z : List ℕ). Adds options (chars z) (chars old.rest) (chars new.rest) []) same unshown.adds in
+    subst (λ (z : List ℕ). Adds options (chars text) start (chars new.rest) z) (append-nil piece)
+        (adds_join options (chars text) start (chars old.rest) (chars new.rest) piece [] adds nothing)
 
 -- where a rest of the text begins
-pub rest_boundary : (text places rest : List ℕ) (at : ℕ) → IsCursorState text rest → places ≡ text → at + length rest ≡ length text → IsCharBoundary places at
+pub rest_boundary : (text places rest : List ℕ) (at : ℕ) → IsCursorState text rest → places ≡ text → at + length rest
+    ≡ length text → IsCharBoundary places at
 rest_boundary text places rest at is seen place =
     let e : length text - length rest ≡ at = omega (arith, place) in
-    subst (λ (t : List ℕ). IsCharBoundary t at) (sym seen) (subst (IsCharBoundary text) e (cut_boundary text rest is.following))
+    subst (λ (t : List ℕ). IsCharBoundary t at) (sym seen) (subst (IsCharBoundary text) e
+        (cut_boundary text rest is.following))
 
-pub rest_is : (text places rest taken : List ℕ) (at : ℕ) → IsCursorState text rest → places ≡ text → at + length rest ≡ length text → taken ≡ drop at places → taken ≡ rest
+pub rest_is : (text places rest taken : List ℕ) (at : ℕ) → IsCursorState text rest → places ≡ text → at + length rest
+    ≡ length text → taken ≡ drop at places → taken ≡ rest
 rest_is text places rest taken at is seen place drops =
     let e : at ≡ length text - length rest = omega (arith, place) in
     drops ∙ ap (λ t. drop at t) seen ∙ ap (λ n. drop n text) e ∙ cut_drop text rest is.following
@@ -214,7 +285,8 @@ pub record HasWritten (options : Options) (whole rest : List ℕ) (any : Bool) (
   pub written : AppendsBytes old new (encode_utf8_all shown)
 
 -- nothing yet
-pub written_none : (options : Options) (whole rest : List ℕ) (out : Option (List ℕ)) → IsCutUpTo whole [] rest → HasWritten options whole rest false out out
+pub written_none : (options : Options) (whole rest : List ℕ) (out : Option (List ℕ)) → IsCutUpTo whole [] rest
+    → HasWritten options whole rest false out out
 written_none options whole rest out cut = record {
   cuts = [];
   shown = [];
@@ -224,8 +296,10 @@ written_none options whole rest out cut = record {
 }
 
 -- the lines as bytes
-lines_bytes : (shown lines : List ℕ) → IsUtf8 lines → encode_utf8_all (shown ++ chars lines) ≡ encode_utf8_all shown ++ lines
-lines_bytes shown lines utf8 = encodes-append shown (chars lines) ∙ ap (λ z. encode_utf8_all shown ++ z) (encodes-chars lines utf8)
+lines_bytes : (shown lines : List ℕ) → IsUtf8 lines → encode_utf8_all (shown ++ chars lines) ≡ encode_utf8_all shown
+    ++ lines
+lines_bytes shown lines utf8 = encodes-append shown (chars lines)
+    ∙ ap (λ z. encode_utf8_all shown ++ z) (encodes-chars lines utf8)
 
 some_before : (a b : List ℕ) → a ≢ [] → a ++ b ≢ []
 some_before [] b some nil = some refl
@@ -243,39 +317,55 @@ nothing_yet : (a : List ℕ) → (a ≢ [] → IsTrue false) → a ≡ []
 nothing_yet [] is = refl
 nothing_yet (x ∷ a) is = absurd (false≢true (is (λ (e : x ∷ a ≡ []). cc)))
 
-any_cases : (any empty : Bool) (shown lines : List ℕ) → IsUtf8 lines → (IsTrue any ↔ (shown ≢ [])) → (length lines == 0) ≡ empty → IsTrue (any || not empty) ↔ ((shown ++ chars lines) ≢ [])
+any_cases : (any empty : Bool) (shown lines : List ℕ) → IsUtf8 lines → (IsTrue any ↔ (shown ≢ [])) → (length lines == 0)
+    ≡ empty → IsTrue (any || not empty) ↔ ((shown ++ chars lines) ≢ [])
 any_cases true empty shown lines utf8 is k = (λ t. some_before shown (chars lines) (is.0 refl), λ n. refl)
 any_cases false false shown lines utf8 is k = (λ t. some_after shown (chars lines) (chars_some lines utf8 k), λ n. refl)
 any_cases false true shown lines utf8 is k =
     let no_bytes : lines ≡ [] = empty_list lines k in
-    let nil : shown ++ chars lines ≡ [] = ap (λ z. z ++ chars lines) (nothing_yet shown is.1) ∙ ap chars no_bytes ∙ chars-nil in
+    let nil : shown ++ chars lines ≡ [] = ap (λ z. z ++ chars lines) (nothing_yet shown is.1) ∙ ap chars no_bytes
+        ∙ chars-nil in
     (λ e. absurd (false≢true e), λ some. absurd (some nil))
 
 -- whether anything was written
-any_more : (any more : Bool) (shown lines : List ℕ) → IsUtf8 lines → (IsTrue any ↔ (shown ≢ [])) → more ≡ (any || not (length lines == 0)) → IsTrue more ↔ ((shown ++ chars lines) ≢ [])
+any_more : (any more : Bool) (shown lines : List ℕ) → IsUtf8 lines → (IsTrue any ↔ (shown ≢ [])) → more
+    ≡ (any || not (length lines == 0)) → IsTrue more ↔ ((shown ++ chars lines) ≢ [])
 any_more any more shown lines utf8 is more_is =
-    subst (λ (b : Bool). IsTrue b ↔ ((shown ++ chars lines) ≢ [])) (sym more_is) (any_cases any (length lines == 0) shown lines utf8 is refl)
+    subst (λ (b : Bool). IsTrue b ↔ ((shown ++ chars lines) ≢ [])) (sym more_is)
+        (any_cases any (length lines == 0) shown lines utf8 is refl)
 
 -- lines more
-pub written_more : (options : Options) (whole rest next lines : List ℕ) (any more : Bool) (old mid new : Option (List ℕ)) → HasWritten options whole rest any old mid → Adds options whole rest next (chars lines) → IsUtf8 lines → AppendsBytes mid new lines → more ≡ (any || not (length lines == 0)) → HasWritten options whole next more old new
+pub written_more : (options : Options) (whole rest next lines : List ℕ) (any more : Bool)
+    (old mid new : Option (List ℕ)) → HasWritten options whole rest any old mid
+    → Adds options whole rest next (chars lines) → IsUtf8 lines → AppendsBytes mid new lines → more
+    ≡ (any || not (length lines == 0)) → HasWritten options whole next more old new
 written_more options whole rest next lines any more old mid new has adds utf8 appends more_is = record {
   cuts = has.cuts ++ adds.more;
   shown = has.shown ++ chars lines;
   shows = adds.goes_on has.cuts has.shown has.shows;
   any_is = any_more any more has.shown lines utf8 has.any_is more_is;
-  written = subst (λ z. AppendsBytes old new z) (sym (lines_bytes has.shown lines utf8)) (Appends-trans old mid new (encode_utf8_all has.shown) lines has.written appends);
+  written = subst (λ z. AppendsBytes old new z) (sym (lines_bytes has.shown lines utf8))
+      (Appends-trans old mid new (encode_utf8_all has.shown) lines has.written appends);
 }
 
 -- a beginning of the lines
-pub written_beginning : (options : Options) (whole rest next lines : List ℕ) (any : Bool) (old mid new : Option (List ℕ)) → HasWritten options whole rest any old mid → Adds options whole rest next (chars lines) → IsUtf8 lines → AppendsBeginning mid new lines → (shown : List ℕ) × ShowsFront options whole shown × AppendsBeginning old new (encode_utf8_all shown)
+pub written_beginning : (options : Options) (whole rest next lines : List ℕ) (any : Bool)
+    (old mid new : Option (List ℕ)) → HasWritten options whole rest any old mid
+    → Adds options whole rest next (chars lines) → IsUtf8 lines → AppendsBeginning mid new lines → (shown : List ℕ)
+    × ShowsFront options whole shown × AppendsBeginning old new (encode_utf8_all shown)
 written_beginning options whole rest next lines any old mid new has adds utf8 (count, appends) = (
   has.shown ++ chars lines,
   (has.cuts ++ adds.more, next, adds.goes_on has.cuts has.shown has.shows),
-  (length (encode_utf8_all has.shown) + count, subst (λ z. AppendsBytes old new z) (sym (ap (take (length (encode_utf8_all has.shown) + count)) (lines_bytes has.shown lines utf8) ∙ take-append-add (encode_utf8_all has.shown) lines count)) (Appends-trans old mid new (encode_utf8_all has.shown) (take count lines) has.written appends)),
+  (length (encode_utf8_all has.shown) + count, subst (λ z. AppendsBytes old new z)
+      (sym (ap (take (length (encode_utf8_all has.shown) + count)) (lines_bytes has.shown lines utf8)
+      ∙ take-append-add (encode_utf8_all has.shown) lines count))
+      (Appends-trans old mid new (encode_utf8_all has.shown) (take count lines) has.written appends)),
 )
 
 -- a front of the source, whatever the step
-pub step_adds : (options : Options) (old : CursorState) (piece : List ℕ) (new : CursorState) (places : List ℕ) (step : Step) → IsStepOf options old piece new places step → (rest : List ℕ) × Adds options (chars old.text) (chars old.rest) rest piece
+pub step_adds : (options : Options) (old : CursorState) (piece : List ℕ) (new : CursorState) (places : List ℕ)
+    (step : Step) → IsStepOf options old piece new places step → (rest : List ℕ)
+    × Adds options (chars old.text) (chars old.rest) rest piece
 step_adds options old piece new places More goes = (chars new.rest, goes.adds)
 step_adds options old piece new places End adds = ([], adds)
 step_adds options old piece new places (Error place kind) (at, rest, adds, error, rest_place, is_place) = (rest, adds)

@@ -20,31 +20,52 @@ use Rattle.rl_sources.specs.Steps.{Adds, IsStepOf}
 use Rattle.rl_sources.proofs.ScanLemmas.{HasWritten, written_more, written_beginning, step_adds}
 
 -- the step's piece, with the text as the scan has it
-of_text : (options : Options) (text : List ℕ) (old : CursorState) (rest piece : List ℕ) → old.text ≡ text → Adds options (chars old.text) (chars old.rest) rest piece → Adds options (chars text) (chars old.rest) rest piece
-of_text options text old rest piece same adds = subst (λ (t : List ℕ). Adds options (chars t) (chars old.rest) rest piece) same adds
+of_text : (options : Options) (text : List ℕ) (old : CursorState) (rest piece : List ℕ) → old.text ≡ text
+    → Adds options (chars old.text) (chars old.rest) rest piece → Adds options (chars text) (chars old.rest) rest piece
+of_text options text old rest piece same adds = subst (λ (t : List ℕ). Adds options (chars t) (chars old.rest) rest
+    piece) same adds
 
 -- the write of the lines failed
-pub write_fails : {A : Type 0} (options : Options) (text lines : List ℕ) (old new : CursorState) (places : List ℕ) (step : Step) (any : Bool) (out mid after : Option (List ℕ)) (fault : RunFault A) → old.text ≡ text → HasWritten options (chars text) (chars old.rest) any out mid → IsStepOf options old (chars lines) new places step → IsUtf8 lines → (fault ≡ Write) × AppendsBeginning mid after lines → FailsScan {A = A} options (chars text) out after (Fault fault)
+pub write_fails : {A : Type 0} (options : Options) (text lines : List ℕ) (old new : CursorState) (places : List ℕ)
+    (step : Step) (any : Bool) (out mid after : Option (List ℕ)) (fault : RunFault A) → old.text ≡ text
+    → HasWritten options (chars text) (chars old.rest) any out mid → IsStepOf options old (chars lines) new places step
+    → IsUtf8 lines → (fault ≡ Write) × AppendsBeginning mid after lines
+    → FailsScan {A = A} options (chars text) out after (Fault fault)
 write_fails {A = A} options text lines old new places step any out mid after fault same has is utf8 (fault_is, begins) =
     let found = step_adds options old (chars lines) new places step is in
     subst (λ (f : RunFault A). FailsScan {A = A} options (chars text) out after (Fault f)) (sym fault_is)
-    (written_beginning options (chars text) (chars old.rest) found.0 lines any out mid after has (of_text options text old found.0 (chars lines) same found.1) utf8 begins)
+    (written_beginning options (chars text) (chars old.rest) found.0 lines any out mid after has
+        (of_text options text old found.0 (chars lines) same found.1) utf8 begins)
 
 -- there is more
-pub writes_on : (options : Options) (text lines : List ℕ) (old new : CursorState) (places : List ℕ) (any more : Bool) (out mid after : Option (List ℕ)) → old.text ≡ text → HasWritten options (chars text) (chars old.rest) any out mid → IsStepOf options old (chars lines) new places More → IsUtf8 lines → Appends mid after lines → more ≡ (any || not (length lines == 0)) → HasWritten options (chars text) (chars new.rest) more out after
+pub writes_on : (options : Options) (text lines : List ℕ) (old new : CursorState) (places : List ℕ) (any more : Bool)
+    (out mid after : Option (List ℕ)) → old.text ≡ text → HasWritten options (chars text) (chars old.rest) any out mid
+    → IsStepOf options old (chars lines) new places More → IsUtf8 lines → Appends mid after lines → more
+    ≡ (any || not (length lines == 0)) → HasWritten options (chars text) (chars new.rest) more out after
 writes_on options text lines old new places any more out mid after same has is utf8 appends more_is =
-    written_more options (chars text) (chars old.rest) (chars new.rest) lines any more out mid after has (of_text options text old (chars new.rest) (chars lines) same is.adds) utf8 appends more_is
+    written_more options (chars text) (chars old.rest) (chars new.rest) lines any more out mid after has
+        (of_text options text old (chars new.rest) (chars lines) same is.adds) utf8 appends more_is
 
 -- the source ends
-pub writes_all : (options : Options) (text lines : List ℕ) (old new : CursorState) (places : List ℕ) (any more : Bool) (out mid after : Option (List ℕ)) → old.text ≡ text → HasWritten options (chars text) (chars old.rest) any out mid → IsStepOf options old (chars lines) new places End → IsUtf8 lines → Appends mid after lines → more ≡ (any || not (length lines == 0)) → Scans options (chars text) out after more
+pub writes_all : (options : Options) (text lines : List ℕ) (old new : CursorState) (places : List ℕ) (any more : Bool)
+    (out mid after : Option (List ℕ)) → old.text ≡ text → HasWritten options (chars text) (chars old.rest) any out mid
+    → IsStepOf options old (chars lines) new places End → IsUtf8 lines → Appends mid after lines → more
+    ≡ (any || not (length lines == 0)) → Scans options (chars text) out after more
 writes_all options text lines old new places any more out mid after same has is utf8 appends more_is =
-    let all = written_more options (chars text) (chars old.rest) [] lines any more out mid after has (of_text options text old [] (chars lines) same is) utf8 appends more_is in
+    let all = written_more options (chars text) (chars old.rest) [] lines any more out mid after has
+        (of_text options text old [] (chars lines) same is) utf8 appends more_is in
     (all.cuts, all.shown, all.shows, all.any_is, all.written)
 
 -- the source has an error
-pub writes_up_to : (A : Type 0) (options : Options) (text lines : List ℕ) (old new : CursorState) (places : List ℕ) (place : Place) (kind : LexKind) (any more : Bool) (out mid after : Option (List ℕ)) → old.text ≡ text → HasWritten options (chars text) (chars old.rest) any out mid → IsStepOf options old (chars lines) new places (Error place kind) → IsUtf8 lines → Appends mid after lines → more ≡ (any || not (length lines == 0)) → FailsScan {A = A} options (chars text) out after (Source place kind)
-writes_up_to A options text lines old new places place kind any more out mid after same has (at, rest, adds, error, rest_place, is_place) utf8 appends more_is =
-    let all = written_more options (chars text) (chars old.rest) rest lines any more out mid after has (of_text options text old rest (chars lines) same adds) utf8 appends more_is in (
+pub writes_up_to : (A : Type 0) (options : Options) (text lines : List ℕ) (old new : CursorState) (places : List ℕ)
+    (place : Place) (kind : LexKind) (any more : Bool) (out mid after : Option (List ℕ)) → old.text ≡ text
+    → HasWritten options (chars text) (chars old.rest) any out mid
+    → IsStepOf options old (chars lines) new places (Error place kind) → IsUtf8 lines → Appends mid after lines → more
+    ≡ (any || not (length lines == 0)) → FailsScan {A = A} options (chars text) out after (Source place kind)
+writes_up_to A options text lines old new places place kind any more out mid after same has
+    (at, rest, adds, error, rest_place, is_place) utf8 appends more_is =
+    let all = written_more options (chars text) (chars old.rest) rest lines any more out mid after has
+        (of_text options text old rest (chars lines) same adds) utf8 appends more_is in (
       all.shown,
       record {
         cuts = all.cuts;

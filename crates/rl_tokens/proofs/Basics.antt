@@ -1,5 +1,8 @@
 -- Tests of characters: what one test's answer says of another's.
-use Rattle.rl_tokens.proofs.Common.{◌≡◌, ℕ, ◌<◌, ◌≤◌, ◌||◌, ◌&&◌, Bool, true, false, not, eqb, ltb, leb, List, [], ◌∷◌, refl, sym, ap, subst, ◌∙◌, inl, inr, arith, digit_value, is_ascii_digit, is_ascii_hexdigit, is_ascii_alphanumeric, list_all, list_any, eqb-true, ne_eqb, both_ways, and_parts, and_from, or_from, cases_Bool, cases_lt, not_from_false, agree_below, agree_below_at, is_xid_start, is_xid_continue, is_xid_continue-ascii}
+use Rattle.rl_tokens.proofs.Common.{◌≡◌, ℕ, ◌<◌, ◌≤◌, ◌||◌, ◌&&◌, Bool, true, false, not, eqb, ltb, leb, List, [], ◌∷◌,
+    refl, sym, ap, subst, ◌∙◌, inl, inr, arith, digit_value, is_ascii_digit, is_ascii_hexdigit, is_ascii_alphanumeric,
+    list_all, list_any, eqb-true, ne_eqb, both_ways, and_parts, and_from, or_from, cases_Bool, cases_lt, not_from_false,
+    agree_below, agree_below_at, is_xid_start, is_xid_continue, is_xid_continue-ascii}
 use Rattle.std.specs.Int.{is_in_range}
 use Rattle.std.proofs.lemmas.Bool.{le-ltb, lt-leb}
 use Rattle.unicode_ident.proofs.IdentLemmas.{is_xid_start-is_xid_continue}
@@ -10,7 +13,8 @@ pub apart : (test : ℕ → Bool) (c k : ℕ) → test c ≡ true → test k ≡
 apart test c k h n = ne_eqb c k (λ e. both_ways (test k) n (subst (λ x. test x ≡ true) e h))
 
 -- two tests agree that agree on ASCII and both fail past it
-pub agree : (f g : ℕ → Bool) → agree_below f g 128 ≡ true → ((c : ℕ) → 128 ≤ c → f c ≡ false) → ((c : ℕ) → 128 ≤ c → g c ≡ false) → (c : ℕ) → f c ≡ g c
+pub agree : (f g : ℕ → Bool) → agree_below f g 128 ≡ true → ((c : ℕ) → 128 ≤ c → f c ≡ false)
+    → ((c : ℕ) → 128 ≤ c → g c ≡ false) → (c : ℕ) → f c ≡ g c
 agree f g same f_past g_past c =
     elim (cases_lt c 128) [
       | inl a ↦ agree_below_at f g 128 c same a
@@ -37,13 +41,17 @@ value_past c h =
     rw (a, b, d, e, f, g) refl
 
 pub digit_is_ten : (c : ℕ) → is_ascii_digit c ≡ ltb (digit_value c) 10
-digit_is_ten = agree is_ascii_digit (λ c. ltb (digit_value c) 10) refl (λ c h. range_past 48 57 c (omega arith) h) (λ c h. ap (λ v. ltb v 10) (value_past c h))
+digit_is_ten = agree is_ascii_digit (λ c. ltb (digit_value c) 10) refl (λ c h. range_past 48 57 c (omega arith) h)
+    (λ c h. ap (λ v. ltb v 10) (value_past c h))
 
 pub hex_is_sixteen : (c : ℕ) → is_ascii_hexdigit c ≡ ltb (digit_value c) 16
-hex_is_sixteen = agree is_ascii_hexdigit (λ c. ltb (digit_value c) 16) refl (λ c h. or_from _ _ (or_from _ _ (range_past 48 57 c (omega arith) h) (range_past 65 70 c (omega arith) h)) (range_past 97 102 c (omega arith) h)) (λ c h. ap (λ v. ltb v 16) (value_past c h))
+hex_is_sixteen = agree is_ascii_hexdigit (λ c. ltb (digit_value c) 16) refl
+    (λ c h. or_from _ _ (or_from _ _ (range_past 48 57 c (omega arith) h) (range_past 65 70 c (omega arith) h))
+    (range_past 97 102 c (omega arith) h)) (λ c h. ap (λ v. ltb v 16) (value_past c h))
 
 -- what each passes, passes more
-pub all_weaker : (f g : ℕ → Bool) → ((c : ℕ) → f c ≡ true → g c ≡ true) → (cs : List ℕ) → list_all f cs ≡ true → list_all g cs ≡ true
+pub all_weaker : (f g : ℕ → Bool) → ((c : ℕ) → f c ≡ true → g c ≡ true) → (cs : List ℕ) → list_all f cs ≡ true
+    → list_all g cs ≡ true
 all_weaker f g more [] h = refl
 all_weaker f g more (c ∷ cs) h =
     let p = and_parts (f c) (list_all f cs) h in
@@ -62,7 +70,8 @@ passes_same f g same [] = refl
 passes_same f g same (c ∷ cs) = same c
 
 -- an identifier's characters, in ASCII
-pub continue_not : (k c : ℕ) → k < 128 → (is_ascii_alphanumeric k || eqb k 95) ≡ false → is_xid_continue c ≡ true → eqb c k ≡ false
+pub continue_not : (k c : ℕ) → k < 128 → (is_ascii_alphanumeric k || eqb k 95) ≡ false → is_xid_continue c ≡ true
+    → eqb c k ≡ false
 continue_not k c small not_one h = apart is_xid_continue c k h (is_xid_continue-ascii k small ∙ not_one)
 
 pub start_continues : (c : ℕ) → (eqb c 95 || is_xid_start c) ≡ true → is_xid_continue c ≡ true
@@ -78,6 +87,8 @@ word_continues (c ∷ cs) h =
     let p = and_parts (eqb c 95 || is_xid_start c) (list_all is_xid_continue cs) h in
     and_from (is_xid_continue c) (list_all is_xid_continue cs) (start_continues c p.0) p.1
 
-pub word_without : (k : ℕ) (x : List ℕ) → k < 128 → (is_ascii_alphanumeric k || eqb k 95) ≡ false → xid_ok x ≡ true → list_all (λ c. not (eqb c k)) x ≡ true
+pub word_without : (k : ℕ) (x : List ℕ) → k < 128 → (is_ascii_alphanumeric k || eqb k 95) ≡ false → xid_ok x ≡ true
+    → list_all (λ c. not (eqb c k)) x ≡ true
 word_without k x small not_one h =
-    all_weaker is_xid_continue (λ c. not (eqb c k)) (λ c p. not_from_false (eqb c k) (continue_not k c small not_one p)) x (word_continues x h)
+    all_weaker is_xid_continue (λ c. not (eqb c k)) (λ c p. not_from_false (eqb c k) (continue_not k c small not_one p))
+        x (word_continues x h)

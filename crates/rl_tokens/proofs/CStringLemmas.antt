@@ -1,5 +1,6 @@
 -- Where no zero is found, there is none.
-use Rattle.rl_tokens.proofs.Common.{◌≡◌, ℕ, ◌+◌, ◌&&◌, Bool, true, false, not, cond, List, [], ◌∷◌, Some, None, refl, sym, ◌∙◌, both_ways}
+use Rattle.rl_tokens.proofs.Common.{◌≡◌, ℕ, ◌+◌, ◌&&◌, Bool, true, false, not, cond, List, [], ◌∷◌, Some, None, refl,
+    sym, ◌∙◌, both_ways}
 use Rattle.std.specs.List.{position_from, position}
 use Rattle.std.proofs.lemmas.Iterator.Adapters.{position_from-zero}
 use Rattle.rl_tokens.specs.CStrings.{is_zero, has_no_zero}
@@ -9,7 +10,8 @@ none_from : (i : ℕ) (xs : List ℕ) → position_from is_zero i xs ≡ None �
 none_from i [] h = refl
 none_from i (x ∷ xs) h = go (is_zero x) h (λ k. none_from (i + 1) xs k)
   where
-    go : (b : Bool) → cond b (Some i) (position_from is_zero (i + 1) xs) ≡ None → (position_from is_zero (i + 1) xs ≡ None → has_no_zero xs ≡ true) → (not b && has_no_zero xs) ≡ true
+    go : (b : Bool) → cond b (Some i) (position_from is_zero (i + 1) xs) ≡ None
+        → (position_from is_zero (i + 1) xs ≡ None → has_no_zero xs ≡ true) → (not b && has_no_zero xs) ≡ true
     go true h next = absurd (cc)
     go false h next = next h
 
@@ -21,7 +23,8 @@ found_from : (i : ℕ) (xs : List ℕ) → has_no_zero xs ≡ true → position_
 found_from i [] h = refl
 found_from i (x ∷ xs) h = go (is_zero x) h (λ k. found_from (i + 1) xs k)
   where
-    go : (b : Bool) → (not b && has_no_zero xs) ≡ true → (has_no_zero xs ≡ true → position_from is_zero (i + 1) xs ≡ None) → cond b (Some i) (position_from is_zero (i + 1) xs) ≡ None
+    go : (b : Bool) → (not b && has_no_zero xs) ≡ true → (has_no_zero xs ≡ true → position_from is_zero (i + 1) xs
+        ≡ None) → cond b (Some i) (position_from is_zero (i + 1) xs) ≡ None
     go true h next = absurd (both_ways false refl h)
     go false h next = next h
 

@@ -2,7 +2,9 @@
 use Rattle.rl_tokens.proofs.Common.{◌≡◌, List, [], ◌∷◌, ◌++◌, refl, sym, ◌∙◌, ap, append_assoc}
 use Rattle.rl_tokens.specs.declared.span.Span.{Span}
 use Rattle.rl_tokens.specs.declared.token.Delimiter.{Delimiter}
-use Rattle.rl_tokens.specs.Trees.{Tree, Trees, GroupTree, IdentTree, PunctTree, LiteralTree, NoTrees, MoreTrees, inside_of, FlatToken, Opening, Closing, FlatIdent, FlatPunct, FlatLiteral, opener_span, closer_span, flat, flat_inside, flat_trees}
+use Rattle.rl_tokens.specs.Trees.{Tree, Trees, GroupTree, IdentTree, PunctTree, LiteralTree, NoTrees, MoreTrees,
+    inside_of, FlatToken, Opening, Closing, FlatIdent, FlatPunct, FlatLiteral, opener_span, closer_span, flat,
+    flat_inside, flat_trees}
 
 -- a level of trees ends here
 abbrev EndsLevel : List FlatToken → Type 0
@@ -38,20 +40,28 @@ same_span s r a b =
     ∙ ap (λ x. let k : Span = record { file = r.file; lo = r.lo; hi = x } in k) his
 
 -- what stands after a group's opener
-group_rest : (inside : Trees) (d : Delimiter) (s : Span) (ts : Trees) (xs : List FlatToken) → ((flat_inside inside ++ (Closing d (closer_span s) ∷ [])) ++ flat_inside ts) ++ xs ≡ flat_inside inside ++ (Closing d (closer_span s) ∷ (flat_inside ts ++ xs))
+group_rest : (inside : Trees) (d : Delimiter) (s : Span) (ts : Trees) (xs : List FlatToken)
+    → ((flat_inside inside ++ (Closing d (closer_span s) ∷ [])) ++ flat_inside ts) ++ xs ≡ flat_inside inside
+    ++ (Closing d (closer_span s) ∷ (flat_inside ts ++ xs))
 group_rest inside d s ts xs = simp append_assoc
 
 abbrev Same : Trees → Trees → List FlatToken → List FlatToken → Type 0
 Same ts us xs ys = (ts ≡ us) × (xs ≡ ys)
 
-same_group : (d c : Delimiter) (inside other : Trees) (s r : Span) (ts us : Trees) (xs ys : List FlatToken) → d ≡ c → inside ≡ other → s ≡ r → Same ts us xs ys → Same (MoreTrees (GroupTree d inside s) ts) (MoreTrees (GroupTree c other r) us) xs ys
+same_group : (d c : Delimiter) (inside other : Trees) (s r : Span) (ts us : Trees) (xs ys : List FlatToken) → d ≡ c
+    → inside ≡ other → s ≡ r → Same ts us xs ys → Same (MoreTrees (GroupTree d inside s) ts)
+    (MoreTrees (GroupTree c other r) us) xs ys
 same_group d c inside other s r ts us xs ys p q k (e, f) =
-    (ap (λ x. MoreTrees (GroupTree x inside s) ts) p ∙ ap (λ x. MoreTrees (GroupTree c x s) ts) q ∙ ap (λ x. MoreTrees (GroupTree c other x) ts) k ∙ ap (MoreTrees (GroupTree c other r)) e, f)
+    (ap (λ x. MoreTrees (GroupTree x inside s) ts) p ∙ ap (λ x. MoreTrees (GroupTree c x s) ts) q
+        ∙ ap (λ x. MoreTrees (GroupTree c other x) ts) k ∙ ap (MoreTrees (GroupTree c other r)) e, f)
 
-flat_same : (ts us : Trees) (xs ys : List FlatToken) → EndsLevel xs → EndsLevel ys → flat_inside ts ++ xs ≡ flat_inside us ++ ys → Same ts us xs ys
+flat_same : (ts us : Trees) (xs ys : List FlatToken) → EndsLevel xs → EndsLevel ys → flat_inside ts ++ xs
+    ≡ flat_inside us ++ ys → Same ts us xs ys
 flat_same NoTrees NoTrees xs ys p q e = (refl, e)
-flat_same NoTrees (MoreTrees u us) xs ys p q e = absurd (not_end u (flat_inside us ++ ys) xs p (e ∙ append_assoc (flat u) (flat_inside us) ys))
-flat_same (MoreTrees t ts) NoTrees xs ys p q e = absurd (not_end t (flat_inside ts ++ xs) ys q (sym e ∙ append_assoc (flat t) (flat_inside ts) xs))
+flat_same NoTrees (MoreTrees u us) xs ys p q e = absurd (not_end u (flat_inside us ++ ys) xs p
+    (e ∙ append_assoc (flat u) (flat_inside us) ys))
+flat_same (MoreTrees t ts) NoTrees xs ys p q e = absurd (not_end t (flat_inside ts ++ xs) ys q
+    (sym e ∙ append_assoc (flat t) (flat_inside ts) xs))
 flat_same (MoreTrees (IdentTree i) ts) (MoreTrees (IdentTree j) us) xs ys p q e =
     let h : i ≡ j = cc in
     let k : flat_inside ts ++ xs ≡ flat_inside us ++ ys = cc in
@@ -69,11 +79,15 @@ flat_same (MoreTrees (LiteralTree i) ts) (MoreTrees (LiteralTree j) us) xs ys p 
     (ap (λ x. MoreTrees (LiteralTree x) ts) h ∙ ap (MoreTrees (LiteralTree j)) r.0, r.1)
 flat_same (MoreTrees (GroupTree d inside s) ts) (MoreTrees (GroupTree c other r) us) xs ys p q e =
     let opening : ◌≡◌ {A = FlatToken} (Opening d (opener_span s)) (Opening c (opener_span r)) = cc in
-    let following : ((flat_inside inside ++ (Closing d (closer_span s) ∷ [])) ++ flat_inside ts) ++ xs ≡ ((flat_inside other ++ (Closing c (closer_span r) ∷ [])) ++ flat_inside us) ++ ys = cc in
-    let f : flat_inside inside ++ (Closing d (closer_span s) ∷ (flat_inside ts ++ xs)) ≡ flat_inside other ++ (Closing c (closer_span r) ∷ (flat_inside us ++ ys)) =
+    let following : ((flat_inside inside ++ (Closing d (closer_span s) ∷ [])) ++ flat_inside ts) ++ xs
+        ≡ ((flat_inside other ++ (Closing c (closer_span r) ∷ [])) ++ flat_inside us) ++ ys = cc in
+    let f : flat_inside inside ++ (Closing d (closer_span s) ∷ (flat_inside ts ++ xs)) ≡ flat_inside other
+        ++ (Closing c (closer_span r) ∷ (flat_inside us ++ ys)) =
     sym (group_rest inside d s ts xs) ∙ following ∙ group_rest other c r us ys in
-    let k = flat_same inside other (Closing d (closer_span s) ∷ (flat_inside ts ++ xs)) (Closing c (closer_span r) ∷ (flat_inside us ++ ys)) tt tt f in
-    let closings : Closing d (closer_span s) ∷ (flat_inside ts ++ xs) ≡ Closing c (closer_span r) ∷ (flat_inside us ++ ys) = k.1 in
+    let k = flat_same inside other (Closing d (closer_span s) ∷ (flat_inside ts ++ xs))
+        (Closing c (closer_span r) ∷ (flat_inside us ++ ys)) tt tt f in
+    let closings : Closing d (closer_span s) ∷ (flat_inside ts ++ xs)
+        ≡ Closing c (closer_span r) ∷ (flat_inside us ++ ys) = k.1 in
     let opens : opener_span s ≡ opener_span r = cc in
     let closes : closer_span s ≡ closer_span r = cc in
     let rest : flat_inside ts ++ xs ≡ flat_inside us ++ ys = cc in
@@ -104,4 +118,5 @@ inside_same (x ∷ xs) (y ∷ ys) e =
     ap (λ z. z ∷ xs) h ∙ ap (λ z. y ∷ z) m
 
 pub flat_trees_same : (xs ys : List Tree) → flat_trees xs ≡ flat_trees ys → xs ≡ ys
-flat_trees_same xs ys e = inside_same xs ys (flat_same (inside_of xs) (inside_of ys) [] [] tt tt (ap (λ z. z ++ []) e)).0
+flat_trees_same xs ys e = inside_same xs ys (flat_same (inside_of xs) (inside_of ys) [] [] tt tt
+    (ap (λ z. z ++ []) e)).0

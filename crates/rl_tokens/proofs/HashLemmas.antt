@@ -1,5 +1,6 @@
 -- Rows of hashes, as raw literals have them.
-use Rattle.rl_tokens.proofs.Common.{◌≡◌, ◌≢◌, ℕ, suc, zero, Bool, true, false, ◌&&◌, ◌==◌, cond, List, [], ◌∷◌, ◌++◌, length, drop, replicate, refl, sym, ◌∙◌, ap, and_parts, append_cancel_right, list_all}
+use Rattle.rl_tokens.proofs.Common.{◌≡◌, ◌≢◌, ℕ, suc, zero, Bool, true, false, ◌&&◌, ◌==◌, cond, List, [], ◌∷◌, ◌++◌,
+    length, drop, replicate, refl, sym, ◌∙◌, ap, and_parts, append_cancel_right, list_all}
 use Rattle.std.proofs.lemmas.List.{length-replicate}
 use Rattle.rl_tokens.specs.Classes.{is_hash, after_run}
 use Rattle.rl_tokens.specs.Lexemes.{begins_hashes}
@@ -37,7 +38,8 @@ hashes_past (suc n) t = hashes_past n t
 
 -- ---- the hashes at the front of a text
 
-hashes_step : (c : ℕ) (t : List ℕ) (b : Bool) → (c == 35) ≡ b → t ≡ replicate (hashes t) 35 ++ after_run is_hash t → c ∷ t ≡ replicate (cond b (suc (hashes t)) zero) 35 ++ cond b (after_run is_hash t) (c ∷ t)
+hashes_step : (c : ℕ) (t : List ℕ) (b : Bool) → (c == 35) ≡ b → t ≡ replicate (hashes t) 35 ++ after_run is_hash t
+    → c ∷ t ≡ replicate (cond b (suc (hashes t)) zero) 35 ++ cond b (after_run is_hash t) (c ∷ t)
 hashes_step c t true h more = ap (λ x. x ∷ t) (is_equal c 35 h) ∙ ap (λ z. 35 ∷ z) more
 hashes_step c t false h more = refl
 
@@ -51,7 +53,8 @@ hashes_all (suc n) = hashes_all n
 
 -- what stands before the rest that has none
 pub hashes_before : (h t r : List ℕ) → r ≡ after_run is_hash t → t ≡ h ++ r → h ≡ replicate (hashes t) 35
-hashes_before h t r past e = append_cancel_right h (replicate (hashes t) 35) (after_run is_hash t) (ap (λ z. h ++ z) (sym past) ∙ sym e ∙ hashes_first t)
+hashes_before h t r past e = append_cancel_right h (replicate (hashes t) 35) (after_run is_hash t)
+    (ap (λ z. h ++ z) (sym past) ∙ sym e ∙ hashes_first t)
 
 pub hashes_alone : (h t r : List ℕ) → r ≡ after_run is_hash t → t ≡ h ++ r → list_all is_hash h ≡ true
 hashes_alone h t r past e = ap (list_all is_hash) (hashes_before h t r past e) ∙ hashes_all (hashes t)
@@ -67,12 +70,16 @@ hashes_are (c ∷ h) is =
     let p = and_parts (c == 35) (list_all is_hash h) is in
     ap (λ x. x ∷ h) (is_equal c 35 p.0) ∙ ap (λ z. 35 ∷ z) (hashes_are h p.1)
 
-pub hashes_met : (h s r : List ℕ) → list_all is_hash h ≡ true → s ≡ h ++ r → (begins_hashes (length h) s ≡ true) × (drop (length h) s ≡ r)
+pub hashes_met : (h s r : List ℕ) → list_all is_hash h ≡ true → s ≡ h ++ r → (begins_hashes (length h) s ≡ true)
+    × (drop (length h) s ≡ r)
 hashes_met h s r is e =
     let same : s ≡ replicate (length h) 35 ++ r = e ∙ ap (λ z. z ++ r) (hashes_are h is) in
-    (ap (begins_hashes (length h)) same ∙ hashes_here (length h) r, ap (drop (length h)) same ∙ drop_hashes (length h) r)
+    (ap (begins_hashes (length h)) same ∙ hashes_here (length h) r, ap (drop (length h)) same
+        ∙ drop_hashes (length h) r)
 
-pub hashes_missed : (h s : List ℕ) → list_all is_hash h ≡ true → ((x : List ℕ) → s ≢ h ++ x) → begins_hashes (length h) s ≡ false
+pub hashes_missed : (h s : List ℕ) → list_all is_hash h ≡ true → ((x : List ℕ) → s ≢ h ++ x)
+    → begins_hashes (length h) s ≡ false
 hashes_missed h s is none =
     let rest = drop (length h) s in
-    false_unless (begins_hashes (length h) s) (λ b. none rest (hashes_split (length h) s b ∙ ap (λ z. z ++ rest) (sym (hashes_are h is))))
+    false_unless (begins_hashes (length h) s) (λ b. none rest (hashes_split (length h) s b
+        ∙ ap (λ z. z ++ rest) (sym (hashes_are h is))))

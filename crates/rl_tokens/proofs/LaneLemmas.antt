@@ -1,5 +1,7 @@
 -- From the mask of sixteen bytes to the run of bytes that pass a test.
-use Rattle.rl_tokens.proofs.Common.{◌≡◌, ℕ, ◌+◌, ◌*◌, ◌%◌, ◌^◌, ◌<◌, ◌≤◌, ◌||◌, ◌&&◌, nat_le, Bool, true, false, not, cond, eqb, List, [], ◌∷◌, map, length, drop, refl, sym, ap, ap₂, ◌∙◌, arith, length-chunk, mask_l-mod, length-map, prefix_len-le-length, eq-eqb, ne_eqb, nat_tests, prefix_len, bit_or, chunk, mask_l, zip2, top, count_trailing_zeros}
+use Rattle.rl_tokens.proofs.Common.{◌≡◌, ℕ, ◌+◌, ◌*◌, ◌%◌, ◌^◌, ◌<◌, ◌≤◌, ◌||◌, ◌&&◌, nat_le, Bool, true, false, not,
+    cond, eqb, List, [], ◌∷◌, map, length, drop, refl, sym, ap, ap₂, ◌∙◌, arith, length-chunk, mask_l-mod, length-map,
+    prefix_len-le-length, eq-eqb, ne_eqb, nat_tests, prefix_len, bit_or, chunk, mask_l, zip2, top, count_trailing_zeros}
 use Rattle.std.proofs.Common.{nat_eq, nat_lt}
 use Rattle.std.proofs.lemmas.Simd.{chunk-drop, leading_from_mask_l, trailing_mask_l}
 use Rattle.std.proofs.lemmas.List.Folds.{prefix_len-append}
@@ -22,12 +24,14 @@ lane_top : (b : Bool) → top 7 (lane b) ≡ b
 lane_top true = refl
 lane_top false = refl
 
-both_lanes : (p q : ℕ → Bool) (v : List ℕ) → zip2 bit_or (map (λ x. lane (p x)) v) (map (λ x. lane (q x)) v) ≡ map (λ x. lane (p x || q x)) v
+both_lanes : (p q : ℕ → Bool) (v : List ℕ) → zip2 bit_or (map (λ x. lane (p x)) v) (map (λ x. lane (q x)) v)
+    ≡ map (λ x. lane (p x || q x)) v
 both_lanes p q [] = refl
 both_lanes p q (x ∷ xs) = ap₂ (λ a b. a ∷ b) (lane_or (p x) (q x)) (both_lanes p q xs)
 
 -- the lanes of either test
-pub either : (p q : ℕ → Bool) (v : List ℕ) {a b : List ℕ} → a ≡ map (λ x. lane (p x)) v → b ≡ map (λ x. lane (q x)) v → zip2 bit_or a b ≡ map (λ x. lane (p x || q x)) v
+pub either : (p q : ℕ → Bool) (v : List ℕ) {a b : List ℕ} → a ≡ map (λ x. lane (p x)) v → b ≡ map (λ x. lane (q x)) v
+    → zip2 bit_or a b ≡ map (λ x. lane (p x || q x)) v
 either p q v e f = ap₂ (zip2 bit_or) e f ∙ both_lanes p q v
 
 tops : (p : ℕ → Bool) (v : List ℕ) → map (top 7) (map (λ x. lane (p x)) v) ≡ map p v
@@ -35,8 +39,10 @@ tops p [] = refl
 tops p (x ∷ xs) = ap₂ (λ a b. a ∷ b) (lane_top (p x)) (tops p xs)
 
 -- the mask of the lanes of a test
-pub masked : (p : ℕ → Bool) (v : List ℕ) {a : List ℕ} → length v ≤ 64 → a ≡ map (λ x. lane (p x)) v → mask_l (map (top 7) a) % 2 ^ 64 ≡ mask_l (map p v)
-masked p v few e = ap (λ l. mask_l l % 2 ^ 64) (ap (map (top 7)) e ∙ tops p v) ∙ mask_l-mod (map p v) 64 (omega (arith, length-map v p))
+pub masked : (p : ℕ → Bool) (v : List ℕ) {a : List ℕ} → length v ≤ 64 → a ≡ map (λ x. lane (p x)) v
+    → mask_l (map (top 7) a) % 2 ^ 64 ≡ mask_l (map p v)
+masked p v few e = ap (λ l. mask_l l % 2 ^ 64) (ap (map (top 7)) e ∙ tops p v)
+    ∙ mask_l-mod (map p v) 64 (omega (arith, length-map v p))
 
 -- past ASCII is not ASCII
 past_low : (c : ℕ) → not (nat_lt c 128) ≡ nat_le 128 c
@@ -76,21 +82,28 @@ module _ {X : Type 0} (p q : X → Bool) (opposite : (x : X) → not (q x) ≡ p
 
   all_pass : (xs : List X) → prefix_len (λ x. not (p x)) xs ≡ length xs → mask_l (map p xs) ≡ 0
   all_pass [] e = refl
-  all_pass (x ∷ xs) e = none_fails (p x) _ (length xs) _ (prefix_len-le-length (λ y. not (p y)) xs) (omega arith) (all_pass xs)
+  all_pass (x ∷ xs) e = none_fails (p x) _ (length xs) _ (prefix_len-le-length (λ y. not (p y)) xs) (omega arith)
+      (all_pass xs)
 
-  split : (d : List X) (i n : ℕ) → prefix_len q (drop i d) ≡ cond (eqb (prefix_len q (chunk i n d)) (length (chunk i n d))) (length (chunk i n d) + prefix_len q (drop (i + n) d)) (prefix_len q (chunk i n d))
+  split : (d : List X) (i n : ℕ) → prefix_len q (drop i d) ≡ cond
+      (eqb (prefix_len q (chunk i n d)) (length (chunk i n d))) (length (chunk i n d) + prefix_len q (drop (i + n) d))
+      (prefix_len q (chunk i n d))
   split d i n = ap (prefix_len q) (chunk-drop i n d) ∙ prefix_len-append q (chunk i n d) (drop (i + n) d)
 
   -- no byte fails, and the run goes on after them
-  pub run_through : (d : List X) (i n : ℕ) → i + n ≤ length d → mask_l (map p (chunk i n d)) ≡ 0 → prefix_len q (drop i d) ≡ n + prefix_len q (drop (i + n) d)
+  pub run_through : (d : List X) (i n : ℕ) → i + n ≤ length d → mask_l (map p (chunk i n d)) ≡ 0
+      → prefix_len q (drop i d) ≡ n + prefix_len q (drop (i + n) d)
   run_through d i n room none =
       let c = chunk i n d in
-      split d i n ∙ ap (λ b. cond b (length c + prefix_len q (drop (i + n) d)) (prefix_len q c)) (eq-eqb _ _ (same_run c ∙ leading_from_mask_l p c none))
+      split d i n ∙ ap (λ b. cond b (length c + prefix_len q (drop (i + n) d)) (prefix_len q c))
+          (eq-eqb _ _ (same_run c ∙ leading_from_mask_l p c none))
       ∙ ap (λ k. k + prefix_len q (drop (i + n) d)) (length-chunk i n d room)
 
   -- the lowest bit tells the first byte that fails
-  pub run_stops : (d : List X) (i n : ℕ) → i + n ≤ length d → n ≤ 64 → 0 < mask_l (map p (chunk i n d)) → prefix_len q (drop i d) ≡ count_trailing_zeros 64 (mask_l (map p (chunk i n d)))
+  pub run_stops : (d : List X) (i n : ℕ) → i + n ≤ length d → n ≤ 64 → 0 < mask_l (map p (chunk i n d))
+      → prefix_len q (drop i d) ≡ count_trailing_zeros 64 (mask_l (map p (chunk i n d)))
   run_stops d i n room short some =
       let c = chunk i n d in
-      split d i n ∙ ap (λ b. cond b (length c + prefix_len q (drop (i + n) d)) (prefix_len q c)) (ne_eqb _ _ (λ (e : prefix_len q c ≡ length c). omega (arith, all_pass c (sym (same_run c) ∙ e))))
+      split d i n ∙ ap (λ b. cond b (length c + prefix_len q (drop (i + n) d)) (prefix_len q c))
+          (ne_eqb _ _ (λ (e : prefix_len q c ≡ length c). omega (arith, all_pass c (sym (same_run c) ∙ e))))
       ∙ same_run c ∙ sym (trailing_mask_l p 64 c (omega (arith, length-chunk i n d room)) some)

@@ -1,7 +1,12 @@
 -- A lexeme but a mark stays one before a gap and at the end.
-use Rattle.rl_tokens.proofs.Common.{◌≡◌, ℕ, ◌<◌, Bool, true, false, not, ◌&&◌, ◌||◌, ◌==◌, cond, List, [], ◌∷◌, ◌++◌, slice_index, drop, replicate, refl, sym, ◌∙◌, ap, subst, arith, append_assoc, lit<, and_parts, nat_tests, list_all, is_xid_start, is_xid_continue, is_ascii_alphanumeric, is_ascii_digit, is_xid_continue-ascii}
+use Rattle.rl_tokens.proofs.Common.{◌≡◌, ℕ, ◌<◌, Bool, true, false, not, ◌&&◌, ◌||◌, ◌==◌, cond, List, [], ◌∷◌, ◌++◌,
+    slice_index, drop, replicate, refl, sym, ◌∙◌, ap, subst, arith, append_assoc, lit<, and_parts, nat_tests, list_all,
+    is_xid_start, is_xid_continue, is_ascii_alphanumeric, is_ascii_digit, is_xid_continue-ascii}
 use Rattle.rl_tokens.specs.Texts.{is_white, is_underscore, first_passes, is_row_part}
-use Rattle.rl_tokens.specs.Lexemes.{is_base_letter, begins_dot, LexedFraction, NoLexedFraction, LexedDot, lexed_fraction_text, lexed_sign_text, LexedExponent, NoLexedExponent, LexedPower, lexed_exponent_text, IsRow, IsLexedSuffix, IsLexedFraction, IsLexedExponent, QuotedLexeme, RawLexeme, CharacterLexeme, BasedLexeme, DecimalLexeme, IdentifierLexeme, DelimiterLexeme, MarkLexeme, IsLexeme, is_start, is_continue}
+use Rattle.rl_tokens.specs.Lexemes.{is_base_letter, begins_dot, LexedFraction, NoLexedFraction, LexedDot,
+    lexed_fraction_text, lexed_sign_text, LexedExponent, NoLexedExponent, LexedPower, lexed_exponent_text, IsRow,
+    IsLexedSuffix, IsLexedFraction, IsLexedExponent, QuotedLexeme, RawLexeme, CharacterLexeme, BasedLexeme,
+    DecimalLexeme, IdentifierLexeme, DelimiterLexeme, MarkLexeme, IsLexeme, is_start, is_continue}
 use Rattle.rl_tokens.proofs.Gaps.{BeginsGap, StaysBeforeGap}
 use Rattle.rl_tokens.proofs.Comments.{false_unless}
 use Rattle.rl_tokens.proofs.Pieces.{is_equal}
@@ -27,10 +32,12 @@ and_false true = refl
 and_false false = refl
 
 start_solid : Solid is_start
-start_solid = solid_from is_start (start_ascii 47 (lit< tt)) (λ c w. ap (λ b. (c == 95 || is_xid_start c) && not b) w ∙ and_false (c == 95 || is_xid_start c))
+start_solid = solid_from is_start (start_ascii 47 (lit< tt))
+    (λ c w. ap (λ b. (c == 95 || is_xid_start c) && not b) w ∙ and_false (c == 95 || is_xid_start c))
 
 continue_solid : Solid is_continue
-continue_solid = solid_from is_continue (ap (λ b. b && not (is_white 47)) (is_xid_continue-ascii 47 (lit< tt))) (λ c w. ap (λ b. is_xid_continue c && not b) w ∙ and_false (is_xid_continue c))
+continue_solid = solid_from is_continue (ap (λ b. b && not (is_white 47)) (is_xid_continue-ascii 47 (lit< tt)))
+    (λ c w. ap (λ b. is_xid_continue c && not b) w ∙ and_false (is_xid_continue c))
 
 gap_fails : (test : ℕ → Bool) (gap : List ℕ) → Solid test → BeginsGap gap → first_passes test gap ≡ false
 gap_fails test [] solid is = refl
@@ -55,30 +62,39 @@ dot_solid : Solid (λ d. d == 46 || is_start d)
 dot_solid = or_solid (λ d. d == 46) is_start (code_solid 46 refl refl) start_solid
 
 base_solid : Solid is_base_letter
-base_solid = or_solid (λ c. c == 120 || c == 111) (λ c. c == 98) (or_solid (λ c. c == 120) (λ c. c == 111) (code_solid 120 refl refl) (code_solid 111 refl refl)) (code_solid 98 refl refl)
+base_solid = or_solid (λ c. c == 120 || c == 111) (λ c. c == 98)
+    (or_solid (λ c. c == 120) (λ c. c == 111) (code_solid 120 refl refl) (code_solid 111 refl refl))
+    (code_solid 98 refl refl)
 
 letter_solid : Solid (λ c. c == 101 || c == 69)
 letter_solid = or_solid (λ c. c == 101) (λ c. c == 69) (code_solid 101 refl refl) (code_solid 69 refl refl)
 
 -- A test that fails at what follows fails before a gap too.
-passes_gap : (test : ℕ → Bool) (s after gap : List ℕ) → Solid test → BeginsGap gap → first_passes test (s ++ after) ≡ false → first_passes test (s ++ gap) ≡ false
+passes_gap : (test : ℕ → Bool) (s after gap : List ℕ) → Solid test → BeginsGap gap → first_passes test (s ++ after)
+    ≡ false → first_passes test (s ++ gap) ≡ false
 passes_gap test [] after gap solid is h = gap_fails test gap solid is
 passes_gap test (c ∷ s) after gap solid is h = h
 
-row_gap : (test : ℕ → Bool) (row s after gap : List ℕ) → Solid test → BeginsGap gap → IsRow test row (s ++ after) → IsRow test row (s ++ gap)
+row_gap : (test : ℕ → Bool) (row s after gap : List ℕ) → Solid test → BeginsGap gap → IsRow test row (s ++ after)
+    → IsRow test row (s ++ gap)
 row_gap test row s after gap solid is r = record { each = r.each; ends = passes_gap test s after gap solid is r.ends }
 
 suffix_gap : (x after gap : List ℕ) → BeginsGap gap → IsLexedSuffix x after → IsLexedSuffix x gap
 suffix_gap [] after gap is h = gap_fails is_start gap start_solid is
-suffix_gap (c ∷ x) after gap is (h, r) = (h, record { each = r.each; ends = gap_fails is_continue gap continue_solid is })
+suffix_gap (c ∷ x) after gap is (h, r) = (h, record { each = r.each; ends = gap_fails is_continue gap continue_solid is
+    })
 
 -- Exponents.
-run_gap : (u test : ℕ → Bool) (s after gap : List ℕ) → Solid u → Solid test → BeginsGap gap → first_passes test (after_run u (s ++ after)) ≡ false → first_passes test (after_run u (s ++ gap)) ≡ false
+run_gap : (u test : ℕ → Bool) (s after gap : List ℕ) → Solid u → Solid test → BeginsGap gap
+    → first_passes test (after_run u (s ++ after)) ≡ false → first_passes test (after_run u (s ++ gap)) ≡ false
 run_gap u test [] after [] su st is h = refl
-run_gap u test [] after (c ∷ t) su st is h = ap (λ b. first_passes test (cond b (after_run u t) (c ∷ t))) (su c is) ∙ st c is
+run_gap u test [] after (c ∷ t) su st is h = ap (λ b. first_passes test (cond b (after_run u t) (c ∷ t))) (su c is)
+    ∙ st c is
 run_gap u test (c ∷ s) after gap su st is h = go (u c) h (run_gap u test s after gap su st is)
   where
-    go : (b : Bool) → first_passes test (cond b (after_run u (s ++ after)) (c ∷ s ++ after)) ≡ false → (first_passes test (after_run u (s ++ after)) ≡ false → first_passes test (after_run u (s ++ gap)) ≡ false) → first_passes test (cond b (after_run u (s ++ gap)) (c ∷ s ++ gap)) ≡ false
+    go : (b : Bool) → first_passes test (cond b (after_run u (s ++ after)) (c ∷ s ++ after)) ≡ false
+        → (first_passes test (after_run u (s ++ after)) ≡ false → first_passes test (after_run u (s ++ gap)) ≡ false)
+        → first_passes test (cond b (after_run u (s ++ gap)) (c ∷ s ++ gap)) ≡ false
     go true h more = more h
     go false h more = h
 
@@ -99,31 +115,41 @@ and_more false x y f h = refl
 underscore_solid : Solid is_underscore
 underscore_solid = code_solid 95 refl refl
 
-exponent_gap : (x after gap : List ℕ) → BeginsGap gap → IsLexedSuffix x after → begins_exponent (x ++ after) ≡ false → begins_exponent (x ++ gap) ≡ false
+exponent_gap : (x after gap : List ℕ) → BeginsGap gap → IsLexedSuffix x after → begins_exponent (x ++ after) ≡ false
+    → begins_exponent (x ++ gap) ≡ false
 exponent_gap [] after [] is suffix e = refl
-exponent_gap [] after (c ∷ t) is suffix e = ap (λ b. b && first_passes is_ascii_digit (after_run is_underscore (after_sign t))) (letter_solid c is)
+exponent_gap [] after (c ∷ t) is suffix e = ap (λ b. b && first_passes is_ascii_digit
+    (after_run is_underscore (after_sign t))) (letter_solid c is)
 exponent_gap (c ∷ []) after gap is (h, r) e =
     ap (λ s. (c == 101 || c == 69) && first_passes is_ascii_digit (after_run is_underscore s)) (sign_gap gap is)
-    ∙ ap (λ b. (c == 101 || c == 69) && b) (run_gap is_underscore is_ascii_digit [] [] gap underscore_solid digit_solid is refl)
+    ∙ ap (λ b. (c == 101 || c == 69) && b) (run_gap is_underscore is_ascii_digit [] [] gap underscore_solid digit_solid
+        is refl)
     ∙ and_false (c == 101 || c == 69)
 exponent_gap (c ∷ p ∷ q) after gap is (h, r) e =
     let k : is_continue p ≡ true = (and_parts (is_continue p) (list_all is_continue q) r.each).0 in
     let a : (p == 43) ≡ false = not_among p 43 is_continue k (continue_ascii 43 (lit< tt)) in
     let b : (p == 45) ≡ false = not_among p 45 is_continue k (continue_ascii 45 (lit< tt)) in
-    ap (λ s. (c == 101 || c == 69) && first_passes is_ascii_digit (after_run is_underscore s)) (no_sign p (q ++ gap) a b)
-    ∙ and_more (c == 101 || c == 69) (first_passes is_ascii_digit (after_run is_underscore (p ∷ q ++ after))) (first_passes is_ascii_digit (after_run is_underscore (p ∷ q ++ gap)))
+    ap (λ s. (c == 101 || c == 69) && first_passes is_ascii_digit (after_run is_underscore s))
+        (no_sign p (q ++ gap) a b)
+    ∙ and_more (c == 101 || c == 69) (first_passes is_ascii_digit (after_run is_underscore (p ∷ q ++ after)))
+        (first_passes is_ascii_digit (after_run is_underscore (p ∷ q ++ gap)))
     (run_gap is_underscore is_ascii_digit (p ∷ q) after gap underscore_solid digit_solid is)
-    (ap (λ s. (c == 101 || c == 69) && first_passes is_ascii_digit (after_run is_underscore s)) (sym (no_sign p (q ++ after) a b)) ∙ e)
+    (ap (λ s. (c == 101 || c == 69) && first_passes is_ascii_digit (after_run is_underscore s))
+        (sym (no_sign p (q ++ after) a b)) ∙ e)
 
 -- Dot parts.
 not_dot : (c : ℕ) (t : List ℕ) → (c == 46) ≡ false → begins_dot (c ∷ t) ≡ false
 not_dot c t h = ap (λ b. b && not (first_passes (λ d. d == 46 || is_start d) t)) h
 
-dot_gap : (e : LexedExponent) (x after gap : List ℕ) → BeginsGap gap → IsLexedExponent e (x ++ after) → IsLexedSuffix x after → begins_dot (lexed_exponent_text e ++ (x ++ gap)) ≡ false
+dot_gap : (e : LexedExponent) (x after gap : List ℕ) → BeginsGap gap → IsLexedExponent e (x ++ after)
+    → IsLexedSuffix x after → begins_dot (lexed_exponent_text e ++ (x ++ gap)) ≡ false
 dot_gap NoLexedExponent [] after [] is ie suffix = refl
 dot_gap NoLexedExponent [] after (c ∷ t) is ie suffix = not_dot c t (code_solid 46 refl refl c is)
-dot_gap NoLexedExponent (c ∷ x) after gap is ie (h, r) = not_dot c (x ++ gap) (not_among c 46 is_start h (start_ascii 46 (lit< tt)))
-dot_gap (LexedPower letter s n d more) x after gap is (il, id, row) suffix = not_dot letter (lexed_sign_text s ++ (replicate n 95 ++ d ∷ more) ++ (x ++ gap)) (not_among letter 46 (λ c. c == 101 || c == 69) il refl)
+dot_gap NoLexedExponent (c ∷ x) after gap is ie (h, r) = not_dot c (x ++ gap)
+    (not_among c 46 is_start h (start_ascii 46 (lit< tt)))
+dot_gap (LexedPower letter s n d more) x after gap is (il, id, row) suffix = not_dot letter
+    (lexed_sign_text s ++ (replicate n 95 ++ d ∷ more) ++ (x ++ gap))
+    (not_among letter 46 (λ c. c == 101 || c == 69) il refl)
 
 pub assoc3 : (f e x t : List ℕ) → (f ++ (e ++ x)) ++ t ≡ f ++ (e ++ (x ++ t))
 assoc3 f e x t = simp append_assoc
@@ -131,49 +157,70 @@ assoc3 f e x t = simp append_assoc
 assoc2 : (e x t : List ℕ) → (e ++ x) ++ t ≡ e ++ (x ++ t)
 assoc2 e x t = append_assoc e x t
 
-fraction_gap : (f : LexedFraction) (e : LexedExponent) (x after gap : List ℕ) → BeginsGap gap → IsLexedFraction f (lexed_exponent_text e ++ (x ++ after)) → IsLexedExponent e (x ++ after) → IsLexedSuffix x after → IsLexedFraction f (lexed_exponent_text e ++ (x ++ gap))
+fraction_gap : (f : LexedFraction) (e : LexedExponent) (x after gap : List ℕ) → BeginsGap gap
+    → IsLexedFraction f (lexed_exponent_text e ++ (x ++ after)) → IsLexedExponent e (x ++ after) → IsLexedSuffix x after
+    → IsLexedFraction f (lexed_exponent_text e ++ (x ++ gap))
 fraction_gap NoLexedFraction e x after gap is h ie suffix = dot_gap e x after gap is ie suffix
 fraction_gap (LexedDot digits) e x after gap is (h, r) ie suffix =
     let t = lexed_exponent_text e in
-    let k : first_passes (λ d. d == 46 || is_start d) (digits ++ (t ++ (x ++ after))) ≡ false = not_true (first_passes (λ d. d == 46 || is_start d) (digits ++ (t ++ (x ++ after)))) h in
+    let k : first_passes (λ d. d == 46 || is_start d) (digits ++ (t ++ (x ++ after)))
+        ≡ false = not_true (first_passes (λ d. d == 46 || is_start d) (digits ++ (t ++ (x ++ after)))) h in
     let m : first_passes (λ d. d == 46 || is_start d) (digits ++ (t ++ (x ++ gap))) ≡ false =
     ap (first_passes (λ d. d == 46 || is_start d)) (sym (assoc3 digits t x gap))
-    ∙ passes_gap (λ d. d == 46 || is_start d) (digits ++ (t ++ x)) after gap dot_solid is (ap (first_passes (λ d. d == 46 || is_start d)) (assoc3 digits t x after) ∙ k) in (
+    ∙ passes_gap (λ d. d == 46 || is_start d) (digits ++ (t ++ x)) after gap dot_solid is
+        (ap (first_passes (λ d. d == 46 || is_start d)) (assoc3 digits t x after) ∙ k) in (
       ap not m,
-      subst (λ (s : List ℕ). IsRow (is_row_part is_ascii_digit) digits s) (assoc2 t x gap) (row_gap (is_row_part is_ascii_digit) digits (t ++ x) after gap part_solid is (subst (λ (s : List ℕ). IsRow (is_row_part is_ascii_digit) digits s) (sym (assoc2 t x after)) r)),
+      subst (λ (s : List ℕ). IsRow (is_row_part is_ascii_digit) digits s) (assoc2 t x gap)
+          (row_gap (is_row_part is_ascii_digit) digits (t ++ x) after gap part_solid is
+          (subst (λ (s : List ℕ). IsRow (is_row_part is_ascii_digit) digits s) (sym (assoc2 t x after)) r)),
     )
 
-power_gap : (e : LexedExponent) (x after gap : List ℕ) → BeginsGap gap → IsLexedExponent e (x ++ after) → IsLexedSuffix x after → IsLexedExponent e (x ++ gap)
+power_gap : (e : LexedExponent) (x after gap : List ℕ) → BeginsGap gap → IsLexedExponent e (x ++ after)
+    → IsLexedSuffix x after → IsLexedExponent e (x ++ gap)
 power_gap NoLexedExponent x after gap is none suffix =
     no_exponent_begins (x ++ gap) (exponent_gap x after gap is suffix (no_exponent_here (x ++ after) none))
-power_gap (LexedPower letter s n d more) x after gap is (il, id, r) suffix = (il, id, row_gap (is_row_part is_ascii_digit) more x after gap part_solid is r)
+power_gap (LexedPower letter s n d more) x after gap is (il, id, r) suffix =
+    (il, id, row_gap (is_row_part is_ascii_digit) more x after gap part_solid is r)
 
-decimal_gap : (d : ℕ) (more : List ℕ) (f : LexedFraction) (e : LexedExponent) (x after gap : List ℕ) → BeginsGap gap → IsLexeme (DecimalLexeme d more f e x) after → IsLexeme (DecimalLexeme d more f e x) gap
+decimal_gap : (d : ℕ) (more : List ℕ) (f : LexedFraction) (e : LexedExponent) (x after gap : List ℕ) → BeginsGap gap
+    → IsLexeme (DecimalLexeme d more f e x) after → IsLexeme (DecimalLexeme d more f e x) gap
 decimal_gap d more f e x after gap is (id, not_based, row, fraction, exponent, suffix) =
     let t = lexed_fraction_text f ++ (lexed_exponent_text e ++ x) in
-    let at : (rest : List ℕ) → (more ++ t) ++ rest ≡ more ++ (lexed_fraction_text f ++ (lexed_exponent_text e ++ (x ++ rest))) = λ rest. append_assoc more t rest ∙ ap (λ s. more ++ s) (assoc3 (lexed_fraction_text f) (lexed_exponent_text e) x rest) in (
+    let at : (rest : List ℕ) → (more ++ t) ++ rest ≡ more ++ (lexed_fraction_text f
+        ++ (lexed_exponent_text e ++ (x ++ rest))) = λ rest. append_assoc more t rest
+        ∙ ap (λ s. more ++ s) (assoc3 (lexed_fraction_text f) (lexed_exponent_text e) x rest) in (
       id,
       ap (λ s. d == 48 && first_passes is_base_letter s) (sym (at gap))
-          ∙ and_more (d == 48) (first_passes is_base_letter ((more ++ t) ++ after)) (first_passes is_base_letter ((more ++ t) ++ gap)) (passes_gap is_base_letter (more ++ t) after gap base_solid is)
+          ∙ and_more (d == 48) (first_passes is_base_letter ((more ++ t) ++ after))
+              (first_passes is_base_letter ((more ++ t) ++ gap)) (passes_gap is_base_letter (more ++ t) after gap
+              base_solid is)
           (ap (λ s. d == 48 && first_passes is_base_letter s) (at after) ∙ not_based),
-      subst (λ (s : List ℕ). IsRow (is_row_part is_ascii_digit) more s) (assoc3 (lexed_fraction_text f) (lexed_exponent_text e) x gap) (row_gap (is_row_part is_ascii_digit) more t after gap part_solid is (subst (λ (s : List ℕ). IsRow (is_row_part is_ascii_digit) more s) (sym (assoc3 (lexed_fraction_text f) (lexed_exponent_text e) x after)) row)),
+      subst (λ (s : List ℕ). IsRow (is_row_part is_ascii_digit) more s)
+          (assoc3 (lexed_fraction_text f) (lexed_exponent_text e) x gap)
+          (row_gap (is_row_part is_ascii_digit) more t after gap part_solid is
+          (subst (λ (s : List ℕ). IsRow (is_row_part is_ascii_digit) more s)
+          (sym (assoc3 (lexed_fraction_text f) (lexed_exponent_text e) x after)) row)),
       fraction_gap f e x after gap is fraction exponent suffix,
       power_gap e x after gap is exponent suffix,
       suffix_gap x after gap is suffix,
     )
 
 -- Identifiers.
-hash_none : (k : ℕ) (x gap : List ℕ) → list_all is_continue x ≡ true → BeginsGap gap → Solid (λ c. c == k) → is_continue k ≡ false → (0 == k) ≡ false → (slice_index (x ++ gap) 0 == k) ≡ false
+hash_none : (k : ℕ) (x gap : List ℕ) → list_all is_continue x ≡ true → BeginsGap gap → Solid (λ c. c == k)
+    → is_continue k ≡ false → (0 == k) ≡ false → (slice_index (x ++ gap) 0 == k) ≡ false
 hash_none k [] [] row is solid no_cont z = z
 hash_none k [] (c ∷ t) row is solid no_cont z = solid c is
-hash_none k (c ∷ x) gap row is solid no_cont z = not_among c k is_continue (and_parts (is_continue c) (list_all is_continue x) row).0 no_cont
+hash_none k (c ∷ x) gap row is solid no_cont z = not_among c k is_continue
+    (and_parts (is_continue c) (list_all is_continue x) row).0 no_cont
 
 raw_none : (x gap : List ℕ) → list_all is_continue x ≡ true → BeginsGap gap → begins_hashed_quote (x ++ gap) ≡ false
 raw_none [] [] row is = refl
-raw_none [] (c ∷ t) row is = ap (λ b. slice_index (cond b (after_run is_hash t) (c ∷ t)) 0 == 34) (code_solid 35 refl refl c is) ∙ code_solid 34 refl refl c is
+raw_none [] (c ∷ t) row is = ap (λ b. slice_index (cond b (after_run is_hash t) (c ∷ t)) 0 == 34)
+    (code_solid 35 refl refl c is) ∙ code_solid 34 refl refl c is
 raw_none (c ∷ x) gap row is =
     let k : is_continue c ≡ true = (and_parts (is_continue c) (list_all is_continue x) row).0 in
-    ap (λ b. slice_index (cond b (after_run is_hash (x ++ gap)) (c ∷ x ++ gap)) 0 == 34) (not_among c 35 is_continue k (continue_ascii 35 (lit< tt)))
+    ap (λ b. slice_index (cond b (after_run is_hash (x ++ gap)) (c ∷ x ++ gap)) 0 == 34)
+        (not_among c 35 is_continue k (continue_ascii 35 (lit< tt)))
     ∙ not_among c 34 is_continue k (continue_ascii 34 (lit< tt))
 
 none_all : (a b r : Bool) → ((a && false) || ((b && false) || (r && false))) ≡ false
@@ -186,7 +233,8 @@ none_all false true false = refl
 none_all false false true = refl
 none_all false false false = refl
 
-none_of : (a b r x y z v w : Bool) → x ≡ false → y ≡ false → z ≡ false → v ≡ false → w ≡ false → ((a && (x || (y || z))) || ((b && (x || z)) || (r && (v || w)))) ≡ false
+none_of : (a b r x y z v w : Bool) → x ≡ false → y ≡ false → z ≡ false → v ≡ false → w ≡ false
+    → ((a && (x || (y || z))) || ((b && (x || z)) || (r && (v || w)))) ≡ false
 none_of a b r x y z v w p q s t u =
     ap (λ k. (a && (k || (y || z))) || ((b && (k || z)) || (r && (v || w)))) p
     ∙ ap (λ k. (a && (k || z)) || ((b && z) || (r && (v || w)))) q
@@ -195,20 +243,26 @@ none_of a b r x y z v w p q s t u =
     ∙ ap (λ k. (a && false) || ((b && false) || (r && k))) u
     ∙ none_all a b r
 
-second_raw : (more gap : List ℕ) → list_all is_continue more ≡ true → BeginsGap gap → (slice_index (more ++ gap) 0 == 114 && begins_hashed_quote (drop 1 (more ++ gap))) ≡ false
+second_raw : (more gap : List ℕ) → list_all is_continue more ≡ true → BeginsGap gap
+    → (slice_index (more ++ gap) 0 == 114 && begins_hashed_quote (drop 1 (more ++ gap))) ≡ false
 second_raw [] [] row is = refl
 second_raw [] (c ∷ t) row is = ap (λ b. b && begins_hashed_quote t) (code_solid 114 refl refl c is)
-second_raw (c ∷ x) gap row is = ap (λ b. c == 114 && b) (raw_none x gap (and_parts (is_continue c) (list_all is_continue x) row).1 is) ∙ and_false (c == 114)
+second_raw (c ∷ x) gap row is = ap (λ b. c == 114 && b) (raw_none x gap
+    (and_parts (is_continue c) (list_all is_continue x) row).1 is) ∙ and_false (c == 114)
 
-otherwise_gap : (c : ℕ) (more gap : List ℕ) → list_all is_continue more ≡ true → BeginsGap gap → begins_otherwise (c ∷ more ++ gap) ≡ false
+otherwise_gap : (c : ℕ) (more gap : List ℕ) → list_all is_continue more ≡ true → BeginsGap gap
+    → begins_otherwise (c ∷ more ++ gap) ≡ false
 otherwise_gap c more gap row is =
     let u = more ++ gap in
-    none_of (c == 98) (c == 99) (c == 114) (slice_index u 0 == 34) (slice_index u 0 == 39) (slice_index u 0 == 114 && begins_hashed_quote (drop 1 u)) (begins_hashed_quote u) (slice_index u 0 == 35 && first_passes is_start (drop 1 u))
+    none_of (c == 98) (c == 99) (c == 114) (slice_index u 0 == 34) (slice_index u 0 == 39)
+        (slice_index u 0 == 114 && begins_hashed_quote (drop 1 u)) (begins_hashed_quote u)
+        (slice_index u 0 == 35 && first_passes is_start (drop 1 u))
     (hash_none 34 more gap row is (code_solid 34 refl refl) (continue_ascii 34 (lit< tt)) refl)
     (hash_none 39 more gap row is (code_solid 39 refl refl) (continue_ascii 39 (lit< tt)) refl)
     (second_raw more gap row is)
     (raw_none more gap row is)
-    (ap (λ b. b && first_passes is_start (drop 1 u)) (hash_none 35 more gap row is (code_solid 35 refl refl) (continue_ascii 35 (lit< tt)) refl))
+    (ap (λ b. b && first_passes is_start (drop 1 u)) (hash_none 35 more gap row is (code_solid 35 refl refl)
+        (continue_ascii 35 (lit< tt)) refl))
 
 run_end : (row after gap : List ℕ) → BeginsGap gap → IsRow is_continue row after → IsRow is_continue row gap
 run_end row after gap is r = row_gap is_continue row [] after gap continue_solid is r
@@ -219,6 +273,7 @@ stays_before_gap (RawLexeme p n body x) after gap keeps (l, suffix) is = (l, suf
 stays_before_gap (CharacterLexeme b inside x) after gap keeps (l, suffix) is = (l, suffix_gap x after gap is suffix)
 stays_before_gap (BasedLexeme letter digits) after gap keeps (l, row) is = (l, run_end digits after gap is row)
 stays_before_gap (DecimalLexeme d more f e x) after gap keeps l is = decimal_gap d more f e x after gap is l
-stays_before_gap (IdentifierLexeme c more) after gap keeps (l, row, other) is = (l, run_end more after gap is row, none_otherwise (c ∷ more ++ gap) (otherwise_gap c more gap row.each is))
+stays_before_gap (IdentifierLexeme c more) after gap keeps (l, row, other) is =
+    (l, run_end more after gap is row, none_otherwise (c ∷ more ++ gap) (otherwise_gap c more gap row.each is))
 stays_before_gap (DelimiterLexeme c) after gap keeps l is = l
 stays_before_gap (MarkLexeme c) after gap keeps l is = absurd keeps

@@ -1,5 +1,7 @@
 -- What may follow a literal in a print, and what no such text begins with.
-use Rattle.rl_tokens.proofs.Common.{◌≡◌, ℕ, ◌<◌, inl, inr, Bool, true, false, not, ◌&&◌, ◌||◌, ◌==◌, List, [], ◌∷◌, ◌++◌, refl, ◌∙◌, ap, lit<, and_parts, IsTrue, ⊤, codes, list_all, is_ascii_digit, is_ascii_alphanumeric, and_from, or_from, is_xid_start, is_xid_continue}
+use Rattle.rl_tokens.proofs.Common.{◌≡◌, ℕ, ◌<◌, inl, inr, Bool, true, false, not, ◌&&◌, ◌||◌, ◌==◌, List, [], ◌∷◌,
+    ◌++◌, refl, ◌∙◌, ap, lit<, and_parts, IsTrue, ⊤, codes, list_all, is_ascii_digit, is_ascii_alphanumeric, and_from,
+    or_from, is_xid_start, is_xid_continue}
 use Rattle.rl_tokens.specs.Texts.{is_white, is_among, first_passes, is_row_part}
 use Rattle.rl_tokens.specs.Lexemes.{is_base_letter, IsLexedSuffix, IsLexeme, is_start, is_continue}
 use Rattle.rl_tokens.proofs.Gaps.{BeginsGap}
@@ -27,29 +29,34 @@ EndsLiteral (c ∷ t) = IsTrue (is_ender c)
 abbrev pub Clear : (ℕ → Bool) → Type 0
 Clear test = (c : ℕ) → is_ender c ≡ true → test c ≡ false
 
-clear_from : (test : ℕ → Bool) → ((c : ℕ) → is_white c ≡ true → test c ≡ false) → ((c : ℕ) → is_among enders c ≡ true → test c ≡ false) → Clear test
+clear_from : (test : ℕ → Bool) → ((c : ℕ) → is_white c ≡ true → test c ≡ false)
+    → ((c : ℕ) → is_among enders c ≡ true → test c ≡ false) → Clear test
 clear_from test at_white at_other c h = go (is_white c) refl h
   where
     go : (b : Bool) → is_white c ≡ b → (b || is_among enders c) ≡ true → test c ≡ false
     go true w h = at_white c w
     go false w h = at_other c h
 
-fails_among : (test : ℕ → Bool) → list_all (λ k. not (test k)) enders ≡ true → (c : ℕ) → is_among enders c ≡ true → test c ≡ false
+fails_among : (test : ℕ → Bool) → list_all (λ k. not (test k)) enders ≡ true → (c : ℕ) → is_among enders c ≡ true
+    → test c ≡ false
 fails_among test all c is = not_true (test c) (among enders (λ k. not (test k)) c all is)
 
 -- It begins no identifier.
 pub clear_start : Clear is_start
-clear_start = clear_from is_start (λ c w. ap (λ b. (c == 95 || is_xid_start c) && not b) w ∙ and_false (c == 95 || is_xid_start c)) (λ c is. not_start_among enders c refl refl is)
+clear_start = clear_from is_start (λ c w. ap (λ b. (c == 95 || is_xid_start c) && not b) w
+    ∙ and_false (c == 95 || is_xid_start c)) (λ c is. not_start_among enders c refl refl is)
 
 -- It goes on with none.
 pub clear_continue : Clear is_continue
 clear_continue =
     clear_from is_continue (λ c w. ap (λ b. is_xid_continue c && not b) w ∙ and_false (is_xid_continue c))
-    (λ c is. continue_ascii c (low_among enders c refl is) ∙ fails_among (λ k. (is_ascii_alphanumeric k || (k == 95)) && not (is_white k)) refl c is)
+    (λ c is. continue_ascii c (low_among enders c refl is) ∙ fails_among
+        (λ k. (is_ascii_alphanumeric k || (k == 95)) && not (is_white k)) refl c is)
 
 -- It is no digit.
 pub clear_digit : Clear is_ascii_digit
-clear_digit = clear_from is_ascii_digit (λ c w. digit_solid c (ap (λ b. b || c == 47) w)) (fails_among is_ascii_digit refl)
+clear_digit = clear_from is_ascii_digit (λ c w. digit_solid c (ap (λ b. b || c == 47) w))
+    (fails_among is_ascii_digit refl)
 
 -- It is no character but these.
 pub clear_code : (k : ℕ) → is_white k ≡ false → list_all (λ c. not (c == k)) enders ≡ true → Clear (λ c. c == k)
@@ -68,7 +75,9 @@ clear_dot = clear_or (λ d. d == 46) is_start (clear_code 46 refl refl) clear_st
 
 -- It makes no base of a zero.
 pub clear_base : Clear is_base_letter
-clear_base = clear_or (λ c. c == 120 || c == 111) (λ c. c == 98) (clear_or (λ c. c == 120) (λ c. c == 111) (clear_code 120 refl refl) (clear_code 111 refl refl)) (clear_code 98 refl refl)
+clear_base = clear_or (λ c. c == 120 || c == 111) (λ c. c == 98)
+    (clear_or (λ c. c == 120) (λ c. c == 111) (clear_code 120 refl refl) (clear_code 111 refl refl))
+    (clear_code 98 refl refl)
 
 -- It begins no exponent.
 pub clear_exponent : Clear (λ c. c == 101 || c == 69)
@@ -80,7 +89,8 @@ ends_fails test [] clear is = refl
 ends_fails test (c ∷ t) clear is = clear c is
 
 -- What fails at the front of a text fails where such a text follows.
-pub front_fails : (test : ℕ → Bool) (s after : List ℕ) → Clear test → EndsLiteral after → first_passes test s ≡ false → first_passes test (s ++ after) ≡ false
+pub front_fails : (test : ℕ → Bool) (s after : List ℕ) → Clear test → EndsLiteral after → first_passes test s ≡ false
+    → first_passes test (s ++ after) ≡ false
 front_fails test [] after clear ends h = ends_fails test after clear ends
 front_fails test (c ∷ s) after clear ends h = h
 
@@ -95,7 +105,8 @@ gap_ends (c ∷ t) is = go (is_white c) (c == 47) is
     go false false h = absurd (cc)
 
 -- Suffixes.
-all_both : (f g : ℕ → Bool) (cs : List ℕ) → list_all f cs ≡ true → list_all g cs ≡ true → list_all (λ c. f c && g c) cs ≡ true
+all_both : (f g : ℕ → Bool) (cs : List ℕ) → list_all f cs ≡ true → list_all g cs ≡ true → list_all (λ c. f c && g c) cs
+    ≡ true
 all_both f g [] a b = refl
 all_both f g (c ∷ cs) a b =
     let p = and_parts (f c) (list_all f cs) a in
@@ -106,22 +117,26 @@ all_both f g (c ∷ cs) a b =
 pub suffix_starts : (c : ℕ) (cs : List ℕ) → IsStrictSuffix (c ∷ cs) → is_start c ≡ true
 suffix_starts c cs (inl e) = absurd (cc)
 suffix_starts c cs (inr w) =
-    and_from (c == 95 || is_xid_start c) (not (is_white c)) (and_parts (c == 95 || is_xid_start c) (list_all is_xid_continue cs) w.identifier).0
+    and_from (c == 95 || is_xid_start c) (not (is_white c)) (and_parts (c == 95 || is_xid_start c)
+        (list_all is_xid_continue cs) w.identifier).0
     (and_parts (not (is_white c)) (list_all (λ c. not (is_white c)) cs) w.no_white).0
 
 -- Each character of it goes on with an identifier.
 pub suffix_continues : (x : List ℕ) → IsStrictSuffix x → list_all is_continue x ≡ true
 suffix_continues x (inl e) = ap (list_all is_continue) e
-suffix_continues x (inr w) = all_both is_xid_continue (λ c. not (is_white c)) x (word_continues x w.identifier) w.no_white
+suffix_continues x (inr w) = all_both is_xid_continue (λ c. not (is_white c)) x (word_continues x w.identifier)
+    w.no_white
 
 -- A strict suffix is one of the lexer's.
 pub strict_suffix_lexed : (x after : List ℕ) → IsStrictSuffix x → EndsLiteral after → IsLexedSuffix x after
 strict_suffix_lexed [] after is ends = ends_fails is_start after clear_start ends
 strict_suffix_lexed (c ∷ cs) after is ends =
-    (suffix_starts c cs is, record { each = (and_parts (is_continue c) (list_all is_continue cs) (suffix_continues (c ∷ cs) is)).1; ends = ends_fails is_continue after clear_continue ends })
+    (suffix_starts c cs is, record { each = (and_parts (is_continue c) (list_all is_continue cs)
+        (suffix_continues (c ∷ cs) is)).1; ends = ends_fails is_continue after clear_continue ends })
 
 -- The words.
-letter_continues : (c : ℕ) → c < 128 → ((is_ascii_alphanumeric c || (c == 95)) && not (is_white c)) ≡ true → is_continue c ≡ true
+letter_continues : (c : ℕ) → c < 128 → ((is_ascii_alphanumeric c || (c == 95)) && not (is_white c)) ≡ true
+    → is_continue c ≡ true
 letter_continues c low is = continue_ascii c low ∙ is
 
 -- A word is an identifier before what ends a literal.
@@ -129,7 +144,8 @@ pub word_ends : (truth : Bool) (after : List ℕ) → EndsLiteral after → IsLe
 word_ends true after ends = (
   start_ascii 116 (lit< tt),
   record {
-    each = and_from _ _ (letter_continues 114 (lit< tt) refl) (and_from _ _ (letter_continues 117 (lit< tt) refl) (and_from _ _ (letter_continues 101 (lit< tt) refl) refl));
+    each = and_from _ _ (letter_continues 114 (lit< tt) refl) (and_from _ _ (letter_continues 117 (lit< tt) refl)
+        (and_from _ _ (letter_continues 101 (lit< tt) refl) refl));
     ends = ends_fails is_continue after clear_continue ends;
   },
   none_otherwise (codes "true" ++ after) refl,
@@ -137,7 +153,8 @@ word_ends true after ends = (
 word_ends false after ends = (
   start_ascii 102 (lit< tt),
   record {
-    each = and_from _ _ (letter_continues 97 (lit< tt) refl) (and_from _ _ (letter_continues 108 (lit< tt) refl) (and_from _ _ (letter_continues 115 (lit< tt) refl) (and_from _ _ (letter_continues 101 (lit< tt) refl) refl)));
+    each = and_from _ _ (letter_continues 97 (lit< tt) refl) (and_from _ _ (letter_continues 108 (lit< tt) refl)
+        (and_from _ _ (letter_continues 115 (lit< tt) refl) (and_from _ _ (letter_continues 101 (lit< tt) refl) refl)));
     ends = ends_fails is_continue after clear_continue ends;
   },
   none_otherwise (codes "false" ++ after) refl,

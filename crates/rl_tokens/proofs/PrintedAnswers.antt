@@ -3,7 +3,8 @@ use Rattle.rl_tokens.proofs.Common.{◌≡◌, ℕ, List, Result, Ok, Err, refl,
 use Rattle.std.specs.Result.{IfErr}
 use Rattle.rl_tokens.specs.declared.token.TokenStream.{TokenStream}
 use Rattle.rl_tokens.specs.declared.lex_error.LexKind.{LexKind}
-use Rattle.rl_tokens.specs.declared.lex_error.LexKind.TheVariants.{DocComment, UnclosedComment, UnclosedQuote, Lifetime, RawIdentifier, StrayCharacter, UnmatchedClose, UnclosedGroup, TooDeep, Memory}
+use Rattle.rl_tokens.specs.declared.lex_error.LexKind.TheVariants.{DocComment, UnclosedComment, UnclosedQuote, Lifetime,
+    RawIdentifier, StrayCharacter, UnmatchedClose, UnclosedGroup, TooDeep, Memory}
 use Rattle.rl_tokens.specs.declared.lex_error.LexError.{LexError}
 use Rattle.rl_tokens.specs.Trees.{Tree, stream_view}
 use Rattle.rl_tokens.specs.Lexing.{Lexes, HasFirstError, Rejects}
@@ -13,7 +14,8 @@ use Rattle.rl_tokens.proofs.LexLaws.{one_list, never_both}
 use Rattle.rl_tokens.proofs.PrintedLaws.{printed_lexes, reprinted_lexes}
 
 -- an error of a text with no error is an allocation failure
-rejects_memory : (t : List ℕ) (kind : LexKind) (at : ℕ) → (HasFirstError t kind at → ⊥) → Rejects t kind at → kind ≡ Memory
+rejects_memory : (t : List ℕ) (kind : LexKind) (at : ℕ) → (HasFirstError t kind at → ⊥) → Rejects t kind at → kind
+    ≡ Memory
 rejects_memory t Memory at none h = refl
 rejects_memory t DocComment at none h = absurd (none h)
 rejects_memory t UnclosedComment at none h = absurd (none h)
@@ -26,21 +28,33 @@ rejects_memory t UnclosedGroup at none h = absurd (none h)
 rejects_memory t TooDeep at none h = absurd (none h)
 
 -- where the text lexes, each error is an allocation failure
-only_memory : (t : List ℕ) (file : ℕ) (trees : List Tree) (e : LexError) → Lexes t file trees → Rejects t e.kind e.at → e.kind ≡ Memory
-only_memory t file trees e lexes rejected = rejects_memory t e.kind e.at (λ f. never_both t file trees e.kind e.at lexes f) rejected
+only_memory : (t : List ℕ) (file : ℕ) (trees : List Tree) (e : LexError) → Lexes t file trees → Rejects t e.kind e.at
+    → e.kind ≡ Memory
+only_memory t file trees e lexes rejected = rejects_memory t e.kind e.at
+    (λ f. never_both t file trees e.kind e.at lexes f) rejected
 
 -- These trees, or an allocation failure.
 abbrev pub Answers : {A : Type 0} → Result (TokenStream A) LexError → List Tree → Type 0
 Answers r trees = IfOk r (λ s. stream_view s ≡ trees) × IfErr r (λ e. e.kind ≡ Memory)
 
-answers_trees : {A : Type 0} (t : List ℕ) (file : ℕ) (r : Result (TokenStream A) LexError) (trees : List Tree) → Lexes t file trees → IfOk r (λ s. Lexes t file (stream_view s)) → IfErr r (λ e. Rejects t e.kind e.at) → Answers r trees
+answers_trees : {A : Type 0} (t : List ℕ) (file : ℕ) (r : Result (TokenStream A) LexError) (trees : List Tree)
+    → Lexes t file trees → IfOk r (λ s. Lexes t file (stream_view s)) → IfErr r (λ e. Rejects t e.kind e.at)
+    → Answers r trees
 answers_trees t file (Ok s) trees lexes found rejected = (one_list t file (stream_view s) trees found lexes, tt)
 answers_trees t file (Err e) trees lexes found rejected = (tt, only_memory t file trees e lexes rejected)
 
 -- The answer to a print.
-pub printed_answer : {A : Type 0} (text : List ℕ) (file : ℕ) (r : Result (TokenStream A) LexError) → IfOk r (λ s. Lexes (chars text) file (stream_view s)) → IfErr r (λ e. Rejects (chars text) e.kind e.at) → (entries : List Entry) (last : List ℕ) → Printed (chars text) entries last → Answers r (printed_trees file 0 entries)
-printed_answer text file r found rejected entries last printed = answers_trees (chars text) file r (printed_trees file 0 entries) (printed_lexes (chars text) entries last file printed) found rejected
+pub printed_answer : {A : Type 0} (text : List ℕ) (file : ℕ) (r : Result (TokenStream A) LexError)
+    → IfOk r (λ s. Lexes (chars text) file (stream_view s)) → IfErr r (λ e. Rejects (chars text) e.kind e.at)
+    → (entries : List Entry) (last : List ℕ) → Printed (chars text) entries last
+    → Answers r (printed_trees file 0 entries)
+printed_answer text file r found rejected entries last printed = answers_trees (chars text) file r
+    (printed_trees file 0 entries) (printed_lexes (chars text) entries last file printed) found rejected
 
 -- The answer to a print of what was cut from any text.
-pub reprinted_answer : {A : Type 0} (text : List ℕ) (file : ℕ) (r : Result (TokenStream A) LexError) → IfOk r (λ s. Lexes (chars text) file (stream_view s)) → IfErr r (λ e. Rejects (chars text) e.kind e.at) → (entries : List Entry) (last : List ℕ) → Reprinted (chars text) entries last → Answers r (printed_trees file 0 entries)
-reprinted_answer text file r found rejected entries last reprinted = answers_trees (chars text) file r (printed_trees file 0 entries) (reprinted_lexes (chars text) entries last file reprinted) found rejected
+pub reprinted_answer : {A : Type 0} (text : List ℕ) (file : ℕ) (r : Result (TokenStream A) LexError)
+    → IfOk r (λ s. Lexes (chars text) file (stream_view s)) → IfErr r (λ e. Rejects (chars text) e.kind e.at)
+    → (entries : List Entry) (last : List ℕ) → Reprinted (chars text) entries last
+    → Answers r (printed_trees file 0 entries)
+reprinted_answer text file r found rejected entries last reprinted = answers_trees (chars text) file r
+    (printed_trees file 0 entries) (reprinted_lexes (chars text) entries last file reprinted) found rejected

@@ -1,12 +1,16 @@
 -- A text of gaps and items is cut where they meet.
-use Rattle.rl_tokens.proofs.Common.{◌≡◌, ℕ, ◌+◌, inl, inr, Bool, true, false, not, ◌&&◌, ◌||◌, ◌==◌, List, [], ◌∷◌, ◌++◌, map, length, Some, None, refl, sym, ◌∙◌, ap, subst, arith, append-nil, lit<, ⊤, option_and_then, encode_utf8_all, AllByRecursion, list_all, none-some, encode_ascii, is_xid_start}
+use Rattle.rl_tokens.proofs.Common.{◌≡◌, ℕ, ◌+◌, inl, inr, Bool, true, false, not, ◌&&◌, ◌||◌, ◌==◌, List, [], ◌∷◌,
+    ◌++◌, map, length, Some, None, refl, sym, ◌∙◌, ap, subst, arith, append-nil, lit<, ⊤, option_and_then,
+    encode_utf8_all, AllByRecursion, list_all, none-some, encode_ascii, is_xid_start}
 use Rattle.rl_tokens.specs.Texts.{is_white, is_among, byte_len}
 use Rattle.rl_tokens.specs.Trivia.{White, Line, Block, IsTrivia}
 use Rattle.rl_tokens.specs.Skipping.{BeginsTrivia}
-use Rattle.rl_tokens.specs.Lexemes.{delimiters, marks, Lexeme, IdentifierLexeme, MarkLexeme, lexeme_text, IsLexeme, LiteralForm, form_of}
+use Rattle.rl_tokens.specs.Lexemes.{delimiters, marks, Lexeme, IdentifierLexeme, MarkLexeme, lexeme_text, IsLexeme,
+    LiteralForm, form_of}
 use Rattle.rl_tokens.specs.Mirrors.LexemeAt.{SlashHead, StrayHead, head_class, lexeme_at}
 use Rattle.rl_tokens.specs.Trees.{Tree, PunctTree, LiteralTree, flat, flat_trees}
-use Rattle.rl_tokens.specs.Lexing.{LexedToken, LexesUpTo, OpenGroup, after_form, open_groups, flat_form, flat_token, Lexes}
+use Rattle.rl_tokens.specs.Lexing.{LexedToken, LexesUpTo, OpenGroup, after_form, open_groups, flat_form, flat_token,
+    Lexes}
 use Rattle.rl_tokens.specs.Printed.{Item, WordItem, LiteralItem, MinusItem, item_text, Entry, printed_text, token_at}
 use Rattle.rl_tokens.specs.PrintedTrees.{item_trees, printed_trees}
 use Rattle.rl_tokens.proofs.Comments.{false_unless}
@@ -17,13 +21,17 @@ use Rattle.rl_tokens.proofs.LexemeGaps.{and_false, digit_solid}
 use Rattle.rl_tokens.proofs.CutLemmas.{byte_len-append}
 
 -- Where trivia begins no lexeme does.
-not_white_among : (codes : List ℕ) (c : ℕ) → list_all (λ k. not (is_white k)) codes ≡ true → is_white c ≡ true → is_among codes c ≡ false
-not_white_among codes c all w = false_unless (is_among codes c) (λ h. let k : is_white c ≡ false = not_true (is_white c) (among codes (λ k. not (is_white k)) c all h) in absurd (cc))
+not_white_among : (codes : List ℕ) (c : ℕ) → list_all (λ k. not (is_white k)) codes ≡ true → is_white c ≡ true
+    → is_among codes c ≡ false
+not_white_among codes c all w = false_unless (is_among codes c)
+    (λ h. let k : is_white c ≡ false = not_true (is_white c) (among codes (λ k. not (is_white k)) c all h) in absurd
+    (cc))
 
 white_class : (c : ℕ) → is_white c ≡ true → head_class c ≡ StrayHead
 white_class c w =
     stray_class c (ap (λ b. (c == 95 || is_xid_start c) && not b) w ∙ and_false (c == 95 || is_xid_start c))
-    (not_white_among delimiters c refl w) (not_among c 47 is_white w refl) (not_white_among marks c refl w) (digit_solid c (ap (λ b. b || c == 47) w)) (not_among c 34 is_white w refl) (not_among c 39 is_white w refl)
+    (not_white_among delimiters c refl w) (not_among c 47 is_white w refl) (not_white_among marks c refl w)
+        (digit_solid c (ap (λ b. b || c == 47) w)) (not_among c 34 is_white w refl) (not_among c 39 is_white w refl)
 
 trivia_none : (t : List ℕ) → BeginsTrivia t → lexeme_at t ≡ None
 trivia_none t (inl (White c, rest, w, same)) = ap lexeme_at same ∙ at_class c rest StrayHead (white_class c w)
@@ -32,7 +40,8 @@ trivia_none t (inl (Block inside, rest, is, same)) = ap lexeme_at same ∙ at_cl
 trivia_none t (inr line) = ap lexeme_at line.text ∙ at_class 47 _ SlashHead class47
 
 lexeme_stops : (l : Lexeme) (after : List ℕ) → IsLexeme l after → BeginsTrivia (lexeme_text l ++ after) → ⊥
-lexeme_stops l after is trivia = none-some (form_of l, after) (sym (trivia_none (lexeme_text l ++ after) trivia) ∙ lexeme_at-past l after is)
+lexeme_stops l after is trivia = none-some (form_of l, after)
+    (sym (trivia_none (lexeme_text l ++ after) trivia) ∙ lexeme_at-past l after is)
 
 -- The text that stands at this byte is cut into these trees, and no group is opened.
 record CutInto (file at : ℕ) (t : List ℕ) (trees : List Tree) : Type 0 where
@@ -45,13 +54,18 @@ record CutInto (file at : ℕ) (t : List ℕ) (trees : List Tree) : Type 0 where
 last_cut : (file at : ℕ) (last : List ℕ) → IsTrivia last → CutInto file at last []
 last_cut file at last is = record {
   cuts = [];
-  are_cuts = inl (record { front = last; is_trivia = is; text = sym (append-nil last); stops = stops-from_none [] refl });
+  are_cuts = inl (record { front = last; is_trivia = is; text = sym (append-nil last); stops = stops-from_none [] refl
+      });
   none_open = λ groups. refl;
   flat_is = refl;
 }
 
 -- a gap and a token of no delimiter
-token_cut : (file at : ℕ) (gap : List ℕ) (l : Lexeme) (after : List ℕ) (tree : Tree) (trees : List Tree) → IsTrivia gap → IsLexeme l after → ((groups : List OpenGroup) (n : ℕ) → after_form groups (form_of l) n ≡ Some groups) → flat tree ≡ flat_token file (record { lexeme = l; at = at + byte_len gap }) ∷ [] → CutInto file (at + byte_len gap + byte_len (lexeme_text l)) after trees → CutInto file at (gap ++ (lexeme_text l ++ after)) (tree ∷ trees)
+token_cut : (file at : ℕ) (gap : List ℕ) (l : Lexeme) (after : List ℕ) (tree : Tree) (trees : List Tree) → IsTrivia gap
+    → IsLexeme l after → ((groups : List OpenGroup) (n : ℕ) → after_form groups (form_of l) n ≡ Some groups) → flat tree
+    ≡ flat_token file (record { lexeme = l; at = at + byte_len gap }) ∷ []
+    → CutInto file (at + byte_len gap + byte_len (lexeme_text l)) after trees
+    → CutInto file at (gap ++ (lexeme_text l ++ after)) (tree ∷ trees)
 token_cut file at gap l after tree trees is_gap is_lexeme neutral is_flat rest = record {
   cuts = record { lexeme = l; at = at + byte_len gap } ∷ rest.cuts;
   are_cuts = (
@@ -61,24 +75,31 @@ token_cut file at gap l after tree trees is_gap is_lexeme neutral is_flat rest =
     omega (arith, byte_len-append gap (lexeme_text l ++ after)),
     rest.are_cuts,
   );
-  none_open = λ groups. ap (option_and_then (λ g. open_groups g rest.cuts)) (neutral groups (at + byte_len gap)) ∙ rest.none_open groups;
-  flat_is = ap (λ fs. flat_token file (record { lexeme = l; at = at + byte_len gap }) ∷ fs) rest.flat_is ∙ ap (λ f. f ++ flat_trees trees) (sym is_flat);
+  none_open = λ groups. ap (option_and_then (λ g. open_groups g rest.cuts)) (neutral groups (at + byte_len gap))
+      ∙ rest.none_open groups;
+  flat_is = ap (λ fs. flat_token file (record { lexeme = l; at = at + byte_len gap }) ∷ fs) rest.flat_is
+      ∙ ap (λ f. f ++ flat_trees trees) (sym is_flat);
 }
 
 -- The trees of items.
-literal_flat : (file at : ℕ) (l : Lexeme) (text : List ℕ) → form_of l ≡ LiteralForm → text ≡ lexeme_text l → flat (LiteralTree (token_at file at text)) ≡ flat_token file (record { lexeme = l; at = at }) ∷ []
+literal_flat : (file at : ℕ) (l : Lexeme) (text : List ℕ) → form_of l ≡ LiteralForm → text ≡ lexeme_text l
+    → flat (LiteralTree (token_at file at text)) ≡ flat_token file (record { lexeme = l; at = at }) ∷ []
 literal_flat file at l text form same =
     ap (λ x. flat (LiteralTree (token_at file at x))) same
-    ∙ ap (λ f. flat_form f (encode_utf8_all (lexeme_text l)) (record { file = file; lo = at; hi = at + byte_len (lexeme_text l) }) ∷ []) (sym form)
+    ∙ ap (λ f. flat_form f (encode_utf8_all (lexeme_text l)) (record
+        { file = file; lo = at; hi = at + byte_len (lexeme_text l) }) ∷ []) (sym form)
 
-literal_neutral : (l : Lexeme) → form_of l ≡ LiteralForm → (groups : List OpenGroup) (n : ℕ) → after_form groups (form_of l) n ≡ Some groups
+literal_neutral : (l : Lexeme) → form_of l ≡ LiteralForm → (groups : List OpenGroup) (n : ℕ)
+    → after_form groups (form_of l) n ≡ Some groups
 literal_neutral l form groups n = ap (λ f. after_form groups f n) form
 
 minus_len : byte_len (45 ∷ []) ≡ 1
 minus_len = ap (λ z. length (z ++ [])) (encode_ascii 45 (lit< tt))
 
-minus_flat : (file at : ℕ) → flat (PunctTree (record { ch = 45; span = record { file = file; lo = at; hi = at + 1 } })) ≡ flat_token file (record { lexeme = MarkLexeme 45; at = at }) ∷ []
-minus_flat file at = ap (λ n. flat (PunctTree (record { ch = 45; span = record { file = file; lo = at; hi = at + n } }))) (sym minus_len)
+minus_flat : (file at : ℕ) → flat (PunctTree (record { ch = 45; span = record { file = file; lo = at; hi = at + 1 } }))
+    ≡ flat_token file (record { lexeme = MarkLexeme 45; at = at }) ∷ []
+minus_flat file at = ap (λ n. flat (PunctTree (record { ch = 45; span = record { file = file; lo = at; hi = at + n }
+    }))) (sym minus_len)
 
 -- Below a family says what may follow a literal. The text of a literal that is one lexeme before each such text:
 pub record LexedBefore (ends : List ℕ → Type 0) (text : List ℕ) : Type 0 where
@@ -103,41 +124,69 @@ abbrev pub EndsEach : (List ℕ → Type 0) → List Entry → List ℕ → Type
 EndsEach ends [] last = ⊤
 EndsEach ends (e ∷ es) last = ends (printed_text es last) × EndsEach ends es last
 
-literal_cut : (ends : List ℕ → Type 0) (file at : ℕ) (gap text after : List ℕ) (trees : List Tree) → IsTrivia gap → LexedBefore ends text → ends after → CutInto file (at + byte_len gap + byte_len text) after trees → CutInto file at (gap ++ (text ++ after)) (LiteralTree (token_at file (at + byte_len gap) text) ∷ trees)
+literal_cut : (ends : List ℕ → Type 0) (file at : ℕ) (gap text after : List ℕ) (trees : List Tree) → IsTrivia gap
+    → LexedBefore ends text → ends after → CutInto file (at + byte_len gap + byte_len text) after trees
+    → CutInto file at (gap ++ (text ++ after)) (LiteralTree (token_at file (at + byte_len gap) text) ∷ trees)
 literal_cut ends file at gap text after trees is_gap l follows rest =
-    subst (λ (x : List ℕ). CutInto file at (gap ++ (x ++ after)) (LiteralTree (token_at file (at + byte_len gap) text) ∷ trees)) (sym l.text_is)
-    (token_cut file at gap l.lexeme after (LiteralTree (token_at file (at + byte_len gap) text)) trees is_gap (l.is_lexeme after follows) (literal_neutral l.lexeme l.form) (literal_flat file (at + byte_len gap) l.lexeme text l.form l.text_is)
+    subst (λ (x : List ℕ). CutInto file at (gap ++ (x ++ after))
+        (LiteralTree (token_at file (at + byte_len gap) text) ∷ trees)) (sym l.text_is)
+    (token_cut file at gap l.lexeme after (LiteralTree (token_at file (at + byte_len gap) text)) trees is_gap
+        (l.is_lexeme after follows) (literal_neutral l.lexeme l.form)
+        (literal_flat file (at + byte_len gap) l.lexeme text l.form l.text_is)
     (subst (λ (x : List ℕ). CutInto file (at + byte_len gap + byte_len x) after trees) l.text_is rest))
 
-word_cut : (file at : ℕ) (gap : List ℕ) (truth : Bool) (after : List ℕ) (trees : List Tree) → IsTrivia gap → IsLexeme (word_lexeme truth) after → CutInto file (at + byte_len gap + byte_len (item_text (WordItem truth))) after trees → CutInto file at (gap ++ (item_text (WordItem truth) ++ after)) (item_trees file (at + byte_len gap) (WordItem truth) ++ trees)
-word_cut file at gap true after trees is_gap is rest = token_cut file at gap (word_lexeme true) after _ trees is_gap is (λ groups n. refl) refl rest
-word_cut file at gap false after trees is_gap is rest = token_cut file at gap (word_lexeme false) after _ trees is_gap is (λ groups n. refl) refl rest
+word_cut : (file at : ℕ) (gap : List ℕ) (truth : Bool) (after : List ℕ) (trees : List Tree) → IsTrivia gap
+    → IsLexeme (word_lexeme truth) after → CutInto file (at + byte_len gap + byte_len (item_text (WordItem truth)))
+    after trees → CutInto file at (gap ++ (item_text (WordItem truth) ++ after))
+    (item_trees file (at + byte_len gap) (WordItem truth) ++ trees)
+word_cut file at gap true after trees is_gap is rest = token_cut file at gap (word_lexeme true) after _ trees is_gap is
+    (λ groups n. refl) refl rest
+word_cut file at gap false after trees is_gap is rest = token_cut file at gap (word_lexeme false) after _ trees is_gap
+    is (λ groups n. refl) refl rest
 
-minus_cut : (ends : List ℕ → Type 0) (file at : ℕ) (gap text after : List ℕ) (trees : List Tree) → IsTrivia gap → LexedBefore ends text → ends after → CutInto file (at + byte_len gap + byte_len (45 ∷ text)) after trees → CutInto file at (gap ++ (45 ∷ (text ++ after))) (item_trees file (at + byte_len gap) (MinusItem text) ++ trees)
+minus_cut : (ends : List ℕ → Type 0) (file at : ℕ) (gap text after : List ℕ) (trees : List Tree) → IsTrivia gap
+    → LexedBefore ends text → ends after → CutInto file (at + byte_len gap + byte_len (45 ∷ text)) after trees
+    → CutInto file at (gap ++ (45 ∷ (text ++ after))) (item_trees file (at + byte_len gap) (MinusItem text) ++ trees)
 minus_cut ends file at gap text after trees is_gap l follows rest =
     let n = at + byte_len gap in
-    let places : n + byte_len (45 ∷ text) ≡ n + 1 + byte_len [] + byte_len text = omega (arith, byte_len-append (45 ∷ []) text, minus_len) in
+    let places : n + byte_len (45 ∷ text) ≡ n + 1 + byte_len [] + byte_len text = omega
+        (arith, byte_len-append (45 ∷ []) text, minus_len) in
     let here : n + 1 + byte_len [] ≡ n + 1 = omega arith in
     let number : CutInto file (n + 1) (text ++ after) (LiteralTree (token_at file (n + 1 + byte_len []) text) ∷ trees) =
-    literal_cut ends file (n + 1) [] text after trees no_trivia l follows (subst (λ (k : ℕ). CutInto file k after trees) places rest) in
-    token_cut file at gap (MarkLexeme 45) (text ++ after) (PunctTree (record { ch = 45; span = record { file = file; lo = n; hi = n + 1 } })) (LiteralTree (token_at file (n + 1) text) ∷ trees) is_gap (inl refl) (λ groups n. refl) (minus_flat file n)
-    (subst (λ (k : ℕ). CutInto file (n + k) (text ++ after) (LiteralTree (token_at file (n + 1) text) ∷ trees)) (sym minus_len)
+    literal_cut ends file (n + 1) [] text after trees no_trivia l follows
+        (subst (λ (k : ℕ). CutInto file k after trees) places rest) in
+    token_cut file at gap (MarkLexeme 45) (text ++ after) (PunctTree
+        (record { ch = 45; span = record { file = file; lo = n; hi = n + 1 } }))
+        (LiteralTree (token_at file (n + 1) text) ∷ trees) is_gap (inl refl) (λ groups n. refl) (minus_flat file n)
+    (subst (λ (k : ℕ). CutInto file (n + k) (text ++ after) (LiteralTree (token_at file (n + 1) text) ∷ trees))
+        (sym minus_len)
     (subst (λ (k : ℕ). CutInto file (n + 1) (text ++ after) (LiteralTree (token_at file k text) ∷ trees)) here number))
 
-item_cut : (ends : List ℕ → Type 0) (file at : ℕ) (gap : List ℕ) (item : Item) (after : List ℕ) (trees : List Tree) → IsTrivia gap → LexedItem ends item → ends after → CutInto file (at + byte_len gap + byte_len (item_text item)) after trees → CutInto file at (gap ++ (item_text item ++ after)) (item_trees file (at + byte_len gap) item ++ trees)
-item_cut ends file at gap (WordItem truth) after trees is_gap is follows rest = word_cut file at gap truth after trees is_gap (is after follows) rest
-item_cut ends file at gap (LiteralItem text) after trees is_gap is follows rest = literal_cut ends file at gap text after trees is_gap is follows rest
-item_cut ends file at gap (MinusItem text) after trees is_gap is follows rest = minus_cut ends file at gap text after trees is_gap is follows rest
+item_cut : (ends : List ℕ → Type 0) (file at : ℕ) (gap : List ℕ) (item : Item) (after : List ℕ) (trees : List Tree)
+    → IsTrivia gap → LexedItem ends item → ends after → CutInto file (at + byte_len gap + byte_len (item_text item))
+    after trees → CutInto file at (gap ++ (item_text item ++ after)) (item_trees file (at + byte_len gap) item ++ trees)
+item_cut ends file at gap (WordItem truth) after trees is_gap is follows rest = word_cut file at gap truth after trees
+    is_gap (is after follows) rest
+item_cut ends file at gap (LiteralItem text) after trees is_gap is follows rest = literal_cut ends file at gap text
+    after trees is_gap is follows rest
+item_cut ends file at gap (MinusItem text) after trees is_gap is follows rest = minus_cut ends file at gap text after
+    trees is_gap is follows rest
 
 -- all entries in turn
-entries_cut : (ends : List ℕ → Type 0) (file at : ℕ) (entries : List Entry) (last : List ℕ) → AllByRecursion (λ e. IsTrivia e.gap × LexedItem ends e.item) entries → EndsEach ends entries last → IsTrivia last → CutInto file at (printed_text entries last) (printed_trees file at entries)
+entries_cut : (ends : List ℕ → Type 0) (file at : ℕ) (entries : List Entry) (last : List ℕ)
+    → AllByRecursion (λ e. IsTrivia e.gap × LexedItem ends e.item) entries → EndsEach ends entries last → IsTrivia last
+    → CutInto file at (printed_text entries last) (printed_trees file at entries)
 entries_cut ends file at [] last each follow is_last = last_cut file at last is_last
 entries_cut ends file at (e ∷ es) last ((is_gap, is), each) (follows, follow) is_last =
-    item_cut ends file at e.gap e.item (printed_text es last) (printed_trees file (at + byte_len e.gap + byte_len (item_text e.item)) es) is_gap is follows
+    item_cut ends file at e.gap e.item (printed_text es last) (printed_trees file
+        (at + byte_len e.gap + byte_len (item_text e.item)) es) is_gap is follows
     (entries_cut ends file (at + byte_len e.gap + byte_len (item_text e.item)) es last each follow is_last)
 
 -- A printed text lexes as its items, where each is one lexeme before what follows it.
-pub entries_lex : (ends : List ℕ → Type 0) (file : ℕ) (t : List ℕ) (entries : List Entry) (last : List ℕ) → t ≡ printed_text entries last → AllByRecursion (λ e. IsTrivia e.gap × LexedItem ends e.item) entries → EndsEach ends entries last → IsTrivia last → Lexes t file (printed_trees file 0 entries)
+pub entries_lex : (ends : List ℕ → Type 0) (file : ℕ) (t : List ℕ) (entries : List Entry) (last : List ℕ) → t
+    ≡ printed_text entries last → AllByRecursion (λ e. IsTrivia e.gap × LexedItem ends e.item) entries
+    → EndsEach ends entries last → IsTrivia last → Lexes t file (printed_trees file 0 entries)
 entries_lex ends file t entries last same each follow is_last =
     let c = entries_cut ends file 0 entries last each follow is_last in
-    record { cuts = c.cuts; are_cuts = subst (λ (x : List ℕ). LexesUpTo 0 x c.cuts []) (sym same) c.are_cuts; none_open = c.none_open []; flat_is = c.flat_is }
+    record { cuts = c.cuts; are_cuts = subst (λ (x : List ℕ). LexesUpTo 0 x c.cuts []) (sym same) c.are_cuts; none_open
+        = c.none_open []; flat_is = c.flat_is }

@@ -1,15 +1,19 @@
 -- Printed lists are cut into their items.
-use Rattle.rl_tokens.proofs.Common.{◌≡◌, ◌≢◌, ℕ, inl, inr, ◌||◌, ◌==◌, true, List, [], ◌∷◌, ◌++◌, drop, refl, sym, ◌∙◌, ap, subst, append_assoc, append-nil, codes, AllByRecursion, or_right}
+use Rattle.rl_tokens.proofs.Common.{◌≡◌, ◌≢◌, ℕ, inl, inr, ◌||◌, ◌==◌, true, List, [], ◌∷◌, ◌++◌, drop, refl, sym, ◌∙◌,
+    ap, subst, append_assoc, append-nil, codes, AllByRecursion, or_right}
 use Rattle.rl_tokens.specs.declared.kind.Kind.{Kind}
 use Rattle.rl_tokens.specs.declared.kind.Kind.TheVariants.{Str, ByteStr, CStr, Byte, Char, Int, Float, Bool as BoolKind}
 use Rattle.rl_tokens.specs.Texts.{is_white, first_passes, is_among}
-use Rattle.rl_tokens.specs.Trivia.{TriviaPiece, White, Line, Block, trivia_piece_text, IsTriviaPiece, trivia_text, IsTrivia}
-use Rattle.rl_tokens.specs.Lexemes.{Lexeme, QuotedLexeme, RawLexeme, CharacterLexeme, BasedLexeme, DecimalLexeme, IdentifierLexeme, DelimiterLexeme, MarkLexeme, LiteralForm, form_of}
+use Rattle.rl_tokens.specs.Trivia.{TriviaPiece, White, Line, Block, trivia_piece_text, IsTriviaPiece, trivia_text,
+    IsTrivia}
+use Rattle.rl_tokens.specs.Lexemes.{Lexeme, QuotedLexeme, RawLexeme, CharacterLexeme, BasedLexeme, DecimalLexeme,
+    IdentifierLexeme, DelimiterLexeme, MarkLexeme, LiteralForm, form_of}
 use Rattle.rl_tokens.proofs.Gaps.{KeepsItsEnd, BeginsGap}
 use Rattle.rl_tokens.specs.Reading.{Contents}
 use Rattle.rl_tokens.specs.Strict.{Strict}
 use Rattle.rl_tokens.specs.Quoted.{is_number}
-use Rattle.rl_tokens.specs.Printed.{Item, WordItem, LiteralItem, MinusItem, item_text, Entry, printed_text, IsStrictItem, IsApart}
+use Rattle.rl_tokens.specs.Printed.{Item, WordItem, LiteralItem, MinusItem, item_text, Entry, printed_text,
+    IsStrictItem, IsApart}
 use Rattle.rl_tokens.specs.PrintedTrees.{IsLexedLiteral, IsLexedItem, PrintedLexes, ReprintedLexes}
 use Rattle.rl_tokens.proofs.LexemeGaps.{stays_before_gap}
 use Rattle.rl_tokens.proofs.PrintedCuts.{LexedBefore, LexedItem, EndsEach, entries_lex}
@@ -18,11 +22,13 @@ use Rattle.rl_tokens.proofs.StrictQuotedLexemes.{quoted_lexed}
 use Rattle.rl_tokens.proofs.StrictNumberLexemes.{int_lexed, float_lexed}
 
 -- What holds of each, and what holds after the first.
-all_by : {A : Type 0} (P Q R : A → Type 0) → ((x : A) → P x → Q x → R x) → (xs : List A) → AllByRecursion P xs → AllByRecursion Q xs → AllByRecursion R xs
+all_by : {A : Type 0} (P Q R : A → Type 0) → ((x : A) → P x → Q x → R x) → (xs : List A) → AllByRecursion P xs
+    → AllByRecursion Q xs → AllByRecursion R xs
 all_by P Q R f [] ps qs = tt
 all_by P Q R f (x ∷ xs) (p, ps) (q, qs) = (f x p q, all_by P Q R f xs ps qs)
 
-all_from : {A : Type 0} (P R : A → Type 0) → ((x : A) → P x → R x) → (xs : List A) → AllByRecursion P xs → AllByRecursion R xs
+all_from : {A : Type 0} (P R : A → Type 0) → ((x : A) → P x → R x) → (xs : List A) → AllByRecursion P xs
+    → AllByRecursion R xs
 all_from P R f [] ps = tt
 all_from P R f (x ∷ xs) (p, ps) = (f x p, all_from P R f xs ps)
 
@@ -41,7 +47,9 @@ gap_begins gap rest is none = go is.pieces is.each is.text
   where
     go : (ps : List TriviaPiece) → AllByRecursion IsTriviaPiece ps → gap ≡ trivia_text ps → BeginsGap (gap ++ rest)
     go [] each same = subst (λ (x : List ℕ). BeginsGap (x ++ rest)) (sym same) (none same)
-    go (p ∷ ps) (is, each) same = subst (λ (x : List ℕ). BeginsGap x) (sym (append_assoc (trivia_piece_text p) (trivia_text ps) rest) ∙ ap (λ x. x ++ rest) (sym same)) (piece_begins p (trivia_text ps ++ rest) is)
+    go (p ∷ ps) (is, each) same = subst (λ (x : List ℕ). BeginsGap x)
+        (sym (append_assoc (trivia_piece_text p) (trivia_text ps) rest) ∙ ap (λ x. x ++ rest) (sym same))
+        (piece_begins p (trivia_text ps ++ rest) is)
 
 filled_gap : (gap rest : List ℕ) → IsTrivia gap → gap ≢ [] → BeginsGap (gap ++ rest)
 filled_gap gap rest is some = gap_begins gap rest is (λ h. absurd (some h))
@@ -53,13 +61,16 @@ last_begins last is = subst (λ (x : List ℕ). BeginsGap x) (append-nil last) (
 abbrev Follows : (List ℕ → Type 0) → Entry → Type 0
 Follows ends e = (rest : List ℕ) → ends (e.gap ++ (item_text e.item ++ rest))
 
-follow_each : (ends : List ℕ → Type 0) (entries : List Entry) (last : List ℕ) → AllByRecursion (Follows ends) (drop 1 entries) → ends last → EndsEach ends entries last
+follow_each : (ends : List ℕ → Type 0) (entries : List Entry) (last : List ℕ)
+    → AllByRecursion (Follows ends) (drop 1 entries) → ends last → EndsEach ends entries last
 follow_each ends [] last follow ends_last = tt
 follow_each ends (e ∷ []) last follow ends_last = (ends_last, tt)
-follow_each ends (e ∷ d ∷ es) last (here, follow) ends_last = (here (printed_text es last), follow_each ends (d ∷ es) last follow ends_last)
+follow_each ends (e ∷ d ∷ es) last (here, follow) ends_last =
+    (here (printed_text es last), follow_each ends (d ∷ es) last follow ends_last)
 
 -- A strict item is one lexeme before what may follow it.
-strict_lexed : (kind : Kind) (text suffix : List ℕ) (contents : Contents) → kind ≢ BoolKind → Strict text kind contents suffix → LexedBefore EndsLiteral text
+strict_lexed : (kind : Kind) (text suffix : List ℕ) (contents : Contents) → kind ≢ BoolKind
+    → Strict text kind contents suffix → LexedBefore EndsLiteral text
 strict_lexed Int text suffix contents other strict = int_lexed text suffix contents strict
 strict_lexed Float text suffix contents other strict = float_lexed text suffix contents strict
 strict_lexed BoolKind text suffix contents other strict = absurd (other refl)
@@ -74,8 +85,10 @@ not_bool kind number same = let e : is_number BoolKind ≡ true = ap is_number (
 
 item_lexed : (item : Item) → IsStrictItem item → LexedItem EndsLiteral item
 item_lexed (WordItem truth) is = λ after ends. word_ends truth after ends
-item_lexed (LiteralItem text) (kind, other, (contents, suffix, strict), read) = strict_lexed kind text suffix contents other strict
-item_lexed (MinusItem text) (kind, number, (contents, suffix, strict), read) = strict_lexed kind text suffix contents (not_bool kind number) strict
+item_lexed (LiteralItem text) (kind, other, (contents, suffix, strict), read) = strict_lexed kind text suffix contents
+    other strict
+item_lexed (MinusItem text) (kind, number, (contents, suffix, strict), read) = strict_lexed kind text suffix contents
+    (not_bool kind number) strict
 
 strict_item : (e : Entry) → IsTrivia e.gap × IsStrictItem e.item → IsTrivia e.gap × LexedItem EndsLiteral e.item
 strict_item e (gap, is) = (gap, item_lexed e.item is)
@@ -83,23 +96,28 @@ strict_item e (gap, is) = (gap, item_lexed e.item is)
 -- what begins with a quote, an apostrophe or a minus
 text_ends : (text rest : List ℕ) → first_passes (is_among (codes "\"'-")) text ≡ true → EndsLiteral (text ++ rest)
 text_ends [] rest begins = absurd (cc)
-text_ends (c ∷ t) rest begins = or_right (is_white c) (is_among (47 ∷ codes "\"'-") c) (or_right (c == 47) (is_among (codes "\"'-") c) begins)
+text_ends (c ∷ t) rest begins = or_right (is_white c) (is_among (47 ∷ codes "\"'-") c)
+    (or_right (c == 47) (is_among (codes "\"'-") c) begins)
 
 item_follows : (e : Entry) → IsTrivia e.gap × IsStrictItem e.item → IsApart e → Follows EndsLiteral e
-item_follows e (gap, is) (inl some) rest = gap_ends (e.gap ++ (item_text e.item ++ rest)) (filled_gap e.gap (item_text e.item ++ rest) gap some)
+item_follows e (gap, is) (inl some) rest = gap_ends (e.gap ++ (item_text e.item ++ rest))
+    (filled_gap e.gap (item_text e.item ++ rest) gap some)
 item_follows e (gap, is) (inr begins) rest = go e.gap gap
   where
     go : (g : List ℕ) → IsTrivia g → EndsLiteral (g ++ (item_text e.item ++ rest))
     go [] is = text_ends (item_text e.item) rest begins
-    go (c ∷ g) is = gap_ends (c ∷ g ++ (item_text e.item ++ rest)) (filled_gap (c ∷ g) (item_text e.item ++ rest) is (λ h. cc))
+    go (c ∷ g) is = gap_ends (c ∷ g ++ (item_text e.item ++ rest))
+        (filled_gap (c ∷ g) (item_text e.item ++ rest) is (λ h. cc))
 
 -- A print of strict items is cut into them.
 pub printed_lexes : PrintedLexes
 printed_lexes t entries last file printed =
     entries_lex EndsLiteral file t entries last printed.text
-    (all_from (λ (e : Entry). IsTrivia e.gap × IsStrictItem e.item) (λ (e : Entry). IsTrivia e.gap × LexedItem EndsLiteral e.item) strict_item entries printed.items)
+    (all_from (λ (e : Entry). IsTrivia e.gap × IsStrictItem e.item)
+        (λ (e : Entry). IsTrivia e.gap × LexedItem EndsLiteral e.item) strict_item entries printed.items)
     (follow_each EndsLiteral entries last
-    (all_by (λ (e : Entry). IsTrivia e.gap × IsStrictItem e.item) IsApart (Follows EndsLiteral) item_follows (drop 1 entries) (tail_first _ entries printed.items) printed.apart)
+    (all_by (λ (e : Entry). IsTrivia e.gap × IsStrictItem e.item) IsApart (Follows EndsLiteral) item_follows
+        (drop 1 entries) (tail_first _ entries printed.items) printed.apart)
     (gap_ends last (last_begins last printed.last_gap)))
     printed.last_gap
 
@@ -115,7 +133,8 @@ literal_keeps (DelimiterLexeme c) form = tt
 literal_keeps (MarkLexeme c) form = absurd (cc)
 
 cut_stays : (text : List ℕ) → IsLexedLiteral text → LexedBefore BeginsGap text
-cut_stays text (l, after, is, form, same) = record { lexeme = l; is_lexeme = λ gap begins. stays_before_gap l after gap (literal_keeps l form) is begins; form = form; text_is = same }
+cut_stays text (l, after, is, form, same) = record { lexeme = l; is_lexeme = λ gap begins. stays_before_gap l after gap
+    (literal_keeps l form) is begins; form = form; text_is = same }
 
 item_stays : (item : Item) → IsLexedItem item → LexedItem BeginsGap item
 item_stays (WordItem truth) is = λ after begins. word_ends truth after (gap_ends after begins)
@@ -126,8 +145,12 @@ item_stays (MinusItem text) is = cut_stays text is
 pub reprinted_lexes : ReprintedLexes
 reprinted_lexes t entries last file printed =
     entries_lex BeginsGap file t entries last printed.text
-    (all_from (λ (e : Entry). IsTrivia e.gap × IsLexedItem e.item) (λ (e : Entry). IsTrivia e.gap × LexedItem BeginsGap e.item) (λ e is. (is.0, item_stays e.item is.1)) entries printed.items)
+    (all_from (λ (e : Entry). IsTrivia e.gap × IsLexedItem e.item)
+        (λ (e : Entry). IsTrivia e.gap × LexedItem BeginsGap e.item) (λ e is. (is.0, item_stays e.item is.1)) entries
+        printed.items)
     (follow_each BeginsGap entries last
-    (all_by (λ (e : Entry). IsTrivia e.gap × IsLexedItem e.item) (λ (e : Entry). e.gap ≢ []) (Follows BeginsGap) (λ e is some rest. filled_gap e.gap (item_text e.item ++ rest) is.0 some) (drop 1 entries) (tail_first _ entries printed.items) printed.apart)
+    (all_by (λ (e : Entry). IsTrivia e.gap × IsLexedItem e.item) (λ (e : Entry). e.gap ≢ []) (Follows BeginsGap)
+        (λ e is some rest. filled_gap e.gap (item_text e.item ++ rest) is.0 some) (drop 1 entries)
+        (tail_first _ entries printed.items) printed.apart)
     (last_begins last printed.last_gap))
     printed.last_gap

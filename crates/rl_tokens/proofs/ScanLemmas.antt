@@ -1,5 +1,9 @@
 -- Runs of bytes that pass a test, told as runs of characters.
-use Rattle.rl_tokens.proofs.Common.{◌≡◌, ◌≢◌, ◌==◌, ℕ, suc, ◌+◌, ◌<◌, ◌≤◌, ◌⊎◌, inl, inr, ◌||◌, Bool, true, false, not, cond, List, [], ◌∷◌, ◌++◌, length, take, drop, get_or, refl, sym, ap, subst, ◌∙◌, arith, and_from, and_parts, both_ways, eq-eqb, ltb-false, ltb-true, prefix_len-le-length, take-append-drop, encodes-chars, chars-append, IsUtf8-take, IsUtf8-drop, chars_past_char, encode_ascii, list_all, prefix_len, is_ascii, chars, encode_utf8_all, IsUtf8, IsCharBoundary}
+use Rattle.rl_tokens.proofs.Common.{◌≡◌, ◌≢◌, ◌==◌, ℕ, suc, ◌+◌, ◌<◌, ◌≤◌, ◌⊎◌, inl, inr, ◌||◌, Bool, true, false, not,
+    cond, List, [], ◌∷◌, ◌++◌, length, take, drop, get_or, refl, sym, ap, subst, ◌∙◌, arith, and_from, and_parts,
+    both_ways, eq-eqb, ltb-false, ltb-true, prefix_len-le-length, take-append-drop, encodes-chars, chars-append,
+    IsUtf8-take, IsUtf8-drop, chars_past_char, encode_ascii, list_all, prefix_len, is_ascii, chars, encode_utf8_all,
+    IsUtf8, IsCharBoundary}
 use Rattle.std.proofs.lemmas.Bool.{cond-false}
 use Rattle.std.proofs.lemmas.List.Sums.{prefix_len_stops}
 use Rattle.std.proofs.lemmas.Str.{IsCharBoundary-before_ascii, IsCharBoundary-end}
@@ -16,7 +20,8 @@ PassesHigh q = (b : ℕ) → 128 ≤ b → q b ≡ true
 
 -- no mark is past ASCII
 pub other_high : (m : Marks) → AreAscii m → PassesHigh (is_other m)
-other_high m h b high = rw (not_equal b m.first h.0 high, not_equal b m.second h.1 high, not_equal b m.third h.2 high, not_equal b m.fourth h.3 high) refl
+other_high m h b high = rw (not_equal b m.first h.0 high, not_equal b m.second h.1 high, not_equal b m.third h.2 high,
+    not_equal b m.fourth h.3 high) refl
 
 -- ---- the front that passes
 
@@ -34,15 +39,18 @@ pub prefix_passes : (q : ℕ → Bool) (bs : List ℕ) → list_all q (take (pre
 prefix_passes q [] = refl
 prefix_passes q (b ∷ bs) = go (q b) refl (prefix_passes q bs)
   where
-    go : (t : Bool) → q b ≡ t → list_all q (take (prefix_len q bs) bs) ≡ true → list_all q (take (cond t (1 + prefix_len q bs) 0) (b ∷ bs)) ≡ true
-    go true e more = ap (list_all q) (take_next (prefix_len q bs) b bs) ∙ and_from (q b) (list_all q (take (prefix_len q bs) bs)) e more
+    go : (t : Bool) → q b ≡ t → list_all q (take (prefix_len q bs) bs) ≡ true
+        → list_all q (take (cond t (1 + prefix_len q bs) 0) (b ∷ bs)) ≡ true
+    go true e more = ap (list_all q) (take_next (prefix_len q bs) b bs)
+        ∙ and_from (q b) (list_all q (take (prefix_len q bs) bs)) e more
     go false e more = refl
 
 pub prefix_ends : (q : ℕ → Bool) (bs : List ℕ) → first_passes q (drop (prefix_len q bs) bs) ≡ false
 prefix_ends q [] = refl
 prefix_ends q (b ∷ bs) = go (q b) refl (prefix_ends q bs)
   where
-    go : (t : Bool) → q b ≡ t → first_passes q (drop (prefix_len q bs) bs) ≡ false → first_passes q (drop (cond t (1 + prefix_len q bs) 0) (b ∷ bs)) ≡ false
+    go : (t : Bool) → q b ≡ t → first_passes q (drop (prefix_len q bs) bs) ≡ false
+        → first_passes q (drop (cond t (1 + prefix_len q bs) 0) (b ∷ bs)) ≡ false
     go true e more = ap (first_passes q) (drop_next (prefix_len q bs) b bs) ∙ more
     go false e more = e
 
@@ -55,10 +63,12 @@ later_pass q (x ∷ xs) ys h = later_pass q xs ys (and_parts (q x) (list_all q (
 module _ (q : ℕ → Bool) (high : PassesHigh q) where
   all_encoded : (cs : List ℕ) → list_all q (encode_utf8_all cs) ≡ true → list_all q cs ≡ true
   all_encoded [] h = refl
-  all_encoded (c ∷ cs) h = and_from (q c) (list_all q cs) (first (cases128 c)) (all_encoded cs (later_pass q (encode_utf8 c) (encode_utf8_all cs) h))
+  all_encoded (c ∷ cs) h = and_from (q c) (list_all q cs) (first (cases128 c))
+      (all_encoded cs (later_pass q (encode_utf8 c) (encode_utf8_all cs) h))
     where
       first : (c < 128) ⊎ (128 ≤ c) → q c ≡ true
-      first (inl low) = (and_parts (q c) (list_all q (encode_utf8_all cs)) (ap (list_all q) (sym (low_front c cs low)) ∙ h)).0
+      first (inl low) = (and_parts (q c) (list_all q (encode_utf8_all cs))
+          (ap (list_all q) (sym (low_front c cs low)) ∙ h)).0
       first (inr past) = high c past
 
   head_encoded : (cs : List ℕ) → first_passes q (encode_utf8_all cs) ≡ false → first_passes q cs ≡ false
@@ -90,25 +100,31 @@ module _ (q : ℕ → Bool) (high : PassesHigh q) where
   pub run_plain : (bs : List ℕ) → IsUtf8 bs → list_all q (chars (take (prefix_len q bs) bs)) ≡ true
   run_plain bs u =
       let front = take (prefix_len q bs) bs in
-      all_encoded (chars front) (ap (list_all q) (encodes-chars front (IsUtf8-take bs (prefix_len q bs) u (run_boundary bs))) ∙ prefix_passes q bs)
+      all_encoded (chars front) (ap (list_all q) (encodes-chars front
+          (IsUtf8-take bs (prefix_len q bs) u (run_boundary bs))) ∙ prefix_passes q bs)
 
   -- and the one after it doesn't
   pub run_stop : (bs : List ℕ) → IsUtf8 bs → first_passes q (chars (drop (prefix_len q bs) bs)) ≡ false
   run_stop bs u =
       let rest = drop (prefix_len q bs) bs in
-      head_encoded (chars rest) (ap (first_passes q) (encodes-chars rest (IsUtf8-drop bs (prefix_len q bs) u (run_boundary bs))) ∙ prefix_ends q bs)
+      head_encoded (chars rest) (ap (first_passes q) (encodes-chars rest
+          (IsUtf8-drop bs (prefix_len q bs) u (run_boundary bs))) ∙ prefix_ends q bs)
 
-  pub run_cut : (bs : List ℕ) → IsUtf8 bs → chars bs ≡ chars (take (prefix_len q bs) bs) ++ chars (drop (prefix_len q bs) bs)
+  pub run_cut : (bs : List ℕ) → IsUtf8 bs → chars bs ≡ chars (take (prefix_len q bs) bs)
+      ++ chars (drop (prefix_len q bs) bs)
   run_cut bs u =
       let n = prefix_len q bs in
-      ap chars (sym (take-append-drop n bs)) ∙ chars-append (take n bs) (drop n bs) (IsUtf8-take bs n u (run_boundary bs))
+      ap chars (sym (take-append-drop n bs)) ∙ chars-append (take n bs) (drop n bs)
+          (IsUtf8-take bs n u (run_boundary bs))
 
   pub run_tail : (bs : List ℕ) → IsUtf8 bs → IsTail bs (drop (prefix_len q bs) bs)
-  run_tail bs u = record { front = take (prefix_len q bs) bs; text_is = sym (take-append-drop (prefix_len q bs) bs); is_text = IsUtf8-drop bs (prefix_len q bs) u (run_boundary bs) }
+  run_tail bs u = record { front = take (prefix_len q bs) bs; text_is = sym (take-append-drop (prefix_len q bs) bs);
+      is_text = IsUtf8-drop bs (prefix_len q bs) u (run_boundary bs) }
 
 -- ---- a character of ASCII at the front
 
-pub ascii_first : (t : List ℕ) → IsUtf8 t → 0 < length t → get_or t 0 0 < 128 → chars t ≡ get_or t 0 0 ∷ chars (drop 1 t)
+pub ascii_first : (t : List ℕ) → IsUtf8 t → 0 < length t → get_or t 0 0 < 128 → chars t
+    ≡ get_or t 0 0 ∷ chars (drop 1 t)
 ascii_first [] u some low = absurd (omega arith)
 ascii_first (b ∷ bs) u some low = chars_past_char (b ∷ bs) bs b u (sym (ap (λ x. x ++ bs) (encode_ascii b low)))
 
@@ -129,7 +145,8 @@ other_first t u high = go (chars t) (encodes-chars t u)
 
 -- ---- the next mark
 
-none_left : (m : Marks) (cs : List ℕ) → AreAscii m → first_passes (is_other m) cs ≡ false → first_passes is_ascii cs ≡ false → cs ≡ []
+none_left : (m : Marks) (cs : List ℕ) → AreAscii m → first_passes (is_other m) cs ≡ false → first_passes is_ascii cs
+    ≡ false → cs ≡ []
 none_left m [] a stops none = refl
 none_left m (c ∷ cs) a stops none = absurd (both_ways (is_other m c) stops (other_high m a c (ltb-false c 128 none)))
 
@@ -140,10 +157,12 @@ not_false false h = absurd (cc)
 -- ---- what is no mark
 
 pub not_first : (m : Marks) (c : ℕ) → is_other m c ≡ true → c ≢ m.first
-not_first m c h e = both_ways (is_other m c) (ap (λ b. not (b || c == m.second || c == m.third || c == m.fourth)) (eq-eqb c m.first e)) h
+not_first m c h e = both_ways (is_other m c) (ap (λ b. not (b || c == m.second || c == m.third || c == m.fourth))
+    (eq-eqb c m.first e)) h
 
 pub not_second : (m : Marks) (c : ℕ) → is_other m c ≡ true → c ≢ m.second
-not_second m c h e = both_ways (is_other m c) (ap (λ b. not (c == m.first || b || c == m.third || c == m.fourth)) (eq-eqb c m.second e) ∙ go (c == m.first)) h
+not_second m c h e = both_ways (is_other m c) (ap (λ b. not (c == m.first || b || c == m.third || c == m.fourth))
+    (eq-eqb c m.second e) ∙ go (c == m.first)) h
   where
     go : (a : Bool) → not (a || true || c == m.third || c == m.fourth) ≡ false
     go true = refl

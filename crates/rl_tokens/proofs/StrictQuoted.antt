@@ -1,5 +1,9 @@
 -- A strict quoted literal reads as the lenient reading says.
-use Rattle.rl_tokens.proofs.Common.{◌≡◌, ℕ, zero, suc, ◌+◌, ◌*◌, ◌^◌, ◌<◌, ◌≤◌, ◌||◌, ◌&&◌, Bool, true, false, not, eqb, List, [], ◌∷◌, ◌++◌, length, map, replicate, refl, sym, ap, subst, ◌∙◌, ◌⊎◌, inl, inr, arith, append_assoc, append-nil, IsFalse, ⊤, nat_lt, digit_value, is_ascii_hexdigit, all_scalars, scalar, list_all, flat_map, AllByRecursion, encode_ascii, list_all-append, eqb-true, and_parts, and_from, or_parts, or_cases, or_from, or_left, or_right, ltb-true, lt-ltb, not-true, not_from_false}
+use Rattle.rl_tokens.proofs.Common.{◌≡◌, ℕ, zero, suc, ◌+◌, ◌*◌, ◌^◌, ◌<◌, ◌≤◌, ◌||◌, ◌&&◌, Bool, true, false, not, eqb,
+    List, [], ◌∷◌, ◌++◌, length, map, replicate, refl, sym, ap, subst, ◌∙◌, ◌⊎◌, inl, inr, arith, append_assoc,
+    append-nil, IsFalse, ⊤, nat_lt, digit_value, is_ascii_hexdigit, all_scalars, scalar, list_all, flat_map,
+    AllByRecursion, encode_ascii, list_all-append, eqb-true, and_parts, and_from, or_parts, or_cases, or_from, or_left,
+    or_right, ltb-true, lt-ltb, not-true, not_from_false}
 use Rattle.std.specs.Prelude.{encode_utf8_all, nat_le}
 use Rattle.std.specs.Char.{IsScalar}
 use Rattle.std.proofs.lemmas.List.Elements.{filter-append}
@@ -7,9 +11,15 @@ use Rattle.std.proofs.lemmas.Bool.{leb-true}
 use Rattle.rl_tokens.specs.declared.kind.Kind.{Kind}
 use Rattle.rl_tokens.specs.declared.kind.Kind.TheVariants.{Str, ByteStr, CStr, Byte, Char, Int, Float, Bool as BoolKind}
 use Rattle.rl_tokens.specs.Texts.{first_passes, is_underscore}
-use Rattle.rl_tokens.specs.Quoted.{QuotedUnit, Plain, Named, Hex, Unicode, Continuation, LowerN, LowerR, LowerT, Backslash, Apostrophe, Quote, Zero, unit_text, unit_value, place_value, without_underscores, unicode_value, content_of, hex_value, is_hex_digit, is_blank, is_string, is_single, is_raw, allows_code, IsUnit, texts, values, EndsBefore, ContinuationsEnd, opener, raw_opener, Cooked, Raw, Single}
+use Rattle.rl_tokens.specs.Quoted.{QuotedUnit, Plain, Named, Hex, Unicode, Continuation, LowerN, LowerR, LowerT,
+    Backslash, Apostrophe, Quote, Zero, unit_text, unit_value, place_value, without_underscores, unicode_value,
+    content_of, hex_value, is_hex_digit, is_blank, is_string, is_single, is_raw, allows_code, IsUnit, texts, values,
+    EndsBefore, ContinuationsEnd, opener, raw_opener, Cooked, Raw, Single}
 use Rattle.rl_tokens.specs.Reading.{Contents, Reads}
-use Rattle.rl_tokens.specs.Strict.{StrictUnit, Itself, QuoteEscape, PlainEscape, AsciiEscape, ByteEscape, UnicodeEscape, LineBreak, spaced_digit, strict_text, spelled_number, strict_contents, is_plain_letter, is_octal, is_dropped_blank, is_unicode_escape, is_bare_character, is_bare_in_string, is_strict_unit, BlanksEnd, strict_opener, strict_closer, strict_content_of, strict_quoted_contents, StrictCooked, StrictRaw, strict_raw_opener, IsStrictSuffix}
+use Rattle.rl_tokens.specs.Strict.{StrictUnit, Itself, QuoteEscape, PlainEscape, AsciiEscape, ByteEscape, UnicodeEscape,
+    LineBreak, spaced_digit, strict_text, spelled_number, strict_contents, is_plain_letter, is_octal, is_dropped_blank,
+    is_unicode_escape, is_bare_character, is_bare_in_string, is_strict_unit, BlanksEnd, strict_opener, strict_closer,
+    strict_content_of, strict_quoted_contents, StrictCooked, StrictRaw, strict_raw_opener, IsStrictSuffix}
 use Rattle.rl_tokens.proofs.Basics.{apart, all_weaker, hex_is_sixteen, word_without}
 
 -- what may follow: no blank at all where a line break's blanks end
@@ -33,7 +43,8 @@ bare_not_backslash c h = not_from_false (eqb c 92) (apart is_bare_character c 92
 
 itself : (k : Kind) (c : ℕ) → is_strict_unit k (Itself c) ≡ true → Stands k (Itself c)
 itself Str c h = record { unit = Plain c; is_unit = h; text_is = refl; value_is = refl; ends_before = λ t f. tt }
-itself Char c h = record { unit = Plain c; is_unit = bare_not_backslash c h; text_is = refl; value_is = refl; ends_before = λ t f. tt }
+itself Char c h = record { unit = Plain c; is_unit = bare_not_backslash c h; text_is = refl; value_is = refl;
+    ends_before = λ t f. tt }
 itself ByteStr c h =
     let p = and_parts (nat_lt c 128) (is_bare_in_string c) h in
     record { unit = Plain c; is_unit = h; text_is = refl; value_is = ascii_alone c p.0; ends_before = λ t f. tt }
@@ -43,7 +54,8 @@ itself Byte c h =
 itself CStr c h =
     let p = and_parts (is_bare_in_string c) (not (eqb c 0)) h in
     let a = or_parts (eqb c 34 || eqb c 92) (eqb c 13) (not-true _ p.0) in
-    let none : ((eqb c 34 || eqb c 92 || eqb c 13) || eqb c 0) ≡ false = or_from _ _ (not-true _ p.0) (not-true _ p.1) in
+    let none : ((eqb c 34 || eqb c 92 || eqb c 13) || eqb c 0)
+        ≡ false = or_from _ _ (not-true _ p.0) (not-true _ p.1) in
     record { unit = Plain c; is_unit = not_from_false _ none; text_is = refl; value_is = refl; ends_before = λ t f. tt }
 itself Int c h = absurd (cc)
 itself Float c h = absurd (cc)
@@ -57,8 +69,10 @@ quote_escape : (k : Kind) (c : ℕ) → is_strict_unit k (QuoteEscape c) ≡ tru
 quote_escape k c h =
     let At : ℕ → Type 0 = λ x. Stands k (QuoteEscape x) in
     elim (or_cases (eqb c 39) (eqb c 34) h) [
-      | inl a ↦ subst At (sym (eqb-true c 39 a)) (record { unit = Named Apostrophe; is_unit = holds_other k 39 refl; text_is = refl; value_is = refl; ends_before = λ t f. tt })
-      | inr a ↦ subst At (sym (eqb-true c 34 a)) (record { unit = Named Quote; is_unit = holds_other k 34 refl; text_is = refl; value_is = refl; ends_before = λ t f. tt })
+      | inl a ↦ subst At (sym (eqb-true c 39 a)) (record { unit = Named Apostrophe; is_unit = holds_other k 39 refl;
+          text_is = refl; value_is = refl; ends_before = λ t f. tt })
+      | inr a ↦ subst At (sym (eqb-true c 34 a)) (record { unit = Named Quote; is_unit = holds_other k 34 refl; text_is
+          = refl; value_is = refl; ends_before = λ t f. tt })
     ]
 
 plain_letters : (P : ℕ → Type 0) (c : ℕ) → is_plain_letter c ≡ true → P 110 → P 114 → P 116 → P 92 → P 48 → P c
@@ -92,17 +106,23 @@ plain_escape : (k : Kind) (c : ℕ) → is_strict_unit k (PlainEscape c) ≡ tru
 plain_escape k c h =
     let At : ℕ → Type 0 = λ x. is_strict_unit k (PlainEscape x) ≡ true → Stands k (PlainEscape x) in
     plain_letters At c (is_letter k c h)
-    (λ h. record { unit = Named LowerN; is_unit = holds_other k 10 refl; text_is = refl; value_is = refl; ends_before = λ t f. tt })
-    (λ h. record { unit = Named LowerR; is_unit = holds_other k 13 refl; text_is = refl; value_is = refl; ends_before = λ t f. tt })
-    (λ h. record { unit = Named LowerT; is_unit = holds_other k 9 refl; text_is = refl; value_is = refl; ends_before = λ t f. tt })
-    (λ h. record { unit = Named Backslash; is_unit = holds_other k 92 refl; text_is = refl; value_is = refl; ends_before = λ t f. tt })
-    (λ h. record { unit = Named Zero; is_unit = zero_held k h; text_is = refl; value_is = refl; ends_before = λ t f. tt })
+    (λ h. record { unit = Named LowerN; is_unit = holds_other k 10 refl; text_is = refl; value_is = refl; ends_before =
+        λ t f. tt })
+    (λ h. record { unit = Named LowerR; is_unit = holds_other k 13 refl; text_is = refl; value_is = refl; ends_before =
+        λ t f. tt })
+    (λ h. record { unit = Named LowerT; is_unit = holds_other k 9 refl; text_is = refl; value_is = refl; ends_before = λ
+        t f. tt })
+    (λ h. record { unit = Named Backslash; is_unit = holds_other k 92 refl; text_is = refl; value_is = refl; ends_before
+        = λ t f. tt })
+    (λ h. record { unit = Named Zero; is_unit = zero_held k h; text_is = refl; value_is = refl; ends_before = λ t f. tt
+        })
     h
 
 pub hex_digit : (c : ℕ) → is_ascii_hexdigit c ≡ true → is_hex_digit c ≡ true
 hex_digit c h = sym (hex_is_sixteen c) ∙ h
 
-ascii_value : (high low : ℕ) → is_octal high ≡ true → is_ascii_hexdigit low ≡ true → nat_lt (hex_value high low) 128 ≡ true
+ascii_value : (high low : ℕ) → is_octal high ≡ true → is_ascii_hexdigit low ≡ true → nat_lt (hex_value high low) 128
+    ≡ true
 ascii_value high low h l =
     let a : digit_value high < 8 = ltb-true (digit_value high) 8 h in
     let b : digit_value low < 16 = ltb-true (digit_value low) 16 (hex_digit low l) in
@@ -111,13 +131,16 @@ ascii_value high low h l =
 pub octal_hex : (c : ℕ) → is_octal c ≡ true → is_hex_digit c ≡ true
 octal_hex c h = let a : digit_value c < 8 = ltb-true (digit_value c) 8 h in lt-ltb (digit_value c) 16 (omega arith)
 
-ascii_escape : (k : Kind) (high low : ℕ) → is_strict_unit k (AsciiEscape high low) ≡ true → Stands k (AsciiEscape high low)
+ascii_escape : (k : Kind) (high low : ℕ) → is_strict_unit k (AsciiEscape high low) ≡ true
+    → Stands k (AsciiEscape high low)
 ascii_escape Str high low h =
     let p = and_parts (is_octal high) (is_ascii_hexdigit low) h in
-    record { unit = Hex high low; is_unit = (octal_hex high p.0, hex_digit low p.1, ascii_value high low p.0 p.1); text_is = refl; value_is = refl; ends_before = λ t f. tt }
+    record { unit = Hex high low; is_unit = (octal_hex high p.0, hex_digit low p.1, ascii_value high low p.0 p.1);
+        text_is = refl; value_is = refl; ends_before = λ t f. tt }
 ascii_escape Char high low h =
     let p = and_parts (is_octal high) (is_ascii_hexdigit low) h in
-    record { unit = Hex high low; is_unit = (octal_hex high p.0, hex_digit low p.1, ascii_value high low p.0 p.1); text_is = refl; value_is = refl; ends_before = λ t f. tt }
+    record { unit = Hex high low; is_unit = (octal_hex high p.0, hex_digit low p.1, ascii_value high low p.0 p.1);
+        text_is = refl; value_is = refl; ends_before = λ t f. tt }
 ascii_escape ByteStr high low h = absurd (cc)
 ascii_escape CStr high low h = absurd (cc)
 ascii_escape Byte high low h = absurd (cc)
@@ -128,14 +151,17 @@ ascii_escape BoolKind high low h = absurd (cc)
 byte_escape : (k : Kind) (high low : ℕ) → is_strict_unit k (ByteEscape high low) ≡ true → Stands k (ByteEscape high low)
 byte_escape ByteStr high low h =
     let p = and_parts (is_ascii_hexdigit high) (is_ascii_hexdigit low) h in
-    record { unit = Hex high low; is_unit = (hex_digit high p.0, hex_digit low p.1, refl); text_is = refl; value_is = refl; ends_before = λ t f. tt }
+    record { unit = Hex high low; is_unit = (hex_digit high p.0, hex_digit low p.1, refl); text_is = refl; value_is =
+        refl; ends_before = λ t f. tt }
 byte_escape Byte high low h =
     let p = and_parts (is_ascii_hexdigit high) (is_ascii_hexdigit low) h in
-    record { unit = Hex high low; is_unit = (hex_digit high p.0, hex_digit low p.1, refl); text_is = refl; value_is = refl; ends_before = λ t f. tt }
+    record { unit = Hex high low; is_unit = (hex_digit high p.0, hex_digit low p.1, refl); text_is = refl; value_is =
+        refl; ends_before = λ t f. tt }
 byte_escape CStr high low h =
     let q = and_parts (is_ascii_hexdigit high && is_ascii_hexdigit low) (not (eqb (hex_value high low) 0)) h in
     let p = and_parts (is_ascii_hexdigit high) (is_ascii_hexdigit low) q.0 in
-    record { unit = Hex high low; is_unit = (hex_digit high p.0, hex_digit low p.1, and_from _ _ q.1 refl); text_is = refl; value_is = refl; ends_before = λ t f. tt }
+    record { unit = Hex high low; is_unit = (hex_digit high p.0, hex_digit low p.1, and_from _ _ q.1 refl); text_is =
+        refl; value_is = refl; ends_before = λ t f. tt }
 byte_escape Str high low h = absurd (cc)
 byte_escape Char high low h = absurd (cc)
 byte_escape Int high low h = absurd (cc)
@@ -149,29 +175,34 @@ underscores_between : (n : ℕ) → list_all (λ c. is_underscore c || is_hex_di
 underscores_between zero = refl
 underscores_between (suc n) = underscores_between n
 
-digits_between : (ds : List (ℕ × ℕ)) → list_all hex_first ds ≡ true → list_all (λ c. is_underscore c || is_hex_digit c) (flat_map spaced_digit ds) ≡ true
+digits_between : (ds : List (ℕ × ℕ)) → list_all hex_first ds ≡ true
+    → list_all (λ c. is_underscore c || is_hex_digit c) (flat_map spaced_digit ds) ≡ true
 digits_between [] h = refl
 digits_between (d ∷ ds) h =
     let p = and_parts (hex_first d) (list_all hex_first ds) h in
     let test : ℕ → Bool = λ c. is_underscore c || is_hex_digit c in
     and_from (test d.0) _ (or_right (is_underscore d.0) (is_hex_digit d.0) (hex_digit d.0 p.0))
-    (list_all-append test (replicate d.1 95) (flat_map spaced_digit ds) ∙ and_from _ _ (underscores_between d.1) (digits_between ds p.1))
+    (list_all-append test (replicate d.1 95) (flat_map spaced_digit ds)
+        ∙ and_from _ _ (underscores_between d.1) (digits_between ds p.1))
 
 underscores_dropped : (n : ℕ) → without_underscores (replicate n 95) ≡ []
 underscores_dropped zero = refl
 underscores_dropped (suc n) = underscores_dropped n
 
-digit_stays : (c : ℕ) (cs : List ℕ) → is_ascii_hexdigit c ≡ true → without_underscores (c ∷ cs) ≡ c ∷ without_underscores cs
+digit_stays : (c : ℕ) (cs : List ℕ) → is_ascii_hexdigit c ≡ true → without_underscores (c ∷ cs)
+    ≡ c ∷ without_underscores cs
 digit_stays c cs h = let e : eqb c 95 ≡ false = apart is_ascii_hexdigit c 95 h refl in rw e refl
 
-pub bare_digits : (ds : List (ℕ × ℕ)) → list_all hex_first ds ≡ true → without_underscores (flat_map spaced_digit ds) ≡ map (λ d. d.0) ds
+pub bare_digits : (ds : List (ℕ × ℕ)) → list_all hex_first ds ≡ true → without_underscores (flat_map spaced_digit ds)
+    ≡ map (λ d. d.0) ds
 bare_digits [] h = refl
 bare_digits (d ∷ ds) h =
     let p = and_parts (hex_first d) (list_all hex_first ds) h in
     let test : ℕ → Bool = λ c. not (is_underscore c) in
     let rest = flat_map spaced_digit ds in
     digit_stays d.0 (replicate d.1 95 ++ rest) p.0
-    ∙ ap (λ z. d.0 ∷ z) (filter-append test (replicate d.1 95) rest ∙ ap (λ z. z ++ without_underscores rest) (underscores_dropped d.1) ∙ bare_digits ds p.1)
+    ∙ ap (λ z. d.0 ∷ z) (filter-append test (replicate d.1 95) rest
+        ∙ ap (λ z. z ++ without_underscores rest) (underscores_dropped d.1) ∙ bare_digits ds p.1)
 
 pub digits_count : (ds : List (ℕ × ℕ)) → length (map (λ d. d.0) ds) ≡ length ds
 digits_count [] = refl
@@ -186,7 +217,8 @@ pub record UnicodeFacts (d : ℕ × ℕ) (ds : List (ℕ × ℕ)) : Type 0 where
   pub more : list_all (λ c. is_underscore c || is_hex_digit c) (replicate d.1 95 ++ flat_map spaced_digit ds) ≡ true
   pub few : length (without_underscores (d.0 ∷ (replicate d.1 95 ++ flat_map spaced_digit ds))) ≤ 6
   pub is_scalar : IsScalar (unicode_value d.0 (replicate d.1 95 ++ flat_map spaced_digit ds))
-  pub same : unicode_value d.0 (replicate d.1 95 ++ flat_map spaced_digit ds) ≡ spelled_number 16 (map (λ d. d.0) (d ∷ ds))
+  pub same : unicode_value d.0 (replicate d.1 95 ++ flat_map spaced_digit ds)
+      ≡ spelled_number 16 (map (λ d. d.0) (d ∷ ds))
 
 unicode_facts : (d : ℕ × ℕ) (ds : List (ℕ × ℕ)) → is_unicode_escape (d ∷ ds) ≡ true → UnicodeFacts d ds
 unicode_facts d ds h =
@@ -197,33 +229,42 @@ unicode_facts d ds h =
     let s = and_parts (hex_first d) (list_all hex_first ds) q.1 in
     let m = and_parts (scalar v) true p.1 in
     let row = bare_digits (d ∷ ds) q.1 in
-    let same : unicode_value d.0 (replicate d.1 95 ++ flat_map spaced_digit ds) ≡ v = ap (place_value 16) row ∙ sym (same_number (map (λ d. d.0) (d ∷ ds))) in
+    let same : unicode_value d.0 (replicate d.1 95 ++ flat_map spaced_digit ds) ≡ v = ap (place_value 16) row
+        ∙ sym (same_number (map (λ d. d.0) (d ∷ ds))) in
     let few : length (d ∷ ds) ≤ 6 = leb-true (length (d ∷ ds)) 6 r.1 in
     let Few : ℕ → Type 0 = λ n. n ≤ 6 in
     let test : ℕ → Bool = λ c. is_underscore c || is_hex_digit c in
     record {
       first = hex_digit d.0 s.0;
-      more = list_all-append test (replicate d.1 95) (flat_map spaced_digit ds) ∙ and_from _ _ (underscores_between d.1) (digits_between ds s.1);
+      more = list_all-append test (replicate d.1 95) (flat_map spaced_digit ds)
+          ∙ and_from _ _ (underscores_between d.1) (digits_between ds s.1);
       few = subst Few (sym (ap length row ∙ digits_count (d ∷ ds))) few;
       is_scalar = subst IsScalar (sym same) m.0;
       same = same;
     }
 
-unicode_escape : (k : Kind) (digits : List (ℕ × ℕ)) → is_strict_unit k (UnicodeEscape digits) ≡ true → Stands k (UnicodeEscape digits)
+unicode_escape : (k : Kind) (digits : List (ℕ × ℕ)) → is_strict_unit k (UnicodeEscape digits) ≡ true
+    → Stands k (UnicodeEscape digits)
 unicode_escape Str [] h = absurd (cc)
 unicode_escape Str (d ∷ ds) h =
     let f = unicode_facts d ds h in
-    record { unit = Unicode d.0 (replicate d.1 95 ++ flat_map spaced_digit ds); is_unit = (refl, f.first, f.more, f.few, f.is_scalar, refl); text_is = refl; value_is = ap (λ v. v ∷ []) f.same; ends_before = λ t f. tt }
+    record { unit = Unicode d.0 (replicate d.1 95 ++ flat_map spaced_digit ds); is_unit =
+        (refl, f.first, f.more, f.few, f.is_scalar, refl); text_is = refl; value_is = ap (λ v. v ∷ []) f.same;
+        ends_before = λ t f. tt }
 unicode_escape Char [] h = absurd (cc)
 unicode_escape Char (d ∷ ds) h =
     let f = unicode_facts d ds h in
-    record { unit = Unicode d.0 (replicate d.1 95 ++ flat_map spaced_digit ds); is_unit = (refl, f.first, f.more, f.few, f.is_scalar, refl); text_is = refl; value_is = ap (λ v. v ∷ []) f.same; ends_before = λ t f. tt }
+    record { unit = Unicode d.0 (replicate d.1 95 ++ flat_map spaced_digit ds); is_unit =
+        (refl, f.first, f.more, f.few, f.is_scalar, refl); text_is = refl; value_is = ap (λ v. v ∷ []) f.same;
+        ends_before = λ t f. tt }
 unicode_escape CStr [] h = absurd (cc)
 unicode_escape CStr (d ∷ ds) h =
     let v = spelled_number 16 (map (λ d. d.0) (d ∷ ds)) in
     let p = and_parts (is_unicode_escape (d ∷ ds)) (not (eqb v 0)) h in
     let f = unicode_facts d ds p.0 in
-    record { unit = Unicode d.0 (replicate d.1 95 ++ flat_map spaced_digit ds); is_unit = (refl, f.first, f.more, f.few, f.is_scalar, ap (λ n. not (eqb n 0)) f.same ∙ p.1); text_is = refl; value_is = ap (λ v. encode_utf8_all (v ∷ [])) f.same; ends_before = λ t f. tt }
+    record { unit = Unicode d.0 (replicate d.1 95 ++ flat_map spaced_digit ds); is_unit =
+        (refl, f.first, f.more, f.few, f.is_scalar, ap (λ n. not (eqb n 0)) f.same ∙ p.1); text_is = refl; value_is = ap
+        (λ v. encode_utf8_all (v ∷ [])) f.same; ends_before = λ t f. tt }
 unicode_escape ByteStr digits h = absurd (cc)
 unicode_escape Byte digits h = absurd (cc)
 unicode_escape Int digits h = absurd (cc)
@@ -234,9 +275,12 @@ dropped_blank : (blanks : List ℕ) → list_all is_dropped_blank blanks ≡ tru
 dropped_blank = all_weaker is_dropped_blank is_blank (λ c h. or_left (is_dropped_blank c) (eqb c 13) h)
 
 line_break : (k : Kind) (blanks : List ℕ) → is_strict_unit k (LineBreak blanks) ≡ true → Stands k (LineBreak blanks)
-line_break Str blanks h = record { unit = Continuation 10 blanks; is_unit = (refl, refl, dropped_blank blanks h); text_is = refl; value_is = refl; ends_before = λ t f. f }
-line_break ByteStr blanks h = record { unit = Continuation 10 blanks; is_unit = (refl, refl, dropped_blank blanks h); text_is = refl; value_is = refl; ends_before = λ t f. f }
-line_break CStr blanks h = record { unit = Continuation 10 blanks; is_unit = (refl, refl, dropped_blank blanks h); text_is = refl; value_is = refl; ends_before = λ t f. f }
+line_break Str blanks h = record { unit = Continuation 10 blanks; is_unit = (refl, refl, dropped_blank blanks h);
+    text_is = refl; value_is = refl; ends_before = λ t f. f }
+line_break ByteStr blanks h = record { unit = Continuation 10 blanks; is_unit = (refl, refl, dropped_blank blanks h);
+    text_is = refl; value_is = refl; ends_before = λ t f. f }
+line_break CStr blanks h = record { unit = Continuation 10 blanks; is_unit = (refl, refl, dropped_blank blanks h);
+    text_is = refl; value_is = refl; ends_before = λ t f. f }
 line_break Char blanks h = absurd (cc)
 line_break Byte blanks h = absurd (cc)
 line_break Int blanks h = absurd (cc)
@@ -275,9 +319,11 @@ not_return Int c h = absurd (cc)
 not_return Float c h = absurd (cc)
 not_return BoolKind c h = absurd (cc)
 
-pub no_return : (k : Kind) (us : List StrictUnit) → list_all (is_strict_unit k) us ≡ true → first_passes is_return (flat_map strict_text us) ≡ false
+pub no_return : (k : Kind) (us : List StrictUnit) → list_all (is_strict_unit k) us ≡ true
+    → first_passes is_return (flat_map strict_text us) ≡ false
 no_return k [] h = refl
-no_return k (Itself c ∷ us) h = not_return k c (and_parts (is_strict_unit k (Itself c)) (list_all (is_strict_unit k) us) h).0
+no_return k (Itself c ∷ us) h = not_return k c (and_parts (is_strict_unit k (Itself c)) (list_all (is_strict_unit k) us)
+    h).0
 no_return k (QuoteEscape c ∷ us) h = refl
 no_return k (PlainEscape c ∷ us) h = refl
 no_return k (AsciiEscape high low ∷ us) h = refl
@@ -285,11 +331,13 @@ no_return k (ByteEscape high low ∷ us) h = refl
 no_return k (UnicodeEscape digits ∷ us) h = refl
 no_return k (LineBreak blanks ∷ us) h = refl
 
-no_blank : (t : List ℕ) → first_passes is_dropped_blank t ≡ false → first_passes is_return t ≡ false → first_passes is_blank t ≡ false
+no_blank : (t : List ℕ) → first_passes is_dropped_blank t ≡ false → first_passes is_return t ≡ false
+    → first_passes is_blank t ≡ false
 no_blank [] a b = refl
 no_blank (c ∷ t) a b = or_from (is_dropped_blank c) (eqb c 13) a b
 
-may_follow : (k : Kind) (s : StrictUnit) (us : List StrictUnit) → list_all (is_strict_unit k) us ≡ true → BlanksEnd (s ∷ us) → MayFollow s (flat_map strict_text us)
+may_follow : (k : Kind) (s : StrictUnit) (us : List StrictUnit) → list_all (is_strict_unit k) us ≡ true
+    → BlanksEnd (s ∷ us) → MayFollow s (flat_map strict_text us)
 may_follow k (LineBreak blanks) us h b = no_blank (flat_map strict_text us) b.0 (no_return k us h)
 may_follow k (Itself c) us h b = tt
 may_follow k (QuoteEscape c) us h b = tt
@@ -319,7 +367,8 @@ stand_row k (s ∷ us) h b =
       each = (u.is_unit, r.each);
       ends = (u.ends_before (texts r.units) follows, r.ends);
       text_is = ap (λ z. z ++ texts r.units) u.text_is ∙ ap (λ z. strict_text s ++ z) r.text_is;
-      value_is = ap (λ z. z ++ values k r.units) u.value_is ∙ ap (λ z. strict_contents (strict_content_of k) s ++ z) r.value_is;
+      value_is = ap (λ z. z ++ values k r.units) u.value_is ∙ ap (λ z. strict_contents (strict_content_of k) s ++ z)
+          r.value_is;
     }
 
 -- ---- the forms
@@ -327,18 +376,23 @@ stand_row k (s ∷ us) h b =
 pub between : (o b e x : List ℕ) → ((o ++ b) ++ e) ++ x ≡ o ++ (b ++ (e ++ x))
 between o b e x = append_assoc (o ++ b) e x ∙ append_assoc o b (e ++ x)
 
-cooked_text : (k : Kind) (us : List StrictUnit) (t x : List ℕ) → (r : StandRow k us) → strict_opener k ≡ opener k → strict_closer k ≡ 34 ∷ [] → t ≡ ((strict_opener k ++ flat_map strict_text us) ++ strict_closer k) ++ x → t ≡ opener k ++ (texts r.units ++ (34 ∷ x))
+cooked_text : (k : Kind) (us : List StrictUnit) (t x : List ℕ) → (r : StandRow k us) → strict_opener k ≡ opener k
+    → strict_closer k ≡ 34 ∷ [] → t ≡ ((strict_opener k ++ flat_map strict_text us) ++ strict_closer k) ++ x → t
+    ≡ opener k ++ (texts r.units ++ (34 ∷ x))
 cooked_text k us t x r o e h =
     h ∙ between (strict_opener k) (flat_map strict_text us) (strict_closer k) x
     ∙ ap (λ z. z ++ (flat_map strict_text us ++ (strict_closer k ++ x))) o
     ∙ ap (λ z. opener k ++ (flat_map strict_text us ++ (z ++ x))) e
     ∙ ap (λ z. opener k ++ (z ++ (34 ∷ x))) (sym r.text_is)
 
-pub cooked_reads : (k : Kind) (t x : List ℕ) (v : Contents) (s : StrictCooked t k v x) → is_string k ≡ true → strict_opener k ≡ opener k → strict_closer k ≡ 34 ∷ [] → (w : List ℕ) × Cooked k t w x × (v ≡ strict_quoted_contents k w)
+pub cooked_reads : (k : Kind) (t x : List ℕ) (v : Contents) (s : StrictCooked t k v x) → is_string k ≡ true
+    → strict_opener k ≡ opener k → strict_closer k ≡ 34 ∷ [] → (w : List ℕ) × Cooked k t w x
+    × (v ≡ strict_quoted_contents k w)
 cooked_reads k t x v s string o e =
     let r = stand_row k s.units s.each s.blanks_end in (
       values k r.units,
-      record { units = r.units; string = string; each = r.each; ends = r.ends; text_is = cooked_text k s.units t x r o e s.text; value_is = refl },
+      record { units = r.units; string = string; each = r.each; ends = r.ends; text_is = cooked_text k s.units t x r o e
+          s.text; value_is = refl },
       s.contents ∙ ap (strict_quoted_contents k) (sym r.value_is),
     )
 
@@ -347,14 +401,19 @@ one_unit [] h = absurd (omega arith)
 one_unit (u ∷ []) h = (u, refl)
 one_unit (u ∷ w ∷ us) h = absurd (omega arith)
 
-single_reads : (k : Kind) (t x : List ℕ) (v : Contents) (s : StrictCooked t k v x) → is_single k ≡ true → length s.units ≡ 1 → strict_opener k ≡ opener k → strict_closer k ≡ 39 ∷ [] → (w : List ℕ) × Single k t w x × (v ≡ strict_quoted_contents k w)
+single_reads : (k : Kind) (t x : List ℕ) (v : Contents) (s : StrictCooked t k v x) → is_single k ≡ true → length s.units
+    ≡ 1 → strict_opener k ≡ opener k → strict_closer k ≡ 39 ∷ [] → (w : List ℕ) × Single k t w x
+    × (v ≡ strict_quoted_contents k w)
 single_reads k t x v s single one o e =
     let p = one_unit s.units one in
     let At : List StrictUnit → Type 0 = λ us. list_all (is_strict_unit k) us ≡ true in
     let q = subst At p.1 s.each in
     let u = stands k p.0 (and_parts (is_strict_unit k p.0) true q).0 in
-    let text : flat_map strict_text s.units ≡ unit_text u.unit = ap (flat_map strict_text) p.1 ∙ append-nil (strict_text p.0) ∙ sym u.text_is in
-    let value : flat_map (strict_contents (strict_content_of k)) s.units ≡ unit_value k u.unit = ap (flat_map (strict_contents (strict_content_of k))) p.1 ∙ append-nil (strict_contents (strict_content_of k) p.0) ∙ sym u.value_is in (
+    let text : flat_map strict_text s.units ≡ unit_text u.unit = ap (flat_map strict_text) p.1
+        ∙ append-nil (strict_text p.0) ∙ sym u.text_is in
+    let value : flat_map (strict_contents (strict_content_of k)) s.units
+        ≡ unit_value k u.unit = ap (flat_map (strict_contents (strict_content_of k))) p.1
+        ∙ append-nil (strict_contents (strict_content_of k) p.0) ∙ sym u.value_is in (
       unit_value k u.unit,
       record {
         unit = u.unit;
@@ -379,14 +438,17 @@ suffix_without_quote : (x : List ℕ) → IsStrictSuffix x → list_all (λ c. n
 suffix_without_quote x (inl e) = subst (λ z. list_all (λ c. not (eqb c 34)) z ≡ true) (sym e) refl
 suffix_without_quote x (inr w) = word_without 34 x (omega arith) refl w.identifier
 
-raw_text : (o i x : List ℕ) (n : ℕ) → ((((o ++ replicate n 35) ++ (34 ∷ i)) ++ (34 ∷ replicate n 35)) ++ x) ≡ o ++ (replicate n 35 ++ (34 ∷ (i ++ (34 ∷ (replicate n 35 ++ x)))))
+raw_text : (o i x : List ℕ) (n : ℕ) → ((((o ++ replicate n 35) ++ (34 ∷ i)) ++ (34 ∷ replicate n 35)) ++ x) ≡ o
+    ++ (replicate n 35 ++ (34 ∷ (i ++ (34 ∷ (replicate n 35 ++ x)))))
 raw_text o i x n = simp append_assoc
 
 holds_all : (k : Kind) (cs : List ℕ) → ((n : ℕ) → is_raw k n ≡ true) → list_all (is_raw k) cs ≡ true
 holds_all k [] h = refl
 holds_all k (c ∷ cs) h = and_from (is_raw k c) (list_all (is_raw k) cs) (h c) (holds_all k cs h)
 
-raw_reads : (k : Kind) (t x : List ℕ) (v : Contents) (s : StrictRaw t k v x) → is_string k ≡ true → strict_raw_opener k ≡ raw_opener k → list_all (is_raw k) s.inside ≡ true → content_of k s.inside ≡ strict_content_of k s.inside → (w : List ℕ) × Raw k t w x × (v ≡ strict_quoted_contents k w)
+raw_reads : (k : Kind) (t x : List ℕ) (v : Contents) (s : StrictRaw t k v x) → is_string k ≡ true → strict_raw_opener k
+    ≡ raw_opener k → list_all (is_raw k) s.inside ≡ true → content_of k s.inside ≡ strict_content_of k s.inside
+    → (w : List ℕ) × Raw k t w x × (v ≡ strict_quoted_contents k w)
 raw_reads k t x v s string o each taken = (
   content_of k s.inside,
   record {
@@ -395,32 +457,42 @@ raw_reads k t x v s string o each taken = (
     string = string;
     each = each;
     no_quote = suffix_without_quote x s.suffix;
-    text_is = s.text ∙ raw_text (strict_raw_opener k) s.inside x s.hashes ∙ ap (λ z. z ++ (replicate s.hashes 35 ++ (34 ∷ (s.inside ++ (34 ∷ (replicate s.hashes 35 ++ x)))))) o;
+    text_is = s.text ∙ raw_text (strict_raw_opener k) s.inside x s.hashes
+        ∙ ap (λ z. z ++ (replicate s.hashes 35 ++ (34 ∷ (s.inside ++ (34 ∷ (replicate s.hashes 35 ++ x)))))) o;
     value_is = refl;
   },
   s.contents ∙ ap (strict_quoted_contents k) (sym taken),
 )
 
 from_cooked : (k : Kind) (t x : List ℕ) (v : Contents) → StrictCooked t k v x → Reads t k v x
-from_cooked Str t x v s = let r = cooked_reads Str t x v s refl refl refl in record { value = r.0; form = inl r.1; contents_is = r.2 }
-from_cooked ByteStr t x v s = let r = cooked_reads ByteStr t x v s refl refl refl in record { value = r.0; form = inl r.1; contents_is = r.2 }
-from_cooked CStr t x v s = let r = cooked_reads CStr t x v s refl refl refl in record { value = r.0; form = inl r.1; contents_is = r.2 }
-from_cooked Byte t x v s = let r = single_reads Byte t x v s refl s.count refl refl in record { value = r.0; form = inr (inr r.1); contents_is = r.2 }
-from_cooked Char t x v s = let r = single_reads Char t x v s refl s.count refl refl in record { value = r.0; form = inr (inr r.1); contents_is = r.2 }
+from_cooked Str t x v s = let r = cooked_reads Str t x v s refl refl refl in record
+    { value = r.0; form = inl r.1; contents_is = r.2 }
+from_cooked ByteStr t x v s = let r = cooked_reads ByteStr t x v s refl refl refl in record
+    { value = r.0; form = inl r.1; contents_is = r.2 }
+from_cooked CStr t x v s = let r = cooked_reads CStr t x v s refl refl refl in record
+    { value = r.0; form = inl r.1; contents_is = r.2 }
+from_cooked Byte t x v s = let r = single_reads Byte t x v s refl s.count refl refl in record
+    { value = r.0; form = inr (inr r.1); contents_is = r.2 }
+from_cooked Char t x v s = let r = single_reads Char t x v s refl s.count refl refl in record
+    { value = r.0; form = inr (inr r.1); contents_is = r.2 }
 from_cooked Int t x v s = absurd s.count
 from_cooked Float t x v s = absurd s.count
 from_cooked BoolKind t x v s = absurd s.count
 
 from_raw : (k : Kind) (t x : List ℕ) (v : Contents) → StrictRaw t k v x → Reads t k v x
-from_raw Str t x v s = let r = raw_reads Str t x v s refl refl (holds_all Str s.inside (λ n. refl)) refl in record { value = r.0; form = inr (inl r.1); contents_is = r.2 }
-from_raw ByteStr t x v s = let r = raw_reads ByteStr t x v s refl refl s.allowed (ascii_row s.inside s.allowed) in record { value = r.0; form = inr (inl r.1); contents_is = r.2 }
-from_raw CStr t x v s = let r = raw_reads CStr t x v s refl refl s.allowed refl in record { value = r.0; form = inr (inl r.1); contents_is = r.2 }
+from_raw Str t x v s = let r = raw_reads Str t x v s refl refl (holds_all Str s.inside (λ n. refl)) refl in record
+    { value = r.0; form = inr (inl r.1); contents_is = r.2 }
+from_raw ByteStr t x v s = let r = raw_reads ByteStr t x v s refl refl s.allowed (ascii_row s.inside s.allowed) in
+    record { value = r.0; form = inr (inl r.1); contents_is = r.2 }
+from_raw CStr t x v s = let r = raw_reads CStr t x v s refl refl s.allowed refl in record
+    { value = r.0; form = inr (inl r.1); contents_is = r.2 }
 from_raw Byte t x v s = absurd s.allowed
 from_raw Char t x v s = absurd s.allowed
 from_raw Int t x v s = absurd s.allowed
 from_raw Float t x v s = absurd s.allowed
 from_raw BoolKind t x v s = absurd s.allowed
 
-pub quoted_strict_reads : (k : Kind) (t x : List ℕ) (v : Contents) → (StrictCooked t k v x ⊎ StrictRaw t k v x) → Reads t k v x
+pub quoted_strict_reads : (k : Kind) (t x : List ℕ) (v : Contents) → (StrictCooked t k v x ⊎ StrictRaw t k v x)
+    → Reads t k v x
 quoted_strict_reads k t x v (inl s) = from_cooked k t x v s
 quoted_strict_reads k t x v (inr s) = from_raw k t x v s

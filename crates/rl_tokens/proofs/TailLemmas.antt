@@ -1,5 +1,7 @@
 -- What is after the rest of a text is after the text.
-use Rattle.rl_tokens.proofs.Common.{◌≡◌, ℕ, ◌-◌, ◌<◌, List, [], ◌++◌, length, take, drop, refl, sym, ap, subst, ◌∙◌, arith, append_assoc, length-append, Option, Some, None, take-append_seam, IsCharBoundary, chars, IsUtf8, chars-append, IfSome, IfNone, option_map}
+use Rattle.rl_tokens.proofs.Common.{◌≡◌, ℕ, ◌-◌, ◌<◌, List, [], ◌++◌, length, take, drop, refl, sym, ap, subst, ◌∙◌,
+    arith, append_assoc, length-append, Option, Some, None, take-append_seam, IsCharBoundary, chars, IsUtf8,
+    chars-append, IfSome, IfNone, option_map}
 use Rattle.std.proofs.Math.Seq.{drop-append_seam}
 use Rattle.std.proofs.lemmas.Str.{IsCharBoundary-at_seam}
 use Rattle.rl_tokens.specs.Texts.{IsTail}
@@ -14,16 +16,20 @@ tail_step a b d p q = record {
   is_text = q.is_text;
 }
 
-pub some_tail : {I : Type 0} (rest : I → List ℕ) (a b : List ℕ) (r : Option I) → IsTail a b → IfSome r (λ i. IsTail b (rest i)) → IfSome r (λ i. IsTail a (rest i))
+pub some_tail : {I : Type 0} (rest : I → List ℕ) (a b : List ℕ) (r : Option I) → IsTail a b
+    → IfSome r (λ i. IsTail b (rest i)) → IfSome r (λ i. IsTail a (rest i))
 some_tail rest a b None p q = tt
 some_tail rest a b (Some i) p q = tail_step a b (rest i) p q
 
 -- what a form is put to stays behind
-pub mapped : {I J : Type 0} (P : J → Type 0) (f : I → J) (r : Option I) (result : Option J) → result ≡ option_map f r → IfSome r (λ i. P (f i)) → IfSome result P
+pub mapped : {I J : Type 0} (P : J → Type 0) (f : I → J) (r : Option I) (result : Option J) → result ≡ option_map f r
+    → IfSome r (λ i. P (f i)) → IfSome result P
 mapped P f None result e q = subst (λ z. IfSome z P) (sym e) tt
 mapped P f (Some i) result e q = subst (λ z. IfSome z P) (sym e) q
 
-pub mapped_tail : {I J : Type 0} (rest : J → List ℕ) (f : I → J) (a b : List ℕ) (r : Option I) (result : Option J) → result ≡ option_map f r → IsTail a b → IfSome r (λ i. IsTail b (rest (f i))) → IfSome result (λ p. IsTail a (rest p))
+pub mapped_tail : {I J : Type 0} (rest : J → List ℕ) (f : I → J) (a b : List ℕ) (r : Option I) (result : Option J)
+    → result ≡ option_map f r → IsTail a b → IfSome r (λ i. IsTail b (rest (f i)))
+    → IfSome result (λ p. IsTail a (rest p))
 mapped_tail rest f a b r result e p q = some_tail rest a b result p (mapped (λ j. IsTail b (rest j)) f r result e q)
 
 -- where the text is cut
@@ -40,7 +46,8 @@ cut_join bs ys b =
     let xs = b.front in
     let f : List ℕ → List ℕ = λ z. take (length bs - length ys) z in
     let g : ℕ → List ℕ = λ n. take n (xs ++ ys) in
-    let taken : take (length bs - length ys) bs ≡ xs = ap f b.text_is ∙ ap g (sym (front_len bs xs ys b.text_is)) ∙ take-append_seam xs ys in
+    let taken : take (length bs - length ys) bs ≡ xs = ap f b.text_is ∙ ap g (sym (front_len bs xs ys b.text_is))
+        ∙ take-append_seam xs ys in
     b.text_is ∙ ap (λ z. z ++ ys) (sym taken)
 
 -- what stands from there on
@@ -54,13 +61,15 @@ pub if_none : {A : Type 0} (r : Option A) {P : Type 0} → P → IfNone r P
 if_none None p = p
 if_none (Some x) p = tt
 
-pub cut_chars : (bs xs ys : List ℕ) → IsUtf8 xs → IsTail bs ys → xs ≡ take (length bs - length ys) bs → chars bs ≡ chars xs ++ chars ys
+pub cut_chars : (bs xs ys : List ℕ) → IsUtf8 xs → IsTail bs ys → xs ≡ take (length bs - length ys) bs → chars bs
+    ≡ chars xs ++ chars ys
 cut_chars bs xs ys u b e = ap chars (cut_join bs ys b ∙ ap (λ z. z ++ ys) (sym e)) ∙ chars-append xs ys u
 
 -- A rest is no longer than the text, so what is after something shorter is shorter.
 pub nearer : (a b d : List ℕ) → length b < length a → IsTail b d → length d < length a
 nearer a b d s p = omega (arith, s, length-append p.front d, ap length p.text_is)
 
-pub some_nearer : {I : Type 0} (rest : I → List ℕ) (a b : List ℕ) (r : Option I) → length b < length a → IfSome r (λ i. IsTail b (rest i)) → IfSome r (λ i. length (rest i) < length a)
+pub some_nearer : {I : Type 0} (rest : I → List ℕ) (a b : List ℕ) (r : Option I) → length b < length a
+    → IfSome r (λ i. IsTail b (rest i)) → IfSome r (λ i. length (rest i) < length a)
 some_nearer rest a b None s p = tt
 some_nearer rest a b (Some i) s p = nearer a b (rest i) s p

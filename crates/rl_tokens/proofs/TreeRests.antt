@@ -39,10 +39,15 @@ pub stays_tail : (between left : List Tree) (t : Tree) → between ≡ t ∷ lef
 stays_tail between left t e = stays_rest between left (rest_one between left t e)
 
 -- what a parser did, of trees and scopes that are the same
-pub run_moved : {T E : Type 0} (runs : List Tree → Span → Result T E → List Tree → Type 0) (a b : List Tree) (s t : Span) (r : Result T E) (x y : List Tree) → a ≡ b → s ≡ t → x ≡ y → runs a s r x → runs b t r y
-run_moved runs a b s t r x y p q e ran = subst (λ z. runs z t r y) p (subst (λ z. runs a z r y) q (subst (λ z. runs a s r z) e ran))
+pub run_moved : {T E : Type 0} (runs : List Tree → Span → Result T E → List Tree → Type 0) (a b : List Tree)
+    (s t : Span) (r : Result T E) (x y : List Tree) → a ≡ b → s ≡ t → x ≡ y → runs a s r x → runs b t r y
+run_moved runs a b s t r x y p q e ran = subst (λ z. runs z t r y) p
+    (subst (λ z. runs a z r y) q (subst (λ z. runs a s r z) e ran))
 
-pub rejects_left : {T A : Type 0} (runs : List Tree → Span → Result T (Error A) → List Tree → Type 0) (a b left : List Tree) (s t u at : Span) (x : T) (e : Error A) → a ≡ b → s ≡ t → u ≡ s → runs a s (Ok x) left → left ≢ [] → at ≡ first_span left u → e ≡ record { span = at; kind = Unexpected } → RejectsParse runs b t e
+pub rejects_left : {T A : Type 0} (runs : List Tree → Span → Result T (Error A) → List Tree → Type 0)
+    (a b left : List Tree) (s t u at : Span) (x : T) (e : Error A) → a ≡ b → s ≡ t → u ≡ s → runs a s (Ok x) left
+    → left ≢ [] → at ≡ first_span left u → e ≡ record { span = at; kind = Unexpected } → RejectsParse runs b t e
 rejects_left runs a b left s t u at x e p q r ran some place is = record {
-  why = inr (record { value = x; rest = left; ran = run_moved runs a b s t (Ok x) left left p q refl ran; some = some; error = cc });
+  why = inr (record { value = x; rest = left; ran = run_moved runs a b s t (Ok x) left left p q refl ran; some = some;
+      error = cc });
 }

@@ -1,5 +1,6 @@
 -- What is written is the written form of the value.
-use Rattle.rl_tokens.proofs.Common.{◌≡◌, ℕ, suc, ◌<◌, ◌&&◌, true, not, eqb, List, [], ◌∷◌, length, refl, sym, subst, get_or, arith, nat_lt, list_all, and_from, and_parts, lt-ltb}
+use Rattle.rl_tokens.proofs.Common.{◌≡◌, ℕ, suc, ◌<◌, ◌&&◌, true, not, eqb, List, [], ◌∷◌, length, refl, sym, subst,
+    get_or, arith, nat_lt, list_all, and_from, and_parts, lt-ltb}
 use Rattle.rl_tokens.specs.declared.kind.Kind.{Kind}
 use Rattle.rl_tokens.specs.declared.kind.Kind.TheVariants.{Str, ByteStr, CStr, Byte, Char, Int, Float, Bool as BoolKind}
 use Rattle.rl_tokens.specs.Reading.{Reads, quoted_contents}
@@ -22,7 +23,8 @@ pub all_bytes : (v : List ℕ) → ((i : ℕ) → i < length v → get_or v i 0 
 all_bytes [] h = refl
 all_bytes (c ∷ v) h = and_from _ _ (lt-ltb c 256 (h 0 (omega arith))) (all_bytes v (λ i l. h (suc i) (omega arith)))
 
-both_tests : (v : List ℕ) → list_all (λ c. nat_lt c 256) v ≡ true → has_no_zero v ≡ true → list_all (λ c. nat_lt c 256 && not (eqb c 0)) v ≡ true
+both_tests : (v : List ℕ) → list_all (λ c. nat_lt c 256) v ≡ true → has_no_zero v ≡ true
+    → list_all (λ c. nat_lt c 256 && not (eqb c 0)) v ≡ true
 both_tests [] h n = refl
 both_tests (c ∷ v) h n =
     let p = and_parts _ _ h in

@@ -1,5 +1,6 @@
 -- How often elements stand in a list, one element after another.
-use Rattle.std.proofs.Common.{◌≡◌, ℕ, zero, suc, ◌+◌, Bool, true, false, cond, List, [], ◌∷◌, ◌++◌, Option, None, Some, All, count_by, find, unwrap_or, refl, sym, ap, ◌∙◌, arith}
+use Rattle.std.proofs.Common.{◌≡◌, ℕ, zero, suc, ◌+◌, Bool, true, false, cond, List, [], ◌∷◌, ◌++◌, Option, None, Some,
+    All, count_by, find, unwrap_or, refl, sym, ap, ◌∙◌, arith}
 use Rattle.std.proofs.lemmas.List.Elements.{All-nil, All-cons, All-weaker}
 use Rattle.std.proofs.lemmas.List.Folds.{find-append}
 use Rattle.std.proofs.lemmas.List.Sums.{sum_by_push, sum_by-cons}
@@ -19,16 +20,20 @@ some_times_more : (n : ℕ) → some_times (n + 1) ≡ Some (n + 1)
 some_times_more n = let e : n + 1 ≡ suc n = omega arith in rw e refl
 
 -- what one more element makes of the numbers
-pub times_more : {K : Type 0} (eq : K → K → Bool) → IsEquivalence eq → (xs : List K) (y q : K) → some_times (count_by (eq q) (xs ++ (y ∷ []))) ≡ cond (eq y q) (Some (count_by (eq y) xs + 1)) (some_times (count_by (eq q) xs))
+pub times_more : {K : Type 0} (eq : K → K → Bool) → IsEquivalence eq → (xs : List K) (y q : K)
+    → some_times (count_by (eq q) (xs ++ (y ∷ []))) ≡ cond (eq y q) (Some (count_by (eq y) xs + 1))
+    (some_times (count_by (eq q) xs))
 times_more {K} eq laws xs y q = go (eq y q) refl
   where
     grown : count_by (eq q) (xs ++ (y ∷ [])) ≡ count_by (eq q) xs + cond (eq q y) 1 0
     grown = sum_by_push _ xs y
 
-    go : (b : Bool) → eq y q ≡ b → some_times (count_by (eq q) (xs ++ (y ∷ []))) ≡ cond b (Some (count_by (eq y) xs + 1)) (some_times (count_by (eq q) xs))
+    go : (b : Bool) → eq y q ≡ b → some_times (count_by (eq q) (xs ++ (y ∷ [])))
+        ≡ cond b (Some (count_by (eq y) xs + 1)) (some_times (count_by (eq q) xs))
     go true e =
         let same : eq q ≡ eq y = λ i z. sym (laws.congr y q z e) i in
-        let one : count_by (eq q) (xs ++ (y ∷ [])) ≡ count_by (eq y) xs + 1 = rw (laws.symm q y ∙ e) at grown ∙ ap (λ (p : K → Bool). count_by p xs + 1) same in
+        let one : count_by (eq q) (xs ++ (y ∷ [])) ≡ count_by (eq y) xs + 1 = rw (laws.symm q y ∙ e) at grown
+            ∙ ap (λ (p : K → Bool). count_by p xs + 1) same in
         ap some_times one ∙ some_times_more (count_by (eq y) xs)
     go false e = ap some_times (rw (laws.symm q y ∙ e) at grown ∙ omega arith)
 
@@ -49,19 +54,27 @@ none_counted zero e = refl
 none_counted (suc n) e = absurd (cc)
 
 -- no keys yet
-pub firsts_none : {K S : Type 0} (eq : K → K → Bool) (m : HashMap K ℕ S) → IsEmpty m → All (λ k. find (eq k) [] ≡ Some k) (keys m)
+pub firsts_none : {K S : Type 0} (eq : K → K → Bool) (m : HashMap K ℕ S) → IsEmpty m
+    → All (λ k. find (eq k) [] ≡ Some k) (keys m)
 firsts_none eq m e = rw e (All-nil (λ k. find (eq k) [] ≡ Some k))
 
 -- each key stays the first of its equals when one element is counted
-pub firsts_more : {K S : Type 0} (eq : K → K → Bool) → IsEquivalence eq → (xs : List K) (y : K) (m n : HashMap K ℕ S) (v : ℕ) (old : Option ℕ) → old ≡ some_times (count_by (eq y) xs) → PutsEntry eq m n y v old → All (λ k. find (eq k) xs ≡ Some k) (keys m) → All (λ k. find (eq k) (xs ++ (y ∷ [])) ≡ Some k) (keys n)
+pub firsts_more : {K S : Type 0} (eq : K → K → Bool) → IsEquivalence eq
+    → (xs : List K) (y : K) (m n : HashMap K ℕ S) (v : ℕ) (old : Option ℕ) → old ≡ some_times (count_by (eq y) xs)
+    → PutsEntry eq m n y v old → All (λ k. find (eq k) xs ≡ Some k) (keys m)
+    → All (λ k. find (eq k) (xs ++ (y ∷ [])) ≡ Some k) (keys n)
 firsts_more {K} eq laws xs y m n v old absent put h = go old absent put
   where
     stay : All (λ k. find (eq k) (xs ++ (y ∷ [])) ≡ Some k) (keys m)
-    stay = All-weaker (λ k. find (eq k) xs ≡ Some k) (λ k. find (eq k) (xs ++ (y ∷ [])) ≡ Some k) (λ k e. find-append (eq k) xs (y ∷ []) ∙ ap (λ o. option_or o (find (eq k) (y ∷ []))) e) (keys m) h
+    stay = All-weaker (λ k. find (eq k) xs ≡ Some k) (λ k. find (eq k) (xs ++ (y ∷ [])) ≡ Some k)
+        (λ k e. find-append (eq k) xs (y ∷ []) ∙ ap (λ o. option_or o (find (eq k) (y ∷ []))) e) (keys m) h
 
-    go : (o : Option ℕ) → o ≡ some_times (count_by (eq y) xs) → PutsEntry eq m n y v o → All (λ k. find (eq k) (xs ++ (y ∷ [])) ≡ Some k) (keys n)
+    go : (o : Option ℕ) → o ≡ some_times (count_by (eq y) xs) → PutsEntry eq m n y v o
+        → All (λ k. find (eq k) (xs ++ (y ∷ [])) ≡ Some k) (keys n)
     go None e p =
         let none : find (eq y) xs ≡ None = none_found (eq y) xs (none_counted (count_by (eq y) xs) e) in
-        let here : find (eq y) (xs ++ (y ∷ [])) ≡ Some y = find-append (eq y) xs (y ∷ []) ∙ rw (none, laws.refl y) refl in
-        All-map-IsPermutation (λ e. e.0) (λ k. find (eq k) (xs ++ (y ∷ [])) ≡ Some k) ((y, v) ∷ m.entries) n.entries p (All-cons (λ k. find (eq k) (xs ++ (y ∷ [])) ≡ Some k) y (keys m) here stay)
+        let here : find (eq y) (xs ++ (y ∷ [])) ≡ Some y = find-append (eq y) xs (y ∷ [])
+            ∙ rw (none, laws.refl y) refl in
+        All-map-IsPermutation (λ e. e.0) (λ k. find (eq k) (xs ++ (y ∷ [])) ≡ Some k) ((y, v) ∷ m.entries) n.entries p
+            (All-cons (λ k. find (eq k) (xs ++ (y ∷ [])) ≡ Some k) y (keys m) here stay)
     go (Some w) e p = rw (p, keys-set_value (eq y) m.entries v) stay

@@ -5,6 +5,7 @@ use Rattle.rl_uses.specs.declared.list.Item.{Item}
 use Rattle.rl_uses.specs.Lists.{IsListed, Lists}
 
 -- one item more
-pub lists_step : {A : Type 0} (a : List Tree) (xs : List (Item A)) (b : List Tree) (x : Item A) (c : List Tree) → Lists a xs b → IsListed b x c → Lists a (xs ++ (x ∷ [])) c
+pub lists_step : {A : Type 0} (a : List Tree) (xs : List (Item A)) (b : List Tree) (x : Item A) (c : List Tree)
+    → Lists a xs b → IsListed b x c → Lists a (xs ++ (x ∷ [])) c
 lists_step a [] b x c h k = (c, subst (λ (t : List Tree). IsListed t x c) (sym h) k, refl)
 lists_step a (y ∷ ys) b x c (m, f, h) k = (m, f, lists_step m ys b x c h k)

@@ -8,13 +8,16 @@ use Rattle.rl_uses.specs.declared.reasons.Reason.{Reason}
 use Rattle.rl_uses.specs.Reasons.{IsReasonOf, AreReasons}
 
 -- one literal more that has a reading
-pub reasons_same : {A : Type 0} (ls : List (Lit A)) (l : Lit A) (reasons : List Reason) → AreReasons ls reasons → HasReading (chars (token_of l).text) → AreReasons (ls ++ (l ∷ [])) reasons
+pub reasons_same : {A : Type 0} (ls : List (Lit A)) (l : Lit A) (reasons : List Reason) → AreReasons ls reasons
+    → HasReading (chars (token_of l).text) → AreReasons (ls ++ (l ∷ [])) reasons
 reasons_same [] l reasons e t = inl (t, e)
 reasons_same (x ∷ xs) l reasons (inl (u, h)) t = inl (u, reasons_same xs l reasons h t)
 reasons_same (x ∷ xs) l reasons (inr (first, rest, u, e, h)) t = inr (first, rest, u, e, reasons_same xs l rest h t)
 
 -- one reason more
-pub reasons_more : {A : Type 0} (ls : List (Lit A)) (l : Lit A) (reasons : List Reason) (reason : Reason) → AreReasons ls reasons → IsReasonOf l reason → AreReasons (ls ++ (l ∷ [])) (reasons ++ (reason ∷ []))
+pub reasons_more : {A : Type 0} (ls : List (Lit A)) (l : Lit A) (reasons : List Reason) (reason : Reason)
+    → AreReasons ls reasons → IsReasonOf l reason → AreReasons (ls ++ (l ∷ [])) (reasons ++ (reason ∷ []))
 reasons_more [] l reasons reason e t = inr (reason, [], t, ap (λ z. z ++ (reason ∷ [])) e, refl)
 reasons_more (x ∷ xs) l reasons reason (inl (u, h)) t = inl (u, reasons_more xs l reasons reason h t)
-reasons_more (x ∷ xs) l reasons reason (inr (first, rest, u, e, h)) t = inr (first, rest ++ (reason ∷ []), u, ap (λ z. z ++ (reason ∷ [])) e, reasons_more xs l rest reason h t)
+reasons_more (x ∷ xs) l reasons reason (inr (first, rest, u, e, h)) t = inr
+    (first, rest ++ (reason ∷ []), u, ap (λ z. z ++ (reason ∷ [])) e, reasons_more xs l rest reason h t)

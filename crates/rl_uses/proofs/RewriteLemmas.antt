@@ -5,8 +5,10 @@ use Rattle.rust_literals.specs.Copies.{text_of}
 use Rattle.rl_uses.specs.Rewrites.{PrintsLine, AreLines}
 
 -- one line more
-pub lines_more : {A : Type 0} (ls : List (Lit A)) (l : Lit A) (old new : List ℕ) → AreLines ls old → PrintsLine l old new → AreLines (ls ++ (l ∷ [])) new
+pub lines_more : {A : Type 0} (ls : List (Lit A)) (l : Lit A) (old new : List ℕ) → AreLines ls old
+    → PrintsLine l old new → AreLines (ls ++ (l ∷ [])) new
 lines_more [] l old new e (anew, is, p) = (anew, [], is, p ∙ ap (λ z. z ++ (text_of anew ++ (10 ∷ []))) e, refl)
 lines_more (x ∷ xs) l old new (first, rest, is, e, h) (anew, as_well, p) =
     let line = text_of anew ++ (10 ∷ []) in
-    (first, rest ++ line, is, p ∙ (ap (λ z. z ++ line) e ∙ append_assoc (text_of first) (10 ∷ rest) line), lines_more xs l rest (rest ++ line) h (anew, as_well, refl))
+    (first, rest ++ line, is, p ∙ (ap (λ z. z ++ line) e ∙ append_assoc (text_of first) (10 ∷ rest) line), lines_more xs
+        l rest (rest ++ line) h (anew, as_well, refl))

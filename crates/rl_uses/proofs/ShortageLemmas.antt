@@ -10,7 +10,9 @@ use Rattle.rust_literals.specs.LitParts.{lit_span}
 use Rattle.rl_uses.specs.Shortage.{IsShortOf}
 
 -- what a call for the literal at a place rejects, and is passed on
-pub short_at : {A B T : Type 0} (list : List (Lit A)) (i : ℕ) (literal : Lit A) (r : Result T (Error B)) (e : Error B) → i < length list → literal ≡ get_or list i literal → e ≡ memory_at (lit_span literal) → IsErrAnd r (λ y. y ≡ e) → IfErr r (IsShortOf list)
+pub short_at : {A B T : Type 0} (list : List (Lit A)) (i : ℕ) (literal : Lit A) (r : Result T (Error B)) (e : Error B)
+    → i < length list → literal ≡ get_or list i literal → e ≡ memory_at (lit_span literal) → IsErrAnd r (λ y. y ≡ e)
+    → IfErr r (IsShortOf list)
 short_at list i literal r e below is m passed =
     let p = err_from_is_err_and r passed in
     rw p.1 (i, literal, below, sym is, p.2 ∙ m)

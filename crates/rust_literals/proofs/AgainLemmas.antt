@@ -33,11 +33,14 @@ lit_text_is token lit (is, r) = ap (λ (t : SpannedText). chars t.text) is
 abbrev MovedLit : {A : Type 0} → SpannedText → Lit A → Type 0
 MovedLit {A} other lit = (moved : Lit A) × IsReadFrom other moved × IsSameAt lit other.span moved
 
-moved_lit : {A : Type 0} (token other : SpannedText) (lit : Lit A) → SpellsWords other.text → other.text ≡ token.text → IsReadFrom token lit → MovedLit other lit
+moved_lit : {A : Type 0} (token other : SpannedText) (lit : Lit A) → SpellsWords other.text → other.text ≡ token.text
+    → IsReadFrom token lit → MovedLit other lit
 moved_lit {A} token other lit words same (is, r) =
-    let (moved, read, kind_is) = read_lit A other (kind_of lit) words (subst (λ (x : List ℕ). IsReadAs (kind_of lit) (chars x)) (sym same) r) in
+    let (moved, read, kind_is) = read_lit A other (kind_of lit) words
+        (subst (λ (x : List ℕ). IsReadAs (kind_of lit) (chars x)) (sym same) r) in
     let text_is : other.text ≡ (token_of lit).text = same ∙ ap (λ (t : SpannedText). t.text) (sym is) in
-    let there : other ≡ record (token_of lit) { span = other.span } = ap (λ (x : List ℕ). let t : SpannedText = record { text = x; span = other.span } in t) text_is in
+    let there : other ≡ record (token_of lit) { span = other.span } = ap
+        (λ (x : List ℕ). let t : SpannedText = record { text = x; span = other.span } in t) text_is in
     (moved, read, record { kind = kind_is; token = read.0 ∙ there })
 
 -- The literal is that of an item, as it was cut.
@@ -53,7 +56,8 @@ record IsCutLit {A : Type 0} (lit : Lit A) : Type 0 where
 abbrev FrontCut : {A : Type 0} → Lit A → List Tree → Type 0
 FrontCut lit rest = IsCutLit lit × AllByRecursion IsCutTree rest
 
-front_cut : {A : Type 0} (trees : List Tree) (lit : Lit A) (rest : List Tree) → AllByRecursion IsCutTree trees → IsLitFront trees lit rest → FrontCut lit rest
+front_cut : {A : Type 0} (trees : List Tree) (lit : Lit A) (rest : List Tree) → AllByRecursion IsCutTree trees
+    → IsLitFront trees lit rest → FrontCut lit rest
 front_cut trees lit rest cut h = go trees cut h.front
   where
     go : (trees : List Tree) → AllByRecursion IsCutTree trees → IsFront trees h.token rest → FrontCut lit rest
@@ -87,7 +91,8 @@ front_cut trees lit rest cut h = go trees cut h.front
       record {
         item = MinusItem text;
         is_cut = is;
-        front = (subst (λ (t : List ℕ). HasReading (45 ∷ t)) of.characters reads, ap chars (sym of.bytes) ∙ of.characters);
+        front = (subst (λ (t : List ℕ). HasReading (45 ∷ t)) of.characters reads, ap chars (sym of.bytes)
+            ∙ of.characters);
         token = h.token;
         read = h.read;
         bytes = ap (λ (t : SpannedText). t.text) e ∙ ap (λ b. 45 ∷ b) of.bytes ∙ sym (minus_bytes text);
@@ -100,7 +105,8 @@ front_cut trees lit rest cut h = go trees cut h.front
     go (PunctTree m ∷ GroupTree d inside at ∷ trees) cut f = absurd f
     go (GroupTree d inside at ∷ trees) cut f = absurd f
 
-leads_cut : {A : Type 0} (trees : List Tree) (lits : List (Lit A)) → AllByRecursion IsCutTree trees → ReadsLiterals trees lits [] → AllByRecursion IsCutLit lits
+leads_cut : {A : Type 0} (trees : List Tree) (lits : List (Lit A)) → AllByRecursion IsCutTree trees
+    → ReadsLiterals trees lits [] → AllByRecursion IsCutLit lits
 leads_cut trees [] cut leads = tt
 leads_cut trees (l ∷ ls) cut (after, front, leads) =
     let (first, following) = front_cut trees l after cut front in
@@ -111,49 +117,65 @@ entries_of : {A : Type 0} (spaced : List (Spaced A)) → AllByRecursion IsCutLit
 entries_of [] cuts = []
 entries_of (s ∷ ss) (c, cuts) = record { gap = s.gap; item = c.item } ∷ entries_of ss cuts
 
-items_cut : {A : Type 0} (spaced : List (Spaced A)) (cuts : AllByRecursion IsCutLit (lits_of spaced)) → AllByRecursion (λ (s : Spaced A). IsTrivia s.gap) spaced → AllByRecursion (λ (e : Entry). IsTrivia e.gap × IsLexedItem e.item) (entries_of spaced cuts)
+items_cut : {A : Type 0} (spaced : List (Spaced A)) (cuts : AllByRecursion IsCutLit (lits_of spaced))
+    → AllByRecursion (λ (s : Spaced A). IsTrivia s.gap) spaced
+    → AllByRecursion (λ (e : Entry). IsTrivia e.gap × IsLexedItem e.item) (entries_of spaced cuts)
 unfolding entries_of
 items_cut [] cuts gaps = tt
 items_cut (s ∷ ss) (c, cuts) (gap, gaps) = ((gap, c.is_cut), items_cut ss cuts gaps)
 
-items_front : {A : Type 0} (spaced : List (Spaced A)) (cuts : AllByRecursion IsCutLit (lits_of spaced)) → AllByRecursion (λ (e : Entry). IsFrontItem e.item) (entries_of spaced cuts)
+items_front : {A : Type 0} (spaced : List (Spaced A)) (cuts : AllByRecursion IsCutLit (lits_of spaced))
+    → AllByRecursion (λ (e : Entry). IsFrontItem e.item) (entries_of spaced cuts)
 unfolding entries_of
 items_front [] cuts = tt
 items_front (s ∷ ss) (c, cuts) = (c.front, items_front ss cuts)
 
-all_apart : {A : Type 0} (spaced : List (Spaced A)) (cuts : AllByRecursion IsCutLit (lits_of spaced)) → AllByRecursion (λ (s : Spaced A). s.gap ≢ []) spaced → AllByRecursion (λ (e : Entry). e.gap ≢ []) (entries_of spaced cuts)
+all_apart : {A : Type 0} (spaced : List (Spaced A)) (cuts : AllByRecursion IsCutLit (lits_of spaced))
+    → AllByRecursion (λ (s : Spaced A). s.gap ≢ []) spaced → AllByRecursion (λ (e : Entry). e.gap ≢ [])
+    (entries_of spaced cuts)
 unfolding entries_of
 all_apart [] cuts apart = tt
 all_apart (s ∷ ss) (c, cuts) (some, apart) = (some, all_apart ss cuts apart)
 
-items_apart : {A : Type 0} (spaced : List (Spaced A)) (cuts : AllByRecursion IsCutLit (lits_of spaced)) → AllByRecursion (λ (s : Spaced A). s.gap ≢ []) (drop 1 spaced) → AllByRecursion (λ (e : Entry). e.gap ≢ []) (drop 1 (entries_of spaced cuts))
+items_apart : {A : Type 0} (spaced : List (Spaced A)) (cuts : AllByRecursion IsCutLit (lits_of spaced))
+    → AllByRecursion (λ (s : Spaced A). s.gap ≢ []) (drop 1 spaced)
+    → AllByRecursion (λ (e : Entry). e.gap ≢ []) (drop 1 (entries_of spaced cuts))
 unfolding entries_of
 items_apart [] cuts apart = tt
 items_apart (s ∷ ss) (c, cuts) apart = all_apart ss cuts apart
 
-items_text : {A : Type 0} (spaced : List (Spaced A)) (cuts : AllByRecursion IsCutLit (lits_of spaced)) (last : List ℕ) → spaced_text spaced last ≡ printed_text (entries_of spaced cuts) last
+items_text : {A : Type 0} (spaced : List (Spaced A)) (cuts : AllByRecursion IsCutLit (lits_of spaced)) (last : List ℕ)
+    → spaced_text spaced last ≡ printed_text (entries_of spaced cuts) last
 unfolding entries_of
 items_text [] cuts last = refl
 items_text (s ∷ ss) (c, cuts) last =
-    ap (λ t. s.gap ++ (lit_text s.lit ++ t)) (items_text ss cuts last) ∙ ap (λ t. s.gap ++ (t ++ printed_text (entries_of ss cuts) last)) (lit_text_is c.token s.lit c.read ∙ c.characters)
+    ap (λ t. s.gap ++ (lit_text s.lit ++ t)) (items_text ss cuts last)
+        ∙ ap (λ t. s.gap ++ (t ++ printed_text (entries_of ss cuts) last))
+        (lit_text_is c.token s.lit c.read ∙ c.characters)
 
 abbrev MovedLits : {A : Type 0} → (file at : ℕ) → List Entry → List (Lit A) → Type 0
 MovedLits {A} file at entries list = (lits : List (Lit A)) × AreReadAt file at entries lits × SameButSpans list lits
 
-items_moved : {A : Type 0} (file at : ℕ) (spaced : List (Spaced A)) (cuts : AllByRecursion IsCutLit (lits_of spaced)) → MovedLits file at (entries_of spaced cuts) (lits_of spaced)
+items_moved : {A : Type 0} (file at : ℕ) (spaced : List (Spaced A)) (cuts : AllByRecursion IsCutLit (lits_of spaced))
+    → MovedLits file at (entries_of spaced cuts) (lits_of spaced)
 unfolding entries_of
 items_moved file at [] cuts = ([], refl, refl)
 items_moved file at (s ∷ ss) (c, cuts) =
     let token = token_at file (at + byte_len s.gap) (item_text c.item) in
-    let (lit, read, there) = moved_lit c.token token s.lit (spells_words (item_text c.item) (sym (ap chars c.bytes) ∙ c.characters)) (sym c.bytes) c.read in
+    let (lit, read, there) = moved_lit c.token token s.lit (spells_words (item_text c.item)
+        (sym (ap chars c.bytes) ∙ c.characters)) (sym c.bytes) c.read in
     let (lits, are, moved) = items_moved file (at + byte_len s.gap + byte_len (item_text c.item)) ss cuts in
     (lit ∷ lits, (read, are), ((token.span, there), moved))
 
 -- The answer to the texts of literals that were read once.
-pub again_read : {A B : Type 0} (text : List ℕ) (file : ℕ) (r : Result (Vec (Lit A) B) (Error A)) → ((list : List (Lit A)) → AreRead (chars text) file list → HoldsOrMemory (λ found. found ≡ list) r) → (spaced : List (Spaced A)) (last : List ℕ) → IsReprint (chars text) spaced last → HoldsOrMemory (SameButSpans (lits_of spaced)) r
+pub again_read : {A B : Type 0} (text : List ℕ) (file : ℕ) (r : Result (Vec (Lit A) B) (Error A))
+    → ((list : List (Lit A)) → AreRead (chars text) file list → HoldsOrMemory (λ found. found ≡ list) r)
+    → (spaced : List (Spaced A)) (last : List ℕ) → IsReprint (chars text) spaced last
+    → HoldsOrMemory (SameButSpans (lits_of spaced)) r
 again_read text file r exactly spaced last again =
     let read = again.are_read in
-    let cuts = leads_cut read.trees (lits_of spaced) (lexed_trees (chars again.source) again.file read.trees (scalars-chars again.source again.is_text) read.lexes) read.leads in
+    let cuts = leads_cut read.trees (lits_of spaced) (lexed_trees (chars again.source) again.file read.trees
+        (scalars-chars again.source again.is_text) read.lexes) read.leads in
     let entries = entries_of spaced cuts in
     let reprinted : Reprinted (chars text) entries last = record {
       items = items_cut spaced cuts again.gaps;

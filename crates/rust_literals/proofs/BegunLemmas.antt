@@ -1,5 +1,6 @@
 -- Where the trees of a text go on after the literals at its front.
-use Rattle.std.proofs.Common.{arith, ◌≡◌, ◌<◌, ℕ, ◌+◌, suc, List, [], ◌∷◌, ◌++◌, length, get_or, drop, drop-cons, add-one, map, Option, Some, None, refl, sym, ◌∙◌, ap, subst}
+use Rattle.std.proofs.Common.{arith, ◌≡◌, ◌<◌, ℕ, ◌+◌, suc, List, [], ◌∷◌, ◌++◌, length, get_or, drop, drop-cons,
+    add-one, map, Option, Some, None, refl, sym, ◌∙◌, ap, subst}
 use Rattle.std.specs.Prelude.{IfSome, IfNone}
 use Rattle.std.specs.List.{AllByRecursion}
 use Rattle.rl_tokens.specs.Texts.{SpannedText}
@@ -13,7 +14,8 @@ use Rattle.rust_literals.specs.Parsing.{ReadsLiterals}
 use Rattle.rust_literals.specs.Flat.{IsNoGroup, AreBegun}
 
 -- trees that begin with tokens, seen flat, begin with their trees
-front_trees : (front trees : List Tree) (more : List FlatToken) → AllByRecursion IsNoGroup front → flat_trees trees ≡ flat_trees front ++ more → (following : List Tree) × (trees ≡ front ++ following)
+front_trees : (front trees : List Tree) (more : List FlatToken) → AllByRecursion IsNoGroup front → flat_trees trees
+    ≡ flat_trees front ++ more → (following : List Tree) × (trees ≡ front ++ following)
 front_trees [] trees more h e = (trees, refl)
 front_trees (GroupTree d inside span ∷ front) trees more (none, h) e = absurd none
 front_trees (IdentTree i ∷ front) (IdentTree j ∷ trees) more (_, h) e =
@@ -34,7 +36,8 @@ front_trees (LiteralTree i ∷ front) (LiteralTree j ∷ trees) more (_, h) e =
 front_trees (tree ∷ front) trees more h e = absurd (cc)
 
 -- The trees of a text that begins with these literals go on after theirs.
-pub goes_on : {A : Type 0} (text : List ℕ) (file : ℕ) (list : List (Lit A)) (trees : List Tree) → AreBegun text file list → Lexes text file trees → (following : List Tree) × ReadsLiterals trees list following
+pub goes_on : {A : Type 0} (text : List ℕ) (file : ℕ) (list : List (Lit A)) (trees : List Tree)
+    → AreBegun text file list → Lexes text file trees → (following : List Tree) × ReadsLiterals trees list following
 goes_on text file list trees begun lexes =
     let read = begun.read in
     let (more, same) = begins_cut 0 text read.cuts.cuts lexes.cuts begun.rest read.cuts.are_cuts lexes.are_cuts in
@@ -44,13 +47,19 @@ goes_on text file list trees begun lexes =
     (following, subst (λ (ts : List Tree). ReadsLiterals ts list following) (sym is) (read.leads following))
 
 -- One of the literals that lead on is passed.
-pub pass_one : {A : Type 0} {F : Type 0} (token_in : F → SpannedText) (old new : List Tree) (literals : List (Lit A)) (i : ℕ) (rest : List Tree) (front : Option F) → i < length literals → IfSome front (λ f. IsFront old (token_in f) new) → IfNone front (HasNoFront old) → ReadsLiterals old (drop i literals) rest → ReadsLiterals new (drop (i + 1) literals) rest
+pub pass_one : {A : Type 0} {F : Type 0} (token_in : F → SpannedText) (old new : List Tree) (literals : List (Lit A))
+    (i : ℕ) (rest : List Tree) (front : Option F) → i < length literals
+    → IfSome front (λ f. IsFront old (token_in f) new) → IfNone front (HasNoFront old)
+    → ReadsLiterals old (drop i literals) rest → ReadsLiterals new (drop (i + 1) literals) rest
 pass_one token_in old new [] i rest front i_in some none leads = absurd (omega arith)
 pass_one {F = F} token_in old new (l ∷ ls) i rest front i_in some none leads =
     let next : drop i (l ∷ ls) ≡ get_or (l ∷ ls) i l ∷ drop (suc i) (l ∷ ls) = drop-cons (l ∷ ls) i l i_in in
     rw add-one (go front some none (subst (λ xs. ReadsLiterals old xs rest) next leads))
   where
-    go : (front : Option F) → IfSome front (λ f. IsFront old (token_in f) new) → IfNone front (HasNoFront old) → ReadsLiterals old (get_or (l ∷ ls) i l ∷ drop (suc i) (l ∷ ls)) rest → ReadsLiterals new (drop (suc i) (l ∷ ls)) rest
+    go : (front : Option F) → IfSome front (λ f. IsFront old (token_in f) new) → IfNone front (HasNoFront old)
+        → ReadsLiterals old (get_or (l ∷ ls) i l ∷ drop (suc i) (l ∷ ls)) rest
+        → ReadsLiterals new (drop (suc i) (l ∷ ls)) rest
     go None some none (after, is, more) = absurd (none is.token after is.front)
     go (Some f) some none (after, is, more) =
-        subst (λ (ts : List Tree). ReadsLiterals ts (drop (suc i) (l ∷ ls)) rest) (one_front old is.token (token_in f) after new is.front some).1 more
+        subst (λ (ts : List Tree). ReadsLiterals ts (drop (suc i) (l ∷ ls)) rest)
+            (one_front old is.token (token_in f) after new is.front some).1 more

@@ -18,7 +18,8 @@ use Rattle.rust_literals.specs.declared.lit_bool.LitBool.{LitBool}
 use Rattle.rust_literals.specs.Literals.{IsReadFrom}
 use Rattle.rust_literals.specs.Parsing.{IsLitFront, IsTruthFront, RunsLit}
 
-front_here : (trees copy rest : List Tree) (token : SpannedText) → copy ≡ trees → IsFront copy token rest → IsFront trees token rest
+front_here : (trees copy rest : List Tree) (token : SpannedText) → copy ≡ trees → IsFront copy token rest
+    → IsFront trees token rest
 front_here trees copy rest token same front = subst (λ ts. IsFront ts token rest) same front
 
 none_here : (trees copy : List Tree) → copy ≡ trees → HasNoFront copy → HasNoFront trees
@@ -26,20 +27,26 @@ none_here trees copy same none = subst HasNoFront same none
 
 -- ---- a literal of any kind
 
-pub lit_front : {A : Type 0} (trees copy rest : List Tree) (token held : SpannedText) (lit : Lit A) → copy ≡ trees → IsFront copy token rest → held ≡ token → IsReadFrom held lit → IsLitFront trees lit rest
+pub lit_front : {A : Type 0} (trees copy rest : List Tree) (token held : SpannedText) (lit : Lit A) → copy ≡ trees
+    → IsFront copy token rest → held ≡ token → IsReadFrom held lit → IsLitFront trees lit rest
 lit_front trees copy rest token held lit same front is read = record {
   token = token;
   front = front_here trees copy rest token same front;
   read = subst (λ (t : SpannedText). IsReadFrom t lit) is read;
 }
 
-pub lit_memory : {A : Type 0} (trees copy rest : List Tree) (token : SpannedText) (scope at : Span) (e : Error A) → copy ≡ trees → IsFront copy token rest → e ≡ memory_at at → at ≡ first_span trees scope → RunsLit trees scope (Err e) trees
+pub lit_memory : {A : Type 0} (trees copy rest : List Tree) (token : SpannedText) (scope at : Span) (e : Error A) → copy
+    ≡ trees → IsFront copy token rest → e ≡ memory_at at → at ≡ first_span trees scope
+    → RunsLit trees scope (Err e) trees
 lit_memory trees copy rest token scope at e same front is place =
-    inl ((token, rest, front_here trees copy rest token same front), record { error = is ∙ ap memory_at place; stays = refl })
+    inl ((token, rest, front_here trees copy rest token same front), record
+        { error = is ∙ ap memory_at place; stays = refl })
 
 -- ---- a truth value
 
-pub truth_front : (trees copy rest : List Tree) (token : SpannedText) (literal : LitBool) (value : Bool) (at : Span) → copy ≡ trees → IsFront copy token rest → Reads (chars token.text) BoolKind (Truth value) [] → literal ≡ record { value = value; span = at } → at ≡ token.span → IsTruthFront trees literal rest
+pub truth_front : (trees copy rest : List Tree) (token : SpannedText) (literal : LitBool) (value : Bool) (at : Span)
+    → copy ≡ trees → IsFront copy token rest → Reads (chars token.text) BoolKind (Truth value) [] → literal
+    ≡ record { value = value; span = at } → at ≡ token.span → IsTruthFront trees literal rest
 truth_front trees copy rest token literal value at same front reads is place = record {
   token = token;
   front = front_here trees copy rest token same front;
@@ -47,7 +54,8 @@ truth_front trees copy rest token literal value at same front reads is place = r
   span = ap (λ (l : LitBool). l.span) is ∙ place;
 }
 
-pub none_passed : {A : Type 0} (kind : Kind) (word : List ℕ) (trees copy : List Tree) (scope : Span) (e : Error A) → copy ≡ trees → HasNoFront copy → IsRejection trees scope word e → PassesOther kind word trees scope e trees
+pub none_passed : {A : Type 0} (kind : Kind) (word : List ℕ) (trees copy : List Tree) (scope : Span) (e : Error A)
+    → copy ≡ trees → HasNoFront copy → IsRejection trees scope word e → PassesOther kind word trees scope e trees
 none_passed kind word trees copy scope e same none rejection =
     let here = none_here trees copy same none in record {
       rejection = rejection;
@@ -55,7 +63,9 @@ none_passed kind word trees copy scope e same none rejection =
       passed = inr (here, refl);
     }
 
-pub other_passed : {A : Type 0} (kind : Kind) (word : List ℕ) (trees copy rest : List Tree) (token : SpannedText) (scope : Span) (e : Error A) → copy ≡ trees → IsFront copy token rest → (ReadsAs kind (chars token.text) → ⊥) → IsRejection trees scope word e → PassesOther kind word trees scope e rest
+pub other_passed : {A : Type 0} (kind : Kind) (word : List ℕ) (trees copy rest : List Tree) (token : SpannedText)
+    (scope : Span) (e : Error A) → copy ≡ trees → IsFront copy token rest → (ReadsAs kind (chars token.text) → ⊥)
+    → IsRejection trees scope word e → PassesOther kind word trees scope e rest
 other_passed kind word trees copy rest token scope e same front other rejection =
     let here = front_here trees copy rest token same front in record {
       rejection = rejection;

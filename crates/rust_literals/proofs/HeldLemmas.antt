@@ -6,7 +6,8 @@ use Rattle.std.proofs.lemmas.List.{take-append-drop, append_cancel_right}
 use Rattle.rl_tokens.specs.declared.kind.Kind.{Kind}
 use Rattle.rl_tokens.specs.declared.kind.Kind.TheVariants.{Str, ByteStr, CStr, Byte, Char, Int, Float, Bool}
 use Rattle.rl_tokens.specs.declared.error.ErrorKind.{ErrorKind}
-use Rattle.rl_tokens.specs.declared.error.ErrorKind.TheVariants.{Expected, EndOfInput, Unexpected, Lex, Suffix, NotInteger, TooLarge, NotFloat, Repeated, Number, Memory}
+use Rattle.rl_tokens.specs.declared.error.ErrorKind.TheVariants.{Expected, EndOfInput, Unexpected, Lex, Suffix,
+    NotInteger, TooLarge, NotFloat, Repeated, Number, Memory}
 use Rattle.rl_tokens.specs.declared.error.Error.{Error}
 use Rattle.rl_tokens.specs.declared.kept.Kept.{Kept}
 use Rattle.rl_tokens.specs.declared.span.Span.{Span}
@@ -29,19 +30,22 @@ IsOfKind Float text found = IsFoundFloat text found
 IsOfKind _ text found = ⊥
 
 -- what was found of a number kind is a number
-pub is_found_number : (kind : Kind) (text : List ℕ) (found : Found) → (kind ≡ Int) ⊎ (kind ≡ Float) → found.kind ≡ kind → IsFound text found → IsFoundNumber text found
+pub is_found_number : (kind : Kind) (text : List ℕ) (found : Found) → (kind ≡ Int) ⊎ (kind ≡ Float) → found.kind ≡ kind
+    → IsFound text found → IsFoundNumber text found
 is_found_number kind text found (inl i) e h = inl (h, inl (e ∙ i))
 is_found_number kind text found (inr f) e h = inl (h, inr (e ∙ f))
 
 no_integer : (k : Kind) → k ≡ Float → k ≢ Int
 no_integer k e i = absurd (cc)
 
-not_both : (k : Kind) → k ≢ Int → k ≢ Float → (text : List ℕ) (found : Found) → found.kind ≡ k → IsFoundNumber text found → ⊥
+not_both : (k : Kind) → k ≢ Int → k ≢ Float → (text : List ℕ) (found : Found) → found.kind ≡ k
+    → IsFoundNumber text found → ⊥
 not_both k i f text found e (inl (h, inl g)) = i (sym e ∙ g)
 not_both k i f text found e (inl (h, inr g)) = f (sym e ∙ g)
 not_both k i f text found e (inr h) = f (sym e ∙ h.kind)
 
-of_kind : (kind : Kind) (text : List ℕ) (found : Found) → IsUtf8 text → found.kind ≡ kind → IsFoundNumber text found → IsOfKind kind text found
+of_kind : (kind : Kind) (text : List ℕ) (found : Found) → IsUtf8 text → found.kind ≡ kind → IsFoundNumber text found
+    → IsOfKind kind text found
 of_kind Int text found utf8 e h = number_integer text found e h
 of_kind Float text found utf8 e h = number_float text found utf8 (no_integer found.kind e) h
 of_kind Str text found utf8 e h = not_both Str (λ x. cc) (λ x. cc) text found e h
@@ -52,7 +56,8 @@ of_kind Char text found utf8 e h = not_both Char (λ x. cc) (λ x. cc) text foun
 of_kind Bool text found utf8 e h = not_both Bool (λ x. cc) (λ x. cc) text found e h
 
 -- its suffix, and the digits that are printed of it
-found_suffix : (kind : Kind) (text : List ℕ) (found : Found) → found.kind ≡ kind → IsOfKind kind text found → HasOwnSuffix kind (chars text) (chars (suffix_in text found.body))
+found_suffix : (kind : Kind) (text : List ℕ) (found : Found) → found.kind ≡ kind → IsOfKind kind text found
+    → HasOwnSuffix kind (chars text) (chars (suffix_in text found.body))
 found_suffix Int text found e h = subst (λ k. HasSuffix k (chars text) (chars (suffix_in text found.body))) e h.reads
 found_suffix Float text found e h = (chars (body_in text found.body), h.reads)
 found_suffix Str text found e h = absurd h
@@ -62,7 +67,8 @@ found_suffix Byte text found e h = absurd h
 found_suffix Char text found e h = absurd h
 found_suffix Bool text found e h = absurd h
 
-found_digits : (kind : Kind) (text digits : List ℕ) (found : Found) → found.kind ≡ kind → IsOfKind kind text found → AreDigits kind (chars text) digits → HasDigits kind (chars text) digits
+found_digits : (kind : Kind) (text digits : List ℕ) (found : Found) → found.kind ≡ kind → IsOfKind kind text found
+    → AreDigits kind (chars text) digits → HasDigits kind (chars text) digits
 found_digits Int text digits found e h d =
     let x = chars (suffix_in text found.body) in
     let (v, r) : HasSuffix Int (chars text) x = subst (λ k. HasSuffix k (chars text) x) e h.reads in
@@ -79,16 +85,20 @@ found_digits Char text digits found e h d = absurd h
 found_digits Bool text digits found e h d = absurd h
 
 -- what is held of a number that was found
-pub holds_number : (kind : Kind) (text digits : List ℕ) (found : Found) → IsUtf8 text → IsFoundNumber text found → found.kind ≡ kind → AreDigits found.kind (chars text) (chars digits) → HoldsNumber kind text digits found.body.suffix_at
+pub holds_number : (kind : Kind) (text digits : List ℕ) (found : Found) → IsUtf8 text → IsFoundNumber text found
+    → found.kind ≡ kind → AreDigits found.kind (chars text) (chars digits)
+    → HoldsNumber kind text digits found.body.suffix_at
 holds_number kind text digits found utf8 h e d =
     let of = of_kind kind text found utf8 e h in record {
-      digits_are = found_digits kind text (chars digits) found e of (subst (λ k. AreDigits k (chars text) (chars digits)) e d);
+      digits_are = found_digits kind text (chars digits) found e of
+          (subst (λ k. AreDigits k (chars text) (chars digits)) e d);
       suffix = found_suffix kind text found e of;
       boundary = (number_stands text found h).following;
     }
 
 -- a body is all that stands before the suffix
-body_cut : (kind : Kind) (text : List ℕ) (found : Found) → found.kind ≡ kind → IsOfKind kind text found → text ≡ body_in text found.body ++ suffix_in text found.body
+body_cut : (kind : Kind) (text : List ℕ) (found : Found) → found.kind ≡ kind → IsOfKind kind text found → text
+    ≡ body_in text found.body ++ suffix_in text found.body
 body_cut Int text found e h = subst (λ k. IsSplit k text (body_in text found.body) (suffix_in text found.body)) e h.cut
 body_cut Float text found e h = h.cut
 body_cut Str text found e h = absurd h
@@ -98,18 +108,22 @@ body_cut Byte text found e h = absurd h
 body_cut Char text found e h = absurd h
 body_cut Bool text found e h = absurd h
 
-body_is : (text : List ℕ) (found : Found) → text ≡ body_in text found.body ++ suffix_in text found.body → body_in text found.body ≡ take found.body.suffix_at text
-body_is text found cut = append_cancel_right (body_in text found.body) (take found.body.suffix_at text) (suffix_in text found.body) (sym cut ∙ sym (take-append-drop found.body.suffix_at text))
+body_is : (text : List ℕ) (found : Found) → text ≡ body_in text found.body ++ suffix_in text found.body
+    → body_in text found.body ≡ take found.body.suffix_at text
+body_is text found cut = append_cancel_right (body_in text found.body) (take found.body.suffix_at text)
+    (suffix_in text found.body) (sym cut ∙ sym (take-append-drop found.body.suffix_at text))
 
 -- it is the digits where the number is plain
-pub holds_lent : (kind : Kind) (text : List ℕ) (found : Found) → IsUtf8 text → IsFoundNumber text found → found.kind ≡ kind → found.body.plain ≡ true → HoldsNumber kind text (take found.body.suffix_at text) found.body.suffix_at
+pub holds_lent : (kind : Kind) (text : List ℕ) (found : Found) → IsUtf8 text → IsFoundNumber text found → found.kind
+    ≡ kind → found.body.plain ≡ true → HoldsNumber kind text (take found.body.suffix_at text) found.body.suffix_at
 holds_lent kind text found utf8 h e plain =
     let body = body_is text found (body_cut kind text found e (of_kind kind text found utf8 e h)) in
     subst (λ z. HoldsNumber kind text z found.body.suffix_at) body
     (holds_number kind text (body_in text found.body) found utf8 h e (plain_digits text found utf8 plain h))
 
 -- what was found is a number of the kind
-pub found_number : (kind : Kind) (text : List ℕ) (found : Found) → IsUtf8 text → IsFoundNumber text found → found.kind ≡ kind → IsNumber kind (chars text)
+pub found_number : (kind : Kind) (text : List ℕ) (found : Found) → IsUtf8 text → IsFoundNumber text found → found.kind
+    ≡ kind → IsNumber kind (chars text)
 found_number kind text found utf8 h e = go kind e (of_kind kind text found utf8 e h)
   where
     go : (kind : Kind) → found.kind ≡ kind → IsOfKind kind text found → IsNumber kind (chars text)
@@ -123,16 +137,19 @@ found_number kind text found utf8 h e = go kind e (of_kind kind text found utf8 
     go Bool e h = absurd h
 
 -- an allocation failure, as an error
-pub wants_memory : {A : Type 0} (kind : Kind) (text : List ℕ) (e : Error A) (span : Span) → e ≡ memory_at span → IsNumber kind text → (e.span ≡ span) × IsRejectedAs kind text e.kind
+pub wants_memory : {A : Type 0} (kind : Kind) (text : List ℕ) (e : Error A) (span : Span) → e ≡ memory_at span
+    → IsNumber kind text → (e.span ≡ span) × IsRejectedAs kind text e.kind
 wants_memory {A} kind text e span is number =
     let P : Error A → Type 0 = λ x. (x.span ≡ span) × IsRejectedAs kind text x.kind in subst P (sym is) (refl, number)
 
 -- what is plain is no text that is rejected
-pub no_number_plain : {A : Type 0} (kind : Kind) (text : List ℕ) (reason : ErrorKind A) → IsNoNumber kind (chars text) reason → IsPlain kind text → ⊥
+pub no_number_plain : {A : Type 0} (kind : Kind) (text : List ℕ) (reason : ErrorKind A)
+    → IsNoNumber kind (chars text) reason → IsPlain kind text → ⊥
 no_number_plain Int text NotInteger none p = none p.reads.sign p.reads.magnitude p.suffix p.reads.reads
 no_number_plain Int text TooLarge past p =
     let r = p.reads in
-    let one = int_once (chars text) past.suffix p.suffix past.sign r.sign past.magnitude r.magnitude past.reads r.reads in
+    let one = int_once (chars text) past.suffix p.suffix past.sign r.sign past.magnitude r.magnitude past.reads r.reads
+        in
     let above = past.past in
     let within = r.within in
     absurd (omega (arith, one.1))
@@ -164,7 +181,8 @@ no_number_plain Char text reason none p = absurd none
 no_number_plain Bool text reason none p = absurd none
 
 -- why a text is no number, as an error
-pub no_number_refused : {A : Type 0} (kind : Kind) (text : List ℕ) (reason : ErrorKind A) → IsNoNumber kind text reason → IsRejectedAs kind text reason
+pub no_number_refused : {A : Type 0} (kind : Kind) (text : List ℕ) (reason : ErrorKind A) → IsNoNumber kind text reason
+    → IsRejectedAs kind text reason
 no_number_refused kind text (Expected w) none = none
 no_number_refused kind text (EndOfInput w) none = none
 no_number_refused kind text Unexpected none = none
@@ -185,6 +203,8 @@ no_number_refused Char text Memory none = absurd none
 no_number_refused Bool text Memory none = absurd none
 
 -- where an allocation failed for a number, it is reported as that
-pub memory_refused : {T A : Type 0} (kind : Kind) (text : List ℕ) (span : Span) (r : Result T (Kept SpannedText A)) → IfErr r (λ k. k.error ≡ memory_at span) → IsNumber kind text → IfErr r (λ k. (k.error.span ≡ span) × IsRejectedAs kind text k.error.kind)
+pub memory_refused : {T A : Type 0} (kind : Kind) (text : List ℕ) (span : Span) (r : Result T (Kept SpannedText A))
+    → IfErr r (λ k. k.error ≡ memory_at span) → IsNumber kind text
+    → IfErr r (λ k. (k.error.span ≡ span) × IsRejectedAs kind text k.error.kind)
 memory_refused kind text span (Ok x) memory number = tt
 memory_refused kind text span (Err k) memory number = wants_memory kind text k.error span memory number

@@ -1,5 +1,6 @@
 -- The trees of an item begin with it as one literal.
-use Rattle.std.proofs.Common.{◌≡◌, ℕ, suc, ◌+◌, ◌==◌, min, max, Bool, true, false, List, [], ◌∷◌, ◌++◌, length, refl, sym, ◌∙◌, ap, subst, arith, lit<}
+use Rattle.std.proofs.Common.{◌≡◌, ℕ, suc, ◌+◌, ◌==◌, min, max, Bool, true, false, List, [], ◌∷◌, ◌++◌, length, refl,
+    sym, ◌∙◌, ap, subst, arith, lit<}
 use Rattle.std.specs.Prelude.{⊤, if◌then◌else◌}
 use Rattle.std.specs.List.{AllByRecursion}
 use Rattle.std.specs.Str.{chars, encode_utf8_all}
@@ -38,7 +39,8 @@ IsFrontItem (MinusItem text) = HasReading (45 ∷ text) × (chars (encode_utf8_a
 
 word_reads : (truth : Bool) → ReadsAs BoolKind (chars (encode_utf8_all (truth_text truth)))
 word_reads true = truth_reads (chars (encode_utf8_all (truth_text true))) true (chars-encodes (truth_text true) refl)
-word_reads false = truth_reads (chars (encode_utf8_all (truth_text false))) false (chars-encodes (truth_text false) refl)
+word_reads false = truth_reads (chars (encode_utf8_all (truth_text false))) false
+    (chars-encodes (truth_text false) refl)
 
 pub minus_bytes : (text : List ℕ) → encode_utf8_all (45 ∷ text) ≡ 45 ∷ encode_utf8_all text
 minus_bytes text = low_front 45 text (lit< tt)
@@ -47,20 +49,27 @@ minus_bytes text = low_front 45 text (lit< tt)
 one_file : (file : ℕ) (a b : Span) → (if file == file then a else b) ≡ a
 one_file file a b = let same : (file == file) ≡ true = grind (arith, nat_tests) in ap (λ t. if t then a else b) same
 
-joined_at : (file at n : ℕ) → joined_span (record { file = file; lo = at; hi = at + 1 }) (record { file = file; lo = at + 1; hi = at + 1 + n }) ≡ record { file = file; lo = at; hi = at + suc n }
+joined_at : (file at n : ℕ) → joined_span (record { file = file; lo = at; hi = at + 1 })
+    (record { file = file; lo = at + 1; hi = at + 1 + n }) ≡ record { file = file; lo = at; hi = at + suc n }
 joined_at file at n =
     let lo : min at (at + 1) ≡ at = omega arith in
     let hi : max (at + 1) (at + 1 + n) ≡ at + suc n = omega arith in
-    one_file file (record { file = file; lo = min at (at + 1); hi = max (at + 1) (at + 1 + n) }) (record { file = file; lo = at; hi = at + 1 })
+    one_file file (record { file = file; lo = min at (at + 1); hi = max (at + 1) (at + 1 + n) })
+        (record { file = file; lo = at; hi = at + 1 })
     ∙ ap (λ x. let s : Span = record { file = file; lo = x; hi = max (at + 1) (at + 1 + n) } in s) lo
     ∙ ap (λ x. let s : Span = record { file = file; lo = at; hi = x } in s) hi
 
-pub minus_joined : (file at : ℕ) (text : List ℕ) → joined (record { ch = 45; span = record { file = file; lo = at; hi = at + 1 } }) (token_at file (at + 1) text) ≡ token_at file at (45 ∷ text)
+pub minus_joined : (file at : ℕ) (text : List ℕ) → joined (record
+    { ch = 45; span = record { file = file; lo = at; hi = at + 1 } }) (token_at file (at + 1) text)
+    ≡ token_at file at (45 ∷ text)
 minus_joined file at text =
-    ap (λ s. let t : SpannedText = record { text = 45 ∷ encode_utf8_all text; span = s } in t) (joined_at file at (byte_len text))
-    ∙ ap (λ bs. let t : SpannedText = record { text = bs; span = record { file = file; lo = at; hi = at + length bs } } in t) (sym (minus_bytes text))
+    ap (λ s. let t : SpannedText = record { text = 45 ∷ encode_utf8_all text; span = s } in t)
+        (joined_at file at (byte_len text))
+    ∙ ap (λ bs. let t : SpannedText = record { text = bs; span = record { file = file; lo = at; hi = at + length bs } }
+        in t) (sym (minus_bytes text))
 
-item_front : (file at : ℕ) (item : Item) (rest : List Tree) → IsFrontItem item → IsFront (item_trees file at item ++ rest) (token_at file at (item_text item)) rest
+item_front : (file at : ℕ) (item : Item) (rest : List Tree) → IsFrontItem item
+    → IsFront (item_trees file at item ++ rest) (token_at file at (item_text item)) rest
 item_front file at (WordItem truth) rest is = (word_reads truth, refl, refl)
 item_front file at (LiteralItem text) rest is = (refl, refl)
 item_front file at (MinusItem text) rest (reads, same) =
@@ -71,10 +80,13 @@ abbrev pub AreReadAt : {A : Type 0} → (file at : ℕ) → List Entry → List 
 AreReadAt file at [] lits = lits ≡ []
 AreReadAt file at (e ∷ es) [] = ⊥
 AreReadAt file at (e ∷ es) (l ∷ ls) =
-    IsReadFrom (token_at file (at + byte_len e.gap) (item_text e.item)) l × AreReadAt file (at + byte_len e.gap + byte_len (item_text e.item)) es ls
+    IsReadFrom (token_at file (at + byte_len e.gap) (item_text e.item)) l
+        × AreReadAt file (at + byte_len e.gap + byte_len (item_text e.item)) es ls
 
 -- The trees of entries are these literals.
-pub items_lead : {A : Type 0} (file at : ℕ) (entries : List Entry) (lits : List (Lit A)) → AllByRecursion (λ e. IsFrontItem e.item) entries → AreReadAt file at entries lits → ReadsLiterals (printed_trees file at entries) lits []
+pub items_lead : {A : Type 0} (file at : ℕ) (entries : List Entry) (lits : List (Lit A))
+    → AllByRecursion (λ e. IsFrontItem e.item) entries → AreReadAt file at entries lits
+    → ReadsLiterals (printed_trees file at entries) lits []
 items_lead file at [] [] fronts are = refl
 items_lead file at [] (l ∷ ls) fronts are = absurd (cc)
 items_lead file at (e ∷ es) [] fronts are = absurd are

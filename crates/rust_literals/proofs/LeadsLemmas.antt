@@ -10,17 +10,20 @@ use Rattle.rust_literals.specs.Parsing.{IsLitFront, ReadsLiterals}
 use Rattle.rust_literals.proofs.LitLemmas.{one_lit}
 
 -- one literal begins the trees
-pub one_lit_front : {A : Type 0} (trees : List Tree) (a b : Lit A) (r s : List Tree) → IsLitFront trees a r → IsLitFront trees b s → (a ≡ b) × (r ≡ s)
+pub one_lit_front : {A : Type 0} (trees : List Tree) (a b : Lit A) (r s : List Tree) → IsLitFront trees a r
+    → IsLitFront trees b s → (a ≡ b) × (r ≡ s)
 one_lit_front trees a b r s h k =
     let one = one_front trees h.token k.token r s h.front k.front in
     (one_lit k.token a b (subst (λ (t : SpannedText). IsReadFrom t a) one.0 h.read) k.read, one.1)
 
 -- what stands after a literal is shorter
-pub lit_shorter : {A : Type 0} (trees : List Tree) (lit : Lit A) (rest : List Tree) → IsLitFront trees lit rest → length rest < length trees
+pub lit_shorter : {A : Type 0} (trees : List Tree) (lit : Lit A) (rest : List Tree) → IsLitFront trees lit rest
+    → length rest < length trees
 lit_shorter trees lit rest h = front_shorter trees h.token rest h.front
 
 -- one literal more
-pub leads_step : {A : Type 0} (a : List Tree) (ls : List (Lit A)) (b : List Tree) (l : Lit A) (c : List Tree) → ReadsLiterals a ls b → IsLitFront b l c → ReadsLiterals a (ls ++ (l ∷ [])) c
+pub leads_step : {A : Type 0} (a : List Tree) (ls : List (Lit A)) (b : List Tree) (l : Lit A) (c : List Tree)
+    → ReadsLiterals a ls b → IsLitFront b l c → ReadsLiterals a (ls ++ (l ∷ [])) c
 leads_step a [] b l c h k = (c, subst (λ (t : List Tree). IsLitFront t l c) (sym h) k, refl)
 leads_step a (x ∷ ls) b l c (m, f, h) k = (m, f, leads_step m ls b l c h k)
 
@@ -29,18 +32,22 @@ empty_front : {A : Type 0} (l : Lit A) (rest : List Tree) → IsLitFront [] l re
 empty_front l rest h = h.front
 
 -- trees are used up by one list
-pub one_list_of : {A : Type 0} (trees : List Tree) (xs ys : List (Lit A)) → ReadsLiterals trees xs [] → ReadsLiterals trees ys [] → xs ≡ ys
+pub one_list_of : {A : Type 0} (trees : List Tree) (xs ys : List (Lit A)) → ReadsLiterals trees xs []
+    → ReadsLiterals trees ys [] → xs ≡ ys
 one_list_of trees [] [] h k = refl
 one_list_of trees [] (y ∷ ys) h (m, f, k) = absurd (empty_front y m (subst (λ (t : List Tree). IsLitFront t y m) h f))
 one_list_of trees (x ∷ xs) [] (m, f, h) k = absurd (empty_front x m (subst (λ (t : List Tree). IsLitFront t x m) k f))
 one_list_of trees (x ∷ xs) (y ∷ ys) (m, f, h) (n, e, k) =
     let one = one_lit_front trees x y m n f e in
-    ap (λ z. z ∷ xs) one.0 ∙ ap (λ zs. y ∷ zs) (one_list_of m xs ys h (subst (λ (t : List Tree). ReadsLiterals t ys []) (sym one.1) k))
+    ap (λ z. z ∷ xs) one.0 ∙ ap (λ zs. y ∷ zs) (one_list_of m xs ys h
+        (subst (λ (t : List Tree). ReadsLiterals t ys []) (sym one.1) k))
 
 -- trees that literals use up lead nowhere else
-pub never_stops : {A : Type 0} (trees : List Tree) (xs ys : List (Lit A)) (rest : List Tree) → ReadsLiterals trees xs [] → ReadsLiterals trees ys rest → rest ≢ [] → HasNoFront rest → ⊥
+pub never_stops : {A : Type 0} (trees : List Tree) (xs ys : List (Lit A)) (rest : List Tree) → ReadsLiterals trees xs []
+    → ReadsLiterals trees ys rest → rest ≢ [] → HasNoFront rest → ⊥
 never_stops trees [] [] rest h k some none = some (sym k ∙ h)
-never_stops trees [] (y ∷ ys) rest h (m, f, k) some none = empty_front y m (subst (λ (t : List Tree). IsLitFront t y m) h f)
+never_stops trees [] (y ∷ ys) rest h (m, f, k) some none = empty_front y m
+    (subst (λ (t : List Tree). IsLitFront t y m) h f)
 never_stops trees (x ∷ xs) [] rest (m, f, h) k some none =
     let g = subst (λ (t : List Tree). IsLitFront t x m) k f in none g.token m g.front
 never_stops trees (x ∷ xs) (y ∷ ys) rest (m, f, h) (n, e, k) some none =

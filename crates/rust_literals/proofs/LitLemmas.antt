@@ -1,10 +1,12 @@
 -- Literals by their kind and token.
-use Rattle.std.proofs.Common.{◌≡◌, ℕ, ◌==◌, Bool as Truths, true, false, List, [], ◌∷◌, Option, Some, None, refl, sym, ◌∙◌, ap, subst}
+use Rattle.std.proofs.Common.{◌≡◌, ℕ, ◌==◌, Bool as Truths, true, false, List, [], ◌∷◌, Option, Some, None, refl, sym,
+    ◌∙◌, ap, subst}
 use Rattle.std.specs.Prelude.{Result, Ok, Err, IfSome, OnOk, OnErr}
 use Rattle.std.proofs.lemmas.Option.{MatchOption-at_some}
 use Rattle.std.specs.Str.{chars}
 use Rattle.rl_tokens.specs.declared.kind.Kind.{Kind}
-use Rattle.rl_tokens.specs.declared.kind.Kind.TheVariants.{Str as StrKind, ByteStr as ByteStrKind, CStr as CStrKind, Byte as ByteKind, Char as CharKind, Int as IntKind, Float as FloatKind, Bool as BoolKind}
+use Rattle.rl_tokens.specs.declared.kind.Kind.TheVariants.{Str as StrKind, ByteStr as ByteStrKind, CStr as CStrKind,
+    Byte as ByteKind, Char as CharKind, Int as IntKind, Float as FloatKind, Bool as BoolKind}
 use Rattle.rl_tokens.specs.declared.span.Span.{Span}
 use Rattle.rl_tokens.specs.Texts.{SpannedText, first_passes}
 use Rattle.rl_tokens.specs.Reading.{Truth, Reads, ReadsAs, HasSuffix, HasReading, truth_text}
@@ -76,7 +78,8 @@ SpellsWords text = (b : Truths) → chars text ≡ truth_text b → text ≡ tru
 abbrev pub ReadLit : Type 0 → SpannedText → Option Kind → Type 0
 ReadLit A token kind = (lit : Lit A) × IsReadFrom token lit × (kind_of lit ≡ kind)
 
-pub read_lit : (A : Type 0) (token : SpannedText) (kind : Option Kind) → SpellsWords token.text → IsReadAs kind (chars token.text) → ReadLit A token kind
+pub read_lit : (A : Type 0) (token : SpannedText) (kind : Option Kind) → SpellsWords token.text
+    → IsReadAs kind (chars token.text) → ReadLit A token kind
 read_lit A token (Some StrKind) w r = (Str token, (refl, r), refl)
 read_lit A token (Some ByteStrKind) w r = (ByteStr token, (refl, r), refl)
 read_lit A token (Some CStrKind) w r = (CStr token, (refl, r), refl)
@@ -85,7 +88,9 @@ read_lit A token (Some CharKind) w r = (Char token, (refl, r), refl)
 read_lit A token (Some IntKind) w r = (Int token, (refl, r), refl)
 read_lit A token (Some FloatKind) w r = (Float token, (refl, r), refl)
 read_lit A token (Some BoolKind) w (v, x, r) =
-    let is : record { text = truth_text r.truth; span = token.span } ≡ token = ap (λ z. let t : SpannedText = record { text = z; span = token.span } in t) (sym (w r.truth r.text_is)) in
+    let is : record { text = truth_text r.truth; span = token.span }
+        ≡ token = ap (λ z. let t : SpannedText = record { text = z; span = token.span } in t)
+        (sym (w r.truth r.text_is)) in
     (Bool (record { value = r.truth; span = token.span }), (is, (v, x, r)), refl)
 read_lit A token None w n = (Verbatim token, (refl, n), refl)
 
@@ -96,9 +101,12 @@ pub truth_reads : (t : List ℕ) (b : Truths) → t ≡ truth_text b → Reads (
 truth_reads t b e = record { truth = b; text_is = truth_chars t b e; suffix_is = refl; contents_is = refl }
 
 -- so it reads from a token
-pub read_truth : (token : SpannedText) (b : Truths) (span : Span) → token.text ≡ truth_text b → span ≡ token.span → (record { text = truth_text b; span = span } ≡ token) × ReadsAs BoolKind (chars token.text)
+pub read_truth : (token : SpannedText) (b : Truths) (span : Span) → token.text ≡ truth_text b → span ≡ token.span
+    → (record { text = truth_text b; span = span } ≡ token) × ReadsAs BoolKind (chars token.text)
 read_truth token b span e s =
-    let is : record { text = truth_text b; span = span } ≡ token = ap (λ z. let t : SpannedText = record { text = z; span = span } in t) (sym e) ∙ ap (λ z. let t : SpannedText = record { text = token.text; span = z } in t) s in
+    let is : record { text = truth_text b; span = span } ≡ token = ap
+        (λ z. let t : SpannedText = record { text = z; span = span } in t) (sym e)
+        ∙ ap (λ z. let t : SpannedText = record { text = token.text; span = z } in t) s in
     (is, (Truth b, [], truth_reads token.text b e))
 
 -- ---- by the kind
@@ -114,16 +122,19 @@ found_behind bytes found h =
 
 -- ---- a literal by what was found
 
-pub found_lent : (kind : Kind) (text : List ℕ) (found : Found) → IsFound text found → found.kind ≡ kind → (IsPlain kind text → ⊥) → ReadsPlain text → ⊥
+pub found_lent : (kind : Kind) (text : List ℕ) (found : Found) → IsFound text found → found.kind ≡ kind
+    → (IsPlain kind text → ⊥) → ReadsPlain text → ⊥
 found_lent kind text found h e never (k, (v, x, r), plain) =
     let one = one_reading (chars text) k found.kind v h.reads.0 x (chars (suffix_in text found.body)) r h.reads.1 in
     never (subst (λ z. IsPlain z text) (one.0 ∙ e) plain)
 
-pub some_found : (text : List ℕ) (o : Option Found) (found : Found) → o ≡ Some found → IfSome o (IsFound text) → IsFound text found
+pub some_found : (text : List ℕ) (o : Option Found) (found : Found) → o ≡ Some found → IfSome o (IsFound text)
+    → IsFound text found
 some_found text o found is h = MatchOption-at_some _ (IsFound text) found is h
 
 -- the text reads as the kind of what was found
-pub found_as : (kind : Kind) (text : List ℕ) (o : Option Found) (found : Found) → o ≡ Some found → IfSome o (IsFound text) → found.kind ≡ kind → ReadsAs kind (chars text)
+pub found_as : (kind : Kind) (text : List ℕ) (o : Option Found) (found : Found) → o ≡ Some found
+    → IfSome o (IsFound text) → found.kind ≡ kind → ReadsAs kind (chars text)
 found_as kind text o found is h e =
     reads_as (chars text) (chars (suffix_in text found.body)) found.kind kind (some_found text o found is h).reads e
 

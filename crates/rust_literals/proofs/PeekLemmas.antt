@@ -23,15 +23,20 @@ never_memory : (A : Type 0) (trees : List Tree) (word : List ℕ) → MissesWord
 never_memory A [] word h = h
 never_memory A (t ∷ ts) word h = h
 
-word_is_not_memory : {A : Type 0} (trees : List Tree) (word : List ℕ) (kind : ErrorKind A) → MissesWord trees word kind → kind ≡ Memory → ⊥
-word_is_not_memory {A = A} trees word kind h e = never_memory A trees word (subst (λ (k : ErrorKind A). MissesWord trees word k) e h)
+word_is_not_memory : {A : Type 0} (trees : List Tree) (word : List ℕ) (kind : ErrorKind A) → MissesWord trees word kind
+    → kind ≡ Memory → ⊥
+word_is_not_memory {A = A} trees word kind h e = never_memory A trees word
+    (subst (λ (k : ErrorKind A). MissesWord trees word k) e h)
 
 -- where a parser of one kind returns an allocation failure, its peek is true
-typed_wants : {A : Type 0} (kind : Kind) (word : List ℕ) (trees : List Tree) (scope : Span) (e : Error A) (rest : List Tree) → RunsAs kind word trees scope (Err e) rest → e.kind ≡ Memory → HasFrontOf kind trees
+typed_wants : {A : Type 0} (kind : Kind) (word : List ℕ) (trees : List Tree) (scope : Span) (e : Error A)
+    (rest : List Tree) → RunsAs kind word trees scope (Err e) rest → e.kind ≡ Memory → HasFrontOf kind trees
 typed_wants kind word trees scope e rest (inl m) is = m.0
 typed_wants kind word trees scope e rest (inr p) is = absurd (word_is_not_memory trees word e.kind p.rejection.kind is)
 
-typed_finds : {A : Type 0} (kind : Kind) (word : List ℕ) (trees : List Tree) (scope : Span) (answer : Result SpannedText (Error A)) (rest : List Tree) → RunsAs kind word trees scope answer rest → HasFrontOf kind trees → SucceedsOrMemory answer
+typed_finds : {A : Type 0} (kind : Kind) (word : List ℕ) (trees : List Tree) (scope : Span)
+    (answer : Result SpannedText (Error A)) (rest : List Tree) → RunsAs kind word trees scope answer rest
+    → HasFrontOf kind trees → SucceedsOrMemory answer
 typed_finds kind word trees scope (Ok token) rest runs has = tt
 typed_finds kind word trees scope (Err e) rest (inl m) has = ap (λ x. x.kind) m.1.error
 typed_finds kind word trees scope (Err e) rest (inr p) has = absurd (p.none has)
@@ -44,27 +49,32 @@ typed_tells kind word = record {
 }
 
 -- the same of truth values
-truth_finds : {A : Type 0} (trees : List Tree) (scope : Span) (answer : Result LitBool (Error A)) (rest : List Tree) → RunsTruth trees scope answer rest → HasFrontOf BoolKind trees → SucceedsOrMemory answer
+truth_finds : {A : Type 0} (trees : List Tree) (scope : Span) (answer : Result LitBool (Error A)) (rest : List Tree)
+    → RunsTruth trees scope answer rest → HasFrontOf BoolKind trees → SucceedsOrMemory answer
 truth_finds trees scope (Ok literal) rest runs has = tt
 truth_finds trees scope (Err e) rest p has = absurd (p.none has)
 
-truth_wants : {A : Type 0} (trees : List Tree) (scope : Span) (e : Error A) (rest : List Tree) → RunsTruth trees scope (Err e) rest → e.kind ≡ Memory → HasFrontOf BoolKind trees
+truth_wants : {A : Type 0} (trees : List Tree) (scope : Span) (e : Error A) (rest : List Tree)
+    → RunsTruth trees scope (Err e) rest → e.kind ≡ Memory → HasFrontOf BoolKind trees
 truth_wants trees scope e rest p is = absurd (word_is_not_memory trees _ e.kind p.rejection.kind is)
 
 pub truth_tells : {A : Type 0} → PeekReports (RunsTruth {A = A}) (HasFrontOf BoolKind)
 truth_tells = record {
   finds = truth_finds;
-  only = λ trees scope literal rest runs. (runs.token, rest, front_of _ _ _ _ runs.front (Truth literal.value, [], runs.reads));
+  only = λ trees scope literal rest runs. (runs.token, rest, front_of _ _ _ _ runs.front
+      (Truth literal.value, [], runs.reads));
   wants = truth_wants;
 }
 
 -- the same of literals of any kind
-literal_finds : {A : Type 0} (trees : List Tree) (scope : Span) (answer : Result (Lit A) (Error A)) (rest : List Tree) → RunsLit trees scope answer rest → HasFront trees → SucceedsOrMemory answer
+literal_finds : {A : Type 0} (trees : List Tree) (scope : Span) (answer : Result (Lit A) (Error A)) (rest : List Tree)
+    → RunsLit trees scope answer rest → HasFront trees → SucceedsOrMemory answer
 literal_finds trees scope (Ok literal) rest runs has = tt
 literal_finds trees scope (Err e) rest (inl m) has = ap (λ x. x.kind) m.1.error
 literal_finds trees scope (Err e) rest (inr n) has = absurd (n.none has.0 has.1 has.2)
 
-literal_wants : {A : Type 0} (trees : List Tree) (scope : Span) (e : Error A) (rest : List Tree) → RunsLit trees scope (Err e) rest → e.kind ≡ Memory → HasFront trees
+literal_wants : {A : Type 0} (trees : List Tree) (scope : Span) (e : Error A) (rest : List Tree)
+    → RunsLit trees scope (Err e) rest → e.kind ≡ Memory → HasFront trees
 literal_wants trees scope e rest (inl m) is = m.0
 literal_wants trees scope e rest (inr n) is = absurd (word_is_not_memory trees _ e.kind n.rejection.kind is)
 

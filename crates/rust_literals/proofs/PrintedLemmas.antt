@@ -10,7 +10,8 @@ use Rattle.rl_tokens.specs.declared.error.Error.{Error}
 use Rattle.rl_tokens.specs.Trivia.{IsTrivia}
 use Rattle.rl_tokens.specs.Reading.{ReadsAs, truth_text, Reads, HasReading}
 use Rattle.rl_tokens.specs.Texts.{byte_len}
-use Rattle.rl_tokens.specs.Printed.{Item, WordItem, LiteralItem, MinusItem, item_text, Entry, printed_text, token_at, IsStrictItem, Printed}
+use Rattle.rl_tokens.specs.Printed.{Item, WordItem, LiteralItem, MinusItem, item_text, Entry, printed_text, token_at,
+    IsStrictItem, Printed}
 use Rattle.rl_tokens.specs.PrintedTrees.{printed_trees}
 use Rattle.rl_tokens.proofs.CutTrees.{scalars_parts}
 use Rattle.rl_tokens.proofs.PrintedLaws.{printed_lexes}
@@ -31,30 +32,37 @@ item_reads (MinusItem text) (kind, number, strict, reads) = reads
 front_item : (item : Item) → IsStrictItem item → scalars (item_text item) ≡ true → IsFrontItem item
 front_item (WordItem truth) is h = tt
 front_item (LiteralItem text) is h = tt
-front_item (MinusItem text) (kind, number, strict, reads) h = (reads, chars-encodes text (scalars_parts (45 ∷ []) text h).1)
+front_item (MinusItem text) (kind, number, strict, reads) h =
+    (reads, chars-encodes text (scalars_parts (45 ∷ []) text h).1)
 
 abbrev ItemLit : Type 0 → (file at : ℕ) → Item → Type 0
 ItemLit A file at item = (lit : Lit A) × IsItemRead file at item lit
 
-item_lit : (A : Type 0) (file at : ℕ) (item : Item) → IsStrictItem item → scalars (item_text item) ≡ true → ItemLit A file at item
+item_lit : (A : Type 0) (file at : ℕ) (item : Item) → IsStrictItem item → scalars (item_text item) ≡ true
+    → ItemLit A file at item
 item_lit A file at item is h =
     let same : chars (encode_utf8_all (item_text item)) ≡ item_text item = chars-encodes (item_text item) h in
     let (kind, reads) = item_reads item is in
-    let (lit, read, kind_is) = read_lit A (token_at file at (item_text item)) (Some kind) (spells_words (item_text item) same) (subst (λ (x : List ℕ). ReadsAs kind x) (sym same) reads) in (
+    let (lit, read, kind_is) = read_lit A (token_at file at (item_text item)) (Some kind)
+        (spells_words (item_text item) same) (subst (λ (x : List ℕ). ReadsAs kind x) (sym same) reads) in (
       lit,
       record {
         read = read;
         characters = same;
         kind = (kind, kind_is, reads);
-        is_of = λ k v x of. lit_from (token_at file at (item_text item)) lit k v x read (subst (λ (t : List ℕ). Reads t k v x) (sym same) (item_is item is k v x of));
+        is_of = λ k v x of. lit_from (token_at file at (item_text item)) lit k v x read
+            (subst (λ (t : List ℕ). Reads t k v x) (sym same) (item_is item is k v x of));
       },
     )
 
 -- all items in turn
 abbrev ItemLits : Type 0 → (file at : ℕ) → List Entry → Type 0
-ItemLits A file at entries = (lits : List (Lit A)) × AreItems file at entries lits × AllByRecursion (λ (e : Entry). IsFrontItem e.item) entries
+ItemLits A file at entries = (lits : List (Lit A)) × AreItems file at entries lits
+    × AllByRecursion (λ (e : Entry). IsFrontItem e.item) entries
 
-item_lits : (A : Type 0) (file at : ℕ) (entries : List Entry) (last : List ℕ) → AllByRecursion (λ (e : Entry). IsTrivia e.gap × IsStrictItem e.item) entries → scalars (printed_text entries last) ≡ true → ItemLits A file at entries
+item_lits : (A : Type 0) (file at : ℕ) (entries : List Entry) (last : List ℕ)
+    → AllByRecursion (λ (e : Entry). IsTrivia e.gap × IsStrictItem e.item) entries → scalars (printed_text entries last)
+    ≡ true → ItemLits A file at entries
 item_lits A file at [] last each h = ([], refl, tt)
 item_lits A file at (e ∷ es) last ((gap, is), each) h =
     let behind_gap = (scalars_parts e.gap (item_text e.item ++ printed_text es last) h).1 in
@@ -64,20 +72,28 @@ item_lits A file at (e ∷ es) last ((gap, is), each) h =
     let (lits, are, fronts) = item_lits A file (n + byte_len (item_text e.item)) es last each both.1 in
     (lit ∷ lits, (read, are), (front_item e.item is both.0, fronts))
 
-items_read_at : {A : Type 0} (file at : ℕ) (entries : List Entry) (lits : List (Lit A)) → AreItems file at entries lits → AreReadAt file at entries lits
+items_read_at : {A : Type 0} (file at : ℕ) (entries : List Entry) (lits : List (Lit A)) → AreItems file at entries lits
+    → AreReadAt file at entries lits
 items_read_at file at [] lits are = are
 items_read_at file at (e ∷ es) [] are = are
-items_read_at file at (e ∷ es) (l ∷ ls) (read, are) = (read.read, items_read_at file (at + byte_len e.gap + byte_len (item_text e.item)) es ls are)
+items_read_at file at (e ∷ es) (l ∷ ls) (read, are) = (read.read, items_read_at file
+    (at + byte_len e.gap + byte_len (item_text e.item)) es ls are)
 
 -- A list of literals holds, and is the answer or an allocation failed.
-pub holds_exactly : {A B : Type 0} (holds : List (Lit A) → Type 0) (list : List (Lit A)) (r : Result (Vec (Lit A) B) (Error A)) → holds list → HoldsOrMemory (λ found. found ≡ list) r → HoldsOrMemory holds r
+pub holds_exactly : {A B : Type 0} (holds : List (Lit A) → Type 0) (list : List (Lit A))
+    (r : Result (Vec (Lit A) B) (Error A)) → holds list → HoldsOrMemory (λ found. found ≡ list) r
+    → HoldsOrMemory holds r
 holds_exactly holds list (Ok found) h same = subst holds (sym same) h
 holds_exactly holds list (Err e) h same = same
 
 -- The answer to a print.
-pub printed_read : {A B : Type 0} (text : List ℕ) (file : ℕ) (r : Result (Vec (Lit A) B) (Error A)) → IsUtf8 text → ((list : List (Lit A)) → AreRead (chars text) file list → HoldsOrMemory (λ found. found ≡ list) r) → (entries : List Entry) (last : List ℕ) → Printed (chars text) entries last → HoldsOrMemory (AreItems file 0 entries) r
+pub printed_read : {A B : Type 0} (text : List ℕ) (file : ℕ) (r : Result (Vec (Lit A) B) (Error A)) → IsUtf8 text
+    → ((list : List (Lit A)) → AreRead (chars text) file list → HoldsOrMemory (λ found. found ≡ list) r)
+    → (entries : List Entry) (last : List ℕ) → Printed (chars text) entries last
+    → HoldsOrMemory (AreItems file 0 entries) r
 printed_read {A} text file r utf8 exactly entries last printed =
-    let (lits, are, fronts) = item_lits A file 0 entries last printed.items (ap scalars (sym printed.text) ∙ scalars-chars text utf8) in
+    let (lits, are, fronts) = item_lits A file 0 entries last printed.items
+        (ap scalars (sym printed.text) ∙ scalars-chars text utf8) in
     let read : AreRead (chars text) file lits = record {
       trees = printed_trees file 0 entries;
       lexes = printed_lexes (chars text) entries last file printed;

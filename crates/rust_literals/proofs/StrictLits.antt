@@ -1,5 +1,6 @@
 -- The literal of a strict text is of the kind, contents and suffix that the text has.
-use Rattle.std.proofs.Common.{◌≡◌, ◌≤◌, ◌⊎◌, inl, inr, ℕ, ◌||◌, Bool, true, false, List, [], ◌∷◌, Some, refl, sym, subst}
+use Rattle.std.proofs.Common.{◌≡◌, ◌≤◌, ◌⊎◌, inl, inr, ℕ, ◌||◌, Bool, true, false, List, [], ◌∷◌, Some, refl, sym,
+    subst}
 use Rattle.std.specs.Prelude.{◌<◌, ◌==◌, Result, IfOk}
 use Rattle.std.proofs.lemmas.Bool.{cases_lt}
 use Rattle.std.proofs.lemmas.Result.{IfOk-weaker}
@@ -26,17 +27,20 @@ use Rattle.rust_literals.specs.LitParts.{AgreesWithStrict}
 use Rattle.rust_literals.specs.ReadBack.{IsItemOf}
 use Rattle.rust_literals.proofs.LitLemmas.{one_kind}
 
-pub lit_from : {A : Type 0} (token : SpannedText) (lit : Lit A) (kind : Kind) (contents : Contents) (suffix : List ℕ) → IsReadFrom token lit → Reads (chars token.text) kind contents suffix → IsLitOf kind contents suffix lit
+pub lit_from : {A : Type 0} (token : SpannedText) (lit : Lit A) (kind : Kind) (contents : Contents) (suffix : List ℕ)
+    → IsReadFrom token lit → Reads (chars token.text) kind contents suffix → IsLitOf kind contents suffix lit
 lit_from token lit kind contents suffix (same, read) r = (
   one_kind (chars token.text) (kind_of lit) (Some kind) read (contents, suffix, r),
   subst (λ (t : SpannedText). Reads (chars t.text) kind contents suffix) (sym same) r,
 )
 
-pub agrees : {A : Type 0} (token : SpannedText) (lit : Lit A) → IsReadFrom token lit → AgreesWithStrict (chars token.text) lit
+pub agrees : {A : Type 0} (token : SpannedText) (lit : Lit A) → IsReadFrom token lit
+    → AgreesWithStrict (chars token.text) lit
 agrees token lit read kind contents suffix strict within =
     lit_from token lit kind contents suffix read (strict_reads (chars token.text) kind contents suffix strict within)
 
-pub found_agrees : {A E : Type 0} (token : SpannedText) (result : Result (Lit A) E) → IfOk result (IsReadFrom token) → IfOk result (AgreesWithStrict (chars token.text))
+pub found_agrees : {A E : Type 0} (token : SpannedText) (result : Result (Lit A) E) → IfOk result (IsReadFrom token)
+    → IfOk result (AgreesWithStrict (chars token.text))
 found_agrees token result read = IfOk-weaker result _ _ (λ lit h. agrees token lit h) read
 
 -- ---- what reads is within the limit
@@ -51,14 +55,17 @@ number_front : (t : List ℕ) → begins_number t ≡ true → first_passes is_n
 number_front [] h = h
 number_front (c ∷ cs) h = swapped (is_ascii_digit c) (c == 45) h
 
-int_within : (t : List ℕ) → HasReading t → (sign : Sign) (magnitude : ℕ) (suffix : List ℕ) → IntReads t sign magnitude suffix → magnitude ≤ limit
+int_within : (t : List ℕ) → HasReading t → (sign : Sign) (magnitude : ℕ) (suffix : List ℕ)
+    → IntReads t sign magnitude suffix → magnitude ≤ limit
 int_within t (kind, (contents, end, r)) sign magnitude suffix i = go (cases_lt limit magnitude)
   where
     go : (limit < magnitude) ⊎ (magnitude ≤ limit) → magnitude ≤ limit
     go (inr small) = small
     go (inl past) =
-        let is_past : IsPast t = record { sign = sign; magnitude = magnitude; suffix = suffix; reads = i; past = past } in
-        absurd (only_number t (number_front t (int_front t suffix sign magnitude i)) (past_number t is_past) kind contents end r)
+        let is_past : IsPast t = record { sign = sign; magnitude = magnitude; suffix = suffix; reads = i; past = past }
+            in
+        absurd (only_number t (number_front t (int_front t suffix sign magnitude i)) (past_number t is_past) kind
+            contents end r)
 
 within_limit : (kind : Kind) (t : List ℕ) → HasReading t → IsWithinLimit kind t
 within_limit Int t reads = int_within t reads
@@ -70,13 +77,17 @@ within_limit Char t reads = tt
 within_limit Float t reads = tt
 within_limit BoolKind t reads = tt
 
-int_behind_minus : (t : List ℕ) (contents : Contents) (suffix : List ℕ) → Strict t Int contents suffix → HasReading (45 ∷ t) → (sign : Sign) (magnitude : ℕ) (end : List ℕ) → IntReads t sign magnitude end → magnitude ≤ limit
+int_behind_minus : (t : List ℕ) (contents : Contents) (suffix : List ℕ) → Strict t Int contents suffix
+    → HasReading (45 ∷ t) → (sign : Sign) (magnitude : ℕ) (end : List ℕ) → IntReads t sign magnitude end
+    → magnitude ≤ limit
 int_behind_minus t contents suffix strict reads sign magnitude end i =
     let n = strict_int t suffix contents strict in
     let o = int_once t suffix end NoSign sign n.magnitude magnitude n.reads i in
-    subst (λ (z : ℕ). z ≤ limit) o.1 (int_within (45 ∷ t) reads Minus n.magnitude suffix (minus_int t suffix n.magnitude n.reads))
+    subst (λ (z : ℕ). z ≤ limit) o.1 (int_within (45 ∷ t) reads Minus n.magnitude suffix
+        (minus_int t suffix n.magnitude n.reads))
 
-within_minus : (kind : Kind) (t : List ℕ) (contents : Contents) (suffix : List ℕ) → Strict t kind contents suffix → HasReading (45 ∷ t) → IsWithinLimit kind t
+within_minus : (kind : Kind) (t : List ℕ) (contents : Contents) (suffix : List ℕ) → Strict t kind contents suffix
+    → HasReading (45 ∷ t) → IsWithinLimit kind t
 within_minus Int t contents suffix strict reads = int_behind_minus t contents suffix strict reads
 within_minus Str t contents suffix strict reads = tt
 within_minus ByteStr t contents suffix strict reads = tt
@@ -88,9 +99,11 @@ within_minus BoolKind t contents suffix strict reads = tt
 
 -- ---- items
 
-pub item_is : (item : Item) → IsStrictItem item → (kind : Kind) (contents : Contents) (suffix : List ℕ) → IsItemOf kind contents suffix item → Reads (item_text item) kind contents suffix
+pub item_is : (item : Item) → IsStrictItem item → (kind : Kind) (contents : Contents) (suffix : List ℕ)
+    → IsItemOf kind contents suffix item → Reads (item_text item) kind contents suffix
 item_is (WordItem truth) is kind contents suffix strict =
-    strict_reads (truth_text truth) kind contents suffix strict (within_limit kind (truth_text truth) (BoolKind, truth_reads (truth_text truth) truth refl))
+    strict_reads (truth_text truth) kind contents suffix strict
+        (within_limit kind (truth_text truth) (BoolKind, truth_reads (truth_text truth) truth refl))
 item_is (LiteralItem text) (own, other, is, reads) kind contents suffix strict =
     strict_reads text kind contents suffix strict (within_limit kind text reads)
 item_is (MinusItem text) (own, number, is, reads) kind contents suffix (digits, is_number, strict, same) =

@@ -34,7 +34,8 @@ pub record HasReturned {A : Type 0} (text : List ℕ) (file : ℕ) (taken : List
   pub same : literals.tokens.text ≡ text
   pub goes_on : GoesOnAfter (chars text) file taken literals.count (chars literals.tokens.rest) literals.waiting
 
--- What an iterator returns that has returned these literals: the next one; nothing, where the text is these; or the text's
+-- What an iterator returns that has returned these literals: the next one; nothing, where the text is these; or the
+-- text's
 -- error. Where it returns no literal, it stays.
 abbrev pub ReturnsNext : {A : Type 0} → List ℕ → ℕ → List (Lit A) → Result (Option (Lit A)) (Error A)
     → Literals A → Type 0

@@ -8,4 +8,5 @@ returns-clause-place c =
     let borrowed = c.from_utf8_unchecked-text.result.now in
     let at = length borrowed - length c.rest.result.now in
     subst (λ z. IsCharBoundary z at) c.from_utf8_unchecked-text.ensures
-    (subst (λ z. IsCharBoundary borrowed (length borrowed - length z)) (sym c.rest.ensures) (cut_boundary borrowed c.new.result.rest c.new.ensures.following.following))
+    (subst (λ z. IsCharBoundary borrowed (length borrowed - length z)) (sym c.rest.ensures)
+        (cut_boundary borrowed c.new.result.rest c.new.ensures.following.following))

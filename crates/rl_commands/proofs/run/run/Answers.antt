@@ -5,12 +5,17 @@ use Rattle.rl_commands.proofs.RunLemmas.{refusal_fault, prints_known, begins_kno
 use Rattle.rl_commands.proofs.run.run.Goals as goal
 
 pub returns-in-Err-clause-fault : goal.returns-in-Err-clause-fault
-returns-in-Err-clause-fault g c = refusal_fault c.args.command _ _ c.in_ok-bytes.bytes.items c.in-Err.fault c.in_ok-bytes.ensures.bytes c.in-Err.ensures.rejection
+returns-in-Err-clause-fault g c = refusal_fault c.args.command _ _ c.in_ok-bytes.bytes.items c.in-Err.fault
+    c.in_ok-bytes.ensures.bytes c.in-Err.ensures.rejection
 
 pub returns-clause-printed : goal.returns-clause-printed
 returns-clause-printed g c =
-    on_ok_weaker c.write_whole.result (λ all. prints_known c.args.command _ _ _ c.in_ok-bytes.bytes.items (string_bytes c.in-Ok.lines) c.in_ok-bytes.ensures.bytes c.in-Ok.ensures.utf8 c.in-Ok.ensures.lines (IsUtf8-string_bytes c.in-Ok.lines) all) (rw c.as_bytes.ensures.value at c.write_whole.ensures.all)
+    on_ok_weaker c.write_whole.result (λ all. prints_known c.args.command _ _ _ c.in_ok-bytes.bytes.items
+        (string_bytes c.in-Ok.lines) c.in_ok-bytes.ensures.bytes c.in-Ok.ensures.utf8 c.in-Ok.ensures.lines
+        (IsUtf8-string_bytes c.in-Ok.lines) all) (rw c.as_bytes.ensures.value at c.write_whole.ensures.all)
 
 pub returns-clause-fault : goal.returns-clause-fault
 returns-clause-fault g c =
-    IfErr-weaker c.write_whole.result _ _ (begins_known c.args.command _ _ _ c.in_ok-bytes.bytes.items (string_bytes c.in-Ok.lines) c.in_ok-bytes.ensures.bytes c.in-Ok.ensures.utf8 c.in-Ok.ensures.lines (IsUtf8-string_bytes c.in-Ok.lines)) (rw c.as_bytes.ensures.value at c.write_whole.ensures.beginning)
+    IfErr-weaker c.write_whole.result _ _ (begins_known c.args.command _ _ _ c.in_ok-bytes.bytes.items
+        (string_bytes c.in-Ok.lines) c.in_ok-bytes.ensures.bytes c.in-Ok.ensures.utf8 c.in-Ok.ensures.lines
+        (IsUtf8-string_bytes c.in-Ok.lines)) (rw c.as_bytes.ensures.value at c.write_whole.ensures.beginning)

@@ -5,4 +5,5 @@ pub from_u32_unchecked-requires : goal.from_u32_unchecked-requires
 from_u32_unchecked-requires c = (c.body_unit.ensures c.requires.0 c.requires.1).character refl
 
 pub returns : goal.returns
-returns c = λ t has. subst (λ n. HasContents Char t (Characters (n ∷ []))) (sym c.from_u32_unchecked.ensures) (c.body_unit.ensures t has).reads
+returns c = λ t has. subst (λ n. HasContents Char t (Characters (n ∷ []))) (sym c.from_u32_unchecked.ensures)
+    (c.body_unit.ensures t has).reads

@@ -6,7 +6,8 @@ use Rattle.rl_grammar.proofs.digit_rows.first_digits.Given as goal
 abbrev pub invariant-loop-end : goal.invariant-loop-end
 invariant-loop-end l = record {
   boundary : IsCharBoundary l.bytes l.end;
-  same : row_from l.radix (nat_lt 0 l.end) (Some l.spelled) (drop l.end l.bytes) ≡ row_from l.radix false (Some 0) l.bytes;
+  same : row_from l.radix (nat_lt 0 l.end) (Some l.spelled) (drop l.end l.bytes)
+      ≡ row_from l.radix false (Some 0) l.bytes;
   small : l.spelled < 18446744073709551615;
 }
 

@@ -8,7 +8,8 @@ use Rattle.rl_grammar.proofs.digits.numeral_into.Given as goal
 abbrev pub invariant-loop-c : goal.invariant-loop-c
 invariant-loop-c l = record {
   utf8 : shadow (Utf8 l.rest);
-  passed : (xs : List ℕ) × (chars l.numeral ≡ xs ++ chars l.rest) × (take l.at l.out ≡ encode_utf8_all (float_digits xs));
+  passed : (xs : List ℕ) × (chars l.numeral ≡ xs ++ chars l.rest)
+      × (take l.at l.out ≡ encode_utf8_all (float_digits xs));
   room : l.at + length l.rest ≤ length l.numeral;
   len : length l.out ≡ length l.initial.out;
 }

@@ -5,4 +5,5 @@ use Rattle.rl_grammar.proofs.found.integer_found.Goals as goal
 pub returns-clause-found : goal.returns-clause-found
 returns-clause-found c =
     let body : IsUtf8 c.before-body.result.now = search rules in
-    integer_found _ _ _ _ _ _ _ c.up_to.ensures c.utf8.text body c.requires.within c.requires.following c.before-body.ensures.cut refl c.is_plain_integer.ensures
+    integer_found _ _ _ _ _ _ _ c.up_to.ensures c.utf8.text body c.requires.within c.requires.following
+        c.before-body.ensures.cut refl c.is_plain_integer.ensures

@@ -5,8 +5,10 @@ use Rattle.rl_grammar.proofs.FrontLemmas.{negative_front}
 use Rattle.rl_grammar.proofs.front.take_negative.Goals as goal
 
 pub returns-clause-taken : goal.returns-clause-taken
-returns-clause-taken g c = let minus : c.in_ok-minus.minus.now.ch ≡ 45 = sym c.as_char.ensures.ch ∙ c.if-as_char-ne45.false in
-    negative_front _ _ _ c.in_ok-minus.minus.now c.in_ok-number.number.now c.in_ok-found.found (sym c.fork-ahead.ensures.trees ∙ c.in_ok-minus.ensures.taken) c.in_ok-number.ensures.taken minus
+returns-clause-taken g c = let minus : c.in_ok-minus.minus.now.ch ≡ 45 = sym c.as_char.ensures.ch
+    ∙ c.if-as_char-ne45.false in
+    negative_front _ _ _ c.in_ok-minus.minus.now c.in_ok-number.number.now c.in_ok-found.found
+        (sym c.fork-ahead.ensures.trees ∙ c.in_ok-minus.ensures.taken) c.in_ok-number.ensures.taken minus
     (rw c.text.ensures at c.in_ok-found.ensures.found)
 
 pub returns-in_err-minus-clause-none : goal.returns-in_err-minus-clause-none
@@ -46,4 +48,6 @@ pub returns-in_err-found-clause-scope : goal.returns-in_err-found-clause-scope
 returns-in_err-found-clause-scope g c = grind (arith, common_steps) steps 200000
 
 pub returns-in_err-found-clause-none : goal.returns-in_err-found-clause-none
-returns-in_err-found-clause-none g c = if_none _ (no_minus_at _ _ _ _ _ _ (sym c.fork-ahead.ensures.trees ∙ c.in_ok-minus.ensures.taken) c.in_ok-number.ensures.taken c.text.ensures c.in_err-found.ensures.none)
+returns-in_err-found-clause-none g c = if_none _ (no_minus_at _ _ _ _ _ _
+    (sym c.fork-ahead.ensures.trees ∙ c.in_ok-minus.ensures.taken) c.in_ok-number.ensures.taken c.text.ensures
+    c.in_err-found.ensures.none)

@@ -12,4 +12,5 @@ unfolding after_exponent
 returns-clause-following c = grind (arith, common_steps) steps 200000
 
 pub returns-then-row-clause-following : goal.returns-then-row-clause-following
-returns-then-row-clause-following c = tail_step _ _ _ c.in-Some-e-default.ensures.following (tail_step _ _ _ c.power_digits.ensures.following c.skip_row-row.ensures.following)
+returns-then-row-clause-following c = tail_step _ _ _ c.in-Some-e-default.ensures.following
+    (tail_step _ _ _ c.power_digits.ensures.following c.skip_row-row.ensures.following)

@@ -19,7 +19,8 @@ pub returns-in-Cooked-clause-kind : goal.returns-in-Cooked-clause-kind
 returns-in-Cooked-clause-kind c = rw c.in-Cooked.is c.cooked_flaw.ensures.kind
 
 pub returns-in-Raw-clause-place : goal.returns-in-Raw-clause-place
-returns-in-Raw-clause-place c = rw c.in-Raw.is (raw_stops _ _ _ _ (rw c.in-Raw.is at c.requires.form) c.raw_flaw.ensures.kind)
+returns-in-Raw-clause-place c = rw c.in-Raw.is (raw_stops _ _ _ _ (rw c.in-Raw.is at c.requires.form)
+    c.raw_flaw.ensures.kind)
 
 pub returns-in-Raw-clause-kind : goal.returns-in-Raw-clause-kind
 returns-in-Raw-clause-kind c = rw c.in-Raw.is c.raw_flaw.ensures.kind

@@ -11,6 +11,7 @@ returns-in_default c =
     let t = c.args.text.now in
     let end = c.range_from.ensures.value in
     record {
-      rest = ap chars (end ∙ drop-length t) ∙ chars-nil ∙ sym (run_of_all (is_raw c.args.kind) (chars t) (others_hold _ c.in_default.not-ByteStr c.in_default.not-CStr (chars t)));
+      rest = ap chars (end ∙ drop-length t) ∙ chars-nil ∙ sym (run_of_all (is_raw c.args.kind) (chars t)
+          (others_hold _ c.in_default.not-ByteStr c.in_default.not-CStr (chars t)));
       following = tail_drop _ _ _ end c.range_from.utf8;
     }

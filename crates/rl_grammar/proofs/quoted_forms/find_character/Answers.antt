@@ -10,4 +10,5 @@ pub range_from-requires : goal.range_from-requires
 range_from-requires c = λ some. quote_boundary _ c.utf8.text c.requires
 
 pub find_single-requires : goal.find_single-requires
-find_single-requires c = ap opener_at (quote_first _ _ c.utf8.text c.requires c.range_from.ensures.value) ∙ front_complete SingleForm Char (chars c.range_from.result.now) refl
+find_single-requires c = ap opener_at (quote_first _ _ c.utf8.text c.requires c.range_from.ensures.value)
+    ∙ front_complete SingleForm Char (chars c.range_from.result.now) refl

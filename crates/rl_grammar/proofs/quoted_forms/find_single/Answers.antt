@@ -11,10 +11,12 @@ use Rattle.rl_grammar.proofs.QuotedStopLemmas.{only_quoted}
 use Rattle.rl_grammar.proofs.quoted_forms.find_single.Goals as goal
 
 pub returns-in_err-piece-clause-none : goal.returns-in_err-piece-clause-none
-returns-in_err-piece-clause-none c = if_none _ (only_quoted _ _ _ _ c.requires (single_stuck _ _ (sym c.in_err-piece.ensures.value)))
+returns-in_err-piece-clause-none c = if_none _ (only_quoted _ _ _ _ c.requires
+    (single_stuck _ _ (sym c.in_err-piece.ensures.value)))
 
 pub returns-in_err-suffix-clause-none : goal.returns-in_err-suffix-clause-none
-returns-in_err-suffix-clause-none c = if_none _ (only_quoted _ _ _ _ c.requires (single_none _ _ _ (sym c.in_ok-piece.ensures.value) c.in_err-suffix.ensures.none))
+returns-in_err-suffix-clause-none c = if_none _ (only_quoted _ _ _ _ c.requires
+    (single_none _ _ _ (sym c.in_ok-piece.ensures.value) c.in_err-suffix.ensures.none))
 
 pub places-body-requires-clause-closer : goal.places-body-requires-clause-closer
 places-body-requires-clause-closer c =
@@ -32,4 +34,6 @@ returns-clause-found c =
     let at = c.places-body.ensures in
     let single = (front_sound _ _ c.requires).has in
     let parts = single_found _ _ _ _ _ single (sym c.in_ok-piece.ensures.value) at.body c.in_ok-suffix.ensures.some in
-    quoted_found _ _ _ _ _ c.utf8.text (form_at _ _ _ _ _ _ _ c.requires parts at.suffix at.stands at.plain (opener_lo SingleForm _ _ _ _ (λ e. cc) c.utf8.text c.utf8.inside c.requires at.lo)) c.piece_unit.ensures c.quoted.ensures
+    quoted_found _ _ _ _ _ c.utf8.text (form_at _ _ _ _ _ _ _ c.requires parts at.suffix at.stands at.plain
+        (opener_lo SingleForm _ _ _ _ (λ e. cc) c.utf8.text c.utf8.inside c.requires at.lo)) c.piece_unit.ensures
+        c.quoted.ensures

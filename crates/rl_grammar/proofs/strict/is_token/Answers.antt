@@ -11,7 +11,9 @@ pub returns-in-Some : goal.returns-in-Some
 returns-in-Some c = told_token (chars c.args.text.now) _ c.closes.result c.in-Some.ensures c.closes.ensures
 
 pub returns-then-is_number : goal.returns-then-is_number
-returns-then-is_number c = passed_token (chars c.args.text.now) c.is_number.result c.is_number.ensures c.if-is_number.true
+returns-then-is_number c = passed_token (chars c.args.text.now) c.is_number.result c.is_number.ensures
+    c.if-is_number.true
 
 pub returns-else-is_number : goal.returns-else-is_number
-returns-else-is_number c = other_token (chars c.args.text.now) c.truth_of.result c.is_some.result c.in-None.ensures (sym c.is_number.ensures ∙ c.if-is_number.false) c.truth_of.ensures.some c.truth_of.ensures.none c.is_some.ensures
+returns-else-is_number c = other_token (chars c.args.text.now) c.truth_of.result c.is_some.result c.in-None.ensures
+    (sym c.is_number.ensures ∙ c.if-is_number.false) c.truth_of.ensures.some c.truth_of.ensures.none c.is_some.ensures

@@ -9,7 +9,8 @@ abbrev pub invariant-loop-next : goal.invariant-loop-next
 invariant-loop-next l = record {
   utf8 : shadow (Utf8 l.rest);
   last_utf8 : shadow (Utf8 l.last);
-  same : code_digits_at l.value l.count (chars l.last) (chars l.rest) ≡ code_digits_at l.first 1 (chars l.from) (chars l.text);
+  same : code_digits_at l.value l.count (chars l.last) (chars l.rest)
+      ≡ code_digits_at l.first 1 (chars l.from) (chars l.text);
   few : l.count ≤ 6;
   some : 1 ≤ l.count;
   small : l.value < 16 ^ l.count;

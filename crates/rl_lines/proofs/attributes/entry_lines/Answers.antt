@@ -14,4 +14,6 @@ loop-entry-preserved g c =
     let entries = c.args.entries.now in
     let i = c.loop-entry.entry-index in
     let grown : take (i + 1) entries ≡ take i entries ++ (c.entry-item.result ∷ []) = grind (arith, common_steps) in
-    subst (λ es. AreLinesOfEntries es (chars (string_bytes c.push_entry.new.out))) (sym grown) (joins_more IsLineOfEntry (take i entries) c.entry-item.result (chars (string_bytes c.loop-entry.lines)) (chars (string_bytes c.push_entry.new.out)) c.loop-entry.invariant c.in_ok-push_entry.ensures)
+    subst (λ es. AreLinesOfEntries es (chars (string_bytes c.push_entry.new.out))) (sym grown)
+        (joins_more IsLineOfEntry (take i entries) c.entry-item.result (chars (string_bytes c.loop-entry.lines))
+        (chars (string_bytes c.push_entry.new.out)) c.loop-entry.invariant c.in_ok-push_entry.ensures)

@@ -6,4 +6,6 @@ use Rattle.rl_lines.proofs.LineLemmas.{line_joined}
 use Rattle.rl_lines.proofs.line.push_quoted.Goals as goal
 
 pub returns : goal.returns
-returns g c = on_ok_weaker c.push_end.result (λ end. line_joined _ _ _ _ _ (chars c.args.word.now) (written_text Str (chars c.args.text.now)) (chars c.args.suffix.now) c.in_ok-push.ensures c.in_ok-push-2.ensures c.in_ok-push_str_literal.ensures.text end) c.push_end.ensures
+returns g c = on_ok_weaker c.push_end.result (λ end. line_joined _ _ _ _ _ (chars c.args.word.now)
+    (written_text Str (chars c.args.text.now)) (chars c.args.suffix.now) c.in_ok-push.ensures c.in_ok-push-2.ensures
+    c.in_ok-push_str_literal.ensures.text end) c.push_end.ensures

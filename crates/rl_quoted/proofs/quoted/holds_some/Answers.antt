@@ -1,4 +1,5 @@
-use Rattle.std.proofs.Common.{◌≡◌, ◌≢◌, ℕ, Bool, true, false, not, eqb, List, [], ◌∷◌, length, MatchBool, sym, ap, ◌∙◌, arith}
+use Rattle.std.proofs.Common.{◌≡◌, ◌≢◌, ℕ, Bool, true, false, not, eqb, List, [], ◌∷◌, length, MatchBool, sym, ap, ◌∙◌,
+    arith}
 use Rattle.std.specs.Prelude.{encode_utf8_all}
 use Rattle.std.specs.Str.{chars, IsUtf8}
 use Rattle.std.proofs.lemmas.Bool.{eqb-true, both_ways}
@@ -9,7 +10,8 @@ use Rattle.rl_quoted.proofs.quoted.holds_some.Goals as goal
 some : (b : Bool) (s : List ℕ) → IsUtf8 s → eqb (length s) 0 ≡ b → MatchBool (not b) (chars s ≢ []) (chars s ≡ [])
 some true [] u e = chars-nil
 some true (c ∷ cs) u e = absurd (let z = eqb-true (length (c ∷ cs)) 0 e in omega arith)
-some false s u e = λ n. both_ways (eqb (length s) 0) e (ap (λ z. eqb (length z) 0) (sym (encodes-chars s u) ∙ ap encode_utf8_all n))
+some false s u e = λ n. both_ways (eqb (length s) 0) e (ap (λ z. eqb (length z) 0)
+    (sym (encodes-chars s u) ∙ ap encode_utf8_all n))
 
 pub returns : goal.returns
 returns c = some c.is_empty.result c.args.text.now c.utf8.text (sym c.is_empty.ensures)

@@ -9,7 +9,8 @@ invariant-loop-step g l = record {
   stands : IsCursorOver l.tokens l.places;
   text_is : l.tokens.text ≡ l.text;
   empty : string_bytes l.lines ≡ [];
-  written : HasWritten l.options (chars l.text) (chars l.tokens.rest) l.any (g.W.Write.contents l.initial.out) (g.W.Write.contents l.out);
+  written : HasWritten l.options (chars l.text) (chars l.tokens.rest) l.any (g.W.Write.contents l.initial.out)
+      (g.W.Write.contents l.out);
 }
 
 abbrev pub decreases-loop-step : goal.decreases-loop-step

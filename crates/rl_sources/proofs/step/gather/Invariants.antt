@@ -7,7 +7,8 @@ abbrev pub invariant-loop-alloc : goal.invariant-loop-alloc
 invariant-loop-alloc g l = record {
   stands : IsCursorOver l.tokens l.places;
   text_is : l.tokens.text ≡ l.initial.tokens.text;
-  adds : Adds l.options (chars l.initial.tokens.text) (chars l.initial.tokens.rest) (chars l.tokens.rest) (chars (string_bytes l.out));
+  adds : Adds l.options (chars l.initial.tokens.text) (chars l.initial.tokens.rest) (chars l.tokens.rest)
+      (chars (string_bytes l.out));
   not_longer : length l.tokens.rest ≤ length l.initial.tokens.rest;
   shorter : (string_bytes l.out ≡ []) ⊎ (length l.tokens.rest < length l.initial.tokens.rest);
 }

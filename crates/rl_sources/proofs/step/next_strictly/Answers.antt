@@ -9,6 +9,8 @@ loop-token-preserved c =
     let accepted = rw c.in-Ok-Some.field-0-is at c.in-Ok-Some.ensures.accepted in
     let shorter = rw c.in-Ok-Some.field-0-is at c.in-Ok-Some.ensures.shorter in
     record {
-      unshown = unshown_more c.args.options c.args.tokens.now c.loop-token.tokens c.next_token.new.tokens c.in-Ok-Some.token c.loop-token.invariant.unshown takes accepted (λ is. both_ways _ c.if-is_literal.false (c.is_literal.ensures.1 is));
+      unshown = unshown_more c.args.options c.args.tokens.now c.loop-token.tokens c.next_token.new.tokens
+          c.in-Ok-Some.token c.loop-token.invariant.unshown takes accepted
+          (λ is. both_ways _ c.if-is_literal.false (c.is_literal.ensures.1 is));
       not_longer = omega (arith, shorter, c.loop-token.invariant.not_longer);
     }

@@ -9,10 +9,12 @@ returns-then-is_ascii_digit-clause-found c =
     let s = c.in-Some in
     let is : is_ascii_digit s.byte ≡ true = search rules in
     form_before (chars c.args.text.now) (LiteralForm, chars c.after_digit.result.now)
-    (digit_first (chars c.args.text.now) (chars s.following.now) s.byte s.ensures.some is ∙ ap (λ r. Some (LiteralForm, r)) (sym (c.after_digit.ensures.rest s.byte)))
+    (digit_first (chars c.args.text.now) (chars s.following.now) s.byte s.ensures.some is
+        ∙ ap (λ r. Some (LiteralForm, r)) (sym (c.after_digit.ensures.rest s.byte)))
 
 pub returns-clause-found : goal.returns-clause-found
-returns-clause-found c = lexeme_found (chars c.args.text.now) c.lexeme_but_number.result c.lexeme_but_number.ensures.rest
+returns-clause-found c = lexeme_found (chars c.args.text.now) c.lexeme_but_number.result
+    c.lexeme_but_number.ensures.rest
 
 pub returns-clause-none : goal.returns-clause-none
 returns-clause-none c = lexeme_none (chars c.args.text.now) c.lexeme_but_number.result c.lexeme_but_number.ensures.rest

@@ -12,7 +12,9 @@ pub returns-clause-never_both : goal.returns-clause-never_both
 returns-clause-never_both g c = never_both
 
 pub returns-clause-printed : goal.returns-clause-printed
-returns-clause-printed g c = printed_answer c.args.text.now c.args.file c.trees_of.result c.trees_of.ensures.trees c.trees_of.ensures.rejected
+returns-clause-printed g c = printed_answer c.args.text.now c.args.file c.trees_of.result c.trees_of.ensures.trees
+    c.trees_of.ensures.rejected
 
 pub returns-clause-reprinted : goal.returns-clause-reprinted
-returns-clause-reprinted g c = reprinted_answer c.args.text.now c.args.file c.trees_of.result c.trees_of.ensures.trees c.trees_of.ensures.rejected
+returns-clause-reprinted g c = reprinted_answer c.args.text.now c.args.file c.trees_of.result c.trees_of.ensures.trees
+    c.trees_of.ensures.rejected

@@ -9,7 +9,9 @@ pub returns-else-is_comment_block-clause-rest : goal.returns-else-is_comment_blo
 returns-else-is_comment_block-clause-rest c = search rules steps 300000
 
 pub returns-else-is_comment_line-clause-following : goal.returns-else-is_comment_line-clause-following
-returns-else-is_comment_line-clause-following c = tail_step _ c.in-Some.following.now _ c.in-Some.ensures.following c.line_end.ensures.following
+returns-else-is_comment_line-clause-following c = tail_step _ c.in-Some.following.now _ c.in-Some.ensures.following
+    c.line_end.ensures.following
 
 pub returns-else-is_comment_block-clause-following : goal.returns-else-is_comment_block-clause-following
-returns-else-is_comment_block-clause-following c = some_tail _ c.args.text.now c.in-Some.following.now c.after_block.result c.in-Some.ensures.following c.after_block.ensures.following
+returns-else-is_comment_block-clause-following c = some_tail _ c.args.text.now c.in-Some.following.now
+    c.after_block.result c.in-Some.ensures.following c.after_block.ensures.following

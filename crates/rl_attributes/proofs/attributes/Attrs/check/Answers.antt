@@ -17,7 +17,9 @@ returns-in_err-check_entry-clause-first g c =
       earlier = take i entries;
       entry = c.entry-item.result;
       later = drop (i + 1) entries;
-      entries_are = parted_at entries i c.entry-item.result (omega (arith, ap length c.entries-entry-items.ensures.entries)) (rw c.entries-entry-items.ensures.entries at c.entry-item.is);
+      entries_are = parted_at entries i c.entry-item.result (omega
+          (arith, ap length c.entries-entry-items.ensures.entries))
+          (rw c.entries-entry-items.ensures.entries at c.entry-item.is);
       accepted = c.loop-entry.invariant;
       rejected = c.in_err-check_entry.ensures.rejected;
     })
@@ -28,16 +30,21 @@ loop-entry-preserved g c =
     let i = c.loop-entry.entry-index in
     let grown : take (i + 1) entries ≡ take i entries ++ (c.entry-item.result ∷ []) = grind (arith, common_steps) in
     let accepted = IsAccepted c.args.settings.now in
-    subst (λ l. All accepted l) (sym grown) (All-push accepted (take i entries) c.entry-item.result c.loop-entry.invariant c.in_ok-check_entry.ensures.accepted)
+    subst (λ l. All accepted l) (sym grown) (All-push accepted (take i entries) c.entry-item.result
+        c.loop-entry.invariant c.in_ok-check_entry.ensures.accepted)
 
 pub returns-clause-known : goal.returns-clause-known
 returns-clause-known g c k d h =
     let entries = c.args.self.now.entries.items in
-    let all = subst (λ l. All (IsAccepted c.args.settings.now) l) (take_all c.loop-entry.entry-index entries (omega (arith, ap length c.entries-entry-items.ensures.entries))) c.loop-entry.invariant in
+    let all = subst (λ l. All (IsAccepted c.args.settings.now) l)
+        (take_all c.loop-entry.entry-index entries (omega (arith, ap length c.entries-entry-items.ensures.entries)))
+        c.loop-entry.invariant in
     (all k d h).known
 
 pub returns-clause-bare : goal.returns-clause-bare
 returns-clause-bare g c k d h =
     let entries = c.args.self.now.entries.items in
-    let all = subst (λ l. All (IsAccepted c.args.settings.now) l) (take_all c.loop-entry.entry-index entries (omega (arith, ap length c.entries-entry-items.ensures.entries))) c.loop-entry.invariant in
+    let all = subst (λ l. All (IsAccepted c.args.settings.now) l)
+        (take_all c.loop-entry.entry-index entries (omega (arith, ap length c.entries-entry-items.ensures.entries)))
+        c.loop-entry.invariant in
     (all k d h).bare

@@ -7,7 +7,8 @@ use Rattle.rl_grammar.proofs.FoundLemmas.{found_reads}
 use Rattle.rl_grammar.proofs.front.Front.find_as.Goals as goal
 
 pub returns-else-eq-clause-none : goal.returns-else-eq-clause-none
-returns-else-eq-clause-none g c = λ r. kinds_differ _ _ _ c.eq.ensures c.if-eq.false (one_kind (chars (front_token c.args.self.now).text) _ _ (found_reads _ _ c.in_ok-found.ensures.found) r)
+returns-else-eq-clause-none g c = λ r. kinds_differ _ _ _ c.eq.ensures c.if-eq.false
+    (one_kind (chars (front_token c.args.self.now).text) _ _ (found_reads _ _ c.in_ok-found.ensures.found) r)
 
 pub returns-in_err-found-clause-none : goal.returns-in_err-found-clause-none
 returns-in_err-found-clause-none g c = grind (arith, common_steps) steps 200000

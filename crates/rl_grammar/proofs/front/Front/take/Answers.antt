@@ -8,10 +8,12 @@ pub returns-in-Some-clause-rest : goal.returns-in-Some-clause-rest
 returns-in-Some-clause-rest g c = rest_one _ _ _ c.in-Some.ensures.taken
 
 pub returns-in-Some-take_word-clause-rest : goal.returns-in-Some-take_word-clause-rest
-returns-in-Some-take_word-clause-rest g c = rest_one _ _ _ (sym c.in_default.ensures.left ∙ c.in-Some-take_word.ensures.taken.0)
+returns-in-Some-take_word-clause-rest g c = rest_one _ _ _ (sym c.in_default.ensures.left
+    ∙ c.in-Some-take_word.ensures.taken.0)
 
 pub returns-clause-rest : goal.returns-clause-rest
-returns-clause-rest g c = subst (λ ts. IsRest ts (trees_in c.take_negative.new.input)) (c.in_default-take_word.ensures.left ∙ c.in_default.ensures.left) (front_rest _ _ _ c.in_ok-negative.ensures.taken)
+returns-clause-rest g c = subst (λ ts. IsRest ts (trees_in c.take_negative.new.input))
+    (c.in_default-take_word.ensures.left ∙ c.in_default.ensures.left) (front_rest _ _ _ c.in_ok-negative.ensures.taken)
 
 pub returns-in-Some-clause-taken : goal.returns-in-Some-clause-taken
 returns-in-Some-clause-taken g c = grind (arith, common_steps) steps 200000

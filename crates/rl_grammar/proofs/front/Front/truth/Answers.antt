@@ -4,7 +4,8 @@ use Rattle.rl_grammar.proofs.FrontLemmas.{minus_chars, no_negative_truth}
 use Rattle.rl_grammar.proofs.front.Front.truth.Goals as goal
 
 pub returns-in-Negative-clause-none : goal.returns-in-Negative-clause-none
-returns-in-Negative-clause-none g c = rw c.in-Negative.is (rw (minus_chars c.in-Negative.field-0.1.text) (no_negative_truth (chars c.in-Negative.field-0.1.text)))
+returns-in-Negative-clause-none g c = rw c.in-Negative.is (rw (minus_chars c.in-Negative.field-0.1.text)
+    (no_negative_truth (chars c.in-Negative.field-0.1.text)))
 
 pub returns-in-Word-clause-some : goal.returns-in-Word-clause-some
 returns-in-Word-clause-some g c = search rules steps 300000

@@ -8,4 +8,5 @@ pub returns-in_err-found-clause-none : goal.returns-in_err-found-clause-none
 returns-in_err-found-clause-none c = if_none _ (none_quoted _ c.in_err-found.ensures.none)
 
 pub returns-then-not-is_quoted-clause-none : goal.returns-then-not-is_quoted-clause-none
-returns-then-not-is_quoted-clause-none c = no_quoted _ _ (found_reads _ _ c.in_ok-found.ensures.found) (sym c.is_quoted.ensures ∙ c.if-not-is_quoted.true)
+returns-then-not-is_quoted-clause-none c = no_quoted _ _ (found_reads _ _ c.in_ok-found.ensures.found)
+    (sym c.is_quoted.ensures ∙ c.if-not-is_quoted.true)

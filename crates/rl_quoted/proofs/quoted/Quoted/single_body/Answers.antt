@@ -12,4 +12,5 @@ returns g c =
     let body = c.self.inside.body in
     let same : c.range.result.now ≡ body_in t body = c.range.ensures.value ∙ ap (λ z. body_in z body) c.text.ensures in
     let text : t ≡ c.args.self.now.text = search rules in
-    subst (λ z. HasSingleBody kind (chars z) c.range.result.now) text (subst (HasSingleBody kind (chars t)) (sym same) (single_body kind t body c.requires c.self.invariant))
+    subst (λ z. HasSingleBody kind (chars z) c.range.result.now) text
+        (subst (HasSingleBody kind (chars t)) (sym same) (single_body kind t body c.requires c.self.invariant))

@@ -5,13 +5,15 @@ use Rattle.rl_tokens.proofs.TreeLemmas.{first_taken, tree_view-group}
 use Rattle.rl_tokens.proofs.buffer.ParseBuffer.group.Goals as goal
 
 pub returns-in-Group-clause-rest : goal.returns-in-Group-clause-rest
-returns-in-Group-clause-rest g c = rest_one _ _ (tree_view c.in_ok-first.first.now) (ap (map tree_view) c.in_ok-first.ensures.cases.0)
+returns-in-Group-clause-rest g c = rest_one _ _ (tree_view c.in_ok-first.first.now)
+    (ap (map tree_view) c.in_ok-first.ensures.cases.0)
 
 pub returns-in_default-clause-rest : goal.returns-in_default-clause-rest
 returns-in_default-clause-rest g c = rest_self _
 
 pub returns-in-Group-clause-onward : goal.returns-in-Group-clause-onward
-returns-in-Group-clause-onward g c = stays_tail _ _ (tree_view c.in_ok-first.first.now) (ap (map tree_view) c.in_ok-first.ensures.cases.0)
+returns-in-Group-clause-onward g c = stays_tail _ _ (tree_view c.in_ok-first.first.now)
+    (ap (map tree_view) c.in_ok-first.ensures.cases.0)
 
 pub returns-in-Group-clause-taken : goal.returns-in-Group-clause-taken
 returns-in-Group-clause-taken g c =

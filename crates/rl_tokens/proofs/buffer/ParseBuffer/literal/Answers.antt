@@ -5,13 +5,15 @@ use Rattle.rl_tokens.proofs.TreeLemmas.{first_taken, tree_view-literal}
 use Rattle.rl_tokens.proofs.buffer.ParseBuffer.literal.Goals as goal
 
 pub returns-in-Literal-clause-rest : goal.returns-in-Literal-clause-rest
-returns-in-Literal-clause-rest g c = rest_one _ _ (tree_view c.in_ok-first.first.now) (ap (map tree_view) c.in_ok-first.ensures.cases.0)
+returns-in-Literal-clause-rest g c = rest_one _ _ (tree_view c.in_ok-first.first.now)
+    (ap (map tree_view) c.in_ok-first.ensures.cases.0)
 
 pub returns-in_default-clause-rest : goal.returns-in_default-clause-rest
 returns-in_default-clause-rest g c = rest_self _
 
 pub returns-in-Literal-clause-onward : goal.returns-in-Literal-clause-onward
-returns-in-Literal-clause-onward g c = stays_tail _ _ (tree_view c.in_ok-first.first.now) (ap (map tree_view) c.in_ok-first.ensures.cases.0)
+returns-in-Literal-clause-onward g c = stays_tail _ _ (tree_view c.in_ok-first.first.now)
+    (ap (map tree_view) c.in_ok-first.ensures.cases.0)
 
 pub returns-in-Literal-clause-taken : goal.returns-in-Literal-clause-taken
 returns-in-Literal-clause-taken g c =

@@ -5,13 +5,15 @@ use Rattle.rl_tokens.proofs.TreeLemmas.{first_taken, tree_view-punct}
 use Rattle.rl_tokens.proofs.buffer.ParseBuffer.punct.Goals as goal
 
 pub returns-in-Punct-clause-rest : goal.returns-in-Punct-clause-rest
-returns-in-Punct-clause-rest g c = rest_one _ _ (tree_view c.in_ok-first.first.now) (ap (map tree_view) c.in_ok-first.ensures.cases.0)
+returns-in-Punct-clause-rest g c = rest_one _ _ (tree_view c.in_ok-first.first.now)
+    (ap (map tree_view) c.in_ok-first.ensures.cases.0)
 
 pub returns-in_default-clause-rest : goal.returns-in_default-clause-rest
 returns-in_default-clause-rest g c = rest_self _
 
 pub returns-in-Punct-clause-onward : goal.returns-in-Punct-clause-onward
-returns-in-Punct-clause-onward g c = stays_tail _ _ (tree_view c.in_ok-first.first.now) (ap (map tree_view) c.in_ok-first.ensures.cases.0)
+returns-in-Punct-clause-onward g c = stays_tail _ _ (tree_view c.in_ok-first.first.now)
+    (ap (map tree_view) c.in_ok-first.ensures.cases.0)
 
 pub returns-in-Punct-clause-taken : goal.returns-in-Punct-clause-taken
 returns-in-Punct-clause-taken g c =

@@ -8,6 +8,8 @@ returns-then-c-eq39-clause-following c = tail_step _ _ _ c.loop-c.invariant.foll
 
 pub loop-c-preserved : goal.loop-c-preserved
 loop-c-preserved c = record {
-  following = tail_step c.args.text.now c.loop-c.rest.now c.in-Some.following.now c.loop-c.invariant.following c.in-Some.ensures.following;
-  same = apostrophe_step (chars c.loop-c.rest.now) (chars c.in-Some.following.now) c.in-Some.c c.in-Some.ensures.chars c.if-c-eq39.false c.if-c-eq10.false ∙ c.loop-c.invariant.same;
+  following = tail_step c.args.text.now c.loop-c.rest.now c.in-Some.following.now c.loop-c.invariant.following
+      c.in-Some.ensures.following;
+  same = apostrophe_step (chars c.loop-c.rest.now) (chars c.in-Some.following.now) c.in-Some.c c.in-Some.ensures.chars
+      c.if-c-eq39.false c.if-c-eq10.false ∙ c.loop-c.invariant.same;
 }

@@ -3,7 +3,8 @@ use Rattle.rl_tokens.proofs.TailLemmas.{tail_self, tail_step}
 use Rattle.rl_tokens.proofs.lexeme.suffix.after_some_suffix.Goals as goal
 
 pub returns-in-Some-clause-following : goal.returns-in-Some-clause-following
-returns-in-Some-clause-following c = tail_step c.args.text.now c.in-Some.following.now c.skip_class.result.now c.in-Some.ensures.following c.skip_class.ensures.following
+returns-in-Some-clause-following c = tail_step c.args.text.now c.in-Some.following.now c.skip_class.result.now
+    c.in-Some.ensures.following c.skip_class.ensures.following
 
 pub returns-in_default-clause-following : goal.returns-in_default-clause-following
 returns-in_default-clause-following c = tail_self c.args.text.now c.utf8.text
