@@ -1,9 +1,7 @@
 -- The literal at the front of a list.
-use Rattle.std.proofs.Common.{◌≡◌, inl, inr, ℕ, ◌-◌, ◌≤◌, true, false, List, [], length, Option, Some, None, ap, subst,
-    ◌∙◌, arith}
+use Rattle.rl_tokens.proofs.Common.{List, None, Option, Some, [], ap, arith, chars, chars-nil, false, inl, inr, length,
+    subst, true, ℕ, ◌-◌, ◌∙◌, ◌≡◌, ◌≤◌}
 use Rattle.std.specs.Prelude.{MatchOption}
-use Rattle.std.proofs.lemmas.Str.{chars-nil}
-use Rattle.std.specs.Str.{chars}
 use Rattle.rl_tokens.specs.Cursors.{CursorState, IsCursorState}
 use Rattle.rl_tokens.specs.Lexemes.{LexemeForm, LiteralForm, IdentifierForm, DelimiterForm, MarkForm}
 use Rattle.rl_tokens.specs.Skipping.{Skipped}
@@ -31,8 +29,7 @@ reports_token LiteralForm text found r is reported = token_reported text found r
 reports_token IdentifierForm text (Some f) r (is, kind) reported =
     ((f.truth, truth_chars text f.truth (is.truth kind)), (f, is, reported))
 reports_token IdentifierForm text None r is reported = absurd is
-reports_token (DelimiterForm c) text found r is reported = absurd is
-reports_token (MarkForm c) text found r is reported = absurd is
+reports_token kind text found r is reported = absurd is
 
 -- where no minus stands, the literal begins with its token
 pub begins_at : (l : NextLiteral) (n : Next) → ReportsNext l n → l.minus_at ≡ None → n.minus_at ≡ l.token.lo

@@ -1,7 +1,6 @@
 -- A text whose calls return an error is no list.
-use Rattle.std.proofs.Common.{◌≡◌, ◌⊎◌, inl, inr, ℕ, List, [], ◌∷◌, ◌++◌, refl, sym, ap, subst, ◌∙◌}
-use Rattle.std.specs.Str.{chars, encode_utf8_all}
-use Rattle.std.proofs.lemmas.Option.{none-some}
+use Rattle.rl_tokens.proofs.Common.{List, [], ap, chars, encode_utf8_all, inl, inr, none-some, refl, subst, sym, ℕ,
+    ◌++◌, ◌∙◌, ◌∷◌, ◌≡◌, ◌⊎◌}
 use Rattle.rl_tokens.specs.Skipping.{Skipped}
 use Rattle.rl_tokens.specs.Reading.{HasNoReading}
 use Rattle.rl_tokens.specs.Lexemes.{Lexeme, LexemeForm, LiteralForm, IdentifierForm, DelimiterForm, MarkForm,

@@ -1,6 +1,5 @@
 -- Where the parts stand that a reading has them.
-use Rattle.std.proofs.Common.{◌≡◌, ℕ, ◌-◌, List, take, drop, slice_range, sym, ap, subst, ◌∙◌}
-use Rattle.std.specs.Str.{chars, IsUtf8}
+use Rattle.rl_tokens.proofs.Common.{IsUtf8, List, ap, chars, drop, slice_range, subst, sym, take, ℕ, ◌-◌, ◌∙◌, ◌≡◌}
 use Rattle.rl_tokens.specs.declared.kind.Kind.TheVariants.{Float}
 use Rattle.rl_tokens.specs.Numbers.{float_digits}
 use Rattle.rl_tokens.specs.Reading.{Digits, ReadsFloat, HasContents, HasSuffix}

@@ -1,10 +1,7 @@
 -- The trees of a list are its literals.
-use Rattle.std.proofs.Common.{◌≡◌, inl, inr, ℕ, ◌≤◌, ◌==◌, true, List, [], ◌∷◌, ◌++◌, map, Some, refl, sym, ap, subst,
-    ◌∙◌, arith}
-use Rattle.std.proofs.lemmas.Bool.Decides.{nat_tests}
-use Rattle.std.specs.Prelude.{min, max, if◌then◌else◌}
-use Rattle.std.specs.Option.{option_and_then}
-use Rattle.std.specs.Str.{chars, encode_utf8_all}
+use Rattle.rl_tokens.proofs.Common.{List, Some, [], ap, arith, chars, encode_utf8_all, if◌then◌else◌, inl, inr, map,
+    nat_tests, option_and_then, refl, subst, sym, true, ℕ, ◌++◌, ◌==◌, ◌∙◌, ◌∷◌, ◌≡◌, ◌≤◌}
+use Rattle.std.specs.Prelude.{min, max}
 use Rattle.rl_tokens.specs.declared.span.Span.{Span}
 use Rattle.rl_tokens.specs.Texts.{SpannedText, byte_len}
 use Rattle.rl_tokens.specs.Puncts.{Mark}
@@ -56,8 +53,7 @@ tree_of file w reading IdentifierForm is (word, reported) = record {
   front = λ rest. (truth_reads (chars (text_of w)) word.0 word.1, refl, refl);
   reported = inl reported;
 }
-tree_of file w reading (DelimiterForm c) is reported = absurd reported
-tree_of file w reading (MarkForm c) is reported = absurd reported
+tree_of file w reading kind is reported = absurd reported
 
 -- the groups stay as they are
 stay : (w : LexedToken) (ws : List LexedToken) → after_form [] (form_of w.lexeme) w.at ≡ Some [] → open_groups [] ws

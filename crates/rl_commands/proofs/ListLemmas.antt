@@ -1,10 +1,9 @@
 -- The lines of a list, literal by literal.
-use Rattle.std.proofs.Common.{◌≡◌, ℕ, ◌+◌, List, [], ◌∷◌, ◌++◌, length, length-append, Option, Some, None, Result,
-    IfErr, IfOk, refl, sym, ◌∙◌, ap, subst, string_bytes}
+use Rattle.rl_tokens.proofs.Common.{IsUtf8, List, None, Option, Result, Some, [], ap, chars, chars-nil, length,
+    length-append, refl, string_bytes, subst, sym, ℕ, ◌++◌, ◌+◌, ◌∙◌, ◌∷◌, ◌≡◌}
+use Rattle.std.proofs.Common.{IfErr, IfOk}
 use Rattle.std.specs.Prelude.{String, IfSome}
 use Rattle.std.specs.Option.{ok_or}
-use Rattle.std.specs.Str.{chars, IsUtf8}
-use Rattle.std.proofs.lemmas.Str.{chars-nil}
 use Rattle.rust_literals.specs.declared.lit.Lit.{Lit}
 use Rattle.rust_literals.specs.Parsing.{AreRead, RejectsText}
 use Rattle.rust_literals.specs.declared.literals.Literals.{Literals}

@@ -1,10 +1,8 @@
 -- What a run does with its lines.
-use Rattle.std.proofs.Common.{◌≡◌, ℕ, List, Option, Some, None, sym, subst}
+use Rattle.rl_tokens.proofs.Common.{IsUtf8, List, None, Option, Some, chars, encodes-chars, subst, sym, ℕ, ◌≡◌}
 use Rattle.std.specs.Prelude.{IfSome}
-use Rattle.std.specs.Str.{chars, IsUtf8}
 use Rattle.std.specs.Io.KnownBytes.{Appends}
 use Rattle.std.proofs.KnownBytes.{Keeps-refl}
-use Rattle.std.proofs.lemmas.Str.{encodes-chars}
 use Rattle.rl_commands.specs.declared.command.Command.{Command}
 use Rattle.rl_program.specs.declared.fault.Fault.{Fault}
 use Rattle.rl_program.specs.declared.fault.Fault.TheVariants.{Read, Write, NotText, Memory, Literal}
@@ -24,8 +22,7 @@ refusal_fault command input old bytes NotText e r = (Keeps-refl old, known (λ b
 refusal_fault command input old bytes Memory e r = Keeps-refl old
 refusal_fault command input old bytes (Literal error) e r = (Keeps-refl old, known
     (λ b. IsRejectionOf command b (Literal error)) input bytes e r)
-refusal_fault command input old bytes Read e r = absurd r
-refusal_fault command input old bytes Write e r = absurd r
+refusal_fault command input old bytes kind e r = absurd r
 
 -- all of the line was written
 pub prints_known : (command : Command) (input old new : Option (List ℕ)) (bytes line : List ℕ)

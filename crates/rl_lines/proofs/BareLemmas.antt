@@ -1,13 +1,10 @@
 -- Texts that a string literal holds as they stand.
-use Rattle.std.proofs.Common.{◌≡◌, ℕ, ◌<◌, Bool, true, false, nat_lt, eqb, List, [], ◌∷◌, ◌++◌, length, refl, sym, ap,
-    ◌∙◌, append_assoc, arith}
-use Rattle.std.specs.Prelude.{codes, not, ◌&&◌, ◌==◌, map, if◌then◌else◌}
-use Rattle.std.specs.List.{list_all, All}
-use Rattle.std.specs.Str.{chars, IsAscii}
-use Rattle.std.proofs.lemmas.Bool.{false≢true, eqb-true}
-use Rattle.std.proofs.lemmas.Bool.Decides.{nat_tests}
+use Rattle.rl_tokens.proofs.Common.{Bool, IsAscii, List, [], ap, append_assoc, arith, chars, chars-IsAscii, chars-nil,
+    codes, eqb, eqb-true, false, if◌then◌else◌, length, list_all, map, nat_lt, nat_tests, not, refl, sym, true, ℕ, ◌&&◌,
+    ◌++◌, ◌<◌, ◌==◌, ◌∙◌, ◌∷◌, ◌≡◌}
+use Rattle.std.specs.List.{All}
+use Rattle.std.proofs.lemmas.Bool.{false≢true}
 use Rattle.std.proofs.lemmas.List.Elements.{All-nil, All-cons}
-use Rattle.std.proofs.lemmas.Str.{chars-IsAscii, chars-nil}
 use Rattle.std.proofs.lemmas.Str.Ascii.{IsAscii-from_all}
 use Rattle.rl_tokens.specs.declared.kind.Kind.TheVariants.{Str}
 use Rattle.rl_tokens.specs.Quoted.{Plain, texts}

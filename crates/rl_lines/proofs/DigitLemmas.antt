@@ -1,9 +1,7 @@
 -- Pairs of digits, one after another.
-use Rattle.std.proofs.Common.{◌≡◌, ℕ, ◌<◌, ◌&&◌, true, false, List, [], ◌∷◌, ◌++◌, length, Option, Some, None, refl,
-    sym, ◌∙◌, ap, eqb, append_assoc, arith}
-use Rattle.std.specs.Prelude.{IsTrue, IsFalse}
+use Rattle.rl_tokens.proofs.Common.{IsFalse, IsTrue, List, None, Option, Some, [], ap, append_assoc, arith, eqb,
+    eqb-true, false, length, refl, sym, true, ℕ, ◌&&◌, ◌++◌, ◌<◌, ◌∙◌, ◌∷◌, ◌≡◌}
 use Rattle.std.proofs.lemmas.List.{append-nil}
-use Rattle.std.proofs.lemmas.Bool.{eqb-true}
 use Rattle.rl_tokens.specs.Quoted.{is_hex_digit, hex_value}
 use Rattle.rl_lines.specs.Digits.{with_front, bytes_of}
 

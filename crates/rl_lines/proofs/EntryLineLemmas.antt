@@ -1,7 +1,6 @@
 -- The lines of entries, one after another.
-use Rattle.std.proofs.Common.{◌≡◌, ℕ, List, [], ◌∷◌, ◌++◌, append_assoc, refl, ◌∙◌, ap, string_bytes}
+use Rattle.rl_tokens.proofs.Common.{List, [], ap, append_assoc, chars, refl, string_bytes, ℕ, ◌++◌, ◌∙◌, ◌∷◌, ◌≡◌}
 use Rattle.std.specs.Prelude.{All}
-use Rattle.std.specs.Str.{chars}
 use Rattle.std.proofs.lemmas.List.Elements.{All-head, All-tail}
 use Rattle.rust_literals.specs.Literals.{token_of}
 use Rattle.rl_lines.specs.Lines.{IsLineOf, IsLineOfLit, Appends}

@@ -63,9 +63,4 @@ pub number_shown : (kind : Kind) (text digits : List ℕ) → ReadsAs kind text 
 number_shown Int text digits (v, x, r) are = (v, (x, r), sym (ap (payload Int) (are v x r)))
 number_shown Float text digits (v, x, r) are = (v, (x, r), are r.numeral x r.reads
     ∙ sym (ap (payload Float) r.contents_is))
-number_shown Str text digits reads are = absurd are
-number_shown ByteStr text digits reads are = absurd are
-number_shown CStr text digits reads are = absurd are
-number_shown Byte text digits reads are = absurd are
-number_shown Char text digits reads are = absurd are
-number_shown Bool text digits reads are = absurd are
+number_shown kind text digits reads are = absurd are

@@ -1,10 +1,8 @@
 -- Pieces of a line, by their characters.
-use Rattle.std.proofs.Common.{◌≡◌, ℕ, true, false, eqb, List, [], ◌∷◌, ◌++◌, length, refl, sym, ap, ◌∙◌, append_assoc,
-    arith}
+use Rattle.rl_tokens.proofs.Common.{IsUtf8, List, [], ap, append_assoc, arith, both_ways, chars, chars-append,
+    encodes-chars, eqb, eqb-true, false, length, refl, sym, true, ℕ, ◌++◌, ◌∙◌, ◌∷◌, ◌≡◌}
 use Rattle.std.specs.Prelude.{encode_utf8_all}
-use Rattle.std.specs.Str.{chars, IsUtf8}
-use Rattle.std.proofs.lemmas.Bool.{eqb-true, both_ways, false≢true}
-use Rattle.std.proofs.lemmas.Str.{chars-append, encodes-chars}
+use Rattle.std.proofs.lemmas.Bool.{false≢true}
 use Rattle.rl_tokens.specs.declared.kind.Kind.TheVariants.{Str}
 use Rattle.rl_tokens.specs.Texts.{xid_ok}
 use Rattle.rl_tokens.specs.Written.{written_text}

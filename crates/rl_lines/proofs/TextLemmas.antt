@@ -1,6 +1,5 @@
 -- A whole text's line.
-use Rattle.std.proofs.Common.{◌≡◌, ℕ, List, [], sym, ap, subst, ◌∙◌, inl, inr}
-use Rattle.std.specs.Str.{chars}
+use Rattle.rl_tokens.proofs.Common.{List, [], ap, chars, inl, inr, subst, sym, ℕ, ◌∙◌, ◌≡◌}
 use Rattle.rl_tokens.specs.Texts.{SpannedText}
 use Rattle.rl_tokens.specs.declared.kind.Kind.{Kind}
 use Rattle.rl_tokens.specs.declared.kind.Kind.TheVariants.{Str, ByteStr, CStr, Byte, Char, Int, Float, Bool}

@@ -1,11 +1,10 @@
 -- Turns of reading and writing.
-use Rattle.std.proofs.Common.{◌≡◌, ℕ, ◌<◌, subst, List, [], ◌++◌, length, take, drop, Option, Some, None, refl, sym, ap,
-    ◌∙◌, append-nil, append_assoc, ◌-◌, arith, length-drop}
+use Rattle.rl_tokens.proofs.Common.{List, None, Option, Some, [], ap, append-nil, append_assoc, arith, drop, length,
+    refl, subst, sym, take, take-append-drop, take-append_seam, take_all, ℕ, ◌++◌, ◌-◌, ◌<◌, ◌∙◌, ◌≡◌}
+use Rattle.std.proofs.Common.{length-drop}
 use Rattle.std.specs.Prelude.{IfSome}
 use Rattle.std.specs.Io.KnownBytes.{Appends, Consumes, IsAtEnd, Keeps}
 use Rattle.std.proofs.KnownBytes.{Appends-nil, Appends-trans, Appends-kept, Consumes-all, Consumes-trans}
-use Rattle.std.proofs.lemmas.List.{take_all, take-append-drop}
-use Rattle.std.proofs.Math.Seq.{take-append_seam}
 use Rattle.rl_program.specs.Streams.{AppendsBeginning}
 
 -- So much of the bytes has been written: a front of them, and the rest is left.

@@ -1,9 +1,8 @@
 -- The places of parts, as reading finds them, and what stands there.
-use Rattle.std.proofs.Common.{◌≡◌, ◌⊎◌, ℕ, Bool, true, List, refl, sym, subst, ◌∙◌}
-use Rattle.std.proofs.lemmas.Bool.{or_left, or_right}
-use Rattle.std.specs.Prelude.{Result, Ok, Err, Some, IfErr, position}
+use Rattle.rl_tokens.proofs.Common.{Bool, Err, IsUtf8, List, Ok, Result, Some, chars, or_left, or_right, refl, subst,
+    sym, true, ℕ, ◌∙◌, ◌≡◌, ◌⊎◌}
+use Rattle.std.specs.Prelude.{IfErr, position}
 use Rattle.std.specs.Result.{IsOk}
-use Rattle.std.specs.Str.{chars, IsUtf8}
 use Rattle.rl_tokens.specs.declared.kind.Kind.{Kind}
 use Rattle.rl_tokens.specs.declared.kind.Kind.TheVariants.{ByteStr, CStr}
 use Rattle.rl_tokens.specs.CStrings.{has_no_zero, is_zero}

@@ -1,13 +1,12 @@
 -- Where the parts stand of a literal that the writer wrote.
-use Rattle.std.proofs.Common.{◌≡◌, ◌-◌, ◌+◌, ◌<◌, ◌≤◌, inl, inr, ℕ, Bool, true, false, List, [], ◌∷◌, ◌++◌, length,
-    take, drop, refl, sym, ap, subst, ◌∙◌, arith, append_assoc, length-append}
-use Rattle.std.proofs.Math.Seq.{drop-append_seam, take-append_seam, drop-length}
+use Rattle.rl_tokens.proofs.Common.{Bool, IsCharBoundary, IsTrue, IsUtf8, List, [], ap, append_assoc, arith, both_ways,
+    chars, chars-nil, drop, encodes-append, encodes-chars, false, inl, inr, length, length-append, length-encode, refl,
+    subst, sym, take, take-append_seam, true, ℕ, ◌++◌, ◌+◌, ◌-◌, ◌<◌, ◌∙◌, ◌∷◌, ◌≡◌, ◌≤◌}
+use Rattle.std.proofs.Math.Seq.{drop-append_seam, drop-length}
 use Rattle.std.proofs.Math.Utf8.{scalars}
-use Rattle.std.proofs.lemmas.Bool.{both_ways}
-use Rattle.std.specs.Prelude.{◌↔◌, encode_utf8_all, IsTrue}
-use Rattle.std.specs.Str.{chars, IsUtf8, IsCharBoundary}
-use Rattle.std.proofs.lemmas.Str.{IsCharBoundary-at_seam, IsCharBoundary-end, IsUtf8-append, chars-encodes, chars-nil,
-    encodes-append, encodes-chars, scalars-chars, length-encode, len_utf8_ascii}
+use Rattle.std.specs.Prelude.{◌↔◌, encode_utf8_all}
+use Rattle.std.proofs.lemmas.Str.{IsCharBoundary-at_seam, IsCharBoundary-end, IsUtf8-append, chars-encodes,
+    scalars-chars, len_utf8_ascii}
 use Rattle.rl_tokens.specs.declared.kind.Kind.{Kind}
 use Rattle.rl_tokens.specs.declared.kind.Kind.TheVariants.{Str, ByteStr, CStr, Byte, Char, Int, Float, Bool as BoolKind}
 use Rattle.rl_tokens.specs.Quoted.{Cooked, Single, is_string, is_single, opener, texts, unit_text}
@@ -33,9 +32,7 @@ quoted_reading ByteStr t v x q r = r
 quoted_reading CStr t v x q r = r
 quoted_reading Byte t v x q r = r
 quoted_reading Char t v x q r = r
-quoted_reading Int t v x q r = absurd (cc)
-quoted_reading Float t v x q r = absurd (cc)
-quoted_reading BoolKind t v x q r = absurd (cc)
+quoted_reading kind t v x q r = absurd (cc)
 
 one_value : (kind : Kind) (v w : List ℕ) → quoted_contents kind v ≡ quoted_contents kind w → v ≡ w
 one_value Str v w e = cc

@@ -1,12 +1,11 @@
 -- Numbers in base ten, put digit by digit from the last on.
-use Rattle.std.proofs.Common.{◌≡◌, ℕ, ◌+◌, ◌-◌, ◌<◌, ◌≤◌, ◌/◌, ◌%◌, ◌^◌, suc, zero, Bool, true, false, List, [], ◌∷◌,
-    ◌++◌, length, take, drop, refl, sym, ap, subst, ◌∙◌, append-nil, append_assoc, length-drop, arith}
-use Rattle.std.specs.Prelude.{◌==◌, if◌then◌else◌}
+use Rattle.rl_tokens.proofs.Common.{Bool, IsUtf8, List, [], ap, append-nil, append_assoc, arith, drop, false,
+    if◌then◌else◌, length, nat_tests, refl, subst, suc, sym, take, take_all, true, zero, ℕ, ◌%◌, ◌++◌, ◌+◌, ◌-◌, ◌/◌,
+    ◌<◌, ◌==◌, ◌^◌, ◌∙◌, ◌∷◌, ◌≡◌, ◌≤◌}
+use Rattle.std.proofs.Common.{length-drop}
 use Rattle.std.specs.Fmt.{digits_onto, digit_glyph, digits, decimal}
-use Rattle.std.specs.Str.{IsUtf8}
-use Rattle.std.proofs.lemmas.Bool.Decides.{nat_tests}
 use Rattle.std.proofs.Math.Nat.{pow-suc}
-use Rattle.std.proofs.lemmas.List.{take_all, drop_all}
+use Rattle.std.proofs.lemmas.List.{drop_all}
 use Rattle.std.proofs.lemmas.Str.{IsUtf8-from_ascii}
 use Rattle.rl_tokens.specs.declared.lines.LineColumn.{LineColumn}
 use Rattle.rl_sources.specs.declared.place.Place.{Place}

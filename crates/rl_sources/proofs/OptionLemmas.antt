@@ -1,10 +1,9 @@
 -- Words of a list, and words of the command line.
-use Rattle.std.proofs.Common.{◌≡◌, ◌≢◌, ℕ, ◌+◌, ◌<◌, Bool, true, false, List, [], ◌∷◌, length, get_or, take, drop, ◌-◌,
-    string_bytes, refl, ap, ◌∙◌, subst, sym, arith, MatchBool}
-use Rattle.std.specs.Prelude.{IsTrue, ◌↔◌, map}
-use Rattle.std.proofs.lemmas.Grind.{common_steps}
+use Rattle.rl_tokens.proofs.Common.{Bool, IsTrue, List, [], ap, arith, common_steps, drop, false, get_or, length, map,
+    refl, string_bytes, subst, sym, take, take_all, true, ℕ, ◌+◌, ◌-◌, ◌<◌, ◌∙◌, ◌∷◌, ◌≡◌, ◌≢◌}
+use Rattle.std.proofs.Common.{MatchBool}
+use Rattle.std.specs.Prelude.{◌↔◌}
 use Rattle.std.specs.Prelude.{String}
-use Rattle.std.proofs.lemmas.List.{take_all}
 use Rattle.rl_sources.specs.Words.{Wishes, Asks, first_wishes}
 use Rattle.rl_sources.specs.Endings.{AskForOptions}
 use Rattle.std.specs.List.{All, AllWithin, HoldsAt, Contains}

@@ -1,15 +1,11 @@
 -- The place of a flaw in the source, and its line.
-use Rattle.std.proofs.Common.{◌≡◌, ℕ, ◌+◌, ◌≤◌, List, [], ◌∷◌, ◌++◌, length, drop, refl, sym, ap, subst, ◌∙◌,
-    append_assoc, arith, length-append, true, inl, inr}
-use Rattle.std.specs.Prelude.{encode_utf8, encode_utf8_all, codes, IsTrue}
-use Rattle.std.specs.Char.{is_ascii}
-use Rattle.std.specs.Str.{chars, IsUtf8, IsAscii, IsCharBoundary}
-use Rattle.std.specs.List.{list_all}
+use Rattle.rl_tokens.proofs.Common.{IsAscii, IsCharBoundary, IsTrue, IsUtf8, List, [], and_parts, ap, append_assoc,
+    arith, chars, chars-IsAscii, codes, drop, encode_utf8, encodes-append, encodes-chars, inl, inr, is_ascii, length,
+    length-append, list_all, ltb-true, refl, subst, sym, true, ℕ, ◌++◌, ◌+◌, ◌∙◌, ◌∷◌, ◌≡◌, ◌≤◌}
+use Rattle.std.specs.Prelude.{encode_utf8_all}
 use Rattle.std.proofs.Math.Seq.{drop-append_seam}
-use Rattle.std.proofs.lemmas.Bool.{and_parts, ltb-true}
 use Rattle.std.proofs.lemmas.List.{append-nil}
-use Rattle.std.proofs.lemmas.Str.{encodes-append, encodes-chars, chars-IsAscii, IsUtf8-past_char,
-    IsCharBoundary-from_drop, IsAscii-append}
+use Rattle.std.proofs.lemmas.Str.{IsUtf8-past_char, IsCharBoundary-from_drop, IsAscii-append}
 use Rattle.std.proofs.lemmas.Str.Ascii.{IsAscii-nil, IsAscii-cons}
 use Rattle.rl_tokens.specs.Reading.{HasReading}
 use Rattle.rl_tokens.specs.Texts.{IsTail, byte_len}

@@ -1,14 +1,12 @@
 -- What is shown of a source, token after token.
-use Rattle.std.proofs.Common.{◌≡◌, ◌≢◌, inl, inr, ℕ, ◌+◌, ◌-◌, drop, Bool, true, false, not, ◌||◌, ◌==◌, List, [], ◌∷◌,
-    ◌++◌, length, take, refl, sym, ap, subst, ◌∙◌, append_assoc, arith}
-use Rattle.std.specs.Prelude.{IsTrue, ◌↔◌, Option}
+use Rattle.rl_tokens.proofs.Common.{AllByRecursion, Bool, IsCharBoundary, IsTrue, IsUtf8, List, Option, [], ap,
+    append_assoc, arith, chars, chars-nil, drop, encode_utf8_all, encodes-append, encodes-chars, eqb-true, false, inl,
+    inr, length, not, refl, subst, sym, take, true, ℕ, ◌++◌, ◌+◌, ◌-◌, ◌==◌, ◌||◌, ◌∙◌, ◌∷◌, ◌≡◌, ◌≢◌}
+use Rattle.std.specs.Prelude.{◌↔◌}
 use Rattle.std.specs.Io.KnownBytes.{Appends as AppendsBytes}
-use Rattle.std.specs.List.{AllByRecursion}
-use Rattle.std.specs.Str.{chars, encode_utf8_all, IsCharBoundary, IsUtf8}
 use Rattle.std.proofs.KnownBytes.{Appends-nil, Appends-trans}
-use Rattle.std.proofs.lemmas.Bool.{false≢true, eqb-true}
+use Rattle.std.proofs.lemmas.Bool.{false≢true}
 use Rattle.std.proofs.Math.Seq.{take-append-add}
-use Rattle.std.proofs.lemmas.Str.{encodes-append, encodes-chars, chars-nil}
 use Rattle.std.proofs.lemmas.List.{append-nil}
 use Rattle.std.proofs.lemmas.List.Elements.{All-nil, All-push}
 use Rattle.rl_tokens.specs.Texts.{IsTail, byte_len}
@@ -224,12 +222,7 @@ shown_literal : (options : Options) (whole text : List ℕ) (kind : SourceKind) 
     → IsShownToken options whole kind text lo hi shown
 shown_literal options whole text (PlainKind LiteralForm) lo hi shown is h = h
 shown_literal options whole text (PlainKind IdentifierForm) lo hi shown is h = inl (is.0, is.1, h)
-shown_literal options whole text (PlainKind (DelimiterForm c)) lo hi shown is h = absurd is
-shown_literal options whole text (PlainKind (MarkForm c)) lo hi shown is h = absurd is
-shown_literal options whole text RawIdentifierKind lo hi shown is h = absurd is
-shown_literal options whole text LifetimeKind lo hi shown is h = absurd is
-shown_literal options whole text DocCommentKind lo hi shown is h = absurd is
-shown_literal options whole text StrayKind lo hi shown is h = absurd is
+shown_literal options whole text kind lo hi shown is h = absurd is
 
 no_stray : (text : List ℕ) (kind : SourceKind) → IsLiteralText kind text → kind ≢ StrayKind
 no_stray text kind is same = subst (λ k. IsLiteralText k text) same is

@@ -1,14 +1,13 @@
 -- What is appended for one token.
-use Rattle.std.proofs.Common.{◌≡◌, ◌⊎◌, inl, inr, ℕ, suc, zero, ◌<◌, ◌/◌, ◌%◌, Bool, true, false, ◌==◌, cond, List, [],
-    ◌∷◌, ◌++◌, refl, sym, ap, subst, ◌∙◌, append_assoc, arith, lit<}
+use Rattle.rl_tokens.proofs.Common.{Bool, IsAscii, IsUtf8, List, None, Option, Some, [], ap, append_assoc, arith, chars,
+    chars-IsAscii, cond, false, inl, inr, lit<, nat_tests, refl, subst, suc, sym, true, zero, ℕ, ◌%◌, ◌++◌, ◌/◌, ◌<◌,
+    ◌==◌, ◌∙◌, ◌∷◌, ◌≡◌, ◌⊎◌}
 use Rattle.std.specs.Fmt.{digits, decimal, digits_onto, digit_glyph}
-use Rattle.std.specs.Str.{chars, IsUtf8, IsAscii}
 use Rattle.std.proofs.lemmas.List.{append-nil}
-use Rattle.std.proofs.lemmas.Str.{chars-IsAscii, IsAscii-append}
+use Rattle.std.proofs.lemmas.Str.{IsAscii-append}
 use Rattle.std.proofs.lemmas.Str.Ascii.{IsAscii-nil, IsAscii-cons}
-use Rattle.std.proofs.lemmas.Bool.Decides.{nat_tests}
 use Rattle.rl_tokens.specs.Reading.{HasNoReading}
-use Rattle.std.specs.Prelude.{Option, Some, None, IfNone, IfSome, MatchOption}
+use Rattle.std.specs.Prelude.{IfNone, IfSome, MatchOption}
 use Rattle.rl_tokens.specs.declared.kind.Kind.{Kind}
 use Rattle.rl_tokens.specs.Sources.{SourceKind, SourceBefore, BeginsNoSource}
 use Rattle.rl_tokens.specs.Cursors.{CursorState}

@@ -1,7 +1,6 @@
 -- What a scan has written after a step.
-use Rattle.std.proofs.Common.{◌≡◌, ℕ, Bool, not, ◌||◌, ◌==◌, List, [], length, sym, ap, subst, ◌∙◌}
-use Rattle.std.specs.Prelude.{Option}
-use Rattle.std.specs.Str.{chars, IsUtf8}
+use Rattle.rl_tokens.proofs.Common.{Bool, IsUtf8, List, Option, [], ap, chars, length, not, subst, sym, ℕ, ◌==◌, ◌||◌,
+    ◌∙◌, ◌≡◌}
 use Rattle.std.specs.Io.KnownBytes.{Appends}
 use Rattle.rl_tokens.specs.Texts.{byte_len}
 use Rattle.rl_tokens.specs.Cursors.{CursorState}

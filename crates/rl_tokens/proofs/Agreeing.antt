@@ -32,9 +32,4 @@ pub strict_minus : (t : List ℕ) (k : Kind) (ds x : List ℕ) → is_number k �
     → IsWithinLimit k t → Reads (45 ∷ t) k (Digits (45 ∷ ds)) x
 strict_minus t Int ds x n s w = int_strict_minus t ds x s w
 strict_minus t Float ds x n s w = float_strict_minus t ds x s
-strict_minus t Str ds x n s w = absurd (cc)
-strict_minus t ByteStr ds x n s w = absurd (cc)
-strict_minus t CStr ds x n s w = absurd (cc)
-strict_minus t Byte ds x n s w = absurd (cc)
-strict_minus t Char ds x n s w = absurd (cc)
-strict_minus t BoolKind ds x n s w = absurd (cc)
+strict_minus t kind ds x n s w = absurd (cc)

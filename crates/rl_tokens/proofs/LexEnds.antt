@@ -70,24 +70,12 @@ ends_open text rest file nest e is has nothing ends =
 closes_wrong : (groups : List OpenGroup) (l : Lexeme) (after : List ℕ) → ClosesWrong groups (form_of l)
     → ErrorAt UnmatchedClose groups (lexeme_text l ++ after)
 closes_wrong groups (DelimiterLexeme c) after h = h
-closes_wrong groups (QuotedLexeme p parts x) after h = absurd h
-closes_wrong groups (RawLexeme p n body x) after h = absurd h
-closes_wrong groups (CharacterLexeme b i x) after h = absurd h
-closes_wrong groups (BasedLexeme letter digits) after h = absurd h
-closes_wrong groups (DecimalLexeme d m f x s) after h = absurd h
-closes_wrong groups (IdentifierLexeme c more) after h = absurd h
-closes_wrong groups (MarkLexeme c) after h = absurd h
+closes_wrong groups kind after h = absurd h
 
 opens_deep : (groups : List OpenGroup) (l : Lexeme) (after : List ℕ) → OpensTooDeep groups (form_of l)
     → ErrorAt TooDeep groups (lexeme_text l ++ after)
 opens_deep groups (DelimiterLexeme c) after h = h
-opens_deep groups (QuotedLexeme p parts x) after h = absurd h
-opens_deep groups (RawLexeme p n body x) after h = absurd h
-opens_deep groups (CharacterLexeme b i x) after h = absurd h
-opens_deep groups (BasedLexeme letter digits) after h = absurd h
-opens_deep groups (DecimalLexeme d m f x s) after h = absurd h
-opens_deep groups (IdentifierLexeme c more) after h = absurd h
-opens_deep groups (MarkLexeme c) after h = absurd h
+opens_deep groups kind after h = absurd h
 
 rejected_lexeme : {A : Type 0} (text rest after : List ℕ) (file : ℕ) (nest : TreeBuilder A) (l : Lexeme)
     (kind : LexKind) (at : ℕ) → IsUtf8 text → HasCut text rest file nest → at + length rest ≡ length text → chars rest

@@ -75,9 +75,7 @@ plain_facts Char c h = record { no_backslash = apart (is_plain Char) c 92 h refl
     no_quote = and_right _ false refl }
 plain_facts Byte c h = record { no_backslash = apart (is_plain Byte) c 92 h refl; no_return = and_right _ false refl;
     no_quote = and_right _ false refl }
-plain_facts Int c h = absurd (cc)
-plain_facts Float c h = absurd (cc)
-plain_facts BoolKind c h = absurd (cc)
+plain_facts kind c h = absurd (cc)
 
 plain_at : (k : Kind) (c : ℕ) (r : List ℕ) → is_plain k c ≡ true → unit_at k (c ∷ r) ≡ found (content_of k (c ∷ [])) r
 plain_at k c r h =

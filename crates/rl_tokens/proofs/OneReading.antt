@@ -40,33 +40,20 @@ unfolding front_at prefixed_at
 cooked_front Str r h = refl
 cooked_front ByteStr r h = refl
 cooked_front CStr r h = refl
-cooked_front Byte r h = absurd (cc)
-cooked_front Char r h = absurd (cc)
-cooked_front Int r h = absurd (cc)
-cooked_front Float r h = absurd (cc)
-cooked_front BoolKind r h = absurd (cc)
+cooked_front kind r h = absurd (cc)
 
 raw_front : (k : Kind) (r : List ℕ) → is_string k ≡ true → front_at (raw_opener k ++ r) ≡ RawFront k
 unfolding front_at prefixed_at
 raw_front Str r h = refl
 raw_front ByteStr r h = refl
 raw_front CStr r h = refl
-raw_front Byte r h = absurd (cc)
-raw_front Char r h = absurd (cc)
-raw_front Int r h = absurd (cc)
-raw_front Float r h = absurd (cc)
-raw_front BoolKind r h = absurd (cc)
+raw_front kind r h = absurd (cc)
 
 single_front : (k : Kind) (r : List ℕ) → is_single k ≡ true → front_at (opener k ++ r) ≡ SingleFront k
 unfolding front_at prefixed_at
 single_front Byte r h = refl
 single_front Char r h = refl
-single_front Str r h = absurd (cc)
-single_front ByteStr r h = absurd (cc)
-single_front CStr r h = absurd (cc)
-single_front Int r h = absurd (cc)
-single_front Float r h = absurd (cc)
-single_front BoolKind r h = absurd (cc)
+single_front kind r h = absurd (cc)
 
 number_front : (t : List ℕ) → begins_number t ≡ true → front_at t ≡ NumberFront
 unfolding front_at

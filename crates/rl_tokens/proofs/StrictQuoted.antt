@@ -57,9 +57,7 @@ itself CStr c h =
     let none : ((eqb c 34 || eqb c 92 || eqb c 13) || eqb c 0)
         ≡ false = or_from _ _ (not-true _ p.0) (not-true _ p.1) in
     record { unit = Plain c; is_unit = not_from_false _ none; text_is = refl; value_is = refl; ends_before = λ t f. tt }
-itself Int c h = absurd (cc)
-itself Float c h = absurd (cc)
-itself BoolKind c h = absurd (cc)
+itself kind c h = absurd (cc)
 
 holds_other : (k : Kind) (n : ℕ) → eqb n 0 ≡ false → allows_code k n ≡ true
 holds_other CStr n h = not_from_false (eqb n 0) h
@@ -141,12 +139,7 @@ ascii_escape Char high low h =
     let p = and_parts (is_octal high) (is_ascii_hexdigit low) h in
     record { unit = Hex high low; is_unit = (octal_hex high p.0, hex_digit low p.1, ascii_value high low p.0 p.1);
         text_is = refl; value_is = refl; ends_before = λ t f. tt }
-ascii_escape ByteStr high low h = absurd (cc)
-ascii_escape CStr high low h = absurd (cc)
-ascii_escape Byte high low h = absurd (cc)
-ascii_escape Int high low h = absurd (cc)
-ascii_escape Float high low h = absurd (cc)
-ascii_escape BoolKind high low h = absurd (cc)
+ascii_escape kind high low h = absurd (cc)
 
 byte_escape : (k : Kind) (high low : ℕ) → is_strict_unit k (ByteEscape high low) ≡ true → Stands k (ByteEscape high low)
 byte_escape ByteStr high low h =
@@ -162,11 +155,7 @@ byte_escape CStr high low h =
     let p = and_parts (is_ascii_hexdigit high) (is_ascii_hexdigit low) q.0 in
     record { unit = Hex high low; is_unit = (hex_digit high p.0, hex_digit low p.1, and_from _ _ q.1 refl); text_is =
         refl; value_is = refl; ends_before = λ t f. tt }
-byte_escape Str high low h = absurd (cc)
-byte_escape Char high low h = absurd (cc)
-byte_escape Int high low h = absurd (cc)
-byte_escape Float high low h = absurd (cc)
-byte_escape BoolKind high low h = absurd (cc)
+byte_escape kind high low h = absurd (cc)
 
 abbrev pub hex_first : ℕ × ℕ → Bool
 hex_first d = is_ascii_hexdigit d.0
@@ -265,11 +254,7 @@ unicode_escape CStr (d ∷ ds) h =
     record { unit = Unicode d.0 (replicate d.1 95 ++ flat_map spaced_digit ds); is_unit =
         (refl, f.first, f.more, f.few, f.is_scalar, ap (λ n. not (eqb n 0)) f.same ∙ p.1); text_is = refl; value_is = ap
         (λ v. encode_utf8_all (v ∷ [])) f.same; ends_before = λ t f. tt }
-unicode_escape ByteStr digits h = absurd (cc)
-unicode_escape Byte digits h = absurd (cc)
-unicode_escape Int digits h = absurd (cc)
-unicode_escape Float digits h = absurd (cc)
-unicode_escape BoolKind digits h = absurd (cc)
+unicode_escape kind digits h = absurd (cc)
 
 dropped_blank : (blanks : List ℕ) → list_all is_dropped_blank blanks ≡ true → list_all is_blank blanks ≡ true
 dropped_blank = all_weaker is_dropped_blank is_blank (λ c h. or_left (is_dropped_blank c) (eqb c 13) h)
@@ -281,11 +266,7 @@ line_break ByteStr blanks h = record { unit = Continuation 10 blanks; is_unit = 
     text_is = refl; value_is = refl; ends_before = λ t f. f }
 line_break CStr blanks h = record { unit = Continuation 10 blanks; is_unit = (refl, refl, dropped_blank blanks h);
     text_is = refl; value_is = refl; ends_before = λ t f. f }
-line_break Char blanks h = absurd (cc)
-line_break Byte blanks h = absurd (cc)
-line_break Int blanks h = absurd (cc)
-line_break Float blanks h = absurd (cc)
-line_break BoolKind blanks h = absurd (cc)
+line_break kind blanks h = absurd (cc)
 
 pub stands : (k : Kind) (s : StrictUnit) → is_strict_unit k s ≡ true → Stands k s
 stands k (Itself c) h = itself k c h
@@ -315,9 +296,7 @@ not_return ByteStr c h = apart is_bare_in_string c 13 (and_parts (nat_lt c 128) 
 not_return CStr c h = apart is_bare_in_string c 13 (and_parts (is_bare_in_string c) (not (eqb c 0)) h).0 refl
 not_return Char c h = apart is_bare_character c 13 h refl
 not_return Byte c h = apart is_bare_character c 13 (and_parts (nat_lt c 128) (is_bare_character c) h).1 refl
-not_return Int c h = absurd (cc)
-not_return Float c h = absurd (cc)
-not_return BoolKind c h = absurd (cc)
+not_return kind c h = absurd (cc)
 
 pub no_return : (k : Kind) (us : List StrictUnit) → list_all (is_strict_unit k) us ≡ true
     → first_passes is_return (flat_map strict_text us) ≡ false

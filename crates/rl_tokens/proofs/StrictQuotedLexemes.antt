@@ -109,12 +109,7 @@ ascii_of : (a b : ℕ) (k : Kind) (high low : ℕ) → Outside a b → is_strict
     → Escape a b (AsciiEscape high low)
 ascii_of a b Str high low o h = octal_escape a b high low o h
 ascii_of a b Char high low o h = octal_escape a b high low o h
-ascii_of a b ByteStr high low o h = absurd (cc)
-ascii_of a b CStr high low o h = absurd (cc)
-ascii_of a b Byte high low o h = absurd (cc)
-ascii_of a b Int high low o h = absurd (cc)
-ascii_of a b Float high low o h = absurd (cc)
-ascii_of a b BoolKind high low o h = absurd (cc)
+ascii_of a b kind high low o h = absurd (cc)
 
 byte_of : (a b : ℕ) (k : Kind) (high low : ℕ) → Outside a b → is_strict_unit k (ByteEscape high low) ≡ true
     → Escape a b (ByteEscape high low)
@@ -122,22 +117,14 @@ byte_of a b ByteStr high low o h = hex_escape a b high low o h
 byte_of a b Byte high low o h = hex_escape a b high low o h
 byte_of a b CStr high low o h = hex_escape a b high low o (and_parts (is_ascii_hexdigit high && is_ascii_hexdigit low)
     (not (spelled_number 16 (high ∷ low ∷ []) == 0)) h).0
-byte_of a b Str high low o h = absurd (cc)
-byte_of a b Char high low o h = absurd (cc)
-byte_of a b Int high low o h = absurd (cc)
-byte_of a b Float high low o h = absurd (cc)
-byte_of a b BoolKind high low o h = absurd (cc)
+byte_of a b kind high low o h = absurd (cc)
 
 unicode_of : (a b : ℕ) (k : Kind) (ds : List (ℕ × ℕ)) → Outside a b → is_strict_unit k (UnicodeEscape ds) ≡ true
     → Escape a b (UnicodeEscape ds)
 unicode_of a b Str ds o h = spaced_escape a b ds o h
 unicode_of a b Char ds o h = spaced_escape a b ds o h
 unicode_of a b CStr ds o h = spaced_escape a b ds o (and_parts (is_unicode_escape ds) (not (spaced_value ds == 0)) h).0
-unicode_of a b ByteStr ds o h = absurd (cc)
-unicode_of a b Byte ds o h = absurd (cc)
-unicode_of a b Int ds o h = absurd (cc)
-unicode_of a b Float ds o h = absurd (cc)
-unicode_of a b BoolKind ds o h = absurd (cc)
+unicode_of a b kind ds o h = absurd (cc)
 
 -- Each unit is a character by itself or an escape.
 abbrev OneOrEscape : ℕ → ℕ → Kind → StrictUnit → Type 0

@@ -108,11 +108,7 @@ in_unit BoolKind (UnicodeEscape digits) h = absurd (cc)
 in_unit Str (LineBreak blanks) h = broken blanks h
 in_unit ByteStr (LineBreak blanks) h = broken blanks h
 in_unit CStr (LineBreak blanks) h = broken blanks h
-in_unit Byte (LineBreak blanks) h = absurd (cc)
-in_unit Char (LineBreak blanks) h = absurd (cc)
-in_unit Int (LineBreak blanks) h = absurd (cc)
-in_unit Float (LineBreak blanks) h = absurd (cc)
-in_unit BoolKind (LineBreak blanks) h = absurd (cc)
+in_unit kind (LineBreak blanks) h = absurd (cc)
 
 in_units : (k : Kind) (us : List StrictUnit) → list_all (is_strict_unit k) us ≡ true
     → no_return_in (flat_map strict_text us) ≡ true

@@ -36,8 +36,4 @@ pub bytes_value : (k : Kind) (v : List ℕ) → AreBytesOf k v → list_all (λ 
 bytes_value ByteStr v h b = b
 bytes_value Byte v h b = (h, b)
 bytes_value CStr v h b = both_tests v b h
-bytes_value Str v h b = absurd h
-bytes_value Char v h b = absurd h
-bytes_value Int v h b = absurd h
-bytes_value Float v h b = absurd h
-bytes_value BoolKind v h b = absurd h
+bytes_value kind v h b = absurd h

@@ -247,9 +247,7 @@ row_of ByteStr v h = fine_row ByteStr is_byte v (λ c h. byte_str_fine c (ltb-tr
 row_of Byte v h = fine_row Byte is_byte v (λ c h. byte_fine c (ltb-true c 256 h)) h.1
 row_of CStr v h = fine_row CStr is_some_byte v (λ c h. let p = and_parts (nat_lt c 256) (not (eqb c 0)) h in c_str_fine
     c (ltb-true c 256 p.0) (not-true (eqb c 0) p.1)) h
-row_of Int v h = absurd h
-row_of Float v h = absurd h
-row_of BoolKind v h = absurd h
+row_of kind v h = absurd h
 
 written_units : (k : Kind) (v : List ℕ) (units : List StrictUnit) → texts (map (written_unit k) v)
     ≡ flat_map strict_text units → opener k ≡ strict_opener k → closer k ∷ [] ≡ strict_closer k → written_text k v
@@ -280,9 +278,7 @@ written_strict ByteStr v h = inl (cooked_written ByteStr v (row_of ByteStr v h) 
 written_strict CStr v h = inl (cooked_written CStr v (row_of CStr v h) tt refl refl)
 written_strict Char v h = let r = row_of Char v h in inl (cooked_written Char v r (r.count ∙ h) refl refl)
 written_strict Byte v h = let r = row_of Byte v h in inl (cooked_written Byte v r (r.count ∙ h.0) refl refl)
-written_strict Int v h = absurd h
-written_strict Float v h = absurd h
-written_strict BoolKind v h = absurd h
+written_strict kind v h = absurd h
 
 pub written_reads : (k : Kind) (v : List ℕ) → IsQuotedValue k v → Reads (written_text k v) k (quoted_contents k v) []
 written_reads Str v h = strict_reads (written_text Str v) Str _ [] (written_strict Str v h) tt
@@ -290,6 +286,4 @@ written_reads ByteStr v h = strict_reads (written_text ByteStr v) ByteStr _ [] (
 written_reads CStr v h = strict_reads (written_text CStr v) CStr _ [] (written_strict CStr v h) tt
 written_reads Char v h = strict_reads (written_text Char v) Char _ [] (written_strict Char v h) tt
 written_reads Byte v h = strict_reads (written_text Byte v) Byte _ [] (written_strict Byte v h) tt
-written_reads Int v h = absurd h
-written_reads Float v h = absurd h
-written_reads BoolKind v h = absurd h
+written_reads kind v h = absurd h

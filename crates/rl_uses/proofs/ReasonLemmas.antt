@@ -1,6 +1,5 @@
 -- The reasons of literals, one literal after another.
-use Rattle.std.proofs.Common.{inl, inr, List, [], ◌∷◌, ◌++◌, refl, ap}
-use Rattle.std.specs.Str.{chars}
+use Rattle.rl_tokens.proofs.Common.{List, [], ap, chars, inl, inr, refl, ◌++◌, ◌∷◌}
 use Rattle.rl_tokens.specs.Reading.{HasReading}
 use Rattle.rust_literals.specs.declared.lit.Lit.{Lit}
 use Rattle.rust_literals.specs.Literals.{token_of}

@@ -1,8 +1,7 @@
 -- The texts of literals that were read once read as the same, whatever stands between them.
-use Rattle.std.proofs.Common.{◌≡◌, ◌≢◌, ℕ, ◌+◌, List, [], ◌∷◌, ◌++◌, drop, refl, sym, ◌∙◌, ap, subst}
-use Rattle.std.specs.Prelude.{Result, Vec}
-use Rattle.std.specs.List.{AllByRecursion}
-use Rattle.std.specs.Str.{chars, encode_utf8_all}
+use Rattle.rl_tokens.proofs.Common.{AllByRecursion, List, Result, [], ap, chars, drop, encode_utf8_all, refl, subst,
+    sym, ℕ, ◌++◌, ◌+◌, ◌∙◌, ◌∷◌, ◌≡◌, ◌≢◌}
+use Rattle.std.specs.Prelude.{Vec}
 use Rattle.std.proofs.lemmas.Str.{scalars-chars}
 use Rattle.rl_tokens.specs.declared.error.Error.{Error}
 use Rattle.rl_tokens.specs.Texts.{SpannedText, byte_len}
@@ -100,10 +99,7 @@ front_cut trees lit rest cut h = go trees cut h.front
       },
       subst (λ (ts : List Tree). AllByRecursion IsCutTree ts) (sym f) cut,
     )
-    go (PunctTree m ∷ IdentTree x ∷ trees) cut f = absurd f
-    go (PunctTree m ∷ PunctTree x ∷ trees) cut f = absurd f
-    go (PunctTree m ∷ GroupTree d inside at ∷ trees) cut f = absurd f
-    go (GroupTree d inside at ∷ trees) cut f = absurd f
+    go kind cut f = absurd f
 
 leads_cut : {A : Type 0} (trees : List Tree) (lits : List (Lit A)) → AllByRecursion IsCutTree trees
     → ReadsLiterals trees lits [] → AllByRecursion IsCutLit lits

@@ -1,7 +1,5 @@
 -- What a parser makes of the literal that begins a buffer's trees, as it was taken from a copy of the buffer.
-use Rattle.std.proofs.Common.{◌≡◌, inl, inr, List, [], refl, sym, ap, subst, ◌∙◌}
-use Rattle.std.specs.Prelude.{ℕ, Bool, Err}
-use Rattle.std.specs.Str.{chars}
+use Rattle.rl_tokens.proofs.Common.{Bool, Err, List, [], ap, chars, inl, inr, refl, subst, sym, ℕ, ◌∙◌, ◌≡◌}
 use Rattle.rl_tokens.specs.declared.span.Span.{Span}
 use Rattle.rl_tokens.specs.declared.kind.Kind.{Kind}
 use Rattle.rl_tokens.specs.declared.kind.Kind.TheVariants.{Bool as BoolKind}

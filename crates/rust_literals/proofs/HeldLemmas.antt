@@ -1,8 +1,7 @@
 -- What a number struct holds.
-use Rattle.std.proofs.Common.{◌≡◌, ◌≢◌, ◌⊎◌, inl, inr, ℕ, List, ◌++◌, take, true, arith, refl, sym, subst, ◌∙◌}
-use Rattle.std.specs.Prelude.{Result, Ok, Err, IfErr}
-use Rattle.std.specs.Str.{chars, IsUtf8}
-use Rattle.std.proofs.lemmas.List.{take-append-drop, append_cancel_right}
+use Rattle.rl_tokens.proofs.Common.{Err, IsUtf8, List, Ok, Result, append_cancel_right, arith, chars, inl, inr, refl,
+    subst, sym, take, take-append-drop, true, ℕ, ◌++◌, ◌∙◌, ◌≡◌, ◌≢◌, ◌⊎◌}
+use Rattle.std.specs.Prelude.{IfErr}
 use Rattle.rl_tokens.specs.declared.kind.Kind.{Kind}
 use Rattle.rl_tokens.specs.declared.kind.Kind.TheVariants.{Str, ByteStr, CStr, Byte, Char, Int, Float, Bool}
 use Rattle.rl_tokens.specs.declared.error.ErrorKind.{ErrorKind}
@@ -60,12 +59,7 @@ found_suffix : (kind : Kind) (text : List ℕ) (found : Found) → found.kind �
     → HasOwnSuffix kind (chars text) (chars (suffix_in text found.body))
 found_suffix Int text found e h = subst (λ k. HasSuffix k (chars text) (chars (suffix_in text found.body))) e h.reads
 found_suffix Float text found e h = (chars (body_in text found.body), h.reads)
-found_suffix Str text found e h = absurd h
-found_suffix ByteStr text found e h = absurd h
-found_suffix CStr text found e h = absurd h
-found_suffix Byte text found e h = absurd h
-found_suffix Char text found e h = absurd h
-found_suffix Bool text found e h = absurd h
+found_suffix kind text found e h = absurd h
 
 found_digits : (kind : Kind) (text digits : List ℕ) (found : Found) → found.kind ≡ kind → IsOfKind kind text found
     → AreDigits kind (chars text) digits → HasDigits kind (chars text) digits
@@ -77,12 +71,7 @@ found_digits Float text digits found e h d =
     let n = chars (body_in text found.body) in
     let x = chars (suffix_in text found.body) in
     (n, x, h.reads, d n x h.reads)
-found_digits Str text digits found e h d = absurd h
-found_digits ByteStr text digits found e h d = absurd h
-found_digits CStr text digits found e h d = absurd h
-found_digits Byte text digits found e h d = absurd h
-found_digits Char text digits found e h d = absurd h
-found_digits Bool text digits found e h d = absurd h
+found_digits kind text digits found e h d = absurd h
 
 -- what is held of a number that was found
 pub holds_number : (kind : Kind) (text digits : List ℕ) (found : Found) → IsUtf8 text → IsFoundNumber text found
@@ -101,12 +90,7 @@ body_cut : (kind : Kind) (text : List ℕ) (found : Found) → found.kind ≡ ki
     ≡ body_in text found.body ++ suffix_in text found.body
 body_cut Int text found e h = subst (λ k. IsSplit k text (body_in text found.body) (suffix_in text found.body)) e h.cut
 body_cut Float text found e h = h.cut
-body_cut Str text found e h = absurd h
-body_cut ByteStr text found e h = absurd h
-body_cut CStr text found e h = absurd h
-body_cut Byte text found e h = absurd h
-body_cut Char text found e h = absurd h
-body_cut Bool text found e h = absurd h
+body_cut kind text found e h = absurd h
 
 body_is : (text : List ℕ) (found : Found) → text ≡ body_in text found.body ++ suffix_in text found.body
     → body_in text found.body ≡ take found.body.suffix_at text
@@ -129,12 +113,7 @@ found_number kind text found utf8 h e = go kind e (of_kind kind text found utf8 
     go : (kind : Kind) → found.kind ≡ kind → IsOfKind kind text found → IsNumber kind (chars text)
     go Int e h = let s = found_suffix Int text found e h in (s.0, chars (suffix_in text found.body), s.1)
     go Float e h = (chars (body_in text found.body), chars (suffix_in text found.body), h.reads)
-    go Str e h = absurd h
-    go ByteStr e h = absurd h
-    go CStr e h = absurd h
-    go Byte e h = absurd h
-    go Char e h = absurd h
-    go Bool e h = absurd h
+    go kind e h = absurd h
 
 -- an allocation failure, as an error
 pub wants_memory : {A : Type 0} (kind : Kind) (text : List ℕ) (e : Error A) (span : Span) → e ≡ memory_at span
@@ -173,12 +152,7 @@ no_number_plain Float text NotFloat none p = none (chars p.body) p.suffix p.read
 no_number_plain Float text Repeated none p = absurd none
 no_number_plain Float text (Number w) none p = absurd none
 no_number_plain Float text Memory none p = absurd none
-no_number_plain Str text reason none p = absurd none
-no_number_plain ByteStr text reason none p = absurd none
-no_number_plain CStr text reason none p = absurd none
-no_number_plain Byte text reason none p = absurd none
-no_number_plain Char text reason none p = absurd none
-no_number_plain Bool text reason none p = absurd none
+no_number_plain kind text reason none p = absurd none
 
 -- why a text is no number, as an error
 pub no_number_refused : {A : Type 0} (kind : Kind) (text : List ℕ) (reason : ErrorKind A) → IsNoNumber kind text reason
@@ -193,14 +167,7 @@ no_number_refused kind text TooLarge none = none
 no_number_refused kind text NotFloat none = none
 no_number_refused kind text Repeated none = none
 no_number_refused kind text (Number w) none = none
-no_number_refused Int text Memory none = absurd none
-no_number_refused Float text Memory none = absurd none
-no_number_refused Str text Memory none = absurd none
-no_number_refused ByteStr text Memory none = absurd none
-no_number_refused CStr text Memory none = absurd none
-no_number_refused Byte text Memory none = absurd none
-no_number_refused Char text Memory none = absurd none
-no_number_refused Bool text Memory none = absurd none
+no_number_refused kind text Memory none = absurd none
 
 -- where an allocation failed for a number, it is reported as that
 pub memory_refused : {T A : Type 0} (kind : Kind) (text : List ℕ) (span : Span) (r : Result T (Kept SpannedText A))

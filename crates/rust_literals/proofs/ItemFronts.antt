@@ -1,10 +1,7 @@
 -- The trees of an item begin with it as one literal.
-use Rattle.std.proofs.Common.{◌≡◌, ℕ, suc, ◌+◌, ◌==◌, min, max, Bool, true, false, List, [], ◌∷◌, ◌++◌, length, refl,
-    sym, ◌∙◌, ap, subst, arith, lit<}
-use Rattle.std.specs.Prelude.{⊤, if◌then◌else◌}
-use Rattle.std.specs.List.{AllByRecursion}
-use Rattle.std.specs.Str.{chars, encode_utf8_all}
-use Rattle.std.proofs.lemmas.Bool.Decides.{nat_tests}
+use Rattle.rl_tokens.proofs.Common.{AllByRecursion, Bool, List, [], ap, arith, chars, encode_utf8_all, false,
+    if◌then◌else◌, length, lit<, nat_tests, refl, subst, suc, sym, true, ℕ, ⊤, ◌++◌, ◌+◌, ◌==◌, ◌∙◌, ◌∷◌, ◌≡◌}
+use Rattle.std.proofs.Common.{min, max}
 use Rattle.std.proofs.lemmas.Str.{chars-encodes}
 use Rattle.rl_tokens.specs.declared.span.Span.{Span}
 use Rattle.rl_tokens.specs.declared.kind.Kind.TheVariants.{Bool as BoolKind}

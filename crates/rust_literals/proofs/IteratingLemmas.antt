@@ -1,10 +1,8 @@
 -- What an iterator over the literals of a text returns.
-use Rattle.std.proofs.Common.{◌≡◌, ℕ, ◌+◌, ◌<◌, ◌^◌, List, [], ◌∷◌, ◌++◌, Option, Some, None, Ok, length, length-append,
-    append_assoc, refl, sym, ◌∙◌, ap, subst, arith}
+use Rattle.rl_tokens.proofs.Common.{List, None, Ok, Option, Some, [], ap, append_assoc, arith, chars, chars-nil, length,
+    length-append, refl, subst, sym, ℕ, ◌++◌, ◌+◌, ◌<◌, ◌^◌, ◌∙◌, ◌∷◌, ◌≡◌}
 use Rattle.std.proofs.lemmas.List.{append-nil, nil_from_length}
 use Rattle.std.specs.Option.{option_to_list, OnSome}
-use Rattle.std.specs.Str.{chars}
-use Rattle.std.proofs.lemmas.Str.{chars-nil}
 use Rattle.std.specs.Vec.Iter.{into_iter_items, into_iter_len, into_iter_steps}
 use Rattle.std.specs.declared.vec.IntoIter.{IntoIter}
 use Rattle.rl_tokens.specs.Cursors.{CursorState}

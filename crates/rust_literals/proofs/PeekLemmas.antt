@@ -1,6 +1,5 @@
 -- A peek is true exactly where the parser succeeds, if memory is found.
-use Rattle.std.proofs.Common.{◌≡◌, inl, inr, ℕ, List, [], ◌∷◌, ap, subst}
-use Rattle.std.specs.Prelude.{Result, Ok, Err}
+use Rattle.rl_tokens.proofs.Common.{Err, List, Ok, Result, [], ap, inl, inr, subst, ℕ, ◌∷◌, ◌≡◌}
 use Rattle.rl_tokens.specs.declared.span.Span.{Span}
 use Rattle.rl_tokens.specs.declared.kind.Kind.{Kind}
 use Rattle.rl_tokens.specs.declared.kind.Kind.TheVariants.{Bool as BoolKind}

@@ -1,8 +1,7 @@
 -- A print of strict literals is read as the readings of its items.
-use Rattle.std.proofs.Common.{◌≡◌, ℕ, ◌+◌, true, List, [], ◌∷◌, ◌++◌, Some, refl, sym, ◌∙◌, ap, subst}
-use Rattle.std.specs.Prelude.{Result, Ok, Err, Vec}
-use Rattle.std.specs.List.{AllByRecursion}
-use Rattle.std.specs.Str.{chars, encode_utf8_all, IsUtf8}
+use Rattle.rl_tokens.proofs.Common.{AllByRecursion, Err, IsUtf8, List, Ok, Result, Some, [], ap, chars, encode_utf8_all,
+    refl, subst, sym, true, ℕ, ◌++◌, ◌+◌, ◌∙◌, ◌∷◌, ◌≡◌}
+use Rattle.std.specs.Prelude.{Vec}
 use Rattle.std.proofs.Math.Utf8.{scalars}
 use Rattle.std.proofs.lemmas.Str.{chars-encodes, scalars-chars}
 use Rattle.rl_tokens.specs.declared.kind.Kind.TheVariants.{Bool as BoolKind}

@@ -1,11 +1,8 @@
 -- The literal of a strict text is of the kind, contents and suffix that the text has.
-use Rattle.std.proofs.Common.{◌≡◌, ◌≤◌, ◌⊎◌, inl, inr, ℕ, ◌||◌, Bool, true, false, List, [], ◌∷◌, Some, refl, sym,
-    subst}
-use Rattle.std.specs.Prelude.{◌<◌, ◌==◌, Result, IfOk}
-use Rattle.std.proofs.lemmas.Bool.{cases_lt}
+use Rattle.rl_tokens.proofs.Common.{Bool, List, Result, Some, [], cases_lt, chars, false, inl, inr, is_ascii_digit,
+    refl, subst, sym, true, ℕ, ◌<◌, ◌==◌, ◌||◌, ◌∷◌, ◌≡◌, ◌≤◌, ◌⊎◌}
+use Rattle.std.specs.Prelude.{IfOk}
 use Rattle.std.proofs.lemmas.Result.{IfOk-weaker}
-use Rattle.std.specs.Str.{chars}
-use Rattle.std.specs.Char.{is_ascii_digit}
 use Rattle.rl_tokens.specs.Texts.{SpannedText, first_passes}
 use Rattle.rl_tokens.specs.declared.kind.Kind.{Kind}
 use Rattle.rl_tokens.specs.declared.kind.Kind.TheVariants.{Str, ByteStr, CStr, Byte, Char, Int, Float, Bool as BoolKind}

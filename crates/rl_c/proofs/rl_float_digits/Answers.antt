@@ -1,5 +1,4 @@
-use Rattle.std.proofs.Common.{take, subst}
-use Rattle.std.specs.Str.{chars}
+use Rattle.rl_tokens.proofs.Common.{chars, subst, take}
 use Rattle.rl_tokens.specs.declared.kind.Kind.TheVariants.{Float}
 use Rattle.rl_tokens.specs.Reading.{Digits, HasContents}
 use Rattle.rl_c.proofs.rl_float_digits.Goals as goal

@@ -1,9 +1,7 @@
-use Rattle.std.proofs.Common.{◌≡◌, ◌≢◌, ℕ, Bool, true, false, not, eqb, List, [], ◌∷◌, length, MatchBool, sym, ap, ◌∙◌,
-    arith}
+use Rattle.rl_tokens.proofs.Common.{Bool, IsUtf8, List, [], ap, arith, both_ways, chars, chars-nil, encodes-chars, eqb,
+    eqb-true, false, length, not, sym, true, ℕ, ◌∙◌, ◌∷◌, ◌≡◌, ◌≢◌}
+use Rattle.std.proofs.Common.{MatchBool}
 use Rattle.std.specs.Prelude.{encode_utf8_all}
-use Rattle.std.specs.Str.{chars, IsUtf8}
-use Rattle.std.proofs.lemmas.Bool.{eqb-true, both_ways}
-use Rattle.std.proofs.lemmas.Str.{chars-nil, encodes-chars}
 use Rattle.rl_attributes.proofs.settings.is_some.Goals as goal
 
 -- no bytes, no characters

@@ -1,5 +1,4 @@
-use Rattle.std.proofs.Common.{◌≡◌, rules, subst}
-use Rattle.std.specs.Str.{chars}
+use Rattle.rl_tokens.proofs.Common.{chars, rules, subst, ◌≡◌}
 use Rattle.rl_grammar.specs.Shapes.{HasNoQuoted}
 use Rattle.rl_c.proofs.place.rl_place_of.Goals as goal
 

@@ -1,5 +1,4 @@
-use Rattle.std.proofs.Common.{◌-◌, length, sym, subst}
-use Rattle.std.specs.Str.{IsCharBoundary}
+use Rattle.rl_tokens.proofs.Common.{IsCharBoundary, length, subst, sym, ◌-◌}
 use Rattle.rl_tokens.proofs.TailLemmas.{cut_boundary}
 use Rattle.rl_c.proofs.source.rl_source_start.Goals as goal
 

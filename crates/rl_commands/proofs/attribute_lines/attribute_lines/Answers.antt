@@ -1,5 +1,4 @@
-use Rattle.std.proofs.Common.{string_bytes}
-use Rattle.std.specs.Str.{chars}
+use Rattle.rl_tokens.proofs.Common.{chars, string_bytes}
 use Rattle.rl_lines.proofs.EntryLineLemmas.{shows_attributes}
 use Rattle.rl_commands.proofs.attribute_lines.attribute_lines.Goals as goal
 

@@ -1,7 +1,5 @@
-use Rattle.std.proofs.Common.{◌≡◌, ◌+◌, ◌∷◌, [], ◌++◌, take, string_bytes, sym, ap, ◌∙◌, subst, arith}
-use Rattle.std.proofs.lemmas.Grind.{common_steps}
-use Rattle.std.specs.Str.{chars}
-use Rattle.std.proofs.lemmas.Str.{chars-nil}
+use Rattle.rl_tokens.proofs.Common.{[], ap, arith, chars, chars-nil, common_steps, string_bytes, subst, sym, take, ◌++◌,
+    ◌+◌, ◌∙◌, ◌∷◌, ◌≡◌}
 use Rattle.rl_lines.specs.EntryLines.{IsLineOfEntry, AreLinesOfEntries}
 use Rattle.rl_lines.proofs.JoinLemmas.{joins_more}
 use Rattle.rl_lines.proofs.attributes.entry_lines.Goals as goal

@@ -1,5 +1,4 @@
-use Rattle.std.proofs.Common.{string_bytes, take}
-use Rattle.std.specs.Str.{chars}
+use Rattle.rl_tokens.proofs.Common.{chars, string_bytes, take}
 use Rattle.rl_lines.specs.EntryLines.{AreLinesOfEntries}
 use Rattle.rl_lines.proofs.attributes.entry_lines.Given as goal
 

@@ -1,5 +1,4 @@
-use Rattle.std.proofs.Common.{inl}
-use Rattle.std.specs.Str.{chars}
+use Rattle.rl_tokens.proofs.Common.{chars, inl}
 use Rattle.rl_grammar.specs.Founds.{body_in}
 use Rattle.rl_grammar.proofs.NumberFoundLemmas.{plain_digits}
 use Rattle.rl_lines.proofs.FoundLineLemmas.{number_shown}

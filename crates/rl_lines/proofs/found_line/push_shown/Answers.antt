@@ -1,5 +1,4 @@
-use Rattle.std.specs.Str.{chars}
-use Rattle.std.proofs.lemmas.Result.{on_ok_weaker}
+use Rattle.rl_tokens.proofs.Common.{chars, on_ok_weaker}
 use Rattle.rl_lines.proofs.FoundLineLemmas.{shows_line}
 use Rattle.rl_lines.proofs.found_line.push_shown.Goals as goal
 

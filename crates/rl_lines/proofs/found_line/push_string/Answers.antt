@@ -1,6 +1,4 @@
-use Rattle.std.proofs.Common.{ap}
-use Rattle.std.specs.Str.{chars}
-use Rattle.std.proofs.lemmas.Result.{on_ok_weaker}
+use Rattle.rl_tokens.proofs.Common.{ap, chars, on_ok_weaker}
 use Rattle.rl_tokens.specs.Quoted.{is_string}
 use Rattle.rl_grammar.proofs.BodyContents.{plain_contents}
 use Rattle.rl_lines.proofs.FoundLineLemmas.{string_line}

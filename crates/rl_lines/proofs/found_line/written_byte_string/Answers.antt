@@ -1,5 +1,4 @@
-use Rattle.std.proofs.Common.{ap, inl, refl}
-use Rattle.std.specs.Str.{chars}
+use Rattle.rl_tokens.proofs.Common.{ap, chars, inl, refl}
 use Rattle.rl_tokens.specs.Quoted.{is_string}
 use Rattle.rl_tokens.specs.declared.kind.Kind.TheVariants.{ByteStr}
 use Rattle.rl_tokens.specs.Reading.{Bytes}

@@ -1,5 +1,4 @@
-use Rattle.std.proofs.Common.{◌≡◌, ap, refl}
-use Rattle.std.specs.Str.{chars}
+use Rattle.rl_tokens.proofs.Common.{ap, chars, refl, ◌≡◌}
 use Rattle.rl_tokens.specs.Quoted.{is_string}
 use Rattle.std.proofs.lemmas.Result.{IfOk-at_ok}
 use Rattle.rl_tokens.specs.declared.kind.Kind.TheVariants.{CStr}

@@ -1,5 +1,4 @@
-use Rattle.std.proofs.Common.{rules}
-use Rattle.std.proofs.lemmas.Str.{IsUtf8-string_bytes}
+use Rattle.rl_tokens.proofs.Common.{IsUtf8-string_bytes, rules}
 use Rattle.rl_lines.proofs.LineLemmas.{pushed}
 use Rattle.rl_lines.proofs.line.push.Goals as goal
 

@@ -1,6 +1,4 @@
-use Rattle.std.proofs.Common.{◌∙◌, sym}
-use Rattle.std.specs.Str.{chars}
-use Rattle.std.proofs.lemmas.Result.{on_ok_weaker}
+use Rattle.rl_tokens.proofs.Common.{chars, on_ok_weaker, sym, ◌∙◌}
 use Rattle.rl_lines.proofs.LineLemmas.{empty_end, end_joined}
 use Rattle.rl_lines.proofs.line.push_end.Goals as goal
 

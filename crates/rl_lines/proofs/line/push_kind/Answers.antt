@@ -1,5 +1,4 @@
-use Rattle.std.proofs.Common.{◌≡◌, ap, ◌∙◌}
-use Rattle.std.specs.Str.{chars}
+use Rattle.rl_tokens.proofs.Common.{ap, chars, ◌∙◌, ◌≡◌}
 use Rattle.rl_lines.specs.Lines.{kind_label}
 use Rattle.rl_lines.proofs.PrintLemmas.{word_chars}
 use Rattle.rl_lines.proofs.line.push_kind.Goals as goal

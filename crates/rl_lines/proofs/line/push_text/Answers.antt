@@ -1,7 +1,4 @@
-use Rattle.std.proofs.Common.{◌≡◌, sym, ap, ◌∙◌}
-use Rattle.std.specs.List.{list_all}
-use Rattle.std.specs.Str.{chars}
-use Rattle.std.proofs.lemmas.Result.{on_ok_weaker}
+use Rattle.rl_tokens.proofs.Common.{ap, chars, list_all, on_ok_weaker, sym, ◌∙◌, ◌≡◌}
 use Rattle.rl_tokens.specs.declared.kind.Kind.TheVariants.{Str}
 use Rattle.rl_lines.specs.Bare.{is_bare}
 use Rattle.rl_lines.specs.Lines.{kind_label}

@@ -1,6 +1,4 @@
-use Rattle.std.proofs.Common.{◌≡◌, [], ap, ◌∙◌, string_bytes}
-use Rattle.std.specs.Str.{chars}
-use Rattle.std.proofs.lemmas.Str.{chars-nil}
+use Rattle.rl_tokens.proofs.Common.{[], ap, chars, chars-nil, string_bytes, ◌∙◌, ◌≡◌}
 use Rattle.rl_lines.specs.Lines.{IsLineOfLit}
 use Rattle.rl_lines.proofs.JoinLemmas.{appends_to_none}
 use Rattle.rl_lines.proofs.print.line_of.Goals as goal

@@ -1,6 +1,4 @@
-use Rattle.std.proofs.Common.{◌≡◌, [], refl, ap, ◌∙◌}
-use Rattle.std.specs.Str.{chars}
-use Rattle.std.proofs.lemmas.Result.{on_ok_weaker}
+use Rattle.rl_tokens.proofs.Common.{[], ap, chars, on_ok_weaker, refl, ◌∙◌, ◌≡◌}
 use Rattle.rl_tokens.specs.declared.kind.Kind.TheVariants.{Int, Bool}
 use Rattle.rl_tokens.specs.Reading.{Digits, Truth, truth_text}
 use Rattle.rl_lines.specs.Lines.{literal_line}

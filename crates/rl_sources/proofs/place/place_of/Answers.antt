@@ -1,5 +1,4 @@
-use Rattle.std.proofs.Common.{arith}
-use Rattle.std.specs.Str.{chars}
+use Rattle.rl_tokens.proofs.Common.{arith, chars}
 use Rattle.rl_tokens.proofs.ErrorKinds.{char_len}
 use Rattle.rl_sources.proofs.place.place_of.Goals as goal
 

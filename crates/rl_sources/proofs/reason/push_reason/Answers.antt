@@ -1,8 +1,5 @@
-use Rattle.std.proofs.Common.{sym, ◌∙◌, string_bytes}
-use Rattle.std.specs.Str.{chars}
+use Rattle.rl_tokens.proofs.Common.{IsUtf8-string_bytes, chars, on_ok_weaker, string_bytes, sym, ◌∙◌}
 use Rattle.std.proofs.lemmas.Bool.{false≢true}
-use Rattle.std.proofs.lemmas.Result.{on_ok_weaker}
-use Rattle.std.proofs.lemmas.Str.{IsUtf8-string_bytes}
 use Rattle.rl_sources.proofs.ReasonLemmas.{explains_why, explains_nothing}
 use Rattle.rl_sources.proofs.reason.push_reason.Goals as goal
 

@@ -1,6 +1,4 @@
-use Rattle.std.proofs.Common.{◌∙◌, ap, sym, subst, refl, inl, inr, arith, ℕ, List, string_bytes}
-use Rattle.std.specs.Str.{chars}
-use Rattle.std.proofs.lemmas.Str.{chars-nil}
+use Rattle.rl_tokens.proofs.Common.{List, ap, arith, chars, chars-nil, inl, inr, refl, string_bytes, subst, sym, ℕ, ◌∙◌}
 use Rattle.rl_tokens.specs.Cursors.{IsCursorState}
 use Rattle.rl_sources.specs.Steps.{Adds}
 use Rattle.rl_sources.proofs.ScanLemmas.{adds_literal, adds_none, adds_unshown, begins_rest, rest_boundary, rest_is,

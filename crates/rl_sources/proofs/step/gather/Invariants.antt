@@ -1,5 +1,4 @@
-use Rattle.std.proofs.Common.{◌≡◌, ◌<◌, ◌≤◌, ◌⊎◌, length, string_bytes, []}
-use Rattle.std.specs.Str.{chars}
+use Rattle.rl_tokens.proofs.Common.{[], chars, length, string_bytes, ◌<◌, ◌≡◌, ◌≤◌, ◌⊎◌}
 use Rattle.rl_sources.specs.Steps.{IsCursorOver, Adds}
 use Rattle.rl_sources.proofs.step.gather.Given as goal
 

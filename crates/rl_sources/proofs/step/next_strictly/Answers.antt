@@ -1,5 +1,4 @@
-use Rattle.std.proofs.Common.{arith}
-use Rattle.std.proofs.lemmas.Bool.{both_ways}
+use Rattle.rl_tokens.proofs.Common.{arith, both_ways}
 use Rattle.rl_sources.proofs.ScanLemmas.{unshown_more}
 use Rattle.rl_sources.proofs.step.next_strictly.Goals as goal
 

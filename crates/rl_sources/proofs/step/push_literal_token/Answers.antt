@@ -1,7 +1,5 @@
-use Rattle.std.proofs.Common.{refl, string_bytes}
-use Rattle.std.specs.Str.{chars}
+use Rattle.rl_tokens.proofs.Common.{chars, on_ok_weaker, refl, string_bytes}
 use Rattle.std.proofs.lemmas.Bool.{false≢true}
-use Rattle.std.proofs.lemmas.Result.{on_ok_weaker}
 use Rattle.rl_sources.proofs.StepLemmas.{found_label, explained, not_picked}
 use Rattle.rl_sources.proofs.step.push_literal_token.Goals as goal
 

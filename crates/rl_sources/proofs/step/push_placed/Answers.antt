@@ -1,7 +1,4 @@
-use Rattle.std.proofs.Common.{◌++◌, string_bytes, ap, ◌∙◌}
-use Rattle.std.specs.Str.{chars}
-use Rattle.std.proofs.lemmas.Result.{on_ok_weaker}
-use Rattle.std.proofs.lemmas.Str.{IsUtf8-string_bytes}
+use Rattle.rl_tokens.proofs.Common.{IsUtf8-string_bytes, ap, chars, on_ok_weaker, string_bytes, ◌++◌, ◌∙◌}
 use Rattle.rl_sources.proofs.StepLemmas.{placed}
 use Rattle.rl_sources.proofs.step.push_placed.Goals as goal
 

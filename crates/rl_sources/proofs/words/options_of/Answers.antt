@@ -1,5 +1,4 @@
-use Rattle.std.proofs.Common.{string_bytes}
-use Rattle.std.specs.Prelude.{map, false}
+use Rattle.rl_tokens.proofs.Common.{false, map, string_bytes}
 use Rattle.rl_tokens.proofs.TailLemmas.{if_none}
 use Rattle.rl_sources.specs.Words.{wishes_of, first_wishes, Asks}
 use Rattle.rl_sources.proofs.OptionLemmas.{word_taken, word_refused}

@@ -1,5 +1,4 @@
-use Rattle.std.proofs.Common.{◌≡◌, ◌+◌, ◌∷◌, [], ◌++◌, take, arith}
-use Rattle.std.proofs.lemmas.Grind.{common_steps}
+use Rattle.rl_tokens.proofs.Common.{[], arith, common_steps, take, ◌++◌, ◌+◌, ◌∷◌, ◌≡◌}
 use Rattle.rust_literals.specs.LitParts.{lit_span}
 use Rattle.rl_uses.proofs.LintLemmas.{faults_same, faults_more}
 use Rattle.rl_uses.proofs.ShortageLemmas.{short_at}

@@ -1,6 +1,4 @@
-use Rattle.std.proofs.Common.{rules, ◌≡◌, ◌+◌, ◌∷◌, [], ◌++◌, take, arith}
-use Rattle.std.proofs.lemmas.Grind.{common_steps}
-use Rattle.std.specs.Str.{chars}
+use Rattle.rl_tokens.proofs.Common.{[], arith, chars, common_steps, rules, take, ◌++◌, ◌+◌, ◌∷◌, ◌≡◌}
 use Rattle.rl_tokens.specs.Reading.{HasReading}
 use Rattle.rust_literals.specs.Literals.{token_of}
 use Rattle.rl_uses.specs.Reasons.{IsReasonOf}

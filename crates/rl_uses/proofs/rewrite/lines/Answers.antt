@@ -1,5 +1,4 @@
-use Rattle.std.proofs.Common.{◌≡◌, ◌+◌, ◌∷◌, [], ◌++◌, take, string_bytes, arith}
-use Rattle.std.proofs.lemmas.Grind.{common_steps}
+use Rattle.rl_tokens.proofs.Common.{[], arith, common_steps, string_bytes, take, ◌++◌, ◌+◌, ◌∷◌, ◌≡◌}
 use Rattle.rl_uses.proofs.RewriteLemmas.{lines_more}
 use Rattle.rl_uses.proofs.ShortageLemmas.{short_at}
 use Rattle.rl_uses.proofs.rewrite.lines.Goals as goal

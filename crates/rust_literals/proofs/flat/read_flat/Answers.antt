@@ -1,6 +1,4 @@
-use Rattle.std.proofs.Common.{sym, ◌∙◌, ap}
-use Rattle.std.specs.Str.{chars}
-use Rattle.std.proofs.lemmas.Str.{chars-nil}
+use Rattle.rl_tokens.proofs.Common.{ap, chars, chars-nil, sym, ◌∙◌}
 use Rattle.rust_literals.proofs.FlatLemmas.{read_start, empty_text, read_more, read_whole}
 use Rattle.rust_literals.proofs.flat.read_flat.Goals as goal
 

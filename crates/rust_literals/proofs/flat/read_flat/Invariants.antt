@@ -1,5 +1,4 @@
-use Rattle.std.proofs.Common.{◌≡◌, length}
-use Rattle.std.specs.Str.{chars}
+use Rattle.rl_tokens.proofs.Common.{chars, length, ◌≡◌}
 use Rattle.rust_literals.specs.Flat.{AreReadUpTo}
 use Rattle.rust_literals.proofs.flat.read_flat.Given as goal
 

@@ -1,5 +1,4 @@
-use Rattle.std.proofs.lemmas.Grind.{common_steps}
-use Rattle.std.proofs.Common.{subst, arith}
+use Rattle.rl_tokens.proofs.Common.{arith, common_steps, subst}
 use Rattle.rl_grammar.specs.NextLiterals.{HasNoNextLiteral}
 use Rattle.rust_literals.proofs.FlatLemmas.{no_some}
 use Rattle.rust_literals.proofs.flat.read_next.Goals as goal

@@ -1,5 +1,4 @@
-use Rattle.std.proofs.Common.{rules, [], length, Ok}
-use Rattle.std.specs.Str.{chars}
+use Rattle.rl_tokens.proofs.Common.{Ok, [], chars, length, rules}
 use Rattle.rust_literals.proofs.ReadLemmas.{text_exactly}
 use Rattle.rust_literals.proofs.PrintedLemmas.{printed_read}
 use Rattle.rust_literals.proofs.AgainLemmas.{again_read}

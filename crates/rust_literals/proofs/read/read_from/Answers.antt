@@ -1,6 +1,5 @@
+use Rattle.rl_tokens.proofs.Common.{List, ap, chars, inl, length, map, subst, sym, ◌++◌, ◌∙◌, ◌≡◌}
 use Rattle.std.proofs.lemmas.Result.{err_from_is_err_and}
-use Rattle.std.proofs.Common.{◌≡◌, inl, List, ◌++◌, length, map, ◌∙◌, ap, sym, subst}
-use Rattle.std.specs.Str.{chars}
 use Rattle.rl_tokens.specs.Trees.{tree_view, stream_view}
 use Rattle.rl_tokens.specs.Buffers.{trees_in, scope_of}
 use Rattle.rust_literals.specs.declared.lit.Lit.{Lit}

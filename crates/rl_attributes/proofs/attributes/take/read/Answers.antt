@@ -1,6 +1,5 @@
-use Rattle.std.proofs.Common.{length}
-use Rattle.std.specs.Str.{chars}
-use Rattle.std.proofs.lemmas.Result.{IfOk-weaker, IfErr-weaker}
+use Rattle.rl_tokens.proofs.Common.{IfErr-weaker, chars, length}
+use Rattle.std.proofs.lemmas.Result.{IfOk-weaker}
 use Rattle.rl_attributes.proofs.EntryLemmas.{text_refused, exactly}
 use Rattle.rl_attributes.proofs.attributes.take.read.Goals as goal
 

@@ -1,5 +1,4 @@
-use Rattle.std.proofs.Common.{◌≡◌}
-use Rattle.std.specs.Str.{chars}
+use Rattle.rl_tokens.proofs.Common.{chars, ◌≡◌}
 use Rattle.std.proofs.lemmas.Result.{IfOk-at_ok}
 use Rattle.rl_quoted.proofs.PlaceLemmas.{no_zero_of, is_made}
 use Rattle.rl_quoted.proofs.lit_c_str.LitCStr+A.value.Goals as goal

@@ -1,5 +1,4 @@
-use Rattle.std.proofs.lemmas.Grind.{common_steps}
-use Rattle.std.proofs.Common.{rules, arith}
+use Rattle.rl_tokens.proofs.Common.{arith, common_steps, rules}
 use Rattle.rl_quoted.proofs.lit_char.LitChar+A.new.Goals as goal
 
 pub written-requires-clause-written : goal.written-requires-clause-written

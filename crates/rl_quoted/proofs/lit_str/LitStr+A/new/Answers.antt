@@ -1,6 +1,4 @@
-use Rattle.std.proofs.Common.{sym, ◌∙◌}
-use Rattle.std.proofs.lemmas.Str.{encodes-chars}
-use Rattle.std.specs.Str.{chars}
+use Rattle.rl_tokens.proofs.Common.{chars, encodes-chars, sym, ◌∙◌}
 use Rattle.rl_quoted.proofs.lit_str.LitStr+A.new.Goals as goal
 
 pub written-requires-clause-written : goal.written-requires-clause-written

@@ -1,5 +1,4 @@
-use Rattle.std.proofs.Common.{rules}
-use Rattle.std.specs.Str.{IsUtf8}
+use Rattle.rl_tokens.proofs.Common.{IsUtf8, rules}
 use Rattle.rl_grammar.proofs.BodyContents.{plain_contents}
 use Rattle.rl_quoted.proofs.lit_str.LitStr+A.value_ref.Goals as goal
 

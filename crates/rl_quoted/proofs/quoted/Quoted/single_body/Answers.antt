@@ -1,5 +1,4 @@
-use Rattle.std.proofs.Common.{◌≡◌, sym, subst, ◌∙◌, ap, rules}
-use Rattle.std.specs.Str.{chars}
+use Rattle.rl_tokens.proofs.Common.{ap, chars, rules, subst, sym, ◌∙◌, ◌≡◌}
 use Rattle.rl_grammar.specs.Bodies.{HasSingleBody}
 use Rattle.rl_grammar.specs.Founds.{body_in}
 use Rattle.rl_quoted.proofs.PlaceLemmas.{single_body}

@@ -1,5 +1,4 @@
-use Rattle.std.proofs.Common.{arith, ◌≤◌, length}
-use Rattle.std.proofs.lemmas.Bool.Decides.{nat_tests}
+use Rattle.rl_tokens.proofs.Common.{arith, length, nat_tests, ◌≤◌}
 use Rattle.rl_sources.proofs.ReasonLemmas.{places_on}
 use Rattle.rl_sources.proofs.place.Places.at.Goals as goal
 

@@ -1,5 +1,4 @@
-use Rattle.std.proofs.Common.{subst}
-use Rattle.std.specs.Prelude.{codes}
+use Rattle.rl_tokens.proofs.Common.{codes, subst}
 use Rattle.rl_tokens.specs.declared.kind.Kind.TheVariants.{Bool as BoolKind}
 use Rattle.rl_tokens.specs.Buffers.{trees_in, scope_of, IsRest}
 use Rattle.rl_grammar.specs.FrontTokens.{front_token}
