@@ -1,11 +1,10 @@
 -- Trees that are literals, one after another, are cut from the tokens of a list.
+use Rattle.rl_grammar.proofs.Names.{HasReading, ReadsAs, SpannedText}
 use Rattle.rl_tokens.proofs.Common.{Bool, List, [], ap, arith, chars, false, if◌then◌else◌, inl, inr, map, refl, subst,
     sym, true, ℕ, ◌++◌, ◌∙◌, ◌∷◌, ◌≡◌, ◌≤◌, ◌⊎◌}
 use Rattle.rl_tokens.specs.declared.kind.Kind.TheVariants.{Bool as BoolKind}
 use Rattle.rl_tokens.specs.declared.span.Span.{Span}
-use Rattle.rl_tokens.specs.Texts.{SpannedText}
 use Rattle.rl_tokens.specs.Puncts.{Mark}
-use Rattle.rl_tokens.specs.Reading.{HasReading, ReadsAs}
 use Rattle.rl_tokens.specs.Lexemes.{LexemeForm, LiteralForm, IdentifierForm, DelimiterForm, MarkForm, lexeme_text,
     form_of}
 use Rattle.rl_tokens.specs.Lexing.{LexedToken, end_of, LexesUpTo, flat_form, flat_token, is_opener, delimiter_for}

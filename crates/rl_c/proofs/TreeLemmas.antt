@@ -1,12 +1,11 @@
 -- The trees of a list are its literals.
+use Rattle.rl_grammar.proofs.Names.{HasReading, SpannedText, byte_len}
 use Rattle.rl_tokens.proofs.Common.{List, Some, [], ap, arith, chars, encode_utf8_all, if◌then◌else◌, inl, inr, map,
     nat_tests, option_and_then, refl, subst, sym, true, ℕ, ◌++◌, ◌==◌, ◌∙◌, ◌∷◌, ◌≡◌, ◌≤◌}
 use Rattle.std.specs.Prelude.{min, max}
 use Rattle.rl_tokens.specs.declared.span.Span.{Span}
-use Rattle.rl_tokens.specs.Texts.{SpannedText, byte_len}
 use Rattle.rl_tokens.specs.Puncts.{Mark}
 use Rattle.rl_tokens.specs.Skipping.{Skipped}
-use Rattle.rl_tokens.specs.Reading.{HasReading}
 use Rattle.rl_tokens.specs.Lexemes.{LexemeForm, LiteralForm, IdentifierForm, DelimiterForm, MarkForm, lexeme_text,
     form_of}
 use Rattle.rl_tokens.specs.Lexing.{LexedToken, end_of, LexesUpTo, after_form, open_groups, flat_form, flat_token}

@@ -127,7 +127,9 @@ plain_bytes t CookedForm kind w body y h u p =
 
 pub not_raw : (form : QuotedForm) (kind : Kind) (body : List ℕ) → is_plain_body form kind body ≡ false → form ≡ RawForm
     → ⊥
-not_raw other kind body h e = absurd (cc)
+not_raw RawForm kind body h e = absurd (cc)
+not_raw CookedForm kind body h e = absurd (cc)
+not_raw SingleForm kind body h e = absurd (cc)
 
 -- a cooked string holds what its body decodes to
 pub cooked_bytes : (t : List ℕ) (form : QuotedForm) (kind : Kind) (w body y bytes : List ℕ) → (form ≡ RawForm → ⊥)

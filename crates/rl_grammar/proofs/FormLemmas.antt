@@ -87,7 +87,9 @@ front_complete RawForm ByteStr r h = refl
 front_complete RawForm CStr r h = refl
 front_complete SingleForm Byte r h = refl
 front_complete SingleForm Char r h = refl
-front_complete other kind r h = absurd (cc)
+front_complete CookedForm kind r h = absurd (cc)
+front_complete RawForm kind r h = absurd (cc)
+front_complete SingleForm kind r h = absurd (cc)
 
 -- ---- cooked strings
 
@@ -298,7 +300,14 @@ parts_at_front t form kind inside v b x h p = subst (λ z. PartsAre form kind z 
 -- ---- where the kind is that of a character or a byte
 
 pub not_both : (kind : Kind) → is_string kind ≡ true → is_single kind ≡ true → ⊥
-not_both kind s h = absurd (cc)
+not_both Str s h = absurd (cc)
+not_both ByteStr s h = absurd (cc)
+not_both CStr s h = absurd (cc)
+not_both Byte s h = absurd (cc)
+not_both Char s h = absurd (cc)
+not_both Int s h = absurd (cc)
+not_both Float s h = absurd (cc)
+not_both BoolKind s h = absurd (cc)
 
 -- no reading of a string is of the single form
 pub string_parts : (form : QuotedForm) (kind : Kind) (t v b x : List ℕ) → is_string kind ≡ true → (form ≡ RawForm → ⊥)

@@ -28,7 +28,10 @@ one_front (LiteralTree x ∷ trees) a b r s (e, f) (g, h) = (e ∙ sym g, f ∙ 
 one_front (IdentTree x ∷ trees) a b r s (_, e, f) (_, g, h) = (e ∙ sym g, f ∙ sym h)
 one_front (PunctTree p ∷ []) a b r s h k = absurd h
 one_front (PunctTree p ∷ LiteralTree x ∷ trees) a b r s (_, _, e, f) (_, _, g, h) = (e ∙ sym g, f ∙ sym h)
-one_front kind a b r s h k = absurd h
+one_front (PunctTree p ∷ IdentTree x ∷ trees) a b r s h k = absurd h
+one_front (PunctTree p ∷ PunctTree x ∷ trees) a b r s h k = absurd h
+one_front (PunctTree p ∷ GroupTree d inside at ∷ trees) a b r s h k = absurd h
+one_front (GroupTree d inside at ∷ trees) a b r s h k = absurd h
 
 -- after a literal the rest stands
 pub front_rest : (trees rest : List Tree) (token : SpannedText) → IsFront trees token rest → IsRest trees rest
@@ -38,7 +41,10 @@ front_rest (IdentTree x ∷ trees) rest token (_, _, f) = rest_one _ _ _ (ap (λ
 front_rest (PunctTree p ∷ []) rest token h = absurd h
 front_rest (PunctTree p ∷ LiteralTree x ∷ trees) rest token (_, _, _, f) = rest_two _ _ _ _
     (ap (λ ts. PunctTree p ∷ (LiteralTree x ∷ ts)) (sym f))
-front_rest kind rest token h = absurd h
+front_rest (PunctTree p ∷ IdentTree x ∷ trees) rest token h = absurd h
+front_rest (PunctTree p ∷ PunctTree x ∷ trees) rest token h = absurd h
+front_rest (PunctTree p ∷ GroupTree d inside at ∷ trees) rest token h = absurd h
+front_rest (GroupTree d inside at ∷ trees) rest token h = absurd h
 
 -- and is shorter
 pub front_shorter : (trees : List Tree) (token : SpannedText) (rest : List Tree) → IsFront trees token rest
@@ -48,7 +54,10 @@ front_shorter (LiteralTree x ∷ trees) token rest (e, f) = omega (arith, ap len
 front_shorter (IdentTree x ∷ trees) token rest (_, e, f) = omega (arith, ap length f)
 front_shorter (PunctTree p ∷ []) token rest h = absurd h
 front_shorter (PunctTree p ∷ LiteralTree x ∷ trees) token rest (_, _, e, f) = omega (arith, ap length f)
-front_shorter kind token rest h = absurd h
+front_shorter (PunctTree p ∷ IdentTree x ∷ trees) token rest h = absurd h
+front_shorter (PunctTree p ∷ PunctTree x ∷ trees) token rest h = absurd h
+front_shorter (PunctTree p ∷ GroupTree d inside at ∷ trees) token rest h = absurd h
+front_shorter (GroupTree d inside at ∷ trees) token rest h = absurd h
 
 -- a literal at the front that reads as the kind is one of it
 pub front_of : (kind : Kind) (trees : List Tree) (token : SpannedText) (rest : List Tree) → IsFront trees token rest

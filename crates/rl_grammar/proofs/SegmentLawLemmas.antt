@@ -132,7 +132,11 @@ pub record IsPlacing (inside : QuotedUnit → ℕ → ℕ) : Type 0 where
 itself_within : (kind : Kind) (u : QuotedUnit) (at d : ℕ) → at < length (unit_bytes kind u) → d ≤ 1 → is_itself u ≡ true
     → at + d ≤ byte_len (unit_text u)
 itself_within kind (Plain c) at d small one is = omega (arith, small, one, ap length (held_in_bytes kind (c ∷ [])))
-itself_within kind other at d small one is = absurd (cc)
+itself_within kind CrLf at d small one is = absurd (cc)
+itself_within kind (Named l) at d small one is = absurd (cc)
+itself_within kind (Hex high low) at d small one is = absurd (cc)
+itself_within kind (Unicode first more) at d small one is = absurd (cc)
+itself_within kind (Continuation c run) at d small one is = absurd (cc)
 
 -- by whether a unit stands for itself
 chosen : (P : ℕ → Type 0) (b : Bool) (x y : ℕ) → (b ≡ true → P x) → P y → P (cond b x y)
@@ -213,7 +217,12 @@ step_same n m i j k l f g at a b c d =
         ∙ ap (λ z. cond (ltb at m) j (l + z)) (d (at - m))
 
 some_text : (u : QuotedUnit) (t : List ℕ) → [] ≡ unit_text u ++ t → ⊥
-some_text kind t e = absurd (cc)
+some_text (Plain c) t e = absurd (cc)
+some_text CrLf t e = absurd (cc)
+some_text (Named l) t e = absurd (cc)
+some_text (Hex high low) t e = absurd (cc)
+some_text (Unicode first more) t e = absurd (cc)
+some_text (Continuation c run) t e = absurd (cc)
 
 rows_place : (inside : QuotedUnit → ℕ → ℕ) → IsPlacing inside → (kind : Kind) (us ws : List QuotedUnit) (t : List ℕ)
     → IsUnitRow kind t us → IsUnitRow kind t ws → (at : ℕ) → unit_place inside kind us at ≡ unit_place inside kind ws at

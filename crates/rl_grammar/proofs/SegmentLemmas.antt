@@ -364,7 +364,9 @@ text_long kind v run units s e = go v e s
     go (Text r) e s =
         ap length s.bytes_are ∙ ap (λ z. length (units_bytes kind z)) s.are ∙ ap length (run_bytes kind (chars r.now))
             ∙ ap byte_len (sym (run_texts (chars r.now)) ∙ ap texts (sym s.are))
-    go kind e s = absurd (cc)
+    go (Char c) e s = absurd (cc)
+    go (Byte b) e s = absurd (cc)
+    go Nothing e s = absurd (cc)
 
 -- a byte's place is within its segment
 pub place_below : (kind : Kind) (s : Segment) (units : List QuotedUnit) (i : ℕ) → IsSegmentOf kind s.value units → s.hi

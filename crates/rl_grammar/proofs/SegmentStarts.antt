@@ -54,7 +54,12 @@ cooked_units kind t v body x units lo p row at =
     )
 
 pub no_text : (u : QuotedUnit) → unit_text u ≡ [] → ⊥
-no_text kind e = absurd (cc)
+no_text (Plain c) e = absurd (cc)
+no_text CrLf e = absurd (cc)
+no_text (Named l) e = absurd (cc)
+no_text (Hex high low) e = absurd (cc)
+no_text (Unicode first more) e = absurd (cc)
+no_text (Continuation c run) e = absurd (cc)
 
 append_nothing : (a b : List ℕ) → a ++ b ≡ [] → a ≡ []
 append_nothing [] b e = refl

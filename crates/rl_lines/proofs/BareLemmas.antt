@@ -1,4 +1,5 @@
 -- Texts that a string literal holds as they stand.
+use Rattle.rl_grammar.proofs.Names.{Characters, Plain, Str, texts}
 use Rattle.rl_tokens.proofs.Common.{Bool, IsAscii, List, [], ap, append_assoc, arith, chars, chars-IsAscii, chars-nil,
     codes, eqb, eqb-true, false, if◌then◌else◌, length, list_all, map, nat_lt, nat_tests, not, refl, sym, true, ℕ, ◌&&◌,
     ◌++◌, ◌<◌, ◌==◌, ◌∙◌, ◌∷◌, ◌≡◌}
@@ -6,9 +7,6 @@ use Rattle.std.specs.List.{All}
 use Rattle.std.proofs.lemmas.Bool.{false≢true}
 use Rattle.std.proofs.lemmas.List.Elements.{All-nil, All-cons}
 use Rattle.std.proofs.lemmas.Str.Ascii.{IsAscii-from_all}
-use Rattle.rl_tokens.specs.declared.kind.Kind.TheVariants.{Str}
-use Rattle.rl_tokens.specs.Quoted.{Plain, texts}
-use Rattle.rl_tokens.specs.Reading.{Characters}
 use Rattle.rl_tokens.specs.Written.{written_unit, is_written_as_number}
 use Rattle.rl_lines.specs.Bare.{is_bare}
 use Rattle.rl_lines.specs.Lines.{literal_line}

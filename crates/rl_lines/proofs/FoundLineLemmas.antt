@@ -1,12 +1,10 @@
 -- What is shown of a text that was found to be a literal.
+use Rattle.rl_grammar.proofs.Names.{Byte, ByteStr, CStr, Char, Characters, Contents, Float, HasContents, HasSuffix, Int,
+    Kind, ReadsAs, SpannedText, Str, is_single, quoted_contents}
 use Rattle.std.proofs.Common.{◌≡◌, ℕ, List, [], ◌∷◌, ◌++◌, Result, IfOk, true, refl, sym, ap, subst, ◌∙◌, inl}
 use Rattle.std.proofs.lemmas.Result.{IfOk-weaker}
 use Rattle.std.specs.Str.{chars}
-use Rattle.rl_tokens.specs.declared.kind.Kind.{Kind}
-use Rattle.rl_tokens.specs.declared.kind.Kind.TheVariants.{Str, ByteStr, CStr, Byte, Char, Int, Float, Bool}
-use Rattle.rl_tokens.specs.Texts.{SpannedText}
-use Rattle.rl_tokens.specs.Quoted.{is_single}
-use Rattle.rl_tokens.specs.Reading.{Contents, Characters, ReadsAs, HasContents, HasSuffix, quoted_contents}
+use Rattle.rl_tokens.specs.declared.kind.Kind.TheVariants.{Bool}
 use Rattle.rl_tokens.specs.Written.{written_text, IsWrittenForm}
 use Rattle.rl_grammar.specs.declared.found.Found.{Found}
 use Rattle.rl_grammar.specs.Founds.{IsFound}

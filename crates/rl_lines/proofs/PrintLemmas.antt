@@ -1,9 +1,8 @@
 -- A literal's line, from its contents and its suffix.
+use Rattle.rl_grammar.proofs.Names.{Byte, ByteStr, CStr, Char, Contents, Digits, Float, FloatReads, HasContents,
+    HasSuffix, Int, Kind, Reads, Str, float_digits, truth_text}
 use Rattle.rl_tokens.proofs.Common.{Bool, List, [], ap, chars, codes, false, refl, subst, true, ℕ, ◌++◌, ◌∙◌, ◌≡◌}
-use Rattle.rl_tokens.specs.declared.kind.Kind.{Kind}
-use Rattle.rl_tokens.specs.declared.kind.Kind.TheVariants.{Str, ByteStr, CStr, Byte, Char, Int, Float, Bool as BoolKind}
-use Rattle.rl_tokens.specs.Numbers.{FloatReads, float_digits}
-use Rattle.rl_tokens.specs.Reading.{Contents, Digits, Reads, HasContents, HasSuffix, truth_text}
+use Rattle.rl_tokens.specs.declared.kind.Kind.TheVariants.{Bool as BoolKind}
 use Rattle.rl_tokens.proofs.OneReading.{one_reading}
 use Rattle.rl_tokens.proofs.OneNumber.{float_once}
 use Rattle.rl_lines.specs.Lines.{line, kind_label, payload, literal_line, IsLineOfKind, IsLineOfFloat, Appends}

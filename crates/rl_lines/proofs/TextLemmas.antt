@@ -1,10 +1,8 @@
 -- A whole text's line.
+use Rattle.rl_grammar.proofs.Names.{Byte, ByteStr, CStr, Char, Digits, Float, Int, Kind, Reads, ReadsAs, SpannedText,
+    Str, Truth, float_digits, truth_text}
 use Rattle.rl_tokens.proofs.Common.{List, [], ap, chars, inl, inr, subst, sym, ℕ, ◌∙◌, ◌≡◌}
-use Rattle.rl_tokens.specs.Texts.{SpannedText}
-use Rattle.rl_tokens.specs.declared.kind.Kind.{Kind}
-use Rattle.rl_tokens.specs.declared.kind.Kind.TheVariants.{Str, ByteStr, CStr, Byte, Char, Int, Float, Bool}
-use Rattle.rl_tokens.specs.Numbers.{float_digits}
-use Rattle.rl_tokens.specs.Reading.{Digits, Truth, Reads, ReadsAs, truth_text}
+use Rattle.rl_tokens.specs.declared.kind.Kind.TheVariants.{Bool}
 use Rattle.rl_tokens.proofs.OneNumber.{float_once}
 use Rattle.rust_literals.specs.declared.lit.Lit.{Lit}
 use Rattle.rust_literals.specs.declared.lit.Lit.TheVariants.{Str as StrLit, ByteStr as ByteStrLit, CStr as CStrLit, Byte

@@ -1,13 +1,10 @@
 -- The places of parts, as reading finds them, and what stands there.
+use Rattle.rl_grammar.proofs.Names.{ByteStr, Bytes, CStr, HasContents, Kind, ReadsAs, is_single, is_string}
 use Rattle.rl_tokens.proofs.Common.{Bool, Err, IsUtf8, List, Ok, Result, Some, chars, or_left, or_right, refl, subst,
     sym, true, ℕ, ◌∙◌, ◌≡◌, ◌⊎◌}
 use Rattle.std.specs.Prelude.{IfErr, position}
 use Rattle.std.specs.Result.{IsOk}
-use Rattle.rl_tokens.specs.declared.kind.Kind.{Kind}
-use Rattle.rl_tokens.specs.declared.kind.Kind.TheVariants.{ByteStr, CStr}
 use Rattle.rl_tokens.specs.CStrings.{has_no_zero, is_zero}
-use Rattle.rl_tokens.specs.Quoted.{is_string, is_single}
-use Rattle.rl_tokens.specs.Reading.{Bytes, ReadsAs, HasContents}
 use Rattle.rl_tokens.proofs.OneReading.{one_reading}
 use Rattle.rl_tokens.proofs.CStringLemmas.{zero_is_found}
 use Rattle.rl_tokens.proofs.CStringContents.{c_string_no_zero}

@@ -1,12 +1,10 @@
 -- Places in the file of what a literal stands for.
+use Rattle.rl_grammar.proofs.Names.{Kind, SpannedText, Str}
 use Rattle.rl_tokens.proofs.Common.{Bool, IsUtf8, List, [], ap, arith, chars, cond, encodes-chars, false, get_or,
     length, ltb, ltb-false, ltb-true, map, refl, subst, sym, true, ℕ, ◌+◌, ◌-◌, ◌∙◌, ◌∷◌, ◌≡◌, ◌≤◌}
 use Rattle.std.proofs.Common.{min}
-use Rattle.rl_tokens.specs.declared.kind.Kind.{Kind}
-use Rattle.rl_tokens.specs.declared.kind.Kind.TheVariants.{Str}
 use Rattle.rl_tokens.specs.declared.span.Span.{Span}
 use Rattle.rl_tokens.specs.Errors.{nowhere}
-use Rattle.rl_tokens.specs.Texts.{SpannedText}
 use Rattle.rl_tokens.specs.Trees.{Tree, Trees, GroupTree, IdentTree, PunctTree, LiteralTree, NoTrees, MoreTrees,
     all_relocated, all_respanned, entry_at, looked_up, relocated, respanned}
 use Rattle.rl_grammar.specs.Segments.{IsByteEnd, IsBytePlace, IsSegmentsOf, IsSpanTable, SegmentsState, begins_in,

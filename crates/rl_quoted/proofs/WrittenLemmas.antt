@@ -1,4 +1,6 @@
 -- Where the parts stand of a literal that the writer wrote.
+use Rattle.rl_grammar.proofs.Names.{Byte, ByteStr, CStr, Char, Contents, Cooked, Float, Int, Kind, Reads, ReadsQuoted,
+    Single, Str, is_single, is_string, opener, quoted_contents, texts, unit_text}
 use Rattle.rl_tokens.proofs.Common.{Bool, IsCharBoundary, IsTrue, IsUtf8, List, [], ap, append_assoc, arith, both_ways,
     chars, chars-nil, drop, encodes-append, encodes-chars, false, inl, inr, length, length-append, length-encode, refl,
     subst, sym, take, take-append_seam, true, ℕ, ◌++◌, ◌+◌, ◌-◌, ◌<◌, ◌∙◌, ◌∷◌, ◌≡◌, ◌≤◌}
@@ -7,10 +9,7 @@ use Rattle.std.proofs.Math.Utf8.{scalars}
 use Rattle.std.specs.Prelude.{◌↔◌, encode_utf8_all}
 use Rattle.std.proofs.lemmas.Str.{IsCharBoundary-at_seam, IsCharBoundary-end, IsUtf8-append, chars-encodes,
     scalars-chars, len_utf8_ascii}
-use Rattle.rl_tokens.specs.declared.kind.Kind.{Kind}
-use Rattle.rl_tokens.specs.declared.kind.Kind.TheVariants.{Str, ByteStr, CStr, Byte, Char, Int, Float, Bool as BoolKind}
-use Rattle.rl_tokens.specs.Quoted.{Cooked, Single, is_string, is_single, opener, texts, unit_text}
-use Rattle.rl_tokens.specs.Reading.{Contents, Reads, ReadsQuoted, quoted_contents}
+use Rattle.rl_tokens.specs.declared.kind.Kind.TheVariants.{Bool as BoolKind}
 use Rattle.rl_tokens.specs.Written.{IsWrittenForm}
 use Rattle.rl_tokens.proofs.CutTrees.{scalars_parts}
 use Rattle.rl_grammar.specs.declared.found.Body.{Body}

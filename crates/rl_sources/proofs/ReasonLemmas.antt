@@ -1,4 +1,5 @@
 -- The place of a flaw in the source, and its line.
+use Rattle.rl_grammar.proofs.Names.{HasReading, IsTail, byte_len}
 use Rattle.rl_tokens.proofs.Common.{IsAscii, IsCharBoundary, IsTrue, IsUtf8, List, [], and_parts, ap, append_assoc,
     arith, chars, chars-IsAscii, codes, drop, encode_utf8, encodes-append, encodes-chars, inl, inr, is_ascii, length,
     length-append, list_all, ltb-true, refl, subst, sym, true, ℕ, ◌++◌, ◌+◌, ◌∙◌, ◌∷◌, ◌≡◌, ◌≤◌}
@@ -7,8 +8,6 @@ use Rattle.std.proofs.Math.Seq.{drop-append_seam}
 use Rattle.std.proofs.lemmas.List.{append-nil}
 use Rattle.std.proofs.lemmas.Str.{IsUtf8-past_char, IsCharBoundary-from_drop, IsAscii-append}
 use Rattle.std.proofs.lemmas.Str.Ascii.{IsAscii-nil, IsAscii-cons}
-use Rattle.rl_tokens.specs.Reading.{HasReading}
-use Rattle.rl_tokens.specs.Texts.{IsTail, byte_len}
 use Rattle.rl_tokens.specs.Cursors.{CursorState, IsCursorState}
 use Rattle.rl_tokens.specs.declared.sources.SourceToken.{SourceToken}
 use Rattle.rl_tokens.proofs.TailLemmas.{tail_step}

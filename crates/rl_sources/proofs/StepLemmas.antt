@@ -1,4 +1,5 @@
 -- What is appended for one token.
+use Rattle.rl_grammar.proofs.Names.{HasNoReading, Kind}
 use Rattle.rl_tokens.proofs.Common.{Bool, IsAscii, IsUtf8, List, None, Option, Some, [], ap, append_assoc, arith, chars,
     chars-IsAscii, cond, false, inl, inr, lit<, nat_tests, refl, subst, suc, sym, true, zero, ℕ, ◌%◌, ◌++◌, ◌/◌, ◌<◌,
     ◌==◌, ◌∙◌, ◌∷◌, ◌≡◌, ◌⊎◌}
@@ -6,9 +7,7 @@ use Rattle.std.specs.Fmt.{digits, decimal, digits_onto, digit_glyph}
 use Rattle.std.proofs.lemmas.List.{append-nil}
 use Rattle.std.proofs.lemmas.Str.{IsAscii-append}
 use Rattle.std.proofs.lemmas.Str.Ascii.{IsAscii-nil, IsAscii-cons}
-use Rattle.rl_tokens.specs.Reading.{HasNoReading}
 use Rattle.std.specs.Prelude.{IfNone, IfSome, MatchOption}
-use Rattle.rl_tokens.specs.declared.kind.Kind.{Kind}
 use Rattle.rl_tokens.specs.Sources.{SourceKind, SourceBefore, BeginsNoSource}
 use Rattle.rl_tokens.specs.Cursors.{CursorState}
 use Rattle.rl_grammar.specs.declared.found.Found.{Found}

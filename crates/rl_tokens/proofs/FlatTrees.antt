@@ -17,7 +17,10 @@ not_end : (t : Tree) (fs xs : List FlatToken) → EndsLevel xs → xs ≡ flat t
 not_end t fs [] ends e = head_some t fs e
   where
     head_some : (t : Tree) (fs : List FlatToken) → [] ≡ flat t ++ fs → ⊥
-    head_some kind fs e = absurd (cc)
+    head_some (GroupTree d inside s) fs e = absurd (cc)
+    head_some (IdentTree i) fs e = absurd (cc)
+    head_some (PunctTree p) fs e = absurd (cc)
+    head_some (LiteralTree l) fs e = absurd (cc)
 not_end (GroupTree d inside s) fs (Closing c k ∷ xs) ends e = absurd (cc)
 not_end (IdentTree i) fs (Closing c k ∷ xs) ends e = absurd (cc)
 not_end (PunctTree p) fs (Closing c k ∷ xs) ends e = absurd (cc)
@@ -99,7 +102,9 @@ flat_same (MoreTrees (PunctTree i) ts) (MoreTrees (GroupTree c other r) us) xs y
 flat_same (MoreTrees (LiteralTree i) ts) (MoreTrees (IdentTree j) us) xs ys p q e = absurd (cc)
 flat_same (MoreTrees (LiteralTree i) ts) (MoreTrees (PunctTree j) us) xs ys p q e = absurd (cc)
 flat_same (MoreTrees (LiteralTree i) ts) (MoreTrees (GroupTree c other r) us) xs ys p q e = absurd (cc)
-flat_same (MoreTrees (GroupTree d inside s) ts) kind xs ys p q e = absurd (cc)
+flat_same (MoreTrees (GroupTree d inside s) ts) (MoreTrees (IdentTree j) us) xs ys p q e = absurd (cc)
+flat_same (MoreTrees (GroupTree d inside s) ts) (MoreTrees (PunctTree j) us) xs ys p q e = absurd (cc)
+flat_same (MoreTrees (GroupTree d inside s) ts) (MoreTrees (LiteralTree j) us) xs ys p q e = absurd (cc)
 
 -- the trees inside a group are determined by them
 inside_same : (xs ys : List Tree) → inside_of xs ≡ inside_of ys → xs ≡ ys

@@ -1,13 +1,12 @@
 -- The texts of literals that were read once read as the same, whatever stands between them.
+use Rattle.rl_grammar.proofs.Names.{HasReading, SpannedText, byte_len}
 use Rattle.rl_tokens.proofs.Common.{AllByRecursion, List, Result, [], ap, chars, drop, encode_utf8_all, refl, subst,
     sym, ℕ, ◌++◌, ◌+◌, ◌∙◌, ◌∷◌, ◌≡◌, ◌≢◌}
 use Rattle.std.specs.Prelude.{Vec}
 use Rattle.std.proofs.lemmas.Str.{scalars-chars}
 use Rattle.rl_tokens.specs.declared.error.Error.{Error}
-use Rattle.rl_tokens.specs.Texts.{SpannedText, byte_len}
 use Rattle.rl_tokens.specs.Trivia.{IsTrivia}
 use Rattle.rl_tokens.specs.Trees.{Tree, GroupTree, IdentTree, PunctTree, LiteralTree}
-use Rattle.rl_tokens.specs.Reading.{HasReading}
 use Rattle.rl_grammar.specs.Fronts.{IsFront}
 use Rattle.rl_tokens.specs.Printed.{Item, WordItem, LiteralItem, MinusItem, item_text, Entry, printed_text, token_at}
 use Rattle.rl_tokens.specs.PrintedTrees.{printed_trees, IsLexedItem, Reprinted}

@@ -1,4 +1,5 @@
 -- A literal more of a text without groups, and all of them.
+use Rattle.rl_grammar.proofs.Names.{HasNoReading, HasNoTruth, HasReading, SpannedText, truth_text}
 use Rattle.rl_tokens.proofs.Common.{AllByRecursion, Bool, List, None, Option, Some, [], ap, append_assoc, arith, chars,
     if◌then◌else◌, inr, length, map-append, nat_tests, refl, subst, sym, true, ℕ, ◌++◌, ◌==◌, ◌∙◌, ◌∷◌, ◌≡◌, ◌≢◌, ◌⊎◌}
 use Rattle.std.proofs.lemmas.List.{nil_from_length}
@@ -7,9 +8,7 @@ use Rattle.rl_tokens.specs.declared.span.Span.{Span}
 use Rattle.rl_tokens.specs.declared.cursor.Lexeme.{Lexeme as Lent}
 use Rattle.rl_tokens.specs.Lexemes.{LexemeForm, LiteralForm, IdentifierForm, MarkForm}
 use Rattle.rl_tokens.specs.Cursors.{form_view, CursorState, TakesNext}
-use Rattle.rl_tokens.specs.Texts.{SpannedText}
 use Rattle.rl_tokens.specs.Puncts.{Mark}
-use Rattle.rl_tokens.specs.Reading.{truth_text, HasReading, HasNoReading, HasNoTruth}
 use Rattle.rl_tokens.specs.Trees.{Tree, IdentTree, PunctTree, LiteralTree, flat_trees}
 use Rattle.rl_tokens.specs.Skipping.{Skipped}
 use Rattle.rl_tokens.specs.Lexing.{LexesUpTo, after_form, flat_form, flat_token}

@@ -1,18 +1,16 @@
 -- What a number struct holds.
+use Rattle.rl_grammar.proofs.Names.{Byte, ByteStr, CStr, Char, Float, HasSuffix, Int, Kind, Reads, SpannedText, Str}
 use Rattle.rl_tokens.proofs.Common.{Err, IsUtf8, List, Ok, Result, append_cancel_right, arith, chars, inl, inr, refl,
     subst, sym, take, take-append-drop, true, ℕ, ◌++◌, ◌∙◌, ◌≡◌, ◌≢◌, ◌⊎◌}
 use Rattle.std.specs.Prelude.{IfErr}
-use Rattle.rl_tokens.specs.declared.kind.Kind.{Kind}
-use Rattle.rl_tokens.specs.declared.kind.Kind.TheVariants.{Str, ByteStr, CStr, Byte, Char, Int, Float, Bool}
+use Rattle.rl_tokens.specs.declared.kind.Kind.TheVariants.{Bool}
 use Rattle.rl_tokens.specs.declared.error.ErrorKind.{ErrorKind}
 use Rattle.rl_tokens.specs.declared.error.ErrorKind.TheVariants.{Expected, EndOfInput, Unexpected, Lex, Suffix,
     NotInteger, TooLarge, NotFloat, Repeated, Number, Memory}
 use Rattle.rl_tokens.specs.declared.error.Error.{Error}
 use Rattle.rl_tokens.specs.declared.kept.Kept.{Kept}
 use Rattle.rl_tokens.specs.declared.span.Span.{Span}
-use Rattle.rl_tokens.specs.Texts.{SpannedText}
 use Rattle.rl_tokens.specs.Errors.{memory_at}
-use Rattle.rl_tokens.specs.Reading.{Reads, HasSuffix}
 use Rattle.rl_tokens.proofs.OneNumber.{int_once}
 use Rattle.rl_grammar.specs.declared.found.Found.{Found}
 use Rattle.rl_grammar.specs.Founds.{IsFound, IsFoundFloat, IsFoundNumber, body_in, suffix_in}
@@ -167,6 +165,7 @@ no_number_refused kind text TooLarge none = none
 no_number_refused kind text NotFloat none = none
 no_number_refused kind text Repeated none = none
 no_number_refused kind text (Number w) none = none
+no_number_refused Int text Memory none = absurd none
 no_number_refused kind text Memory none = absurd none
 
 -- where an allocation failed for a number, it is reported as that

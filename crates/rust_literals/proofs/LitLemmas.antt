@@ -1,15 +1,14 @@
 -- Literals by their kind and token.
+use Rattle.rl_grammar.proofs.Names.{HasReading, HasSuffix, Kind, Reads, ReadsAs, SpannedText, Truth, first_passes,
+    truth_text}
 use Rattle.std.proofs.Common.{◌≡◌, ℕ, ◌==◌, Bool as Truths, true, false, List, [], ◌∷◌, Option, Some, None, refl, sym,
     ◌∙◌, ap, subst}
 use Rattle.std.specs.Prelude.{Result, Ok, Err, IfSome, OnOk, OnErr}
 use Rattle.std.proofs.lemmas.Option.{MatchOption-at_some}
 use Rattle.std.specs.Str.{chars}
-use Rattle.rl_tokens.specs.declared.kind.Kind.{Kind}
 use Rattle.rl_tokens.specs.declared.kind.Kind.TheVariants.{Str as StrKind, ByteStr as ByteStrKind, CStr as CStrKind,
     Byte as ByteKind, Char as CharKind, Int as IntKind, Float as FloatKind, Bool as BoolKind}
 use Rattle.rl_tokens.specs.declared.span.Span.{Span}
-use Rattle.rl_tokens.specs.Texts.{SpannedText, first_passes}
-use Rattle.rl_tokens.specs.Reading.{Truth, Reads, ReadsAs, HasSuffix, HasReading, truth_text}
 use Rattle.rl_tokens.proofs.OneReading.{one_reading}
 use Rattle.rl_grammar.specs.declared.found.Found.{Found}
 use Rattle.rl_grammar.specs.Founds.{IsFound, suffix_in}

@@ -1,14 +1,12 @@
 -- A peek is true exactly where the parser succeeds, if memory is found.
+use Rattle.rl_grammar.proofs.Names.{Kind, SpannedText, Truth}
 use Rattle.rl_tokens.proofs.Common.{Err, List, Ok, Result, [], ap, inl, inr, subst, ℕ, ◌∷◌, ◌≡◌}
 use Rattle.rl_tokens.specs.declared.span.Span.{Span}
-use Rattle.rl_tokens.specs.declared.kind.Kind.{Kind}
 use Rattle.rl_tokens.specs.declared.kind.Kind.TheVariants.{Bool as BoolKind}
 use Rattle.rl_tokens.specs.declared.error.Error.{Error}
 use Rattle.rl_tokens.specs.declared.error.ErrorKind.{ErrorKind}
 use Rattle.rl_tokens.specs.declared.error.ErrorKind.TheVariants.{Memory}
-use Rattle.rl_tokens.specs.Texts.{SpannedText}
 use Rattle.rl_tokens.specs.Trees.{Tree}
-use Rattle.rl_tokens.specs.Reading.{Truth}
 use Rattle.rl_tokens.specs.Buffers.{MissesWord}
 use Rattle.rl_grammar.specs.Fronts.{HasFront, HasFrontOf, RunsAs}
 use Rattle.rl_grammar.proofs.FrontLemmas.{front_of}

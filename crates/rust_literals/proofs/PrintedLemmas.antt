@@ -1,4 +1,5 @@
 -- A print of strict literals is read as the readings of its items.
+use Rattle.rl_grammar.proofs.Names.{HasReading, Reads, ReadsAs, byte_len, truth_text}
 use Rattle.rl_tokens.proofs.Common.{AllByRecursion, Err, IsUtf8, List, Ok, Result, Some, [], ap, chars, encode_utf8_all,
     refl, subst, sym, true, ℕ, ◌++◌, ◌+◌, ◌∙◌, ◌∷◌, ◌≡◌}
 use Rattle.std.specs.Prelude.{Vec}
@@ -7,8 +8,6 @@ use Rattle.std.proofs.lemmas.Str.{chars-encodes, scalars-chars}
 use Rattle.rl_tokens.specs.declared.kind.Kind.TheVariants.{Bool as BoolKind}
 use Rattle.rl_tokens.specs.declared.error.Error.{Error}
 use Rattle.rl_tokens.specs.Trivia.{IsTrivia}
-use Rattle.rl_tokens.specs.Reading.{ReadsAs, truth_text, Reads, HasReading}
-use Rattle.rl_tokens.specs.Texts.{byte_len}
 use Rattle.rl_tokens.specs.Printed.{Item, WordItem, LiteralItem, MinusItem, item_text, Entry, printed_text, token_at,
     IsStrictItem, Printed}
 use Rattle.rl_tokens.specs.PrintedTrees.{printed_trees}

@@ -1,13 +1,11 @@
 -- The literal of a strict text is of the kind, contents and suffix that the text has.
+use Rattle.rl_grammar.proofs.Names.{Byte, ByteStr, CStr, Char, Contents, Digits, Float, HasReading, Int, IntReads,
+    IsPast, Kind, Minus, NoSign, Reads, Sign, SpannedText, Str, first_passes, limit, truth_text}
 use Rattle.rl_tokens.proofs.Common.{Bool, List, Result, Some, [], cases_lt, chars, false, inl, inr, is_ascii_digit,
     refl, subst, sym, true, ℕ, ◌<◌, ◌==◌, ◌||◌, ◌∷◌, ◌≡◌, ◌≤◌, ◌⊎◌}
 use Rattle.std.specs.Prelude.{IfOk}
 use Rattle.std.proofs.lemmas.Result.{IfOk-weaker}
-use Rattle.rl_tokens.specs.Texts.{SpannedText, first_passes}
-use Rattle.rl_tokens.specs.declared.kind.Kind.{Kind}
-use Rattle.rl_tokens.specs.declared.kind.Kind.TheVariants.{Str, ByteStr, CStr, Byte, Char, Int, Float, Bool as BoolKind}
-use Rattle.rl_tokens.specs.Numbers.{Sign, NoSign, Minus, IntReads, limit}
-use Rattle.rl_tokens.specs.Reading.{Contents, Digits, Reads, truth_text, HasReading, IsPast}
+use Rattle.rl_tokens.specs.declared.kind.Kind.TheVariants.{Bool as BoolKind}
 use Rattle.rl_tokens.specs.Strict.{Strict}
 use Rattle.rl_tokens.specs.Agreeing.{IsWithinLimit}
 use Rattle.rl_tokens.specs.Printed.{Item, WordItem, LiteralItem, MinusItem, item_text, IsStrictItem}

@@ -1,6 +1,5 @@
+use Rattle.rl_grammar.proofs.Names.{Digits, Float, HasContents}
 use Rattle.rl_tokens.proofs.Common.{chars, subst, take}
-use Rattle.rl_tokens.specs.declared.kind.Kind.TheVariants.{Float}
-use Rattle.rl_tokens.specs.Reading.{Digits, HasContents}
 use Rattle.rl_c.proofs.rl_float_digits.Goals as goal
 
 pub returns-clause-value : goal.returns-clause-value

@@ -1,7 +1,5 @@
+use Rattle.rl_grammar.proofs.Names.{ByteStr, Bytes, is_string}
 use Rattle.rl_tokens.proofs.Common.{ap, chars, inl, refl}
-use Rattle.rl_tokens.specs.Quoted.{is_string}
-use Rattle.rl_tokens.specs.declared.kind.Kind.TheVariants.{ByteStr}
-use Rattle.rl_tokens.specs.Reading.{Bytes}
 use Rattle.rl_quoted.proofs.PlaceLemmas.{plain_contents_bytes}
 use Rattle.rl_lines.proofs.FoundLineLemmas.{written_shown}
 use Rattle.rl_lines.proofs.found_line.written_byte_string.Goals as goal

@@ -1,8 +1,6 @@
+use Rattle.rl_grammar.proofs.Names.{Bytes, CStr, is_string}
 use Rattle.rl_tokens.proofs.Common.{ap, chars, refl, ◌≡◌}
-use Rattle.rl_tokens.specs.Quoted.{is_string}
 use Rattle.std.proofs.lemmas.Result.{IfOk-at_ok}
-use Rattle.rl_tokens.specs.declared.kind.Kind.TheVariants.{CStr}
-use Rattle.rl_tokens.specs.Reading.{Bytes}
 use Rattle.rl_quoted.proofs.PlaceLemmas.{no_zero_of, is_made}
 use Rattle.rl_lines.proofs.FoundLineLemmas.{written_shown}
 use Rattle.rl_lines.proofs.found_line.written_c_string.Goals as goal

@@ -1,6 +1,5 @@
+use Rattle.rl_grammar.proofs.Names.{Byte, ByteStr, CStr, Char, Float, Int, Str, truth_text}
 use Rattle.std.proofs.Common.{ap, inl, inr, sym, ◌∙◌}
-use Rattle.rl_tokens.specs.declared.kind.Kind.TheVariants.{Str, ByteStr, CStr, Byte, Char, Int, Float}
-use Rattle.rl_tokens.specs.Reading.{truth_text}
 use Rattle.rust_literals.proofs.LitLemmas.{found_as, found_lent, on_err, read_truth, some_found}
 use Rattle.rust_literals.proofs.lit.Lit.of_found.Goals as goal
 
